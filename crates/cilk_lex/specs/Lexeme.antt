@@ -1,5 +1,5 @@
 -- What a text is made of: lexemes, each with its place.
-use Rattle.std.specs.Prelude.{ℕ, List, [], ◌∷◌, map, slice_range}
+use Rattle.std.specs.Prelude.{ℕ, List, map, slice_range}
 use Rattle.cilk_lex.specs.declared.keyword.Keyword.{Keyword}
 use Rattle.cilk_lex.specs.declared.mark.Mark.{Mark}
 use Rattle.cilk_lex.specs.declared.token.Kind.{Kind}

@@ -1,3 +1,7 @@
+ghost use Rattle.std.specs.Prelude.{◌≡◌};
+ghost use Rattle.cilk_lex.specs.declared.fault.LexFault.TheVariants.{Memory};
+
+use std::alloc::{AllocError, AllocFailed};
 use thiserror::Error;
 
 /// Why a text has no tokens. Each fault but the first has the place of its first byte.
@@ -15,4 +19,34 @@ pub enum LexFault {
     /// Memory has run out.
     #[error("out of memory")]
     Memory,
+}
+
+impl LexFault {
+    ghost use Rattle.cilk_lex.specs.Reading.{place_of};
+
+    /// The place in the text, in bytes from its beginning. It is 0 where the fault has none.
+    pub fn place(&self) -> u32
+        ensures { result ≡ place_of self.now }
+    {
+        match self {
+            LexFault::BadByte(at) | LexFault::BadNumber(at) => *at,
+            LexFault::TooLong | LexFault::Memory => 0,
+        }
+    }
+}
+
+impl From<AllocError> for LexFault {
+    ghost from_gives = { λ _ f. f ≡ Memory };
+
+    fn from(_error: AllocError) -> LexFault {
+        LexFault::Memory
+    }
+}
+
+impl<T: Drop> From<AllocFailed<T>> for LexFault {
+    ghost from_gives = { λ _ f. f ≡ Memory };
+
+    fn from(_error: AllocFailed<T>) -> LexFault {
+        LexFault::Memory
+    }
 }

@@ -2,11 +2,20 @@
 #![tactic(auto)]
 
 mod fault;
+mod front;
 mod keyword;
+pub mod laws;
 mod mark;
+mod place;
+mod reading;
+mod spelling;
+#[cfg(test)]
+mod tests;
 mod token;
 
 pub use fault::LexFault;
 pub use keyword::Keyword;
 pub use mark::Mark;
+pub use place::line_col;
+pub use reading::tokens;
 pub use token::{Kind, Token};

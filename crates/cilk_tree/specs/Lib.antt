@@ -1,1 +1,17 @@
 pub mod Tree
+pub mod Coding
+pub mod OperatorCoding
+pub mod ExprCoding
+pub mod ExprView
+pub mod ExprSize
+pub mod ExprFalls
+pub mod StmtCoding
+pub mod StmtView
+pub mod Stmts
+pub mod ProgramCoding
+pub mod ItemView
+pub mod OperatorMark
+pub mod ExprText
+pub mod ProgramText
+pub mod Bare
+pub mod Operators

@@ -1,6 +1,33 @@
 //! The syntax tree of a program, and its canonical text.
 #![tactic(auto)]
 
+mod block;
+mod decl;
+mod expr;
+mod item;
+mod memory;
 mod operator;
+mod place;
+mod print;
+mod procedure;
+mod program;
+mod same;
+mod stmt;
+#[cfg(test)]
+mod tests;
+mod un_op;
+mod word;
 
+pub use block::Block;
+pub use decl::Decl;
+pub use expr::{Expr, ExprNode};
+pub use item::{Item, ItemNode};
+pub use memory::Memory;
 pub use operator::BinOp;
+pub use place::Place;
+pub use print::canonical;
+pub use procedure::Proc;
+pub use program::Program;
+pub use stmt::{Stmt, StmtNode};
+pub use un_op::UnOp;
+pub use word::Word;

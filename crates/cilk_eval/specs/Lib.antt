@@ -1,0 +1,9 @@
+pub mod Arithmetic
+pub mod Term
+pub mod Value
+pub mod Coding
+pub mod View
+pub mod Size
+pub mod Falls
+pub mod Slots
+pub mod Rounding

@@ -1,0 +1,18 @@
+use Rattle.std.proofs.Common.{◌≡◌, ◌<◌, length, ◌+◌, ◌*◌}
+use Rattle.cilk_expr.specs.Reading.{expr_of, more_of}
+use Rattle.cilk_expr.proofs.reading.+expr.Given as goal
+
+abbrev pub decreases-expr : goal.decreases-expr
+decreases-expr l = 2 * length l.cursor.now.pieces + 1
+
+abbrev pub decreases-operand : goal.decreases-operand
+decreases-operand l = 2 * length l.cursor.now.pieces
+
+abbrev pub invariant-expr-each : goal.invariant-expr-each
+invariant-expr-each l = record {
+  same : more_of 200 l.depth l.lowest l.cursor.operators l.left l.cursor.pieces ≡ expr_of 200 l.depth l.lowest l.fn.cursor.operators l.fn.cursor.pieces;
+  shorter : length l.cursor.pieces < length l.fn.cursor.pieces;
+}
+
+abbrev pub decreases-expr-each : goal.decreases-expr-each
+decreases-expr-each l = length l.cursor.pieces

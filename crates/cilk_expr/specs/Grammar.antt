@@ -1,0 +1,61 @@
+-- How tokens spell an expression (C 1990, 6.3).
+use Rattle.std.specs.Prelude.{◌≡◌, ℕ, suc, ◌≤◌, List, [], ◌∷◌, ◌++◌, Option, Some, None}
+use Rattle.cilk_lex.specs.Lexeme.{Lexeme, Piece, name, number, mark}
+use Rattle.cilk_lex.specs.declared.mark.Mark.{Mark}
+use Rattle.cilk_lex.specs.declared.mark.Mark.TheVariants as marks
+use Rattle.cilk_tree.specs.declared.operator.BinOp.{BinOp}
+use Rattle.cilk_tree.specs.declared.operator.BinOp.TheVariants as ops
+use Rattle.cilk_tree.specs.Tree as tree
+use Rattle.cilk_tree.specs.Operators.{operators}
+
+-- how tightly an operator binds (C 1990, 6.3.5 to 6.3.14)
+abbrev pub level : BinOp → ℕ
+level ops.Or = 1
+level ops.And = 2
+level ops.BitOr = 3
+level ops.BitXor = 4
+level ops.BitAnd = 5
+level ops.Equal = 6
+level ops.NotEqual = 6
+level ops.Less = 7
+level ops.LessOrEqual = 7
+level ops.Greater = 7
+level ops.GreaterOrEqual = 7
+level ops.ShiftLeft = 8
+level ops.ShiftRight = 8
+level ops.Add = 9
+level ops.Subtract = 9
+level ops.Multiply = 10
+level ops.Divide = 10
+level ops.Remainder = 10
+
+-- an operand stands above all operators
+abbrev pub operand : ℕ
+operand = 11
+
+-- the operator that a mark is between two operands
+abbrev pub operator_of : Mark → Option BinOp
+operator_of marks.Plus = Some ops.Add
+operator_of marks.Minus = Some ops.Subtract
+operator_of marks.Star = Some ops.Multiply
+operator_of _ = None
+
+-- the name that a token is
+abbrev pub word_at : List ℕ → Piece → tree.Word
+word_at text t = record { text = text; place = t.start }
+
+-- Spells d p ts e: the tokens spell the expression, with at most d parentheses open at once. Outside parentheses
+-- each of its operators binds at least as tightly as p.
+pub data Spells : ℕ → ℕ → List Piece → tree.Expr → Type 0 where
+  a_number : {d p : ℕ} {ts : List Piece} (t : Piece) (n : ℕ) → t.lexeme ≡ number n → ts ≡ t ∷ [] → Spells d p ts (tree.number n)
+  a_name : {d p : ℕ} {ts : List Piece} (t : Piece) (x : List ℕ) → t.lexeme ≡ name x → ts ≡ t ∷ [] → Spells d p ts (tree.named (word_at x t))
+  in_parentheses : {d p : ℕ} {ts us : List Piece} {e : tree.Expr} (t u : Piece) → t.lexeme ≡ mark marks.OpenParenthesis → u.lexeme ≡ mark marks.CloseParenthesis
+    → Spells d 0 us e → ts ≡ t ∷ (us ++ u ∷ []) → Spells (suc d) p ts e
+  -- to the left: the right operand binds more tightly than the operator
+  of_two : {d p : ℕ} {ts us vs : List Piece} {a b : tree.Expr} (t : Piece) (m : Mark) (o : BinOp) → t.lexeme ≡ mark m → operator_of m ≡ Some o → p ≤ level o
+    → Spells d (level o) us a → Spells d (suc (level o)) vs b → ts ≡ us ++ t ∷ vs → Spells d p ts (tree.binary o a b)
+
+-- a whole expression, of at most l operators, and with at most d parentheses open at once
+pub record SpellsWhole (l d : ℕ) (ts : List Piece) (e : tree.Expr) : Type 0 where
+  pub spelled : Spells d 0 ts e
+  pub few : operators e ≤ l

@@ -1,0 +1,10 @@
+//! Expressions read from tokens (C 1990, 6.3).
+#![tactic(auto)]
+
+mod cursor;
+mod reading;
+mod fault;
+
+pub use cursor::Cursor;
+pub use reading::{expression, OPERATOR_LIMIT, PARENTHESIS_LIMIT};
+pub use fault::{Fault, ParseError};

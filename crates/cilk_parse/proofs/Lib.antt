@@ -1,0 +1,4 @@
+pub mod ManyLaws
+pub mod Sound
+pub mod Complete
+pub mod LocalItems

@@ -1,0 +1,115 @@
+-- How a text spells a program (C 1990, 6.5 to 6.7; Cilk 5.4 manual, `cilk`).
+use Rattle.std.specs.Prelude.{◌≡◌, ℕ, List, [], ◌∷◌, ◌++◌, Option, Some, None, length}
+use Rattle.cilk_lex.specs.Lexeme.{Lexeme, Piece, word, name, mark}
+use Rattle.cilk_lex.specs.Lexing.{Lexes}
+use Rattle.cilk_lex.specs.declared.keyword.Keyword.TheVariants as key
+use Rattle.cilk_lex.specs.declared.mark.Mark.TheVariants as sign
+use Rattle.cilk_tree.specs.Tree as tree
+use Rattle.cilk_tree.specs.Stmts.{stmts_of}
+use Rattle.cilk_expr.specs.Grammar.{word_at, SpellsWhole}
+
+-- one after another, where R says how one is spelled
+pub data Each {A : Type 0} (R : List Piece → A → Type 0) : List Piece → List A → Type 0 where
+  no_more : {ts : List Piece} {xs : List A} → ts ≡ [] → xs ≡ [] → Each R ts xs
+  one_more : {ts us vs : List Piece} {x : A} {xs ys : List A} → R us x → Each R vs xs → ts ≡ us ++ vs → ys ≡ x ∷ xs → Each R ts ys
+
+-- the lists one after another
+abbrev pub joined : {A : Type 0} → List (List A) → List A
+joined [] = []
+joined (xs ∷ xss) = xs ++ joined xss
+
+-- In all that follows an expression has at most l operators, and at most d parentheses open at once.
+
+-- Name or Name = Expr
+pub data SpellsDeclarator (l d : ℕ) : List Piece → tree.Decl → Type 0 where
+  alone : {ts : List Piece} {x : tree.Decl} (t : Piece) (b : List ℕ) → t.lexeme ≡ name b → ts ≡ t ∷ [] → x ≡ record { name = word_at b t; value = None } → SpellsDeclarator l d ts x
+  with_value : {ts us : List Piece} {e : tree.Expr} {x : tree.Decl} (t u : Piece) (b : List ℕ) → t.lexeme ≡ name b → u.lexeme ≡ mark sign.Assign → SpellsWhole l d us e
+    → ts ≡ t ∷ u ∷ us → x ≡ record { name = word_at b t; value = Some e } → SpellsDeclarator l d ts x
+
+-- , and a declarator
+pub record SpellsNextDeclarator (l d : ℕ) (ts : List Piece) (x : tree.Decl) : Type 0 where
+  pub comma : Piece
+  pub is_comma : comma.lexeme ≡ mark sign.Comma
+  pub declarator : List Piece
+  pub spelled : SpellsDeclarator l d declarator x
+  pub whole : ts ≡ comma ∷ declarator
+
+-- int and declarators with commas between them, and ; at the end (C 1990, 6.5); each declarator is a declaration of its own
+pub record SpellsDeclaration (l d : ℕ) (ts : List Piece) (xs : List tree.Decl) : Type 0 where
+  pub int : Piece
+  pub is_int : int.lexeme ≡ word key.Int
+  pub first : List Piece
+  pub others : List Piece
+  pub semicolon : Piece
+  pub is_semicolon : semicolon.lexeme ≡ mark sign.Semicolon
+  pub first_decl : tree.Decl
+  pub other_decls : List tree.Decl
+  pub spelled_first : SpellsDeclarator l d first first_decl
+  pub spelled_others : Each (SpellsNextDeclarator l d) others other_decls
+  pub whole : ts ≡ int ∷ (first ++ (others ++ semicolon ∷ []))
+  pub decls : xs ≡ first_decl ∷ other_decls
+
+-- a statement (C 1990, 6.6)
+pub data SpellsStmt (l d : ℕ) : List Piece → tree.Stmt → Type 0 where
+  -- Name = Expr ;
+  an_assignment : {ts us : List Piece} {e : tree.Expr} {s : tree.Stmt} (t u v : Piece) (b : List ℕ) → t.lexeme ≡ name b → u.lexeme ≡ mark sign.Assign → SpellsWhole l d us e → v.lexeme ≡ mark sign.Semicolon
+    → ts ≡ t ∷ u ∷ (us ++ v ∷ []) → s ≡ tree.assign (record { name = word_at b t }) e → SpellsStmt l d ts s
+  -- return Expr ;
+  a_return : {ts us : List Piece} {e : tree.Expr} {s : tree.Stmt} (t v : Piece) → t.lexeme ≡ word key.Return → SpellsWhole l d us e → v.lexeme ≡ mark sign.Semicolon
+    → ts ≡ t ∷ (us ++ v ∷ []) → s ≡ tree.return_with e → SpellsStmt l d ts s
+
+-- { declarations statements } (C 1990, 6.6.2)
+pub record SpellsBlock (l d : ℕ) (ts : List Piece) (b : tree.Block) : Type 0 where
+  pub opening : Piece
+  pub is_opening : opening.lexeme ≡ mark sign.OpenBrace
+  pub declarations : List Piece
+  pub statements : List Piece
+  pub closing : Piece
+  pub is_closing : closing.lexeme ≡ mark sign.CloseBrace
+  pub decls : List (List tree.Decl)
+  pub stmts : List tree.Stmt
+  pub spelled_decls : Each (SpellsDeclaration l d) declarations decls
+  pub spelled_stmts : Each (SpellsStmt l d) statements stmts
+  pub whole : ts ≡ opening ∷ (declarations ++ (statements ++ closing ∷ []))
+  pub block : b ≡ tree.block (joined decls) (stmts_of stmts)
+
+-- ( ) or ( void ) (C 1990, 6.5.4.3)
+pub data SpellsNoParameters : List Piece → Type 0 where
+  nothing : {ts : List Piece} (t u : Piece) → t.lexeme ≡ mark sign.OpenParenthesis → u.lexeme ≡ mark sign.CloseParenthesis → ts ≡ t ∷ u ∷ [] → SpellsNoParameters ts
+  void : {ts : List Piece} (t v u : Piece) → t.lexeme ≡ mark sign.OpenParenthesis → v.lexeme ≡ word key.Void → u.lexeme ≡ mark sign.CloseParenthesis → ts ≡ t ∷ v ∷ u ∷ [] → SpellsNoParameters ts
+
+-- cilk int Name ( ) Block (Cilk 5.4 manual, `cilk`; C 1990, 6.7.1)
+pub record SpellsItem (l d : ℕ) (ts : List Piece) (i : tree.Item) : Type 0 where
+  pub cilk : Piece
+  pub is_cilk : cilk.lexeme ≡ word key.Cilk
+  pub int : Piece
+  pub is_int : int.lexeme ≡ word key.Int
+  pub name_piece : Piece
+  pub text : List ℕ
+  pub is_name : name_piece.lexeme ≡ name text
+  pub parameters : List Piece
+  pub body : List Piece
+  pub block : tree.Block
+  pub spelled_parameters : SpellsNoParameters parameters
+  pub spelled_body : SpellsBlock l d body block
+  pub whole : ts ≡ cilk ∷ int ∷ name_piece ∷ (parameters ++ body)
+  pub item : i ≡ tree.procedure (record { name = word_at text name_piece; body = block })
+
+-- nothing, or one definition
+pub data SpellsItems (l d : ℕ) : List Piece → List tree.Item → Type 0 where
+  nothing : {ts : List Piece} {is : List tree.Item} → ts ≡ [] → is ≡ [] → SpellsItems l d ts is
+  alone : {ts : List Piece} {i : tree.Item} {is : List tree.Item} → SpellsItem l d ts i → is ≡ i ∷ [] → SpellsItems l d ts is
+
+-- the nesting limits: so many operators in an expression, and so many parentheses open at once in it
+abbrev pub operator_limit : ℕ
+operator_limit = 200
+
+abbrev pub parenthesis_limit : ℕ
+parenthesis_limit = 200
+
+-- the text, however long, spells the program, within the nesting limits
+pub record SpellsProgram (text : List ℕ) (p : tree.Program) : Type 0 where
+  pub pieces : List Piece
+  pub lexed : Lexes 0 text pieces
+  pub items : SpellsItems operator_limit parenthesis_limit pieces p.items
+  pub length : p.length ≡ length text

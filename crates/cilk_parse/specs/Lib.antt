@@ -1,0 +1,9 @@
+pub use Rattle.cilk_lex.specs.Lexeme
+pub use Rattle.cilk_lex.specs.Lexing
+pub use Rattle.cilk_tree.specs.Tree
+pub use Rattle.cilk_tree.specs.Bare
+pub use Rattle.cilk_tree.specs.ProgramText
+pub mod Grammar
+pub mod Many
+pub mod Reading
+pub mod Fault

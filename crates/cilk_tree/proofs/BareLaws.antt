@@ -1,0 +1,68 @@
+-- What leaving places aside keeps.
+use Rattle.std.proofs.Common.{◌≡◌, ℕ, ◌+◌, List, [], ◌∷◌, ◌++◌, codes, map, Option, None, Some, refl, ap, sym, ◌∙◌}
+use Rattle.cilk_tree.specs.Tree.{Expr, number, named, binary, Decl, Stmt, assign, return_with, Stmts, none, also, Block, block, Item, procedure, Program}
+use Rattle.cilk_tree.specs.OperatorMark.{mark_of}
+use Rattle.cilk_tree.specs.Operators.{operators}
+use Rattle.cilk_tree.specs.ExprText.{stands_alone, as_operand, expr_text}
+use Rattle.cilk_tree.specs.ProgramText.{text_of_lines, deeper, initialiser_text, decl_line, stmt_lines, stmts_lines, block_lines, opening_line, item_lines, items_lines, program_text}
+use Rattle.cilk_tree.specs.Bare.{bare_expr, bare_value, bare_decl, bare_stmt, bare_stmts, bare_block, bare_item, bare_program}
+
+pub operators-bare : (e : Expr) → operators (bare_expr e) ≡ operators e
+operators-bare (number n) = refl
+operators-bare (named name) = refl
+operators-bare (binary op left right) = λ i. operators-bare left i + operators-bare right i + 1
+
+pub stands_alone-bare : (e : Expr) → stands_alone (bare_expr e) ≡ stands_alone e
+stands_alone-bare (number n) = refl
+stands_alone-bare (named name) = refl
+stands_alone-bare (binary op left right) = refl
+
+pub expr_text-bare : (e : Expr) → expr_text (bare_expr e) ≡ expr_text e
+expr_text-bare (number n) = refl
+expr_text-bare (named name) = refl
+expr_text-bare (binary op left right) =
+    λ i. as_operand (stands_alone-bare left i) (expr_text-bare left i) ++ (codes " " ++ (mark_of op ++ (codes " " ++ as_operand (stands_alone-bare right i) (expr_text-bare right i))))
+
+pub initialiser_text-bare : (value : Option Expr) → initialiser_text (bare_value value) ≡ initialiser_text value
+initialiser_text-bare None = refl
+initialiser_text-bare (Some value) = ap (λ text. codes " = " ++ text) (expr_text-bare value)
+
+pub decl_line-bare : (indent : List ℕ) (d : Decl) → decl_line indent (bare_decl d) ≡ decl_line indent d
+decl_line-bare indent d = λ i. indent ++ (codes "int " ++ (d.name.text ++ (initialiser_text-bare d.value i ++ codes ";")))
+
+decl_lines-bare : (indent : List ℕ) (ds : List Decl) → map (decl_line indent) (map bare_decl ds) ≡ map (decl_line indent) ds
+decl_lines-bare indent [] = refl
+decl_lines-bare indent (d ∷ ds) = λ i. decl_line-bare indent d i ∷ decl_lines-bare indent ds i
+
+pub stmt_lines-bare : (indent : List ℕ) (s : Stmt) → stmt_lines indent (bare_stmt s) ≡ stmt_lines indent s
+stmt_lines-bare indent (assign place value) =
+    λ i. (indent ++ (place.name.text ++ (codes " = " ++ (expr_text-bare value i ++ codes ";")))) ∷ []
+stmt_lines-bare indent (return_with value) = λ i. (indent ++ (codes "return " ++ (expr_text-bare value i ++ codes ";"))) ∷ []
+
+pub stmts_lines-bare : (indent : List ℕ) (ss : Stmts) → stmts_lines indent (bare_stmts ss) ≡ stmts_lines indent ss
+stmts_lines-bare indent none = refl
+stmts_lines-bare indent (also first others) = λ i. stmt_lines-bare indent first i ++ stmts_lines-bare indent others i
+
+pub block_lines-bare : (indent : List ℕ) (b : Block) → block_lines indent (bare_block b) ≡ block_lines indent b
+block_lines-bare indent (block decls stmts) = λ i. decl_lines-bare indent decls i ++ stmts_lines-bare indent stmts i
+
+pub item_lines-bare : (x : Item) → item_lines (bare_item x) ≡ item_lines x
+item_lines-bare (procedure p) = λ i. opening_line p ∷ (block_lines-bare (deeper []) p.body i ++ codes "}" ∷ [])
+
+items_lines-bare : (xs : List Item) → items_lines (map bare_item xs) ≡ items_lines xs
+items_lines-bare [] = refl
+items_lines-bare (x ∷ xs) = λ i. item_lines-bare x i ++ items_lines-bare xs i
+
+-- the canonical text tells nothing of places
+pub program_text-bare : (p : Program) → program_text (bare_program p) ≡ program_text p
+program_text-bare p = ap text_of_lines (items_lines-bare p.items)
+
+-- programs that are the same, places aside, have one canonical text
+pub program_text_same : (p q : Program) → bare_program p ≡ bare_program q → program_text p ≡ program_text q
+program_text_same p q same = sym (program_text-bare p) ∙ ap program_text same ∙ program_text-bare q
+
+-- leaving places aside a second time changes nothing
+pub bare_expr-bare : (e : Expr) → bare_expr (bare_expr e) ≡ bare_expr e
+bare_expr-bare (number n) = refl
+bare_expr-bare (named name) = refl
+bare_expr-bare (binary op left right) = λ i. binary op (bare_expr-bare left i) (bare_expr-bare right i)

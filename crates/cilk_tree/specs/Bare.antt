@@ -1,0 +1,41 @@
+-- Trees with their places, and a program's length, left aside: set to 0.
+use Rattle.std.specs.Prelude.{map, Option, Some, None}
+use Rattle.cilk_tree.specs.Tree.{Word, Expr, number, named, binary, Place, Decl, Stmt, assign, return_with, Stmts, none, also, Block, block, Proc, Item, procedure, Program}
+
+abbrev pub bare_word : Word → Word
+bare_word w = record { text = w.text; place = 0 }
+
+abbrev pub bare_expr : Expr → Expr
+bare_expr (number n) = number n
+bare_expr (named name) = named (bare_word name)
+bare_expr (binary op left right) = binary op (bare_expr left) (bare_expr right)
+
+abbrev pub bare_value : Option Expr → Option Expr
+bare_value None = None
+bare_value (Some value) = Some (bare_expr value)
+
+abbrev pub bare_place : Place → Place
+bare_place p = record { name = bare_word p.name }
+
+abbrev pub bare_decl : Decl → Decl
+bare_decl d = record { name = bare_word d.name; value = bare_value d.value }
+
+abbrev pub bare_stmt : Stmt → Stmt
+bare_stmt (assign place value) = assign (bare_place place) (bare_expr value)
+bare_stmt (return_with value) = return_with (bare_expr value)
+
+abbrev pub bare_stmts : Stmts → Stmts
+bare_stmts none = none
+bare_stmts (also first others) = also (bare_stmt first) (bare_stmts others)
+
+abbrev pub bare_block : Block → Block
+bare_block (block decls stmts) = block (map bare_decl decls) (bare_stmts stmts)
+
+abbrev pub bare_proc : Proc → Proc
+bare_proc p = record { name = bare_word p.name; body = bare_block p.body }
+
+abbrev pub bare_item : Item → Item
+bare_item (procedure definition) = procedure (bare_proc definition)
+
+abbrev pub bare_program : Program → Program
+bare_program p = record { items = map bare_item p.items; length = 0 }

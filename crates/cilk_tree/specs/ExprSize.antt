@@ -1,0 +1,8 @@
+-- A number that is larger for an expression than for its parts.
+use Rattle.std.specs.Prelude.{ℕ, ◌+◌}
+use Rattle.cilk_tree.specs.Tree.{Expr, number, named, binary}
+
+abbrev pub expr_size : Expr → ℕ
+expr_size (number n) = 0
+expr_size (named name) = 0
+expr_size (binary op left right) = expr_size left + expr_size right + 1

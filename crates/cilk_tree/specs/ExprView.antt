@@ -1,0 +1,9 @@
+-- One level of an expression in memory, as the plain tree that it is.
+use Rattle.cilk_tree.specs.Tree as tree
+use Rattle.cilk_tree.specs.declared.expr.ExprNode.{ExprNode}
+use Rattle.cilk_tree.specs.declared.expr.ExprNode.TheVariants.{Number, Name, Binary}
+
+abbrev pub expr_of : ExprNode → tree.Expr
+expr_of (Number n) = tree.number n
+expr_of (Name name) = tree.named name
+expr_of (Binary op left right) = tree.binary op left.value right.value

@@ -1,0 +1,7 @@
+-- A definition at the top level in memory, as the plain tree that it is.
+use Rattle.cilk_tree.specs.Tree as tree
+use Rattle.cilk_tree.specs.declared.item.ItemNode.{ItemNode}
+use Rattle.cilk_tree.specs.declared.item.ItemNode.TheVariants.{Procedure}
+
+abbrev pub item_of : ItemNode → tree.Item
+item_of (Procedure definition) = tree.procedure definition

@@ -1,0 +1,51 @@
+-- Definitions and programs as trees of numbers, one to one, which the logic stores.
+use Rattle.std.specs.Prelude.{◌≡◌, List, []}
+use Rattle.std.specs.Coded.{Coded}
+use base.Stored.{Gv, gnum, gcons}
+use Rattle.cilk_tree.specs.Tree.{block, none, Proc, Item, procedure, Program}
+use Rattle.cilk_tree.specs.Coding.{coded_back, word_to, word_from, word_back, list_to, list_from, list_back}
+use Rattle.cilk_tree.specs.StmtCoding.{block_to, block_from, block_back}
+
+abbrev pub proc_to : Proc → Gv
+proc_to p = gcons (word_to p.name) (block_to p.body)
+
+abbrev pub proc_from : Gv → Proc
+proc_from (gcons name body) = record { name = word_from name; body = block_from body }
+proc_from _ = record { name = record { text = []; place = 0 }; body = block [] none }
+
+pub proc_back : (p : Proc) → proc_from (proc_to p) ≡ p
+proc_back p = λ i. record { name = word_back p.name i; body = block_back p.body i }
+
+abbrev pub coded_Proc : Coded Proc
+coded_Proc = coded_back proc_to proc_from proc_back
+
+abbrev pub item_to : Item → Gv
+item_to (procedure definition) = proc_to definition
+
+abbrev pub item_from : Gv → Item
+item_from code = procedure (proc_from code)
+
+pub item_back : (x : Item) → item_from (item_to x) ≡ x
+item_back (procedure definition) = λ i. procedure (proc_back definition i)
+
+abbrev pub coded_Item : Coded Item
+coded_Item = coded_back item_to item_from item_back
+
+abbrev pub items_to : List Item → Gv
+items_to = list_to item_to item_from item_back
+
+abbrev pub items_from : Gv → List Item
+items_from = list_from item_to item_from item_back
+
+abbrev pub program_to : Program → Gv
+program_to p = gcons (gnum p.length) (items_to p.items)
+
+abbrev pub program_from : Gv → Program
+program_from (gcons (gnum length) items) = record { items = items_from items; length = length }
+program_from _ = record { items = []; length = 0 }
+
+pub program_back : (p : Program) → program_from (program_to p) ≡ p
+program_back p = λ i. record { items = list_back item_to item_from item_back p.items i; length = p.length }
+
+abbrev pub coded_Program : Coded Program
+coded_Program = coded_back program_to program_from program_back

@@ -1,0 +1,55 @@
+-- The canonical text of a program: its lines, and a newline after each.
+use Rattle.std.specs.Prelude.{ℕ, List, [], ◌∷◌, ◌++◌, map, codes, Option, Some, None}
+use Rattle.cilk_tree.specs.Tree.{Expr, Decl, Stmt, assign, return_with, Stmts, none, also, Block, block, Proc, Item, procedure, Program}
+use Rattle.cilk_tree.specs.ExprText.{expr_text}
+
+-- the lines one after another, and a newline after each
+abbrev pub text_of_lines : List (List ℕ) → List ℕ
+text_of_lines [] = []
+text_of_lines (line ∷ lines) = line ++ (codes "\n" ++ text_of_lines lines)
+
+-- the spaces before a line that is one level deeper
+abbrev pub deeper : List ℕ → List ℕ
+deeper indent = indent ++ codes "    "
+
+-- the initialiser, if there is one
+abbrev pub initialiser_text : Option Expr → List ℕ
+initialiser_text None = []
+initialiser_text (Some value) = codes " = " ++ expr_text value
+
+-- a declaration of one variable (C 1990, 6.5)
+abbrev pub decl_line : List ℕ → Decl → List ℕ
+decl_line indent d = indent ++ (codes "int " ++ (d.name.text ++ (initialiser_text d.value ++ codes ";")))
+
+-- the lines of a statement (C 1990, 6.6), each after the indent
+abbrev pub stmt_lines : List ℕ → Stmt → List (List ℕ)
+stmt_lines indent (assign place value) =
+    (indent ++ (place.name.text ++ (codes " = " ++ (expr_text value ++ codes ";")))) ∷ []
+stmt_lines indent (return_with value) = (indent ++ (codes "return " ++ (expr_text value ++ codes ";"))) ∷ []
+
+abbrev pub stmts_lines : List ℕ → Stmts → List (List ℕ)
+stmts_lines indent none = []
+stmts_lines indent (also first others) = stmt_lines indent first ++ stmts_lines indent others
+
+-- the lines between the braces of a block (C 1990, 6.6.2): each declaration, and then the statements
+abbrev pub block_lines : List ℕ → Block → List (List ℕ)
+block_lines indent (block decls stmts) = map (decl_line indent) decls ++ stmts_lines indent stmts
+
+-- the line that opens a Cilk procedure (Cilk 5.4 manual, `cilk`)
+abbrev pub opening_line : Proc → List ℕ
+opening_line p = codes "cilk int " ++ (p.name.text ++ codes "(void) {")
+
+-- a Cilk procedure: its body is one level deeper than its name
+abbrev pub item_lines : Item → List (List ℕ)
+item_lines (procedure p) = opening_line p ∷ (block_lines (deeper []) p.body ++ codes "}" ∷ [])
+
+-- the lines of the definitions in order
+abbrev pub items_lines : List Item → List (List ℕ)
+items_lines [] = []
+items_lines (first ∷ others) = item_lines first ++ items_lines others
+
+abbrev pub program_lines : Program → List (List ℕ)
+program_lines p = items_lines p.items
+
+abbrev pub program_text : Program → List ℕ
+program_text p = text_of_lines (program_lines p)

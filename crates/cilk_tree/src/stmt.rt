@@ -1,0 +1,29 @@
+use crate::expr::Expr;
+use crate::place::Place;
+use std::marker::Model;
+
+/// A statement (C 1990, 6.6), which contracts see as the `Stmt` of `specs/Tree.antt`.
+#[derive(Drop)]
+pub struct Stmt {
+    pub node: StmtNode,
+}
+
+/// What a statement is, and its parts.
+#[derive(Drop)]
+pub enum StmtNode {
+    Assign(Place, Expr),
+    Return(Expr),
+}
+
+impl Model for Stmt {
+    ghost use Rattle.cilk_tree.specs.Tree as tree;
+    ghost use Rattle.cilk_tree.specs.StmtCoding.{coded_Stmt};
+
+    ghost Value = { tree.Stmt };
+
+    ghost coded = { coded_Stmt };
+
+    ghost use Rattle.cilk_tree.specs.StmtView.{stmt_of};
+
+    ghost view = { λ s. stmt_of s.node };
+}

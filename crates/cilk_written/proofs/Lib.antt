@@ -1,0 +1,10 @@
+pub mod Decimals
+pub mod Decls
+pub mod Exprs
+pub mod Good
+pub mod Items
+pub mod Lines
+pub mod Made
+pub mod Spaced
+pub mod Stmts
+pub mod Writes

@@ -1,0 +1,2 @@
+pub mod GoodLexeme
+pub mod Lexemes
