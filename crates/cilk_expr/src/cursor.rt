@@ -1,7 +1,7 @@
 ghost use Rattle.std.specs.Prelude.{◌≡◌, ◌+◌, ◌-◌, ◌<◌, ◌^◌, All, length, OnOk};
 ghost use Rattle.cilk_lex.specs.Lexeme.{pieces_of};
 ghost use Rattle.cilk_lex.specs.Reading.{IsWithin};
-ghost use Rattle.cilk_expr.specs.Front.{Gives, kind_at, behind, operator_at, mark_at, keyword_at, name_at};
+ghost use Rattle.cilk_expr.specs.Front.{Gives, kind_at, behind, operator_at, is_mark, is_keyword, mark_at, keyword_at, name_at};
 
 use crate::fault::{Fault, ParseError};
 use cilk_lex::{Keyword, Kind, Mark, Token};
@@ -71,19 +71,37 @@ impl<'a> Cursor<'a> {
         }
     }
 
+    /// Whether the next token is this mark.
+    pub fn is_mark(&self, wanted: Mark) -> bool
+        ensures { result ≡ is_mark wanted (kind_at self.now.pieces) }
+    {
+        match self.kind() {
+            Some(Kind::Mark(mark)) => mark == wanted,
+            _ => false,
+        }
+    }
+
+    /// Whether the next token is this word.
+    pub fn is_keyword(&self, wanted: Keyword) -> bool
+        ensures { result ≡ is_keyword wanted (kind_at self.now.pieces) }
+    {
+        match self.kind() {
+            Some(Kind::Word(word)) => word == wanted,
+            _ => false,
+        }
+    }
+
     /// Goes behind the next token, if it is this mark.
     #[tactic(auto, unfolding(crate::specs::Front::mark_at))]
     pub fn mark(&mut self, wanted: Mark) -> Result<(), ParseError>
         ensures gives { Gives (λ _. self.new.pieces) result (mark_at wanted self.old.pieces) }
         ensures operators { self.new.operators ≡ self.old.operators }
     {
-        match self.kind() {
-            Some(Kind::Mark(mark)) if mark == wanted => {
-                self.advance();
-                Ok(())
-            }
-            _ => Err(self.unexpected()),
+        if !self.is_mark(wanted) {
+            return Err(self.unexpected());
         }
+        self.advance();
+        Ok(())
     }
 
     /// Goes behind the next token, if it is this word.
@@ -92,13 +110,11 @@ impl<'a> Cursor<'a> {
         ensures gives { Gives (λ _. self.new.pieces) result (keyword_at wanted self.old.pieces) }
         ensures operators { self.new.operators ≡ self.old.operators }
     {
-        match self.kind() {
-            Some(Kind::Word(word)) if word == wanted => {
-                self.advance();
-                Ok(())
-            }
-            _ => Err(self.unexpected()),
+        if !self.is_keyword(wanted) {
+            return Err(self.unexpected());
         }
+        self.advance();
+        Ok(())
     }
 
     /// The next token, if it is a name, behind which it goes.

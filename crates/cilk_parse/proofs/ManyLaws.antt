@@ -123,28 +123,25 @@ module _ {A : Type 0} (same : Type 0) (begins : Option Kind → Bool) (one one' 
 
 -- ---- reading in a loop
 
--- what was read before, and what is still read
-abbrev pub in_front : {A : Type 0} → List A → Result (List A × List Piece) Fault → Result (List A × List Piece) Fault
-in_front front read = read >>= λ x. Ok (front ++ x.0, x.1)
+-- what all of it gives, from what is still read
+abbrev pub finish : {A B : Type 0} → (List A → List B) → Result (List A × List Piece) Fault → Result (List B × List Piece) Fault
+finish out read = read >>= λ x. Ok (out x.0, x.1)
 
-module _ {A : Type 0} (begins : Option Kind → Bool) (one : List Piece → Result (A × List Piece) Fault) (sh : Shortens one) (ts : List Piece) (front : List A) (total : Result (List A × List Piece) Fault) where
-  pub many_ends : begins (kind_at ts) ≡ false → in_front front (many_of begins one ts) ≡ total → total ≡ Ok (front ++ [], ts)
-  many_ends e h = sym h ∙ ap (in_front front) (many_step begins one ts sh) ∙ rw e refl
+module _ {A B : Type 0} (begins : Option Kind → Bool) (one : List Piece → Result (A × List Piece) Fault) (sh : Shortens one) (ts : List Piece) (out : List A → List B) (total : Result (List B × List Piece) Fault) where
+  pub many_ends : begins (kind_at ts) ≡ false → finish out (many_of begins one ts) ≡ total → total ≡ Ok (out [], ts)
+  many_ends e h = sym h ∙ ap (finish out) (many_step begins one ts sh) ∙ rw e refl
 
-  pub many_fails : (x : ParseError) → begins (kind_at ts) ≡ true → in_front front (many_of begins one ts) ≡ total → Fails x (one ts) → Fails x total
+  pub many_fails : (x : ParseError) → begins (kind_at ts) ≡ true → finish out (many_of begins one ts) ≡ total → Fails x (one ts) → Fails x total
   many_fails x e h k =
-      let step : total ≡ in_front front (one ts >>= λ x. many_of begins one x.1 >>= λ xs. Ok (x.0 ∷ xs.0, xs.1)) = sym h ∙ ap (in_front front) (many_step begins one ts sh) ∙ rw e refl in
+      let step : total ≡ finish out (one ts >>= λ x. many_of begins one x.1 >>= λ xs. Ok (x.0 ∷ xs.0, xs.1)) = sym h ∙ ap (finish out) (many_step begins one ts sh) ∙ rw e refl in
       rw step (fails_first x _ _ (fails_first x _ _ k))
 
-  regroup : (y : A) (r : Result (List A × List Piece) Fault) → in_front front (r >>= λ xs. Ok (y ∷ xs.0, xs.1)) ≡ in_front (front ++ y ∷ []) r
-  regroup y (Ok xs) = ap (λ (l : List A). Ok (l, xs.1)) (sym (append_assoc front (y ∷ []) xs.0))
-  regroup y (Err e) = refl
+  regroup : (out' : List A → List B) (y : A) → ((xs : List A) → out' xs ≡ out (y ∷ xs)) → (r : Result (List A × List Piece) Fault) → finish out (r >>= λ xs. Ok (y ∷ xs.0, xs.1)) ≡ finish out' r
+  regroup out' y w (Ok xs) = ap (λ (l : List B). Ok (l, xs.1)) (sym (w xs.0))
+  regroup out' y w (Err e) = refl
 
-  pub many_goes : (y : A) (rest : List Piece) → begins (kind_at ts) ≡ true → in_front front (many_of begins one ts) ≡ total → one ts ≡ Ok (y, rest) → in_front (front ++ y ∷ []) (many_of begins one rest) ≡ total
-  many_goes y rest e h k =
-      sym (regroup y (many_of begins one rest)) ∙ ap (λ r. in_front front (r >>= λ x. many_of begins one x.1 >>= λ xs. Ok (x.0 ∷ xs.0, xs.1))) (sym k)
-      ∙ sym (ap (in_front front) (many_step begins one ts sh) ∙ rw e refl) ∙ h
-
-pub in_front_nothing : {A : Type 0} (r : Result (List A × List Piece) Fault) → in_front [] r ≡ r
-in_front_nothing (Ok x) = refl
-in_front_nothing (Err e) = refl
+  pub many_goes : (out' : List A → List B) (y : A) (rest : List Piece) → ((xs : List A) → out' xs ≡ out (y ∷ xs)) → begins (kind_at ts) ≡ true → finish out (many_of begins one ts) ≡ total → one ts ≡ Ok (y, rest)
+      → finish out' (many_of begins one rest) ≡ total
+  many_goes out' y rest w e h k =
+      sym (regroup out' y w (many_of begins one rest)) ∙ ap (λ r. finish out (r >>= λ x. many_of begins one x.1 >>= λ xs. Ok (x.0 ∷ xs.0, xs.1))) (sym k)
+      ∙ sym (ap (finish out) (many_step begins one ts sh) ∙ rw e refl) ∙ h

@@ -55,8 +55,16 @@ declaration_at l d ts = do
 abbrev pub begins_declaration : Option Kind → Bool
 begins_declaration k = is_keyword key.Int k
 
+-- behind what was read before
+unfoldable pub onto : {A : Type 0} → List A → Read (List A) → Read (List A)
+onto front read = read >>= λ x. Ok (front ++ x.0, x.1)
+
 unfoldable pub declarations_at : ℕ → ℕ → List Piece → Read (List (List tree.Decl))
 declarations_at l d ts = many_of begins_declaration (λ us. declaration_at l d us) ts
+
+-- the declarators of all declarations, one after another
+unfoldable pub joined_at : ℕ → ℕ → List Piece → Read (List tree.Decl)
+joined_at l d ts = declarations_at l d ts >>= λ x. Ok (joined x.0, x.1)
 
 -- a whole expression and a semicolon
 unfoldable pub value_end_at : ℕ → ℕ → List Piece → Read tree.Expr

@@ -1,2 +1,6 @@
 //! Programs read from their texts (C 1990, 6.5 to 6.7; Cilk 5.4 manual, `cilk`).
 #![tactic(auto)]
+
+mod declaration;
+mod definition;
+mod statement;

@@ -1,0 +1,11 @@
+use Rattle.std.proofs.Common.{◌≡◌, ◌++◌, length}
+use Rattle.cilk_parse.specs.Grammar.{joined}
+use Rattle.cilk_parse.specs.Reading.{declarations_at, joined_at}
+use Rattle.cilk_parse.proofs.ManyLaws.{finish}
+use Rattle.cilk_parse.proofs.declaration.declarations.Given as goal
+
+abbrev pub invariant-each : goal.invariant-each
+invariant-each l = finish (λ xs. l.decls.items ++ joined xs) (declarations_at 200 200 l.cursor.pieces) ≡ joined_at 200 200 l.fn.cursor.pieces
+
+abbrev pub decreases-each : goal.decreases-each
+decreases-each l = length l.cursor.pieces
