@@ -3,3 +3,7 @@ pub mod Sound
 pub mod Complete
 pub mod LocalItems
 pub mod Loops
+pub mod Places
+pub mod Moved
+pub mod Room
+pub mod Viable

@@ -7,3 +7,4 @@ pub mod Grammar
 pub mod Many
 pub mod Reading
 pub mod Fault
+pub mod Place

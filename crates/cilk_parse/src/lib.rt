@@ -3,4 +3,9 @@
 
 mod declaration;
 mod definition;
+mod fault;
+mod program;
 mod statement;
+
+pub use fault::ReadFault;
+pub use program::read;

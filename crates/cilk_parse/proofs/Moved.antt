@@ -1,0 +1,285 @@
+-- The grammar does not look at places: other pieces with the same lexemes spell the same tree, places aside.
+use Rattle.std.proofs.Common.{◌≡◌, ℕ, ◌≤◌, List, [], ◌∷◌, ◌++◌, map, Option, Some, None, refl, sym, ap, ◌∙◌, arith}
+use Rattle.cilk_lex.specs.Lexeme.{Lexeme, Piece}
+use Rattle.cilk_tree.specs.Tree as tree
+use Rattle.cilk_tree.specs.Bare.{bare_expr, bare_decl, bare_stmt, bare_stmts, bare_block, bare_item}
+use Rattle.cilk_tree.specs.Operators.{operators}
+use Rattle.cilk_tree.specs.Stmts.{stmts_of}
+use Rattle.cilk_tree.proofs.BareLaws.{operators-bare}
+use Rattle.cilk_tree.proofs.StmtsOf.{bare_stmts_same}
+use Rattle.cilk_expr.specs.Grammar.{word_at, Spells, a_number, a_name, in_parentheses, of_two, SpellsWhole}
+use Rattle.cilk_written.specs.Lexemes.{lexemes}
+use Rattle.cilk_parse.specs.Grammar as grammar
+use Rattle.cilk_parse.specs.Grammar.{Each, no_more, one_more, joined, SpellsDeclarator, SpellsNextDeclarator, SpellsDeclaration, SpellsStmt, SpellsBlock, SpellsNoParameters, SpellsItem, SpellsItems}
+
+-- ---- pieces with the same lexemes, in parts
+
+head_same : (a b : Lexeme) (xs ys : List Lexeme) → a ∷ xs ≡ b ∷ ys → a ≡ b
+head_same a b xs ys e = cc
+
+tail_same : (a b : Lexeme) (xs ys : List Lexeme) → a ∷ xs ≡ b ∷ ys → xs ≡ ys
+tail_same a b xs ys e = cc
+
+pub no_pieces : (us : List Piece) → lexemes us ≡ [] → us ≡ []
+no_pieces [] e = refl
+no_pieces (u ∷ us) e = absurd cc
+
+-- the pieces us in two parts, with the lexemes of ts and of vs
+pub record Parts (ts vs us : List Piece) : Type 0 where
+  pub front : List Piece
+  pub back : List Piece
+  pub whole : us ≡ front ++ back
+  pub same_front : lexemes front ≡ lexemes ts
+  pub same_back : lexemes back ≡ lexemes vs
+
+pub parts : (ts vs us : List Piece) → lexemes us ≡ lexemes (ts ++ vs) → Parts ts vs us
+parts [] vs us e = record { front = []; back = us; whole = refl; same_front = refl; same_back = e }
+parts (t ∷ ts) vs [] e = absurd cc
+parts (t ∷ ts) vs (u ∷ us) e =
+    let h : u.lexeme ≡ t.lexeme = head_same u.lexeme t.lexeme (lexemes us) (lexemes (ts ++ vs)) e in
+    let p = parts ts vs us (tail_same u.lexeme t.lexeme (lexemes us) (lexemes (ts ++ vs)) e) in
+    record { front = u ∷ p.front; back = p.back; whole = ap (λ (r : List Piece). u ∷ r) p.whole; same_front = λ i. h i ∷ p.same_front i; same_back = p.same_back }
+
+-- the first of the pieces us, with the lexeme of t, and the others, with the lexemes of ts
+pub record First (t : Piece) (ts us : List Piece) : Type 0 where
+  pub piece : Piece
+  pub rest : List Piece
+  pub whole : us ≡ piece ∷ rest
+  pub same : piece.lexeme ≡ t.lexeme
+  pub same_rest : lexemes rest ≡ lexemes ts
+
+pub first : (t : Piece) (ts us : List Piece) → lexemes us ≡ lexemes (t ∷ ts) → First t ts us
+first t ts [] e = absurd cc
+first t ts (u ∷ us) e = record {
+  piece = u;
+  rest = us;
+  whole = refl;
+  same = head_same u.lexeme t.lexeme (lexemes us) (lexemes ts) e;
+  same_rest = tail_same u.lexeme t.lexeme (lexemes us) (lexemes ts) e;
+}
+
+-- the only one of the pieces us, with the lexeme of t
+pub record Only (t : Piece) (us : List Piece) : Type 0 where
+  pub piece : Piece
+  pub whole : us ≡ piece ∷ []
+  pub same : piece.lexeme ≡ t.lexeme
+
+pub only : (t : Piece) (us : List Piece) → lexemes us ≡ lexemes (t ∷ []) → Only t us
+only t us e =
+    let f = first t [] us e in
+    record { piece = f.piece; whole = f.whole ∙ ap (λ (r : List Piece). f.piece ∷ r) (no_pieces f.rest f.same_rest); same = f.same }
+
+-- behind a piece, and behind some others
+then : (t : Piece) {us vs ws : List Piece} → us ≡ t ∷ vs → vs ≡ ws → us ≡ t ∷ ws
+then t e h = e ∙ ap (λ (r : List Piece). t ∷ r) h
+
+then_all : (front : List Piece) {us vs ws : List Piece} → us ≡ front ++ vs → vs ≡ ws → us ≡ front ++ ws
+then_all front e h = e ∙ ap (λ (r : List Piece). front ++ r) h
+
+-- ---- the same tree, places aside
+
+-- the pieces us spell what is x, places aside
+pub record Moved {A : Type 0} (R : List Piece → A → Type 0) (bare : A → A) (us : List Piece) (x : A) : Type 0 where
+  pub value : A
+  pub spelled : R us value
+  pub same : bare value ≡ bare x
+
+abbrev pub MovedAll : {A : Type 0} → (List Piece → A → Type 0) → (A → A) → Type 0
+MovedAll {A = A} R bare = (ts us : List Piece) (x : A) → lexemes us ≡ lexemes ts → R ts x → Moved R bare us x
+
+pub moved_expr : {d p : ℕ} {ts : List Piece} {e : tree.Expr} (us : List Piece) → lexemes us ≡ lexemes ts → Spells d p ts e → Moved (Spells d p) bare_expr us e
+moved_expr us s (a_number t n h w) =
+    let o = only t us (s ∙ ap lexemes w) in
+    record { value = tree.number n; spelled = a_number o.piece n (o.same ∙ h) o.whole; same = refl }
+moved_expr us s (a_name t x h w) =
+    let o = only t us (s ∙ ap lexemes w) in
+    record { value = tree.named (word_at x o.piece); spelled = a_name o.piece x (o.same ∙ h) o.whole; same = refl }
+moved_expr us s (in_parentheses {us = vs} t u h i r w) =
+    let f = first t (vs ++ u ∷ []) us (s ∙ ap lexemes w) in
+    let p = parts vs (u ∷ []) f.rest f.same_rest in
+    let o = only u p.back p.same_back in
+    let m = moved_expr p.front p.same_front r in
+    record { value = m.value; spelled = in_parentheses f.piece o.piece (f.same ∙ h) (o.same ∙ i) m.spelled (then f.piece f.whole (then_all p.front p.whole o.whole)); same = m.same }
+moved_expr us s (of_two {us = vs} {vs = ws} t m o h i ge a b w) =
+    let p = parts vs (t ∷ ws) us (s ∙ ap lexemes w) in
+    let f = first t ws p.back p.same_back in
+    let x = moved_expr p.front p.same_front a in
+    let y = moved_expr f.rest f.same_rest b in
+    record { value = tree.binary o x.value y.value; spelled = of_two f.piece m o (f.same ∙ h) i ge x.spelled y.spelled (then_all p.front p.whole f.whole); same = λ j. tree.binary o (x.same j) (y.same j) }
+
+same_operators : (a b : tree.Expr) → bare_expr a ≡ bare_expr b → operators a ≡ operators b
+same_operators a b e = sym (operators-bare a) ∙ ap operators e ∙ operators-bare b
+
+pub moved_each : {A : Type 0} (R : List Piece → A → Type 0) (bare : A → A) → MovedAll R bare → MovedAll (Each R) (map bare)
+moved_each R bare f ts us xs s (no_more e w) = record { value = []; spelled = no_more (no_pieces us (s ∙ ap lexemes e)) refl; same = ap (map bare) (sym w) }
+moved_each R bare f ts us xs s (one_more {us = vs} {vs = ws} {x = x} {xs = ys} r i e w) =
+    let p = parts vs ws us (s ∙ ap lexemes e) in
+    let y = f vs p.front x p.same_front r in
+    let z = moved_each R bare f ws p.back ys p.same_back i in
+    record { value = y.value ∷ z.value; spelled = one_more y.spelled z.spelled p.whole refl; same = (λ j. y.same j ∷ z.same j) ∙ ap (map bare) (sym w) }
+
+module _ (l d : ℕ) where
+  pub moved_whole : MovedAll (SpellsWhole l d) bare_expr
+  moved_whole ts us e s r =
+      let m = moved_expr us s r.spelled in
+      record { value = m.value; spelled = record { spelled = m.spelled; few = omega (arith, same_operators m.value e m.same, r.few) }; same = m.same }
+
+  moved_declarator : MovedAll (SpellsDeclarator l d) bare_decl
+  moved_declarator ts us x s (grammar.alone t b h w i) =
+      let o = only t us (s ∙ ap lexemes w) in
+      record { value = record { name = word_at b o.piece; value = None }; spelled = grammar.alone o.piece b (o.same ∙ h) o.whole refl; same = ap bare_decl (sym i) }
+  moved_declarator ts us x s (grammar.with_value {us = vs} {e = e} t u b h k r w i) =
+      let f = first t (u ∷ vs) us (s ∙ ap lexemes w) in
+      let g = first u vs f.rest f.same_rest in
+      let m = moved_whole vs g.rest e g.same_rest r in
+      record {
+        value = record { name = word_at b f.piece; value = Some m.value };
+        spelled = grammar.with_value f.piece g.piece b (f.same ∙ h) (g.same ∙ k) m.spelled (then f.piece f.whole g.whole) refl;
+        same = (λ j. record { name = record { text = b; place = 0 }; value = Some (m.same j) }) ∙ ap bare_decl (sym i);
+      }
+
+  moved_next : MovedAll (SpellsNextDeclarator l d) bare_decl
+  moved_next ts us x s r =
+      let f = first r.comma r.declarator us (s ∙ ap lexemes r.whole) in
+      let m = moved_declarator r.declarator f.rest x f.same_rest r.spelled in
+      record { value = m.value; spelled = record { comma = f.piece; is_comma = f.same ∙ r.is_comma; declarator = f.rest; spelled = m.spelled; whole = f.whole }; same = m.same }
+
+  moved_declaration : MovedAll (SpellsDeclaration l d) (map bare_decl)
+  moved_declaration ts us xs s r =
+      let f = first r.int (r.first ++ (r.others ++ r.semicolon ∷ [])) us (s ∙ ap lexemes r.whole) in
+      let p = parts r.first (r.others ++ r.semicolon ∷ []) f.rest f.same_rest in
+      let q = parts r.others (r.semicolon ∷ []) p.back p.same_back in
+      let o = only r.semicolon q.back q.same_back in
+      let x = moved_declarator r.first p.front r.first_decl p.same_front r.spelled_first in
+      let y = moved_each (SpellsNextDeclarator l d) bare_decl moved_next r.others q.front r.other_decls q.same_front r.spelled_others in
+      record {
+        value = x.value ∷ y.value;
+        spelled = record {
+          int = f.piece;
+          is_int = f.same ∙ r.is_int;
+          first = p.front;
+          others = q.front;
+          semicolon = o.piece;
+          is_semicolon = o.same ∙ r.is_semicolon;
+          first_decl = x.value;
+          other_decls = y.value;
+          spelled_first = x.spelled;
+          spelled_others = y.spelled;
+          whole = then f.piece f.whole (then_all p.front p.whole (then_all q.front q.whole o.whole));
+          decls = refl;
+        };
+        same = (λ j. x.same j ∷ y.same j) ∙ ap (map bare_decl) (sym r.decls);
+      }
+
+  moved_stmt : MovedAll (SpellsStmt l d) bare_stmt
+  moved_stmt ts us x s (grammar.an_assignment {us = vs} {e = e} t u v b h i r j w q) =
+      let f = first t (u ∷ (vs ++ v ∷ [])) us (s ∙ ap lexemes w) in
+      let g = first u (vs ++ v ∷ []) f.rest f.same_rest in
+      let p = parts vs (v ∷ []) g.rest g.same_rest in
+      let o = only v p.back p.same_back in
+      let m = moved_whole vs p.front e p.same_front r in
+      record {
+        value = tree.assign (record { name = word_at b f.piece }) m.value;
+        spelled = grammar.an_assignment f.piece g.piece o.piece b (f.same ∙ h) (g.same ∙ i) m.spelled (o.same ∙ j) (then f.piece f.whole (then g.piece g.whole (then_all p.front p.whole o.whole))) refl;
+        same = (λ k. tree.assign (record { name = record { text = b; place = 0 } }) (m.same k)) ∙ ap bare_stmt (sym q);
+      }
+  moved_stmt ts us x s (grammar.a_return {us = vs} {e = e} t v h r j w q) =
+      let f = first t (vs ++ v ∷ []) us (s ∙ ap lexemes w) in
+      let p = parts vs (v ∷ []) f.rest f.same_rest in
+      let o = only v p.back p.same_back in
+      let m = moved_whole vs p.front e p.same_front r in
+      record {
+        value = tree.return_with m.value;
+        spelled = grammar.a_return f.piece o.piece (f.same ∙ h) m.spelled (o.same ∙ j) (then f.piece f.whole (then_all p.front p.whole o.whole)) refl;
+        same = (λ k. tree.return_with (m.same k)) ∙ ap bare_stmt (sym q);
+      }
+
+map-append : {A B : Type 0} (f : A → B) (xs ys : List A) → map f (xs ++ ys) ≡ map f xs ++ map f ys
+map-append f [] ys = refl
+map-append f (x ∷ xs) ys = ap (λ zs. f x ∷ zs) (map-append f xs ys)
+
+pub map-joined : {A B : Type 0} (f : A → B) (xss : List (List A)) → map f (joined xss) ≡ joined (map (map f) xss)
+map-joined f [] = refl
+map-joined f (xs ∷ xss) = map-append f xs (joined xss) ∙ ap (λ ys. map f xs ++ ys) (map-joined f xss)
+
+same_joined : (xss yss : List (List tree.Decl)) → map (map bare_decl) xss ≡ map (map bare_decl) yss → map bare_decl (joined xss) ≡ map bare_decl (joined yss)
+same_joined xss yss e = map-joined bare_decl xss ∙ ap joined e ∙ sym (map-joined bare_decl yss)
+
+moved_parameters : (ts us : List Piece) → lexemes us ≡ lexemes ts → SpellsNoParameters ts → SpellsNoParameters us
+moved_parameters ts us s (grammar.nothing t u h i w) =
+    let f = first t (u ∷ []) us (s ∙ ap lexemes w) in
+    let o = only u f.rest f.same_rest in
+    grammar.nothing f.piece o.piece (f.same ∙ h) (o.same ∙ i) (then f.piece f.whole o.whole)
+moved_parameters ts us s (grammar.void t v u h j i w) =
+    let f = first t (v ∷ u ∷ []) us (s ∙ ap lexemes w) in
+    let g = first v (u ∷ []) f.rest f.same_rest in
+    let o = only u g.rest g.same_rest in
+    grammar.void f.piece g.piece o.piece (f.same ∙ h) (g.same ∙ j) (o.same ∙ i) (then f.piece f.whole (then g.piece g.whole o.whole))
+
+module _ (l d : ℕ) where
+  moved_block : MovedAll (SpellsBlock l d) bare_block
+  moved_block ts us b s r =
+      let f = first r.opening (r.declarations ++ (r.statements ++ r.closing ∷ [])) us (s ∙ ap lexemes r.whole) in
+      let p = parts r.declarations (r.statements ++ r.closing ∷ []) f.rest f.same_rest in
+      let q = parts r.statements (r.closing ∷ []) p.back p.same_back in
+      let o = only r.closing q.back q.same_back in
+      let x = moved_each (SpellsDeclaration l d) (map bare_decl) (moved_declaration l d) r.declarations p.front r.decls p.same_front r.spelled_decls in
+      let y = moved_each (SpellsStmt l d) bare_stmt (moved_stmt l d) r.statements q.front r.stmts q.same_front r.spelled_stmts in
+      record {
+        value = tree.block (joined x.value) (stmts_of y.value);
+        spelled = record {
+          opening = f.piece;
+          is_opening = f.same ∙ r.is_opening;
+          declarations = p.front;
+          statements = q.front;
+          closing = o.piece;
+          is_closing = o.same ∙ r.is_closing;
+          decls = x.value;
+          stmts = y.value;
+          spelled_decls = x.spelled;
+          spelled_stmts = y.spelled;
+          whole = then f.piece f.whole (then_all p.front p.whole (then_all q.front q.whole o.whole));
+          block = refl;
+        };
+        same = (λ j. tree.block (same_joined x.value r.decls x.same j) (bare_stmts_same y.value r.stmts y.same j)) ∙ ap bare_block (sym r.block);
+      }
+
+  pub moved_item : MovedAll (SpellsItem l d) bare_item
+  moved_item ts us i s r =
+      let f = first r.cilk (r.int ∷ r.name_piece ∷ (r.parameters ++ r.body)) us (s ∙ ap lexemes r.whole) in
+      let g = first r.int (r.name_piece ∷ (r.parameters ++ r.body)) f.rest f.same_rest in
+      let h = first r.name_piece (r.parameters ++ r.body) g.rest g.same_rest in
+      let p = parts r.parameters r.body h.rest h.same_rest in
+      let b = moved_block r.body p.back r.block p.same_back r.spelled_body in
+      record {
+        value = tree.procedure (record { name = word_at r.text h.piece; body = b.value });
+        spelled = record {
+          cilk = f.piece;
+          is_cilk = f.same ∙ r.is_cilk;
+          int = g.piece;
+          is_int = g.same ∙ r.is_int;
+          name_piece = h.piece;
+          text = r.text;
+          is_name = h.same ∙ r.is_name;
+          parameters = p.front;
+          body = p.back;
+          block = b.value;
+          spelled_parameters = moved_parameters r.parameters p.front p.same_front r.spelled_parameters;
+          spelled_body = b.spelled;
+          whole = then f.piece f.whole (then g.piece g.whole (then h.piece h.whole p.whole));
+          item = refl;
+        };
+        same = (λ j. tree.procedure (record { name = record { text = r.text; place = 0 }; body = b.same j })) ∙ ap bare_item (sym r.item);
+      }
+
+-- the pieces us spell definitions that are the same as these, places aside
+pub record MovedItems (l d : ℕ) (us : List Piece) (is : List tree.Item) : Type 0 where
+  pub items : List tree.Item
+  pub spelled : SpellsItems l d us items
+  pub bare : map bare_item items ≡ map bare_item is
+
+pub moved_items : (l d : ℕ) (ts us : List Piece) (is : List tree.Item) → lexemes us ≡ lexemes ts → SpellsItems l d ts is → MovedItems l d us is
+moved_items l d ts us is s (grammar.nothing e w) = record { items = []; spelled = grammar.nothing (no_pieces us (s ∙ ap lexemes e)) refl; bare = ap (map bare_item) (sym w) }
+moved_items l d ts us is s (grammar.alone {i = i} r w) =
+    let m = moved_item l d ts us i s r in
+    record { items = m.value ∷ []; spelled = grammar.alone m.spelled refl; bare = (λ j. m.same j ∷ []) ∙ ap (map bare_item) (sym w) }

@@ -1,0 +1,7 @@
+use Rattle.std.proofs.Common.{arith, length-take}
+use Rattle.std.proofs.lemmas.List.{length-drop}
+use Rattle.cilk_parse.proofs.Places.{first_left}
+use Rattle.cilk_parse.proofs.program.place_left.Goals as goal
+
+pub returns-in-len1-up : goal.returns-in-len1-up
+returns-in-len1-up c = first_left c.args.text.now _ c.args.left c.args.tokens.now _ c.requires.in_tokens (omega (arith, c.in-len1-up.len_at_least))
