@@ -17,5 +17,5 @@ pub use fault::LexFault;
 pub use keyword::Keyword;
 pub use mark::Mark;
 pub use place::line_col;
-pub use reading::tokens;
+pub use reading::{TEXT_LIMIT, tokens};
 pub use token::{Kind, Token};

@@ -9,7 +9,8 @@ use crate::front::first;
 use crate::token::Token;
 use std::alloc::Global;
 
-const TEXT_LIMIT: usize = 1_048_576;
+/// The most bytes that a text may have.
+pub const TEXT_LIMIT: usize = 1_048_576;
 
 /// The tokens of a text of at most 1,048,576 bytes, without the blanks between them. The first
 /// fault from the left is the one that is reported (C 1990, 6.1).

@@ -1,9 +1,13 @@
 -- The places of faults, and what reading all tokens says of the text.
-use Rattle.std.proofs.Common.{◌≡◌, ℕ, zero, suc, ◌+◌, ◌-◌, ◌<◌, ◌≤◌, List, [], ◌∷◌, ◌++◌, length, take, drop, map, Option, Some, None, Result, Ok, Err, refl, sym, ap, subst, ◌∙◌, arith, length-append, slice_index_or}
+use Rattle.std.proofs.Common.{◌≡◌, ℕ, zero, suc, ◌+◌, ◌-◌, ◌<◌, ◌≤◌, List, [], ◌∷◌, ◌++◌, length, take, drop, map, Option, Some, None, Result, Ok, Err, refl, sym, ap, subst, ◌∙◌, arith, length-append, slice_index_or, All}
 use Rattle.std.proofs.Math.Seq.{drop-append_seam, drop-length, take-length}
+use Rattle.std.proofs.lemmas.List.Elements.{All-head, All-take, All-drop}
 use Rattle.std.proofs.lemmas.List.{drop-map, length-map, take_all, length-drop}
 use Rattle.cilk_lex.specs.Lexeme.{Piece, piece_of, pieces_of}
-use Rattle.cilk_lex.specs.Lexing.{Lexes}
+use Rattle.cilk_lex.specs.declared.fault.LexFault.{LexFault}
+use Rattle.cilk_lex.specs.Lexing.{Lexes, Faulty, bad_byte, bad_number, later}
+use Rattle.cilk_lex.specs.Reading.{IsWithin, Refuses, place_of as lex_place}
+use Rattle.cilk_lex.specs.declared.fault.LexFault.TheVariants as lex
 use Rattle.cilk_lex.specs.declared.token.Token.{Token}
 use Rattle.cilk_lex.proofs.Unique.{one_reading}
 use Rattle.cilk_tree.specs.Tree as tree
@@ -34,6 +38,26 @@ first_left text end left ts d le some =
     let same : map (piece_of text) rest ≡ drop (length (pieces_of text ts) - left) (pieces_of text ts) =
         sym (drop-map (piece_of text) (length ts - left) ts) ∙ ap (λ n. drop (n - left) (pieces_of text ts)) (sym (length-map ts (piece_of text))) in
     ap (λ (l : List Token). (slice_index_or l 0 d).start) all ∙ first_start text end rest d (omega (arith, long, some)) ∙ ap (λ (l : List Piece). start_or end l) same
+
+first_within : (text : List ℕ) (xs : List Token) (d : Token) → All (IsWithin text) xs → 1 ≤ length xs → (slice_index_or xs 0 d).start ≤ length text
+first_within text [] d h le = absurd (omega (arith, le))
+first_within text (x ∷ xs) d h le = let w : IsWithin text x = All-head (IsWithin text) x xs h in omega (arith, w.not_empty, w.in_text)
+
+-- the first of the tokens that are left begins in the text
+pub left_within : (text : List ℕ) (k n : ℕ) (ts : List Token) (d : Token) → All (IsWithin text) ts → 1 ≤ length (take n (drop k ts)) → (slice_index_or (take n (drop k ts)) 0 d).start ≤ length text
+left_within text k n ts d h le = first_within text (take n (drop k ts)) d (All-take (IsWithin text) n (drop k ts) (All-drop (IsWithin text) k ts h)) le
+
+-- a fault of the tokens is in the text
+pub fault_within : {at : ℕ} {text : List ℕ} {f : LexFault} → Faulty at text f → lex_place f ≤ at + length text
+fault_within (bad_byte {at = at} {text = text} rest b w i) = rw i (omega arith)
+fault_within (bad_number {at = at} {text = text} w rest h e n v i) = rw i (omega arith)
+fault_within (later {at = at} {text = text} {w = w} {rest = rest} {f = f} front v r) = omega (arith, fault_within r, ap length v, length-append w rest)
+
+pub refused_within : (text : List ℕ) (f : LexFault) → Refuses text f → lex_place f ≤ length text
+refused_within text lex.TooLong h = omega arith
+refused_within text (lex.BadByte at) h = omega (arith, fault_within h.1)
+refused_within text (lex.BadNumber at) h = omega (arith, fault_within h.1)
+refused_within text lex.Memory h = omega arith
 
 -- the place behind what was used
 pub place_behind : (end k : ℕ) (ps used left : List Piece) → ps ≡ used ++ left → k ≡ length left → place_left end ps k ≡ start_or end left

@@ -1,10 +1,12 @@
-ghost use Rattle.std.specs.Prelude.{◌≡◌, ◌<◌, ◌≤◌, ◌⊎◌, ◌↔◌, length, IfOk, IfErr, MatchResult};
+ghost use Rattle.std.specs.Prelude.{◌≡◌, ◌<◌, ◌≤◌, ◌⊎◌, ◌↔◌, length, All, IfOk, IfErr, MatchResult};
 ghost use Rattle.cilk_lex.specs.declared.fault.LexFault.{LexFault};
 ghost use Rattle.cilk_lex.specs.Lexeme.{pieces_of};
 ghost use Rattle.cilk_lex.specs.Lexing.{text_limit};
+ghost use Rattle.cilk_lex.specs.Reading.{IsWithin};
 ghost use Rattle.cilk_tree.specs.Tree as tree;
 ghost use Rattle.cilk_parse.specs.Grammar.{SpellsProgram};
 ghost use Rattle.cilk_parse.specs.Fault.{HasFault, HasLexFault, place_left};
+ghost use Rattle.cilk_parse.specs.Place.{place_of};
 
 use crate::definition::items;
 use crate::fault::ReadFault;
@@ -17,7 +19,9 @@ use std::alloc::Global;
 fn place_left(text: &str, tokens: &[Token], left: usize) -> u32
     requires in_tokens { left ≤ length tokens.now }
     requires in_limit { length text.now ≤ text_limit }
-    ensures { result ≡ place_left (length text.now) (pieces_of text.now tokens.now) left }
+    requires within { All (IsWithin text.now) tokens.now }
+    ensures place { result ≡ place_left (length text.now) (pieces_of text.now tokens.now) left }
+    ensures in_text { result ≤ length text.now }
 {
     match &tokens[tokens.len() - left..] {
         [] => text.len() as u32,
@@ -32,6 +36,7 @@ pub fn read(alloc: Global, text: &str) -> Result<Program, ReadFault>
     ensures too_long { (result ≡ Err (ReadFault.Lex LexFault.TooLong)) ↔ (text_limit < length text.now) }
     ensures found { IfOk result (SpellsProgram text.now) }
     ensures refused { IfErr result (HasFault text.now) }
+    ensures placed { IfErr result (λ f. place_of f ≤ length text.now) }
 
     // Both ways, unless memory runs out.
     ensures every_program { (p : tree.Program) → length text.now ≤ text_limit → SpellsProgram text.now p

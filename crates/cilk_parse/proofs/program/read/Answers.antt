@@ -4,7 +4,7 @@ use Rattle.std.proofs.lemmas.List.{length-map}
 use Rattle.cilk_lex.specs.Lexeme.{Piece, pieces_of, piece_of}
 use Rattle.cilk_lex.specs.Lexing.{Lexes, text_limit}
 use Rattle.cilk_parse.specs.Fault.{place_left}
-use Rattle.cilk_parse.proofs.Places.{unexpected_within, too_deep_within, program_found, program_same, no_program}
+use Rattle.cilk_parse.proofs.Places.{refused_within, unexpected_within, too_deep_within, program_found, program_same, no_program}
 use Rattle.cilk_parse.proofs.Viable.{unexpected_stops, too_deep_stops}
 use Rattle.cilk_parse.proofs.program.read.Goals as goal
 
@@ -36,7 +36,7 @@ returns-in-Err-Fault-Unexpected-clause-refused c =
     let lexed = subst (λ (v : List Piece). Lexes 0 c.args.text.now v) (sym same) c.in-Ok.ensures.tokens in
     let again = same ∙ ap (pieces_of c.args.text.now) (sym c.deref-in-Err-Fault-Unexpected.ensures.value) in
     let short : length c.args.text.now ≤ text_limit = elim (cases_lt text_limit (length c.args.text.now)) [ inl h ↦ (let e = c.in-Ok.ensures.too_long.1 h in absurd cc) | inr h ↦ h ] in
-    unexpected_stops _ _ _ _ short lexed (rw (c.in-Err-Fault-Unexpected.field-0-is, c.in-Err-Fault-Unexpected.field-0-0-is) at c.in-Err-Fault-Unexpected.ensures) (c.place_left.ensures ∙ ap (λ (v : List Piece). place_left (length c.args.text.now) v c.in-Err-Fault-Unexpected.left) (sym again))
+    unexpected_stops _ _ _ _ short lexed (rw (c.in-Err-Fault-Unexpected.field-0-is, c.in-Err-Fault-Unexpected.field-0-0-is) at c.in-Err-Fault-Unexpected.ensures) (c.place_left.ensures.place ∙ ap (λ (v : List Piece). place_left (length c.args.text.now) v c.in-Err-Fault-Unexpected.left) (sym again))
 
 pub returns-clause-refused : goal.returns-clause-refused
 returns-clause-refused c =
@@ -44,7 +44,7 @@ returns-clause-refused c =
     let lexed = subst (λ (v : List Piece). Lexes 0 c.args.text.now v) (sym same) c.in-Ok.ensures.tokens in
     let again = same ∙ ap (pieces_of c.args.text.now) (sym c.deref-in-Err-Fault-TooDeep.ensures.value) in
     let short : length c.args.text.now ≤ text_limit = elim (cases_lt text_limit (length c.args.text.now)) [ inl h ↦ (let e = c.in-Ok.ensures.too_long.1 h in absurd cc) | inr h ↦ h ] in
-    too_deep_stops _ _ _ _ short lexed (rw (c.in-Err-Fault-TooDeep.field-0-is, c.in-Err-Fault-TooDeep.field-0-0-is) at c.in-Err-Fault-TooDeep.ensures) (c.place_left-in-Err-Fault-TooDeep.ensures ∙ ap (λ (v : List Piece). place_left (length c.args.text.now) v c.in-Err-Fault-TooDeep.left) (sym again))
+    too_deep_stops _ _ _ _ short lexed (rw (c.in-Err-Fault-TooDeep.field-0-is, c.in-Err-Fault-TooDeep.field-0-0-is) at c.in-Err-Fault-TooDeep.ensures) (c.place_left-in-Err-Fault-TooDeep.ensures.place ∙ ap (λ (v : List Piece). place_left (length c.args.text.now) v c.in-Err-Fault-TooDeep.left) (sym again))
 
 pub returns-in-Err-Fault-Unexpected-clause-every_program : goal.returns-in-Err-Fault-Unexpected-clause-every_program
 returns-in-Err-Fault-Unexpected-clause-every_program c = λ p short s.
@@ -57,3 +57,6 @@ returns-clause-every_program c = λ p short s.
     let same = ap (λ s. s.pieces) c.new-cursor.ensures ∙ ap (pieces_of c.args.text.now) c.deref.ensures.value in
     let lexed = subst (λ (v : List Piece). Lexes 0 c.args.text.now v) (sym same) c.in-Ok.ensures.tokens in
     absurd (no_program _ _ _ p lexed (rw (c.in-Err-Fault-TooDeep.field-0-is, c.in-Err-Fault-TooDeep.field-0-0-is) at c.in-Err-Fault-TooDeep.ensures) s)
+
+pub returns-in-Err-clause-placed : goal.returns-in-Err-clause-placed
+returns-in-Err-clause-placed c = refused_within c.args.text.now c.in-Err.fault c.in-Err.ensures.refused
