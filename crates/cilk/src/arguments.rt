@@ -1,0 +1,21 @@
+use clap::{Arg, ArgAction, Command};
+use std::alloc::{AllocError, Global};
+
+/// The name of the argument that names the program's text.
+pub const FILE: &str = "F";
+
+/// The command line: one level of subcommands.
+pub fn command<'a>(alloc: Global) -> Result<Command<'a>, AllocError> {
+    let file = Arg::new(alloc, FILE)
+        .required(true)
+        .action(ArgAction::Set)
+        .help("The program's text, or - for standard input");
+    let print = Command::new(alloc, "print")
+        .about("Prints the canonical text of a program")
+        .arg(file)?;
+    Command::new(alloc, "cilk")
+        .about("Reads programs in Cilk 5.4")
+        .subcommand_required(true)
+        .arg_required_else_help(true)
+        .subcommand(print)
+}

@@ -1,0 +1,103 @@
+ghost use Rattle.std.specs.Prelude.{◌≡◌, ◌≢◌, ◌⊎◌, ◌↔◌};
+ghost use Rattle.clap.specs.Words.{kind_of};
+
+use crate::arguments::{FILE, command};
+use cilk_commands::{Failure, Status, print_text};
+use clap::Error;
+use clap::error::ErrorKind;
+use std::alloc::Global;
+use std::fs::File;
+use std::io;
+use std::io::Write;
+use std::rt::Files;
+
+/// Runs the program on its command line, whose first word is the program's own name.
+pub fn run<R: AllocGlobal + Files + Input, O: Write, E: Write>(
+    rt: &R,
+    words: &[String],
+    out: &mut O,
+    err: &mut E,
+) -> Status
+    ensures quiet { result ≡ Status.Done → err.new ≡ err.old }
+    ensures kept { result ≢ Status.Done → result ≢ Status.Failed → out.new ≡ out.old }
+{
+    let parsed = match command(rt.alloc()) {
+        Ok(command) => command.try_get_matches_from(words),
+        Err(error) => Err(Error::from(error)),
+    };
+    let matches = match parsed {
+        Ok(matches) => matches,
+        Err(error) => return show(&error, out, err),
+    };
+    match matches.subcommand() {
+        Some(("print", found)) => match found.get_str(FILE) {
+            Some(name) => print_file(rt, name, out, err),
+            None => Status::Usage,
+        },
+        _ => Status::Usage,
+    }
+}
+
+/// Tells why there is no command line: memory has run out, or a word is not UTF-8.
+pub fn refuse<O: Write, E: Write>(
+    alloc: Global,
+    error: &io::Error,
+    out: &mut O,
+    err: &mut E,
+) -> Status
+    ensures quiet { result ≡ Status.Done → err.new ≡ err.old }
+    ensures kept { result ≢ Status.Done → result ≢ Status.Failed → out.new ≡ out.old }
+{
+    if error.kind() == io::ErrorKind::OutOfMemory {
+        return Failure::Memory.report("", err);
+    }
+    let told = match command(alloc) {
+        Ok(mut command) => command.error(ErrorKind::InvalidValue, "a word is not UTF-8"),
+        Err(error) => Err(error),
+    };
+    match told {
+        Ok(error) => show(&error, out, err),
+        Err(_) => Failure::Memory.report("", err),
+    }
+}
+
+// Help goes to the output, and what is wrong with the command line elsewhere.
+fn show<O: Write, E: Write>(error: &Error, out: &mut O, err: &mut E) -> Status
+    ensures done { result ≡ Status.Done
+        → (kind_of error.now ≡ ErrorKind.DisplayHelp) ⊎ (kind_of error.now ≡ ErrorKind.DisplayVersion) }
+    ensures memory { result ≡ Status.Memory ↔ (kind_of error.now ≡ ErrorKind.OutOfMemory) }
+    ensures refused { result ≢ Status.Refused }
+    ensures quiet { result ≡ Status.Done → err.new ≡ err.old }
+    ensures kept { result ≢ Status.Done → result ≢ Status.Failed → out.new ≡ out.old }
+{
+    if error.kind() == ErrorKind::OutOfMemory {
+        return Failure::Memory.report("", err);
+    }
+    if error.use_stderr() {
+        let _ = write!(err, "{error}");
+        return Status::Usage;
+    }
+    match write!(out, "{error}") {
+        Ok(()) => Status::Done,
+        Err(_) => Failure::CannotWrite.report("", err),
+    }
+}
+
+fn print_file<R: AllocGlobal + Files + Input, O: Write, E: Write>(
+    rt: &R,
+    name: &str,
+    out: &mut O,
+    err: &mut E,
+) -> Status
+    ensures quiet { result ≡ Status.Done → err.new ≡ err.old }
+    ensures kept { result ≢ Status.Done → result ≢ Status.Failed → out.new ≡ out.old }
+    ensures usage { result ≢ Status.Usage }
+{
+    if name == "-" {
+        return print_text(rt.alloc(), name, &mut rt.reader(), out, err);
+    }
+    match File::open(rt, name) {
+        Ok(mut file) => print_text(rt.alloc(), name, &mut file, out, err),
+        Err(_) => Failure::CannotRead.report(name, err),
+    }
+}

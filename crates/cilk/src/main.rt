@@ -1,0 +1,26 @@
+//! The program `cilk`, which reads Cilk 5.4 programs.
+#![tactic(auto)]
+
+mod arguments;
+mod dispatch;
+#[cfg(test)]
+mod tests;
+
+use dispatch::{refuse, run};
+use std::process::ExitCode;
+use std::{env, io};
+
+fn main(rt: HostRuntime) -> ExitCode {
+    let mut out = rt.stdout();
+    let mut err = rt.stderr();
+    let status = match words(&rt) {
+        Ok(words) => run(&rt, words.as_slice(), &mut out, &mut err),
+        Err(error) => refuse(rt.alloc(), &error, &mut out, &mut err),
+    };
+    ExitCode::from(status.code())
+}
+
+fn words(rt: &HostRuntime) -> io::Result<Vec<String>> {
+    let words = env::args(rt)?.collect(rt.alloc())?;
+    Ok(words)
+}

@@ -1,0 +1,58 @@
+use crate::dispatch::run;
+use std::alloc::{AllocError, Global};
+use std::test::Fail;
+
+fn owned(alloc: Global, list: &[&str]) -> Result<Vec<String>, AllocError> {
+    let mut words = Vec::new(alloc);
+    for word in list {
+        words.push(String::from_str(alloc, word)?)?;
+    }
+    Ok(words)
+}
+
+// Each command line, its status, and how its help or its error begins.
+#[test]
+fn answers_command_lines(rt: HostRuntime) -> Result<(), Fail> {
+    for (list, code, begins) in [
+        (["cilk", "--help"].as_slice(), 0, "Reads"),
+        (["cilk", "-h"].as_slice(), 0, "Reads"),
+        (["cilk", "print", "-h"].as_slice(), 0, "Prints"),
+        (["cilk"].as_slice(), 2, "Reads"),
+        (["cilk", "print"].as_slice(), 2, "error: the following"),
+        (
+            ["cilk", "frob"].as_slice(),
+            2,
+            "error: unrecognized subcommand 'frob'\n\nUsage: cilk <COMMAND>\n",
+        ),
+        (
+            ["cilk", "print", "a", "b"].as_slice(),
+            2,
+            "error: unexpected argument 'b' found\n\nUsage: cilk print <F>\n",
+        ),
+        (
+            ["cilk", "print", "-x"].as_slice(),
+            2,
+            "error: unexpected argument '-x' found",
+        ),
+        (
+            ["cilk", "print", "no/such file"].as_slice(),
+            7,
+            "cilk: cannot read no/such file\n",
+        ),
+        (
+            ["cilk", "print", "/"].as_slice(),
+            7,
+            "cilk: cannot read /\n",
+        ),
+    ] {
+        let words = owned(rt.alloc(), list)?;
+        let mut out = Vec::new(rt.alloc());
+        let mut err = Vec::new(rt.alloc());
+        let status = run(&rt, words.as_slice(), &mut out, &mut err);
+        assert_eq!(rt; status.code(), code);
+        let (told, silent) = if code == 0 { (out, err) } else { (err, out) };
+        assert!(rt; silent.is_empty());
+        assert!(rt; told.starts_with(begins.as_bytes()), "at {list:?}");
+    }
+    Ok(())
+}

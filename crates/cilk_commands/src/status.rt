@@ -1,0 +1,33 @@
+ghost use Rattle.std.specs.Prelude.{◌≡◌};
+
+/// How a subcommand ended, as the status with which the program exits.
+#[derive(Clone, Copy, Debug, PartialEq, Eq)]
+pub enum Status {
+    /// All is done, or help was asked for.
+    Done,
+    /// The text is no program.
+    Refused,
+    /// The command line is wrong.
+    Usage,
+    /// Memory has run out.
+    Memory,
+    /// A file or a stream failed.
+    Failed,
+}
+
+impl Status {
+    ghost use Rattle.cilk_commands.specs.Status.{code_of};
+
+    /// The number that the program exits with.
+    pub fn code(self) -> u8
+        ensures { result ≡ code_of self }
+    {
+        match self {
+            Status::Done => 0,
+            Status::Refused => 1,
+            Status::Usage => 2,
+            Status::Memory => 6,
+            Status::Failed => 7,
+        }
+    }
+}

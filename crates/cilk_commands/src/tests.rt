@@ -1,0 +1,157 @@
+use crate::{Status, print_text};
+use std::alloc::{AllocError, Global};
+use std::io;
+use std::io::{ErrorKind, Read, Write};
+use std::test::Fail;
+
+const SAMPLE: &str = "cilk int main(){int a=2,b;b=a*(3+4)-5;return b;}";
+
+const CANONICAL: &str =
+    "cilk int main(void) {\n    int a = 2;\n    int b;\n    b = (a * (3 + 4)) - 5;\n    return b;\n}\n";
+
+const LIMIT: usize = 1048576;
+
+// What `print` made of a text that is called "-".
+#[derive(Drop)]
+struct Printed {
+    status: Status,
+    out: Vec<u8>,
+    err: Vec<u8>,
+}
+
+fn print(alloc: Global, mut text: &[u8]) -> Printed {
+    let mut out = Vec::new(alloc);
+    let mut err = Vec::new(alloc);
+    let status = print_text(alloc, "-", &mut text, &mut out, &mut err);
+    Printed { status, out, err }
+}
+
+// Gives a part of the sample at each call but the one numbered `fails_at`, from 1.
+#[derive(Drop)]
+struct BrokenReader {
+    calls: usize,
+    fails_at: usize,
+}
+
+impl Read for BrokenReader {
+    fn read(&mut self, buf: &mut [u8]) -> io::Result<usize> {
+        self.calls = self.calls.saturating_add(1);
+        if self.calls == self.fails_at {
+            return Err(io::Error::from(ErrorKind::BrokenPipe));
+        }
+        (&SAMPLE.as_bytes()[..9]).read(buf)
+    }
+}
+
+// Takes `room` bytes, and then fails; or fails at a flush.
+#[derive(Drop)]
+struct BrokenWriter {
+    held: Vec<u8>,
+    room: usize,
+}
+
+impl BrokenWriter {
+    fn new(alloc: Global, room: usize) -> BrokenWriter {
+        BrokenWriter {
+            held: Vec::new(alloc),
+            room,
+        }
+    }
+}
+
+impl Write for BrokenWriter {
+    fn write(&mut self, buf: &[u8]) -> io::Result<usize> {
+        if self.room == 0 {
+            return Err(io::Error::from(ErrorKind::StorageFull));
+        }
+        let count = buf.len().min(self.room);
+        self.held.extend_from_slice(&buf[..count])?;
+        self.room -= count;
+        Ok(count)
+    }
+
+    fn flush(&mut self) -> io::Result<()> {
+        Err(io::Error::from(ErrorKind::StorageFull))
+    }
+}
+
+#[test]
+fn prints_a_program(rt: HostRuntime) {
+    for (text, printed) in [("", ""), (SAMPLE, CANONICAL)] {
+        let got = print(rt.alloc(), text.as_bytes());
+        assert_eq!(rt; got.status.code(), 0);
+        assert_eq!(rt; got.out.as_slice(), printed.as_bytes());
+        assert!(rt; got.err.is_empty());
+    }
+}
+
+#[test]
+fn tells_a_fault_and_its_place(rt: HostRuntime) {
+    for (text, line) in [
+        (
+            "cilk int main(void) { return 010; }",
+            "-:1:30: L5 BadNumber\n",
+        ),
+        ("cilk int main(void) {\n  int @;\n}", "-:2:7: L2 BadByte\n"),
+    ] {
+        let got = print(rt.alloc(), text.as_bytes());
+        assert_eq!(rt; got.status.code(), 1);
+        assert!(rt; got.out.is_empty());
+        assert_eq!(rt; got.err.as_slice(), line.as_bytes());
+    }
+}
+
+#[test]
+fn tells_bytes_that_are_no_text(rt: HostRuntime) -> Result<(), Fail> {
+    for (count, line) in [
+        (1, "-: not UTF-8\n"),
+        (LIMIT, "-: not UTF-8\n"),
+        (LIMIT + 1, "-:1:1: L1 TooLong\n"),
+        (LIMIT + 9, "-:1:1: L1 TooLong\n"),
+    ] {
+        let bytes = vec![in rt.alloc(); 255u8; count]?;
+        let got = print(rt.alloc(), bytes.as_slice());
+        assert_eq!(rt; got.status.code(), 1);
+        assert!(rt; got.out.is_empty());
+        assert_eq!(rt; got.err.as_slice(), line.as_bytes());
+    }
+    Ok(())
+}
+
+#[test]
+fn stops_at_a_broken_reader(rt: HostRuntime) {
+    for fails_at in 1..4 {
+        let mut out = Vec::new(rt.alloc());
+        let mut err = Vec::new(rt.alloc());
+        let mut reader = BrokenReader { calls: 0, fails_at };
+        let status = print_text(rt.alloc(), "a.cilk", &mut reader, &mut out, &mut err);
+        assert_eq!(rt; status.code(), 7);
+        assert!(rt; out.is_empty());
+        assert_eq!(rt; err.as_slice(), b"cilk: cannot read a.cilk\n".as_slice());
+    }
+}
+
+#[test]
+fn stops_at_a_broken_writer(rt: HostRuntime) {
+    for room in [0, 1, CANONICAL.len(), 999] {
+        let mut text = SAMPLE.as_bytes();
+        let mut out = BrokenWriter::new(rt.alloc(), room);
+        let mut err = Vec::new(rt.alloc());
+        let status = print_text(rt.alloc(), "-", &mut text, &mut out, &mut err);
+        assert_eq!(rt; status.code(), 7);
+        let count = room.min(CANONICAL.len());
+        assert_eq!(rt; out.held.as_slice(), &CANONICAL.as_bytes()[..count]);
+        assert_eq!(rt; err.as_slice(), b"cilk: cannot write output\n".as_slice());
+    }
+}
+
+#[test]
+fn loses_a_line_that_cannot_be_written(rt: HostRuntime) {
+    let mut text = b"\xff".as_slice();
+    let mut out = Vec::new(rt.alloc());
+    let mut err = BrokenWriter::new(rt.alloc(), 3);
+    let status = print_text(rt.alloc(), "-", &mut text, &mut out, &mut err);
+    assert_eq!(rt; status.code(), 1);
+    assert!(rt; out.is_empty());
+    assert_eq!(rt; err.held.as_slice(), b"-: ".as_slice());
+}
