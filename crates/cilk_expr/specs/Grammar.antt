@@ -59,3 +59,10 @@ pub data Spells : ℕ → ℕ → List Piece → tree.Expr → Type 0 where
 pub record SpellsWhole (l d : ℕ) (ts : List Piece) (e : tree.Expr) : Type 0 where
   pub spelled : Spells d 0 ts e
   pub few : operators e ≤ l
+
+-- the nesting limits: so many operators in an expression, and so many parentheses open at once in it
+abbrev pub operator_limit : ℕ
+operator_limit = 200
+
+abbrev pub parenthesis_limit : ℕ
+parenthesis_limit = 200

@@ -6,5 +6,5 @@ mod reading;
 mod fault;
 
 pub use cursor::Cursor;
-pub use reading::{expression, OPERATOR_LIMIT, PARENTHESIS_LIMIT};
+pub use reading::expression;
 pub use fault::{Fault, ParseError};

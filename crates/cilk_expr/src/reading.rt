@@ -1,6 +1,6 @@
 ghost use Rattle.std.specs.Prelude.{◌≡◌, ◌≤◌, MatchResult};
 ghost use Rattle.cilk_tree.specs.Tree as tree;
-ghost use Rattle.cilk_expr.specs.Grammar.{level, operand};
+ghost use Rattle.cilk_expr.specs.Grammar.{level, operand, operator_limit, parenthesis_limit};
 ghost use Rattle.cilk_expr.specs.Front.{Gives};
 ghost use Rattle.cilk_expr.specs.Reading.{operand_at, expr_of, whole_of};
 
@@ -10,11 +10,11 @@ use cilk_lex::{Kind, Mark};
 use cilk_tree::{BinOp, Expr, ExprNode};
 use std::alloc::Global;
 
-/// How many operators an expression may have.
-pub const OPERATOR_LIMIT: u32 = 200;
+// How many operators an expression may have.
+const OPERATOR_LIMIT: u32 = 200;
 
-/// How many parentheses may be open at once in an expression.
-pub const PARENTHESIS_LIMIT: u32 = 200;
+// How many parentheses may be open at once in an expression.
+const PARENTHESIS_LIMIT: u32 = 200;
 
 fn level_of(operator: BinOp) -> u32
     ensures { result ≡ level operator }
@@ -47,7 +47,7 @@ fn joined(alloc: Global, operator: BinOp, left: Expr, right: Expr) -> Result<Exp
 #[tactic(auto, unfolding(crate::specs::Reading::operand_at))]
 fn operand(cursor: &mut Cursor, depth: u32) -> Result<Expr, ParseError>
     ensures { Gives (λ e. ((e, cursor.new.operators), cursor.new.pieces)) result
-        (operand_at OPERATOR_LIMIT depth cursor.old.operators cursor.old.pieces) }
+        (operand_at operator_limit depth cursor.old.operators cursor.old.pieces) }
 {
     match cursor.kind() {
         Some(Kind::Number(value)) => {
@@ -79,7 +79,7 @@ fn operand(cursor: &mut Cursor, depth: u32) -> Result<Expr, ParseError>
 fn expr(cursor: &mut Cursor, depth: u32, lowest: u32) -> Result<Expr, ParseError>
     requires { lowest ≤ operand }
     ensures { Gives (λ e. ((e, cursor.new.operators), cursor.new.pieces)) result
-        (expr_of OPERATOR_LIMIT depth lowest cursor.old.operators cursor.old.pieces) }
+        (expr_of operator_limit depth lowest cursor.old.operators cursor.old.pieces) }
 {
     let mut left = operand(cursor, depth)?;
     'each: while let Some(operator) = cursor.operator() {
@@ -101,7 +101,7 @@ fn expr(cursor: &mut Cursor, depth: u32, lowest: u32) -> Result<Expr, ParseError
 #[tactic(auto, unfolding(crate::specs::Reading::whole_of))]
 pub fn expression(cursor: &mut Cursor) -> Result<Expr, ParseError>
     ensures { Gives (λ e. (e, cursor.new.pieces)) result
-        (whole_of OPERATOR_LIMIT PARENTHESIS_LIMIT cursor.old.pieces) }
+        (whole_of operator_limit parenthesis_limit cursor.old.pieces) }
 {
     cursor.start_expression();
     expr(cursor, PARENTHESIS_LIMIT, 0)

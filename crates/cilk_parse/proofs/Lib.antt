@@ -1,9 +1,13 @@
-pub mod ManyLaws
-pub mod Sound
+pub mod Again
+pub mod Canonical
+pub mod CanonicalBlocks
+pub mod CanonicalExprs
 pub mod Complete
 pub mod LocalItems
 pub mod Loops
-pub mod Places
+pub mod ManyLaws
 pub mod Moved
+pub mod Places
 pub mod Room
+pub mod Sound
 pub mod Viable

@@ -1,8 +1,9 @@
 -- The grammar does not look at places: other pieces with the same lexemes spell the same tree, places aside.
-use Rattle.std.proofs.Common.{◌≡◌, ℕ, ◌≤◌, List, [], ◌∷◌, ◌++◌, map, Option, Some, None, refl, sym, ap, ◌∙◌, arith}
+use Rattle.std.proofs.Common.{◌≡◌, ℕ, List, [], ◌∷◌, ◌++◌, map, Some, None, refl, sym, ap, ◌∙◌, arith}
+use Rattle.std.proofs.lemmas.List.{map-append}
 use Rattle.cilk_lex.specs.Lexeme.{Lexeme, Piece}
 use Rattle.cilk_tree.specs.Tree as tree
-use Rattle.cilk_tree.specs.Bare.{bare_expr, bare_decl, bare_stmt, bare_stmts, bare_block, bare_item}
+use Rattle.cilk_tree.specs.Bare.{bare_expr, bare_decl, bare_stmt, bare_block, bare_item}
 use Rattle.cilk_tree.specs.Operators.{operators}
 use Rattle.cilk_tree.specs.Stmts.{stmts_of}
 use Rattle.cilk_tree.proofs.BareLaws.{operators-bare}
@@ -193,10 +194,6 @@ module _ (l d : ℕ) where
         spelled = grammar.a_return f.piece o.piece (f.same ∙ h) m.spelled (o.same ∙ j) (then f.piece f.whole (then_all p.front p.whole o.whole)) refl;
         same = (λ k. tree.return_with (m.same k)) ∙ ap bare_stmt (sym q);
       }
-
-map-append : {A B : Type 0} (f : A → B) (xs ys : List A) → map f (xs ++ ys) ≡ map f xs ++ map f ys
-map-append f [] ys = refl
-map-append f (x ∷ xs) ys = ap (λ zs. f x ∷ zs) (map-append f xs ys)
 
 pub map-joined : {A B : Type 0} (f : A → B) (xss : List (List A)) → map f (joined xss) ≡ joined (map (map f) xss)
 map-joined f [] = refl

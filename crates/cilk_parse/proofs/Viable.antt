@@ -9,7 +9,8 @@ use Rattle.cilk_tree.specs.Tree as tree
 use Rattle.cilk_expr.specs.declared.fault.Fault.{Fault}
 use Rattle.cilk_expr.specs.declared.fault.Fault.TheVariants.{Unexpected, TooDeep}
 use Rattle.cilk_expr.proofs.Local.{SameHead, Local, Stuck, unexpected, too_deep}
-use Rattle.cilk_parse.specs.Grammar.{SpellsItems, operator_limit, parenthesis_limit}
+use Rattle.cilk_parse.specs.Grammar.{SpellsItems}
+use Rattle.cilk_expr.specs.Grammar.{operator_limit, parenthesis_limit}
 use Rattle.cilk_parse.specs.Fault.{BeginsWith, IsNoFront, IsNotGoingOn, at_token, at_end, any_limits, the_limits, StopsAt, start_or, place_left}
 use Rattle.cilk_parse.specs.Reading.{Read, items_at}
 use Rattle.cilk_parse.proofs.Complete.{items_again}

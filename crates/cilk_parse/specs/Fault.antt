@@ -8,7 +8,8 @@ use Rattle.cilk_tree.specs.Tree as tree
 use Rattle.cilk_written.specs.Lexemes.{lexemes}
 use Rattle.cilk_parse.specs.declared.fault.ReadFault.{ReadFault}
 use Rattle.cilk_parse.specs.declared.fault.ReadFault.TheVariants as fault
-use Rattle.cilk_parse.specs.Grammar.{SpellsItems, operator_limit, parenthesis_limit}
+use Rattle.cilk_parse.specs.Grammar.{SpellsItems}
+use Rattle.cilk_expr.specs.Grammar.{operator_limit, parenthesis_limit}
 
 -- the list begins with the other one
 pub record BeginsWith (front all : List Lexeme) : Type 0 where

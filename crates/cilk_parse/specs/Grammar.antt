@@ -6,7 +6,7 @@ use Rattle.cilk_lex.specs.declared.keyword.Keyword.TheVariants as key
 use Rattle.cilk_lex.specs.declared.mark.Mark.TheVariants as sign
 use Rattle.cilk_tree.specs.Tree as tree
 use Rattle.cilk_tree.specs.Stmts.{stmts_of}
-use Rattle.cilk_expr.specs.Grammar.{word_at, SpellsWhole}
+use Rattle.cilk_expr.specs.Grammar.{word_at, SpellsWhole, operator_limit, parenthesis_limit}
 
 -- one after another, where R says how one is spelled
 pub data Each {A : Type 0} (R : List Piece → A → Type 0) : List Piece → List A → Type 0 where
@@ -99,13 +99,6 @@ pub record SpellsItem (l d : ℕ) (ts : List Piece) (i : tree.Item) : Type 0 whe
 pub data SpellsItems (l d : ℕ) : List Piece → List tree.Item → Type 0 where
   nothing : {ts : List Piece} {is : List tree.Item} → ts ≡ [] → is ≡ [] → SpellsItems l d ts is
   alone : {ts : List Piece} {i : tree.Item} {is : List tree.Item} → SpellsItem l d ts i → is ≡ i ∷ [] → SpellsItems l d ts is
-
--- the nesting limits: so many operators in an expression, and so many parentheses open at once in it
-abbrev pub operator_limit : ℕ
-operator_limit = 200
-
-abbrev pub parenthesis_limit : ℕ
-parenthesis_limit = 200
 
 -- the text, however long, spells the program, within the nesting limits
 pub record SpellsProgram (text : List ℕ) (p : tree.Program) : Type 0 where

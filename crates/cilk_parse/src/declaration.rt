@@ -1,7 +1,8 @@
+ghost use Rattle.cilk_expr.specs.Grammar.{operator_limit, parenthesis_limit};
 ghost use Rattle.cilk_expr.specs.Front.{Gives};
 ghost use Rattle.cilk_parse.specs.Reading.{value_at, declarator_at, next_declarator_at, next_declarators_at, declaration_at, joined_at, onto};
 
-use cilk_expr::{Cursor, OPERATOR_LIMIT, PARENTHESIS_LIMIT, ParseError, expression};
+use cilk_expr::{Cursor, ParseError, expression};
 use cilk_lex::{Keyword, Mark};
 use cilk_tree::{Decl, Expr};
 
@@ -9,7 +10,7 @@ use cilk_tree::{Decl, Expr};
 #[tactic(auto, unfolding(crate::specs::Reading::value_at))]
 fn value(cursor: &mut Cursor) -> Result<Option<Expr>, ParseError>
     ensures { Gives (λ v. (v, cursor.new.pieces)) result
-        (value_at OPERATOR_LIMIT PARENTHESIS_LIMIT cursor.old.pieces) }
+        (value_at operator_limit parenthesis_limit cursor.old.pieces) }
 {
     if cursor.is_mark(Mark::Assign) {
         cursor.advance();
@@ -23,7 +24,7 @@ fn value(cursor: &mut Cursor) -> Result<Option<Expr>, ParseError>
 #[tactic(auto, unfolding(crate::specs::Reading::declarator_at))]
 fn declarator(cursor: &mut Cursor) -> Result<Decl, ParseError>
     ensures { Gives (λ d. (d, cursor.new.pieces)) result
-        (declarator_at OPERATOR_LIMIT PARENTHESIS_LIMIT cursor.old.pieces) }
+        (declarator_at operator_limit parenthesis_limit cursor.old.pieces) }
 {
     let name = cursor.name()?;
     let value = value(cursor)?;
@@ -33,7 +34,7 @@ fn declarator(cursor: &mut Cursor) -> Result<Decl, ParseError>
 #[tactic(auto, unfolding(crate::specs::Reading::next_declarator_at))]
 fn next_declarator(cursor: &mut Cursor) -> Result<Decl, ParseError>
     ensures { Gives (λ d. (d, cursor.new.pieces)) result
-        (next_declarator_at OPERATOR_LIMIT PARENTHESIS_LIMIT cursor.old.pieces) }
+        (next_declarator_at operator_limit parenthesis_limit cursor.old.pieces) }
 {
     cursor.mark(Mark::Comma)?;
     declarator(cursor)
@@ -42,7 +43,7 @@ fn next_declarator(cursor: &mut Cursor) -> Result<Decl, ParseError>
 // The declarators behind the first one, which are put behind the others.
 fn next_declarators(cursor: &mut Cursor, decls: &mut Vec<Decl>) -> Result<(), ParseError>
     ensures { Gives (λ _. (decls.new.items, cursor.new.pieces)) result
-        (onto decls.old.items (next_declarators_at OPERATOR_LIMIT PARENTHESIS_LIMIT cursor.old.pieces)) }
+        (onto decls.old.items (next_declarators_at operator_limit parenthesis_limit cursor.old.pieces)) }
 {
     'each: while cursor.is_mark(Mark::Comma) {
         let next = next_declarator(cursor)?;
@@ -54,7 +55,7 @@ fn next_declarators(cursor: &mut Cursor, decls: &mut Vec<Decl>) -> Result<(), Pa
 // A declaration, whose declarators are put behind the others.
 fn declaration(cursor: &mut Cursor, decls: &mut Vec<Decl>) -> Result<(), ParseError>
     ensures { Gives (λ _. (decls.new.items, cursor.new.pieces)) result
-        (onto decls.old.items (declaration_at OPERATOR_LIMIT PARENTHESIS_LIMIT cursor.old.pieces)) }
+        (onto decls.old.items (declaration_at operator_limit parenthesis_limit cursor.old.pieces)) }
 {
     cursor.keyword(Keyword::Int)?;
     let first = declarator(cursor)?;
@@ -66,7 +67,7 @@ fn declaration(cursor: &mut Cursor, decls: &mut Vec<Decl>) -> Result<(), ParseEr
 /// Reads declarations, as long as there are some.
 pub fn declarations(cursor: &mut Cursor) -> Result<Vec<Decl>, ParseError>
     ensures { Gives (λ v. (v.items, cursor.new.pieces)) result
-        (joined_at OPERATOR_LIMIT PARENTHESIS_LIMIT cursor.old.pieces) }
+        (joined_at operator_limit parenthesis_limit cursor.old.pieces) }
 {
     let mut decls = Vec::new(cursor.alloc());
     'each: while cursor.is_keyword(Keyword::Int) {

@@ -1,16 +1,17 @@
+ghost use Rattle.cilk_expr.specs.Grammar.{operator_limit, parenthesis_limit};
 ghost use Rattle.cilk_expr.specs.Front.{Gives};
 ghost use Rattle.cilk_parse.specs.Reading.{block_at, parameters_at, item_at, items_at};
 
 use crate::declaration::declarations;
 use crate::statement::statements;
-use cilk_expr::{Cursor, OPERATOR_LIMIT, PARENTHESIS_LIMIT, ParseError};
+use cilk_expr::{Cursor, ParseError};
 use cilk_lex::{Keyword, Mark};
 use cilk_tree::{Block, Item, ItemNode, Proc};
 
 #[tactic(auto, unfolding(crate::specs::Reading::block_at, crate::specs::Reading::joined_at))]
 fn block(cursor: &mut Cursor) -> Result<Block, ParseError>
     ensures { Gives (λ b. (b, cursor.new.pieces)) result
-        (block_at OPERATOR_LIMIT PARENTHESIS_LIMIT cursor.old.pieces) }
+        (block_at operator_limit parenthesis_limit cursor.old.pieces) }
 {
     cursor.mark(Mark::OpenBrace)?;
     let decls = declarations(cursor)?;
@@ -34,7 +35,7 @@ fn no_parameters(cursor: &mut Cursor) -> Result<(), ParseError>
 #[tactic(auto, unfolding(crate::specs::Reading::item_at))]
 fn item(cursor: &mut Cursor) -> Result<Item, ParseError>
     ensures { Gives (λ i. (i, cursor.new.pieces)) result
-        (item_at OPERATOR_LIMIT PARENTHESIS_LIMIT cursor.old.pieces) }
+        (item_at operator_limit parenthesis_limit cursor.old.pieces) }
 {
     cursor.keyword(Keyword::Cilk)?;
     cursor.keyword(Keyword::Int)?;
@@ -50,7 +51,7 @@ fn item(cursor: &mut Cursor) -> Result<Item, ParseError>
 #[tactic(auto, unfolding(crate::specs::Reading::items_at))]
 pub fn items(cursor: &mut Cursor) -> Result<Vec<Item>, ParseError>
     ensures { Gives (λ v. (v.items, cursor.new.pieces)) result
-        (items_at OPERATOR_LIMIT PARENTHESIS_LIMIT cursor.old.pieces) }
+        (items_at operator_limit parenthesis_limit cursor.old.pieces) }
 {
     let mut items = Vec::new(cursor.alloc());
     if cursor.left() == 0 {

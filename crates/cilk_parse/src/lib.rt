@@ -4,8 +4,11 @@
 mod declaration;
 mod definition;
 mod fault;
+pub mod laws;
 mod program;
 mod statement;
+#[cfg(test)]
+mod tests;
 
 pub use fault::ReadFault;
 pub use program::read;

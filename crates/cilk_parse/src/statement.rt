@@ -1,7 +1,8 @@
+ghost use Rattle.cilk_expr.specs.Grammar.{operator_limit, parenthesis_limit};
 ghost use Rattle.cilk_expr.specs.Front.{Gives};
 ghost use Rattle.cilk_parse.specs.Reading.{value_end_at, assignment_at, return_at, stmt_at, stmts_at};
 
-use cilk_expr::{Cursor, OPERATOR_LIMIT, PARENTHESIS_LIMIT, ParseError, expression};
+use cilk_expr::{Cursor, ParseError, expression};
 use cilk_lex::{Keyword, Kind, Mark};
 use cilk_tree::{Expr, Place, Stmt, StmtNode};
 
@@ -9,7 +10,7 @@ use cilk_tree::{Expr, Place, Stmt, StmtNode};
 #[tactic(auto, unfolding(crate::specs::Reading::value_end_at))]
 fn value_end(cursor: &mut Cursor) -> Result<Expr, ParseError>
     ensures { Gives (λ e. (e, cursor.new.pieces)) result
-        (value_end_at OPERATOR_LIMIT PARENTHESIS_LIMIT cursor.old.pieces) }
+        (value_end_at operator_limit parenthesis_limit cursor.old.pieces) }
 {
     let value = expression(cursor)?;
     cursor.mark(Mark::Semicolon)?;
@@ -19,7 +20,7 @@ fn value_end(cursor: &mut Cursor) -> Result<Expr, ParseError>
 #[tactic(auto, unfolding(crate::specs::Reading::assignment_at))]
 fn assignment(cursor: &mut Cursor) -> Result<Stmt, ParseError>
     ensures { Gives (λ s. (s, cursor.new.pieces)) result
-        (assignment_at OPERATOR_LIMIT PARENTHESIS_LIMIT cursor.old.pieces) }
+        (assignment_at operator_limit parenthesis_limit cursor.old.pieces) }
 {
     let name = cursor.name()?;
     cursor.mark(Mark::Assign)?;
@@ -33,7 +34,7 @@ fn assignment(cursor: &mut Cursor) -> Result<Stmt, ParseError>
 #[tactic(auto, unfolding(crate::specs::Reading::return_at))]
 fn returned(cursor: &mut Cursor) -> Result<Stmt, ParseError>
     ensures { Gives (λ s. (s, cursor.new.pieces)) result
-        (return_at OPERATOR_LIMIT PARENTHESIS_LIMIT cursor.old.pieces) }
+        (return_at operator_limit parenthesis_limit cursor.old.pieces) }
 {
     let value = value_end(cursor)?;
     Ok(Stmt {
@@ -44,7 +45,7 @@ fn returned(cursor: &mut Cursor) -> Result<Stmt, ParseError>
 #[tactic(auto, unfolding(crate::specs::Reading::stmt_at))]
 fn statement(cursor: &mut Cursor) -> Result<Stmt, ParseError>
     ensures { Gives (λ s. (s, cursor.new.pieces)) result
-        (stmt_at OPERATOR_LIMIT PARENTHESIS_LIMIT cursor.old.pieces) }
+        (stmt_at operator_limit parenthesis_limit cursor.old.pieces) }
 {
     match cursor.kind() {
         Some(Kind::Name) => assignment(cursor),
@@ -59,7 +60,7 @@ fn statement(cursor: &mut Cursor) -> Result<Stmt, ParseError>
 /// Reads statements up to a closing brace, which is left.
 pub fn statements(cursor: &mut Cursor) -> Result<Vec<Stmt>, ParseError>
     ensures { Gives (λ v. (v.items, cursor.new.pieces)) result
-        (stmts_at OPERATOR_LIMIT PARENTHESIS_LIMIT cursor.old.pieces) }
+        (stmts_at operator_limit parenthesis_limit cursor.old.pieces) }
 {
     let mut stmts = Vec::new(cursor.alloc());
     'each: while !cursor.is_mark(Mark::CloseBrace) {

@@ -1,0 +1,249 @@
+-- The canonical lexemes of declarations, statements and definitions spell them, places aside.
+use Rattle.std.proofs.Common.{◌≡◌, ℕ, List, [], ◌∷◌, ◌++◌, map, Some, None, refl, sym, ap, subst, ◌∙◌}
+use Rattle.std.specs.Prelude.{All}
+use Rattle.std.proofs.lemmas.List.{append-nil}
+use Rattle.std.proofs.lemmas.List.Elements.{All-nil, All-cons, All-head, All-tail, All-append}
+use Rattle.cilk_lex.specs.Lexeme.{Piece, word, name, mark}
+use Rattle.cilk_lex.specs.Spelling.{IsName}
+use Rattle.cilk_lex.specs.declared.keyword.Keyword.TheVariants as key
+use Rattle.cilk_lex.specs.declared.mark.Mark.TheVariants as sign
+use Rattle.cilk_tree.specs.Tree as tree
+use Rattle.cilk_tree.specs.Stmts.{stmts_of}
+use Rattle.cilk_tree.specs.Bare.{bare_decl, bare_stmt, bare_block, bare_item}
+use Rattle.cilk_tree.proofs.StmtsOf.{bare_stmts-stmts_of}
+use Rattle.cilk_written.specs.Lexemes.{expr_lexemes, decl_lexemes, decls_lexemes, stmt_lexemes, stmts_lexemes, block_lexemes, item_lexemes, items_lexemes, CanWriteValue, CanWriteDecls, CanWriteStmt, CanWriteStmts, CanWriteBlock, CanWriteItem, CanWriteItems}
+use Rattle.cilk_parse.specs.Grammar as grammar
+use Rattle.cilk_parse.specs.Grammar.{Each, no_more, one_more, joined, SpellsDeclarator, SpellsNextDeclarator, SpellsDeclaration, SpellsStmt, SpellsBlock, SpellsItem, SpellsItems}
+use Rattle.cilk_parse.proofs.CanonicalExprs.{at0, all_at0, at0-append, AllGood, good_parts, good_same, good_tail, good_name, CanonicalWhole, canonical_whole}
+
+-- ---- lists of one each
+
+abbrev singles : {A : Type 0} → List A → List (List A)
+singles [] = []
+singles (x ∷ xs) = (x ∷ []) ∷ singles xs
+
+joined-singles : {A : Type 0} (xs : List A) → joined (singles xs) ≡ xs
+joined-singles [] = refl
+joined-singles (x ∷ xs) = ap (λ ys. x ∷ ys) (joined-singles xs)
+
+-- ---- declarations
+
+-- the declarator can be written, as a declaration of its own
+pub record CanonicalDecl (l : ℕ) (x : tree.Decl) : Type 0 where
+  pub named : IsName x.name.text
+  pub value : CanWriteValue x.value
+  pub spelled : SpellsDeclaration l l (all_at0 (decl_lexemes x)) (bare_decl x ∷ [])
+
+module _ (l : ℕ) where
+  -- one declarator between `int` and a semicolon
+  declared : (first : List Piece) (x : tree.Decl) → SpellsDeclarator l l first x → SpellsDeclaration l l (at0 (word key.Int) ∷ (first ++ at0 (mark sign.Semicolon) ∷ [])) (x ∷ [])
+  declared first x s = record {
+    int = at0 (word key.Int);
+    is_int = refl;
+    first = first;
+    others = [];
+    semicolon = at0 (mark sign.Semicolon);
+    is_semicolon = refl;
+    first_decl = x;
+    other_decls = [];
+    spelled_first = s;
+    spelled_others = no_more refl refl;
+    whole = refl;
+    decls = refl;
+  }
+
+  canonical_alone : (x : tree.Word) → IsName x.text → CanonicalDecl l (record { name = x; value = None })
+  canonical_alone x n = record {
+    named = n;
+    value = tt;
+    spelled = declared (at0 (name x.text) ∷ []) (bare_decl (record { name = x; value = None })) (grammar.alone (at0 (name x.text)) x.text refl refl refl);
+  }
+
+  canonical_value : (x : tree.Word) (e : tree.Expr) → IsName x.text → CanonicalWhole l e → CanonicalDecl l (record { name = x; value = Some e })
+  canonical_value x e n c = record {
+    named = n;
+    value = c.can;
+    spelled = subst (λ (ts : List Piece). SpellsDeclaration l l (at0 (word key.Int) ∷ at0 (name x.text) ∷ at0 (mark sign.Assign) ∷ ts) (bare_decl (record { name = x; value = Some e }) ∷ []))
+        (sym (at0-append (expr_lexemes e) (mark sign.Semicolon ∷ [])))
+        (declared (at0 (name x.text) ∷ at0 (mark sign.Assign) ∷ all_at0 (expr_lexemes e)) (bare_decl (record { name = x; value = Some e }))
+        (grammar.with_value (at0 (name x.text)) (at0 (mark sign.Assign)) x.text refl refl c.spelled refl refl));
+  }
+
+abbrev IsCanonicalDecl : ℕ → tree.Decl → Type 0
+IsCanonicalDecl l x = CanonicalDecl l x
+
+abbrev CanonicalDecls : ℕ → List tree.Decl → Type 0
+CanonicalDecls l xs = All (IsCanonicalDecl l) xs
+
+module _ (l d : ℕ) where
+  canonical_declarator : (ts : List Piece) (x : tree.Decl) → SpellsDeclarator l d ts x → AllGood ts → CanonicalDecl l x
+  canonical_declarator ts x (grammar.alone t b h w i) g =
+      subst (λ (y : tree.Decl). CanonicalDecl l y) (sym i) (canonical_alone l (record { text = b; place = t.start }) (good_name t [] b h (good_same w g)))
+  canonical_declarator ts x (grammar.with_value {us = us} {e = e} t u b h k s w i) g =
+      let k = good_same w g in
+      subst (λ (y : tree.Decl). CanonicalDecl l y) (sym i)
+      (canonical_value l (record { text = b; place = t.start }) e (good_name t (u ∷ us) b h k) (canonical_whole s (good_tail u us (good_tail t (u ∷ us) k))))
+
+  canonical_next : (ts : List Piece) (x : tree.Decl) → SpellsNextDeclarator l d ts x → AllGood ts → CanonicalDecl l x
+  canonical_next ts x s g = canonical_declarator s.declarator x s.spelled (good_tail s.comma s.declarator (good_same s.whole g))
+
+  canonical_others : {ts : List Piece} {xs : List tree.Decl} → Each (SpellsNextDeclarator l d) ts xs → AllGood ts → CanonicalDecls l xs
+  canonical_others (no_more e w) g = rw w (All-nil (IsCanonicalDecl l))
+  canonical_others (one_more {us = us} {vs = vs} {x = x} {xs = xs} r i e w) g =
+      let k = good_parts us vs (good_same e g) in
+      rw w (All-cons (IsCanonicalDecl l) x xs (canonical_next us x r k.0) (canonical_others i k.1))
+
+  canonical_declaration : (ts : List Piece) (xs : List tree.Decl) → SpellsDeclaration l d ts xs → AllGood ts → CanonicalDecls l xs
+  canonical_declaration ts xs s g =
+      let k = good_parts s.first (s.others ++ s.semicolon ∷ []) (good_tail s.int (s.first ++ (s.others ++ s.semicolon ∷ [])) (good_same s.whole g)) in
+      let m = good_parts s.others (s.semicolon ∷ []) k.1 in
+      rw s.decls (All-cons (IsCanonicalDecl l) s.first_decl s.other_decls (canonical_declarator s.first s.first_decl s.spelled_first k.0) (canonical_others s.spelled_others m.0))
+
+  canonical_joined : {ts : List Piece} {xss : List (List tree.Decl)} → Each (SpellsDeclaration l d) ts xss → AllGood ts → CanonicalDecls l (joined xss)
+  canonical_joined (no_more e w) g = rw w (All-nil (IsCanonicalDecl l))
+  canonical_joined (one_more {us = us} {vs = vs} {x = xs} {xs = xss} r i e w) g =
+      let k = good_parts us vs (good_same e g) in
+      rw w (All-append (IsCanonicalDecl l) xs (joined xss) (canonical_declaration us xs r k.0) (canonical_joined i k.1))
+
+module _ (l : ℕ) where
+  decls_can : (xs : List tree.Decl) → CanonicalDecls l xs → CanWriteDecls xs
+  decls_can [] c = tt
+  decls_can (x ∷ xs) c = let k = All-head (IsCanonicalDecl l) x xs c in (k.named, k.value, decls_can xs (All-tail (IsCanonicalDecl l) x xs c))
+
+  decls_spelled : (xs : List tree.Decl) → CanonicalDecls l xs → Each (SpellsDeclaration l l) (all_at0 (decls_lexemes xs)) (singles (map bare_decl xs))
+  decls_spelled [] c = no_more refl refl
+  decls_spelled (x ∷ xs) c =
+      let k = All-head (IsCanonicalDecl l) x xs c in
+      one_more k.spelled (decls_spelled xs (All-tail (IsCanonicalDecl l) x xs c)) (at0-append (decl_lexemes x) (decls_lexemes xs)) refl
+
+-- ---- statements
+
+pub record CanonicalStmt (l : ℕ) (s : tree.Stmt) : Type 0 where
+  pub can : CanWriteStmt s
+  pub spelled : SpellsStmt l l (all_at0 (stmt_lexemes s)) (bare_stmt s)
+
+abbrev IsCanonicalStmt : ℕ → tree.Stmt → Type 0
+IsCanonicalStmt l s = CanonicalStmt l s
+
+module _ (l : ℕ) where
+  canonical_assign : (x : tree.Word) (e : tree.Expr) → IsName x.text → CanonicalWhole l e → CanonicalStmt l (tree.assign (record { name = x }) e)
+  canonical_assign x e n c = record {
+    can = (n, c.can);
+    spelled = grammar.an_assignment (at0 (name x.text)) (at0 (mark sign.Assign)) (at0 (mark sign.Semicolon)) x.text refl refl c.spelled refl
+        (ap (λ (ts : List Piece). at0 (name x.text) ∷ at0 (mark sign.Assign) ∷ ts) (at0-append (expr_lexemes e) (mark sign.Semicolon ∷ []))) refl;
+  }
+
+  canonical_return : (e : tree.Expr) → CanonicalWhole l e → CanonicalStmt l (tree.return_with e)
+  canonical_return e c = record {
+    can = c.can;
+    spelled = grammar.a_return (at0 (word key.Return)) (at0 (mark sign.Semicolon)) refl c.spelled refl
+        (ap (λ (ts : List Piece). at0 (word key.Return) ∷ ts) (at0-append (expr_lexemes e) (mark sign.Semicolon ∷ []))) refl;
+  }
+
+  canonical_stmt : (d : ℕ) (ts : List Piece) (x : tree.Stmt) → SpellsStmt l d ts x → AllGood ts → CanonicalStmt l x
+  canonical_stmt d ts x (grammar.an_assignment {us = us} {e = e} t u v b h i s j w q) g =
+      let k = good_same w g in
+      let m = good_parts us (v ∷ []) (good_tail u (us ++ v ∷ []) (good_tail t (u ∷ (us ++ v ∷ [])) k)) in
+      subst (λ (y : tree.Stmt). CanonicalStmt l y) (sym q) (canonical_assign (record { text = b; place = t.start }) e (good_name t (u ∷ (us ++ v ∷ [])) b h k) (canonical_whole s m.0))
+  canonical_stmt d ts x (grammar.a_return {us = us} {e = e} t v h s j w q) g =
+      let m = good_parts us (v ∷ []) (good_tail t (us ++ v ∷ []) (good_same w g)) in
+      subst (λ (y : tree.Stmt). CanonicalStmt l y) (sym q) (canonical_return e (canonical_whole s m.0))
+
+  canonical_stmts : (d : ℕ) {ts : List Piece} {xs : List tree.Stmt} → Each (SpellsStmt l d) ts xs → AllGood ts → All (IsCanonicalStmt l) xs
+  canonical_stmts d (no_more e w) g = rw w (All-nil (IsCanonicalStmt l))
+  canonical_stmts d (one_more {us = us} {vs = vs} {x = x} {xs = xs} r i e w) g =
+      let k = good_parts us vs (good_same e g) in
+      rw w (All-cons (IsCanonicalStmt l) x xs (canonical_stmt d us x r k.0) (canonical_stmts d i k.1))
+
+  stmts_can : (xs : List tree.Stmt) → All (IsCanonicalStmt l) xs → CanWriteStmts (stmts_of xs)
+  stmts_can [] c = tt
+  stmts_can (x ∷ xs) c = let k = All-head (IsCanonicalStmt l) x xs c in (k.can, stmts_can xs (All-tail (IsCanonicalStmt l) x xs c))
+
+  stmts_spelled : (xs : List tree.Stmt) → All (IsCanonicalStmt l) xs → Each (SpellsStmt l l) (all_at0 (stmts_lexemes (stmts_of xs))) (map bare_stmt xs)
+  stmts_spelled [] c = no_more refl refl
+  stmts_spelled (x ∷ xs) c =
+      let k = All-head (IsCanonicalStmt l) x xs c in
+      one_more k.spelled (stmts_spelled xs (All-tail (IsCanonicalStmt l) x xs c)) (at0-append (stmt_lexemes x) (stmts_lexemes (stmts_of xs))) refl
+
+-- ---- blocks
+
+pub record CanonicalBlock (l : ℕ) (b : tree.Block) : Type 0 where
+  pub can : CanWriteBlock b
+  pub spelled : SpellsBlock l l (all_at0 (block_lexemes b)) (bare_block b)
+
+module _ (l : ℕ) where
+  block_of : (ds : List tree.Decl) (ss : List tree.Stmt) → CanonicalDecls l ds → All (IsCanonicalStmt l) ss → CanonicalBlock l (tree.block ds (stmts_of ss))
+  block_of ds ss c k = record {
+    can = (decls_can l ds c, stmts_can l ss k);
+    spelled = record {
+      opening = at0 (mark sign.OpenBrace);
+      is_opening = refl;
+      declarations = all_at0 (decls_lexemes ds);
+      statements = all_at0 (stmts_lexemes (stmts_of ss));
+      closing = at0 (mark sign.CloseBrace);
+      is_closing = refl;
+      decls = singles (map bare_decl ds);
+      stmts = map bare_stmt ss;
+      spelled_decls = decls_spelled l ds c;
+      spelled_stmts = stmts_spelled l ss k;
+      whole = ap (λ (ts : List Piece). at0 (mark sign.OpenBrace) ∷ ts)
+          (at0-append (decls_lexemes ds) (stmts_lexemes (stmts_of ss) ++ mark sign.CloseBrace ∷ [])
+          ∙ ap (λ (ts : List Piece). all_at0 (decls_lexemes ds) ++ ts) (at0-append (stmts_lexemes (stmts_of ss)) (mark sign.CloseBrace ∷ [])));
+      block = λ i. tree.block (sym (joined-singles (map bare_decl ds)) i) (bare_stmts-stmts_of ss i);
+    };
+  }
+
+  canonical_block : (d : ℕ) (ts : List Piece) (b : tree.Block) → SpellsBlock l d ts b → AllGood ts → CanonicalBlock l b
+  canonical_block d ts b s g =
+      let k = good_parts s.declarations (s.statements ++ s.closing ∷ []) (good_tail s.opening (s.declarations ++ (s.statements ++ s.closing ∷ [])) (good_same s.whole g)) in
+      let m = good_parts s.statements (s.closing ∷ []) k.1 in
+      subst (λ (c : tree.Block). CanonicalBlock l c) (sym s.block) (block_of (joined s.decls) s.stmts (canonical_joined l d s.spelled_decls k.0) (canonical_stmts l d s.spelled_stmts m.0))
+
+-- ---- definitions
+
+pub record CanonicalItem (l : ℕ) (i : tree.Item) : Type 0 where
+  pub can : CanWriteItem i
+  pub spelled : SpellsItem l l (all_at0 (item_lexemes i)) (bare_item i)
+
+pub record CanonicalItems (l : ℕ) (is : List tree.Item) : Type 0 where
+  pub can : CanWriteItems is
+  pub spelled : SpellsItems l l (all_at0 (items_lexemes is)) (map bare_item is)
+
+module _ (l : ℕ) where
+  item_of : (x : tree.Word) (b : tree.Block) → IsName x.text → CanonicalBlock l b → CanonicalItem l (tree.procedure (record { name = x; body = b }))
+  item_of x b n c = record {
+    can = (n, c.can);
+    spelled = record {
+      cilk = at0 (word key.Cilk);
+      is_cilk = refl;
+      int = at0 (word key.Int);
+      is_int = refl;
+      name_piece = at0 (name x.text);
+      text = x.text;
+      is_name = refl;
+      parameters = at0 (mark sign.OpenParenthesis) ∷ at0 (word key.Void) ∷ at0 (mark sign.CloseParenthesis) ∷ [];
+      body = all_at0 (block_lexemes b);
+      block = bare_block b;
+      spelled_parameters = grammar.void (at0 (mark sign.OpenParenthesis)) (at0 (word key.Void)) (at0 (mark sign.CloseParenthesis)) refl refl refl refl;
+      spelled_body = c.spelled;
+      whole = refl;
+      item = refl;
+    };
+  }
+
+  canonical_item : (d : ℕ) (ts : List Piece) (i : tree.Item) → SpellsItem l d ts i → AllGood ts → CanonicalItem l i
+  canonical_item d ts i s g =
+      let k = good_tail s.int (s.name_piece ∷ (s.parameters ++ s.body)) (good_tail s.cilk (s.int ∷ s.name_piece ∷ (s.parameters ++ s.body)) (good_same s.whole g)) in
+      let m = good_parts s.parameters s.body (good_tail s.name_piece (s.parameters ++ s.body) k) in
+      subst (λ (j : tree.Item). CanonicalItem l j) (sym s.item)
+      (item_of (record { text = s.text; place = s.name_piece.start }) s.block (good_name s.name_piece (s.parameters ++ s.body) s.text s.is_name k) (canonical_block l d s.body s.block s.spelled_body m.1))
+
+  one_item : (i : tree.Item) → CanonicalItem l i → CanonicalItems l (i ∷ [])
+  one_item i c = record {
+    can = (c.can, tt);
+    spelled = grammar.alone (subst (λ (ts : List Piece). SpellsItem l l ts (bare_item i)) (ap all_at0 (sym (append-nil (item_lexemes i)))) c.spelled) refl;
+  }
+
+  pub canonical_items : (d : ℕ) (ts : List Piece) (is : List tree.Item) → SpellsItems l d ts is → AllGood ts → CanonicalItems l is
+  canonical_items d ts is (grammar.nothing e w) g = rw w (record { can = tt; spelled = grammar.nothing refl refl })
+  canonical_items d ts is (grammar.alone {i = i} s w) g = rw w (one_item i (canonical_item d ts i s g))
