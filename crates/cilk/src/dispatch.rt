@@ -1,14 +1,16 @@
-ghost use Rattle.std.specs.Prelude.{◌≡◌, ◌≢◌, ◌⊎◌, ◌↔◌};
+ghost use Rattle.std.specs.Prelude.{◌≡◌, ◌≢◌, ◌⊎◌, ◌↔◌, None};
+ghost use Rattle.std.specs.IoError.{error_kind};
 ghost use Rattle.clap.specs.Words.{kind_of};
+ghost use Rattle.cilk_commands.specs.Printing.{Prints};
 
 use crate::arguments::{FILE, command};
 use cilk_commands::{Failure, Status, print_text};
-use clap::Error;
 use clap::error::ErrorKind;
+use clap::{ArgMatches, Error};
 use std::alloc::Global;
 use std::fs::File;
 use std::io;
-use std::io::Write;
+use std::io::{ErrorKind as IoErrorKind, Write};
 use std::rt::Files;
 
 /// Runs the program on its command line, whose first word is the program's own name.
@@ -25,16 +27,9 @@ pub fn run<R: AllocGlobal + Files + Input, O: Write, E: Write>(
         Ok(command) => command.try_get_matches_from(words),
         Err(error) => Err(Error::from(error)),
     };
-    let matches = match parsed {
-        Ok(matches) => matches,
-        Err(error) => return show(&error, out, err),
-    };
-    match matches.subcommand() {
-        Some(("print", found)) => match found.get_str(FILE) {
-            Some(name) => print_file(rt, name, out, err),
-            None => Status::Usage,
-        },
-        _ => Status::Usage,
+    match parsed {
+        Ok(matches) => obey(rt, &matches, out, err),
+        Err(error) => show(&error, out, err),
     }
 }
 
@@ -45,10 +40,11 @@ pub fn refuse<O: Write, E: Write>(
     out: &mut O,
     err: &mut E,
 ) -> Status
-    ensures quiet { result ≡ Status.Done → err.new ≡ err.old }
-    ensures kept { result ≢ Status.Done → result ≢ Status.Failed → out.new ≡ out.old }
+    ensures status { (result ≡ Status.Usage) ⊎ (result ≡ Status.Memory) }
+    ensures memory { error_kind error.now ≡ IoErrorKind.OutOfMemory → result ≡ Status.Memory }
+    ensures kept { out.new ≡ out.old }
 {
-    if error.kind() == io::ErrorKind::OutOfMemory {
+    if error.kind() == IoErrorKind::OutOfMemory {
         return Failure::Memory.report("", err);
     }
     let told = match command(alloc) {
@@ -61,12 +57,33 @@ pub fn refuse<O: Write, E: Write>(
     }
 }
 
+fn obey<R: AllocGlobal + Files + Input, O: Write, E: Write>(
+    rt: &R,
+    matches: &ArgMatches<'_>,
+    out: &mut O,
+    err: &mut E,
+) -> Status
+    ensures done { result ≡ Status.Done → Prints None (O.contents out.old) (O.contents out.new) }
+    ensures quiet { result ≡ Status.Done → err.new ≡ err.old }
+    ensures kept { result ≢ Status.Done → result ≢ Status.Failed → out.new ≡ out.old }
+{
+    match matches.subcommand() {
+        Some(("print", found)) => match found.get_str(FILE) {
+            Some(name) => print_file(rt, name, out, err),
+            None => Status::Usage,
+        },
+        _ => Status::Usage,
+    }
+}
+
 // Help goes to the output, and what is wrong with the command line elsewhere.
 fn show<O: Write, E: Write>(error: &Error, out: &mut O, err: &mut E) -> Status
-    ensures done { result ≡ Status.Done
-        → (kind_of error.now ≡ ErrorKind.DisplayHelp) ⊎ (kind_of error.now ≡ ErrorKind.DisplayVersion) }
     ensures memory { result ≡ Status.Memory ↔ (kind_of error.now ≡ ErrorKind.OutOfMemory) }
+    ensures usage { result ≡ Status.Usage ↔ (kind_of error.now ≢ ErrorKind.OutOfMemory)
+        × (kind_of error.now ≢ ErrorKind.DisplayHelp)
+        × (kind_of error.now ≢ ErrorKind.DisplayVersion) }
     ensures refused { result ≢ Status.Refused }
+
     ensures quiet { result ≡ Status.Done → err.new ≡ err.old }
     ensures kept { result ≢ Status.Done → result ≢ Status.Failed → out.new ≡ out.old }
 {
@@ -89,9 +106,10 @@ fn print_file<R: AllocGlobal + Files + Input, O: Write, E: Write>(
     out: &mut O,
     err: &mut E,
 ) -> Status
+    ensures done { result ≡ Status.Done → Prints None (O.contents out.old) (O.contents out.new) }
+    ensures usage { result ≢ Status.Usage }
     ensures quiet { result ≡ Status.Done → err.new ≡ err.old }
     ensures kept { result ≢ Status.Done → result ≢ Status.Failed → out.new ≡ out.old }
-    ensures usage { result ≢ Status.Usage }
 {
     if name == "-" {
         return print_text(rt.alloc(), name, &mut rt.reader(), out, err);

@@ -1,5 +1,5 @@
 -- What is said of the bytes that were read of a text is said of the text.
-use Rattle.std.proofs.Common.{◌≡◌, ◌≤◌, ◌<◌, ◌+◌, ◌∙◌, ℕ, List, length, take, subst, min, arith, Option, Some, None, IfSome, inl, inr, [], ◌++◌, option_map}
+use Rattle.std.proofs.Common.{◌≡◌, ◌≤◌, ◌<◌, ◌+◌, ◌∙◌, ℕ, List, length, take, subst, min, arith, Option, Some, None, IfSome, inl, inr, [], ◌++◌, option_map, refl}
 use Rattle.std.proofs.lemmas.List.{length-take, take_min}
 use Rattle.std.proofs.Math.Seq.{take-length}
 use Rattle.cilk_lex.specs.declared.reading.TheConstants.{TEXT_LIMIT}
@@ -25,8 +25,17 @@ read_of (Some bytes) held limit start text same limited empty read =
     (subst (λ k. IfSome (option_map (take limit) k) (λ xs. text ≡ start ++ xs)) same read)) in
     known_read
 
-pub answer_whole : (known : Option (List ℕ)) (text answer : List ℕ) → IsReadOf known text → IsAnswer text answer → IfSome known (λ bytes. IsAnswer bytes answer)
-answer_whole None text answer read told = tt
+-- all the bytes, or else those that were read
+abbrev pub whole_of : Option (List ℕ) → List ℕ → List ℕ
+whole_of None text = text
+whole_of (Some bytes) text = bytes
+
+pub whole_held : (known : Option (List ℕ)) (text : List ℕ) → IfSome known (λ all. whole_of known text ≡ all)
+whole_held None text = tt
+whole_held (Some bytes) text = refl
+
+pub answer_whole : (known : Option (List ℕ)) (text answer : List ℕ) → IsReadOf known text → IsAnswer text answer → IsAnswer (whole_of known text) answer
+answer_whole None text answer read told = told
 answer_whole (Some bytes) text answer read told = subst (λ t. IsAnswer t answer) (read_whole bytes text read told.short) told
 
 explains_read : (bytes text : List ℕ) (why : Failure) → text ≡ take (TEXT_LIMIT + 1) bytes → Explains text why → Explains bytes why
@@ -41,6 +50,6 @@ explains_read bytes text failure.Memory read told = tt
 explains_read bytes text failure.CannotRead read told = told
 explains_read bytes text failure.CannotWrite read told = told
 
-pub explains_whole : (known : Option (List ℕ)) (text : List ℕ) (why : Failure) → IsReadOf known text → Explains text why → IfSome known (λ bytes. Explains bytes why)
-explains_whole None text why read told = tt
+pub explains_whole : (known : Option (List ℕ)) (text : List ℕ) (why : Failure) → IsReadOf known text → Explains text why → Explains (whole_of known text) why
+explains_whole None text why read told = told
 explains_whole (Some bytes) text why read told = explains_read bytes text why read told

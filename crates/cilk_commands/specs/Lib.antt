@@ -1,6 +1,6 @@
-pub mod Lines
-pub mod Status
 pub mod Printing
-pub use Rattle.cilk_parse.specs.Grammar
+pub mod Status
+pub mod Telling
+pub use Rattle.cilk_tree.specs.ProgramText
 pub use Rattle.cilk_parse.specs.Fault
-pub use Rattle.cilk_parse.specs.Place
+pub use Rattle.cilk_parse.specs.Grammar

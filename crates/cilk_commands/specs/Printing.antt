@@ -1,5 +1,5 @@
 -- What `print` answers to the bytes of a text.
-use Rattle.std.specs.Prelude.{ℕ, List, length, ◌≡◌, ◌≤◌, ◌<◌, ◌+◌, ◌⊎◌, Option, IfSome, IsUtf8, take}
+use Rattle.std.specs.Prelude.{ℕ, List, length, ◌≡◌, ◌≢◌, ◌≤◌, ◌<◌, ◌+◌, ◌⊎◌, Option, IfSome, IsUtf8, take}
 use Rattle.std.specs.Io.KnownBytes.{Appends}
 use Rattle.cilk_lex.specs.declared.fault.LexFault.TheVariants as lex
 use Rattle.cilk_lex.specs.Place.{line_of, column_of}
@@ -40,6 +40,7 @@ pub record IsNoProgram (bytes : List ℕ) (fault : ReadFault) (line column : ℕ
   pub short : length bytes ≤ TEXT_LIMIT
   pub utf8 : IsUtf8 bytes
   pub refused : HasFault bytes fault
+  pub not_memory : (fault ≢ read.Memory) × (fault ≢ read.Lex lex.Memory)
   pub line_is : line ≡ line_of bytes (place_of fault)
   pub column_is : column ≡ column_of bytes (place_of fault)
 
@@ -51,12 +52,18 @@ Explains bytes failure.Memory = Unit {0}
 Explains bytes failure.CannotRead = ⊥
 Explains bytes failure.CannotWrite = ⊥
 
--- the bytes are refused, with the fault that is told
-abbrev pub IsRefused : List ℕ → Type 0
-IsRefused bytes = (why : Failure) × Explains bytes why × (status_of why ≡ status.Refused)
-
--- the writer has gained the answer to the bytes that the reader held, where they are known
+-- a writer has gained the canonical text of the bytes that a reader held; where those are not known, of some
 pub record Prints (known old new : Option (List ℕ)) : Type 0 where
+  pub bytes : List ℕ
+  pub held : IfSome known (λ all. bytes ≡ all)
   pub answer : List ℕ
+  pub right : IsAnswer bytes answer
   pub written : Appends old new answer
-  pub right : IfSome known (λ bytes. IsAnswer bytes answer)
+
+-- there is a fault to tell of the bytes that a reader held; where those are not known, of some
+pub record Declines (known : Option (List ℕ)) : Type 0 where
+  pub bytes : List ℕ
+  pub held : IfSome known (λ all. bytes ≡ all)
+  pub why : Failure
+  pub explained : Explains bytes why
+  pub refused : status_of why ≡ status.Refused

@@ -27,7 +27,7 @@ pub enum Failure {
 }
 
 impl Failure {
-    ghost use Rattle.cilk_commands.specs.Lines.{line_of};
+    ghost use Rattle.cilk_commands.specs.Telling.{line_of};
     ghost use Rattle.cilk_commands.specs.Status.{status_of};
 
     /// The status that tells of it.

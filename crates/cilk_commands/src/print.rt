@@ -1,6 +1,6 @@
-ghost use Rattle.std.specs.Prelude.{◌≡◌, ◌≢◌, IfOk, IfErr, IfSome, OnOk};
+ghost use Rattle.std.specs.Prelude.{◌≡◌, ◌≢◌, IfOk, IfErr, OnOk};
 ghost use Rattle.std.specs.Io.KnownBytes.{Appends};
-ghost use Rattle.cilk_commands.specs.Printing.{Explains, IsReadOf, IsRefused, Prints};
+ghost use Rattle.cilk_commands.specs.Printing.{Declines, IsReadOf, Prints};
 ghost use Rattle.cilk_commands.specs.Status.{status_of};
 
 use crate::answer::answer_of;
@@ -22,7 +22,7 @@ pub fn print_text<R: Read, O: Write, E: Write>(
 ) -> Status
     ensures done { result ≡ Status.Done
         → Prints (R.remaining reader.old) (O.contents out.old) (O.contents out.new) }
-    ensures refused { result ≡ Status.Refused → IfSome (R.remaining reader.old) IsRefused }
+    ensures refused { result ≡ Status.Refused → Declines (R.remaining reader.old) }
     ensures usage { result ≢ Status.Usage }
 
     // What stays as it was.
@@ -39,7 +39,7 @@ fn print<R: Read, W: Write>(alloc: Global, reader: &mut R, out: &mut W) -> Resul
     ensures ok { OnOk result
         (Prints (R.remaining reader.old) (W.contents out.old) (W.contents out.new)) }
     ensures err { IfErr result (λ why. status_of why ≡ Status.Refused
-        → IfSome (R.remaining reader.old) (λ bytes. Explains bytes why)) }
+        → Declines (R.remaining reader.old)) }
     ensures kept { IfErr result (λ why. why ≢ Failure.CannotWrite → out.new ≡ out.old) }
 {
     let bytes = read_text(alloc, reader)?;

@@ -1,19 +1,17 @@
 -- What is spelled is read.
-use Rattle.std.proofs.Common.{◌≡◌, ℕ, zero, suc, ◌+◌, ◌<◌, ◌≤◌, Bool, true, false, cond, List, [], ◌∷◌, ◌++◌, length, Option, Some, None, Result, Ok, Err, refl, sym, ap, subst, ◌∙◌, append_assoc, arith, leb, ltb, length-append}
+use Rattle.std.proofs.Common.{◌≡◌, ℕ, zero, suc, ◌+◌, ◌<◌, ◌≤◌, List, [], ◌∷◌, ◌++◌, length, Option, Some, None, Ok, refl, sym, ap, subst, ◌∙◌, append_assoc, arith, length-append}
 use Rattle.std.proofs.lemmas.Bool.{le-leb, lt-leb, lt-ltb}
 use Rattle.cilk_lex.specs.Lexeme.{Piece, name, number, mark}
 use Rattle.cilk_lex.specs.declared.mark.Mark.{Mark}
 use Rattle.cilk_lex.specs.declared.mark.Mark.TheVariants as marks
-use Rattle.cilk_lex.specs.declared.token.Kind.{Kind}
 use Rattle.cilk_lex.specs.declared.token.Kind.TheVariants as kind
 use Rattle.cilk_tree.specs.declared.operator.BinOp.{BinOp}
 use Rattle.cilk_tree.specs.Tree as tree
 use Rattle.cilk_tree.specs.Operators.{operators}
-use Rattle.cilk_expr.specs.declared.fault.Fault.{Fault}
 use Rattle.cilk_expr.specs.Grammar.{level, operand, operator_of, word_at, Spells, a_number, a_name, in_parentheses, of_two}
-use Rattle.cilk_expr.specs.Front.{◌>>=◌, kind_of, kind_at, behind, operator_at, mark_at, name_at}
-use Rattle.cilk_expr.specs.Reading.{Read, operand_by, on_operator, on_after, expr_in, more_in}
-use Rattle.cilk_expr.proofs.Tools.{mark_here, name_here, operator_here, level_low, level_high, Stops, StopsAt, Below, BelowAt, below_all}
+use Rattle.cilk_expr.specs.Front.{◌>>=◌, kind_of, kind_at, behind, operator_at}
+use Rattle.cilk_expr.specs.Reading.{Read, operand_by, on_after, expr_in, more_in}
+use Rattle.cilk_expr.proofs.Tools.{mark_here, name_here, operator_here, level_low, level_high, Stops, StopsAt, Below, BelowAt}
 
 -- In front of anything that isn't part of it, the expression is read, and reading goes on behind it.
 abbrev pub Reads : ℕ → ℕ → List Piece → tree.Expr → Type 0
@@ -88,9 +86,12 @@ reads_parentheses d q t u us e h i r l p (suc f) n k rest le lt b is fits =
     let shape : (us ++ u ∷ []) ++ rest ≡ us ++ u ∷ rest = append_assoc us (u ∷ []) rest in
     let long = length-append us (u ∷ rest) in
     let same = ap length shape in
-    let w = whole d 0 l us e f n k (u ∷ rest) r (omega (arith, lt, same)) (close_below u rest 0 i) (close_stops u rest 0 i) is fits in
-    (f, omega (arith, lt, same, long), operand_more f l (suc d) p n k (t ∷ ((us ++ u ∷ []) ++ rest)) rest e
-        (operand_open (λ c m vs. expr_in f l c 0 m vs) d n k t u ((us ++ u ∷ []) ++ rest) rest e h i (ap (expr_in f l d 0 n) shape ∙ w)))
+    let w = whole d 0 l us e f n k (u ∷ rest) r (omega (arith, lt, same)) (close_below u rest 0 i) (close_stops u rest 0 i) is fits in (
+      f,
+      omega (arith, lt, same, long),
+      operand_more f l (suc d) p n k (t ∷ ((us ++ u ∷ []) ++ rest)) rest e
+          (operand_open (λ c m vs. expr_in f l c 0 m vs) d n k t u ((us ++ u ∷ []) ++ rest) rest e h i (ap (expr_in f l d 0 n) shape ∙ w)),
+    )
 
 -- one step behind an operator
 pub more_operator : (g l d p n : ℕ) (a : tree.Expr) (o : BinOp) (ts : List Piece) → operator_at ts ≡ Some o → p ≤ level o → n < l

@@ -1,5 +1,5 @@
 -- What reading met depends on the tokens through the next one alone.
-use Rattle.std.proofs.Common.{◌≡◌, ℕ, zero, suc, ◌+◌, ◌<◌, ◌≤◌, Bool, true, false, cond, List, [], ◌∷◌, ◌++◌, length, Option, Some, None, Result, Ok, Err, refl, sym, ap, subst, ◌∙◌, append_assoc, arith}
+use Rattle.std.proofs.Common.{◌≡◌, ℕ, Bool, true, false, List, [], ◌∷◌, ◌++◌, length, Option, None, Result, Ok, Err, refl, sym, ap, subst, ◌∙◌, append_assoc}
 use Rattle.cilk_lex.specs.Lexeme.{Lexeme, Piece, word, name, number, mark}
 use Rattle.cilk_lex.specs.declared.keyword.Keyword.{Keyword}
 use Rattle.cilk_lex.specs.declared.mark.Mark.{Mark}
@@ -7,9 +7,7 @@ use Rattle.cilk_lex.specs.declared.token.Kind.{Kind}
 use Rattle.cilk_tree.specs.Tree as tree
 use Rattle.cilk_expr.specs.declared.fault.Fault.{Fault}
 use Rattle.cilk_expr.specs.declared.fault.Fault.TheVariants.{Unexpected, TooDeep}
-use Rattle.cilk_expr.specs.Grammar.{word_at}
 use Rattle.cilk_expr.specs.Front.{◌>>=◌, kind_at, behind, is_mark, is_keyword, wanted, mark_at, keyword_at, name_by, name_at}
-use Rattle.cilk_expr.proofs.Tools.{bind_ok}
 
 -- the next token is the same, or neither has one
 abbrev pub SameHead : List Piece → List Piece → Type 0
@@ -96,15 +94,22 @@ local_bind same ts (Err (TooDeep n)) m k k' a b = λ s. stuck_bind too_deep ts n
 -- the same reader, in other words
 pub local_as : {A : Type 0} (same : Type 0) (ts : List Piece) (r : Result (A × List Piece) Fault) (m m' : Reader A) → ((us : List Piece) → SameHead ts us → m' us ≡ m us) → Local same ts r m → Local same ts r m'
 local_as same ts (Ok x) m m' e a = record {
-  used = a.used; whole = a.whole;
+  used = a.used;
+  whole = a.whole;
   again = λ rest h. e (a.used ++ rest) (subst (λ (l : List Piece). SameHead l (a.used ++ rest)) (sym a.whole) (same_head a.used x.1 rest h)) ∙ a.again rest h;
 }
 local_as same ts (Err (Unexpected n)) m m' e a = record {
-  used = a.used; left = a.left; whole = a.whole; place = a.place;
+  used = a.used;
+  left = a.left;
+  whole = a.whole;
+  place = a.place;
   again = λ rest h. e (a.used ++ rest) (subst (λ (l : List Piece). SameHead l (a.used ++ rest)) (sym a.whole) (same_head a.used a.left rest h)) ∙ a.again rest h;
 }
 local_as same ts (Err (TooDeep n)) m m' e a = λ s. let b = a s in record {
-  used = b.used; left = b.left; whole = b.whole; place = b.place;
+  used = b.used;
+  left = b.left;
+  whole = b.whole;
+  place = b.place;
   again = λ rest h. e (b.used ++ rest) (subst (λ (l : List Piece). SameHead l (b.used ++ rest)) (sym b.whole) (same_head b.used b.left rest h)) ∙ b.again rest h;
 }
 

@@ -1,13 +1,12 @@
 -- Where reading an expression meets a fault, it meets it whatever follows that token.
-use Rattle.std.proofs.Common.{◌≡◌, ℕ, zero, suc, ◌+◌, ◌<◌, ◌≤◌, Bool, true, false, cond, List, [], ◌∷◌, ◌++◌, length, Option, Some, None, Result, Ok, Err, refl, sym, ap, subst, ◌∙◌, arith, leb, ltb}
+use Rattle.std.proofs.Common.{◌≡◌, ℕ, zero, suc, ◌<◌, ◌≤◌, Bool, true, false, cond, List, [], ◌∷◌, length, Option, Some, None, Ok, Err, refl, sym, ap, subst, ◌∙◌, arith, leb, ltb}
 use Rattle.std.proofs.lemmas.Bool.{ltb-true, lt-ltb}
-use Rattle.cilk_lex.specs.Lexeme.{Piece, number, mark}
+use Rattle.cilk_lex.specs.Lexeme.{Piece, number}
 use Rattle.cilk_lex.specs.declared.mark.Mark.TheVariants as marks
 use Rattle.cilk_lex.specs.declared.token.Kind.{Kind}
 use Rattle.cilk_lex.specs.declared.token.Kind.TheVariants as kind
 use Rattle.cilk_tree.specs.declared.operator.BinOp.{BinOp}
 use Rattle.cilk_tree.specs.Tree as tree
-use Rattle.cilk_expr.specs.declared.fault.Fault.{Fault}
 use Rattle.cilk_expr.specs.declared.fault.Fault.TheVariants.{Unexpected, TooDeep}
 use Rattle.cilk_expr.specs.Grammar.{level}
 use Rattle.cilk_expr.specs.Front.{◌>>=◌, kind_at, behind, after_kind, operator_at, mark_at, name_at}
@@ -52,8 +51,8 @@ local_operand same inner inner' (suc d) (suc d') n ts (Some (kind.Mark marks.Ope
     let k = mark_next ts marks.OpenParenthesis h in
     let m : Reader Both = λ us. inner' d' n us >>= λ e. mark_at marks.CloseParenthesis e.1 >>= λ vs. Ok (e.0, vs) in
     let inside = local_bind same (behind ts) (inner d n (behind ts)) (λ us. inner' d' n us) (λ e. mark_at marks.CloseParenthesis e.1 >>= λ vs. Ok (e.0, vs)) (λ e. mark_at marks.CloseParenthesis e.1 >>= λ vs. Ok (e.0, vs))
-                   (li d d' n (behind ts) (omega (arith, ap length k.whole)) (omega (arith, le)) (λ s. let z = eq s in omega (arith, z)))
-                   (λ e r. local_mark same marks.CloseParenthesis e.1 (λ vs. Ok (e.0, vs)) (λ vs. Ok (e.0, vs)) (λ c. ok_here e.0 (behind e.1) _ (λ us s. refl))) in
+    (li d d' n (behind ts) (omega (arith, ap length k.whole)) (omega (arith, le)) (λ s. let z = eq s in omega (arith, z)))
+    (λ e r. local_mark same marks.CloseParenthesis e.1 (λ vs. Ok (e.0, vs)) (λ vs. Ok (e.0, vs)) (λ c. ok_here e.0 (behind e.1) _ (λ us s. refl))) in
     subst (λ (v : List Piece). Local {A = Both} same v (inner d n (behind ts) >>= λ e. mark_at marks.CloseParenthesis e.1 >>= λ us. Ok (e.0, us)) (λ us. operand_by inner' (suc d') n us (kind_at us))) (sym k.whole)
     (local_skip same k.piece (behind ts) _ m _ (λ us s. rw (k.is) refl) inside)
 local_operand same inner inner' d d' n ts None h le eq li = no_operand same inner' d' n ts None h (λ us. refl)
@@ -88,7 +87,7 @@ module _ (same : Type 0) (expr expr' : ℕ → ℕ → List Piece → Read) (mor
       subst (λ (v : List Piece). Local {A = Both} same v (expr (suc (level o)) (suc n) (behind ts) >>= λ c. more c.0.1 (tree.binary o a c.0.0) c.1) (λ us. on_after expr' more' l' p n a us (operator_at us))) (sym k.whole)
       (local_skip same k.piece (behind ts) _ m _ (λ us s. ap (on_after expr' more' l' p n a (k.piece ∷ us)) (operator_here k.piece us k.sign o k.is k.means) ∙ rw (tight, fits) refl)
       (local_bind same (behind ts) (expr (suc (level o)) (suc n) (behind ts)) (λ us. expr' (suc (level o)) (suc n) us) _ (λ c. more' c.0.1 (tree.binary o a c.0.0) c.1)
-          (lx (suc (level o)) (suc n) (behind ts) less) (λ x h. lm x.0.1 (tree.binary o a x.0.0) x.1 (omega (arith, less, sh (suc (level o)) (suc n) (behind ts) x h)))))
+      (lx (suc (level o)) (suc n) (behind ts) less) (λ x h. lm x.0.1 (tree.binary o a x.0.0) x.1 (omega (arith, less, sh (suc (level o)) (suc n) (behind ts) x h)))))
   room_for o false e at tight lx lm sh =
       λ s. let full : ltb n l' ≡ false = ap (λ i. ltb n i) (sym (eq s)) ∙ e in
       stuck_here too_deep ts _ (λ us t. ap (on_after expr' more' l' p n a us) (sym (same_operator ts us t) ∙ at) ∙ rw (tight, full) refl)
@@ -105,15 +104,16 @@ module _ (same : Type 0) (expr expr' : ℕ → ℕ → List Piece → Read) (mor
 
 mutual
   unfolding operand_at
+
   pub local_expr : (same : Type 0) (long l l' d d' p n : ℕ) (ts : List Piece) → length ts < long → l ≤ l' → d ≤ d' → (same → l ≡ l') → (same → d ≡ d') → Local {A = Both} same ts (expr_of l d p n ts) (λ us. expr_of l' d' p n us)
   local_expr same zero l l' d d' p n ts lt le le' eq eq' = absurd (omega (arith, lt))
   local_expr same (suc long) l l' d d' p n ts lt le le' eq eq' =
       subst (λ r. Local {A = Both} same ts r (λ us. expr_of l' d' p n us)) (sym (by_operand l d p n ts))
       (local_as same ts _ (λ us. operand_at l' d' n us >>= λ x. more_of l' d' p x.0.1 x.0.0 x.1) _ (λ us s. by_operand l' d' p n us)
       (local_bind same ts (operand_at l d n ts) (λ us. operand_at l' d' n us) _ (λ x. more_of l' d' p x.0.1 x.0.0 x.1)
-          (local_operand same (λ c m us. expr_of l c 0 m us) (λ c m us. expr_of l' c 0 m us) d d' n ts (kind_at ts) refl le' eq'
-              (λ c c' m us less lc ec. local_expr same long l l' c c' 0 m us (omega (arith, less, lt)) le lc eq ec))
-          (λ x h. local_more same long l l' d d' p x.0.1 x.0.0 x.1 (omega (arith, lt, operand_shorter l d n ts x h)) le le' eq eq')))
+      (local_operand same (λ c m us. expr_of l c 0 m us) (λ c m us. expr_of l' c 0 m us) d d' n ts (kind_at ts) refl le' eq'
+      (λ c c' m us less lc ec. local_expr same long l l' c c' 0 m us (omega (arith, less, lt)) le lc eq ec))
+      (λ x h. local_more same long l l' d d' p x.0.1 x.0.0 x.1 (omega (arith, lt, operand_shorter l d n ts x h)) le le' eq eq')))
 
   pub local_more : (same : Type 0) (long l l' d d' p n : ℕ) (a : tree.Expr) (ts : List Piece) → length ts < long → l ≤ l' → d ≤ d' → (same → l ≡ l') → (same → d ≡ d') → Local {A = Both} same ts (more_of l d p n a ts) (λ us. more_of l' d' p n a us)
   local_more same zero l l' d d' p n a ts lt le le' eq eq' = absurd (omega (arith, lt))
@@ -121,9 +121,9 @@ mutual
       subst (λ r. Local {A = Both} same ts r (λ us. more_of l' d' p n a us)) (sym (by_after l d p n a ts))
       (local_as same ts _ (λ us. on_after (λ q m vs. expr_of l' d' q m vs) (λ m b vs. more_of l' d' p m b vs) l' p n a us (operator_at us)) _ (λ us s. by_after l' d' p n a us)
       (local_after same (λ q m us. expr_of l d q m us) (λ q m us. expr_of l' d' q m us) (λ m b us. more_of l d p m b us) (λ m b us. more_of l' d' p m b us) l l' p n a ts le eq (operator_at ts) refl
-          (λ q m us less. local_expr same long l l' d d' q m us (omega (arith, less, lt)) le le' eq eq')
-          (λ m b us less. local_more same long l l' d d' p m b us (omega (arith, less, lt)) le le' eq eq')
-          (λ q m us x h. left_of l d q m us x h)))
+      (λ q m us less. local_expr same long l l' d d' q m us (omega (arith, less, lt)) le le' eq eq')
+      (λ m b us less. local_more same long l l' d d' p m b us (omega (arith, less, lt)) le le' eq eq')
+      (λ q m us x h. left_of l d q m us x h)))
 
 pub local_whole : (same : Type 0) (l l' d d' : ℕ) (ts : List Piece) → l ≤ l' → d ≤ d' → (same → l ≡ l') → (same → d ≡ d') → Local {A = tree.Expr} same ts (whole_of l d ts) (λ us. whole_of l' d' us)
 unfolding whole_of

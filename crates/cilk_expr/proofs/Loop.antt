@@ -1,5 +1,5 @@
 -- Going on behind an expression, as a loop does.
-use Rattle.std.proofs.Common.{◌≡◌, ℕ, zero, suc, ◌+◌, ◌<◌, ◌≤◌, List, [], ◌∷◌, length, Option, Some, None, Result, Ok, Err, refl, sym, ap, subst, ◌∙◌, arith}
+use Rattle.std.proofs.Common.{◌≡◌, ℕ, suc, ◌<◌, ◌≤◌, List, length, Option, Some, None, Result, Ok, Err, refl, sym, ap, ◌∙◌, arith}
 use Rattle.cilk_lex.specs.Lexeme.{Piece}
 use Rattle.cilk_lex.specs.declared.mark.Mark.TheVariants as marks
 use Rattle.cilk_lex.specs.declared.token.Kind.TheVariants as kind
@@ -12,9 +12,8 @@ use Rattle.cilk_expr.specs.declared.fault.ParseError.TheVariants as errors
 use Rattle.cilk_expr.specs.Grammar.{level}
 use Rattle.cilk_expr.specs.Front.{◌>>=◌, Fails, kind_at, behind, operator_at}
 use Rattle.cilk_expr.specs.Reading.{Read, expr_of, more_of, operand_at}
-use Rattle.cilk_expr.proofs.Tools.{mark_next, Stops, StopsAt}
-use Rattle.cilk_expr.proofs.Sound.{State}
-use Rattle.cilk_expr.proofs.Steps.{by_operand, step_operator, step_full, step_stops, operand_shorter, left_of, behind_shorter}
+use Rattle.cilk_expr.proofs.Tools.{mark_next, Stops}
+use Rattle.cilk_expr.proofs.Steps.{by_operand, step_operator, step_full, step_stops}
 
 pub none_from : {A : Type 0} (o : Option A) → ((x : A) → o ≡ Some x → ⊥) → o ≡ None
 none_from None h = refl

@@ -1,19 +1,18 @@
 -- What is read is spelled so.
-use Rattle.std.proofs.Common.{◌≡◌, ℕ, zero, suc, ◌+◌, ◌<◌, ◌≤◌, Bool, true, false, cond, List, [], ◌∷◌, ◌++◌, length, Option, Some, None, Result, Ok, Err, refl, sym, ap, subst, ◌∙◌, append_assoc, ◌⊎◌, inl, inr, arith, leb, ltb, length-append}
+use Rattle.std.proofs.Common.{◌≡◌, ℕ, zero, suc, ◌+◌, ◌<◌, ◌≤◌, List, [], ◌∷◌, ◌++◌, length, Option, Some, None, Ok, refl, sym, ap, subst, ◌∙◌, append_assoc, inl, inr, arith, leb, ltb, length-append}
 use Rattle.std.proofs.lemmas.List.{append-nil}
 use Rattle.std.proofs.lemmas.Bool.{leb-true, leb-false, ltb-true}
-use Rattle.cilk_lex.specs.Lexeme.{Piece, mark}
+use Rattle.cilk_lex.specs.Lexeme.{Piece}
 use Rattle.cilk_lex.specs.declared.mark.Mark.TheVariants as marks
 use Rattle.cilk_lex.specs.declared.token.Kind.{Kind}
 use Rattle.cilk_lex.specs.declared.token.Kind.TheVariants as kind
 use Rattle.cilk_tree.specs.declared.operator.BinOp.{BinOp}
 use Rattle.cilk_tree.specs.Tree as tree
 use Rattle.cilk_tree.specs.Operators.{operators}
-use Rattle.cilk_expr.specs.declared.fault.Fault.{Fault}
-use Rattle.cilk_expr.specs.Grammar.{level, operand, operator_of, word_at, Spells, a_number, a_name, in_parentheses, of_two}
+use Rattle.cilk_expr.specs.Grammar.{level, operand, Spells, a_number, a_name, in_parentheses, of_two}
 use Rattle.cilk_expr.specs.Front.{◌>>=◌, kind_at, behind, operator_at, mark_at, name_at}
-use Rattle.cilk_expr.specs.Reading.{Read, operand_by, on_operator, on_after, expr_in, more_in}
-use Rattle.cilk_expr.proofs.Tools.{bind_ok, ok_is, chosen, Next, mark_is, NextName, name_is, number_next, mark_next, operator_next, Stops, StopsAt, Below, BelowAt, below_at, below_all, looser}
+use Rattle.cilk_expr.specs.Reading.{Read, operand_by, on_after, expr_in, more_in}
+use Rattle.cilk_expr.proofs.Tools.{bind_ok, ok_is, chosen, mark_is, name_is, number_next, mark_next, operator_next, Stops, Below, BelowAt, below_at, below_all, looser}
 
 abbrev pub State : Type 0
 State = (tree.Expr × ℕ) × List Piece
@@ -104,7 +103,7 @@ operator_takes expr more l d p q n us a ts x o te tm at ge s b lt e =
     let y = bind_ok (expr (suc (level o)) (suc n) (behind ts)) _ x e in
     let t = te (suc (level o)) (suc n) (behind ts) y.0 y.1 in
     let m = tm (level o) y.0.0.1 (us ++ k.piece ∷ t.used) (tree.binary o a y.0.0.0) y.0.1 x ge
-            (of_two k.piece k.sign o k.is k.means (omega arith) (looser b s) t.spelled refl) (below_at (level o) (operator_at y.0.1) t.stops) y.2 in
+    (of_two k.piece k.sign o k.is k.means (omega arith) (looser b s) t.spelled refl) (below_at (level o) (operator_at y.0.1) t.stops) y.2 in
     record {
       used = k.piece ∷ (t.used ++ m.used);
       whole = k.whole ∙ ap (λ (v : List Piece). k.piece ∷ v) (t.whole ∙ ap (λ (v : List Piece). t.used ++ v) m.whole ∙ sym (append_assoc t.used m.used x.1));
@@ -120,10 +119,10 @@ on_takes : (expr : ℕ → ℕ → List Piece → Read) (more : ℕ → tree.Exp
 on_takes expr more l d p q n us a ts x (Some o) te tm at le s b e =
     elim (chosen (leb p (level o)) _ _ _ e) [
       | inl h ↦
-        elim (chosen (ltb n l) _ _ _ h.1) [
-          | inl k ↦ operator_takes expr more l d p q n us a ts x o te tm at (leb-true _ _ h.0) s b (ltb-true _ _ k.0) k.1
-          | inr k ↦ absurd cc
-        ]
+          elim (chosen (ltb n l) _ _ _ h.1) [
+            | inl k ↦ operator_takes expr more l d p q n us a ts x o te tm at (leb-true _ _ h.0) s b (ltb-true _ _ k.0) k.1
+            | inr k ↦ absurd cc
+          ]
       | inr h ↦ stays l d p q n us ts a x le s (rw at (leb-false _ _ h.0)) (ok_is ((a, n), ts) x h.1)
     ]
 on_takes expr more l d p q n us a ts x None te tm at le s b e =
@@ -131,6 +130,7 @@ on_takes expr more l d p q n us a ts x None te tm at le s b e =
 
 mutual
   unfolding expr_in
+
   pub expr_takes : (f l d p n : ℕ) (ts : List Piece) (x : State) → expr_in f l d p n ts ≡ Ok x → TookAll l d p n ts x
   expr_takes zero l d p n ts x e = absurd cc
   expr_takes (suc f) l d p n ts x e =

@@ -1,20 +1,19 @@
 -- The steps of reading, whatever the count of steps.
-use Rattle.std.proofs.Common.{◌≡◌, ℕ, zero, suc, ◌+◌, ◌<◌, ◌≤◌, Bool, true, false, cond, List, [], ◌∷◌, ◌++◌, length, Option, Some, None, Result, Ok, Err, refl, sym, ap, subst, ◌∙◌, arith, leb, ltb, length-append}
-use Rattle.std.proofs.lemmas.Bool.{le-leb, le-ltb, lt-leb}
+use Rattle.std.proofs.Common.{◌≡◌, ℕ, zero, suc, ◌<◌, ◌≤◌, cond, List, length, Option, Some, None, Ok, Err, refl, ap, ◌∙◌, arith, leb, ltb, length-append}
+use Rattle.std.proofs.lemmas.Bool.{le-leb, le-ltb}
 use Rattle.cilk_lex.specs.Lexeme.{Piece}
 use Rattle.cilk_lex.specs.declared.mark.Mark.TheVariants as marks
 use Rattle.cilk_lex.specs.declared.token.Kind.{Kind}
 use Rattle.cilk_lex.specs.declared.token.Kind.TheVariants as kind
 use Rattle.cilk_tree.specs.declared.operator.BinOp.{BinOp}
 use Rattle.cilk_tree.specs.Tree as tree
-use Rattle.cilk_expr.specs.declared.fault.Fault.{Fault}
-use Rattle.cilk_expr.specs.declared.fault.Fault.TheVariants.{Unexpected, TooDeep}
-use Rattle.cilk_expr.specs.Grammar.{level, operand}
-use Rattle.cilk_expr.specs.Front.{◌>>=◌, kind_at, behind, operator_at, mark_at, name_at}
-use Rattle.cilk_expr.specs.Reading.{Read, operand_by, on_operator, on_after, expr_in, more_in, expr_of, more_of, operand_at}
-use Rattle.cilk_expr.proofs.Tools.{bind_same, assoc, operator_next, mark_next, Stops, StopsAt}
+use Rattle.cilk_expr.specs.declared.fault.Fault.TheVariants.{TooDeep}
+use Rattle.cilk_expr.specs.Grammar.{level}
+use Rattle.cilk_expr.specs.Front.{◌>>=◌, kind_at, behind, operator_at, mark_at}
+use Rattle.cilk_expr.specs.Reading.{Read, operand_by, on_after, expr_in, more_in, expr_of, more_of, operand_at}
+use Rattle.cilk_expr.proofs.Tools.{bind_same, operator_next, mark_next, Stops}
 use Rattle.cilk_expr.proofs.Sound.{State, operand_takes, expr_takes}
-use Rattle.cilk_expr.proofs.Complete.{more_stops, more_operator, stops_operand}
+use Rattle.cilk_expr.proofs.Complete.{more_stops, more_operator}
 
 -- what is left is less than there was
 pub left_over : (f l d p n : ℕ) (ts : List Piece) (x : State) → expr_in f l d p n ts ≡ Ok x → length x.1 < length ts
@@ -55,6 +54,7 @@ on_same expr expr' more more' l p n a ts None at se sh sm = refl
 
 mutual
   unfolding expr_in
+
   same_expr : (f g l d p n : ℕ) (ts : List Piece) → length ts < f → length ts < g → expr_in f l d p n ts ≡ expr_in g l d p n ts
   same_expr zero g l d p n ts lt lt' = absurd (omega (arith, lt))
   same_expr (suc f) zero l d p n ts lt lt' = absurd (omega (arith, lt'))
@@ -109,7 +109,7 @@ step_operator l d p n a o ts at le lt =
     let less = behind_shorter ts o at in
     more_operator (length ts) l d p n a o ts at le lt
     ∙ bind_same (expr_in (length ts) l d (suc (level o)) (suc n) (behind ts)) _ _ _ (to_expr (length ts) l d (suc (level o)) (suc n) (behind ts) less)
-      (λ x h. to_more (length ts) l d p x.0.1 (tree.binary o a x.0.0) x.1 (omega (arith, less, left_over (length ts) l d (suc (level o)) (suc n) (behind ts) x h)))
+    (λ x h. to_more (length ts) l d p x.0.1 (tree.binary o a x.0.0) x.1 (omega (arith, less, left_over (length ts) l d (suc (level o)) (suc n) (behind ts) x h)))
 
 pub step_full : (l d p n : ℕ) (a : tree.Expr) (o : BinOp) (ts : List Piece) → operator_at ts ≡ Some o → p ≤ level o → l ≤ n → more_of l d p n a ts ≡ Err (TooDeep (length ts))
 unfolding more_of expr_in

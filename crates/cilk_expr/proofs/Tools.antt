@@ -1,5 +1,5 @@
 -- Steps that did not fail, and what stands at the front of the tokens.
-use Rattle.std.proofs.Common.{◌≡◌, ℕ, zero, suc, ◌+◌, ◌<◌, ◌≤◌, ◌==◌, Bool, true, false, cond, List, [], ◌∷◌, ◌++◌, length, Option, Some, None, Result, Ok, Err, refl, sym, ap, subst, ◌∙◌, ◌⊎◌, inl, inr, arith, eq-eqb}
+use Rattle.std.proofs.Common.{◌≡◌, ℕ, zero, suc, ◌<◌, ◌≤◌, ◌==◌, Bool, true, false, cond, List, [], ◌∷◌, Option, Some, None, Result, Ok, Err, refl, sym, ap, ◌∙◌, ◌⊎◌, inl, inr, arith, eq-eqb}
 use Rattle.std.proofs.lemmas.Bool.{eqb-true}
 use Rattle.cilk_lex.specs.Lexeme.{Lexeme, Piece, word, name, number, mark}
 use Rattle.cilk_lex.specs.declared.keyword.Keyword.{Keyword}
@@ -12,7 +12,6 @@ use Rattle.cilk_tree.specs.declared.operator.BinOp.{BinOp}
 use Rattle.cilk_tree.specs.declared.operator.BinOp.TheVariants as ops
 use Rattle.cilk_tree.specs.Tree as tree
 use Rattle.cilk_expr.specs.declared.fault.Fault.{Fault}
-use Rattle.cilk_expr.specs.declared.fault.Fault.TheVariants.{Unexpected, TooDeep}
 use Rattle.cilk_expr.specs.Grammar.{level, operand, operator_of, word_at, Spells, a_number, a_name, in_parentheses, of_two}
 use Rattle.cilk_expr.specs.Front.{◌>>=◌, kind_of, kind_at, behind, after_kind, operator_at, mark_number, keyword_number, is_mark, is_keyword, wanted, mark_at, keyword_at, name_by, name_at}
 

@@ -1,13 +1,12 @@
 -- A whole expression in front of other tokens.
-use Rattle.std.proofs.Common.{◌≡◌, ℕ, zero, suc, ◌+◌, ◌<◌, ◌≤◌, List, [], ◌∷◌, ◌++◌, length, Option, Some, None, Result, Ok, Err, refl, sym, ap, subst, ◌∙◌, arith, length-append}
+use Rattle.std.proofs.Common.{◌≡◌, ℕ, zero, suc, ◌<◌, ◌≤◌, List, ◌++◌, length, None, Ok, refl, subst, arith}
 use Rattle.cilk_lex.specs.Lexeme.{Piece}
 use Rattle.cilk_tree.specs.Tree as tree
 use Rattle.cilk_tree.specs.Operators.{operators}
-use Rattle.cilk_expr.specs.declared.fault.Fault.{Fault}
 use Rattle.cilk_expr.specs.Grammar.{Spells, SpellsWhole, a_number, a_name, in_parentheses, of_two}
-use Rattle.cilk_expr.specs.Front.{◌>>=◌, operator_at}
+use Rattle.cilk_expr.specs.Front.{operator_at}
 use Rattle.cilk_expr.specs.Reading.{expr_of, whole_of}
-use Rattle.cilk_expr.proofs.Tools.{bind_ok, ok_is, Stops}
+use Rattle.cilk_expr.proofs.Tools.{bind_ok, ok_is}
 use Rattle.cilk_expr.proofs.Sound.{expr_takes}
 use Rattle.cilk_expr.proofs.Complete.{complete, whole}
 

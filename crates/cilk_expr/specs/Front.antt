@@ -1,5 +1,5 @@
 -- What stands at the front of the tokens that are left, and the first fault that is met there.
-use Rattle.std.specs.Prelude.{◌≡◌, ℕ, zero, suc, ◌==◌, List, [], ◌∷◌, length, Bool, true, false, Option, Some, None, Result, Ok, Err, if◌then◌else◌}
+use Rattle.std.specs.Prelude.{◌≡◌, ℕ, suc, ◌==◌, List, [], ◌∷◌, length, Bool, true, false, Option, Some, None, Result, Ok, Err}
 use Rattle.cilk_lex.specs.Lexeme.{Lexeme, Piece, word, name, number, mark}
 use Rattle.cilk_lex.specs.declared.keyword.Keyword.{Keyword}
 use Rattle.cilk_lex.specs.declared.keyword.Keyword.TheVariants as words
@@ -10,7 +10,7 @@ use Rattle.cilk_lex.specs.declared.token.Kind.TheVariants as kind
 use Rattle.cilk_tree.specs.declared.operator.BinOp.{BinOp}
 use Rattle.cilk_tree.specs.Tree as tree
 use Rattle.cilk_expr.specs.declared.fault.Fault.{Fault}
-use Rattle.cilk_expr.specs.declared.fault.Fault.TheVariants.{Unexpected, TooDeep}
+use Rattle.cilk_expr.specs.declared.fault.Fault.TheVariants.{Unexpected}
 use Rattle.cilk_expr.specs.declared.fault.ParseError.{ParseError}
 use Rattle.cilk_expr.specs.declared.fault.ParseError.TheVariants as errors
 use Rattle.cilk_expr.specs.Grammar.{operator_of, word_at}

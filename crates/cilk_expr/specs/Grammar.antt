@@ -1,6 +1,6 @@
 -- How tokens spell an expression (C 1990, 6.3).
 use Rattle.std.specs.Prelude.{◌≡◌, ℕ, suc, ◌≤◌, List, [], ◌∷◌, ◌++◌, Option, Some, None}
-use Rattle.cilk_lex.specs.Lexeme.{Lexeme, Piece, name, number, mark}
+use Rattle.cilk_lex.specs.Lexeme.{Piece, name, number, mark}
 use Rattle.cilk_lex.specs.declared.mark.Mark.{Mark}
 use Rattle.cilk_lex.specs.declared.mark.Mark.TheVariants as marks
 use Rattle.cilk_tree.specs.declared.operator.BinOp.{BinOp}
@@ -50,10 +50,10 @@ pub data Spells : ℕ → ℕ → List Piece → tree.Expr → Type 0 where
   a_number : {d p : ℕ} {ts : List Piece} (t : Piece) (n : ℕ) → t.lexeme ≡ number n → ts ≡ t ∷ [] → Spells d p ts (tree.number n)
   a_name : {d p : ℕ} {ts : List Piece} (t : Piece) (x : List ℕ) → t.lexeme ≡ name x → ts ≡ t ∷ [] → Spells d p ts (tree.named (word_at x t))
   in_parentheses : {d p : ℕ} {ts us : List Piece} {e : tree.Expr} (t u : Piece) → t.lexeme ≡ mark marks.OpenParenthesis → u.lexeme ≡ mark marks.CloseParenthesis
-    → Spells d 0 us e → ts ≡ t ∷ (us ++ u ∷ []) → Spells (suc d) p ts e
+      → Spells d 0 us e → ts ≡ t ∷ (us ++ u ∷ []) → Spells (suc d) p ts e
   -- to the left: the right operand binds more tightly than the operator
   of_two : {d p : ℕ} {ts us vs : List Piece} {a b : tree.Expr} (t : Piece) (m : Mark) (o : BinOp) → t.lexeme ≡ mark m → operator_of m ≡ Some o → p ≤ level o
-    → Spells d (level o) us a → Spells d (suc (level o)) vs b → ts ≡ us ++ t ∷ vs → Spells d p ts (tree.binary o a b)
+      → Spells d (level o) us a → Spells d (suc (level o)) vs b → ts ≡ us ++ t ∷ vs → Spells d p ts (tree.binary o a b)
 
 -- a whole expression, of at most l operators, and with at most d parentheses open at once
 pub record SpellsWhole (l d : ℕ) (ts : List Piece) (e : tree.Expr) : Type 0 where

@@ -1,5 +1,5 @@
 -- Reading an expression from left to right.
-use Rattle.std.specs.Prelude.{◌≡◌, ℕ, zero, suc, List, [], ◌∷◌, length, Option, Some, None, Result, Ok, Err, nat_le, nat_lt, if◌then◌else◌}
+use Rattle.std.specs.Prelude.{ℕ, zero, suc, List, length, Option, Some, None, Result, Ok, Err, nat_le, nat_lt, if◌then◌else◌}
 use Rattle.cilk_lex.specs.Lexeme.{Piece}
 use Rattle.cilk_lex.specs.declared.mark.Mark.TheVariants as marks
 use Rattle.cilk_lex.specs.declared.token.Kind.{Kind}

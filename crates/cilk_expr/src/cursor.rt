@@ -124,7 +124,14 @@ impl<'a> Cursor<'a> {
         ensures operators { OnOk result (self.new.operators ≡ self.old.operators) }
     {
         match self.tokens {
-            [Token { kind: Kind::Name, start, end }, rest @ ..] => {
+            [
+                Token {
+                    kind: Kind::Name,
+                    start,
+                    end,
+                },
+                rest @ ..,
+            ] => {
                 let text = &self.text[*start as usize..*end as usize];
                 let word = Word::new(String::from_str(self.alloc, text)?, *start);
                 self.tokens = rest;

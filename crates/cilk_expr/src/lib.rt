@@ -2,9 +2,9 @@
 #![tactic(auto)]
 
 mod cursor;
-mod reading;
 mod fault;
+mod reading;
 
 pub use cursor::Cursor;
-pub use reading::expression;
 pub use fault::{Fault, ParseError};
+pub use reading::expression;

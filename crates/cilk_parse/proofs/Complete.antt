@@ -1,25 +1,21 @@
 -- What is spelled is read.
-use Rattle.std.proofs.Common.{◌≡◌, ℕ, zero, suc, ◌+◌, ◌<◌, ◌≤◌, Bool, true, false, not, List, [], ◌∷◌, ◌++◌, length, Option, Some, None, Result, Ok, Err, refl, sym, ap, subst, ◌∙◌, append_assoc, arith, length-append, eq-eqb}
+use Rattle.std.proofs.Common.{◌≡◌, ℕ, Bool, true, false, not, List, [], ◌∷◌, ◌++◌, length, Some, None, Ok, refl, sym, ap, subst, ◌∙◌, append_assoc, arith, eq-eqb}
 use Rattle.std.proofs.lemmas.List.{append-nil}
 use Rattle.cilk_lex.specs.Lexeme.{Lexeme, Piece, word, name, mark}
 use Rattle.cilk_lex.specs.declared.keyword.Keyword.{Keyword}
 use Rattle.cilk_lex.specs.declared.keyword.Keyword.TheVariants as key
 use Rattle.cilk_lex.specs.declared.mark.Mark.{Mark}
 use Rattle.cilk_lex.specs.declared.mark.Mark.TheVariants as sign
-use Rattle.cilk_lex.specs.declared.token.Kind.{Kind}
-use Rattle.cilk_lex.specs.declared.token.Kind.TheVariants as kind
 use Rattle.cilk_tree.specs.Tree as tree
 use Rattle.cilk_tree.specs.Stmts.{stmts_of}
 use Rattle.cilk_expr.specs.Grammar.{word_at, SpellsWhole}
 use Rattle.cilk_expr.specs.Front.{◌>>=◌, kind_of, kind_at, behind, operator_at, is_mark, is_keyword, mark_number, keyword_number, mark_at, keyword_at, name_at}
-use Rattle.cilk_expr.specs.Reading.{whole_of}
 use Rattle.cilk_expr.proofs.Tools.{mark_here, keyword_here, name_here}
 use Rattle.cilk_expr.proofs.Whole.{whole_again}
 use Rattle.cilk_parse.specs.Grammar as grammar
 use Rattle.cilk_parse.specs.Grammar.{Each, joined, SpellsDeclarator, SpellsNextDeclarator, SpellsDeclaration, SpellsStmt, SpellsBlock, SpellsNoParameters, SpellsItem, SpellsItems}
-use Rattle.cilk_parse.specs.Many.{many_of}
-use Rattle.cilk_parse.specs.Reading.{value_by, value_at, declarator_at, next_declarator_at, next_declarators_at, begins_declarator, declaration_at, declarations_at, begins_declaration, value_end_at, assignment_at, return_at, stmt_by, stmt_at, stmts_at, begins_stmt, block_at, skip_void, parameters_at, item_at, end_at, items_at}
-use Rattle.cilk_parse.proofs.ManyLaws.{BeginsAll, AgainAll, follows, many_of_again}
+use Rattle.cilk_parse.specs.Reading.{value_by, value_at, declarator_at, next_declarator_at, next_declarators_at, begins_declarator, declaration_at, declarations_at, begins_declaration, value_end_at, assignment_at, return_at, stmt_by, stmt_at, stmts_at, begins_stmt, block_at, skip_void, parameters_at, item_at, items_at}
+use Rattle.cilk_parse.proofs.ManyLaws.{BeginsAll, follows, many_of_again}
 use Rattle.cilk_parse.proofs.Sound.{mark_test}
 
 is_mark_here : (m : Mark) (t : Piece) (us : List Piece) → t.lexeme ≡ mark m → is_mark m (kind_at (t ∷ us)) ≡ true
@@ -77,7 +73,7 @@ declaration_again l d us xs rest s =
     let fo = follows (SpellsNextDeclarator l d) begins_declarator Follow s.others s.other_decls back (next_declarator_begins l d) follow_begins fb s.spelled_others in
     let stop : begins_declarator (kind_at back) ≡ false = rw s.is_semicolon refl in
     let m = many_of_again (SpellsNextDeclarator l d) begins_declarator Follow (λ vs. next_declarator_at l d vs) (next_declarator_begins l d) (λ vs x r t f. next_declarator_again l d vs x r t f) follow_begins
-              s.others s.other_decls back s.spelled_others stop fb in
+    s.others s.other_decls back s.spelled_others stop fb in
     ap (λ v. declaration_at l d (v ++ rest)) s.whole
     ∙ ap (λ r. r >>= λ v. declarator_at l d v >>= λ x. next_declarators_at l d x.1 >>= λ ys. mark_at sign.Semicolon ys.1 >>= λ w. Ok (x.0 ∷ ys.0, w)) (keyword_here key.Int s.int ((s.first ++ (s.others ++ s.semicolon ∷ [])) ++ rest) s.is_int ∙ ap (λ v. Ok v) shape)
     ∙ ap (λ r. r >>= λ x. next_declarators_at l d x.1 >>= λ ys. mark_at sign.Semicolon ys.1 >>= λ w. Ok (x.0 ∷ ys.0, w)) (declarator_again l d s.first s.first_decl (s.others ++ back) s.spelled_first fo)
@@ -153,9 +149,9 @@ block_again l d us b rest s =
     let no_int : begins_declaration (kind_at back) ≡ false = rw s.is_closing refl in
     ap (λ v. block_at l d (v ++ rest)) s.whole
     ∙ ap (λ r. r >>= λ v. declarations_at l d v >>= λ ds. stmts_at l d ds.1 >>= λ ss. mark_at sign.CloseBrace ss.1 >>= λ w. Ok (tree.block (joined ds.0) (stmts_of ss.0), w))
-      (mark_here sign.OpenBrace s.opening ((s.declarations ++ (s.statements ++ s.closing ∷ [])) ++ rest) s.is_opening ∙ ap (λ v. Ok v) shape)
+    (mark_here sign.OpenBrace s.opening ((s.declarations ++ (s.statements ++ s.closing ∷ [])) ++ rest) s.is_opening ∙ ap (λ v. Ok v) shape)
     ∙ ap (λ r. r >>= λ ds. stmts_at l d ds.1 >>= λ ss. mark_at sign.CloseBrace ss.1 >>= λ w. Ok (tree.block (joined ds.0) (stmts_of ss.0), w))
-      (declarations_again l d s.declarations s.decls (s.statements ++ back) s.spelled_decls (stmts_no_int l d s.statements s.stmts back s.spelled_stmts no_int))
+    (declarations_again l d s.declarations s.decls (s.statements ++ back) s.spelled_decls (stmts_no_int l d s.statements s.stmts back s.spelled_stmts no_int))
     ∙ ap (λ r. r >>= λ ss. mark_at sign.CloseBrace ss.1 >>= λ w. Ok (tree.block (joined s.decls) (stmts_of ss.0), w)) (stmts_again l d s.statements s.stmts back s.spelled_stmts no_stmt)
     ∙ ap (λ r. r >>= λ w. Ok (tree.block (joined s.decls) (stmts_of s.stmts), w)) (mark_here sign.CloseBrace s.closing rest s.is_closing) ∙ ap (λ y. Ok (y, rest)) (sym s.block)
 

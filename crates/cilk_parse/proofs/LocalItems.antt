@@ -1,6 +1,6 @@
 -- Where reading a program meets a fault, it meets it whatever follows that token.
-use Rattle.std.proofs.Common.{◌≡◌, ℕ, zero, suc, ◌+◌, ◌<◌, ◌≤◌, Bool, true, false, not, List, [], ◌∷◌, ◌++◌, length, Option, Some, None, Result, Ok, Err, refl, sym, ap, subst, ◌∙◌, arith}
-use Rattle.cilk_lex.specs.Lexeme.{Piece, word}
+use Rattle.std.proofs.Common.{◌≡◌, ℕ, ◌≤◌, Bool, true, false, List, [], ◌∷◌, length, Option, Some, None, Result, Ok, Err, refl, sym, ap, subst, ◌∙◌}
+use Rattle.cilk_lex.specs.Lexeme.{Piece}
 use Rattle.cilk_lex.specs.declared.keyword.Keyword.TheVariants as key
 use Rattle.cilk_lex.specs.declared.mark.Mark.TheVariants as sign
 use Rattle.cilk_lex.specs.declared.token.Kind.{Kind}
@@ -13,8 +13,7 @@ use Rattle.cilk_expr.specs.Front.{◌>>=◌, kind_at, behind, is_mark, is_keywor
 use Rattle.cilk_expr.specs.Reading.{whole_of}
 use Rattle.cilk_expr.proofs.Local.{SameHead, same_kind, Reader, Local, unexpected, local_bind, local_as, local_skip, stuck_here, ok_here, local_mark, local_keyword, local_name}
 use Rattle.cilk_expr.proofs.LocalExpr.{local_whole}
-use Rattle.cilk_parse.specs.Grammar.{joined, SpellsDeclarator, SpellsNextDeclarator, SpellsDeclaration, SpellsStmt}
-use Rattle.cilk_parse.specs.Many.{many_of}
+use Rattle.cilk_parse.specs.Grammar.{joined, SpellsNextDeclarator, SpellsDeclaration, SpellsStmt}
 use Rattle.cilk_parse.specs.Reading.{Read, value_by, value_at, declarator_at, next_declarator_at, next_declarators_at, begins_declarator, declaration_at, declarations_at, begins_declaration, value_end_at, assignment_at, return_at, stmt_by, stmt_at, stmts_at, begins_stmt, block_at, skip_void, parameters_at, item_at, end_at, items_at}
 use Rattle.cilk_parse.proofs.ManyLaws.{Shortens, took_shorter, local_many}
 use Rattle.cilk_parse.proofs.Sound.{mark_test, keyword_test, next_declarator_takes, declaration_takes, stmt_takes}
@@ -38,7 +37,7 @@ module _ (same : Type 0) (l l' d d' : ℕ) (le : l ≤ l') (le' : d ≤ d') (eq 
       let m : Reader (Option tree.Expr) = λ us. whole_of l' d' us >>= λ e. Ok (Some e.0, e.1) in
       subst (λ (v : List Piece). Local {A = Option tree.Expr} same v (value_by l d ts true) (λ us. value_by l' d' us (is_mark sign.Assign (kind_at us)))) (sym k.whole)
       (local_skip same k.piece (behind ts) (value_by l d ts true) m _ (λ us s. rw (k.is) refl)
-          (local_bind same (behind ts) (whole_of l d (behind ts)) (λ us. whole_of l' d' us) (λ e. Ok (Some e.0, e.1)) (λ e. Ok (Some e.0, e.1)) (expression (behind ts)) (λ x e. ok_here (Some x.0) x.1 _ (λ us s. refl))))
+      (local_bind same (behind ts) (whole_of l d (behind ts)) (λ us. whole_of l' d' us) (λ e. Ok (Some e.0, e.1)) (λ e. Ok (Some e.0, e.1)) (expression (behind ts)) (λ x e. ok_here (Some x.0) x.1 _ (λ us s. refl))))
   value_local ts false h = ok_here None ts _ (λ us s. ap (value_by l' d' us) (ap (λ k. is_mark sign.Assign k) (sym (same_kind ts us s)) ∙ h))
 
   value : (ts : List Piece) → Local {A = Option tree.Expr} same ts (value_at l d ts) (λ us. value_at l' d' us)
@@ -50,7 +49,7 @@ module _ (same : Type 0) (l l' d d' : ℕ) (le : l ≤ l') (le' : d ≤ d') (eq 
   declarator ts =
       local_bind same ts (name_at ts) (λ us. name_at us) (λ x. value_at l d x.1 >>= λ v. Ok (record { name = x.0; value = v.0 }, v.1)) (λ x. value_at l' d' x.1 >>= λ v. Ok (record { name = x.0; value = v.0 }, v.1)) (local_name same ts)
       (λ x h. local_bind same x.1 (value_at l d x.1) (λ us. value_at l' d' us) (λ v. Ok (record { name = x.0; value = v.0 }, v.1)) (λ v. Ok (record { name = x.0; value = v.0 }, v.1)) (value x.1)
-          (λ v k. ok_here (record { name = x.0; value = v.0 }) v.1 _ (λ us s. refl)))
+      (λ v k. ok_here (record { name = x.0; value = v.0 }) v.1 _ (λ us s. refl)))
 
   next_declarator : (ts : List Piece) → Local {A = tree.Decl} same ts (next_declarator_at l d ts) (λ us. next_declarator_at l' d' us)
   unfolding next_declarator_at
@@ -72,9 +71,9 @@ module _ (same : Type 0) (l l' d d' : ℕ) (le : l ≤ l') (le' : d ≤ d') (eq 
       local_keyword same key.Int ts (λ us. declarator_at l d us >>= λ x. next_declarators_at l d x.1 >>= λ xs. semicolon_then (x.0 ∷ xs.0) xs.1)
       (λ us. declarator_at l' d' us >>= λ x. next_declarators_at l' d' x.1 >>= λ xs. semicolon_then (x.0 ∷ xs.0) xs.1)
       (λ h. local_bind same (behind ts) (declarator_at l d (behind ts)) (λ us. declarator_at l' d' us) (λ x. next_declarators_at l d x.1 >>= λ xs. semicolon_then (x.0 ∷ xs.0) xs.1)
-          (λ x. next_declarators_at l' d' x.1 >>= λ xs. semicolon_then (x.0 ∷ xs.0) xs.1) (declarator (behind ts))
-          (λ x i. local_bind same x.1 (next_declarators_at l d x.1) (λ us. next_declarators_at l' d' us) (λ xs. semicolon_then (x.0 ∷ xs.0) xs.1) (λ xs. semicolon_then (x.0 ∷ xs.0) xs.1) (next_declarators x.1)
-              (λ xs j. semicolon (x.0 ∷ xs.0) xs.1)))
+      (λ x. next_declarators_at l' d' x.1 >>= λ xs. semicolon_then (x.0 ∷ xs.0) xs.1) (declarator (behind ts))
+      (λ x i. local_bind same x.1 (next_declarators_at l d x.1) (λ us. next_declarators_at l' d' us) (λ xs. semicolon_then (x.0 ∷ xs.0) xs.1) (λ xs. semicolon_then (x.0 ∷ xs.0) xs.1) (next_declarators x.1)
+      (λ xs j. semicolon (x.0 ∷ xs.0) xs.1)))
 
   declarations : (ts : List Piece) → Local {A = List (List tree.Decl)} same ts (declarations_at l d ts) (λ us. declarations_at l' d' us)
   unfolding declarations_at
@@ -90,8 +89,8 @@ module _ (same : Type 0) (l l' d d' : ℕ) (le : l ≤ l') (le' : d ≤ d') (eq 
       local_bind same ts (name_at ts) (λ us. name_at us) (λ x. mark_at sign.Assign x.1 >>= λ m. value_end_at l d m >>= λ y. Ok (tree.assign (record { name = x.0 }) y.0, y.1))
       (λ x. mark_at sign.Assign x.1 >>= λ m. value_end_at l' d' m >>= λ y. Ok (tree.assign (record { name = x.0 }) y.0, y.1)) (local_name same ts)
       (λ x h. local_mark same sign.Assign x.1 (λ m. value_end_at l d m >>= λ y. Ok (tree.assign (record { name = x.0 }) y.0, y.1)) (λ m. value_end_at l' d' m >>= λ y. Ok (tree.assign (record { name = x.0 }) y.0, y.1))
-          (λ i. local_bind same (behind x.1) (value_end_at l d (behind x.1)) (λ us. value_end_at l' d' us) (λ y. Ok (tree.assign (record { name = x.0 }) y.0, y.1)) (λ y. Ok (tree.assign (record { name = x.0 }) y.0, y.1)) (value_end (behind x.1))
-              (λ y j. ok_here (tree.assign (record { name = x.0 }) y.0) y.1 _ (λ us s. refl))))
+      (λ i. local_bind same (behind x.1) (value_end_at l d (behind x.1)) (λ us. value_end_at l' d' us) (λ y. Ok (tree.assign (record { name = x.0 }) y.0, y.1)) (λ y. Ok (tree.assign (record { name = x.0 }) y.0, y.1)) (value_end (behind x.1))
+      (λ y j. ok_here (tree.assign (record { name = x.0 }) y.0) y.1 _ (λ us s. refl))))
 
   returning : (ts : List Piece) → Local {A = tree.Stmt} same ts (return_at l d ts) (λ us. return_at l' d' us)
   unfolding return_at
@@ -144,9 +143,9 @@ module _ (same : Type 0) (l l' d d' : ℕ) (le : l ≤ l') (le' : d ≤ d') (eq 
   block ts =
       local_mark same sign.OpenBrace ts (λ us. declarations_at l d us >>= λ ds. stmts_at l d ds.1 >>= λ ss. closed ds.0 ss.0 ss.1) (λ us. declarations_at l' d' us >>= λ ds. stmts_at l' d' ds.1 >>= λ ss. closed ds.0 ss.0 ss.1)
       (λ h. local_bind same (behind ts) (declarations_at l d (behind ts)) (λ us. declarations_at l' d' us) (λ ds. stmts_at l d ds.1 >>= λ ss. closed ds.0 ss.0 ss.1) (λ ds. stmts_at l' d' ds.1 >>= λ ss. closed ds.0 ss.0 ss.1) (declarations (behind ts))
-          (λ ds i. local_bind same ds.1 (stmts_at l d ds.1) (λ us. stmts_at l' d' us) (λ ss. closed ds.0 ss.0 ss.1) (λ ss. closed ds.0 ss.0 ss.1) (stmts ds.1)
-              (λ ss j. local_mark same sign.CloseBrace ss.1 (λ us. Ok (tree.block (joined ds.0) (stmts_of ss.0), us)) (λ us. Ok (tree.block (joined ds.0) (stmts_of ss.0), us))
-                  (λ k. ok_here (tree.block (joined ds.0) (stmts_of ss.0)) (behind ss.1) _ (λ us s. refl)))))
+      (λ ds i. local_bind same ds.1 (stmts_at l d ds.1) (λ us. stmts_at l' d' us) (λ ss. closed ds.0 ss.0 ss.1) (λ ss. closed ds.0 ss.0 ss.1) (stmts ds.1)
+      (λ ss j. local_mark same sign.CloseBrace ss.1 (λ us. Ok (tree.block (joined ds.0) (stmts_of ss.0), us)) (λ us. Ok (tree.block (joined ds.0) (stmts_of ss.0), us))
+      (λ k. ok_here (tree.block (joined ds.0) (stmts_of ss.0)) (behind ss.1) _ (λ us s. refl)))))
 
   abbrev void_then : {A : Type 0} → (List Piece → Read A) → List Piece → Bool → Read A
   void_then k ts b = mark_at sign.CloseParenthesis (skip_void ts b) >>= k
@@ -170,6 +169,7 @@ module _ (same : Type 0) (l l' d d' : ℕ) (le : l ≤ l') (le' : d ≤ d') (eq 
       bind_again : {A : Type 0} (r : Result (List Piece) Fault) (f : List Piece → Result (List Piece) Fault) (g : List Piece → Read A) → (r >>= f >>= g) ≡ (r >>= λ x. f x >>= g)
       bind_again (Ok x) f g = refl
       bind_again (Err e) f g = refl
+
       regroup : {A : Type 0} (us : List Piece) (k : List Piece → Read A) → (parameters_at us >>= k) ≡ (mark_at sign.OpenParenthesis us >>= λ v. void_then k v (is_keyword key.Void (kind_at v)))
       regroup us k = bind_again (mark_at sign.OpenParenthesis us) _ k
 
@@ -181,10 +181,10 @@ module _ (same : Type 0) (l l' d d' : ℕ) (le : l ≤ l') (le' : d ≤ d') (eq 
   item ts =
       local_keyword same key.Cilk ts (λ us. keyword_at key.Int us >>= λ v. name_at v >>= λ x. parameters_at x.1 >>= λ w. block_at l d w >>= λ b. defined x.0 b) (λ us. keyword_at key.Int us >>= λ v. name_at v >>= λ x. parameters_at x.1 >>= λ w. block_at l' d' w >>= λ b. defined x.0 b)
       (λ h. local_keyword same key.Int (behind ts) (λ v. name_at v >>= λ x. parameters_at x.1 >>= λ w. block_at l d w >>= λ b. defined x.0 b) (λ v. name_at v >>= λ x. parameters_at x.1 >>= λ w. block_at l' d' w >>= λ b. defined x.0 b)
-          (λ i. let us = behind (behind ts) in
-              local_bind same us (name_at us) (λ v. name_at v) (λ x. parameters_at x.1 >>= λ w. block_at l d w >>= λ b. defined x.0 b) (λ x. parameters_at x.1 >>= λ w. block_at l' d' w >>= λ b. defined x.0 b) (local_name same us)
-              (λ x j. parameters (λ w. block_at l d w >>= λ b. defined x.0 b) (λ w. block_at l' d' w >>= λ b. defined x.0 b) x.1
-                  (λ w. local_bind same w (block_at l d w) (λ v. block_at l' d' v) (λ b. defined x.0 b) (λ b. defined x.0 b) (block w) (λ b k. ok_here (tree.procedure (record { name = x.0; body = b.0 })) b.1 _ (λ v s. refl))))))
+      (λ i. let us = behind (behind ts) in
+      local_bind same us (name_at us) (λ v. name_at v) (λ x. parameters_at x.1 >>= λ w. block_at l d w >>= λ b. defined x.0 b) (λ x. parameters_at x.1 >>= λ w. block_at l' d' w >>= λ b. defined x.0 b) (local_name same us)
+      (λ x j. parameters (λ w. block_at l d w >>= λ b. defined x.0 b) (λ w. block_at l' d' w >>= λ b. defined x.0 b) x.1
+      (λ w. local_bind same w (block_at l d w) (λ v. block_at l' d' v) (λ b. defined x.0 b) (λ b. defined x.0 b) (block w) (λ b k. ok_here (tree.procedure (record { name = x.0; body = b.0 })) b.1 _ (λ v s. refl))))))
 
   abbrev ended : tree.Item → List Piece → Read (List tree.Item)
   ended i ts = end_at ts >>= λ us. Ok (i ∷ [], us)

@@ -1,17 +1,15 @@
 -- Reading declarations and statements in loops.
-use Rattle.std.proofs.Common.{◌≡◌, ℕ, zero, suc, ◌+◌, ◌<◌, ◌≤◌, Bool, true, false, not, List, [], ◌∷◌, ◌++◌, length, Option, Some, None, Result, Ok, Err, refl, sym, ap, subst, ◌∙◌, append_assoc, arith}
+use Rattle.std.proofs.Common.{◌≡◌, ℕ, ◌<◌, Bool, true, false, not, List, [], ◌∷◌, ◌++◌, length, Result, Ok, Err, refl, sym, ap, ◌∙◌, append_assoc}
 use Rattle.std.proofs.lemmas.List.{append-nil}
 use Rattle.cilk_lex.specs.Lexeme.{Piece}
 use Rattle.cilk_lex.specs.declared.keyword.Keyword.TheVariants as key
 use Rattle.cilk_lex.specs.declared.mark.Mark.TheVariants as sign
 use Rattle.cilk_tree.specs.Tree as tree
-use Rattle.cilk_expr.specs.declared.fault.Fault.{Fault}
 use Rattle.cilk_expr.specs.declared.fault.ParseError.{ParseError}
 use Rattle.cilk_expr.specs.declared.fault.ParseError.TheVariants as errors
 use Rattle.cilk_expr.specs.Front.{◌>>=◌, Fails, Gives, kind_at, is_mark, is_keyword, mark_at, keyword_at}
 use Rattle.cilk_expr.proofs.Loop.{fails_first}
 use Rattle.cilk_parse.specs.Grammar.{joined}
-use Rattle.cilk_parse.specs.Many.{many_of}
 use Rattle.cilk_parse.specs.Reading.{Read, onto, declarator_at, next_declarator_at, next_declarators_at, begins_declarator, declaration_at, declarations_at, begins_declaration, joined_at, stmt_at, stmts_at, begins_stmt}
 use Rattle.cilk_parse.proofs.ManyLaws.{finish, many_ends, many_fails, many_goes}
 use Rattle.cilk_parse.proofs.LocalItems.{next_declarator_shorter, declaration_shorter, stmt_shorter}

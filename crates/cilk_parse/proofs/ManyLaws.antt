@@ -1,5 +1,5 @@
 -- Reading one after another: what is taken, what is read again, and where it stops.
-use Rattle.std.proofs.Common.{◌≡◌, ℕ, zero, suc, ◌+◌, ◌<◌, ◌≤◌, Bool, true, false, cond, List, [], ◌∷◌, ◌++◌, length, Option, Some, None, Result, Ok, Err, refl, sym, ap, subst, ◌∙◌, append_assoc, ◌⊎◌, inl, inr, arith, length-append}
+use Rattle.std.proofs.Common.{◌≡◌, ℕ, zero, suc, ◌<◌, Bool, true, false, cond, List, [], ◌∷◌, ◌++◌, length, Option, Result, Ok, Err, refl, sym, ap, subst, ◌∙◌, append_assoc, inl, inr, arith, length-append}
 use Rattle.cilk_lex.specs.Lexeme.{Piece}
 use Rattle.cilk_lex.specs.declared.token.Kind.{Kind}
 use Rattle.cilk_expr.specs.declared.fault.Fault.{Fault}
@@ -7,7 +7,7 @@ use Rattle.cilk_expr.specs.declared.fault.ParseError.{ParseError}
 use Rattle.cilk_expr.specs.Front.{◌>>=◌, Fails, kind_at}
 use Rattle.cilk_expr.proofs.Tools.{bind_ok, ok_is, chosen, bind_same}
 use Rattle.cilk_expr.proofs.Loop.{fails_first}
-use Rattle.cilk_expr.proofs.Local.{SameHead, same_kind, Local, local_bind, local_as, ok_here}
+use Rattle.cilk_expr.proofs.Local.{same_kind, Local, local_bind, local_as, ok_here}
 use Rattle.cilk_parse.specs.Grammar.{Each, no_more, one_more}
 use Rattle.cilk_parse.specs.Many.{many_in, many_of}
 
@@ -37,12 +37,12 @@ many_takes R begins one zero ts x h e = absurd cc
 many_takes {A = A} R begins one (suc f) ts x h e =
     elim (chosen (begins (kind_at ts)) _ _ _ e) [
       | inl b ↦
-        let a = bind_ok (one ts) _ x b.1 in
-        let c = bind_ok (many_in f begins one a.0.1) _ x a.2 in
-        let t = h ts a.0 a.1 in
-        let m = many_takes R begins one f a.0.1 c.0 h c.1 in
-        subst (λ (y : List A × List Piece). TookEach R begins ts y) (ok_is (a.0.0 ∷ c.0.0, c.0.1) x c.2)
-        (record { used = t.used ++ m.used; whole = t.whole ∙ ap (λ (v : List Piece). t.used ++ v) m.whole ∙ sym (append_assoc t.used m.used c.0.1); spelled = one_more t.spelled m.spelled refl refl; ends = m.ends })
+          let a = bind_ok (one ts) _ x b.1 in
+          let c = bind_ok (many_in f begins one a.0.1) _ x a.2 in
+          let t = h ts a.0 a.1 in
+          let m = many_takes R begins one f a.0.1 c.0 h c.1 in
+          subst (λ (y : List A × List Piece). TookEach R begins ts y) (ok_is (a.0.0 ∷ c.0.0, c.0.1) x c.2)
+          (record { used = t.used ++ m.used; whole = t.whole ∙ ap (λ (v : List Piece). t.used ++ v) m.whole ∙ sym (append_assoc t.used m.used c.0.1); spelled = one_more t.spelled m.spelled refl refl; ends = m.ends })
       | inr b ↦ subst (λ (y : List A × List Piece). TookEach R begins ts y) (ok_is ([], ts) x b.1) (record { used = []; whole = refl; spelled = no_more refl refl; ends = b.0 })
     ]
 
@@ -52,7 +52,7 @@ same_many begins one zero g ts sh lt lt' = absurd (omega (arith, lt))
 same_many begins one (suc f) zero ts sh lt lt' = absurd (omega (arith, lt'))
 same_many begins one (suc f) (suc g) ts sh lt lt' =
     ap (λ r. cond (begins (kind_at ts)) r (Ok ([], ts))) (bind_same (one ts) (one ts) _ _ refl (λ x h. let less = sh ts x h in
-        ap (λ r. r >>= λ xs. Ok (x.0 ∷ xs.0, xs.1)) (same_many begins one f g x.1 sh (omega (arith, lt, less)) (omega (arith, lt', less)))))
+    ap (λ r. r >>= λ xs. Ok (x.0 ∷ xs.0, xs.1)) (same_many begins one f g x.1 sh (omega (arith, lt, less)) (omega (arith, lt', less)))))
 
 -- one step
 pub many_step : {A : Type 0} (begins : Option Kind → Bool) (one : List Piece → Result (A × List Piece) Fault) (ts : List Piece) → Shortens one
@@ -60,7 +60,7 @@ pub many_step : {A : Type 0} (begins : Option Kind → Bool) (one : List Piece �
 unfolding many_of many_in
 many_step begins one ts sh =
     ap (λ r. cond (begins (kind_at ts)) r (Ok ([], ts))) (bind_same (one ts) (one ts) _ _ refl (λ x h.
-        ap (λ r. r >>= λ xs. Ok (x.0 ∷ xs.0, xs.1)) (same_many begins one (length ts) (suc (length x.1)) x.1 sh (sh ts x h) (omega arith))))
+    ap (λ r. r >>= λ xs. Ok (x.0 ∷ xs.0, xs.1)) (same_many begins one (length ts) (suc (length x.1)) x.1 sh (sh ts x h) (omega arith))))
 
 -- ---- what is spelled is read again
 
@@ -108,7 +108,7 @@ module _ {A : Type 0} (same : Type 0) (begins : Option Kind → Bool) (one one' 
   many_by ts true e h =
       local_as same ts _ (λ us. one' us >>= λ x. many_of begins one' x.1 >>= λ xs. Ok (x.0 ∷ xs.0, xs.1)) _ (λ us s. ap (both us) (ap begins (sym (same_kind ts us s)) ∙ e))
       (local_bind same ts (one ts) (λ us. one' us) _ (λ x. many_of begins one' x.1 >>= λ xs. Ok (x.0 ∷ xs.0, xs.1)) (lo ts)
-          (λ x r. local_bind same x.1 (many_of begins one x.1) (λ us. many_of begins one' us) (λ xs. Ok (x.0 ∷ xs.0, xs.1)) (λ xs. Ok (x.0 ∷ xs.0, xs.1)) (h x r) (λ xs q. ok_here (x.0 ∷ xs.0) xs.1 _ (λ us s. refl))))
+      (λ x r. local_bind same x.1 (many_of begins one x.1) (λ us. many_of begins one' us) (λ xs. Ok (x.0 ∷ xs.0, xs.1)) (λ xs. Ok (x.0 ∷ xs.0, xs.1)) (h x r) (λ xs q. ok_here (x.0 ∷ xs.0) xs.1 _ (λ us s. refl))))
   many_by ts false e h = ok_here [] ts _ (λ us s. ap (both us) (ap begins (sym (same_kind ts us s)) ∙ e))
 
   many_local : (long : ℕ) (ts : List Piece) → length ts < long → Local {A = List A} same ts (many_of begins one ts) (λ us. many_of begins one' us)

@@ -1,6 +1,6 @@
 -- The places of faults, and what reading all tokens says of the text.
-use Rattle.std.proofs.Common.{◌≡◌, ℕ, zero, suc, ◌+◌, ◌-◌, ◌<◌, ◌≤◌, List, [], ◌∷◌, ◌++◌, length, take, drop, map, Option, Some, None, Result, Ok, Err, refl, sym, ap, subst, ◌∙◌, arith, length-append, slice_index_or, All}
-use Rattle.std.proofs.Math.Seq.{drop-append_seam, drop-length, take-length}
+use Rattle.std.proofs.Common.{◌≡◌, ℕ, ◌+◌, ◌-◌, ◌≤◌, List, [], ◌∷◌, ◌++◌, length, take, drop, map, Ok, Err, refl, sym, ap, subst, ◌∙◌, arith, length-append, slice_index_or, All}
+use Rattle.std.proofs.Math.Seq.{drop-append_seam}
 use Rattle.std.proofs.lemmas.List.Elements.{All-head, All-take, All-drop}
 use Rattle.std.proofs.lemmas.List.{drop-map, length-map, take_all, length-drop}
 use Rattle.cilk_lex.specs.Lexeme.{Piece, piece_of, pieces_of}
@@ -15,7 +15,7 @@ use Rattle.cilk_expr.specs.declared.fault.Fault.{Fault}
 use Rattle.cilk_expr.specs.declared.fault.Fault.TheVariants.{Unexpected, TooDeep}
 use Rattle.cilk_expr.proofs.Tools.{ok_is}
 use Rattle.cilk_expr.proofs.Local.{Local, Stuck, unexpected, too_deep}
-use Rattle.cilk_parse.specs.Grammar.{SpellsItems, SpellsProgram}
+use Rattle.cilk_parse.specs.Grammar.{SpellsProgram}
 use Rattle.cilk_parse.specs.Fault.{start_or, place_left}
 use Rattle.cilk_parse.specs.Reading.{Read, items_at}
 use Rattle.cilk_parse.proofs.Sound.{items_takes}
@@ -36,7 +36,7 @@ first_left text end left ts d le some =
     let long : length rest ≡ left = omega (arith, length-drop (length ts - left) ts, le) in
     let all : take (length ts - (length ts - left)) rest ≡ rest = take_all (length ts - (length ts - left)) rest (omega (arith, long, le)) in
     let same : map (piece_of text) rest ≡ drop (length (pieces_of text ts) - left) (pieces_of text ts) =
-        sym (drop-map (piece_of text) (length ts - left) ts) ∙ ap (λ n. drop (n - left) (pieces_of text ts)) (sym (length-map ts (piece_of text))) in
+    sym (drop-map (piece_of text) (length ts - left) ts) ∙ ap (λ n. drop (n - left) (pieces_of text ts)) (sym (length-map ts (piece_of text))) in
     ap (λ (l : List Token). (slice_index_or l 0 d).start) all ∙ first_start text end rest d (omega (arith, long, some)) ∙ ap (λ (l : List Piece). start_or end l) same
 
 first_within : (text : List ℕ) (xs : List Token) (d : Token) → All (IsWithin text) xs → 1 ≤ length xs → (slice_index_or xs 0 d).start ≤ length text

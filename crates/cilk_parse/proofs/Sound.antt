@@ -1,7 +1,7 @@
 -- What is read is spelled so.
-use Rattle.std.proofs.Common.{◌≡◌, ℕ, zero, suc, ◌+◌, ◌<◌, ◌≤◌, Bool, true, false, not, List, [], ◌∷◌, ◌++◌, length, Option, Some, None, Result, Ok, Err, refl, sym, ap, subst, ◌∙◌, append_assoc, arith, length-append}
+use Rattle.std.proofs.Common.{◌≡◌, ℕ, suc, Bool, true, false, List, [], ◌∷◌, ◌++◌, length, Option, Some, None, Ok, refl, sym, ap, subst, ◌∙◌, append_assoc, arith}
 use Rattle.std.proofs.lemmas.List.{append-nil}
-use Rattle.cilk_lex.specs.Lexeme.{Piece, word, name, mark}
+use Rattle.cilk_lex.specs.Lexeme.{Piece, word, mark}
 use Rattle.cilk_lex.specs.declared.keyword.Keyword.{Keyword}
 use Rattle.cilk_lex.specs.declared.keyword.Keyword.TheVariants as key
 use Rattle.cilk_lex.specs.declared.mark.Mark.{Mark}
@@ -10,8 +10,8 @@ use Rattle.cilk_lex.specs.declared.token.Kind.{Kind}
 use Rattle.cilk_lex.specs.declared.token.Kind.TheVariants as kind
 use Rattle.cilk_tree.specs.Tree as tree
 use Rattle.cilk_tree.specs.Stmts.{stmts_of}
-use Rattle.cilk_expr.specs.Grammar.{word_at, SpellsWhole}
-use Rattle.cilk_expr.specs.Front.{◌>>=◌, kind_of, kind_at, behind, is_mark, is_keyword, mark_at, keyword_at, name_at}
+use Rattle.cilk_expr.specs.Grammar.{SpellsWhole}
+use Rattle.cilk_expr.specs.Front.{◌>>=◌, kind_at, behind, is_mark, is_keyword, mark_at, keyword_at, name_at}
 use Rattle.cilk_expr.specs.Reading.{whole_of}
 use Rattle.cilk_expr.proofs.Tools.{bind_ok, ok_is, Next, NextName, mark_is, keyword_is, name_is}
 use Rattle.cilk_expr.proofs.Whole.{whole_takes}
@@ -19,7 +19,7 @@ use Rattle.cilk_parse.specs.Grammar as grammar
 use Rattle.cilk_parse.specs.Grammar.{Each, joined, SpellsDeclarator, SpellsNextDeclarator, SpellsDeclaration, SpellsStmt, SpellsBlock, SpellsNoParameters, SpellsItem, SpellsItems}
 use Rattle.cilk_parse.specs.Many.{many_of}
 use Rattle.cilk_parse.specs.Reading.{value_by, value_at, declarator_at, next_declarator_at, next_declarators_at, begins_declarator, declaration_at, declarations_at, begins_declaration, value_end_at, assignment_at, return_at, stmt_by, stmt_at, stmts_at, begins_stmt, block_at, skip_void, parameters_at, item_at, end_at, items_at}
-use Rattle.cilk_parse.proofs.ManyLaws.{Took, TookEach, many_takes}
+use Rattle.cilk_parse.proofs.ManyLaws.{Took, many_takes}
 
 pub mark_test : (m : Mark) (ts : List Piece) → is_mark m (kind_at ts) ≡ true → Next (mark m) ts (behind ts)
 unfolding mark_at
@@ -97,8 +97,18 @@ declaration_takes l d ts y e =
       whole = then int.piece ts i.0 _ int.whole (then_all f.used i.0 x.0.1 _ f.whole (then_all o.used x.0.1 xs.0.1 _ o.whole semi.whole) ∙ sym shape);
       some = omega arith;
       spelled = record {
-        int = int.piece; is_int = int.is; first = f.used; others = o.used; semicolon = semi.piece; is_semicolon = semi.is; first_decl = x.0.0; other_decls = xs.0.0;
-        spelled_first = f.spelled; spelled_others = o.spelled; whole = refl; decls = refl;
+        int = int.piece;
+        is_int = int.is;
+        first = f.used;
+        others = o.used;
+        semicolon = semi.piece;
+        is_semicolon = semi.is;
+        first_decl = x.0.0;
+        other_decls = xs.0.0;
+        spelled_first = f.spelled;
+        spelled_others = o.spelled;
+        whole = refl;
+        decls = refl;
       };
     })
 
@@ -181,8 +191,18 @@ block_takes l d ts y e =
       whole = then begin.piece ts o.0 _ begin.whole (then_all dt.used o.0 ds.0.1 _ dt.whole (then_all st.used ds.0.1 ss.0.1 _ st.whole close.whole) ∙ sym shape);
       some = omega arith;
       spelled = record {
-        opening = begin.piece; is_opening = begin.is; declarations = dt.used; statements = st.used; closing = close.piece; is_closing = close.is; decls = ds.0.0; stmts = ss.0.0;
-        spelled_decls = dt.spelled; spelled_stmts = st.spelled; whole = refl; block = refl;
+        opening = begin.piece;
+        is_opening = begin.is;
+        declarations = dt.used;
+        statements = st.used;
+        closing = close.piece;
+        is_closing = close.is;
+        decls = ds.0.0;
+        stmts = ss.0.0;
+        spelled_decls = dt.spelled;
+        spelled_stmts = st.spelled;
+        whole = refl;
+        block = refl;
       };
     })
 
@@ -226,8 +246,19 @@ item_takes l d ts y e =
           (then_all pt.used x.0.1 p.0 _ pt.whole bt.whole ∙ sym (append_assoc pt.used bt.used b.0.1))));
       some = omega arith;
       spelled = record {
-        cilk = cilk.piece; is_cilk = cilk.is; int = int.piece; is_int = int.is; name_piece = n.piece; text = n.text; is_name = n.is; parameters = pt.used; body = bt.used; block = b.0.0;
-        spelled_parameters = pt.spelled; spelled_body = bt.spelled; whole = refl;
+        cilk = cilk.piece;
+        is_cilk = cilk.is;
+        int = int.piece;
+        is_int = int.is;
+        name_piece = n.piece;
+        text = n.text;
+        is_name = n.is;
+        parameters = pt.used;
+        body = bt.used;
+        block = b.0.0;
+        spelled_parameters = pt.spelled;
+        spelled_body = bt.spelled;
+        whole = refl;
         item = ap (λ (w : tree.Word). tree.procedure (record { name = w; body = b.0.0 })) (sym n.spelled);
       };
     })

@@ -1,5 +1,5 @@
 -- Where reading stops, no program goes on.
-use Rattle.std.proofs.Common.{◌≡◌, ℕ, zero, suc, ◌+◌, ◌-◌, ◌<◌, ◌≤◌, List, [], ◌∷◌, ◌++◌, length, take, drop, map, Option, Some, None, Result, Ok, Err, refl, sym, ap, subst, ◌∙◌, append_assoc, arith, length-append}
+use Rattle.std.proofs.Common.{◌≡◌, ℕ, ◌+◌, ◌-◌, ◌≤◌, List, [], ◌∷◌, ◌++◌, length, take, drop, map, Ok, Err, refl, sym, ap, subst, ◌∙◌, append_assoc, arith, length-append}
 use Rattle.std.proofs.Math.Seq.{drop-append_seam}
 use Rattle.std.proofs.lemmas.List.{map-append, take-append-drop}
 use Rattle.cilk_lex.specs.Lexeme.{Lexeme, Piece}
@@ -10,8 +10,7 @@ use Rattle.cilk_expr.specs.declared.fault.Fault.{Fault}
 use Rattle.cilk_expr.specs.declared.fault.Fault.TheVariants.{Unexpected, TooDeep}
 use Rattle.cilk_expr.proofs.Local.{SameHead, Local, Stuck, unexpected, too_deep}
 use Rattle.cilk_parse.specs.Grammar.{SpellsItems}
-use Rattle.cilk_expr.specs.Grammar.{operator_limit, parenthesis_limit}
-use Rattle.cilk_parse.specs.Fault.{BeginsWith, IsNoFront, IsNotGoingOn, at_token, at_end, any_limits, the_limits, StopsAt, start_or, place_left}
+use Rattle.cilk_parse.specs.Fault.{IsNotGoingOn, at_token, at_end, any_limits, the_limits, StopsAt, start_or, place_left}
 use Rattle.cilk_parse.specs.Reading.{Read, items_at}
 use Rattle.cilk_parse.proofs.Complete.{items_again}
 use Rattle.cilk_parse.proofs.LocalItems.{local_items}
@@ -45,9 +44,10 @@ read_as x = Ok x
 module _ (fault : ℕ → Fault) (allowed : ℕ → ℕ → Type 0) (text : List ℕ) (ps : List Piece) (k at : ℕ) (refused : (l d : ℕ) → allowed l d → Refused fault l d k ps) (place : at ≡ place_left (length text) ps k) where
   taken : (used left : List Piece) → ps ≡ used ++ left → k ≡ length left → (used ≡ take (length ps - k) ps) × (left ≡ drop (length ps - k) ps)
   taken used left e h =
-      let n : length ps - k ≡ length used = omega (arith, h, ap length e, length-append used left) in
-      (sym (ap (λ i. take i ps) n ∙ ap (λ (l : List Piece). take (length used) l) e ∙ take_front used left),
-       sym (ap (λ i. drop i ps) n ∙ ap (λ (l : List Piece). drop (length used) l) e ∙ drop-append_seam used left))
+      let n : length ps - k ≡ length used = omega (arith, h, ap length e, length-append used left) in (
+        sym (ap (λ i. take i ps) n ∙ ap (λ (l : List Piece). take (length used) l) e ∙ take_front used left),
+        sym (ap (λ i. drop i ps) n ∙ ap (λ (l : List Piece). drop (length used) l) e ∙ drop-append_seam used left),
+      )
     where
       take_front : (us vs : List Piece) → take (length us) (us ++ vs) ≡ us
       take_front [] vs = refl
@@ -70,12 +70,12 @@ module _ (fault : ℕ → Fault) (allowed : ℕ → ℕ → Type 0) (text : List
   stops_by whole (t ∷ back) e =
       at_token (take (length ps - k) ps) back t (whole ∙ ap (λ (v : List Piece). take (length ps - k) ps ++ v) e) (sym (place ∙ ap (λ (v : List Piece). start_or (length text) v) e))
       (λ l d al us is b s.
-          let rest = t ∷ map at_zero b.back in
-          let same : lexemes (take (length ps - k) ps ++ rest) ≡ lexemes us =
-              map-append (λ p. p.lexeme) (take (length ps - k) ps) rest ∙ ap (λ (ls : List Lexeme). lexemes (take (length ps - k) ps) ++ t.lexeme ∷ ls) (zero_lexemes b.back)
-              ∙ sym (append_assoc (lexemes (take (length ps - k) ps)) (t.lexeme ∷ []) b.back) ∙ sym b.whole in
-          let m = moved_items l d us (take (length ps - k) ps ++ rest) is same s in
-          goes_wrong l d al rest m.items (subst (λ (v : List Piece). SameHead v rest) (sym e) refl) m.spelled)
+      let rest = t ∷ map at_zero b.back in
+      let same : lexemes (take (length ps - k) ps ++ rest) ≡ lexemes us =
+      map-append (λ p. p.lexeme) (take (length ps - k) ps) rest ∙ ap (λ (ls : List Lexeme). lexemes (take (length ps - k) ps) ++ t.lexeme ∷ ls) (zero_lexemes b.back)
+      ∙ sym (append_assoc (lexemes (take (length ps - k) ps)) (t.lexeme ∷ []) b.back) ∙ sym b.whole in
+      let m = moved_items l d us (take (length ps - k) ps ++ rest) is same s in
+      goes_wrong l d al rest m.items (subst (λ (v : List Piece). SameHead v rest) (sym e) refl) m.spelled)
 
 any_room : (l d k : ℕ) (ps : List Piece) → items_at 200 200 ps ≡ Err (Unexpected k) → Refused unexpected l d k ps
 any_room l d k ps e = record {

@@ -1,6 +1,6 @@
 -- How a text spells a program (C 1990, 6.5 to 6.7; Cilk 5.4 manual, `cilk`).
-use Rattle.std.specs.Prelude.{◌≡◌, ℕ, List, [], ◌∷◌, ◌++◌, Option, Some, None, length}
-use Rattle.cilk_lex.specs.Lexeme.{Lexeme, Piece, word, name, mark}
+use Rattle.std.specs.Prelude.{◌≡◌, ℕ, List, [], ◌∷◌, ◌++◌, Some, None, length}
+use Rattle.cilk_lex.specs.Lexeme.{Piece, word, name, mark}
 use Rattle.cilk_lex.specs.Lexing.{Lexes}
 use Rattle.cilk_lex.specs.declared.keyword.Keyword.TheVariants as key
 use Rattle.cilk_lex.specs.declared.mark.Mark.TheVariants as sign
@@ -24,7 +24,7 @@ joined (xs ∷ xss) = xs ++ joined xss
 pub data SpellsDeclarator (l d : ℕ) : List Piece → tree.Decl → Type 0 where
   alone : {ts : List Piece} {x : tree.Decl} (t : Piece) (b : List ℕ) → t.lexeme ≡ name b → ts ≡ t ∷ [] → x ≡ record { name = word_at b t; value = None } → SpellsDeclarator l d ts x
   with_value : {ts us : List Piece} {e : tree.Expr} {x : tree.Decl} (t u : Piece) (b : List ℕ) → t.lexeme ≡ name b → u.lexeme ≡ mark sign.Assign → SpellsWhole l d us e
-    → ts ≡ t ∷ u ∷ us → x ≡ record { name = word_at b t; value = Some e } → SpellsDeclarator l d ts x
+      → ts ≡ t ∷ u ∷ us → x ≡ record { name = word_at b t; value = Some e } → SpellsDeclarator l d ts x
 
 -- , and a declarator
 pub record SpellsNextDeclarator (l d : ℕ) (ts : List Piece) (x : tree.Decl) : Type 0 where
@@ -53,10 +53,10 @@ pub record SpellsDeclaration (l d : ℕ) (ts : List Piece) (xs : List tree.Decl)
 pub data SpellsStmt (l d : ℕ) : List Piece → tree.Stmt → Type 0 where
   -- Name = Expr ;
   an_assignment : {ts us : List Piece} {e : tree.Expr} {s : tree.Stmt} (t u v : Piece) (b : List ℕ) → t.lexeme ≡ name b → u.lexeme ≡ mark sign.Assign → SpellsWhole l d us e → v.lexeme ≡ mark sign.Semicolon
-    → ts ≡ t ∷ u ∷ (us ++ v ∷ []) → s ≡ tree.assign (record { name = word_at b t }) e → SpellsStmt l d ts s
+      → ts ≡ t ∷ u ∷ (us ++ v ∷ []) → s ≡ tree.assign (record { name = word_at b t }) e → SpellsStmt l d ts s
   -- return Expr ;
   a_return : {ts us : List Piece} {e : tree.Expr} {s : tree.Stmt} (t v : Piece) → t.lexeme ≡ word key.Return → SpellsWhole l d us e → v.lexeme ≡ mark sign.Semicolon
-    → ts ≡ t ∷ (us ++ v ∷ []) → s ≡ tree.return_with e → SpellsStmt l d ts s
+      → ts ≡ t ∷ (us ++ v ∷ []) → s ≡ tree.return_with e → SpellsStmt l d ts s
 
 -- { declarations statements } (C 1990, 6.6.2)
 pub record SpellsBlock (l d : ℕ) (ts : List Piece) (b : tree.Block) : Type 0 where

@@ -89,6 +89,9 @@ fn tells_what_is_too_deep(rt: HostRuntime) -> Result<(), Fail> {
         assert_eq!(rt; read(rt.alloc(), text.as_str()).err(), plus);
     }
     let long = repeated(rt.alloc(), "", " ", 1_048_577, "")?;
-    assert_eq!(rt; read(rt.alloc(), long.as_str()).err(), Some(ReadFault::Lex(LexFault::TooLong)));
+    assert_eq!(rt;
+        read(rt.alloc(), long.as_str()).err(),
+        Some(ReadFault::Lex(LexFault::TooLong))
+    );
     Ok(())
 }

@@ -1,6 +1,5 @@
-use Rattle.std.proofs.Common.{◌≡◌, ◌≤◌, ◌<◌, ap, length, arith, sym, ◌∙◌, refl}
+use Rattle.std.proofs.Common.{arith, sym, ◌∙◌}
 use Rattle.std.proofs.lemmas.Result.{err_from_is_err_and}
-use Rattle.cilk_expr.specs.Grammar.{level}
 use Rattle.cilk_expr.proofs.Loop.{none_from, operand_fails, operand_read, ends_here, stops_here, full_here, operator_fails, operator_goes}
 use Rattle.cilk_expr.proofs.Steps.{left_of, operand_shorter, behind_shorter}
 use Rattle.cilk_expr.proofs.reading.+expr.Goals as goal
@@ -25,7 +24,7 @@ pub expr-returns-in_err-right : goal.expr-returns-in_err-right
 expr-returns-in_err-right t c =
     let p = err_from_is_err_and c.from_residual-in_err-right.result c.from_residual-in_err-right.ensures.1 in
     rw (p.1, p.2) (operator_fails _ _ _ _ _ _ _ c.in-Some.operator _ _ _ (sym c.in-Some.ensures) (omega (arith, c.if-level-lowest.false, c.level_of-level.ensures)) (omega (arith, c.if-operators-ge-OPERATOR_LIMIT.false, c.operators.ensures))
-        (omega (arith, c.level_of-level.ensures)) (omega arith) c.each.invariant.same (rw c.take_operator.ensures at c.in_err-right.ensures))
+    (omega (arith, c.level_of-level.ensures)) (omega arith) c.each.invariant.same (rw c.take_operator.ensures at c.in_err-right.ensures))
 
 pub expr-each-smaller : goal.expr-each-smaller
 expr-each-smaller t c =

@@ -1,4 +1,4 @@
-use Rattle.std.proofs.Common.{◌<◌, sym, ◌∙◌, arith}
+use Rattle.std.proofs.Common.{sym, ◌∙◌}
 use Rattle.std.proofs.lemmas.Result.{err_from_is_err_and}
 use Rattle.cilk_parse.proofs.LocalItems.{next_declarator_shorter}
 use Rattle.cilk_parse.proofs.Loops.{next_ends, next_fails, next_goes}

@@ -1,4 +1,4 @@
-use Rattle.std.proofs.Common.{◌≡◌, ◌++◌, length}
+use Rattle.std.proofs.Common.{◌≡◌, length}
 use Rattle.cilk_parse.specs.Reading.{onto, next_declarators_at}
 use Rattle.cilk_parse.proofs.declaration.next_declarators.Given as goal
 

@@ -1,5 +1,4 @@
-use Rattle.std.proofs.Common.{arith, length-take}
-use Rattle.std.proofs.lemmas.List.{length-drop}
+use Rattle.std.proofs.Common.{arith}
 use Rattle.cilk_parse.proofs.Places.{first_left, left_within}
 use Rattle.cilk_parse.proofs.program.place_left.Goals as goal
 

@@ -1,4 +1,4 @@
-use Rattle.std.proofs.Common.{◌≡◌, ℕ, ◌≤◌, ◌<◌, List, length, Err, Result, sym, ap, ◌∙◌, refl, arith, subst, inl, inr}
+use Rattle.std.proofs.Common.{◌≤◌, List, length, sym, ap, ◌∙◌, refl, arith, subst, inl, inr}
 use Rattle.std.proofs.lemmas.Bool.{cases_lt}
 use Rattle.std.proofs.lemmas.List.{length-map}
 use Rattle.cilk_lex.specs.Lexeme.{Piece, pieces_of, piece_of}

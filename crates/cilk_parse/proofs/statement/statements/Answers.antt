@@ -1,7 +1,7 @@
 use Rattle.std.proofs.Common.{sym, ◌∙◌}
 use Rattle.std.proofs.lemmas.Result.{err_from_is_err_and}
 use Rattle.cilk_parse.proofs.LocalItems.{stmt_shorter}
-use Rattle.cilk_parse.proofs.Loops.{stmts_begin, stmts_end, stmts_fail, stmts_go}
+use Rattle.cilk_parse.proofs.Loops.{stmts_end, stmts_fail, stmts_go}
 use Rattle.cilk_parse.proofs.statement.statements.Goals as goal
 
 pub each-smaller : goal.each-smaller
