@@ -1,0 +1,178 @@
+-- Each live instance has a head.
+use Rattle.std.proofs.Common.{◌≡◌, ◌≢◌, ℕ, ℤ, Bool, true, false, not, cond, List, [], ◌∷◌, ◌++◌, Option, Some, None, is_none, Result, Ok, Err, refl, ap, subst, ◌∙◌, if◌then◌else◌}
+use Rattle.std.proofs.lemmas.Bool.{cond_both}
+use Rattle.cilk_eval.specs.declared.trap.Trap.{Trap}
+use Rattle.cilk_eval.specs.Value.{Environment, value_of, ◌>>=◌}
+use Rattle.cilk_model.specs.Declaration.{Declaration}
+use Rattle.cilk_model.specs.Labelled.{Labelled, assign, return_with, close, Stmt, action, Stmts, none, also, Body}
+use Rattle.cilk_model.specs.Items.{Items, piece, pieces, opened, Head, head_of, next, closing_items, start_items}
+use Rattle.cilk_model.specs.Values.{Cell}
+use Rattle.cilk_model.specs.Effect.{Effect, writes, gives, effect_of}
+use Rattle.cilk_model.specs.Path.{Path, same_path, parent_of}
+use Rattle.cilk_model.specs.Instance.{Receiver, place, Delivery, Instance, body_at}
+use Rattle.cilk_model.specs.State.{Entry, Instances, State, instance_at, changed, without, has_live_child}
+use Rattle.cilk_model.specs.Event.{Event}
+use Rattle.cilk_model.specs.Change.{at_boundary, passes, head_effect, after_return_to, received_at, after_place, after_receiver}
+use Rattle.cilk_model.specs.Pick.{Step, waits, parks, goes_on, ends, step_by_effect, step_by_head, step_at_boundary, step_of_instance, step_of_live, step_of}
+use Rattle.cilk_model.specs.Scheduler.{hand_of}
+use Rattle.cilk_model.specs.Choice.{Act, step, pop, steal, Choice}
+use Rattle.cilk_model.specs.Run.{Standing, Position, refusal_of, state_after, next_by_hand, next_by, next_of, event_of, after_from, opening, is_crew, after_main}
+use Rattle.cilk_model.specs.Laws.{EachHasHead}
+
+-- the last item is the closing brace
+abbrev Closes : Items → Type 0
+Closes [] = ⊥
+Closes (piece (action n act) ∷ []) = act ≡ close
+Closes (item ∷ (other ∷ items)) = Closes (other ∷ items)
+
+opened_closes : (items : Items) → Closes items → Closes (opened items)
+opened_closes [] h = h
+opened_closes (piece (action n act) ∷ []) h = h
+opened_closes (piece (action n act) ∷ (other ∷ items)) h = h
+
+closes_head : (items : Items) → Closes items → head_of items ≢ None
+closes_head [] h = absurd h
+closes_head (piece (action n act) ∷ items) h = λ e. cc
+
+one_more_closes : (item : Stmt) (items : Items) → Closes items → Closes (piece item ∷ items)
+one_more_closes (action n act) [] h = absurd h
+one_more_closes (action n act) (other ∷ items) h = h
+
+pieces_close : (stmts : Stmts) (items : Items) → Closes items → Closes (pieces stmts items)
+pieces_close none items h = h
+pieces_close (also first others) items h = one_more_closes first (pieces others items) (pieces_close others items h)
+
+start_closes : (body : Body) → Closes (opened (start_items body))
+start_closes body = opened_closes (start_items body) (pieces_close body.stmts (closing_items body.closing) refl)
+
+-- what leaves a body writes nothing
+gives_alone : (r : Result ℤ Trap) (cell : Cell) (z : ℤ) → (r >>= λ y. Ok (gives y)) ≡ Ok (writes cell z) → ⊥
+gives_alone (Ok y) cell z e = cc
+gives_alone (Err trap) cell z e = cc
+
+write_closes : (env : Environment Declaration) (items : Items) (head : Head) (cell : Cell) (z : ℤ) → Closes items → head_of items ≡ Some head
+    → effect_of env head.act ≡ Ok (writes cell z) → Closes (opened (next true items))
+write_closes env [] head cell z h first e = absurd h
+write_closes env (piece (action n (assign target value)) ∷ []) head cell z h first e = cc
+write_closes env (piece (action n (assign target value)) ∷ (other ∷ items)) head cell z h first e = opened_closes (other ∷ items) h
+write_closes env (piece (action n (return_with value)) ∷ items) head cell z h first e =
+    let same : record { number = n; act = return_with value } ≡ head = cc in
+    absurd (gives_alone (value_of env value) cell z (ap (λ (x : Head). effect_of env x.act) same ∙ e))
+write_closes env (piece (action n close) ∷ items) head cell z h first e =
+    let same : record { number = n; act = close } ≡ head = cc in
+    let is : effect_of env close ≡ Ok (writes cell z) = ap (λ (x : Head). effect_of env x.act) same ∙ e in
+    cc
+
+-- each live instance has its closing brace before it
+abbrev IsReady : Instance → Type 0
+IsReady i = Closes i.top.items
+
+abbrev Ready : Instances → Type 0
+Ready [] = Unit {0}
+Ready (e ∷ entries) = IsReady e.instance × Ready entries
+
+change_ready : (b : Bool) (f : Instance → Instance) (e : Entry) → ((x : Instance) → IsReady x → IsReady (f x)) → IsReady e.instance → IsReady (if b then record e { instance = f e.instance } else e).instance
+change_ready true f e keeps h = keeps e.instance h
+change_ready false f e keeps h = h
+
+changed_ready : (p : Path) (f : Instance → Instance) (entries : Instances) → ((x : Instance) → IsReady x → IsReady (f x)) → Ready entries → Ready (changed p f entries)
+changed_ready p f [] keeps h = tt
+changed_ready p f (e ∷ entries) keeps h =
+    (change_ready (same_path e.path p) f e keeps h.0, changed_ready p f entries keeps h.1)
+
+without_by : (b : Bool) (e : Entry) (entries : Instances) → IsReady e.instance → Ready entries → Ready (cond b (e ∷ entries) entries)
+without_by true e entries h r = (h, r)
+without_by false e entries h r = r
+
+without_ready : (p : Path) (entries : Instances) → Ready entries → Ready (without p entries)
+without_ready p [] h = tt
+without_ready p (e ∷ entries) h =
+    without_by (not (same_path e.path p)) e (without p entries) h.0 (without_ready p entries h.1)
+
+found_by : (b : Bool) (x : Instance) (o : Option Instance) (i : Instance) → (if b then Some x else o) ≡ Some i → IsReady x → (o ≡ Some i → IsReady i) → IsReady i
+found_by true x o i e h rest = let same : x ≡ i = cc in subst IsReady same h
+found_by false x o i e h rest = rest e
+
+found_ready : (entries : Instances) (p : Path) (i : Instance) → Ready entries → instance_at entries p ≡ Some i → IsReady i
+found_ready [] p i h e = cc
+found_ready (x ∷ entries) p i h e =
+    found_by (same_path x.path p) x.instance (instance_at entries p) i e h.0 (found_ready entries p i h.1)
+
+-- what is to be shown of a step
+abbrev ReadyAfter : Step → Type 0
+ReadyAfter waits = Unit {0}
+ReadyAfter parks = Unit {0}
+ReadyAfter (goes_on t did) = Ready t.instances
+ReadyAfter (ends t did) = Ready t.instances
+
+module _ (s : State) (p : Path) (all : Ready s.instances) (i : Instance) (ready : IsReady i) where
+  return_ready : (z : ℤ) (o : Option Path) → Ready (after_return_to o s p i z).instances
+  return_ready z None = without_ready p s.instances all
+  return_ready z (Some q) = changed_ready q _ (without p s.instances) (λ x h. h) (without_ready p s.instances all)
+
+  effect_ready : (program : Labelled) (head : Head) → head_of i.top.items ≡ Some head → (r : Result Effect Trap) → head_effect s p i head ≡ r → ReadyAfter (step_by_effect program s p i head.number r)
+  effect_ready program head first (Err trap) e = all
+  effect_ready program head first (Ok (writes cell z)) e =
+      changed_ready p _ s.instances (λ x h. write_closes _ i.top.items head cell z ready first e) all
+  effect_ready program head first (Ok (gives z)) e = return_ready z (parent_of p)
+
+  head_ready : (program : Labelled) (o : Option Head) → head_of i.top.items ≡ o → ReadyAfter (step_by_head program s p i o)
+  head_ready program None first = tt
+  head_ready program (Some head) first =
+      cond_both (passes s p i head) _ _ ReadyAfter (λ _. effect_ready program head first (head_effect s p i head) refl) (λ _. tt)
+
+  place_ready : (others : List Delivery) (cell : Cell) (spawn : ℕ) (r : Result ℤ Trap) → Ready (after_place s p i others cell spawn r).instances
+  place_ready others cell spawn (Err trap) = all
+  place_ready others cell spawn (Ok z) = changed_ready p _ s.instances (λ x h. ready) all
+
+  receiver_ready : (program : Labelled) (others : List Delivery) (receiver : Receiver) (z : ℤ) → Ready (after_receiver program s p i others receiver z).instances
+  receiver_ready program others (place op cell spawn) z = place_ready others cell spawn (received_at s p i (place op cell spawn) z)
+
+  boundary_ready : (program : Labelled) (ds : List Delivery) → ReadyAfter (step_at_boundary program s p i ds)
+  boundary_ready program [] = head_ready program (head_of i.top.items) refl
+  boundary_ready program (oldest ∷ others) = receiver_ready program others oldest.receiver oldest.value
+
+  instance_ready : (program : Labelled) → ReadyAfter (step_of_instance program s p i)
+  instance_ready program = cond_both i.aborted _ _ ReadyAfter
+      (λ _. cond_both (has_live_child s.instances p) _ _ ReadyAfter (λ _. tt) (λ _. without_ready p s.instances all))
+      (λ _. cond_both (at_boundary i) _ _ ReadyAfter (λ _. boundary_ready program i.waiting) (λ _. head_ready program (head_of i.top.items) refl))
+
+live_ready : (program : Labelled) (s : State) (p : Path) → Ready s.instances → (o : Option Instance) → instance_at s.instances p ≡ o → ReadyAfter (step_of_live program s p o)
+live_ready program s p all None e = tt
+live_ready program s p all (Some i) e = instance_ready s p all i (found_ready s.instances p i all e) program
+
+state_ready : (s : State) (taken : Step) → Ready s.instances → ReadyAfter taken → Ready (state_after s taken).instances
+state_ready s waits all h = all
+state_ready s parks all h = all
+state_ready s (goes_on t did) all h = h
+state_ready s (ends t did) all h = h
+
+hand_ready : (program : Labelled) (at : Standing) (w : ℕ) (o : Option Path) → Ready at.state.instances → Ready (next_by_hand program at w o).state.instances
+hand_ready program at w None all = all
+hand_ready program at w (Some p) all =
+    state_ready at.state (step_of program at.state p) all (live_ready program at.state p all (instance_at at.state.instances p) refl)
+
+act_ready : (program : Labelled) (at : Standing) (w : ℕ) (act : Act) → Ready at.state.instances → Ready (next_by program at w act).state.instances
+act_ready program at w step all = hand_ready program at w (hand_of at.scheduler.places w) all
+act_ready program at w pop all = all
+act_ready program at w (steal v) all = all
+
+if_some : (b : Bool) (o : Option Position) (end : Position) → (if b then o else None) ≡ Some end → o ≡ Some end
+if_some true o end h = h
+if_some false o end h = cc
+
+all_ready : (program : Labelled) (at : Standing) (events : List Event) (choices : List Choice) (end : Position) → Ready at.state.instances → after_from program at events choices ≡ Some end → Ready end.standing.state.instances
+all_ready program at events [] end all h =
+    let e : record { standing = at; events = events } ≡ end = cc in
+    subst (λ (q : Position). Ready q.standing.state.instances) e all
+all_ready program at events (c ∷ choices) end all h =
+    all_ready program (next_of program at c) (events ++ event_of program at c ∷ []) choices end (act_ready program at c.worker c.act all) (if_some (is_none (refusal_of program at c)) _ end h)
+
+main_ready : (program : Labelled) (n : ℕ) (main : Option ℕ) (choices : List Choice) (end : Position) → after_main program n main choices ≡ Some end → Ready end.standing.state.instances
+main_ready program n None choices end h = cc
+main_ready program n (Some main) choices end h =
+    all_ready program (opening program main n) [] choices end (start_closes (body_at program main), tt) (if_some (is_crew n) _ end h)
+
+pub each_has_head : EachHasHead
+each_has_head program n choices at h p i live =
+    closes_head i.top.items (found_ready at.standing.state.instances p i (main_ready program n program.main choices at h) live)

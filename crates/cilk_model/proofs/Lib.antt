@@ -1,0 +1,9 @@
+pub mod Runs
+pub mod Rules
+pub mod Kept
+pub mod Stuck
+pub mod Live
+pub mod Places
+pub mod Opening
+pub mod Lines
+pub mod Heads

@@ -1,0 +1,33 @@
+-- What an action comes to, once its expressions have their values.
+use Rattle.std.specs.Prelude.{ℤ, pos, Option, Some, None, Result, Ok}
+use Rattle.cilk_tree.specs.declared.operator.BinOp.{BinOp}
+use Rattle.cilk_eval.specs.declared.trap.Trap.{Trap}
+use Rattle.cilk_eval.specs.Arithmetic.{binary_result}
+use Rattle.cilk_eval.specs.Value.{Environment, value_of, ◌>>=◌}
+use Rattle.cilk_model.specs.Declaration.{Declaration}
+use Rattle.cilk_model.specs.Labelled.{Target, variable, Action, assign, return_with, close}
+use Rattle.cilk_model.specs.Values.{Cell}
+
+pub data Effect : Type 0 where
+  -- a cell takes a value
+  writes : (cell : Cell) (value : ℤ) → Effect
+  -- the body is left with a value
+  gives : (value : ℤ) → Effect
+
+-- the cell that is written to
+abbrev pub reached_cell : Environment Declaration → Target → Result Cell Trap
+reached_cell env (variable d) = Ok (record { place = d; index = 0 })
+
+-- the effect, or the first trap from the left
+abbrev pub effect_of : Environment Declaration → Action → Result Effect Trap
+-- C 1990, 6.3.16, with the place first
+effect_of env (assign target value) = reached_cell env target >>= λ cell. value_of env value >>= λ z. Ok (writes cell z)
+-- C 1990, 6.6.6.4
+effect_of env (return_with value) = value_of env value >>= λ z. Ok (gives z)
+-- C 1990, 6.6.6.4: where C leaves the value open, it is 0
+effect_of env close = Ok (gives (pos 0))
+
+-- what a place holds after an implicit inlet, where it held the first number (Cilk 5.4 manual, `spawn`)
+abbrev pub received : Option BinOp → ℤ → ℤ → Result ℤ Trap
+received None old z = Ok z
+received (Some op) old z = binary_result op old z

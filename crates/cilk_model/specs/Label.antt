@@ -1,0 +1,95 @@
+-- A program is labelled: its actions are numbered from 1 in the order of the canonical text.
+use Rattle.std.specs.Prelude.{ℕ, suc, ◌+◌, pos, List, [], ◌∷◌, ◌++◌, length, map, codes, Option, Some, None, bytes_eq, position}
+use Rattle.cilk_tree.specs.Tree as tree
+use Rattle.cilk_model.specs.Declaration.{local, global}
+use Rattle.cilk_model.specs.Scope.{Scope, meaning_of, with_local, with_locals, label_expr}
+use Rattle.cilk_model.specs.Labelled.{Target, variable, assign, return_with, Stmt, action, Stmts, none, also, Variable, Body, Labelled}
+use Rattle.cilk_model.specs.Count.{count_option, count_decls, count_stmt, count_block, count_item}
+use Rattle.cilk_model.specs.Lines.{action_lines}
+
+-- the variables that a block declares, and those that its statements declare (C 1990, 6.6.2)
+abbrev pub variable_of : tree.Decl → Variable
+variable_of d = record { name = d.name.text; length = 0; initial = pos 0 }
+
+abbrev pub stmt_variables : tree.Stmt → List Variable
+stmt_variables (tree.assign place value) = []
+stmt_variables (tree.return_with value) = []
+
+abbrev pub stmts_variables : tree.Stmts → List Variable
+stmts_variables tree.none = []
+stmts_variables (tree.also first others) = stmt_variables first ++ stmts_variables others
+
+abbrev pub block_variables : tree.Block → List Variable
+block_variables (tree.block decls stmts) = map variable_of decls ++ stmts_variables stmts
+
+-- the place that is written to (C 1990, 6.3.16)
+abbrev pub label_place : Scope → tree.Place → Target
+label_place scope place = variable (meaning_of scope place.name.text)
+
+-- an initialiser of declaration n, before what follows
+abbrev pub label_initialiser : Scope → ℕ → ℕ → Option tree.Expr → Stmts → Stmts
+label_initialiser scope at n None others = others
+label_initialiser scope at n (Some value) others =
+    also (action at (assign (variable (local n)) (label_expr scope value))) others
+
+-- a variable is visible from its declarator on, in its own initialiser too (C 1990, 6.1.2.1)
+abbrev pub label_decls : Scope → ℕ → ℕ → List tree.Decl → Stmts → Stmts
+label_decls scope at n [] others = others
+label_decls scope at n (d ∷ decls) others =
+    label_initialiser (with_local scope n d) at n d.value (label_decls (with_local scope n d) (at + count_option d.value) (suc n) decls others)
+
+-- where `at` is the number of the next action, and n that of the next declaration
+abbrev pub label_stmt : Scope → ℕ → ℕ → tree.Stmt → Stmt
+label_stmt scope at n (tree.assign place value) = action at (assign (label_place scope place) (label_expr scope value))
+label_stmt scope at n (tree.return_with value) = action at (return_with (label_expr scope value))
+
+abbrev pub label_stmts : Scope → ℕ → ℕ → tree.Stmts → Stmts
+label_stmts scope at n tree.none = none
+label_stmts scope at n (tree.also first others) =
+    also (label_stmt scope at n first) (label_stmts scope (at + count_stmt first) (n + length (stmt_variables first)) others)
+
+-- a block's statements see its declarations (C 1990, 6.6.2)
+abbrev pub label_block : Scope → ℕ → ℕ → tree.Block → Stmts
+label_block scope at n (tree.block decls stmts) =
+    label_decls scope at n decls (label_stmts (with_locals scope n decls) (at + count_decls decls) (n + length decls) stmts)
+
+abbrev pub label_procedure : Scope → ℕ → tree.Proc → Body
+label_procedure scope at p = record {
+  name = p.name.text;
+  parameters = 0;
+  variables = block_variables p.body;
+  stmts = label_block scope at 0 p.body;
+  closing = at + count_block p.body;
+}
+
+abbrev pub label_items : Scope → ℕ → List tree.Item → List Body
+label_items scope at [] = []
+label_items scope at (tree.procedure p ∷ others) =
+    label_procedure scope at p ∷ label_items scope (at + count_item (tree.procedure p)) others
+
+-- the variables of the top level (C 1990, 6.7.2)
+abbrev pub item_globals : tree.Item → List Variable
+item_globals (tree.procedure p) = []
+
+abbrev pub globals_of : List tree.Item → List Variable
+globals_of [] = []
+globals_of (first ∷ others) = item_globals first ++ globals_of others
+
+-- they are visible in the whole file
+abbrev pub global_scope : ℕ → List Variable → Scope
+global_scope n [] = []
+global_scope n (v ∷ variables) =
+    record { name = v.name; declaration = global n } ∷ global_scope (suc n) variables
+
+abbrev pub bodies_of : tree.Program → List Body
+bodies_of p = label_items (global_scope 0 (globals_of p.items)) 1 p.items
+
+-- the program starts at `main` (C 1990, 5.1.2.2.1)
+abbrev pub label : tree.Program → Labelled
+label p = record {
+  bodies = bodies_of p;
+  globals = globals_of p.items;
+  locks = [];
+  main = position (λ (b : Body). bytes_eq b.name (codes "main")) (bodies_of p);
+  lines = action_lines p;
+}

@@ -1,0 +1,52 @@
+-- The labelled program: a declaration in place of each use of a name, and a number at each action.
+use Rattle.std.specs.Prelude.{ℕ, ℤ, List, Option}
+use Rattle.cilk_eval.specs.Term.{Term}
+use Rattle.cilk_model.specs.Declaration.{Declaration}
+
+-- what an assignment writes to (C 1990, 6.3.16)
+pub data Target : Type 0 where
+  variable : (place : Declaration) → Target
+
+-- what an action does
+pub data Action : Type 0 where
+  -- an assignment, or an initialiser, which is one each time that it is reached (C 1990, 6.3.16, 6.5.7)
+  assign : (target : Target) (value : Term Declaration) → Action
+  -- C 1990, 6.6.6.4
+  return_with : (value : Term Declaration) → Action
+  -- the closing brace of a body (C 1990, 6.6.6.4; Cilk 5.4 manual, `cilk`)
+  close : Action
+
+-- a statement (C 1990, 6.6)
+pub data Stmt : Type 0 where
+  action : (n : ℕ) (act : Action) → Stmt
+
+-- statements in order
+pub data Stmts : Type 0 where
+  none : Stmts
+  also : (first : Stmt) (others : Stmts) → Stmts
+
+-- an `int` variable: 0 as the length of one that is no array, and what its cells hold at first
+pub record Variable : Type 0 where
+  pub name : List ℕ
+  pub length : ℕ
+  pub initial : ℤ
+
+pub record Body : Type 0 where
+  pub name : List ℕ
+  -- how many parameters it has, which come first among its variables
+  pub parameters : ℕ
+  -- those of its inner blocks too, in the order of the text
+  pub variables : List Variable
+  pub stmts : Stmts
+  -- the number of its closing brace
+  pub closing : ℕ
+
+pub record Labelled : Type 0 where
+  -- the bodies, variables and locks of the top level, each in the order of the text
+  pub bodies : List Body
+  pub globals : List Variable
+  pub locks : List (List ℕ)
+  -- the place of `main` among the bodies
+  pub main : Option ℕ
+  -- the line of each action in the canonical text, in the order of their numbers
+  pub lines : List ℕ
