@@ -1,0 +1,151 @@
+-- Each fault of the program is listed.
+use Rattle.std.proofs.Common.{◌≡◌, ◌≢◌, ℕ, nat_eq, List, [], ◌∷◌, ◌++◌, codes, map, inl, inr, refl, sym, subst, arith, length-append}
+use Rattle.std.proofs.lemmas.Bool.Decides.{Decides-eqb}
+use Rattle.cilk_tree.specs.Tree.{Word, Decl, Block, block, Proc, Item, procedure, Program}
+use Rattle.cilk_check.specs.declared.fault.CheckFault.{CheckFault}
+use Rattle.cilk_check.specs.declared.fault.CheckFault.TheVariants.{Twice, Unknown, WrongKind, NoMain, Limit, Reserved}
+use Rattle.cilk_check.specs.Names.{value_names, stmts_names, decls_of, stmts_of, declared, item_name, defined, IsAmong}
+use Rattle.cilk_check.specs.Reserved.{IsReserved}
+use Rattle.cilk_check.specs.Scope.{Defines, Scope, top_level, outermost, Use, in_initialiser, in_statement}
+use Rattle.cilk_check.specs.Fault.{cells, max_cells, Faulty, twice, unknown, wrong_kind, no_main, limit, reserved_declared, reserved_used}
+use Rattle.cilk_check.specs.Finds.{declares, defines, fault_if, along, use_faults, uses_faults, variable_faults, decl_faults, decls_faults, block_faults, definition_faults, item_faults, items_faults, main_faults, program_faults}
+use Rattle.cilk_check.proofs.Elements.{HasElement, HasElement-from_Contains, Contains-from_HasElement, split_at, split_map}
+use Rattle.cilk_check.proofs.Held.{Has, Has-append_left, Has-append_right, Has-fault_if, Has-flat_map, Has-along}
+use Rattle.cilk_check.proofs.Decided.{declares-Decides, defines-Decides, reserved-Decides, false_from}
+
+-- a fault of an element of a list is one along the list
+at_element : {X : Type 0} (faults : List X → X → List CheckFault) (xs before : List X) (x : X) (after : List X) (f : CheckFault) → xs ≡ before ++ x ∷ after → Has (faults before x) f → Has (along faults [] xs) f
+at_element faults xs before x after f order h =
+    subst (λ ys. Has (along faults [] ys) f) (sym order) (Has-along faults [] before x after f h)
+
+-- a text among the names of definitions is the name of one
+main_element : (items : List Item) (text : List ℕ) → HasElement (map (λ w. w.text) (defined items)) text → (d : Proc) × HasElement items (procedure d) × (d.name.text ≡ text)
+main_element [] text h = absurd h
+main_element (procedure d ∷ items) text (inl e) = (d, inl refl, e)
+main_element (procedure d ∷ items) text (inr h) = let m = main_element items text h in (m.0, inr m.1, m.2)
+
+module _ (p : Program) where
+  in_item : (before : List Item) (x : Item) (after : List Item) (f : CheckFault) → p.items ≡ before ++ x ∷ after → Has (item_faults p.items before x) f → Has (program_faults p) f
+  in_item before x after f order h =
+      Has-append_left (items_faults p.items) (main_faults p) f (at_element (item_faults p.items) p.items before x after f order h)
+
+  at_definition : (before : List Item) (x : Item) (after : List Item) (f : CheckFault) → p.items ≡ before ++ x ∷ after → Has (definition_faults before (item_name x)) f → Has (program_faults p) f
+  at_definition before (procedure d) after f order h =
+      in_item before (procedure d) after f order (Has-append_left (definition_faults before d.name) (block_faults p.items d.body) f h)
+
+  in_body : (d : Proc) (f : CheckFault) → Defines p d → Has (block_faults p.items d.body) f → Has (program_faults p) f
+  in_body d f is_defined h =
+      let s = split_at p.items (procedure d) (HasElement-from_Contains p.items (procedure d) is_defined) in
+      in_item s.before (procedure d) s.after f s.order (Has-append_right (definition_faults s.before d.name) (block_faults p.items d.body) f h)
+
+  decls_in_block : (b : Block) (f : CheckFault) → Has (decls_faults p.items (decls_of b)) f → Has (block_faults p.items b) f
+  decls_in_block (block decls stmts) f h =
+      Has-append_left (decls_faults p.items decls) (uses_faults p.items decls (stmts_names stmts)) f h
+
+  stmts_in_block : (b : Block) (f : CheckFault) → Has (uses_faults p.items (decls_of b) (stmts_names (stmts_of b))) f → Has (block_faults p.items b) f
+  stmts_in_block (block decls stmts) f h =
+      Has-append_right (decls_faults p.items decls) (uses_faults p.items decls (stmts_names stmts)) f h
+
+  in_decl : (d : Proc) (before : List Decl) (v : Decl) (after : List Decl) (f : CheckFault) → Defines p d → decls_of d.body ≡ before ++ v ∷ after → Has (decl_faults p.items before v) f → Has (program_faults p) f
+  in_decl d before v after f is_defined order h =
+      in_body d f is_defined (decls_in_block d.body f (at_element (decl_faults p.items) (decls_of d.body) before v after f order h))
+
+  at_variable : (d : Proc) (before : List Decl) (v : Decl) (after : List Decl) (f : CheckFault) → Defines p d → decls_of d.body ≡ before ++ v ∷ after → Has (variable_faults before v.name) f → Has (program_faults p) f
+  at_variable d before v after f is_defined order h =
+      in_decl d before v after f is_defined order (Has-append_left (variable_faults before v.name) (uses_faults p.items (before ++ v ∷ []) (value_names v.value)) f h)
+
+  -- a fault of a use, wherever the use stands
+  at_use : (names : List Word) (name : Word) (f : CheckFault) → Use p names name → ((visible : List Decl) → declared visible ≡ names → Has (use_faults p.items visible name) f) → Has (program_faults p) f
+  at_use names name f (in_initialiser d before after v _ is_defined order there) h =
+      let visible = before ++ v ∷ [] in
+      in_decl d before v after f is_defined order (Has-append_right (variable_faults before v.name) (uses_faults p.items visible (value_names v.value)) f (Has-flat_map (use_faults p.items visible) (value_names v.value) name f (HasElement-from_Contains (value_names v.value) name there) (h visible refl)))
+  at_use names name f (in_statement d _ is_defined there) h =
+      let visible = decls_of d.body in
+      in_body d f is_defined (stmts_in_block d.body f (Has-flat_map (use_faults p.items visible) (stmts_names (stmts_of d.body)) name f (HasElement-from_Contains (stmts_names (stmts_of d.body)) name there) (h visible refl)))
+
+  unknown_there : (visible : List Decl) (names : List Word) (name : Word) → declared visible ≡ names → ¬ IsReserved name → ¬ IsAmong name names → ¬ IsAmong name (defined p.items) → Has (use_faults p.items visible name) (Unknown name.place)
+  unfolding use_faults
+  unknown_there visible names name same nr nv nt =
+      let hidden : ¬ IsAmong name (declared visible) = subst (λ ws. ¬ IsAmong name ws) (sym same) nv in
+      rw (false_from _ (reserved-Decides name) nr, false_from _ (declares-Decides visible name) hidden, false_from _ (defines-Decides p.items name) nt) (inl refl)
+
+  wrong_kind_there : (visible : List Decl) (names : List Word) (name : Word) → declared visible ≡ names → ¬ IsReserved name → ¬ IsAmong name names → IsAmong name (defined p.items) → Has (use_faults p.items visible name) (WrongKind name.place)
+  unfolding use_faults
+  wrong_kind_there visible names name same nr nv top =
+      let hidden : ¬ IsAmong name (declared visible) = subst (λ ws. ¬ IsAmong name ws) (sym same) nv in
+      rw (false_from _ (reserved-Decides name) nr, false_from _ (declares-Decides visible name) hidden, (defines-Decides p.items name).1 top) (inl refl)
+
+  reserved_there : (visible : List Decl) (name : Word) → IsReserved name → Has (use_faults p.items visible name) (Reserved name.place)
+  unfolding use_faults
+  reserved_there visible name reserved = rw ((reserved-Decides name).1 reserved) (inl refl)
+
+  -- faults of a name that a definition or a declaration declares
+  top_twice : (before : List Item) (name : Word) → IsAmong name (defined before) → Has (definition_faults before name) (Twice name.place)
+  unfolding definition_faults
+  top_twice before name among =
+      Has-append_left (fault_if (defines before name.text) (Twice name.place)) _ _ (Has-fault_if _ _ ((defines-Decides before name).1 among))
+
+  top_reserved : (before : List Item) (name : Word) → IsReserved name → Has (definition_faults before name) (Reserved name.place)
+  unfolding definition_faults
+  top_reserved before name reserved =
+      Has-append_right (fault_if (defines before name.text) (Twice name.place)) _ _ (Has-fault_if _ _ ((reserved-Decides name).1 reserved))
+
+  variable_twice : (before : List Decl) (name : Word) → IsAmong name (declared before) → Has (variable_faults before name) (Twice name.place)
+  unfolding variable_faults
+  variable_twice before name among =
+      Has-append_left (fault_if (declares before name.text) (Twice name.place)) _ _ (Has-fault_if _ _ ((declares-Decides before name).1 among))
+
+  variable_limit : (before : List Decl) (name : Word) → cells before ≡ max_cells → Has (variable_faults before name) (Limit name.place)
+  unfolding variable_faults
+  variable_limit before name full =
+      Has-append_right (fault_if (declares before name.text) (Twice name.place)) _ _ (Has-append_left (fault_if (nat_eq (cells before) max_cells) (Limit name.place)) _ _ (Has-fault_if _ _ ((Decides-eqb (cells before) max_cells).1 full)))
+
+  variable_reserved : (before : List Decl) (name : Word) → IsReserved name → Has (variable_faults before name) (Reserved name.place)
+  unfolding variable_faults
+  variable_reserved before name reserved =
+      Has-append_right (fault_if (declares before name.text) (Twice name.place)) _ _ (Has-append_right (fault_if (nat_eq (cells before) max_cells) (Limit name.place)) _ _ (Has-fault_if _ _ ((reserved-Decides name).1 reserved)))
+
+  scope_twice : (names before after : List Word) (name : Word) → Scope p names → names ≡ before ++ name ∷ after → IsAmong name before → Has (program_faults p) (Twice name.place)
+  scope_twice names before after name top_level order among =
+      let s = split_map item_name p.items before name after order in
+      let first : IsAmong (item_name s.at) (defined s.before) = subst (λ w. IsAmong w (defined s.before)) (sym s.at_is) (subst (λ ws. IsAmong name ws) (sym s.before_is) among) in
+      subst (λ w. Has (program_faults p) (Twice w.place)) s.at_is (at_definition s.before s.at s.after _ s.order (top_twice s.before (item_name s.at) first))
+  scope_twice names before after name (outermost d is_defined) order among =
+      let s = split_map (λ (v : Decl). v.name) (decls_of d.body) before name after order in
+      let first : IsAmong s.at.name (declared s.before) = subst (λ w. IsAmong w (declared s.before)) (sym s.at_is) (subst (λ ws. IsAmong name ws) (sym s.before_is) among) in
+      subst (λ w. Has (program_faults p) (Twice w.place)) s.at_is (at_variable d s.before s.at s.after _ is_defined s.order (variable_twice s.before s.at.name first))
+
+  scope_reserved : (names before after : List Word) (name : Word) → Scope p names → names ≡ before ++ name ∷ after → IsReserved name → Has (program_faults p) (Reserved name.place)
+  scope_reserved names before after name top_level order reserved =
+      let s = split_map item_name p.items before name after order in
+      let it : IsReserved (item_name s.at) = subst IsReserved (sym s.at_is) reserved in
+      subst (λ w. Has (program_faults p) (Reserved w.place)) s.at_is (at_definition s.before s.at s.after _ s.order (top_reserved s.before (item_name s.at) it))
+  scope_reserved names before after name (outermost d is_defined) order reserved =
+      let s = split_map (λ (v : Decl). v.name) (decls_of d.body) before name after order in
+      let it : IsReserved s.at.name = subst IsReserved (sym s.at_is) reserved in
+      subst (λ w. Has (program_faults p) (Reserved w.place)) s.at_is (at_variable d s.before s.at s.after _ is_defined s.order (variable_reserved s.before s.at.name it))
+
+  pub main_defined : (items : List Item) → IsAmong (record { text = codes "main"; place = 0 }) (defined items) → (d : Proc) × HasElement items (procedure d) × (d.name.text ≡ codes "main")
+  main_defined items among = main_element items (codes "main") (HasElement-from_Contains _ _ among)
+
+  main_there : ((d : Proc) → Defines p d → d.name.text ≢ codes "main") → Has (main_faults p) (NoMain p.length)
+  unfolding main_faults
+  main_there none =
+      let word : Word = record { text = codes "main"; place = 0 } in
+      let absent : ¬ IsAmong word (defined p.items) = λ among. let m = main_defined p.items among in none m.0 (Contains-from_HasElement p.items (procedure m.0) m.1) m.2 in
+      rw (false_from _ (defines-Decides p.items word) absent) (inl refl)
+
+  pub program_complete : (f : CheckFault) → Faulty p f → Has (program_faults p) f
+  program_complete f (twice before after name scope among) = scope_twice _ before after name scope refl among
+  program_complete f (unknown visible name used nr nv nt) =
+      at_use visible name _ used (λ vs same. unknown_there vs visible name same nr nv nt)
+  program_complete f (wrong_kind visible name used nr nv top) =
+      at_use visible name _ used (λ vs same. wrong_kind_there vs visible name same nr nv top)
+  program_complete f (no_main none) = Has-append_right (items_faults p.items) (main_faults p) _ (main_there none)
+  program_complete f (limit d before after v is_defined order below past) =
+      at_variable d before v after _ is_defined order (variable_limit before v.name (omega (arith, below, past, length-append before (v ∷ []))))
+  program_complete f (reserved_declared names name scope there reserved) =
+      let s = split_at names name (HasElement-from_Contains names name there) in
+      scope_reserved names s.before s.after name scope s.order reserved
+  program_complete f (reserved_used visible name used reserved) =
+      at_use visible name _ used (λ vs same. reserved_there vs name reserved)

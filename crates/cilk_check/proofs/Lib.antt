@@ -1,0 +1,9 @@
+pub mod Firsts
+pub mod Spelled
+pub mod Steps
+pub mod Elements
+pub mod Held
+pub mod Decided
+pub mod Sound
+pub mod Complete
+pub mod WellFormedLaws

@@ -1,0 +1,10 @@
+use Rattle.cilk_check.proofs.WellFormedLaws.{used_is_free, used_is_visible, declared_once, cells_fit, main_is_defined}
+use Rattle.cilk_check.proofs.laws.names_are_declared.Goals as goal
+
+pub returns : goal.returns
+returns c = record {
+  visible = λ p visible name h used. (used_is_visible p h visible name used, used_is_free p h visible name used);
+  once = λ p before after name h scope. declared_once p h before after name scope;
+  fits = λ p f h is_defined. cells_fit p h f is_defined;
+  starts = λ p h. main_is_defined p h;
+}

@@ -1,0 +1,63 @@
+-- What a program must not have: the rules of names that no grammar says.
+use Rattle.std.specs.Prelude.{◌≡◌, ◌≢◌, ℕ, ◌≤◌, ◌<◌, List, [], ◌∷◌, ◌++◌, length, codes, Contains}
+use Rattle.cilk_tree.specs.Tree.{Word, Decl, Proc, Program}
+use Rattle.cilk_check.specs.declared.fault.CheckFault.{CheckFault}
+use Rattle.cilk_check.specs.declared.fault.CheckFault.TheVariants.{Twice, Unknown, WrongKind, NoMain, Limit, Reserved}
+use Rattle.cilk_check.specs.Names.{decls_of, defined, IsAmong}
+use Rattle.cilk_check.specs.Reserved.{IsReserved}
+use Rattle.cilk_check.specs.Scope.{Defines, Scope, Use}
+
+-- where a fault stands, in bytes from the beginning of the text
+abbrev pub place_of : CheckFault → ℕ
+place_of (Twice at) = at
+place_of (Unknown at) = at
+place_of (WrongKind at) = at
+place_of (NoMain at) = at
+place_of (Limit at) = at
+place_of (Reserved at) = at
+
+-- the number of its code
+abbrev pub number_of : CheckFault → ℕ
+number_of (Twice at) = 1
+number_of (Unknown at) = 2
+number_of (WrongKind at) = 3
+number_of (NoMain at) = 12
+number_of (Limit at) = 15
+number_of (Reserved at) = 16
+
+-- the cells that declarations take of an activation: an `int` variable takes one
+abbrev pub cells : List Decl → ℕ
+cells decls = length decls
+
+-- an activation has so many cells at most
+abbrev pub max_cells : ℕ
+max_cells = 4096
+
+pub data Faulty (p : Program) : CheckFault → Type 0 where
+  -- a scope declares a name that it has declared before (C 1990, 6.5)
+  twice : (before after : List Word) (name : Word) → Scope p (before ++ name ∷ after) → IsAmong name before → Faulty p (Twice name.place)
+  -- a use of a name that is not reserved and not visible, since the top level is visible everywhere (C 1990, 6.3.1)
+  unknown : (visible : List Word) (name : Word) → Use p visible name → ¬ IsReserved name → ¬ IsAmong name visible → ¬ IsAmong name (defined p.items) → Faulty p (Unknown name.place)
+  -- a use of a procedure's name, which no visible variable hides, where an `int` variable is needed (C 1990, 6.3.1)
+  wrong_kind : (visible : List Word) (name : Word) → Use p visible name → ¬ IsReserved name → ¬ IsAmong name visible → IsAmong name (defined p.items) → Faulty p (WrongKind name.place)
+  -- no procedure of the program is called `main` (C 1990, 5.1.2.2.1; Cilk 5.4 manual, `main`)
+  no_main : ((f : Proc) → Defines p f → f.name.text ≢ codes "main") → Faulty p (NoMain p.length)
+  -- the declaration that passes the cells of its activation
+  limit : (f : Proc) (before after : List Decl) (d : Decl) → Defines p f → decls_of f.body ≡ before ++ d ∷ after → cells before ≤ max_cells → max_cells < cells (before ++ d ∷ []) → Faulty p (Limit d.name.place)
+  -- a scope declares a reserved name
+  reserved_declared : (names : List Word) (name : Word) → Scope p names → Contains names name → IsReserved name → Faulty p (Reserved name.place)
+  -- a use of a reserved name
+  reserved_used : (visible : List Word) (name : Word) → Use p visible name → IsReserved name → Faulty p (Reserved name.place)
+
+-- no fault
+abbrev pub WellFormed : Program → Type 0
+WellFormed p = (f : CheckFault) → ¬ Faulty p f
+
+-- f stands before g, or at one place with it and has no greater number
+abbrev pub NoLater : CheckFault → CheckFault → Type 0
+NoLater f g = (place_of f ≤ place_of g) × (place_of f ≡ place_of g → number_of f ≤ number_of g)
+
+-- the fault at the least place, and there the one with the least number
+pub record IsFirstFault (p : Program) (f : CheckFault) : Type 0 where
+  pub is_fault : Faulty p f
+  pub is_first : (g : CheckFault) → Faulty p g → NoLater f g

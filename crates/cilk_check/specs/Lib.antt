@@ -1,0 +1,5 @@
+pub mod Names
+pub mod Reserved
+pub mod Scope
+pub mod Fault
+pub mod Finds
