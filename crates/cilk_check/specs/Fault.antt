@@ -33,10 +33,11 @@ cells decls = length decls
 abbrev pub max_cells : ℕ
 max_cells = 4096
 
+-- what is wrong in a program, and at which place
 pub data Faulty (p : Program) : CheckFault → Type 0 where
   -- a scope declares a name that it has declared before (C 1990, 6.5)
   twice : (before after : List Word) (name : Word) → Scope p (before ++ name ∷ after) → IsAmong name before → Faulty p (Twice name.place)
-  -- a use of a name that is not reserved and not visible, since the top level is visible everywhere (C 1990, 6.3.1)
+  -- a use of a name that is not reserved and not visible: no visible variable has it, nor the top level, which is visible everywhere (C 1990, 6.3.1)
   unknown : (visible : List Word) (name : Word) → Use p visible name → ¬ IsReserved name → ¬ IsAmong name visible → ¬ IsAmong name (defined p.items) → Faulty p (Unknown name.place)
   -- a use of a procedure's name, which no visible variable hides, where an `int` variable is needed (C 1990, 6.3.1)
   wrong_kind : (visible : List Word) (name : Word) → Use p visible name → ¬ IsReserved name → ¬ IsAmong name visible → IsAmong name (defined p.items) → Faulty p (WrongKind name.place)
