@@ -1,0 +1,5 @@
+pub mod Blocks
+pub mod Heights
+pub mod Nodes
+pub mod WellFormed
+pub mod TablesMade

@@ -1,0 +1,5 @@
+pub mod Slots
+pub mod Table
+pub mod Bodies
+pub mod Tables
+pub mod Pass

@@ -1,0 +1,30 @@
+//! The tables of a program that runs: its actions as numbered nodes, and its variables as slots.
+#![tactic(auto)]
+
+mod action;
+mod body;
+mod building;
+mod code;
+mod counts;
+mod fault;
+mod lines;
+mod loaded;
+mod loading;
+mod name;
+mod node;
+mod numbering;
+mod tables;
+mod var;
+mod variables;
+mod vars;
+
+pub use action::Action;
+pub use body::Body;
+pub use cilk_tree::Memory;
+pub use fault::LoadFault;
+pub use loaded::Loaded;
+pub use loading::load;
+pub use name::Name;
+pub use node::Node;
+pub use var::Var;
+pub use vars::Vars;

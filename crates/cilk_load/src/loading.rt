@@ -1,0 +1,53 @@
+ghost use Rattle.std.specs.Prelude.{◌≡◌, ◌<◌, ◌≤◌, ◌↔◌, IfOk, IsOk};
+ghost use Rattle.cilk_model.specs.Count.{count_program};
+
+use crate::building::{place_of_main, put_items};
+use crate::counts::{MAX_ACTIONS, count_items};
+use crate::fault::LoadFault;
+use crate::lines::action_lines;
+use crate::loaded::Loaded;
+use crate::tables::Tables;
+use cilk_check::Checked;
+use std::alloc::{AllocError, Global};
+use std::sync::Arc;
+
+/// Numbers the actions of a program and places its variables.
+pub fn load(alloc: Global, checked: Checked) -> Result<Loaded, LoadFault>
+    ensures value { IfOk result (λ loaded. loaded ≡ checked) }
+    ensures too_many { (result ≡ Err LoadFault.TooMany) ↔ (65535 < count_program checked) }
+{
+    let program = checked.program();
+    if count_items(&program.items) > MAX_ACTIONS {
+        return Err(LoadFault::TooMany);
+    }
+    loaded(alloc, checked).map_err(|_| LoadFault::Memory)
+}
+
+fn loaded(alloc: Global, checked: Checked) -> Result<Loaded, AllocError>
+    requires { count_program checked ≤ 65535 }
+    ensures { IfOk result (λ loaded. loaded ≡ checked) }
+{
+    let tables = tables_of(alloc, checked)?;
+    Ok(Loaded::new(Arc::new(alloc, tables)?))
+}
+
+fn tables_of(alloc: Global, checked: Checked) -> Result<Tables, AllocError>
+    requires { count_program checked ≤ 65535 }
+    ensures { IfOk result (λ tables. tables ≡ checked) }
+{
+    let mut nodes = Vec::new(alloc);
+    let mut bodies = Vec::new(alloc);
+    let program = checked.program();
+    put_items(alloc, &mut nodes, &mut bodies, &program.items)?;
+    let lines = action_lines(alloc, &program.items)?;
+    let main = place_of_main(&bodies);
+    Ok(Tables {
+        program: checked,
+        nodes,
+        lines,
+        bodies,
+        main,
+        globals: Vec::new(alloc),
+        locks: Vec::new(alloc),
+    })
+}
