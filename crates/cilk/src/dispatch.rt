@@ -1,10 +1,11 @@
-ghost use Rattle.std.specs.Prelude.{◌≡◌, ◌≢◌, ◌⊎◌, ◌↔◌, None};
+ghost use Rattle.std.specs.Prelude.{◌≡◌, ◌≢◌, ◌⊎◌, ◌↔◌, codes};
 ghost use Rattle.std.specs.IoError.{error_kind};
-ghost use Rattle.clap.specs.Words.{kind_of};
-ghost use Rattle.cilk_commands.specs.Printing.{Prints};
+ghost use Rattle.clap.specs.Words.{first_value, found_of, kind_of, subcommand_name_of};
+ghost use Rattle.cilk.specs.Task.{Does};
 
 use crate::arguments::{FILE, command};
-use cilk_commands::{Failure, Status, print_text};
+use crate::task::Task;
+use cilk_commands::{Failure, Status};
 use clap::error::ErrorKind;
 use clap::{ArgMatches, Error};
 use std::alloc::Global;
@@ -63,15 +64,19 @@ fn obey<R: AllocGlobal + Files + Input, O: Write, E: Write>(
     out: &mut O,
     err: &mut E,
 ) -> Status
-    ensures done { result ≡ Status.Done → Prints None (O.contents out.old) (O.contents out.new) }
+    ensures print { subcommand_name_of matches.now ≡ Some (codes "print") → result ≡ Status.Done
+        → Does Task.Print None (O.contents out.old) (O.contents out.new) }
+    ensures check { subcommand_name_of matches.now ≡ Some (codes "check") → result ≡ Status.Done
+        → Does Task.Check None (O.contents out.old) (O.contents out.new) }
+    ensures others { subcommand_name_of matches.now ≢ Some (codes "print")
+        → subcommand_name_of matches.now ≢ Some (codes "check") → result ≡ Status.Usage }
+
     ensures quiet { result ≡ Status.Done → err.new ≡ err.old }
     ensures kept { result ≢ Status.Done → result ≢ Status.Failed → out.new ≡ out.old }
 {
     match matches.subcommand() {
-        Some(("print", found)) => match found.get_str(FILE) {
-            Some(name) => print_file(rt, name, out, err),
-            None => Status::Usage,
-        },
+        Some(("print", found)) => on_file(rt, Task::Print, found, out, err),
+        Some(("check", found)) => on_file(rt, Task::Check, found, out, err),
         _ => Status::Usage,
     }
 }
@@ -100,22 +105,26 @@ fn show<O: Write, E: Write>(error: &Error, out: &mut O, err: &mut E) -> Status
     }
 }
 
-fn print_file<R: AllocGlobal + Files + Input, O: Write, E: Write>(
+fn on_file<R: AllocGlobal + Files + Input, O: Write, E: Write>(
     rt: &R,
-    name: &str,
+    task: Task,
+    found: &ArgMatches<'_>,
     out: &mut O,
     err: &mut E,
 ) -> Status
-    ensures done { result ≡ Status.Done → Prints None (O.contents out.old) (O.contents out.new) }
-    ensures usage { result ≢ Status.Usage }
+    ensures done { result ≡ Status.Done → Does task None (O.contents out.old) (O.contents out.new) }
+    ensures usage { result ≡ Status.Usage → first_value (found_of found.now) FILE.now ≡ None }
     ensures quiet { result ≡ Status.Done → err.new ≡ err.old }
     ensures kept { result ≢ Status.Done → result ≢ Status.Failed → out.new ≡ out.old }
 {
+    let Some(name) = found.get_str(FILE) else {
+        return Status::Usage;
+    };
     if name == "-" {
-        return print_text(rt.alloc(), name, &mut rt.reader(), out, err);
+        return task.perform(rt.alloc(), name, &mut rt.reader(), out, err);
     }
     match File::open(rt, name) {
-        Ok(mut file) => print_text(rt.alloc(), name, &mut file, out, err),
+        Ok(mut file) => task.perform(rt.alloc(), name, &mut file, out, err),
         Err(_) => Failure::CannotRead.report(name, err),
     }
 }

@@ -3,6 +3,7 @@
 
 mod arguments;
 mod dispatch;
+mod task;
 #[cfg(test)]
 mod tests;
 

@@ -17,6 +17,7 @@ fn answers_command_lines(rt: HostRuntime) -> Result<(), Fail> {
         (["cilk", "--help"].as_slice(), 0, "Reads"),
         (["cilk", "-h"].as_slice(), 0, "Reads"),
         (["cilk", "print", "-h"].as_slice(), 0, "Prints"),
+        (["cilk", "check", "-h"].as_slice(), 0, "Says"),
         (["cilk"].as_slice(), 2, "Reads"),
         (["cilk", "print"].as_slice(), 2, "error: the following"),
         (
@@ -36,6 +37,12 @@ fn answers_command_lines(rt: HostRuntime) -> Result<(), Fail> {
         ),
         (
             ["cilk", "print", "no/such file"].as_slice(),
+            7,
+            "cilk: cannot read no/such file\n",
+        ),
+        (["cilk", "check"].as_slice(), 2, "error: the following"),
+        (
+            ["cilk", "check", "no/such file"].as_slice(),
             7,
             "cilk: cannot read no/such file\n",
         ),

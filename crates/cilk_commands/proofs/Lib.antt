@@ -1,1 +1,3 @@
+pub mod NamePlaces
+pub mod FaultPlaces
 pub mod WholeText

@@ -3,9 +3,13 @@ use Rattle.std.proofs.Common.{◌≡◌, ◌≤◌, ◌<◌, ◌+◌, ◌∙◌,
 use Rattle.std.proofs.lemmas.List.{length-take, take_min}
 use Rattle.std.proofs.Math.Seq.{take-length}
 use Rattle.cilk_lex.specs.declared.reading.TheConstants.{TEXT_LIMIT}
-use Rattle.cilk_commands.specs.Printing.{Explains, IsAnswer, IsReadOf, IsNoProgram}
+use Rattle.cilk_tree.specs.Tree.{Program}
+use Rattle.cilk_commands.specs.Program.{Declines, Explains, Holds, IsReadOf, IsNoProgram, IsIllFormed, HasTooMany, IsProgram}
+use Rattle.cilk_commands.specs.Status.{status_of}
 use Rattle.cilk_commands.specs.declared.failure.Failure.{Failure}
 use Rattle.cilk_commands.specs.declared.failure.Failure.TheVariants as failure
+use Rattle.cilk_commands.specs.declared.fault.Fault.TheVariants as fault
+use Rattle.cilk_commands.specs.declared.status.Status.TheVariants as status
 
 -- a text of which so little was read was read whole
 read_whole : (bytes text : List ℕ) → text ≡ take (TEXT_LIMIT + 1) bytes → length text ≤ TEXT_LIMIT → text ≡ bytes
@@ -25,31 +29,29 @@ read_of (Some bytes) held limit start text same limited empty read =
     (subst (λ k. IfSome (option_map (take limit) k) (λ xs. text ≡ start ++ xs)) same read)) in
     known_read
 
--- all the bytes, or else those that were read
-abbrev pub whole_of : Option (List ℕ) → List ℕ → List ℕ
-whole_of None text = text
-whole_of (Some bytes) text = bytes
-
-pub whole_held : (known : Option (List ℕ)) (text : List ℕ) → IfSome known (λ all. whole_of known text ≡ all)
-whole_held None text = tt
-whole_held (Some bytes) text = refl
-
-pub answer_whole : (known : Option (List ℕ)) (text answer : List ℕ) → IsReadOf known text → IsAnswer text answer → IsAnswer (whole_of known text) answer
-answer_whole None text answer read told = told
-answer_whole (Some bytes) text answer read told = subst (λ t. IsAnswer t answer) (read_whole bytes text read told.short) told
+pub whole_held : (known : Option (List ℕ)) (text : List ℕ) (program : Program) → IsReadOf known text → IsProgram text program → Holds known program
+whole_held None text program read is = record { bytes = text; held = tt; is = is }
+whole_held (Some bytes) text program read is =
+    record { bytes = bytes; held = refl; is = subst (λ t. IsProgram t program) (read_whole bytes text read is.text.short) is }
 
 explains_read : (bytes text : List ℕ) (why : Failure) → text ≡ take (TEXT_LIMIT + 1) bytes → Explains text why → Explains bytes why
-explains_read bytes text (failure.Fault fault line column) read (inl told) =
+explains_read bytes text (failure.Fault (fault.Read found) line column) read (inl told) =
     let long : TEXT_LIMIT < length (take (TEXT_LIMIT + 1) bytes) = rw (← read) told.long in
     inl (record { long = omega (arith, length-take (TEXT_LIMIT + 1) bytes); fault_is = told.fault_is; line_is = told.line_is; column_is = told.column_is })
-explains_read bytes text (failure.Fault fault line column) read (inr told) =
-    inr (subst (λ t. IsNoProgram t fault line column) (read_whole bytes text read told.short) told)
+explains_read bytes text (failure.Fault (fault.Read found) line column) read (inr told) =
+    inr (subst (λ t. IsNoProgram t found line column) (read_whole bytes text read told.short) told)
+explains_read bytes text (failure.Fault (fault.Check found) line column) read told =
+    subst (λ t. IsIllFormed t found line column) (read_whole bytes text read told.text.short) told
 explains_read bytes text failure.NotUtf8 read told =
     subst (λ t. Explains t failure.NotUtf8) (read_whole bytes text read told.0) told
+explains_read bytes text failure.TooMany read told =
+    subst (λ t. HasTooMany t) (read_whole bytes text read told.text.short) told
 explains_read bytes text failure.Memory read told = tt
 explains_read bytes text failure.CannotRead read told = told
 explains_read bytes text failure.CannotWrite read told = told
 
-pub explains_whole : (known : Option (List ℕ)) (text : List ℕ) (why : Failure) → IsReadOf known text → Explains text why → Explains (whole_of known text) why
-explains_whole None text why read told = told
-explains_whole (Some bytes) text why read told = explains_read bytes text why read told
+pub whole_declined : (known : Option (List ℕ)) (text : List ℕ) (why : Failure) → IsReadOf known text → Explains text why → status_of why ≡ status.Refused → Declines known
+whole_declined None text why read told refused =
+    record { bytes = text; held = tt; why = why; explained = told; refused = refused }
+whole_declined (Some bytes) text why read told refused =
+    record { bytes = bytes; held = refl; why = why; explained = explains_read bytes text why read told; refused = refused }

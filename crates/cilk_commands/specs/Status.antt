@@ -13,10 +13,11 @@ code_of status.Usage = 2
 code_of status.Memory = 6
 code_of status.Failed = 7
 
--- a text that is no program is refused, and all that is neither that nor memory has failed
+-- a text that is no program that may be run is refused, and all that is neither that nor memory has failed
 abbrev pub status_of : Failure → Status
 status_of (failure.Fault fault line column) = status.Refused
 status_of failure.NotUtf8 = status.Refused
+status_of failure.TooMany = status.Refused
 status_of failure.Memory = status.Memory
 status_of failure.CannotRead = status.Failed
 status_of failure.CannotWrite = status.Failed

@@ -1,8 +1,8 @@
 ghost use Rattle.std.specs.Prelude.{◌≡◌, IfSome, OnOk};
 ghost use Rattle.std.specs.Io.KnownBytes.{Appends};
 
+use crate::fault::Fault;
 use crate::status::Status;
-use cilk_parse::ReadFault;
 use std::io;
 use std::io::Write;
 
@@ -14,12 +14,14 @@ pub enum Failure {
     /// A fault of the text, and the place of its first byte: line and column count from 1, the
     /// column in bytes.
     Fault {
-        fault: ReadFault,
+        fault: Fault,
         line: u32,
         column: u32,
     },
     /// The bytes are not UTF-8.
     NotUtf8,
+    /// The program has more than 65,535 actions.
+    TooMany,
     /// Memory has run out.
     Memory,
     /// The writer failed, so a part of the answer may be written.
@@ -35,7 +37,7 @@ impl Failure {
         ensures { result ≡ status_of self.now }
     {
         match self {
-            Failure::Fault { .. } | Failure::NotUtf8 => Status::Refused,
+            Failure::Fault { .. } | Failure::NotUtf8 | Failure::TooMany => Status::Refused,
             Failure::Memory => Status::Memory,
             Failure::CannotRead | Failure::CannotWrite => Status::Failed,
         }
@@ -62,6 +64,7 @@ impl Failure {
                 column,
             } => writeln!(err, "{name}:{line}:{column}: {fault}"),
             Failure::NotUtf8 => writeln!(err, "{name}: not UTF-8"),
+            Failure::TooMany => writeln!(err, "{name}: N1 TooMany"),
             Failure::Memory => writeln!(err, "cilk: out of memory"),
             Failure::CannotWrite => writeln!(err, "cilk: cannot write output"),
         }

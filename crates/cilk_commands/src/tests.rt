@@ -1,4 +1,4 @@
-use crate::{Status, print_text};
+use crate::{Status, check_text, print_text};
 use std::alloc::{AllocError, Global};
 use std::io;
 use std::io::{ErrorKind, Read, Write};
@@ -11,19 +11,36 @@ const CANONICAL: &str =
 
 const LIMIT: usize = 1048576;
 
-// What `print` made of a text that is called "-".
+// What a subcommand made of a text that is called "-".
 #[derive(Drop)]
-struct Printed {
+struct Told {
     status: Status,
     out: Vec<u8>,
     err: Vec<u8>,
 }
 
-fn print(alloc: Global, mut text: &[u8]) -> Printed {
+fn print(alloc: Global, mut text: &[u8]) -> Told {
     let mut out = Vec::new(alloc);
     let mut err = Vec::new(alloc);
     let status = print_text(alloc, "-", &mut text, &mut out, &mut err);
-    Printed { status, out, err }
+    Told { status, out, err }
+}
+
+fn check(alloc: Global, mut text: &[u8]) -> Told {
+    let mut out = Vec::new(alloc);
+    let mut err = Vec::new(alloc);
+    let status = check_text(alloc, "-", &mut text, &mut out, &mut err);
+    Told { status, out, err }
+}
+
+// A program of so many assignments, and of three actions more.
+fn long_program(alloc: Global, assignments: usize) -> Result<String, AllocError> {
+    let mut text = String::from_str(alloc, "cilk int main(){int a=1;")?;
+    for _ in 0..assignments {
+        text.push_str("a=2;")?;
+    }
+    text.push_str("return a;}")?;
+    Ok(text)
 }
 
 // Gives a part of the sample at each call but the one numbered `fails_at`, from 1.
@@ -77,28 +94,59 @@ impl Write for BrokenWriter {
 
 #[test]
 fn prints_a_program(rt: HostRuntime) {
-    for (text, printed) in [("", ""), (SAMPLE, CANONICAL)] {
-        let got = print(rt.alloc(), text.as_bytes());
-        assert_eq!(rt; got.status.code(), 0);
-        assert_eq!(rt; got.out.as_slice(), printed.as_bytes());
-        assert!(rt; got.err.is_empty());
-    }
+    let got = print(rt.alloc(), SAMPLE.as_bytes());
+    assert_eq!(rt; got.status.code(), 0);
+    assert_eq!(rt; got.out.as_slice(), CANONICAL.as_bytes());
+    assert!(rt; got.err.is_empty());
 }
 
 #[test]
-fn tells_a_fault_and_its_place(rt: HostRuntime) {
+fn counts_actions(rt: HostRuntime) -> Result<(), Fail> {
+    let full = long_program(rt.alloc(), 65532)?;
+    for (text, line) in [
+        (SAMPLE, "ok, 4 actions\n"),
+        ("cilk int main(void) {}", "ok, 1 actions\n"),
+        (full.as_str(), "ok, 65535 actions\n"),
+    ] {
+        let got = check(rt.alloc(), text.as_bytes());
+        assert_eq!(rt; got.status.code(), 0);
+        assert_eq!(rt; got.out.as_slice(), line.as_bytes());
+        assert!(rt; got.err.is_empty());
+    }
+    Ok(())
+}
+
+#[test]
+fn tells_a_fault_and_its_place(rt: HostRuntime) -> Result<(), Fail> {
+    let long = long_program(rt.alloc(), 65533)?;
     for (text, line) in [
         (
             "cilk int main(void) { return 010; }",
             "-:1:30: L5 BadNumber\n",
         ),
         ("cilk int main(void) {\n  int @;\n}", "-:2:7: L2 BadByte\n"),
+        ("", "-:1:1: C12 NoMain\n"),
+        ("\n ", "-:2:2: C12 NoMain\n"),
+        ("cilk int main(void) { return x; }", "-:1:30: C2 Unknown\n"),
+        (
+            "cilk int main(void) { int a;\n int a; return b; }",
+            "-:2:6: C1 Twice\n",
+        ),
+        (
+            "cilk int main(void) { return x; ",
+            "-:1:33: P2 Unexpected\n",
+        ),
+        (long.as_str(), "-: N1 TooMany\n"),
     ] {
-        let got = print(rt.alloc(), text.as_bytes());
-        assert_eq!(rt; got.status.code(), 1);
-        assert!(rt; got.out.is_empty());
-        assert_eq!(rt; got.err.as_slice(), line.as_bytes());
+        let printed = print(rt.alloc(), text.as_bytes());
+        let checked = check(rt.alloc(), text.as_bytes());
+        for got in [printed, checked] {
+            assert_eq!(rt; got.status.code(), 1);
+            assert!(rt; got.out.is_empty());
+            assert_eq!(rt; got.err.as_slice(), line.as_bytes());
+        }
     }
+    Ok(())
 }
 
 #[test]

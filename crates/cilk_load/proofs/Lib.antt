@@ -3,3 +3,5 @@ pub mod Heights
 pub mod Nodes
 pub mod WellFormed
 pub mod TablesMade
+pub mod Numbers
+pub mod ReachedLists

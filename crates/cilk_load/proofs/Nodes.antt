@@ -20,7 +20,7 @@ use Rattle.cilk_load.specs.declared.var.Var.{Var}
 use Rattle.cilk_load.specs.declared.action.Action.TheVariants.{Assign, Return, Close}
 use Rattle.cilk_load.specs.declared.node.Node.{Node}
 use Rattle.cilk_load.specs.Slots.{size_of, slot_from, slot_of}
-use Rattle.cilk_load.specs.Table.{node_at, stmts_lists, body_lists, nodes_from}
+use Rattle.cilk_load.specs.Table.{node_over, node_at, stmts_lists, body_lists, nodes_from}
 use Rattle.cilk_load.specs.Bodies.{vars_from}
 use Rattle.cilk_load.specs.Pass.{nowhere, slot_in, code_in, assignment_node, initialiser_nodes, decls_nodes, stmts_nodes, block_nodes, closing_node, block_vars, item_nodes, items_nodes}
 use Rattle.cilk_load.proofs.Blocks.{Starts, starts_at, stmts-start, decls-start, block_variables-decls}
@@ -60,7 +60,7 @@ assignment-is slots b scope vars at name e s next agree is_slot is_next = λ i. 
 }
 
 pub stmts-are : (slots : Declaration → Slot) (b : ℕ) (scope : Scope) (vars : List Var) → Agree slots scope vars → (at n : ℕ) (ss : tree.Stmts) (items : Items) → Starts items (at + count_stmts ss)
-    → stmts_nodes b vars at ss ≡ filter_map (node_at slots b) (stmts_lists (label_stmts scope at n ss) items)
+    → stmts_nodes b vars at ss ≡ filter_map (node_over slots b) (stmts_lists (label_stmts scope at n ss) items)
 stmts-are slots b scope vars agree at n tree.none items h = refl
 stmts-are slots b scope vars agree at n (tree.also (tree.assign place value) others) items h =
     let e : at + (1 + count_stmts others) ≡ at + 1 + count_stmts others = omega arith in
@@ -72,8 +72,8 @@ stmts-are slots b scope vars agree at n (tree.also (tree.return_with value) othe
     λ i. record { action = Return (code_in-label slots scope vars agree value i); next = None; body = b } ∷ stmts-are slots b scope vars agree (at + 1) (n + 0) others items h' i
 
 init-are : (slots : Declaration → Slot) (b : ℕ) (scope : Scope) (vars : List Var) → Agree slots scope vars → (at n : ℕ) (name : List ℕ) (value : Option tree.Expr) (after : Stmts) (items : Items) (rest : List Node) → slot_in nowhere vars name ≡ slots (local n) → Starts (pieces after items) (at + count_option value)
-    → rest ≡ filter_map (node_at slots b) (stmts_lists after items)
-    → initialiser_nodes b vars at name value ++ rest ≡ filter_map (node_at slots b) (stmts_lists (label_initialiser scope at n value after) items)
+    → rest ≡ filter_map (node_over slots b) (stmts_lists after items)
+    → initialiser_nodes b vars at name value ++ rest ≡ filter_map (node_over slots b) (stmts_lists (label_initialiser scope at n value after) items)
 init-are slots b scope vars agree at n name None after items rest is_slot starts h = h
 init-are slots b scope vars agree at n name (Some value) after items rest is_slot starts h =
     λ i. assignment-is slots b scope vars at name value _ _ agree is_slot starts i ∷ h i
@@ -116,8 +116,8 @@ agree-all slots scope seen offset n agree (d ∷ ds) h =
     (agree-all slots (with_local scope n d) (seen ++ v ∷ []) (offset + 1) (suc n) (agree-push slots scope seen v n d agree refl here) ds h')
 
 pub decls-are : (slots : Declaration → Slot) (b : ℕ) (scope : Scope) (seen : List Var) (offset m n : ℕ) → Agree slots scope seen → m ≡ length seen → (ds : List tree.Decl) (at : ℕ) (others : Stmts) (items : Items) (rest : List Node) → ((k : ℕ) → slots (local (n + k)) ≡ slot_from Own offset (map variable_of ds) k)
-    → Starts (pieces others items) (at + count_decls ds) → rest ≡ filter_map (node_at slots b) (stmts_lists others items)
-    → decls_nodes b (seen ++ vars_from Own offset (map variable_of ds)) m at ds ++ rest ≡ filter_map (node_at slots b) (stmts_lists (label_decls scope at n ds others) items)
+    → Starts (pieces others items) (at + count_decls ds) → rest ≡ filter_map (node_over slots b) (stmts_lists others items)
+    → decls_nodes b (seen ++ vars_from Own offset (map variable_of ds)) m at ds ++ rest ≡ filter_map (node_over slots b) (stmts_lists (label_decls scope at n ds others) items)
 decls-are slots b scope seen offset m n agree is_m [] at others items rest h starts is_rest = is_rest
 decls-are slots b scope seen offset m n agree is_m (d ∷ ds) at others items rest h starts is_rest =
     let v : Var = var_at offset d in
@@ -129,7 +129,7 @@ decls-are slots b scope seen offset m n agree is_m (d ∷ ds) at others items re
     let starts' = starts_at (pieces others items) _ _ e starts in
     let m' : m + 1 ≡ length (seen ++ v ∷ []) = omega (arith, length-append seen (v ∷ [])) in
     let visible : take (m + 1) (seen ++ v ∷ vs) ≡ seen ++ v ∷ [] = ap (λ k. take k (seen ++ v ∷ vs)) (one-more m (length seen) is_m) ∙ take-seam seen vs v in
-    let later : decls_nodes b ((seen ++ v ∷ []) ++ vs) (m + 1) (at + count_option d.value) ds ++ rest ≡ filter_map (node_at slots b) (stmts_lists (label_decls (with_local scope n d) (at + count_option d.value) (suc n) ds others) items) =
+    let later : decls_nodes b ((seen ++ v ∷ []) ++ vs) (m + 1) (at + count_option d.value) ds ++ rest ≡ filter_map (node_over slots b) (stmts_lists (label_decls (with_local scope n d) (at + count_option d.value) (suc n) ds others) items) =
     decls-are slots b (with_local scope n d) (seen ++ v ∷ []) (offset + 1) (m + 1) (suc n) agree' m' ds (at + count_option d.value) others items rest h' starts' is_rest in
     let own : slot_in nowhere (seen ++ v ∷ []) d.name.text ≡ slots (local n) = agree' d.name.text ∙ own-name slots d.name.text (local n) (meaning_of scope d.name.text) in
     append_assoc (initialiser_nodes b (take (m + 1) (seen ++ v ∷ vs)) at d.name.text d.value) (decls_nodes b (seen ++ v ∷ vs) (m + 1) (at + count_option d.value) ds) rest
@@ -139,7 +139,7 @@ decls-are slots b scope seen offset m n agree is_m (d ∷ ds) at others items re
 
 -- of a body, where the slots are those of its variables
 pub body-are : (slots : Declaration → Slot) (b at : ℕ) (name : tree.Word) (ds : List tree.Decl) (ss : tree.Stmts) → ((k : ℕ) → slots (local k) ≡ slot_from Own 0 (map variable_of ds) k) → slots unknown ≡ nowhere
-    → item_nodes b at (tree.procedure (record { name = name; body = tree.block ds ss })) ≡ filter_map (node_at slots b) (body_lists (label_procedure [] at (record { name = name; body = tree.block ds ss })))
+    → item_nodes b at (tree.procedure (record { name = name; body = tree.block ds ss })) ≡ filter_map (node_over slots b) (body_lists (label_procedure [] at (record { name = name; body = tree.block ds ss })))
 body-are slots b at name ds ss h missing =
     let vs : List Var = vars_from Own 0 (map variable_of ds) in
     let items : Items = closing_items (at + (count_decls ds + count_stmts ss)) in
@@ -153,16 +153,16 @@ body-are slots b at name ds ss h missing =
     let front = decls-are slots b [] [] 0 0 0 none_yet refl ds at after items (stmts_nodes b vs (at + count_decls ds) ss) h' (stmts-start (with_locals [] 0 ds) (at + count_decls ds) (0 + length ds) ss items starts) rest in
     ap (λ (ws : List Variable). block_nodes b (vars_from Own 0 ws) at (tree.block ds ss) ++ closing_node b ∷ []) (block_variables-decls ds ss)
     ∙ ap (λ (ns : List Node). ns ++ closing_node b ∷ []) front
-    ∙ sym (filter_map-append (node_at slots b) (stmts_lists (label_block [] at 0 (tree.block ds ss)) items) (items ∷ []))
+    ∙ sym (filter_map-append (node_over slots b) (stmts_lists (label_block [] at 0 (tree.block ds ss)) items) (items ∷ []))
 
 body-found : (program : Labelled) (b : ℕ) (pre rest : List Body) (body : Body) → b ≡ length pre → program.bodies ≡ pre ++ body ∷ rest → body_at program b ≡ body
 body-found program b pre rest body e h =
     ap (λ (bodies : List Body). slice_index_or bodies b no_body) h ∙ ap (λ k. slice_index_or (pre ++ body ∷ rest) k no_body) e ∙ get_or-append_seam pre body rest no_body
 
-one-body : (program : Labelled) (n at : ℕ) (p : tree.Proc) → body_at program n ≡ label_procedure [] at p → item_nodes n at (tree.procedure p) ≡ filter_map (node_at (slot_of program n) n) (body_lists (label_procedure [] at p))
+one-body : (program : Labelled) (n at : ℕ) (p : tree.Proc) → body_at program n ≡ label_procedure [] at p → item_nodes n at (tree.procedure p) ≡ filter_map (node_at program n) (body_lists (label_procedure [] at p))
 one-body program n at p found = by_parts p.name p.body found
   where
-    by_parts : (name : tree.Word) (b : tree.Block) → body_at program n ≡ label_procedure [] at (record { name = name; body = b }) → item_nodes n at (tree.procedure (record { name = name; body = b })) ≡ filter_map (node_at (slot_of program n) n) (body_lists (label_procedure [] at (record { name = name; body = b })))
+    by_parts : (name : tree.Word) (b : tree.Block) → body_at program n ≡ label_procedure [] at (record { name = name; body = b }) → item_nodes n at (tree.procedure (record { name = name; body = b })) ≡ filter_map (node_at program n) (body_lists (label_procedure [] at (record { name = name; body = b })))
     by_parts name (tree.block ds ss) found =
         body-are (slot_of program n) n at name ds ss (λ k. ap (λ (body : Body). slot_from Own 0 body.variables k) found ∙ ap (λ (vs : List Variable). slot_from Own 0 vs k) (block_variables-decls ds ss)) refl
 

@@ -95,6 +95,6 @@ found_at m n h = ap (λ (b : Bool). is_some (cond b (Some m) None)) (lt-ltb m n 
 -- one of the bodies is that of `main`
 pub main_there : (p : Program) → WellFormed p → (at : ℕ) → IsSome (position (λ body. bytes_eq body.name (codes "main")) (items_bodies at p.items))
 main_there p ok at = elim (named_or_not (codes "main") p.items at) [
-  inl h ↦ found_at _ _ h
+  | inl h ↦ found_at _ _ h
   | inr missing ↦ absurd (ok _ (no_main (λ f there same. false≢true (sym (missing f (HasElement-from_Contains p.items (procedure f) there)) ∙ (bytes_eq-Decides f.name.text (codes "main")).1 same))))
 ]

@@ -2,4 +2,5 @@ pub mod Slots
 pub mod Table
 pub mod Bodies
 pub mod Tables
+pub mod Laws
 pub mod Pass

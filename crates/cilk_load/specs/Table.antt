@@ -27,9 +27,12 @@ abbrev pub number_of : Items → Option ℕ
 number_of items = option_map (λ (h : Head). h.number) (head_of items)
 
 -- the node of the action in front of an opened list of body b, with these slots
-abbrev pub node_at : (Declaration → Slot) → ℕ → Items → Option Node
-node_at slots b items =
+abbrev pub node_over : (Declaration → Slot) → ℕ → Items → Option Node
+node_over slots b items =
     option_map (λ (h : Head). record { action = slotted slots h.act; next = number_of (opened (next true items)); body = b }) (head_of items)
+
+abbrev pub node_at : Labelled → ℕ → Items → Option Node
+node_at program b items = node_over (slot_of program b) b items
 
 -- the opened lists in front of which an action of a statement stands, which comes before these items
 abbrev pub stmt_lists : Stmt → Items → List Items
@@ -47,7 +50,7 @@ body_lists body = stmts_lists body.stmts (closing_items body.closing) ++ closing
 abbrev pub nodes_from : Labelled → ℕ → List Body → List Node
 nodes_from program b [] = []
 nodes_from program b (body ∷ bodies) =
-    filter_map (node_at (slot_of program b) b) (body_lists body) ++ nodes_from program (suc b) bodies
+    filter_map (node_at program b) (body_lists body) ++ nodes_from program (suc b) bodies
 
 abbrev pub nodes_of : Labelled → List Node
 nodes_of program = nodes_from program 0 program.bodies

@@ -94,7 +94,5 @@ fn place_of(bodies: &[Body], name: &str) -> Option<usize>
     ensures value { result ≡ position (λ body. bytes_eq body.name name.now) bodies.now }
     ensures bound { IfSome result (λ place. place < length bodies.now) }
 {
-    bodies
-        .iter()
-        .position(|body| body.name.as_str() == name)
+    bodies.iter().position(|body| body.name.as_str() == name)
 }

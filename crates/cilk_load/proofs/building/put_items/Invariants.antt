@@ -9,5 +9,5 @@ invariant-loop-item l = record {
   bodies : l.bodies.items ++ items_bodies (vec_len l.nodes + 1) (drop l.item-index l.items) ≡ l.initial.bodies.items ++ items_bodies (vec_len l.initial.nodes + 1) l.items;
   len : vec_len l.nodes + count_items (drop l.item-index l.items) ≡ vec_len l.initial.nodes + count_items l.items;
   count : vec_len l.bodies ≡ vec_len l.initial.bodies + l.item-index;
-  small : AllAreSmall (drop l.item-index l.items)
+  small : AllAreSmall (drop l.item-index l.items);
 }

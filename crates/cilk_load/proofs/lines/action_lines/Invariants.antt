@@ -8,5 +8,5 @@ abbrev pub invariant-loop-item : goal.invariant-loop-item
 invariant-loop-item l = record {
   lines : l.lines.items ++ items_action_lines l.line (drop l.item-index l.items) ≡ items_action_lines 1 l.items;
   len : vec_len l.lines + count_items (drop l.item-index l.items) ≡ count_items l.items;
-  line : l.line + length (items_lines (drop l.item-index l.items)) ≡ 1 + length (items_lines l.items)
+  line : l.line + length (items_lines (drop l.item-index l.items)) ≡ 1 + length (items_lines l.items);
 }

@@ -1,6 +1,6 @@
 use Rattle.std.proofs.Common.{ap}
 use Rattle.cilk_commands.proofs.WholeText.{read_of}
-use Rattle.cilk_commands.proofs.print.read_text.Goals as goal
+use Rattle.cilk_commands.proofs.source.read_text.Goals as goal
 
 pub returns-in-Ok-clause-ok : goal.returns-in-Ok-clause-ok
 returns-in-Ok-clause-ok g c =

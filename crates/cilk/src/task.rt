@@ -1,0 +1,42 @@
+ghost use Rattle.std.specs.Prelude.{◌≡◌, ◌≢◌};
+ghost use Rattle.cilk_commands.specs.Program.{Declines};
+
+use cilk_commands::{Status, check_text, print_text};
+use std::alloc::Global;
+use std::io::{Read, Write};
+
+/// What the command line asks for, of one program.
+#[derive(Clone, Copy, Debug, PartialEq, Eq)]
+pub enum Task {
+    /// To print its canonical text.
+    Print,
+    /// To say whether it may be run.
+    Check,
+}
+
+impl Task {
+    ghost use Rattle.cilk.specs.Task.{Does};
+
+    /// Does it to the text that the reader holds, whose name is `name`.
+    pub fn perform<R: Read, O: Write, E: Write>(
+        self,
+        alloc: Global,
+        name: &str,
+        reader: &mut R,
+        out: &mut O,
+        err: &mut E,
+    ) -> Status
+        ensures done { result ≡ Status.Done
+            → Does self (R.remaining reader.old) (O.contents out.old) (O.contents out.new) }
+        ensures refused { result ≡ Status.Refused → Declines (R.remaining reader.old) }
+        ensures usage { result ≢ Status.Usage }
+
+        ensures quiet { result ≡ Status.Done → err.new ≡ err.old }
+        ensures kept { result ≢ Status.Done → result ≢ Status.Failed → out.new ≡ out.old }
+    {
+        match self {
+            Task::Print => print_text(alloc, name, reader, out, err),
+            Task::Check => check_text(alloc, name, reader, out, err),
+        }
+    }
+}

@@ -1,0 +1,38 @@
+ghost use Rattle.std.specs.Prelude.{◌≡◌, ◌≢◌, IfOk, IfErr};
+ghost use Rattle.cilk_commands.specs.Program.{Declines, Holds, IsReadOf};
+ghost use Rattle.cilk_commands.specs.Status.{status_of};
+
+use crate::failure::Failure;
+use crate::program::program_of;
+use crate::status::Status;
+use cilk_lex::TEXT_LIMIT;
+use cilk_load::Loaded;
+use std::alloc::Global;
+use std::io::{ErrorKind, Read};
+
+// One byte more than a text may have, so that a longer one is seen.
+const MOST_BYTES: u64 = TEXT_LIMIT as u64 + 1;
+
+/// The program that a reader holds, ready to run.
+pub fn program_from<R: Read>(alloc: Global, reader: &mut R) -> Result<Loaded, Failure>
+    ensures ok { IfOk result (Holds (R.remaining reader.old)) }
+    ensures err { IfErr result (λ why. status_of why ≡ Status.Refused
+        → Declines (R.remaining reader.old)) }
+    ensures reads { IfErr result (λ why. why ≢ Failure.CannotWrite) }
+{
+    let bytes = read_text(alloc, reader)?;
+    program_of(alloc, bytes.as_slice())
+}
+
+fn read_text<R: Read>(alloc: Global, reader: &mut R) -> Result<Vec<u8>, Failure>
+    ensures ok { IfOk result (λ text. IsReadOf (R.remaining reader.old) text.items) }
+    ensures status { IfErr result (λ why. status_of why ≢ Status.Refused) }
+    ensures reads { IfErr result (λ why. why ≢ Failure.CannotWrite) }
+{
+    let mut bytes = Vec::new(alloc);
+    match reader.take(MOST_BYTES).read_to_end(&mut bytes) {
+        Ok(_) => Ok(bytes),
+        Err(error) if error.kind() == ErrorKind::OutOfMemory => Err(Failure::Memory),
+        Err(_) => Err(Failure::CannotRead),
+    }
+}

@@ -1,0 +1,4 @@
+pub mod Frames
+pub mod Starts
+pub mod Stands
+pub mod Reads

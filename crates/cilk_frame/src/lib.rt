@@ -1,0 +1,31 @@
+//! Frames: where an instance of a procedure goes on, and what its variables hold.
+//!
+//! A frame has one owner, and there is no second frame of an instance. The compiler refuses each
+//! of these functions, the first since a frame has no method `clone`, and the second since a frame
+//! that was spent is no more:
+//!
+//! ```text
+//! fn twice(frame: &Frame) -> Frame {
+//!     frame.clone()
+//! }
+//!
+//! fn spent(frame: Frame) -> u32 {
+//!     frame.finish();
+//!     frame.depth()
+//! }
+//! ```
+#![tactic(auto)]
+
+mod activation;
+mod awaited;
+mod frame;
+mod id;
+mod laws;
+#[cfg(test)]
+mod tests;
+
+pub use awaited::Await;
+pub use cilk_load::Memory;
+pub use frame::Frame;
+pub use id::Id;
+pub use laws::{a_call_stands, a_start_stands, a_write_stands, an_action_stands, values_are_seen};
