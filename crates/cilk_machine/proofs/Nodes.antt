@@ -1,0 +1,205 @@
+-- The nodes of the code, and the steps that they come to.
+use Rattle.std.proofs.Common.{◌≡◌, ℕ, ◌<◌, ℤ, pos, true, [], length, map, Some, None, Result, Ok, Err, refl, sym, ap, ◌∙◌, subst, arith, add-zero}
+use Rattle.cilk_tree.specs.Tree as tree
+use Rattle.cilk_eval.specs.declared.trap.Trap.{Trap}
+use Rattle.cilk_eval.specs.declared.slot.Slot.{Slot}
+use Rattle.cilk_eval.specs.Term.{Term, rename}
+use Rattle.cilk_eval.specs.Slots as slots
+use Rattle.cilk_eval.specs.Slots.{sizes_of, SlotsLieWithin}
+use Rattle.cilk_eval.specs.Value.{value_of, ◌>>=◌}
+use Rattle.cilk_model.specs.Declaration.{Declaration, local, global, unknown}
+use Rattle.cilk_model.specs.Labelled.{Action, variable, assign, return_with, close}
+use Rattle.cilk_model.specs.Label.{label}
+use Rattle.cilk_model.specs.Items.{head_of, opened, next}
+use Rattle.cilk_model.specs.Values.{environment, with_value}
+use Rattle.cilk_model.specs.Effect.{Effect, writes, gives, effect_of}
+use Rattle.cilk_model.specs.Instance.{Instance, body_at}
+use Rattle.cilk_model.specs.Change.{head_effect, gone_on}
+use Rattle.cilk_load.specs.declared.node.Node.{Node}
+use Rattle.cilk_load.specs.declared.action.Action as code
+use Rattle.cilk_load.specs.declared.action.Action.TheVariants.{Assign, Return, Close}
+use Rattle.cilk_load.specs.Slots.{size_of, slot_of}
+use Rattle.cilk_load.specs.Table.{number_of, slotted, node_of}
+use Rattle.cilk_frame.specs.Frames.{Frame, top_of}
+use Rattle.cilk_frame.specs.Stands.{StandsFor}
+use Rattle.cilk_frame.specs.Reads.{HasCell, cell_place, IsDeclared, IsArray, IsKnown, Seen, lent, seen_by}
+use Rattle.cilk_frame.proofs.Tops.{top-stands}
+use Rattle.cilk_frame.proofs.Steps.{assign-stands, write-within, lent-seen}
+use Rattle.cilk_frame.proofs.Values.{value-same, slots-within}
+use Rattle.cilk_machine.specs.declared.kind.Kind.TheVariants.{Value}
+use Rattle.cilk_machine.specs.declared.outcome.Outcome.TheVariants.{Running, Finished, Trapped}
+use Rattle.cilk_machine.specs.declared.event.Event.TheVariants as did
+use Rattle.cilk_machine.specs.Standing.{instance_in}
+use Rattle.cilk_machine.specs.Sound.{Holds}
+use Rattle.cilk_machine.specs.Steps.{StepsTo, advanced}
+use Rattle.cilk_machine.proofs.Known.{KnownAct}
+use Rattle.cilk_machine.proofs.Bodies.{globals-none, assign_goes_on}
+use Rattle.cilk_machine.proofs.Unique.{IsLone, holds_lone, same_instance}
+use Rattle.cilk_machine.proofs.Acts.{Before, runs, with_frame, traps, goes, ends}
+
+-- the labelled action of a node, by the node's own
+pub record OfAssign (slots : Declaration → Slot) (act : Action) (slot : Slot) (code : Term Slot) : Type 0 where
+  pub place : Declaration
+  pub value : Term Declaration
+  pub act_is : act ≡ assign (variable place) value
+  pub slot_is : slots place ≡ slot
+  pub code_is : rename slots value ≡ code
+
+of_assign : (slots : Declaration → Slot) (act : Action) (slot : Slot) (code : Term Slot) → slotted slots act ≡ Assign slot code → OfAssign slots act slot code
+of_assign slots (assign (variable d) value) slot code h =
+    record { place = d; value = value; act_is = refl; slot_is = cc; code_is = cc }
+of_assign slots (return_with value) slot code h = cc
+of_assign slots close slot code h = cc
+
+pub record OfReturn (slots : Declaration → Slot) (act : Action) (code : Term Slot) : Type 0 where
+  pub value : Term Declaration
+  pub act_is : act ≡ return_with value
+  pub code_is : rename slots value ≡ code
+
+of_return : (slots : Declaration → Slot) (act : Action) (code : Term Slot) → slotted slots act ≡ Return code → OfReturn slots act code
+of_return slots (assign (variable d) value) code h = cc
+of_return slots (return_with value) code h = record { value = value; act_is = refl; code_is = cc }
+of_return slots close code h = cc
+
+of_close : (slots : Declaration → Slot) (act : Action) → slotted slots act ≡ Close → act ≡ close
+of_close slots (assign (variable d) value) h = cc
+of_close slots (return_with value) h = cc
+of_close slots close h = refl
+
+some_same : {A : Type 0} (x y : A) → Some x ≡ Some y → x ≡ y
+some_same x y h = cc
+
+module _ (p : tree.Program) (workers choices : ℕ) (f : Frame) (holds : Holds (label p) (Some f)) (b : Before p f) (node : Node) (found : Some node ≡ node_of p (top_of f).node) where
+  abbrev here : Instance
+  here = instance_in (label p) f
+
+  abbrev slots_here : Declaration → Slot
+  slots_here = slot_of (label p) here.top.body
+
+  abbrev node_here : Node
+  node_here = record { action = slotted slots_here b.head.act; next = number_of (opened (next true here.top.items)); body = here.top.body }
+
+  node_is : node ≡ node_here
+  node_is = some_same node node_here (found ∙ b.node)
+
+  action_is : (a : code.Action) → node.action ≡ a → slotted slots_here b.head.act ≡ a
+  action_is a h = ap (λ (x : Node). x.action) (sym node_is) ∙ h
+
+  next_is : (n : ℕ) → node.next ≡ Some n → number_of (opened (next true here.top.items)) ≡ Some n
+  next_is n h = ap (λ (x : Node). x.next) (sym node_is) ∙ h
+
+  seen : Seen (label p) here.top.body (lent f [] [] true) (seen_by here [] true)
+  seen = lent-seen (label p) f here [] [] true holds (ap (map size_of) (sym (globals-none p.items)))
+
+  -- an expression of the node, and what it means
+  abbrev Means : Term Declaration → Term Slot → Type 0
+  Means value code = (rename slots_here value ≡ code) × IsKnown (label p) here.top.body value
+
+  within : (value : Term Declaration) (code : Term Slot) → Means value code → SlotsLieWithin (sizes_of (lent f [] [] true)) code
+  within value code (same, known) =
+      subst (SlotsLieWithin (sizes_of (lent f [] [] true))) same (slots-within (label p) here.top.body (lent f [] [] true) (seen_by here [] true) value seen known)
+
+  valued : (value : Term Declaration) (code : Term Slot) (r : Result ℤ Trap) → Means value code → r ≡ value_of (slots.environment (lent f [] [] true)) code
+      → value_of (environment (seen_by here [] true)) value ≡ r
+  valued value code r (same, known) h =
+      sym (value-same (label p) here.top.body (lent f [] [] true) (seen_by here [] true) value seen known)
+      ∙ ap (value_of (slots.environment (lent f [] [] true))) same ∙ sym h
+
+  -- the variable that an assignment writes to
+  local_of : (d : Declaration) → IsDeclared (label p) here.top.body d → (n : ℕ) × (d ≡ local n) × (n < length (body_at (label p) here.top.body).variables)
+  local_of (local n) h = (n, refl, h)
+  local_of (global n) h = absurd (let none = ap length (globals-none p.items) in omega arith)
+  local_of unknown h = absurd h
+
+  assign_known : (slot : Slot) (code : Term Slot) (o : OfAssign slots_here b.head.act slot code) → IsDeclared (label p) here.top.body o.place × Means o.value code
+  assign_known slot code o =
+      let k = subst (KnownAct (IsDeclared (label p) here.top.body) (IsArray (label p) here.top.body)) o.act_is b.known in
+      (k.0, (o.code_is, k.1))
+
+  return_known : (code : Term Slot) (o : OfReturn slots_here b.head.act code) → Means o.value code
+  return_known code o =
+      (o.code_is, subst (KnownAct (IsDeclared (label p) here.top.body) (IsArray (label p) here.top.body)) o.act_is b.known)
+
+  pub assign_within : (slot : Slot) (code : Term Slot) → node.action ≡ Assign slot code → SlotsLieWithin (sizes_of (lent f [] [] true)) code
+  assign_within slot code h =
+      let o = of_assign slots_here b.head.act slot code (action_is _ h) in
+      within o.value code (assign_known slot code o).1
+
+  pub return_within : (code : Term Slot) → node.action ≡ Return code → SlotsLieWithin (sizes_of (lent f [] [] true)) code
+  return_within code h =
+      let o = of_return slots_here b.head.act code (action_is _ h) in
+      within o.value code (return_known code o)
+
+  abbrev effect : Result Effect Trap
+  effect = head_effect (runs p f) [] here b.head
+
+  abbrev written_by : ℕ → Result ℤ Trap → Result Effect Trap
+  written_by n r = r >>= λ z. Ok (writes (record { place = local n; index = 0 }) z)
+
+  abbrev given_by : Result ℤ Trap → Result Effect Trap
+  given_by r = r >>= λ z. Ok (gives z)
+
+  assign_effect : (slot : Slot) (code : Term Slot) (r : Result ℤ Trap) (o : OfAssign slots_here b.head.act slot code) (n : ℕ) → o.place ≡ local n → r ≡ value_of (slots.environment (lent f [] [] true)) code
+      → effect ≡ written_by n r
+  assign_effect slot code r o n local_is h =
+      ap (effect_of (environment (seen_by here [] true))) (o.act_is ∙ ap (λ d. assign (variable d) o.value) local_is)
+      ∙ ap (written_by n) (valued o.value code r (assign_known slot code o).1 h)
+
+  return_effect : (code : Term Slot) (r : Result ℤ Trap) → node.action ≡ Return code → r ≡ value_of (slots.environment (lent f [] [] true)) code → effect ≡ given_by r
+  return_effect code r is h =
+      let o = of_return slots_here b.head.act code (action_is _ is) in
+      ap (effect_of (environment (seen_by here [] true))) o.act_is
+      ∙ ap given_by (valued o.value code r (return_known code o) h)
+
+  pub assign_traps : (slot : Slot) (code : Term Slot) (trap : Trap) → node.action ≡ Assign slot code → Err trap ≡ value_of (slots.environment (lent f [] [] true)) code
+      → StepsTo (with_frame p workers choices f) (Some f) (Trapped (Value trap) [] (top_of f).node) (did.Trapped (Value trap) [] (top_of f).node)
+  assign_traps slot code trap is h =
+      let o = of_assign slots_here b.head.act slot code (action_is _ is) in
+      let l = local_of o.place (assign_known slot code o).0 in
+      traps p workers choices f b trap (assign_effect slot code (Err trap) o l.0 l.1 h) holds
+
+  pub return_traps : (code : Term Slot) (trap : Trap) → node.action ≡ Return code → Err trap ≡ value_of (slots.environment (lent f [] [] true)) code
+      → StepsTo (with_frame p workers choices f) (Some f) (Trapped (Value trap) [] (top_of f).node) (did.Trapped (Value trap) [] (top_of f).node)
+  return_traps code trap is h = traps p workers choices f b trap (return_effect code (Err trap) is h) holds
+
+  pub return_ends : (code : Term Slot) (z : ℤ) → node.action ≡ Return code → Ok z ≡ value_of (slots.environment (lent f [] [] true)) code
+      → StepsTo (with_frame p workers choices f) None (Finished z) (did.Returned [] (top_of f).node)
+  return_ends code z is h = ends p workers choices f b z (return_effect code (Ok z) is h)
+
+  pub close_ends : node.action ≡ Close → StepsTo (with_frame p workers choices f) None (Finished (pos 0)) (did.Returned [] (top_of f).node)
+  close_ends is =
+      ends p workers choices f b (pos 0) (ap (effect_of (environment (seen_by here [] true))) (of_close slots_here b.head.act (action_is _ is)))
+
+  has_cell : (n : ℕ) → n < length (body_at (label p) here.top.body).variables → HasCell (label p) here.top.body n 0
+  has_cell n h = (h, omega arith)
+
+  cell_is : (slot : Slot) (code : Term Slot) (o : OfAssign slots_here b.head.act slot code) (n : ℕ) → o.place ≡ local n → cell_place (label p) here.top.body n 0 ≡ slot.offset
+  cell_is slot code o n local_is =
+      add-zero (slots_here (local n)).offset ∙ ap (λ d. (slots_here d).offset) (sym local_is) ∙ ap (λ (s : Slot). s.offset) o.slot_is
+
+  -- the cell of an assignment is there
+  pub assign_cell : (slot : Slot) (code : Term Slot) → node.action ≡ Assign slot code → slot.offset < length (top_of f).cells
+  assign_cell slot code is =
+      let o = of_assign slots_here b.head.act slot code (action_is _ is) in
+      let l = local_of o.place (assign_known slot code o).0 in
+      subst (λ k. k < length (top_of f).cells) (cell_is slot code o l.0 l.1) (write-within (label p) f here l.0 0 holds (has_cell l.0 l.2))
+
+  -- after an assignment there is another action
+  pub assign_next : (slot : Slot) (code : Term Slot) → node.action ≡ Assign slot code → node.next ≡ None → ⊥
+  assign_next slot code is none =
+      let o = of_assign slots_here b.head.act slot code (action_is _ is) in
+      let top = top-stands (label p) f here holds in
+      assign_goes_on (body_at (label p) here.top.body) top.answers b.head (variable o.place) o.value (ap head_of (sym top.reached_by) ∙ b.first) o.act_is
+      (ap (λ items. number_of (opened (next true items))) (sym top.reached_by) ∙ ap (λ (x : Node). x.next) (sym node_is) ∙ none)
+
+  pub assign_goes : (slot : Slot) (code : Term Slot) (z : ℤ) (n : ℕ) → node.action ≡ Assign slot code → node.next ≡ Some n → Ok z ≡ value_of (slots.environment (lent f [] [] true)) code
+      → StepsTo (with_frame p workers choices f) (Some (advanced slot.offset z n f)) Running (did.Acted [] (top_of f).node)
+  assign_goes slot code z n is then h =
+      let o = of_assign slots_here b.head.act slot code (action_is _ is) in
+      let l = local_of o.place (assign_known slot code o).0 in
+      let stands = assign-stands (label p) f here l.0 0 z n holds (has_cell l.0 l.2) (next_is n then) in
+      let after : Instance = gone_on true (with_value here.top.values l.0 0 z) here in
+      let stands' = subst (λ k. StandsFor (label p) (advanced k z n f) after) (cell_is slot code o l.0 l.1) stands in
+      let lone : IsLone after = record { awaits = refl; below = refl; waiting = refl; children = refl; aborted = refl; receiver = refl } in
+      goes p workers choices f b l.0 z (advanced slot.offset z n f) (assign_effect slot code (Ok z) o l.0 l.1 h)
+      (same_instance p (advanced slot.offset z n f) after stands' lone) (holds_lone p (advanced slot.offset z n f) after stands' lone)

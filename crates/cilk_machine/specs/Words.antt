@@ -1,0 +1,62 @@
+-- What the choices, refusals, events and ends of the code mean.
+use Rattle.std.specs.Prelude.{Option, Some, None}
+use Rattle.cilk_model.specs.State as state
+use Rattle.cilk_model.specs.Choice as model
+use Rattle.cilk_model.specs.Event as event
+use Rattle.cilk_model.specs.End as end
+use Rattle.cilk_machine.specs.declared.act.Act.{Act}
+use Rattle.cilk_machine.specs.declared.act.Act.TheVariants.{Step, Pop, Steal}
+use Rattle.cilk_machine.specs.declared.choice.Choice.{Choice}
+use Rattle.cilk_machine.specs.declared.kind.Kind.{Kind}
+use Rattle.cilk_machine.specs.declared.kind.Kind.TheVariants.{Value, Lock, HeldLock, Depth, Instances, Output}
+use Rattle.cilk_machine.specs.declared.outcome.Outcome.{Outcome}
+use Rattle.cilk_machine.specs.declared.outcome.Outcome.TheVariants as outcome
+use Rattle.cilk_machine.specs.declared.event.Event.{Event}
+use Rattle.cilk_machine.specs.declared.event.Event.TheVariants.{Acted, Returned, Trapped, Moved}
+use Rattle.cilk_machine.specs.declared.end.End.{End}
+use Rattle.cilk_machine.specs.declared.end.End.TheVariants as ends
+use Rattle.cilk_machine.specs.declared.refusal.Refusal.{Refusal}
+use Rattle.cilk_machine.specs.declared.refusal.Refusal.TheVariants.{Over, NoWorker, HandEmpty, Busy, DequeEmpty, Waiting, Memory}
+
+abbrev pub act_of : Act → model.Act
+act_of Step = model.step
+act_of Pop = model.pop
+act_of (Steal victim) = model.steal victim
+
+abbrev pub choice_of : Choice → model.Choice
+choice_of choice = record { worker = choice.worker; act = act_of choice.act }
+
+-- what a refusal says of the choice: want of memory is no reason of the program's
+abbrev pub reason_of : Refusal → Option model.Refusal
+reason_of Over = Some model.over
+reason_of NoWorker = Some model.no_worker
+reason_of HandEmpty = Some model.hand_empty
+reason_of Busy = Some model.busy
+reason_of DequeEmpty = Some model.deque_empty
+reason_of Waiting = Some model.waiting
+reason_of Memory = None
+
+abbrev pub kind_of : Kind → state.Kind
+kind_of (Value trap) = state.of_value trap
+kind_of Lock = state.lock
+kind_of HeldLock = state.held_lock
+kind_of Depth = state.depth
+kind_of Instances = state.instances
+kind_of Output = state.output
+
+abbrev pub outcome_of : Outcome → state.Outcome
+outcome_of outcome.Running = state.running
+outcome_of (outcome.Finished value) = state.finished value
+outcome_of (outcome.Trapped kind path n) = state.trapped (kind_of kind) path n
+
+abbrev pub event_of : Event → event.Event
+event_of (Acted path n) = event.acted path n
+event_of (Returned path n) = event.returned path n
+event_of (Trapped kind path n) = event.trapped (kind_of kind) path n
+event_of Moved = event.moved
+
+abbrev pub end_of : End → end.End
+end_of (ends.Finished value) = end.finished value
+end_of (ends.Trapped kind path n line) = end.trapped (kind_of kind) path n line
+end_of ends.Stuck = end.stuck
+end_of ends.Limit = end.limit

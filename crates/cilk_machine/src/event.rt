@@ -1,0 +1,15 @@
+use crate::kind::Kind;
+use crate::path::Path;
+
+/// What a choice did. The number n is that of an action of the program.
+#[derive(Debug, Drop)]
+pub enum Event {
+    /// The instance acted n.
+    Acted { path: Path, n: u32 },
+    /// The instance ended with a value, by n.
+    Returned { path: Path, n: u32 },
+    /// The instance was trapped at n, and the program ended.
+    Trapped { kind: Kind, path: Path, n: u32 },
+    /// An instance was moved, and nothing else was changed.
+    Moved,
+}
