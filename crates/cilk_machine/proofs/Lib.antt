@@ -6,3 +6,7 @@ pub mod Bodies
 pub mod Unique
 pub mod Acts
 pub mod Nodes
+pub mod Hands
+pub mod Ready
+pub mod Stuck
+pub mod Starts

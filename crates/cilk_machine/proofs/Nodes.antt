@@ -1,5 +1,6 @@
 -- The nodes of the code, and the steps that they come to.
-use Rattle.std.proofs.Common.{◌≡◌, ℕ, ◌<◌, ℤ, pos, true, [], length, map, Some, None, Result, Ok, Err, refl, sym, ap, ◌∙◌, subst, arith, add-zero}
+use Rattle.std.proofs.Common.{◌≡◌, ℕ, ◌+◌, ◌<◌, ℤ, pos, Bool, true, List, [], ◌∷◌, length, map, Option, Some, None, Result, Ok, Err, refl, sym, ap, ◌∙◌, subst, arith, add-zero}
+use Rattle.std.specs.Prelude.{⊤, option_map, max}
 use Rattle.cilk_tree.specs.Tree as tree
 use Rattle.cilk_eval.specs.declared.trap.Trap.{Trap}
 use Rattle.cilk_eval.specs.declared.slot.Slot.{Slot}
@@ -8,10 +9,10 @@ use Rattle.cilk_eval.specs.Slots as slots
 use Rattle.cilk_eval.specs.Slots.{sizes_of, SlotsLieWithin}
 use Rattle.cilk_eval.specs.Value.{value_of, ◌>>=◌}
 use Rattle.cilk_model.specs.Declaration.{Declaration, local, global, unknown}
-use Rattle.cilk_model.specs.Labelled.{Action, variable, assign, return_with, close}
+use Rattle.cilk_model.specs.Labelled.{Action, variable, assign, return_with, close, Labelled}
 use Rattle.cilk_model.specs.Label.{label}
-use Rattle.cilk_model.specs.Items.{head_of, opened, next}
-use Rattle.cilk_model.specs.Values.{environment, with_value}
+use Rattle.cilk_model.specs.Items.{Head, head_of, opened, next}
+use Rattle.cilk_model.specs.Values.{Cell, environment, with_value}
 use Rattle.cilk_model.specs.Effect.{Effect, writes, gives, effect_of}
 use Rattle.cilk_model.specs.Instance.{Instance, body_at}
 use Rattle.cilk_model.specs.Change.{head_effect, gone_on}
@@ -27,15 +28,18 @@ use Rattle.cilk_frame.proofs.Tops.{top-stands}
 use Rattle.cilk_frame.proofs.Steps.{assign-stands, write-within, lent-seen}
 use Rattle.cilk_frame.proofs.Values.{value-same, slots-within}
 use Rattle.cilk_machine.specs.declared.kind.Kind.TheVariants.{Value}
+use Rattle.cilk_machine.specs.declared.outcome.Outcome.{Outcome}
+use Rattle.cilk_machine.specs.declared.event.Event.{Event}
+use Rattle.cilk_machine.specs.Situation.{Situation}
 use Rattle.cilk_machine.specs.declared.outcome.Outcome.TheVariants.{Running, Finished, Trapped}
 use Rattle.cilk_machine.specs.declared.event.Event.TheVariants as did
 use Rattle.cilk_machine.specs.Standing.{instance_in}
 use Rattle.cilk_machine.specs.Sound.{Holds}
-use Rattle.cilk_machine.specs.Steps.{StepsTo, advanced}
+use Rattle.cilk_machine.specs.Steps.{StepsTo, advanced, with_frame}
 use Rattle.cilk_machine.proofs.Known.{KnownAct}
 use Rattle.cilk_machine.proofs.Bodies.{globals-none, assign_goes_on}
 use Rattle.cilk_machine.proofs.Unique.{IsLone, holds_lone, same_instance}
-use Rattle.cilk_machine.proofs.Acts.{Before, runs, with_frame, traps, goes, ends}
+use Rattle.cilk_machine.proofs.Acts.{Before, runs, traps, goes, ends}
 
 -- the labelled action of a node, by the node's own
 pub record OfAssign (slots : Declaration → Slot) (act : Action) (slot : Slot) (code : Term Slot) : Type 0 where
@@ -68,6 +72,12 @@ of_close slots close h = refl
 
 some_same : {A : Type 0} (x y : A) → Some x ≡ Some y → x ≡ y
 some_same x y h = cc
+
+-- the same step in other words
+pub steps_as : (m : Situation) (hand same_hand : Option Frame) (outcome same_outcome : Outcome) (event same_event : Event) → hand ≡ same_hand → outcome ≡ same_outcome → event ≡ same_event
+    → StepsTo m same_hand same_outcome same_event → StepsTo m hand outcome event
+steps_as m hand same_hand outcome same_outcome event same_event h o e s =
+    subst (λ x. StepsTo m x outcome event) (sym h) (subst (λ x. StepsTo m same_hand x event) (sym o) (subst (λ x. StepsTo m same_hand same_outcome x) (sym e) s))
 
 module _ (p : tree.Program) (workers choices : ℕ) (f : Frame) (holds : Holds (label p) (Some f)) (b : Before p f) (node : Node) (found : Some node ≡ node_of p (top_of f).node) where
   abbrev here : Instance

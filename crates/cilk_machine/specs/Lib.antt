@@ -4,3 +4,6 @@ pub mod Situation
 pub mod Standing
 pub mod Sound
 pub mod Steps
+pub mod Made
+pub mod Ready
+pub mod Coding

@@ -9,5 +9,5 @@ pub enum MachineFault {
     Workers,
     /// Memory has run out.
     #[error("out of memory")]
-    Memory(#[from] Memory),
+    Memory(Memory),
 }

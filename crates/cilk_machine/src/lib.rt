@@ -11,6 +11,7 @@ mod kind;
 mod outcome;
 mod path;
 mod refusal;
+mod step;
 #[cfg(test)]
 mod tests;
 
