@@ -1,6 +1,7 @@
 ghost use Rattle.std.specs.Prelude.{◌≡◌, ◌≤◌, ◌↔◌, IsSome, IfOk, Some, option_copied, string_bytes};
 ghost use Rattle.std.specs.Arc.{arc_value};
 ghost use Rattle.cilk_tree.specs.ProgramText.{program_text};
+ghost use Rattle.cilk_check.specs.Fault.{WellFormed};
 ghost use Rattle.cilk_model.specs.Label.{label};
 ghost use Rattle.cilk_model.specs.Count.{count_program};
 ghost use Rattle.cilk_model.specs.End as model;
@@ -11,7 +12,7 @@ use crate::body::Body;
 use crate::node::Node;
 use crate::tables::Tables;
 use crate::var::Var;
-use cilk_tree::{Memory, canonical};
+use cilk_tree::{Memory, Program, canonical};
 use std::marker::Model;
 use std::sync::Arc;
 
@@ -39,6 +40,15 @@ impl Loaded {
         ensures { result ≡ arc_value tables }
     {
         Loaded { tables }
+    }
+
+    /// The program's tree, which may be run.
+    pub fn program(&self) -> &Program
+        ensures value { result.now ≡ self.now }
+        ensures well_formed { WellFormed self.now }
+    {
+        let tables: &Tables = &self.tables;
+        tables.program.program()
     }
 
     /// How many actions the program has.

@@ -72,3 +72,18 @@ goes_on m n choice did made choices events before =
     ∙ ap (one_more (label m.program) choice) before
     ∙ ap (λ (o : Option model.Refusal). if is_none o then Some (position_after (label m.program) (position_of m events) choice) else None) made.possible
     ∙ ap Some (λ i. record { standing = sym made.standing i; events = events ++ sym made.event i ∷ [] })
+
+frame_held : (m : Situation) (f : Frame) → m.hand ≡ Some f → m.outcome ≡ Running → m ≡ with_frame m.program m.workers m.choices f
+frame_held m f held runs = λ i. record { program = m.program; workers = m.workers; hand = held i; outcome = runs i; choices = m.choices }
+
+-- the same of a machine where the choice is possible, by its parts
+pub makes_in : (m : Situation) (choice : Choice) (f : Frame) → 1 ≤ m.workers → IsReady m choice → m.hand ≡ Some f → (hand : Option Frame) (outcome : Outcome) (event : code.Event) → StepsTo (with_frame m.program m.workers m.choices f) hand outcome event
+    → Makes m (record { program = m.program; workers = m.workers; hand = hand; outcome = outcome; choices = m.choices + 1 }) (choice_of choice) (words.event_of event)
+makes_in m choice f some ready held hand outcome event steps =
+    let next : Situation = record { program = m.program; workers = m.workers; hand = hand; outcome = outcome; choices = m.choices + 1 } in
+    subst (λ (k : model.Choice). Makes m next k (words.event_of event)) (sym (ready_is m choice ready))
+    (subst (λ (x : Situation). Makes x next first_step (words.event_of event)) (sym (frame_held m f held ready.runs))
+    (makes m.program m.workers m.choices f some hand outcome event steps))
+
+pub makes_of : (m old n : Situation) (choice : model.Choice) (did : Event) → m ≡ old → Makes m n choice did → Makes old n choice did
+makes_of m old n choice did is made = subst (λ (x : Situation). Makes x n choice did) is made
