@@ -104,10 +104,18 @@ fn steal(worker: u8, victim: u8) -> Choice {
     }
 }
 
+// Makes a choice of a machine that has made few.
+fn make(machine: &mut Machine, choice: Choice) -> Result<Event, Refusal> {
+    if 1000 < machine.choices() {
+        return Err(Refusal::Memory);
+    }
+    machine.make(choice)
+}
+
 // The number of the action that was acted.
 fn acts(machine: &mut Machine) -> Option<u32> {
-    match machine.make(step(1)) {
-        Ok(Event::Acted { path, n }) if path.as_slice().is_empty() => Some(n),
+    match make(machine, step(1)) {
+        Ok(Event::Acted { path, n }) => path.as_slice().is_empty().then_some(n),
         _ => None,
     }
 }
@@ -122,7 +130,12 @@ fn steps_to_the_value_of_main(rt: HostRuntime) -> Result<(), Fail> {
     assert_eq!(rt; acts(&mut machine), Some(2));
     assert!(rt; matches!(machine.outcome(), Outcome::Running));
     assert!(rt; !machine.is_stuck());
-    assert!(rt; matches!(machine.make(step(1)), Ok(Event::Returned { n: 3, .. })));
+    assert!(rt;
+        matches!(
+            make(&mut machine, step(1)),
+            Ok(Event::Returned { n: 3, .. })
+        )
+    );
     assert!(rt; matches!(machine.outcome(), Outcome::Finished(9)));
     assert!(rt; matches!(machine.end_now()?, End::Finished(9)));
     assert!(rt; !machine.is_stuck());
@@ -136,7 +149,12 @@ fn the_closing_brace_returns_nothing(rt: HostRuntime) -> Result<(), Fail> {
     let alloc = rt.alloc();
     let loaded = main_of(alloc, Vec::new(alloc), Vec::new(alloc))?;
     let mut machine = Machine::new(alloc, loaded, 64)?;
-    assert!(rt; matches!(machine.make(step(1)), Ok(Event::Returned { n: 1, .. })));
+    assert!(rt;
+        matches!(
+            make(&mut machine, step(1)),
+            Ok(Event::Returned { n: 1, .. })
+        )
+    );
     assert!(rt; matches!(machine.outcome(), Outcome::Finished(0)));
     Ok(())
 }
@@ -147,7 +165,7 @@ fn a_trap_ends_the_program(rt: HostRuntime) -> Result<(), Fail> {
     let greatest = binary(alloc, BinOp::Add, number(2147483647), number(1))?;
     let mut machine = Machine::new(alloc, returning(alloc, greatest)?, 1)?;
     let overflow = Kind::Value(Trap::Overflow);
-    match machine.make(step(1)) {
+    match make(&mut machine, step(1)) {
         Ok(Event::Trapped { kind, path, n: 1 }) => {
             assert_eq!(rt; kind, overflow);
             assert!(rt; path.as_slice().is_empty());
@@ -167,7 +185,7 @@ fn a_trap_ends_the_program(rt: HostRuntime) -> Result<(), Fail> {
         _ => assert!(rt; false),
     }
     assert_eq!(rt; machine.choices(), 1);
-    assert_eq!(rt; machine.make(step(1)).err(), Some(Refusal::Over));
+    assert_eq!(rt; make(&mut machine, step(1)).err(), Some(Refusal::Over));
     Ok(())
 }
 
@@ -188,13 +206,13 @@ fn what_is_not_possible_is_refused(rt: HostRuntime) -> Result<(), Fail> {
         (pop(1), Refusal::Busy),
         (steal(1, 2), Refusal::Busy),
     ] {
-        assert_eq!(rt; machine.make(choice).err(), Some(refusal));
+        assert_eq!(rt; make(&mut machine, choice).err(), Some(refusal));
         assert_eq!(rt; machine.choices(), 0);
         assert!(rt; matches!(machine.outcome(), Outcome::Running));
     }
-    assert!(rt; machine.make(step(1)).is_ok());
+    assert!(rt; make(&mut machine, step(1)).is_ok());
     for choice in [step(65), step(1), pop(2), steal(2, 2)] {
-        assert_eq!(rt; machine.make(choice).err(), Some(Refusal::Over));
+        assert_eq!(rt; make(&mut machine, choice).err(), Some(Refusal::Over));
         assert!(rt; matches!(machine.outcome(), Outcome::Finished(7)));
     }
     Ok(())
@@ -205,7 +223,12 @@ fn there_are_one_to_sixty_four_workers(rt: HostRuntime) -> Result<(), Fail> {
     let alloc = rt.alloc();
     for workers in [0, 65, 255] {
         let loaded = returning(alloc, number(0))?;
-        assert!(rt; matches!(Machine::new(alloc, loaded, workers), Err(MachineFault::Workers)));
+        assert!(rt;
+            matches!(
+                Machine::new(alloc, loaded, workers),
+                Err(MachineFault::Workers)
+            )
+        );
     }
     Ok(())
 }
