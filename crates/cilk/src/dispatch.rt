@@ -1,9 +1,10 @@
-ghost use Rattle.std.specs.Prelude.{◌≡◌, ◌≢◌, ◌⊎◌, ◌↔◌, codes};
+ghost use Rattle.std.specs.Prelude.{◌≡◌, ◌≢◌, ◌⊎◌, ◌↔◌, true, false, codes};
 ghost use Rattle.std.specs.IoError.{error_kind};
 ghost use Rattle.clap.specs.Words.{first_value, found_of, kind_of, subcommand_name_of};
-ghost use Rattle.cilk.specs.Task.{Does};
+ghost use Rattle.cilk_commands.specs.Status.{is_answer};
+ghost use Rattle.cilk.specs.Task.{Does, DoesRun};
 
-use crate::arguments::{FILE, command};
+use crate::arguments::{FILE, LIMIT, command};
 use crate::task::Task;
 use cilk_commands::{Failure, Status};
 use clap::error::ErrorKind;
@@ -21,8 +22,8 @@ pub fn run<R: AllocGlobal + Files + Input, O: Write, E: Write>(
     out: &mut O,
     err: &mut E,
 ) -> Status
-    ensures quiet { result ≡ Status.Done → err.new ≡ err.old }
-    ensures kept { result ≢ Status.Done → result ≢ Status.Failed → out.new ≡ out.old }
+    ensures quiet { is_answer result ≡ true → err.new ≡ err.old }
+    ensures kept { is_answer result ≡ false → result ≢ Status.Failed → out.new ≡ out.old }
 {
     let parsed = match command(rt.alloc()) {
         Ok(command) => command.try_get_matches_from(words),
@@ -64,19 +65,26 @@ fn obey<R: AllocGlobal + Files + Input, O: Write, E: Write>(
     out: &mut O,
     err: &mut E,
 ) -> Status
-    ensures print { subcommand_name_of matches.now ≡ Some (codes "print") → result ≡ Status.Done
-        → Does Task.Print None (O.contents out.old) (O.contents out.new) }
-    ensures check { subcommand_name_of matches.now ≡ Some (codes "check") → result ≡ Status.Done
-        → Does Task.Check None (O.contents out.old) (O.contents out.new) }
+    ensures print { subcommand_name_of matches.now ≡ Some (codes "print") → is_answer result ≡ true
+        → Does Task.Print result None (O.contents out.old) (O.contents out.new) }
+    ensures check { subcommand_name_of matches.now ≡ Some (codes "check") → is_answer result ≡ true
+        → Does Task.Check result None (O.contents out.old) (O.contents out.new) }
+    ensures run { subcommand_name_of matches.now ≡ Some (codes "run") → is_answer result ≡ true
+        → DoesRun result (O.contents out.old) (O.contents out.new) }
     ensures others { subcommand_name_of matches.now ≢ Some (codes "print")
-        → subcommand_name_of matches.now ≢ Some (codes "check") → result ≡ Status.Usage }
+        → subcommand_name_of matches.now ≢ Some (codes "check")
+        → subcommand_name_of matches.now ≢ Some (codes "run") → result ≡ Status.Usage }
 
-    ensures quiet { result ≡ Status.Done → err.new ≡ err.old }
-    ensures kept { result ≢ Status.Done → result ≢ Status.Failed → out.new ≡ out.old }
+    ensures quiet { is_answer result ≡ true → err.new ≡ err.old }
+    ensures kept { is_answer result ≡ false → result ≢ Status.Failed → out.new ≡ out.old }
 {
     match matches.subcommand() {
         Some(("print", found)) => on_file(rt, Task::Print, found, out, err),
         Some(("check", found)) => on_file(rt, Task::Check, found, out, err),
+        Some(("run", found)) => match found.get_one(LIMIT) {
+            Some(limit) => on_file(rt, Task::Run(limit), found, out, err),
+            None => Status::Usage,
+        },
         _ => Status::Usage,
     }
 }
@@ -89,8 +97,8 @@ fn show<O: Write, E: Write>(error: &Error, out: &mut O, err: &mut E) -> Status
         × (kind_of error.now ≢ ErrorKind.DisplayVersion) }
     ensures refused { result ≢ Status.Refused }
 
-    ensures quiet { result ≡ Status.Done → err.new ≡ err.old }
-    ensures kept { result ≢ Status.Done → result ≢ Status.Failed → out.new ≡ out.old }
+    ensures quiet { is_answer result ≡ true → err.new ≡ err.old }
+    ensures kept { is_answer result ≡ false → result ≢ Status.Failed → out.new ≡ out.old }
 {
     if error.kind() == ErrorKind::OutOfMemory {
         return Failure::Memory.report("", err);
@@ -112,10 +120,10 @@ fn on_file<R: AllocGlobal + Files + Input, O: Write, E: Write>(
     out: &mut O,
     err: &mut E,
 ) -> Status
-    ensures done { result ≡ Status.Done → Does task None (O.contents out.old) (O.contents out.new) }
+    ensures done { is_answer result ≡ true → Does task result None (O.contents out.old) (O.contents out.new) }
     ensures usage { result ≡ Status.Usage → first_value (found_of found.now) FILE.now ≡ None }
-    ensures quiet { result ≡ Status.Done → err.new ≡ err.old }
-    ensures kept { result ≢ Status.Done → result ≢ Status.Failed → out.new ≡ out.old }
+    ensures quiet { is_answer result ≡ true → err.new ≡ err.old }
+    ensures kept { is_answer result ≡ false → result ≢ Status.Failed → out.new ≡ out.old }
 {
     let Some(name) = found.get_str(FILE) else {
         return Status::Usage;

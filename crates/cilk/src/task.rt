@@ -1,7 +1,8 @@
-ghost use Rattle.std.specs.Prelude.{◌≡◌, ◌≢◌};
+ghost use Rattle.std.specs.Prelude.{◌≡◌, ◌≢◌, true, false};
+ghost use Rattle.cilk_commands.specs.Status.{is_answer};
 ghost use Rattle.cilk_commands.specs.Program.{Declines};
 
-use cilk_commands::{Status, check_text, print_text};
+use cilk_commands::{Status, check_text, print_text, run_text};
 use std::alloc::Global;
 use std::io::{Read, Write};
 
@@ -12,6 +13,8 @@ pub enum Task {
     Print,
     /// To say whether it may be run.
     Check,
+    /// To run it, for at most so many choices.
+    Run(u32),
 }
 
 impl Task {
@@ -26,17 +29,18 @@ impl Task {
         out: &mut O,
         err: &mut E,
     ) -> Status
-        ensures done { result ≡ Status.Done
-            → Does self (R.remaining reader.old) (O.contents out.old) (O.contents out.new) }
+        ensures done { is_answer result ≡ true
+            → Does self result (R.remaining reader.old) (O.contents out.old) (O.contents out.new) }
         ensures refused { result ≡ Status.Refused → Declines (R.remaining reader.old) }
         ensures usage { result ≢ Status.Usage }
 
-        ensures quiet { result ≡ Status.Done → err.new ≡ err.old }
-        ensures kept { result ≢ Status.Done → result ≢ Status.Failed → out.new ≡ out.old }
+        ensures quiet { is_answer result ≡ true → err.new ≡ err.old }
+        ensures kept { is_answer result ≡ false → result ≢ Status.Failed → out.new ≡ out.old }
     {
         match self {
             Task::Print => print_text(alloc, name, reader, out, err),
             Task::Check => check_text(alloc, name, reader, out, err),
+            Task::Run(limit) => run_text(alloc, name, limit, reader, out, err),
         }
     }
 }

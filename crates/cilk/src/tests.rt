@@ -46,6 +46,32 @@ fn answers_command_lines(rt: HostRuntime) -> Result<(), Fail> {
             7,
             "cilk: cannot read no/such file\n",
         ),
+        (["cilk", "run", "-h"].as_slice(), 0, "Runs"),
+        (
+            ["cilk", "run", "a", "--limit", "0"].as_slice(),
+            2,
+            "error: invalid value '0'",
+        ),
+        (
+            ["cilk", "run", "a", "--limit", "10000001"].as_slice(),
+            2,
+            "error: invalid value '10000001'",
+        ),
+        (
+            ["cilk", "run", "a", "--limit"].as_slice(),
+            2,
+            "error: a value is required",
+        ),
+        (
+            ["cilk", "run", "no/such file", "--limit", "10000000"].as_slice(),
+            7,
+            "cilk: cannot read no/such file\n",
+        ),
+        (
+            ["cilk", "print", "a", "--limit", "1"].as_slice(),
+            2,
+            "error: unexpected argument '--limit' found",
+        ),
         (
             ["cilk", "print", "/"].as_slice(),
             7,

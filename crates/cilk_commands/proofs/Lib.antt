@@ -1,3 +1,5 @@
+pub mod Ran
+pub mod Moved
 pub mod NamePlaces
 pub mod FaultPlaces
 pub mod WholeText

@@ -3,6 +3,7 @@ pub mod Program
 pub mod Printing
 pub mod Checking
 pub mod Status
+pub mod Running
 pub mod Telling
 pub use Rattle.cilk_tree.specs.Tree
 pub use Rattle.cilk_tree.specs.ProgramText

@@ -1,5 +1,6 @@
 -- The statuses, and which one tells of a failure.
-use Rattle.std.specs.Prelude.{ℕ}
+use Rattle.std.specs.Prelude.{ℕ, Bool, true, false}
+use Rattle.cilk_model.specs.End as model
 use Rattle.cilk_commands.specs.declared.failure.Failure.{Failure}
 use Rattle.cilk_commands.specs.declared.failure.Failure.TheVariants as failure
 use Rattle.cilk_commands.specs.declared.status.Status.{Status}
@@ -10,6 +11,9 @@ abbrev pub code_of : Status → ℕ
 code_of status.Done = 0
 code_of status.Refused = 1
 code_of status.Usage = 2
+code_of status.Trapped = 3
+code_of status.Stuck = 4
+code_of status.Limit = 5
 code_of status.Memory = 6
 code_of status.Failed = 7
 
@@ -21,3 +25,21 @@ status_of failure.TooMany = status.Refused
 status_of failure.Memory = status.Memory
 status_of failure.CannotRead = status.Failed
 status_of failure.CannotWrite = status.Failed
+
+-- the status that tells how a run ended
+abbrev pub status_at : model.End → Status
+status_at (model.finished value) = status.Done
+status_at (model.trapped kind path n line) = status.Trapped
+status_at model.stuck = status.Stuck
+status_at model.limit = status.Limit
+
+-- whether an answer was written
+abbrev pub is_answer : Status → Bool
+is_answer status.Done = true
+is_answer status.Trapped = true
+is_answer status.Stuck = true
+is_answer status.Limit = true
+is_answer status.Refused = false
+is_answer status.Usage = false
+is_answer status.Memory = false
+is_answer status.Failed = false

@@ -1,20 +1,24 @@
 //! What each subcommand of the program does, over a reader and two writers.
 #![tactic(auto)]
 
+mod alone;
 mod answer;
 mod check;
 mod failure;
 mod fault;
 mod print;
 mod program;
+mod run;
 mod source;
 mod status;
 
+pub use alone::run_alone;
 pub use check::check_text;
 pub use failure::Failure;
 pub use fault::Fault;
 pub use print::print_text;
 pub use program::program_of;
+pub use run::run_text;
 pub use status::Status;
 
 #[cfg(test)]

@@ -1,7 +1,7 @@
-ghost use Rattle.std.specs.Prelude.{◌≡◌, ◌≢◌, IfErr, OnOk};
+ghost use Rattle.std.specs.Prelude.{◌≡◌, ◌≢◌, true, IfErr, OnOk};
 ghost use Rattle.cilk_commands.specs.Program.{Declines};
 ghost use Rattle.cilk_commands.specs.Printing.{Prints};
-ghost use Rattle.cilk_commands.specs.Status.{status_of};
+ghost use Rattle.cilk_commands.specs.Status.{status_of, is_answer};
 
 use crate::answer::write_answer;
 use crate::failure::Failure;
@@ -24,6 +24,7 @@ pub fn print_text<R: Read, O: Write, E: Write>(
         → Prints (R.remaining reader.old) (O.contents out.old) (O.contents out.new) }
     ensures refused { result ≡ Status.Refused → Declines (R.remaining reader.old) }
     ensures usage { result ≢ Status.Usage }
+    ensures only { is_answer result ≡ true → result ≡ Status.Done }
 
     // What stays as it was.
     ensures quiet { result ≡ Status.Done → err.new ≡ err.old }

@@ -3,12 +3,18 @@ ghost use Rattle.std.specs.Prelude.{◌≡◌};
 /// How a subcommand ended, as the status with which the program exits.
 #[derive(Clone, Copy, Debug, PartialEq, Eq)]
 pub enum Status {
-    /// All is done, or help was asked for.
+    /// All is done, or help was asked for; of a run, `main` returned.
     Done,
     /// The text is no program.
     Refused,
     /// The command line is wrong.
     Usage,
+    /// The program was trapped.
+    Trapped,
+    /// The program has not ended, and no choice is possible.
+    Stuck,
+    /// The program has made all the choices that it might, and has not ended.
+    Limit,
     /// Memory has run out.
     Memory,
     /// A file or a stream failed.
@@ -26,6 +32,9 @@ impl Status {
             Status::Done => 0,
             Status::Refused => 1,
             Status::Usage => 2,
+            Status::Trapped => 3,
+            Status::Stuck => 4,
+            Status::Limit => 5,
             Status::Memory => 6,
             Status::Failed => 7,
         }

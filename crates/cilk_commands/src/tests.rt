@@ -1,4 +1,4 @@
-use crate::{Status, check_text, print_text};
+use crate::{Status, check_text, print_text, run_text};
 use std::alloc::{AllocError, Global};
 use std::io;
 use std::io::{ErrorKind, Read, Write};
@@ -30,6 +30,13 @@ fn check(alloc: Global, mut text: &[u8]) -> Told {
     let mut out = Vec::new(alloc);
     let mut err = Vec::new(alloc);
     let status = check_text(alloc, "-", &mut text, &mut out, &mut err);
+    Told { status, out, err }
+}
+
+fn run(alloc: Global, mut text: &[u8], limit: u32) -> Told {
+    let mut out = Vec::new(alloc);
+    let mut err = Vec::new(alloc);
+    let status = run_text(alloc, "-", limit, &mut text, &mut out, &mut err);
     Told { status, out, err }
 }
 
@@ -116,6 +123,47 @@ fn counts_actions(rt: HostRuntime) -> Result<(), Fail> {
     Ok(())
 }
 
+// Each program, how many choices it may make, its status and its answer.
+#[test]
+fn runs_a_program(rt: HostRuntime) {
+    for (text, limit, code, line) in [
+        (SAMPLE, 1000000, 0, "main returned 9\n"),
+        (SAMPLE, 3, 0, "main returned 9\n"),
+        (SAMPLE, 2, 5, "limit after 2 choices\n"),
+        (SAMPLE, 1, 5, "limit after 1 choices\n"),
+        ("cilk int main(void) {}", 1, 0, "main returned 0\n"),
+        (
+            "cilk int main(void) { int a = a; return a - 1; }",
+            2,
+            0,
+            "main returned -1\n",
+        ),
+        (
+            "cilk int main(void) { int a = 5; a = a * a; a = a - 1; }",
+            9,
+            0,
+            "main returned 0\n",
+        ),
+        (
+            "cilk int main(void) { return 2147483647 + 1; }",
+            1,
+            3,
+            "trapped Overflow in / at 1, line 2\n",
+        ),
+        (
+            "cilk int main(void) {\nint a, b = 0 - 2147483647 - 1;\na = b - 1;\n}",
+            9,
+            3,
+            "trapped Overflow in / at 2, line 4\n",
+        ),
+    ] {
+        let got = run(rt.alloc(), text.as_bytes(), limit);
+        assert_eq!(rt; got.status.code(), code);
+        assert_eq!(rt; got.out.as_slice(), line.as_bytes());
+        assert!(rt; got.err.is_empty());
+    }
+}
+
 #[test]
 fn tells_a_fault_and_its_place(rt: HostRuntime) -> Result<(), Fail> {
     let long = long_program(rt.alloc(), 65533)?;
@@ -140,7 +188,8 @@ fn tells_a_fault_and_its_place(rt: HostRuntime) -> Result<(), Fail> {
     ] {
         let printed = print(rt.alloc(), text.as_bytes());
         let checked = check(rt.alloc(), text.as_bytes());
-        for got in [printed, checked] {
+        let ran = run(rt.alloc(), text.as_bytes(), 1);
+        for got in [printed, checked, ran] {
             assert_eq!(rt; got.status.code(), 1);
             assert!(rt; got.out.is_empty());
             assert_eq!(rt; got.err.as_slice(), line.as_bytes());

@@ -53,7 +53,7 @@ hand_none (suc n) (suc k) = ap (λ (x : Place). x.hand) (none_at n k)
 pub hand-empty : (n w : ℕ) → hand_of (places_in n None) w ≡ None
 hand-empty n w = hand_none n (w - 1)
 
-some_if : (b : Bool) (r : model.Refusal) (o : Option model.Refusal) → o ≢ None → (if b then Some r else o) ≢ None
+pub some_if : (b : Bool) (r : model.Refusal) (o : Option model.Refusal) → o ≢ None → (if b then Some r else o) ≢ None
 some_if true r o h = λ e. cc
 some_if false r o h = h
 

@@ -10,3 +10,4 @@ pub mod Hands
 pub mod Ready
 pub mod Stuck
 pub mod Starts
+pub mod Alone

@@ -8,6 +8,7 @@ mod end;
 mod event;
 mod fault;
 mod kind;
+pub mod laws;
 mod machine;
 mod outcome;
 mod path;

@@ -1,0 +1,77 @@
+ghost use Rattle.std.specs.Prelude.{◌≡◌, ◌≢◌, true, false, IfOk, IfErr};
+ghost use Rattle.cilk_machine.specs.Words.{end_of};
+ghost use Rattle.cilk_commands.specs.Program.{Declines};
+ghost use Rattle.cilk_commands.specs.Running.{Runs};
+ghost use Rattle.cilk_commands.specs.Status.{status_of, status_at, is_answer};
+
+use crate::alone::run_alone;
+use crate::answer::write_answer;
+use crate::failure::Failure;
+use crate::source::program_from;
+use crate::status::Status;
+use cilk_machine::{End, ending};
+use std::alloc::Global;
+use std::io::{Read, Write};
+
+/// Runs the program that the reader holds with one worker, for at most `limit` choices, and writes
+/// how it ended to `out`, as `main returned 9`, or else the line that says why it may not be run to
+/// `err`, where `name` is the name of the text. The answer is made whole before any of it is
+/// written. A line that cannot be written is lost.
+pub fn run_text<R: Read, O: Write, E: Write>(
+    alloc: Global,
+    name: &str,
+    limit: u32,
+    reader: &mut R,
+    out: &mut O,
+    err: &mut E,
+) -> Status
+    ensures done { is_answer result ≡ true
+        → Runs limit result (R.remaining reader.old) (O.contents out.old) (O.contents out.new) }
+    ensures refused { result ≡ Status.Refused → Declines (R.remaining reader.old) }
+    ensures usage { result ≢ Status.Usage }
+
+    // What stays as it was.
+    ensures quiet { is_answer result ≡ true → err.new ≡ err.old }
+    ensures kept { is_answer result ≡ false → result ≢ Status.Failed → out.new ≡ out.old }
+{
+    match run(alloc, limit, reader, out) {
+        Ok(status) => status,
+        Err(failure) => failure.report(name, err),
+    }
+}
+
+fn run<R: Read, W: Write>(
+    alloc: Global,
+    limit: u32,
+    reader: &mut R,
+    out: &mut W,
+) -> Result<Status, Failure>
+    ensures ok { IfOk result (λ status.
+        Runs limit status (R.remaining reader.old) (W.contents out.old) (W.contents out.new)) }
+    ensures answer { IfOk result (λ status. is_answer status ≡ true) }
+    ensures err { IfErr result (λ why. status_of why ≡ Status.Refused
+        → Declines (R.remaining reader.old)) }
+    ensures kept { IfErr result (λ why. why ≢ Failure.CannotWrite → out.new ≡ out.old) }
+{
+    let program = program_from(alloc, reader)?;
+    let machine = run_alone(alloc, program, limit)?;
+    let Ok(end) = machine.end_now() else {
+        return Err(Failure::Memory);
+    };
+    let Ok(text) = ending(alloc, machine.output(), &end, machine.choices()) else {
+        return Err(Failure::Memory);
+    };
+    write_answer(out, text.as_slice())?;
+    Ok(status_at(&end))
+}
+
+fn status_at(end: &End) -> Status
+    ensures { result ≡ status_at (end_of end.now) }
+{
+    match end {
+        End::Finished(_) => Status::Done,
+        End::Trapped { .. } => Status::Trapped,
+        End::Stuck => Status::Stuck,
+        End::Limit => Status::Limit,
+    }
+}
