@@ -1,6 +1,6 @@
 -- The bodies of a well-formed program: what their heads use, and what stands in the table of nodes.
-use Rattle.std.proofs.Common.{◌≡◌, ℕ, zero, suc, ◌+◌, ◌-◌, ◌<◌, ◌≤◌, Bool, true, List, [], ◌∷◌, ◌++◌, map, length, Option, Some, None, refl, sym, ap, ◌∙◌, subst, ◌⊎◌, inl, inr, arith, length-append}
-use Rattle.std.specs.Prelude.{⊤, slice_get, slice_index_or, filter_map, option_map}
+use Rattle.std.proofs.Common.{◌≡◌, ℕ, zero, suc, ◌+◌, ◌-◌, ◌<◌, ◌≤◌, Bool, true, List, [], ◌∷◌, ◌++◌, map, length, Option, Some, None, refl, sym, ap, ◌∙◌, subst, inl, inr, arith, length-append}
+use Rattle.std.specs.Prelude.{slice_get, slice_index_or, filter_map, option_map}
 use Rattle.std.specs.List.{Contains}
 use Rattle.std.proofs.lemmas.List.{length-map}
 use Rattle.cilk_tree.specs.Tree as tree
@@ -9,8 +9,7 @@ use Rattle.cilk_check.specs.Names.{decls_of}
 use Rattle.cilk_check.specs.Scope.{Defines}
 use Rattle.cilk_check.specs.Fault.{WellFormed}
 use Rattle.cilk_model.specs.Declaration.{Declaration, local}
-use Rattle.cilk_model.specs.Scope.{Scope}
-use Rattle.cilk_model.specs.Labelled.{Target, Action, assign, return_with, close, Stmt, action, Stmts, none, also, Body, Labelled}
+use Rattle.cilk_model.specs.Labelled.{Target, assign, return_with, close, action, Stmts, none, also, Body, Labelled}
 use Rattle.cilk_model.specs.Items.{Items, piece, pieces, Head, head_of, opened, next, closing_items, reached}
 use Rattle.cilk_model.specs.Count.{count_item}
 use Rattle.cilk_model.specs.Label.{variable_of, block_variables, stmts_variables, label_procedure, label_items, global_scope, globals_of, label}

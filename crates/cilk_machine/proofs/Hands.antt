@@ -1,14 +1,13 @@
 -- The hands and deques of a program of one instance, and which choices they allow.
-use Rattle.std.proofs.Common.{◌≡◌, ◌≢◌, ℕ, zero, suc, ◌-◌, ◌<◌, ◌≤◌, Bool, true, false, not, ◌&&◌, ◌||◌, List, [], ◌∷◌, replicate, length, Option, Some, None, is_some, refl, sym, ap, ◌∙◌, subst, arith}
-use Rattle.std.specs.Prelude.{◌==◌, nat_le, option_map, slice_index_or, if◌then◌else◌}
+use Rattle.std.proofs.Common.{◌≡◌, ◌≢◌, ℕ, zero, suc, ◌-◌, ◌≤◌, Bool, true, false, not, ◌||◌, List, [], replicate, length, Option, Some, None, is_some, refl, sym, ap, ◌∙◌, arith}
+use Rattle.std.specs.Prelude.{◌==◌, option_map, slice_index_or, if◌then◌else◌}
 use Rattle.std.proofs.lemmas.List.{length-replicate, length-set}
 use Rattle.cilk_model.specs.Labelled.{Labelled}
 use Rattle.cilk_model.specs.Path.{Path}
-use Rattle.cilk_model.specs.State.{running}
 use Rattle.cilk_model.specs.Change.{is_empty}
 use Rattle.cilk_model.specs.Scheduler.{Place, no_place, hand_of, deque_of, with_hand}
 use Rattle.cilk_model.specs.Choice as model
-use Rattle.cilk_model.specs.Run.{Standing, is_running, is_worker, step_refusal, pop_refusal, steal_refusal, act_refusal, refusal_of}
+use Rattle.cilk_model.specs.Run.{Standing, is_running, is_worker, step_refusal, act_refusal, refusal_of}
 use Rattle.cilk_frame.specs.Frames.{Frame}
 use Rattle.cilk_machine.specs.Standing.{path_in, places_in}
 

@@ -1,5 +1,5 @@
 -- The last byte tells whether a text ends in a newline.
-use Rattle.std.proofs.Common.{◌≡◌, ℕ, suc, ◌-◌, Bool, true, List, [], ◌∷◌, length, Option, Some, refl, sym, ap, ◌∙◌, if◌then◌else◌, eq-eqb, arith}
+use Rattle.std.proofs.Common.{◌≡◌, ℕ, suc, ◌-◌, Bool, true, List, [], ◌∷◌, length, Some, refl, sym, ap, ◌∙◌, if◌then◌else◌, eq-eqb, arith}
 use Rattle.std.specs.Prelude.{◌==◌, slice_get, option_map, unwrap_or, codes}
 use Rattle.std.proofs.lemmas.Bool.{ne_eqb}
 use Rattle.cilk_model.specs.End.{ends_in_newline, line_break}

@@ -1,6 +1,5 @@
 -- The nodes of the code, and the steps that they come to.
-use Rattle.std.proofs.Common.{◌≡◌, ℕ, ◌+◌, ◌<◌, ℤ, pos, Bool, true, List, [], ◌∷◌, length, map, Option, Some, None, Result, Ok, Err, refl, sym, ap, ◌∙◌, subst, arith, add-zero}
-use Rattle.std.specs.Prelude.{⊤, option_map, max}
+use Rattle.std.proofs.Common.{◌≡◌, ℕ, ◌<◌, ℤ, pos, true, [], length, map, Option, Some, None, Result, Ok, Err, refl, sym, ap, ◌∙◌, subst, arith, add-zero}
 use Rattle.cilk_tree.specs.Tree as tree
 use Rattle.cilk_eval.specs.declared.trap.Trap.{Trap}
 use Rattle.cilk_eval.specs.declared.slot.Slot.{Slot}
@@ -9,10 +8,10 @@ use Rattle.cilk_eval.specs.Slots as slots
 use Rattle.cilk_eval.specs.Slots.{sizes_of, SlotsLieWithin}
 use Rattle.cilk_eval.specs.Value.{value_of, ◌>>=◌}
 use Rattle.cilk_model.specs.Declaration.{Declaration, local, global, unknown}
-use Rattle.cilk_model.specs.Labelled.{Action, variable, assign, return_with, close, Labelled}
+use Rattle.cilk_model.specs.Labelled.{Action, variable, assign, return_with, close}
 use Rattle.cilk_model.specs.Label.{label}
-use Rattle.cilk_model.specs.Items.{Head, head_of, opened, next}
-use Rattle.cilk_model.specs.Values.{Cell, environment, with_value}
+use Rattle.cilk_model.specs.Items.{head_of, opened, next}
+use Rattle.cilk_model.specs.Values.{environment, with_value}
 use Rattle.cilk_model.specs.Effect.{Effect, writes, gives, effect_of}
 use Rattle.cilk_model.specs.Instance.{Instance, body_at}
 use Rattle.cilk_model.specs.Change.{head_effect, gone_on}

@@ -1,13 +1,13 @@
 -- The list at place k of the table is that of action k + 1.
-use Rattle.std.proofs.Common.{◌≡◌, ℕ, zero, suc, ◌+◌, List, [], ◌∷◌, ◌++◌, map, length, Option, Some, None, refl, sym, ap, ◌∙◌, subst, arith}
+use Rattle.std.proofs.Common.{◌≡◌, ℕ, zero, suc, ◌+◌, List, [], ◌∷◌, ◌++◌, map, length, Option, Some, None, refl, ap, ◌∙◌, subst, arith}
 use Rattle.std.specs.Prelude.{slice_get}
 use Rattle.cilk_tree.specs.Tree as tree
 use Rattle.cilk_model.specs.Scope.{Scope, with_local, with_locals}
-use Rattle.cilk_model.specs.Labelled.{Stmt, action, Stmts, none, also, Body}
+use Rattle.cilk_model.specs.Labelled.{Stmts, also}
 use Rattle.cilk_model.specs.Items.{Items, closing_items}
 use Rattle.cilk_model.specs.Count.{count_option, count_decls, count_stmt, count_stmts, count_block, count_item}
-use Rattle.cilk_model.specs.Label.{stmt_variables, label_initialiser, label_decls, label_stmt, label_stmts, label_block, label_procedure, label_items}
-use Rattle.cilk_load.specs.Table.{stmts_lists, body_lists, number_of}
+use Rattle.cilk_model.specs.Label.{stmt_variables, label_initialiser, label_decls, label_stmt, label_stmts, label_block, label_items}
+use Rattle.cilk_load.specs.Table.{stmts_lists, number_of}
 use Rattle.cilk_machine.specs.Remains.{Remains, remains_of, remains_from}
 
 -- these are the lists of the actions from number `at` on

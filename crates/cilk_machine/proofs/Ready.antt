@@ -1,7 +1,7 @@
 -- Which choices are possible in a machine.
-use Rattle.std.proofs.Common.{◌≡◌, ◌≢◌, ℕ, ◌+◌, ◌<◌, ◌≤◌, Bool, true, false, not, ◌&&◌, ◌||◌, List, [], ◌∷◌, ◌++◌, length, Option, Some, None, is_some, is_none, refl, sym, ap, ◌∙◌, subst, arith}
+use Rattle.std.proofs.Common.{◌≡◌, ℕ, ◌+◌, ◌≤◌, Bool, true, false, not, ◌&&◌, [], ◌∷◌, ◌++◌, Option, Some, None, is_none, refl, sym, ap, ◌∙◌, subst}
 use Rattle.std.proofs.lemmas.Bool.{le-leb}
-use Rattle.std.specs.Prelude.{IsSome, nat_le, option_map, if◌then◌else◌}
+use Rattle.std.specs.Prelude.{nat_le, if◌then◌else◌}
 use Rattle.cilk_tree.specs.Tree as tree
 use Rattle.cilk_model.specs.Labelled.{Labelled}
 use Rattle.cilk_model.specs.Label.{label}
@@ -9,11 +9,9 @@ use Rattle.cilk_model.specs.Path.{Path}
 use Rattle.cilk_model.specs.Event.{Event}
 use Rattle.cilk_model.specs.Scheduler.{hand_of}
 use Rattle.cilk_model.specs.Choice as model
-use Rattle.cilk_model.specs.Run as run
-use Rattle.cilk_model.specs.Run.{Standing, Position, is_worker, step_refusal, refusal_of, next_of, event_of, next_by_hand, event_by_hand, after, one_more, position_after}
+use Rattle.cilk_model.specs.Run.{Standing, is_worker, step_refusal, next_by_hand, event_by_hand, one_more, position_after}
 use Rattle.cilk_model.proofs.Runs.{after-push}
 use Rattle.cilk_frame.specs.Frames.{Frame}
-use Rattle.cilk_machine.specs.declared.act.Act.TheVariants.{Step}
 use Rattle.cilk_machine.specs.declared.choice.Choice.{Choice}
 use Rattle.cilk_machine.specs.declared.outcome.Outcome.{Outcome}
 use Rattle.cilk_machine.specs.declared.outcome.Outcome.TheVariants.{Running}
@@ -21,7 +19,7 @@ use Rattle.cilk_machine.specs.declared.event.Event as code
 use Rattle.cilk_machine.specs.Words.{choice_of}
 use Rattle.cilk_machine.specs.Words as words
 use Rattle.cilk_machine.specs.Situation.{Situation}
-use Rattle.cilk_machine.specs.Standing.{path_in, places_in, standing_of}
+use Rattle.cilk_machine.specs.Standing.{standing_of}
 use Rattle.cilk_machine.specs.Steps.{StepsTo, with_frame}
 use Rattle.cilk_machine.specs.Made.{refused, Makes, GoesOn, position_of}
 use Rattle.cilk_machine.specs.Ready.{IsReady}

@@ -1,28 +1,22 @@
 -- A machine before any choice.
-use Rattle.std.proofs.Common.{◌≡◌, ℕ, zero, suc, ◌+◌, ◌<◌, ◌≤◌, Bool, true, ◌&&◌, List, [], ◌∷◌, map, length, Option, Some, None, refl, sym, ap, ◌∙◌, subst, arith}
-use Rattle.std.specs.Prelude.{nat_le, ℤ, bytes_eq, codes, slice_get, if◌then◌else◌}
+use Rattle.std.proofs.Common.{◌≡◌, ℕ, zero, suc, ◌+◌, ◌<◌, ◌≤◌, Bool, true, ◌&&◌, List, [], ◌∷◌, map, length, Option, Some, None, refl, sym, ap, ◌∙◌, arith}
+use Rattle.std.specs.Prelude.{nat_le, bytes_eq, codes, slice_get, if◌then◌else◌}
 use Rattle.std.proofs.lemmas.Bool.{le-leb}
 use Rattle.std.proofs.lemmas.List.Quantifiers.{position-Some}
 use Rattle.cilk_tree.specs.Tree as tree
 use Rattle.cilk_model.specs.Labelled.{Body, Labelled}
 use Rattle.cilk_model.specs.Scope.{Scope}
 use Rattle.cilk_model.specs.Count.{count_item}
-use Rattle.cilk_model.specs.Label.{label_procedure, label_items, global_scope, globals_of, label}
+use Rattle.cilk_model.specs.Label.{label_items, global_scope, globals_of, label}
 use Rattle.cilk_model.specs.Values.{Values, initial_values}
 use Rattle.cilk_model.specs.Instance.{no_body, Instance}
 use Rattle.cilk_model.specs.Instance as model
 use Rattle.cilk_model.specs.State.{running}
 use Rattle.cilk_model.specs.Scheduler.{opening_scheduler}
 use Rattle.cilk_model.specs.Run.{Position, is_crew, opening, after_main, after}
-use Rattle.cilk_load.specs.declared.body.Body as code
 use Rattle.cilk_load.specs.Bodies.{body_table, body_of}
-use Rattle.cilk_frame.specs.Frames.{Frame}
 use Rattle.cilk_frame.specs.Starts.{Takes, started}
-use Rattle.cilk_frame.specs.Stands.{StandsFor}
 use Rattle.cilk_frame.proofs.Steps.{start-stands}
-use Rattle.cilk_machine.specs.declared.outcome.Outcome.TheVariants.{Running}
-use Rattle.cilk_machine.specs.Situation.{Situation}
-use Rattle.cilk_machine.specs.Standing.{instance_in, standing_of}
 use Rattle.cilk_machine.specs.Sound.{Holds}
 use Rattle.cilk_machine.specs.Steps.{with_frame}
 use Rattle.cilk_machine.specs.Made.{position_of}

@@ -1,5 +1,5 @@
 -- A machine is stuck exactly where its program runs and no frame is in a hand.
-use Rattle.std.proofs.Common.{◌≡◌, ◌≢◌, ℕ, ◌≤◌, Bool, true, false, not, Option, Some, None, is_some, is_none, refl, sym, ap, ◌∙◌, arith}
+use Rattle.std.proofs.Common.{◌≡◌, ℕ, ◌≤◌, Bool, true, false, not, Option, Some, None, is_some, is_none, refl, sym, ap, ◌∙◌}
 use Rattle.cilk_tree.specs.Tree as tree
 use Rattle.cilk_check.specs.Fault.{WellFormed}
 use Rattle.cilk_model.specs.Label.{label}

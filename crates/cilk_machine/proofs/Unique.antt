@@ -1,11 +1,9 @@
 -- A frame stands for one instance alone.
-use Rattle.std.proofs.Common.{◌≡◌, ℕ, ◌+◌, false, List, [], ◌∷◌, ◌++◌, map, length, take, drop, Option, Some, None, refl, sym, ap, ◌∙◌, subst, arith}
+use Rattle.std.proofs.Common.{◌≡◌, false, List, [], ◌∷◌, ◌++◌, map, length, take, drop, Some, None, refl, sym, ap, ◌∙◌, subst}
 use Rattle.std.proofs.Math.Seq.{take-append_seam, drop-append_seam}
-use Rattle.std.specs.Prelude.{ℤ}
 use Rattle.cilk_tree.specs.Tree as tree
 use Rattle.cilk_model.specs.Labelled.{Variable, Labelled}
 use Rattle.cilk_model.specs.Label.{label}
-use Rattle.cilk_model.specs.Items.{reached}
 use Rattle.cilk_model.specs.Values.{Values}
 use Rattle.cilk_model.specs.Instance as model
 use Rattle.cilk_model.specs.Instance.{Instance, body_at}
@@ -14,7 +12,7 @@ use Rattle.cilk_load.specs.Table.{number_of}
 use Rattle.cilk_frame.specs.Frames.{Activation, Frame, top_of}
 use Rattle.cilk_frame.specs.Stands.{flat, Activates, StandsFor}
 use Rattle.cilk_frame.proofs.Tops.{top-stands}
-use Rattle.cilk_machine.specs.Remains.{Remains, remains_of, remains_at}
+use Rattle.cilk_machine.specs.Remains.{Remains}
 use Rattle.cilk_machine.specs.Standing.{values_in, activation_in, instance_in}
 use Rattle.cilk_machine.specs.Sound.{Holds}
 use Rattle.cilk_machine.proofs.Bodies.{found}

@@ -4,7 +4,6 @@ use Rattle.std.specs.Coded.{Coded, code_by, coded×, coded⊎, coded_ℕ, coded_
 use Rattle.std.proofs.Common.{refl, ap, inl, inr}
 use Rattle.cilk_tree.specs.Tree as tree
 use Rattle.cilk_tree.specs.ProgramCoding.{coded_Program}
-use Rattle.cilk_eval.specs.declared.trap.Trap.{Trap}
 use Rattle.cilk_eval.specs.declared.trap.Trap.TheVariants.{Overflow, ZeroDivide, Shift, Index}
 use Rattle.cilk_frame.specs.declared.awaited.Await.{Await}
 use Rattle.cilk_frame.specs.Frames.{Activation, Frame}

@@ -1,5 +1,5 @@
 -- What is always true of a machine.
-use Rattle.std.specs.Prelude.{ℕ, ◌≤◌, ⊤, Option, Some, None}
+use Rattle.std.specs.Prelude.{◌≤◌, ⊤, Option, Some, None}
 use Rattle.cilk_check.specs.Fault.{WellFormed}
 use Rattle.cilk_model.specs.Labelled.{Labelled}
 use Rattle.cilk_model.specs.Label.{label}

@@ -1,4 +1,3 @@
-use Rattle.std.proofs.Common.{eq-eqb}
 use Rattle.cilk_machine.proofs.Newlines.{break-none, break-some}
 use Rattle.cilk_machine.proofs.closing.line_break.Goals as goal
 

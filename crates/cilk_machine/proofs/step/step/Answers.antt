@@ -3,15 +3,12 @@ use Rattle.std.proofs.lemmas.Int.{to_z-of_z}
 use mir.Val.{of_z, to_z}
 use mir.Syntax.{w32}
 use Rattle.cilk_tree.specs.Tree as tree
-use Rattle.cilk_check.specs.Fault.{WellFormed}
-use Rattle.cilk_model.specs.Label.{label}
 use Rattle.cilk_load.specs.declared.node.Node.{Node}
 use Rattle.cilk_load.specs.Table.{node_of}
 use Rattle.cilk_frame.specs.Frames.{Frame, depth, activation_at, top_of}
 use Rattle.cilk_machine.specs.declared.kind.Kind.TheVariants.{Value}
 use Rattle.cilk_machine.specs.declared.outcome.Outcome.TheVariants.{Finished, Trapped}
 use Rattle.cilk_machine.specs.declared.event.Event.TheVariants as did
-use Rattle.cilk_machine.specs.Sound.{Holds}
 use Rattle.cilk_machine.specs.Steps.{advanced, with_frame}
 use Rattle.cilk_machine.proofs.Acts.{Before, before}
 use Rattle.cilk_machine.proofs.Nodes.{steps_as, assign_within, return_within, assign_cell, assign_next, assign_traps, assign_goes, return_traps, return_ends, close_ends}

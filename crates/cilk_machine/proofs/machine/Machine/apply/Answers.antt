@@ -1,7 +1,5 @@
 use Rattle.std.proofs.Common.{sym, ◌∙◌, subst}
-use Rattle.cilk_machine.specs.Words.{choice_of, event_of}
 use Rattle.cilk_machine.specs.Situation.{Situation}
-use Rattle.cilk_machine.specs.Made.{Makes}
 use Rattle.cilk_machine.specs.Ready.{IsReady}
 use Rattle.cilk_machine.proofs.Ready.{makes_in, makes_of}
 use Rattle.cilk_machine.proofs.machine.Machine.apply.Goals as goal
