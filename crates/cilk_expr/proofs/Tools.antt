@@ -1,6 +1,8 @@
 -- Steps that did not fail, and what stands at the front of the tokens.
-use Rattle.std.proofs.Common.{◌≡◌, ℕ, zero, suc, ◌<◌, ◌≤◌, ◌==◌, Bool, true, false, cond, List, [], ◌∷◌, Option, Some, None, Result, Ok, Err, refl, sym, ap, ◌∙◌, ◌⊎◌, inl, inr, arith, eq-eqb}
+use Rattle.std.proofs.Common.{◌≡◌, ℕ, zero, suc, ◌<◌, ◌≤◌, ◌==◌, Bool, true, false, cond, List, [], ◌∷◌, get_or, Option, Some, None, Result, Ok, Err, refl, sym, ap, ◌∙◌, ◌⊎◌, inl, inr, arith, eq-eqb}
 use Rattle.std.proofs.lemmas.Bool.{eqb-true}
+use denote.Enum.Bare.{sameb, same_true, same_false}
+use Rattle.cilk_lex.specs.contracts.mark.Mark.{the_type}
 use Rattle.cilk_lex.specs.Lexeme.{Lexeme, Piece, word, name, number, mark}
 use Rattle.cilk_lex.specs.declared.keyword.Keyword.{Keyword}
 use Rattle.cilk_lex.specs.declared.keyword.Keyword.TheVariants as words
@@ -49,20 +51,14 @@ pub record Next (l : Lexeme) (ts us : List Piece) : Type 0 where
   pub is : piece.lexeme ≡ l
   pub whole : ts ≡ piece ∷ us
 
+all_marks : List Mark
+all_marks = marks.OpenParenthesis ∷ marks.CloseParenthesis ∷ marks.OpenBrace ∷ marks.CloseBrace ∷ marks.Semicolon ∷ marks.Comma ∷ marks.Assign ∷ marks.Plus ∷ marks.Minus ∷ marks.Star ∷ marks.OpenBracket ∷ marks.CloseBracket ∷ marks.Question ∷ marks.Colon ∷ marks.Slash ∷ marks.Percent ∷ marks.Ampersand ∷ marks.Bar ∷ marks.Caret ∷ marks.Tilde ∷ marks.Exclamation ∷ marks.Less ∷ marks.Greater ∷ marks.ShiftLeft ∷ marks.ShiftRight ∷ marks.LessOrEqual ∷ marks.GreaterOrEqual ∷ marks.Equal ∷ marks.NotEqual ∷ marks.And ∷ marks.Or ∷ marks.Increment ∷ marks.Decrement ∷ marks.AddAssign ∷ marks.SubtractAssign ∷ marks.MultiplyAssign ∷ marks.DivideAssign ∷ marks.RemainderAssign ∷ marks.ShiftLeftAssign ∷ marks.ShiftRightAssign ∷ marks.BitAndAssign ∷ marks.BitXorAssign ∷ marks.BitOrAssign ∷ []
+
 mark_back : ℕ → Mark
-mark_back zero = marks.OpenParenthesis
-mark_back (suc zero) = marks.CloseParenthesis
-mark_back (suc (suc zero)) = marks.OpenBrace
-mark_back (suc (suc (suc zero))) = marks.CloseBrace
-mark_back (suc (suc (suc (suc zero)))) = marks.Semicolon
-mark_back (suc (suc (suc (suc (suc zero))))) = marks.Comma
-mark_back (suc (suc (suc (suc (suc (suc zero)))))) = marks.Assign
-mark_back (suc (suc (suc (suc (suc (suc (suc zero))))))) = marks.Plus
-mark_back (suc (suc (suc (suc (suc (suc (suc (suc zero)))))))) = marks.Minus
-mark_back (suc (suc (suc (suc (suc (suc (suc (suc (suc n))))))))) = marks.Star
+mark_back n = get_or all_marks n marks.OpenParenthesis
 
 mark_again : (m : Mark) → mark_back (mark_number m) ≡ m
-unfolding mark_back
+unfolding mark_back all_marks
 mark_again marks.OpenParenthesis = refl
 mark_again marks.CloseParenthesis = refl
 mark_again marks.OpenBrace = refl
@@ -73,6 +69,39 @@ mark_again marks.Assign = refl
 mark_again marks.Plus = refl
 mark_again marks.Minus = refl
 mark_again marks.Star = refl
+mark_again marks.OpenBracket = refl
+mark_again marks.CloseBracket = refl
+mark_again marks.Question = refl
+mark_again marks.Colon = refl
+mark_again marks.Slash = refl
+mark_again marks.Percent = refl
+mark_again marks.Ampersand = refl
+mark_again marks.Bar = refl
+mark_again marks.Caret = refl
+mark_again marks.Tilde = refl
+mark_again marks.Exclamation = refl
+mark_again marks.Less = refl
+mark_again marks.Greater = refl
+mark_again marks.ShiftLeft = refl
+mark_again marks.ShiftRight = refl
+mark_again marks.LessOrEqual = refl
+mark_again marks.GreaterOrEqual = refl
+mark_again marks.Equal = refl
+mark_again marks.NotEqual = refl
+mark_again marks.And = refl
+mark_again marks.Or = refl
+mark_again marks.Increment = refl
+mark_again marks.Decrement = refl
+mark_again marks.AddAssign = refl
+mark_again marks.SubtractAssign = refl
+mark_again marks.MultiplyAssign = refl
+mark_again marks.DivideAssign = refl
+mark_again marks.RemainderAssign = refl
+mark_again marks.ShiftLeftAssign = refl
+mark_again marks.ShiftRightAssign = refl
+mark_again marks.BitAndAssign = refl
+mark_again marks.BitXorAssign = refl
+mark_again marks.BitOrAssign = refl
 
 keyword_back : ℕ → Keyword
 keyword_back zero = words.Int
@@ -115,6 +144,15 @@ keyword_again words.CilkLockvar = refl
 
 pub same_mark : (m n : Mark) → mark_number m == mark_number n ≡ true → m ≡ n
 same_mark m n e = sym (mark_again m) ∙ ap mark_back (eqb-true _ _ e) ∙ mark_again n
+
+told_apart : (w m : Mark) (c : Bool) → mark_number w == mark_number m ≡ c → sameb the_type m w ≡ false → false ≡ c
+told_apart w m true e h = absurd (same_false the_type m w h (sym (same_mark w m e)))
+told_apart w m false e h = refl
+
+-- the program's comparison of two marks
+pub compared : (w m : Mark) (b : Bool) → sameb the_type m w ≡ b → b ≡ (mark_number w == mark_number m)
+compared w m true h = sym (eq-eqb (mark_number w) (mark_number m) (ap mark_number (sym (same_true the_type tt m w h))))
+compared w m false h = told_apart w m (mark_number w == mark_number m) refl h
 
 pub same_keyword : (m n : Keyword) → keyword_number m == keyword_number n ≡ true → m ≡ n
 same_keyword m n e = sym (keyword_again m) ∙ ap keyword_back (eqb-true _ _ e) ∙ keyword_again n

@@ -9,12 +9,11 @@ use Rattle.std.proofs.lemmas.Str.Ascii.{IsAscii-nil, IsAscii-cons}
 use Rattle.std.proofs.lemmas.Bool.Decides.{nat_tests}
 use Rattle.cilk_lex.specs.declared.keyword.Keyword.{Keyword}
 use Rattle.cilk_lex.specs.declared.keyword.Keyword.TheVariants as key
-use Rattle.cilk_lex.specs.declared.mark.Mark.{Mark}
-use Rattle.cilk_lex.specs.declared.mark.Mark.TheVariants as sign
 use Rattle.cilk_lex.specs.Byte.{begins_name, continues_name, continues_number}
 use Rattle.cilk_lex.specs.Lexeme.{Lexeme}
 use Rattle.cilk_lex.specs.Lexing.{Front, of_blank, of_word, of_name, of_number, of_mark}
-use Rattle.cilk_lex.specs.Spelling.{spelling, mark_byte, IsNumber, zero_alone, decimal_digits, has_name_form, has_number_form}
+use Rattle.cilk_lex.specs.Spelling.{spelling, mark_spelling, IsNumber, zero_alone, decimal_digits, has_name_form, has_number_form}
+use Rattle.cilk_lex.proofs.Marks.{mark_form}
 use Rattle.cilk_lex.proofs.Runs.{both, and_true, or_true, run_ascii, blank_low, name_low, number_low, cut_after}
 
 pub word_form : (k : Keyword) → has_name_form (spelling k) ≡ true
@@ -35,18 +34,6 @@ word_form key.Inlet = refl
 word_form key.Abort = refl
 word_form key.Synched = refl
 word_form key.CilkLockvar = refl
-
-pub mark_low : (m : Mark) → mark_byte m < 128
-mark_low sign.OpenParenthesis = omega arith
-mark_low sign.CloseParenthesis = omega arith
-mark_low sign.OpenBrace = omega arith
-mark_low sign.CloseBrace = omega arith
-mark_low sign.Semicolon = omega arith
-mark_low sign.Comma = omega arith
-mark_low sign.Assign = omega arith
-mark_low sign.Plus = omega arith
-mark_low sign.Minus = omega arith
-mark_low sign.Star = omega arith
 
 digit_is : (b : ℕ) → digit_value b < 10 → is_ascii_digit b ≡ true
 digit_is b h = grind (arith, nat_tests)
@@ -91,7 +78,7 @@ front_plain (of_blank b h e) = byte_plain _ b e (blank_low b h)
 front_plain (of_word k e s) = subst (λ x. IsPlain x) (sym e) (name_plain (spelling k) (word_form k))
 front_plain (of_name n s) = name_plain _ n.form
 front_plain (of_number n h s) = number_plain _ (constant_form h)
-front_plain (of_mark m e) = byte_plain _ (mark_byte m) e (mark_low m)
+front_plain (of_mark m e s) = let f = mark_form m in subst (λ x. IsPlain x) (sym e) (f.some, f.ascii)
 
 -- a text may be cut behind what is plain
 pub plain_cut : (t : List ℕ) (n : ℕ) → IsUtf8 t → n ≤ length t → IsPlain (take n t) → IsCharBoundary t n

@@ -1,9 +1,9 @@
 pub mod Forms
 pub mod Fronts
 pub mod Loop
+pub mod Marks
 pub mod Numbers
 pub mod Refusals
 pub mod Runs
 pub mod Same
 pub mod Unique
-pub mod Writing

@@ -1,5 +1,5 @@
 -- A text begins with one lexeme at most.
-use Rattle.std.proofs.Common.{◌≡◌, ◌≢◌, ℕ, ◌<◌, Bool, true, false, cond, eqb, List, [], ◌∷◌, ◌++◌, length, get_or, take, drop, Option, Some, None, refl, sym, ap, subst, ◌∙◌, arith}
+use Rattle.std.proofs.Common.{◌≡◌, ◌≢◌, ℕ, ◌<◌, Bool, true, false, cond, ◌||◌, ◌⊎◌, inl, inr, List, [], ◌∷◌, ◌++◌, length, get_or, take, drop, Option, Some, None, refl, sym, ap, subst, ◌∙◌, arith}
 use Rattle.std.specs.Prelude.{bytes_eq}
 use Rattle.std.specs.Char.{is_ascii_digit}
 use Rattle.std.specs.List.{list_all, prefix_len}
@@ -11,16 +11,16 @@ use Rattle.std.proofs.lemmas.Slice.Eq.{bytes_eq-Decides}
 use Rattle.cilk_lex.specs.declared.keyword.Keyword.{Keyword}
 use Rattle.cilk_lex.specs.declared.keyword.Keyword.TheVariants as key
 use Rattle.cilk_lex.specs.declared.mark.Mark.{Mark}
-use Rattle.cilk_lex.specs.declared.mark.Mark.TheVariants as sign
 use Rattle.cilk_lex.specs.Byte.{is_blank, begins_name, continues_name, continues_number}
 use Rattle.cilk_lex.specs.Lexeme.{Lexeme, word, name, number, mark}
-use Rattle.cilk_lex.specs.Lexing.{EndsBefore, Front, of_blank, of_word, of_name, of_number, of_mark, BeginsNothing}
-use Rattle.cilk_lex.specs.Spelling.{spelling, mark_byte, IsName, IsNumber, has_name_form, has_number_form}
+use Rattle.cilk_lex.specs.Lexing.{EndsBefore, Front, of_blank, of_word, of_name, of_number, of_mark, BeginsNothing, IsLongest}
+use Rattle.cilk_lex.specs.Spelling.{spelling, mark_spelling, IsName, IsNumber, has_name_form, has_number_form}
 use Rattle.cilk_lex.proofs.Forms.{digit_continues, word_form, constant_form, front_plain}
+use Rattle.cilk_lex.proofs.Marks.{begins_other, mark_form, same_mark}
 use Rattle.cilk_lex.proofs.Numbers.{number_is}
 use Rattle.cilk_lex.proofs.Runs.{both, and_true, run_length}
 
--- ---- what a lexeme is, by its bytes
+-- ---- what a lexeme but a mark is, by its bytes
 
 word_in : List Keyword → List ℕ → Lexeme
 word_in [] w = name w
@@ -32,23 +32,16 @@ all_words = key.Int ∷ key.Void ∷ key.If ∷ key.Else ∷ key.While ∷ key.D
 named : List ℕ → Lexeme
 named w = word_in all_words w
 
-mark_in : List Mark → ℕ → Option Lexeme
-mark_in [] b = None
-mark_in (m ∷ ms) b = cond (eqb b (mark_byte m)) (Some (mark m)) (mark_in ms b)
-
-all_marks : List Mark
-all_marks = sign.OpenParenthesis ∷ sign.CloseParenthesis ∷ sign.OpenBrace ∷ sign.CloseBrace ∷ sign.Semicolon ∷ sign.Comma ∷ sign.Assign ∷ sign.Plus ∷ sign.Minus ∷ sign.Star ∷ []
-
 lexeme_in : List ℕ → Option Lexeme
 lexeme_in [] = None
 lexeme_in (b ∷ bs) =
-    cond (is_blank b) None (cond (begins_name b) (Some (named (b ∷ bs))) (cond (is_ascii_digit b) (Some (number (digits_value 10 (b ∷ bs)))) (mark_in all_marks b)))
+    cond (is_blank b) None (cond (begins_name b) (Some (named (b ∷ bs))) (cond (is_ascii_digit b) (Some (number (digits_value 10 (b ∷ bs)))) None))
 
 -- how many bytes of a text are its first lexeme
 front_len : List ℕ → ℕ
 front_len [] = 0
 front_len (b ∷ bs) =
-    cond (is_blank b) 1 (cond (begins_name b) (prefix_len continues_name (b ∷ bs)) (cond (is_ascii_digit b) (prefix_len continues_number (b ∷ bs)) 1))
+    cond (is_blank b) 1 (cond (begins_name b) (prefix_len continues_name (b ∷ bs)) (cond (is_ascii_digit b) (prefix_len continues_number (b ∷ bs)) 0))
 
 -- ---- the classes of first bytes exclude one another
 
@@ -61,18 +54,6 @@ digit_no_blank b h = grind (arith, nat_tests)
 digit_no_name : (b : ℕ) → is_ascii_digit b ≡ true → begins_name b ≡ false
 digit_no_name b h = grind (arith, nat_tests)
 
-mark_no_digit : (m : Mark) → is_ascii_digit (mark_byte m) ≡ false
-mark_no_digit sign.OpenParenthesis = refl
-mark_no_digit sign.CloseParenthesis = refl
-mark_no_digit sign.OpenBrace = refl
-mark_no_digit sign.CloseBrace = refl
-mark_no_digit sign.Semicolon = refl
-mark_no_digit sign.Comma = refl
-mark_no_digit sign.Assign = refl
-mark_no_digit sign.Plus = refl
-mark_no_digit sign.Minus = refl
-mark_no_digit sign.Star = refl
-
 name_head : (w : List ℕ) → has_name_form w ≡ true → begins_name (get_or w 0 0) ≡ true
 name_head [] h = absurd cc
 name_head (b ∷ bs) h = (both (begins_name b) (list_all continues_name bs) h).0
@@ -81,7 +62,7 @@ number_head : (w : List ℕ) → has_number_form w ≡ true → is_ascii_digit (
 number_head [] h = absurd cc
 number_head (b ∷ bs) h = (both (is_ascii_digit b) (list_all continues_number bs) h).0
 
--- ---- each rule finds what the bytes say
+-- ---- each rule but that of marks finds what the bytes say
 
 -- the front of the text is this lexeme
 record Found (w rest : List ℕ) (x : Option Lexeme) : Type 0 where
@@ -121,19 +102,6 @@ blank_found : (b : ℕ) (rest : List ℕ) → is_blank b ≡ true → Found (b �
 unfolding front_len lexeme_in
 blank_found b rest h = record { long = rw h refl; kind = rw h refl }
 
-mark_found : (m : Mark) (rest : List ℕ) → Found (mark_byte m ∷ []) rest (Some (mark m))
-unfolding front_len lexeme_in mark_in all_marks
-mark_found sign.OpenParenthesis rest = record { long = refl; kind = refl }
-mark_found sign.CloseParenthesis rest = record { long = refl; kind = refl }
-mark_found sign.OpenBrace rest = record { long = refl; kind = refl }
-mark_found sign.CloseBrace rest = record { long = refl; kind = refl }
-mark_found sign.Semicolon rest = record { long = refl; kind = refl }
-mark_found sign.Comma rest = record { long = refl; kind = refl }
-mark_found sign.Assign rest = record { long = refl; kind = refl }
-mark_found sign.Plus rest = record { long = refl; kind = refl }
-mark_found sign.Minus rest = record { long = refl; kind = refl }
-mark_found sign.Star rest = record { long = refl; kind = refl }
-
 named_word : (k : Keyword) → named (spelling k) ≡ word k
 unfolding named word_in all_words
 named_word key.Int = refl
@@ -170,12 +138,19 @@ named_name n = no_word_in all_words _ n.no_word
 by_kind : {w rest : List ℕ} {x y : Option Lexeme} → x ≡ y → Found w rest x → Found w rest y
 by_kind e f = record { long = f.long; kind = sym e ∙ f.kind }
 
-found : {w rest : List ℕ} {x : Option Lexeme} → Front w rest x → Found w rest x
-found {rest = r} (of_blank b h e) = subst (λ v. Found v r None) (sym e) (blank_found b r h)
-found {rest = r} (of_word k e s) = subst (λ v. Found v r (Some (word k))) (sym e) (by_kind (ap (λ (y : Lexeme). Some y) (named_word k)) (named_found (spelling k) r (word_form k) s))
-found {w = w} {rest = r} (of_name n s) = by_kind (ap (λ (y : Lexeme). Some y) (named_name n)) (named_found w r n.form s)
-found {w = w} {rest = r} (of_number n h s) = by_kind (ap (λ (i : ℕ). Some (number i)) (sym (number_is h))) (number_found w r (constant_form h) s)
-found {rest = r} (of_mark m e) = subst (λ v. Found v r (Some (mark m))) (sym e) (mark_found m r)
+-- the front of the text is this mark
+record FoundMark (w rest : List ℕ) (x : Option Lexeme) : Type 0 where
+  sign : Mark
+  bytes : w ≡ mark_spelling sign
+  kind : x ≡ Some (mark sign)
+  longest : IsLongest sign rest
+
+found : {w rest : List ℕ} {x : Option Lexeme} → Front w rest x → Found w rest x ⊎ FoundMark w rest x
+found {rest = r} (of_blank b h e) = inl (subst (λ v. Found v r None) (sym e) (blank_found b r h))
+found {rest = r} (of_word k e s) = inl (subst (λ v. Found v r (Some (word k))) (sym e) (by_kind (ap (λ (y : Lexeme). Some y) (named_word k)) (named_found (spelling k) r (word_form k) s)))
+found {w = w} {rest = r} (of_name n s) = inl (by_kind (ap (λ (y : Lexeme). Some y) (named_name n)) (named_found w r n.form s))
+found {w = w} {rest = r} (of_number n h s) = inl (by_kind (ap (λ (i : ℕ). Some (number i)) (sym (number_is h))) (number_found w r (constant_form h) s))
+found (of_mark m e s) = inr (record { sign = m; bytes = e; kind = refl; longest = s })
 
 -- ---- two fronts of one text
 
@@ -185,12 +160,38 @@ split_same u r v s e l = (
   sym (drop_at u r (length v) l) ∙ ap (λ t. drop (length v) t) e ∙ drop_at v s (length v) refl,
 )
 
+three_false : (a b c : Bool) → (a || (b || c)) ≡ false → (a ≡ false) × (b ≡ false) × (c ≡ false)
+three_false false false false e = (refl, refl, refl)
+three_false true b c e = absurd cc
+three_false false true c e = absurd cc
+three_false false false true e = absurd cc
+
+-- no other rule finds anything where a mark is
+no_run : (w rest : List ℕ) → 0 < length w → ((b : ℕ) (bs : List ℕ) → w ≡ b ∷ bs → begins_other b ≡ false) → front_len (w ++ rest) ≡ 0
+unfolding front_len
+no_run [] rest p h = absurd (omega (arith, p))
+no_run (b ∷ bs) rest p h = let t = three_false (is_blank b) (begins_name b) (is_ascii_digit b) (h b bs refl) in rw (t.0, t.1, t.2) refl
+
+mark_or_found : {w rest v more : List ℕ} {x y : Option Lexeme} → 0 < length w → Found w rest x → FoundMark v more y → w ++ rest ≡ v ++ more → ⊥
+mark_or_found {more = s} p a b e =
+    let f = mark_form b.sign in
+    absurd (omega (arith, p, a.long, ap front_len (e ∙ ap (λ t. t ++ s) b.bytes), no_run (mark_spelling b.sign) s f.some f.head))
+
+marks_same : {w rest v more : List ℕ} {x y : Option Lexeme} → FoundMark w rest x → FoundMark v more y → w ++ rest ≡ v ++ more → (w ≡ v) × (rest ≡ more) × (x ≡ y)
+marks_same {w = w} {rest = r} {v = v} {more = s} a b e =
+    let q : mark_spelling a.sign ++ r ≡ mark_spelling b.sign ++ s = ap (λ t. t ++ r) (sym a.bytes) ∙ e ∙ ap (λ t. t ++ s) b.bytes in
+    let l : length w ≡ length v = omega (arith, a.longest.no_longer b.sign s q, b.longest.no_longer a.sign r (sym q), ap length a.bytes, ap length b.bytes) in
+    let p = split_same w r v s e l in
+    (p.0, p.1, a.kind ∙ ap (λ (m : Mark). Some (mark m)) (same_mark a.sign b.sign (sym a.bytes ∙ p.0 ∙ b.bytes)) ∙ sym b.kind)
+
 pub front_same : {w rest v more : List ℕ} {x y : Option Lexeme} → Front w rest x → Front v more y → w ++ rest ≡ v ++ more → (w ≡ v) × (rest ≡ more) × (x ≡ y)
-front_same {w = w} {rest = r} {v = v} {more = s} f g e =
-    let a = found f in
-    let b = found g in
-    let p = split_same w r v s e (a.long ∙ ap front_len e ∙ sym b.long) in
-    (p.0, p.1, a.kind ∙ ap lexeme_in p.0 ∙ sym b.kind)
+front_same {w = w} {rest = r} {v = v} {more = s} {x = x} {y = y} f g e = either (found f) (found g)
+  where
+    either : Found w r x ⊎ FoundMark w r x → Found v s y ⊎ FoundMark v s y → (w ≡ v) × (r ≡ s) × (x ≡ y)
+    either (inl a) (inl b) = let p = split_same w r v s e (a.long ∙ ap front_len e ∙ sym b.long) in (p.0, p.1, a.kind ∙ ap lexeme_in p.0 ∙ sym b.kind)
+    either (inl a) (inr b) = absurd (mark_or_found (front_plain f).0 a b e)
+    either (inr a) (inl b) = absurd (mark_or_found (front_plain g).0 b a (sym e))
+    either (inr a) (inr b) = marks_same a b e
 
 head_is : (w rest ts : List ℕ) (b : ℕ) → 0 < length w → w ++ rest ≡ b ∷ ts → get_or w 0 0 ≡ b
 head_is w rest ts b p e = sym (get_or_append_left w rest 0 0 p) ∙ ap (λ t. get_or t 0 0) e
@@ -198,15 +199,15 @@ head_is w rest ts b p e = sym (get_or_append_left w rest 0 0 p) ∙ ap (λ t. ge
 clash : (c : Bool) → c ≡ true → c ≡ false → ⊥
 clash c t f = false≢true (sym f ∙ t)
 
-pub front_no_fault : {w rest : List ℕ} {x : Option Lexeme} (ts : List ℕ) (b : ℕ) → Front w rest x → BeginsNothing b → w ++ rest ≡ b ∷ ts → ⊥
-front_no_fault {w = w} {rest = r} ts b f n e = at_head f (head_is w r ts b (front_plain f).0 e)
+pub front_no_fault : {w rest : List ℕ} {x : Option Lexeme} (ts : List ℕ) (b : ℕ) → Front w rest x → BeginsNothing b ts → w ++ rest ≡ b ∷ ts → ⊥
+front_no_fault {w = w} {rest = r} ts b f n e = at_head f (head_is w r ts b (front_plain f).0 e) e
   where
-    at_head : {v s : List ℕ} {y : Option Lexeme} → Front v s y → get_or v 0 0 ≡ b → ⊥
-    at_head (of_blank a h q) i = clash (is_blank b) (rw (sym i, q) h) n.no_blank
-    at_head {v = v} (of_word k q s) i = clash (begins_name b) (rw (sym i, q) (name_head (spelling k) (word_form k))) n.no_name
-    at_head {v = v} (of_name m s) i = clash (begins_name b) (rw (sym i) (name_head v m.form)) n.no_name
-    at_head {v = v} (of_number m h s) i = clash (is_ascii_digit b) (rw (sym i) (number_head v (constant_form h))) n.no_number
-    at_head (of_mark m q) i = n.no_mark m (sym i ∙ ap (λ t. get_or t 0 0) q)
+    at_head : {v s : List ℕ} {y : Option Lexeme} → Front v s y → get_or v 0 0 ≡ b → v ++ s ≡ b ∷ ts → ⊥
+    at_head (of_blank a h q) i j = clash (is_blank b) (rw (sym i, q) h) n.no_blank
+    at_head {v = v} (of_word k q s) i j = clash (begins_name b) (rw (sym i, q) (name_head (spelling k) (word_form k))) n.no_name
+    at_head {v = v} (of_name m s) i j = clash (begins_name b) (rw (sym i) (name_head v m.form)) n.no_name
+    at_head {v = v} (of_number m h s) i j = clash (is_ascii_digit b) (rw (sym i) (number_head v (constant_form h))) n.no_number
+    at_head {s = s} (of_mark m q z) i j = n.no_mark m s (sym j ∙ ap (λ t. t ++ s) q)
 
 number_end : (w rest v more : List ℕ) → has_number_form w ≡ true → EndsBefore continues_number rest → has_number_form v ≡ true → EndsBefore continues_number more → w ++ rest ≡ v ++ more → w ≡ v
 number_end w rest v more h e i f q =
@@ -220,6 +221,10 @@ name_no_digit w rest t h q d =
     front_head : (w rest t : List ℕ) → has_name_form w ≡ true → w ++ rest ≡ t → begins_name (get_or t 0 0) ≡ true
     front_head [] rest t h q = absurd cc
     front_head (b ∷ bs) rest t h q = rw (sym q) (name_head (b ∷ bs) h)
+
+mark_no_digit : (w rest t : List ℕ) → 0 < length w → ((b : ℕ) (bs : List ℕ) → w ≡ b ∷ bs → begins_other b ≡ false) → w ++ rest ≡ t → is_ascii_digit (get_or t 0 0) ≡ true → ⊥
+mark_no_digit [] rest t p h q d = omega (arith, p)
+mark_no_digit (b ∷ bs) rest t p h q d = clash (is_ascii_digit b) (rw (sym q) at d) (three_false (is_blank b) (begins_name b) (is_ascii_digit b) (h b bs refl)).2
 
 number_head_of : (v more : List ℕ) → has_number_form v ≡ true → is_ascii_digit (get_or (v ++ more) 0 0) ≡ true
 number_head_of [] more h = absurd cc
@@ -236,6 +241,6 @@ front_no_number {w = w} {rest = r} v more f h e none q = at_head f (number_head_
     at_head {u = u} {s = s} (of_word k i z) d j = name_no_digit (spelling k) s (v ++ more) (word_form k) (ap (λ t. t ++ s) (sym i) ∙ j) d
     at_head {u = u} {s = s} (of_name m z) d j = name_no_digit u s (v ++ more) m.form j d
     at_head {u = u} {s = s} (of_number m k z) d j = none m (subst (λ t. IsNumber t m) (number_end u s v more (constant_form k) z h e j) k)
-    at_head {u = u} {s = s} (of_mark m i) d j =
-        let g : get_or (v ++ more) 0 0 ≡ mark_byte m = ap (λ t. get_or t 0 0) (sym j ∙ ap (λ t. t ++ s) i) in
-        clash (is_ascii_digit (mark_byte m)) (rw g at d) (mark_no_digit m)
+    at_head {u = u} {s = s} (of_mark m i z) d j =
+        let f = mark_form m in
+        mark_no_digit (mark_spelling m) s (v ++ more) f.some f.head (ap (λ t. t ++ s) (sym i) ∙ j) d

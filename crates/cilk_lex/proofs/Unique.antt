@@ -65,7 +65,7 @@ never_both (taken f e l p) (bad_byte ts n d g) = front_no_fault ts _ f n (sym e 
 never_both (taken f e l p) (bad_number w ts h s n d g) = front_no_number w ts f h s n (sym e ∙ d)
 never_both {at = at} (taken f e l p) (later g d m) = let s = front_same f g (sym e ∙ d) in never_both l (fails_on at s.0 s.1 m)
 
-no_number_here : (text w ts rest : List ℕ) (b : ℕ) → BeginsNothing b → text ≡ b ∷ ts → IsTrue (has_number_form w) → text ≡ w ++ rest → ⊥
+no_number_here : (text w ts rest : List ℕ) (b : ℕ) → BeginsNothing b ts → text ≡ b ∷ ts → IsTrue (has_number_form w) → text ≡ w ++ rest → ⊥
 no_number_here text [] ts rest b n e h d = absurd cc
 no_number_here text (a ∷ w) ts rest b n e h d =
     let z : b ≡ a = ap (λ t. get_or t 0 0) (sym e ∙ d) in

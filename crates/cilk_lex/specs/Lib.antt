@@ -5,4 +5,3 @@ pub mod Lexing
 pub mod Place
 pub mod Reading
 pub mod Spelling
-pub mod Written

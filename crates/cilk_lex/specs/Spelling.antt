@@ -30,18 +30,51 @@ spelling key.Abort = codes "abort"
 spelling key.Synched = codes "SYNCHED"
 spelling key.CilkLockvar = codes "Cilk_lockvar"
 
--- the marks ( ) { } ; , = + - and * (C 1990, 6.1.5 and 6.1.6)
-abbrev pub mark_byte : Mark → ℕ
-mark_byte sign.OpenParenthesis = 40
-mark_byte sign.CloseParenthesis = 41
-mark_byte sign.OpenBrace = 123
-mark_byte sign.CloseBrace = 125
-mark_byte sign.Semicolon = 59
-mark_byte sign.Comma = 44
-mark_byte sign.Assign = 61
-mark_byte sign.Plus = 43
-mark_byte sign.Minus = 45
-mark_byte sign.Star = 42
+-- the marks (C 1990, 6.1.5 and 6.1.6)
+abbrev pub mark_spelling : Mark → List ℕ
+mark_spelling sign.OpenParenthesis = codes "("
+mark_spelling sign.CloseParenthesis = codes ")"
+mark_spelling sign.OpenBrace = codes "{"
+mark_spelling sign.CloseBrace = codes "}"
+mark_spelling sign.Semicolon = codes ";"
+mark_spelling sign.Comma = codes ","
+mark_spelling sign.Assign = codes "="
+mark_spelling sign.Plus = codes "+"
+mark_spelling sign.Minus = codes "-"
+mark_spelling sign.Star = codes "*"
+mark_spelling sign.OpenBracket = codes "["
+mark_spelling sign.CloseBracket = codes "]"
+mark_spelling sign.Question = codes "?"
+mark_spelling sign.Colon = codes ":"
+mark_spelling sign.Slash = codes "/"
+mark_spelling sign.Percent = codes "%"
+mark_spelling sign.Ampersand = codes "&"
+mark_spelling sign.Bar = codes "|"
+mark_spelling sign.Caret = codes "^"
+mark_spelling sign.Tilde = codes "~"
+mark_spelling sign.Exclamation = codes "!"
+mark_spelling sign.Less = codes "<"
+mark_spelling sign.Greater = codes ">"
+mark_spelling sign.ShiftLeft = codes "<<"
+mark_spelling sign.ShiftRight = codes ">>"
+mark_spelling sign.LessOrEqual = codes "<="
+mark_spelling sign.GreaterOrEqual = codes ">="
+mark_spelling sign.Equal = codes "=="
+mark_spelling sign.NotEqual = codes "!="
+mark_spelling sign.And = codes "&&"
+mark_spelling sign.Or = codes "||"
+mark_spelling sign.Increment = codes "++"
+mark_spelling sign.Decrement = codes "--"
+mark_spelling sign.AddAssign = codes "+="
+mark_spelling sign.SubtractAssign = codes "-="
+mark_spelling sign.MultiplyAssign = codes "*="
+mark_spelling sign.DivideAssign = codes "/="
+mark_spelling sign.RemainderAssign = codes "%="
+mark_spelling sign.ShiftLeftAssign = codes "<<="
+mark_spelling sign.ShiftRightAssign = codes ">>="
+mark_spelling sign.BitAndAssign = codes "&="
+mark_spelling sign.BitXorAssign = codes "^="
+mark_spelling sign.BitOrAssign = codes "|="
 
 -- a letter or an underscore, and letters, underscores and digits
 abbrev pub has_name_form : List ℕ → Bool

@@ -1,13 +1,16 @@
 //! What a text begins with.
 
-ghost use Rattle.std.specs.Prelude.{◌≡◌, ◌<◌, length, IsTrue, MatchResult, slice_index};
+ghost use Rattle.std.specs.Prelude.{◌≡◌, ◌≢◌, ◌<◌, ◌≤◌, ◌++◌, List, ℕ, length, take, IsTrue, MatchOption, MatchResult, slice_index};
 ghost use Rattle.std.specs.Char.{is_ascii_digit};
 ghost use Rattle.std.specs.List.{prefix_len};
+ghost use Rattle.cilk_lex.specs.declared.mark.Mark.{Mark};
 ghost use Rattle.cilk_lex.specs.Byte.{is_blank, begins_name, continues_name, continues_number};
 ghost use Rattle.cilk_lex.specs.Lexing.{Faulty};
 ghost use Rattle.cilk_lex.specs.Front.{IsFound};
+ghost use Rattle.cilk_lex.specs.Spelling.{mark_spelling};
 
 use crate::fault::LexFault;
+use crate::mark::Mark;
 use crate::spelling::{keyword_of, mark_of, number_of};
 use crate::token::Kind;
 
@@ -16,6 +19,17 @@ use crate::token::Kind;
 pub(crate) struct Found {
     pub(crate) kind: Option<Kind>,
     pub(crate) end: usize,
+}
+
+impl Found {
+    fn mark(mark: Mark, end: usize) -> Found
+        ensures { result ≡ record { kind = Some (Kind.Mark mark); end = end } }
+    {
+        Found {
+            kind: Some(Kind::Mark(mark)),
+            end,
+        }
+    }
 }
 
 fn is_blank(byte: u8) -> bool
@@ -89,6 +103,30 @@ fn first_number(text: &str, at: u32) -> Result<Found, LexFault>
     }
 }
 
+// The mark that the first `end` bytes of the text are.
+fn mark_within(text: &str, end: usize) -> Option<Mark>
+    ensures { MatchOption result
+        (end ≤ length text.now → (m : Mark) → take end text.now ≢ mark_spelling m)
+        (λ m. (end ≤ length text.now) × (take end text.now ≡ mark_spelling m)) }
+{
+    mark_of(text.get(..end)?)
+}
+
+// The longest mark with which the text begins: no mark has more than three bytes.
+fn first_mark(text: &str) -> Option<Found>
+    ensures { MatchOption result
+        ((m : Mark) (rest : List ℕ) → text.now ≢ mark_spelling m ++ rest) (IsFound text.now) }
+{
+    if let Some(mark) = mark_within(text, 3) {
+        return Some(Found::mark(mark, 3));
+    }
+    if let Some(mark) = mark_within(text, 2) {
+        return Some(Found::mark(mark, 2));
+    }
+    let mark = mark_within(text, 1)?;
+    Some(Found::mark(mark, 1))
+}
+
 /// What a text begins with, whose first byte has the place `at`.
 pub(crate) fn first(text: &str, at: u32) -> Result<Found, LexFault>
     requires { 0 < length text.now }
@@ -104,11 +142,5 @@ pub(crate) fn first(text: &str, at: u32) -> Result<Found, LexFault>
     if byte.is_ascii_digit() {
         return first_number(text, at);
     }
-    match mark_of(byte) {
-        Some(mark) => Ok(Found {
-            kind: Some(Kind::Mark(mark)),
-            end: 1,
-        }),
-        None => Err(LexFault::BadByte(at)),
-    }
+    first_mark(text).ok_or(LexFault::BadByte(at))
 }

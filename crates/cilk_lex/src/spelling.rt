@@ -3,7 +3,7 @@
 ghost use Rattle.std.specs.Prelude.{◌≡◌, ◌≢◌, ℕ, MatchOption};
 ghost use Rattle.cilk_lex.specs.declared.keyword.Keyword.{Keyword};
 ghost use Rattle.cilk_lex.specs.declared.mark.Mark.{Mark};
-ghost use Rattle.cilk_lex.specs.Spelling.{spelling, mark_byte, IsNumber};
+ghost use Rattle.cilk_lex.specs.Spelling.{spelling, mark_spelling, IsNumber};
 
 use crate::keyword::Keyword;
 use crate::mark::Mark;
@@ -36,20 +36,54 @@ pub(crate) fn keyword_of(word: &str) -> Option<Keyword>
     }
 }
 
-pub(crate) fn mark_of(byte: u8) -> Option<Mark>
-    ensures { MatchOption result ((m : Mark) → byte ≢ mark_byte m) (λ m. byte ≡ mark_byte m) }
+pub(crate) fn mark_of(text: &str) -> Option<Mark>
+    ensures { MatchOption result
+        ((m : Mark) → text.now ≢ mark_spelling m) (λ m. text.now ≡ mark_spelling m) }
 {
-    match byte {
-        b'(' => Some(Mark::OpenParenthesis),
-        b')' => Some(Mark::CloseParenthesis),
-        b'{' => Some(Mark::OpenBrace),
-        b'}' => Some(Mark::CloseBrace),
-        b';' => Some(Mark::Semicolon),
-        b',' => Some(Mark::Comma),
-        b'=' => Some(Mark::Assign),
-        b'+' => Some(Mark::Plus),
-        b'-' => Some(Mark::Minus),
-        b'*' => Some(Mark::Star),
+    match text {
+        "(" => Some(Mark::OpenParenthesis),
+        ")" => Some(Mark::CloseParenthesis),
+        "{" => Some(Mark::OpenBrace),
+        "}" => Some(Mark::CloseBrace),
+        ";" => Some(Mark::Semicolon),
+        "," => Some(Mark::Comma),
+        "=" => Some(Mark::Assign),
+        "+" => Some(Mark::Plus),
+        "-" => Some(Mark::Minus),
+        "*" => Some(Mark::Star),
+        "[" => Some(Mark::OpenBracket),
+        "]" => Some(Mark::CloseBracket),
+        "?" => Some(Mark::Question),
+        ":" => Some(Mark::Colon),
+        "/" => Some(Mark::Slash),
+        "%" => Some(Mark::Percent),
+        "&" => Some(Mark::Ampersand),
+        "|" => Some(Mark::Bar),
+        "^" => Some(Mark::Caret),
+        "~" => Some(Mark::Tilde),
+        "!" => Some(Mark::Exclamation),
+        "<" => Some(Mark::Less),
+        ">" => Some(Mark::Greater),
+        "<<" => Some(Mark::ShiftLeft),
+        ">>" => Some(Mark::ShiftRight),
+        "<=" => Some(Mark::LessOrEqual),
+        ">=" => Some(Mark::GreaterOrEqual),
+        "==" => Some(Mark::Equal),
+        "!=" => Some(Mark::NotEqual),
+        "&&" => Some(Mark::And),
+        "||" => Some(Mark::Or),
+        "++" => Some(Mark::Increment),
+        "--" => Some(Mark::Decrement),
+        "+=" => Some(Mark::AddAssign),
+        "-=" => Some(Mark::SubtractAssign),
+        "*=" => Some(Mark::MultiplyAssign),
+        "/=" => Some(Mark::DivideAssign),
+        "%=" => Some(Mark::RemainderAssign),
+        "<<=" => Some(Mark::ShiftLeftAssign),
+        ">>=" => Some(Mark::ShiftRightAssign),
+        "&=" => Some(Mark::BitAndAssign),
+        "^=" => Some(Mark::BitXorAssign),
+        "|=" => Some(Mark::BitOrAssign),
         _ => None,
     }
 }

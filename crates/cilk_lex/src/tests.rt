@@ -75,6 +75,82 @@ fn words_and_names(rt: HostRuntime) -> Result<(), Fail> {
 }
 
 #[test]
+fn marks(rt: HostRuntime) -> Result<(), Fail> {
+    let marks =
+        "<<= >>= += -= *= /= %= &= ^= |= == != <= >= && || << >> ++ -- ( ) { } [ ] ; , ? : + - * / % & | ^ ~ ! < > =";
+    let kinds = [
+        Mark::ShiftLeftAssign,
+        Mark::ShiftRightAssign,
+        Mark::AddAssign,
+        Mark::SubtractAssign,
+        Mark::MultiplyAssign,
+        Mark::DivideAssign,
+        Mark::RemainderAssign,
+        Mark::BitAndAssign,
+        Mark::BitXorAssign,
+        Mark::BitOrAssign,
+        Mark::Equal,
+        Mark::NotEqual,
+        Mark::LessOrEqual,
+        Mark::GreaterOrEqual,
+        Mark::And,
+        Mark::Or,
+        Mark::ShiftLeft,
+        Mark::ShiftRight,
+        Mark::Increment,
+        Mark::Decrement,
+        Mark::OpenParenthesis,
+        Mark::CloseParenthesis,
+        Mark::OpenBrace,
+        Mark::CloseBrace,
+        Mark::OpenBracket,
+        Mark::CloseBracket,
+        Mark::Semicolon,
+        Mark::Comma,
+        Mark::Question,
+        Mark::Colon,
+        Mark::Plus,
+        Mark::Minus,
+        Mark::Star,
+        Mark::Slash,
+        Mark::Percent,
+        Mark::Ampersand,
+        Mark::Bar,
+        Mark::Caret,
+        Mark::Tilde,
+        Mark::Exclamation,
+        Mark::Less,
+        Mark::Greater,
+        Mark::Assign,
+    ];
+    let list = tokens(rt.alloc(), marks)?;
+    assert_eq!(rt; list.len(), kinds.len());
+    for (token, mark) in list.iter().zip(&kinds) {
+        assert_eq!(rt; token.kind, Kind::Mark(*mark));
+    }
+    Ok(())
+}
+
+#[test]
+fn longest_marks(rt: HostRuntime) -> Result<(), Fail> {
+    let seen = shown(rt.alloc(), "<<<=>>>=--1")?;
+    assert_eq!(rt;
+        seen.as_str(),
+        "Mark(ShiftLeft)@0:<< Mark(LessOrEqual)@2:<= Mark(ShiftRight)@4:>> Mark(GreaterOrEqual)@6:>= Mark(Decrement)@8:-- Number(1)@10:1 "
+    );
+    let seen = shown(rt.alloc(), "a+++b&&&c!==d")?;
+    assert_eq!(rt;
+        seen.as_str(),
+        "Name@0:a Mark(Increment)@1:++ Mark(Plus)@3:+ Name@4:b Mark(And)@5:&& Mark(Ampersand)@7:& Name@8:c Mark(NotEqual)@9:!= Mark(Assign)@11:= Name@12:d "
+    );
+    // The last byte of the text, and a byte past ASCII right behind a mark.
+    let seen = shown(rt.alloc(), "x<")?;
+    assert_eq!(rt; seen.as_str(), "Name@0:x Mark(Less)@1:< ");
+    assert_eq!(rt; tokens(rt.alloc(), "<é").err(), Some(LexFault::BadByte(1)));
+    Ok(())
+}
+
+#[test]
 fn faults(rt: HostRuntime) -> Result<(), Fail> {
     for (text, fault) in [
         ("int @", LexFault::BadByte(4)),

@@ -78,6 +78,39 @@ signed sign.Assign o e = absurd cc
 signed sign.Plus o e = signed_as ops.Add o e (record { written = refl; means = refl })
 signed sign.Minus o e = signed_as ops.Subtract o e (record { written = refl; means = refl })
 signed sign.Star o e = signed_as ops.Multiply o e (record { written = refl; means = refl })
+signed sign.OpenBracket o e = absurd cc
+signed sign.CloseBracket o e = absurd cc
+signed sign.Question o e = absurd cc
+signed sign.Colon o e = absurd cc
+signed sign.Slash o e = absurd cc
+signed sign.Percent o e = absurd cc
+signed sign.Ampersand o e = absurd cc
+signed sign.Bar o e = absurd cc
+signed sign.Caret o e = absurd cc
+signed sign.Tilde o e = absurd cc
+signed sign.Exclamation o e = absurd cc
+signed sign.Less o e = absurd cc
+signed sign.Greater o e = absurd cc
+signed sign.ShiftLeft o e = absurd cc
+signed sign.ShiftRight o e = absurd cc
+signed sign.LessOrEqual o e = absurd cc
+signed sign.GreaterOrEqual o e = absurd cc
+signed sign.Equal o e = absurd cc
+signed sign.NotEqual o e = absurd cc
+signed sign.And o e = absurd cc
+signed sign.Or o e = absurd cc
+signed sign.Increment o e = absurd cc
+signed sign.Decrement o e = absurd cc
+signed sign.AddAssign o e = absurd cc
+signed sign.SubtractAssign o e = absurd cc
+signed sign.MultiplyAssign o e = absurd cc
+signed sign.DivideAssign o e = absurd cc
+signed sign.RemainderAssign o e = absurd cc
+signed sign.ShiftLeftAssign o e = absurd cc
+signed sign.ShiftRightAssign o e = absurd cc
+signed sign.BitAndAssign o e = absurd cc
+signed sign.BitXorAssign o e = absurd cc
+signed sign.BitOrAssign o e = absurd cc
 
 -- ---- expressions
 

@@ -16,7 +16,7 @@ use Rattle.cilk_written.proofs.Writes.{WritesAlone, nothing_writes, alone_then, 
 
 -- an expression, and the semicolon behind it
 pub ended_writes : (e : tree.Expr) → CanWriteExpr e → WritesAlone (expr_text e ++ codes ";") (expr_lexemes e ++ mark sign.Semicolon ∷ [])
-ended_writes e h = stopped_alone (expr_writes e h) (λ rest. refl) (mark_writes sign.Semicolon)
+ended_writes e h = stopped_alone (expr_writes e h) (λ rest. refl) (mark_writes sign.Semicolon refl)
 
 -- an initialiser, if there is one, and the semicolon behind it
 
@@ -25,8 +25,8 @@ value_stops None rest = refl
 value_stops (Some e) rest = refl
 
 value_writes : (v : Option tree.Expr) → CanWriteValue v → WritesAlone (initialiser_text v ++ codes ";") (value_lexemes v ++ mark sign.Semicolon ∷ [])
-value_writes None h = mark_writes sign.Semicolon
-value_writes (Some e) h = stopped_alone (alone_then (spaced_mark sign.Assign) (expr_writes e h)) (λ rest. refl) (mark_writes sign.Semicolon)
+value_writes None h = mark_writes sign.Semicolon refl
+value_writes (Some e) h = stopped_alone (alone_then (spaced_mark sign.Assign) (expr_writes e h)) (λ rest. refl) (mark_writes sign.Semicolon refl)
 
 module _ (indent : List ℕ) (blank : WritesAlone indent []) where
   decl_writes : (d : tree.Decl) → IsName d.name.text → CanWriteValue d.value → WritesAlone (decl_line indent d) (decl_lexemes d)

@@ -18,7 +18,7 @@ good_front (of_blank b h e) = tt
 good_front (of_word k e s) = tt
 good_front (of_name n s) = n
 good_front (of_number n h s) = number_le h
-good_front (of_mark m e) = tt
+good_front (of_mark m e s) = tt
 
 abbrev pub IsGoodPiece : Piece → Type 0
 IsGoodPiece p = IsGoodLexeme p.lexeme

@@ -21,8 +21,8 @@ opening x = word key.Cilk ∷ word key.Int ∷ name x ∷ mark sign.OpenParenthe
 
 no_parameters : WritesAlone (codes "(void) {") (mark sign.OpenParenthesis ∷ word key.Void ∷ mark sign.CloseParenthesis ∷ mark sign.OpenBrace ∷ [])
 no_parameters =
-    let closed = stopped_alone (word_writes key.Void) (λ rest. refl) (mark_writes sign.CloseParenthesis) in
-    both_alone (mark_writes sign.OpenParenthesis) (both_alone closed (both_alone space_writes (mark_writes sign.OpenBrace)))
+    let closed = stopped_alone (word_writes key.Void) (λ rest. refl) (mark_writes sign.CloseParenthesis refl) in
+    both_alone (mark_writes sign.OpenParenthesis refl) (both_alone closed (both_alone space_writes (mark_writes sign.OpenBrace refl)))
 
 opening_writes : (x : List ℕ) → IsName x → WritesAlone (codes "cilk int " ++ (x ++ codes "(void) {")) (opening x)
 opening_writes x n = both_alone (both_alone (spaced_word key.Cilk) (spaced_word key.Int)) (stopped_alone (name_writes n) (λ rest. refl) no_parameters)
@@ -32,7 +32,7 @@ module _ (indent : List ℕ) (blank : WritesAlone indent []) where
   body_writes : (ds : List tree.Decl) (ss : tree.Stmts) → CanWriteBlock (tree.block ds ss)
       → WritesAlone (text_of_lines (block_lines indent (tree.block ds ss) ++ codes "}" ∷ [])) (decls_lexemes ds ++ (stmts_lexemes ss ++ mark sign.CloseBrace ∷ []))
   body_writes ds ss h =
-      let brace = one_line (mark_writes sign.CloseBrace) in
+      let brace = one_line (mark_writes sign.CloseBrace refl) in
       let stmts = more_lines (stmts_lines indent ss) (codes "}" ∷ []) (stmts_writes indent blank ss h.1) brace in
       rw (append_assoc (map (decl_line indent) ds)) (more_lines (map (decl_line indent) ds) (stmts_lines indent ss ++ codes "}" ∷ []) (decls_writes indent blank ds h.0) stmts)
 

@@ -5,6 +5,7 @@ pub mod Good
 pub mod Items
 pub mod Lines
 pub mod Made
+pub mod Marks
 pub mod Spaced
 pub mod Stmts
 pub mod Writes

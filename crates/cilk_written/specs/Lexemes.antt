@@ -1,7 +1,7 @@
 -- The lexemes of which a canonical text is made.
 use Rattle.std.specs.Prelude.{◌≡◌, ◌≤◌, List, [], ◌∷◌, ◌++◌, map, Option, Some, None}
 use Rattle.cilk_lex.specs.Lexeme.{Lexeme, Piece, word, name, number, mark}
-use Rattle.cilk_lex.specs.Spelling.{IsName, int_max, mark_byte}
+use Rattle.cilk_lex.specs.Spelling.{IsName, int_max, mark_spelling}
 use Rattle.cilk_lex.specs.declared.keyword.Keyword.TheVariants as key
 use Rattle.cilk_lex.specs.declared.mark.Mark.{Mark}
 use Rattle.cilk_lex.specs.declared.mark.Mark.TheVariants as sign
@@ -67,7 +67,7 @@ program_lexemes p = items_lexemes p.items
 
 -- the text of the operator is that of its mark
 abbrev pub HasMark : BinOp → Type 0
-HasMark o = operator_text o ≡ mark_byte (mark_of o) ∷ []
+HasMark o = operator_text o ≡ mark_spelling (mark_of o)
 
 -- Each name of the tree can be written as a name, each number as a number, and each operator as a mark.
 
