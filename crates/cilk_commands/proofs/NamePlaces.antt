@@ -8,7 +8,6 @@ use Rattle.cilk_tree.specs.Tree.{Word, Expr, Decl, Stmt, Block, Item, Program}
 use Rattle.cilk_tree.specs.Stmts.{stmts_of}
 use Rattle.cilk_expr.specs.Grammar.{Spells, a_number, a_name, in_parentheses, of_two}
 use Rattle.cilk_parse.specs.Grammar.{Each, no_more, one_more, joined, SpellsDeclarator, alone, with_value, SpellsNextDeclarator, SpellsDeclaration, SpellsStmt, an_assignment, a_return, SpellsBlock, SpellsItem, SpellsItems, SpellsProgram}
-use Rattle.cilk_parse.specs.Grammar as grammar
 use Rattle.cilk_check.specs.Names.{expr_names, value_names, stmt_names, stmts_names, decls_of, item_name}
 use Rattle.cilk_check.specs.Names as names
 
@@ -130,11 +129,13 @@ module _ (n : ℕ) where
         let m = parts s.parameters s.body k.1.1.1 in
         rw s.item (k.1.1.0, block_begins s.body s.block s.spelled_body m.1)
 
-    items_begin : (ts : List Piece) (is : List Item) → SpellsItems l d ts is → AllBegin n ts → ItemsBegin n is
-    items_begin ts is (grammar.nothing e w) g = rw w tt
-    items_begin ts is (grammar.alone {i = i} s w) g = rw w (item_begins ts i s g, tt)
+    items_begin : {ts : List Piece} {is : List Item} → SpellsItems l d ts is → AllBegin n ts → ItemsBegin n is
+    items_begin (no_more e w) g = rw w tt
+    items_begin (one_more {us = us} {vs = vs} {x = i} {xs = is} r s e w) g =
+        let k = parts us vs (same e g) in
+        rw w (item_begins us i r k.0, items_begin s k.1)
 
 -- the names of the program that a text spells
 pub program_begins : (text : List ℕ) (p : Program) → SpellsProgram text p → ItemsBegin (length text) p.items
 program_begins text p s =
-    items_begin (length text) _ _ s.pieces p.items s.items (starts (length text) (omega arith) s.lexed)
+    items_begin (length text) _ _ s.items (starts (length text) (omega arith) s.lexed)

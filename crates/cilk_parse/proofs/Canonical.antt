@@ -43,7 +43,7 @@ bare_items-bare (x ∷ xs) = λ i. bare_item-bare x i ∷ bare_items-bare xs i
 
 pub printed_again : (text : List ℕ) (p : tree.Program) → SpellsProgram text p → (q : tree.Program) × SpellsProgram (program_text p) q × (bare_program q ≡ bare_program p)
 printed_again text p s =
-    let c = canonical_items operator_limit parenthesis_limit s.pieces p.items s.items (good_pieces s.lexed) in
+    let c = canonical_items operator_limit parenthesis_limit s.items (good_pieces s.lexed) in
     let w = (program_made p c.can).from 0 in
     let m = moved_items operator_limit parenthesis_limit (all_at0 (items_lexemes p.items)) w.0 (map bare_item p.items) (w.2 ∙ sym (lexemes-at0 (items_lexemes p.items))) c.spelled in (
       record { items = m.items; length = length (program_text p) },

@@ -1,7 +1,6 @@
 -- The canonical lexemes of declarations, statements and definitions spell them, places aside.
 use Rattle.std.proofs.Common.{◌≡◌, ℕ, List, [], ◌∷◌, ◌++◌, map, Some, None, refl, sym, ap, subst, ◌∙◌}
 use Rattle.std.specs.Prelude.{All}
-use Rattle.std.proofs.lemmas.List.{append-nil}
 use Rattle.std.proofs.lemmas.List.Elements.{All-nil, All-cons, All-head, All-tail, All-append}
 use Rattle.cilk_lex.specs.Lexeme.{Piece, word, name, mark}
 use Rattle.cilk_lex.specs.Spelling.{IsName}
@@ -238,12 +237,11 @@ module _ (l : ℕ) where
       subst (λ (j : tree.Item). CanonicalItem l j) (sym s.item)
       (item_of (record { text = s.text; place = s.name_piece.start }) s.block (good_name s.name_piece (s.parameters ++ s.body) s.text s.is_name k) (canonical_block l d s.body s.block s.spelled_body m.1))
 
-  one_item : (i : tree.Item) → CanonicalItem l i → CanonicalItems l (i ∷ [])
-  one_item i c = record {
-    can = (c.can, tt);
-    spelled = grammar.alone (subst (λ (ts : List Piece). SpellsItem l l ts (bare_item i)) (ap all_at0 (sym (append-nil (item_lexemes i)))) c.spelled) refl;
-  }
+  more_items : (i : tree.Item) (is : List tree.Item) → CanonicalItem l i → CanonicalItems l is → CanonicalItems l (i ∷ is)
+  more_items i is c k = record { can = (c.can, k.can); spelled = one_more c.spelled k.spelled (at0-append (item_lexemes i) (items_lexemes is)) refl }
 
-  pub canonical_items : (d : ℕ) (ts : List Piece) (is : List tree.Item) → SpellsItems l d ts is → AllGood ts → CanonicalItems l is
-  canonical_items d ts is (grammar.nothing e w) g = rw w (record { can = tt; spelled = grammar.nothing refl refl })
-  canonical_items d ts is (grammar.alone {i = i} s w) g = rw w (one_item i (canonical_item d ts i s g))
+  pub canonical_items : (d : ℕ) {ts : List Piece} {is : List tree.Item} → SpellsItems l d ts is → AllGood ts → CanonicalItems l is
+  canonical_items d (no_more e w) g = rw w (record { can = tt; spelled = no_more refl refl })
+  canonical_items d (one_more {us = us} {vs = vs} {x = i} {xs = is} r s e w) g =
+      let k = good_parts us vs (good_same e g) in
+      rw w (more_items i is (canonical_item d us i r k.0) (canonical_items d s k.1))

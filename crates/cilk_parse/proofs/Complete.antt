@@ -14,7 +14,7 @@ use Rattle.cilk_expr.proofs.Tools.{mark_here, keyword_here, name_here}
 use Rattle.cilk_expr.proofs.Whole.{whole_again}
 use Rattle.cilk_parse.specs.Grammar as grammar
 use Rattle.cilk_parse.specs.Grammar.{Each, joined, SpellsDeclarator, SpellsNextDeclarator, SpellsDeclaration, SpellsStmt, SpellsBlock, SpellsNoParameters, SpellsItem, SpellsItems}
-use Rattle.cilk_parse.specs.Reading.{value_by, value_at, declarator_at, next_declarator_at, next_declarators_at, begins_declarator, declaration_at, declarations_at, begins_declaration, value_end_at, assignment_at, return_at, stmt_by, stmt_at, stmts_at, begins_stmt, block_at, skip_void, parameters_at, item_at, items_at}
+use Rattle.cilk_parse.specs.Reading.{value_by, value_at, declarator_at, next_declarator_at, next_declarators_at, begins_declarator, declaration_at, declarations_at, begins_declaration, value_end_at, assignment_at, return_at, stmt_by, stmt_at, stmts_at, begins_stmt, block_at, skip_void, parameters_at, item_at, begins_item, items_at}
 use Rattle.cilk_parse.proofs.ManyLaws.{BeginsAll, follows, many_of_again}
 use Rattle.cilk_parse.proofs.Sound.{mark_test}
 
@@ -180,16 +180,12 @@ item_again l d us i rest s =
     ∙ ap (λ r. r >>= λ b. Ok (tree.procedure (record { name = word_at s.text s.name_piece; body = b.0 }), b.1)) (block_again l d s.body s.block rest s.spelled_body)
     ∙ ap (λ y. Ok (y, rest)) (sym s.item)
 
-items_nonempty : (l d : ℕ) (t : Piece) (ts : List Piece) (i : tree.Item) → item_at l d (t ∷ ts) ≡ Ok (i, []) → items_at l d (t ∷ ts) ≡ Ok (i ∷ [], [])
-unfolding items_at
-items_nonempty l d t ts i h = rw h refl
-
-items_alone : (l d : ℕ) (ts : List Piece) (i : tree.Item) → (t : Piece) (us : List Piece) → ts ≡ t ∷ us → SpellsItem l d ts i → items_at l d ts ≡ Ok (i ∷ [], [])
-items_alone l d ts i t us e s =
-    let h : item_at l d (t ∷ us) ≡ Ok (i, []) = ap (item_at l d) (sym (append-nil ts ∙ e)) ∙ item_again l d ts i [] s in
-    ap (items_at l d) e ∙ items_nonempty l d t us i h
+item_begins : (l d : ℕ) → BeginsAll (SpellsItem l d) begins_item
+item_begins l d us x rest s =
+    (ap (λ (v : List Piece). begins_item (kind_at (v ++ rest))) s.whole, omega (arith, ap length s.whole))
 
 pub items_again : (l d : ℕ) (ts : List Piece) (is : List tree.Item) → SpellsItems l d ts is → items_at l d ts ≡ Ok (is, [])
 unfolding items_at
-items_again l d ts is (grammar.nothing e w) = ap (items_at l d) e ∙ ap (λ y. Ok (y, [])) (sym w)
-items_again l d ts is (grammar.alone {i = i} s w) = items_alone l d ts i s.cilk (s.int ∷ s.name_piece ∷ (s.parameters ++ s.body)) s.whole s ∙ ap (λ y. Ok (y, [])) (sym w)
+items_again l d ts is s =
+    ap (λ (us : List Piece). items_at l d us) (sym (append-nil ts))
+    ∙ many_of_again (SpellsItem l d) begins_item Anything (λ vs. item_at l d vs) (item_begins l d) (λ vs x r t f. item_again l d vs x r t) (λ vs h. tt) ts is [] s refl tt

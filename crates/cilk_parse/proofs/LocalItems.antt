@@ -1,5 +1,5 @@
 -- Where reading a program meets a fault, it meets it whatever follows that token.
-use Rattle.std.proofs.Common.{◌≡◌, ℕ, ◌≤◌, Bool, true, false, List, [], ◌∷◌, length, Option, Some, None, Result, Ok, Err, refl, sym, ap, subst, ◌∙◌}
+use Rattle.std.proofs.Common.{◌≡◌, ℕ, ◌≤◌, Bool, true, false, List, ◌∷◌, length, Option, Some, None, Result, Ok, Err, refl, sym, ap, subst, ◌∙◌}
 use Rattle.cilk_lex.specs.Lexeme.{Piece}
 use Rattle.cilk_lex.specs.declared.keyword.Keyword.TheVariants as key
 use Rattle.cilk_lex.specs.declared.mark.Mark.TheVariants as sign
@@ -11,12 +11,12 @@ use Rattle.cilk_expr.specs.declared.fault.Fault.{Fault}
 use Rattle.cilk_expr.specs.declared.fault.Fault.TheVariants.{Unexpected}
 use Rattle.cilk_expr.specs.Front.{◌>>=◌, kind_at, behind, is_mark, is_keyword, mark_at, keyword_at, name_at}
 use Rattle.cilk_expr.specs.Reading.{whole_of}
-use Rattle.cilk_expr.proofs.Local.{SameHead, same_kind, Reader, Local, unexpected, local_bind, local_as, local_skip, stuck_here, ok_here, local_mark, local_keyword, local_name}
+use Rattle.cilk_expr.proofs.Local.{same_kind, Reader, Local, unexpected, local_bind, local_as, local_skip, stuck_here, ok_here, local_mark, local_keyword, local_name}
 use Rattle.cilk_expr.proofs.LocalExpr.{local_whole}
-use Rattle.cilk_parse.specs.Grammar.{joined, SpellsNextDeclarator, SpellsDeclaration, SpellsStmt}
-use Rattle.cilk_parse.specs.Reading.{Read, value_by, value_at, declarator_at, next_declarator_at, next_declarators_at, begins_declarator, declaration_at, declarations_at, begins_declaration, value_end_at, assignment_at, return_at, stmt_by, stmt_at, stmts_at, begins_stmt, block_at, skip_void, parameters_at, item_at, end_at, items_at}
+use Rattle.cilk_parse.specs.Grammar.{joined, SpellsNextDeclarator, SpellsDeclaration, SpellsStmt, SpellsItem}
+use Rattle.cilk_parse.specs.Reading.{Read, value_by, value_at, declarator_at, next_declarator_at, next_declarators_at, begins_declarator, declaration_at, declarations_at, begins_declaration, value_end_at, assignment_at, return_at, stmt_by, stmt_at, stmts_at, begins_stmt, block_at, skip_void, parameters_at, item_at, begins_item, items_at}
 use Rattle.cilk_parse.proofs.ManyLaws.{Shortens, took_shorter, local_many}
-use Rattle.cilk_parse.proofs.Sound.{mark_test, keyword_test, next_declarator_takes, declaration_takes, stmt_takes}
+use Rattle.cilk_parse.proofs.Sound.{mark_test, keyword_test, next_declarator_takes, declaration_takes, stmt_takes, item_takes}
 
 pub next_declarator_shorter : (l d : ℕ) → Shortens (λ us. next_declarator_at l d us)
 next_declarator_shorter l d us y h = took_shorter (SpellsNextDeclarator l d) us y (next_declarator_takes l d us y h)
@@ -26,6 +26,9 @@ declaration_shorter l d us y h = took_shorter (SpellsDeclaration l d) us y (decl
 
 pub stmt_shorter : (l d : ℕ) → Shortens (λ us. stmt_at l d us)
 stmt_shorter l d us y h = took_shorter (SpellsStmt l d) us y (stmt_takes l d us y h)
+
+pub item_shorter : (l d : ℕ) → Shortens (λ us. item_at l d us)
+item_shorter l d us y h = took_shorter (SpellsItem l d) us y (item_takes l d us y h)
 
 module _ (same : Type 0) (l l' d d' : ℕ) (le : l ≤ l') (le' : d ≤ d') (eq : same → l ≡ l') (eq' : same → d ≡ d') where
   expression : (ts : List Piece) → Local {A = tree.Expr} same ts (whole_of l d ts) (λ us. whole_of l' d' us)
@@ -186,33 +189,6 @@ module _ (same : Type 0) (l l' d d' : ℕ) (le : l ≤ l') (le' : d ≤ d') (eq 
       (λ x j. parameters (λ w. block_at l d w >>= λ b. defined x.0 b) (λ w. block_at l' d' w >>= λ b. defined x.0 b) x.1
       (λ w. local_bind same w (block_at l d w) (λ v. block_at l' d' v) (λ b. defined x.0 b) (λ b. defined x.0 b) (block w) (λ b k. ok_here (tree.procedure (record { name = x.0; body = b.0 })) b.1 _ (λ v s. refl))))))
 
-  abbrev ended : tree.Item → List Piece → Read (List tree.Item)
-  ended i ts = end_at ts >>= λ us. Ok (i ∷ [], us)
-
-  ends : (i : tree.Item) (ts : List Piece) → Local {A = List tree.Item} same ts (ended i ts) (λ us. ended i us)
-  ends i [] = ok_here (i ∷ []) [] _ (λ us s. at_end us s)
-    where
-      at_end : (us : List Piece) → SameHead [] us → ended i us ≡ Ok (i ∷ [], us)
-      at_end [] s = refl
-      at_end (u ∷ us) s = elim s [ ]
-  ends i (t ∷ ts) = stuck_here unexpected (t ∷ ts) _ (λ us s. at_token us s)
-    where
-      at_token : (us : List Piece) → SameHead (t ∷ ts) us → ended i us ≡ Err (Unexpected (length us))
-      at_token [] s = elim s [ ]
-      at_token (u ∷ us) s = refl
-
-  items_nonempty : (t : Piece) (ts us : List Piece) → SameHead (t ∷ ts) us → items_at l' d' us ≡ (item_at l' d' us >>= λ i. ended i.0 i.1)
-  unfolding items_at
-  items_nonempty t ts [] s = elim s [ ]
-  items_nonempty t ts (u ∷ us) s = refl
-
   pub local_items : (ts : List Piece) → Local {A = List tree.Item} same ts (items_at l d ts) (λ us. items_at l' d' us)
   unfolding items_at
-  local_items [] = ok_here [] [] _ (λ us s. at_end us s)
-    where
-      at_end : (us : List Piece) → SameHead [] us → items_at l' d' us ≡ Ok ([], us)
-      at_end [] s = refl
-      at_end (u ∷ us) s = elim s [ ]
-  local_items (t ∷ ts) =
-      local_as same (t ∷ ts) _ (λ us. item_at l' d' us >>= λ i. ended i.0 i.1) _ (λ us s. items_nonempty t ts us s)
-      (local_bind same (t ∷ ts) (item_at l d (t ∷ ts)) (λ us. item_at l' d' us) (λ i. ended i.0 i.1) (λ i. ended i.0 i.1) (item (t ∷ ts)) (λ i h. ends i.0 i.1))
+  local_items ts = local_many same begins_item (λ us. item_at l d us) (λ us. item_at l' d' us) (item_shorter l d) (item_shorter l' d') item ts

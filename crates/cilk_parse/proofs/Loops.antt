@@ -1,5 +1,5 @@
 -- Reading declarations and statements in loops.
-use Rattle.std.proofs.Common.{◌≡◌, ℕ, ◌<◌, Bool, true, false, not, List, [], ◌∷◌, ◌++◌, length, Result, Ok, Err, refl, sym, ap, ◌∙◌, append_assoc}
+use Rattle.std.proofs.Common.{◌≡◌, ℕ, ◌<◌, ◌≤◌, Bool, true, false, not, List, [], ◌∷◌, ◌++◌, length, Result, Ok, Err, refl, sym, ap, ◌∙◌, append_assoc, arith}
 use Rattle.std.proofs.lemmas.List.{append-nil}
 use Rattle.cilk_lex.specs.Lexeme.{Piece}
 use Rattle.cilk_lex.specs.declared.keyword.Keyword.TheVariants as key
@@ -10,9 +10,9 @@ use Rattle.cilk_expr.specs.declared.fault.ParseError.TheVariants as errors
 use Rattle.cilk_expr.specs.Front.{◌>>=◌, Fails, Gives, kind_at, is_mark, is_keyword, mark_at, keyword_at}
 use Rattle.cilk_expr.proofs.Loop.{fails_first}
 use Rattle.cilk_parse.specs.Grammar.{joined}
-use Rattle.cilk_parse.specs.Reading.{Read, onto, declarator_at, next_declarator_at, next_declarators_at, begins_declarator, declaration_at, declarations_at, begins_declaration, joined_at, stmt_at, stmts_at, begins_stmt}
+use Rattle.cilk_parse.specs.Reading.{Read, onto, declarator_at, next_declarator_at, next_declarators_at, begins_declarator, declaration_at, declarations_at, begins_declaration, joined_at, stmt_at, stmts_at, begins_stmt, item_at, begins_item, items_at}
 use Rattle.cilk_parse.proofs.ManyLaws.{finish, many_ends, many_fails, many_goes}
-use Rattle.cilk_parse.proofs.LocalItems.{next_declarator_shorter, declaration_shorter, stmt_shorter}
+use Rattle.cilk_parse.proofs.LocalItems.{next_declarator_shorter, declaration_shorter, stmt_shorter, item_shorter}
 
 -- what was read behind something else
 pub onto_ok : {A : Type 0} (front zs : List A) (r : Read (List A)) (rest : List Piece) → onto front r ≡ Ok (zs, rest) → (y : List A) × (r ≡ Ok (y, rest)) × (zs ≡ front ++ y)
@@ -137,3 +137,33 @@ module _ (l d : ℕ) (front : List tree.Stmt) (ts : List Piece) (total : Read (L
   pub stmts_go : (y : tree.Stmt) (rest : List Piece) → is_mark sign.CloseBrace (kind_at ts) ≡ false → finish (λ xs. front ++ xs) (stmts_at l d ts) ≡ total → stmt_at l d ts ≡ Ok (y, rest) → finish (λ xs. (front ++ y ∷ []) ++ xs) (stmts_at l d rest) ≡ total
   unfolding stmts_at
   stmts_go y rest e h k = many_goes begins_stmt (λ us. stmt_at l d us) (stmt_shorter l d) ts (λ xs. front ++ xs) total (λ xs. (front ++ y ∷ []) ++ xs) y rest (λ xs. append_assoc front (y ∷ []) xs) (ap (λ b. not b) e) h k
+
+-- ---- definitions
+
+pub items_begin : (l d : ℕ) (ts : List Piece) → finish (λ xs. [] ++ xs) (items_at l d ts) ≡ items_at l d ts
+items_begin l d ts = same (items_at l d ts)
+  where
+    same : (r : Read (List tree.Item)) → finish (λ xs. [] ++ xs) r ≡ r
+    same (Ok x) = refl
+    same (Err e) = refl
+
+some_left : (ts : List Piece) → 0 < length ts → begins_item (kind_at ts) ≡ true
+some_left [] lt = absurd (omega (arith, lt))
+some_left (t ∷ ts) lt = refl
+
+none_left : (ts : List Piece) → length ts ≤ 0 → begins_item (kind_at ts) ≡ false
+none_left [] le = refl
+none_left (t ∷ ts) le = absurd (omega (arith, le))
+
+module _ (l d : ℕ) (front : List tree.Item) (ts : List Piece) (total : Read (List tree.Item)) where
+  pub items_end : length ts ≤ 0 → finish (λ xs. front ++ xs) (items_at l d ts) ≡ total → total ≡ Ok (front, ts)
+  unfolding items_at
+  items_end e h = many_ends begins_item (λ us. item_at l d us) (item_shorter l d) ts (λ xs. front ++ xs) total (none_left ts e) h ∙ ap (λ v. Ok (v, ts)) (append-nil front)
+
+  pub items_fail : (x : ParseError) → 0 < length ts → finish (λ xs. front ++ xs) (items_at l d ts) ≡ total → Fails x (item_at l d ts) → Fails x total
+  unfolding items_at
+  items_fail x e h k = many_fails begins_item (λ us. item_at l d us) (item_shorter l d) ts (λ xs. front ++ xs) total x (some_left ts e) h k
+
+  pub items_go : (y : tree.Item) (rest : List Piece) → 0 < length ts → finish (λ xs. front ++ xs) (items_at l d ts) ≡ total → item_at l d ts ≡ Ok (y, rest) → finish (λ xs. (front ++ y ∷ []) ++ xs) (items_at l d rest) ≡ total
+  unfolding items_at
+  items_go y rest e h k = many_goes begins_item (λ us. item_at l d us) (item_shorter l d) ts (λ xs. front ++ xs) total (λ xs. (front ++ y ∷ []) ++ xs) y rest (λ xs. append_assoc front (y ∷ []) xs) (some_left ts e) h k

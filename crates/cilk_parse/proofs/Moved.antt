@@ -276,7 +276,6 @@ pub record MovedItems (l d : ℕ) (us : List Piece) (is : List tree.Item) : Type
   pub bare : map bare_item items ≡ map bare_item is
 
 pub moved_items : (l d : ℕ) (ts us : List Piece) (is : List tree.Item) → lexemes us ≡ lexemes ts → SpellsItems l d ts is → MovedItems l d us is
-moved_items l d ts us is s (grammar.nothing e w) = record { items = []; spelled = grammar.nothing (no_pieces us (s ∙ ap lexemes e)) refl; bare = ap (map bare_item) (sym w) }
-moved_items l d ts us is s (grammar.alone {i = i} r w) =
-    let m = moved_item l d ts us i s r in
-    record { items = m.value ∷ []; spelled = grammar.alone m.spelled refl; bare = (λ j. m.same j ∷ []) ∙ ap (map bare_item) (sym w) }
+moved_items l d ts us is s r =
+    let m = moved_each (SpellsItem l d) bare_item (moved_item l d) ts us is s r in
+    record { items = m.value; spelled = m.spelled; bare = m.same }

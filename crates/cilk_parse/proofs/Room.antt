@@ -77,5 +77,4 @@ module _ (l d l' d' : ℕ) (le : l ≤ l') (ge : d ≤ d') where
   }
 
 pub roomier_items : (l d l' d' : ℕ) (ts : List Piece) (is : List tree.Item) → l ≤ l' → d ≤ d' → SpellsItems l d ts is → SpellsItems l' d' ts is
-roomier_items l d l' d' ts is le ge (grammar.nothing e w) = grammar.nothing e w
-roomier_items l d l' d' ts is le ge (grammar.alone {i = i} s w) = grammar.alone (roomier_item l d l' d' le ge ts i s) w
+roomier_items l d l' d' ts is le ge s = each_more (SpellsItem l d) (SpellsItem l' d') (roomier_item l d l' d' le ge) s

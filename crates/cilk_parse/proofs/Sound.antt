@@ -18,7 +18,7 @@ use Rattle.cilk_expr.proofs.Whole.{whole_takes}
 use Rattle.cilk_parse.specs.Grammar as grammar
 use Rattle.cilk_parse.specs.Grammar.{Each, joined, SpellsDeclarator, SpellsNextDeclarator, SpellsDeclaration, SpellsStmt, SpellsBlock, SpellsNoParameters, SpellsItem, SpellsItems}
 use Rattle.cilk_parse.specs.Many.{many_of}
-use Rattle.cilk_parse.specs.Reading.{value_by, value_at, declarator_at, next_declarator_at, next_declarators_at, begins_declarator, declaration_at, declarations_at, begins_declaration, value_end_at, assignment_at, return_at, stmt_by, stmt_at, stmts_at, begins_stmt, block_at, skip_void, parameters_at, item_at, end_at, items_at}
+use Rattle.cilk_parse.specs.Reading.{value_by, value_at, declarator_at, next_declarator_at, next_declarators_at, begins_declarator, declaration_at, declarations_at, begins_declaration, value_end_at, assignment_at, return_at, stmt_by, stmt_at, stmts_at, begins_stmt, block_at, skip_void, parameters_at, item_at, begins_item, items_at}
 use Rattle.cilk_parse.proofs.ManyLaws.{Took, many_takes}
 
 pub mark_test : (m : Mark) (ts : List Piece) → is_mark m (kind_at ts) ≡ true → Next (mark m) ts (behind ts)
@@ -263,18 +263,14 @@ item_takes l d ts y e =
       };
     })
 
-end_is : (ts us : List Piece) → end_at ts ≡ Ok us → (ts ≡ []) × (us ≡ [])
-end_is [] us e = (refl, sym (ok_is [] us e))
-end_is (t ∷ ts) us e = absurd cc
+nothing_left : (ts : List Piece) → begins_item (kind_at ts) ≡ false → ts ≡ []
+nothing_left [] e = refl
+nothing_left (t ∷ ts) e = absurd cc
 
 -- all of the tokens are read
 pub items_takes : (l d : ℕ) (ts : List Piece) (y : List tree.Item × List Piece) → items_at l d ts ≡ Ok y → SpellsItems l d ts y.0
-unfolding items_at
-items_takes l d [] y e = grammar.nothing refl (sym (ap (λ (z : List tree.Item × List Piece). z.0) (ok_is ([], []) y e)))
-items_takes l d (t ∷ ts) y e =
-    let i = bind_ok (item_at l d (t ∷ ts)) _ y e in
-    let z = bind_ok (end_at i.0.1) _ y i.2 in
-    let k = item_takes l d (t ∷ ts) i.0 i.1 in
-    let nothing_left = (end_is i.0.1 z.0 z.1).0 in
-    let all : t ∷ ts ≡ k.used = k.whole ∙ ap (λ (l : List Piece). k.used ++ l) nothing_left ∙ append-nil k.used in
-    grammar.alone (subst (λ (v : List Piece). SpellsItem l d v i.0.0) (sym all) k.spelled) (sym (ap (λ (w : List tree.Item × List Piece). w.0) (ok_is (i.0.0 ∷ [], z.0) y z.2)))
+unfolding items_at many_of
+items_takes l d ts y e =
+    let k = many_takes (SpellsItem l d) begins_item (λ us. item_at l d us) (suc (length ts)) ts y (λ us z h. item_takes l d us z h) e in
+    let all : ts ≡ k.used = k.whole ∙ ap (λ (l : List Piece). k.used ++ l) (nothing_left y.1 k.ends) ∙ append-nil k.used in
+    subst (λ (v : List Piece). SpellsItems l d v y.0) (sym all) k.spelled

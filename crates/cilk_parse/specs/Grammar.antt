@@ -95,10 +95,9 @@ pub record SpellsItem (l d : ℕ) (ts : List Piece) (i : tree.Item) : Type 0 whe
   pub whole : ts ≡ cilk ∷ int ∷ name_piece ∷ (parameters ++ body)
   pub item : i ≡ tree.procedure (record { name = word_at text name_piece; body = block })
 
--- nothing, or one definition
-pub data SpellsItems (l d : ℕ) : List Piece → List tree.Item → Type 0 where
-  nothing : {ts : List Piece} {is : List tree.Item} → ts ≡ [] → is ≡ [] → SpellsItems l d ts is
-  alone : {ts : List Piece} {i : tree.Item} {is : List tree.Item} → SpellsItem l d ts i → is ≡ i ∷ [] → SpellsItems l d ts is
+-- definitions one after another (C 1990, 6.7)
+abbrev pub SpellsItems : ℕ → ℕ → List Piece → List tree.Item → Type 0
+SpellsItems l d ts is = Each (SpellsItem l d) ts is
 
 -- the text, however long, spells the program, within the nesting limits
 pub record SpellsProgram (text : List ℕ) (p : tree.Program) : Type 0 where

@@ -1,5 +1,5 @@
 -- Reading a program from left to right.
-use Rattle.std.specs.Prelude.{ℕ, Bool, true, false, not, List, [], ◌∷◌, ◌++◌, length, Option, Some, None, Result, Ok, Err}
+use Rattle.std.specs.Prelude.{ℕ, Bool, true, false, not, List, ◌∷◌, ◌++◌, length, Option, Some, None, is_some, Result, Ok, Err}
 use Rattle.cilk_lex.specs.Lexeme.{Piece}
 use Rattle.cilk_lex.specs.declared.keyword.Keyword.TheVariants as key
 use Rattle.cilk_lex.specs.declared.mark.Mark.TheVariants as sign
@@ -127,14 +127,9 @@ item_at l d ts = do
   b ← block_at l d ws
   Ok (tree.procedure (record { name = x.0; body = b.0 }), b.1)
 
--- nothing more
-abbrev pub end_at : List Piece → Result (List Piece) Fault
-end_at [] = Ok []
-end_at (t ∷ ts) = Err (Unexpected (length (t ∷ ts)))
+-- all but the end of the tokens
+abbrev pub begins_item : Option Kind → Bool
+begins_item k = is_some k
 
 unfoldable pub items_at : ℕ → ℕ → List Piece → Read (List tree.Item)
-items_at l d [] = Ok ([], [])
-items_at l d (t ∷ ts) = do
-  i ← item_at l d (t ∷ ts)
-  us ← end_at i.1
-  Ok (i.0 ∷ [], us)
+items_at l d ts = many_of begins_item (λ us. item_at l d us) ts

@@ -48,19 +48,14 @@ fn item(cursor: &mut Cursor) -> Result<Item, ParseError>
 }
 
 /// Reads all definitions of a program, up to the end of the tokens.
-#[tactic(auto, unfolding(crate::specs::Reading::items_at))]
 pub fn items(cursor: &mut Cursor) -> Result<Vec<Item>, ParseError>
     ensures { Gives (λ v. (v.items, cursor.new.pieces)) result
         (items_at operator_limit parenthesis_limit cursor.old.pieces) }
 {
     let mut items = Vec::new(cursor.alloc());
-    if cursor.left() == 0 {
-        return Ok(items);
+    'each: while cursor.left() > 0 {
+        let next = item(cursor)?;
+        items.push(next)?;
     }
-    let first = item(cursor)?;
-    if cursor.left() > 0 {
-        return Err(cursor.unexpected());
-    }
-    items.push(first)?;
     Ok(items)
 }

@@ -36,7 +36,15 @@ fn enclosed(alloc: Global, count: usize) -> Result<String, AllocError> {
 
 #[test]
 fn reads_and_prints(rt: HostRuntime) -> Result<(), Fail> {
-    for (text, printed) in [("", ""), (SAMPLE, CANONICAL), (CANONICAL, CANONICAL)] {
+    for (text, printed) in [
+        ("", ""),
+        (SAMPLE, CANONICAL),
+        (CANONICAL, CANONICAL),
+        (
+            "cilk int f(){return 1;}cilk int g(void){}",
+            "cilk int f(void) {\n    return 1;\n}\ncilk int g(void) {\n}\n",
+        ),
+    ] {
         let program = read(rt.alloc(), text)?;
         assert_eq!(rt; program.length as usize, text.len());
         assert_eq!(rt; canonical(rt.alloc(), &program)?.as_str(), printed);
@@ -56,6 +64,10 @@ fn tells_the_first_fault(rt: HostRuntime) {
         ),
         ("cilk int main(void) {", ReadFault::Unexpected(21)),
         ("cilk int main(void) { } }", ReadFault::Unexpected(24)),
+        (
+            "cilk int main(void) { } cilk main(void) { }",
+            ReadFault::Unexpected(29),
+        ),
         ("int", ReadFault::Unexpected(0)),
         (
             "cilk int main(void) { a = 1; int b; }",
