@@ -14,7 +14,7 @@ use Rattle.cilk_model.specs.Labelled.{Action, variable, assign, return_with, clo
 use Rattle.cilk_model.specs.Label.{label}
 use Rattle.cilk_model.specs.Items.{Items, Head, head_of, opened, next}
 use Rattle.cilk_model.specs.Values.{Store, environment, with_value}
-use Rattle.cilk_model.specs.Effect.{Effect, writes, gives, effect_of}
+use Rattle.cilk_model.specs.Effect.{Effect, writes, gives, goes_by, effect_of}
 use Rattle.cilk_model.specs.Path.{Path}
 use Rattle.cilk_model.specs.Instance.{Instance, body_at}
 use Rattle.cilk_model.specs.State.{finished, State}
@@ -108,6 +108,7 @@ free_by : (program : Labelled) (s : State) (i : Instance) (n : ℕ) (e : Result 
 free_by program s i n (Err trap) = refl
 free_by program s i n (Ok (writes cell z)) = refl
 free_by program s i n (Ok (gives z)) = refl
+free_by program s i n (Ok goes_by) = refl
 
 -- a step of the root is possible
 pub step-free : (p : tree.Program) (f : Frame) → Before p f → waits_now (step_of (label p) (runs p f) []) ≡ None
