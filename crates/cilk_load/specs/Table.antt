@@ -9,7 +9,7 @@ use Rattle.cilk_model.specs.Labelled as labelled
 use Rattle.cilk_model.specs.Items.{Item, piece, Items, pieces, opened, Head, head_of, next, closing_items}
 use Rattle.cilk_model.specs.Label.{label}
 use Rattle.cilk_load.specs.declared.action.Action.{Action}
-use Rattle.cilk_load.specs.declared.action.Action.TheVariants.{Assign, Return, Close}
+use Rattle.cilk_load.specs.declared.action.Action.TheVariants.{Assign, Return, Close, AssignBy, Null, ReturnNothing}
 use Rattle.cilk_load.specs.declared.node.Node.{Node}
 use Rattle.cilk_load.specs.Slots.{slot_of}
 
@@ -21,6 +21,9 @@ abbrev pub slotted : (Declaration → Slot) → labelled.Action → Action
 slotted slots (labelled.assign target value) = Assign (target_slot slots target) (rename slots value)
 slotted slots (labelled.return_with value) = Return (rename slots value)
 slotted slots labelled.close = Close
+slotted slots (labelled.assign_by op target value) = AssignBy op (target_slot slots target) (rename slots value)
+slotted slots labelled.null = Null
+slotted slots labelled.return_nothing = ReturnNothing
 
 -- the number of the action in front of an opened list
 abbrev pub number_of : Items → Option ℕ

@@ -1,4 +1,5 @@
 use cilk_eval::{Code, Slot};
+use cilk_tree::BinOp;
 
 /// What an action does (C 1990, 6.6).
 #[derive(Drop)]
@@ -9,4 +10,10 @@ pub enum Action {
     Return(Code),
     /// The closing brace of a body.
     Close,
+    /// An assignment with an operator: the slot that it changes, and the right operand.
+    AssignBy(BinOp, Slot, Code),
+    /// The empty statement.
+    Null,
+    /// `return` without a value.
+    ReturnNothing,
 }

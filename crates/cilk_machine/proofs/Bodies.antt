@@ -1,6 +1,6 @@
 -- The bodies of a well-formed program: what their heads use, and what stands in the table of nodes.
-use Rattle.std.proofs.Common.{◌≡◌, ℕ, zero, suc, ◌+◌, ◌-◌, ◌<◌, ◌≤◌, Bool, true, List, [], ◌∷◌, ◌++◌, map, length, Option, Some, None, refl, sym, ap, ◌∙◌, subst, inl, inr, arith, length-append}
-use Rattle.std.specs.Prelude.{slice_get, slice_index_or, filter_map, option_map}
+use Rattle.std.proofs.Common.{◌≡◌, ℕ, zero, suc, ◌+◌, ◌-◌, ◌<◌, ◌≤◌, Bool, true, List, [], ◌∷◌, ◌++◌, map, length, Option, Some, None, refl, sym, ap, ◌∙◌, subst, ◌⊎◌, inl, inr, arith, length-append}
+use Rattle.std.specs.Prelude.{⊤, slice_get, slice_index_or, filter_map, option_map}
 use Rattle.std.specs.List.{Contains}
 use Rattle.std.proofs.lemmas.List.{length-map}
 use Rattle.cilk_tree.specs.Tree as tree
@@ -9,7 +9,8 @@ use Rattle.cilk_check.specs.Names.{decls_of}
 use Rattle.cilk_check.specs.Scope.{Defines}
 use Rattle.cilk_check.specs.Fault.{WellFormed}
 use Rattle.cilk_model.specs.Declaration.{Declaration, local}
-use Rattle.cilk_model.specs.Labelled.{Target, assign, return_with, close, action, Stmts, none, also, Body, Labelled}
+use Rattle.cilk_model.specs.Scope.{Scope}
+use Rattle.cilk_model.specs.Labelled.{Target, Action, assign, return_with, close, assign_by, null, return_nothing, Stmt, action, Stmts, none, also, Body, Labelled}
 use Rattle.cilk_model.specs.Items.{Items, piece, pieces, Head, head_of, opened, next, closing_items, reached}
 use Rattle.cilk_model.specs.Count.{count_item}
 use Rattle.cilk_model.specs.Label.{variable_of, block_variables, stmts_variables, label_procedure, label_items, global_scope, globals_of, label}
@@ -168,6 +169,15 @@ goes_on body (piece (action m (return_with v)) ∷ items) head target value i fi
 goes_on body (piece (action m close) ∷ items) head target value i first is h =
     let same : record { number = m; act = close } ≡ head = cc in
     let act : close ≡ assign target value = ap (λ (x : Head). x.act) same ∙ is in cc
+goes_on body (piece (action m (assign_by op t v)) ∷ items) head target value i first is h =
+    let same : record { number = m; act = assign_by op t v } ≡ head = cc in
+    let act : assign_by op t v ≡ assign target value = ap (λ (x : Head). x.act) same ∙ is in cc
+goes_on body (piece (action m null) ∷ items) head target value i first is h =
+    let same : record { number = m; act = null } ≡ head = cc in
+    let act : null ≡ assign target value = ap (λ (x : Head). x.act) same ∙ is in cc
+goes_on body (piece (action m return_nothing) ∷ items) head target value i first is h =
+    let same : record { number = m; act = return_nothing } ≡ head = cc in
+    let act : return_nothing ≡ assign target value = ap (λ (x : Head). x.act) same ∙ is in cc
 
 -- after an assignment there is another action
 pub assign_goes_on : (body : Body) (answers : List Bool) (head : Head) (target : Target) (value : Term Declaration) → head_of (reached body answers) ≡ Some head → head.act ≡ assign target value

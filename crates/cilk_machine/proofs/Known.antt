@@ -1,28 +1,33 @@
 -- Each name in an action of a well-formed program means a variable of the action's body.
-use Rattle.std.proofs.Common.{◌≡◌, ℕ, suc, ◌+◌, ◌<◌, ◌≤◌, Bool, true, false, List, [], ◌∷◌, ◌++◌, map, length, Option, Some, None, refl, sym, ap, ◌∙◌, subst, inl, inr, arith, append-nil, append_assoc}
-use Rattle.std.specs.Prelude.{⊤, bytes_eq, if◌then◌else◌}
+use Rattle.std.proofs.Common.{◌≡◌, ℕ, zero, suc, ◌+◌, ◌<◌, ◌≤◌, Bool, true, false, List, [], ◌∷◌, ◌++◌, map, length, Option, Some, None, refl, sym, ap, ◌∙◌, subst, ◌⊎◌, inl, inr, arith, append-nil, append_assoc, length-append}
+use Rattle.std.specs.Prelude.{⊤, slice_get, bytes_eq, if◌then◌else◌}
 use Rattle.std.specs.List.{Contains}
 use Rattle.std.proofs.lemmas.Slice.Eq.{bytes_eq-Decides}
 use Rattle.std.proofs.lemmas.List.Elements.{Contains-append_left, Contains-append_right}
 use Rattle.cilk_tree.specs.Tree as tree
 use Rattle.cilk_tree.specs.Tree.{Word}
-use Rattle.cilk_eval.specs.Term.{AllReads}
+use Rattle.cilk_eval.specs.Term.{Term, AllReads}
 use Rattle.cilk_check.specs.Names.{expr_names, value_names, stmt_names, stmts_names, decls_of, stmts_of, declared, IsAmong}
-use Rattle.cilk_check.specs.Scope.{Defines, in_initialiser, in_statement}
+use Rattle.cilk_check.specs.Scope.{Defines, Use, in_initialiser, in_statement}
 use Rattle.cilk_check.specs.Fault.{WellFormed}
 use Rattle.cilk_check.proofs.Elements.{HasElement, HasElement-from_Contains, Contains-from_HasElement, map_between}
 use Rattle.cilk_check.proofs.WellFormedLaws.{used_is_visible}
 use Rattle.cilk_model.specs.Declaration.{Declaration, local}
 use Rattle.cilk_model.specs.Scope.{Scope, meaning_of, with_local, with_locals, label_expr}
-use Rattle.cilk_model.specs.Labelled.{variable, Action, assign, return_with, close, action, Stmts, none, also}
-use Rattle.cilk_model.specs.Count.{count_option, count_decls}
-use Rattle.cilk_model.specs.Label.{label_initialiser, label_decls, label_stmts, label_block}
+use Rattle.cilk_model.specs.Labelled.{Target, variable, Action, assign, return_with, close, assign_by, null, return_nothing, Stmt, action, Stmts, none, also, Body}
+use Rattle.cilk_model.specs.Items.{Items, Head, head_of, closing_items}
+use Rattle.cilk_model.specs.Count.{count_option, count_stmt, count_decls, count_block, count_item}
+use Rattle.cilk_model.specs.Label.{variable_of, stmt_variables, stmts_variables, block_variables, label_initialiser, label_decls, label_stmt, label_stmts, label_block, label_procedure, label_items}
+use Rattle.cilk_load.specs.Table.{stmts_lists}
 
--- what an action reads and writes: D holds of its variables, A of its arrays
+-- what an action of a program reads and writes: D holds of its variables, A of its arrays; the other actions stand in no program yet
 abbrev pub KnownAct : (Declaration → Type 0) → (Declaration → Type 0) → Action → Type 0
 KnownAct D A (assign (variable d) value) = D d × AllReads D A ⊤ value
 KnownAct D A (return_with value) = AllReads D A ⊤ value
 KnownAct D A close = ⊤
+KnownAct D A (assign_by op target value) = ⊥
+KnownAct D A null = ⊥
+KnownAct D A return_nothing = ⊥
 
 abbrev pub AllKnown : (Declaration → Type 0) → (Declaration → Type 0) → Stmts → Type 0
 AllKnown D A none = ⊤

@@ -1,10 +1,10 @@
 -- The lists of items that a body reaches stand in the table of lists, each at the number of its head.
-use Rattle.std.proofs.Common.{◌≡◌, ℕ, zero, suc, ◌+◌, Bool, List, [], ◌∷◌, ◌++◌, map, Some, None, refl, sym, ap, ◌∙◌, subst, ◌⊎◌, inl, inr, arith, zero-add}
+use Rattle.std.proofs.Common.{◌≡◌, ℕ, zero, suc, ◌+◌, ◌<◌, Bool, true, false, List, [], ◌∷◌, ◌++◌, map, length, Option, Some, None, refl, sym, ap, ◌∙◌, subst, ◌⊎◌, inl, inr, arith, zero-add}
 use Rattle.std.specs.Prelude.{slice_get, slice_index_or}
-use Rattle.cilk_model.specs.Labelled.{Action, assign, return_with, close, action, Stmts, none, also, Body, Labelled}
+use Rattle.cilk_model.specs.Labelled.{Action, assign, return_with, close, assign_by, null, return_nothing, Stmt, action, Stmts, none, also, Body, Labelled}
 use Rattle.cilk_model.specs.Items.{Item, piece, Items, pieces, opened, after_action, next, closing_items, start_items, reached}
 use Rattle.cilk_load.specs.Table.{stmts_lists, body_lists, number_of}
-use Rattle.cilk_machine.specs.Remains.{remains_of, remains_from}
+use Rattle.cilk_machine.specs.Remains.{Remains, remains_of, remains_from, remains_at}
 
 -- x is an element
 pub record In {A : Type 0} (xs : List A) (x : A) : Type 0 where
@@ -59,6 +59,9 @@ acted_reaches : (body : Body) (act : Action) (items : Items) → Reaches body it
 acted_reaches body (assign target value) items h = h
 acted_reaches body (return_with value) items h = inl refl
 acted_reaches body close items h = inl refl
+acted_reaches body (assign_by op target value) items h = h
+acted_reaches body null items h = h
+acted_reaches body return_nothing items h = inl refl
 
 next_reaches : (body : Body) (answer : Bool) (items : Items) → Reaches body items → Reaches body (next answer items)
 next_reaches body answer [] h = inl refl

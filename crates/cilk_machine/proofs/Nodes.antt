@@ -1,5 +1,6 @@
 -- The nodes of the code, and the steps that they come to.
-use Rattle.std.proofs.Common.{◌≡◌, ℕ, ◌<◌, ℤ, pos, true, [], length, map, Option, Some, None, Result, Ok, Err, refl, sym, ap, ◌∙◌, subst, arith, add-zero}
+use Rattle.std.proofs.Common.{◌≡◌, ℕ, ◌+◌, ◌<◌, ℤ, pos, Bool, true, List, [], ◌∷◌, length, map, Option, Some, None, Result, Ok, Err, refl, sym, ap, ◌∙◌, subst, arith, add-zero}
+use Rattle.std.specs.Prelude.{⊤, option_map, max}
 use Rattle.cilk_tree.specs.Tree as tree
 use Rattle.cilk_eval.specs.declared.trap.Trap.{Trap}
 use Rattle.cilk_eval.specs.declared.slot.Slot.{Slot}
@@ -8,16 +9,16 @@ use Rattle.cilk_eval.specs.Slots as slots
 use Rattle.cilk_eval.specs.Slots.{sizes_of, SlotsLieWithin}
 use Rattle.cilk_eval.specs.Value.{value_of, ◌>>=◌}
 use Rattle.cilk_model.specs.Declaration.{Declaration, local, global, unknown}
-use Rattle.cilk_model.specs.Labelled.{Action, variable, assign, return_with, close}
+use Rattle.cilk_model.specs.Labelled.{Action, variable, assign, return_with, close, assign_by, null, return_nothing, Labelled}
 use Rattle.cilk_model.specs.Label.{label}
-use Rattle.cilk_model.specs.Items.{head_of, opened, next}
-use Rattle.cilk_model.specs.Values.{environment, with_value}
+use Rattle.cilk_model.specs.Items.{Head, head_of, opened, next}
+use Rattle.cilk_model.specs.Values.{Cell, environment, with_value}
 use Rattle.cilk_model.specs.Effect.{Effect, writes, gives, effect_of}
 use Rattle.cilk_model.specs.Instance.{Instance, body_at}
 use Rattle.cilk_model.specs.Change.{head_effect, gone_on}
 use Rattle.cilk_load.specs.declared.node.Node.{Node}
 use Rattle.cilk_load.specs.declared.action.Action as code
-use Rattle.cilk_load.specs.declared.action.Action.TheVariants.{Assign, Return, Close}
+use Rattle.cilk_load.specs.declared.action.Action.TheVariants.{Assign, Return, Close, AssignBy, Null, ReturnNothing}
 use Rattle.cilk_load.specs.Slots.{size_of, slot_of}
 use Rattle.cilk_load.specs.Table.{number_of, slotted, node_of}
 use Rattle.cilk_frame.specs.Frames.{Frame, top_of}
@@ -53,6 +54,9 @@ of_assign slots (assign (variable d) value) slot code h =
     record { place = d; value = value; act_is = refl; slot_is = cc; code_is = cc }
 of_assign slots (return_with value) slot code h = cc
 of_assign slots close slot code h = cc
+of_assign slots (assign_by op target value) slot code h = cc
+of_assign slots null slot code h = cc
+of_assign slots return_nothing slot code h = cc
 
 pub record OfReturn (slots : Declaration → Slot) (act : Action) (code : Term Slot) : Type 0 where
   pub value : Term Declaration
@@ -63,11 +67,34 @@ of_return : (slots : Declaration → Slot) (act : Action) (code : Term Slot) →
 of_return slots (assign (variable d) value) code h = cc
 of_return slots (return_with value) code h = record { value = value; act_is = refl; code_is = cc }
 of_return slots close code h = cc
+of_return slots (assign_by op target value) code h = cc
+of_return slots null code h = cc
+of_return slots return_nothing code h = cc
 
 of_close : (slots : Declaration → Slot) (act : Action) → slotted slots act ≡ Close → act ≡ close
 of_close slots (assign (variable d) value) h = cc
 of_close slots (return_with value) h = cc
 of_close slots close h = refl
+of_close slots (assign_by op target value) h = cc
+of_close slots null h = cc
+of_close slots return_nothing h = cc
+
+-- the actions that stand in no program yet
+abbrev pub IsYetToCome : code.Action → Type 0
+IsYetToCome (Assign slot code) = ⊥
+IsYetToCome (Return code) = ⊥
+IsYetToCome Close = ⊥
+IsYetToCome (AssignBy op slot code) = ⊤
+IsYetToCome Null = ⊤
+IsYetToCome ReturnNothing = ⊤
+
+none_to_come : (slots : Declaration → Slot) (D A : Declaration → Type 0) (act : Action) → KnownAct D A act → IsYetToCome (slotted slots act) → ⊥
+none_to_come slots D A (assign target value) known h = h
+none_to_come slots D A (return_with value) known h = h
+none_to_come slots D A close known h = h
+none_to_come slots D A (assign_by op target value) known h = known
+none_to_come slots D A null known h = known
+none_to_come slots D A return_nothing known h = known
 
 some_same : {A : Type 0} (x y : A) → Some x ≡ Some y → x ≡ y
 some_same x y h = cc
@@ -128,6 +155,11 @@ module _ (p : tree.Program) (workers choices : ℕ) (f : Frame) (holds : Holds (
   return_known : (code : Term Slot) (o : OfReturn slots_here b.head.act code) → Means o.value code
   return_known code o =
       (o.code_is, subst (KnownAct (IsDeclared (label p) here.top.body) (IsArray (label p) here.top.body)) o.act_is b.known)
+
+  pub not_to_come : IsYetToCome node.action → ⊥
+  not_to_come h =
+      none_to_come slots_here (IsDeclared (label p) here.top.body) (IsArray (label p) here.top.body) b.head.act b.known
+      (subst IsYetToCome (ap (λ (x : Node). x.action) node_is) h)
 
   pub assign_within : (slot : Slot) (code : Term Slot) → node.action ≡ Assign slot code → SlotsLieWithin (sizes_of (lent f [] [] true)) code
   assign_within slot code h =

@@ -50,6 +50,8 @@ pub fn step(alloc: Global, loaded: &Loaded, frame: Frame) -> Stepped
                 Ok(value) => returned(alloc, frame, n, value),
             },
             Action::Close => returned(alloc, frame, n, 0),
+            // The language has these, but no program that is read yet.
+            Action::AssignBy(..) | Action::Null | Action::ReturnNothing => unreachable!(),
         },
     }
 }

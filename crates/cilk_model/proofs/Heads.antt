@@ -1,13 +1,13 @@
 -- Each live instance has a head.
-use Rattle.std.proofs.Common.{◌≡◌, ◌≢◌, ℕ, ℤ, Bool, true, false, not, cond, List, [], ◌∷◌, ◌++◌, Option, Some, None, is_none, Result, Ok, Err, refl, ap, subst, ◌∙◌, if◌then◌else◌}
+use Rattle.std.proofs.Common.{◌≡◌, ◌≢◌, ℕ, ℤ, pos, Bool, true, false, not, cond, List, [], ◌∷◌, ◌++◌, Option, Some, None, is_none, Result, Ok, Err, refl, sym, ap, subst, ◌∙◌, if◌then◌else◌}
 use Rattle.std.proofs.lemmas.Bool.{cond_both}
 use Rattle.cilk_eval.specs.declared.trap.Trap.{Trap}
 use Rattle.cilk_eval.specs.Value.{Environment, value_of, ◌>>=◌}
 use Rattle.cilk_model.specs.Declaration.{Declaration}
-use Rattle.cilk_model.specs.Labelled.{Labelled, assign, return_with, close, Stmt, action, Stmts, none, also, Body}
-use Rattle.cilk_model.specs.Items.{Items, piece, pieces, opened, Head, head_of, next, closing_items, start_items}
+use Rattle.cilk_model.specs.Labelled.{Labelled, Action, assign, return_with, close, assign_by, null, return_nothing, Stmt, action, Stmts, none, also, Body}
+use Rattle.cilk_model.specs.Items.{Items, piece, pieces, opened, Head, head_of, after_action, next, closing_items, start_items}
 use Rattle.cilk_model.specs.Values.{Cell}
-use Rattle.cilk_model.specs.Effect.{Effect, writes, gives, effect_of}
+use Rattle.cilk_model.specs.Effect.{Effect, writes, gives, goes_by, effect_of}
 use Rattle.cilk_model.specs.Path.{Path, same_path, parent_of}
 use Rattle.cilk_model.specs.Instance.{Receiver, place, Delivery, Instance, body_at}
 use Rattle.cilk_model.specs.State.{Entry, Instances, State, instance_at, changed, without, has_live_child}
@@ -45,23 +45,33 @@ pieces_close (also first others) items h = one_more_closes first (pieces others 
 start_closes : (body : Body) → Closes (opened (start_items body))
 start_closes body = opened_closes (start_items body) (pieces_close body.stmts (closing_items body.closing) refl)
 
--- what leaves a body writes nothing
-gives_alone : (r : Result ℤ Trap) (cell : Cell) (z : ℤ) → (r >>= λ y. Ok (gives y)) ≡ Ok (writes cell z) → ⊥
-gives_alone (Ok y) cell z e = cc
-gives_alone (Err trap) cell z e = cc
+-- the body is not left
+abbrev Stays : Effect → Type 0
+Stays (writes cell z) = Unit {0}
+Stays (gives z) = ⊥
+Stays goes_by = Unit {0}
 
-write_closes : (env : Environment Declaration) (items : Items) (head : Head) (cell : Cell) (z : ℤ) → Closes items → head_of items ≡ Some head
-    → effect_of env head.act ≡ Ok (writes cell z) → Closes (opened (next true items))
-write_closes env [] head cell z h first e = absurd h
-write_closes env (piece (action n (assign target value)) ∷ []) head cell z h first e = cc
-write_closes env (piece (action n (assign target value)) ∷ (other ∷ items)) head cell z h first e = opened_closes (other ∷ items) h
-write_closes env (piece (action n (return_with value)) ∷ items) head cell z h first e =
-    let same : record { number = n; act = return_with value } ≡ head = cc in
-    absurd (gives_alone (value_of env value) cell z (ap (λ (x : Head). effect_of env x.act) same ∙ e))
-write_closes env (piece (action n close) ∷ items) head cell z h first e =
-    let same : record { number = n; act = close } ≡ head = cc in
-    let is : effect_of env close ≡ Ok (writes cell z) = ap (λ (x : Head). effect_of env x.act) same ∙ e in
-    cc
+given_leaves : (r : Result ℤ Trap) (did : Effect) → (r >>= λ y. Ok (gives y)) ≡ Ok did → Stays did → ⊥
+given_leaves (Ok y) did e stays = let same : gives y ≡ did = cc in subst Stays (sym same) stays
+given_leaves (Err trap) did e stays = cc
+
+behind_closes : (env : Environment Declaration) (act : Action) (items : Items) (did : Effect) → Closes items → effect_of env act ≡ Ok did → Stays did → Closes (opened (after_action act items))
+behind_closes env (assign target value) items did h e stays = opened_closes items h
+behind_closes env (return_with value) items did h e stays = absurd (given_leaves (value_of env value) did e stays)
+behind_closes env close items did h e stays = absurd (given_leaves (Ok (pos 0)) did e stays)
+behind_closes env (assign_by op target value) items did h e stays = opened_closes items h
+behind_closes env null items did h e stays = opened_closes items h
+behind_closes env return_nothing items did h e stays = absurd (given_leaves (Ok (pos 0)) did e stays)
+
+next_closes : (env : Environment Declaration) (items : Items) (head : Head) (did : Effect) → Closes items → head_of items ≡ Some head
+    → effect_of env head.act ≡ Ok did → Stays did → Closes (opened (next true items))
+next_closes env [] head did h first e stays = absurd h
+next_closes env (piece (action n act) ∷ []) head did h first e stays =
+    let same : record { number = n; act = act } ≡ head = cc in
+    absurd (given_leaves (Ok (pos 0)) did (ap (effect_of env) (sym h ∙ ap (λ (x : Head). x.act) same) ∙ e) stays)
+next_closes env (piece (action n act) ∷ (other ∷ items)) head did h first e stays =
+    let same : record { number = n; act = act } ≡ head = cc in
+    behind_closes env act (other ∷ items) did h (ap (λ (x : Head). effect_of env x.act) same ∙ e) stays
 
 -- each live instance has its closing brace before it
 abbrev IsReady : Instance → Type 0
@@ -113,8 +123,10 @@ module _ (s : State) (p : Path) (all : Ready s.instances) (i : Instance) (ready 
   effect_ready : (program : Labelled) (head : Head) → head_of i.top.items ≡ Some head → (r : Result Effect Trap) → head_effect s p i head ≡ r → ReadyAfter (step_by_effect program s p i head.number r)
   effect_ready program head first (Err trap) e = all
   effect_ready program head first (Ok (writes cell z)) e =
-      changed_ready p _ s.instances (λ x h. write_closes _ i.top.items head cell z ready first e) all
+      changed_ready p _ s.instances (λ x h. next_closes _ i.top.items head (writes cell z) ready first e tt) all
   effect_ready program head first (Ok (gives z)) e = return_ready z (parent_of p)
+  effect_ready program head first (Ok goes_by) e =
+      changed_ready p _ s.instances (λ x h. next_closes _ i.top.items head goes_by ready first e tt) all
 
   head_ready : (program : Labelled) (o : Option Head) → head_of i.top.items ≡ o → ReadyAfter (step_by_head program s p i o)
   head_ready program None first = tt

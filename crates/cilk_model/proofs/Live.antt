@@ -7,7 +7,7 @@ use Rattle.cilk_eval.specs.declared.trap.Trap.{Trap}
 use Rattle.cilk_model.specs.Labelled.{Labelled}
 use Rattle.cilk_model.specs.Items.{Head, head_of}
 use Rattle.cilk_model.specs.Values.{Cell}
-use Rattle.cilk_model.specs.Effect.{Effect, writes, gives}
+use Rattle.cilk_model.specs.Effect.{Effect, writes, gives, goes_by}
 use Rattle.cilk_model.specs.Path.{Path, same_path, parent_of}
 use Rattle.cilk_model.specs.Instance.{Receiver, place, Delivery, Instance}
 use Rattle.cilk_model.specs.State.{Entry, Instances, State, instance_at, is_live, change, changed, without, has_live_child}
@@ -169,6 +169,7 @@ effect_lives : (program : Labelled) (s : State) (p : Path) (i : Instance) (n : â
 effect_lives program s p i n (Err trap) = alike s.instances
 effect_lives program s p i n (Ok (writes cell z)) = changed_alike p _ s.instances
 effect_lives program s p i n (Ok (gives z)) = return_lives s p i z (parent_of p)
+effect_lives program s p i n (Ok goes_by) = changed_alike p _ s.instances
 
 head_lives : (program : Labelled) (s : State) (p : Path) (i : Instance) (o : Option Head) â†’ Lives s p (step_by_head program s p i o)
 head_lives program s p i None = tt

@@ -4,7 +4,7 @@ use Rattle.std.proofs.lemmas.Bool.{cond_both}
 use Rattle.cilk_eval.specs.declared.trap.Trap.{Trap}
 use Rattle.cilk_model.specs.Labelled.{Labelled}
 use Rattle.cilk_model.specs.Items.{Head, head_of}
-use Rattle.cilk_model.specs.Effect.{Effect, writes, gives}
+use Rattle.cilk_model.specs.Effect.{Effect, writes, gives, goes_by}
 use Rattle.cilk_model.specs.Path.{Path}
 use Rattle.cilk_model.specs.Instance.{Delivery, Instance}
 use Rattle.cilk_model.specs.State.{State, running, instance_at, has_live_child}
@@ -32,6 +32,8 @@ module _ (program : Labelled) (s : State) (p : Path) (runs : s.outcome ≡ runni
   effect_rule head first free (Ok (writes cell z)) e =
       (acted _ (record { head = head; first = first; passes = free; result = ap (after_effect program s p i head.number) (sym e) }), λ (h : _). cc)
   effect_rule head first free (Ok (gives z)) e =
+      (acted _ (record { head = head; first = first; passes = free; result = ap (after_effect program s p i head.number) (sym e) }), λ (h : _). cc)
+  effect_rule head first free (Ok goes_by) e =
       (acted _ (record { head = head; first = first; passes = free; result = ap (after_effect program s p i head.number) (sym e) }), λ (h : _). cc)
 
   head_rule : (o : Option Head) → head_of i.top.items ≡ o → Ruled program s p (step_by_head program s p i o)

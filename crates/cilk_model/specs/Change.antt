@@ -1,10 +1,10 @@
 -- What one step of an instance does to the state.
 use Rattle.std.specs.Prelude.{ℕ, ℤ, Bool, true, false, not, ◌&&◌, ◌||◌, if◌then◌else◌, List, [], ◌∷◌, ◌++◌, map, Option, Some, None, Result, Ok, Err}
 use Rattle.cilk_eval.specs.declared.trap.Trap.{Trap}
-use Rattle.cilk_model.specs.Labelled.{Labelled, Action, assign, return_with, close}
+use Rattle.cilk_model.specs.Labelled.{Labelled, Action, assign, return_with, close, assign_by, null, return_nothing}
 use Rattle.cilk_model.specs.Items.{Head, head_of, opened, next}
 use Rattle.cilk_model.specs.Values.{Values, Store, Cell, environment, read_at, written}
-use Rattle.cilk_model.specs.Effect.{Effect, writes, gives, effect_of, received}
+use Rattle.cilk_model.specs.Effect.{Effect, writes, gives, goes_by, effect_of, received}
 use Rattle.cilk_model.specs.Path.{Path, same_path, parent_of}
 use Rattle.cilk_model.specs.Instance.{Receiver, place, Delivery, Instance}
 use Rattle.cilk_model.specs.State.{of_value, finished, trapped, Lock, unset, free, held, changed, without, has_live_child, State}
@@ -26,6 +26,9 @@ abbrev pub syncs : Action → Bool
 syncs (assign target value) = false
 syncs (return_with value) = true
 syncs close = true
+syncs (assign_by op target value) = false
+syncs null = false
+syncs return_nothing = true
 
 abbrev pub syncs_next : Option Head → Bool
 syncs_next None = false
@@ -60,6 +63,10 @@ after_write s p i store = record s {
   instances = changed p (λ _. gone_on true store.own i) s.instances;
 }
 
+-- the instance is past its head, and nothing else is changed
+abbrev pub after_going : State → Path → Instance → State
+after_going s p i = record s { instances = changed p (λ _. gone_on true i.top.values i) s.instances }
+
 -- a child's value waits for the parent where something takes it; an aborted child delivers nothing
 abbrev pub deliveries : Path → Instance → ℤ → Option Receiver → Bool → List Delivery
 deliveries p i z None aborted = []
@@ -84,6 +91,7 @@ abbrev pub after_effect : Labelled → State → Path → Instance → ℕ → R
 after_effect program s p i n (Err trap) = after_trap s p n trap
 after_effect program s p i n (Ok (writes cell z)) = after_write s p i (written (store_of s p i) cell z)
 after_effect program s p i n (Ok (gives z)) = after_return s p i z
+after_effect program s p i n (Ok goes_by) = after_going s p i
 
 abbrev pub head_effect : State → Path → Instance → Head → Result Effect Trap
 head_effect s p i head = effect_of (environment (store_of s p i)) head.act

@@ -5,7 +5,7 @@ use Rattle.cilk_eval.specs.declared.trap.Trap.{Trap}
 use Rattle.cilk_eval.specs.Arithmetic.{binary_result}
 use Rattle.cilk_eval.specs.Value.{Environment, value_of, ◌>>=◌}
 use Rattle.cilk_model.specs.Declaration.{Declaration}
-use Rattle.cilk_model.specs.Labelled.{Target, variable, Action, assign, return_with, close}
+use Rattle.cilk_model.specs.Labelled.{Target, variable, Action, assign, return_with, close, assign_by, null, return_nothing}
 use Rattle.cilk_model.specs.Values.{Cell}
 
 pub data Effect : Type 0 where
@@ -13,6 +13,8 @@ pub data Effect : Type 0 where
   writes : (cell : Cell) (value : ℤ) → Effect
   -- the body is left with a value
   gives : (value : ℤ) → Effect
+  -- what comes next is reached, and nothing else is changed
+  goes_by : Effect
 
 -- the cell that is written to
 abbrev pub reached_cell : Environment Declaration → Target → Result Cell Trap
@@ -26,6 +28,13 @@ effect_of env (assign target value) = reached_cell env target >>= λ cell. value
 effect_of env (return_with value) = value_of env value >>= λ z. Ok (gives z)
 -- C 1990, 6.6.6.4: where C leaves the value open, it is 0
 effect_of env close = Ok (gives (pos 0))
+-- C 1990, 6.3.16.2: the place, then the value, and only then what the place holds
+effect_of env (assign_by op target value) =
+    reached_cell env target >>= λ cell. value_of env value >>= λ z. binary_result op (env.cell cell.place cell.index) z >>= λ y. Ok (writes cell y)
+-- C 1990, 6.6.3
+effect_of env null = Ok goes_by
+-- C 1990, 6.6.6.4, with 0 as at the closing brace
+effect_of env return_nothing = Ok (gives (pos 0))
 
 -- what a place holds after an implicit inlet, where it held the first number (Cilk 5.4 manual, `spawn`)
 abbrev pub received : Option BinOp → ℤ → ℤ → Result ℤ Trap

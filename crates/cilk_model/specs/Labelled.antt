@@ -1,5 +1,6 @@
 -- The labelled program: a declaration in place of each use of a name, and a number at each action.
 use Rattle.std.specs.Prelude.{ℕ, ℤ, List, Option}
+use Rattle.cilk_tree.specs.declared.operator.BinOp.{BinOp}
 use Rattle.cilk_eval.specs.Term.{Term}
 use Rattle.cilk_model.specs.Declaration.{Declaration}
 
@@ -15,6 +16,12 @@ pub data Action : Type 0 where
   return_with : (value : Term Declaration) → Action
   -- the closing brace of a body (C 1990, 6.6.6.4; Cilk 5.4 manual, `cilk`)
   close : Action
+  -- an assignment with an operator; `x++` adds 1 and `x--` subtracts it (C 1990, 6.3.16.2, 6.3.2.4, 6.3.3.1)
+  assign_by : (op : BinOp) (target : Target) (value : Term Declaration) → Action
+  -- the empty statement (C 1990, 6.6.3)
+  null : Action
+  -- `return` without a value (C 1990, 6.6.6.4)
+  return_nothing : Action
 
 -- a statement (C 1990, 6.6)
 pub data Stmt : Type 0 where

@@ -3,7 +3,7 @@ use Rattle.std.specs.Prelude.{ℕ, ℤ, if◌then◌else◌, List, [], ◌∷◌
 use Rattle.cilk_eval.specs.declared.trap.Trap.{Trap}
 use Rattle.cilk_model.specs.Labelled.{Labelled}
 use Rattle.cilk_model.specs.Items.{Head, head_of}
-use Rattle.cilk_model.specs.Effect.{Effect, writes, gives}
+use Rattle.cilk_model.specs.Effect.{Effect, writes, gives, goes_by}
 use Rattle.cilk_model.specs.Path.{Path}
 use Rattle.cilk_model.specs.Instance.{Receiver, place, Delivery, Instance}
 use Rattle.cilk_model.specs.State.{of_value, State, instance_at, has_live_child}
@@ -27,6 +27,7 @@ step_by_effect program s p i n (Err trap) =
     goes_on (after_effect program s p i n (Err trap)) (event.trapped (of_value trap) p n)
 step_by_effect program s p i n (Ok (writes cell z)) = goes_on (after_effect program s p i n (Ok (writes cell z))) (event.acted p n)
 step_by_effect program s p i n (Ok (gives z)) = ends (after_effect program s p i n (Ok (gives z))) (event.returned p n)
+step_by_effect program s p i n (Ok goes_by) = goes_on (after_effect program s p i n (Ok goes_by)) (event.acted p n)
 
 abbrev pub step_by_head : Labelled → State → Path → Instance → Option Head → Step
 step_by_head program s p i None = waits

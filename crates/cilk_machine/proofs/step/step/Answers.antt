@@ -1,4 +1,4 @@
-use Rattle.std.proofs.Common.{◌≡◌, ℕ, ◌-◌, [], Option, Some, None, ap, ◌∙◌, arith}
+use Rattle.std.proofs.Common.{◌≡◌, ℕ, ◌-◌, [], Option, Some, None, inl, inr, sym, ap, subst, ◌∙◌, arith}
 use Rattle.std.proofs.lemmas.Int.{to_z-of_z}
 use mir.Val.{of_z, to_z}
 use mir.Syntax.{w32}
@@ -11,7 +11,7 @@ use Rattle.cilk_machine.specs.declared.outcome.Outcome.TheVariants.{Finished, Tr
 use Rattle.cilk_machine.specs.declared.event.Event.TheVariants as did
 use Rattle.cilk_machine.specs.Steps.{advanced, with_frame}
 use Rattle.cilk_machine.proofs.Acts.{Before, before}
-use Rattle.cilk_machine.proofs.Nodes.{steps_as, assign_within, return_within, assign_cell, assign_next, assign_traps, assign_goes, return_traps, return_ends, close_ends}
+use Rattle.cilk_machine.proofs.Nodes.{IsYetToCome, not_to_come, steps_as, assign_within, return_within, assign_cell, assign_next, assign_traps, assign_goes, return_traps, return_ends, close_ends}
 use Rattle.cilk_machine.proofs.step.step.Goals as goal
 
 -- the node of the top activation, by the frame's depth
@@ -80,3 +80,11 @@ returns-in-Close c = λ workers choices.
     let r = c.returned-in-Close.ensures in
     steps_as (with_frame c.args.loaded.now workers choices c.args.frame) _ _ _ _ _ _ r.hand r.outcome (r.event ∙ ap (λ k. did.Returned [] k) n)
     (close_ends c.args.loaded.now workers choices c.args.frame c.requires.holds (before c.args.loaded.now c.args.frame c.requires.well_formed c.requires.holds) c.in-Some.node.now (found_at c.args.loaded.now c.args.frame c.depth.result c.node-n.result (Some c.in-Some.node.now) c.depth.ensures.value c.node-n.ensures c.in-Some.ensures.value) c.in-Close.is)
+
+pub unreachable-requires-in-AssignBy : goal.unreachable-requires-in-AssignBy
+unreachable-requires-in-AssignBy c =
+    not_to_come c.args.loaded.now 0 0 c.args.frame c.requires.holds (before c.args.loaded.now c.args.frame c.requires.well_formed c.requires.holds) c.in-Some.node.now (found_at c.args.loaded.now c.args.frame c.depth.result c.node-n.result (Some c.in-Some.node.now) c.depth.ensures.value c.node-n.ensures c.in-Some.ensures.value)
+    (elim c.in-AssignBy.is [
+      | inl assigns ↦ subst IsYetToCome (sym assigns.3) tt
+      | inr others ↦ elim others [ inl is_null ↦ subst IsYetToCome (sym is_null) tt | inr returns ↦ subst IsYetToCome (sym returns) tt ]
+    ])
