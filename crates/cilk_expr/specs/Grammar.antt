@@ -35,9 +35,24 @@ operand = 11
 
 -- the operator that a mark is between two operands
 abbrev pub operator_of : Mark → Option BinOp
+operator_of marks.Star = Some ops.Multiply
+operator_of marks.Slash = Some ops.Divide
+operator_of marks.Percent = Some ops.Remainder
 operator_of marks.Plus = Some ops.Add
 operator_of marks.Minus = Some ops.Subtract
-operator_of marks.Star = Some ops.Multiply
+operator_of marks.ShiftLeft = Some ops.ShiftLeft
+operator_of marks.ShiftRight = Some ops.ShiftRight
+operator_of marks.Less = Some ops.Less
+operator_of marks.LessOrEqual = Some ops.LessOrEqual
+operator_of marks.Greater = Some ops.Greater
+operator_of marks.GreaterOrEqual = Some ops.GreaterOrEqual
+operator_of marks.Equal = Some ops.Equal
+operator_of marks.NotEqual = Some ops.NotEqual
+operator_of marks.Ampersand = Some ops.BitAnd
+operator_of marks.Caret = Some ops.BitXor
+operator_of marks.Bar = Some ops.BitOr
+operator_of marks.And = Some ops.And
+operator_of marks.Or = Some ops.Or
 operator_of _ = None
 
 -- the name that a token is

@@ -4,6 +4,7 @@ ghost use Rattle.cilk_lex.specs.Reading.{IsWithin};
 ghost use Rattle.cilk_expr.specs.Front.{Gives, kind_at, behind, operator_at, is_mark, is_keyword, mark_at, keyword_at, name_at};
 
 use crate::fault::{Fault, ParseError};
+use crate::operator::operator_of;
 use cilk_lex::{Keyword, Kind, Mark, Token};
 use cilk_tree::{BinOp, Word};
 use std::alloc::Global;
@@ -146,9 +147,7 @@ impl<'a> Cursor<'a> {
         ensures { result ≡ operator_at self.now.pieces }
     {
         match self.kind() {
-            Some(Kind::Mark(Mark::Plus)) => Some(BinOp::Add),
-            Some(Kind::Mark(Mark::Minus)) => Some(BinOp::Subtract),
-            Some(Kind::Mark(Mark::Star)) => Some(BinOp::Multiply),
+            Some(Kind::Mark(mark)) => operator_of(mark),
             _ => None,
         }
     }

@@ -3,6 +3,7 @@
 
 mod cursor;
 mod fault;
+mod operator;
 mod reading;
 
 pub use cursor::Cursor;

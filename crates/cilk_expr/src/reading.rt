@@ -1,11 +1,12 @@
 ghost use Rattle.std.specs.Prelude.{◌≡◌, ◌≤◌, MatchResult};
 ghost use Rattle.cilk_tree.specs.Tree as tree;
-ghost use Rattle.cilk_expr.specs.Grammar.{level, operand, operator_limit, parenthesis_limit};
+ghost use Rattle.cilk_expr.specs.Grammar.{operand, operator_limit, parenthesis_limit};
 ghost use Rattle.cilk_expr.specs.Front.{Gives};
 ghost use Rattle.cilk_expr.specs.Reading.{operand_at, expr_of, whole_of};
 
 use crate::cursor::Cursor;
 use crate::fault::ParseError;
+use crate::operator::level_of;
 use cilk_lex::{Kind, Mark};
 use cilk_tree::{BinOp, Expr, ExprNode};
 use std::alloc::Global;
@@ -15,23 +16,6 @@ const OPERATOR_LIMIT: u32 = 200;
 
 // How many parentheses may be open at once in an expression.
 const PARENTHESIS_LIMIT: u32 = 200;
-
-fn level_of(operator: BinOp) -> u32
-    ensures { result ≡ level operator }
-{
-    match operator {
-        BinOp::Or => 1,
-        BinOp::And => 2,
-        BinOp::BitOr => 3,
-        BinOp::BitXor => 4,
-        BinOp::BitAnd => 5,
-        BinOp::Equal | BinOp::NotEqual => 6,
-        BinOp::Less | BinOp::LessOrEqual | BinOp::Greater | BinOp::GreaterOrEqual => 7,
-        BinOp::ShiftLeft | BinOp::ShiftRight => 8,
-        BinOp::Add | BinOp::Subtract => 9,
-        BinOp::Multiply | BinOp::Divide | BinOp::Remainder => 10,
-    }
-}
 
 fn joined(alloc: Global, operator: BinOp, left: Expr, right: Expr) -> Result<Expr, ParseError>
     ensures { MatchResult result (λ e. e ≡ tree.binary operator left right) (λ e. e ≡ ParseError.Memory) }

@@ -15,7 +15,7 @@ use Rattle.cilk_tree.specs.Operators.{operators}
 use Rattle.cilk_tree.proofs.BareLaws.{operators-bare}
 use Rattle.cilk_expr.specs.Grammar.{level, operator_of, word_at, Spells, a_number, a_name, in_parentheses, of_two, SpellsWhole}
 use Rattle.cilk_written.specs.GoodLexeme.{IsGoodLexeme}
-use Rattle.cilk_written.specs.Lexemes.{lexemes, mark_of, expr_lexemes, operand_lexemes, HasMark, CanWriteExpr}
+use Rattle.cilk_written.specs.Lexemes.{lexemes, mark_of, expr_lexemes, operand_lexemes, CanWriteExpr}
 
 -- lexemes as pieces, all at the place 0
 abbrev pub at0 : Lexeme → Piece
@@ -59,58 +59,26 @@ good_number t ts n h g = subst (λ (l : Lexeme). IsGoodLexeme l) h (All-head IsG
 
 -- ---- operators
 
--- the operator is written as its mark, which means it
-record Signed (o : BinOp) : Type 0 where
-  written : HasMark o
-  means : operator_of (mark_of o) ≡ Some o
-
-signed_as : (o p : BinOp) → ◌≡◌ {A = Option BinOp} (Some o) (Some p) → Signed o → Signed p
-signed_as o p e s = let h : o ≡ p = cc in subst (λ (q : BinOp). Signed q) h s
-
-signed : (m : Mark) (o : BinOp) → operator_of m ≡ Some o → Signed o
-signed sign.OpenParenthesis o e = absurd cc
-signed sign.CloseParenthesis o e = absurd cc
-signed sign.OpenBrace o e = absurd cc
-signed sign.CloseBrace o e = absurd cc
-signed sign.Semicolon o e = absurd cc
-signed sign.Comma o e = absurd cc
-signed sign.Assign o e = absurd cc
-signed sign.Plus o e = signed_as ops.Add o e (record { written = refl; means = refl })
-signed sign.Minus o e = signed_as ops.Subtract o e (record { written = refl; means = refl })
-signed sign.Star o e = signed_as ops.Multiply o e (record { written = refl; means = refl })
-signed sign.OpenBracket o e = absurd cc
-signed sign.CloseBracket o e = absurd cc
-signed sign.Question o e = absurd cc
-signed sign.Colon o e = absurd cc
-signed sign.Slash o e = absurd cc
-signed sign.Percent o e = absurd cc
-signed sign.Ampersand o e = absurd cc
-signed sign.Bar o e = absurd cc
-signed sign.Caret o e = absurd cc
-signed sign.Tilde o e = absurd cc
-signed sign.Exclamation o e = absurd cc
-signed sign.Less o e = absurd cc
-signed sign.Greater o e = absurd cc
-signed sign.ShiftLeft o e = absurd cc
-signed sign.ShiftRight o e = absurd cc
-signed sign.LessOrEqual o e = absurd cc
-signed sign.GreaterOrEqual o e = absurd cc
-signed sign.Equal o e = absurd cc
-signed sign.NotEqual o e = absurd cc
-signed sign.And o e = absurd cc
-signed sign.Or o e = absurd cc
-signed sign.Increment o e = absurd cc
-signed sign.Decrement o e = absurd cc
-signed sign.AddAssign o e = absurd cc
-signed sign.SubtractAssign o e = absurd cc
-signed sign.MultiplyAssign o e = absurd cc
-signed sign.DivideAssign o e = absurd cc
-signed sign.RemainderAssign o e = absurd cc
-signed sign.ShiftLeftAssign o e = absurd cc
-signed sign.ShiftRightAssign o e = absurd cc
-signed sign.BitAndAssign o e = absurd cc
-signed sign.BitXorAssign o e = absurd cc
-signed sign.BitOrAssign o e = absurd cc
+-- the mark of an operator means it
+means : (o : BinOp) → operator_of (mark_of o) ≡ Some o
+means ops.Multiply = refl
+means ops.Divide = refl
+means ops.Remainder = refl
+means ops.Add = refl
+means ops.Subtract = refl
+means ops.ShiftLeft = refl
+means ops.ShiftRight = refl
+means ops.Less = refl
+means ops.LessOrEqual = refl
+means ops.Greater = refl
+means ops.GreaterOrEqual = refl
+means ops.Equal = refl
+means ops.NotEqual = refl
+means ops.BitAnd = refl
+means ops.BitXor = refl
+means ops.BitOr = refl
+means ops.And = refl
+means ops.Or = refl
 
 -- ---- expressions
 
@@ -135,13 +103,13 @@ canonical_name x h = record {
   as_operand = λ m q le. a_name (at0 (name x.text)) x.text refl refl;
 }
 
-module _ (o : BinOp) (s : Signed o) (a b : tree.Expr) (x : CanonicalExpr a) (y : CanonicalExpr b) where
+module _ (o : BinOp) (a b : tree.Expr) (x : CanonicalExpr a) (y : CanonicalExpr b) where
   two_lexemes : all_at0 (expr_lexemes (tree.binary o a b)) ≡ all_at0 (operand_lexemes a) ++ at0 (mark (mark_of o)) ∷ all_at0 (operand_lexemes b)
   two_lexemes = at0-append (operand_lexemes a) (mark (mark_of o) ∷ operand_lexemes b)
 
   two_whole : (m : ℕ) → operators (tree.binary o a b) ≤ suc m → Spells m 0 (all_at0 (expr_lexemes (tree.binary o a b))) (bare_expr (tree.binary o a b))
   two_whole m le =
-      of_two (at0 (mark (mark_of o))) (mark_of o) o refl s.means (omega arith) (x.as_operand m (level o) (omega (arith, le))) (y.as_operand m (suc (level o)) (omega (arith, le))) two_lexemes
+      of_two (at0 (mark (mark_of o))) (mark_of o) o refl (means o) (omega arith) (x.as_operand m (level o) (omega (arith, le))) (y.as_operand m (suc (level o)) (omega (arith, le))) two_lexemes
 
   two_operand : (m q : ℕ) → operators (tree.binary o a b) ≤ m → Spells m q (all_at0 (operand_lexemes (tree.binary o a b))) (bare_expr (tree.binary o a b))
   two_operand zero q le = absurd (omega (arith, le))
@@ -150,7 +118,7 @@ module _ (o : BinOp) (s : Signed o) (a b : tree.Expr) (x : CanonicalExpr a) (y :
       (ap (λ (l : List Piece). at0 (mark sign.OpenParenthesis) ∷ l) (at0-append (expr_lexemes (tree.binary o a b)) (mark sign.CloseParenthesis ∷ [])))
 
   canonical_two : CanonicalExpr (tree.binary o a b)
-  canonical_two = record { can = (s.written, x.can, y.can); whole = λ m le. two_whole m le; as_operand = λ m q le. two_operand m q le }
+  canonical_two = record { can = (x.can, y.can); whole = λ m le. two_whole m le; as_operand = λ m q le. two_operand m q le }
 
 pub canonical_expr : {d p : ℕ} {ts : List Piece} {e : tree.Expr} → Spells d p ts e → AllGood ts → CanonicalExpr e
 canonical_expr (a_number t n h w) g = canonical_number n (good_number t [] n h (good_same w g))
@@ -158,7 +126,7 @@ canonical_expr (a_name t x h w) g = canonical_name (word_at x t) (good_name t []
 canonical_expr (in_parentheses {us = us} t u h i s w) g = canonical_expr s (good_parts us (u ∷ []) (good_tail t (us ++ u ∷ []) (good_same w g))).0
 canonical_expr (of_two {us = us} {vs = vs} {a = a} {b = b} t m o h i ge r s w) g =
     let k = good_parts us (t ∷ vs) (good_same w g) in
-    canonical_two o (signed m o i) a b (canonical_expr r k.0) (canonical_expr s (good_tail t vs k.1))
+    canonical_two o a b (canonical_expr r k.0) (canonical_expr s (good_tail t vs k.1))
 
 -- a whole expression, written within as many parentheses as operators
 pub record CanonicalWhole (l : ℕ) (e : tree.Expr) : Type 0 where

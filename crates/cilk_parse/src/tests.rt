@@ -55,6 +55,43 @@ fn reads_and_prints(rt: HostRuntime) -> Result<(), Fail> {
     Ok(())
 }
 
+// The program that returns an expression, as it is written.
+fn returning(alloc: Global, expression: &str) -> Result<String, AllocError> {
+    let mut text = String::from_str(alloc, "cilk int main(void) {\n    return ")?;
+    text.push_str(expression)?;
+    text.push_str(";\n}\n")?;
+    Ok(text)
+}
+
+#[test]
+fn groups_operands(rt: HostRuntime) -> Result<(), Fail> {
+    for (expression, printed) in [
+        ("1<<31", "1 << 31"),
+        ("a-b-c", "(a - b) - c"),
+        ("a/b*c%d", "((a / b) * c) % d"),
+        ("a-(b-c)", "a - (b - c)"),
+        ("((a))+(1)", "a + 1"),
+        (
+            "a||b&&c|d^e&f==g<h<<i+j*k",
+            "a || (b && (c | (d ^ (e & (f == (g < (h << (i + (j * k)))))))))",
+        ),
+        (
+            "a*b+c<<d<e==f&g^h|i&&j||k",
+            "(((((((((a * b) + c) << d) < e) == f) & g) ^ h) | i) && j) || k",
+        ),
+        ("a==b!=c==d", "((a == b) != c) == d"),
+        ("a<b>=c<=d>e", "(((a < b) >= c) <= d) > e"),
+        ("a>>b<<c", "(a >> b) << c"),
+        ("a||b||c&&d&&e", "(a || b) || ((c && d) && e)"),
+    ] {
+        let text = returning(rt.alloc(), expression)?;
+        let program = read(rt.alloc(), text.as_str())?;
+        let wanted = returning(rt.alloc(), printed)?;
+        assert_eq!(rt; canonical(rt.alloc(), &program)?.as_str(), wanted.as_str());
+    }
+    Ok(())
+}
+
 #[test]
 fn tells_the_first_fault(rt: HostRuntime) {
     for (text, fault) in [

@@ -1,19 +1,42 @@
 -- The text of an expression writes its lexemes.
-use Rattle.std.proofs.Common.{ℕ, List, ◌∷◌, ◌++◌, refl, codes}
+use Rattle.std.proofs.Common.{◌≡◌, ℕ, List, ◌∷◌, ◌++◌, refl, codes}
 use Rattle.cilk_lex.specs.declared.mark.Mark.TheVariants as sign
 use Rattle.cilk_lex.specs.Lexeme.{Lexeme, mark}
+use Rattle.cilk_lex.specs.Spelling.{mark_spelling}
 use Rattle.cilk_tree.specs.declared.operator.BinOp.{BinOp}
+use Rattle.cilk_tree.specs.declared.operator.BinOp.TheVariants as ops
 use Rattle.cilk_tree.specs.ExprText.{expr_text, operand_text}
 use Rattle.cilk_tree.specs.OperatorMark.{mark_of as operator_text}
 use Rattle.cilk_tree.specs.Tree as tree
-use Rattle.cilk_written.specs.Lexemes.{mark_of, expr_lexemes, operand_lexemes, HasMark, CanWriteExpr}
+use Rattle.cilk_written.specs.Lexemes.{mark_of, expr_lexemes, operand_lexemes, CanWriteExpr}
 use Rattle.cilk_written.proofs.Decimals.{decimal_number}
 use Rattle.cilk_written.proofs.Spaced.{space_writes}
 use Rattle.cilk_written.proofs.Writes.{Writes, weaken, alone_then, stopped_then, mark_writes, mark_then, name_writes, number_writes}
 
+-- the text of an operator is that of its mark
+operator_mark : (o : BinOp) → operator_text o ≡ mark_spelling (mark_of o)
+operator_mark ops.Multiply = refl
+operator_mark ops.Divide = refl
+operator_mark ops.Remainder = refl
+operator_mark ops.Add = refl
+operator_mark ops.Subtract = refl
+operator_mark ops.ShiftLeft = refl
+operator_mark ops.ShiftRight = refl
+operator_mark ops.Less = refl
+operator_mark ops.LessOrEqual = refl
+operator_mark ops.Greater = refl
+operator_mark ops.GreaterOrEqual = refl
+operator_mark ops.Equal = refl
+operator_mark ops.NotEqual = refl
+operator_mark ops.BitAnd = refl
+operator_mark ops.BitXor = refl
+operator_mark ops.BitOr = refl
+operator_mark ops.And = refl
+operator_mark ops.Or = refl
+
 -- an operator, and the operand behind it
-operator_writes : {t : List ℕ} {ls : List Lexeme} (o : BinOp) → HasMark o → Writes t ls → Writes (operator_text o ++ (codes " " ++ t)) (mark (mark_of o) ∷ ls)
-operator_writes o h w = rw h (mark_then (mark_of o) (λ rest. refl) (alone_then space_writes w))
+operator_writes : {t : List ℕ} {ls : List Lexeme} (o : BinOp) → Writes t ls → Writes (operator_text o ++ (codes " " ++ t)) (mark (mark_of o) ∷ ls)
+operator_writes o w = rw (operator_mark o) (mark_then (mark_of o) (λ rest. refl) (alone_then space_writes w))
 
 pub operand_writes : (e : tree.Expr) → Writes (expr_text e) (expr_lexemes e) → Writes (operand_text e) (operand_lexemes e)
 operand_writes (tree.number n) w = w
@@ -25,6 +48,6 @@ pub expr_writes : (e : tree.Expr) → CanWriteExpr e → Writes (expr_text e) (e
 expr_writes (tree.number n) h = number_writes (decimal_number n h)
 expr_writes (tree.named x) h = name_writes h
 expr_writes (tree.binary o a b) h =
-    let left = operand_writes a (expr_writes a h.1) in
-    let right = operand_writes b (expr_writes b h.2) in
-    stopped_then left refl (alone_then space_writes (operator_writes o h.0 right))
+    let left = operand_writes a (expr_writes a h.0) in
+    let right = operand_writes b (expr_writes b h.1) in
+    stopped_then left refl (alone_then space_writes (operator_writes o right))

@@ -1,24 +1,38 @@
 -- The lexemes of which a canonical text is made.
-use Rattle.std.specs.Prelude.{◌≡◌, ◌≤◌, List, [], ◌∷◌, ◌++◌, map, Option, Some, None}
+use Rattle.std.specs.Prelude.{◌≤◌, List, [], ◌∷◌, ◌++◌, map, Option, Some, None}
 use Rattle.cilk_lex.specs.Lexeme.{Lexeme, Piece, word, name, number, mark}
-use Rattle.cilk_lex.specs.Spelling.{IsName, int_max, mark_spelling}
+use Rattle.cilk_lex.specs.Spelling.{IsName, int_max}
 use Rattle.cilk_lex.specs.declared.keyword.Keyword.TheVariants as key
 use Rattle.cilk_lex.specs.declared.mark.Mark.{Mark}
 use Rattle.cilk_lex.specs.declared.mark.Mark.TheVariants as sign
 use Rattle.cilk_tree.specs.declared.operator.BinOp.{BinOp}
 use Rattle.cilk_tree.specs.declared.operator.BinOp.TheVariants as ops
-use Rattle.cilk_tree.specs.OperatorMark.{mark_of as operator_text}
 use Rattle.cilk_tree.specs.Tree as tree
 
 -- the lexemes of some pieces, their places left aside
 abbrev pub lexemes : List Piece → List Lexeme
 lexemes ps = map (λ p. p.lexeme) ps
 
--- the mark of an operator that has one
+-- the mark of an operator
 abbrev pub mark_of : BinOp → Mark
+mark_of ops.Multiply = sign.Star
+mark_of ops.Divide = sign.Slash
+mark_of ops.Remainder = sign.Percent
 mark_of ops.Add = sign.Plus
 mark_of ops.Subtract = sign.Minus
-mark_of _ = sign.Star
+mark_of ops.ShiftLeft = sign.ShiftLeft
+mark_of ops.ShiftRight = sign.ShiftRight
+mark_of ops.Less = sign.Less
+mark_of ops.LessOrEqual = sign.LessOrEqual
+mark_of ops.Greater = sign.Greater
+mark_of ops.GreaterOrEqual = sign.GreaterOrEqual
+mark_of ops.Equal = sign.Equal
+mark_of ops.NotEqual = sign.NotEqual
+mark_of ops.BitAnd = sign.Ampersand
+mark_of ops.BitXor = sign.Caret
+mark_of ops.BitOr = sign.Bar
+mark_of ops.And = sign.And
+mark_of ops.Or = sign.Or
 
 abbrev mutual
   pub expr_lexemes : tree.Expr → List Lexeme
@@ -65,16 +79,12 @@ items_lexemes (i ∷ is) = item_lexemes i ++ items_lexemes is
 abbrev pub program_lexemes : tree.Program → List Lexeme
 program_lexemes p = items_lexemes p.items
 
--- the text of the operator is that of its mark
-abbrev pub HasMark : BinOp → Type 0
-HasMark o = operator_text o ≡ mark_spelling (mark_of o)
-
--- Each name of the tree can be written as a name, each number as a number, and each operator as a mark.
+-- Each name of the tree can be written as a name, and each number as a number.
 
 abbrev pub CanWriteExpr : tree.Expr → Type 0
 CanWriteExpr (tree.number n) = n ≤ int_max
 CanWriteExpr (tree.named x) = IsName x.text
-CanWriteExpr (tree.binary o a b) = HasMark o × CanWriteExpr a × CanWriteExpr b
+CanWriteExpr (tree.binary o a b) = CanWriteExpr a × CanWriteExpr b
 
 abbrev pub CanWriteValue : Option tree.Expr → Type 0
 CanWriteValue None = Unit {0}
