@@ -4,7 +4,7 @@ use Rattle.std.specs.Prelude.{slice_get, slice_index_or, option_map}
 use Rattle.cilk_tree.specs.Tree as tree
 use Rattle.cilk_model.specs.Scope.{Scope}
 use Rattle.cilk_model.specs.Count.{count_item, count_items}
-use Rattle.cilk_model.specs.Labelled.{Action, assign, return_with, close, assign_by, null, return_nothing, action, Stmts, none, also, Body, Labelled}
+use Rattle.cilk_model.specs.Labelled.{Action, assign, return_with, close, assign_by, null, return_nothing, spawn, sync, action, Stmts, none, also, Body, Labelled}
 use Rattle.cilk_model.specs.Label.{label, label_items, label_procedure, bodies_of}
 use Rattle.cilk_model.specs.Items.{Item, piece, Items, pieces, opened, after_action, next, head_of, Head, closing_items, start_items, reached}
 use Rattle.cilk_model.specs.Instance.{body_at, no_body}
@@ -68,6 +68,8 @@ after-remains body close items h = inl refl
 after-remains body (assign_by op target value) items h = h
 after-remains body null items h = h
 after-remains body return_nothing items h = inl refl
+after-remains body (spawn taker callee arguments) items h = h
+after-remains body sync items h = h
 
 next-remains : (body : Body) (answer : Bool) (items : Items) → Remains body items → Remains body (opened (next answer items))
 next-remains body answer [] h = inl refl

@@ -1,5 +1,5 @@
 -- The table of nodes: each action with slots in place of declarations, and the number of the action that comes next.
-use Rattle.std.specs.Prelude.{ℕ, zero, suc, true, List, [], ◌∷◌, ◌++◌, Option, Some, None, option_map, filter_map, slice_get}
+use Rattle.std.specs.Prelude.{ℕ, zero, suc, true, List, [], ◌∷◌, ◌++◌, Option, Some, None, map, option_map, filter_map, slice_get}
 use Rattle.cilk_tree.specs.Tree as tree
 use Rattle.cilk_eval.specs.Term.{rename}
 use Rattle.cilk_eval.specs.declared.slot.Slot.{Slot}
@@ -9,12 +9,18 @@ use Rattle.cilk_model.specs.Labelled as labelled
 use Rattle.cilk_model.specs.Items.{Item, piece, Items, pieces, opened, Head, head_of, next, closing_items}
 use Rattle.cilk_model.specs.Label.{label}
 use Rattle.cilk_load.specs.declared.action.Action.{Action}
-use Rattle.cilk_load.specs.declared.action.Action.TheVariants.{Assign, Return, Close, AssignBy, Null, ReturnNothing}
+use Rattle.cilk_load.specs.declared.action.Action.TheVariants.{Assign, Return, Close, AssignBy, Null, ReturnNothing, Spawn, Sync}
+use Rattle.cilk_load.specs.declared.taker.Taker.{Taker}
+use Rattle.cilk_load.specs.declared.taker.Taker.TheVariants.{Nothing, Into}
 use Rattle.cilk_load.specs.declared.node.Node.{Node}
 use Rattle.cilk_load.specs.Slots.{slot_of}
 
 abbrev pub target_slot : (Declaration → Slot) → Target → Slot
 target_slot slots (variable d) = slots d
+
+abbrev pub slotted_taker : (Declaration → Slot) → labelled.Taker Target → Taker
+slotted_taker slots labelled.nothing = Nothing
+slotted_taker slots (labelled.into op target) = Into op (target_slot slots target)
 
 -- an action over slots
 abbrev pub slotted : (Declaration → Slot) → labelled.Action → Action
@@ -24,6 +30,8 @@ slotted slots labelled.close = Close
 slotted slots (labelled.assign_by op target value) = AssignBy op (target_slot slots target) (rename slots value)
 slotted slots labelled.null = Null
 slotted slots labelled.return_nothing = ReturnNothing
+slotted slots (labelled.spawn taker callee arguments) = Spawn (slotted_taker slots taker) callee (map (rename slots) arguments)
+slotted slots labelled.sync = Sync
 
 -- the number of the action in front of an opened list
 abbrev pub number_of : Items → Option ℕ

@@ -1,3 +1,5 @@
+use crate::codes::Codes;
+use crate::taker::Taker;
 use cilk_eval::{Code, Slot};
 use cilk_tree::BinOp;
 
@@ -16,4 +18,8 @@ pub enum Action {
     Null,
     /// `return` without a value.
     ReturnNothing,
+    /// A spawn: what takes the child's value, the number of the child's body, and its arguments.
+    Spawn(Taker, u32, Codes),
+    /// `sync`.
+    Sync,
 }

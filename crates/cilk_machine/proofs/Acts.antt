@@ -10,16 +10,16 @@ use Rattle.cilk_eval.specs.Slots.{sizes_of, SlotsLieWithin}
 use Rattle.cilk_eval.specs.Value.{value_of, ◌>>=◌}
 use Rattle.cilk_check.specs.Fault.{WellFormed}
 use Rattle.cilk_model.specs.Declaration.{Declaration, local, global, unknown}
-use Rattle.cilk_model.specs.Labelled.{Action, variable, assign, return_with, close, Labelled}
+use Rattle.cilk_model.specs.Labelled.{Taker, Action, variable, assign, return_with, close, Labelled}
 use Rattle.cilk_model.specs.Label.{label}
 use Rattle.cilk_model.specs.Items.{Items, Head, head_of, opened, next}
-use Rattle.cilk_model.specs.Values.{Store, environment, with_value}
-use Rattle.cilk_model.specs.Effect.{Effect, writes, gives, goes_by, effect_of}
+use Rattle.cilk_model.specs.Values.{Cell, Store, environment, with_value}
+use Rattle.cilk_model.specs.Effect.{Effect, writes, gives, goes_by, starts, effect_of}
 use Rattle.cilk_model.specs.Path.{Path}
 use Rattle.cilk_model.specs.Instance.{Instance, body_at}
 use Rattle.cilk_model.specs.State.{finished, State}
-use Rattle.cilk_model.specs.Change.{at_boundary, syncs, syncs_next, passes, head_effect, gone_on}
-use Rattle.cilk_model.specs.Pick.{Step, parks, step_by_effect, step_by_head, step_of}
+use Rattle.cilk_model.specs.Change.{has_room, at_boundary, syncs, syncs_next, passes, head_effect, gone_on}
+use Rattle.cilk_model.specs.Pick.{Step, parks, step_by_start, step_by_effect, step_by_head, step_of}
 use Rattle.cilk_model.specs.Scheduler.{Place, no_place, with_hand}
 use Rattle.cilk_model.specs.Run.{Standing, waits_now, stepped, event_of_step, next_by_hand, event_by_hand}
 use Rattle.cilk_load.specs.declared.node.Node.{Node}
@@ -104,11 +104,16 @@ step-is p f head first =
     ∙ ap (step_by_head (label p) (runs p f) [] i) first
     ∙ ap (λ (b : Bool). if b then taken else parks) (passes_alone (syncs head.act))
 
+free_start : (program : Labelled) (s : State) (i : Instance) (n : ℕ) (taker : Taker Cell) (callee : ℕ) (arguments : List ℤ) (room : Bool) → waits_now (step_by_start program s [] i n taker callee arguments room) ≡ None
+free_start program s i n taker callee arguments true = refl
+free_start program s i n taker callee arguments false = refl
+
 free_by : (program : Labelled) (s : State) (i : Instance) (n : ℕ) (e : Result Effect Trap) → waits_now (step_by_effect program s [] i n e) ≡ None
 free_by program s i n (Err trap) = refl
 free_by program s i n (Ok (writes cell z)) = refl
 free_by program s i n (Ok (gives z)) = refl
 free_by program s i n (Ok goes_by) = refl
+free_by program s i n (Ok (starts taker callee arguments)) = free_start program s i n taker callee arguments (has_room s i)
 
 -- a step of the root is possible
 pub step-free : (p : tree.Program) (f : Frame) → Before p f → waits_now (step_of (label p) (runs p f) []) ≡ None

@@ -10,7 +10,7 @@ use Rattle.cilk_check.specs.Scope.{Defines}
 use Rattle.cilk_check.specs.Fault.{WellFormed}
 use Rattle.cilk_model.specs.Declaration.{Declaration, local}
 use Rattle.cilk_model.specs.Scope.{Scope}
-use Rattle.cilk_model.specs.Labelled.{Target, Action, assign, return_with, close, assign_by, null, return_nothing, Stmt, action, Stmts, none, also, Body, Labelled}
+use Rattle.cilk_model.specs.Labelled.{Target, Action, assign, return_with, close, assign_by, null, return_nothing, spawn, sync, Stmt, action, Stmts, none, also, Body, Labelled}
 use Rattle.cilk_model.specs.Items.{Items, piece, pieces, Head, head_of, opened, next, closing_items, reached}
 use Rattle.cilk_model.specs.Count.{count_item}
 use Rattle.cilk_model.specs.Label.{variable_of, block_variables, stmts_variables, label_procedure, label_items, global_scope, globals_of, label}
@@ -178,6 +178,12 @@ goes_on body (piece (action m null) ∷ items) head target value i first is h =
 goes_on body (piece (action m return_nothing) ∷ items) head target value i first is h =
     let same : record { number = m; act = return_nothing } ≡ head = cc in
     let act : return_nothing ≡ assign target value = ap (λ (x : Head). x.act) same ∙ is in cc
+goes_on body (piece (action m (spawn taker callee arguments)) ∷ items) head target value i first is h =
+    let same : record { number = m; act = spawn taker callee arguments } ≡ head = cc in
+    let act : spawn taker callee arguments ≡ assign target value = ap (λ (x : Head). x.act) same ∙ is in cc
+goes_on body (piece (action m sync) ∷ items) head target value i first is h =
+    let same : record { number = m; act = sync } ≡ head = cc in
+    let act : sync ≡ assign target value = ap (λ (x : Head). x.act) same ∙ is in cc
 
 -- after an assignment there is another action
 pub assign_goes_on : (body : Body) (answers : List Bool) (head : Head) (target : Target) (value : Term Declaration) → head_of (reached body answers) ≡ Some head → head.act ≡ assign target value

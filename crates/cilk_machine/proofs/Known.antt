@@ -14,7 +14,7 @@ use Rattle.cilk_check.proofs.Elements.{HasElement, HasElement-from_Contains, Con
 use Rattle.cilk_check.proofs.WellFormedLaws.{used_is_visible}
 use Rattle.cilk_model.specs.Declaration.{Declaration, local}
 use Rattle.cilk_model.specs.Scope.{Scope, meaning_of, with_local, with_locals, label_expr}
-use Rattle.cilk_model.specs.Labelled.{Target, variable, Action, assign, return_with, close, assign_by, null, return_nothing, Stmt, action, Stmts, none, also, Body}
+use Rattle.cilk_model.specs.Labelled.{Target, variable, Action, assign, return_with, close, assign_by, null, return_nothing, spawn, sync, Stmt, action, Stmts, none, also, Body}
 use Rattle.cilk_model.specs.Items.{Items, Head, head_of, closing_items}
 use Rattle.cilk_model.specs.Count.{count_option, count_stmt, count_decls, count_block, count_item}
 use Rattle.cilk_model.specs.Label.{variable_of, stmt_variables, stmts_variables, block_variables, label_initialiser, label_decls, label_stmt, label_stmts, label_block, label_procedure, label_items}
@@ -28,6 +28,8 @@ KnownAct D A close = ⊤
 KnownAct D A (assign_by op target value) = ⊥
 KnownAct D A null = ⊥
 KnownAct D A return_nothing = ⊥
+KnownAct D A (spawn taker callee arguments) = ⊥
+KnownAct D A sync = ⊥
 
 abbrev pub AllKnown : (Declaration → Type 0) → (Declaration → Type 0) → Stmts → Type 0
 AllKnown D A none = ⊤

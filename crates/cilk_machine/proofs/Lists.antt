@@ -1,7 +1,7 @@
 -- The lists of items that a body reaches stand in the table of lists, each at the number of its head.
 use Rattle.std.proofs.Common.{◌≡◌, ℕ, zero, suc, ◌+◌, ◌<◌, Bool, true, false, List, [], ◌∷◌, ◌++◌, map, length, Option, Some, None, refl, sym, ap, ◌∙◌, subst, ◌⊎◌, inl, inr, arith, zero-add}
 use Rattle.std.specs.Prelude.{slice_get, slice_index_or}
-use Rattle.cilk_model.specs.Labelled.{Action, assign, return_with, close, assign_by, null, return_nothing, Stmt, action, Stmts, none, also, Body, Labelled}
+use Rattle.cilk_model.specs.Labelled.{Action, assign, return_with, close, assign_by, null, return_nothing, spawn, sync, Stmt, action, Stmts, none, also, Body, Labelled}
 use Rattle.cilk_model.specs.Items.{Item, piece, Items, pieces, opened, after_action, next, closing_items, start_items, reached}
 use Rattle.cilk_load.specs.Table.{stmts_lists, body_lists, number_of}
 use Rattle.cilk_machine.specs.Remains.{Remains, remains_of, remains_from, remains_at}
@@ -62,6 +62,8 @@ acted_reaches body close items h = inl refl
 acted_reaches body (assign_by op target value) items h = h
 acted_reaches body null items h = h
 acted_reaches body return_nothing items h = inl refl
+acted_reaches body (spawn taker callee arguments) items h = h
+acted_reaches body sync items h = h
 
 next_reaches : (body : Body) (answer : Bool) (items : Items) → Reaches body items → Reaches body (next answer items)
 next_reaches body answer [] h = inl refl

@@ -9,7 +9,7 @@ use Rattle.cilk_eval.specs.Slots as slots
 use Rattle.cilk_eval.specs.Slots.{sizes_of, SlotsLieWithin}
 use Rattle.cilk_eval.specs.Value.{value_of, ◌>>=◌}
 use Rattle.cilk_model.specs.Declaration.{Declaration, local, global, unknown}
-use Rattle.cilk_model.specs.Labelled.{Action, variable, assign, return_with, close, assign_by, null, return_nothing, Labelled}
+use Rattle.cilk_model.specs.Labelled.{Action, variable, assign, return_with, close, assign_by, null, return_nothing, spawn, sync, Labelled}
 use Rattle.cilk_model.specs.Label.{label}
 use Rattle.cilk_model.specs.Items.{Head, head_of, opened, next}
 use Rattle.cilk_model.specs.Values.{Cell, environment, with_value}
@@ -18,7 +18,7 @@ use Rattle.cilk_model.specs.Instance.{Instance, body_at}
 use Rattle.cilk_model.specs.Change.{head_effect, gone_on}
 use Rattle.cilk_load.specs.declared.node.Node.{Node}
 use Rattle.cilk_load.specs.declared.action.Action as code
-use Rattle.cilk_load.specs.declared.action.Action.TheVariants.{Assign, Return, Close, AssignBy, Null, ReturnNothing}
+use Rattle.cilk_load.specs.declared.action.Action.TheVariants.{Assign, Return, Close, AssignBy, Null, ReturnNothing, Spawn, Sync}
 use Rattle.cilk_load.specs.Slots.{size_of, slot_of}
 use Rattle.cilk_load.specs.Table.{number_of, slotted, node_of}
 use Rattle.cilk_frame.specs.Frames.{Frame, top_of}
@@ -57,6 +57,8 @@ of_assign slots close slot code h = cc
 of_assign slots (assign_by op target value) slot code h = cc
 of_assign slots null slot code h = cc
 of_assign slots return_nothing slot code h = cc
+of_assign slots (spawn taker callee arguments) slot code h = cc
+of_assign slots sync slot code h = cc
 
 pub record OfReturn (slots : Declaration → Slot) (act : Action) (code : Term Slot) : Type 0 where
   pub value : Term Declaration
@@ -70,6 +72,8 @@ of_return slots close code h = cc
 of_return slots (assign_by op target value) code h = cc
 of_return slots null code h = cc
 of_return slots return_nothing code h = cc
+of_return slots (spawn taker callee arguments) code h = cc
+of_return slots sync code h = cc
 
 of_close : (slots : Declaration → Slot) (act : Action) → slotted slots act ≡ Close → act ≡ close
 of_close slots (assign (variable d) value) h = cc
@@ -78,6 +82,8 @@ of_close slots close h = refl
 of_close slots (assign_by op target value) h = cc
 of_close slots null h = cc
 of_close slots return_nothing h = cc
+of_close slots (spawn taker callee arguments) h = cc
+of_close slots sync h = cc
 
 -- the actions that stand in no program yet
 abbrev pub IsYetToCome : code.Action → Type 0
@@ -87,6 +93,8 @@ IsYetToCome Close = ⊥
 IsYetToCome (AssignBy op slot code) = ⊤
 IsYetToCome Null = ⊤
 IsYetToCome ReturnNothing = ⊤
+IsYetToCome (Spawn taker callee arguments) = ⊤
+IsYetToCome Sync = ⊤
 
 none_to_come : (slots : Declaration → Slot) (D A : Declaration → Type 0) (act : Action) → KnownAct D A act → IsYetToCome (slotted slots act) → ⊥
 none_to_come slots D A (assign target value) known h = h
@@ -95,6 +103,8 @@ none_to_come slots D A close known h = h
 none_to_come slots D A (assign_by op target value) known h = known
 none_to_come slots D A null known h = known
 none_to_come slots D A return_nothing known h = known
+none_to_come slots D A (spawn taker callee arguments) known h = known
+none_to_come slots D A sync known h = known
 
 some_same : {A : Type 0} (x y : A) → Some x ≡ Some y → x ≡ y
 some_same x y h = cc

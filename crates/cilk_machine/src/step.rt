@@ -51,7 +51,11 @@ pub fn step(alloc: Global, loaded: &Loaded, frame: Frame) -> Stepped
             },
             Action::Close => returned(alloc, frame, n, 0),
             // The language has these, but no program that is read yet.
-            Action::AssignBy(..) | Action::Null | Action::ReturnNothing => unreachable!(),
+            Action::AssignBy(..)
+            | Action::Null
+            | Action::ReturnNothing
+            | Action::Spawn(..)
+            | Action::Sync => unreachable!(),
         },
     }
 }

@@ -4,16 +4,16 @@ use Rattle.std.proofs.lemmas.Bool.{cond_both}
 use Rattle.cilk_eval.specs.declared.trap.Trap.{Trap}
 use Rattle.cilk_eval.specs.Value.{Environment, value_of, ◌>>=◌}
 use Rattle.cilk_model.specs.Declaration.{Declaration}
-use Rattle.cilk_model.specs.Labelled.{Labelled, Action, assign, return_with, close, assign_by, null, return_nothing, Stmt, action, Stmts, none, also, Body}
+use Rattle.cilk_model.specs.Labelled.{Labelled, Taker, Action, assign, return_with, close, assign_by, null, return_nothing, spawn, sync, Stmt, action, Stmts, none, also, Body}
 use Rattle.cilk_model.specs.Items.{Items, piece, pieces, opened, Head, head_of, after_action, next, closing_items, start_items}
 use Rattle.cilk_model.specs.Values.{Cell}
-use Rattle.cilk_model.specs.Effect.{Effect, writes, gives, goes_by, effect_of}
+use Rattle.cilk_model.specs.Effect.{Effect, writes, gives, goes_by, starts, effect_of}
 use Rattle.cilk_model.specs.Path.{Path, same_path, parent_of}
 use Rattle.cilk_model.specs.Instance.{Receiver, place, Delivery, Instance, body_at}
 use Rattle.cilk_model.specs.State.{Entry, Instances, State, instance_at, changed, without, has_live_child}
 use Rattle.cilk_model.specs.Event.{Event}
-use Rattle.cilk_model.specs.Change.{at_boundary, passes, head_effect, after_return_to, received_at, after_place, after_receiver}
-use Rattle.cilk_model.specs.Pick.{Step, waits, parks, goes_on, ends, step_by_effect, step_by_head, step_at_boundary, step_of_instance, step_of_live, step_of}
+use Rattle.cilk_model.specs.Change.{is_alone, at_boundary, passes, has_room, head_effect, after_return_to, received_at, after_place, after_receiver}
+use Rattle.cilk_model.specs.Pick.{Step, waits, parks, goes_on, ends, spawns, step_by_start, step_by_effect, step_by_head, step_at_boundary, step_of_instance, step_of_live, step_of}
 use Rattle.cilk_model.specs.Scheduler.{hand_of}
 use Rattle.cilk_model.specs.Choice.{Act, step, pop, steal, Choice}
 use Rattle.cilk_model.specs.Run.{Standing, Position, refusal_of, state_after, next_by_hand, next_by, next_of, event_of, after_from, opening, is_crew, after_main}
@@ -50,6 +50,7 @@ abbrev Stays : Effect → Type 0
 Stays (writes cell z) = Unit {0}
 Stays (gives z) = ⊥
 Stays goes_by = Unit {0}
+Stays (starts taker callee arguments) = Unit {0}
 
 given_leaves : (r : Result ℤ Trap) (did : Effect) → (r >>= λ y. Ok (gives y)) ≡ Ok did → Stays did → ⊥
 given_leaves (Ok y) did e stays = let same : gives y ≡ did = cc in subst Stays (sym same) stays
@@ -62,6 +63,8 @@ behind_closes env close items did h e stays = absurd (given_leaves (Ok (pos 0)) 
 behind_closes env (assign_by op target value) items did h e stays = opened_closes items h
 behind_closes env null items did h e stays = opened_closes items h
 behind_closes env return_nothing items did h e stays = absurd (given_leaves (Ok (pos 0)) did e stays)
+behind_closes env (spawn taker callee arguments) items did h e stays = opened_closes items h
+behind_closes env sync items did h e stays = opened_closes items h
 
 next_closes : (env : Environment Declaration) (items : Items) (head : Head) (did : Effect) → Closes items → head_of items ≡ Some head
     → effect_of env head.act ≡ Ok did → Stays did → Closes (opened (next true items))
@@ -73,11 +76,11 @@ next_closes env (piece (action n act) ∷ (other ∷ items)) head did h first e 
     let same : record { number = n; act = act } ≡ head = cc in
     behind_closes env act (other ∷ items) did h (ap (λ (x : Head). effect_of env x.act) same ∙ e) stays
 
--- each live instance has its closing brace before it
-abbrev IsReady : Instance → Type 0
-IsReady i = Closes i.top.items
+-- each live instance has its closing brace before it, and its procedure's own activation goes on
+abbrev pub IsReady : Instance → Type 0
+IsReady i = Closes i.top.items × (is_alone i ≡ true)
 
-abbrev Ready : Instances → Type 0
+abbrev pub Ready : Instances → Type 0
 Ready [] = Unit {0}
 Ready (e ∷ entries) = IsReady e.instance × Ready entries
 
@@ -99,11 +102,15 @@ without_ready p [] h = tt
 without_ready p (e ∷ entries) h =
     without_by (not (same_path e.path p)) e (without p entries) h.0 (without_ready p entries h.1)
 
+push_ready : (entries : Instances) (e : Entry) → Ready entries → IsReady e.instance → Ready (entries ++ e ∷ [])
+push_ready [] e all h = (h, tt)
+push_ready (x ∷ entries) e all h = (all.0, push_ready entries e all.1 h)
+
 found_by : (b : Bool) (x : Instance) (o : Option Instance) (i : Instance) → (if b then Some x else o) ≡ Some i → IsReady x → (o ≡ Some i → IsReady i) → IsReady i
 found_by true x o i e h rest = let same : x ≡ i = cc in subst IsReady same h
 found_by false x o i e h rest = rest e
 
-found_ready : (entries : Instances) (p : Path) (i : Instance) → Ready entries → instance_at entries p ≡ Some i → IsReady i
+pub found_ready : (entries : Instances) (p : Path) (i : Instance) → Ready entries → instance_at entries p ≡ Some i → IsReady i
 found_ready [] p i h e = cc
 found_ready (x ∷ entries) p i h e =
     found_by (same_path x.path p) x.instance (instance_at entries p) i e h.0 (found_ready entries p i h.1)
@@ -114,31 +121,40 @@ ReadyAfter waits = Unit {0}
 ReadyAfter parks = Unit {0}
 ReadyAfter (goes_on t did) = Ready t.instances
 ReadyAfter (ends t did) = Ready t.instances
+ReadyAfter (spawns child t did) = Ready t.instances
 
 module _ (s : State) (p : Path) (all : Ready s.instances) (i : Instance) (ready : IsReady i) where
   return_ready : (z : ℤ) (o : Option Path) → Ready (after_return_to o s p i z).instances
   return_ready z None = without_ready p s.instances all
   return_ready z (Some q) = changed_ready q _ (without p s.instances) (λ x h. h) (without_ready p s.instances all)
 
+  start_ready : (program : Labelled) (n : ℕ) (taker : Taker Cell) (callee : ℕ) (arguments : List ℤ) → Closes (opened (next true i.top.items))
+      → (room : Bool) → ReadyAfter (step_by_start program s p i n taker callee arguments room)
+  start_ready program n taker callee arguments h true =
+      push_ready (changed p _ s.instances) _ (changed_ready p _ s.instances (λ x k. (h, ready.1)) all) (start_closes (body_at program callee), refl)
+  start_ready program n taker callee arguments h false = all
+
   effect_ready : (program : Labelled) (head : Head) → head_of i.top.items ≡ Some head → (r : Result Effect Trap) → head_effect s p i head ≡ r → ReadyAfter (step_by_effect program s p i head.number r)
   effect_ready program head first (Err trap) e = all
   effect_ready program head first (Ok (writes cell z)) e =
-      changed_ready p _ s.instances (λ x h. next_closes _ i.top.items head (writes cell z) ready first e tt) all
+      changed_ready p _ s.instances (λ x h. (next_closes _ i.top.items head (writes cell z) ready.0 first e tt, ready.1)) all
   effect_ready program head first (Ok (gives z)) e = return_ready z (parent_of p)
   effect_ready program head first (Ok goes_by) e =
-      changed_ready p _ s.instances (λ x h. next_closes _ i.top.items head goes_by ready first e tt) all
+      changed_ready p _ s.instances (λ x h. (next_closes _ i.top.items head goes_by ready.0 first e tt, ready.1)) all
+  effect_ready program head first (Ok (starts taker callee arguments)) e =
+      start_ready program head.number taker callee arguments (next_closes _ i.top.items head (starts taker callee arguments) ready.0 first e tt) (has_room s i)
 
   head_ready : (program : Labelled) (o : Option Head) → head_of i.top.items ≡ o → ReadyAfter (step_by_head program s p i o)
   head_ready program None first = tt
   head_ready program (Some head) first =
       cond_both (passes s p i head) _ _ ReadyAfter (λ _. effect_ready program head first (head_effect s p i head) refl) (λ _. tt)
 
-  place_ready : (others : List Delivery) (cell : Cell) (spawn : ℕ) (r : Result ℤ Trap) → Ready (after_place s p i others cell spawn r).instances
-  place_ready others cell spawn (Err trap) = all
-  place_ready others cell spawn (Ok z) = changed_ready p _ s.instances (λ x h. ready) all
+  place_ready : (others : List Delivery) (cell : Cell) (n : ℕ) (r : Result ℤ Trap) → Ready (after_place s p i others cell n r).instances
+  place_ready others cell n (Err trap) = all
+  place_ready others cell n (Ok z) = changed_ready p _ s.instances (λ x h. ready) all
 
   receiver_ready : (program : Labelled) (others : List Delivery) (receiver : Receiver) (z : ℤ) → Ready (after_receiver program s p i others receiver z).instances
-  receiver_ready program others (place op cell spawn) z = place_ready others cell spawn (received_at s p i (place op cell spawn) z)
+  receiver_ready program others (place op cell n) z = place_ready others cell n (received_at s p i (place op cell n) z)
 
   boundary_ready : (program : Labelled) (ds : List Delivery) → ReadyAfter (step_at_boundary program s p i ds)
   boundary_ready program [] = head_ready program (head_of i.top.items) refl
@@ -158,33 +174,20 @@ state_ready s waits all h = all
 state_ready s parks all h = all
 state_ready s (goes_on t did) all h = h
 state_ready s (ends t did) all h = h
+state_ready s (spawns child t did) all h = h
 
 hand_ready : (program : Labelled) (at : Standing) (w : ℕ) (o : Option Path) → Ready at.state.instances → Ready (next_by_hand program at w o).state.instances
 hand_ready program at w None all = all
 hand_ready program at w (Some p) all =
     state_ready at.state (step_of program at.state p) all (live_ready program at.state p all (instance_at at.state.instances p) refl)
 
-act_ready : (program : Labelled) (at : Standing) (w : ℕ) (act : Act) → Ready at.state.instances → Ready (next_by program at w act).state.instances
+pub act_ready : (program : Labelled) (at : Standing) (w : ℕ) (act : Act) → Ready at.state.instances → Ready (next_by program at w act).state.instances
 act_ready program at w step all = hand_ready program at w (hand_of at.scheduler.places w) all
 act_ready program at w pop all = all
 act_ready program at w (steal v) all = all
 
-if_some : (b : Bool) (o : Option Position) (end : Position) → (if b then o else None) ≡ Some end → o ≡ Some end
-if_some true o end h = h
-if_some false o end h = cc
+pub opening_ready : (program : Labelled) (main n : ℕ) → Ready (opening program main n).state.instances
+opening_ready program main n = ((start_closes (body_at program main), refl), tt)
 
-all_ready : (program : Labelled) (at : Standing) (events : List Event) (choices : List Choice) (end : Position) → Ready at.state.instances → after_from program at events choices ≡ Some end → Ready end.standing.state.instances
-all_ready program at events [] end all h =
-    let e : record { standing = at; events = events } ≡ end = cc in
-    subst (λ (q : Position). Ready q.standing.state.instances) e all
-all_ready program at events (c ∷ choices) end all h =
-    all_ready program (next_of program at c) (events ++ event_of program at c ∷ []) choices end (act_ready program at c.worker c.act all) (if_some (is_none (refusal_of program at c)) _ end h)
-
-main_ready : (program : Labelled) (n : ℕ) (main : Option ℕ) (choices : List Choice) (end : Position) → after_main program n main choices ≡ Some end → Ready end.standing.state.instances
-main_ready program n None choices end h = cc
-main_ready program n (Some main) choices end h =
-    all_ready program (opening program main n) [] choices end (start_closes (body_at program main), tt) (if_some (is_crew n) _ end h)
-
-pub each_has_head : EachHasHead
-each_has_head program n choices at h p i live =
-    closes_head i.top.items (found_ready at.standing.state.instances p i (main_ready program n program.main choices at h) live)
+pub ready_head : (entries : Instances) (p : Path) (i : Instance) → Ready entries → instance_at entries p ≡ Some i → head_of i.top.items ≢ None
+ready_head entries p i all e = closes_head i.top.items (found_ready entries p i all e).0

@@ -3,7 +3,7 @@ use Rattle.std.proofs.Common.{◌≡◌, ℕ, Bool, true, false, not, Option, So
 use Rattle.cilk_model.specs.Labelled.{Labelled}
 use Rattle.cilk_model.specs.Path.{Path}
 use Rattle.cilk_model.specs.State.{State, Outcome, running, finished, trapped}
-use Rattle.cilk_model.specs.Pick.{Step, waits, parks, goes_on, ends, step_of}
+use Rattle.cilk_model.specs.Pick.{Step, waits, parks, goes_on, ends, spawns, step_of}
 use Rattle.cilk_model.specs.Scheduler.{hand_of}
 use Rattle.cilk_model.specs.Choice.{Act, step, pop, steal, Choice, over, no_worker}
 use Rattle.cilk_model.specs.Run.{Standing, Position, is_running, is_worker, act_refusal, refusal_of, state_after, event_of_step, next_by_hand, next_by, event_by_hand, event_by, event_of, after, one_more}
@@ -37,6 +37,7 @@ keeps_step program s p waits r = record { same = λ _. refl; allowed = λ h. abs
 keeps_step program s p parks r = record { same = λ _. refl; allowed = λ h. absurd (h refl) }
 keeps_step program s p (goes_on t did) r = record { same = λ h. absurd (r.1 h); allowed = λ _. r.0 }
 keeps_step program s p (ends t did) r = record { same = λ h. absurd (r.1 h); allowed = λ _. r.0 }
+keeps_step program s p (spawns child t did) r = record { same = λ h. absurd (r.1 h); allowed = λ _. r.0 }
 
 keeps_hand : (program : Labelled) (at : Standing) (w : ℕ) → at.state.outcome ≡ running → (hand : Option Path)
     → KeepsRule program at.state hand (event_by_hand program at.state hand) (next_by_hand program at w hand).state

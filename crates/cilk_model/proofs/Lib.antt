@@ -7,3 +7,5 @@ pub mod Places
 pub mod Opening
 pub mod Lines
 pub mod Heads
+pub mod Waiting
+pub mod Family

@@ -1,18 +1,19 @@
 -- Which instances live after a step.
-use Rattle.std.proofs.Common.{◌≡◌, ℕ, ℤ, ◌+◌, Bool, true, false, not, ◌&&◌, ◌||◌, cond, List, [], ◌∷◌, Option, Some, None, is_some, Result, Ok, Err, refl, sym, ap, ◌∙◌, if◌then◌else◌, arith, count_by}
+use Rattle.std.proofs.Common.{◌≡◌, ℕ, ℤ, ◌+◌, Bool, true, false, not, ◌&&◌, ◌||◌, cond, List, [], ◌∷◌, ◌++◌, Option, Some, None, is_some, Result, Ok, Err, refl, sym, ap, ◌∙◌, if◌then◌else◌, arith, count_by}
+use Rattle.std.specs.Prelude.{option_map}
 use Rattle.std.proofs.lemmas.Bool.{cond_both}
-use Rattle.std.proofs.lemmas.List.Sums.{sum_by-cons}
+use Rattle.std.proofs.lemmas.List.Sums.{sum_by-cons, sum_by-append}
 use Rattle.std.proofs.lemmas.Slice.Eq.{bytes_eq-Decides}
 use Rattle.cilk_eval.specs.declared.trap.Trap.{Trap}
-use Rattle.cilk_model.specs.Labelled.{Labelled}
+use Rattle.cilk_model.specs.Labelled.{Labelled, Taker}
 use Rattle.cilk_model.specs.Items.{Head, head_of}
-use Rattle.cilk_model.specs.Values.{Cell}
-use Rattle.cilk_model.specs.Effect.{Effect, writes, gives, goes_by}
-use Rattle.cilk_model.specs.Path.{Path, same_path, parent_of}
+use Rattle.cilk_model.specs.Values.{Cell, written}
+use Rattle.cilk_model.specs.Effect.{Effect, writes, gives, goes_by, starts}
+use Rattle.cilk_model.specs.Path.{Path, same_path, child_path, parent_of}
 use Rattle.cilk_model.specs.Instance.{Receiver, place, Delivery, Instance}
 use Rattle.cilk_model.specs.State.{Entry, Instances, State, instance_at, is_live, change, changed, without, has_live_child}
-use Rattle.cilk_model.specs.Change.{at_boundary, passes, head_effect, after_return_to, received_at, after_place, after_receiver}
-use Rattle.cilk_model.specs.Pick.{Step, waits, parks, goes_on, ends, step_by_effect, step_by_head, step_at_boundary, step_of_instance, step_of_live, step_of}
+use Rattle.cilk_model.specs.Change.{at_boundary, passes, store_of, gone_on, next_child, has_room, with_child, child_of, with_birth, head_effect, after_return_to, received_at, after_place, after_receiver}
+use Rattle.cilk_model.specs.Pick.{Step, waits, parks, goes_on, ends, spawns, step_by_start, step_by_effect, step_by_head, step_at_boundary, step_of_instance, step_of_live, step_of}
 
 pub same-is : (p q : Path) → same_path p q ≡ true → p ≡ q
 same-is p q = (bytes_eq-Decides p q).0
@@ -37,7 +38,7 @@ some_if : (b : Bool) (x : Instance) (o : Option Instance) → is_some (if b then
 some_if true x o = refl
 some_if false x o = refl
 
-live-cons : (e : Entry) (entries : Instances) (q : Path) → is_live (e ∷ entries) q ≡ (same_path e.path q || is_live entries q)
+pub live-cons : (e : Entry) (entries : Instances) (q : Path) → is_live (e ∷ entries) q ≡ (same_path e.path q || is_live entries q)
 live-cons e entries q = some_if (same_path e.path q) e.instance (instance_at entries q)
 
 pub times-cons : (e : Entry) (entries : Instances) (q : Path) → times q (e ∷ entries) ≡ cond (same_path e.path q) 1 0 + times q entries
@@ -129,30 +130,175 @@ times-without : (p : Path) (entries : Instances) (q : Path) → times q (without
 times-without p [] q = none_there (same_path q p)
 times-without p (e ∷ entries) q = times_out_by p q e entries (same_path e.path p) refl (times-without p entries q)
 
--- the same paths live
+-- which instance stands at a path, after each change
+out_of : (p q : Path) (e : Entry) → same_path e.path p ≡ true → same_path q p ≡ false → same_path e.path q ≡ false
+out_of p q e h other = ap (λ (r : Path). same_path r q) (same-is e.path p h) ∙ same-sym p q ∙ other
+
+otherwise : {A : Type 0} (b : Bool) (x y : A) → b ≡ false → (if b then x else y) ≡ y
+otherwise true x y h = cc
+otherwise false x y h = refl
+
+then_is : {A : Type 0} (b : Bool) (x y : A) → b ≡ true → (if b then x else y) ≡ x
+then_is true x y h = refl
+then_is false x y h = cc
+
+changed_other_by : (p q : Path) (f : Instance → Instance) (e : Entry) (entries : Instances) (b : Bool) → same_path e.path p ≡ b → same_path q p ≡ false → instance_at (changed p f entries) q ≡ instance_at entries q
+    → instance_at ((if b then record e { instance = f e.instance } else e) ∷ changed p f entries) q ≡ instance_at (e ∷ entries) q
+changed_other_by p q f e entries true h other rest =
+    otherwise (same_path e.path q) _ _ (out_of p q e h other) ∙ rest ∙ sym (otherwise (same_path e.path q) _ _ (out_of p q e h other))
+changed_other_by p q f e entries false h other rest =
+    ap (λ (o : Option Instance). if same_path e.path q then Some e.instance else o) rest
+
+pub at-changed_other : (p q : Path) (f : Instance → Instance) (entries : Instances) → same_path q p ≡ false → instance_at (changed p f entries) q ≡ instance_at entries q
+at-changed_other p q f [] other = refl
+at-changed_other p q f (e ∷ entries) other =
+    changed_other_by p q f e entries (same_path e.path p) refl other (at-changed_other p q f entries other)
+
+changed_same_by : (p : Path) (f : Instance → Instance) (e : Entry) (entries : Instances) (b : Bool) → same_path e.path p ≡ b → instance_at (changed p f entries) p ≡ option_map f (instance_at entries p)
+    → instance_at ((if b then record e { instance = f e.instance } else e) ∷ changed p f entries) p ≡ option_map f (instance_at (e ∷ entries) p)
+changed_same_by p f e entries true h rest =
+    then_is (same_path e.path p) _ _ h ∙ sym (ap (option_map f) (then_is (same_path e.path p) (Some e.instance) (instance_at entries p) h))
+changed_same_by p f e entries false h rest =
+    otherwise (same_path e.path p) _ _ h ∙ rest ∙ sym (ap (option_map f) (otherwise (same_path e.path p) (Some e.instance) (instance_at entries p) h))
+
+pub at-changed_same : (p : Path) (f : Instance → Instance) (entries : Instances) → instance_at (changed p f entries) p ≡ option_map f (instance_at entries p)
+at-changed_same p f [] = refl
+at-changed_same p f (e ∷ entries) =
+    changed_same_by p f e entries (same_path e.path p) refl (at-changed_same p f entries)
+
+without_other_by : (p q : Path) (e : Entry) (entries : Instances) (b : Bool) → same_path e.path p ≡ b → same_path q p ≡ false → instance_at (without p entries) q ≡ instance_at entries q
+    → instance_at (cond (not b) (e ∷ without p entries) (without p entries)) q ≡ instance_at (e ∷ entries) q
+without_other_by p q e entries true h other rest = rest ∙ sym (otherwise (same_path e.path q) _ _ (out_of p q e h other))
+without_other_by p q e entries false h other rest =
+    ap (λ (o : Option Instance). if same_path e.path q then Some e.instance else o) rest
+
+pub at-without_other : (p q : Path) (entries : Instances) → same_path q p ≡ false → instance_at (without p entries) q ≡ instance_at entries q
+at-without_other p q [] other = refl
+at-without_other p q (e ∷ entries) other =
+    without_other_by p q e entries (same_path e.path p) refl other (at-without_other p q entries other)
+
+-- the first of two that is there
+abbrev pub either_of : Option Instance → Option Instance → Option Instance
+either_of (Some x) o = Some x
+either_of None o = o
+
+either_if : (b : Bool) (x : Instance) (o r : Option Instance) → (if b then Some x else either_of o r) ≡ either_of (if b then Some x else o) r
+either_if true x o r = refl
+either_if false x o r = refl
+
+pub at-push : (entries : Instances) (e : Entry) (q : Path) → instance_at (entries ++ e ∷ []) q ≡ either_of (instance_at entries q) (if same_path e.path q then Some e.instance else None)
+at-push [] e q = refl
+at-push (x ∷ entries) e q =
+    ap (λ (o : Option Instance). if same_path x.path q then Some x.instance else o) (at-push entries e q)
+    ∙ either_if (same_path x.path q) x.instance (instance_at entries q) (if same_path e.path q then Some e.instance else None)
+
+-- how many children the instance at a path ever spawned
+abbrev pub children_at : Instances → Path → Option ℕ
+children_at entries q = option_map (λ (i : Instance). i.children) (instance_at entries q)
+
+-- the children of those that a change leaves with as many
+kept_by : (p : Path) (f : Instance → Instance) (o : Option Instance) → ((i : Instance) → o ≡ Some i → (f i).children ≡ i.children)
+    → option_map (λ (i : Instance). i.children) (option_map f o) ≡ option_map (λ (i : Instance). i.children) o
+kept_by p f None h = refl
+kept_by p f (Some i) h = ap Some (h i refl)
+
+children_by : (p q : Path) (f : Instance → Instance) (entries : Instances) (b : Bool) → same_path q p ≡ b → ((i : Instance) → instance_at entries p ≡ Some i → (f i).children ≡ i.children)
+    → children_at (changed p f entries) q ≡ children_at entries q
+children_by p q f entries true same h =
+    ap (children_at (changed p f entries)) (same-is q p same) ∙ ap (option_map (λ (i : Instance). i.children)) (at-changed_same p f entries) ∙ kept_by p f (instance_at entries p) h ∙ sym (ap (children_at entries) (same-is q p same))
+children_by p q f entries false other h = ap (option_map (λ (i : Instance). i.children)) (at-changed_other p q f entries other)
+
+children-changed : (p : Path) (f : Instance → Instance) (entries : Instances) → ((i : Instance) → instance_at entries p ≡ Some i → (f i).children ≡ i.children)
+    → (q : Path) → children_at (changed p f entries) q ≡ children_at entries q
+children-changed p f entries h q = children_by p q f entries (same_path q p) refl h
+
+-- the same paths live, with as many children
 pub record Alike (entries after : Instances) : Type 0 where
   pub live : (q : Path) → is_live after q ≡ is_live entries q
   pub times : (q : Path) → times q after ≡ times q entries
+  pub children : (q : Path) → children_at after q ≡ children_at entries q
 
 -- the same paths but p live
 pub record Fewer (p : Path) (entries after : Instances) : Type 0 where
   pub live : (q : Path) → is_live after q ≡ (not (same_path q p) && is_live entries q)
   pub times : (q : Path) → times q after ≡ cond (same_path q p) 0 (times q entries)
+  pub children : (q : Path) → same_path q p ≡ false → children_at after q ≡ children_at entries q
+
+-- one path more lives, which is the next child of p
+pub record More (p c : Path) (entries after : Instances) : Type 0 where
+  pub number : ℕ
+  pub before : children_at entries p ≡ Some number
+  pub child : c ≡ child_path p (number + 1)
+  pub live : (q : Path) → is_live after q ≡ (same_path c q || is_live entries q)
+  pub times : (q : Path) → times q after ≡ cond (same_path c q) 1 0 + times q entries
+  pub parent : children_at after p ≡ Some (number + 1)
+  pub children : (q : Path) → same_path q p ≡ false → is_live entries q ≡ true → children_at after q ≡ children_at entries q
 
 alike : (entries : Instances) → Alike entries entries
-alike entries = record { live = λ q. refl; times = λ q. refl }
+alike entries = record { live = λ q. refl; times = λ q. refl; children = λ q. refl }
 
-changed_alike : (p : Path) (f : Instance → Instance) (entries : Instances) → Alike entries (changed p f entries)
-changed_alike p f entries = record { live = live-changed p f entries; times = times-changed p f entries }
+changed_alike : (p : Path) (f : Instance → Instance) (entries : Instances) → ((i : Instance) → instance_at entries p ≡ Some i → (f i).children ≡ i.children) → Alike entries (changed p f entries)
+changed_alike p f entries h = record {
+  live = live-changed p f entries;
+  times = times-changed p f entries;
+  children = children-changed p f entries h;
+}
 
 without_fewer : (p : Path) (entries : Instances) → Fewer p entries (without p entries)
-without_fewer p entries = record { live = live-without p entries; times = times-without p entries }
+without_fewer p entries = record {
+  live = live-without p entries;
+  times = times-without p entries;
+  children = λ q other. ap (option_map (λ (i : Instance). i.children)) (at-without_other p q entries other);
+}
 
-changed_fewer : (p : Path) (entries after : Instances) (r : Path) (f : Instance → Instance) → Fewer p entries after → Fewer p entries (changed r f after)
-changed_fewer p entries after r f k = record {
+changed_fewer : (p : Path) (entries after : Instances) (r : Path) (f : Instance → Instance) → ((i : Instance) → (f i).children ≡ i.children) → Fewer p entries after → Fewer p entries (changed r f after)
+changed_fewer p entries after r f h k = record {
   live = λ q. live-changed r f after q ∙ k.live q;
   times = λ q. times-changed r f after q ∙ k.times q;
+  children = λ q other. children-changed r f after (λ i e. h i) q ∙ k.children q other;
 }
+
+live_either : (o r : Option Instance) (b : Bool) → is_some r ≡ b → is_some (either_of o r) ≡ (b || is_some o)
+live_either None r true h = h
+live_either None r false h = h
+live_either (Some x) r true h = refl
+live_either (Some x) r false h = refl
+
+live-push : (entries : Instances) (e : Entry) (q : Path) → is_live (entries ++ e ∷ []) q ≡ (same_path e.path q || is_live entries q)
+live-push entries e q =
+    ap is_some (at-push entries e q) ∙ live_either (instance_at entries q) _ (same_path e.path q) (some_if (same_path e.path q) e.instance None ∙ or_false (same_path e.path q))
+  where
+    or_false : (b : Bool) → (b || false) ≡ b
+    or_false true = refl
+    or_false false = refl
+
+times-push : (entries : Instances) (e : Entry) (q : Path) → times q (entries ++ e ∷ []) ≡ cond (same_path e.path q) 1 0 + times q entries
+times-push entries e q =
+    let t = sum_by-append (λ (x : Entry). cond (same_path x.path q) 1 0) entries (e ∷ []) in
+    let u = times-cons e [] q in
+    omega arith
+
+live_some : (entries : Instances) (q : Path) (o : Option Instance) → is_some o ≡ true → (r : Option Instance) → either_of o r ≡ o
+live_some entries q None h r = cc
+live_some entries q (Some x) h r = refl
+
+birth_more : (s : State) (p : Path) (i child : Instance) → instance_at s.instances p ≡ Some i → More p (next_child p i) s.instances (with_birth p (with_child i) (next_child p i) child s.instances)
+birth_more s p i child live =
+    let parents = changed p (λ _. with_child i) s.instances in
+    let born : Entry = record { path = next_child p i; instance = child } in
+    let here : instance_at parents p ≡ Some (with_child i) = at-changed_same p (λ _. with_child i) s.instances ∙ ap (option_map (λ _. with_child i)) live in
+    record {
+      number = i.children;
+      before = ap (option_map (λ (x : Instance). x.children)) live;
+      child = refl;
+      live = λ q. live-push parents born q ∙ ap (λ b. same_path (next_child p i) q || b) (live-changed p (λ _. with_child i) s.instances q);
+      times = λ q. times-push parents born q ∙ ap (λ n. cond (same_path (next_child p i) q) 1 0 + n) (times-changed p (λ _. with_child i) s.instances q);
+      parent = ap (option_map (λ (x : Instance). x.children)) (at-push parents born p ∙ ap (λ o. either_of o (if same_path (next_child p i) p then Some child else None)) here);
+      children = λ q other there.
+          ap (option_map (λ (x : Instance). x.children)) (at-push parents born q
+          ∙ live_some parents q (instance_at parents q) (live-changed p (λ _. with_child i) s.instances q ∙ there) _
+          ∙ at-changed_other p q (λ _. with_child i) s.instances other);
+    }
 
 -- what is to be shown of a step
 abbrev pub Lives : State → Path → Step → Type 0
@@ -160,41 +306,57 @@ Lives s p waits = Unit {0}
 Lives s p parks = Unit {0}
 Lives s p (goes_on t did) = Alike s.instances t.instances
 Lives s p (ends t did) = Fewer p s.instances t.instances
+Lives s p (spawns child t did) = More p child s.instances t.instances
 
-return_lives : (s : State) (p : Path) (i : Instance) (z : ℤ) (o : Option Path) → Fewer p s.instances (after_return_to o s p i z).instances
-return_lives s p i z None = without_fewer p s.instances
-return_lives s p i z (Some q) = changed_fewer p s.instances (without p s.instances) q _ (without_fewer p s.instances)
+module _ (s : State) (p : Path) (i : Instance) (live : instance_at s.instances p ≡ Some i) where
+  as_many : (j : Instance) → j.children ≡ i.children → (x : Instance) → instance_at s.instances p ≡ Some x → j.children ≡ x.children
+  as_many j h x e =
+      let same : Some i ≡ Some x = sym live ∙ e in
+      let is : i ≡ x = cc in
+      h ∙ ap (λ (y : Instance). y.children) is
 
-effect_lives : (program : Labelled) (s : State) (p : Path) (i : Instance) (n : ℕ) (r : Result Effect Trap) → Lives s p (step_by_effect program s p i n r)
-effect_lives program s p i n (Err trap) = alike s.instances
-effect_lives program s p i n (Ok (writes cell z)) = changed_alike p _ s.instances
-effect_lives program s p i n (Ok (gives z)) = return_lives s p i z (parent_of p)
-effect_lives program s p i n (Ok goes_by) = changed_alike p _ s.instances
+  return_lives : (z : ℤ) (o : Option Path) → Fewer p s.instances (after_return_to o s p i z).instances
+  return_lives z None = without_fewer p s.instances
+  return_lives z (Some q) = changed_fewer p s.instances (without p s.instances) q _ (λ x. refl) (without_fewer p s.instances)
 
-head_lives : (program : Labelled) (s : State) (p : Path) (i : Instance) (o : Option Head) → Lives s p (step_by_head program s p i o)
-head_lives program s p i None = tt
-head_lives program s p i (Some head) =
-    cond_both (passes s p i head) _ _ (Lives s p) (λ _. effect_lives program s p i head.number (head_effect s p i head)) (λ _. tt)
+  start_lives : (program : Labelled) (n : ℕ) (taker : Taker Cell) (callee : ℕ) (arguments : List ℤ) (room : Bool) → Lives s p (step_by_start program s p i n taker callee arguments room)
+  start_lives program n taker callee arguments true = birth_more s p i (child_of program i n taker callee arguments) live
+  start_lives program n taker callee arguments false = alike s.instances
 
-place_lives : (s : State) (p : Path) (i : Instance) (others : List Delivery) (cell : Cell) (spawn : ℕ) (r : Result ℤ Trap) → Alike s.instances (after_place s p i others cell spawn r).instances
-place_lives s p i others cell spawn (Err trap) = alike s.instances
-place_lives s p i others cell spawn (Ok z) = changed_alike p _ s.instances
+  effect_lives : (program : Labelled) (n : ℕ) (r : Result Effect Trap) → Lives s p (step_by_effect program s p i n r)
+  effect_lives program n (Err trap) = alike s.instances
+  effect_lives program n (Ok (writes cell z)) =
+      changed_alike p _ s.instances (as_many (gone_on true (written (store_of s p i) cell z).own i) refl)
+  effect_lives program n (Ok (gives z)) = return_lives z (parent_of p)
+  effect_lives program n (Ok goes_by) = changed_alike p _ s.instances (as_many (gone_on true i.top.values i) refl)
+  effect_lives program n (Ok (starts taker callee arguments)) =
+      start_lives program n taker callee arguments (has_room s i)
 
-receiver_lives : (program : Labelled) (s : State) (p : Path) (i : Instance) (others : List Delivery) (receiver : Receiver) (z : ℤ) → Alike s.instances (after_receiver program s p i others receiver z).instances
-receiver_lives program s p i others (place op cell spawn) z = place_lives s p i others cell spawn (received_at s p i (place op cell spawn) z)
+  head_lives : (program : Labelled) (o : Option Head) → Lives s p (step_by_head program s p i o)
+  head_lives program None = tt
+  head_lives program (Some head) =
+      cond_both (passes s p i head) _ _ (Lives s p) (λ _. effect_lives program head.number (head_effect s p i head)) (λ _. tt)
 
-boundary_lives : (program : Labelled) (s : State) (p : Path) (i : Instance) (ds : List Delivery) → Lives s p (step_at_boundary program s p i ds)
-boundary_lives program s p i [] = head_lives program s p i (head_of i.top.items)
-boundary_lives program s p i (oldest ∷ others) = receiver_lives program s p i others oldest.receiver oldest.value
+  place_lives : (others : List Delivery) (cell : Cell) (n : ℕ) (r : Result ℤ Trap) → Alike s.instances (after_place s p i others cell n r).instances
+  place_lives others cell n (Err trap) = alike s.instances
+  place_lives others cell n (Ok z) =
+      changed_alike p _ s.instances (as_many (record i { waiting = others; top = record i.top { values = (written (store_of s p i) cell z).own } }) refl)
 
-instance_lives : (program : Labelled) (s : State) (p : Path) (i : Instance) → Lives s p (step_of_instance program s p i)
-instance_lives program s p i = cond_both i.aborted _ _ (Lives s p)
-    (λ _. cond_both (has_live_child s.instances p) _ _ (Lives s p) (λ _. tt) (λ _. without_fewer p s.instances))
-    (λ _. cond_both (at_boundary i) _ _ (Lives s p) (λ _. boundary_lives program s p i i.waiting) (λ _. head_lives program s p i (head_of i.top.items)))
+  receiver_lives : (program : Labelled) (others : List Delivery) (receiver : Receiver) (z : ℤ) → Alike s.instances (after_receiver program s p i others receiver z).instances
+  receiver_lives program others (place op cell n) z = place_lives others cell n (received_at s p i (place op cell n) z)
 
-live_lives : (program : Labelled) (s : State) (p : Path) (o : Option Instance) → Lives s p (step_of_live program s p o)
-live_lives program s p None = tt
-live_lives program s p (Some i) = instance_lives program s p i
+  boundary_lives : (program : Labelled) (ds : List Delivery) → Lives s p (step_at_boundary program s p i ds)
+  boundary_lives program [] = head_lives program (head_of i.top.items)
+  boundary_lives program (oldest ∷ others) = receiver_lives program others oldest.receiver oldest.value
+
+  instance_lives : (program : Labelled) → Lives s p (step_of_instance program s p i)
+  instance_lives program = cond_both i.aborted _ _ (Lives s p)
+      (λ _. cond_both (has_live_child s.instances p) _ _ (Lives s p) (λ _. tt) (λ _. without_fewer p s.instances))
+      (λ _. cond_both (at_boundary i) _ _ (Lives s p) (λ _. boundary_lives program i.waiting) (λ _. head_lives program (head_of i.top.items)))
+
+live_lives : (program : Labelled) (s : State) (p : Path) (o : Option Instance) → instance_at s.instances p ≡ o → Lives s p (step_of_live program s p o)
+live_lives program s p None e = tt
+live_lives program s p (Some i) e = instance_lives s p i e program
 
 pub step_lives : (program : Labelled) (s : State) (p : Path) → Lives s p (step_of program s p)
-step_lives program s p = live_lives program s p (instance_at s.instances p)
+step_lives program s p = live_lives program s p (instance_at s.instances p) refl

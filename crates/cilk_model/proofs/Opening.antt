@@ -10,9 +10,12 @@ use Rattle.cilk_model.specs.State.{is_live, opening_state}
 use Rattle.cilk_model.specs.Scheduler.{no_place, hand_of}
 use Rattle.cilk_model.specs.Event.{Event}
 use Rattle.cilk_model.specs.Choice.{Choice, Refusal}
-use Rattle.cilk_model.specs.Run.{Standing, Position, refusal_of, next_of, event_of, after_from, opening, is_crew, after_main}
-use Rattle.cilk_model.specs.Laws.{times_held, PlacesAreKept}
+use Rattle.cilk_model.specs.Run.{Standing, Position, refusal_of, next_of, event_of, after_from, opening, is_crew, after}
+use Rattle.cilk_model.specs.Laws.{times_held, PlacesAreKept, EachHasHead}
 use Rattle.cilk_model.proofs.Live.{same-sym, times-cons}
+use Rattle.cilk_model.proofs.Runs.{at_each}
+use Rattle.cilk_model.proofs.Heads.{opening_ready, ready_head}
+use Rattle.cilk_model.proofs.Family.{root_family}
 use Rattle.cilk_model.proofs.Places.{once, held, given, Placed, keeps_places}
 
 none_held : (q : Path) (n : ℕ) → held q (replicate n no_place) ≡ 0
@@ -39,32 +42,22 @@ opens program main n some = record {
       let t = times-cons (record { path = []; instance = started program main [] }) [] q in
       let l : once (is_live (opening_state program main).instances q) ≡ once (same_path [] q) = ap once (one_live (same_path [] q) (started program main [])) in
       omega arith;
+  family = root_family (started program main []);
+  ready = opening_ready program main n;
 }
 
-keeps_more : (program : Labelled) (at : Standing) (events : List Event) (c : Choice) (choices : List Choice) (end : Position) (o : Option Refusal) → refusal_of program at c ≡ o
-    → (refusal_of program at c ≡ None → after_from program (next_of program at c) events choices ≡ Some end → Placed end.standing)
-    → (if is_none o then after_from program (next_of program at c) events choices else None) ≡ Some end → Placed end.standing
-keeps_more program at events c choices end None e f h = f e h
-keeps_more program at events c choices end (Some r) e f h = cc
+crew : (n : ℕ) → is_crew n ≡ true → 1 ≤ n
+crew n h = leb-true 1 n (and_parts _ _ h).0
 
-keeps_all : (program : Labelled) (at : Standing) (events : List Event) (choices : List Choice) (end : Position) → Placed at → after_from program at events choices ≡ Some end → Placed end.standing
-keeps_all program at events [] end placed h =
-    let e : record { standing = at; events = events } ≡ end = cc in
-    subst (λ (q : Position). Placed q.standing) e placed
-keeps_all program at events (c ∷ choices) end placed h =
-    keeps_more program at (events ++ event_of program at c ∷ []) c choices end (refusal_of program at c) refl
-    (λ free rest. keeps_all program (next_of program at c) (events ++ event_of program at c ∷ []) choices end (keeps_places program at c free placed) rest) h
-
-crew_by : (program : Labelled) (main n : ℕ) (choices : List Choice) (end : Position) (b : Bool) → is_crew n ≡ b → (if b then after_from program (opening program main n) [] choices else None) ≡ Some end → Placed end.standing
-crew_by program main n choices end true e h =
-    keeps_all program (opening program main n) [] choices end (opens program main n (leb-true 1 n (and_parts _ _ e).0)) h
-crew_by program main n choices end false e h = cc
-
-main_by : (program : Labelled) (n : ℕ) (main : Option ℕ) (choices : List Choice) (end : Position) → after_main program n main choices ≡ Some end → Placed end.standing
-main_by program n None choices end h = cc
-main_by program n (Some main) choices end h = crew_by program main n choices end (is_crew n) refl h
+pub each_placed : (program : Labelled) (n : ℕ) (choices : List Choice) (at : Position) → after program n choices ≡ Some at → Placed at.standing
+each_placed program n choices at h =
+    at_each program Placed (keeps_places program) n choices at (λ main e. opens program main n (crew n e)) h
 
 pub places_are_kept : PlacesAreKept
 places_are_kept program n choices at h =
-    let p = main_by program n program.main choices at h in
+    let p = each_placed program n choices at h in
     (p.each, p.paths)
+
+pub each_has_head : EachHasHead
+each_has_head program n choices at h p i live =
+    ready_head at.standing.state.instances p i (each_placed program n choices at h).ready live

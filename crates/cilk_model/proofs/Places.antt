@@ -1,18 +1,21 @@
 -- Each live instance is in one place after each choice.
-use Rattle.std.proofs.Common.{◌≡◌, ◌≢◌, ℕ, ◌+◌, ◌-◌, ◌<◌, ◌≤◌, ◌==◌, Bool, true, false, not, ◌&&◌, ◌||◌, cond, List, [], ◌∷◌, length, Option, Some, None, is_some, refl, sym, ap, ◌∙◌, if◌then◌else◌, arith, slice_set, sum_by, count_by, get_or-set_same, get_or-set_other, length-set}
+use Rattle.std.proofs.Common.{◌≡◌, ◌≢◌, ℕ, ◌+◌, ◌-◌, ◌<◌, ◌≤◌, ◌==◌, Bool, true, false, not, ◌&&◌, ◌||◌, cond, List, [], ◌∷◌, ◌++◌, length, Option, Some, None, is_some, refl, sym, ap, ◌∙◌, if◌then◌else◌, arith, slice_set, sum_by, count_by, get_or-set_same, get_or-set_other, length-set}
 use Rattle.std.proofs.lemmas.Bool.{eqb-false}
-use Rattle.std.proofs.lemmas.List.Sums.{sum_by-set, sum_by-cons}
+use Rattle.std.proofs.lemmas.List.Sums.{sum_by-set, sum_by-cons, sum_by-append}
 use Rattle.cilk_model.specs.Labelled.{Labelled}
 use Rattle.cilk_model.specs.Path.{Path, same_path, is_that, parent_of}
 use Rattle.cilk_model.specs.State.{State, is_live}
-use Rattle.cilk_model.specs.Pick.{Step, waits, parks, goes_on, ends, step_of}
-use Rattle.cilk_model.specs.Scheduler.{Place, Scheduler, no_place, place_of, hand_of, deque_of, with_hand, with_deque, top_of, below_top, bottom_of, above_bottom, popped, stolen, parked_from, can_go_on, woken, with_empty_hand}
+use Rattle.cilk_model.specs.Pick.{Step, waits, parks, goes_on, ends, spawns, step_of}
+use Rattle.cilk_model.specs.Scheduler.{Place, Scheduler, no_place, place_of, hand_of, deque_of, with_hand, with_deque, top_of, below_top, bottom_of, above_bottom, popped, stolen, pushed, parked_from, can_go_on, woken, with_empty_hand}
 use Rattle.cilk_model.specs.Choice.{Act, step, pop, steal, Choice, Refusal, no_worker, busy}
 use Rattle.cilk_model.specs.Run.{Standing, is_worker, act_refusal, pop_refusal, steal_refusal, refusal_of, state_after, stepped, next_by_hand, next_by, next_of}
 use Rattle.cilk_model.specs.Laws.{times_held, EachInItsPlace, PathsAreApart}
 use Rattle.cilk_model.proofs.Kept.{possible}
 use Rattle.cilk_model.proofs.Stuck.{within}
-use Rattle.cilk_model.proofs.Live.{same-is, times, Alike, Fewer, Lives, step_lives}
+use Rattle.cilk_model.proofs.Live.{same-is, same-sym, times, Alike, Fewer, More, Lives, step_lives}
+use Rattle.cilk_model.proofs.Heads.{Ready, act_ready}
+use Rattle.cilk_model.proofs.Waiting.{Waited, step_waited}
+use Rattle.cilk_model.proofs.Family.{Family, step_family, fresh}
 
 -- 1 where it holds
 abbrev pub once : Bool → ℕ
@@ -114,21 +117,58 @@ woken_places t sched w (Some p) there empty kept =
 alike_places : (at : Standing) (t : State) → EachInItsPlace at → Alike at.state.instances t.instances → EachInItsPlace (record { state = t; scheduler = at.scheduler })
 alike_places at t kept same q = kept q ∙ ap once (sym (same.live q))
 
+-- an instance leaves its hand for the deque, and its child comes to the hand
+pushed_held : (q : Path) (places : List Place) (w : ℕ) (p c : Path) → w - 1 < length places → hand_of places w ≡ Some p
+    → held q (with_hand (with_deque places w (deque_of places w ++ p ∷ [])) w (Some c)) ≡ held q places + once (same_path q c)
+pushed_held q places w p c there full =
+    let x : Place = record { hand = hand_of places w; deque = deque_of places w ++ p ∷ [] } in
+    let size : length (slice_set places (w - 1) x) ≡ length places = simp length-set in
+    let at = seated places w x there in
+    let a = seat q places w x there in
+    let b = seat q (slice_set places (w - 1) x) w (record { hand = Some c; deque = (place_of (slice_set places (w - 1) x) w).deque }) (omega arith) in
+    let e : times_held q (place_of (slice_set places (w - 1) x) w) ≡ times_held q x = ap (times_held q) at in
+    let d : count_by (same_path q) (place_of (slice_set places (w - 1) x) w).deque ≡ count_by (same_path q) (deque_of places w ++ p ∷ []) = ap (λ (y : Place). count_by (same_path q) y.deque) at in
+    let more = sum_by-append (λ (y : Path). once (same_path q y)) (deque_of places w) (p ∷ []) in
+    let last = sum_by-cons (λ (y : Path). once (same_path q y)) p [] in
+    let h : once (is_that q (hand_of places w)) ≡ once (same_path q p) = ap (λ (o : Option Path). once (is_that q o)) full in
+    omega arith
+
+once_fresh : (a l : Bool) → (a ≡ true → l ≡ false) → once (a || l) ≡ once a + once l
+once_fresh true l h = let e = ap once (h refl) in omega arith
+once_fresh false l h = omega arith
+
+-- where c is new, it lives once
+new_once : (s t : State) (p c : Path) → Family s.instances → More p c s.instances t.instances → (q : Path) → once (is_live t.instances q) ≡ once (same_path c q) + once (is_live s.instances q)
+new_once s t p c family more q =
+    ap once (more.live q)
+    ∙ once_fresh (same_path c q) (is_live s.instances q) (λ same. ap (is_live s.instances) (sym (same-is c q same)) ∙ fresh p c s.instances t.instances family more)
+
+spawns_places : (at : Standing) (t : State) (w : ℕ) (p c : Path) → w - 1 < length at.scheduler.places → hand_of at.scheduler.places w ≡ Some p → EachInItsPlace at
+    → Family at.state.instances → More p c at.state.instances t.instances
+    → EachInItsPlace (record { state = t; scheduler = pushed at.scheduler w p c })
+spawns_places at t w p c there full kept family more q =
+    let a = pushed_held q at.scheduler.places w p c there full in
+    let k = kept q in
+    let l = new_once at.state t p c family more q in
+    let turned : once (same_path c q) ≡ once (same_path q c) = ap once (same-sym c q) in
+    omega arith
+
 step_places : (at : Standing) (w : ℕ) (p : Path) (taken : Step) → w - 1 < length at.scheduler.places → hand_of at.scheduler.places w ≡ Some p → EachInItsPlace at
-    → Lives at.state p taken → EachInItsPlace (stepped at w p taken)
-step_places at w p waits there full kept lives = kept
-step_places at w p parks there full kept lives = parks_places at w p there full kept
-step_places at w p (goes_on t did) there full kept lives = alike_places at t kept lives
-step_places at w p (ends t did) there full kept lives =
+    → Family at.state.instances → Lives at.state p taken → EachInItsPlace (stepped at w p taken)
+step_places at w p waits there full kept family lives = kept
+step_places at w p parks there full kept family lives = parks_places at w p there full kept
+step_places at w p (spawns c t did) there full kept family lives = spawns_places at t w p c there full kept family lives
+step_places at w p (goes_on t did) there full kept family lives = alike_places at t kept lives
+step_places at w p (ends t did) there full kept family lives =
     let size : length (with_hand at.scheduler.places w None) ≡ length at.scheduler.places = simp length-set in
     woken_places t (with_empty_hand at.scheduler w) w (parent_of p) (omega arith) (hand_emptied at.scheduler.places w there)
     (ends_places at t w p there full kept lives)
 
-hand_places : (program : Labelled) (at : Standing) (w : ℕ) (o : Option Path) → hand_of at.scheduler.places w ≡ o → w - 1 < length at.scheduler.places → EachInItsPlace at
+hand_places : (program : Labelled) (at : Standing) (w : ℕ) (o : Option Path) → hand_of at.scheduler.places w ≡ o → w - 1 < length at.scheduler.places → EachInItsPlace at → Family at.state.instances
     → EachInItsPlace (next_by_hand program at w o)
-hand_places program at w None e there kept = kept
-hand_places program at w (Some p) e there kept =
-    step_places at w p (step_of program at.state p) there e kept (step_lives program at.state p)
+hand_places program at w None e there kept family = kept
+hand_places program at w (Some p) e there kept family =
+    step_places at w p (step_of program at.state p) there e kept family (step_lives program at.state p)
 
 -- a deque and its ends
 bottom_times : (q : Path) (ps : List Path) → once (is_that q (bottom_of ps)) + count_by (same_path q) (above_bottom ps) ≡ count_by (same_path q) ps
@@ -212,47 +252,64 @@ pop_places at w there free kept q =
     let k = kept q in
     omega arith
 
-act_places : (program : Labelled) (at : Standing) (w : ℕ) (act : Act) → is_worker at.scheduler.places w ≡ true → act_refusal program at w act ≡ None → EachInItsPlace at
+act_places : (program : Labelled) (at : Standing) (w : ℕ) (act : Act) → is_worker at.scheduler.places w ≡ true → act_refusal program at w act ≡ None → EachInItsPlace at → Family at.state.instances
     → EachInItsPlace (next_by program at w act)
-act_places program at w step worker free kept =
+act_places program at w step worker free kept family =
     let a = within at.scheduler.places w worker in
-    hand_places program at w (hand_of at.scheduler.places w) refl (omega arith) kept
-act_places program at w pop worker free kept =
+    hand_places program at w (hand_of at.scheduler.places w) refl (omega arith) kept family
+act_places program at w pop worker free kept family =
     let a = within at.scheduler.places w worker in
     pop_places at w (omega arith) free kept
-act_places program at w (steal v) worker free kept = steal_places at w v worker free kept
+act_places program at w (steal v) worker free kept family = steal_places at w v worker free kept
 
 -- the paths stay apart
 fewer_apart : (n : ℕ) (a l : Bool) → n ≡ once l → cond a 0 n ≡ once (not a && l)
 fewer_apart n true l h = refl
 fewer_apart n false l h = h
 
-step_apart : (s : State) (p : Path) (taken : Step) → PathsAreApart s.instances → Lives s p taken → PathsAreApart (state_after s taken).instances
-step_apart s p waits kept lives = kept
-step_apart s p parks kept lives = kept
-step_apart s p (goes_on t did) kept lives = λ q. lives.times q ∙ kept q ∙ ap once (sym (lives.live q))
-step_apart s p (ends t did) kept lives = λ q.
+step_apart : (s : State) (p : Path) (taken : Step) → PathsAreApart s.instances → Family s.instances → Lives s p taken → PathsAreApart (state_after s taken).instances
+step_apart s p waits kept family lives = kept
+step_apart s p parks kept family lives = kept
+step_apart s p (goes_on t did) kept family lives = λ q. lives.times q ∙ kept q ∙ ap once (sym (lives.live q))
+step_apart s p (ends t did) kept family lives = λ q.
     lives.times q ∙ fewer_apart (times q s.instances) (same_path q p) (is_live s.instances q) (kept q) ∙ ap once (sym (lives.live q))
-
-hand_apart : (program : Labelled) (at : Standing) (w : ℕ) (o : Option Path) → PathsAreApart at.state.instances → PathsAreApart (next_by_hand program at w o).state.instances
-hand_apart program at w None kept = kept
-hand_apart program at w (Some p) kept =
-    step_apart at.state p (step_of program at.state p) kept (step_lives program at.state p)
-
-act_apart : (program : Labelled) (at : Standing) (w : ℕ) (act : Act) → PathsAreApart at.state.instances → PathsAreApart (next_by program at w act).state.instances
-act_apart program at w step kept = hand_apart program at w (hand_of at.scheduler.places w) kept
-act_apart program at w pop kept = kept
-act_apart program at w (steal v) kept = kept
+step_apart s p (spawns c t did) kept family lives = λ q.
+    lives.times q ∙ ap (λ n. once (same_path c q) + n) (kept q) ∙ sym (new_once s t p c family lives q)
 
 -- what holds at each position
 pub record Placed (at : Standing) : Type 0 where
   pub each : EachInItsPlace at
   pub paths : PathsAreApart at.state.instances
+  pub family : Family at.state.instances
+  pub ready : Ready at.state.instances
+
+-- what is kept by a step of the instance in a hand
+record Kept (at : Standing) : Type 0 where
+  paths : PathsAreApart at.state.instances
+  family : Family at.state.instances
+
+hand_kept : (program : Labelled) (at : Standing) (w : ℕ) (o : Option Path) → Placed at → Kept (next_by_hand program at w o)
+hand_kept program at w None placed = record { paths = placed.paths; family = placed.family }
+hand_kept program at w (Some p) placed =
+    let taken = step_of program at.state p in
+    let lives = step_lives program at.state p in
+    record {
+      paths = step_apart at.state p taken placed.paths placed.family lives;
+      family = step_family at.state p taken placed.family lives (step_waited program at.state p placed.ready);
+    }
+
+act_kept : (program : Labelled) (at : Standing) (w : ℕ) (act : Act) → Placed at → Kept (next_by program at w act)
+act_kept program at w step placed = hand_kept program at w (hand_of at.scheduler.places w) placed
+act_kept program at w pop placed = record { paths = placed.paths; family = placed.family }
+act_kept program at w (steal v) placed = record { paths = placed.paths; family = placed.family }
 
 pub keeps_places : (program : Labelled) (at : Standing) (choice : Choice) → refusal_of program at choice ≡ None → Placed at → Placed (next_of program at choice)
 keeps_places program at choice free placed =
     let p = possible program at choice free in
+    let kept = act_kept program at choice.worker choice.act placed in
     record {
-      each = act_places program at choice.worker choice.act p.worker p.act placed.each;
-      paths = act_apart program at choice.worker choice.act placed.paths;
+      each = act_places program at choice.worker choice.act p.worker p.act placed.each placed.family;
+      paths = kept.paths;
+      family = kept.family;
+      ready = act_ready program at choice.worker choice.act placed.ready;
     }

@@ -1,18 +1,19 @@
 -- Each step that is picked is one that the written rule allows.
-use Rattle.std.proofs.Common.{◌≡◌, ◌≢◌, ℤ, true, List, [], ◌∷◌, Option, Some, None, Result, Ok, Err, refl, sym, ap, inl, inr}
+use Rattle.std.proofs.Common.{◌≡◌, ◌≢◌, ℕ, ℤ, Bool, true, false, List, [], ◌∷◌, Option, Some, None, Result, Ok, Err, refl, sym, ap, ◌∙◌, inl, inr}
 use Rattle.std.proofs.lemmas.Bool.{cond_both}
 use Rattle.cilk_eval.specs.declared.trap.Trap.{Trap}
-use Rattle.cilk_model.specs.Labelled.{Labelled}
+use Rattle.cilk_model.specs.Labelled.{Labelled, Taker}
 use Rattle.cilk_model.specs.Items.{Head, head_of}
-use Rattle.cilk_model.specs.Effect.{Effect, writes, gives, goes_by}
+use Rattle.cilk_model.specs.Values.{Cell}
+use Rattle.cilk_model.specs.Effect.{Effect, writes, gives, goes_by, starts}
 use Rattle.cilk_model.specs.Path.{Path}
 use Rattle.cilk_model.specs.Instance.{Delivery, Instance}
 use Rattle.cilk_model.specs.State.{State, running, instance_at, has_live_child}
 use Rattle.cilk_model.specs.Event as event
 use Rattle.cilk_model.specs.Event.{Event}
-use Rattle.cilk_model.specs.Change.{at_boundary, passes, head_effect, after_effect, received_at}
+use Rattle.cilk_model.specs.Change.{at_boundary, passes, has_room, head_effect, after_start, after_effect, received_at}
 use Rattle.cilk_model.specs.Rule.{Acts, Allows}
-use Rattle.cilk_model.specs.Pick.{Step, waits, parks, goes_on, ends, step_by_effect, step_by_head, delivery_event, step_at_boundary, step_of_aborted, step_of_instance, step_of_live, step_of}
+use Rattle.cilk_model.specs.Pick.{Step, waits, parks, goes_on, ends, spawns, step_by_start, step_by_effect, step_by_head, delivery_event, step_at_boundary, step_of_aborted, step_of_instance, step_of_live, step_of}
 
 -- what is to be shown of a step
 abbrev pub Ruled : Labelled → State → Path → Step → Type 0
@@ -20,10 +21,18 @@ Ruled program s p waits = Unit {0}
 Ruled program s p parks = Unit {0}
 Ruled program s p (goes_on t did) = Allows program s p t × (did ≢ event.moved)
 Ruled program s p (ends t did) = Allows program s p t × (did ≢ event.moved)
+Ruled program s p (spawns child t did) = Allows program s p t × (did ≢ event.moved)
 
 module _ (program : Labelled) (s : State) (p : Path) (runs : s.outcome ≡ running) (i : Instance) (live : instance_at s.instances p ≡ Some i) where
   acted : (t : State) → Acts program s p i t → Allows program s p t
   acted t a = record { runs = runs; instance = i; live = live; step = inr (inl a) }
+
+  start_rule : (head : Head) → head_of i.top.items ≡ Some head → passes s p i head ≡ true → (taker : Taker Cell) (callee : ℕ) (arguments : List ℤ) → head_effect s p i head ≡ Ok (starts taker callee arguments)
+      → (room : Bool) → has_room s i ≡ room → Ruled program s p (step_by_start program s p i head.number taker callee arguments room)
+  start_rule head first free taker callee arguments e true room =
+      (acted _ (record { head = head; first = first; passes = free; result = ap (after_start program s p i head.number taker callee arguments) (sym room) ∙ ap (after_effect program s p i head.number) (sym e) }), λ (h : _). cc)
+  start_rule head first free taker callee arguments e false room =
+      (acted _ (record { head = head; first = first; passes = free; result = ap (after_start program s p i head.number taker callee arguments) (sym room) ∙ ap (after_effect program s p i head.number) (sym e) }), λ (h : _). cc)
 
   effect_rule : (head : Head) → head_of i.top.items ≡ Some head → passes s p i head ≡ true
       → (r : Result Effect Trap) → head_effect s p i head ≡ r → Ruled program s p (step_by_effect program s p i head.number r)
@@ -35,6 +44,7 @@ module _ (program : Labelled) (s : State) (p : Path) (runs : s.outcome ≡ runni
       (acted _ (record { head = head; first = first; passes = free; result = ap (after_effect program s p i head.number) (sym e) }), λ (h : _). cc)
   effect_rule head first free (Ok goes_by) e =
       (acted _ (record { head = head; first = first; passes = free; result = ap (after_effect program s p i head.number) (sym e) }), λ (h : _). cc)
+  effect_rule head first free (Ok (starts taker callee arguments)) e = start_rule head first free taker callee arguments e (has_room s i) refl
 
   head_rule : (o : Option Head) → head_of i.top.items ≡ o → Ruled program s p (step_by_head program s p i o)
   head_rule None first = tt

@@ -1,13 +1,13 @@
 -- What one step of an instance does to the state.
-use Rattle.std.specs.Prelude.{ℕ, ℤ, Bool, true, false, not, ◌&&◌, ◌||◌, if◌then◌else◌, List, [], ◌∷◌, ◌++◌, map, Option, Some, None, Result, Ok, Err}
+use Rattle.std.specs.Prelude.{ℕ, ◌+◌, nat_lt, ℤ, Bool, true, false, not, ◌&&◌, ◌||◌, if◌then◌else◌, List, [], ◌∷◌, ◌++◌, length, map, Option, Some, None, Result, Ok, Err}
 use Rattle.cilk_eval.specs.declared.trap.Trap.{Trap}
-use Rattle.cilk_model.specs.Labelled.{Labelled, Action, assign, return_with, close, assign_by, null, return_nothing}
+use Rattle.cilk_model.specs.Labelled.{Labelled, Taker, nothing, into, Action, assign, return_with, close, assign_by, null, return_nothing, spawn, sync}
 use Rattle.cilk_model.specs.Items.{Head, head_of, opened, next}
 use Rattle.cilk_model.specs.Values.{Values, Store, Cell, environment, read_at, written}
-use Rattle.cilk_model.specs.Effect.{Effect, writes, gives, goes_by, effect_of, received}
-use Rattle.cilk_model.specs.Path.{Path, same_path, parent_of}
-use Rattle.cilk_model.specs.Instance.{Receiver, place, Delivery, Instance}
-use Rattle.cilk_model.specs.State.{of_value, finished, trapped, Lock, unset, free, held, changed, without, has_live_child, State}
+use Rattle.cilk_model.specs.Effect.{Effect, writes, gives, goes_by, starts, effect_of, received}
+use Rattle.cilk_model.specs.Path.{Path, same_path, child_path, parent_of}
+use Rattle.cilk_model.specs.Instance.{Receiver, place, Delivery, Instance, started}
+use Rattle.cilk_model.specs.State.{Kind, of_value, instances, Instances, finished, trapped, Lock, unset, free, held, changed, without, has_live_child, State}
 
 abbrev pub is_empty : {A : Type 0} → List A → Bool
 is_empty [] = true
@@ -29,6 +29,8 @@ syncs close = true
 syncs (assign_by op target value) = false
 syncs null = false
 syncs return_nothing = true
+syncs (spawn taker callee arguments) = false
+syncs sync = true
 
 abbrev pub syncs_next : Option Head → Bool
 syncs_next None = false
@@ -47,8 +49,11 @@ abbrev pub store_of : State → Path → Instance → Store
 store_of s p i = record { own = i.top.values; globals = s.globals; synched = is_synched s p i }
 
 -- a trap changes the outcome alone
+abbrev pub stopped : State → Path → ℕ → Kind → State
+stopped s p n kind = record s { outcome = trapped kind p n }
+
 abbrev pub after_trap : State → Path → ℕ → Trap → State
-after_trap s p n trap = record s { outcome = trapped (of_value trap) p n }
+after_trap s p n trap = stopped s p n (of_value trap)
 
 -- the instance past its head, where a test gave this answer and its body now has these values; an action of the procedure's own takes the mark of a spawn away
 abbrev pub gone_on : Bool → Values → Instance → Instance
@@ -66,6 +71,38 @@ after_write s p i store = record s {
 -- the instance is past its head, and nothing else is changed
 abbrev pub after_going : State → Path → Instance → State
 after_going s p i = record s { instances = changed p (λ _. gone_on true i.top.values i) s.instances }
+
+-- the path of the next child
+abbrev pub next_child : Path → Instance → Path
+next_child p i = child_path p (i.children + 1)
+
+-- whether there may be one more child: fewer than 65,536 instances live, and this one has spawned fewer than 4,294,967,295
+abbrev pub has_room : State → Instance → Bool
+has_room s i = nat_lt (length s.instances) 65536 && nat_lt i.children 4294967295
+
+-- what takes the value of the child of spawn n
+abbrev pub receiver_of : Taker Cell → ℕ → Option Receiver
+receiver_of nothing n = None
+receiver_of (into op cell) n = Some (place op cell n)
+
+-- the parent past its spawn
+abbrev pub with_child : Instance → Instance
+with_child i = record (gone_on true i.top.values i) { spawned = true; children = i.children + 1 }
+
+-- a child at its start: one of an aborted instance is aborted from its birth
+abbrev pub child_of : Labelled → Instance → ℕ → Taker Cell → ℕ → List ℤ → Instance
+child_of program i n taker callee arguments =
+    record (started program callee arguments) { aborted = i.aborted; receiver = receiver_of taker n }
+
+-- the child is the youngest of the live instances
+abbrev pub with_birth : Path → Instance → Path → Instance → Instances → Instances
+with_birth p parent c child entries = changed p (λ _. parent) entries ++ record { path = c; instance = child } ∷ []
+
+-- after spawn n, whether or not there was room for the child
+abbrev pub after_start : Labelled → State → Path → Instance → ℕ → Taker Cell → ℕ → List ℤ → Bool → State
+after_start program s p i n taker callee arguments true =
+    record s { instances = with_birth p (with_child i) (next_child p i) (child_of program i n taker callee arguments) s.instances }
+after_start program s p i n taker callee arguments false = stopped s p n instances
 
 -- a child's value waits for the parent where something takes it; an aborted child delivers nothing
 abbrev pub deliveries : Path → Instance → ℤ → Option Receiver → Bool → List Delivery
@@ -92,6 +129,8 @@ after_effect program s p i n (Err trap) = after_trap s p n trap
 after_effect program s p i n (Ok (writes cell z)) = after_write s p i (written (store_of s p i) cell z)
 after_effect program s p i n (Ok (gives z)) = after_return s p i z
 after_effect program s p i n (Ok goes_by) = after_going s p i
+after_effect program s p i n (Ok (starts taker callee arguments)) =
+    after_start program s p i n taker callee arguments (has_room s i)
 
 abbrev pub head_effect : State → Path → Instance → Head → Result Effect Trap
 head_effect s p i head = effect_of (environment (store_of s p i)) head.act
@@ -101,8 +140,8 @@ after_head program s p i head = after_effect program s p i head.number (head_eff
 
 -- after an implicit inlet, whose place now holds this (Cilk 5.4 manual, `spawn`, `inlet`)
 abbrev pub after_place : State → Path → Instance → List Delivery → Cell → ℕ → Result ℤ Trap → State
-after_place s p i others cell spawn (Err trap) = after_trap s p spawn trap
-after_place s p i others cell spawn (Ok z) =
+after_place s p i others cell n (Err trap) = after_trap s p n trap
+after_place s p i others cell n (Ok z) =
     let store = written (store_of s p i) cell z in
     record s {
       globals = store.globals;
@@ -111,11 +150,11 @@ after_place s p i others cell spawn (Ok z) =
 
 -- the place is read as the inlet runs
 abbrev pub received_at : State → Path → Instance → Receiver → ℤ → Result ℤ Trap
-received_at s p i (place op cell spawn) z = received op (read_at (store_of s p i) cell) z
+received_at s p i (place op cell n) z = received op (read_at (store_of s p i) cell) z
 
 abbrev pub after_receiver : Labelled → State → Path → Instance → List Delivery → Receiver → ℤ → State
-after_receiver program s p i others (place op cell spawn) z =
-    after_place s p i others cell spawn (received_at s p i (place op cell spawn) z)
+after_receiver program s p i others (place op cell n) z =
+    after_place s p i others cell n (received_at s p i (place op cell n) z)
 
 -- after a delivery, where the others still wait
 abbrev pub after_delivery : Labelled → State → Path → Instance → Delivery → List Delivery → State

@@ -1,6 +1,6 @@
 -- What remains of an activation: a list of items, its head, and what comes next.
 use Rattle.std.specs.Prelude.{ℕ, Bool, List, [], ◌∷◌, Option, Some, None}
-use Rattle.cilk_model.specs.Labelled.{Action, assign, return_with, close, assign_by, null, return_nothing, Stmt, action, Stmts, none, also, Body}
+use Rattle.cilk_model.specs.Labelled.{Action, assign, return_with, close, assign_by, null, return_nothing, spawn, sync, Stmt, action, Stmts, none, also, Body}
 
 -- a statement, an initialiser or the closing brace, with its number
 pub data Item : Type 0 where
@@ -40,6 +40,8 @@ after_action close items = []
 after_action (assign_by op target value) items = items
 after_action null items = items
 after_action return_nothing items = []
+after_action (spawn taker callee arguments) items = items
+after_action sync items = items
 
 -- what remains after the head of an opened list; only a test heeds the answer
 abbrev pub next : Bool → Items → Items

@@ -8,6 +8,13 @@ use Rattle.cilk_model.specs.Declaration.{Declaration}
 pub data Target : Type 0 where
   variable : (place : Declaration) → Target
 
+-- what takes the value of a child, at a place of kind P (Cilk 5.4 manual, `spawn`)
+pub data Taker (P : Type 0) : Type 0 where
+  -- nothing does, as in `spawn f();`
+  nothing : Taker P
+  -- an implicit inlet, as in `x = spawn f();` and `x += spawn f();`: its operator, if any, and its place
+  into : (op : Option BinOp) (place : P) → Taker P
+
 -- what an action does
 pub data Action : Type 0 where
   -- an assignment, or an initialiser, which is one each time that it is reached (C 1990, 6.3.16, 6.5.7)
@@ -22,6 +29,10 @@ pub data Action : Type 0 where
   null : Action
   -- `return` without a value (C 1990, 6.6.6.4)
   return_nothing : Action
+  -- a child is started: what takes its value, the place of its body among the bodies, and its arguments (Cilk 5.4 manual, `spawn`)
+  spawn : (taker : Taker Target) (callee : ℕ) (arguments : List (Term Declaration)) → Action
+  -- Cilk 5.4 manual, `sync`
+  sync : Action
 
 -- a statement (C 1990, 6.6)
 pub data Stmt : Type 0 where

@@ -1,15 +1,16 @@
 -- The one step of an instance that is taken, of those that the written rule allows.
-use Rattle.std.specs.Prelude.{ℕ, ℤ, if◌then◌else◌, List, [], ◌∷◌, Option, Some, None, Result, Ok, Err}
+use Rattle.std.specs.Prelude.{ℕ, ℤ, Bool, true, false, if◌then◌else◌, List, [], ◌∷◌, Option, Some, None, Result, Ok, Err}
 use Rattle.cilk_eval.specs.declared.trap.Trap.{Trap}
-use Rattle.cilk_model.specs.Labelled.{Labelled}
+use Rattle.cilk_model.specs.Labelled.{Labelled, Taker}
 use Rattle.cilk_model.specs.Items.{Head, head_of}
-use Rattle.cilk_model.specs.Effect.{Effect, writes, gives, goes_by}
+use Rattle.cilk_model.specs.Values.{Cell}
+use Rattle.cilk_model.specs.Effect.{Effect, writes, gives, goes_by, starts}
 use Rattle.cilk_model.specs.Path.{Path}
 use Rattle.cilk_model.specs.Instance.{Receiver, place, Delivery, Instance}
-use Rattle.cilk_model.specs.State.{of_value, State, instance_at, has_live_child}
+use Rattle.cilk_model.specs.State.{of_value, instances, State, instance_at, has_live_child}
 use Rattle.cilk_model.specs.Event as event
 use Rattle.cilk_model.specs.Event.{Event}
-use Rattle.cilk_model.specs.Change.{at_boundary, passes, head_effect, after_effect, received_at, after_delivery, after_abort}
+use Rattle.cilk_model.specs.Change.{at_boundary, passes, next_child, has_room, head_effect, after_start, after_effect, received_at, after_delivery, after_abort}
 
 pub data Step : Type 0 where
   -- it cannot go on as things stand
@@ -20,6 +21,15 @@ pub data Step : Type 0 where
   goes_on : (state : State) (did : Event) → Step
   -- it is no more
   ends : (state : State) (did : Event) → Step
+  -- it is live after the step, and so is this new child
+  spawns : (child : Path) (state : State) (did : Event) → Step
+
+-- spawn n, whether or not there is room for the child
+abbrev pub step_by_start : Labelled → State → Path → Instance → ℕ → Taker Cell → ℕ → List ℤ → Bool → Step
+step_by_start program s p i n taker callee arguments true =
+    spawns (next_child p i) (after_start program s p i n taker callee arguments true) (event.spawned (next_child p i) n)
+step_by_start program s p i n taker callee arguments false =
+    goes_on (after_start program s p i n taker callee arguments false) (event.trapped instances p n)
 
 -- action n came to this
 abbrev pub step_by_effect : Labelled → State → Path → Instance → ℕ → Result Effect Trap → Step
@@ -28,6 +38,8 @@ step_by_effect program s p i n (Err trap) =
 step_by_effect program s p i n (Ok (writes cell z)) = goes_on (after_effect program s p i n (Ok (writes cell z))) (event.acted p n)
 step_by_effect program s p i n (Ok (gives z)) = ends (after_effect program s p i n (Ok (gives z))) (event.returned p n)
 step_by_effect program s p i n (Ok goes_by) = goes_on (after_effect program s p i n (Ok goes_by)) (event.acted p n)
+step_by_effect program s p i n (Ok (starts taker callee arguments)) =
+    step_by_start program s p i n taker callee arguments (has_room s i)
 
 abbrev pub step_by_head : Labelled → State → Path → Instance → Option Head → Step
 step_by_head program s p i None = waits
@@ -35,7 +47,7 @@ step_by_head program s p i (Some head) =
     if passes s p i head then step_by_effect program s p i head.number (head_effect s p i head) else parks
 
 abbrev pub spawn_of : Receiver → ℕ
-spawn_of (place op cell spawn) = spawn
+spawn_of (place op cell n) = n
 
 abbrev pub delivery_event : Path → Delivery → Result ℤ Trap → Event
 delivery_event p delivery (Err trap) = event.trapped (of_value trap) p (spawn_of delivery.receiver)

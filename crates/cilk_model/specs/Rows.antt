@@ -1,16 +1,17 @@
 -- Some small programs, and questions about their runs.
-use Rattle.std.specs.Prelude.{ℕ, Bool, true, pos, List, [], ◌∷◌, codes, Option, Some, None, option_map, option_and_then}
+use Rattle.std.specs.Prelude.{ℕ, Bool, true, pos, List, [], ◌∷◌, ◌++◌, codes, Option, Some, None, option_map, option_and_then}
 use Rattle.cilk_tree.specs.Tree.{Word, number, named, binary, assign, return_with, none, also, Block, block, procedure, Program}
 use Rattle.cilk_tree.specs.declared.operator.BinOp.TheVariants.{Multiply, Add, Subtract}
 use Rattle.cilk_eval.specs.Term as term
-use Rattle.cilk_model.specs.Declaration.{local, unknown}
+use Rattle.cilk_eval.specs.Term.{Term}
+use Rattle.cilk_model.specs.Declaration.{Declaration, local, global, unknown}
 use Rattle.cilk_model.specs.Labelled as labelled
-use Rattle.cilk_model.specs.Labelled.{Labelled, Body, action, variable}
+use Rattle.cilk_model.specs.Labelled.{Labelled, Body, Variable, action, variable}
 use Rattle.cilk_model.specs.Label.{label}
 use Rattle.cilk_model.specs.Values.{Values}
 use Rattle.cilk_model.specs.Instance.{Receiver, place, started}
 use Rattle.cilk_model.specs.State.{Outcome, instance_at}
-use Rattle.cilk_model.specs.Scheduler.{with_hand}
+use Rattle.cilk_model.specs.Scheduler.{Place, with_hand}
 use Rattle.cilk_model.specs.Event.{Event}
 use Rattle.cilk_model.specs.Choice.{Choice, step, pop, steal, Refusal}
 use Rattle.cilk_model.specs.Run.{Standing, Position, after_from, opening, after, refusal_of}
@@ -127,3 +128,114 @@ values_with_child p receiver aborted choices =
 -- the root acts twice and is parked, the child returns, and its value is taken
 abbrev pub child_returns : List Choice
 child_returns = steps 1 ∷ steps 1 ∷ steps 1 ∷ steps 2 ∷ steps 2 ∷ steps 2 ∷ steps 2 ∷ []
+
+-- a variable of one cell, with what it holds at first
+abbrev pub cell_named : List ℕ → Variable
+cell_named name = record { name = name; length = 0; initial = pos 0 }
+
+-- a body without parameters
+abbrev pub body_named : List ℕ → List Variable → ℕ → labelled.Stmts → Body
+body_named name variables closing stmts = record { name = name; parameters = 0; variables = variables; stmts = stmts; closing = closing }
+
+-- a variable of the body, and one of the top level
+abbrev pub own : ℕ → Term Declaration
+own n = term.variable (local n)
+
+abbrev pub shared : ℕ → Term Declaration
+shared n = term.variable (global n)
+
+-- int g; cilk void inc(void) { int t; t = g; g = t + 1; } cilk int main(void) { spawn inc(); spawn inc(); sync; return g; }
+abbrev pub counting : Labelled
+counting = record {
+  bodies =
+      body_named (codes "inc") (cell_named (codes "t") ∷ []) 3
+      (labelled.also (action 1 (labelled.assign (variable (local 0)) (shared 0)))
+      (labelled.also (action 2 (labelled.assign (variable (global 0)) (term.binary Add (own 0) (term.number 1)))) labelled.none))
+      ∷ body_named (codes "main") [] 8
+      (labelled.also (action 4 (labelled.spawn labelled.nothing 0 []))
+      (labelled.also (action 5 (labelled.spawn labelled.nothing 0 []))
+      (labelled.also (action 6 labelled.sync)
+      (labelled.also (action 7 (labelled.return_with (shared 0))) labelled.none))))
+      ∷ [];
+  globals = cell_named (codes "g") ∷ [];
+  locks = [];
+  main = Some 1;
+  lines = 4 ∷ 5 ∷ 6 ∷ 8 ∷ 9 ∷ 10 ∷ 11 ∷ 12 ∷ [];
+}
+
+-- cilk int f(void) { return 5; } cilk int main(void) { int x = 1; x += spawn f(); x = x * 2; x = x * 2; sync; return x; }
+abbrev pub doubling : Labelled
+doubling = record {
+  bodies =
+      body_named (codes "f") [] 2
+      (labelled.also (action 1 (labelled.return_with (term.number 5))) labelled.none)
+      ∷ body_named (codes "main") (cell_named (codes "x") ∷ []) 9
+      (labelled.also (action 3 (labelled.assign (variable (local 0)) (term.number 1)))
+      (labelled.also (action 4 (labelled.spawn (labelled.into (Some Add) (variable (local 0))) 0 []))
+      (labelled.also (action 5 (labelled.assign (variable (local 0)) (term.binary Multiply (own 0) (term.number 2))))
+      (labelled.also (action 6 (labelled.assign (variable (local 0)) (term.binary Multiply (own 0) (term.number 2))))
+      (labelled.also (action 7 labelled.sync)
+      (labelled.also (action 8 (labelled.return_with (own 0))) labelled.none))))))
+      ∷ [];
+  globals = [];
+  locks = [];
+  main = Some 1;
+  lines = 2 ∷ 3 ∷ 5 ∷ 6 ∷ 7 ∷ 8 ∷ 9 ∷ 10 ∷ 11 ∷ [];
+}
+
+-- cilk int f(void) { return 2147483647; } cilk int main(void) { int x = 1; x += spawn f(); sync; return x; }
+abbrev pub passing : Labelled
+passing = record {
+  bodies =
+      body_named (codes "f") [] 2
+      (labelled.also (action 1 (labelled.return_with (term.number 2147483647))) labelled.none)
+      ∷ body_named (codes "main") (cell_named (codes "x") ∷ []) 7
+      (labelled.also (action 3 (labelled.assign (variable (local 0)) (term.number 1)))
+      (labelled.also (action 4 (labelled.spawn (labelled.into (Some Add) (variable (local 0))) 0 []))
+      (labelled.also (action 5 labelled.sync)
+      (labelled.also (action 6 (labelled.return_with (own 0))) labelled.none))))
+      ∷ [];
+  globals = [];
+  locks = [];
+  main = Some 1;
+  lines = 2 ∷ 3 ∷ 5 ∷ 6 ∷ 7 ∷ 8 ∷ 9 ∷ [];
+}
+
+-- what becomes of a labelled program and two workers
+abbrev pub outcome_of : Labelled → List Choice → Option Outcome
+outcome_of program choices = option_map (λ at. at.standing.state.outcome) (after program 2 choices)
+
+abbrev pub events_of : Labelled → List Choice → Option (List Event)
+events_of program choices = option_map (λ at. at.events) (after program 2 choices)
+
+abbrev pub closing_of : Labelled → List Choice → Option (List ℕ)
+closing_of program choices = option_map (closing_text program) (after program 2 choices)
+
+abbrev pub refusal_then : Labelled → List Choice → Choice → Option Refusal
+refusal_then program choices choice =
+    option_and_then (λ at. refusal_of program at.standing choice) (after program 2 choices)
+
+-- each worker's hand and deque
+abbrev pub places_of : Labelled → List Choice → Option (List Place)
+places_of program choices = option_map (λ at. at.standing.scheduler.places) (after program 2 choices)
+
+-- one worker counts alone; then another takes the parent
+abbrev pub counts_alone : List Choice
+counts_alone =
+    steps 1 ∷ steps 1 ∷ steps 1 ∷ steps 1 ∷ pops 1 ∷ steps 1 ∷ steps 1 ∷ steps 1 ∷ steps 1 ∷ pops 1 ∷ steps 1 ∷ steps 1 ∷ []
+
+abbrev pub parent_is_stolen : List Choice
+parent_is_stolen = steps 1 ∷ steals 2 1 ∷ steps 2 ∷ steps 1 ∷ steps 2 ∷ steps 1 ∷ []
+
+abbrev pub counts_twice_at_once : List Choice
+counts_twice_at_once = parent_is_stolen ++ steps 2 ∷ steps 1 ∷ steps 2 ∷ pops 2 ∷ steps 2 ∷ steps 2 ∷ []
+
+-- the child returns before the parent goes on, and after it has gone on
+abbrev pub child_first : List Choice
+child_first = steps 1 ∷ steps 1 ∷ steps 1 ∷ pops 1 ∷ steps 1 ∷ steps 1 ∷ steps 1 ∷ steps 1 ∷ steps 1 ∷ []
+
+abbrev pub child_in_between : List Choice
+child_in_between = steps 1 ∷ steps 1 ∷ steals 2 1 ∷ steps 2 ∷ steps 1 ∷ steps 2 ∷ steps 2 ∷ steps 2 ∷ steps 2 ∷ []
+
+abbrev pub child_passes : List Choice
+child_passes = steps 1 ∷ steps 1 ∷ steps 1 ∷ pops 1 ∷ steps 1 ∷ []

@@ -5,7 +5,7 @@ use Rattle.cilk_model.specs.Path.{Path}
 use Rattle.cilk_model.specs.State.{Outcome, running, finished, trapped, State, opening_state}
 use Rattle.cilk_model.specs.Event.{Event, moved}
 use Rattle.cilk_model.specs.Change.{is_empty}
-use Rattle.cilk_model.specs.Pick.{Step, waits, parks, goes_on, ends, step_of}
+use Rattle.cilk_model.specs.Pick.{Step, waits, parks, goes_on, ends, spawns, step_of}
 use Rattle.cilk_model.specs.Scheduler.{Place, Scheduler, hand_of, deque_of, popped, stolen, after_step, opening_scheduler}
 use Rattle.cilk_model.specs.Choice.{Act, step, pop, steal, Choice, Refusal, over, no_worker, hand_empty, busy, deque_empty, waiting}
 
@@ -28,6 +28,7 @@ waits_now waits = Some waiting
 waits_now parks = None
 waits_now (goes_on state did) = None
 waits_now (ends state did) = None
+waits_now (spawns child state did) = None
 
 abbrev pub step_refusal : Labelled → State → Option Path → Option Refusal
 step_refusal program s None = Some hand_empty
@@ -64,12 +65,14 @@ state_after s waits = s
 state_after s parks = s
 state_after s (goes_on state did) = state
 state_after s (ends state did) = state
+state_after s (spawns child state did) = state
 
 abbrev pub event_of_step : Step → Event
 event_of_step waits = moved
 event_of_step parks = moved
 event_of_step (goes_on state did) = did
 event_of_step (ends state did) = did
+event_of_step (spawns child state did) = did
 
 abbrev pub stepped : Standing → ℕ → Path → Step → Standing
 stepped at w p taken = record {

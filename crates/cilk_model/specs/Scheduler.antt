@@ -1,10 +1,10 @@
 -- Where the instances are: each worker has at most one in its hand, and a deque of others (Cilk 5.4 manual, work stealing).
-use Rattle.std.specs.Prelude.{ℕ, ◌-◌, Bool, false, not, ◌&&◌, ◌||◌, if◌then◌else◌, List, [], ◌∷◌, Option, Some, None, slice_index_or, slice_set, replicate}
+use Rattle.std.specs.Prelude.{ℕ, ◌-◌, Bool, false, not, ◌&&◌, ◌||◌, if◌then◌else◌, List, [], ◌∷◌, ◌++◌, Option, Some, None, slice_index_or, slice_set, replicate}
 use Rattle.cilk_model.specs.Path.{Path, same_path, parent_of}
 use Rattle.cilk_model.specs.Instance.{Instance}
 use Rattle.cilk_model.specs.State.{Instances, instance_at, has_live_child}
 use Rattle.cilk_model.specs.Change.{is_empty}
-use Rattle.cilk_model.specs.Pick.{Step, waits, parks, goes_on, ends}
+use Rattle.cilk_model.specs.Pick.{Step, waits, parks, goes_on, ends, spawns}
 
 -- a worker's hand, and its deque from top to bottom
 pub record Place : Type 0 where
@@ -66,6 +66,12 @@ stolen sched w v = record sched {
   places = with_hand (with_deque sched.places v (below_top (deque_of sched.places v))) w (top_of (deque_of sched.places v));
 }
 
+-- p leaves w's hand for the bottom of its deque, and c comes to the hand
+abbrev pub pushed : Scheduler → ℕ → Path → Path → Scheduler
+pushed sched w p c = record sched {
+  places = with_hand (with_deque sched.places w (deque_of sched.places w ++ p ∷ [])) w (Some c);
+}
+
 -- p leaves w's hand and is parked
 abbrev pub parked_from : Scheduler → ℕ → Path → Scheduler
 parked_from sched w p = record {
@@ -98,6 +104,7 @@ after_step sched w p waits = sched
 after_step sched w p parks = parked_from sched w p
 after_step sched w p (goes_on state did) = sched
 after_step sched w p (ends state did) = woken state.instances (with_empty_hand sched w) w (parent_of p)
+after_step sched w p (spawns child state did) = pushed sched w p child
 
 -- at first the root is in worker 1's hand
 abbrev pub opening_scheduler : ℕ → Scheduler

@@ -9,7 +9,7 @@ ghost use Rattle.cilk_model.specs.State as state;
 ghost use Rattle.cilk_model.specs.Event as event;
 ghost use Rattle.cilk_model.specs.Choice as choice;
 ghost use Rattle.cilk_model.specs.Laws.{OneByOne, EachChoiceKeepsRule, StuckExactly, PlacesAreKept, EachActionHasItsLine, EachHasHead};
-ghost use Rattle.cilk_model.specs.Rows.{sum_program, trap_program, own_program, sum_bodies, own_bodies, steps, pops, steals, outcome_after, events_after, closing_after, refusal_after, adds_to_a, events_with_child, values_with_child, child_returns};
+ghost use Rattle.cilk_model.specs.Rows.{sum_program, trap_program, own_program, sum_bodies, own_bodies, steps, pops, steals, outcome_after, events_after, closing_after, refusal_after, adds_to_a, events_with_child, values_with_child, child_returns, counting, doubling, passing, outcome_of, events_of, closing_of, refusal_then, places_of, counts_alone, parent_is_stolen, counts_twice_at_once, child_first, child_in_between, child_passes};
 
 /// Each action has a line of the canonical text.
 pub fn each_action_has_its_line()
@@ -67,6 +67,33 @@ pub fn rows_are_told()
     ensures finished { closing_after sum_program 1 (steps 1 ∷ steps 1 ∷ steps 1 ∷ []) ≡ Some (codes "main returned 9\n") }
     ensures trapped { closing_after trap_program 2 (steps 1 ∷ []) ≡ Some (codes "trapped Overflow in / at 1, line 2\n") }
     ensures limit { closing_after sum_program 2 (steps 1 ∷ []) ≡ Some (codes "limit after 1 choices\n") }
+    ensures alone { closing_of counting counts_alone ≡ Some (codes "main returned 2\n") }
+    ensures at_once { closing_of counting counts_twice_at_once ≡ Some (codes "main returned 1\n") }
+    ensures child_first { closing_of doubling child_first ≡ Some (codes "main returned 24\n") }
+    ensures child_in_between { closing_of doubling child_in_between ≡ Some (codes "main returned 9\n") }
+    ensures child_passes { closing_of passing child_passes ≡ Some (codes "trapped Overflow in / at 4, line 6\n") }
+{}
+
+/// What becomes of a variable that two children count up, and of a place that takes a child's value
+/// while its parent goes on.
+pub fn rows_of_spawns_come_out()
+    ensures alone { outcome_of counting counts_alone ≡ Some (state.finished (pos 2)) }
+    ensures at_once { outcome_of counting counts_twice_at_once ≡ Some (state.finished (pos 1)) }
+    ensures counted { events_of counting counts_twice_at_once
+        ≡ Some (event.spawned (1 ∷ []) 4 ∷ event.moved ∷ event.spawned (2 ∷ []) 5 ∷ event.acted (1 ∷ []) 1 ∷ event.acted (2 ∷ []) 1 ∷ event.acted (1 ∷ []) 2
+        ∷ event.acted (2 ∷ []) 2 ∷ event.returned (1 ∷ []) 3 ∷ event.returned (2 ∷ []) 3 ∷ event.moved ∷ event.acted [] 6 ∷ event.returned [] 7 ∷ []) }
+    ensures own_deque_is_full { refusal_then counting parent_is_stolen (steals 2 1) ≡ Some choice.busy }
+    ensures places { places_of counting parent_is_stolen
+        ≡ Some (record { hand = Some (1 ∷ []); deque = [] } ∷ record { hand = Some (2 ∷ []); deque = [] ∷ [] } ∷ []) }
+    ensures child_first { events_of doubling child_first
+        ≡ Some (event.acted [] 3 ∷ event.spawned (1 ∷ []) 4 ∷ event.returned (1 ∷ []) 1 ∷ event.moved ∷ event.delivered (1 ∷ []) 4
+        ∷ event.acted [] 5 ∷ event.acted [] 6 ∷ event.acted [] 7 ∷ event.returned [] 8 ∷ []) }
+    ensures taken_first { outcome_of doubling child_first ≡ Some (state.finished (pos 24)) }
+    ensures child_in_between { events_of doubling child_in_between
+        ≡ Some (event.acted [] 3 ∷ event.spawned (1 ∷ []) 4 ∷ event.moved ∷ event.acted [] 5 ∷ event.returned (1 ∷ []) 1
+        ∷ event.acted [] 6 ∷ event.delivered (1 ∷ []) 4 ∷ event.acted [] 7 ∷ event.returned [] 8 ∷ []) }
+    ensures taken_last { outcome_of doubling child_in_between ≡ Some (state.finished (pos 9)) }
+    ensures passes { outcome_of passing child_passes ≡ Some (state.trapped (state.of_value Overflow) [] 4) }
 {}
 
 /// A list of choices is possible exactly where its front is, and then its last choice.

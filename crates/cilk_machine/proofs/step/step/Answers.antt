@@ -86,5 +86,11 @@ unreachable-requires-in-AssignBy c =
     not_to_come c.args.loaded.now 0 0 c.args.frame c.requires.holds (before c.args.loaded.now c.args.frame c.requires.well_formed c.requires.holds) c.in-Some.node.now (found_at c.args.loaded.now c.args.frame c.depth.result c.node-n.result (Some c.in-Some.node.now) c.depth.ensures.value c.node-n.ensures c.in-Some.ensures.value)
     (elim c.in-AssignBy.is [
       | inl assigns ↦ subst IsYetToCome (sym assigns.3) tt
-      | inr others ↦ elim others [ inl is_null ↦ subst IsYetToCome (sym is_null) tt | inr returns ↦ subst IsYetToCome (sym returns) tt ]
+      | inr others ↦ elim others [
+        | inl is_null ↦ subst IsYetToCome (sym is_null) tt
+        | inr others ↦ elim others [
+          | inl returns ↦ subst IsYetToCome (sym returns) tt
+          | inr others ↦ elim others [ inl spawns ↦ subst IsYetToCome (sym spawns.3) tt | inr syncs ↦ subst IsYetToCome (sym syncs) tt ]
+        ]
+      ]
     ])
