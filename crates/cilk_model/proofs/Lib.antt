@@ -9,3 +9,4 @@ pub mod Lines
 pub mod Heads
 pub mod Waiting
 pub mod Family
+pub mod Parked
