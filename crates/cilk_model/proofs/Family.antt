@@ -23,7 +23,7 @@ same-number : (p : Path) (k j : ℕ) → child_path p k ≡ child_path p j → k
 same-number [] k j e = cc
 same-number (a ∷ p) k j e = let rest : child_path p k ≡ child_path p j = cc in same-number p k j rest
 
-is-child : (p : Path) (k : ℕ) → is_child p (child_path p k) ≡ true
+pub is-child : (p : Path) (k : ℕ) → is_child p (child_path p k) ≡ true
 is-child p k = ap (is_that p) (parent-child p k) ∙ same-self p
 
 seen_by : (p c : Path) (e : Entry) (b rest live : Bool) → is_child p c ≡ true → same_path e.path c ≡ b → (live ≡ true → rest ≡ true) → (b || live) ≡ true → (is_child p e.path || rest) ≡ true

@@ -10,3 +10,4 @@ pub mod Heads
 pub mod Waiting
 pub mod Family
 pub mod Parked
+pub mod Deques

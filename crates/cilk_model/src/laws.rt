@@ -8,7 +8,7 @@ ghost use Rattle.cilk_model.specs.Label.{label, bodies_of};
 ghost use Rattle.cilk_model.specs.State as state;
 ghost use Rattle.cilk_model.specs.Event as event;
 ghost use Rattle.cilk_model.specs.Choice as choice;
-ghost use Rattle.cilk_model.specs.Laws.{OneByOne, EachChoiceKeepsRule, StuckExactly, PlacesAreKept, EachActionHasItsLine, EachHasHead, EachParkedHasChild};
+ghost use Rattle.cilk_model.specs.Laws.{OneByOne, EachChoiceKeepsRule, StuckExactly, PlacesAreKept, EachActionHasItsLine, EachHasHead, EachParkedHasChild, EachLineDescends};
 ghost use Rattle.cilk_model.specs.Rows.{sum_program, trap_program, own_program, sum_bodies, own_bodies, steps, pops, steals, outcome_after, events_after, closing_after, refusal_after, adds_to_a, events_with_child, values_with_child, child_returns, counting, doubling, passing, outcome_of, events_of, closing_of, refusal_then, places_of, counts_alone, parent_is_stolen, counts_twice_at_once, child_first, child_in_between, child_passes};
 
 /// Each action has a line of the canonical text.
@@ -126,4 +126,10 @@ pub fn each_instance_has_a_head()
 /// After every list of possible choices each instance that is parked has a live child.
 pub fn each_parked_has_child()
     ensures { EachParkedHasChild }
+{}
+
+/// After every list of possible choices each path in a deque is the parent of the next below it,
+/// and the lowest is the parent of the one in a full hand.
+pub fn each_line_descends()
+    ensures { EachLineDescends }
 {}
