@@ -23,24 +23,24 @@ same-number : (p : Path) (k j : ℕ) → child_path p k ≡ child_path p j → k
 same-number [] k j e = cc
 same-number (a ∷ p) k j e = let rest : child_path p k ≡ child_path p j = cc in same-number p k j rest
 
-is-child : (p : Path) (k : ℕ) → is_child p (child_path p k) ≡ true
+pub is-child : (p : Path) (k : ℕ) → is_child p (child_path p k) ≡ true
 is-child p k = ap (is_that p) (parent-child p k) ∙ same-self p
 
-child_live_by : (p : Path) (k : ℕ) (e : Entry) (b rest live : Bool) → same_path e.path (child_path p k) ≡ b → (live ≡ true → rest ≡ true) → (b || live) ≡ true → (is_child p e.path || rest) ≡ true
-child_live_by p k e true rest live same later h =
-    ap (λ b. b || rest) (ap (is_child p) (same-is e.path (child_path p k) same) ∙ is-child p k)
-child_live_by p k e false rest live same later h = or_right (is_child p e.path) rest (later h)
+seen_by : (p c : Path) (e : Entry) (b rest live : Bool) → is_child p c ≡ true → same_path e.path c ≡ b → (live ≡ true → rest ≡ true) → (b || live) ≡ true → (is_child p e.path || rest) ≡ true
+seen_by p c e true rest live is same later h =
+    ap (λ b. b || rest) (ap (is_child p) (same-is e.path c same) ∙ is)
+seen_by p c e false rest live is same later h = or_right (is_child p e.path) rest (later h)
   where
     or_right : (a b : Bool) → b ≡ true → (a || b) ≡ true
     or_right true b e = refl
     or_right false b e = e
 
 -- a live child is seen
-pub child_live : (p : Path) (k : ℕ) (entries : Instances) → is_live entries (child_path p k) ≡ true → has_live_child entries p ≡ true
-child_live p k [] h = cc
-child_live p k (e ∷ entries) h =
-    child_live_by p k e (same_path e.path (child_path p k)) (has_live_child entries p) (is_live entries (child_path p k)) refl (child_live p k entries)
-    (sym (live-cons e entries (child_path p k)) ∙ h)
+pub child_seen : (p c : Path) (entries : Instances) → is_child p c ≡ true → is_live entries c ≡ true → has_live_child entries p ≡ true
+child_seen p c [] is h = cc
+child_seen p c (e ∷ entries) is h =
+    seen_by p c e (same_path e.path c) (has_live_child entries p) (is_live entries c) is refl (child_seen p c entries is)
+    (sym (live-cons e entries c) ∙ h)
 
 -- the parent of child k has counted it
 pub record Counts (entries : Instances) (p : Path) (k : ℕ) : Type 0 where
@@ -63,7 +63,7 @@ and_second false b h = cc
 fewer_by : (r : Path) (entries after : Instances) → Fewer r entries after → has_live_child entries r ≡ false → (p : Path) (k : ℕ) → is_live entries (child_path p k) ≡ true → Counts entries p k
     → (b : Bool) → same_path p r ≡ b → Counts after p k
 fewer_by r entries after fewer childless p k live c true same =
-    let one = child_live r k entries (ap (λ x. is_live entries (child_path x k)) (sym (same-is p r same)) ∙ live) in
+    let one = child_seen r (child_path r k) entries (is-child r k) (ap (λ x. is_live entries (child_path x k)) (sym (same-is p r same)) ∙ live) in
     let both : true ≡ false = sym one ∙ childless in
     cc
 fewer_by r entries after fewer childless p k live c false other =

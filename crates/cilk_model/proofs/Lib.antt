@@ -9,3 +9,5 @@ pub mod Lines
 pub mod Heads
 pub mod Waiting
 pub mod Family
+pub mod Parked
+pub mod Deques

@@ -30,7 +30,7 @@ one_live : (b : Bool) (i : Instance) → is_some (if b then Some i else None) �
 one_live true i = refl
 one_live false i = refl
 
-opens : (program : Labelled) (main n : ℕ) → 1 ≤ n → Placed (opening program main n)
+pub opens : (program : Labelled) (main n : ℕ) → 1 ≤ n → Placed (opening program main n)
 opens program main n some = record {
   each = λ q.
       let size : length (replicate n no_place) ≡ n = length-replicate n no_place in
@@ -46,7 +46,7 @@ opens program main n some = record {
   ready = opening_ready program main n;
 }
 
-crew : (n : ℕ) → is_crew n ≡ true → 1 ≤ n
+pub crew : (n : ℕ) → is_crew n ≡ true → 1 ≤ n
 crew n h = leb-true 1 n (and_parts _ _ h).0
 
 pub each_placed : (program : Labelled) (n : ℕ) (choices : List Choice) (at : Position) → after program n choices ≡ Some at → Placed at.standing

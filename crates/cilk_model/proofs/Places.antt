@@ -5,6 +5,7 @@ use Rattle.std.proofs.lemmas.List.Sums.{sum_by-set, sum_by-cons, sum_by-append}
 use Rattle.cilk_model.specs.Labelled.{Labelled}
 use Rattle.cilk_model.specs.Path.{Path, same_path, is_that, parent_of}
 use Rattle.cilk_model.specs.State.{State, is_live}
+use Rattle.cilk_model.specs.Change.{is_empty}
 use Rattle.cilk_model.specs.Pick.{Step, waits, parks, goes_on, ends, spawns, step_of}
 use Rattle.cilk_model.specs.Scheduler.{Place, Scheduler, no_place, place_of, hand_of, deque_of, with_hand, with_deque, top_of, below_top, bottom_of, above_bottom, popped, stolen, pushed, parked_from, can_go_on, woken, with_empty_hand}
 use Rattle.cilk_model.specs.Choice.{Act, step, pop, steal, Choice, Refusal, no_worker, busy}
@@ -43,12 +44,12 @@ once_from false b h = omega arith
 abbrev pub held : Path → List Place → ℕ
 held p places = sum_by (times_held p) places
 
-seat : (p : Path) (places : List Place) (w : ℕ) (x : Place) → w - 1 < length places
+pub seat : (p : Path) (places : List Place) (w : ℕ) (x : Place) → w - 1 < length places
     → held p (slice_set places (w - 1) x) + times_held p (place_of places w) ≡ held p places + times_held p x
 seat p places w x there = sum_by-set (times_held p) places (w - 1) x no_place there
 
 -- what a hand gives up, and what comes to one that was empty
-emptied : (q : Path) (places : List Place) (w : ℕ) (p : Path) → w - 1 < length places → hand_of places w ≡ Some p
+pub emptied : (q : Path) (places : List Place) (w : ℕ) (p : Path) → w - 1 < length places → hand_of places w ≡ Some p
     → held q (with_hand places w None) + once (same_path q p) ≡ held q places
 emptied q places w p there full =
     let a = seat q places w (record { hand = None; deque = deque_of places w }) there in
@@ -62,7 +63,7 @@ given q places w p there empty =
     let h : once (is_that q (hand_of places w)) ≡ 0 = ap (λ (o : Option Path). once (is_that q o)) empty in
     omega arith
 
-seated : (places : List Place) (w : ℕ) (x : Place) → w - 1 < length places → place_of (slice_set places (w - 1) x) w ≡ x
+pub seated : (places : List Place) (w : ℕ) (x : Place) → w - 1 < length places → place_of (slice_set places (w - 1) x) w ≡ x
 seated places w x there = get_or-set_same places (w - 1) x no_place there
 
 hand_emptied : (places : List Place) (w : ℕ) → w - 1 < length places → hand_of (with_hand places w None) w ≡ None
@@ -195,7 +196,7 @@ popped_held q places w there empty =
     let h : once (is_that q (hand_of places w)) ≡ 0 = ap (λ (o : Option Path). once (is_that q o)) empty in
     omega arith
 
-beside : (places : List Place) (v w : ℕ) (x : Place) → w - 1 ≢ v - 1 → place_of (slice_set places (v - 1) x) w ≡ place_of places w
+pub beside : (places : List Place) (v w : ℕ) (x : Place) → w - 1 ≢ v - 1 → place_of (slice_set places (v - 1) x) w ≡ place_of places w
 beside places v w x other = get_or-set_other places (v - 1) (w - 1) x no_place other
 
 stolen_held : (q : Path) (places : List Place) (w v : ℕ) → w - 1 < length places → v - 1 < length places → w - 1 ≢ v - 1 → hand_of places w ≡ None
@@ -213,32 +214,42 @@ stolen_held q places w v there victim other empty =
     omega arith
 
 -- the hand is empty where a pop or a steal is possible
+free_deque : (o : Option Path) (ps : List Path) (x : Option Refusal) → (if is_some o || not (is_empty ps) then Some busy else x) ≡ None → ps ≡ []
+free_deque None [] x h = refl
+free_deque None (p ∷ ps) x h = cc
+free_deque (Some q) ps x h = cc
+
 free_hand : (o : Option Path) (b : Bool) (x : Option Refusal) → (if is_some o || b then Some busy else x) ≡ None → o ≡ None
 free_hand None b x h = refl
 free_hand (Some p) b x h = cc
 
-free_pop : (o : Option Path) (x : Option Refusal) → (if is_some o then Some busy else x) ≡ None → o ≡ None
+pub free_pop : (o : Option Path) (x : Option Refusal) → (if is_some o then Some busy else x) ≡ None → o ≡ None
 free_pop None x h = refl
 free_pop (Some p) x h = cc
 
-record Free (places : List Place) (w v : ℕ) : Type 0 where
-  victim : is_worker places v ≡ true
-  other : (v == w) ≡ false
-  empty : hand_of places w ≡ None
+pub record Free (places : List Place) (w v : ℕ) : Type 0 where
+  pub victim : is_worker places v ≡ true
+  pub other : (v == w) ≡ false
+  pub empty : hand_of places w ≡ None
+  pub own : deque_of places w ≡ []
 
-free_by : (places : List Place) (w v : ℕ) (a b c : Bool) (x : Option Refusal) → is_worker places v ≡ a → (v == w) ≡ b
-    → (if not a || b then Some no_worker else (if is_some (hand_of places w) || c then Some busy else x)) ≡ None → Free places w v
-free_by places w v false b c x e f h = cc
-free_by places w v true true c x e f h = cc
-free_by places w v true false c x e f h = record { victim = e; other = f; empty = free_hand (hand_of places w) c x h }
+free_by : (places : List Place) (w v : ℕ) (a b : Bool) (x : Option Refusal) → is_worker places v ≡ a → (v == w) ≡ b
+    → (if not a || b then Some no_worker else (if is_some (hand_of places w) || not (is_empty (deque_of places w)) then Some busy else x)) ≡ None → Free places w v
+free_by places w v false b x e f h = cc
+free_by places w v true true x e f h = cc
+free_by places w v true false x e f h =
+    record { victim = e; other = f; empty = free_hand (hand_of places w) _ x h; own = free_deque (hand_of places w) (deque_of places w) x h }
 
-apart : (w v : ℕ) → 1 ≤ w → 1 ≤ v → (v ≡ w → ⊥) → w - 1 ≢ v - 1
+pub steal_free : (places : List Place) (w v : ℕ) → steal_refusal places w v ≡ None → Free places w v
+steal_free places w v free = free_by places w v (is_worker places v) (v == w) _ refl refl free
+
+pub apart : (w v : ℕ) → 1 ≤ w → 1 ≤ v → (v ≡ w → ⊥) → w - 1 ≢ v - 1
 apart w v a b other = λ (e : w - 1 ≡ v - 1). other (omega arith)
 
 steal_places : (at : Standing) (w v : ℕ) → is_worker at.scheduler.places w ≡ true → steal_refusal at.scheduler.places w v ≡ None → EachInItsPlace at
     → EachInItsPlace (record at { scheduler = stolen at.scheduler w v })
 steal_places at w v worker free kept q =
-    let f = free_by at.scheduler.places w v (is_worker at.scheduler.places v) (v == w) _ _ refl refl free in
+    let f = steal_free at.scheduler.places w v free in
     let a = within at.scheduler.places w worker in
     let b = within at.scheduler.places v f.victim in
     let s = stolen_held q at.scheduler.places w v (omega arith) (omega arith) (apart w v a.0 b.0 (eqb-false v w f.other)) f.empty in

@@ -1,17 +1,17 @@
 -- What holds of every run.
-use Rattle.std.specs.Prelude.{◌≤◌, length, All, ◌≡◌, ◌≢◌, ◌↔◌, ℕ, ◌+◌, true, cond, List, [], ◌∷◌, ◌++◌, Option, Some, None, sum_by, count_by}
+use Rattle.std.specs.Prelude.{◌≤◌, length, All, ◌≡◌, ◌≢◌, ◌↔◌, ℕ, ◌+◌, true, ⊤, cond, List, [], ◌∷◌, ◌++◌, Option, Some, None, sum_by, count_by}
 use Rattle.cilk_tree.specs.Tree.{Program}
 use Rattle.cilk_tree.specs.ProgramText.{program_lines}
 use Rattle.cilk_model.specs.Count.{count_program}
 use Rattle.cilk_model.specs.Lines.{action_lines}
 use Rattle.cilk_model.specs.Labelled.{Labelled}
-use Rattle.cilk_model.specs.Path.{Path, same_path, is_that}
+use Rattle.cilk_model.specs.Path.{Path, same_path, is_that, is_child}
 use Rattle.cilk_model.specs.Items.{head_of}
 use Rattle.cilk_model.specs.Instance.{Instance}
-use Rattle.cilk_model.specs.State.{State, Instances, running, instance_at, is_live}
+use Rattle.cilk_model.specs.State.{State, Instances, running, instance_at, is_live, has_live_child}
 use Rattle.cilk_model.specs.Event.{Event, moved}
 use Rattle.cilk_model.specs.Rule.{Allows}
-use Rattle.cilk_model.specs.Scheduler.{Place, Scheduler, hand_of}
+use Rattle.cilk_model.specs.Scheduler.{Place, Scheduler, place_of, hand_of}
 use Rattle.cilk_model.specs.Choice.{Choice}
 use Rattle.cilk_model.specs.Run.{Standing, Position, refusal_of, after, one_more}
 use Rattle.cilk_model.specs.End.{is_stuck}
@@ -79,3 +79,27 @@ PlacesAreKept = (program : Labelled) (n : ℕ) (choices : List Choice) (at : Pos
 abbrev pub EachHasHead : Type 0
 EachHasHead = (program : Labelled) (n : ℕ) (choices : List Choice) (at : Position) → after program n choices ≡ Some at
     → (p : Path) (i : Instance) → instance_at at.standing.state.instances p ≡ Some i → head_of i.top.items ≢ None
+
+-- each path is the parent of the next
+abbrev pub Descends : List Path → Type 0
+Descends [] = ⊤
+Descends (p ∷ []) = ⊤
+Descends (p ∷ c ∷ paths) = (is_child p c ≡ true) × Descends (c ∷ paths)
+
+abbrev pub in_hand : Option Path → List Path
+in_hand None = []
+in_hand (Some p) = p ∷ []
+
+-- a worker's deque from top to bottom, and then its hand
+abbrev pub line_of : Place → List Path
+line_of at = at.deque ++ in_hand at.hand
+
+-- after every list of possible choices each path in a deque is the parent of the next below it, and the lowest is the parent of the one in a full hand
+abbrev pub EachLineDescends : Type 0
+EachLineDescends = (program : Labelled) (n : ℕ) (choices : List Choice) (at : Position) → after program n choices ≡ Some at
+    → (w : ℕ) → Descends (line_of (place_of at.standing.scheduler.places w))
+
+-- after every list of possible choices each instance that is parked has a live child
+abbrev pub EachParkedHasChild : Type 0
+EachParkedHasChild = (program : Labelled) (n : ℕ) (choices : List Choice) (at : Position) → after program n choices ≡ Some at
+    → (p : Path) → at.standing.scheduler.parked p ≡ true → has_live_child at.standing.state.instances p ≡ true

@@ -230,6 +230,11 @@ parent_is_stolen = steps 1 ∷ steals 2 1 ∷ steps 2 ∷ steps 1 ∷ steps 2 �
 abbrev pub counts_twice_at_once : List Choice
 counts_twice_at_once = parent_is_stolen ++ steps 2 ∷ steps 1 ∷ steps 2 ∷ pops 2 ∷ steps 2 ∷ steps 2 ∷ []
 
+-- the parent waits at its `sync` for the first child, whose worker goes on with it
+abbrev pub parent_waits : List Choice
+parent_waits =
+    steps 1 ∷ steals 2 1 ∷ steps 2 ∷ steps 2 ∷ steps 2 ∷ steps 2 ∷ pops 2 ∷ steps 2 ∷ steps 1 ∷ steps 1 ∷ steps 1 ∷ steps 1 ∷ steps 1 ∷ []
+
 -- the child returns before the parent goes on, and after it has gone on
 abbrev pub child_first : List Choice
 child_first = steps 1 ∷ steps 1 ∷ steps 1 ∷ pops 1 ∷ steps 1 ∷ steps 1 ∷ steps 1 ∷ steps 1 ∷ steps 1 ∷ []

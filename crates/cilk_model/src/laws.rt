@@ -8,8 +8,8 @@ ghost use Rattle.cilk_model.specs.Label.{label, bodies_of};
 ghost use Rattle.cilk_model.specs.State as state;
 ghost use Rattle.cilk_model.specs.Event as event;
 ghost use Rattle.cilk_model.specs.Choice as choice;
-ghost use Rattle.cilk_model.specs.Laws.{OneByOne, EachChoiceKeepsRule, StuckExactly, PlacesAreKept, EachActionHasItsLine, EachHasHead};
-ghost use Rattle.cilk_model.specs.Rows.{sum_program, trap_program, own_program, sum_bodies, own_bodies, steps, pops, steals, outcome_after, events_after, closing_after, refusal_after, adds_to_a, events_with_child, values_with_child, child_returns, counting, doubling, passing, outcome_of, events_of, closing_of, refusal_then, places_of, counts_alone, parent_is_stolen, counts_twice_at_once, child_first, child_in_between, child_passes};
+ghost use Rattle.cilk_model.specs.Laws.{OneByOne, EachChoiceKeepsRule, StuckExactly, PlacesAreKept, EachActionHasItsLine, EachHasHead, EachParkedHasChild, EachLineDescends};
+ghost use Rattle.cilk_model.specs.Rows.{sum_program, trap_program, own_program, sum_bodies, own_bodies, steps, pops, steals, outcome_after, events_after, closing_after, refusal_after, adds_to_a, events_with_child, values_with_child, child_returns, counting, doubling, passing, outcome_of, events_of, closing_of, refusal_then, places_of, counts_alone, parent_is_stolen, counts_twice_at_once, parent_waits, child_first, child_in_between, child_passes};
 
 /// Each action has a line of the canonical text.
 pub fn each_action_has_its_line()
@@ -85,6 +85,10 @@ pub fn rows_of_spawns_come_out()
     ensures own_deque_is_full { refusal_then counting parent_is_stolen (steals 2 1) ≡ Some choice.busy }
     ensures places { places_of counting parent_is_stolen
         ≡ Some (record { hand = Some (1 ∷ []); deque = [] } ∷ record { hand = Some (2 ∷ []); deque = [] ∷ [] } ∷ []) }
+    ensures waits { events_of counting parent_waits
+        ≡ Some (event.spawned (1 ∷ []) 4 ∷ event.moved ∷ event.spawned (2 ∷ []) 5 ∷ event.acted (2 ∷ []) 1 ∷ event.acted (2 ∷ []) 2 ∷ event.returned (2 ∷ []) 3
+        ∷ event.moved ∷ event.moved ∷ event.acted (1 ∷ []) 1 ∷ event.acted (1 ∷ []) 2 ∷ event.returned (1 ∷ []) 3 ∷ event.acted [] 6 ∷ event.returned [] 7 ∷ []) }
+    ensures waited { outcome_of counting parent_waits ≡ Some (state.finished (pos 2)) }
     ensures child_first { events_of doubling child_first
         ≡ Some (event.acted [] 3 ∷ event.spawned (1 ∷ []) 4 ∷ event.returned (1 ∷ []) 1 ∷ event.moved ∷ event.delivered (1 ∷ []) 4
         ∷ event.acted [] 5 ∷ event.acted [] 6 ∷ event.acted [] 7 ∷ event.returned [] 8 ∷ []) }
@@ -121,4 +125,15 @@ pub fn each_instance_is_in_its_place()
 /// After every list of possible choices each live instance has an action to go on with.
 pub fn each_instance_has_a_head()
     ensures { EachHasHead }
+{}
+
+/// After every list of possible choices each instance that is parked has a live child.
+pub fn each_parked_has_child()
+    ensures { EachParkedHasChild }
+{}
+
+/// After every list of possible choices each path in a deque is the parent of the next below it,
+/// and the lowest is the parent of the one in a full hand.
+pub fn each_line_descends()
+    ensures { EachLineDescends }
 {}
