@@ -45,7 +45,7 @@ by_refusal m None e one runs free = refl
 by_refusal m (Some r) e one runs free =
     let at : Standing = standing_of m in
     let stuck : end.is_stuck (label m.program) at ≡ true =
-      (stuck_exactly (label m.program) at).1 (ap outcome_of runs, all_alone (label m.program) at (λ w. deque-none m.workers w m.hand) (length-places m.workers m.hand ∙ one) r e) in
+    (stuck_exactly (label m.program) at).1 (ap outcome_of runs, all_alone (label m.program) at (λ w. deque-none m.workers w m.hand) (length-places m.workers m.hand ∙ one) r e) in
     let both : true ≡ false = sym stuck ∙ free in cc
 
 pub steps_alone : (m : Situation) → m.workers ≡ 1 → m.outcome ≡ Running → end.is_stuck (label m.program) (standing_of m) ≡ false → refused m first_step ≡ None
