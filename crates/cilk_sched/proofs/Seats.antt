@@ -1,5 +1,5 @@
 -- One worker's place among the others.
-use Rattle.std.proofs.Common.{◌≡◌, ◌≢◌, ℕ, ◌-◌, ◌<◌, ◌≤◌, List, length, Option, ap, arith, slice_set, get_or-set_same, get_or-set_other, length-set}
+use Rattle.std.proofs.Common.{◌≡◌, ◌≢◌, ℕ, ◌-◌, ◌<◌, List, length, Option, ap, arith, slice_set, get_or-set_same, get_or-set_other, length-set}
 use Rattle.cilk_frame.specs.Frames.{Frame}
 use Rattle.cilk_sched.specs.Places.{Place, no_place, IsWorker, place_of, hand_of, deque_of, with_hand, with_deque}
 

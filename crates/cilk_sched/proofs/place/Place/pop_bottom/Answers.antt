@@ -1,4 +1,4 @@
-use Rattle.std.proofs.Common.{◌≡◌, ◌<◌, ◌↔◌, ◌∙◌, List, length, IsSome, ap, arith}
+use Rattle.std.proofs.Common.{◌<◌, ◌↔◌, ◌∙◌, List, length, IsSome, ap, arith}
 use Rattle.std.proofs.lemmas.Grind.{common_steps}
 use Rattle.cilk_frame.specs.Frames.{Frame}
 use Rattle.cilk_sched.specs.Places.{Place, bottom_of, above_bottom}
