@@ -31,23 +31,12 @@ count-take test places w worker =
     let whole = frames_where-set test places w (record { hand = None; deque = deque_of places w }) worker in
     omega arith
 
--- another deque, in which there are n more, or from which n are missing
-count-more : (test : Frame → Bool) (places : List Place) (w n : ℕ) (deque : List Frame) → IsWorker places w → count_by test deque ≡ count_by test (deque_of places w) + n
-    → frames_where test (with_deque places w deque) ≡ frames_where test places + n
-count-more test places w n deque worker more =
-    let whole = frames_where-set test places w (record { hand = hand_of places w; deque = deque }) worker in
-    omega arith
-
-count-fewer : (test : Frame → Bool) (places : List Place) (w n : ℕ) (deque : List Frame) → IsWorker places w → count_by test deque + n ≡ count_by test (deque_of places w)
-    → frames_where test (with_deque places w deque) + n ≡ frames_where test places
-count-fewer test places w n deque worker fewer =
-    let whole = frames_where-set test places w (record { hand = hand_of places w; deque = deque }) worker in
-    omega arith
-
 pub count-push : (test : Frame → Bool) (places : List Place) (w : ℕ) (f : Frame) → IsWorker places w
     → frames_where test (with_deque places w (deque_of places w ++ f ∷ [])) ≡ frames_where test places + once test (Some f)
 count-push test places w f worker =
-    count-more test places w (once test (Some f)) (deque_of places w ++ f ∷ []) worker (sum_by_push (λ g. cond (test g) 1 0) (deque_of places w) f)
+    let whole = frames_where-set test places w (record { hand = hand_of places w; deque = deque_of places w ++ f ∷ [] }) worker in
+    let more : count_by test (deque_of places w ++ f ∷ []) ≡ count_by test (deque_of places w) + once test (Some f) = sum_by_push (λ g. cond (test g) 1 0) (deque_of places w) f in
+    omega arith
 
 bottom-count : (test : Frame → Bool) (deque : List Frame) → count_by test (above_bottom deque) + once test (bottom_of deque) ≡ count_by test deque
 bottom-count test [] = refl
@@ -62,12 +51,16 @@ top-count test (f ∷ deque) = omega (arith, sum_by-cons (λ (g : Frame). cond (
 pub count-pop : (test : Frame → Bool) (places : List Place) (w : ℕ) → IsWorker places w
     → frames_where test (with_deque places w (above_bottom (deque_of places w))) + once test (bottom_of (deque_of places w)) ≡ frames_where test places
 count-pop test places w worker =
-    count-fewer test places w (once test (bottom_of (deque_of places w))) (above_bottom (deque_of places w)) worker (bottom-count test (deque_of places w))
+    let whole = frames_where-set test places w (record { hand = hand_of places w; deque = above_bottom (deque_of places w) }) worker in
+    let parts = bottom-count test (deque_of places w) in
+    omega arith
 
 pub count-steal : (test : Frame → Bool) (places : List Place) (v : ℕ) → IsWorker places v
     → frames_where test (with_deque places v (below_top (deque_of places v))) + once test (top_of (deque_of places v)) ≡ frames_where test places
 count-steal test places v worker =
-    count-fewer test places v (once test (top_of (deque_of places v))) (below_top (deque_of places v)) worker (top-count test (deque_of places v))
+    let whole = frames_where-set test places v (record { hand = hand_of places v; deque = below_top (deque_of places v) }) worker in
+    let parts = top-count test (deque_of places v) in
+    omega arith
 
 -- each frame that is there is counted
 pub AllHeld-weaker : (P Q : Frame → Type 0) → ((f : Frame) → P f → Q f) → (places : List Place) → AllHeld P places → AllHeld Q places

@@ -54,15 +54,25 @@ pub fn each_frame_is_counted()
 /// runs hold after the same move.
 pub fn names_go_along()
     ensures none { (name : Frame → Path) (n : ℕ) → named name (replicate n no_place) ≡ replicate n model.no_place }
-    ensures gives { (name : Frame → Path) (places : List Place) (w : ℕ) (hand : Option Frame)
-        → named name (with_hand places w hand) ≡ model.with_hand (named name places) w (option_map name hand) }
+    ensures gives { (name : Frame → Path) (places : List Place) (w : ℕ) (f : Frame)
+        → named name (with_hand places w (Some f)) ≡ model.with_hand (named name places) w (Some (name f)) }
+    ensures takes { (name : Frame → Path) (places : List Place) (w : ℕ)
+        → named name (with_hand places w None) ≡ model.with_hand (named name places) w None }
     ensures pushes { (name : Frame → Path) (places : List Place) (w : ℕ) (f : Frame)
         → named name (with_deque places w (deque_of places w ++ f ∷ []))
         ≡ model.with_deque (named name places) w (model.deque_of (named name places) w ++ name f ∷ []) }
-    ensures pops { (name : Frame → Path) (parked : Path → Bool) (places : List Place) (w : ℕ)
+    ensures pops { (name : Frame → Path) (places : List Place) (w : ℕ)
+        → named name (with_deque places w (above_bottom (deque_of places w)))
+        ≡ model.with_deque (named name places) w (model.above_bottom (model.deque_of (named name places) w)) }
+    ensures steals { (name : Frame → Path) (places : List Place) (v : ℕ)
+        → named name (with_deque places v (below_top (deque_of places v)))
+        ≡ model.with_deque (named name places) v (model.below_top (model.deque_of (named name places) v)) }
+
+    // A pop or a steal, and then a give of what it took.
+    ensures popped { (name : Frame → Path) (parked : Path → Bool) (places : List Place) (w : ℕ)
         → named name (with_hand (with_deque places w (above_bottom (deque_of places w))) w (bottom_of (deque_of places w)))
         ≡ (model.popped (record { places = named name places; parked = parked }) w).places }
-    ensures steals { (name : Frame → Path) (parked : Path → Bool) (places : List Place) (w v : ℕ)
+    ensures stolen { (name : Frame → Path) (parked : Path → Bool) (places : List Place) (w v : ℕ)
         → named name (with_hand (with_deque places v (below_top (deque_of places v))) w (top_of (deque_of places v)))
         ≡ (model.stolen (record { places = named name places; parked = parked }) w v).places }
 {}
