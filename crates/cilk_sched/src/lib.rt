@@ -1,0 +1,43 @@
+//! Where the frames of the workers are: each worker has at most one in its hand, and a deque of
+//! others (Cilk 5.4 manual, work stealing).
+//!
+//! A frame is in one place, since there is no second one of an instance. The compiler refuses each
+//! of these functions: the first leaves a frame where it was taken, and a frame has no method
+//! `clone`; the other two use a frame that is with a worker already.
+//!
+//! ```text
+//! fn left_behind(hands: &Hands, victim: u8) -> Option<Frame>
+//!     requires { IsWorker hands.now victim }
+//! {
+//!     hands.queued(victim, 0).cloned()
+//! }
+//!
+//! fn given(hands: &mut Hands, worker: u8, frame: Frame)
+//!     requires worker { IsWorker hands.old worker }
+//!     requires empty { hand_of hands.old worker ≡ None }
+//! {
+//!     hands.give(worker, frame);
+//!     frame.finish();
+//! }
+//!
+//! fn pushed(hands: &mut Hands, worker: u8, frame: Frame) -> Result<(), Frame>
+//!     requires { IsWorker hands.old worker }
+//! {
+//!     hands.push_bottom(worker, frame)?;
+//!     Err(frame)
+//! }
+//! ```
+#![tactic(auto)]
+
+mod hands;
+mod laws;
+mod place;
+#[cfg(test)]
+mod tests;
+
+pub use cilk_frame::Memory;
+pub use hands::Hands;
+pub use laws::{
+    each_frame_is_counted, moves_are_counted, names_are_read, names_go_along,
+    others_keep_their_places,
+};
