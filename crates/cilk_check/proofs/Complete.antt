@@ -1,28 +1,25 @@
 -- Each fault of the program is listed.
-use Rattle.std.proofs.Common.{◌≡◌, ◌≢◌, ℕ, nat_eq, List, [], ◌∷◌, ◌++◌, codes, map, inl, inr, refl, sym, subst, arith, length-append}
+use Rattle.std.proofs.Common.{◌≡◌, Bool, true, false, not, cond, nat_eq, List, [], ◌∷◌, ◌++◌, map, inl, inr, refl, sym, ap, subst, arith, length-append}
+use Rattle.std.specs.List.{Contains}
 use Rattle.std.proofs.lemmas.Bool.Decides.{Decides-eqb}
-use Rattle.cilk_tree.specs.Tree.{Word, Decl, Block, block, Proc, Item, procedure, Program}
+use Rattle.cilk_tree.specs.Tree.{Word, Decl, Proc, Item, procedure, Program}
 use Rattle.cilk_check.specs.declared.fault.CheckFault.{CheckFault}
-use Rattle.cilk_check.specs.declared.fault.CheckFault.TheVariants.{Twice, Unknown, WrongKind, NoMain, Limit, Reserved}
-use Rattle.cilk_check.specs.Names.{value_names, stmts_names, decls_of, stmts_of, declared, item_name, defined, IsAmong}
+use Rattle.cilk_check.specs.declared.fault.CheckFault.TheVariants.{Twice, Unknown, WrongKind, NoMain, ReturnForm, Limit, Reserved}
+use Rattle.cilk_check.specs.Names.{value_names, stmts_names, decls_of, stmts_of, own_decls, declared, item_name, defined, IsAmong}
+use Rattle.cilk_tree.specs.Parameters.{parameter_decl}
 use Rattle.cilk_check.specs.Reserved.{IsReserved}
+use Rattle.cilk_check.specs.Returns.{Return, stmts_returns, has_form}
 use Rattle.cilk_check.specs.Scope.{Defines, Scope, top_level, outermost, Use, in_initialiser, in_statement}
-use Rattle.cilk_check.specs.Fault.{cells, max_cells, Faulty, twice, unknown, wrong_kind, no_main, limit, reserved_declared, reserved_used}
-use Rattle.cilk_check.specs.Finds.{declares, defines, fault_if, along, use_faults, uses_faults, variable_faults, decl_faults, decls_faults, block_faults, definition_faults, item_faults, items_faults, main_faults, program_faults}
-use Rattle.cilk_check.proofs.Elements.{HasElement, HasElement-from_Contains, Contains-from_HasElement, split_at, split_map}
-use Rattle.cilk_check.proofs.Held.{Has, Has-append_left, Has-append_right, Has-fault_if, Has-flat_map, Has-along}
-use Rattle.cilk_check.proofs.Decided.{declares-Decides, defines-Decides, reserved-Decides, false_from}
+use Rattle.cilk_check.specs.Fault.{cells, max_cells, IsMain, Faulty, twice, unknown, wrong_kind, no_main, limit, return_form, reserved_declared, reserved_used}
+use Rattle.cilk_check.specs.Finds.{declares, defines, fault_if, along, starts, use_faults, uses_faults, variable_faults, parameter_faults, parameters_faults, decl_faults, decls_faults, return_faults, returns_faults, body_faults, definition_faults, item_faults, items_faults, main_faults, program_faults}
+use Rattle.cilk_check.proofs.Elements.{HasElement-from_Contains, Contains-from_HasElement, split_at, split_map, split_append}
+use Rattle.cilk_check.proofs.Held.{Has, Has-append_left, Has-append_right, Has-append_cases, Has-fault_if, Has-flat_map, Has-along}
+use Rattle.cilk_check.proofs.Decided.{declares-Decides, defines-Decides, reserved-Decides, false_from, starts_there}
 
 -- a fault of an element of a list is one along the list
 at_element : {X : Type 0} (faults : List X → X → List CheckFault) (xs before : List X) (x : X) (after : List X) (f : CheckFault) → xs ≡ before ++ x ∷ after → Has (faults before x) f → Has (along faults [] xs) f
 at_element faults xs before x after f order h =
     subst (λ ys. Has (along faults [] ys) f) (sym order) (Has-along faults [] before x after f h)
-
--- a text among the names of definitions is the name of one
-main_element : (items : List Item) (text : List ℕ) → HasElement (map (λ w. w.text) (defined items)) text → (d : Proc) × HasElement items (procedure d) × (d.name.text ≡ text)
-main_element [] text h = absurd h
-main_element (procedure d ∷ items) text (inl e) = (d, inl refl, e)
-main_element (procedure d ∷ items) text (inr h) = let m = main_element items text h in (m.0, inr m.1, m.2)
 
 module _ (p : Program) where
   in_item : (before : List Item) (x : Item) (after : List Item) (f : CheckFault) → p.items ≡ before ++ x ∷ after → Has (item_faults p.items before x) f → Has (program_faults p) f
@@ -31,26 +28,47 @@ module _ (p : Program) where
 
   at_definition : (before : List Item) (x : Item) (after : List Item) (f : CheckFault) → p.items ≡ before ++ x ∷ after → Has (definition_faults before (item_name x)) f → Has (program_faults p) f
   at_definition before (procedure d) after f order h =
-      in_item before (procedure d) after f order (Has-append_left (definition_faults before d.name) (block_faults p.items d.body) f h)
+      in_item before (procedure d) after f order (Has-append_left (definition_faults before d.name) (body_faults p.items d) f h)
 
-  in_body : (d : Proc) (f : CheckFault) → Defines p d → Has (block_faults p.items d.body) f → Has (program_faults p) f
+  in_body : (d : Proc) (f : CheckFault) → Defines p d → Has (body_faults p.items d) f → Has (program_faults p) f
   in_body d f is_defined h =
       let s = split_at p.items (procedure d) (HasElement-from_Contains p.items (procedure d) is_defined) in
-      in_item s.before (procedure d) s.after f s.order (Has-append_right (definition_faults s.before d.name) (block_faults p.items d.body) f h)
+      in_item s.before (procedure d) s.after f s.order (Has-append_right (definition_faults s.before d.name) (body_faults p.items d) f h)
 
-  decls_in_block : (b : Block) (f : CheckFault) → Has (decls_faults p.items (decls_of b)) f → Has (block_faults p.items b) f
-  decls_in_block (block decls stmts) f h =
-      Has-append_left (decls_faults p.items decls) (uses_faults p.items decls (stmts_names stmts)) f h
+  -- the faults of declarations, uses and returns in a body
+  decls_in_body : (d : Proc) (f : CheckFault) → Has (decls_faults p.items d.parameters (decls_of d.body)) f → Has (body_faults p.items d) f
+  decls_in_body d f h = Has-append_right (parameters_faults d.parameters) _ f (Has-append_left (decls_faults p.items d.parameters (decls_of d.body)) _ f h)
 
-  stmts_in_block : (b : Block) (f : CheckFault) → Has (uses_faults p.items (decls_of b) (stmts_names (stmts_of b))) f → Has (block_faults p.items b) f
-  stmts_in_block (block decls stmts) f h =
-      Has-append_right (decls_faults p.items decls) (uses_faults p.items decls (stmts_names stmts)) f h
+  uses_in_body : (d : Proc) (f : CheckFault) → Has (uses_faults p.items (own_decls d) (stmts_names (stmts_of d.body))) f → Has (body_faults p.items d) f
+  uses_in_body d f h =
+      Has-append_right (parameters_faults d.parameters) _ f (Has-append_right (decls_faults p.items d.parameters (decls_of d.body)) _ f (Has-append_left (uses_faults p.items (own_decls d) (stmts_names (stmts_of d.body))) _ f h))
 
-  in_decl : (d : Proc) (before : List Decl) (v : Decl) (after : List Decl) (f : CheckFault) → Defines p d → decls_of d.body ≡ before ++ v ∷ after → Has (decl_faults p.items before v) f → Has (program_faults p) f
-  in_decl d before v after f is_defined order h =
-      in_body d f is_defined (decls_in_block d.body f (at_element (decl_faults p.items) (decls_of d.body) before v after f order h))
+  returns_in_body : (d : Proc) (f : CheckFault) → Has (returns_faults d.returns (stmts_returns (stmts_of d.body))) f → Has (body_faults p.items d) f
+  returns_in_body d f h =
+      Has-append_right (parameters_faults d.parameters) _ f (Has-append_right (decls_faults p.items d.parameters (decls_of d.body)) _ f (Has-append_right (uses_faults p.items (own_decls d) (stmts_names (stmts_of d.body))) _ f h))
 
-  at_variable : (d : Proc) (before : List Decl) (v : Decl) (after : List Decl) (f : CheckFault) → Defines p d → decls_of d.body ≡ before ++ v ∷ after → Has (variable_faults before v.name) f → Has (program_faults p) f
+  -- the faults of a parameter are those of its name
+  parameter_only : (before : List Decl) (w : Word) (f : CheckFault) → Has (decl_faults p.items before (parameter_decl w)) f → Has (variable_faults before w) f
+  parameter_only before w f h = elim (Has-append_cases (variable_faults before w) [] f h) [ inl k ↦ k | inr k ↦ absurd k ]
+
+  -- those of a variable are among the faults of the body, be it a parameter or a declaration
+  in_own : (d : Proc) (before : List Decl) (v : Decl) (after : List Decl) (f : CheckFault) → own_decls d ≡ before ++ v ∷ after → Has (decl_faults p.items before v) f → Has (body_faults p.items d) f
+  in_own d before v after f order h =
+      elim (split_append (map parameter_decl d.parameters) (decls_of d.body) before v after order) [
+        | inl k ↦
+            let s = split_map parameter_decl d.parameters before v k.behind k.order in
+            let there : Has (decl_faults p.items (map parameter_decl s.before) (parameter_decl s.at)) f =
+            subst (λ bs. Has (decl_faults p.items bs (parameter_decl s.at)) f) (sym s.before_is) (subst (λ x. Has (decl_faults p.items before x) f) (sym s.at_is) h) in
+            Has-append_left (parameters_faults d.parameters) _ f (at_element parameter_faults d.parameters s.before s.at s.after f s.order (parameter_only (map parameter_decl s.before) s.at f there))
+        | inr k ↦
+            let own = map parameter_decl d.parameters in
+            decls_in_body d f (at_element (λ bs x. decl_faults p.items (own ++ bs) x) (decls_of d.body) k.between v after f k.order (subst (λ bs. Has (decl_faults p.items bs v) f) k.before_is h))
+      ]
+
+  in_decl : (d : Proc) (before : List Decl) (v : Decl) (after : List Decl) (f : CheckFault) → Defines p d → own_decls d ≡ before ++ v ∷ after → Has (decl_faults p.items before v) f → Has (program_faults p) f
+  in_decl d before v after f is_defined order h = in_body d f is_defined (in_own d before v after f order h)
+
+  at_variable : (d : Proc) (before : List Decl) (v : Decl) (after : List Decl) (f : CheckFault) → Defines p d → own_decls d ≡ before ++ v ∷ after → Has (variable_faults before v.name) f → Has (program_faults p) f
   at_variable d before v after f is_defined order h =
       in_decl d before v after f is_defined order (Has-append_left (variable_faults before v.name) (uses_faults p.items (before ++ v ∷ []) (value_names v.value)) f h)
 
@@ -60,8 +78,8 @@ module _ (p : Program) where
       let visible = before ++ v ∷ [] in
       in_decl d before v after f is_defined order (Has-append_right (variable_faults before v.name) (uses_faults p.items visible (value_names v.value)) f (Has-flat_map (use_faults p.items visible) (value_names v.value) name f (HasElement-from_Contains (value_names v.value) name there) (h visible refl)))
   at_use names name f (in_statement d _ is_defined there) h =
-      let visible = decls_of d.body in
-      in_body d f is_defined (stmts_in_block d.body f (Has-flat_map (use_faults p.items visible) (stmts_names (stmts_of d.body)) name f (HasElement-from_Contains (stmts_names (stmts_of d.body)) name there) (h visible refl)))
+      let visible = own_decls d in
+      in_body d f is_defined (uses_in_body d f (Has-flat_map (use_faults p.items visible) (stmts_names (stmts_of d.body)) name f (HasElement-from_Contains (stmts_names (stmts_of d.body)) name there) (h visible refl)))
 
   unknown_there : (visible : List Decl) (names : List Word) (name : Word) → declared visible ≡ names → ¬ IsReserved name → ¬ IsAmong name names → ¬ IsAmong name (defined p.items) → Has (use_faults p.items visible name) (Unknown name.place)
   unfolding use_faults
@@ -111,7 +129,7 @@ module _ (p : Program) where
       let first : IsAmong (item_name s.at) (defined s.before) = subst (λ w. IsAmong w (defined s.before)) (sym s.at_is) (subst (λ ws. IsAmong name ws) (sym s.before_is) among) in
       subst (λ w. Has (program_faults p) (Twice w.place)) s.at_is (at_definition s.before s.at s.after _ s.order (top_twice s.before (item_name s.at) first))
   scope_twice names before after name (outermost d is_defined) order among =
-      let s = split_map (λ (v : Decl). v.name) (decls_of d.body) before name after order in
+      let s = split_map (λ (v : Decl). v.name) (own_decls d) before name after order in
       let first : IsAmong s.at.name (declared s.before) = subst (λ w. IsAmong w (declared s.before)) (sym s.at_is) (subst (λ ws. IsAmong name ws) (sym s.before_is) among) in
       subst (λ w. Has (program_faults p) (Twice w.place)) s.at_is (at_variable d s.before s.at s.after _ is_defined s.order (variable_twice s.before s.at.name first))
 
@@ -121,19 +139,21 @@ module _ (p : Program) where
       let it : IsReserved (item_name s.at) = subst IsReserved (sym s.at_is) reserved in
       subst (λ w. Has (program_faults p) (Reserved w.place)) s.at_is (at_definition s.before s.at s.after _ s.order (top_reserved s.before (item_name s.at) it))
   scope_reserved names before after name (outermost d is_defined) order reserved =
-      let s = split_map (λ (v : Decl). v.name) (decls_of d.body) before name after order in
+      let s = split_map (λ (v : Decl). v.name) (own_decls d) before name after order in
       let it : IsReserved s.at.name = subst IsReserved (sym s.at_is) reserved in
       subst (λ w. Has (program_faults p) (Reserved w.place)) s.at_is (at_variable d s.before s.at s.after _ is_defined s.order (variable_reserved s.before s.at.name it))
 
-  pub main_defined : (items : List Item) → IsAmong (record { text = codes "main"; place = 0 }) (defined items) → (d : Proc) × HasElement items (procedure d) × (d.name.text ≡ codes "main")
-  main_defined items among = main_element items (codes "main") (HasElement-from_Contains _ _ among)
-
-  main_there : ((d : Proc) → Defines p d → d.name.text ≢ codes "main") → Has (main_faults p) (NoMain p.length)
+  main_there : ((d : Proc) → Defines p d → ¬ IsMain d) → Has (main_faults p) (NoMain p.length)
   unfolding main_faults
-  main_there none =
-      let word : Word = record { text = codes "main"; place = 0 } in
-      let absent : ¬ IsAmong word (defined p.items) = λ among. let m = main_defined p.items among in none m.0 (Contains-from_HasElement p.items (procedure m.0) m.1) m.2 in
-      rw (false_from _ (defines-Decides p.items word) absent) (inl refl)
+  main_there none = by_test (starts p.items) refl
+    where
+      by_test : (b : Bool) → starts p.items ≡ b → Has (cond b [] (NoMain p.length ∷ [])) (NoMain p.length)
+      by_test true e = let s = starts_there p.items e in absurd (none s.procedure_there (Contains-from_HasElement p.items (procedure s.procedure_there) s.there) s.starts)
+      by_test false e = inl refl
+
+  return_there : (d : Proc) (r : Return) → Contains (stmts_returns (stmts_of d.body)) r → has_form d.returns r.value ≡ false → Has (body_faults p.items d) (ReturnForm r.place)
+  return_there d r there wrong =
+      returns_in_body d _ (Has-flat_map (return_faults d.returns) (stmts_returns (stmts_of d.body)) r _ (HasElement-from_Contains (stmts_returns (stmts_of d.body)) r there) (Has-fault_if (not (has_form d.returns r.value)) _ (ap not wrong)))
 
   pub program_complete : (f : CheckFault) → Faulty p f → Has (program_faults p) f
   program_complete f (twice before after name scope among) = scope_twice _ before after name scope refl among
@@ -144,6 +164,7 @@ module _ (p : Program) where
   program_complete f (no_main none) = Has-append_right (items_faults p.items) (main_faults p) _ (main_there none)
   program_complete f (limit d before after v is_defined order below past) =
       at_variable d before v after _ is_defined order (variable_limit before v.name (omega (arith, below, past, length-append before (v ∷ []))))
+  program_complete f (return_form d r is_defined there wrong) = in_body d _ is_defined (return_there d r there wrong)
   program_complete f (reserved_declared names name scope there reserved) =
       let s = split_at names name (HasElement-from_Contains names name there) in
       scope_reserved names s.before s.after name scope s.order reserved

@@ -1,14 +1,17 @@
 -- What the tests of names decide.
-use Rattle.std.proofs.Common.{◌≡◌, ℕ, Bool, true, false, ◌||◌, List, [], ◌∷◌, ◌++◌, map, Decides, refl, sym, ap, ◌∙◌}
+use Rattle.std.proofs.Common.{◌≡◌, ℕ, Bool, true, false, ◌&&◌, ◌||◌, List, [], ◌∷◌, ◌++◌, map, codes, Decides, inl, inr, refl, sym, ap, ◌∙◌}
 use Rattle.std.specs.List.{Contains, list_any}
 use Rattle.std.specs.Str.{bytes_eq}
 use Rattle.std.proofs.lemmas.Bool.{false≢true}
 use Rattle.std.proofs.lemmas.Bool.Decides.{Decides-at, Decides-like, Decides-or}
 use Rattle.std.proofs.lemmas.Slice.Eq.{bytes_eq-Decides}
-use Rattle.cilk_tree.specs.Tree.{Word, Decl, Item}
+use Rattle.cilk_tree.specs.declared.return_type.ReturnType.{ReturnType}
+use Rattle.cilk_tree.specs.declared.return_type.ReturnType.TheVariants as returns
+use Rattle.cilk_tree.specs.Tree.{Word, Decl, Proc, Item, procedure}
 use Rattle.cilk_check.specs.Names.{declared, item_name, defined, IsAmong}
 use Rattle.cilk_check.specs.Reserved.{c_keywords, library_names, IsReserved}
-use Rattle.cilk_check.specs.Finds.{is_one_of, is_reserved, declares, defines}
+use Rattle.cilk_check.specs.Fault.{IsMain}
+use Rattle.cilk_check.specs.Finds.{is_one_of, is_reserved, declares, defines, returns_int, is_none_of, is_main, starts}
 use Rattle.cilk_check.proofs.Elements.{HasElement, HasElement-from_Contains, Contains-from_HasElement}
 
 element-Decides : (names : List (List ℕ)) (text : List ℕ) → Decides (is_one_of names text) (HasElement names text)
@@ -43,3 +46,53 @@ false_from false d n = refl
 -- what a false test decides is not so
 pub not_from : {P : Type 0} (b : Bool) → Decides b P → b ≡ false → ¬ P
 not_from b d e p = false≢true (sym e ∙ d.1 p)
+
+-- a procedure that the test names is one to start with, and each such one is named by it
+
+and_true : (a b : Bool) → (a && b) ≡ true → (a ≡ true) × (b ≡ true)
+and_true true true e = (refl, refl)
+and_true true false e = cc
+and_true false b e = cc
+
+int_is : (r : ReturnType) → returns_int r ≡ true → r ≡ returns.Int
+int_is returns.Int e = refl
+int_is returns.Void e = cc
+
+none_is : (names : List Word) → is_none_of names ≡ true → names ≡ []
+none_is [] e = refl
+none_is (name ∷ names) e = cc
+
+pub main-Decides : (f : Proc) → Decides (is_main f) (IsMain f)
+main-Decides f = (
+  λ e.
+      let a = and_true (bytes_eq f.name.text (codes "main")) _ e in
+      let b = and_true (returns_int f.returns) _ a.1 in
+      record { named = (bytes_eq-Decides f.name.text (codes "main")).0 a.0; returns = int_is f.returns b.0; alone = none_is f.parameters b.1 },
+  λ h. rw ((bytes_eq-Decides f.name.text (codes "main")).1 h.named, ap returns_int h.returns, ap is_none_of h.alone) refl,
+)
+
+-- one of the definitions is one to start with
+pub record Started (items : List Item) : Type 0 where
+  pub procedure_there : Proc
+  pub there : HasElement items (procedure procedure_there)
+  pub starts : IsMain procedure_there
+
+starts_cases : (f : Proc) (items : List Item) (b : Bool) → is_main f ≡ b → (starts items ≡ true → Started items) → (b || starts items) ≡ true → Started (procedure f ∷ items)
+starts_cases f items true e later h = record { procedure_there = f; there = inl refl; starts = (main-Decides f).0 e }
+starts_cases f items false e later h = let s = later h in record { procedure_there = s.procedure_there; there = inr s.there; starts = s.starts }
+
+pub starts_there : (items : List Item) → starts items ≡ true → Started items
+starts_there [] e = cc
+starts_there (procedure f ∷ items) e = starts_cases f items (is_main f) refl (starts_there items) e
+
+or_right : (a b : Bool) → b ≡ true → (a || b) ≡ true
+or_right true b e = refl
+or_right false b e = e
+
+same_definition : (g f : Proc) → procedure g ≡ procedure f → g ≡ f
+same_definition g f e = cc
+
+pub starts_where : (items : List Item) (f : Proc) → HasElement items (procedure f) → IsMain f → starts items ≡ true
+starts_where [] f h m = absurd h
+starts_where (procedure g ∷ items) f (inl e) m = rw (ap is_main (same_definition g f e) ∙ (main-Decides f).1 m) refl
+starts_where (procedure g ∷ items) f (inr h) m = or_right (is_main g) (starts items) (starts_where items f h m)

@@ -1,5 +1,5 @@
 -- The elements of a list, and where they stand in it.
-use Rattle.std.proofs.Common.{◌≡◌, zero, suc, List, [], ◌∷◌, ◌++◌, map, ◌⊎◌, inl, inr, refl, ap, arith}
+use Rattle.std.proofs.Common.{◌≡◌, zero, suc, List, [], ◌∷◌, ◌++◌, map, ◌⊎◌, inl, inr, refl, sym, ap, arith}
 use Rattle.std.specs.List.{Contains}
 
 -- x is an element of the list
@@ -61,3 +61,25 @@ pub HasElement-map : {X Y : Type 0} (g : X → Y) (xs : List X) (x : X) → HasE
 HasElement-map g [] x h = absurd h
 HasElement-map g (y ∷ ys) x (inl e) = inl (ap g e)
 HasElement-map g (y ∷ ys) x (inr h) = inr (HasElement-map g ys x h)
+
+-- where x stands in two lists, one after the other: in the first, or in the second
+pub record InFirst {X : Type 0} (xs ys before : List X) (x : X) (after : List X) : Type 0 where
+  pub behind : List X
+  pub order : xs ≡ before ++ x ∷ behind
+
+pub record InSecond {X : Type 0} (xs ys before : List X) (x : X) (after : List X) : Type 0 where
+  pub between : List X
+  pub before_is : before ≡ xs ++ between
+  pub order : ys ≡ between ++ x ∷ after
+
+pub split_append : {X : Type 0} (xs ys before : List X) (x : X) (after : List X) → xs ++ ys ≡ before ++ x ∷ after → InFirst xs ys before x after ⊎ InSecond xs ys before x after
+split_append [] ys before x after e = inr (record { between = before; before_is = refl; order = e })
+split_append (z ∷ xs) ys [] x after e =
+    let same : z ≡ x = cc in inl (record { behind = xs; order = ap (λ w. w ∷ xs) same })
+split_append (z ∷ xs) ys (w ∷ before) x after e =
+    let same : z ≡ w = cc in
+    let rest : xs ++ ys ≡ before ++ x ∷ after = cc in
+    elim (split_append xs ys before x after rest) [
+      | inl k ↦ inl (record { behind = k.behind; order = λ i. same i ∷ k.order i })
+      | inr k ↦ inr (record { between = k.between; before_is = λ i. sym same i ∷ k.before_is i; order = k.order })
+    ]

@@ -7,3 +7,4 @@ pub mod Decided
 pub mod Sound
 pub mod Complete
 pub mod WellFormedLaws
+pub mod Visibles

@@ -1,19 +1,17 @@
 -- What holds in a program with no fault.
-use Rattle.std.proofs.Common.{◌≡◌, ◌≤◌, ◌<◌, ◌+◌, Bool, true, false, List, [], ◌∷◌, ◌++◌, length, get_or, take, drop, codes, map, inl, inr, refl, sym, ap, ◌∙◌, arith, length-append, length-take}
+use Rattle.std.proofs.Common.{◌≡◌, ◌≤◌, ◌<◌, ◌+◌, Bool, true, false, List, [], ◌∷◌, ◌++◌, length, get_or, take, drop, map, inl, inr, refl, sym, ap, ◌∙◌, arith, length-append, length-take}
 use Rattle.std.proofs.Math.Seq.{drop-cons}
 use Rattle.std.proofs.lemmas.List.{take-append-drop}
 use Rattle.std.specs.List.{Contains}
 use Rattle.cilk_tree.specs.Tree.{Word, Decl, Proc, procedure, Program}
-use Rattle.cilk_check.specs.Names.{decls_of, IsAmong}
+use Rattle.cilk_check.specs.Names.{own_decls, IsAmong}
 use Rattle.cilk_check.specs.Reserved.{IsReserved}
 use Rattle.cilk_check.specs.Scope.{Defines, Scope, Use}
-use Rattle.cilk_check.specs.Fault.{cells, max_cells, twice, unknown, wrong_kind, no_main, limit, reserved_declared, reserved_used, WellFormed}
-use Rattle.cilk_check.specs.Finds.{is_one_of, defines}
-use Rattle.cilk_check.proofs.Decided.{one_of-Decides, defines-Decides, not_from}
-use Rattle.cilk_check.proofs.Elements.{Contains-from_HasElement}
-use Rattle.cilk_check.proofs.Complete.{main_defined}
-use Rattle.cilk_check.proofs.Sound.{named_main}
-use Rattle.std.proofs.lemmas.Bool.{cases_lt}
+use Rattle.cilk_check.specs.Fault.{cells, max_cells, IsMain, twice, unknown, wrong_kind, no_main, limit, reserved_declared, reserved_used, WellFormed}
+use Rattle.cilk_check.specs.Finds.{is_one_of, defines, starts}
+use Rattle.cilk_check.proofs.Decided.{one_of-Decides, defines-Decides, not_from, starts_there, starts_where}
+use Rattle.cilk_check.proofs.Elements.{Contains-from_HasElement, HasElement-from_Contains}
+use Rattle.std.proofs.lemmas.Bool.{cases_lt, false≢true}
 
 module _ (p : Program) (well_formed : WellFormed p) where
   -- a name that is used or declared is not reserved
@@ -40,7 +38,7 @@ module _ (p : Program) (well_formed : WellFormed p) where
   pub declared_once : (before after : List Word) (name : Word) → Scope p (before ++ name ∷ after) → ¬ IsAmong name before
   declared_once before after name scope among = well_formed _ (twice before after name scope among)
 
-  no_more_cells : (d : Proc) (decls : List Decl) → Defines p d → decls_of d.body ≡ decls → ¬ (max_cells < length decls)
+  no_more_cells : (d : Proc) (decls : List Decl) → Defines p d → own_decls d ≡ decls → ¬ (max_cells < length decls)
   no_more_cells d [] is_defined order past = omega arith
   no_more_cells d (v ∷ vs) is_defined order past =
       let decls = v ∷ vs in
@@ -51,17 +49,17 @@ module _ (p : Program) (well_formed : WellFormed p) where
       well_formed _ (limit d (take max_cells decls) (drop (max_cells + 1) decls) at is_defined (order ∙ parts) (omega (arith, full)) (omega (arith, full, length-append (take max_cells decls) (at ∷ []))))
 
   -- an activation has room for its variables
-  pub cells_fit : (d : Proc) → Defines p d → cells (decls_of d.body) ≤ max_cells
+  pub cells_fit : (d : Proc) → Defines p d → cells (own_decls d) ≤ max_cells
   cells_fit d is_defined =
-      elim (cases_lt max_cells (length (decls_of d.body))) [ inl past ↦ absurd (no_more_cells d (decls_of d.body) is_defined refl past) | inr fits ↦ fits ]
+      elim (cases_lt max_cells (length (own_decls d))) [ inl past ↦ absurd (no_more_cells d (own_decls d) is_defined refl past) | inr fits ↦ fits ]
 
-  main_cases : (m : Bool) → defines p.items (codes "main") ≡ m → (d : Proc) × Defines p d × (d.name.text ≡ codes "main")
+  main_cases : (m : Bool) → starts p.items ≡ m → (d : Proc) × Defines p d × IsMain d
   main_cases true e =
-      let m = main_defined p p.items ((defines-Decides p.items (record { text = codes "main"; place = 0 })).0 e) in
-      (m.0, Contains-from_HasElement p.items (procedure m.0) m.1, m.2)
+      let s = starts_there p.items e in
+      (s.procedure_there, Contains-from_HasElement p.items (procedure s.procedure_there) s.there, s.starts)
   main_cases false e =
-      absurd (well_formed _ (no_main (λ d is_defined is_main. not_from _ (defines-Decides p.items (record { text = codes "main"; place = 0 })) e (named_main p d (record { text = codes "main"; place = 0 }) is_defined is_main))))
+      absurd (well_formed _ (no_main (λ d is_defined is_main. false≢true (sym e ∙ starts_where p.items d (HasElement-from_Contains p.items (procedure d) is_defined) is_main))))
 
   -- there is a procedure to start with
-  pub main_is_defined : (d : Proc) × Defines p d × (d.name.text ≡ codes "main")
+  pub main_is_defined : (d : Proc) × Defines p d × IsMain d
   main_is_defined = main_cases _ refl

@@ -1,10 +1,12 @@
 -- What a program must not have: the rules of names that no grammar says.
-use Rattle.std.specs.Prelude.{◌≡◌, ◌≢◌, ℕ, ◌≤◌, ◌<◌, List, [], ◌∷◌, ◌++◌, length, codes, Contains}
+use Rattle.std.specs.Prelude.{◌≡◌, IsFalse, ℕ, ◌≤◌, ◌<◌, List, [], ◌∷◌, ◌++◌, length, codes, Contains}
+use Rattle.cilk_tree.specs.declared.return_type.ReturnType.TheVariants.{Int}
 use Rattle.cilk_tree.specs.Tree.{Word, Decl, Proc, Program}
 use Rattle.cilk_check.specs.declared.fault.CheckFault.{CheckFault}
-use Rattle.cilk_check.specs.declared.fault.CheckFault.TheVariants.{Twice, Unknown, WrongKind, NoMain, Limit, Reserved}
-use Rattle.cilk_check.specs.Names.{decls_of, defined, IsAmong}
+use Rattle.cilk_check.specs.declared.fault.CheckFault.TheVariants.{Twice, Unknown, WrongKind, NoMain, ReturnForm, Limit, Reserved}
+use Rattle.cilk_check.specs.Names.{stmts_of, own_decls, defined, IsAmong}
 use Rattle.cilk_check.specs.Reserved.{IsReserved}
+use Rattle.cilk_check.specs.Returns.{Return, stmts_returns, has_form}
 use Rattle.cilk_check.specs.Scope.{Defines, Scope, Use}
 
 -- where a fault stands, in bytes from the beginning of the text
@@ -13,6 +15,7 @@ place_of (Twice at) = at
 place_of (Unknown at) = at
 place_of (WrongKind at) = at
 place_of (NoMain at) = at
+place_of (ReturnForm at) = at
 place_of (Limit at) = at
 place_of (Reserved at) = at
 
@@ -22,6 +25,7 @@ number_of (Twice at) = 1
 number_of (Unknown at) = 2
 number_of (WrongKind at) = 3
 number_of (NoMain at) = 12
+number_of (ReturnForm at) = 13
 number_of (Limit at) = 15
 number_of (Reserved at) = 16
 
@@ -33,6 +37,12 @@ cells decls = length decls
 abbrev pub max_cells : ℕ
 max_cells = 4096
 
+-- `cilk int main` without parameters (C 1990, 5.1.2.2.1; Cilk 5.4 manual, `main`)
+pub record IsMain (f : Proc) : Type 0 where
+  pub named : f.name.text ≡ codes "main"
+  pub returns : f.returns ≡ Int
+  pub alone : f.parameters ≡ []
+
 -- what is wrong in a program, and at which place
 pub data Faulty (p : Program) : CheckFault → Type 0 where
   -- a scope declares a name that it has declared before (C 1990, 6.5)
@@ -41,10 +51,12 @@ pub data Faulty (p : Program) : CheckFault → Type 0 where
   unknown : (visible : List Word) (name : Word) → Use p visible name → ¬ IsReserved name → ¬ IsAmong name visible → ¬ IsAmong name (defined p.items) → Faulty p (Unknown name.place)
   -- a use of a procedure's name, which no visible variable hides, where an `int` variable is needed (C 1990, 6.3.1)
   wrong_kind : (visible : List Word) (name : Word) → Use p visible name → ¬ IsReserved name → ¬ IsAmong name visible → IsAmong name (defined p.items) → Faulty p (WrongKind name.place)
-  -- no procedure of the program is called `main` (C 1990, 5.1.2.2.1; Cilk 5.4 manual, `main`)
-  no_main : ((f : Proc) → Defines p f → f.name.text ≢ codes "main") → Faulty p (NoMain p.length)
+  -- no procedure of the program is one to start with
+  no_main : ((f : Proc) → Defines p f → ¬ IsMain f) → Faulty p (NoMain p.length)
   -- the declaration that passes the cells of its activation
-  limit : (f : Proc) (before after : List Decl) (d : Decl) → Defines p f → decls_of f.body ≡ before ++ d ∷ after → cells before ≤ max_cells → max_cells < cells (before ++ d ∷ []) → Faulty p (Limit d.name.place)
+  limit : (f : Proc) (before after : List Decl) (d : Decl) → Defines p f → own_decls f ≡ before ++ d ∷ after → cells before ≤ max_cells → max_cells < cells (before ++ d ∷ []) → Faulty p (Limit d.name.place)
+  -- a `return` with a value in a `void` procedure, or without one in an `int` procedure (C 1990, 6.6.6.4)
+  return_form : (f : Proc) (r : Return) → Defines p f → Contains (stmts_returns (stmts_of f.body)) r → IsFalse (has_form f.returns r.value) → Faulty p (ReturnForm r.place)
   -- a scope declares a reserved name
   reserved_declared : (names : List Word) (name : Word) → Scope p names → Contains names name → IsReserved name → Faulty p (Reserved name.place)
   -- a use of a reserved name

@@ -1,12 +1,16 @@
 -- The faults of a program as a list, part by part, and the first among faults.
-use Rattle.std.specs.Prelude.{ℕ, List, [], ◌∷◌, ◌++◌, Bool, false, ◌&&◌, ◌||◌, ◌==◌, nat_lt, if◌then◌else◌, codes, Option, Some, None}
+use Rattle.std.specs.Prelude.{ℕ, List, [], ◌∷◌, ◌++◌, Bool, true, false, not, map, ◌&&◌, ◌||◌, ◌==◌, nat_lt, if◌then◌else◌, codes, Option, Some, None}
 use Rattle.std.specs.List.{list_any, flat_map}
 use Rattle.std.specs.Str.{bytes_eq}
-use Rattle.cilk_tree.specs.Tree.{Word, Decl, Block, block, Item, procedure, Program}
+use Rattle.cilk_tree.specs.declared.return_type.ReturnType.{ReturnType}
+use Rattle.cilk_tree.specs.declared.return_type.ReturnType.TheVariants.{Int, Void}
+use Rattle.cilk_tree.specs.Tree.{Word, Decl, Proc, Item, procedure, Program}
 use Rattle.cilk_check.specs.declared.fault.CheckFault.{CheckFault}
-use Rattle.cilk_check.specs.declared.fault.CheckFault.TheVariants.{Twice, Unknown, WrongKind, NoMain, Limit, Reserved}
+use Rattle.cilk_check.specs.declared.fault.CheckFault.TheVariants.{Twice, Unknown, WrongKind, NoMain, ReturnForm, Limit, Reserved}
 use Rattle.cilk_check.specs.Fault.{place_of, number_of, cells, max_cells}
-use Rattle.cilk_check.specs.Names.{value_names, stmts_names, item_name}
+use Rattle.cilk_check.specs.Names.{value_names, stmts_names, decls_of, stmts_of, own_decls, item_name}
+use Rattle.cilk_tree.specs.Parameters.{parameter_decl}
+use Rattle.cilk_check.specs.Returns.{Return, stmts_returns, has_form}
 use Rattle.cilk_check.specs.Reserved.{c_keywords, library_names}
 
 -- whether f stands before g, or at one place with it and has a lesser number
@@ -38,8 +42,29 @@ is_reserved text = is_one_of (c_keywords ++ library_names) text
 abbrev pub declares : List Decl → List ℕ → Bool
 declares decls text = list_any (λ d. bytes_eq d.name.text text) decls
 
+abbrev pub is_parameter : List Word → List ℕ → Bool
+is_parameter parameters text = list_any (λ name. bytes_eq name.text text) parameters
+
 abbrev pub defines : List Item → List ℕ → Bool
 defines items text = list_any (λ item. bytes_eq (item_name item).text text) items
+
+abbrev pub returns_int : ReturnType → Bool
+returns_int Int = true
+returns_int Void = false
+
+abbrev pub is_none_of : List Word → Bool
+is_none_of [] = true
+is_none_of (name ∷ names) = false
+
+-- whether a procedure is one to start with
+abbrev pub is_main : Proc → Bool
+is_main f = bytes_eq f.name.text (codes "main") && (returns_int f.returns && is_none_of f.parameters)
+
+abbrev pub item_starts : Item → Bool
+item_starts (procedure f) = is_main f
+
+abbrev pub starts : List Item → Bool
+starts items = list_any item_starts items
 
 -- a fault, if there is one
 abbrev pub fault_if : Bool → CheckFault → List CheckFault
@@ -66,11 +91,28 @@ variable_faults before name =
 abbrev pub decl_faults : List Item → List Decl → Decl → List CheckFault
 decl_faults items before d = variable_faults before d.name ++ uses_faults items (before ++ d ∷ []) (value_names d.value)
 
-abbrev pub decls_faults : List Item → List Decl → List CheckFault
-decls_faults items decls = along (decl_faults items) [] decls
+-- of a parameter after these
+abbrev pub parameter_faults : List Word → Word → List CheckFault
+parameter_faults before name = variable_faults (map parameter_decl before) name
 
-abbrev pub block_faults : List Item → Block → List CheckFault
-block_faults items (block decls stmts) = decls_faults items decls ++ uses_faults items decls (stmts_names stmts)
+abbrev pub parameters_faults : List Word → List CheckFault
+parameters_faults parameters = along parameter_faults [] parameters
+
+-- of declarations after these parameters
+abbrev pub decls_faults : List Item → List Word → List Decl → List CheckFault
+decls_faults items parameters decls = along (λ before d. decl_faults items (map parameter_decl parameters ++ before) d) [] decls
+
+-- of a `return` where this is returned
+abbrev pub return_faults : ReturnType → Return → List CheckFault
+return_faults returns r = fault_if (not (has_form returns r.value)) (ReturnForm r.place)
+
+abbrev pub returns_faults : ReturnType → List Return → List CheckFault
+returns_faults returns rs = flat_map (return_faults returns) rs
+
+-- of the parameters and the body of a procedure
+abbrev pub body_faults : List Item → Proc → List CheckFault
+body_faults items f =
+    parameters_faults f.parameters ++ (decls_faults items f.parameters (decls_of f.body) ++ (uses_faults items (own_decls f) (stmts_names (stmts_of f.body)) ++ returns_faults f.returns (stmts_returns (stmts_of f.body))))
 
 -- of a name that is defined after these of the top level
 unfoldable pub definition_faults : List Item → Word → List CheckFault
@@ -79,13 +121,13 @@ definition_faults before name =
 
 -- of a definition after these of the top level, among all of them
 abbrev pub item_faults : List Item → List Item → Item → List CheckFault
-item_faults items before (procedure f) = definition_faults before f.name ++ block_faults items f.body
+item_faults items before (procedure f) = definition_faults before f.name ++ body_faults items f
 
 abbrev pub items_faults : List Item → List CheckFault
 items_faults items = along (item_faults items) [] items
 
 unfoldable pub main_faults : Program → List CheckFault
-main_faults p = if defines p.items (codes "main") then [] else (NoMain p.length ∷ [])
+main_faults p = if starts p.items then [] else (NoMain p.length ∷ [])
 
 abbrev pub program_faults : Program → List CheckFault
 program_faults p = items_faults p.items ++ main_faults p

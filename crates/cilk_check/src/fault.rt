@@ -14,9 +14,13 @@ pub enum CheckFault {
     /// A visible name is used where another kind of thing is needed.
     #[error("C3 WrongKind")]
     WrongKind(u32),
-    /// Nothing defines `cilk int main`; the place is the text's length.
+    /// Nothing defines `cilk int main` without parameters; the place is the text's length.
     #[error("C12 NoMain")]
     NoMain(u32),
+    /// A `return` has a value in a `void` procedure, or none in an `int` one; the place is the
+    /// word's.
+    #[error("C13 ReturnForm")]
+    ReturnForm(u32),
     /// A declaration passes the 4,096 cells of its activation.
     #[error("C15 Limit")]
     Limit(u32),
@@ -37,6 +41,7 @@ impl CheckFault {
             | CheckFault::Unknown(at)
             | CheckFault::WrongKind(at)
             | CheckFault::NoMain(at)
+            | CheckFault::ReturnForm(at)
             | CheckFault::Limit(at)
             | CheckFault::Reserved(at) => *at,
         }
@@ -51,6 +56,7 @@ impl CheckFault {
             CheckFault::Unknown(_) => 2,
             CheckFault::WrongKind(_) => 3,
             CheckFault::NoMain(_) => 12,
+            CheckFault::ReturnForm(_) => 13,
             CheckFault::Limit(_) => 15,
             CheckFault::Reserved(_) => 16,
         }

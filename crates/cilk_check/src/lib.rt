@@ -9,6 +9,7 @@ mod names;
 mod reserved;
 #[cfg(test)]
 mod tests;
+mod visible;
 mod walk;
 
 pub use checked::{Checked, check};

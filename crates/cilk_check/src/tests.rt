@@ -2,7 +2,8 @@
 
 use crate::{CheckFault, check};
 use cilk_tree::{
-    BinOp, Block, Decl, Expr, ExprNode, Item, ItemNode, Place, Proc, Program, Stmt, StmtNode, Word,
+    Adjustment, BinOp, Block, Decl, Expr, ExprNode, Item, ItemNode, Place, Proc, Program,
+    ReturnType, Stmt, StmtNode, Word,
 };
 use std::alloc::Global;
 use std::process::Abort;
@@ -39,7 +40,7 @@ fn decl(alloc: Global, text: &str, at: u32, value: Option<Expr>) -> Result<Decl,
 
 fn returns(value: Expr) -> Stmt {
     Stmt {
-        node: StmtNode::Return(value),
+        node: StmtNode::Return(0, Some(value)),
     }
 }
 
@@ -54,6 +55,20 @@ fn assigns(alloc: Global, text: &str, at: u32, value: Expr) -> Result<Stmt, Fail
     })
 }
 
+fn adds(alloc: Global, text: &str, at: u32, value: Expr) -> Result<Stmt, Fail> {
+    let name = word(alloc, text, at)?;
+    Ok(Stmt {
+        node: StmtNode::Update(Place { name }, BinOp::Add, value),
+    })
+}
+
+fn counts(alloc: Global, text: &str, at: u32) -> Result<Stmt, Fail> {
+    let name = word(alloc, text, at)?;
+    Ok(Stmt {
+        node: StmtNode::Adjust(Place { name }, Adjustment::Increment),
+    })
+}
+
 fn procedure(
     alloc: Global,
     text: &str,
@@ -63,7 +78,9 @@ fn procedure(
 ) -> Result<Item, Fail> {
     Ok(Item {
         node: ItemNode::Procedure(Proc {
+            returns: ReturnType::Int,
             name: word(alloc, text, at)?,
+            parameters: Vec::new(alloc),
             body: Block { decls, stmts },
         }),
     })
@@ -156,6 +173,34 @@ fn names_of_another_kind(rt: HostRuntime) -> Result<(), Fail> {
 }
 
 #[test]
+fn names_that_are_changed(rt: HostRuntime) -> Result<(), Fail> {
+    let alloc = rt.alloc();
+    let decls = vec![in alloc; decl(alloc, "a", 26, None)?]?;
+    let stmts = vec![in alloc;
+        Stmt {
+            node: StmtNode::Null,
+        },
+        counts(alloc, "a", 31)?,
+        adds(alloc, "a", 36, name(alloc, "a", 41)?)?,
+    ]?;
+    assert!(rt; check(main_with(alloc, decls, stmts)?).is_ok());
+    let stmts = vec![in alloc; counts(alloc, "a", 22)?]?;
+    let program = main_with(alloc, vec![in alloc]?, stmts)?;
+    expect_fault(&rt, program, CheckFault::Unknown(22));
+    let stmts = vec![in alloc; counts(alloc, "main", 22)?]?;
+    let program = main_with(alloc, vec![in alloc]?, stmts)?;
+    expect_fault(&rt, program, CheckFault::WrongKind(22));
+    let stmts = vec![in alloc; adds(alloc, "b", 22, name(alloc, "c", 27)?)?]?;
+    let program = main_with(alloc, vec![in alloc]?, stmts)?;
+    expect_fault(&rt, program, CheckFault::Unknown(22));
+    let decls = vec![in alloc; decl(alloc, "b", 22, None)?]?;
+    let stmts = vec![in alloc; adds(alloc, "b", 25, name(alloc, "main", 30)?)?]?;
+    let program = main_with(alloc, decls, stmts)?;
+    expect_fault(&rt, program, CheckFault::WrongKind(30));
+    Ok(())
+}
+
+#[test]
 fn names_declared_twice(rt: HostRuntime) -> Result<(), Fail> {
     let alloc = rt.alloc();
     let decls = vec![in alloc; decl(alloc, "a", 26, None)?, decl(alloc, "a", 33, None)?]?;
@@ -244,6 +289,142 @@ fn the_words_of_faults(rt: HostRuntime) -> Result<(), Fail> {
         let text = format!(in alloc; "{fault}")?;
         assert_eq!(rt; text.as_str(), words);
         assert_eq!(rt; fault.place(), 7);
+    }
+    Ok(())
+}
+
+// A definition at 9 with these parameters, the first at 20 and each next one 10 further on, and
+// this `return` at 90.
+fn with_parameters(
+    alloc: Global,
+    returns: ReturnType,
+    text: &str,
+    parameters: &[&str],
+    value: Option<Expr>,
+) -> Result<Item, Fail> {
+    let mut words = Vec::new(alloc);
+    let mut at: u32 = 20;
+    for parameter in parameters {
+        words.push(word(alloc, parameter, at)?)?;
+        at = at.saturating_add(10);
+    }
+    let stmts = vec![in alloc;
+        Stmt {
+            node: StmtNode::Return(90, value)
+        },
+    ]?;
+    Ok(Item {
+        node: ItemNode::Procedure(Proc {
+            returns,
+            name: word(alloc, text, 9)?,
+            parameters: words,
+            body: Block {
+                decls: Vec::new(alloc),
+                stmts,
+            },
+        }),
+    })
+}
+
+// The program of this definition, and of a `main` behind it.
+fn before_main(alloc: Global, item: Item) -> Result<Program, Fail> {
+    let main = procedure(
+        alloc,
+        "main",
+        200,
+        vec![in alloc]?,
+        vec![in alloc; returns(number(0))]?,
+    )?;
+    Ok(Program {
+        items: vec![in alloc; item, main]?,
+        length: 100000,
+    })
+}
+
+#[test]
+fn parameters(rt: HostRuntime) -> Result<(), Fail> {
+    let alloc = rt.alloc();
+    let value = Some(name(alloc, "b", 97)?);
+    let item = with_parameters(alloc, ReturnType::Int, "f", &["a", "b"], value)?;
+    assert!(rt; check(before_main(alloc, item)?).is_ok());
+    let value = Some(name(alloc, "c", 97)?);
+    let item = with_parameters(alloc, ReturnType::Int, "f", &["a", "b"], value)?;
+    expect_fault(&rt, before_main(alloc, item)?, CheckFault::Unknown(97));
+    let item = with_parameters(
+        alloc,
+        ReturnType::Int,
+        "f",
+        &["a", "b", "a"],
+        Some(number(1)),
+    )?;
+    expect_fault(&rt, before_main(alloc, item)?, CheckFault::Twice(40));
+    let item = with_parameters(alloc, ReturnType::Int, "f", &["a", "char"], Some(number(1)))?;
+    expect_fault(&rt, before_main(alloc, item)?, CheckFault::Reserved(30));
+    Ok(())
+}
+
+// A parameter, and so many variables.
+fn with_variables(alloc: Global, count: u16) -> Result<Program, Fail> {
+    let decls = variables(alloc, count)?;
+    before_main(
+        alloc,
+        Item {
+            node: ItemNode::Procedure(Proc {
+                returns: ReturnType::Void,
+                name: word(alloc, "f", 9)?,
+                parameters: vec![in alloc; word(alloc, "a", 20)?]?,
+                body: Block {
+                    decls,
+                    stmts: Vec::new(alloc),
+                },
+            }),
+        },
+    )
+}
+
+#[test]
+fn a_parameter_takes_a_cell(rt: HostRuntime) -> Result<(), Fail> {
+    let alloc = rt.alloc();
+    assert!(rt; check(with_variables(alloc, 4095)?).is_ok());
+    expect_fault(
+        &rt,
+        with_variables(alloc, 4096)?,
+        CheckFault::Limit(1000 + 10 * 4095),
+    );
+    Ok(())
+}
+
+#[test]
+fn forms_of_return(rt: HostRuntime) -> Result<(), Fail> {
+    let alloc = rt.alloc();
+    for (returns, with_value, fault) in [
+        (ReturnType::Int, true, None),
+        (ReturnType::Void, false, None),
+        (ReturnType::Int, false, Some(CheckFault::ReturnForm(90))),
+        (ReturnType::Void, true, Some(CheckFault::ReturnForm(90))),
+    ] {
+        let value = if with_value { Some(number(1)) } else { None };
+        let item = with_parameters(alloc, returns, "f", &[], value)?;
+        assert_eq!(rt; check(before_main(alloc, item)?).err(), fault);
+    }
+    Ok(())
+}
+
+#[test]
+fn a_main_to_start_with(rt: HostRuntime) -> Result<(), Fail> {
+    let alloc = rt.alloc();
+    let none: &[&str] = &[];
+    for (returns, parameters) in [(ReturnType::Void, none), (ReturnType::Int, &["a"])] {
+        let value = match returns {
+            ReturnType::Int => Some(number(1)),
+            ReturnType::Void => None,
+        };
+        let item = with_parameters(alloc, returns, "main", parameters, value)?;
+        let program = Program {
+            items: vec![in alloc; item]?,
+            length: 100000,
+        };
+        expect_fault(&rt, program, CheckFault::NoMain(100000));
     }
     Ok(())
 }

@@ -3,16 +3,18 @@
 
 ghost use Rattle.std.specs.Prelude.{◌≡◌, ◌++◌, None};
 ghost use Rattle.cilk_tree.specs.Stmts.{stmts_of};
-ghost use Rattle.cilk_check.specs.Finds.{is_settled, first_among, use_faults, uses_faults, variable_faults, decls_faults, block_faults, definition_faults, item_faults, items_faults, main_faults, program_faults};
+ghost use Rattle.cilk_check.specs.Finds.{is_settled, first_among, use_faults, uses_faults, variable_faults, parameters_faults, decls_faults, returns_faults, body_faults, definition_faults, item_faults, items_faults, main_faults, program_faults};
+ghost use Rattle.cilk_check.specs.Returns.{stmt_returns, stmts_returns, has_form};
 ghost use Rattle.cilk_check.specs.Names.{expr_names, value_names, stmt_names, stmts_names};
 
 use crate::fault::CheckFault;
 use crate::first::{first, first_if};
-use crate::names::{declares, defines};
+use crate::names::{defines, starts};
 use crate::reserved::is_reserved;
-use cilk_tree::{Block, Decl, Expr, ExprNode, Item, ItemNode, Program, Stmt, StmtNode, Word};
-
-const MAX_CELLS: usize = 4096;
+use crate::visible::Visible;
+use cilk_tree::{
+    Decl, Expr, ExprNode, Item, ItemNode, Proc, Program, ReturnType, Stmt, StmtNode, Word,
+};
 
 /// The first fault of a program, if it has one.
 #[tactic(auto, using(crate::proofs::Firsts::firsts), unfolding(crate::specs::Finds::main_faults))]
@@ -22,7 +24,7 @@ pub(crate) fn first_fault(program: &Program) -> Option<CheckFault>
     let found = in_items(&program.items, None);
     first_if(
         found,
-        !defines(&program.items, "main"),
+        !starts(&program.items),
         CheckFault::NoMain(program.length),
     )
 }
@@ -50,7 +52,7 @@ fn in_item(
     match &item.node {
         ItemNode::Procedure(definition) => {
             let found = at_definition(before, &definition.name, found);
-            in_block(items, &definition.body, found)
+            in_body(items, definition, found)
         }
     }
 }
@@ -69,20 +71,44 @@ fn at_definition(before: &[Item], name: &Word, found: Option<CheckFault>) -> Opt
 }
 
 #[tactic(auto, using(crate::proofs::Firsts::firsts))]
-fn in_block(items: &[Item], block: &Block, found: Option<CheckFault>) -> Option<CheckFault>
-    ensures { result ≡ first_among found (block_faults items.now block.now) }
+fn in_body(items: &[Item], definition: &Proc, found: Option<CheckFault>) -> Option<CheckFault>
+    ensures { result ≡ first_among found (body_faults items.now definition.now) }
 {
-    let found = in_decls(items, &block.decls, found);
-    in_stmts(items, &block.decls, &block.stmts, found)
+    let parameters = definition.parameters.as_slice();
+    let block = &definition.body;
+    let found = in_parameters(parameters, found);
+    let found = in_decls(items, parameters, &block.decls, found);
+    let visible = Visible::new(parameters, &block.decls);
+    let found = in_stmts(items, &visible, &block.stmts, found);
+    in_returns(definition.returns, &block.stmts, found)
 }
 
 #[tactic(auto, using(crate::proofs::Steps::steps))]
-fn in_decls(items: &[Item], decls: &[Decl], found: Option<CheckFault>) -> Option<CheckFault>
-    ensures { result ≡ first_among found (decls_faults items.now decls.now) }
+fn in_parameters(parameters: &[Word], found: Option<CheckFault>) -> Option<CheckFault>
+    ensures { result ≡ first_among found (parameters_faults parameters.now) }
+{
+    let mut found = found;
+    for (i, parameter) in parameters.iter().enumerate() {
+        let before = Visible::new(&parameters[..i], &[]);
+        found = at_variable(&before, parameter, found);
+    }
+    found
+}
+
+#[tactic(auto, using(crate::proofs::Steps::steps))]
+fn in_decls(
+    items: &[Item],
+    parameters: &[Word],
+    decls: &[Decl],
+    found: Option<CheckFault>,
+) -> Option<CheckFault>
+    ensures { result ≡ first_among found (decls_faults items.now parameters.now decls.now) }
 {
     let mut found = found;
     for (i, decl) in decls.iter().enumerate() {
-        found = in_decl(items, &decls[..i], &decls[..i + 1], decl, found);
+        let before = Visible::new(parameters, &decls[..i]);
+        let visible = Visible::new(parameters, &decls[..i + 1]);
+        found = in_decl(items, &before, &visible, decl, found);
     }
     found
 }
@@ -90,8 +116,8 @@ fn in_decls(items: &[Item], decls: &[Decl], found: Option<CheckFault>) -> Option
 #[tactic(auto, using(crate::proofs::Firsts::firsts))]
 fn in_decl(
     items: &[Item],
-    before: &[Decl],
-    visible: &[Decl],
+    before: &Visible,
+    visible: &Visible,
     decl: &Decl,
     found: Option<CheckFault>,
 ) -> Option<CheckFault>
@@ -103,7 +129,7 @@ fn in_decl(
 }
 
 #[tactic(auto, using(crate::proofs::Firsts::firsts), unfolding(crate::specs::Finds::variable_faults))]
-fn at_variable(before: &[Decl], name: &Word, found: Option<CheckFault>) -> Option<CheckFault>
+fn at_variable(before: &Visible, name: &Word, found: Option<CheckFault>) -> Option<CheckFault>
     ensures { result ≡ first_among found (variable_faults before.now name.now) }
 {
     let at = name.at();
@@ -111,14 +137,14 @@ fn at_variable(before: &[Decl], name: &Word, found: Option<CheckFault>) -> Optio
         return found;
     }
     let text = name.as_str();
-    let found = first_if(found, declares(before, text), CheckFault::Twice(at));
-    let found = first_if(found, before.len() == MAX_CELLS, CheckFault::Limit(at));
+    let found = first_if(found, before.declares(text), CheckFault::Twice(at));
+    let found = first_if(found, before.is_full(), CheckFault::Limit(at));
     first_if(found, is_reserved(text), CheckFault::Reserved(at))
 }
 
 fn in_value(
     items: &[Item],
-    visible: &[Decl],
+    visible: &Visible,
     value: &Option<Expr>,
     found: Option<CheckFault>,
 ) -> Option<CheckFault>
@@ -133,7 +159,7 @@ fn in_value(
 #[tactic(auto, using(crate::proofs::Steps::steps))]
 fn in_stmts(
     items: &[Item],
-    visible: &[Decl],
+    visible: &Visible,
     stmts: &[Stmt],
     found: Option<CheckFault>,
 ) -> Option<CheckFault>
@@ -149,25 +175,64 @@ fn in_stmts(
 #[tactic(auto, using(crate::proofs::Firsts::firsts))]
 fn in_stmt(
     items: &[Item],
-    visible: &[Decl],
+    visible: &Visible,
     stmt: &Stmt,
     found: Option<CheckFault>,
 ) -> Option<CheckFault>
     ensures { result ≡ first_among found (uses_faults items.now visible.now (stmt_names stmt.now)) }
 {
     match &stmt.node {
-        StmtNode::Assign(place, value) => {
+        StmtNode::Assign(place, value) | StmtNode::Update(place, _, value) => {
             let found = at_use(items, visible, &place.name, found);
             in_expr(items, visible, value, found)
         }
-        StmtNode::Return(value) => in_expr(items, visible, value, found),
+        StmtNode::Return(_, value) => in_value(items, visible, value, found),
+        StmtNode::Null => found,
+        StmtNode::Adjust(place, _) => at_use(items, visible, &place.name, found),
+    }
+}
+
+// The forms of `return`.
+#[tactic(auto, using(crate::proofs::Steps::steps))]
+fn in_returns(returns: ReturnType, stmts: &[Stmt], found: Option<CheckFault>) -> Option<CheckFault>
+    ensures { result ≡ first_among found (returns_faults returns (stmts_returns (stmts_of stmts.now))) }
+{
+    let mut found = found;
+    for stmt in stmts {
+        found = at_return(returns, stmt, found);
+    }
+    found
+}
+
+fn at_return(returns: ReturnType, stmt: &Stmt, found: Option<CheckFault>) -> Option<CheckFault>
+    ensures { result ≡ first_among found (returns_faults returns (stmt_returns stmt.now)) }
+{
+    match &stmt.node {
+        StmtNode::Return(at, value) => first_if(
+            found,
+            !has_form(returns, value),
+            CheckFault::ReturnForm(*at),
+        ),
+        StmtNode::Assign(_, _)
+        | StmtNode::Null
+        | StmtNode::Update(_, _, _)
+        | StmtNode::Adjust(_, _) => found,
+    }
+}
+
+fn has_form(returns: ReturnType, value: &Option<Expr>) -> bool
+    ensures { result ≡ has_form returns value.now }
+{
+    match returns {
+        ReturnType::Int => value.is_some(),
+        ReturnType::Void => value.is_none(),
     }
 }
 
 #[tactic(auto, using(crate::proofs::Firsts::firsts))]
 fn in_expr(
     items: &[Item],
-    visible: &[Decl],
+    visible: &Visible,
     expr: &Expr,
     found: Option<CheckFault>,
 ) -> Option<CheckFault>
@@ -180,13 +245,19 @@ fn in_expr(
             let found = in_expr(items, visible, left, found);
             in_expr(items, visible, right, found)
         }
+        ExprNode::Unary(_, operand) => in_expr(items, visible, operand, found),
+        ExprNode::Choose(test, first, second) => {
+            let found = in_expr(items, visible, test, found);
+            let found = in_expr(items, visible, first, found);
+            in_expr(items, visible, second, found)
+        }
     }
 }
 
 #[tactic(auto, using(crate::proofs::Firsts::firsts), unfolding(crate::specs::Finds::use_faults))]
 fn at_use(
     items: &[Item],
-    visible: &[Decl],
+    visible: &Visible,
     name: &Word,
     found: Option<CheckFault>,
 ) -> Option<CheckFault>
@@ -198,7 +269,7 @@ fn at_use(
         found
     } else if is_reserved(text) {
         first(found, CheckFault::Reserved(at))
-    } else if declares(visible, text) {
+    } else if visible.declares(text) {
         found
     } else if defines(items, text) {
         first(found, CheckFault::WrongKind(at))

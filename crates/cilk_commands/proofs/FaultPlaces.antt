@@ -1,14 +1,16 @@
 -- A fault of a program that a text spells is in the text.
-use Rattle.std.proofs.Common.{◌≡◌, ℕ, ◌≤◌, List, [], ◌∷◌, ◌++◌, length, arith, subst}
+use Rattle.std.proofs.Common.{◌≡◌, ℕ, ◌≤◌, List, [], ◌∷◌, ◌++◌, length, map, arith, subst}
 use Rattle.std.specs.List.{AllByRecursion, Contains}
 use Rattle.std.proofs.lemmas.List.Elements.{All-from_recursion, All-contains}
 use Rattle.cilk_tree.specs.Tree.{Word, Decl, Item, Proc, procedure, Program}
 use Rattle.cilk_parse.specs.Grammar.{SpellsProgram}
-use Rattle.cilk_check.specs.Names.{value_names, decls_of, stmts_of, stmts_names, declared, defined, item_name}
+use Rattle.cilk_check.specs.Names.{value_names, decls_of, stmts_of, stmts_names, own_decls, declared, defined, item_name}
+use Rattle.cilk_tree.specs.Parameters.{parameter_decl}
+use Rattle.cilk_check.specs.Returns.{stmts_returns}
 use Rattle.cilk_check.specs.Scope.{Defines, Scope, top_level, outermost, Use, in_initialiser, in_statement}
 use Rattle.cilk_check.specs.declared.fault.CheckFault.{CheckFault}
-use Rattle.cilk_check.specs.Fault.{Faulty, IsFirstFault, place_of, twice, unknown, wrong_kind, no_main, limit, reserved_declared, reserved_used}
-use Rattle.cilk_commands.proofs.NamePlaces.{all_parts, WordBegins, WordsBegin, DeclBegins, DeclsBegin, ItemBegins, ItemsBegin, program_begins}
+use Rattle.cilk_check.specs.Fault.{Faulty, IsFirstFault, place_of, twice, unknown, wrong_kind, no_main, limit, return_form, reserved_declared, reserved_used}
+use Rattle.cilk_commands.proofs.NamePlaces.{all_parts, all_append, ReturnBegins, WordBegins, WordsBegin, DeclBegins, DeclsBegin, ItemBegins, ItemsBegin, program_begins}
 
 of_contained : {A : Type 0} (P : A → Type 0) (xs : List A) (x : A) → AllByRecursion P xs → Contains xs x → P x
 of_contained P xs x h c = All-contains P xs x (All-from_recursion P xs h) c
@@ -21,6 +23,13 @@ module _ (n : ℕ) where
   declared_begin : (ds : List Decl) → DeclsBegin n ds → WordsBegin n (declared ds)
   declared_begin [] h = tt
   declared_begin (d ∷ ds) h = (h.0.0, declared_begin ds h.1)
+
+  parameters_begin : (ws : List Word) → WordsBegin n ws → DeclsBegin n (map parameter_decl ws)
+  parameters_begin [] h = tt
+  parameters_begin (w ∷ ws) h = ((h.0, tt), parameters_begin ws h.1)
+
+  own_begin : (f : Proc) → ItemBegins n (procedure f) → DeclsBegin n (own_decls f)
+  own_begin f h = all_append (DeclBegins n) (map parameter_decl f.parameters) (decls_of f.body) (parameters_begin f.parameters h.1) h.2.0
 
   name_begins : (i : Item) → ItemBegins n i → WordBegins n (item_name i)
   name_begins (procedure f) h = h.0
@@ -35,17 +44,17 @@ module _ (n : ℕ) where
 
     scope_begins : {words : List Word} → Scope p words → WordsBegin n words
     scope_begins top_level = defined_begin p.items items
-    scope_begins (outermost f is_defined) = declared_begin (decls_of f.body) (procedure_begins f is_defined).1.0
+    scope_begins (outermost f is_defined) = declared_begin (own_decls f) (own_begin f (procedure_begins f is_defined))
 
-    decl_begins : (f : Proc) (before after : List Decl) (d : Decl) → Defines p f → decls_of f.body ≡ before ++ d ∷ after → DeclBegins n d
+    decl_begins : (f : Proc) (before after : List Decl) (d : Decl) → Defines p f → own_decls f ≡ before ++ d ∷ after → DeclBegins n d
     decl_begins f before after d is_defined order =
-        of_between (DeclBegins n) (decls_of f.body) before after d order (procedure_begins f is_defined).1.0
+        of_between (DeclBegins n) (own_decls f) before after d order (own_begin f (procedure_begins f is_defined))
 
     use_begins : {visible : List Word} {name : Word} → Use p visible name → name.place ≤ n
     use_begins (in_initialiser f before after d name is_defined order there) =
         of_contained (WordBegins n) (value_names d.value) name (decl_begins f before after d is_defined order).1 there
     use_begins (in_statement f name is_defined there) =
-        of_contained (WordBegins n) (stmts_names (stmts_of f.body)) name (procedure_begins f is_defined).1.1 there
+        of_contained (WordBegins n) (stmts_names (stmts_of f.body)) name (procedure_begins f is_defined).2.1 there
 
     faulty_within : p.length ≤ n → {f : CheckFault} → Faulty p f → place_of f ≤ n
     faulty_within le (twice before after name scope among) = (all_parts (WordBegins n) before (name ∷ after) (scope_begins scope)).1.0
@@ -53,6 +62,8 @@ module _ (n : ℕ) where
     faulty_within le (wrong_kind visible name used free hidden is_defined) = use_begins used
     faulty_within le (no_main none) = le
     faulty_within le (limit f before after d is_defined order fits past) = (decl_begins f before after d is_defined order).0
+    faulty_within le (return_form f r is_defined there wrong) =
+        of_contained (ReturnBegins n) (stmts_returns (stmts_of f.body)) r (procedure_begins f is_defined).2.2 there
     faulty_within le (reserved_declared words name scope there reserved) =
         of_contained (WordBegins n) words name (scope_begins scope) there
     faulty_within le (reserved_used visible name used reserved) = use_begins used

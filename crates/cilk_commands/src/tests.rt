@@ -113,6 +113,14 @@ fn counts_actions(rt: HostRuntime) -> Result<(), Fail> {
     for (text, line) in [
         (SAMPLE, "ok, 4 actions\n"),
         ("cilk int main(void) {}", "ok, 1 actions\n"),
+        (
+            "cilk int main(void) { int x; ; x += 1; ++x; }",
+            "ok, 4 actions\n",
+        ),
+        (
+            "cilk void f(int a) { a = 1; return; } cilk int main() { return 0; }",
+            "ok, 5 actions\n",
+        ),
         (full.as_str(), "ok, 65535 actions\n"),
     ] {
         let got = check(rt.alloc(), text.as_bytes());
@@ -143,6 +151,24 @@ fn runs_a_program(rt: HostRuntime) {
             9,
             0,
             "main returned 0\n",
+        ),
+        (
+            "cilk int main(void) { int a = 1; a += 2; a <<= a; ; --a; return a; }",
+            9,
+            0,
+            "main returned 23\n",
+        ),
+        (
+            "cilk int main(void) { int a = 2147483647; a++; }",
+            9,
+            3,
+            "trapped Overflow in / at 2, line 3\n",
+        ),
+        (
+            "cilk int main(void) { int a; ; a %= a; }",
+            9,
+            3,
+            "trapped ZeroDivide in / at 2, line 4\n",
         ),
         (
             "cilk int main(void) { return 2147483647 + 1; }",
@@ -176,10 +202,34 @@ fn tells_a_fault_and_its_place(rt: HostRuntime) -> Result<(), Fail> {
         ("", "-:1:1: C12 NoMain\n"),
         ("\n ", "-:2:2: C12 NoMain\n"),
         ("cilk int main(void) { return x; }", "-:1:30: C2 Unknown\n"),
+        ("cilk int main(void) { ++x; }", "-:1:25: C2 Unknown\n"),
+        (
+            "cilk int main(void) { int a; a += b; }",
+            "-:1:35: C2 Unknown\n",
+        ),
+        ("cilk int main(void) { main--; }", "-:1:23: C3 WrongKind\n"),
         (
             "cilk int main(void) { int a;\n int a; return b; }",
             "-:2:6: C1 Twice\n",
         ),
+        (
+            "cilk int f(void) { return; } cilk int main(void) { return 0; }",
+            "-:1:20: C13 ReturnForm\n",
+        ),
+        (
+            "cilk void f(int a) { return a; } cilk int main(void) { return 0; }",
+            "-:1:22: C13 ReturnForm\n",
+        ),
+        (
+            "cilk int f(int a) { int a; return a; } cilk int main(void) { return 0; }",
+            "-:1:25: C1 Twice\n",
+        ),
+        (
+            "cilk int f(void) { return f; } cilk int main(void) { return 0; }",
+            "-:1:27: C3 WrongKind\n",
+        ),
+        ("cilk void main(void) { }", "-:1:25: C12 NoMain\n"),
+        ("cilk int main(int a) { return a; }", "-:1:35: C12 NoMain\n"),
         (
             "cilk int main(void) { return x; ",
             "-:1:33: P2 Unexpected\n",

@@ -1,18 +1,22 @@
 -- What is read is spelled so.
-use Rattle.std.proofs.Common.{◌≡◌, ℕ, zero, suc, ◌+◌, ◌<◌, ◌≤◌, List, [], ◌∷◌, ◌++◌, length, Option, Some, None, Ok, refl, sym, ap, subst, ◌∙◌, append_assoc, inl, inr, arith, leb, ltb, length-append}
+use Rattle.std.proofs.Common.{◌≡◌, ℕ, zero, suc, ◌+◌, ◌<◌, ◌≤◌, List, [], ◌∷◌, ◌++◌, length, Bool, true, false, Option, Some, None, Ok, refl, sym, ap, subst, ◌∙◌, append_assoc, inl, inr, arith, leb, ltb, length-append}
 use Rattle.std.proofs.lemmas.List.{append-nil}
 use Rattle.std.proofs.lemmas.Bool.{leb-true, leb-false, ltb-true}
 use Rattle.cilk_lex.specs.Lexeme.{Piece}
+use Rattle.cilk_lex.specs.declared.mark.Mark.{Mark}
 use Rattle.cilk_lex.specs.declared.mark.Mark.TheVariants as marks
 use Rattle.cilk_lex.specs.declared.token.Kind.{Kind}
 use Rattle.cilk_lex.specs.declared.token.Kind.TheVariants as kind
 use Rattle.cilk_tree.specs.declared.operator.BinOp.{BinOp}
+use Rattle.cilk_tree.specs.declared.un_op.UnOp.{UnOp}
 use Rattle.cilk_tree.specs.Tree as tree
 use Rattle.cilk_tree.specs.Operators.{operators}
-use Rattle.cilk_expr.specs.Grammar.{level, operand, Spells, a_number, a_name, in_parentheses, of_two}
-use Rattle.cilk_expr.specs.Front.{◌>>=◌, kind_at, behind, operator_at, mark_at, name_at}
-use Rattle.cilk_expr.specs.Reading.{Read, operand_by, on_after, expr_in, more_in}
-use Rattle.cilk_expr.proofs.Tools.{bind_ok, ok_is, chosen, mark_is, name_is, number_next, mark_next, operator_next, Stops, Below, BelowAt, below_at, below_all, looser}
+use Rattle.cilk_expr.specs.declared.operator.Infix.{Infix}
+use Rattle.cilk_expr.specs.declared.operator.Infix.TheVariants.{Two, Choice}
+use Rattle.cilk_expr.specs.Grammar.{level, operand, Spells, a_number, a_name, unary_of, in_parentheses, of_one, of_two, of_three}
+use Rattle.cilk_expr.specs.Front.{◌>>=◌, tightness, kind_at, behind, operator_at, is_mark, mark_at, name_at}
+use Rattle.cilk_expr.specs.Reading.{Read, in_open, at_mark, operand_by, behind_question, behind_infix, on_after, expr_in, more_in}
+use Rattle.cilk_expr.proofs.Tools.{bind_ok, ok_is, chosen, mark_is, mark_test, name_is, number_next, mark_next, operator_next, question_next, level_low, Stops, Below, BelowAt, below_at, below_all, looser}
 
 abbrev pub State : Type 0
 State = (tree.Expr × ℕ) × List Piece
@@ -45,8 +49,8 @@ pub record TookAll (l d p n : ℕ) (ts : List Piece) (x : State) : Type 0 where
   pub counted : x.0.1 ≡ n + operators x.0.0
   pub within : n ≤ l → x.0.1 ≤ l
 
-abbrev pub TakesInner : ℕ → (ℕ → ℕ → List Piece → Read) → Type 0
-TakesInner l inner = (d n : ℕ) (ts : List Piece) (x : State) → inner d n ts ≡ Ok x → TookAll l d 0 n ts x
+abbrev pub TakesInner : ℕ → (ℕ → ℕ → ℕ → List Piece → Read) → Type 0
+TakesInner l inner = (d p n : ℕ) (ts : List Piece) (x : State) → inner d p n ts ≡ Ok x → TookAll l d p n ts x
 
 -- one token
 one_operand : (l d n : ℕ) (ts us : List Piece) (e : tree.Expr) (t : Piece) (x : State) → ts ≡ t ∷ us → operators e ≡ 0 → ((p : ℕ) → Spells d p (t ∷ []) e) → ((e, n), us) ≡ x → TookOperand l d n ts x
@@ -54,21 +58,31 @@ one_operand l d n ts us e t x w z s h =
     subst (λ (y : State). TookOperand l d n ts y) h
     (record { used = t ∷ []; whole = w; some = omega arith; spelled = s; counted = omega (arith, z); within = λ le. le })
 
-pub operand_takes : (inner : ℕ → ℕ → List Piece → Read) (l d n : ℕ) (ts : List Piece) (x : State) (k : Option Kind) → TakesInner l inner → kind_at ts ≡ k → operand_by inner d n ts k ≡ Ok x → TookOperand l d n ts x
-operand_takes inner l d n ts x (Some (kind.Number m)) ti h e =
-    let k = number_next ts m h in
-    one_operand l d n ts (behind ts) (tree.number m) k.piece x k.whole refl (λ p. a_number k.piece m k.is refl) (ok_is ((tree.number m, n), behind ts) x e)
-operand_takes inner l d n ts x (Some kind.Name) ti h e =
-    let a = bind_ok (name_at ts) _ x e in
-    let k = name_is ts a.0 a.1 in
-    one_operand l d n ts a.0.1 (tree.named a.0.0) k.piece x k.whole refl
-    (λ p. subst (λ (w : tree.Word). Spells d p (k.piece ∷ []) (tree.named w)) k.spelled (a_name k.piece k.text k.is refl)) (ok_is ((tree.named a.0.0, n), a.0.1) x a.2)
-operand_takes inner l zero n ts x (Some (kind.Mark marks.OpenParenthesis)) ti h e = absurd cc
-operand_takes inner l (suc d) n ts x (Some (kind.Mark marks.OpenParenthesis)) ti h e =
-    let o = mark_next ts marks.OpenParenthesis h in
-    let a = bind_ok (inner d n (behind ts)) _ x e in
+-- an operator, and its operand
+sign_takes : (inner : ℕ → ℕ → ℕ → List Piece → Read) (l d n : ℕ) (ts : List Piece) (x : State) (m : Mark) (o : UnOp) → TakesInner l inner → kind_at ts ≡ Some (kind.Mark m) → unary_of m ≡ Some o → n < l
+    → (inner d operand (suc n) (behind ts) >>= λ e. Ok ((tree.unary o e.0.0, e.0.1), e.1)) ≡ Ok x → TookOperand l d n ts x
+sign_takes inner l d n ts x m o ti h u lt e =
+    let k = mark_next ts m h in
+    let a = bind_ok (inner d operand (suc n) (behind ts)) _ x e in
+    let t = ti d operand (suc n) (behind ts) a.0 a.1 in
+    subst (λ (y : State). TookOperand l d n ts y) (ok_is ((tree.unary o a.0.0.0, a.0.0.1), a.0.1) x a.2)
+    (record {
+      used = k.piece ∷ t.used;
+      whole = k.whole ∙ ap (λ (v : List Piece). k.piece ∷ v) t.whole;
+      some = omega arith;
+      spelled = λ p. of_one k.piece m o k.is u t.spelled refl;
+      counted = omega (arith, t.counted);
+      within = λ le. t.within lt;
+    })
+
+-- an expression in parentheses
+open_takes : (inner : ℕ → ℕ → ℕ → List Piece → Read) (l d n : ℕ) (ts : List Piece) (x : State) → TakesInner l inner → is_mark marks.OpenParenthesis (kind_at ts) ≡ true → in_open inner d n ts ≡ Ok x → TookOperand l d n ts x
+open_takes inner l zero n ts x ti h e = absurd cc
+open_takes inner l (suc d) n ts x ti h e =
+    let o = mark_test marks.OpenParenthesis ts h in
+    let a = bind_ok (inner d 0 n (behind ts)) _ x e in
     let b = bind_ok (mark_at marks.CloseParenthesis a.0.1) _ x a.2 in
-    let t = ti d n (behind ts) a.0 a.1 in
+    let t = ti d 0 n (behind ts) a.0 a.1 in
     let c = mark_is marks.CloseParenthesis a.0.1 b.0 b.1 in
     subst (λ (y : State). TookOperand l (suc d) n ts y) (ok_is (a.0.0, b.0) x b.2)
     (record {
@@ -79,9 +93,30 @@ operand_takes inner l (suc d) n ts x (Some (kind.Mark marks.OpenParenthesis)) ti
       counted = t.counted;
       within = t.within;
     })
+
+mark_takes : (inner : ℕ → ℕ → ℕ → List Piece → Read) (l d n : ℕ) (ts : List Piece) (x : State) (m : Mark) (w : Option UnOp) (b : Bool) → TakesInner l inner → kind_at ts ≡ Some (kind.Mark m) → unary_of m ≡ w
+    → is_mark marks.OpenParenthesis (Some (kind.Mark m)) ≡ b → at_mark inner l d n ts w b ≡ Ok x → TookOperand l d n ts x
+mark_takes inner l d n ts x m (Some o) b ti h u i e =
+    elim (chosen (ltb n l) _ _ _ e) [
+      | inl k ↦ sign_takes inner l d n ts x m o ti h u (ltb-true _ _ k.0) k.1
+      | inr k ↦ absurd cc
+    ]
+mark_takes inner l d n ts x m None true ti h u i e = open_takes inner l d n ts x ti (ap (is_mark marks.OpenParenthesis) h ∙ i) e
+mark_takes inner l d n ts x m None false ti h u i e = absurd cc
+
+pub operand_takes : (inner : ℕ → ℕ → ℕ → List Piece → Read) (l d n : ℕ) (ts : List Piece) (x : State) (k : Option Kind) → TakesInner l inner → kind_at ts ≡ k → operand_by inner l d n ts k ≡ Ok x → TookOperand l d n ts x
+operand_takes inner l d n ts x (Some (kind.Number m)) ti h e =
+    let k = number_next ts m h in
+    one_operand l d n ts (behind ts) (tree.number m) k.piece x k.whole refl (λ p. a_number k.piece m k.is refl) (ok_is ((tree.number m, n), behind ts) x e)
+operand_takes inner l d n ts x (Some kind.Name) ti h e =
+    let a = bind_ok (name_at ts) _ x e in
+    let k = name_is ts a.0 a.1 in
+    one_operand l d n ts a.0.1 (tree.named a.0.0) k.piece x k.whole refl
+    (λ p. subst (λ (w : tree.Word). Spells d p (k.piece ∷ []) (tree.named w)) k.spelled (a_name k.piece k.text k.is refl)) (ok_is ((tree.named a.0.0, n), a.0.1) x a.2)
+operand_takes inner l d n ts x (Some (kind.Mark m)) ti h e =
+    mark_takes inner l d n ts x m (unary_of m) (is_mark marks.OpenParenthesis (Some (kind.Mark m))) ti h refl refl e
 operand_takes inner l d n ts x None ti h e = absurd cc
 operand_takes inner l d n ts x (Some (kind.Word w)) ti h e = absurd cc
-operand_takes inner l d n ts x (Some (kind.Mark m)) ti h e = absurd cc
 
 -- where nothing more is taken
 stays : (l d p q n : ℕ) (us ts : List Piece) (a : tree.Expr) (x : State) → p ≤ q → Spells d q us a → Stops p ts → ((a, n), ts) ≡ x → Took l d p n (operators a) us ts x
@@ -96,14 +131,14 @@ TakesMore more l d p = (q n : ℕ) (vs : List Piece) (c : tree.Expr) (ws : List 
 
 -- an operator, its second operand, and what follows
 operator_takes : (expr : ℕ → ℕ → List Piece → Read) (more : ℕ → tree.Expr → List Piece → Read) (l d p q n : ℕ) (us : List Piece) (a : tree.Expr) (ts : List Piece) (x : State) (o : BinOp)
-    → TakesExpr expr l d → TakesMore more l d p → operator_at ts ≡ Some o → p ≤ level o → Spells d q us a → level o ≤ q → n < l
+    → TakesExpr expr l d → TakesMore more l d p → operator_at ts ≡ Some (Two o) → p ≤ level o → Spells d q us a → level o ≤ q → n < l
     → (expr (suc (level o)) (suc n) (behind ts) >>= λ b. more b.0.1 (tree.binary o a b.0.0) b.1) ≡ Ok x → Took l d p n (operators a) us ts x
 operator_takes expr more l d p q n us a ts x o te tm at ge s b lt e =
     let k = operator_next ts o at in
     let y = bind_ok (expr (suc (level o)) (suc n) (behind ts)) _ x e in
     let t = te (suc (level o)) (suc n) (behind ts) y.0 y.1 in
     let m = tm (level o) y.0.0.1 (us ++ k.piece ∷ t.used) (tree.binary o a y.0.0.0) y.0.1 x ge
-    (of_two k.piece k.sign o k.is k.means (omega arith) (looser b s) t.spelled refl) (below_at (level o) (operator_at y.0.1) t.stops) y.2 in
+    (of_two k.piece k.sign o k.is k.means (omega arith) (looser b s) t.spelled refl) (below_at (level o) (operator_at y.0.1) (level_low o) t.stops) y.2 in
     record {
       used = k.piece ∷ (t.used ++ m.used);
       whole = k.whole ∙ ap (λ (v : List Piece). k.piece ∷ v) (t.whole ∙ ap (λ (v : List Piece). t.used ++ v) m.whole ∙ sym (append_assoc t.used m.used x.1));
@@ -113,14 +148,42 @@ operator_takes expr more l d p q n us a ts x o te tm at ge s b lt e =
       within = λ le. m.within (t.within lt);
     }
 
+-- `?`, what stands before the colon, and what stands behind it
+choice_takes : (expr : ℕ → ℕ → List Piece → Read) (l d p q n : ℕ) (us : List Piece) (a : tree.Expr) (ts : List Piece) (x : State) → TakesExpr expr l d → operator_at ts ≡ Some Choice → p ≤ 0 → Spells d q us a → 0 < q → n < l
+    → behind_question expr (suc n) a (behind ts) ≡ Ok x → Took l d p n (operators a) us ts x
+choice_takes expr l d p q n us a ts x te at ge s some lt e =
+    let k = question_next ts at in
+    let y = bind_ok (expr 0 (suc n) (behind ts)) _ x e in
+    let v = bind_ok (mark_at marks.Colon y.0.1) _ x y.2 in
+    let z = bind_ok (expr 0 y.0.0.1 v.0) _ x v.2 in
+    let first = te 0 (suc n) (behind ts) y.0 y.1 in
+    let c = mark_is marks.Colon y.0.1 v.0 v.1 in
+    let second = te 0 y.0.0.1 v.0 z.0 z.1 in
+    let lowest : p ≡ 0 = omega (arith, ge) in
+    subst (λ (r : State). Took l d p n (operators a) us ts r) (ok_is ((tree.choose a y.0.0.0 z.0.0.0, z.0.0.1), z.0.1) x z.2)
+    (record {
+      used = k.piece ∷ (first.used ++ c.piece ∷ second.used);
+      whole = k.whole ∙ ap (λ (r : List Piece). k.piece ∷ r)
+          (first.whole ∙ ap (λ (r : List Piece). first.used ++ r) (c.whole ∙ ap (λ (r : List Piece). c.piece ∷ r) second.whole) ∙ sym (append_assoc first.used (c.piece ∷ second.used) z.0.1));
+      spelled = of_three k.piece c.piece k.is c.is lowest (looser some s) first.spelled second.spelled refl;
+      stops = subst (λ (i : ℕ). Stops i z.0.1) (sym lowest) second.stops;
+      counted = omega (arith, first.counted, second.counted);
+      within = λ le. second.within (first.within lt);
+    })
+
+infix_takes : (expr : ℕ → ℕ → List Piece → Read) (more : ℕ → tree.Expr → List Piece → Read) (l d p q n : ℕ) (us : List Piece) (a : tree.Expr) (ts : List Piece) (x : State) (w : Infix)
+    → TakesExpr expr l d → TakesMore more l d p → operator_at ts ≡ Some w → p ≤ tightness w → Spells d q us a → BelowAt q (Some w) → n < l → behind_infix expr more (suc n) a (behind ts) w ≡ Ok x → Took l d p n (operators a) us ts x
+infix_takes expr more l d p q n us a ts x (Two o) te tm at ge s b lt e = operator_takes expr more l d p q n us a ts x o te tm at ge s b.0 lt e
+infix_takes expr more l d p q n us a ts x Choice te tm at ge s b lt e = choice_takes expr l d p q n us a ts x te at ge s b.1 lt e
+
 -- a front that goes on
-on_takes : (expr : ℕ → ℕ → List Piece → Read) (more : ℕ → tree.Expr → List Piece → Read) (l d p q n : ℕ) (us : List Piece) (a : tree.Expr) (ts : List Piece) (x : State) (w : Option BinOp)
+on_takes : (expr : ℕ → ℕ → List Piece → Read) (more : ℕ → tree.Expr → List Piece → Read) (l d p q n : ℕ) (us : List Piece) (a : tree.Expr) (ts : List Piece) (x : State) (w : Option Infix)
     → TakesExpr expr l d → TakesMore more l d p → operator_at ts ≡ w → p ≤ q → Spells d q us a → BelowAt q w → on_after expr more l p n a ts w ≡ Ok x → Took l d p n (operators a) us ts x
-on_takes expr more l d p q n us a ts x (Some o) te tm at le s b e =
-    elim (chosen (leb p (level o)) _ _ _ e) [
+on_takes expr more l d p q n us a ts x (Some w) te tm at le s b e =
+    elim (chosen (leb p (tightness w)) _ _ _ e) [
       | inl h ↦
           elim (chosen (ltb n l) _ _ _ h.1) [
-            | inl k ↦ operator_takes expr more l d p q n us a ts x o te tm at (leb-true _ _ h.0) s b (ltb-true _ _ k.0) k.1
+            | inl k ↦ infix_takes expr more l d p q n us a ts x w te tm at (leb-true _ _ h.0) s b (ltb-true _ _ k.0) k.1
             | inr k ↦ absurd cc
           ]
       | inr h ↦ stays l d p q n us ts a x le s (rw at (leb-false _ _ h.0)) (ok_is ((a, n), ts) x h.1)
@@ -134,8 +197,8 @@ mutual
   pub expr_takes : (f l d p n : ℕ) (ts : List Piece) (x : State) → expr_in f l d p n ts ≡ Ok x → TookAll l d p n ts x
   expr_takes zero l d p n ts x e = absurd cc
   expr_takes (suc f) l d p n ts x e =
-      let a = bind_ok (operand_by (λ c m us. expr_in f l c 0 m us) d n ts (kind_at ts)) _ x e in
-      let t = operand_takes (λ c m us. expr_in f l c 0 m us) l d n ts a.0 (kind_at ts) (λ c m us y. expr_takes f l c 0 m us y) refl a.1 in
+      let a = bind_ok (operand_by (λ c q m us. expr_in f l c q m us) l d n ts (kind_at ts)) _ x e in
+      let t = operand_takes (λ c q m us. expr_in f l c q m us) l d n ts a.0 (kind_at ts) (λ c q m us y. expr_takes f l c q m us y) refl a.1 in
       let m = more_takes f l d p (p + operand) a.0.0.1 t.used a.0.0.0 a.0.1 x (omega arith) (t.spelled (p + operand)) (below_all (p + operand) (operator_at a.0.1) (omega arith)) a.2 in
       record {
         used = t.used ++ m.used;

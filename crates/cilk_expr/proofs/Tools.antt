@@ -1,5 +1,5 @@
 -- Steps that did not fail, and what stands at the front of the tokens.
-use Rattle.std.proofs.Common.{◌≡◌, ℕ, zero, suc, ◌<◌, ◌≤◌, ◌==◌, Bool, true, false, cond, List, [], ◌∷◌, get_or, Option, Some, None, Result, Ok, Err, refl, sym, ap, ◌∙◌, ◌⊎◌, inl, inr, arith, eq-eqb}
+use Rattle.std.proofs.Common.{◌≡◌, ℕ, zero, suc, ◌<◌, ◌≤◌, ◌==◌, Bool, true, false, cond, List, [], ◌∷◌, length, get_or, Option, Some, None, Result, Ok, Err, refl, sym, ap, ◌∙◌, ◌⊎◌, inl, inr, arith, eq-eqb}
 use Rattle.std.proofs.lemmas.Bool.{eqb-true}
 use denote.Enum.Bare.{sameb, same_true, same_false}
 use Rattle.cilk_lex.specs.contracts.mark.Mark.{the_type}
@@ -14,8 +14,10 @@ use Rattle.cilk_tree.specs.declared.operator.BinOp.{BinOp}
 use Rattle.cilk_tree.specs.declared.operator.BinOp.TheVariants as ops
 use Rattle.cilk_tree.specs.Tree as tree
 use Rattle.cilk_expr.specs.declared.fault.Fault.{Fault}
-use Rattle.cilk_expr.specs.Grammar.{level, operand, operator_of, word_at, Spells, a_number, a_name, in_parentheses, of_two}
-use Rattle.cilk_expr.specs.Front.{◌>>=◌, kind_of, kind_at, behind, after_kind, operator_at, mark_number, keyword_number, is_mark, is_keyword, wanted, mark_at, keyword_at, name_by, name_at}
+use Rattle.cilk_expr.specs.declared.operator.Infix.{Infix}
+use Rattle.cilk_expr.specs.declared.operator.Infix.TheVariants.{Two, Choice}
+use Rattle.cilk_expr.specs.Grammar.{level, operand, operator_of, word_at, Spells, a_number, a_name, in_parentheses, of_one, of_two, of_three}
+use Rattle.cilk_expr.specs.Front.{◌>>=◌, tightness, infix_by, kind_of, kind_at, behind, after_kind, operator_at, mark_number, keyword_number, is_mark, is_keyword, wanted, mark_at, keyword_at, name_by, name_at}
 
 -- ---- steps
 
@@ -241,9 +243,21 @@ pub number_next : (ts : List Piece) (n : ℕ) → kind_at ts ≡ Some (kind.Numb
 number_next [] n e = absurd cc
 number_next (t ∷ ts) n e = let h : kind_of t.lexeme ≡ kind.Number n = cc in record { piece = t; is = number_lexeme t.lexeme n h; whole = refl }
 
+pub mark_kind_at : (t : Piece) (us : List Piece) (m : Mark) → t.lexeme ≡ mark m → kind_at (t ∷ us) ≡ Some (kind.Mark m)
+mark_kind_at t us m e = ap (λ (l : Lexeme). Some (kind_of l)) e
+
 pub mark_next : (ts : List Piece) (m : Mark) → kind_at ts ≡ Some (kind.Mark m) → Next (mark m) ts (behind ts)
 mark_next [] n e = absurd cc
 mark_next (t ∷ ts) n e = let h : kind_of t.lexeme ≡ kind.Mark n = cc in record { piece = t; is = mark_kind t.lexeme n h; whole = refl }
+
+pub mark_test : (m : Mark) (ts : List Piece) → is_mark m (kind_at ts) ≡ true → Next (mark m) ts (behind ts)
+unfolding mark_at
+mark_test m ts e = mark_is m ts (behind ts) (rw e refl)
+
+-- a token is left where there is a kind of it
+pub some_left : (ts : List Piece) (k : Kind) → kind_at ts ≡ Some k → 0 < length ts
+some_left [] k e = absurd cc
+some_left (t ∷ ts) k e = omega arith
 
 -- an operator at the front
 pub record NextOperator (o : BinOp) (ts us : List Piece) : Type 0 where
@@ -253,18 +267,52 @@ pub record NextOperator (o : BinOp) (ts us : List Piece) : Type 0 where
   pub means : operator_of sign ≡ Some o
   pub whole : ts ≡ piece ∷ us
 
-operator_by : (ts : List Piece) (o : BinOp) (k : Option Kind) → kind_at ts ≡ k → after_kind k ≡ Some o → NextOperator o ts (behind ts)
+by_infix : (m : Mark) (v : Option BinOp) (b : Bool) (o : BinOp) → operator_of m ≡ v → infix_by v b ≡ Some (Two o) → operator_of m ≡ Some o
+by_infix m (Some x) b o e h = let same : x ≡ o = cc in e ∙ ap (λ (y : BinOp). Some y) same
+by_infix m None true o e h = absurd cc
+by_infix m None false o e h = absurd cc
+
+operator_by : (ts : List Piece) (o : BinOp) (k : Option Kind) → kind_at ts ≡ k → after_kind k ≡ Some (Two o) → NextOperator o ts (behind ts)
 operator_by ts o None h e = absurd cc
 operator_by ts o (Some (kind.Word w)) h e = absurd cc
 operator_by ts o (Some kind.Name) h e = absurd cc
 operator_by ts o (Some (kind.Number n)) h e = absurd cc
-operator_by ts o (Some (kind.Mark m)) h e = let n = mark_next ts m h in record { piece = n.piece; sign = m; is = n.is; means = e; whole = n.whole }
+operator_by ts o (Some (kind.Mark m)) h e =
+    let n = mark_next ts m h in
+    record { piece = n.piece; sign = m; is = n.is; means = by_infix m (operator_of m) (is_mark marks.Question (Some (kind.Mark m))) o refl e; whole = n.whole }
 
-pub operator_next : (ts : List Piece) (o : BinOp) → operator_at ts ≡ Some o → NextOperator o ts (behind ts)
+pub operator_next : (ts : List Piece) (o : BinOp) → operator_at ts ≡ Some (Two o) → NextOperator o ts (behind ts)
 operator_next ts o e = operator_by ts o (kind_at ts) refl e
 
-pub operator_here : (t : Piece) (us : List Piece) (m : Mark) (o : BinOp) → t.lexeme ≡ mark m → operator_of m ≡ Some o → operator_at (t ∷ us) ≡ Some o
-operator_here t us m o e h = rw e h
+pub operator_here : (t : Piece) (us : List Piece) (m : Mark) (o : BinOp) → t.lexeme ≡ mark m → operator_of m ≡ Some o → operator_at (t ∷ us) ≡ Some (Two o)
+operator_here t us m o e h = ap after_kind (mark_kind_at t us m e) ∙ ap (λ v. infix_by v (is_mark marks.Question (Some (kind.Mark m)))) h
+
+-- `?` at the front
+question_mark : (v : Option BinOp) (b : Bool) → infix_by v b ≡ Some Choice → b ≡ true
+question_mark (Some x) b e = absurd cc
+question_mark None true e = refl
+question_mark None false e = absurd cc
+
+question_by : (ts : List Piece) (k : Option Kind) → kind_at ts ≡ k → after_kind k ≡ Some Choice → Next (mark marks.Question) ts (behind ts)
+question_by ts None h e = absurd cc
+question_by ts (Some (kind.Word w)) h e = absurd cc
+question_by ts (Some kind.Name) h e = absurd cc
+question_by ts (Some (kind.Number n)) h e = absurd cc
+question_by ts (Some (kind.Mark m)) h e =
+    mark_test marks.Question ts (ap (is_mark marks.Question) h ∙ question_mark (operator_of m) (is_mark marks.Question (Some (kind.Mark m))) e)
+
+pub question_next : (ts : List Piece) → operator_at ts ≡ Some Choice → Next (mark marks.Question) ts (behind ts)
+question_next ts e = question_by ts (kind_at ts) refl e
+
+pub question_here : (t : Piece) (us : List Piece) → t.lexeme ≡ mark marks.Question → operator_at (t ∷ us) ≡ Some Choice
+question_here t us e = ap after_kind (mark_kind_at t us marks.Question e)
+
+infix_shorter : (ts : List Piece) (w : Infix) → operator_at ts ≡ Some w → length (behind ts) < length ts
+infix_shorter ts (Two o) e = let k = operator_next ts o e in omega (arith, ap length k.whole)
+infix_shorter ts Choice e = let k = question_next ts e in omega (arith, ap length k.whole)
+
+pub behind_shorter : (ts : List Piece) (w : Infix) → operator_at ts ≡ Some w → length (behind ts) < length ts
+behind_shorter ts w e = infix_shorter ts w e
 
 -- ---- levels
 
@@ -308,28 +356,32 @@ level_high ops.Multiply = omega arith
 level_high ops.Divide = omega arith
 level_high ops.Remainder = omega arith
 
+pub tight_high : (w : Infix) → tightness w < operand
+tight_high (Two o) = level_high o
+tight_high Choice = omega arith
+
 -- at level p no expression goes on with this
-abbrev pub StopsAt : ℕ → Option BinOp → Type 0
-StopsAt p (Some o) = level o < p
+abbrev pub StopsAt : ℕ → Option Infix → Type 0
+StopsAt p (Some w) = tightness w < p
 StopsAt p None = Unit {0}
 
 abbrev pub Stops : ℕ → List Piece → Type 0
 Stops p ts = StopsAt p (operator_at ts)
 
--- an expression at level q isn't part of a tighter one with this behind it
-abbrev pub BelowAt : ℕ → Option BinOp → Type 0
-BelowAt q (Some o) = level o ≤ q
+-- an expression at level q isn't part of a tighter one with this behind it; behind one at level 0 nothing goes on
+abbrev pub BelowAt : ℕ → Option Infix → Type 0
+BelowAt q (Some w) = (tightness w ≤ q) × (0 < q)
 BelowAt q None = Unit {0}
 
 abbrev pub Below : ℕ → List Piece → Type 0
 Below q ts = BelowAt q (operator_at ts)
 
-pub below_at : (q : ℕ) (w : Option BinOp) → StopsAt (suc q) w → BelowAt q w
-below_at q (Some o) h = omega (arith, h)
-below_at q None h = tt
+pub below_at : (q : ℕ) (w : Option Infix) → 0 < q → StopsAt (suc q) w → BelowAt q w
+below_at q (Some w) lt h = (omega (arith, h), lt)
+below_at q None lt h = tt
 
-pub below_all : (q : ℕ) (w : Option BinOp) → operand ≤ q → BelowAt q w
-below_all q (Some o) le = omega (arith, level_high o)
+pub below_all : (q : ℕ) (w : Option Infix) → operand ≤ q → BelowAt q w
+below_all q (Some w) le = (omega (arith, le, tight_high w), omega (arith, le))
 below_all q None le = tt
 
 -- what spells at a level spells at a lower one
@@ -337,4 +389,6 @@ pub looser : {d p q : ℕ} {ts : List Piece} {e : tree.Expr} → q ≤ p → Spe
 looser le (a_number t n i w) = a_number t n i w
 looser le (a_name t x i w) = a_name t x i w
 looser le (in_parentheses t u i j s w) = in_parentheses t u i j s w
+looser le (of_one t m o i h a w) = of_one t m o i h a w
 looser le (of_two t m o i h ge a b w) = of_two t m o i h (omega (arith, le, ge)) a b w
+looser le (of_three t u i j z c a b w) = of_three t u i j (omega (arith, le, z)) c a b w

@@ -3,7 +3,7 @@ use Rattle.std.proofs.Common.{◌≡◌, ℕ, zero, suc, ◌<◌, ◌≤◌, Lis
 use Rattle.cilk_lex.specs.Lexeme.{Piece}
 use Rattle.cilk_tree.specs.Tree as tree
 use Rattle.cilk_tree.specs.Operators.{operators}
-use Rattle.cilk_expr.specs.Grammar.{Spells, SpellsWhole, a_number, a_name, in_parentheses, of_two}
+use Rattle.cilk_expr.specs.Grammar.{Spells, SpellsWhole, a_number, a_name, in_parentheses, of_one, of_two, of_three}
 use Rattle.cilk_expr.specs.Front.{operator_at}
 use Rattle.cilk_expr.specs.Reading.{expr_of, whole_of}
 use Rattle.cilk_expr.proofs.Tools.{bind_ok, ok_is}
@@ -39,4 +39,6 @@ roomier n le (a_number t m h w) = a_number t m h w
 roomier n le (a_name t x h w) = a_name t x h w
 roomier zero le (in_parentheses t u h i s w) = absurd (omega (arith, le))
 roomier (suc n) le (in_parentheses t u h i s w) = in_parentheses t u h i (roomier n (omega (arith, le)) s) w
+roomier n le (of_one t m o h i a w) = of_one t m o h i (roomier n le a) w
 roomier n le (of_two t m o h i ge a b w) = of_two t m o h i ge (roomier n le a) (roomier n le b) w
+roomier n le (of_three t u h i z c a b w) = of_three t u h i z (roomier n le c) (roomier n le a) (roomier n le b) w

@@ -13,7 +13,9 @@ use Rattle.cilk_expr.specs.declared.fault.Fault.{Fault}
 use Rattle.cilk_expr.specs.declared.fault.Fault.TheVariants.{Unexpected}
 use Rattle.cilk_expr.specs.declared.fault.ParseError.{ParseError}
 use Rattle.cilk_expr.specs.declared.fault.ParseError.TheVariants as errors
-use Rattle.cilk_expr.specs.Grammar.{operator_of, word_at}
+use Rattle.cilk_expr.specs.declared.operator.Infix.{Infix}
+use Rattle.cilk_expr.specs.declared.operator.Infix.TheVariants.{Two, Choice}
+use Rattle.cilk_expr.specs.Grammar.{level, operator_of, word_at}
 
 -- Where a reader stands: the tokens that are left, and how many operators the expression that it reads has so far.
 pub record Standing : Type 0 where
@@ -50,13 +52,10 @@ abbrev pub behind : List Piece → List Piece
 behind [] = []
 behind (t ∷ ts) = ts
 
-abbrev pub after_kind : Option Kind → Option BinOp
-after_kind (Some (kind.Mark m)) = operator_of m
-after_kind _ = None
-
--- the operator that comes next
-abbrev pub operator_at : List Piece → Option BinOp
-operator_at ts = after_kind (kind_at ts)
+-- the place of the next token
+abbrev pub place_at : List Piece → ℕ
+place_at [] = 0
+place_at (t ∷ ts) = t.start
 
 abbrev pub mark_number : Mark → ℕ
 mark_number marks.OpenParenthesis = 0
@@ -129,6 +128,24 @@ is_mark m _ = false
 abbrev pub is_keyword : Keyword → Option Kind → Bool
 is_keyword k (Some (kind.Word w)) = keyword_number k == keyword_number w
 is_keyword k _ = false
+
+-- how tightly what stands behind an operand binds to it: `?` less than each operator
+abbrev pub tightness : Infix → ℕ
+tightness (Two o) = level o
+tightness Choice = 0
+
+abbrev pub infix_by : Option BinOp → Bool → Option Infix
+infix_by (Some o) b = Some (Two o)
+infix_by None true = Some Choice
+infix_by None false = None
+
+abbrev pub after_kind : Option Kind → Option Infix
+after_kind (Some (kind.Mark m)) = infix_by (operator_of m) (is_mark marks.Question (Some (kind.Mark m)))
+after_kind _ = None
+
+-- the operator that comes next, or `?`
+abbrev pub operator_at : List Piece → Option Infix
+operator_at ts = after_kind (kind_at ts)
 
 -- behind the next token, if it is the one that is wanted
 abbrev pub wanted : Bool → List Piece → Result (List Piece) Fault

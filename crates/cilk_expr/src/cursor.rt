@@ -1,12 +1,12 @@
 ghost use Rattle.std.specs.Prelude.{◌≡◌, ◌+◌, ◌-◌, ◌<◌, ◌^◌, All, length, OnOk};
 ghost use Rattle.cilk_lex.specs.Lexeme.{pieces_of};
 ghost use Rattle.cilk_lex.specs.Reading.{IsWithin};
-ghost use Rattle.cilk_expr.specs.Front.{Gives, kind_at, behind, operator_at, is_mark, is_keyword, mark_at, keyword_at, name_at};
+ghost use Rattle.cilk_expr.specs.Front.{Gives, kind_at, behind, place_at, operator_at, is_mark, is_keyword, mark_at, keyword_at, name_at};
 
 use crate::fault::{Fault, ParseError};
-use crate::operator::operator_of;
+use crate::operator::{Infix, operator_of};
 use cilk_lex::{Keyword, Kind, Mark, Token};
-use cilk_tree::{BinOp, Word};
+use cilk_tree::Word;
 use std::alloc::Global;
 use std::marker::Model;
 
@@ -60,6 +60,16 @@ impl<'a> Cursor<'a> {
         match self.tokens {
             [] => None,
             [token, ..] => Some(token.kind),
+        }
+    }
+
+    /// The place of the next token in the text, in bytes from 0, or 0 where none is left.
+    pub fn place(&self) -> u32
+        ensures { result ≡ place_at self.now.pieces }
+    {
+        match self.tokens {
+            [] => 0,
+            [token, ..] => token.start,
         }
     }
 
@@ -142,12 +152,16 @@ impl<'a> Cursor<'a> {
         }
     }
 
-    /// The operator that comes next, if the next token is one.
-    pub(crate) fn operator(&self) -> Option<BinOp>
+    /// The operator that comes next, or `?`, if the next token is one.
+    pub(crate) fn operator(&self) -> Option<Infix>
         ensures { result ≡ operator_at self.now.pieces }
     {
         match self.kind() {
-            Some(Kind::Mark(mark)) => operator_of(mark),
+            Some(Kind::Mark(mark)) => match operator_of(mark) {
+                Some(operator) => Some(Infix::Two(operator)),
+                None if self.is_mark(Mark::Question) => Some(Infix::Choice),
+                None => None,
+            },
             _ => None,
         }
     }

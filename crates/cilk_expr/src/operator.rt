@@ -1,8 +1,16 @@
 ghost use Rattle.std.specs.Prelude.{◌≡◌};
-ghost use Rattle.cilk_expr.specs.Grammar.{level, operator_of};
+ghost use Rattle.cilk_expr.specs.Front.{tightness};
+ghost use Rattle.cilk_expr.specs.Grammar.{level, operator_of, unary_of};
 
 use cilk_lex::Mark;
-use cilk_tree::BinOp;
+use cilk_tree::{BinOp, UnOp};
+
+/// What goes on behind an operand: an operator and a second operand, or `?` (C 1990, 6.3.5 to 6.3.15).
+#[derive(Clone, Copy)]
+pub(crate) enum Infix {
+    Two(BinOp),
+    Choice,
+}
 
 /// The operator that a mark is between two operands (C 1990, 6.3.5 to 6.3.14).
 pub(crate) fn operator_of(mark: Mark) -> Option<BinOp>
@@ -31,8 +39,21 @@ pub(crate) fn operator_of(mark: Mark) -> Option<BinOp>
     }
 }
 
-/// How tightly an operator binds.
-pub(crate) fn level_of(operator: BinOp) -> u32
+/// The operator that a mark is before one operand (C 1990, 6.3.3.3).
+pub(crate) fn unary_of(mark: Mark) -> Option<UnOp>
+    ensures { result ≡ unary_of mark }
+{
+    match mark {
+        Mark::Minus => Some(UnOp::Minus),
+        Mark::Plus => Some(UnOp::Plus),
+        Mark::Exclamation => Some(UnOp::Not),
+        Mark::Tilde => Some(UnOp::Complement),
+        _ => None,
+    }
+}
+
+// How tightly an operator binds.
+fn level_of(operator: BinOp) -> u32
     ensures { result ≡ level operator }
 {
     match operator {
@@ -46,5 +67,15 @@ pub(crate) fn level_of(operator: BinOp) -> u32
         BinOp::ShiftLeft | BinOp::ShiftRight => 8,
         BinOp::Add | BinOp::Subtract => 9,
         BinOp::Multiply | BinOp::Divide | BinOp::Remainder => 10,
+    }
+}
+
+/// How tightly what goes on behind an operand binds: `?` less than each operator.
+pub(crate) fn tightness_of(next: Infix) -> u32
+    ensures { result ≡ tightness next }
+{
+    match next {
+        Infix::Two(operator) => level_of(operator),
+        Infix::Choice => 0,
     }
 }

@@ -1,10 +1,11 @@
 -- A body at its start.
-use Rattle.std.proofs.Common.{◌≡◌, ℕ, zero, suc, ◌+◌, ◌-◌, ◌<◌, ℤ, pos, List, [], ◌∷◌, ◌++◌, length, map, max, Option, Some, None, refl, sym, ap, ◌∙◌, subst, arith}
+use Rattle.std.proofs.Common.{◌≡◌, ℕ, zero, suc, ◌+◌, ◌-◌, ◌<◌, ℤ, pos, List, [], ◌∷◌, ◌++◌, length, map, Option, Some, refl, sym, ap, ◌∙◌, subst, arith}
 use Rattle.std.specs.Prelude.{slice_get, slice_index_or, replicate, unwrap_or, ⊤}
 use Rattle.std.proofs.lemmas.List.{length-replicate, replicate-append-replicate}
 use Rattle.cilk_tree.specs.Tree as tree
-use Rattle.cilk_model.specs.Labelled.{Variable, Stmts, none, also, action, Body, Labelled}
-use Rattle.cilk_model.specs.Items.{opened, pieces, closing_items, start_items}
+use Rattle.cilk_tree.specs.Parameters.{parameter_decl}
+use Rattle.cilk_model.specs.Labelled.{Variable, Stmts, none, also, action, Body}
+use Rattle.cilk_model.specs.Items.{opened, pieces, closing_items}
 use Rattle.cilk_model.specs.Values.{Cell, initial_values}
 use Rattle.cilk_model.specs.Instance.{no_body, body_at, with_arguments, entered}
 use Rattle.cilk_model.specs.Scope.{Scope}
@@ -33,7 +34,10 @@ decls-zero (d ∷ decls) = (refl, decls-zero decls)
 stmts-zero : (stmts : tree.Stmts) → AllZero (stmts_variables stmts)
 stmts-zero tree.none = tt
 stmts-zero (tree.also (tree.assign place value) others) = stmts-zero others
-stmts-zero (tree.also (tree.return_with value) others) = stmts-zero others
+stmts-zero (tree.also (tree.return_at place value) others) = stmts-zero others
+stmts-zero (tree.also tree.null others) = stmts-zero others
+stmts-zero (tree.also (tree.update place op value) others) = stmts-zero others
+stmts-zero (tree.also (tree.adjust place by) others) = stmts-zero others
 
 block-zero : (b : tree.Block) → AllZero (block_variables b)
 block-zero (tree.block decls stmts) = AllZero-append (map variable_of decls) (stmts_variables stmts) (decls-zero decls) (stmts-zero stmts)
@@ -44,6 +48,10 @@ Single zero variables = ⊤
 Single (suc n) [] = ⊥
 Single (suc n) (v ∷ variables) = (size_of v ≡ 1) × Single n variables
 
+parameters-single : (parameters : List tree.Word) (others : List Variable) → Single (length parameters) (map variable_of (map parameter_decl parameters) ++ others)
+parameters-single [] others = tt
+parameters-single (x ∷ parameters) others = (refl, parameters-single parameters others)
+
 -- a body whose parameters are no arrays, and whose variables hold 0 before any action
 record Bare (body : Body) : Type 0 where
   single_parameters : Single body.parameters body.variables
@@ -51,7 +59,10 @@ record Bare (body : Body) : Type 0 where
 
 items-bare : (scope : Scope) (at : ℕ) (items : List tree.Item) (b : ℕ) → Bare (slice_index_or (label_items scope at items) b no_body)
 items-bare scope at [] b = record { single_parameters = tt; zero_variables = tt }
-items-bare scope at (tree.procedure p ∷ others) zero = record { single_parameters = tt; zero_variables = block-zero p.body }
+items-bare scope at (tree.procedure p ∷ others) zero = record {
+  single_parameters = parameters-single p.parameters (block_variables p.body);
+  zero_variables = AllZero-append (map variable_of (map parameter_decl p.parameters)) (block_variables p.body) (decls-zero (map parameter_decl p.parameters)) (block-zero p.body);
+}
 items-bare scope at (tree.procedure p ∷ others) (suc b) = items-bare scope (at + count_item (tree.procedure p)) others b
 
 body-bare : (p : tree.Program) (b : ℕ) → Bare (body_at (label p) b)

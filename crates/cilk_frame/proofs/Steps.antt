@@ -1,6 +1,6 @@
 -- What each call makes of a frame that stands for an instance.
-use Rattle.std.proofs.Common.{◌≡◌, ℕ, zero, suc, ◌+◌, ◌<◌, ℤ, Bool, true, not, ◌&&◌, List, [], ◌∷◌, length, map, Option, Some, None, refl, sym, ap, ◌∙◌, subst, arith}
-use Rattle.std.specs.Prelude.{slice_index_or, slice_set, nat_lt}
+use Rattle.std.proofs.Common.{◌≡◌, ℕ, suc, ◌+◌, ◌<◌, ℤ, Bool, true, not, ◌&&◌, List, [], ◌∷◌, length, map, Option, Some, None, refl, sym, ap, ◌∙◌, subst, arith}
+use Rattle.std.specs.Prelude.{slice_set, nat_lt}
 use Rattle.std.proofs.lemmas.Bool.{lt-ltb}
 use Rattle.std.proofs.lemmas.List.{length-set}
 use Rattle.cilk_tree.specs.Tree.{Program}
@@ -12,13 +12,13 @@ use Rattle.cilk_model.specs.Change.{is_empty, is_alone, gone_on}
 use Rattle.cilk_model.specs.Instance as model
 use Rattle.cilk_model.specs.Instance.{Receiver, Delivery, Instance, body_at}
 use Rattle.cilk_model.specs.Label.{label}
-use Rattle.cilk_load.specs.Slots.{size_of, slot_from}
+use Rattle.cilk_load.specs.Slots.{size_of}
 use Rattle.cilk_load.specs.Table.{number_of}
 use Rattle.cilk_load.specs.Bodies.{body_of}
 use Rattle.cilk_frame.specs.declared.awaited.Await.{Await}
 use Rattle.cilk_frame.specs.Frames.{Activation, Frame, depth, top_place, top_of, with_cell, jumped, with_boundary, entered, left}
 use Rattle.cilk_frame.specs.Starts.{Takes, first_activation, started}
-use Rattle.cilk_frame.specs.Stands.{flat, AwaitsSame, Activates, StandsFor}
+use Rattle.cilk_frame.specs.Stands.{AwaitsSame, Activates, StandsFor}
 use Rattle.cilk_frame.specs.Reads.{HasCell, cell_place, Seen, lent, seen_by}
 use Rattle.cilk_frame.proofs.Flat.{before, flat-set}
 use Rattle.cilk_frame.proofs.Slots.{slot-offset, cells-size, within, sizes-stay}

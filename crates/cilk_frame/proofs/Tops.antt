@@ -1,12 +1,12 @@
 -- The top of a frame.
-use Rattle.std.proofs.Common.{◌≡◌, ℕ, suc, ◌+◌, ◌-◌, List, [], ◌∷◌, ◌++◌, length, take, get_or, reverse, refl, sym, ap, ◌∙◌, subst, arith, length-append}
+use Rattle.std.proofs.Common.{◌≡◌, suc, ◌-◌, List, [], ◌∷◌, ◌++◌, length, take, reverse, refl, sym, ap, ◌∙◌, subst, arith}
 use Rattle.std.specs.Prelude.{slice_set, slice_index_or}
 use Rattle.std.proofs.lemmas.List.{length_push, length-reverse, reverse-append, reverse-reverse}
 use Rattle.std.proofs.Math.Seq.{get_or-append_seam, set-append_seam, take-append_seam}
 use Rattle.cilk_model.specs.Labelled.{Labelled}
 use Rattle.cilk_model.specs.Instance as model
 use Rattle.cilk_model.specs.Instance.{Instance}
-use Rattle.cilk_frame.specs.Frames.{Activation, Frame, no_activation, activation_at, depth, top_place, top_of, with_activation, entered, left}
+use Rattle.cilk_frame.specs.Frames.{Activation, Frame, no_activation, depth, top_place, top_of, with_activation, entered, left}
 use Rattle.cilk_frame.specs.Stands.{Activates, AllActivate, StandsFor}
 
 -- the place of the last of a list

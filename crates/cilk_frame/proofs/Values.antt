@@ -1,11 +1,11 @@
 -- An expression has the same value over the cells of a frame as over the values of its instance.
-use Rattle.std.proofs.Common.{◌≡◌, ℕ, zero, suc, ◌+◌, ◌-◌, ◌<◌, ◌≤◌, ℤ, pos, Bool, List, [], ◌∷◌, length, map, max, refl, sym, ap, ◌∙◌, subst, arith}
+use Rattle.std.proofs.Common.{◌≡◌, ℕ, zero, suc, ◌+◌, ◌-◌, ◌<◌, pos, List, [], ◌∷◌, length, map, max, refl, ap, ◌∙◌, arith}
 use Rattle.std.specs.Prelude.{slice_index_or, ⊤}
 use Rattle.cilk_eval.specs.declared.area.Area.{Area}
 use Rattle.cilk_eval.specs.declared.area.Area.TheVariants.{Own, Outer, Global}
 use Rattle.cilk_eval.specs.declared.slot.Slot.{Slot}
 use Rattle.cilk_eval.specs.Term.{Term, rename}
-use Rattle.cilk_eval.specs.Value.{Environment, SameArray, ReadsSame, seen_through, value_of}
+use Rattle.cilk_eval.specs.Value.{Environment, SameArray, seen_through, value_of}
 use Rattle.cilk_eval.specs.Slots.{Cells, area_cells, slot_cell, sizes_of, area_size, LiesWithin, SlotsLieWithin}
 use Rattle.cilk_eval.specs.Slots as slots
 use Rattle.cilk_eval.proofs.Places.{AllReads-map, AllReads-rename}
@@ -54,7 +54,8 @@ array-inside [] n h = absurd (omega arith)
 array-inside (v ∷ variables) zero h = omega arith
 array-inside (v ∷ variables) (suc n) h = let inside = array-inside variables n h in omega arith
 
-variable-same : (program : Labelled) (b : ℕ) (cells : Cells) (store : Store) (d : Declaration) → Seen program b cells store → IsDeclared program b d → slot_cell cells (slot_of program b d) 0 ≡ cell_of store d 0
+-- a variable that is no array
+pub variable-same : (program : Labelled) (b : ℕ) (cells : Cells) (store : Store) (d : Declaration) → Seen program b cells store → IsDeclared program b d → slot_cell cells (slot_of program b d) 0 ≡ cell_of store d 0
 variable-same program b cells store (local n) s h = slot-reads Own cells (body_at program b).variables store.own n 0 s.own_are s.own_sizes h (omega arith)
 variable-same program b cells store (global n) s h = slot-reads Global cells program.globals store.globals n 0 s.globals_are s.global_sizes h (omega arith)
 variable-same program b cells store unknown s h = absurd h

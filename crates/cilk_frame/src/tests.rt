@@ -4,7 +4,9 @@ use crate::activation::Activation;
 use crate::*;
 use cilk_check::check;
 use cilk_load::{Body, Loaded, Name, Vars, load};
-use cilk_tree::{Block, Decl, Expr, ExprNode, Item, ItemNode, Proc, Program, Stmt, StmtNode, Word};
+use cilk_tree::{
+    Block, Decl, Expr, ExprNode, Item, ItemNode, Proc, Program, ReturnType, Stmt, StmtNode, Word,
+};
 use std::alloc::Global;
 use std::test::Fail;
 
@@ -21,13 +23,18 @@ fn procedure(alloc: Global, name: &str, variable: &str) -> Result<Item, Fail> {
     })?;
     let mut stmts = Vec::new(alloc);
     stmts.push(Stmt {
-        node: StmtNode::Return(Expr {
-            node: ExprNode::Name(word(alloc, variable)?),
-        }),
+        node: StmtNode::Return(
+            0,
+            Some(Expr {
+                node: ExprNode::Name(word(alloc, variable)?),
+            }),
+        ),
     })?;
     Ok(Item {
         node: ItemNode::Procedure(Proc {
+            returns: ReturnType::Int,
             name: word(alloc, name)?,
+            parameters: Vec::new(alloc),
             body: Block { decls, stmts },
         }),
     })

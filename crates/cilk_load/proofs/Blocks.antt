@@ -1,20 +1,20 @@
 -- The labelled blocks: which action comes first, and which variables they have.
-use Rattle.std.proofs.Common.{◌≡◌, ℕ, suc, ◌+◌, ◌≤◌, List, [], ◌∷◌, ◌++◌, length, map, Option, Some, None, refl, sym, ap, subst, ◌∙◌, arith, append-nil, add-zero, unwrap_or}
+use Rattle.std.proofs.Common.{◌≡◌, ℕ, suc, ◌+◌, ◌≤◌, List, [], ◌∷◌, ◌++◌, length, map, Option, Some, None, refl, sym, ap, ◌∙◌, arith, append-nil, length-append, unwrap_or}
 use Rattle.cilk_tree.specs.Tree as tree
+use Rattle.cilk_tree.specs.Parameters.{parameter_decl}
 use Rattle.cilk_eval.specs.declared.area.Area.{Area}
 use Rattle.cilk_eval.specs.declared.area.Area.TheVariants.{Own}
 use Rattle.cilk_check.specs.Names.{decls_of}
 use Rattle.cilk_model.specs.Scope.{Scope, with_local, with_locals}
-use Rattle.cilk_model.specs.Count.{count_option, count_decls, count_stmt, count_stmts}
+use Rattle.cilk_model.specs.Count.{count_option, count_decls, count_stmts}
 use Rattle.cilk_model.specs.Labelled.{Stmts, Variable}
 use Rattle.cilk_model.specs.Label.{variable_of, stmts_variables, block_variables, label_initialiser, label_decls, label_stmts, label_block, label_procedure}
 use Rattle.cilk_model.specs.Items.{Items, pieces, opened, closing_items, start_items}
-use Rattle.cilk_load.specs.declared.body.Body.{Body}
 use Rattle.cilk_load.specs.declared.var.Var.{Var}
 use Rattle.cilk_load.specs.Slots.{size_of, cells_of}
 use Rattle.cilk_load.specs.Table.{number_of}
 use Rattle.cilk_load.specs.Bodies.{vars_from, body_table}
-use Rattle.cilk_load.specs.Pass.{block_vars}
+use Rattle.cilk_load.specs.Pass.{own_vars}
 
 -- the number in front of these items, once they are opened
 abbrev pub Starts : Items → ℕ → Type 0
@@ -26,7 +26,10 @@ starts_at items m n e h = h ∙ ap (λ k. Some k) e
 pub stmts-start : (scope : Scope) (at n : ℕ) (ss : tree.Stmts) (items : Items) → Starts items (at + count_stmts ss) → Starts (pieces (label_stmts scope at n ss) items) at
 stmts-start scope at n tree.none items h = starts_at items (at + 0) at (omega arith) h
 stmts-start scope at n (tree.also (tree.assign place value) others) items h = refl
-stmts-start scope at n (tree.also (tree.return_with value) others) items h = refl
+stmts-start scope at n (tree.also (tree.return_at place value) others) items h = refl
+stmts-start scope at n (tree.also tree.null others) items h = refl
+stmts-start scope at n (tree.also (tree.update place op value) others) items h = refl
+stmts-start scope at n (tree.also (tree.adjust place by) others) items h = refl
 
 init-start : (scope : Scope) (at n : ℕ) (value : Option tree.Expr) (after : Stmts) (items : Items) → Starts (pieces after items) (at + count_option value) → Starts (pieces (label_initialiser scope at n value after) items) at
 init-start scope at n None after items h = starts_at (pieces after items) (at + 0) at (omega arith) h
@@ -47,7 +50,10 @@ block-starts scope at n ds ss items h =
 stmts_variables-none : (ss : tree.Stmts) → stmts_variables ss ≡ []
 stmts_variables-none tree.none = refl
 stmts_variables-none (tree.also (tree.assign place value) others) = stmts_variables-none others
-stmts_variables-none (tree.also (tree.return_with value) others) = stmts_variables-none others
+stmts_variables-none (tree.also (tree.return_at place value) others) = stmts_variables-none others
+stmts_variables-none (tree.also tree.null others) = stmts_variables-none others
+stmts_variables-none (tree.also (tree.update place op value) others) = stmts_variables-none others
+stmts_variables-none (tree.also (tree.adjust place by) others) = stmts_variables-none others
 
 -- the variables of a block are those that it declares
 pub block_variables-decls : (ds : List tree.Decl) (ss : tree.Stmts) → block_variables (tree.block ds ss) ≡ map variable_of ds
@@ -58,33 +64,85 @@ cells-decls [] = refl
 cells-decls (d ∷ ds) = omega (arith, cells-decls ds)
 
 -- the first action of a body
-pub entry-is : (at : ℕ) (name : tree.Word) (ds : List tree.Decl) (ss : tree.Stmts) → Starts (start_items (label_procedure [] at (record { name = name; body = tree.block ds ss }))) at
-entry-is at name ds ss =
-    block-starts [] at 0 ds ss (closing_items (at + (count_decls ds + count_stmts ss))) refl
+pub entry-is : (at : ℕ) (p : tree.Proc) (ds : List tree.Decl) (ss : tree.Stmts) → Starts (start_items (label_procedure [] at (record p { body = tree.block ds ss }))) at
+entry-is at p ds ss =
+    block-starts (with_locals [] 0 (map parameter_decl p.parameters)) at (length p.parameters) ds ss (closing_items (at + (count_decls ds + count_stmts ss))) refl
+
+cells-append : (vs ws : List Variable) → cells_of (vs ++ ws) ≡ cells_of vs + cells_of ws
+cells-append [] ws = omega arith
+cells-append (v ∷ vs) ws = omega (arith, cells-append vs ws)
+
+pub length-parameters : (ps : List tree.Word) → length (map parameter_decl ps) ≡ length ps
+length-parameters [] = refl
+length-parameters (x ∷ ps) = omega (arith, length-parameters ps)
+
+-- the variables of a procedure are its parameters and the declarations of its block
+pub own_variables : (ps : List tree.Word) (ds : List tree.Decl) (ss : tree.Stmts) → map variable_of (map parameter_decl ps) ++ block_variables (tree.block ds ss) ≡ map variable_of (map parameter_decl ps) ++ map variable_of ds
+own_variables ps ds ss = ap (λ vs. map variable_of (map parameter_decl ps) ++ vs) (block_variables-decls ds ss)
+
+own_cells : (ps : List tree.Word) (ds : List tree.Decl) → cells_of (map variable_of (map parameter_decl ps) ++ map variable_of ds) ≡ length ps + length ds
+own_cells ps ds =
+    omega (arith, cells-append (map variable_of (map parameter_decl ps)) (map variable_of ds), cells-decls (map parameter_decl ps), cells-decls ds, length-parameters ps)
 
 -- the table of a body from its parts
-pub body-is : (at : ℕ) (name : tree.Word) (b : tree.Block) (ds : List tree.Decl) (ss : tree.Stmts) → tree.block ds ss ≡ b → record { name = name.text; entry = at; params = 0; cells = length ds; vars = vars_from Own 0 (map variable_of ds) } ≡ body_table (label_procedure [] at (record { name = name; body = b }))
-body-is at name b ds ss is_b =
+pub body-is : (at : ℕ) (p : tree.Proc) (ds : List tree.Decl) (ss : tree.Stmts) → tree.block ds ss ≡ p.body
+    → record { name = p.name.text; entry = at; params = length p.parameters; cells = length p.parameters + length ds; vars = vars_from Own 0 (map variable_of (map parameter_decl p.parameters) ++ map variable_of ds) } ≡ body_table (label_procedure [] at p)
+body-is at p ds ss is_b =
     (λ i. record {
-      name = name.text;
-      entry = unwrap_or (sym (entry-is at name ds ss) i) 0;
-      params = 0;
-      cells = sym (ap cells_of (block_variables-decls ds ss) ∙ cells-decls ds) i;
-      vars = vars_from Own 0 (sym (block_variables-decls ds ss) i);
+      name = p.name.text;
+      entry = unwrap_or (sym (entry-is at p ds ss) i) 0;
+      params = length p.parameters;
+      cells = sym (ap cells_of (own_variables p.parameters ds ss) ∙ own_cells p.parameters ds) i;
+      vars = vars_from Own 0 (sym (own_variables p.parameters ds ss) i);
     })
-    ∙ ap (λ (x : tree.Block). body_table (label_procedure [] at (record { name = name; body = x }))) is_b
+    ∙ ap (λ (x : tree.Block). body_table (label_procedure [] at (record p { body = x }))) is_b
 
-length-vars_from : (area : Area) (at : ℕ) (vs : List Variable) → length (vars_from area at vs) ≡ length vs
+-- the variables of two lists, one behind the other
+pub vars_from-append : (area : Area) (at : ℕ) (vs ws : List Variable) → vars_from area at (vs ++ ws) ≡ vars_from area at vs ++ vars_from area (at + cells_of vs) ws
+vars_from-append area at [] ws = ap (λ k. vars_from area k ws) (add-none at)
+  where
+    add-none : (n : ℕ) → n ≡ n + 0
+    add-none n = omega arith
+vars_from-append area at (v ∷ vs) ws =
+    ap (λ rest. record { name = v.name; slot = record { area = area; offset = at; length = v.length }; length = v.length; initial = v.initial } ∷ rest)
+    (vars_from-append area (at + size_of v) vs ws ∙ ap (λ k. vars_from area (at + size_of v) vs ++ vars_from area k ws) (regroup at (size_of v) (cells_of vs)))
+  where
+    regroup : (a b c : ℕ) → a + b + c ≡ a + (b + c)
+    regroup a b c = omega arith
+
+-- those of a procedure, its parameters first
+pub own_vars-are : (ps : List tree.Word) (ds : List tree.Decl) → vars_from Own 0 (map variable_of (map parameter_decl ps) ++ map variable_of ds) ≡ vars_from Own 0 (map variable_of (map parameter_decl ps)) ++ vars_from Own (length ps) (map variable_of ds)
+own_vars-are ps ds =
+    vars_from-append Own 0 (map variable_of (map parameter_decl ps)) (map variable_of ds)
+    ∙ ap (λ k. vars_from Own 0 (map variable_of (map parameter_decl ps)) ++ vars_from Own k (map variable_of ds)) (count (cells_of (map variable_of (map parameter_decl ps))) (length ps) (cells-decls (map parameter_decl ps) ∙ length-parameters ps))
+  where
+    count : (m n : ℕ) → m ≡ n → 0 + m ≡ n
+    count m n e = omega arith
+
+-- a table that was written part by part
+pub body-made : (at : ℕ) (p : tree.Proc) (b : tree.Block) (qs : List tree.Word) (es : List tree.Decl) (name : List ℕ) (made begun start : List Var) (k m : ℕ)
+    → b ≡ p.body → qs ≡ p.parameters → es ≡ decls_of b → name ≡ p.name.text → start ≡ [] → k ≡ 0 → begun ≡ start ++ vars_from Own k (map variable_of (map parameter_decl qs)) → m ≡ k + length qs → made ≡ begun ++ vars_from Own m (map variable_of es)
+    → record { name = name; entry = at; params = length qs; cells = length qs + length es; vars = made } ≡ body_table (label_procedure [] at p)
+body-made at p (tree.block ds ss) qs es name made begun start k m is_b is_qs is_es is_name is_start is_k is_begun is_m is_made =
+    let offset : m ≡ length p.parameters = omega (arith, is_m, is_k, ap length is_qs) in
+    let first : begun ≡ vars_from Own 0 (map variable_of (map parameter_decl p.parameters)) = is_begun ∙ (λ i. is_start i ++ vars_from Own (is_k i) (map variable_of (map parameter_decl (is_qs i)))) in
+    let vars : made ≡ vars_from Own 0 (map variable_of (map parameter_decl p.parameters) ++ map variable_of ds) = is_made ∙ (λ i. first i ++ vars_from Own (offset i) (map variable_of (is_es i))) ∙ sym (own_vars-are p.parameters ds) in
+    (λ i. record { name = is_name i; entry = at; params = length (is_qs i); cells = length (is_qs i) + length (is_es i); vars = vars i }) ∙ body-is at p ds ss is_b
+
+pub length-vars_from : (area : Area) (at : ℕ) (vs : List Variable) → length (vars_from area at vs) ≡ length vs
 length-vars_from area at [] = refl
 length-vars_from area at (v ∷ vs) = omega (arith, length-vars_from area (at + size_of v) vs)
 
-length-map : (ds : List tree.Decl) → length (map variable_of ds) ≡ length ds
+pub length-map : (ds : List tree.Decl) → length (map variable_of ds) ≡ length ds
 length-map [] = refl
 length-map (d ∷ ds) = omega (arith, length-map ds)
 
--- each declaration has its variable
-pub declared-vars : (b : tree.Block) → length (decls_of b) ≤ length (block_vars b)
-declared-vars (tree.block ds ss) =
-    omega (arith, length-vars_from Own 0 (block_variables (tree.block ds ss)), ap length (block_variables-decls ds ss), length-map ds)
+-- each parameter and each declaration has its variable
+pub declared-vars : (p : tree.Proc) → length p.parameters + length (decls_of p.body) ≤ length (own_vars p)
+declared-vars p = by_parts p.body
+  where
+    by_parts : (b : tree.Block) → length p.parameters + length (decls_of b) ≤ length (own_vars (record p { body = b }))
+    by_parts (tree.block ds ss) =
+        omega (arith, length-vars_from Own 0 (map variable_of (map parameter_decl p.parameters) ++ block_variables (tree.block ds ss)), ap length (own_variables p.parameters ds ss), length-append (map variable_of (map parameter_decl p.parameters)) (map variable_of ds), length-map ds, length-map (map parameter_decl p.parameters), length-parameters p.parameters)
 
 pub ruleset blocks = (declared-vars)

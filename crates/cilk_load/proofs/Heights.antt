@@ -1,8 +1,8 @@
 -- How many lines the canonical text has.
 use Rattle.std.proofs.Common.{◌≡◌, ℕ, ◌+◌, ◌≤◌, List, [], ◌∷◌, ◌++◌, length, map, codes, refl, sym, ap, ◌∙◌, append_assoc, arith, length-append}
-use Rattle.cilk_tree.specs.Tree.{Decl, Stmt, assign, return_with, Stmts, none, also, Block, block, Proc, procedure}
+use Rattle.cilk_tree.specs.Tree.{Decl, Stmt, assign, null, update, adjust, Stmts, none, also, Block, block, Proc, procedure, return_at}
 use Rattle.cilk_model.specs.Count.{count_stmts, count_block}
-use Rattle.cilk_load.specs.Pass.{block_is_small}
+use Rattle.cilk_check.specs.Names.{decls_of}
 use Rattle.cilk_tree.specs.ProgramText.{decl_line, stmt_lines, stmts_lines, block_lines, deeper, item_lines}
 use Rattle.cilk_model.specs.Lines.{block_action_lines, item_action_lines}
 
@@ -12,7 +12,10 @@ length-decl_lines indent (d ∷ ds) = omega (arith, length-decl_lines indent ds)
 
 length-stmt_lines : (indent : List ℕ) (s : Stmt) → length (stmt_lines indent s) ≡ 1
 length-stmt_lines indent (assign place value) = refl
-length-stmt_lines indent (return_with value) = refl
+length-stmt_lines indent (return_at place value) = refl
+length-stmt_lines indent null = refl
+length-stmt_lines indent (update place op value) = refl
+length-stmt_lines indent (adjust place by) = refl
 
 -- the indent adds no line
 length-stmts_lines : (indent : List ℕ) (ss : Stmts) → length (stmts_lines indent ss) ≡ length (stmts_lines [] ss)
@@ -27,10 +30,13 @@ length-block_lines indent (block ds ss) =
 length-stmts : (indent : List ℕ) (ss : Stmts) → length (stmts_lines indent ss) ≡ count_stmts ss
 length-stmts indent none = refl
 length-stmts indent (also (assign place value) others) = omega (arith, length-stmts indent others)
-length-stmts indent (also (return_with value) others) = omega (arith, length-stmts indent others)
+length-stmts indent (also (return_at place value) others) = omega (arith, length-stmts indent others)
+length-stmts indent (also null others) = omega (arith, length-stmts indent others)
+length-stmts indent (also (update place op value) others) = omega (arith, length-stmts indent others)
+length-stmts indent (also (adjust place by) others) = omega (arith, length-stmts indent others)
 
 -- a block has a line for each declaration and each statement
-pub length-block : (indent : List ℕ) (b : Block) → block_is_small b → length (block_lines indent b) ≤ 4096 + count_block b
+pub length-block : (indent : List ℕ) (b : Block) → length (decls_of b) ≤ 4096 → length (block_lines indent b) ≤ 4096 + count_block b
 length-block indent (block ds ss) h =
     omega (arith, length-append (map (decl_line indent) ds) (stmts_lines indent ss), length-decl_lines indent ds, length-stmts indent ss)
 

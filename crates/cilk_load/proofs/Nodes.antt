@@ -1,29 +1,32 @@
 -- The nodes that the pass writes are those of the labelled program.
-use Rattle.std.proofs.Common.{◌≡◌, ℕ, suc, ◌+◌, ◌<◌, Bool, true, false, cond, List, [], ◌∷◌, ◌++◌, length, map, take, Option, Some, None, refl, sym, ap, subst, ◌∙◌, arith, append_assoc, append-nil, length-append, if◌then◌else◌, get_or}
+use Rattle.std.proofs.Common.{◌≡◌, ℕ, suc, ◌+◌, Bool, true, false, List, [], ◌∷◌, ◌++◌, length, map, take, Option, Some, None, refl, sym, ap, subst, ◌∙◌, arith, append_assoc, append-nil, length-append, if◌then◌else◌}
 use Rattle.std.specs.Prelude.{filter_map, slice_index_or, bytes_eq, pos}
 use Rattle.std.proofs.Math.Seq.{get_or-append_seam}
 use Rattle.std.proofs.lemmas.Slice.Eq.{bytes_eq-Decides}
 use Rattle.std.proofs.lemmas.List.Elements.{filter_map-append}
+use Rattle.cilk_tree.specs.Adjustments.{operator_of}
+use Rattle.cilk_tree.specs.declared.operator.BinOp.{BinOp}
 use Rattle.cilk_tree.specs.Tree as tree
+use Rattle.cilk_tree.specs.Parameters.{parameter_decl}
 use Rattle.cilk_eval.specs.Term as term
 use Rattle.cilk_eval.specs.Term.{Term, rename}
 use Rattle.cilk_eval.specs.declared.area.Area.TheVariants.{Own}
 use Rattle.cilk_eval.specs.declared.slot.Slot.{Slot}
-use Rattle.cilk_model.specs.Declaration.{Declaration, local, global, unknown}
-use Rattle.cilk_model.specs.Scope.{Visible, Scope, meaning_of, with_local, with_locals, label_expr}
-use Rattle.cilk_model.specs.Count.{count_option, count_decls, count_stmt, count_stmts, count_block, count_item}
-use Rattle.cilk_model.specs.Labelled.{Variable, Stmts, none, Body, Labelled}
-use Rattle.cilk_model.specs.Label.{variable_of, block_variables, label_initialiser, label_decls, label_stmts, label_block, label_procedure, label_items}
-use Rattle.cilk_model.specs.Items.{Items, pieces, opened, closing_items}
+use Rattle.cilk_model.specs.Declaration.{Declaration, local, unknown}
+use Rattle.cilk_model.specs.Scope.{Scope, meaning_of, with_local, with_locals, label_expr}
+use Rattle.cilk_model.specs.Count.{count_option, count_decls, count_stmts, count_item}
+use Rattle.cilk_model.specs.Labelled.{Variable, Stmts, Body, Labelled}
+use Rattle.cilk_model.specs.Label.{variable_of, label_initialiser, label_decls, label_stmts, label_block, label_procedure, label_items}
+use Rattle.cilk_model.specs.Items.{Items, pieces, closing_items}
 use Rattle.cilk_model.specs.Instance.{body_at, no_body}
 use Rattle.cilk_load.specs.declared.var.Var.{Var}
-use Rattle.cilk_load.specs.declared.action.Action.TheVariants.{Assign, Return, Close}
+use Rattle.cilk_load.specs.declared.action.Action.TheVariants.{Assign, Return, AssignBy, Null, ReturnNothing}
 use Rattle.cilk_load.specs.declared.node.Node.{Node}
-use Rattle.cilk_load.specs.Slots.{size_of, slot_from, slot_of}
+use Rattle.cilk_load.specs.Slots.{slot_from, slot_of}
 use Rattle.cilk_load.specs.Table.{node_over, node_at, stmts_lists, body_lists, nodes_from}
 use Rattle.cilk_load.specs.Bodies.{vars_from}
-use Rattle.cilk_load.specs.Pass.{nowhere, slot_in, code_in, assignment_node, initialiser_nodes, decls_nodes, stmts_nodes, block_nodes, closing_node, block_vars, item_nodes, items_nodes}
-use Rattle.cilk_load.proofs.Blocks.{Starts, starts_at, stmts-start, decls-start, block_variables-decls}
+use Rattle.cilk_load.specs.Pass.{nowhere, slot_in, code_in, assignment_node, update_node, initialiser_nodes, decls_nodes, stmts_nodes, block_nodes, closing_node, item_nodes, items_nodes, own_vars}
+use Rattle.cilk_load.proofs.Blocks.{Starts, starts_at, stmts-start, decls-start, length-parameters, own_variables, own_vars-are, length-vars_from, length-map}
 
 -- a name means the slot that these variables give it
 abbrev pub Agree : (Declaration → Slot) → Scope → List Var → Type 0
@@ -34,6 +37,9 @@ code_in-label slots scope vars agree (tree.number n) = refl
 code_in-label slots scope vars agree (tree.named name) = ap term.variable (agree name.text)
 code_in-label slots scope vars agree (tree.binary op a b) =
     λ i. term.binary op (code_in-label slots scope vars agree a i) (code_in-label slots scope vars agree b i)
+code_in-label slots scope vars agree (tree.unary op a) = λ i. term.unary op (code_in-label slots scope vars agree a i)
+code_in-label slots scope vars agree (tree.choose t a b) =
+    λ i. term.choose (code_in-label slots scope vars agree t i) (code_in-label slots scope vars agree a i) (code_in-label slots scope vars agree b i)
 
 -- one more variable is the newest
 slot_in-push : (found : Slot) (vars : List Var) (v : Var) (name : List ℕ) → slot_in found (vars ++ v ∷ []) name ≡ (if bytes_eq v.name name then v.slot else slot_in found vars name)
@@ -59,6 +65,15 @@ assignment-is slots b scope vars at name e s next agree is_slot is_next = λ i. 
   body = b;
 }
 
+-- a node of an assignment with an operator
+update-is : (b : ℕ) (vars : List Var) (at : ℕ) (op : BinOp) (name : List ℕ) (value : Term Slot) {same : Term Slot} (s : Slot) (next : Option ℕ) → value ≡ same → slot_in nowhere vars name ≡ s → next ≡ Some (at + 1)
+    → update_node b vars at op name value ≡ record { action = AssignBy op s same; next = next; body = b }
+update-is b vars at op name value s next is_same is_slot is_next = λ i. record {
+  action = AssignBy op (is_slot i) (is_same i);
+  next = sym is_next i;
+  body = b;
+}
+
 pub stmts-are : (slots : Declaration → Slot) (b : ℕ) (scope : Scope) (vars : List Var) → Agree slots scope vars → (at n : ℕ) (ss : tree.Stmts) (items : Items) → Starts items (at + count_stmts ss)
     → stmts_nodes b vars at ss ≡ filter_map (node_over slots b) (stmts_lists (label_stmts scope at n ss) items)
 stmts-are slots b scope vars agree at n tree.none items h = refl
@@ -66,10 +81,25 @@ stmts-are slots b scope vars agree at n (tree.also (tree.assign place value) oth
     let e : at + (1 + count_stmts others) ≡ at + 1 + count_stmts others = omega arith in
     let h' = starts_at items _ _ e h in
     λ i. assignment-is slots b scope vars at place.name.text value _ _ agree (agree place.name.text) (stmts-start scope (at + 1) (n + 0) others items h') i ∷ stmts-are slots b scope vars agree (at + 1) (n + 0) others items h' i
-stmts-are slots b scope vars agree at n (tree.also (tree.return_with value) others) items h =
+stmts-are slots b scope vars agree at n (tree.also (tree.return_at place None) others) items h =
+    let e : at + (1 + count_stmts others) ≡ at + 1 + count_stmts others = omega arith in
+    ap (λ (ns : List Node). record { action = ReturnNothing; next = None; body = b } ∷ ns) (stmts-are slots b scope vars agree (at + 1) (n + 0) others items (starts_at items _ _ e h))
+stmts-are slots b scope vars agree at n (tree.also (tree.return_at place (Some value)) others) items h =
     let e : at + (1 + count_stmts others) ≡ at + 1 + count_stmts others = omega arith in
     let h' = starts_at items _ _ e h in
     λ i. record { action = Return (code_in-label slots scope vars agree value i); next = None; body = b } ∷ stmts-are slots b scope vars agree (at + 1) (n + 0) others items h' i
+stmts-are slots b scope vars agree at n (tree.also tree.null others) items h =
+    let e : at + (1 + count_stmts others) ≡ at + 1 + count_stmts others = omega arith in
+    let h' = starts_at items _ _ e h in
+    λ i. record { action = Null; next = sym (stmts-start scope (at + 1) (n + 0) others items h') i; body = b } ∷ stmts-are slots b scope vars agree (at + 1) (n + 0) others items h' i
+stmts-are slots b scope vars agree at n (tree.also (tree.update place op value) others) items h =
+    let e : at + (1 + count_stmts others) ≡ at + 1 + count_stmts others = omega arith in
+    let h' = starts_at items _ _ e h in
+    λ i. update-is b vars at op place.name.text _ _ _ (code_in-label slots scope vars agree value) (agree place.name.text) (stmts-start scope (at + 1) (n + 0) others items h') i ∷ stmts-are slots b scope vars agree (at + 1) (n + 0) others items h' i
+stmts-are slots b scope vars agree at n (tree.also (tree.adjust place by) others) items h =
+    let e : at + (1 + count_stmts others) ≡ at + 1 + count_stmts others = omega arith in
+    let h' = starts_at items _ _ e h in
+    λ i. update-is b vars at (operator_of by) place.name.text (term.number 1) _ _ refl (agree place.name.text) (stmts-start scope (at + 1) (n + 0) others items h') i ∷ stmts-are slots b scope vars agree (at + 1) (n + 0) others items h' i
 
 init-are : (slots : Declaration → Slot) (b : ℕ) (scope : Scope) (vars : List Var) → Agree slots scope vars → (at n : ℕ) (name : List ℕ) (value : Option tree.Expr) (after : Stmts) (items : Items) (rest : List Node) → slot_in nowhere vars name ≡ slots (local n) → Starts (pieces after items) (at + count_option value)
     → rest ≡ filter_map (node_over slots b) (stmts_lists after items)
@@ -105,15 +135,28 @@ take-seam (s ∷ seen) vs v = ap (λ ws. s ∷ ws) (take-seam seen vs v)
 own-name : (slots : Declaration → Slot) (text : List ℕ) (d e : Declaration) → slots (if bytes_eq text text then d else e) ≡ slots d
 own-name slots text d e = ap (λ (b : Bool). slots (if b then d else e)) (bytes_eq-self text)
 
-pub agree-all : (slots : Declaration → Slot) (scope : Scope) (seen : List Var) (offset n : ℕ) → Agree slots scope seen → (ds : List tree.Decl) → ((k : ℕ) → slots (local (n + k)) ≡ slot_from Own offset (map variable_of ds) k)
+-- whatever variables come behind these
+pub agree-all : (slots : Declaration → Slot) (scope : Scope) (seen : List Var) (offset n : ℕ) → Agree slots scope seen → (ds : List tree.Decl) (behind : List Variable) → ((k : ℕ) → slots (local (n + k)) ≡ slot_from Own offset (map variable_of ds ++ behind) k)
     → Agree slots (with_locals scope n ds) (seen ++ vars_from Own offset (map variable_of ds))
-agree-all slots scope seen offset n agree [] h = subst (λ vs. Agree slots scope vs) (sym (append-nil seen)) agree
-agree-all slots scope seen offset n agree (d ∷ ds) h =
+agree-all slots scope seen offset n agree [] behind h = subst (λ vs. Agree slots scope vs) (sym (append-nil seen)) agree
+agree-all slots scope seen offset n agree (d ∷ ds) behind h =
     let v : Var = var_at offset d in
     let here : v.slot ≡ slots (local n) = sym (h 0) ∙ ap (λ k. slots (local k)) (add-zero-of n) in
-    let h' : (k : ℕ) → slots (local (suc n + k)) ≡ slot_from Own (offset + 1) (map variable_of ds) k = λ k. ap (λ i. slots (local i)) (add-suc-of n k) ∙ h (suc k) in
+    let h' : (k : ℕ) → slots (local (suc n + k)) ≡ slot_from Own (offset + 1) (map variable_of ds ++ behind) k = λ k. ap (λ i. slots (local i)) (add-suc-of n k) ∙ h (suc k) in
     subst (λ vs. Agree slots (with_locals (with_local scope n d) (suc n) ds) vs) (append_assoc seen (v ∷ []) (vars_from Own (offset + 1) (map variable_of ds)))
-    (agree-all slots (with_local scope n d) (seen ++ v ∷ []) (offset + 1) (suc n) (agree-push slots scope seen v n d agree refl here) ds h')
+    (agree-all slots (with_local scope n d) (seen ++ v ∷ []) (offset + 1) (suc n) (agree-push slots scope seen v n d agree refl here) ds behind h')
+
+-- the slots behind those of declarations
+slot_from-behind : (at : ℕ) (ds : List tree.Decl) (vs : List Variable) (k : ℕ) → slot_from Own at (map variable_of ds ++ vs) (length ds + k) ≡ slot_from Own (at + length ds) vs k
+slot_from-behind at [] vs k = λ i. slot_from Own (sym (add-zero-of at) i) vs (zero-add-of k i)
+slot_from-behind at (d ∷ ds) vs k =
+    ap (λ n. slot_from Own at (variable_of d ∷ (map variable_of ds ++ vs)) n) (suc-add-of (length ds) k) ∙ slot_from-behind (at + 1) ds vs k ∙ ap (λ n. slot_from Own n vs k) (add-one-of at (length ds))
+  where
+    suc-add-of : (n k : ℕ) → suc n + k ≡ suc (n + k)
+    suc-add-of n k = omega arith
+
+    add-one-of : (a n : ℕ) → a + 1 + n ≡ a + suc n
+    add-one-of a n = omega arith
 
 pub decls-are : (slots : Declaration → Slot) (b : ℕ) (scope : Scope) (seen : List Var) (offset m n : ℕ) → Agree slots scope seen → m ≡ length seen → (ds : List tree.Decl) (at : ℕ) (others : Stmts) (items : Items) (rest : List Node) → ((k : ℕ) → slots (local (n + k)) ≡ slot_from Own offset (map variable_of ds) k)
     → Starts (pieces others items) (at + count_decls ds) → rest ≡ filter_map (node_over slots b) (stmts_lists others items)
@@ -138,33 +181,44 @@ decls-are slots b scope seen offset m n agree is_m (d ∷ ds) at others items re
     ∙ init-are slots b (with_local scope n d) (seen ++ v ∷ []) agree' at n d.name.text d.value (label_decls (with_local scope n d) (at + count_option d.value) (suc n) ds others) items (decls_nodes b ((seen ++ v ∷ []) ++ vs) (m + 1) (at + count_option d.value) ds ++ rest) own (decls-start (with_local scope n d) (at + count_option d.value) (suc n) ds others items starts') later
 
 -- of a body, where the slots are those of its variables
-pub body-are : (slots : Declaration → Slot) (b at : ℕ) (name : tree.Word) (ds : List tree.Decl) (ss : tree.Stmts) → ((k : ℕ) → slots (local k) ≡ slot_from Own 0 (map variable_of ds) k) → slots unknown ≡ nowhere
-    → item_nodes b at (tree.procedure (record { name = name; body = tree.block ds ss })) ≡ filter_map (node_over slots b) (body_lists (label_procedure [] at (record { name = name; body = tree.block ds ss })))
-body-are slots b at name ds ss h missing =
-    let vs : List Var = vars_from Own 0 (map variable_of ds) in
+pub body-are : (slots : Declaration → Slot) (b at : ℕ) (p : tree.Proc) (ds : List tree.Decl) (ss : tree.Stmts) → ((k : ℕ) → slots (local k) ≡ slot_from Own 0 (map variable_of (map parameter_decl p.parameters) ++ map variable_of ds) k) → slots unknown ≡ nowhere
+    → item_nodes b at (tree.procedure (record p { body = tree.block ds ss })) ≡ filter_map (node_over slots b) (body_lists (label_procedure [] at (record p { body = tree.block ds ss })))
+body-are slots b at p ds ss h missing =
+    let ps : List tree.Decl = map parameter_decl p.parameters in
+    let n : ℕ = length p.parameters in
+    let scope : Scope = with_locals [] 0 ps in
+    let seen : List Var = vars_from Own 0 (map variable_of ps) in
+    let vs : List Var = seen ++ vars_from Own n (map variable_of ds) in
     let items : Items = closing_items (at + (count_decls ds + count_stmts ss)) in
-    let after : Stmts = label_stmts (with_locals [] 0 ds) (at + count_decls ds) (0 + length ds) ss in
-    let h' : (k : ℕ) → slots (local (0 + k)) ≡ slot_from Own 0 (map variable_of ds) k = λ k. ap (λ i. slots (local i)) (zero-add-of k) ∙ h k in
+    let after : Stmts = label_stmts (with_locals scope n ds) (at + count_decls ds) (n + length ds) ss in
+    let first : (k : ℕ) → slots (local (0 + k)) ≡ slot_from Own 0 (map variable_of ps ++ map variable_of ds) k = λ k. ap (λ i. slots (local i)) (zero-add-of k) ∙ h k in
+    let size : length ps ≡ n = length-parameters p.parameters in
+    let offset : 0 + length ps ≡ n = zero-add-of (length ps) ∙ size in
+    let second : (k : ℕ) → slots (local (n + k)) ≡ slot_from Own n (map variable_of ds) k =
+    λ k. ap (λ m. slots (local (m + k))) (sym size) ∙ h (length ps + k) ∙ slot_from-behind 0 ps (map variable_of ds) k ∙ ap (λ m. slot_from Own m (map variable_of ds) k) offset in
     let none_yet : Agree slots [] [] = λ name. sym missing in
-    let all : Agree slots (with_locals [] 0 ds) vs = agree-all slots [] [] 0 0 none_yet ds h' in
+    let agree : Agree slots scope seen = agree-all slots [] [] 0 0 none_yet ps (map variable_of ds) first in
+    let all : Agree slots (with_locals scope n ds) vs = agree-all slots scope seen n n agree ds [] (λ k. second k ∙ ap (λ ws. slot_from Own n ws k) (sym (append-nil (map variable_of ds)))) in
     let e : at + (count_decls ds + count_stmts ss) ≡ at + count_decls ds + count_stmts ss = omega arith in
     let starts : Starts items (at + count_decls ds + count_stmts ss) = starts_at items _ _ e refl in
-    let rest = stmts-are slots b (with_locals [] 0 ds) vs all (at + count_decls ds) (0 + length ds) ss items starts in
-    let front = decls-are slots b [] [] 0 0 0 none_yet refl ds at after items (stmts_nodes b vs (at + count_decls ds) ss) h' (stmts-start (with_locals [] 0 ds) (at + count_decls ds) (0 + length ds) ss items starts) rest in
-    ap (λ (ws : List Variable). block_nodes b (vars_from Own 0 ws) at (tree.block ds ss) ++ closing_node b ∷ []) (block_variables-decls ds ss)
+    let rest = stmts-are slots b (with_locals scope n ds) vs all (at + count_decls ds) (n + length ds) ss items starts in
+    let count : n ≡ length seen = omega (arith, size, length-vars_from Own 0 (map variable_of ps), length-map ps) in
+    let front = decls-are slots b scope seen n n n agree count ds at after items (stmts_nodes b vs (at + count_decls ds) ss) second (stmts-start (with_locals scope n ds) (at + count_decls ds) (n + length ds) ss items starts) rest in
+    let own : own_vars (record p { body = tree.block ds ss }) ≡ vs = ap (vars_from Own 0) (own_variables p.parameters ds ss) ∙ own_vars-are p.parameters ds in
+    ap (λ (ws : List Var). block_nodes b ws n at (tree.block ds ss) ++ closing_node b ∷ []) own
     ∙ ap (λ (ns : List Node). ns ++ closing_node b ∷ []) front
-    ∙ sym (filter_map-append (node_over slots b) (stmts_lists (label_block [] at 0 (tree.block ds ss)) items) (items ∷ []))
+    ∙ sym (filter_map-append (node_over slots b) (stmts_lists (label_block scope at n (tree.block ds ss)) items) (items ∷ []))
 
 body-found : (program : Labelled) (b : ℕ) (pre rest : List Body) (body : Body) → b ≡ length pre → program.bodies ≡ pre ++ body ∷ rest → body_at program b ≡ body
 body-found program b pre rest body e h =
     ap (λ (bodies : List Body). slice_index_or bodies b no_body) h ∙ ap (λ k. slice_index_or (pre ++ body ∷ rest) k no_body) e ∙ get_or-append_seam pre body rest no_body
 
 one-body : (program : Labelled) (n at : ℕ) (p : tree.Proc) → body_at program n ≡ label_procedure [] at p → item_nodes n at (tree.procedure p) ≡ filter_map (node_at program n) (body_lists (label_procedure [] at p))
-one-body program n at p found = by_parts p.name p.body found
+one-body program n at p found = by_parts p.body found
   where
-    by_parts : (name : tree.Word) (b : tree.Block) → body_at program n ≡ label_procedure [] at (record { name = name; body = b }) → item_nodes n at (tree.procedure (record { name = name; body = b })) ≡ filter_map (node_at program n) (body_lists (label_procedure [] at (record { name = name; body = b })))
-    by_parts name (tree.block ds ss) found =
-        body-are (slot_of program n) n at name ds ss (λ k. ap (λ (body : Body). slot_from Own 0 body.variables k) found ∙ ap (λ (vs : List Variable). slot_from Own 0 vs k) (block_variables-decls ds ss)) refl
+    by_parts : (b : tree.Block) → body_at program n ≡ label_procedure [] at (record p { body = b }) → item_nodes n at (tree.procedure (record p { body = b })) ≡ filter_map (node_at program n) (body_lists (label_procedure [] at (record p { body = b })))
+    by_parts (tree.block ds ss) found =
+        body-are (slot_of program n) n at p ds ss (λ k. ap (λ (body : Body). slot_from Own 0 body.variables k) found ∙ ap (λ (vs : List Variable). slot_from Own 0 vs k) (own_variables p.parameters ds ss)) refl
 
 -- of all bodies from one on
 pub items-are : (program : Labelled) (m n at : ℕ) (items : List tree.Item) (pre : List Body) → m ≡ length pre → n ≡ length pre → program.bodies ≡ pre ++ label_items [] at items

@@ -3,8 +3,9 @@ use Rattle.std.proofs.Common.{◌≡◌, ℕ, zero, suc, ◌+◌, List, [], ◌�
 use Rattle.std.specs.Prelude.{slice_get, filter_map, option_map, true}
 use Rattle.std.specs.List.{cons_option}
 use Rattle.cilk_tree.specs.Tree as tree
+use Rattle.cilk_tree.specs.Parameters.{parameter_decl}
 use Rattle.cilk_model.specs.Scope.{Scope, with_local, with_locals}
-use Rattle.cilk_model.specs.Count.{count_option, count_decls, count_stmt, count_stmts, count_item, count_items}
+use Rattle.cilk_model.specs.Count.{count_option, count_decls, count_stmts, count_item, count_items}
 use Rattle.cilk_model.specs.Labelled.{Stmts, Body, Labelled}
 use Rattle.cilk_model.specs.Label.{label_initialiser, label_decls, label_stmts, label_block, label_procedure, label_items}
 use Rattle.cilk_model.specs.Items.{Items, Head, head_of, next, opened, closing_items}
@@ -43,14 +44,23 @@ spans-append : (n m k : ℕ) (xs ys : List Items) → Spans n m xs → Spans m k
 spans-append n m k [] ys e h = spans_at m n k ys (sym e) h
 spans-append n m k (x ∷ xs) ys (first, later) h = (first, spans-append (suc n) m k xs ys later h)
 
+-- the lists behind one with the number `at`, of which there are c
+one-span : (at c : ℕ) (ls : List Items) → Spans (at + 1) (at + 1 + c) ls → Spans (suc at) (at + (1 + c)) ls
+one-span at c ls h =
+    spans_at (at + 1) (suc at) _ ls (omega arith) (spans_to (at + 1) (at + 1 + c) (at + (1 + c)) ls (omega arith) h)
+
 stmts-span : (scope : Scope) (at n : ℕ) (ss : tree.Stmts) (items : Items) → Spans at (at + count_stmts ss) (stmts_lists (label_stmts scope at n ss) items)
 stmts-span scope at n tree.none items = omega arith
 stmts-span scope at n (tree.also (tree.assign place value) others) items =
-    let later = stmts-span scope (at + 1) (n + 0) others items in
-    (refl, spans_at (at + 1) (suc at) _ (stmts_lists (label_stmts scope (at + 1) (n + 0) others) items) (omega arith) (spans_to (at + 1) (at + 1 + count_stmts others) (at + (1 + count_stmts others)) (stmts_lists (label_stmts scope (at + 1) (n + 0) others) items) (omega arith) later))
-stmts-span scope at n (tree.also (tree.return_with value) others) items =
-    let later = stmts-span scope (at + 1) (n + 0) others items in
-    (refl, spans_at (at + 1) (suc at) _ (stmts_lists (label_stmts scope (at + 1) (n + 0) others) items) (omega arith) (spans_to (at + 1) (at + 1 + count_stmts others) (at + (1 + count_stmts others)) (stmts_lists (label_stmts scope (at + 1) (n + 0) others) items) (omega arith) later))
+    (refl, one-span at (count_stmts others) _ (stmts-span scope (at + 1) (n + 0) others items))
+stmts-span scope at n (tree.also (tree.return_at place value) others) items =
+    (refl, one-span at (count_stmts others) _ (stmts-span scope (at + 1) (n + 0) others items))
+stmts-span scope at n (tree.also tree.null others) items =
+    (refl, one-span at (count_stmts others) _ (stmts-span scope (at + 1) (n + 0) others items))
+stmts-span scope at n (tree.also (tree.update place op value) others) items =
+    (refl, one-span at (count_stmts others) _ (stmts-span scope (at + 1) (n + 0) others items))
+stmts-span scope at n (tree.also (tree.adjust place by) others) items =
+    (refl, one-span at (count_stmts others) _ (stmts-span scope (at + 1) (n + 0) others items))
 
 init-span : (scope : Scope) (at n m : ℕ) (value : Option tree.Expr) (after : Stmts) (items : Items) → Spans (at + count_option value) m (stmts_lists after items) → Spans at m (stmts_lists (label_initialiser scope at n value after) items)
 init-span scope at n m None after items h = spans_at (at + 0) at m (stmts_lists after items) (omega arith) h
@@ -63,19 +73,20 @@ decls-span scope at n m (d ∷ ds) others items h =
     init-span (with_local scope n d) at n m d.value (label_decls (with_local scope n d) (at + count_option d.value) (suc n) ds others) items
     (decls-span (with_local scope n d) (at + count_option d.value) (suc n) m ds others items (spans_at _ _ m (stmts_lists others items) e h))
 
-block-span : (at : ℕ) (ds : List tree.Decl) (ss : tree.Stmts) (items : Items) → Spans at (at + (count_decls ds + count_stmts ss)) (stmts_lists (label_block [] at 0 (tree.block ds ss)) items)
-block-span at ds ss items =
-    let scope : Scope = with_locals [] 0 ds in
-    let after : Stmts = label_stmts scope (at + count_decls ds) (0 + length ds) ss in
-    decls-span [] at 0 _ ds after items (spans_to _ _ _ (stmts_lists after items) (omega arith) (stmts-span scope (at + count_decls ds) (0 + length ds) ss items))
+block-span : (scope : Scope) (n at : ℕ) (ds : List tree.Decl) (ss : tree.Stmts) (items : Items) → Spans at (at + (count_decls ds + count_stmts ss)) (stmts_lists (label_block scope at n (tree.block ds ss)) items)
+block-span scope n at ds ss items =
+    let inner : Scope = with_locals scope n ds in
+    let after : Stmts = label_stmts inner (at + count_decls ds) (n + length ds) ss in
+    decls-span scope at n _ ds after items (spans_to _ _ _ (stmts_lists after items) (omega arith) (stmts-span inner (at + count_decls ds) (n + length ds) ss items))
 
 pub body-span : (at : ℕ) (f : tree.Proc) → Spans at (at + count_item (tree.procedure f)) (body_lists (label_procedure [] at f))
-body-span at f = by_parts f.name f.body
+body-span at f = by_parts f.body
   where
-    by_parts : (name : tree.Word) (b : tree.Block) → Spans at (at + count_item (tree.procedure (record { name = name; body = b }))) (body_lists (label_procedure [] at (record { name = name; body = b })))
-    by_parts name (tree.block ds ss) =
+    by_parts : (b : tree.Block) → Spans at (at + count_item (tree.procedure (record f { body = b }))) (body_lists (label_procedure [] at (record f { body = b })))
+    by_parts (tree.block ds ss) =
+        let scope : Scope = with_locals [] 0 (map parameter_decl f.parameters) in
         let n : ℕ = at + (count_decls ds + count_stmts ss) in
-        spans-append at n _ (stmts_lists (label_block [] at 0 (tree.block ds ss)) (closing_items n)) (closing_items n ∷ []) (block-span at ds ss (closing_items n)) (refl, omega arith)
+        spans-append at n _ (stmts_lists (label_block scope at (length f.parameters) (tree.block ds ss)) (closing_items n)) (closing_items n ∷ []) (block-span scope (length f.parameters) at ds ss (closing_items n)) (refl, omega arith)
 
 rows-append : (n m k b : ℕ) (xs : List Items) (rows : List Row) → Spans n m xs → RowsSpan m k rows → RowsSpan n k (map (row b) xs ++ rows)
 rows-append n m k b [] rows e h = subst (λ i. RowsSpan i k rows) (sym e) h

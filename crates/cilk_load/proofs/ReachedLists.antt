@@ -1,12 +1,11 @@
 -- Each list that a body reaches stands in the table at its head's number.
-use Rattle.std.proofs.Common.{◌≡◌, ℕ, zero, suc, ◌+◌, ◌<◌, Bool, true, false, List, [], ◌∷◌, ◌++◌, length, map, Option, Some, None, ◌⊎◌, inl, inr, refl, sym, ap, subst, ◌∙◌, arith, unwrap_or}
-use Rattle.std.specs.Prelude.{slice_get, slice_index_or, option_map}
+use Rattle.std.proofs.Common.{◌≡◌, ℕ, zero, suc, ◌+◌, ◌<◌, Bool, true, List, [], ◌∷◌, ◌++◌, length, map, Option, Some, None, ◌⊎◌, inl, inr, refl, sym, ap, subst, ◌∙◌, arith, unwrap_or}
+use Rattle.std.specs.Prelude.{slice_get, slice_index_or}
 use Rattle.cilk_tree.specs.Tree as tree
-use Rattle.cilk_model.specs.Scope.{Scope}
 use Rattle.cilk_model.specs.Count.{count_item, count_items}
 use Rattle.cilk_model.specs.Labelled.{Action, assign, return_with, close, assign_by, null, return_nothing, spawn, sync, action, Stmts, none, also, Body, Labelled}
-use Rattle.cilk_model.specs.Label.{label, label_items, label_procedure, bodies_of}
-use Rattle.cilk_model.specs.Items.{Item, piece, Items, pieces, opened, after_action, next, head_of, Head, closing_items, start_items, reached}
+use Rattle.cilk_model.specs.Label.{label, label_items, label_procedure}
+use Rattle.cilk_model.specs.Items.{Item, piece, Items, pieces, opened, after_action, next, closing_items, start_items, reached}
 use Rattle.cilk_model.specs.Instance.{body_at, no_body}
 use Rattle.cilk_load.specs.declared.body.Body as code
 use Rattle.cilk_load.specs.declared.node.Node.{Node}
@@ -151,10 +150,10 @@ successors-stand p b answers n node h e answer =
 -- the first number of each body
 starts-at : (at : ℕ) (items : List tree.Item) (b : ℕ) → b < length (label_items [] at items) → (n : ℕ) × (number_of (opened (start_items (slice_index_or (label_items [] at items) b no_body))) ≡ Some n)
 starts-at at [] b h = absurd (omega arith)
-starts-at at (tree.procedure f ∷ items) zero h = by_parts f.name f.body
+starts-at at (tree.procedure f ∷ items) zero h = by_parts f.body
   where
-    by_parts : (name : tree.Word) (b : tree.Block) → (n : ℕ) × (number_of (opened (start_items (label_procedure [] at (record { name = name; body = b })))) ≡ Some n)
-    by_parts name (tree.block ds ss) = (at, entry-is at name ds ss)
+    by_parts : (b : tree.Block) → (n : ℕ) × (number_of (opened (start_items (label_procedure [] at (record f { body = b })))) ≡ Some n)
+    by_parts (tree.block ds ss) = (at, entry-is at f ds ss)
 starts-at at (tree.procedure f ∷ items) (suc b) h = starts-at (at + count_item (tree.procedure f)) items b (omega arith)
 
 get-table : (bodies : List Body) (b : ℕ) (t : code.Body) → slice_get (map body_table bodies) b ≡ Some t → (b < length bodies) × (body_table (slice_index_or bodies b no_body) ≡ t)

@@ -1,18 +1,17 @@
 -- The tables that the pass writes are those of the program.
-use Rattle.std.proofs.Common.{◌≡◌, ℕ, suc, ◌+◌, ◌<◌, ◌≤◌, Bool, not, cond, List, [], ◌∷◌, ◌++◌, length, map, codes, Option, Some, None, refl, sym, ap, subst, ◌∙◌, arith, nat_lt}
-use Rattle.std.specs.Prelude.{bytes_eq}
+use Rattle.std.proofs.Common.{◌≡◌, ℕ, suc, ◌+◌, ◌≤◌, not, cond, List, [], ◌∷◌, ◌++◌, length, map, Some, None, refl, sym, ap, ◌∙◌, nat_lt}
 use Rattle.std.specs.List.{prefix_len, position}
 use Rattle.cilk_tree.specs.Tree as tree
 use Rattle.cilk_model.specs.Count.{count_item, count_items, count_program}
 use Rattle.cilk_model.specs.Lines.{items_action_lines}
 use Rattle.cilk_model.specs.Labelled.{Variable, Body}
 use Rattle.cilk_model.specs.Label as model
-use Rattle.cilk_model.specs.Label.{label, label_items, label_procedure, global_scope, bodies_of}
+use Rattle.cilk_model.specs.Label.{label, label_items, label_procedure, global_scope, bodies_of, is_start}
 use Rattle.cilk_load.specs.declared.body.Body as code
 use Rattle.cilk_load.specs.declared.var.Var.{Var}
 use Rattle.cilk_load.specs.declared.node.Node.{Node}
-use Rattle.cilk_load.specs.Table.{nodes_from, nodes_of}
-use Rattle.cilk_load.specs.Bodies.{body_table, globals_of, vars_from}
+use Rattle.cilk_load.specs.Table.{nodes_from}
+use Rattle.cilk_load.specs.Bodies.{body_table, starts_here, vars_from}
 use Rattle.cilk_load.specs.Pass.{items_nodes, items_bodies}
 use Rattle.cilk_load.specs.Tables.{Tabled}
 use Rattle.cilk_load.proofs.Nodes.{items-are}
@@ -31,20 +30,19 @@ tables-are at [] = refl
 tables-are at (tree.procedure f ∷ items) =
     ap (λ (bodies : List code.Body). body_table (label_procedure [] at f) ∷ bodies) (tables-are (at + count_item (tree.procedure f)) items)
 
-same_before : (name : List ℕ) (bodies : List Body) → prefix_len (λ (b : code.Body). not (bytes_eq b.name name)) (map body_table bodies) ≡ prefix_len (λ (b : Body). not (bytes_eq b.name name)) bodies
-same_before name [] = refl
-same_before name (b ∷ bodies) = ap (λ k. cond (not (bytes_eq b.name name)) (1 + k) 0) (same_before name bodies)
+same_before : (bodies : List Body) → prefix_len (λ (b : code.Body). not (starts_here b)) (map body_table bodies) ≡ prefix_len (λ (b : Body). not (is_start b)) bodies
+same_before [] = refl
+same_before (b ∷ bodies) = ap (λ k. cond (not (is_start b)) (1 + k) 0) (same_before bodies)
 
 same_length : (bodies : List Body) → length (map body_table bodies) ≡ length bodies
 same_length [] = refl
 same_length (b ∷ bodies) = ap suc (same_length bodies)
 
--- a table has the name of its body
-same_position : (name : List ℕ) (bodies : List Body) → position (λ (b : code.Body). bytes_eq b.name name) (map body_table bodies) ≡ position (λ (b : Body). bytes_eq b.name name) bodies
-same_position name bodies =
-    λ i. cond (nat_lt (same_before name bodies i) (same_length bodies i)) (Some (same_before name bodies i)) None
+-- a table has the name and the parameters of its body
+same_position : (bodies : List Body) → position starts_here (map body_table bodies) ≡ position is_start bodies
+same_position bodies = λ i. cond (nat_lt (same_before bodies i) (same_length bodies i)) (Some (same_before bodies i)) None
 
-pub tabled : (p : tree.Program) (nodes : List Node) (lines : List ℕ) (bodies : List code.Body) (main : ℕ) (globals locks : List Var) → count_program p ≤ 65535 → nodes ≡ items_nodes 0 1 p.items → lines ≡ items_action_lines 1 p.items → bodies ≡ items_bodies 1 p.items → position (λ (b : code.Body). bytes_eq b.name (codes "main")) bodies ≡ Some main → globals ≡ [] → locks ≡ [] → length nodes ≡ count_items p.items → length lines ≡ count_items p.items → Tabled p nodes lines bodies main globals locks
+pub tabled : (p : tree.Program) (nodes : List Node) (lines : List ℕ) (bodies : List code.Body) (main : ℕ) (globals locks : List Var) → count_program p ≤ 65535 → nodes ≡ items_nodes 0 1 p.items → lines ≡ items_action_lines 1 p.items → bodies ≡ items_bodies 1 p.items → position starts_here bodies ≡ Some main → globals ≡ [] → locks ≡ [] → length nodes ≡ count_items p.items → length lines ≡ count_items p.items → Tabled p nodes lines bodies main globals locks
 tabled p nodes lines bodies main globals locks limit is_nodes is_lines is_bodies is_main is_globals is_locks node_count line_count =
     let pass : bodies_of p ≡ label_items [] 1 p.items = bodies-label p in
     let made : items_bodies 1 p.items ≡ map body_table (bodies_of p) = sym (tables-are 1 p.items) ∙ ap (λ (bs : List Body). map body_table bs) (sym pass) in
@@ -52,7 +50,7 @@ tabled p nodes lines bodies main globals locks limit is_nodes is_lines is_bodies
       nodes_are = is_nodes ∙ items-are (label p) 0 0 1 p.items [] refl refl pass ∙ ap (λ (bs : List Body). nodes_from (label p) 0 bs) (sym pass);
       lines_are = is_lines;
       bodies_are = is_bodies ∙ made;
-      main_is = sym (same_position (codes "main") (bodies_of p)) ∙ ap (λ (bs : List code.Body). position (λ (b : code.Body). bytes_eq b.name (codes "main")) bs) (sym (is_bodies ∙ made)) ∙ is_main;
+      main_is = sym (same_position (bodies_of p)) ∙ ap (λ (bs : List code.Body). position starts_here bs) (sym (is_bodies ∙ made)) ∙ is_main;
       globals_are = is_globals ∙ ap (λ (vs : List Variable). vars_from Global 0 vs) (sym (no_globals p.items));
       locks_are = is_locks;
       count_is = node_count;

@@ -1,5 +1,5 @@
 -- The tables of bodies and variables.
-use Rattle.std.specs.Prelude.{ℕ, ◌+◌, pos, List, [], ◌∷◌, Option, map, slice_get, unwrap_or}
+use Rattle.std.specs.Prelude.{ℕ, ◌+◌, ◌==◌, Bool, ◌&&◌, bytes_eq, codes, pos, List, [], ◌∷◌, Option, map, slice_get, unwrap_or}
 use Rattle.cilk_tree.specs.Tree as tree
 use Rattle.cilk_eval.specs.declared.area.Area.{Area}
 use Rattle.cilk_eval.specs.declared.area.Area.TheVariants.{Own, Global}
@@ -26,6 +26,10 @@ body_table body = record {
   cells = cells_of body.variables;
   vars = vars_from Own 0 body.variables;
 }
+
+-- whether a body is one to start with
+abbrev pub starts_here : Body → Bool
+starts_here body = bytes_eq body.name (codes "main") && body.params == 0
 
 -- body b, counted from 0
 abbrev pub body_of : tree.Program → ℕ → Option Body

@@ -4,7 +4,7 @@ use Rattle.cilk_eval.specs.declared.area.Area.{Area}
 use Rattle.cilk_eval.specs.declared.area.Area.TheVariants.{Own, Global}
 use Rattle.cilk_eval.specs.declared.slot.Slot.{Slot}
 use Rattle.cilk_model.specs.Declaration.{Declaration, local, global, unknown}
-use Rattle.cilk_model.specs.Labelled.{Variable, Body, Labelled}
+use Rattle.cilk_model.specs.Labelled.{Variable, Labelled}
 use Rattle.cilk_model.specs.Instance.{body_at}
 
 -- how many cells a variable has: one, if it is no array

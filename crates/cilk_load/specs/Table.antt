@@ -1,12 +1,12 @@
 -- The table of nodes: each action with slots in place of declarations, and the number of the action that comes next.
-use Rattle.std.specs.Prelude.{ℕ, zero, suc, true, List, [], ◌∷◌, ◌++◌, Option, Some, None, map, option_map, filter_map, slice_get}
+use Rattle.std.specs.Prelude.{ℕ, zero, suc, true, List, [], ◌∷◌, ◌++◌, Option, None, map, option_map, filter_map, slice_get}
 use Rattle.cilk_tree.specs.Tree as tree
 use Rattle.cilk_eval.specs.Term.{rename}
 use Rattle.cilk_eval.specs.declared.slot.Slot.{Slot}
 use Rattle.cilk_model.specs.Declaration.{Declaration}
 use Rattle.cilk_model.specs.Labelled.{Target, variable, Stmt, action, Stmts, none, also, Body, Labelled}
 use Rattle.cilk_model.specs.Labelled as labelled
-use Rattle.cilk_model.specs.Items.{Item, piece, Items, pieces, opened, Head, head_of, next, closing_items}
+use Rattle.cilk_model.specs.Items.{piece, Items, pieces, opened, Head, head_of, next, closing_items}
 use Rattle.cilk_model.specs.Label.{label}
 use Rattle.cilk_load.specs.declared.action.Action.{Action}
 use Rattle.cilk_load.specs.declared.action.Action.TheVariants.{Assign, Return, Close, AssignBy, Null, ReturnNothing, Spawn, Sync}

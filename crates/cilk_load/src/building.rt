@@ -1,9 +1,10 @@
 //! The nodes and the bodies of a program.
 
-ghost use Rattle.std.specs.Prelude.{◌≡◌, ◌+◌, ◌<◌, ◌≤◌, ◌^◌, [], ◌∷◌, ◌++◌, IfSome, IsSome, OnOk, Some, bytes_eq, codes, length, position, vec_len};
+ghost use Rattle.std.specs.Prelude.{◌≡◌, ◌+◌, ◌<◌, ◌≤◌, ◌^◌, [], ◌∷◌, ◌++◌, IfSome, IsSome, OnOk, Some, length, position, vec_len};
 ghost use Rattle.cilk_tree.specs.Tree.{procedure};
 ghost use Rattle.cilk_model.specs.Count.{count_item, count_items};
 ghost use Rattle.cilk_load.specs.Pass.{item_nodes, items_nodes, item_body, items_bodies, item_is_small, AllAreSmall};
+ghost use Rattle.cilk_load.specs.Bodies.{starts_here};
 
 use crate::action::Action;
 use crate::body::Body;
@@ -69,8 +70,16 @@ fn put_procedure(
 {
     let place = bodies.len() as u32;
     let entry = nodes.len() as u32 + 1;
-    let body = body_of(alloc, entry, &definition.name, &definition.body)?;
-    put_block(alloc, nodes, place, body.vars.as_slice(), &definition.body)?;
+    let body = body_of(alloc, entry, definition)?;
+    let parameters = definition.parameters.len();
+    put_block(
+        alloc,
+        nodes,
+        place,
+        body.vars.as_slice(),
+        parameters,
+        &definition.body,
+    )?;
     nodes.push(Node {
         action: Action::Close,
         next: None,
@@ -80,19 +89,25 @@ fn put_procedure(
     Ok(())
 }
 
-/// The place of the first body that is called `main`.
+/// The place of the first body to start with.
 pub(crate) fn place_of_main(bodies: &[Body]) -> u32
-    requires there { IsSome (position (λ body. bytes_eq body.name (codes "main")) bodies.now) }
+    requires there { IsSome (position starts_here bodies.now) }
     requires small { length bodies.now < 2 ^ 32 }
-    ensures { position (λ body. bytes_eq body.name (codes "main")) bodies.now ≡ Some result }
+    ensures { position starts_here bodies.now ≡ Some result }
 {
-    place_of(bodies, "main").unwrap() as u32
+    start_of(bodies).unwrap() as u32
 }
 
-// The place of the first body of this name.
-fn place_of(bodies: &[Body], name: &str) -> Option<usize>
-    ensures value { result ≡ position (λ body. bytes_eq body.name name.now) bodies.now }
+fn start_of(bodies: &[Body]) -> Option<usize>
+    ensures value { result ≡ position starts_here bodies.now }
     ensures bound { IfSome result (λ place. place < length bodies.now) }
 {
-    bodies.iter().position(|body| body.name.as_str() == name)
+    bodies.iter().position(|body| starts_here(body))
+}
+
+// Whether it is the body of a `main` without parameters.
+fn starts_here(body: &Body) -> bool
+    ensures { result ≡ starts_here body.now }
+{
+    body.name.as_str() == "main" && body.params == 0
 }

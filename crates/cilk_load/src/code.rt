@@ -39,6 +39,14 @@ pub(crate) fn code_in(alloc: Global, vars: &[Var], expr: &Expr) -> Result<Code, 
             boxed_code_in(alloc, vars, left)?,
             boxed_code_in(alloc, vars, right)?,
         ),
+        ExprNode::Unary(op, operand) => {
+            CodeNode::Unary(*op, boxed_code_in(alloc, vars, operand)?)
+        }
+        ExprNode::Choose(test, first, second) => CodeNode::Choose(
+            boxed_code_in(alloc, vars, test)?,
+            boxed_code_in(alloc, vars, first)?,
+            boxed_code_in(alloc, vars, second)?,
+        ),
     };
     Ok(Code { node })
 }

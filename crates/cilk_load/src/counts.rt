@@ -68,7 +68,11 @@ fn count_stmt(stmt: &Stmt) -> u32
     ensures { result ≡ count_stmt stmt.now }
 {
     match &stmt.node {
-        StmtNode::Assign(_, _) | StmtNode::Return(_) => 1,
+        StmtNode::Assign(_, _)
+        | StmtNode::Return(_, _)
+        | StmtNode::Null
+        | StmtNode::Update(_, _, _)
+        | StmtNode::Adjust(_, _) => 1,
     }
 }
 

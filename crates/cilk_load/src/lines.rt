@@ -102,7 +102,11 @@ fn put_stmt(lines: &mut Vec<u32>, line: u32, stmt: &Stmt) -> Result<u32, AllocEr
     ensures after { IfOk result (λ after. after ≡ line + length (stmt_lines [] stmt.now)) }
 {
     match &stmt.node {
-        StmtNode::Assign(_, _) | StmtNode::Return(_) => {
+        StmtNode::Assign(_, _)
+        | StmtNode::Return(_, _)
+        | StmtNode::Null
+        | StmtNode::Update(_, _, _)
+        | StmtNode::Adjust(_, _) => {
             lines.push(line)?;
             Ok(line + 1)
         }

@@ -1,32 +1,36 @@
 //! The nodes of a body, numbered in the order of the text.
 
-ghost use Rattle.std.specs.Prelude.{◌≡◌, ◌+◌, ◌<◌, ◌≤◌, ◌∷◌, [], ◌++◌, OnOk, length, vec_len};
+ghost use Rattle.std.specs.Prelude.{◌≡◌, ◌+◌, ◌<◌, ◌≤◌, ◌∷◌, [], ◌++◌, OnOk, Some, length, vec_len, IfOk};
+ghost use Rattle.cilk_load.specs.declared.action.Action.TheVariants.{Null};
 ghost use Rattle.cilk_tree.specs.Stmts.{stmts_of};
 ghost use Rattle.cilk_model.specs.Count.{count_option, count_decls, count_stmt, count_stmts, count_block};
 ghost use Rattle.cilk_check.specs.Names.{decls_of};
-ghost use Rattle.cilk_load.specs.Pass.{assignment_node, initialiser_nodes, decls_nodes, stmt_nodes, stmts_nodes, block_nodes};
+ghost use Rattle.cilk_load.specs.Pass.{assignment_node, update_node, initialiser_nodes, decls_nodes, stmt_nodes, stmts_nodes, block_nodes, return_action};
 
 use crate::action::Action;
 use crate::code::{code_in, slot_in};
 use crate::node::Node;
 use crate::var::Var;
-use cilk_tree::{Block, Decl, Expr, Stmt, StmtNode, Word};
+use cilk_eval::{Code, CodeNode};
+use cilk_tree::{BinOp, Block, Decl, Expr, Stmt, StmtNode, Word};
 use std::alloc::{AllocError, Global};
 
-/// Appends the nodes of a block of this body, which uses these variables.
+/// Appends the nodes of a block of this body, which uses these variables: so many parameters, and
+/// then the others.
 pub(crate) fn put_block(
     alloc: Global,
     nodes: &mut Vec<Node>,
     body: u32,
     vars: &[Var],
+    parameters: usize,
     block: &Block,
 ) -> Result<(), AllocError>
     requires room { vec_len nodes.old + count_block block.now ≤ 65534 }
-    requires declared { length (decls_of block.now) ≤ length vars.now }
-    ensures nodes { OnOk result (nodes.new.items ≡ nodes.old.items ++ block_nodes body vars.now (vec_len nodes.old + 1) block.now) }
+    requires declared { parameters + length (decls_of block.now) ≤ length vars.now }
+    ensures nodes { OnOk result (nodes.new.items ≡ nodes.old.items ++ block_nodes body vars.now parameters (vec_len nodes.old + 1) block.now) }
     ensures len { OnOk result (vec_len nodes.new ≡ vec_len nodes.old + count_block block.now) }
 {
-    put_decls(alloc, nodes, body, vars, &block.decls)?;
+    put_decls(alloc, nodes, body, vars, parameters, &block.decls)?;
     put_stmts(alloc, nodes, body, vars, &block.stmts)
 }
 
@@ -35,15 +39,16 @@ fn put_decls(
     nodes: &mut Vec<Node>,
     body: u32,
     vars: &[Var],
+    parameters: usize,
     decls: &[Decl],
 ) -> Result<(), AllocError>
     requires room { vec_len nodes.old + count_decls decls.now ≤ 65534 }
-    requires declared { length decls.now ≤ length vars.now }
-    ensures nodes { OnOk result (nodes.new.items ≡ nodes.old.items ++ decls_nodes body vars.now 0 (vec_len nodes.old + 1) decls.now) }
+    requires declared { parameters + length decls.now ≤ length vars.now }
+    ensures nodes { OnOk result (nodes.new.items ≡ nodes.old.items ++ decls_nodes body vars.now parameters (vec_len nodes.old + 1) decls.now) }
     ensures len { OnOk result (vec_len nodes.new ≡ vec_len nodes.old + count_decls decls.now) }
 {
     for (i, decl) in decls.iter().enumerate() {
-        put_initialiser(alloc, nodes, body, &vars[..i + 1], decl)?;
+        put_initialiser(alloc, nodes, body, &vars[..parameters + i + 1], decl)?;
     }
     Ok(())
 }
@@ -97,8 +102,8 @@ fn put_stmt(
         StmtNode::Assign(place, value) => {
             put_assignment(alloc, nodes, body, vars, &place.name, value)
         }
-        StmtNode::Return(value) => {
-            let action = Action::Return(code_in(alloc, vars, value)?);
+        StmtNode::Return(_, value) => {
+            let action = return_action(alloc, vars, value)?;
             nodes.push(Node {
                 action,
                 next: None,
@@ -106,7 +111,55 @@ fn put_stmt(
             })?;
             Ok(())
         }
+        StmtNode::Null => put_null(nodes, body),
+        StmtNode::Update(place, op, value) => {
+            let value = code_in(alloc, vars, value)?;
+            put_update(nodes, body, vars, *op, &place.name, value)
+        }
+        StmtNode::Adjust(place, by) => {
+            let one = Code {
+                node: CodeNode::Number(1),
+            };
+            put_update(nodes, body, vars, by.operator(), &place.name, one)
+        }
     }
+}
+
+fn put_null(nodes: &mut Vec<Node>, body: u32) -> Result<(), AllocError>
+    requires { vec_len nodes.old < 65534 }
+    ensures nodes { OnOk result (nodes.new.items ≡ nodes.old.items ++ record { action = Null; next = Some (vec_len nodes.old + 1 + 1); body = body } ∷ []) }
+    ensures len { OnOk result (vec_len nodes.new ≡ vec_len nodes.old + 1) }
+{
+    let number = nodes.len() as u32 + 1;
+    nodes.push(Node {
+        action: Action::Null,
+        next: Some(number + 1),
+        body,
+    })?;
+    Ok(())
+}
+
+// Appends an assignment with an operator, where the right operand is this.
+fn put_update(
+    nodes: &mut Vec<Node>,
+    body: u32,
+    vars: &[Var],
+    op: BinOp,
+    name: &Word,
+    value: Code,
+) -> Result<(), AllocError>
+    requires { vec_len nodes.old < 65534 }
+    ensures nodes { OnOk result (nodes.new.items ≡ nodes.old.items ++ update_node body vars.now (vec_len nodes.old + 1) op name.now.text value ∷ []) }
+    ensures len { OnOk result (vec_len nodes.new ≡ vec_len nodes.old + 1) }
+{
+    let number = nodes.len() as u32 + 1;
+    let slot = slot_in(vars, name.as_str());
+    nodes.push(Node {
+        action: Action::AssignBy(op, slot, value),
+        next: Some(number + 1),
+        body,
+    })?;
+    Ok(())
 }
 
 fn put_assignment(
@@ -130,4 +183,13 @@ fn put_assignment(
         body,
     })?;
     Ok(())
+}
+
+fn return_action(alloc: Global, vars: &[Var], value: &Option<Expr>) -> Result<Action, AllocError>
+    ensures { IfOk result (λ action. action ≡ return_action vars.now value.now) }
+{
+    match value {
+        None => Ok(Action::ReturnNothing),
+        Some(value) => Ok(Action::Return(code_in(alloc, vars, value)?)),
+    }
 }

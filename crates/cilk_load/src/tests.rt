@@ -4,7 +4,8 @@ use crate::{Action, LoadFault, load};
 use cilk_check::check;
 use cilk_eval::{Area, Code, CodeNode, Slot};
 use cilk_tree::{
-    BinOp, Block, Decl, Expr, ExprNode, Item, ItemNode, Place, Proc, Program, Stmt, StmtNode, Word,
+    Adjustment, BinOp, Block, Decl, Expr, ExprNode, Item, ItemNode, Place, Proc, Program,
+    ReturnType, Stmt, StmtNode, Word,
 };
 use std::alloc::Global;
 use std::test::Fail;
@@ -49,13 +50,15 @@ fn assigns(alloc: Global, text: &str, value: Expr) -> Result<Stmt, Fail> {
 
 fn returns(value: Expr) -> Stmt {
     Stmt {
-        node: StmtNode::Return(value),
+        node: StmtNode::Return(0, Some(value)),
     }
 }
 
 fn procedure(alloc: Global, text: &str, body: Block) -> Result<Item, Fail> {
     let definition = Proc {
+        returns: ReturnType::Int,
         name: word(alloc, text)?,
+        parameters: Vec::new(alloc),
         body,
     };
     Ok(Item {
@@ -94,7 +97,8 @@ fn told(action: &Action) -> (Option<u32>, Option<Operand>) {
     match action {
         Action::Assign(slot, value) => (Some(slot.offset), Some(leftmost(value))),
         Action::Return(value) => (None, Some(leftmost(value))),
-        Action::Close => (None, None),
+        Action::AssignBy(_, slot, value) => (Some(slot.offset), Some(leftmost(value))),
+        _ => (None, None),
     }
 }
 
@@ -164,6 +168,64 @@ fn nodes_of_the_worked_program(rt: HostRuntime) -> Result<(), Fail> {
         assert_eq!(rt; node.body, 0, "action {n}");
         assert!(rt; told(&node.action) == action, "action {n}");
     }
+    Ok(())
+}
+
+// int x;
+// ;
+// x -= 7;
+// x++;
+// x--;
+fn changes(alloc: Global) -> Result<Block, Fail> {
+    let mut decls = Vec::new(alloc);
+    decls.push(decl(alloc, "x", None)?)?;
+    let mut stmts = Vec::new(alloc);
+    for change in [
+        None,
+        Some(None),
+        Some(Some(Adjustment::Increment)),
+        Some(Some(Adjustment::Decrement)),
+    ] {
+        let place = Place {
+            name: word(alloc, "x")?,
+        };
+        let node = match change {
+            None => StmtNode::Null,
+            Some(None) => StmtNode::Update(place, BinOp::Subtract, number(7)),
+            Some(Some(by)) => StmtNode::Adjust(place, by),
+        };
+        stmts.push(Stmt { node })?;
+    }
+    Ok(Block { decls, stmts })
+}
+
+#[test]
+fn nodes_of_changes(rt: HostRuntime) -> Result<(), Fail> {
+    let alloc = rt.alloc();
+    let checked = check(program(only_main(alloc, changes(alloc)?)?))?;
+    let loaded = load(alloc, checked)?;
+    assert_eq!(rt; loaded.count(), 5);
+    let nodes = [
+        (1, 3, None),
+        (2, 4, Some((BinOp::Subtract, Operand::Number(7)))),
+        (3, 5, Some((BinOp::Add, Operand::Number(1)))),
+        (4, 6, Some((BinOp::Subtract, Operand::Number(1)))),
+    ];
+    for (n, line, change) in nodes {
+        let node = loaded.statement(n).ok_or("no such action")?;
+        assert_eq!(rt; node.next, Some(n + 1), "action {n}");
+        assert_eq!(rt; loaded.line_of(n), Some(line), "action {n}");
+        let seen = match &node.action {
+            Action::AssignBy(op, slot, value) if slot.offset == 0 => Some((*op, leftmost(value))),
+            _ => None,
+        };
+        assert!(rt; seen == change, "action {n}");
+        assert!(rt;
+            change.is_some() || matches!(node.action, Action::Null),
+            "action {n}"
+        );
+    }
+    assert_eq!(rt; loaded.line_of(5), Some(7));
     Ok(())
 }
 
@@ -239,5 +301,56 @@ fn one_too_many(rt: HostRuntime) -> Result<(), Fail> {
             assert_eq!(rt; format!(in alloc; "{fault}")?.as_str(), "N1 TooMany");
         }
     }
+    Ok(())
+}
+
+// cilk void f(int a, int b) { int c; c = b; return; }
+// cilk int main(void) { return 0; }
+fn with_parameters(alloc: Global) -> Result<Program, Fail> {
+    let mut parameters = Vec::new(alloc);
+    parameters.push(word(alloc, "a")?)?;
+    parameters.push(word(alloc, "b")?)?;
+    let mut decls = Vec::new(alloc);
+    decls.push(decl(alloc, "c", None)?)?;
+    let mut stmts = Vec::new(alloc);
+    stmts.push(assigns(alloc, "c", name(alloc, "b")?)?)?;
+    stmts.push(Stmt {
+        node: StmtNode::Return(0, None),
+    })?;
+    let mut items = Vec::new(alloc);
+    items.push(Item {
+        node: ItemNode::Procedure(Proc {
+            returns: ReturnType::Void,
+            name: word(alloc, "f")?,
+            parameters,
+            body: Block { decls, stmts },
+        }),
+    })?;
+    let mut stmts = Vec::new(alloc);
+    stmts.push(returns(number(0)))?;
+    let decls = Vec::new(alloc);
+    items.push(procedure(alloc, "main", Block { decls, stmts })?)?;
+    Ok(program(items))
+}
+
+#[test]
+fn parameters_come_first(rt: HostRuntime) -> Result<(), Fail> {
+    let alloc = rt.alloc();
+    let loaded = load(alloc, check(with_parameters(alloc)?)?)?;
+    assert_eq!(rt; loaded.main(), 1);
+    assert_eq!(rt; loaded.count(), 5);
+    let body = loaded.body(0).ok_or("no such body")?;
+    assert_eq!(rt; body.params, 2);
+    assert_eq!(rt; body.cells, 3);
+    for (var, text) in body.vars.as_slice().iter().zip(["a", "b", "c"]) {
+        assert_eq!(rt; var.name.as_str(), text);
+    }
+    let node = loaded.statement(1).ok_or("no such action")?;
+    match &node.action {
+        Action::Assign(slot, _) => assert_eq!(rt; slot.offset, 2),
+        _ => assert!(rt; false),
+    }
+    let node = loaded.statement(2).ok_or("no such action")?;
+    assert!(rt; matches!(&node.action, Action::ReturnNothing));
     Ok(())
 }

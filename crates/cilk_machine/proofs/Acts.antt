@@ -1,49 +1,34 @@
 -- What a step of the root comes to, by the action at its node.
-use Rattle.std.proofs.Common.{◌≡◌, ℕ, zero, suc, ◌<◌, ◌≤◌, ℤ, pos, Bool, true, false, not, ◌&&◌, ◌||◌, List, [], ◌∷◌, map, replicate, length, Option, Some, None, Result, Ok, Err, refl, sym, ap, ◌∙◌, subst, arith}
-use Rattle.std.specs.Prelude.{⊤, option_map, if◌then◌else◌, nat_lt}
+use Rattle.std.proofs.Common.{◌≡◌, ℕ, zero, suc, ℤ, Bool, true, false, not, ◌||◌, List, [], ◌∷◌, replicate, Option, Some, None, Result, Ok, Err, refl, sym, ap, ◌∙◌}
+use Rattle.std.specs.Prelude.{option_map, if◌then◌else◌}
 use Rattle.cilk_tree.specs.Tree as tree
 use Rattle.cilk_eval.specs.declared.trap.Trap.{Trap}
-use Rattle.cilk_eval.specs.declared.slot.Slot.{Slot}
-use Rattle.cilk_eval.specs.Term.{Term, rename}
-use Rattle.cilk_eval.specs.Slots as slots
-use Rattle.cilk_eval.specs.Slots.{sizes_of, SlotsLieWithin}
-use Rattle.cilk_eval.specs.Value.{value_of, ◌>>=◌}
 use Rattle.cilk_check.specs.Fault.{WellFormed}
-use Rattle.cilk_model.specs.Declaration.{Declaration, local, global, unknown}
-use Rattle.cilk_model.specs.Labelled.{Taker, Action, variable, assign, return_with, close, Labelled}
+use Rattle.cilk_model.specs.Declaration.{local}
+use Rattle.cilk_model.specs.Labelled.{Taker, Labelled}
 use Rattle.cilk_model.specs.Label.{label}
-use Rattle.cilk_model.specs.Items.{Items, Head, head_of, opened, next}
-use Rattle.cilk_model.specs.Values.{Cell, Store, environment, with_value}
-use Rattle.cilk_model.specs.Effect.{Effect, writes, gives, goes_by, starts, effect_of}
-use Rattle.cilk_model.specs.Path.{Path}
-use Rattle.cilk_model.specs.Instance.{Instance, body_at}
+use Rattle.cilk_model.specs.Items.{Head, head_of, opened, next}
+use Rattle.cilk_model.specs.Values.{Cell, with_value}
+use Rattle.cilk_model.specs.Effect.{Effect, writes, gives, goes_by, starts}
+use Rattle.cilk_model.specs.Instance.{Instance}
 use Rattle.cilk_model.specs.State.{finished, State}
-use Rattle.cilk_model.specs.Change.{has_room, at_boundary, syncs, syncs_next, passes, head_effect, gone_on}
+use Rattle.cilk_model.specs.Change.{has_room, at_boundary, syncs, head_effect, gone_on}
 use Rattle.cilk_model.specs.Pick.{Step, parks, step_by_start, step_by_effect, step_by_head, step_of}
 use Rattle.cilk_model.specs.Scheduler.{Place, no_place, with_hand}
-use Rattle.cilk_model.specs.Run.{Standing, waits_now, stepped, event_of_step, next_by_hand, event_by_hand}
-use Rattle.cilk_load.specs.declared.node.Node.{Node}
-use Rattle.cilk_load.specs.declared.action.Action as code
-use Rattle.cilk_load.specs.declared.action.Action.TheVariants as node
-use Rattle.cilk_load.specs.Slots.{size_of, slot_of}
+use Rattle.cilk_model.specs.Run.{Standing, waits_now, stepped, event_of_step}
+use Rattle.cilk_load.specs.Slots.{slot_of}
 use Rattle.cilk_load.specs.Table.{number_of, slotted, node_of}
-use Rattle.cilk_frame.specs.Frames.{Frame, depth, top_place, top_of, with_cell, jumped, with_boundary}
-use Rattle.cilk_frame.specs.Stands.{StandsFor}
-use Rattle.cilk_frame.specs.Reads.{HasCell, cell_place, IsDeclared, IsArray, IsKnown, lent, seen_by}
+use Rattle.cilk_frame.specs.Frames.{Frame, top_of}
+use Rattle.cilk_frame.specs.Reads.{IsDeclared, IsArray}
 use Rattle.cilk_frame.proofs.Tops.{top-stands}
-use Rattle.cilk_frame.proofs.Steps.{assign-stands, write-within, lent-seen}
-use Rattle.cilk_frame.proofs.Values.{value-same, slots-within}
 use Rattle.cilk_machine.specs.declared.kind.Kind.TheVariants.{Value}
-use Rattle.cilk_machine.specs.declared.outcome.Outcome.{Outcome}
 use Rattle.cilk_machine.specs.declared.outcome.Outcome.TheVariants.{Running, Finished, Trapped}
 use Rattle.cilk_machine.specs.declared.event.Event.TheVariants as did
-use Rattle.cilk_machine.specs.Situation.{Situation}
-use Rattle.cilk_machine.specs.Standing.{instance_in, state_in, places_in, standing_of}
+use Rattle.cilk_machine.specs.Standing.{instance_in, state_in, standing_of}
 use Rattle.cilk_machine.specs.Sound.{Holds}
 use Rattle.cilk_machine.specs.Steps.{StepsTo, with_frame}
 use Rattle.cilk_machine.proofs.Known.{KnownAct}
-use Rattle.cilk_machine.proofs.Bodies.{globals-none, head_node, known, found}
-use Rattle.cilk_machine.proofs.Unique.{IsLone, holds_lone, same_instance}
+use Rattle.cilk_machine.proofs.Bodies.{head_node, known, found}
 
 record HasHead (o : Option Head) (n : ℕ) : Type 0 where
   head : Head
@@ -163,6 +148,17 @@ module _ (p : tree.Program) (workers choices : ℕ) (f : Frame) (b : Before p f)
       → StepsTo (with_frame p workers choices f) (Some g) Running (did.Acted [] (top_of f).node)
   goes n z g h same holds =
       let e = by_effect (Ok (writes (record { place = local n; index = 0 }) z)) h in
+      record {
+        possible = ap waits_now e;
+        standing = ap (λ (x : Instance). at_instance (standing_of (with_frame p workers choices f)) x) same ∙ ap (stepped (standing_of (with_frame p workers choices f)) 1 []) (sym e);
+        did = ap event_of_step (sym e);
+        holds = holds;
+      }
+
+  pub goes_past : (g : Frame) → effect ≡ Ok goes_by → instance_in (label p) g ≡ gone_on true here.top.values here → Holds (label p) (Some g)
+      → StepsTo (with_frame p workers choices f) (Some g) Running (did.Acted [] (top_of f).node)
+  goes_past g h same holds =
+      let e = by_effect (Ok goes_by) h in
       record {
         possible = ap waits_now e;
         standing = ap (λ (x : Instance). at_instance (standing_of (with_frame p workers choices f)) x) same ∙ ap (stepped (standing_of (with_frame p workers choices f)) 1 []) (sym e);

@@ -1,17 +1,16 @@
 -- The bodies of a well-formed program: what their heads use, and what stands in the table of nodes.
-use Rattle.std.proofs.Common.{◌≡◌, ℕ, zero, suc, ◌+◌, ◌-◌, ◌<◌, ◌≤◌, Bool, true, List, [], ◌∷◌, ◌++◌, map, length, Option, Some, None, refl, sym, ap, ◌∙◌, subst, ◌⊎◌, inl, inr, arith, length-append}
+use Rattle.std.proofs.Common.{◌≡◌, ℕ, zero, suc, ◌+◌, ◌-◌, ◌<◌, ◌≤◌, Bool, true, List, [], ◌∷◌, ◌++◌, map, length, Option, Some, None, refl, sym, ap, ◌∙◌, subst, inl, inr, arith, length-append}
 use Rattle.std.specs.Prelude.{⊤, slice_get, slice_index_or, filter_map, option_map}
 use Rattle.std.specs.List.{Contains}
 use Rattle.std.proofs.lemmas.List.{length-map}
 use Rattle.cilk_tree.specs.Tree as tree
-use Rattle.cilk_eval.specs.Term.{Term}
+use Rattle.cilk_tree.specs.Parameters.{parameter_decl}
 use Rattle.cilk_check.specs.Names.{decls_of}
 use Rattle.cilk_check.specs.Scope.{Defines}
 use Rattle.cilk_check.specs.Fault.{WellFormed}
 use Rattle.cilk_model.specs.Declaration.{Declaration, local}
-use Rattle.cilk_model.specs.Scope.{Scope}
-use Rattle.cilk_model.specs.Labelled.{Target, Action, assign, return_with, close, assign_by, null, return_nothing, spawn, sync, Stmt, action, Stmts, none, also, Body, Labelled}
-use Rattle.cilk_model.specs.Items.{Items, piece, pieces, Head, head_of, opened, next, closing_items, reached}
+use Rattle.cilk_model.specs.Labelled.{assign, return_with, close, assign_by, null, return_nothing, spawn, sync, action, Stmts, none, also, Body, Labelled, Action}
+use Rattle.cilk_model.specs.Items.{Items, piece, pieces, Head, head_of, opened, next, closing_items, reached, after_action}
 use Rattle.cilk_model.specs.Count.{count_item}
 use Rattle.cilk_model.specs.Label.{variable_of, block_variables, stmts_variables, label_procedure, label_items, global_scope, globals_of, label}
 use Rattle.cilk_model.specs.Instance.{no_body, body_at}
@@ -43,6 +42,11 @@ no_fewer (tree.block ds ss) =
     let m : length (map variable_of ds) ≡ length ds = length-map ds variable_of in
     omega (arith, length-append (map variable_of ds) (stmts_variables ss))
 
+-- a procedure has a variable for each parameter and each declaration of its block
+own_fewer : (f : tree.Proc) → length f.parameters + length (decls_of f.body) ≤ length (map variable_of (map parameter_decl f.parameters) ++ block_variables f.body)
+own_fewer f =
+    omega (arith, no_fewer f.body, length-append (map variable_of (map parameter_decl f.parameters)) (block_variables f.body), length-map (map parameter_decl f.parameters) variable_of, length-map f.parameters parameter_decl)
+
 behind : {A : Type 0} (x : A) (xs : List A) (y : A) → Contains xs y → Contains (x ∷ xs) y
 behind x xs y c = (suc c.0, omega (arith, c.1), c.2)
 
@@ -51,7 +55,7 @@ items_known : (p : tree.Program) → WellFormed p → (at : ℕ) (items : List t
 items_known p well at [] defines j body h D A has = cc
 items_known p well at (tree.procedure f ∷ items) defines zero body h D A has =
     let e : label_procedure [] at f ≡ body = cc in
-    let fewer = no_fewer f.body in
+    let fewer = own_fewer f in
     subst (λ (x : Body). AllKnown D A x.stmts) e
     (block_known D A p well f (defines f (0, omega arith, refl)) at f.body refl
     (λ k low high. has k (subst (λ (x : Body). k < length x.variables) e (omega arith))))
@@ -149,47 +153,49 @@ pieces_some : (stmts : Stmts) (n : ℕ) → pieces stmts (closing_items n) ≡ [
 pieces_some none n h = cc
 pieces_some (also first others) n h = cc
 
--- an assignment is not the last item of a list
-more_behind : (stmts : Stmts) (n k m : ℕ) (target : Target) (value : Term Declaration) → slice_get (lists stmts n) k ≡ Some (piece (action m (assign target value)) ∷ []) → ⊥
-more_behind none n zero m target value h = cc
-more_behind none n (suc k) m target value h = cc
-more_behind (also (action j act) others) n zero m target value h =
+-- the body goes on behind the action
+abbrev pub GoesOn : Action → Type 0
+GoesOn (assign target value) = ⊤
+GoesOn (return_with value) = ⊥
+GoesOn close = ⊥
+GoesOn (assign_by op target value) = ⊤
+GoesOn null = ⊤
+GoesOn return_nothing = ⊥
+GoesOn (spawn taker callee arguments) = ⊤
+GoesOn sync = ⊤
+
+goes_to : (act : Action) (items : Items) → GoesOn act → after_action act items ≡ items
+goes_to (assign target value) items h = refl
+goes_to (return_with value) items h = absurd h
+goes_to close items h = absurd h
+goes_to (assign_by op target value) items h = refl
+goes_to null items h = refl
+goes_to return_nothing items h = absurd h
+goes_to (spawn taker callee arguments) items h = refl
+goes_to sync items h = refl
+
+-- such an action is not the last item of a list
+more_behind : (stmts : Stmts) (n k m : ℕ) (act : Action) → GoesOn act → slice_get (lists stmts n) k ≡ Some (piece (action m act) ∷ []) → ⊥
+more_behind none n zero m act h found = let e : close ≡ act = cc in subst GoesOn (sym e) h
+more_behind none n (suc k) m act h found = cc
+more_behind (also (action j other) others) n zero m act h found =
     let e : pieces others (closing_items n) ≡ [] = cc in pieces_some others n e
-more_behind (also (action j act) others) n (suc k) m target value h = more_behind others n k m target value h
+more_behind (also (action j other) others) n (suc k) m act h found = more_behind others n k m act h found
 
-goes_on : (body : Body) (items : Items) (head : Head) (target : Target) (value : Term Declaration) → In (body_lists body) items → head_of items ≡ Some head → head.act ≡ assign target value
-    → number_of (opened (next true items)) ≡ None → ⊥
-goes_on body [] head target value i first is h = cc
-goes_on body (piece (action m (assign t v)) ∷ []) head target value i first is h =
-    more_behind body.stmts body.closing i.place m t v i.found
-goes_on body (piece (action m (assign t v)) ∷ (piece (action j act) ∷ items)) head target value i first is h = cc
-goes_on body (piece (action m (return_with v)) ∷ items) head target value i first is h =
-    let same : record { number = m; act = return_with v } ≡ head = cc in
-    let act : return_with v ≡ assign target value = ap (λ (x : Head). x.act) same ∙ is in cc
-goes_on body (piece (action m close) ∷ items) head target value i first is h =
-    let same : record { number = m; act = close } ≡ head = cc in
-    let act : close ≡ assign target value = ap (λ (x : Head). x.act) same ∙ is in cc
-goes_on body (piece (action m (assign_by op t v)) ∷ items) head target value i first is h =
-    let same : record { number = m; act = assign_by op t v } ≡ head = cc in
-    let act : assign_by op t v ≡ assign target value = ap (λ (x : Head). x.act) same ∙ is in cc
-goes_on body (piece (action m null) ∷ items) head target value i first is h =
-    let same : record { number = m; act = null } ≡ head = cc in
-    let act : null ≡ assign target value = ap (λ (x : Head). x.act) same ∙ is in cc
-goes_on body (piece (action m return_nothing) ∷ items) head target value i first is h =
-    let same : record { number = m; act = return_nothing } ≡ head = cc in
-    let act : return_nothing ≡ assign target value = ap (λ (x : Head). x.act) same ∙ is in cc
-goes_on body (piece (action m (spawn taker callee arguments)) ∷ items) head target value i first is h =
-    let same : record { number = m; act = spawn taker callee arguments } ≡ head = cc in
-    let act : spawn taker callee arguments ≡ assign target value = ap (λ (x : Head). x.act) same ∙ is in cc
-goes_on body (piece (action m sync) ∷ items) head target value i first is h =
-    let same : record { number = m; act = sync } ≡ head = cc in
-    let act : sync ≡ assign target value = ap (λ (x : Head). x.act) same ∙ is in cc
+goes_on : (body : Body) (items : Items) (head : Head) → In (body_lists body) items → head_of items ≡ Some head → GoesOn head.act → number_of (opened (next true items)) ≡ None → ⊥
+goes_on body [] head i first h none_left = cc
+goes_on body (piece (action m act) ∷ []) head i first h none_left =
+    let same : record { number = m; act = act } ≡ head = cc in
+    more_behind body.stmts body.closing i.place m act (subst GoesOn (sym (ap (λ (x : Head). x.act) same)) h) i.found
+goes_on body (piece (action m act) ∷ (piece (action j other) ∷ items)) head i first h none_left =
+    let same : record { number = m; act = act } ≡ head = cc in
+    let stays = goes_to act (piece (action j other) ∷ items) (subst GoesOn (sym (ap (λ (x : Head). x.act) same)) h) in
+    let e : Some j ≡ None = ap (λ (xs : Items). number_of (opened xs)) (sym stays) ∙ none_left in cc
 
--- after an assignment there is another action
-pub assign_goes_on : (body : Body) (answers : List Bool) (head : Head) (target : Target) (value : Term Declaration) → head_of (reached body answers) ≡ Some head → head.act ≡ assign target value
-    → number_of (opened (next true (reached body answers))) ≡ None → ⊥
-assign_goes_on body answers head target value first is h =
+-- behind such an action there is another
+pub another_behind : (body : Body) (answers : List Bool) (head : Head) → head_of (reached body answers) ≡ Some head → GoesOn head.act → number_of (opened (next true (reached body answers))) ≡ None → ⊥
+another_behind body answers head first h none_left =
     elim (reached_reaches body answers) [
       | inl e ↦ let none : Some head ≡ None = sym first ∙ ap head_of e in cc
-      | inr i ↦ goes_on body (reached body answers) head target value i first is h
+      | inr i ↦ goes_on body (reached body answers) head i first h none_left
     ]

@@ -1,10 +1,10 @@
 -- The lists of items that a body reaches stand in the table of lists, each at the number of its head.
-use Rattle.std.proofs.Common.{◌≡◌, ℕ, zero, suc, ◌+◌, ◌<◌, Bool, true, false, List, [], ◌∷◌, ◌++◌, map, length, Option, Some, None, refl, sym, ap, ◌∙◌, subst, ◌⊎◌, inl, inr, arith, zero-add}
+use Rattle.std.proofs.Common.{◌≡◌, ℕ, zero, suc, ◌+◌, Bool, List, [], ◌∷◌, ◌++◌, map, Some, None, refl, sym, ap, ◌∙◌, subst, ◌⊎◌, inl, inr, arith, zero-add}
 use Rattle.std.specs.Prelude.{slice_get, slice_index_or}
-use Rattle.cilk_model.specs.Labelled.{Action, assign, return_with, close, assign_by, null, return_nothing, spawn, sync, Stmt, action, Stmts, none, also, Body, Labelled}
+use Rattle.cilk_model.specs.Labelled.{Action, assign, return_with, close, assign_by, null, return_nothing, spawn, sync, action, Stmts, none, also, Body, Labelled}
 use Rattle.cilk_model.specs.Items.{Item, piece, Items, pieces, opened, after_action, next, closing_items, start_items, reached}
 use Rattle.cilk_load.specs.Table.{stmts_lists, body_lists, number_of}
-use Rattle.cilk_machine.specs.Remains.{Remains, remains_of, remains_from, remains_at}
+use Rattle.cilk_machine.specs.Remains.{remains_of, remains_from}
 
 -- x is an element
 pub record In {A : Type 0} (xs : List A) (x : A) : Type 0 where

@@ -2,6 +2,7 @@
 use Rattle.std.proofs.Common.{◌≡◌, ℕ, zero, suc, ◌+◌, List, [], ◌∷◌, ◌++◌, map, length, Option, Some, None, refl, ap, ◌∙◌, subst, arith}
 use Rattle.std.specs.Prelude.{slice_get}
 use Rattle.cilk_tree.specs.Tree as tree
+use Rattle.cilk_tree.specs.Parameters.{parameter_decl}
 use Rattle.cilk_model.specs.Scope.{Scope, with_local, with_locals}
 use Rattle.cilk_model.specs.Labelled.{Stmts, also}
 use Rattle.cilk_model.specs.Items.{Items, closing_items}
@@ -33,11 +34,17 @@ listed b stmts items more rest = map (remains_of b) (stmts_lists stmts items ++ 
 stmt_numbered : (scope : Scope) (at n b : ℕ) (s : tree.Stmt) (others : Stmts) (items : Items) (more : List Items) (rest : List Remains)
     → NumberedFrom (suc at) (listed b others items more rest) → NumberedFrom at (listed b (also (label_stmt scope at n s) others) items more rest)
 stmt_numbered scope at n b (tree.assign place value) others items more rest h = one_more at _ _ refl h
-stmt_numbered scope at n b (tree.return_with value) others items more rest h = one_more at _ _ refl h
+stmt_numbered scope at n b (tree.return_at place value) others items more rest h = one_more at _ _ refl h
+stmt_numbered scope at n b tree.null others items more rest h = one_more at _ _ refl h
+stmt_numbered scope at n b (tree.update place op value) others items more rest h = one_more at _ _ refl h
+stmt_numbered scope at n b (tree.adjust place by) others items more rest h = one_more at _ _ refl h
 
 count_one : (s : tree.Stmt) → count_stmt s ≡ 1
 count_one (tree.assign place value) = refl
-count_one (tree.return_with value) = refl
+count_one (tree.return_at place value) = refl
+count_one tree.null = refl
+count_one (tree.update place op value) = refl
+count_one (tree.adjust place by) = refl
 
 stmts_numbered : (scope : Scope) (at n b : ℕ) (ss : tree.Stmts) (items : Items) (more : List Items) (rest : List Remains)
     → NumberedFrom (at + count_stmts ss) (map (remains_of b) more ++ rest) → NumberedFrom at (listed b (label_stmts scope at n ss) items more rest)
@@ -73,6 +80,6 @@ pub items_numbered : (scope : Scope) (at b : ℕ) (items : List tree.Item) → N
 items_numbered scope at b [] = λ k r h. cc
 items_numbered scope at b (tree.procedure p ∷ items) =
     let last = at + count_block p.body in
-    block_numbered scope at 0 b p.body (closing_items last) (closing_items last ∷ []) (remains_from (suc b) (label_items scope (at + count_item (tree.procedure p)) items))
+    block_numbered (with_locals scope 0 (map parameter_decl p.parameters)) at (length p.parameters) b p.body (closing_items last) (closing_items last ∷ []) (remains_from (suc b) (label_items scope (at + count_item (tree.procedure p)) items))
     (one_more last _ _ refl
     (moved (at + count_item (tree.procedure p)) (suc last) _ (omega arith) (items_numbered scope (at + count_item (tree.procedure p)) (suc b) items)))

@@ -1,13 +1,12 @@
 -- A machine before any choice.
-use Rattle.std.proofs.Common.{◌≡◌, ℕ, zero, suc, ◌+◌, ◌<◌, ◌≤◌, Bool, true, ◌&&◌, List, [], ◌∷◌, map, length, Option, Some, None, refl, sym, ap, ◌∙◌, arith}
-use Rattle.std.specs.Prelude.{nat_le, bytes_eq, codes, slice_get, if◌then◌else◌}
+use Rattle.std.proofs.Common.{◌≡◌, ℕ, zero, suc, ◌<◌, ◌≤◌, Bool, true, ◌&&◌, List, [], ◌∷◌, map, length, Option, Some, None, refl, sym, ap, ◌∙◌, arith, false, ◌==◌}
+use Rattle.std.specs.Prelude.{nat_le, bytes_eq, codes, slice_get, if◌then◌else◌, slice_index_or}
 use Rattle.std.proofs.lemmas.Bool.{le-leb}
+use Rattle.std.proofs.lemmas.Bool.Decides.{Decides-eqb}
 use Rattle.std.proofs.lemmas.List.Quantifiers.{position-Some}
 use Rattle.cilk_tree.specs.Tree as tree
 use Rattle.cilk_model.specs.Labelled.{Body, Labelled}
-use Rattle.cilk_model.specs.Scope.{Scope}
-use Rattle.cilk_model.specs.Count.{count_item}
-use Rattle.cilk_model.specs.Label.{label_items, global_scope, globals_of, label}
+use Rattle.cilk_model.specs.Label.{label, is_start}
 use Rattle.cilk_model.specs.Values.{Values, initial_values}
 use Rattle.cilk_model.specs.Instance.{no_body, Instance}
 use Rattle.cilk_model.specs.Instance as model
@@ -23,17 +22,23 @@ use Rattle.cilk_machine.specs.Made.{position_of}
 use Rattle.cilk_machine.proofs.Bodies.{globals-none}
 use Rattle.cilk_machine.proofs.Unique.{IsLone, holds_lone, same_instance}
 
--- a procedure takes no arguments
-takes_none : (scope : Scope) (at : ℕ) (items : List tree.Item) (b : ℕ) → b < length (label_items scope at items) → Takes (slice_get (map body_table (label_items scope at items)) b) []
-takes_none scope at [] b h = absurd (omega arith)
-takes_none scope at (tree.procedure p ∷ items) zero h = refl
-takes_none scope at (tree.procedure p ∷ items) (suc b) h =
-    takes_none scope (at + count_item (tree.procedure p)) items b (omega arith)
+-- a body that has no parameters takes no arguments
+takes_none : (bodies : List Body) (b : ℕ) → b < length bodies → (slice_index_or bodies b no_body).parameters ≡ 0 → Takes (slice_get (map body_table bodies) b) []
+takes_none [] b h e = absurd (omega arith)
+takes_none (body ∷ bodies) zero h e = sym e
+takes_none (body ∷ bodies) (suc b) h e = takes_none bodies b (omega arith) e
+
+no_parameters : (body : Body) → is_start body ≡ true → body.parameters ≡ 0
+no_parameters body e = (Decides-eqb body.parameters 0).0 (and_right (bytes_eq body.name (codes "main")) (body.parameters == 0) e)
+  where
+    and_right : (a b : Bool) → (a && b) ≡ true → b ≡ true
+    and_right true b e = e
+    and_right false b e = cc
 
 pub main_takes : (p : tree.Program) (b : ℕ) → (label p).main ≡ Some b → Takes (body_of p b) []
 main_takes p b h =
-    let there = (position-Some (λ (x : Body). bytes_eq x.name (codes "main")) (label p).bodies b no_body h).0 in
-    takes_none (global_scope 0 (globals_of p.items)) 1 p.items b there
+    let at = position-Some is_start (label p).bodies b no_body h in
+    takes_none (label p).bodies b at.0 (no_parameters (slice_index_or (label p).bodies b no_body) at.1)
 
 start_lone : (program : Labelled) (b : ℕ) → IsLone (model.started program b [])
 start_lone program b = record { awaits = refl; below = refl; waiting = refl; children = refl; aborted = refl; receiver = refl }

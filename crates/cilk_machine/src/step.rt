@@ -8,15 +8,16 @@ ghost use Rattle.cilk_model.specs.Label.{label};
 ghost use Rattle.cilk_frame.specs.Frames.{top_of};
 ghost use Rattle.cilk_frame.specs.Reads.{lent};
 ghost use Rattle.cilk_machine.specs.Sound.{Holds};
-ghost use Rattle.cilk_machine.specs.Steps.{StepsTo, advanced, with_frame};
+ghost use Rattle.cilk_machine.specs.Steps.{StepsTo, advanced, gone_to, updated_by, with_frame};
 
 use crate::event::Event;
 use crate::kind::Kind;
 use crate::outcome::Outcome;
 use crate::path::Path;
-use cilk_eval::{Code, Slots, Trap, eval};
+use cilk_eval::{Code, Slots, Trap, apply, eval};
 use cilk_frame::Frame;
 use cilk_load::{Action, Loaded};
+use cilk_tree::BinOp;
 use std::alloc::Global;
 
 /// What a step came to: the frame, if the instance is still there, how the program stands, and
@@ -45,17 +46,25 @@ pub fn step(alloc: Global, loaded: &Loaded, frame: Frame) -> Stepped
                     Some(next) => acted(alloc, advance(frame, slot.offset, value, next), n),
                 },
             },
+            Action::AssignBy(op, slot, code) => match updated(&frame, *op, slot.offset, code) {
+                Err(trap) => trapped(alloc, frame, n, trap),
+                Ok(value) => match node.next {
+                    None => unreachable!(),
+                    Some(next) => acted(alloc, advance(frame, slot.offset, value, next), n),
+                },
+            },
+            Action::Null => match node.next {
+                None => unreachable!(),
+                Some(next) => acted(alloc, go_on(frame, next), n),
+            },
             Action::Return(code) => match value(&frame, code) {
                 Err(trap) => trapped(alloc, frame, n, trap),
                 Ok(value) => returned(alloc, frame, n, value),
             },
             Action::Close => returned(alloc, frame, n, 0),
+            Action::ReturnNothing => returned(alloc, frame, n, 0),
             // The language has these, but no program that is read yet.
-            Action::AssignBy(..)
-            | Action::Null
-            | Action::ReturnNothing
-            | Action::Spawn(..)
-            | Action::Sync => unreachable!(),
+            Action::Spawn(..) | Action::Sync => unreachable!(),
         },
     }
 }
@@ -73,13 +82,35 @@ fn value(frame: &Frame, code: &Code) -> Result<i32, Trap>
     eval(&slots, code)
 }
 
+// What a cell takes in an assignment with an operator: the right operand is evaluated first, and
+// then the cell is read.
+fn updated(frame: &Frame, op: BinOp, cell: u32, code: &Code) -> Result<i32, Trap>
+    requires within { SlotsLieWithin (sizes_of (lent frame.now [] [] true)) code.now }
+    requires there { cell < length (top_of frame.now).cells }
+    ensures { result ≡ updated_by frame.now op cell code.now }
+{
+    match value(frame, code) {
+        Err(trap) => Err(trap),
+        Ok(value) => {
+            let old = frame.cells(frame.depth() - 1)[cell as usize];
+            apply(op, old, value)
+        }
+    }
+}
+
 fn advance(mut frame: Frame, cell: u32, value: i32, next: u32) -> Frame
     requires { cell < length (top_of frame).cells }
     ensures { result ≡ advanced cell value next frame }
 {
     let depth = frame.depth();
-    let boundary = frame.at_boundary() && 1 < depth;
     frame.set_cell(depth - 1, cell, value);
+    go_on(frame, next)
+}
+
+fn go_on(mut frame: Frame, next: u32) -> Frame
+    ensures { result ≡ gone_to next frame }
+{
+    let boundary = frame.at_boundary() && 1 < frame.depth();
     frame.jump(next);
     frame.set_boundary(boundary);
     frame

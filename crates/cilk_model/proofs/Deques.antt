@@ -1,23 +1,23 @@
 -- In a deque each path is the parent of the next below, and the lowest is the parent of the path in a full hand.
-use Rattle.std.proofs.Common.{◌≡◌, ◌≢◌, ℕ, zero, suc, ◌+◌, ◌-◌, ◌<◌, ◌≤◌, Bool, true, false, not, ◌&&◌, List, [], ◌∷◌, ◌++◌, length, replicate, Option, Some, None, ◌⊎◌, inl, inr, refl, sym, ap, subst, ◌∙◌, if◌then◌else◌, arith, slice_set, count_by, length-set, append-nil, append_assoc}
-use Rattle.std.specs.Prelude.{⊤, slice_index_or}
+use Rattle.std.proofs.Common.{◌≡◌, ◌≢◌, ℕ, zero, suc, ◌+◌, ◌-◌, ◌<◌, ◌≤◌, Bool, true, false, not, ◌&&◌, List, [], ◌∷◌, ◌++◌, length, replicate, Option, Some, None, ◌⊎◌, inl, inr, refl, sym, ap, subst, ◌∙◌, if◌then◌else◌, arith, slice_set, count_by, length-set, append-nil}
+use Rattle.std.specs.Prelude.{slice_index_or}
 use Rattle.std.proofs.lemmas.Bool.{cases_eq, eqb-false}
 use Rattle.std.proofs.lemmas.List.{length-replicate}
 use Rattle.std.proofs.lemmas.List.Sums.{sum_by-cons}
 use Rattle.cilk_model.specs.Labelled.{Labelled}
-use Rattle.cilk_model.specs.Path.{Path, same_path, child_path, parent_of, is_that, is_child}
-use Rattle.cilk_model.specs.State.{Instances, State, is_live}
+use Rattle.cilk_model.specs.Path.{Path, same_path, parent_of, is_that, is_child}
+use Rattle.cilk_model.specs.State.{State, is_live}
 use Rattle.cilk_model.specs.Pick.{Step, waits, parks, goes_on, ends, spawns, step_of}
-use Rattle.cilk_model.specs.Scheduler.{Place, Scheduler, no_place, place_of, hand_of, deque_of, with_hand, with_deque, top_of, below_top, bottom_of, above_bottom, popped, stolen, pushed, parked_from, can_go_on, woken, with_empty_hand}
-use Rattle.cilk_model.specs.Choice.{Act, step, pop, steal, Choice}
-use Rattle.cilk_model.specs.Run.{Standing, Position, is_worker, act_refusal, pop_refusal, steal_refusal, refusal_of, stepped, next_by_hand, next_by, next_of, opening}
-use Rattle.cilk_model.specs.Laws.{times_held, EachInItsPlace, Descends, in_hand, line_of, EachLineDescends}
+use Rattle.cilk_model.specs.Scheduler.{Place, no_place, place_of, hand_of, deque_of, with_hand, with_deque, top_of, below_top, bottom_of, above_bottom, can_go_on, woken, with_empty_hand}
+use Rattle.cilk_model.specs.Choice.{Act, step, pop, steal}
+use Rattle.cilk_model.specs.Run.{Standing, is_worker, act_refusal, stepped, next_by_hand, next_by, opening}
+use Rattle.cilk_model.specs.Laws.{EachInItsPlace, Descends, in_hand, line_of, EachLineDescends}
 use Rattle.cilk_model.proofs.Runs.{at_each}
 use Rattle.cilk_model.proofs.Kept.{possible}
 use Rattle.cilk_model.proofs.Stuck.{within}
-use Rattle.cilk_model.proofs.Live.{same-is, same-self, same-sym, More, Lives, step_lives}
+use Rattle.cilk_model.proofs.Live.{same-sym, Lives, step_lives}
 use Rattle.cilk_model.proofs.Family.{is-child}
-use Rattle.cilk_model.proofs.Places.{once, held, seat, seated, beside, apart, free_pop, steal_free, Placed, keeps_places}
+use Rattle.cilk_model.proofs.Places.{once, seat, seated, beside, apart, free_pop, steal_free, Placed, keeps_places}
 use Rattle.cilk_model.proofs.Opening.{crew, opens}
 
 -- the parts of a line

@@ -1,6 +1,6 @@
 -- Each live instance has a head.
-use Rattle.std.proofs.Common.{◌≡◌, ◌≢◌, ℕ, ℤ, pos, Bool, true, false, not, cond, List, [], ◌∷◌, ◌++◌, Option, Some, None, is_none, Result, Ok, Err, refl, sym, ap, subst, ◌∙◌, if◌then◌else◌}
-use Rattle.std.proofs.lemmas.Bool.{cond_both}
+use Rattle.std.proofs.Common.{◌≡◌, ◌≢◌, ℕ, ◌+◌, ◌≤◌, nat_lt, ℤ, pos, Bool, true, false, not, cond, List, [], ◌∷◌, ◌++◌, length, Option, Some, None, Result, Ok, Err, refl, sym, ap, subst, ◌∙◌, if◌then◌else◌, arith}
+use Rattle.std.proofs.lemmas.Bool.{cond_both, and_parts, ltb-true}
 use Rattle.cilk_eval.specs.declared.trap.Trap.{Trap}
 use Rattle.cilk_eval.specs.Value.{Environment, value_of, ◌>>=◌}
 use Rattle.cilk_model.specs.Declaration.{Declaration}
@@ -11,13 +11,11 @@ use Rattle.cilk_model.specs.Effect.{Effect, writes, gives, goes_by, starts, effe
 use Rattle.cilk_model.specs.Path.{Path, same_path, parent_of}
 use Rattle.cilk_model.specs.Instance.{Receiver, place, Delivery, Instance, body_at}
 use Rattle.cilk_model.specs.State.{Entry, Instances, State, instance_at, changed, without, has_live_child}
-use Rattle.cilk_model.specs.Event.{Event}
 use Rattle.cilk_model.specs.Change.{is_alone, at_boundary, passes, has_room, head_effect, after_return_to, received_at, after_place, after_receiver}
 use Rattle.cilk_model.specs.Pick.{Step, waits, parks, goes_on, ends, spawns, step_by_start, step_by_effect, step_by_head, step_at_boundary, step_of_instance, step_of_live, step_of}
 use Rattle.cilk_model.specs.Scheduler.{hand_of}
-use Rattle.cilk_model.specs.Choice.{Act, step, pop, steal, Choice}
-use Rattle.cilk_model.specs.Run.{Standing, Position, refusal_of, state_after, next_by_hand, next_by, next_of, event_of, after_from, opening, is_crew, after_main}
-use Rattle.cilk_model.specs.Laws.{EachHasHead}
+use Rattle.cilk_model.specs.Choice.{Act, step, pop, steal}
+use Rattle.cilk_model.specs.Run.{Standing, state_after, next_by_hand, next_by, opening}
 
 -- the last item is the closing brace
 abbrev Closes : Items → Type 0
@@ -76,9 +74,9 @@ next_closes env (piece (action n act) ∷ (other ∷ items)) head did h first e 
     let same : record { number = n; act = act } ≡ head = cc in
     behind_closes env act (other ∷ items) did h (ap (λ (x : Head). effect_of env x.act) same ∙ e) stays
 
--- each live instance has its closing brace before it, and its procedure's own activation goes on
+-- each live instance has its closing brace before it, its procedure's own activation goes on, and it has not too many children
 abbrev pub IsReady : Instance → Type 0
-IsReady i = Closes i.top.items × (is_alone i ≡ true)
+IsReady i = Closes i.top.items × (is_alone i ≡ true) × (i.children ≤ 4294967295)
 
 abbrev pub Ready : Instances → Type 0
 Ready [] = Unit {0}
@@ -129,20 +127,22 @@ module _ (s : State) (p : Path) (all : Ready s.instances) (i : Instance) (ready 
   return_ready z (Some q) = changed_ready q _ (without p s.instances) (λ x h. h) (without_ready p s.instances all)
 
   start_ready : (program : Labelled) (n : ℕ) (taker : Taker Cell) (callee : ℕ) (arguments : List ℤ) → Closes (opened (next true i.top.items))
-      → (room : Bool) → ReadyAfter (step_by_start program s p i n taker callee arguments room)
-  start_ready program n taker callee arguments h true =
-      push_ready (changed p _ s.instances) _ (changed_ready p _ s.instances (λ x k. (h, ready.1)) all) (start_closes (body_at program callee), refl)
-  start_ready program n taker callee arguments h false = all
+      → (room : Bool) → has_room s i ≡ room → ReadyAfter (step_by_start program s p i n taker callee arguments room)
+  start_ready program n taker callee arguments h true room =
+      let few = ltb-true i.children 4294967295 (and_parts (nat_lt (length s.instances) 65536) (nat_lt i.children 4294967295) room).1 in
+      let more : i.children + 1 ≤ 4294967295 = omega arith in
+      push_ready (changed p _ s.instances) _ (changed_ready p _ s.instances (λ x k. (h, ready.1, more)) all) (start_closes (body_at program callee), refl, omega arith)
+  start_ready program n taker callee arguments h false room = all
 
   effect_ready : (program : Labelled) (head : Head) → head_of i.top.items ≡ Some head → (r : Result Effect Trap) → head_effect s p i head ≡ r → ReadyAfter (step_by_effect program s p i head.number r)
   effect_ready program head first (Err trap) e = all
   effect_ready program head first (Ok (writes cell z)) e =
-      changed_ready p _ s.instances (λ x h. (next_closes _ i.top.items head (writes cell z) ready.0 first e tt, ready.1)) all
+      changed_ready p _ s.instances (λ x h. (next_closes _ i.top.items head (writes cell z) ready.0 first e tt, ready.1, ready.2)) all
   effect_ready program head first (Ok (gives z)) e = return_ready z (parent_of p)
   effect_ready program head first (Ok goes_by) e =
-      changed_ready p _ s.instances (λ x h. (next_closes _ i.top.items head goes_by ready.0 first e tt, ready.1)) all
+      changed_ready p _ s.instances (λ x h. (next_closes _ i.top.items head goes_by ready.0 first e tt, ready.1, ready.2)) all
   effect_ready program head first (Ok (starts taker callee arguments)) e =
-      start_ready program head.number taker callee arguments (next_closes _ i.top.items head (starts taker callee arguments) ready.0 first e tt) (has_room s i)
+      start_ready program head.number taker callee arguments (next_closes _ i.top.items head (starts taker callee arguments) ready.0 first e tt) (has_room s i) refl
 
   head_ready : (program : Labelled) (o : Option Head) → head_of i.top.items ≡ o → ReadyAfter (step_by_head program s p i o)
   head_ready program None first = tt
@@ -187,7 +187,7 @@ act_ready program at w pop all = all
 act_ready program at w (steal v) all = all
 
 pub opening_ready : (program : Labelled) (main n : ℕ) → Ready (opening program main n).state.instances
-opening_ready program main n = ((start_closes (body_at program main), refl), tt)
+opening_ready program main n = ((start_closes (body_at program main), refl, omega arith), tt)
 
 pub ready_head : (entries : Instances) (p : Path) (i : Instance) → Ready entries → instance_at entries p ≡ Some i → head_of i.top.items ≢ None
 ready_head entries p i all e = closes_head i.top.items (found_ready entries p i all e).0

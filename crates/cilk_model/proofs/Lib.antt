@@ -11,3 +11,4 @@ pub mod Waiting
 pub mod Family
 pub mod Parked
 pub mod Deques
+pub mod Leaves

@@ -2,7 +2,7 @@
 use Rattle.std.proofs.Common.{◌≡◌, ℕ, zero, suc, ◌+◌, ◌<◌, ◌≤◌, List, [], ◌∷◌, ◌++◌, map, length, Option, Some, None, refl, ap, arith, length-append, get_or}
 use Rattle.std.specs.Prelude.{codes}
 use Rattle.std.specs.List.{All}
-use Rattle.cilk_tree.specs.Tree.{Decl, Stmt, assign, return_with, Stmts, none, also, Block, block, Item, procedure}
+use Rattle.cilk_tree.specs.Tree.{Decl, Stmt, assign, null, update, adjust, Stmts, none, also, Block, block, Item, procedure, return_at}
 use Rattle.cilk_tree.specs.ProgramText.{decl_line, stmt_lines, stmts_lines, block_lines, item_lines, items_lines, program_lines, deeper}
 use Rattle.cilk_model.specs.Count.{count_option, count_decls, count_stmt, count_stmts, count_block, count_item, count_items}
 use Rattle.cilk_model.specs.Lines.{initialiser_lines, decls_action_lines, stmt_action_lines, stmts_action_lines, block_action_lines, item_action_lines, items_action_lines, action_lines}
@@ -19,7 +19,10 @@ decls_count at (d ∷ ds) =
 
 stmt_count : (at : ℕ) (s : Stmt) → length (stmt_action_lines at s) ≡ count_stmt s
 stmt_count at (assign place value) = refl
-stmt_count at (return_with value) = refl
+stmt_count at (return_at place value) = refl
+stmt_count at null = refl
+stmt_count at (update place op value) = refl
+stmt_count at (adjust place by) = refl
 
 stmts_count : (at : ℕ) (ss : Stmts) → length (stmts_action_lines at ss) ≡ count_stmts ss
 stmts_count at none = refl
@@ -70,7 +73,10 @@ decls_between at (d ∷ ds) = joined at (at + length (d ∷ ds)) (initialiser_li
 
 stmt_between : (at : ℕ) (s : Stmt) → Between at (at + length (stmt_lines [] s)) (stmt_action_lines at s)
 stmt_between at (assign place value) = (omega arith, omega arith, tt)
-stmt_between at (return_with value) = (omega arith, omega arith, tt)
+stmt_between at (return_at place value) = (omega arith, omega arith, tt)
+stmt_between at null = (omega arith, omega arith, tt)
+stmt_between at (update place op value) = (omega arith, omega arith, tt)
+stmt_between at (adjust place by) = (omega arith, omega arith, tt)
 
 stmts_between : (at : ℕ) (ss : Stmts) → Between at (at + length (stmts_lines [] ss)) (stmts_action_lines at ss)
 stmts_between at none = tt
@@ -84,7 +90,10 @@ stmts_between at (also s ss) =
 -- the indent does not change how many lines there are
 stmt_size : (a b : List ℕ) (s : Stmt) → length (stmt_lines a s) ≡ length (stmt_lines b s)
 stmt_size a b (assign place value) = refl
-stmt_size a b (return_with value) = refl
+stmt_size a b (return_at place value) = refl
+stmt_size a b null = refl
+stmt_size a b (update place op value) = refl
+stmt_size a b (adjust place by) = refl
 
 stmts_size : (a b : List ℕ) (ss : Stmts) → length (stmts_lines a ss) ≡ length (stmts_lines b ss)
 stmts_size a b none = refl

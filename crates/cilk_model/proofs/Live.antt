@@ -1,8 +1,9 @@
 -- Which instances live after a step.
-use Rattle.std.proofs.Common.{◌≡◌, ℕ, ℤ, ◌+◌, Bool, true, false, not, ◌&&◌, ◌||◌, cond, List, [], ◌∷◌, ◌++◌, Option, Some, None, is_some, Result, Ok, Err, refl, sym, ap, ◌∙◌, if◌then◌else◌, arith, count_by}
+use Rattle.std.proofs.Common.{◌≡◌, ℕ, ℤ, ◌+◌, ◌<◌, ◌≤◌, nat_lt, Bool, true, false, not, ◌&&◌, ◌||◌, cond, List, [], ◌∷◌, ◌++◌, length, length-append, Option, Some, None, is_some, Result, Ok, Err, refl, sym, ap, ◌∙◌, if◌then◌else◌, arith, count_by}
 use Rattle.std.specs.Prelude.{option_map}
-use Rattle.std.proofs.lemmas.Bool.{cond_both}
-use Rattle.std.proofs.lemmas.List.Sums.{sum_by-cons, sum_by-append}
+use Rattle.std.proofs.lemmas.Bool.{cond_both, and_parts, ltb-true}
+use Rattle.std.proofs.lemmas.List.Sums.{sum_by-cons, sum_by-append, length-filter, count_by-le-length}
+use Rattle.std.proofs.lemmas.List.{length-map}
 use Rattle.std.proofs.lemmas.Slice.Eq.{bytes_eq-Decides}
 use Rattle.cilk_eval.specs.declared.trap.Trap.{Trap}
 use Rattle.cilk_model.specs.Labelled.{Labelled, Taker}
@@ -217,12 +218,14 @@ pub record Alike (entries after : Instances) : Type 0 where
   pub live : (q : Path) → is_live after q ≡ is_live entries q
   pub times : (q : Path) → times q after ≡ times q entries
   pub children : (q : Path) → children_at after q ≡ children_at entries q
+  pub size : length after ≡ length entries
 
 -- the same paths but p live
 pub record Fewer (p : Path) (entries after : Instances) : Type 0 where
   pub live : (q : Path) → is_live after q ≡ (not (same_path q p) && is_live entries q)
   pub times : (q : Path) → times q after ≡ cond (same_path q p) 0 (times q entries)
   pub children : (q : Path) → same_path q p ≡ false → children_at after q ≡ children_at entries q
+  pub size : length after ≤ length entries
 
 -- one path more lives, which is the next child of p
 pub record More (p c : Path) (entries after : Instances) : Type 0 where
@@ -233,15 +236,18 @@ pub record More (p c : Path) (entries after : Instances) : Type 0 where
   pub times : (q : Path) → times q after ≡ cond (same_path c q) 1 0 + times q entries
   pub parent : children_at after p ≡ Some (number + 1)
   pub children : (q : Path) → same_path q p ≡ false → is_live entries q ≡ true → children_at after q ≡ children_at entries q
+  pub size : length after ≡ length entries + 1
+  pub room : length entries < 65536
 
 alike : (entries : Instances) → Alike entries entries
-alike entries = record { live = λ q. refl; times = λ q. refl; children = λ q. refl }
+alike entries = record { live = λ q. refl; times = λ q. refl; children = λ q. refl; size = refl }
 
 changed_alike : (p : Path) (f : Instance → Instance) (entries : Instances) → ((i : Instance) → instance_at entries p ≡ Some i → (f i).children ≡ i.children) → Alike entries (changed p f entries)
 changed_alike p f entries h = record {
   live = live-changed p f entries;
   times = times-changed p f entries;
   children = children-changed p f entries h;
+  size = length-map entries (change p f);
 }
 
 without_fewer : (p : Path) (entries : Instances) → Fewer p entries (without p entries)
@@ -249,6 +255,7 @@ without_fewer p entries = record {
   live = live-without p entries;
   times = times-without p entries;
   children = λ q other. ap (option_map (λ (i : Instance). i.children)) (at-without_other p q entries other);
+  size = let test : Entry → Bool = λ e. not (same_path e.path p) in omega (arith, length-filter test entries, count_by-le-length test entries);
 }
 
 changed_fewer : (p : Path) (entries after : Instances) (r : Path) (f : Instance → Instance) → ((i : Instance) → (f i).children ≡ i.children) → Fewer p entries after → Fewer p entries (changed r f after)
@@ -256,6 +263,7 @@ changed_fewer p entries after r f h k = record {
   live = λ q. live-changed r f after q ∙ k.live q;
   times = λ q. times-changed r f after q ∙ k.times q;
   children = λ q other. children-changed r f after (λ i e. h i) q ∙ k.children q other;
+  size = let same : length (changed r f after) ≡ length after = length-map after (change r f) in let fewer = k.size in omega arith;
 }
 
 live_either : (o r : Option Instance) (b : Bool) → is_some r ≡ b → is_some (either_of o r) ≡ (b || is_some o)
@@ -282,8 +290,8 @@ live_some : (entries : Instances) (q : Path) (o : Option Instance) → is_some o
 live_some entries q None h r = cc
 live_some entries q (Some x) h r = refl
 
-birth_more : (s : State) (p : Path) (i child : Instance) → instance_at s.instances p ≡ Some i → More p (next_child p i) s.instances (with_birth p (with_child i) (next_child p i) child s.instances)
-birth_more s p i child live =
+birth_more : (s : State) (p : Path) (i child : Instance) → instance_at s.instances p ≡ Some i → has_room s i ≡ true → More p (next_child p i) s.instances (with_birth p (with_child i) (next_child p i) child s.instances)
+birth_more s p i child live room =
     let parents = changed p (λ _. with_child i) s.instances in
     let born : Entry = record { path = next_child p i; instance = child } in
     let here : instance_at parents p ≡ Some (with_child i) = at-changed_same p (λ _. with_child i) s.instances ∙ ap (option_map (λ _. with_child i)) live in
@@ -298,6 +306,8 @@ birth_more s p i child live =
           ap (option_map (λ (x : Instance). x.children)) (at-push parents born q
           ∙ live_some parents q (instance_at parents q) (live-changed p (λ _. with_child i) s.instances q ∙ there) _
           ∙ at-changed_other p q (λ _. with_child i) s.instances other);
+      size = let same : length parents ≡ length s.instances = length-map s.instances (change p (λ _. with_child i)) in omega (arith, length-append parents (born ∷ []));
+      room = ltb-true (length s.instances) 65536 (and_parts (nat_lt (length s.instances) 65536) (nat_lt i.children 4294967295) room).0;
     }
 
 -- what is to be shown of a step
@@ -319,9 +329,9 @@ module _ (s : State) (p : Path) (i : Instance) (live : instance_at s.instances p
   return_lives z None = without_fewer p s.instances
   return_lives z (Some q) = changed_fewer p s.instances (without p s.instances) q _ (λ x. refl) (without_fewer p s.instances)
 
-  start_lives : (program : Labelled) (n : ℕ) (taker : Taker Cell) (callee : ℕ) (arguments : List ℤ) (room : Bool) → Lives s p (step_by_start program s p i n taker callee arguments room)
-  start_lives program n taker callee arguments true = birth_more s p i (child_of program i n taker callee arguments) live
-  start_lives program n taker callee arguments false = alike s.instances
+  start_lives : (program : Labelled) (n : ℕ) (taker : Taker Cell) (callee : ℕ) (arguments : List ℤ) (room : Bool) → has_room s i ≡ room → Lives s p (step_by_start program s p i n taker callee arguments room)
+  start_lives program n taker callee arguments true room = birth_more s p i (child_of program i n taker callee arguments) live room
+  start_lives program n taker callee arguments false room = alike s.instances
 
   effect_lives : (program : Labelled) (n : ℕ) (r : Result Effect Trap) → Lives s p (step_by_effect program s p i n r)
   effect_lives program n (Err trap) = alike s.instances
@@ -330,7 +340,7 @@ module _ (s : State) (p : Path) (i : Instance) (live : instance_at s.instances p
   effect_lives program n (Ok (gives z)) = return_lives z (parent_of p)
   effect_lives program n (Ok goes_by) = changed_alike p _ s.instances (as_many (gone_on true i.top.values i) refl)
   effect_lives program n (Ok (starts taker callee arguments)) =
-      start_lives program n taker callee arguments (has_room s i)
+      start_lives program n taker callee arguments (has_room s i) refl
 
   head_lives : (program : Labelled) (o : Option Head) → Lives s p (step_by_head program s p i o)
   head_lives program None = tt

@@ -1,5 +1,5 @@
 -- Each live instance is in one place at every position.
-use Rattle.std.proofs.Common.{◌≡◌, ℕ, zero, suc, ◌≤◌, Bool, true, false, List, [], ◌∷◌, ◌++◌, length, replicate, Option, Some, None, is_some, is_none, refl, ap, subst, ◌∙◌, if◌then◌else◌, arith}
+use Rattle.std.proofs.Common.{◌≡◌, ℕ, zero, suc, ◌≤◌, Bool, true, false, List, [], length, replicate, Some, None, is_some, refl, ap, ◌∙◌, if◌then◌else◌, arith}
 use Rattle.std.proofs.lemmas.List.{length-replicate}
 use Rattle.std.proofs.lemmas.Bool.{and_parts, leb-true}
 use Rattle.std.proofs.lemmas.List.Sums.{sum_by-cons}
@@ -8,13 +8,12 @@ use Rattle.cilk_model.specs.Path.{Path, same_path}
 use Rattle.cilk_model.specs.Instance.{Instance, started}
 use Rattle.cilk_model.specs.State.{is_live, opening_state}
 use Rattle.cilk_model.specs.Scheduler.{no_place, hand_of}
-use Rattle.cilk_model.specs.Event.{Event}
-use Rattle.cilk_model.specs.Choice.{Choice, Refusal}
-use Rattle.cilk_model.specs.Run.{Standing, Position, refusal_of, next_of, event_of, after_from, opening, is_crew, after}
-use Rattle.cilk_model.specs.Laws.{times_held, PlacesAreKept, EachHasHead}
+use Rattle.cilk_model.specs.Choice.{Choice}
+use Rattle.cilk_model.specs.Run.{Position, opening, is_crew, after}
+use Rattle.cilk_model.specs.Laws.{times_held, PlacesAreKept, EachHasHead, LimitsAreKept}
 use Rattle.cilk_model.proofs.Live.{same-sym, times-cons}
 use Rattle.cilk_model.proofs.Runs.{at_each}
-use Rattle.cilk_model.proofs.Heads.{opening_ready, ready_head}
+use Rattle.cilk_model.proofs.Heads.{found_ready, opening_ready, ready_head}
 use Rattle.cilk_model.proofs.Family.{root_family}
 use Rattle.cilk_model.proofs.Places.{once, held, given, Placed, keeps_places}
 
@@ -44,6 +43,7 @@ opens program main n some = record {
       omega arith;
   family = root_family (started program main []);
   ready = opening_ready program main n;
+  few = omega arith;
 }
 
 pub crew : (n : ℕ) → is_crew n ≡ true → 1 ≤ n
@@ -61,3 +61,8 @@ places_are_kept program n choices at h =
 pub each_has_head : EachHasHead
 each_has_head program n choices at h p i live =
     ready_head at.standing.state.instances p i (each_placed program n choices at h).ready live
+
+pub limits_are_kept : LimitsAreKept
+limits_are_kept program n choices at h =
+    let placed = each_placed program n choices at h in
+    (placed.few, λ p i live. (found_ready at.standing.state.instances p i placed.ready live).2)

@@ -1,15 +1,15 @@
 -- Each instance that is parked has a live child.
-use Rattle.std.proofs.Common.{◌≡◌, ℕ, Bool, true, false, not, ◌&&◌, ◌||◌, List, [], ◌∷◌, Option, Some, None, refl, sym, ap, ◌∙◌, if◌then◌else◌}
+use Rattle.std.proofs.Common.{◌≡◌, ℕ, Bool, true, false, not, ◌&&◌, ◌||◌, [], ◌∷◌, Option, Some, None, refl, sym, ap, ◌∙◌, if◌then◌else◌}
 use Rattle.cilk_model.specs.Labelled.{Labelled}
 use Rattle.cilk_model.specs.Path.{Path, same_path, parent_of, is_that, is_child}
 use Rattle.cilk_model.specs.State.{Entry, Instances, State, instance_at, is_live, has_live_child}
 use Rattle.cilk_model.specs.Pick.{Step, waits, parks, goes_on, ends, spawns, step_of}
 use Rattle.cilk_model.specs.Scheduler.{Scheduler, hand_of, with_hand, can_take, can_go_on, woken, with_empty_hand}
-use Rattle.cilk_model.specs.Choice.{Act, step, pop, steal, Choice}
-use Rattle.cilk_model.specs.Run.{Standing, Position, refusal_of, stepped, next_by_hand, next_by, next_of, opening}
+use Rattle.cilk_model.specs.Choice.{Act, step, pop, steal}
+use Rattle.cilk_model.specs.Run.{Standing, stepped, next_by_hand, next_by, opening}
 use Rattle.cilk_model.specs.Laws.{EachParkedHasChild}
 use Rattle.cilk_model.proofs.Runs.{at_each}
-use Rattle.cilk_model.proofs.Live.{same-is, same-self, same-sym, live-cons, Alike, Fewer, More, Lives, step_lives}
+use Rattle.cilk_model.proofs.Live.{same-is, same-self, live-cons, Alike, Fewer, More, Lives, step_lives}
 use Rattle.cilk_model.proofs.Waiting.{Waited, step_waited}
 use Rattle.cilk_model.proofs.Family.{child_seen}
 use Rattle.cilk_model.proofs.Places.{Placed, keeps_places}

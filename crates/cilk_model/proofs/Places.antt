@@ -15,7 +15,7 @@ use Rattle.cilk_model.proofs.Kept.{possible}
 use Rattle.cilk_model.proofs.Stuck.{within}
 use Rattle.cilk_model.proofs.Live.{same-is, same-sym, times, Alike, Fewer, More, Lives, step_lives}
 use Rattle.cilk_model.proofs.Heads.{Ready, act_ready}
-use Rattle.cilk_model.proofs.Waiting.{Waited, step_waited}
+use Rattle.cilk_model.proofs.Waiting.{step_waited}
 use Rattle.cilk_model.proofs.Family.{Family, step_family, fresh}
 
 -- 1 where it holds
@@ -293,26 +293,39 @@ pub record Placed (at : Standing) : Type 0 where
   pub paths : PathsAreApart at.state.instances
   pub family : Family at.state.instances
   pub ready : Ready at.state.instances
+  pub few : length at.state.instances ≤ 65536
 
 -- what is kept by a step of the instance in a hand
 record Kept (at : Standing) : Type 0 where
   paths : PathsAreApart at.state.instances
   family : Family at.state.instances
+  few : length at.state.instances ≤ 65536
+
+step_few : (s : State) (p : Path) (taken : Step) → length s.instances ≤ 65536 → Lives s p taken → length (state_after s taken).instances ≤ 65536
+step_few s p waits few lives = few
+step_few s p parks few lives = few
+step_few s p (goes_on t did) few lives = let same = lives.size in omega arith
+step_few s p (ends t did) few lives = let fewer = lives.size in omega arith
+step_few s p (spawns c t did) few lives =
+    let more = lives.size in
+    let room = lives.room in
+    omega arith
 
 hand_kept : (program : Labelled) (at : Standing) (w : ℕ) (o : Option Path) → Placed at → Kept (next_by_hand program at w o)
-hand_kept program at w None placed = record { paths = placed.paths; family = placed.family }
+hand_kept program at w None placed = record { paths = placed.paths; family = placed.family; few = placed.few }
 hand_kept program at w (Some p) placed =
     let taken = step_of program at.state p in
     let lives = step_lives program at.state p in
     record {
       paths = step_apart at.state p taken placed.paths placed.family lives;
       family = step_family at.state p taken placed.family lives (step_waited program at.state p placed.ready);
+      few = step_few at.state p taken placed.few lives;
     }
 
 act_kept : (program : Labelled) (at : Standing) (w : ℕ) (act : Act) → Placed at → Kept (next_by program at w act)
 act_kept program at w step placed = hand_kept program at w (hand_of at.scheduler.places w) placed
-act_kept program at w pop placed = record { paths = placed.paths; family = placed.family }
-act_kept program at w (steal v) placed = record { paths = placed.paths; family = placed.family }
+act_kept program at w pop placed = record { paths = placed.paths; family = placed.family; few = placed.few }
+act_kept program at w (steal v) placed = record { paths = placed.paths; family = placed.family; few = placed.few }
 
 pub keeps_places : (program : Labelled) (at : Standing) (choice : Choice) → refusal_of program at choice ≡ None → Placed at → Placed (next_of program at choice)
 keeps_places program at choice free placed =
@@ -322,5 +335,6 @@ keeps_places program at choice free placed =
       each = act_places program at choice.worker choice.act p.worker p.act placed.each placed.family;
       paths = kept.paths;
       family = kept.family;
+      few = kept.few;
       ready = act_ready program at choice.worker choice.act placed.ready;
     }

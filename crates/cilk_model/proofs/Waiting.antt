@@ -11,7 +11,7 @@ use Rattle.cilk_model.specs.Values.{Cell, environment}
 use Rattle.cilk_model.specs.Effect.{Effect, writes, gives, goes_by, starts, reached_taker, values_of, effect_of}
 use Rattle.cilk_model.specs.Path.{Path}
 use Rattle.cilk_model.specs.Instance.{Delivery, Instance}
-use Rattle.cilk_model.specs.State.{State, Instances, instance_at, has_live_child}
+use Rattle.cilk_model.specs.State.{State, instance_at, has_live_child}
 use Rattle.cilk_model.specs.Change.{is_empty, is_synched, is_alone, syncs, syncs_next, at_boundary, passes, store_of, has_room, head_effect}
 use Rattle.cilk_model.specs.Pick.{Step, waits, parks, goes_on, ends, spawns, step_by_start, step_by_effect, step_by_head, step_at_boundary, step_of_instance, step_of_live, step_of}
 use Rattle.cilk_model.proofs.Heads.{Ready, found_ready}

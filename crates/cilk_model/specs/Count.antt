@@ -1,6 +1,6 @@
--- How many actions a program has: an initialiser, an assignment, a `return` and the closing brace of a body are one each.
+-- How many actions a program has: an initialiser, a statement and the closing brace of a body are one each.
 use Rattle.std.specs.Prelude.{ℕ, ◌+◌, List, [], ◌∷◌, Option, Some, None}
-use Rattle.cilk_tree.specs.Tree.{Decl, Stmt, assign, return_with, Stmts, none, also, Block, block, Item, procedure, Program}
+use Rattle.cilk_tree.specs.Tree.{Decl, Stmt, assign, null, update, adjust, Stmts, none, also, Block, block, Item, procedure, Program, return_at}
 
 -- 1 of what is there
 abbrev pub count_option : {A : Type 0} → Option A → ℕ
@@ -14,7 +14,10 @@ count_decls (d ∷ decls) = count_option d.value + count_decls decls
 
 abbrev pub count_stmt : Stmt → ℕ
 count_stmt (assign place value) = 1
-count_stmt (return_with value) = 1
+count_stmt (return_at place value) = 1
+count_stmt null = 1
+count_stmt (update place op value) = 1
+count_stmt (adjust place by) = 1
 
 abbrev pub count_stmts : Stmts → ℕ
 count_stmts none = 0

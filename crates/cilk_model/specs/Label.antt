@@ -1,9 +1,12 @@
 -- A program is labelled: its actions are numbered from 1 in the order of the canonical text.
-use Rattle.std.specs.Prelude.{ℕ, suc, ◌+◌, pos, List, [], ◌∷◌, ◌++◌, length, map, codes, Option, Some, None, bytes_eq, position}
+use Rattle.std.specs.Prelude.{ℕ, suc, ◌+◌, pos, List, [], ◌∷◌, ◌++◌, length, map, codes, Option, Some, None, bytes_eq, position, ◌==◌, Bool, ◌&&◌}
+use Rattle.cilk_tree.specs.Adjustments.{operator_of}
 use Rattle.cilk_tree.specs.Tree as tree
+use Rattle.cilk_tree.specs.Parameters.{parameter_decl}
+use Rattle.cilk_eval.specs.Term as term
 use Rattle.cilk_model.specs.Declaration.{local, global}
 use Rattle.cilk_model.specs.Scope.{Scope, meaning_of, with_local, with_locals, label_expr}
-use Rattle.cilk_model.specs.Labelled.{Target, variable, assign, return_with, Stmt, action, Stmts, none, also, Variable, Body, Labelled}
+use Rattle.cilk_model.specs.Labelled.{Target, variable, assign, return_with, assign_by, null, Stmt, action, Stmts, none, also, Variable, Body, Labelled, Action, return_nothing}
 use Rattle.cilk_model.specs.Count.{count_option, count_decls, count_stmt, count_block, count_item}
 use Rattle.cilk_model.specs.Lines.{action_lines}
 
@@ -13,7 +16,10 @@ variable_of d = record { name = d.name.text; length = 0; initial = pos 0 }
 
 abbrev pub stmt_variables : tree.Stmt → List Variable
 stmt_variables (tree.assign place value) = []
-stmt_variables (tree.return_with value) = []
+stmt_variables (tree.return_at place value) = []
+stmt_variables tree.null = []
+stmt_variables (tree.update place op value) = []
+stmt_variables (tree.adjust place by) = []
 
 abbrev pub stmts_variables : tree.Stmts → List Variable
 stmts_variables tree.none = []
@@ -38,10 +44,21 @@ label_decls scope at n [] others = others
 label_decls scope at n (d ∷ decls) others =
     label_initialiser (with_local scope n d) at n d.value (label_decls (with_local scope n d) (at + count_option d.value) (suc n) decls others)
 
+-- a `return`, with a value or without one (C 1990, 6.6.6.4)
+abbrev pub label_return : Scope → Option tree.Expr → Action
+label_return scope None = return_nothing
+label_return scope (Some value) = return_with (label_expr scope value)
+
 -- where `at` is the number of the next action, and n that of the next declaration
 abbrev pub label_stmt : Scope → ℕ → ℕ → tree.Stmt → Stmt
 label_stmt scope at n (tree.assign place value) = action at (assign (label_place scope place) (label_expr scope value))
-label_stmt scope at n (tree.return_with value) = action at (return_with (label_expr scope value))
+label_stmt scope at n (tree.return_at place value) = action at (label_return scope value)
+label_stmt scope at n tree.null = action at null
+label_stmt scope at n (tree.update place op value) =
+    action at (assign_by op (label_place scope place) (label_expr scope value))
+-- C 1990, 6.3.2.4
+label_stmt scope at n (tree.adjust place by) =
+    action at (assign_by (operator_of by) (label_place scope place) (term.number 1))
 
 abbrev pub label_stmts : Scope → ℕ → ℕ → tree.Stmts → Stmts
 label_stmts scope at n tree.none = none
@@ -53,12 +70,13 @@ abbrev pub label_block : Scope → ℕ → ℕ → tree.Block → Stmts
 label_block scope at n (tree.block decls stmts) =
     label_decls scope at n decls (label_stmts (with_locals scope n decls) (at + count_decls decls) (n + length decls) stmts)
 
+-- the parameters come first, and are visible in the whole body (C 1990, 6.1.2.1)
 abbrev pub label_procedure : Scope → ℕ → tree.Proc → Body
 label_procedure scope at p = record {
   name = p.name.text;
-  parameters = 0;
-  variables = block_variables p.body;
-  stmts = label_block scope at 0 p.body;
+  parameters = length p.parameters;
+  variables = map variable_of (map parameter_decl p.parameters) ++ block_variables p.body;
+  stmts = label_block (with_locals scope 0 (map parameter_decl p.parameters)) at (length p.parameters) p.body;
   closing = at + count_block p.body;
 }
 
@@ -84,12 +102,15 @@ global_scope n (v ∷ variables) =
 abbrev pub bodies_of : tree.Program → List Body
 bodies_of p = label_items (global_scope 0 (globals_of p.items)) 1 p.items
 
--- the program starts at `main` (C 1990, 5.1.2.2.1)
+-- the program starts at the `main` that has no parameters (C 1990, 5.1.2.2.1)
+abbrev pub is_start : Body → Bool
+is_start b = bytes_eq b.name (codes "main") && b.parameters == 0
+
 abbrev pub label : tree.Program → Labelled
 label p = record {
   bodies = bodies_of p;
   globals = globals_of p.items;
   locks = [];
-  main = position (λ (b : Body). bytes_eq b.name (codes "main")) (bodies_of p);
+  main = position is_start (bodies_of p);
   lines = action_lines p;
 }

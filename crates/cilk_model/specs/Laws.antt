@@ -1,5 +1,5 @@
 -- What holds of every run.
-use Rattle.std.specs.Prelude.{◌≤◌, length, All, ◌≡◌, ◌≢◌, ◌↔◌, ℕ, ◌+◌, true, ⊤, cond, List, [], ◌∷◌, ◌++◌, Option, Some, None, sum_by, count_by}
+use Rattle.std.specs.Prelude.{◌≤◌, length, All, ◌≡◌, ◌≢◌, ◌↔◌, ℕ, ◌+◌, true, false, ⊤, cond, List, [], ◌∷◌, ◌++◌, Option, Some, None, sum_by, count_by}
 use Rattle.cilk_tree.specs.Tree.{Program}
 use Rattle.cilk_tree.specs.ProgramText.{program_lines}
 use Rattle.cilk_model.specs.Count.{count_program}
@@ -11,7 +11,7 @@ use Rattle.cilk_model.specs.Instance.{Instance}
 use Rattle.cilk_model.specs.State.{State, Instances, running, instance_at, is_live, has_live_child}
 use Rattle.cilk_model.specs.Event.{Event, moved}
 use Rattle.cilk_model.specs.Rule.{Allows}
-use Rattle.cilk_model.specs.Scheduler.{Place, Scheduler, place_of, hand_of}
+use Rattle.cilk_model.specs.Scheduler.{Place, Scheduler, place_of, hand_of, bottom_of}
 use Rattle.cilk_model.specs.Choice.{Choice}
 use Rattle.cilk_model.specs.Run.{Standing, Position, refusal_of, after, one_more}
 use Rattle.cilk_model.specs.End.{is_stuck}
@@ -103,3 +103,14 @@ EachLineDescends = (program : Labelled) (n : ℕ) (choices : List Choice) (at : 
 abbrev pub EachParkedHasChild : Type 0
 EachParkedHasChild = (program : Labelled) (n : ℕ) (choices : List Choice) (at : Position) → after program n choices ≡ Some at
     → (p : Path) → at.standing.scheduler.parked p ≡ true → has_live_child at.standing.state.instances p ≡ true
+
+-- after every list of possible choices at most 65,536 instances live, and none of them has spawned more than 4,294,967,295 children
+abbrev pub LimitsAreKept : Type 0
+LimitsAreKept = (program : Labelled) (n : ℕ) (choices : List Choice) (at : Position) → after program n choices ≡ Some at
+    → (length at.standing.state.instances ≤ 65536) × ((p : Path) (i : Instance) → instance_at at.standing.state.instances p ≡ Some i → i.children ≤ 4294967295)
+
+-- after every list of possible choices each live instance without a live child is the last of a worker's line: in its hand, or at the bottom of its deque where the hand is empty (Cilk 5.4 manual, work stealing)
+abbrev pub EachLeafIsBusy : Type 0
+EachLeafIsBusy = (program : Labelled) (n : ℕ) (choices : List Choice) (at : Position) → after program n choices ≡ Some at
+    → (p : Path) → is_live at.standing.state.instances p ≡ true → has_live_child at.standing.state.instances p ≡ false
+    → (w : ℕ) × (bottom_of (line_of (place_of at.standing.scheduler.places w)) ≡ Some p)

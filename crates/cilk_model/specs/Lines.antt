@@ -1,6 +1,6 @@
 -- On which line of the canonical text each action stands, the first line being line 1.
 use Rattle.std.specs.Prelude.{ℕ, ◌+◌, ◌∷◌, [], ◌++◌, List, length, Option, Some, None}
-use Rattle.cilk_tree.specs.Tree.{Decl, Stmt, assign, return_with, Stmts, none, also, Block, block, Item, procedure, Program}
+use Rattle.cilk_tree.specs.Tree.{Decl, Stmt, assign, null, update, adjust, Stmts, none, also, Block, block, Item, procedure, Program, return_at}
 use Rattle.cilk_tree.specs.ProgramText.{stmt_lines, block_lines, item_lines, deeper}
 
 -- a declaration is one line, and its initialiser stands on it
@@ -15,7 +15,10 @@ decls_action_lines at (d ∷ decls) = initialiser_lines at d.value ++ decls_acti
 -- the lines of the actions of a statement that begins on the line `at`
 abbrev pub stmt_action_lines : ℕ → Stmt → List ℕ
 stmt_action_lines at (assign place value) = at ∷ []
-stmt_action_lines at (return_with value) = at ∷ []
+stmt_action_lines at (return_at place value) = at ∷ []
+stmt_action_lines at null = at ∷ []
+stmt_action_lines at (update place op value) = at ∷ []
+stmt_action_lines at (adjust place by) = at ∷ []
 
 abbrev pub stmts_action_lines : ℕ → Stmts → List ℕ
 stmts_action_lines at none = []

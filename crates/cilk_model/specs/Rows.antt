@@ -1,6 +1,7 @@
 -- Some small programs, and questions about their runs.
 use Rattle.std.specs.Prelude.{ℕ, Bool, true, pos, List, [], ◌∷◌, ◌++◌, codes, Option, Some, None, option_map, option_and_then}
-use Rattle.cilk_tree.specs.Tree.{Word, number, named, binary, assign, return_with, none, also, Block, block, procedure, Program}
+use Rattle.cilk_tree.specs.Tree.{Word, number, named, binary, assign, none, also, Block, block, procedure, Program, return_at}
+use Rattle.cilk_tree.specs.declared.return_type.ReturnType.TheVariants.{Int}
 use Rattle.cilk_tree.specs.declared.operator.BinOp.TheVariants.{Multiply, Add, Subtract}
 use Rattle.cilk_eval.specs.Term as term
 use Rattle.cilk_eval.specs.Term.{Term}
@@ -28,24 +29,24 @@ b = word (codes "b")
 
 abbrev pub only_main : Block → Program
 only_main body =
-    record { items = procedure (record { name = word (codes "main"); body = body }) ∷ []; length = 0 }
+    record { items = procedure (record { returns = Int; name = word (codes "main"); parameters = []; body = body }) ∷ []; length = 0 }
 
 -- cilk int main(void) { int a = 2, b; b = a * (3 + 4) - 5; return b; }
 abbrev pub sum_program : Program
 sum_program =
     only_main (block (record { name = a; value = Some (number 2) } ∷ record { name = b; value = None } ∷ [])
     (also (assign (record { name = b }) (binary Subtract (binary Multiply (named a) (binary Add (number 3) (number 4))) (number 5)))
-    (also (return_with (named b)) none)))
+    (also (return_at 0 (Some (named b))) none)))
 
 -- cilk int main(void) { int a = a; a = b; return 0; }
 abbrev pub own_program : Program
 own_program =
     only_main (block (record { name = a; value = Some (named a) } ∷ [])
-    (also (assign (record { name = a }) (named b)) (also (return_with (number 0)) none)))
+    (also (assign (record { name = a }) (named b)) (also (return_at 0 (Some (number 0))) none)))
 
 -- cilk int main(void) { return 2147483647 + 1; }
 abbrev pub trap_program : Program
-trap_program = only_main (block [] (also (return_with (binary Add (number 2147483647) (number 1))) none))
+trap_program = only_main (block [] (also (return_at 0 (Some (binary Add (number 2147483647) (number 1)))) none))
 
 -- a worker's step, pop and steal
 abbrev pub steps : ℕ → Choice

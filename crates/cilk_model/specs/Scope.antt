@@ -33,3 +33,5 @@ abbrev pub label_expr : Scope → tree.Expr → Term Declaration
 label_expr scope (tree.number n) = term.number n
 label_expr scope (tree.named name) = term.variable (meaning_of scope name.text)
 label_expr scope (tree.binary op left right) = term.binary op (label_expr scope left) (label_expr scope right)
+label_expr scope (tree.unary op operand) = term.unary op (label_expr scope operand)
+label_expr scope (tree.choose test first second) = term.choose (label_expr scope test) (label_expr scope first) (label_expr scope second)

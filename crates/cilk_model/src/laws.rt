@@ -8,7 +8,7 @@ ghost use Rattle.cilk_model.specs.Label.{label, bodies_of};
 ghost use Rattle.cilk_model.specs.State as state;
 ghost use Rattle.cilk_model.specs.Event as event;
 ghost use Rattle.cilk_model.specs.Choice as choice;
-ghost use Rattle.cilk_model.specs.Laws.{OneByOne, EachChoiceKeepsRule, StuckExactly, PlacesAreKept, EachActionHasItsLine, EachHasHead, EachParkedHasChild, EachLineDescends};
+ghost use Rattle.cilk_model.specs.Laws.{OneByOne, EachChoiceKeepsRule, StuckExactly, PlacesAreKept, EachActionHasItsLine, EachHasHead, EachParkedHasChild, EachLineDescends, LimitsAreKept, EachLeafIsBusy};
 ghost use Rattle.cilk_model.specs.Rows.{sum_program, trap_program, own_program, sum_bodies, own_bodies, steps, pops, steals, outcome_after, events_after, closing_after, refusal_after, adds_to_a, events_with_child, values_with_child, child_returns, counting, doubling, passing, outcome_of, events_of, closing_of, refusal_then, places_of, counts_alone, parent_is_stolen, counts_twice_at_once, parent_waits, child_first, child_in_between, child_passes};
 
 /// Each action has a line of the canonical text.
@@ -136,4 +136,16 @@ pub fn each_parked_has_child()
 /// and the lowest is the parent of the one in a full hand.
 pub fn each_line_descends()
     ensures { EachLineDescends }
+{}
+
+/// After every list of possible choices at most 65,536 instances live, and none of them has spawned
+/// more than 4,294,967,295 children.
+pub fn limits_are_kept()
+    ensures { LimitsAreKept }
+{}
+
+/// After every list of possible choices each live instance without a live child is in a worker's
+/// hand, or at the bottom of its deque where the hand is empty.
+pub fn each_leaf_is_busy()
+    ensures { EachLeafIsBusy }
 {}

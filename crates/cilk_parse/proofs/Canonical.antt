@@ -1,7 +1,7 @@
 -- The canonical text of a program spells the same program, places aside.
 use Rattle.std.proofs.Common.{◌≡◌, ℕ, List, [], ◌∷◌, map, length, Option, Some, None, refl, sym, ap, ◌∙◌}
 use Rattle.cilk_tree.specs.Tree as tree
-use Rattle.cilk_tree.specs.Bare.{bare_value, bare_decl, bare_stmt, bare_stmts, bare_block, bare_item, bare_program}
+use Rattle.cilk_tree.specs.Bare.{bare_word, bare_value, bare_decl, bare_stmt, bare_stmts, bare_block, bare_item, bare_program}
 use Rattle.cilk_tree.specs.ProgramText.{program_text}
 use Rattle.cilk_tree.proofs.BareLaws.{bare_expr-bare}
 use Rattle.cilk_written.specs.Lexemes.{items_lexemes}
@@ -25,7 +25,10 @@ bare_decls-bare (x ∷ xs) = λ i. record { name = record { text = x.name.text; 
 
 bare_stmt-bare : (s : tree.Stmt) → bare_stmt (bare_stmt s) ≡ bare_stmt s
 bare_stmt-bare (tree.assign p e) = λ i. tree.assign (record { name = record { text = p.name.text; place = 0 } }) (bare_expr-bare e i)
-bare_stmt-bare (tree.return_with e) = ap tree.return_with (bare_expr-bare e)
+bare_stmt-bare (tree.return_at at value) = ap (λ v. tree.return_at 0 v) (bare_value-bare value)
+bare_stmt-bare tree.null = refl
+bare_stmt-bare (tree.update p o e) = λ i. tree.update (record { name = record { text = p.name.text; place = 0 } }) o (bare_expr-bare e i)
+bare_stmt-bare (tree.adjust p a) = refl
 
 bare_stmts-bare : (ss : tree.Stmts) → bare_stmts (bare_stmts ss) ≡ bare_stmts ss
 bare_stmts-bare tree.none = refl
@@ -34,8 +37,12 @@ bare_stmts-bare (tree.also s ss) = λ i. tree.also (bare_stmt-bare s i) (bare_st
 bare_block-bare : (b : tree.Block) → bare_block (bare_block b) ≡ bare_block b
 bare_block-bare (tree.block ds ss) = λ i. tree.block (bare_decls-bare ds i) (bare_stmts-bare ss i)
 
+bare_words-bare : (xs : List tree.Word) → map bare_word (map bare_word xs) ≡ map bare_word xs
+bare_words-bare [] = refl
+bare_words-bare (x ∷ xs) = ap (λ ys. record { text = x.text; place = 0 } ∷ ys) (bare_words-bare xs)
+
 bare_item-bare : (x : tree.Item) → bare_item (bare_item x) ≡ bare_item x
-bare_item-bare (tree.procedure p) = λ i. tree.procedure (record { name = record { text = p.name.text; place = 0 }; body = bare_block-bare p.body i })
+bare_item-bare (tree.procedure p) = λ i. tree.procedure (record { returns = p.returns; name = record { text = p.name.text; place = 0 }; parameters = bare_words-bare p.parameters i; body = bare_block-bare p.body i })
 
 bare_items-bare : (is : List tree.Item) → map bare_item (map bare_item is) ≡ map bare_item is
 bare_items-bare [] = refl

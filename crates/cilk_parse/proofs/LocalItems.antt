@@ -1,22 +1,30 @@
 -- Where reading a program meets a fault, it meets it whatever follows that token.
-use Rattle.std.proofs.Common.{◌≡◌, ℕ, ◌≤◌, Bool, true, false, List, ◌∷◌, length, Option, Some, None, Result, Ok, Err, refl, sym, ap, subst, ◌∙◌}
+use Rattle.std.proofs.Common.{◌≡◌, ℕ, ◌≤◌, Bool, true, false, List, [], ◌∷◌, length, Option, Some, None, Ok, Err, refl, sym, ap, subst, ◌∙◌}
 use Rattle.cilk_lex.specs.Lexeme.{Piece}
 use Rattle.cilk_lex.specs.declared.keyword.Keyword.TheVariants as key
+use Rattle.cilk_lex.specs.declared.mark.Mark.{Mark}
 use Rattle.cilk_lex.specs.declared.mark.Mark.TheVariants as sign
 use Rattle.cilk_lex.specs.declared.token.Kind.{Kind}
 use Rattle.cilk_lex.specs.declared.token.Kind.TheVariants as kind
+use Rattle.cilk_tree.specs.declared.return_type.ReturnType.{ReturnType}
+use Rattle.cilk_tree.specs.declared.return_type.ReturnType.TheVariants as returns
+use Rattle.cilk_tree.specs.declared.adjustment.Adjustment.{Adjustment}
+use Rattle.cilk_tree.specs.declared.operator.BinOp.{BinOp}
 use Rattle.cilk_tree.specs.Tree as tree
 use Rattle.cilk_tree.specs.Stmts.{stmts_of}
-use Rattle.cilk_expr.specs.declared.fault.Fault.{Fault}
 use Rattle.cilk_expr.specs.declared.fault.Fault.TheVariants.{Unexpected}
-use Rattle.cilk_expr.specs.Front.{◌>>=◌, kind_at, behind, is_mark, is_keyword, mark_at, keyword_at, name_at}
+use Rattle.cilk_expr.specs.Front.{◌>>=◌, kind_at, behind, place_at, is_mark, is_keyword, mark_at, keyword_at, name_at}
 use Rattle.cilk_expr.specs.Reading.{whole_of}
 use Rattle.cilk_expr.proofs.Local.{same_kind, Reader, Local, unexpected, local_bind, local_as, local_skip, stuck_here, ok_here, local_mark, local_keyword, local_name}
 use Rattle.cilk_expr.proofs.LocalExpr.{local_whole}
-use Rattle.cilk_parse.specs.Grammar.{joined, SpellsNextDeclarator, SpellsDeclaration, SpellsStmt, SpellsItem}
-use Rattle.cilk_parse.specs.Reading.{Read, value_by, value_at, declarator_at, next_declarator_at, next_declarators_at, begins_declarator, declaration_at, declarations_at, begins_declaration, value_end_at, assignment_at, return_at, stmt_by, stmt_at, stmts_at, begins_stmt, block_at, skip_void, parameters_at, item_at, begins_item, items_at}
+use Rattle.cilk_parse.specs.declared.role.Role.{Role}
+use Rattle.cilk_parse.specs.declared.role.Role.TheVariants as role
+use Rattle.cilk_parse.specs.Roles.{role_of, role_by, assigned}
+use Rattle.cilk_parse.specs.Grammar.{joined, SpellsNextDeclarator, SpellsDeclaration, SpellsStmt, SpellsItem, SpellsNextParameter}
+use Rattle.cilk_parse.specs.Reading.{Read, value_by, value_at, declarator_at, next_declarator_at, next_declarators_at, begins_declarator, declaration_at, declarations_at, begins_declaration, value_end_at, assigned_at, adjusted_at, changed_by, changed_at, named_at, before_at, marked_by, return_at, stmt_by, stmt_at, stmts_at, begins_stmt, block_at, parameters_at, item_at, items_at, begins_item, result_by, result_end_at, parameter_at, next_parameter_at, next_parameters_at, some_parameters_at, parameter_list_by, parameter_list_at, returns_by, returns_at}
 use Rattle.cilk_parse.proofs.ManyLaws.{Shortens, took_shorter, local_many}
-use Rattle.cilk_parse.proofs.Sound.{mark_test, keyword_test, next_declarator_takes, declaration_takes, stmt_takes, item_takes}
+use Rattle.cilk_expr.proofs.Tools.{mark_next}
+use Rattle.cilk_parse.proofs.Sound.{mark_test, keyword_test, role_next, next_declarator_takes, declaration_takes, stmt_takes, item_takes, next_parameter_takes}
 
 pub next_declarator_shorter : (l d : ℕ) → Shortens (λ us. next_declarator_at l d us)
 next_declarator_shorter l d us y h = took_shorter (SpellsNextDeclarator l d) us y (next_declarator_takes l d us y h)
@@ -26,6 +34,9 @@ declaration_shorter l d us y h = took_shorter (SpellsDeclaration l d) us y (decl
 
 pub stmt_shorter : (l d : ℕ) → Shortens (λ us. stmt_at l d us)
 stmt_shorter l d us y h = took_shorter (SpellsStmt l d) us y (stmt_takes l d us y h)
+
+pub next_parameter_shorter : Shortens (λ us. next_parameter_at us)
+next_parameter_shorter us y h = took_shorter SpellsNextParameter us y (next_parameter_takes us y h)
 
 pub item_shorter : (l d : ℕ) → Shortens (λ us. item_at l d us)
 item_shorter l d us y h = took_shorter (SpellsItem l d) us y (item_takes l d us y h)
@@ -86,33 +97,92 @@ module _ (same : Type 0) (l l' d d' : ℕ) (le : l ≤ l') (le' : d ≤ d') (eq 
   unfolding value_end_at
   value_end ts = local_bind same ts (whole_of l d ts) (λ us. whole_of l' d' us) (λ e. semicolon_then e.0 e.1) (λ e. semicolon_then e.0 e.1) (expression ts) (λ e h. semicolon e.0 e.1)
 
-  assignment : (ts : List Piece) → Local {A = tree.Stmt} same ts (assignment_at l d ts) (λ us. assignment_at l' d' us)
-  unfolding assignment_at
-  assignment ts =
-      local_bind same ts (name_at ts) (λ us. name_at us) (λ x. mark_at sign.Assign x.1 >>= λ m. value_end_at l d m >>= λ y. Ok (tree.assign (record { name = x.0 }) y.0, y.1))
-      (λ x. mark_at sign.Assign x.1 >>= λ m. value_end_at l' d' m >>= λ y. Ok (tree.assign (record { name = x.0 }) y.0, y.1)) (local_name same ts)
-      (λ x h. local_mark same sign.Assign x.1 (λ m. value_end_at l d m >>= λ y. Ok (tree.assign (record { name = x.0 }) y.0, y.1)) (λ m. value_end_at l' d' m >>= λ y. Ok (tree.assign (record { name = x.0 }) y.0, y.1))
-      (λ i. local_bind same (behind x.1) (value_end_at l d (behind x.1)) (λ us. value_end_at l' d' us) (λ y. Ok (tree.assign (record { name = x.0 }) y.0, y.1)) (λ y. Ok (tree.assign (record { name = x.0 }) y.0, y.1)) (value_end (behind x.1))
-      (λ y j. ok_here (tree.assign (record { name = x.0 }) y.0) y.1 _ (λ us s. refl))))
+  assignment : (place : tree.Place) (o : Option BinOp) (ts : List Piece) → Local {A = tree.Stmt} same ts (assigned_at l d place o ts) (λ us. assigned_at l' d' place o us)
+  unfolding assigned_at
+  assignment place o ts =
+      local_bind same ts (value_end_at l d ts) (λ us. value_end_at l' d' us) (λ y. Ok (assigned o place y.0, y.1)) (λ y. Ok (assigned o place y.0, y.1)) (value_end ts) (λ y j. ok_here (assigned o place y.0) y.1 _ (λ us s. refl))
 
-  returning : (ts : List Piece) → Local {A = tree.Stmt} same ts (return_at l d ts) (λ us. return_at l' d' us)
+  adjustment : (place : tree.Place) (a : Adjustment) (ts : List Piece) → Local {A = tree.Stmt} same ts (adjusted_at place a ts) (λ us. adjusted_at place a us)
+  unfolding adjusted_at
+  adjustment place a ts = semicolon (tree.adjust place a) ts
+
+  -- where a place does not go on
+  no_change : (place : tree.Place) (ts : List Piece) (r : Option Role) → role_by (kind_at ts) ≡ r → ((us : List Piece) → changed_by l' d' place us r ≡ Err (Unexpected (length us)))
+      → Local {A = tree.Stmt} same ts (Err (Unexpected (length ts))) (λ us. changed_by l' d' place us (role_by (kind_at us)))
+  no_change place ts r h e = stuck_here unexpected ts _ (λ us s. ap (changed_by l' d' place us) (ap role_by (sym (same_kind ts us s)) ∙ h) ∙ e us)
+
+  change_local : (place : tree.Place) (ts : List Piece) (r : Option Role) → role_by (kind_at ts) ≡ r → Local {A = tree.Stmt} same ts (changed_by l d place ts r) (λ us. changed_by l' d' place us (role_by (kind_at us)))
+  change_local place ts None h = no_change place ts _ h (λ us. refl)
+  change_local place ts (Some role.Null) h = no_change place ts _ h (λ us. refl)
+  change_local place ts (Some (role.Assign o)) h =
+      let k = role_next ts (role.Assign o) h in
+      subst (λ (v : List Piece). Local {A = tree.Stmt} same v (assigned_at l d place o (behind ts)) (λ us. changed_by l' d' place us (role_by (kind_at us)))) (sym k.whole)
+      (local_skip same k.piece (behind ts) (assigned_at l d place o (behind ts)) (λ us. assigned_at l' d' place o us) _ (λ us s. rw (k.is, k.means) refl) (assignment place o (behind ts)))
+  change_local place ts (Some (role.Adjust a)) h =
+      let k = role_next ts (role.Adjust a) h in
+      subst (λ (v : List Piece). Local {A = tree.Stmt} same v (adjusted_at place a (behind ts)) (λ us. changed_by l' d' place us (role_by (kind_at us)))) (sym k.whole)
+      (local_skip same k.piece (behind ts) (adjusted_at place a (behind ts)) (λ us. adjusted_at place a us) _ (λ us s. rw (k.is, k.means) refl) (adjustment place a (behind ts)))
+
+  change : (place : tree.Place) (ts : List Piece) → Local {A = tree.Stmt} same ts (changed_at l d place ts) (λ us. changed_at l' d' place us)
+  unfolding changed_at
+  change place ts = change_local place ts (role_by (kind_at ts)) refl
+
+  named : (ts : List Piece) → Local {A = tree.Stmt} same ts (named_at l d ts) (λ us. named_at l' d' us)
+  unfolding named_at
+  named ts =
+      local_bind same ts (name_at ts) (λ us. name_at us) (λ x. changed_at l d (record { name = x.0 }) x.1) (λ x. changed_at l' d' (record { name = x.0 }) x.1) (local_name same ts) (λ x h. change (record { name = x.0 }) x.1)
+
+  adjusting : (a : Adjustment) (ts : List Piece) → Local {A = tree.Stmt} same ts (before_at a ts) (λ us. before_at a us)
+  unfolding before_at
+  adjusting a ts =
+      local_bind same ts (name_at ts) (λ us. name_at us) (λ x. adjusted_at (record { name = x.0 }) a x.1) (λ x. adjusted_at (record { name = x.0 }) a x.1) (local_name same ts) (λ x h. adjustment (record { name = x.0 }) a x.1)
+
+  result_local : (ts : List Piece) (b : Bool) → is_mark sign.Semicolon (kind_at ts) ≡ b → Local {A = Option tree.Expr} same ts (result_by l d ts b) (λ us. result_by l' d' us (is_mark sign.Semicolon (kind_at us)))
+  result_local ts true h =
+      let k = mark_test sign.Semicolon ts h in
+      let m : Reader (Option tree.Expr) = λ us. Ok (None, us) in
+      subst (λ (v : List Piece). Local {A = Option tree.Expr} same v (result_by l d ts true) (λ us. result_by l' d' us (is_mark sign.Semicolon (kind_at us)))) (sym k.whole)
+      (local_skip same k.piece (behind ts) (result_by l d ts true) m _ (λ us s. rw (k.is) refl) (ok_here None (behind ts) _ (λ us s. refl)))
+  result_local ts false h =
+      let m : Reader (Option tree.Expr) = λ us. value_end_at l' d' us >>= λ e. Ok (Some e.0, e.1) in
+      local_as same ts _ m _ (λ us s. ap (result_by l' d' us) (ap (λ k. is_mark sign.Semicolon k) (sym (same_kind ts us s)) ∙ h))
+      (local_bind same ts (value_end_at l d ts) (λ us. value_end_at l' d' us) (λ e. Ok (Some e.0, e.1)) (λ e. Ok (Some e.0, e.1)) (value_end ts) (λ x e. ok_here (Some x.0) x.1 _ (λ us s. refl)))
+
+  result_end : (ts : List Piece) → Local {A = Option tree.Expr} same ts (result_end_at l d ts) (λ us. result_end_at l' d' us)
+  unfolding result_end_at
+  result_end ts = result_local ts (is_mark sign.Semicolon (kind_at ts)) refl
+
+  returning : (at : ℕ) (ts : List Piece) → Local {A = tree.Stmt} same ts (return_at l d at ts) (λ us. return_at l' d' at us)
   unfolding return_at
-  returning ts =
-      local_bind same ts (value_end_at l d ts) (λ us. value_end_at l' d' us) (λ y. Ok (tree.return_with y.0, y.1)) (λ y. Ok (tree.return_with y.0, y.1)) (value_end ts) (λ y j. ok_here (tree.return_with y.0) y.1 _ (λ us s. refl))
+  returning at ts =
+      local_bind same ts (result_end_at l d ts) (λ us. result_end_at l' d' us) (λ y. Ok (tree.return_at at y.0, y.1)) (λ y. Ok (tree.return_at at y.0, y.1)) (result_end ts) (λ y j. ok_here (tree.return_at at y.0) y.1 _ (λ us s. refl))
 
   -- where no statement begins
   no_stmt : (ts : List Piece) (k : Option Kind) → kind_at ts ≡ k → ((us : List Piece) → stmt_by l' d' us k ≡ Err (Unexpected (length us))) → Local {A = tree.Stmt} same ts (Err (Unexpected (length ts))) (λ us. stmt_by l' d' us (kind_at us))
   no_stmt ts k h e = stuck_here unexpected ts _ (λ us s. ap (stmt_by l' d' us) (sym (same_kind ts us s) ∙ h) ∙ e us)
 
+  marked_local : (ts : List Piece) (m : Mark) (r : Option Role) → kind_at ts ≡ Some (kind.Mark m) → role_of m ≡ r → Local {A = tree.Stmt} same ts (marked_by ts r) (λ us. stmt_by l' d' us (kind_at us))
+  marked_local ts m None h e = no_stmt ts _ h (λ us. ap (marked_by us) e)
+  marked_local ts m (Some (role.Assign o)) h e = no_stmt ts _ h (λ us. ap (marked_by us) e)
+  marked_local ts m (Some role.Null) h e =
+      let k = mark_next ts m h in
+      subst (λ (v : List Piece). Local {A = tree.Stmt} same v (Ok (tree.null, behind ts)) (λ us. stmt_by l' d' us (kind_at us))) (sym k.whole)
+      (local_skip same k.piece (behind ts) (Ok (tree.null, behind ts)) (λ us. Ok (tree.null, us)) _ (λ us s. rw (k.is, e) refl) (ok_here tree.null (behind ts) _ (λ us s. refl)))
+  marked_local ts m (Some (role.Adjust a)) h e =
+      let k = mark_next ts m h in
+      subst (λ (v : List Piece). Local {A = tree.Stmt} same v (before_at a (behind ts)) (λ us. stmt_by l' d' us (kind_at us))) (sym k.whole)
+      (local_skip same k.piece (behind ts) (before_at a (behind ts)) (λ us. before_at a us) _ (λ us s. rw (k.is, e) refl) (adjusting a (behind ts)))
+
   stmt_local : (ts : List Piece) (k : Option Kind) → kind_at ts ≡ k → Local {A = tree.Stmt} same ts (stmt_by l d ts k) (λ us. stmt_by l' d' us (kind_at us))
-  stmt_local ts (Some kind.Name) h = local_as same ts _ (λ us. assignment_at l' d' us) _ (λ us s. ap (stmt_by l' d' us) (sym (same_kind ts us s) ∙ h)) (assignment ts)
+  stmt_local ts (Some kind.Name) h = local_as same ts _ (λ us. named_at l' d' us) _ (λ us s. ap (stmt_by l' d' us) (sym (same_kind ts us s) ∙ h)) (named ts)
   stmt_local ts (Some (kind.Word key.Return)) h =
       let k = keyword_test key.Return ts (rw h refl) in
-      subst (λ (v : List Piece). Local {A = tree.Stmt} same v (return_at l d (behind ts)) (λ us. stmt_by l' d' us (kind_at us))) (sym k.whole)
-      (local_skip same k.piece (behind ts) (return_at l d (behind ts)) (λ us. return_at l' d' us) _ (λ us s. rw (k.is) refl) (returning (behind ts)))
+      let here : k.piece.start ≡ place_at ts = sym (ap place_at k.whole) in
+      subst (λ (v : List Piece). Local {A = tree.Stmt} same v (return_at l d (place_at ts) (behind ts)) (λ us. stmt_by l' d' us (kind_at us))) (sym k.whole)
+      (local_skip same k.piece (behind ts) (return_at l d (place_at ts) (behind ts)) (λ us. return_at l' d' (place_at ts) us) _ (λ us s. rw (k.is) (ap (λ at. return_at l' d' at us) here)) (returning (place_at ts) (behind ts)))
   stmt_local ts None h = no_stmt ts _ h (λ us. refl)
   stmt_local ts (Some (kind.Number n)) h = no_stmt ts _ h (λ us. refl)
-  stmt_local ts (Some (kind.Mark m)) h = no_stmt ts _ h (λ us. refl)
+  stmt_local ts (Some (kind.Mark m)) h = marked_local ts m (role_of m) h refl
   stmt_local ts (Some (kind.Word key.Int)) h = no_stmt ts _ h (λ us. refl)
   stmt_local ts (Some (kind.Word key.Void)) h = no_stmt ts _ h (λ us. refl)
   stmt_local ts (Some (kind.Word key.If)) h = no_stmt ts _ h (λ us. refl)
@@ -150,44 +220,84 @@ module _ (same : Type 0) (l l' d d' : ℕ) (le : l ≤ l') (le' : d ≤ d') (eq 
       (λ ss j. local_mark same sign.CloseBrace ss.1 (λ us. Ok (tree.block (joined ds.0) (stmts_of ss.0), us)) (λ us. Ok (tree.block (joined ds.0) (stmts_of ss.0), us))
       (λ k. ok_here (tree.block (joined ds.0) (stmts_of ss.0)) (behind ss.1) _ (λ us s. refl)))))
 
-  abbrev void_then : {A : Type 0} → (List Piece → Read A) → List Piece → Bool → Read A
-  void_then k ts b = mark_at sign.CloseParenthesis (skip_void ts b) >>= k
+  parameter : (ts : List Piece) → Local {A = tree.Word} same ts (parameter_at ts) (λ us. parameter_at us)
+  unfolding parameter_at
+  parameter ts = local_keyword same key.Int ts (λ us. name_at us) (λ us. name_at us) (λ h. local_name same (behind ts))
 
-  close_local : {A : Type 0} (k k' : List Piece → Read A) (ts : List Piece) (b : Bool) → is_keyword key.Void (kind_at ts) ≡ b → ((us : List Piece) → Local {A = A} same us (k us) k')
-      → Local {A = A} same ts (void_then k ts b) (λ us. void_then k' us (is_keyword key.Void (kind_at us)))
-  close_local {A = A} k k' ts true h lk =
+  next_parameter : (ts : List Piece) → Local {A = tree.Word} same ts (next_parameter_at ts) (λ us. next_parameter_at us)
+  unfolding next_parameter_at
+  next_parameter ts = local_mark same sign.Comma ts (λ us. parameter_at us) (λ us. parameter_at us) (λ h. parameter (behind ts))
+
+  next_parameters : (ts : List Piece) → Local {A = List tree.Word} same ts (next_parameters_at ts) (λ us. next_parameters_at us)
+  unfolding next_parameters_at
+  next_parameters ts = local_many same begins_declarator (λ us. next_parameter_at us) (λ us. next_parameter_at us) next_parameter_shorter next_parameter_shorter next_parameter ts
+
+  some_parameters : (ts : List Piece) → Local {A = List tree.Word} same ts (some_parameters_at ts) (λ us. some_parameters_at us)
+  unfolding some_parameters_at
+  some_parameters ts =
+      local_bind same ts (parameter_at ts) (λ us. parameter_at us) (λ x. next_parameters_at x.1 >>= λ xs. Ok (x.0 ∷ xs.0, xs.1)) (λ x. next_parameters_at x.1 >>= λ xs. Ok (x.0 ∷ xs.0, xs.1)) (parameter ts)
+      (λ x h. local_bind same x.1 (next_parameters_at x.1) (λ us. next_parameters_at us) (λ xs. Ok (x.0 ∷ xs.0, xs.1)) (λ xs. Ok (x.0 ∷ xs.0, xs.1)) (next_parameters x.1) (λ xs i. ok_here (x.0 ∷ xs.0) xs.1 _ (λ us s. refl)))
+
+  abbrev list_of : List Piece → Read (List tree.Word)
+  list_of us = parameter_list_by us (is_keyword key.Void (kind_at us)) (is_mark sign.CloseParenthesis (kind_at us))
+
+  list_local : (ts : List Piece) (b c : Bool) → is_keyword key.Void (kind_at ts) ≡ b → is_mark sign.CloseParenthesis (kind_at ts) ≡ c → Local {A = List tree.Word} same ts (parameter_list_by ts b c) (λ us. list_of us)
+  list_local ts true c h k =
       let v = keyword_test key.Void ts h in
-      subst (λ (w : List Piece). Local {A = A} same w (void_then k ts true) (λ us. void_then k' us (is_keyword key.Void (kind_at us)))) (sym v.whole)
-      (local_skip same v.piece (behind ts) (void_then k ts true) (λ us. mark_at sign.CloseParenthesis us >>= k') _ (λ us s. rw (v.is) refl) (local_mark same sign.CloseParenthesis (behind ts) k k' (λ e. lk (behind (behind ts)))))
-  close_local k k' ts false h lk =
-      local_as same ts _ (λ us. mark_at sign.CloseParenthesis us >>= k') _ (λ us s. ap (void_then k' us) (ap (λ w. is_keyword key.Void w) (sym (same_kind ts us s)) ∙ h)) (local_mark same sign.CloseParenthesis ts k k' (λ e. lk (behind ts)))
+      let m : Reader (List tree.Word) = λ us. Ok ([], us) in
+      subst (λ (w : List Piece). Local {A = List tree.Word} same w (parameter_list_by ts true c) (λ us. list_of us)) (sym v.whole)
+      (local_skip same v.piece (behind ts) (parameter_list_by ts true c) m _ (λ us s. rw (v.is) refl) (ok_here [] (behind ts) _ (λ us s. refl)))
+  list_local ts false true h k =
+      ok_here [] ts _ (λ us s. ap (λ (b : Bool). parameter_list_by us b (is_mark sign.CloseParenthesis (kind_at us))) (ap (λ w. is_keyword key.Void w) (sym (same_kind ts us s)) ∙ h)
+      ∙ ap (λ (c : Bool). parameter_list_by us false c) (ap (λ w. is_mark sign.CloseParenthesis w) (sym (same_kind ts us s)) ∙ k))
+  list_local ts false false h k =
+      local_as same ts _ (λ us. some_parameters_at us) _ (λ us s. ap (λ (b : Bool). parameter_list_by us b (is_mark sign.CloseParenthesis (kind_at us))) (ap (λ w. is_keyword key.Void w) (sym (same_kind ts us s)) ∙ h)
+      ∙ ap (λ (c : Bool). parameter_list_by us false c) (ap (λ w. is_mark sign.CloseParenthesis w) (sym (same_kind ts us s)) ∙ k)) (some_parameters ts)
 
-  parameters : {A : Type 0} (k k' : List Piece → Read A) (ts : List Piece) → ((us : List Piece) → Local {A = A} same us (k us) k') → Local {A = A} same ts (parameters_at ts >>= k) (λ us. parameters_at us >>= k')
+  parameter_list : (ts : List Piece) → Local {A = List tree.Word} same ts (parameter_list_at ts) (λ us. parameter_list_at us)
+  unfolding parameter_list_at
+  parameter_list ts = list_local ts (is_keyword key.Void (kind_at ts)) (is_mark sign.CloseParenthesis (kind_at ts)) refl refl
+
+  abbrev close_then : List tree.Word → List Piece → Read (List tree.Word)
+  close_then xs ts = mark_at sign.CloseParenthesis ts >>= λ us. Ok (xs, us)
+
+  parameters : (ts : List Piece) → Local {A = List tree.Word} same ts (parameters_at ts) (λ us. parameters_at us)
   unfolding parameters_at
-  parameters k k' ts lk =
-      subst (λ r. Local same ts r (λ us. parameters_at us >>= k')) (sym (regroup ts k))
-      (local_as same ts _ (λ us. mark_at sign.OpenParenthesis us >>= λ v. void_then k' v (is_keyword key.Void (kind_at v))) _ (λ us s. regroup us k')
-      (local_mark same sign.OpenParenthesis ts (λ v. void_then k v (is_keyword key.Void (kind_at v))) (λ v. void_then k' v (is_keyword key.Void (kind_at v))) (λ h. close_local k k' (behind ts) (is_keyword key.Void (kind_at (behind ts))) refl lk)))
-    where
-      bind_again : {A : Type 0} (r : Result (List Piece) Fault) (f : List Piece → Result (List Piece) Fault) (g : List Piece → Read A) → (r >>= f >>= g) ≡ (r >>= λ x. f x >>= g)
-      bind_again (Ok x) f g = refl
-      bind_again (Err e) f g = refl
+  parameters ts =
+      local_mark same sign.OpenParenthesis ts (λ us. parameter_list_at us >>= λ xs. close_then xs.0 xs.1) (λ us. parameter_list_at us >>= λ xs. close_then xs.0 xs.1)
+      (λ h. local_bind same (behind ts) (parameter_list_at (behind ts)) (λ us. parameter_list_at us) (λ xs. close_then xs.0 xs.1) (λ xs. close_then xs.0 xs.1) (parameter_list (behind ts))
+      (λ xs i. local_mark same sign.CloseParenthesis xs.1 (λ us. Ok (xs.0, us)) (λ us. Ok (xs.0, us)) (λ k. ok_here xs.0 (behind xs.1) _ (λ us s. refl))))
 
-      regroup : {A : Type 0} (us : List Piece) (k : List Piece → Read A) → (parameters_at us >>= k) ≡ (mark_at sign.OpenParenthesis us >>= λ v. void_then k v (is_keyword key.Void (kind_at v)))
-      regroup us k = bind_again (mark_at sign.OpenParenthesis us) _ k
+  returns_local : (ts : List Piece) (b : Bool) → is_keyword key.Int (kind_at ts) ≡ b → Local {A = ReturnType} same ts (returns_by ts b) (λ us. returns_by us (is_keyword key.Int (kind_at us)))
+  returns_local ts true h =
+      let k = keyword_test key.Int ts h in
+      let m : Reader ReturnType = λ us. Ok (returns.Int, us) in
+      subst (λ (v : List Piece). Local {A = ReturnType} same v (returns_by ts true) (λ us. returns_by us (is_keyword key.Int (kind_at us)))) (sym k.whole)
+      (local_skip same k.piece (behind ts) (returns_by ts true) m _ (λ us s. rw (k.is) refl) (ok_here returns.Int (behind ts) _ (λ us s. refl)))
+  returns_local ts false h =
+      let m : Reader ReturnType = λ us. keyword_at key.Void us >>= λ vs. Ok (returns.Void, vs) in
+      local_as same ts _ m _ (λ us s. ap (returns_by us) (ap (λ k. is_keyword key.Int k) (sym (same_kind ts us s)) ∙ h))
+      (local_keyword same key.Void ts (λ vs. Ok (returns.Void, vs)) (λ vs. Ok (returns.Void, vs)) (λ k. ok_here returns.Void (behind ts) _ (λ us s. refl)))
 
-  abbrev defined : tree.Word → tree.Block × List Piece → Read tree.Item
-  defined x b = Ok (tree.procedure (record { name = x; body = b.0 }), b.1)
+  returning_type : (ts : List Piece) → Local {A = ReturnType} same ts (returns_at ts) (λ us. returns_at us)
+  unfolding returns_at
+  returning_type ts = returns_local ts (is_keyword key.Int (kind_at ts)) refl
+
+  abbrev defined : ReturnType → tree.Word → List tree.Word → tree.Block × List Piece → Read tree.Item
+  defined r x ps b = Ok (tree.procedure (record { returns = r; name = x; parameters = ps; body = b.0 }), b.1)
 
   item : (ts : List Piece) → Local {A = tree.Item} same ts (item_at l d ts) (λ us. item_at l' d' us)
   unfolding item_at
   item ts =
-      local_keyword same key.Cilk ts (λ us. keyword_at key.Int us >>= λ v. name_at v >>= λ x. parameters_at x.1 >>= λ w. block_at l d w >>= λ b. defined x.0 b) (λ us. keyword_at key.Int us >>= λ v. name_at v >>= λ x. parameters_at x.1 >>= λ w. block_at l' d' w >>= λ b. defined x.0 b)
-      (λ h. local_keyword same key.Int (behind ts) (λ v. name_at v >>= λ x. parameters_at x.1 >>= λ w. block_at l d w >>= λ b. defined x.0 b) (λ v. name_at v >>= λ x. parameters_at x.1 >>= λ w. block_at l' d' w >>= λ b. defined x.0 b)
-      (λ i. let us = behind (behind ts) in
-      local_bind same us (name_at us) (λ v. name_at v) (λ x. parameters_at x.1 >>= λ w. block_at l d w >>= λ b. defined x.0 b) (λ x. parameters_at x.1 >>= λ w. block_at l' d' w >>= λ b. defined x.0 b) (local_name same us)
-      (λ x j. parameters (λ w. block_at l d w >>= λ b. defined x.0 b) (λ w. block_at l' d' w >>= λ b. defined x.0 b) x.1
-      (λ w. local_bind same w (block_at l d w) (λ v. block_at l' d' v) (λ b. defined x.0 b) (λ b. defined x.0 b) (block w) (λ b k. ok_here (tree.procedure (record { name = x.0; body = b.0 })) b.1 _ (λ v s. refl))))))
+      local_keyword same key.Cilk ts (λ us. returns_at us >>= λ r. name_at r.1 >>= λ x. parameters_at x.1 >>= λ w. block_at l d w.1 >>= λ b. defined r.0 x.0 w.0 b)
+      (λ us. returns_at us >>= λ r. name_at r.1 >>= λ x. parameters_at x.1 >>= λ w. block_at l' d' w.1 >>= λ b. defined r.0 x.0 w.0 b)
+      (λ h. local_bind same (behind ts) (returns_at (behind ts)) (λ us. returns_at us) (λ r. name_at r.1 >>= λ x. parameters_at x.1 >>= λ w. block_at l d w.1 >>= λ b. defined r.0 x.0 w.0 b)
+      (λ r. name_at r.1 >>= λ x. parameters_at x.1 >>= λ w. block_at l' d' w.1 >>= λ b. defined r.0 x.0 w.0 b) (returning_type (behind ts))
+      (λ r i. local_bind same r.1 (name_at r.1) (λ us. name_at us) (λ x. parameters_at x.1 >>= λ w. block_at l d w.1 >>= λ b. defined r.0 x.0 w.0 b)
+      (λ x. parameters_at x.1 >>= λ w. block_at l' d' w.1 >>= λ b. defined r.0 x.0 w.0 b) (local_name same r.1)
+      (λ x j. local_bind same x.1 (parameters_at x.1) (λ us. parameters_at us) (λ w. block_at l d w.1 >>= λ b. defined r.0 x.0 w.0 b) (λ w. block_at l' d' w.1 >>= λ b. defined r.0 x.0 w.0 b) (parameters x.1)
+      (λ w k. local_bind same w.1 (block_at l d w.1) (λ us. block_at l' d' us) (λ b. defined r.0 x.0 w.0 b) (λ b. defined r.0 x.0 w.0 b) (block w.1)
+      (λ b m. ok_here (tree.procedure (record { returns = r.0; name = x.0; parameters = w.0; body = b.0 })) b.1 _ (λ us s. refl))))))
 
   pub local_items : (ts : List Piece) → Local {A = List tree.Item} same ts (items_at l d ts) (λ us. items_at l' d' us)
   unfolding items_at

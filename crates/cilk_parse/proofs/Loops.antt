@@ -10,9 +10,9 @@ use Rattle.cilk_expr.specs.declared.fault.ParseError.TheVariants as errors
 use Rattle.cilk_expr.specs.Front.{◌>>=◌, Fails, Gives, kind_at, is_mark, is_keyword, mark_at, keyword_at}
 use Rattle.cilk_expr.proofs.Loop.{fails_first}
 use Rattle.cilk_parse.specs.Grammar.{joined}
-use Rattle.cilk_parse.specs.Reading.{Read, onto, declarator_at, next_declarator_at, next_declarators_at, begins_declarator, declaration_at, declarations_at, begins_declaration, joined_at, stmt_at, stmts_at, begins_stmt, item_at, begins_item, items_at}
+use Rattle.cilk_parse.specs.Reading.{Read, onto, declarator_at, next_declarator_at, next_declarators_at, begins_declarator, declaration_at, declarations_at, begins_declaration, joined_at, stmt_at, stmts_at, begins_stmt, next_parameter_at, next_parameters_at, item_at, begins_item, items_at}
 use Rattle.cilk_parse.proofs.ManyLaws.{finish, many_ends, many_fails, many_goes}
-use Rattle.cilk_parse.proofs.LocalItems.{next_declarator_shorter, declaration_shorter, stmt_shorter, item_shorter}
+use Rattle.cilk_parse.proofs.LocalItems.{next_declarator_shorter, declaration_shorter, stmt_shorter, next_parameter_shorter, item_shorter}
 
 -- what was read behind something else
 pub onto_ok : {A : Type 0} (front zs : List A) (r : Read (List A)) (rest : List Piece) → onto front r ≡ Ok (zs, rest) → (y : List A) × (r ≡ Ok (y, rest)) × (zs ≡ front ++ y)
@@ -42,6 +42,21 @@ module _ (l d : ℕ) (front : List tree.Decl) (ts : List Piece) (total : Read (L
   pub next_goes : (y : tree.Decl) (rest : List Piece) → is_mark sign.Comma (kind_at ts) ≡ true → onto front (next_declarators_at l d ts) ≡ total → next_declarator_at l d ts ≡ Ok (y, rest) → onto (front ++ y ∷ []) (next_declarators_at l d rest) ≡ total
   unfolding onto next_declarators_at
   next_goes y rest e h k = many_goes begins_declarator (λ us. next_declarator_at l d us) (next_declarator_shorter l d) ts (λ xs. front ++ xs) total (λ xs. (front ++ y ∷ []) ++ xs) y rest (λ xs. append_assoc front (y ∷ []) xs) e h k
+
+-- ---- the parameters behind the first
+
+module _ (front : List tree.Word) (ts : List Piece) (total : Read (List tree.Word)) where
+  pub parameters_end : is_mark sign.Comma (kind_at ts) ≡ false → onto front (next_parameters_at ts) ≡ total → total ≡ Ok (front, ts)
+  unfolding onto next_parameters_at
+  parameters_end e h = many_ends begins_declarator (λ us. next_parameter_at us) next_parameter_shorter ts (λ xs. front ++ xs) total e h ∙ ap (λ v. Ok (v, ts)) (append-nil front)
+
+  pub parameters_fail : (x : ParseError) → is_mark sign.Comma (kind_at ts) ≡ true → onto front (next_parameters_at ts) ≡ total → Fails x (next_parameter_at ts) → Fails x total
+  unfolding onto next_parameters_at
+  parameters_fail x e h k = many_fails begins_declarator (λ us. next_parameter_at us) next_parameter_shorter ts (λ xs. front ++ xs) total x e h k
+
+  pub parameters_go : (y : tree.Word) (rest : List Piece) → is_mark sign.Comma (kind_at ts) ≡ true → onto front (next_parameters_at ts) ≡ total → next_parameter_at ts ≡ Ok (y, rest) → onto (front ++ y ∷ []) (next_parameters_at rest) ≡ total
+  unfolding onto next_parameters_at
+  parameters_go y rest e h k = many_goes begins_declarator (λ us. next_parameter_at us) next_parameter_shorter ts (λ xs. front ++ xs) total (λ xs. (front ++ y ∷ []) ++ xs) y rest (λ xs. append_assoc front (y ∷ []) xs) e h k
 
 -- ---- a declaration
 

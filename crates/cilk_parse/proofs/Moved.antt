@@ -1,17 +1,19 @@
 -- The grammar does not look at places: other pieces with the same lexemes spell the same tree, places aside.
-use Rattle.std.proofs.Common.{◌≡◌, ℕ, List, [], ◌∷◌, ◌++◌, map, Some, None, refl, sym, ap, ◌∙◌, arith}
+use Rattle.std.proofs.Common.{◌≡◌, ℕ, List, [], ◌∷◌, ◌++◌, map, Option, Some, None, refl, sym, ap, ◌∙◌, arith}
 use Rattle.std.proofs.lemmas.List.{map-append}
 use Rattle.cilk_lex.specs.Lexeme.{Lexeme, Piece}
+use Rattle.cilk_tree.specs.declared.operator.BinOp.{BinOp}
 use Rattle.cilk_tree.specs.Tree as tree
-use Rattle.cilk_tree.specs.Bare.{bare_expr, bare_decl, bare_stmt, bare_block, bare_item}
+use Rattle.cilk_tree.specs.Bare.{bare_word, bare_expr, bare_decl, bare_stmt, bare_block, bare_item}
 use Rattle.cilk_tree.specs.Operators.{operators}
 use Rattle.cilk_tree.specs.Stmts.{stmts_of}
 use Rattle.cilk_tree.proofs.BareLaws.{operators-bare}
 use Rattle.cilk_tree.proofs.StmtsOf.{bare_stmts_same}
-use Rattle.cilk_expr.specs.Grammar.{word_at, Spells, a_number, a_name, in_parentheses, of_two, SpellsWhole}
+use Rattle.cilk_expr.specs.Grammar.{word_at, Spells, a_number, a_name, in_parentheses, of_one, of_two, of_three, SpellsWhole}
 use Rattle.cilk_written.specs.Lexemes.{lexemes}
+use Rattle.cilk_parse.specs.Roles.{assigned}
 use Rattle.cilk_parse.specs.Grammar as grammar
-use Rattle.cilk_parse.specs.Grammar.{Each, no_more, one_more, joined, SpellsDeclarator, SpellsNextDeclarator, SpellsDeclaration, SpellsStmt, SpellsBlock, SpellsNoParameters, SpellsItem, SpellsItems}
+use Rattle.cilk_parse.specs.Grammar.{Each, no_more, one_more, joined, SpellsDeclarator, SpellsNextDeclarator, SpellsDeclaration, SpellsStmt, SpellsBlock, SpellsNextParameter, SpellsParameters, SpellsItem, SpellsItems}
 
 -- ---- pieces with the same lexemes, in parts
 
@@ -101,12 +103,29 @@ moved_expr us s (in_parentheses {us = vs} t u h i r w) =
     let o = only u p.back p.same_back in
     let m = moved_expr p.front p.same_front r in
     record { value = m.value; spelled = in_parentheses f.piece o.piece (f.same ∙ h) (o.same ∙ i) m.spelled (then f.piece f.whole (then_all p.front p.whole o.whole)); same = m.same }
+moved_expr us s (of_one {us = vs} t m o h i a w) =
+    let f = first t vs us (s ∙ ap lexemes w) in
+    let x = moved_expr f.rest f.same_rest a in
+    record { value = tree.unary o x.value; spelled = of_one f.piece m o (f.same ∙ h) i x.spelled f.whole; same = λ j. tree.unary o (x.same j) }
 moved_expr us s (of_two {us = vs} {vs = ws} t m o h i ge a b w) =
     let p = parts vs (t ∷ ws) us (s ∙ ap lexemes w) in
     let f = first t ws p.back p.same_back in
     let x = moved_expr p.front p.same_front a in
     let y = moved_expr f.rest f.same_rest b in
     record { value = tree.binary o x.value y.value; spelled = of_two f.piece m o (f.same ∙ h) i ge x.spelled y.spelled (then_all p.front p.whole f.whole); same = λ j. tree.binary o (x.same j) (y.same j) }
+moved_expr us s (of_three {us = vs} {vs = xs} {ws = ws} t u h i z c a b w) =
+    let p = parts vs (t ∷ (xs ++ u ∷ ws)) us (s ∙ ap lexemes w) in
+    let f = first t (xs ++ u ∷ ws) p.back p.same_back in
+    let q = parts xs (u ∷ ws) f.rest f.same_rest in
+    let g = first u ws q.back q.same_back in
+    let x = moved_expr p.front p.same_front c in
+    let y = moved_expr q.front q.same_front a in
+    let v = moved_expr g.rest g.same_rest b in
+    record {
+      value = tree.choose x.value y.value v.value;
+      spelled = of_three f.piece g.piece (f.same ∙ h) (g.same ∙ i) z x.spelled y.spelled v.spelled (then_all p.front p.whole (then f.piece f.whole (then_all q.front q.whole g.whole)));
+      same = λ j. tree.choose (x.same j) (y.same j) (v.same j);
+    }
 
 same_operators : (a b : tree.Expr) → bare_expr a ≡ bare_expr b → operators a ≡ operators b
 same_operators a b e = sym (operators-bare a) ∙ ap operators e ∙ operators-bare b
@@ -118,6 +137,10 @@ moved_each R bare f ts us xs s (one_more {us = vs} {vs = ws} {x = x} {xs = ys} r
     let y = f vs p.front x p.same_front r in
     let z = moved_each R bare f ws p.back ys p.same_back i in
     record { value = y.value ∷ z.value; spelled = one_more y.spelled z.spelled p.whole refl; same = (λ j. y.same j ∷ z.same j) ∙ ap (map bare) (sym w) }
+
+assigned_same : (o : Option BinOp) (b : List ℕ) (t u : Piece) (e f : tree.Expr) → bare_expr e ≡ bare_expr f → bare_stmt (assigned o (record { name = word_at b t }) e) ≡ bare_stmt (assigned o (record { name = word_at b u }) f)
+assigned_same None b t u e f h = ap (λ (x : tree.Expr). tree.assign (record { name = record { text = b; place = 0 } }) x) h
+assigned_same (Some o) b t u e f h = ap (λ (x : tree.Expr). tree.update (record { name = record { text = b; place = 0 } }) o x) h
 
 module _ (l d : ℕ) where
   pub moved_whole : MovedAll (SpellsWhole l d) bare_expr
@@ -173,16 +196,16 @@ module _ (l d : ℕ) where
       }
 
   moved_stmt : MovedAll (SpellsStmt l d) bare_stmt
-  moved_stmt ts us x s (grammar.an_assignment {us = vs} {e = e} t u v b h i r j w q) =
+  moved_stmt ts us x s (grammar.an_assignment {us = vs} {e = e} t u v b n a h i l r j w q) =
       let f = first t (u ∷ (vs ++ v ∷ [])) us (s ∙ ap lexemes w) in
       let g = first u (vs ++ v ∷ []) f.rest f.same_rest in
       let p = parts vs (v ∷ []) g.rest g.same_rest in
       let o = only v p.back p.same_back in
       let m = moved_whole vs p.front e p.same_front r in
       record {
-        value = tree.assign (record { name = word_at b f.piece }) m.value;
-        spelled = grammar.an_assignment f.piece g.piece o.piece b (f.same ∙ h) (g.same ∙ i) m.spelled (o.same ∙ j) (then f.piece f.whole (then g.piece g.whole (then_all p.front p.whole o.whole))) refl;
-        same = (λ k. tree.assign (record { name = record { text = b; place = 0 } }) (m.same k)) ∙ ap bare_stmt (sym q);
+        value = assigned a (record { name = word_at b f.piece }) m.value;
+        spelled = grammar.an_assignment f.piece g.piece o.piece b n a (f.same ∙ h) (g.same ∙ i) l m.spelled (o.same ∙ j) (then f.piece f.whole (then g.piece g.whole (then_all p.front p.whole o.whole))) refl;
+        same = assigned_same a b f.piece t m.value e m.same ∙ ap bare_stmt (sym q);
       }
   moved_stmt ts us x s (grammar.a_return {us = vs} {e = e} t v h r j w q) =
       let f = first t (vs ++ v ∷ []) us (s ∙ ap lexemes w) in
@@ -190,9 +213,38 @@ module _ (l d : ℕ) where
       let o = only v p.back p.same_back in
       let m = moved_whole vs p.front e p.same_front r in
       record {
-        value = tree.return_with m.value;
+        value = tree.return_at f.piece.start (Some m.value);
         spelled = grammar.a_return f.piece o.piece (f.same ∙ h) m.spelled (o.same ∙ j) (then f.piece f.whole (then_all p.front p.whole o.whole)) refl;
-        same = (λ k. tree.return_with (m.same k)) ∙ ap bare_stmt (sym q);
+        same = (λ k. tree.return_at 0 (Some (m.same k))) ∙ ap bare_stmt (sym q);
+      }
+  moved_stmt ts us x s (grammar.a_bare_return t v h j w q) =
+      let f = first t (v ∷ []) us (s ∙ ap lexemes w) in
+      let o = only v f.rest f.same_rest in
+      record {
+        value = tree.return_at f.piece.start None;
+        spelled = grammar.a_bare_return f.piece o.piece (f.same ∙ h) (o.same ∙ j) (then f.piece f.whole o.whole) refl;
+        same = ap bare_stmt (sym q);
+      }
+  moved_stmt ts us x s (grammar.a_null v j w q) =
+      let o = only v us (s ∙ ap lexemes w) in
+      record { value = tree.null; spelled = grammar.a_null o.piece (o.same ∙ j) o.whole refl; same = ap bare_stmt (sym q) }
+  moved_stmt ts us x s (grammar.adjusted_behind t u v b n a h i l j w q) =
+      let f = first t (u ∷ v ∷ []) us (s ∙ ap lexemes w) in
+      let g = first u (v ∷ []) f.rest f.same_rest in
+      let o = only v g.rest g.same_rest in
+      record {
+        value = tree.adjust (record { name = word_at b f.piece }) a;
+        spelled = grammar.adjusted_behind f.piece g.piece o.piece b n a (f.same ∙ h) (g.same ∙ i) l (o.same ∙ j) (then f.piece f.whole (then g.piece g.whole o.whole)) refl;
+        same = ap bare_stmt (sym q);
+      }
+  moved_stmt ts us x s (grammar.adjusted_before u t v b n a i l h j w q) =
+      let g = first u (t ∷ v ∷ []) us (s ∙ ap lexemes w) in
+      let f = first t (v ∷ []) g.rest g.same_rest in
+      let o = only v f.rest f.same_rest in
+      record {
+        value = tree.adjust (record { name = word_at b f.piece }) a;
+        spelled = grammar.adjusted_before g.piece f.piece o.piece b n a (g.same ∙ i) l (f.same ∙ h) (o.same ∙ j) (then g.piece g.whole (then f.piece f.whole o.whole)) refl;
+        same = ap bare_stmt (sym q);
       }
 
 pub map-joined : {A B : Type 0} (f : A → B) (xss : List (List A)) → map f (joined xss) ≡ joined (map (map f) xss)
@@ -202,16 +254,39 @@ map-joined f (xs ∷ xss) = map-append f xs (joined xss) ∙ ap (λ ys. map f xs
 same_joined : (xss yss : List (List tree.Decl)) → map (map bare_decl) xss ≡ map (map bare_decl) yss → map bare_decl (joined xss) ≡ map bare_decl (joined yss)
 same_joined xss yss e = map-joined bare_decl xss ∙ ap joined e ∙ sym (map-joined bare_decl yss)
 
-moved_parameters : (ts us : List Piece) → lexemes us ≡ lexemes ts → SpellsNoParameters ts → SpellsNoParameters us
-moved_parameters ts us s (grammar.nothing t u h i w) =
+moved_next_parameter : MovedAll SpellsNextParameter bare_word
+moved_next_parameter ts us x s r =
+    let f = first r.comma (r.int ∷ r.name_piece ∷ []) us (s ∙ ap lexemes r.whole) in
+    let g = first r.int (r.name_piece ∷ []) f.rest f.same_rest in
+    let o = only r.name_piece g.rest g.same_rest in
+    record {
+      value = word_at r.text o.piece;
+      spelled = record { comma = f.piece; is_comma = f.same ∙ r.is_comma; int = g.piece; is_int = g.same ∙ r.is_int; name_piece = o.piece; text = r.text; is_name = o.same ∙ r.is_name; whole = then f.piece f.whole (then g.piece g.whole o.whole); parameter = refl };
+      same = ap bare_word (sym r.parameter);
+    }
+
+moved_parameters : MovedAll SpellsParameters (map bare_word)
+moved_parameters ts us xs s (grammar.nothing t u h i w q) =
     let f = first t (u ∷ []) us (s ∙ ap lexemes w) in
     let o = only u f.rest f.same_rest in
-    grammar.nothing f.piece o.piece (f.same ∙ h) (o.same ∙ i) (then f.piece f.whole o.whole)
-moved_parameters ts us s (grammar.void t v u h j i w) =
+    record { value = []; spelled = grammar.nothing f.piece o.piece (f.same ∙ h) (o.same ∙ i) (then f.piece f.whole o.whole) refl; same = ap (map bare_word) (sym q) }
+moved_parameters ts us xs s (grammar.void t v u h j i w q) =
     let f = first t (v ∷ u ∷ []) us (s ∙ ap lexemes w) in
     let g = first v (u ∷ []) f.rest f.same_rest in
     let o = only u g.rest g.same_rest in
-    grammar.void f.piece g.piece o.piece (f.same ∙ h) (g.same ∙ j) (o.same ∙ i) (then f.piece f.whole (then g.piece g.whole o.whole))
+    record { value = []; spelled = grammar.void f.piece g.piece o.piece (f.same ∙ h) (g.same ∙ j) (o.same ∙ i) (then f.piece f.whole (then g.piece g.whole o.whole)) refl; same = ap (map bare_word) (sym q) }
+moved_parameters ts us xs s (grammar.some {us = vs} {xs = ys} t i n u b h j k r m w q) =
+    let f = first t (i ∷ n ∷ (vs ++ u ∷ [])) us (s ∙ ap lexemes w) in
+    let g = first i (n ∷ (vs ++ u ∷ [])) f.rest f.same_rest in
+    let e = first n (vs ++ u ∷ []) g.rest g.same_rest in
+    let p = parts vs (u ∷ []) e.rest e.same_rest in
+    let o = only u p.back p.same_back in
+    let y = moved_each SpellsNextParameter bare_word moved_next_parameter vs p.front ys p.same_front r in
+    record {
+      value = word_at b e.piece ∷ y.value;
+      spelled = grammar.some f.piece g.piece e.piece o.piece b (f.same ∙ h) (g.same ∙ j) (e.same ∙ k) y.spelled (o.same ∙ m) (then f.piece f.whole (then g.piece g.whole (then e.piece e.whole (then_all p.front p.whole o.whole)))) refl;
+      same = (λ c. record { text = b; place = 0 } ∷ y.same c) ∙ ap (map bare_word) (sym q);
+    }
 
 module _ (l d : ℕ) where
   moved_block : MovedAll (SpellsBlock l d) bare_block
@@ -243,30 +318,33 @@ module _ (l d : ℕ) where
 
   pub moved_item : MovedAll (SpellsItem l d) bare_item
   moved_item ts us i s r =
-      let f = first r.cilk (r.int ∷ r.name_piece ∷ (r.parameters ++ r.body)) us (s ∙ ap lexemes r.whole) in
-      let g = first r.int (r.name_piece ∷ (r.parameters ++ r.body)) f.rest f.same_rest in
+      let f = first r.cilk (r.returns_piece ∷ r.name_piece ∷ (r.parameters ++ r.body)) us (s ∙ ap lexemes r.whole) in
+      let g = first r.returns_piece (r.name_piece ∷ (r.parameters ++ r.body)) f.rest f.same_rest in
       let h = first r.name_piece (r.parameters ++ r.body) g.rest g.same_rest in
       let p = parts r.parameters r.body h.rest h.same_rest in
+      let ps = moved_parameters r.parameters p.front r.names p.same_front r.spelled_parameters in
       let b = moved_block r.body p.back r.block p.same_back r.spelled_body in
       record {
-        value = tree.procedure (record { name = word_at r.text h.piece; body = b.value });
+        value = tree.procedure (record { returns = r.returns; name = word_at r.text h.piece; parameters = ps.value; body = b.value });
         spelled = record {
           cilk = f.piece;
           is_cilk = f.same ∙ r.is_cilk;
-          int = g.piece;
-          is_int = g.same ∙ r.is_int;
+          returns_piece = g.piece;
+          returns = r.returns;
+          is_returns = g.same ∙ r.is_returns;
           name_piece = h.piece;
           text = r.text;
           is_name = h.same ∙ r.is_name;
           parameters = p.front;
+          names = ps.value;
           body = p.back;
           block = b.value;
-          spelled_parameters = moved_parameters r.parameters p.front p.same_front r.spelled_parameters;
+          spelled_parameters = ps.spelled;
           spelled_body = b.spelled;
           whole = then f.piece f.whole (then g.piece g.whole (then h.piece h.whole p.whole));
           item = refl;
         };
-        same = (λ j. tree.procedure (record { name = record { text = r.text; place = 0 }; body = b.same j })) ∙ ap bare_item (sym r.item);
+        same = (λ j. tree.procedure (record { returns = r.returns; name = record { text = r.text; place = 0 }; parameters = ps.same j; body = b.same j })) ∙ ap bare_item (sym r.item);
       }
 
 -- the pieces us spell definitions that are the same as these, places aside

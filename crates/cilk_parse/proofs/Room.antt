@@ -39,8 +39,12 @@ module _ (l d l' d' : ℕ) (le : l ≤ l') (ge : d ≤ d') where
   }
 
   roomier_stmt : (ts : List Piece) (x : tree.Stmt) → SpellsStmt l d ts x → SpellsStmt l' d' ts x
-  roomier_stmt ts x (grammar.an_assignment {us = us} {e = e} t u v b h i s j w q) = grammar.an_assignment t u v b h i (roomier_whole us e s) j w q
+  roomier_stmt ts x (grammar.an_assignment {us = us} {e = e} t u v b m o h i k s j w q) = grammar.an_assignment t u v b m o h i k (roomier_whole us e s) j w q
   roomier_stmt ts x (grammar.a_return {us = us} {e = e} t v h s j w q) = grammar.a_return t v h (roomier_whole us e s) j w q
+  roomier_stmt ts x (grammar.a_null v j w q) = grammar.a_null v j w q
+  roomier_stmt ts x (grammar.adjusted_behind t u v b m a h i k j w q) = grammar.adjusted_behind t u v b m a h i k j w q
+  roomier_stmt ts x (grammar.adjusted_before u t v b m a i k h j w q) = grammar.adjusted_before u t v b m a i k h j w q
+  roomier_stmt ts x (grammar.a_bare_return t v h j w q) = grammar.a_bare_return t v h j w q
 
   roomier_block : (ts : List Piece) (b : tree.Block) → SpellsBlock l d ts b → SpellsBlock l' d' ts b
   roomier_block ts b s = record {
@@ -62,12 +66,14 @@ module _ (l d l' d' : ℕ) (le : l ≤ l') (ge : d ≤ d') where
   roomier_item ts i s = record {
     cilk = s.cilk;
     is_cilk = s.is_cilk;
-    int = s.int;
-    is_int = s.is_int;
+    returns_piece = s.returns_piece;
+    returns = s.returns;
+    is_returns = s.is_returns;
     name_piece = s.name_piece;
     text = s.text;
     is_name = s.is_name;
     parameters = s.parameters;
+    names = s.names;
     body = s.body;
     block = s.block;
     spelled_parameters = s.spelled_parameters;

@@ -1,12 +1,19 @@
 -- How a text spells a program (C 1990, 6.5 to 6.7; Cilk 5.4 manual, `cilk`).
-use Rattle.std.specs.Prelude.{◌≡◌, ℕ, List, [], ◌∷◌, ◌++◌, Some, None, length}
+use Rattle.std.specs.Prelude.{◌≡◌, ℕ, Option, List, [], ◌∷◌, ◌++◌, Some, None, length}
 use Rattle.cilk_lex.specs.Lexeme.{Piece, word, name, mark}
 use Rattle.cilk_lex.specs.Lexing.{Lexes}
 use Rattle.cilk_lex.specs.declared.keyword.Keyword.TheVariants as key
+use Rattle.cilk_lex.specs.declared.mark.Mark.{Mark}
 use Rattle.cilk_lex.specs.declared.mark.Mark.TheVariants as sign
+use Rattle.cilk_tree.specs.declared.return_type.ReturnType.{ReturnType}
+use Rattle.cilk_tree.specs.declared.adjustment.Adjustment.{Adjustment}
+use Rattle.cilk_tree.specs.declared.operator.BinOp.{BinOp}
 use Rattle.cilk_tree.specs.Tree as tree
 use Rattle.cilk_tree.specs.Stmts.{stmts_of}
+use Rattle.cilk_written.specs.Lexemes.{returns_word}
 use Rattle.cilk_expr.specs.Grammar.{word_at, SpellsWhole, operator_limit, parenthesis_limit}
+use Rattle.cilk_parse.specs.declared.role.Role.TheVariants as role
+use Rattle.cilk_parse.specs.Roles.{role_of, assigned}
 
 -- one after another, where R says how one is spelled
 pub data Each {A : Type 0} (R : List Piece → A → Type 0) : List Piece → List A → Type 0 where
@@ -51,12 +58,22 @@ pub record SpellsDeclaration (l d : ℕ) (ts : List Piece) (xs : List tree.Decl)
 
 -- a statement (C 1990, 6.6)
 pub data SpellsStmt (l d : ℕ) : List Piece → tree.Stmt → Type 0 where
-  -- Name = Expr ;
-  an_assignment : {ts us : List Piece} {e : tree.Expr} {s : tree.Stmt} (t u v : Piece) (b : List ℕ) → t.lexeme ≡ name b → u.lexeme ≡ mark sign.Assign → SpellsWhole l d us e → v.lexeme ≡ mark sign.Semicolon
-      → ts ≡ t ∷ u ∷ (us ++ v ∷ []) → s ≡ tree.assign (record { name = word_at b t }) e → SpellsStmt l d ts s
+  -- Name, = with an operator or none, Expr ;
+  an_assignment : {ts us : List Piece} {e : tree.Expr} {s : tree.Stmt} (t u v : Piece) (b : List ℕ) (m : Mark) (o : Option BinOp) → t.lexeme ≡ name b → u.lexeme ≡ mark m → role_of m ≡ Some (role.Assign o) → SpellsWhole l d us e → v.lexeme ≡ mark sign.Semicolon
+      → ts ≡ t ∷ u ∷ (us ++ v ∷ []) → s ≡ assigned o (record { name = word_at b t }) e → SpellsStmt l d ts s
   -- return Expr ;
   a_return : {ts us : List Piece} {e : tree.Expr} {s : tree.Stmt} (t v : Piece) → t.lexeme ≡ word key.Return → SpellsWhole l d us e → v.lexeme ≡ mark sign.Semicolon
-      → ts ≡ t ∷ (us ++ v ∷ []) → s ≡ tree.return_with e → SpellsStmt l d ts s
+      → ts ≡ t ∷ (us ++ v ∷ []) → s ≡ tree.return_at t.start (Some e) → SpellsStmt l d ts s
+  -- return ;
+  a_bare_return : {ts : List Piece} {s : tree.Stmt} (t v : Piece) → t.lexeme ≡ word key.Return → v.lexeme ≡ mark sign.Semicolon → ts ≡ t ∷ v ∷ [] → s ≡ tree.return_at t.start None → SpellsStmt l d ts s
+  -- ;
+  a_null : {ts : List Piece} {s : tree.Stmt} (v : Piece) → v.lexeme ≡ mark sign.Semicolon → ts ≡ v ∷ [] → s ≡ tree.null → SpellsStmt l d ts s
+  -- Name ++ ; or Name -- ;
+  adjusted_behind : {ts : List Piece} {s : tree.Stmt} (t u v : Piece) (b : List ℕ) (m : Mark) (a : Adjustment) → t.lexeme ≡ name b → u.lexeme ≡ mark m → role_of m ≡ Some (role.Adjust a) → v.lexeme ≡ mark sign.Semicolon
+      → ts ≡ t ∷ u ∷ v ∷ [] → s ≡ tree.adjust (record { name = word_at b t }) a → SpellsStmt l d ts s
+  -- ++ Name ; or -- Name ;
+  adjusted_before : {ts : List Piece} {s : tree.Stmt} (u t v : Piece) (b : List ℕ) (m : Mark) (a : Adjustment) → u.lexeme ≡ mark m → role_of m ≡ Some (role.Adjust a) → t.lexeme ≡ name b → v.lexeme ≡ mark sign.Semicolon
+      → ts ≡ u ∷ t ∷ v ∷ [] → s ≡ tree.adjust (record { name = word_at b t }) a → SpellsStmt l d ts s
 
 -- { declarations statements } (C 1990, 6.6.2)
 pub record SpellsBlock (l d : ℕ) (ts : List Piece) (b : tree.Block) : Type 0 where
@@ -73,27 +90,43 @@ pub record SpellsBlock (l d : ℕ) (ts : List Piece) (b : tree.Block) : Type 0 w
   pub whole : ts ≡ opening ∷ (declarations ++ (statements ++ closing ∷ []))
   pub block : b ≡ tree.block (joined decls) (stmts_of stmts)
 
--- ( ) or ( void ) (C 1990, 6.5.4.3)
-pub data SpellsNoParameters : List Piece → Type 0 where
-  nothing : {ts : List Piece} (t u : Piece) → t.lexeme ≡ mark sign.OpenParenthesis → u.lexeme ≡ mark sign.CloseParenthesis → ts ≡ t ∷ u ∷ [] → SpellsNoParameters ts
-  void : {ts : List Piece} (t v u : Piece) → t.lexeme ≡ mark sign.OpenParenthesis → v.lexeme ≡ word key.Void → u.lexeme ≡ mark sign.CloseParenthesis → ts ≡ t ∷ v ∷ u ∷ [] → SpellsNoParameters ts
-
--- cilk int Name ( ) Block (Cilk 5.4 manual, `cilk`; C 1990, 6.7.1)
-pub record SpellsItem (l d : ℕ) (ts : List Piece) (i : tree.Item) : Type 0 where
-  pub cilk : Piece
-  pub is_cilk : cilk.lexeme ≡ word key.Cilk
+-- , int Name
+pub record SpellsNextParameter (ts : List Piece) (x : tree.Word) : Type 0 where
+  pub comma : Piece
+  pub is_comma : comma.lexeme ≡ mark sign.Comma
   pub int : Piece
   pub is_int : int.lexeme ≡ word key.Int
   pub name_piece : Piece
   pub text : List ℕ
   pub is_name : name_piece.lexeme ≡ name text
+  pub whole : ts ≡ comma ∷ int ∷ name_piece ∷ []
+  pub parameter : x ≡ word_at text name_piece
+
+-- ( ), ( void ) or ( int Name , int Name .. ) (C 1990, 6.5.4.3, 6.7.1)
+pub data SpellsParameters : List Piece → List tree.Word → Type 0 where
+  nothing : {ts : List Piece} {xs : List tree.Word} (t u : Piece) → t.lexeme ≡ mark sign.OpenParenthesis → u.lexeme ≡ mark sign.CloseParenthesis → ts ≡ t ∷ u ∷ [] → xs ≡ [] → SpellsParameters ts xs
+  void : {ts : List Piece} {xs : List tree.Word} (t v u : Piece) → t.lexeme ≡ mark sign.OpenParenthesis → v.lexeme ≡ word key.Void → u.lexeme ≡ mark sign.CloseParenthesis → ts ≡ t ∷ v ∷ u ∷ [] → xs ≡ [] → SpellsParameters ts xs
+  some : {ts us : List Piece} {xs ys : List tree.Word} (t i n u : Piece) (b : List ℕ) → t.lexeme ≡ mark sign.OpenParenthesis → i.lexeme ≡ word key.Int → n.lexeme ≡ name b → Each SpellsNextParameter us xs → u.lexeme ≡ mark sign.CloseParenthesis
+      → ts ≡ t ∷ i ∷ n ∷ (us ++ u ∷ []) → ys ≡ word_at b n ∷ xs → SpellsParameters ts ys
+
+-- cilk, int or void, Name, parameters and a block (Cilk 5.4 manual, `cilk`; C 1990, 6.7.1)
+pub record SpellsItem (l d : ℕ) (ts : List Piece) (i : tree.Item) : Type 0 where
+  pub cilk : Piece
+  pub is_cilk : cilk.lexeme ≡ word key.Cilk
+  pub returns_piece : Piece
+  pub returns : ReturnType
+  pub is_returns : returns_piece.lexeme ≡ word (returns_word returns)
+  pub name_piece : Piece
+  pub text : List ℕ
+  pub is_name : name_piece.lexeme ≡ name text
   pub parameters : List Piece
+  pub names : List tree.Word
   pub body : List Piece
   pub block : tree.Block
-  pub spelled_parameters : SpellsNoParameters parameters
+  pub spelled_parameters : SpellsParameters parameters names
   pub spelled_body : SpellsBlock l d body block
-  pub whole : ts ≡ cilk ∷ int ∷ name_piece ∷ (parameters ++ body)
-  pub item : i ≡ tree.procedure (record { name = word_at text name_piece; body = block })
+  pub whole : ts ≡ cilk ∷ returns_piece ∷ name_piece ∷ (parameters ++ body)
+  pub item : i ≡ tree.procedure (record { returns = returns; name = word_at text name_piece; parameters = names; body = block })
 
 -- definitions one after another (C 1990, 6.7)
 abbrev pub SpellsItems : ℕ → ℕ → List Piece → List tree.Item → Type 0

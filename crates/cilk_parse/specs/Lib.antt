@@ -3,6 +3,7 @@ pub use Rattle.cilk_lex.specs.Lexing
 pub use Rattle.cilk_tree.specs.Tree
 pub use Rattle.cilk_tree.specs.Bare
 pub use Rattle.cilk_tree.specs.ProgramText
+pub mod Roles
 pub mod Grammar
 pub mod Many
 pub mod Reading

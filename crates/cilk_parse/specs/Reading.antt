@@ -1,16 +1,23 @@
 -- Reading a program from left to right.
-use Rattle.std.specs.Prelude.{ℕ, Bool, true, false, not, List, ◌∷◌, ◌++◌, length, Option, Some, None, is_some, Result, Ok, Err}
+use Rattle.std.specs.Prelude.{ℕ, Bool, true, false, not, List, [], ◌∷◌, ◌++◌, length, Option, Some, None, is_some, Result, Ok, Err}
 use Rattle.cilk_lex.specs.Lexeme.{Piece}
 use Rattle.cilk_lex.specs.declared.keyword.Keyword.TheVariants as key
 use Rattle.cilk_lex.specs.declared.mark.Mark.TheVariants as sign
 use Rattle.cilk_lex.specs.declared.token.Kind.{Kind}
 use Rattle.cilk_lex.specs.declared.token.Kind.TheVariants as kind
+use Rattle.cilk_tree.specs.declared.return_type.ReturnType.{ReturnType}
+use Rattle.cilk_tree.specs.declared.return_type.ReturnType.TheVariants as returns
+use Rattle.cilk_tree.specs.declared.adjustment.Adjustment.{Adjustment}
+use Rattle.cilk_tree.specs.declared.operator.BinOp.{BinOp}
 use Rattle.cilk_tree.specs.Tree as tree
 use Rattle.cilk_tree.specs.Stmts.{stmts_of}
 use Rattle.cilk_expr.specs.declared.fault.Fault.{Fault}
 use Rattle.cilk_expr.specs.declared.fault.Fault.TheVariants.{Unexpected}
-use Rattle.cilk_expr.specs.Front.{◌>>=◌, kind_at, behind, is_mark, is_keyword, mark_at, keyword_at, name_at}
+use Rattle.cilk_expr.specs.Front.{◌>>=◌, kind_at, behind, place_at, is_mark, is_keyword, mark_at, keyword_at, name_at}
 use Rattle.cilk_expr.specs.Reading.{whole_of}
+use Rattle.cilk_parse.specs.declared.role.Role.{Role}
+use Rattle.cilk_parse.specs.declared.role.Role.TheVariants as role
+use Rattle.cilk_parse.specs.Roles.{role_of, role_by, assigned}
 use Rattle.cilk_parse.specs.Grammar.{joined}
 use Rattle.cilk_parse.specs.Many.{many_of}
 
@@ -73,21 +80,63 @@ value_end_at l d ts = do
   us ← mark_at sign.Semicolon e.1
   Ok (e.0, us)
 
-unfoldable pub assignment_at : ℕ → ℕ → List Piece → Read tree.Stmt
-assignment_at l d ts = do
-  x ← name_at ts
-  us ← mark_at sign.Assign x.1
-  e ← value_end_at l d us
-  Ok (tree.assign (record { name = x.0 }) e.0, e.1)
-
-unfoldable pub return_at : ℕ → ℕ → List Piece → Read tree.Stmt
-return_at l d ts = do
+unfoldable pub assigned_at : ℕ → ℕ → tree.Place → Option BinOp → List Piece → Read tree.Stmt
+assigned_at l d place o ts = do
   e ← value_end_at l d ts
-  Ok (tree.return_with e.0, e.1)
+  Ok (assigned o place e.0, e.1)
+
+unfoldable pub adjusted_at : tree.Place → Adjustment → List Piece → Read tree.Stmt
+adjusted_at place a ts = do
+  us ← mark_at sign.Semicolon ts
+  Ok (tree.adjust place a, us)
+
+-- behind a place, by what the next token does
+abbrev pub changed_by : ℕ → ℕ → tree.Place → List Piece → Option Role → Read tree.Stmt
+changed_by l d place ts (Some (role.Assign o)) = assigned_at l d place o (behind ts)
+changed_by l d place ts (Some (role.Adjust a)) = adjusted_at place a (behind ts)
+changed_by l d place ts _ = Err (Unexpected (length ts))
+
+unfoldable pub changed_at : ℕ → ℕ → tree.Place → List Piece → Read tree.Stmt
+changed_at l d place ts = changed_by l d place ts (role_by (kind_at ts))
+
+-- a statement that begins with a name
+unfoldable pub named_at : ℕ → ℕ → List Piece → Read tree.Stmt
+named_at l d ts = do
+  x ← name_at ts
+  changed_at l d (record { name = x.0 }) x.1
+
+-- behind `++` or `--`
+unfoldable pub before_at : Adjustment → List Piece → Read tree.Stmt
+before_at a ts = do
+  x ← name_at ts
+  adjusted_at (record { name = x.0 }) a x.1
+
+-- a statement that begins with a mark, by what that does
+abbrev pub marked_by : List Piece → Option Role → Read tree.Stmt
+marked_by ts (Some role.Null) = Ok (tree.null, behind ts)
+marked_by ts (Some (role.Adjust a)) = before_at a (behind ts)
+marked_by ts _ = Err (Unexpected (length ts))
+
+-- a semicolon, or a whole expression and a semicolon
+abbrev pub result_by : ℕ → ℕ → List Piece → Bool → Read (Option tree.Expr)
+result_by l d ts true = Ok (None, behind ts)
+result_by l d ts false = do
+  e ← value_end_at l d ts
+  Ok (Some e.0, e.1)
+
+unfoldable pub result_end_at : ℕ → ℕ → List Piece → Read (Option tree.Expr)
+result_end_at l d ts = result_by l d ts (is_mark sign.Semicolon (kind_at ts))
+
+-- what stands behind the word `return`, which has this place
+unfoldable pub return_at : ℕ → ℕ → ℕ → List Piece → Read tree.Stmt
+return_at l d at ts = do
+  v ← result_end_at l d ts
+  Ok (tree.return_at at v.0, v.1)
 
 abbrev pub stmt_by : ℕ → ℕ → List Piece → Option Kind → Read tree.Stmt
-stmt_by l d ts (Some kind.Name) = assignment_at l d ts
-stmt_by l d ts (Some (kind.Word key.Return)) = return_at l d (behind ts)
+stmt_by l d ts (Some kind.Name) = named_at l d ts
+stmt_by l d ts (Some (kind.Mark m)) = marked_by ts (role_of m)
+stmt_by l d ts (Some (kind.Word key.Return)) = return_at l d (place_at ts) (behind ts)
 stmt_by l d ts _ = Err (Unexpected (length ts))
 
 unfoldable pub stmt_at : ℕ → ℕ → List Piece → Read tree.Stmt
@@ -108,24 +157,58 @@ block_at l d ts = do
   vs ← mark_at sign.CloseBrace ss.1
   Ok (tree.block (joined ds.0) (stmts_of ss.0), vs)
 
--- behind the next token, if it is `void`
-abbrev pub skip_void : List Piece → Bool → List Piece
-skip_void ts true = behind ts
-skip_void ts false = ts
+unfoldable pub parameter_at : List Piece → Read tree.Word
+parameter_at ts = do
+  us ← keyword_at key.Int ts
+  name_at us
 
-unfoldable pub parameters_at : List Piece → Result (List Piece) Fault
+unfoldable pub next_parameter_at : List Piece → Read tree.Word
+next_parameter_at ts = do
+  us ← mark_at sign.Comma ts
+  parameter_at us
+
+unfoldable pub next_parameters_at : List Piece → Read (List tree.Word)
+next_parameters_at ts = many_of begins_declarator (λ us. next_parameter_at us) ts
+
+unfoldable pub some_parameters_at : List Piece → Read (List tree.Word)
+some_parameters_at ts = do
+  x ← parameter_at ts
+  xs ← next_parameters_at x.1
+  Ok (x.0 ∷ xs.0, xs.1)
+
+-- none where the next token is `void` or closes the list, else some
+abbrev pub parameter_list_by : List Piece → Bool → Bool → Read (List tree.Word)
+parameter_list_by ts true closes = Ok ([], behind ts)
+parameter_list_by ts false true = Ok ([], ts)
+parameter_list_by ts false false = some_parameters_at ts
+
+unfoldable pub parameter_list_at : List Piece → Read (List tree.Word)
+parameter_list_at ts = parameter_list_by ts (is_keyword key.Void (kind_at ts)) (is_mark sign.CloseParenthesis (kind_at ts))
+
+unfoldable pub parameters_at : List Piece → Read (List tree.Word)
 parameters_at ts = do
   us ← mark_at sign.OpenParenthesis ts
-  mark_at sign.CloseParenthesis (skip_void us (is_keyword key.Void (kind_at us)))
+  xs ← parameter_list_at us
+  vs ← mark_at sign.CloseParenthesis xs.1
+  Ok (xs.0, vs)
+
+abbrev pub returns_by : List Piece → Bool → Read ReturnType
+returns_by ts true = Ok (returns.Int, behind ts)
+returns_by ts false = do
+  us ← keyword_at key.Void ts
+  Ok (returns.Void, us)
+
+unfoldable pub returns_at : List Piece → Read ReturnType
+returns_at ts = returns_by ts (is_keyword key.Int (kind_at ts))
 
 unfoldable pub item_at : ℕ → ℕ → List Piece → Read tree.Item
 item_at l d ts = do
   us ← keyword_at key.Cilk ts
-  vs ← keyword_at key.Int us
-  x ← name_at vs
-  ws ← parameters_at x.1
-  b ← block_at l d ws
-  Ok (tree.procedure (record { name = x.0; body = b.0 }), b.1)
+  r ← returns_at us
+  x ← name_at r.1
+  ps ← parameters_at x.1
+  b ← block_at l d ps.1
+  Ok (tree.procedure (record { returns = r.0; name = x.0; parameters = ps.0; body = b.0 }), b.1)
 
 -- all but the end of the tokens
 abbrev pub begins_item : Option Kind → Bool

@@ -1,12 +1,15 @@
+ghost use Rattle.std.specs.Prelude.{◌≡◌};
 ghost use Rattle.cilk_expr.specs.Grammar.{operator_limit, parenthesis_limit};
 ghost use Rattle.cilk_expr.specs.Front.{Gives};
-ghost use Rattle.cilk_parse.specs.Reading.{block_at, parameters_at, item_at, items_at};
+ghost use Rattle.cilk_parse.specs.Reading.{block_at, returns_at, item_at, items_at};
+ghost use Rattle.cilk_tree.specs.Tree as tree;
 
 use crate::declaration::declarations;
+use crate::parameters::parameters;
 use crate::statement::statements;
 use cilk_expr::{Cursor, ParseError};
 use cilk_lex::{Keyword, Mark};
-use cilk_tree::{Block, Item, ItemNode, Proc};
+use cilk_tree::{Block, Item, ItemNode, Proc, ReturnType, Word};
 
 #[tactic(auto, unfolding(crate::specs::Reading::block_at, crate::specs::Reading::joined_at))]
 fn block(cursor: &mut Cursor) -> Result<Block, ParseError>
@@ -20,16 +23,18 @@ fn block(cursor: &mut Cursor) -> Result<Block, ParseError>
     Ok(Block { decls, stmts })
 }
 
-// A list of parameters that has none.
-#[tactic(auto, unfolding(crate::specs::Reading::parameters_at))]
-fn no_parameters(cursor: &mut Cursor) -> Result<(), ParseError>
-    ensures { Gives (λ _. cursor.new.pieces) result (parameters_at cursor.old.pieces) }
+// What a procedure returns.
+#[tactic(auto, unfolding(crate::specs::Reading::returns_at))]
+fn returns(cursor: &mut Cursor) -> Result<ReturnType, ParseError>
+    ensures { Gives (λ r. (r, cursor.new.pieces)) result (returns_at cursor.old.pieces) }
 {
-    cursor.mark(Mark::OpenParenthesis)?;
-    if cursor.is_keyword(Keyword::Void) {
+    if cursor.is_keyword(Keyword::Int) {
         cursor.advance();
+        Ok(ReturnType::Int)
+    } else {
+        cursor.keyword(Keyword::Void)?;
+        Ok(ReturnType::Void)
     }
-    cursor.mark(Mark::CloseParenthesis)
 }
 
 #[tactic(auto, unfolding(crate::specs::Reading::item_at))]
@@ -38,13 +43,24 @@ fn item(cursor: &mut Cursor) -> Result<Item, ParseError>
         (item_at operator_limit parenthesis_limit cursor.old.pieces) }
 {
     cursor.keyword(Keyword::Cilk)?;
-    cursor.keyword(Keyword::Int)?;
+    let returns = returns(cursor)?;
     let name = cursor.name()?;
-    no_parameters(cursor)?;
+    let parameters = parameters(cursor)?;
     let body = block(cursor)?;
-    Ok(Item {
-        node: ItemNode::Procedure(Proc { name, body }),
-    })
+    Ok(procedure(returns, name, parameters, body))
+}
+
+fn procedure(returns: ReturnType, name: Word, parameters: Vec<Word>, body: Block) -> Item
+    ensures { result ≡ tree.procedure (record { returns = returns; name = name; parameters = parameters.items; body = body }) }
+{
+    Item {
+        node: ItemNode::Procedure(Proc {
+            returns,
+            name,
+            parameters,
+            body,
+        }),
+    }
 }
 
 /// Reads all definitions of a program, up to the end of the tokens.

@@ -5,7 +5,9 @@ mod declaration;
 mod definition;
 mod fault;
 pub mod laws;
+mod parameters;
 mod program;
+mod role;
 mod statement;
 #[cfg(test)]
 mod tests;

@@ -7,7 +7,7 @@ use crate::*;
 use cilk_check::check;
 use cilk_frame::{Frame, Id};
 use cilk_load::{Loaded, load};
-use cilk_tree::{Block, Item, ItemNode, Proc, Program, Word};
+use cilk_tree::{Block, Item, ItemNode, Proc, Program, ReturnType, Word};
 use std::alloc::Global;
 use std::test::Fail;
 
@@ -16,7 +16,9 @@ fn loaded(alloc: Global) -> Result<Loaded, Fail> {
     let mut items = Vec::new(alloc);
     items.push(Item {
         node: ItemNode::Procedure(Proc {
+            returns: ReturnType::Int,
             name: Word::new(String::from_str(alloc, "main")?, 0),
+            parameters: Vec::new(alloc),
             body: Block {
                 decls: Vec::new(alloc),
                 stmts: Vec::new(alloc),

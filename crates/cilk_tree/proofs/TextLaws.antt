@@ -1,10 +1,12 @@
 -- The canonical text, one constructor at a time.
-use Rattle.std.proofs.Common.{◌≡◌, ℕ, List, [], ◌∷◌, ◌++◌, codes, decimal, map, refl, ap, append_assoc}
+use Rattle.std.proofs.Common.{◌≡◌, ℕ, List, [], ◌∷◌, ◌++◌, codes, decimal, map, refl, append_assoc, Option}
+use Rattle.cilk_tree.specs.declared.adjustment.Adjustment.{Adjustment}
 use Rattle.cilk_tree.specs.declared.operator.BinOp.{BinOp}
-use Rattle.cilk_tree.specs.Tree.{Word, Expr, number, named, binary, Place, Decl, Stmt, assign, return_with, Stmts, also, block, Proc, Item, procedure}
+use Rattle.cilk_tree.specs.Tree.{Word, Expr, number, named, binary, Place, Decl, Stmt, assign, null, update, adjust, Stmts, also, block, Proc, Item, procedure, return_at}
 use Rattle.cilk_tree.specs.OperatorMark.{mark_of}
+use Rattle.cilk_tree.specs.Adjustments.{adjustment_mark}
 use Rattle.cilk_tree.specs.ExprText.{expr_text, operand_text}
-use Rattle.cilk_tree.specs.ProgramText.{text_of_lines, deeper, initialiser_text, decl_line, stmt_lines, stmts_lines, block_lines, item_lines, items_lines, program_text}
+use Rattle.cilk_tree.specs.ProgramText.{text_of_lines, deeper, initialiser_text, result_text, decl_line, stmt_lines, stmts_lines, block_lines, opening_line, item_lines, items_lines, program_text}
 use Rattle.cilk_tree.proofs.Lines.{text_of_lines-append}
 
 pub expr_text-number : (n : ℕ) → expr_text (number n) ≡ decimal n
@@ -32,8 +34,17 @@ text-decls-also indent d ds = simp append_assoc
 pub text-stmt-assign : (indent : List ℕ) (place : Place) (value : Expr) → text_of_lines (stmt_lines indent (assign place value)) ≡ indent ++ (place.name.text ++ (codes " = " ++ (expr_text value ++ codes ";\n")))
 text-stmt-assign indent place value = simp append_assoc
 
-pub text-stmt-return : (indent : List ℕ) (value : Expr) → text_of_lines (stmt_lines indent (return_with value)) ≡ indent ++ (codes "return " ++ (expr_text value ++ codes ";\n"))
-text-stmt-return indent value = simp append_assoc
+pub text-stmt-return : (indent : List ℕ) (at : ℕ) (value : Option Expr) → text_of_lines (stmt_lines indent (return_at at value)) ≡ indent ++ (codes "return" ++ (result_text value ++ codes ";\n"))
+text-stmt-return indent at value = simp append_assoc
+
+pub text-stmt-null : (indent : List ℕ) → text_of_lines (stmt_lines indent null) ≡ indent ++ codes ";\n"
+text-stmt-null indent = simp append_assoc
+
+pub text-stmt-update : (indent : List ℕ) (place : Place) (op : BinOp) (value : Expr) → text_of_lines (stmt_lines indent (update place op value)) ≡ indent ++ (place.name.text ++ (codes " " ++ (mark_of op ++ (codes "= " ++ (expr_text value ++ codes ";\n")))))
+text-stmt-update indent place op value = simp append_assoc
+
+pub text-stmt-adjust : (indent : List ℕ) (place : Place) (by : Adjustment) → text_of_lines (stmt_lines indent (adjust place by)) ≡ indent ++ (place.name.text ++ (adjustment_mark by ++ codes ";\n"))
+text-stmt-adjust indent place by = simp append_assoc
 
 pub text-stmts-also : (indent : List ℕ) (first : Stmt) (others : Stmts) → text_of_lines (stmts_lines indent (also first others)) ≡ text_of_lines (stmt_lines indent first) ++ text_of_lines (stmts_lines indent others)
 text-stmts-also indent first others = text_of_lines-append (stmt_lines indent first) (stmts_lines indent others)
@@ -41,9 +52,8 @@ text-stmts-also indent first others = text_of_lines-append (stmt_lines indent fi
 pub text-block : (indent : List ℕ) (decls : List Decl) (stmts : Stmts) → text_of_lines (block_lines indent (block decls stmts)) ≡ text_of_lines (map (decl_line indent) decls) ++ text_of_lines (stmts_lines indent stmts)
 text-block indent decls stmts = text_of_lines-append (map (decl_line indent) decls) (stmts_lines indent stmts)
 
-pub text-procedure : (p : Proc) → text_of_lines (item_lines (procedure p)) ≡ codes "cilk int " ++ (p.name.text ++ (codes "(void) {\n" ++ (text_of_lines (block_lines (deeper []) p.body) ++ codes "}\n")))
-text-procedure p =
-    rw (text_of_lines-append (block_lines (deeper []) p.body) (codes "}" ∷ [])) (ap (λ (text : List ℕ). codes "cilk int " ++ text) (append_assoc p.name.text (codes "(void) {") (codes "\n" ++ (text_of_lines (block_lines (deeper []) p.body) ++ codes "}\n"))))
+pub text-procedure : (p : Proc) → text_of_lines (item_lines (procedure p)) ≡ opening_line p ++ (codes "\n" ++ (text_of_lines (block_lines (deeper []) p.body) ++ codes "}\n"))
+text-procedure p = rw (text_of_lines-append (block_lines (deeper []) p.body) (codes "}" ∷ [])) refl
 
 pub text-items-also : (first : Item) (others : List Item) → text_of_lines (items_lines (first ∷ others)) ≡ text_of_lines (item_lines first) ++ text_of_lines (items_lines others)
 text-items-also first others = text_of_lines-append (item_lines first) (items_lines others)

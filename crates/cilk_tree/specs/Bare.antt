@@ -1,6 +1,6 @@
 -- Trees with their places, and a program's length, left aside: set to 0.
 use Rattle.std.specs.Prelude.{map, Option, Some, None}
-use Rattle.cilk_tree.specs.Tree.{Word, Expr, number, named, binary, Place, Decl, Stmt, assign, return_with, Stmts, none, also, Block, block, Proc, Item, procedure, Program}
+use Rattle.cilk_tree.specs.Tree.{Word, Expr, number, named, binary, Place, Decl, Stmt, assign, null, update, adjust, Stmts, none, also, Block, block, Proc, Item, procedure, Program, unary, choose, return_at}
 
 abbrev pub bare_word : Word → Word
 bare_word w = record { text = w.text; place = 0 }
@@ -9,6 +9,8 @@ abbrev pub bare_expr : Expr → Expr
 bare_expr (number n) = number n
 bare_expr (named name) = named (bare_word name)
 bare_expr (binary op left right) = binary op (bare_expr left) (bare_expr right)
+bare_expr (unary op operand) = unary op (bare_expr operand)
+bare_expr (choose test first second) = choose (bare_expr test) (bare_expr first) (bare_expr second)
 
 abbrev pub bare_value : Option Expr → Option Expr
 bare_value None = None
@@ -22,7 +24,10 @@ bare_decl d = record { name = bare_word d.name; value = bare_value d.value }
 
 abbrev pub bare_stmt : Stmt → Stmt
 bare_stmt (assign place value) = assign (bare_place place) (bare_expr value)
-bare_stmt (return_with value) = return_with (bare_expr value)
+bare_stmt (return_at at value) = return_at 0 (bare_value value)
+bare_stmt null = null
+bare_stmt (update place op value) = update (bare_place place) op (bare_expr value)
+bare_stmt (adjust place by) = adjust (bare_place place) by
 
 abbrev pub bare_stmts : Stmts → Stmts
 bare_stmts none = none
@@ -32,7 +37,7 @@ abbrev pub bare_block : Block → Block
 bare_block (block decls stmts) = block (map bare_decl decls) (bare_stmts stmts)
 
 abbrev pub bare_proc : Proc → Proc
-bare_proc p = record { name = bare_word p.name; body = bare_block p.body }
+bare_proc p = record { returns = p.returns; name = bare_word p.name; parameters = map bare_word p.parameters; body = bare_block p.body }
 
 abbrev pub bare_item : Item → Item
 bare_item (procedure definition) = procedure (bare_proc definition)

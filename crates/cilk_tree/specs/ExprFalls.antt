@@ -4,10 +4,12 @@ use Rattle.std.proofs.Common.{arith}
 use Rattle.cilk_tree.specs.ExprSize.{expr_size}
 use Rattle.cilk_tree.specs.ExprView.{expr_of}
 use Rattle.cilk_tree.specs.declared.expr.ExprNode.{ExprNode}
-use Rattle.cilk_tree.specs.declared.expr.ExprNode.TheVariants.{Number, Name, Binary}
+use Rattle.cilk_tree.specs.declared.expr.ExprNode.TheVariants.{Number, Name, Binary, Unary, Choose}
 use Rattle.cilk_tree.specs.declared.expr.Expr.TheDeep.{deep-ExprNode}
 
 pub deep_le-expr_size : (n : ExprNode) → max (deep-ExprNode n) 0 ≤ expr_size (expr_of n)
 deep_le-expr_size (Number n) = omega arith
 deep_le-expr_size (Name name) = omega arith
 deep_le-expr_size (Binary op left right) = omega arith
+deep_le-expr_size (Unary op operand) = omega arith
+deep_le-expr_size (Choose test first second) = omega arith

@@ -1,6 +1,7 @@
 pub mod Tree
 pub mod Coding
 pub mod OperatorCoding
+pub mod AdjustmentCoding
 pub mod ExprCoding
 pub mod ExprView
 pub mod ExprSize
@@ -11,7 +12,10 @@ pub mod Stmts
 pub mod ProgramCoding
 pub mod ItemView
 pub mod OperatorMark
+pub mod ReturnWord
+pub mod Adjustments
 pub mod ExprText
 pub mod ProgramText
 pub mod Bare
 pub mod Operators
+pub mod Parameters

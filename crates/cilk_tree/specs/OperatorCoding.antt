@@ -1,8 +1,10 @@
--- An operator as a number, one to one, which the logic stores.
+-- Operators as numbers, one to one, which the logic stores.
 use Rattle.std.specs.Prelude.{◌≡◌, refl, ℕ, zero, suc}
 use base.Stored.{Gv, gnum}
 use Rattle.cilk_tree.specs.declared.operator.BinOp.{BinOp}
 use Rattle.cilk_tree.specs.declared.operator.BinOp.TheVariants.{Multiply, Divide, Remainder, Add, Subtract, ShiftLeft, ShiftRight, Less, LessOrEqual, Greater, GreaterOrEqual, Equal, NotEqual, BitAnd, BitXor, BitOr, And, Or}
+use Rattle.cilk_tree.specs.declared.un_op.UnOp.{UnOp}
+use Rattle.cilk_tree.specs.declared.un_op.UnOp.TheVariants.{Minus, Plus, Not, Complement}
 
 abbrev pub operator_to : BinOp → Gv
 operator_to Multiply = gnum 0
@@ -67,3 +69,25 @@ operator_back BitXor = refl
 operator_back BitOr = refl
 operator_back And = refl
 operator_back Or = refl
+
+abbrev pub sign_to : UnOp → Gv
+sign_to Minus = gnum 0
+sign_to Plus = gnum 1
+sign_to Not = gnum 2
+sign_to Complement = gnum 3
+
+abbrev sign_at : ℕ → UnOp
+sign_at zero = Minus
+sign_at (suc zero) = Plus
+sign_at (suc (suc zero)) = Not
+sign_at _ = Complement
+
+abbrev pub sign_from : Gv → UnOp
+sign_from (gnum n) = sign_at n
+sign_from _ = Complement
+
+pub sign_back : (op : UnOp) → sign_from (sign_to op) ≡ op
+sign_back Minus = refl
+sign_back Plus = refl
+sign_back Not = refl
+sign_back Complement = refl

@@ -2,6 +2,8 @@
 use Rattle.std.specs.Prelude.{ℕ, List, codes}
 use Rattle.cilk_tree.specs.declared.operator.BinOp.{BinOp}
 use Rattle.cilk_tree.specs.declared.operator.BinOp.TheVariants.{Multiply, Divide, Remainder, Add, Subtract, ShiftLeft, ShiftRight, Less, LessOrEqual, Greater, GreaterOrEqual, Equal, NotEqual, BitAnd, BitXor, BitOr, And, Or}
+use Rattle.cilk_tree.specs.declared.un_op.UnOp.{UnOp}
+use Rattle.cilk_tree.specs.declared.un_op.UnOp.TheVariants.{Minus, Plus, Not, Complement}
 
 abbrev pub mark_of : BinOp → List ℕ
 mark_of Multiply = codes "*"
@@ -22,3 +24,9 @@ mark_of BitXor = codes "^"
 mark_of BitOr = codes "|"
 mark_of And = codes "&&"
 mark_of Or = codes "||"
+
+abbrev pub sign_of : UnOp → List ℕ
+sign_of Minus = codes "-"
+sign_of Plus = codes "+"
+sign_of Not = codes "!"
+sign_of Complement = codes "~"

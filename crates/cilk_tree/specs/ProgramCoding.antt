@@ -1,20 +1,41 @@
 -- Definitions and programs as trees of numbers, one to one, which the logic stores.
-use Rattle.std.specs.Prelude.{◌≡◌, List, []}
+use Rattle.std.specs.Prelude.{◌≡◌, refl, suc, List, []}
 use Rattle.std.specs.Coded.{Coded}
 use base.Stored.{Gv, gnum, gcons}
-use Rattle.cilk_tree.specs.Tree.{block, none, Proc, Item, procedure, Program}
+use Rattle.cilk_tree.specs.declared.return_type.ReturnType.{ReturnType}
+use Rattle.cilk_tree.specs.declared.return_type.ReturnType.TheVariants.{Int, Void}
+use Rattle.cilk_tree.specs.Tree.{Word, block, none, Proc, Item, procedure, Program}
 use Rattle.cilk_tree.specs.Coding.{coded_back, word_to, word_from, word_back, list_to, list_from, list_back}
 use Rattle.cilk_tree.specs.StmtCoding.{block_to, block_from, block_back}
 
+abbrev pub returns_to : ReturnType → Gv
+returns_to Int = gnum 0
+returns_to Void = gnum 1
+
+abbrev pub returns_from : Gv → ReturnType
+returns_from (gnum (suc _)) = Void
+returns_from _ = Int
+
+pub returns_back : (r : ReturnType) → returns_from (returns_to r) ≡ r
+returns_back Int = refl
+returns_back Void = refl
+
+abbrev pub words_to : List Word → Gv
+words_to = list_to word_to word_from word_back
+
+abbrev pub words_from : Gv → List Word
+words_from = list_from word_to word_from word_back
+
 abbrev pub proc_to : Proc → Gv
-proc_to p = gcons (word_to p.name) (block_to p.body)
+proc_to p = gcons (gcons (returns_to p.returns) (words_to p.parameters)) (gcons (word_to p.name) (block_to p.body))
 
 abbrev pub proc_from : Gv → Proc
-proc_from (gcons name body) = record { name = word_from name; body = block_from body }
-proc_from _ = record { name = record { text = []; place = 0 }; body = block [] none }
+proc_from (gcons (gcons returns parameters) (gcons name body)) =
+    record { returns = returns_from returns; name = word_from name; parameters = words_from parameters; body = block_from body }
+proc_from _ = record { returns = Int; name = record { text = []; place = 0 }; parameters = []; body = block [] none }
 
 pub proc_back : (p : Proc) → proc_from (proc_to p) ≡ p
-proc_back p = λ i. record { name = word_back p.name i; body = block_back p.body i }
+proc_back p = λ i. record { returns = returns_back p.returns i; name = word_back p.name i; parameters = list_back word_to word_from word_back p.parameters i; body = block_back p.body i }
 
 abbrev pub coded_Proc : Coded Proc
 coded_Proc = coded_back proc_to proc_from proc_back

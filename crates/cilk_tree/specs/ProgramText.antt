@@ -1,7 +1,10 @@
 -- The canonical text of a program: its lines, and a newline after each.
 use Rattle.std.specs.Prelude.{ℕ, List, [], ◌∷◌, ◌++◌, map, codes, Option, Some, None}
-use Rattle.cilk_tree.specs.Tree.{Expr, Decl, Stmt, assign, return_with, Stmts, none, also, Block, block, Proc, Item, procedure, Program}
+use Rattle.cilk_tree.specs.Tree.{Expr, Decl, Stmt, assign, null, update, adjust, Stmts, none, also, Block, block, Proc, Item, procedure, Program, Word, return_at}
+use Rattle.cilk_tree.specs.OperatorMark.{mark_of}
+use Rattle.cilk_tree.specs.Adjustments.{adjustment_mark}
 use Rattle.cilk_tree.specs.ExprText.{expr_text}
+use Rattle.cilk_tree.specs.ReturnWord.{word_of}
 
 -- the lines one after another, and a newline after each
 abbrev pub text_of_lines : List (List ℕ) → List ℕ
@@ -21,11 +24,20 @@ initialiser_text (Some value) = codes " = " ++ expr_text value
 abbrev pub decl_line : List ℕ → Decl → List ℕ
 decl_line indent d = indent ++ (codes "int " ++ (d.name.text ++ (initialiser_text d.value ++ codes ";")))
 
+-- the value that is returned, if there is one
+abbrev pub result_text : Option Expr → List ℕ
+result_text None = []
+result_text (Some value) = codes " " ++ expr_text value
+
 -- the lines of a statement (C 1990, 6.6), each after the indent
 abbrev pub stmt_lines : List ℕ → Stmt → List (List ℕ)
 stmt_lines indent (assign place value) =
     (indent ++ (place.name.text ++ (codes " = " ++ (expr_text value ++ codes ";")))) ∷ []
-stmt_lines indent (return_with value) = (indent ++ (codes "return " ++ (expr_text value ++ codes ";"))) ∷ []
+stmt_lines indent (return_at at value) = (indent ++ (codes "return" ++ (result_text value ++ codes ";"))) ∷ []
+stmt_lines indent null = (indent ++ codes ";") ∷ []
+stmt_lines indent (update place op value) =
+    (indent ++ (place.name.text ++ (codes " " ++ (mark_of op ++ (codes "= " ++ (expr_text value ++ codes ";")))))) ∷ []
+stmt_lines indent (adjust place by) = (indent ++ (place.name.text ++ (adjustment_mark by ++ codes ";"))) ∷ []
 
 abbrev pub stmts_lines : List ℕ → Stmts → List (List ℕ)
 stmts_lines indent none = []
@@ -35,9 +47,19 @@ stmts_lines indent (also first others) = stmt_lines indent first ++ stmts_lines 
 abbrev pub block_lines : List ℕ → Block → List (List ℕ)
 block_lines indent (block decls stmts) = map (decl_line indent) decls ++ stmts_lines indent stmts
 
+-- the parameters behind the first one, a comma before each
+abbrev pub next_parameters_text : List Word → List ℕ
+next_parameters_text [] = []
+next_parameters_text (x ∷ xs) = codes ", int " ++ (x.text ++ next_parameters_text xs)
+
+-- the parameters between the parentheses (C 1990, 6.5.4.3)
+abbrev pub parameters_text : List Word → List ℕ
+parameters_text [] = codes "void"
+parameters_text (x ∷ xs) = codes "int " ++ (x.text ++ next_parameters_text xs)
+
 -- the line that opens a Cilk procedure (Cilk 5.4 manual, `cilk`)
 abbrev pub opening_line : Proc → List ℕ
-opening_line p = codes "cilk int " ++ (p.name.text ++ codes "(void) {")
+opening_line p = codes "cilk " ++ (word_of p.returns ++ (codes " " ++ (p.name.text ++ (codes "(" ++ (parameters_text p.parameters ++ codes ") {")))))
 
 -- a Cilk procedure: its body is one level deeper than its name
 abbrev pub item_lines : Item → List (List ℕ)

@@ -2,8 +2,10 @@
 use Rattle.std.specs.Prelude.{◌≡◌, refl, zero, suc, List, [], Option, None}
 use Rattle.std.specs.Coded.{Coded}
 use base.Stored.{Gv, gnil, gnum, gcons}
-use Rattle.cilk_tree.specs.Tree.{Expr, number, Place, Decl, Stmt, assign, return_with, Stmts, none, also, Block, block}
+use Rattle.cilk_tree.specs.Tree.{Expr, Place, Decl, Stmt, assign, null, update, adjust, Stmts, none, also, Block, block, return_at}
 use Rattle.cilk_tree.specs.Coding.{coded_back, word_to, word_from, word_back, list_to, list_from, list_back, option_to, option_from, option_back}
+use Rattle.cilk_tree.specs.OperatorCoding.{operator_to, operator_from, operator_back}
+use Rattle.cilk_tree.specs.AdjustmentCoding.{adjustment_to, adjustment_from, adjustment_back}
 use Rattle.cilk_tree.specs.ExprCoding.{expr_to, expr_from, expr_back}
 
 abbrev pub place_to : Place → Gv
@@ -51,16 +53,25 @@ decls_back = list_back decl_to decl_from decl_back
 
 abbrev pub stmt_to : Stmt → Gv
 stmt_to (assign place value) = gcons (gnum 0) (gcons (place_to place) (expr_to value))
-stmt_to (return_with value) = gcons (gnum 1) (expr_to value)
+stmt_to (return_at at value) = gcons (gnum 1) (gcons (gnum at) (value_to value))
+stmt_to null = gnil
+stmt_to (update place op value) = gcons (gnum 2) (gcons (operator_to op) (gcons (place_to place) (expr_to value)))
+stmt_to (adjust place by) = gcons (gnum 3) (gcons (adjustment_to by) (place_to place))
 
 abbrev pub stmt_from : Gv → Stmt
 stmt_from (gcons (gnum zero) (gcons place value)) = assign (place_from place) (expr_from value)
-stmt_from (gcons (gnum (suc _)) value) = return_with (expr_from value)
-stmt_from _ = return_with (number 0)
+stmt_from (gcons (gnum (suc zero)) (gcons (gnum at) value)) = return_at at (value_from value)
+stmt_from (gcons (gnum (suc (suc zero))) (gcons op (gcons place value))) =
+    update (place_from place) (operator_from op) (expr_from value)
+stmt_from (gcons (gnum (suc (suc (suc _)))) (gcons by place)) = adjust (place_from place) (adjustment_from by)
+stmt_from _ = null
 
 pub stmt_back : (s : Stmt) → stmt_from (stmt_to s) ≡ s
 stmt_back (assign place value) = λ i. assign (place_back place i) (expr_back value i)
-stmt_back (return_with value) = λ i. return_with (expr_back value i)
+stmt_back (return_at at value) = λ i. return_at at (value_back value i)
+stmt_back null = refl
+stmt_back (update place op value) = λ i. update (place_back place i) (operator_back op i) (expr_back value i)
+stmt_back (adjust place by) = λ i. adjust (place_back place i) (adjustment_back by i)
 
 abbrev pub coded_Stmt : Coded Stmt
 coded_Stmt = coded_back stmt_to stmt_from stmt_back

@@ -1,6 +1,9 @@
 -- The syntax tree of a program: what it says, without where it lies in memory.
 use Rattle.std.specs.Prelude.{ℕ, List, Option}
+use Rattle.cilk_tree.specs.declared.adjustment.Adjustment.{Adjustment}
 use Rattle.cilk_tree.specs.declared.operator.BinOp.{BinOp}
+use Rattle.cilk_tree.specs.declared.return_type.ReturnType.{ReturnType}
+use Rattle.cilk_tree.specs.declared.un_op.UnOp.{UnOp}
 
 -- a name of the text, and the place of its first byte
 pub record Word : Type 0 where
@@ -12,6 +15,8 @@ pub data Expr : Type 0 where
   number : (n : ℕ) → Expr
   named : (name : Word) → Expr
   binary : (op : BinOp) (left right : Expr) → Expr
+  unary : (op : UnOp) (operand : Expr) → Expr
+  choose : (test first second : Expr) → Expr
 
 -- what an assignment writes to (C 1990, 6.3.16)
 pub record Place : Type 0 where
@@ -25,7 +30,14 @@ pub record Decl : Type 0 where
 -- a statement (C 1990, 6.6)
 pub data Stmt : Type 0 where
   assign : (place : Place) (value : Expr) → Stmt
-  return_with : (value : Expr) → Stmt
+  -- the place of the word `return`, and the value, if there is one
+  return_at : (at : ℕ) (value : Option Expr) → Stmt
+  -- a semicolon alone (C 1990, 6.6.3)
+  null : Stmt
+  -- an assignment with one of the operators that C writes before a `=` (C 1990, 6.3.16.2)
+  update : (place : Place) (op : BinOp) (value : Expr) → Stmt
+  -- `++` or `--`, before or behind the place (C 1990, 6.3.2.4, 6.3.3.1)
+  adjust : (place : Place) (by : Adjustment) → Stmt
 
 -- statements in order
 pub data Stmts : Type 0 where
@@ -36,9 +48,11 @@ pub data Stmts : Type 0 where
 pub data Block : Type 0 where
   block : (decls : List Decl) (stmts : Stmts) → Block
 
--- a Cilk procedure that returns an `int` and has no parameters (Cilk 5.4 manual, `cilk`)
+-- a Cilk procedure, and the names of its `int` parameters (Cilk 5.4 manual, `cilk`; C 1990, 6.7.1)
 pub record Proc : Type 0 where
+  pub returns : ReturnType
   pub name : Word
+  pub parameters : List Word
   pub body : Block
 
 -- a definition at the top level (C 1990, 6.7)

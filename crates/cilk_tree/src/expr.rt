@@ -1,4 +1,5 @@
 use crate::operator::BinOp;
+use crate::un_op::UnOp;
 use crate::word::Word;
 use std::marker::Model;
 
@@ -16,6 +17,9 @@ pub enum ExprNode {
     Number(u32),
     Name(Word),
     Binary(BinOp, Box<Expr>, Box<Expr>),
+    Unary(UnOp, Box<Expr>),
+    /// A test, the value where it is not 0, and the value where it is 0.
+    Choose(Box<Expr>, Box<Expr>, Box<Expr>),
 }
 
 impl Model for Expr {

@@ -1,6 +1,7 @@
 //! The syntax tree of a program, and its canonical text.
 #![tactic(auto)]
 
+mod adjustment;
 mod block;
 mod decl;
 mod expr;
@@ -11,6 +12,7 @@ mod place;
 mod print;
 mod procedure;
 mod program;
+mod return_type;
 mod same;
 mod stmt;
 #[cfg(test)]
@@ -18,6 +20,7 @@ mod tests;
 mod un_op;
 mod word;
 
+pub use adjustment::Adjustment;
 pub use block::Block;
 pub use decl::Decl;
 pub use expr::{Expr, ExprNode};
@@ -28,6 +31,7 @@ pub use place::Place;
 pub use print::canonical;
 pub use procedure::Proc;
 pub use program::Program;
+pub use return_type::ReturnType;
 pub use stmt::{Stmt, StmtNode};
 pub use un_op::UnOp;
 pub use word::Word;

@@ -1,10 +1,13 @@
 //! The canonical text of a program.
 
 ghost use Rattle.std.specs.Prelude.{◌≡◌, ◌++◌, IfOk, OnOk, codes, decimal, map, string_bytes};
+ghost use Rattle.cilk_tree.specs.Adjustments.{adjustment_mark};
+ghost use Rattle.cilk_tree.specs.OperatorMark.{mark_of};
 ghost use Rattle.cilk_tree.specs.ExprText.{expr_text, operand_text, stands_alone};
-ghost use Rattle.cilk_tree.specs.ProgramText.{block_lines, decl_line, deeper, initialiser_text, item_lines, opening_line, program_text, stmt_lines, text_of_lines};
-ghost use Rattle.cilk_tree.specs.Tree.{binary, procedure};
+ghost use Rattle.cilk_tree.specs.ProgramText.{block_lines, decl_line, deeper, initialiser_text, item_lines, opening_line, program_text, stmt_lines, text_of_lines, next_parameters_text, parameters_text, result_text};
+ghost use Rattle.cilk_tree.specs.Tree.{binary, choose, procedure, unary};
 
+use crate::adjustment::Adjustment;
 use crate::block::Block;
 use crate::decl::Decl;
 use crate::expr::{Expr, ExprNode};
@@ -15,6 +18,8 @@ use crate::place::Place;
 use crate::procedure::Proc;
 use crate::program::Program;
 use crate::stmt::{Stmt, StmtNode};
+use crate::un_op::UnOp;
+use crate::word::Word;
 use itoa::Buffer;
 use std::alloc::Global;
 
@@ -51,9 +56,36 @@ fn put_procedure(alloc: Global, out: &mut String, definition: &Proc) -> Result<(
 fn put_opening(out: &mut String, definition: &Proc) -> Result<(), Memory>
     ensures { OnOk result (string_bytes out.new ≡ string_bytes out.old ++ (opening_line definition.now ++ codes "\n")) }
 {
-    put(out, "cilk int ")?;
+    put(out, "cilk ")?;
+    put(out, definition.returns.word())?;
+    put(out, " ")?;
     put(out, definition.name.as_str())?;
-    put(out, "(void) {\n")
+    put(out, "(")?;
+    put_parameters(out, &definition.parameters)?;
+    put(out, ") {\n")
+}
+
+fn put_parameters(out: &mut String, parameters: &[Word]) -> Result<(), Memory>
+    ensures { OnOk result (string_bytes out.new ≡ string_bytes out.old ++ parameters_text parameters.now) }
+{
+    match parameters {
+        [] => put(out, "void"),
+        [first, others @ ..] => {
+            put(out, "int ")?;
+            put(out, first.as_str())?;
+            put_next_parameters(out, others)
+        }
+    }
+}
+
+fn put_next_parameters(out: &mut String, parameters: &[Word]) -> Result<(), Memory>
+    ensures { OnOk result (string_bytes out.new ≡ string_bytes out.old ++ next_parameters_text parameters.now) }
+{
+    for parameter in parameters {
+        put(out, ", int ")?;
+        put(out, parameter.as_str())?;
+    }
+    Ok(())
 }
 
 // The lines of a block, one level deeper than `indent`.
@@ -107,7 +139,10 @@ fn put_stmt(out: &mut String, indent: &str, stmt: &Stmt) -> Result<(), Memory>
     put(out, indent)?;
     match &stmt.node {
         StmtNode::Assign(place, value) => put_assignment(out, place, value),
-        StmtNode::Return(value) => put_return(out, value),
+        StmtNode::Return(_, value) => put_return(out, value),
+        StmtNode::Null => put(out, ";\n"),
+        StmtNode::Update(place, op, value) => put_update(out, place, *op, value),
+        StmtNode::Adjust(place, by) => put_adjustment(out, place, *by),
     }
 }
 
@@ -120,12 +155,43 @@ fn put_assignment(out: &mut String, place: &Place, value: &Expr) -> Result<(), M
     put(out, ";\n")
 }
 
-fn put_return(out: &mut String, value: &Expr) -> Result<(), Memory>
-    ensures { OnOk result (string_bytes out.new ≡ string_bytes out.old ++ (codes "return " ++ (expr_text value.now ++ codes ";\n"))) }
+fn put_return(out: &mut String, value: &Option<Expr>) -> Result<(), Memory>
+    ensures { OnOk result (string_bytes out.new ≡ string_bytes out.old ++ (codes "return" ++ (result_text value.now ++ codes ";\n"))) }
 {
-    put(out, "return ")?;
+    put(out, "return")?;
+    put_result(out, value)?;
+    put(out, ";\n")
+}
+
+fn put_update(out: &mut String, place: &Place, op: BinOp, value: &Expr) -> Result<(), Memory>
+    ensures { OnOk result (string_bytes out.new ≡ string_bytes out.old ++ (place.now.name.text ++ (codes " " ++ (mark_of op ++ (codes "= " ++ (expr_text value.now ++ codes ";\n")))))) }
+{
+    put(out, place.name.as_str())?;
+    put(out, " ")?;
+    put(out, op.mark())?;
+    put(out, "= ")?;
     put_expr(out, value)?;
     put(out, ";\n")
+}
+
+fn put_adjustment(out: &mut String, place: &Place, by: Adjustment) -> Result<(), Memory>
+    ensures { OnOk result (string_bytes out.new ≡ string_bytes out.old ++ (place.now.name.text ++ (adjustment_mark by ++ codes ";\n"))) }
+{
+    put(out, place.name.as_str())?;
+    put(out, by.mark())?;
+    put(out, ";\n")
+}
+
+fn put_result(out: &mut String, value: &Option<Expr>) -> Result<(), Memory>
+    ensures { OnOk result (string_bytes out.new ≡ string_bytes out.old ++ result_text value.now) }
+{
+    match value {
+        None => Ok(()),
+        Some(value) => {
+            put(out, " ")?;
+            put_expr(out, value)
+        }
+    }
 }
 
 #[cycle(put_expr)]
@@ -136,6 +202,8 @@ fn put_expr(out: &mut String, expr: &Expr) -> Result<(), Memory>
         ExprNode::Number(n) => put_number(out, *n),
         ExprNode::Name(name) => put(out, name.as_str()),
         ExprNode::Binary(op, left, right) => put_binary(out, *op, left, right),
+        ExprNode::Unary(op, operand) => put_unary(out, *op, operand),
+        ExprNode::Choose(test, first, second) => put_choice(out, test, first, second),
     }
 }
 
@@ -148,6 +216,25 @@ fn put_binary(out: &mut String, op: BinOp, left: &Expr, right: &Expr) -> Result<
     put(out, op.mark())?;
     put(out, " ")?;
     put_operand(out, right)
+}
+
+#[cycle(put_expr)]
+fn put_unary(out: &mut String, op: UnOp, operand: &Expr) -> Result<(), Memory>
+    ensures { OnOk result (string_bytes out.new ≡ string_bytes out.old ++ expr_text (unary op operand.now)) }
+{
+    put(out, op.mark())?;
+    put_operand(out, operand)
+}
+
+#[cycle(put_expr)]
+fn put_choice(out: &mut String, test: &Expr, first: &Expr, second: &Expr) -> Result<(), Memory>
+    ensures { OnOk result (string_bytes out.new ≡ string_bytes out.old ++ expr_text (choose test.now first.now second.now)) }
+{
+    put_operand(out, test)?;
+    put(out, " ? ")?;
+    put_operand(out, first)?;
+    put(out, " : ")?;
+    put_operand(out, second)
 }
 
 #[cycle(put_expr)]
@@ -169,7 +256,7 @@ fn is_alone(expr: &Expr) -> bool
 {
     match &expr.node {
         ExprNode::Number(_) | ExprNode::Name(_) => true,
-        ExprNode::Binary(_, _, _) => false,
+        ExprNode::Binary(..) | ExprNode::Unary(..) | ExprNode::Choose(..) => false,
     }
 }
 

@@ -1,11 +1,14 @@
 use crate::block::Block;
+use crate::return_type::ReturnType;
 use crate::word::Word;
 use std::marker::Model;
 
-/// A Cilk procedure that returns an `int` and has no parameters (Cilk 5.4 manual, `cilk`).
+/// A Cilk procedure, and the names of its `int` parameters (Cilk 5.4 manual, `cilk`; C 1990, 6.7.1).
 #[derive(Drop)]
 pub struct Proc {
+    pub returns: ReturnType,
     pub name: Word,
+    pub parameters: Vec<Word>,
     pub body: Block,
 }
 
@@ -17,5 +20,5 @@ impl Model for Proc {
 
     ghost coded = { coded_Proc };
 
-    ghost view = { λ p. record { name = p.name; body = p.body } };
+    ghost view = { λ p. record { returns = p.returns; name = p.name; parameters = p.parameters.items; body = p.body } };
 }

@@ -22,6 +22,20 @@ impl Word {
     }
 }
 
+fn same_words(words: &[Word], others: &[Word]) -> bool
+    ensures { IsTrue result ↔ (map bare_word words.now ≡ map bare_word others.now) }
+{
+    if words.len() != others.len() {
+        return false;
+    }
+    for (i, word) in words.iter().enumerate() {
+        if !word.same(&others[i]) {
+            return false;
+        }
+    }
+    true
+}
+
 impl Expr {
     /// Whether the expressions are equal, places aside.
     pub fn same(&self, other: &Expr) -> bool
@@ -32,6 +46,10 @@ impl Expr {
             (ExprNode::Name(a), ExprNode::Name(b)) => a.same(b),
             (ExprNode::Binary(op, a, c), ExprNode::Binary(po, b, d)) => {
                 op == po && a.same(b) && c.same(d)
+            }
+            (ExprNode::Unary(op, a), ExprNode::Unary(po, b)) => op == po && a.same(b),
+            (ExprNode::Choose(a, c, e), ExprNode::Choose(b, d, f)) => {
+                a.same(b) && c.same(d) && e.same(f)
             }
             _ => false,
         }
@@ -88,7 +106,12 @@ impl Stmt {
     {
         match (&self.node, &other.node) {
             (StmtNode::Assign(p, a), StmtNode::Assign(q, b)) => p.same(q) && a.same(b),
-            (StmtNode::Return(a), StmtNode::Return(b)) => a.same(b),
+            (StmtNode::Return(_, a), StmtNode::Return(_, b)) => same_values(a, b),
+            (StmtNode::Null, StmtNode::Null) => true,
+            (StmtNode::Update(p, op, a), StmtNode::Update(q, po, b)) => {
+                op == po && p.same(q) && a.same(b)
+            }
+            (StmtNode::Adjust(p, by), StmtNode::Adjust(q, yb)) => by == yb && p.same(q),
             _ => false,
         }
     }
@@ -123,7 +146,10 @@ impl Proc {
     pub fn same(&self, other: &Proc) -> bool
         ensures { IsTrue result ↔ (bare_proc self.now ≡ bare_proc other.now) }
     {
-        self.name.same(&other.name) && self.body.same(&other.body)
+        self.returns == other.returns
+            && self.name.same(&other.name)
+            && same_words(&self.parameters, &other.parameters)
+            && self.body.same(&other.body)
     }
 }
 

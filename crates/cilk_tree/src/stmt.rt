@@ -1,4 +1,6 @@
+use crate::adjustment::Adjustment;
 use crate::expr::Expr;
+use crate::operator::BinOp;
 use crate::place::Place;
 use std::marker::Model;
 
@@ -12,7 +14,12 @@ pub struct Stmt {
 #[derive(Drop)]
 pub enum StmtNode {
     Assign(Place, Expr),
-    Return(Expr),
+    /// The place of the word `return`, and the value, if there is one.
+    Return(u32, Option<Expr>),
+    Null,
+    /// The operator is one of those that C writes before a `=` (C 1990, 6.3.16.2).
+    Update(Place, BinOp, Expr),
+    Adjust(Place, Adjustment),
 }
 
 impl Model for Stmt {

@@ -1,3 +1,6 @@
+ghost use Rattle.std.specs.Prelude.{◌≡◌};
+ghost use Rattle.cilk_tree.specs.OperatorMark.{sign_of};
+
 /// An operator before one operand (C 1990, 6.3.3.3).
 #[derive(Clone, Copy, Debug, PartialEq, Eq)]
 pub enum UnOp {
@@ -5,4 +8,18 @@ pub enum UnOp {
     Plus,
     Not,
     Complement,
+}
+
+impl UnOp {
+    /// The operator as C writes it.
+    pub fn mark(self) -> &'static str
+        ensures { result.now ≡ sign_of self }
+    {
+        match self {
+            UnOp::Minus => "-",
+            UnOp::Plus => "+",
+            UnOp::Not => "!",
+            UnOp::Complement => "~",
+        }
+    }
 }

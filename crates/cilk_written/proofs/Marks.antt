@@ -1,12 +1,16 @@
 -- Behind which marks, and in front of which bytes, no longer mark can stand.
-use Rattle.std.proofs.Common.{◌≡◌, ℕ, ◌<◌, ◌≤◌, Bool, true, false, cond, ◌&&◌, ◌||◌, ◌==◌, leb, List, [], ◌∷◌, ◌++◌, length, get_or, refl, sym, ap, ◌∙◌, ◌⊎◌, inl, inr, arith}
+use Rattle.std.proofs.Common.{◌≡◌, ℕ, ◌<◌, ◌≤◌, Bool, true, false, ◌&&◌, ◌||◌, ◌==◌, leb, List, [], ◌∷◌, ◌++◌, length, get_or, refl, sym, ap, ◌∙◌, ◌⊎◌, inl, inr, arith}
+use Rattle.std.specs.Char.{is_ascii_digit}
 use Rattle.std.specs.List.{list_all}
 use Rattle.std.proofs.lemmas.Bool.{false≢true, leb-true}
+use Rattle.std.proofs.lemmas.Bool.Decides.{nat_tests}
 use Rattle.cilk_lex.specs.declared.mark.Mark.{Mark}
 use Rattle.cilk_lex.specs.declared.mark.Mark.TheVariants as sign
 use Rattle.cilk_lex.specs.Lexing.{EndsBefore, IsLongest}
-use Rattle.cilk_lex.specs.Spelling.{mark_spelling}
+use Rattle.cilk_lex.specs.Spelling.{mark_spelling, IsName, IsNumber, has_name_form, has_number_form}
 use Rattle.cilk_lex.proofs.Marks.{mark_form}
+use Rattle.cilk_lex.specs.Byte.{begins_name, continues_name, continues_number}
+use Rattle.cilk_lex.proofs.Forms.{constant_form}
 use Rattle.cilk_lex.proofs.Runs.{both}
 
 -- the bytes = < > & | + and -, which stand behind the first of a mark
@@ -124,3 +128,34 @@ longest_alone m rest closed = record {
             absurd (false≢true (sym closed ∙ ap opens_mark same ∙ opens))
       ];
 }
+
+-- ---- texts in front of which a mark ends
+
+-- not empty, and the first byte continues no mark
+abbrev pub BeginsNoMark : List ℕ → Type 0
+BeginsNoMark [] = ⊥
+BeginsNoMark (b ∷ bs) = continues_mark b ≡ false
+
+pub no_mark_on : (t rest : List ℕ) → BeginsNoMark t → EndsBefore continues_mark (t ++ rest)
+no_mark_on [] rest h = absurd h
+no_mark_on (b ∷ bs) rest h = h
+
+name_byte : (b : ℕ) → begins_name b ≡ true → continues_mark b ≡ false
+name_byte b h = grind (arith, nat_tests)
+
+digit_byte : (b : ℕ) → is_ascii_digit b ≡ true → continues_mark b ≡ false
+digit_byte b h = grind (arith, nat_tests)
+
+name_form_begins : (w : List ℕ) → has_name_form w ≡ true → BeginsNoMark w
+name_form_begins [] h = absurd (false≢true h)
+name_form_begins (b ∷ bs) h = name_byte b (both (begins_name b) (list_all continues_name bs) h).0
+
+number_form_begins : (w : List ℕ) → has_number_form w ≡ true → BeginsNoMark w
+number_form_begins [] h = absurd (false≢true h)
+number_form_begins (b ∷ bs) h = digit_byte b (both (is_ascii_digit b) (list_all continues_number bs) h).0
+
+pub name_begins : {w : List ℕ} → IsName w → BeginsNoMark w
+name_begins {w} n = name_form_begins w n.form
+
+pub number_begins : {w : List ℕ} {n : ℕ} → IsNumber w n → BeginsNoMark w
+number_begins {w} h = number_form_begins w (constant_form h)

@@ -1,12 +1,20 @@
 -- The lexemes of which a canonical text is made.
-use Rattle.std.specs.Prelude.{◌≤◌, List, [], ◌∷◌, ◌++◌, map, Option, Some, None}
+use Rattle.std.specs.Prelude.{◌≡◌, ◌≤◌, List, [], ◌∷◌, ◌++◌, map, codes, Option, Some, None}
 use Rattle.cilk_lex.specs.Lexeme.{Lexeme, Piece, word, name, number, mark}
-use Rattle.cilk_lex.specs.Spelling.{IsName, int_max}
+use Rattle.cilk_lex.specs.Spelling.{IsName, int_max, mark_spelling}
+use Rattle.cilk_lex.specs.declared.keyword.Keyword.{Keyword}
 use Rattle.cilk_lex.specs.declared.keyword.Keyword.TheVariants as key
 use Rattle.cilk_lex.specs.declared.mark.Mark.{Mark}
 use Rattle.cilk_lex.specs.declared.mark.Mark.TheVariants as sign
+use Rattle.cilk_tree.specs.declared.adjustment.Adjustment.{Adjustment}
+use Rattle.cilk_tree.specs.declared.adjustment.Adjustment.TheVariants as by
 use Rattle.cilk_tree.specs.declared.operator.BinOp.{BinOp}
 use Rattle.cilk_tree.specs.declared.operator.BinOp.TheVariants as ops
+use Rattle.cilk_tree.specs.declared.return_type.ReturnType.{ReturnType}
+use Rattle.cilk_tree.specs.declared.return_type.ReturnType.TheVariants as returns
+use Rattle.cilk_tree.specs.OperatorMark.{mark_of as operator_text}
+use Rattle.cilk_tree.specs.declared.un_op.UnOp.{UnOp}
+use Rattle.cilk_tree.specs.declared.un_op.UnOp.TheVariants as signs
 use Rattle.cilk_tree.specs.Tree as tree
 
 -- the lexemes of some pieces, their places left aside
@@ -34,17 +42,49 @@ mark_of ops.BitOr = sign.Bar
 mark_of ops.And = sign.And
 mark_of ops.Or = sign.Or
 
+-- the mark of an assignment with an operator, where C has one
+abbrev pub update_mark : BinOp → Mark
+update_mark ops.Multiply = sign.MultiplyAssign
+update_mark ops.Divide = sign.DivideAssign
+update_mark ops.Remainder = sign.RemainderAssign
+update_mark ops.Add = sign.AddAssign
+update_mark ops.Subtract = sign.SubtractAssign
+update_mark ops.ShiftLeft = sign.ShiftLeftAssign
+update_mark ops.ShiftRight = sign.ShiftRightAssign
+update_mark ops.BitAnd = sign.BitAndAssign
+update_mark ops.BitXor = sign.BitXorAssign
+update_mark ops.BitOr = sign.BitOrAssign
+update_mark _ = sign.Assign
+
+abbrev pub adjust_mark : Adjustment → Mark
+adjust_mark by.Increment = sign.Increment
+adjust_mark by.Decrement = sign.Decrement
+
+-- the mark of an operator before one operand
+abbrev pub sign_mark : UnOp → Mark
+sign_mark signs.Minus = sign.Minus
+sign_mark signs.Plus = sign.Plus
+sign_mark signs.Not = sign.Exclamation
+sign_mark signs.Complement = sign.Tilde
+
+-- the lexemes of an operand, in parentheses unless it is a number or a name
+abbrev pub in_brackets : List Lexeme → List Lexeme
+in_brackets ls = mark sign.OpenParenthesis ∷ (ls ++ mark sign.CloseParenthesis ∷ [])
+
 abbrev mutual
   pub expr_lexemes : tree.Expr → List Lexeme
   expr_lexemes (tree.number n) = number n ∷ []
   expr_lexemes (tree.named x) = name x.text ∷ []
   expr_lexemes (tree.binary o a b) = operand_lexemes a ++ mark (mark_of o) ∷ operand_lexemes b
+  expr_lexemes (tree.unary o a) = mark (sign_mark o) ∷ operand_lexemes a
+  expr_lexemes (tree.choose c a b) = operand_lexemes c ++ mark sign.Question ∷ (operand_lexemes a ++ mark sign.Colon ∷ operand_lexemes b)
 
-  -- an operand, in parentheses unless it is a number or a name
   pub operand_lexemes : tree.Expr → List Lexeme
   operand_lexemes (tree.number n) = number n ∷ []
   operand_lexemes (tree.named x) = name x.text ∷ []
-  operand_lexemes (tree.binary o a b) = mark sign.OpenParenthesis ∷ ((operand_lexemes a ++ mark (mark_of o) ∷ operand_lexemes b) ++ mark sign.CloseParenthesis ∷ [])
+  operand_lexemes (tree.binary o a b) = in_brackets (operand_lexemes a ++ mark (mark_of o) ∷ operand_lexemes b)
+  operand_lexemes (tree.unary o a) = in_brackets (mark (sign_mark o) ∷ operand_lexemes a)
+  operand_lexemes (tree.choose c a b) = in_brackets (operand_lexemes c ++ mark sign.Question ∷ (operand_lexemes a ++ mark sign.Colon ∷ operand_lexemes b))
 
 abbrev pub value_lexemes : Option tree.Expr → List Lexeme
 value_lexemes None = []
@@ -57,9 +97,17 @@ abbrev pub decls_lexemes : List tree.Decl → List Lexeme
 decls_lexemes [] = []
 decls_lexemes (d ∷ ds) = decl_lexemes d ++ decls_lexemes ds
 
+-- the value that is returned, if there is one
+abbrev pub result_lexemes : Option tree.Expr → List Lexeme
+result_lexemes None = []
+result_lexemes (Some e) = expr_lexemes e
+
 abbrev pub stmt_lexemes : tree.Stmt → List Lexeme
 stmt_lexemes (tree.assign place e) = name place.name.text ∷ mark sign.Assign ∷ (expr_lexemes e ++ mark sign.Semicolon ∷ [])
-stmt_lexemes (tree.return_with e) = word key.Return ∷ (expr_lexemes e ++ mark sign.Semicolon ∷ [])
+stmt_lexemes (tree.return_at at value) = word key.Return ∷ (result_lexemes value ++ mark sign.Semicolon ∷ [])
+stmt_lexemes tree.null = mark sign.Semicolon ∷ []
+stmt_lexemes (tree.update place o e) = name place.name.text ∷ mark (update_mark o) ∷ (expr_lexemes e ++ mark sign.Semicolon ∷ [])
+stmt_lexemes (tree.adjust place a) = name place.name.text ∷ mark (adjust_mark a) ∷ mark sign.Semicolon ∷ []
 
 abbrev pub stmts_lexemes : tree.Stmts → List Lexeme
 stmts_lexemes tree.none = []
@@ -68,9 +116,24 @@ stmts_lexemes (tree.also s ss) = stmt_lexemes s ++ stmts_lexemes ss
 abbrev pub block_lexemes : tree.Block → List Lexeme
 block_lexemes (tree.block ds ss) = mark sign.OpenBrace ∷ (decls_lexemes ds ++ (stmts_lexemes ss ++ mark sign.CloseBrace ∷ []))
 
+-- the word for what a procedure returns
+abbrev pub returns_word : ReturnType → Keyword
+returns_word returns.Int = key.Int
+returns_word returns.Void = key.Void
+
+-- the parameters behind the first one
+abbrev pub next_parameters_lexemes : List tree.Word → List Lexeme
+next_parameters_lexemes [] = []
+next_parameters_lexemes (x ∷ xs) = mark sign.Comma ∷ word key.Int ∷ name x.text ∷ next_parameters_lexemes xs
+
+-- the parameters between the parentheses
+abbrev pub parameters_lexemes : List tree.Word → List Lexeme
+parameters_lexemes [] = word key.Void ∷ []
+parameters_lexemes (x ∷ xs) = word key.Int ∷ name x.text ∷ next_parameters_lexemes xs
+
 abbrev pub item_lexemes : tree.Item → List Lexeme
 item_lexemes (tree.procedure p) =
-    word key.Cilk ∷ word key.Int ∷ name p.name.text ∷ mark sign.OpenParenthesis ∷ word key.Void ∷ mark sign.CloseParenthesis ∷ block_lexemes p.body
+    word key.Cilk ∷ word (returns_word p.returns) ∷ name p.name.text ∷ mark sign.OpenParenthesis ∷ (parameters_lexemes p.parameters ++ mark sign.CloseParenthesis ∷ block_lexemes p.body)
 
 abbrev pub items_lexemes : List tree.Item → List Lexeme
 items_lexemes [] = []
@@ -79,12 +142,18 @@ items_lexemes (i ∷ is) = item_lexemes i ++ items_lexemes is
 abbrev pub program_lexemes : tree.Program → List Lexeme
 program_lexemes p = items_lexemes p.items
 
--- Each name of the tree can be written as a name, and each number as a number.
+-- the operator and `=` are the text of one mark
+abbrev pub HasUpdateMark : BinOp → Type 0
+HasUpdateMark o = operator_text o ++ codes "=" ≡ mark_spelling (update_mark o)
+
+-- Each name of the tree can be written as a name, each number as a number, and each operator before a `=` as a mark.
 
 abbrev pub CanWriteExpr : tree.Expr → Type 0
 CanWriteExpr (tree.number n) = n ≤ int_max
 CanWriteExpr (tree.named x) = IsName x.text
 CanWriteExpr (tree.binary o a b) = CanWriteExpr a × CanWriteExpr b
+CanWriteExpr (tree.unary o a) = CanWriteExpr a
+CanWriteExpr (tree.choose c a b) = CanWriteExpr c × CanWriteExpr a × CanWriteExpr b
 
 abbrev pub CanWriteValue : Option tree.Expr → Type 0
 CanWriteValue None = Unit {0}
@@ -96,7 +165,10 @@ CanWriteDecls (d ∷ ds) = IsName d.name.text × CanWriteValue d.value × CanWri
 
 abbrev pub CanWriteStmt : tree.Stmt → Type 0
 CanWriteStmt (tree.assign place e) = IsName place.name.text × CanWriteExpr e
-CanWriteStmt (tree.return_with e) = CanWriteExpr e
+CanWriteStmt (tree.return_at at value) = CanWriteValue value
+CanWriteStmt tree.null = Unit {0}
+CanWriteStmt (tree.update place o e) = IsName place.name.text × HasUpdateMark o × CanWriteExpr e
+CanWriteStmt (tree.adjust place a) = IsName place.name.text
 
 abbrev pub CanWriteStmts : tree.Stmts → Type 0
 CanWriteStmts tree.none = Unit {0}
@@ -105,8 +177,12 @@ CanWriteStmts (tree.also s ss) = CanWriteStmt s × CanWriteStmts ss
 abbrev pub CanWriteBlock : tree.Block → Type 0
 CanWriteBlock (tree.block ds ss) = CanWriteDecls ds × CanWriteStmts ss
 
+abbrev pub CanWriteWords : List tree.Word → Type 0
+CanWriteWords [] = Unit {0}
+CanWriteWords (x ∷ xs) = IsName x.text × CanWriteWords xs
+
 abbrev pub CanWriteItem : tree.Item → Type 0
-CanWriteItem (tree.procedure p) = IsName p.name.text × CanWriteBlock p.body
+CanWriteItem (tree.procedure p) = IsName p.name.text × CanWriteWords p.parameters × CanWriteBlock p.body
 
 abbrev pub CanWriteItems : List tree.Item → Type 0
 CanWriteItems [] = Unit {0}

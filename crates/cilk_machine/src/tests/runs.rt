@@ -5,7 +5,8 @@ use cilk_check::check;
 use cilk_eval::Trap;
 use cilk_load::{Loaded, load};
 use cilk_tree::{
-    BinOp, Block, Decl, Expr, ExprNode, Item, ItemNode, Place, Proc, Program, Stmt, StmtNode, Word,
+    BinOp, Block, Decl, Expr, ExprNode, Item, ItemNode, Place, Proc, Program, ReturnType, Stmt,
+    StmtNode, Word,
 };
 use std::alloc::Global;
 use std::test::Fail;
@@ -44,7 +45,9 @@ fn main_of(alloc: Global, decls: Vec<Decl>, stmts: Vec<Stmt>) -> Result<Loaded, 
     let mut items = Vec::new(alloc);
     items.push(Item {
         node: ItemNode::Procedure(Proc {
+            returns: ReturnType::Int,
             name: word(alloc, "main")?,
+            parameters: Vec::new(alloc),
             body: Block { decls, stmts },
         }),
     })?;
@@ -55,7 +58,7 @@ fn main_of(alloc: Global, decls: Vec<Decl>, stmts: Vec<Stmt>) -> Result<Loaded, 
 fn returning(alloc: Global, value: Expr) -> Result<Loaded, Fail> {
     let mut stmts = Vec::new(alloc);
     stmts.push(Stmt {
-        node: StmtNode::Return(value),
+        node: StmtNode::Return(0, Some(value)),
     })?;
     main_of(alloc, Vec::new(alloc), stmts)
 }
@@ -78,7 +81,7 @@ fn sum(alloc: Global) -> Result<Loaded, Fail> {
         node: StmtNode::Assign(place, value),
     })?;
     stmts.push(Stmt {
-        node: StmtNode::Return(name(alloc, "b")?),
+        node: StmtNode::Return(0, Some(name(alloc, "b")?)),
     })?;
     main_of(alloc, decls, stmts)
 }

@@ -3,10 +3,16 @@ use Rattle.cilk_expr.specs.Reading.{expr_of, more_of}
 use Rattle.cilk_expr.proofs.reading.+expr.Given as goal
 
 abbrev pub decreases-expr : goal.decreases-expr
-decreases-expr l = 2 * length l.cursor.now.pieces + 1
+decreases-expr l = 3 * length l.cursor.now.pieces + 2
 
 abbrev pub decreases-operand : goal.decreases-operand
-decreases-operand l = 2 * length l.cursor.now.pieces
+decreases-operand l = 3 * length l.cursor.now.pieces + 1
+
+abbrev pub decreases-parenthesised : goal.decreases-parenthesised
+decreases-parenthesised l = 3 * length l.cursor.now.pieces
+
+abbrev pub decreases-prefixed : goal.decreases-prefixed
+decreases-prefixed l = 3 * length l.cursor.now.pieces
 
 abbrev pub invariant-expr-each : goal.invariant-expr-each
 invariant-expr-each l = record {
@@ -16,3 +22,6 @@ invariant-expr-each l = record {
 
 abbrev pub decreases-expr-each : goal.decreases-expr-each
 decreases-expr-each l = length l.cursor.pieces
+
+abbrev pub decreases-choice : goal.decreases-choice
+decreases-choice l = 3 * length l.cursor.now.pieces + 3

@@ -1,4 +1,4 @@
-use Rattle.std.proofs.Common.{◌≡◌, ◌+◌, ◌++◌, drop, length, vec_len}
+use Rattle.std.proofs.Common.{◌≡◌, ◌+◌, ◌++◌, drop, vec_len}
 use Rattle.cilk_model.specs.Count.{count_items}
 use Rattle.cilk_load.specs.Pass.{items_nodes, items_bodies, AllAreSmall}
 use Rattle.cilk_load.proofs.building.put_items.Given as goal

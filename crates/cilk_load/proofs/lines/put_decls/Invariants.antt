@@ -1,4 +1,4 @@
-use Rattle.std.proofs.Common.{◌≡◌, ◌+◌, ◌++◌, drop, length, vec_len}
+use Rattle.std.proofs.Common.{◌≡◌, ◌+◌, ◌++◌, drop, vec_len}
 use Rattle.cilk_model.specs.Count.{count_decls}
 use Rattle.cilk_model.specs.Lines.{decls_action_lines}
 use Rattle.cilk_load.proofs.lines.put_decls.Given as goal

@@ -1,4 +1,4 @@
-use Rattle.std.proofs.Common.{◌≡◌, [], length, ap, sym, ◌∙◌, arith}
+use Rattle.std.proofs.Common.{[], length, ap, ◌∙◌, arith}
 use Rattle.cilk_tree.specs.Tree.{Block, Proc}
 use Rattle.cilk_tree.specs.ProgramText.{block_lines}
 use Rattle.cilk_load.proofs.Heights.{length-procedure, procedure-lines}

@@ -1,12 +1,11 @@
-use Rattle.std.proofs.Common.{◌≡◌, ℕ, ◌+◌, ◌*◌, ◌≤◌, List, [], ◌++◌, length, codes, IsSome, refl, sym, ap, subst, ◌∙◌, arith, vec_len}
-use Rattle.std.specs.Prelude.{bytes_eq}
+use Rattle.std.proofs.Common.{◌≡◌, ◌*◌, ◌≤◌, List, length, IsSome, sym, ap, subst, ◌∙◌, arith}
 use Rattle.std.specs.List.{position}
 use Rattle.cilk_tree.specs.Tree.{Item, Program}
 use Rattle.cilk_tree.specs.ProgramText.{items_lines}
 use Rattle.cilk_model.specs.Count.{count_items, count_program}
 use Rattle.cilk_model.specs.Lines.{items_action_lines}
 use Rattle.cilk_load.specs.declared.body.Body.{Body}
-use Rattle.cilk_load.specs.declared.node.Node.{Node}
+use Rattle.cilk_load.specs.Bodies.{starts_here}
 use Rattle.cilk_load.specs.Pass.{AllAreSmall, items_nodes, items_bodies}
 use Rattle.cilk_load.proofs.WellFormed.{well_formed-small, few_lines, length_le-count, main_there}
 use Rattle.cilk_load.proofs.TablesMade.{tabled, only_nodes, only_bodies, length-items_bodies}
@@ -33,7 +32,7 @@ pub place_of_main-main-requires-clause-there : goal.place_of_main-main-requires-
 place_of_main-main-requires-clause-there c =
     let is_items : c.deref.result.now ≡ c.args.checked.items = c.deref.ensures.value ∙ ap (λ (p : Program). p.items) (c.program.view_is ∙ c.program-program.ensures.value) in
     let is_bodies : c.put_items.new.bodies.items ≡ items_bodies 1 c.args.checked.items = only_bodies _ _ _ _ c.args.checked.items c.new-bodies.ensures.items c.new-nodes.ensures.len is_items c.in_ok-put_items.ensures.bodies in
-    subst (λ (bodies : List Body). IsSome (position (λ (b : Body). bytes_eq b.name (codes "main")) bodies)) (sym (c.deref-3.ensures.value ∙ is_bodies)) (main_there c.args.checked c.program-program.ensures.well_formed 1)
+    subst (λ (bodies : List Body). IsSome (position starts_here bodies)) (sym (c.deref-3.ensures.value ∙ is_bodies)) (main_there c.args.checked c.program-program.ensures.well_formed 1)
 
 pub place_of_main-main-requires-clause-small : goal.place_of_main-main-requires-clause-small
 place_of_main-main-requires-clause-small c =
@@ -49,7 +48,7 @@ invariant_of-result c =
     let is_nodes : c.put_items.new.nodes.items ≡ items_nodes 0 1 c.args.checked.items = only_nodes _ _ _ _ _ c.args.checked.items c.new-nodes.ensures.items c.new-bodies.ensures.len c.new-nodes.ensures.len is_items c.in_ok-put_items.ensures.nodes in
     let is_bodies : c.put_items.new.bodies.items ≡ items_bodies 1 c.args.checked.items = only_bodies _ _ _ _ c.args.checked.items c.new-bodies.ensures.items c.new-nodes.ensures.len is_items c.in_ok-put_items.ensures.bodies in
     let is_lines : c.in_ok-lines.lines.items ≡ items_action_lines 1 c.args.checked.items = c.in_ok-lines.ensures.lines ∙ ap (items_action_lines 1) is_items' in
-    let is_main = ap (λ (bodies : List Body). position (λ (b : Body). bytes_eq b.name (codes "main")) bodies) (sym c.deref-3.ensures.value) ∙ c.place_of_main-main.ensures in
+    let is_main = ap (λ (bodies : List Body). position starts_here bodies) (sym c.deref-3.ensures.value) ∙ c.place_of_main-main.ensures in
     let counts = ap count_items is_items in
     let counts' = ap count_items is_items' in
     let node_count : length c.put_items.new.nodes.items ≡ count_items c.args.checked.items = omega (arith, c.put_items.new.nodes.ok.0, c.in_ok-put_items.ensures.len, c.new-nodes.ensures.len, counts) in

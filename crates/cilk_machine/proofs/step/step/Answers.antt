@@ -11,7 +11,7 @@ use Rattle.cilk_machine.specs.declared.outcome.Outcome.TheVariants.{Finished, Tr
 use Rattle.cilk_machine.specs.declared.event.Event.TheVariants as did
 use Rattle.cilk_machine.specs.Steps.{advanced, with_frame}
 use Rattle.cilk_machine.proofs.Acts.{Before, before}
-use Rattle.cilk_machine.proofs.Nodes.{IsYetToCome, not_to_come, steps_as, assign_within, return_within, assign_cell, assign_next, assign_traps, assign_goes, return_traps, return_ends, close_ends}
+use Rattle.cilk_machine.proofs.Nodes.{IsYetToCome, not_to_come, steps_as, assign_within, return_within, assign_cell, assign_next, assign_traps, assign_goes, update_within, update_cell, update_next, update_traps, update_goes, null_next, null_goes, return_traps, return_ends, close_ends, nothing_ends}
 use Rattle.cilk_machine.proofs.step.step.Goals as goal
 
 -- the node of the top activation, by the frame's depth
@@ -81,16 +81,59 @@ returns-in-Close c = λ workers choices.
     steps_as (with_frame c.args.loaded.now workers choices c.args.frame) _ _ _ _ _ _ r.hand r.outcome (r.event ∙ ap (λ k. did.Returned [] k) n)
     (close_ends c.args.loaded.now workers choices c.args.frame c.requires.holds (before c.args.loaded.now c.args.frame c.requires.well_formed c.requires.holds) c.in-Some.node.now (found_at c.args.loaded.now c.args.frame c.depth.result c.node-n.result (Some c.in-Some.node.now) c.depth.ensures.value c.node-n.ensures c.in-Some.ensures.value) c.in-Close.is)
 
-pub unreachable-requires-in-AssignBy : goal.unreachable-requires-in-AssignBy
-unreachable-requires-in-AssignBy c =
+pub updated-requires-clause-within : goal.updated-requires-clause-within
+updated-requires-clause-within c =
+    update_within c.args.loaded.now 0 0 c.args.frame c.requires.holds (before c.args.loaded.now c.args.frame c.requires.well_formed c.requires.holds) c.in-Some.node.now (found_at c.args.loaded.now c.args.frame c.depth.result c.node-n.result (Some c.in-Some.node.now) c.depth.ensures.value c.node-n.ensures c.in-Some.ensures.value) c.in-AssignBy.op c.in-AssignBy.slot c.in-AssignBy.code c.in-AssignBy.is
+
+pub updated-requires-clause-there : goal.updated-requires-clause-there
+updated-requires-clause-there c =
+    update_cell c.args.loaded.now 0 0 c.args.frame c.requires.holds (before c.args.loaded.now c.args.frame c.requires.well_formed c.requires.holds) c.in-Some.node.now (found_at c.args.loaded.now c.args.frame c.depth.result c.node-n.result (Some c.in-Some.node.now) c.depth.ensures.value c.node-n.ensures c.in-Some.ensures.value) c.in-AssignBy.op c.in-AssignBy.slot c.in-AssignBy.code c.in-AssignBy.is
+
+pub unreachable-requires-in-None-next-2 : goal.unreachable-requires-in-None-next-2
+unreachable-requires-in-None-next-2 c =
+    update_next c.args.loaded.now 0 0 c.args.frame c.requires.holds (before c.args.loaded.now c.args.frame c.requires.well_formed c.requires.holds) c.in-Some.node.now (found_at c.args.loaded.now c.args.frame c.depth.result c.node-n.result (Some c.in-Some.node.now) c.depth.ensures.value c.node-n.ensures c.in-Some.ensures.value) c.in-AssignBy.op c.in-AssignBy.slot c.in-AssignBy.code c.in-AssignBy.is c.in-None-next-2.is
+
+pub advance-requires-in-Some-next-2 : goal.advance-requires-in-Some-next-2
+advance-requires-in-Some-next-2 c =
+    update_cell c.args.loaded.now 0 0 c.args.frame c.requires.holds (before c.args.loaded.now c.args.frame c.requires.well_formed c.requires.holds) c.in-Some.node.now (found_at c.args.loaded.now c.args.frame c.depth.result c.node-n.result (Some c.in-Some.node.now) c.depth.ensures.value c.node-n.ensures c.in-Some.ensures.value) c.in-AssignBy.op c.in-AssignBy.slot c.in-AssignBy.code c.in-AssignBy.is
+
+pub unreachable-requires-in-None-next-3 : goal.unreachable-requires-in-None-next-3
+unreachable-requires-in-None-next-3 c =
+    null_next c.args.loaded.now 0 0 c.args.frame c.requires.holds (before c.args.loaded.now c.args.frame c.requires.well_formed c.requires.holds) c.in-Some.node.now (found_at c.args.loaded.now c.args.frame c.depth.result c.node-n.result (Some c.in-Some.node.now) c.depth.ensures.value c.node-n.ensures c.in-Some.ensures.value) c.in-Null.is c.in-None-next-3.is
+
+pub unreachable-requires-in-Spawn : goal.unreachable-requires-in-Spawn
+unreachable-requires-in-Spawn c =
     not_to_come c.args.loaded.now 0 0 c.args.frame c.requires.holds (before c.args.loaded.now c.args.frame c.requires.well_formed c.requires.holds) c.in-Some.node.now (found_at c.args.loaded.now c.args.frame c.depth.result c.node-n.result (Some c.in-Some.node.now) c.depth.ensures.value c.node-n.ensures c.in-Some.ensures.value)
-    (elim c.in-AssignBy.is [
-      | inl assigns ↦ subst IsYetToCome (sym assigns.3) tt
-      | inr others ↦ elim others [
-        | inl is_null ↦ subst IsYetToCome (sym is_null) tt
-        | inr others ↦ elim others [
-          | inl returns ↦ subst IsYetToCome (sym returns) tt
-          | inr others ↦ elim others [ inl spawns ↦ subst IsYetToCome (sym spawns.3) tt | inr syncs ↦ subst IsYetToCome (sym syncs) tt ]
-        ]
-      ]
+    (elim c.in-Spawn.is [
+      | inl spawns ↦ subst IsYetToCome (sym spawns.3) tt
+      | inr syncs ↦ subst IsYetToCome (sym syncs) tt
     ])
+
+pub returns-in-Err-updated : goal.returns-in-Err-updated
+returns-in-Err-updated c = λ workers choices.
+    let n = at_top c.args.frame c.depth.result c.node-n.result c.depth.ensures.value c.node-n.ensures in
+    let r = c.trapped-in-Err-updated.ensures in
+    steps_as (with_frame c.args.loaded.now workers choices c.args.frame) _ _ _ _ _ _ r.hand (r.outcome ∙ ap (λ k. Trapped (Value c.in-Err-updated.trap) [] k) n) (r.event ∙ ap (λ k. did.Trapped (Value c.in-Err-updated.trap) [] k) n)
+    (update_traps c.args.loaded.now workers choices c.args.frame c.requires.holds (before c.args.loaded.now c.args.frame c.requires.well_formed c.requires.holds) c.in-Some.node.now (found_at c.args.loaded.now c.args.frame c.depth.result c.node-n.result (Some c.in-Some.node.now) c.depth.ensures.value c.node-n.ensures c.in-Some.ensures.value) c.in-AssignBy.op c.in-AssignBy.slot c.in-AssignBy.code c.in-Err-updated.trap c.in-AssignBy.is c.in-Err-updated.ensures)
+
+pub returns-in-Some-next-2 : goal.returns-in-Some-next-2
+returns-in-Some-next-2 c = λ workers choices.
+    let n = at_top c.args.frame c.depth.result c.node-n.result c.depth.ensures.value c.node-n.ensures in
+    let r = c.acted-in-Some-next-2.ensures in
+    let z : to_z w32 (of_z w32 c.in-Ok-updated.value) ≡ c.in-Ok-updated.value = grind (arith, to_z-of_z) in
+    steps_as (with_frame c.args.loaded.now workers choices c.args.frame) _ _ _ _ _ _ (r.hand ∙ ap Some (c.advance-in-Some-next-2.ensures ∙ ap (λ x. advanced c.in-AssignBy.slot.offset x c.in-Some-next-2.next c.args.frame) z)) r.outcome (r.event ∙ ap (λ k. did.Acted [] k) n)
+    (update_goes c.args.loaded.now workers choices c.args.frame c.requires.holds (before c.args.loaded.now c.args.frame c.requires.well_formed c.requires.holds) c.in-Some.node.now (found_at c.args.loaded.now c.args.frame c.depth.result c.node-n.result (Some c.in-Some.node.now) c.depth.ensures.value c.node-n.ensures c.in-Some.ensures.value) c.in-AssignBy.op c.in-AssignBy.slot c.in-AssignBy.code c.in-Ok-updated.value c.in-Some-next-2.next c.in-AssignBy.is c.in-Some-next-2.is c.in-Ok-updated.ensures)
+
+pub returns-in-Some-next-3 : goal.returns-in-Some-next-3
+returns-in-Some-next-3 c = λ workers choices.
+    let n = at_top c.args.frame c.depth.result c.node-n.result c.depth.ensures.value c.node-n.ensures in
+    let r = c.acted-in-Some-next-3.ensures in
+    steps_as (with_frame c.args.loaded.now workers choices c.args.frame) _ _ _ _ _ _ (r.hand ∙ ap Some c.go_on.ensures) r.outcome (r.event ∙ ap (λ k. did.Acted [] k) n)
+    (null_goes c.args.loaded.now workers choices c.args.frame c.requires.holds (before c.args.loaded.now c.args.frame c.requires.well_formed c.requires.holds) c.in-Some.node.now (found_at c.args.loaded.now c.args.frame c.depth.result c.node-n.result (Some c.in-Some.node.now) c.depth.ensures.value c.node-n.ensures c.in-Some.ensures.value) c.in-Some-next-3.next c.in-Null.is c.in-Some-next-3.is)
+
+pub returns-in-ReturnNothing : goal.returns-in-ReturnNothing
+returns-in-ReturnNothing c = λ workers choices.
+    let n = at_top c.args.frame c.depth.result c.node-n.result c.depth.ensures.value c.node-n.ensures in
+    let r = c.returned-in-ReturnNothing.ensures in
+    steps_as (with_frame c.args.loaded.now workers choices c.args.frame) _ _ _ _ _ _ r.hand r.outcome (r.event ∙ ap (λ k. did.Returned [] k) n)
+    (nothing_ends c.args.loaded.now workers choices c.args.frame c.requires.holds (before c.args.loaded.now c.args.frame c.requires.well_formed c.requires.holds) c.in-Some.node.now (found_at c.args.loaded.now c.args.frame c.depth.result c.node-n.result (Some c.in-Some.node.now) c.depth.ensures.value c.node-n.ensures c.in-Some.ensures.value) c.in-ReturnNothing.is)

@@ -1,0 +1,9 @@
+pub mod Lists
+pub mod Trees
+pub mod Grown
+pub mod Records
+pub mod Counts
+pub mod Paths
+pub mod Found
+pub mod Instances
+pub mod Children

@@ -1,0 +1,14 @@
+use Rattle.std.proofs.Common.{refl}
+use Rattle.cilk_spawn.proofs.Grown.{ids_child, ids_ended}
+use Rattle.cilk_spawn.proofs.Children.{ids_delivered, ids_taken, ids_parked}
+use Rattle.cilk_spawn.proofs.laws.ids_change.Goals as goal
+
+pub returns : goal.returns
+returns c = record {
+  start = refl;
+  child = ids_child;
+  delivery = ids_delivered;
+  taking = ids_taken;
+  end = ids_ended;
+  parking = ids_parked;
+}

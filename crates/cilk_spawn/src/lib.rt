@@ -1,0 +1,34 @@
+//! The tree of instances: who spawned whom, which values wait for a parent, and which frames are
+//! parked (Cilk 5.4 manual, `spawn`, `sync`).
+//!
+//! A frame that was parked is the tree's, until it is taken out again. The compiler refuses this
+//! function, since a frame that was parked is the caller's no more:
+//!
+//! ```text
+//! fn parked(tree: &mut Tree, frame: Frame) -> u32 {
+//!     tree.park(frame);
+//!     frame.depth()
+//! }
+//! ```
+#![tactic(auto)]
+
+mod delivery;
+mod ending;
+mod laws;
+mod path;
+mod receiver;
+mod record;
+#[cfg(test)]
+mod tests;
+mod tree;
+
+pub use cilk_frame::{Frame, Id, Memory};
+pub use delivery::Delivery;
+pub use ending::Ending;
+pub use laws::{
+    ids_change, instances_are_those_that_live, instances_change, paths_are_names, paths_stay,
+    trees_stay_trees,
+};
+pub use path::Path;
+pub use receiver::Receiver;
+pub use tree::Tree;
