@@ -10,6 +10,9 @@
 //!     frame.depth()
 //! }
 //! ```
+//!
+//! An instance has one way to end so far, so a body of `Tree::end` that always puts down
+//! `Ending::Returned` is right.
 #![tactic(auto)]
 
 mod delivery;
