@@ -165,6 +165,36 @@ fn runs_a_program(rt: HostRuntime) {
             "trapped Overflow in / at 2, line 3\n",
         ),
         (
+            "cilk int main(void) { int a = 10; a -= 5 - 2; a *= a - 4; a--; return a; }",
+            9,
+            0,
+            "main returned 20\n",
+        ),
+        (
+            "cilk int main(void) { int a = 2147483647; a += 1; }",
+            9,
+            3,
+            "trapped Overflow in / at 2, line 3\n",
+        ),
+        (
+            "cilk int main(void) { int a = -2147483647 - 1; --a; }",
+            9,
+            3,
+            "trapped Overflow in / at 2, line 3\n",
+        ),
+        (
+            "cilk int main(void) { int a = 65536; a *= a; }",
+            9,
+            3,
+            "trapped Overflow in / at 2, line 3\n",
+        ),
+        (
+            "cilk int main(void) { int a = 32; a <<= a; }",
+            9,
+            3,
+            "trapped Shift in / at 2, line 3\n",
+        ),
+        (
             "cilk int main(void) { int a; ; a %= a; }",
             9,
             3,
