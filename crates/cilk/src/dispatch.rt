@@ -1,8 +1,8 @@
 ghost use Rattle.std.specs.Prelude.{◌≡◌, ◌≢◌, ◌⊎◌, ◌↔◌, true, false, codes};
 ghost use Rattle.std.specs.IoError.{error_kind};
-ghost use Rattle.clap.specs.Words.{first_value, found_of, kind_of, subcommand_name_of};
+ghost use Rattle.clap.specs.Words.{first_value, found_of, kind_of, one_text, subcommand_name_of};
 ghost use Rattle.cilk_commands.specs.Status.{is_answer};
-ghost use Rattle.cilk.specs.Task.{Does, DoesRun};
+ghost use Rattle.cilk.specs.Task.{Does, DoesRun, DoesLimited};
 
 use crate::arguments::{FILE, LIMIT, command};
 use crate::task::Task;
@@ -81,11 +81,26 @@ fn obey<R: AllocGlobal + Files + Input, O: Write, E: Write>(
     match matches.subcommand() {
         Some(("print", found)) => on_file(rt, Task::Print, found, out, err),
         Some(("check", found)) => on_file(rt, Task::Check, found, out, err),
-        Some(("run", found)) => match found.get_one(LIMIT) {
-            Some(limit) => on_file(rt, Task::Run(limit), found, out, err),
-            None => Status::Usage,
-        },
+        Some(("run", found)) => run_limited(rt, found, out, err),
         _ => Status::Usage,
+    }
+}
+
+// A run makes at most as many choices as the command line says.
+fn run_limited<R: AllocGlobal + Files + Input, O: Write, E: Write>(
+    rt: &R,
+    found: &ArgMatches<'_>,
+    out: &mut O,
+    err: &mut E,
+) -> Status
+    ensures done { is_answer result ≡ true
+        → DoesLimited (one_text (found_of found.now) LIMIT.now) result (O.contents out.old) (O.contents out.new) }
+    ensures quiet { is_answer result ≡ true → err.new ≡ err.old }
+    ensures kept { is_answer result ≡ false → result ≢ Status.Failed → out.new ≡ out.old }
+{
+    match found.get_one(LIMIT) {
+        Some(limit) => on_file(rt, Task::Run(limit), found, out, err),
+        None => Status::Usage,
     }
 }
 

@@ -2,19 +2,21 @@
 use Rattle.std.proofs.Common.{◌≡◌, Bool, true, false, not, cond, nat_eq, List, [], ◌∷◌, ◌++◌, map, inl, inr, refl, sym, ap, subst, arith, length-append}
 use Rattle.std.specs.List.{Contains}
 use Rattle.std.proofs.lemmas.Bool.Decides.{Decides-eqb}
-use Rattle.cilk_tree.specs.Tree.{Word, Decl, Proc, Item, procedure, Program}
+use Rattle.cilk_tree.specs.Tree.{Word, Decl, Proc, Global, Item, procedure, global, Program}
 use Rattle.cilk_check.specs.declared.fault.CheckFault.{CheckFault}
-use Rattle.cilk_check.specs.declared.fault.CheckFault.TheVariants.{Twice, Unknown, WrongKind, NoMain, ReturnForm, Limit, Reserved}
-use Rattle.cilk_check.specs.Names.{value_names, stmts_names, decls_of, stmts_of, own_decls, declared, item_name, defined, IsAmong}
+use Rattle.cilk_check.specs.declared.fault.CheckFault.TheVariants.{Twice, NoMain, ReturnForm, Limit, Reserved}
+use Rattle.cilk_check.specs.Names.{Use, value_uses, stmts_uses, decls_of, stmts_of, own_decls, declared, item_name, defined, IsAmong}
 use Rattle.cilk_tree.specs.Parameters.{parameter_decl}
 use Rattle.cilk_check.specs.Reserved.{IsReserved}
 use Rattle.cilk_check.specs.Returns.{Return, stmts_returns, has_form}
-use Rattle.cilk_check.specs.Scope.{Defines, Scope, top_level, outermost, Use, in_initialiser, in_statement}
-use Rattle.cilk_check.specs.Fault.{cells, max_cells, IsMain, Faulty, twice, unknown, wrong_kind, no_main, limit, return_form, reserved_declared, reserved_used}
-use Rattle.cilk_check.specs.Finds.{declares, defines, fault_if, along, starts, use_faults, uses_faults, variable_faults, parameter_faults, parameters_faults, decl_faults, decls_faults, return_faults, returns_faults, body_faults, definition_faults, item_faults, items_faults, main_faults, program_faults}
+use Rattle.cilk_check.specs.Scope.{Defines, Scope, top_level, outermost, Uses, in_initialiser, in_statement}
+use Rattle.cilk_check.specs.Fault.{cells, max_cells, global_cells, max_global_cells, IsMain, Faulty, twice, unknown, no_variable, no_procedure, main_spawned, argument_count, void_value, no_main, limit, global_limit, return_form, reserved_declared, reserved_used}
+use Rattle.cilk_check.specs.Finds.{declares, defines, fault_if, along, starts, use_faults, uses_faults, variable_faults, parameter_faults, parameters_faults, decl_faults, decls_faults, return_faults, returns_faults, body_faults, definition_faults, global_faults, item_faults, items_faults, main_faults, program_faults}
+use Rattle.cilk_check.proofs.Globals.{global_cells-append}
+use Rattle.cilk_check.proofs.UseFaults.{unknown_there, no_variable_there, no_procedure_there, main_there_spawned, argument_count_there, void_value_there, reserved_there}
 use Rattle.cilk_check.proofs.Elements.{HasElement-from_Contains, Contains-from_HasElement, split_at, split_map, split_append}
 use Rattle.cilk_check.proofs.Held.{Has, Has-append_left, Has-append_right, Has-append_cases, Has-fault_if, Has-flat_map, Has-along}
-use Rattle.cilk_check.proofs.Decided.{declares-Decides, defines-Decides, reserved-Decides, false_from, starts_there}
+use Rattle.cilk_check.proofs.Decided.{declares-Decides, defines-Decides, reserved-Decides, starts_there}
 
 -- a fault of an element of a list is one along the list
 at_element : {X : Type 0} (faults : List X → X → List CheckFault) (xs before : List X) (x : X) (after : List X) (f : CheckFault) → xs ≡ before ++ x ∷ after → Has (faults before x) f → Has (along faults [] xs) f
@@ -29,6 +31,12 @@ module _ (p : Program) where
   at_definition : (before : List Item) (x : Item) (after : List Item) (f : CheckFault) → p.items ≡ before ++ x ∷ after → Has (definition_faults before (item_name x)) f → Has (program_faults p) f
   at_definition before (procedure d) after f order h =
       in_item before (procedure d) after f order (Has-append_left (definition_faults before d.name) (body_faults p.items d) f h)
+  at_definition before (global g) after f order h =
+      in_item before (global g) after f order (Has-append_left (definition_faults before g.name) (global_faults before g) f h)
+
+  at_global : (before : List Item) (g : Global) (after : List Item) (f : CheckFault) → p.items ≡ before ++ global g ∷ after → Has (global_faults before g) f → Has (program_faults p) f
+  at_global before g after f order h =
+      in_item before (global g) after f order (Has-append_right (definition_faults before g.name) (global_faults before g) f h)
 
   in_body : (d : Proc) (f : CheckFault) → Defines p d → Has (body_faults p.items d) f → Has (program_faults p) f
   in_body d f is_defined h =
@@ -39,13 +47,13 @@ module _ (p : Program) where
   decls_in_body : (d : Proc) (f : CheckFault) → Has (decls_faults p.items d.parameters (decls_of d.body)) f → Has (body_faults p.items d) f
   decls_in_body d f h = Has-append_right (parameters_faults d.parameters) _ f (Has-append_left (decls_faults p.items d.parameters (decls_of d.body)) _ f h)
 
-  uses_in_body : (d : Proc) (f : CheckFault) → Has (uses_faults p.items (own_decls d) (stmts_names (stmts_of d.body))) f → Has (body_faults p.items d) f
+  uses_in_body : (d : Proc) (f : CheckFault) → Has (uses_faults p.items (own_decls d) (stmts_uses (stmts_of d.body))) f → Has (body_faults p.items d) f
   uses_in_body d f h =
-      Has-append_right (parameters_faults d.parameters) _ f (Has-append_right (decls_faults p.items d.parameters (decls_of d.body)) _ f (Has-append_left (uses_faults p.items (own_decls d) (stmts_names (stmts_of d.body))) _ f h))
+      Has-append_right (parameters_faults d.parameters) _ f (Has-append_right (decls_faults p.items d.parameters (decls_of d.body)) _ f (Has-append_left (uses_faults p.items (own_decls d) (stmts_uses (stmts_of d.body))) _ f h))
 
   returns_in_body : (d : Proc) (f : CheckFault) → Has (returns_faults d.returns (stmts_returns (stmts_of d.body))) f → Has (body_faults p.items d) f
   returns_in_body d f h =
-      Has-append_right (parameters_faults d.parameters) _ f (Has-append_right (decls_faults p.items d.parameters (decls_of d.body)) _ f (Has-append_right (uses_faults p.items (own_decls d) (stmts_names (stmts_of d.body))) _ f h))
+      Has-append_right (parameters_faults d.parameters) _ f (Has-append_right (decls_faults p.items d.parameters (decls_of d.body)) _ f (Has-append_right (uses_faults p.items (own_decls d) (stmts_uses (stmts_of d.body))) _ f h))
 
   -- the faults of a parameter are those of its name
   parameter_only : (before : List Decl) (w : Word) (f : CheckFault) → Has (decl_faults p.items before (parameter_decl w)) f → Has (variable_faults before w) f
@@ -70,32 +78,16 @@ module _ (p : Program) where
 
   at_variable : (d : Proc) (before : List Decl) (v : Decl) (after : List Decl) (f : CheckFault) → Defines p d → own_decls d ≡ before ++ v ∷ after → Has (variable_faults before v.name) f → Has (program_faults p) f
   at_variable d before v after f is_defined order h =
-      in_decl d before v after f is_defined order (Has-append_left (variable_faults before v.name) (uses_faults p.items (before ++ v ∷ []) (value_names v.value)) f h)
+      in_decl d before v after f is_defined order (Has-append_left (variable_faults before v.name) (uses_faults p.items (before ++ v ∷ []) (value_uses v.value)) f h)
 
   -- a fault of a use, wherever the use stands
-  at_use : (names : List Word) (name : Word) (f : CheckFault) → Use p names name → ((visible : List Decl) → declared visible ≡ names → Has (use_faults p.items visible name) f) → Has (program_faults p) f
-  at_use names name f (in_initialiser d before after v _ is_defined order there) h =
+  at_use : (names : List Word) (u : Use) (f : CheckFault) → Uses p names u → ((visible : List Decl) → declared visible ≡ names → Has (use_faults p.items visible u) f) → Has (program_faults p) f
+  at_use names u f (in_initialiser d before after v _ is_defined order there) h =
       let visible = before ++ v ∷ [] in
-      in_decl d before v after f is_defined order (Has-append_right (variable_faults before v.name) (uses_faults p.items visible (value_names v.value)) f (Has-flat_map (use_faults p.items visible) (value_names v.value) name f (HasElement-from_Contains (value_names v.value) name there) (h visible refl)))
-  at_use names name f (in_statement d _ is_defined there) h =
+      in_decl d before v after f is_defined order (Has-append_right (variable_faults before v.name) (uses_faults p.items visible (value_uses v.value)) f (Has-flat_map (use_faults p.items visible) (value_uses v.value) u f (HasElement-from_Contains (value_uses v.value) u there) (h visible refl)))
+  at_use names u f (in_statement d _ is_defined there) h =
       let visible = own_decls d in
-      in_body d f is_defined (uses_in_body d f (Has-flat_map (use_faults p.items visible) (stmts_names (stmts_of d.body)) name f (HasElement-from_Contains (stmts_names (stmts_of d.body)) name there) (h visible refl)))
-
-  unknown_there : (visible : List Decl) (names : List Word) (name : Word) → declared visible ≡ names → ¬ IsReserved name → ¬ IsAmong name names → ¬ IsAmong name (defined p.items) → Has (use_faults p.items visible name) (Unknown name.place)
-  unfolding use_faults
-  unknown_there visible names name same nr nv nt =
-      let hidden : ¬ IsAmong name (declared visible) = subst (λ ws. ¬ IsAmong name ws) (sym same) nv in
-      rw (false_from _ (reserved-Decides name) nr, false_from _ (declares-Decides visible name) hidden, false_from _ (defines-Decides p.items name) nt) (inl refl)
-
-  wrong_kind_there : (visible : List Decl) (names : List Word) (name : Word) → declared visible ≡ names → ¬ IsReserved name → ¬ IsAmong name names → IsAmong name (defined p.items) → Has (use_faults p.items visible name) (WrongKind name.place)
-  unfolding use_faults
-  wrong_kind_there visible names name same nr nv top =
-      let hidden : ¬ IsAmong name (declared visible) = subst (λ ws. ¬ IsAmong name ws) (sym same) nv in
-      rw (false_from _ (reserved-Decides name) nr, false_from _ (declares-Decides visible name) hidden, (defines-Decides p.items name).1 top) (inl refl)
-
-  reserved_there : (visible : List Decl) (name : Word) → IsReserved name → Has (use_faults p.items visible name) (Reserved name.place)
-  unfolding use_faults
-  reserved_there visible name reserved = rw ((reserved-Decides name).1 reserved) (inl refl)
+      in_body d f is_defined (uses_in_body d f (Has-flat_map (use_faults p.items visible) (stmts_uses (stmts_of d.body)) u f (HasElement-from_Contains (stmts_uses (stmts_of d.body)) u there) (h visible refl)))
 
   -- faults of a name that a definition or a declaration declares
   top_twice : (before : List Item) (name : Word) → IsAmong name (defined before) → Has (definition_faults before name) (Twice name.place)
@@ -155,18 +147,32 @@ module _ (p : Program) where
   return_there d r there wrong =
       returns_in_body d _ (Has-flat_map (return_faults d.returns) (stmts_returns (stmts_of d.body)) r _ (HasElement-from_Contains (stmts_returns (stmts_of d.body)) r there) (Has-fault_if (not (has_form d.returns r.value)) _ (ap not wrong)))
 
+  global_full : (before : List Item) (g : Global) → global_cells before ≡ max_global_cells → Has (global_faults before g) (Limit g.name.place)
+  unfolding global_faults
+  global_full before g full = Has-fault_if _ _ ((Decides-eqb (global_cells before) max_global_cells).1 full)
+
   pub program_complete : (f : CheckFault) → Faulty p f → Has (program_faults p) f
   program_complete f (twice before after name scope among) = scope_twice _ before after name scope refl among
-  program_complete f (unknown visible name used nr nv nt) =
-      at_use visible name _ used (λ vs same. unknown_there vs visible name same nr nv nt)
-  program_complete f (wrong_kind visible name used nr nv top) =
-      at_use visible name _ used (λ vs same. wrong_kind_there vs visible name same nr nv top)
+  program_complete f (unknown visible u used free hidden missing) =
+      at_use visible u _ used (λ vs same. unknown_there p.items vs visible same u free hidden missing)
+  program_complete f (no_variable visible name g used free means) =
+      at_use visible _ _ used (λ vs same. no_variable_there p vs visible same name g free means)
+  program_complete f (no_procedure visible name arguments for_value used free means) =
+      at_use visible _ _ used (λ vs same. no_procedure_there p vs visible same name arguments for_value free means)
+  program_complete f (main_spawned visible name arguments for_value g used means is_main) =
+      at_use visible _ _ used (λ vs same. main_there_spawned p vs visible same name arguments for_value g means is_main)
+  program_complete f (argument_count visible name arguments for_value g used free means other) =
+      at_use visible _ _ used (λ vs same. argument_count_there p vs visible same name arguments for_value g free means other)
+  program_complete f (void_value visible name arguments g used free means is_void) =
+      at_use visible _ _ used (λ vs same. void_value_there p vs visible same name arguments g free means is_void)
   program_complete f (no_main none) = Has-append_right (items_faults p.items) (main_faults p) _ (main_there none)
   program_complete f (limit d before after v is_defined order below past) =
       at_variable d before v after _ is_defined order (variable_limit before v.name (omega (arith, below, past, length-append before (v ∷ []))))
+  program_complete f (global_limit before after g order below past) =
+      at_global before g after _ order (global_full before g (omega (arith, below, past, global_cells-append before (global g ∷ []))))
   program_complete f (return_form d r is_defined there wrong) = in_body d _ is_defined (return_there d r there wrong)
   program_complete f (reserved_declared names name scope there reserved) =
       let s = split_at names name (HasElement-from_Contains names name there) in
       scope_reserved names s.before s.after name scope s.order reserved
-  program_complete f (reserved_used visible name used reserved) =
-      at_use visible name _ used (λ vs same. reserved_there vs name reserved)
+  program_complete f (reserved_used visible u used reserved) =
+      at_use visible u _ used (λ vs same. reserved_there p.items vs u reserved)

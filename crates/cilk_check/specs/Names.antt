@@ -1,32 +1,55 @@
 -- The names that the parts of a program use and declare.
-use Rattle.std.specs.Prelude.{List, [], ◌∷◌, ◌++◌, map, Option, Some, None, Contains}
+use Rattle.std.specs.Prelude.{ℕ, Bool, true, false, List, [], ◌∷◌, ◌++◌, map, flat_map, length, Option, Some, None, Contains}
 use Rattle.cilk_tree.specs.Parameters.{parameter_decl}
-use Rattle.cilk_tree.specs.Tree.{Word, Expr, number, named, binary, Decl, Stmt, assign, null, update, adjust, Stmts, none, also, Block, block, Item, procedure, unary, choose, return_at, Proc}
+use Rattle.cilk_tree.specs.Tree.{Word, Expr, number, named, binary, Decl, Taker, nothing, into, Stmt, assign, null, update, adjust, spawn_at, sync_at, Stmts, none, also, Block, block, Item, procedure, global, unary, choose, return_at, Proc}
 
--- what an expression uses, each as an `int` variable (C 1990, 6.3.1)
-abbrev pub expr_names : Expr → List Word
-expr_names (number n) = []
-expr_names (named name) = name ∷ []
-expr_names (binary op left right) = expr_names left ++ expr_names right
-expr_names (unary op operand) = expr_names operand
-expr_names (choose test first second) = expr_names test ++ (expr_names first ++ expr_names second)
+-- a use of a name
+pub data Use : Type 0 where
+  -- as an `int` variable (C 1990, 6.3.1)
+  variable : (name : Word) → Use
+  -- as the procedure that is spawned, with so many arguments, and perhaps for its value (Cilk 5.4 manual, `spawn`)
+  callee : (name : Word) (arguments : ℕ) (for_value : Bool) → Use
 
--- what an initialiser uses, if there is one (C 1990, 6.5.7)
-abbrev pub value_names : Option Expr → List Word
-value_names None = []
-value_names (Some value) = expr_names value
+abbrev pub used_name : Use → Word
+used_name (variable name) = name
+used_name (callee name arguments for_value) = name
 
--- what a statement uses (C 1990, 6.6)
-abbrev pub stmt_names : Stmt → List Word
-stmt_names (assign place value) = place.name ∷ expr_names value
-stmt_names (return_at at value) = value_names value
-stmt_names null = []
-stmt_names (update place op value) = place.name ∷ expr_names value
-stmt_names (adjust place by) = place.name ∷ []
+-- what an expression uses (C 1990, 6.3)
+abbrev pub expr_uses : Expr → List Use
+expr_uses (number n) = []
+expr_uses (named name) = variable name ∷ []
+expr_uses (binary op left right) = expr_uses left ++ expr_uses right
+expr_uses (unary op operand) = expr_uses operand
+expr_uses (choose test first second) = expr_uses test ++ (expr_uses first ++ expr_uses second)
 
-abbrev pub stmts_names : Stmts → List Word
-stmts_names none = []
-stmts_names (also first others) = stmt_names first ++ stmts_names others
+-- what an initialiser or a returned value uses, if there is one (C 1990, 6.5.7, 6.6.6.4)
+abbrev pub value_uses : Option Expr → List Use
+value_uses None = []
+value_uses (Some value) = expr_uses value
+
+-- what takes the value of a child: an implicit inlet writes to its place (Cilk 5.4 manual, `spawn`)
+abbrev pub takes_value : Taker → Bool
+takes_value nothing = false
+takes_value (into op place) = true
+
+abbrev pub taker_uses : Taker → List Use
+taker_uses nothing = []
+taker_uses (into op place) = variable place.name ∷ []
+
+-- what a statement uses (C 1990, 6.6; Cilk 5.4 manual, `spawn`)
+abbrev pub stmt_uses : Stmt → List Use
+stmt_uses (assign place value) = variable place.name ∷ expr_uses value
+stmt_uses (return_at at value) = value_uses value
+stmt_uses null = []
+stmt_uses (update place op value) = variable place.name ∷ expr_uses value
+stmt_uses (adjust place by) = variable place.name ∷ []
+stmt_uses (spawn_at at taker name arguments) =
+    taker_uses taker ++ callee name (length arguments) (takes_value taker) ∷ flat_map expr_uses arguments
+stmt_uses (sync_at at) = []
+
+abbrev pub stmts_uses : Stmts → List Use
+stmts_uses none = []
+stmts_uses (also first others) = stmt_uses first ++ stmts_uses others
 
 -- the declarations of a block, and its statements
 abbrev pub decls_of : Block → List Decl
@@ -45,6 +68,7 @@ declared decls = map (λ d. d.name) decls
 
 abbrev pub item_name : Item → Word
 item_name (procedure definition) = definition.name
+item_name (global definition) = definition.name
 
 -- the names that the top level defines, in order
 abbrev pub defined : List Item → List Word

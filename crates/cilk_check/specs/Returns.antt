@@ -2,7 +2,7 @@
 use Rattle.std.specs.Prelude.{ℕ, Bool, List, [], ◌∷◌, ◌++◌, Option, is_some, is_none}
 use Rattle.cilk_tree.specs.declared.return_type.ReturnType.{ReturnType}
 use Rattle.cilk_tree.specs.declared.return_type.ReturnType.TheVariants.{Int, Void}
-use Rattle.cilk_tree.specs.Tree.{Expr, Stmt, assign, return_at, null, update, adjust, Stmts, none, also}
+use Rattle.cilk_tree.specs.Tree.{Expr, Stmt, assign, return_at, null, update, adjust, spawn_at, sync_at, Stmts, none, also}
 
 -- a `return`: the place of the word, and the value, if there is one
 pub record Return : Type 0 where
@@ -15,6 +15,8 @@ stmt_returns (return_at at value) = record { place = at; value = value } ∷ []
 stmt_returns null = []
 stmt_returns (update place op value) = []
 stmt_returns (adjust place by) = []
+stmt_returns (spawn_at at taker callee arguments) = []
+stmt_returns (sync_at at) = []
 
 abbrev pub stmts_returns : Stmts → List Return
 stmts_returns none = []

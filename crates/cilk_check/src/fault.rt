@@ -14,6 +14,13 @@ pub enum CheckFault {
     /// A visible name is used where another kind of thing is needed.
     #[error("C3 WrongKind")]
     WrongKind(u32),
+    /// A procedure is spawned with another number of arguments than it has parameters; the place is
+    /// the callee's.
+    #[error("C4 ArgumentCount")]
+    ArgumentCount(u32),
+    /// The value of a `void` procedure is taken; the place is the callee's.
+    #[error("C5 VoidValue")]
+    VoidValue(u32),
     /// Nothing defines `cilk int main` without parameters; the place is the text's length.
     #[error("C12 NoMain")]
     NoMain(u32),
@@ -21,7 +28,7 @@ pub enum CheckFault {
     /// word's.
     #[error("C13 ReturnForm")]
     ReturnForm(u32),
-    /// A declaration passes the 4,096 cells of its activation.
+    /// A declaration passes the 4,096 cells of its activation, or the 1,048,576 of the top level.
     #[error("C15 Limit")]
     Limit(u32),
     /// A reserved name is declared or used.
@@ -40,6 +47,8 @@ impl CheckFault {
             CheckFault::Twice(at)
             | CheckFault::Unknown(at)
             | CheckFault::WrongKind(at)
+            | CheckFault::ArgumentCount(at)
+            | CheckFault::VoidValue(at)
             | CheckFault::NoMain(at)
             | CheckFault::ReturnForm(at)
             | CheckFault::Limit(at)
@@ -55,6 +64,8 @@ impl CheckFault {
             CheckFault::Twice(_) => 1,
             CheckFault::Unknown(_) => 2,
             CheckFault::WrongKind(_) => 3,
+            CheckFault::ArgumentCount(_) => 4,
+            CheckFault::VoidValue(_) => 5,
             CheckFault::NoMain(_) => 12,
             CheckFault::ReturnForm(_) => 13,
             CheckFault::Limit(_) => 15,

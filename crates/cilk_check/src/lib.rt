@@ -9,6 +9,7 @@ mod names;
 mod reserved;
 #[cfg(test)]
 mod tests;
+mod uses;
 mod visible;
 mod walk;
 

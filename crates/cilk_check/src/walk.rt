@@ -3,17 +3,18 @@
 
 ghost use Rattle.std.specs.Prelude.{◌≡◌, ◌++◌, None};
 ghost use Rattle.cilk_tree.specs.Stmts.{stmts_of};
-ghost use Rattle.cilk_check.specs.Finds.{is_settled, first_among, use_faults, uses_faults, variable_faults, parameters_faults, decls_faults, returns_faults, body_faults, definition_faults, item_faults, items_faults, main_faults, program_faults};
+ghost use Rattle.cilk_check.specs.Finds.{first_among, uses_faults, variable_faults, parameters_faults, decls_faults, returns_faults, body_faults, definition_faults, global_faults, item_faults, items_faults, main_faults, program_faults};
 ghost use Rattle.cilk_check.specs.Returns.{stmt_returns, stmts_returns, has_form};
-ghost use Rattle.cilk_check.specs.Names.{expr_names, value_names, stmt_names, stmts_names};
+ghost use Rattle.cilk_check.specs.Names.{value_uses};
 
 use crate::fault::CheckFault;
-use crate::first::{first, first_if};
-use crate::names::{defines, starts};
+use crate::first::{first_if, is_settled};
+use crate::names::{defines, is_full, item_name, starts};
 use crate::reserved::is_reserved;
+use crate::uses::{in_stmts, in_value};
 use crate::visible::Visible;
 use cilk_tree::{
-    Decl, Expr, ExprNode, Item, ItemNode, Proc, Program, ReturnType, Stmt, StmtNode, Word,
+    Decl, Expr, Global, Item, ItemNode, Proc, Program, ReturnType, Stmt, StmtNode, Word,
 };
 
 /// The first fault of a program, if it has one.
@@ -49,11 +50,10 @@ fn in_item(
 ) -> Option<CheckFault>
     ensures { result ≡ first_among found (item_faults items.now before.now item.now) }
 {
+    let found = at_definition(before, item_name(item), found);
     match &item.node {
-        ItemNode::Procedure(definition) => {
-            let found = at_definition(before, &definition.name, found);
-            in_body(items, definition, found)
-        }
+        ItemNode::Procedure(definition) => in_body(items, definition, found),
+        ItemNode::Global(definition) => at_global(before, definition, found),
     }
 }
 
@@ -68,6 +68,13 @@ fn at_definition(before: &[Item], name: &Word, found: Option<CheckFault>) -> Opt
     let text = name.as_str();
     let found = first_if(found, defines(before, text), CheckFault::Twice(at));
     first_if(found, is_reserved(text), CheckFault::Reserved(at))
+}
+
+#[tactic(auto, using(crate::proofs::Firsts::firsts), unfolding(crate::specs::Finds::global_faults))]
+fn at_global(before: &[Item], global: &Global, found: Option<CheckFault>) -> Option<CheckFault>
+    ensures { result ≡ first_among found (global_faults before.now global.now) }
+{
+    first_if(found, is_full(before), CheckFault::Limit(global.name.at()))
 }
 
 #[tactic(auto, using(crate::proofs::Firsts::firsts))]
@@ -122,7 +129,7 @@ fn in_decl(
     found: Option<CheckFault>,
 ) -> Option<CheckFault>
     ensures { result
-        ≡ first_among found (variable_faults before.now decl.now.name ++ uses_faults items.now visible.now (value_names decl.now.value)) }
+        ≡ first_among found (variable_faults before.now decl.now.name ++ uses_faults items.now visible.now (value_uses decl.now.value)) }
 {
     let found = at_variable(before, &decl.name, found);
     in_value(items, visible, &decl.value, found)
@@ -140,56 +147,6 @@ fn at_variable(before: &Visible, name: &Word, found: Option<CheckFault>) -> Opti
     let found = first_if(found, before.declares(text), CheckFault::Twice(at));
     let found = first_if(found, before.is_full(), CheckFault::Limit(at));
     first_if(found, is_reserved(text), CheckFault::Reserved(at))
-}
-
-fn in_value(
-    items: &[Item],
-    visible: &Visible,
-    value: &Option<Expr>,
-    found: Option<CheckFault>,
-) -> Option<CheckFault>
-    ensures { result ≡ first_among found (uses_faults items.now visible.now (value_names value.now)) }
-{
-    match value {
-        None => found,
-        Some(value) => in_expr(items, visible, value, found),
-    }
-}
-
-#[tactic(auto, using(crate::proofs::Steps::steps))]
-fn in_stmts(
-    items: &[Item],
-    visible: &Visible,
-    stmts: &[Stmt],
-    found: Option<CheckFault>,
-) -> Option<CheckFault>
-    ensures { result ≡ first_among found (uses_faults items.now visible.now (stmts_names (stmts_of stmts.now))) }
-{
-    let mut found = found;
-    for stmt in stmts {
-        found = in_stmt(items, visible, stmt, found);
-    }
-    found
-}
-
-#[tactic(auto, using(crate::proofs::Firsts::firsts))]
-fn in_stmt(
-    items: &[Item],
-    visible: &Visible,
-    stmt: &Stmt,
-    found: Option<CheckFault>,
-) -> Option<CheckFault>
-    ensures { result ≡ first_among found (uses_faults items.now visible.now (stmt_names stmt.now)) }
-{
-    match &stmt.node {
-        StmtNode::Assign(place, value) | StmtNode::Update(place, _, value) => {
-            let found = at_use(items, visible, &place.name, found);
-            in_expr(items, visible, value, found)
-        }
-        StmtNode::Return(_, value) => in_value(items, visible, value, found),
-        StmtNode::Null => found,
-        StmtNode::Adjust(place, _) => at_use(items, visible, &place.name, found),
-    }
 }
 
 // The forms of `return`.
@@ -216,7 +173,9 @@ fn at_return(returns: ReturnType, stmt: &Stmt, found: Option<CheckFault>) -> Opt
         StmtNode::Assign(_, _)
         | StmtNode::Null
         | StmtNode::Update(_, _, _)
-        | StmtNode::Adjust(_, _) => found,
+        | StmtNode::Adjust(_, _)
+        | StmtNode::Spawn(_, _, _, _)
+        | StmtNode::Sync(_) => found,
     }
 }
 
@@ -226,66 +185,5 @@ fn has_form(returns: ReturnType, value: &Option<Expr>) -> bool
     match returns {
         ReturnType::Int => value.is_some(),
         ReturnType::Void => value.is_none(),
-    }
-}
-
-#[tactic(auto, using(crate::proofs::Firsts::firsts))]
-fn in_expr(
-    items: &[Item],
-    visible: &Visible,
-    expr: &Expr,
-    found: Option<CheckFault>,
-) -> Option<CheckFault>
-    ensures { result ≡ first_among found (uses_faults items.now visible.now (expr_names expr.now)) }
-{
-    match &expr.node {
-        ExprNode::Number(_) => found,
-        ExprNode::Name(name) => at_use(items, visible, name, found),
-        ExprNode::Binary(_, left, right) => {
-            let found = in_expr(items, visible, left, found);
-            in_expr(items, visible, right, found)
-        }
-        ExprNode::Unary(_, operand) => in_expr(items, visible, operand, found),
-        ExprNode::Choose(test, first, second) => {
-            let found = in_expr(items, visible, test, found);
-            let found = in_expr(items, visible, first, found);
-            in_expr(items, visible, second, found)
-        }
-    }
-}
-
-#[tactic(auto, using(crate::proofs::Firsts::firsts), unfolding(crate::specs::Finds::use_faults))]
-fn at_use(
-    items: &[Item],
-    visible: &Visible,
-    name: &Word,
-    found: Option<CheckFault>,
-) -> Option<CheckFault>
-    ensures { result ≡ first_among found (use_faults items.now visible.now name.now) }
-{
-    let at = name.at();
-    let text = name.as_str();
-    if is_settled(found, at) {
-        found
-    } else if is_reserved(text) {
-        first(found, CheckFault::Reserved(at))
-    } else if visible.declares(text) {
-        found
-    } else if defines(items, text) {
-        first(found, CheckFault::WrongKind(at))
-    } else {
-        first(found, CheckFault::Unknown(at))
-    }
-}
-
-// Whether a fault was found before this place. Then the first fault is none of those at the place,
-// and no look-up is made. So where places rise, as in a tree of a text, no look-up goes over more
-// variables than an activation may have: past them a fault has been found.
-fn is_settled(found: Option<CheckFault>, at: u32) -> bool
-    ensures { result ≡ is_settled found at }
-{
-    match found {
-        None => false,
-        Some(fault) => fault.place() < at,
     }
 }

@@ -3,3 +3,4 @@ pub mod Moved
 pub mod NamePlaces
 pub mod FaultPlaces
 pub mod WholeText
+pub mod Told

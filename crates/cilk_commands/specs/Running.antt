@@ -5,32 +5,27 @@ use Rattle.cilk_tree.specs.Tree.{Program}
 use Rattle.cilk_model.specs.Label.{label}
 use Rattle.cilk_model.specs.Choice.{Choice}
 use Rattle.cilk_model.specs.Event.{Event}
-use Rattle.cilk_model.specs.Run.{Position, after}
+use Rattle.cilk_model.specs.Run.{Standing, Position, after}
 use Rattle.cilk_model.specs.End as model
-use Rattle.cilk_machine.specs.Situation.{Situation}
-use Rattle.cilk_machine.specs.Standing.{standing_of}
-use Rattle.cilk_machine.specs.Made.{position_of}
+use Rattle.cilk_machine.specs.Situation.{Situation, workers_of}
+use Rattle.cilk_machine.specs.Stands.{Led, StandsAt}
 use Rattle.cilk_commands.specs.declared.status.Status.{Status}
 use Rattle.cilk_commands.specs.Status.{status_at}
 use Rattle.cilk_commands.specs.Program.{Holds}
 
 -- choices of one worker led a machine from the start of the program to where it is
-pub record Led (program : Program) (m : Situation) : Type 0 where
+pub record LedAlone (program : Program) (m : Situation) : Type 0 where
   pub program_is : m.program ≡ program
-  pub alone : m.workers ≡ 1
+  pub alone : workers_of m ≡ 1
   pub choices : List Choice
   pub events : List Event
-  pub led : after (label program) 1 choices ≡ Some (position_of m events)
-  pub counted : m.choices ≡ length choices
+  pub at : Standing
+  pub led : Led m choices events at
 
--- how a program stands that is not moved any more
-abbrev pub end_of : Situation → model.End
-end_of m = model.end_now (label m.program) (standing_of m)
-
--- it made no more choices than it might, and so many where some choice is left
+-- it made no more choices than it might, and so many where it stands so that some choice is left
 pub record Stops (limit : ℕ) (m : Situation) : Type 0 where
   pub within : m.choices ≤ limit
-  pub whole : end_of m ≡ model.limit → m.choices ≡ limit
+  pub whole : (at : Standing) → StandsAt m at → model.end_now (label m.program) at ≡ model.limit → m.choices ≡ limit
 
 -- a writer has gained the closing text of a run of the program that a reader held: one worker made choices, at most so many, until the program had ended or was stuck, or they were so many; the status tells which
 pub record Runs (limit : ℕ) (status : Status) (known old new : Option (List ℕ)) : Type 0 where

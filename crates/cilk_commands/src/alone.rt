@@ -1,10 +1,19 @@
 //! A program that one worker moves.
 
-ghost use Rattle.std.specs.Prelude.{◌≡◌, IfOk, IfErr};
-ghost use Rattle.cilk_commands.specs.Running.{Led, Stops};
+ghost use Rattle.std.specs.Prelude.{◌≡◌, ◌<◌, false, IfOk, IfErr, OnOk};
+ghost use Rattle.cilk_model.specs.Choice as model;
+ghost use Rattle.cilk_model.specs.Event as event;
+ghost use Rattle.cilk_model.specs.End.{is_stuck};
+ghost use Rattle.cilk_model.specs.Label.{label};
+ghost use Rattle.cilk_model.specs.Run.{Standing};
+ghost use Rattle.cilk_machine.specs.Made.{Makes};
+ghost use Rattle.cilk_machine.specs.Situation.{workers_of};
+ghost use Rattle.cilk_machine.specs.Stands.{StandsAt};
+ghost use Rattle.cilk_commands.specs.Running.{LedAlone, Stops};
 
 use crate::failure::Failure;
 use cilk_load::Loaded;
+use cilk_machine::laws::one_worker_goes_on;
 use cilk_machine::{Act, Choice, Machine, MachineFault, Outcome, Refusal};
 use std::alloc::Global;
 
@@ -13,9 +22,15 @@ const STEP: Choice = Choice {
     act: Act::Step,
 };
 
-/// The program after one worker has stepped until it ended, was stuck, or had made `limit` choices.
+const POP: Choice = Choice {
+    worker: 1,
+    act: Act::Pop,
+};
+
+/// The program after one worker has moved it until it ended, was stuck, or had made `limit`
+/// choices: the worker steps, or pops where its hand is empty.
 pub fn run_alone(alloc: Global, program: Loaded, limit: u32) -> Result<Machine, Failure>
-    ensures led { IfOk result (Led program) }
+    ensures led { IfOk result (LedAlone program) }
     ensures stops { IfOk result (Stops limit) }
     ensures err { IfErr result (λ why. why ≡ Failure.Memory) }
 {
@@ -28,11 +43,31 @@ pub fn run_alone(alloc: Global, program: Loaded, limit: u32) -> Result<Machine, 
         if !matches!(machine.outcome(), Outcome::Running) || machine.is_stuck() {
             return Ok(machine);
         }
-        match machine.make(STEP) {
-            Ok(_) => {}
-            Err(Refusal::Memory) => return Err(Failure::Memory),
-            Err(_) => unreachable!(),
-        }
+        go_on(&mut machine)?;
     }
     Ok(machine)
+}
+
+// The one worker makes the next choice.
+fn go_on(machine: &mut Machine) -> Result<(), Failure>
+    requires alone { workers_of machine.old ≡ 1 }
+    requires runs { machine.old.outcome ≡ Outcome.Running }
+    requires goes { (at : Standing)
+        × (StandsAt machine.old at × (is_stuck (label machine.old.program) at ≡ false)) }
+    requires room { machine.old.choices < 18446744073709551615 }
+    ensures ok { OnOk result ((choice : model.Choice) × (did : event.Event)
+        × Makes machine.old machine.new choice did) }
+    ensures err { IfErr result (λ why. why ≡ Failure.Memory) }
+{
+    one_worker_goes_on();
+    match machine.make(STEP) {
+        Ok(_) => Ok(()),
+        Err(Refusal::HandEmpty) => match machine.make(POP) {
+            Ok(_) => Ok(()),
+            Err(Refusal::Memory) => Err(Failure::Memory),
+            Err(_) => unreachable!(),
+        },
+        Err(Refusal::Memory) => Err(Failure::Memory),
+        Err(_) => unreachable!(),
+    }
 }

@@ -1,3 +1,6 @@
+mod rows;
+mod spawns;
+
 use crate::{Status, check_text, print_text, run_text};
 use std::alloc::{AllocError, Global};
 use std::io;
@@ -157,6 +160,24 @@ fn runs_a_program(rt: HostRuntime) {
             9,
             0,
             "main returned 23\n",
+        ),
+        (
+            "cilk int main(void) { int a = 6; a *= 7; a -= 50; return a; }",
+            4,
+            0,
+            "main returned -8\n",
+        ),
+        (
+            "cilk int main(void) { int a = 2147483647; a += a; }",
+            9,
+            3,
+            "trapped Overflow in / at 2, line 3\n",
+        ),
+        (
+            "cilk int main(void) { int a = 0 - 2147483647; a--; --a; }",
+            9,
+            3,
+            "trapped Overflow in / at 3, line 4\n",
         ),
         (
             "cilk int main(void) { int a = 2147483647; a++; }",

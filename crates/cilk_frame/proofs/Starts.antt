@@ -38,6 +38,8 @@ stmts-zero (tree.also (tree.return_at place value) others) = stmts-zero others
 stmts-zero (tree.also tree.null others) = stmts-zero others
 stmts-zero (tree.also (tree.update place op value) others) = stmts-zero others
 stmts-zero (tree.also (tree.adjust place by) others) = stmts-zero others
+stmts-zero (tree.also (tree.spawn_at place taker callee arguments) others) = stmts-zero others
+stmts-zero (tree.also (tree.sync_at place) others) = stmts-zero others
 
 block-zero : (b : tree.Block) → AllZero (block_variables b)
 block-zero (tree.block decls stmts) = AllZero-append (map variable_of decls) (stmts_variables stmts) (decls-zero decls) (stmts-zero stmts)
@@ -64,6 +66,7 @@ items-bare scope at (tree.procedure p ∷ others) zero = record {
   zero_variables = AllZero-append (map variable_of (map parameter_decl p.parameters)) (block_variables p.body) (decls-zero (map parameter_decl p.parameters)) (block-zero p.body);
 }
 items-bare scope at (tree.procedure p ∷ others) (suc b) = items-bare scope (at + count_item (tree.procedure p)) others b
+items-bare scope at (tree.global g ∷ others) b = items-bare scope (at + 0) others b
 
 body-bare : (p : tree.Program) (b : ℕ) → Bare (body_at (label p) b)
 body-bare p b = items-bare _ 1 p.items b

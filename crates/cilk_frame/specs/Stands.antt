@@ -1,19 +1,15 @@
 -- The instance that a frame stands for.
-use Rattle.std.specs.Prelude.{◌≡◌, ◌<◌, ℤ, Bool, ⊤, List, [], ◌∷◌, ◌++◌, map, length, reverse, Option, Some, None}
+use Rattle.std.specs.Prelude.{◌≡◌, ◌<◌, Bool, ⊤, List, [], ◌∷◌, map, length, reverse, Option, Some, None}
 use Rattle.cilk_model.specs.Labelled.{Labelled}
 use Rattle.cilk_model.specs.Items.{reached}
-use Rattle.cilk_model.specs.Values.{Values, Cell}
+use Rattle.cilk_model.specs.Values.{Cell}
 use Rattle.cilk_model.specs.Instance as model
 use Rattle.cilk_model.specs.Instance.{Instance, body_at}
 use Rattle.cilk_load.specs.Slots.{size_of}
+pub use Rattle.cilk_load.specs.Slots.{flat}
 use Rattle.cilk_load.specs.Table.{number_of}
 use Rattle.cilk_frame.specs.declared.awaited.Await.{Await}
 use Rattle.cilk_frame.specs.Frames.{Activation, Frame}
-
--- the cells of all variables, one variable after another in the order of the declarations
-abbrev pub flat : Values → List ℤ
-flat [] = []
-flat (cells ∷ values) = cells ++ flat values
 
 -- what awaits a value is there in both, with one subscript, or in neither
 abbrev pub AwaitsSame : Option Await → Option Cell → Type 0

@@ -4,12 +4,18 @@
 //! of these functions, the first since a frame has no method `clone`, and the second since a frame
 //! that was spent is no more:
 //!
-//! ```text
-//! fn twice(frame: &Frame) -> Frame {
+//! ```compile_fail unsupported-method
+//! use cilk_frame::Frame;
+//!
+//! pub fn frame_is_cloned(frame: &Frame) -> Frame {
 //!     frame.clone()
 //! }
+//! ```
 //!
-//! fn spent(frame: Frame) -> u32 {
+//! ```compile_fail borrow-e0382
+//! use cilk_frame::Frame;
+//!
+//! pub fn used_after_finish(frame: Frame) -> u32 {
 //!     frame.finish();
 //!     frame.depth()
 //! }

@@ -12,7 +12,7 @@ use Rattle.cilk_lex.specs.declared.keyword.Keyword.TheVariants as key
 use Rattle.cilk_lex.specs.Byte.{begins_name, continues_name, continues_number}
 use Rattle.cilk_lex.specs.Lexeme.{Lexeme}
 use Rattle.cilk_lex.specs.Lexing.{Front, of_blank, of_word, of_name, of_number, of_mark}
-use Rattle.cilk_lex.specs.Spelling.{spelling, mark_spelling, IsNumber, zero_alone, decimal_digits, has_name_form, has_number_form}
+use Rattle.cilk_lex.specs.Spelling.{spelling, IsNumber, zero_alone, decimal_digits, has_name_form, has_number_form}
 use Rattle.cilk_lex.proofs.Marks.{mark_form}
 use Rattle.cilk_lex.proofs.Runs.{both, and_true, or_true, run_ascii, blank_low, name_low, number_low, cut_after}
 

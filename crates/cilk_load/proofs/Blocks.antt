@@ -14,7 +14,7 @@ use Rattle.cilk_load.specs.declared.var.Var.{Var}
 use Rattle.cilk_load.specs.Slots.{size_of, cells_of}
 use Rattle.cilk_load.specs.Table.{number_of}
 use Rattle.cilk_load.specs.Bodies.{vars_from, body_table}
-use Rattle.cilk_load.specs.Pass.{own_vars}
+use Rattle.cilk_load.specs.Pass.{own_variables, own_vars, procedure_body}
 
 -- the number in front of these items, once they are opened
 abbrev pub Starts : Items → ℕ → Type 0
@@ -30,6 +30,8 @@ stmts-start scope at n (tree.also (tree.return_at place value) others) items h =
 stmts-start scope at n (tree.also tree.null others) items h = refl
 stmts-start scope at n (tree.also (tree.update place op value) others) items h = refl
 stmts-start scope at n (tree.also (tree.adjust place by) others) items h = refl
+stmts-start scope at n (tree.also (tree.spawn_at place taker callee arguments) others) items h = refl
+stmts-start scope at n (tree.also (tree.sync_at place) others) items h = refl
 
 init-start : (scope : Scope) (at n : ℕ) (value : Option tree.Expr) (after : Stmts) (items : Items) → Starts (pieces after items) (at + count_option value) → Starts (pieces (label_initialiser scope at n value after) items) at
 init-start scope at n None after items h = starts_at (pieces after items) (at + 0) at (omega arith) h
@@ -54,6 +56,8 @@ stmts_variables-none (tree.also (tree.return_at place value) others) = stmts_var
 stmts_variables-none (tree.also tree.null others) = stmts_variables-none others
 stmts_variables-none (tree.also (tree.update place op value) others) = stmts_variables-none others
 stmts_variables-none (tree.also (tree.adjust place by) others) = stmts_variables-none others
+stmts_variables-none (tree.also (tree.spawn_at place taker callee arguments) others) = stmts_variables-none others
+stmts_variables-none (tree.also (tree.sync_at place) others) = stmts_variables-none others
 
 -- the variables of a block are those that it declares
 pub block_variables-decls : (ds : List tree.Decl) (ss : tree.Stmts) → block_variables (tree.block ds ss) ≡ map variable_of ds
@@ -64,9 +68,22 @@ cells-decls [] = refl
 cells-decls (d ∷ ds) = omega (arith, cells-decls ds)
 
 -- the first action of a body
-pub entry-is : (at : ℕ) (p : tree.Proc) (ds : List tree.Decl) (ss : tree.Stmts) → Starts (start_items (label_procedure [] at (record p { body = tree.block ds ss }))) at
-entry-is at p ds ss =
-    block-starts (with_locals [] 0 (map parameter_decl p.parameters)) at (length p.parameters) ds ss (closing_items (at + (count_decls ds + count_stmts ss))) refl
+pub entry-is : (scope : Scope) (at : ℕ) (p : tree.Proc) → Starts (start_items (label_procedure scope at p)) at
+entry-is scope at p = by_parts p.body
+  where
+    by_parts : (b : tree.Block) → Starts (start_items (label_procedure scope at (record p { body = b }))) at
+    by_parts (tree.block ds ss) =
+        block-starts (with_locals scope 0 (map parameter_decl p.parameters)) at (length p.parameters) ds ss (closing_items (at + (count_decls ds + count_stmts ss))) refl
+
+-- the table of a labelled body
+pub table-is : (scope : Scope) (at : ℕ) (p : tree.Proc) → body_table (label_procedure scope at p) ≡ procedure_body at p
+table-is scope at p = λ i. record {
+  name = p.name.text;
+  entry = unwrap_or (entry-is scope at p i) 0;
+  params = length p.parameters;
+  cells = cells_of (own_variables p);
+  vars = own_vars p;
+}
 
 cells-append : (vs ws : List Variable) → cells_of (vs ++ ws) ≡ cells_of vs + cells_of ws
 cells-append [] ws = omega arith
@@ -77,8 +94,8 @@ length-parameters [] = refl
 length-parameters (x ∷ ps) = omega (arith, length-parameters ps)
 
 -- the variables of a procedure are its parameters and the declarations of its block
-pub own_variables : (ps : List tree.Word) (ds : List tree.Decl) (ss : tree.Stmts) → map variable_of (map parameter_decl ps) ++ block_variables (tree.block ds ss) ≡ map variable_of (map parameter_decl ps) ++ map variable_of ds
-own_variables ps ds ss = ap (λ vs. map variable_of (map parameter_decl ps) ++ vs) (block_variables-decls ds ss)
+pub own_variables-are : (ps : List tree.Word) (ds : List tree.Decl) (ss : tree.Stmts) → map variable_of (map parameter_decl ps) ++ block_variables (tree.block ds ss) ≡ map variable_of (map parameter_decl ps) ++ map variable_of ds
+own_variables-are ps ds ss = ap (λ vs. map variable_of (map parameter_decl ps) ++ vs) (block_variables-decls ds ss)
 
 own_cells : (ps : List tree.Word) (ds : List tree.Decl) → cells_of (map variable_of (map parameter_decl ps) ++ map variable_of ds) ≡ length ps + length ds
 own_cells ps ds =
@@ -86,16 +103,16 @@ own_cells ps ds =
 
 -- the table of a body from its parts
 pub body-is : (at : ℕ) (p : tree.Proc) (ds : List tree.Decl) (ss : tree.Stmts) → tree.block ds ss ≡ p.body
-    → record { name = p.name.text; entry = at; params = length p.parameters; cells = length p.parameters + length ds; vars = vars_from Own 0 (map variable_of (map parameter_decl p.parameters) ++ map variable_of ds) } ≡ body_table (label_procedure [] at p)
+    → record { name = p.name.text; entry = at; params = length p.parameters; cells = length p.parameters + length ds; vars = vars_from Own 0 (map variable_of (map parameter_decl p.parameters) ++ map variable_of ds) } ≡ procedure_body at p
 body-is at p ds ss is_b =
     (λ i. record {
       name = p.name.text;
-      entry = unwrap_or (sym (entry-is at p ds ss) i) 0;
+      entry = at;
       params = length p.parameters;
-      cells = sym (ap cells_of (own_variables p.parameters ds ss) ∙ own_cells p.parameters ds) i;
-      vars = vars_from Own 0 (sym (own_variables p.parameters ds ss) i);
+      cells = sym (ap cells_of (own_variables-are p.parameters ds ss) ∙ own_cells p.parameters ds) i;
+      vars = vars_from Own 0 (sym (own_variables-are p.parameters ds ss) i);
     })
-    ∙ ap (λ (x : tree.Block). body_table (label_procedure [] at (record p { body = x }))) is_b
+    ∙ ap (λ (x : tree.Block). procedure_body at (record p { body = x })) is_b
 
 -- the variables of two lists, one behind the other
 pub vars_from-append : (area : Area) (at : ℕ) (vs ws : List Variable) → vars_from area at (vs ++ ws) ≡ vars_from area at vs ++ vars_from area (at + cells_of vs) ws
@@ -122,7 +139,7 @@ own_vars-are ps ds =
 -- a table that was written part by part
 pub body-made : (at : ℕ) (p : tree.Proc) (b : tree.Block) (qs : List tree.Word) (es : List tree.Decl) (name : List ℕ) (made begun start : List Var) (k m : ℕ)
     → b ≡ p.body → qs ≡ p.parameters → es ≡ decls_of b → name ≡ p.name.text → start ≡ [] → k ≡ 0 → begun ≡ start ++ vars_from Own k (map variable_of (map parameter_decl qs)) → m ≡ k + length qs → made ≡ begun ++ vars_from Own m (map variable_of es)
-    → record { name = name; entry = at; params = length qs; cells = length qs + length es; vars = made } ≡ body_table (label_procedure [] at p)
+    → record { name = name; entry = at; params = length qs; cells = length qs + length es; vars = made } ≡ procedure_body at p
 body-made at p (tree.block ds ss) qs es name made begun start k m is_b is_qs is_es is_name is_start is_k is_begun is_m is_made =
     let offset : m ≡ length p.parameters = omega (arith, is_m, is_k, ap length is_qs) in
     let first : begun ≡ vars_from Own 0 (map variable_of (map parameter_decl p.parameters)) = is_begun ∙ (λ i. is_start i ++ vars_from Own (is_k i) (map variable_of (map parameter_decl (is_qs i)))) in
@@ -143,6 +160,6 @@ declared-vars p = by_parts p.body
   where
     by_parts : (b : tree.Block) → length p.parameters + length (decls_of b) ≤ length (own_vars (record p { body = b }))
     by_parts (tree.block ds ss) =
-        omega (arith, length-vars_from Own 0 (map variable_of (map parameter_decl p.parameters) ++ block_variables (tree.block ds ss)), ap length (own_variables p.parameters ds ss), length-append (map variable_of (map parameter_decl p.parameters)) (map variable_of ds), length-map ds, length-map (map parameter_decl p.parameters), length-parameters p.parameters)
+        omega (arith, length-vars_from Own 0 (map variable_of (map parameter_decl p.parameters) ++ block_variables (tree.block ds ss)), ap length (own_variables-are p.parameters ds ss), length-append (map variable_of (map parameter_decl p.parameters)) (map variable_of ds), length-map ds, length-map (map parameter_decl p.parameters), length-parameters p.parameters)
 
 pub ruleset blocks = (declared-vars)

@@ -1,6 +1,6 @@
 -- How many lines the canonical text has.
 use Rattle.std.proofs.Common.{◌≡◌, ℕ, ◌+◌, ◌≤◌, List, [], ◌∷◌, ◌++◌, length, map, codes, refl, sym, ap, ◌∙◌, append_assoc, arith, length-append}
-use Rattle.cilk_tree.specs.Tree.{Decl, Stmt, assign, null, update, adjust, Stmts, none, also, Block, block, Proc, procedure, return_at}
+use Rattle.cilk_tree.specs.Tree.{Decl, Stmt, assign, null, update, adjust, spawn_at, sync_at, Stmts, none, also, Block, block, Proc, procedure, return_at}
 use Rattle.cilk_model.specs.Count.{count_stmts, count_block}
 use Rattle.cilk_check.specs.Names.{decls_of}
 use Rattle.cilk_tree.specs.ProgramText.{decl_line, stmt_lines, stmts_lines, block_lines, deeper, item_lines}
@@ -16,6 +16,8 @@ length-stmt_lines indent (return_at place value) = refl
 length-stmt_lines indent null = refl
 length-stmt_lines indent (update place op value) = refl
 length-stmt_lines indent (adjust place by) = refl
+length-stmt_lines indent (spawn_at place taker callee arguments) = refl
+length-stmt_lines indent (sync_at place) = refl
 
 -- the indent adds no line
 length-stmts_lines : (indent : List ℕ) (ss : Stmts) → length (stmts_lines indent ss) ≡ length (stmts_lines [] ss)
@@ -34,6 +36,8 @@ length-stmts indent (also (return_at place value) others) = omega (arith, length
 length-stmts indent (also null others) = omega (arith, length-stmts indent others)
 length-stmts indent (also (update place op value) others) = omega (arith, length-stmts indent others)
 length-stmts indent (also (adjust place by) others) = omega (arith, length-stmts indent others)
+length-stmts indent (also (spawn_at place taker callee arguments) others) = omega (arith, length-stmts indent others)
+length-stmts indent (also (sync_at place) others) = omega (arith, length-stmts indent others)
 
 -- a block has a line for each declaration and each statement
 pub length-block : (indent : List ℕ) (b : Block) → length (decls_of b) ≤ 4096 → length (block_lines indent b) ≤ 4096 + count_block b

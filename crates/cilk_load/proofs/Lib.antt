@@ -1,7 +1,11 @@
 pub mod Blocks
 pub mod Heights
+pub mod Named
 pub mod Nodes
 pub mod WellFormed
 pub mod TablesMade
 pub mod Numbers
 pub mod ReachedLists
+pub mod Callees
+pub mod Spawns
+pub mod Cells

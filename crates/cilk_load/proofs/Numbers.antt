@@ -61,6 +61,10 @@ stmts-span scope at n (tree.also (tree.update place op value) others) items =
     (refl, one-span at (count_stmts others) _ (stmts-span scope (at + 1) (n + 0) others items))
 stmts-span scope at n (tree.also (tree.adjust place by) others) items =
     (refl, one-span at (count_stmts others) _ (stmts-span scope (at + 1) (n + 0) others items))
+stmts-span scope at n (tree.also (tree.spawn_at place taker callee arguments) others) items =
+    (refl, one-span at (count_stmts others) _ (stmts-span scope (at + 1) (n + 0) others items))
+stmts-span scope at n (tree.also (tree.sync_at place) others) items =
+    (refl, one-span at (count_stmts others) _ (stmts-span scope (at + 1) (n + 0) others items))
 
 init-span : (scope : Scope) (at n m : ℕ) (value : Option tree.Expr) (after : Stmts) (items : Items) → Spans (at + count_option value) m (stmts_lists after items) → Spans at m (stmts_lists (label_initialiser scope at n value after) items)
 init-span scope at n m None after items h = spans_at (at + 0) at m (stmts_lists after items) (omega arith) h
@@ -79,12 +83,12 @@ block-span scope n at ds ss items =
     let after : Stmts = label_stmts inner (at + count_decls ds) (n + length ds) ss in
     decls-span scope at n _ ds after items (spans_to _ _ _ (stmts_lists after items) (omega arith) (stmts-span inner (at + count_decls ds) (n + length ds) ss items))
 
-pub body-span : (at : ℕ) (f : tree.Proc) → Spans at (at + count_item (tree.procedure f)) (body_lists (label_procedure [] at f))
-body-span at f = by_parts f.body
+pub body-span : (file : Scope) (at : ℕ) (f : tree.Proc) → Spans at (at + count_item (tree.procedure f)) (body_lists (label_procedure file at f))
+body-span file at f = by_parts f.body
   where
-    by_parts : (b : tree.Block) → Spans at (at + count_item (tree.procedure (record f { body = b }))) (body_lists (label_procedure [] at (record f { body = b })))
+    by_parts : (b : tree.Block) → Spans at (at + count_item (tree.procedure (record f { body = b }))) (body_lists (label_procedure file at (record f { body = b })))
     by_parts (tree.block ds ss) =
-        let scope : Scope = with_locals [] 0 (map parameter_decl f.parameters) in
+        let scope : Scope = with_locals file 0 (map parameter_decl f.parameters) in
         let n : ℕ = at + (count_decls ds + count_stmts ss) in
         spans-append at n _ (stmts_lists (label_block scope at (length f.parameters) (tree.block ds ss)) (closing_items n)) (closing_items n ∷ []) (block-span scope (length f.parameters) at ds ss (closing_items n)) (refl, omega arith)
 
@@ -92,13 +96,18 @@ rows-append : (n m k b : ℕ) (xs : List Items) (rows : List Row) → Spans n m 
 rows-append n m k b [] rows e h = subst (λ i. RowsSpan i k rows) (sym e) h
 rows-append n m k b (x ∷ xs) rows (first, later) h = (first, rows-append (suc n) m k b xs rows later h)
 
-pub rows-span : (b at : ℕ) (items : List tree.Item) → RowsSpan at (at + count_items items) (rows_from b (label_items [] at items))
-rows-span b at [] = omega arith
-rows-span b at (tree.procedure f ∷ items) =
+pub rows-span : (file : Scope) (b at : ℕ) (items : List tree.Item) → RowsSpan at (at + count_items items) (rows_from b (label_items file at items))
+rows-span file b at [] = omega arith
+rows-span file b at (tree.procedure f ∷ items) =
     let n : ℕ = at + count_item (tree.procedure f) in
     let e : n + count_items items ≡ at + (count_item (tree.procedure f) + count_items items) = omega arith in
-    rows-append at n _ b (body_lists (label_procedure [] at f)) (rows_from (suc b) (label_items [] n items)) (body-span at f)
-    (subst (λ i. RowsSpan n i (rows_from (suc b) (label_items [] n items))) e (rows-span (suc b) n items))
+    rows-append at n _ b (body_lists (label_procedure file at f)) (rows_from (suc b) (label_items file n items)) (body-span file at f)
+    (subst (λ i. RowsSpan n i (rows_from (suc b) (label_items file n items))) e (rows-span file (suc b) n items))
+rows-span file b at (tree.global g ∷ items) =
+    let start : at + 0 ≡ at = omega arith in
+    let end : at + 0 + count_items items ≡ at + (0 + count_items items) = omega arith in
+    let rows = rows_from b (label_items file (at + 0) items) in
+    subst (λ i. RowsSpan i (at + (0 + count_items items)) rows) start (subst (λ i. RowsSpan (at + 0) i rows) end (rows-span file b (at + 0) items))
 
 -- the row at a place has the number of the place
 pub row-number : (n m : ℕ) (rows : List Row) (k : ℕ) (r : Row) → RowsSpan n m rows → slice_get rows k ≡ Some r → number_of r.items ≡ Some (n + k)
@@ -140,8 +149,9 @@ body-nodes program b n m (x ∷ xs) rows nodes (first, others) later =
     subst (λ (ns : List Node). RowNodes program (row b x ∷ (map (row b) xs ++ rows)) ns) (cons-append (node_at program b x) (filter_map (node_at program b) xs) nodes)
     (by-head program b n x (map (row b) xs ++ rows) (filter_map (node_at program b) xs ++ nodes) (head_of x) refl first (body-nodes program b (suc n) m xs rows nodes others later))
 
-pub all-nodes : (program : Labelled) (b at : ℕ) (items : List tree.Item) → RowNodes program (rows_from b (label_items [] at items)) (nodes_from program b (label_items [] at items))
-all-nodes program b at [] = λ k r e. cc
-all-nodes program b at (tree.procedure f ∷ items) =
+pub all-nodes : (program : Labelled) (file : Scope) (b at : ℕ) (items : List tree.Item) → RowNodes program (rows_from b (label_items file at items)) (nodes_from program b (label_items file at items))
+all-nodes program file b at [] = λ k r e. cc
+all-nodes program file b at (tree.procedure f ∷ items) =
     let n : ℕ = at + count_item (tree.procedure f) in
-    body-nodes program b at n (body_lists (label_procedure [] at f)) (rows_from (suc b) (label_items [] n items)) (nodes_from program (suc b) (label_items [] n items)) (body-span at f) (all-nodes program (suc b) n items)
+    body-nodes program b at n (body_lists (label_procedure file at f)) (rows_from (suc b) (label_items file n items)) (nodes_from program (suc b) (label_items file n items)) (body-span file at f) (all-nodes program file (suc b) n items)
+all-nodes program file b at (tree.global g ∷ items) = all-nodes program file b (at + 0) items

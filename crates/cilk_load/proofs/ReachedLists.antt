@@ -4,18 +4,18 @@ use Rattle.std.specs.Prelude.{slice_get, slice_index_or}
 use Rattle.cilk_tree.specs.Tree as tree
 use Rattle.cilk_model.specs.Count.{count_item, count_items}
 use Rattle.cilk_model.specs.Labelled.{Action, assign, return_with, close, assign_by, null, return_nothing, spawn, sync, action, Stmts, none, also, Body, Labelled}
-use Rattle.cilk_model.specs.Label.{label, label_items, label_procedure}
+use Rattle.cilk_model.specs.Scope.{Scope}
+use Rattle.cilk_model.specs.Label.{label, label_items, file_scope}
 use Rattle.cilk_model.specs.Items.{Item, piece, Items, pieces, opened, after_action, next, closing_items, start_items, reached}
 use Rattle.cilk_model.specs.Instance.{body_at, no_body}
 use Rattle.cilk_load.specs.declared.body.Body as code
 use Rattle.cilk_load.specs.declared.node.Node.{Node}
 use Rattle.cilk_load.specs.Slots.{slot_of}
-use Rattle.cilk_load.specs.Table.{slotted, number_of, node_at, node_of, stmts_lists, body_lists, nodes_from, nodes_of}
+use Rattle.cilk_load.specs.Table.{slotted, number_of, node_at, node_of, stmts_lists, body_lists, nodes_of}
 use Rattle.cilk_load.specs.Bodies.{body_table, body_of}
 use Rattle.cilk_load.specs.Laws.{Reached, items_at}
 use Rattle.cilk_load.proofs.Blocks.{entry-is}
 use Rattle.cilk_load.proofs.Numbers.{Row, row, rows_from, RowsSpan, rows-span, row-number, RowNodes, all-nodes}
-use Rattle.cilk_load.proofs.TablesMade.{bodies-label}
 
 -- x is the element at some place
 record In {A : Type 0} (xs : List A) (x : A) : Type 0 where
@@ -96,8 +96,7 @@ abbrev table : tree.Program → List Row
 table p = rows_from 0 (label p).bodies
 
 table-spans : (p : tree.Program) → RowsSpan 1 (1 + count_items p.items) (table p)
-table-spans p =
-    subst (λ (bodies : List Body). RowsSpan 1 (1 + count_items p.items) (rows_from 0 bodies)) (sym (bodies-label p)) (rows-span 0 1 p.items)
+table-spans p = rows-span (file_scope p.items) 0 1 p.items
 
 -- a list that is reached stands at the place before its number
 found-at : (p : tree.Program) (b : ℕ) (answers : List Bool) (n : ℕ) → Reached p b answers n → (k : ℕ) × (n ≡ suc k) × (slice_get (table p) k ≡ Some (row b (items_at p b answers)))
@@ -123,8 +122,7 @@ heads-tell p b c answers others n h g =
     (ap (λ (r : Row). r.body) one, ap (λ (r : Row). r.items) one)
 
 table-nodes : (p : tree.Program) → RowNodes (label p) (table p) (nodes_of (label p))
-table-nodes p =
-    subst (λ (bodies : List Body). RowNodes (label p) (rows_from 0 bodies) (nodes_from (label p) 0 bodies)) (sym (bodies-label p)) (all-nodes (label p) 0 1 p.items)
+table-nodes p = all-nodes (label p) (file_scope p.items) 0 1 p.items
 
 pub nodes-stand : (p : tree.Program) (b : ℕ) (answers : List Bool) (n : ℕ) → Reached p b answers n → node_of p n ≡ node_at (label p) b (items_at p b answers)
 nodes-stand p b answers n h =
@@ -148,15 +146,13 @@ successors-stand p b answers n node h e answer =
     ∙ ap (λ items. number_of (opened items)) (one-next answer (items_at p b answers))
 
 -- the first number of each body
-starts-at : (at : ℕ) (items : List tree.Item) (b : ℕ) → b < length (label_items [] at items) → (n : ℕ) × (number_of (opened (start_items (slice_index_or (label_items [] at items) b no_body))) ≡ Some n)
-starts-at at [] b h = absurd (omega arith)
-starts-at at (tree.procedure f ∷ items) zero h = by_parts f.body
-  where
-    by_parts : (b : tree.Block) → (n : ℕ) × (number_of (opened (start_items (label_procedure [] at (record f { body = b })))) ≡ Some n)
-    by_parts (tree.block ds ss) = (at, entry-is at f ds ss)
-starts-at at (tree.procedure f ∷ items) (suc b) h = starts-at (at + count_item (tree.procedure f)) items b (omega arith)
+starts-at : (file : Scope) (at : ℕ) (items : List tree.Item) (b : ℕ) → b < length (label_items file at items) → (n : ℕ) × (number_of (opened (start_items (slice_index_or (label_items file at items) b no_body))) ≡ Some n)
+starts-at file at [] b h = absurd (omega arith)
+starts-at file at (tree.procedure f ∷ items) zero h = (at, entry-is file at f)
+starts-at file at (tree.procedure f ∷ items) (suc b) h = starts-at file (at + count_item (tree.procedure f)) items b (omega arith)
+starts-at file at (tree.global g ∷ items) b h = starts-at file (at + 0) items b h
 
-get-table : (bodies : List Body) (b : ℕ) (t : code.Body) → slice_get (map body_table bodies) b ≡ Some t → (b < length bodies) × (body_table (slice_index_or bodies b no_body) ≡ t)
+pub get-table : (bodies : List Body) (b : ℕ) (t : code.Body) → slice_get (map body_table bodies) b ≡ Some t → (b < length bodies) × (body_table (slice_index_or bodies b no_body) ≡ t)
 get-table [] b t e = cc
 get-table (body ∷ bodies) zero t e = let same : body_table body ≡ t = cc in (omega arith, same)
 get-table (body ∷ bodies) (suc b) t e = let h = get-table bodies b t e in (omega (arith, h.0), h.1)
@@ -167,6 +163,5 @@ entry-from o n m e h = let k : n ≡ m = ap (λ (x : Option ℕ). unwrap_or x 0)
 pub entries-stand : (p : tree.Program) (b : ℕ) (t : code.Body) → body_of p b ≡ Some t → Reached p b [] t.entry
 entries-stand p b t e =
     let h = get-table (label p).bodies b t e in
-    let s : (n : ℕ) × (number_of (opened (start_items (body_at (label p) b))) ≡ Some n) =
-    subst (λ (bodies : List Body). b < length bodies → (n : ℕ) × (number_of (opened (start_items (slice_index_or bodies b no_body))) ≡ Some n)) (sym (bodies-label p)) (starts-at 1 p.items b) h.0 in
+    let s : (n : ℕ) × (number_of (opened (start_items (body_at (label p) b))) ≡ Some n) = starts-at (file_scope p.items) 1 p.items b h.0 in
     record { is_there = h.0; number = entry-from _ s.0 t.entry s.1 (ap (λ (x : code.Body). x.entry) h.1) }

@@ -4,31 +4,38 @@ use Rattle.std.specs.List.{prefix_len, position}
 use Rattle.cilk_tree.specs.Tree as tree
 use Rattle.cilk_model.specs.Count.{count_item, count_items, count_program}
 use Rattle.cilk_model.specs.Lines.{items_action_lines}
-use Rattle.cilk_model.specs.Labelled.{Variable, Body}
-use Rattle.cilk_model.specs.Label as model
-use Rattle.cilk_model.specs.Label.{label, label_items, label_procedure, global_scope, bodies_of, is_start}
+use Rattle.cilk_model.specs.Labelled.{Body}
+use Rattle.cilk_model.specs.Scope.{Scope}
+use Rattle.cilk_model.specs.Label.{label_items, item_globals, globals_of, names_of, file_scope, bodies_of, is_start}
 use Rattle.cilk_load.specs.declared.body.Body as code
 use Rattle.cilk_load.specs.declared.var.Var.{Var}
 use Rattle.cilk_load.specs.declared.node.Node.{Node}
-use Rattle.cilk_load.specs.Table.{nodes_from}
+use Rattle.cilk_load.specs.Slots.{cells_of}
 use Rattle.cilk_load.specs.Bodies.{body_table, starts_here, vars_from}
-use Rattle.cilk_load.specs.Pass.{items_nodes, items_bodies}
+use Rattle.cilk_load.specs.Pass.{items_nodes, items_bodies, item_vars, items_vars}
 use Rattle.cilk_load.specs.Tables.{Tabled}
-use Rattle.cilk_load.proofs.Nodes.{items-are}
+use Rattle.cilk_load.proofs.Blocks.{table-is, vars_from-append}
+use Rattle.cilk_load.proofs.Nodes.{program-nodes}
 use Rattle.cilk_eval.specs.declared.area.Area.TheVariants.{Global}
 
--- the top level has no variables
-no_globals : (items : List tree.Item) → model.globals_of items ≡ []
-no_globals [] = refl
-no_globals (tree.procedure f ∷ items) = no_globals items
+-- the tables of the labelled bodies
+pub tables-are : (file : Scope) (at : ℕ) (items : List tree.Item) → map body_table (label_items file at items) ≡ items_bodies at items
+tables-are file at [] = refl
+tables-are file at (tree.procedure f ∷ items) =
+    λ i. table-is file at f i ∷ tables-are file (at + count_item (tree.procedure f)) items i
+tables-are file at (tree.global g ∷ items) = tables-are file (at + 0) items
 
-pub bodies-label : (p : tree.Program) → bodies_of p ≡ label_items [] 1 p.items
-bodies-label p = ap (λ (vs : List Variable). label_items (global_scope 0 vs) 1 p.items) (no_globals p.items)
+-- a variable of the top level has one cell
+cells-globals : (item : tree.Item) → cells_of (item_globals item) ≡ length (item_globals item)
+cells-globals (tree.procedure f) = refl
+cells-globals (tree.global g) = refl
 
-tables-are : (at : ℕ) (items : List tree.Item) → map body_table (label_items [] at items) ≡ items_bodies at items
-tables-are at [] = refl
-tables-are at (tree.procedure f ∷ items) =
-    ap (λ (bodies : List code.Body). body_table (label_procedure [] at f) ∷ bodies) (tables-are (at + count_item (tree.procedure f)) items)
+vars-are : (at : ℕ) (items : List tree.Item) → items_vars at items ≡ vars_from Global at (globals_of items)
+vars-are at [] = refl
+vars-are at (item ∷ items) =
+    ap (λ (vs : List Var). item_vars at item ++ vs) (vars-are (at + length (item_globals item)) items)
+    ∙ ap (λ n. item_vars at item ++ vars_from Global (at + n) (globals_of items)) (sym (cells-globals item))
+    ∙ sym (vars_from-append Global at (item_globals item) (globals_of items))
 
 same_before : (bodies : List Body) → prefix_len (λ (b : code.Body). not (starts_here b)) (map body_table bodies) ≡ prefix_len (λ (b : Body). not (is_start b)) bodies
 same_before [] = refl
@@ -42,16 +49,17 @@ same_length (b ∷ bodies) = ap suc (same_length bodies)
 same_position : (bodies : List Body) → position starts_here (map body_table bodies) ≡ position is_start bodies
 same_position bodies = λ i. cond (nat_lt (same_before bodies i) (same_length bodies i)) (Some (same_before bodies i)) None
 
-pub tabled : (p : tree.Program) (nodes : List Node) (lines : List ℕ) (bodies : List code.Body) (main : ℕ) (globals locks : List Var) → count_program p ≤ 65535 → nodes ≡ items_nodes 0 1 p.items → lines ≡ items_action_lines 1 p.items → bodies ≡ items_bodies 1 p.items → position starts_here bodies ≡ Some main → globals ≡ [] → locks ≡ [] → length nodes ≡ count_items p.items → length lines ≡ count_items p.items → Tabled p nodes lines bodies main globals locks
+pub tabled : (p : tree.Program) (nodes : List Node) (lines : List ℕ) (bodies : List code.Body) (main : ℕ) (globals locks : List Var) → count_program p ≤ 65535 → nodes ≡ items_nodes globals (names_of p.items) 0 1 p.items → lines ≡ items_action_lines 1 p.items → bodies ≡ items_bodies 1 p.items → position starts_here bodies ≡ Some main → globals ≡ items_vars 0 p.items → locks ≡ [] → length nodes ≡ count_items p.items → length lines ≡ count_items p.items → Tabled p nodes lines bodies main globals locks
 tabled p nodes lines bodies main globals locks limit is_nodes is_lines is_bodies is_main is_globals is_locks node_count line_count =
-    let pass : bodies_of p ≡ label_items [] 1 p.items = bodies-label p in
-    let made : items_bodies 1 p.items ≡ map body_table (bodies_of p) = sym (tables-are 1 p.items) ∙ ap (λ (bs : List Body). map body_table bs) (sym pass) in
+    let file : Scope = file_scope p.items in
+    let made : items_bodies 1 p.items ≡ map body_table (bodies_of p) = sym (tables-are file 1 p.items) in
+    let top : globals ≡ vars_from Global 0 (globals_of p.items) = is_globals ∙ vars-are 0 p.items in
     record {
-      nodes_are = is_nodes ∙ items-are (label p) 0 0 1 p.items [] refl refl pass ∙ ap (λ (bs : List Body). nodes_from (label p) 0 bs) (sym pass);
+      nodes_are = is_nodes ∙ ap (λ (vs : List Var). items_nodes vs (names_of p.items) 0 1 p.items) top ∙ program-nodes p;
       lines_are = is_lines;
       bodies_are = is_bodies ∙ made;
       main_is = sym (same_position (bodies_of p)) ∙ ap (λ (bs : List code.Body). position starts_here bs) (sym (is_bodies ∙ made)) ∙ is_main;
-      globals_are = is_globals ∙ ap (λ (vs : List Variable). vars_from Global 0 vs) (sym (no_globals p.items));
+      globals_are = top;
       locks_are = is_locks;
       count_is = node_count;
       line_count_is = line_count;
@@ -59,12 +67,13 @@ tabled p nodes lines bodies main globals locks limit is_nodes is_lines is_bodies
     }
 
 -- what is appended to an empty table
-pub only_nodes : (xs before : List Node) (b n : ℕ) (items items' : List tree.Item) → before ≡ [] → b ≡ 0 → n ≡ 0 → items ≡ items' → xs ≡ before ++ items_nodes b (n + 1) items → xs ≡ items_nodes 0 1 items'
-only_nodes xs before b n items items' none no_body no_node same h = h ∙ (λ i. none i ++ items_nodes (no_body i) (no_node i + 1) (same i))
+pub only_nodes : (xs before : List Node) (globals : List Var) (b n : ℕ) (items items' : List tree.Item) → before ≡ [] → b ≡ 0 → n ≡ 0 → items ≡ items' → xs ≡ before ++ items_nodes globals (names_of items) b (n + 1) items → xs ≡ items_nodes globals (names_of items') 0 1 items'
+only_nodes xs before globals b n items items' none no_body no_node same h = h ∙ (λ i. none i ++ items_nodes globals (names_of (same i)) (no_body i) (no_node i + 1) (same i))
 
 pub only_bodies : (xs before : List code.Body) (n : ℕ) (items items' : List tree.Item) → before ≡ [] → n ≡ 0 → items ≡ items' → xs ≡ before ++ items_bodies (n + 1) items → xs ≡ items_bodies 1 items'
 only_bodies xs before n items items' none no_node same h = h ∙ (λ i. none i ++ items_bodies (no_node i + 1) (same i))
 
-pub length-items_bodies : (at : ℕ) (items : List tree.Item) → length (items_bodies at items) ≡ length items
+pub length-items_bodies : (at : ℕ) (items : List tree.Item) → length (items_bodies at items) ≡ length (names_of items)
 length-items_bodies at [] = refl
 length-items_bodies at (tree.procedure f ∷ items) = ap suc (length-items_bodies (at + count_item (tree.procedure f)) items)
+length-items_bodies at (tree.global g ∷ items) = length-items_bodies (at + 0) items

@@ -1,10 +1,11 @@
 -- Where variables lie: their cells stand one variable after another, in the order of the declarations.
-use Rattle.std.specs.Prelude.{ℕ, zero, suc, ◌+◌, max, List, [], ◌∷◌}
+use Rattle.std.specs.Prelude.{ℕ, zero, suc, ◌+◌, ℤ, max, List, [], ◌∷◌, ◌++◌}
 use Rattle.cilk_eval.specs.declared.area.Area.{Area}
 use Rattle.cilk_eval.specs.declared.area.Area.TheVariants.{Own, Global}
 use Rattle.cilk_eval.specs.declared.slot.Slot.{Slot}
 use Rattle.cilk_model.specs.Declaration.{Declaration, local, global, unknown}
 use Rattle.cilk_model.specs.Labelled.{Variable, Labelled}
+use Rattle.cilk_model.specs.Values.{Values}
 use Rattle.cilk_model.specs.Instance.{body_at}
 
 -- how many cells a variable has: one, if it is no array
@@ -15,6 +16,11 @@ size_of v = max v.length 1
 abbrev pub cells_of : List Variable → ℕ
 cells_of [] = 0
 cells_of (v ∷ variables) = size_of v + cells_of variables
+
+-- what they hold, one variable after another
+abbrev pub flat : Values → List ℤ
+flat [] = []
+flat (cells ∷ values) = cells ++ flat values
 
 -- the slot of variable n, counted from 0, where the cells of variable 0 begin at `at`
 abbrev pub slot_from : Area → ℕ → List Variable → ℕ → Slot

@@ -1,60 +1,54 @@
 //! Expressions over slots.
 
-ghost use Rattle.std.specs.Prelude.{◌≡◌, IfOk};
-ghost use Rattle.cilk_load.specs.Pass.{nowhere, slot_in, code_in};
+ghost use Rattle.std.specs.Prelude.{◌≡◌, IfOk, map};
+ghost use Rattle.cilk_load.specs.Names.{code_in};
 
-use crate::var::Var;
-use cilk_eval::{Area, Code, CodeNode, Slot};
+use crate::codes::Codes;
+use crate::names::Names;
+use cilk_eval::{Code, CodeNode};
 use cilk_tree::{Expr, ExprNode};
 use std::alloc::{AllocError, Global};
 
-/// The slot of the last of these variables that has the name. A program that passed the check
-/// uses no other name.
-pub(crate) fn slot_in(vars: &[Var], name: &str) -> Slot
-    ensures { result ≡ slot_in nowhere vars.now name.now }
-{
-    let mut slot = Slot {
-        area: Area::Own,
-        offset: 0,
-        length: 0,
-    };
-    for var in vars {
-        if var.name.as_str() == name {
-            slot = var.slot;
-        }
-    }
-    slot
-}
-
-/// An expression over the slots of these variables.
+/// An expression over the slots of these names.
 #[cycle(code_in)]
-pub(crate) fn code_in(alloc: Global, vars: &[Var], expr: &Expr) -> Result<Code, AllocError>
-    ensures { IfOk result (λ code. code ≡ code_in vars.now expr.now) }
+pub(crate) fn code_in(alloc: Global, names: &Names, expr: &Expr) -> Result<Code, AllocError>
+    ensures { IfOk result (λ code. code ≡ code_in names.now expr.now) }
 {
     let node = match &expr.node {
         ExprNode::Number(number) => CodeNode::Number(*number),
-        ExprNode::Name(name) => CodeNode::Variable(slot_in(vars, name.as_str())),
+        ExprNode::Name(name) => CodeNode::Variable(names.slot_of(name.as_str())),
         ExprNode::Binary(op, left, right) => CodeNode::Binary(
             *op,
-            boxed_code_in(alloc, vars, left)?,
-            boxed_code_in(alloc, vars, right)?,
+            boxed_code_in(alloc, names, left)?,
+            boxed_code_in(alloc, names, right)?,
         ),
         ExprNode::Unary(op, operand) => {
-            CodeNode::Unary(*op, boxed_code_in(alloc, vars, operand)?)
+            CodeNode::Unary(*op, boxed_code_in(alloc, names, operand)?)
         }
         ExprNode::Choose(test, first, second) => CodeNode::Choose(
-            boxed_code_in(alloc, vars, test)?,
-            boxed_code_in(alloc, vars, first)?,
-            boxed_code_in(alloc, vars, second)?,
+            boxed_code_in(alloc, names, test)?,
+            boxed_code_in(alloc, names, first)?,
+            boxed_code_in(alloc, names, second)?,
         ),
     };
     Ok(Code { node })
 }
 
 #[cycle(code_in)]
-fn boxed_code_in(alloc: Global, vars: &[Var], expr: &Expr) -> Result<Box<Code>, AllocError>
-    ensures { IfOk result (λ code. code.value ≡ code_in vars.now expr.now) }
+fn boxed_code_in(alloc: Global, names: &Names, expr: &Expr) -> Result<Box<Code>, AllocError>
+    ensures { IfOk result (λ code. code.value ≡ code_in names.now expr.now) }
 {
-    let code = code_in(alloc, vars, expr)?;
+    let code = code_in(alloc, names, expr)?;
     Ok(Box::new(alloc, code)?)
+}
+
+/// Each of these expressions, in their order.
+pub(crate) fn codes_in(alloc: Global, names: &Names, exprs: &[Expr]) -> Result<Codes, AllocError>
+    ensures { IfOk result (λ codes. codes ≡ map (code_in names.now) exprs.now) }
+{
+    let mut codes = Vec::new(alloc);
+    for expr in exprs {
+        codes.push(code_in(alloc, names, expr)?)?;
+    }
+    Ok(Codes::new(codes))
 }

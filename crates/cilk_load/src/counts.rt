@@ -26,6 +26,7 @@ fn count_item(item: &Item) -> u32
 {
     match &item.node {
         ItemNode::Procedure(definition) => plus(count_block(&definition.body), 1),
+        ItemNode::Global(_) => 0,
     }
 }
 
@@ -72,7 +73,9 @@ fn count_stmt(stmt: &Stmt) -> u32
         | StmtNode::Return(_, _)
         | StmtNode::Null
         | StmtNode::Update(_, _, _)
-        | StmtNode::Adjust(_, _) => 1,
+        | StmtNode::Adjust(_, _)
+        | StmtNode::Spawn(_, _, _, _)
+        | StmtNode::Sync(_) => 1,
     }
 }
 

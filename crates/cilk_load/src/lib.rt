@@ -2,23 +2,28 @@
 #![tactic(auto)]
 
 mod action;
+mod acts;
 mod body;
 mod building;
 mod code;
 mod codes;
 mod counts;
 mod fault;
+mod globals;
 mod laws;
 mod lines;
 mod loaded;
 mod loading;
 mod name;
+mod names;
 mod node;
 mod numbering;
 mod tables;
 mod taker;
 #[cfg(test)]
 mod tests;
+#[cfg(test)]
+mod tests_of_spawns;
 mod var;
 mod variables;
 mod vars;
@@ -28,7 +33,7 @@ pub use body::Body;
 pub use cilk_tree::Memory;
 pub use codes::Codes;
 pub use fault::LoadFault;
-pub use laws::nodes_stand_for_lists;
+pub use laws::{globals_have_cells, nodes_stand_for_lists, spawns_have_bodies};
 pub use loaded::Loaded;
 pub use loading::load;
 pub use name::Name;

@@ -34,6 +34,7 @@ fn put_item(lines: &mut Vec<u32>, line: u32, item: &Item) -> Result<u32, AllocEr
 {
     match &item.node {
         ItemNode::Procedure(definition) => put_procedure(lines, line, definition),
+        ItemNode::Global(_) => Ok(line + 1),
     }
 }
 
@@ -106,7 +107,9 @@ fn put_stmt(lines: &mut Vec<u32>, line: u32, stmt: &Stmt) -> Result<u32, AllocEr
         | StmtNode::Return(_, _)
         | StmtNode::Null
         | StmtNode::Update(_, _, _)
-        | StmtNode::Adjust(_, _) => {
+        | StmtNode::Adjust(_, _)
+        | StmtNode::Spawn(_, _, _, _)
+        | StmtNode::Sync(_) => {
             lines.push(line)?;
             Ok(line + 1)
         }

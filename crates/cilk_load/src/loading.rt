@@ -4,6 +4,7 @@ ghost use Rattle.cilk_model.specs.Count.{count_program};
 use crate::building::{place_of_main, put_items};
 use crate::counts::{MAX_ACTIONS, count_items};
 use crate::fault::LoadFault;
+use crate::globals::globals_of;
 use crate::lines::action_lines;
 use crate::loaded::Loaded;
 use crate::tables::Tables;
@@ -38,7 +39,14 @@ fn tables_of(alloc: Global, checked: Checked) -> Result<Tables, AllocError>
     let mut nodes = Vec::new(alloc);
     let mut bodies = Vec::new(alloc);
     let program = checked.program();
-    put_items(alloc, &mut nodes, &mut bodies, &program.items)?;
+    let globals = globals_of(alloc, &program.items)?;
+    put_items(
+        alloc,
+        &mut nodes,
+        &mut bodies,
+        globals.as_slice(),
+        &program.items,
+    )?;
     let lines = action_lines(alloc, &program.items)?;
     let main = place_of_main(&bodies);
     Ok(Tables {
@@ -47,7 +55,7 @@ fn tables_of(alloc: Global, checked: Checked) -> Result<Tables, AllocError>
         lines,
         bodies,
         main,
-        globals: Vec::new(alloc),
+        globals,
         locks: Vec::new(alloc),
     })
 }

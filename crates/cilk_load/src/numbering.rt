@@ -1,54 +1,57 @@
 //! The nodes of a body, numbered in the order of the text.
 
-ghost use Rattle.std.specs.Prelude.{◌≡◌, ◌+◌, ◌<◌, ◌≤◌, ◌∷◌, [], ◌++◌, OnOk, Some, length, vec_len, IfOk};
-ghost use Rattle.cilk_load.specs.declared.action.Action.TheVariants.{Null};
+ghost use Rattle.std.specs.Prelude.{◌≡◌, ◌+◌, ◌<◌, ◌≤◌, ◌∷◌, [], ◌++◌, OnOk, length, vec_len};
 ghost use Rattle.cilk_tree.specs.Stmts.{stmts_of};
 ghost use Rattle.cilk_model.specs.Count.{count_option, count_decls, count_stmt, count_stmts, count_block};
 ghost use Rattle.cilk_check.specs.Names.{decls_of};
-ghost use Rattle.cilk_load.specs.Pass.{assignment_node, update_node, initialiser_nodes, decls_nodes, stmt_nodes, stmts_nodes, block_nodes, return_action};
+ghost use Rattle.cilk_load.specs.Pass.{onward, leaving, initialiser_nodes, decls_nodes, stmt_nodes, stmts_nodes, block_nodes};
 
 use crate::action::Action;
-use crate::code::{code_in, slot_in};
+use crate::acts::{assignment_in, return_action, spawn_in};
+use crate::code::code_in;
+use crate::names::Names;
 use crate::node::Node;
-use crate::var::Var;
 use cilk_eval::{Code, CodeNode};
-use cilk_tree::{BinOp, Block, Decl, Expr, Stmt, StmtNode, Word};
+use cilk_tree::{Block, Decl, Stmt, StmtNode};
 use std::alloc::{AllocError, Global};
 
-/// Appends the nodes of a block of this body, which uses these variables: so many parameters, and
-/// then the others.
+/// Appends the nodes of a block of this body, which uses these names. Its variables are so many
+/// parameters, and then the others.
 pub(crate) fn put_block(
     alloc: Global,
     nodes: &mut Vec<Node>,
     body: u32,
-    vars: &[Var],
+    names: &Names,
     parameters: usize,
     block: &Block,
 ) -> Result<(), AllocError>
     requires room { vec_len nodes.old + count_block block.now ≤ 65534 }
-    requires declared { parameters + length (decls_of block.now) ≤ length vars.now }
-    ensures nodes { OnOk result (nodes.new.items ≡ nodes.old.items ++ block_nodes body vars.now parameters (vec_len nodes.old + 1) block.now) }
+    requires declared { parameters + length (decls_of block.now) ≤ length names.now.vars }
+    requires few { parameters + length (decls_of block.now) ≤ 4096 }
+    ensures nodes { OnOk result (nodes.new.items ≡ nodes.old.items ++ block_nodes body names.now parameters (vec_len nodes.old + 1) block.now) }
     ensures len { OnOk result (vec_len nodes.new ≡ vec_len nodes.old + count_block block.now) }
 {
-    put_decls(alloc, nodes, body, vars, parameters, &block.decls)?;
-    put_stmts(alloc, nodes, body, vars, &block.stmts)
+    put_decls(alloc, nodes, body, names, parameters, &block.decls)?;
+    put_stmts(alloc, nodes, body, names, &block.stmts)
 }
 
 fn put_decls(
     alloc: Global,
     nodes: &mut Vec<Node>,
     body: u32,
-    vars: &[Var],
+    names: &Names,
     parameters: usize,
     decls: &[Decl],
 ) -> Result<(), AllocError>
     requires room { vec_len nodes.old + count_decls decls.now ≤ 65534 }
-    requires declared { parameters + length decls.now ≤ length vars.now }
-    ensures nodes { OnOk result (nodes.new.items ≡ nodes.old.items ++ decls_nodes body vars.now parameters (vec_len nodes.old + 1) decls.now) }
+    requires declared { parameters + length decls.now ≤ length names.now.vars }
+    requires few { parameters + length decls.now ≤ 4096 }
+    ensures nodes { OnOk result (nodes.new.items ≡ nodes.old.items ++ decls_nodes body names.now parameters (vec_len nodes.old + 1) decls.now) }
     ensures len { OnOk result (vec_len nodes.new ≡ vec_len nodes.old + count_decls decls.now) }
 {
     for (i, decl) in decls.iter().enumerate() {
-        put_initialiser(alloc, nodes, body, &vars[..parameters + i + 1], decl)?;
+        let seen = names.up_to(parameters + i + 1);
+        put_initialiser(alloc, nodes, body, &seen, decl)?;
     }
     Ok(())
 }
@@ -57,16 +60,19 @@ fn put_initialiser(
     alloc: Global,
     nodes: &mut Vec<Node>,
     body: u32,
-    vars: &[Var],
+    names: &Names,
     decl: &Decl,
 ) -> Result<(), AllocError>
     requires { vec_len nodes.old + count_option decl.now.value ≤ 65534 }
-    ensures nodes { OnOk result (nodes.new.items ≡ nodes.old.items ++ initialiser_nodes body vars.now (vec_len nodes.old + 1) decl.now.name.text decl.now.value) }
+    ensures nodes { OnOk result (nodes.new.items ≡ nodes.old.items ++ initialiser_nodes body names.now (vec_len nodes.old + 1) decl.now.name.text decl.now.value) }
     ensures len { OnOk result (vec_len nodes.new ≡ vec_len nodes.old + count_option decl.now.value) }
 {
     match &decl.value {
         None => Ok(()),
-        Some(value) => put_assignment(alloc, nodes, body, vars, &decl.name, value),
+        Some(value) => {
+            let action = assignment_in(alloc, names, &decl.name, value)?;
+            put_onward(nodes, body, action)
+        }
     }
 }
 
@@ -74,15 +80,15 @@ fn put_stmts(
     alloc: Global,
     nodes: &mut Vec<Node>,
     body: u32,
-    vars: &[Var],
+    names: &Names,
     stmts: &[Stmt],
 ) -> Result<(), AllocError>
     requires { vec_len nodes.old + count_stmts (stmts_of stmts.now) ≤ 65534 }
-    ensures nodes { OnOk result (nodes.new.items ≡ nodes.old.items ++ stmts_nodes body vars.now (vec_len nodes.old + 1) (stmts_of stmts.now)) }
+    ensures nodes { OnOk result (nodes.new.items ≡ nodes.old.items ++ stmts_nodes body names.now (vec_len nodes.old + 1) (stmts_of stmts.now)) }
     ensures len { OnOk result (vec_len nodes.new ≡ vec_len nodes.old + count_stmts (stmts_of stmts.now)) }
 {
     for stmt in stmts {
-        put_stmt(alloc, nodes, body, vars, stmt)?;
+        put_stmt(alloc, nodes, body, names, stmt)?;
     }
     Ok(())
 }
@@ -91,92 +97,50 @@ fn put_stmt(
     alloc: Global,
     nodes: &mut Vec<Node>,
     body: u32,
-    vars: &[Var],
+    names: &Names,
     stmt: &Stmt,
 ) -> Result<(), AllocError>
     requires { vec_len nodes.old + count_stmt stmt.now ≤ 65534 }
-    ensures nodes { OnOk result (nodes.new.items ≡ nodes.old.items ++ stmt_nodes body vars.now (vec_len nodes.old + 1) stmt.now) }
+    ensures nodes { OnOk result (nodes.new.items ≡ nodes.old.items ++ stmt_nodes body names.now (vec_len nodes.old + 1) stmt.now) }
     ensures len { OnOk result (vec_len nodes.new ≡ vec_len nodes.old + count_stmt stmt.now) }
 {
     match &stmt.node {
         StmtNode::Assign(place, value) => {
-            put_assignment(alloc, nodes, body, vars, &place.name, value)
+            let action = assignment_in(alloc, names, &place.name, value)?;
+            put_onward(nodes, body, action)
         }
         StmtNode::Return(_, value) => {
-            let action = return_action(alloc, vars, value)?;
-            nodes.push(Node {
-                action,
-                next: None,
-                body,
-            })?;
-            Ok(())
+            let action = return_action(alloc, names, value)?;
+            put_leaving(nodes, body, action)
         }
-        StmtNode::Null => put_null(nodes, body),
+        StmtNode::Null => put_onward(nodes, body, Action::Null),
         StmtNode::Update(place, op, value) => {
-            let value = code_in(alloc, vars, value)?;
-            put_update(nodes, body, vars, *op, &place.name, value)
+            let slot = names.slot_of(place.name.as_str());
+            let value = code_in(alloc, names, value)?;
+            put_onward(nodes, body, Action::AssignBy(*op, slot, value))
         }
         StmtNode::Adjust(place, by) => {
+            let slot = names.slot_of(place.name.as_str());
             let one = Code {
                 node: CodeNode::Number(1),
             };
-            put_update(nodes, body, vars, by.operator(), &place.name, one)
+            put_onward(nodes, body, Action::AssignBy(by.operator(), slot, one))
         }
+        StmtNode::Spawn(_, taker, callee, arguments) => {
+            let action = spawn_in(alloc, names, taker, callee, arguments)?;
+            put_onward(nodes, body, action)
+        }
+        StmtNode::Sync(_) => put_onward(nodes, body, Action::Sync),
     }
 }
 
-fn put_null(nodes: &mut Vec<Node>, body: u32) -> Result<(), AllocError>
+// Appends an action behind which the body goes on.
+fn put_onward(nodes: &mut Vec<Node>, body: u32, action: Action) -> Result<(), AllocError>
     requires { vec_len nodes.old < 65534 }
-    ensures nodes { OnOk result (nodes.new.items ≡ nodes.old.items ++ record { action = Null; next = Some (vec_len nodes.old + 1 + 1); body = body } ∷ []) }
+    ensures nodes { OnOk result (nodes.new.items ≡ nodes.old.items ++ onward body (vec_len nodes.old + 1) action ∷ []) }
     ensures len { OnOk result (vec_len nodes.new ≡ vec_len nodes.old + 1) }
 {
     let number = nodes.len() as u32 + 1;
-    nodes.push(Node {
-        action: Action::Null,
-        next: Some(number + 1),
-        body,
-    })?;
-    Ok(())
-}
-
-// Appends an assignment with an operator, where the right operand is this.
-fn put_update(
-    nodes: &mut Vec<Node>,
-    body: u32,
-    vars: &[Var],
-    op: BinOp,
-    name: &Word,
-    value: Code,
-) -> Result<(), AllocError>
-    requires { vec_len nodes.old < 65534 }
-    ensures nodes { OnOk result (nodes.new.items ≡ nodes.old.items ++ update_node body vars.now (vec_len nodes.old + 1) op name.now.text value ∷ []) }
-    ensures len { OnOk result (vec_len nodes.new ≡ vec_len nodes.old + 1) }
-{
-    let number = nodes.len() as u32 + 1;
-    let slot = slot_in(vars, name.as_str());
-    nodes.push(Node {
-        action: Action::AssignBy(op, slot, value),
-        next: Some(number + 1),
-        body,
-    })?;
-    Ok(())
-}
-
-fn put_assignment(
-    alloc: Global,
-    nodes: &mut Vec<Node>,
-    body: u32,
-    vars: &[Var],
-    name: &Word,
-    value: &Expr,
-) -> Result<(), AllocError>
-    requires { vec_len nodes.old < 65534 }
-    ensures nodes { OnOk result (nodes.new.items ≡ nodes.old.items ++ assignment_node body vars.now (vec_len nodes.old + 1) name.now.text value.now ∷ []) }
-    ensures len { OnOk result (vec_len nodes.new ≡ vec_len nodes.old + 1) }
-{
-    let number = nodes.len() as u32 + 1;
-    let slot = slot_in(vars, name.as_str());
-    let action = Action::Assign(slot, code_in(alloc, vars, value)?);
     nodes.push(Node {
         action,
         next: Some(number + 1),
@@ -185,11 +149,19 @@ fn put_assignment(
     Ok(())
 }
 
-fn return_action(alloc: Global, vars: &[Var], value: &Option<Expr>) -> Result<Action, AllocError>
-    ensures { IfOk result (λ action. action ≡ return_action vars.now value.now) }
+/// Appends an action with which the body is left.
+pub(crate) fn put_leaving(
+    nodes: &mut Vec<Node>,
+    body: u32,
+    action: Action,
+) -> Result<(), AllocError>
+    ensures nodes { OnOk result (nodes.new.items ≡ nodes.old.items ++ leaving body action ∷ []) }
+    ensures len { OnOk result (vec_len nodes.new ≡ vec_len nodes.old + 1) }
 {
-    match value {
-        None => Ok(Action::ReturnNothing),
-        Some(value) => Ok(Action::Return(code_in(alloc, vars, value)?)),
-    }
+    nodes.push(Node {
+        action,
+        next: None,
+        body,
+    })?;
+    Ok(())
 }

@@ -10,29 +10,29 @@ use cilk_tree::{
 use std::alloc::Global;
 use std::test::Fail;
 
-fn word(alloc: Global, text: &str) -> Result<Word, Fail> {
+pub(crate) fn word(alloc: Global, text: &str) -> Result<Word, Fail> {
     Ok(Word::new(String::from_str(alloc, text)?, 0))
 }
 
-fn number(n: u32) -> Expr {
+pub(crate) fn number(n: u32) -> Expr {
     Expr {
         node: ExprNode::Number(n),
     }
 }
 
-fn name(alloc: Global, text: &str) -> Result<Expr, Fail> {
+pub(crate) fn name(alloc: Global, text: &str) -> Result<Expr, Fail> {
     Ok(Expr {
         node: ExprNode::Name(word(alloc, text)?),
     })
 }
 
-fn binary(alloc: Global, op: BinOp, left: Expr, right: Expr) -> Result<Expr, Fail> {
+pub(crate) fn binary(alloc: Global, op: BinOp, left: Expr, right: Expr) -> Result<Expr, Fail> {
     Ok(Expr {
         node: ExprNode::Binary(op, Box::new(alloc, left)?, Box::new(alloc, right)?),
     })
 }
 
-fn decl(alloc: Global, text: &str, value: Option<Expr>) -> Result<Decl, Fail> {
+pub(crate) fn decl(alloc: Global, text: &str, value: Option<Expr>) -> Result<Decl, Fail> {
     Ok(Decl {
         name: word(alloc, text)?,
         value,
@@ -48,13 +48,13 @@ fn assigns(alloc: Global, text: &str, value: Expr) -> Result<Stmt, Fail> {
     })
 }
 
-fn returns(value: Expr) -> Stmt {
+pub(crate) fn returns(value: Expr) -> Stmt {
     Stmt {
         node: StmtNode::Return(0, Some(value)),
     }
 }
 
-fn procedure(alloc: Global, text: &str, body: Block) -> Result<Item, Fail> {
+pub(crate) fn procedure(alloc: Global, text: &str, body: Block) -> Result<Item, Fail> {
     let definition = Proc {
         returns: ReturnType::Int,
         name: word(alloc, text)?,
@@ -66,7 +66,7 @@ fn procedure(alloc: Global, text: &str, body: Block) -> Result<Item, Fail> {
     })
 }
 
-fn program(items: Vec<Item>) -> Program {
+pub(crate) fn program(items: Vec<Item>) -> Program {
     Program { items, length: 0 }
 }
 

@@ -2,9 +2,9 @@
 
 ghost use Rattle.std.specs.Prelude.{◌≡◌, ◌+◌, ◌<◌, ◌≤◌, [], ◌∷◌, ◌++◌, IfOk, OnOk, length, map, vec_len};
 ghost use Rattle.cilk_eval.specs.declared.area.Area.TheVariants.{Own};
-ghost use Rattle.cilk_model.specs.Label.{variable_of, label_procedure};
-ghost use Rattle.cilk_load.specs.Bodies.{vars_from, body_table};
-ghost use Rattle.cilk_load.specs.Pass.{item_is_small};
+ghost use Rattle.cilk_model.specs.Label.{variable_of};
+ghost use Rattle.cilk_load.specs.Bodies.{vars_from};
+ghost use Rattle.cilk_load.specs.Pass.{item_is_small, procedure_body};
 ghost use Rattle.cilk_tree.specs.Tree.{procedure};
 ghost use Rattle.cilk_check.specs.Names.{decls_of};
 ghost use Rattle.cilk_tree.specs.Parameters.{parameter_decl};
@@ -20,7 +20,7 @@ use std::alloc::{AllocError, Global};
 /// The body of a procedure, whose first action has the number `entry`.
 pub(crate) fn body_of(alloc: Global, entry: u32, definition: &Proc) -> Result<Body, AllocError>
     requires { item_is_small (procedure definition.now) }
-    ensures { IfOk result (λ body. body ≡ body_table (label_procedure [] entry definition.now)) }
+    ensures { IfOk result (λ body. body ≡ procedure_body entry definition.now) }
 {
     let parameters = definition.parameters.as_slice();
     let decls = decls_of(&definition.body);
@@ -84,7 +84,8 @@ fn put_variable(alloc: Global, vars: &mut Vec<Var>, name: &Word) -> Result<(), A
     Ok(())
 }
 
-fn copied(alloc: Global, word: &Word) -> Result<Name, AllocError>
+/// A name of its own.
+pub(crate) fn copied(alloc: Global, word: &Word) -> Result<Name, AllocError>
     ensures { IfOk result (λ name. name ≡ word.now.text) }
 {
     let text = String::from_str(alloc, word.as_str())?;

@@ -1,9 +1,9 @@
 pub mod Words
-pub mod Remains
 pub mod Situation
-pub mod Standing
-pub mod Sound
-pub mod Steps
+pub mod Stands
+pub mod Refused
 pub mod Made
-pub mod Ready
+pub mod Carried
+pub mod Opening
+pub mod Globals
 pub mod Coding

@@ -1,30 +1,28 @@
 -- What making a choice promises.
-use Rattle.std.specs.Prelude.{◌≡◌, ◌+◌, List, [], ◌∷◌, ◌++◌, Option, Some, None}
+use Rattle.std.specs.Prelude.{◌≡◌, ◌+◌, List, [], ◌∷◌, ◌++◌, Option, None}
 use Rattle.cilk_model.specs.Label.{label}
 use Rattle.cilk_model.specs.Choice.{Choice, Refusal}
 use Rattle.cilk_model.specs.Event.{Event}
-use Rattle.cilk_model.specs.Run.{refusal_of, next_of, event_of, Position, after}
-use Rattle.cilk_machine.specs.Situation.{Situation}
-use Rattle.cilk_machine.specs.Standing.{standing_of}
+use Rattle.cilk_model.specs.Run.{Standing, refusal_of, next_of, event_of}
+use Rattle.cilk_machine.specs.Situation.{Situation, workers_of}
+use Rattle.cilk_machine.specs.Stands.{Led, StandsAt}
 
--- why the choice is not possible, if it is not
-abbrev pub refused : Situation → Choice → Option Refusal
-refused m choice = refusal_of (label m.program) (standing_of m) choice
+-- why the choice is not possible at a standing, if it is not
+abbrev pub refused : Situation → Standing → Choice → Option Refusal
+refused m at choice = refusal_of (label m.program) at choice
 
--- the choice is possible in m and leads to n, and this is what it did
+-- the choice is possible at the standing, did this, and leads to n with every list of choices that leads to m
+pub record Leads (m n : Situation) (choice : Choice) (did : Event) (choices : List Choice) (events : List Event) (at : Standing) : Type 0 where
+  pub possible : refused m at choice ≡ None
+  pub event : did ≡ event_of (label m.program) at choice
+  pub led : Led n (choices ++ choice ∷ []) (events ++ did ∷ []) (next_of (label m.program) at choice)
+
 pub record Makes (m n : Situation) (choice : Choice) (did : Event) : Type 0 where
-  pub possible : refused m choice ≡ None
-  pub standing : standing_of n ≡ next_of (label m.program) (standing_of m) choice
-  pub event : did ≡ event_of (label m.program) (standing_of m) choice
   pub program : n.program ≡ m.program
-  pub workers : n.workers ≡ m.workers
+  pub workers : workers_of n ≡ workers_of m
   pub choices : n.choices ≡ m.choices + 1
+  pub leads : (choices : List Choice) (events : List Event) (at : Standing) → Led m choices events at → Leads m n choice did choices events at
 
--- a machine where a list of choices led, which did this
-abbrev pub position_of : Situation → List Event → Position
-position_of m events = record { standing = standing_of m; events = events }
-
--- every list of choices that leads to m leads to n with this choice at its end, and this is the last that it did
-abbrev pub GoesOn : Situation → Situation → Choice → Event → Type 0
-GoesOn m n choice did = (choices : List Choice) (events : List Event) → after (label m.program) m.workers choices ≡ Some (position_of m events)
-    → after (label m.program) m.workers (choices ++ choice ∷ []) ≡ Some (position_of n (events ++ did ∷ []))
+-- this is why the choice is not possible where the machine stands
+abbrev pub IsRefused : Situation → Choice → Option Refusal → Type 0
+IsRefused m choice reason = (at : Standing) → StandsAt m at → refused m at choice ≡ reason

@@ -7,12 +7,11 @@ use Rattle.cilk_model.specs.End as end
 use Rattle.cilk_machine.specs.declared.act.Act.{Act}
 use Rattle.cilk_machine.specs.declared.act.Act.TheVariants.{Step, Pop, Steal}
 use Rattle.cilk_machine.specs.declared.choice.Choice.{Choice}
-use Rattle.cilk_machine.specs.declared.kind.Kind.{Kind}
-use Rattle.cilk_machine.specs.declared.kind.Kind.TheVariants.{Value, Lock, HeldLock, Depth, Instances, Output}
+use Rattle.cilk_step.specs.Words.{kind_of}
 use Rattle.cilk_machine.specs.declared.outcome.Outcome.{Outcome}
 use Rattle.cilk_machine.specs.declared.outcome.Outcome.TheVariants as outcome
 use Rattle.cilk_machine.specs.declared.event.Event.{Event}
-use Rattle.cilk_machine.specs.declared.event.Event.TheVariants.{Acted, Returned, Trapped, Moved}
+use Rattle.cilk_machine.specs.declared.event.Event.TheVariants.{Acted, Spawned, Delivered, Returned, Trapped, Moved}
 use Rattle.cilk_machine.specs.declared.end.End.{End}
 use Rattle.cilk_machine.specs.declared.end.End.TheVariants as ends
 use Rattle.cilk_machine.specs.declared.refusal.Refusal.{Refusal}
@@ -36,14 +35,6 @@ reason_of DequeEmpty = Some model.deque_empty
 reason_of Waiting = Some model.waiting
 reason_of Memory = None
 
-abbrev pub kind_of : Kind → state.Kind
-kind_of (Value trap) = state.of_value trap
-kind_of Lock = state.lock
-kind_of HeldLock = state.held_lock
-kind_of Depth = state.depth
-kind_of Instances = state.instances
-kind_of Output = state.output
-
 abbrev pub outcome_of : Outcome → state.Outcome
 outcome_of outcome.Running = state.running
 outcome_of (outcome.Finished value) = state.finished value
@@ -51,6 +42,8 @@ outcome_of (outcome.Trapped kind path n) = state.trapped (kind_of kind) path n
 
 abbrev pub event_of : Event → event.Event
 event_of (Acted path n) = event.acted path n
+event_of (Spawned child n) = event.spawned child n
+event_of (Delivered child n) = event.delivered child n
 event_of (Returned path n) = event.returned path n
 event_of (Trapped kind path n) = event.trapped (kind_of kind) path n
 event_of Moved = event.moved

@@ -3,12 +3,12 @@
 ghost use Rattle.std.specs.Prelude.{◌≡◌, ◌++◌, IfOk, OnOk, codes, decimal, string_bytes};
 ghost use Rattle.cilk_model.specs.Path.{numbers_text, path_text};
 ghost use Rattle.cilk_model.specs.End.{kind_text, trap_text, line_break, end_text, ending};
-ghost use Rattle.cilk_machine.specs.Words.{kind_of, end_of};
+ghost use Rattle.cilk_step.specs.Words.{kind_of};
+ghost use Rattle.cilk_machine.specs.Words.{end_of};
 
 use crate::end::End;
-use crate::kind::Kind;
-use crate::path::Path;
 use cilk_eval::Trap;
+use cilk_step::{Kind, Path};
 use cilk_tree::Memory;
 use std::alloc::Global;
 

@@ -1,5 +1,4 @@
-use crate::kind::Kind;
-use crate::path::Path;
+use cilk_step::{Kind, Path};
 
 /// How a program stands when no more choices are made.
 #[derive(Debug, Drop)]

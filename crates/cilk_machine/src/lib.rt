@@ -2,30 +2,34 @@
 #![tactic(auto)]
 
 mod act;
+mod carry;
 mod choice;
 mod closing;
 mod end;
 mod event;
 mod fault;
-mod kind;
 pub mod laws;
 mod machine;
+mod moves;
+mod opening;
 mod outcome;
-mod path;
+mod reading;
 mod refusal;
-mod step;
+mod refusing;
+mod returning;
+mod starting;
 #[cfg(test)]
 mod tests;
+mod writing;
 
 pub use act::Act;
 pub use choice::Choice;
+pub use cilk_step::{Kind, Path};
 pub use cilk_tree::Memory;
 pub use closing::ending;
 pub use end::End;
 pub use event::Event;
 pub use fault::MachineFault;
-pub use kind::Kind;
 pub use machine::Machine;
 pub use outcome::Outcome;
-pub use path::Path;
 pub use refusal::Refusal;

@@ -1,5 +1,4 @@
-use crate::kind::Kind;
-use crate::path::Path;
+use cilk_step::{Kind, Path};
 
 /// Whether a program has ended, and how.
 #[derive(Debug, Drop)]

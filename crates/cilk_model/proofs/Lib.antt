@@ -12,3 +12,4 @@ pub mod Family
 pub mod Parked
 pub mod Deques
 pub mod Leaves
+pub mod Crew

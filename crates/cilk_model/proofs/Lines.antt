@@ -2,7 +2,7 @@
 use Rattle.std.proofs.Common.{◌≡◌, ℕ, zero, suc, ◌+◌, ◌<◌, ◌≤◌, List, [], ◌∷◌, ◌++◌, map, length, Option, Some, None, refl, ap, arith, length-append, get_or}
 use Rattle.std.specs.Prelude.{codes}
 use Rattle.std.specs.List.{All}
-use Rattle.cilk_tree.specs.Tree.{Decl, Stmt, assign, null, update, adjust, Stmts, none, also, Block, block, Item, procedure, return_at}
+use Rattle.cilk_tree.specs.Tree.{Decl, Stmt, assign, null, update, adjust, spawn_at, sync_at, Stmts, none, also, Block, block, Item, procedure, global, return_at}
 use Rattle.cilk_tree.specs.ProgramText.{decl_line, stmt_lines, stmts_lines, block_lines, item_lines, items_lines, program_lines, deeper}
 use Rattle.cilk_model.specs.Count.{count_option, count_decls, count_stmt, count_stmts, count_block, count_item, count_items}
 use Rattle.cilk_model.specs.Lines.{initialiser_lines, decls_action_lines, stmt_action_lines, stmts_action_lines, block_action_lines, item_action_lines, items_action_lines, action_lines}
@@ -23,6 +23,8 @@ stmt_count at (return_at place value) = refl
 stmt_count at null = refl
 stmt_count at (update place op value) = refl
 stmt_count at (adjust place by) = refl
+stmt_count at (spawn_at place taker callee arguments) = refl
+stmt_count at (sync_at place) = refl
 
 stmts_count : (at : ℕ) (ss : Stmts) → length (stmts_action_lines at ss) ≡ count_stmts ss
 stmts_count at none = refl
@@ -38,6 +40,7 @@ item_count : (at : ℕ) (i : Item) → length (item_action_lines at i) ≡ count
 item_count at (procedure p) =
     let last : List ℕ = (at + 1 + length (block_lines (deeper []) p.body)) ∷ [] in
     omega (arith, length-append (block_action_lines (at + 1) p.body) last, block_count (at + 1) p.body)
+item_count at (global g) = refl
 
 items_count : (at : ℕ) (is : List Item) → length (items_action_lines at is) ≡ count_items is
 items_count at [] = refl
@@ -77,6 +80,8 @@ stmt_between at (return_at place value) = (omega arith, omega arith, tt)
 stmt_between at null = (omega arith, omega arith, tt)
 stmt_between at (update place op value) = (omega arith, omega arith, tt)
 stmt_between at (adjust place by) = (omega arith, omega arith, tt)
+stmt_between at (spawn_at place taker callee arguments) = (omega arith, omega arith, tt)
+stmt_between at (sync_at place) = (omega arith, omega arith, tt)
 
 stmts_between : (at : ℕ) (ss : Stmts) → Between at (at + length (stmts_lines [] ss)) (stmts_action_lines at ss)
 stmts_between at none = tt
@@ -94,6 +99,8 @@ stmt_size a b (return_at place value) = refl
 stmt_size a b null = refl
 stmt_size a b (update place op value) = refl
 stmt_size a b (adjust place by) = refl
+stmt_size a b (spawn_at place taker callee arguments) = refl
+stmt_size a b (sync_at place) = refl
 
 stmts_size : (a b : List ℕ) (ss : Stmts) → length (stmts_lines a ss) ≡ length (stmts_lines b ss)
 stmts_size a b none = refl
@@ -122,6 +129,7 @@ item_between at (procedure p) =
     joined at (at + length (item_lines (procedure p))) (block_action_lines (at + 1) p.body) ((at + 1 + inner) ∷ [])
     (wider (at + 1) (at + 1 + inner) at (at + length (item_lines (procedure p))) (block_action_lines (at + 1) p.body) (omega arith) (omega arith) (block_between (at + 1) (deeper []) p.body))
     (omega arith, omega arith, tt)
+item_between at (global g) = tt
 
 items_between : (at : ℕ) (is : List Item) → Between at (at + length (items_lines is)) (items_action_lines at is)
 items_between at [] = tt

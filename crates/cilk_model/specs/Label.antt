@@ -1,12 +1,12 @@
 -- A program is labelled: its actions are numbered from 1 in the order of the canonical text.
-use Rattle.std.specs.Prelude.{ℕ, suc, ◌+◌, pos, List, [], ◌∷◌, ◌++◌, length, map, codes, Option, Some, None, bytes_eq, position, ◌==◌, Bool, ◌&&◌}
+use Rattle.std.specs.Prelude.{ℕ, suc, ◌+◌, pos, List, [], ◌∷◌, ◌++◌, length, map, codes, Option, Some, None, unwrap_or, bytes_eq, position, ◌==◌, Bool, ◌&&◌}
 use Rattle.cilk_tree.specs.Adjustments.{operator_of}
 use Rattle.cilk_tree.specs.Tree as tree
 use Rattle.cilk_tree.specs.Parameters.{parameter_decl}
 use Rattle.cilk_eval.specs.Term as term
 use Rattle.cilk_model.specs.Declaration.{local, global}
-use Rattle.cilk_model.specs.Scope.{Scope, meaning_of, with_local, with_locals, label_expr}
-use Rattle.cilk_model.specs.Labelled.{Target, variable, assign, return_with, assign_by, null, Stmt, action, Stmts, none, also, Variable, Body, Labelled, Action, return_nothing}
+use Rattle.cilk_model.specs.Scope.{Visible, Scope, meaning_of, callee_of, with_local, with_locals, label_expr}
+use Rattle.cilk_model.specs.Labelled.{Target, variable, Taker, nothing, into, assign, return_with, assign_by, null, spawn, sync, Stmt, action, Stmts, none, also, Variable, Body, Labelled, Action, return_nothing}
 use Rattle.cilk_model.specs.Count.{count_option, count_decls, count_stmt, count_block, count_item}
 use Rattle.cilk_model.specs.Lines.{action_lines}
 
@@ -20,6 +20,8 @@ stmt_variables (tree.return_at place value) = []
 stmt_variables tree.null = []
 stmt_variables (tree.update place op value) = []
 stmt_variables (tree.adjust place by) = []
+stmt_variables (tree.spawn_at place taker callee arguments) = []
+stmt_variables (tree.sync_at place) = []
 
 abbrev pub stmts_variables : tree.Stmts → List Variable
 stmts_variables tree.none = []
@@ -49,6 +51,11 @@ abbrev pub label_return : Scope → Option tree.Expr → Action
 label_return scope None = return_nothing
 label_return scope (Some value) = return_with (label_expr scope value)
 
+-- what takes the value of a child (Cilk 5.4 manual, `spawn`)
+abbrev pub label_taker : Scope → tree.Taker → Taker Target
+label_taker scope tree.nothing = nothing
+label_taker scope (tree.into op place) = into op (label_place scope place)
+
 -- where `at` is the number of the next action, and n that of the next declaration
 abbrev pub label_stmt : Scope → ℕ → ℕ → tree.Stmt → Stmt
 label_stmt scope at n (tree.assign place value) = action at (assign (label_place scope place) (label_expr scope value))
@@ -59,6 +66,10 @@ label_stmt scope at n (tree.update place op value) =
 -- C 1990, 6.3.2.4
 label_stmt scope at n (tree.adjust place by) =
     action at (assign_by (operator_of by) (label_place scope place) (term.number 1))
+-- Cilk 5.4 manual, `spawn`, `sync`
+label_stmt scope at n (tree.spawn_at place taker callee arguments) =
+    action at (spawn (label_taker scope taker) (callee_of scope callee.text) (map (label_expr scope) arguments))
+label_stmt scope at n (tree.sync_at place) = action at sync
 
 abbrev pub label_stmts : Scope → ℕ → ℕ → tree.Stmts → Stmts
 label_stmts scope at n tree.none = none
@@ -80,27 +91,45 @@ label_procedure scope at p = record {
   closing = at + count_block p.body;
 }
 
+-- a procedure has a body, and a variable of the top level has none
+abbrev pub label_item : Scope → ℕ → tree.Item → List Body
+label_item scope at (tree.procedure p) = label_procedure scope at p ∷ []
+label_item scope at (tree.global g) = []
+
 abbrev pub label_items : Scope → ℕ → List tree.Item → List Body
 label_items scope at [] = []
-label_items scope at (tree.procedure p ∷ others) =
-    label_procedure scope at p ∷ label_items scope (at + count_item (tree.procedure p)) others
+label_items scope at (first ∷ others) = label_item scope at first ++ label_items scope (at + count_item first) others
 
--- the variables of the top level (C 1990, 6.7.2)
+-- the names of the bodies
+abbrev pub item_names : tree.Item → List (List ℕ)
+item_names (tree.procedure p) = p.name.text ∷ []
+item_names (tree.global g) = []
+
+abbrev pub names_of : List tree.Item → List (List ℕ)
+names_of [] = []
+names_of (first ∷ others) = item_names first ++ names_of others
+
+-- the variables of the top level, which are 0 at first, unless they are initialised (C 1990, 6.5.7, 6.7.2)
 abbrev pub item_globals : tree.Item → List Variable
 item_globals (tree.procedure p) = []
+item_globals (tree.global g) = record { name = g.name.text; length = 0; initial = unwrap_or g.value (pos 0) } ∷ []
 
 abbrev pub globals_of : List tree.Item → List Variable
 globals_of [] = []
 globals_of (first ∷ others) = item_globals first ++ globals_of others
 
 -- they are visible in the whole file
-abbrev pub global_scope : ℕ → List Variable → Scope
+abbrev pub global_scope : ℕ → List Variable → List Visible
 global_scope n [] = []
 global_scope n (v ∷ variables) =
     record { name = v.name; declaration = global n } ∷ global_scope (suc n) variables
 
+-- what is visible everywhere
+abbrev pub file_scope : List tree.Item → Scope
+file_scope items = record { variables = global_scope 0 (globals_of items); bodies = names_of items }
+
 abbrev pub bodies_of : tree.Program → List Body
-bodies_of p = label_items (global_scope 0 (globals_of p.items)) 1 p.items
+bodies_of p = label_items (file_scope p.items) 1 p.items
 
 -- the program starts at the `main` that has no parameters (C 1990, 5.1.2.2.1)
 abbrev pub is_start : Body → Bool

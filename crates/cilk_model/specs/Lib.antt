@@ -19,4 +19,5 @@ pub mod Choice
 pub mod Run
 pub mod End
 pub mod Rows
+pub mod Trees
 pub mod Laws

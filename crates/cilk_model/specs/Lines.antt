@@ -1,6 +1,6 @@
 -- On which line of the canonical text each action stands, the first line being line 1.
 use Rattle.std.specs.Prelude.{ℕ, ◌+◌, ◌∷◌, [], ◌++◌, List, length, Option, Some, None}
-use Rattle.cilk_tree.specs.Tree.{Decl, Stmt, assign, null, update, adjust, Stmts, none, also, Block, block, Item, procedure, Program, return_at}
+use Rattle.cilk_tree.specs.Tree.{Decl, Stmt, assign, null, update, adjust, spawn_at, sync_at, Stmts, none, also, Block, block, Item, procedure, global, Program, return_at}
 use Rattle.cilk_tree.specs.ProgramText.{stmt_lines, block_lines, item_lines, deeper}
 
 -- a declaration is one line, and its initialiser stands on it
@@ -19,6 +19,8 @@ stmt_action_lines at (return_at place value) = at ∷ []
 stmt_action_lines at null = at ∷ []
 stmt_action_lines at (update place op value) = at ∷ []
 stmt_action_lines at (adjust place by) = at ∷ []
+stmt_action_lines at (spawn_at place taker callee arguments) = at ∷ []
+stmt_action_lines at (sync_at place) = at ∷ []
 
 abbrev pub stmts_action_lines : ℕ → Stmts → List ℕ
 stmts_action_lines at none = []
@@ -33,6 +35,7 @@ block_action_lines at (block decls stmts) =
 abbrev pub item_action_lines : ℕ → Item → List ℕ
 item_action_lines at (procedure p) =
     block_action_lines (at + 1) p.body ++ (at + 1 + length (block_lines (deeper []) p.body)) ∷ []
+item_action_lines at (global g) = []
 
 abbrev pub items_action_lines : ℕ → List Item → List ℕ
 items_action_lines at [] = []

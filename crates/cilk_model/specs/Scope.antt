@@ -10,18 +10,31 @@ pub record Visible : Type 0 where
   pub name : List ℕ
   pub declaration : Declaration
 
--- the names that are visible at a place of the text, the newest first
-abbrev pub Scope : Type 0
-Scope = List Visible
+-- what names mean at a place of the text: the variables that are visible, the newest first, and the bodies of the program, which are visible everywhere, in the order of the text
+pub record Scope : Type 0 where
+  pub variables : List Visible
+  pub bodies : List (List ℕ)
 
 -- the newest declaration of a name hides the others
+abbrev pub newest_of : List Visible → List ℕ → Declaration
+newest_of [] name = unknown
+newest_of (v ∷ others) name = if bytes_eq v.name name then v.declaration else newest_of others name
+
 abbrev pub meaning_of : Scope → List ℕ → Declaration
-meaning_of [] name = unknown
-meaning_of (v ∷ scope) name = if bytes_eq v.name name then v.declaration else meaning_of scope name
+meaning_of scope name = newest_of scope.variables name
+
+-- how many names stand before this one
+abbrev pub place_among : List (List ℕ) → List ℕ → ℕ
+place_among [] name = 0
+place_among (other ∷ others) name = if bytes_eq other name then 0 else suc (place_among others name)
+
+-- the place of the body of this name; a well-formed program spawns no other name, which is past the last
+abbrev pub callee_of : Scope → List ℕ → ℕ
+callee_of scope name = place_among scope.bodies name
 
 -- what is visible from a declarator on, which is declaration n of its body
 abbrev pub with_local : Scope → ℕ → tree.Decl → Scope
-with_local scope n d = record { name = d.name.text; declaration = local n } ∷ scope
+with_local scope n d = record scope { variables = record { name = d.name.text; declaration = local n } ∷ scope.variables }
 
 -- what is visible after these declarations, the first of which is declaration n
 abbrev pub with_locals : Scope → ℕ → List tree.Decl → Scope

@@ -8,7 +8,8 @@ ghost use Rattle.cilk_model.specs.Label.{label, bodies_of};
 ghost use Rattle.cilk_model.specs.State as state;
 ghost use Rattle.cilk_model.specs.Event as event;
 ghost use Rattle.cilk_model.specs.Choice as choice;
-ghost use Rattle.cilk_model.specs.Laws.{OneByOne, EachChoiceKeepsRule, StuckExactly, PlacesAreKept, EachActionHasItsLine, EachHasHead, EachParkedHasChild, EachLineDescends, LimitsAreKept, EachLeafIsBusy};
+ghost use Rattle.cilk_model.specs.Laws.{OneByOne, EachChoiceKeepsRule, StuckExactly, PlacesAreKept, EachActionHasItsLine, EachHasHead, EachParkedHasChild, EachLineDescends, LimitsAreKept, EachLeafIsBusy, OneWorkerHasOneLeaf};
+ghost use Rattle.cilk_model.specs.Trees.{counting_program, doubling_program, passing_program, hiding_program, hiding};
 ghost use Rattle.cilk_model.specs.Rows.{sum_program, trap_program, own_program, sum_bodies, own_bodies, steps, pops, steals, outcome_after, events_after, closing_after, refusal_after, adds_to_a, events_with_child, values_with_child, child_returns, counting, doubling, passing, outcome_of, events_of, closing_of, refusal_then, places_of, counts_alone, parent_is_stolen, counts_twice_at_once, parent_waits, child_first, child_in_between, child_passes};
 
 /// Each action has a line of the canonical text.
@@ -21,6 +22,14 @@ pub fn rows_are_labelled()
     ensures sum { bodies_of sum_program ≡ sum_bodies }
     ensures own { bodies_of own_program ≡ own_bodies }
     ensures main { (label sum_program).main ≡ Some 0 }
+{}
+
+/// How some programs that spawn are labelled.
+pub fn rows_of_spawns_are_labelled()
+    ensures counting { label counting_program ≡ counting }
+    ensures doubling { label doubling_program ≡ doubling }
+    ensures passing { label passing_program ≡ passing }
+    ensures hiding { label hiding_program ≡ hiding }
 {}
 
 /// What two small programs do.
@@ -148,4 +157,9 @@ pub fn limits_are_kept()
 /// hand, or at the bottom of its deque where the hand is empty.
 pub fn each_leaf_is_busy()
     ensures { EachLeafIsBusy }
+{}
+
+/// After every list of possible choices of one worker at most one live instance has no live child.
+pub fn one_worker_has_one_leaf()
+    ensures { OneWorkerHasOneLeaf }
 {}

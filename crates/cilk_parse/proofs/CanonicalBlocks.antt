@@ -1,28 +1,22 @@
 -- The canonical lexemes of declarations, statements and definitions spell them, places aside.
-use Rattle.std.proofs.Common.{◌≡◌, ℕ, List, [], ◌∷◌, ◌++◌, map, Option, Some, None, refl, sym, ap, subst, ◌∙◌, append_assoc}
+use Rattle.std.proofs.Common.{◌≡◌, ℕ, List, [], ◌∷◌, ◌++◌, map, Some, None, refl, sym, ap, subst, ◌∙◌, append_assoc}
 use Rattle.std.specs.Prelude.{All}
 use Rattle.std.proofs.lemmas.List.Elements.{All-nil, All-cons, All-head, All-tail, All-append}
 use Rattle.cilk_lex.specs.Lexeme.{Piece, word, name, mark}
 use Rattle.cilk_lex.specs.Spelling.{IsName}
 use Rattle.cilk_lex.specs.declared.keyword.Keyword.TheVariants as key
-use Rattle.cilk_lex.specs.declared.mark.Mark.{Mark}
 use Rattle.cilk_lex.specs.declared.mark.Mark.TheVariants as sign
 use Rattle.cilk_tree.specs.declared.return_type.ReturnType.{ReturnType}
-use Rattle.cilk_tree.specs.declared.adjustment.Adjustment.{Adjustment}
-use Rattle.cilk_tree.specs.declared.adjustment.Adjustment.TheVariants as by
-use Rattle.cilk_tree.specs.declared.operator.BinOp.{BinOp}
-use Rattle.cilk_tree.specs.declared.operator.BinOp.TheVariants as ops
 use Rattle.cilk_tree.specs.Tree as tree
 use Rattle.cilk_tree.specs.Stmts.{stmts_of}
 use Rattle.cilk_tree.specs.Bare.{bare_word, bare_decl, bare_stmt, bare_block, bare_item}
 use Rattle.cilk_tree.proofs.StmtsOf.{bare_stmts-stmts_of}
-use Rattle.cilk_written.specs.Lexemes.{update_mark, adjust_mark, HasUpdateMark, expr_lexemes, decl_lexemes, decls_lexemes, stmt_lexemes, stmts_lexemes, block_lexemes, item_lexemes, items_lexemes, CanWriteValue, CanWriteDecls, CanWriteStmt, CanWriteStmts, CanWriteBlock, CanWriteItem, CanWriteItems, returns_word, next_parameters_lexemes, parameters_lexemes, CanWriteWords}
-use Rattle.cilk_parse.specs.declared.role.Role.{Role}
-use Rattle.cilk_parse.specs.declared.role.Role.TheVariants as role
-use Rattle.cilk_parse.specs.Roles.{role_of, assigned}
+use Rattle.cilk_written.specs.Lexemes.{expr_lexemes, decl_lexemes, decls_lexemes, stmts_lexemes, block_lexemes, item_lexemes, items_lexemes, CanWriteValue, CanWriteDecls, CanWriteBlock, CanWriteItem, CanWriteItems, returns_word, next_parameters_lexemes, parameters_lexemes, CanWriteWords}
 use Rattle.cilk_parse.specs.Grammar as grammar
-use Rattle.cilk_parse.specs.Grammar.{Each, no_more, one_more, joined, SpellsDeclarator, SpellsNextDeclarator, SpellsDeclaration, SpellsStmt, SpellsBlock, SpellsNextParameter, SpellsParameters, SpellsItem, SpellsItems}
+use Rattle.cilk_parse.specs.Grammar.{Each, no_more, one_more, joined, SpellsDeclarator, SpellsNextDeclarator, SpellsDeclaration, SpellsBlock, SpellsNextParameter, SpellsParameters, SpellsProcedure, SpellsItem, SpellsItems}
 use Rattle.cilk_parse.proofs.CanonicalExprs.{at0, all_at0, at0-append, AllGood, good_parts, good_same, good_tail, good_name, CanonicalWhole, canonical_whole}
+use Rattle.cilk_parse.proofs.CanonicalGlobals.{IsCanonicalGlobal, canonical_globals}
+use Rattle.cilk_parse.proofs.CanonicalStmts.{IsCanonicalStmt, canonical_stmts, stmts_can, stmts_spelled}
 
 -- ---- lists of one each
 
@@ -124,109 +118,6 @@ module _ (l : ℕ) where
       let k = All-head (IsCanonicalDecl l) x xs c in
       one_more k.spelled (decls_spelled xs (All-tail (IsCanonicalDecl l) x xs c)) (at0-append (decl_lexemes x) (decls_lexemes xs)) refl
 
--- ---- statements
-
-pub record CanonicalStmt (l : ℕ) (s : tree.Stmt) : Type 0 where
-  pub can : CanWriteStmt s
-  pub spelled : SpellsStmt l l (all_at0 (stmt_lexemes s)) (bare_stmt s)
-
--- an operator and `=` are written as one mark, which means them
-record SignedUpdate (o : BinOp) : Type 0 where
-  written : HasUpdateMark o
-  means : role_of (update_mark o) ≡ Some (role.Assign (Some o))
-
-update_as : (o p : BinOp) → ◌≡◌ {A = Option Role} (Some (role.Assign (Some o))) (Some (role.Assign (Some p))) → SignedUpdate o → SignedUpdate p
-update_as o p e s = let h : o ≡ p = cc in subst (λ (q : BinOp). SignedUpdate q) h s
-
-signed_update : (m : Mark) (o : BinOp) → role_of m ≡ Some (role.Assign (Some o)) → SignedUpdate o
-signed_update sign.MultiplyAssign o e = update_as ops.Multiply o e (record { written = refl; means = refl })
-signed_update sign.DivideAssign o e = update_as ops.Divide o e (record { written = refl; means = refl })
-signed_update sign.RemainderAssign o e = update_as ops.Remainder o e (record { written = refl; means = refl })
-signed_update sign.AddAssign o e = update_as ops.Add o e (record { written = refl; means = refl })
-signed_update sign.SubtractAssign o e = update_as ops.Subtract o e (record { written = refl; means = refl })
-signed_update sign.ShiftLeftAssign o e = update_as ops.ShiftLeft o e (record { written = refl; means = refl })
-signed_update sign.ShiftRightAssign o e = update_as ops.ShiftRight o e (record { written = refl; means = refl })
-signed_update sign.BitAndAssign o e = update_as ops.BitAnd o e (record { written = refl; means = refl })
-signed_update sign.BitXorAssign o e = update_as ops.BitXor o e (record { written = refl; means = refl })
-signed_update sign.BitOrAssign o e = update_as ops.BitOr o e (record { written = refl; means = refl })
-signed_update _ o e = absurd cc
-
-adjust_means : (a : Adjustment) → role_of (adjust_mark a) ≡ Some (role.Adjust a)
-adjust_means by.Increment = refl
-adjust_means by.Decrement = refl
-
-abbrev IsCanonicalStmt : ℕ → tree.Stmt → Type 0
-IsCanonicalStmt l s = CanonicalStmt l s
-
-module _ (l : ℕ) where
-  canonical_assign : (x : tree.Word) (e : tree.Expr) → IsName x.text → CanonicalWhole l e → CanonicalStmt l (tree.assign (record { name = x }) e)
-  canonical_assign x e n c = record {
-    can = (n, c.can);
-    spelled = grammar.an_assignment (at0 (name x.text)) (at0 (mark sign.Assign)) (at0 (mark sign.Semicolon)) x.text sign.Assign None refl refl refl c.spelled refl
-        (ap (λ (ts : List Piece). at0 (name x.text) ∷ at0 (mark sign.Assign) ∷ ts) (at0-append (expr_lexemes e) (mark sign.Semicolon ∷ []))) refl;
-  }
-
-  canonical_return : (at : ℕ) (e : tree.Expr) → CanonicalWhole l e → CanonicalStmt l (tree.return_at at (Some e))
-  canonical_return at e c = record {
-    can = c.can;
-    spelled = grammar.a_return (at0 (word key.Return)) (at0 (mark sign.Semicolon)) refl c.spelled refl
-        (ap (λ (ts : List Piece). at0 (word key.Return) ∷ ts) (at0-append (expr_lexemes e) (mark sign.Semicolon ∷ []))) refl;
-  }
-
-  canonical_update : (o : BinOp) (x : tree.Word) (e : tree.Expr) → SignedUpdate o → IsName x.text → CanonicalWhole l e → CanonicalStmt l (tree.update (record { name = x }) o e)
-  canonical_update o x e s n c = record {
-    can = (n, s.written, c.can);
-    spelled = grammar.an_assignment (at0 (name x.text)) (at0 (mark (update_mark o))) (at0 (mark sign.Semicolon)) x.text (update_mark o) (Some o) refl refl s.means c.spelled refl
-        (ap (λ (ts : List Piece). at0 (name x.text) ∷ at0 (mark (update_mark o)) ∷ ts) (at0-append (expr_lexemes e) (mark sign.Semicolon ∷ []))) refl;
-  }
-
-  canonical_adjust : (x : tree.Word) (a : Adjustment) → IsName x.text → CanonicalStmt l (tree.adjust (record { name = x }) a)
-  canonical_adjust x a n = record {
-    can = n;
-    spelled = grammar.adjusted_behind (at0 (name x.text)) (at0 (mark (adjust_mark a))) (at0 (mark sign.Semicolon)) x.text (adjust_mark a) a refl refl (adjust_means a) refl refl refl;
-  }
-
-  canonical_null : CanonicalStmt l tree.null
-  canonical_null = record { can = tt; spelled = grammar.a_null (at0 (mark sign.Semicolon)) refl refl refl }
-
-  canonical_assigned : (n : Mark) (o : Option BinOp) (x : tree.Word) (e : tree.Expr) → role_of n ≡ Some (role.Assign o) → IsName x.text → CanonicalWhole l e → CanonicalStmt l (assigned o (record { name = x }) e)
-  canonical_assigned n None x e r h c = canonical_assign x e h c
-  canonical_assigned n (Some o) x e r h c = canonical_update o x e (signed_update n o r) h c
-
-  canonical_bare_return : (at : ℕ) → CanonicalStmt l (tree.return_at at None)
-  canonical_bare_return at = record { can = tt; spelled = grammar.a_bare_return (at0 (word key.Return)) (at0 (mark sign.Semicolon)) refl refl refl refl }
-
-  canonical_stmt : (d : ℕ) (ts : List Piece) (x : tree.Stmt) → SpellsStmt l d ts x → AllGood ts → CanonicalStmt l x
-  canonical_stmt d ts x (grammar.an_assignment {us = us} {e = e} t u v b n o h i r s j w q) g =
-      let k = good_same w g in
-      let m = good_parts us (v ∷ []) (good_tail u (us ++ v ∷ []) (good_tail t (u ∷ (us ++ v ∷ [])) k)) in
-      subst (λ (y : tree.Stmt). CanonicalStmt l y) (sym q) (canonical_assigned n o (record { text = b; place = t.start }) e r (good_name t (u ∷ (us ++ v ∷ [])) b h k) (canonical_whole s m.0))
-  canonical_stmt d ts x (grammar.a_return {us = us} {e = e} t v h s j w q) g =
-      let m = good_parts us (v ∷ []) (good_tail t (us ++ v ∷ []) (good_same w g)) in
-      subst (λ (y : tree.Stmt). CanonicalStmt l y) (sym q) (canonical_return t.start e (canonical_whole s m.0))
-  canonical_stmt d ts x (grammar.a_bare_return t v h j w q) g = subst (λ (y : tree.Stmt). CanonicalStmt l y) (sym q) (canonical_bare_return t.start)
-  canonical_stmt d ts x (grammar.a_null v j w q) g = subst (λ (y : tree.Stmt). CanonicalStmt l y) (sym q) canonical_null
-  canonical_stmt d ts x (grammar.adjusted_behind t u v b n a h i r j w q) g =
-      subst (λ (y : tree.Stmt). CanonicalStmt l y) (sym q) (canonical_adjust (record { text = b; place = t.start }) a (good_name t (u ∷ v ∷ []) b h (good_same w g)))
-  canonical_stmt d ts x (grammar.adjusted_before u t v b n a i r h j w q) g =
-      subst (λ (y : tree.Stmt). CanonicalStmt l y) (sym q) (canonical_adjust (record { text = b; place = t.start }) a (good_name t (v ∷ []) b h (good_tail u (t ∷ v ∷ []) (good_same w g))))
-
-  canonical_stmts : (d : ℕ) {ts : List Piece} {xs : List tree.Stmt} → Each (SpellsStmt l d) ts xs → AllGood ts → All (IsCanonicalStmt l) xs
-  canonical_stmts d (no_more e w) g = rw w (All-nil (IsCanonicalStmt l))
-  canonical_stmts d (one_more {us = us} {vs = vs} {x = x} {xs = xs} r i e w) g =
-      let k = good_parts us vs (good_same e g) in
-      rw w (All-cons (IsCanonicalStmt l) x xs (canonical_stmt d us x r k.0) (canonical_stmts d i k.1))
-
-  stmts_can : (xs : List tree.Stmt) → All (IsCanonicalStmt l) xs → CanWriteStmts (stmts_of xs)
-  stmts_can [] c = tt
-  stmts_can (x ∷ xs) c = let k = All-head (IsCanonicalStmt l) x xs c in (k.can, stmts_can xs (All-tail (IsCanonicalStmt l) x xs c))
-
-  stmts_spelled : (xs : List tree.Stmt) → All (IsCanonicalStmt l) xs → Each (SpellsStmt l l) (all_at0 (stmts_lexemes (stmts_of xs))) (map bare_stmt xs)
-  stmts_spelled [] c = no_more refl refl
-  stmts_spelled (x ∷ xs) c =
-      let k = All-head (IsCanonicalStmt l) x xs c in
-      one_more k.spelled (stmts_spelled xs (All-tail (IsCanonicalStmt l) x xs c)) (at0-append (stmt_lexemes x) (stmts_lexemes (stmts_of xs))) refl
-
 -- ---- blocks
 
 pub record CanonicalBlock (l : ℕ) (b : tree.Block) : Type 0 where
@@ -297,17 +188,20 @@ canonical_parameters ts xs (grammar.some {us = us} {xs = ys} t i n u b h j k s m
 
 pub record CanonicalItem (l : ℕ) (i : tree.Item) : Type 0 where
   pub can : CanWriteItem i
-  pub spelled : SpellsItem l l (all_at0 (item_lexemes i)) (bare_item i)
+  pub spelled : SpellsItem l l (all_at0 (item_lexemes i)) (bare_item i ∷ [])
 
 pub record CanonicalItems (l : ℕ) (is : List tree.Item) : Type 0 where
   pub can : CanWriteItems is
   pub spelled : SpellsItems l l (all_at0 (items_lexemes is)) (map bare_item is)
 
+abbrev IsCanonicalItem : ℕ → tree.Item → Type 0
+IsCanonicalItem l i = CanonicalItem l i
+
 module _ (l : ℕ) where
   item_of : (r : ReturnType) (x : tree.Word) (ps : List tree.Word) (b : tree.Block) → IsName x.text → CanWriteWords ps → CanonicalBlock l b → CanonicalItem l (tree.procedure (record { returns = r; name = x; parameters = ps; body = b }))
   item_of r x ps b n m c = record {
     can = (n, m, c.can);
-    spelled = record {
+    spelled = grammar.a_procedure (record {
       cilk = at0 (word key.Cilk);
       is_cilk = refl;
       returns_piece = at0 (word (returns_word r));
@@ -325,21 +219,44 @@ module _ (l : ℕ) where
       whole = ap (λ (ts : List Piece). at0 (word key.Cilk) ∷ at0 (word (returns_word r)) ∷ at0 (name x.text) ∷ at0 (mark sign.OpenParenthesis) ∷ ts)
           (ap all_at0 (sym (append_assoc (parameters_lexemes ps) (mark sign.CloseParenthesis ∷ []) (block_lexemes b))) ∙ at0-append (parameters_lexemes ps ++ mark sign.CloseParenthesis ∷ []) (block_lexemes b));
       item = refl;
-    };
+    }) refl;
   }
 
-  canonical_item : (d : ℕ) (ts : List Piece) (i : tree.Item) → SpellsItem l d ts i → AllGood ts → CanonicalItem l i
-  canonical_item d ts i s g =
+  canonical_procedure : (d : ℕ) (ts : List Piece) (i : tree.Item) → SpellsProcedure l d ts i → AllGood ts → CanonicalItem l i
+  canonical_procedure d ts i s g =
       let k = good_tail s.returns_piece (s.name_piece ∷ (s.parameters ++ s.body)) (good_tail s.cilk (s.returns_piece ∷ s.name_piece ∷ (s.parameters ++ s.body)) (good_same s.whole g)) in
       let m = good_parts s.parameters s.body (good_tail s.name_piece (s.parameters ++ s.body) k) in
       subst (λ (j : tree.Item). CanonicalItem l j) (sym s.item)
       (item_of s.returns (record { text = s.text; place = s.name_piece.start }) s.names s.block (good_name s.name_piece (s.parameters ++ s.body) s.text s.is_name k) (canonical_parameters s.parameters s.names s.spelled_parameters m.0) (canonical_block l d s.body s.block s.spelled_body m.1))
 
-  more_items : (i : tree.Item) (is : List tree.Item) → CanonicalItem l i → CanonicalItems l is → CanonicalItems l (i ∷ is)
-  more_items i is c k = record { can = (c.can, k.can); spelled = one_more c.spelled k.spelled (at0-append (item_lexemes i) (items_lexemes is)) refl }
+  globals_of : (is : List tree.Item) → All IsCanonicalGlobal is → All (IsCanonicalItem l) is
+  globals_of [] c = All-nil (IsCanonicalItem l)
+  globals_of (i ∷ is) c =
+      let k = All-head IsCanonicalGlobal i is c in
+      All-cons (IsCanonicalItem l) i is (record { can = k.can; spelled = grammar.some_globals k.spelled }) (globals_of is (All-tail IsCanonicalGlobal i is c))
 
-  pub canonical_items : (d : ℕ) {ts : List Piece} {is : List tree.Item} → SpellsItems l d ts is → AllGood ts → CanonicalItems l is
-  canonical_items d (no_more e w) g = rw w (record { can = tt; spelled = no_more refl refl })
-  canonical_items d (one_more {us = us} {vs = vs} {x = i} {xs = is} r s e w) g =
+  canonical_item : (d : ℕ) (ts : List Piece) (is : List tree.Item) → SpellsItem l d ts is → AllGood ts → All (IsCanonicalItem l) is
+  canonical_item d ts is (grammar.some_globals s) g = globals_of is (canonical_globals ts is s g)
+  canonical_item d ts is (grammar.a_procedure {i = i} s q) g = rw q (All-cons (IsCanonicalItem l) i [] (canonical_procedure d ts i s g) (All-nil (IsCanonicalItem l)))
+
+  canonical_parts : (d : ℕ) {ts : List Piece} {parts : List (List tree.Item)} → Each (SpellsItem l d) ts parts → AllGood ts → All (IsCanonicalItem l) (joined parts)
+  canonical_parts d (no_more e w) g = rw w (All-nil (IsCanonicalItem l))
+  canonical_parts d (one_more {us = us} {vs = vs} {x = is} {xs = parts} r i e w) g =
       let k = good_parts us vs (good_same e g) in
-      rw w (more_items i is (canonical_item d us i r k.0) (canonical_items d s k.1))
+      rw w (All-append (IsCanonicalItem l) is (joined parts) (canonical_item d us is r k.0) (canonical_parts d i k.1))
+
+  items_can : (is : List tree.Item) → All (IsCanonicalItem l) is → CanWriteItems is
+  items_can [] c = tt
+  items_can (i ∷ is) c = let k = All-head (IsCanonicalItem l) i is c in (k.can, items_can is (All-tail (IsCanonicalItem l) i is c))
+
+  items_spelled : (is : List tree.Item) → All (IsCanonicalItem l) is → Each (SpellsItem l l) (all_at0 (items_lexemes is)) (singles (map bare_item is))
+  items_spelled [] c = no_more refl refl
+  items_spelled (i ∷ is) c =
+      let k = All-head (IsCanonicalItem l) i is c in
+      one_more k.spelled (items_spelled is (All-tail (IsCanonicalItem l) i is c)) (at0-append (item_lexemes i) (items_lexemes is)) refl
+
+  items_of : (is : List tree.Item) → All (IsCanonicalItem l) is → CanonicalItems l is
+  items_of is c = record { can = items_can is c; spelled = record { parts = singles (map bare_item is); spelled = items_spelled is c; items = sym (joined-singles (map bare_item is)) } }
+
+  pub canonical_items : (d : ℕ) (ts : List Piece) (is : List tree.Item) → SpellsItems l d ts is → AllGood ts → CanonicalItems l is
+  canonical_items d ts is s g = subst (λ (js : List tree.Item). CanonicalItems l js) (sym s.items) (items_of (joined s.parts) (canonical_parts d s.spelled g))

@@ -1,6 +1,7 @@
 -- Where reading a program meets a fault, it meets it whatever follows that token.
-use Rattle.std.proofs.Common.{◌≡◌, ℕ, ◌≤◌, Bool, true, false, List, [], ◌∷◌, length, Option, Some, None, Ok, Err, refl, sym, ap, subst, ◌∙◌}
-use Rattle.cilk_lex.specs.Lexeme.{Piece}
+use Rattle.std.proofs.Common.{◌≡◌, ℕ, ◌≤◌, Bool, true, false, List, [], ◌∷◌, length, Option, Some, None, Ok, Err, refl, sym, ap, subst, ◌∙◌, eq-eqb}
+use Rattle.cilk_lex.specs.Lexeme.{Lexeme, Piece}
+use Rattle.cilk_lex.specs.declared.keyword.Keyword.{Keyword}
 use Rattle.cilk_lex.specs.declared.keyword.Keyword.TheVariants as key
 use Rattle.cilk_lex.specs.declared.mark.Mark.{Mark}
 use Rattle.cilk_lex.specs.declared.mark.Mark.TheVariants as sign
@@ -13,7 +14,7 @@ use Rattle.cilk_tree.specs.declared.operator.BinOp.{BinOp}
 use Rattle.cilk_tree.specs.Tree as tree
 use Rattle.cilk_tree.specs.Stmts.{stmts_of}
 use Rattle.cilk_expr.specs.declared.fault.Fault.TheVariants.{Unexpected}
-use Rattle.cilk_expr.specs.Front.{◌>>=◌, kind_at, behind, place_at, is_mark, is_keyword, mark_at, keyword_at, name_at}
+use Rattle.cilk_expr.specs.Front.{◌>>=◌, keyword_number, kind_of, kind_at, behind, place_at, is_mark, is_keyword, mark_at, keyword_at, name_at}
 use Rattle.cilk_expr.specs.Reading.{whole_of}
 use Rattle.cilk_expr.proofs.Local.{same_kind, Reader, Local, unexpected, local_bind, local_as, local_skip, stuck_here, ok_here, local_mark, local_keyword, local_name}
 use Rattle.cilk_expr.proofs.LocalExpr.{local_whole}
@@ -21,10 +22,14 @@ use Rattle.cilk_parse.specs.declared.role.Role.{Role}
 use Rattle.cilk_parse.specs.declared.role.Role.TheVariants as role
 use Rattle.cilk_parse.specs.Roles.{role_of, role_by, assigned}
 use Rattle.cilk_parse.specs.Grammar.{joined, SpellsNextDeclarator, SpellsDeclaration, SpellsStmt, SpellsItem, SpellsNextParameter}
-use Rattle.cilk_parse.specs.Reading.{Read, value_by, value_at, declarator_at, next_declarator_at, next_declarators_at, begins_declarator, declaration_at, declarations_at, begins_declaration, value_end_at, assigned_at, adjusted_at, changed_by, changed_at, named_at, before_at, marked_by, return_at, stmt_by, stmt_at, stmts_at, begins_stmt, block_at, parameters_at, item_at, items_at, begins_item, result_by, result_end_at, parameter_at, next_parameter_at, next_parameters_at, some_parameters_at, parameter_list_by, parameter_list_at, returns_by, returns_at}
+use Rattle.cilk_parse.specs.Reading.{Read, value_by, value_at, declarator_at, next_declarator_at, next_declarators_at, begins_declarator, declaration_at, declarations_at, begins_declaration, value_end_at, spawn_at, sync_at, assigned_by, assigned_at, adjusted_at, changed_by, changed_at, named_at, before_at, marked_by, return_at, worded_by, stmt_by, stmt_at, stmts_at, begins_stmt, block_at, parameters_at, procedure_at, globals_at, item_by, item_at, begins_item, parts_at, items_at, result_by, result_end_at, parameter_at, next_parameter_at, next_parameters_at, some_parameters_at, parameter_list_by, parameter_list_at, returns_by, returns_at}
 use Rattle.cilk_parse.proofs.ManyLaws.{Shortens, took_shorter, local_many}
 use Rattle.cilk_expr.proofs.Tools.{mark_next}
-use Rattle.cilk_parse.proofs.Sound.{mark_test, keyword_test, role_next, next_declarator_takes, declaration_takes, stmt_takes, item_takes, next_parameter_takes}
+use Rattle.cilk_parse.proofs.LocalGlobals.{local_globals}
+use Rattle.cilk_parse.proofs.LocalSpawn.{local_spawn, local_sync}
+use Rattle.cilk_parse.proofs.Sound.{item_takes, next_parameter_takes}
+use Rattle.cilk_parse.proofs.SoundDecls.{mark_test, keyword_test, next_declarator_takes, declaration_takes}
+use Rattle.cilk_parse.proofs.SoundStmts.{role_next, stmt_takes}
 
 pub next_declarator_shorter : (l d : ℕ) → Shortens (λ us. next_declarator_at l d us)
 next_declarator_shorter l d us y h = took_shorter (SpellsNextDeclarator l d) us y (next_declarator_takes l d us y h)
@@ -97,10 +102,28 @@ module _ (same : Type 0) (l l' d d' : ℕ) (le : l ≤ l') (le' : d ≤ d') (eq 
   unfolding value_end_at
   value_end ts = local_bind same ts (whole_of l d ts) (λ us. whole_of l' d' us) (λ e. semicolon_then e.0 e.1) (λ e. semicolon_then e.0 e.1) (expression ts) (λ e h. semicolon e.0 e.1)
 
+  -- behind the word `spawn`
+  spawning : (at : ℕ) (taker : tree.Taker) (ts : List Piece) → Local {A = tree.Stmt} same ts (spawn_at l d at taker ts) (λ us. spawn_at l' d' at taker us)
+  spawning at taker ts = local_spawn same l l' d d' le le' eq eq' at taker ts
+
+  value_assigned : (place : tree.Place) (o : Option BinOp) (ts : List Piece) → Local {A = tree.Stmt} same ts (assigned_by l d place o ts false) (λ us. assigned_by l' d' place o us false)
+  value_assigned place o ts =
+      local_bind same ts (value_end_at l d ts) (λ us. value_end_at l' d' us) (λ y. Ok (assigned o place y.0, y.1)) (λ y. Ok (assigned o place y.0, y.1)) (value_end ts) (λ y j. ok_here (assigned o place y.0) y.1 _ (λ us s. refl))
+
+  assigned_local : (place : tree.Place) (o : Option BinOp) (ts : List Piece) (b : Bool) → is_keyword key.Spawn (kind_at ts) ≡ b
+      → Local {A = tree.Stmt} same ts (assigned_by l d place o ts b) (λ us. assigned_by l' d' place o us (is_keyword key.Spawn (kind_at us)))
+  assigned_local place o ts true h =
+      let k = keyword_test key.Spawn ts h in
+      let here : k.piece.start ≡ place_at ts = sym (ap place_at k.whole) in
+      subst (λ (v : List Piece). Local {A = tree.Stmt} same v (spawn_at l d (place_at ts) (tree.into o place) (behind ts)) (λ us. assigned_by l' d' place o us (is_keyword key.Spawn (kind_at us)))) (sym k.whole)
+      (local_skip same k.piece (behind ts) (spawn_at l d (place_at ts) (tree.into o place) (behind ts)) (λ us. spawn_at l' d' (place_at ts) (tree.into o place) us) _
+      (λ us s. rw (k.is) (ap (λ at. spawn_at l' d' at (tree.into o place) us) here)) (spawning (place_at ts) (tree.into o place) (behind ts)))
+  assigned_local place o ts false h =
+      local_as same ts _ (λ us. assigned_by l' d' place o us false) _ (λ us s. ap (assigned_by l' d' place o us) (ap (λ k. is_keyword key.Spawn k) (sym (same_kind ts us s)) ∙ h)) (value_assigned place o ts)
+
   assignment : (place : tree.Place) (o : Option BinOp) (ts : List Piece) → Local {A = tree.Stmt} same ts (assigned_at l d place o ts) (λ us. assigned_at l' d' place o us)
   unfolding assigned_at
-  assignment place o ts =
-      local_bind same ts (value_end_at l d ts) (λ us. value_end_at l' d' us) (λ y. Ok (assigned o place y.0, y.1)) (λ y. Ok (assigned o place y.0, y.1)) (value_end ts) (λ y j. ok_here (assigned o place y.0) y.1 _ (λ us s. refl))
+  assignment place o ts = assigned_local place o ts (is_keyword key.Spawn (kind_at ts)) refl
 
   adjustment : (place : tree.Place) (a : Adjustment) (ts : List Piece) → Local {A = tree.Stmt} same ts (adjusted_at place a ts) (λ us. adjusted_at place a us)
   unfolding adjusted_at
@@ -173,32 +196,28 @@ module _ (same : Type 0) (l l' d d' : ℕ) (le : l ≤ l') (le' : d ≤ d') (eq 
       subst (λ (v : List Piece). Local {A = tree.Stmt} same v (before_at a (behind ts)) (λ us. stmt_by l' d' us (kind_at us))) (sym k.whole)
       (local_skip same k.piece (behind ts) (before_at a (behind ts)) (λ us. before_at a us) _ (λ us s. rw (k.is, e) refl) (adjusting a (behind ts)))
 
+  -- behind a word
+  behind_word : (w : Keyword) (ts : List Piece) (r : Read tree.Stmt) (m : ℕ → List Piece → Read tree.Stmt) → kind_at ts ≡ Some (kind.Word w) → ((us : List Piece) → worded_by l' d' us w ≡ m (place_at us) (behind us))
+      → Local {A = tree.Stmt} same (behind ts) r (λ us. m (place_at ts) us) → Local {A = tree.Stmt} same ts r (λ us. stmt_by l' d' us (kind_at us))
+  behind_word w ts r m h e inner =
+      let k = keyword_test w ts (ap (is_keyword w) h ∙ eq-eqb (keyword_number w) (keyword_number w) refl) in
+      let here : k.piece.start ≡ place_at ts = sym (ap place_at k.whole) in
+      subst (λ (v : List Piece). Local {A = tree.Stmt} same v r (λ us. stmt_by l' d' us (kind_at us))) (sym k.whole)
+      (local_skip same k.piece (behind ts) r (λ us. m (place_at ts) us) _
+      (λ us s. ap (λ (x : Lexeme). stmt_by l' d' (k.piece ∷ us) (Some (kind_of x))) k.is ∙ e (k.piece ∷ us) ∙ ap (λ at. m at us) here) inner)
+
+  worded_local : (ts : List Piece) (w : Keyword) → kind_at ts ≡ Some (kind.Word w) → Local {A = tree.Stmt} same ts (worded_by l d ts w) (λ us. stmt_by l' d' us (kind_at us))
+  worded_local ts key.Return h = behind_word key.Return ts (return_at l d (place_at ts) (behind ts)) (λ at us. return_at l' d' at us) h (λ us. refl) (returning (place_at ts) (behind ts))
+  worded_local ts key.Spawn h = behind_word key.Spawn ts (spawn_at l d (place_at ts) tree.nothing (behind ts)) (λ at us. spawn_at l' d' at tree.nothing us) h (λ us. refl) (spawning (place_at ts) tree.nothing (behind ts))
+  worded_local ts key.Sync h = behind_word key.Sync ts (sync_at (place_at ts) (behind ts)) (λ at us. sync_at at us) h (λ us. refl) (local_sync same (place_at ts) (behind ts))
+  worded_local ts _ h = no_stmt ts _ h (λ us. refl)
+
   stmt_local : (ts : List Piece) (k : Option Kind) → kind_at ts ≡ k → Local {A = tree.Stmt} same ts (stmt_by l d ts k) (λ us. stmt_by l' d' us (kind_at us))
   stmt_local ts (Some kind.Name) h = local_as same ts _ (λ us. named_at l' d' us) _ (λ us s. ap (stmt_by l' d' us) (sym (same_kind ts us s) ∙ h)) (named ts)
-  stmt_local ts (Some (kind.Word key.Return)) h =
-      let k = keyword_test key.Return ts (rw h refl) in
-      let here : k.piece.start ≡ place_at ts = sym (ap place_at k.whole) in
-      subst (λ (v : List Piece). Local {A = tree.Stmt} same v (return_at l d (place_at ts) (behind ts)) (λ us. stmt_by l' d' us (kind_at us))) (sym k.whole)
-      (local_skip same k.piece (behind ts) (return_at l d (place_at ts) (behind ts)) (λ us. return_at l' d' (place_at ts) us) _ (λ us s. rw (k.is) (ap (λ at. return_at l' d' at us) here)) (returning (place_at ts) (behind ts)))
   stmt_local ts None h = no_stmt ts _ h (λ us. refl)
   stmt_local ts (Some (kind.Number n)) h = no_stmt ts _ h (λ us. refl)
   stmt_local ts (Some (kind.Mark m)) h = marked_local ts m (role_of m) h refl
-  stmt_local ts (Some (kind.Word key.Int)) h = no_stmt ts _ h (λ us. refl)
-  stmt_local ts (Some (kind.Word key.Void)) h = no_stmt ts _ h (λ us. refl)
-  stmt_local ts (Some (kind.Word key.If)) h = no_stmt ts _ h (λ us. refl)
-  stmt_local ts (Some (kind.Word key.Else)) h = no_stmt ts _ h (λ us. refl)
-  stmt_local ts (Some (kind.Word key.While)) h = no_stmt ts _ h (λ us. refl)
-  stmt_local ts (Some (kind.Word key.Do)) h = no_stmt ts _ h (λ us. refl)
-  stmt_local ts (Some (kind.Word key.For)) h = no_stmt ts _ h (λ us. refl)
-  stmt_local ts (Some (kind.Word key.Break)) h = no_stmt ts _ h (λ us. refl)
-  stmt_local ts (Some (kind.Word key.Continue)) h = no_stmt ts _ h (λ us. refl)
-  stmt_local ts (Some (kind.Word key.Cilk)) h = no_stmt ts _ h (λ us. refl)
-  stmt_local ts (Some (kind.Word key.Spawn)) h = no_stmt ts _ h (λ us. refl)
-  stmt_local ts (Some (kind.Word key.Sync)) h = no_stmt ts _ h (λ us. refl)
-  stmt_local ts (Some (kind.Word key.Inlet)) h = no_stmt ts _ h (λ us. refl)
-  stmt_local ts (Some (kind.Word key.Abort)) h = no_stmt ts _ h (λ us. refl)
-  stmt_local ts (Some (kind.Word key.Synched)) h = no_stmt ts _ h (λ us. refl)
-  stmt_local ts (Some (kind.Word key.CilkLockvar)) h = no_stmt ts _ h (λ us. refl)
+  stmt_local ts (Some (kind.Word w)) h = worded_local ts w h
 
   stmt : (ts : List Piece) → Local {A = tree.Stmt} same ts (stmt_at l d ts) (λ us. stmt_at l' d' us)
   unfolding stmt_at
@@ -286,9 +305,9 @@ module _ (same : Type 0) (l l' d d' : ℕ) (le : l ≤ l') (le' : d ≤ d') (eq 
   abbrev defined : ReturnType → tree.Word → List tree.Word → tree.Block × List Piece → Read tree.Item
   defined r x ps b = Ok (tree.procedure (record { returns = r; name = x; parameters = ps; body = b.0 }), b.1)
 
-  item : (ts : List Piece) → Local {A = tree.Item} same ts (item_at l d ts) (λ us. item_at l' d' us)
-  unfolding item_at
-  item ts =
+  procedure : (ts : List Piece) → Local {A = tree.Item} same ts (procedure_at l d ts) (λ us. procedure_at l' d' us)
+  unfolding procedure_at
+  procedure ts =
       local_keyword same key.Cilk ts (λ us. returns_at us >>= λ r. name_at r.1 >>= λ x. parameters_at x.1 >>= λ w. block_at l d w.1 >>= λ b. defined r.0 x.0 w.0 b)
       (λ us. returns_at us >>= λ r. name_at r.1 >>= λ x. parameters_at x.1 >>= λ w. block_at l' d' w.1 >>= λ b. defined r.0 x.0 w.0 b)
       (λ h. local_bind same (behind ts) (returns_at (behind ts)) (λ us. returns_at us) (λ r. name_at r.1 >>= λ x. parameters_at x.1 >>= λ w. block_at l d w.1 >>= λ b. defined r.0 x.0 w.0 b)
@@ -299,6 +318,20 @@ module _ (same : Type 0) (l l' d d' : ℕ) (le : l ≤ l') (le' : d ≤ d') (eq 
       (λ w k. local_bind same w.1 (block_at l d w.1) (λ us. block_at l' d' us) (λ b. defined r.0 x.0 w.0 b) (λ b. defined r.0 x.0 w.0 b) (block w.1)
       (λ b m. ok_here (tree.procedure (record { returns = r.0; name = x.0; parameters = w.0; body = b.0 })) b.1 _ (λ us s. refl))))))
 
+  item_local : (ts : List Piece) (b : Bool) → is_keyword key.Int (kind_at ts) ≡ b → Local {A = List tree.Item} same ts (item_by l d ts b) (λ us. item_by l' d' us (is_keyword key.Int (kind_at us)))
+  item_local ts true h = local_as same ts _ (λ us. globals_at us) _ (λ us s. ap (item_by l' d' us) (ap (λ k. is_keyword key.Int k) (sym (same_kind ts us s)) ∙ h)) (local_globals same ts)
+  item_local ts false h =
+      local_as same ts _ (λ us. item_by l' d' us false) _ (λ us s. ap (item_by l' d' us) (ap (λ k. is_keyword key.Int k) (sym (same_kind ts us s)) ∙ h))
+      (local_bind same ts (procedure_at l d ts) (λ us. procedure_at l' d' us) (λ i. Ok (i.0 ∷ [], i.1)) (λ i. Ok (i.0 ∷ [], i.1)) (procedure ts) (λ i j. ok_here (i.0 ∷ []) i.1 _ (λ us s. refl)))
+
+  item : (ts : List Piece) → Local {A = List tree.Item} same ts (item_at l d ts) (λ us. item_at l' d' us)
+  unfolding item_at
+  item ts = item_local ts (is_keyword key.Int (kind_at ts)) refl
+
+  parts : (ts : List Piece) → Local {A = List (List tree.Item)} same ts (parts_at l d ts) (λ us. parts_at l' d' us)
+  unfolding parts_at
+  parts ts = local_many same begins_item (λ us. item_at l d us) (λ us. item_at l' d' us) (item_shorter l d) (item_shorter l' d') item ts
+
   pub local_items : (ts : List Piece) → Local {A = List tree.Item} same ts (items_at l d ts) (λ us. items_at l' d' us)
   unfolding items_at
-  local_items ts = local_many same begins_item (λ us. item_at l d us) (λ us. item_at l' d' us) (item_shorter l d) (item_shorter l' d') item ts
+  local_items ts = local_bind same ts (parts_at l d ts) (λ us. parts_at l' d' us) (λ x. Ok (joined x.0, x.1)) (λ x. Ok (joined x.0, x.1)) (parts ts) (λ x h. ok_here (joined x.0) x.1 _ (λ us s. refl))

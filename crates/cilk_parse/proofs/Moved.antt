@@ -1,153 +1,25 @@
 -- The grammar does not look at places: other pieces with the same lexemes spell the same tree, places aside.
-use Rattle.std.proofs.Common.{◌≡◌, ℕ, List, [], ◌∷◌, ◌++◌, map, Option, Some, None, refl, sym, ap, ◌∙◌, arith}
-use Rattle.std.proofs.lemmas.List.{map-append}
-use Rattle.cilk_lex.specs.Lexeme.{Lexeme, Piece}
+use Rattle.std.proofs.Common.{◌≡◌, ℕ, List, [], ◌∷◌, ◌++◌, map, Option, Some, None, refl, sym, ap, ◌∙◌}
+use Rattle.cilk_lex.specs.Lexeme.{Piece}
 use Rattle.cilk_tree.specs.declared.operator.BinOp.{BinOp}
 use Rattle.cilk_tree.specs.Tree as tree
 use Rattle.cilk_tree.specs.Bare.{bare_word, bare_expr, bare_decl, bare_stmt, bare_block, bare_item}
-use Rattle.cilk_tree.specs.Operators.{operators}
 use Rattle.cilk_tree.specs.Stmts.{stmts_of}
-use Rattle.cilk_tree.proofs.BareLaws.{operators-bare}
 use Rattle.cilk_tree.proofs.StmtsOf.{bare_stmts_same}
-use Rattle.cilk_expr.specs.Grammar.{word_at, Spells, a_number, a_name, in_parentheses, of_one, of_two, of_three, SpellsWhole}
+use Rattle.cilk_expr.specs.Grammar.{word_at}
 use Rattle.cilk_written.specs.Lexemes.{lexemes}
 use Rattle.cilk_parse.specs.Roles.{assigned}
 use Rattle.cilk_parse.specs.Grammar as grammar
-use Rattle.cilk_parse.specs.Grammar.{Each, no_more, one_more, joined, SpellsDeclarator, SpellsNextDeclarator, SpellsDeclaration, SpellsStmt, SpellsBlock, SpellsNextParameter, SpellsParameters, SpellsItem, SpellsItems}
-
--- ---- pieces with the same lexemes, in parts
-
-head_same : (a b : Lexeme) (xs ys : List Lexeme) → a ∷ xs ≡ b ∷ ys → a ≡ b
-head_same a b xs ys e = cc
-
-tail_same : (a b : Lexeme) (xs ys : List Lexeme) → a ∷ xs ≡ b ∷ ys → xs ≡ ys
-tail_same a b xs ys e = cc
-
-pub no_pieces : (us : List Piece) → lexemes us ≡ [] → us ≡ []
-no_pieces [] e = refl
-no_pieces (u ∷ us) e = absurd cc
-
--- the pieces us in two parts, with the lexemes of ts and of vs
-pub record Parts (ts vs us : List Piece) : Type 0 where
-  pub front : List Piece
-  pub back : List Piece
-  pub whole : us ≡ front ++ back
-  pub same_front : lexemes front ≡ lexemes ts
-  pub same_back : lexemes back ≡ lexemes vs
-
-pub parts : (ts vs us : List Piece) → lexemes us ≡ lexemes (ts ++ vs) → Parts ts vs us
-parts [] vs us e = record { front = []; back = us; whole = refl; same_front = refl; same_back = e }
-parts (t ∷ ts) vs [] e = absurd cc
-parts (t ∷ ts) vs (u ∷ us) e =
-    let h : u.lexeme ≡ t.lexeme = head_same u.lexeme t.lexeme (lexemes us) (lexemes (ts ++ vs)) e in
-    let p = parts ts vs us (tail_same u.lexeme t.lexeme (lexemes us) (lexemes (ts ++ vs)) e) in
-    record { front = u ∷ p.front; back = p.back; whole = ap (λ (r : List Piece). u ∷ r) p.whole; same_front = λ i. h i ∷ p.same_front i; same_back = p.same_back }
-
--- the first of the pieces us, with the lexeme of t, and the others, with the lexemes of ts
-pub record First (t : Piece) (ts us : List Piece) : Type 0 where
-  pub piece : Piece
-  pub rest : List Piece
-  pub whole : us ≡ piece ∷ rest
-  pub same : piece.lexeme ≡ t.lexeme
-  pub same_rest : lexemes rest ≡ lexemes ts
-
-pub first : (t : Piece) (ts us : List Piece) → lexemes us ≡ lexemes (t ∷ ts) → First t ts us
-first t ts [] e = absurd cc
-first t ts (u ∷ us) e = record {
-  piece = u;
-  rest = us;
-  whole = refl;
-  same = head_same u.lexeme t.lexeme (lexemes us) (lexemes ts) e;
-  same_rest = tail_same u.lexeme t.lexeme (lexemes us) (lexemes ts) e;
-}
-
--- the only one of the pieces us, with the lexeme of t
-pub record Only (t : Piece) (us : List Piece) : Type 0 where
-  pub piece : Piece
-  pub whole : us ≡ piece ∷ []
-  pub same : piece.lexeme ≡ t.lexeme
-
-pub only : (t : Piece) (us : List Piece) → lexemes us ≡ lexemes (t ∷ []) → Only t us
-only t us e =
-    let f = first t [] us e in
-    record { piece = f.piece; whole = f.whole ∙ ap (λ (r : List Piece). f.piece ∷ r) (no_pieces f.rest f.same_rest); same = f.same }
-
--- behind a piece, and behind some others
-then : (t : Piece) {us vs ws : List Piece} → us ≡ t ∷ vs → vs ≡ ws → us ≡ t ∷ ws
-then t e h = e ∙ ap (λ (r : List Piece). t ∷ r) h
-
-then_all : (front : List Piece) {us vs ws : List Piece} → us ≡ front ++ vs → vs ≡ ws → us ≡ front ++ ws
-then_all front e h = e ∙ ap (λ (r : List Piece). front ++ r) h
-
--- ---- the same tree, places aside
-
--- the pieces us spell what is x, places aside
-pub record Moved {A : Type 0} (R : List Piece → A → Type 0) (bare : A → A) (us : List Piece) (x : A) : Type 0 where
-  pub value : A
-  pub spelled : R us value
-  pub same : bare value ≡ bare x
-
-abbrev pub MovedAll : {A : Type 0} → (List Piece → A → Type 0) → (A → A) → Type 0
-MovedAll {A = A} R bare = (ts us : List Piece) (x : A) → lexemes us ≡ lexemes ts → R ts x → Moved R bare us x
-
-pub moved_expr : {d p : ℕ} {ts : List Piece} {e : tree.Expr} (us : List Piece) → lexemes us ≡ lexemes ts → Spells d p ts e → Moved (Spells d p) bare_expr us e
-moved_expr us s (a_number t n h w) =
-    let o = only t us (s ∙ ap lexemes w) in
-    record { value = tree.number n; spelled = a_number o.piece n (o.same ∙ h) o.whole; same = refl }
-moved_expr us s (a_name t x h w) =
-    let o = only t us (s ∙ ap lexemes w) in
-    record { value = tree.named (word_at x o.piece); spelled = a_name o.piece x (o.same ∙ h) o.whole; same = refl }
-moved_expr us s (in_parentheses {us = vs} t u h i r w) =
-    let f = first t (vs ++ u ∷ []) us (s ∙ ap lexemes w) in
-    let p = parts vs (u ∷ []) f.rest f.same_rest in
-    let o = only u p.back p.same_back in
-    let m = moved_expr p.front p.same_front r in
-    record { value = m.value; spelled = in_parentheses f.piece o.piece (f.same ∙ h) (o.same ∙ i) m.spelled (then f.piece f.whole (then_all p.front p.whole o.whole)); same = m.same }
-moved_expr us s (of_one {us = vs} t m o h i a w) =
-    let f = first t vs us (s ∙ ap lexemes w) in
-    let x = moved_expr f.rest f.same_rest a in
-    record { value = tree.unary o x.value; spelled = of_one f.piece m o (f.same ∙ h) i x.spelled f.whole; same = λ j. tree.unary o (x.same j) }
-moved_expr us s (of_two {us = vs} {vs = ws} t m o h i ge a b w) =
-    let p = parts vs (t ∷ ws) us (s ∙ ap lexemes w) in
-    let f = first t ws p.back p.same_back in
-    let x = moved_expr p.front p.same_front a in
-    let y = moved_expr f.rest f.same_rest b in
-    record { value = tree.binary o x.value y.value; spelled = of_two f.piece m o (f.same ∙ h) i ge x.spelled y.spelled (then_all p.front p.whole f.whole); same = λ j. tree.binary o (x.same j) (y.same j) }
-moved_expr us s (of_three {us = vs} {vs = xs} {ws = ws} t u h i z c a b w) =
-    let p = parts vs (t ∷ (xs ++ u ∷ ws)) us (s ∙ ap lexemes w) in
-    let f = first t (xs ++ u ∷ ws) p.back p.same_back in
-    let q = parts xs (u ∷ ws) f.rest f.same_rest in
-    let g = first u ws q.back q.same_back in
-    let x = moved_expr p.front p.same_front c in
-    let y = moved_expr q.front q.same_front a in
-    let v = moved_expr g.rest g.same_rest b in
-    record {
-      value = tree.choose x.value y.value v.value;
-      spelled = of_three f.piece g.piece (f.same ∙ h) (g.same ∙ i) z x.spelled y.spelled v.spelled (then_all p.front p.whole (then f.piece f.whole (then_all q.front q.whole g.whole)));
-      same = λ j. tree.choose (x.same j) (y.same j) (v.same j);
-    }
-
-same_operators : (a b : tree.Expr) → bare_expr a ≡ bare_expr b → operators a ≡ operators b
-same_operators a b e = sym (operators-bare a) ∙ ap operators e ∙ operators-bare b
-
-pub moved_each : {A : Type 0} (R : List Piece → A → Type 0) (bare : A → A) → MovedAll R bare → MovedAll (Each R) (map bare)
-moved_each R bare f ts us xs s (no_more e w) = record { value = []; spelled = no_more (no_pieces us (s ∙ ap lexemes e)) refl; same = ap (map bare) (sym w) }
-moved_each R bare f ts us xs s (one_more {us = vs} {vs = ws} {x = x} {xs = ys} r i e w) =
-    let p = parts vs ws us (s ∙ ap lexemes e) in
-    let y = f vs p.front x p.same_front r in
-    let z = moved_each R bare f ws p.back ys p.same_back i in
-    record { value = y.value ∷ z.value; spelled = one_more y.spelled z.spelled p.whole refl; same = (λ j. y.same j ∷ z.same j) ∙ ap (map bare) (sym w) }
+use Rattle.cilk_parse.specs.Grammar.{joined, SpellsDeclarator, SpellsNextDeclarator, SpellsDeclaration, SpellsStmt, SpellsBlock, SpellsNextParameter, SpellsParameters, SpellsProcedure, SpellsItem, SpellsItems}
+use Rattle.cilk_parse.proofs.MovedGlobals.{moved_globals}
+use Rattle.cilk_parse.proofs.MovedParts.{parts, first, only, then, then_all, MovedAll, moved_each, moved_whole, same_joined}
+use Rattle.cilk_parse.proofs.MovedSpawn.{moved_spawn}
 
 assigned_same : (o : Option BinOp) (b : List ℕ) (t u : Piece) (e f : tree.Expr) → bare_expr e ≡ bare_expr f → bare_stmt (assigned o (record { name = word_at b t }) e) ≡ bare_stmt (assigned o (record { name = word_at b u }) f)
 assigned_same None b t u e f h = ap (λ (x : tree.Expr). tree.assign (record { name = record { text = b; place = 0 } }) x) h
 assigned_same (Some o) b t u e f h = ap (λ (x : tree.Expr). tree.update (record { name = record { text = b; place = 0 } }) o x) h
 
 module _ (l d : ℕ) where
-  pub moved_whole : MovedAll (SpellsWhole l d) bare_expr
-  moved_whole ts us e s r =
-      let m = moved_expr us s r.spelled in
-      record { value = m.value; spelled = record { spelled = m.spelled; few = omega (arith, same_operators m.value e m.same, r.few) }; same = m.same }
-
   moved_declarator : MovedAll (SpellsDeclarator l d) bare_decl
   moved_declarator ts us x s (grammar.alone t b h w i) =
       let o = only t us (s ∙ ap lexemes w) in
@@ -155,7 +27,7 @@ module _ (l d : ℕ) where
   moved_declarator ts us x s (grammar.with_value {us = vs} {e = e} t u b h k r w i) =
       let f = first t (u ∷ vs) us (s ∙ ap lexemes w) in
       let g = first u vs f.rest f.same_rest in
-      let m = moved_whole vs g.rest e g.same_rest r in
+      let m = moved_whole l d vs g.rest e g.same_rest r in
       record {
         value = record { name = word_at b f.piece; value = Some m.value };
         spelled = grammar.with_value f.piece g.piece b (f.same ∙ h) (g.same ∙ k) m.spelled (then f.piece f.whole g.whole) refl;
@@ -196,22 +68,22 @@ module _ (l d : ℕ) where
       }
 
   moved_stmt : MovedAll (SpellsStmt l d) bare_stmt
-  moved_stmt ts us x s (grammar.an_assignment {us = vs} {e = e} t u v b n a h i l r j w q) =
+  moved_stmt ts us x s (grammar.an_assignment {us = vs} {e = e} t u v b n a h i c r j w q) =
       let f = first t (u ∷ (vs ++ v ∷ [])) us (s ∙ ap lexemes w) in
       let g = first u (vs ++ v ∷ []) f.rest f.same_rest in
       let p = parts vs (v ∷ []) g.rest g.same_rest in
       let o = only v p.back p.same_back in
-      let m = moved_whole vs p.front e p.same_front r in
+      let m = moved_whole l d vs p.front e p.same_front r in
       record {
         value = assigned a (record { name = word_at b f.piece }) m.value;
-        spelled = grammar.an_assignment f.piece g.piece o.piece b n a (f.same ∙ h) (g.same ∙ i) l m.spelled (o.same ∙ j) (then f.piece f.whole (then g.piece g.whole (then_all p.front p.whole o.whole))) refl;
+        spelled = grammar.an_assignment f.piece g.piece o.piece b n a (f.same ∙ h) (g.same ∙ i) c m.spelled (o.same ∙ j) (then f.piece f.whole (then g.piece g.whole (then_all p.front p.whole o.whole))) refl;
         same = assigned_same a b f.piece t m.value e m.same ∙ ap bare_stmt (sym q);
       }
   moved_stmt ts us x s (grammar.a_return {us = vs} {e = e} t v h r j w q) =
       let f = first t (vs ++ v ∷ []) us (s ∙ ap lexemes w) in
       let p = parts vs (v ∷ []) f.rest f.same_rest in
       let o = only v p.back p.same_back in
-      let m = moved_whole vs p.front e p.same_front r in
+      let m = moved_whole l d vs p.front e p.same_front r in
       record {
         value = tree.return_at f.piece.start (Some m.value);
         spelled = grammar.a_return f.piece o.piece (f.same ∙ h) m.spelled (o.same ∙ j) (then f.piece f.whole (then_all p.front p.whole o.whole)) refl;
@@ -246,13 +118,17 @@ module _ (l d : ℕ) where
         spelled = grammar.adjusted_before g.piece f.piece o.piece b n a (g.same ∙ i) l (f.same ∙ h) (o.same ∙ j) (then g.piece g.whole (then f.piece f.whole o.whole)) refl;
         same = ap bare_stmt (sym q);
       }
-
-pub map-joined : {A B : Type 0} (f : A → B) (xss : List (List A)) → map f (joined xss) ≡ joined (map (map f) xss)
-map-joined f [] = refl
-map-joined f (xs ∷ xss) = map-append f xs (joined xss) ∙ ap (λ ys. map f xs ++ ys) (map-joined f xss)
-
-same_joined : (xss yss : List (List tree.Decl)) → map (map bare_decl) xss ≡ map (map bare_decl) yss → map bare_decl (joined xss) ≡ map bare_decl (joined yss)
-same_joined xss yss e = map-joined bare_decl xss ∙ ap joined e ∙ sym (map-joined bare_decl yss)
+  moved_stmt ts us x s (grammar.a_spawn r) =
+      let m = moved_spawn l d ts us x s r in
+      record { value = m.value; spelled = grammar.a_spawn m.spelled; same = m.same }
+  moved_stmt ts us x s (grammar.a_sync t v h j w q) =
+      let f = first t (v ∷ []) us (s ∙ ap lexemes w) in
+      let o = only v f.rest f.same_rest in
+      record {
+        value = tree.sync_at f.piece.start;
+        spelled = grammar.a_sync f.piece o.piece (f.same ∙ h) (o.same ∙ j) (then f.piece f.whole o.whole) refl;
+        same = ap bare_stmt (sym q);
+      }
 
 moved_next_parameter : MovedAll SpellsNextParameter bare_word
 moved_next_parameter ts us x s r =
@@ -313,11 +189,11 @@ module _ (l d : ℕ) where
           whole = then f.piece f.whole (then_all p.front p.whole (then_all q.front q.whole o.whole));
           block = refl;
         };
-        same = (λ j. tree.block (same_joined x.value r.decls x.same j) (bare_stmts_same y.value r.stmts y.same j)) ∙ ap bare_block (sym r.block);
+        same = (λ j. tree.block (same_joined bare_decl x.value r.decls x.same j) (bare_stmts_same y.value r.stmts y.same j)) ∙ ap bare_block (sym r.block);
       }
 
-  pub moved_item : MovedAll (SpellsItem l d) bare_item
-  moved_item ts us i s r =
+  moved_procedure : MovedAll (SpellsProcedure l d) bare_item
+  moved_procedure ts us i s r =
       let f = first r.cilk (r.returns_piece ∷ r.name_piece ∷ (r.parameters ++ r.body)) us (s ∙ ap lexemes r.whole) in
       let g = first r.returns_piece (r.name_piece ∷ (r.parameters ++ r.body)) f.rest f.same_rest in
       let h = first r.name_piece (r.parameters ++ r.body) g.rest g.same_rest in
@@ -347,6 +223,14 @@ module _ (l d : ℕ) where
         same = (λ j. tree.procedure (record { returns = r.returns; name = record { text = r.text; place = 0 }; parameters = ps.same j; body = b.same j })) ∙ ap bare_item (sym r.item);
       }
 
+  moved_item : MovedAll (SpellsItem l d) (map bare_item)
+  moved_item ts us is s (grammar.some_globals r) =
+      let m = moved_globals ts us is s r in
+      record { value = m.value; spelled = grammar.some_globals m.spelled; same = m.same }
+  moved_item ts us is s (grammar.a_procedure {i = i} r q) =
+      let m = moved_procedure ts us i s r in
+      record { value = m.value ∷ []; spelled = grammar.a_procedure m.spelled refl; same = (λ j. m.same j ∷ []) ∙ ap (map bare_item) (sym q) }
+
 -- the pieces us spell definitions that are the same as these, places aside
 pub record MovedItems (l d : ℕ) (us : List Piece) (is : List tree.Item) : Type 0 where
   pub items : List tree.Item
@@ -355,5 +239,9 @@ pub record MovedItems (l d : ℕ) (us : List Piece) (is : List tree.Item) : Type
 
 pub moved_items : (l d : ℕ) (ts us : List Piece) (is : List tree.Item) → lexemes us ≡ lexemes ts → SpellsItems l d ts is → MovedItems l d us is
 moved_items l d ts us is s r =
-    let m = moved_each (SpellsItem l d) bare_item (moved_item l d) ts us is s r in
-    record { items = m.value; spelled = m.spelled; bare = m.same }
+    let m = moved_each (SpellsItem l d) (map bare_item) (moved_item l d) ts us r.parts s r.spelled in
+    record {
+      items = joined m.value;
+      spelled = record { parts = m.value; spelled = m.spelled; items = refl };
+      bare = same_joined bare_item m.value r.parts m.same ∙ ap (map bare_item) (sym r.items);
+    }

@@ -5,7 +5,7 @@ use Rattle.cilk_tree.specs.Tree as tree
 use Rattle.cilk_expr.specs.Grammar.{SpellsWhole}
 use Rattle.cilk_expr.proofs.Whole.{roomier}
 use Rattle.cilk_parse.specs.Grammar as grammar
-use Rattle.cilk_parse.specs.Grammar.{Each, no_more, one_more, SpellsDeclarator, SpellsNextDeclarator, SpellsDeclaration, SpellsStmt, SpellsBlock, SpellsItem, SpellsItems}
+use Rattle.cilk_parse.specs.Grammar.{Each, no_more, one_more, SpellsDeclarator, SpellsNextDeclarator, SpellsDeclaration, SpellsNextArgument, SpellsArguments, SpellsSpawn, SpellsStmt, SpellsBlock, SpellsProcedure, SpellsItem, SpellsItems}
 
 pub each_more : {A : Type 0} (R S : List Piece → A → Type 0) → ((ts : List Piece) (x : A) → R ts x → S ts x) → {ts : List Piece} {xs : List A} → Each R ts xs → Each S ts xs
 each_more R S f (no_more e w) = no_more e w
@@ -38,6 +38,33 @@ module _ (l d l' d' : ℕ) (le : l ≤ l') (ge : d ≤ d') where
     decls = s.decls;
   }
 
+  roomier_argument : (ts : List Piece) (e : tree.Expr) → SpellsNextArgument l d ts e → SpellsNextArgument l' d' ts e
+  roomier_argument ts e s = record { comma = s.comma; is_comma = s.is_comma; argument = s.argument; spelled = roomier_whole s.argument e s.spelled; whole = s.whole }
+
+  roomier_arguments : (ts : List Piece) (es : List tree.Expr) → SpellsArguments l d ts es → SpellsArguments l' d' ts es
+  roomier_arguments ts es (grammar.no_arguments t u h i w q) = grammar.no_arguments t u h i w q
+  roomier_arguments ts es (grammar.some_arguments {us = us} {e = e} t u h s o i w q) =
+      grammar.some_arguments t u h (roomier_whole us e s) (each_more (SpellsNextArgument l d) (SpellsNextArgument l' d') roomier_argument o) i w q
+
+  roomier_spawn : (ts : List Piece) (x : tree.Stmt) → SpellsSpawn l d ts x → SpellsSpawn l' d' ts x
+  roomier_spawn ts x s = record {
+    taker_pieces = s.taker_pieces;
+    taker = s.taker;
+    spelled_taker = s.spelled_taker;
+    spawn = s.spawn;
+    is_spawn = s.is_spawn;
+    name_piece = s.name_piece;
+    text = s.text;
+    is_name = s.is_name;
+    argument_pieces = s.argument_pieces;
+    arguments = s.arguments;
+    spelled_arguments = roomier_arguments s.argument_pieces s.arguments s.spelled_arguments;
+    semicolon = s.semicolon;
+    is_semicolon = s.is_semicolon;
+    whole = s.whole;
+    stmt = s.stmt;
+  }
+
   roomier_stmt : (ts : List Piece) (x : tree.Stmt) → SpellsStmt l d ts x → SpellsStmt l' d' ts x
   roomier_stmt ts x (grammar.an_assignment {us = us} {e = e} t u v b m o h i k s j w q) = grammar.an_assignment t u v b m o h i k (roomier_whole us e s) j w q
   roomier_stmt ts x (grammar.a_return {us = us} {e = e} t v h s j w q) = grammar.a_return t v h (roomier_whole us e s) j w q
@@ -45,6 +72,8 @@ module _ (l d l' d' : ℕ) (le : l ≤ l') (ge : d ≤ d') where
   roomier_stmt ts x (grammar.adjusted_behind t u v b m a h i k j w q) = grammar.adjusted_behind t u v b m a h i k j w q
   roomier_stmt ts x (grammar.adjusted_before u t v b m a i k h j w q) = grammar.adjusted_before u t v b m a i k h j w q
   roomier_stmt ts x (grammar.a_bare_return t v h j w q) = grammar.a_bare_return t v h j w q
+  roomier_stmt ts x (grammar.a_spawn s) = grammar.a_spawn (roomier_spawn ts x s)
+  roomier_stmt ts x (grammar.a_sync t v h j w q) = grammar.a_sync t v h j w q
 
   roomier_block : (ts : List Piece) (b : tree.Block) → SpellsBlock l d ts b → SpellsBlock l' d' ts b
   roomier_block ts b s = record {
@@ -62,8 +91,8 @@ module _ (l d l' d' : ℕ) (le : l ≤ l') (ge : d ≤ d') where
     block = s.block;
   }
 
-  roomier_item : (ts : List Piece) (i : tree.Item) → SpellsItem l d ts i → SpellsItem l' d' ts i
-  roomier_item ts i s = record {
+  roomier_procedure : (ts : List Piece) (i : tree.Item) → SpellsProcedure l d ts i → SpellsProcedure l' d' ts i
+  roomier_procedure ts i s = record {
     cilk = s.cilk;
     is_cilk = s.is_cilk;
     returns_piece = s.returns_piece;
@@ -82,5 +111,9 @@ module _ (l d l' d' : ℕ) (le : l ≤ l') (ge : d ≤ d') where
     item = s.item;
   }
 
+  roomier_item : (ts : List Piece) (is : List tree.Item) → SpellsItem l d ts is → SpellsItem l' d' ts is
+  roomier_item ts is (grammar.some_globals s) = grammar.some_globals s
+  roomier_item ts is (grammar.a_procedure {i = i} s q) = grammar.a_procedure (roomier_procedure ts i s) q
+
 pub roomier_items : (l d l' d' : ℕ) (ts : List Piece) (is : List tree.Item) → l ≤ l' → d ≤ d' → SpellsItems l d ts is → SpellsItems l' d' ts is
-roomier_items l d l' d' ts is le ge s = each_more (SpellsItem l d) (SpellsItem l' d') (roomier_item l d l' d' le ge) s
+roomier_items l d l' d' ts is le ge s = record { parts = s.parts; spelled = each_more (SpellsItem l d) (SpellsItem l' d') (roomier_item l d l' d' le ge) s.spelled; items = s.items }

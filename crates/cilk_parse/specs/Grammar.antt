@@ -1,7 +1,8 @@
--- How a text spells a program (C 1990, 6.5 to 6.7; Cilk 5.4 manual, `cilk`).
-use Rattle.std.specs.Prelude.{◌≡◌, ℕ, Option, List, [], ◌∷◌, ◌++◌, Some, None, length}
-use Rattle.cilk_lex.specs.Lexeme.{Piece, word, name, mark}
+-- How a text spells a program (C 1990, 6.5 to 6.7; Cilk 5.4 manual, `cilk`, `spawn` and `sync`).
+use Rattle.std.specs.Prelude.{◌≡◌, ℕ, ◌≤◌, ℤ, pos, neg_ℤ, Option, List, [], ◌∷◌, ◌++◌, Some, None, length}
+use Rattle.cilk_lex.specs.Lexeme.{Piece, word, name, number, mark}
 use Rattle.cilk_lex.specs.Lexing.{Lexes}
+use Rattle.cilk_lex.specs.Spelling.{int_max}
 use Rattle.cilk_lex.specs.declared.keyword.Keyword.TheVariants as key
 use Rattle.cilk_lex.specs.declared.mark.Mark.{Mark}
 use Rattle.cilk_lex.specs.declared.mark.Mark.TheVariants as sign
@@ -56,6 +57,44 @@ pub record SpellsDeclaration (l d : ℕ) (ts : List Piece) (xs : List tree.Decl)
   pub whole : ts ≡ int ∷ (first ++ (others ++ semicolon ∷ []))
   pub decls : xs ≡ first_decl ∷ other_decls
 
+-- , Expr
+pub record SpellsNextArgument (l d : ℕ) (ts : List Piece) (e : tree.Expr) : Type 0 where
+  pub comma : Piece
+  pub is_comma : comma.lexeme ≡ mark sign.Comma
+  pub argument : List Piece
+  pub spelled : SpellsWhole l d argument e
+  pub whole : ts ≡ comma ∷ argument
+
+-- ( ), or ( expressions with commas between them ) (C 1990, 6.3.2.2)
+pub data SpellsArguments (l d : ℕ) : List Piece → List tree.Expr → Type 0 where
+  no_arguments : {ts : List Piece} {es : List tree.Expr} (t u : Piece) → t.lexeme ≡ mark sign.OpenParenthesis → u.lexeme ≡ mark sign.CloseParenthesis → ts ≡ t ∷ u ∷ [] → es ≡ [] → SpellsArguments l d ts es
+  some_arguments : {ts us vs : List Piece} {e : tree.Expr} {es fs : List tree.Expr} (t u : Piece) → t.lexeme ≡ mark sign.OpenParenthesis → SpellsWhole l d us e → Each (SpellsNextArgument l d) vs es → u.lexeme ≡ mark sign.CloseParenthesis
+      → ts ≡ t ∷ (us ++ (vs ++ u ∷ [])) → fs ≡ e ∷ es → SpellsArguments l d ts fs
+
+-- nothing, or Name, = with an operator or none (C 1990, 6.3.16; Cilk 5.4 manual, implicit inlets)
+pub data SpellsTaker : List Piece → tree.Taker → Type 0 where
+  no_taker : {ts : List Piece} {k : tree.Taker} → ts ≡ [] → k ≡ tree.nothing → SpellsTaker ts k
+  a_taker : {ts : List Piece} {k : tree.Taker} (t u : Piece) (b : List ℕ) (m : Mark) (o : Option BinOp) → t.lexeme ≡ name b → u.lexeme ≡ mark m → role_of m ≡ Some (role.Assign o)
+      → ts ≡ t ∷ u ∷ [] → k ≡ tree.into o (record { name = word_at b t }) → SpellsTaker ts k
+
+-- what takes the child's value, spawn, Name, arguments ; (Cilk 5.4 manual, `spawn`)
+pub record SpellsSpawn (l d : ℕ) (ts : List Piece) (s : tree.Stmt) : Type 0 where
+  pub taker_pieces : List Piece
+  pub taker : tree.Taker
+  pub spelled_taker : SpellsTaker taker_pieces taker
+  pub spawn : Piece
+  pub is_spawn : spawn.lexeme ≡ word key.Spawn
+  pub name_piece : Piece
+  pub text : List ℕ
+  pub is_name : name_piece.lexeme ≡ name text
+  pub argument_pieces : List Piece
+  pub arguments : List tree.Expr
+  pub spelled_arguments : SpellsArguments l d argument_pieces arguments
+  pub semicolon : Piece
+  pub is_semicolon : semicolon.lexeme ≡ mark sign.Semicolon
+  pub whole : ts ≡ taker_pieces ++ spawn ∷ name_piece ∷ (argument_pieces ++ semicolon ∷ [])
+  pub stmt : s ≡ tree.spawn_at spawn.start taker (word_at text name_piece) arguments
+
 -- a statement (C 1990, 6.6)
 pub data SpellsStmt (l d : ℕ) : List Piece → tree.Stmt → Type 0 where
   -- Name, = with an operator or none, Expr ;
@@ -74,6 +113,10 @@ pub data SpellsStmt (l d : ℕ) : List Piece → tree.Stmt → Type 0 where
   -- ++ Name ; or -- Name ;
   adjusted_before : {ts : List Piece} {s : tree.Stmt} (u t v : Piece) (b : List ℕ) (m : Mark) (a : Adjustment) → u.lexeme ≡ mark m → role_of m ≡ Some (role.Adjust a) → t.lexeme ≡ name b → v.lexeme ≡ mark sign.Semicolon
       → ts ≡ u ∷ t ∷ v ∷ [] → s ≡ tree.adjust (record { name = word_at b t }) a → SpellsStmt l d ts s
+  -- spawn, with a place for the child's value or without
+  a_spawn : {ts : List Piece} {s : tree.Stmt} → SpellsSpawn l d ts s → SpellsStmt l d ts s
+  -- sync ; (Cilk 5.4 manual, `sync`)
+  a_sync : {ts : List Piece} {s : tree.Stmt} (t v : Piece) → t.lexeme ≡ word key.Sync → v.lexeme ≡ mark sign.Semicolon → ts ≡ t ∷ v ∷ [] → s ≡ tree.sync_at t.start → SpellsStmt l d ts s
 
 -- { declarations statements } (C 1990, 6.6.2)
 pub record SpellsBlock (l d : ℕ) (ts : List Piece) (b : tree.Block) : Type 0 where
@@ -110,7 +153,7 @@ pub data SpellsParameters : List Piece → List tree.Word → Type 0 where
       → ts ≡ t ∷ i ∷ n ∷ (us ++ u ∷ []) → ys ≡ word_at b n ∷ xs → SpellsParameters ts ys
 
 -- cilk, int or void, Name, parameters and a block (Cilk 5.4 manual, `cilk`; C 1990, 6.7.1)
-pub record SpellsItem (l d : ℕ) (ts : List Piece) (i : tree.Item) : Type 0 where
+pub record SpellsProcedure (l d : ℕ) (ts : List Piece) (i : tree.Item) : Type 0 where
   pub cilk : Piece
   pub is_cilk : cilk.lexeme ≡ word key.Cilk
   pub returns_piece : Piece
@@ -128,9 +171,50 @@ pub record SpellsItem (l d : ℕ) (ts : List Piece) (i : tree.Item) : Type 0 whe
   pub whole : ts ≡ cilk ∷ returns_piece ∷ name_piece ∷ (parameters ++ body)
   pub item : i ≡ tree.procedure (record { returns = returns; name = word_at text name_piece; parameters = names; body = block })
 
+-- Number, which is an int, or - and such a number (C 1990, 6.1.3.2, 6.3.3.3)
+pub data SpellsInt : List Piece → ℤ → Type 0 where
+  unsigned : {ts : List Piece} {z : ℤ} (t : Piece) (n : ℕ) → t.lexeme ≡ number n → n ≤ int_max → ts ≡ t ∷ [] → z ≡ pos n → SpellsInt ts z
+  negative : {ts : List Piece} {z : ℤ} (t u : Piece) (n : ℕ) → t.lexeme ≡ mark sign.Minus → u.lexeme ≡ number n → n ≤ int_max → ts ≡ t ∷ u ∷ [] → z ≡ neg_ℤ (pos n) → SpellsInt ts z
+
+-- Name, or Name = and an int (C 1990, 6.5.7, 6.7.2)
+pub data SpellsGlobal : List Piece → tree.Item → Type 0 where
+  no_value : {ts : List Piece} {i : tree.Item} (t : Piece) (b : List ℕ) → t.lexeme ≡ name b → ts ≡ t ∷ [] → i ≡ tree.global (record { name = word_at b t; value = None }) → SpellsGlobal ts i
+  a_value : {ts us : List Piece} {z : ℤ} {i : tree.Item} (t u : Piece) (b : List ℕ) → t.lexeme ≡ name b → u.lexeme ≡ mark sign.Assign → SpellsInt us z
+      → ts ≡ t ∷ u ∷ us → i ≡ tree.global (record { name = word_at b t; value = Some z }) → SpellsGlobal ts i
+
+-- , and a variable
+pub record SpellsNextGlobal (ts : List Piece) (i : tree.Item) : Type 0 where
+  pub comma : Piece
+  pub is_comma : comma.lexeme ≡ mark sign.Comma
+  pub variable : List Piece
+  pub spelled : SpellsGlobal variable i
+  pub whole : ts ≡ comma ∷ variable
+
+-- int and variables with commas between them, and ; at the end (C 1990, 6.5, 6.7.2); each variable is a definition of its own
+pub record SpellsGlobals (ts : List Piece) (is : List tree.Item) : Type 0 where
+  pub int : Piece
+  pub is_int : int.lexeme ≡ word key.Int
+  pub first : List Piece
+  pub others : List Piece
+  pub semicolon : Piece
+  pub is_semicolon : semicolon.lexeme ≡ mark sign.Semicolon
+  pub first_item : tree.Item
+  pub other_items : List tree.Item
+  pub spelled_first : SpellsGlobal first first_item
+  pub spelled_others : Each SpellsNextGlobal others other_items
+  pub whole : ts ≡ int ∷ (first ++ (others ++ semicolon ∷ []))
+  pub items : is ≡ first_item ∷ other_items
+
+-- variables or a procedure, at the top level (C 1990, 6.7)
+pub data SpellsItem (l d : ℕ) : List Piece → List tree.Item → Type 0 where
+  some_globals : {ts : List Piece} {is : List tree.Item} → SpellsGlobals ts is → SpellsItem l d ts is
+  a_procedure : {ts : List Piece} {i : tree.Item} {is : List tree.Item} → SpellsProcedure l d ts i → is ≡ i ∷ [] → SpellsItem l d ts is
+
 -- definitions one after another (C 1990, 6.7)
-abbrev pub SpellsItems : ℕ → ℕ → List Piece → List tree.Item → Type 0
-SpellsItems l d ts is = Each (SpellsItem l d) ts is
+pub record SpellsItems (l d : ℕ) (ts : List Piece) (is : List tree.Item) : Type 0 where
+  pub parts : List (List tree.Item)
+  pub spelled : Each (SpellsItem l d) ts parts
+  pub items : is ≡ joined parts
 
 -- the text, however long, spells the program, within the nesting limits
 pub record SpellsProgram (text : List ℕ) (p : tree.Program) : Type 0 where

@@ -1,10 +1,11 @@
 ghost use Rattle.std.specs.Prelude.{◌≡◌};
 ghost use Rattle.cilk_expr.specs.Grammar.{operator_limit, parenthesis_limit};
 ghost use Rattle.cilk_expr.specs.Front.{Gives};
-ghost use Rattle.cilk_parse.specs.Reading.{block_at, returns_at, item_at, items_at};
+ghost use Rattle.cilk_parse.specs.Reading.{onto, block_at, returns_at, procedure_at, item_at, items_at};
 ghost use Rattle.cilk_tree.specs.Tree as tree;
 
 use crate::declaration::declarations;
+use crate::global::globals;
 use crate::parameters::parameters;
 use crate::statement::statements;
 use cilk_expr::{Cursor, ParseError};
@@ -37,20 +38,7 @@ fn returns(cursor: &mut Cursor) -> Result<ReturnType, ParseError>
     }
 }
 
-#[tactic(auto, unfolding(crate::specs::Reading::item_at))]
-fn item(cursor: &mut Cursor) -> Result<Item, ParseError>
-    ensures { Gives (λ i. (i, cursor.new.pieces)) result
-        (item_at operator_limit parenthesis_limit cursor.old.pieces) }
-{
-    cursor.keyword(Keyword::Cilk)?;
-    let returns = returns(cursor)?;
-    let name = cursor.name()?;
-    let parameters = parameters(cursor)?;
-    let body = block(cursor)?;
-    Ok(procedure(returns, name, parameters, body))
-}
-
-fn procedure(returns: ReturnType, name: Word, parameters: Vec<Word>, body: Block) -> Item
+fn defined(returns: ReturnType, name: Word, parameters: Vec<Word>, body: Block) -> Item
     ensures { result ≡ tree.procedure (record { returns = returns; name = name; parameters = parameters.items; body = body }) }
 {
     Item {
@@ -63,6 +51,34 @@ fn procedure(returns: ReturnType, name: Word, parameters: Vec<Word>, body: Block
     }
 }
 
+#[tactic(auto, unfolding(crate::specs::Reading::procedure_at))]
+fn procedure(cursor: &mut Cursor) -> Result<Item, ParseError>
+    ensures { Gives (λ i. (i, cursor.new.pieces)) result
+        (procedure_at operator_limit parenthesis_limit cursor.old.pieces) }
+{
+    cursor.keyword(Keyword::Cilk)?;
+    let returns = returns(cursor)?;
+    let name = cursor.name()?;
+    let parameters = parameters(cursor)?;
+    let body = block(cursor)?;
+    Ok(defined(returns, name, parameters, body))
+}
+
+// Variables that are declared together, or a procedure, which are put behind the other definitions.
+#[tactic(auto, unfolding(crate::specs::Reading::item_at, crate::specs::Reading::onto))]
+fn item(cursor: &mut Cursor, items: &mut Vec<Item>) -> Result<(), ParseError>
+    ensures { Gives (λ _. (items.new.items, cursor.new.pieces)) result
+        (onto items.old.items (item_at operator_limit parenthesis_limit cursor.old.pieces)) }
+{
+    if cursor.is_keyword(Keyword::Int) {
+        globals(cursor, items)
+    } else {
+        let next = procedure(cursor)?;
+        items.push(next)?;
+        Ok(())
+    }
+}
+
 /// Reads all definitions of a program, up to the end of the tokens.
 pub fn items(cursor: &mut Cursor) -> Result<Vec<Item>, ParseError>
     ensures { Gives (λ v. (v.items, cursor.new.pieces)) result
@@ -70,8 +86,7 @@ pub fn items(cursor: &mut Cursor) -> Result<Vec<Item>, ParseError>
 {
     let mut items = Vec::new(cursor.alloc());
     'each: while cursor.left() > 0 {
-        let next = item(cursor)?;
-        items.push(next)?;
+        item(cursor, &mut items)?;
     }
     Ok(items)
 }

@@ -31,7 +31,7 @@ fn place_left(text: &str, tokens: &[Token], left: usize) -> u32
 
 /// Reads the program that a text spells, within the nesting limits of 200 operators in one
 /// expression and 200 parentheses open at once in it. Of the faults in the tokens the first from
-/// the left is reported (C 1990, 6.5 to 6.7; Cilk 5.4 manual, `cilk`).
+/// the left is reported (C 1990, 6.5 to 6.7; Cilk 5.4 manual, `cilk`, `spawn` and `sync`).
 pub fn read(alloc: Global, text: &str) -> Result<Program, ReadFault>
     ensures too_long { (result ≡ Err (ReadFault.Lex LexFault.TooLong)) ↔ (text_limit < length text.now) }
     ensures found { IfOk result (SpellsProgram text.now) }

@@ -1,13 +1,14 @@
 ghost use Rattle.cilk_expr.specs.Grammar.{operator_limit, parenthesis_limit};
 ghost use Rattle.std.specs.Prelude.{◌≡◌};
 ghost use Rattle.cilk_expr.specs.Front.{Gives, kind_at};
-ghost use Rattle.cilk_parse.specs.Reading.{value_end_at, assigned_at, adjusted_at, changed_at, named_at, before_at, marked_by, return_at, stmt_at, stmts_at, result_end_at};
+ghost use Rattle.cilk_parse.specs.Reading.{value_end_at, assigned_at, adjusted_at, changed_at, named_at, before_at, marked_by, return_at, worded_by, stmt_at, stmts_at, result_end_at};
 ghost use Rattle.cilk_parse.specs.Roles.{role_by, assigned};
 
 use crate::role::{Role, role_of};
+use crate::spawn::{spawned, synced};
 use cilk_expr::{Cursor, ParseError, expression};
 use cilk_lex::{Keyword, Kind, Mark};
-use cilk_tree::{Adjustment, BinOp, Expr, Place, Stmt, StmtNode};
+use cilk_tree::{Adjustment, BinOp, Expr, Place, Stmt, StmtNode, Taker};
 
 // A whole expression and the semicolon behind it.
 #[tactic(auto, unfolding(crate::specs::Reading::value_end_at))]
@@ -37,8 +38,14 @@ fn assignment(cursor: &mut Cursor, place: Place, op: Option<BinOp>) -> Result<St
     ensures { Gives (λ s. (s, cursor.new.pieces)) result
         (assigned_at operator_limit parenthesis_limit place op cursor.old.pieces) }
 {
-    let value = value_end(cursor)?;
-    Ok(assigned(place, op, value))
+    if cursor.is_keyword(Keyword::Spawn) {
+        let at = cursor.place();
+        cursor.advance();
+        spawned(cursor, at, Taker::Into(op, place))
+    } else {
+        let value = value_end(cursor)?;
+        Ok(assigned(place, op, value))
+    }
 }
 
 // What stands behind `x++`, or `++x`.
@@ -149,6 +156,29 @@ fn returned(cursor: &mut Cursor, at: u32) -> Result<Stmt, ParseError>
     })
 }
 
+// A statement that begins with a word.
+fn worded(cursor: &mut Cursor, word: Keyword) -> Result<Stmt, ParseError>
+    ensures { Gives (λ s. (s, cursor.new.pieces)) result
+        (worded_by operator_limit parenthesis_limit cursor.old.pieces word) }
+{
+    let at = cursor.place();
+    match word {
+        Keyword::Return => {
+            cursor.advance();
+            returned(cursor, at)
+        }
+        Keyword::Spawn => {
+            cursor.advance();
+            spawned(cursor, at, Taker::Nothing)
+        }
+        Keyword::Sync => {
+            cursor.advance();
+            synced(cursor, at)
+        }
+        _ => Err(cursor.unexpected()),
+    }
+}
+
 #[tactic(auto, unfolding(crate::specs::Reading::stmt_at))]
 fn statement(cursor: &mut Cursor) -> Result<Stmt, ParseError>
     ensures { Gives (λ s. (s, cursor.new.pieces)) result
@@ -157,12 +187,8 @@ fn statement(cursor: &mut Cursor) -> Result<Stmt, ParseError>
     match cursor.kind() {
         Some(Kind::Name) => named(cursor),
         Some(Kind::Mark(mark)) => marked(cursor, role_of(mark)),
-        Some(Kind::Word(Keyword::Return)) => {
-            let at = cursor.place();
-            cursor.advance();
-            returned(cursor, at)
-        }
-        _ => Err(cursor.unexpected()),
+        Some(Kind::Word(word)) => worded(cursor, word),
+        None | Some(Kind::Number(_)) => Err(cursor.unexpected()),
     }
 }
 

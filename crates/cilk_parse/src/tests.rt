@@ -4,6 +4,9 @@ use cilk_tree::canonical;
 use std::alloc::{AllocError, Global};
 use std::test::Fail;
 
+mod globals;
+mod spawns;
+
 const SAMPLE: &str = "cilk int main(){int a=2,b;b=a*(3+4)-5;return b;}";
 
 const CANONICAL: &str =
@@ -164,7 +167,7 @@ fn tells_the_first_fault(rt: HostRuntime) {
         ("cilk int f(int a,) { }", ReadFault::Unexpected(17)),
         ("cilk f(void) { }", ReadFault::Unexpected(5)),
         ("cilk void f(void) { return }", ReadFault::Unexpected(27)),
-        ("int", ReadFault::Unexpected(0)),
+        ("void", ReadFault::Unexpected(0)),
         (
             "cilk int main(void) { a = 1; int b; }",
             ReadFault::Unexpected(29),
@@ -224,5 +227,35 @@ fn tells_what_is_too_deep(rt: HostRuntime) -> Result<(), Fail> {
         read(rt.alloc(), long.as_str()).err(),
         Some(ReadFault::Lex(LexFault::TooLong))
     );
+    Ok(())
+}
+
+const TOKENS: &str =
+    "int g = - 1 , h ; cilk int f ( int a ) { int x = a ; spawn f ( ) ; x = spawn f ( 1 , x + 2 ) ; x += spawn f ( a ) ; sync ; return x ; }";
+
+// The place of a token that is not expected, if that is the fault.
+fn unexpected(fault: ReadFault) -> Option<usize> {
+    match fault {
+        ReadFault::Unexpected(at) => Some(at as usize),
+        _ => None,
+    }
+}
+
+// However many tokens of a program are there, it is not at them that the fault is.
+#[test]
+fn each_front_of_a_program_goes_on(rt: HostRuntime) -> Result<(), Fail> {
+    let mut text = String::new(rt.alloc());
+    for token in TOKENS.split_whitespace() {
+        text.push_str(token)?;
+        let end = text.len();
+        if let Err(fault) = read(rt.alloc(), text.as_str()) {
+            assert_eq!(rt; unexpected(fault), Some(end), "at {text:?}");
+        }
+        text.push_str(" ")?;
+        let mut more = text.clone()?;
+        more.push_str("]")?;
+        let fault = read(rt.alloc(), more.as_str()).err();
+        assert_eq!(rt; fault.and_then(unexpected), Some(text.len()), "at {text:?}");
+    }
     Ok(())
 }

@@ -5,22 +5,42 @@
 //! of these functions: the first leaves a frame where it was taken, and a frame has no method
 //! `clone`; the other two use a frame that is with a worker already.
 //!
-//! ```text
-//! fn left_behind(hands: &Hands, victim: u8) -> Option<Frame>
+//! ```compile_fail unknown-method
+//! ghost use Rattle.cilk_sched.specs.Places.{IsWorker};
+//!
+//! use cilk_frame::Frame;
+//! use cilk_sched::Hands;
+//!
+//! pub fn left_behind(hands: &Hands, victim: u8) -> Option<Frame>
 //!     requires { IsWorker hands.now victim }
 //! {
 //!     hands.queued(victim, 0).cloned()
 //! }
+//! ```
 //!
-//! fn given(hands: &mut Hands, worker: u8, frame: Frame)
+//! ```compile_fail borrow-e0382
+//! ghost use Rattle.std.specs.Prelude.{◌≡◌, None};
+//! ghost use Rattle.cilk_sched.specs.Places.{IsWorker, hand_of};
+//!
+//! use cilk_frame::Frame;
+//! use cilk_sched::Hands;
+//!
+//! pub fn used_after_give(hands: &mut Hands, worker: u8, frame: Frame)
 //!     requires worker { IsWorker hands.old worker }
 //!     requires empty { hand_of hands.old worker ≡ None }
 //! {
 //!     hands.give(worker, frame);
 //!     frame.finish();
 //! }
+//! ```
 //!
-//! fn pushed(hands: &mut Hands, worker: u8, frame: Frame) -> Result<(), Frame>
+//! ```compile_fail borrow-e0382
+//! ghost use Rattle.cilk_sched.specs.Places.{IsWorker};
+//!
+//! use cilk_frame::Frame;
+//! use cilk_sched::Hands;
+//!
+//! pub fn used_after_push(hands: &mut Hands, worker: u8, frame: Frame) -> Result<(), Frame>
 //!     requires { IsWorker hands.old worker }
 //! {
 //!     hands.push_bottom(worker, frame)?;

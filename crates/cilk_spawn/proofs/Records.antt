@@ -1,14 +1,16 @@
 -- What a write to the records does to the nodes, and to what is kept of them.
-use Rattle.std.proofs.Common.{◌≡◌, ◌<◌, ◌++◌, ◌∷◌, [], ℕ, ℤ, List, Option, Some, None, is_some, not, ◌&&◌, cond, length, count_by, refl, sym, ap, ◌∙◌, subst, arith, inl, inr, slice_index_or, slice_set, length-set}
+use Rattle.std.proofs.Common.{◌≡◌, ◌<◌, ◌++◌, ◌∷◌, [], ℕ, ℤ, List, map, Option, Some, None, is_some, not, ◌&&◌, cond, length, count_by, refl, sym, ap, ◌∙◌, subst, arith, inl, inr, slice_index_or, slice_set, length-set}
 use Rattle.std.proofs.lemmas.List.{get_or-map, get_or_default, map-set, length-map, set-get_or}
 use Rattle.std.proofs.lemmas.List.Elements.{All-same}
 use Rattle.std.proofs.lemmas.List.Sums.{sum_by-set}
+use Rattle.std.proofs.Math.Seq.{map-set_same}
 use Rattle.cilk_spawn.specs.declared.delivery.Delivery.{Delivery}
 use Rattle.cilk_spawn.specs.declared.ending.Ending.{Ending}
+use Rattle.cilk_spawn.specs.declared.kin.Kin.{Kin}
 use Rattle.cilk_spawn.specs.declared.receiver.Receiver.{Receiver}
 use Rattle.cilk_spawn.specs.declared.record.Record.{Record}
 use Rattle.cilk_spawn.specs.Nodes.{Node, no_node, node_at, is_number, is_live_child, live_ids, with_waiting, delivered_to, delivered, IsBelow, IsFrom, AreFrom, IsTree}
-use Rattle.cilk_spawn.specs.Records.{node_of, nodes_of, Kept}
+use Rattle.cilk_spawn.specs.Records.{node_of, nodes_of, kin_of, Kept}
 use Rattle.cilk_spawn.proofs.Lists.{at_set}
 use Rattle.cilk_spawn.proofs.Trees.{Linked, tree_set, ids_set}
 
@@ -122,3 +124,8 @@ parent_at rs ids i p q x y kept at e f is = record { there = let h = parent_ther
 -- what waits at a record comes from its children
 pub sent_at : (rs : List Record) (ids : List ℕ) (i : ℕ) (x : Record) → Kept rs ids → At rs i x → AreFrom (nodes_of rs) i x.waiting.items
 sent_at rs ids i x kept at = All-same (IsFrom (nodes_of rs) i) x.waiting.items (node_at (nodes_of rs) i).waiting (ap (λ (n : Node). n.waiting) (sym (at_is rs i x at))) (kept.tree.sent i)
+
+-- a write that leaves parent and number leaves what is kept beside the records
+pub kin_set : (rs : List Record) (ks : List Kin) (j : ℕ) (x r : Record) → At rs j x → kin_of (node_of r) ≡ kin_of (node_of x) → ks ≡ map kin_of (nodes_of rs) → ks ≡ map kin_of (nodes_of (slice_set rs j r))
+kin_set rs ks j x r at same kin =
+    kin ∙ sym (ap (map kin_of) (nodes_set rs j r) ∙ map-set_same kin_of (nodes_of rs) j (node_of r) no_node (same ∙ ap kin_of (sym (at_is rs j x at))))

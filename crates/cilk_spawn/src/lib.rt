@@ -4,8 +4,17 @@
 //! A frame that was parked is the tree's, until it is taken out again. The compiler refuses this
 //! function, since a frame that was parked is the caller's no more:
 //!
-//! ```text
-//! fn parked(tree: &mut Tree, frame: Frame) -> u32 {
+//! ```compile_fail borrow-e0382
+//! ghost use Rattle.std.specs.Prelude.{◌≡◌, ◌<◌, None, length};
+//! ghost use Rattle.cilk_spawn.specs.Nodes.{node_at};
+//!
+//! use cilk_frame::Frame;
+//! use cilk_spawn::Tree;
+//!
+//! pub fn used_after_park(tree: &mut Tree, frame: Frame) -> u32
+//!     requires there { frame.id < length tree.old }
+//!     requires free { (node_at tree.old frame.id).parked ≡ None }
+//! {
 //!     tree.park(frame);
 //!     frame.depth()
 //! }
@@ -17,6 +26,7 @@
 
 mod delivery;
 mod ending;
+mod kin;
 mod laws;
 mod path;
 mod receiver;

@@ -4,6 +4,7 @@ ghost use Rattle.cilk_spawn.specs.Nodes.{node_at, is_live, live_ids, has_live_ch
 
 use crate::delivery::Delivery;
 use crate::ending::Ending;
+use crate::kin::Kin;
 use crate::path::Path;
 use crate::receiver::Receiver;
 use crate::record::Record;
@@ -15,20 +16,22 @@ use std::marker::Model;
 #[derive(Drop)]
 pub struct Tree {
     records: Vec<Record>,
+    /// The parent and the ordinal of each record, side by side, since paths are read often.
+    kin: Vec<Kin>,
     /// The ids of those that live, in the order of birth.
     live: Vec<Id>,
 }
 
 impl Model for Tree {
-    ghost use Rattle.std.specs.Prelude.{List};
+    ghost use Rattle.std.specs.Prelude.{◌≡◌, List, map};
     ghost use Rattle.cilk_spawn.specs.Nodes.{Node};
-    ghost use Rattle.cilk_spawn.specs.Records.{nodes_of, Kept};
+    ghost use Rattle.cilk_spawn.specs.Records.{nodes_of, kin_of, Kept};
 
     ghost Value = { List Node };
 
     ghost view = { λ t. nodes_of t.records.items };
 
-    ghost invariant = { λ t. Kept t.records.items t.live.items };
+    ghost invariant = { λ t. Kept t.records.items t.live.items × (t.kin.items ≡ map kin_of (nodes_of t.records.items)) };
 }
 
 impl Tree {
@@ -38,9 +41,14 @@ impl Tree {
     {
         let mut records = Vec::new(alloc);
         records.push(Record::start(alloc, None, 0, Receiver::Nothing))?;
+        let mut kin = Vec::new(alloc);
+        kin.push(Kin {
+            parent: None,
+            ordinal: 0,
+        })?;
         let mut live = Vec::new(alloc);
         live.push(Id::new(0))?;
-        Ok(Tree { records, live })
+        Ok(Tree { records, kin, live })
     }
 
     /// The id that the next child gets, whoever spawns it.
@@ -64,8 +72,13 @@ impl Tree {
         let spawner = parent.number();
         let ordinal = self.records[spawner].children + 1;
         self.live.reserve(1)?;
+        self.kin.reserve(1)?;
         self.records
             .push(Record::start(alloc, Some(parent), ordinal, receiver))?;
+        self.kin.push(Kin {
+            parent: Some(parent),
+            ordinal,
+        })?;
         self.live.push(id)?;
         let record = &mut self.records[spawner];
         record.children = ordinal;
@@ -147,8 +160,8 @@ impl Tree {
     {
         let mut numbers = Vec::new(*self.records.allocator());
         let mut at = id;
-        while let Some(parent) = self.records[at.number()].parent {
-            numbers.push(self.records[at.number()].ordinal)?;
+        while let Some(parent) = self.kin[at.number()].parent {
+            numbers.push(self.kin[at.number()].ordinal)?;
             at = parent;
         }
         numbers.reverse();
@@ -177,14 +190,14 @@ impl Tree {
         let mut at = id;
         let mut rest = path;
         while let Some((last, front)) = rest.split_last() {
-            let record = &self.records[at.number()];
-            match record.parent {
-                Some(parent) if record.ordinal == *last => at = parent,
+            let kin = &self.kin[at.number()];
+            match kin.parent {
+                Some(parent) if kin.ordinal == *last => at = parent,
                 _ => return false,
             }
             rest = front;
         }
-        self.records[at.number()].parent.is_none()
+        self.kin[at.number()].parent.is_none()
     }
 
     /// Nothing to wait for: no child lives, and no delivery waits (Cilk 5.4 manual, `SYNCHED`).
@@ -217,7 +230,7 @@ impl Tree {
         requires { id < length self.now }
         ensures { result ≡ (node_at self.now id).parent }
     {
-        self.records[id.number()].parent
+        self.kin[id.number()].parent
     }
 
     /// Whether a child of it lives.

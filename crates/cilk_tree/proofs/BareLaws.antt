@@ -1,12 +1,12 @@
 -- What leaving places aside keeps.
 use Rattle.std.proofs.Common.{◌≡◌, ℕ, ◌+◌, List, [], ◌∷◌, ◌++◌, codes, map, Option, None, Some, refl, ap, sym, ◌∙◌}
-use Rattle.cilk_tree.specs.Tree.{Expr, number, named, binary, Decl, Stmt, assign, null, update, adjust, Stmts, none, also, Block, block, Item, procedure, Program, unary, choose, Word, return_at, Proc}
+use Rattle.cilk_tree.specs.Tree.{Expr, number, named, binary, Decl, Taker, nothing, into, Stmt, assign, null, update, adjust, spawn_at, sync_at, Stmts, none, also, Block, block, Item, procedure, global, Program, unary, choose, Word, return_at, Proc}
 use Rattle.cilk_tree.specs.OperatorMark.{mark_of, sign_of}
 use Rattle.cilk_tree.specs.ReturnWord.{word_of}
 use Rattle.cilk_tree.specs.Operators.{operators}
 use Rattle.cilk_tree.specs.ExprText.{stands_alone, as_operand, expr_text}
-use Rattle.cilk_tree.specs.ProgramText.{text_of_lines, deeper, initialiser_text, result_text, next_parameters_text, parameters_text, decl_line, stmt_lines, stmts_lines, block_lines, opening_line, item_lines, items_lines, program_text}
-use Rattle.cilk_tree.specs.Bare.{bare_word, bare_expr, bare_value, bare_decl, bare_stmt, bare_stmts, bare_block, bare_proc, bare_item, bare_program}
+use Rattle.cilk_tree.specs.ProgramText.{text_of_lines, deeper, initialiser_text, result_text, taker_text, next_arguments_text, arguments_text, next_parameters_text, parameters_text, decl_line, stmt_lines, stmts_lines, block_lines, opening_line, item_lines, items_lines, program_text}
+use Rattle.cilk_tree.specs.Bare.{bare_word, bare_expr, bare_value, bare_decl, bare_taker, bare_stmt, bare_stmts, bare_block, bare_proc, bare_item, bare_program}
 
 pub operators-bare : (e : Expr) → operators (bare_expr e) ≡ operators e
 operators-bare (number n) = refl
@@ -47,6 +47,18 @@ decl_lines-bare : (indent : List ℕ) (ds : List Decl) → map (decl_line indent
 decl_lines-bare indent [] = refl
 decl_lines-bare indent (d ∷ ds) = λ i. decl_line-bare indent d i ∷ decl_lines-bare indent ds i
 
+pub taker_text-bare : (taker : Taker) → taker_text (bare_taker taker) ≡ taker_text taker
+taker_text-bare nothing = refl
+taker_text-bare (into op place) = refl
+
+next_arguments_text-bare : (es : List Expr) → next_arguments_text (map bare_expr es) ≡ next_arguments_text es
+next_arguments_text-bare [] = refl
+next_arguments_text-bare (e ∷ es) = λ i. codes ", " ++ (expr_text-bare e i ++ next_arguments_text-bare es i)
+
+pub arguments_text-bare : (es : List Expr) → arguments_text (map bare_expr es) ≡ arguments_text es
+arguments_text-bare [] = refl
+arguments_text-bare (e ∷ es) = λ i. expr_text-bare e i ++ next_arguments_text-bare es i
+
 pub stmt_lines-bare : (indent : List ℕ) (s : Stmt) → stmt_lines indent (bare_stmt s) ≡ stmt_lines indent s
 stmt_lines-bare indent (assign place value) =
     λ i. (indent ++ (place.name.text ++ (codes " = " ++ (expr_text-bare value i ++ codes ";")))) ∷ []
@@ -55,6 +67,9 @@ stmt_lines-bare indent null = refl
 stmt_lines-bare indent (update place op value) =
     λ i. (indent ++ (place.name.text ++ (codes " " ++ (mark_of op ++ (codes "= " ++ (expr_text-bare value i ++ codes ";")))))) ∷ []
 stmt_lines-bare indent (adjust place by) = refl
+stmt_lines-bare indent (spawn_at at taker callee arguments) =
+    λ i. (indent ++ (taker_text-bare taker i ++ (codes "spawn " ++ (callee.text ++ (codes "(" ++ (arguments_text-bare arguments i ++ codes ");")))))) ∷ []
+stmt_lines-bare indent (sync_at at) = refl
 
 pub stmts_lines-bare : (indent : List ℕ) (ss : Stmts) → stmts_lines indent (bare_stmts ss) ≡ stmts_lines indent ss
 stmts_lines-bare indent none = refl
@@ -77,6 +92,7 @@ opening_line-bare p =
 
 pub item_lines-bare : (x : Item) → item_lines (bare_item x) ≡ item_lines x
 item_lines-bare (procedure p) = λ i. opening_line-bare p i ∷ (block_lines-bare (deeper []) p.body i ++ codes "}" ∷ [])
+item_lines-bare (global g) = refl
 
 items_lines-bare : (xs : List Item) → items_lines (map bare_item xs) ≡ items_lines xs
 items_lines-bare [] = refl

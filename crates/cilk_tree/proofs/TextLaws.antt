@@ -2,11 +2,11 @@
 use Rattle.std.proofs.Common.{◌≡◌, ℕ, List, [], ◌∷◌, ◌++◌, codes, decimal, map, refl, append_assoc, Option}
 use Rattle.cilk_tree.specs.declared.adjustment.Adjustment.{Adjustment}
 use Rattle.cilk_tree.specs.declared.operator.BinOp.{BinOp}
-use Rattle.cilk_tree.specs.Tree.{Word, Expr, number, named, binary, Place, Decl, Stmt, assign, null, update, adjust, Stmts, also, block, Proc, Item, procedure, return_at}
+use Rattle.cilk_tree.specs.Tree.{Word, Expr, number, named, binary, Place, Decl, Taker, Stmt, assign, null, update, adjust, spawn_at, sync_at, Stmts, also, block, Proc, Global, Item, procedure, global, return_at}
 use Rattle.cilk_tree.specs.OperatorMark.{mark_of}
 use Rattle.cilk_tree.specs.Adjustments.{adjustment_mark}
 use Rattle.cilk_tree.specs.ExprText.{expr_text, operand_text}
-use Rattle.cilk_tree.specs.ProgramText.{text_of_lines, deeper, initialiser_text, result_text, decl_line, stmt_lines, stmts_lines, block_lines, opening_line, item_lines, items_lines, program_text}
+use Rattle.cilk_tree.specs.ProgramText.{text_of_lines, deeper, initialiser_text, result_text, start_text, taker_text, arguments_text, decl_line, stmt_lines, stmts_lines, block_lines, opening_line, item_lines, items_lines, program_text}
 use Rattle.cilk_tree.proofs.Lines.{text_of_lines-append}
 
 pub expr_text-number : (n : ℕ) → expr_text (number n) ≡ decimal n
@@ -46,6 +46,12 @@ text-stmt-update indent place op value = simp append_assoc
 pub text-stmt-adjust : (indent : List ℕ) (place : Place) (by : Adjustment) → text_of_lines (stmt_lines indent (adjust place by)) ≡ indent ++ (place.name.text ++ (adjustment_mark by ++ codes ";\n"))
 text-stmt-adjust indent place by = simp append_assoc
 
+pub text-stmt-spawn : (indent : List ℕ) (at : ℕ) (taker : Taker) (callee : Word) (arguments : List Expr) → text_of_lines (stmt_lines indent (spawn_at at taker callee arguments)) ≡ indent ++ (taker_text taker ++ (codes "spawn " ++ (callee.text ++ (codes "(" ++ (arguments_text arguments ++ codes ");\n")))))
+text-stmt-spawn indent at taker callee arguments = simp append_assoc
+
+pub text-stmt-sync : (indent : List ℕ) (at : ℕ) → text_of_lines (stmt_lines indent (sync_at at)) ≡ indent ++ codes "sync;\n"
+text-stmt-sync indent at = simp append_assoc
+
 pub text-stmts-also : (indent : List ℕ) (first : Stmt) (others : Stmts) → text_of_lines (stmts_lines indent (also first others)) ≡ text_of_lines (stmt_lines indent first) ++ text_of_lines (stmts_lines indent others)
 text-stmts-also indent first others = text_of_lines-append (stmt_lines indent first) (stmts_lines indent others)
 
@@ -54,6 +60,9 @@ text-block indent decls stmts = text_of_lines-append (map (decl_line indent) dec
 
 pub text-procedure : (p : Proc) → text_of_lines (item_lines (procedure p)) ≡ opening_line p ++ (codes "\n" ++ (text_of_lines (block_lines (deeper []) p.body) ++ codes "}\n"))
 text-procedure p = rw (text_of_lines-append (block_lines (deeper []) p.body) (codes "}" ∷ [])) refl
+
+pub text-global : (g : Global) → text_of_lines (item_lines (global g)) ≡ codes "int " ++ (g.name.text ++ (start_text g.value ++ codes ";\n"))
+text-global g = simp append_assoc
 
 pub text-items-also : (first : Item) (others : List Item) → text_of_lines (items_lines (first ∷ others)) ≡ text_of_lines (item_lines first) ++ text_of_lines (items_lines others)
 text-items-also first others = text_of_lines-append (item_lines first) (items_lines others)

@@ -1,5 +1,5 @@
--- Words, lists and options as trees of numbers, one to one, which the logic stores.
-use Rattle.std.specs.Prelude.{◌≡◌, refl, ℕ, List, [], ◌∷◌, Option, Some, None}
+-- Integers, words, lists and options as trees of numbers, one to one, which the logic stores.
+use Rattle.std.specs.Prelude.{◌≡◌, refl, ℕ, zero, suc, ℤ, pos, negsuc, List, [], ◌∷◌, Option, Some, None}
 use Rattle.std.specs.Coded.{Coded}
 use Rattle.std.proofs.Common.{sym, ap, ◌∙◌}
 use base.Stored.{Gv, gnil, gnum, gcons}
@@ -33,6 +33,19 @@ module _ {A : Type 0} (to : A → Gv) (from : Gv → A) (back : (x : A) → from
   pub option_back : (x : Option A) → option_from (option_to x) ≡ x
   option_back None = refl
   option_back (Some x) = λ i. Some (back x i)
+
+abbrev pub integer_to : ℤ → Gv
+integer_to (pos n) = gcons (gnum 0) (gnum n)
+integer_to (negsuc n) = gcons (gnum 1) (gnum n)
+
+abbrev pub integer_from : Gv → ℤ
+integer_from (gcons (gnum zero) (gnum n)) = pos n
+integer_from (gcons (gnum (suc _)) (gnum n)) = negsuc n
+integer_from _ = pos 0
+
+pub integer_back : (x : ℤ) → integer_from (integer_to x) ≡ x
+integer_back (pos n) = refl
+integer_back (negsuc n) = refl
 
 abbrev pub text_to : List ℕ → Gv
 text_to [] = gnil

@@ -1,11 +1,11 @@
 -- Definitions and programs as trees of numbers, one to one, which the logic stores.
-use Rattle.std.specs.Prelude.{◌≡◌, refl, suc, List, []}
+use Rattle.std.specs.Prelude.{◌≡◌, refl, zero, suc, List, [], None}
 use Rattle.std.specs.Coded.{Coded}
-use base.Stored.{Gv, gnum, gcons}
+use base.Stored.{Gv, gnil, gnum, gcons}
 use Rattle.cilk_tree.specs.declared.return_type.ReturnType.{ReturnType}
 use Rattle.cilk_tree.specs.declared.return_type.ReturnType.TheVariants.{Int, Void}
-use Rattle.cilk_tree.specs.Tree.{Word, block, none, Proc, Item, procedure, Program}
-use Rattle.cilk_tree.specs.Coding.{coded_back, word_to, word_from, word_back, list_to, list_from, list_back}
+use Rattle.cilk_tree.specs.Tree.{Word, block, none, Proc, Global, Item, procedure, global, Program}
+use Rattle.cilk_tree.specs.Coding.{coded_back, word_to, word_from, word_back, list_to, list_from, list_back, integer_to, integer_from, integer_back, option_to, option_from, option_back}
 use Rattle.cilk_tree.specs.StmtCoding.{block_to, block_from, block_back}
 
 abbrev pub returns_to : ReturnType → Gv
@@ -40,14 +40,31 @@ proc_back p = λ i. record { returns = returns_back p.returns i; name = word_bac
 abbrev pub coded_Proc : Coded Proc
 coded_Proc = coded_back proc_to proc_from proc_back
 
+abbrev pub global_to : Global → Gv
+global_to g = gcons (word_to g.name) (option_to integer_to integer_from integer_back g.value)
+
+abbrev pub global_from : Gv → Global
+global_from (gcons name value) = record { name = word_from name; value = option_from integer_to integer_from integer_back value }
+global_from _ = record { name = record { text = []; place = 0 }; value = None }
+
+pub global_back : (g : Global) → global_from (global_to g) ≡ g
+global_back g = λ i. record { name = word_back g.name i; value = option_back integer_to integer_from integer_back g.value i }
+
+abbrev pub coded_Global : Coded Global
+coded_Global = coded_back global_to global_from global_back
+
 abbrev pub item_to : Item → Gv
-item_to (procedure definition) = proc_to definition
+item_to (procedure definition) = gcons (gnum 0) (proc_to definition)
+item_to (global definition) = gcons (gnum 1) (global_to definition)
 
 abbrev pub item_from : Gv → Item
-item_from code = procedure (proc_from code)
+item_from (gcons (gnum zero) definition) = procedure (proc_from definition)
+item_from (gcons (gnum (suc _)) definition) = global (global_from definition)
+item_from _ = procedure (proc_from gnil)
 
 pub item_back : (x : Item) → item_from (item_to x) ≡ x
 item_back (procedure definition) = λ i. procedure (proc_back definition i)
+item_back (global definition) = λ i. global (global_back definition i)
 
 abbrev pub coded_Item : Coded Item
 coded_Item = coded_back item_to item_from item_back

@@ -2,7 +2,7 @@
 use Rattle.std.specs.Prelude.{◌≡◌, refl, zero, suc, List, [], Option, None}
 use Rattle.std.specs.Coded.{Coded}
 use base.Stored.{Gv, gnil, gnum, gcons}
-use Rattle.cilk_tree.specs.Tree.{Expr, Place, Decl, Stmt, assign, null, update, adjust, Stmts, none, also, Block, block, return_at}
+use Rattle.cilk_tree.specs.Tree.{Expr, Place, Decl, Taker, nothing, into, Stmt, assign, null, update, adjust, spawn_at, sync_at, Stmts, none, also, Block, block, return_at}
 use Rattle.cilk_tree.specs.Coding.{coded_back, word_to, word_from, word_back, list_to, list_from, list_back, option_to, option_from, option_back}
 use Rattle.cilk_tree.specs.OperatorCoding.{operator_to, operator_from, operator_back}
 use Rattle.cilk_tree.specs.AdjustmentCoding.{adjustment_to, adjustment_from, adjustment_back}
@@ -51,19 +51,46 @@ decls_from = list_from decl_to decl_from decl_back
 pub decls_back : (ds : List Decl) → decls_from (decls_to ds) ≡ ds
 decls_back = list_back decl_to decl_from decl_back
 
+abbrev pub taker_to : Taker → Gv
+taker_to nothing = gnil
+taker_to (into op place) = gcons (option_to operator_to operator_from operator_back op) (place_to place)
+
+abbrev pub taker_from : Gv → Taker
+taker_from (gcons op place) = into (option_from operator_to operator_from operator_back op) (place_from place)
+taker_from _ = nothing
+
+pub taker_back : (t : Taker) → taker_from (taker_to t) ≡ t
+taker_back nothing = refl
+taker_back (into op place) = λ i. into (option_back operator_to operator_from operator_back op i) (place_back place i)
+
+abbrev pub arguments_to : List Expr → Gv
+arguments_to = list_to expr_to expr_from expr_back
+
+abbrev pub arguments_from : Gv → List Expr
+arguments_from = list_from expr_to expr_from expr_back
+
+pub arguments_back : (es : List Expr) → arguments_from (arguments_to es) ≡ es
+arguments_back = list_back expr_to expr_from expr_back
+
 abbrev pub stmt_to : Stmt → Gv
 stmt_to (assign place value) = gcons (gnum 0) (gcons (place_to place) (expr_to value))
 stmt_to (return_at at value) = gcons (gnum 1) (gcons (gnum at) (value_to value))
 stmt_to null = gnil
 stmt_to (update place op value) = gcons (gnum 2) (gcons (operator_to op) (gcons (place_to place) (expr_to value)))
 stmt_to (adjust place by) = gcons (gnum 3) (gcons (adjustment_to by) (place_to place))
+stmt_to (spawn_at at taker callee arguments) =
+    gcons (gnum 4) (gcons (gnum at) (gcons (taker_to taker) (gcons (word_to callee) (arguments_to arguments))))
+stmt_to (sync_at at) = gcons (gnum 5) (gnum at)
 
 abbrev pub stmt_from : Gv → Stmt
 stmt_from (gcons (gnum zero) (gcons place value)) = assign (place_from place) (expr_from value)
 stmt_from (gcons (gnum (suc zero)) (gcons (gnum at) value)) = return_at at (value_from value)
 stmt_from (gcons (gnum (suc (suc zero))) (gcons op (gcons place value))) =
     update (place_from place) (operator_from op) (expr_from value)
-stmt_from (gcons (gnum (suc (suc (suc _)))) (gcons by place)) = adjust (place_from place) (adjustment_from by)
+stmt_from (gcons (gnum (suc (suc (suc zero)))) (gcons by place)) = adjust (place_from place) (adjustment_from by)
+stmt_from (gcons (gnum (suc (suc (suc (suc zero))))) (gcons (gnum at) (gcons taker (gcons callee arguments)))) =
+    spawn_at at (taker_from taker) (word_from callee) (arguments_from arguments)
+stmt_from (gcons (gnum (suc (suc (suc (suc (suc _)))))) (gnum at)) = sync_at at
 stmt_from _ = null
 
 pub stmt_back : (s : Stmt) → stmt_from (stmt_to s) ≡ s
@@ -72,6 +99,9 @@ stmt_back (return_at at value) = λ i. return_at at (value_back value i)
 stmt_back null = refl
 stmt_back (update place op value) = λ i. update (place_back place i) (operator_back op i) (expr_back value i)
 stmt_back (adjust place by) = λ i. adjust (place_back place i) (adjustment_back by i)
+stmt_back (spawn_at at taker callee arguments) =
+    λ i. spawn_at at (taker_back taker i) (word_back callee i) (arguments_back arguments i)
+stmt_back (sync_at at) = refl
 
 abbrev pub coded_Stmt : Coded Stmt
 coded_Stmt = coded_back stmt_to stmt_from stmt_back

@@ -1,5 +1,5 @@
 -- The syntax tree of a program: what it says, without where it lies in memory.
-use Rattle.std.specs.Prelude.{ℕ, List, Option}
+use Rattle.std.specs.Prelude.{ℕ, ℤ, List, Option}
 use Rattle.cilk_tree.specs.declared.adjustment.Adjustment.{Adjustment}
 use Rattle.cilk_tree.specs.declared.operator.BinOp.{BinOp}
 use Rattle.cilk_tree.specs.declared.return_type.ReturnType.{ReturnType}
@@ -27,6 +27,13 @@ pub record Decl : Type 0 where
   pub name : Word
   pub value : Option Expr
 
+-- what takes the value of a child (Cilk 5.4 manual, `spawn`)
+pub data Taker : Type 0 where
+  -- nothing does
+  nothing : Taker
+  -- an implicit inlet: its operator, if any, and its place
+  into : (op : Option BinOp) (place : Place) → Taker
+
 -- a statement (C 1990, 6.6)
 pub data Stmt : Type 0 where
   assign : (place : Place) (value : Expr) → Stmt
@@ -38,6 +45,10 @@ pub data Stmt : Type 0 where
   update : (place : Place) (op : BinOp) (value : Expr) → Stmt
   -- `++` or `--`, before or behind the place (C 1990, 6.3.2.4, 6.3.3.1)
   adjust : (place : Place) (by : Adjustment) → Stmt
+  -- the place of the word `spawn`, what takes the value, the callee and its arguments
+  spawn_at : (at : ℕ) (taker : Taker) (callee : Word) (arguments : List Expr) → Stmt
+  -- the place of the word `sync`
+  sync_at : (at : ℕ) → Stmt
 
 -- statements in order
 pub data Stmts : Type 0 where
@@ -55,9 +66,15 @@ pub record Proc : Type 0 where
   pub parameters : List Word
   pub body : Block
 
+-- an `int` variable of the top level, and the number that it starts with, if one is written (C 1990, 6.7.2)
+pub record Global : Type 0 where
+  pub name : Word
+  pub value : Option ℤ
+
 -- a definition at the top level (C 1990, 6.7)
 pub data Item : Type 0 where
   procedure : (definition : Proc) → Item
+  global : (definition : Global) → Item
 
 -- the definitions in order, and the length of the text in bytes
 pub record Program : Type 0 where

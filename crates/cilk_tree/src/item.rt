@@ -1,3 +1,4 @@
+use crate::global::Global;
 use crate::procedure::Proc;
 use std::marker::Model;
 
@@ -11,6 +12,7 @@ pub struct Item {
 #[derive(Drop)]
 pub enum ItemNode {
     Procedure(Proc),
+    Global(Global),
 }
 
 impl Model for Item {

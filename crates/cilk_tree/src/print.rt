@@ -4,13 +4,15 @@ ghost use Rattle.std.specs.Prelude.{◌≡◌, ◌++◌, IfOk, OnOk, codes, deci
 ghost use Rattle.cilk_tree.specs.Adjustments.{adjustment_mark};
 ghost use Rattle.cilk_tree.specs.OperatorMark.{mark_of};
 ghost use Rattle.cilk_tree.specs.ExprText.{expr_text, operand_text, stands_alone};
-ghost use Rattle.cilk_tree.specs.ProgramText.{block_lines, decl_line, deeper, initialiser_text, item_lines, opening_line, program_text, stmt_lines, text_of_lines, next_parameters_text, parameters_text, result_text};
+ghost use Rattle.cilk_tree.specs.ProgramText.{arguments_text, block_lines, decl_line, deeper, global_line, initialiser_text, item_lines, opening_line, program_text, start_text, stmt_lines, taker_text, text_of_lines, next_arguments_text, next_parameters_text, parameters_text, result_text, update_text};
+ghost use Rattle.cilk_tree.specs.StmtView.{taker_of};
 ghost use Rattle.cilk_tree.specs.Tree.{binary, choose, procedure, unary};
 
 use crate::adjustment::Adjustment;
 use crate::block::Block;
 use crate::decl::Decl;
 use crate::expr::{Expr, ExprNode};
+use crate::global;
 use crate::item::{Item, ItemNode};
 use crate::memory::Memory;
 use crate::operator::BinOp;
@@ -18,6 +20,7 @@ use crate::place::Place;
 use crate::procedure::Proc;
 use crate::program::Program;
 use crate::stmt::{Stmt, StmtNode};
+use crate::taker::Taker;
 use crate::un_op::UnOp;
 use crate::word::Word;
 use itoa::Buffer;
@@ -41,6 +44,29 @@ fn put_item(alloc: Global, out: &mut String, item: &Item) -> Result<(), Memory>
 {
     match &item.node {
         ItemNode::Procedure(definition) => put_procedure(alloc, out, definition),
+        ItemNode::Global(definition) => put_global(out, definition),
+    }
+}
+
+fn put_global(out: &mut String, definition: &global::Global) -> Result<(), Memory>
+    ensures { OnOk result (string_bytes out.new ≡ string_bytes out.old ++ (global_line definition.now ++ codes "\n")) }
+{
+    put(out, "int ")?;
+    put(out, definition.name.as_str())?;
+    put_start(out, definition.value)?;
+    put(out, ";\n")
+}
+
+fn put_start(out: &mut String, value: Option<i32>) -> Result<(), Memory>
+    ensures { OnOk result (string_bytes out.new ≡ string_bytes out.old ++ start_text value) }
+{
+    match value {
+        None => Ok(()),
+        Some(value) => {
+            let mut buffer = Buffer::new();
+            put(out, " = ")?;
+            put(out, buffer.format(value))
+        }
     }
 }
 
@@ -143,6 +169,8 @@ fn put_stmt(out: &mut String, indent: &str, stmt: &Stmt) -> Result<(), Memory>
         StmtNode::Null => put(out, ";\n"),
         StmtNode::Update(place, op, value) => put_update(out, place, *op, value),
         StmtNode::Adjust(place, by) => put_adjustment(out, place, *by),
+        StmtNode::Spawn(_, taker, callee, arguments) => put_spawn(out, taker, callee, arguments),
+        StmtNode::Sync(_) => put(out, "sync;\n"),
     }
 }
 
@@ -180,6 +208,67 @@ fn put_adjustment(out: &mut String, place: &Place, by: Adjustment) -> Result<(),
     put(out, place.name.as_str())?;
     put(out, by.mark())?;
     put(out, ";\n")
+}
+
+fn put_spawn(
+    out: &mut String,
+    taker: &Taker,
+    callee: &Word,
+    arguments: &[Expr],
+) -> Result<(), Memory>
+    ensures { OnOk result (string_bytes out.new ≡ string_bytes out.old ++ (taker_text (taker_of taker.now) ++ (codes "spawn " ++ (callee.now.text ++ (codes "(" ++ (arguments_text arguments.now ++ codes ");\n")))))) }
+{
+    put_taker(out, taker)?;
+    put(out, "spawn ")?;
+    put(out, callee.as_str())?;
+    put(out, "(")?;
+    put_arguments(out, arguments)?;
+    put(out, ");\n")
+}
+
+fn put_taker(out: &mut String, taker: &Taker) -> Result<(), Memory>
+    ensures { OnOk result (string_bytes out.new ≡ string_bytes out.old ++ taker_text (taker_of taker.now)) }
+{
+    match taker {
+        Taker::Nothing => Ok(()),
+        Taker::Into(op, place) => {
+            put(out, place.name.as_str())?;
+            put(out, " ")?;
+            put_operator(out, *op)?;
+            put(out, "= ")
+        }
+    }
+}
+
+fn put_operator(out: &mut String, op: Option<BinOp>) -> Result<(), Memory>
+    ensures { OnOk result (string_bytes out.new ≡ string_bytes out.old ++ update_text op) }
+{
+    match op {
+        None => Ok(()),
+        Some(op) => put(out, op.mark()),
+    }
+}
+
+fn put_arguments(out: &mut String, arguments: &[Expr]) -> Result<(), Memory>
+    ensures { OnOk result (string_bytes out.new ≡ string_bytes out.old ++ arguments_text arguments.now) }
+{
+    match arguments {
+        [] => Ok(()),
+        [first, others @ ..] => {
+            put_expr(out, first)?;
+            put_next_arguments(out, others)
+        }
+    }
+}
+
+fn put_next_arguments(out: &mut String, arguments: &[Expr]) -> Result<(), Memory>
+    ensures { OnOk result (string_bytes out.new ≡ string_bytes out.old ++ next_arguments_text arguments.now) }
+{
+    for argument in arguments {
+        put(out, ", ")?;
+        put_expr(out, argument)?;
+    }
+    Ok(())
 }
 
 fn put_result(out: &mut String, value: &Option<Expr>) -> Result<(), Memory>

@@ -1,16 +1,19 @@
 //! Whether two trees say the same, wherever they stand in their texts.
 
 ghost use Rattle.std.specs.Prelude.{◌≡◌, ◌↔◌, IsTrue, map};
-ghost use Rattle.cilk_tree.specs.Bare.{bare_block, bare_decl, bare_expr, bare_item, bare_place, bare_proc, bare_program, bare_stmt, bare_value, bare_word};
+ghost use Rattle.cilk_tree.specs.Bare.{bare_block, bare_decl, bare_expr, bare_global, bare_item, bare_place, bare_proc, bare_program, bare_stmt, bare_taker, bare_value, bare_word};
+ghost use Rattle.cilk_tree.specs.StmtView.{taker_of};
 
 use crate::block::Block;
 use crate::decl::Decl;
 use crate::expr::{Expr, ExprNode};
+use crate::global::Global;
 use crate::item::{Item, ItemNode};
 use crate::place::Place;
 use crate::procedure::Proc;
 use crate::program::Program;
 use crate::stmt::{Stmt, StmtNode};
+use crate::taker::Taker;
 use crate::word::Word;
 
 impl Word {
@@ -56,6 +59,20 @@ impl Expr {
     }
 }
 
+fn same_arguments(arguments: &[Expr], others: &[Expr]) -> bool
+    ensures { IsTrue result ↔ (map bare_expr arguments.now ≡ map bare_expr others.now) }
+{
+    if arguments.len() != others.len() {
+        return false;
+    }
+    for (i, argument) in arguments.iter().enumerate() {
+        if !argument.same(&others[i]) {
+            return false;
+        }
+    }
+    true
+}
+
 // Whether both are there and the same, or neither is there.
 fn same_values(value: &Option<Expr>, other: &Option<Expr>) -> bool
     ensures { IsTrue result ↔ (bare_value value.now ≡ bare_value other.now) }
@@ -99,6 +116,19 @@ fn same_decls(decls: &[Decl], others: &[Decl]) -> bool
     true
 }
 
+impl Taker {
+    /// Whether both take a value in the same way, places aside.
+    pub fn same(&self, other: &Taker) -> bool
+        ensures { IsTrue result ↔ (bare_taker (taker_of self.now) ≡ bare_taker (taker_of other.now)) }
+    {
+        match (self, other) {
+            (Taker::Nothing, Taker::Nothing) => true,
+            (Taker::Into(op, p), Taker::Into(po, q)) => op == po && p.same(q),
+            _ => false,
+        }
+    }
+}
+
 impl Stmt {
     /// Whether the statements are equal, places aside.
     pub fn same(&self, other: &Stmt) -> bool
@@ -112,6 +142,10 @@ impl Stmt {
                 op == po && p.same(q) && a.same(b)
             }
             (StmtNode::Adjust(p, by), StmtNode::Adjust(q, yb)) => by == yb && p.same(q),
+            (StmtNode::Spawn(_, t, f, a), StmtNode::Spawn(_, u, g, b)) => {
+                t.same(u) && f.same(g) && same_arguments(a, b)
+            }
+            (StmtNode::Sync(_), StmtNode::Sync(_)) => true,
             _ => false,
         }
     }
@@ -153,6 +187,15 @@ impl Proc {
     }
 }
 
+impl Global {
+    /// Whether the variables are equal, places aside.
+    pub fn same(&self, other: &Global) -> bool
+        ensures { IsTrue result ↔ (bare_global self.now ≡ bare_global other.now) }
+    {
+        self.name.same(&other.name) && self.value == other.value
+    }
+}
+
 impl Item {
     /// Whether the definitions are equal, places aside.
     pub fn same(&self, other: &Item) -> bool
@@ -160,6 +203,8 @@ impl Item {
     {
         match (&self.node, &other.node) {
             (ItemNode::Procedure(a), ItemNode::Procedure(b)) => a.same(b),
+            (ItemNode::Global(a), ItemNode::Global(b)) => a.same(b),
+            _ => false,
         }
     }
 }

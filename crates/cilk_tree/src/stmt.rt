@@ -2,6 +2,8 @@ use crate::adjustment::Adjustment;
 use crate::expr::Expr;
 use crate::operator::BinOp;
 use crate::place::Place;
+use crate::taker::Taker;
+use crate::word::Word;
 use std::marker::Model;
 
 /// A statement (C 1990, 6.6), which contracts see as the `Stmt` of `specs/Tree.antt`.
@@ -20,6 +22,10 @@ pub enum StmtNode {
     /// The operator is one of those that C writes before a `=` (C 1990, 6.3.16.2).
     Update(Place, BinOp, Expr),
     Adjust(Place, Adjustment),
+    /// The place of the word `spawn`, what takes the value, the callee and its arguments.
+    Spawn(u32, Taker, Word, Vec<Expr>),
+    /// The place of the word `sync`.
+    Sync(u32),
 }
 
 impl Model for Stmt {

@@ -1,5 +1,8 @@
 //! A program's canonical text as a reader would write it, and trees that are the same or not.
 
+mod globals;
+mod spawns;
+
 use crate::{
     Adjustment, BinOp, Block, Decl, Expr, ExprNode, Item, ItemNode, Place, Proc, Program,
     ReturnType, Stmt, StmtNode, UnOp, Word, canonical,

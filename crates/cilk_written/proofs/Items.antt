@@ -12,6 +12,7 @@ use Rattle.cilk_tree.specs.declared.return_type.ReturnType.{ReturnType}
 use Rattle.cilk_tree.specs.declared.return_type.ReturnType.TheVariants as returns
 use Rattle.cilk_written.specs.Lexemes.{decls_lexemes, stmts_lexemes, returns_word, next_parameters_lexemes, parameters_lexemes, item_lexemes, items_lexemes, program_lexemes, CanWriteBlock, CanWriteWords, CanWriteItem, CanWriteItems, CanWrite}
 use Rattle.cilk_written.proofs.Decls.{decls_writes}
+use Rattle.cilk_written.proofs.Globals.{global_writes}
 use Rattle.cilk_written.proofs.Lines.{one_line, first_line, more_lines}
 use Rattle.cilk_written.proofs.Made.{Made, Stops, nothing_made}
 use Rattle.cilk_written.proofs.Spaced.{space_writes, indent_writes, spaced_word}
@@ -65,6 +66,7 @@ item_writes (tree.procedure p) h = at_body p.body h.2
         let rest = decls_lexemes ds ++ (stmts_lexemes ss ++ mark sign.CloseBrace ∷ []) in
         let lines = first_line (block_lines (deeper []) (tree.block ds ss) ++ codes "}" ∷ []) (opening_writes p.returns p.name.text p.parameters h.0 h.1) (body_writes (deeper []) indent_writes ds ss k) in
         rw (append_assoc (parameters_lexemes p.parameters) (mark sign.CloseParenthesis ∷ mark sign.OpenBrace ∷ []) rest) at lines
+item_writes (tree.global g) h = one_line (global_writes g h.0 h.1)
 
 items_writes : (is : List tree.Item) → CanWriteItems is → WritesAlone (text_of_lines (items_lines is)) (items_lexemes is)
 items_writes [] h = nothing_writes

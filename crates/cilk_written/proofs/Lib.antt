@@ -1,6 +1,8 @@
+pub mod Arguments
 pub mod Decimals
 pub mod Decls
 pub mod Exprs
+pub mod Globals
 pub mod Good
 pub mod Items
 pub mod Lines

@@ -1,5 +1,5 @@
 -- The lexemes of which a canonical text is made.
-use Rattle.std.specs.Prelude.{◌≡◌, ◌≤◌, List, [], ◌∷◌, ◌++◌, map, codes, Option, Some, None}
+use Rattle.std.specs.Prelude.{◌≡◌, ◌≤◌, suc, ℤ, pos, negsuc, unsigned_abs, List, [], ◌∷◌, ◌++◌, map, codes, Option, Some, None}
 use Rattle.cilk_lex.specs.Lexeme.{Lexeme, Piece, word, name, number, mark}
 use Rattle.cilk_lex.specs.Spelling.{IsName, int_max, mark_spelling}
 use Rattle.cilk_lex.specs.declared.keyword.Keyword.{Keyword}
@@ -102,12 +102,35 @@ abbrev pub result_lexemes : Option tree.Expr → List Lexeme
 result_lexemes None = []
 result_lexemes (Some e) = expr_lexemes e
 
+-- the mark between a place and what is put there: `=`, or that of an operator and `=`
+abbrev pub taking_mark : Option BinOp → Mark
+taking_mark None = sign.Assign
+taking_mark (Some o) = update_mark o
+
+-- the place that a child's value goes into, if there is one
+abbrev pub taker_lexemes : tree.Taker → List Lexeme
+taker_lexemes tree.nothing = []
+taker_lexemes (tree.into o place) = name place.name.text ∷ mark (taking_mark o) ∷ []
+
+-- the arguments behind the first one
+abbrev pub next_arguments_lexemes : List tree.Expr → List Lexeme
+next_arguments_lexemes [] = []
+next_arguments_lexemes (e ∷ es) = mark sign.Comma ∷ (expr_lexemes e ++ next_arguments_lexemes es)
+
+-- the arguments between the parentheses
+abbrev pub arguments_lexemes : List tree.Expr → List Lexeme
+arguments_lexemes [] = []
+arguments_lexemes (e ∷ es) = expr_lexemes e ++ next_arguments_lexemes es
+
 abbrev pub stmt_lexemes : tree.Stmt → List Lexeme
 stmt_lexemes (tree.assign place e) = name place.name.text ∷ mark sign.Assign ∷ (expr_lexemes e ++ mark sign.Semicolon ∷ [])
 stmt_lexemes (tree.return_at at value) = word key.Return ∷ (result_lexemes value ++ mark sign.Semicolon ∷ [])
 stmt_lexemes tree.null = mark sign.Semicolon ∷ []
 stmt_lexemes (tree.update place o e) = name place.name.text ∷ mark (update_mark o) ∷ (expr_lexemes e ++ mark sign.Semicolon ∷ [])
 stmt_lexemes (tree.adjust place a) = name place.name.text ∷ mark (adjust_mark a) ∷ mark sign.Semicolon ∷ []
+stmt_lexemes (tree.spawn_at at taker callee arguments) =
+    taker_lexemes taker ++ word key.Spawn ∷ name callee.text ∷ mark sign.OpenParenthesis ∷ (arguments_lexemes arguments ++ mark sign.CloseParenthesis ∷ mark sign.Semicolon ∷ [])
+stmt_lexemes (tree.sync_at at) = word key.Sync ∷ mark sign.Semicolon ∷ []
 
 abbrev pub stmts_lexemes : tree.Stmts → List Lexeme
 stmts_lexemes tree.none = []
@@ -131,9 +154,23 @@ abbrev pub parameters_lexemes : List tree.Word → List Lexeme
 parameters_lexemes [] = word key.Void ∷ []
 parameters_lexemes (x ∷ xs) = word key.Int ∷ name x.text ∷ next_parameters_lexemes xs
 
+-- a number, and the mark before it where it is negative
+abbrev pub integer_lexemes : ℤ → List Lexeme
+integer_lexemes (pos n) = number n ∷ []
+integer_lexemes (negsuc n) = mark sign.Minus ∷ number (suc n) ∷ []
+
+-- the number that a variable of the top level starts with, if one is written
+abbrev pub start_lexemes : Option ℤ → List Lexeme
+start_lexemes None = []
+start_lexemes (Some n) = mark sign.Assign ∷ integer_lexemes n
+
+abbrev pub global_lexemes : tree.Global → List Lexeme
+global_lexemes g = word key.Int ∷ name g.name.text ∷ (start_lexemes g.value ++ mark sign.Semicolon ∷ [])
+
 abbrev pub item_lexemes : tree.Item → List Lexeme
 item_lexemes (tree.procedure p) =
     word key.Cilk ∷ word (returns_word p.returns) ∷ name p.name.text ∷ mark sign.OpenParenthesis ∷ (parameters_lexemes p.parameters ++ mark sign.CloseParenthesis ∷ block_lexemes p.body)
+item_lexemes (tree.global g) = global_lexemes g
 
 abbrev pub items_lexemes : List tree.Item → List Lexeme
 items_lexemes [] = []
@@ -163,12 +200,23 @@ abbrev pub CanWriteDecls : List tree.Decl → Type 0
 CanWriteDecls [] = Unit {0}
 CanWriteDecls (d ∷ ds) = IsName d.name.text × CanWriteValue d.value × CanWriteDecls ds
 
+abbrev pub CanWriteTaker : tree.Taker → Type 0
+CanWriteTaker tree.nothing = Unit {0}
+CanWriteTaker (tree.into None place) = IsName place.name.text
+CanWriteTaker (tree.into (Some o) place) = IsName place.name.text × HasUpdateMark o
+
+abbrev pub CanWriteArguments : List tree.Expr → Type 0
+CanWriteArguments [] = Unit {0}
+CanWriteArguments (e ∷ es) = CanWriteExpr e × CanWriteArguments es
+
 abbrev pub CanWriteStmt : tree.Stmt → Type 0
 CanWriteStmt (tree.assign place e) = IsName place.name.text × CanWriteExpr e
 CanWriteStmt (tree.return_at at value) = CanWriteValue value
 CanWriteStmt tree.null = Unit {0}
 CanWriteStmt (tree.update place o e) = IsName place.name.text × HasUpdateMark o × CanWriteExpr e
 CanWriteStmt (tree.adjust place a) = IsName place.name.text
+CanWriteStmt (tree.spawn_at at taker callee arguments) = CanWriteTaker taker × IsName callee.text × CanWriteArguments arguments
+CanWriteStmt (tree.sync_at at) = Unit {0}
 
 abbrev pub CanWriteStmts : tree.Stmts → Type 0
 CanWriteStmts tree.none = Unit {0}
@@ -181,8 +229,13 @@ abbrev pub CanWriteWords : List tree.Word → Type 0
 CanWriteWords [] = Unit {0}
 CanWriteWords (x ∷ xs) = IsName x.text × CanWriteWords xs
 
+abbrev pub CanWriteStart : Option ℤ → Type 0
+CanWriteStart None = Unit {0}
+CanWriteStart (Some n) = unsigned_abs n ≤ int_max
+
 abbrev pub CanWriteItem : tree.Item → Type 0
 CanWriteItem (tree.procedure p) = IsName p.name.text × CanWriteWords p.parameters × CanWriteBlock p.body
+CanWriteItem (tree.global g) = IsName g.name.text × CanWriteStart g.value
 
 abbrev pub CanWriteItems : List tree.Item → Type 0
 CanWriteItems [] = Unit {0}

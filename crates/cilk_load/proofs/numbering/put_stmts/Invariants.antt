@@ -6,6 +6,6 @@ use Rattle.cilk_load.proofs.numbering.put_stmts.Given as goal
 
 abbrev pub invariant-loop-stmt : goal.invariant-loop-stmt
 invariant-loop-stmt l = record {
-  nodes : l.nodes.items ++ stmts_nodes l.body l.vars (vec_len l.nodes + 1) (stmts_of (drop l.stmt-index l.stmts)) ≡ l.initial.nodes.items ++ stmts_nodes l.body l.vars (vec_len l.initial.nodes + 1) (stmts_of l.stmts);
+  nodes : l.nodes.items ++ stmts_nodes l.body l.names (vec_len l.nodes + 1) (stmts_of (drop l.stmt-index l.stmts)) ≡ l.initial.nodes.items ++ stmts_nodes l.body l.names (vec_len l.initial.nodes + 1) (stmts_of l.stmts);
   len : vec_len l.nodes + count_stmts (stmts_of (drop l.stmt-index l.stmts)) ≡ vec_len l.initial.nodes + count_stmts (stmts_of l.stmts);
 }

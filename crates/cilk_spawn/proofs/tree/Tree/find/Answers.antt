@@ -15,19 +15,19 @@ is_tree rs ids ns kept nodes = subst IsTree nodes kept.tree
 
 pub has_path-requires : goal.has_path-requires
 has_path-requires c =
-    let ids = listed _ _ _ _ c.self.invariant c.self.view_is c.deref-id-items.ensures.value in
+    let ids = listed _ _ _ _ c.self.invariant.0 c.self.view_is c.deref-id-items.ensures.value in
     live_there _ _ (listed_live c.args.self.now _ _ _ ids c.loop-id-test.true c.id-item.is)
 
 pub returns-then-has_path-clause-found : goal.returns-then-has_path-clause-found
 returns-then-has_path-clause-found c =
-    let ids = listed _ _ _ _ c.self.invariant c.self.view_is c.deref-id-items.ensures.value in
+    let ids = listed _ _ _ _ c.self.invariant.0 c.self.view_is c.deref-id-items.ensures.value in
     (listed_live c.args.self.now _ _ _ ids c.loop-id-test.true c.id-item.is, same_is _ _ (sym c.has_path.ensures ∙ c.if-has_path.true))
 
 pub returns-then-has_path-clause-all : goal.returns-then-has_path-clause-all
 returns-then-has_path-clause-all c = λ id live is.
-    let ids = listed _ _ _ _ c.self.invariant c.self.view_is c.deref-id-items.ensures.value in
+    let ids = listed _ _ _ _ c.self.invariant.0 c.self.view_is c.deref-id-items.ensures.value in
     let lives = listed_live c.args.self.now _ _ _ ids c.loop-id-test.true c.id-item.is in
-    ap (λ (k : ℕ). Some k) (found_is c.args.self.now c.args.path.now c.id-item.result id (is_tree _ _ _ c.self.invariant c.self.view_is) lives (sym c.if-has_path.true ∙ c.has_path.ensures) live is)
+    ap (λ (k : ℕ). Some k) (found_is c.args.self.now c.args.path.now c.id-item.result id (is_tree _ _ _ c.self.invariant.0 c.self.view_is) lives (sym c.if-has_path.true ∙ c.has_path.ensures) live is)
 
 pub loop-id-preserved : goal.loop-id-preserved
 loop-id-preserved c =
@@ -35,11 +35,11 @@ loop-id-preserved c =
 
 pub returns-clause-all : goal.returns-clause-all
 returns-clause-all c = λ id live is.
-    let ids = listed _ _ _ _ c.self.invariant c.self.view_is c.deref-id-items.ensures.value in
+    let ids = listed _ _ _ _ c.self.invariant.0 c.self.view_is c.deref-id-items.ensures.value in
     let end = c.loop-id-test.false in
     absurd (none_found c.args.self.now _ c.args.path.now id ids (λ j h. c.loop-id.invariant j (omega arith)) live is)
 
 pub returns-then-has_path-clause-there : goal.returns-then-has_path-clause-there
 returns-then-has_path-clause-there c =
-    let ids = listed _ _ _ _ c.self.invariant c.self.view_is c.deref-id-items.ensures.value in
+    let ids = listed _ _ _ _ c.self.invariant.0 c.self.view_is c.deref-id-items.ensures.value in
     live_there _ _ (listed_live c.args.self.now _ _ _ ids c.loop-id-test.true c.id-item.is)

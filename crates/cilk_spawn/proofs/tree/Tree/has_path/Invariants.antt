@@ -6,7 +6,7 @@ use Rattle.cilk_spawn.proofs.tree.Tree.has_path.Given as goal
 
 abbrev pub invariant-loop-last : goal.invariant-loop-last
 invariant-loop-last l = record {
-  there : l.at < length l.self-inside.records.items;
+  there : l.at < length l.self-inside.kin.items;
   same : same_path (path_at (nodes_of l.self-inside.records.items) l.at) l.rest ≡ same_path (path_at (nodes_of l.self-inside.records.items) l.fn.id) l.fn.path;
 }
 

@@ -1,0 +1,16 @@
+pub mod Entries
+pub mod Frames
+pub mod Here
+pub mod Goes
+pub mod Cells
+pub mod Acts
+pub mod Parks
+pub mod Births
+pub mod Spawns
+pub mod Lookups
+pub mod Deliveries
+pub mod Ends
+pub mod Wakes
+pub mod Returns
+pub mod Opens
+pub mod Turns

@@ -1,0 +1,46 @@
+-- Why one worker that goes on may yet be refused.
+use Rattle.std.proofs.Common.{◌≡◌, Some, None, rules, sym, ◌∙◌, refl, inl, inr, ◌⊎◌}
+use Rattle.cilk_model.specs.Choice as model
+use Rattle.cilk_model.specs.Run.{Standing}
+use Rattle.cilk_machine.specs.Situation.{Situation}
+use Rattle.cilk_machine.specs.Made.{refused}
+use Rattle.cilk_machine.specs.Words.{reason_of}
+use Rattle.cilk_machine.specs.declared.refusal.Refusal.{Refusal}
+use Rattle.cilk_machine.specs.declared.refusal.Refusal.TheVariants.{Over, NoWorker, HandEmpty, Busy, DequeEmpty, Waiting, Memory}
+
+-- the worker can step, or its hand is empty and it can pop
+abbrev pub GoesOn : Situation → Standing → Type 0
+GoesOn m at =
+    (refused m at (record { worker = 1; act = model.step }) ≡ None)
+    ⊎ ((refused m at (record { worker = 1; act = model.step }) ≡ Some model.hand_empty) × (refused m at (record { worker = 1; act = model.pop }) ≡ None))
+
+memory_of : (why : Refusal) → reason_of why ≡ None → why ≡ Memory
+memory_of Over e = search (rules, e)
+memory_of NoWorker e = search (rules, e)
+memory_of HandEmpty e = search (rules, e)
+memory_of Busy e = search (rules, e)
+memory_of DequeEmpty e = search (rules, e)
+memory_of Waiting e = search (rules, e)
+memory_of Memory e = refl
+
+empty_of : (why : Refusal) → reason_of why ≡ Some model.hand_empty → why ≡ HandEmpty
+empty_of Over e = search (rules, e)
+empty_of NoWorker e = search (rules, e)
+empty_of HandEmpty e = refl
+empty_of Busy e = search (rules, e)
+empty_of DequeEmpty e = search (rules, e)
+empty_of Waiting e = search (rules, e)
+empty_of Memory e = search (rules, e)
+
+pub step_told : (m : Situation) (at : Standing) (why : Refusal) → GoesOn m at → refused m at (record { worker = 1; act = model.step }) ≡ reason_of why → (why ≡ Memory) ⊎ (why ≡ HandEmpty)
+step_told m at why (inl free) is = inl (memory_of why (sym is ∙ free))
+step_told m at why (inr empty) is = inr (empty_of why (sym is ∙ empty.0))
+
+-- where it was refused a step for its empty hand
+pub pop_told : (m n : Situation) (at : Standing) (first why : Refusal) → GoesOn m at → refused m at (record { worker = 1; act = model.step }) ≡ reason_of first → first ≡ HandEmpty
+    → n ≡ m → refused n at (record { worker = 1; act = model.pop }) ≡ reason_of why → why ≡ Memory
+pop_told m n at first why (inl free) is empty same told =
+    let never : Some model.hand_empty ≡ None = (λ i. reason_of (sym empty i)) ∙ sym is ∙ free in
+    search (rules, never)
+pop_told m n at first why (inr empty) is first_is same told =
+    memory_of why (sym told ∙ (λ i. refused (same i) at (record { worker = 1; act = model.pop })) ∙ empty.1)

@@ -1,0 +1,6 @@
+//! What the actions of a well-formed program use.
+#![tactic(auto)]
+
+mod laws;
+
+pub use laws::actions_are_known;

@@ -1,0 +1,19 @@
+use Rattle.std.proofs.Common.{◌∙◌, sym}
+use Rattle.cilk_model.specs.Choice as model
+use Rattle.cilk_model.specs.Event.{moved}
+use Rattle.cilk_machine.specs.declared.act.Act.TheVariants.{Pop}
+use Rattle.cilk_machine.proofs.Free.{free-old, of-old, pop-makes}
+use Rattle.cilk_machine.proofs.Leading.{still-sound}
+use Rattle.cilk_machine.proofs.machine.Machine.pop.Goals as goal
+
+pub invariant_of-self : goal.invariant_of-self
+invariant_of-self c =
+    let free = free-old _ c.args.self.now (record { worker = c.args.worker; act = Pop }) c.self.view_is c.requires.free in
+    let made = pop-makes _ c.args.worker c.pop.new.hands free c.pop.ensures in (
+      still-sound _ c.self.inside.globals.items c.self.inside.tree c.pop.new.hands c.self.inside.outcome (record { worker = c.args.worker; act = model.pop }) moved c.self.invariant.0 made,
+      c.self.invariant.1 ∙ sym made.workers,
+    )
+
+pub returns : goal.returns
+returns c =
+    of-old _ _ _ _ _ c.self.view_is (pop-makes _ c.args.worker c.pop.new.hands (free-old _ c.args.self.now (record { worker = c.args.worker; act = Pop }) c.self.view_is c.requires.free) c.pop.ensures)

@@ -1,0 +1,4 @@
+pub mod Words
+pub mod Plans
+pub mod Reads
+pub mod Made
