@@ -1,4 +1,8 @@
 //! What each subcommand of the program does, over a reader and two writers.
+//!
+//! No clause can promise that a reader or a writer works, so a body of `program_from` or
+//! `write_answer` that always says that it does not meets its contract too. Nor do clauses tell the
+//! words of a fault's line, so that the name of the text may be any there. Tests see both.
 #![tactic(auto)]
 
 mod alone;

@@ -24,7 +24,8 @@ pub fn program_from<R: Read>(alloc: Global, reader: &mut R) -> Result<Loaded, Fa
     program_of(alloc, bytes.as_slice())
 }
 
-fn read_text<R: Read>(alloc: Global, reader: &mut R) -> Result<Vec<u8>, Failure>
+/// The bytes that a reader holds, or as many as tell that they are too many.
+pub(crate) fn read_text<R: Read>(alloc: Global, reader: &mut R) -> Result<Vec<u8>, Failure>
     ensures ok { IfOk result (λ text. IsReadOf (R.remaining reader.old) text.items) }
     ensures status { IfErr result (λ why. status_of why ≢ Status.Refused) }
     ensures reads { IfErr result (λ why. why ≢ Failure.CannotWrite) }

@@ -1,4 +1,6 @@
 //! The tables of a program that runs: its actions as numbered nodes, and its variables as slots.
+//!
+//! No program has locks so far, so a body of `Loaded::locks` that answers none is right.
 #![tactic(auto)]
 
 mod action;

@@ -1,2 +1,4 @@
 mod closing;
+pub(crate) mod moves;
 mod runs;
+pub(crate) mod trees;

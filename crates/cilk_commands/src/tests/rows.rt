@@ -2,7 +2,7 @@
 //! pop of worker 2, and `2t1` for its steal from worker 1.
 
 use crate::program_of;
-use cilk_machine::{Act, Choice, End, Event, Machine, Outcome, Refusal};
+use cilk_machine::{Act, Choice, End, Event, Machine, Outcome, Refusal, ending};
 use std::alloc::Global;
 use std::test::Fail;
 
@@ -115,11 +115,18 @@ fn takes_a_delivery_last(rt: HostRuntime) -> Result<(), Fail> {
 
 #[test]
 fn a_delivery_is_trapped_at_its_spawn(rt: HostRuntime) -> Result<(), Fail> {
-    let mut machine = machine_of(rt.alloc(), PASSING)?;
+    let alloc = rt.alloc();
+    let mut machine = machine_of(alloc, PASSING)?;
     assert_eq!(rt; make_all(&mut machine, &["1s", "1s", "1s", "1p"]), 4);
     assert!(rt; matches!(make(&mut machine, "1s"), Ok(Event::Trapped { n: 4, .. })));
     assert!(rt; matches!(machine.outcome(), Outcome::Trapped { n: 4, .. }));
-    assert!(rt; matches!(machine.end_now(), Ok(End::Trapped { n: 4, line: 6, .. })));
+    let end = machine.end_now()?;
+    assert!(rt; matches!(end, End::Trapped { n: 4, line: 6, .. }));
+    let told = ending(alloc, machine.output(), &end, machine.choices())?;
+    assert_eq!(rt;
+        told.as_slice(),
+        b"trapped Overflow in / at 4, line 6\n".as_slice()
+    );
     Ok(())
 }
 

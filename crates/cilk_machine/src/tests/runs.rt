@@ -1,65 +1,25 @@
 //! Programs that are known by hand, moved by their choices.
 
+use super::moves::{make, pop, steal, step};
+use super::trees::{assigns, binary, decl, loaded, name, number, procedure, returns};
 use crate::*;
-use cilk_check::check;
 use cilk_eval::Trap;
-use cilk_load::{Loaded, load};
-use cilk_tree::{
-    BinOp, Block, Decl, Expr, ExprNode, Item, ItemNode, Place, Proc, Program, ReturnType, Stmt,
-    StmtNode, Word,
-};
+use cilk_load::Loaded;
+use cilk_tree::{BinOp, Block, Decl, Expr, ReturnType, Stmt};
 use std::alloc::Global;
 use std::test::Fail;
 
-fn word(alloc: Global, text: &str) -> Result<Word, Fail> {
-    Ok(Word::new(String::from_str(alloc, text)?, 0))
-}
-
-fn number(n: u32) -> Expr {
-    Expr {
-        node: ExprNode::Number(n),
-    }
-}
-
-fn name(alloc: Global, text: &str) -> Result<Expr, Fail> {
-    Ok(Expr {
-        node: ExprNode::Name(word(alloc, text)?),
-    })
-}
-
-fn binary(alloc: Global, op: BinOp, left: Expr, right: Expr) -> Result<Expr, Fail> {
-    Ok(Expr {
-        node: ExprNode::Binary(op, Box::new(alloc, left)?, Box::new(alloc, right)?),
-    })
-}
-
-fn decl(alloc: Global, text: &str, value: Option<Expr>) -> Result<Decl, Fail> {
-    Ok(Decl {
-        name: word(alloc, text)?,
-        value,
-    })
-}
-
 // A program whose `main` has these declarations and statements.
 fn main_of(alloc: Global, decls: Vec<Decl>, stmts: Vec<Stmt>) -> Result<Loaded, Fail> {
+    let body = Block { decls, stmts };
     let mut items = Vec::new(alloc);
-    items.push(Item {
-        node: ItemNode::Procedure(Proc {
-            returns: ReturnType::Int,
-            name: word(alloc, "main")?,
-            parameters: Vec::new(alloc),
-            body: Block { decls, stmts },
-        }),
-    })?;
-    let checked = check(Program { items, length: 0 })?;
-    Ok(load(alloc, checked)?)
+    items.push(procedure(alloc, ReturnType::Int, "main", body)?)?;
+    loaded(alloc, items)
 }
 
 fn returning(alloc: Global, value: Expr) -> Result<Loaded, Fail> {
     let mut stmts = Vec::new(alloc);
-    stmts.push(Stmt {
-        node: StmtNode::Return(0, Some(value)),
-    })?;
+    stmts.push(returns(value))?;
     main_of(alloc, Vec::new(alloc), stmts)
 }
 
@@ -73,46 +33,10 @@ fn sum(alloc: Global) -> Result<Loaded, Fail> {
     let seven = binary(alloc, BinOp::Add, number(3), number(4))?;
     let product = binary(alloc, BinOp::Multiply, name(alloc, "a")?, seven)?;
     let value = binary(alloc, BinOp::Subtract, product, number(5))?;
-    let place = Place {
-        name: word(alloc, "b")?,
-    };
     let mut stmts = Vec::new(alloc);
-    stmts.push(Stmt {
-        node: StmtNode::Assign(place, value),
-    })?;
-    stmts.push(Stmt {
-        node: StmtNode::Return(0, Some(name(alloc, "b")?)),
-    })?;
+    stmts.push(assigns(alloc, "b", value)?)?;
+    stmts.push(returns(name(alloc, "b")?))?;
     main_of(alloc, decls, stmts)
-}
-
-fn step(worker: u8) -> Choice {
-    Choice {
-        worker,
-        act: Act::Step,
-    }
-}
-
-fn pop(worker: u8) -> Choice {
-    Choice {
-        worker,
-        act: Act::Pop,
-    }
-}
-
-fn steal(worker: u8, victim: u8) -> Choice {
-    Choice {
-        worker,
-        act: Act::Steal(victim),
-    }
-}
-
-// Makes a choice of a machine that has made few.
-fn make(machine: &mut Machine, choice: Choice) -> Result<Event, Refusal> {
-    if 1000 < machine.choices() {
-        return Err(Refusal::Memory);
-    }
-    machine.make(choice)
 }
 
 // The number of the action that was acted.
