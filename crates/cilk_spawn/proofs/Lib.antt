@@ -2,6 +2,7 @@ pub mod Lists
 pub mod Trees
 pub mod Grown
 pub mod Records
+pub mod Written
 pub mod Near
 pub mod Counts
 pub mod Paths

@@ -103,8 +103,7 @@ impl Tree {
                     value,
                     receiver,
                 };
-                self.records[parent.number()].waiting.push_back(delivery)?;
-                Ok(())
+                self.records[parent.number()].send(delivery)
             }
         }
     }
@@ -115,7 +114,7 @@ impl Tree {
         ensures result { result ≡ slice_get (node_at self.old id).waiting 0 }
         ensures tree { self.new ≡ taken self.old id }
     {
-        self.records[id.number()].waiting.pop_front()
+        self.records[id.number()].take_oldest()
     }
 
     /// A live instance, all of whose children have ended, ends too.
@@ -141,7 +140,7 @@ impl Tree {
         ensures { self.new ≡ with_parked self.old frame.id (Some frame) }
     {
         let id = frame.id().number();
-        self.records[id].parked = Some(frame);
+        self.records[id].park(frame);
     }
 
     /// Takes out the frame of an instance, if it is parked.
@@ -150,7 +149,7 @@ impl Tree {
         ensures result { result ≡ (node_at self.old id).parked }
         ensures tree { self.new ≡ with_parked self.old id None }
     {
-        self.records[id.number()].parked.take()
+        self.records[id.number()].unpark()
     }
 
     /// The ordinals from the root's child down.

@@ -1,22 +1,14 @@
-use Rattle.std.proofs.Common.{List, refl, ap, drop}
-use Rattle.cilk_spawn.specs.declared.delivery.Delivery.{Delivery}
-use Rattle.std.proofs.lemmas.List.Elements.{All-drop, All-same}
-use Rattle.cilk_spawn.specs.Nodes.{Node, IsFrom}
-use Rattle.cilk_spawn.specs.Records.{node_of, nodes_of}
-use Rattle.cilk_spawn.proofs.Records.{At, inside, kept_set, changed_is, sent_at, kin_set}
+use Rattle.std.proofs.Common.{drop}
+use Rattle.cilk_spawn.specs.Nodes.{Node}
+use Rattle.cilk_spawn.proofs.Records.{At, inside, changed_is}
+use Rattle.cilk_spawn.proofs.Written.{taken_kept}
 use Rattle.cilk_spawn.proofs.tree.Tree.take_delivery.Goals as goal
 
 at : (c : goal.After-self-1) → At c.self.inside.records.items c.number.result c.index_mut.result.now
 at c = record { there = inside _ _ _ _ c.self.view_is c.number.ensures c.requires.there; is = c.index_mut.ensures.value }
 
 pub invariant_of-self : goal.invariant_of-self
-invariant_of-self c = (
-  kept_set _ _ _ _ _ (at c) (record { parent = refl; ordinal = refl; children = refl; ending = refl; living = refl })
-      (All-same (IsFrom (nodes_of c.self.inside.records.items) c.number.result) c.pop_front.new.self.items (drop 1 c.index_mut.result.now.waiting.items) c.pop_front.ensures.rest (All-drop (IsFrom (nodes_of c.self.inside.records.items) c.number.result) 1 c.index_mut.result.now.waiting.items (sent_at _ _ _ _ c.self.invariant.0 (at c)))) c.self.invariant.0,
-  kin_set _ _ _ _ _ (at c) refl c.self.invariant.1,
-)
+invariant_of-self c = taken_kept _ _ _ _ _ _ (at c) c.take_oldest.ensures.node c.take_oldest.ensures.living c.self.invariant
 
 pub returns-clause-tree : goal.returns-clause-tree
-returns-clause-tree c =
-    changed_is _ _ _ _ _ _ (λ (n : Node). record n { waiting = drop 1 n.waiting }) (at c) c.self.view_is c.number.ensures
-    (ap (λ (ds : List Delivery). record (node_of c.index_mut.result.now) { waiting = ds }) c.pop_front.ensures.rest)
+returns-clause-tree c = changed_is _ _ _ _ _ _ (λ (n : Node). record n { waiting = drop 1 n.waiting }) (at c) c.self.view_is c.number.ensures c.take_oldest.ensures.node
