@@ -24,16 +24,14 @@ pub fn run<R: AllocGlobal + Files + Input, O: Write, E: Write>(
     out: &mut O,
     err: &mut E,
 ) -> Status
-    ensures done { IfSome (asked (texts_of words.now)) (λ request. is_answer result ≡ true
-        → Does request.0 result None (O.contents out.old) (O.contents out.new)) }
+    ensures done { IfSome (asked (texts_of words.now)) (λ request.
+        is_answer result ≡ true → Does request.0 result None (O.contents out.old) (O.contents out.new)) }
     ensures help { asked (texts_of words.now) ≡ None → is_answer result ≡ true
         → (result ≡ Status.Done) × (asks_for_help (texts_of words.now) ≡ true) }
     ensures usage { result ≡ Status.Usage → asked (texts_of words.now) ≡ None }
-    ensures wrong { asked (texts_of words.now) ≡ None
-        → asks_for_help (texts_of words.now) ≡ false
+    ensures wrong { asked (texts_of words.now) ≡ None → asks_for_help (texts_of words.now) ≡ false
         → (result ≡ Status.Usage) ⊎ (result ≡ Status.Memory) }
-    ensures refused { result ≡ Status.Refused
-        → (asked (texts_of words.now) ≢ None) × Declines None }
+    ensures refused { result ≡ Status.Refused → (asked (texts_of words.now) ≢ None) × Declines None }
 
     ensures quiet { is_answer result ≡ true → err.new ≡ err.old }
     ensures kept { is_answer result ≡ false → result ≢ Status.Failed → out.new ≡ out.old }
@@ -83,9 +81,10 @@ fn obey<R: AllocGlobal + Files + Input, O: Write, E: Write>(
     ensures others { subcommand_name_of matches.now ≢ Some (codes "print")
         → subcommand_name_of matches.now ≢ Some (codes "check")
         → subcommand_name_of matches.now ≢ Some (codes "run") → result ≡ Status.Usage }
-    ensures done { IfSome (request_of_any (subcommand_rows_of matches.now)) (λ request. is_answer result ≡ true
-        → Does request.0 result None (O.contents out.old) (O.contents out.new)) }
-    ensures usage { result ≡ Status.Usage ↔ (request_of_any (subcommand_rows_of matches.now) ≡ None) }
+    ensures done { IfSome (request_of_any (subcommand_rows_of matches.now)) (λ request.
+        is_answer result ≡ true → Does request.0 result None (O.contents out.old) (O.contents out.new)) }
+    ensures usage { result ≡ Status.Usage
+        ↔ (request_of_any (subcommand_rows_of matches.now) ≡ None) }
     ensures refused { result ≡ Status.Refused → Declines None }
 
     ensures quiet { is_answer result ≡ true → err.new ≡ err.old }
@@ -108,7 +107,8 @@ fn run_limited<R: AllocGlobal + Files + Input, O: Write, E: Write>(
 ) -> Status
     ensures done { is_answer result ≡ true
         → DoesLimited (one_text (found_of found.now) LIMIT.now) result (O.contents out.old) (O.contents out.new) }
-    ensures usage { result ≡ Status.Usage ↔ (request_of (codes "run", rows_of (found_of found.now)) ≡ None) }
+    ensures usage { result ≡ Status.Usage
+        ↔ (request_of (codes "run", rows_of (found_of found.now)) ≡ None) }
     ensures refused { result ≡ Status.Refused → Declines None }
     ensures quiet { is_answer result ≡ true → err.new ≡ err.old }
     ensures kept { is_answer result ≡ false → result ≢ Status.Failed → out.new ≡ out.old }
