@@ -1,4 +1,8 @@
-use clap::{Arg, ArgAction, Command, value_parser};
+ghost use Rattle.std.specs.Prelude.{◌≡◌, IfOk};
+ghost use Rattle.clap.specs.Words.{FailsBy, app_of, fault_of, subcommand_of, subcommand_rows_of};
+ghost use Rattle.cilk.specs.CommandLine.{command_line, on_text, texts_of};
+
+use clap::{Arg, ArgAction, ArgMatches, Command, Error, value_parser};
 use std::alloc::{AllocError, Global};
 
 /// The name of the argument that names the program's text.
@@ -7,8 +11,20 @@ pub const FILE: &str = "F";
 /// The name of the argument that says how many choices a run may make.
 pub const LIMIT: &str = "limit";
 
+/// Which subcommand the words name, and with what.
+pub fn parse<'a>(alloc: Global, words: &'a [String]) -> Result<ArgMatches<'a>, Error>
+    ensures kinds { FailsBy (fault_of command_line (texts_of words.now)) result }
+    ensures rows { IfOk result (λ m.
+        subcommand_rows_of m ≡ subcommand_of command_line (texts_of words.now)) }
+{
+    let command = command(alloc)?;
+    command.try_get_matches_from(words)
+}
+
 /// The command line: one level of subcommands.
-pub fn command<'a>(alloc: Global) -> Result<Command<'a>, AllocError> {
+pub fn command<'a>(alloc: Global) -> Result<Command<'a>, AllocError>
+    ensures { IfOk result (λ c. app_of c ≡ command_line) }
+{
     let print = on_file(alloc, "print", "Prints the canonical text of a program")?;
     let check = on_file(alloc, "check", "Says whether a program may be run")?;
     let limit = Arg::new(alloc, LIMIT)
@@ -28,7 +44,9 @@ pub fn command<'a>(alloc: Global) -> Result<Command<'a>, AllocError> {
 }
 
 // A subcommand on one program's text.
-fn on_file<'a>(alloc: Global, name: &'a str, about: &'a str) -> Result<Command<'a>, AllocError> {
+fn on_file<'a>(alloc: Global, name: &'a str, about: &'a str) -> Result<Command<'a>, AllocError>
+    ensures { IfOk result (λ c. app_of c ≡ on_text name.now) }
+{
     let file = Arg::new(alloc, FILE)
         .required(true)
         .action(ArgAction::Set)

@@ -1,10 +1,12 @@
-ghost use Rattle.std.specs.Prelude.{◌≡◌, ◌≢◌, ◌⊎◌, ◌↔◌, true, false, codes};
+ghost use Rattle.std.specs.Prelude.{◌≡◌, ◌≢◌, ◌⊎◌, ◌↔◌, IfSome, true, false, codes};
 ghost use Rattle.std.specs.IoError.{error_kind};
-ghost use Rattle.clap.specs.Words.{first_value, found_of, kind_of, one_text, subcommand_name_of};
+ghost use Rattle.clap.specs.Words.{first_value, found_of, kind_of, one_text, rows_of, subcommand_name_of, subcommand_rows_of};
+ghost use Rattle.cilk_commands.specs.Program.{Declines};
 ghost use Rattle.cilk_commands.specs.Status.{is_answer};
+ghost use Rattle.cilk.specs.CommandLine.{asked, asks_for_help, is_shown, request_of, request_of_any, texts_of};
 ghost use Rattle.cilk.specs.Task.{Does, DoesRun, DoesLimited};
 
-use crate::arguments::{FILE, LIMIT, command};
+use crate::arguments::{FILE, LIMIT, command, parse};
 use crate::task::Task;
 use cilk_commands::{Failure, Status};
 use clap::error::ErrorKind;
@@ -22,14 +24,19 @@ pub fn run<R: AllocGlobal + Files + Input, O: Write, E: Write>(
     out: &mut O,
     err: &mut E,
 ) -> Status
+    ensures done { IfSome (asked (texts_of words.now)) (λ request.
+        is_answer result ≡ true → Does request.0 result None (O.contents out.old) (O.contents out.new)) }
+    ensures help { asked (texts_of words.now) ≡ None → is_answer result ≡ true
+        → (result ≡ Status.Done) × (asks_for_help (texts_of words.now) ≡ true) }
+    ensures usage { result ≡ Status.Usage → asked (texts_of words.now) ≡ None }
+    ensures wrong { asked (texts_of words.now) ≡ None → asks_for_help (texts_of words.now) ≡ false
+        → (result ≡ Status.Usage) ⊎ (result ≡ Status.Memory) }
+    ensures refused { result ≡ Status.Refused → (asked (texts_of words.now) ≢ None) × Declines None }
+
     ensures quiet { is_answer result ≡ true → err.new ≡ err.old }
     ensures kept { is_answer result ≡ false → result ≢ Status.Failed → out.new ≡ out.old }
 {
-    let parsed = match command(rt.alloc()) {
-        Ok(command) => command.try_get_matches_from(words),
-        Err(error) => Err(Error::from(error)),
-    };
-    match parsed {
+    match parse(rt.alloc(), words) {
         Ok(matches) => obey(rt, &matches, out, err),
         Err(error) => show(&error, out, err),
     }
@@ -74,6 +81,11 @@ fn obey<R: AllocGlobal + Files + Input, O: Write, E: Write>(
     ensures others { subcommand_name_of matches.now ≢ Some (codes "print")
         → subcommand_name_of matches.now ≢ Some (codes "check")
         → subcommand_name_of matches.now ≢ Some (codes "run") → result ≡ Status.Usage }
+    ensures done { IfSome (request_of_any (subcommand_rows_of matches.now)) (λ request.
+        is_answer result ≡ true → Does request.0 result None (O.contents out.old) (O.contents out.new)) }
+    ensures usage { result ≡ Status.Usage
+        ↔ (request_of_any (subcommand_rows_of matches.now) ≡ None) }
+    ensures refused { result ≡ Status.Refused → Declines None }
 
     ensures quiet { is_answer result ≡ true → err.new ≡ err.old }
     ensures kept { is_answer result ≡ false → result ≢ Status.Failed → out.new ≡ out.old }
@@ -95,6 +107,9 @@ fn run_limited<R: AllocGlobal + Files + Input, O: Write, E: Write>(
 ) -> Status
     ensures done { is_answer result ≡ true
         → DoesLimited (one_text (found_of found.now) LIMIT.now) result (O.contents out.old) (O.contents out.new) }
+    ensures usage { result ≡ Status.Usage
+        ↔ (request_of (codes "run", rows_of (found_of found.now)) ≡ None) }
+    ensures refused { result ≡ Status.Refused → Declines None }
     ensures quiet { is_answer result ≡ true → err.new ≡ err.old }
     ensures kept { is_answer result ≡ false → result ≢ Status.Failed → out.new ≡ out.old }
 {
@@ -111,6 +126,10 @@ fn show<O: Write, E: Write>(error: &Error, out: &mut O, err: &mut E) -> Status
         × (kind_of error.now ≢ ErrorKind.DisplayHelp)
         × (kind_of error.now ≢ ErrorKind.DisplayVersion) }
     ensures refused { result ≢ Status.Refused }
+    ensures help { is_answer result ≡ true
+        → (result ≡ Status.Done) × (is_shown (kind_of error.now) ≡ true) }
+    ensures wrong { is_shown (kind_of error.now) ≡ false
+        → (result ≡ Status.Usage) ⊎ (result ≡ Status.Memory) }
 
     ensures quiet { is_answer result ≡ true → err.new ≡ err.old }
     ensures kept { is_answer result ≡ false → result ≢ Status.Failed → out.new ≡ out.old }
@@ -136,7 +155,8 @@ fn on_file<R: AllocGlobal + Files + Input, O: Write, E: Write>(
     err: &mut E,
 ) -> Status
     ensures done { is_answer result ≡ true → Does task result None (O.contents out.old) (O.contents out.new) }
-    ensures usage { result ≡ Status.Usage → first_value (found_of found.now) FILE.now ≡ None }
+    ensures usage { result ≡ Status.Usage ↔ (first_value (found_of found.now) FILE.now ≡ None) }
+    ensures refused { result ≡ Status.Refused → Declines None }
     ensures quiet { is_answer result ≡ true → err.new ≡ err.old }
     ensures kept { is_answer result ≡ false → result ≢ Status.Failed → out.new ≡ out.old }
 {

@@ -1,0 +1,2 @@
+mod Requests
+mod Rows

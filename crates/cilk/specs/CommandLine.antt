@@ -1,0 +1,98 @@
+-- What the words of a command line ask for.
+use Rattle.std.specs.Prelude.{ℕ, Bool, true, false, String, List, map, [], ◌∷◌, Option, Some, None, ◌-◌, ◌^◌, pos, codes, if◌then◌else◌, option_and_then, option_map}
+use Rattle.std.specs.Global.{Global}
+use Rattle.std.specs.String.{string_bytes}
+use Rattle.std.specs.Str.{bytes_eq}
+use Rattle.std.specs.Str.Parse.{digits_value, without_leading_plus}
+use Rattle.std.specs.List.{list_any}
+use Rattle.clap.specs.ValueTests.{is_unsigned_in}
+use Rattle.clap.specs.Kinds.{Kinds}
+use Rattle.clap.specs.Simple.{on_top}
+use Rattle.clap.specs.Words.{App, Row, Rule, Text, fault_of, first_of, new_app, new_rule, one_of, subcommand_of, with_rule, with_subcommand}
+use Rattle.clap.specs.declared.builder.action.ArgAction.TheVariants.{Set}
+use Rattle.clap.specs.declared.builder.value_parser.ValueParser.TheVariants.{Signed}
+use Rattle.clap.specs.declared.error.kind.ErrorKind.{ErrorKind}
+use Rattle.clap.specs.declared.error.kind.ErrorKind.TheVariants as kind
+use Rattle.cilk.specs.declared.task.Task.{Task}
+use Rattle.cilk.specs.declared.task.Task.TheVariants as task
+
+-- the argument that names a text
+abbrev pub file_rule : Rule
+file_rule = record (new_rule (codes "F")) { required = true; action = Some Set }
+
+-- the option that says how many choices a run may make
+abbrev pub limit_rule : Rule
+limit_rule = record (new_rule (codes "limit")) {
+  long = Some (codes "limit");
+  value_names = 1;
+  parser = Some (Signed (pos 1) (pos 10000000));
+  defaults = codes "1000000" ∷ [];
+}
+
+-- a subcommand on a text
+abbrev pub on_text : Text → App
+on_text name = with_rule (new_app name) file_rule
+
+-- the program, which wants one of its subcommands
+abbrev pub bare : App
+bare = on_top (λ s. record s { subcommand_required = true; arg_required_else_help = true }) (new_app (codes "cilk"))
+
+-- the whole command line
+abbrev pub command_line : App
+command_line = with_subcommand (with_subcommand (with_subcommand bare (on_text (codes "print")).top)
+    (on_text (codes "check")).top) (with_rule (on_text (codes "run")) limit_rule).top
+
+-- the number that a word says in decimal, where 32 bits hold it
+abbrev pub number_of : Text → Option ℕ
+number_of word = if is_unsigned_in 0 (2 ^ 32 - 1) word then Some (digits_value 10 (without_leading_plus word)) else None
+
+-- a run for as many choices as a word says
+abbrev pub run_of : Option Text → Option Task
+run_of word = option_map (λ limit. task.Run limit) (option_and_then number_of word)
+
+-- the task that a subcommand of this name stands for, with what was given to it
+abbrev pub task_of : Text → List Row → Option Task
+task_of name rows =
+    if bytes_eq name (codes "print") then Some task.Print
+    else (if bytes_eq name (codes "check") then Some task.Check
+    else (if bytes_eq name (codes "run") then run_of (one_of (codes "limit") rows) else None))
+
+-- a task, and the name of the text that it is for
+abbrev pub Request : Type 0
+Request = Task × Text
+
+-- a request, where there is a task and a name
+abbrev pub request_for : Option Task → Option Text → Option Request
+request_for (Some wanted) (Some name) = Some (wanted, name)
+request_for _ _ = None
+
+-- what a subcommand asks for
+abbrev pub request_of : Text × List Row → Option Request
+request_of sub = request_for (task_of sub.0 sub.1) (first_of (codes "F") sub.1)
+
+-- the same, where there is a subcommand
+abbrev pub request_of_any : Option (Text × List Row) → Option Request
+request_of_any = option_and_then request_of
+
+-- what is asked for, unless there is a fault
+abbrev pub unless_fault : Kinds → Option (Text × List Row) → Option Request
+unless_fault [] sub = request_of_any sub
+unless_fault (k ∷ ks) sub = None
+
+-- the words of the program's command line
+abbrev pub texts_of : List (String Global) → List Text
+texts_of = map string_bytes
+
+-- what the words ask for
+abbrev pub asked : List Text → Option Request
+asked words = unless_fault (fault_of command_line words) (subcommand_of command_line words)
+
+-- an error of this kind is a text to show, and no mistake
+abbrev pub is_shown : ErrorKind → Bool
+is_shown kind.DisplayHelp = true
+is_shown kind.DisplayVersion = true
+is_shown other = false
+
+-- the words may ask for such a text
+abbrev pub asks_for_help : List Text → Bool
+asks_for_help words = list_any is_shown (fault_of command_line words)
