@@ -1,9 +1,9 @@
 //! The program `cilk`, which reads Cilk 5.4 programs.
 //!
-//! What the words of a command line mean is said by the command that `clap` is given, and what a
-//! file holds by nobody, so a body of `run`, `obey`, `run_limited` or `on_file` that answers one
-//! status and writes nothing may meet its contract too, and so does a body of `Task::perform` that
-//! gives the text another name. Tests see the statuses and the names.
+//! No clause can promise that a file or a stream works, or that there is memory, so a body of
+//! `run`, `obey`, `run_limited` or `on_file` that always says that one of them failed meets its
+//! contract too, and so does a body of `Task::perform` that gives the text another name. Tests see
+//! the statuses and the names.
 #![tactic(auto)]
 
 mod arguments;
