@@ -2,8 +2,9 @@
 //!
 //! No clause can promise that a file or a stream works, or that there is memory, so a body of
 //! `run`, `obey`, `run_limited` or `on_file` that always says that one of them failed meets its
-//! contract too, and so does a body of `Task::perform` that gives the text another name. Tests see
-//! the statuses and the names.
+//! contract too, and so does a body of `Task::perform` that gives the text another name. The words
+//! of help are in no clause, so those of `on_file` may be any. Tests see the statuses, the names and
+//! how a help begins.
 #![tactic(auto)]
 
 mod arguments;

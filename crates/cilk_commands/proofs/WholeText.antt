@@ -4,7 +4,7 @@ use Rattle.std.proofs.lemmas.List.{length-take, take_min}
 use Rattle.std.proofs.Math.Seq.{take-length}
 use Rattle.cilk_lex.specs.declared.reading.TheConstants.{TEXT_LIMIT}
 use Rattle.cilk_tree.specs.Tree.{Program}
-use Rattle.cilk_commands.specs.Program.{Declines, Explains, Holds, IsReadOf, IsNoProgram, IsIllFormed, HasTooMany, IsProgram}
+use Rattle.cilk_commands.specs.Program.{Declines, Explains, IsReason, Holds, IsReadOf, IsNoProgram, IsIllFormed, HasTooMany, IsProgram}
 use Rattle.cilk_commands.specs.Status.{status_of}
 use Rattle.cilk_commands.specs.declared.failure.Failure.{Failure}
 use Rattle.cilk_commands.specs.declared.failure.Failure.TheVariants as failure
@@ -34,24 +34,24 @@ whole_held None text program read is = record { bytes = text; held = tt; is = is
 whole_held (Some bytes) text program read is =
     record { bytes = bytes; held = refl; is = subst (λ t. IsProgram t program) (read_whole bytes text read is.text.short) is }
 
-explains_read : (bytes text : List ℕ) (why : Failure) → text ≡ take (TEXT_LIMIT + 1) bytes → Explains text why → Explains bytes why
-explains_read bytes text (failure.Fault (fault.Read found) line column) read (inl told) =
+reason_read : (bytes text : List ℕ) (why : Failure) → text ≡ take (TEXT_LIMIT + 1) bytes → IsReason text why → IsReason bytes why
+reason_read bytes text (failure.Fault (fault.Read found) line column) read (inl told) =
     let long : TEXT_LIMIT < length (take (TEXT_LIMIT + 1) bytes) = rw (← read) told.long in
     inl (record { long = omega (arith, length-take (TEXT_LIMIT + 1) bytes); fault_is = told.fault_is; line_is = told.line_is; column_is = told.column_is })
-explains_read bytes text (failure.Fault (fault.Read found) line column) read (inr told) =
+reason_read bytes text (failure.Fault (fault.Read found) line column) read (inr told) =
     inr (subst (λ t. IsNoProgram t found line column) (read_whole bytes text read told.short) told)
-explains_read bytes text (failure.Fault (fault.Check found) line column) read told =
+reason_read bytes text (failure.Fault (fault.Check found) line column) read told =
     subst (λ t. IsIllFormed t found line column) (read_whole bytes text read told.text.short) told
-explains_read bytes text failure.NotUtf8 read told =
-    subst (λ t. Explains t failure.NotUtf8) (read_whole bytes text read told.0) told
-explains_read bytes text failure.TooMany read told =
+reason_read bytes text failure.NotUtf8 read told =
+    subst (λ t. IsReason t failure.NotUtf8) (read_whole bytes text read told.0) told
+reason_read bytes text failure.TooMany read told =
     subst (λ t. HasTooMany t) (read_whole bytes text read told.text.short) told
-explains_read bytes text failure.Memory read told = tt
-explains_read bytes text failure.CannotRead read told = told
-explains_read bytes text failure.CannotWrite read told = told
+reason_read bytes text failure.Memory read told = tt
+reason_read bytes text failure.CannotRead read told = told
+reason_read bytes text failure.CannotWrite read told = told
 
 pub whole_declined : (known : Option (List ℕ)) (text : List ℕ) (why : Failure) → IsReadOf known text → Explains text why → status_of why ≡ status.Refused → Declines known
 whole_declined None text why read told refused =
     record { bytes = text; held = tt; why = why; explained = told; refused = refused }
 whole_declined (Some bytes) text why read told refused =
-    record { bytes = bytes; held = refl; why = why; explained = explains_read bytes text why read told; refused = refused }
+    record { bytes = bytes; held = refl; why = why; explained = record { reason = reason_read bytes text why read told.reason }; refused = refused }

@@ -66,14 +66,18 @@ pub record HasTooMany (bytes : List ℕ) : Type 0 where
   pub many : action_limit < count_program program
 
 -- why the bytes are no program: memory may always run out, and bytes alone cannot fail to be read or written
-abbrev pub Explains : List ℕ → Failure → Type 0
-Explains bytes (failure.Fault (fault.Read found) line column) = IsTooLong bytes found line column ⊎ IsNoProgram bytes found line column
-Explains bytes (failure.Fault (fault.Check found) line column) = IsIllFormed bytes found line column
-Explains bytes failure.NotUtf8 = (length bytes ≤ TEXT_LIMIT) × ¬ (IsUtf8 bytes)
-Explains bytes failure.TooMany = HasTooMany bytes
-Explains bytes failure.Memory = Unit {0}
-Explains bytes failure.CannotRead = ⊥
-Explains bytes failure.CannotWrite = ⊥
+abbrev pub IsReason : List ℕ → Failure → Type 0
+IsReason bytes (failure.Fault (fault.Read found) line column) = IsTooLong bytes found line column ⊎ IsNoProgram bytes found line column
+IsReason bytes (failure.Fault (fault.Check found) line column) = IsIllFormed bytes found line column
+IsReason bytes failure.NotUtf8 = (length bytes ≤ TEXT_LIMIT) × ¬ (IsUtf8 bytes)
+IsReason bytes failure.TooMany = HasTooMany bytes
+IsReason bytes failure.Memory = Unit {0}
+IsReason bytes failure.CannotRead = ⊥
+IsReason bytes failure.CannotWrite = ⊥
+
+-- a failure that tells why they are none
+pub record Explains (bytes : List ℕ) (why : Failure) : Type 0 where
+  pub reason : IsReason bytes why
 
 -- what is read of the bytes of a text, where they are known: all of them, or one more than a text may have
 abbrev pub IsReadOf : Option (List ℕ) → List ℕ → Type 0

@@ -1,5 +1,6 @@
-ghost use Rattle.std.specs.Prelude.{◌≡◌, ◌≢◌, IfOk, IfErr};
-ghost use Rattle.cilk_commands.specs.Program.{Declines, Holds, IsReadOf};
+ghost use Rattle.std.specs.Prelude.{ℕ, List, ◌≡◌, ◌≢◌, IfOk, IfErr};
+ghost use Rattle.cilk_tree.specs.Tree as tree;
+ghost use Rattle.cilk_commands.specs.Program.{Declines, Explains, Holds, IsProgram, IsReadOf};
 ghost use Rattle.cilk_commands.specs.Status.{status_of};
 
 use crate::failure::Failure;
@@ -27,6 +28,13 @@ pub fn program_from<R: Read>(alloc: Global, reader: &mut R) -> Result<Loaded, Fa
 /// The bytes that a reader holds, or as many as tell that they are too many.
 pub(crate) fn read_text<R: Read>(alloc: Global, reader: &mut R) -> Result<Vec<u8>, Failure>
     ensures ok { IfOk result (λ text. IsReadOf (R.remaining reader.old) text.items) }
+
+    // What they are, all bytes of the reader are.
+    ensures held { IfOk result (λ text. (p : tree.Program) → IsProgram text.items p
+        → Holds (R.remaining reader.old) p) }
+    ensures declined { IfOk result (λ text. (given : List ℕ) (why : Failure) → Explains given why
+        → given ≡ text.items → status_of why ≡ Status.Refused → Declines (R.remaining reader.old)) }
+
     ensures status { IfErr result (λ why. status_of why ≢ Status.Refused) }
     ensures reads { IfErr result (λ why. why ≢ Failure.CannotWrite) }
 {
