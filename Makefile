@@ -2,7 +2,7 @@
 
 sources := $(shell find crates -name out -prune -o -type f -print)
 
-.PHONY: test must_not_compile clean
+.PHONY: test must_not_compile wrong-bodies budget clean
 
 # A program is built once it and the crates below it are proved, and only by running it.
 cilk: crates.txt HANDLES $(sources)
@@ -14,6 +14,14 @@ test: must_not_compile
 
 must_not_compile:
 	tools/must_not_compile
+
+# Tries the wrong bodies of the crates named in CRATES, or of all (docs/GATE.md).
+wrong-bodies:
+	tools/wrong_bodies $(CRATES)
+
+# Measures what the gate costs, against one proof of each crate (docs/GATE.md).
+budget:
+	tools/gate_budget
 
 clean:
 	rm -rf cilk crates/*/out
