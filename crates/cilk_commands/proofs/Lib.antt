@@ -1,3 +1,4 @@
+pub mod Fronts
 pub mod Ran
 pub mod Moved
 pub mod NamePlaces

@@ -1,6 +1,5 @@
 -- The closing text of a machine that is not moved any more.
-use Rattle.std.proofs.Common.{◌≡◌, ℕ, true, List, length, Option, sym, ap, ◌∙◌, subst, arith, refl}
-use Rattle.std.specs.Io.KnownBytes.{Appends}
+use Rattle.std.proofs.Common.{◌≡◌, ℕ, true, List, length, Option, sym, ap, ◌∙◌, arith, refl}
 use Rattle.cilk_tree.specs.Tree.{Program}
 use Rattle.cilk_model.specs.Label.{label}
 use Rattle.cilk_model.specs.Run.{Standing, after}
@@ -10,17 +9,17 @@ use Rattle.cilk_machine.specs.Stands.{StandsAt}
 use Rattle.cilk_commands.specs.declared.status.Status.{Status}
 use Rattle.cilk_commands.specs.Status.{status_at, is_answer}
 use Rattle.cilk_commands.specs.Program.{Holds}
-use Rattle.cilk_commands.specs.Running.{LedAlone, Stops, Runs}
+use Rattle.cilk_commands.specs.Running.{LedAlone, Stops, IsClosing}
 
 pub stands : (p : Program) (m : Situation) (l : LedAlone p m) → StandsAt m l.at
 stands p m l = record { choices = l.choices; events = l.events; led = l.led }
 
-pub ran : (limit : ℕ) (status : Status) (known old new : Option (List ℕ)) (p : Program) (m : Situation) (end : model.End) (printed text : List ℕ) (n : ℕ)
+pub ran : (limit : ℕ) (status : Status) (known : Option (List ℕ)) (p : Program) (m : Situation) (end : model.End) (printed text : List ℕ) (n : ℕ)
     → Holds known p → LedAlone p m → Stops limit m
     → ((at : Standing) → StandsAt m at → end ≡ model.end_now (label m.program) at) → status ≡ status_at end
     → ((at : Standing) → StandsAt m at → printed ≡ at.state.output) → n ≡ m.choices
-    → text ≡ model.ending printed end n → Appends old new text → Runs limit status known old new
-ran limit status known old new p m end printed text n held l stops ends tells prints counts is written =
+    → text ≡ model.ending printed end n → IsClosing limit status known text
+ran limit status known p m end printed text n held l stops ends tells prints counts is =
     let there : StandsAt m l.at = stands p m l in
     let now : end ≡ model.end_now (label p) l.at = ends l.at there ∙ ap (λ (q : Program). model.end_now (label q) l.at) l.program_is in
     let counted : length l.choices ≡ m.choices = l.led.counted in
@@ -34,7 +33,7 @@ ran limit status known old new p m end printed text n held l stops ends tells pr
       within = omega (arith, stops.within, counted);
       whole = λ e. counted ∙ stops.whole l.at there (sym (ends l.at there) ∙ now ∙ e);
       tells = tells ∙ ap status_at now;
-      written = subst (λ (bytes : List ℕ). Appends old new bytes) (is ∙ (λ i. model.ending (prints l.at there i) (now i) (count i))) written;
+      is = is ∙ (λ i. model.ending (prints l.at there i) (now i) (count i));
     }
 
 ends_answer : (end : model.End) → is_answer (status_at end) ≡ true

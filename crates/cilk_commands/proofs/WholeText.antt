@@ -50,8 +50,8 @@ reason_read bytes text failure.Memory read told = tt
 reason_read bytes text failure.CannotRead read told = told
 reason_read bytes text failure.CannotWrite read told = told
 
-pub whole_declined : (known : Option (List ℕ)) (text : List ℕ) (why : Failure) → IsReadOf known text → Explains text why → status_of why ≡ status.Refused → Declines known
+pub whole_declined : (known : Option (List ℕ)) (text : List ℕ) (why : Failure) → IsReadOf known text → Explains text why → status_of why ≡ status.Refused → Declines known why
 whole_declined None text why read told refused =
-    record { bytes = text; held = tt; why = why; explained = told; refused = refused }
+    record { bytes = text; held = tt; explained = told }
 whole_declined (Some bytes) text why read told refused =
-    record { bytes = bytes; held = refl; why = why; explained = record { reason = reason_read bytes text why read told.reason }; refused = refused }
+    record { bytes = bytes; held = refl; explained = record { reason = reason_read bytes text why read told.reason } }

@@ -1,3 +1,4 @@
+pub mod Front
 pub mod Place
 pub mod Program
 pub mod Printing

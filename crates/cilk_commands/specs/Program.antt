@@ -15,8 +15,6 @@ use Rattle.cilk_model.specs.Count.{count_program}
 use Rattle.cilk_commands.specs.declared.fault.Fault.TheVariants as fault
 use Rattle.cilk_commands.specs.declared.failure.Failure.{Failure}
 use Rattle.cilk_commands.specs.declared.failure.Failure.TheVariants as failure
-use Rattle.cilk_commands.specs.declared.status.Status.TheVariants as status
-use Rattle.cilk_commands.specs.Status.{status_of}
 
 -- so many actions a program may have
 abbrev pub action_limit : ℕ
@@ -89,10 +87,8 @@ pub record Holds (known : Option (List ℕ)) (program : Program) : Type 0 where
   pub held : IfSome known (λ all. bytes ≡ all)
   pub is : IsProgram bytes program
 
--- there is a fault to tell of the bytes that a reader held; where those are not known, of some
-pub record Declines (known : Option (List ℕ)) : Type 0 where
+-- a failure that tells why the bytes that a reader held are none; where those are not known, why some are none
+pub record Declines (known : Option (List ℕ)) (why : Failure) : Type 0 where
   pub bytes : List ℕ
   pub held : IfSome known (λ all. bytes ≡ all)
-  pub why : Failure
   pub explained : Explains bytes why
-  pub refused : status_of why ≡ status.Refused

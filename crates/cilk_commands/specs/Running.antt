@@ -1,6 +1,5 @@
 -- What `run` does with a program, and what it writes.
 use Rattle.std.specs.Prelude.{◌≡◌, ◌≤◌, ℕ, List, length, Option, Some}
-use Rattle.std.specs.Io.KnownBytes.{Appends}
 use Rattle.cilk_tree.specs.Tree.{Program}
 use Rattle.cilk_model.specs.Label.{label}
 use Rattle.cilk_model.specs.Choice.{Choice}
@@ -11,6 +10,7 @@ use Rattle.cilk_machine.specs.Situation.{Situation, workers_of}
 use Rattle.cilk_machine.specs.Stands.{Led, StandsAt}
 use Rattle.cilk_commands.specs.declared.status.Status.{Status}
 use Rattle.cilk_commands.specs.Status.{status_at}
+use Rattle.cilk_commands.specs.Front.{Gains, GainsFront}
 use Rattle.cilk_commands.specs.Program.{Holds}
 
 -- choices of one worker led a machine from the start of the program to where it is
@@ -27,8 +27,8 @@ pub record Stops (limit : ℕ) (m : Situation) : Type 0 where
   pub within : m.choices ≤ limit
   pub whole : (at : Standing) → StandsAt m at → model.end_now (label m.program) at ≡ model.limit → m.choices ≡ limit
 
--- a writer has gained the closing text of a run of the program that a reader held: one worker made choices, at most so many, until the program had ended or was stuck, or they were so many; the status tells which
-pub record Runs (limit : ℕ) (status : Status) (known old new : Option (List ℕ)) : Type 0 where
+-- the closing text of a run of the program that a reader held: one worker made choices, at most so many, until the program had ended or was stuck, or they were so many; the status tells which
+pub record IsClosing (limit : ℕ) (status : Status) (known : Option (List ℕ)) (text : List ℕ) : Type 0 where
   pub program : Program
   pub held : Holds known program
   pub choices : List Choice
@@ -37,4 +37,11 @@ pub record Runs (limit : ℕ) (status : Status) (known old new : Option (List �
   pub within : length choices ≤ limit
   pub whole : model.end_now (label program) at.standing ≡ model.limit → length choices ≡ limit
   pub tells : status ≡ status_at (model.end_now (label program) at.standing)
-  pub written : Appends old new (model.ending at.standing.state.output (model.end_now (label program) at.standing) (length choices))
+  pub is : text ≡ model.ending at.standing.state.output (model.end_now (label program) at.standing) (length choices)
+
+-- a writer has gained it, or has failed in that of some run, whose status is lost
+abbrev pub Runs : ℕ → Status → Option (List ℕ) → Option (List ℕ) → Option (List ℕ) → Type 0
+Runs limit status known old new = Gains (IsClosing limit status known) old new
+
+abbrev pub RunsFront : ℕ → Option (List ℕ) → Option (List ℕ) → Option (List ℕ) → Type 0
+RunsFront limit known old new = (status : Status) × GainsFront (IsClosing limit status known) old new

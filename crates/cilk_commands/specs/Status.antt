@@ -15,16 +15,17 @@ code_of status.Trapped = 3
 code_of status.Stuck = 4
 code_of status.Limit = 5
 code_of status.Memory = 6
-code_of status.Failed = 7
+code_of status.CannotRead = 7
+code_of status.CannotWrite = 7
 
--- a text that is no program that may be run is refused, and all that is neither that nor memory has failed
+-- a text that is no program that may be run is refused; any other failure has its own status
 abbrev pub status_of : Failure → Status
 status_of (failure.Fault fault line column) = status.Refused
 status_of failure.NotUtf8 = status.Refused
 status_of failure.TooMany = status.Refused
 status_of failure.Memory = status.Memory
-status_of failure.CannotRead = status.Failed
-status_of failure.CannotWrite = status.Failed
+status_of failure.CannotRead = status.CannotRead
+status_of failure.CannotWrite = status.CannotWrite
 
 -- the status that tells how a run ended
 abbrev pub status_at : model.End → Status
@@ -42,4 +43,5 @@ is_answer status.Limit = true
 is_answer status.Refused = false
 is_answer status.Usage = false
 is_answer status.Memory = false
-is_answer status.Failed = false
+is_answer status.CannotRead = false
+is_answer status.CannotWrite = false

@@ -1,13 +1,69 @@
 -- The line that tells of a failure.
-use Rattle.std.specs.Prelude.{ℕ, List, ◌++◌, Option, Some, None, codes}
+use Rattle.std.specs.Prelude.{◌≡◌, ℕ, List, ◌++◌, Option, codes, decimal}
+use Rattle.cilk_lex.specs.declared.fault.LexFault.{LexFault}
+use Rattle.cilk_lex.specs.declared.fault.LexFault.TheVariants as lex
+use Rattle.cilk_parse.specs.declared.fault.ReadFault.{ReadFault}
+use Rattle.cilk_parse.specs.declared.fault.ReadFault.TheVariants as read
+use Rattle.cilk_check.specs.declared.fault.CheckFault.{CheckFault}
+use Rattle.cilk_check.specs.declared.fault.CheckFault.TheVariants as check
+use Rattle.cilk_commands.specs.declared.fault.Fault.{Fault}
+use Rattle.cilk_commands.specs.declared.fault.Fault.TheVariants as fault
 use Rattle.cilk_commands.specs.declared.failure.Failure.{Failure}
-use Rattle.cilk_commands.specs.declared.failure.Failure.TheVariants.{CannotRead, Fault, NotUtf8, TooMany, Memory, CannotWrite}
+use Rattle.cilk_commands.specs.declared.failure.Failure.TheVariants as failure
+use Rattle.cilk_commands.specs.declared.status.Status.{Status}
+use Rattle.cilk_commands.specs.declared.status.Status.TheVariants as status
+use Rattle.cilk_commands.specs.Front.{AppendsFront}
+use Rattle.cilk_commands.specs.Program.{Declines}
+use Rattle.cilk_commands.specs.Status.{status_of}
 
--- the line and its newline for the text of this name; of a fault's own words nothing is claimed
-abbrev pub line_of : List ℕ → Failure → Option (List ℕ)
-line_of name CannotRead = Some (codes "cilk: cannot read " ++ (name ++ codes "\n"))
-line_of name (Fault fault line column) = None
-line_of name NotUtf8 = Some (name ++ codes ": not UTF-8\n")
-line_of name TooMany = Some (name ++ codes ": N1 TooMany\n")
-line_of name Memory = Some (codes "cilk: out of memory\n")
-line_of name CannotWrite = Some (codes "cilk: cannot write output\n")
+-- the code and the word of a fault
+abbrev pub lex_words : LexFault → List ℕ
+lex_words lex.TooLong = codes "L1 TooLong"
+lex_words (lex.BadByte at) = codes "L2 BadByte"
+lex_words (lex.BadNumber at) = codes "L5 BadNumber"
+lex_words lex.Memory = codes "out of memory"
+
+abbrev pub read_words : ReadFault → List ℕ
+read_words (read.Lex found) = lex_words found
+read_words (read.Unexpected at) = codes "P2 Unexpected"
+read_words (read.TooDeep at) = codes "P3 TooDeep"
+read_words read.Memory = codes "out of memory"
+
+abbrev pub check_words : CheckFault → List ℕ
+check_words (check.Twice at) = codes "C1 Twice"
+check_words (check.Unknown at) = codes "C2 Unknown"
+check_words (check.WrongKind at) = codes "C3 WrongKind"
+check_words (check.ArgumentCount at) = codes "C4 ArgumentCount"
+check_words (check.VoidValue at) = codes "C5 VoidValue"
+check_words (check.NoMain at) = codes "C12 NoMain"
+check_words (check.ReturnForm at) = codes "C13 ReturnForm"
+check_words (check.Limit at) = codes "C15 Limit"
+check_words (check.Reserved at) = codes "C16 Reserved"
+
+abbrev pub words_of : Fault → List ℕ
+words_of (fault.Read found) = read_words found
+words_of (fault.Check found) = check_words found
+
+-- a fault stands behind the name of the text, and the line and the column of its place
+abbrev pub fault_line : List ℕ → List ℕ → List ℕ → List ℕ → List ℕ
+fault_line name line column words = name ++ (codes ":" ++ (line ++ (codes ":" ++ (column ++ (codes ": " ++ (words ++ codes "\n"))))))
+
+-- the line and its newline for the text of this name
+abbrev pub line_of : List ℕ → Failure → List ℕ
+line_of name failure.CannotRead = codes "cilk: cannot read " ++ (name ++ codes "\n")
+line_of name (failure.Fault found line column) = fault_line name (decimal line) (decimal column) (words_of found)
+line_of name failure.NotUtf8 = name ++ codes ": not UTF-8\n"
+line_of name failure.TooMany = name ++ codes ": N1 TooMany\n"
+line_of name failure.Memory = codes "cilk: out of memory\n"
+line_of name failure.CannotWrite = codes "cilk: cannot write output\n"
+
+-- a writer has gained that line, or the first bytes of it, since a line that cannot be written is lost
+abbrev pub Tells : List ℕ → Failure → Option (List ℕ) → Option (List ℕ) → Type 0
+Tells name why old new = AppendsFront old new (line_of name why)
+
+-- in place of an answer a writer is told of a failure: the status is that failure's, and a text that is refused has it
+pub record GivesUp (name : List ℕ) (ended : Status) (known old new : Option (List ℕ)) : Type 0 where
+  pub why : Failure
+  pub status_is : ended ≡ status_of why
+  pub declined : ended ≡ status.Refused → Declines known why
+  pub told : Tells name why old new

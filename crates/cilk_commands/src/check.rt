@@ -1,6 +1,7 @@
-ghost use Rattle.std.specs.Prelude.{◌≡◌, ◌≢◌, true, IfErr, OnOk};
+ghost use Rattle.std.specs.Prelude.{◌≡◌, ◌≢◌, true, false, IfErr, OnOk};
 ghost use Rattle.cilk_commands.specs.Program.{Declines};
-ghost use Rattle.cilk_commands.specs.Checking.{Passes};
+ghost use Rattle.cilk_commands.specs.Telling.{GivesUp};
+ghost use Rattle.cilk_commands.specs.Checking.{Passes, PassesFront};
 ghost use Rattle.cilk_commands.specs.Status.{status_of, is_answer};
 
 use crate::answer::write_answer;
@@ -22,13 +23,18 @@ pub fn check_text<R: Read, O: Write, E: Write>(
 ) -> Status
     ensures done { result ≡ Status.Done
         → Passes (R.remaining reader.old) (O.contents out.old) (O.contents out.new) }
-    ensures refused { result ≡ Status.Refused → Declines (R.remaining reader.old) }
     ensures usage { result ≢ Status.Usage }
     ensures only { is_answer result ≡ true → result ≡ Status.Done }
 
+    // Where there is no answer.
+    ensures told { is_answer result ≡ false
+        → GivesUp name.now result (R.remaining reader.old) (E.contents err.old) (E.contents err.new) }
+    ensures begun { result ≡ Status.CannotWrite
+        → PassesFront (R.remaining reader.old) (O.contents out.old) (O.contents out.new) }
+
     // What stays as it was.
-    ensures quiet { result ≡ Status.Done → err.new ≡ err.old }
-    ensures kept { result ≢ Status.Done → result ≢ Status.Failed → out.new ≡ out.old }
+    ensures quiet { is_answer result ≡ true → err.new ≡ err.old }
+    ensures kept { is_answer result ≡ false → result ≢ Status.CannotWrite → out.new ≡ out.old }
 {
     match check(alloc, reader, out) {
         Ok(()) => Status::Done,
@@ -39,9 +45,11 @@ pub fn check_text<R: Read, O: Write, E: Write>(
 fn check<R: Read, W: Write>(alloc: Global, reader: &mut R, out: &mut W) -> Result<(), Failure>
     ensures ok { OnOk result
         (Passes (R.remaining reader.old) (W.contents out.old) (W.contents out.new)) }
-    ensures err { IfErr result (λ why. status_of why ≡ Status.Refused
-        → Declines (R.remaining reader.old)) }
-    ensures kept { IfErr result (λ why. why ≢ Failure.CannotWrite → out.new ≡ out.old) }
+    ensures declined { IfErr result (λ why. status_of why ≡ Status.Refused
+        → Declines (R.remaining reader.old) why) }
+    ensures begun { IfErr result (λ why. status_of why ≡ Status.CannotWrite
+        → PassesFront (R.remaining reader.old) (W.contents out.old) (W.contents out.new)) }
+    ensures kept { IfErr result (λ why. status_of why ≢ Status.CannotWrite → out.new ≡ out.old) }
 {
     let program = program_from(alloc, reader)?;
     let count = program.count();

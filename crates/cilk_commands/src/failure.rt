@@ -1,8 +1,12 @@
-ghost use Rattle.std.specs.Prelude.{◌≡◌, IfSome, OnOk};
+ghost use Rattle.std.specs.Prelude.{◌≡◌, OnErr, OnOk};
 ghost use Rattle.std.specs.Io.KnownBytes.{Appends};
+ghost use Rattle.cilk_commands.specs.Front.{AppendsFront};
+ghost use Rattle.cilk_commands.specs.Telling.{fault_line};
 
+use crate::answer::write_parts;
 use crate::fault::Fault;
 use crate::status::Status;
+use itoa::Buffer;
 use std::io;
 use std::io::Write;
 
@@ -29,7 +33,7 @@ pub enum Failure {
 }
 
 impl Failure {
-    ghost use Rattle.cilk_commands.specs.Telling.{line_of};
+    ghost use Rattle.cilk_commands.specs.Telling.{Tells, line_of};
     ghost use Rattle.cilk_commands.specs.Status.{status_of};
 
     /// The status that tells of it.
@@ -39,34 +43,63 @@ impl Failure {
         match self {
             Failure::Fault { .. } | Failure::NotUtf8 | Failure::TooMany => Status::Refused,
             Failure::Memory => Status::Memory,
-            Failure::CannotRead | Failure::CannotWrite => Status::Failed,
+            Failure::CannotRead => Status::CannotRead,
+            Failure::CannotWrite => Status::CannotWrite,
         }
     }
 
     /// Writes the line that tells of it, where `name` is the name of the text, and returns the status.
     /// A line that cannot be written is lost.
     pub fn report<W: Write>(&self, name: &str, err: &mut W) -> Status
-        ensures { result ≡ status_of self.now }
+        ensures status { result ≡ status_of self.now }
+        ensures told { Tells name.now self.now (W.contents err.old) (W.contents err.new) }
     {
         let _ = self.tell(name, err);
         self.status()
     }
 
     fn tell<W: Write>(&self, name: &str, err: &mut W) -> io::Result<()>
-        ensures { OnOk result (IfSome (line_of name.now self.now)
-            (Appends (W.contents err.old) (W.contents err.new))) }
+        ensures ok { OnOk result
+            (Appends (W.contents err.old) (W.contents err.new) (line_of name.now self.now)) }
+        ensures front { OnErr result
+            (Tells name.now self.now (W.contents err.old) (W.contents err.new)) }
     {
         match self {
-            Failure::CannotRead => writeln!(err, "cilk: cannot read {name}"),
+            Failure::CannotRead => write_parts(err, &["cilk: cannot read ", name, "\n"]),
             Failure::Fault {
                 fault,
                 line,
                 column,
-            } => writeln!(err, "{name}:{line}:{column}: {fault}"),
-            Failure::NotUtf8 => writeln!(err, "{name}: not UTF-8"),
-            Failure::TooMany => writeln!(err, "{name}: N1 TooMany"),
-            Failure::Memory => writeln!(err, "cilk: out of memory"),
-            Failure::CannotWrite => writeln!(err, "cilk: cannot write output"),
+            } => {
+                let mut line_digits = Buffer::new();
+                let mut column_digits = Buffer::new();
+                write_fault(
+                    err,
+                    name,
+                    line_digits.format(*line),
+                    column_digits.format(*column),
+                    fault.words(),
+                )
+            }
+            Failure::NotUtf8 => write_parts(err, &[name, ": not UTF-8\n"]),
+            Failure::TooMany => write_parts(err, &[name, ": N1 TooMany\n"]),
+            Failure::Memory => write_parts(err, &["cilk: out of memory\n"]),
+            Failure::CannotWrite => write_parts(err, &["cilk: cannot write output\n"]),
         }
     }
+}
+
+fn write_fault<'a, W: Write>(
+    err: &mut W,
+    name: &'a str,
+    line: &'a str,
+    column: &'a str,
+    words: &'a str,
+) -> io::Result<()>
+    ensures ok { OnOk result (Appends (W.contents err.old) (W.contents err.new)
+        (fault_line name.now line.now column.now words.now)) }
+    ensures front { OnErr result (AppendsFront (W.contents err.old) (W.contents err.new)
+        (fault_line name.now line.now column.now words.now)) }
+{
+    write_parts(err, &[name, ":", line, ":", column, ": ", words, "\n"])
 }

@@ -1,7 +1,8 @@
 ghost use Rattle.std.specs.Prelude.{◌≡◌, ◌≢◌, true, false, IfOk, IfErr};
 ghost use Rattle.cilk_machine.specs.Words.{end_of};
 ghost use Rattle.cilk_commands.specs.Program.{Declines};
-ghost use Rattle.cilk_commands.specs.Running.{Runs};
+ghost use Rattle.cilk_commands.specs.Telling.{GivesUp};
+ghost use Rattle.cilk_commands.specs.Running.{Runs, RunsFront};
 ghost use Rattle.cilk_commands.specs.Status.{status_of, status_at, is_answer};
 
 use crate::alone::run_alone;
@@ -27,12 +28,17 @@ pub fn run_text<R: Read, O: Write, E: Write>(
 ) -> Status
     ensures done { is_answer result ≡ true
         → Runs limit result (R.remaining reader.old) (O.contents out.old) (O.contents out.new) }
-    ensures refused { result ≡ Status.Refused → Declines (R.remaining reader.old) }
     ensures usage { result ≢ Status.Usage }
+
+    // Where there is no answer.
+    ensures told { is_answer result ≡ false
+        → GivesUp name.now result (R.remaining reader.old) (E.contents err.old) (E.contents err.new) }
+    ensures begun { result ≡ Status.CannotWrite
+        → RunsFront limit (R.remaining reader.old) (O.contents out.old) (O.contents out.new) }
 
     // What stays as it was.
     ensures quiet { is_answer result ≡ true → err.new ≡ err.old }
-    ensures kept { is_answer result ≡ false → result ≢ Status.Failed → out.new ≡ out.old }
+    ensures kept { is_answer result ≡ false → result ≢ Status.CannotWrite → out.new ≡ out.old }
 {
     match run(alloc, limit, reader, out) {
         Ok(status) => status,
@@ -49,9 +55,11 @@ fn run<R: Read, W: Write>(
     ensures ok { IfOk result (λ status.
         Runs limit status (R.remaining reader.old) (W.contents out.old) (W.contents out.new)) }
     ensures answer { IfOk result (λ status. is_answer status ≡ true) }
-    ensures err { IfErr result (λ why. status_of why ≡ Status.Refused
-        → Declines (R.remaining reader.old)) }
-    ensures kept { IfErr result (λ why. why ≢ Failure.CannotWrite → out.new ≡ out.old) }
+    ensures declined { IfErr result (λ why. status_of why ≡ Status.Refused
+        → Declines (R.remaining reader.old) why) }
+    ensures begun { IfErr result (λ why. status_of why ≡ Status.CannotWrite
+        → RunsFront limit (R.remaining reader.old) (W.contents out.old) (W.contents out.new)) }
+    ensures kept { IfErr result (λ why. status_of why ≢ Status.CannotWrite → out.new ≡ out.old) }
 {
     let program = program_from(alloc, reader)?;
     let machine = run_alone(alloc, program, limit)?;

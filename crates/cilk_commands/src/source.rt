@@ -17,9 +17,9 @@ const MOST_BYTES: u64 = TEXT_LIMIT as u64 + 1;
 /// The program that a reader holds, ready to run.
 pub fn program_from<R: Read>(alloc: Global, reader: &mut R) -> Result<Loaded, Failure>
     ensures ok { IfOk result (Holds (R.remaining reader.old)) }
-    ensures err { IfErr result (λ why. status_of why ≡ Status.Refused
-        → Declines (R.remaining reader.old)) }
-    ensures reads { IfErr result (λ why. why ≢ Failure.CannotWrite) }
+    ensures declined { IfErr result (λ why. status_of why ≡ Status.Refused
+        → Declines (R.remaining reader.old) why) }
+    ensures reads { IfErr result (λ why. status_of why ≢ Status.CannotWrite) }
 {
     let bytes = read_text(alloc, reader)?;
     program_of(alloc, bytes.as_slice())
@@ -33,10 +33,10 @@ pub(crate) fn read_text<R: Read>(alloc: Global, reader: &mut R) -> Result<Vec<u8
     ensures held { IfOk result (λ text. (p : tree.Program) → IsProgram text.items p
         → Holds (R.remaining reader.old) p) }
     ensures declined { IfOk result (λ text. (given : List ℕ) (why : Failure) → Explains given why
-        → given ≡ text.items → status_of why ≡ Status.Refused → Declines (R.remaining reader.old)) }
+        → given ≡ text.items → status_of why ≡ Status.Refused → Declines (R.remaining reader.old) why) }
 
     ensures status { IfErr result (λ why. status_of why ≢ Status.Refused) }
-    ensures reads { IfErr result (λ why. why ≢ Failure.CannotWrite) }
+    ensures reads { IfErr result (λ why. status_of why ≢ Status.CannotWrite) }
 {
     let mut bytes = Vec::new(alloc);
     match reader.take(MOST_BYTES).read_to_end(&mut bytes) {

@@ -17,8 +17,10 @@ pub enum Status {
     Limit,
     /// Memory has run out.
     Memory,
-    /// A file or a stream failed.
-    Failed,
+    /// A file or the input failed, so that there is no text.
+    CannotRead,
+    /// The output failed, so that a part of the answer may be written.
+    CannotWrite,
 }
 
 impl Status {
@@ -36,7 +38,7 @@ impl Status {
             Status::Stuck => 4,
             Status::Limit => 5,
             Status::Memory => 6,
-            Status::Failed => 7,
+            Status::CannotRead | Status::CannotWrite => 7,
         }
     }
 }
