@@ -2,10 +2,13 @@
 use Rattle.std.proofs.Common.{◌≡◌, ℕ, List, [], ◌++◌, ◌-◌, length, Option, sym, ap, ◌∙◌, take, drop, append_assoc, append-nil, take-append-drop, subst, Bor, flat_map, ◌<◌, get_or, ◌∷◌, drop-cons, suc}
 use Rattle.std.proofs.lemmas.List.{take_rest}
 use Rattle.std.specs.Io.KnownBytes.{Appends, Keeps}
-use Rattle.std.proofs.KnownBytes.{Appends-nil, Appends-trans, Appends-kept}
-use Rattle.std.specs.Prelude.{OnErr, Result, Ok, Err}
+use Rattle.std.proofs.KnownBytes.{Appends-trans, Appends-kept}
+use Rattle.std.specs.Prelude.{OnOk, OnErr, IfErr, Result, Ok, Err}
 use Rattle.std.proofs.lemmas.Grind.{flat_map-append}
 use Rattle.cilk_commands.specs.Front.{AppendsFront}
+use Rattle.cilk_commands.specs.declared.failure.Failure.{Failure}
+use Rattle.cilk_commands.specs.declared.status.Status.TheVariants.{CannotWrite}
+use Rattle.cilk_commands.specs.Status.{status_of}
 
 -- of some bytes these are left
 pub record Wrote (old new : Option (List ℕ)) (bytes rest : List ℕ) : Type 0 where
@@ -18,7 +21,7 @@ pub wrote_more : (old mid new : Option (List ℕ)) (bytes rest : List ℕ) (n : 
 wrote_more old mid new bytes rest n before more = record {
   front = before.front ++ take n rest;
   split = before.split ∙ ap (λ l. before.front ++ l) (sym (take-append-drop n rest)) ∙ sym (append_assoc before.front (take n rest) (drop n rest))
-    ∙ ap (λ l. (before.front ++ take n rest) ++ l) (sym (take_rest rest n));
+      ∙ ap (λ l. (before.front ++ take n rest) ++ l) (sym (take_rest rest n));
   written = Appends-trans old mid new before.front (take n rest) before.written more;
 }
 
@@ -47,7 +50,7 @@ front_after old mid new before more rest all written begun is = record {
   front = before ++ begun.front;
   rest = begun.rest ++ rest;
   split = is ∙ ap (λ l. before ++ (l ++ rest)) begun.split ∙ ap (λ l. before ++ l) (append_assoc begun.front begun.rest rest)
-    ∙ sym (append_assoc before begun.front (begun.rest ++ rest));
+      ∙ sym (append_assoc before begun.front (begun.rest ++ rest));
   written = Appends-trans old mid new before begun.front written begun.written;
 }
 
@@ -67,3 +70,15 @@ module _ {X : Type 0} (f : X → List ℕ) (xs : List X) (i : ℕ) (d : X) where
 pub on_err : {A E : Type 0} (r : Result A E) (P : Type 0) → P → OnErr r P
 on_err (Ok x) P p = tt
 on_err (Err e) P p = p
+
+pub begun_err : {A : Type 0} (r : Result A Failure) (P : Type 0) → P → IfErr r (λ why. status_of why ≡ CannotWrite → P)
+begun_err (Ok x) P p = tt
+begun_err (Err e) P p = λ _. p
+
+-- the same bytes under another name
+pub ok_same : {A E : Type 0} (r : Result A E) (old new : Option (List ℕ)) (bytes same : List ℕ) → bytes ≡ same → OnOk r (Appends old new bytes) → OnOk r (Appends old new same)
+ok_same r old new bytes same is wrote = subst (λ (l : List ℕ). OnOk r (Appends old new l)) is wrote
+
+pub front_same : {A E : Type 0} (r : Result A E) (old new : Option (List ℕ)) (bytes same : List ℕ) → bytes ≡ same
+    → OnErr r (AppendsFront old new bytes) → OnErr r (AppendsFront old new same)
+front_same r old new bytes same is begun = subst (λ (l : List ℕ). OnErr r (AppendsFront old new l)) is begun

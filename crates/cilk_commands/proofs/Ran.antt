@@ -8,8 +8,9 @@ use Rattle.cilk_machine.specs.Situation.{Situation}
 use Rattle.cilk_machine.specs.Stands.{StandsAt}
 use Rattle.cilk_commands.specs.declared.status.Status.{Status}
 use Rattle.cilk_commands.specs.Status.{status_at, is_answer}
+use Rattle.cilk_commands.specs.Front.{AppendsFront}
 use Rattle.cilk_commands.specs.Program.{Holds}
-use Rattle.cilk_commands.specs.Running.{LedAlone, Stops, IsClosing}
+use Rattle.cilk_commands.specs.Running.{LedAlone, Stops, IsClosing, RunsFront}
 
 pub stands : (p : Program) (m : Situation) (l : LedAlone p m) → StandsAt m l.at
 stands p m l = record { choices = l.choices; events = l.events; led = l.led }
@@ -35,6 +36,15 @@ ran limit status known p m end printed text n held l stops ends tells prints cou
       tells = tells ∙ ap status_at now;
       is = is ∙ (λ i. model.ending (prints l.at there i) (now i) (count i));
     }
+
+-- and where a writer failed in that text
+pub ran_front : (limit : ℕ) (known old new : Option (List ℕ)) (p : Program) (m : Situation) (end : model.End) (printed text : List ℕ) (n : ℕ)
+    → Holds known p → LedAlone p m → Stops limit m
+    → ((at : Standing) → StandsAt m at → end ≡ model.end_now (label m.program) at)
+    → ((at : Standing) → StandsAt m at → printed ≡ at.state.output) → n ≡ m.choices
+    → text ≡ model.ending printed end n → AppendsFront old new text → RunsFront limit known old new
+ran_front limit known old new p m end printed text n held l stops ends prints counts is begun =
+    (status_at end, record { answer = text; is = ran limit (status_at end) known p m end printed text n held l stops ends refl prints counts is; begun = begun })
 
 ends_answer : (end : model.End) → is_answer (status_at end) ≡ true
 ends_answer (model.finished value) = refl

@@ -1,8 +1,8 @@
 //! What each subcommand of the program does, over a reader and two writers.
 //!
-//! No clause can promise that a reader or a writer works, so a body of `program_from` or
-//! `write_answer` that always says that it does not meets its contract too. Nor do clauses tell the
-//! words of a fault's line, so that the name of the text may be any there. Tests see both.
+//! No clause can promise that a reader or a writer works, or that one is flushed. So a body of
+//! `program_from` or `write_answer` that always says that it does not work meets its contract too,
+//! as does one of `Failure::report` that writes less than the line. Tests see these.
 #![tactic(auto)]
 
 mod alone;
