@@ -1,4 +1,4 @@
-ghost use Rattle.std.specs.Prelude.{◌≡◌, ◌<◌, ◌≤◌, ◌⊎◌, ◌↔◌, [], None, OnErr, IfOk, IfErr, MatchOption, Option, Some};
+ghost use Rattle.std.specs.Prelude.{◌≡◌, ◌≢◌, ◌<◌, ◌≤◌, ◌-◌, ◌^◌, ◌⊎◌, ◌↔◌, [], None, OnErr, IfOk, IfErr, MatchOption, Option, Some};
 ghost use Rattle.cilk_model.specs.Label.{label};
 ghost use Rattle.cilk_model.specs.End as model;
 ghost use Rattle.cilk_model.specs.Run.{Standing};
@@ -110,11 +110,12 @@ impl Machine {
     }
 
     /// Makes a choice. One that is refused changes nothing, and the refusal is the first that
-    /// applies; want of memory is told only of a choice that is possible.
+    /// applies; want of memory is told only of a choice that is possible, and of steps alone.
     pub fn make(&mut self, choice: Choice) -> Result<Event, Refusal>
-        requires { self.old.choices < 18446744073709551615 }
+        requires { self.old.choices < 2 ^ 64 - 1 }
         ensures made { IfOk result (λ e. Makes self.old self.new (choice_of choice) (event_of e)) }
         ensures refused { IfErr result (λ r. IsRefused self.old (choice_of choice) (reason_of r)) }
+        ensures memory { choice.act ≢ Act.Step → result ≢ Err Refusal.Memory }
         ensures unchanged { OnErr result (self.new ≡ self.old) }
     {
         if let Some(refusal) = self.refusal(choice) {
@@ -143,7 +144,7 @@ impl Machine {
     // The instance in the worker's hand takes a step.
     fn step(&mut self, worker: u8) -> Result<Event, Refusal>
         requires free { refused_by self.old (record { worker = worker; act = Act.Step }) ≡ None }
-        requires room { self.old.choices < 18446744073709551615 }
+        requires room { self.old.choices < 2 ^ 64 - 1 }
         ensures made { IfOk result (λ e. Makes self.old self.new (record { worker = worker; act = choices.step }) (event_of e)) }
         ensures refused { IfErr result (λ r. (reason_of r ≡ None) × IsRefused self.old (record { worker = worker; act = choices.step }) None) }
         ensures unchanged { OnErr result (self.new ≡ self.old) }
@@ -184,7 +185,7 @@ impl Machine {
     // The bottom of the worker's own deque comes to its hand.
     fn pop(&mut self, worker: u8) -> Event
         requires free { refused_by self.old (record { worker = worker; act = Act.Pop }) ≡ None }
-        requires room { self.old.choices < 18446744073709551615 }
+        requires room { self.old.choices < 2 ^ 64 - 1 }
         ensures { Makes self.old self.new (record { worker = worker; act = choices.pop }) (event_of result) }
     {
         pop(&mut self.hands, worker);
@@ -195,7 +196,7 @@ impl Machine {
     // The top of the victim's deque comes to the worker's hand.
     fn steal(&mut self, worker: u8, victim: u8) -> Event
         requires free { refused_by self.old (record { worker = worker; act = Act.Steal victim }) ≡ None }
-        requires room { self.old.choices < 18446744073709551615 }
+        requires room { self.old.choices < 2 ^ 64 - 1 }
         ensures { Makes self.old self.new (record { worker = worker; act = choices.steal victim }) (event_of result) }
     {
         steal(&mut self.hands, worker, victim);
