@@ -15,15 +15,15 @@ pub record Choice : Type 0 where
   pub act : Act
 
 pub data Refusal : Type 0 where
-  -- M1: the program has ended
+  -- the program has ended
   over : Refusal
-  -- M2: there is no such worker or victim, or the victim is the worker
+  -- there is no such worker or victim, or the victim is the worker
   no_worker : Refusal
-  -- M3: nothing to step
+  -- nothing to step
   hand_empty : Refusal
-  -- M4: the hand is full, or at a steal the own deque is not empty
+  -- the hand is full, or at a steal the own deque is not empty
   busy : Refusal
-  -- M5: nothing to pop or to steal
+  -- nothing to pop or to steal
   deque_empty : Refusal
-  -- M6: the step has to wait for a lock
+  -- the step has to wait for a lock
   waiting : Refusal
