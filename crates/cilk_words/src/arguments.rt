@@ -1,6 +1,6 @@
 ghost use Rattle.std.specs.Prelude.{◌≡◌, IfOk};
 ghost use Rattle.clap.specs.Words.{FailsBy, app_of, fault_of, subcommand_of, subcommand_rows_of};
-ghost use Rattle.cilk.specs.CommandLine.{command_line, on_text, texts_of};
+ghost use Rattle.cilk_words.specs.CommandLine.{command_line, on_text, texts_of};
 
 use clap::{Arg, ArgAction, ArgMatches, Command, Error, value_parser};
 use std::alloc::{AllocError, Global};
@@ -10,6 +10,23 @@ pub const FILE: &str = "F";
 
 /// The name of the argument that says how many choices a run may make.
 pub const LIMIT: &str = "limit";
+
+const VERSION: &str = "0.1.0";
+
+// What the help of the program ends with.
+const STATUSES: &str = "\
+Limit of a run:
+  run F --limit K  makes at most K choices, from 1 to 10,000,000 [default: 1,000,000]
+
+Exit status:
+  0  done
+  1  the program is refused
+  2  the command line is wrong
+  3  the run ended with a trap
+  4  the run is stuck
+  5  the run met its limit of choices
+  6  memory has run out
+  7  the text cannot be read, or the output cannot be written";
 
 /// Which subcommand the words name, and with what.
 pub fn parse<'a>(alloc: Global, words: &'a [String]) -> Result<ArgMatches<'a>, Error>
@@ -32,10 +49,12 @@ pub fn command<'a>(alloc: Global) -> Result<Command<'a>, AllocError>
         .value_name("K")
         .value_parser(value_parser!(u32).range(1..=10_000_000))
         .default_value("1000000")
-        .help("At most so many choices are made");
+        .help("At most so many choices are made, from 1 to 10,000,000");
     let run = on_file(alloc, "run", "Runs a program, and tells how it ends")?.arg(limit)?;
     Command::new(alloc, "cilk")
-        .about("Reads programs in Cilk 5.4")
+        .about("Prints, checks and runs programs in Cilk 5.4")
+        .version(VERSION)
+        .after_help(STATUSES)
         .subcommand_required(true)
         .arg_required_else_help(true)
         .subcommand(print)?

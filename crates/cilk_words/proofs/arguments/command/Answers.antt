@@ -6,8 +6,8 @@ use Rattle.clap.specs.Simple.{App, app_of, with_rule, with_subcommand}
 use Rattle.clap.specs.declared.builder.command.Command.{Command}
 use Rattle.clap.specs.declared.builder.value_parser.ValueParser.TheVariants.{Signed}
 use Rattle.clap.proofs.SimpleLemmas.{plain_fields}
-use Rattle.cilk.specs.CommandLine.{bare, limit_rule, on_text}
-use Rattle.cilk.proofs.arguments.command.Goals as goal
+use Rattle.cilk_words.specs.CommandLine.{bare, limit_rule, on_text}
+use Rattle.cilk_words.proofs.arguments.command.Goals as goal
 
 -- a plain subcommand is added as it is
 added : {old sub new : Command} {a b : App} → AddsSubcommand old sub new → app_of old ≡ a → app_of sub ≡ b → b.top.is_plain ≡ true

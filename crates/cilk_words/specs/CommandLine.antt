@@ -4,17 +4,14 @@ use Rattle.std.specs.Global.{Global}
 use Rattle.std.specs.String.{string_bytes}
 use Rattle.std.specs.Str.{bytes_eq}
 use Rattle.std.specs.Str.Parse.{digits_value, without_leading_plus}
-use Rattle.std.specs.List.{list_any}
 use Rattle.clap.specs.ValueTests.{is_unsigned_in}
 use Rattle.clap.specs.Kinds.{Kinds}
 use Rattle.clap.specs.Simple.{on_top}
 use Rattle.clap.specs.Words.{App, Row, Rule, Text, fault_of, first_of, new_app, new_rule, one_of, subcommand_of, with_rule, with_subcommand}
 use Rattle.clap.specs.declared.builder.action.ArgAction.TheVariants.{Set}
 use Rattle.clap.specs.declared.builder.value_parser.ValueParser.TheVariants.{Signed}
-use Rattle.clap.specs.declared.error.kind.ErrorKind.{ErrorKind}
-use Rattle.clap.specs.declared.error.kind.ErrorKind.TheVariants as kind
-use Rattle.cilk.specs.declared.task.Task.{Task}
-use Rattle.cilk.specs.declared.task.Task.TheVariants as task
+use Rattle.cilk_words.specs.declared.request.Task.{Task}
+use Rattle.cilk_words.specs.declared.request.Task.TheVariants as task
 
 -- the argument that names a text
 abbrev pub file_rule : Rule
@@ -35,7 +32,7 @@ on_text name = with_rule (new_app name) file_rule
 
 -- the program, which wants one of its subcommands
 abbrev pub bare : App
-bare = on_top (λ s. record s { subcommand_required = true; arg_required_else_help = true }) (new_app (codes "cilk"))
+bare = on_top (λ s. record s { subcommand_required = true; arg_required_else_help = true; has_version = true }) (new_app (codes "cilk"))
 
 -- the whole command line
 abbrev pub command_line : App
@@ -58,24 +55,24 @@ task_of name rows =
     else (if bytes_eq name (codes "run") then run_of (one_of (codes "limit") rows) else None))
 
 -- a task, and the name of the text that it is for
-abbrev pub Request : Type 0
-Request = Task × Text
+abbrev pub Asked : Type 0
+Asked = Task × Text
 
 -- a request, where there is a task and a name
-abbrev pub request_for : Option Task → Option Text → Option Request
+abbrev pub request_for : Option Task → Option Text → Option Asked
 request_for (Some wanted) (Some name) = Some (wanted, name)
 request_for _ _ = None
 
 -- what a subcommand asks for
-abbrev pub request_of : Text × List Row → Option Request
+abbrev pub request_of : Text × List Row → Option Asked
 request_of sub = request_for (task_of sub.0 sub.1) (first_of (codes "F") sub.1)
 
 -- the same, where there is a subcommand
-abbrev pub request_of_any : Option (Text × List Row) → Option Request
+abbrev pub request_of_any : Option (Text × List Row) → Option Asked
 request_of_any = option_and_then request_of
 
 -- what is asked for, unless there is a fault
-abbrev pub unless_fault : Kinds → Option (Text × List Row) → Option Request
+abbrev pub unless_fault : Kinds → Option (Text × List Row) → Option Asked
 unless_fault [] sub = request_of_any sub
 unless_fault (k ∷ ks) sub = None
 
@@ -84,15 +81,5 @@ abbrev pub texts_of : List (String Global) → List Text
 texts_of = map string_bytes
 
 -- what the words ask for
-abbrev pub asked : List Text → Option Request
+abbrev pub asked : List Text → Option Asked
 asked words = unless_fault (fault_of command_line words) (subcommand_of command_line words)
-
--- an error of this kind is a text to show, and no mistake
-abbrev pub is_shown : ErrorKind → Bool
-is_shown kind.DisplayHelp = true
-is_shown kind.DisplayVersion = true
-is_shown other = false
-
--- the words may ask for such a text
-abbrev pub asks_for_help : List Text → Bool
-asks_for_help words = list_any is_shown (fault_of command_line words)

@@ -3,8 +3,9 @@ use Rattle.std.proofs.Common.{◌≡◌, refl, [], ◌∷◌, Some, true, codes}
 use Rattle.clap.specs.Words.{fault_of, is_simple_and_free}
 use Rattle.clap.proofs.OnLiterals.{clap_on_literals}
 use Rattle.clap.specs.declared.error.kind.ErrorKind.TheVariants as kind
-use Rattle.cilk.specs.declared.task.Task.TheVariants as task
-use Rattle.cilk.specs.CommandLine.{asked, asks_for_help, command_line}
+use Rattle.cilk_words.specs.declared.request.Task.TheVariants as task
+use Rattle.cilk_words.specs.CommandLine.{asked, command_line}
+use Rattle.cilk_words.specs.Refusing.{asks_for_help, asks_to_show}
 
 is_simple : is_simple_and_free command_line ≡ true
 unfolding clap_on_literals
@@ -38,9 +39,25 @@ wants_a_text : fault_of command_line (codes "cilk" ∷ codes "print" ∷ []) ≡
 unfolding clap_on_literals
 wants_a_text = refl
 
-is_help : asks_for_help (codes "cilk" ∷ codes "run" ∷ codes "--help" ∷ []) ≡ true
+is_help : fault_of command_line (codes "cilk" ∷ codes "--help" ∷ []) ≡ kind.DisplayHelp ∷ []
 unfolding clap_on_literals
 is_help = refl
+
+is_version : fault_of command_line (codes "cilk" ∷ codes "--version" ∷ []) ≡ kind.DisplayVersion ∷ []
+unfolding clap_on_literals
+is_version = refl
+
+is_help_of_run : asks_to_show (codes "cilk" ∷ codes "run" ∷ codes "--help" ∷ []) ≡ true
+unfolding clap_on_literals
+is_help_of_run = refl
+
+asks_in_a_word : asks_for_help (codes "cilk" ∷ codes "help" ∷ codes "run" ∷ []) ≡ true
+unfolding clap_on_literals
+asks_in_a_word = refl
+
+has_one_version : fault_of command_line (codes "cilk" ∷ codes "run" ∷ codes "--version" ∷ []) ≡ kind.UnknownArgument ∷ []
+unfolding clap_on_literals
+has_one_version = refl
 
 is_no_subcommand : fault_of command_line (codes "cilk" ∷ codes "frob" ∷ []) ≡ kind.UnknownArgument ∷ kind.InvalidSubcommand ∷ []
 unfolding clap_on_literals

@@ -1,0 +1,3 @@
+mod Requests
+mod Refusals
+mod Rows

@@ -1,0 +1,73 @@
+-- What is asked for, by what was found for a subcommand.
+use Rattle.std.proofs.Common.{◌≡◌, ◌-◌, ◌^◌, ◌<◌, ◌∙◌, arith, refl, sym, ap, ℕ, Bool, true, false, List, Option, Some, None, codes, cond, option_map}
+use Rattle.std.specs.Str.Parse.{IsNumeral, digits_value, without_leading_plus}
+use Rattle.clap.specs.ValueTests.{is_unsigned_in}
+use Rattle.clap.specs.Words.{Row, Text, first_value, one_text, rows_of, subcommand_name_of, subcommand_rows_of}
+use Rattle.clap.specs.declared.builder.value_parser.ValueParser.TheVariants.{Unsigned}
+use Rattle.clap.specs.declared.parser.matches.ArgMatches.{ArgMatches}
+use Rattle.clap.specs.declared.parser.matches.ArgMatches.TheViews.{out-ArgMatches}
+use Rattle.clap.specs.declared.parser.matches.Found.{Found}
+use Rattle.clap.proofs.ValueTestLemmas.{Accepts-accepts, accepts-Accepts}
+use Rattle.clap.proofs.WalkLemmas.{first_value-rows, one_text-rows}
+use Rattle.cilk_words.specs.declared.request.Task.{Task}
+use Rattle.cilk_words.specs.declared.request.Task.TheVariants as task
+use Rattle.cilk_words.specs.CommandLine.{request_for, request_of_any, run_of, task_of}
+
+-- ---- the subcommand that was met
+
+fused : {X Y Z : Type 0} (f : X → Y) (h : Y → Z) (o : Option X) → option_map (λ x. h (f x)) o ≡ option_map h (option_map f o)
+fused f h None = refl
+fused f h (Some x) = refl
+
+both_are : (sub : Option (Text × List Row)) (name : Text) (rows : List Row) → option_map (λ s. s.0) sub ≡ Some name → option_map (λ s. s.1) sub ≡ Some rows
+    → sub ≡ Some (name, rows)
+both_are None name rows named given = cc
+both_are (Some s) name rows named given =
+    let name_is : s.0 ≡ name = cc in
+    let rows_are : s.1 ≡ rows = cc in
+    λ i. Some (name_is i, rows_are i)
+
+-- a task and a name that were found for a subcommand are what is asked for
+pub requests : (m : ArgMatches) (name : Text) (f : Found) (wanted : Option Task) (file : Option Text) → Some name ≡ subcommand_name_of m
+    → Some (rows_of f) ≡ option_map (λ s. s.1) (subcommand_rows_of m) → wanted ≡ task_of name (rows_of f) → file ≡ first_value f (codes "F")
+    → request_for wanted file ≡ request_of_any (subcommand_rows_of m)
+requests m name f wanted file named given task_is file_is =
+    let names : subcommand_name_of m ≡ option_map (λ s. s.0) (subcommand_rows_of m) = fused _ _ (out-ArgMatches m).subcommand in
+    let sub_is = both_are (subcommand_rows_of m) name (rows_of f) (sym names ∙ sym named) (sym given) in
+    rw (sub_is, task_is, file_is, first_value-rows f (codes "F")) refl
+
+-- ---- the limit of a run
+
+abbrev Reads : Text → Type 0
+Reads word = IsNumeral 10 (without_leading_plus word) × (digits_value 10 (without_leading_plus word) < 2 ^ 32)
+
+reads_as : (word : Option Text) (limit : ℕ) → (word ≡ None → Some limit ≡ None)
+    → ((t : Text) → word ≡ Some t → Reads t × (limit ≡ digits_value 10 (without_leading_plus t))) → run_of word ≡ Some (task.Run limit)
+reads_as None limit none value = let bad = none refl in cc
+reads_as (Some t) limit none value =
+    let read = value t refl in
+    let fits : is_unsigned_in 0 (2 ^ 32 - 1) t ≡ true = Accepts-accepts false (Unsigned 0 (2 ^ 32 - 1)) t (read.0.0, omega arith, omega arith, omega arith) in
+    rw (fits, read.1) refl
+
+-- a run with a limit that 32 bits hold has that limit
+pub limit_given : (f : Found) (limit : ℕ) → (one_text f (codes "limit") ≡ None → Some limit ≡ None)
+    → ((t : Text) → one_text f (codes "limit") ≡ Some t → Reads t × (limit ≡ digits_value 10 (without_leading_plus t)))
+    → task_of (codes "run") (rows_of f) ≡ Some (task.Run limit)
+limit_given f limit = rw (← one_text-rows f (codes "limit")) (reads_as (one_text f (codes "limit")) limit)
+
+abbrev run_if : Bool → Text → Option Task
+run_if fits word = option_map (λ limit. task.Run limit) (cond fits (Some (digits_value 10 (without_leading_plus word))) None)
+
+unread : (word : Option Text) → ((t : Text) → word ≡ Some t → Reads t → ⊥) → run_of word ≡ None
+unread None fails = refl
+unread (Some t) fails = go (is_unsigned_in 0 (2 ^ 32 - 1) t) (λ fits.
+    let read = accepts-Accepts false (Unsigned 0 (2 ^ 32 - 1)) t fits in
+    fails t refl (read.0, omega arith))
+  where
+    go : (fits : Bool) → (fits ≡ true → ⊥) → run_if fits t ≡ None
+    go true fails = absurd (fails refl)
+    go false fails = refl
+
+-- and one without asks for nothing
+pub no_limit : (f : Found) → ((t : Text) → one_text f (codes "limit") ≡ Some t → Reads t → ⊥) → task_of (codes "run") (rows_of f) ≡ None
+no_limit f fails = rw (← one_text-rows f (codes "limit")) (unread (one_text f (codes "limit")) fails)

@@ -1,0 +1,16 @@
+use Rattle.std.proofs.Common.{◌≡◌, ◌∙◌, None, Some, refl, sym}
+use Rattle.clap.specs.Words.{found_of}
+use Rattle.cilk_words.proofs.Requests.{requests}
+use Rattle.cilk_words.proofs.asking.requested.Goals as goal
+
+pub returns-in_err-name-2 : goal.returns-in_err-name-2
+returns-in_err-name-2 c =
+    let met = c.in_ok-name in
+    rw (c.from_residual-in_err-name-2.ensures)
+    (requests c.args.matches.now met.name.now (found_of met.found.now) (Some c.in_ok-task.task) None met.ensures.name met.ensures.rows c.in_ok-task.ensures c.in_err-name-2.ensures)
+
+pub returns : goal.returns
+returns c =
+    let met = c.in_ok-name in
+    requests c.args.matches.now met.name.now (found_of met.found.now) (Some c.in_ok-task.task) (Some c.in_ok-name-2.name.now) met.ensures.name met.ensures.rows
+    c.in_ok-task.ensures c.in_ok-name-2.ensures

@@ -1,0 +1,45 @@
+ghost use Rattle.std.specs.Prelude.{◌≡◌, IfErr, IfOk, Some, option_map};
+ghost use Rattle.clap.specs.Words.{found_of, rows_of, subcommand_rows_of};
+ghost use Rattle.cilk_words.specs.CommandLine.{asked, request_of_any, task_of, texts_of};
+ghost use Rattle.cilk_words.specs.Refusing.{Tells};
+
+use crate::arguments::{FILE, LIMIT, parse};
+use crate::refusal::Refusal;
+use crate::request::{Request, Task};
+use clap::ArgMatches;
+use std::alloc::Global;
+
+/// What the words of a command line ask for, the first of which is the program's own name.
+pub fn request_in<'a>(alloc: Global, words: &'a [String]) -> Result<Request<'a>, Refusal>
+    ensures request { IfOk result (λ r. asked (texts_of words.now) ≡ Some (r.task, r.name.now)) }
+    ensures refusal { IfErr result (Tells (texts_of words.now)) }
+{
+    match parse(alloc, words) {
+        Ok(matches) => match requested(&matches) {
+            Some(request) => Ok(request),
+            None => Err(Refusal::Usage(String::new(alloc))),
+        },
+        Err(error) => Err(Refusal::of_error(alloc, &error)),
+    }
+}
+
+fn requested<'a>(matches: &ArgMatches<'a>) -> Option<Request<'a>>
+    ensures { option_map (λ r. (r.task, r.name.now)) result
+        ≡ request_of_any (subcommand_rows_of matches.now) }
+{
+    let (name, found) = matches.subcommand()?;
+    let task = task_named(name, found)?;
+    let name = found.get_str(FILE)?;
+    Some(Request { task, name })
+}
+
+fn task_named(name: &str, found: &ArgMatches<'_>) -> Option<Task>
+    ensures { result ≡ task_of name.now (rows_of (found_of found.now)) }
+{
+    match name {
+        "print" => Some(Task::Print),
+        "check" => Some(Task::Check),
+        "run" => Some(Task::Run(found.get_one(LIMIT)?)),
+        _ => None,
+    }
+}

@@ -1,0 +1,13 @@
+//! What the words of the command line ask for.
+//!
+//! The words of help are in no clause: cases of the built program see them.
+#![tactic(auto)]
+
+mod arguments;
+mod asking;
+mod refusal;
+mod request;
+
+pub use asking::request_in;
+pub use refusal::Refusal;
+pub use request::{Request, Task};

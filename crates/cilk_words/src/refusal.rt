@@ -1,0 +1,38 @@
+use clap::Error;
+use clap::error::ErrorKind;
+use std::alloc::Global;
+
+/// Why there is no program to do something with.
+#[derive(Debug, Drop)]
+pub enum Refusal {
+    /// Help is asked for, which is this text.
+    Help(String),
+    /// The version is asked for, which is this line.
+    Version(String),
+    /// The words are wrong, as this text says.
+    Usage(String),
+    /// Memory has run out.
+    Memory,
+}
+
+impl Refusal {
+    ghost use Rattle.clap.specs.Words.{kind_of};
+    ghost use Rattle.cilk_words.specs.Refusing.{TellsOf};
+
+    /// What is told of an error of the command line.
+    pub(crate) fn of_error(alloc: Global, error: &Error) -> Refusal
+        ensures { TellsOf (kind_of error.now) result }
+    {
+        if error.kind() == ErrorKind::OutOfMemory {
+            return Refusal::Memory;
+        }
+        let Ok(text) = format!(in alloc; "{error}") else {
+            return Refusal::Memory;
+        };
+        match error.kind() {
+            ErrorKind::DisplayHelp => Refusal::Help(text),
+            ErrorKind::DisplayVersion => Refusal::Version(text),
+            _ => Refusal::Usage(text),
+        }
+    }
+}

@@ -1,0 +1,17 @@
+/// What is to be done with one program.
+#[derive(Clone, Copy, Debug, PartialEq, Eq)]
+pub enum Task {
+    /// To print its canonical text.
+    Print,
+    /// To say whether it may be run.
+    Check,
+    /// To run it, for at most so many choices.
+    Run(u32),
+}
+
+/// A task, and the name of the text of the program that it is for.
+#[derive(Clone, Copy, Debug)]
+pub struct Request<'a> {
+    pub task: Task,
+    pub name: &'a str,
+}
