@@ -1,2 +1,0 @@
-mod Requests
-mod Rows

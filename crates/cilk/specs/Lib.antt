@@ -1,2 +1,3 @@
-pub mod CommandLine
+pub mod Ends
+pub mod Source
 pub mod Task

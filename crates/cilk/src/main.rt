@@ -1,30 +1,35 @@
 //! The program `cilk`, which reads Cilk 5.4 programs.
 //!
-//! No clause can promise that a file or a stream works, or that there is memory, so a body of
-//! `run`, `obey`, `run_limited` or `on_file` that always says that one of them failed meets its
-//! contract too, and so does a body of `Task::perform` that gives the text another name. The words
-//! of help are in no clause, so those of `on_file` may be any. Tests see the statuses, the names and
-//! how a help begins.
+//! No clause can promise that a file or a stream works, or that there is memory, so a body that
+//! always says that one of them failed meets its contract too. Nor can one tell which file or stream
+//! is which, nor what words the system gives, nor the words of help. Cases of the built program see
+//! all of these.
 #![tactic(auto)]
 
-mod arguments;
 mod dispatch;
+mod exit;
+mod host;
 mod task;
 #[cfg(test)]
 mod tests;
+mod texts;
 
-use dispatch::{refuse, run};
+use exit::exit_code;
+use host::Host;
 use std::process::ExitCode;
 use std::{env, io};
 
 fn main(rt: HostRuntime) -> ExitCode {
-    let mut out = rt.stdout();
-    let mut err = rt.stderr();
-    let status = match words(&rt) {
-        Ok(words) => run(&rt, words.as_slice(), &mut out, &mut err),
-        Err(error) => refuse(rt.alloc(), &error, &mut out, &mut err),
-    };
-    ExitCode::from(status.code())
+    let words = words(&rt);
+    let texts = Host { rt: &rt };
+    let code = exit_code(
+        rt.alloc(),
+        words,
+        &texts,
+        &mut rt.stdout(),
+        &mut rt.stderr(),
+    );
+    ExitCode::from(code)
 }
 
 fn words(rt: &HostRuntime) -> io::Result<Vec<String>> {

@@ -1,24 +1,27 @@
-use crate::dispatch::run;
-use std::alloc::{AllocError, Global};
-use std::test::Fail;
+use crate::exit::exit_code;
+use crate::host::Host;
+use std::alloc::Global;
 
-fn owned(alloc: Global, list: &[&str]) -> Result<Vec<String>, AllocError> {
+fn owned(rt: &impl Abort, alloc: Global, list: &[&str]) -> Vec<String> {
     let mut words = Vec::new(alloc);
     for word in list {
-        words.push(String::from_str(alloc, word)?)?;
+        let word = String::from_str(alloc, word).expect(rt, "memory");
+        words.push(word).expect(rt, "memory");
     }
-    Ok(words)
+    words
 }
 
 // Each command line, its status, and how its help or its error begins.
 #[test]
-fn answers_command_lines(rt: HostRuntime) -> Result<(), Fail> {
+fn answers_command_lines(rt: HostRuntime) {
     for (list, code, begins) in [
-        (["cilk", "--help"].as_slice(), 0, "Reads"),
-        (["cilk", "-h"].as_slice(), 0, "Reads"),
+        (["cilk", "--help"].as_slice(), 0, "Prints, checks"),
+        (["cilk", "-h"].as_slice(), 0, "Prints, checks"),
+        (["cilk", "--version"].as_slice(), 0, "cilk 0."),
+        (["cilk", "help", "run"].as_slice(), 0, "Runs"),
         (["cilk", "print", "-h"].as_slice(), 0, "Prints"),
         (["cilk", "check", "-h"].as_slice(), 0, "Says"),
-        (["cilk"].as_slice(), 2, "Reads"),
+        (["cilk"].as_slice(), 2, "Prints, checks"),
         (["cilk", "print"].as_slice(), 2, "error: the following"),
         (
             ["cilk", "frob"].as_slice(),
@@ -78,14 +81,13 @@ fn answers_command_lines(rt: HostRuntime) -> Result<(), Fail> {
             "cilk: cannot read /\n",
         ),
     ] {
-        let words = owned(rt.alloc(), list)?;
+        let words = owned(&rt, rt.alloc(), list);
         let mut out = Vec::new(rt.alloc());
         let mut err = Vec::new(rt.alloc());
-        let status = run(&rt, words.as_slice(), &mut out, &mut err);
-        assert_eq!(rt; status.code(), code);
+        let ended = exit_code(rt.alloc(), Ok(words), &Host { rt: &rt }, &mut out, &mut err);
+        assert_eq!(rt; ended, code);
         let (told, silent) = if code == 0 { (out, err) } else { (err, out) };
         assert!(rt; silent.is_empty());
         assert!(rt; told.starts_with(begins.as_bytes()), "at {list:?}");
     }
-    Ok(())
 }
