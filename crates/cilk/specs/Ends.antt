@@ -1,22 +1,22 @@
 -- How the program ends.
-use Rattle.std.specs.Prelude.{◌≡◌, ◌≢◌, ◌⊎◌, ℕ, true, false, List, Option, None, IfSome, IsSomeAnd}
+use Rattle.std.specs.Prelude.{◌≡◌, ◌≢◌, ◌⊎◌, ℕ, true, false, List, Option, None, IfSome}
 use Rattle.std.specs.declared.io.ErrorKind.{ErrorKind}
 use Rattle.std.specs.declared.io.ErrorKind.TheVariants.{OutOfMemory}
 use Rattle.std.specs.Io.KnownBytes.{Appends}
 use Rattle.std.specs.String.{string_bytes}
-use Rattle.cilk_commands.specs.Program.{Declines}
 use Rattle.cilk_commands.specs.Status.{is_answer}
+use Rattle.cilk_commands.specs.Telling.{GivesUp}
 use Rattle.cilk_commands.specs.declared.status.Status.{Status}
 use Rattle.cilk_commands.specs.declared.status.Status.TheVariants as ended
 use Rattle.cilk_words.specs.CommandLine.{asked}
 use Rattle.cilk_words.specs.Refusing.{asks_for_help, asks_for_version, asks_to_show}
 use Rattle.cilk_words.specs.declared.refusal.Refusal.{Refusal}
 use Rattle.cilk_words.specs.declared.refusal.Refusal.TheVariants as refusal
-use Rattle.cilk.specs.Task.{Does}
+use Rattle.cilk.specs.Task.{Begins, Does}
 
 -- what is to be shown was written whole, or the writer failed
 abbrev pub IsShown : List ℕ → Status → Option (List ℕ) → Option (List ℕ) → Type 0
-IsShown text status old new = ((status ≡ ended.Done) × Appends old new text) ⊎ (status ≡ ended.Failed)
+IsShown text status old new = ((status ≡ ended.Done) × Appends old new text) ⊎ (status ≡ ended.CannotWrite)
 
 -- how the program ends where nothing is to be done with a text
 abbrev pub Shows : Refusal → Status → Option (List ℕ) → Option (List ℕ) → Type 0
@@ -30,10 +30,12 @@ abbrev pub without_words : ErrorKind → Status
 without_words OutOfMemory = ended.Memory
 without_words _ = ended.Usage
 
--- what the status tells of the words, of the bytes of the texts that names stand for, and of those that a writer gained
-pub record Ends (words : List (List ℕ)) (held : List ℕ → Option (List ℕ)) (status : Status) (old new : Option (List ℕ)) : Type 0 where
+-- what the status tells of the words, of the bytes of the texts that names stand for, and of those that two writers gained
+pub record Ends (words : List (List ℕ)) (held : List ℕ → Option (List ℕ)) (status : Status) (old new err_old err_new : Option (List ℕ)) : Type 0 where
   pub done : IfSome (asked words) (λ request. is_answer status ≡ true → Does request.0 status (held request.1) old new)
-  pub refused : status ≡ ended.Refused → IsSomeAnd (asked words) (λ request. Declines (held request.1))
+  pub told : IfSome (asked words) (λ request. is_answer status ≡ false → GivesUp request.1 status (held request.1) err_old err_new)
+  pub begun : IfSome (asked words) (λ request. status ≡ ended.CannotWrite → Begins request.0 (held request.1) old new)
+  pub reads : (status ≡ ended.Refused) ⊎ (status ≡ ended.CannotRead) → asked words ≢ None
   pub usage : status ≡ ended.Usage → (asked words ≡ None) × (asks_to_show words ≡ false)
   pub help : asked words ≡ None → is_answer status ≡ true → (status ≡ ended.Done) × ((asks_for_help words ≡ true) ⊎ (asks_for_version words ≡ true))
   pub wrong : asked words ≡ None → asks_for_help words ≡ false → asks_for_version words ≡ false → (status ≡ ended.Usage) ⊎ (status ≡ ended.Memory)

@@ -1,8 +1,8 @@
 -- What each task is to write.
 use Rattle.std.specs.Prelude.{◌≡◌, ℕ, List, Option}
-use Rattle.cilk_commands.specs.Printing.{Prints}
-use Rattle.cilk_commands.specs.Checking.{Passes}
-use Rattle.cilk_commands.specs.Running.{Runs}
+use Rattle.cilk_commands.specs.Printing.{Prints, PrintsFront}
+use Rattle.cilk_commands.specs.Checking.{Passes, PassesFront}
+use Rattle.cilk_commands.specs.Running.{Runs, RunsFront}
 use Rattle.cilk_commands.specs.declared.status.Status.{Status}
 use Rattle.cilk_commands.specs.declared.status.Status.TheVariants.{Done}
 use Rattle.cilk_words.specs.declared.request.Task.{Task}
@@ -13,3 +13,9 @@ abbrev pub Does : Task → Status → Option (List ℕ) → Option (List ℕ) �
 Does task.Print status known old new = (status ≡ Done) × Prints known old new
 Does task.Check status known old new = (status ≡ Done) × Passes known old new
 Does (task.Run limit) status known old new = Runs limit status known old new
+
+-- or it has failed in that, and has gained the first of its bytes
+abbrev pub Begins : Task → Option (List ℕ) → Option (List ℕ) → Option (List ℕ) → Type 0
+Begins task.Print known old new = PrintsFront known old new
+Begins task.Check known old new = PassesFront known old new
+Begins (task.Run limit) known old new = RunsFront limit known old new

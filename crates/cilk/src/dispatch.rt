@@ -1,9 +1,9 @@
-ghost use Rattle.std.specs.Prelude.{◌≡◌, ◌≢◌, true, false};
-ghost use Rattle.cilk_commands.specs.Program.{Declines};
+ghost use Rattle.std.specs.Prelude.{◌≡◌, ◌≢◌, [], true, false};
+ghost use Rattle.cilk_commands.specs.Telling.{GivesUp, Tells};
 ghost use Rattle.cilk_commands.specs.Status.{is_answer};
 ghost use Rattle.cilk_words.specs.CommandLine.{texts_of};
 ghost use Rattle.cilk.specs.Ends.{Ends, IsShown, Shows};
-ghost use Rattle.cilk.specs.Task.{Does};
+ghost use Rattle.cilk.specs.Task.{Begins, Does};
 
 use crate::task::perform;
 use crate::texts::Texts;
@@ -20,9 +20,10 @@ pub fn run<T: Texts, O: Write, E: Write>(
     out: &mut O,
     err: &mut E,
 ) -> Status
-    ensures ends { Ends (texts_of words.now) (T.held texts.now) result (O.contents out.old) (O.contents out.new) }
+    ensures ends { Ends (texts_of words.now) (T.held texts.now) result
+        (O.contents out.old) (O.contents out.new) (E.contents err.old) (E.contents err.new) }
     ensures quiet { is_answer result ≡ true → err.new ≡ err.old }
-    ensures kept { is_answer result ≡ false → result ≢ Status.Failed → out.new ≡ out.old }
+    ensures kept { is_answer result ≡ false → result ≢ Status.CannotWrite → out.new ≡ out.old }
 {
     match request_in(alloc, words) {
         Ok(request) => obey(alloc, &request, texts, out, err),
@@ -39,10 +40,13 @@ fn obey<T: Texts, O: Write, E: Write>(
 ) -> Status
     ensures done { is_answer result ≡ true → Does request.now.task result
         (T.held texts.now request.now.name.now) (O.contents out.old) (O.contents out.new) }
-    ensures refused { result ≡ Status.Refused → Declines (T.held texts.now request.now.name.now) }
+    ensures told { is_answer result ≡ false → GivesUp request.now.name.now result
+        (T.held texts.now request.now.name.now) (E.contents err.old) (E.contents err.new) }
+    ensures begun { result ≡ Status.CannotWrite → Begins request.now.task
+        (T.held texts.now request.now.name.now) (O.contents out.old) (O.contents out.new) }
     ensures usage { result ≢ Status.Usage }
     ensures quiet { is_answer result ≡ true → err.new ≡ err.old }
-    ensures kept { is_answer result ≡ false → result ≢ Status.Failed → out.new ≡ out.old }
+    ensures kept { is_answer result ≡ false → result ≢ Status.CannotWrite → out.new ≡ out.old }
 {
     match texts.open(request.name) {
         Some(mut reader) => perform(alloc, request, &mut reader, out, err),
@@ -53,8 +57,10 @@ fn obey<T: Texts, O: Write, E: Write>(
 // Help and the version go to the output, and what is wrong with the words elsewhere.
 fn tell<O: Write, E: Write>(refusal: &Refusal, out: &mut O, err: &mut E) -> Status
     ensures shows { Shows refusal.now result (O.contents out.old) (O.contents out.new) }
+    ensures memory { refusal.now ≡ Refusal.Memory
+        → Tells [] Failure.Memory (E.contents err.old) (E.contents err.new) }
     ensures quiet { is_answer result ≡ true → err.new ≡ err.old }
-    ensures kept { is_answer result ≡ false → result ≢ Status.Failed → out.new ≡ out.old }
+    ensures kept { is_answer result ≡ false → result ≢ Status.CannotWrite → out.new ≡ out.old }
 {
     match refusal {
         Refusal::Help(text) | Refusal::Version(text) => show(text.as_str(), out, err),

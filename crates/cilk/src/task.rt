@@ -1,7 +1,7 @@
 ghost use Rattle.std.specs.Prelude.{◌≡◌, ◌≢◌, true, false};
 ghost use Rattle.cilk_commands.specs.Status.{is_answer};
-ghost use Rattle.cilk_commands.specs.Program.{Declines};
-ghost use Rattle.cilk.specs.Task.{Does};
+ghost use Rattle.cilk_commands.specs.Telling.{GivesUp};
+ghost use Rattle.cilk.specs.Task.{Begins, Does};
 
 use cilk_commands::{Status, check_text, print_text, run_text};
 use cilk_words::{Request, Task};
@@ -18,11 +18,14 @@ pub fn perform<R: Read, O: Write, E: Write>(
 ) -> Status
     ensures done { is_answer result ≡ true
         → Does request.now.task result (R.remaining reader.old) (O.contents out.old) (O.contents out.new) }
-    ensures refused { result ≡ Status.Refused → Declines (R.remaining reader.old) }
+    ensures told { is_answer result ≡ false → GivesUp request.now.name.now result
+        (R.remaining reader.old) (E.contents err.old) (E.contents err.new) }
+    ensures begun { result ≡ Status.CannotWrite
+        → Begins request.now.task (R.remaining reader.old) (O.contents out.old) (O.contents out.new) }
     ensures usage { result ≢ Status.Usage }
 
     ensures quiet { is_answer result ≡ true → err.new ≡ err.old }
-    ensures kept { is_answer result ≡ false → result ≢ Status.Failed → out.new ≡ out.old }
+    ensures kept { is_answer result ≡ false → result ≢ Status.CannotWrite → out.new ≡ out.old }
 {
     let name = request.name;
     match request.task {
