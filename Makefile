@@ -1,16 +1,21 @@
 # Needs the Rattle kit, whose command `rt` is on the path.
 
-sources := $(shell find crates -name out -prune -o -type f -print)
+sources := $(shell find crates \( -name out -o -name must-fail \) -prune -o -type f -print)
 
-.PHONY: test must_not_compile wrong-bodies budget clean
+.PHONY: test programs must_not_compile wrong-bodies budget clean
 
 # A program is built once it and the crates below it are proved, and only by running it.
 cilk: crates.txt HANDLES $(sources)
-	cd crates/cilk && rt run -- --help
+	tools/prove
+	cd crates/cilk && rt run -- --help >/dev/null
 	cp crates/cilk/out/cilk $@
 
 test: must_not_compile
-	rt ci
+	tools/gate
+
+# Tries ./cilk on the cases of programs/.
+programs: cilk
+	tools/programs ./cilk
 
 must_not_compile:
 	tools/must_not_compile
