@@ -3,6 +3,7 @@ pub mod Fronts
 pub mod Loop
 pub mod Marks
 pub mod Numbers
+pub mod Readings
 pub mod Refusals
 pub mod Runs
 pub mod Same
