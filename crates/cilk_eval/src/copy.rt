@@ -3,7 +3,7 @@
 ghost use Rattle.std.specs.Prelude.{◌≡◌, IfOk};
 
 use crate::code::{Code, CodeNode};
-use crate::memory::Memory;
+use cilk_tree::Memory;
 use std::alloc::Global;
 
 impl Code {

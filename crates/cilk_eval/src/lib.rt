@@ -7,7 +7,6 @@ mod code;
 mod copy;
 mod evaluate;
 mod laws;
-mod memory;
 mod slot;
 mod slots;
 #[cfg(test)]
@@ -16,10 +15,10 @@ mod trap;
 
 pub use area::Area;
 pub use arithmetic::{apply, unary};
+pub use cilk_tree::Memory;
 pub use code::{Code, CodeNode};
 pub use evaluate::eval;
 pub use laws::{quotients_are_rounded, value_is_of_what_is_read};
-pub use memory::Memory;
 pub use slot::Slot;
 pub use slots::Slots;
 pub use trap::Trap;
