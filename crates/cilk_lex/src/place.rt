@@ -1,10 +1,10 @@
-ghost use Rattle.std.specs.Prelude.{◌≡◌, ◌≤◌, ◌<◌, length};
+ghost use Rattle.std.specs.Prelude.{◌≡◌, ◌≤◌, ◌<◌, ◌-◌, ◌^◌, length};
 ghost use Rattle.cilk_lex.specs.Place.{line_of, column_of};
 
 /// The line and the column of a place in a text, in bytes from its beginning. Both count from 1.
 pub fn line_col(text: &str, at: u32) -> (u32, u32)
     requires inside { at ≤ length text.now }
-    requires fits { at < 4294967295 }
+    requires fits { at < 2 ^ 32 - 1 }
     ensures line { result.0 ≡ line_of text.now at }
     ensures column { result.1 ≡ column_of text.now at }
 {

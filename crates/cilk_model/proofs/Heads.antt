@@ -1,5 +1,5 @@
 -- Each live instance has a head.
-use Rattle.std.proofs.Common.{◌≡◌, ◌≢◌, ℕ, ◌+◌, ◌≤◌, nat_lt, ℤ, pos, Bool, true, false, not, cond, List, [], ◌∷◌, ◌++◌, length, Option, Some, None, Result, Ok, Err, refl, sym, ap, subst, ◌∙◌, if◌then◌else◌, arith}
+use Rattle.std.proofs.Common.{◌≡◌, ◌≢◌, ℕ, ◌+◌, ◌-◌, ◌^◌, ◌≤◌, nat_lt, ℤ, pos, Bool, true, false, not, cond, List, [], ◌∷◌, ◌++◌, length, Option, Some, None, Result, Ok, Err, refl, sym, ap, subst, ◌∙◌, if◌then◌else◌, arith}
 use Rattle.std.proofs.lemmas.Bool.{cond_both, and_parts, ltb-true}
 use Rattle.cilk_eval.specs.declared.trap.Trap.{Trap}
 use Rattle.cilk_eval.specs.Value.{Environment, value_of, ◌>>=◌}
@@ -76,7 +76,7 @@ next_closes env (piece (action n act) ∷ (other ∷ items)) head did h first e 
 
 -- each live instance has its closing brace before it, its procedure's own activation goes on, and it has not too many children
 abbrev pub IsReady : Instance → Type 0
-IsReady i = Closes i.top.items × (is_alone i ≡ true) × (i.children ≤ 4294967295)
+IsReady i = Closes i.top.items × (is_alone i ≡ true) × (i.children ≤ 2 ^ 32 - 1)
 
 abbrev pub Ready : Instances → Type 0
 Ready [] = Unit {0}
@@ -129,8 +129,8 @@ module _ (s : State) (p : Path) (all : Ready s.instances) (i : Instance) (ready 
   start_ready : (program : Labelled) (n : ℕ) (taker : Taker Cell) (callee : ℕ) (arguments : List ℤ) → Closes (opened (next true i.top.items))
       → (room : Bool) → has_room s i ≡ room → ReadyAfter (step_by_start program s p i n taker callee arguments room)
   start_ready program n taker callee arguments h true room =
-      let few = ltb-true i.children 4294967295 (and_parts (nat_lt (length s.instances) 65536) (nat_lt i.children 4294967295) room).1 in
-      let more : i.children + 1 ≤ 4294967295 = omega arith in
+      let few = ltb-true i.children (2 ^ 32 - 1) (and_parts (nat_lt (length s.instances) 65536) (nat_lt i.children (2 ^ 32 - 1)) room).1 in
+      let more : i.children + 1 ≤ 2 ^ 32 - 1 = omega arith in
       push_ready (changed p _ s.instances) _ (changed_ready p _ s.instances (λ x k. (h, ready.1, more)) all) (start_closes (body_at program callee), refl, omega arith)
   start_ready program n taker callee arguments h false room = all
 

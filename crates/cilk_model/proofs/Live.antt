@@ -1,5 +1,5 @@
 -- Which instances live after a step.
-use Rattle.std.proofs.Common.{◌≡◌, ℕ, ℤ, ◌+◌, ◌<◌, ◌≤◌, nat_lt, Bool, true, false, not, ◌&&◌, ◌||◌, cond, List, [], ◌∷◌, ◌++◌, length, length-append, Option, Some, None, is_some, Result, Ok, Err, refl, sym, ap, ◌∙◌, if◌then◌else◌, arith, count_by}
+use Rattle.std.proofs.Common.{◌≡◌, ℕ, ℤ, ◌+◌, ◌-◌, ◌^◌, ◌<◌, ◌≤◌, nat_lt, Bool, true, false, not, ◌&&◌, ◌||◌, cond, List, [], ◌∷◌, ◌++◌, length, length-append, Option, Some, None, is_some, Result, Ok, Err, refl, sym, ap, ◌∙◌, if◌then◌else◌, arith, count_by}
 use Rattle.std.specs.Prelude.{option_map}
 use Rattle.std.proofs.lemmas.Bool.{cond_both, and_parts, ltb-true}
 use Rattle.std.proofs.lemmas.List.Sums.{sum_by-cons, sum_by-append, length-filter, count_by-le-length}
@@ -307,7 +307,7 @@ birth_more s p i child live room =
           ∙ live_some parents q (instance_at parents q) (live-changed p (λ _. with_child i) s.instances q ∙ there) _
           ∙ at-changed_other p q (λ _. with_child i) s.instances other);
       size = let same : length parents ≡ length s.instances = length-map s.instances (change p (λ _. with_child i)) in omega (arith, length-append parents (born ∷ []));
-      room = ltb-true (length s.instances) 65536 (and_parts (nat_lt (length s.instances) 65536) (nat_lt i.children 4294967295) room).0;
+      room = ltb-true (length s.instances) 65536 (and_parts (nat_lt (length s.instances) 65536) (nat_lt i.children (2 ^ 32 - 1)) room).0;
     }
 
 -- what is to be shown of a step

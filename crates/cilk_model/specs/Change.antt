@@ -1,5 +1,5 @@
 -- What one step of an instance does to the state.
-use Rattle.std.specs.Prelude.{ℕ, ◌+◌, nat_lt, ℤ, Bool, true, false, not, ◌&&◌, ◌||◌, if◌then◌else◌, List, [], ◌∷◌, ◌++◌, length, map, Option, Some, None, Result, Ok, Err}
+use Rattle.std.specs.Prelude.{ℕ, ◌+◌, ◌-◌, ◌^◌, nat_lt, ℤ, Bool, true, false, not, ◌&&◌, ◌||◌, if◌then◌else◌, List, [], ◌∷◌, ◌++◌, length, map, Option, Some, None, Result, Ok, Err}
 use Rattle.cilk_eval.specs.declared.trap.Trap.{Trap}
 use Rattle.cilk_model.specs.Labelled.{Labelled, Taker, nothing, into, Action, assign, return_with, close, assign_by, null, return_nothing, spawn, sync}
 use Rattle.cilk_model.specs.Items.{Head, head_of, opened, next}
@@ -78,7 +78,7 @@ next_child p i = child_path p (i.children + 1)
 
 -- whether there may be one more child: fewer than 65,536 instances live, and this one has spawned fewer than 4,294,967,295
 abbrev pub has_room : State → Instance → Bool
-has_room s i = nat_lt (length s.instances) 65536 && nat_lt i.children 4294967295
+has_room s i = nat_lt (length s.instances) 65536 && nat_lt i.children (2 ^ 32 - 1)
 
 -- what takes the value of the child of spawn n
 abbrev pub receiver_of : Taker Cell → ℕ → Option Receiver

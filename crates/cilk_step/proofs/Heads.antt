@@ -1,5 +1,5 @@
 -- The plan by which an instance acts, by what its action comes to.
-use Rattle.std.proofs.Common.{◌≡◌, ◌<◌, ◌+◌, ℕ, ℤ, Bool, true, false, not, ◌&&◌, ◌||◌, List, [], length, nat_lt, Option, Some, None, Result, Ok, Err, refl, sym, ap, ◌∙◌, arith}
+use Rattle.std.proofs.Common.{◌≡◌, ◌<◌, ◌+◌, ◌-◌, ◌^◌, ℕ, ℤ, Bool, true, false, not, ◌&&◌, ◌||◌, List, [], length, nat_lt, Option, Some, None, Result, Ok, Err, refl, sym, ap, ◌∙◌, arith}
 use Rattle.std.specs.Prelude.{if◌then◌else◌, IsSome}
 use borrow.Author.Tests.{ltb-true}
 use Rattle.cilk_tree.specs.Tree as tree
@@ -80,7 +80,7 @@ module _ (p : tree.Program) (globals : List ℤ) (ns : List Node) (f : Frame) (s
   returns_with n (Ok z) childless h = record { step = h; childless = childless; path_is = refl }
 
   room_same : has_room ns f.id ≡ change.has_room s i
-  room_same = λ j. nat_lt (r.count j) 65536 && nat_lt (r.children j) 4294967295
+  room_same = λ j. nat_lt (r.count j) 65536 && nat_lt (r.children j) (2 ^ 32 - 1)
 
   -- the step of spawn n, where there is room or not
   abbrev Starts : ℕ → labelled.Taker Cell → ℕ → List ℤ → Bool → Type 0
@@ -91,8 +91,8 @@ module _ (p : tree.Program) (globals : List ℤ) (ns : List Node) (f : Frame) (s
   starts_by n taker taken callee zs o false is receives takes some e h = record { step = h; path_is = refl; copy_is = refl }
   starts_by n taker taken callee zs None true is receives takes some e h = cc
   starts_by n taker taken callee zs (Some to) true is receives takes some e h =
-      let few = (both_true (nat_lt (length (live_ids ns)) 65536) (nat_lt (node_at ns f.id).children 4294967295) is).1 in
-      let below : (node_at ns f.id).children < 4294967295 = ltb-true _ _ few in
+      let few = (both_true (nat_lt (length (live_ids ns)) 65536) (nat_lt (node_at ns f.id).children (2 ^ 32 - 1)) is).1 in
+      let below : (node_at ns f.id).children < 2 ^ 32 - 1 = ltb-true _ _ few in
       record {
         taker = taken;
         callee = callee;

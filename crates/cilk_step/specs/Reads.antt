@@ -1,5 +1,5 @@
 -- What a step reads of a frame, of the tree and of the cells of the top level.
-use Rattle.std.specs.Prelude.{◌≡◌, ◌<◌, ◌+◌, ℕ, ℤ, Bool, true, false, ◌&&◌, ◌||◌, ◌==◌, nat_lt, if◌then◌else◌, ⊤, IsSome, List, [], ◌∷◌, length, Option, None, Result, Ok, Err, slice_get, Vec}
+use Rattle.std.specs.Prelude.{◌≡◌, ◌<◌, ◌+◌, ◌-◌, ◌^◌, ℕ, ℤ, Bool, true, false, ◌&&◌, ◌||◌, ◌==◌, nat_lt, if◌then◌else◌, ⊤, IsSome, List, [], ◌∷◌, length, Option, None, Result, Ok, Err, slice_get, Vec}
 use Rattle.std.specs.List.{All}
 use Rattle.cilk_tree.specs.declared.operator.BinOp.{BinOp}
 use Rattle.cilk_tree.specs.Tree as tree
@@ -60,7 +60,7 @@ waits ns f act = syncs act && has_live_child ns f.id
 
 -- whether there may be one more child: fewer than 65,536 instances live, and this one has spawned fewer than 4,294,967,295
 abbrev pub has_room : List Node → ℕ → Bool
-has_room ns i = nat_lt (length (live_ids ns)) 65536 && nat_lt (node_at ns i).children 4294967295
+has_room ns i = nat_lt (length (live_ids ns)) 65536 && nat_lt (node_at ns i).children (2 ^ 32 - 1)
 
 -- what an action reads and writes is there, a body takes its arguments, and behind an action that goes on there is another
 abbrev pub Fits : tree.Program → Cells → Option ℕ → Action → Type 0
