@@ -65,7 +65,9 @@ pub(crate) fn delivered(
     requires there { frame.now.id < length tree.now }
     requires child { delivery.child < length tree.now }
     requires fits { ReceiverFits (cells_in globals.now tree.now frame.now) delivery.receiver }
-    ensures { IfOk result (λ plan. plan ≡ delivered (cells_in globals.now tree.now frame.now) (name_in tree.now frame.now) (path_at tree.now delivery.child) delivery.value delivery.receiver) }
+    ensures { IfOk result (λ plan. plan
+        ≡ delivered (cells_in globals.now tree.now frame.now) (name_in tree.now frame.now) (path_at tree.now delivery.child)
+        delivery.value delivery.receiver) }
 {
     match delivery.receiver {
         Receiver::Nothing => unreachable!(),

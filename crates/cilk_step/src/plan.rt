@@ -74,7 +74,8 @@ pub fn plan_step(
     frame: &Frame,
 ) -> Result<Plan, Memory>
     requires { CanStep loaded.now globals.now tree.now frame.now }
-    ensures { IfOk result (λ plan. (s : State) (i : Instance) → Ready loaded.now globals.now tree.now frame.now s i → IsPlan loaded.now tree.now frame.now s i plan) }
+    ensures { IfOk result (λ plan. (s : State) (i : Instance) → Ready loaded.now globals.now tree.now frame.now s i
+        → IsPlan loaded.now tree.now frame.now s i plan) }
 {
     let n = frame.node(frame.depth() - 1);
     match loaded.statement(n) {
