@@ -24,6 +24,3 @@ pub use print::print_text;
 pub use program::program_of;
 pub use run::run_text;
 pub use status::Status;
-
-#[cfg(test)]
-mod tests;

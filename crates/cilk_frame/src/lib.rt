@@ -27,8 +27,6 @@ mod awaited;
 mod frame;
 mod id;
 mod laws;
-#[cfg(test)]
-mod tests;
 
 pub use awaited::Await;
 pub use cilk_load::Memory;

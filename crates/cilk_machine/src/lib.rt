@@ -18,8 +18,6 @@ mod refusal;
 mod refusing;
 mod returning;
 mod starting;
-#[cfg(test)]
-mod tests;
 mod writing;
 
 pub use act::Act;

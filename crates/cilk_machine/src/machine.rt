@@ -31,9 +31,6 @@ use cilk_tree::Memory;
 use std::alloc::Global;
 use std::marker::Model;
 
-#[cfg(test)]
-mod tests;
-
 /// A program that runs, moved by one choice at a time.
 #[derive(Drop)]
 pub struct Machine {

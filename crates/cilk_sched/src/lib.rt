@@ -52,8 +52,6 @@
 mod hands;
 mod laws;
 mod place;
-#[cfg(test)]
-mod tests;
 
 pub use cilk_frame::Memory;
 pub use hands::Hands;

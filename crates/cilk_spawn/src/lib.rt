@@ -31,8 +31,6 @@ mod laws;
 mod path;
 mod receiver;
 mod record;
-#[cfg(test)]
-mod tests;
 mod tree;
 
 pub use cilk_frame::{Frame, Id, Memory};

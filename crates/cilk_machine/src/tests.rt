@@ -1,4 +1,0 @@
-mod closing;
-pub(crate) mod moves;
-mod runs;
-pub(crate) mod trees;
