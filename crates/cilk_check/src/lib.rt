@@ -7,8 +7,6 @@ mod first;
 mod laws;
 mod names;
 mod reserved;
-#[cfg(test)]
-mod tests;
 mod uses;
 mod visible;
 mod walk;

@@ -9,8 +9,6 @@ mod evaluate;
 mod laws;
 mod slot;
 mod slots;
-#[cfg(test)]
-mod tests;
 mod trap;
 
 pub use area::Area;

@@ -9,8 +9,6 @@ mod mark;
 mod place;
 mod reading;
 mod spelling;
-#[cfg(test)]
-mod tests;
 mod token;
 
 pub use fault::LexFault;

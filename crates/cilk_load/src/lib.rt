@@ -22,10 +22,6 @@ mod node;
 mod numbering;
 mod tables;
 mod taker;
-#[cfg(test)]
-mod tests;
-#[cfg(test)]
-mod tests_of_spawns;
 mod var;
 mod variables;
 mod vars;

@@ -12,8 +12,6 @@ mod program;
 mod role;
 mod spawn;
 mod statement;
-#[cfg(test)]
-mod tests;
 
 pub use fault::ReadFault;
 pub use program::read;

@@ -17,8 +17,6 @@ mod return_type;
 mod same;
 mod stmt;
 mod taker;
-#[cfg(test)]
-mod tests;
 mod un_op;
 mod word;
 

@@ -1,45 +1,66 @@
+//! The tokens of texts, their places, and what has none.
+
 ghost use Rattle.cilk_lex.specs.Reading.{IsWithin};
 
-use super::*;
+use super::repeated;
+use cilk_lex::{Keyword, Kind, LexFault, Mark, Token, line_col, tokens};
 use std::alloc::Global;
 use std::fmt::Write;
-use std::test::Fail;
+use std::process::Abort;
 
-/// The bytes of a token, cut out of its text.
+// The bytes of a token, cut out of its text.
 fn cut<'a>(text: &'a str, token: &Token) -> &'a str
     requires { IsWithin text.now token.now }
 {
     &text[token.start as usize..token.end as usize]
 }
 
-/// Each token's kind, its place and its bytes.
-fn shown(alloc: Global, text: &str) -> Result<String, LexFault> {
+// Each token's kind, its place and its bytes.
+fn shown(rt: &impl Abort, alloc: Global, text: &str) -> String {
     let mut out = String::new(alloc);
-    let list = tokens(alloc, text)?;
+    let list = tokens(alloc, text).expect(rt, text);
     for token in &list {
         let kind = token.kind;
         let start = token.start;
         let bytes = cut(text, token);
-        write!(out, "{kind:?}@{start}:{bytes} ")?;
+        write!(out, "{kind:?}@{start}:{bytes} ").expect(rt, "memory");
     }
-    Ok(out)
+    out
 }
 
 #[test]
-fn a_program(rt: HostRuntime) -> Result<(), Fail> {
-    let seen = shown(
-        rt.alloc(),
-        "cilk int main(){int a=2,b;\n b=a*(3+4)-5;return b;}",
-    )?;
-    assert_eq!(rt;
-        seen.as_str(),
-        "Word(Cilk)@0:cilk Word(Int)@5:int Name@9:main Mark(OpenParenthesis)@13:( Mark(CloseParenthesis)@14:) Mark(OpenBrace)@15:{ Word(Int)@16:int Name@20:a Mark(Assign)@21:= Number(2)@22:2 Mark(Comma)@23:, Name@24:b Mark(Semicolon)@25:; Name@28:b Mark(Assign)@29:= Name@30:a Mark(Star)@31:* Mark(OpenParenthesis)@32:( Number(3)@33:3 Mark(Plus)@34:+ Number(4)@35:4 Mark(CloseParenthesis)@36:) Mark(Minus)@37:- Number(5)@38:5 Mark(Semicolon)@39:; Word(Return)@40:return Name@47:b Mark(Semicolon)@48:; Mark(CloseBrace)@49:} "
-    );
-    Ok(())
+fn tokens_at_their_places(rt: HostRuntime) {
+    for (text, list) in [
+        (
+            "cilk int main(){int a=2,b;\n b=a*(3+4)-5;return b;}",
+            "Word(Cilk)@0:cilk Word(Int)@5:int Name@9:main Mark(OpenParenthesis)@13:( Mark(CloseParenthesis)@14:) Mark(OpenBrace)@15:{ Word(Int)@16:int Name@20:a Mark(Assign)@21:= Number(2)@22:2 Mark(Comma)@23:, Name@24:b Mark(Semicolon)@25:; Name@28:b Mark(Assign)@29:= Name@30:a Mark(Star)@31:* Mark(OpenParenthesis)@32:( Number(3)@33:3 Mark(Plus)@34:+ Number(4)@35:4 Mark(CloseParenthesis)@36:) Mark(Minus)@37:- Number(5)@38:5 Mark(Semicolon)@39:; Word(Return)@40:return Name@47:b Mark(Semicolon)@48:; Mark(CloseBrace)@49:} ",
+        ),
+        (
+            "intx _ a1_B Int",
+            "Name@0:intx Name@5:_ Name@7:a1_B Name@12:Int ",
+        ),
+        (
+            "<<<=>>>=--1",
+            "Mark(ShiftLeft)@0:<< Mark(LessOrEqual)@2:<= Mark(ShiftRight)@4:>> Mark(GreaterOrEqual)@6:>= Mark(Decrement)@8:-- Number(1)@10:1 ",
+        ),
+        (
+            "a+++b&&&c!==d",
+            "Name@0:a Mark(Increment)@1:++ Mark(Plus)@3:+ Name@4:b Mark(And)@5:&& Mark(Ampersand)@7:& Name@8:c Mark(NotEqual)@9:!= Mark(Assign)@11:= Name@12:d ",
+        ),
+        // The last byte of the text.
+        ("x<", "Name@0:x Mark(Less)@1:< "),
+        (
+            "2147483647 0",
+            "Number(2147483647)@0:2147483647 Number(0)@11:0 ",
+        ),
+    ] {
+        let seen = shown(&rt, rt.alloc(), text);
+        assert_eq!(rt; seen.as_str(), list);
+    }
 }
 
 #[test]
-fn words_and_names(rt: HostRuntime) -> Result<(), Fail> {
+fn words(rt: HostRuntime) {
     let words =
         "int void if else while do for break continue return cilk spawn sync inlet abort SYNCHED Cilk_lockvar";
     let kinds = [
@@ -61,21 +82,15 @@ fn words_and_names(rt: HostRuntime) -> Result<(), Fail> {
         Keyword::Synched,
         Keyword::CilkLockvar,
     ];
-    let list = tokens(rt.alloc(), words)?;
+    let list = tokens(rt.alloc(), words).expect(&rt, words);
     assert_eq!(rt; list.len(), kinds.len());
     for (token, word) in list.iter().zip(&kinds) {
         assert_eq!(rt; token.kind, Kind::Word(*word));
     }
-    let seen = shown(rt.alloc(), "intx _ a1_B Int")?;
-    assert_eq!(rt;
-        seen.as_str(),
-        "Name@0:intx Name@5:_ Name@7:a1_B Name@12:Int "
-    );
-    Ok(())
 }
 
 #[test]
-fn marks(rt: HostRuntime) -> Result<(), Fail> {
+fn marks(rt: HostRuntime) {
     let marks =
         "<<= >>= += -= *= /= %= &= ^= |= == != <= >= && || << >> ++ -- ( ) { } [ ] ; , ? : + - * / % & | ^ ~ ! < > =";
     let kinds = [
@@ -123,35 +138,15 @@ fn marks(rt: HostRuntime) -> Result<(), Fail> {
         Mark::Greater,
         Mark::Assign,
     ];
-    let list = tokens(rt.alloc(), marks)?;
+    let list = tokens(rt.alloc(), marks).expect(&rt, marks);
     assert_eq!(rt; list.len(), kinds.len());
     for (token, mark) in list.iter().zip(&kinds) {
         assert_eq!(rt; token.kind, Kind::Mark(*mark));
     }
-    Ok(())
 }
 
 #[test]
-fn longest_marks(rt: HostRuntime) -> Result<(), Fail> {
-    let seen = shown(rt.alloc(), "<<<=>>>=--1")?;
-    assert_eq!(rt;
-        seen.as_str(),
-        "Mark(ShiftLeft)@0:<< Mark(LessOrEqual)@2:<= Mark(ShiftRight)@4:>> Mark(GreaterOrEqual)@6:>= Mark(Decrement)@8:-- Number(1)@10:1 "
-    );
-    let seen = shown(rt.alloc(), "a+++b&&&c!==d")?;
-    assert_eq!(rt;
-        seen.as_str(),
-        "Name@0:a Mark(Increment)@1:++ Mark(Plus)@3:+ Name@4:b Mark(And)@5:&& Mark(Ampersand)@7:& Name@8:c Mark(NotEqual)@9:!= Mark(Assign)@11:= Name@12:d "
-    );
-    // The last byte of the text, and a byte past ASCII right behind a mark.
-    let seen = shown(rt.alloc(), "x<")?;
-    assert_eq!(rt; seen.as_str(), "Name@0:x Mark(Less)@1:< ");
-    assert_eq!(rt; tokens(rt.alloc(), "<é").err(), Some(LexFault::BadByte(1)));
-    Ok(())
-}
-
-#[test]
-fn faults(rt: HostRuntime) -> Result<(), Fail> {
+fn texts_without_tokens(rt: HostRuntime) {
     for (text, fault) in [
         ("int @", LexFault::BadByte(4)),
         ("08", LexFault::BadNumber(0)),
@@ -159,32 +154,25 @@ fn faults(rt: HostRuntime) -> Result<(), Fail> {
         (" 0x1F", LexFault::BadNumber(1)),
         ("a=1.5;@", LexFault::BadNumber(2)),
         ("é", LexFault::BadByte(0)),
+        // A byte past ASCII right behind a mark.
+        ("<é", LexFault::BadByte(1)),
     ] {
-        assert_eq!(rt; tokens(rt.alloc(), text).err(), Some(fault));
+        assert_eq!(rt; tokens(rt.alloc(), text).err(), Some(fault), "at {text:?}");
     }
     assert_eq!(rt; LexFault::BadNumber(7).place(), 7);
     assert_eq!(rt; LexFault::TooLong.place(), 0);
-    let seen = shown(rt.alloc(), "2147483647 0")?;
-    assert_eq!(rt;
-        seen.as_str(),
-        "Number(2147483647)@0:2147483647 Number(0)@11:0 "
-    );
-    Ok(())
 }
 
 #[test]
-fn longest(rt: HostRuntime) -> Result<(), Fail> {
-    let mut text = String::with_capacity(rt.alloc(), 1_048_577)?;
-    for _ in 0..1_048_576 {
-        text.push(' ')?;
-    }
-    assert_eq!(rt; tokens(rt.alloc(), text.as_str())?.len(), 0);
-    text.push('@')?;
+fn longest_text(rt: HostRuntime) {
+    let text = repeated(&rt, rt.alloc(), "", " ", 1_048_576, "");
+    let list = tokens(rt.alloc(), text.as_str()).expect(&rt, "too long");
+    assert_eq!(rt; list.len(), 0);
+    let text = repeated(&rt, rt.alloc(), "", " ", 1_048_576, "@");
     assert_eq!(rt;
         tokens(rt.alloc(), text.as_str()).err(),
         Some(LexFault::TooLong)
     );
-    Ok(())
 }
 
 #[test]
