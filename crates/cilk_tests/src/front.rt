@@ -6,7 +6,6 @@ mod limits;
 mod names;
 mod printing;
 mod same;
-mod spawning;
 mod tables;
 mod tables_of_spawns;
 mod tokens;
@@ -56,4 +55,21 @@ fn repeated(
     append(rt, &mut text, part, count);
     append(rt, &mut text, end, 1);
     text
+}
+
+// `begin`, a text without its mark, and `end`; and where the mark stood.
+fn spelled(
+    rt: &impl Abort,
+    alloc: Global,
+    begin: &str,
+    marked: &str,
+    end: &str,
+) -> (String, usize) {
+    let (before, behind) = marked.split_once('¶').unwrap_or((marked, ""));
+    let mut text = string(rt, alloc, begin);
+    append(rt, &mut text, before, 1);
+    let at = text.len();
+    append(rt, &mut text, behind, 1);
+    append(rt, &mut text, end, 1);
+    (text, at)
 }

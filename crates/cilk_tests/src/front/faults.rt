@@ -1,138 +1,115 @@
-//! The first fault of a text that is no program.
+//! The first fault of a text that is no program. In the tables a `¶` stands where the fault is.
 
-use super::string;
-use cilk_lex::LexFault;
+use super::{spelled, string};
 use cilk_parse::{ReadFault, read};
 use std::alloc::Global;
+
+const OF_PROCEDURES: &str = "P2 Unexpected: cilk int main(void) { return f¶(3); }
+P2 Unexpected: cilk int main(void) {¶
+P2 Unexpected: cilk int main(void) { return ¶--1; }
+P2 Unexpected: cilk int main(void) { return a+¶; }
+P2 Unexpected: cilk int main(void) { return a¶!b; }
+P2 Unexpected: cilk int main(void) { return ¶*a; }
+P2 Unexpected: cilk int main(void) { return a?b¶; }
+P2 Unexpected: cilk int main(void) { return a¶:b; }
+P2 Unexpected: cilk int main(void) { } ¶}
+P2 Unexpected: cilk int main(void) { } cilk ¶main(void) { }
+P2 Unexpected: cilk int f(int a ¶b) { }
+P2 Unexpected: cilk int f(int¶) { }
+P2 Unexpected: cilk int f(void¶, int a) { }
+P2 Unexpected: cilk int f(int a,¶) { }
+P2 Unexpected: cilk ¶f(void) { }
+P2 Unexpected: cilk void f(void) { return ¶}
+P2 Unexpected: ¶void
+P2 Unexpected: cilk int main(void) { a = 1; ¶int b; }
+P2 Unexpected: cilk int ¶if(void) { }
+P2 Unexpected: cilk int main(void) { x ¶+ = 1; }
+P2 Unexpected: cilk int main(void) { x ¶<= 1; }
+P2 Unexpected: cilk int main(void) { x++¶+; }
+P2 Unexpected: cilk int main(void) { ++ ¶++x; }
+P2 Unexpected: cilk int main(void) { ++x¶++; }
+P2 Unexpected: cilk int main(void) { ++x ¶= 1; }
+P2 Unexpected: cilk int main(void) { ¶-x; }
+P2 Unexpected: cilk int main(void) { ¶+= 1; }
+P2 Unexpected: cilk int main(void) { ; ¶int a; }
+L5 BadNumber: cilk int main(void) { return ¶010; }
+L2 BadByte: int int ¶@";
+
+const OF_GLOBALS: &str = "P2 Unexpected: int¶
+P2 Unexpected: int ¶;
+P2 Unexpected: int ¶if;
+P2 Unexpected: int ¶5;
+P2 Unexpected: int g¶
+P2 Unexpected: int g ¶h;
+P2 Unexpected: int g ¶+= 1;
+P2 Unexpected: int g¶(void);
+P2 Unexpected: int g = ¶;
+P2 Unexpected: int g = ¶+1;
+P2 Unexpected: int g = ¶--1;
+P2 Unexpected: int g = - ¶-1;
+P2 Unexpected: int g = ¶h;
+P2 Unexpected: int g = ¶(1);
+P2 Unexpected: int g = 1 ¶+ 2;
+P2 Unexpected: int g = 1 ¶cilk
+P2 Unexpected: int g = ¶spawn f();
+P2 Unexpected: int g, ¶;
+P2 Unexpected: int g, ¶int h;
+P2 Unexpected: int g; ¶h
+P2 Unexpected: int g;¶;
+P2 Unexpected: ¶void g;
+P2 Unexpected: cilk int g¶;
+L5 BadNumber: int g = ¶2147483648;";
+
+const OF_SPAWNS: &str = "P2 Unexpected: cilk int main(void) { spawn¶; }
+P2 Unexpected: cilk int main(void) { spawn f¶; }
+P2 Unexpected: cilk int main(void) { x = spawn f¶; }
+P2 Unexpected: cilk int main(void) { x = spawn¶; }
+P2 Unexpected: cilk int main(void) { spawn ¶spawn f(); }
+P2 Unexpected: cilk int main(void) { spawn ¶(f)(); }
+P2 Unexpected: cilk int main(void) { spawn x ¶= f(); }
+P2 Unexpected: cilk int main(void) { spawn f(1,¶); }
+P2 Unexpected: cilk int main(void) { spawn f(¶,1); }
+P2 Unexpected: cilk int main(void) { spawn f(1 ¶2); }
+P2 Unexpected: cilk int main(void) { spawn f(1¶; }
+P2 Unexpected: cilk int main(void) { spawn f(¶void); }
+P2 Unexpected: cilk int main(void) { spawn f(¶int a); }
+P2 Unexpected: cilk int main(void) { spawn f(¶spawn f()); }
+P2 Unexpected: cilk int main(void) { spawn f()¶(); }
+P2 Unexpected: cilk int main(void) { spawn f() ¶}
+P2 Unexpected: cilk int main(void) { spawn f() ¶+ 1; }
+P2 Unexpected: cilk int main(void) { x = 1 + ¶spawn f(); }
+P2 Unexpected: cilk int main(void) { x = (¶spawn f()); }
+P2 Unexpected: cilk int main(void) { x = y ¶= spawn f(); }
+P2 Unexpected: cilk int main(void) { x++ ¶= spawn f(); }
+P2 Unexpected: cilk int main(void) { ++ ¶spawn f(); }
+P2 Unexpected: cilk int main(void) { x ¶== spawn f(); }
+P2 Unexpected: cilk int main(void) { int x = ¶spawn f(); }
+P2 Unexpected: cilk int main(void) { return ¶spawn f(); }
+P2 Unexpected: cilk int main(void) { spawn f(); ¶int x; }
+P2 Unexpected: cilk int main(void) { f¶(); }
+P2 Unexpected: cilk int main(void) { sync ¶}
+P2 Unexpected: cilk int main(void) { sync¶(); }
+P2 Unexpected: cilk int main(void) { sync ¶= 1; }
+P2 Unexpected: cilk int main(void) { x = ¶sync; }
+P2 Unexpected: cilk int main(void) { spawn ¶sync; }
+P2 Unexpected: ¶spawn f();
+P2 Unexpected: ¶sync;";
 
 fn first_fault(alloc: Global, text: &str) -> Option<ReadFault> {
     read(alloc, text).err()
 }
 
 #[test]
-fn in_procedures(rt: HostRuntime) {
-    for (text, at) in [
-        ("cilk int main(void) { return f(3); }", 30),
-        ("cilk int main(void) {", 21),
-        ("cilk int main(void) { return --1; }", 29),
-        ("cilk int main(void) { return a+; }", 31),
-        ("cilk int main(void) { return a!b; }", 30),
-        ("cilk int main(void) { return *a; }", 29),
-        ("cilk int main(void) { return a?b; }", 32),
-        ("cilk int main(void) { return a:b; }", 30),
-        ("cilk int main(void) { } }", 24),
-        ("cilk int main(void) { } cilk main(void) { }", 29),
-        ("cilk int f(int a b) { }", 17),
-        ("cilk int f(int) { }", 14),
-        ("cilk int f(void, int a) { }", 15),
-        ("cilk int f(int a,) { }", 17),
-        ("cilk f(void) { }", 5),
-        ("cilk void f(void) { return }", 27),
-        ("void", 0),
-        ("cilk int main(void) { a = 1; int b; }", 29),
-        ("cilk int if(void) { }", 9),
-        ("cilk int main(void) { x + = 1; }", 24),
-        ("cilk int main(void) { x <= 1; }", 24),
-        ("cilk int main(void) { x+++; }", 25),
-        ("cilk int main(void) { ++ ++x; }", 25),
-        ("cilk int main(void) { ++x++; }", 25),
-        ("cilk int main(void) { ++x = 1; }", 26),
-        ("cilk int main(void) { -x; }", 22),
-        ("cilk int main(void) { += 1; }", 22),
-        ("cilk int main(void) { ; int a; }", 24),
-    ] {
-        let fault = first_fault(rt.alloc(), text);
-        assert_eq!(rt; fault, Some(ReadFault::Unexpected(at)), "at {text:?}");
-    }
-}
-
-#[test]
-fn in_globals(rt: HostRuntime) {
-    for (text, at) in [
-        ("int", 3),
-        ("int ;", 4),
-        ("int if;", 4),
-        ("int 5;", 4),
-        ("int g", 5),
-        ("int g h;", 6),
-        ("int g += 1;", 6),
-        ("int g(void);", 5),
-        ("int g = ;", 8),
-        ("int g = +1;", 8),
-        ("int g = --1;", 8),
-        ("int g = - -1;", 10),
-        ("int g = h;", 8),
-        ("int g = (1);", 8),
-        ("int g = 1 + 2;", 10),
-        ("int g = 1 cilk", 10),
-        ("int g = spawn f();", 8),
-        ("int g, ;", 7),
-        ("int g, int h;", 7),
-        ("int g; h", 7),
-        ("int g;;", 6),
-        ("void g;", 0),
-        ("cilk int g;", 10),
-    ] {
-        let fault = first_fault(rt.alloc(), text);
-        assert_eq!(rt; fault, Some(ReadFault::Unexpected(at)), "at {text:?}");
-    }
-}
-
-#[test]
-fn in_spawns(rt: HostRuntime) {
-    for (text, at) in [
-        ("cilk int main(void) { spawn; }", 27),
-        ("cilk int main(void) { spawn f; }", 29),
-        ("cilk int main(void) { x = spawn f; }", 33),
-        ("cilk int main(void) { x = spawn; }", 31),
-        ("cilk int main(void) { spawn spawn f(); }", 28),
-        ("cilk int main(void) { spawn (f)(); }", 28),
-        ("cilk int main(void) { spawn x = f(); }", 30),
-        ("cilk int main(void) { spawn f(1,); }", 32),
-        ("cilk int main(void) { spawn f(,1); }", 30),
-        ("cilk int main(void) { spawn f(1 2); }", 32),
-        ("cilk int main(void) { spawn f(1; }", 31),
-        ("cilk int main(void) { spawn f(void); }", 30),
-        ("cilk int main(void) { spawn f(int a); }", 30),
-        ("cilk int main(void) { spawn f(spawn f()); }", 30),
-        ("cilk int main(void) { spawn f()(); }", 31),
-        ("cilk int main(void) { spawn f() }", 32),
-        ("cilk int main(void) { spawn f() + 1; }", 32),
-        ("cilk int main(void) { x = 1 + spawn f(); }", 30),
-        ("cilk int main(void) { x = (spawn f()); }", 27),
-        ("cilk int main(void) { x = y = spawn f(); }", 28),
-        ("cilk int main(void) { x++ = spawn f(); }", 26),
-        ("cilk int main(void) { ++ spawn f(); }", 25),
-        ("cilk int main(void) { x == spawn f(); }", 24),
-        ("cilk int main(void) { int x = spawn f(); }", 30),
-        ("cilk int main(void) { return spawn f(); }", 29),
-        ("cilk int main(void) { spawn f(); int x; }", 33),
-        ("cilk int main(void) { f(); }", 23),
-        ("cilk int main(void) { sync }", 27),
-        ("cilk int main(void) { sync(); }", 26),
-        ("cilk int main(void) { sync = 1; }", 27),
-        ("cilk int main(void) { x = sync; }", 26),
-        ("cilk int main(void) { spawn sync; }", 28),
-        ("spawn f();", 0),
-        ("sync;", 0),
-    ] {
-        let fault = first_fault(rt.alloc(), text);
-        assert_eq!(rt; fault, Some(ReadFault::Unexpected(at)), "at {text:?}");
-    }
-}
-
-#[test]
-fn in_tokens(rt: HostRuntime) {
-    for (text, fault) in [
-        (
-            "cilk int main(void) { return 010; }",
-            LexFault::BadNumber(29),
-        ),
-        ("int int @", LexFault::BadByte(8)),
-        ("int g = 2147483648;", LexFault::BadNumber(8)),
-    ] {
-        let seen = first_fault(rt.alloc(), text);
-        assert_eq!(rt; seen, Some(ReadFault::Lex(fault)), "at {text:?}");
+fn each_fault_at_its_place(rt: HostRuntime) {
+    for table in [OF_PROCEDURES, OF_GLOBALS, OF_SPAWNS] {
+        for line in table.lines() {
+            let (words, marked) = line.split_once(": ").expect(&rt, line);
+            let (text, at) = spelled(&rt, rt.alloc(), "", marked, "");
+            let fault = first_fault(rt.alloc(), text.as_str()).expect(&rt, line);
+            let seen = fault.to_string(rt.alloc()).expect(&rt, "memory");
+            assert_eq!(rt; seen.as_str(), words, "{line}");
+            assert_eq!(rt; fault.place() as usize, at, "{line}");
+        }
     }
 }
 

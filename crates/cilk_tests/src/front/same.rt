@@ -1,82 +1,52 @@
 //! Programs that are the same, places aside, and such that are not.
 
 use super::program;
+use std::alloc::Global;
+use std::process::Abort;
 
-#[test]
-fn same_programs(rt: HostRuntime) {
-    for (text, other) in [
-        (
-            "cilk int main(){int a=2,b;b=a*(3+4)-5;return b;}",
-            "       cilk int main(){int a=2,b;b=a*(3+4)-5;return b;}",
-        ),
-        (
-            "cilk int main(){int a=2,b;b=a*(3+4)-5;return b;}",
-            "cilk int main(void) {\n    int a = 2;\n    int b;\n    b = (a * (3 + 4)) - 5;\n    return b;\n}\n",
-        ),
-        ("cilk int f(){x++;}", "cilk int f(){  x++;}"),
-        ("cilk int f(){++x;}", "cilk int f(){x++;}"),
-        ("cilk int f(){x+=1;}", "cilk int f(){x+=1;}"),
-        (
-            "cilk void f(int a, int b) { return; }",
-            "cilk void f(int a,                  int b) { return; }",
-        ),
-        ("int g=5;", "     int g=5;"),
-        (
-            "cilk int f(){spawn f(7,1+2);}",
-            "cilk int f(){spawn f(7,1+2);}",
-        ),
-        ("cilk int f(){sync;}", "cilk int f(){      sync;}"),
-        (
-            "cilk int f(){x=spawn f();}",
-            "cilk int f(){  x=  spawn f();}",
-        ),
-        (
-            "cilk void f() { ; spawn f(); sync; }",
-            "cilk void f() { ;  spawn f ( ) ; sync ; }",
-        ),
-    ] {
-        let program = program(&rt, rt.alloc(), text);
-        let other = super::program(&rt, rt.alloc(), other);
-        assert!(rt; program.same(&other), "{text:?}");
-        assert!(rt; other.same(&program), "{text:?}");
-    }
+const SAME: &str =
+    "cilk int main(){int a=2,b;b=a*(3+4)-5;return b;} and        cilk int main(){int a=2,b;b=a*(3+4)-5;return b;}
+cilk int main(){int a=2,b;b=a*(3+4)-5;return b;} and cilk int main(void) {     int a = 2;     int b;     b = (a * (3 + 4)) - 5;     return b; } 
+cilk int f(){x++;} and cilk int f(){  x++;}
+cilk int f(){++x;} and cilk int f(){x++;}
+cilk int f(){x+=1;} and cilk int f(){x+=1;}
+cilk void f(int a, int b) { return; } and cilk void f(int a,                  int b) { return; }
+int g=5; and      int g=5;
+cilk int f(){spawn f(7,1+2);} and cilk int f(){spawn f(7,1+2);}
+cilk int f(){sync;} and cilk int f(){      sync;}
+cilk int f(){x=spawn f();} and cilk int f(){  x=  spawn f();}
+cilk void f() { ; spawn f(); sync; } and cilk void f() { ;  spawn f ( ) ; sync ; }";
+
+const OTHER: &str =
+    "cilk int main(){int a=2,b;b=a*(3+4)-5;return b;} and cilk int main(){int a=2,b;b=a/(3+4)-5;return b;}
+cilk int f(){x++;} and cilk int f(){x--;}
+cilk int f(){x++;} and cilk int f(){x+=1;}
+cilk int f(){x++;} and cilk int f(){;}
+cilk int f(){x+=1;} and cilk int f(){x-=1;}
+cilk void f(int a,int b){return;} and cilk void f(int a,int c){return;}
+cilk void f(int a,int b){return;} and cilk int f(int a,int b){return;}
+int g=5; and int h=5;
+int g=5; and int g=-5;
+int g=5; and int g;
+int g; and int g=0;
+cilk int f(){spawn f(7,1+2);} and cilk int f(){spawn g(7,1+2);}
+cilk int f(){spawn f(7,1+2);} and cilk int f(){spawn f();}
+cilk int f(){spawn f(7,1+2);} and cilk int f(){sync;}
+cilk int f(){x=spawn f();} and cilk int f(){x+=spawn f();}
+cilk int f(){x=spawn f();} and cilk int f(){spawn f();}";
+
+fn is_same(rt: &impl Abort, alloc: Global, text: &str, other: &str) -> bool {
+    let program = program(rt, alloc, text);
+    program.same(&super::program(rt, alloc, other))
 }
 
 #[test]
-fn other_programs(rt: HostRuntime) {
-    for (text, other) in [
-        (
-            "cilk int main(){int a=2,b;b=a*(3+4)-5;return b;}",
-            "cilk int main(){int a=2,b;b=a/(3+4)-5;return b;}",
-        ),
-        ("cilk int f(){x++;}", "cilk int f(){x--;}"),
-        ("cilk int f(){x++;}", "cilk int f(){x+=1;}"),
-        ("cilk int f(){x++;}", "cilk int f(){;}"),
-        ("cilk int f(){x+=1;}", "cilk int f(){x-=1;}"),
-        (
-            "cilk void f(int a,int b){return;}",
-            "cilk void f(int a,int c){return;}",
-        ),
-        (
-            "cilk void f(int a,int b){return;}",
-            "cilk int f(int a,int b){return;}",
-        ),
-        ("int g=5;", "int h=5;"),
-        ("int g=5;", "int g=-5;"),
-        ("int g=5;", "int g;"),
-        ("int g;", "int g=0;"),
-        (
-            "cilk int f(){spawn f(7,1+2);}",
-            "cilk int f(){spawn g(7,1+2);}",
-        ),
-        ("cilk int f(){spawn f(7,1+2);}", "cilk int f(){spawn f();}"),
-        ("cilk int f(){spawn f(7,1+2);}", "cilk int f(){sync;}"),
-        ("cilk int f(){x=spawn f();}", "cilk int f(){x+=spawn f();}"),
-        ("cilk int f(){x=spawn f();}", "cilk int f(){spawn f();}"),
-    ] {
-        let program = program(&rt, rt.alloc(), text);
-        let other = super::program(&rt, rt.alloc(), other);
-        assert!(rt; !program.same(&other), "{text:?}");
-        assert!(rt; !other.same(&program), "{text:?}");
+fn same_programs_and_others(rt: HostRuntime) {
+    for (table, same) in [(SAME, true), (OTHER, false)] {
+        for line in table.lines() {
+            let (text, other) = line.split_once(" and ").expect(&rt, line);
+            assert_eq!(rt; is_same(&rt, rt.alloc(), text, other), same, "{line}");
+            assert_eq!(rt; is_same(&rt, rt.alloc(), other, text), same, "{line}");
+        }
     }
 }

@@ -15,30 +15,34 @@ pub(crate) fn body<'a>(rt: &impl Abort, loaded: &'a Loaded, b: u32) -> &'a Body 
     loaded.body(b).expect(rt, "no such body")
 }
 
+// An operand that is a number, or a variable with its offset.
+type Operand = Result<u32, u32>;
+
+// The leftmost operand of an expression.
+fn leftmost(code: &Code) -> Option<Operand> {
+    match &code.node {
+        CodeNode::Number(n) => Some(Ok(*n)),
+        CodeNode::Variable(slot) => Some(Err(slot.offset)),
+        CodeNode::Binary(_, left, _) => leftmost(left),
+        _ => None,
+    }
+}
+
 // What an action does: the offset of the slot that it writes, and the value that begins it.
 fn told(action: &Action) -> (Option<u32>, Option<Operand>) {
     match action {
-        Action::Assign(slot, value) => (Some(slot.offset), Some(leftmost(value))),
-        Action::Return(value) => (None, Some(leftmost(value))),
-        Action::AssignBy(_, slot, value) => (Some(slot.offset), Some(leftmost(value))),
+        Action::Assign(slot, value) => (Some(slot.offset), leftmost(value)),
+        Action::Return(value) => (None, leftmost(value)),
+        Action::AssignBy(_, slot, value) => (Some(slot.offset), leftmost(value)),
         _ => (None, None),
     }
 }
 
-// The leftmost operand of an expression.
-#[derive(Clone, Copy, Debug, PartialEq, Eq)]
-enum Operand {
-    Number(u32),
-    Offset(u32),
-    Other,
-}
-
-fn leftmost(code: &Code) -> Operand {
-    match &code.node {
-        CodeNode::Number(n) => Operand::Number(*n),
-        CodeNode::Variable(slot) => Operand::Offset(slot.offset),
-        CodeNode::Binary(_, left, _) => leftmost(left),
-        _ => Operand::Other,
+// The operator of a change.
+fn operator(action: &Action) -> Option<BinOp> {
+    match action {
+        Action::AssignBy(op, _, _) => Some(*op),
+        _ => None,
     }
 }
 
@@ -84,23 +88,15 @@ fn text_of_a_sum(rt: HostRuntime) {
 fn nodes_of_a_sum(rt: HostRuntime) {
     let loaded = loaded(&rt, rt.alloc(), SUM);
     for (n, next, action) in [
-        (1, Some(2), (Some(0), Some(Operand::Number(2)))),
-        (2, Some(3), (Some(1), Some(Operand::Offset(0)))),
-        (3, None, (None, Some(Operand::Offset(1)))),
+        (1, Some(2), (Some(0), Some(Ok(2)))),
+        (2, Some(3), (Some(1), Some(Err(0)))),
+        (3, None, (None, Some(Err(1)))),
         (4, None, (None, None)),
     ] {
         let node = node(&rt, &loaded, n);
         assert_eq!(rt; node.next, next, "action {n}");
         assert_eq!(rt; node.body, 0, "action {n}");
-        assert!(rt; told(&node.action) == action, "action {n}");
-    }
-}
-
-// The operator of a change of the first variable, and its right operand.
-fn change(action: &Action) -> Option<(BinOp, Operand)> {
-    match action {
-        Action::AssignBy(op, slot, value) if slot.offset == 0 => Some((*op, leftmost(value))),
-        _ => None,
+        assert_eq!(rt; told(&node.action), action, "action {n}");
     }
 }
 
@@ -109,16 +105,17 @@ fn nodes_of_changes(rt: HostRuntime) {
     let text = "cilk int main(){int x;;x-=7;x++;x--;}";
     let loaded = loaded(&rt, rt.alloc(), text);
     assert_eq!(rt; loaded.count(), 5);
-    for (n, line, changes) in [
-        (1, 3, None),
-        (2, 4, Some((BinOp::Subtract, Operand::Number(7)))),
-        (3, 5, Some((BinOp::Add, Operand::Number(1)))),
-        (4, 6, Some((BinOp::Subtract, Operand::Number(1)))),
+    for (n, line, by, action) in [
+        (1, 3, None, (None, None)),
+        (2, 4, Some(BinOp::Subtract), (Some(0), Some(Ok(7)))),
+        (3, 5, Some(BinOp::Add), (Some(0), Some(Ok(1)))),
+        (4, 6, Some(BinOp::Subtract), (Some(0), Some(Ok(1)))),
     ] {
         let node = node(&rt, &loaded, n);
         assert_eq!(rt; node.next, Some(n + 1), "action {n}");
         assert_eq!(rt; loaded.line_of(n), Some(line), "action {n}");
-        assert!(rt; change(&node.action) == changes, "action {n}");
+        assert_eq!(rt; told(&node.action), action, "action {n}");
+        assert_eq!(rt; operator(&node.action), by, "action {n}");
         let is_null = matches!(node.action, Action::Null);
         assert_eq!(rt; is_null, n == 1, "action {n}");
     }
@@ -196,7 +193,7 @@ fn parameters_come_first(rt: HostRuntime) {
         assert_eq!(rt; var.name.as_str(), name);
     }
     let assigns = told(&node(&rt, &loaded, 1).action);
-    assert!(rt; assigns == (Some(2), Some(Operand::Offset(1))));
+    assert_eq!(rt; assigns, (Some(2), Some(Err(1))));
     let returns = &node(&rt, &loaded, 2).action;
     assert!(rt; matches!(returns, Action::ReturnNothing));
 }

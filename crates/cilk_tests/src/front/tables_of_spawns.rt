@@ -9,45 +9,30 @@ use cilk_tree::BinOp;
 const TEXT: &str =
     "int f; int g = -7; cilk int sum(int a, int b) { return a + g; } int h; cilk int main(void) { int g; g = spawn sum(h, 3); g += spawn sum(g, f); spawn none(); sync; return g; } cilk void none(void) {}";
 
-// An argument that is a number or a variable.
-#[derive(Clone, Copy, Debug, PartialEq, Eq)]
-enum Argument {
-    Number(u32),
-    Variable(Slot),
-    Other,
-}
-
-fn argument_at(codes: &Codes, i: usize) -> Argument {
-    match codes.as_slice().get(i) {
-        None => Argument::Other,
-        Some(code) => match &code.node {
-            CodeNode::Number(n) => Argument::Number(*n),
-            CodeNode::Variable(slot) => Argument::Variable(*slot),
-            _ => Argument::Other,
-        },
+// The number or the variable that an argument is.
+fn argument(codes: &Codes, i: usize) -> Option<Result<u32, Slot>> {
+    match &codes.as_slice().get(i)?.node {
+        CodeNode::Number(n) => Some(Ok(*n)),
+        CodeNode::Variable(slot) => Some(Err(*slot)),
+        _ => None,
     }
 }
 
-// What a spawn says: the operator and the slot that take the value, the callee, and its arguments.
-#[derive(Clone, Copy, Debug, PartialEq, Eq)]
-struct Spawned {
-    taker: Option<(Option<BinOp>, Slot)>,
-    callee: u32,
-    arguments: usize,
-    first: Argument,
-    second: Argument,
+// What takes the value of a spawn, the callee, and how many arguments there are.
+fn spawned(action: &Action) -> Option<(Option<(Option<BinOp>, Slot)>, u32, usize)> {
+    match action {
+        Action::Spawn(taker, callee, arguments) => {
+            Some((taken_by(taker), *callee, arguments.as_slice().len()))
+        }
+        _ => None,
+    }
 }
 
-fn spawned_by(action: &Action) -> Option<Spawned> {
+// The first two arguments of a spawn.
+fn arguments(action: &Action) -> [Option<Result<u32, Slot>>; 2] {
     match action {
-        Action::Spawn(taker, callee, arguments) => Some(Spawned {
-            taker: taken_by(taker),
-            callee: *callee,
-            arguments: arguments.as_slice().len(),
-            first: argument_at(arguments, 0),
-            second: argument_at(arguments, 1),
-        }),
-        _ => None,
+        Action::Spawn(_, _, arguments) => [argument(arguments, 0), argument(arguments, 1)],
+        _ => [None, None],
     }
 }
 
@@ -70,31 +55,25 @@ fn slot(area: Area, offset: u32) -> Slot {
 fn nodes_of_spawns(rt: HostRuntime) {
     let loaded = loaded(&rt, rt.alloc(), TEXT);
     let own = slot(Area::Own, 0);
-    let takes = Spawned {
-        taker: Some((None, own)),
-        callee: 0,
-        arguments: 2,
-        first: Argument::Variable(slot(Area::Global, 2)),
-        second: Argument::Number(3),
-    };
-    let adds = Spawned {
-        taker: Some((Some(BinOp::Add), own)),
-        callee: 0,
-        arguments: 2,
-        first: Argument::Variable(own),
-        second: Argument::Variable(slot(Area::Global, 0)),
-    };
-    let alone = Spawned {
-        taker: None,
-        callee: 2,
-        arguments: 0,
-        first: Argument::Other,
-        second: Argument::Other,
-    };
-    for (n, spawned) in [(3, takes), (4, adds), (5, alone)] {
+    let first = slot(Area::Global, 0);
+    let third = slot(Area::Global, 2);
+    for (n, spawns, values) in [
+        (
+            3,
+            (Some((None, own)), 0, 2),
+            [Some(Err(third)), Some(Ok(3))],
+        ),
+        (
+            4,
+            (Some((Some(BinOp::Add), own)), 0, 2),
+            [Some(Err(own)), Some(Err(first))],
+        ),
+        (5, (None, 2, 0), [None, None]),
+    ] {
         let node = node(&rt, &loaded, n);
         assert_eq!(rt; node.next, Some(n + 1), "action {n}");
-        assert!(rt; spawned_by(&node.action) == Some(spawned), "action {n}");
+        assert_eq!(rt; spawned(&node.action), Some(spawns), "action {n}");
+        assert_eq!(rt; arguments(&node.action), values, "action {n}");
     }
     let last = &node(&rt, &loaded, 6).action;
     assert!(rt; matches!(last, Action::Sync));

@@ -3,7 +3,7 @@
 ghost use Rattle.cilk_lex.specs.Reading.{IsWithin};
 
 use super::repeated;
-use cilk_lex::{Keyword, Kind, LexFault, Mark, Token, line_col, tokens};
+use cilk_lex::{LexFault, Token, line_col, tokens};
 use std::alloc::Global;
 use std::fmt::Write;
 use std::process::Abort;
@@ -59,89 +59,73 @@ fn tokens_at_their_places(rt: HostRuntime) {
     }
 }
 
-#[test]
-fn words(rt: HostRuntime) {
-    let words =
-        "int void if else while do for break continue return cilk spawn sync inlet abort SYNCHED Cilk_lockvar";
-    let kinds = [
-        Keyword::Int,
-        Keyword::Void,
-        Keyword::If,
-        Keyword::Else,
-        Keyword::While,
-        Keyword::Do,
-        Keyword::For,
-        Keyword::Break,
-        Keyword::Continue,
-        Keyword::Return,
-        Keyword::Cilk,
-        Keyword::Spawn,
-        Keyword::Sync,
-        Keyword::Inlet,
-        Keyword::Abort,
-        Keyword::Synched,
-        Keyword::CilkLockvar,
-    ];
-    let list = tokens(rt.alloc(), words).expect(&rt, words);
-    assert_eq!(rt; list.len(), kinds.len());
-    for (token, word) in list.iter().zip(&kinds) {
-        assert_eq!(rt; token.kind, Kind::Word(*word));
-    }
-}
+const WORDS_AND_MARKS: &str = "int => Word(Int)@0:int
+void => Word(Void)@0:void
+if => Word(If)@0:if
+else => Word(Else)@0:else
+while => Word(While)@0:while
+do => Word(Do)@0:do
+for => Word(For)@0:for
+break => Word(Break)@0:break
+continue => Word(Continue)@0:continue
+return => Word(Return)@0:return
+cilk => Word(Cilk)@0:cilk
+spawn => Word(Spawn)@0:spawn
+sync => Word(Sync)@0:sync
+inlet => Word(Inlet)@0:inlet
+abort => Word(Abort)@0:abort
+SYNCHED => Word(Synched)@0:SYNCHED
+Cilk_lockvar => Word(CilkLockvar)@0:Cilk_lockvar
+<<= => Mark(ShiftLeftAssign)@0:<<=
+>>= => Mark(ShiftRightAssign)@0:>>=
++= => Mark(AddAssign)@0:+=
+-= => Mark(SubtractAssign)@0:-=
+*= => Mark(MultiplyAssign)@0:*=
+/= => Mark(DivideAssign)@0:/=
+%= => Mark(RemainderAssign)@0:%=
+&= => Mark(BitAndAssign)@0:&=
+^= => Mark(BitXorAssign)@0:^=
+|= => Mark(BitOrAssign)@0:|=
+== => Mark(Equal)@0:==
+!= => Mark(NotEqual)@0:!=
+<= => Mark(LessOrEqual)@0:<=
+>= => Mark(GreaterOrEqual)@0:>=
+&& => Mark(And)@0:&&
+|| => Mark(Or)@0:||
+<< => Mark(ShiftLeft)@0:<<
+>> => Mark(ShiftRight)@0:>>
+++ => Mark(Increment)@0:++
+-- => Mark(Decrement)@0:--
+( => Mark(OpenParenthesis)@0:(
+) => Mark(CloseParenthesis)@0:)
+{ => Mark(OpenBrace)@0:{
+} => Mark(CloseBrace)@0:}
+[ => Mark(OpenBracket)@0:[
+] => Mark(CloseBracket)@0:]
+; => Mark(Semicolon)@0:;
+, => Mark(Comma)@0:,
+? => Mark(Question)@0:?
+: => Mark(Colon)@0::
++ => Mark(Plus)@0:+
+- => Mark(Minus)@0:-
+* => Mark(Star)@0:*
+/ => Mark(Slash)@0:/
+% => Mark(Percent)@0:%
+& => Mark(Ampersand)@0:&
+| => Mark(Bar)@0:|
+^ => Mark(Caret)@0:^
+~ => Mark(Tilde)@0:~
+! => Mark(Exclamation)@0:!
+< => Mark(Less)@0:<
+> => Mark(Greater)@0:>
+= => Mark(Assign)@0:=";
 
 #[test]
-fn marks(rt: HostRuntime) {
-    let marks =
-        "<<= >>= += -= *= /= %= &= ^= |= == != <= >= && || << >> ++ -- ( ) { } [ ] ; , ? : + - * / % & | ^ ~ ! < > =";
-    let kinds = [
-        Mark::ShiftLeftAssign,
-        Mark::ShiftRightAssign,
-        Mark::AddAssign,
-        Mark::SubtractAssign,
-        Mark::MultiplyAssign,
-        Mark::DivideAssign,
-        Mark::RemainderAssign,
-        Mark::BitAndAssign,
-        Mark::BitXorAssign,
-        Mark::BitOrAssign,
-        Mark::Equal,
-        Mark::NotEqual,
-        Mark::LessOrEqual,
-        Mark::GreaterOrEqual,
-        Mark::And,
-        Mark::Or,
-        Mark::ShiftLeft,
-        Mark::ShiftRight,
-        Mark::Increment,
-        Mark::Decrement,
-        Mark::OpenParenthesis,
-        Mark::CloseParenthesis,
-        Mark::OpenBrace,
-        Mark::CloseBrace,
-        Mark::OpenBracket,
-        Mark::CloseBracket,
-        Mark::Semicolon,
-        Mark::Comma,
-        Mark::Question,
-        Mark::Colon,
-        Mark::Plus,
-        Mark::Minus,
-        Mark::Star,
-        Mark::Slash,
-        Mark::Percent,
-        Mark::Ampersand,
-        Mark::Bar,
-        Mark::Caret,
-        Mark::Tilde,
-        Mark::Exclamation,
-        Mark::Less,
-        Mark::Greater,
-        Mark::Assign,
-    ];
-    let list = tokens(rt.alloc(), marks).expect(&rt, marks);
-    assert_eq!(rt; list.len(), kinds.len());
-    for (token, mark) in list.iter().zip(&kinds) {
-        assert_eq!(rt; token.kind, Kind::Mark(*mark));
+fn words_and_marks(rt: HostRuntime) {
+    for line in WORDS_AND_MARKS.lines() {
+        let (text, list) = line.split_once(" => ").expect(&rt, line);
+        let seen = shown(&rt, rt.alloc(), text);
+        assert_eq!(rt; seen.as_str().trim(), list);
     }
 }
 
