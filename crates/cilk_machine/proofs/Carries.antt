@@ -1,5 +1,5 @@
 -- A plan that is carried out leads where the definition of runs does.
-use Rattle.std.proofs.Common.{◌≡◌, ℕ, zero, suc, ◌+◌, ◌<◌, ◌≤◌, ℤ, Bool, true, false, not, ◌&&◌, ◌||◌, nat_lt, List, [], ◌∷◌, ◌++◌, map, length, Option, Some, None, refl, sym, ap, ◌∙◌, subst, arith, if◌then◌else◌, Ok}
+use Rattle.std.proofs.Common.{◌≡◌, ℕ, zero, suc, ◌+◌, ◌^◌, ◌<◌, ◌≤◌, ℤ, Bool, true, false, not, ◌&&◌, ◌||◌, nat_lt, List, [], ◌∷◌, ◌++◌, map, length, Option, Some, None, refl, sym, ap, ◌∙◌, subst, arith, if◌then◌else◌, Ok}
 use Rattle.std.specs.Prelude.{slice_set, slice_index_or}
 use Rattle.std.proofs.lemmas.List.{length-set}
 use Rattle.cilk_tree.specs.Tree as tree
@@ -191,7 +191,7 @@ module _ (p : tree.Program) (globals : List ℤ) (ns : List Node) (places : List
       (subst (λ x. Agrees p globals (with_child ns f.id receiver) (handed_on x w (past_spawn to f) (Rattle.cilk_frame.specs.Starts.started p (length ns) t.callee t.arguments)) (stepped at w path step)) emptied_again
       (spawn-agrees p globals ns held at w f (here plan at h) n t.taker t.callee t.arguments receiver to t.to_is t.takes t.receiver_is)))
 
-  pub plan-room : (c : Path) (n : ℕ) (young : Frame) (receiver : Receiver) (to : ℕ) (at : Standing) → Planned p globals ns places w f (Spawn c n young receiver to) at → (node_at ns f.id).children + 1 < 4294967296
+  pub plan-room : (c : Path) (n : ℕ) (young : Frame) (receiver : Receiver) (to : ℕ) (at : Standing) → Planned p globals ns places w f (Spawn c n young receiver to) at → (node_at ns f.id).children + 1 < 2 ^ 32
   plan-room c n young receiver to at h =
       let t = planned (Spawn c n young receiver to) at h in t.room
 

@@ -46,7 +46,8 @@ pub fn carry_out(
     requires worker { IsWorker hands.old worker }
     requires empty { hand_of hands.old worker ≡ None }
     requires ready { CanCarry globals.old.items tree.old hands.old worker frame plan }
-    ensures done { IfOk result (λ done. Carries globals.old.items tree.old hands.old worker frame plan globals.new.items tree.new hands.new done.outcome done.event) }
+    ensures done { IfOk result (λ done. Carries globals.old.items tree.old hands.old worker frame plan
+        globals.new.items tree.new hands.new done.outcome done.event) }
     ensures back { IfErr result (λ f. f ≡ frame) }
     ensures globals { OnErr result (globals.new ≡ globals.old) }
     ensures tree { OnErr result (tree.new ≡ tree.old) }

@@ -16,5 +16,6 @@ pub fn one_worker_goes_on()
     ensures { (m : Situation) (at : Standing) → StandsAt m at → workers_of m ≡ 1 → m.outcome ≡ Running
         → is_stuck (label m.program) at ≡ false
         → (refused m at (record { worker = 1; act = model.step }) ≡ None)
-        ⊎ ((refused m at (record { worker = 1; act = model.step }) ≡ Some model.hand_empty) × (refused m at (record { worker = 1; act = model.pop }) ≡ None)) }
+        ⊎ ((refused m at (record { worker = 1; act = model.step }) ≡ Some model.hand_empty)
+        × (refused m at (record { worker = 1; act = model.pop }) ≡ None)) }
 {}

@@ -58,7 +58,9 @@ impl Model for Machine {
 
     ghost view = { λ m. record { program = m.loaded; globals = m.globals.items; nodes = m.tree; places = m.hands; outcome = m.outcome; choices = m.choices } };
 
-    ghost invariant = { λ m. IsSound (record { program = m.loaded; globals = m.globals.items; nodes = m.tree; places = m.hands; outcome = m.outcome; choices = m.choices }) × (m.workers ≡ length m.hands) };
+    ghost invariant = { λ m.
+        IsSound (record { program = m.loaded; globals = m.globals.items; nodes = m.tree; places = m.hands; outcome = m.outcome; choices = m.choices })
+        × (m.workers ≡ length m.hands) };
 }
 
 impl Machine {

@@ -28,7 +28,8 @@ pub fn give_value(
     requires parked { (node_at tree.old frame.id).parked ≡ None }
     ensures outcome { IfOk result (λ outcome. outcome ≡ outcome_awake (node_at tree.old frame.id).parent value) }
     ensures tree { OnOk result (tree.new ≡ tree_awake (without_instance tree.old frame.id value) (node_at tree.old frame.id).parent) }
-    ensures hands { OnOk result (hands.new ≡ hands_awake hands.old worker (woken_in (without_instance tree.old frame.id value) (node_at tree.old frame.id).parent)) }
+    ensures hands { OnOk result (hands.new
+        ≡ hands_awake hands.old worker (woken_in (without_instance tree.old frame.id value) (node_at tree.old frame.id).parent)) }
     ensures back { IfErr result (λ f. f ≡ frame) }
     ensures same_tree { OnErr result (tree.new ≡ tree.old) }
     ensures same_hands { OnErr result (hands.new ≡ hands.old) }
