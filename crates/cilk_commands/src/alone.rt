@@ -1,6 +1,6 @@
 //! A program that one worker moves.
 
-ghost use Rattle.std.specs.Prelude.{◌≡◌, ◌<◌, false, IfOk, IfErr, OnOk};
+ghost use Rattle.std.specs.Prelude.{◌≡◌, ◌<◌, ◌-◌, ◌^◌, false, IfOk, IfErr, OnOk};
 ghost use Rattle.cilk_model.specs.Choice as model;
 ghost use Rattle.cilk_model.specs.Event as event;
 ghost use Rattle.cilk_model.specs.End.{is_stuck};
@@ -54,7 +54,7 @@ fn go_on(machine: &mut Machine) -> Result<(), Failure>
     requires runs { machine.old.outcome ≡ Outcome.Running }
     requires goes { (at : Standing)
         × (StandsAt machine.old at × (is_stuck (label machine.old.program) at ≡ false)) }
-    requires room { machine.old.choices < 18446744073709551615 }
+    requires room { machine.old.choices < 2 ^ 64 - 1 }
     ensures ok { OnOk result ((choice : model.Choice) × (did : event.Event)
         × Makes machine.old machine.new choice did) }
     ensures err { IfErr result (λ why. why ≡ Failure.Memory) }
