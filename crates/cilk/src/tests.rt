@@ -15,13 +15,13 @@ fn owned(rt: &impl Abort, alloc: Global, list: &[&str]) -> Vec<String> {
 #[test]
 fn answers_command_lines(rt: HostRuntime) {
     for (list, code, begins) in [
-        (["cilk", "--help"].as_slice(), 0, "Prints, checks"),
-        (["cilk", "-h"].as_slice(), 0, "Prints, checks"),
+        (["cilk", "--help"].as_slice(), 0, "Reads"),
+        (["cilk", "-h"].as_slice(), 0, "Reads"),
         (["cilk", "--version"].as_slice(), 0, "cilk 0."),
         (["cilk", "help", "run"].as_slice(), 0, "Runs"),
         (["cilk", "print", "-h"].as_slice(), 0, "Prints"),
         (["cilk", "check", "-h"].as_slice(), 0, "Says"),
-        (["cilk"].as_slice(), 2, "Prints, checks"),
+        (["cilk"].as_slice(), 2, "Reads"),
         (["cilk", "print"].as_slice(), 2, "error: the following"),
         (
             ["cilk", "frob"].as_slice(),

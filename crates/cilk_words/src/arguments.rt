@@ -52,7 +52,7 @@ pub fn command<'a>(alloc: Global) -> Result<Command<'a>, AllocError>
         .help("At most so many choices are made, from 1 to 10,000,000");
     let run = on_file(alloc, "run", "Runs a program, and tells how it ends")?.arg(limit)?;
     Command::new(alloc, "cilk")
-        .about("Prints, checks and runs programs in Cilk 5.4")
+        .about("Reads programs in Cilk 5.4")
         .version(VERSION)
         .after_help(STATUSES)
         .subcommand_required(true)
