@@ -13,7 +13,6 @@ use std::alloc::Global;
 use std::io::Write;
 
 /// Does what the words ask for, the first of which is the program's own name.
-#[tactic(auto, using(crate::proofs::Ended::out_of_memory))]
 pub fn run<T: Texts, O: Write, E: Write>(
     alloc: Global,
     words: &[String],

@@ -1,0 +1,6 @@
+use Rattle.cilk.proofs.Ended.{refused_words}
+use Rattle.cilk.proofs.dispatch.run.Goals as goal
+
+pub returns-in-Err-clause-ends : goal.returns-in-Err-clause-ends
+returns-in-Err-clause-ends g c =
+    refused_words _ _ c.in-Err.refusal c.tell.result _ _ _ _ c.in-Err.ensures.refusal c.tell.ensures.shows c.tell.ensures.memory
