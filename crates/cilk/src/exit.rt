@@ -30,9 +30,9 @@ pub fn exit_code<T: Texts, O: Write, E: Write>(
 ) -> u8
     ensures { (status : Status) × ((result ≡ code_of status)
         × MatchResult words
-            (λ list. Ends (texts_of list.items) (T.held texts.now) status
-                (O.contents out.old) (O.contents out.new) (E.contents err.old) (E.contents err.new))
-            (λ error. status ≡ without_words (error_kind error))
+        (λ list. Ends (texts_of list.items) (T.held texts.now) status
+        (O.contents out.old) (O.contents out.new) (E.contents err.old) (E.contents err.new))
+        (λ error. status ≡ without_words (error_kind error))
         × (is_answer status ≡ true → err.new ≡ err.old)
         × (is_answer status ≡ false → status ≢ Status.CannotWrite → out.new ≡ out.old)) }
 {
