@@ -10,8 +10,6 @@ mod dispatch;
 mod exit;
 mod host;
 mod task;
-#[cfg(test)]
-mod tests;
 mod texts;
 
 use exit::exit_code;

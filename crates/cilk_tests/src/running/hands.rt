@@ -58,9 +58,9 @@ fn hands_hold_one(rt: HostRuntime) {
 fn deques_have_two_ends(rt: HostRuntime) {
     let loaded = program(&rt, rt.alloc(), TEXT);
     let mut hands = Hands::new(rt.alloc(), 3).expect(&rt, "memory");
-    for n in 4..7 {
-        push(&rt, &mut hands, 2, frame(&rt, rt.alloc(), &loaded, n));
-    }
+    push(&rt, &mut hands, 2, frame(&rt, rt.alloc(), &loaded, 4));
+    push(&rt, &mut hands, 2, frame(&rt, rt.alloc(), &loaded, 5));
+    push(&rt, &mut hands, 2, frame(&rt, rt.alloc(), &loaded, 6));
     assert_eq!(rt; hands.len(1), 0);
     assert_eq!(rt; hands.len(2), 3);
     assert_eq!(rt; hands.len(3), 0);

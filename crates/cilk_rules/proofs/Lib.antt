@@ -1,0 +1,11 @@
+pub mod Tools
+pub mod Tokens
+pub mod Begun
+pub mod Sound
+pub mod Complete
+pub mod Local
+pub mod Many
+pub mod LocalRules
+pub mod Room
+pub mod Moved
+pub mod Loops
