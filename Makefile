@@ -2,7 +2,7 @@
 
 sources := $(shell find crates \( -name out -o -name must-fail \) -prune -o -type f -print)
 
-.PHONY: test programs must_not_compile wrong-bodies budget clean
+.PHONY: test programs must_not_compile wrong-bodies budget bench clean
 
 # A program is built once it and the crates below it are proved, and only by running it.
 cilk: crates.txt HANDLES $(sources)
@@ -27,6 +27,10 @@ wrong-bodies:
 # Measures what the gate costs, against one proof of each crate (docs/GATE.md).
 budget:
 	tools/gate_budget
+
+# Measures ./cilk print beside gcc on texts of the same size and shape.
+bench: cilk
+	tools/bench ./cilk
 
 clean:
 	rm -rf cilk crates/*/out

@@ -1,14 +1,7 @@
-//! Programs that run, from their texts: frames, the hands of workers, trees of instances, machines,
-//! and what the subcommands answer.
+//! Schedules of more workers than one, and readers and writers that break: what the program does not show.
 
-mod answers;
-mod closing;
-mod frames;
-mod hands;
-mod instances;
 mod schedules;
 mod script;
-mod spawns;
 mod streams;
 
 use cilk_commands::program_of;

@@ -2,7 +2,6 @@
 
 ghost use Rattle.cilk_lex.specs.Reading.{IsWithin};
 
-use super::repeated;
 use cilk_lex::{LexFault, Token, line_col, tokens};
 use std::alloc::Global;
 use std::fmt::Write;
@@ -149,10 +148,13 @@ fn texts_without_tokens(rt: HostRuntime) {
 
 #[test]
 fn longest_text(rt: HostRuntime) {
-    let text = repeated(&rt, rt.alloc(), "", " ", 1_048_576, "");
+    let mut text = String::new(rt.alloc());
+    for _ in 0..1_048_576 {
+        text.push_str(" ").expect(&rt, "memory");
+    }
     let list = tokens(rt.alloc(), text.as_str()).expect(&rt, "too long");
     assert_eq!(rt; list.len(), 0);
-    let text = repeated(&rt, rt.alloc(), "", " ", 1_048_576, "@");
+    text.push_str("@").expect(&rt, "memory");
     assert_eq!(rt;
         tokens(rt.alloc(), text.as_str()).err(),
         Some(LexFault::TooLong)

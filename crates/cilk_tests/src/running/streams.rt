@@ -1,10 +1,14 @@
 //! Readers and writers that break.
 
-use super::answers::{CANONICAL, SAMPLE};
 use cilk_commands::print_text;
 use std::alloc::Global;
 use std::io;
 use std::io::{ErrorKind, Read, Write};
+
+const SAMPLE: &str = "cilk int main(){int a=2,b;b=a*(3+4)-5;return b;}";
+
+const CANONICAL: &str =
+    "cilk int main(void) {\n    int a = 2;\n    int b;\n    b = (a * (3 + 4)) - 5;\n    return b;\n}\n";
 
 // Gives a part of the sample at each call but the one numbered `fails_at`, from 1.
 #[derive(Drop)]
