@@ -1,0 +1,5 @@
+pub mod Lines
+pub mod Escapes
+pub mod Sizes
+pub mod Written
+pub mod BareText

@@ -1,0 +1,6 @@
+pub mod Lines
+pub mod Appends
+pub mod ExprText
+pub mod MoveText
+pub mod StmtLines
+pub mod ProgramText

@@ -1,0 +1,13 @@
+pub mod Tables
+pub mod ClassFacts
+pub mod Tools
+pub mod Sound
+pub mod Complete
+pub mod Whole
+pub mod MovedExpr
+pub mod Steps
+pub mod LocalExpr
+pub mod Compared
+pub mod Loop
+pub mod Literals
+pub mod Opens

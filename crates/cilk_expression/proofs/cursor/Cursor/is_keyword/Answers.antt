@@ -1,0 +1,7 @@
+use Rattle.std.proofs.Common.{ap, ◌∙◌}
+use Rattle.std.specs.Option.{option_eq}
+use Rattle.cilk_expression.proofs.Compared.{is_word}
+use Rattle.cilk_expression.proofs.cursor.Cursor.is_keyword.Goals as goal
+
+pub returns : goal.returns
+returns c = c.eq.ensures ∙ rw c.kind.ensures (is_word c.args.wanted _)

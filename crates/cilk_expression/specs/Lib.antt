@@ -1,0 +1,11 @@
+pub use Rattle.cilk_lexeme.specs.Lexeme
+pub use Rattle.cilk_syntax.specs.Tree
+pub use Rattle.cilk_rules.specs.Rule
+pub mod Classes
+pub mod Operators
+pub mod Grammar
+pub mod Front
+pub mod Reading
+pub mod Within
+pub mod Names
+pub mod Begins

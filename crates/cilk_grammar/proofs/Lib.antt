@@ -1,0 +1,14 @@
+pub mod Fine
+pub mod Leaves
+pub mod Exprs
+pub mod Values
+pub mod LocalValues
+pub mod Nests
+pub mod Programs
+pub mod Kept
+pub mod Keeps
+pub mod KeepsStmts
+pub mod KeepsItems
+pub mod Steady
+pub mod MovedNests
+pub mod Viable

@@ -1,0 +1,10 @@
+pub use Rattle.cilk_expression.specs.Classes
+pub use Rattle.cilk_lexeme.specs.Lexeme
+pub use Rattle.cilk_syntax.specs.Tree
+pub use Rattle.cilk_rules.specs.Rule
+pub mod Parts
+pub mod Forms
+pub mod Grammar
+pub mod Spelling
+pub mod Likes
+pub mod Fault

@@ -1,0 +1,16 @@
+pub mod Comments
+pub mod Decimals
+pub mod Forms
+pub mod Headers
+pub mod Longest
+pub mod Made
+pub mod Marks
+pub mod Numbers
+pub mod Runs
+pub mod Sayable
+pub mod Seen
+pub mod Sees
+pub mod Shows
+pub mod Texts
+pub mod Unique
+pub mod Words

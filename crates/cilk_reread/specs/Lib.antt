@@ -1,0 +1,4 @@
+pub use Rattle.cilk_grammar.specs.Spelling
+pub mod ExprLexemes
+pub mod StmtLexemes
+pub mod Plain

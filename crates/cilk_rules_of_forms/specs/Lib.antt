@@ -1,0 +1,5 @@
+pub mod Cells
+pub mod Format
+pub mod Forms
+pub mod Finds
+pub mod Room

@@ -1,0 +1,16 @@
+ghost use Rattle.std.specs.Prelude.{IfSome, IfNone};
+ghost use Rattle.cilk_scopes.specs.declared.fault.CheckFault.{CheckFault};
+ghost use Rattle.cilk_scopes.specs.Fault.{IsFirst};
+ghost use Rattle.cilk_rules_of_forms.specs.Forms.{Faulty};
+
+use crate::top::first_listed;
+use cilk_scopes::CheckFault;
+use cilk_syntax::Program;
+
+/// The first fault in the forms of a program: the one with the least place, and at that place with the least number.
+pub fn first_form_fault(program: &Program) -> Option<CheckFault>
+    ensures none { IfNone result ((f : CheckFault) → ¬ Faulty program.now f) }
+    ensures first { IfSome result (IsFirst (Faulty program.now)) }
+{
+    first_listed(program)
+}

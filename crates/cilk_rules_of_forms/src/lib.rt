@@ -1,0 +1,14 @@
+//! The rules of forms and limits: C6, C8 to C10 and C12 to C15.
+#![tactic(auto)]
+
+mod cells;
+mod children;
+mod first;
+mod format;
+mod local;
+mod space;
+mod statement;
+mod top;
+mod walk;
+
+pub use first::first_form_fault;

@@ -1,0 +1,4 @@
+pub mod Reserved
+pub mod Uses
+pub mod Names
+pub mod Finds

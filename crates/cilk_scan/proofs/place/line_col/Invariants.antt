@@ -1,0 +1,11 @@
+use Rattle.std.proofs.Common.{◌≡◌, ◌≤◌, ◌+◌}
+use Rattle.cilk_lexeme.specs.Place.{line_of, column_of}
+use Rattle.cilk_scan.proofs.place.line_col.Given as goal
+
+abbrev pub invariant-loop-byte : goal.invariant-loop-byte
+invariant-loop-byte l = record {
+  line : l.line ≡ line_of l.text l.byte-index;
+  column : l.column ≡ column_of l.text l.byte-index;
+  line_fits : l.line ≤ l.byte-index + 1;
+  column_fits : l.column ≤ l.byte-index + 1;
+}

@@ -1,0 +1,14 @@
+-- What was found at the front of a text.
+use Rattle.std.specs.Prelude.{◌≡◌, List, ℕ, take, option_map, Result, MatchResult}
+use Rattle.cilk_lexeme.specs.declared.fault.LexFault.{LexFault}
+use Rattle.cilk_lexeme.specs.Lexeme.{lexeme_of}
+use Rattle.cilk_lexeme.specs.Sight.{Sight, found, amiss}
+use Rattle.cilk_scan.specs.declared.found.Found.{Found}
+
+-- what was found is what is seen there: a token of these bytes, or a blank
+abbrev pub IsSeen : List ℕ → Sight → Found → Type 0
+IsSeen text s f = s ≡ found f.end (option_map (lexeme_of (take f.end text)) f.kind)
+
+-- and so is a fault
+abbrev pub Finds : List ℕ → Sight → Result Found LexFault → Type 0
+Finds text s r = MatchResult r (IsSeen text s) (λ f. s ≡ amiss f)

@@ -1,0 +1,8 @@
+use cilk_lexeme::Kind;
+
+/// The token at the front of a text, or none for a blank, and how many bytes it takes.
+#[derive(Clone, Copy)]
+pub(crate) struct Found {
+    pub(crate) kind: Option<Kind>,
+    pub(crate) end: usize,
+}

@@ -1,0 +1,15 @@
+//! The tokens of a program's text, with their places (C 1990, 6.1; Cilk 5.4 manual, keywords).
+#![tactic(auto)]
+
+mod bytes;
+mod found;
+mod front;
+mod inclusion;
+pub mod laws;
+mod literal;
+mod place;
+mod reading;
+mod spelling;
+
+pub use place::line_col;
+pub use reading::{TEXT_LIMIT, tokens};

@@ -1,0 +1,22 @@
+ghost use Rattle.std.specs.Prelude.{◌≡◌, ◌≤◌, ◌<◌, ◌-◌, ◌^◌, length};
+ghost use Rattle.cilk_lexeme.specs.Place.{line_of, column_of};
+
+/// The line and the column of a place in a text, in bytes from its beginning. Both count from 1.
+pub fn line_col(text: &str, at: u32) -> (u32, u32)
+    requires inside { at ≤ length text.now }
+    requires fits { at < 2 ^ 32 - 1 }
+    ensures line { result.0 ≡ line_of text.now at }
+    ensures column { result.1 ≡ column_of text.now at }
+{
+    let mut line = 1;
+    let mut column = 1;
+    for byte in &text.as_bytes()[..at as usize] {
+        if *byte == b'\n' {
+            line += 1;
+            column = 1;
+        } else {
+            column += 1;
+        }
+    }
+    (line, column)
+}

@@ -1,0 +1,15 @@
+//! What the names of a program mean where they stand (C 1990, 6.1.2.1), and what surrounds each part of it. The crate
+//! has the definitions, which speak of trees alone, and the faults that the rules over them find.
+#![tactic(auto)]
+
+mod fault;
+mod kind;
+mod order;
+mod owner;
+mod within;
+
+pub use fault::CheckFault;
+pub use kind::Kind;
+pub use order::{first, first_if};
+pub use owner::Owner;
+pub use within::Within;
