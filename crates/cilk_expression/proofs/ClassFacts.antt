@@ -1,9 +1,9 @@
 -- Classes of tokens tell them apart.
-use Rattle.std.proofs.Common.{◌≡◌, ℕ, ◌==◌, Bool, true, false, if◌then◌else◌, List, [], ◌∷◌, codes, get_or, Option, Some, None, refl, sym, ap, ◌∙◌, eq-eqb, nat_lt, ◌-◌}
+use Rattle.std.proofs.Common.{◌≡◌, ℕ, ◌==◌, Bool, true, false, if◌then◌else◌, List, [], ◌∷◌, codes, get_or, Some, refl, sym, ap, ◌∙◌, eq-eqb, nat_lt, ◌-◌}
 use Rattle.std.proofs.lemmas.Bool.{eqb-true}
 use Rattle.std.specs.Str.{bytes_eq}
 use denote.Enum.Bare.{sameb, same_true, same_false}
-use Rattle.cilk_rules.specs.Rule.{is, has}
+use Rattle.cilk_rules.specs.Rule.{has}
 use Rattle.cilk_lexeme.specs.Lexeme.{Lexeme, word, name, number, mark, literal, inclusion}
 use Rattle.cilk_lexeme.specs.contracts.keyword.Keyword as keyword_type
 use Rattle.cilk_lexeme.specs.contracts.mark.Mark as mark_type

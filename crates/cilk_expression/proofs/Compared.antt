@@ -1,5 +1,5 @@
 -- The next token compared by its kind, and by its class.
-use Rattle.std.proofs.Common.{◌≡◌, ℕ, ◌==◌, ◌≤◌, ap, ◌∙◌, arith, length, slice_index_or, Bool, true, false, List, [], ◌∷◌, Option, Some, None, refl, sym}
+use Rattle.std.proofs.Common.{◌≡◌, ℕ, ◌==◌, ◌≤◌, ap, ◌∙◌, arith, length, slice_index_or, false, List, [], ◌∷◌, Some, refl, sym}
 use Rattle.std.specs.Option.{option_eq}
 use Rattle.std.proofs.lemmas.Bool.{eqb-true, false_from_ne_true}
 use Rattle.cilk_lexeme.specs.Lexeme.{Lexeme, Piece, word, name, number, mark, literal, inclusion, lexeme_of, piece_of, pieces_of}

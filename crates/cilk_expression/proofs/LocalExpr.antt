@@ -1,24 +1,22 @@
 -- Where reading an expression meets a fault, it meets it whatever follows that token.
-use Rattle.std.proofs.Common.{◌≡◌, ℕ, zero, suc, ◌<◌, ◌≤◌, ◌==◌, Bool, true, false, if◌then◌else◌, List, [], ◌∷◌, length, Option, Some, None, Result, Ok, Err, refl, sym, ap, subst, ◌∙◌, arith, leb, ltb}
+use Rattle.std.proofs.Common.{◌≡◌, ℕ, zero, suc, ◌<◌, ◌≤◌, ◌==◌, Bool, true, false, if◌then◌else◌, List, [], ◌∷◌, length, Option, Some, None, Ok, Err, refl, sym, ap, subst, ◌∙◌, arith, leb, ltb}
 use Rattle.std.proofs.lemmas.Bool.{ltb-true, lt-ltb}
 use Rattle.cilk_lexeme.specs.Lexeme.{Lexeme, Piece, word, name, number, mark, literal, inclusion}
 use Rattle.cilk_lexeme.specs.declared.keyword.Keyword.TheVariants as words
-use Rattle.cilk_lexeme.specs.declared.mark.Mark.{Mark}
 use Rattle.cilk_lexeme.specs.declared.mark.Mark.TheVariants as marks
 use Rattle.cilk_lexeme.specs.declared.token.Kind.{Kind}
 use Rattle.cilk_lexeme.specs.declared.token.Kind.TheVariants as kind
 use Rattle.cilk_syntax.specs.declared.un_op.UnOp.{UnOp}
 use Rattle.cilk_syntax.specs.Tree as tree
-use Rattle.cilk_rules.specs.declared.fault.Fault.{Fault}
 use Rattle.cilk_rules.specs.declared.fault.Fault.TheVariants.{Unexpected, TooDeep}
-use Rattle.cilk_rules.specs.Rule.{◌>>=◌, Read, behind, is, class_at, token_at}
+use Rattle.cilk_rules.specs.Rule.{◌>>=◌, behind, is, class_at, token_at}
 use Rattle.cilk_rules.proofs.Local.{SameHead, same_class, Reader, Local, unexpected, too_deep, local_bind, local_as, local_skip, stuck_here, ok_here, local_token, local_choice, local_either}
 use Rattle.cilk_expression.specs.declared.operator.Infix.{Infix}
 use Rattle.cilk_expression.specs.declared.operator.Infix.TheVariants.{Two, Choice}
 use Rattle.cilk_expression.specs.Classes.{a_word, a_mark, cls}
 use Rattle.cilk_expression.specs.Operators.{operand, sign_of}
 use Rattle.cilk_expression.specs.Grammar.{word_at}
-use Rattle.cilk_expression.specs.Front.{kind_at, infix_in, infix_at, place_at, name_by, name_at}
+use Rattle.cilk_expression.specs.Front.{kind_at, infix_in, infix_at, place_at, name_at}
 use Rattle.cilk_expression.specs.Reading.{Reads, counted, closed, at_mark, behind_name, operand_by, behind_infix, on_after, expr_of, more_of, operand_at, whole_of}
 use Rattle.cilk_expression.proofs.Tools.{class_next, kind_next, name_is, infix_next, infix_shorter}
 use Rattle.cilk_expression.proofs.Steps.{by_operand, by_after, operand_shorter, left_of}
@@ -31,12 +29,6 @@ same_kind [] [] h = refl
 same_kind [] (u ∷ us) h = elim h [ ]
 same_kind (t ∷ ts) [] h = elim h [ ]
 same_kind (t ∷ ts) (u ∷ us) h = ap (λ (v : Piece). kind_at (v ∷ us)) h
-
-pub same_place : (ts us : List Piece) → SameHead ts us → place_at ts ≡ place_at us
-same_place [] [] h = refl
-same_place [] (u ∷ us) h = elim h [ ]
-same_place (t ∷ ts) [] h = elim h [ ]
-same_place (t ∷ ts) (u ∷ us) h = ap (λ (v : Piece). v.start) h
 
 same_infix : (ts us : List Piece) → SameHead ts us → infix_at ts ≡ infix_at us
 same_infix ts us s = ap infix_in (same_class cls ts us s)

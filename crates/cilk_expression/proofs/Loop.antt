@@ -1,5 +1,5 @@
 -- Going on behind an expression, as a loop does.
-use Rattle.std.proofs.Common.{◌≡◌, ℕ, suc, ◌<◌, ◌≤◌, List, length, Option, Some, None, Result, Ok, Err, refl, sym, ap, ◌∙◌, arith}
+use Rattle.std.proofs.Common.{◌≡◌, ℕ, suc, ◌<◌, ◌≤◌, List, length, Option, Some, None, Result, Ok, Err, refl, sym, ap, ◌∙◌}
 use Rattle.std.proofs.lemmas.Bool.{lt-ltb}
 use Rattle.cilk_lexeme.specs.Lexeme.{Piece}
 use Rattle.cilk_lexeme.specs.declared.mark.Mark.TheVariants as marks

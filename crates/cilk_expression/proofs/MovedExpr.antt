@@ -1,5 +1,5 @@
 -- Other tokens that say the same spell the same expression but for places.
-use Rattle.std.proofs.Common.{◌≡◌, ℕ, suc, ◌+◌, ◌≤◌, List, [], ◌∷◌, ◌++◌, map, Some, refl, sym, ap, subst, ◌∙◌, arith}
+use Rattle.std.proofs.Common.{◌≡◌, ℕ, suc, ◌+◌, ◌≤◌, List, [], ◌∷◌, ◌++◌, map, refl, sym, ap, ◌∙◌, arith}
 use Rattle.cilk_lexeme.specs.Lexeme.{Lexeme, Piece}
 use Rattle.cilk_syntax.specs.Tree as tree
 use Rattle.cilk_rules.proofs.Moved as moved

@@ -17,12 +17,12 @@ use Rattle.cilk_rules.proofs.Tools.{bind_ok, ok_is, chosen}
 use Rattle.cilk_expression.specs.declared.operator.Infix.{Infix}
 use Rattle.cilk_expression.specs.declared.operator.Infix.TheVariants.{Two, Choice}
 use Rattle.cilk_expression.specs.Classes.{a_word, a_mark, cls}
-use Rattle.cilk_expression.specs.Operators.{operand, infix_of, sign_of}
-use Rattle.cilk_expression.specs.Grammar.{operators, Spells, a_number_is, a_name_is, synched_is, an_element, in_parentheses, of_one, of_two, of_three, word_at}
+use Rattle.cilk_expression.specs.Operators.{operand, sign_of}
+use Rattle.cilk_expression.specs.Grammar.{operators, Spells, a_number_is, a_name_is, synched_is, an_element, in_parentheses, of_one, of_two, of_three}
 use Rattle.cilk_expression.specs.Front.{kind_at, place_at, infix_at, name_at}
 use Rattle.cilk_expression.specs.Reading.{Reads, closed, in_open, at_mark, behind_name, operand_by, behind_question, behind_infix, on_after, expr_in, more_in}
 use Rattle.cilk_expression.proofs.Tables.{level_low, level_none}
-use Rattle.cilk_expression.proofs.Tools.{Next, next_is, class_next, NextKind, kind_next, number_lexeme, word_class, mark_class, NextName, name_is, infix_next, Stops, Below, BelowAt, below_at, below_all, looser}
+use Rattle.cilk_expression.proofs.Tools.{Next, next_is, class_next, kind_next, number_lexeme, word_class, mark_class, NextName, name_is, infix_next, Stops, Below, BelowAt, below_at, below_all, looser}
 
 abbrev pub State : Type 0
 State = (tree.Expr × ℕ) × List Piece
@@ -221,6 +221,11 @@ operator_takes expr more l d p q r n us a ts x o te tm at ge s b lt e =
       within = λ le. m.within (t.within lt);
     }
 
+-- a token, some others, a token, and some others, in front of the rest
+around : (ts ts' us us' front back rest : List Piece) (t u : Piece) → ts ≡ t ∷ ts' → ts' ≡ front ++ us → us ≡ u ∷ us' → us' ≡ back ++ rest → ts ≡ t ∷ ((front ++ u ∷ back) ++ rest)
+around ts ts' us us' front back rest t u e f g h =
+    e ∙ ap (λ (r : List Piece). t ∷ r) (f ∙ ap (λ (r : List Piece). front ++ r) (g ∙ ap (λ (r : List Piece). u ∷ r) h) ∙ sym (append_assoc front (u ∷ back) rest))
+
 -- `?`, what stands before the colon, and what stands behind it
 choice_takes : (expr : ℕ → ℕ → List Piece → Reads) (l d p q r n : ℕ) (us : List Piece) (a : tree.Expr) (ts : List Piece) (x : State) → TakesExpr expr l d → infix_at ts ≡ Some (r, Choice) → p ≤ r → Spells d q us a → 0 < q → n < l
     → behind_question expr a (suc n) (behind ts) ≡ Ok x → Took l d p n (operators a) us ts x
@@ -234,12 +239,10 @@ choice_takes expr l d p q r n us a ts x te at ge s some lt e =
     let c = next_is (a_mark marks.Colon) y.0.1 v.0 v.1 in
     let second = te 0 y.0.0.1 v.0 z.0 z.1 in
     let lowest : p ≡ 0 = omega (arith, ge, none) in
-    let shape : first.used ++ c.piece ∷ (second.used ++ z.0.1) ≡ (first.used ++ c.piece ∷ second.used) ++ z.0.1 = sym (append_assoc first.used (c.piece ∷ second.used) z.0.1) in
     subst (λ (r : State). Took l d p n (operators a) us ts r) (ok_is ((tree.choose a y.0.0.0 z.0.0.0, z.0.0.1), z.0.1) x z.2)
     (record {
       used = k.piece ∷ (first.used ++ c.piece ∷ second.used);
-      whole = k.whole ∙ ap (λ (r : List Piece). k.piece ∷ r)
-          (first.whole ∙ ap (λ (r : List Piece). first.used ++ r) (c.whole ∙ ap (λ (r : List Piece). c.piece ∷ r) second.whole) ∙ shape);
+      whole = around ts (behind ts) y.0.1 v.0 first.used second.used z.0.1 k.piece c.piece k.whole first.whole c.whole second.whole;
       spelled = of_three k.piece c.piece (k.is ∙ ap (λ (i : ℕ). Some (i, Choice)) none) c.is lowest (looser some s) first.spelled second.spelled refl;
       stops = subst (λ (i : ℕ). Stops i z.0.1) (sym lowest) second.stops;
       counted = omega (arith, first.counted, second.counted);

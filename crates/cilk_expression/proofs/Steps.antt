@@ -1,5 +1,5 @@
 -- The steps of reading, whatever the count of steps.
-use Rattle.std.proofs.Common.{◌≡◌, ℕ, zero, suc, ◌<◌, ◌≤◌, ◌==◌, Bool, true, false, if◌then◌else◌, List, length, Option, Some, None, Ok, Err, refl, ap, ◌∙◌, inl, inr, arith, leb, ltb, length-append}
+use Rattle.std.proofs.Common.{◌≡◌, ℕ, zero, suc, ◌<◌, ◌≤◌, ◌==◌, Bool, true, false, if◌then◌else◌, List, length, Option, Some, None, Ok, Err, refl, ap, ◌∙◌, arith, leb, ltb, length-append}
 use Rattle.std.proofs.lemmas.Bool.{le-leb, le-ltb, lt-ltb}
 use Rattle.cilk_lexeme.specs.Lexeme.{Piece}
 use Rattle.cilk_lexeme.specs.declared.mark.Mark.TheVariants as marks
@@ -19,7 +19,7 @@ use Rattle.cilk_expression.specs.Front.{kind_at, infix_at, name_at}
 use Rattle.cilk_expression.specs.Reading.{Reads, closed, at_mark, behind_name, operand_by, behind_infix, choice_at, on_after, expr_in, more_in, expr_of, more_of, operand_at}
 use Rattle.cilk_expression.proofs.Tools.{next_shorter, class_next, kind_next, name_is, infix_shorter, Stops}
 use Rattle.cilk_expression.proofs.Sound.{State, operand_takes, expr_takes}
-use Rattle.cilk_expression.proofs.Complete.{more_stops, more_operator}
+use Rattle.cilk_expression.proofs.Complete.{more_stops}
 
 -- what is left is less than there was
 pub left_over : (f l d p n : ℕ) (ts : List Piece) (x : State) → expr_in f l d p n ts ≡ Ok x → length x.1 < length ts

@@ -1,9 +1,8 @@
 -- Tables by the classes of tokens, and what the tables of operators have.
-use Rattle.std.proofs.Common.{◌≡◌, ℕ, ◌<◌, ◌==◌, ◌||◌, ◌&&◌, Bool, true, false, if◌then◌else◌, List, [], ◌∷◌, Option, Some, None, refl, sym, ap, ◌∙◌, inl, inr, arith, nat_lt}
+use Rattle.std.proofs.Common.{◌≡◌, ℕ, ◌<◌, ◌==◌, ◌&&◌, Bool, true, false, List, [], ◌∷◌, Option, Some, None, refl, sym, ap, ◌∙◌, inl, inr, arith, nat_lt}
 use Rattle.std.proofs.lemmas.Bool.{ltb-true, eqb-true}
-use Rattle.cilk_rules.specs.Rule.{is, has, class_at}
+use Rattle.cilk_rules.specs.Rule.{is, has}
 use Rattle.cilk_rules.proofs.Tools.{both_true, or_false, or_left, or_right, chosen}
-use Rattle.cilk_lexeme.specs.Lexeme.{Piece}
 use Rattle.cilk_syntax.specs.declared.operator.BinOp.{BinOp}
 use Rattle.cilk_expression.specs.declared.operator.Infix.{Infix}
 use Rattle.cilk_expression.specs.declared.operator.Infix.TheVariants.{Two, Choice}

@@ -1,5 +1,5 @@
 -- What stands at the front of the tokens.
-use Rattle.std.proofs.Common.{◌≡◌, ℕ, zero, suc, ◌<◌, ◌≤◌, ◌==◌, Bool, true, false, List, [], ◌∷◌, length, Option, Some, None, Result, Ok, Err, refl, sym, ap, ◌∙◌, inl, inr, arith, eq-eqb}
+use Rattle.std.proofs.Common.{◌≡◌, ℕ, suc, ◌<◌, ◌≤◌, true, List, [], ◌∷◌, length, Option, Some, None, Ok, refl, sym, ap, arith, eq-eqb}
 use Rattle.std.proofs.lemmas.Bool.{eqb-true}
 use Rattle.cilk_lexeme.specs.Lexeme.{Lexeme, Piece, word, name, number, mark, literal, inclusion}
 use Rattle.cilk_lexeme.specs.declared.keyword.Keyword.{Keyword}
@@ -7,15 +7,14 @@ use Rattle.cilk_lexeme.specs.declared.mark.Mark.{Mark}
 use Rattle.cilk_lexeme.specs.declared.token.Kind.{Kind}
 use Rattle.cilk_lexeme.specs.declared.token.Kind.TheVariants as kind
 use Rattle.cilk_syntax.specs.Tree as tree
-use Rattle.cilk_rules.specs.Rule.{is, has, behind, class_at, token_at}
+use Rattle.cilk_rules.specs.Rule.{is, behind, class_at, token_at}
 use Rattle.cilk_rules.proofs.Tools.{ok_is}
 use Rattle.cilk_rules.proofs.Tokens.{token_is, token_here}
 use Rattle.cilk_expression.specs.declared.operator.Infix.{Infix}
-use Rattle.cilk_expression.specs.declared.operator.Infix.TheVariants.{Two, Choice}
 use Rattle.cilk_expression.specs.Classes.{cls, class_of, a_word, a_mark}
 use Rattle.cilk_expression.specs.Operators.{operand, infix_of}
 use Rattle.cilk_expression.specs.Grammar.{word_at, Spells, a_number_is, a_name_is, synched_is, an_element, in_parentheses, of_one, of_two, of_three}
-use Rattle.cilk_expression.specs.Front.{kind_of, kind_at, infix_in, infix_at, name_by, name_at}
+use Rattle.cilk_expression.specs.Front.{kind_of, kind_at, infix_at, name_by, name_at}
 use Rattle.cilk_expression.proofs.Tables.{level_high}
 
 -- ---- the next token

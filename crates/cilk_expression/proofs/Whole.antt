@@ -1,17 +1,17 @@
 -- The laws of a whole expression, as a rule asks them of its parts.
-use Rattle.std.proofs.Common.{◌≡◌, ℕ, zero, suc, ◌<◌, ◌≤◌, List, [], ◌∷◌, ◌++◌, length, true, false, Option, Some, None, Ok, refl, sym, ap, subst, ◌∙◌, arith}
+use Rattle.std.proofs.Common.{◌≡◌, ℕ, zero, suc, ◌≤◌, List, [], ◌∷◌, ◌++◌, length, true, false, Option, Some, None, Ok, refl, sym, ap, subst, ◌∙◌, arith}
 use Rattle.cilk_lexeme.specs.Lexeme.{Lexeme, Piece, name}
 use Rattle.cilk_lexeme.specs.declared.keyword.Keyword.TheVariants as words
 use Rattle.cilk_lexeme.specs.declared.mark.Mark.TheVariants as marks
 use Rattle.cilk_syntax.specs.declared.un_op.UnOp.{UnOp}
 use Rattle.cilk_syntax.specs.Tree as tree
-use Rattle.cilk_rules.specs.Rule.{has, is, class_at}
+use Rattle.cilk_rules.specs.Rule.{has, class_at}
 use Rattle.cilk_rules.proofs.Tools.{bind_ok, ok_is, or_left, or_right}
 use Rattle.cilk_rules.proofs.Tokens.{has_append}
 use Rattle.cilk_rules.proofs.Begun.{Begun, with_token, with_nothing}
 use Rattle.cilk_rules.proofs.Sound as sound
 use Rattle.cilk_expression.specs.Classes.{a_word, a_mark, a_number, names, class_of, cls}
-use Rattle.cilk_expression.specs.Operators.{infixes, prefixes, classes, infix_of, sign_of}
+use Rattle.cilk_expression.specs.Operators.{infixes, prefixes, classes, sign_of}
 use Rattle.cilk_expression.specs.Grammar.{operators, Spells, SpellsWhole, a_number_is, a_name_is, synched_is, an_element, in_parentheses, of_one, of_two, of_three, begins_expr, goes_on_expr}
 use Rattle.cilk_expression.specs.Front.{infix_in}
 use Rattle.cilk_expression.specs.Reading.{expr_of, whole_of}

@@ -1,6 +1,6 @@
 -- The class of a token, a number: all that a rule looks at. Each word and each mark has its own, and so has each name to
 -- which a rule gives a meaning; other names share one, and so do numbers, text literals and inclusions.
-use Rattle.std.specs.Prelude.{ℕ, ◌+◌, if◌then◌else◌, List, [], ◌∷◌, codes}
+use Rattle.std.specs.Prelude.{ℕ, if◌then◌else◌, List, [], ◌∷◌, codes}
 use Rattle.std.specs.Str.{bytes_eq}
 use Rattle.cilk_lexeme.specs.Lexeme.{Lexeme, Piece, word, name, number, mark, literal, inclusion}
 use Rattle.cilk_lexeme.specs.declared.keyword.Keyword.{Keyword}

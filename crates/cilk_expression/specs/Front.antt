@@ -1,5 +1,5 @@
 -- What stands at the front of the tokens that are left.
-use Rattle.std.specs.Prelude.{ℕ, suc, List, [], ◌∷◌, length, Option, Some, None, Result, Ok, Err}
+use Rattle.std.specs.Prelude.{ℕ, suc, List, [], ◌∷◌, length, Option, Some, None, Ok, Err}
 use Rattle.cilk_lexeme.specs.Lexeme.{Lexeme, Piece, word, name, number, mark, literal, inclusion}
 use Rattle.cilk_lexeme.specs.declared.header.Header.{Header}
 use Rattle.cilk_lexeme.specs.declared.token.Kind.{Kind}

@@ -41,7 +41,8 @@ leaf_local same t (p ∷ ts) = by (has (leaf_classes t) (Some (cls p))) (said t 
     again : (b : Bool) (o : Option (LeafMeans t)) → has (leaf_classes t) (Some (cls p)) ≡ b → said t p.lexeme p.start ≡ o → (us : List Piece) → leaf_at t (p ∷ us) ≡ given b o (p ∷ us)
     again b o h i us = ap (λ b. given b (said t p.lexeme p.start) (p ∷ us)) h ∙ ap (λ o. given b o (p ∷ us)) i
 
-    stops : (b : Bool) (o : Option (LeafMeans t)) → ((us : List Piece) → leaf_at t (p ∷ us) ≡ given b o (p ∷ us)) → ((us : List Piece) → given b o (p ∷ us) ≡ Err (unexpected (length (p ∷ us)))) → (us : List Piece) → SameHead (p ∷ ts) us → leaf_at t us ≡ Err (unexpected (length us))
+    stops : (b : Bool) (o : Option (LeafMeans t)) → ((us : List Piece) → leaf_at t (p ∷ us) ≡ given b o (p ∷ us))
+        → ((us : List Piece) → given b o (p ∷ us) ≡ Err (unexpected (length (p ∷ us)))) → (us : List Piece) → SameHead (p ∷ ts) us → leaf_at t us ≡ Err (unexpected (length us))
     stops b o h i [] s = elim s [ ]
     stops b o h i (u ∷ us) s = ap (λ v. leaf_at t (v ∷ us)) (sym s) ∙ h us ∙ i us
 

@@ -1,12 +1,12 @@
 -- A comment goes to the first end of one.
-use Rattle.std.proofs.Common.{◌≡◌, ◌≢◌, ℕ, suc, ◌+◌, ◌<◌, ◌≤◌, Bool, true, false, cond, eqb, ◌&&◌, List, [], ◌∷◌, ◌++◌, length, drop, codes, Option, Some, None, refl, sym, ap, ◌∙◌, arith, length-append, append_assoc}
+use Rattle.std.proofs.Common.{◌≡◌, ℕ, suc, ◌+◌, ◌<◌, ◌≤◌, Bool, true, false, cond, ◌&&◌, List, [], ◌∷◌, ◌++◌, length, drop, codes, Option, Some, None, refl, sym, ap, ◌∙◌, arith, length-append, append_assoc}
 use Rattle.std.specs.Prelude.{◌==◌}
 use Rattle.std.proofs.lemmas.Bool.{eqb-true}
 use Rattle.cilk_lexeme.specs.declared.fault.LexFault.TheVariants.{OpenComment}
-use Rattle.cilk_lexeme.specs.Lexing.{Front, of_comment, Amiss, open_comment}
+use Rattle.cilk_lexeme.specs.Lexing.{of_comment, open_comment}
 use Rattle.cilk_lexeme.specs.Sight.{opens_comment, end_from, comment_shown, comment_sight, found, amiss}
 use Rattle.cilk_lexeme.specs.Spelling.{NeverEnds, IsComment}
-use Rattle.cilk_lexeme.proofs.Runs.{both, clash}
+use Rattle.cilk_lexeme.proofs.Runs.{both}
 use Rattle.cilk_lexeme.proofs.Shows.{Shows, shown_at}
 
 -- ---- where there is an end, one is found, and no later

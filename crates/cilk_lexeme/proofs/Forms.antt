@@ -1,14 +1,13 @@
 -- The forms of fronts: none is empty, each ends with an ASCII byte, and lexemes are ASCII.
-use Rattle.std.proofs.Common.{◌≡◌, ℕ, ◌+◌, ◌-◌, ◌<◌, ◌≤◌, Bool, true, false, ◌&&◌, ltb, cond, eqb, List, [], ◌∷◌, ◌++◌, length, get_or, codes, Option, Some, None, refl, sym, ap, subst, ◌∙◌, arith, length-append, append_assoc}
+use Rattle.std.proofs.Common.{◌≡◌, ℕ, ◌-◌, ◌<◌, Bool, true, false, ltb, cond, List, [], ◌∷◌, ◌++◌, length, get_or, codes, Option, Some, refl, sym, ap, subst, ◌∙◌, arith, length-append, append_assoc}
 use Rattle.std.specs.Prelude.{IsAscii, ◌==◌}
 use Rattle.std.specs.List.{list_all}
 use Rattle.std.proofs.lemmas.Bool.{ltb-true}
 use Rattle.std.proofs.lemmas.Bool.Decides.{nat_tests}
 use Rattle.std.proofs.lemmas.List.{get_or_push}
-use Rattle.std.proofs.lemmas.Str.Ascii.{IsAscii-nil, IsAscii-cons}
 use Rattle.cilk_lexeme.specs.declared.header.Header.{Header}
 use Rattle.cilk_lexeme.specs.declared.header.Header.TheVariants as head
-use Rattle.cilk_lexeme.specs.Byte.{is_blank, is_line_blank, is_plain, is_escape, opens_header}
+use Rattle.cilk_lexeme.specs.Byte.{is_line_blank, is_plain, is_escape, opens_header}
 use Rattle.cilk_lexeme.specs.Lexeme.{Lexeme}
 use Rattle.cilk_lexeme.specs.Lexing.{Front, of_blank, of_comment, of_word, of_name, of_number, of_mark, of_text, of_include}
 use Rattle.cilk_lexeme.specs.Spelling.{spelling, has_name_form, has_number_form, Says, says_nothing, says_byte, says_escape, IsText, IsInclude, IsComment, header_spelling, closing_of}

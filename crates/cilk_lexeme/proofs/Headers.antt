@@ -1,8 +1,8 @@
 -- Lines that include a header.
-use Rattle.std.proofs.Common.{◌≡◌, ◌≢◌, ℕ, suc, ◌+◌, ◌<◌, ◌≤◌, Bool, true, false, cond, eqb, ◌&&◌, ◌||◌, ◌⊎◌, inl, inr, List, [], ◌∷◌, ◌++◌, length, take, drop, codes, Option, Some, None, refl, sym, ap, ◌∙◌, subst, arith, length-append, append_assoc}
+use Rattle.std.proofs.Common.{◌≡◌, ◌≢◌, ℕ, suc, ◌+◌, Bool, true, false, cond, ◌&&◌, List, [], ◌∷◌, ◌++◌, length, take, drop, codes, Option, Some, None, refl, sym, ap, ◌∙◌, subst, arith, length-append, append_assoc}
 use Rattle.std.specs.Prelude.{◌==◌, bytes_eq}
 use Rattle.std.specs.List.{list_all, prefix_len}
-use Rattle.std.proofs.lemmas.Bool.{eqb-true, eqb-false, eq-eqb}
+use Rattle.std.proofs.lemmas.Bool.{eqb-true, eq-eqb}
 use Rattle.std.proofs.lemmas.Bool.Decides.{nat_tests}
 use Rattle.std.proofs.lemmas.List.{take_at, drop_at, take-append-drop, length-take-le}
 use Rattle.std.proofs.lemmas.List.Sums.{prefix_len-le-length}
@@ -12,10 +12,10 @@ use Rattle.cilk_lexeme.specs.declared.header.Header.{Header}
 use Rattle.cilk_lexeme.specs.declared.header.Header.TheVariants as head
 use Rattle.cilk_lexeme.specs.Byte.{is_line_blank, is_line_end, continues_name, continues_header, opens_header}
 use Rattle.cilk_lexeme.specs.Lexeme.{inclusion}
-use Rattle.cilk_lexeme.specs.Lexing.{Front, EndsBefore, AtLineEnd, EndsLine, of_include, Amiss, bad_directive}
+use Rattle.cilk_lexeme.specs.Lexing.{EndsBefore, AtLineEnd, EndsLine, of_include, bad_directive}
 use Rattle.cilk_lexeme.specs.Sight.{all_headers, header_among, ends_line, closes, closed_at, header_at, behind_word, word_at, include_in, include_shown, include_sight, found, amiss}
 use Rattle.cilk_lexeme.specs.Spelling.{header_spelling, closing_of, IsInclude}
-use Rattle.cilk_lexeme.proofs.Runs.{both, and_true, run_passes, run_length, clash}
+use Rattle.cilk_lexeme.proofs.Runs.{both, and_true, run_passes, run_length}
 use Rattle.cilk_lexeme.proofs.Shows.{Shows, shown_at}
 
 -- ---- the end of the line

@@ -1,7 +1,7 @@
 -- Texts made of some lexemes, wherever they stand, and what may be put before them.
-use Rattle.std.proofs.Common.{◌≡◌, ℕ, ◌+◌, List, [], ◌∷◌, ◌++◌, length, map, codes, refl, sym, ap, subst, Bool, true, false, ◌||◌, Some, None, append_assoc}
+use Rattle.std.proofs.Common.{◌≡◌, ℕ, ◌+◌, List, [], ◌∷◌, ◌++◌, length, map, codes, refl, ap, subst, Bool, true, false, ◌||◌, Some, None, append_assoc}
 use Rattle.cilk_lexeme.specs.declared.header.Header.{Header}
-use Rattle.cilk_lexeme.specs.Byte.{continues_name, continues_number, is_blank}
+use Rattle.cilk_lexeme.specs.Byte.{continues_name, continues_number}
 use Rattle.cilk_lexeme.specs.Lexeme.{Lexeme, Piece, literal, inclusion}
 use Rattle.cilk_lexeme.specs.Lexing.{EndsBefore, EndsLine, Front, of_blank, of_text, of_include, fresh_behind, Lexes, finished, skipped, taken}
 use Rattle.cilk_lexeme.specs.Spelling.{Says, IsInclude, header_spelling}

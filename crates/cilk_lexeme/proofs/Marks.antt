@@ -1,5 +1,5 @@
 -- What all marks have in common, by their bytes, and the longest one at the front of a text.
-use Rattle.std.proofs.Common.{◌≡◌, ◌≢◌, ℕ, zero, suc, codes, ◌<◌, ◌≤◌, Bool, true, false, not, cond, ◌&&◌, ◌||◌, ltb, leb, List, [], ◌∷◌, ◌++◌, length, take, drop, Option, Some, None, refl, sym, ap, subst, ◌∙◌, ◌⊎◌, inl, inr, arith}
+use Rattle.std.proofs.Common.{◌≡◌, ◌≢◌, ℕ, zero, suc, codes, ◌<◌, ◌≤◌, Bool, true, false, not, ◌&&◌, ◌||◌, ltb, leb, List, [], ◌∷◌, ◌++◌, length, take, drop, Option, Some, None, refl, sym, ap, subst, ◌∙◌, ◌⊎◌, inl, inr, arith}
 use Rattle.std.specs.Prelude.{IsAscii, bytes_eq, nat_le, ◌==◌}
 use Rattle.std.specs.Char.{is_ascii_digit}
 use Rattle.std.specs.List.{list_all}
@@ -11,8 +11,8 @@ use Rattle.cilk_lexeme.specs.declared.mark.Mark.TheVariants as sign
 use Rattle.cilk_lexeme.specs.declared.fault.LexFault.TheVariants.{BadByte}
 use Rattle.cilk_lexeme.specs.Byte.{is_blank, begins_name}
 use Rattle.cilk_lexeme.specs.Lexeme.{mark}
-use Rattle.cilk_lexeme.specs.Lexing.{IsLongest, BeginsNothing, Front, of_mark, Amiss, bad_byte}
-use Rattle.cilk_lexeme.specs.Sight.{Sight, found, amiss, all_marks, mark_among, mark_in, mark_shown, mark_sight, opens_comment}
+use Rattle.cilk_lexeme.specs.Lexing.{IsLongest, of_mark, Amiss, bad_byte}
+use Rattle.cilk_lexeme.specs.Sight.{found, amiss, all_marks, operator_marks, double_marks, assigning_marks, mark_among, mark_in, mark_shown, mark_sight, opens_comment}
 use Rattle.cilk_lexeme.specs.Spelling.{mark_spelling}
 use Rattle.cilk_lexeme.proofs.Runs.{both, run_ascii, clash}
 use Rattle.cilk_lexeme.proofs.Shows.{Shows}
@@ -122,7 +122,7 @@ five_false false false false false true h = absurd cc
 -- ---- a mark is told by its bytes
 
 pub mark_again : (m : Mark) → mark_among all_marks (mark_spelling m) ≡ Some m
-unfolding mark_among all_marks
+unfolding mark_among all_marks operator_marks double_marks assigning_marks
 mark_again sign.OpenParenthesis = refl
 mark_again sign.CloseParenthesis = refl
 mark_again sign.OpenBrace = refl

@@ -1,19 +1,17 @@
 -- Integer constants are told by their bytes.
-use Rattle.std.proofs.Common.{◌≡◌, ℕ, ◌<◌, ◌≤◌, Bool, true, false, cond, eqb, leb, ◌&&◌, ◌||◌, List, [], ◌∷◌, ◌++◌, length, take, drop, Option, Some, None, refl, sym, ap, ◌∙◌, subst, arith}
+use Rattle.std.proofs.Common.{◌≡◌, ℕ, ◌<◌, ◌≤◌, Bool, true, false, cond, ◌&&◌, List, [], ◌∷◌, ◌++◌, length, take, drop, Option, Some, None, refl, sym, ◌∙◌, subst, arith}
 use Rattle.std.specs.Prelude.{nat_le, nat_lt, ◌==◌}
 use Rattle.std.specs.Char.{is_ascii_digit, digit_value}
 use Rattle.std.specs.Int.{is_in_range}
 use Rattle.std.specs.List.{list_all, prefix_len}
 use Rattle.std.specs.Str.Parse.{AllDigits, IsNumeral, digits_value}
-use Rattle.std.proofs.lemmas.Bool.{leb-true, leb-false, le-leb, ltb-true, lt-ltb, eqb-true}
+use Rattle.std.proofs.lemmas.Bool.{leb-true, le-leb, ltb-true, lt-ltb, eqb-true}
 use Rattle.std.proofs.lemmas.Bool.Decides.{nat_tests}
 use Rattle.std.proofs.lemmas.List.{take-append-drop, take_at}
 use Rattle.std.proofs.lemmas.List.Sums.{prefix_len-le-length}
-use Rattle.cilk_lexeme.specs.declared.fault.LexFault.TheVariants.{BadNumber}
 use Rattle.cilk_lexeme.specs.Byte.{continues_number, is_x}
-use Rattle.cilk_lexeme.specs.Lexeme.{number}
-use Rattle.cilk_lexeme.specs.Lexing.{Front, EndsBefore, of_number, Amiss, bad_number}
-use Rattle.cilk_lexeme.specs.Sight.{Sight, found, amiss, is_numeral, valued, number_in, number_shown, number_sight}
+use Rattle.cilk_lexeme.specs.Lexing.{EndsBefore, of_number, bad_number}
+use Rattle.cilk_lexeme.specs.Sight.{is_numeral, valued, number_in, number_shown, number_sight}
 use Rattle.cilk_lexeme.specs.Spelling.{IsNumber, zero_alone, decimal_digits, octal_digits, hexadecimal_digits, int_max, has_number_form}
 use Rattle.cilk_lexeme.proofs.Runs.{both, and_true, run_passes, run_ends, run_length, run_of}
 use Rattle.cilk_lexeme.proofs.Shows.{Shows}

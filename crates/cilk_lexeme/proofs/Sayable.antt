@@ -1,17 +1,16 @@
 -- The lexemes of a text are good, and what is good can be spelled.
-use Rattle.std.proofs.Common.{◌≡◌, ℕ, Bool, true, false, cond, ◌&&◌, ◌||◌, List, [], ◌∷◌, ◌++◌, codes, Option, Some, None, refl, sym, ap, ◌∙◌, subst, arith}
-use Rattle.std.specs.Prelude.{All, ◌==◌, if◌then◌else◌}
+use Rattle.std.proofs.Common.{◌≡◌, ℕ, Bool, true, List, Option, Some, None, refl, arith}
+use Rattle.std.specs.Prelude.{All}
 use Rattle.std.specs.List.{list_all}
-use Rattle.std.proofs.lemmas.Bool.{eqb-true}
 use Rattle.std.proofs.lemmas.Bool.Decides.{nat_tests}
 use Rattle.std.proofs.lemmas.List.Elements.{All-nil, All-cons}
-use Rattle.cilk_lexeme.specs.Byte.{is_printed, is_plain, is_escape}
+use Rattle.cilk_lexeme.specs.Byte.{is_plain, is_escape}
 use Rattle.cilk_lexeme.specs.Good.{is_sayable, IsGoodLexeme}
 use Rattle.cilk_lexeme.specs.Lexeme.{Lexeme, Piece, escaped}
 use Rattle.cilk_lexeme.specs.Lexing.{Front, of_blank, of_comment, of_word, of_name, of_number, of_mark, of_text, of_include, Lexes, finished, skipped, taken}
 use Rattle.cilk_lexeme.specs.Spelling.{Says, says_nothing, says_byte, says_escape}
 use Rattle.cilk_lexeme.proofs.Numbers.{number_le}
-use Rattle.cilk_lexeme.proofs.Runs.{both, and_true}
+use Rattle.cilk_lexeme.proofs.Runs.{and_true}
 
 -- ---- what literals say
 

@@ -1,5 +1,5 @@
 -- What the rules say of the front of a text is what is computed.
-use Rattle.std.proofs.Common.{◌≡◌, ◌≢◌, ℕ, ◌<◌, Bool, true, false, ◌&&◌, ◌||◌, List, [], ◌∷◌, ◌++◌, length, codes, Option, Some, None, refl, sym, ap, ◌∙◌, arith}
+use Rattle.std.proofs.Common.{◌≡◌, ◌≢◌, ℕ, ◌<◌, Bool, true, false, List, [], ◌∷◌, ◌++◌, length, codes, Option, Some, None, refl, ap, ◌∙◌, arith}
 use Rattle.std.specs.Prelude.{◌==◌}
 use Rattle.std.specs.Char.{is_ascii_digit}
 use Rattle.std.specs.List.{list_all}
@@ -9,16 +9,16 @@ use Rattle.cilk_lexeme.specs.declared.fault.LexFault.{LexFault}
 use Rattle.cilk_lexeme.specs.declared.fault.LexFault.TheVariants.{BadNumber}
 use Rattle.cilk_lexeme.specs.declared.mark.Mark.TheVariants as sign
 use Rattle.cilk_lexeme.specs.Byte.{is_blank, begins_name, continues_name, continues_number}
-use Rattle.cilk_lexeme.specs.Lexeme.{Lexeme, word, number}
-use Rattle.cilk_lexeme.specs.Lexing.{Front, of_blank, of_comment, of_word, of_name, of_number, of_mark, of_text, of_include, EndsBefore, IsLongest}
+use Rattle.cilk_lexeme.specs.Lexeme.{Lexeme, number}
+use Rattle.cilk_lexeme.specs.Lexing.{Front, of_blank, of_comment, of_word, of_name, of_number, of_mark, of_text, of_include, EndsBefore}
 use Rattle.cilk_lexeme.specs.Lexing.{Amiss, bad_byte, open_comment, open_text, bad_text, bad_number, bad_directive, BeginsNothing}
-use Rattle.cilk_lexeme.specs.Sight.{Sight, found, amiss, named, opens_comment, name_sight, number_in, number_sight, number_shown, mark_sight, comment_sight, text_sight, include_sight, sight}
+use Rattle.cilk_lexeme.specs.Sight.{found, amiss, opens_comment, name_sight, number_in, number_sight, number_shown, mark_sight, comment_sight, text_sight, include_sight, sight}
 use Rattle.cilk_lexeme.specs.Spelling.{spelling, mark_spelling, has_name_form, has_number_form}
 use Rattle.cilk_lexeme.proofs.Comments.{comment_seen, open_seen}
 use Rattle.cilk_lexeme.proofs.Headers.{include_seen, directive_seen}
 use Rattle.cilk_lexeme.proofs.Marks.{begins_other, five_false, mark_form, mark_seen, no_mark_seen}
 use Rattle.cilk_lexeme.proofs.Numbers.{constant_form, number_seen, no_number_in, number_sight_of}
-use Rattle.cilk_lexeme.proofs.Runs.{both, clash}
+use Rattle.cilk_lexeme.proofs.Runs.{both}
 use Rattle.cilk_lexeme.proofs.Texts.{text_seen, lost_seen, bad_seen}
 use Rattle.cilk_lexeme.proofs.Words.{word_form, named_word, named_name, name_sight_of}
 

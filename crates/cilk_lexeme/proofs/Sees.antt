@@ -1,5 +1,5 @@
 -- What is computed of the front of a text is what the rules say.
-use Rattle.std.proofs.Common.{◌≡◌, ℕ, ◌≤◌, None, Bool, true, false, cond, ◌||◌, List, [], ◌∷◌, length, codes, refl, sym, ap, ◌∙◌, arith}
+use Rattle.std.proofs.Common.{◌≡◌, ℕ, None, Bool, true, false, cond, List, [], ◌∷◌, refl, arith}
 use Rattle.std.specs.Prelude.{◌==◌}
 use Rattle.std.specs.Char.{is_ascii_digit}
 use Rattle.std.proofs.lemmas.Bool.{eqb-true}
@@ -8,7 +8,7 @@ use Rattle.cilk_lexeme.specs.Lexing.{of_blank}
 use Rattle.cilk_lexeme.specs.Sight.{found, opens_comment, name_sight, number_sight, mark_sight, comment_sight, text_sight, include_sight, sight}
 use Rattle.cilk_lexeme.proofs.Comments.{comment_sees}
 use Rattle.cilk_lexeme.proofs.Headers.{include_sees}
-use Rattle.cilk_lexeme.proofs.Marks.{begins_other, mark_sees}
+use Rattle.cilk_lexeme.proofs.Marks.{mark_sees}
 use Rattle.cilk_lexeme.proofs.Numbers.{number_sees}
 use Rattle.cilk_lexeme.proofs.Shows.{Shows}
 use Rattle.cilk_lexeme.proofs.Texts.{text_sees}

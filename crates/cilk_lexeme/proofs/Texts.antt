@@ -1,5 +1,5 @@
 -- Text literals: where they are closed, what they say, and their faults.
-use Rattle.std.proofs.Common.{◌≡◌, ◌≢◌, ℕ, suc, ◌+◌, ◌-◌, ◌<◌, ◌≤◌, Bool, true, false, not, cond, eqb, ◌&&◌, ◌||◌, ◌⊎◌, inl, inr, List, [], ◌∷◌, ◌++◌, length, take, drop, codes, Option, Some, None, refl, sym, ap, ◌∙◌, subst, arith, length-append, append_assoc}
+use Rattle.std.proofs.Common.{◌≡◌, ◌≢◌, ℕ, suc, ◌+◌, ◌-◌, ◌<◌, Bool, true, false, not, cond, ◌||◌, inl, inr, List, [], ◌∷◌, ◌++◌, length, take, drop, codes, Option, Some, None, refl, sym, ap, ◌∙◌, arith, length-append, append_assoc}
 use Rattle.std.specs.Prelude.{◌==◌}
 use Rattle.std.proofs.lemmas.Bool.{eqb-true, eqb-false, ne_eqb}
 use Rattle.std.proofs.lemmas.Bool.Decides.{nat_tests}
@@ -8,10 +8,10 @@ use Rattle.cilk_lexeme.specs.declared.fault.LexFault.{LexFault}
 use Rattle.cilk_lexeme.specs.declared.fault.LexFault.TheVariants.{BadByte, OpenText, BadEscape}
 use Rattle.cilk_lexeme.specs.Byte.{is_printed, is_plain, is_escape, is_within_text}
 use Rattle.cilk_lexeme.specs.Lexeme.{escaped, body_says, literal}
-use Rattle.cilk_lexeme.specs.Lexing.{Front, of_text, Amiss, open_text, bad_text, AtLineEnd, NotClosed, BodyFault, escape_fault, byte_fault}
+use Rattle.cilk_lexeme.specs.Lexing.{of_text, open_text, bad_text, AtLineEnd, NotClosed, BodyFault, escape_fault, byte_fault}
 use Rattle.cilk_lexeme.specs.Sight.{quote_from, fault_from, body_shown, text_shown, text_sight, found, amiss}
 use Rattle.cilk_lexeme.specs.Spelling.{IsBody, no_bytes, one_byte, two_bytes, Says, says_nothing, says_byte, says_escape, IsText}
-use Rattle.cilk_lexeme.proofs.Runs.{both, clash}
+use Rattle.cilk_lexeme.proofs.Runs.{both}
 use Rattle.cilk_lexeme.proofs.Shows.{Shows, shown_at}
 
 -- ---- bytes

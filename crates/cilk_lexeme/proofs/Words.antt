@@ -1,5 +1,5 @@
 -- Words and names are told apart by their bytes.
-use Rattle.std.proofs.Common.{◌≡◌, ◌≢◌, ℕ, Bool, true, false, cond, ◌⊎◌, inl, inr, List, [], ◌∷◌, ◌++◌, length, take, Some, refl, sym, ap, ◌∙◌}
+use Rattle.std.proofs.Common.{◌≡◌, ◌≢◌, ℕ, Bool, true, false, ◌⊎◌, inl, inr, List, [], ◌∷◌, ◌++◌, length, take, Some, refl, sym, ap, ◌∙◌}
 use Rattle.std.specs.Prelude.{bytes_eq}
 use Rattle.std.specs.List.{list_all, prefix_len}
 use Rattle.std.proofs.lemmas.List.{take_at}
@@ -8,10 +8,10 @@ use Rattle.std.proofs.lemmas.Slice.Eq.{bytes_eq-Decides}
 use Rattle.cilk_lexeme.specs.declared.keyword.Keyword.{Keyword}
 use Rattle.cilk_lexeme.specs.declared.keyword.Keyword.TheVariants as key
 use Rattle.cilk_lexeme.specs.Byte.{begins_name, continues_name}
-use Rattle.cilk_lexeme.specs.Lexeme.{Lexeme, word, name}
+use Rattle.cilk_lexeme.specs.Lexeme.{word, name}
 use Rattle.cilk_lexeme.specs.Lexing.{Front, EndsBefore, of_word, of_name}
 use Rattle.cilk_lexeme.specs.Sight.{found, word_in, all_words, named, name_sight}
-use Rattle.cilk_lexeme.specs.Spelling.{spelling, IsName, has_name_form}
+use Rattle.cilk_lexeme.specs.Spelling.{spelling, has_name_form}
 use Rattle.cilk_lexeme.proofs.Runs.{both, and_true, or_true, run_passes, run_ends, run_length, run_of}
 use Rattle.cilk_lexeme.proofs.Shows.{Shows}
 

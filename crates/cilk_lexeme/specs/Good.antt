@@ -1,5 +1,5 @@
 -- What every lexeme of a text is.
-use Rattle.std.specs.Prelude.{ℕ, ◌≤◌, Bool, ◌||◌, ◌==◌, List, IsTrue}
+use Rattle.std.specs.Prelude.{ℕ, ◌≤◌, Bool, ◌||◌, ◌==◌, IsTrue}
 use Rattle.std.specs.List.{list_all}
 use Rattle.cilk_lexeme.specs.Byte.{is_printed}
 use Rattle.cilk_lexeme.specs.Lexeme.{Lexeme, word, name, number, mark, literal, inclusion}

@@ -1,5 +1,5 @@
 -- What a text is made of, and its first fault (C 1990, 6.1).
-use Rattle.std.specs.Prelude.{◌≡◌, ◌≢◌, ℕ, ◌+◌, ◌≤◌, List, [], ◌∷◌, ◌++◌, length, Bool, true, false, ◌&&◌, ◌||◌, ◌==◌, IsTrue, IsFalse, Option, Some, None, ◌⊎◌, codes}
+use Rattle.std.specs.Prelude.{◌≡◌, ◌≢◌, ℕ, ◌+◌, ◌≤◌, List, [], ◌∷◌, ◌++◌, length, Bool, false, ◌&&◌, ◌||◌, ◌==◌, IsTrue, IsFalse, Option, Some, None, ◌⊎◌, codes}
 use Rattle.std.specs.Char.{is_ascii_digit}
 use Rattle.std.specs.List.{list_all}
 use Rattle.cilk_lexeme.specs.declared.fault.LexFault.{LexFault}
@@ -42,13 +42,11 @@ pub record EndsLine (rest : List ℕ) : Type 0 where
 
 -- ---- what a text begins with
 
--- Whether nothing but spaces and tabs stands on its line before a place. Behind some bytes, by whether it was so before
--- them: behind a newline it is, behind a space or a tab it is as it was, and behind any other blank, a comment or a
--- lexeme it is not.
+-- Whether nothing but spaces and tabs stand before a place on its line, by whether it was so before the bytes that stand
+-- there: behind a newline it is so, spaces and tabs leave it as it was, and behind any other byte it is not.
 abbrev pub fresh_behind : Bool → List ℕ → Bool
 fresh_behind fresh [] = fresh
-fresh_behind fresh (b ∷ []) = b == 10 || (is_space b && fresh)
-fresh_behind fresh (b ∷ c ∷ bs) = false
+fresh_behind fresh (b ∷ bs) = fresh_behind (b == 10 || (is_space b && fresh)) bs
 
 -- Front fresh w rest x: of the text w ++ rest, the front w is the lexeme x, or a blank where x is None. A lexeme is as
 -- long as can be (C 1990, 6.1). A line that includes a header begins where nothing else stands before it on its line.

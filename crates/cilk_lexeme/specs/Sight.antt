@@ -1,5 +1,5 @@
 -- What stands at the front of a text, computed from its bytes. That this is what the rules say is proved of it.
-use Rattle.std.specs.Prelude.{ℕ, suc, ◌+◌, ◌-◌, ◌<◌, ◌≤◌, List, [], ◌∷◌, length, take, drop, Bool, true, false, cond, ◌&&◌, ◌||◌, ◌==◌, Option, Some, None, codes, bytes_eq}
+use Rattle.std.specs.Prelude.{ℕ, suc, ◌+◌, ◌-◌, List, [], ◌∷◌, length, take, drop, Bool, true, false, cond, ◌&&◌, ◌==◌, Option, Some, None, codes, bytes_eq}
 use Rattle.std.specs.Char.{is_ascii_digit, digit_value}
 use Rattle.std.specs.Bool.{nat_le, nat_lt}
 use Rattle.std.specs.List.{list_all, prefix_len}
@@ -60,8 +60,17 @@ number_sight at text = number_shown at (prefix_len continues_number text) (numbe
 
 -- ---- marks
 
+unfoldable pub assigning_marks : List Mark
+assigning_marks = sign.AddAssign ∷ sign.SubtractAssign ∷ sign.MultiplyAssign ∷ sign.DivideAssign ∷ sign.RemainderAssign ∷ sign.ShiftLeftAssign ∷ sign.ShiftRightAssign ∷ sign.BitAndAssign ∷ sign.BitXorAssign ∷ sign.BitOrAssign ∷ []
+
+unfoldable pub double_marks : List Mark
+double_marks = sign.ShiftLeft ∷ sign.ShiftRight ∷ sign.LessOrEqual ∷ sign.GreaterOrEqual ∷ sign.Equal ∷ sign.NotEqual ∷ sign.And ∷ sign.Or ∷ sign.Increment ∷ sign.Decrement ∷ assigning_marks
+
+unfoldable pub operator_marks : List Mark
+operator_marks = sign.CloseBracket ∷ sign.Question ∷ sign.Colon ∷ sign.Slash ∷ sign.Percent ∷ sign.Ampersand ∷ sign.Bar ∷ sign.Caret ∷ sign.Tilde ∷ sign.Exclamation ∷ sign.Less ∷ sign.Greater ∷ double_marks
+
 unfoldable pub all_marks : List Mark
-all_marks = sign.OpenParenthesis ∷ sign.CloseParenthesis ∷ sign.OpenBrace ∷ sign.CloseBrace ∷ sign.Semicolon ∷ sign.Comma ∷ sign.Assign ∷ sign.Plus ∷ sign.Minus ∷ sign.Star ∷ sign.OpenBracket ∷ sign.CloseBracket ∷ sign.Question ∷ sign.Colon ∷ sign.Slash ∷ sign.Percent ∷ sign.Ampersand ∷ sign.Bar ∷ sign.Caret ∷ sign.Tilde ∷ sign.Exclamation ∷ sign.Less ∷ sign.Greater ∷ sign.ShiftLeft ∷ sign.ShiftRight ∷ sign.LessOrEqual ∷ sign.GreaterOrEqual ∷ sign.Equal ∷ sign.NotEqual ∷ sign.And ∷ sign.Or ∷ sign.Increment ∷ sign.Decrement ∷ sign.AddAssign ∷ sign.SubtractAssign ∷ sign.MultiplyAssign ∷ sign.DivideAssign ∷ sign.RemainderAssign ∷ sign.ShiftLeftAssign ∷ sign.ShiftRightAssign ∷ sign.BitAndAssign ∷ sign.BitXorAssign ∷ sign.BitOrAssign ∷ []
+all_marks = sign.OpenParenthesis ∷ sign.CloseParenthesis ∷ sign.OpenBrace ∷ sign.CloseBrace ∷ sign.Semicolon ∷ sign.Comma ∷ sign.Assign ∷ sign.Plus ∷ sign.Minus ∷ sign.Star ∷ sign.OpenBracket ∷ operator_marks
 
 unfoldable pub mark_among : List Mark → List ℕ → Option Mark
 mark_among [] w = None

@@ -1,5 +1,5 @@
 -- The canonical lexemes of an expression spell it, places aside.
-use Rattle.std.proofs.Common.{◌≡◌, ℕ, zero, suc, ◌<◌, ◌≤◌, ◌+◌, List, [], ◌∷◌, ◌++◌, map, Some, refl, ap, ◌∙◌, arith}
+use Rattle.std.proofs.Common.{◌≡◌, ℕ, zero, suc, ◌<◌, ◌≤◌, List, [], ◌∷◌, ◌++◌, map, Some, refl, ap, ◌∙◌, arith}
 use Rattle.std.proofs.lemmas.List.{map-append}
 use Rattle.cilk_lexeme.specs.Lexeme.{Lexeme, Piece, word, name, number, mark}
 use Rattle.cilk_lexeme.specs.declared.keyword.Keyword.TheVariants as key
@@ -14,8 +14,8 @@ use Rattle.cilk_expression.specs.Classes.{a_mark}
 use Rattle.cilk_expression.specs.Operators.{operand, sign_of}
 use Rattle.cilk_expression.specs.Grammar.{operators, Spells, SpellsWhole, a_number_is, a_name_is, synched_is, an_element, in_parentheses, of_one, of_two, of_three}
 use Rattle.cilk_expression.proofs.MovedExpr.{operators-bare}
-use Rattle.cilk_reread.specs.ExprLexemes as written
-use Rattle.cilk_reread.specs.ExprLexemes.{operator_mark, sign_mark, expr_lexemes, operand_lexemes}
+use Rattle.cilk_spelled.specs.ExprLexemes as written
+use Rattle.cilk_spelled.specs.ExprLexemes.{operator_mark, sign_mark, expr_lexemes, operand_lexemes}
 
 -- lexemes as tokens, all at the place 0
 abbrev pub at0 : Lexeme → Piece

@@ -5,3 +5,10 @@ pub mod Given
 pub mod Moves
 pub mod Simple
 pub mod Stmts
+pub mod Nested
+pub mod Tails
+pub mod Items
+pub mod Programs
+pub mod Can
+pub mod Able
+pub mod GoodTrees

@@ -1,5 +1,5 @@
 -- What a rule makes of parts of which something holds.
-use Rattle.std.proofs.Common.{◌≡◌, ℕ, Bool, true, false, List, [], ◌∷◌, Option, ◌⊎◌, inl, inr, refl, sym, subst}
+use Rattle.std.proofs.Common.{◌≡◌, ℕ, true, false, List, [], ◌∷◌, ◌++◌, Option, ◌⊎◌, inl, inr, sym, subst}
 use Rattle.cilk_rules.specs.Rule as rule
 use Rattle.cilk_rules.specs.Rule.{Rule, done, skip, part, and_then, either, many, nearest, by_value, EachBefore}
 
@@ -13,6 +13,14 @@ pub record BothMade {A B : Type 0} (R : B → Type 0) (S : B → (B → A) → T
   pub made : R one
   pub made_back : S one makes
   pub is : x ≡ makes one
+
+pub each_split : {P : Type 0} {Q : P → Type 0} (us vs : List P) → EachMade Q (us ++ vs) → EachMade Q us × EachMade Q vs
+each_split [] vs q = (no_more, q)
+each_split (u ∷ us) vs (one_more h t) = let b = each_split us vs t in (one_more h b.0, b.1)
+
+whatever : {P : Type 0} (us : List P) → EachMade (λ t. Unit {0}) us
+whatever [] = no_more
+whatever (u ∷ us) = one_more tt (whatever us)
 
 module _ {Part : Type 0} {Means : Part → Type 0} (good : (p : Part) → Means p → Type 0) where
   abbrev pub Made : {A : Type 0} → Rule Means A → A → Type 0
@@ -63,26 +71,38 @@ module _ {Part : Type 0} {Means : Part → Type 0} (good : (p : Part) → Means 
   weaker (nearest p a) S R g f = (weaker p S R g.0 f, f a g.1)
   weaker (by_value v p q r) S R g f = weaker p _ _ g (λ b h. ((λ e. weaker q _ _ (h.0 e) (λ k i. f (k b) i)), (λ e. weaker r _ _ (h.1 e) (λ k i. f (k b) i))))
 
-  module _ {P : Type 0} (cls : P → ℕ) (first_of : Part → List ℕ) (says : (p : Part) → Option ℕ → List P → Means p → Type 0) (h : (p : Part) (k : Option ℕ) (us : List P) (x : Means p) → says p k us x → good p x) where
-    each_made : {A : Type 0} (R : Option ℕ → List P → A → Type 0) (S : A → Type 0) (k : Option ℕ) (us : List P) (xs : List A) → ((j : Option ℕ) (vs : List P) (x : A) → R j vs x → S x) → EachBefore cls R k us xs → EachMade S xs
-    each_made R S k us xs f (rule.no_more e w) = subst (λ l. EachMade S l) (sym w) no_more
-    each_made R S k us xs f (rule.one_more {us = vs} {vs = ws} {x = x} {xs = ys} r s e w) = subst (λ l. EachMade S l) (sym w) (one_more (f _ vs x r) (each_made R S k ws ys f s))
+  -- what the rule says of good tokens is made so, where each part says of good tokens what is good
+  module _ {P : Type 0} (cls : P → ℕ) (first_of : Part → List ℕ) (says : (p : Part) → Option ℕ → List P → Means p → Type 0) (Q : P → Type 0)
+      (h : (p : Part) (k : Option ℕ) (us : List P) (x : Means p) → EachMade Q us → says p k us x → good p x) where
+    each_made : {A : Type 0} (R : Option ℕ → List P → A → Type 0) (S : A → Type 0) (k : Option ℕ) (us : List P) (xs : List A) → ((j : Option ℕ) (vs : List P) (x : A) → EachMade Q vs → R j vs x → S x) → EachMade Q us → EachBefore cls R k us xs
+        → EachMade S xs
+    each_made R S k us xs f q (rule.no_more e w) = subst (λ l. EachMade S l) (sym w) no_more
+    each_made R S k us xs f q (rule.one_more {us = vs} {vs = ws} {x = x} {xs = ys} r s e w) =
+        let b = each_split vs ws (subst (λ l. EachMade Q l) e q) in subst (λ l. EachMade S l) (sym w) (one_more (f _ vs x b.0 r) (each_made R S k ws ys f b.1 s))
 
-    -- what the rule says is made so
-    pub made : {A : Type 0} (r : Rule Means A) (k : Option ℕ) (us : List P) (x : A) → rule.Spelled cls first_of says r k us x → Made r x
-    made (done a) k us x s = s.1
-    made (skip c p) k us x s = made p k s.rest x s.spelled
-    made (part p) k us x s = h p k us x s
-    made (and_then p q) k us x s = record { one = s.means; makes = s.makes; made = made p _ s.front s.means s.spelled_front; made_back = made q k s.back s.makes s.spelled_back; is = s.meaning }
-    made (either p q) k us x (inl s) = inl (made p k us x s)
-    made (either p q) k us x (inr s) = inr (made q k us x s)
-    made (many p) k us x s = each_made _ _ k us x (λ j vs y t. made p j vs y t) s
-    made (nearest p a) k us x (inl s) = inl (made p k us x s)
-    made (nearest p a) k us x (inr s) = inr s.1
-    made (by_value v p q r) k us x s = record {
-      one = s.means;
-      makes = s.makes;
-      made = made p _ s.front s.means s.spelled_front;
-      made_back = elim s.spelled_back [ inl t ↦ inl (t.0, made q k s.back s.makes t.1) | inr t ↦ inr (t.0, made r k s.back s.makes t.1) ];
-      is = s.meaning;
-    }
+    pub made_of : {A : Type 0} (r : Rule Means A) (k : Option ℕ) (us : List P) (x : A) → EachMade Q us → rule.Spelled cls first_of says r k us x → Made r x
+    made_of (done a) k us x q s = s.1
+    made_of (skip c p) k us x q s = made_of p k s.rest x (each_split (s.token ∷ []) s.rest (subst (λ l. EachMade Q l) s.whole q)).1 s.spelled
+    made_of (part p) k us x q s = h p k us x q s
+    made_of (and_then p q) k us x g s =
+        let b = each_split s.front s.back (subst (λ l. EachMade Q l) s.whole g) in
+        record { one = s.means; makes = s.makes; made = made_of p _ s.front s.means b.0 s.spelled_front; made_back = made_of q k s.back s.makes b.1 s.spelled_back; is = s.meaning }
+    made_of (either p q) k us x g (inl s) = inl (made_of p k us x g s)
+    made_of (either p q) k us x g (inr s) = inr (made_of q k us x g s)
+    made_of (many p) k us x g s = each_made _ _ k us x (λ j vs y i t. made_of p j vs y i t) g s
+    made_of (nearest p a) k us x g (inl s) = inl (made_of p k us x g s)
+    made_of (nearest p a) k us x g (inr s) = inr s.1
+    made_of (by_value v p q r) k us x g s =
+        let b = each_split s.front s.back (subst (λ l. EachMade Q l) s.whole g) in
+        record {
+          one = s.means;
+          makes = s.makes;
+          made = made_of p _ s.front s.means b.0 s.spelled_front;
+          made_back = elim s.spelled_back [ inl t ↦ inl (t.0, made_of q k s.back s.makes b.1 t.1) | inr t ↦ inr (t.0, made_of r k s.back s.makes b.1 t.1) ];
+          is = s.meaning;
+        }
+
+  -- of any tokens
+  pub made : {P : Type 0} (cls : P → ℕ) (first_of : Part → List ℕ) (says : (p : Part) → Option ℕ → List P → Means p → Type 0) → ((p : Part) (k : Option ℕ) (us : List P) (x : Means p) → says p k us x → good p x)
+      → {A : Type 0} (r : Rule Means A) (k : Option ℕ) (us : List P) (x : A) → rule.Spelled cls first_of says r k us x → Made r x
+  made cls first_of says h r k us x s = made_of cls first_of says (λ t. Unit {0}) (λ p j vs y q t. h p j vs y t) r k us x (whatever us) s

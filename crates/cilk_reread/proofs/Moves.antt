@@ -1,6 +1,6 @@
 -- The canonical lexemes of a move spell it again.
-use Rattle.std.proofs.Common.{◌≡◌, ℕ, ◌≤◌, Bool, true, false, List, [], ◌∷◌, ◌++◌, map, Option, Some, None, refl, sym, ap, inl, inr}
-use Rattle.cilk_lexeme.specs.Lexeme.{Lexeme, Piece, word, name, number, mark}
+use Rattle.std.proofs.Common.{ℕ, ◌≤◌, List, [], ◌∷◌, map, Option, Some, None, refl, inl, inr}
+use Rattle.cilk_lexeme.specs.Lexeme.{Lexeme, mark}
 use Rattle.cilk_lexeme.specs.declared.mark.Mark.TheVariants as sign
 use Rattle.cilk_syntax.specs.Tree as tree
 use Rattle.cilk_syntax.specs.Tree.{Word, Expr}
@@ -16,13 +16,13 @@ use Rattle.cilk_grammar.specs.Grammar as grammar
 use Rattle.cilk_grammar.specs.Likes.{bare_written}
 use Rattle.cilk_grammar.specs.Spelling.{leaf_says, call}
 use Rattle.cilk_grammar.proofs.Nests.{says}
-use Rattle.cilk_reread.specs.ExprLexemes.{in_parentheses, expr_lexemes}
-use Rattle.cilk_reread.specs.StmtLexemes.{next_exprs_lexemes, exprs_lexemes, call_lexemes, index_lexemes, assign_mark, adjust_mark, into_lexemes, move_lexemes}
-use Rattle.cilk_reread.proofs.Exprs.{all_at0, at0-append, canonical_whole}
+use Rattle.cilk_spelled.specs.ExprLexemes.{in_parentheses, expr_lexemes}
+use Rattle.cilk_spelled.specs.StmtLexemes.{next_exprs_lexemes, exprs_lexemes, call_lexemes, index_lexemes, assign_mark, adjust_mark, move_lexemes}
+use Rattle.cilk_reread.proofs.Exprs.{canonical_whole}
 use Rattle.cilk_reread.proofs.Made as made
 use Rattle.cilk_reread.proofs.Made.{EachMade}
 use Rattle.cilk_reread.proofs.Built.{Setting, Spells, Written, Built, written, b_of, b_done, b_skip, b_then, b_last, b_left, b_right, b_before, b_name, b_expr, each_before}
-use Rattle.cilk_reread.proofs.Given.{Few, GoodValue, AtLeastOne, Given, g_done, g_skip, g_then, g_either, g_use, g_before, g_between, g_commas, g_name, g_expr, g_value}
+use Rattle.cilk_reread.proofs.Given.{good, Few, GoodValue, AtLeastOne, Given, g_done, g_skip, g_then, g_either, g_use, g_between, g_commas, g_name, g_expr, g_value}
 
 module _ (l d : ℕ) (le : l ≤ d) where
   abbrev pub setting : ℕ → Setting
@@ -68,10 +68,10 @@ module _ (l d : ℕ) (le : l ≤ d) (n : ℕ) where
   abbrev pub S : Setting
   S = setting l d le n
 
-  pub arguments_given : Given l d n grammar.arguments (Few l)
+  pub arguments_given : Given (good l d n) grammar.arguments (Few l)
   arguments_given = g_between (g_either (g_use (g_commas g_expr) (λ es h. at_least_few es h)) (g_done made.no_more))
 
-  pub index_given : Given l d n grammar.index (FewIndex l)
+  pub index_given : Given (good l d n) grammar.index (FewIndex l)
   index_given = g_either (g_then (g_between g_expr) (λ e h. g_done h)) (g_done tt)
 
   -- ---- operators
@@ -79,7 +79,7 @@ module _ (l d : ℕ) (le : l ≤ d) (n : ℕ) where
   abbrev pub OpAgain : Option BinOp → Type 0
   OpAgain o = (k : Option ℕ) → Written S grammar.op k (mark (assign_mark o) ∷ []) o
 
-  pub op_given : Given l d n grammar.op OpAgain
+  pub op_given : Given (good l d n) grammar.op OpAgain
   op_given =
       g_either (g_skip (g_done (λ k. written (b_left (b_skip (mark sign.Assign) refl b_done)) refl refl))) (
       g_either (g_skip (g_done (λ k. written (b_right (b_left (b_skip (mark sign.AddAssign) refl b_done))) refl refl))) (
@@ -96,7 +96,7 @@ module _ (l d : ℕ) (le : l ≤ d) (n : ℕ) where
   abbrev pub AdjustAgain : Adjustment → Type 0
   AdjustAgain a = (k : Option ℕ) → Written S grammar.adjustment k (mark (adjust_mark a) ∷ []) a
 
-  pub adjustment_given : Given l d n grammar.adjustment AdjustAgain
+  pub adjustment_given : Given (good l d n) grammar.adjustment AdjustAgain
   adjustment_given = record { it = ((λ k. written (b_left (b_skip (mark sign.Increment) refl b_done)) refl refl), (λ k. written (b_right (b_skip (mark sign.Decrement) refl b_done)) refl refl)) }
 
   -- ---- what an assignment writes
@@ -119,7 +119,7 @@ module _ (l d : ℕ) (le : l ≤ d) (n : ℕ) where
   abbrev pub MoveAgain : tree.Move → Type 0
   MoveAgain m = (k : Option ℕ) → Written S grammar.move k (move_lexemes m) (bare_move m)
 
-  move_of_place_given : Given l d n grammar.move_of_place (λ f. (i : Option Expr) → FewIndex l i → (x : Word) → MoveAgain (f i x))
+  move_of_place_given : Given (good l d n) grammar.move_of_place (λ f. (i : Option Expr) → FewIndex l i → (x : Word) → MoveAgain (f i x))
   move_of_place_given = g_either (g_then op_given (λ o ho. g_then g_value (λ v hv. g_done (assigns o ho v hv)))) (g_then adjustment_given (λ a ha. g_done (λ i hi x k.
       written (b_left (b_then (b_right (b_then (b_right (b_last (b_of (ha k)))) (b_index i hi))) (b_name x (names_are x.text)))) refl refl)))
     where
@@ -132,7 +132,7 @@ module _ (l d : ℕ) (le : l ≤ d) (n : ℕ) where
   GoodAdjust (tree.adjust p a) = FewIndex l p.index × AdjustAgain a
   GoodAdjust m = ⊥
 
-  pub adjusted_given : Given l d n grammar.adjusted GoodAdjust
+  pub adjusted_given : Given (good l d n) grammar.adjusted GoodAdjust
   adjusted_given = g_then adjustment_given (λ a ha. g_then (g_then g_name (λ x hx. g_then index_given (λ i hi. g_done hi))) (λ p hp. g_done (hp, ha)))
 
   adjust_again : (m : tree.Move) → GoodAdjust m → MoveAgain m
@@ -140,7 +140,7 @@ module _ (l d : ℕ) (le : l ≤ d) (n : ℕ) where
   adjust_again (tree.assign t e) h k = elim h [ ]
   adjust_again (tree.call t f es) h k = elim h [ ]
 
-  pub move_given : Given l d n grammar.move MoveAgain
+  pub move_given : Given (good l d n) grammar.move MoveAgain
   move_given = g_either
       (g_then g_name (λ x hx. g_either (g_then arguments_given (λ es h. g_done (λ k. written (b_left (b_then (b_left (b_last (b_arguments es h))) (b_name x hx))) refl refl)))
       (g_then index_given (λ i hi. g_use move_of_place_given (λ f h. h i hi x)))))

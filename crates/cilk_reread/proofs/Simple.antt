@@ -1,6 +1,6 @@
 -- The canonical lexemes of a simple statement spell it again.
-use Rattle.std.proofs.Common.{◌≡◌, ℕ, ◌≤◌, true, List, [], ◌∷◌, ◌++◌, map, codes, Option, Some, None, refl, sym, subst}
-use Rattle.cilk_lexeme.specs.Lexeme.{Lexeme, word, name, number, mark}
+use Rattle.std.proofs.Common.{◌≡◌, ℕ, ◌≤◌, true, List, [], ◌∷◌, codes, Option, Some, None, refl, sym, subst}
+use Rattle.cilk_lexeme.specs.Lexeme.{word, name, mark}
 use Rattle.cilk_lexeme.specs.declared.keyword.Keyword.{Keyword}
 use Rattle.cilk_lexeme.specs.declared.keyword.Keyword.TheVariants as key
 use Rattle.cilk_lexeme.specs.declared.mark.Mark.TheVariants as sign
@@ -17,11 +17,11 @@ use Rattle.cilk_grammar.specs.Parts.{Value, computed, called, assigned, Means}
 use Rattle.cilk_grammar.specs.Forms.{expression, optional}
 use Rattle.cilk_grammar.specs.Grammar as grammar
 use Rattle.cilk_reread.specs.Plain.{IsPlain, PlainStmt}
-use Rattle.cilk_reread.specs.StmtLexemes.{ended, value_lexemes, stmt_lexemes}
+use Rattle.cilk_spelled.specs.StmtLexemes.{ended, value_lexemes, stmt_lexemes}
 use Rattle.cilk_reread.proofs.Made as made
 use Rattle.cilk_reread.proofs.Made.{EachMade}
 use Rattle.cilk_reread.proofs.Built.{Setting, Written, Built, written, b_of, b_done, b_skip, b_then, b_last, b_left, b_right, b_before, b_name, b_word, b_literal, b_expr}
-use Rattle.cilk_reread.proofs.Given.{no_else, Few, GoodValue, Given, g_done, g_skip, g_then, g_either, g_use, g_before, g_between, g_behind_commas, g_commas, g_word, g_name, g_literal, g_expr, g_value}
+use Rattle.cilk_reread.proofs.Given.{good, no_else, Few, GoodValue, Given, g_done, g_skip, g_then, g_either, g_use, g_before, g_between, g_behind_commas, g_commas, g_word, g_name, g_literal, g_expr, g_value}
 use Rattle.cilk_reread.proofs.Moves as moves
 use Rattle.cilk_reread.proofs.Moves.{setting, b_next, b_exprs, b_arguments, at_least_few, FewIndex, b_index}
 
@@ -50,7 +50,7 @@ module _ (l d : ℕ) (le : l ≤ d) (n : ℕ) where
     few : Few l arguments
     is : (t : tree.Taker) → f t ≡ tree.spawn_at at t callee arguments
 
-  child_given : Given l d n grammar.child IsChild
+  child_given : Given (good l d n) grammar.child IsChild
   child_given = g_then g_word (λ at u. g_then g_name (λ f hf. g_then (moves.arguments_given l d le n) (λ es h. g_done (record { at = at; callee = f; arguments = es; few = h; is = λ t. refl }))))
 
   abbrev b_child : {k : Option ℕ} (f : Word) (es : List Expr) → Few l es → Built S grammar.child k
@@ -59,7 +59,7 @@ module _ (l d : ℕ) (le : l ≤ d) (n : ℕ) where
   as_child : (r : Rule Means tree.Stmt) (f : tree.Taker → tree.Stmt) (c : IsChild f) (t : tree.Taker) → By r (tree.spawn_at c.at t c.callee c.arguments) → By r (f t)
   as_child r f c t b = subst (λ s. By r s) (sym (c.is t)) b
 
-  called_given : Given l d n grammar.called (λ f. (x : Word) → IsPlain x → By grammar.named (f x))
+  called_given : Given (good l d n) grammar.called (λ f. (x : Word) → IsPlain x → By grammar.named (f x))
   called_given = g_between (g_either
       (g_then child_given (λ c hc. g_then (g_behind_commas g_expr) (λ es h. g_done (λ x px. as_child grammar.named c hc (tree.through x es) (λ pl k ne.
       written (b_named x px (b_left (b_skip (mark sign.OpenParenthesis) refl (b_before (mark sign.CloseParenthesis) refl (b_left (b_then (b_last (b_next es h)) (b_child hc.callee hc.arguments hc.few))))))) refl refl)))))
@@ -71,7 +71,7 @@ module _ (l d : ℕ) (le : l ≤ d) (n : ℕ) where
       calls es (made.one_more {x = f} {xs = fs} h hs) x px k =
           written (b_named x px (b_left (b_skip (mark sign.OpenParenthesis) refl (b_before (mark sign.CloseParenthesis) refl (b_right (b_left (b_last (b_exprs f fs h hs)))))))) refl refl
 
-  written_given : Given l d n grammar.written (λ f. (i : Option Expr) → FewIndex l i → (x : Word) → IsPlain x → By grammar.named (f i x))
+  written_given : Given (good l d n) grammar.written (λ f. (i : Option Expr) → FewIndex l i → (x : Word) → IsPlain x → By grammar.named (f i x))
   written_given = g_either
       (g_then (moves.op_given l d le n) (λ o ho. g_either
       (g_then child_given (λ c hc. g_done (λ i hi x px. as_child grammar.named c hc (tree.into (grammar.target_at x i o)) (λ pl k ne.
@@ -84,12 +84,12 @@ module _ (l d : ℕ) (le : l ≤ d) (n : ℕ) where
       assigns o ho (computed e) hv i hi x px k = written (b_named x px (b_right (b_then (b_left (b_then (b_right (b_last (moves.b_value l d le n (computed e) hv))) (b_of (ho _)))) (b_index i hi)))) refl refl
       assigns o ho (called f es) hv i hi x px k = written (b_named x px (b_right (b_then (b_left (b_then (b_right (b_last (moves.b_value l d le n (called f es) hv))) (b_of (ho _)))) (b_index i hi)))) refl refl
 
-  pub named_given : Given l d n grammar.named (By grammar.named)
+  pub named_given : Given (good l d n) grammar.named (By grammar.named)
   named_given = g_before (g_then g_name (λ x px. g_either (g_use called_given (λ f h. h x px)) (g_then (moves.index_given l d le n) (λ i hi. g_use written_given (λ f h. h i hi x px)))))
 
   -- ---- the others
 
-  pub adjusting_given : Given l d n grammar.adjusting (By grammar.named)
+  pub adjusting_given : Given (good l d n) grammar.adjusting (By grammar.named)
   adjusting_given = g_before (g_then (moves.adjusted_given l d le n) (λ m h. g_done (adjusts m h)))
     where
       adjusts : (m : tree.Move) → moves.GoodAdjust l d le n m → By grammar.named (tree.move m)
@@ -97,23 +97,23 @@ module _ (l d : ℕ) (le : l ≤ d) (n : ℕ) where
       adjusts (tree.assign t e) h pl k ne = elim h [ ]
       adjusts (tree.call t f es) h pl k ne = elim h [ ]
 
-  pub spawning_given : Given l d n grammar.spawning (By grammar.spawning)
+  pub spawning_given : Given (good l d n) grammar.spawning (By grammar.spawning)
   spawning_given = g_before (g_then child_given (λ c hc. g_done (as_child grammar.spawning c hc tree.nothing (λ pl k ne.
       written (b_before (mark sign.Semicolon) refl (b_last (b_child hc.callee hc.arguments hc.few))) refl refl))))
 
-  pub printing_given : Given l d n grammar.printing (By grammar.printing)
+  pub printing_given : Given (good l d n) grammar.printing (By grammar.printing)
   printing_given = g_skip (g_before (g_between (g_then g_literal (λ t u. g_then (g_behind_commas g_expr) (λ es h. g_done (λ pl k ne.
       written (b_skip (name (codes "printf")) refl (b_before (mark sign.Semicolon) refl (b_skip (mark sign.OpenParenthesis) refl (b_before (mark sign.CloseParenthesis) refl (b_then (b_last (b_next es h)) (b_literal t)))))) refl refl))))))
 
-  pub locking_by_given : (c : ℕ) (a : LockAction) → is c (Some (name_class (lock_word a))) ≡ true → Given l d n (grammar.locking_by c a) (By (grammar.locking_by c a))
+  pub locking_by_given : (c : ℕ) (a : LockAction) → is c (Some (name_class (lock_word a))) ≡ true → Given (good l d n) (grammar.locking_by c a) (By (grammar.locking_by c a))
   locking_by_given c a e = g_skip (g_before (g_then (g_between g_name) (λ x hx. g_done (λ pl k ne.
       written (b_skip (name (lock_word a)) e (b_before (mark sign.Semicolon) refl (b_last (b_skip (mark sign.OpenParenthesis) refl (b_before (mark sign.CloseParenthesis) refl (b_name x hx)))))) refl refl))))
 
-  pub alone_given : (w : Keyword) (f : ℕ → tree.Stmt) → ((at : ℕ) → ended (word w ∷ []) ≡ stmt_lexemes (f at)) → ((at : ℕ) → f 0 ≡ bare_stmt (f at)) → Given l d n (grammar.alone w f) (By (grammar.alone w f))
+  pub alone_given : (w : Keyword) (f : ℕ → tree.Stmt) → ((at : ℕ) → ended (word w ∷ []) ≡ stmt_lexemes (f at)) → ((at : ℕ) → f 0 ≡ bare_stmt (f at)) → Given (good l d n) (grammar.alone w f) (By (grammar.alone w f))
   alone_given w f e h = g_before (g_then g_word (λ at u. g_done (λ pl k ne. written (b_before (mark sign.Semicolon) refl (b_last (b_word w))) (e at) (h at))))
 
-  pub returning_given : Given l d n grammar.returning (By grammar.returning)
+  pub returning_given : Given (good l d n) grammar.returning (By grammar.returning)
   returning_given = g_before (g_then g_word (λ at u. g_then option_given (λ v h. g_done (λ pl k ne. written (b_before (mark sign.Semicolon) refl (b_then (b_last (b_of (option_spelled S v _ h))) (b_word key.Return))) refl refl))))
     where
-      option_given : Given l d n (optional expression) (FewIndex l)
+      option_given : Given (good l d n) (optional expression) (FewIndex l)
       option_given = g_either (g_then g_expr (λ e he. g_done he)) (g_done tt)

@@ -1,6 +1,6 @@
 -- The canonical lexemes of a statement and of a block spell them again.
 use Rattle.std.proofs.Common.{◌≡◌, ℕ, ◌≤◌, true, false, List, [], ◌∷◌, ◌++◌, map, Option, Some, None, refl, sym, ap, subst, ◌∙◌, inl, inr}
-use Rattle.cilk_lexeme.specs.Lexeme.{Lexeme, Piece, word, name, number, mark}
+use Rattle.cilk_lexeme.specs.Lexeme.{Lexeme, Piece, word, name, mark}
 use Rattle.cilk_lexeme.specs.declared.keyword.Keyword.TheVariants as key
 use Rattle.cilk_lexeme.specs.declared.mark.Mark.TheVariants as sign
 use Rattle.cilk_syntax.specs.Tree as tree
@@ -13,15 +13,15 @@ use Rattle.cilk_rules.proofs.Tokens.{apart_has, next_append}
 use Rattle.cilk_expression.specs.Classes.{cls, a_word}
 use Rattle.cilk_expression.specs.Grammar.{operators}
 use Rattle.cilk_expression.proofs.ClassFacts.{names_are}
-use Rattle.cilk_grammar.specs.Parts.{a_statement, no_block, an_inlet, Means}
+use Rattle.cilk_grammar.specs.Parts.{a_statement, an_inlet, Means}
 use Rattle.cilk_grammar.specs.Forms as forms
 use Rattle.cilk_grammar.specs.Forms.{joined, optional}
 use Rattle.cilk_grammar.specs.Grammar as grammar
 use Rattle.cilk_grammar.specs.Spelling.{begins, SpellsNest}
 use Rattle.cilk_grammar.proofs.Nests.{nest_begins}
-use Rattle.cilk_reread.specs.Plain.{PlainStmt, PlainStmts, PlainLocal, PlainLocals, PlainBlock}
-use Rattle.cilk_reread.specs.ExprLexemes.{in_parentheses, expr_lexemes}
-use Rattle.cilk_reread.specs.StmtLexemes.{next_names_lexemes, names_lexemes, part_lexemes, decl_lexemes, stmt_lexemes, stmts_lexemes, local_lexemes, locals_lexemes, block_lexemes}
+use Rattle.cilk_reread.specs.Plain.{PlainStmts, PlainLocal, PlainLocals, PlainBlock}
+use Rattle.cilk_spelled.specs.ExprLexemes.{in_parentheses}
+use Rattle.cilk_spelled.specs.StmtLexemes.{next_names_lexemes, names_lexemes, part_lexemes, decl_lexemes, stmt_lexemes, stmts_lexemes, local_lexemes, locals_lexemes, block_lexemes}
 use Rattle.cilk_reread.proofs.Exprs.{all_at0, at0-append}
 use Rattle.cilk_reread.proofs.Made as made
 use Rattle.cilk_reread.proofs.Made.{EachMade}
@@ -76,7 +76,7 @@ module _ (l d : ℕ) (le : l ≤ d) (n : ℕ) where
   By r s = simple.By l d le n r s
 
   -- whatever a rule makes, it is something
-  any : {A : Type 0} (r : Rule Means A) → made.Gives (good l d n) r (λ x. Unit {0})
+  pub any : {A : Type 0} (r : Rule Means A) → made.Gives (good l d n) r (λ x. Unit {0})
   any (rule.done a) = tt
   any (skip c p) = any p
   any (rule.part p) = λ x h. tt
@@ -91,7 +91,7 @@ module _ (l d : ℕ) (le : l ≤ d) (n : ℕ) where
   abbrev GoodDecl : tree.Decl → Type 0
   GoodDecl x = (k : Option ℕ) → Written S grammar.declarator k (decl_lexemes x) (bare_decl x)
 
-  declarator_given : Given l d n grammar.declarator GoodDecl
+  declarator_given : Given (good l d n) grammar.declarator GoodDecl
   declarator_given = g_then g_name (λ x hx. g_either
       (g_skip (g_then g_expr (λ e he. g_done (λ k. written (b_then (b_left (b_skip (mark sign.Assign) refl (b_last (b_expr e he)))) (b_name x hx)) refl refl))))
       (g_either (g_then (g_between g_number) (λ m u. g_done (λ k. written (b_then (b_right (b_left (b_last (b_skip (mark sign.OpenBracket) refl (b_before (mark sign.CloseBracket) refl (b_number m)))))) (b_name x hx)) refl refl)))
@@ -108,7 +108,7 @@ module _ (l d : ℕ) (le : l ≤ d) (n : ℕ) where
   inlet_again : (x : tree.Local) → Again l d n an_inlet x → GoodLocal x
   inlet_again x h pl k = written (b_right (b_last (record { ls = local_lexemes x; means = bare_local x; it = h pl k }))) refl refl
 
-  local_given : Given l d n grammar.local (λ xs. EachMade GoodLocal xs)
+  local_given : Given (good l d n) grammar.local (λ xs. EachMade GoodLocal xs)
   local_given = g_either (g_skip (g_before (g_then (g_commas declarator_given) (λ ds h. g_done (declared_again ds (at_least_few ds h)))))) (g_then g_inlet (λ x h. g_done (made.one_more (inlet_again x h) made.no_more)))
 
   -- ---- blocks
@@ -146,10 +146,10 @@ module _ (l d : ℕ) (le : l ≤ d) (n : ℕ) where
       locals : (k : Option ℕ) → Built S grammar.locals k
       locals k = record { ls = locals_lexemes (locals_of xs); means = map (λ x. bare_local x ∷ []) xs; it = locals_spelled xs hx pl.0 k }
 
-  pub block_given : Given l d n grammar.block BlockAgain
+  pub block_given : Given (good l d n) grammar.block BlockAgain
   block_given = g_between (g_then (g_many local_given) (λ xss h. g_then (g_many g_statement) (λ ss g. g_done (block_again (joined xss) ss (each_joined xss h) g))))
 
-  body_given : Given l d n grammar.body BlockAgain
+  body_given : Given (good l d n) grammar.body BlockAgain
   body_given = g_either block_given (g_then g_unbraced (λ s h. g_done (block_again [] (s ∷ []) made.no_more (made.one_more h made.no_more))))
 
   -- ---- statements in which others stand
@@ -160,54 +160,54 @@ module _ (l d : ℕ) (le : l ≤ d) (n : ℕ) where
   abbrev b_test : {k : Option ℕ} (e : Expr) → operators e ≤ l → Built S grammar.test k
   b_test e h = b_skip (mark sign.OpenParenthesis) refl (b_before (mark sign.CloseParenthesis) refl (b_expr e h))
 
-  test_given : Given l d n grammar.test (λ e. operators e ≤ l)
+  test_given : Given (good l d n) grammar.test (λ e. operators e ≤ l)
   test_given = g_between g_expr
 
-  conditional_given : Given l d n grammar.conditional (By grammar.conditional)
+  conditional_given : Given (good l d n) grammar.conditional (By grammar.conditional)
   conditional_given = g_skip (g_then test_given (λ e he. g_then body_given (λ b hb. g_nearest
       (g_skip (g_then body_given (λ o ho. g_done (λ pl k ne. written (b_skip (word key.If) refl (b_then (b_then (b_some (b_skip (word key.Else) refl (b_last (b_body (ho pl.1 k))))) (b_body (hb pl.0 _))) (b_test e he))) refl refl))))
       (λ pl k ne. written (b_skip (word key.If) refl (b_then (b_none ne (b_body (hb pl k))) (b_test e he))) refl refl))))
 
-  looping_given : Given l d n grammar.looping (By grammar.looping)
+  looping_given : Given (good l d n) grammar.looping (By grammar.looping)
   looping_given = g_skip (g_then test_given (λ e he. g_then body_given (λ b hb. g_done (λ pl k ne. written (b_skip (word key.While) refl (b_then (b_last (b_body (hb pl k))) (b_test e he))) refl refl))))
 
-  repeating_given : Given l d n grammar.repeating (By grammar.repeating)
+  repeating_given : Given (good l d n) grammar.repeating (By grammar.repeating)
   repeating_given = g_skip (g_then body_given (λ b hb. g_skip (g_before (g_then test_given (λ e he. g_done (λ pl k ne.
       written (b_skip (word key.Do) refl (b_then (b_skip (word key.While) refl (b_before (mark sign.Semicolon) refl (b_last (b_test e he)))) (b_body (hb pl _)))) refl refl))))))
 
   abbrev PartAgain : Option tree.Move → Type 0
   PartAgain m = (k : Option ℕ) → Written S (optional grammar.move) k (part_lexemes m) (bare_part m)
 
-  part_given : Given l d n (optional grammar.move) PartAgain
+  part_given : Given (good l d n) (optional grammar.move) PartAgain
   part_given = g_either (g_then (moves.move_given l d le n) (λ m h. g_done (λ k. written (b_left (b_last (b_of (h k)))) refl refl))) (g_done (λ k. written (b_right b_done) refl refl))
 
-  loop_test_given : Given l d n grammar.loop_test (λ e. operators e ≤ l)
+  loop_test_given : Given (good l d n) grammar.loop_test (λ e. operators e ≤ l)
   loop_test_given = g_either g_expr (g_done (zero_least l))
     where
       zero_least : (m : ℕ) → 0 ≤ m
       zero_least m = omega Rattle.std.proofs.Common.arith
 
-  for_loop_given : Given l d n grammar.for_loop (By grammar.for_loop)
+  for_loop_given : Given (good l d n) grammar.for_loop (By grammar.for_loop)
   for_loop_given = g_skip (g_skip (g_then (g_before part_given) (λ first hf. g_then (g_before loop_test_given) (λ e he. g_then (g_before part_given) (λ advance ha. g_then body_given (λ b hb. g_done (λ pl k ne.
       written (b_skip (word key.For) refl (b_skip (mark sign.OpenParenthesis) refl (b_then (b_then (b_then (b_last (b_body (hb pl k)))
       (b_before (mark sign.CloseParenthesis) refl (b_of (ha _)))) (b_before (mark sign.Semicolon) refl (b_left (b_expr e he)))) (b_before (mark sign.Semicolon) refl (b_of (hf _)))))) refl refl)))))))
 
   -- ---- all statements
 
-  first_of_two : {r p q : Rule Means tree.Stmt} → Given l d n r (By p) → Given l d n r (By (either p q))
+  first_of_two : {r p q : Rule Means tree.Stmt} → Given (good l d n) r (By p) → Given (good l d n) r (By (either p q))
   first_of_two g = g_use g (λ s h pl k ne. record { it = inl (h pl k ne).it })
 
-  second_of_two : {r p q : Rule Means tree.Stmt} → Given l d n r (By q) → Given l d n r (By (either p q))
+  second_of_two : {r p q : Rule Means tree.Stmt} → Given (good l d n) r (By q) → Given (good l d n) r (By (either p q))
   second_of_two g = g_use g (λ s h pl k ne. record { it = inr (h pl k ne).it })
 
   -- each by itself
-  two : {p q : Rule Means tree.Stmt} → Given l d n p (By p) → Given l d n q (By q) → Given l d n (either p q) (By (either p q))
+  two : {p q : Rule Means tree.Stmt} → Given (good l d n) p (By p) → Given (good l d n) q (By q) → Given (good l d n) (either p q) (By (either p q))
   two g h = g_either (first_of_two g) (second_of_two h)
 
-  locking_given : Given l d n grammar.locking (By grammar.locking)
+  locking_given : Given (good l d n) grammar.locking (By grammar.locking)
   locking_given = two (simple.locking_by_given l d le n _ _ refl) (two (simple.locking_by_given l d le n _ _ refl) (simple.locking_by_given l d le n _ _ refl))
 
-  pub no_block_given : Given l d n grammar.no_block_rule (By grammar.no_block_rule)
+  pub no_block_given : Given (good l d n) grammar.no_block_rule (By grammar.no_block_rule)
   no_block_given = g_either (first_of_two (simple.named_given l d le n)) (g_either (first_of_two (simple.adjusting_given l d le n)) (second_of_two (second_of_two
       (two (simple.printing_given l d le n) (two locking_given (two (simple.spawning_given l d le n)
       (two (g_skip (g_done (λ pl k ne. written (b_skip (mark sign.Semicolon) refl b_done) refl refl)))
@@ -215,12 +215,12 @@ module _ (l d : ℕ) (le : l ≤ d) (n : ℕ) where
       (two (simple.alone_given l d le n _ _ (λ at. refl) (λ at. refl)) (two (simple.alone_given l d le n _ _ (λ at. refl) (λ at. refl))
       (two (simple.returning_given l d le n) (two conditional_given (two looping_given (two repeating_given for_loop_given)))))))))))))))
 
-  pub statement_given : Given l d n grammar.statement_rule (By grammar.statement_rule)
+  pub statement_given : Given (good l d n) grammar.statement_rule (By grammar.statement_rule)
   statement_given = g_either (g_then block_given (λ b hb. g_done (λ pl k ne. written (b_left (b_last (b_of (hb pl k)))) refl refl))) (second_of_two no_block_given)
 
-  parameters_given : Given l d n grammar.parameters (λ xs. Unit {0})
+  parameters_given : Given (good l d n) grammar.parameters (λ xs. Unit {0})
   parameters_given = record { it = any grammar.parameters }
 
-  pub inlet_given : Given l d n grammar.inlet_rule (λ x. PlainLocal x → (k : Option ℕ) → Written S grammar.inlet_rule k (local_lexemes x) (bare_local x))
+  pub inlet_given : Given (good l d n) grammar.inlet_rule (λ x. PlainLocal x → (k : Option ℕ) → Written S grammar.inlet_rule k (local_lexemes x) (bare_local x))
   inlet_given = g_then g_word (λ at u. g_skip (g_then g_name (λ x hx. g_then parameters_given (λ ps u. g_then block_given (λ b hb. g_done (λ pl k.
       written (b_then (b_skip (word key.Void) refl (b_then (b_then (b_last (b_of (hb pl k))) (b_of (parameters_spelled S ps _))) (b_name x hx))) (b_word key.Inlet)) refl refl))))))

@@ -1,4 +1,3 @@
 pub use Rattle.cilk_grammar.specs.Spelling
-pub mod ExprLexemes
-pub mod StmtLexemes
+pub use Rattle.cilk_spelled.specs.CanWrite
 pub mod Plain

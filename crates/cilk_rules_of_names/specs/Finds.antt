@@ -1,5 +1,5 @@
 -- The faults in the names of a program as a list.
-use Rattle.std.specs.Prelude.{ℕ, List, [], ◌∷◌, ◌++◌, Bool, true, false, not, length, ◌&&◌, ◌==◌, if◌then◌else◌, codes, Option, Some, None, is_some, flat_map, map, bytes_eq}
+use Rattle.std.specs.Prelude.{ℕ, List, [], ◌∷◌, ◌++◌, Bool, true, false, not, length, ◌&&◌, ◌==◌, if◌then◌else◌, codes, Option, Some, None, is_some, option_map, flat_map, map, bytes_eq}
 use Rattle.std.specs.List.{list_any}
 use Rattle.cilk_syntax.specs.declared.return_type.ReturnType.{ReturnType}
 use Rattle.cilk_syntax.specs.declared.return_type.ReturnType.TheVariants.{Int, Void}
@@ -11,8 +11,8 @@ use Rattle.cilk_scopes.specs.First.{fault_if}
 use Rattle.cilk_scopes.specs.declared.kind.Kind.{Kind}
 use Rattle.cilk_scopes.specs.declared.kind.Kind.TheVariants as kind
 use Rattle.cilk_scopes.specs.Scopes.{Scopes, Declared, declared_in, meaning, declare, declare_all, enter, parameter, parameters_declare, local_declares, file_declares, file_scopes}
-use Rattle.cilk_scopes.specs.Parts.{Part, local, statement, Standing, local_exprs, stmt_exprs}
-use Rattle.cilk_scopes.specs.Declarations.{Declaring, declaring, part_declarings}
+use Rattle.cilk_scopes.specs.Parts.{Part, local, statement, local_exprs, stmt_exprs}
+use Rattle.cilk_scopes.specs.Declarations.{Declaring, declaring}
 use Rattle.cilk_rules_of_names.specs.Reserved.{c_keywords, library_names}
 use Rattle.cilk_rules_of_names.specs.declared.role.Role.{Role}
 use Rattle.cilk_rules_of_names.specs.declared.role.Role.TheVariants as role
@@ -50,23 +50,26 @@ is_inlet (kind.Inlet n) = true
 is_inlet other = false
 
 -- of a use that means a declaration
-unfoldable pub meant_faults : Use → Declared → List CheckFault
-meant_faults used d =
-    fault_if (not (fits used.role d.kind)) (WrongKind used.name.place)
-    ++ (fault_if (is_spawned used.role && bytes_eq used.name.text (codes "main")) (WrongKind used.name.place)
-    ++ (fault_if (differ (arguments_of used.role) (parameters_of d.kind)) (ArgumentCount used.name.place)
-    ++ (fault_if (is_for_value used.role && is_void (returned_by d.kind)) (VoidValue used.name.place)
-    ++ fault_if (is_called used.role && is_inlet d.kind) (InletNeedsSpawn used.name.place))))
+unfoldable pub meant_faults : Word → Role → Kind → List CheckFault
+meant_faults name role kind =
+    fault_if (not (fits role kind)) (WrongKind name.place)
+    ++ (fault_if (is_spawned role && bytes_eq name.text (codes "main")) (WrongKind name.place)
+    ++ (fault_if (differ (arguments_of role) (parameters_of kind)) (ArgumentCount name.place)
+    ++ (fault_if (is_for_value role && is_void (returned_by kind)) (VoidValue name.place)
+    ++ fault_if (is_called role && is_inlet kind) (InletNeedsSpawn name.place))))
 
--- of a use of a name that is not reserved, where this is its meaning
-abbrev pub visible_faults : Use → Option Declared → List CheckFault
-visible_faults used None = Unknown used.name.place ∷ []
-visible_faults used (Some d) = meant_faults used d
+-- of a use of a name that is not reserved, where it means this
+abbrev pub visible_faults : Word → Role → Option Kind → List CheckFault
+visible_faults name role None = Unknown name.place ∷ []
+visible_faults name role (Some kind) = meant_faults name role kind
 
 -- of a use
+abbrev pub name_faults : Scopes → Word → Role → List CheckFault
+name_faults scopes name role =
+    if is_reserved name.text then Reserved name.place ∷ [] else visible_faults name role (option_map (λ d. d.kind) (meaning scopes name.text))
+
 unfoldable pub use_faults : Use → List CheckFault
-use_faults used =
-    if is_reserved used.name.text then Reserved used.name.place ∷ [] else visible_faults used (meaning used.scopes used.name.text)
+use_faults used = name_faults used.scopes used.name used.role
 
 -- of a declaration
 unfoldable pub declaring_faults : Declaring → List CheckFault
@@ -115,24 +118,23 @@ abbrev pub value_faults : Scopes → Option tree.Expr → List CheckFault
 value_faults scopes None = []
 value_faults scopes (Some e) = expr_faults scopes e
 
--- of a part itself
+-- of a part itself, but for the parameters of an inlet
 unfoldable pub part_faults : Scopes → Part → List CheckFault
 part_faults scopes (local what) =
-    flat_map declaring_faults (part_declarings scopes (local what)) ++ exprs_faults (declare scopes (local_declares what)) (local_exprs what)
+    declaring_faults (record { before = scopes.innermost; declared = local_declares what }) ++ exprs_faults (declare scopes (local_declares what)) (local_exprs what)
 part_faults scopes (statement what) = flat_map use_faults (stmt_uses scopes what) ++ exprs_faults scopes (stmt_exprs what)
 
-abbrev pub standing_faults : Standing → List CheckFault
-standing_faults s = part_faults s.around.scopes s.part
+-- of declarations that begin a scope
+abbrev pub scope_faults : List Declared → List CheckFault
+scope_faults ds = flat_map declaring_faults (declaring [] ds)
 
--- what is visible behind declarations
+-- what is visible behind the declarations of a block
 abbrev pub behind_locals : Scopes → tree.Locals → Scopes
 behind_locals scopes tree.no_locals = scopes
 behind_locals scopes (tree.and_local first others) = behind_locals (declare scopes (local_declares first)) others
 
--- what is visible in the body of an inlet: its name, and its parameters
-abbrev pub inlet_scopes : Scopes → tree.Local → List Word → Scopes
-inlet_scopes scopes definition parameters =
-    declare_all (enter (declare scopes (local_declares definition))) (map parameter parameters)
+abbrev pub behind_block : Scopes → tree.Block → Scopes
+behind_block scopes (tree.block locals stmts) = behind_locals scopes locals
 
 -- of a block, with what stands inside its parts
 abbrev mutual
@@ -142,12 +144,14 @@ abbrev mutual
   pub locals_faults : Scopes → tree.Locals → List CheckFault
   locals_faults scopes tree.no_locals = []
   locals_faults scopes (tree.and_local first others) =
-      part_faults scopes (local first) ++ (inside_local scopes first ++ locals_faults (declare scopes (local_declares first)) others)
+      part_faults scopes (local first)
+      ++ (inside_local (declare scopes (local_declares first)) first ++ locals_faults (declare scopes (local_declares first)) others)
 
+  -- where the declaration is visible
   pub inside_local : Scopes → tree.Local → List CheckFault
   inside_local scopes (tree.declared d) = []
   inside_local scopes (tree.inlet_at at name parameters body) =
-      block_faults (inlet_scopes scopes (tree.inlet_at at name parameters body) parameters) body
+      scope_faults (map parameter parameters) ++ block_faults (declare_all (enter scopes) (map parameter parameters)) body
 
   pub stmts_faults : Scopes → tree.Stmts → List CheckFault
   stmts_faults scopes tree.none = []
@@ -166,7 +170,7 @@ abbrev mutual
 -- of a function or procedure: of its parameters and of its body
 unfoldable pub procedure_faults : Scopes → tree.Proc → List CheckFault
 procedure_faults file f =
-    flat_map declaring_faults (declaring [] (parameters_declare f.parameters))
+    scope_faults (parameters_declare f.parameters)
     ++ block_faults (declare_all (enter file) (parameters_declare f.parameters)) f.body
 
 abbrev pub item_faults : Scopes → tree.Item → List CheckFault
@@ -175,8 +179,12 @@ item_faults file (tree.global g) = []
 item_faults file (tree.lock name) = []
 item_faults file (tree.prototype q) = []
 
--- of a program: of what its top level declares, of its prototypes, and of its bodies
+-- of what the top level declares, of its prototypes, and of its bodies
+abbrev pub items_faults : List tree.Item → List CheckFault
+items_faults items =
+    scope_faults (file_declares items)
+    ++ (flat_map (prototype_faults items) items ++ flat_map (item_faults (file_scopes items)) items)
+
+-- of a program
 abbrev pub names_faults : tree.Program → List CheckFault
-names_faults p =
-    flat_map declaring_faults (declaring [] (file_declares p.items))
-    ++ (flat_map (prototype_faults p.items) p.items ++ flat_map (item_faults (file_scopes p.items)) p.items)
+names_faults p = items_faults p.items

@@ -1,5 +1,5 @@
 -- The uses of names in a program: what each name is used as.
-use Rattle.std.specs.Prelude.{suc, Bool, true, false, List, [], ◌∷◌, ◌++◌, flat_map, length, Option, Some, None, is_some}
+use Rattle.std.specs.Prelude.{◌+◌, Bool, true, false, List, [], ◌∷◌, ◌++◌, flat_map, length, Option, Some, None, is_some}
 use Rattle.cilk_syntax.specs.Tree.{Word}
 use Rattle.cilk_syntax.specs.Tree as tree
 use Rattle.cilk_scopes.specs.Scopes.{Scopes}
@@ -52,7 +52,7 @@ moves_uses scopes (Some move) = move_uses scopes move
 abbrev pub taker_uses : Scopes → tree.Taker → List Use
 taker_uses scopes tree.nothing = []
 taker_uses scopes (tree.into target) = target_uses scopes (Some target)
-taker_uses scopes (tree.through name others) = use_as scopes name (Fed (suc (length others))) ∷ []
+taker_uses scopes (tree.through name others) = use_as scopes name (Fed (length others + 1)) ∷ []
 
 abbrev pub takes_value : tree.Taker → Bool
 takes_value tree.nothing = false

@@ -1,6 +1,18 @@
 //! The rules of names: C1 to C5, C7, C11 and C16.
 #![tactic(auto)]
 
+mod entry;
+mod file;
+mod meant;
+mod moves;
+mod nearest;
+mod prototypes;
+mod reserved;
 mod role;
+mod statement;
+mod table;
+mod top;
+mod uses;
+mod walk;
 
 pub use role::Role;

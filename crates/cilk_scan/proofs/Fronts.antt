@@ -1,6 +1,7 @@
 -- What the code finds at the front of a text is what is seen there.
-use Rattle.std.proofs.Common.{◌≡◌, ◌≢◌, ℕ, ◌+◌, ◌<◌, ◌≤◌, Bool, true, false, cond, eqb, ◌&&◌, inl, inr, List, [], ◌∷◌, ◌++◌, length, get_or, take, drop, codes, Option, Some, None, Result, Ok, Err, MatchOption, MatchResult, refl, sym, ap, ◌∙◌, subst, arith, length-append, length-drop, append_assoc}
-use Rattle.std.specs.Prelude.{IsCharBoundary, IsUtf8, nat_le, ◌==◌}
+use Rattle.std.proofs.Common.{◌≡◌, ◌≢◌, ℕ, ◌+◌, ◌<◌, ◌≤◌, Bool, true, false, cond, inl, inr, List, [], ◌∷◌, ◌++◌, length, get_or}
+use Rattle.std.proofs.Common.{take, drop, codes, Option, Some, None, Result, Ok, Err, MatchOption, refl, sym, ap, ◌∙◌, subst, arith, length-append, length-drop, append_assoc}
+use Rattle.std.specs.Prelude.{IsCharBoundary, IsUtf8}
 use Rattle.std.specs.Char.{is_ascii_digit}
 use Rattle.std.specs.List.{prefix_len}
 use Rattle.std.specs.Str.Pattern.{FindsText}
@@ -12,8 +13,7 @@ use Rattle.cilk_lexeme.specs.declared.keyword.Keyword.{Keyword}
 use Rattle.cilk_lexeme.specs.declared.mark.Mark.{Mark}
 use Rattle.cilk_lexeme.specs.declared.token.Kind.TheVariants as kind
 use Rattle.cilk_lexeme.specs.Byte.{is_blank, begins_name, continues_name, continues_number}
-use Rattle.cilk_lexeme.specs.Lexeme.{Lexeme, word, name, number, mark}
-use Rattle.cilk_lexeme.specs.Sight.{Sight, found, amiss, named, name_sight, number_in, number_shown, number_sight, all_marks, mark_among, mark_in, mark_shown, mark_sight, opens_comment, end_from, comment_shown, comment_sight, text_sight, include_sight, sight}
+use Rattle.cilk_lexeme.specs.Sight.{Sight, found, amiss, name_sight, number_in, number_shown, number_sight, mark_in, mark_shown, mark_sight, opens_comment, end_from, comment_shown, comment_sight, text_sight, include_sight, sight}
 use Rattle.cilk_lexeme.specs.Spelling.{spelling, mark_spelling, NeverEnds}
 use Rattle.cilk_lexeme.proofs.Comments.{end_seen, end_at}
 use Rattle.cilk_lexeme.proofs.Forms.{IsPlain}
@@ -110,6 +110,10 @@ pub record Other (t : List ℕ) : Type 0 where
   pub no_blank : is_blank (get_or t 0 0) ≡ false
   pub no_name : begins_name (get_or t 0 0) ≡ false
 
+-- the text does not begin with these bytes
+abbrev pub Lacks : List ℕ → List ℕ → Type 0
+Lacks w t = (rest : List ℕ) → t ≢ w ++ rest
+
 pub other : (t : List ℕ) → 0 < length t → is_blank (get_or t 0 0) ≡ false → begins_name (get_or t 0 0) ≡ false → Other t
 other t l b n = record { some = l; no_blank = b; no_name = n }
 
@@ -141,7 +145,7 @@ module _ (fresh : Bool) (at : ℕ) where
   unfolding sight opens_comment
   at_comment t rest e = rw e refl
 
-  pub at_mark : (t : List ℕ) → Other t → is_ascii_digit (get_or t 0 0) ≡ false → ((rest : List ℕ) → t ≢ codes "\"" ++ rest) → ((rest : List ℕ) → t ≢ codes "#" ++ rest) → ((rest : List ℕ) → t ≢ codes "/*" ++ rest) → sight fresh at t ≡ mark_sight at t
+  pub at_mark : (t : List ℕ) → Other t → is_ascii_digit (get_or t 0 0) ≡ false → Lacks (codes "\"") t → Lacks (codes "#") t → Lacks (codes "/*") t → sight fresh at t ≡ mark_sight at t
   unfolding sight
   at_mark [] o d q r c = absurd (omega (arith, o.some))
   at_mark (b ∷ bs) o d q r c = rw (o.no_blank, o.no_name, d, ne_eqb b 34 (λ e. q bs (rw e refl)), ne_eqb b 35 (λ e. r bs (rw e refl))) (is (opens_comment (b ∷ bs)) refl)

@@ -1,6 +1,6 @@
 -- How far a text is read.
-use Rattle.std.proofs.Common.{◌≡◌, ℕ, ◌+◌, ◌-◌, ◌<◌, ◌≤◌, Bool, true, List, [], ◌∷◌, ◌++◌, length, get_or, take, drop, Option, Some, None, refl, sym, ap, subst, ◌∙◌, arith, append_assoc}
-use Rattle.std.specs.Prelude.{option_map, All, IsAscii, IsCharBoundary, IsUtf8, slice_range}
+use Rattle.std.proofs.Common.{◌≡◌, ℕ, ◌+◌, ◌-◌, ◌<◌, ◌≤◌, Bool, true, List, [], ◌∷◌, ◌++◌, length, take, drop, Option, Some, None, refl, sym, ap, subst, ◌∙◌, arith, append_assoc}
+use Rattle.std.specs.Prelude.{option_map, All, IsCharBoundary, IsUtf8, slice_range}
 use Rattle.std.proofs.lemmas.List.{map_push, append-nil, length-take-le, length-drop, take-append-drop, drop-drop, nil_from_length}
 use Rattle.std.proofs.lemmas.List.Elements.{All-nil, All-push}
 use Rattle.std.proofs.lemmas.Str.{IsCharBoundary-from_drop, IsCharBoundary-from_rest}
@@ -9,7 +9,7 @@ use Rattle.cilk_lexeme.specs.declared.token.Kind.{Kind}
 use Rattle.cilk_lexeme.specs.declared.token.Token.{Token}
 use Rattle.cilk_lexeme.specs.Lexeme.{Lexeme, lexeme_of, Piece, piece_of, pieces_of}
 use Rattle.cilk_lexeme.specs.Lexing.{Front, fresh_behind, Lexes, finished, skipped, taken, Faulty, here, later}
-use Rattle.cilk_lexeme.specs.Sight.{sight, found, amiss}
+use Rattle.cilk_lexeme.specs.Sight.{sight, amiss}
 use Rattle.cilk_lexeme.proofs.Forms.{front_ends, front_some, lexeme_plain}
 use Rattle.cilk_lexeme.proofs.Sees.{sees}
 use Rattle.cilk_lexeme.proofs.Shows.{Shows}
@@ -120,14 +120,16 @@ all_read text rest ts fresh at s e = subst (λ ps. Lexes true 0 text ps) (append
 pub takes_some : (fresh : Bool) (rest : List ℕ) (f : Found) → IsFound fresh rest f → 0 < f.end
 takes_some fresh rest f i = omega (arith, front_some i.front, front_length rest f.end i.in_text)
 
-module _ (text rest more : List ℕ) (ts us : List Token) (fresh after : Bool) (at : ℕ) (f : Found) (s : ReadSoFar text ts fresh at rest) (i : IsFound fresh rest f)
-    (h : more ≡ drop f.end rest) (b : after ≡ fresh_behind fresh (take f.end rest)) where
-  pub after_blank : f.kind ≡ None → us ≡ ts → ReadSoFar text us after (at + f.end) more
-  after_blank e g =
-      let front = subst (λ k. Front fresh (take f.end rest) (drop f.end rest) (option_map (lexeme_of (take f.end rest)) k)) e i.front in
-      rw (g, h, b) (blank_read text rest ts fresh at f.end s i.in_text front)
+-- what the loop knows behind a front: a blank, or one more token
+pub record Behind (text rest more : List ℕ) (ts us : List Token) (after : Bool) (at : ℕ) (f : Found) : Type 0 where
+  pub blank : f.kind ≡ None → us ≡ ts → ReadSoFar text us after (at + f.end) more
+  pub token : (k : Kind) → IsUtf8 text → IsUtf8 rest → f.kind ≡ Some k → us ≡ ts ++ record { kind = k; start = at; end = at + f.end } ∷ [] → ReadSoFar text us after (at + f.end) more
 
-  pub after_token : (k : Kind) → IsUtf8 text → IsUtf8 rest → f.kind ≡ Some k → us ≡ ts ++ record { kind = k; start = at; end = at + f.end } ∷ [] → ReadSoFar text us after (at + f.end) more
-  after_token k u v e g =
-      let front = subst (λ k. Front fresh (take f.end rest) (drop f.end rest) (option_map (lexeme_of (take f.end rest)) k)) e i.front in
-      rw (g, h, b) (token_read text rest ts fresh at f.end s i.in_text k front u v)
+pub behind : (text rest more : List ℕ) (ts us : List Token) (fresh after : Bool) (at : ℕ) (f : Found) → ReadSoFar text ts fresh at rest → IsFound fresh rest f
+    → more ≡ drop f.end rest → after ≡ fresh_behind fresh (take f.end rest) → Behind text rest more ts us after at f
+behind text rest more ts us fresh after at f s i h b =
+    let front = λ (k : Option Kind) (e : f.kind ≡ k). subst (λ k. Front fresh (take f.end rest) (drop f.end rest) (option_map (lexeme_of (take f.end rest)) k)) e i.front in
+    record {
+      blank = λ e g. rw (g, h, b) (blank_read text rest ts fresh at f.end s i.in_text (front None e));
+      token = λ k u v e g. rw (g, h, b) (token_read text rest ts fresh at f.end s i.in_text k (front (Some k) e) u v);
+    }

@@ -1,11 +1,11 @@
 -- One byte more of a text.
-use Rattle.std.proofs.Common.{◌≡◌, ◌≢◌, ℕ, suc, ◌+◌, ◌-◌, ◌<◌, ◌≤◌, Bool, true, false, cond, eqb, ◌&&◌, List, [], ◌∷◌, length, get_or, drop, Option, Some, None, refl, sym, ap, ◌∙◌, arith, add-one, drop-cons}
+use Rattle.std.proofs.Common.{◌≡◌, ◌≢◌, ℕ, ◌+◌, ◌-◌, ◌<◌, ◌≤◌, Bool, true, false, List, ◌∷◌, ◌||◌, ◌&&◌, length, get_or, drop, Some, None, refl, sym, ap, ◌∙◌, add-one, drop-cons}
 use Rattle.std.specs.Prelude.{◌==◌}
-use Rattle.std.proofs.lemmas.Bool.{eq-eqb, ne_eqb}
+use Rattle.std.proofs.lemmas.Bool.{ne_eqb}
 use Rattle.std.proofs.lemmas.List.{drop_all}
-use Rattle.cilk_lexeme.specs.declared.fault.LexFault.{LexFault}
 use Rattle.cilk_lexeme.specs.declared.fault.LexFault.TheVariants.{BadByte, BadEscape}
-use Rattle.cilk_lexeme.specs.Byte.{is_line_end, is_escape, is_printed}
+use Rattle.cilk_lexeme.specs.Byte.{is_space, is_line_end, is_escape, is_printed}
+use Rattle.cilk_lexeme.specs.Lexing.{fresh_behind}
 use Rattle.cilk_lexeme.specs.Sight.{ends_line, quote_from, fault_from}
 
 module _ (t : List ℕ) (i : ℕ) (l : i < length t) where
@@ -67,7 +67,15 @@ module _ (t : List ℕ) (i : ℕ) (l : i < length t) where
   unfolding fault_from
   fault_on at n e = rw (next, ne_eqb (get_or t i 0) 92 n, e, add-one at) refl
 
+  -- ---- to the end of a front
+
+  pub fresh_on : (fresh : Bool) → fresh_behind fresh (drop i t) ≡ fresh_behind (get_or t i 0 == 10 || (is_space (get_or t i 0) && fresh)) (drop (i + 1) t)
+  fresh_on fresh = rw next refl
+
 -- ---- at the end
+
+pub fresh_done : (t : List ℕ) (i : ℕ) (fresh : Bool) → length t ≤ i → fresh_behind fresh (drop i t) ≡ fresh
+fresh_done t i fresh l = rw (drop_all i t l) refl
 
 pub line_done : (t : List ℕ) (i : ℕ) → length t ≤ i → ends_line (drop i t) ≡ true
 unfolding ends_line

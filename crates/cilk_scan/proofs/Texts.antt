@@ -1,5 +1,5 @@
 -- What the code finds at a quote.
-use Rattle.std.proofs.Common.{◌≡◌, ℕ, suc, ◌+◌, ◌<◌, ◌≤◌, Bool, true, false, List, [], ◌∷◌, ◌++◌, length, take, drop, codes, Option, Some, None, refl, sym, ap, ◌∙◌, subst, arith, length-append}
+use Rattle.std.proofs.Common.{◌≡◌, ℕ, ◌+◌, ◌<◌, false, List, ◌∷◌, ◌++◌, length, take, drop, codes, Some, None, refl, sym, ap, subst, arith, length-append}
 use Rattle.cilk_lexeme.specs.declared.fault.LexFault.{LexFault}
 use Rattle.cilk_lexeme.specs.declared.fault.LexFault.TheVariants.{OpenText}
 use Rattle.cilk_lexeme.specs.declared.token.Kind.TheVariants as kind

@@ -1,5 +1,5 @@
 -- The place of a fault is in the text.
-use Rattle.std.proofs.Common.{◌≡◌, ℕ, suc, ◌+◌, ◌<◌, ◌≤◌, Bool, List, [], ◌∷◌, ◌++◌, length, codes, ap, sym, arith, length-append}
+use Rattle.std.proofs.Common.{ℕ, ◌+◌, ◌≤◌, Bool, List, ◌∷◌, ◌++◌, length, codes, ap, arith, length-append}
 use Rattle.cilk_lexeme.specs.declared.fault.LexFault.{LexFault}
 use Rattle.cilk_lexeme.specs.declared.fault.LexFault.TheVariants as fault
 use Rattle.cilk_lexeme.specs.Lexeme.{place_of}

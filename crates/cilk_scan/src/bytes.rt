@@ -2,7 +2,8 @@
 
 ghost use Rattle.std.specs.Prelude.{◌≡◌, take, drop};
 ghost use Rattle.std.specs.List.{prefix_len};
-ghost use Rattle.cilk_lexeme.specs.Byte.{is_blank, is_space, is_line_blank, is_line_end, is_printed, is_escape, is_x, begins_name, continues_name, continues_number, continues_header, opens_header};
+ghost use Rattle.cilk_lexeme.specs.Byte.{is_blank, is_space, is_line_blank, is_line_end, is_printed, is_escape};
+ghost use Rattle.cilk_lexeme.specs.Byte.{is_x, begins_name, continues_name, continues_number, continues_header, opens_header};
 ghost use Rattle.cilk_lexeme.specs.Sight.{ends_line};
 
 pub(crate) fn is_blank(byte: u8) -> bool
@@ -11,7 +12,7 @@ pub(crate) fn is_blank(byte: u8) -> bool
     byte == b' ' || (9..=13).contains(&byte)
 }
 
-fn is_space(byte: u8) -> bool
+pub(crate) fn is_space(byte: u8) -> bool
     ensures { result ≡ is_space byte }
 {
     byte == b' ' || byte == b'\t'

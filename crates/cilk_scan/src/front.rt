@@ -1,14 +1,14 @@
 //! What a text begins with.
 
-ghost use Rattle.std.specs.Prelude.{◌≡◌, ◌≢◌, ◌<◌, ◌≤◌, ◌+◌, ◌^◌, ◌++◌, codes, List, ℕ, length, take, IsTrue, MatchOption, slice_index};
+ghost use Rattle.std.specs.Prelude.{◌≡◌, ◌≢◌, ◌<◌, ◌≤◌, ◌+◌, ◌^◌, ◌++◌, codes, List, ℕ, length, take, ◌==◌, ◌||◌, ◌&&◌, IsTrue, MatchOption, slice_index};
 ghost use Rattle.std.specs.Char.{is_ascii_digit};
 ghost use Rattle.cilk_lexeme.specs.declared.mark.Mark.{Mark};
-ghost use Rattle.cilk_lexeme.specs.Byte.{begins_name};
+ghost use Rattle.cilk_lexeme.specs.Byte.{begins_name, is_space};
 ghost use Rattle.cilk_lexeme.specs.Lexing.{fresh_behind};
 ghost use Rattle.cilk_lexeme.specs.Sight.{sight, name_sight, number_sight, mark_in, mark_sight, comment_sight};
 ghost use Rattle.cilk_scan.specs.Front.{IsSeen, Finds};
 
-use crate::bytes::{begins_name, is_blank, name_end, number_end};
+use crate::bytes::{begins_name, is_blank, is_space, name_end, number_end};
 use crate::found::Found;
 use crate::inclusion::first_include;
 use crate::literal::first_text;
@@ -120,13 +120,19 @@ pub(crate) fn first(text: &str, fresh: bool, at: u32) -> Result<Found, LexFault>
     }
 }
 
+fn fresh_after(fresh: bool, byte: u8) -> bool
+    ensures { result ≡ (byte == 10 || (is_space byte && fresh)) }
+{
+    byte == b'\n' || (is_space(byte) && fresh)
+}
+
 /// Whether nothing but spaces and tabs stand on its line before the place behind a front.
 pub(crate) fn fresh_behind(fresh: bool, front: &[u8]) -> bool
     ensures { result ≡ fresh_behind fresh front.now }
 {
-    match front {
-        [b'\n'] => true,
-        [] | [b' ' | b'\t'] => fresh,
-        _ => false,
+    let mut behind = fresh;
+    for byte in front {
+        behind = fresh_after(behind, *byte);
     }
+    behind
 }

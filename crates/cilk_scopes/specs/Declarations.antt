@@ -4,7 +4,7 @@ use Rattle.cilk_syntax.specs.Tree as tree
 use Rattle.cilk_scopes.specs.Scopes.{Declared, Scopes, parameter, parameters_declare, local_declares, file_declares}
 use Rattle.cilk_scopes.specs.Parts.{Part, local, statement, parts_of}
 
--- a declaration, and those before it in its scope (C 1990, 6.1.2.1)
+-- a declaration, and those before it in its scope, the nearest first (C 1990, 6.1.2.1)
 pub record Declaring : Type 0 where
   pub before : List Declared
   pub declared : Declared
@@ -12,7 +12,7 @@ pub record Declaring : Type 0 where
 -- each of these, behind those before
 abbrev pub declaring : List Declared → List Declared → List Declaring
 declaring before [] = []
-declaring before (d ∷ ds) = record { before = before; declared = d } ∷ declaring (before ++ d ∷ []) ds
+declaring before (d ∷ ds) = record { before = before; declared = d } ∷ declaring (d ∷ before) ds
 
 -- the parameters of an inlet begin the scope of its body
 abbrev pub inlet_parameters : tree.Local → List Declaring

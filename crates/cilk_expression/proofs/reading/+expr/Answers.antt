@@ -1,4 +1,4 @@
-use Rattle.std.proofs.Common.{◌≡◌, ℕ, ◌+◌, Some, arith, sym, ap, ◌∙◌, length}
+use Rattle.std.proofs.Common.{◌≡◌, ◌+◌, Some, arith, sym, ap, ◌∙◌, length}
 use Rattle.std.proofs.lemmas.Result.{err_from_is_err_and}
 use Rattle.cilk_expression.proofs.Loop.{none_from, operand_fails, operand_read, infix_low, ends_here, stops_here, full_here, choice_here, operator_fails, operator_goes, subscript_open}
 use Rattle.cilk_expression.specs.declared.operator.Infix.{Infix}

@@ -1,4 +1,4 @@
-use Rattle.std.proofs.Common.{sym, ◌∙◌, arith}
+use Rattle.std.proofs.Common.{sym, ◌∙◌}
 use Rattle.cilk_scan.proofs.Loops.{line_hit, line_miss, line_on, line_done}
 use Rattle.cilk_scan.proofs.bytes.ends_line.Goals as goal
 

@@ -1,4 +1,3 @@
-use Rattle.std.proofs.Common.{sym, ◌∙◌}
 use Rattle.cilk_scan.proofs.Headers.{not_fresh, not_included, is_included}
 use Rattle.cilk_scan.proofs.inclusion.first_include.Goals as goal
 

@@ -1,5 +1,4 @@
-use Rattle.std.proofs.Common.{sym, ◌∙◌, not, Bool, true, false, ◌≡◌, refl, codes}
-use Rattle.std.specs.Prelude.{bytes_eq}
+use Rattle.std.proofs.Common.{sym, ◌∙◌, not, Bool, true, false, ◌≡◌, refl}
 use Rattle.cilk_scan.proofs.Headers.{no_word, behind_word_at}
 use Rattle.cilk_scan.proofs.inclusion.included.Goals as goal
 

@@ -1,4 +1,4 @@
-use Rattle.std.proofs.Common.{sym, ◌∙◌, arith, ap, Some, false}
+use Rattle.std.proofs.Common.{sym, ◌∙◌, arith}
 use Rattle.cilk_scan.proofs.Loops.{quote_newline, quote_hit, quote_taken, quote_on, quote_done}
 use Rattle.cilk_scan.proofs.literal.closing_quote.Goals as goal
 use Rattle.cilk_scan.proofs.literal.closing_quote.Goals.{then-escaped, else-escaped+else-byte-eq34}

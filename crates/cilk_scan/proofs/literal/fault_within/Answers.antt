@@ -1,4 +1,4 @@
-use Rattle.std.proofs.Common.{sym, ◌∙◌, arith, ap, Some, false}
+use Rattle.std.proofs.Common.{sym, ◌∙◌, arith}
 use Rattle.cilk_scan.proofs.Loops.{fault_escape, fault_taken, fault_backslash, fault_byte, fault_on, fault_done}
 use Rattle.cilk_scan.proofs.literal.fault_within.Goals as goal
 use Rattle.cilk_scan.proofs.literal.fault_within.Goals.{then-escaped+else-not-is_escape, else-escaped+then-byte-eq92, else-escaped+else-byte-eq92+else-not-is_printed}

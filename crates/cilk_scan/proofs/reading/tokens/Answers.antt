@@ -3,7 +3,7 @@ use Rattle.std.proofs.lemmas.List.{length-take-le}
 use Rattle.std.proofs.lemmas.Result.{err_from_is_err_and}
 use Rattle.std.proofs.lemmas.Bool.Decides.{nat_tests}
 use Rattle.cilk_lexeme.proofs.Unique.{one_reading, never_both, one_fault}
-use Rattle.cilk_scan.proofs.Loop.{found_there, fault_there, found_cut, takes_some, after_blank, after_token, all_read}
+use Rattle.cilk_scan.proofs.Loop.{found_there, fault_there, found_cut, takes_some, behind, all_read}
 use Rattle.cilk_scan.proofs.Refusals.{refused, another_fault}
 use Rattle.cilk_scan.proofs.reading.tokens.Goals as goal
 use Rattle.cilk_scan.proofs.reading.tokens.Goals.{in-Some+in_ok-push, in_default}
@@ -57,14 +57,15 @@ loop-rest-smaller c =
 
 pub loop-rest-preserved : goal.loop-rest-preserved
 loop-rest-preserved c =
-    let i = found_there c.loop-rest.fresh c.loop-rest.start c.loop-rest.rest.now c.in_ok-front.front c.in_ok-front.ensures in
-    let after = rw c.as_bytes.ensures.value at c.fresh_behind-fresh.ensures in (
-      c.range_from-rest.utf8,
+    let t = c.loop-rest in
+    let i = found_there t.fresh t.start t.rest.now c.in_ok-front.front c.in_ok-front.ensures in
+    let r = c.range_from-rest in
+    let b = rw c.as_bytes.ensures.value at c.fresh_behind-fresh.ensures in
+    let after = behind c.args.text.now t.rest.now r.result.now t.found.items c.match-front.found.items t.fresh c.fresh_behind-fresh.result t.start c.in_ok-front.front t.invariant.1 i r.ensures.value b in (
+      r.utf8,
       elim c.match-front.branch [
-        | in-Some+in_ok-push w ↦
-            after_token c.args.text.now c.loop-rest.rest.now c.range_from-rest.result.now c.loop-rest.found.items c.match-front.found.items c.loop-rest.fresh c.fresh_behind-fresh.result c.loop-rest.start c.in_ok-front.front c.loop-rest.invariant.1 i c.range_from-rest.ensures.value after w.in-Some.kind c.utf8.text c.loop-rest.invariant.0 w.in-Some.is (ap (λ v. v.items) w.found-is ∙ w.in_ok-push.ensures.items)
-        | in_default w ↦
-            after_blank c.args.text.now c.loop-rest.rest.now c.range_from-rest.result.now c.loop-rest.found.items c.match-front.found.items c.loop-rest.fresh c.fresh_behind-fresh.result c.loop-rest.start c.in_ok-front.front c.loop-rest.invariant.1 i c.range_from-rest.ensures.value after w.in_default.is (ap (λ v. v.items) w.found-is)
+        | in-Some+in_ok-push w ↦ after.token w.in-Some.kind c.utf8.text t.invariant.0 w.in-Some.is (ap (λ v. v.items) w.found-is ∙ w.in_ok-push.ensures.items)
+        | in_default w ↦ after.blank w.in_default.is (ap (λ v. v.items) w.found-is)
       ],
     )
 

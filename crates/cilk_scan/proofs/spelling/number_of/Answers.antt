@@ -1,6 +1,6 @@
-use Rattle.std.proofs.Common.{sym, ◌∙◌, ap, arith, inl, inr}
+use Rattle.std.proofs.Common.{sym, ◌∙◌, ap, inl, inr}
 use Rattle.cilk_lexeme.specs.Sight.{valued}
-use Rattle.cilk_scan.proofs.Values.{in_ten, in_sixteen, in_eight, digits_pass}
+use Rattle.cilk_scan.proofs.Values.{in_ten, in_sixteen, in_eight}
 use Rattle.cilk_scan.proofs.spelling.number_of.Goals as goal
 use Rattle.cilk_scan.proofs.spelling.number_of.Goals.{then-bytes-lt2-via-then-bytes-lt2, then-bytes-lt2-via-else-bytes-lt2+then-bytes-ne48}
 

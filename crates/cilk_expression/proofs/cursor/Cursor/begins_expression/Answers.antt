@@ -1,4 +1,4 @@
-use Rattle.std.proofs.Common.{◌≡◌, sym, ◌∙◌}
+use Rattle.std.proofs.Common.{sym, ◌∙◌}
 use Rattle.cilk_expression.proofs.Opens.{begins_kind, begins_nothing}
 use Rattle.cilk_expression.proofs.cursor.Cursor.begins_expression.Goals as goal
 

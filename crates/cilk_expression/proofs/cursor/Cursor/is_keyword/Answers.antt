@@ -1,5 +1,4 @@
-use Rattle.std.proofs.Common.{ap, ◌∙◌}
-use Rattle.std.specs.Option.{option_eq}
+use Rattle.std.proofs.Common.{◌∙◌}
 use Rattle.cilk_expression.proofs.Compared.{is_word}
 use Rattle.cilk_expression.proofs.cursor.Cursor.is_keyword.Goals as goal
 

@@ -1,5 +1,4 @@
-use Rattle.std.proofs.Common.{ap, ◌∙◌}
-use Rattle.std.specs.Option.{option_eq}
+use Rattle.std.proofs.Common.{◌∙◌}
 use Rattle.cilk_expression.proofs.Compared.{is_mark}
 use Rattle.cilk_expression.proofs.cursor.Cursor.is_mark.Goals as goal
 

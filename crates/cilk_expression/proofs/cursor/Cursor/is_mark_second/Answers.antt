@@ -1,4 +1,4 @@
-use Rattle.std.proofs.Common.{◌≡◌, ap, ◌∙◌}
+use Rattle.std.proofs.Common.{◌∙◌}
 use Rattle.cilk_expression.proofs.Compared.{second_mark}
 use Rattle.cilk_expression.proofs.cursor.Cursor.is_mark_second.Goals as goal
 

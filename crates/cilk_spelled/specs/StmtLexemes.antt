@@ -1,7 +1,6 @@
 -- The lexemes of the canonical text of statements and blocks (C 1990, 6.6; Cilk 5.4 manual).
 use Rattle.std.specs.Prelude.{List, [], ◌∷◌, ◌++◌, codes, Option, Some, None}
 use Rattle.cilk_lexeme.specs.Lexeme.{Lexeme, word, name, number, mark, literal}
-use Rattle.cilk_lexeme.specs.declared.keyword.Keyword.{Keyword}
 use Rattle.cilk_lexeme.specs.declared.keyword.Keyword.TheVariants as key
 use Rattle.cilk_lexeme.specs.declared.mark.Mark.{Mark}
 use Rattle.cilk_lexeme.specs.declared.mark.Mark.TheVariants as sign
@@ -12,7 +11,7 @@ use Rattle.cilk_syntax.specs.declared.operator.BinOp.TheVariants as ops
 use Rattle.cilk_syntax.specs.LockWord.{lock_word}
 use Rattle.cilk_syntax.specs.Tree as tree
 use Rattle.cilk_syntax.specs.Tree.{Word, Expr}
-use Rattle.cilk_reread.specs.ExprLexemes.{each, in_parentheses, in_brackets, expr_lexemes}
+use Rattle.cilk_spelled.specs.ExprLexemes.{each, in_parentheses, in_brackets, expr_lexemes}
 
 abbrev pub ended : List Lexeme → List Lexeme
 ended ls = ls ++ mark sign.Semicolon ∷ []

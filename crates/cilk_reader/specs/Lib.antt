@@ -1,0 +1,6 @@
+pub use Rattle.cilk_rules.specs.Gives
+pub use Rattle.cilk_grammar.specs.Grammar
+pub use Rattle.cilk_grammar.specs.Spelling
+pub mod Limits
+pub mod Names
+pub mod Views

@@ -1,0 +1,15 @@
+-- What is read by a rule within the limits of the language.
+use Rattle.std.specs.Prelude.{ℕ, List}
+use Rattle.cilk_lexeme.specs.Lexeme.{Piece}
+use Rattle.cilk_rules.specs.Rule.{Rule, Read}
+use Rattle.cilk_expression.specs.Grammar.{operator_limit, parenthesis_limit}
+use Rattle.cilk_grammar.specs.Parts.{Means}
+use Rattle.cilk_grammar.specs.Spelling.{read_at}
+
+-- where n statements and inlets may stand in one another
+abbrev pub read_in : {A : Type 0} → ℕ → Rule Means A → List Piece → Read Piece A
+read_in n r ts = read_at operator_limit parenthesis_limit n r ts
+
+-- by a rule in which none stands
+abbrev pub read_by : {A : Type 0} → Rule Means A → List Piece → Read Piece A
+read_by r ts = read_in 0 r ts

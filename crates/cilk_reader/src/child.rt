@@ -1,0 +1,47 @@
+ghost use Rattle.std.specs.Prelude.{◌≡◌};
+ghost use Rattle.cilk_rules.specs.Gives.{Gives};
+ghost use Rattle.cilk_syntax.specs.MoveView.{taker_of};
+ghost use Rattle.cilk_grammar.specs.Grammar.{child};
+ghost use Rattle.cilk_reader.specs.Limits.{read_by};
+ghost use Rattle.cilk_reader.specs.Views.{spawned};
+
+use crate::arguments::arguments;
+use crate::token::{name, place_of};
+use cilk_expression::Cursor;
+use cilk_lexeme::Keyword;
+use cilk_rules::ReadError;
+use cilk_syntax::{Expr, Stmt, StmtNode, Taker, Word};
+
+/// The place of the word `spawn`, the callee, and what it is called with (Cilk 5.4 manual, `spawn`).
+#[derive(Drop)]
+pub struct Spawned {
+    pub at: u32,
+    pub callee: Word,
+    pub arguments: Vec<Expr>,
+}
+
+impl Spawned {
+    /// The statement in which this takes the child's value.
+    pub fn given(self, taker: Taker) -> Stmt
+        ensures { result ≡ spawned self (taker_of taker) }
+    {
+        Stmt {
+            node: StmtNode::Spawn(self.at, taker, self.callee, self.arguments),
+        }
+    }
+}
+
+/// `spawn` and a call, for one that takes its value (Cilk 5.4 manual, `spawn`).
+#[tactic(auto, unfolding(cilk_grammar::specs::Spelling::read_at))]
+pub fn child(cursor: &mut Cursor) -> Result<Spawned, ReadError>
+    ensures { Gives (λ c. (spawned c, cursor.new.pieces)) result (read_by child cursor.old.pieces) }
+{
+    let at = place_of(cursor, Keyword::Spawn)?;
+    let callee = name(cursor)?;
+    let arguments = arguments(cursor)?;
+    Ok(Spawned {
+        at,
+        callee,
+        arguments,
+    })
+}

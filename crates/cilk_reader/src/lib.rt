@@ -1,0 +1,17 @@
+//! The rules of the grammar as functions that read tokens: moves, statements, blocks and inlets (C 1990, 6.3 and 6.6;
+//! Cilk 5.4 manual).
+//!
+//! The contract of each says that it returns what reading by its rule gives, unless memory runs out.
+#![tactic(auto)]
+
+mod action;
+mod arguments;
+mod call_form;
+mod child;
+mod moves;
+mod named;
+mod place;
+mod right_side;
+mod token;
+mod value;
+mod write_form;

@@ -1,0 +1,72 @@
+ghost use Rattle.cilk_rules.specs.Gives.{Gives};
+ghost use Rattle.cilk_grammar.specs.Grammar.{called, written, named};
+ghost use Rattle.cilk_reader.specs.Limits.{read_by};
+ghost use Rattle.cilk_reader.specs.Views.{called_by, written_to};
+
+use crate::action::Action;
+use crate::arguments::{behind_commas, expressions, index};
+use crate::call_form::CallForm;
+use crate::child::child;
+use crate::place::{adjustment, is_operator, operator};
+use crate::token::plain_name;
+use crate::value::value;
+use crate::write_form::WriteForm;
+use cilk_expression::Cursor;
+use cilk_lexeme::{Keyword, Mark};
+use cilk_rules::ReadError;
+use cilk_syntax::{Place, Stmt};
+
+// What stands behind a name that is called.
+#[tactic(auto, unfolding(cilk_grammar::specs::Spelling::read_at))]
+fn called(cursor: &mut Cursor) -> Result<CallForm, ReadError>
+    ensures { Gives (λ c. (called_by c, cursor.new.pieces)) result (read_by called cursor.old.pieces) }
+{
+    cursor.mark(Mark::OpenParenthesis)?;
+    if cursor.is_keyword(Keyword::Spawn) {
+        let child = child(cursor)?;
+        let others = behind_commas(cursor)?;
+        cursor.mark(Mark::CloseParenthesis)?;
+        return Ok(CallForm::Inlet(child, others));
+    }
+    let mut arguments = Vec::new(cursor.alloc());
+    if cursor.begins_expression() {
+        arguments = expressions(cursor)?;
+    }
+    cursor.mark(Mark::CloseParenthesis)?;
+    Ok(CallForm::Function(arguments))
+}
+
+// What stands behind a place to which is written.
+#[tactic(auto, unfolding(cilk_grammar::specs::Spelling::read_at))]
+fn written(cursor: &mut Cursor) -> Result<WriteForm, ReadError>
+    ensures { Gives (λ w. (written_to w, cursor.new.pieces)) result (read_by written cursor.old.pieces) }
+{
+    if !is_operator(cursor) {
+        let by = adjustment(cursor)?;
+        return Ok(WriteForm::Done(Action::Adjust(by)));
+    }
+    let op = operator(cursor)?;
+    if cursor.is_keyword(Keyword::Spawn) {
+        let child = child(cursor)?;
+        return Ok(WriteForm::Spawned(op, child));
+    }
+    let value = value(cursor)?;
+    Ok(WriteForm::Done(Action::Write(op, value)))
+}
+
+/// A move or a spawn that begins with a name (C 1990, 6.6.3; Cilk 5.4 manual, `spawn`, `inlet`).
+#[tactic(auto, unfolding(cilk_grammar::specs::Spelling::read_at))]
+pub fn named(cursor: &mut Cursor) -> Result<Stmt, ReadError>
+    ensures { Gives (λ s. (s, cursor.new.pieces)) result (read_by named cursor.old.pieces) }
+{
+    let name = plain_name(cursor)?;
+    if cursor.is_mark(Mark::OpenParenthesis) {
+        let call = called(cursor)?;
+        cursor.mark(Mark::Semicolon)?;
+        return Ok(call.by(name));
+    }
+    let index = index(cursor)?;
+    let write = written(cursor)?;
+    cursor.mark(Mark::Semicolon)?;
+    Ok(write.to(Place { name, index }))
+}

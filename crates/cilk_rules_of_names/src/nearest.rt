@@ -1,0 +1,8 @@
+use cilk_scopes::Kind;
+
+/// The nearest declaration of a name: what it is declared as, and how many declarations are visible before it.
+#[derive(Clone, Copy)]
+pub(crate) struct Nearest {
+    pub(crate) kind: Kind,
+    pub(crate) at: usize,
+}

@@ -1,0 +1,4 @@
+pub mod ExprLexemes
+pub mod StmtLexemes
+pub mod ProgramLexemes
+pub mod CanWrite
