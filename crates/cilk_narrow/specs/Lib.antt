@@ -1,3 +1,5 @@
 pub mod Operators
+pub mod WideOperators
 pub mod Narrow
+pub mod Widen
 pub mod Narrowed

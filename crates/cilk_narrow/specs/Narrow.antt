@@ -1,9 +1,10 @@
 -- A program of the whole language as one of the forms that run today. Beside each form of the whole tree stands that of the
 -- small one, and None beside a form that the small one lacks. A program that includes a header is none: its lines would be
 -- counted without those of the headers.
-use Rattle.std.specs.Prelude.{ℕ, ℤ, List, [], ◌∷◌, map, Bool, if◌then◌else◌, Option, Some, None, option_map}
+use Rattle.std.specs.Prelude.{List, [], ◌∷◌, map, if◌then◌else◌, Option, Some, None, option_map}
 use Rattle.cilk_lexeme.specs.declared.header.Header.{Header}
 use Rattle.cilk_syntax.specs.declared.operator.BinOp.{BinOp}
+use Rattle.cilk_syntax.specs.declared.return_type.ReturnType.{ReturnType}
 use Rattle.cilk_syntax.specs.Tree as whole
 use Rattle.cilk_tree.specs.Tree as small
 use Rattle.cilk_narrow.specs.Operators.{narrow_op, narrow_sign, narrow_by, narrow_returns}
@@ -113,9 +114,14 @@ abbrev pub narrow_parameters : whole.Parameters → Option (List small.Word)
 narrow_parameters (whole.ints names) = Some (map narrow_word names)
 narrow_parameters (whole.command_line count strings) = None
 
+-- a procedure of these parts
+abbrev pub proc_of : ReturnType → whole.Word → Option (List small.Word) → Option small.Block → Option small.Proc
+proc_of returns name parameters body =
+    parameters >>= λ xs. body >>= λ b. Some (record { returns = narrow_returns returns; name = narrow_word name; parameters = xs; body = b })
+
 -- a Cilk procedure, and no C function (Cilk 5.4 manual, `cilk`)
 abbrev pub narrow_proc : whole.Proc → Option small.Proc
-narrow_proc p = if p.is_cilk then (narrow_parameters p.parameters >>= λ xs. narrow_block p.body >>= λ b. Some (record { returns = narrow_returns p.returns; name = narrow_word p.name; parameters = xs; body = b })) else None
+narrow_proc p = if p.is_cilk then proc_of p.returns p.name (narrow_parameters p.parameters) (narrow_block p.body) else None
 
 -- a variable of the top level, and no array (C 1990, 6.7.2)
 abbrev pub global_of : whole.Word → whole.GlobalShape → Option small.Global
@@ -134,5 +140,6 @@ abbrev pub without_headers : List Header → Option small.Program → Option sma
 without_headers [] p = p
 without_headers (h ∷ hs) p = None
 
+-- the items in order, each as one of the small tree
 abbrev pub narrow : whole.Program → Option small.Program
 narrow p = without_headers p.headers (each narrow_item p.items >>= λ items. Some (record { items = items; length = p.length }))

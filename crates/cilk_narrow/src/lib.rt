@@ -3,6 +3,7 @@
 
 mod expr;
 mod item;
+pub mod laws;
 mod operator;
 mod refusal;
 mod stmt;

@@ -1,11 +1,11 @@
-//! Why a program was not taken over.
+//! Why a part was not taken over.
 
 ghost use Rattle.std.specs.Prelude.{◌≡◌};
 ghost use Rattle.cilk_narrow.specs.declared.refusal.Refusal.TheVariants.{Memory};
 
 use std::alloc::{AllocError, AllocFailed};
 
-/// Why a part was not taken over.
+/// The small tree lacks its form, or there was no memory for it.
 #[derive(Clone, Copy, Debug, PartialEq, Eq)]
 pub enum Refusal {
     /// The small tree has no such form yet.

@@ -3,7 +3,8 @@
 ghost use Rattle.std.specs.Prelude.{◌≡◌};
 ghost use Rattle.cilk_syntax.specs.MoveView.{taker_of as whole_taker_of, shape_of};
 ghost use Rattle.cilk_tree.specs.StmtView.{taker_of};
-ghost use Rattle.cilk_narrow.specs.Narrow.{each, narrow_place, narrow_move, narrow_taker, narrow_stmt, narrow_local, narrow_block, variable_of, assignment};
+ghost use Rattle.cilk_narrow.specs.Narrow.{each, narrow_place, narrow_move, narrow_taker, narrow_stmt};
+ghost use Rattle.cilk_narrow.specs.Narrow.{narrow_local, narrow_block, variable_of, assignment};
 ghost use Rattle.cilk_narrow.specs.Narrowed.{Narrowed, NarrowedBy, items_of};
 
 use crate::expr::{narrow_expr, narrow_exprs, narrow_value, narrow_word};

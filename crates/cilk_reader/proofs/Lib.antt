@@ -1,3 +1,5 @@
 pub mod Tokens
 pub mod Loops
 pub mod NameClasses
+pub mod Starting
+pub mod Joined

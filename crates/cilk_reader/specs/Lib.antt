@@ -4,3 +4,5 @@ pub use Rattle.cilk_grammar.specs.Spelling
 pub mod Limits
 pub mod Names
 pub mod Views
+pub mod Chains
+pub mod Starts

@@ -6,12 +6,18 @@
 
 mod action;
 mod arguments;
+mod begins;
 mod call_form;
 mod child;
+mod declaration;
+mod loop_header;
 mod moves;
 mod named;
+mod parameters;
 mod place;
 mod right_side;
+mod simple;
+mod statement;
 mod token;
 mod value;
 mod write_form;

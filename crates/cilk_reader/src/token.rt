@@ -1,7 +1,7 @@
-ghost use Rattle.std.specs.Prelude.{◌≡◌};
+ghost use Rattle.std.specs.Prelude.{◌≡◌, ◌∷◌, []};
 ghost use Rattle.cilk_rules.specs.Gives.{Gives};
 ghost use Rattle.cilk_rules.specs.Rule.{has, is, class_at};
-ghost use Rattle.cilk_expression.specs.Classes.{cls, names};
+ghost use Rattle.cilk_expression.specs.Classes.{cls, names, the_lock_init, the_lock, the_unlock};
 ghost use Rattle.cilk_grammar.specs.Grammar.{plain_names};
 ghost use Rattle.cilk_reader.specs.Names.{number_of};
 ghost use Rattle.cilk_grammar.specs.Forms.{name_of, place_of, number};
@@ -34,6 +34,15 @@ pub fn is_plain_name(cursor: &Cursor) -> bool
     is_class(cursor, NameClass::Main)
         || is_class(cursor, NameClass::Char)
         || is_class(cursor, NameClass::Other)
+}
+
+/// Whether the next token is the name of a call of a lock.
+pub fn is_lock_call(cursor: &Cursor) -> bool
+    ensures { result ≡ has (the_lock_init ∷ the_lock ∷ the_unlock ∷ []) (class_at cls cursor.now.pieces) }
+{
+    is_class(cursor, NameClass::LockInit)
+        || is_class(cursor, NameClass::Lock)
+        || is_class(cursor, NameClass::Unlock)
 }
 
 /// A name with which a move or spawn may begin.

@@ -38,7 +38,8 @@ fn is_procedure(owner: Owner) -> bool
 
 #[tactic(auto, using(crate::proofs::Words::words))]
 pub(crate) fn at_decl(owner: Owner, decl: &Decl, found: Option<CheckFault>) -> Option<CheckFault>
-    ensures { result ≡ first_among found (kind_faults decl.now.name.place (kind_of_shape decl.now.shape) ++ exprs_faults owner (local_exprs (tree.declared decl.now))) }
+    ensures { result ≡ first_among found (kind_faults decl.now.name.place (kind_of_shape decl.now.shape)
+        ++ exprs_faults owner (local_exprs (tree.declared decl.now))) }
 {
     match &decl.shape {
         Shape::Variable(value) => in_value(owner, value, found),

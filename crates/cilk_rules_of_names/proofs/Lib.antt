@@ -5,3 +5,6 @@ pub mod Declarings
 pub mod Tops
 pub mod Blocks
 pub mod Told
+pub mod Decided
+pub mod Sound
+pub mod Complete

@@ -1,20 +1,18 @@
 -- What the table of names finds is what the declarations that are visible mean.
-use Rattle.std.proofs.Common.{◌≡◌, ◌≢◌, ℕ, zero, suc, ◌+◌, ◌-◌, ◌<◌, ◌≤◌, Bool, true, false, cond, List, [], ◌∷◌, ◌++◌, length, map, reverse, take, drop, Option, Some, None, is_some, refl, sym, ap, subst, ◌∙◌, arith, length-append, length-take, length-drop, append_assoc, nat_le}
+use Rattle.std.proofs.Common.{◌≡◌, ◌≢◌, ℕ, ◌+◌, ◌-◌, ◌<◌, ◌≤◌, Bool, true, false, cond, List, [], ◌∷◌, ◌++◌, length, map, reverse, take, drop, Option, Some, None, is_some, refl, sym, ap, subst, ◌∙◌, arith, length-append, length-take, length-drop, nat_le}
 use Rattle.std.specs.Option.{option_map}
 use Rattle.std.specs.Str.{bytes_eq}
-use Rattle.std.specs.List.{find}
 use Rattle.std.specs.BTreeMap.{BTreeMap, get_by, UpdatesBy}
 use Rattle.std.proofs.lemmas.Map.Text.{btree_map_updates_str}
 use Rattle.std.specs.Cmp.Lexicographic.{slice_cmp}
 use Rattle.std.specs.Ordering.{nat_cmp}
-use Rattle.std.proofs.lemmas.List.{reverse-append, length-reverse, length-map, take_all, take-append-drop, take-append-le}
+use Rattle.std.proofs.lemmas.List.{reverse-append, length-reverse, length-map, take_all, take-append-drop}
 use Rattle.std.proofs.lemmas.Bool.Decides.{nat_tests}
 use Rattle.std.proofs.lemmas.Slice.Eq.{bytes_eq-Decides}
 use Rattle.std.proofs.Math.ListN.{drop_of_length-le}
 use Rattle.std.proofs.Math.Seq.{drop-append_seam, take-append_seam}
 use denote.Ref.{Bor}
-use Rattle.cilk_scopes.specs.declared.kind.Kind.{Kind}
-use Rattle.cilk_scopes.specs.Scopes.{Declared, Scopes, declared_in, meaning, enter}
+use Rattle.cilk_scopes.specs.Scopes.{Declared, declared_in, meaning, enter}
 use Rattle.cilk_rules_of_names.specs.declared.entry.Entry.{Entry}
 use Rattle.cilk_rules_of_names.specs.declared.nearest.Nearest.{Nearest}
 use Rattle.cilk_rules_of_names.specs.Left.{left_of}

@@ -1,14 +1,14 @@
 -- The faults of a part are those of what it declares and of what it uses.
-use Rattle.std.proofs.Common.{◌≡◌, List, [], ◌∷◌, ◌++◌, map, ◌⊎◌, inl, inr, refl, sym, subst}
+use Rattle.std.proofs.Common.{List, [], map, inl, inr, refl, sym, subst}
 use Rattle.std.specs.List.{flat_map}
 use Rattle.cilk_syntax.specs.Tree as tree
 use Rattle.cilk_scopes.specs.declared.fault.CheckFault.{CheckFault}
 use Rattle.cilk_scopes.specs.Scopes.{Scopes, declare, parameter, local_declares}
 use Rattle.cilk_scopes.specs.Declarations.{Declaring, declaring, part_declarings}
-use Rattle.cilk_scopes.specs.Parts.{Part, local, statement, part_exprs, visible_in, stmt_exprs, local_exprs}
+use Rattle.cilk_scopes.specs.Parts.{Part, local, statement, stmt_exprs, local_exprs}
 use Rattle.cilk_scopes.proofs.Elements.{Has, Has-append_left, Has-append_right, Has-append_cases, Has-flat_map, Has-flat_map_cases}
-use Rattle.cilk_rules_of_names.specs.Uses.{Use, expr_uses, stmt_uses, own_uses, part_uses}
-use Rattle.cilk_rules_of_names.specs.Finds.{declaring_faults, use_faults, expr_faults, exprs_faults, part_faults, scope_faults}
+use Rattle.cilk_rules_of_names.specs.Uses.{Use, expr_uses, stmt_uses, part_uses}
+use Rattle.cilk_rules_of_names.specs.Finds.{declaring_faults, use_faults, expr_faults, exprs_faults, part_faults}
 use Rattle.cilk_rules_of_names.proofs.Blocks.{whole_faults}
 
 -- a fault of a declaration, or of a use

@@ -1,5 +1,5 @@
 -- The first among the faults of uses.
-use Rattle.std.proofs.Common.{◌≡◌, ℕ, ◌+◌, ◌<◌, List, [], ◌∷◌, ◌++◌, length, get_or, drop, Option, refl, sym, ap, ◌∙◌}
+use Rattle.std.proofs.Common.{◌≡◌, ℕ, ◌+◌, ◌<◌, List, [], ◌∷◌, ◌++◌, length, get_or, drop, Option, sym}
 use Rattle.std.specs.List.{flat_map}
 use Rattle.cilk_scopes.specs.declared.fault.CheckFault.{CheckFault}
 use Rattle.cilk_scopes.specs.First.{first_among}

@@ -10,7 +10,7 @@ ghost use Rattle.cilk_rules_of_names.specs.Finds.{declaring_faults, scope_faults
 use crate::table::Names;
 use crate::walk::at_declared;
 use cilk_scopes::{CheckFault, Kind};
-use cilk_syntax::{GlobalShape, Item, ItemNode, Parameters, ReturnType};
+use cilk_syntax::{GlobalShape, Item, ItemNode, Memory, Parameters, ReturnType};
 use std::alloc::Global;
 
 fn kind_of_body(is_cilk: bool, returns: ReturnType, parameters: usize) -> Kind
@@ -38,7 +38,7 @@ fn at_item<'a>(
     names: &mut Names<'a>,
     item: &'a Item,
     found: Option<CheckFault>,
-) -> Result<Option<CheckFault>, CheckFault>
+) -> Result<Option<CheckFault>, Memory>
     ensures first { IfOk result (λ f. f ≡ first_among found (flat_map declaring_faults (declaring names.old.innermost (item_declares item.now)))) }
     ensures visible { OnOk result (names.new ≡ declare_all names.old (item_declares item.now)) }
 {
@@ -66,7 +66,7 @@ pub(crate) fn at_items<'a>(
     names: &mut Names<'a>,
     items: &'a [Item],
     found: Option<CheckFault>,
-) -> Result<Option<CheckFault>, CheckFault>
+) -> Result<Option<CheckFault>, Memory>
     ensures { IfOk result (λ f. f ≡ first_among found (flat_map declaring_faults (declaring names.old.innermost (file_declares items.now)))) }
 {
     let mut found = found;
@@ -78,7 +78,7 @@ pub(crate) fn at_items<'a>(
 
 /// What is visible in the whole file. An item hides those behind it.
 #[tactic(auto, using(crate::proofs::Tops::tops))]
-pub(crate) fn file_names<'a>(alloc: Global, items: &'a [Item]) -> Result<Names<'a>, CheckFault>
+pub(crate) fn file_names<'a>(alloc: Global, items: &'a [Item]) -> Result<Names<'a>, Memory>
     ensures { IfOk result (λ n. n ≡ file_scopes items.now) }
 {
     let mut names = Names::new(alloc);

@@ -3,6 +3,7 @@
 
 mod entry;
 mod file;
+mod first;
 mod meant;
 mod moves;
 mod nearest;
@@ -15,4 +16,5 @@ mod top;
 mod uses;
 mod walk;
 
+pub use first::first_name_fault;
 pub use role::Role;

@@ -4,8 +4,8 @@ ghost use Rattle.cilk_rules_of_names.specs.Left.{left_of};
 
 use crate::entry::Entry;
 use crate::nearest::Nearest;
-use cilk_scopes::{CheckFault, Kind};
-use cilk_syntax::Word;
+use cilk_scopes::Kind;
+use cilk_syntax::{Memory, Word};
 use std::alloc::Global;
 use std::collections::BTreeMap;
 use std::marker::Model;
@@ -63,7 +63,7 @@ impl<'a> Names<'a> {
     }
 
     /// One more declaration in the innermost scope.
-    pub(crate) fn declare(&mut self, name: &'a Word, kind: Kind) -> Result<(), CheckFault>
+    pub(crate) fn declare(&mut self, name: &'a Word, kind: Kind) -> Result<(), Memory>
         ensures { OnOk result (self.new ≡ declare self.old (record { name = name.now; kind = kind })) }
     {
         let at = self.entries.len();
@@ -71,9 +71,9 @@ impl<'a> Names<'a> {
         self.entries.push(Entry { name, kind, hidden })?;
         match self.nearest.insert(name.as_str(), Nearest { kind, at }) {
             Ok(_) => Ok(()),
-            Err(_) => {
+            Err(failed) => {
                 self.entries.pop();
-                Err(CheckFault::Memory)
+                Err(Memory::from(failed))
             }
         }
     }
@@ -89,7 +89,7 @@ impl<'a> Names<'a> {
     }
 
     // The newest declaration of the innermost scope is no longer visible.
-    fn forget(&mut self) -> Result<(), CheckFault>
+    fn forget(&mut self) -> Result<(), Memory>
         requires { 0 < length self.now.innermost }
         ensures { OnOk result (self.new ≡ record { innermost = drop 1 self.old.innermost; outer = self.old.outer }) }
     {
@@ -108,7 +108,7 @@ impl<'a> Names<'a> {
     }
 
     /// Closes the innermost scope, where `outer` is what `enter` answered.
-    pub(crate) fn leave(&mut self, outer: usize) -> Result<(), CheckFault>
+    pub(crate) fn leave(&mut self, outer: usize) -> Result<(), Memory>
         requires { outer ≤ length self.now.outer }
         ensures { OnOk result (self.new ≡ left_of outer self.old.outer) }
     {
@@ -118,7 +118,7 @@ impl<'a> Names<'a> {
     }
 
     // No declaration of the innermost scope is visible any more.
-    fn forget_all(&mut self) -> Result<(), CheckFault>
+    fn forget_all(&mut self) -> Result<(), Memory>
         ensures { OnOk result (self.new ≡ record { innermost = []; outer = self.old.outer }) }
     {
         for _ in self.innermost..self.entries.len() {

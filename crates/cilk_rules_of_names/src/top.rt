@@ -9,20 +9,17 @@ use crate::prototypes::at_prototypes;
 use crate::table::Names;
 use crate::walk::{at_parameters, in_block};
 use cilk_scopes::CheckFault;
-use cilk_syntax::{Item, ItemNode, Proc, Program};
+use cilk_syntax::{Item, ItemNode, Memory, Proc, Program};
 use std::alloc::Global;
 
-pub(crate) fn first_listed(
-    alloc: Global,
-    program: &Program,
-) -> Result<Option<CheckFault>, CheckFault>
+pub(crate) fn first_listed(alloc: Global, program: &Program) -> Result<Option<CheckFault>, Memory>
     ensures { IfOk result (λ f. f ≡ first_among None (names_faults program.now)) }
 {
     first_in(alloc, &program.items)
 }
 
 #[tactic(auto, using(crate::proofs::Tops::tops))]
-fn first_in(alloc: Global, items: &[Item]) -> Result<Option<CheckFault>, CheckFault>
+fn first_in(alloc: Global, items: &[Item]) -> Result<Option<CheckFault>, Memory>
     ensures { IfOk result (λ f. f ≡ first_among None (items_faults items.now)) }
 {
     let mut before = Names::new(alloc);
@@ -38,7 +35,7 @@ fn in_items<'a>(
     names: &mut Names<'a>,
     items: &'a [Item],
     found: Option<CheckFault>,
-) -> Result<Option<CheckFault>, CheckFault>
+) -> Result<Option<CheckFault>, Memory>
     ensures { IfOk result (λ f. f ≡ first_among found (flat_map (item_faults names.old) items.now)) }
 {
     let mut found = found;
@@ -53,7 +50,7 @@ fn in_item<'a>(
     names: &mut Names<'a>,
     item: &'a Item,
     found: Option<CheckFault>,
-) -> Result<Option<CheckFault>, CheckFault>
+) -> Result<Option<CheckFault>, Memory>
     ensures first { IfOk result (λ f. f ≡ first_among found (item_faults names.old item.now)) }
     ensures visible { OnOk result (names.new ≡ names.old) }
 {
@@ -68,7 +65,7 @@ fn in_procedure<'a>(
     names: &mut Names<'a>,
     definition: &'a Proc,
     found: Option<CheckFault>,
-) -> Result<Option<CheckFault>, CheckFault>
+) -> Result<Option<CheckFault>, Memory>
     ensures first { IfOk result (λ f. f ≡ first_among found (procedure_faults names.old definition.now)) }
     ensures visible { OnOk result (names.new ≡ names.old) }
 {

@@ -9,14 +9,15 @@ ghost use Rattle.cilk_scopes.specs.First.{first_among};
 ghost use Rattle.cilk_scopes.specs.Scopes.{declare, declare_all, enter, local_declares, parameter, parameters_declare};
 ghost use Rattle.cilk_scopes.specs.Declarations.{declaring};
 ghost use Rattle.cilk_scopes.specs.Parts as parts;
-ghost use Rattle.cilk_rules_of_names.specs.Finds.{declaring_faults, part_faults, block_faults, locals_faults, inside_local, stmts_faults, inside_stmt, behind_locals, behind_block};
+ghost use Rattle.cilk_rules_of_names.specs.Finds.{declaring_faults, part_faults, block_faults, locals_faults};
+ghost use Rattle.cilk_rules_of_names.specs.Finds.{inside_local, stmts_faults, inside_stmt, behind_locals, behind_block};
 
 use crate::reserved::is_reserved;
 use crate::statement::at_stmt;
 use crate::table::Names;
 use crate::uses::in_value;
 use cilk_scopes::{CheckFault, Kind, first_if};
-use cilk_syntax::{Block, Decl, Local, LocalNode, Parameters, Shape, Stmt, StmtNode, Word};
+use cilk_syntax::{Block, Decl, Local, LocalNode, Memory, Parameters, Shape, Stmt, StmtNode, Word};
 
 /// A declaration in the innermost scope, which is visible behind it.
 #[tactic(auto, using(crate::proofs::UseFaults::uses), unfolding(crate::specs::Finds::declaring_faults))]
@@ -25,8 +26,9 @@ pub(crate) fn at_declared<'a>(
     name: &'a Word,
     kind: Kind,
     found: Option<CheckFault>,
-) -> Result<Option<CheckFault>, CheckFault>
-    ensures first { IfOk result (λ f. f ≡ first_among found (declaring_faults (record { before = names.old.innermost; declared = record { name = name.now; kind = kind } }))) }
+) -> Result<Option<CheckFault>, Memory>
+    ensures first { IfOk result (λ f. f ≡ first_among found
+        (declaring_faults (record { before = names.old.innermost; declared = record { name = name.now; kind = kind } }))) }
     ensures visible { OnOk result (names.new ≡ declare names.old (record { name = name.now; kind = kind })) }
 {
     let again = names.is_declared_here(name.as_str());
@@ -46,8 +48,9 @@ pub(crate) fn at_names<'a>(
     names: &mut Names<'a>,
     parameters: &'a [Word],
     found: Option<CheckFault>,
-) -> Result<Option<CheckFault>, CheckFault>
-    ensures first { IfOk result (λ f. f ≡ first_among found (flat_map declaring_faults (declaring names.old.innermost (map parameter parameters.now)))) }
+) -> Result<Option<CheckFault>, Memory>
+    ensures first { IfOk result (λ f. f ≡ first_among found
+        (flat_map declaring_faults (declaring names.old.innermost (map parameter parameters.now)))) }
     ensures visible { OnOk result (names.new ≡ declare_all names.old (map parameter parameters.now)) }
 {
     let mut found = found;
@@ -62,8 +65,9 @@ pub(crate) fn at_parameters<'a>(
     names: &mut Names<'a>,
     parameters: &'a Parameters,
     found: Option<CheckFault>,
-) -> Result<Option<CheckFault>, CheckFault>
-    ensures first { IfOk result (λ f. f ≡ first_among found (flat_map declaring_faults (declaring names.old.innermost (parameters_declare (parameters_of parameters.now))))) }
+) -> Result<Option<CheckFault>, Memory>
+    ensures first { IfOk result (λ f. f ≡ first_among found
+        (flat_map declaring_faults (declaring names.old.innermost (parameters_declare (parameters_of parameters.now))))) }
     ensures visible { OnOk result (names.new ≡ declare_all names.old (parameters_declare (parameters_of parameters.now))) }
 {
     match parameters {
@@ -81,7 +85,7 @@ fn at_local<'a>(
     names: &mut Names<'a>,
     local: &'a Local,
     found: Option<CheckFault>,
-) -> Result<Option<CheckFault>, CheckFault>
+) -> Result<Option<CheckFault>, Memory>
     ensures first { IfOk result (λ f. f ≡ first_among found (part_faults names.old (parts.local local.now))) }
     ensures visible { OnOk result (names.new ≡ declare names.old (local_declares local.now)) }
 {
@@ -99,7 +103,7 @@ fn at_decl<'a>(
     names: &mut Names<'a>,
     decl: &'a Decl,
     found: Option<CheckFault>,
-) -> Result<Option<CheckFault>, CheckFault>
+) -> Result<Option<CheckFault>, Memory>
     ensures first { IfOk result (λ f. f ≡ first_among found (part_faults names.old (parts.local (tree.declared decl.now)))) }
     ensures visible { OnOk result (names.new ≡ declare names.old (local_declares (tree.declared decl.now))) }
 {
@@ -119,7 +123,7 @@ pub(crate) fn in_block<'a>(
     names: &mut Names<'a>,
     block: &'a Block,
     found: Option<CheckFault>,
-) -> Result<Option<CheckFault>, CheckFault>
+) -> Result<Option<CheckFault>, Memory>
     ensures first { IfOk result (λ f. f ≡ first_among found (block_faults names.old block.now)) }
     ensures visible { OnOk result (names.new ≡ behind_block names.old block.now) }
 {
@@ -133,7 +137,7 @@ fn in_locals<'a>(
     names: &mut Names<'a>,
     locals: &'a [Local],
     found: Option<CheckFault>,
-) -> Result<Option<CheckFault>, CheckFault>
+) -> Result<Option<CheckFault>, Memory>
     ensures first { IfOk result (λ f. f ≡ first_among found (locals_faults names.old (locals_of locals.now))) }
     ensures visible { OnOk result (names.new ≡ behind_locals names.old (locals_of locals.now)) }
 {
@@ -151,7 +155,7 @@ fn inside_local<'a>(
     names: &mut Names<'a>,
     local: &'a Local,
     found: Option<CheckFault>,
-) -> Result<Option<CheckFault>, CheckFault>
+) -> Result<Option<CheckFault>, Memory>
     ensures first { IfOk result (λ f. f ≡ first_among found (inside_local names.old local.now)) }
     ensures visible { OnOk result (names.new ≡ names.old) }
 {
@@ -173,7 +177,7 @@ fn in_stmts<'a>(
     names: &mut Names<'a>,
     stmts: &'a [Stmt],
     found: Option<CheckFault>,
-) -> Result<Option<CheckFault>, CheckFault>
+) -> Result<Option<CheckFault>, Memory>
     ensures first { IfOk result (λ f. f ≡ first_among found (stmts_faults names.old (stmts_of stmts.now))) }
     ensures visible { OnOk result (names.new ≡ names.old) }
 {
@@ -191,7 +195,7 @@ fn inside_stmt<'a>(
     names: &mut Names<'a>,
     stmt: &'a Stmt,
     found: Option<CheckFault>,
-) -> Result<Option<CheckFault>, CheckFault>
+) -> Result<Option<CheckFault>, Memory>
     ensures first { IfOk result (λ f. f ≡ first_among found (inside_stmt names.old stmt.now)) }
     ensures visible { OnOk result (names.new ≡ names.old) }
 {
@@ -226,7 +230,7 @@ fn in_inner_block<'a>(
     names: &mut Names<'a>,
     block: &'a Block,
     found: Option<CheckFault>,
-) -> Result<Option<CheckFault>, CheckFault>
+) -> Result<Option<CheckFault>, Memory>
     ensures first { IfOk result (λ f. f ≡ first_among found (block_faults (enter names.old) block.now)) }
     ensures visible { OnOk result (names.new ≡ names.old) }
 {

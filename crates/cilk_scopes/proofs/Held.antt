@@ -22,7 +22,7 @@ pub record IsFirstOf (a : CheckFault) (fs : List CheckFault) (r : CheckFault) : 
   pub before_first : NoLater r a
   pub before_others : (g : CheckFault) → Has fs g → NoLater r g
 
-NoLater-trans : (f g h : CheckFault) → NoLater f g → NoLater g h → NoLater f h
+pub NoLater-trans : (f g h : CheckFault) → NoLater f g → NoLater g h → NoLater f h
 NoLater-trans f g h a b = grind arith
 
 first_of_cases : (a f : CheckFault) (b : Bool) → is_before f a ≡ b → NoLater (cond b f a) a × NoLater (cond b f a) f

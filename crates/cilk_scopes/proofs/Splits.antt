@@ -1,5 +1,5 @@
 -- The declarations that stand before one.
-use Rattle.std.proofs.Common.{List, [], ◌∷◌, ◌++◌, inl, inr, ap}
+use Rattle.std.proofs.Common.{List, [], ◌∷◌, inl, inr, ap}
 use Rattle.cilk_scopes.specs.Scopes.{Declared}
 use Rattle.cilk_scopes.specs.Declarations.{Declaring, declaring}
 use Rattle.cilk_scopes.proofs.Elements.{Has}

@@ -1,6 +1,5 @@
 -- What is declared, and what a name means where it stands (C 1990, 6.1.2.1).
-use Rattle.std.specs.Prelude.{ℕ, Bool, true, false, List, [], ◌∷◌, ◌++◌, map, flat_map, length, find, bytes_eq, Option, None}
-use Rattle.std.specs.Option.{option_or}
+use Rattle.std.specs.Prelude.{ℕ, Bool, true, false, List, [], ◌∷◌, ◌++◌, map, flat_map, length, find, bytes_eq, Option}
 use Rattle.cilk_syntax.specs.declared.return_type.ReturnType.{ReturnType}
 use Rattle.cilk_syntax.specs.Tree.{Word}
 use Rattle.cilk_syntax.specs.Tree as tree

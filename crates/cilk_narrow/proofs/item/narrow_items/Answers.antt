@@ -1,4 +1,4 @@
-use Rattle.std.proofs.Common.{◌≡◌, ◌+◌, ◌∙◌, drop, ap, sym, arith}
+use Rattle.std.proofs.Common.{◌+◌, ◌∙◌, drop, ap, sym, arith}
 use Rattle.cilk_narrow.specs.Narrow.{each, narrow_item}
 use Rattle.cilk_narrow.proofs.Rounds.{after, round}
 use Rattle.cilk_narrow.proofs.item.narrow_items.Goals as goal

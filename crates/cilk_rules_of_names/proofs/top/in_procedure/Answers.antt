@@ -5,8 +5,14 @@ use Rattle.cilk_rules_of_names.proofs.top.in_procedure.Goals as goal
 
 pub leave-requires : goal.leave-requires
 leave-requires c =
-    may_leave c.args.names.now c.in_block.new.names c.enter-outer.result c.enter-outer.ensures.outer (outer_with c.args.names.now c.enter-outer.new.self c.at_parameters.new.names c.in_block.new.names (parameters_declare (parameters_of c.definition.inside.parameters)) c.definition.inside.body c.enter-outer.ensures.entered c.in_ok-found.ensures.visible c.in_ok-found-2.ensures.visible)
+    let stays =
+    outer_with c.args.names.now c.enter-outer.new.self c.at_parameters.new.names c.in_block.new.names (parameters_declare (parameters_of c.definition.inside.parameters)) c.definition.inside.body c.enter-outer.ensures.entered c.in_ok-found.ensures.visible c.in_ok-found-2.ensures.visible
+    in
+    may_leave c.args.names.now c.in_block.new.names c.enter-outer.result c.enter-outer.ensures.outer stays
 
 pub returns-clause-visible : goal.returns-clause-visible
 returns-clause-visible c =
-    has_left c.args.names.now c.in_block.new.names c.leave.new.self c.enter-outer.result c.enter-outer.ensures.outer (outer_with c.args.names.now c.enter-outer.new.self c.at_parameters.new.names c.in_block.new.names (parameters_declare (parameters_of c.definition.inside.parameters)) c.definition.inside.body c.enter-outer.ensures.entered c.in_ok-found.ensures.visible c.in_ok-found-2.ensures.visible) c.in_ok-leave.ensures
+    let stays =
+    outer_with c.args.names.now c.enter-outer.new.self c.at_parameters.new.names c.in_block.new.names (parameters_declare (parameters_of c.definition.inside.parameters)) c.definition.inside.body c.enter-outer.ensures.entered c.in_ok-found.ensures.visible c.in_ok-found-2.ensures.visible
+    in
+    has_left c.args.names.now c.in_block.new.names c.leave.new.self c.enter-outer.result c.enter-outer.ensures.outer stays c.in_ok-leave.ensures

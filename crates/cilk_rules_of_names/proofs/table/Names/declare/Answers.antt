@@ -1,4 +1,5 @@
 use Rattle.std.proofs.Common.{◌≡◌, rules, length, reverse, sym, ap, subst, ◌∙◌}
+use Rattle.cilk_rules_of_names.specs.declared.entry.Entry.{Entry}
 use Rattle.cilk_rules_of_names.specs.Table.{newest, IsTable}
 use Rattle.cilk_rules_of_names.proofs.Tables.{pushed_at}
 use Rattle.cilk_rules_of_names.proofs.table.Names.declare.Goals as goal
@@ -9,5 +10,6 @@ invariant_of-self-in-Ok c =
     let hidden =
     c.copied-hidden.ensures ∙ c.get.ensures.value ∙ c.self.invariant.found c.as_str.result.now ∙ ap (newest (reverse es)) c.as_str.ensures
     in
+    let entry : Entry = record { name = c.args.name; kind = c.args.kind; hidden = c.copied-hidden.result } in
     let place : c.len-at.result ≡ length c.self.inside.entries.items = search rules in
-    subst (λ xs. IsTable c.insert.new.self xs c.self.inside.innermost) (sym c.in_ok-push.ensures.items) (pushed_at c.self.inside.nearest c.insert.new.self es c.self.inside.innermost (record { name = c.args.name; kind = c.args.kind; hidden = c.copied-hidden.result }) c.as_str-2.result.now c.len-at.result c.self.invariant c.as_str-2.ensures place hidden c.in-Ok.ensures.updates)
+    subst (λ xs. IsTable c.insert.new.self xs c.self.inside.innermost) (sym c.in_ok-push.ensures.items) (pushed_at c.self.inside.nearest c.insert.new.self es c.self.inside.innermost entry c.as_str-2.result.now c.len-at.result c.self.invariant c.as_str-2.ensures place hidden c.in-Ok.ensures.updates)

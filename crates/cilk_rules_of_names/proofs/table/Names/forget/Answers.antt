@@ -1,4 +1,4 @@
-use Rattle.std.proofs.Common.{◌≡◌, ◌<◌, rules, length, sym, subst}
+use Rattle.std.proofs.Common.{◌<◌, length, sym, subst}
 use Rattle.cilk_rules_of_names.proofs.Tables.{popped, present}
 use Rattle.cilk_rules_of_names.proofs.table.Names.forget.Goals as goal
 

@@ -1,0 +1,8 @@
+-- The one of two faults that stands first, where there are any.
+use Rattle.std.specs.Prelude.{[], ◌∷◌, Option, Some, None}
+use Rattle.cilk_scopes.specs.declared.fault.CheckFault.{CheckFault}
+use Rattle.cilk_scopes.specs.First.{first_among}
+
+abbrev pub earlier : Option CheckFault → Option CheckFault → Option CheckFault
+earlier found None = found
+earlier found (Some f) = first_among found (f ∷ [])

@@ -1,0 +1,67 @@
+ghost use Rattle.std.specs.Prelude.{◌≡◌, ◌⊎◌, IsOk, IfOk, IfErr};
+ghost use Rattle.cilk_scopes.specs.declared.fault.CheckFault.TheVariants.{Memory};
+ghost use Rattle.cilk_check2.specs.Fault.{WellFormed, IsFirstFault};
+
+use crate::earlier::earlier_of;
+use cilk_rules_of_forms::first_form_fault;
+use cilk_rules_of_names::first_name_fault;
+use cilk_scopes::CheckFault;
+use cilk_syntax::Program;
+use std::alloc::Global;
+use std::marker::Model;
+
+/// A program that passed the check.
+#[derive(Drop)]
+pub struct Checked {
+    program: Program,
+}
+
+impl Model for Checked {
+    ghost use Rattle.cilk_syntax.specs.Tree as tree;
+    ghost use Rattle.cilk_syntax.specs.ProgramCoding.{coded_Program};
+    ghost use Rattle.cilk_check2.specs.Fault.{WellFormed};
+
+    ghost Value = { tree.Program };
+
+    ghost coded = { coded_Program };
+
+    ghost view = { λ c. c.program };
+
+    ghost invariant = { λ c. WellFormed c.program };
+}
+
+impl Checked {
+    /// The program's tree.
+    pub fn program(&self) -> &Program
+        ensures value { result.now ≡ self.now }
+        ensures well_formed { WellFormed self.now }
+    {
+        &self.program
+    }
+
+    /// The program's tree, on its own.
+    pub fn into_program(self) -> Program
+        ensures value { result ≡ self }
+        ensures well_formed { WellFormed self }
+    {
+        self.program
+    }
+}
+
+/// Checks a program. The error is the first fault: the one with the least place, and at that place with the least
+/// number; or memory has run out.
+pub fn check(alloc: Global, program: Program) -> Result<Checked, CheckFault>
+    ensures accepted { IsOk result → WellFormed program }
+    ensures value { IfOk result (λ checked. checked ≡ program) }
+    ensures fault { IfErr result (λ f. (f ≡ Memory) ⊎ IsFirstFault program f) }
+{
+    let named = match first_name_fault(alloc, &program) {
+        Ok(found) => found,
+        Err(_) => return Err(CheckFault::Memory),
+    };
+    let formed = first_form_fault(&program);
+    match earlier_of(named, formed) {
+        None => Ok(Checked { program }),
+        Some(fault) => Err(fault),
+    }
+}
