@@ -1,5 +1,5 @@
 -- Lists read one after another, and statements at a depth.
-use Rattle.std.proofs.Common.{◌≡◌, ℕ, zero, suc, ◌-◌, ◌<◌, true, false, List, [], ◌∷◌, ◌++◌, Ok, refl, sym, ap, ◌∙◌, arith, append_assoc}
+use Rattle.std.proofs.Common.{◌≡◌, ℕ, zero, suc, ◌-◌, ◌<◌, true, false, List, [], ◌∷◌, ◌++◌, refl, sym, ap, ◌∙◌, arith, append_assoc}
 use Rattle.cilk_lexeme.specs.Lexeme.{Piece}
 use Rattle.cilk_lexeme.specs.declared.mark.Mark.TheVariants.{OpenBrace}
 use Rattle.cilk_rules.specs.Rule.{has, is, class_at}

@@ -21,3 +21,7 @@ mod statement;
 mod token;
 mod value;
 mod write_form;
+
+pub use declaration::array_length;
+pub use statement::block;
+pub use token::{header, is_class, is_name, name, number};

@@ -89,3 +89,11 @@ pub fn literal(cursor: &mut Cursor) -> Result<Literal, ReadError>
 {
     cursor.literal()
 }
+
+/// The header that is included.
+#[tactic(auto, using(crate::proofs::Tokens::a_header_is))]
+pub fn header(cursor: &mut Cursor) -> Result<Header, ReadError>
+    ensures { Gives (λ h. (h, cursor.new.pieces)) result (leaf_at the_header cursor.old.pieces) }
+{
+    cursor.header()
+}

@@ -3,6 +3,7 @@ pub mod Spelled
 pub mod UseFaults
 pub mod Declarings
 pub mod Tops
+pub mod Definitions
 pub mod Blocks
 pub mod Told
 pub mod Decided

@@ -4,3 +4,4 @@ pub mod Names
 pub mod Finds
 pub mod Table
 pub mod Left
+pub mod Signatures

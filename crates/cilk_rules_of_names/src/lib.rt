@@ -10,6 +10,7 @@ mod nearest;
 mod prototypes;
 mod reserved;
 mod role;
+mod signature;
 mod statement;
 mod table;
 mod top;

@@ -107,7 +107,7 @@ fn differ(given: Option<usize>, wanted: Option<usize>) -> bool
     }
 }
 
-fn is_void(returns: Option<ReturnType>) -> bool
+pub(crate) fn is_void(returns: Option<ReturnType>) -> bool
     ensures { result ≡ is_void returns }
 {
     match returns {

@@ -1,76 +1,62 @@
 //! The first fault among the prototypes of a program.
 
-ghost use Rattle.std.specs.Prelude.{◌≡◌, flat_map};
+ghost use Rattle.std.specs.Prelude.{◌≡◌, List, IfOk, OnOk, flat_map};
 ghost use Rattle.std.specs.List.{list_any};
-ghost use Rattle.cilk_syntax.specs.ProgramView.{parameters_of};
+ghost use Rattle.cilk_syntax.specs.Tree as tree;
 ghost use Rattle.cilk_scopes.specs.First.{first_among};
-ghost use Rattle.cilk_rules_of_names.specs.Finds.{defines, has_count, prototype_faults, same_bool, same_return};
+ghost use Rattle.cilk_rules_of_names.specs.Finds.{defines, prototype_faults};
+ghost use Rattle.cilk_rules_of_names.specs.Signatures.{GainsSignature, HasSignatures};
 
 use crate::reserved::is_reserved;
+use crate::signature::Signature;
 use cilk_scopes::{CheckFault, first_if};
-use cilk_syntax::{Item, ItemNode, Parameters, Prototype, ReturnType};
+use cilk_syntax::{Item, ItemNode, Memory, Prototype};
+use std::alloc::Global;
+use std::collections::BTreeSet;
 
-fn same_bool(one: bool, other: bool) -> bool
-    ensures { result ≡ same_bool one other }
+// One more item, which may be a definition.
+fn add<'a>(signatures: &mut BTreeSet<Signature<'a>>, item: &'a Item) -> Result<(), Memory>
+    ensures { OnOk result (GainsSignature signatures.old signatures.new item.now) }
 {
-    if one { other } else { !other }
-}
-
-fn same_return(one: ReturnType, other: ReturnType) -> bool
-    ensures { result ≡ same_return one other }
-{
-    match one {
-        ReturnType::Int => match other {
-            ReturnType::Int => true,
-            ReturnType::Void => false,
-        },
-        ReturnType::Void => match other {
-            ReturnType::Int => false,
-            ReturnType::Void => true,
-        },
-    }
-}
-
-fn has_count(parameters: &Parameters, count: u32) -> bool
-    ensures { result ≡ has_count (parameters_of parameters.now) count }
-{
-    match parameters {
-        Parameters::Ints(names) => names.len() == count as usize,
-        Parameters::CommandLine(_, _) => false,
-    }
-}
-
-// Whether an item is the definition that a prototype declares.
-fn defines(prototype: &Prototype, item: &Item) -> bool
-    ensures { result ≡ defines prototype.now item.now }
-{
-    match &item.node {
-        ItemNode::Procedure(definition) => {
-            definition.name.as_str() == prototype.name.as_str()
-                && same_bool(definition.is_cilk, prototype.is_cilk)
-                && same_return(definition.returns, prototype.returns)
-                && has_count(&definition.parameters, prototype.count)
+    if let ItemNode::Procedure(definition) = &item.node {
+        if let Some(signature) = Signature::of_definition(definition) {
+            signatures.insert(signature)?;
         }
-        ItemNode::Global(_) | ItemNode::Lock(_) | ItemNode::Prototype(_) => false,
     }
+    Ok(())
 }
 
-fn is_defined(prototype: &Prototype, items: &[Item]) -> bool
-    ensures { result ≡ list_any (defines prototype.now) items.now }
+// Those of all definitions: where a name is defined twice, both of them.
+fn signatures<'a>(alloc: Global, items: &'a [Item]) -> Result<BTreeSet<Signature<'a>>, Memory>
+    ensures { IfOk result (λ set. HasSignatures set items.now) }
 {
-    items.iter().any(|item| defines(prototype, item))
+    let mut signatures = BTreeSet::new(alloc);
+    for item in items {
+        add(&mut signatures, item)?;
+    }
+    Ok(signatures)
 }
 
-#[tactic(auto, using(crate::proofs::Tops::tops))]
-fn at_item(items: &[Item], item: &Item, found: Option<CheckFault>) -> Option<CheckFault>
-    ensures { result ≡ first_among found (prototype_faults items.now item.now) }
+fn is_defined<'a>(signatures: &BTreeSet<Signature<'a>>, prototype: &'a Prototype) -> bool
+    ensures { (items : List tree.Item) → HasSignatures signatures.now items → result ≡ list_any (defines prototype.now) items }
+{
+    let signature = Signature::of_prototype(prototype);
+    signatures.contains(&signature)
+}
+
+fn at_item<'a>(
+    signatures: &BTreeSet<Signature<'a>>,
+    item: &'a Item,
+    found: Option<CheckFault>,
+) -> Option<CheckFault>
+    ensures { (items : List tree.Item) → HasSignatures signatures.now items → result ≡ first_among found (prototype_faults items item.now) }
 {
     match &item.node {
         ItemNode::Prototype(prototype) => {
             let name = &prototype.name;
             let found = first_if(
                 found,
-                !is_defined(prototype, items),
+                !is_defined(signatures, prototype),
                 CheckFault::Prototype(name.at()),
             );
             first_if(
@@ -84,12 +70,17 @@ fn at_item(items: &[Item], item: &Item, found: Option<CheckFault>) -> Option<Che
 }
 
 #[tactic(auto, using(crate::proofs::Tops::tops))]
-pub(crate) fn at_prototypes(items: &[Item], found: Option<CheckFault>) -> Option<CheckFault>
-    ensures { result ≡ first_among found (flat_map (prototype_faults items.now) items.now) }
+pub(crate) fn at_prototypes(
+    alloc: Global,
+    items: &[Item],
+    found: Option<CheckFault>,
+) -> Result<Option<CheckFault>, Memory>
+    ensures { IfOk result (λ f. f ≡ first_among found (flat_map (prototype_faults items.now) items.now)) }
 {
+    let signatures = signatures(alloc, items)?;
     let mut found = found;
     for item in items {
-        found = at_item(items, item, found);
+        found = at_item(&signatures, item, found);
     }
-    found
+    Ok(found)
 }

@@ -24,7 +24,7 @@ fn first_in(alloc: Global, items: &[Item]) -> Result<Option<CheckFault>, Memory>
 {
     let mut before = Names::new(alloc);
     let found = at_items(&mut before, items, None)?;
-    let found = at_prototypes(items, found);
+    let found = at_prototypes(alloc, items, found)?;
     let mut names = file_names(alloc, items)?;
     let found = in_items(&mut names, items, found)?;
     Ok(found)

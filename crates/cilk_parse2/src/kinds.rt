@@ -1,0 +1,90 @@
+ghost use Rattle.std.specs.Prelude.{◌≡◌, MatchResult};
+ghost use Rattle.cilk_lexeme.specs.declared.keyword.Keyword.TheVariants.{Int};
+ghost use Rattle.cilk_lexeme.specs.declared.mark.Mark.TheVariants.{Comma};
+ghost use Rattle.cilk_rules.specs.Gives.{Gives, onto};
+ghost use Rattle.cilk_grammar.specs.Forms.{word, mark, optional, behind_commas};
+ghost use Rattle.cilk_grammar.specs.Grammar.{name, kinds, all_named, named_of};
+ghost use Rattle.cilk_grammar.specs.Spelling.{nesting_limit};
+ghost use Rattle.cilk_reader.specs.Limits.{read_in};
+
+use cilk_expression::Cursor;
+use cilk_lexeme::{Keyword, Mark};
+use cilk_reader::{is_name, name};
+use cilk_rules::ReadError;
+use cilk_syntax::Word;
+use std::alloc::Global;
+
+// A name, if there is one.
+#[tactic(auto, unfolding(cilk_grammar::specs::Spelling::read_at))]
+fn optional_name(cursor: &mut Cursor) -> Result<Option<Word>, ReadError>
+    ensures { Gives (λ w. (w, cursor.new.pieces)) result (read_in nesting_limit (optional name) cursor.old.pieces) }
+{
+    if !is_name(cursor) {
+        return Ok(None);
+    }
+    let name = name(cursor)?;
+    Ok(Some(name))
+}
+
+// A comma, `int` and the name of a parameter, if it has one.
+#[tactic(auto, unfolding(cilk_grammar::specs::Spelling::read_at))]
+fn next_kind(cursor: &mut Cursor) -> Result<Option<Word>, ReadError>
+    ensures { Gives (λ w. (w, cursor.new.pieces)) result (read_in nesting_limit (mark Comma (word Int (optional name))) cursor.old.pieces) }
+{
+    cursor.mark(Mark::Comma)?;
+    cursor.keyword(Keyword::Int)?;
+    optional_name(cursor)
+}
+
+// Behind these parameters all that follow.
+fn more_kinds(
+    cursor: &mut Cursor,
+    mut names: Vec<Option<Word>>,
+) -> Result<Vec<Option<Word>>, ReadError>
+    ensures { Gives (λ v. (v.items, cursor.new.pieces)) result
+        (onto names.items (read_in nesting_limit (behind_commas (word Int (optional name))) cursor.old.pieces)) }
+{
+    'each: while cursor.is_mark(Mark::Comma) {
+        let next = next_kind(cursor)?;
+        names.push(next)?;
+    }
+    Ok(names)
+}
+
+/// Behind the first `int`: the names that the parameters have, and the end of these (C 1990, 6.5.4.3).
+#[tactic(auto, unfolding(cilk_grammar::specs::Spelling::read_at, cilk_rules::specs::Gives::onto))]
+pub fn kinds(cursor: &mut Cursor) -> Result<Vec<Option<Word>>, ReadError>
+    ensures { Gives (λ v. (v.items, cursor.new.pieces)) result (read_in nesting_limit kinds cursor.old.pieces) }
+{
+    let mut all = Vec::new(cursor.alloc());
+    let first = optional_name(cursor)?;
+    all.push(first)?;
+    let all = more_kinds(cursor, all)?;
+    cursor.mark(Mark::CloseParenthesis)?;
+    Ok(all)
+}
+
+/// Whether each parameter has a name.
+pub fn all_named(names: &[Option<Word>]) -> bool
+    ensures { result ≡ all_named names.now }
+{
+    'each: for name in names {
+        if name.is_none() {
+            return false;
+        }
+    }
+    true
+}
+
+/// The names that there are.
+pub fn named_of(alloc: Global, names: Vec<Option<Word>>) -> Result<Vec<Word>, ReadError>
+    ensures { MatchResult result (λ v. v.items ≡ named_of names.items) (λ e. e ≡ ReadError.Memory) }
+{
+    let mut found = Vec::new(alloc);
+    'each: for name in names {
+        if let Some(name) = name {
+            found.push(name)?;
+        }
+    }
+    Ok(found)
+}

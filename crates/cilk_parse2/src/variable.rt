@@ -1,0 +1,104 @@
+ghost use Rattle.std.specs.Prelude.{◌≡◌, ◌∷◌, map, MatchResult};
+ghost use Rattle.cilk_lexeme.specs.declared.mark.Mark.TheVariants.{Comma};
+ghost use Rattle.cilk_syntax.specs.Tree as tree;
+ghost use Rattle.cilk_syntax.specs.ProgramView.{global_shape_of};
+ghost use Rattle.cilk_rules.specs.Gives.{Gives, onto};
+ghost use Rattle.cilk_grammar.specs.Forms.{mark, behind_commas};
+ghost use Rattle.cilk_grammar.specs.Grammar.{integer, global_shape, global};
+ghost use Rattle.cilk_grammar.specs.Spelling.{nesting_limit};
+ghost use Rattle.cilk_reader.specs.Limits.{read_in};
+
+use cilk_expression::Cursor;
+use cilk_lexeme::Mark;
+use cilk_reader::{array_length, name, number};
+use cilk_rules::ReadError;
+use cilk_syntax::{Global, GlobalShape, Item, ItemNode};
+use std::alloc;
+
+// A number, and the sign before it, if there is one (C 1990, 6.4). No token is a number that is no `int`.
+#[tactic(auto, unfolding(cilk_grammar::specs::Spelling::read_at))]
+fn integer(cursor: &mut Cursor) -> Result<i32, ReadError>
+    ensures { Gives (λ z. (z, cursor.new.pieces)) result (read_in nesting_limit integer cursor.old.pieces) }
+{
+    let negative = cursor.is_mark(Mark::Minus);
+    if negative {
+        cursor.mark(Mark::Minus)?;
+    }
+    let value = number(cursor)?;
+    if value > i32::MAX as u32 {
+        return Err(ReadError::Memory);
+    }
+    if negative {
+        return Ok(-(value as i32));
+    }
+    Ok(value as i32)
+}
+
+/// Behind the name of a variable or array of the top level (C 1990, 6.5.4.2, 6.5.7, 6.7.2).
+#[tactic(auto, unfolding(cilk_grammar::specs::Spelling::read_at))]
+pub fn shape(cursor: &mut Cursor) -> Result<GlobalShape, ReadError>
+    ensures { Gives (λ s. (global_shape_of s, cursor.new.pieces)) result (read_in nesting_limit global_shape cursor.old.pieces) }
+{
+    if cursor.is_mark(Mark::Assign) {
+        cursor.mark(Mark::Assign)?;
+        let value = integer(cursor)?;
+        return Ok(GlobalShape::Variable(Some(value)));
+    }
+    if cursor.is_mark(Mark::OpenBracket) {
+        let length = array_length(cursor)?;
+        return Ok(GlobalShape::Array(length));
+    }
+    Ok(GlobalShape::Variable(None))
+}
+
+// A comma, and a variable or array.
+#[tactic(auto, unfolding(cilk_grammar::specs::Spelling::read_at))]
+fn next_global(cursor: &mut Cursor) -> Result<Global, ReadError>
+    ensures { Gives (λ g. (g, cursor.new.pieces)) result (read_in nesting_limit (mark Comma global) cursor.old.pieces) }
+{
+    cursor.mark(Mark::Comma)?;
+    let name = name(cursor)?;
+    let shape = shape(cursor)?;
+    Ok(Global { name, shape })
+}
+
+// Behind these all that follow, each behind a comma.
+fn more_globals(cursor: &mut Cursor, mut globals: Vec<Global>) -> Result<Vec<Global>, ReadError>
+    ensures { Gives (λ v. (v.items, cursor.new.pieces)) result
+        (onto globals.items (read_in nesting_limit (behind_commas global) cursor.old.pieces)) }
+{
+    'each: while cursor.is_mark(Mark::Comma) {
+        let next = next_global(cursor)?;
+        globals.push(next)?;
+    }
+    Ok(globals)
+}
+
+/// Variables and arrays, each behind a comma.
+#[tactic(auto, using(cilk_rules::proofs::Loops::onto_nothing))]
+pub fn behind_commas(cursor: &mut Cursor) -> Result<Vec<Global>, ReadError>
+    ensures { Gives (λ v. (v.items, cursor.new.pieces)) result
+        (read_in nesting_limit (behind_commas global) cursor.old.pieces) }
+{
+    more_globals(cursor, Vec::new(cursor.alloc()))
+}
+
+/// Each as what stands at the top level.
+pub fn as_items(
+    alloc: alloc::Global,
+    first: Global,
+    others: Vec<Global>,
+) -> Result<Vec<Item>, ReadError>
+    ensures { MatchResult result (λ v. v.items ≡ map tree.global (first ∷ others.items)) (λ e. e ≡ ReadError.Memory) }
+{
+    let mut items = Vec::new(alloc);
+    items.push(Item {
+        node: ItemNode::Global(first),
+    })?;
+    'each: for global in others {
+        items.push(Item {
+            node: ItemNode::Global(global),
+        })?;
+    }
+    Ok(items)
+}
