@@ -1,7 +1,8 @@
-//! Tokens, and trees that are the same: what the program does not show.
+//! Tokens, trees and values: what the program does not show.
 
 mod same;
 mod tokens;
+mod values;
 
 use cilk_parse::read;
 use cilk_tree::Program;

@@ -1,5 +1,10 @@
-//! Schedules of more workers than one, and readers and writers that break: what the program does not show.
+//! Frames, hands, instances and schedules of more workers than one, closing texts, and readers and writers that break:
+//! what the program does not show.
 
+mod closing;
+mod frames;
+mod hands;
+mod instances;
 mod schedules;
 mod script;
 mod streams;

@@ -1,0 +1,154 @@
+//! The values of expressions, and their traps. Arrays, `SYNCHED` and the cells round an inlet are
+//! in no text so far, so the expressions are built here.
+
+ghost use Rattle.std.specs.Prelude.{◌≡◌};
+ghost use Rattle.cilk_eval.specs.View.{term_of};
+ghost use Rattle.cilk_eval.specs.Term as term;
+
+use cilk_eval::{
+    Area, Code, CodeNode, Slot, Slots, Trap, apply, eval, quotients_are_rounded, unary,
+    value_is_of_what_is_read,
+};
+use cilk_tree::{BinOp, UnOp};
+use std::alloc::Global;
+use std::process::Abort;
+
+#[test]
+fn traps(rt: HostRuntime) {
+    let least = i32::MIN;
+    assert_eq!(rt; apply(BinOp::Divide, least, -1), Err(Trap::Overflow));
+    assert_eq!(rt; apply(BinOp::Remainder, least, -1), Err(Trap::Overflow));
+    assert_eq!(rt; apply(BinOp::Remainder, 5, 0), Err(Trap::ZeroDivide));
+    assert_eq!(rt; apply(BinOp::ShiftLeft, 1, 31), Err(Trap::Overflow));
+    assert_eq!(rt; apply(BinOp::ShiftLeft, -1, 0), Err(Trap::Shift));
+    assert_eq!(rt; apply(BinOp::ShiftRight, 1, 32), Err(Trap::Shift));
+    assert_eq!(rt; apply(BinOp::Add, i32::MAX, 1), Err(Trap::Overflow));
+    assert_eq!(rt; unary(UnOp::Minus, least), Err(Trap::Overflow));
+    let name = Trap::ZeroDivide.to_string(rt.alloc()).expect(&rt, "memory");
+    assert_eq!(rt; name.as_str(), "ZeroDivide");
+}
+
+#[test]
+fn values(rt: HostRuntime) {
+    assert_eq!(rt; apply(BinOp::Divide, -7, 2), Ok(-3));
+    assert_eq!(rt; apply(BinOp::Remainder, -7, 2), Ok(-1));
+    assert_eq!(rt; apply(BinOp::ShiftRight, -7, 1), Ok(-4));
+    assert_eq!(rt; apply(BinOp::ShiftLeft, 3, 29), Ok(1610612736));
+    assert_eq!(rt; apply(BinOp::Subtract, 2, 5), Ok(-3));
+    assert_eq!(rt; apply(BinOp::Multiply, 65536, -32768), Ok(i32::MIN));
+    assert_eq!(rt; apply(BinOp::BitAnd, -6, 13), Ok(8));
+    assert_eq!(rt; apply(BinOp::BitOr, -6, 13), Ok(-1));
+    assert_eq!(rt; apply(BinOp::BitXor, -6, 13), Ok(-9));
+    assert_eq!(rt; apply(BinOp::GreaterOrEqual, -1, 0), Ok(0));
+    assert_eq!(rt; apply(BinOp::And, -1, 0), Ok(0));
+    assert_eq!(rt; apply(BinOp::Or, -1, 0), Ok(1));
+    assert_eq!(rt; unary(UnOp::Complement, 5), Ok(-6));
+    assert_eq!(rt; unary(UnOp::Not, 5), Ok(0));
+    value_is_of_what_is_read::<Slot, Slot>();
+    quotients_are_rounded();
+}
+
+fn boxed(rt: &impl Abort, alloc: Global, node: CodeNode) -> Box<Code>
+    ensures { result.value ≡ term_of node }
+{
+    Box::new(alloc, Code { node }).expect(rt, "memory")
+}
+
+fn number(rt: &impl Abort, alloc: Global, number: u32) -> Box<Code>
+    ensures { result.value ≡ term.number number }
+{
+    boxed(rt, alloc, CodeNode::Number(number))
+}
+
+fn binary(rt: &impl Abort, alloc: Global, op: BinOp, left: Box<Code>, right: Box<Code>) -> Box<Code>
+    ensures { result.value ≡ term.binary op left.value right.value }
+{
+    boxed(rt, alloc, CodeNode::Binary(op, left, right))
+}
+
+// `1 / 0`
+fn trapped(rt: &impl Abort, alloc: Global) -> Box<Code>
+    ensures { result.value ≡ term.binary BinOp.Divide (term.number 1) (term.number 0) }
+{
+    let one = number(rt, alloc, 1);
+    let zero = number(rt, alloc, 0);
+    binary(rt, alloc, BinOp::Divide, one, zero)
+}
+
+const ARRAY: Slot = Slot {
+    area: Area::Outer,
+    offset: 1,
+    length: 3,
+};
+
+// `array[subscript]` of the array at `ARRAY`
+fn element(rt: &impl Abort, alloc: Global, subscript: u32) -> Box<Code>
+    ensures { result.value ≡ term.element ARRAY (term.number subscript) }
+{
+    let subscript = number(rt, alloc, subscript);
+    boxed(rt, alloc, CodeNode::Element(ARRAY, subscript))
+}
+
+#[test]
+fn what_is_not_needed_is_not_evaluated(rt: HostRuntime) {
+    let slots = Slots {
+        own: &[],
+        outer: &[],
+        globals: &[],
+        synched: false,
+    };
+    for (op, left, value) in [
+        (BinOp::And, 0, Ok(0)),
+        (BinOp::Or, 1, Ok(1)),
+        (BinOp::And, 1, Err(Trap::ZeroDivide)),
+    ] {
+        let left = number(&rt, rt.alloc(), left);
+        let right = trapped(&rt, rt.alloc());
+        let code = binary(&rt, rt.alloc(), op, left, right);
+        assert_eq!(rt; eval(&slots, &code), value);
+    }
+    let test = number(&rt, rt.alloc(), 1);
+    let first = number(&rt, rt.alloc(), 2);
+    let second = trapped(&rt, rt.alloc());
+    let choose = boxed(&rt, rt.alloc(), CodeNode::Choose(test, first, second));
+    assert_eq!(rt; eval(&slots, &choose), Ok(2));
+}
+
+const CELLS: Slots = Slots {
+    own: &[4],
+    outer: &[5, 6, 7, 8],
+    globals: &[9],
+    synched: true,
+};
+
+#[test]
+fn places_are_read(rt: HostRuntime) {
+    for (subscript, value) in [(2, Ok(8)), (3, Err(Trap::Index))] {
+        let code = element(&rt, rt.alloc(), subscript);
+        assert_eq!(rt; eval(&CELLS, &code), value);
+    }
+    let synched = boxed(&rt, rt.alloc(), CodeNode::Synched);
+    assert_eq!(rt; eval(&CELLS, &synched), Ok(1));
+    let slot = Slot {
+        area: Area::Own,
+        offset: 0,
+        length: 0,
+    };
+    let own = boxed(&rt, rt.alloc(), CodeNode::Variable(slot));
+    let minus = boxed(&rt, rt.alloc(), CodeNode::Unary(UnOp::Minus, own));
+    assert_eq!(rt; eval(&CELLS, &minus), Ok(-4));
+}
+
+#[test]
+fn the_first_trap_is_that_of_the_left(rt: HostRuntime) {
+    let left = trapped(&rt, rt.alloc());
+    let right = element(&rt, rt.alloc(), 9);
+    let code = binary(&rt, rt.alloc(), BinOp::Add, left, right);
+    assert_eq!(rt; eval(&CELLS, &code), Err(Trap::ZeroDivide));
+    let left = element(&rt, rt.alloc(), 9);
+    let right = trapped(&rt, rt.alloc());
+    let code = binary(&rt, rt.alloc(), BinOp::Add, left, right);
+    assert_eq!(rt; eval(&CELLS, &code), Err(Trap::Index));
+    let copy = code.copy(rt.alloc()).expect(&rt, "memory");
+    assert_eq!(rt; eval(&CELLS, &copy), Err(Trap::Index));
+}
