@@ -13,9 +13,10 @@ cilk: crates.txt HANDLES $(sources)
 test: must_not_compile
 	tools/gate
 
-# Tries ./cilk on the cases of programs/.
+# Tries ./cilk on the cases of programs/, and on the examples of docs/LANGUAGE.md.
 programs: cilk
 	tools/programs ./cilk
+	tools/examples ./cilk
 
 must_not_compile:
 	tools/must_not_compile

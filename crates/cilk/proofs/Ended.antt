@@ -1,8 +1,10 @@
 -- How the program ends where there is no answer.
-use Rattle.std.proofs.Common.{◌≡◌, ◌⊎◌, ◌∙◌, inl, inr, refl, subst, sym, ℕ, true, false, List, [], Option, Some, None, IfSome}
+use Rattle.std.proofs.Common.{◌≡◌, ◌⊎◌, ◌∙◌, inl, inr, refl, subst, sym, ℕ, Bool, true, false, List, [], Option, Some, None, IfSome}
 use Rattle.std.specs.Prelude.{◌≢◌}
 use Rattle.cilk_commands.specs.Status.{is_answer}
 use Rattle.cilk_commands.specs.Telling.{GivesUp, Tells as TellsLine}
+use Rattle.cilk_commands.proofs.WholeText.{nothing_read}
+use Rattle.cilk_commands.specs.declared.failure.Failure.{Failure}
 use Rattle.cilk_commands.specs.declared.failure.Failure.TheVariants as failure
 use Rattle.cilk_commands.specs.declared.status.Status.{Status}
 use Rattle.cilk_commands.specs.declared.status.Status.TheVariants as ended
@@ -11,14 +13,17 @@ use Rattle.cilk_words.specs.Refusing.{Tells, asks_for_help, asks_for_version, as
 use Rattle.cilk_words.specs.declared.refusal.Refusal.{Refusal}
 use Rattle.cilk_words.specs.declared.refusal.Refusal.TheVariants as refusal
 use Rattle.cilk.specs.Ends.{Ends, Shows}
+use Rattle.cilk.specs.Task.{Reason}
 
 -- a text that could not be opened
-pub unread : (name : List ℕ) (known old new : Option (List ℕ)) → TellsLine name failure.CannotRead old new → GivesUp name ended.CannotRead known old new
-unread name known old new told = record { why = failure.CannotRead; status_is = refl; declined = λ refused. cc; told = told }
+pub unread : (Reason : List ℕ → Failure → Type 0) (explain : Bool) (name : List ℕ) (known old new : Option (List ℕ)) → TellsLine name failure.CannotRead [] old new
+    → GivesUp Reason explain name ended.CannotRead known old new
+unread Reason explain name known old new told = nothing_read Reason explain name ended.CannotRead known old new failure.CannotRead (λ bad. cc) refl told
 
 -- memory that ran out before a text was opened
-pub out_of_memory : (name : List ℕ) (known old new : Option (List ℕ)) → TellsLine [] failure.Memory old new → GivesUp name ended.Memory known old new
-out_of_memory name known old new told = record { why = failure.Memory; status_is = refl; declined = λ refused. cc; told = told }
+out_of_memory : (Reason : List ℕ → Failure → Type 0) (explain : Bool) (name : List ℕ) (known old new : Option (List ℕ)) → TellsLine [] failure.Memory [] old new
+    → GivesUp Reason explain name ended.Memory known old new
+out_of_memory Reason explain name known old new told = nothing_read Reason explain name ended.Memory known old new failure.Memory (λ bad. cc) refl told
 
 -- ---- words that ask for nothing to be done
 
@@ -47,7 +52,7 @@ nothing_done words held status old new err_old err_new none not_refused not_unre
 
 -- what is told of the words tells how the program ends
 pub refused_words : (words : List (List ℕ)) (held : List ℕ → Option (List ℕ)) (r : Refusal) (status : Status) (old new err_old err_new : Option (List ℕ)) → Tells words r
-    → Shows r status old new → (r ≡ refusal.Memory → TellsLine [] failure.Memory err_old err_new) → Ends words held status old new err_old err_new
+    → Shows r status old new → (r ≡ refusal.Memory → TellsLine [] failure.Memory [] err_old err_new) → Ends words held status old new err_old err_new
 refused_words words held (refusal.Help text) status old new err_old err_new tells (inl done) memory =
     subst (λ s. Ends words held s old new err_old err_new) (sym done.0)
     (nothing_done words held ended.Done old new err_old err_new tells.0 (λ bad. cc) (λ bad. cc) (λ bad. cc) (λ answer. (refl, inl tells.1))
@@ -71,7 +76,7 @@ refused_words words held (refusal.Usage text) status old new err_old err_new tel
 refused_words words held refusal.Memory status old new err_old err_new tells is_memory memory =
     subst (λ s. Ends words held s old new err_old err_new) (sym is_memory) (record {
       done = for_each (asked words) _ (λ request answer. let bad : false ≡ true = answer in cc);
-      told = for_each (asked words) _ (λ request none. out_of_memory request.1 (held request.1) err_old err_new (memory refl));
+      told = for_each (asked words) _ (λ request none. out_of_memory (Reason request.task) request.explain request.name (held request.name) err_old err_new (memory refl));
       begun = for_each (asked words) _ (λ request bad. cc);
       reads = λ which none. elim which [ inl bad ↦ cc | inr bad ↦ cc ];
       usage = λ bad. cc;

@@ -12,7 +12,7 @@ use Rattle.cilk_words.specs.CommandLine.{asked}
 use Rattle.cilk_words.specs.Refusing.{asks_for_help, asks_for_version, asks_to_show}
 use Rattle.cilk_words.specs.declared.refusal.Refusal.{Refusal}
 use Rattle.cilk_words.specs.declared.refusal.Refusal.TheVariants as refusal
-use Rattle.cilk.specs.Task.{Begins, Does}
+use Rattle.cilk.specs.Task.{Begins, Does, Reason}
 
 -- what is to be shown was written whole, or the writer failed
 abbrev pub IsShown : List ℕ → Status → Option (List ℕ) → Option (List ℕ) → Type 0
@@ -32,9 +32,9 @@ without_words _ = ended.Usage
 
 -- what the status tells of the words, of the bytes of the texts that names stand for, and of those that two writers gained
 pub record Ends (words : List (List ℕ)) (held : List ℕ → Option (List ℕ)) (status : Status) (old new err_old err_new : Option (List ℕ)) : Type 0 where
-  pub done : IfSome (asked words) (λ request. is_answer status ≡ true → Does request.0 status (held request.1) old new)
-  pub told : IfSome (asked words) (λ request. is_answer status ≡ false → GivesUp request.1 status (held request.1) err_old err_new)
-  pub begun : IfSome (asked words) (λ request. status ≡ ended.CannotWrite → Begins request.0 (held request.1) old new)
+  pub done : IfSome (asked words) (λ request. is_answer status ≡ true → Does request.task status (held request.name) old new)
+  pub told : IfSome (asked words) (λ request. is_answer status ≡ false → GivesUp (Reason request.task) request.explain request.name status (held request.name) err_old err_new)
+  pub begun : IfSome (asked words) (λ request. status ≡ ended.CannotWrite → Begins request.task (held request.name) old new)
   pub reads : (status ≡ ended.Refused) ⊎ (status ≡ ended.CannotRead) → asked words ≢ None
   pub usage : status ≡ ended.Usage → (asked words ≡ None) × (asks_to_show words ≡ false)
   pub help : asked words ≡ None → is_answer status ≡ true → (status ≡ ended.Done) × ((asks_for_help words ≡ true) ⊎ (asks_for_version words ≡ true))

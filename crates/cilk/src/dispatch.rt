@@ -3,7 +3,7 @@ ghost use Rattle.cilk_commands.specs.Telling.{GivesUp, Tells};
 ghost use Rattle.cilk_commands.specs.Status.{is_answer};
 ghost use Rattle.cilk_words.specs.CommandLine.{texts_of};
 ghost use Rattle.cilk.specs.Ends.{Ends, IsShown, Shows};
-ghost use Rattle.cilk.specs.Task.{Begins, Does};
+ghost use Rattle.cilk.specs.Task.{Begins, Does, Reason};
 
 use crate::task::perform;
 use crate::texts::Texts;
@@ -41,7 +41,8 @@ fn obey<T: Texts, O: Write, E: Write>(
 ) -> Status
     ensures done { is_answer result ≡ true → Does request.now.task result
         (T.held texts.now request.now.name.now) (O.contents out.old) (O.contents out.new) }
-    ensures told { is_answer result ≡ false → GivesUp request.now.name.now result
+    ensures told { is_answer result ≡ false
+        → GivesUp (Reason request.now.task) request.now.explain request.now.name.now result
         (T.held texts.now request.now.name.now) (E.contents err.old) (E.contents err.new) }
     ensures begun { result ≡ Status.CannotWrite → Begins request.now.task
         (T.held texts.now request.now.name.now) (O.contents out.old) (O.contents out.new) }
@@ -59,7 +60,7 @@ fn obey<T: Texts, O: Write, E: Write>(
 fn tell<O: Write, E: Write>(refusal: &Refusal, out: &mut O, err: &mut E) -> Status
     ensures shows { Shows refusal.now result (O.contents out.old) (O.contents out.new) }
     ensures memory { refusal.now ≡ Refusal.Memory
-        → Tells [] Failure.Memory (E.contents err.old) (E.contents err.new) }
+        → Tells [] Failure.Memory [] (E.contents err.old) (E.contents err.new) }
     ensures quiet { is_answer result ≡ true → err.new ≡ err.old }
     ensures kept { is_answer result ≡ false → result ≢ Status.CannotWrite → out.new ≡ out.old }
 {

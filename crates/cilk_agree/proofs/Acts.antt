@@ -1,7 +1,7 @@
 -- What an instance does by itself: it goes on, it writes, it takes a delivery, it is trapped.
 use Rattle.std.proofs.Common.{◌≡◌, ℕ, ◌+◌, ◌<◌, ◌≤◌, ℤ, true, List, [], ◌∷◌, map, length, Some, refl, sym, subst, arith}
 use Rattle.std.specs.Prelude.{IfSome, drop, slice_set}
-use Rattle.cilk_tree.specs.Tree as tree
+use Rattle.cilk_core.specs.Tree as tree
 use Rattle.cilk_eval.specs.declared.area.Area.TheVariants.{Own, Global}
 use Rattle.cilk_eval.specs.declared.slot.Slot.{Slot}
 use Rattle.cilk_model.specs.Declaration.{Declaration}

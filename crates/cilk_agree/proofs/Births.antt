@@ -1,7 +1,7 @@
 -- What one more child makes of the instances of the tree, and of those of the definition of runs.
 use Rattle.std.proofs.Common.{◌≡◌, ℕ, ℤ, ◌+◌, ◌<◌, Bool, true, false, List, [], ◌∷◌, ◌++◌, length, Option, Some, None, is_some, refl, sym, ap, ◌∙◌, subst, arith, if◌then◌else◌}
 use Rattle.std.specs.Prelude.{IfSome, option_map}
-use Rattle.cilk_tree.specs.Tree as tree
+use Rattle.cilk_core.specs.Tree as tree
 use Rattle.cilk_model.specs.Labelled.{Taker}
 use Rattle.cilk_model.specs.Label.{label}
 use Rattle.cilk_model.specs.Values.{Cell}

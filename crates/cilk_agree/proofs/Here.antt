@@ -1,8 +1,8 @@
 -- What is known of the instance whose frame is in a worker's hand.
 use Rattle.std.proofs.Common.{◌≡◌, ℕ, ℤ, ◌+◌, ◌<◌, Bool, true, false, cond, List, map, length, Option, Some, None, is_some, refl, sym, ap, ◌∙◌, subst, arith}
 use Rattle.std.specs.Prelude.{IfSome, sum_by}
-use Rattle.cilk_tree.specs.Tree as tree
-use Rattle.cilk_check.specs.Fault.{WellFormed}
+use Rattle.cilk_core.specs.Tree as tree
+use Rattle.cilk_core_check.specs.Fault.{WellFormed}
 use Rattle.cilk_model.specs.Label.{label}
 use Rattle.cilk_model.specs.Path.{Path, same_path}
 use Rattle.cilk_model.specs.Instance as model

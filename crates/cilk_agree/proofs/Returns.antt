@@ -1,6 +1,6 @@
 -- A return keeps agreement: the value goes to the parent, the instance is no more, and a parked parent that can go on comes to the hand.
 use Rattle.std.proofs.Common.{◌≡◌, ◌≢◌, ◌<◌, ℕ, ℤ, Bool, true, false, not, ◌&&◌, nat_eq, List, length, Option, Some, None, refl, sym, ap, ◌∙◌, subst, arith, length-set}
-use Rattle.cilk_tree.specs.Tree as tree
+use Rattle.cilk_core.specs.Tree as tree
 use Rattle.cilk_model.specs.Label.{label}
 use Rattle.cilk_model.specs.Path.{Path, parent_of, same_path}
 use Rattle.cilk_model.specs.Instance as model

@@ -3,7 +3,7 @@ use Rattle.std.proofs.Common.{◌≡◌, ◌+◌, ℕ, ℤ, true, false, List, �
 use Rattle.std.specs.Prelude.{slice_set, Ok}
 use Rattle.cilk_eval.specs.declared.area.Area.TheVariants.{Own, Global}
 use Rattle.cilk_eval.specs.declared.slot.Slot.{Slot}
-use Rattle.cilk_tree.specs.Tree as tree
+use Rattle.cilk_core.specs.Tree as tree
 use Rattle.cilk_model.specs.Event.{Event}
 use Rattle.cilk_model.specs.Path.{Path}
 use Rattle.cilk_model.specs.Label.{label}

@@ -3,7 +3,7 @@ use Rattle.std.proofs.Common.{◌≡◌, ◌<◌, ℕ, ℤ, Bool, true, false, n
 use Rattle.std.specs.Prelude.{IfSome}
 use Rattle.std.proofs.lemmas.List.{length-map}
 use Rattle.std.proofs.lemmas.Bool.Decides.{nat_tests}
-use Rattle.cilk_tree.specs.Tree as tree
+use Rattle.cilk_core.specs.Tree as tree
 use Rattle.cilk_model.specs.Labelled.{Labelled}
 use Rattle.cilk_model.specs.Label.{label}
 use Rattle.cilk_model.specs.Path.{Path, same_path}

@@ -1,7 +1,7 @@
 -- An instance that may be stepped, as its frame and the tree tell it.
 use Rattle.std.specs.Prelude.{◌≡◌, ℤ, true, false, List, [], length, map, Some}
-use Rattle.cilk_tree.specs.Tree as tree
-use Rattle.cilk_check.specs.Fault.{WellFormed}
+use Rattle.cilk_core.specs.Tree as tree
+use Rattle.cilk_core_check.specs.Fault.{WellFormed}
 use Rattle.cilk_model.specs.Label.{label}
 use Rattle.cilk_model.specs.Instance.{Instance}
 use Rattle.cilk_model.specs.State as state

@@ -1,6 +1,2 @@
-pub mod Names
-pub mod Reserved
-pub mod Returns
-pub mod Scope
 pub mod Fault
-pub mod Finds
+pub mod Earlier

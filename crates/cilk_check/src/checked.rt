@@ -1,9 +1,13 @@
-ghost use Rattle.std.specs.Prelude.{◌≡◌, ◌↔◌, IsOk, IfOk, IfErr};
+ghost use Rattle.std.specs.Prelude.{◌≡◌, ◌⊎◌, IsOk, IfOk, IfErr};
+ghost use Rattle.cilk_scopes.specs.declared.fault.CheckFault.TheVariants.{Memory};
 ghost use Rattle.cilk_check.specs.Fault.{WellFormed, IsFirstFault};
 
-use crate::fault::CheckFault;
-use crate::walk::first_fault;
-use cilk_tree::Program;
+use crate::earlier::earlier_of;
+use cilk_rules_of_forms::first_form_fault;
+use cilk_rules_of_names::first_name_fault;
+use cilk_scopes::CheckFault;
+use cilk_syntax::Program;
+use std::alloc::Global;
 use std::marker::Model;
 
 /// A program that passed the check.
@@ -13,8 +17,8 @@ pub struct Checked {
 }
 
 impl Model for Checked {
-    ghost use Rattle.cilk_tree.specs.Tree as tree;
-    ghost use Rattle.cilk_tree.specs.ProgramCoding.{coded_Program};
+    ghost use Rattle.cilk_syntax.specs.Tree as tree;
+    ghost use Rattle.cilk_syntax.specs.ProgramCoding.{coded_Program};
     ghost use Rattle.cilk_check.specs.Fault.{WellFormed};
 
     ghost Value = { tree.Program };
@@ -44,14 +48,19 @@ impl Checked {
     }
 }
 
-/// Checks the names of a program. The error is the first fault: the one with the least place, and
-/// at that place with the least number.
-pub fn check(program: Program) -> Result<Checked, CheckFault>
-    ensures accepted { IsOk result ↔ WellFormed program }
+/// Checks a program. The error is the first fault: the one with the least place, and at that place with the least
+/// number; or memory has run out.
+pub fn check(alloc: Global, program: Program) -> Result<Checked, CheckFault>
+    ensures accepted { IsOk result → WellFormed program }
     ensures value { IfOk result (λ checked. checked ≡ program) }
-    ensures fault { IfErr result (IsFirstFault program) }
+    ensures fault { IfErr result (λ f. (f ≡ Memory) ⊎ IsFirstFault program f) }
 {
-    match first_fault(&program) {
+    let named = match first_name_fault(alloc, &program) {
+        Ok(found) => found,
+        Err(_) => return Err(CheckFault::Memory),
+    };
+    let formed = first_form_fault(&program);
+    match earlier_of(named, formed) {
         None => Ok(Checked { program }),
         Some(fault) => Err(fault),
     }

@@ -1,16 +1,8 @@
-//! The check of a program's names: which programs may be run.
+//! The check of a program: which programs may be run.
 #![tactic(auto)]
 
 mod checked;
-mod fault;
-mod first;
-mod laws;
-mod names;
-mod reserved;
-mod uses;
-mod visible;
-mod walk;
+mod earlier;
 
 pub use checked::{Checked, check};
-pub use fault::CheckFault;
-pub use laws::names_are_declared;
+pub use cilk_scopes::CheckFault;

@@ -43,6 +43,34 @@ wrote_front old new bytes rest before = record { front = before.front; rest = re
 pub front_whole : (old new : Option (List ℕ)) (bytes : List ℕ) → Appends old new bytes → AppendsFront old new bytes
 front_whole old new bytes written = record { front = bytes; rest = []; split = sym (append-nil bytes); written = written }
 
+-- a part of the first of two
+pub front_before : (old new : Option (List ℕ)) (before more : List ℕ) → AppendsFront old new before → AppendsFront old new (before ++ more)
+front_before old new before more begun = record {
+  front = begun.front;
+  rest = begun.rest ++ more;
+  split = ap (λ l. l ++ more) begun.split ∙ append_assoc begun.front begun.rest more;
+  written = begun.written;
+}
+
+-- all of the first, and a part of the second
+pub front_behind : (old mid new : Option (List ℕ)) (before more : List ℕ) → Appends old mid before → AppendsFront mid new more → AppendsFront old new (before ++ more)
+front_behind old mid new before more written begun = record {
+  front = before ++ begun.front;
+  rest = begun.rest;
+  split = ap (λ l. before ++ l) begun.split ∙ sym (append_assoc before begun.front begun.rest);
+  written = Appends-trans old mid new before begun.front written begun.written;
+}
+
+-- all of both
+pub all_behind : (old mid new : Option (List ℕ)) (before more : List ℕ) → Appends old mid before → Appends mid new more → Appends old new (before ++ more)
+all_behind old mid new before more written also = Appends-trans old mid new before more written also
+
+-- whether a writer failed in them or not
+pub front_either : {A E : Type 0} (r : Result A E) (old new : Option (List ℕ)) (bytes : List ℕ) → OnOk r (Appends old new bytes) → OnErr r (AppendsFront old new bytes)
+    → AppendsFront old new bytes
+front_either (Ok x) old new bytes written begun = front_whole old new bytes written
+front_either (Err e) old new bytes written begun = begun
+
 -- all of some and a part of what follows, where others stand behind
 front_after : (old mid new : Option (List ℕ)) (before more rest all : List ℕ) → Appends old mid before → AppendsFront mid new more → all ≡ before ++ (more ++ rest)
     → AppendsFront old new all

@@ -1,7 +1,7 @@
+pub mod Explained
 pub mod Fronts
 pub mod Ran
 pub mod Moved
-pub mod NamePlaces
-pub mod FaultPlaces
+pub mod Taken
 pub mod WholeText
 pub mod Told

@@ -1,6 +1,6 @@
 -- One choice more of one worker.
 use Rattle.std.proofs.Common.{[], ◌∷◌, ◌++◌, ◌∙◌}
-use Rattle.cilk_tree.specs.Tree.{Program}
+use Rattle.cilk_core.specs.Tree.{Program}
 use Rattle.cilk_model.specs.Label.{label}
 use Rattle.cilk_model.specs.Choice.{Choice}
 use Rattle.cilk_model.specs.Event.{Event}

@@ -1,14 +1,19 @@
 -- What is said of the bytes that were read of a text is said of the text.
-use Rattle.std.proofs.Common.{◌≡◌, ◌≤◌, ◌<◌, ◌+◌, ◌∙◌, ℕ, List, length, take, subst, min, arith, Option, Some, None, IfSome, inl, inr, [], ◌++◌, option_map, refl}
+use Rattle.std.proofs.Common.{◌≡◌, ◌≤◌, ◌<◌, ◌+◌, ◌∙◌, ℕ, List, length, take, subst, min, arith, Bool, true, false, Option, Some, None, IfSome, inl, inr, [], ◌++◌, option_map, refl, sym}
+use Rattle.std.specs.Prelude.{◌≢◌}
 use Rattle.std.proofs.lemmas.List.{length-take, take_min}
 use Rattle.std.proofs.Math.Seq.{take-length}
 use Rattle.cilk_lex.specs.declared.reading.TheConstants.{TEXT_LIMIT}
-use Rattle.cilk_tree.specs.Tree.{Program}
-use Rattle.cilk_commands.specs.Program.{Declines, Explains, IsReason, Holds, IsReadOf, IsNoProgram, IsIllFormed, HasTooMany, IsProgram}
+use Rattle.cilk_commands.specs.Front.{Gains, GainsFront}
+use Rattle.cilk_commands.specs.Held.{Held, IsReadOf}
+use Rattle.cilk_commands.specs.Loading.{Unprinted, Unready}
+use Rattle.cilk_commands.specs.Program.{Explains, IsReason, IsNoProgram, IsIllFormed}
 use Rattle.cilk_commands.specs.Status.{status_of}
+use Rattle.cilk_commands.specs.Telling.{GivesUp, IsExplanation, Tells}
 use Rattle.cilk_commands.specs.declared.failure.Failure.{Failure}
 use Rattle.cilk_commands.specs.declared.failure.Failure.TheVariants as failure
 use Rattle.cilk_commands.specs.declared.fault.Fault.TheVariants as fault
+use Rattle.cilk_commands.specs.declared.status.Status.{Status}
 use Rattle.cilk_commands.specs.declared.status.Status.TheVariants as status
 
 -- a text of which so little was read was read whole
@@ -29,29 +34,122 @@ read_of (Some bytes) held limit start text same limited empty read =
     (subst (λ k. IfSome (option_map (take limit) k) (λ xs. text ≡ start ++ xs)) same read)) in
     known_read
 
-pub whole_held : (known : Option (List ℕ)) (text : List ℕ) (program : Program) → IsReadOf known text → IsProgram text program → Holds known program
-whole_held None text program read is = record { bytes = text; held = tt; is = is }
-whole_held (Some bytes) text program read is =
-    record { bytes = bytes; held = refl; is = subst (λ t. IsProgram t program) (read_whole bytes text read is.text.short) is }
+-- something was read of each text
+some_read : (known : Option (List ℕ)) → (text : List ℕ) × IsReadOf known text
+some_read None = ([], tt)
+some_read (Some bytes) = (take (TEXT_LIMIT + 1) bytes, refl)
 
-reason_read : (bytes text : List ℕ) (why : Failure) → text ≡ take (TEXT_LIMIT + 1) bytes → IsReason text why → IsReason bytes why
-reason_read bytes text (failure.Fault (fault.Read found) line column) read (inl told) =
-    let long : TEXT_LIMIT < length (take (TEXT_LIMIT + 1) bytes) = rw (← read) told.long in
-    inl (record { long = omega (arith, length-take (TEXT_LIMIT + 1) bytes); fault_is = told.fault_is; line_is = told.line_is; column_is = told.column_is })
-reason_read bytes text (failure.Fault (fault.Read found) line column) read (inr told) =
-    inr (subst (λ t. IsNoProgram t found line column) (read_whole bytes text read told.short) told)
-reason_read bytes text (failure.Fault (fault.Check found) line column) read told =
-    subst (λ t. IsIllFormed t found line column) (read_whole bytes text read told.text.short) told
-reason_read bytes text failure.NotUtf8 read told =
-    subst (λ t. IsReason t failure.NotUtf8) (read_whole bytes text read told.0) told
-reason_read bytes text failure.TooMany read told =
-    subst (λ t. HasTooMany t) (read_whole bytes text read told.text.short) told
-reason_read bytes text failure.Memory read told = tt
-reason_read bytes text failure.CannotRead read told = told
-reason_read bytes text failure.CannotWrite read told = told
+-- what is so only of texts that are short enough
+pub whole_held : (known : Option (List ℕ)) (text : List ℕ) (Are : List ℕ → Type 0) → IsReadOf known text → length text ≤ TEXT_LIMIT → Are text → Held known Are
+whole_held None text Are read short are = record { bytes = text; held = tt; are = are }
+whole_held (Some bytes) text Are read short are =
+    record { bytes = bytes; held = refl; are = subst Are (read_whole bytes text read short) are }
 
-pub whole_declined : (known : Option (List ℕ)) (text : List ℕ) (why : Failure) → IsReadOf known text → Explains text why → status_of why ≡ status.Refused → Declines known why
-whole_declined None text why read told refused =
-    record { bytes = text; held = tt; explained = told }
-whole_declined (Some bytes) text why read told refused =
-    record { bytes = bytes; held = refl; explained = record { reason = reason_read bytes text why read told.reason } }
+module _ (known : Option (List ℕ)) (text : List ℕ) (old new : Option (List ℕ)) (Answers : List ℕ → List ℕ → Type 0)
+    (short : (answer : List ℕ) → Answers text answer → length text ≤ TEXT_LIMIT) (read : IsReadOf known text) where
+  pub gains_whole : Gains (Answers text) old new → Gains (λ answer. Held known (λ bytes. Answers bytes answer)) old new
+  gains_whole gained = record {
+    answer = gained.answer;
+    is = whole_held known text (λ bytes. Answers bytes gained.answer) read (short gained.answer gained.is) gained.is;
+    written = gained.written;
+  }
+
+  pub gains_front_whole : GainsFront (Answers text) old new → GainsFront (λ answer. Held known (λ bytes. Answers bytes answer)) old new
+  gains_front_whole gained = record {
+    answer = gained.answer;
+    is = whole_held known text (λ bytes. Answers bytes gained.answer) read (short gained.answer gained.is) gained.is;
+    begun = gained.begun;
+  }
+
+-- ---- why a text has no answer
+
+explained_whole : (bytes text : List ℕ) (why : Failure) → text ≡ take (TEXT_LIMIT + 1) bytes → Explains text why → Explains bytes why
+explained_whole bytes text (failure.Fault (fault.Read found) line column) read told = elim told.reason [
+  | inl too_long ↦ (let long : TEXT_LIMIT < length (take (TEXT_LIMIT + 1) bytes) = rw (← read) too_long.long in
+      record { reason = inl (record { long = omega (arith, length-take (TEXT_LIMIT + 1) bytes); fault_is = too_long.fault_is; line_is = too_long.line_is; column_is = too_long.column_is }) })
+  | inr none ↦ record { reason = inr (subst (λ t. IsNoProgram t found line column) (read_whole bytes text read none.short) none) }
+]
+explained_whole bytes text (failure.Fault (fault.Check found) line column) read told =
+    record { reason = subst (λ t. IsIllFormed t found line column) (read_whole bytes text read told.reason.text.short) told.reason }
+explained_whole bytes text failure.NotUtf8 read told =
+    record { reason = subst (λ t. IsReason t failure.NotUtf8) (read_whole bytes text read told.reason.0) told.reason }
+explained_whole bytes text failure.Memory read told = record { reason = tt }
+explained_whole bytes text failure.NotYet read told = absurd told.reason
+explained_whole bytes text failure.TooMany read told = absurd told.reason
+explained_whole bytes text failure.CannotRead read told = absurd told.reason
+explained_whole bytes text failure.CannotWrite read told = absurd told.reason
+
+unprinted_whole : (bytes text : List ℕ) (why : Failure) → text ≡ take (TEXT_LIMIT + 1) bytes → Unprinted text why → Unprinted bytes why
+unprinted_whole bytes text failure.TooMany read told = subst (λ t. Unprinted t failure.TooMany) (read_whole bytes text read told.is.text.short) told
+unprinted_whole bytes text (failure.Fault found line column) read told = explained_whole bytes text (failure.Fault found line column) read told
+unprinted_whole bytes text failure.NotUtf8 read told = explained_whole bytes text failure.NotUtf8 read told
+unprinted_whole bytes text failure.Memory read told = explained_whole bytes text failure.Memory read told
+unprinted_whole bytes text failure.NotYet read told = explained_whole bytes text failure.NotYet read told
+unprinted_whole bytes text failure.CannotRead read told = explained_whole bytes text failure.CannotRead read told
+unprinted_whole bytes text failure.CannotWrite read told = explained_whole bytes text failure.CannotWrite read told
+
+unready_whole : (bytes text : List ℕ) (why : Failure) → text ≡ take (TEXT_LIMIT + 1) bytes → Unready text why → Unready bytes why
+unready_whole bytes text failure.TooMany read told = subst (λ t. Unready t failure.TooMany) (read_whole bytes text read told.is.text.short) told
+unready_whole bytes text failure.NotYet read told = subst (λ t. Unready t failure.NotYet) (read_whole bytes text read told.is.text.short) told
+unready_whole bytes text (failure.Fault found line column) read told = explained_whole bytes text (failure.Fault found line column) read told
+unready_whole bytes text failure.NotUtf8 read told = explained_whole bytes text failure.NotUtf8 read told
+unready_whole bytes text failure.Memory read told = explained_whole bytes text failure.Memory read told
+unready_whole bytes text failure.CannotRead read told = explained_whole bytes text failure.CannotRead read told
+unready_whole bytes text failure.CannotWrite read told = explained_whole bytes text failure.CannotWrite read told
+
+reason_held : (Reason : List ℕ → Failure → Type 0) → ((bytes text : List ℕ) (why : Failure) → text ≡ take (TEXT_LIMIT + 1) bytes → Reason text why → Reason bytes why)
+    → (known : Option (List ℕ)) (text : List ℕ) (why : Failure) → IsReadOf known text → Reason text why → Held known (λ bytes. Reason bytes why)
+reason_held Reason whole None text why read told = record { bytes = text; held = tt; are = told }
+reason_held Reason whole (Some bytes) text why read told = record { bytes = bytes; held = refl; are = whole bytes text why read told }
+
+-- what is told of a failure with a text that was read
+gives_up : (Reason : List ℕ → Failure → Type 0) → ((bytes text : List ℕ) (why : Failure) → text ≡ take (TEXT_LIMIT + 1) bytes → Reason text why → Reason bytes why)
+    → (explain : Bool) (name : List ℕ) (ended : Status) (known old new : Option (List ℕ)) (text : List ℕ) (why : Failure) → IsReadOf known text
+    → (status_of why ≡ status.Refused → Reason text why) → ended ≡ status_of why
+    → (behind : List ℕ) × (IsExplanation explain text why behind × Tells name why behind old new) → GivesUp Reason explain name ended known old new
+gives_up Reason whole explain name ended known old new text why read reason is told = record {
+  why = why;
+  status_is = is;
+  declined = λ refused. reason_held Reason whole known text why read (reason (sym is ∙ refused));
+  behind = told.0;
+  explained = record { text = text; read = read; is = told.1.0 };
+  told = told.1.1;
+}
+
+pub print_gives_up : (explain : Bool) (name : List ℕ) (ended : Status) (known old new : Option (List ℕ)) (text : List ℕ) (why : Failure) → IsReadOf known text
+    → (status_of why ≡ status.Refused → Unprinted text why) → ended ≡ status_of why
+    → (behind : List ℕ) × (IsExplanation explain text why behind × Tells name why behind old new) → GivesUp Unprinted explain name ended known old new
+print_gives_up = gives_up Unprinted unprinted_whole
+
+pub run_gives_up : (explain : Bool) (name : List ℕ) (ended : Status) (known old new : Option (List ℕ)) (text : List ℕ) (why : Failure) → IsReadOf known text
+    → (status_of why ≡ status.Refused → Unready text why) → ended ≡ status_of why
+    → (behind : List ℕ) × (IsExplanation explain text why behind × Tells name why behind old new) → GivesUp Unready explain name ended known old new
+run_gives_up = gives_up Unready unready_whole
+
+unexplained : (explain : Bool) (text : List ℕ) (why : Failure) → status_of why ≢ status.Refused → IsExplanation explain text why []
+unexplained true text (failure.Fault found line column) other = inl refl
+unexplained false text (failure.Fault found line column) other = refl
+unexplained true text failure.NotUtf8 other = refl
+unexplained false text failure.NotUtf8 other = refl
+unexplained true text failure.NotYet other = refl
+unexplained false text failure.NotYet other = refl
+unexplained true text failure.TooMany other = refl
+unexplained false text failure.TooMany other = refl
+unexplained true text failure.Memory other = refl
+unexplained false text failure.Memory other = refl
+unexplained true text failure.CannotRead other = refl
+unexplained false text failure.CannotRead other = refl
+unexplained true text failure.CannotWrite other = refl
+unexplained false text failure.CannotWrite other = refl
+
+-- where no text was read
+pub nothing_read : (Reason : List ℕ → Failure → Type 0) (explain : Bool) (name : List ℕ) (ended : Status) (known old new : Option (List ℕ)) (why : Failure)
+    → status_of why ≢ status.Refused → ended ≡ status_of why → Tells name why [] old new → GivesUp Reason explain name ended known old new
+nothing_read Reason explain name ended known old new why other is told = record {
+  why = why;
+  status_is = is;
+  declined = λ refused. absurd (other (sym is ∙ refused));
+  behind = [];
+  explained = record { text = (some_read known).0; read = (some_read known).1; is = unexplained explain (some_read known).0 why other };
+  told = told;
+}

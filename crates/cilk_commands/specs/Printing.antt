@@ -1,19 +1,20 @@
 -- What `print` writes.
 use Rattle.std.specs.Prelude.{◌≡◌, ℕ, List, Option}
-use Rattle.cilk_tree.specs.Tree.{Program}
-use Rattle.cilk_tree.specs.ProgramText.{program_text}
+use Rattle.cilk_syntax.specs.Tree.{Program}
+use Rattle.cilk_canonical.specs.ProgramText.{program_text}
 use Rattle.cilk_commands.specs.Front.{Gains, GainsFront}
-use Rattle.cilk_commands.specs.Program.{Holds}
+use Rattle.cilk_commands.specs.Held.{Held}
+use Rattle.cilk_commands.specs.Loading.{IsPrintable}
 
--- the canonical text of the program that a reader held
-pub record IsPrinted (known : Option (List ℕ)) (text : List ℕ) : Type 0 where
+-- the canonical text of the program that the bytes of a text are
+pub record IsPrinted (bytes text : List ℕ) : Type 0 where
   pub program : Program
-  pub held : Holds known program
+  pub is_program : IsPrintable bytes program
   pub is : text ≡ program_text program
 
--- a writer has gained it, or has failed in it
+-- a writer has gained that of the program that a reader held, or has failed in it
 abbrev pub Prints : Option (List ℕ) → Option (List ℕ) → Option (List ℕ) → Type 0
-Prints known old new = Gains (IsPrinted known) old new
+Prints known old new = Gains (λ text. Held known (λ bytes. IsPrinted bytes text)) old new
 
 abbrev pub PrintsFront : Option (List ℕ) → Option (List ℕ) → Option (List ℕ) → Type 0
-PrintsFront known old new = GainsFront (IsPrinted known) old new
+PrintsFront known old new = GainsFront (λ text. Held known (λ bytes. IsPrinted bytes text)) old new

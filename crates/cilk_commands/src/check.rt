@@ -1,22 +1,26 @@
 ghost use Rattle.std.specs.Prelude.{◌≡◌, ◌≢◌, true, false, IfErr, OnOk};
-ghost use Rattle.cilk_commands.specs.Program.{Declines};
+ghost use Rattle.cilk_commands.specs.Front.{Gains, GainsFront};
+ghost use Rattle.cilk_commands.specs.Loading.{Unready};
 ghost use Rattle.cilk_commands.specs.Telling.{GivesUp};
-ghost use Rattle.cilk_commands.specs.Checking.{Passes, PassesFront};
+ghost use Rattle.cilk_commands.specs.Checking.{IsCounted, Passes, PassesFront};
 ghost use Rattle.cilk_commands.specs.Status.{status_of, is_answer};
 
 use crate::answer::write_answer;
 use crate::failure::Failure;
-use crate::source::program_from;
+use crate::loading::ready_of;
+use crate::source::read_text;
 use crate::status::Status;
+use crate::telling::tell_of;
 use std::alloc::Global;
 use std::io::{Read, Write};
 
-/// Writes how many actions the program has that the reader holds to `out`, as `ok, 4 actions`, or
-/// else the line that says why it may not be run to `err`, where `name` is the name of the text. A
-/// line that cannot be written is lost.
+/// Writes how many actions the program has that the reader holds to `out`, as `ok, 4 actions`, or else the line that says
+/// why it may not be run to `err`, where `name` is the name of the text, and behind it, with `explain`, more of a fault in
+/// the program. A line that cannot be written is lost.
 pub fn check_text<R: Read, O: Write, E: Write>(
     alloc: Global,
     name: &str,
+    explain: bool,
     reader: &mut R,
     out: &mut O,
     err: &mut E,
@@ -27,8 +31,8 @@ pub fn check_text<R: Read, O: Write, E: Write>(
     ensures only { is_answer result ≡ true → result ≡ Status.Done }
 
     // Where there is no answer.
-    ensures told { is_answer result ≡ false
-        → GivesUp name.now result (R.remaining reader.old) (E.contents err.old) (E.contents err.new) }
+    ensures told { is_answer result ≡ false → GivesUp Unready explain name.now result
+        (R.remaining reader.old) (E.contents err.old) (E.contents err.new) }
     ensures begun { result ≡ Status.CannotWrite
         → PassesFront (R.remaining reader.old) (O.contents out.old) (O.contents out.new) }
 
@@ -36,22 +40,25 @@ pub fn check_text<R: Read, O: Write, E: Write>(
     ensures quiet { is_answer result ≡ true → err.new ≡ err.old }
     ensures kept { is_answer result ≡ false → result ≢ Status.CannotWrite → out.new ≡ out.old }
 {
-    match check(alloc, reader, out) {
+    let bytes = match read_text(alloc, reader) {
+        Ok(bytes) => bytes,
+        Err(failure) => return failure.report(name, err),
+    };
+    let text = bytes.as_slice();
+    match check(alloc, text, out) {
         Ok(()) => Status::Done,
-        Err(failure) => failure.report(name, err),
+        Err(failure) => tell_of(alloc, name, explain, text, &failure, err),
     }
 }
 
-fn check<R: Read, W: Write>(alloc: Global, reader: &mut R, out: &mut W) -> Result<(), Failure>
-    ensures ok { OnOk result
-        (Passes (R.remaining reader.old) (W.contents out.old) (W.contents out.new)) }
-    ensures declined { IfErr result (λ why. status_of why ≡ Status.Refused
-        → Declines (R.remaining reader.old) why) }
+fn check<W: Write>(alloc: Global, text: &[u8], out: &mut W) -> Result<(), Failure>
+    ensures ok { OnOk result (Gains (IsCounted text.now) (W.contents out.old) (W.contents out.new)) }
+    ensures declined { IfErr result (λ why. status_of why ≡ Status.Refused → Unready text.now why) }
     ensures begun { IfErr result (λ why. status_of why ≡ Status.CannotWrite
-        → PassesFront (R.remaining reader.old) (W.contents out.old) (W.contents out.new)) }
+        → GainsFront (IsCounted text.now) (W.contents out.old) (W.contents out.new)) }
     ensures kept { IfErr result (λ why. status_of why ≢ Status.CannotWrite → out.new ≡ out.old) }
 {
-    let program = program_from(alloc, reader)?;
+    let program = ready_of(alloc, text)?;
     let count = program.count();
     let Ok(line) = format!(in alloc; "ok, {count} actions\n") else {
         return Err(Failure::Memory);

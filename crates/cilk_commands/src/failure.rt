@@ -1,9 +1,9 @@
-ghost use Rattle.std.specs.Prelude.{◌≡◌, OnErr, OnOk};
+ghost use Rattle.std.specs.Prelude.{◌≡◌, ◌++◌, [], OnErr, OnOk};
 ghost use Rattle.std.specs.Io.KnownBytes.{Appends};
 ghost use Rattle.cilk_commands.specs.Front.{AppendsFront};
 ghost use Rattle.cilk_commands.specs.Telling.{fault_line};
 
-use crate::answer::write_parts;
+use crate::answer::{write_parts, write_whole};
 use crate::fault::Fault;
 use crate::status::Status;
 use itoa::Buffer;
@@ -24,6 +24,8 @@ pub enum Failure {
     },
     /// The bytes are not UTF-8.
     NotUtf8,
+    /// The program has a form that does not run so far.
+    NotYet,
     /// The program has more than 65,535 actions.
     TooMany,
     /// Memory has run out.
@@ -41,7 +43,9 @@ impl Failure {
         ensures { result ≡ status_of self.now }
     {
         match self {
-            Failure::Fault { .. } | Failure::NotUtf8 | Failure::TooMany => Status::Refused,
+            Failure::Fault { .. } | Failure::NotUtf8 | Failure::NotYet | Failure::TooMany => {
+                Status::Refused
+            },
             Failure::Memory => Status::Memory,
             Failure::CannotRead => Status::CannotRead,
             Failure::CannotWrite => Status::CannotWrite,
@@ -52,17 +56,36 @@ impl Failure {
     /// A line that cannot be written is lost.
     pub fn report<W: Write>(&self, name: &str, err: &mut W) -> Status
         ensures status { result ≡ status_of self.now }
-        ensures told { Tells name.now self.now (W.contents err.old) (W.contents err.new) }
+        ensures told { Tells name.now self.now [] (W.contents err.old) (W.contents err.new) }
     {
-        let _ = self.tell(name, err);
+        self.report_with(name, "", err)
+    }
+
+    /// Writes the same line, and then what is told behind it, and returns the status.
+    pub(crate) fn report_with<W: Write>(&self, name: &str, behind: &str, err: &mut W) -> Status
+        ensures status { result ≡ status_of self.now }
+        ensures told { Tells name.now self.now behind.now (W.contents err.old) (W.contents err.new) }
+    {
+        let _ = self.tell_all(name, behind, err);
         self.status()
+    }
+
+    #[tactic(auto, using(crate::proofs::Fronts::all_behind, crate::proofs::Fronts::front_before, crate::proofs::Fronts::front_behind))]
+    fn tell_all<W: Write>(&self, name: &str, behind: &str, err: &mut W) -> io::Result<()>
+        ensures ok { OnOk result
+            (Appends (W.contents err.old) (W.contents err.new) (line_of name.now self.now ++ behind.now)) }
+        ensures front { OnErr result
+            (AppendsFront (W.contents err.old) (W.contents err.new) (line_of name.now self.now ++ behind.now)) }
+    {
+        self.tell(name, err)?;
+        write_whole(err, behind.as_bytes())
     }
 
     fn tell<W: Write>(&self, name: &str, err: &mut W) -> io::Result<()>
         ensures ok { OnOk result
             (Appends (W.contents err.old) (W.contents err.new) (line_of name.now self.now)) }
         ensures front { OnErr result
-            (Tells name.now self.now (W.contents err.old) (W.contents err.new)) }
+            (AppendsFront (W.contents err.old) (W.contents err.new) (line_of name.now self.now)) }
     {
         match self {
             Failure::CannotRead => write_parts(err, &["cilk: cannot read ", name, "\n"]),
@@ -82,6 +105,7 @@ impl Failure {
                 )
             }
             Failure::NotUtf8 => write_parts(err, &[name, ": not UTF-8\n"]),
+            Failure::NotYet => write_parts(err, &[name, ": not yet\n"]),
             Failure::TooMany => write_parts(err, &[name, ": N1 TooMany\n"]),
             Failure::Memory => write_parts(err, &["cilk: out of memory\n"]),
             Failure::CannotWrite => write_parts(err, &["cilk: cannot write output\n"]),

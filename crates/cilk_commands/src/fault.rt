@@ -1,6 +1,6 @@
 ghost use Rattle.std.specs.Prelude.{◌≡◌};
 ghost use Rattle.cilk_commands.specs.Place.{place_of};
-ghost use Rattle.cilk_commands.specs.Telling.{check_words, read_words, words_of};
+ghost use Rattle.cilk_commands.specs.Telling.{check_words, lex_words, read_words, words_of};
 
 use cilk_check::CheckFault;
 use cilk_lex::LexFault;
@@ -13,7 +13,7 @@ pub enum Fault {
     /// The text spells no program.
     #[error(transparent)]
     Read(ReadFault),
-    /// The program that the text spells may not be run.
+    /// The program that the text spells breaks a rule.
     #[error(transparent)]
     Check(CheckFault),
 }
@@ -44,12 +44,25 @@ fn read_words(fault: &ReadFault) -> &'static str
     ensures { result.now ≡ read_words fault.now }
 {
     match fault {
-        ReadFault::Lex(LexFault::TooLong) => "L1 TooLong",
-        ReadFault::Lex(LexFault::BadByte(_)) => "L2 BadByte",
-        ReadFault::Lex(LexFault::BadNumber(_)) => "L5 BadNumber",
+        ReadFault::Lex(fault) => lex_words(fault),
         ReadFault::Unexpected(_) => "P2 Unexpected",
         ReadFault::TooDeep(_) => "P3 TooDeep",
-        ReadFault::Lex(LexFault::Memory) | ReadFault::Memory => "out of memory",
+        ReadFault::Memory => "out of memory",
+    }
+}
+
+fn lex_words(fault: &LexFault) -> &'static str
+    ensures { result.now ≡ lex_words fault.now }
+{
+    match fault {
+        LexFault::TooLong => "L1 TooLong",
+        LexFault::BadByte(_) => "L2 BadByte",
+        LexFault::OpenComment(_) => "L3 OpenComment",
+        LexFault::OpenText(_) => "L4 OpenText",
+        LexFault::BadNumber(_) => "L5 BadNumber",
+        LexFault::BadEscape(_) => "L6 BadEscape",
+        LexFault::BadDirective(_) => "L7 BadDirective",
+        LexFault::Memory => "out of memory",
     }
 }
 
@@ -62,9 +75,17 @@ fn check_words(fault: &CheckFault) -> &'static str
         CheckFault::WrongKind(_) => "C3 WrongKind",
         CheckFault::ArgumentCount(_) => "C4 ArgumentCount",
         CheckFault::VoidValue(_) => "C5 VoidValue",
+        CheckFault::NotInProcedure(_) => "C6 NotInProcedure",
+        CheckFault::InletNeedsSpawn(_) => "C7 InletNeedsSpawn",
+        CheckFault::InInlet(_) => "C8 InInlet",
+        CheckFault::AbortOutside(_) => "C9 AbortOutside",
+        CheckFault::NoLoop(_) => "C10 NoLoop",
+        CheckFault::Prototype(_) => "C11 Prototype",
         CheckFault::NoMain(_) => "C12 NoMain",
         CheckFault::ReturnForm(_) => "C13 ReturnForm",
+        CheckFault::Format(_) => "C14 Format",
         CheckFault::Limit(_) => "C15 Limit",
         CheckFault::Reserved(_) => "C16 Reserved",
+        CheckFault::Memory => "out of memory",
     }
 }

@@ -1,22 +1,27 @@
 ghost use Rattle.std.specs.Prelude.{◌≡◌, ◌≢◌, true, false, IfErr, OnOk};
-ghost use Rattle.cilk_commands.specs.Program.{Declines};
+ghost use Rattle.cilk_commands.specs.Front.{Gains, GainsFront};
+ghost use Rattle.cilk_commands.specs.Loading.{Unprinted};
 ghost use Rattle.cilk_commands.specs.Telling.{GivesUp};
-ghost use Rattle.cilk_commands.specs.Printing.{Prints, PrintsFront};
+ghost use Rattle.cilk_commands.specs.Printing.{IsPrinted, Prints, PrintsFront};
 ghost use Rattle.cilk_commands.specs.Status.{status_of, is_answer};
 
 use crate::answer::write_answer;
 use crate::failure::Failure;
-use crate::source::program_from;
+use crate::loading::printable_of;
+use crate::source::read_text;
 use crate::status::Status;
+use crate::telling::tell_of;
+use cilk_tree::canonical;
 use std::alloc::Global;
 use std::io::{Read, Write};
 
-/// Writes the canonical text of the program that the reader holds to `out`, or else the line that
-/// says why not to `err`, where `name` is the name of the text. The answer is made whole before any
-/// of it is written. A line that cannot be written is lost.
+/// Writes the canonical text of the program that the reader holds to `out`, or else the line that says why not to `err`,
+/// where `name` is the name of the text, and behind it, with `explain`, more of a fault in the program. The answer is made
+/// whole before any of it is written. A line that cannot be written is lost.
 pub fn print_text<R: Read, O: Write, E: Write>(
     alloc: Global,
     name: &str,
+    explain: bool,
     reader: &mut R,
     out: &mut O,
     err: &mut E,
@@ -27,8 +32,8 @@ pub fn print_text<R: Read, O: Write, E: Write>(
     ensures only { is_answer result ≡ true → result ≡ Status.Done }
 
     // Where there is no answer.
-    ensures told { is_answer result ≡ false
-        → GivesUp name.now result (R.remaining reader.old) (E.contents err.old) (E.contents err.new) }
+    ensures told { is_answer result ≡ false → GivesUp Unprinted explain name.now result
+        (R.remaining reader.old) (E.contents err.old) (E.contents err.new) }
     ensures begun { result ≡ Status.CannotWrite
         → PrintsFront (R.remaining reader.old) (O.contents out.old) (O.contents out.new) }
 
@@ -36,24 +41,27 @@ pub fn print_text<R: Read, O: Write, E: Write>(
     ensures quiet { is_answer result ≡ true → err.new ≡ err.old }
     ensures kept { is_answer result ≡ false → result ≢ Status.CannotWrite → out.new ≡ out.old }
 {
-    match print(alloc, reader, out) {
+    let bytes = match read_text(alloc, reader) {
+        Ok(bytes) => bytes,
+        Err(failure) => return failure.report(name, err),
+    };
+    let text = bytes.as_slice();
+    match print(alloc, text, out) {
         Ok(()) => Status::Done,
-        Err(failure) => failure.report(name, err),
+        Err(failure) => tell_of(alloc, name, explain, text, &failure, err),
     }
 }
 
-fn print<R: Read, W: Write>(alloc: Global, reader: &mut R, out: &mut W) -> Result<(), Failure>
-    ensures ok { OnOk result
-        (Prints (R.remaining reader.old) (W.contents out.old) (W.contents out.new)) }
-    ensures declined { IfErr result (λ why. status_of why ≡ Status.Refused
-        → Declines (R.remaining reader.old) why) }
+fn print<W: Write>(alloc: Global, text: &[u8], out: &mut W) -> Result<(), Failure>
+    ensures ok { OnOk result (Gains (IsPrinted text.now) (W.contents out.old) (W.contents out.new)) }
+    ensures declined { IfErr result (λ why. status_of why ≡ Status.Refused → Unprinted text.now why) }
     ensures begun { IfErr result (λ why. status_of why ≡ Status.CannotWrite
-        → PrintsFront (R.remaining reader.old) (W.contents out.old) (W.contents out.new)) }
+        → GainsFront (IsPrinted text.now) (W.contents out.old) (W.contents out.new)) }
     ensures kept { IfErr result (λ why. status_of why ≢ Status.CannotWrite → out.new ≡ out.old) }
 {
-    let program = program_from(alloc, reader)?;
-    let Ok(text) = program.text() else {
+    let program = printable_of(alloc, text)?;
+    let Ok(answer) = canonical(alloc, program.program()) else {
         return Err(Failure::Memory);
     };
-    write_answer(out, text.as_bytes())
+    write_answer(out, answer.as_bytes())
 }

@@ -1,21 +1,19 @@
 ghost use Rattle.std.specs.Prelude.{◌≡◌, ◌≤◌, ◌<◌, ◌↔◌, length, IfOk, IfErr, IsErrOf, IsUtf8, MatchResult};
-ghost use Rattle.cilk_lex.specs.Place.{line_of, column_of};
-ghost use Rattle.cilk_tree.specs.Tree as tree;
+ghost use Rattle.cilk_lexeme.specs.Place.{line_of, column_of};
+ghost use Rattle.cilk_syntax.specs.Tree as tree;
 ghost use Rattle.cilk_commands.specs.Program.{Explains, IsProgram};
 ghost use Rattle.cilk_commands.specs.Place.{place_of};
 
 use crate::failure::Failure;
 use crate::fault::Fault;
-use cilk_check::check;
+use cilk_check::{CheckFault, Checked, check};
 use cilk_lex::{LexFault, TEXT_LIMIT, line_col};
-use cilk_load::{LoadFault, Loaded, load};
 use cilk_parse::{ReadFault, read};
 use std::alloc::Global;
 
-/// The program that the bytes of a text spell, ready to run. What is wrong is told in this order:
-/// the length of the text, that it is not UTF-8, its tokens and its grammar, its names, and the
-/// number of its actions.
-pub fn program_of(alloc: Global, bytes: &[u8]) -> Result<Loaded, Failure>
+/// The program that the bytes of a text are. What is wrong is told in this order: the length of the text, that it is not
+/// UTF-8, its tokens and its grammar, and the rules that no grammar says.
+pub fn program_of(alloc: Global, bytes: &[u8]) -> Result<Checked, Failure>
     ensures ok { IfOk result (IsProgram bytes.now) }
     ensures err { IfErr result (Explains bytes.now) }
     ensures every_program { (p : tree.Program) → IsProgram bytes.now p
@@ -42,19 +40,14 @@ pub fn program_of(alloc: Global, bytes: &[u8]) -> Result<Loaded, Failure>
         Err(ReadFault::Memory) => return Err(Failure::Memory),
         Err(fault) => return Err(fault_in(text, Fault::Read(fault))),
     };
-    let checked = match check(program) {
-        Ok(checked) => checked,
-        Err(fault) => return Err(fault_in(text, Fault::Check(fault))),
-    };
-    match load(alloc, checked) {
-        Ok(loaded) => Ok(loaded),
-        Err(LoadFault::TooMany) => Err(Failure::TooMany),
-        Err(LoadFault::Memory) => Err(Failure::Memory),
+    match check(alloc, program) {
+        Ok(checked) => Ok(checked),
+        Err(CheckFault::Memory) => Err(Failure::Memory),
+        Err(fault) => Err(fault_in(text, Fault::Check(fault))),
     }
 }
 
 fn fault_in(text: &str, fault: Fault) -> Failure
-    requires inside { place_of fault ≤ length text.now }
     requires short { length text.now ≤ TEXT_LIMIT }
     ensures { let at = place_of fault in
         result ≡ Failure.Fault fault (line_of text.now at) (column_of text.now at) }

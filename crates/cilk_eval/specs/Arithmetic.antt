@@ -2,10 +2,10 @@
 use Rattle.std.specs.Prelude.{◌^◌, ℤ, pos, negsuc, ◌+ℤ◌, ◌-ℤ◌, ◌*ℤ◌, neg_ℤ, Bool, true, false, not, ◌&&◌, ◌||◌, if◌then◌else◌, int_lt, int_le, int_div, int_rem, unsigned_abs, Result, Ok, Err}
 use Rattle.std.specs.Int.{w32, int_div_euclid, int_bit_and, int_bit_or, int_bit_xor, int_bit_not}
 use Rattle.std.specs.Ordering.{int_eq}
-use Rattle.cilk_tree.specs.declared.operator.BinOp.{BinOp}
-use Rattle.cilk_tree.specs.declared.operator.BinOp.TheVariants.{Multiply, Divide, Remainder, Add, Subtract, ShiftLeft, ShiftRight, Less, LessOrEqual, Greater, GreaterOrEqual, Equal, NotEqual, BitAnd, BitXor, BitOr, And, Or}
-use Rattle.cilk_tree.specs.declared.un_op.UnOp.{UnOp}
-use Rattle.cilk_tree.specs.declared.un_op.UnOp.TheVariants.{Minus, Plus, Not, Complement}
+use Rattle.cilk_core.specs.declared.operator.BinOp.{BinOp}
+use Rattle.cilk_core.specs.declared.operator.BinOp.TheVariants.{Multiply, Divide, Remainder, Add, Subtract, ShiftLeft, ShiftRight, Less, LessOrEqual, Greater, GreaterOrEqual, Equal, NotEqual, BitAnd, BitXor, BitOr, And, Or}
+use Rattle.cilk_core.specs.declared.un_op.UnOp.{UnOp}
+use Rattle.cilk_core.specs.declared.un_op.UnOp.TheVariants.{Minus, Plus, Not, Complement}
 use Rattle.cilk_eval.specs.declared.trap.Trap.{Trap}
 use Rattle.cilk_eval.specs.declared.trap.Trap.TheVariants.{Overflow, ZeroDivide, Shift}
 

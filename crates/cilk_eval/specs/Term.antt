@@ -1,7 +1,7 @@
 -- Expressions whose variables are places of any kind P, as declarations of the text or slots in memory (C 1990, 6.3).
 use Rattle.std.specs.Prelude.{ℕ, ⊤}
-use Rattle.cilk_tree.specs.declared.operator.BinOp.{BinOp}
-use Rattle.cilk_tree.specs.declared.un_op.UnOp.{UnOp}
+use Rattle.cilk_core.specs.declared.operator.BinOp.{BinOp}
+use Rattle.cilk_core.specs.declared.un_op.UnOp.{UnOp}
 
 pub data Term (P : Type 0) : Type 0 where
   number : (n : ℕ) → Term P

@@ -1,7 +1,7 @@
 -- The value of an expression: a number, or the first trap from the left (C 1990, 6.3).
 use Rattle.std.specs.Prelude.{◌≡◌, ◌<◌, ℕ, ℤ, pos, negsuc, Bool, if◌then◌else◌, nat_lt, Option, Some, None, Result, Ok, Err}
-use Rattle.cilk_tree.specs.declared.operator.BinOp.{BinOp}
-use Rattle.cilk_tree.specs.declared.operator.BinOp.TheVariants.{And, Or}
+use Rattle.cilk_core.specs.declared.operator.BinOp.{BinOp}
+use Rattle.cilk_core.specs.declared.operator.BinOp.TheVariants.{And, Or}
 use Rattle.cilk_eval.specs.declared.trap.Trap.{Trap}
 use Rattle.cilk_eval.specs.declared.trap.Trap.TheVariants.{Index}
 use Rattle.cilk_eval.specs.Arithmetic.{exact, truth, is_zero, binary_result, unary_result}

@@ -10,7 +10,7 @@ use crate::code::{Code, CodeNode};
 use crate::slot::Slot;
 use crate::slots::Slots;
 use crate::trap::Trap;
-use cilk_tree::BinOp;
+use cilk_core::BinOp;
 
 /// The value of an expression, or the first trap from the left (C 1990, 6.3). `&&`, `||` and `?:`
 /// evaluate only the operands that they need. Each slot in the expression lies in its area, which

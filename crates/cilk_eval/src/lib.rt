@@ -13,7 +13,7 @@ mod trap;
 
 pub use area::Area;
 pub use arithmetic::{apply, unary};
-pub use cilk_tree::Memory;
+pub use cilk_core::Memory;
 pub use code::{Code, CodeNode};
 pub use evaluate::eval;
 pub use laws::{quotients_are_rounded, value_is_of_what_is_read};

@@ -1,7 +1,7 @@
 ghost use Rattle.std.specs.Prelude.{◌≤◌, length};
 
 use cilk_lexeme::{Kind, Mark, Token};
-use cilk_scan::line_col;
+use cilk_lex::line_col;
 
 /// A text and its tokens.
 #[derive(Clone, Copy)]
@@ -41,11 +41,10 @@ impl<'a> Source<'a> {
 
     /// The line of a place.
     pub(crate) fn line(self, at: u32) -> usize {
-        let inside = at.min(u32::MAX - 1);
-        if inside as usize > self.text.len() {
+        if self.text.len() >= u32::MAX as usize {
             return 1;
         }
-        line_col(self.text, inside).0 as usize
+        line_col(self.text, at).0 as usize
     }
 
     /// Whether the scope of what is declared at the first place goes on at the second, where so many braces of that scope

@@ -10,7 +10,7 @@ use crate::site::Site;
 use crate::source::Source;
 use crate::told::Told;
 use cilk_lexeme::{LexFault, Token};
-use cilk_scan::tokens;
+use cilk_lex::tokens;
 use cilk_syntax::Memory;
 use std::alloc::{AllocError, Global};
 

@@ -2,8 +2,8 @@
 use Rattle.std.proofs.Common.{◌≡◌, ℕ, zero, suc, ◌+◌, ◌-◌, ◌<◌, ℤ, pos, List, [], ◌∷◌, ◌++◌, length, map, Option, Some, refl, sym, ap, ◌∙◌, subst, arith}
 use Rattle.std.specs.Prelude.{slice_get, slice_index_or, replicate, unwrap_or, ⊤}
 use Rattle.std.proofs.lemmas.List.{length-replicate, replicate-append-replicate}
-use Rattle.cilk_tree.specs.Tree as tree
-use Rattle.cilk_tree.specs.Parameters.{parameter_decl}
+use Rattle.cilk_core.specs.Tree as tree
+use Rattle.cilk_core.specs.Parameters.{parameter_decl}
 use Rattle.cilk_model.specs.Labelled.{Variable, Stmts, none, also, action, Body}
 use Rattle.cilk_model.specs.Items.{opened, pieces, closing_items}
 use Rattle.cilk_model.specs.Values.{Cell, initial_values}

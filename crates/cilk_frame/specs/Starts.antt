@@ -1,6 +1,6 @@
 -- Bodies at their start.
 use Rattle.std.specs.Prelude.{◌≡◌, ℕ, ◌-◌, ℤ, pos, false, List, [], ◌∷◌, ◌++◌, length, replicate, Option, Some, None}
-use Rattle.cilk_tree.specs.Tree.{Program}
+use Rattle.cilk_core.specs.Tree.{Program}
 use Rattle.cilk_load.specs.declared.body.Body.{Body}
 use Rattle.cilk_load.specs.Bodies.{body_of}
 use Rattle.cilk_frame.specs.declared.awaited.Await.{Await}

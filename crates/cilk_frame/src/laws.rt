@@ -2,7 +2,7 @@
 //! what is proved.
 
 ghost use Rattle.std.specs.Prelude.{◌≡◌, ◌<◌, ◌&&◌, ◌∷◌, ℕ, ℤ, Bool, not, true, List, Option, Some, length, map, nat_lt};
-ghost use Rattle.cilk_tree.specs.Tree.{Program};
+ghost use Rattle.cilk_core.specs.Tree.{Program};
 ghost use Rattle.cilk_eval.specs.Term.{Term, rename};
 ghost use Rattle.cilk_eval.specs.Value.{value_of};
 ghost use Rattle.cilk_eval.specs.Slots as slots;

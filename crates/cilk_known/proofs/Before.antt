@@ -1,8 +1,8 @@
 -- What the instance of a frame has before it.
 use Rattle.std.proofs.Common.{◌≡◌, ℕ, true, Option, Some, None, refl, sym, ap, ◌∙◌, subst}
 use Rattle.std.specs.Prelude.{option_map}
-use Rattle.cilk_tree.specs.Tree as tree
-use Rattle.cilk_check.specs.Fault.{WellFormed}
+use Rattle.cilk_core.specs.Tree as tree
+use Rattle.cilk_core_check.specs.Fault.{WellFormed}
 use Rattle.cilk_model.specs.Label.{label}
 use Rattle.cilk_model.specs.Items.{Items, Head, head_of, opened, next}
 use Rattle.cilk_model.specs.Instance.{Instance, body_at}

@@ -3,11 +3,11 @@ use Rattle.std.proofs.Common.{◌≡◌, ℕ, zero, suc, ◌+◌, ◌<◌, ◌�
 use Rattle.std.specs.Prelude.{slice_index_or}
 use Rattle.std.specs.List.{Contains}
 use Rattle.std.proofs.lemmas.List.{length-map}
-use Rattle.cilk_tree.specs.Tree as tree
-use Rattle.cilk_tree.specs.Parameters.{parameter_decl}
-use Rattle.cilk_check.specs.Names.{decls_of}
-use Rattle.cilk_check.specs.Scope.{Defines}
-use Rattle.cilk_check.specs.Fault.{WellFormed}
+use Rattle.cilk_core.specs.Tree as tree
+use Rattle.cilk_core.specs.Parameters.{parameter_decl}
+use Rattle.cilk_core_check.specs.Names.{decls_of}
+use Rattle.cilk_core_check.specs.Scope.{Defines}
+use Rattle.cilk_core_check.specs.Fault.{WellFormed}
 use Rattle.cilk_model.specs.Declaration.{local}
 use Rattle.cilk_model.specs.Count.{count_item}
 use Rattle.cilk_model.specs.Label.{variable_of, block_variables, stmts_variables, label_items, file_scope, label}

@@ -1,8 +1,8 @@
 -- What the names of the top level mean.
 use Rattle.std.proofs.Common.{◌≡◌, ℕ, suc, ◌+◌, ◌<◌, Bool, true, false, cond, List, [], ◌∷◌, length, Some, sym, ap, ◌∙◌, subst, arith}
 use Rattle.std.specs.Prelude.{bytes_eq, slice_index_or, if◌then◌else◌}
-use Rattle.cilk_tree.specs.Tree as tree
-use Rattle.cilk_check.specs.Scope.{first_named}
+use Rattle.cilk_core.specs.Tree as tree
+use Rattle.cilk_core_check.specs.Scope.{first_named}
 use Rattle.cilk_model.specs.Declaration.{Declaration, global}
 use Rattle.cilk_model.specs.Scope.{newest_of, callee_of}
 use Rattle.cilk_model.specs.Labelled as labelled

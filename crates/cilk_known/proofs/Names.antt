@@ -6,14 +6,14 @@ use Rattle.std.proofs.lemmas.Slice.Eq.{bytes_eq-Decides}
 use Rattle.std.proofs.lemmas.List.{length-map}
 use Rattle.std.proofs.lemmas.List.Concat.{flat_map-cons}
 use Rattle.std.proofs.lemmas.List.Elements.{Contains-append_left, Contains-append_right, All-nil, All-cons}
-use Rattle.cilk_tree.specs.Tree as tree
-use Rattle.cilk_tree.specs.Tree.{Word}
-use Rattle.cilk_tree.specs.Parameters.{parameter_decl}
-use Rattle.cilk_check.specs.Names.{Use, variable, callee, expr_uses, value_uses, taker_uses, takes_value, stmts_uses, decls_of, stmts_of, declared, IsAmong, own_decls}
-use Rattle.cilk_check.specs.Scope.{Defines, Uses, in_initialiser, in_statement, first_named, of_body, of_top_level}
-use Rattle.cilk_check.specs.Fault.{WellFormed}
-use Rattle.cilk_check.proofs.Elements.{HasElement, HasElement-from_Contains, Contains-from_HasElement, map_between}
-use Rattle.cilk_check.proofs.WellFormedLaws.{used_is_visible, spawned_is_callee}
+use Rattle.cilk_core.specs.Tree as tree
+use Rattle.cilk_core.specs.Tree.{Word}
+use Rattle.cilk_core.specs.Parameters.{parameter_decl}
+use Rattle.cilk_core_check.specs.Names.{Use, variable, callee, expr_uses, value_uses, taker_uses, takes_value, stmts_uses, decls_of, stmts_of, declared, IsAmong, own_decls}
+use Rattle.cilk_core_check.specs.Scope.{Defines, Uses, in_initialiser, in_statement, first_named, of_body, of_top_level}
+use Rattle.cilk_core_check.specs.Fault.{WellFormed}
+use Rattle.cilk_core_check.proofs.Elements.{HasElement, HasElement-from_Contains, Contains-from_HasElement, map_between}
+use Rattle.cilk_core_check.proofs.WellFormedLaws.{used_is_visible, spawned_is_callee}
 use Rattle.cilk_model.specs.Declaration.{Declaration, local, global}
 use Rattle.cilk_model.specs.Scope.{Scope, meaning_of, callee_of, place_among, with_local, with_locals, label_expr}
 use Rattle.cilk_model.specs.Labelled.{action, Stmts, none, also, Labelled}

@@ -1,6 +1,6 @@
 -- A body takes as many arguments as it has parameters.
 use Rattle.std.proofs.Common.{◌≡◌, ℕ, ◌<◌, ℤ, List, length, sym, subst}
-use Rattle.cilk_tree.specs.Tree.{Program}
+use Rattle.cilk_core.specs.Tree.{Program}
 use Rattle.cilk_model.specs.Label.{label}
 use Rattle.cilk_model.specs.Instance.{body_at}
 use Rattle.cilk_load.specs.Bodies.{body_of}

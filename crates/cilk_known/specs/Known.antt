@@ -1,6 +1,6 @@
 -- What the action before an instance uses, and what comes behind it.
 use Rattle.std.specs.Prelude.{◌≡◌, ℕ, ◌<◌, true, ⊤, IsSome, length, Some, All}
-use Rattle.cilk_tree.specs.Tree as tree
+use Rattle.cilk_core.specs.Tree as tree
 use Rattle.cilk_model.specs.Labelled.{Target, variable, Taker, nothing, into, Action, assign, return_with, close, assign_by, null, return_nothing, spawn, sync, Labelled}
 use Rattle.cilk_model.specs.Label.{label}
 use Rattle.cilk_model.specs.Items.{Head, head_of, opened, next}

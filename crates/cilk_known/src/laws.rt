@@ -2,8 +2,8 @@
 //! the law.
 
 ghost use Rattle.std.specs.Prelude.{◌≡◌, ◌<◌, ℕ, ℤ, List, length};
-ghost use Rattle.cilk_tree.specs.Tree.{Program};
-ghost use Rattle.cilk_check.specs.Fault.{WellFormed};
+ghost use Rattle.cilk_core.specs.Tree.{Program};
+ghost use Rattle.cilk_core_check.specs.Fault.{WellFormed};
 ghost use Rattle.cilk_model.specs.Label.{label};
 ghost use Rattle.cilk_model.specs.Instance.{Instance, body_at};
 ghost use Rattle.cilk_load.specs.Bodies.{body_of};

@@ -1,10 +1,9 @@
-pub mod Forms
+pub mod Cuts
 pub mod Fronts
+pub mod Headers
 pub mod Loop
-pub mod Marks
-pub mod Numbers
-pub mod Readings
+pub mod Loops
 pub mod Refusals
-pub mod Runs
-pub mod Same
-pub mod Unique
+pub mod Texts
+pub mod Values
+pub mod Within

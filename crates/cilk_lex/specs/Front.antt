@@ -1,10 +1,14 @@
 -- What was found at the front of a text.
-use Rattle.std.specs.Prelude.{ℕ, ◌≤◌, List, length, take, drop, option_map}
-use Rattle.cilk_lex.specs.declared.front.Found.{Found}
-use Rattle.cilk_lex.specs.Lexeme.{lexeme_of}
-use Rattle.cilk_lex.specs.Lexing.{Front}
+use Rattle.std.specs.Prelude.{◌≡◌, List, ℕ, take, option_map, Result, MatchResult}
+use Rattle.cilk_lexeme.specs.declared.fault.LexFault.{LexFault}
+use Rattle.cilk_lexeme.specs.Lexeme.{lexeme_of}
+use Rattle.cilk_lexeme.specs.Sight.{Sight, found, amiss}
+use Rattle.cilk_lex.specs.declared.found.Found.{Found}
 
--- the first bytes of the text are the token, or the blank
-pub record IsFound (text : List ℕ) (f : Found) : Type 0 where
-  pub in_text : f.end ≤ length text
-  pub front : Front (take f.end text) (drop f.end text) (option_map (lexeme_of (take f.end text)) f.kind)
+-- what was found is what is seen there: a token of these bytes, or a blank
+abbrev pub IsSeen : List ℕ → Sight → Found → Type 0
+IsSeen text s f = s ≡ found f.end (option_map (lexeme_of (take f.end text)) f.kind)
+
+-- and so is a fault
+abbrev pub Finds : List ℕ → Sight → Result Found LexFault → Type 0
+Finds text s r = MatchResult r (IsSeen text s) (λ f. s ≡ amiss f)

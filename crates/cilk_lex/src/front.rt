@@ -1,83 +1,26 @@
 //! What a text begins with.
 
-ghost use Rattle.std.specs.Prelude.{◌≡◌, ◌≢◌, ◌<◌, ◌≤◌, ◌++◌, List, ℕ, length, take, IsTrue, MatchOption, MatchResult, slice_index};
+ghost use Rattle.std.specs.Prelude.{◌≡◌, ◌≢◌, ◌<◌, ◌≤◌, ◌+◌, ◌^◌, ◌++◌, codes, List, ℕ, length, take, ◌==◌, ◌||◌, ◌&&◌, IsTrue, MatchOption, slice_index};
 ghost use Rattle.std.specs.Char.{is_ascii_digit};
-ghost use Rattle.std.specs.List.{prefix_len};
-ghost use Rattle.cilk_lex.specs.declared.mark.Mark.{Mark};
-ghost use Rattle.cilk_lex.specs.Byte.{is_blank, begins_name, continues_name, continues_number};
-ghost use Rattle.cilk_lex.specs.Lexing.{Faulty};
-ghost use Rattle.cilk_lex.specs.Front.{IsFound};
-ghost use Rattle.cilk_lex.specs.Spelling.{mark_spelling};
+ghost use Rattle.cilk_lexeme.specs.declared.mark.Mark.{Mark};
+ghost use Rattle.cilk_lexeme.specs.Byte.{begins_name, is_space};
+ghost use Rattle.cilk_lexeme.specs.Lexing.{fresh_behind};
+ghost use Rattle.cilk_lexeme.specs.Sight.{sight, name_sight, number_sight, mark_in, mark_sight, comment_sight};
+ghost use Rattle.cilk_lex.specs.Front.{IsSeen, Finds};
 
-use crate::fault::LexFault;
-use crate::mark::Mark;
+use crate::bytes::{begins_name, is_blank, is_space, name_end, number_end};
+use crate::found::Found;
+use crate::inclusion::first_include;
+use crate::literal::first_text;
 use crate::spelling::{keyword_of, mark_of, number_of};
-use crate::token::Kind;
-
-/// The token at the front of a text, or none for a blank, and how many bytes it takes.
-#[derive(Clone, Copy)]
-pub(crate) struct Found {
-    pub(crate) kind: Option<Kind>,
-    pub(crate) end: usize,
-}
-
-impl Found {
-    fn mark(mark: Mark, end: usize) -> Found
-        ensures { result ≡ record { kind = Some (Kind.Mark mark); end = end } }
-    {
-        Found {
-            kind: Some(Kind::Mark(mark)),
-            end,
-        }
-    }
-}
-
-fn is_blank(byte: u8) -> bool
-    ensures { result ≡ is_blank byte }
-{
-    byte == b' ' || (9..=13).contains(&byte)
-}
-
-fn begins_name(byte: u8) -> bool
-    ensures { result ≡ begins_name byte }
-{
-    byte.is_ascii_alphabetic() || byte == b'_'
-}
-
-fn continues_name(byte: u8) -> bool
-    ensures { result ≡ continues_name byte }
-{
-    begins_name(byte) || byte.is_ascii_digit()
-}
-
-fn continues_number(byte: u8) -> bool
-    ensures { result ≡ continues_number byte }
-{
-    continues_name(byte) || byte == b'.'
-}
-
-fn name_end(text: &str) -> usize
-    ensures { result ≡ prefix_len continues_name text.now }
-{
-    text.bytes()
-        .take_while(|byte| continues_name(*byte))
-        .count()
-}
-
-fn number_end(text: &str) -> usize
-    ensures { result ≡ prefix_len continues_number text.now }
-{
-    text.bytes()
-        .take_while(|byte| continues_number(*byte))
-        .count()
-}
+use cilk_lexeme::{Kind, LexFault, Mark};
 
 fn first_name(text: &str) -> Found
     requires some { 0 < length text.now }
     requires letter { IsTrue (begins_name (slice_index text.now 0)) }
-    ensures { IsFound text.now result }
+    ensures { IsSeen text.now (name_sight text.now) result }
 {
-    let end = name_end(text);
+    let end = name_end(text.as_bytes());
     let kind = match keyword_of(&text[..end]) {
         Some(word) => Kind::Word(word),
         None => Kind::Name,
@@ -91,9 +34,9 @@ fn first_name(text: &str) -> Found
 fn first_number(text: &str, at: u32) -> Result<Found, LexFault>
     requires some { 0 < length text.now }
     requires digit { IsTrue (is_ascii_digit (slice_index text.now 0)) }
-    ensures { MatchResult result (IsFound text.now) (Faulty at text.now) }
+    ensures { Finds text.now (number_sight at text.now) result }
 {
-    let end = number_end(text);
+    let end = number_end(text.as_bytes());
     match number_of(&text[..end]) {
         Some(value) => Ok(Found {
             kind: Some(Kind::Number(value)),
@@ -105,32 +48,55 @@ fn first_number(text: &str, at: u32) -> Result<Found, LexFault>
 
 // The mark that the first `end` bytes of the text are.
 fn mark_within(text: &str, end: usize) -> Option<Mark>
-    ensures { MatchOption result
-        (end ≤ length text.now → (m : Mark) → take end text.now ≢ mark_spelling m)
-        (λ m. (end ≤ length text.now) × (take end text.now ≡ mark_spelling m)) }
+    ensures { result ≡ mark_in end text.now }
 {
     mark_of(text.get(..end)?)
 }
 
-// The longest mark with which the text begins: no mark has more than three bytes.
-fn first_mark(text: &str) -> Option<Found>
-    ensures { MatchOption result
-        ((m : Mark) (rest : List ℕ) → text.now ≢ mark_spelling m ++ rest) (IsFound text.now) }
+fn found_mark(mark: Mark, end: usize) -> Result<Found, LexFault>
+    ensures { result ≡ Ok (record { kind = Some (Kind.Mark mark); end = end }) }
 {
-    if let Some(mark) = mark_within(text, 3) {
-        return Some(Found::mark(mark, 3));
-    }
-    if let Some(mark) = mark_within(text, 2) {
-        return Some(Found::mark(mark, 2));
-    }
-    let mark = mark_within(text, 1)?;
-    Some(Found::mark(mark, 1))
+    Ok(Found {
+        kind: Some(Kind::Mark(mark)),
+        end,
+    })
 }
 
-/// What a text begins with, whose first byte has the place `at`.
-pub(crate) fn first(text: &str, at: u32) -> Result<Found, LexFault>
-    requires { 0 < length text.now }
-    ensures { MatchResult result (IsFound text.now) (Faulty at text.now) }
+// The longest mark with which the text begins: no mark has more than three bytes.
+fn first_mark(text: &str, at: u32) -> Result<Found, LexFault>
+    ensures { Finds text.now (mark_sight at text.now) result }
+{
+    if let Some(mark) = mark_within(text, 3) {
+        return found_mark(mark, 3);
+    }
+    if let Some(mark) = mark_within(text, 2) {
+        return found_mark(mark, 2);
+    }
+    match mark_within(text, 1) {
+        Some(mark) => found_mark(mark, 1),
+        None => Err(LexFault::BadByte(at)),
+    }
+}
+
+// The comment of which this stands behind the two bytes that open it (C 1990, 6.1.9).
+fn first_comment(behind: &str, at: u32) -> Result<Found, LexFault>
+    ensures { (text : List ℕ) → text ≡ codes "/*" ++ behind.now → Finds text (comment_sight at text) result }
+{
+    match behind.find("*/") {
+        Some(end) => Ok(Found {
+            kind: None,
+            end: end + 4,
+        }),
+        None => Err(LexFault::OpenComment(at)),
+    }
+}
+
+/// What a text begins with, whose first byte has the place `at`. Before it on its line stand nothing but spaces and tabs,
+/// if it is `fresh`.
+pub(crate) fn first(text: &str, fresh: bool, at: u32) -> Result<Found, LexFault>
+    requires some { 0 < length text.now }
+    requires fits { at + length text.now < 2 ^ 32 }
+    ensures { Finds text.now (sight fresh at text.now) result }
 {
     let byte = text.as_bytes()[0];
     if is_blank(byte) {
@@ -142,5 +108,31 @@ pub(crate) fn first(text: &str, at: u32) -> Result<Found, LexFault>
     if byte.is_ascii_digit() {
         return first_number(text, at);
     }
-    first_mark(text).ok_or(LexFault::BadByte(at))
+    if let Some(behind) = text.strip_prefix('"') {
+        return first_text(behind.as_bytes(), at);
+    }
+    if let Some(line) = text.strip_prefix('#') {
+        return first_include(line.as_bytes(), fresh, at);
+    }
+    match text.strip_prefix("/*") {
+        Some(behind) => first_comment(behind, at),
+        None => first_mark(text, at),
+    }
+}
+
+fn fresh_after(fresh: bool, byte: u8) -> bool
+    ensures { result ≡ (byte == 10 || (is_space byte && fresh)) }
+{
+    byte == b'\n' || (is_space(byte) && fresh)
+}
+
+/// Whether nothing but spaces and tabs stand on its line before the place behind a front.
+pub(crate) fn fresh_behind(fresh: bool, front: &[u8]) -> bool
+    ensures { result ≡ fresh_behind fresh front.now }
+{
+    let mut behind = fresh;
+    for byte in front {
+        behind = fresh_after(behind, *byte);
+    }
+    behind
 }

@@ -1,16 +1,16 @@
-ghost use Rattle.std.specs.Prelude.{◌≡◌, ◌≤◌, ◌<◌, ◌-◌, ◌^◌, length};
-ghost use Rattle.cilk_lex.specs.Place.{line_of, column_of};
+ghost use Rattle.std.specs.Prelude.{◌≡◌, ◌<◌, ◌-◌, ◌^◌, length, take};
+ghost use Rattle.cilk_lexeme.specs.Place.{line_of, column_of};
 
-/// The line and the column of a place in a text, in bytes from its beginning. Both count from 1.
+/// The line and the column of a place in a text, in bytes from its beginning. Both count from 1. Behind the text's end
+/// they are those of its end.
 pub fn line_col(text: &str, at: u32) -> (u32, u32)
-    requires inside { at ≤ length text.now }
-    requires fits { at < 2 ^ 32 - 1 }
+    requires fits { length text.now < 2 ^ 32 - 1 }
     ensures line { result.0 ≡ line_of text.now at }
     ensures column { result.1 ≡ column_of text.now at }
 {
     let mut line = 1;
     let mut column = 1;
-    for byte in &text.as_bytes()[..at as usize] {
+    for byte in before(text.as_bytes(), at as usize) {
         if *byte == b'\n' {
             line += 1;
             column = 1;
@@ -19,4 +19,14 @@ pub fn line_col(text: &str, at: u32) -> (u32, u32)
         }
     }
     (line, column)
+}
+
+// As many bytes from the beginning, or all where there are fewer.
+fn before(bytes: &[u8], count: usize) -> &[u8]
+    ensures { result.now ≡ take count bytes.now }
+{
+    if count >= bytes.len() {
+        return bytes;
+    }
+    &bytes[..count]
 }

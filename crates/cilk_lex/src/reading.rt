@@ -1,12 +1,11 @@
-ghost use Rattle.std.specs.Prelude.{◌≡◌, ℕ, ◌<◌, ◌≤◌, ◌⊎◌, ◌↔◌, List, length, All, IfOk, IfErr, MatchResult};
-ghost use Rattle.cilk_lex.specs.declared.fault.LexFault.{LexFault};
-ghost use Rattle.cilk_lex.specs.Lexeme.{Piece, pieces_of};
-ghost use Rattle.cilk_lex.specs.Lexing.{Lexes, Faulty, text_limit};
+ghost use Rattle.std.specs.Prelude.{◌≡◌, true, ℕ, ◌<◌, ◌≤◌, ◌⊎◌, ◌↔◌, List, length, All, IfOk, IfErr, MatchResult};
+ghost use Rattle.cilk_lexeme.specs.declared.fault.LexFault.{LexFault};
+ghost use Rattle.cilk_lexeme.specs.Lexeme.{Piece, pieces_of};
+ghost use Rattle.cilk_lexeme.specs.Lexing.{Lexes, Faulty, text_limit};
 ghost use Rattle.cilk_lex.specs.Reading.{IsWithin, Refuses};
 
-use crate::fault::LexFault;
-use crate::front::first;
-use crate::token::Token;
+use crate::front::{first, fresh_behind};
+use cilk_lexeme::{LexFault, Token};
 use std::alloc::Global;
 
 /// The most bytes that a text may have.
@@ -16,14 +15,14 @@ pub const TEXT_LIMIT: usize = 1_048_576;
 /// fault from the left is the one that is reported (C 1990, 6.1).
 pub fn tokens(alloc: Global, text: &str) -> Result<Vec<Token>, LexFault>
     ensures too_long { (result ≡ Err LexFault.TooLong) ↔ (text_limit < length text.now) }
-    ensures tokens { IfOk result (λ ts. Lexes 0 text.now (pieces_of text.now ts.items)) }
+    ensures tokens { IfOk result (λ ts. Lexes true 0 text.now (pieces_of text.now ts.items)) }
     ensures within { IfOk result (λ ts. All (IsWithin text.now) ts.items) }
     ensures refused { IfErr result (Refuses text.now) }
 
     // Both ways, unless memory runs out.
-    ensures every_text { length text.now ≤ text_limit → (ps : List Piece) → Lexes 0 text.now ps
+    ensures every_text { length text.now ≤ text_limit → (ps : List Piece) → Lexes true 0 text.now ps
         → MatchResult result (λ ts. pieces_of text.now ts.items ≡ ps) (λ f. f ≡ LexFault.Memory) }
-    ensures every_fault { length text.now ≤ text_limit → (f : LexFault) → Faulty 0 text.now f
+    ensures every_fault { length text.now ≤ text_limit → (f : LexFault) → Faulty true 0 text.now f
         → MatchResult result (λ _. ⊥) (λ g. (g ≡ f) ⊎ (g ≡ LexFault.Memory)) }
 {
     if text.len() > TEXT_LIMIT {
@@ -32,12 +31,14 @@ pub fn tokens(alloc: Global, text: &str) -> Result<Vec<Token>, LexFault>
     let mut found = Vec::new(alloc);
     let mut rest = text;
     let mut start: u32 = 0;
+    let mut fresh = true;
     while !rest.is_empty() {
-        let front = first(rest, start)?;
+        let front = first(rest, fresh, start)?;
         let end = start + front.end as u32;
         if let Some(kind) = front.kind {
             found.push(Token { kind, start, end })?;
         }
+        fresh = fresh_behind(fresh, &rest.as_bytes()[..front.end]);
         rest = &rest[front.end..];
         start = end;
     }

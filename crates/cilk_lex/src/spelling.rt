@@ -1,12 +1,16 @@
 //! The lexemes that are told apart by their bytes alone.
 
-ghost use Rattle.std.specs.Prelude.{◌≡◌, ◌≢◌, ℕ, MatchOption};
-ghost use Rattle.cilk_lex.specs.declared.keyword.Keyword.{Keyword};
-ghost use Rattle.cilk_lex.specs.declared.mark.Mark.{Mark};
-ghost use Rattle.cilk_lex.specs.Spelling.{spelling, mark_spelling, IsNumber};
+ghost use Rattle.std.specs.Prelude.{◌≡◌, ◌≢◌, ℕ, ◌≤◌, IsTrue, MatchOption};
+ghost use Rattle.std.specs.List.{list_all};
+ghost use Rattle.cilk_lexeme.specs.Byte.{continues_number};
+ghost use Rattle.cilk_lexeme.specs.declared.keyword.Keyword.{Keyword};
+ghost use Rattle.cilk_lexeme.specs.declared.mark.Mark.{Mark};
+ghost use Rattle.cilk_lexeme.specs.declared.header.Header.{Header};
+ghost use Rattle.cilk_lexeme.specs.Spelling.{spelling, mark_spelling, header_spelling, has_number_form};
+ghost use Rattle.cilk_lexeme.specs.Sight.{valued, number_in};
 
-use crate::keyword::Keyword;
-use crate::mark::Mark;
+use crate::bytes::is_x;
+use cilk_lexeme::{Header, Keyword, Mark};
 
 const INT_MAX: u32 = 2147483647;
 
@@ -88,17 +92,41 @@ pub(crate) fn mark_of(text: &str) -> Option<Mark>
     }
 }
 
-/// The value of an integer constant, where the text is one.
-pub(crate) fn number_of(text: &str) -> Option<u32>
-    ensures { MatchOption result ((n : ℕ) → IsNumber text.now n → ⊥) (λ n. IsNumber text.now n) }
+pub(crate) fn header_of(name: &[u8]) -> Option<Header>
+    ensures { MatchOption result
+        ((h : Header) → name.now ≢ header_spelling h) (λ h. name.now ≡ header_spelling h) }
 {
-    if text == "0" {
-        return Some(0);
+    match name {
+        b"cilk.h" => Some(Header::Cilk),
+        b"cilk-lib.h" => Some(Header::CilkLib),
+        b"cilk-lib.cilkh" => Some(Header::CilkLibCilkh),
+        b"stdio.h" => Some(Header::Stdio),
+        b"stdlib.h" => Some(Header::Stdlib),
+        _ => None,
     }
-    let first = *text.as_bytes().first()?;
-    if first < b'1' || first > b'9' {
-        return None;
-    }
-    let value = text.parse::<u32>().ok()?;
+}
+
+// The value of these digits, where they are digits of the radix and the value is an int.
+fn value_of(digits: &str, radix: u32) -> Option<u32>
+    requires radix { (2 ≤ radix) × (radix ≤ 36) }
+    requires no_sign { IsTrue (list_all continues_number digits.now) }
+    ensures { result ≡ valued radix digits.now }
+{
+    let value = u32::from_str_radix(digits, radix).ok()?;
     (value <= INT_MAX).then_some(value)
+}
+
+/// The value of a number, where it is an integer constant (C 1990, 6.1.3.2).
+pub(crate) fn number_of(text: &str) -> Option<u32>
+    requires { IsTrue (has_number_form text.now) }
+    ensures { result ≡ number_in text.now }
+{
+    let bytes = text.as_bytes();
+    if bytes.len() < 2 || bytes[0] != b'0' {
+        return value_of(text, 10);
+    }
+    if is_x(bytes[1]) {
+        return value_of(&text[2..], 16);
+    }
+    value_of(&text[1..], 8)
 }

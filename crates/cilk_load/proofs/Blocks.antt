@@ -1,10 +1,10 @@
 -- The labelled blocks: which action comes first, and which variables they have.
 use Rattle.std.proofs.Common.{◌≡◌, ℕ, suc, ◌+◌, ◌≤◌, List, [], ◌∷◌, ◌++◌, length, map, Option, Some, None, refl, sym, ap, ◌∙◌, arith, append-nil, length-append, unwrap_or}
-use Rattle.cilk_tree.specs.Tree as tree
-use Rattle.cilk_tree.specs.Parameters.{parameter_decl}
+use Rattle.cilk_core.specs.Tree as tree
+use Rattle.cilk_core.specs.Parameters.{parameter_decl}
 use Rattle.cilk_eval.specs.declared.area.Area.{Area}
 use Rattle.cilk_eval.specs.declared.area.Area.TheVariants.{Own}
-use Rattle.cilk_check.specs.Names.{decls_of}
+use Rattle.cilk_core_check.specs.Names.{decls_of}
 use Rattle.cilk_model.specs.Scope.{Scope, with_local, with_locals}
 use Rattle.cilk_model.specs.Count.{count_option, count_decls, count_stmts}
 use Rattle.cilk_model.specs.Labelled.{Stmts, Variable}

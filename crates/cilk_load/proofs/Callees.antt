@@ -1,8 +1,8 @@
 -- A name that is spawned means the body of the procedure of that name.
 use Rattle.std.proofs.Common.{◌≡◌, ℕ, zero, suc, ◌+◌, ◌<◌, Bool, true, false, List, [], ◌∷◌, length, map, Some, refl, sym, ap, ◌∙◌, arith, if◌then◌else◌, cond}
 use Rattle.std.specs.Prelude.{slice_get, slice_index_or, bytes_eq}
-use Rattle.cilk_tree.specs.Tree.{Item, Proc, procedure, global, Program}
-use Rattle.cilk_check.specs.Scope.{first_named}
+use Rattle.cilk_core.specs.Tree.{Item, Proc, procedure, global, Program}
+use Rattle.cilk_core_check.specs.Scope.{first_named}
 use Rattle.cilk_model.specs.Scope.{place_among, callee_of}
 use Rattle.cilk_model.specs.Count.{count_item}
 use Rattle.cilk_model.specs.Labelled.{Body}

@@ -1,8 +1,8 @@
 -- The cells of the variables of the top level.
 use Rattle.std.proofs.Common.{◌≡◌, ℕ, ◌+◌, ◌≤◌, List, [], ◌∷◌, ◌++◌, max, replicate, refl, ap, arith}
-use Rattle.cilk_tree.specs.Tree.{Item, procedure, global, Program}
-use Rattle.cilk_check.specs.Fault.{global_cells, WellFormed}
-use Rattle.cilk_check.proofs.WellFormedLaws.{globals_fit}
+use Rattle.cilk_core.specs.Tree.{Item, procedure, global, Program}
+use Rattle.cilk_core_check.specs.Fault.{global_cells, WellFormed}
+use Rattle.cilk_core_check.proofs.WellFormedLaws.{globals_fit}
 use Rattle.cilk_eval.specs.declared.area.Area.{Area}
 use Rattle.cilk_eval.specs.declared.area.Area.TheVariants.{Global}
 use Rattle.cilk_model.specs.Labelled.{Variable}

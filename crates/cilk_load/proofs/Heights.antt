@@ -1,9 +1,9 @@
 -- How many lines the canonical text has.
 use Rattle.std.proofs.Common.{◌≡◌, ℕ, ◌+◌, ◌≤◌, List, [], ◌∷◌, ◌++◌, length, map, codes, refl, sym, ap, ◌∙◌, append_assoc, arith, length-append}
-use Rattle.cilk_tree.specs.Tree.{Decl, Stmt, assign, null, update, adjust, spawn_at, sync_at, Stmts, none, also, Block, block, Proc, procedure, return_at}
+use Rattle.cilk_core.specs.Tree.{Decl, Stmt, assign, null, update, adjust, spawn_at, sync_at, Stmts, none, also, Block, block, Proc, procedure, return_at}
 use Rattle.cilk_model.specs.Count.{count_stmts, count_block}
-use Rattle.cilk_check.specs.Names.{decls_of}
-use Rattle.cilk_tree.specs.ProgramText.{decl_line, stmt_lines, stmts_lines, block_lines, deeper, item_lines}
+use Rattle.cilk_core_check.specs.Names.{decls_of}
+use Rattle.cilk_core.specs.ProgramText.{decl_line, stmt_lines, stmts_lines, block_lines, deeper, item_lines}
 use Rattle.cilk_model.specs.Lines.{block_action_lines, item_action_lines}
 
 length-decl_lines : (indent : List ℕ) (ds : List Decl) → length (map (decl_line indent) ds) ≡ length ds

@@ -2,8 +2,8 @@
 use Rattle.std.proofs.Common.{◌≡◌, ℕ, zero, suc, ◌+◌, List, [], ◌∷◌, ◌++◌, length, map, Option, Some, None, refl, sym, ap, subst, ◌∙◌, arith}
 use Rattle.std.specs.Prelude.{slice_get, filter_map, option_map, true}
 use Rattle.std.specs.List.{cons_option}
-use Rattle.cilk_tree.specs.Tree as tree
-use Rattle.cilk_tree.specs.Parameters.{parameter_decl}
+use Rattle.cilk_core.specs.Tree as tree
+use Rattle.cilk_core.specs.Parameters.{parameter_decl}
 use Rattle.cilk_model.specs.Scope.{Scope, with_local, with_locals}
 use Rattle.cilk_model.specs.Count.{count_option, count_decls, count_stmts, count_item, count_items}
 use Rattle.cilk_model.specs.Labelled.{Stmts, Body, Labelled}

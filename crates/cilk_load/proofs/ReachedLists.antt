@@ -1,7 +1,7 @@
 -- Each list that a body reaches stands in the table at its head's number.
 use Rattle.std.proofs.Common.{◌≡◌, ℕ, zero, suc, ◌+◌, ◌<◌, Bool, true, List, [], ◌∷◌, ◌++◌, length, map, Option, Some, None, ◌⊎◌, inl, inr, refl, sym, ap, subst, ◌∙◌, arith, unwrap_or}
 use Rattle.std.specs.Prelude.{slice_get, slice_index_or}
-use Rattle.cilk_tree.specs.Tree as tree
+use Rattle.cilk_core.specs.Tree as tree
 use Rattle.cilk_model.specs.Count.{count_item, count_items}
 use Rattle.cilk_model.specs.Labelled.{Action, assign, return_with, close, assign_by, null, return_nothing, spawn, sync, action, Stmts, none, also, Body, Labelled}
 use Rattle.cilk_model.specs.Scope.{Scope}

@@ -3,13 +3,13 @@ use Rattle.std.proofs.Common.{◌≡◌, ℕ, zero, suc, ◌+◌, List, [], ◌�
 use Rattle.std.specs.Prelude.{⊤, slice_get}
 use Rattle.std.specs.List.{Contains, flat_map}
 use Rattle.std.proofs.lemmas.List.Elements.{Contains-append_left, Contains-append_right}
-use Rattle.cilk_tree.specs.Tree as tree
-use Rattle.cilk_tree.specs.Tree.{Word, Program}
-use Rattle.cilk_check.specs.Names.{Use, callee, expr_uses, takes_value, taker_uses, stmt_uses, stmts_uses, stmts_of, own_decls, declared}
-use Rattle.cilk_check.specs.Scope.{Defines, Uses, in_statement}
-use Rattle.cilk_check.specs.Fault.{WellFormed}
-use Rattle.cilk_check.proofs.Elements.{HasElement, Contains-from_HasElement, HasElement-between}
-use Rattle.cilk_check.proofs.WellFormedLaws.{spawned_is_callee}
+use Rattle.cilk_core.specs.Tree as tree
+use Rattle.cilk_core.specs.Tree.{Word, Program}
+use Rattle.cilk_core_check.specs.Names.{Use, callee, expr_uses, takes_value, taker_uses, stmt_uses, stmts_uses, stmts_of, own_decls, declared}
+use Rattle.cilk_core_check.specs.Scope.{Defines, Uses, in_statement}
+use Rattle.cilk_core_check.specs.Fault.{WellFormed}
+use Rattle.cilk_core_check.proofs.Elements.{HasElement, Contains-from_HasElement, HasElement-between}
+use Rattle.cilk_core_check.proofs.WellFormedLaws.{spawned_is_callee}
 use Rattle.cilk_eval.specs.Term.{Term}
 use Rattle.cilk_eval.specs.declared.area.Area.TheVariants.{Global}
 use Rattle.cilk_eval.specs.declared.slot.Slot.{Slot}

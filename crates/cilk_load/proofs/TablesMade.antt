@@ -1,7 +1,7 @@
 -- The tables that the pass writes are those of the program.
 use Rattle.std.proofs.Common.{◌≡◌, ℕ, suc, ◌+◌, ◌≤◌, not, cond, List, [], ◌∷◌, ◌++◌, length, map, Some, None, refl, sym, ap, ◌∙◌, nat_lt}
 use Rattle.std.specs.List.{prefix_len, position}
-use Rattle.cilk_tree.specs.Tree as tree
+use Rattle.cilk_core.specs.Tree as tree
 use Rattle.cilk_model.specs.Count.{count_item, count_items, count_program}
 use Rattle.cilk_model.specs.Lines.{items_action_lines}
 use Rattle.cilk_model.specs.Labelled.{Body}

@@ -4,13 +4,13 @@ use Rattle.std.specs.Prelude.{bytes_eq}
 use Rattle.std.specs.List.{prefix_len, position}
 use Rattle.std.proofs.lemmas.Bool.{false≢true, lt-ltb}
 use Rattle.std.proofs.lemmas.Slice.Eq.{bytes_eq-Decides}
-use Rattle.cilk_tree.specs.Tree.{Proc, Item, procedure, global, Program}
-use Rattle.cilk_tree.specs.ProgramText.{block_lines, deeper, item_lines, items_lines}
-use Rattle.cilk_check.specs.Names.{decls_of, own_decls}
-use Rattle.cilk_check.specs.Scope.{Defines}
-use Rattle.cilk_check.specs.Fault.{cells, max_cells, global_cells, no_main, IsMain, WellFormed}
-use Rattle.cilk_check.proofs.WellFormedLaws.{cells_fit, globals_fit}
-use Rattle.cilk_check.proofs.Elements.{HasElement, HasElement-from_Contains, Contains-from_HasElement}
+use Rattle.cilk_core.specs.Tree.{Proc, Item, procedure, global, Program}
+use Rattle.cilk_core.specs.ProgramText.{block_lines, deeper, item_lines, items_lines}
+use Rattle.cilk_core_check.specs.Names.{decls_of, own_decls}
+use Rattle.cilk_core_check.specs.Scope.{Defines}
+use Rattle.cilk_core_check.specs.Fault.{cells, max_cells, global_cells, no_main, IsMain, WellFormed}
+use Rattle.cilk_core_check.proofs.WellFormedLaws.{cells_fit, globals_fit}
+use Rattle.cilk_core_check.proofs.Elements.{HasElement, HasElement-from_Contains, Contains-from_HasElement}
 use Rattle.cilk_model.specs.Count.{count_item, count_items}
 use Rattle.cilk_model.specs.Label.{globals_of, names_of}
 use Rattle.cilk_load.specs.declared.body.Body.{Body}
@@ -18,7 +18,7 @@ use Rattle.cilk_load.specs.Pass.{item_is_small, AllAreSmall, items_bodies}
 use Rattle.cilk_load.specs.Bodies.{starts_here}
 use Rattle.cilk_load.proofs.Blocks.{length-parameters}
 use Rattle.cilk_load.proofs.Heights.{length-block}
-use Rattle.cilk_tree.specs.Parameters.{parameter_decl}
+use Rattle.cilk_core.specs.Parameters.{parameter_decl}
 
 all_small : (p : Program) → WellFormed p → (items : List Item) → ((x : Item) → HasElement items x → HasElement p.items x) → AllAreSmall items
 all_small p ok [] among = tt

@@ -1,6 +1,6 @@
 -- The tables of bodies and variables.
 use Rattle.std.specs.Prelude.{ℕ, ◌+◌, ◌==◌, Bool, ◌&&◌, bytes_eq, codes, pos, List, [], ◌∷◌, Option, map, slice_get, unwrap_or}
-use Rattle.cilk_tree.specs.Tree as tree
+use Rattle.cilk_core.specs.Tree as tree
 use Rattle.cilk_eval.specs.declared.area.Area.{Area}
 use Rattle.cilk_eval.specs.declared.area.Area.TheVariants.{Own, Global}
 use Rattle.cilk_model.specs.Labelled.{Variable, Labelled}

@@ -1,6 +1,6 @@
 -- What a node stands for: the list of items that it is the head of.
 use Rattle.std.specs.Prelude.{◌≡◌, ℕ, ◌<◌, Bool, List, [], ◌∷◌, length, Some, None}
-use Rattle.cilk_tree.specs.Tree.{Program}
+use Rattle.cilk_core.specs.Tree.{Program}
 use Rattle.cilk_model.specs.Label.{label}
 use Rattle.cilk_model.specs.Items.{Items, reached}
 use Rattle.cilk_model.specs.Instance.{body_at}

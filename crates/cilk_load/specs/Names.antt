@@ -1,6 +1,6 @@
 -- What the names of the tree stand for in the tables.
 use Rattle.std.specs.Prelude.{ℕ, List, [], ◌∷◌, bytes_eq, if◌then◌else◌, take, map, Option, Some, None}
-use Rattle.cilk_tree.specs.Tree as tree
+use Rattle.cilk_core.specs.Tree as tree
 use Rattle.cilk_eval.specs.Term as term
 use Rattle.cilk_eval.specs.Term.{Term}
 use Rattle.cilk_eval.specs.declared.area.Area.TheVariants.{Own}

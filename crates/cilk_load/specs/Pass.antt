@@ -1,9 +1,9 @@
 -- The tables part by part, as one pass over the tree writes them: `at` is the number of the next action, and b the body's number.
 use Rattle.std.specs.Prelude.{ℕ, ◌+◌, ◌≤◌, ⊤, List, [], ◌∷◌, ◌++◌, Option, Some, None, length, map}
-use Rattle.cilk_tree.specs.Adjustments.{operator_of}
-use Rattle.cilk_tree.specs.Tree as tree
-use Rattle.cilk_tree.specs.Parameters.{parameter_decl}
-use Rattle.cilk_check.specs.Names.{decls_of}
+use Rattle.cilk_core.specs.Adjustments.{operator_of}
+use Rattle.cilk_core.specs.Tree as tree
+use Rattle.cilk_core.specs.Parameters.{parameter_decl}
+use Rattle.cilk_core_check.specs.Names.{decls_of}
 use Rattle.cilk_eval.specs.Term as term
 use Rattle.cilk_eval.specs.declared.area.Area.TheVariants.{Own, Global}
 use Rattle.cilk_model.specs.Count.{count_option, count_decls, count_stmt, count_item}

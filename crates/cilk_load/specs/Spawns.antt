@@ -1,8 +1,8 @@
 -- Which body a spawn starts, and what the variables of the top level hold at first.
 use Rattle.std.specs.Prelude.{◌≡◌, ℕ, ◌≤◌, ◌<◌, ℤ, List, [], ◌∷◌, ◌++◌, length, max, replicate, Some}
-use Rattle.cilk_tree.specs.Tree.{Proc, procedure, Program}
-use Rattle.cilk_check.specs.Scope.{first_named}
-use Rattle.cilk_check.specs.Fault.{WellFormed}
+use Rattle.cilk_core.specs.Tree.{Proc, procedure, Program}
+use Rattle.cilk_core_check.specs.Scope.{first_named}
+use Rattle.cilk_core_check.specs.Fault.{WellFormed}
 use Rattle.cilk_eval.specs.Term.{Term}
 use Rattle.cilk_eval.specs.declared.slot.Slot.{Slot}
 use Rattle.cilk_model.specs.Scope.{callee_of}

@@ -1,6 +1,6 @@
 -- The table of nodes: each action with slots in place of declarations, and the number of the action that comes next.
 use Rattle.std.specs.Prelude.{ℕ, zero, suc, true, List, [], ◌∷◌, ◌++◌, Option, None, map, option_map, filter_map, slice_get}
-use Rattle.cilk_tree.specs.Tree as tree
+use Rattle.cilk_core.specs.Tree as tree
 use Rattle.cilk_eval.specs.Term.{rename}
 use Rattle.cilk_eval.specs.declared.slot.Slot.{Slot}
 use Rattle.cilk_model.specs.Declaration.{Declaration}

@@ -1,6 +1,6 @@
 -- The tables of a program are what its meaning says.
 use Rattle.std.specs.Prelude.{◌≡◌, ℕ, ◌≤◌, List, Some, length, map}
-use Rattle.cilk_tree.specs.Tree as tree
+use Rattle.cilk_core.specs.Tree as tree
 use Rattle.cilk_model.specs.Label.{label}
 use Rattle.cilk_model.specs.Count.{count_program}
 use Rattle.cilk_model.specs.Lines.{action_lines}

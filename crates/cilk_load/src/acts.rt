@@ -1,15 +1,15 @@
 //! The actions of statements.
 
 ghost use Rattle.std.specs.Prelude.{◌≡◌, IfOk};
-ghost use Rattle.cilk_tree.specs.StmtView.{taker_of};
+ghost use Rattle.cilk_core.specs.StmtView.{taker_of};
 ghost use Rattle.cilk_load.specs.Names.{assignment_in, return_action, taker_in, spawn_in};
 
 use crate::action::Action;
 use crate::code::{code_in, codes_in};
 use crate::names::Names;
 use crate::taker::Taker;
-use cilk_tree as tree;
-use cilk_tree::{Expr, Word};
+use cilk_core as tree;
+use cilk_core::{Expr, Word};
 use std::alloc::{AllocError, Global};
 
 /// An assignment to the variable of this name.

@@ -1,7 +1,7 @@
 //! The nodes and the bodies of a program.
 
 ghost use Rattle.std.specs.Prelude.{◌≡◌, ◌+◌, ◌<◌, ◌≤◌, ◌^◌, [], ◌∷◌, ◌++◌, IfSome, IsSome, OnOk, Some, length, position, vec_len};
-ghost use Rattle.cilk_tree.specs.Tree.{procedure};
+ghost use Rattle.cilk_core.specs.Tree.{procedure};
 ghost use Rattle.cilk_model.specs.Count.{count_item, count_items};
 ghost use Rattle.cilk_model.specs.Label.{names_of};
 ghost use Rattle.cilk_load.specs.Pass.{procedure_nodes, item_nodes, items_nodes, procedure_body, item_bodies, items_bodies, body_count, item_is_small, AllAreSmall};
@@ -14,7 +14,7 @@ use crate::node::Node;
 use crate::numbering::{put_block, put_leaving};
 use crate::var::Var;
 use crate::variables::body_of;
-use cilk_tree::{Item, ItemNode, Proc};
+use cilk_core::{Item, ItemNode, Proc};
 use std::alloc::{AllocError, Global};
 
 /// Appends the nodes and the bodies of these definitions, which have these variables of the top

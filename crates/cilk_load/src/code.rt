@@ -6,7 +6,7 @@ ghost use Rattle.cilk_load.specs.Names.{code_in};
 use crate::codes::Codes;
 use crate::names::Names;
 use cilk_eval::{Code, CodeNode};
-use cilk_tree::{Expr, ExprNode};
+use cilk_core::{Expr, ExprNode};
 use std::alloc::{AllocError, Global};
 
 /// An expression over the slots of these names.

@@ -1,10 +1,10 @@
 //! How many actions a program has, as far as the limit asks.
 
 ghost use Rattle.std.specs.Prelude.{◌≡◌, ◌+◌, ◌≤◌, min};
-ghost use Rattle.cilk_tree.specs.Stmts.{stmts_of};
+ghost use Rattle.cilk_core.specs.Stmts.{stmts_of};
 ghost use Rattle.cilk_model.specs.Count.{count_option, count_decls, count_stmt, count_stmts, count_block, count_item, count_items};
 
-use cilk_tree::{Block, Decl, Expr, Item, ItemNode, Stmt, StmtNode};
+use cilk_core::{Block, Decl, Expr, Item, ItemNode, Stmt, StmtNode};
 
 /// The actions that a program may have.
 pub(crate) const MAX_ACTIONS: u32 = 65_535;

@@ -1,15 +1,15 @@
 //! The variables of the top level.
 
 ghost use Rattle.std.specs.Prelude.{◌≡◌, ◌+◌, ◌<◌, ◌^◌, ◌++◌, IfOk, OnOk, length, vec_len};
-ghost use Rattle.cilk_tree.specs.Tree.{global};
+ghost use Rattle.cilk_core.specs.Tree.{global};
 ghost use Rattle.cilk_model.specs.Label.{item_globals, globals_of};
 ghost use Rattle.cilk_load.specs.Pass.{item_vars, items_vars};
 
 use crate::var::Var;
 use crate::variables::copied;
 use cilk_eval::{Area, Slot};
-use cilk_tree as tree;
-use cilk_tree::{Item, ItemNode};
+use cilk_core as tree;
+use cilk_core::{Item, ItemNode};
 use std::alloc::{AllocError, Global};
 
 /// The variables that these definitions declare, in their slots.

@@ -28,12 +28,12 @@ mod vars;
 
 pub use action::Action;
 pub use body::Body;
-pub use cilk_tree::Memory;
+pub use cilk_core::Memory;
 pub use codes::Codes;
 pub use fault::LoadFault;
 pub use laws::{globals_have_cells, nodes_stand_for_lists, spawns_have_bodies};
 pub use loaded::Loaded;
-pub use loading::load;
+pub use loading::{has_too_many, load};
 pub use name::Name;
 pub use node::Node;
 pub use taker::Taker;

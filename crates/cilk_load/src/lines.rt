@@ -1,13 +1,13 @@
 //! The line of the canonical text on which each action stands.
 
 ghost use Rattle.std.specs.Prelude.{◌≡◌, ◌+◌, ◌<◌, ◌^◌, [], ◌++◌, IfOk, OnOk, length, vec_len};
-ghost use Rattle.cilk_tree.specs.Stmts.{stmts_of};
-ghost use Rattle.cilk_tree.specs.Tree.{procedure};
-ghost use Rattle.cilk_tree.specs.ProgramText.{stmt_lines, stmts_lines, block_lines, item_lines, items_lines};
+ghost use Rattle.cilk_core.specs.Stmts.{stmts_of};
+ghost use Rattle.cilk_core.specs.Tree.{procedure};
+ghost use Rattle.cilk_core.specs.ProgramText.{stmt_lines, stmts_lines, block_lines, item_lines, items_lines};
 ghost use Rattle.cilk_model.specs.Count.{count_option, count_decls, count_stmt, count_stmts, count_block, count_item, count_items};
 ghost use Rattle.cilk_model.specs.Lines.{initialiser_lines, decls_action_lines, stmt_action_lines, stmts_action_lines, block_action_lines, item_action_lines, items_action_lines};
 
-use cilk_tree::{Block, Decl, Item, ItemNode, Proc, Stmt, StmtNode};
+use cilk_core::{Block, Decl, Item, ItemNode, Proc, Stmt, StmtNode};
 use std::alloc::{AllocError, Global};
 
 /// The lines of the actions of these definitions, in the order of the text.

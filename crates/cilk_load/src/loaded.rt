@@ -1,7 +1,7 @@
 ghost use Rattle.std.specs.Prelude.{◌≡◌, ◌≤◌, ◌↔◌, IsSome, IfOk, Some, option_copied, string_bytes};
 ghost use Rattle.std.specs.Arc.{arc_value};
-ghost use Rattle.cilk_tree.specs.ProgramText.{program_text};
-ghost use Rattle.cilk_check.specs.Fault.{WellFormed};
+ghost use Rattle.cilk_core.specs.ProgramText.{program_text};
+ghost use Rattle.cilk_core_check.specs.Fault.{WellFormed};
 ghost use Rattle.cilk_model.specs.Label.{label};
 ghost use Rattle.cilk_model.specs.Count.{count_program};
 ghost use Rattle.cilk_model.specs.End as model;
@@ -12,7 +12,7 @@ use crate::body::Body;
 use crate::node::Node;
 use crate::tables::Tables;
 use crate::var::Var;
-use cilk_tree::{Memory, Program, canonical};
+use cilk_core::{Memory, Program, canonical};
 use std::marker::Model;
 use std::sync::Arc;
 
@@ -24,8 +24,8 @@ pub struct Loaded {
 }
 
 impl Model for Loaded {
-    ghost use Rattle.cilk_tree.specs.Tree as tree;
-    ghost use Rattle.cilk_tree.specs.ProgramCoding.{coded_Program};
+    ghost use Rattle.cilk_core.specs.Tree as tree;
+    ghost use Rattle.cilk_core.specs.ProgramCoding.{coded_Program};
     ghost use Rattle.std.specs.Arc.{arc_value};
 
     ghost Value = { tree.Program };

@@ -1,4 +1,4 @@
-ghost use Rattle.std.specs.Prelude.{◌≡◌, ◌<◌, ◌≤◌, ◌↔◌, IfOk, IsOk};
+ghost use Rattle.std.specs.Prelude.{◌≡◌, ◌<◌, ◌≤◌, ◌↔◌, true, IfOk};
 ghost use Rattle.cilk_model.specs.Count.{count_program};
 
 use crate::building::{place_of_main, put_items};
@@ -8,17 +8,24 @@ use crate::globals::globals_of;
 use crate::lines::action_lines;
 use crate::loaded::Loaded;
 use crate::tables::Tables;
-use cilk_check::Checked;
+use cilk_core::Program;
+use cilk_core_check::Checked;
 use std::alloc::{AllocError, Global};
 use std::sync::Arc;
+
+/// Whether a program has more actions than it may have.
+pub fn has_too_many(program: &Program) -> bool
+    ensures { (result ≡ true) ↔ (65535 < count_program program.now) }
+{
+    count_items(&program.items) > MAX_ACTIONS
+}
 
 /// Numbers the actions of a program and places its variables.
 pub fn load(alloc: Global, checked: Checked) -> Result<Loaded, LoadFault>
     ensures value { IfOk result (λ loaded. loaded ≡ checked) }
     ensures too_many { (result ≡ Err LoadFault.TooMany) ↔ (65535 < count_program checked) }
 {
-    let program = checked.program();
-    if count_items(&program.items) > MAX_ACTIONS {
+    if has_too_many(checked.program()) {
         return Err(LoadFault::TooMany);
     }
     loaded(alloc, checked).map_err(|_| LoadFault::Memory)

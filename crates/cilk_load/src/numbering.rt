@@ -1,9 +1,9 @@
 //! The nodes of a body, numbered in the order of the text.
 
 ghost use Rattle.std.specs.Prelude.{◌≡◌, ◌+◌, ◌<◌, ◌≤◌, ◌∷◌, [], ◌++◌, OnOk, length, vec_len};
-ghost use Rattle.cilk_tree.specs.Stmts.{stmts_of};
+ghost use Rattle.cilk_core.specs.Stmts.{stmts_of};
 ghost use Rattle.cilk_model.specs.Count.{count_option, count_decls, count_stmt, count_stmts, count_block};
-ghost use Rattle.cilk_check.specs.Names.{decls_of};
+ghost use Rattle.cilk_core_check.specs.Names.{decls_of};
 ghost use Rattle.cilk_load.specs.Pass.{onward, leaving, initialiser_nodes, decls_nodes, stmt_nodes, stmts_nodes, block_nodes};
 
 use crate::action::Action;
@@ -12,7 +12,7 @@ use crate::code::code_in;
 use crate::names::Names;
 use crate::node::Node;
 use cilk_eval::{Code, CodeNode};
-use cilk_tree::{Block, Decl, Stmt, StmtNode};
+use cilk_core::{Block, Decl, Stmt, StmtNode};
 use std::alloc::{AllocError, Global};
 
 /// Appends the nodes of a block of this body, which uses these names. Its variables are so many

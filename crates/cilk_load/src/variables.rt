@@ -5,16 +5,16 @@ ghost use Rattle.cilk_eval.specs.declared.area.Area.TheVariants.{Own};
 ghost use Rattle.cilk_model.specs.Label.{variable_of};
 ghost use Rattle.cilk_load.specs.Bodies.{vars_from};
 ghost use Rattle.cilk_load.specs.Pass.{item_is_small, procedure_body};
-ghost use Rattle.cilk_tree.specs.Tree.{procedure};
-ghost use Rattle.cilk_check.specs.Names.{decls_of};
-ghost use Rattle.cilk_tree.specs.Parameters.{parameter_decl};
+ghost use Rattle.cilk_core.specs.Tree.{procedure};
+ghost use Rattle.cilk_core_check.specs.Names.{decls_of};
+ghost use Rattle.cilk_core.specs.Parameters.{parameter_decl};
 
 use crate::body::Body;
 use crate::name::Name;
 use crate::var::Var;
 use crate::vars::Vars;
 use cilk_eval::{Area, Slot};
-use cilk_tree::{Block, Decl, Proc, Word};
+use cilk_core::{Block, Decl, Proc, Word};
 use std::alloc::{AllocError, Global};
 
 /// The body of a procedure, whose first action has the number `entry`.

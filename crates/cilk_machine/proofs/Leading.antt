@@ -1,7 +1,7 @@
 -- A choice that is made leads on with every list of choices.
 use Rattle.std.proofs.Common.{◌≡◌, ℕ, ℤ, ◌+◌, ◌-◌, ◌≤◌, Bool, true, false, List, [], ◌∷◌, ◌++◌, length, Option, Some, None, is_none, refl, sym, ap, ◌∙◌, subst, length-append, if◌then◌else◌}
 use Rattle.std.proofs.lemmas.List.{length-set}
-use Rattle.cilk_check.specs.Fault.{WellFormed}
+use Rattle.cilk_core_check.specs.Fault.{WellFormed}
 use Rattle.cilk_model.specs.Label.{label}
 use Rattle.cilk_model.specs.Choice as model
 use Rattle.cilk_model.specs.Event as event

@@ -5,7 +5,7 @@ use Rattle.std.proofs.lemmas.Bool.{le-leb}
 use Rattle.std.proofs.lemmas.Bool.Decides.{Decides-eqb}
 use Rattle.std.proofs.lemmas.List.{length-replicate}
 use Rattle.std.proofs.lemmas.List.Quantifiers.{position-Some}
-use Rattle.cilk_tree.specs.Tree as tree
+use Rattle.cilk_core.specs.Tree as tree
 use Rattle.cilk_eval.specs.declared.area.Area.{Area}
 use Rattle.cilk_model.specs.Labelled.{Body, Variable}
 use Rattle.cilk_model.specs.Label.{label, is_start}

@@ -2,11 +2,11 @@
 use Rattle.std.specs.Prelude.{◌≡◌, ℕ, zero, suc, ℤ, Bool, List, Option, Some, None, ◌⊎◌}
 use Rattle.std.specs.Coded.{Coded, code_by, coded×, coded⊎, coded_ℕ, coded_ℤ, coded_bool, coded_list, coded_option}
 use Rattle.std.proofs.Common.{refl, ap, inl, inr}
-use Rattle.cilk_tree.specs.Tree as tree
-use Rattle.cilk_tree.specs.declared.operator.BinOp.{BinOp}
-use Rattle.cilk_tree.specs.Coding.{coded_back}
-use Rattle.cilk_tree.specs.OperatorCoding.{operator_to, operator_from, operator_back}
-use Rattle.cilk_tree.specs.ProgramCoding.{coded_Program}
+use Rattle.cilk_core.specs.Tree as tree
+use Rattle.cilk_core.specs.declared.operator.BinOp.{BinOp}
+use Rattle.cilk_core.specs.Coding.{coded_back}
+use Rattle.cilk_core.specs.OperatorCoding.{operator_to, operator_from, operator_back}
+use Rattle.cilk_core.specs.ProgramCoding.{coded_Program}
 use Rattle.cilk_eval.specs.declared.area.Area.{Area}
 use Rattle.cilk_eval.specs.declared.area.Area.TheVariants.{Own, Outer, Global}
 use Rattle.cilk_eval.specs.declared.slot.Slot.{Slot}

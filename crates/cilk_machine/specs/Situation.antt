@@ -1,6 +1,6 @@
 -- What contracts see of a machine.
 use Rattle.std.specs.Prelude.{ℕ, ℤ, List, length}
-use Rattle.cilk_tree.specs.Tree as tree
+use Rattle.cilk_core.specs.Tree as tree
 use Rattle.cilk_spawn.specs.Nodes.{Node}
 use Rattle.cilk_sched.specs.Places.{Place}
 use Rattle.cilk_machine.specs.declared.outcome.Outcome.{Outcome}

@@ -1,6 +1,6 @@
 -- Where a machine stands in the definition of runs.
 use Rattle.std.specs.Prelude.{◌≡◌, ◌≤◌, List, [], length, Some}
-use Rattle.cilk_check.specs.Fault.{WellFormed}
+use Rattle.cilk_core_check.specs.Fault.{WellFormed}
 use Rattle.cilk_model.specs.Label.{label}
 use Rattle.cilk_model.specs.Choice.{Choice}
 use Rattle.cilk_model.specs.Event.{Event}

@@ -1,4 +1,4 @@
-use cilk_tree::Memory;
+use cilk_core::Memory;
 use thiserror::Error;
 
 /// Why there is no machine.

@@ -23,7 +23,7 @@ mod writing;
 pub use act::Act;
 pub use choice::Choice;
 pub use cilk_step::{Kind, Path};
-pub use cilk_tree::Memory;
+pub use cilk_core::Memory;
 pub use closing::ending;
 pub use end::End;
 pub use event::Event;

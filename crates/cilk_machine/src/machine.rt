@@ -27,7 +27,7 @@ use cilk_load::Loaded;
 use cilk_sched::Hands;
 use cilk_spawn::Tree;
 use cilk_step::plan_step;
-use cilk_tree::Memory;
+use cilk_core::Memory;
 use std::alloc::Global;
 use std::marker::Model;
 

@@ -2,8 +2,8 @@
 use Rattle.std.proofs.Common.{◌≡◌, ℕ, zero, suc, ◌+◌, ◌<◌, ◌≤◌, List, [], ◌∷◌, ◌++◌, map, length, Option, Some, None, refl, ap, arith, length-append, get_or}
 use Rattle.std.specs.Prelude.{codes}
 use Rattle.std.specs.List.{All}
-use Rattle.cilk_tree.specs.Tree.{Decl, Stmt, assign, null, update, adjust, spawn_at, sync_at, Stmts, none, also, Block, block, Item, procedure, global, return_at}
-use Rattle.cilk_tree.specs.ProgramText.{decl_line, stmt_lines, stmts_lines, block_lines, item_lines, items_lines, program_lines, deeper}
+use Rattle.cilk_core.specs.Tree.{Decl, Stmt, assign, null, update, adjust, spawn_at, sync_at, Stmts, none, also, Block, block, Item, procedure, global, return_at}
+use Rattle.cilk_core.specs.ProgramText.{decl_line, stmt_lines, stmts_lines, block_lines, item_lines, items_lines, program_lines, deeper}
 use Rattle.cilk_model.specs.Count.{count_option, count_decls, count_stmt, count_stmts, count_block, count_item, count_items}
 use Rattle.cilk_model.specs.Lines.{initialiser_lines, decls_action_lines, stmt_action_lines, stmts_action_lines, block_action_lines, item_action_lines, items_action_lines, action_lines}
 use Rattle.cilk_model.specs.Laws.{EachActionHasItsLine}

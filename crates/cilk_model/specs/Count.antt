@@ -1,6 +1,6 @@
 -- How many actions a program has: an initialiser, a statement and the closing brace of a body are one each.
 use Rattle.std.specs.Prelude.{ℕ, ◌+◌, List, [], ◌∷◌, Option, Some, None}
-use Rattle.cilk_tree.specs.Tree.{Decl, Stmt, assign, null, update, adjust, spawn_at, sync_at, Stmts, none, also, Block, block, Item, procedure, global, Program, return_at}
+use Rattle.cilk_core.specs.Tree.{Decl, Stmt, assign, null, update, adjust, spawn_at, sync_at, Stmts, none, also, Block, block, Item, procedure, global, Program, return_at}
 
 -- 1 of what is there
 abbrev pub count_option : {A : Type 0} → Option A → ℕ

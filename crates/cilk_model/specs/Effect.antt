@@ -1,6 +1,6 @@
 -- What an action comes to, once its expressions have their values.
 use Rattle.std.specs.Prelude.{ℕ, ℤ, pos, List, [], ◌∷◌, Option, Some, None, Result, Ok}
-use Rattle.cilk_tree.specs.declared.operator.BinOp.{BinOp}
+use Rattle.cilk_core.specs.declared.operator.BinOp.{BinOp}
 use Rattle.cilk_eval.specs.declared.trap.Trap.{Trap}
 use Rattle.cilk_eval.specs.Arithmetic.{binary_result}
 use Rattle.cilk_eval.specs.Term.{Term}

@@ -1,6 +1,6 @@
 -- An instance of a procedure that was spawned, or of `main` (Cilk 5.4 manual, `spawn`, `sync`, `inlet`).
 use Rattle.std.specs.Prelude.{ℕ, ℤ, Bool, false, List, [], ◌∷◌, Option, None, slice_index_or}
-use Rattle.cilk_tree.specs.declared.operator.BinOp.{BinOp}
+use Rattle.cilk_core.specs.declared.operator.BinOp.{BinOp}
 use Rattle.cilk_model.specs.Labelled.{Body, Labelled, none}
 use Rattle.cilk_model.specs.Items.{Items, opened, start_items}
 use Rattle.cilk_model.specs.Values.{Values, Cell, initial_values}

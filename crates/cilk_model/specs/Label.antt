@@ -1,8 +1,8 @@
 -- A program is labelled: its actions are numbered from 1 in the order of the canonical text.
 use Rattle.std.specs.Prelude.{ℕ, suc, ◌+◌, pos, List, [], ◌∷◌, ◌++◌, length, map, codes, Option, Some, None, unwrap_or, bytes_eq, position, ◌==◌, Bool, ◌&&◌}
-use Rattle.cilk_tree.specs.Adjustments.{operator_of}
-use Rattle.cilk_tree.specs.Tree as tree
-use Rattle.cilk_tree.specs.Parameters.{parameter_decl}
+use Rattle.cilk_core.specs.Adjustments.{operator_of}
+use Rattle.cilk_core.specs.Tree as tree
+use Rattle.cilk_core.specs.Parameters.{parameter_decl}
 use Rattle.cilk_eval.specs.Term as term
 use Rattle.cilk_model.specs.Declaration.{local, global}
 use Rattle.cilk_model.specs.Scope.{Visible, Scope, meaning_of, callee_of, with_local, with_locals, label_expr}

@@ -1,6 +1,6 @@
 -- The labelled program: a declaration in place of each use of a name, and a number at each action.
 use Rattle.std.specs.Prelude.{ℕ, ℤ, List, Option}
-use Rattle.cilk_tree.specs.declared.operator.BinOp.{BinOp}
+use Rattle.cilk_core.specs.declared.operator.BinOp.{BinOp}
 use Rattle.cilk_eval.specs.Term.{Term}
 use Rattle.cilk_model.specs.Declaration.{Declaration}
 

@@ -1,7 +1,7 @@
 -- On which line of the canonical text each action stands, the first line being line 1.
 use Rattle.std.specs.Prelude.{ℕ, ◌+◌, ◌∷◌, [], ◌++◌, List, length, Option, Some, None}
-use Rattle.cilk_tree.specs.Tree.{Decl, Stmt, assign, null, update, adjust, spawn_at, sync_at, Stmts, none, also, Block, block, Item, procedure, global, Program, return_at}
-use Rattle.cilk_tree.specs.ProgramText.{stmt_lines, block_lines, item_lines, deeper}
+use Rattle.cilk_core.specs.Tree.{Decl, Stmt, assign, null, update, adjust, spawn_at, sync_at, Stmts, none, also, Block, block, Item, procedure, global, Program, return_at}
+use Rattle.cilk_core.specs.ProgramText.{stmt_lines, block_lines, item_lines, deeper}
 
 -- a declaration is one line, and its initialiser stands on it
 abbrev pub initialiser_lines : {A : Type 0} → ℕ → Option A → List ℕ

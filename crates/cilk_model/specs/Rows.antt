@@ -1,8 +1,8 @@
 -- Some small programs, and questions about their runs.
 use Rattle.std.specs.Prelude.{ℕ, Bool, true, pos, List, [], ◌∷◌, ◌++◌, codes, Option, Some, None, option_map, option_and_then}
-use Rattle.cilk_tree.specs.Tree.{Word, number, named, binary, assign, none, also, Block, block, procedure, Program, return_at}
-use Rattle.cilk_tree.specs.declared.return_type.ReturnType.TheVariants.{Int}
-use Rattle.cilk_tree.specs.declared.operator.BinOp.TheVariants.{Multiply, Add, Subtract}
+use Rattle.cilk_core.specs.Tree.{Word, number, named, binary, assign, none, also, Block, block, procedure, Program, return_at}
+use Rattle.cilk_core.specs.declared.return_type.ReturnType.TheVariants.{Int}
+use Rattle.cilk_core.specs.declared.operator.BinOp.TheVariants.{Multiply, Add, Subtract}
 use Rattle.cilk_eval.specs.Term as term
 use Rattle.cilk_eval.specs.Term.{Term}
 use Rattle.cilk_model.specs.Declaration.{Declaration, local, global, unknown}

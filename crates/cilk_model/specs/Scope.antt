@@ -1,6 +1,6 @@
 -- Which declaration a name means (C 1990, 6.1.2.1).
 use Rattle.std.specs.Prelude.{ℕ, suc, List, [], ◌∷◌, if◌then◌else◌, bytes_eq}
-use Rattle.cilk_tree.specs.Tree as tree
+use Rattle.cilk_core.specs.Tree as tree
 use Rattle.cilk_eval.specs.Term as term
 use Rattle.cilk_eval.specs.Term.{Term}
 use Rattle.cilk_model.specs.Declaration.{Declaration, local, unknown}

@@ -1,9 +1,9 @@
 -- The trees of some small programs that spawn, and one of them labelled.
 use Rattle.std.specs.Prelude.{ℕ, negsuc, List, [], ◌∷◌, codes, Some, None}
-use Rattle.cilk_tree.specs.Tree.{Word, Expr, number, named, binary, Decl, nothing, into, Stmt, assign, spawn_at, sync_at, return_at, Stmts, none, also, block, Item, procedure, global, Program}
-use Rattle.cilk_tree.specs.declared.operator.BinOp.TheVariants.{Multiply, Add}
-use Rattle.cilk_tree.specs.declared.return_type.ReturnType.{ReturnType}
-use Rattle.cilk_tree.specs.declared.return_type.ReturnType.TheVariants.{Int, Void}
+use Rattle.cilk_core.specs.Tree.{Word, Expr, number, named, binary, Decl, nothing, into, Stmt, assign, spawn_at, sync_at, return_at, Stmts, none, also, block, Item, procedure, global, Program}
+use Rattle.cilk_core.specs.declared.operator.BinOp.TheVariants.{Multiply, Add}
+use Rattle.cilk_core.specs.declared.return_type.ReturnType.{ReturnType}
+use Rattle.cilk_core.specs.declared.return_type.ReturnType.TheVariants.{Int, Void}
 use Rattle.cilk_eval.specs.Term as term
 use Rattle.cilk_model.specs.Declaration.{local}
 use Rattle.cilk_model.specs.Labelled as labelled

@@ -1,8 +1,8 @@
 -- The statements and the locals of a block, and the lists that hold them.
 use Rattle.std.proofs.Common.{◌≡◌, List, [], ◌∷◌, Option, Some, None, refl, ap, ◌∙◌}
 use Rattle.cilk_syntax.specs.Tree as whole
-use Rattle.cilk_tree.specs.Tree as small
-use Rattle.cilk_tree.specs.Stmts.{stmts_of}
+use Rattle.cilk_core.specs.Tree as small
+use Rattle.cilk_core.specs.Stmts.{stmts_of}
 use Rattle.cilk_narrow.specs.Narrow.{◌>>=◌, each, narrow_stmt, narrow_stmts, narrow_local, narrow_locals, narrow_block}
 
 next_stmts : (s : Option small.Stmt) (others : Option (List small.Stmt))

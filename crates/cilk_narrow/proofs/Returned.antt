@@ -10,7 +10,7 @@ use Rattle.cilk_syntax.specs.declared.adjustment.Adjustment.TheVariants.{Increme
 use Rattle.cilk_syntax.specs.declared.return_type.ReturnType.{ReturnType}
 use Rattle.cilk_syntax.specs.declared.return_type.ReturnType.TheVariants.{Int, Void}
 use Rattle.cilk_syntax.specs.Tree as whole
-use Rattle.cilk_tree.specs.Tree as small
+use Rattle.cilk_core.specs.Tree as small
 use Rattle.cilk_narrow.specs.Operators.{narrow_op, narrow_sign, narrow_by, narrow_returns}
 use Rattle.cilk_narrow.specs.WideOperators.{widen_op, widen_sign, widen_by, widen_returns}
 use Rattle.cilk_narrow.specs.Narrow.{◌>>=◌, each, narrow_word, narrow_expr, narrow_exprs, narrow_value, variable_named, narrow_place, assignment, narrow_move, narrow_taker, narrow_stmt, narrow_stmts}

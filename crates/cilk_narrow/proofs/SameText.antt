@@ -1,20 +1,20 @@
 -- A program of the forms that run, written in the whole tree, has the canonical text that it has in the small one.
 use Rattle.std.proofs.Common.{◌≡◌, ℕ, ℤ, List, [], ◌∷◌, ◌++◌, codes, map, Bool, true, false, Option, Some, None, option_map, refl, ap, ◌∙◌, append_assoc}
 use Rattle.std.proofs.lemmas.List.{map-append, append-nil}
-use Rattle.cilk_tree.specs.declared.operator.BinOp.{BinOp}
-use Rattle.cilk_tree.specs.declared.operator.BinOp.TheVariants.{Multiply, Divide, Remainder, Add, Subtract, ShiftLeft, ShiftRight, Less, LessOrEqual, Greater, GreaterOrEqual, Equal, NotEqual, BitAnd, BitXor, BitOr, And, Or}
-use Rattle.cilk_tree.specs.declared.un_op.UnOp.{UnOp}
-use Rattle.cilk_tree.specs.declared.un_op.UnOp.TheVariants.{Minus, Plus, Not, Complement}
-use Rattle.cilk_tree.specs.declared.adjustment.Adjustment.{Adjustment}
-use Rattle.cilk_tree.specs.declared.adjustment.Adjustment.TheVariants.{Increment, Decrement}
-use Rattle.cilk_tree.specs.declared.return_type.ReturnType.{ReturnType}
-use Rattle.cilk_tree.specs.declared.return_type.ReturnType.TheVariants.{Int, Void}
-use Rattle.cilk_tree.specs.Tree as small
-use Rattle.cilk_tree.specs.OperatorMark as small_mark
-use Rattle.cilk_tree.specs.Adjustments as small_adjustment
-use Rattle.cilk_tree.specs.ReturnWord as small_word
-use Rattle.cilk_tree.specs.ExprText as small_expr
-use Rattle.cilk_tree.specs.ProgramText as small_text
+use Rattle.cilk_core.specs.declared.operator.BinOp.{BinOp}
+use Rattle.cilk_core.specs.declared.operator.BinOp.TheVariants.{Multiply, Divide, Remainder, Add, Subtract, ShiftLeft, ShiftRight, Less, LessOrEqual, Greater, GreaterOrEqual, Equal, NotEqual, BitAnd, BitXor, BitOr, And, Or}
+use Rattle.cilk_core.specs.declared.un_op.UnOp.{UnOp}
+use Rattle.cilk_core.specs.declared.un_op.UnOp.TheVariants.{Minus, Plus, Not, Complement}
+use Rattle.cilk_core.specs.declared.adjustment.Adjustment.{Adjustment}
+use Rattle.cilk_core.specs.declared.adjustment.Adjustment.TheVariants.{Increment, Decrement}
+use Rattle.cilk_core.specs.declared.return_type.ReturnType.{ReturnType}
+use Rattle.cilk_core.specs.declared.return_type.ReturnType.TheVariants.{Int, Void}
+use Rattle.cilk_core.specs.Tree as small
+use Rattle.cilk_core.specs.OperatorMark as small_mark
+use Rattle.cilk_core.specs.Adjustments as small_adjustment
+use Rattle.cilk_core.specs.ReturnWord as small_word
+use Rattle.cilk_core.specs.ExprText as small_expr
+use Rattle.cilk_core.specs.ProgramText as small_text
 use Rattle.cilk_syntax.specs.OperatorMark.{mark_of, sign_of}
 use Rattle.cilk_syntax.specs.Adjustments.{adjustment_mark}
 use Rattle.cilk_syntax.specs.ReturnWord.{word_of}

@@ -1,14 +1,14 @@
 -- What is written in the whole tree is taken over as itself.
 use Rattle.std.proofs.Common.{◌≡◌, List, [], ◌∷◌, map, Option, Some, None, refl, ap}
-use Rattle.cilk_tree.specs.declared.operator.BinOp as small_op
-use Rattle.cilk_tree.specs.declared.operator.BinOp.TheVariants.{Multiply, Divide, Remainder, Add, Subtract, ShiftLeft, ShiftRight, Less, LessOrEqual, Greater, GreaterOrEqual, Equal, NotEqual, BitAnd, BitXor, BitOr, And, Or}
-use Rattle.cilk_tree.specs.declared.un_op.UnOp.{UnOp}
-use Rattle.cilk_tree.specs.declared.un_op.UnOp.TheVariants.{Minus, Plus, Not, Complement}
-use Rattle.cilk_tree.specs.declared.adjustment.Adjustment.{Adjustment}
-use Rattle.cilk_tree.specs.declared.adjustment.Adjustment.TheVariants.{Increment, Decrement}
-use Rattle.cilk_tree.specs.declared.return_type.ReturnType.{ReturnType}
-use Rattle.cilk_tree.specs.declared.return_type.ReturnType.TheVariants.{Int, Void}
-use Rattle.cilk_tree.specs.Tree as small
+use Rattle.cilk_core.specs.declared.operator.BinOp as small_op
+use Rattle.cilk_core.specs.declared.operator.BinOp.TheVariants.{Multiply, Divide, Remainder, Add, Subtract, ShiftLeft, ShiftRight, Less, LessOrEqual, Greater, GreaterOrEqual, Equal, NotEqual, BitAnd, BitXor, BitOr, And, Or}
+use Rattle.cilk_core.specs.declared.un_op.UnOp.{UnOp}
+use Rattle.cilk_core.specs.declared.un_op.UnOp.TheVariants.{Minus, Plus, Not, Complement}
+use Rattle.cilk_core.specs.declared.adjustment.Adjustment.{Adjustment}
+use Rattle.cilk_core.specs.declared.adjustment.Adjustment.TheVariants.{Increment, Decrement}
+use Rattle.cilk_core.specs.declared.return_type.ReturnType.{ReturnType}
+use Rattle.cilk_core.specs.declared.return_type.ReturnType.TheVariants.{Int, Void}
+use Rattle.cilk_core.specs.Tree as small
 use Rattle.cilk_narrow.specs.Operators.{narrow_op, narrow_sign, narrow_by, narrow_returns}
 use Rattle.cilk_narrow.specs.WideOperators.{widen_op, widen_sign, widen_by, widen_returns}
 use Rattle.cilk_narrow.specs.Narrow.{◌>>=◌, each, narrow_word, narrow_expr, narrow_exprs, narrow_value, narrow_taker, narrow_stmt, narrow_stmts, narrow_locals, narrow_block, narrow_item, narrow}

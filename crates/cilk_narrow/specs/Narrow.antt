@@ -6,7 +6,7 @@ use Rattle.cilk_lexeme.specs.declared.header.Header.{Header}
 use Rattle.cilk_syntax.specs.declared.operator.BinOp.{BinOp}
 use Rattle.cilk_syntax.specs.declared.return_type.ReturnType.{ReturnType}
 use Rattle.cilk_syntax.specs.Tree as whole
-use Rattle.cilk_tree.specs.Tree as small
+use Rattle.cilk_core.specs.Tree as small
 use Rattle.cilk_narrow.specs.Operators.{narrow_op, narrow_sign, narrow_by, narrow_returns}
 
 -- what is there, and then what is made of it: nothing of a part that is not there

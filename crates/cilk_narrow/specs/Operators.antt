@@ -1,20 +1,20 @@
 -- The operators, the adjustments and what a procedure returns, of one tree and of the other.
 use Rattle.cilk_syntax.specs.declared.operator.BinOp as whole_op
 use Rattle.cilk_syntax.specs.declared.operator.BinOp.TheVariants as whole_op_is
-use Rattle.cilk_tree.specs.declared.operator.BinOp as small_op
-use Rattle.cilk_tree.specs.declared.operator.BinOp.TheVariants as small_op_is
+use Rattle.cilk_core.specs.declared.operator.BinOp as small_op
+use Rattle.cilk_core.specs.declared.operator.BinOp.TheVariants as small_op_is
 use Rattle.cilk_syntax.specs.declared.un_op.UnOp as whole_sign
 use Rattle.cilk_syntax.specs.declared.un_op.UnOp.TheVariants as whole_sign_is
-use Rattle.cilk_tree.specs.declared.un_op.UnOp as small_sign
-use Rattle.cilk_tree.specs.declared.un_op.UnOp.TheVariants as small_sign_is
+use Rattle.cilk_core.specs.declared.un_op.UnOp as small_sign
+use Rattle.cilk_core.specs.declared.un_op.UnOp.TheVariants as small_sign_is
 use Rattle.cilk_syntax.specs.declared.adjustment.Adjustment as whole_by
 use Rattle.cilk_syntax.specs.declared.adjustment.Adjustment.TheVariants as whole_by_is
-use Rattle.cilk_tree.specs.declared.adjustment.Adjustment as small_by
-use Rattle.cilk_tree.specs.declared.adjustment.Adjustment.TheVariants as small_by_is
+use Rattle.cilk_core.specs.declared.adjustment.Adjustment as small_by
+use Rattle.cilk_core.specs.declared.adjustment.Adjustment.TheVariants as small_by_is
 use Rattle.cilk_syntax.specs.declared.return_type.ReturnType as whole_word
 use Rattle.cilk_syntax.specs.declared.return_type.ReturnType.TheVariants as whole_word_is
-use Rattle.cilk_tree.specs.declared.return_type.ReturnType as small_word
-use Rattle.cilk_tree.specs.declared.return_type.ReturnType.TheVariants as small_word_is
+use Rattle.cilk_core.specs.declared.return_type.ReturnType as small_word
+use Rattle.cilk_core.specs.declared.return_type.ReturnType.TheVariants as small_word_is
 
 -- an operator between two operands (C 1990, 6.3.5 to 6.3.14)
 abbrev pub narrow_op : whole_op.BinOp → small_op.BinOp

@@ -2,7 +2,7 @@
 use Rattle.std.specs.Prelude.{List, [], ◌∷◌, map, true, Option, Some, None, option_map}
 use Rattle.cilk_syntax.specs.declared.operator.BinOp.{BinOp}
 use Rattle.cilk_syntax.specs.Tree as whole
-use Rattle.cilk_tree.specs.Tree as small
+use Rattle.cilk_core.specs.Tree as small
 use Rattle.cilk_narrow.specs.WideOperators.{widen_op, widen_sign, widen_by, widen_returns}
 
 abbrev pub widen_word : small.Word → whole.Word

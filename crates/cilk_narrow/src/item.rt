@@ -10,7 +10,7 @@ use crate::operator::narrow_returns;
 use crate::refusal::Refusal;
 use crate::stmt::narrow_block;
 use cilk_syntax::{GlobalShape, Item, ItemNode, Parameters, Proc, Program};
-use cilk_tree as tree;
+use cilk_core as tree;
 use std::alloc::{AllocError, Global};
 
 fn narrow_parameters(alloc: Global, parameters: &Parameters) -> Result<Vec<tree::Word>, Refusal>

@@ -2,9 +2,9 @@
 
 ghost use Rattle.std.specs.Prelude.{◌≡◌, Some};
 ghost use Rattle.cilk_syntax.specs.Tree as whole;
-ghost use Rattle.cilk_tree.specs.Tree as small;
+ghost use Rattle.cilk_core.specs.Tree as small;
 ghost use Rattle.cilk_canonical.specs.ProgramText as whole_text;
-ghost use Rattle.cilk_tree.specs.ProgramText as small_text;
+ghost use Rattle.cilk_core.specs.ProgramText as small_text;
 ghost use Rattle.cilk_narrow.specs.Narrow.{narrow};
 ghost use Rattle.cilk_narrow.specs.Widen.{widen};
 

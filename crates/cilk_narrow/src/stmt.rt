@@ -2,7 +2,7 @@
 
 ghost use Rattle.std.specs.Prelude.{◌≡◌};
 ghost use Rattle.cilk_syntax.specs.MoveView.{taker_of as whole_taker_of, shape_of};
-ghost use Rattle.cilk_tree.specs.StmtView.{taker_of};
+ghost use Rattle.cilk_core.specs.StmtView.{taker_of};
 ghost use Rattle.cilk_narrow.specs.Narrow.{each, narrow_place, narrow_move, narrow_taker, narrow_stmt};
 ghost use Rattle.cilk_narrow.specs.Narrow.{narrow_local, narrow_block, variable_of, assignment};
 ghost use Rattle.cilk_narrow.specs.Narrowed.{Narrowed, NarrowedBy, items_of};
@@ -13,7 +13,7 @@ use crate::refusal::Refusal;
 use cilk_syntax::{
     BinOp, Block, Decl, Local, LocalNode, Move, MoveNode, Place, Shape, Stmt, StmtNode, Taker,
 };
-use cilk_tree as tree;
+use cilk_core as tree;
 use std::alloc::Global;
 
 fn narrow_place(alloc: Global, place: &Place) -> Result<tree::Place, Refusal>

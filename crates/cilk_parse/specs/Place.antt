@@ -1,6 +1,6 @@
--- Where a fault is.
+-- Where a fault of a text is.
 use Rattle.std.specs.Prelude.{ℕ}
-use Rattle.cilk_lex.specs.Reading.{place_of as lex_place}
+use Rattle.cilk_lexeme.specs.Lexeme.{place_of as lex_place}
 use Rattle.cilk_parse.specs.declared.fault.ReadFault.{ReadFault}
 use Rattle.cilk_parse.specs.declared.fault.ReadFault.TheVariants as fault
 

@@ -1,7 +1,7 @@
 ghost use Rattle.std.specs.Prelude.{◌≡◌};
 ghost use Rattle.cilk_parse.specs.Place.{place_of};
 
-use cilk_lex::LexFault;
+use cilk_lexeme::LexFault;
 use thiserror::Error;
 
 /// Why a text was not read as a program.
@@ -10,11 +10,10 @@ pub enum ReadFault {
     /// The text has no tokens.
     #[error("{0}")]
     Lex(LexFault),
-    /// No program begins with the tokens through the one at this place, or, at the end of the
-    /// text, it is no whole program.
+    /// No program goes through the token at this place, or, at the end of the text, it is no whole program.
     #[error("P2 Unexpected")]
     Unexpected(u32),
-    /// No program within the nesting limits begins with the tokens through the one at this place.
+    /// No program within the limits of nesting goes through the token at this place.
     #[error("P3 TooDeep")]
     TooDeep(u32),
     /// Memory has run out.

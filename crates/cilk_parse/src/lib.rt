@@ -1,17 +1,20 @@
-//! Programs read from their texts (C 1990, 6.5 to 6.7; Cilk 5.4 manual, `cilk`,
-//! `spawn` and `sync`).
+//! Programs read from their texts (C 1990, 6.5 to 6.8; Cilk 5.4 manual).
 #![tactic(auto)]
 
-mod declaration;
-mod definition;
 mod fault;
-mod global;
-pub mod laws;
-mod parameters;
+mod function;
+mod headers;
+mod int_tail;
+mod item;
+mod items;
+mod kinds;
+mod lock;
+mod main_function;
+mod main_tail;
 mod program;
-mod role;
-mod spawn;
-mod statement;
+mod tail;
+mod variable;
+mod whole;
 
 pub use fault::ReadFault;
 pub use program::read;

@@ -1,19 +1,33 @@
-ghost use Rattle.std.specs.Prelude.{◌≡◌, ◌<◌, ◌≤◌, ◌⊎◌, ◌↔◌, length, All, IfOk, IfErr, MatchResult};
-ghost use Rattle.cilk_lex.specs.declared.fault.LexFault.{LexFault};
-ghost use Rattle.cilk_lex.specs.Lexeme.{pieces_of};
-ghost use Rattle.cilk_lex.specs.Lexing.{text_limit};
+ghost use Rattle.std.specs.Prelude.{◌≡◌, ◌≢◌, ◌<◌, ◌≤◌, ◌⊎◌, ◌↔◌, length, All, IfOk, IfErr, MatchResult};
+ghost use Rattle.cilk_lexeme.specs.declared.fault.LexFault.{LexFault};
+ghost use Rattle.cilk_lexeme.specs.Lexeme.{pieces_of, place_of as lex_place};
+ghost use Rattle.cilk_lexeme.specs.Lexing.{text_limit};
 ghost use Rattle.cilk_lex.specs.Reading.{IsWithin};
-ghost use Rattle.cilk_tree.specs.Tree as tree;
-ghost use Rattle.cilk_parse.specs.Grammar.{SpellsProgram};
-ghost use Rattle.cilk_parse.specs.Fault.{HasFault, HasLexFault, place_left};
+ghost use Rattle.cilk_syntax.specs.Tree as tree;
+ghost use Rattle.cilk_grammar.specs.Fault.{place_left};
 ghost use Rattle.cilk_parse.specs.Place.{place_of};
+ghost use Rattle.cilk_parse.specs.Text.{Spells, HasFault, HasLexFault};
 
-use crate::definition::items;
 use crate::fault::ReadFault;
-use cilk_expr::{Cursor, Fault, ParseError};
-use cilk_lex::{LexFault, Token, tokens};
-use cilk_tree::Program;
+use crate::whole::whole;
+use cilk_expression::Cursor;
+use cilk_lex::tokens;
+use cilk_lexeme::{LexFault, Token};
+use cilk_rules::{Fault, ReadError};
+use cilk_syntax::Program;
 use std::alloc::Global;
+
+// Why a text is not read that has no tokens.
+fn of_tokens(fault: LexFault) -> ReadFault
+    ensures memory { fault ≡ LexFault.Memory → result ≡ ReadFault.Memory }
+    ensures other { fault ≢ LexFault.Memory → result ≡ ReadFault.Lex fault }
+    ensures place { place_of result ≡ lex_place fault }
+{
+    match fault {
+        LexFault::Memory => ReadFault::Memory,
+        other => ReadFault::Lex(other),
+    }
+}
 
 // The place from which on so many tokens are left: that of the next one, or the text's length.
 fn place_left(text: &str, tokens: &[Token], left: usize) -> u32
@@ -29,37 +43,37 @@ fn place_left(text: &str, tokens: &[Token], left: usize) -> u32
     }
 }
 
-/// Reads the program that a text spells, within the nesting limits of 200 operators in one
-/// expression and 200 parentheses open at once in it. Of the faults in the tokens the first from
-/// the left is reported (C 1990, 6.5 to 6.7; Cilk 5.4 manual, `cilk`, `spawn` and `sync`).
+/// Reads the program that a text spells, within the limits of nesting: 200 operators and subscript brackets in one
+/// expression, 200 parentheses open at once in it, and 200 statements and inlets around another. Of the faults in the
+/// tokens the first from the left is reported (C 1990, 6.5 to 6.7; Cilk 5.4 manual).
 pub fn read(alloc: Global, text: &str) -> Result<Program, ReadFault>
     ensures too_long { (result ≡ Err (ReadFault.Lex LexFault.TooLong)) ↔ (text_limit < length text.now) }
-    ensures found { IfOk result (SpellsProgram text.now) }
+    ensures found { IfOk result (Spells text.now) }
     ensures refused { IfErr result (HasFault text.now) }
     ensures placed { IfErr result (λ f. place_of f ≤ length text.now) }
 
     // Both ways, unless memory runs out.
-    ensures every_program { (p : tree.Program) → length text.now ≤ text_limit → SpellsProgram text.now p
+    ensures every_program { (p : tree.Program) → length text.now ≤ text_limit → Spells text.now p
         → MatchResult result (λ q. q ≡ p) (λ f. f ≡ ReadFault.Memory) }
     ensures every_lex_fault { (f : LexFault) → HasLexFault text.now f
         → MatchResult result (λ _. ⊥) (λ g. (g ≡ ReadFault.Lex f) ⊎ (g ≡ ReadFault.Memory)) }
 {
     let tokens = match tokens(alloc, text) {
         Ok(tokens) => tokens,
-        Err(LexFault::Memory) => return Err(ReadFault::Memory),
-        Err(fault) => return Err(ReadFault::Lex(fault)),
+        Err(fault) => return Err(of_tokens(fault)),
     };
     let mut cursor = Cursor::new(alloc, text, &tokens);
-    match items(&mut cursor) {
-        Ok(items) => Ok(Program {
+    match whole(&mut cursor) {
+        Ok((headers, items)) => Ok(Program {
+            headers,
             items,
             length: text.len() as u32,
         }),
-        Err(ParseError::Memory) => Err(ReadFault::Memory),
-        Err(ParseError::Fault(Fault::Unexpected(left))) => {
+        Err(ReadError::Memory) => Err(ReadFault::Memory),
+        Err(ReadError::Fault(Fault::Unexpected(left))) => {
             Err(ReadFault::Unexpected(place_left(text, &tokens, left)))
         }
-        Err(ParseError::Fault(Fault::TooDeep(left))) => {
+        Err(ReadError::Fault(Fault::TooDeep(left))) => {
             Err(ReadFault::TooDeep(place_left(text, &tokens, left)))
         }
     }

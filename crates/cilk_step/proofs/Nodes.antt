@@ -1,7 +1,7 @@
 -- What the instance of a frame does, by the node of its top activation.
 use Rattle.std.proofs.Common.{◌≡◌, ◌<◌, ℕ, ℤ, Bool, true, false, ◌&&◌, ◌||◌, List, [], ◌∷◌, length, Option, Some, None, refl, sym, ap, ◌∙◌, subst}
 use Rattle.std.specs.Prelude.{if◌then◌else◌, slice_get, ◌==◌}
-use Rattle.cilk_tree.specs.Tree as tree
+use Rattle.cilk_core.specs.Tree as tree
 use Rattle.cilk_eval.specs.Slots.{Cells}
 use Rattle.cilk_model.specs.Label.{label}
 use Rattle.cilk_model.specs.Items.{head_of, opened, next}

@@ -1,6 +1,6 @@
 -- The plans that the parts of a step make.
 use Rattle.std.specs.Prelude.{◌+◌, ℕ, ℤ, pos, Bool, true, false, List, length, Option, Some, None, Result, Ok, Err}
-use Rattle.cilk_tree.specs.Tree as tree
+use Rattle.cilk_core.specs.Tree as tree
 use Rattle.cilk_eval.specs.declared.slot.Slot.{Slot}
 use Rattle.cilk_eval.specs.declared.trap.Trap.{Trap}
 use Rattle.cilk_eval.specs.Value.{value_of}

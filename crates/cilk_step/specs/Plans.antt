@@ -1,6 +1,6 @@
 -- What a plan says of the step of an instance that the definition of runs takes.
 use Rattle.std.specs.Prelude.{◌≡◌, ◌<◌, ◌+◌, ◌^◌, ℕ, ℤ, true, false, List, ◌∷◌, length, Some, Ok}
-use Rattle.cilk_tree.specs.Tree as tree
+use Rattle.cilk_core.specs.Tree as tree
 use Rattle.cilk_model.specs.Labelled.{Taker}
 use Rattle.cilk_model.specs.Label.{label}
 use Rattle.cilk_model.specs.Items.{opened, next}

@@ -1,8 +1,8 @@
 -- What a step reads of a frame, of the tree and of the cells of the top level.
 use Rattle.std.specs.Prelude.{◌≡◌, ◌<◌, ◌+◌, ◌-◌, ◌^◌, ℕ, ℤ, Bool, true, false, ◌&&◌, ◌||◌, ◌==◌, nat_lt, if◌then◌else◌, ⊤, IsSome, List, [], ◌∷◌, length, Option, None, Result, Ok, Err, slice_get, Vec}
 use Rattle.std.specs.List.{All}
-use Rattle.cilk_tree.specs.declared.operator.BinOp.{BinOp}
-use Rattle.cilk_tree.specs.Tree as tree
+use Rattle.cilk_core.specs.declared.operator.BinOp.{BinOp}
+use Rattle.cilk_core.specs.Tree as tree
 use Rattle.cilk_eval.specs.declared.slot.Slot.{Slot}
 use Rattle.cilk_eval.specs.declared.trap.Trap.{Trap}
 use Rattle.cilk_eval.specs.Arithmetic.{binary_result}

@@ -14,7 +14,7 @@ use crate::reached::Reached;
 use cilk_eval::{Slot, Trap, apply};
 use cilk_load::Taker;
 use cilk_spawn::{Frame, Id, Memory, Path, Receiver, Tree};
-use cilk_tree::BinOp;
+use cilk_core::BinOp;
 use std::alloc::Global;
 
 /// The most instances that may live.

@@ -7,7 +7,7 @@ ghost use Rattle.cilk_step.specs.Reads.{cells_in, updated, values_in};
 
 use cilk_eval::{Area, Code, Slot, Slots, Trap, apply, eval};
 use cilk_spawn::{Frame, Memory, Tree};
-use cilk_tree::BinOp;
+use cilk_core::BinOp;
 use std::alloc::Global;
 
 /// The cells that the top activation of a frame sees.

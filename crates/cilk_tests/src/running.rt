@@ -9,12 +9,12 @@ mod schedules;
 mod script;
 mod streams;
 
-use cilk_commands::program_of;
+use cilk_commands::ready_of;
 use cilk_load::Loaded;
 use std::alloc::Global;
 use std::process::Abort;
 
 // The program of a text.
 fn program(rt: &impl Abort, alloc: Global, text: &str) -> Loaded {
-    program_of(alloc, text.as_bytes()).expect(rt, "a program")
+    ready_of(alloc, text.as_bytes()).expect(rt, "a program")
 }

@@ -1,8 +1,11 @@
 -- What is asked for, by what was found for a subcommand.
-use Rattle.std.proofs.Common.{◌≡◌, ◌-◌, ◌^◌, ◌<◌, ◌∙◌, arith, refl, sym, ap, ℕ, Bool, true, false, List, Option, Some, None, codes, cond, option_map}
-use Rattle.std.specs.Str.Parse.{IsNumeral, digits_value, without_leading_plus}
+use Rattle.std.proofs.Common.{◌≡◌, ◌-◌, ◌^◌, ◌<◌, ◌∙◌, arith, refl, sym, ℕ, Bool, true, false, List, Option, Some, None, codes, cond, option_map}
+use Rattle.std.specs.Prelude.{◌≢◌, Decides, MatchBool, unwrap_or}
+use Rattle.std.specs.Str.{bytes_eq}
+use Rattle.std.specs.Str.Parse.{IsNumeral, ParsesBool, digits_value, false_text, true_text, without_leading_plus}
+use Rattle.std.proofs.lemmas.Slice.Eq.{bytes_eq-Decides}
 use Rattle.clap.specs.ValueTests.{is_unsigned_in}
-use Rattle.clap.specs.Words.{Row, Text, first_value, one_text, rows_of, subcommand_name_of, subcommand_rows_of}
+use Rattle.clap.specs.Words.{ReadsOne, Row, Text, first_value, one_of, one_text, rows_of, subcommand_name_of, subcommand_rows_of}
 use Rattle.clap.specs.declared.builder.value_parser.ValueParser.TheVariants.{Unsigned}
 use Rattle.clap.specs.declared.parser.matches.ArgMatches.{ArgMatches}
 use Rattle.clap.specs.declared.parser.matches.ArgMatches.TheViews.{out-ArgMatches}
@@ -11,7 +14,7 @@ use Rattle.clap.proofs.ValueTestLemmas.{Accepts-accepts, accepts-Accepts}
 use Rattle.clap.proofs.WalkLemmas.{first_value-rows, one_text-rows}
 use Rattle.cilk_words.specs.declared.request.Task.{Task}
 use Rattle.cilk_words.specs.declared.request.Task.TheVariants as task
-use Rattle.cilk_words.specs.CommandLine.{request_for, request_of_any, run_of, task_of}
+use Rattle.cilk_words.specs.CommandLine.{is_set, request_for, request_of_any, run_of, task_of}
 
 -- ---- the subcommand that was met
 
@@ -27,10 +30,10 @@ both_are (Some s) name rows named given =
     let rows_are : s.1 ≡ rows = cc in
     λ i. Some (name_is i, rows_are i)
 
--- a task and a name that were found for a subcommand are what is asked for
+-- a task and a name that were found for a subcommand are what is asked for, with its flag
 pub requests : (m : ArgMatches) (name : Text) (f : Found) (wanted : Option Task) (file : Option Text) → Some name ≡ subcommand_name_of m
     → Some (rows_of f) ≡ option_map (λ s. s.1) (subcommand_rows_of m) → wanted ≡ task_of name (rows_of f) → file ≡ first_value f (codes "F")
-    → request_for wanted file ≡ request_of_any (subcommand_rows_of m)
+    → request_for wanted file (is_set (one_of (codes "explain") (rows_of f))) ≡ request_of_any (subcommand_rows_of m)
 requests m name f wanted file named given task_is file_is =
     let names : subcommand_name_of m ≡ option_map (λ s. s.0) (subcommand_rows_of m) = fused _ _ (out-ArgMatches m).subcommand in
     let sub_is = both_are (subcommand_rows_of m) name (rows_of f) (sym names ∙ sym named) (sym given) in
@@ -71,3 +74,27 @@ unread (Some t) fails = go (is_unsigned_in 0 (2 ^ 32 - 1) t) (λ fits.
 -- and one without asks for nothing
 pub no_limit : (f : Found) → ((t : Text) → one_text f (codes "limit") ≡ Some t → Reads t → ⊥) → task_of (codes "run") (rows_of f) ≡ None
 no_limit f fails = rw (← one_text-rows f (codes "limit")) (unread (one_text f (codes "limit")) fails)
+
+-- ---- whether more is to be said of a fault
+
+read_flag : (word : Text) (given : Bool) → MatchBool given (word ≡ true_text) (word ≡ false_text) → given ≡ bytes_eq word (codes "true")
+read_flag word true is = rw is refl
+read_flag word false is = rw is refl
+
+unread_flag : (word : Text) → word ≢ true_text → false ≡ bytes_eq word (codes "true")
+unread_flag word apart = go (bytes_eq word (codes "true")) (bytes_eq-Decides word (codes "true"))
+  where
+    go : (b : Bool) → Decides b (word ≡ true_text) → false ≡ b
+    go true same = absurd (apart (same.0 refl))
+    go false other = refl
+
+flag_of : (E : Type 0) (word : Option Text) (given : Option Bool) → (word ≡ None → given ≡ None)
+    → ((t : Text) → word ≡ Some t → ReadsOne (ParsesBool {E = E}) t given) → unwrap_or given false ≡ is_set word
+flag_of E None given none value = rw (none refl) refl
+flag_of E (Some t) None none value = unread_flag t (value t refl).1.0
+flag_of E (Some t) (Some given) none value = read_flag t given (value t refl)
+
+-- the flag is given where its text says so
+pub flag_given : (E : Type 0) (f : Found) (given : Option Bool) → (one_text f (codes "explain") ≡ None → given ≡ None)
+    → ((t : Text) → one_text f (codes "explain") ≡ Some t → ReadsOne (ParsesBool {E = E}) t given) → unwrap_or given false ≡ is_set (one_of (codes "explain") (rows_of f))
+flag_given E f given = rw (← one_text-rows f (codes "explain")) (flag_of E (one_text f (codes "explain")) given)

@@ -8,8 +8,9 @@ use Rattle.clap.specs.ValueTests.{is_unsigned_in}
 use Rattle.clap.specs.Kinds.{Kinds}
 use Rattle.clap.specs.Simple.{on_top}
 use Rattle.clap.specs.Words.{App, Row, Rule, Text, fault_of, first_of, new_app, new_rule, one_of, subcommand_of, with_rule, with_subcommand}
-use Rattle.clap.specs.declared.builder.action.ArgAction.TheVariants.{Set}
+use Rattle.clap.specs.declared.builder.action.ArgAction.TheVariants.{Set, SetTrue}
 use Rattle.clap.specs.declared.builder.value_parser.ValueParser.TheVariants.{Signed}
+use Rattle.cilk_words.specs.declared.request.Request.{Request}
 use Rattle.cilk_words.specs.declared.request.Task.{Task}
 use Rattle.cilk_words.specs.declared.request.Task.TheVariants as task
 
@@ -26,9 +27,13 @@ limit_rule = record (new_rule (codes "limit")) {
   defaults = codes "1000000" ∷ [];
 }
 
--- a subcommand on a text
+-- the flag by which more is said of a fault
+abbrev pub explain_rule : Rule
+explain_rule = record (new_rule (codes "explain")) { long = Some (codes "explain"); action = Some SetTrue }
+
+-- a subcommand on a text, of whose faults more may be said
 abbrev pub on_text : Text → App
-on_text name = with_rule (new_app name) file_rule
+on_text name = with_rule (with_rule (new_app name) file_rule) explain_rule
 
 -- the program, which wants one of its subcommands
 abbrev pub bare : App
@@ -54,18 +59,29 @@ task_of name rows =
     else (if bytes_eq name (codes "check") then Some task.Check
     else (if bytes_eq name (codes "run") then run_of (one_of (codes "limit") rows) else None))
 
--- a task, and the name of the text that it is for
-abbrev pub Asked : Type 0
-Asked = Task × Text
+-- a flag is given, by the text that stands for it
+abbrev pub is_set : Option Text → Bool
+is_set None = false
+is_set (Some word) = bytes_eq word (codes "true")
 
--- a request, where there is a task and a name
-abbrev pub request_for : Option Task → Option Text → Option Asked
-request_for (Some wanted) (Some name) = Some (wanted, name)
-request_for _ _ = None
+-- a task, the name of the text that it is for, and whether more is to be said of a fault in that text
+pub record Asked : Type 0 where
+  pub task : Task
+  pub name : Text
+  pub explain : Bool
+
+-- what a request asks for
+abbrev pub asked_by : Request → Asked
+asked_by r = record { task = r.task; name = r.name.now; explain = r.explain }
+
+-- what is asked for, where there is a task and a name
+abbrev pub request_for : Option Task → Option Text → Bool → Option Asked
+request_for (Some wanted) (Some name) explain = Some (record { task = wanted; name = name; explain = explain })
+request_for _ _ explain = None
 
 -- what a subcommand asks for
 abbrev pub request_of : Text × List Row → Option Asked
-request_of sub = request_for (task_of sub.0 sub.1) (first_of (codes "F") sub.1)
+request_of sub = request_for (task_of sub.0 sub.1) (first_of (codes "F") sub.1) (is_set (one_of (codes "explain") sub.1))
 
 -- the same, where there is a subcommand
 abbrev pub request_of_any : Option (Text × List Row) → Option Asked

@@ -11,6 +11,9 @@ pub const FILE: &str = "F";
 /// The name of the argument that says how many choices a run may make.
 pub const LIMIT: &str = "limit";
 
+/// The name of the flag by which more is said of a fault.
+pub const EXPLAIN: &str = "explain";
+
 const VERSION: &str = "0.1.0";
 
 // What the help of the program ends with.
@@ -62,7 +65,7 @@ pub fn command<'a>(alloc: Global) -> Result<Command<'a>, AllocError>
         .subcommand(run)
 }
 
-// A subcommand on one program's text.
+// A subcommand on one program's text, of whose faults more may be said.
 fn on_file<'a>(alloc: Global, name: &'a str, about: &'a str) -> Result<Command<'a>, AllocError>
     ensures { IfOk result (λ c. app_of c ≡ on_text name.now) }
 {
@@ -70,5 +73,12 @@ fn on_file<'a>(alloc: Global, name: &'a str, about: &'a str) -> Result<Command<'
         .required(true)
         .action(ArgAction::Set)
         .help("The program's text, or - for standard input");
-    Command::new(alloc, name).about(about).arg(file)
+    let explain = Arg::new(alloc, EXPLAIN)
+        .long(EXPLAIN)
+        .action(ArgAction::SetTrue)
+        .help("Says more of a fault in the program");
+    Command::new(alloc, name)
+        .about(about)
+        .arg(file)?
+        .arg(explain)
 }

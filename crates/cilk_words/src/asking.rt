@@ -1,9 +1,9 @@
-ghost use Rattle.std.specs.Prelude.{◌≡◌, IfErr, IfOk, Some, option_map};
-ghost use Rattle.clap.specs.Words.{found_of, rows_of, subcommand_rows_of};
-ghost use Rattle.cilk_words.specs.CommandLine.{asked, request_of_any, task_of, texts_of};
+ghost use Rattle.std.specs.Prelude.{◌≡◌, IfErr, IfOk, Some, codes, option_map};
+ghost use Rattle.clap.specs.Words.{found_of, one_of, rows_of, subcommand_rows_of};
+ghost use Rattle.cilk_words.specs.CommandLine.{asked, asked_by, is_set, request_of_any, task_of, texts_of};
 ghost use Rattle.cilk_words.specs.Refusing.{Tells};
 
-use crate::arguments::{FILE, LIMIT, parse};
+use crate::arguments::{EXPLAIN, FILE, LIMIT, parse};
 use crate::refusal::Refusal;
 use crate::request::{Request, Task};
 use clap::ArgMatches;
@@ -11,7 +11,7 @@ use std::alloc::Global;
 
 /// What the words of a command line ask for, the first of which is the program's own name.
 pub fn request_in<'a>(alloc: Global, words: &'a [String]) -> Result<Request<'a>, Refusal>
-    ensures request { IfOk result (λ r. asked (texts_of words.now) ≡ Some (r.task, r.name.now)) }
+    ensures request { IfOk result (λ r. asked (texts_of words.now) ≡ Some (asked_by r)) }
     ensures refusal { IfErr result (Tells (texts_of words.now)) }
 {
     match parse(alloc, words) {
@@ -24,13 +24,17 @@ pub fn request_in<'a>(alloc: Global, words: &'a [String]) -> Result<Request<'a>,
 }
 
 fn requested<'a>(matches: &ArgMatches<'a>) -> Option<Request<'a>>
-    ensures { option_map (λ r. (r.task, r.name.now)) result
-        ≡ request_of_any (subcommand_rows_of matches.now) }
+    ensures { option_map asked_by result ≡ request_of_any (subcommand_rows_of matches.now) }
 {
     let (name, found) = matches.subcommand()?;
     let task = task_named(name, found)?;
     let name = found.get_str(FILE)?;
-    Some(Request { task, name })
+    let explain = explained(found);
+    Some(Request {
+        task,
+        name,
+        explain,
+    })
 }
 
 fn task_named(name: &str, found: &ArgMatches<'_>) -> Option<Task>
@@ -42,4 +46,11 @@ fn task_named(name: &str, found: &ArgMatches<'_>) -> Option<Task>
         "run" => Some(Task::Run(found.get_one(LIMIT)?)),
         _ => None,
     }
+}
+
+// Whether the flag is given. `get_flag` says nothing of a text that is no `bool`.
+fn explained(found: &ArgMatches<'_>) -> bool
+    ensures { result ≡ is_set (one_of (codes "explain") (rows_of (found_of found.now))) }
+{
+    found.get_one(EXPLAIN).unwrap_or(false)
 }

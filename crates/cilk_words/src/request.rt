@@ -9,9 +9,11 @@ pub enum Task {
     Run(u32),
 }
 
-/// A task, and the name of the text of the program that it is for.
+/// A task, the name of the text of the program that it is for, and whether more is to be said of a
+/// fault in that program.
 #[derive(Clone, Copy, Debug)]
 pub struct Request<'a> {
     pub task: Task,
     pub name: &'a str,
+    pub explain: bool,
 }

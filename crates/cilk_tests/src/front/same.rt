@@ -1,6 +1,7 @@
 //! Programs that are the same, places aside, and such that are not.
 
 use super::program;
+use cilk_tree::Same;
 use std::alloc::Global;
 use std::process::Abort;
 
@@ -15,7 +16,10 @@ int g=5; and      int g=5;
 cilk int f(){spawn f(7,1+2);} and cilk int f(){spawn f(7,1+2);}
 cilk int f(){sync;} and cilk int f(){      sync;}
 cilk int f(){x=spawn f();} and cilk int f(){  x=  spawn f();}
-cilk void f() { ; spawn f(); sync; } and cilk void f() { ;  spawn f ( ) ; sync ; }";
+cilk void f() { ; spawn f(); sync; } and cilk void f() { ;  spawn f ( ) ; sync ; }
+int f(void){if(x)return 010;return a[1];} and int f(){if (x) { return 8; } /* nothing */ return a[(1)];}
+void f(){for(;;)printf(\"a\\n\");} and void f ( void ) { for ( ; 1 ; ) { printf(\"a\\n\") ; } }
+cilk int f(int n){inlet void g(int r){abort;} g(spawn f(n-1));sync;return n;} and cilk int f(int n) { inlet void g(int r) { abort; } g(spawn f(n - 1)); sync; return n; }";
 
 const OTHER: &str =
     "cilk int main(){int a=2,b;b=a*(3+4)-5;return b;} and cilk int main(){int a=2,b;b=a/(3+4)-5;return b;}
@@ -33,7 +37,17 @@ cilk int f(){spawn f(7,1+2);} and cilk int f(){spawn g(7,1+2);}
 cilk int f(){spawn f(7,1+2);} and cilk int f(){spawn f();}
 cilk int f(){spawn f(7,1+2);} and cilk int f(){sync;}
 cilk int f(){x=spawn f();} and cilk int f(){x+=spawn f();}
-cilk int f(){x=spawn f();} and cilk int f(){spawn f();}";
+cilk int f(){x=spawn f();} and cilk int f(){spawn f();}
+int f(){return 1;} and cilk int f(){return 1;}
+int a[2]; and int a[3];
+void f(){if(x)y=1;} and void f(){if(x)y=1;else y=1;}
+void f(){while(x)y=1;} and void f(){do y=1; while(x);}
+void f(){break;} and void f(){continue;}
+void f(){printf(\"a\");} and void f(){printf(\"b\");}
+void f(){Cilk_lock(x);} and void f(){Cilk_unlock(x);}
+cilk void f(){inlet void g(){} } and cilk void f(){inlet void h(){} }
+int f(int); and int f(int, int);
+#include <stdio.h> and #include <stdlib.h>";
 
 fn is_same(rt: &impl Abort, alloc: Global, text: &str, other: &str) -> bool {
     let program = program(rt, alloc, text);

@@ -49,8 +49,12 @@ fn tokens_at_their_places(rt: HostRuntime) {
         // The last byte of the text.
         ("x<", "Name@0:x Mark(Less)@1:< "),
         (
-            "2147483647 0",
-            "Number(2147483647)@0:2147483647 Number(0)@11:0 ",
+            "2147483647 0 010 0x1F",
+            "Number(2147483647)@0:2147483647 Number(0)@11:0 Number(8)@13:010 Number(31)@17:0x1F ",
+        ),
+        (
+            "a/*b*/ \"c\\n\"\n#include <cilk.h>\nd",
+            "Name@0:a Text@7:\"c\\n\" Include(Cilk)@13:#include <cilk.h> Name@31:d ",
         ),
     ] {
         let seen = shown(&rt, rt.alloc(), text);
@@ -134,7 +138,12 @@ fn texts_without_tokens(rt: HostRuntime) {
         ("int @", LexFault::BadByte(4)),
         ("08", LexFault::BadNumber(0)),
         ("2147483648", LexFault::BadNumber(0)),
-        (" 0x1F", LexFault::BadNumber(1)),
+        (" 0x1G", LexFault::BadNumber(1)),
+        ("a/*b*", LexFault::OpenComment(1)),
+        ("a\"b", LexFault::OpenText(1)),
+        ("\"a\\q\"", LexFault::BadEscape(2)),
+        ("\"a\u{1}\"", LexFault::BadByte(2)),
+        ("a\n #define b", LexFault::BadDirective(3)),
         ("a=1.5;@", LexFault::BadNumber(2)),
         ("é", LexFault::BadByte(0)),
         // A byte past ASCII right behind a mark.

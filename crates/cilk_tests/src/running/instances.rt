@@ -4,12 +4,12 @@ ghost use Rattle.std.specs.Prelude.{◌≡◌, ◌<◌, length, true};
 ghost use Rattle.cilk_spawn.specs.Nodes.{node_at, is_live};
 
 use super::program;
+use cilk_core::BinOp;
 use cilk_eval::{Area, Slot};
 use cilk_spawn::{
     Delivery, Ending, Frame, Id, Path, Receiver, Tree, ids_change, instances_are_those_that_live,
     instances_change, paths_are_names, paths_stay, trees_stay_trees,
 };
-use cilk_tree::BinOp;
 use std::alloc::Global;
 use std::process::Abort;
 

@@ -65,7 +65,7 @@ fn stops_at_a_broken_reader(rt: HostRuntime) {
         let mut out = Vec::new(rt.alloc());
         let mut err = Vec::new(rt.alloc());
         let mut reader = BrokenReader { calls: 0, fails_at };
-        let status = print_text(rt.alloc(), "a.cilk", &mut reader, &mut out, &mut err);
+        let status = print_text(rt.alloc(), "a.cilk", false, &mut reader, &mut out, &mut err);
         assert_eq!(rt; status.code(), 7);
         assert!(rt; out.is_empty());
         assert_eq!(rt; err.as_slice(), b"cilk: cannot read a.cilk\n".as_slice());
@@ -78,7 +78,7 @@ fn stops_at_a_broken_writer(rt: HostRuntime) {
         let mut text = SAMPLE.as_bytes();
         let mut out = BrokenWriter::new(rt.alloc(), room);
         let mut err = Vec::new(rt.alloc());
-        let status = print_text(rt.alloc(), "-", &mut text, &mut out, &mut err);
+        let status = print_text(rt.alloc(), "-", false, &mut text, &mut out, &mut err);
         assert_eq!(rt; status.code(), 7);
         let count = room.min(CANONICAL.len());
         assert_eq!(rt; out.held.as_slice(), &CANONICAL.as_bytes()[..count]);
@@ -91,7 +91,7 @@ fn loses_a_line_that_cannot_be_written(rt: HostRuntime) {
     let mut text = b"\xff".as_slice();
     let mut out = Vec::new(rt.alloc());
     let mut err = BrokenWriter::new(rt.alloc(), 3);
-    let status = print_text(rt.alloc(), "-", &mut text, &mut out, &mut err);
+    let status = print_text(rt.alloc(), "-", false, &mut text, &mut out, &mut err);
     assert_eq!(rt; status.code(), 1);
     assert!(rt; out.is_empty());
     assert_eq!(rt; err.held.as_slice(), b"-: ".as_slice());

@@ -1,14 +1,15 @@
-use Rattle.cilk_lex.proofs.Fronts.{found_mark}
-use Rattle.cilk_lex.proofs.Marks.{none_above_3, none_above_2, none_above_1}
+use Rattle.cilk_lex.proofs.Fronts.{three, two, one, none}
 use Rattle.cilk_lex.proofs.front.first_mark.Goals as goal
 
 pub returns-in-Some : goal.returns-in-Some
-returns-in-Some c = rw c.mark.ensures (found_mark c.args.text.now c.in-Some.mark 3 c.in-Some.ensures.0 c.in-Some.ensures.1 (none_above_3 c.args.text.now))
+returns-in-Some c = rw c.found_mark.ensures (three c.args.text.now c.args.at c.in-Some.mark c.in-Some.ensures)
 
 pub returns-in-Some-mark_within : goal.returns-in-Some-mark_within
-returns-in-Some-mark_within c =
-    rw c.mark-in-Some-mark_within.ensures (found_mark c.args.text.now c.in-Some-mark_within.mark 2 c.in-Some-mark_within.ensures.0 c.in-Some-mark_within.ensures.1 (none_above_2 c.args.text.now c.in_default.ensures))
+returns-in-Some-mark_within c = rw c.found_mark-in-Some-mark_within.ensures (two c.args.text.now c.args.at c.in-Some-mark_within.mark c.in_default.ensures c.in-Some-mark_within.ensures)
 
-pub returns : goal.returns
-returns c =
-    rw c.mark-2.ensures (found_mark c.args.text.now c.in_ok-mark.mark 1 c.in_ok-mark.ensures.0 c.in_ok-mark.ensures.1 (none_above_1 c.args.text.now c.in_default-mark_within.ensures c.in_default.ensures))
+pub returns-in-Some-mark_within-2 : goal.returns-in-Some-mark_within-2
+returns-in-Some-mark_within-2 c =
+    rw c.found_mark-in-Some-mark_within-2.ensures (one c.args.text.now c.args.at c.in-Some-mark_within-2.mark c.in_default.ensures c.in_default-mark_within.ensures c.in-Some-mark_within-2.ensures)
+
+pub returns-in-None : goal.returns-in-None
+returns-in-None c = none c.args.text.now c.args.at c.in_default.ensures c.in_default-mark_within.ensures c.in-None.ensures

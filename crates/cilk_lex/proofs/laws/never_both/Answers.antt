@@ -1,5 +1,5 @@
-use Rattle.cilk_lex.proofs.Unique.{never_both}
+use Rattle.cilk_lexeme.proofs.Unique.{never_both}
 use Rattle.cilk_lex.proofs.laws.never_both.Goals as goal
 
 pub returns : goal.returns
-returns c = λ at text ps f l h. never_both l h
+returns c = λ fresh at text ps f l h. never_both l h

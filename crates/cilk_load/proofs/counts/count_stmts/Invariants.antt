@@ -1,5 +1,5 @@
 use Rattle.std.proofs.Common.{◌≡◌, ◌+◌, ◌≤◌, min, drop}
-use Rattle.cilk_tree.specs.Stmts.{stmts_of}
+use Rattle.cilk_core.specs.Stmts.{stmts_of}
 use Rattle.cilk_model.specs.Count.{count_stmts}
 use Rattle.cilk_load.proofs.counts.count_stmts.Given as goal
 

@@ -1,5 +1,5 @@
 use Rattle.std.proofs.Common.{◌≡◌, ◌+◌, ◌++◌, drop, length, vec_len}
-use Rattle.cilk_tree.specs.ProgramText.{items_lines}
+use Rattle.cilk_core.specs.ProgramText.{items_lines}
 use Rattle.cilk_model.specs.Count.{count_items}
 use Rattle.cilk_model.specs.Lines.{items_action_lines}
 use Rattle.cilk_load.proofs.lines.action_lines.Given as goal

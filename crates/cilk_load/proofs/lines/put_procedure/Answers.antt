@@ -1,6 +1,6 @@
 use Rattle.std.proofs.Common.{[], length, ap, ◌∙◌, arith}
-use Rattle.cilk_tree.specs.Tree.{Block, Proc}
-use Rattle.cilk_tree.specs.ProgramText.{block_lines}
+use Rattle.cilk_core.specs.Tree.{Block, Proc}
+use Rattle.cilk_core.specs.ProgramText.{block_lines}
 use Rattle.cilk_load.proofs.Heights.{length-procedure, procedure-lines}
 use Rattle.cilk_load.proofs.lines.put_procedure.Goals as goal
 

@@ -1,6 +1,6 @@
 use Rattle.std.proofs.Common.{◌≡◌, ◌+◌, ◌++◌, [], drop, length, vec_len}
-use Rattle.cilk_tree.specs.Stmts.{stmts_of}
-use Rattle.cilk_tree.specs.ProgramText.{stmts_lines}
+use Rattle.cilk_core.specs.Stmts.{stmts_of}
+use Rattle.cilk_core.specs.ProgramText.{stmts_lines}
 use Rattle.cilk_model.specs.Count.{count_stmts}
 use Rattle.cilk_model.specs.Lines.{stmts_action_lines}
 use Rattle.cilk_load.proofs.lines.put_stmts.Given as goal

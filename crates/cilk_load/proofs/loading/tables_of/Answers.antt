@@ -1,7 +1,7 @@
 use Rattle.std.proofs.Common.{◌≡◌, ◌+◌, ◌*◌, ◌≤◌, List, length, IsSome, sym, ap, subst, ◌∙◌, arith}
 use Rattle.std.specs.List.{position}
-use Rattle.cilk_tree.specs.Tree.{Item, Program}
-use Rattle.cilk_tree.specs.ProgramText.{items_lines}
+use Rattle.cilk_core.specs.Tree.{Item, Program}
+use Rattle.cilk_core.specs.ProgramText.{items_lines}
 use Rattle.cilk_model.specs.Count.{count_items, count_program}
 use Rattle.cilk_model.specs.Lines.{items_action_lines}
 use Rattle.cilk_load.specs.declared.body.Body.{Body}

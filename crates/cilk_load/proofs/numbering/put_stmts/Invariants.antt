@@ -1,5 +1,5 @@
 use Rattle.std.proofs.Common.{◌≡◌, ◌+◌, ◌++◌, drop, vec_len}
-use Rattle.cilk_tree.specs.Stmts.{stmts_of}
+use Rattle.cilk_core.specs.Stmts.{stmts_of}
 use Rattle.cilk_model.specs.Count.{count_stmts}
 use Rattle.cilk_load.specs.Pass.{stmts_nodes}
 use Rattle.cilk_load.proofs.numbering.put_stmts.Given as goal

@@ -1,5 +1,5 @@
 use Rattle.std.proofs.Common.{ap, ◌∙◌}
-use Rattle.cilk_tree.specs.Tree.{Proc}
+use Rattle.cilk_core.specs.Tree.{Proc}
 use Rattle.cilk_load.proofs.Blocks.{body-made}
 use Rattle.cilk_load.proofs.variables.body_of.Goals as goal
 

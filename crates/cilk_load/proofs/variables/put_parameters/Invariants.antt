@@ -1,5 +1,5 @@
 use Rattle.std.proofs.Common.{◌≡◌, ◌+◌, ◌++◌, drop, map, vec_len}
-use Rattle.cilk_tree.specs.Parameters.{parameter_decl}
+use Rattle.cilk_core.specs.Parameters.{parameter_decl}
 use Rattle.cilk_eval.specs.declared.area.Area.TheVariants.{Own}
 use Rattle.cilk_model.specs.Label.{variable_of}
 use Rattle.cilk_load.specs.Bodies.{vars_from}

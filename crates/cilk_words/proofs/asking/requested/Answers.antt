@@ -1,5 +1,6 @@
-use Rattle.std.proofs.Common.{◌≡◌, ◌∙◌, None, Some, refl, sym}
+use Rattle.std.proofs.Common.{◌∙◌, None, Some, ap}
 use Rattle.clap.specs.Words.{found_of}
+use Rattle.cilk_words.specs.CommandLine.{request_for}
 use Rattle.cilk_words.proofs.Requests.{requests}
 use Rattle.cilk_words.proofs.asking.requested.Goals as goal
 
@@ -12,5 +13,7 @@ returns-in_err-name-2 c =
 pub returns : goal.returns
 returns c =
     let met = c.in_ok-name in
-    requests c.args.matches.now met.name.now (found_of met.found.now) (Some c.in_ok-task.task) (Some c.in_ok-name-2.name.now) met.ensures.name met.ensures.rows
-    c.in_ok-task.ensures c.in_ok-name-2.ensures
+    let file = c.in_ok-name-2.name.now in
+    ap (request_for (Some c.in_ok-task.task) (Some file)) c.explained-explain.ensures
+    ∙ requests c.args.matches.now met.name.now (found_of met.found.now) (Some c.in_ok-task.task) (Some file) met.ensures.name met.ensures.rows c.in_ok-task.ensures
+    c.in_ok-name-2.ensures

@@ -1,6 +1,5 @@
-use Rattle.std.proofs.Common.{◌≡◌, ◌∙◌, None, Some, refl, sym}
-use Rattle.clap.specs.Words.{found_of, rows_of}
-use Rattle.cilk_words.specs.CommandLine.{task_of}
+use Rattle.std.proofs.Common.{sym}
+use Rattle.clap.specs.Words.{found_of}
 use Rattle.cilk_words.proofs.Requests.{limit_given, no_limit}
 use Rattle.cilk_words.proofs.asking.task_named.Goals as goal
 

@@ -1,0 +1,76 @@
+//! What is told of a failure.
+
+ghost use Rattle.std.specs.Prelude.{◌≡◌, ◌++◌, ℕ, List, IfOk, codes, string_bytes};
+ghost use Rattle.cilk_commands.specs.Place.{place_of};
+ghost use Rattle.cilk_commands.specs.Status.{status_of};
+ghost use Rattle.cilk_commands.specs.Telling.{IsExplanation, IsTold, Tells};
+
+use crate::failure::Failure;
+use crate::fault::Fault;
+use crate::status::Status;
+use cilk_explain::{Told, place_lines, sentence};
+use cilk_parse::{ReadFault, read};
+use cilk_syntax::Memory;
+use std::alloc::{AllocError, Global};
+use std::io::Write;
+
+/// Writes the line that tells of a failure with the text of this name and these bytes, and behind it, if it is asked for,
+/// what explains it; returns the status. What cannot be written is lost, as is an explanation for which memory runs out.
+pub(crate) fn tell_of<E: Write>(
+    alloc: Global,
+    name: &str,
+    explain: bool,
+    text: &[u8],
+    failure: &Failure,
+    err: &mut E,
+) -> Status
+    ensures status { result ≡ status_of failure.now }
+    ensures told { (behind : List ℕ) × (IsExplanation explain text.now failure.now behind
+        × Tells name.now failure.now behind (E.contents err.old) (E.contents err.new)) }
+{
+    match explanation(alloc, explain, text, failure) {
+        Ok(behind) => failure.report_with(name, behind.as_str(), err),
+        Err(_) => failure.report(name, err),
+    }
+}
+
+fn explanation(
+    alloc: Global,
+    explain: bool,
+    text: &[u8],
+    failure: &Failure,
+) -> Result<String, Memory>
+    ensures { IfOk result (λ s. IsExplanation explain text.now failure.now (string_bytes s)) }
+{
+    match failure {
+        Failure::Fault { fault, .. } if explain => explained(alloc, text, fault),
+        _ => Ok(String::new(alloc)),
+    }
+}
+
+fn explained(alloc: Global, text: &[u8], fault: &Fault) -> Result<String, Memory>
+    ensures { IfOk result (λ s. IsTold text.now (place_of fault.now) (string_bytes s)) }
+{
+    let Ok(text) = str::from_utf8(text) else {
+        return said(alloc, "", fault);
+    };
+    let mut told = place_lines(alloc, text, fault.place())?;
+    let words = said(alloc, text, fault)?;
+    told.push_str(words.as_str())?;
+    Ok(told)
+}
+
+fn said(alloc: Global, text: &str, fault: &Fault) -> Result<String, Memory>
+    ensures { IfOk result (λ s. (words : List ℕ) × (string_bytes s ≡ words ++ codes ".\n")) }
+{
+    match fault {
+        Fault::Read(ReadFault::Lex(fault)) => sentence(alloc, text, &Told::Lex(*fault)),
+        Fault::Read(ReadFault::Unexpected(at)) => sentence(alloc, text, &Told::Unexpected(*at)),
+        Fault::Read(ReadFault::TooDeep(at)) => sentence(alloc, text, &Told::TooDeep(*at)),
+        Fault::Read(ReadFault::Memory) => Err(Memory::from(AllocError)),
+        Fault::Check(fault) => match read(alloc, text) {
+            Ok(program) => sentence(alloc, text, &Told::Check(*fault, &program)),
+            Err(_) => Err(Memory::from(AllocError)),
+        },
+    }
+}

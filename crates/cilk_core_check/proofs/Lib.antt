@@ -1,0 +1,12 @@
+pub mod Firsts
+pub mod Spelled
+pub mod Steps
+pub mod Elements
+pub mod Globals
+pub mod Held
+pub mod Decided
+pub mod Sound
+pub mod UseFaults
+pub mod Complete
+pub mod WellFormedLaws
+pub mod Visibles

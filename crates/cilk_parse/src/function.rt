@@ -1,0 +1,64 @@
+ghost use Rattle.std.specs.Prelude.{◌≡◌};
+ghost use Rattle.cilk_rules.specs.Gives.{Gives};
+ghost use Rattle.cilk_grammar.specs.Grammar.{int_tail, empty_tail, tail};
+ghost use Rattle.cilk_grammar.specs.Spelling.{nesting_limit};
+ghost use Rattle.cilk_reader.specs.Limits.{read_in};
+ghost use Rattle.cilk_parse.specs.Views.{tail_of};
+
+use crate::kinds::{all_named, kinds, named_of};
+use crate::tail::Tail;
+use cilk_expression::Cursor;
+use cilk_lexeme::{Keyword, Mark};
+use cilk_reader::block;
+use cilk_rules::ReadError;
+use cilk_syntax::Parameters;
+
+/// So many statements and inlets may stand in one another.
+pub const NESTING_LIMIT: u32 = 201;
+
+// Behind `(` and `int`: the parameters of a function, and its body if it is defined (C 1990, 6.5.4.3, 6.7.1).
+#[tactic(auto, unfolding(cilk_grammar::specs::Spelling::read_at))]
+fn int_tail(cursor: &mut Cursor) -> Result<Tail, ReadError>
+    ensures { Gives (λ t. (tail_of t, cursor.new.pieces)) result (read_in nesting_limit int_tail cursor.old.pieces) }
+{
+    let kinds = kinds(cursor)?;
+    if all_named(&kinds) && !cursor.is_mark(Mark::Semicolon) {
+        let body = block(cursor, NESTING_LIMIT)?;
+        let names = named_of(cursor.alloc(), kinds)?;
+        return Ok(Tail::Defines(Parameters::Ints(names), body));
+    }
+    cursor.mark(Mark::Semicolon)?;
+    Tail::declaring(kinds.len())
+}
+
+/// Behind the parameters of a function that has none: its body, if it is defined.
+#[tactic(auto, unfolding(cilk_grammar::specs::Spelling::read_at))]
+pub fn empty_tail(cursor: &mut Cursor) -> Result<Tail, ReadError>
+    ensures { Gives (λ t. (tail_of t, cursor.new.pieces)) result (read_in nesting_limit empty_tail cursor.old.pieces) }
+{
+    cursor.mark(Mark::CloseParenthesis)?;
+    if cursor.is_mark(Mark::Semicolon) {
+        cursor.mark(Mark::Semicolon)?;
+        return Ok(Tail::Declares(0));
+    }
+    let body = block(cursor, NESTING_LIMIT)?;
+    let names = Vec::new(cursor.alloc());
+    Ok(Tail::Defines(Parameters::Ints(names), body))
+}
+
+/// Behind the name of a function (C 1990, 6.5.4.3, 6.7.1).
+#[tactic(auto, unfolding(cilk_grammar::specs::Spelling::read_at))]
+pub fn function_tail(cursor: &mut Cursor) -> Result<Tail, ReadError>
+    ensures { Gives (λ t. (tail_of t, cursor.new.pieces)) result (read_in nesting_limit tail cursor.old.pieces) }
+{
+    cursor.mark(Mark::OpenParenthesis)?;
+    if cursor.is_mark(Mark::CloseParenthesis) {
+        return empty_tail(cursor);
+    }
+    if cursor.is_keyword(Keyword::Void) {
+        cursor.keyword(Keyword::Void)?;
+        return empty_tail(cursor);
+    }
+    cursor.keyword(Keyword::Int)?;
+    int_tail(cursor)
+}

@@ -1,0 +1,32 @@
+ghost use Rattle.std.specs.Prelude.{◌≡◌};
+ghost use Rattle.cilk_rules.specs.Gives.{Gives};
+ghost use Rattle.cilk_rules.specs.Rule.{is, class_at, part, many};
+ghost use Rattle.cilk_expression.specs.Classes.{cls, an_inclusion};
+ghost use Rattle.cilk_grammar.specs.Parts.{token, the_header};
+ghost use Rattle.cilk_grammar.specs.Spelling.{nesting_limit};
+ghost use Rattle.cilk_reader.specs.Limits.{read_in};
+
+use cilk_expression::Cursor;
+use cilk_lexeme::{Header, Kind};
+use cilk_reader::header;
+use cilk_rules::ReadError;
+
+// Whether the next token includes a header.
+fn is_inclusion(cursor: &Cursor) -> bool
+    ensures { result ≡ is an_inclusion (class_at cls cursor.now.pieces) }
+{
+    matches!(cursor.kind(), Some(Kind::Include(_)))
+}
+
+/// The headers that are included, in order (C 1990, 6.8.2).
+pub fn headers(cursor: &mut Cursor) -> Result<Vec<Header>, ReadError>
+    ensures { Gives (λ v. (v.items, cursor.new.pieces)) result
+        (read_in nesting_limit (many (part (token the_header))) cursor.old.pieces) }
+{
+    let mut headers = Vec::new(cursor.alloc());
+    'each: while is_inclusion(cursor) {
+        let next = header(cursor)?;
+        headers.push(next)?;
+    }
+    Ok(headers)
+}

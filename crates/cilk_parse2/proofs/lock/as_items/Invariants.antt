@@ -1,6 +1,0 @@
-use Rattle.std.proofs.Common.{◌≡◌, ◌++◌, map}
-use Rattle.cilk_syntax.specs.Tree as tree
-use Rattle.cilk_parse2.proofs.lock.as_items.Given as goal
-
-abbrev pub invariant-each : goal.invariant-each
-invariant-each l = (l.items.items ++ map tree.lock l.name-iterator.rest.items) ≡ map tree.lock l.fn.names.items

@@ -1,5 +1,0 @@
-use Rattle.cilk_lexeme.proofs.Unique.{one_fault}
-use Rattle.cilk_scan.proofs.laws.one_fault.Goals as goal
-
-pub returns : goal.returns
-returns c = λ fresh at text f g h k. one_fault h k

@@ -1,5 +1,0 @@
-use Rattle.cilk_lexeme.proofs.Unique.{one_reading}
-use Rattle.cilk_scan.proofs.laws.one_reading.Goals as goal
-
-pub returns : goal.returns
-returns c = λ fresh at text ps qs l m. one_reading l m

@@ -1,9 +1,0 @@
-use Rattle.std.proofs.Common.{◌≡◌, drop, false}
-use Rattle.cilk_lexeme.specs.Sight.{quote_from}
-use Rattle.cilk_scan.proofs.literal.closing_quote.Given as goal
-
-abbrev pub invariant-loop-byte : goal.invariant-loop-byte
-invariant-loop-byte l = record {
-  place : l.place ≡ l.byte-index;
-  left : quote_from false 0 l.text ≡ quote_from l.escaped l.byte-index (drop l.byte-index l.text);
-}

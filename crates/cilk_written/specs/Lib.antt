@@ -1,2 +1,0 @@
-pub mod GoodLexeme
-pub mod Lexemes
