@@ -3,7 +3,7 @@
 use crate::left_out::{is_left_out, say_left_out};
 use crate::meant::{say_again, say_count, say_kind, say_void};
 use crate::say::{say, say_number, say_quoted};
-use crate::search::declared_in_file;
+use crate::search::{declared_in_file, has_command_line};
 use crate::site::Site;
 use cilk_scopes::CheckFault;
 use cilk_syntax::Memory;
@@ -13,6 +13,9 @@ const NO_MAIN: &str =
 
 const PROTOTYPE: &str =
     " has no definition that agrees in the word `cilk`, the result and the number of parameters";
+
+const COMMAND_LINE: &str =
+    " has the parameters `int argc, char *argv[]` where it is defined, and then no prototype agrees with it";
 
 pub(crate) fn say_check(
     out: &mut String,
@@ -48,10 +51,9 @@ fn form(site: Site<'_, '_>, fault: CheckFault) -> &'static str {
         CheckFault::InInlet(_) =>
             " stands in an inlet, but only the procedure around it may have it",
         CheckFault::AbortOutside(_) => " stands outside an inlet, but only an inlet may have it",
-        CheckFault::NoLoop(_) => " stands in no loop of its body",
+        CheckFault::NoLoop(_) => " stands outside a loop, but only a loop may have it",
         CheckFault::ReturnForm(_) => return_form(site),
-        CheckFault::Format(_) =>
-            " has a `%` of neither `%d` nor `%%`, or not as many `%d` as arguments follow it",
+        CheckFault::Format(_) => format(site.word()),
         CheckFault::Limit(_) => {
             " passes a limit: an array has 1 to 65536 cells, the body of a function, a procedure or an inlet at most 4096 in \
             all, and the top level 1048576"
@@ -60,6 +62,18 @@ fn form(site: Site<'_, '_>, fault: CheckFault) -> &'static str {
             " is a reserved name: it is not declared, and is used in its own statement only",
         _ => " is the first word, but memory has run out",
     }
+}
+
+// What is wrong with the text literal of `printf`, which is spelled so.
+fn format(text: &str) -> &'static str {
+    let mut is_behind_percent = false;
+    for byte in text.as_bytes() {
+        if is_behind_percent && *byte != b'd' && *byte != b'%' {
+            return " has a `%` that begins neither `%d` nor `%%`, and this language has no other conversions";
+        }
+        is_behind_percent = *byte == b'%' && !is_behind_percent;
+    }
+    " has another number of `%d` than values follow it"
 }
 
 fn return_form(site: Site<'_, '_>) -> &'static str {
@@ -76,6 +90,9 @@ fn return_form(site: Site<'_, '_>) -> &'static str {
 
 fn say_prototype(out: &mut String, site: Site<'_, '_>) -> Result<(), Memory> {
     say_quoted(out, site.word())?;
+    if site.word() == "main" && has_command_line(site.program) {
+        return say(out, COMMAND_LINE);
+    }
     say(out, PROTOTYPE)?;
     match declared_in_file(site.program, site.word()) {
         Some(declared) if declared.parameters().is_some() => {

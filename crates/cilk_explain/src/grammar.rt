@@ -8,7 +8,7 @@ use cilk_syntax::Memory;
 
 const CALL: &str =
     " stands behind a name here, but a call is a statement of its own or the whole right side of an \
-    assignment, and no part of an expression";
+    assignment, and stands in no other expression, result or initialiser";
 
 const ASSIGNMENT: &str =
     " cannot stand here, since an assignment is a statement of its own that has no value, and an array \
@@ -19,6 +19,25 @@ const COMMENT: &str =
     and `*/`";
 
 const POINTER: &str = " stands between no two operands here: this language leaves pointers out";
+
+const SPAWN: &str =
+    " cannot stand here, since it begins a statement, the right side of an assignment that is one, or the first argument \
+    of an inlet";
+
+const STEP: &str = " cannot stand here, since it makes a statement of its own that has no value";
+
+const DECLARATION: &str =
+    " cannot stand here, since variables are declared at the top level and at the head of a block only";
+
+const HEADER: &str = " cannot stand here, since headers are included before all else";
+
+const TEXT: &str =
+    " cannot stand here, since a text literal is the first argument of a `printf` statement only";
+
+const COMMA: &str =
+    " cannot stand here, since a comma parts declarators, parameters and arguments only";
+
+const OTHER: &str = " is found here, but no program goes on with it";
 
 const ARROW: &str = " is of `->`: this language leaves structures and pointers out";
 
@@ -56,16 +75,35 @@ fn is_behind_name(source: Source<'_>, index: usize) -> bool {
     }
 }
 
+fn is_behind_operand(source: Source<'_>, index: usize) -> bool {
+    match source.tokens.get(index.saturating_sub(1)) {
+        Some(token) => matches!(
+            token.kind,
+            Kind::Number(_)
+                | Kind::Mark(
+                    Mark::CloseParenthesis | Mark::CloseBracket | Mark::Increment | Mark::Decrement
+                )
+        ),
+        None => false,
+    }
+}
+
+fn is_arrow(source: Source<'_>, index: usize) -> bool {
+    let word = source.word(index);
+    (word == ">" && source.word(index.saturating_sub(1)) == "-")
+        || (word == "-" && source.word(index.saturating_add(1)) == ">")
+}
+
 // Why the token with this index cannot stand where it does.
 fn reason(source: Source<'_>, index: usize) -> &'static str {
     if is_comment(source, index) {
         return COMMENT;
     }
     let word = source.word(index);
-    if word == "*" || word == "&" {
+    if (word == "*" || word == "&") && !is_behind_operand(source, index) {
         return POINTER;
     }
-    if word == ">" && source.word(index.saturating_sub(1)) == "-" {
+    if is_arrow(source, index) {
         return ARROW;
     }
     if word == "(" && is_behind_name(source, index) {
@@ -74,7 +112,30 @@ fn reason(source: Source<'_>, index: usize) -> &'static str {
     if is_assignment(word) {
         return ASSIGNMENT;
     }
-    " is found here, but no program goes on with it"
+    match source.tokens.get(index) {
+        Some(token) if matches!(token.kind, Kind::Text) => TEXT,
+        Some(token) if matches!(token.kind, Kind::Include(_)) => HEADER,
+        _ => reason_of_word(source, index),
+    }
+}
+
+fn reason_of_word(source: Source<'_>, index: usize) -> &'static str {
+    match source.word(index) {
+        "spawn" => SPAWN,
+        "++" | "--" => STEP,
+        "," => COMMA,
+        "int" if is_declaration(source, index) => DECLARATION,
+        _ => OTHER,
+    }
+}
+
+// Whether a declaration begins here, in the place of a statement or in the header of a `for`.
+fn is_declaration(source: Source<'_>, index: usize) -> bool {
+    match source.word(index.saturating_sub(1)) {
+        ";" | "}" => true,
+        "(" => source.word(index.saturating_sub(2)) == "for",
+        _ => false,
+    }
 }
 
 /// P3.

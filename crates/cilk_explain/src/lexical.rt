@@ -14,6 +14,10 @@ const CHARACTER: &str =
 const POINT: &str =
     "A `.` is of C's structures and floating numbers, which this language leaves out";
 
+const BLANK: &str =
+    "A text literal has the printable characters of ASCII only: a tab in it is written `\\t`, and other blanks than spaces \
+    have no place in it";
+
 const OTHER: &str =
     "This character may stand in a comment only, since a text literal has the printable ones of ASCII";
 
@@ -22,10 +26,24 @@ const NUMBER: &str =
     hexadecimal behind `0x`, without a suffix";
 
 pub(crate) fn say_lex(out: &mut String, text: &str, fault: LexFault) -> Result<(), Memory> {
+    let (before, _) = text.split_at(text.floor_char_boundary(fault.place() as usize));
+    if is_behind_slashes(behind_newline(before)) {
+        return say(out, COMMENT);
+    }
     match fault {
         LexFault::BadByte(at) => say_bad_byte(out, text, at),
         LexFault::BadNumber(at) => say_bad_number(out, text, at),
         _ => say(out, words(fault)),
+    }
+}
+
+// Whether a comment of the kind that the language leaves out ends this front of a line, as far as the front alone tells.
+fn is_behind_slashes(front: &str) -> bool {
+    match front.split_once("//") {
+        Some((code, behind)) => {
+            !code.contains("\"") && !code.contains("/*") && !behind.contains("*/")
+        }
+        None => false,
     }
 }
 
@@ -40,21 +58,19 @@ fn words(fault: LexFault) -> &'static str {
             other escapes of C"
         }
         LexFault::BadDirective(_) => {
-            "A `#` may only begin a line that includes `cilk.h`, `cilk-lib.h`, `cilk-lib.cilkh`, `stdio.h` or `stdlib.h`: \
-            this language leaves out the other directives of C"
+            "A `#` may only begin a line that includes `cilk.h`, `cilk-lib.h`, `cilk-lib.cilkh`, `stdio.h` or `stdlib.h` and \
+            has nothing else, not even a comment: this language leaves out the other directives of C"
         }
         LexFault::BadByte(_) | LexFault::BadNumber(_) | LexFault::Memory => "Memory has run out",
     }
 }
 
 fn say_bad_byte(out: &mut String, text: &str, at: u32) -> Result<(), Memory> {
-    let (before, behind) = text.split_at(text.floor_char_boundary(at as usize));
-    if behind_newline(before).contains("//") {
-        return say(out, COMMENT);
-    }
+    let (_, behind) = text.split_at(text.floor_char_boundary(at as usize));
     match behind.chars().next() {
         Some('\'') => say(out, CHARACTER),
         Some('.') => say(out, POINT),
+        Some('\t' | '\x0b' | '\x0c' | '\r') => say(out, BLANK),
         Some(' '..='~') => {
             say_quoted(out, behind.get(..1).unwrap_or(""))?;
             say(out, " begins no token of this language")

@@ -51,10 +51,21 @@ fn what_is(site: Site<'_, '_>) -> &'static str {
     }
 }
 
+// Whether this is the parameter of `main` that nothing may use.
+fn is_of_command_line(site: Site<'_, '_>) -> bool {
+    match site.meaning() {
+        Some(declared) => matches!(declared.kind, Kind::Strings),
+        None => false,
+    }
+}
+
 /// C3.
 pub(crate) fn say_kind(out: &mut String, site: Site<'_, '_>) -> Result<(), Memory> {
     say_name(out, site)?;
     say(out, what_is(site))?;
+    if is_of_command_line(site) {
+        return Ok(());
+    }
     say(out, ", but ")?;
     say(out, needed(site))?;
     say(out, " is needed here")

@@ -141,6 +141,18 @@ pub(crate) fn declared_in_file(program: &Program, name: &str) -> Option<Declared
     None
 }
 
+/// Whether a program starts with the words of the command line (C 1990, 5.1.2.2.1).
+pub(crate) fn has_command_line(program: &Program) -> bool {
+    for item in &program.items {
+        if let ItemNode::Procedure(procedure) = &item.node {
+            if matches!(&procedure.parameters, Parameters::CommandLine(_, _)) {
+                return true;
+            }
+        }
+    }
+    false
+}
+
 /// What the name at a place means (C 1990, 6.1.2.1).
 pub(crate) fn meaning(program: &Program, source: Source<'_>, at: u32) -> Option<Declared> {
     let name = source.word_at(at);
