@@ -1,7 +1,7 @@
 ghost use Rattle.std.specs.Prelude.{◌≤◌, length};
 
-use cilk_lexeme::{Kind, Mark, Token};
 use cilk_lex::line_col;
+use cilk_lexeme::{Kind, Mark, Token};
 
 /// A text and its tokens.
 #[derive(Clone, Copy)]

@@ -9,8 +9,8 @@ use crate::say::say;
 use crate::site::Site;
 use crate::source::Source;
 use crate::told::Told;
-use cilk_lexeme::{LexFault, Token};
 use cilk_lex::tokens;
+use cilk_lexeme::{LexFault, Token};
 use cilk_syntax::Memory;
 use std::alloc::{AllocError, Global};
 

@@ -1,7 +1,7 @@
 use crate::codes::Codes;
 use crate::taker::Taker;
-use cilk_eval::{Code, Slot};
 use cilk_core::BinOp;
+use cilk_eval::{Code, Slot};
 
 /// What an action does (C 1990, 6.6).
 #[derive(Drop)]

@@ -5,8 +5,8 @@ ghost use Rattle.cilk_load.specs.Names.{code_in};
 
 use crate::codes::Codes;
 use crate::names::Names;
-use cilk_eval::{Code, CodeNode};
 use cilk_core::{Expr, ExprNode};
+use cilk_eval::{Code, CodeNode};
 use std::alloc::{AllocError, Global};
 
 /// An expression over the slots of these names.

@@ -7,9 +7,9 @@ ghost use Rattle.cilk_load.specs.Pass.{item_vars, items_vars};
 
 use crate::var::Var;
 use crate::variables::copied;
-use cilk_eval::{Area, Slot};
 use cilk_core as tree;
 use cilk_core::{Item, ItemNode};
+use cilk_eval::{Area, Slot};
 use std::alloc::{AllocError, Global};
 
 /// The variables that these definitions declare, in their slots.

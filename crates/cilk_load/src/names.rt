@@ -4,8 +4,8 @@ ghost use Rattle.cilk_model.specs.Label.{names_of};
 ghost use Rattle.cilk_load.specs.Names.{up_to, first_slot, last_slot, slot_in};
 
 use crate::var::Var;
-use cilk_eval::{Area, Slot};
 use cilk_core::{Item, ItemNode};
+use cilk_eval::{Area, Slot};
 use std::marker::Model;
 
 /// What names stand for at a place of the text: the variables of the body, those of the top level,

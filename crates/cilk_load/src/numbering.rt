@@ -11,8 +11,8 @@ use crate::acts::{assignment_in, return_action, spawn_in};
 use crate::code::code_in;
 use crate::names::Names;
 use crate::node::Node;
-use cilk_eval::{Code, CodeNode};
 use cilk_core::{Block, Decl, Stmt, StmtNode};
+use cilk_eval::{Code, CodeNode};
 use std::alloc::{AllocError, Global};
 
 /// Appends the nodes of a block of this body, which uses these names. Its variables are so many

@@ -1,5 +1,5 @@
-use cilk_eval::Slot;
 use cilk_core::BinOp;
+use cilk_eval::Slot;
 
 /// What takes the value of a child (Cilk 5.4 manual, `spawn`).
 #[derive(Drop)]

@@ -13,8 +13,8 @@ use crate::body::Body;
 use crate::name::Name;
 use crate::var::Var;
 use crate::vars::Vars;
-use cilk_eval::{Area, Slot};
 use cilk_core::{Block, Decl, Proc, Word};
+use cilk_eval::{Area, Slot};
 use std::alloc::{AllocError, Global};
 
 /// The body of a procedure, whose first action has the number `entry`.

@@ -7,9 +7,9 @@ ghost use Rattle.cilk_step.specs.Words.{kind_of};
 ghost use Rattle.cilk_machine.specs.Words.{end_of};
 
 use crate::end::End;
+use cilk_core::Memory;
 use cilk_eval::Trap;
 use cilk_step::{Kind, Path};
-use cilk_core::Memory;
 use std::alloc::Global;
 
 /// The closing text of a run: what the program printed, on lines of its own, and a line that tells

@@ -22,8 +22,8 @@ mod writing;
 
 pub use act::Act;
 pub use choice::Choice;
-pub use cilk_step::{Kind, Path};
 pub use cilk_core::Memory;
+pub use cilk_step::{Kind, Path};
 pub use closing::ending;
 pub use end::End;
 pub use event::Event;

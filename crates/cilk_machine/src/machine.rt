@@ -22,12 +22,12 @@ use crate::outcome::Outcome;
 use crate::reading::cell_of;
 use crate::refusal::Refusal;
 use crate::refusing::{act_refusal, is_any_busy, is_worker};
+use cilk_core::Memory;
 use cilk_frame::{Frame, Id};
 use cilk_load::Loaded;
 use cilk_sched::Hands;
 use cilk_spawn::Tree;
 use cilk_step::plan_step;
-use cilk_core::Memory;
 use std::alloc::Global;
 use std::marker::Model;
 

@@ -6,8 +6,8 @@ ghost use Rattle.cilk_narrow.specs.Narrowed.{Narrowed, NarrowedBy, items_of};
 
 use crate::operator::{narrow_op, narrow_sign};
 use crate::refusal::Refusal;
-use cilk_syntax::{Expr, ExprNode, Word};
 use cilk_core as tree;
+use cilk_syntax::{Expr, ExprNode, Word};
 use std::alloc::{AllocError, Global};
 
 /// The word, of its own.

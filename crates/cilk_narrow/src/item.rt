@@ -9,8 +9,8 @@ use crate::expr::{narrow_word, narrow_words};
 use crate::operator::narrow_returns;
 use crate::refusal::Refusal;
 use crate::stmt::narrow_block;
-use cilk_syntax::{GlobalShape, Item, ItemNode, Parameters, Proc, Program};
 use cilk_core as tree;
+use cilk_syntax::{GlobalShape, Item, ItemNode, Parameters, Proc, Program};
 use std::alloc::{AllocError, Global};
 
 fn narrow_parameters(alloc: Global, parameters: &Parameters) -> Result<Vec<tree::Word>, Refusal>

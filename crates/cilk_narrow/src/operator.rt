@@ -3,8 +3,8 @@
 ghost use Rattle.std.specs.Prelude.{◌≡◌};
 ghost use Rattle.cilk_narrow.specs.Operators.{narrow_op, narrow_sign, narrow_by, narrow_returns};
 
-use cilk_syntax::{Adjustment, BinOp, ReturnType, UnOp};
 use cilk_core as tree;
+use cilk_syntax::{Adjustment, BinOp, ReturnType, UnOp};
 
 /// An operator between two operands (C 1990, 6.3.5 to 6.3.14).
 pub(crate) fn narrow_op(op: BinOp) -> tree::BinOp

@@ -10,10 +10,10 @@ ghost use Rattle.cilk_narrow.specs.Narrowed.{Narrowed, NarrowedBy, items_of};
 use crate::expr::{narrow_expr, narrow_exprs, narrow_value, narrow_word};
 use crate::operator::{narrow_by, narrow_op};
 use crate::refusal::Refusal;
+use cilk_core as tree;
 use cilk_syntax::{
     BinOp, Block, Decl, Local, LocalNode, Move, MoveNode, Place, Shape, Stmt, StmtNode, Taker,
 };
-use cilk_core as tree;
 use std::alloc::Global;
 
 fn narrow_place(alloc: Global, place: &Place) -> Result<tree::Place, Refusal>

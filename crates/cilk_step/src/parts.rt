@@ -11,10 +11,10 @@ ghost use Rattle.cilk_step.specs.Made.{trapped, gone, written, returned, receive
 use crate::kind::Kind;
 use crate::plan::Plan;
 use crate::reached::Reached;
+use cilk_core::BinOp;
 use cilk_eval::{Slot, Trap, apply};
 use cilk_load::Taker;
 use cilk_spawn::{Frame, Id, Memory, Path, Receiver, Tree};
-use cilk_core::BinOp;
 use std::alloc::Global;
 
 /// The most instances that may live.

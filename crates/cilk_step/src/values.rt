@@ -5,9 +5,9 @@ ghost use Rattle.std.specs.List.{All};
 ghost use Rattle.cilk_eval.specs.Slots.{cells_of, area_cells, slot_cell, sizes_of, LiesWithin, SlotsLieWithin};
 ghost use Rattle.cilk_step.specs.Reads.{cells_in, updated, values_in};
 
+use cilk_core::BinOp;
 use cilk_eval::{Area, Code, Slot, Slots, Trap, apply, eval};
 use cilk_spawn::{Frame, Memory, Tree};
-use cilk_core::BinOp;
 use std::alloc::Global;
 
 /// The cells that the top activation of a frame sees.

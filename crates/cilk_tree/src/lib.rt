@@ -5,6 +5,6 @@ pub use cilk_canonical::canonical;
 pub use cilk_same::Same;
 pub use cilk_syntax::{
     Adjustment, BinOp, Block, Decl, Expr, ExprNode, Global, GlobalShape, Inlet, Item, ItemNode,
-    Literal, Local, LocalNode, LockAction, Memory, Move, MoveNode, Parameters, Place, Proc, Program,
-    Prototype, ReturnType, Shape, Stmt, StmtNode, Taker, Target, UnOp, Word,
+    Literal, Local, LocalNode, LockAction, Memory, Move, MoveNode, Parameters, Place, Proc,
+    Program, Prototype, ReturnType, Shape, Stmt, StmtNode, Taker, Target, UnOp, Word,
 };
