@@ -1,0 +1,111 @@
+-- Where the instances are: each worker has at most one in its hand, and a deque of others (Cilk 5.4 manual, work stealing).
+use Rattle.std.specs.Prelude.{ℕ, ◌-◌, Bool, false, not, ◌&&◌, ◌||◌, if◌then◌else◌, List, [], ◌∷◌, ◌++◌, Option, Some, None, slice_index_or, slice_set, replicate}
+use Rattle.cilk_runs.specs.Path.{Path, same_path, parent_of}
+use Rattle.cilk_runs.specs.Instance.{Instance}
+use Rattle.cilk_runs.specs.State.{Instances, instance_at, has_live_child}
+use Rattle.cilk_runs.specs.State.{is_empty}
+use Rattle.cilk_runs.specs.Pick.{Step, waits, parks, goes_on, ends, spawns}
+
+-- a worker's hand, and its deque from top to bottom
+pub record Place : Type 0 where
+  pub hand : Option Path
+  pub deque : List Path
+
+-- the places of the workers from worker 1 on, and which instances are parked
+pub record Scheduler : Type 0 where
+  pub places : List Place
+  pub parked : Path → Bool
+
+abbrev pub no_place : Place
+no_place = record { hand = None; deque = [] }
+
+-- workers are numbered from 1
+abbrev pub place_of : List Place → ℕ → Place
+place_of places w = slice_index_or places (w - 1) no_place
+
+abbrev pub hand_of : List Place → ℕ → Option Path
+hand_of places w = (place_of places w).hand
+
+abbrev pub deque_of : List Place → ℕ → List Path
+deque_of places w = (place_of places w).deque
+
+abbrev pub with_hand : List Place → ℕ → Option Path → List Place
+with_hand places w hand = slice_set places (w - 1) (record { hand = hand; deque = deque_of places w })
+
+abbrev pub with_deque : List Place → ℕ → List Path → List Place
+with_deque places w deque = slice_set places (w - 1) (record { hand = hand_of places w; deque = deque })
+
+-- the ends of a deque, and what is left of it
+abbrev pub top_of : List Path → Option Path
+top_of [] = None
+top_of (p ∷ deque) = Some p
+
+abbrev pub below_top : List Path → List Path
+below_top [] = []
+below_top (p ∷ deque) = deque
+
+abbrev pub bottom_of : List Path → Option Path
+bottom_of [] = None
+bottom_of (p ∷ []) = Some p
+bottom_of (p ∷ q ∷ deque) = bottom_of (q ∷ deque)
+
+abbrev pub above_bottom : List Path → List Path
+above_bottom [] = []
+above_bottom (p ∷ []) = []
+above_bottom (p ∷ q ∷ deque) = p ∷ above_bottom (q ∷ deque)
+
+-- the bottom of w's own deque comes to its hand
+abbrev pub popped : Scheduler → ℕ → Scheduler
+popped sched w = record sched {
+  places = with_hand (with_deque sched.places w (above_bottom (deque_of sched.places w))) w (bottom_of (deque_of sched.places w));
+}
+
+-- the top of v's deque comes to w's hand
+abbrev pub stolen : Scheduler → ℕ → ℕ → Scheduler
+stolen sched w v = record sched {
+  places = with_hand (with_deque sched.places v (below_top (deque_of sched.places v))) w (top_of (deque_of sched.places v));
+}
+
+-- p leaves w's hand for the bottom of its deque, and c comes to the hand
+abbrev pub pushed : Scheduler → ℕ → Path → Path → Scheduler
+pushed sched w p c = record sched {
+  places = with_hand (with_deque sched.places w (deque_of sched.places w ++ p ∷ [])) w (Some c);
+}
+
+-- p leaves w's hand and is parked
+abbrev pub parked_from : Scheduler → ℕ → Path → Scheduler
+parked_from sched w p = record {
+  places = with_hand sched.places w None;
+  parked = λ q. same_path q p || sched.parked q;
+}
+
+-- whether an instance that was parked can go on: no child of it lives, or it is not aborted and a delivery waits
+abbrev pub can_take : Option Instance → Bool
+can_take None = false
+can_take (Some i) = not i.aborted && not (is_empty i.waiting)
+
+abbrev pub can_go_on : Instances → Path → Bool
+can_go_on instances p = not (has_live_child instances p) || can_take (instance_at instances p)
+
+-- a parked parent that can go on comes to w's hand
+abbrev pub woken : Instances → Scheduler → ℕ → Option Path → Scheduler
+woken instances sched w None = sched
+woken instances sched w (Some p) =
+    if sched.parked p && can_go_on instances p
+    then record { places = with_hand sched.places w (Some p); parked = λ q. not (same_path q p) && sched.parked q }
+    else sched
+
+abbrev pub with_empty_hand : Scheduler → ℕ → Scheduler
+with_empty_hand sched w = record sched { places = with_hand sched.places w None }
+
+-- after a step of p, which w has in its hand
+abbrev pub after_step : Scheduler → ℕ → Path → Step → Scheduler
+after_step sched w p waits = sched
+after_step sched w p parks = parked_from sched w p
+after_step sched w p (goes_on state did) = sched
+after_step sched w p (ends state did) = woken state.instances (with_empty_hand sched w) w (parent_of p)
+after_step sched w p (spawns child state did) = pushed sched w p child
+
+-- at first the root is in worker 1's hand
+abbrev pub opening_scheduler : ℕ → Scheduler
+opening_scheduler n = record { places = with_hand (replicate n no_place) 1 (Some []); parked = λ q. false }

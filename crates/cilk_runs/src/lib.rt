@@ -1,0 +1,9 @@
+//! What runs of a program are: states, the written rule of one step, the step that is taken, workers. Definitions alone.
+#![tactic(auto)]
+
+mod laws;
+
+pub use laws::{
+    rows_of_fates_come_out, rows_of_inlets_come_out, rows_of_locks_come_out,
+    rows_of_refusals_come_out, rows_of_steps_come_out,
+};

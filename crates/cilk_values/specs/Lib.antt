@@ -1,0 +1,3 @@
+pub mod Arithmetic
+pub mod Term
+pub mod Value
