@@ -126,7 +126,8 @@ module _ (p : tree.Program) (globals : List ℤ) (ns : List Node) (places : List
     parked = parked_none (IsFrameOf (label p) ns path (received_by others values));
   }
 
-  takes_by : (cells : List ℤ) (values own_values : Values) (oldest : model.Delivery) (others : List model.Delivery) (g : Frame) → i.waiting ≡ oldest ∷ others → cells ≡ Rattle.cilk_frame.specs.Stands.flat values → map length values ≡ map Rattle.cilk_load.specs.Slots.size_of (label p).globals
+  takes_by : (cells : List ℤ) (values own_values : Values) (oldest : model.Delivery) (others : List model.Delivery) (g : Frame) → i.waiting ≡ oldest ∷ others → cells ≡ Rattle.cilk_frame.specs.Stands.flat values
+      → map length values ≡ map Rattle.cilk_load.specs.Slots.size_of (label p).globals
       → g.id ≡ f.id → StandsFor (label p) g (received_by others own_values)
       → Agrees p cells (taken ns f.id) (with_hand places w (Some g)) (with_instance values (received_by others own_values))
   takes_by cells values own_values oldest others g e are sizes id stands =

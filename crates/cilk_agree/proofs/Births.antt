@@ -191,7 +191,8 @@ module _ (p : tree.Program) (globals : List ℤ) (ns : List Node) (places : List
       let number : child_path path ((node_at ns f.id).children + 1) ≡ child = ap (λ k. child_path path (k + 1)) known.same.children in
       let born_same = subst (λ q. SameInstance (label p) home_after nodes q (fresh receiver) born) (sym number) (child_same receives) in
       subst (λ es. SameEntries (label p) home_after nodes es after) (sym instances_are)
-      (push-same (label p) home_after nodes (changed path one_more_child (instances_of ns)) (state.changed path (λ _. change.with_child parent) entries) (record { path = child_path path ((node_at ns f.id).children + 1); instance = fresh receiver }) (record { path = child; instance = born }) parents number born_same)
+      (push-same (label p) home_after nodes (changed path one_more_child (instances_of ns)) (state.changed path (λ _. change.with_child parent) entries)
+      (record { path = child_path path ((node_at ns f.id).children + 1); instance = fresh receiver }) (record { path = child; instance = born }) parents number born_same)
 
   pub parked-after : (q : Path) → at.scheduler.parked q ≡ is_parked (instance_at (instances_of nodes) q)
   parked-after q =

@@ -80,7 +80,8 @@ same-length program b (d ∷ ds) (e ∷ es) same = let rest = same-length progra
 abbrev pub sent-to : Path → model.Delivery → Standing → Standing
 sent-to q e at = record at { state = record at.state { instances = state.changed q (with_deliveries (e ∷ [])) at.state.instances } }
 
-module _ (p : tree.Program) (globals : List ℤ) (ns : List Node) (places : List Place) (at : Standing) (agrees : Agrees p globals ns places at) (c r : ℕ) (z : ℤ) (parent : (node_at ns c).parent ≡ Some r) (e : model.Delivery) (new : SameDelivery (label p) (agrees.home (path_at ns r)) (delivery_by (path_at ns) (delivery_of ns c z)) e) where
+module _ (p : tree.Program) (globals : List ℤ) (ns : List Node) (places : List Place) (at : Standing) (agrees : Agrees p globals ns places at)
+    (c r : ℕ) (z : ℤ) (parent : (node_at ns c).parent ≡ Some r) (e : model.Delivery) (new : SameDelivery (label p) (agrees.home (path_at ns r)) (delivery_by (path_at ns) (delivery_of ns c z)) e) where
   abbrev ms : List Node
   ms = delivered ns c z
 

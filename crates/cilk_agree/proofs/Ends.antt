@@ -49,7 +49,9 @@ gone-from w q outcome at = record {
   scheduler = sched.with_empty_hand at.scheduler w;
 }
 
-module _ (p : tree.Program) (globals : List ℤ) (ns : List Node) (places : List Place) (at : Standing) (agrees : Agrees p globals ns places at) (w id : ℕ) (ending : Ending) (outcome : state.Outcome) (there : id < length ns) (childless : has_live_child ns id ≡ false) (free : at.scheduler.parked (path_at ns id) ≡ false) (others : AllHeld (IsElsewhere ns (path_at ns id)) (with_hand places w None)) where
+module _ (p : tree.Program) (globals : List ℤ) (ns : List Node) (places : List Place) (at : Standing) (agrees : Agrees p globals ns places at)
+    (w id : ℕ) (ending : Ending) (outcome : state.Outcome) (there : id < length ns) (childless : has_live_child ns id ≡ false)
+    (free : at.scheduler.parked (path_at ns id) ≡ false) (others : AllHeld (IsElsewhere ns (path_at ns id)) (with_hand places w None)) where
   abbrev ms : List Node
   ms = ended ns id ending
 

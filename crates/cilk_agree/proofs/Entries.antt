@@ -109,7 +109,8 @@ module _ (program : Labelled) (home : Path → ℕ) where
       let at : a.path ≡ p = same-is a.path p there in
       let one : e.instance ≡ i = cc in
       let other : a.instance ≡ x = cc in
-      let back : SameInstance program home ns a.path (g a.instance) (f e.instance) = subst (λ y. SameInstance program home ns a.path (g a.instance) (f y)) (sym one) (subst (λ y. SameInstance program home ns a.path (g y) (f i)) (sym other) (subst (λ q. SameInstance program home ns q (g x) (f i)) (sym at) new)) in
+      let back : SameInstance program home ns a.path (g a.instance) (f e.instance) =
+      subst (λ y. SameInstance program home ns a.path (g a.instance) (f y)) (sym one) (subst (λ y. SameInstance program home ns a.path (g y) (f i)) (sym other) (subst (λ q. SameInstance program home ns q (g x) (f i)) (sym at) new)) in
       subst (λ y. Same ns (y ∷ changed p g A) (state.changed p f (e ∷ B))) (sym left)
       (subst (λ y. Same ns (record a { instance = g a.instance } ∷ changed p g A) (y ∷ state.changed p f B)) (sym right) (paths, back, unchanged ns p g f A B all (omega (arith, once))))
   changed_by ns p g f x i a e A B false paths here same once told is new all rest =
