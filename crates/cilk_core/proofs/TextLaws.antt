@@ -46,7 +46,8 @@ text-stmt-update indent place op value = simp append_assoc
 pub text-stmt-adjust : (indent : List ℕ) (place : Place) (by : Adjustment) → text_of_lines (stmt_lines indent (adjust place by)) ≡ indent ++ (place.name.text ++ (adjustment_mark by ++ codes ";\n"))
 text-stmt-adjust indent place by = simp append_assoc
 
-pub text-stmt-spawn : (indent : List ℕ) (at : ℕ) (taker : Taker) (callee : Word) (arguments : List Expr) → text_of_lines (stmt_lines indent (spawn_at at taker callee arguments)) ≡ indent ++ (taker_text taker ++ (codes "spawn " ++ (callee.text ++ (codes "(" ++ (arguments_text arguments ++ codes ");\n")))))
+pub text-stmt-spawn : (indent : List ℕ) (at : ℕ) (taker : Taker) (callee : Word) (arguments : List Expr)
+    → text_of_lines (stmt_lines indent (spawn_at at taker callee arguments)) ≡ indent ++ (taker_text taker ++ (codes "spawn " ++ (callee.text ++ (codes "(" ++ (arguments_text arguments ++ codes ");\n")))))
 text-stmt-spawn indent at taker callee arguments = simp append_assoc
 
 pub text-stmt-sync : (indent : List ℕ) (at : ℕ) → text_of_lines (stmt_lines indent (sync_at at)) ≡ indent ++ codes "sync;\n"

@@ -192,7 +192,8 @@ fn put_return(out: &mut String, value: &Option<Expr>) -> Result<(), Memory>
 }
 
 fn put_update(out: &mut String, place: &Place, op: BinOp, value: &Expr) -> Result<(), Memory>
-    ensures { OnOk result (string_bytes out.new ≡ string_bytes out.old ++ (place.now.name.text ++ (codes " " ++ (mark_of op ++ (codes "= " ++ (expr_text value.now ++ codes ";\n")))))) }
+    ensures { OnOk result (string_bytes out.new ≡ string_bytes out.old
+        ++ (place.now.name.text ++ (codes " " ++ (mark_of op ++ (codes "= " ++ (expr_text value.now ++ codes ";\n")))))) }
 {
     put(out, place.name.as_str())?;
     put(out, " ")?;
@@ -216,7 +217,8 @@ fn put_spawn(
     callee: &Word,
     arguments: &[Expr],
 ) -> Result<(), Memory>
-    ensures { OnOk result (string_bytes out.new ≡ string_bytes out.old ++ (taker_text (taker_of taker.now) ++ (codes "spawn " ++ (callee.now.text ++ (codes "(" ++ (arguments_text arguments.now ++ codes ");\n")))))) }
+    ensures { OnOk result (string_bytes out.new ≡ string_bytes out.old ++ (taker_text (taker_of taker.now) ++ (codes "spawn " ++ (callee.now.text
+        ++ (codes "(" ++ (arguments_text arguments.now ++ codes ");\n")))))) }
 {
     put_taker(out, taker)?;
     put(out, "spawn ")?;

@@ -20,16 +20,21 @@ drop_at xs i x h e = rw add-one (drop-cons xs i x h ∙ ap (λ y. y ∷ drop (su
 take_at : {X : Type 0} (xs : List X) (i : ℕ) (x : X) → i < length xs → x ≡ get_or xs i x → take (i + 1) xs ≡ take i xs ++ x ∷ []
 take_at xs i x h e = take_more xs i x h ∙ ap (λ y. take i xs ++ y ∷ []) (sym e)
 
-pub stmts_more : (found : Option CheckFault) (items : List Item) (visible : List Decl) (stmts : List Stmt) (i : ℕ) (stmt : Stmt) → i < length stmts → stmt ≡ get_or stmts i stmt → first_among found (uses_faults items visible (stmts_uses (stmts_of (drop i stmts)))) ≡ first_among (first_among found (uses_faults items visible (stmt_uses stmt))) (uses_faults items visible (stmts_uses (stmts_of (drop (i + 1) stmts))))
+pub stmts_more : (found : Option CheckFault) (items : List Item) (visible : List Decl) (stmts : List Stmt) (i : ℕ) (stmt : Stmt) → i < length stmts → stmt ≡ get_or stmts i stmt
+    → first_among found (uses_faults items visible (stmts_uses (stmts_of (drop i stmts)))) ≡ first_among (first_among found (uses_faults items visible (stmt_uses stmt)))
+    (uses_faults items visible (stmts_uses (stmts_of (drop (i + 1) stmts))))
 stmts_more found items visible stmts i stmt h e =
     ap (λ ss. first_among found (uses_faults items visible (stmts_uses (stmts_of ss)))) (drop_at stmts i stmt h e) ∙ uses-append found items visible (stmt_uses stmt) (stmts_uses (stmts_of (drop (i + 1) stmts)))
 
-pub arguments_more : (found : Option CheckFault) (items : List Item) (visible : List Decl) (es : List Expr) (i : ℕ) (e : Expr) → i < length es → e ≡ get_or es i e → first_among found (uses_faults items visible (flat_map expr_uses (drop i es))) ≡ first_among (first_among found (uses_faults items visible (expr_uses e))) (uses_faults items visible (flat_map expr_uses (drop (i + 1) es)))
+pub arguments_more : (found : Option CheckFault) (items : List Item) (visible : List Decl) (es : List Expr) (i : ℕ) (e : Expr) → i < length es → e ≡ get_or es i e
+    → first_among found (uses_faults items visible (flat_map expr_uses (drop i es))) ≡ first_among (first_among found (uses_faults items visible (expr_uses e))) (uses_faults items visible
+    (flat_map expr_uses (drop (i + 1) es)))
 arguments_more found items visible es i e h at =
     ap (λ xs. first_among found (uses_faults items visible (flat_map expr_uses xs))) (drop_at es i e h at) ∙ uses-append found items visible (expr_uses e) (flat_map expr_uses (drop (i + 1) es))
 
 -- the first among the faults of the rest of a list, one element on
-along_more : {X : Type 0} (faults : List X → X → List CheckFault) (found : Option CheckFault) (xs : List X) (i : ℕ) (x : X) → i < length xs → x ≡ get_or xs i x → first_among found (along faults (take i xs) (drop i xs)) ≡ first_among (first_among found (faults (take i xs) x)) (along faults (take (i + 1) xs) (drop (i + 1) xs))
+along_more : {X : Type 0} (faults : List X → X → List CheckFault) (found : Option CheckFault) (xs : List X) (i : ℕ) (x : X) → i < length xs → x ≡ get_or xs i x
+    → first_among found (along faults (take i xs) (drop i xs)) ≡ first_among (first_among found (faults (take i xs) x)) (along faults (take (i + 1) xs) (drop (i + 1) xs))
 along_more faults found xs i x h e =
     rw (take_at xs i x h e) (ap (λ ys. first_among found (along faults (take i xs) ys)) (drop_at xs i x h e) ∙ first_among-append found (faults (take i xs) x) (along faults (take i xs ++ x ∷ []) (drop (i + 1) xs)))
 
@@ -38,7 +43,8 @@ taken_more : (own decls : List Decl) (i : ℕ) (d : Decl) → i < length decls �
 taken_more own decls i d h e = ap (λ ds. own ++ ds) (take_at decls i d h e) ∙ sym (append_assoc own (take i decls) (d ∷ []))
 
 pub decls_more : (found : Option CheckFault) (items : List Item) (own decls : List Decl) (i : ℕ) (d : Decl) → i < length decls → d ≡ get_or decls i d
-    → first_among found (along (λ before x. decl_faults items (own ++ before) x) (take i decls) (drop i decls)) ≡ first_among (first_among found (variable_faults (own ++ take i decls) d.name ++ uses_faults items (own ++ take (i + 1) decls) (value_uses d.value))) (along (λ before x. decl_faults items (own ++ before) x) (take (i + 1) decls) (drop (i + 1) decls))
+    → first_among found (along (λ before x. decl_faults items (own ++ before) x) (take i decls) (drop i decls)) ≡ first_among (first_among found (variable_faults (own ++ take i decls) d.name
+    ++ uses_faults items (own ++ take (i + 1) decls) (value_uses d.value))) (along (λ before x. decl_faults items (own ++ before) x) (take (i + 1) decls) (drop (i + 1) decls))
 decls_more found items own decls i d h e =
     along_more (λ before x. decl_faults items (own ++ before) x) found decls i d h e
     ∙ ap (λ visible. first_among (first_among found (variable_faults (own ++ take i decls) d.name ++ uses_faults items visible (value_uses d.value))) (along (λ before x. decl_faults items (own ++ before) x) (take (i + 1) decls) (drop (i + 1) decls))) (sym (taken_more own decls i d h e))
@@ -54,7 +60,9 @@ returns_more found returns stmts i stmt h e =
     ∙ ap (first_among found) (flat_map-append (return_faults returns) (stmt_returns stmt) (stmts_returns (stmts_of (drop (i + 1) stmts))))
     ∙ first_among-append found (returns_faults returns (stmt_returns stmt)) (returns_faults returns (stmts_returns (stmts_of (drop (i + 1) stmts))))
 
-pub items_more : (found : Option CheckFault) (items : List Item) (i : ℕ) (x : Item) → i < length items → x ≡ get_or items i x → first_among found (along (item_faults items) (take i items) (drop i items)) ≡ first_among (first_among found (item_faults items (take i items) x)) (along (item_faults items) (take (i + 1) items) (drop (i + 1) items))
+pub items_more : (found : Option CheckFault) (items : List Item) (i : ℕ) (x : Item) → i < length items → x ≡ get_or items i x
+    → first_among found (along (item_faults items) (take i items) (drop i items)) ≡ first_among (first_among found (item_faults items (take i items) x)) (along (item_faults items) (take
+    (i + 1) items) (drop (i + 1) items))
 items_more found items i x h e = along_more (item_faults items) found items i x h e
 
 pub ruleset steps = (stmts_more, arguments_more, decls_more, parameters_more, returns_more, items_more)

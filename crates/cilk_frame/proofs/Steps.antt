@@ -109,7 +109,9 @@ pub assign-stands : (program : Labelled) (f : Frame) (i : Instance) (n k : ℕ) 
 assign-stands program f i n k z m s there e =
     let slot : ℕ = cell_place program i.top.body n k in
     let written = write-stands program f i n k z s there in
-    subst (λ d. StandsFor program (with_boundary (f.boundary && nat_lt 1 d) (jumped m (with_cell (top_place f) slot z f))) (gone_on true (with_value i.top.values n k z) i)) (length-set f.activations (top_place f) _) (goes_on-stands program (with_cell (top_place f) slot z f) (record i { top = record i.top { values = with_value i.top.values n k z } }) true m written e)
+    subst (λ d. StandsFor program (with_boundary (f.boundary && nat_lt 1 d) (jumped m (with_cell (top_place f) slot z f))) (gone_on true (with_value i.top.values n k z) i))
+    (length-set f.activations (top_place f) _) (goes_on-stands program (with_cell (top_place f) slot z f)
+    (record i { top = record i.top { values = with_value i.top.values n k z } }) true m written e)
 
 pub call-stands : (p : Program) (f : Frame) (i : Instance) (b : ℕ) (arguments : List ℤ) (w : Option Await) (cell : Option Cell) → StandsFor (label p) f i → Takes (body_of p b) arguments → AwaitsSame w cell
     → StandsFor (label p) (entered (first_activation p b arguments w) f) (record i { top = record (model.entered (label p) b arguments) { awaits = cell }; below = i.top ∷ i.below })

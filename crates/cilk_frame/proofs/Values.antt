@@ -82,7 +82,9 @@ array-same program b cells store unknown s h = absurd h
 pub value-same : (program : Labelled) (b : ℕ) (cells : Cells) (store : Store) (t : Term Declaration) → Seen program b cells store → IsKnown program b t → value_of (slots.environment cells) (rename (slot_of program b) t) ≡ value_of (environment store) t
 value-same program b cells store t s h =
     let env : Environment Declaration = seen_through (slot_of program b) (slots.environment cells) in
-    value_of-rename (slot_of program b) (slots.environment cells) t ∙ value_of-same env (environment store) t (AllReads-map (IsDeclared program b) (λ d. env.value d ≡ (environment store).value d) (IsArray program b) (SameArray env (environment store)) ⊤ (env.synched ≡ store.synched) (λ d known. variable-same program b cells store d s known) (λ d known. array-same program b cells store d s known) (λ _. s.synched_is) t h)
+    value_of-rename (slot_of program b) (slots.environment cells) t ∙ value_of-same env (environment store) t (AllReads-map (IsDeclared program b) (λ d. env.value d ≡
+    (environment store).value d) (IsArray program b) (SameArray env (environment store)) ⊤ (env.synched ≡ store.synched) (λ d known. variable-same program b cells store d s known)
+    (λ d known. array-same program b cells store d s known) (λ _. s.synched_is) t h)
 
 declared-within : (program : Labelled) (b : ℕ) (cells : Cells) (store : Store) (d : Declaration) → Seen program b cells store → IsDeclared program b d → LiesWithin (sizes_of cells) (slot_of program b d)
 declared-within program b cells store (local n) s h = slot-within Own cells (body_at program b).variables store.own n s.own_are s.own_sizes h
@@ -96,4 +98,6 @@ array-declared program b unknown h = h
 
 pub slots-within : (program : Labelled) (b : ℕ) (cells : Cells) (store : Store) (t : Term Declaration) → Seen program b cells store → IsKnown program b t → SlotsLieWithin (sizes_of cells) (rename (slot_of program b) t)
 slots-within program b cells store t s h =
-    AllReads-rename (slot_of program b) (LiesWithin (sizes_of cells)) (LiesWithin (sizes_of cells)) ⊤ t (AllReads-map (IsDeclared program b) (λ d. LiesWithin (sizes_of cells) (slot_of program b d)) (IsArray program b) (λ d. LiesWithin (sizes_of cells) (slot_of program b d)) ⊤ ⊤ (λ d known. declared-within program b cells store d s known) (λ d known. declared-within program b cells store d s (array-declared program b d known)) (λ u. u) t h)
+    AllReads-rename (slot_of program b) (LiesWithin (sizes_of cells)) (LiesWithin (sizes_of cells)) ⊤ t (AllReads-map (IsDeclared program b) (λ d. LiesWithin (sizes_of cells)
+    (slot_of program b d)) (IsArray program b) (λ d. LiesWithin (sizes_of cells) (slot_of program b d)) ⊤ ⊤ (λ d known. declared-within program b cells store d s known)
+    (λ d known. declared-within program b cells store d s (array-declared program b d known)) (λ u. u) t h)

@@ -160,6 +160,16 @@ declared-vars p = by_parts p.body
   where
     by_parts : (b : tree.Block) → length p.parameters + length (decls_of b) ≤ length (own_vars (record p { body = b }))
     by_parts (tree.block ds ss) =
-        omega (arith, length-vars_from Own 0 (map variable_of (map parameter_decl p.parameters) ++ block_variables (tree.block ds ss)), ap length (own_variables-are p.parameters ds ss), length-append (map variable_of (map parameter_decl p.parameters)) (map variable_of ds), length-map ds, length-map (map parameter_decl p.parameters), length-parameters p.parameters)
+        omega (
+          arith,
+          length-vars_from Own 0 (map variable_of (map parameter_decl p.parameters) ++ block_variables (tree.block ds ss)),
+          ap length
+              (own_variables-are p.parameters ds ss),
+          length-append (map variable_of (map parameter_decl p.parameters)) (map variable_of ds),
+          length-map ds,
+          length-map
+              (map parameter_decl p.parameters),
+          length-parameters p.parameters,
+        )
 
 pub ruleset blocks = (declared-vars)

@@ -63,7 +63,9 @@ stmts-are slots b scope names agree at n (tree.also (tree.sync_at place) others)
     let later = starts_at items _ _ (one-behind at (count_stmts others)) h in
     λ i. onward-is b at Sync _ refl (stmts-start scope (at + 1) (n + 0) others items later) i ∷ stmts-are slots b scope names agree (at + 1) (n + 0) others items later i
 
-init-are : (slots : Declaration → Slot) (b : ℕ) (scope : Scope) (names : Names) → Agree slots scope names → (at n : ℕ) (name : List ℕ) (value : Option tree.Expr) (after : Stmts) (items : Items) (rest : List Node) → slot_in names name ≡ slots (local n) → Starts (pieces after items) (at + count_option value)
+init-are : (slots : Declaration → Slot) (b : ℕ) (scope : Scope) (names : Names) → Agree slots scope names
+    → (at n : ℕ) (name : List ℕ) (value : Option tree.Expr) (after : Stmts) (items : Items) (rest : List Node) → slot_in names name ≡ slots (local n)
+    → Starts (pieces after items) (at + count_option value)
     → rest ≡ filter_map (node_over slots b) (stmts_lists after items)
     → initialiser_nodes b names at name value ++ rest ≡ filter_map (node_over slots b) (stmts_lists (label_initialiser scope at n value after) items)
 init-are slots b scope names agree at n name None after items rest is_slot starts h = h
@@ -96,7 +98,8 @@ slot_from-behind at (d ∷ ds) vs k =
     add-one-of a n = omega arith
 
 -- those of declarations, of which these variables are seen before the first
-pub decls-are : (slots : Declaration → Slot) (b : ℕ) (scope : Scope) (names : Names) (offset m n : ℕ) → Agree slots scope names → m ≡ length names.vars → (ds : List tree.Decl) (at : ℕ) (others : Stmts) (items : Items) (rest : List Node) → Slotted (λ k. slots (local k)) n (slot_from Own offset (map variable_of ds))
+pub decls-are : (slots : Declaration → Slot) (b : ℕ) (scope : Scope) (names : Names) (offset m n : ℕ) → Agree slots scope names → m ≡ length names.vars
+    → (ds : List tree.Decl) (at : ℕ) (others : Stmts) (items : Items) (rest : List Node) → Slotted (λ k. slots (local k)) n (slot_from Own offset (map variable_of ds))
     → Starts (pieces others items) (at + count_decls ds) → rest ≡ filter_map (node_over slots b) (stmts_lists others items)
     → decls_nodes b (seeing names (names.vars ++ vars_from Own offset (map variable_of ds))) m at ds ++ rest ≡ filter_map (node_over slots b) (stmts_lists (label_decls scope at n ds others) items)
 decls-are slots b scope names offset m n agree is_m [] at others items rest h starts is_rest = is_rest

@@ -49,7 +49,9 @@ same_length (b ∷ bodies) = ap suc (same_length bodies)
 same_position : (bodies : List Body) → position starts_here (map body_table bodies) ≡ position is_start bodies
 same_position bodies = λ i. cond (nat_lt (same_before bodies i) (same_length bodies i)) (Some (same_before bodies i)) None
 
-pub tabled : (p : tree.Program) (nodes : List Node) (lines : List ℕ) (bodies : List code.Body) (main : ℕ) (globals locks : List Var) → count_program p ≤ 65535 → nodes ≡ items_nodes globals (names_of p.items) 0 1 p.items → lines ≡ items_action_lines 1 p.items → bodies ≡ items_bodies 1 p.items → position starts_here bodies ≡ Some main → globals ≡ items_vars 0 p.items → locks ≡ [] → length nodes ≡ count_items p.items → length lines ≡ count_items p.items → Tabled p nodes lines bodies main globals locks
+pub tabled : (p : tree.Program) (nodes : List Node) (lines : List ℕ) (bodies : List code.Body) (main : ℕ) (globals locks : List Var) → count_program p ≤ 65535
+    → nodes ≡ items_nodes globals (names_of p.items) 0 1 p.items → lines ≡ items_action_lines 1 p.items → bodies ≡ items_bodies 1 p.items → position starts_here bodies ≡ Some main
+    → globals ≡ items_vars 0 p.items → locks ≡ [] → length nodes ≡ count_items p.items → length lines ≡ count_items p.items → Tabled p nodes lines bodies main globals locks
 tabled p nodes lines bodies main globals locks limit is_nodes is_lines is_bodies is_main is_globals is_locks node_count line_count =
     let file : Scope = file_scope p.items in
     let made : items_bodies 1 p.items ≡ map body_table (bodies_of p) = sym (tables-are file 1 p.items) in
@@ -67,7 +69,8 @@ tabled p nodes lines bodies main globals locks limit is_nodes is_lines is_bodies
     }
 
 -- what is appended to an empty table
-pub only_nodes : (xs before : List Node) (globals : List Var) (b n : ℕ) (items items' : List tree.Item) → before ≡ [] → b ≡ 0 → n ≡ 0 → items ≡ items' → xs ≡ before ++ items_nodes globals (names_of items) b (n + 1) items → xs ≡ items_nodes globals (names_of items') 0 1 items'
+pub only_nodes : (xs before : List Node) (globals : List Var) (b n : ℕ) (items items' : List tree.Item) → before ≡ [] → b ≡ 0 → n ≡ 0 → items ≡ items'
+    → xs ≡ before ++ items_nodes globals (names_of items) b (n + 1) items → xs ≡ items_nodes globals (names_of items') 0 1 items'
 only_nodes xs before globals b n items items' none no_body no_node same h = h ∙ (λ i. none i ++ items_nodes globals (names_of (same i)) (no_body i) (no_node i + 1) (same i))
 
 pub only_bodies : (xs before : List code.Body) (n : ℕ) (items items' : List tree.Item) → before ≡ [] → n ≡ 0 → items ≡ items' → xs ≡ before ++ items_bodies (n + 1) items → xs ≡ items_bodies 1 items'

@@ -29,7 +29,8 @@ pub(crate) fn put_items(
     requires room { vec_len nodes.old + count_items items.now ≤ 65535 }
     requires bodies { vec_len bodies.old + length (names_of items.now) < 2 ^ 32 }
     requires small { AllAreSmall items.now }
-    ensures nodes { OnOk result (nodes.new.items ≡ nodes.old.items ++ items_nodes globals.now (names_of items.now) (vec_len bodies.old) (vec_len nodes.old + 1) items.now) }
+    ensures nodes { OnOk result (nodes.new.items ≡ nodes.old.items
+        ++ items_nodes globals.now (names_of items.now) (vec_len bodies.old) (vec_len nodes.old + 1) items.now) }
     ensures bodies { OnOk result (bodies.new.items ≡ bodies.old.items ++ items_bodies (vec_len nodes.old + 1) items.now) }
     ensures len { OnOk result (vec_len nodes.new ≡ vec_len nodes.old + count_items items.now) }
 {
@@ -52,7 +53,8 @@ fn put_item(
     requires bodies { vec_len bodies.old + body_count item.now < 2 ^ 32 }
     requires names { length (names_of items.now) < 2 ^ 32 }
     requires small { item_is_small item.now }
-    ensures nodes { OnOk result (nodes.new.items ≡ nodes.old.items ++ item_nodes globals.now (names_of items.now) (vec_len bodies.old) (vec_len nodes.old + 1) item.now) }
+    ensures nodes { OnOk result (nodes.new.items ≡ nodes.old.items
+        ++ item_nodes globals.now (names_of items.now) (vec_len bodies.old) (vec_len nodes.old + 1) item.now) }
     ensures bodies { OnOk result (bodies.new.items ≡ bodies.old.items ++ item_bodies (vec_len nodes.old + 1) item.now) }
     ensures len { OnOk result (vec_len nodes.new ≡ vec_len nodes.old + count_item item.now) }
     ensures count { OnOk result (vec_len bodies.new ≡ vec_len bodies.old + body_count item.now) }
@@ -78,7 +80,8 @@ fn put_procedure(
     requires bodies { vec_len bodies.old + 1 < 2 ^ 32 }
     requires names { length (names_of items.now) < 2 ^ 32 }
     requires small { item_is_small (procedure definition.now) }
-    ensures nodes { OnOk result (nodes.new.items ≡ nodes.old.items ++ procedure_nodes globals.now (names_of items.now) (vec_len bodies.old) (vec_len nodes.old + 1) definition.now) }
+    ensures nodes { OnOk result (nodes.new.items ≡ nodes.old.items
+        ++ procedure_nodes globals.now (names_of items.now) (vec_len bodies.old) (vec_len nodes.old + 1) definition.now) }
     ensures bodies { OnOk result (bodies.new.items ≡ bodies.old.items ++ procedure_body (vec_len nodes.old + 1) definition.now ∷ []) }
     ensures len { OnOk result (vec_len nodes.new ≡ vec_len nodes.old + count_item (procedure definition.now)) }
     ensures count { OnOk result (vec_len bodies.new ≡ vec_len bodies.old + 1) }

@@ -64,7 +64,8 @@ fn put_initialiser(
     decl: &Decl,
 ) -> Result<(), AllocError>
     requires { vec_len nodes.old + count_option decl.now.value ≤ 65534 }
-    ensures nodes { OnOk result (nodes.new.items ≡ nodes.old.items ++ initialiser_nodes body names.now (vec_len nodes.old + 1) decl.now.name.text decl.now.value) }
+    ensures nodes { OnOk result (nodes.new.items ≡ nodes.old.items
+        ++ initialiser_nodes body names.now (vec_len nodes.old + 1) decl.now.name.text decl.now.value) }
     ensures len { OnOk result (vec_len nodes.new ≡ vec_len nodes.old + count_option decl.now.value) }
 {
     match &decl.value {

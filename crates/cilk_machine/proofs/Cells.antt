@@ -44,7 +44,8 @@ own_cell before own after at size k start count =
 
 -- the table of variables, the first of which has its cells behind others
 module _ (cells : List ℤ) (name : List ℕ) (k : ℕ) where
-  pub named-cell : (variables : List Variable) (values : Values) (before : List ℤ) (at : ℕ) → length before ≡ at → cells ≡ before ++ flat values → map length values ≡ map size_of variables → cell_in (vars_from Global at variables) cells name k ≡ slice_get (cells_named name variables values) k
+  pub named-cell : (variables : List Variable) (values : Values) (before : List ℤ) (at : ℕ) → length before ≡ at → cells ≡ before ++ flat values → map length values ≡ map size_of variables
+      → cell_in (vars_from Global at variables) cells name k ≡ slice_get (cells_named name variables values) k
   named-cell [] values before at start are sizes = refl
   named-cell (v ∷ variables) [] before at start are sizes = cc
   named-cell (v ∷ variables) (own ∷ values) before at start are sizes =

@@ -45,14 +45,17 @@ pub fn rows_come_out()
 /// What becomes of a child's value, and of a child that an `abort` marked.
 pub fn rows_of_children_come_out()
     ensures returns { events_with_child sum_program (Some adds_to_a) false child_returns
-        ≡ Some (event.acted [] 1 ∷ event.acted [] 2 ∷ event.moved ∷ event.acted (1 ∷ []) 1 ∷ event.acted (1 ∷ []) 2 ∷ event.returned (1 ∷ []) 3 ∷ event.delivered (1 ∷ []) 7 ∷ []) }
+        ≡ Some (event.acted [] 1 ∷ event.acted [] 2 ∷ event.moved ∷ event.acted (1 ∷ []) 1 ∷ event.acted (1 ∷ []) 2 ∷ event.returned (1 ∷ []) 3
+        ∷ event.delivered (1 ∷ []) 7 ∷ []) }
     ensures values { values_with_child sum_program (Some adds_to_a) false child_returns ≡ Some ((pos 11 ∷ []) ∷ (pos 9 ∷ []) ∷ []) }
     ensures early { events_with_child sum_program (Some adds_to_a) false (steps 2 ∷ steps 2 ∷ steps 2 ∷ steps 1 ∷ steps 1 ∷ [])
         ≡ Some (event.acted (1 ∷ []) 1 ∷ event.acted (1 ∷ []) 2 ∷ event.returned (1 ∷ []) 3 ∷ event.delivered (1 ∷ []) 7 ∷ event.acted [] 1 ∷ []) }
     ensures late { events_with_child sum_program (Some adds_to_a) false (steps 1 ∷ steps 2 ∷ steps 2 ∷ steps 2 ∷ steps 1 ∷ steps 1 ∷ [])
-        ≡ Some (event.acted [] 1 ∷ event.acted (1 ∷ []) 1 ∷ event.acted (1 ∷ []) 2 ∷ event.returned (1 ∷ []) 3 ∷ event.acted [] 2 ∷ event.delivered (1 ∷ []) 7 ∷ []) }
+        ≡ Some (event.acted [] 1 ∷ event.acted (1 ∷ []) 1 ∷ event.acted (1 ∷ []) 2 ∷ event.returned (1 ∷ []) 3 ∷ event.acted [] 2
+        ∷ event.delivered (1 ∷ []) 7 ∷ []) }
     ensures nothing_takes_it { events_with_child sum_program None false (child_returns)
-        ≡ Some (event.acted [] 1 ∷ event.acted [] 2 ∷ event.moved ∷ event.acted (1 ∷ []) 1 ∷ event.acted (1 ∷ []) 2 ∷ event.returned (1 ∷ []) 3 ∷ event.returned [] 3 ∷ []) }
+        ≡ Some (event.acted [] 1 ∷ event.acted [] 2 ∷ event.moved ∷ event.acted (1 ∷ []) 1 ∷ event.acted (1 ∷ []) 2 ∷ event.returned (1 ∷ []) 3
+        ∷ event.returned [] 3 ∷ []) }
     ensures aborted { events_with_child sum_program (Some adds_to_a) true (steps 2 ∷ steps 1 ∷ steps 1 ∷ steps 1 ∷ [])
         ≡ Some (event.ended (1 ∷ []) ∷ event.acted [] 1 ∷ event.acted [] 2 ∷ event.returned [] 3 ∷ []) }
 {}
@@ -96,7 +99,8 @@ pub fn rows_of_spawns_come_out()
         ≡ Some (record { hand = Some (1 ∷ []); deque = [] } ∷ record { hand = Some (2 ∷ []); deque = [] ∷ [] } ∷ []) }
     ensures waits { events_of counting parent_waits
         ≡ Some (event.spawned (1 ∷ []) 4 ∷ event.moved ∷ event.spawned (2 ∷ []) 5 ∷ event.acted (2 ∷ []) 1 ∷ event.acted (2 ∷ []) 2 ∷ event.returned (2 ∷ []) 3
-        ∷ event.moved ∷ event.moved ∷ event.acted (1 ∷ []) 1 ∷ event.acted (1 ∷ []) 2 ∷ event.returned (1 ∷ []) 3 ∷ event.acted [] 6 ∷ event.returned [] 7 ∷ []) }
+        ∷ event.moved ∷ event.moved ∷ event.acted (1 ∷ []) 1 ∷ event.acted (1 ∷ []) 2 ∷ event.returned (1 ∷ []) 3 ∷ event.acted [] 6
+        ∷ event.returned [] 7 ∷ []) }
     ensures waited { outcome_of counting parent_waits ≡ Some (state.finished (pos 2)) }
     ensures child_first { events_of doubling child_first
         ≡ Some (event.acted [] 3 ∷ event.spawned (1 ∷ []) 4 ∷ event.returned (1 ∷ []) 1 ∷ event.moved ∷ event.delivered (1 ∷ []) 4

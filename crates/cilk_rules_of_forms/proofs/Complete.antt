@@ -177,7 +177,9 @@ passed_has p ds f h k =
           standing_has p o.owner f o.is_element (inlet_passed o.owner.around o.owner.part ds f o.has k)
     ]
 
-inlet_has : (p : tree.Program) (a : Around) (at : ℕ) (name : Word) (parameters : List Word) (body : tree.Block) → Contains (parts_of p) (record { around = a; part = local (tree.inlet_at at name parameters body) }) → (is_procedure a.within.owner ≡ false) ⊎ (a.within.outermost ≡ false) → Has (forms_faults p) (NotInProcedure at)
+inlet_has : (p : tree.Program) (a : Around) (at : ℕ) (name : Word) (parameters : List Word) (body : tree.Block)
+    → Contains (parts_of p) (record { around = a; part = local (tree.inlet_at at name parameters body) }) → (is_procedure a.within.owner ≡ false) ⊎ (a.within.outermost ≡ false)
+    → Has (forms_faults p) (NotInProcedure at)
 unfolding part_faults
 inlet_has p a at name parameters body stands (inl e) =
     part_has p a _ _ stands (Has-append_left (fault_if (not (is_procedure a.within.owner)) (NotInProcedure at)) _ _ (Has-fault_if (not (is_procedure a.within.owner)) (NotInProcedure at) (not_false _ e)))
@@ -186,7 +188,8 @@ inlet_has p a at name parameters body stands (inr e) =
 
 main_has : (p : tree.Program) → ((f : tree.Proc) → Contains p.items (tree.procedure f) → ¬ IsMain f) → Has (forms_faults p) (NoMain p.length)
 main_has p none =
-    Has-append_right (flat_map length_faults (file_declares p.items)) _ _ (Has-append_right (passing max_global_cells (file_declares p.items)) _ _ (Has-append_right (flat_map item_faults p.items) _ _ (Has-fault_if (not (list_any starts p.items)) (NoMain p.length) (not_false _ (no_start (list_any starts p.items) refl)))))
+    Has-append_right (flat_map length_faults (file_declares p.items)) _ _ (Has-append_right (passing max_global_cells (file_declares p.items)) _ _ (Has-append_right
+    (flat_map item_faults p.items) _ _ (Has-fault_if (not (list_any starts p.items)) (NoMain p.length) (not_false _ (no_start (list_any starts p.items) refl)))))
   where
     no_start : (b : Bool) → list_any starts p.items ≡ b → list_any starts p.items ≡ false
     no_start true e = let s = started p.items e in absurd (none s.definition (Contains-from_Has _ _ s.there) s.is_main)

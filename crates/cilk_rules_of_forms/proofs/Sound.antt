@@ -98,7 +98,8 @@ passed_sound p ds f there h =
     let x = passing_found max_cells ds f h in
     subst (Faulty p) x.is (limit x.before x.after x.at (subst (Contains (activations_of p)) x.order there) x.passes)
 
-inlet_activation : (p : tree.Program) (a : Around) (at : ℕ) (name : Word) (parameters : List Word) (body : tree.Block) → Contains (parts_of p) (record { around = a; part = local (tree.inlet_at at name parameters body) }) → Contains (activations_of p) (map parameter parameters ++ block_variables body)
+inlet_activation : (p : tree.Program) (a : Around) (at : ℕ) (name : Word) (parameters : List Word) (body : tree.Block)
+    → Contains (parts_of p) (record { around = a; part = local (tree.inlet_at at name parameters body) }) → Contains (activations_of p) (map parameter parameters ++ block_variables body)
 inlet_activation p a at name parameters body stands =
     Contains-from_Has _ _ (Has-append_right (flat_map item_activations p.items) _ _ (Has-flat_map (λ s. inlet_activations s.part) (parts_of p) (record { around = a; part = local (tree.inlet_at at name parameters body) }) _ (Has-from_Contains _ _ stands) (inl refl)))
 

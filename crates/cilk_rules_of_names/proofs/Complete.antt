@@ -108,17 +108,23 @@ module _ (u : Use) (d : Declared) where
   count_has : differ (arguments_of u.role) (parameters_of d.kind) ≡ true → Has (meant_faults u.name u.role d.kind) (ArgumentCount u.name.place)
   unfolding meant_faults
   count_has e =
-      Has-append_right (fault_if (not (fits u.role d.kind)) (WrongKind u.name.place)) _ _ (Has-append_right (fault_if (is_spawned u.role && bytes_eq u.name.text (codes "main")) (WrongKind u.name.place)) _ _ (Has-append_left (fault_if (differ (arguments_of u.role) (parameters_of d.kind)) (ArgumentCount u.name.place)) _ _ (Has-fault_if (differ (arguments_of u.role) (parameters_of d.kind)) _ e)))
+      Has-append_right (fault_if (not (fits u.role d.kind)) (WrongKind u.name.place)) _ _ (Has-append_right (fault_if (is_spawned u.role && bytes_eq u.name.text (codes "main"))
+      (WrongKind u.name.place)) _ _ (Has-append_left (fault_if (differ (arguments_of u.role) (parameters_of d.kind)) (ArgumentCount u.name.place)) _ _ (Has-fault_if (differ
+      (arguments_of u.role) (parameters_of d.kind)) _ e)))
 
   value_has : (is_for_value u.role && is_void (returned_by d.kind)) ≡ true → Has (meant_faults u.name u.role d.kind) (VoidValue u.name.place)
   unfolding meant_faults
   value_has e =
-      Has-append_right (fault_if (not (fits u.role d.kind)) (WrongKind u.name.place)) _ _ (Has-append_right (fault_if (is_spawned u.role && bytes_eq u.name.text (codes "main")) (WrongKind u.name.place)) _ _ (Has-append_right (fault_if (differ (arguments_of u.role) (parameters_of d.kind)) (ArgumentCount u.name.place)) _ _ (Has-append_left (fault_if (is_for_value u.role && is_void (returned_by d.kind)) (VoidValue u.name.place)) _ _ (Has-fault_if (is_for_value u.role && is_void (returned_by d.kind)) _ e))))
+      Has-append_right (fault_if (not (fits u.role d.kind)) (WrongKind u.name.place)) _ _ (Has-append_right (fault_if (is_spawned u.role && bytes_eq u.name.text (codes "main"))
+      (WrongKind u.name.place)) _ _ (Has-append_right (fault_if (differ (arguments_of u.role) (parameters_of d.kind)) (ArgumentCount u.name.place)) _ _ (Has-append_left (fault_if
+      (is_for_value u.role && is_void (returned_by d.kind)) (VoidValue u.name.place)) _ _ (Has-fault_if (is_for_value u.role && is_void (returned_by d.kind)) _ e))))
 
   inlet_has : (is_called u.role && is_inlet d.kind) ≡ true → Has (meant_faults u.name u.role d.kind) (InletNeedsSpawn u.name.place)
   unfolding meant_faults
   inlet_has e =
-      Has-append_right (fault_if (not (fits u.role d.kind)) (WrongKind u.name.place)) _ _ (Has-append_right (fault_if (is_spawned u.role && bytes_eq u.name.text (codes "main")) (WrongKind u.name.place)) _ _ (Has-append_right (fault_if (differ (arguments_of u.role) (parameters_of d.kind)) (ArgumentCount u.name.place)) _ _ (Has-append_right (fault_if (is_for_value u.role && is_void (returned_by d.kind)) (VoidValue u.name.place)) _ _ (Has-fault_if (is_called u.role && is_inlet d.kind) _ e))))
+      Has-append_right (fault_if (not (fits u.role d.kind)) (WrongKind u.name.place)) _ _ (Has-append_right (fault_if (is_spawned u.role && bytes_eq u.name.text (codes "main"))
+      (WrongKind u.name.place)) _ _ (Has-append_right (fault_if (differ (arguments_of u.role) (parameters_of d.kind)) (ArgumentCount u.name.place)) _ _ (Has-append_right (fault_if
+      (is_for_value u.role && is_void (returned_by d.kind)) (VoidValue u.name.place)) _ _ (Has-fault_if (is_called u.role && is_inlet d.kind) _ e))))
 
 twice_has : (d : Declaring) → is_some (declared_in d.before d.declared.name.text) ≡ true → Has (declaring_faults d) (Twice d.declared.name.place)
 unfolding declaring_faults

@@ -130,7 +130,10 @@ defined_from f q e =
 
 pub defined_to : (f : tree.Proc) (q : tree.Prototype) → Defines f q → defines q (tree.procedure f) ≡ true
 defined_to f q d =
-    both (bytes_eq f.name.text q.name.text) _ ((bytes_eq-Decides f.name.text q.name.text).1 d.name) (both (same_bool f.is_cilk q.is_cilk) _ (ap (λ b. same_bool b q.is_cilk) d.is_cilk ∙ same_bool_self q.is_cilk) (both (same_return f.returns q.returns) _ (ap (λ r. same_return r q.returns) d.returns ∙ same_return_self q.returns) (ap (λ ps. has_count ps q.count) d.parameters.1 ∙ (Decides-eqb (length d.parameters.0) q.count).1 d.parameters.2)))
+    both (bytes_eq f.name.text q.name.text) _ ((bytes_eq-Decides f.name.text q.name.text).1 d.name) (both (same_bool f.is_cilk q.is_cilk) _ (ap
+    (λ b. same_bool b q.is_cilk) d.is_cilk ∙ same_bool_self q.is_cilk) (both (same_return f.returns q.returns) _ (ap
+    (λ r. same_return r q.returns) d.returns ∙ same_return_self q.returns) (ap (λ ps. has_count ps q.count) d.parameters.1 ∙ (Decides-eqb
+    (length d.parameters.0) q.count).1 d.parameters.2)))
 
 -- one of the items is such a definition
 pub record Defined (q : tree.Prototype) (items : List tree.Item) : Type 0 where

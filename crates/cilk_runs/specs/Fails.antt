@@ -1,8 +1,8 @@
 -- Why an action has no meaning: the first trap from the left, or what is not allowed or has no room.
-use Rattle.std.specs.Prelude.{◌≡◌, ◌≢◌, ℕ, ◌+◌, ◌<◌, ◌≤◌, ℤ, ◌⊎◌, List, [], ◌∷◌, length, Option, Some, Ok, Err, slice_get}
+use Rattle.std.specs.Prelude.{◌≡◌, ◌≢◌, ℕ, ◌+◌, ◌<◌, ◌≤◌, ℤ, ◌⊎◌, List, [], ◌∷◌, length, Option, Some, Ok, Err}
 use Rattle.cilk_syntax.specs.declared.lock_action.LockAction.{LockAction}
 use Rattle.cilk_syntax.specs.declared.lock_action.LockAction.TheVariants.{Init, Lock, Unlock}
-use Rattle.cilk_scopes.specs.declared.owner.Owner.TheVariants.{Function, Inlet}
+use Rattle.cilk_scopes.specs.declared.owner.Owner.TheVariants.{Function}
 use Rattle.cilk_syntax.specs.declared.return_type.ReturnType.{ReturnType}
 use Rattle.cilk_values.specs.declared.trap.Trap.{Trap}
 use Rattle.cilk_values.specs.Term.{Term}
@@ -11,7 +11,7 @@ use Rattle.cilk_labelled.specs.Labelled.{Labelled, Declaration, Into, Taker, Act
 use Rattle.cilk_runs.specs.Values.{Reached, environment, read_at, reached_at, reached_if, combined}
 use Rattle.cilk_runs.specs.Path.{Path}
 use Rattle.cilk_runs.specs.Instance.{Activation, Instance, owner_at}
-use Rattle.cilk_runs.specs.State.{Kind, of_value, lock, held_lock, depth, instances, output, State, unset, held, store_of}
+use Rattle.cilk_runs.specs.State.{Kind, of_value, lock, held_lock, depth, instances, output, State, unset, held, store_of, lock_at}
 use Rattle.cilk_runs.specs.Printing.{printed}
 use Rattle.cilk_runs.specs.Written.{Holds, HoldsNone, Free, Leaves, Gives, place_of, others_of}
 
@@ -26,15 +26,21 @@ module _ (program : Labelled) (s : State) (p : Path) (i : Instance) where
     pub above : i.below ≢ []
     pub function : owner_at program i ≡ Function returns
 
+  -- a body above the procedure's that is no C function's is an inlet's (Cilk 5.4 manual, `inlet`)
   pub record InInlet : Type 0 where
     pub above : i.below ≢ []
-    pub inlet : owner_at program i ≡ Inlet
+    pub no_function : (returns : ReturnType) → owner_at program i ≢ Function returns
 
   -- what may leave its body now: a procedure that need not wait, an inlet without a lock, a C function
   pub data MayLeave : Type 0 where
     of_procedure : i.below ≡ [] → Free s p i → MayLeave
     of_inlet : InInlet → HoldsNone s p → MayLeave
     of_function : InFunction → MayLeave
+
+  -- what may pass a `sync` now: a procedure that need not wait; no other body has one (Cilk 5.4 manual, `sync`)
+  pub data MayPass : Type 0 where
+    in_procedure : i.below ≡ [] → Free s p i → MayPass
+    elsewhere : i.below ≢ [] → HoldsNone s p → MayPass
 
   -- the instance may be left with a lock nowhere else than in a C function
   pub data EndsThread : Action → Type 0 where
@@ -68,10 +74,10 @@ module _ (program : Labelled) (s : State) (p : Path) (i : Instance) where
 
   -- a lock that may not be made, taken or let go (Cilk 5.4 manual, `Cilk_lock_init`, `Cilk_lock`, `Cilk_unlock`)
   pub data MayNot (k : ℕ) : LockAction → Type 0 where
-    init_held : (q : Path) → slice_get s.locks k ≡ Some (held q) → MayNot k Init
-    lock_unset : slice_get s.locks k ≡ Some unset → MayNot k Lock
-    lock_own : slice_get s.locks k ≡ Some (held p) → MayNot k Lock
-    unlock_other : slice_get s.locks k ≢ Some (held p) → MayNot k Unlock
+    init_held : (q : Path) → lock_at s k ≡ held q → MayNot k Init
+    lock_unset : lock_at s k ≡ unset → MayNot k Lock
+    lock_own : lock_at s k ≡ held p → MayNot k Lock
+    unlock_other : lock_at s k ≢ held p → MayNot k Unlock
 
   pub data Fails : Action → Kind → Type 0 where
     has_no_value : (act : Action) (trap : Trap) → HasNoValue trap act → Fails act (of_value trap)

@@ -48,6 +48,10 @@ stops = s 1 ∷ s 1 ∷ t 2 1 ∷ s 2 ∷ s 2 ∷ s 1 ∷ s 1 ∷ s 1 ∷ t 1 2 
 abbrev pub both : List Choice
 both = s 1 ∷ s 1 ∷ t 2 1 ∷ s 2 ∷ s 1 ∷ s 1 ∷ s 1 ∷ s 2 ∷ s 2 ∷ s 2 ∷ p 2 ∷ steps 10 2
 
+-- of three workers: the parent is parked, and goes on with the first value while the other child lives
+abbrev pub woken : List Choice
+woken = s 1 ∷ s 1 ∷ t 2 1 ∷ s 2 ∷ t 3 2 ∷ s 3 ∷ s 1 ∷ s 1 ∷ s 1 ∷ s 1 ∷ s 1 ∷ s 1 ∷ s 1 ∷ s 2 ∷ s 1 ∷ s 1 ∷ []
+
 -- the first choices of a list
 abbrev pub front : ℕ → List Choice → List Choice
 front zero choices = []

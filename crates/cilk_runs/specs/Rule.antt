@@ -12,10 +12,10 @@ use Rattle.cilk_runs.specs.Values.{Values, Cell, Reached, read_at, reached_at, r
 use Rattle.cilk_runs.specs.Path.{Path, child_path, is_below}
 use Rattle.cilk_runs.specs.Instance.{Activation, Receiver, place, through, Delivery, Instance, entered, started, outer_values}
 use Rattle.cilk_runs.specs.State as state
-use Rattle.cilk_runs.specs.State.{Kind, of_value, finished, trapped, running, unset, free, held, State, instance_at, has_live_child, is_synched, store_of}
+use Rattle.cilk_runs.specs.State.{Kind, of_value, finished, trapped, running, unset, free, held, State, instance_at, has_live_child, is_synched, store_of, lock_at}
 use Rattle.cilk_runs.specs.Printing.{printed}
 use Rattle.cilk_runs.specs.Written.{Writes, Holding, place_of, others_of, Receives, Delivers, Gives, Heads, AtBoundary, Lets, HoldsNone, Free}
-use Rattle.cilk_runs.specs.Fails.{here, InFunction, InInlet, Fails}
+use Rattle.cilk_runs.specs.Fails.{here, InFunction, InInlet, MayPass, Fails}
 
 -- i stands at p in s, and t is the state after the step
 module _ (program : Labelled) (s : State) (p : Path) (i : Instance) (t : State) where
@@ -132,8 +132,8 @@ module _ (program : Labelled) (s : State) (p : Path) (i : Instance) (t : State) 
     pub before : state.Lock
     pub after : state.Lock
     pub turns : Turns what before after
-    pub was : slice_get s.locks k ≡ Some before
-    pub is : slice_get t.locks k ≡ Some after
+    pub was : lock_at s k ≡ before
+    pub is : slice_get t.locks k ≡ option_map (λ _. after) (slice_get s.locks k)
     pub others : (j : ℕ) → j ≢ k → slice_get t.locks j ≡ slice_get s.locks j
     pub goes_on : GoesOn true
     pub still : t ≡ record s { locks = t.locks; instances = t.instances }
@@ -175,7 +175,7 @@ module _ (program : Labelled) (s : State) (p : Path) (i : Instance) (t : State) 
         → HoldsNone s p → reached_if (here program s p i) (place_of taker) ≡ Ok reached
         → values_of (here program s p i) es ≡ Ok zs → values_of (here program s p i) (others_of taker) ≡ Ok ys
         → Receives n taker reached ys receiver → Births callee zs receiver → Acts n (spawn taker callee es)
-    passes : Free s p i → GoesBy true → Acts n sync
+    passes : MayPass program s p i → GoesBy true → Acts n sync
     marks : Marks → Acts n abort
     locks : (what : LockAction) (k : ℕ) → Locks what k → Acts n (locking what k)
     prints : (format : List ℕ) (es : List (Term Declaration)) (zs : List ℤ) → values_of (here program s p i) es ≡ Ok zs

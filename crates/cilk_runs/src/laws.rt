@@ -5,7 +5,7 @@ ghost use Rattle.cilk_runs.specs.State as state;
 ghost use Rattle.cilk_runs.specs.Choice as choice;
 ghost use Rattle.cilk_runs.specs.Fate as fate;
 ghost use Rattle.cilk_runs.specs.Trees.{counting, first_of_two, adding, holding, asking, crossing, summing};
-ghost use Rattle.cilk_runs.specs.Rows.{s, p, t, steps, outcome_of, closing_of, refusal_then, fate_after, front, stops, both};
+ghost use Rattle.cilk_runs.specs.Rows.{s, p, t, steps, outcome_of, closing_of, refusal_then, fate_after, front, stops, both, woken};
 
 /// Small programs in one thread, and two children that count at once.
 pub fn rows_of_steps_come_out()
@@ -20,6 +20,7 @@ pub fn rows_of_steps_come_out()
 pub fn rows_of_inlets_come_out()
     ensures stops { closing_of first_of_two 2 stops ≡ Some (codes "2\n1\nmain returned 1\n") }
     ensures both { closing_of first_of_two 2 both ≡ Some (codes "1\n2\nmain returned 2\n") }
+    ensures woken { closing_of first_of_two 3 woken ≡ Some (codes "1\nmain returned 1\n") }
 {}
 
 /// Locks.

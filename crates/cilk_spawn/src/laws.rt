@@ -17,7 +17,8 @@ pub fn trees_stay_trees()
     ensures child { (ns : List Node) (p : ℕ) (receiver : Receiver) → IsTree ns → is_live (node_at ns p) ≡ true → IsTree (with_child ns p receiver) }
     ensures delivery { (ns : List Node) (c : ℕ) (z : ℤ) → IsTree ns → c < length ns → IsTree (delivered ns c z) }
     ensures taking { (ns : List Node) (i : ℕ) → IsTree ns → i < length ns → IsTree (taken ns i) }
-    ensures end { (ns : List Node) (i : ℕ) (ending : Ending) → IsTree ns → is_live (node_at ns i) ≡ true → has_live_child ns i ≡ false → IsTree (ended ns i ending) }
+    ensures end { (ns : List Node) (i : ℕ) (ending : Ending) → IsTree ns → is_live (node_at ns i) ≡ true → has_live_child ns i ≡ false
+        → IsTree (ended ns i ending) }
     ensures parking { (ns : List Node) (i : ℕ) (frame : Option Frame) → IsTree ns → i < length ns → IsTree (with_parked ns i frame) }
 {}
 
@@ -38,7 +39,8 @@ pub fn paths_are_names()
 
 /// A path that is of none who lives finds nothing, and each who lives is told once.
 pub fn instances_are_those_that_live()
-    ensures missing { (ns : List Node) (path : Path) → ((i : ℕ) → is_live (node_at ns i) ≡ true → path_at ns i ≡ path → ⊥) → instance_at (instances_of ns) path ≡ None }
+    ensures missing { (ns : List Node) (path : Path) → ((i : ℕ) → is_live (node_at ns i) ≡ true → path_at ns i ≡ path → ⊥)
+        → instance_at (instances_of ns) path ≡ None }
     ensures count { (ns : List Node) → length (instances_of ns) ≡ length (live_ids ns) }
 {}
 
@@ -72,8 +74,10 @@ pub fn instances_change()
     ensures delivery { (ns : List Node) (c p : ℕ) (z : ℤ) → IsTree ns → (node_at ns c).parent ≡ Some p
         → instances_of (delivered ns c z)
         ≡ changed (path_at ns p) (one_more_delivery (record { child = path_at ns c; value = z; receiver = (node_at ns c).receiver })) (instances_of ns) }
-    ensures taking { (ns : List Node) (i : ℕ) → IsTree ns → i < length ns → instances_of (taken ns i) ≡ changed (path_at ns i) without_oldest (instances_of ns) }
-    ensures end { (ns : List Node) (i : ℕ) (ending : Ending) → IsTree ns → i < length ns → instances_of (ended ns i ending) ≡ without (path_at ns i) (instances_of ns) }
+    ensures taking { (ns : List Node) (i : ℕ) → IsTree ns → i < length ns → instances_of (taken ns i)
+        ≡ changed (path_at ns i) without_oldest (instances_of ns) }
+    ensures end { (ns : List Node) (i : ℕ) (ending : Ending) → IsTree ns → i < length ns → instances_of (ended ns i ending)
+        ≡ without (path_at ns i) (instances_of ns) }
     ensures parking { (ns : List Node) (i : ℕ) (frame : Option Frame) → IsTree ns → i < length ns
         → instances_of (with_parked ns i frame) ≡ changed (path_at ns i) (with_frame frame) (instances_of ns) }
 {}

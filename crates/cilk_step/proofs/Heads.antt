@@ -86,7 +86,8 @@ module _ (p : tree.Program) (globals : List ℤ) (ns : List Node) (f : Frame) (s
   abbrev Starts : ℕ → labelled.Taker Cell → ℕ → List ℤ → Bool → Type 0
   Starts n taken callee zs room = step_of (label p) s name ≡ step_by_start (label p) s name i n taken callee zs room
 
-  starts_by : (n : ℕ) (taker : Taker) (taken : labelled.Taker Cell) (callee : ℕ) (zs : List ℤ) (o : Option ℕ) (room : Bool) → has_room ns f.id ≡ room → Receives (label p) i.top.body (receiver_of taker n) (change.receiver_of taken n) → Takes (body_of p callee) zs → IsSome o → follows ≡ o → Starts n taken callee zs room
+  starts_by : (n : ℕ) (taker : Taker) (taken : labelled.Taker Cell) (callee : ℕ) (zs : List ℤ) (o : Option ℕ) (room : Bool) → has_room ns f.id ≡ room
+      → Receives (label p) i.top.body (receiver_of taker n) (change.receiver_of taken n) → Takes (body_of p callee) zs → IsSome o → follows ≡ o → Starts n taken callee zs room
       → IsPlan p ns f s i (spawned_by p ns f n o taker callee zs room)
   starts_by n taker taken callee zs o false is receives takes some e h = record { step = h; path_is = refl; copy_is = refl }
   starts_by n taker taken callee zs None true is receives takes some e h = cc
@@ -106,7 +107,9 @@ module _ (p : tree.Program) (globals : List ℤ) (ns : List Node) (f : Frame) (s
         to_is = e;
       }
 
-  pub starts_with : (n : ℕ) (taker : Taker) (taken : labelled.Taker Cell) (callee : ℕ) (o : Option ℕ) (v : Result (List ℤ) Trap) → Receives (label p) i.top.body (receiver_of taker n) (change.receiver_of taken n) → ((zs : List ℤ) → v ≡ Ok zs → Takes (body_of p callee) zs) → IsSome o → follows ≡ o → Comes n (v >>= λ zs. Ok (starts taken callee zs))
+  pub starts_with : (n : ℕ) (taker : Taker) (taken : labelled.Taker Cell) (callee : ℕ) (o : Option ℕ) (v : Result (List ℤ) Trap)
+      → Receives (label p) i.top.body (receiver_of taker n) (change.receiver_of taken n) → ((zs : List ℤ) → v ≡ Ok zs → Takes (body_of p callee) zs) → IsSome o → follows ≡ o
+      → Comes n (v >>= λ zs. Ok (starts taken callee zs))
       → IsPlan p ns f s i (spawned p ns f n o taker callee v)
   starts_with n taker taken callee o (Err trap) receives takes some e h = record { step = h; path_is = refl; copy_is = refl }
   starts_with n taker taken callee o (Ok zs) receives takes some e h =

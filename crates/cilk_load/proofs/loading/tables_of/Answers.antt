@@ -34,7 +34,9 @@ pub action_lines-requires : goal.action_lines-requires
 action_lines-requires c =
     let ok = c.program-program.ensures.well_formed in
     let is_items : c.deref-3.result.now ≡ c.args.checked.items = c.deref-3.ensures.value ∙ ap (λ (p : Program). p.items) (c.program.view_is ∙ c.program-program.ensures.value) in
-    let lines : length (items_lines c.deref-3.result.now) ≤ 4098 * count_program c.args.checked + length (globals_of c.args.checked.items) = subst (λ (items : List Item). length (items_lines items) ≤ 4098 * count_items c.args.checked.items + length (globals_of c.args.checked.items)) (sym is_items) (few_lines c.args.checked.items (well_formed-small c.args.checked ok)) in
+    let lines : length (items_lines c.deref-3.result.now) ≤ 4098 * count_program c.args.checked + length (globals_of c.args.checked.items) = subst (λ (items : List Item). length
+    (items_lines items) ≤ 4098 * count_items c.args.checked.items + length (globals_of c.args.checked.items)) (sym is_items) (few_lines c.args.checked.items
+    (well_formed-small c.args.checked ok)) in
     omega (arith, lines, few_globals c.args.checked ok, c.requires)
 
 pub place_of_main-main-requires-clause-there : goal.place_of_main-main-requires-clause-there
@@ -56,7 +58,8 @@ invariant_of-result c =
     let is_items : c.deref-2.result.now ≡ c.args.checked.items = c.deref-2.ensures.value ∙ ap (λ (p : Program). p.items) (c.program.view_is ∙ c.program-program.ensures.value) in
     let of_lines : c.deref-3.result.now ≡ c.args.checked.items = c.deref-3.ensures.value ∙ ap (λ (p : Program). p.items) (c.program.view_is ∙ c.program-program.ensures.value) in
     let is_globals : c.in_ok-globals.globals.items ≡ items_vars 0 c.args.checked.items = c.in_ok-globals.ensures ∙ ap (items_vars 0) of_globals in
-    let is_nodes : c.put_items.new.nodes.items ≡ items_nodes c.as_slice.result.now (names_of c.args.checked.items) 0 1 c.args.checked.items = only_nodes _ _ _ _ _ _ c.args.checked.items c.new-nodes.ensures.items c.new-bodies.ensures.len c.new-nodes.ensures.len is_items c.in_ok-put_items.ensures.nodes in
+    let is_nodes : c.put_items.new.nodes.items ≡ items_nodes c.as_slice.result.now
+    (names_of c.args.checked.items) 0 1 c.args.checked.items = only_nodes _ _ _ _ _ _ c.args.checked.items c.new-nodes.ensures.items c.new-bodies.ensures.len c.new-nodes.ensures.len is_items c.in_ok-put_items.ensures.nodes in
     let is_bodies : c.put_items.new.bodies.items ≡ items_bodies 1 c.args.checked.items = only_bodies _ _ _ _ c.args.checked.items c.new-bodies.ensures.items c.new-nodes.ensures.len is_items c.in_ok-put_items.ensures.bodies in
     let is_lines : c.in_ok-lines.lines.items ≡ items_action_lines 1 c.args.checked.items = c.in_ok-lines.ensures.lines ∙ ap (items_action_lines 1) of_lines in
     let is_main = ap (λ (bodies : List Body). position starts_here bodies) (sym c.deref-4.ensures.value) ∙ c.place_of_main-main.ensures in

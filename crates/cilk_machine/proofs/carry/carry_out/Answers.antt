@@ -78,7 +78,8 @@ pub returns-in-Write-clause-done : goal.returns-in-Write-clause-done
 returns-in-Write-clause-done c = λ p at h.
     let z : to_z w32 (of_z w32 c.in-Write.value) ≡ c.in-Write.value = grind (arith, to_z-of_z) in
     stepped-as refl refl c.give-in-Write.ensures c.running-in-Write.ensures.outcome c.running-in-Write.ensures.event
-    (carries-write p c.args.globals.now.items c.args.tree.now c.args.hands.now c.args.worker c.args.frame c.requires.worker c.requires.empty c.in-Write.path c.in-Write.n c.in-Write.reached c.in-Write.value c.in-Write.to c.go_on-in-Write.result c.write-frame.new.globals.items at (planned-as c.in-Write.is h)
+    (carries-write p c.args.globals.now.items c.args.tree.now c.args.hands.now c.args.worker c.args.frame c.requires.worker c.requires.empty c.in-Write.path c.in-Write.n c.in-Write.reached c.in-Write.value c.in-Write.to c.go_on-in-Write.result c.write-frame.new.globals.items at
+    (planned-as c.in-Write.is h)
     (c.go_on-in-Write.ensures ∙ ap (gone_to c.in-Write.to) (c.write-frame.ensures.frame ∙ ap (λ v. frame_with c.in-Write.reached v c.args.frame) z))
     (c.write-frame.ensures.globals ∙ ap (λ v. globals_with c.in-Write.reached v c.args.globals.now.items) z))
 
@@ -86,7 +87,8 @@ pub returns-in-Deliver-clause-done : goal.returns-in-Deliver-clause-done
 returns-in-Deliver-clause-done c = λ p at h.
     let z : to_z w32 (of_z w32 c.in-Deliver.value) ≡ c.in-Deliver.value = grind (arith, to_z-of_z) in
     stepped-as refl (c.take_delivery-taken.ensures.tree ∙ ap (taken c.args.tree.now) c.id-id.ensures) c.give-in-Deliver.ensures c.running-in-Deliver.ensures.outcome c.running-in-Deliver.ensures.event
-    (carries-deliver p c.args.globals.now.items c.args.tree.now c.args.hands.now c.args.worker c.args.frame c.requires.worker c.requires.empty c.in-Deliver.child c.in-Deliver.n c.in-Deliver.reached c.in-Deliver.value c.write-frame-in-Deliver.result c.write-frame-in-Deliver.new.globals.items at (planned-as c.in-Deliver.is h)
+    (carries-deliver p c.args.globals.now.items c.args.tree.now c.args.hands.now c.args.worker c.args.frame c.requires.worker c.requires.empty c.in-Deliver.child c.in-Deliver.n c.in-Deliver.reached c.in-Deliver.value c.write-frame-in-Deliver.result c.write-frame-in-Deliver.new.globals.items at
+    (planned-as c.in-Deliver.is h)
     (c.write-frame-in-Deliver.ensures.frame ∙ ap (λ v. frame_with c.in-Deliver.reached v c.args.frame) z)
     (c.write-frame-in-Deliver.ensures.globals ∙ ap (λ v. globals_with c.in-Deliver.reached v c.args.globals.now.items) z))
 

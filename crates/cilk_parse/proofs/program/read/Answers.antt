@@ -45,7 +45,8 @@ returns-clause-refused c =
     let lexed = subst (λ (v : List Piece). Lexes true 0 c.args.text.now v) (sym same) c.in-Ok.ensures.tokens in
     let again = same ∙ ap (pieces_of c.args.text.now) (sym c.deref-in-Err-Fault-TooDeep.ensures.value) in
     let short : length c.args.text.now ≤ text_limit = elim (cases_lt text_limit (length c.args.text.now)) [ inl h ↦ (let e = c.in-Ok.ensures.too_long.1 h in absurd cc) | inr h ↦ h ] in
-    too_deep_at _ _ _ _ short lexed (rw (c.in-Err-Fault-TooDeep.field-0-is, c.in-Err-Fault-TooDeep.field-0-0-is) at c.in-Err-Fault-TooDeep.ensures) (c.place_left-in-Err-Fault-TooDeep.ensures.place ∙ ap (λ (v : List Piece). place_left (length c.args.text.now) v c.in-Err-Fault-TooDeep.left) (sym again))
+    too_deep_at _ _ _ _ short lexed (rw (c.in-Err-Fault-TooDeep.field-0-is, c.in-Err-Fault-TooDeep.field-0-0-is) at c.in-Err-Fault-TooDeep.ensures)
+    (c.place_left-in-Err-Fault-TooDeep.ensures.place ∙ ap (λ (v : List Piece). place_left (length c.args.text.now) v c.in-Err-Fault-TooDeep.left) (sym again))
 
 pub returns-in-Err-Fault-Unexpected-clause-every_program : goal.returns-in-Err-Fault-Unexpected-clause-every_program
 returns-in-Err-Fault-Unexpected-clause-every_program c = λ p short s.

@@ -9,3 +9,7 @@ returns-clause-stops c = refl
 pub returns-clause-both : goal.returns-clause-both
 unfolding digits
 returns-clause-both c = refl
+
+pub returns-clause-woken : goal.returns-clause-woken
+unfolding digits
+returns-clause-woken c = refl

@@ -15,11 +15,13 @@ unreachable-requires c =
 
 pub delivered-requires-clause-child : goal.delivered-requires-clause-child
 delivered-requires-clause-child c =
-    child_fits c.args.loaded.now c.args.globals.now c.args.tree.now c.args.frame.now c.node-n.result c.in-Some.node.now (at_top c.args.frame.now c.depth.result c.node-n.result c.depth.ensures.value c.node-n.ensures) c.in-Some.ensures.value c.requires c.in-Some-delivery_before.delivery c.in-Some-delivery_before.ensures
+    child_fits c.args.loaded.now c.args.globals.now c.args.tree.now c.args.frame.now c.node-n.result c.in-Some.node.now
+    (at_top c.args.frame.now c.depth.result c.node-n.result c.depth.ensures.value c.node-n.ensures) c.in-Some.ensures.value c.requires c.in-Some-delivery_before.delivery c.in-Some-delivery_before.ensures
 
 pub delivered-requires-clause-fits : goal.delivered-requires-clause-fits
 delivered-requires-clause-fits c =
-    place_fits c.args.loaded.now c.args.globals.now c.args.tree.now c.args.frame.now c.node-n.result c.in-Some.node.now (at_top c.args.frame.now c.depth.result c.node-n.result c.depth.ensures.value c.node-n.ensures) c.in-Some.ensures.value c.requires c.in-Some-delivery_before.delivery c.in-Some-delivery_before.ensures
+    place_fits c.args.loaded.now c.args.globals.now c.args.tree.now c.args.frame.now c.node-n.result c.in-Some.node.now
+    (at_top c.args.frame.now c.depth.result c.node-n.result c.depth.ensures.value c.node-n.ensures) c.in-Some.ensures.value c.requires c.in-Some-delivery_before.delivery c.in-Some-delivery_before.ensures
 
 pub act-requires-clause-fits : goal.act-requires-clause-fits
 act-requires-clause-fits c =
@@ -28,13 +30,18 @@ act-requires-clause-fits c =
 pub returns-in-Some-delivery_before : goal.returns-in-Some-delivery_before
 returns-in-Some-delivery_before c =
     IfOk-weaker c.delivered.result _ _ (λ plan h s i r. subst (IsPlan c.args.loaded.now c.args.tree.now c.args.frame.now s i) (sym h)
-    (delivers_here c.args.loaded.now c.args.globals.now c.args.tree.now c.args.frame.now c.node-n.result c.in-Some.node.now (at_top c.args.frame.now c.depth.result c.node-n.result c.depth.ensures.value c.node-n.ensures) c.in-Some.ensures.value s i r c.in-Some-delivery_before.delivery c.in-Some-delivery_before.ensures)) c.delivered.ensures
+    (delivers_here c.args.loaded.now c.args.globals.now c.args.tree.now c.args.frame.now c.node-n.result c.in-Some.node.now
+    (at_top c.args.frame.now c.depth.result c.node-n.result c.depth.ensures.value c.node-n.ensures) c.in-Some.ensures.value s i r c.in-Some-delivery_before.delivery c.in-Some-delivery_before.ensures)) c.delivered.ensures
 
 pub returns-in-None-delivery_before : goal.returns-in-None-delivery_before
 returns-in-None-delivery_before c = λ s i r.
-    parks_here c.args.loaded.now c.args.globals.now c.args.tree.now c.args.frame.now c.node-n.result c.in-Some.node.now (at_top c.args.frame.now c.depth.result c.node-n.result c.depth.ensures.value c.node-n.ensures) c.in-Some.ensures.value s i r c.in-None-delivery_before.ensures (sym c.waits.ensures ∙ c.if-waits.true)
+    parks_here c.args.loaded.now c.args.globals.now c.args.tree.now c.args.frame.now c.node-n.result c.in-Some.node.now
+    (at_top c.args.frame.now c.depth.result c.node-n.result c.depth.ensures.value c.node-n.ensures) c.in-Some.ensures.value s i r c.in-None-delivery_before.ensures
+    (sym c.waits.ensures ∙ c.if-waits.true)
 
 pub returns-in-None-2 : goal.returns-in-None-2
 returns-in-None-2 c =
     IfOk-weaker c.act.result _ _ (λ plan h s i r. subst (IsPlan c.args.loaded.now c.args.tree.now c.args.frame.now s i) (sym h)
-    (acts_here c.args.loaded.now c.args.globals.now c.args.tree.now c.args.frame.now c.node-n.result c.in-Some.node.now (at_top c.args.frame.now c.depth.result c.node-n.result c.depth.ensures.value c.node-n.ensures) c.in-Some.ensures.value s i r c.in-None-2.ensures (sym c.waits.ensures ∙ c.if-waits.false))) c.act.ensures
+    (acts_here c.args.loaded.now c.args.globals.now c.args.tree.now c.args.frame.now c.node-n.result c.in-Some.node.now
+    (at_top c.args.frame.now c.depth.result c.node-n.result c.depth.ensures.value c.node-n.ensures) c.in-Some.ensures.value s i r c.in-None-2.ensures
+    (sym c.waits.ensures ∙ c.if-waits.false))) c.act.ensures

@@ -11,7 +11,8 @@ start-requires c = main_takes c.args.loaded c.main-main.result c.main-main.ensur
 pub invariant_of-result : goal.invariant_of-result
 invariant_of-result c =
     let hands = c.give.ensures ∙ ap (λ x. with_hand x 1 (Some c.in_ok-frame.frame)) c.in_ok-hands.ensures in
-    let led = opened-at c.args.loaded c.args.workers c.main-main.result c.in_ok-globals.globals.items c.in_ok-tree.tree c.give.new.self c.in_ok-frame.frame c.new.result c.requires.some c.requires.limit c.main-main.ensures (c.in_ok-globals.ensures ∙ ap Rattle.cilk_machine.specs.Opening.cells_of c.globals.ensures) c.in_ok-tree.ensures c.in_ok-frame.ensures c.new.ensures hands in
+    let led = opened-at c.args.loaded c.args.workers c.main-main.result c.in_ok-globals.globals.items c.in_ok-tree.tree c.give.new.self c.in_ok-frame.frame c.new.result c.requires.some c.requires.limit c.main-main.ensures
+    (c.in_ok-globals.ensures ∙ ap Rattle.cilk_machine.specs.Opening.cells_of c.globals.ensures) c.in_ok-tree.ensures c.in_ok-frame.ensures c.new.ensures hands in
     let crew = crew-of c.args.workers c.give.new.self c.in_ok-frame.frame hands in (
       record {
         well_formed = c.program-program.ensures.well_formed;
@@ -27,5 +28,6 @@ pub returns-clause-opening : goal.returns-clause-opening
 returns-clause-opening c =
     let hands = c.give.ensures ∙ ap (λ x. with_hand x 1 (Some c.in_ok-frame.frame)) c.in_ok-hands.ensures in (
       opening (label c.args.loaded) c.main-main.result c.args.workers,
-      opened-at c.args.loaded c.args.workers c.main-main.result c.in_ok-globals.globals.items c.in_ok-tree.tree c.give.new.self c.in_ok-frame.frame c.new.result c.requires.some c.requires.limit c.main-main.ensures (c.in_ok-globals.ensures ∙ ap Rattle.cilk_machine.specs.Opening.cells_of c.globals.ensures) c.in_ok-tree.ensures c.in_ok-frame.ensures c.new.ensures hands,
+      opened-at c.args.loaded c.args.workers c.main-main.result c.in_ok-globals.globals.items c.in_ok-tree.tree c.give.new.self c.in_ok-frame.frame c.new.result c.requires.some c.requires.limit c.main-main.ensures
+          (c.in_ok-globals.ensures ∙ ap Rattle.cilk_machine.specs.Opening.cells_of c.globals.ensures) c.in_ok-tree.ensures c.in_ok-frame.ensures c.new.ensures hands,
     )

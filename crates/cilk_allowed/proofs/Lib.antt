@@ -1,0 +1,17 @@
+pub mod Lookups
+pub mod Paths
+pub mod Live
+pub mod Family
+pub mod Cells
+pub mod Locks
+pub mod Ground
+pub mod Going
+pub mod Leaving
+pub mod Starting
+pub mod Rules
+pub mod Runs
+pub mod Kept
+pub mod Decided
+pub mod Forms
+pub mod OneState
+pub mod Forced

@@ -1,0 +1,8 @@
+pub mod Events
+pub mod Waits
+pub mod Tales
+pub mod Sound
+pub mod Told
+pub mod Ended
+pub mod Born
+pub mod Fates

@@ -1,0 +1,6 @@
+//! Laws of runs, over every list of possible choices: what becomes of each path that was ever made.
+#![tactic(auto)]
+
+mod laws;
+
+pub use laws::{each_choice_is_an_event, fates_move_on, the_living_live};

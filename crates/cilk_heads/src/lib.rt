@@ -1,0 +1,6 @@
+//! Each list of what remains of an activation has a head, until the body is left.
+#![tactic(auto)]
+
+mod laws;
+
+pub use laws::heads_are_there;

@@ -1,0 +1,8 @@
+use cilk_terms::{Code, Slot};
+
+/// A variable, or an element of an array (C 1990, 6.3.2.1).
+#[derive(Drop)]
+pub struct Place {
+    pub slot: Slot,
+    pub subscript: Option<Code>,
+}

@@ -1,0 +1,9 @@
+use crate::place::Place;
+use cilk_syntax::BinOp;
+
+/// What is written to, and the operator before the `=`, if there is one (C 1990, 6.3.16).
+#[derive(Drop)]
+pub struct Target {
+    pub op: Option<BinOp>,
+    pub place: Place,
+}

@@ -1,0 +1,13 @@
+use crate::name::Name;
+use cilk_terms::Slot;
+
+/// A variable, and where it lies.
+#[derive(Drop)]
+pub struct Var {
+    pub name: Name,
+    pub slot: Slot,
+    /// How many elements the array has, or 0 for a variable that is no array.
+    pub length: u32,
+    /// What its cells hold before any action.
+    pub initial: i32,
+}

@@ -1,0 +1,89 @@
+//! The value of an expression over slots.
+
+ghost use Rattle.std.specs.Prelude.{◌≡◌};
+ghost use Rattle.cilk_values.specs.Value.{value_of, settled_by_left, element_at};
+ghost use Rattle.cilk_terms.specs.Slots.{environment, cells_of, sizes_of, area_cells, LiesWithin, SlotsLieWithin};
+
+use crate::area::Area;
+use crate::arithmetic::{apply, unary};
+use crate::code::{Code, CodeNode};
+use crate::slot::Slot;
+use crate::slots::Slots;
+use cilk_syntax::BinOp;
+use cilk_values::Trap;
+
+/// The value of an expression, or the first trap from the left (C 1990, 6.3). `&&`, `||` and `?:`
+/// evaluate only the operands that they need. Each slot in the expression lies in its area, which
+/// is the caller's to know; subscripts are tested here.
+pub fn eval(slots: &Slots, code: &Code) -> Result<i32, Trap>
+    requires { SlotsLieWithin (sizes_of (cells_of slots.now)) code.now }
+    ensures { result ≡ value_of (environment (cells_of slots.now)) code.now }
+{
+    match &code.node {
+        CodeNode::Number(number) => i32::try_from(*number).map_err(|_| Trap::Overflow),
+        CodeNode::Variable(slot) => Ok(variable(slots, *slot)),
+        CodeNode::Element(slot, subscript) => {
+            let subscript = eval(slots, subscript)?;
+            element(slots, *slot, subscript)
+        }
+        CodeNode::Synched => Ok(i32::from(slots.synched)),
+        CodeNode::Unary(op, operand) => {
+            let operand = eval(slots, operand)?;
+            unary(*op, operand)
+        }
+        CodeNode::Binary(op, left, right) => {
+            let left = eval(slots, left)?;
+            match settled(*op, left) {
+                Some(value) => Ok(value),
+                None => {
+                    let right = eval(slots, right)?;
+                    apply(*op, left, right)
+                }
+            }
+        }
+        CodeNode::Choose(test, first, second) => {
+            let test = eval(slots, test)?;
+            eval(slots, if test != 0 { first } else { second })
+        }
+    }
+}
+
+// The value that `&&` or `||` has by its left operand alone.
+fn settled(op: BinOp, left: i32) -> Option<i32>
+    ensures { result ≡ settled_by_left op left }
+{
+    match op {
+        BinOp::And if left == 0 => Some(0),
+        BinOp::Or if left != 0 => Some(1),
+        _ => None,
+    }
+}
+
+fn variable(slots: &Slots, slot: Slot) -> i32
+    requires { LiesWithin (sizes_of (cells_of slots.now)) slot }
+    ensures { result ≡ (environment (cells_of slots.now)).value slot }
+{
+    cells_in(slots, slot.area)[slot.offset as usize]
+}
+
+fn element(slots: &Slots, slot: Slot, subscript: i32) -> Result<i32, Trap>
+    requires { LiesWithin (sizes_of (cells_of slots.now)) slot }
+    ensures { result ≡ element_at (environment (cells_of slots.now)) slot subscript }
+{
+    let index = u32::try_from(subscript).map_err(|_| Trap::Index)?;
+    if index >= slot.length {
+        return Err(Trap::Index);
+    }
+    let cells = cells_in(slots, slot.area);
+    Ok(cells[slot.offset as usize + index as usize])
+}
+
+fn cells_in<'a>(slots: &Slots<'a>, area: Area) -> &'a [i32]
+    ensures { result.now ≡ area_cells (cells_of slots.now) area }
+{
+    match area {
+        Area::Own => slots.own,
+        Area::Outer => slots.outer,
+        Area::Global => slots.globals,
+    }
+}

@@ -1,0 +1,23 @@
+//! Laws about values. The functions do nothing: their contracts are what is proved.
+
+ghost use Rattle.std.specs.Prelude.{◌≡◌, ◌≢◌, ℕ, ◌^◌, ℤ, pos, int_div, int_rem};
+ghost use Rattle.std.specs.Int.{int_div_euclid};
+ghost use Rattle.cilk_values.specs.Term.{Term, rename};
+ghost use Rattle.cilk_values.specs.Value.{Environment, value_of, seen_through};
+ghost use Rattle.cilk_terms.specs.Reads.{ReadsSame};
+ghost use Rattle.cilk_terms.specs.Rounding.{Truncates, RoundsDown};
+
+/// Other names for the places of an expression leave its value as it is, and so does a change of
+/// what it does not read.
+pub fn value_is_of_what_is_read<P, Q>()
+    ensures renamed { (f : P → Q) (env : Environment Q) (t : Term P)
+        → value_of env (rename f t) ≡ value_of (seen_through f env) t }
+    ensures same { (env other : Environment P) (t : Term P)
+        → ReadsSame env other t → value_of env t ≡ value_of other t }
+{}
+
+/// The words by which `/`, `%` and `>>` are defined round as the language asks.
+pub fn quotients_are_rounded()
+    ensures division { (a b : ℤ) → b ≢ pos 0 → Truncates a b (int_div a b) (int_rem a b) }
+    ensures shift { (a : ℤ) (k : ℕ) → RoundsDown a (2 ^ k) (int_div_euclid a (pos (2 ^ k))) }
+{}
