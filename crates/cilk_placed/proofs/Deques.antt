@@ -200,12 +200,12 @@ no_lines n v = by n (v - 1)
     by (suc n) zero = tt
     by (suc n) (suc k) = by n k
 
-no_deque : (n : ℕ) → deque_of (replicate n no_place) 1 ≡ []
+no_deque : (n : ℕ) → deque_of {A = Path} (replicate n no_place) 1 ≡ []
 no_deque zero = refl
 no_deque (suc n) = refl
 
 pub opening_lines : (program : Labelled) (main n : ℕ) → 1 ≤ n → Lines (opening program main n).scheduler.places
 opening_lines program main n some =
-    let size : length (replicate n no_place) ≡ n = length-replicate n no_place in
+    let size : length (replicate n (no_place {A = Path})) ≡ n = length-replicate n no_place in
     set_line (replicate n no_place) 1 (record { hand = Some []; deque = deque_of (replicate n no_place) 1 }) (omega arith) (no_lines n)
     (subst (λ (ps : List Path). Descends (ps ++ [] ∷ [])) (sym (no_deque n)) tt)

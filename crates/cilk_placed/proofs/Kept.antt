@@ -24,7 +24,7 @@ none_held : (q : Path) (n : ℕ) → held q (replicate n no_place) ≡ 0
 none_held q zero = refl
 none_held q (suc n) = omega (arith, sum_by-cons (times_held q) no_place (replicate n no_place), none_held q n)
 
-no_hand : (n : ℕ) → hand_of (replicate n no_place) 1 ≡ None
+no_hand : (n : ℕ) → hand_of {A = Path} (replicate n no_place) 1 ≡ None
 no_hand zero = refl
 no_hand (suc n) = refl
 
@@ -35,7 +35,7 @@ one_live false i = refl
 opens : (program : Labelled) (main n : ℕ) → 1 ≤ n → Placed (opening program main n)
 opens program main n some = record {
   each = λ q.
-      let size : length (replicate n no_place) ≡ n = length-replicate n no_place in
+      let size : length (replicate n (no_place {A = Path})) ≡ n = length-replicate n no_place in
       let g = given q (replicate n no_place) 1 [] (omega arith) (no_hand n) in
       let z = none_held q n in
       let l : once (is_live (opening_state program main).instances q) ≡ once (same_path q []) = ap once (one_live (same_path [] q) (started program main []) ∙ same-sym [] q) in

@@ -10,6 +10,7 @@ pub mod Rule
 pub mod Effect
 pub mod Change
 pub mod Pick
+pub mod Places
 pub mod Scheduler
 pub mod Choice
 pub mod Run

@@ -1,0 +1,87 @@
+ghost use Rattle.std.specs.Prelude.{◌≡◌, ◌<◌, length, slice_set, IfOk};
+ghost use Rattle.cilk_frames.specs.Starts.{first_cells};
+
+use crate::awaited::Await;
+use cilk_nodes::Body;
+use cilk_syntax::Memory;
+use std::alloc::Global;
+use std::marker::Model;
+
+/// A body that is being run.
+#[derive(Drop)]
+pub struct Activation {
+    node: u32,
+    cells: Vec<i32>,
+    awaits: Option<Await>,
+}
+
+impl Model for Activation {
+    ghost use Rattle.cilk_frames.specs.Frames as frames;
+
+    ghost Value = { frames.Activation };
+
+    ghost view = { λ a. record { node = a.node; cells = a.cells.items; awaits = a.awaits } };
+}
+
+impl Activation {
+    pub fn start(
+        alloc: Global,
+        body: &Body,
+        arguments: &[i32],
+        awaits: Option<Await>,
+    ) -> Result<Activation, Memory>
+        ensures { IfOk result (λ a. a ≡ record {
+          node = body.now.entry;
+          cells = first_cells body.now.cells arguments.now;
+          awaits = awaits;
+        }) }
+    {
+        Ok(Activation {
+            node: body.entry,
+            cells: cells_of(alloc, body.cells as usize, arguments)?,
+            awaits,
+        })
+    }
+
+    pub fn node(&self) -> u32
+        ensures { result ≡ self.now.node }
+    {
+        self.node
+    }
+
+    pub fn cells(&self) -> &[i32]
+        ensures { result.now ≡ self.now.cells }
+    {
+        self.cells.as_slice()
+    }
+
+    pub fn awaits(&self) -> Option<Await>
+        ensures { result ≡ self.now.awaits }
+    {
+        self.awaits
+    }
+
+    pub fn set_cell(&mut self, slot: u32, value: i32)
+        requires { slot < length self.old.cells }
+        ensures { self.new ≡ record self.old { cells = slice_set self.old.cells slot value } }
+    {
+        self.cells[slot as usize] = value;
+    }
+
+    pub fn jump(&mut self, n: u32)
+        ensures { self.new ≡ record self.old { node = n } }
+    {
+        self.node = n;
+    }
+}
+
+fn cells_of(alloc: Global, count: usize, arguments: &[i32]) -> Result<Vec<i32>, Memory>
+    ensures { IfOk result (λ cells. cells.items ≡ first_cells count arguments.now) }
+{
+    let mut cells = Vec::with_capacity(alloc, count)?;
+    cells.extend_from_slice(arguments)?;
+    for _ in 0..count.saturating_sub(arguments.len()) {
+        cells.push(0)?;
+    }
+    Ok(cells)
+}

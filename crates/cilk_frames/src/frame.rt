@@ -1,0 +1,161 @@
+ghost use Rattle.std.specs.Prelude.{◌≡◌, ◌<◌, ◌≤◌, ◌∷◌, [], false, length, None, Some, OnErr, OnOk, IfOk};
+ghost use Rattle.cilk_frames.specs.Frames.{depth, activation_at, top_of, with_cell, jumped, with_boundary, entered, left};
+ghost use Rattle.cilk_frames.specs.Starts.{activation_of};
+
+use crate::activation::Activation;
+use crate::awaited::Await;
+use crate::id::Id;
+use cilk_nodes::Body;
+use cilk_syntax::Memory;
+use std::alloc::Global;
+use std::marker::Model;
+
+/// Where an instance goes on, and what its variables hold. It has an owner, and there is no second
+/// one of an instance: it cannot be copied.
+#[derive(Drop)]
+pub struct Frame {
+    id: Id,
+    activations: Vec<Activation>,
+    boundary: bool,
+}
+
+impl Model for Frame {
+    ghost use Rattle.std.specs.Prelude.{◌<◌, ◌≤◌, length};
+    ghost use Rattle.cilk_frames.specs.Frames as frames;
+
+    ghost Value = { frames.Frame };
+
+    ghost view = { λ f. record { id = f.id; activations = f.activations.items; boundary = f.boundary } };
+
+    ghost invariant = { λ f. (0 < length f.activations.items) × (length f.activations.items ≤ 256) };
+}
+
+impl Frame {
+    /// The most activations that an instance may have.
+    pub const DEPTH: u32 = 256;
+
+    /// An instance of a procedure at its start. There are as many arguments as it has parameters.
+    pub fn start(alloc: Global, id: Id, body: &Body, arguments: &[i32]) -> Result<Frame, Memory>
+        requires { length arguments.now ≡ body.now.params }
+        ensures { IfOk result (λ frame. frame ≡ record {
+          id = id;
+          activations = activation_of body.now arguments.now None ∷ [];
+          boundary = false;
+        }) }
+    {
+        let mut activations = Vec::with_capacity(alloc, 1)?;
+        activations.push(Activation::start(alloc, body, arguments, None)?)?;
+        Ok(Frame {
+            id,
+            activations,
+            boundary: false,
+        })
+    }
+
+    /// Whose frame it is.
+    pub fn id(&self) -> Id
+        ensures { result ≡ self.now.id }
+    {
+        self.id
+    }
+
+    /// The boundary flag: the last action of the procedure was a spawn (Cilk 5.4 manual, `inlet`).
+    pub fn at_boundary(&self) -> bool
+        ensures { result ≡ self.now.boundary }
+    {
+        self.boundary
+    }
+
+    /// How many activations there are: the procedure's own, and those above it.
+    pub fn depth(&self) -> u32
+        ensures value { result ≡ depth self.now }
+        ensures some { 0 < result }
+        ensures limit { result ≤ 256 }
+    {
+        self.activations.len() as u32
+    }
+
+    /// The number of the action with which activation i goes on, that of the procedure being 0.
+    pub fn node(&self, i: u32) -> u32
+        requires { i < depth self.now }
+        ensures { result ≡ (activation_at self.now i).node }
+    {
+        let activation = &self.activations[i as usize];
+        activation.node()
+    }
+
+    /// The cells of activation i, that of the procedure being 0.
+    pub fn cells(&self, i: u32) -> &[i32]
+        requires { i < depth self.now }
+        ensures { result.now ≡ (activation_at self.now i).cells }
+    {
+        let activation = &self.activations[i as usize];
+        activation.cells()
+    }
+
+    /// Puts a value into a cell of activation i.
+    pub fn set_cell(&mut self, i: u32, slot: u32, value: i32)
+        requires activation { i < depth self.old }
+        requires cell { slot < length (activation_at self.old i).cells }
+        ensures { self.new ≡ with_cell i slot value self.old }
+    {
+        let activation = &mut self.activations[i as usize];
+        activation.set_cell(slot, value);
+    }
+
+    /// The top activation goes on with action n.
+    pub fn jump(&mut self, n: u32)
+        ensures { self.new ≡ jumped n self.old }
+    {
+        let top = self.activations.len() - 1;
+        let activation = &mut self.activations[top];
+        activation.jump(n);
+    }
+
+    /// Sets the boundary flag, or clears it.
+    pub fn set_boundary(&mut self, boundary: bool)
+        ensures { self.new ≡ with_boundary boundary self.old }
+    {
+        self.boundary = boundary;
+    }
+
+    /// Another body goes on, with as many arguments as it has parameters: a C function that is
+    /// called, or an inlet.
+    pub fn enter(
+        &mut self,
+        body: &Body,
+        arguments: &[i32],
+        awaits: Option<Await>,
+    ) -> Result<(), Memory>
+        requires takes { length arguments.now ≡ body.now.params }
+        requires room { depth self.old < 256 }
+        ensures ok { OnOk result (self.new ≡ entered (activation_of body.now arguments.now awaits) self.old) }
+        ensures err { OnErr result (self.new ≡ self.old) }
+    {
+        let alloc = *self.activations.allocator();
+        let activation = Activation::start(alloc, body, arguments, awaits)?;
+        self.activations.push(activation)?;
+        Ok(())
+    }
+
+    /// The top activation is left. Answers what awaits its value.
+    pub fn leave(&mut self) -> Option<Await>
+        requires { 1 < depth self.old }
+        ensures value { result ≡ (top_of self.old).awaits }
+        ensures frame { self.new ≡ left self.old }
+    {
+        match self.activations.pop() {
+            None => unreachable!(),
+            Some(activation) => activation.awaits(),
+        }
+    }
+
+    /// Spends the frame: its instance is no more.
+    pub fn finish(self) {
+        let Frame {
+            id: _,
+            activations: _,
+            boundary: _,
+        } = self;
+    }
+}

@@ -1,0 +1,4 @@
+pub mod Ends
+pub mod Seats
+pub mod Count
+pub mod Names

@@ -1,0 +1,119 @@
+ghost use Rattle.std.specs.Prelude.{◌≡◌, ◌++◌, ◌∷◌, [], Some, None, length, replicate, slice_get, IfOk, IfErr, OnErr, OnOk};
+ghost use Rattle.std.specs.Option.{option_copied};
+ghost use Rattle.cilk_runs.specs.Places.{no_place, IsWorker, hand_of, deque_of, with_hand, with_deque, top_of, below_top, bottom_of, above_bottom};
+
+use crate::place::Place;
+use cilk_frames::{Frame, Memory};
+use std::alloc::Global;
+use std::marker::Model;
+
+/// The hands and the deques of the workers, who are numbered from 1. Contracts see a list of
+/// places, that of worker 1 first, with each deque from top to bottom. Every frame that is here is
+/// owned: it comes in by a move, and goes out by one.
+#[derive(Drop)]
+pub struct Hands {
+    places: Vec<Place>,
+}
+
+impl Model for Hands {
+    ghost use Rattle.std.specs.Prelude.{List};
+    ghost use Rattle.cilk_runs.specs.Places as seen;
+    ghost use Rattle.cilk_frames.specs.Frames.{Frame};
+
+    ghost Value = { List (seen.PlaceOf Frame) };
+
+    ghost view = { λ h. h.places.items };
+}
+
+impl Hands {
+    /// So many workers, who have nothing.
+    pub fn new(alloc: Global, workers: u8) -> Result<Hands, Memory>
+        ensures { IfOk result (λ hands. hands ≡ replicate workers no_place) }
+    {
+        let mut places = Vec::with_capacity(alloc, workers as usize)?;
+        for _ in 0..workers {
+            places.push(Place::new(alloc))?;
+        }
+        Ok(Hands { places })
+    }
+
+    /// Puts a frame into the worker's hand, which is empty. It takes no memory.
+    pub fn give(&mut self, worker: u8, frame: Frame)
+        requires worker { IsWorker self.old worker }
+        requires empty { hand_of self.old worker ≡ None }
+        ensures { self.new ≡ with_hand self.old worker (Some frame) }
+    {
+        let place = &mut self.places[worker as usize - 1];
+        place.give(frame);
+    }
+
+    /// Takes the frame out of the worker's hand. None where the hand is empty.
+    pub fn take(&mut self, worker: u8) -> Option<Frame>
+        requires { IsWorker self.old worker }
+        ensures value { result ≡ hand_of self.old worker }
+        ensures rest { self.new ≡ with_hand self.old worker None }
+    {
+        let place = &mut self.places[worker as usize - 1];
+        place.take()
+    }
+
+    /// Puts a frame below the others of the worker's deque. Where memory has run out, the frame
+    /// comes back, and nothing has changed.
+    pub fn push_bottom(&mut self, worker: u8, frame: Frame) -> Result<(), Frame>
+        requires { IsWorker self.old worker }
+        ensures ok { OnOk result (self.new ≡ with_deque self.old worker (deque_of self.old worker ++ frame ∷ [])) }
+        ensures err { OnErr result (self.new ≡ self.old) }
+        ensures back { IfErr result (λ f. f ≡ frame) }
+    {
+        let place = &mut self.places[worker as usize - 1];
+        place.push_bottom(frame)
+    }
+
+    /// Takes the lowest frame out of the worker's deque. None where the deque is empty.
+    pub fn pop_bottom(&mut self, worker: u8) -> Option<Frame>
+        requires { IsWorker self.old worker }
+        ensures value { result ≡ bottom_of (deque_of self.old worker) }
+        ensures rest { self.new ≡ with_deque self.old worker (above_bottom (deque_of self.old worker)) }
+    {
+        let place = &mut self.places[worker as usize - 1];
+        place.pop_bottom()
+    }
+
+    /// Takes the topmost frame out of the victim's deque, in constant time. None where the deque is
+    /// empty.
+    pub fn steal_top(&mut self, victim: u8) -> Option<Frame>
+        requires { IsWorker self.old victim }
+        ensures value { result ≡ top_of (deque_of self.old victim) }
+        ensures rest { self.new ≡ with_deque self.old victim (below_top (deque_of self.old victim)) }
+    {
+        let place = &mut self.places[victim as usize - 1];
+        place.steal_top()
+    }
+
+    /// The frame in the worker's hand. None where the hand is empty.
+    pub fn hand(&self, worker: u8) -> Option<&Frame>
+        requires { IsWorker self.now worker }
+        ensures { option_copied result ≡ hand_of self.now worker }
+    {
+        let place = &self.places[worker as usize - 1];
+        place.hand()
+    }
+
+    /// How many frames are in the worker's deque.
+    pub fn len(&self, worker: u8) -> usize
+        requires { IsWorker self.now worker }
+        ensures { result ≡ length (deque_of self.now worker) }
+    {
+        let place = &self.places[worker as usize - 1];
+        place.len()
+    }
+
+    /// Frame i of the worker's deque, the topmost being 0, and then None.
+    pub fn queued(&self, worker: u8, i: usize) -> Option<&Frame>
+        requires { IsWorker self.now worker }
+        ensures { option_copied result ≡ slice_get (deque_of self.now worker) i }
+    {
+        let place = &self.places[worker as usize - 1];
+        place.queued(i)
+    }
+}

@@ -1,0 +1,61 @@
+//! Where the frames of the workers are: each worker has at most one in its hand, and a deque of
+//! others (Cilk 5.4 manual, work stealing).
+//!
+//! A frame is in one place, since there is no second one of an instance. The compiler refuses each
+//! of these functions: the first leaves a frame where it was taken, and a frame has no method
+//! `clone`; the other two use a frame that is with a worker already.
+//!
+//! ```compile_fail unknown-method
+//! ghost use Rattle.cilk_runs.specs.Places.{IsWorker};
+//!
+//! use cilk_frames::Frame;
+//! use cilk_hands::Hands;
+//!
+//! pub fn left_behind(hands: &Hands, victim: u8) -> Option<Frame>
+//!     requires { IsWorker hands.now victim }
+//! {
+//!     hands.queued(victim, 0).cloned()
+//! }
+//! ```
+//!
+//! ```compile_fail borrow-e0382
+//! ghost use Rattle.std.specs.Prelude.{◌≡◌, None};
+//! ghost use Rattle.cilk_runs.specs.Places.{IsWorker, hand_of};
+//!
+//! use cilk_frames::Frame;
+//! use cilk_hands::Hands;
+//!
+//! pub fn used_after_give(hands: &mut Hands, worker: u8, frame: Frame)
+//!     requires worker { IsWorker hands.old worker }
+//!     requires empty { hand_of hands.old worker ≡ None }
+//! {
+//!     hands.give(worker, frame);
+//!     frame.finish();
+//! }
+//! ```
+//!
+//! ```compile_fail borrow-e0382
+//! ghost use Rattle.cilk_runs.specs.Places.{IsWorker};
+//!
+//! use cilk_frames::Frame;
+//! use cilk_hands::Hands;
+//!
+//! pub fn used_after_push(hands: &mut Hands, worker: u8, frame: Frame) -> Result<(), Frame>
+//!     requires { IsWorker hands.old worker }
+//! {
+//!     hands.push_bottom(worker, frame)?;
+//!     Err(frame)
+//! }
+//! ```
+#![tactic(auto)]
+
+mod hands;
+mod laws;
+mod place;
+
+pub use cilk_frames::Memory;
+pub use hands::Hands;
+pub use laws::{
+    each_frame_is_counted, moves_are_counted, names_are_read, names_go_along,
+    others_keep_their_places,
+};

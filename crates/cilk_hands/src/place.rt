@@ -1,0 +1,88 @@
+ghost use Rattle.std.specs.Prelude.{◌≡◌, ◌++◌, ◌∷◌, [], Some, None, length, slice_get, IfErr, OnErr, OnOk};
+ghost use Rattle.std.specs.Option.{option_copied};
+ghost use Rattle.cilk_runs.specs.Places.{no_place, top_of, below_top, bottom_of, above_bottom};
+
+use cilk_frames::Frame;
+use std::alloc::Global;
+use std::collections::VecDeque;
+use std::marker::Model;
+
+/// What one worker has.
+#[derive(Drop)]
+pub struct Place {
+    hand: Option<Frame>,
+    deque: VecDeque<Frame>,
+}
+
+impl Model for Place {
+    ghost use Rattle.cilk_runs.specs.Places as seen;
+    ghost use Rattle.cilk_frames.specs.Frames.{Frame};
+
+    ghost Value = { seen.PlaceOf Frame };
+
+    ghost view = { λ p. record { hand = p.hand; deque = p.deque.items } };
+}
+
+impl Place {
+    pub fn new(alloc: Global) -> Place
+        ensures { result ≡ no_place }
+    {
+        Place {
+            hand: None,
+            deque: VecDeque::new(alloc),
+        }
+    }
+
+    pub fn hand(&self) -> Option<&Frame>
+        ensures { option_copied result ≡ self.now.hand }
+    {
+        self.hand.as_ref()
+    }
+
+    pub fn len(&self) -> usize
+        ensures { result ≡ length self.now.deque }
+    {
+        self.deque.len()
+    }
+
+    pub fn queued(&self, i: usize) -> Option<&Frame>
+        ensures { option_copied result ≡ slice_get self.now.deque i }
+    {
+        self.deque.get(i)
+    }
+
+    pub fn give(&mut self, frame: Frame)
+        ensures { self.new ≡ record self.old { hand = Some frame } }
+    {
+        self.hand = Some(frame);
+    }
+
+    pub fn take(&mut self) -> Option<Frame>
+        ensures value { result ≡ self.old.hand }
+        ensures rest { self.new ≡ record self.old { hand = None } }
+    {
+        self.hand.take()
+    }
+
+    pub fn push_bottom(&mut self, frame: Frame) -> Result<(), Frame>
+        ensures ok { OnOk result (self.new ≡ record self.old { deque = self.old.deque ++ frame ∷ [] }) }
+        ensures err { OnErr result (self.new ≡ self.old) }
+        ensures back { IfErr result (λ f. f ≡ frame) }
+    {
+        self.deque.push_back(frame).map_err(|failed| failed.value)
+    }
+
+    pub fn pop_bottom(&mut self) -> Option<Frame>
+        ensures value { result ≡ bottom_of self.old.deque }
+        ensures rest { self.new ≡ record self.old { deque = above_bottom self.old.deque } }
+    {
+        self.deque.pop_back()
+    }
+
+    pub fn steal_top(&mut self) -> Option<Frame>
+        ensures value { result ≡ top_of self.old.deque }
+        ensures rest { self.new ≡ record self.old { deque = below_top self.old.deque } }
+    {
+        self.deque.pop_front()
+    }
+}

@@ -1,0 +1,4 @@
+pub mod Starts
+pub mod Cells
+pub mod Reads
+pub mod Stands
