@@ -93,6 +93,15 @@ impl Frame {
         activation.cells()
     }
 
+    /// What awaits the value of the top activation.
+    pub fn awaits(&self) -> Option<Await>
+        ensures { result ≡ (top_of self.now).awaits }
+    {
+        let top = self.activations.len() - 1;
+        let activation = &self.activations[top];
+        activation.awaits()
+    }
+
     /// Puts a value into a cell of activation i.
     pub fn set_cell(&mut self, i: u32, slot: u32, value: i32)
         requires activation { i < depth self.old }

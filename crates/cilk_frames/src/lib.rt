@@ -1,4 +1,25 @@
 //! Frames: where an instance of a procedure goes on, and what its variables hold.
+//!
+//! A frame has one owner, and there is no second frame of an instance. The compiler refuses each
+//! of these functions, the first since a frame has no method `clone`, and the second since a frame
+//! that was spent is no more:
+//!
+//! ```compile_fail unsupported-method
+//! use cilk_frames::Frame;
+//!
+//! pub fn frame_is_cloned(frame: &Frame) -> Frame {
+//!     frame.clone()
+//! }
+//! ```
+//!
+//! ```compile_fail borrow-e0382
+//! use cilk_frames::Frame;
+//!
+//! pub fn used_after_finish(frame: Frame) -> u32 {
+//!     frame.finish();
+//!     frame.depth()
+//! }
+//! ```
 #![tactic(auto)]
 
 mod activation;

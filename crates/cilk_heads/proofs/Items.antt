@@ -3,7 +3,7 @@ use Rattle.std.proofs.Common.{◌≡◌, Bool, true, false, List, [], ◌∷◌,
 use Rattle.std.specs.Prelude.{⊤}
 use Rattle.cilk_labelled.specs.Labelled.{Action, break_off, go_round, return_with, return_nothing, close}
 use Rattle.cilk_labelled.specs.Labelled.{Numbered, Stmt, action, choose, while, repeat, loop, nested, Stmts, none, also, Body}
-use Rattle.cilk_labelled.specs.Items.{Round, Item, piece, at_test, at_advance, Items, pieces, plain_round, open_first, open_stmt, open_stmts, opened, head_of, past_mark, from_mark, after_action, next_mark, next, start_items, reached}
+use Rattle.cilk_labelled.specs.Items.{Round, Item, piece, at_test, at_advance, Items, pieces, plain_round, open_stmt, open_stmts, opened, head_of, past_mark, from_mark, after_action, next_mark, next, start_items, reached}
 use Rattle.cilk_heads.specs.Heads.{IfThere, EachOfStmt, EachOf}
 
 -- whether a loop is being run

@@ -28,7 +28,7 @@ fn parameter_count(parameters: &Parameters) -> usize
 {
     match parameters {
         Parameters::Ints(names) => names.len(),
-        Parameters::CommandLine(_, _) => 2,
+        Parameters::CommandLine(_, _) => 1,
     }
 }
 

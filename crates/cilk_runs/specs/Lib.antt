@@ -17,4 +17,5 @@ pub mod Run
 pub mod End
 pub mod Fate
 pub mod Trees
+pub mod Programs
 pub mod Rows

@@ -52,6 +52,10 @@ both = s 1 ∷ s 1 ∷ t 2 1 ∷ s 2 ∷ s 1 ∷ s 1 ∷ s 1 ∷ s 2 ∷ s 2 ∷
 abbrev pub woken : List Choice
 woken = s 1 ∷ s 1 ∷ t 2 1 ∷ s 2 ∷ t 3 2 ∷ s 3 ∷ s 1 ∷ s 1 ∷ s 1 ∷ s 1 ∷ s 1 ∷ s 1 ∷ s 1 ∷ s 2 ∷ s 1 ∷ s 1 ∷ []
 
+-- an inlet of `main` marks a child, which is parked then, and its child
+abbrev pub marks : List Choice
+marks = s 1 ∷ t 2 1 ∷ s 1 ∷ s 2 ∷ s 2 ∷ p 2 ∷ s 2 ∷ s 2 ∷ s 2 ∷ s 2 ∷ t 2 1 ∷ s 2 ∷ steps 4 1
+
 -- the first choices of a list
 abbrev pub front : ℕ → List Choice → List Choice
 front zero choices = []

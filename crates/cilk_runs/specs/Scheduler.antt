@@ -1,5 +1,5 @@
 -- Where the instances are: each worker has at most one in its hand, and a deque of others (Cilk 5.4 manual, work stealing).
-use Rattle.std.specs.Prelude.{ℕ, ◌-◌, Bool, false, not, ◌&&◌, ◌||◌, if◌then◌else◌, List, [], ◌∷◌, ◌++◌, Option, Some, None, slice_index_or, slice_set, replicate}
+use Rattle.std.specs.Prelude.{ℕ, Bool, false, not, ◌&&◌, ◌||◌, if◌then◌else◌, List, [], Option, Some, None, replicate}
 use Rattle.cilk_runs.specs.Places.{PlaceOf, popped_by, stolen_by, pushed_by}
 use Rattle.cilk_runs.specs.Path.{Path, same_path, parent_of}
 use Rattle.cilk_runs.specs.Instance.{Instance}

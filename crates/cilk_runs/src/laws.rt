@@ -5,7 +5,8 @@ ghost use Rattle.cilk_runs.specs.State as state;
 ghost use Rattle.cilk_runs.specs.Choice as choice;
 ghost use Rattle.cilk_runs.specs.Fate as fate;
 ghost use Rattle.cilk_runs.specs.Trees.{counting, first_of_two, adding, holding, asking, crossing, summing};
-ghost use Rattle.cilk_runs.specs.Rows.{s, p, t, steps, outcome_of, closing_of, refusal_then, fate_after, front, stops, both, woken};
+ghost use Rattle.cilk_runs.specs.Programs.{doubling, passing, descending, filling, overrunning, reading_late, rounding, marking, printing, locks_twice, locks_unset};
+ghost use Rattle.cilk_runs.specs.Rows.{s, p, t, steps, outcome_of, closing_of, refusal_then, fate_after, front, stops, both, woken, marks};
 
 /// Small programs in one thread, and two children that count at once.
 pub fn rows_of_steps_come_out()
@@ -28,6 +29,8 @@ pub fn rows_of_locks_come_out()
     ensures waits { refusal_then adding (s 1 ∷ s 1 ∷ t 2 1 ∷ s 2 ∷ s 1 ∷ []) (s 2) ≡ Some choice.waiting }
     ensures held { closing_of holding 2 (s 1 ∷ s 1 ∷ s 1 ∷ []) ≡ Some (codes "trapped HeldLock in / at 4, line 7\n") }
     ensures stuck { closing_of crossing 2 (s 1 ∷ s 1 ∷ s 1 ∷ t 2 1 ∷ s 2 ∷ s 1 ∷ s 2 ∷ []) ≡ Some (codes "stuck after 7 choices\n") }
+    ensures taken_twice { closing_of locks_twice 1 (steps 3 1) ≡ Some (codes "trapped Lock in / at 3, line 5\n") }
+    ensures never_made { closing_of locks_unset 1 (steps 1 1) ≡ Some (codes "trapped Lock in / at 1, line 3\n") }
 {}
 
 /// What became of the children, at places of one list of choices.
@@ -50,4 +53,35 @@ pub fn rows_of_refusals_come_out()
     ensures full_hand { refusal_then counting [] (p 1) ≡ Some choice.busy }
     ensures busy_thief { refusal_then counting [] (t 1 2) ≡ Some choice.busy }
     ensures own_deque { refusal_then counting (s 1 ∷ t 2 1 ∷ s 2 ∷ s 2 ∷ s 2 ∷ s 2 ∷ []) (t 2 1) ≡ Some choice.busy }
+{}
+
+/// A place takes its child's value when the delivery is taken, and not before.
+pub fn rows_of_deliveries_come_out()
+    ensures early { closing_of doubling 2 (s 1 ∷ s 1 ∷ s 1 ∷ p 1 ∷ steps 5 1) ≡ Some (codes "main returned 24\n") }
+    ensures late { closing_of doubling 2 (s 1 ∷ s 1 ∷ t 2 1 ∷ s 2 ∷ s 1 ∷ steps 4 2) ≡ Some (codes "main returned 9\n") }
+    ensures taken { fate_after doubling (s 1 ∷ s 1 ∷ t 2 1 ∷ s 2 ∷ s 1 ∷ steps 2 2) (1 ∷ []) ≡ Some (fate.was_delivered 7) }
+    ensures overflow { closing_of passing 1 (s 1 ∷ s 1 ∷ s 1 ∷ p 1 ∷ s 1 ∷ []) ≡ Some (codes "trapped Overflow in / at 4, line 6\n") }
+{}
+
+/// Control, arrays and calls in one instance.
+pub fn rows_of_control_come_out()
+    ensures rounds { closing_of rounding 1 (steps 17 1) ≡ Some (codes "main returned 6\n") }
+    ensures array { closing_of filling 1 (steps 4 1) ≡ Some (codes "main returned 14\n") }
+    ensures index { closing_of overrunning 1 (steps 1 1) ≡ Some (codes "trapped Index in / at 1, line 3\n") }
+    ensures call { closing_of reading_late 1 (steps 4 1) ≡ Some (codes "main returned 2\n") }
+    ensures prints { closing_of printing 1 (steps 2 1) ≡ Some (codes "-2147483648%\t0\nmain returned 0\n") }
+{}
+
+/// An `abort` marks grandchildren too; what is marked ends after its children.
+pub fn rows_of_marks_come_out()
+    ensures ends { closing_of marking 2 marks ≡ Some (codes "main returned 0\n") }
+    ensures grandchild { fate_after marking (front 13 marks) (1 ∷ 1 ∷ []) ≡ Some (fate.was_aborted 13) }
+    ensures child { fate_after marking (front 14 marks) (1 ∷ []) ≡ Some (fate.was_aborted 14) }
+    ensures live { fate_after marking (front 12 marks) (1 ∷ 1 ∷ []) ≡ Some fate.lives }
+{}
+
+/// An instance has 256 activations at most.
+pub fn rows_of_calls_come_out()
+    ensures depth { closing_of descending 1 (steps 256 1) ≡ Some (codes "trapped Depth in / at 1, line 2\n") }
+    ensures limit { closing_of descending 1 (steps 255 1) ≡ Some (codes "limit after 255 choices\n") }
 {}

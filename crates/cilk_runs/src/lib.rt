@@ -4,6 +4,7 @@
 mod laws;
 
 pub use laws::{
+    rows_of_calls_come_out, rows_of_control_come_out, rows_of_deliveries_come_out,
     rows_of_fates_come_out, rows_of_inlets_come_out, rows_of_locks_come_out,
-    rows_of_refusals_come_out, rows_of_steps_come_out,
+    rows_of_marks_come_out, rows_of_refusals_come_out, rows_of_steps_come_out,
 };

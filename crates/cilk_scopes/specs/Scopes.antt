@@ -46,8 +46,10 @@ parameters_declare (tree.ints names) = map parameter names
 parameters_declare (tree.command_line count strings) =
     parameter count ∷ record { name = strings; kind = Strings } ∷ []
 
+-- how many arguments are taken: the second parameter of the form of `main` that is told of the command line is no variable (C 1990, 5.1.2.2.1)
 abbrev pub parameter_count : tree.Parameters → ℕ
-parameter_count parameters = length (parameters_declare parameters)
+parameter_count (tree.ints names) = length names
+parameter_count (tree.command_line count strings) = 1
 
 abbrev pub kind_of_shape : tree.Shape → Kind
 kind_of_shape (tree.variable value) = Variable

@@ -23,14 +23,16 @@ set-past v w k z =
     let e : length v + k - length v ≡ k = omega arith in
     set-append_right v w (length v) (length v + k) z refl (omega arith) ∙ ap (λ n. v ++ slice_set w n z) e
 
-pub flat-get : (values : Values) (n k : ℕ) (d : ℤ) → k < length (slice_index_or values n []) → slice_index_or (flat values) (before (map length values) n + k) d ≡ slice_index_or (slice_index_or values n []) k d
+pub flat-get : (values : Values) (n k : ℕ) (d : ℤ) → k < length (slice_index_or values n [])
+    → slice_index_or (flat values) (before (map length values) n + k) d ≡ slice_index_or (slice_index_or values n []) k d
 flat-get [] n k d h = absurd (omega arith)
 flat-get (v ∷ values) zero k d h = let e : 0 + k ≡ k = omega arith in ap (λ n. slice_index_or (v ++ flat values) n d) e ∙ get-in v (flat values) k d h
 flat-get (v ∷ values) (suc n) k d h =
     let e : length v + before (map length values) n + k ≡ length v + (before (map length values) n + k) = omega arith in
     ap (λ j. slice_index_or (v ++ flat values) j d) e ∙ get-past v (flat values) (before (map length values) n + k) d ∙ flat-get values n k d h
 
-pub flat-set : (values : Values) (n k : ℕ) (z : ℤ) → k < length (slice_index_or values n []) → slice_set (flat values) (before (map length values) n + k) z ≡ flat (with_value n k z values)
+pub flat-set : (values : Values) (n k : ℕ) (z : ℤ) → k < length (slice_index_or values n [])
+    → slice_set (flat values) (before (map length values) n + k) z ≡ flat (with_value n k z values)
 flat-set [] n k z h = absurd (omega arith)
 flat-set (v ∷ values) zero k z h = let e : 0 + k ≡ k = omega arith in ap (λ n. slice_set (v ++ flat values) n z) e ∙ set-append_left v (flat values) k z h
 flat-set (v ∷ values) (suc n) k z h =

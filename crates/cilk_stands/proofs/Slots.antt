@@ -18,18 +18,21 @@ slot-area area at [] n h = absurd (omega arith)
 slot-area area at (v ∷ variables) zero h = refl
 slot-area area at (v ∷ variables) (suc n) h = slot-area area (at + size_of v) variables n (omega arith)
 
-pub slot-offset : (area : Area) (at : ℕ) (variables : List Variable) (n : ℕ) → n < length variables → (slot_from area at variables n).offset ≡ at + before (sizes_of variables) n
+pub slot-offset : (area : Area) (at : ℕ) (variables : List Variable) (n : ℕ) → n < length variables
+    → (slot_from area at variables n).offset ≡ at + before (sizes_of variables) n
 slot-offset area at [] n h = absurd (omega arith)
 slot-offset area at (v ∷ variables) zero h = omega arith
 slot-offset area at (v ∷ variables) (suc n) h = let e = slot-offset area (at + size_of v) variables n (omega arith) in omega arith
 
-pub slot-length : (area : Area) (at : ℕ) (variables : List Variable) (n : ℕ) → (slot_from area at variables n).length ≡ (slice_index_or variables n no_variable).length
+pub slot-length : (area : Area) (at : ℕ) (variables : List Variable) (n : ℕ)
+    → (slot_from area at variables n).length ≡ (slice_index_or variables n no_variable).length
 slot-length area at [] n = refl
 slot-length area at (v ∷ variables) zero = refl
 slot-length area at (v ∷ variables) (suc n) = slot-length area (at + size_of v) variables n
 
 -- how many cells variable n has
-pub cells-size : (values : Values) (variables : List Variable) (n : ℕ) → map length values ≡ sizes_of variables → n < length variables → length (slice_index_or values n []) ≡ size_of (slice_index_or variables n no_variable)
+pub cells-size : (values : Values) (variables : List Variable) (n : ℕ) → map length values ≡ sizes_of variables → n < length variables
+    → length (slice_index_or values n []) ≡ size_of (slice_index_or variables n no_variable)
 cells-size values [] n e h = absurd (omega arith)
 cells-size [] (v ∷ variables) n e h = cc
 cells-size (cells ∷ values) (v ∷ variables) zero e h = cc

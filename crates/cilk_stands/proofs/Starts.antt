@@ -1,17 +1,18 @@
 -- A body at its start.
 use Rattle.std.proofs.Common.{◌≡◌, ℕ, zero, suc, ◌+◌, ◌-◌, ◌<◌, ℤ, pos, List, [], ◌∷◌, ◌++◌, length, map, drop, Option, Some, None, refl, sym, ap, ◌∙◌, subst, arith}
-use Rattle.std.specs.Prelude.{slice_get, slice_index_or, replicate, unwrap_or, ⊤, IsSome}
+use Rattle.std.specs.Prelude.{slice_get, slice_index_or, replicate, unwrap_or, ⊤, IsSome, option_map}
 use Rattle.std.proofs.lemmas.List.{length-replicate, replicate-append-replicate}
 use Rattle.cilk_syntax.specs.Tree as tree
 use Rattle.cilk_syntax.specs.Tree.{Word}
 use Rattle.cilk_scopes.specs.declared.owner.Owner.{Owner}
+use Rattle.cilk_scopes.specs.declared.owner.Owner.TheVariants as owner
 use Rattle.cilk_labelled.specs.Labelled.{Variable, Body}
 use Rattle.cilk_labelled.specs.Labelled as labelled
-use Rattle.cilk_labelled.specs.Items.{Items, Item, piece, pieces, open_stmt, open_stmts, opened, head_of, start_items, plain_round}
-use Rattle.cilk_labelled.specs.Names.{Names, with_words, with_local, in_inlet, local_count}
-use Rattle.cilk_labelled.specs.Label.{local_variables, locals_variables, stmt_variables, stmts_variables, block_variables, shape_length}
+use Rattle.cilk_labelled.specs.Items.{Items, pieces, open_stmt, open_stmts, opened, head_of, start_items, plain_round}
+use Rattle.cilk_labelled.specs.Names.{Names, with_words, with_local, in_inlet}
+use Rattle.cilk_labelled.specs.Label.{locals_variables, stmt_variables, stmts_variables, block_variables}
 use Rattle.cilk_labelled.specs.Count.{count_local, count_item}
-use Rattle.cilk_labelled.specs.Bodies.{one_cell, parameter_variables, label_body, inlet_body, inlet_bodies, procedure_bodies, procedure_names, block_locals, body_count, item_bodies, items_bodies, file_names, label}
+use Rattle.cilk_labelled.specs.Bodies.{one_cell, parameter_variables, label_body, inlet_bodies, procedure_names, block_locals, body_count, items_bodies, file_names, label}
 use Rattle.cilk_runs.specs.Values.{initial_values}
 use Rattle.cilk_runs.specs.Instance.{no_body, body_at, with_arguments, entered}
 use Rattle.cilk_nodes.specs.Slots.{size_of, flat, cells_of}
@@ -95,7 +96,8 @@ pub record Bare (body : Body) : Type 0 where
   pub single_parameters : Single body.parameters body.variables
   pub zero_others : AllZero (drop body.parameters body.variables)
 
-body-bare : (names : Names) (at : ℕ) (owner : Owner) (name : Word) (parameters : List Variable) (body : tree.Block) → AllSingle parameters → Bare (label_body names at owner name parameters body)
+body-bare : (names : Names) (at : ℕ) (owner : Owner) (name : Word) (parameters : List Variable) (body : tree.Block) → AllSingle parameters
+    → Bare (label_body names at owner name parameters body)
 body-bare names at owner name parameters body h = record {
   single_parameters = single-front parameters (block_variables body) h;
   zero_others = zero-behind parameters (block_variables body) (block-zero body);
@@ -115,7 +117,8 @@ inlets-bare names at n (tree.and_local (tree.declared d) others) =
     inlets-bare (with_local names n (tree.declared d)) (at + count_local (tree.declared d)) (n + 1) others
 inlets-bare names at n (tree.and_local (tree.inlet_at place name parameters body) others) =
     let first : tree.Local = tree.inlet_at place name parameters body in (
-      body-bare (with_words (in_inlet (with_local names n first)) 0 parameters) at Rattle.cilk_scopes.specs.declared.owner.Owner.TheVariants.Inlet name (map (one_cell (pos 0)) parameters) body (words-single (pos 0) parameters),
+      body-bare (with_words (in_inlet (with_local names n first)) 0 parameters) at owner.Inlet name
+          (map (one_cell (pos 0)) parameters) body (words-single (pos 0) parameters),
       inlets-bare (with_local names n first) (at + count_local first) (n + 0) others,
     )
 
@@ -127,7 +130,8 @@ items-bare names at (tree.prototype q ∷ others) = items-bare (record names { b
 items-bare names at (tree.procedure p ∷ others) =
     let inner : Names = procedure_names (record names { bodies = suc names.bodies }) p in (
       body-bare inner at _ p.name (parameter_variables p.parameters) p.body (parameters-single p.parameters),
-      bare-append (inlet_bodies inner at (length (parameter_variables p.parameters)) (block_locals p.body)) _ (inlets-bare inner at (length (parameter_variables p.parameters)) (block_locals p.body))
+      bare-append (inlet_bodies inner at (length (parameter_variables p.parameters)) (block_locals p.body)) _
+          (inlets-bare inner at (length (parameter_variables p.parameters)) (block_locals p.body))
           (items-bare (record names { bodies = names.bodies + body_count (tree.procedure p) }) (at + count_item (tree.procedure p)) others),
     )
 
@@ -200,7 +204,9 @@ pieces-head (labelled.also first others) items h = open-head first (pieces other
 some-number : (items : Items) → HasHead items → number_of items ≡ Some (unwrap_or (number_of items) 0)
 some-number items h = by_head (head_of items) h
   where
-    by_head : (o : Option labelled.Numbered) → IsSome o → Rattle.std.specs.Prelude.option_map (λ (x : labelled.Numbered). x.number) o ≡ Some (unwrap_or (Rattle.std.specs.Prelude.option_map (λ (x : labelled.Numbered). x.number) o) 0)
+    by_head : (o : Option labelled.Numbered) → IsSome o
+        → option_map (λ (x : labelled.Numbered). x.number) o
+        ≡ Some (unwrap_or (option_map (λ (x : labelled.Numbered). x.number) o) 0)
     by_head None there = cc
     by_head (Some x) there = refl
 
@@ -208,7 +214,8 @@ start-number : (body : Body) → number_of (opened (start_items body)) ≡ Some 
 start-number body = some-number (opened (start_items body)) (pieces-head body.stmts _ refl)
 
 -- a body that takes arguments is there
-taken : (bodies : List Body) (b : ℕ) (arguments : List ℤ) → Takes (slice_get (map body_table bodies) b) arguments → slice_get (map body_table bodies) b ≡ Some (body_table (slice_index_or bodies b no_body))
+taken : (bodies : List Body) (b : ℕ) (arguments : List ℤ) → Takes (slice_get (map body_table bodies) b) arguments
+    → slice_get (map body_table bodies) b ≡ Some (body_table (slice_index_or bodies b no_body))
 taken [] b arguments h = absurd h
 taken (body ∷ bodies) zero arguments h = refl
 taken (body ∷ bodies) (suc b) arguments h = taken bodies b arguments h
@@ -236,7 +243,8 @@ start-activates p b arguments w r h =
     }
 
 -- what awaits the value of a body that was entered
-pub start-awaits : (p : tree.Program) (b : ℕ) (arguments : List ℤ) (w : Option Await) → Takes (body_of p b) arguments → (first_activation p b arguments w).awaits ≡ w
+pub start-awaits : (p : tree.Program) (b : ℕ) (arguments : List ℤ) (w : Option Await) → Takes (body_of p b) arguments
+    → (first_activation p b arguments w).awaits ≡ w
 start-awaits p b arguments w h =
     let there : body_of p b ≡ Some (body_table (body_at (label p) b)) = taken (label p).bodies b arguments h in
     ap (λ o. (starts_with o arguments w).awaits) there

@@ -1,5 +1,5 @@
 -- The top of a frame, and its lowest activation.
-use Rattle.std.proofs.Common.{◌≡◌, ℕ, suc, ◌-◌, List, [], ◌∷◌, ◌++◌, length, map, take, reverse, refl, sym, ap, ◌∙◌, subst, arith}
+use Rattle.std.proofs.Common.{◌≡◌, suc, ◌-◌, List, [], ◌∷◌, ◌++◌, length, take, reverse, refl, sym, ap, ◌∙◌, subst, arith}
 use Rattle.std.specs.Prelude.{slice_set, slice_index_or}
 use Rattle.std.proofs.lemmas.List.{length_push, length-reverse, reverse-append, reverse-reverse}
 use Rattle.std.proofs.Math.Seq.{get_or-append_seam, set-append_seam, take-append_seam}
@@ -35,7 +35,8 @@ pub record Split (program : Labelled) (xs : List Activation) (m : model.Activati
   pub top : Stands program last m ms
   pub below : AllActivate program (reverse front) ms
 
-split_by : (program : Labelled) (xs ys : List Activation) (m : model.Activation) (ms : List model.Activation) → reverse xs ≡ ys → AllActivate program ys (m ∷ ms) → Split program xs m ms
+split_by : (program : Labelled) (xs ys : List Activation) (m : model.Activation) (ms : List model.Activation) → reverse xs ≡ ys
+    → AllActivate program ys (m ∷ ms) → Split program xs m ms
 split_by program xs [] m ms e h = absurd h
 split_by program xs (a ∷ others) m ms e (top, awaits, below) = record {
   front = reverse others;
@@ -45,7 +46,8 @@ split_by program xs (a ∷ others) m ms e (top, awaits, below) = record {
   below = subst (λ zs. AllActivate program zs ms) (sym (reverse-reverse others)) below;
 }
 
-pub split : (program : Labelled) (xs : List Activation) (m : model.Activation) (ms : List model.Activation) → AllActivate program (reverse xs) (m ∷ ms) → Split program xs m ms
+pub split : (program : Labelled) (xs : List Activation) (m : model.Activation) (ms : List model.Activation) → AllActivate program (reverse xs) (m ∷ ms)
+    → Split program xs m ms
 split program xs m ms h = split_by program xs (reverse xs) m ms refl h
 
 pub join : (program : Labelled) (front : List Activation) (a : Activation) (m : model.Activation) (ms : List model.Activation)
@@ -83,15 +85,17 @@ entered-stands program f i a m s h inside =
     record { activations = join program f.activations a m (i.top ∷ i.below) s.activations h; inside = inside; flag = s.flag }
 
 -- a frame without its top
-pub left-stands : (program : Labelled) (f : Frame) (i : Instance) (m : model.Activation) (ms : List model.Activation) → StandsFor program f i → i.below ≡ m ∷ ms
+pub left-stands : (program : Labelled) (f : Frame) (i : Instance) (m : model.Activation) (ms : List model.Activation) → StandsFor program f i
+    → i.below ≡ m ∷ ms
     → StandsFor program (left f) (record i { top = m; below = ms })
 left-stands program f i m ms s e =
     let p = split program f.activations i.top i.below s.activations in
     let all : AllInside program (i.top.body ∷ m.body ∷ bodies_of ms) = subst (λ below. AllInside program (bodies_of (i.top ∷ below))) e s.inside in
     record {
       activations = subst (λ zs. AllActivate program (reverse (take (length zs - 1) zs)) (m ∷ ms)) (sym p.parts)
-          (subst (λ zs. AllActivate program (reverse zs) (m ∷ ms)) (sym (take-last p.front p.last)) (subst (AllActivate program (reverse p.front)) e p.below));
-      inside = all.1;
+          (subst (λ zs. AllActivate program (reverse zs) (m ∷ ms)) (sym (take-last p.front p.last))
+          (subst (AllActivate program (reverse p.front)) e p.below));
+      inside = all.2;
       flag = s.flag;
     }
 

@@ -57,7 +57,8 @@ module _ (area : Area) (cells : Cells) (variables : List Variable) (values : Val
       let starts = ap (λ ss. before ss n) lies.sizes in
       let room : area_size (sizes_of cells) (slot n).area ≡ length (flat values) =
       area-size cells (slot n).area ∙ ap (λ a. length (area_cells cells a)) (slot-area area 0 variables n inside) ∙ ap length lies.are in
-      let last : before (map length values) n + (max (slot n).length 1 - 1) < length (flat values) = within values n (max (slot n).length 1 - 1) (omega arith) in
+      let last : before (map length values) n + (max (slot n).length 1 - 1) < length (flat values) = within values n (max (slot n).length 1 - 1)
+      (omega arith) in
       omega arith
 
   cell-within : (n k : ℕ) → n < length variables → k < size_of (slice_index_or variables n no_variable)
@@ -159,12 +160,15 @@ value-same program b cells store t s h =
     let env : Environment Declaration = seen_through (slot_of program b) (slots.environment cells) in
     value_of-rename (slot_of program b) (slots.environment cells) t
     ∙ value_of-same env (environment store) t
-    (AllReads-map (IsVariable program b) (λ d. env.value d ≡ (environment store).value d) (IsArray program b) (SameArray env (environment store)) ⊤ (env.synched ≡ store.synched)
+    (AllReads-map (IsVariable program b) (λ d. env.value d ≡ (environment store).value d) (IsArray program b) (SameArray env (environment store)) ⊤
+    (env.synched ≡ store.synched)
     (λ d known. variable-same program b cells store s d known) (λ d known. array-same program b cells store s d known) (λ _. s.synched_is) t h)
 
 pub slots-within : (program : Labelled) (b : ℕ) (cells : Cells) (store : Store) (t : Term Declaration) → Seen program b cells store → IsKnown program b t
     → SlotsLieWithin (sizes_of cells) (rename (slot_of program b) t)
 slots-within program b cells store t s h =
     AllReads-rename (slot_of program b) (LiesWithin (sizes_of cells)) (LiesWithin (sizes_of cells)) ⊤ t
-    (AllReads-map (IsVariable program b) (λ d. LiesWithin (sizes_of cells) (slot_of program b d)) (IsArray program b) (λ d. LiesWithin (sizes_of cells) (slot_of program b d)) ⊤ ⊤
-    (λ d known. declared-within program b cells store s d known) (λ d known. declared-within program b cells store s d (array-declared program b d known)) (λ u. u) t h)
+    (AllReads-map (IsVariable program b) (λ d. LiesWithin (sizes_of cells) (slot_of program b d)) (IsArray program b)
+    (λ d. LiesWithin (sizes_of cells) (slot_of program b d)) ⊤ ⊤
+    (λ d known. declared-within program b cells store s d known) (λ d known. declared-within program b cells store s d (array-declared program b d known))
+    (λ u. u) t h)

@@ -3,6 +3,7 @@ use Rattle.std.specs.Prelude.{◌≡◌, ℕ, ◌<◌, false, Bool, ⊤, List, [
 use Rattle.cilk_values.specs.Term.{Term}
 use Rattle.cilk_terms.specs.declared.slot.Slot.{Slot}
 use Rattle.cilk_labelled.specs.Labelled.{Labelled}
+use Rattle.cilk_labelled.specs.Bodies.{is_procedure}
 use Rattle.cilk_labelled.specs.Items.{reached}
 use Rattle.cilk_runs.specs.Values.{Reached}
 use Rattle.cilk_runs.specs.Instance as model
@@ -39,7 +40,8 @@ AwaitsSame program (Some w) None bodies = ⊥
 AwaitsSame program (Some w) (Some r) [] = ⊥
 AwaitsSame program (Some w) (Some r) (b ∷ bodies) = AwaitsAt program b w r
 
--- an activation of a frame stands for one of an instance: its body is there and reaches the items that remain, the node is the number of their head, and the cells are the values of the body's declarations
+-- an activation of a frame stands for one of an instance: its body is there and reaches the items that remain,
+-- the node is the number of their head, and the cells are the values of the body's declarations
 pub record Activates (program : Labelled) (a : Activation) (m : model.Activation) : Type 0 where
   pub is_there : m.body < length program.bodies
   pub answers : List Bool
@@ -64,12 +66,12 @@ abbrev pub lowest_of : ℕ → List ℕ → ℕ
 lowest_of b [] = b
 lowest_of b (c ∷ bodies) = lowest_of c bodies
 
--- the lowest body is no inlet's, and each inlet above is one of its inlets (Cilk 5.4 manual, `inlet`)
+-- the lowest body is no inlet's; those above are no procedures', and each inlet is one of the lowest's (Cilk 5.4 manual, `inlet`)
 abbrev pub AllInside : Labelled → List ℕ → Type 0
 AllInside program [] = ⊤
 AllInside program (b ∷ []) = is_inlet (body_at program b).owner ≡ false
 AllInside program (b ∷ c ∷ bodies) =
-    (IsInlet program b → lowest_of c bodies ≡ procedure_around program b) × AllInside program (c ∷ bodies)
+    (is_procedure (body_at program b).owner ≡ false) × (IsInlet program b → lowest_of c bodies ≡ procedure_around program b) × AllInside program (c ∷ bodies)
 
 -- a frame stands for an instance, whatever waits for it, its children and its receiver are
 pub record StandsFor (program : Labelled) (f : Frame) (i : Instance) : Type 0 where

@@ -8,7 +8,7 @@ ghost use Rattle.cilk_values.specs.Value.{value_of};
 ghost use Rattle.cilk_terms.specs.Slots as slots;
 ghost use Rattle.cilk_terms.specs.Slots.{Cells, area_cells, slot_cell, sizes_of, SlotsLieWithin};
 ghost use Rattle.cilk_labelled.specs.Labelled.{Declaration, Labelled};
-ghost use Rattle.cilk_labelled.specs.Bodies.{label};
+ghost use Rattle.cilk_labelled.specs.Bodies.{label, is_procedure};
 ghost use Rattle.cilk_labelled.specs.Items.{opened, next};
 ghost use Rattle.cilk_runs.specs.Values.{Values, Store, Reached, cell_of, environment};
 ghost use Rattle.cilk_runs.specs.Instance as model;
@@ -89,6 +89,7 @@ pub fn an_action_stands()
 pub fn a_call_stands()
     ensures enters { (p : Program) (f : Frame) (i : Instance) (b : ℕ) (arguments : List ℤ) (awaits : Option Await) (reached : Option Reached)
         → StandsFor (label p) f i → Takes (body_of p b) arguments → AwaitsSame (label p) awaits reached (bodies_of (i.top ∷ i.below))
+        → is_procedure (body_at (label p) b).owner ≡ false
         → (IsInlet (label p) b → lowest_of i.top.body (bodies_of i.below) ≡ procedure_around (label p) b)
         → StandsFor (label p) (entered (first_activation p b arguments awaits) f)
         (record i { top = model.entered (label p) b arguments reached; below = i.top ∷ i.below }) }

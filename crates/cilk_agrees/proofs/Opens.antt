@@ -1,0 +1,88 @@
+-- The root alone, before any choice.
+use Rattle.std.proofs.Common.{◌≡◌, ℕ, zero, suc, true, false, List, [], ◌∷◌, map, length, replicate, Some, is_some, refl, sym, ap, ◌∙◌}
+use Rattle.std.specs.Prelude.{max}
+use Rattle.std.proofs.lemmas.List.{length-replicate}
+use Rattle.std.proofs.lemmas.List.Elements.{All-nil, All-cons, All-replicate}
+use Rattle.cilk_syntax.specs.Tree.{Program}
+use Rattle.cilk_labelled.specs.Labelled.{Variable}
+use Rattle.cilk_labelled.specs.Bodies.{label}
+use Rattle.cilk_runs.specs.Path.{Path}
+use Rattle.cilk_runs.specs.Values.{initial_values}
+use Rattle.cilk_runs.specs.Instance as model
+use Rattle.cilk_runs.specs.Instance.{body_at}
+use Rattle.cilk_runs.specs.State as state
+use Rattle.cilk_runs.specs.Places.{no_place}
+use Rattle.cilk_runs.specs.Scheduler as sched
+use Rattle.cilk_runs.specs.Run as run
+use Rattle.cilk_nodes.specs.Slots.{size_of, is_inlet}
+use Rattle.cilk_nodes.specs.Bodies.{body_of}
+use Rattle.cilk_frames.specs.Frames.{Frame}
+use Rattle.cilk_stands.specs.Starts.{Takes, started}
+use Rattle.cilk_stands.proofs.Steps.{start-stands}
+use Rattle.cilk_instances.specs.Nodes.{Node, node_at, is_live, root_alone, path_at}
+use Rattle.cilk_instances.proofs.Grown.{tree_root}
+use Rattle.cilk_hands.specs.Count.{AllAt, AllHeld}
+use Rattle.cilk_hands.proofs.Names.{named-with_hand, named-none}
+use Rattle.cilk_agrees.specs.declared.lock.Lock.TheVariants.{Unset}
+use Rattle.cilk_agrees.specs.Outside.{lock_by, LockWithin}
+use Rattle.cilk_agrees.specs.Alike.{Tells, procedure_in}
+use Rattle.cilk_agrees.specs.Agrees.{Agrees, Held, Parked, name_in}
+use Rattle.cilk_agrees.specs.Laws.{opening_machine, OpeningAgrees}
+use Rattle.cilk_agrees.proofs.Frames.{held-with_hand}
+
+none_held : (P : Frame → Type 0) (n : ℕ) → AllHeld P (replicate n no_place)
+none_held P zero = All-nil (AllAt P)
+none_held P (suc n) = All-cons (AllAt P) no_place (replicate n no_place) (tt, All-nil P) (none_held P n)
+
+first_sizes : (variables : List Variable) → map length (initial_values variables) ≡ map size_of variables
+first_sizes [] = refl
+first_sizes (v ∷ variables) = λ i. length-replicate (max v.length 1) v.initial i ∷ first_sizes variables i
+
+locks_first : (up : ℕ → Path) (n : ℕ) → replicate n state.unset ≡ map (lock_by up) (replicate n Unset)
+locks_first up zero = refl
+locks_first up (suc n) = ap (λ ls. state.unset ∷ ls) (locks_first up n)
+
+module _ (p : Program) (b : ℕ) (takes : Takes (body_of p b) []) (outermost : is_inlet (body_at (label p) b).owner ≡ false) where
+  abbrev ns : List Node
+  ns = root_alone b
+
+  abbrev root : model.Instance
+  root = model.started (label p) b []
+
+  root_tells : (i : ℕ) → is_live (node_at ns i) ≡ true → Tells (label p) (path_at ns) (procedure_in ns) (node_at ns i) root
+  root_tells zero live = record { procedure = refl; children = refl; aborted = refl; waiting = tt; receiver = tt }
+  root_tells (suc i) live = cc
+
+  not_parked : (i : ℕ) → false ≡ is_some (node_at ns i).parked
+  not_parked zero = refl
+  not_parked (suc i) = refl
+
+  none_waits : (i : ℕ) (f : Frame) → is_live (node_at ns i) ≡ true → (node_at ns i).parked ≡ Some f → Parked p i root f
+  none_waits zero f live is = cc
+  none_waits (suc i) f live is = cc
+
+  pub opening : (n : ℕ) → Agrees p (opening_machine p b n) (λ i. root) (run.opening (label p) b n)
+  opening n = record {
+    tree = tree_root b;
+    outside = record {
+      cells = refl;
+      sizes = first_sizes (label p).globals;
+      locks = locks_first (path_at ns) (length (label p).locks);
+      holders = All-replicate (LockWithin (length ns)) (length (label p).locks) Unset tt;
+      output = refl;
+      outcome = refl;
+      trapper = tt;
+    };
+    instances = refl;
+    tells = root_tells;
+    places = sym (named-with_hand (name_in ns) (replicate n no_place) 1 (Some (started p 0 b []))
+        ∙ ap (λ x. sched.with_hand x 1 (Some [])) (named-none (name_in ns) n));
+    parked = λ i h. not_parked i;
+    held =
+        held-with_hand (Held p ns (λ i. root)) (replicate n no_place) 1 (Some (started p 0 b [])) (none_held _ n)
+        (record { live = refl; stands = start-stands p 0 b [] takes outermost });
+    waits = none_waits;
+  }
+
+pub opening-agrees : OpeningAgrees
+opening-agrees p b n takes outermost = opening p b takes outermost n

@@ -1,0 +1,4 @@
+pub mod Several
+pub mod Printed
+pub mod Same
+pub mod Shapes

@@ -1,0 +1,20 @@
+//! What an action comes to, once its expressions have their values, or the first trap from the left.
+#![tactic(auto)]
+
+mod bytes;
+mod effect;
+mod effects;
+mod laws;
+mod printing;
+mod reached;
+mod values;
+
+pub use bytes::Bytes;
+pub use cilk_frames::Await;
+pub use cilk_instances::{Arguments, Receiver};
+pub use cilk_syntax::Memory;
+pub use effect::Effect;
+pub use effects::effect_of;
+pub use laws::effects_are_seen;
+pub use reached::Reached;
+pub use values::{combined, held};

@@ -1,0 +1,10 @@
+use Rattle.std.proofs.Common.{◌≡◌, ◌<◌, take, length}
+use Rattle.cilk_instances.specs.Nodes.{path_at}
+use Rattle.cilk_instances.specs.Records.{nodes_of}
+use Rattle.cilk_instances.proofs.tree.Tree.find.Given as goal
+
+abbrev pub invariant-loop-ordinal : goal.invariant-loop-ordinal
+invariant-loop-ordinal l = record {
+  there : l.at < length l.self-inside.records.items;
+  path : path_at (nodes_of l.self-inside.records.items) l.at ≡ take l.ordinal-index l.path;
+}

@@ -1,0 +1,44 @@
+//! The tree of instances: who spawned whom, which values wait for a parent, and which frames are
+//! parked (Cilk 5.4 manual, `spawn`, `sync`, `abort`).
+//!
+//! A frame that was parked is the tree's, until it is taken out again. The compiler refuses this
+//! function, since a frame that was parked is the caller's no more:
+//!
+//! ```compile_fail borrow-e0382
+//! ghost use Rattle.std.specs.Prelude.{◌≡◌, None, true};
+//! ghost use Rattle.cilk_instances.specs.Nodes.{node_at, is_live};
+//!
+//! use cilk_frames::Frame;
+//! use cilk_instances::Tree;
+//!
+//! pub fn used_after_park(tree: &mut Tree, frame: Frame) -> u32
+//!     requires live { is_live (node_at tree.old.nodes frame.id) ≡ true }
+//!     requires free { (node_at tree.old.nodes frame.id).parked ≡ None }
+//! {
+//!     tree.park(frame);
+//!     frame.depth()
+//! }
+//! ```
+#![tactic(auto)]
+
+mod arguments;
+mod delivery;
+mod ending;
+mod laws;
+mod leaving;
+mod life;
+mod path;
+mod receiver;
+mod record;
+mod tree;
+
+pub use arguments::Arguments;
+pub use cilk_frames::{Frame, Id, Memory};
+pub use delivery::Delivery;
+pub use ending::Ending;
+pub use laws::{
+    a_return_ends_and_sends, ids_change, paths_are_names, paths_stay, trees_stay_trees,
+};
+pub use path::Path;
+pub use receiver::Receiver;
+pub use tree::Tree;

@@ -1,0 +1,6 @@
+pub mod Heads
+pub mod Acts
+pub mod Births
+pub mod Gifts
+pub mod Deliveries
+pub mod Planned

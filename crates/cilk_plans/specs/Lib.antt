@@ -1,0 +1,4 @@
+pub mod Words
+pub mod Sights
+pub mod Made
+pub mod Plans

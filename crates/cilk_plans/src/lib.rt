@@ -1,0 +1,10 @@
+//! The plan of one step of an instance: what it says, and that it is the step that the definition of runs takes.
+#![tactic(auto)]
+
+mod kind;
+mod laws;
+mod plan;
+
+pub use kind::Kind;
+pub use laws::plans_are_steps;
+pub use plan::Plan;

@@ -1,0 +1,26 @@
+-- What an instance has before it, and the node that stands for it.
+use Rattle.std.specs.Prelude.{◌≡◌, ℕ, Bool, true, false, IsSome, Some}
+use Rattle.cilk_syntax.specs.Tree.{Program}
+use Rattle.cilk_labelled.specs.Labelled.{Numbered}
+use Rattle.cilk_labelled.specs.Items.{head_of}
+use Rattle.cilk_labelled.specs.Bodies.{label}
+use Rattle.cilk_runs.specs.Instance.{Instance}
+use Rattle.cilk_heads.specs.Heads.{GoesOn}
+use Rattle.cilk_nodes.specs.Slots.{slot_of}
+use Rattle.cilk_nodes.specs.Actions.{slotted}
+use Rattle.cilk_nodes.specs.Table.{number_after, node_of}
+use Rattle.cilk_sound.specs.Known.{KnownAct}
+
+-- the action before an instance of p, where action n comes next: its node, what it uses, and that another one comes behind it unless it leaves the body
+pub record Before (p : Program) (n : ℕ) (i : Instance) : Type 0 where
+  pub head : Numbered
+  pub first : head_of i.top.items ≡ Some head
+  pub number : head.number ≡ n
+  pub node : node_of p n ≡ Some (record {
+    action = slotted (slot_of (label p) i.top.body) head.act;
+    next = number_after true i.top.items;
+    other = number_after false i.top.items;
+    body = i.top.body;
+  })
+  pub known : KnownAct (label p) i.top.body head.act
+  pub goes_on : GoesOn head.act → (answer : Bool) → IsSome (number_after answer i.top.items)

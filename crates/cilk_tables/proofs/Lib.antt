@@ -1,0 +1,12 @@
+pub mod Cells
+pub mod Shown
+pub mod Scopes
+pub mod Parts
+pub mod Found
+pub mod Actions
+pub mod Starts
+pub mod Written
+pub mod Slots
+pub mod Bodies
+pub mod Programs
+pub mod Made

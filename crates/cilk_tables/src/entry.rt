@@ -1,0 +1,12 @@
+use crate::known::Known;
+use crate::nearest::Nearest;
+use cilk_syntax::Word;
+
+/// A declaration that is visible, and what it hides.
+#[derive(Clone, Copy)]
+pub(crate) struct Entry<'a> {
+    pub(crate) name: &'a Word,
+    pub(crate) known: Known,
+    /// The nearest declaration of the name before this one.
+    pub(crate) hidden: Option<Nearest>,
+}

@@ -1,0 +1,8 @@
+use crate::known::Known;
+
+/// The nearest declaration of a name, and how many declarations are visible before it.
+#[derive(Clone, Copy)]
+pub(crate) struct Nearest {
+    pub(crate) known: Known,
+    pub(crate) at: usize,
+}

@@ -1,0 +1,8 @@
+use cilk_nodes::Var;
+
+/// The body whose nodes are written: its number, and its variables.
+#[derive(Clone, Copy)]
+pub(crate) struct Site<'a> {
+    pub(crate) body: u32,
+    pub(crate) vars: &'a [Var],
+}

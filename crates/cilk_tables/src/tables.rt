@@ -1,0 +1,30 @@
+use cilk_check::Checked;
+use cilk_nodes::{Body, Node, Var};
+use std::marker::Model;
+
+/// A program and its tables, seen as the program.
+#[derive(Drop)]
+pub struct Tables {
+    pub(crate) program: Checked,
+    pub(crate) nodes: Vec<Node>,
+    pub(crate) lines: Vec<u32>,
+    pub(crate) bodies: Vec<Body>,
+    pub(crate) main: u32,
+    pub(crate) globals: Vec<Var>,
+    pub(crate) locks: Vec<Var>,
+}
+
+impl Model for Tables {
+    ghost use Rattle.cilk_syntax.specs.Tree as tree;
+    ghost use Rattle.cilk_syntax.specs.ProgramCoding.{coded_Program};
+
+    ghost Value = { tree.Program };
+
+    ghost coded = { coded_Program };
+
+    ghost use Rattle.cilk_tables.specs.Tables.{Tabled};
+
+    ghost view = { λ t. t.program };
+
+    ghost invariant = { λ t. Tabled t.program t.nodes.items t.lines.items t.bodies.items t.main t.globals.items t.locks.items };
+}
