@@ -80,8 +80,8 @@ fn awaited(slots: &Slots, n: u32, target: &Option<Target>) -> Result<Option<Awai
     match target {
         None => Ok(None),
         Some(target) => {
-            let index = index_of(slots, &target.place)?;
-            Ok(Some(Await { n, index }))
+            let kept = index_of(slots, &target.place)?;
+            Ok(Some(Await { n, index: kept }))
         }
     }
 }

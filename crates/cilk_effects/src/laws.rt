@@ -20,6 +20,7 @@ pub fn effects_are_seen()
         → effect_in cells n (slotted (slot_of program b) act) ≡ slotted_result (slot_of program b) n (effect.effect_of (environment store) n act) }
     ensures fits { (program : Labelled) (b : ℕ) (cells : Cells) (store : Store) (act : Action) → Seen program b cells store → KnownAct program b act
         → FitsAct (sizes_of cells) (slotted (slot_of program b) act) }
-    ensures cells { (program : Labelled) (b n : ℕ) (cells : Cells) (store : Store) (act : Action) (e : effect.Effect) → Seen program b cells store → KnownAct program b act
+    ensures cells { (program : Labelled) (b n : ℕ) (cells : Cells) (store : Store) (act : Action) (e : effect.Effect)
+        → Seen program b cells store → KnownAct program b act
         → effect.effect_of (environment store) n act ≡ Ok e → ReachesCells program b e }
 {}
