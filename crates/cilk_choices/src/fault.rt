@@ -1,0 +1,13 @@
+use cilk_syntax::Memory;
+use thiserror::Error;
+
+/// Why there is no machine.
+#[derive(Debug, Drop, Error)]
+pub enum MachineFault {
+    /// The number of workers is not one of 1 to 64.
+    #[error("M0 Workers")]
+    Workers,
+    /// Memory has run out.
+    #[error("out of memory")]
+    Memory(Memory),
+}

@@ -1,0 +1,12 @@
+use cilk_instances::Path;
+use cilk_plans::Kind;
+
+/// Whether a program has ended, and how.
+#[derive(Debug, Drop)]
+pub enum Outcome {
+    Running,
+    /// `main` returned this value.
+    Finished(i32),
+    /// The instance was trapped at action n.
+    Trapped { kind: Kind, path: Path, n: u32 },
+}

@@ -1,0 +1,27 @@
+use thiserror::Error;
+
+/// Why a choice was not made: the first reason that applies, and want of memory last.
+#[derive(Clone, Copy, Debug, PartialEq, Eq, Error)]
+pub enum Refusal {
+    /// The program has ended.
+    #[error("M1 Over")]
+    Over,
+    /// There is no such worker or victim, or the victim is the worker.
+    #[error("M2 NoWorker")]
+    NoWorker,
+    /// The worker's hand is empty at a step.
+    #[error("M3 HandEmpty")]
+    HandEmpty,
+    /// The worker's hand is full, or at a steal its own deque is not empty.
+    #[error("M4 Busy")]
+    Busy,
+    /// Nothing to pop or to steal.
+    #[error("M5 DequeEmpty")]
+    DequeEmpty,
+    /// The step has to wait for a lock.
+    #[error("M6 Waiting")]
+    Waiting,
+    /// Memory has run out.
+    #[error("M7 Memory")]
+    Memory,
+}
