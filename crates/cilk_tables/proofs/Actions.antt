@@ -38,7 +38,8 @@ module _ (slots : Declaration → Slot) (names : Names) (s : Scope) (agree : Agr
   codes-are [] = refl
   codes-are (e ∷ es) = λ i. code-is e i ∷ codes-are es i
 
-  index-is : (name : Word) (index : Option tree.Expr) → place_in s (record { name = name; index = index }) ≡ slotted_place slots (label_index names (meaning_of names name) index)
+  index-is : (name : Word) (index : Option tree.Expr)
+      → place_in s (record { name = name; index = index }) ≡ slotted_place slots (label_index names (meaning_of names name) index)
   index-is name None = λ i. record { slot = slot-is name i; subscript = None }
   index-is name (Some e) = λ i. record { slot = slot-is name i; subscript = Some (code-is e i) }
 
@@ -62,13 +63,17 @@ module _ (slots : Declaration → Slot) (names : Names) (s : Scope) (agree : Agr
   taker-is (tree.into target) = ap (λ t. Into t) (target-is target)
   taker-is (tree.through inlet others) = λ i. Through (number-is inlet i) (codes-are others i)
 
-  pub spawn-is : (taker : tree.Taker) (callee : Word) (arguments : List tree.Expr) → spawn_in s taker callee arguments ≡ slotted slots (labelled.spawn (label_taker names taker) (number_of (meaning_of names callee)) (map (label_expr names) arguments))
+  pub spawn-is : (taker : tree.Taker) (callee : Word) (arguments : List tree.Expr)
+      → spawn_in s taker callee arguments ≡ slotted slots
+      (labelled.spawn (label_taker names taker) (number_of (meaning_of names callee)) (map (label_expr names) arguments))
   spawn-is taker callee arguments = λ i. Spawn (taker-is taker i) (number-is callee i) (codes-are arguments i)
 
   pub return-is : (value : Option tree.Expr) → return_in s value ≡ slotted slots (label_return names value)
   return-is None = refl
   return-is (Some value) = ap (λ t. Return t) (code-is value)
 
-  pub initialiser-is : (name : Word) (value : tree.Expr) → initialiser_in s name value ≡ slotted slots (label_move names (tree.assign (record { place = record { name = name; index = None }; op = None }) value))
+  pub initialiser-is : (name : Word) (value : tree.Expr)
+      → initialiser_in s name value ≡ slotted slots
+      (label_move names (tree.assign (record { place = record { name = name; index = None }; op = None }) value))
   initialiser-is name value =
       λ i. Assign (record { op = None; place = record { slot = slot-is name i; subscript = None } }) (code-is value i)

@@ -1,5 +1,6 @@
 -- Variables one list behind the other.
-use Rattle.std.proofs.Common.{◌≡◌, ℕ, zero, suc, ◌+◌, ◌<◌, ◌≤◌, ◌⊎◌, inl, inr, true, false, nat_lt, List, [], ◌∷◌, ◌++◌, length, Result, Ok, Err, Option, Some, None, sym, ap, ◌∙◌, refl, arith, append_assoc}
+use Rattle.std.proofs.Common.{◌≡◌, ℕ, zero, suc, ◌+◌, ◌<◌, ◌≤◌, ◌⊎◌, inl, inr, true, false, nat_lt, List, [], ◌∷◌, ◌++◌, length, Result, Ok, Err, Option}
+use Rattle.std.proofs.Common.{Some, None, sym, ap, ◌∙◌, refl, arith, append_assoc}
 use Rattle.std.specs.Prelude.{OnOk, IfSome, slice_get, slice_index_or, is_some, option_copied}
 use Rattle.std.proofs.lemmas.Option.{slice_get_past, slice_get_read}
 use denote.Ref.{Bor}
@@ -16,19 +17,23 @@ pub cells_of-append : (vs ws : List Variable) → cells_of (vs ++ ws) ≡ cells_
 cells_of-append [] ws = omega arith
 cells_of-append (v ∷ vs) ws = omega (arith, cells_of-append vs ws)
 
-pub vars_from-append : (area : Area) (at : ℕ) (vs ws : List Variable) → vars_from area at (vs ++ ws) ≡ vars_from area at vs ++ vars_from area (at + cells_of vs) ws
+pub vars_from-append : (area : Area) (at : ℕ) (vs ws : List Variable)
+    → vars_from area at (vs ++ ws) ≡ vars_from area at vs ++ vars_from area (at + cells_of vs) ws
 vars_from-append area at [] ws = ap (λ k. vars_from area k ws) (none-more at)
   where
     none-more : (n : ℕ) → n ≡ n + 0
     none-more n = omega arith
 vars_from-append area at (v ∷ vs) ws =
-    ap (λ rest. var_at area at v ∷ rest) (vars_from-append area (at + size_of v) vs ws ∙ ap (λ k. vars_from area (at + size_of v) vs ++ vars_from area k ws) (regroup at (size_of v) (cells_of vs)))
+    ap (λ rest. var_at area at v ∷ rest)
+    (vars_from-append area (at + size_of v) vs ws
+    ∙ ap (λ k. vars_from area (at + size_of v) vs ++ vars_from area k ws) (regroup at (size_of v) (cells_of vs)))
   where
     regroup : (a b c : ℕ) → a + b + c ≡ a + (b + c)
     regroup a b c = omega arith
 
 -- one stretch of variables behind another
-pub joined : (area : Area) (at cells : ℕ) (before middle after : List Var) (vs ws : List Variable) → middle ≡ before ++ vars_from area at vs → cells ≡ at + cells_of vs → after ≡ middle ++ vars_from area cells ws → after ≡ before ++ vars_from area at (vs ++ ws)
+pub joined : (area : Area) (at cells : ℕ) (before middle after : List Var) (vs ws : List Variable) → middle ≡ before ++ vars_from area at vs
+    → cells ≡ at + cells_of vs → after ≡ middle ++ vars_from area cells ws → after ≡ before ++ vars_from area at (vs ++ ws)
 joined area at cells before middle after vs ws e f g =
     g
     ∙ (λ i. e i ++ vars_from area (f i) ws)
@@ -62,7 +67,8 @@ slot-past (x ∷ vars) (suc n) h = slot-past vars n (by_test (cases_lt n (length
     by_test (inr k) = sym (le-ltb n (length vars) k)
 
 -- what `get` finds
-pub got : {X : Type 0} (xs : List X) (k : ℕ) (o : Option (Bor X)) → is_some o ≡ nat_lt k (length xs) → IfSome o (λ (x : Bor X). x.now ≡ slice_index_or xs k x.now) → option_copied o ≡ slice_get xs k
+pub got : {X : Type 0} (xs : List X) (k : ℕ) (o : Option (Bor X)) → is_some o ≡ nat_lt k (length xs)
+    → IfSome o (λ (x : Bor X). x.now ≡ slice_index_or xs k x.now) → option_copied o ≡ slice_get xs k
 got xs k None h e = by_test (cases_lt k (length xs))
   where
     by_test : (k < length xs) ⊎ (length xs ≤ k) → None ≡ slice_get xs k

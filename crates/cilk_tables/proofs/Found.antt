@@ -1,5 +1,6 @@
 -- What names stand for in the pass is what they mean in the labelled program.
-use Rattle.std.proofs.Common.{◌≡◌, ℕ, zero, suc, ◌+◌, ◌<◌, Bool, true, false, not, cond, nat_lt, ◌≤◌, ◌⊎◌, List, [], ◌∷◌, ◌++◌, length, map, Option, Some, None, inl, inr, refl, sym, ap, ◌∙◌, arith}
+use Rattle.std.proofs.Common.{◌≡◌, ℕ, zero, suc, ◌+◌, ◌<◌, Bool, true, false, not, cond, nat_lt, ◌≤◌, ◌⊎◌, List, [], ◌∷◌, ◌++◌, length, map, Option, Some}
+use Rattle.std.proofs.Common.{None, inl, inr, refl, sym, ap, ◌∙◌, arith}
 use Rattle.std.specs.Prelude.{bytes_eq, slice_index_or, position}
 use Rattle.std.specs.List.{prefix_len}
 use Rattle.std.proofs.lemmas.Bool.{lt-ltb, le-ltb, cases_lt}
@@ -26,13 +27,15 @@ meaning_in names name = meaning_at names.means (position (same_name name) (names
 pub record Agree (slots : Declaration → Slot) (names : Names) (s : Scope) : Type 0 where
   pub known : (name : List ℕ) → found (visible s) name ≡ known_of slots (meaning_in names name)
 
-shift : (m n : ℕ) (d : Declaration) (means : List Declaration) → meaning_at (d ∷ means) (cond (nat_lt (1 + m) (suc n)) (Some (1 + m)) None) ≡ meaning_at means (cond (nat_lt m n) (Some m) None)
+shift : (m n : ℕ) (d : Declaration) (means : List Declaration)
+    → meaning_at (d ∷ means) (cond (nat_lt (1 + m) (suc n)) (Some (1 + m)) None) ≡ meaning_at means (cond (nat_lt m n) (Some m) None)
 shift m n d means = by_cases (cases_lt m n)
   where
     e : 1 + m ≡ suc m
     e = omega arith
 
-    by_cases : (m < n) ⊎ (n ≤ m) → meaning_at (d ∷ means) (cond (nat_lt (1 + m) (suc n)) (Some (1 + m)) None) ≡ meaning_at means (cond (nat_lt m n) (Some m) None)
+    by_cases : (m < n) ⊎ (n ≤ m) → meaning_at (d ∷ means) (cond (nat_lt (1 + m) (suc n)) (Some (1 + m)) None) ≡ meaning_at means
+        (cond (nat_lt m n) (Some m) None)
     by_cases (inl h) =
         ap (λ (b : Bool). meaning_at (d ∷ means) (cond b (Some (1 + m)) None)) (lt-ltb (1 + m) (suc n) (omega (arith, h)))
         ∙ ap (λ k. slice_index_or (d ∷ means) k unknown) e
@@ -45,18 +48,21 @@ first-place : (n : ℕ) → nat_lt 0 (suc n) ≡ true
 first-place n = lt-ltb 0 (suc n) (omega arith)
 
 -- the first of some declarations, or one of the others
-pub meaning-first : (t : Declared → Bool) (x : Declared) (xs : List Declared) (d : Declaration) (means : List Declaration) → meaning_at (d ∷ means) (position t (x ∷ xs)) ≡ cond (t x) d (meaning_at means (position t xs))
+pub meaning-first : (t : Declared → Bool) (x : Declared) (xs : List Declared) (d : Declaration) (means : List Declaration)
+    → meaning_at (d ∷ means) (position t (x ∷ xs)) ≡ cond (t x) d (meaning_at means (position t xs))
 meaning-first t x xs d means = by_test (t x)
   where
     m : ℕ
     m = prefix_len (λ y. not (t y)) xs
 
-    by_test : (b : Bool) → meaning_at (d ∷ means) (cond (nat_lt (cond (not b) (1 + m) 0) (suc (length xs))) (Some (cond (not b) (1 + m) 0)) None) ≡ cond b d (meaning_at means (position t xs))
+    by_test : (b : Bool) → meaning_at (d ∷ means) (cond (nat_lt (cond (not b) (1 + m) 0) (suc (length xs))) (Some (cond (not b) (1 + m) 0)) None) ≡ cond
+        b d (meaning_at means (position t xs))
     by_test true = ap (λ (b : Bool). meaning_at (d ∷ means) (cond b (Some 0) None)) (first-place (length xs))
     by_test false = shift m (length xs) d means
 
 -- behind one more declaration on both sides
-pub agree-declared : (slots : Declaration → Slot) (names : Names) (s : Scope) (d : Declaration) (what : Declared) (e : Named) → e.name ≡ what.name.text → e.known ≡ known_of slots d → Agree slots names s → Agree slots (with_name names d what) (declared s e)
+pub agree-declared : (slots : Declaration → Slot) (names : Names) (s : Scope) (d : Declaration) (what : Declared) (e : Named) → e.name ≡ what.name.text
+    → e.known ≡ known_of slots d → Agree slots names s → Agree slots (with_name names d what) (declared s e)
 agree-declared slots names s d what e same stands agree = record {
   known = λ name.
       (λ i. cond (bytes_eq (same i) name) (stands i) (agree.known name i))
@@ -79,7 +85,14 @@ outward-twice Global = refl
 
 once : (xs : List Named) → map outward_named xs ≡ map outward_named (map outward_named xs)
 once [] = refl
-once (x ∷ xs) = λ i. record { name = x.name; known = record { slot = record { area = sym (outward-twice x.known.slot.area) i; offset = x.known.slot.offset; length = x.known.slot.length }; number = x.known.number } } ∷ once xs i
+once (x ∷ xs) = λ i. record {
+  name = x.name;
+  known = record {
+    slot = record { area = sym (outward-twice x.known.slot.area) i; offset = x.known.slot.offset; length = x.known.slot.length };
+    number
+        = x.known.number;
+  };
+} ∷ once xs i
 
 -- what is visible in an inlet is what is visible around it, in its outer activation
 pub visible-entered : (s : Scope) → visible (entered s) ≡ map outward_named (visible s)
@@ -107,7 +120,9 @@ outward-meaning means None = refl
 outward-meaning means (Some k) = outward-means means k
 
 -- in an inlet, where slots stand for the outer activation
-pub agree-inlet : (slots inner : Declaration → Slot) (names : Names) (s : Scope) → ((d : Declaration) → outward (known_of slots d) ≡ known_of inner (label.outward d)) → Agree slots names s → Agree inner (label.in_inlet names) (entered s)
+pub agree-inlet : (slots inner : Declaration → Slot) (names : Names) (s : Scope)
+    → ((d : Declaration) → outward (known_of slots d) ≡ known_of inner (label.outward d)) → Agree slots names s
+    → Agree inner (label.in_inlet names) (entered s)
 agree-inlet slots inner names s outer agree = record {
   known = λ name.
       ap (λ es. found es name) (visible-entered s)

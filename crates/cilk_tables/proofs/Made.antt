@@ -1,5 +1,6 @@
 -- The tables of a program that passed the check.
-use Rattle.std.proofs.Common.{◌≡◌, ℕ, suc, ◌+◌, ◌≤◌, not, cond, List, [], ◌∷◌, ◌++◌, length, map, Some, None, refl, sym, ap, ◌∙◌, nat_lt, arith, length-append, unwrap_or}
+use Rattle.std.proofs.Common.{◌≡◌, ℕ, suc, ◌+◌, ◌≤◌, not, cond, List, [], ◌∷◌, ◌++◌, length, map, Some, None, refl, sym, ap, ◌∙◌, nat_lt, arith}
+use Rattle.std.proofs.Common.{length-append, unwrap_or}
 use Rattle.std.specs.Prelude.{slice_get, flat_map}
 use Rattle.std.specs.List.{prefix_len, position}
 use Rattle.cilk_syntax.specs.Tree as tree
@@ -18,7 +19,8 @@ use Rattle.cilk_nodes.specs.declared.var.Var.{Var}
 use Rattle.cilk_nodes.specs.Slots.{size_of, cells_of}
 use Rattle.cilk_nodes.specs.Bodies.{body_table, vars_from, lock_variable, globals_of, locks_of}
 use Rattle.cilk_nodes.proofs.Inner.{well_formed-plain}
-use Rattle.cilk_tables.specs.Outer.{body_first, table_of, inlet_tables, item_tables, items_tables, items_nodes, globals_count, locks_count, bodies_count, file_scope}
+use Rattle.cilk_tables.specs.Outer.{body_first, table_of, inlet_tables, item_tables, items_tables, items_nodes, globals_count, locks_count, bodies_count}
+use Rattle.cilk_tables.specs.Outer.{file_scope}
 use Rattle.cilk_tables.specs.Tables.{starts_here, Tabled}
 use Rattle.cilk_tables.proofs.Cells.{cells_of-append, joined}
 use Rattle.cilk_tables.proofs.Programs.{items-tables-are, program-nodes, none-at-0, nodes-at}
@@ -64,7 +66,8 @@ bodies-counted at (x ∷ xs) =
     length-append (item_tables at x) (items_tables (at + count_item x) xs) ∙ (λ i. length-item at x i + bodies-counted (at + count_item x) xs i)
 
 -- a table has the name and the owner of its body
-same-before : (bodies : List Body) → prefix_len (λ (b : table.Body). not (starts_here b)) (map body_table bodies) ≡ prefix_len (λ (b : Body). not (is_start b)) bodies
+same-before : (bodies : List Body)
+    → prefix_len (λ (b : table.Body). not (starts_here b)) (map body_table bodies) ≡ prefix_len (λ (b : Body). not (is_start b)) bodies
 same-before [] = refl
 same-before (b ∷ bodies) = ap (λ k. cond (not (is_start b)) (1 + k) 0) (same-before bodies)
 
@@ -76,20 +79,27 @@ same-position : (bodies : List Body) → position starts_here (map body_table bo
 same-position bodies = λ i. cond (nat_lt (same-before bodies i) (same-length bodies i)) (Some (same-before bodies i)) None
 
 -- the table of a body, from its parts
-pub table-made : (at : ℕ) (owner own : Owner) (name : tree.Word) (parameters : List Variable) (body : tree.Block) (text : List ℕ) (entry params cells middle : ℕ) (before some vars : List Var) → text ≡ name.text → own ≡ owner → entry ≡ unwrap_or (body_first at body) 0
-    → before ≡ [] → some ≡ before ++ vars_from Own 0 parameters → middle ≡ 0 + cells_of parameters → params ≡ length some → vars ≡ some ++ vars_from Own middle (block_variables body) → cells ≡ middle + cells_of (block_variables body)
-    → ◌≡◌ {A = table.Body} (record { name = text; owner = own; entry = entry; params = params; cells = cells; vars = vars }) (table_of at owner name parameters body)
+pub table-made : (at : ℕ) (owner own : Owner) (name : tree.Word) (parameters : List Variable) (body : tree.Block) (text : List ℕ)
+    (entry params cells middle : ℕ) (before some vars : List Var) → text ≡ name.text → own ≡ owner → entry ≡ unwrap_or (body_first at body) 0
+    → before ≡ [] → some ≡ before ++ vars_from Own 0 parameters → middle ≡ 0 + cells_of parameters → params ≡ length some
+    → vars ≡ some ++ vars_from Own middle (block_variables body) → cells ≡ middle + cells_of (block_variables body)
+    → ◌≡◌ {A = table.Body} (record { name = text; owner = own; entry = entry; params = params; cells = cells; vars = vars })
+    (table_of at owner name parameters body)
 table-made at owner own name parameters body text entry params cells middle before some vars et eo ee eb es em ep ev ec =
     let count : params ≡ length parameters = ep ∙ ap length (es ∙ ap (λ (vs : List Var). vs ++ vars_from Own 0 parameters) eb) ∙ length-vars Own 0 parameters in
     let size : cells ≡ cells_of (parameters ++ block_variables body) = omega (arith, ec, em, cells_of-append parameters (block_variables body)) in
     let all : vars ≡ vars_from Own 0 (parameters ++ block_variables body) =
-    joined Own 0 middle before some vars parameters (block_variables body) es em ev ∙ ap (λ (vs : List Var). vs ++ vars_from Own 0 (parameters ++ block_variables body)) eb
+    joined Own 0 middle before some vars parameters (block_variables body) es em ev
+    ∙ ap (λ (vs : List Var). vs ++ vars_from Own 0 (parameters ++ block_variables body)) eb
     in
     λ i. record { name = et i; owner = eo i; entry = ee i; params = count i; cells = size i; vars = all i }
 
-pub tabled : (p : tree.Program) (nodes : List Node) (lines : List ℕ) (bodies : List table.Body) (main : ℕ) (globals locks : List Var) → WellFormed p → count_program p ≤ 65535
-    → nodes ≡ items_nodes bodies 0 (file_scope globals p.items) 1 p.items → length nodes ≡ count_program p → lines ≡ action_lines p → length lines ≡ count_program p
-    → bodies ≡ items_tables 1 p.items → position starts_here bodies ≡ Some main → globals ≡ globals_of p → locks ≡ locks_of p → Tabled p nodes lines bodies main globals locks
+pub tabled : (p : tree.Program) (nodes : List Node) (lines : List ℕ) (bodies : List table.Body) (main : ℕ) (globals locks : List Var) → WellFormed p
+    → count_program p ≤ 65535
+    → nodes ≡ items_nodes bodies 0 (file_scope globals p.items) 1 p.items → length nodes ≡ count_program p → lines ≡ action_lines p
+    → length lines ≡ count_program p
+    → bodies ≡ items_tables 1 p.items → position starts_here bodies ≡ Some main → globals ≡ globals_of p → locks ≡ locks_of p
+    → Tabled p nodes lines bodies main globals locks
 tabled p nodes lines bodies main globals locks ok limit is_nodes node_count is_lines line_count is_bodies is_main is_globals is_locks =
     let made : bodies ≡ map body_table (label p).bodies = is_bodies ∙ items-tables-are (file_names p.items) 1 p.items (well_formed-plain p ok) in
     record {

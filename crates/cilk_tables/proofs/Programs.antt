@@ -1,5 +1,6 @@
 -- The tables that the pass writes are those of the program.
-use Rattle.std.proofs.Common.{◌≡◌, ℕ, zero, suc, ◌+◌, ◌<◌, Bool, true, false, List, [], ◌∷◌, ◌++◌, length, map, Option, Some, None, refl, sym, ap, ◌∙◌, arith, append-nil, length-append, unwrap_or, pos}
+use Rattle.std.proofs.Common.{◌≡◌, ℕ, zero, suc, ◌+◌, ◌<◌, Bool, true, false, List, [], ◌∷◌, ◌++◌, length, map, Option, Some, None, refl, sym, ap, ◌∙◌}
+use Rattle.std.proofs.Common.{arith, append-nil, length-append, unwrap_or, pos}
 use Rattle.std.specs.Prelude.{filter_map, slice_get, slice_index_or, option_map, position}
 use Rattle.std.specs.List.{cons_option}
 use Rattle.std.proofs.lemmas.List.Elements.{filter_map-append}
@@ -17,7 +18,8 @@ use Rattle.cilk_labelled.specs.Names.{Names, with_parameters, meaning_at}
 use Rattle.cilk_labelled.specs.Names as label
 use Rattle.cilk_labelled.specs.Count.{count_shape, count_stmts, count_locals, count_block, count_item, count_program}
 use Rattle.cilk_labelled.specs.Label.{label_stmts, names_behind, locals_variables}
-use Rattle.cilk_labelled.specs.Bodies.{label, label_body, one_cell, parameter_variables, inlet_bodies, inlet_count, block_locals, procedure_names, body_count, item_bodies, items_bodies, file_means, file_names}
+use Rattle.cilk_labelled.specs.Bodies.{label, label_body, one_cell, parameter_variables, inlet_bodies, inlet_count, block_locals, procedure_names}
+use Rattle.cilk_labelled.specs.Bodies.{body_count, item_bodies, items_bodies, file_means, file_names}
 use Rattle.cilk_runs.specs.Instance.{body_at, no_body}
 use Rattle.cilk_nodes.specs.declared.node.Node.{Node}
 use Rattle.cilk_nodes.specs.Slots.{slot_of, is_inlet, procedure_around}
@@ -32,7 +34,8 @@ use Rattle.cilk_nodes.proofs.Heads.{rows_of, text_of, text-spans, row-number, am
 use Rattle.cilk_tables.specs.Scope as scope
 use Rattle.cilk_tables.specs.Scope.{Scope, outward_named}
 use Rattle.cilk_tables.specs.Pass.{locals_first}
-use Rattle.cilk_tables.specs.Outer.{vars_at, parameters_scope, item_nodes, items_nodes, body_first, table_of, inlet_tables, item_tables, items_tables, file_named, file_scope}
+use Rattle.cilk_tables.specs.Outer.{vars_at, parameters_scope, item_nodes, items_nodes, body_first, table_of, inlet_tables, item_tables, items_tables}
+use Rattle.cilk_tables.specs.Outer.{file_named, file_scope}
 use Rattle.cilk_tables.proofs.Found.{known_of, same_name, Agree}
 use Rattle.cilk_tables.proofs.Starts.{stmts-pieces, locals-pieces}
 use Rattle.cilk_tables.proofs.Slots.{own-around, inlets-around, inlet-owners, file-known}
@@ -72,7 +75,8 @@ length-inlets names at n (tree.and_local (tree.declared d) rest) =
 length-inlets names at n (tree.and_local (tree.inlet_at place name parameters body) rest) =
     ap suc (length-inlets (label.with_local names n (tree.inlet_at place name parameters body)) (at + (count_block body + 1)) (n + 0) rest)
 
-placed : (program : Labelled) (b : ℕ) (x : tree.Block) → ((j : ℕ) → j < inlet_count (block_locals x) → procedure_around program (suc (b + j)) ≡ b) → AroundBlock program b x
+placed : (program : Labelled) (b : ℕ) (x : tree.Block) → ((j : ℕ) → j < inlet_count (block_locals x) → procedure_around program (suc (b + j)) ≡ b)
+    → AroundBlock program b x
 placed program b (tree.block ls ss) h = λ j below. let e : suc b + j ≡ suc (b + j) = omega arith in ap (procedure_around program) e ∙ h j below
 
 module _ (program : Labelled) where
@@ -80,11 +84,13 @@ module _ (program : Labelled) where
   abbrev FileAgrees : Names → Scope → Type 0
   FileAgrees names file = (b : ℕ) → Agree (slot_of program b) (label.entered names) (scope.entered file)
 
-  item-nodes : (names : Names) (b : ℕ) (file : Scope) → names.bodies ≡ b → FileAgrees names file → (at : ℕ) (x : tree.Item) → PlainItem x → Located program b (item_bodies names at x) → item_nodes (tables program) b file at x ≡ filter_map (row_node program) (item_rows names b at x)
+  item-nodes : (names : Names) (b : ℕ) (file : Scope) → names.bodies ≡ b → FileAgrees names file → (at : ℕ) (x : tree.Item) → PlainItem x
+      → Located program b (item_bodies names at x) → item_nodes (tables program) b file at x ≡ filter_map (row_node program) (item_rows names b at x)
   item-nodes names b file nb agree at (tree.global g) plain located = refl
   item-nodes names b file nb agree at (tree.lock name) plain located = refl
   item-nodes names b file nb agree at (tree.prototype q) plain located = refl
-  item-nodes names b file nb agree at (tree.procedure p) plain located = body-rows program b inner within own bodies named at n p.body plain (placed program b p.body around)
+  item-nodes names b file nb agree at (tree.procedure p) plain located = body-rows program b inner within own bodies named at n p.body plain
+      (placed program b p.body around)
     where
       inner : Names
       inner = procedure_names (record names { bodies = suc names.bodies }) p
@@ -99,38 +105,49 @@ module _ (program : Labelled) where
       first = omega arith
 
       own : procedure_around program b ≡ b
-      own = own-around program b (ap (λ (o : Owner). is_inlet o) (ap (λ (y : Body). y.owner) (ap (body_at program) (sym first) ∙ located 0 (omega arith))) ∙ procedure-owner p.is_cilk p.returns)
+      own = own-around program b (ap (λ (o : Owner). is_inlet o)
+          (ap (λ (y : Body). y.owner) (ap (body_at program) (sym first) ∙ located 0 (omega arith))) ∙ procedure-owner p.is_cilk p.returns)
 
       around : (j : ℕ) → j < inlet_count (block_locals p.body) → procedure_around program (suc (b + j)) ≡ b
-      around = inlets-around program b own (inlet_count (block_locals p.body)) (λ j below. let e : suc (b + j) ≡ b + suc j = omega arith in ap (λ (y : Body). y.owner) (ap (body_at program) e ∙ located (suc j) (omega (arith, length-inlets inner at n (block_locals p.body), below))) ∙ inlet-owners inner at n (block_locals p.body) j)
+      around = inlets-around program b own (inlet_count (block_locals p.body))
+          (λ j below. let e : suc (b + j) ≡ b + suc j = omega arith in ap (λ (y : Body). y.owner)
+          (ap (body_at program) e ∙ located (suc j) (omega (arith, length-inlets inner at n (block_locals p.body), below)))
+          ∙ inlet-owners inner at n (block_locals p.body) j)
 
       bodies : inner.bodies ≡ suc b
       bodies = parameters-bodies (label.entered (record names { bodies = suc names.bodies })) p.parameters ∙ ap suc nb
 
       named : Agree (slot_of program b) inner within
-      named = agree-parameters program b (label.entered (record names { bodies = suc names.bodies })) (scope.entered file) p.parameters (record { known = (agree b).known })
+      named = agree-parameters program b (label.entered (record names { bodies = suc names.bodies })) (scope.entered file) p.parameters
+          (record { known = (agree b).known })
 
-  pub items-nodes : (names : Names) (b : ℕ) (file : Scope) → names.bodies ≡ b → FileAgrees names file → (at : ℕ) (xs : List tree.Item) → PlainItems xs → Located program b (items_bodies names at xs) → items_nodes (tables program) b file at xs ≡ filter_map (row_node program) (items_rows names b at xs)
+  pub items-nodes : (names : Names) (b : ℕ) (file : Scope) → names.bodies ≡ b → FileAgrees names file → (at : ℕ) (xs : List tree.Item) → PlainItems xs
+      → Located program b (items_bodies names at xs) → items_nodes (tables program) b file at xs ≡ filter_map (row_node program) (items_rows names b at xs)
   items-nodes names b file nb agree at [] plain located = refl
   items-nodes names b file nb agree at (x ∷ xs) plain located =
       let others : Names = record names { bodies = names.bodies + body_count x } in
       let rest : List Body = items_bodies others (at + count_item x) xs in
       (λ i. item-nodes names b file nb agree at x plain.0 (located-front program b (item_bodies names at x) rest located) i
-      ++ items-nodes others (b + body_count x) file (ap (λ k. k + body_count x) nb) (λ c. record { known = (agree c).known }) (at + count_item x) xs plain.1 (located-back program b (body_count x) (item_bodies names at x) rest (length-item names at x) located) i)
+      ++ items-nodes others (b + body_count x) file (ap (λ k. k + body_count x) nb) (λ c. record { known = (agree c).known }) (at + count_item x) xs
+      plain.1 (located-back program b (body_count x) (item_bodies names at x) rest (length-item names at x) located) i)
       ∙ sym (filter_map-append (row_node program) (item_rows names b at x) (items_rows others (b + body_count x) (at + count_item x) xs))
 
 -- the names of the file
 file-agrees : (p : tree.Program) → FileAgrees (label p) (file_names p.items) (file_scope (globals_of p) p.items)
 file-agrees p b = record {
   known = λ name.
-      ap (λ es. scope.found (map outward_named es) name) (append-nil (file_named (globals_of p) 0 0 0 p.items ++ []) ∙ append-nil (file_named (globals_of p) 0 0 0 p.items))
+      ap (λ es. scope.found (map outward_named es) name)
+      (append-nil (file_named (globals_of p) 0 0 0 p.items ++ []) ∙ append-nil (file_named (globals_of p) 0 0 0 p.items))
       ∙ file-known (label p) b 0 0 0 0 0 0 p.items name refl refl refl
-      ∙ ap (λ ds. known_of (slot_of (label p) b) (meaning_at (file_means 0 0 0 p.items) (position (same_name name) ds))) (sym (append-nil (file_declares p.items)));
+      ∙ ap (λ ds. known_of (slot_of (label p) b) (meaning_at (file_means 0 0 0 p.items) (position (same_name name) ds)))
+      (sym (append-nil (file_declares p.items)));
 }
 
-pub program-nodes : (p : tree.Program) → WellFormed p → items_nodes (map body_table (label p).bodies) 0 (file_scope (globals_of p) p.items) 1 p.items ≡ filter_map (row_node (label p)) (text_of p)
+pub program-nodes : (p : tree.Program) → WellFormed p
+    → items_nodes (map body_table (label p).bodies) 0 (file_scope (globals_of p) p.items) 1 p.items ≡ filter_map (row_node (label p)) (text_of p)
 program-nodes p ok =
-    items-nodes (label p) (file_names p.items) 0 (file_scope (globals_of p) p.items) refl (file-agrees p) 1 p.items (well_formed-plain p ok) (λ j below. let e : 0 + j ≡ j = omega arith in ap (body_at (label p)) e)
+    items-nodes (label p) (file_names p.items) 0 (file_scope (globals_of p) p.items) refl (file-agrees p) 1 p.items (well_formed-plain p ok)
+    (λ j below. let e : 0 + j ≡ j = omega arith in ap (body_at (label p)) e)
 
 -- each row has its node
 head-node : (program : Labelled) (r : Row) (n : ℕ) → number_of r.items ≡ Some n → (node : Node) × (row_node program r ≡ Some node)
@@ -143,7 +160,8 @@ head-node program r n e = by_head (head_of r.items) e
     by_head None e = cc
     by_head (Some h) e = (made h, refl)
 
-node-get : (program : Labelled) (n m : ℕ) (rows : List Row) → RowsSpan n m rows → (k : ℕ) (r : Row) → slice_get rows k ≡ Some r → slice_get (filter_map (row_node program) rows) k ≡ row_node program r
+node-get : (program : Labelled) (n m : ℕ) (rows : List Row) → RowsSpan n m rows → (k : ℕ) (r : Row) → slice_get rows k ≡ Some r
+    → slice_get (filter_map (row_node program) rows) k ≡ row_node program r
 node-get program n m [] h k r e = cc
 node-get program n m (s ∷ rows) h zero r e =
     let made = head-node program s n h.0 in
@@ -153,7 +171,8 @@ node-get program n m (s ∷ rows) h (suc k) r e =
     let made = head-node program s n h.0 in
     ap (λ o. slice_get (cons_option o (filter_map (row_node program) rows)) (suc k)) made.1 ∙ node-get program (n + 1) m rows h.1 k r e
 
-node-none : (program : Labelled) (n m : ℕ) (rows : List Row) → RowsSpan n m rows → (k : ℕ) → slice_get rows k ≡ None → slice_get (filter_map (row_node program) rows) k ≡ None
+node-none : (program : Labelled) (n m : ℕ) (rows : List Row) → RowsSpan n m rows → (k : ℕ) → slice_get rows k ≡ None
+    → slice_get (filter_map (row_node program) rows) k ≡ None
 node-none program n m [] h k e = refl
 node-none program n m (s ∷ rows) h zero e = cc
 node-none program n m (s ∷ rows) h (suc k) e =
@@ -196,7 +215,8 @@ none-at-0 p ok = among-none (label p) 0 (rows_of p) missing
         absurd (omega (arith, none))
 
 -- the first action of a body
-body-starts : (names : Names) (at : ℕ) (owner : Owner) (name : Word) (parameters : List Variable) (body : tree.Block) → OuterBlock body → number_of (opened (start_items (label_body names at owner name parameters body))) ≡ body_first at body
+body-starts : (names : Names) (at : ℕ) (owner : Owner) (name : Word) (parameters : List Variable) (body : tree.Block) → OuterBlock body
+    → number_of (opened (start_items (label_body names at owner name parameters body))) ≡ body_first at body
 body-starts names at owner name parameters (tree.block ls ss) plain =
     let n : ℕ = length parameters in
     let behind : ℕ = at + count_locals ls in
@@ -205,7 +225,8 @@ body-starts names at owner name parameters (tree.block ls ss) plain =
     let closing = closing_items (at + (count_locals ls + count_stmts ss)) in
     locals-pieces names at n ls (label_stmts inner behind m ss) closing ∙ ap (locals_first at ls) (stmts-pieces inner behind m ss closing plain.1)
 
-table-is : (names : Names) (at : ℕ) (owner : Owner) (name : Word) (parameters : List Variable) (body : tree.Block) → OuterBlock body → table_of at owner name parameters body ≡ body_table (label_body names at owner name parameters body)
+table-is : (names : Names) (at : ℕ) (owner : Owner) (name : Word) (parameters : List Variable) (body : tree.Block) → OuterBlock body
+    → table_of at owner name parameters body ≡ body_table (label_body names at owner name parameters body)
 table-is names at owner name parameters body plain = λ i. record {
   name = name.text;
   owner = owner;
@@ -228,7 +249,9 @@ inlet-tables-are names at n tree.no_locals plain = refl
 inlet-tables-are names at n (tree.and_local (tree.declared d) rest) plain =
     inlet-tables-are (label.with_local names n (tree.declared d)) (at + count_shape d.shape) (n + 1) rest plain
 inlet-tables-are names at n (tree.and_local (tree.inlet_at place name parameters body) rest) plain =
-    λ i. table-is (label.with_words (label.in_inlet (label.with_local names n (tree.inlet_at place name parameters body))) 0 parameters) at Inlet name (map (one_cell (pos 0)) parameters) body (plain-outer body plain.0) i ∷ inlet-tables-are (label.with_local names n (tree.inlet_at place name parameters body)) (at + (count_block body + 1)) (n + 0) rest plain.1 i
+    λ i. table-is (label.with_words (label.in_inlet (label.with_local names n (tree.inlet_at place name parameters body))) 0 parameters) at Inlet name
+    (map (one_cell (pos 0)) parameters) body (plain-outer body plain.0) i ∷ inlet-tables-are
+    (label.with_local names n (tree.inlet_at place name parameters body)) (at + (count_block body + 1)) (n + 0) rest plain.1 i
 
 outer-inlets : (body : tree.Block) → OuterBlock body → OuterLocals (block_locals body)
 outer-inlets (tree.block ls ss) plain = plain.0
@@ -238,8 +261,10 @@ item-tables-are names at (tree.global g) plain = refl
 item-tables-are names at (tree.lock name) plain = refl
 item-tables-are names at (tree.prototype q) plain = refl
 item-tables-are names at (tree.procedure p) plain =
-    λ i. table-is (procedure_names (record names { bodies = suc names.bodies }) p) at (owner_of p.is_cilk p.returns) p.name (parameter_variables p.parameters) p.body plain i
-    ∷ inlet-tables-are (procedure_names (record names { bodies = suc names.bodies }) p) at (length (parameter_variables p.parameters)) (block_locals p.body) (outer-inlets p.body plain) i
+    λ i. table-is (procedure_names (record names { bodies = suc names.bodies }) p) at (owner_of p.is_cilk p.returns) p.name
+    (parameter_variables p.parameters) p.body plain i
+    ∷ inlet-tables-are (procedure_names (record names { bodies = suc names.bodies }) p) at (length (parameter_variables p.parameters))
+    (block_locals p.body) (outer-inlets p.body plain) i
 
 map-append : (xs ys : List Body) → map body_table (xs ++ ys) ≡ map body_table xs ++ map body_table ys
 map-append [] ys = refl

@@ -36,16 +36,19 @@ adds-words vars n [] s = adds-none s
 adds-words vars n (word ∷ words) s =
     adds-more (length words) (known_var vars n word) s _ (adds-words vars (n + 1) words (declared s (known_var vars n word)))
 
-pub adds-parameters : (vars : List Var) (parameters : tree.Parameters) (s : Scope) → Adds (length (parameters_declare parameters)) s (parameters_scope vars parameters s)
+pub adds-parameters : (vars : List Var) (parameters : tree.Parameters) (s : Scope)
+    → Adds (length (parameters_declare parameters)) s (parameters_scope vars parameters s)
 adds-parameters vars (tree.ints words) s = subst (λ k. Adds k s (words_scope vars 0 words s)) (counted words) (adds-words vars 0 words s)
   where
     counted : (xs : List Word) → length xs ≡ length (map parameter xs)
     counted [] = refl
     counted (x ∷ xs) = ap suc (counted xs)
 adds-parameters vars (tree.command_line count strings) s =
-    adds-more 1 (known_var vars 0 count) s _ (adds-more 0 (record { name = strings.text; known = unknown_name }) (declared s (known_var vars 0 count)) _ (adds-none _))
+    adds-more 1 (known_var vars 0 count) s _
+    (adds-more 0 (record { name = strings.text; known = unknown_name }) (declared s (known_var vars 0 count)) _ (adds-none _))
 
-pub adds-locals : (vars : List Var) (n : ℕ) (ls : List tree.Local) (s : Scope) → PlainLocals (locals_of ls) → Adds (length ls) s (locals_scope vars n (locals_of ls) s)
+pub adds-locals : (vars : List Var) (n : ℕ) (ls : List tree.Local) (s : Scope) → PlainLocals (locals_of ls)
+    → Adds (length ls) s (locals_scope vars n (locals_of ls) s)
 adds-locals vars n [] s plain = adds-none s
 adds-locals vars n (tree.declared d ∷ ls) s plain =
     adds-more (length ls) (known_var vars n d.name) s _ (adds-locals vars (n + 1) ls (declared s (known_var vars n d.name)) plain)
@@ -63,7 +66,8 @@ pub forgotten : (k : ℕ) (s t : Scope) → Adds k s t → record { innermost = 
 forgotten k s t a = λ i. record { innermost = a.inner i; outer = a.outer i }
 
 -- what is around a body remains
-pub around : (k : ℕ) (s t u f : Scope) → t ≡ entered s → Adds k t u → f ≡ record { innermost = drop k u.innermost; outer = u.outer } → f.outer ≡ (entered s).outer
+pub around : (k : ℕ) (s t u f : Scope) → t ≡ entered s → Adds k t u → f ≡ record { innermost = drop k u.innermost; outer = u.outer }
+    → f.outer ≡ (entered s).outer
 around k s t u f e a h = ap (λ (x : Scope). x.outer) h ∙ a.outer ∙ ap (λ (x : Scope). x.outer) e
 
 -- a body is left

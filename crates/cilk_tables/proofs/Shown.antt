@@ -1,5 +1,6 @@
 -- What the table of names finds is what the declarations that are visible stand for.
-use Rattle.std.proofs.Common.{◌≡◌, ◌≢◌, ℕ, ◌+◌, ◌-◌, ◌<◌, ◌≤◌, Bool, true, false, cond, List, [], ◌∷◌, ◌++◌, length, map, reverse, take, drop, Option, Some, None, refl, sym, ap, subst, ◌∙◌, arith, length-append, length-take, length-drop}
+use Rattle.std.proofs.Common.{◌≡◌, ◌≢◌, ℕ, ◌+◌, ◌-◌, ◌<◌, ◌≤◌, Bool, true, false, cond, List, [], ◌∷◌, ◌++◌, length, map, reverse, take, drop, Option}
+use Rattle.std.proofs.Common.{Some, None, refl, sym, ap, subst, ◌∙◌, arith, length-append, length-take, length-drop}
 use Rattle.std.specs.Str.{bytes_eq}
 use Rattle.std.specs.BTreeMap.{BTreeMap, get_by, UpdatesBy}
 use Rattle.std.proofs.lemmas.Map.Text.{btree_map_updates_str}
@@ -38,7 +39,8 @@ outer_cases mark true e n o k h same = ap (λ (b : Bool). cond b (outward e.know
 outer_cases mark false e n o k h same = same
 
 -- the first entries stand around the innermost body
-told_outer : (mark : ℕ) (es : List Entry) (name : List ℕ) → length es ≤ mark → told_if mark (newest es name) ≡ found (map outward_named (map entry_named es)) name
+told_outer : (mark : ℕ) (es : List Entry) (name : List ℕ) → length es ≤ mark
+    → told_if mark (newest es name) ≡ found (map outward_named (map entry_named es)) name
 told_outer mark [] name h = refl
 told_outer mark (e ∷ es) name h =
     outer_cases mark (bytes_eq e.name.now.text name) e (length es) _ _ (omega arith) (told_outer mark es name (omega arith))
@@ -48,7 +50,8 @@ inner_cases : (mark : ℕ) (b : Bool) (e : Entry) (n : ℕ) (o : Option Nearest)
 inner_cases mark true e n o k h same = ap (λ (b : Bool). cond b (outward e.known) e.known) (le-ltb n mark h)
 inner_cases mark false e n o k h same = same
 
-told_among : (mark : ℕ) (rs ts : List Entry) (name : List ℕ) → length ts ≡ mark → told_if mark (newest (rs ++ ts) name) ≡ found (map entry_named rs ++ map outward_named (map entry_named ts)) name
+told_among : (mark : ℕ) (rs ts : List Entry) (name : List ℕ) → length ts ≡ mark
+    → told_if mark (newest (rs ++ ts) name) ≡ found (map entry_named rs ++ map outward_named (map entry_named ts)) name
 told_among mark [] ts name h = told_outer mark ts name (omega arith)
 told_among mark (e ∷ rs) ts name h =
     inner_cases mark (bytes_eq e.name.now.text name) e (length (rs ++ ts)) _ _ (grind (arith, length-append)) (told_among mark rs ts name h)
@@ -58,7 +61,8 @@ stands mark es name h =
     let parts : reverse es ≡ reverse (drop mark es) ++ reverse (take mark es) =
     sym (ap reverse (take-append-drop mark es)) ∙ reverse-append (take mark es) (drop mark es)
     in
-    ap (λ xs. told_if mark (newest xs name)) parts ∙ told_among mark (reverse (drop mark es)) (reverse (take mark es)) name (length-reverse (take mark es) ∙ length_take_of mark es h)
+    ap (λ xs. told_if mark (newest xs name)) parts
+    ∙ told_among mark (reverse (drop mark es)) (reverse (take mark es)) name (length-reverse (take mark es) ∙ length_take_of mark es h)
   where
     length_take_of : (n : ℕ) (xs : List Entry) → n ≤ length xs → length (take n xs) ≡ n
     length_take_of n xs k = grind (arith, length-take)
@@ -70,15 +74,18 @@ reverse_more es e = reverse-append es (e ∷ [])
 abbrev pub UpdatesText : List ℕ → BTreeMap (Bor (List ℕ)) Nearest → BTreeMap (Bor (List ℕ)) Nearest → Option Nearest → Type 0
 UpdatesText bs m n w = UpdatesBy (λ x y. slice_cmp nat_cmp x.now y.now) (λ k. slice_cmp nat_cmp bs k.now) m n w
 
-found_more : (m n : BTreeMap (Bor (List ℕ)) Nearest) (es : List Entry) (e : Entry) → ((name : List ℕ) → get_by (λ k. slice_cmp nat_cmp name k.now) m ≡ newest (reverse es) name)
-    → UpdatesText e.name.now.text m n (Some (record { known = e.known; at = length es })) → (name : List ℕ) → get_by (λ k. slice_cmp nat_cmp name k.now) n ≡ newest (reverse (es ++ e ∷ [])) name
+found_more : (m n : BTreeMap (Bor (List ℕ)) Nearest) (es : List Entry) (e : Entry)
+    → ((name : List ℕ) → get_by (λ k. slice_cmp nat_cmp name k.now) m ≡ newest (reverse es) name)
+    → UpdatesText e.name.now.text m n (Some (record { known = e.known; at = length es })) → (name : List ℕ)
+    → get_by (λ k. slice_cmp nat_cmp name k.now) n ≡ newest (reverse (es ++ e ∷ [])) name
 found_more m n es e found u name =
     btree_map_updates_str e.name.now.text m n _ u name
     ∙ ap (λ o. cond (bytes_eq e.name.now.text name) (Some (record { known = e.known; at = length es })) o) (found name)
     ∙ ap (λ k. cond (bytes_eq e.name.now.text name) (Some (record { known = e.known; at = k })) (newest (reverse es) name)) (sym (length-reverse es))
     ∙ ap (λ xs. newest xs name) (sym (reverse_more es e))
 
-pub pushed : (m n : BTreeMap (Bor (List ℕ)) Nearest) (es : List Entry) (mark : ℕ) (e : Entry) → IsTable m es mark → e.hidden ≡ newest (reverse es) e.name.now.text
+pub pushed : (m n : BTreeMap (Bor (List ℕ)) Nearest) (es : List Entry) (mark : ℕ) (e : Entry) → IsTable m es mark
+    → e.hidden ≡ newest (reverse es) e.name.now.text
     → UpdatesText e.name.now.text m n (Some (record { known = e.known; at = length es })) → IsTable n (es ++ e ∷ []) mark
 pushed m n es mark e t h u = record {
   within = grind (arith, length-append, t.within);
@@ -86,10 +93,12 @@ pushed m n es mark e t h u = record {
   hides = subst Hides (sym (reverse_more es e)) (h, t.hides);
 }
 
-pub pushed_at : (m n : BTreeMap (Bor (List ℕ)) Nearest) (es : List Entry) (mark : ℕ) (e : Entry) (bs : List ℕ) (at : ℕ) → IsTable m es mark → bs ≡ e.name.now.text → at ≡ length es → e.hidden ≡ newest (reverse es) e.name.now.text
+pub pushed_at : (m n : BTreeMap (Bor (List ℕ)) Nearest) (es : List Entry) (mark : ℕ) (e : Entry) (bs : List ℕ) (at : ℕ) → IsTable m es mark
+    → bs ≡ e.name.now.text → at ≡ length es → e.hidden ≡ newest (reverse es) e.name.now.text
     → UpdatesText bs m n (Some (record { known = e.known; at = at })) → IsTable n (es ++ e ∷ []) mark
 pushed_at m n es mark e bs at t same place h u =
-    pushed m n es mark e t h (subst (λ x. UpdatesText x m n (Some (record { known = e.known; at = length es }))) same (subst (λ x. UpdatesText bs m n (Some (record { known = e.known; at = x }))) place u))
+    pushed m n es mark e t h (subst (λ x. UpdatesText x m n (Some (record { known = e.known; at = length es }))) same
+    (subst (λ x. UpdatesText bs m n (Some (record { known = e.known; at = x }))) place u))
 
 -- a new scope begins behind all entries
 pub opens : (mark n : ℕ) (es : List Entry) → n ≡ length es → scope_of n es ≡ entered (scope_of mark es)
@@ -120,7 +129,8 @@ module _ (m : BTreeMap (Bor (List ℕ)) Nearest) (es fs : List Entry) (mark : �
   popped_hides : Hides (e ∷ reverse fs)
   popped_hides = subst Hides newest_first t.hides
 
-  pub popped : (n : BTreeMap (Bor (List ℕ)) Nearest) (bs : List ℕ) (w : Option Nearest) → bs ≡ e.name.now.text → e.hidden ≡ w → 0 < length (scope_of mark es).innermost → UpdatesText bs m n w → IsTable n fs mark
+  pub popped : (n : BTreeMap (Bor (List ℕ)) Nearest) (bs : List ℕ) (w : Option Nearest) → bs ≡ e.name.now.text → e.hidden ≡ w
+      → 0 < length (scope_of mark es).innermost → UpdatesText bs m n w → IsTable n fs mark
   popped n bs w same hidden own u = record {
     within = grind (arith, length-append, length-map, length-reverse, length-drop, own, ap length order);
     found = λ name.
@@ -137,7 +147,8 @@ pub length_outer : (mark : ℕ) (es : List Entry) → mark ≤ length es → len
 length_outer mark es h = grind (arith, length-map, length-reverse, length-take)
 
 -- the scope is left: all entries are of those around it
-pub left_is : (mark n : ℕ) (es : List Entry) (outer : List Named) → mark ≤ length es → n ≤ mark → (scope_of mark es) ≡ record { innermost = []; outer = outer } → scope_of n es ≡ left_of n outer
+pub left_is : (mark n : ℕ) (es : List Entry) (outer : List Named) → mark ≤ length es → n ≤ mark
+    → (scope_of mark es) ≡ record { innermost = []; outer = outer } → scope_of n es ≡ left_of n outer
 left_is mark n es outer h k e =
     let all : shown (drop n es) ++ shown (take n es) ≡ outer =
     shown_all n es ∙ sym (shown_all mark es) ∙ (λ i. (e i).innermost ++ (e i).outer)

@@ -34,7 +34,8 @@ var-slot-is area at (v ∷ vs) zero = refl
 var-slot-is area at (v ∷ vs) (suc n) = var-slot-is area (at + size_of v) vs n
 
 -- those of body b in the table of bodies
-body-slots : (bodies : List labelled.Body) (b n : ℕ) → var_slot (vars_at (map body_table bodies) b) n ≡ slot_from Own 0 (slice_index_or bodies b no_body).variables n
+body-slots : (bodies : List labelled.Body) (b n : ℕ)
+    → var_slot (vars_at (map body_table bodies) b) n ≡ slot_from Own 0 (slice_index_or bodies b no_body).variables n
 body-slots [] b n = refl
 body-slots (x ∷ bodies) zero n = var-slot-is Own 0 x.variables n
 body-slots (x ∷ bodies) (suc b) n = body-slots bodies b n
@@ -54,11 +55,13 @@ numbered : (n : ℕ) (s t : Slot) → outward_slot s ≡ t → outward (record {
 numbered n s t e = λ i. record { slot = e i; number = n }
 
 -- in an inlet whose body is k, what stands in the activation of body b stands in the outer one
-pub outer-known : (program : Labelled) (b k : ℕ) → procedure_around program b ≡ b → procedure_around program k ≡ b → (d : Declaration) → outward (known_of (slot_of program b) d) ≡ known_of (slot_of program k) (label.outward d)
+pub outer-known : (program : Labelled) (b k : ℕ) → procedure_around program b ≡ b → procedure_around program k ≡ b → (d : Declaration)
+    → outward (known_of (slot_of program b) d) ≡ known_of (slot_of program k) (label.outward d)
 outer-known program b k own around (local n) =
     numbered n _ _ (moved Own 0 (body_at program b).variables n ∙ ap (λ c. slot_from Outer 0 (body_at program c).variables n) (sym around))
 outer-known program b k own around (outer n) =
-    numbered n _ _ (moved Outer 0 (body_at program (procedure_around program b)).variables n ∙ ap (λ c. slot_from Outer 0 (body_at program c).variables n) (own ∙ sym around))
+    numbered n _ _ (moved Outer 0 (body_at program (procedure_around program b)).variables n
+    ∙ ap (λ c. slot_from Outer 0 (body_at program c).variables n) (own ∙ sym around))
 outer-known program b k own around (global n) = numbered n _ _ (moved Global 0 program.globals n)
 outer-known program b k own around (of_lock n) = refl
 outer-known program b k own around (of_body n) = refl
@@ -70,7 +73,8 @@ own-around program zero e = refl
 own-around program (suc b) e = ap (λ (t : Bool). cond t (procedure_around program b) (suc b)) e
 
 -- the inlets stand behind it
-pub inlets-around : (program : Labelled) (b : ℕ) → procedure_around program b ≡ b → (m : ℕ) → ((j : ℕ) → j < m → (body_at program (suc (b + j))).owner ≡ Inlet) → (j : ℕ) → j < m → procedure_around program (suc (b + j)) ≡ b
+pub inlets-around : (program : Labelled) (b : ℕ) → procedure_around program b ≡ b → (m : ℕ)
+    → ((j : ℕ) → j < m → (body_at program (suc (b + j))).owner ≡ Inlet) → (j : ℕ) → j < m → procedure_around program (suc (b + j)) ≡ b
 inlets-around program b own m inlets zero below =
     let here : b + 0 ≡ b = omega arith in
     ap (λ (o : Owner). cond (is_inlet o) (procedure_around program (b + 0)) (suc (b + 0))) (inlets 0 below) ∙ ap (procedure_around program) here ∙ own
@@ -101,26 +105,33 @@ module _ (program : Labelled) (b : ℕ) where
   choice false d m = refl
 
   file-more : (name : List ℕ) (e : Named) (what : Declared) (d : Declaration) (es : List Named) (ds : List Declared) (means : List Declaration)
-      → e.name ≡ what.name.text → outward e.known ≡ known_of (slot_of program b) d → stood es name ≡ known_of (slot_of program b) (meaning_at means (position (same_name name) ds))
+      → e.name ≡ what.name.text → outward e.known ≡ known_of (slot_of program b) d
+      → stood es name ≡ known_of (slot_of program b) (meaning_at means (position (same_name name) ds))
       → stood (e ∷ es) name ≡ known_of (slot_of program b) (meaning_at (d ∷ means) (position (same_name name) (what ∷ ds)))
   file-more name e what d es ds means same stands others =
       (λ i. cond (bytes_eq (same i) name) (stands i) (others i))
       ∙ choice (same_name name what) d (meaning_at means (position (same_name name) ds))
       ∙ ap (known_of (slot_of program b)) (sym (meaning-first (same_name name) what ds d means))
 
-  pub file-known : (g l k g' l' k' : ℕ) (items : List tree.Item) (name : List ℕ) → g ≡ g' → l ≡ l' → k ≡ k' → stood (file_named globals g' l' k' items) name ≡ known_of (slot_of program b) (meaning_at (file_means g l k items) (position (same_name name) (file_declares items)))
+  pub file-known : (g l k g' l' k' : ℕ) (items : List tree.Item) (name : List ℕ) → g ≡ g' → l ≡ l' → k ≡ k'
+      → stood (file_named globals g' l' k' items) name ≡ known_of (slot_of program b)
+      (meaning_at (file_means g l k items) (position (same_name name) (file_declares items)))
   file-known g l k g' l' k' [] name eg el ek = refl
   file-known g l k g' l' k' (tree.global what ∷ items) name eg el ek =
       let slot : outward_slot (var_slot globals g') ≡ slot_from Global 0 program.globals g =
       ap outward_slot (var-slot-is Global 0 program.globals g') ∙ moved Global 0 program.globals g' ∙ ap (slot_from Global 0 program.globals) (sym eg)
       in
-      file-more name (known_var globals g' what.name) (record { name = what.name; kind = kind_of_global what.shape }) (global g) _ _ _ refl (λ i. record { slot = slot i; number = sym eg i })
+      file-more name (known_var globals g' what.name) (record { name = what.name; kind = kind_of_global what.shape }) (global g) _ _ _ refl
+      (λ i. record { slot = slot i; number = sym eg i })
       (file-known (suc g) l k (g' + 1) (l' + 0) (k' + 0) items name (omega arith) (omega arith) (omega arith))
   file-known g l k g' l' k' (tree.lock word ∷ items) name eg el ek =
-      file-more name (known_number l' word) (record { name = word; kind = Lock }) (of_lock l) _ _ _ refl (λ i. record { slot = slot_of program b (of_lock l); number = sym el i })
+      file-more name (known_number l' word) (record { name = word; kind = Lock }) (of_lock l) _ _ _ refl
+      (λ i. record { slot = slot_of program b (of_lock l); number = sym el i })
       (file-known g (suc l) k (g' + 0) (l' + 1) (k' + 0) items name (omega arith) (omega arith) (omega arith))
   file-known g l k g' l' k' (tree.prototype q ∷ items) name eg el ek =
       file-known g l k (g' + 0) (l' + 0) (k' + 0) items name (omega arith) (omega arith) (omega arith)
   file-known g l k g' l' k' (tree.procedure p ∷ items) name eg el ek =
-      file-more name (known_number k' p.name) (record { name = p.name; kind = kind_of_body p.is_cilk p.returns (parameter_count p.parameters) }) (of_body k) _ _ _ refl (λ i. record { slot = slot_of program b (of_body k); number = sym ek i })
-      (file-known g l (k + body_count (tree.procedure p)) (g' + 0) (l' + 0) (k' + body_count (tree.procedure p)) items name (omega arith) (omega arith) (omega (arith, ek)))
+      file-more name (known_number k' p.name) (record { name = p.name; kind = kind_of_body p.is_cilk p.returns (parameter_count p.parameters) })
+      (of_body k) _ _ _ refl (λ i. record { slot = slot_of program b (of_body k); number = sym ek i })
+      (file-known g l (k + body_count (tree.procedure p)) (g' + 0) (l' + 0) (k' + body_count (tree.procedure p)) items name (omega arith) (omega arith)
+      (omega (arith, ek)))

@@ -67,7 +67,8 @@ outer_scope vars k n (tree.and_local (tree.inlet_at place name parameters body) 
 abbrev pub body_nodes : List Body → ℕ → Scope → ℕ → ℕ → tree.Block → List Node
 body_nodes bodies b s at n (tree.block locals stmts) =
     outer_nodes bodies b (suc b) s at n locals (first_if (count_stmts stmts) (at + count_locals locals) (Some (at + (count_locals locals + count_stmts stmts))))
-    ++ (stmts_nodes b (vars_at bodies b) (outer_scope (vars_at bodies b) (suc b) n locals s) (at + count_locals locals) (n + length (locals_variables locals)) stmts (body_exits (at + (count_locals locals + count_stmts stmts)))
+    ++ (stmts_nodes b (vars_at bodies b) (outer_scope (vars_at bodies b) (suc b) n locals s) (at + count_locals locals)
+    (n + length (locals_variables locals)) stmts (body_exits (at + (count_locals locals + count_stmts stmts)))
     ++ onward b Close None ∷ [])
 
 abbrev pub item_nodes : List Body → ℕ → Scope → ℕ → tree.Item → List Node

@@ -54,7 +54,8 @@ fn owner_of(definition: &Proc) -> Owner
 fn put_own(alloc: Global, bodies: &mut Vec<Body>, at: u32, definition: &Proc) -> Result<(), NoRoom>
     requires { at + count_block definition.now.body ≤ 65535 }
     ensures { OnOk result (bodies.new.items ≡ bodies.old.items
-        ++ table_of at (owner_of definition.now.is_cilk definition.now.returns) definition.now.name (parameter_variables definition.now.parameters) definition.now.body ∷ []) }
+        ++ table_of at (owner_of definition.now.is_cilk definition.now.returns) definition.now.name
+        (parameter_variables definition.now.parameters) definition.now.body ∷ []) }
 {
     let mut vars = Vec::new(alloc);
     let cells = put_parameters(alloc, &mut vars, 0, &definition.parameters)?;

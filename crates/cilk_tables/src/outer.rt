@@ -12,7 +12,8 @@ ghost use Rattle.cilk_scopes.specs.Scopes.{parameters_declare};
 ghost use Rattle.cilk_nodes.specs.Slots.{nowhere};
 ghost use Rattle.cilk_tables.specs.Scope.{declared};
 ghost use Rattle.cilk_tables.specs.Pass.{known_number};
-ghost use Rattle.cilk_tables.specs.Outer.{vars_at, body_exits, words_scope, parameters_scope, inlet_nodes, outer_nodes, outer_scope, body_nodes, item_nodes, items_nodes};
+ghost use Rattle.cilk_tables.specs.Outer.{vars_at, body_exits, words_scope, parameters_scope};
+ghost use Rattle.cilk_tables.specs.Outer.{inlet_nodes, outer_nodes, outer_scope, body_nodes, item_nodes, items_nodes};
 
 use crate::counts::{actions_in, actions_of_locals, actions_of_stmts};
 use crate::exits::Exits;

@@ -17,7 +17,8 @@ returns c =
     c.actions_of_locals.ensures ∙ ap (λ (zs : List tree.Local). count_locals (locals_of zs)) c.deref.ensures.value
     in
     let behind : c.args.at + c.actions_of_locals.result ≡ c.args.at + count_locals ls = omega (arith, size) in
-    let end : c.args.at + c.actions_of_locals.result + c.actions_of_stmts-stmts.result ≡ c.args.at + (count_locals ls + count_stmts ss) = omega (arith, size, left) in
+    let end : c.args.at + c.actions_of_locals.result + c.actions_of_stmts-stmts.result ≡ c.args.at + (count_locals ls + count_stmts ss) = omega
+    (arith, size, left) in
     c.locals_first.ensures
     ∙ (λ i. locals_first c.args.at (locals_of (c.deref-3.ensures.value i)) ((c.first_if-first.ensures ∙ (λ j. first_if (left j) (behind j) (Some (end j)))) i))
     ∙ ap (body_first c.args.at) c.block.view_is

@@ -12,5 +12,7 @@ returns c =
     c.in_ok-push.ensures.items
     ∙ ap (λ (b : Body). c.args.bodies.now.items ++ b ∷ [])
     (table-made c.args.at owner.Inlet owner.Inlet c.args.name.now (map (one_cell (pos 0)) c.args.parameters.now) c.args.body.now
-    c.in_ok-copied.field-0 c.entry_of.result c.in_ok-params.params c.in_ok-cells-2.cells c.in_ok-cells.cells c.new-vars.result.items c.put_words.new.vars.items c.new.result
-    c.in_ok-copied.ensures refl c.entry_of.ensures c.new-vars.ensures.items c.in_ok-cells.ensures.vars c.in_ok-cells.ensures.after count (c.new.ensures ∙ c.in_ok-cells-2.ensures.vars) c.in_ok-cells-2.ensures.after)
+    c.in_ok-copied.field-0 c.entry_of.result c.in_ok-params.params c.in_ok-cells-2.cells c.in_ok-cells.cells c.new-vars.result.items
+    c.put_words.new.vars.items c.new.result
+    c.in_ok-copied.ensures refl c.entry_of.ensures c.new-vars.ensures.items c.in_ok-cells.ensures.vars c.in_ok-cells.ensures.after count
+    (c.new.ensures ∙ c.in_ok-cells-2.ensures.vars) c.in_ok-cells-2.ensures.after)

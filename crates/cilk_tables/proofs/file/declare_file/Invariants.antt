@@ -4,7 +4,8 @@ use Rattle.cilk_tables.proofs.file.declare_file.Given as goal
 
 abbrev pub invariant-loop-i : goal.invariant-loop-i
 invariant-loop-i l = record {
-  names : l.names.innermost ≡ file_named l.globals l.before.globals l.before.locks l.before.bodies (drop (length l.items - l.i) l.items) ++ l.initial.names.innermost;
+  names : l.names.innermost ≡ file_named l.globals l.before.globals l.before.locks l.before.bodies (drop (length l.items - l.i) l.items)
+      ++ l.initial.names.innermost;
   outer : l.names.outer ≡ l.initial.names.outer;
   globals : l.before.globals + globals_count (drop (length l.items - l.i) l.items) ≡ globals_count l.items;
   locks : l.before.locks + locks_count (drop (length l.items - l.i) l.items) ≡ locks_count l.items;

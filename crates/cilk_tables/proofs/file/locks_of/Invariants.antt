@@ -7,4 +7,5 @@ use Rattle.cilk_tables.proofs.file.locks_of.Given as goal
 
 abbrev pub invariant-loop-item : goal.invariant-loop-item
 invariant-loop-item l =
-    l.vars.items ++ vars_from Global l.cells (map lock_variable (flat_map item_locks (drop l.item-index l.items))) ≡ vars_from Global 0 (map lock_variable (flat_map item_locks l.items))
+    l.vars.items ++ vars_from Global l.cells (map lock_variable (flat_map item_locks (drop l.item-index l.items))) ≡ vars_from Global 0
+    (map lock_variable (flat_map item_locks l.items))

@@ -11,7 +11,8 @@ pub returns-then-is_initialised : goal.returns-then-is_initialised
 returns-then-is_initialised c =
     let others = locals_of (drop (c.loop-local.local-index + 1) c.args.locals.now) in
     let more : locals_of (drop c.loop-local.local-index c.args.locals.now) ≡ tree.and_local c.local-item.result others =
-    at_drop_more locals_of c.args.locals.now c.loop-local.local-index c.local-item.result c.loop-local-test.true ∙ ap (λ (x : tree.Local). tree.and_local x others) (sym c.local-item.is)
+    at_drop_more locals_of c.args.locals.now c.loop-local.local-index c.local-item.result c.loop-local-test.true
+    ∙ ap (λ (x : tree.Local). tree.and_local x others) (sym c.local-item.is)
     in
     sym (first-here c.loop-local.at c.local-item.result others c.args.next (sym c.is_initialised.ensures ∙ c.if-is_initialised.true))
     ∙ ap (λ (ls : tree.Locals). locals_first c.loop-local.at ls c.args.next) (sym more)
@@ -21,9 +22,11 @@ pub loop-local-preserved : goal.loop-local-preserved
 loop-local-preserved c =
     let others = locals_of (drop (c.loop-local.local-index + 1) c.args.locals.now) in
     let more : locals_of (drop c.loop-local.local-index c.args.locals.now) ≡ tree.and_local c.local-item.result others =
-    at_drop_more locals_of c.args.locals.now c.loop-local.local-index c.local-item.result c.loop-local-test.true ∙ ap (λ (x : tree.Local). tree.and_local x others) (sym c.local-item.is)
+    at_drop_more locals_of c.args.locals.now c.loop-local.local-index c.local-item.result c.loop-local-test.true
+    ∙ ap (λ (x : tree.Local). tree.and_local x others) (sym c.local-item.is)
     in
-    let size : c.count_local-at.result ≡ count_local c.local-item.result = omega (arith, c.count_local-at.ensures, c.loop-local.invariant.at, ap count_locals more, c.requires) in
+    let size : c.count_local-at.result ≡ count_local c.local-item.result = omega
+    (arith, c.count_local-at.ensures, c.loop-local.invariant.at, ap count_locals more, c.requires) in
     record {
       first =
           ap (λ k. locals_first (c.loop-local.at + k) others c.args.next) size

@@ -32,19 +32,22 @@ nodes_of-requires-clause-bodies c =
 
 pub nodes_of-requires-clause-plain : goal.nodes_of-requires-clause-plain
 nodes_of-requires-clause-plain c =
-    subst (λ (p : tree.Program). PlainItems p.items) (sym c.program-program.ensures.value) (well_formed-plain c.args.checked c.program-program.ensures.well_formed)
+    subst (λ (p : tree.Program). PlainItems p.items) (sym c.program-program.ensures.value)
+    (well_formed-plain c.args.checked c.program-program.ensures.well_formed)
 
 pub invariant_of-result : goal.invariant_of-result
 invariant_of-result c =
     let top = c.program-program.ensures.value in
     let items : c.program.inside.items.items ≡ c.args.checked.items = ap (λ (p : tree.Program). p.items) (c.program.view_is ∙ top) in
     let same : c.in_ok-main-2.main ≡ c.in_ok-main.main = search rules in
-    tabled c.args.checked c.in_ok-nodes.nodes.items c.in_ok-lines.lines.items c.in_ok-bodies.bodies.items c.in_ok-main-2.main c.in_ok-globals.globals.items c.in_ok-locks.locks.items c.program-program.ensures.well_formed c.requires
+    tabled c.args.checked c.in_ok-nodes.nodes.items c.in_ok-lines.lines.items c.in_ok-bodies.bodies.items c.in_ok-main-2.main
+    c.in_ok-globals.globals.items c.in_ok-locks.locks.items c.program-program.ensures.well_formed c.requires
     (c.in_ok-nodes.ensures.nodes ∙ (λ i. items_nodes (c.deref-6.ensures.value i) 0 (file_scope (c.deref-4.ensures.value i) (top i).items) 1 (top i).items))
     (omega (arith, c.in_ok-nodes.nodes.ok.0, c.in_ok-nodes.ensures.len, ap count_program top))
     (c.in_ok-lines.ensures.lines ∙ ap action_lines top)
     (omega (arith, c.in_ok-lines.lines.ok.0, c.in_ok-lines.ensures.len, ap count_program top))
     (c.in_ok-bodies.ensures ∙ ap (items_tables 1) (c.deref-3.ensures.value ∙ items))
-    (ap (λ (bs : List Body). position starts_here bs) (sym c.deref-7.ensures.value) ∙ sym c.place_of_main.ensures.value ∙ c.in_ok-main.ensures.ok_part ∙ ap (λ k. Some k) (sym same))
+    (ap (λ (bs : List Body). position starts_here bs) (sym c.deref-7.ensures.value) ∙ sym c.place_of_main.ensures.value ∙ c.in_ok-main.ensures.ok_part
+    ∙ ap (λ k. Some k) (sym same))
     (c.in_ok-globals.ensures ∙ ap (λ (xs : List tree.Item). vars_from Global 0 (flat_map item_globals xs)) (c.deref.ensures.value ∙ items))
     (c.in_ok-locks.ensures ∙ ap (λ (xs : List tree.Item). vars_from Global 0 (map lock_variable (flat_map item_locks xs))) (c.deref-2.ensures.value ∙ items))

@@ -17,7 +17,8 @@ put_block_variables-returns-clause-vars t c =
     (λ i. locals_variables (locals_of (c.deref.ensures.value i)) ++ stmts_variables (stmts_of (c.deref-2.ensures.value i))) ∙ ap block_variables c.block.view_is
     in
     ok_same c.put_stmts.result c.put_stmts.new.vars.items (c.put_locals.new.vars.items ++ vars_from Own c.in_ok-cells.cells inner) _ c.put_stmts.ensures.vars
-    (joined Own c.args.cells c.in_ok-cells.cells c.args.vars.now.items c.put_locals.new.vars.items _ own inner c.in_ok-cells.ensures.vars c.in_ok-cells.ensures.after refl
+    (joined Own c.args.cells c.in_ok-cells.cells c.args.vars.now.items c.put_locals.new.vars.items _ own inner c.in_ok-cells.ensures.vars
+    c.in_ok-cells.ensures.after refl
     ∙ ap (λ vs. c.args.vars.now.items ++ vars_from Own c.args.cells vs) all)
 
 pub put_stmt-returns-in_ok-cells-in-If-default-default-Some-clause-vars :
@@ -45,7 +46,8 @@ put_stmts-loop-stmt-preserved t c =
     in
     record {
       vars =
-          joined Own c.loop-stmt.cells c.in_ok-cells.cells c.loop-stmt.vars.items c.put_stmt.new.vars.items _ own others c.in_ok-cells.ensures.vars c.in_ok-cells.ensures.after refl
+          joined Own c.loop-stmt.cells c.in_ok-cells.cells c.loop-stmt.vars.items c.put_stmt.new.vars.items _ own others c.in_ok-cells.ensures.vars
+          c.in_ok-cells.ensures.after refl
           ∙ ap (λ vs. c.loop-stmt.vars.items ++ vars_from Own c.loop-stmt.cells vs) (sym next)
           ∙ c.loop-stmt.invariant.vars;
       cells = omega (arith, c.in_ok-cells.ensures.after, c.loop-stmt.invariant.cells, ap cells_of next, cells_of-append own others);

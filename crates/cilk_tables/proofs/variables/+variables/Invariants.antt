@@ -8,6 +8,7 @@ use Rattle.cilk_tables.proofs.variables.+variables.Given as goal
 
 abbrev pub invariant-put_stmts-loop-stmt : goal.invariant-put_stmts-loop-stmt
 invariant-put_stmts-loop-stmt l = record {
-  vars : l.vars.items ++ vars_from Own l.cells (stmts_variables (stmts_of (drop l.stmt-index l.stmts))) ≡ l.initial.vars.items ++ vars_from Own l.initial.cells (stmts_variables (stmts_of l.stmts));
+  vars : l.vars.items ++ vars_from Own l.cells (stmts_variables (stmts_of (drop l.stmt-index l.stmts))) ≡ l.initial.vars.items
+      ++ vars_from Own l.initial.cells (stmts_variables (stmts_of l.stmts));
   cells : l.cells + cells_of (stmts_variables (stmts_of (drop l.stmt-index l.stmts))) ≡ l.initial.cells + cells_of (stmts_variables (stmts_of l.stmts));
 }

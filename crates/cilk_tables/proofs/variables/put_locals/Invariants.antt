@@ -8,6 +8,7 @@ use Rattle.cilk_tables.proofs.variables.put_locals.Given as goal
 
 abbrev pub invariant-loop-local : goal.invariant-loop-local
 invariant-loop-local l = record {
-  vars : l.vars.items ++ vars_from Own l.cells (locals_variables (locals_of (drop l.local-index l.locals))) ≡ l.initial.vars.items ++ vars_from Own l.initial.cells (locals_variables (locals_of l.locals));
+  vars : l.vars.items ++ vars_from Own l.cells (locals_variables (locals_of (drop l.local-index l.locals))) ≡ l.initial.vars.items
+      ++ vars_from Own l.initial.cells (locals_variables (locals_of l.locals));
   cells : l.cells + cells_of (locals_variables (locals_of (drop l.local-index l.locals))) ≡ l.initial.cells + cells_of (locals_variables (locals_of l.locals));
 }

@@ -7,6 +7,7 @@ use Rattle.cilk_tables.proofs.variables.put_words.Given as goal
 
 abbrev pub invariant-loop-word : goal.invariant-loop-word
 invariant-loop-word l = record {
-  vars : l.vars.items ++ vars_from Own l.cells (map (one_cell (pos 0)) (drop l.word-index l.words)) ≡ l.initial.vars.items ++ vars_from Own l.initial.cells (map (one_cell (pos 0)) l.words);
+  vars : l.vars.items ++ vars_from Own l.cells (map (one_cell (pos 0)) (drop l.word-index l.words)) ≡ l.initial.vars.items
+      ++ vars_from Own l.initial.cells (map (one_cell (pos 0)) l.words);
   cells : l.cells + cells_of (map (one_cell (pos 0)) (drop l.word-index l.words)) ≡ l.initial.cells + cells_of (map (one_cell (pos 0)) l.words);
 }

@@ -16,6 +16,7 @@ returns-clause-value c =
     let next : suc c.in_ok-index.index ≡ c.args.n = omega (arith, c.in_ok-index.ensures.0, c.in_ok-index.ensures.1) in
     let is : c.tables.inside.program ≡ c.args.self.now = search rules in
     let found : option_copied c.get.result ≡ slice_get c.tables.inside.nodes.items c.in_ok-index.index =
-    got c.as_slice-nodes.result.now c.in_ok-index.index c.get.result c.get.ensures.lookup.0 c.get.ensures.lookup.1 ∙ ap (λ (ns : List Node). slice_get ns c.in_ok-index.index) c.as_slice-nodes.ensures.value
+    got c.as_slice-nodes.result.now c.in_ok-index.index c.get.result c.get.ensures.lookup.0 c.get.ensures.lookup.1
+    ∙ ap (λ (ns : List Node). slice_get ns c.in_ok-index.index) c.as_slice-nodes.ensures.value
     in
     found ∙ c.tables.invariant.nodes_are c.in_ok-index.index ∙ (λ i. node_of (is i) (next i))

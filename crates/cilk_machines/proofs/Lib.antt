@@ -1,0 +1,2 @@
+pub mod Initial
+pub mod Cells
