@@ -1,0 +1,64 @@
+-- What has to be there for a plan to be carried out.
+use Rattle.std.specs.Prelude.{◌≡◌, ◌<◌, ◌+◌, ◌^◌, ℕ, ℤ, ⊤, true, false, List, length, Option, Some, None}
+use Rattle.cilk_terms.specs.declared.slot.Slot.{Slot}
+use Rattle.cilk_terms.specs.Slots.{area_cells}
+use Rattle.cilk_nodes.specs.declared.body.Body.{Body}
+use Rattle.cilk_frames.specs.Frames.{Frame, depth, left}
+use Rattle.cilk_stands.specs.Starts.{Takes}
+use Rattle.cilk_stands.specs.Reads.{lent}
+use Rattle.cilk_instances.specs.declared.ending.Ending.{Ending}
+use Rattle.cilk_instances.specs.declared.ending.Ending.TheVariants as ending
+use Rattle.cilk_instances.specs.Nodes.{Node, node_at, is_live, has_live_child, ended}
+use Rattle.cilk_agrees.specs.Laws.{sent}
+use Rattle.cilk_agrees.specs.Actions.{gone_to}
+use Rattle.cilk_plans.specs.declared.plan.Plan.{Plan}
+use Rattle.cilk_plans.specs.declared.plan.Plan.TheVariants as plan
+
+-- the cell lies in its area, and has a number of 32 bits
+pub record Fits (slot : Slot) (index : ℕ) (f : Frame) (globals : List ℤ) : Type 0 where
+  pub numbered : slot.offset + index < 2 ^ 32
+  pub there : slot.offset + index < length (area_cells (lent f globals true) slot.area)
+
+-- the instance lives, and is parked nowhere
+pub record Acting (ns : List Node) (k : ℕ) : Type 0 where
+  pub live : is_live (node_at ns k) ≡ true
+  pub free : (node_at ns k).parked ≡ None
+
+-- it can end, and this parent lives on
+pub record CanEnd (ns : List Node) (k : ℕ) (parent : Option ℕ) (how : Ending) : Type 0 where
+  pub acting : Acting ns k
+  pub childless : has_live_child ns k ≡ false
+  pub outlives : (r : ℕ) → parent ≡ Some r → is_live (node_at (ended ns k how) r) ≡ true
+
+-- a body takes the arguments, and one activation more may stand in the frame
+pub record CanEnter (f : Frame) (body : Option Body) (arguments : List ℤ) : Type 0 where
+  pub takes : Takes body arguments
+  pub depth : depth f < 256
+
+-- a child may start
+pub record CanSpawn (ns : List Node) (k : ℕ) (body : Option Body) (arguments : List ℤ) : Type 0 where
+  pub takes : Takes body arguments
+  pub room : (node_at ns k).children + 1 < 2 ^ 32
+
+-- what the plan needs besides
+abbrev pub Needs : List Node → List ℤ → Frame → Option Body → Plan → Type 0
+Needs ns cells f body plan.Wait = ⊥
+Needs ns cells f body plan.Park = ⊤
+Needs ns cells f body plan.End = CanEnd ns f.id (node_at ns f.id).parent ending.Aborted
+Needs ns cells f body (plan.Trap kind n) = ⊤
+Needs ns cells f body (plan.Take child n reached z) = Fits reached.slot reached.index f cells
+Needs ns cells f body (plan.Enter child n inlet arguments) = CanEnter f body arguments
+Needs ns cells f body (plan.Go n to) = ⊤
+Needs ns cells f body (plan.Write n reached z to) = Fits reached.slot reached.index (gone_to to f) cells
+Needs ns cells f body (plan.Call n awaits callee arguments to) = CanEnter f body arguments
+Needs ns cells f body (plan.Leave n) = 1 < depth f
+Needs ns cells f body (plan.Answer n reached z) = (1 < depth f) × Fits reached.slot reached.index (left f) cells
+Needs ns cells f body (plan.Return n z) = CanEnd (sent ns f.id z) f.id (node_at ns f.id).parent ending.Returned
+Needs ns cells f body (plan.Spawn n receiver callee arguments to) = CanSpawn ns f.id body arguments
+Needs ns cells f body (plan.Print n bytes to) = ⊤
+Needs ns cells f body (plan.Turn n lock now to) = ⊤
+Needs ns cells f body (plan.Abort n to) = ⊤
+
+pub record Ready (ns : List Node) (cells : List ℤ) (f : Frame) (body : Option Body) (plan : Plan) : Type 0 where
+  pub acting : Acting ns f.id
+  pub needs : Needs ns cells f body plan

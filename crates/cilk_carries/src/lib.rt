@@ -1,0 +1,16 @@
+//! A plan is carried out: what one step changes in the cells, the locks, the output, the tree and
+//! the hands.
+#![tactic(auto)]
+
+mod carry;
+mod did;
+mod entering;
+mod parts;
+mod releasing;
+mod returning;
+mod starting;
+mod writing;
+
+pub use carry::carry_out;
+pub use did::{Did, Done, NoMemory, Outcome};
+pub use parts::Parts;

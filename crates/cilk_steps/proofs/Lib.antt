@@ -1,0 +1,4 @@
+pub mod Waits
+pub mod Ways
+pub mod Left
+pub mod Fits

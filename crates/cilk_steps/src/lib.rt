@@ -1,0 +1,17 @@
+//! The step of an instance, planned before anything is changed.
+#![tactic(auto)]
+
+mod act;
+mod delivery;
+mod laws;
+mod leaving;
+mod plan;
+mod scene;
+mod waiting;
+
+pub use cilk_plans::{Kind, Plan};
+pub use cilk_syntax::Memory;
+pub use laws::scenes_fit;
+pub use plan::plan_step;
+pub use scene::Scene;
+pub use waiting::has_to_wait;
