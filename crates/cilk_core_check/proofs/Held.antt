@@ -71,7 +71,12 @@ pub record OwnerAlong {X : Type 0} (faults : List X → X → List CheckFault) (
 pub Has-along_cases : {X : Type 0} (faults : List X → X → List CheckFault) (before xs : List X) (f : CheckFault) → Has (along faults before xs) f → OwnerAlong faults before xs f
 Has-along_cases faults before [] f h = absurd h
 Has-along_cases faults before (x ∷ xs) f h =
-    elim (Has-append_cases (faults before x) (along faults (before ++ x ∷ []) xs) f h) [ inl k ↦ record { between = []; owner = x; after = xs; order = refl; has = rw append-nil k } | inr k ↦ let o = Has-along_cases faults (before ++ x ∷ []) xs f k in record { between = x ∷ o.between; owner = o.owner; after = o.after; order = ap (λ ys. x ∷ ys) o.order; has = rw append_assoc at o.has } ]
+    elim (Has-append_cases (faults before x) (along faults (before ++ x ∷ []) xs) f h) [
+      | inl k ↦ record { between = []; owner = x; after = xs; order = refl; has = rw append-nil k }
+      | inr k ↦
+          let o = Has-along_cases faults (before ++ x ∷ []) xs f k in
+          record { between = x ∷ o.between; owner = o.owner; after = o.after; order = ap (λ ys. x ∷ ys) o.order; has = rw append_assoc at o.has }
+    ]
 
 -- r is a fault of the list or a, and none of them stands before it
 pub record IsFirstOf (a : CheckFault) (fs : List CheckFault) (r : CheckFault) : Type 0 where

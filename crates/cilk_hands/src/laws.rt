@@ -78,8 +78,10 @@ pub fn names_go_along()
 /// What the named places hold is what the workers have, worker by worker.
 pub fn names_are_read()
     ensures workers { (name : Frame → Path) (places : List (PlaceOf Frame)) → length (named name places) ≡ length places }
-    ensures hand { (name : Frame → Path) (places : List (PlaceOf Frame)) (w : ℕ) → model.hand_of (named name places) w ≡ option_map name (hand_of places w) }
-    ensures deque { (name : Frame → Path) (places : List (PlaceOf Frame)) (w : ℕ) → model.deque_of (named name places) w ≡ map name (deque_of places w) }
+    ensures hand { (name : Frame → Path) (places : List (PlaceOf Frame)) (w : ℕ)
+        → model.hand_of (named name places) w ≡ option_map name (hand_of places w) }
+    ensures deque { (name : Frame → Path) (places : List (PlaceOf Frame)) (w : ℕ)
+        → model.deque_of (named name places) w ≡ map name (deque_of places w) }
     ensures bottom { (name : Frame → Path) (deque : List Frame) → option_map name (bottom_of deque) ≡ model.bottom_of (map name deque) }
     ensures above { (name : Frame → Path) (deque : List Frame) → map name (above_bottom deque) ≡ model.above_bottom (map name deque) }
     ensures top { (name : Frame → Path) (deque : List Frame) → option_map name (top_of deque) ≡ model.top_of (map name deque) }

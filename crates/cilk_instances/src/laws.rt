@@ -30,7 +30,8 @@ pub fn paths_are_names()
     ensures child { (ns : List Node) (i p : ℕ) → IsTree ns → (node_at ns i).parent ≡ Some p
         → path_at ns i ≡ child_path (path_at ns p) (node_at ns i).ordinal }
     ensures apart { (ns : List Node) (i j : ℕ) → IsTree ns → i < length ns → j < length ns → path_at ns i ≡ path_at ns j → i ≡ j }
-    ensures below { (ns : List Node) (k i : ℕ) → IsTree ns → k < length ns → i < length ns → is_below (path_at ns k) (path_at ns i) ≡ descends ns k i }
+    ensures below { (ns : List Node) (k i : ℕ) → IsTree ns → k < length ns → i < length ns
+        → is_below (path_at ns k) (path_at ns i) ≡ descends ns k i }
     ensures live_child { (ns : List Node) (i : ℕ) → IsTree ns → i < length ns
         → has_live_child ns i ≡ list_any (λ j. is_child (path_at ns i) (path_at ns j)) (live_ids ns) }
 {}
@@ -43,7 +44,8 @@ pub fn paths_stay()
     ensures taking { (ns : List Node) (j i : ℕ) → IsTree ns → j < length ns → path_at (taken ns j) i ≡ path_at ns i }
     ensures marks { (ns : List Node) (k i : ℕ) → IsTree ns → path_at (marked_below ns k) i ≡ path_at ns i }
     ensures end { (ns : List Node) (j : ℕ) (ending : Ending) (i : ℕ) → IsTree ns → j < length ns → path_at (ended ns j ending) i ≡ path_at ns i }
-    ensures parking { (ns : List Node) (j : ℕ) (frame : Option Frame) (i : ℕ) → IsTree ns → j < length ns → path_at (with_parked ns j frame) i ≡ path_at ns i }
+    ensures parking { (ns : List Node) (j : ℕ) (frame : Option Frame) (i : ℕ) → IsTree ns → j < length ns
+        → path_at (with_parked ns j frame) i ≡ path_at ns i }
 {}
 
 /// The ids of those that live, in the order of birth.
@@ -54,7 +56,8 @@ pub fn ids_change()
     ensures delivery { (ns : List Node) (c : ℕ) (z : ℤ) → IsTree ns → live_ids (delivered ns c z) ≡ live_ids ns }
     ensures taking { (ns : List Node) (i : ℕ) → i < length ns → live_ids (taken ns i) ≡ live_ids ns }
     ensures marks { (ns : List Node) (k : ℕ) → live_ids (marked_below ns k) ≡ live_ids ns }
-    ensures end { (ns : List Node) (i : ℕ) (ending : Ending) → i < length ns → live_ids (ended ns i ending) ≡ filter (λ j. not (nat_eq j i)) (live_ids ns) }
+    ensures end { (ns : List Node) (i : ℕ) (ending : Ending) → i < length ns
+        → live_ids (ended ns i ending) ≡ filter (λ j. not (nat_eq j i)) (live_ids ns) }
     ensures parking { (ns : List Node) (i : ℕ) (frame : Option Frame) → i < length ns → live_ids (with_parked ns i frame) ≡ live_ids ns }
 {}
 

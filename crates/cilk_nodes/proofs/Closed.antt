@@ -119,7 +119,8 @@ module _ (G : Items → Type 0) (g-nil : G []) where
         let before = each-front G (first_lists first round items) rest h in
         let behind = each-back G (first_lists first round items) rest h in
         let mark = test-good round items behind.0 good in
-        each-append Next (first_lists first round items) rest (first-closed first round items before behind.0 good) (test-closed test None body items (pieces-good body (at_test round ∷ items) behind.1 mark) good, stmts-closed body (at_test round ∷ items) behind.1 mark)
+        each-append Next (first_lists first round items) rest (first-closed first round items before behind.0 good)
+        (test-closed test None body items (pieces-good body (at_test round ∷ items) behind.1 mark) good, stmts-closed body (at_test round ∷ items) behind.1 mark)
     stmt-closed (loop first test (Some advance) body) items h good =
         let round : Round = round_of test (Some advance) body in
         let lists : List Items = stmts_lists body (at_advance advance round ∷ items) in

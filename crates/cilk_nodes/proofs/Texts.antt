@@ -161,7 +161,8 @@ to-text names b k at n (tree.and_local (tree.declared d) rest) others items r h 
     text : List Row
     text = locals_rows inner b k behind (n + 1) rest others items
 
-    by_side : Has (own_rows names b at n (tree.and_local (tree.declared d) rest) others items) r ⊎ Has (rows_from k (inlet_bodies inner behind (n + 1) rest)) r → (Has (own_rows inner b behind (n + 1) rest others items) r ⊎ Has (rows_from k (inlet_bodies inner behind (n + 1) rest)) r → Has text r) → Has (first ++ text) r
+    by_side : Has (own_rows names b at n (tree.and_local (tree.declared d) rest) others items) r ⊎ Has (rows_from k (inlet_bodies inner behind (n + 1) rest)) r
+        → (Has (own_rows inner b behind (n + 1) rest others items) r ⊎ Has (rows_from k (inlet_bodies inner behind (n + 1) rest)) r → Has text r) → Has (first ++ text) r
     by_side (inl own) later = elim (Has-append_cases first (own_rows inner b behind (n + 1) rest others items) r (subst (λ xs. Has xs r) (shape-rows-are inner b at (named_place d.name) d.shape (label_locals inner behind (n + 1) rest others) items) own)) [
       | inl x ↦ Has-append_left first text r x
       | inr x ↦ Has-append_right first text r (later (inl x))

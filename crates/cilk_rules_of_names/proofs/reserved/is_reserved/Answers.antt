@@ -1,9 +1,14 @@
 use Rattle.cilk_rules_of_names.specs.Reserved.{c_keywords, library_names}
-use Rattle.std.proofs.Common.{◌++◌}
-use Rattle.cilk_rules_of_names.proofs.Spelled.{is_one_of_none}
+use Rattle.std.proofs.Common.{◌++◌, drop}
+use Rattle.cilk_rules_of_names.proofs.Spelled.{IsNone, is_one_of_none}
 use Rattle.cilk_rules_of_names.proofs.reserved.is_reserved.Goals as goal
 
 pub returns-in_default : goal.returns-in_default
 returns-in_default c =
     let d = c.in_default in
-    is_one_of_none (c_keywords ++ library_names) c.args.name.now (d.not-auto, (d.not-case, (d.not-char, (d.not-const, (d.not-text, (d.not-double, (d.not-enum, (d.not-extern, (d.not-float, (d.not-goto, (d.not-long, (d.not-register, (d.not-short, (d.not-signed, (d.not-sizeof, (d.not-static, (d.not-struct, (d.not-switch, (d.not-typedef, (d.not-union, (d.not-unsigned, (d.not-volatile, (d.not-private, (d.not-shared, (d.not-Self, (d.not-Cilk_alloca, (d.not-Cilk_fence, (d.not-printf, (d.not-Cilk_lock_init, (d.not-Cilk_lock, (d.not-Cilk_unlock, tt)))))))))))))))))))))))))))))))
+    let library : IsNone library_names c.args.name.now =
+    (d.not-private, (d.not-shared, (d.not-Self, (d.not-Cilk_alloca, (d.not-Cilk_fence, (d.not-printf, (d.not-Cilk_lock_init, (d.not-Cilk_lock, (d.not-Cilk_unlock, tt))))))))) in
+    let later : IsNone (drop 12 c_keywords ++ library_names) c.args.name.now =
+    (d.not-short, (d.not-signed, (d.not-sizeof, (d.not-static, (d.not-struct, (d.not-switch, (d.not-typedef, (d.not-union, (d.not-unsigned, (d.not-volatile, library)))))))))) in
+    is_one_of_none (c_keywords ++ library_names) c.args.name.now
+    (d.not-auto, (d.not-case, (d.not-char, (d.not-const, (d.not-text, (d.not-double, (d.not-enum, (d.not-extern, (d.not-float, (d.not-goto, (d.not-long, (d.not-register, later))))))))))))
