@@ -29,9 +29,10 @@ wrong-bodies:
 budget:
 	tools/gate_budget
 
-# Measures ./cilk print beside gcc on texts of the same size and shape.
+# Measures ./cilk print beside gcc on texts of the same size and shape, and ./cilk run beside ocamldebug.
 bench: cilk
 	tools/bench ./cilk
+	tools/bench_runs ./cilk
 
 clean:
 	rm -rf cilk crates/*/out

@@ -3,7 +3,7 @@ use Rattle.std.specs.Prelude.{◌≡◌, ℕ, List, Option}
 use Rattle.cilk_commands.specs.Printing.{Prints, PrintsFront}
 use Rattle.cilk_commands.specs.Checking.{Passes, PassesFront}
 use Rattle.cilk_commands.specs.Running.{Runs, RunsFront}
-use Rattle.cilk_commands.specs.Loading.{Unprinted, Unready}
+use Rattle.cilk_commands.specs.Loading.{Unready}
 use Rattle.cilk_commands.specs.declared.failure.Failure.{Failure}
 use Rattle.cilk_commands.specs.declared.status.Status.{Status}
 use Rattle.cilk_commands.specs.declared.status.Status.TheVariants.{Done}
@@ -24,6 +24,6 @@ Begins (task.Run limit) known old new = RunsFront limit known old new
 
 -- or it has done nothing with the bytes of a text, for this reason
 abbrev pub Reason : Task → List ℕ → Failure → Type 0
-Reason task.Print = Unprinted
+Reason task.Print = Unready
 Reason task.Check = Unready
 Reason (task.Run limit) = Unready

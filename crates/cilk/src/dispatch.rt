@@ -31,7 +31,6 @@ pub fn run<T: Texts, O: Write, E: Write>(
     }
 }
 
-#[tactic(auto, using(crate::proofs::Ended::unread))]
 fn obey<T: Texts, O: Write, E: Write>(
     alloc: Global,
     request: &Request<'_>,

@@ -1,223 +1,317 @@
--- What one more child makes of the instances of the tree, and of those of the definition of runs.
-use Rattle.std.proofs.Common.{◌≡◌, ℕ, ℤ, ◌+◌, ◌<◌, Bool, true, false, List, [], ◌∷◌, ◌++◌, length, Option, Some, None, is_some, refl, sym, ap, ◌∙◌, subst, arith, if◌then◌else◌}
-use Rattle.std.specs.Prelude.{IfSome, option_map}
-use Rattle.cilk_core.specs.Tree as tree
-use Rattle.cilk_model.specs.Labelled.{Taker}
-use Rattle.cilk_model.specs.Label.{label}
-use Rattle.cilk_model.specs.Values.{Cell}
-use Rattle.cilk_model.specs.Path.{Path, same_path, child_path, parent_of}
+-- A spawn: the parent goes on by itself, and then a child is born.
+use Rattle.std.proofs.Common.{◌≡◌, ◌≢◌, ◌+◌, ◌<◌, ◌≤◌, ℕ, Bool, true, false, ◌||◌, cond, List, [], ◌∷◌, ◌++◌, map, length, Option, Some, None, is_some, refl, sym, ap, ◌∙◌, subst, arith, inl, inr, All}
+use Rattle.std.specs.Prelude.{sum_by}
+use Rattle.std.proofs.lemmas.List.{map-append}
+use Rattle.std.proofs.lemmas.List.Elements.{All-head, All-tail, All-push, All-weaker}
+use Rattle.cilk_syntax.specs.Tree.{Program}
+use Rattle.cilk_labelled.specs.Labelled.{Labelled}
+use Rattle.cilk_labelled.specs.Bodies.{label}
+use Rattle.cilk_model.specs.Path.{Path, same_path, child_path}
 use Rattle.cilk_model.specs.Instance as model
+use Rattle.cilk_model.specs.Instance.{Instance}
 use Rattle.cilk_model.specs.State as state
-use Rattle.cilk_model.specs.Change.{next_child, receiver_of, child_of, with_birth}
-use Rattle.cilk_model.specs.Change as change
-use Rattle.cilk_model.specs.Run.{Standing}
-use Rattle.cilk_model.proofs.Live.{same-self, same-is, same-sym, either_of, at-changed_other, at-changed_same, at-push}
-use Rattle.cilk_model.proofs.Family.{parent-child}
+use Rattle.cilk_model.specs.State.{State, changed}
+use Rattle.cilk_model.specs.Places.{PlaceOf, deque_of, with_hand, with_deque, pushed_by, named}
+use Rattle.cilk_model.specs.Scheduler as sched
+use Rattle.cilk_placed.specs.Places.{times_held}
+use Rattle.cilk_placed.proofs.Entries.{live-cons}
 use Rattle.cilk_frame.specs.Frames.{Frame}
+use Rattle.cilk_stands.specs.Stands.{StandsFor}
+use Rattle.cilk_spawn.specs.declared.delivery.Delivery.{Delivery}
 use Rattle.cilk_spawn.specs.declared.receiver.Receiver.{Receiver}
-use Rattle.cilk_spawn.specs.Nodes.{Node, node_at, with_child, path_at, IsTree}
-use Rattle.cilk_spawn.specs.Instances.{Instance, Entry, instance_at, changed, fresh, one_more_child, instance_of, instances_of}
-use Rattle.cilk_spawn.proofs.Trees.{path_child}
-use Rattle.cilk_spawn.proofs.Grown.{grown_length, grows, tree_child, path_old}
-use Rattle.cilk_spawn.proofs.Instances.{child_map}
-use Rattle.cilk_spawn.proofs.Paths.{never}
-use Rattle.cilk_sched.specs.Places.{Place}
-use Rattle.cilk_agree.specs.Alike.{Receives, SameDeliveries, SameInstance, SameEntries, IsFrameOf, home_of}
-use Rattle.cilk_agree.specs.Agrees.{name_in, is_parked}
-use Rattle.cilk_agree.proofs.Entries.{changed-same, push-same, entries-grow, entries-move}
-use Rattle.cilk_agree.proofs.Here.{Here, Alone, alone}
+use Rattle.cilk_spawn.specs.Nodes.{Node, IsTree, IsFrom, node_at, is_live, live_ids, new_child, with_child, path_at}
+use Rattle.cilk_spawn.proofs.Lists.{decide, map_those, those_pass}
+use Rattle.cilk_spawn.proofs.Trees.{ids_same, path_child, child_there, live_there}
+use Rattle.cilk_spawn.proofs.Grown.{Grown, grown, grows, grown_length, grown_other, parent_old, tree_child, path_old, ids_child}
+use Rattle.cilk_spawn.proofs.Paths.{other_there}
+use Rattle.cilk_sched.specs.Count.{AllHeld}
+use Rattle.cilk_sched.proofs.Count.{AllHeld-weaker}
+use Rattle.cilk_sched.proofs.Names.{named-with_hand, named-push, named-agrees}
+use Rattle.cilk_sched.proofs.Seats.{deque-kept}
+use Rattle.cilk_agree.specs.Outside as outside
+use Rattle.cilk_agree.specs.declared.lock.Lock.{Lock}
+use Rattle.cilk_agree.specs.declared.lock.Lock.TheVariants as lock
+use Rattle.cilk_agree.specs.Outside.{Outside, Outcome, lock_by, outcome_by, LockWithin, OutcomeWithin, SameOutside}
+use Rattle.cilk_agree.specs.Alike.{Tells, SameDeliveries, Receives, procedure_in, taker_of}
+use Rattle.cilk_agree.specs.Agrees.{Held, Parked, Agrees, instead, entry_of, instances_of, name_in}
+use Rattle.cilk_agree.specs.Laws.{Turn, path_of, Becomes, Birth, after_birth}
+use Rattle.cilk_agree.proofs.Sets.{Sets, sets, instead-here, instead-there}
+use Rattle.cilk_agree.proofs.Frames.{held-at, held-placed}
+use Rattle.cilk_agree.proofs.Alone.{holds, inside, others-stand}
+use Rattle.cilk_agree.proofs.Acts.{local-agrees}
 
--- a path that has a parent is that of a child
-child_by : (k : ℕ) (q r : Path) (o : Option Path) → option_map (λ x. k ∷ x) o ≡ Some r → ((s : Path) → o ≡ Some s → (m : ℕ) × (q ≡ child_path s m)) → (m : ℕ) × (k ∷ q ≡ child_path r m)
-child_by k q r None h rest = cc
-child_by k q r (Some s) h rest =
-    let m = rest s refl in
-    let e : k ∷ s ≡ r = cc in
-    (m.0, ap (λ x. k ∷ x) m.1 ∙ ap (λ x. child_path x m.0) e)
+-- more ids, of which the first n keep their paths
+module _ (up now : ℕ → Path) (n l : ℕ) (more : n ≤ l) (same : (i : ℕ) → i < n → now i ≡ up i) where
+  lock_grows : (x : Lock) → LockWithin n x → (lock_by up x ≡ lock_by now x) × LockWithin l x
+  lock_grows lock.Unset h = (refl, tt)
+  lock_grows lock.Free h = (refl, tt)
+  lock_grows (lock.Held i) h = (ap state.held (sym (same i h)), omega (arith, more, h))
 
-child_of_parent : (q r : Path) → parent_of q ≡ Some r → (m : ℕ) × (q ≡ child_path r m)
-child_of_parent [] r h = cc
-child_of_parent (k ∷ []) r h = let e : [] ≡ r = cc in (k, ap (λ x. child_path x k) e)
-child_of_parent (k ∷ l ∷ q) r h =
-    child_by k (l ∷ q) r (parent_of (l ∷ q)) h (λ s e. child_of_parent (l ∷ q) s e)
+  locks_grow : (xs : List Lock) → All (LockWithin n) xs → map (lock_by up) xs ≡ map (lock_by now) xs
+  locks_grow [] h = refl
+  locks_grow (x ∷ xs) h =
+      let one = (lock_grows x (All-head (LockWithin n) x xs h)).0 in
+      let rest = locks_grow xs (All-tail (LockWithin n) x xs h) in
+      λ i. one i ∷ rest i
 
-counted_lives : (o : Option model.Instance) (n : ℕ) → option_map (λ (i : model.Instance). i.children) o ≡ Some n → is_some o ≡ true
-counted_lives None n h = cc
-counted_lives (Some i) n h = refl
+  outcome_grows : (x : Outcome) → OutcomeWithin n x → (outcome_by up x ≡ outcome_by now x) × OutcomeWithin l x
+  outcome_grows outside.running h = (refl, tt)
+  outcome_grows (outside.finished z) h = (refl, tt)
+  outcome_grows (outside.trapped kind i k) h = (ap (λ q. state.trapped kind q k) (sym (same i h)), omega (arith, more, h))
 
-not_some : (o : Option model.Instance) → is_some o ≡ false → o ≡ None
-not_some None h = refl
-not_some (Some i) h = cc
+  pub outside-grows : (program : Labelled) (o : Outside) (s : State) → SameOutside program up n o s → SameOutside program now l o s
+  outside-grows program o s h = record {
+    cells = h.cells;
+    sizes = h.sizes;
+    locks = h.locks ∙ locks_grow o.locks h.holders;
+    holders = All-weaker (LockWithin n) (LockWithin l) (λ x inside. (lock_grows x inside).1) o.locks h.holders;
+    output = h.output;
+    outcome = h.outcome ∙ (outcome_grows o.outcome h.trapper).0;
+    trapper = (outcome_grows o.outcome h.trapper).1;
+  }
 
-number_is : (a b : ℕ) → Some a ≡ Some b → a ≡ b
-number_is a b e = cc
+  pub deliveries-grow : (program : Labelled) (b : ℕ) (ds : List Delivery) (es : List model.Delivery) → All (λ d. d.child < n) ds
+      → SameDeliveries program up b ds es → SameDeliveries program now b ds es
+  deliveries-grow program b [] [] within h = h
+  deliveries-grow program b [] (e ∷ es) within h = absurd h
+  deliveries-grow program b (d ∷ ds) [] within h = absurd h
+  deliveries-grow program b (d ∷ ds) (e ∷ es) within h =
+      let first = h.0 in (
+        record { child = same d.child (All-head (λ x. x.child < n) d ds within) ∙ first.child; value = first.value; receiver = first.receiver },
+        deliveries-grow program b ds es (All-tail (λ x. x.child < n) d ds within) h.1,
+      )
 
-either_none : (o : Option model.Instance) → either_of o None ≡ o
-either_none None = refl
-either_none (Some i) = refl
+-- no entry is at a path of none of these ids
+none-there : (ns : List Node) (who : ℕ → Instance) (q : Path) (ids : List ℕ) → All (λ i. same_path (path_at ns i) q ≡ false) ids
+    → state.is_live (map (entry_of ns who) ids) q ≡ false
+none-there ns who q [] h = refl
+none-there ns who q (i ∷ ids) h =
+    live-cons (entry_of ns who i) (map (entry_of ns who) ids) q
+    ∙ (λ j. All-head (λ x. same_path (path_at ns x) q ≡ false) i ids h j || none-there ns who q ids
+    (All-tail (λ x. same_path (path_at ns x) q ≡ false) i ids h) j)
 
--- a new child is not parked, and no other is less or more so
-parked_either : (b : Bool) (x y : Instance) (o r : Option Instance) → is_some x.parked ≡ is_some y.parked → is_parked o ≡ is_parked r → is_parked (if b then Some x else o) ≡ is_parked (if b then Some y else r)
-parked_either true x y o r one rest = one
-parked_either false x y o r one rest = rest
+not-held : (n : ℕ) (parked live : Bool) → n + cond parked 1 0 ≡ cond live 1 0 → live ≡ false → parked ≡ false
+not-held n true true h e = cc
+not-held n true false h e = absurd (omega (arith, h))
+not-held n false live h e = refl
 
-parked_by : (q : Path) (a : Entry) (others : List Entry) (o : Option Instance) (b : Bool) → is_parked (instance_at others q) ≡ is_parked o
-    → is_parked (instance_at ((if b then record a { instance = one_more_child a.instance } else a) ∷ others) q) ≡ is_parked (if same_path a.path q then Some a.instance else o)
-parked_by q a others o true rest =
-    parked_either (same_path a.path q) (one_more_child a.instance) a.instance (instance_at others q) o refl rest
-parked_by q a others o false rest =
-    parked_either (same_path a.path q) a.instance a.instance (instance_at others q) o refl rest
+no-frame : (o : Option Frame) (g : Frame) → o ≡ None → o ≡ Some g → ⊥
+no-frame o g none some = let e : None ≡ Some g = sym none ∙ some in cc
 
-parked_child : (p c q : Path) (receiver : Receiver) (entries : List Entry)
-    → is_parked (instance_at (changed p one_more_child entries ++ record { path = c; instance = fresh receiver } ∷ []) q) ≡ is_parked (instance_at entries q)
-parked_child p c q receiver [] = last (same_path c q)
-  where
-    last : (b : Bool) → is_parked (if b then Some (fresh receiver) else None) ≡ false
-    last true = refl
-    last false = refl
-parked_child p c q receiver (a ∷ entries) =
-    parked_by q a (changed p one_more_child entries ++ record { path = c; instance = fresh receiver } ∷ []) (instance_at entries q) (same_path a.path p) (parked_child p c q receiver entries)
+taker-same : (procedures now : ℕ → ℕ) (o : Option ℕ) → ((q : ℕ) → o ≡ Some q → now q ≡ procedures q) → taker_of procedures o ≡ taker_of now o
+taker-same procedures now None same = refl
+taker-same procedures now (Some q) same = sym (same q refl)
 
-module _ (p : tree.Program) (globals : List ℤ) (ns : List Node) (places : List Place) (at : Standing) (w : ℕ) (f : Frame) (here : Here p globals ns places at w f) (n : ℕ) (taker : Taker Cell) (callee : ℕ) (arguments : List ℤ) (receiver : Receiver) where
-  abbrev entries : state.Instances
-  entries = at.state.instances
+module _ (t : Turn) (f g : Frame) (receiver : Receiver) (callee : ℕ) (a c : Instance) (s : State) (b : Birth t f g receiver callee a c s) where
+  abbrev p : Program
+  p = t.program
 
-  abbrev path : Path
-  path = name_in ns f
+  abbrev ns : List Node
+  ns = t.machine.nodes
 
-  abbrev known : Alone p ns places at here.agrees.home w f
-  known = alone p globals ns places at w f here
+  abbrev k : ℕ
+  k = t.frame.id
 
-  abbrev parent : model.Instance
-  parent = known.instance
+  abbrev l : ℕ
+  l = length ns
 
-  abbrev child : Path
-  child = next_child path parent
+  abbrev gs : List Node
+  gs = grown ns k
 
-  abbrev born : model.Instance
-  born = child_of (label p) parent n taker callee arguments
+  abbrev ms : List Node
+  ms = with_child ns k callee receiver
 
-  abbrev nodes : List Node
-  nodes = with_child ns f.id receiver
+  abbrev q : Path
+  q = child_path (path_of t) ((node_at ns k).children + 1)
 
-  abbrev after : state.Instances
-  after = with_birth path (change.with_child parent) child born entries
+  abbrev who : ℕ → Instance
+  who = instead t.who k a
 
-  -- the body of the procedure of each instance, with that of the child
-  abbrev pub home_after : Path → ℕ
-  home_after q = if same_path q child then callee else here.agrees.home q
+  abbrev now : ℕ → Instance
+  now = instead who l c
 
-  pub tree-after : IsTree nodes
-  tree-after = tree_child ns f.id receiver known.live here.agrees.tree
+  -- the state where the parent alone has gone on
+  abbrev part : State
+  part = record s { instances = changed (path_of t) (λ _. a) t.at.state.instances }
 
-  pub more-nodes : length ns < length nodes
-  more-nodes = omega (arith, grown_length ns f.id receiver)
+  gone : Becomes t f (record (node_at ns k) { children = (node_at ns k).children + 1 }) a t.machine.outside part
+  gone = local-agrees t f (record (node_at ns k) { children = (node_at ns k).children + 1 }) a t.machine.outside part (record {
+    own = b.own;
+    stands = b.stands;
+    links = record { parent = refl; ordinal = refl; procedure = refl; ending = refl; aborted = refl; children = omega arith };
+    parked = refl;
+    from = t.agrees.tree.sent k;
+    tells = b.tells;
+    outside = let o = b.outside in record {
+      cells = o.cells;
+      sizes = o.sizes;
+      locks = o.locks;
+      holders = o.holders;
+      output = o.output;
+      outcome = o.outcome;
+      trapper = o.trapper;
+    };
+    instances = refl;
+  })
 
-  pub paths-stay : (i : ℕ) → i < length ns → path_at nodes i ≡ path_at ns i
-  paths-stay = path_old ns f.id receiver known.inside here.agrees.tree
+  there : k < l
+  there = inside t
 
-  pub path-child : path_at nodes (length ns) ≡ child
-  path-child =
-      let g = grows ns f.id receiver known.inside in
-      path_child nodes tree-after (length ns) f.id (ap (λ (x : Node). x.parent) g.child)
-      ∙ ap (λ (x : Node). child_path (path_at nodes f.id) x.ordinal) g.child
-      ∙ ap (λ (q : Path). child_path q ((node_at ns f.id).children + 1)) (paths-stay f.id known.inside)
-      ∙ ap (λ k. child_path path (k + 1)) known.same.children
+  births : Grown ns ms k callee receiver
+  births = grows ns k callee receiver there
 
-  path_lives : state.is_live entries path ≡ true
-  path_lives = ap is_some known.there
+  tree : IsTree ms
+  tree = tree_child ns k callee receiver (holds t).live t.agrees.tree
 
-  -- the child's path is new
-  child_new : state.is_live entries child ≡ false
-  child_new = never (state.is_live entries child) (λ live.
-      let c = here.placed.family path (parent.children + 1) live in
-      let number = number_is c.number parent.children (sym c.there ∙ ap (option_map (λ (x : model.Instance). x.children)) known.there) in
-      let within = c.within in
-      (omega arith))
+  size : length ms ≡ l + 1
+  size = grown_length ns k callee receiver
 
-  other_path : (q : Path) → state.is_live entries q ≡ true → same_path q child ≡ false
-  other_path q live = never (same_path q child) (λ same.
-      let both : true ≡ false = sym live ∙ ap (state.is_live entries) (same-is q child same) ∙ child_new in
-      cc)
+  old : (i : ℕ) → i < l → i ≢ l
+  old i h e = omega (arith, h, e)
 
-  parent_lives : (q r : Path) → parent_of q ≡ Some r → state.is_live entries q ≡ true → state.is_live entries r ≡ true
-  parent_lives q r e live =
-      let k = child_of_parent q r e in
-      let c = here.placed.family r k.0 (ap (state.is_live entries) (sym k.1) ∙ live) in
-      counted_lives (state.instance_at entries r) c.number c.there
+  set : Sets ns gs k (record (node_at ns k) { children = (node_at ns k).children + 1 })
+  set = sets ns k _ t.agrees.tree there (record { parent = refl; ordinal = refl; procedure = refl; ending = refl; aborted = refl; children = omega arith })
+      (t.agrees.tree.sent k)
 
-  home_stays : (q : Path) → state.is_live entries q ≡ true → home_after q ≡ here.agrees.home q
-  home_stays q live = ap (λ b. if b then callee else here.agrees.home q) (other_path q live)
+  stays : (i : ℕ) → i < l → path_at ms i ≡ path_at ns i
+  stays i h = path_old ns k callee receiver there t.agrees.tree i h
 
-  parent_home : (q : Path) (o : Option Path) → parent_of q ≡ o → state.is_live entries q ≡ true → home_of home_after o ≡ home_of here.agrees.home o
-  parent_home q None e live = refl
-  parent_home q (Some r) e live = home_stays r (parent_lives q r e live)
+  node : (i : ℕ) → i ≢ l → node_at ms i ≡ node_at gs i
+  node i ne = grown_other ns k callee receiver i ne
 
-  parent_same : SameInstance (label p) home_after nodes path (one_more_child (instance_of ns f.id)) (change.with_child parent)
-  parent_same =
-      let own = home_stays path path_lives in
-      let same = known.same in
-      record {
-        alone = same.alone;
-        body = own ∙ same.body;
-        children = ap (λ k. k + 1) same.children;
-        waiting = subst (λ b. SameDeliveries (label p) b (instance_of ns f.id).waiting parent.waiting) (sym own) same.waiting;
-        aborted = same.aborted;
-        receiver = subst (λ b. Receives (label p) b (instance_of ns f.id).receiver parent.receiver) (sym (parent_home path (parent_of path) refl path_lives)) same.receiver;
-        parked = subst (λ o. IfSome o (IsFrameOf (label p) nodes path (change.with_child parent))) (sym known.free) tt;
-      }
+  path : path_at ms l ≡ q
+  path =
+      path_child ms tree l k (ap (λ (n : Node). n.parent) births.child)
+      ∙ ap (λ (n : Node). child_path (path_at ms k) n.ordinal) births.child
+      ∙ ap (λ r. child_path r ((node_at ns k).children + 1)) (stays k there)
 
-  child_same : Receives (label p) parent.top.body receiver (receiver_of taker n) → SameInstance (label p) home_after nodes child (fresh receiver) born
-  child_same receives =
-      let above : home_of home_after (parent_of child) ≡ parent.top.body = ap (home_of home_after) (parent-child path (parent.children + 1)) ∙ home_stays path path_lives ∙ known.same.body in
-      record {
-        alone = refl;
-        body = ap (λ b. if b then callee else here.agrees.home child) (same-self child);
-        children = refl;
-        waiting = tt;
-        aborted = known.same.aborted;
-        receiver = subst (λ b. Receives (label p) b receiver (receiver_of taker n)) (sym above) receives;
-        parked = tt;
-      }
+  -- from the parent's step on
+  up-gone : (i : ℕ) → i < l → path_at ms i ≡ path_at gs i
+  up-gone i h = stays i h ∙ ap (λ (up : ℕ → Path). up i) (sym set.keeps.up)
 
-  instances_are : instances_of nodes ≡ changed path one_more_child (instances_of ns) ++ record { path = child_path path ((node_at ns f.id).children + 1); instance = fresh receiver } ∷ []
-  instances_are = child_map ns f.id receiver here.agrees.tree known.live
+  entries : instances_of ms now ≡ instances_of gs who ++ record { path = q; instance = c } ∷ []
+  entries =
+      ap (map (entry_of ms now)) (ids_child ns k callee receiver there)
+      ∙ map-append (entry_of ms now) (live_ids ns) (l ∷ [])
+      ∙ (λ j. map_those (entry_of ms now) (entry_of gs who) (λ i. is_live (node_at ns i)) l
+      (λ i h live. (λ r. record {
+        path = up-gone i h r;
+        instance = instead-there who l c i
+            (old i h) r;
+      })) j ++ record { path = path j; instance = instead-here who l c l refl j } ∷ [])
+      ∙ ap (λ ids. map (entry_of gs who) ids ++ record { path = q; instance = c } ∷ []) (sym (ids_same ns gs set.keeps.size set.keeps.lives))
 
-  pub instances-after : Receives (label p) parent.top.body receiver (receiver_of taker n) → SameEntries (label p) home_after nodes (instances_of nodes) after
-  instances-after receives =
-      let moved = entries-move (label p) ns here.agrees.home home_after (instances_of ns) entries (λ q live. (home_stays q live, parent_home q (parent_of q) refl live)) here.agrees.instances in
-      let larger = entries-grow ns nodes (let m = more-nodes in omega arith) paths-stay (label p) home_after (instances_of ns) entries moved in
-      let parents = changed-same (label p) home_after nodes path one_more_child (λ _. change.with_child parent) (instance_of ns f.id) parent (instances_of ns) entries larger known.once known.tells known.there parent_same in
-      let number : child_path path ((node_at ns f.id).children + 1) ≡ child = ap (λ k. child_path path (k + 1)) known.same.children in
-      let born_same = subst (λ q. SameInstance (label p) home_after nodes q (fresh receiver) born) (sym number) (child_same receives) in
-      subst (λ es. SameEntries (label p) home_after nodes es after) (sym instances_are)
-      (push-same (label p) home_after nodes (changed path one_more_child (instances_of ns)) (state.changed path (λ _. change.with_child parent) entries)
-      (record { path = child_path path ((node_at ns f.id).children + 1); instance = fresh receiver }) (record { path = child; instance = born }) parents number born_same)
+  procedures : (i : ℕ) → i ≢ l → procedure_in ms i ≡ procedure_in gs i
+  procedures i ne = ap (λ (n : Node). n.procedure) (node i ne)
 
-  pub parked-after : (q : Path) → at.scheduler.parked q ≡ is_parked (instance_at (instances_of nodes) q)
-  parked-after q =
-      here.agrees.parked q
-      ∙ sym (ap (λ (es : List Entry). is_parked (instance_at es q)) instances_are ∙ parked_child path (child_path path ((node_at ns f.id).children + 1)) q receiver (instances_of ns))
+  -- what is told of those that lived before
+  tells-old : (i : ℕ) → i ≢ l → is_live (node_at ms i) ≡ true → Tells (label p) (path_at ms) (procedure_in ms) (node_at ms i) (now i)
+  tells-old i ne live =
+      let lives = ap is_live (sym (node i ne)) ∙ live in
+      let h = gone.tells i lives in
+      let inside : i < l = subst (λ m. i < m) set.keeps.size (live_there gs i lives) in
+      let parent : (r : ℕ) → (node_at gs i).parent ≡ Some r → procedure_in ms r ≡ procedure_in gs r =
+      λ r e. procedures r (λ z. parent_old gs gone.tree i r e (z ∙ sym set.keeps.size)) in
+      subst (λ n. Tells (label p) (path_at ms) (procedure_in ms) n (now i)) (sym (node i ne))
+      (subst (Tells (label p) (path_at ms) (procedure_in ms) (node_at gs i)) (sym (instead-there who l c i ne)) (record {
+        procedure = h.procedure;
+        children = h.children;
+        aborted = h.aborted;
+        waiting =
+            deliveries-grow (path_at gs) (path_at ms) l (length ms) (omega (arith, size)) up-gone (label p) (node_at gs i).procedure (node_at gs i).waiting
+            (who i).waiting
+            (All-weaker (IsFrom gs i) (λ d. d.child < l) (λ d from. subst (λ m. d.child < m) set.keeps.size (child_there gs d.child i from))
+            (node_at gs i).waiting (gone.tree.sent i)) h.waiting;
+        receiver = subst (λ x. Receives (label p) x (node_at gs i).receiver (who i).receiver)
+            (taker-same (procedure_in gs) (procedure_in ms) (node_at gs i).parent parent) h.receiver;
+      }))
 
-  -- what is found at each path
-  abbrev parents : state.Instances
-  parents = state.changed path (λ _. change.with_child parent) entries
+  tells-new : Tells (label p) (path_at ms) (procedure_in ms) (node_at ms l) (now l)
+  tells-new =
+      subst (λ n. Tells (label p) (path_at ms) (procedure_in ms) n (now l)) (sym births.child)
+      (subst (Tells (label p) (path_at ms) (procedure_in ms) (new_child ns k callee receiver)) (sym (instead-here who l c l refl))
+      (b.child_tells (path_at ms) (procedure_in ms) (procedures k (old k there) ∙ ap (λ (procedures : ℕ → ℕ). procedures k) set.keeps.procedures)))
 
-  pub at-parent : state.instance_at after path ≡ Some (change.with_child parent)
-  at-parent =
-      at-push parents (record { path = child; instance = born }) path
-      ∙ ap (λ o. either_of o (if same_path child path then Some born else None)) (at-changed_same path (λ _. change.with_child parent) entries ∙ ap (option_map (λ _. change.with_child parent)) known.there)
+  abbrev after : List (PlaceOf Frame)
+  after = pushed_by t.machine.places t.worker f g
 
-  pub at-child : state.instance_at after child ≡ Some born
-  at-child =
-      at-push parents (record { path = child; instance = born }) child
-      ∙ ap (λ o. either_of o (if same_path child child then Some born else None))
-      (at-changed_other path child (λ _. change.with_child parent) entries (same-sym child path ∙ other_path path path_lives) ∙ not_some (state.instance_at entries child) child_new)
-      ∙ ap (λ b. if b then Some born else None) (same-self child)
+  names : named (name_in ns) t.machine.places ≡ named (name_in ms) t.machine.places
+  names = named-agrees (name_in ns) (name_in ms) t.machine.places
+      (AllHeld-weaker (Held p ns t.who) (λ x. name_in ns x ≡ name_in ms x)
+      (λ x h. sym (stays x.id (live_there ns x.id h.live))) t.machine.places t.agrees.held)
 
-  pub at-other : (q : Path) → same_path q path ≡ false → same_path child q ≡ false → state.instance_at after q ≡ state.instance_at entries q
-  at-other q old young =
-      at-push parents (record { path = child; instance = born }) q
-      ∙ ap (λ b. either_of (state.instance_at parents q) (if b then Some born else None)) young
-      ∙ either_none (state.instance_at parents q)
-      ∙ at-changed_other path q (λ _. change.with_child parent) entries old
+  frame-path : name_in ms f ≡ path_of t
+  frame-path = ap (path_at ms) b.own ∙ stays k there
+
+  child-path : name_in ms g ≡ q
+  child-path = ap (path_at ms) b.child_own ∙ path
+
+  placed : (sched.pushed t.at.scheduler t.worker (path_of t) q).places ≡ named (name_in ms) after
+  placed =
+      ap (λ ps. sched.with_hand (sched.with_deque ps t.worker (sched.deque_of ps t.worker ++ path_of t ∷ [])) t.worker (Some q)) (t.agrees.places ∙ names)
+      ∙ (λ j. sched.with_hand (sched.with_deque (named (name_in ms) t.machine.places) t.worker
+      (sched.deque_of (named (name_in ms) t.machine.places) t.worker ++ sym frame-path j ∷ [])) t.worker (Some (sym child-path j)))
+      ∙ ap (λ ps. sched.with_hand ps t.worker (Some (name_in ms g))) (sym (named-push (name_in ms) t.machine.places t.worker f))
+      ∙ sym (named-with_hand (name_in ms) (with_deque t.machine.places t.worker (deque_of t.machine.places t.worker ++ f ∷ [])) t.worker (Some g))
+
+  not-parked : t.at.scheduler.parked q ≡ false
+  not-parked =
+      not-held (sum_by (times_held q) t.at.scheduler.places) (t.at.scheduler.parked q) (state.is_live t.at.state.instances q) (t.placed.once q)
+      (ap (λ es. state.is_live es q) t.agrees.instances
+      ∙ none-there ns t.who q (live_ids ns) (λ i d h.
+      let live = those_pass (λ j. is_live (node_at ns j)) l i d h in
+      let inside = live_there ns _ live in
+      (λ j. same_path (sym (stays _ inside) j) (sym path j)) ∙ other_there ms _ l tree (omega (arith, inside, size)) (omega (arith, size)) (old _ inside)))
+
+  abbrev H : Frame → Type 0
+  H = Held p ms now
+
+  held-old : (x : Frame) → Held p ns who x → H x
+  held-old x h =
+      let ne = old x.id (live_there ns x.id h.live) in
+      record { live = births.lives x.id ne ∙ h.live; stands = subst (StandsFor (label p) x) (sym (instead-there who l c x.id ne)) h.stands }
+
+  held-parent : H f
+  held-parent = held-old f (record {
+    live = ap (λ i. is_live (node_at ns i)) b.own
+        ∙ (holds t).live;
+    stands = subst (StandsFor (label p) f) (sym (instead-here t.who k a f.id b.own)) b.stands;
+  })
+
+  held-child : H g
+  held-child = record {
+    live = ap (λ i. is_live (node_at ms i)) b.child_own
+        ∙ ap is_live births.child;
+    stands = subst (StandsFor (label p) g) (sym (instead-here who l c g.id b.child_own)) b.child_stands;
+  }
+
+  rest-held : AllHeld H (with_hand t.machine.places t.worker None)
+  rest-held = AllHeld-weaker (Held p ns who) H held-old (with_hand t.machine.places t.worker None) (others-stand t a)
+
+  pub spawn-agrees : Agrees p (after_birth t f g receiver callee) now (record { state = s; scheduler = sched.pushed t.at.scheduler t.worker (path_of t) q })
+  spawn-agrees = record {
+    tree = tree;
+    outside = outside-grows (path_at ns) (path_at ms) l (length ms) (omega (arith, size)) stays (label p) t.machine.outside s b.outside;
+    instances = b.instances ∙ ap (λ es. es ++ record { path = q; instance = c } ∷ []) gone.instances ∙ sym entries;
+    tells = λ i live. elim (decide i l) [
+      | inl e ↦ subst (λ j. Tells (label p) (path_at ms) (procedure_in ms) (node_at ms j) (now j)) (sym e) tells-new
+      | inr ne ↦ tells-old i ne live
+    ];
+    places = placed;
+    parked = λ i h. elim (decide i l) [
+      | inl e ↦ ap t.at.scheduler.parked (ap (path_at ms) e ∙ path) ∙ not-parked
+          ∙ sym (ap (λ (n : Node). is_some n.parked) (ap (node_at ms) e ∙ births.child))
+      | inr ne ↦
+          let inside : i < l = omega (arith, h, size, ne) in
+          ap t.at.scheduler.parked (up-gone i inside) ∙ gone.parked i (omega (arith, inside, set.keeps.size))
+          ∙ sym (ap (λ (n : Node). is_some n.parked) (node i ne))
+    ];
+    held = held-placed H t.machine.places t.worker (Some g) _ t.is_worker rest-held held-child
+        (All-push H (deque_of t.machine.places t.worker) f (subst (All H) (deque-kept t.machine.places t.worker None t.is_worker)
+        (held-at H (with_hand t.machine.places t.worker None) t.worker rest-held).1) held-parent);
+    waits = λ i x live is. elim (decide i l) [
+      | inl e ↦ absurd (no-frame (node_at ms i).parked x (ap (λ (n : Node). n.parked) (ap (node_at ms) e ∙ births.child)) is)
+      | inr ne ↦ subst (λ y. Parked p i y x) (sym (instead-there who l c i ne))
+          (gone.waits i x (ap is_live (sym (node i ne)) ∙ live) (ap (λ (n : Node). n.parked) (sym (node i ne)) ∙ is))
+    ];
+  }

@@ -1,64 +1,85 @@
 -- The root alone, before any choice.
-use Rattle.std.proofs.Common.{◌≡◌, ℕ, ℤ, zero, suc, false, List, [], ◌∷◌, map, length, replicate, Some, refl, sym, ap, ◌∙◌, subst, arith}
+use Rattle.std.proofs.Common.{◌≡◌, ℕ, zero, suc, true, false, List, [], ◌∷◌, map, length, replicate, Some, is_some, refl, sym, ap, ◌∙◌}
 use Rattle.std.specs.Prelude.{max}
 use Rattle.std.proofs.lemmas.List.{length-replicate}
-use Rattle.cilk_core.specs.Tree as tree
-use Rattle.cilk_model.specs.Label.{label}
-use Rattle.cilk_model.specs.Labelled.{Variable}
+use Rattle.std.proofs.lemmas.List.Elements.{All-nil, All-cons, All-replicate}
+use Rattle.cilk_syntax.specs.Tree.{Program}
+use Rattle.cilk_labelled.specs.Labelled.{Variable}
+use Rattle.cilk_labelled.specs.Bodies.{label}
 use Rattle.cilk_model.specs.Path.{Path}
 use Rattle.cilk_model.specs.Values.{initial_values}
 use Rattle.cilk_model.specs.Instance as model
 use Rattle.cilk_model.specs.State as state
+use Rattle.cilk_model.specs.Places.{no_place}
 use Rattle.cilk_model.specs.Scheduler as sched
-use Rattle.cilk_model.specs.Run.{opening}
-use Rattle.cilk_load.specs.Slots.{size_of}
-use Rattle.cilk_load.specs.Bodies.{body_of}
+use Rattle.cilk_model.specs.Run as run
+use Rattle.cilk_nodes.specs.Slots.{size_of}
 use Rattle.cilk_frame.specs.Frames.{Frame}
-use Rattle.cilk_frame.specs.Starts.{Takes, started}
-use Rattle.cilk_frame.specs.Stands.{flat, StandsFor}
-use Rattle.cilk_frame.proofs.Steps.{start-stands}
-use Rattle.cilk_spawn.specs.Nodes.{root_alone}
+use Rattle.cilk_stands.specs.Stands.{StandsFor}
+use Rattle.cilk_spawn.specs.Nodes.{Node, node_at, is_live, root_alone, path_at}
 use Rattle.cilk_spawn.proofs.Grown.{tree_root}
-use Rattle.cilk_sched.specs.Places.{no_place, with_hand}
 use Rattle.cilk_sched.specs.Count.{AllAt, AllHeld}
 use Rattle.cilk_sched.proofs.Names.{named-with_hand, named-none}
-use Rattle.cilk_agree.specs.Agrees.{Agrees, Held, name_in}
+use Rattle.cilk_agree.specs.declared.lock.Lock.TheVariants.{Unset}
+use Rattle.cilk_agree.specs.Outside.{lock_by, LockWithin}
+use Rattle.cilk_agree.specs.Alike.{Tells, procedure_in}
+use Rattle.cilk_agree.specs.Agrees.{Agrees, Held, Parked, name_in}
+use Rattle.cilk_agree.specs.Laws.{opening_machine, OpeningAgrees}
 use Rattle.cilk_agree.proofs.Frames.{held-with_hand}
 
 none_held : (P : Frame → Type 0) (n : ℕ) → AllHeld P (replicate n no_place)
-none_held P zero = Rattle.std.proofs.lemmas.List.Elements.All-nil (AllAt P)
-none_held P (suc n) =
-    Rattle.std.proofs.lemmas.List.Elements.All-cons (AllAt P) no_place (replicate n no_place) (tt, Rattle.std.proofs.lemmas.List.Elements.All-nil P) (none_held P n)
+none_held P zero = All-nil (AllAt P)
+none_held P (suc n) = All-cons (AllAt P) no_place (replicate n no_place) (tt, All-nil P) (none_held P n)
 
 first_sizes : (variables : List Variable) → map length (initial_values variables) ≡ map size_of variables
 first_sizes [] = refl
 first_sizes (v ∷ variables) = λ i. length-replicate (max v.length 1) v.initial i ∷ first_sizes variables i
 
-module _ (p : tree.Program) (b : ℕ) (takes : Takes (body_of p b) []) where
+locks_first : (up : ℕ → Path) (n : ℕ) → replicate n state.unset ≡ map (lock_by up) (replicate n Unset)
+locks_first up zero = refl
+locks_first up (suc n) = ap (λ ls. state.unset ∷ ls) (locks_first up n)
+
+module _ (p : Program) (b : ℕ) (f : Frame) (own : f.id ≡ 0) (stands : StandsFor (label p) f (model.started (label p) b [])) where
+  abbrev ns : List Node
+  ns = root_alone b
+
   abbrev root : model.Instance
   root = model.started (label p) b []
 
-  one_root : (i : model.Instance) → Some root ≡ Some i → root ≡ i
-  one_root i h = cc
+  root_tells : (i : ℕ) → is_live (node_at ns i) ≡ true → Tells (label p) (path_at ns) (procedure_in ns) (node_at ns i) root
+  root_tells zero live = record { procedure = refl; children = refl; aborted = refl; waiting = tt; receiver = tt }
+  root_tells (suc i) live = cc
 
-  pub opening-agrees : (n : ℕ) (globals : List ℤ) → globals ≡ flat (initial_values (label p).globals) → (label p).locks ≡ []
-      → Agrees p globals root_alone (with_hand (replicate n no_place) 1 (Some (started p 0 b []))) (opening (label p) b n)
-  opening-agrees n globals are locks = record {
-    tree = tree_root;
-    globals_are = are;
-    sizes = first_sizes (label p).globals;
-    locks = ap (λ ls. replicate (length ls) state.unset) locks;
-    output = refl;
-    home = λ q. b;
-    instances = (refl, record { alone = refl; body = refl; children = refl; waiting = tt; aborted = refl; receiver = tt; parked = tt }, tt);
-    places_are = sym (named-with_hand (name_in root_alone) (replicate n no_place) 1 (Some (started p 0 b [])) ∙ ap (λ x. sched.with_hand x 1 (Some [])) (named-none (name_in root_alone) n));
-    parked = nothing_parked;
-    held = held-with_hand (Held (label p) root_alone (record { path = []; instance = root } ∷ [])) (replicate n no_place) 1 (Some (started p 0 b [])) (none_held _ n) (record {
-      there = omega arith;
-      stands = λ i is. subst (StandsFor (label p) (started p 0 b [])) (one_root i is) (start-stands p 0 b [] takes);
-    });
+  not_parked : (i : ℕ) → false ≡ is_some (node_at ns i).parked
+  not_parked zero = refl
+  not_parked (suc i) = refl
+
+  none_waits : (i : ℕ) (g : Frame) → is_live (node_at ns i) ≡ true → (node_at ns i).parked ≡ Some g → Parked p i root g
+  none_waits zero g live is = cc
+  none_waits (suc i) g live is = cc
+
+  pub opening : (n : ℕ) → Agrees p (opening_machine p b n f) (λ i. root) (run.opening (label p) b n)
+  opening n = record {
+    tree = tree_root b;
+    outside = record {
+      cells = refl;
+      sizes = first_sizes (label p).globals;
+      locks = locks_first (path_at ns) (length (label p).locks);
+      holders = All-replicate (LockWithin (length ns)) (length (label p).locks) Unset tt;
+      output = refl;
+      outcome = refl;
+      trapper = tt;
+    };
+    instances = refl;
+    tells = root_tells;
+    places = sym (named-with_hand (name_in ns) (replicate n no_place) 1 (Some f)
+        ∙ (λ i. sched.with_hand (named-none (name_in ns) n i) 1 (Some (path_at ns (own i)))));
+    parked = λ i h. not_parked i;
+    held =
+        held-with_hand (Held p ns (λ i. root)) (replicate n no_place) 1 (Some f) (none_held _ n)
+        (record { live = ap (λ k. is_live (node_at ns k)) own; stands = stands });
+    waits = none_waits;
   }
-    where
-      nothing_parked : (q : Path) → false ≡ Rattle.cilk_agree.specs.Agrees.is_parked (Rattle.cilk_spawn.specs.Instances.instance_at (Rattle.cilk_spawn.specs.Instances.instances_of root_alone) q)
-      nothing_parked [] = refl
-      nothing_parked (k ∷ q) = refl
+
+pub opening-agrees : OpeningAgrees
+opening-agrees p b n f own stands = opening p b f own stands n

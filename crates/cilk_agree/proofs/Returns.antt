@@ -1,179 +1,155 @@
--- A return keeps agreement: the value goes to the parent, the instance is no more, and a parked parent that can go on comes to the hand.
-use Rattle.std.proofs.Common.{◌≡◌, ◌≢◌, ◌<◌, ℕ, ℤ, Bool, true, false, not, ◌&&◌, nat_eq, List, length, Option, Some, None, refl, sym, ap, ◌∙◌, subst, arith, length-set}
-use Rattle.cilk_core.specs.Tree as tree
-use Rattle.cilk_model.specs.Label.{label}
-use Rattle.cilk_model.specs.Path.{Path, parent_of, same_path}
-use Rattle.cilk_model.specs.Instance as model
+-- A return: the instance is no more, its value goes to the parent, and a parked parent that can go on comes to the hand; and the end of one that is aborted.
+use Rattle.std.proofs.Common.{◌≡◌, ℕ, ℤ, Bool, true, false, not, ◌&&◌, List, [], ◌∷◌, map, length, Option, Some, None, refl, sym, ap, ◌∙◌, subst, inl, inr, All, if◌then◌else◌}
+use Rattle.std.proofs.lemmas.List.Elements.{All-head, All-tail, All-cons}
+use Rattle.cilk_syntax.specs.Tree.{Program}
+use Rattle.cilk_labelled.specs.Bodies.{label}
+use Rattle.cilk_model.specs.Path.{Path, parent_of}
+use Rattle.cilk_model.specs.Instance.{Instance}
 use Rattle.cilk_model.specs.State as state
-use Rattle.cilk_model.specs.Change.{deliveries, with_deliveries, after_return_to, after_return}
+use Rattle.cilk_model.specs.State.{Instances, State}
+use Rattle.cilk_model.specs.Change as change
+use Rattle.cilk_model.specs.Change.{after_return_to, after_abort}
 use Rattle.cilk_model.specs.Scheduler as sched
 use Rattle.cilk_model.specs.Run.{Standing}
-use Rattle.cilk_model.proofs.Family.{parent-child}
-use Rattle.cilk_frame.specs.Frames.{Frame}
-use Rattle.cilk_spawn.specs.declared.ending.Ending.TheVariants.{Returned}
-use Rattle.cilk_spawn.specs.Nodes.{Node, IsBelow, node_at, is_live, has_live_child, takes_value, ended, with_parked, path_at}
+use Rattle.cilk_placed.proofs.Family.{parent-child}
+use Rattle.cilk_spawn.specs.declared.ending.Ending.TheVariants.{Returned, Aborted}
+use Rattle.cilk_spawn.specs.Nodes.{Node, node_at, has_live_child, takes_value, delivery_of, delivered_to, path_at}
+use Rattle.cilk_spawn.proofs.Lists.{decide}
 use Rattle.cilk_spawn.proofs.Trees.{path_root, path_child}
-use Rattle.cilk_spawn.proofs.Grown.{ended_node, ended_lives, other_number}
-use Rattle.cilk_spawn.proofs.Children.{path_ended}
-use Rattle.cilk_sched.specs.Places.{Place, IsWorker, hand_of, with_hand}
-use Rattle.cilk_sched.specs.Count.{AllHeld}
-use Rattle.cilk_sched.proofs.Seats.{hand-same, workers-of-hand}
-use Rattle.cilk_agree.specs.Alike.{Receives, home_of}
-use Rattle.cilk_agree.specs.Agrees.{Agrees, name_in}
-use Rattle.cilk_agree.specs.Moves.{sent, returned, CanGoOn, Stays}
-use Rattle.cilk_agree.proofs.Here.{Here, Alone, alone}
-use Rattle.cilk_agree.proofs.Lookups.{changed-without}
-use Rattle.cilk_agree.proofs.Deliveries.{Sent, sends, nowhere-sent, with-sent, sent-agrees-by}
-use Rattle.cilk_agree.proofs.Ends.{gone-from, end-agrees}
-use Rattle.cilk_agree.proofs.Wakes.{stays-is, wakes-is, wake-agrees, frame-id}
+use Rattle.cilk_spawn.proofs.Children.{parent_other}
+use Rattle.cilk_spawn.proofs.Grown.{same_number, other_number}
+use Rattle.cilk_spawn.proofs.Paths.{same_here, other_there}
+use Rattle.cilk_agree.specs.Outside as outside
+use Rattle.cilk_agree.specs.declared.lock.Lock.{Lock}
+use Rattle.cilk_agree.specs.declared.lock.Lock.TheVariants.{Unset, Free, Held}
+use Rattle.cilk_agree.specs.Outside.{SameOutside, LockWithin, lock_by}
+use Rattle.cilk_agree.specs.Agrees.{Machine, Agrees}
+use Rattle.cilk_agree.specs.Laws.{Turn, path_of, sent, woken, without_frame, outside_after, who_after, released, freed, ReturnsAgree, EndsAgree}
+use Rattle.cilk_agree.proofs.Alone.{holds, inside, free, others}
+use Rattle.cilk_agree.proofs.Ends.{end-agrees, lives-after, path-after}
+use Rattle.cilk_agree.proofs.Wakes.{woken-agrees}
+use Rattle.cilk_agree.proofs.Sends.{sends}
 
-both-true : (a b : Bool) → a ≡ true → b ≡ false → (a && not b) ≡ true
-both-true true b h g = ap not g
-both-true false b h g = h
+either-way : {A : Type 0} (b : Bool) (x : A) → (if b then x else x) ≡ x
+either-way true x = refl
+either-way false x = refl
 
-module _ (p : tree.Program) (globals : List ℤ) (ns : List Node) (places : List Place) (at : Standing) (w : ℕ) (f : Frame) (here : Here p globals ns places at w f) (childless : has_live_child ns f.id ≡ false) (z : ℤ) where
-  abbrev path : Path
-  path = name_in ns f
+module _ (t : Turn) where
+  abbrev p : Program
+  p = t.program
 
-  abbrev one : Alone p ns places at here.agrees.home w f
-  one = alone p globals ns places at w f here
+  abbrev m : Machine
+  m = t.machine
 
-  abbrev ms : List Node
-  ms = sent ns f.id z
+  abbrev ns : List Node
+  ns = m.nodes
 
-  facts : Sent ns ms f.id
-  facts = sends ns f.id z here.agrees.tree one.inside
+  abbrev k : ℕ
+  k = t.frame.id
 
-  -- what is asked of the calls
-  pub sent-live : is_live (node_at ms f.id) ≡ true
-  sent-live = ap is_live facts.own ∙ one.live
+  abbrev a : Instance
+  a = t.who k
 
-  pub sent-inside : f.id < length ms
-  sent-inside = omega (arith, facts.size, one.inside)
+  parent-path : (r : ℕ) → (node_at ns k).parent ≡ Some r → parent_of (path_of t) ≡ Some (path_at ns r)
+  parent-path r parent = ap parent_of (path_child ns t.agrees.tree k r parent) ∙ parent-child (path_at ns r) (node_at ns k).ordinal
 
-  pub sent-childless : has_live_child ms f.id ≡ false
-  sent-childless = facts.children ∙ childless
+  -- the root has nobody to whom its value goes
+  none-sent : (z : ℤ) → (node_at ns k).parent ≡ None → sent ns k z ≡ ns
+  none-sent z parent =
+      ap (λ o. if takes_value (node_at ns k).receiver && not (node_at ns k).aborted then delivered_to o ns (delivery_of ns k z) else ns) parent
+      ∙ either-way (takes_value (node_at ns k).receiver && not (node_at ns k).aborted) ns
 
-  pub sent-free : (node_at ms f.id).parked ≡ None
-  sent-free = ap (λ n. n.parked) facts.own ∙ one.free
+  outside-finished : (z : ℤ) (es : Instances)
+      → SameOutside (label p) (path_at ns) (length ns) (record m.outside { outcome = outside.finished z })
+      (record t.at.state { outcome = state.finished z; instances = es })
+  outside-finished z es =
+      let o = t.agrees.outside in
+      record { cells = o.cells; sizes = o.sizes; locks = o.locks; holders = o.holders; output = o.output; outcome = refl; trapper = tt }
 
-  pub sent-parent : (node_at ms f.id).parent ≡ (node_at ns f.id).parent
-  sent-parent = ap (λ n. n.parent) facts.own
+  abbrev returned-by : ℤ → Option Path → Standing
+  returned-by z o =
+      let s = after_return_to o t.at.state (path_of t) a z in
+      record { state = s; scheduler = sched.woken s.instances (sched.with_empty_hand t.at.scheduler t.worker) t.worker o }
 
-  pub hand-left : hand_of (with_hand places w None) w ≡ None
-  hand-left = hand-same places w None here.worker
+  returned : (z : ℤ) → has_live_child ns k ≡ false → (o : Option ℕ) → (node_at ns k).parent ≡ o
+      → Agrees p (woken (without_frame t (outside_after t z o) (sent ns k z) Returned) t.worker o) (who_after t z o) (returned-by z (parent_of (path_of t)))
+  returned z childless None parent =
+      subst (λ o. Agrees p (without_frame t (outside_after t z None) (sent ns k z) Returned) t.who (returned-by z o))
+      (sym (ap parent_of (path_root ns k parent)))
+      (subst (λ ms. Agrees p (without_frame t (outside_after t z None) ms Returned) t.who (returned-by z None)) (sym (none-sent z parent))
+      (end-agrees p m t.who t.at t.agrees k t.worker Returned (inside t) childless (free t) (others t) _ _ (outside-finished z _) refl))
+  returned z childless (Some r) parent =
+      let e = sends t r parent z childless in
+      subst (λ o. Agrees p (woken (without_frame t m.outside (sent ns k z) Returned) t.worker (Some r)) (who_after t z (Some r)) (returned-by z o))
+      (sym (parent-path r parent))
+      (subst (λ q. Agrees p (woken (without_frame t m.outside (sent ns k z) Returned) t.worker (Some r)) (who_after t z (Some r))
+      (let s = after_return_to (Some (path_at ns r)) t.at.state (path_of t) a z in
+      record { state = s; scheduler = sched.woken s.instances (sched.with_empty_hand t.at.scheduler t.worker) t.worker (Some q) })) e.path
+      (woken-agrees p (without_frame t m.outside (sent ns k z) Returned) _ _ e.agrees r e.live t.worker))
 
-  pub worker-left : IsWorker (with_hand places w None) w
-  worker-left = record { from_one = here.worker.from_one; within = omega (arith, workers-of-hand places w None, here.worker.within) }
+  -- its locks are free
+  lock-released : (x : Lock) → LockWithin (length ns) x
+      → (change.released (path_of t) (lock_by (path_at ns) x) ≡ lock_by (path_at ns) (released k x)) × LockWithin (length ns) (released k x)
+  lock-released Unset h = (refl, tt)
+  lock-released Free h = (refl, tt)
+  lock-released (Held i) h = elim (decide i k) [
+    | inl e ↦ (
+      ap (λ b. if b then state.free else state.held (path_at ns i)) (same_here ns i k e)
+          ∙ sym (ap (λ b. lock_by (path_at ns) (if b then Free else Held i)) (same_number i k e)),
+      subst (λ b. LockWithin (length ns) (if b then Free else Held i)) (sym (same_number i k e)) tt,
+    )
+    | inr ne ↦ (
+      ap (λ b. if b then state.free else state.held (path_at ns i)) (other_there ns i k t.agrees.tree h (inside t) ne)
+          ∙ sym (ap (λ b. lock_by (path_at ns) (if b then Free else Held i)) (other_number i k ne)),
+      subst (λ b. LockWithin (length ns) (if b then Free else Held i)) (sym (other_number i k ne)) h,
+    )
+  ]
 
-  -- the standing after the step
-  abbrev pub after-ends : state.State → Standing
-  after-ends s = record { state = s; scheduler = sched.with_empty_hand at.scheduler w }
+  locks-released : (xs : List Lock) → All (LockWithin (length ns)) xs
+      → (map (change.released (path_of t)) (map (lock_by (path_at ns)) xs) ≡ map (lock_by (path_at ns)) (map (released k) xs)) × All (LockWithin (length ns))
+      (map (released k) xs)
+  locks-released [] h = (refl, h)
+  locks-released (x ∷ xs) h =
+      let one = lock-released x (All-head (LockWithin (length ns)) x xs h) in
+      let rest = locks-released xs (All-tail (LockWithin (length ns)) x xs h) in
+      ((λ j. one.0 j ∷ rest.0 j), All-cons (LockWithin (length ns)) (released k x) (map (released k) xs) one.1 rest.1)
 
-  abbrev pub after-returns : model.Instance → Standing
-  after-returns i =
-      let s = after_return at.state path i z in
-      record { state = s; scheduler = sched.woken s.instances (sched.with_empty_hand at.scheduler w) w (parent_of path) }
+  abbrev aborted : State
+  aborted = after_abort t.at.state (path_of t)
 
-  others : (up : ℕ → Path) → up ≡ path_at ns → AllHeld (λ g. same_path (up f.id) (up g.id) ≡ false) (with_hand places w None)
-  others up is = subst (λ to. AllHeld (λ g. same_path (to f.id) (to g.id) ≡ false) (with_hand places w None)) (sym is) one.others
+  outside-freed : SameOutside (label p) (path_at ns) (length ns) (freed t) aborted
+  outside-freed =
+      let o = t.agrees.outside in
+      let l = locks-released m.outside.locks o.holders in
+      record {
+        cells = o.cells;
+        sizes = o.sizes;
+        locks = ap (map (change.released (path_of t))) o.locks ∙ l.0;
+        holders = l.1;
+        output = o.output;
+        outcome = o.outcome;
+        trapper = o.trapper;
+      }
 
-  -- where the root returns
-  root-ended : Agrees p globals (ended ns f.id Returned) (with_hand places w None) (gone-from w path (state.finished z) at)
-  root-ended = end-agrees p globals ns places at here.agrees w f.id Returned (state.finished z) one.inside childless one.parked one.others
+  abbrev aborted-by : Option Path → Standing
+  aborted-by o = record { state = aborted; scheduler = sched.woken aborted.instances (sched.with_empty_hand t.at.scheduler t.worker) t.worker o }
 
-  pub root-parent : (node_at ns f.id).parent ≡ None → parent_of path ≡ None
-  root-parent none = ap parent_of (path_root ns f.id none)
+  gone : has_live_child ns k ≡ false
+      → Agrees p (without_frame t (freed t) ns Aborted) t.who (record { state = aborted; scheduler = sched.with_empty_hand t.at.scheduler t.worker })
+  gone childless = end-agrees p m t.who t.at t.agrees k t.worker Aborted (inside t) childless (free t) (others t) (freed t) aborted outside-freed refl
 
-  pub root-sent : (node_at ns f.id).parent ≡ None → ms ≡ ns
-  root-sent none = nowhere-sent ns f.id z (takes_value (node_at ns f.id).receiver) none
+  ended-of : has_live_child ns k ≡ false → (o : Option ℕ) → (node_at ns k).parent ≡ o
+      → Agrees p (woken (without_frame t (freed t) ns Aborted) t.worker o) t.who (aborted-by (parent_of (path_of t)))
+  ended-of childless None parent =
+      subst (λ o. Agrees p (without_frame t (freed t) ns Aborted) t.who (aborted-by o)) (sym (ap parent_of (path_root ns k parent))) (gone childless)
+  ended-of childless (Some r) parent =
+      let lives = lives-after ns r k Aborted (inside t) (parent_other ns k r t.agrees.tree parent) (t.agrees.tree.outlives k r parent (holds t).live) in
+      subst (λ q. Agrees p (woken (without_frame t (freed t) ns Aborted) t.worker (Some r)) t.who (aborted-by q))
+      (ap Some (path-after ns r k Aborted t.agrees.tree (inside t)) ∙ sym (parent-path r parent))
+      (woken-agrees p (without_frame t (freed t) ns Aborted) t.who _ (gone childless) r lives t.worker)
 
-  pub root-outcome : (node_at ns f.id).parent ≡ None → (after_return at.state path one.instance z).outcome ≡ state.finished z
-  root-outcome none = ap (λ o. (after_return_to o at.state path one.instance z).outcome) (root-parent none)
+pub returns-agree : ReturnsAgree
+returns-agree t z did childless = returned t z childless (node_at t.machine.nodes t.frame.id).parent refl
 
-  abbrev returns-to : Option Path → Standing
-  returns-to o =
-      let s = after_return_to o at.state path one.instance z in
-      record { state = s; scheduler = sched.woken s.instances (sched.with_empty_hand at.scheduler w) w o }
-
-  pub return-root : (node_at ns f.id).parent ≡ None → Agrees p globals (returned ns f.id z) (with_hand places w None) (after-returns one.instance)
-  return-root none =
-      subst (λ ks. Agrees p globals (ended ks f.id Returned) (with_hand places w None) (after-returns one.instance)) (sym (root-sent none))
-      (subst (λ o. Agrees p globals (ended ns f.id Returned) (with_hand places w None) (returns-to o)) (sym (root-parent none)) root-ended)
-
-  -- where r is the parent
-  module _ (r : ℕ) (parent : (node_at ns f.id).parent ≡ Some r) where
-    abbrev to : Path
-    to = path_at ns r
-
-    abbrev after : List Node
-    after = returned ns f.id z
-
-    pub parent-path : parent_of path ≡ Some to
-    parent-path = ap parent_of (path_child ns here.agrees.tree f.id r parent) ∙ parent-child to (node_at ns f.id).ordinal
-
-    pub child-outcome : (after_return at.state path one.instance z).outcome ≡ at.state.outcome
-    child-outcome = ap (λ o. (after_return_to o at.state path one.instance z).outcome) parent-path
-
-    receives : Receives (label p) (here.agrees.home to) (node_at ns f.id).receiver one.instance.receiver
-    receives =
-        subst (λ o. Receives (label p) (home_of here.agrees.home o) (node_at ns f.id).receiver one.instance.receiver) parent-path one.same.receiver
-
-    abbrev new : List model.Delivery
-    new = deliveries path one.instance z one.instance.receiver one.instance.aborted
-
-    sent-agrees : Agrees p globals ms places (with-sent to new at)
-    sent-agrees =
-        subst (λ b. Agrees p globals ms places (with-sent to (deliveries path one.instance z one.instance.receiver b) at)) (sym one.same.aborted)
-        (sent-agrees-by p globals ns places at here.agrees f.id r z parent one.instance (node_at ns f.id).receiver one.instance.receiver refl receives)
-
-    ended-sent : Agrees p globals after (with_hand places w None) (gone-from w (path_at ms f.id) at.state.outcome (with-sent to new at))
-    ended-sent =
-        end-agrees p globals ms places (with-sent to new at) sent-agrees w f.id Returned at.state.outcome sent-inside sent-childless
-        (ap (λ up. at.scheduler.parked (up f.id)) facts.paths ∙ one.parked) (others (path_at ms) facts.paths)
-
-    in-turn : state.without (path_at ms f.id) (state.changed to (with_deliveries new) at.state.instances) ≡ state.changed to (with_deliveries new) (state.without path at.state.instances)
-    in-turn = ap (λ up. state.without (up f.id) (state.changed to (with_deliveries new) at.state.instances)) facts.paths ∙ sym (changed-without path to (with_deliveries new) at.state.instances)
-
-    abbrev s : state.State
-    s = after_return at.state path one.instance z
-
-    ended-agrees : Agrees p globals after (with_hand places w None) (after-ends s)
-    ended-agrees =
-        subst (λ o. Agrees p globals after (with_hand places w None) (after-ends (after_return_to o at.state path one.instance z))) (sym parent-path)
-        (subst (λ B. Agrees p globals after (with_hand places w None) (after-ends (record at.state { instances = B }))) in-turn ended-sent)
-
-    below : r < f.id
-    below = subst (λ o. IsBelow o f.id) parent (here.agrees.tree.below f.id)
-
-    pub parent-inside : r < length after
-    parent-inside =
-        omega (arith, below, sent-inside, length-set ms f.id (ended_node ms f.id Returned))
-
-    apart : r ≢ f.id
-    apart = λ (e : r ≡ f.id). (omega (arith, e, below))
-
-    pub parent-live : is_live (node_at after r) ≡ true
-    parent-live =
-        ended_lives ms f.id Returned sent-inside r
-        ∙ both-true (is_live (node_at ms r)) (nat_eq r f.id) (facts.tree.outlives f.id r (sent-parent ∙ parent) sent-live) (other_number r f.id apart)
-
-    same-parent : path_at after r ≡ to
-    same-parent = path_ended ms f.id Returned r facts.tree sent-inside ∙ ap (λ up. up r) facts.paths
-
-    woken-at : sched.woken s.instances (sched.with_empty_hand at.scheduler w) w (parent_of path) ≡ sched.woken s.instances (sched.with_empty_hand at.scheduler w) w (Some (path_at after r))
-    woken-at = ap (sched.woken s.instances (sched.with_empty_hand at.scheduler w) w) (parent-path ∙ ap Some (sym same-parent))
-
-    pub return-waits : Stays after r → Agrees p globals after (with_hand places w None) (after-returns one.instance)
-    return-waits stays =
-        subst (λ x. Agrees p globals after (with_hand places w None) (record { state = s; scheduler = x }))
-        (sym (woken-at ∙ stays-is p globals after (with_hand places w None) (after-ends s) ended-agrees r parent-live w stays)) ended-agrees
-
-    pub parked-id : (g : Frame) → (node_at after r).parked ≡ Some g → g.id ≡ r
-    parked-id g parked = frame-id p globals after (with_hand places w None) (after-ends s) ended-agrees r parent-live g parked
-
-    pub return-wakes : (g : Frame) → (node_at after r).parked ≡ Some g → CanGoOn after r → Agrees p globals (with_parked after r None) (with_hand (with_hand places w None) w (Some g)) (after-returns one.instance)
-    return-wakes g parked can =
-        subst (λ x. Agrees p globals (with_parked after r None) (with_hand (with_hand places w None) w (Some g)) (record { state = s; scheduler = x }))
-        (sym (woken-at ∙ wakes-is p globals after (with_hand places w None) (after-ends s) ended-agrees r parent-live g parked w can))
-        (wake-agrees p globals after (with_hand places w None) (after-ends s) ended-agrees r parent-live g parked w)
+pub ends-agree : EndsAgree
+ends-agree t did childless = ended-of t childless (node_at t.machine.nodes t.frame.id).parent refl

@@ -1,45 +1,64 @@
--- When the cells of the top level, the tree of instances and the places of the workers are a standing of the definition of runs.
-use Rattle.std.specs.Prelude.{◌≡◌, ◌<◌, ℕ, ℤ, Bool, false, List, [], length, map, Option, Some, None, is_some}
-use Rattle.cilk_core.specs.Tree as tree
-use Rattle.cilk_model.specs.Labelled.{Labelled}
-use Rattle.cilk_model.specs.Label.{label}
+-- When the machine stands as the definitions say: each id goes by its path, and each frame and node stand for the instance of their id.
+use Rattle.std.specs.Prelude.{◌≡◌, ◌<◌, ℕ, true, nat_eq, List, [], length, map, Option, Some, None, is_some, if◌then◌else◌}
+use Rattle.cilk_syntax.specs.Tree.{Program}
+use Rattle.cilk_labelled.specs.Bodies.{label}
 use Rattle.cilk_model.specs.Path.{Path}
-use Rattle.cilk_model.specs.Instance as model
-use Rattle.cilk_model.specs.State as model_state
+use Rattle.cilk_model.specs.Instance.{Instance, started}
+use Rattle.cilk_model.specs.State.{Entry, Instances, instance_at}
+use Rattle.cilk_model.specs.Places.{PlaceOf, named}
 use Rattle.cilk_model.specs.Run.{Standing}
-use Rattle.cilk_load.specs.Slots.{size_of}
 use Rattle.cilk_frame.specs.Frames.{Frame}
-use Rattle.cilk_frame.specs.Stands.{flat, StandsFor}
-use Rattle.cilk_spawn.specs.Nodes.{Node, IsTree, path_at}
-use Rattle.cilk_spawn.specs.Instances.{Instance, instance_at, instances_of}
-use Rattle.cilk_sched.specs.Places.{Place}
+use Rattle.cilk_stands.specs.Stands.{StandsFor}
+use Rattle.cilk_spawn.specs.Nodes.{Node, IsTree, node_at, is_live, live_ids, path_at}
 use Rattle.cilk_sched.specs.Count.{AllHeld}
-use Rattle.cilk_sched.specs.Names.{named}
-use Rattle.cilk_agree.specs.Alike.{SameEntries}
+use Rattle.cilk_agree.specs.Outside.{Outside, SameOutside}
+use Rattle.cilk_agree.specs.Alike.{Tells, procedure_in}
+
+pub record Machine : Type 0 where
+  pub outside : Outside
+  pub nodes : List Node
+  pub places : List (PlaceOf Frame)
+
+-- f, but x at k
+abbrev pub instead : {A : Type 0} → (ℕ → A) → ℕ → A → ℕ → A
+instead f k x i = if nat_eq i k then x else f i
+
+-- the live instances in the order of their birth: that of each id is given, and stands at its path
+abbrev pub entry_of : List Node → (ℕ → Instance) → ℕ → Entry
+entry_of ns who i = record { path = path_at ns i; instance = who i }
+
+abbrev pub instances_of : List Node → (ℕ → Instance) → Instances
+instances_of ns who = map (entry_of ns who) (live_ids ns)
 
 -- the path of the instance whose frame it is
 abbrev pub name_in : List Node → Frame → Path
 name_in ns f = path_at ns f.id
 
-abbrev pub is_parked : Option Instance → Bool
-is_parked None = false
-is_parked (Some i) = is_some i.parked
+-- a frame of a worker stands for a live instance
+pub record Held (program : Program) (ns : List Node) (who : ℕ → Instance) (f : Frame) : Type 0 where
+  pub live : is_live (node_at ns f.id) ≡ true
+  pub stands : StandsFor (label program) f (who f.id)
 
--- a frame stands for the live instance at its path
-pub record Held (program : Labelled) (ns : List Node) (entries : model_state.Instances) (f : Frame) : Type 0 where
-  pub there : f.id < length ns
-  pub stands : (i : model.Instance) → model_state.instance_at entries (name_in ns f) ≡ Some i → StandsFor program f i
+-- so does one that is parked
+pub record Parked (program : Program) (i : ℕ) (a : Instance) (f : Frame) : Type 0 where
+  pub own : f.id ≡ i
+  pub stands : StandsFor (label program) f a
 
-pub record Agrees (p : tree.Program) (globals : List ℤ) (ns : List Node) (places : List Place) (at : Standing) : Type 0 where
-  pub tree : IsTree ns
-  pub globals_are : globals ≡ flat at.state.globals
-  pub sizes : map length at.state.globals ≡ map size_of (label p).globals
-  -- no program has locks yet, and none prints
-  pub locks : at.state.locks ≡ []
-  pub output : at.state.output ≡ []
-  -- the body of the procedure of each instance, which stays as it was at its birth
-  pub home : Path → ℕ
-  pub instances : SameEntries (label p) home ns (instances_of ns) at.state.instances
-  pub places_are : at.scheduler.places ≡ named (name_in ns) places
-  pub parked : (q : Path) → at.scheduler.parked q ≡ is_parked (instance_at (instances_of ns) q)
-  pub held : AllHeld (Held (label p) ns at.state.instances) places
+-- `who` gives the instance of each id that lives
+pub record Agrees (program : Program) (m : Machine) (who : ℕ → Instance) (at : Standing) : Type 0 where
+  pub tree : IsTree m.nodes
+  pub outside : SameOutside (label program) (path_at m.nodes) (length m.nodes) m.outside at.state
+  pub instances : at.state.instances ≡ instances_of m.nodes who
+  pub tells : (i : ℕ) → is_live (node_at m.nodes i) ≡ true → Tells (label program) (path_at m.nodes) (procedure_in m.nodes) (node_at m.nodes i) (who i)
+  pub places : at.scheduler.places ≡ named (name_in m.nodes) m.places
+  pub parked : (i : ℕ) → i < length m.nodes → at.scheduler.parked (path_at m.nodes i) ≡ is_some (node_at m.nodes i).parked
+  pub held : AllHeld (Held program m.nodes who) m.places
+  pub waits : (i : ℕ) (f : Frame) → is_live (node_at m.nodes i) ≡ true → (node_at m.nodes i).parked ≡ Some f → Parked program i (who i) f
+
+-- it may be read off the standing, so that nothing is hidden
+abbrev pub instance_or : Instance → Option Instance → Instance
+instance_or a None = a
+instance_or a (Some i) = i
+
+abbrev pub read_off : Program → Machine → Standing → ℕ → Instance
+read_off p m at i = instance_or (started (label p) 0 []) (instance_at at.state.instances (path_at m.nodes i))

@@ -1,80 +1,88 @@
--- When what a tree tells of the live instances is what the definition of runs tells of them.
-use Rattle.std.specs.Prelude.{◌≡◌, ◌<◌, ℕ, false, ⊤, List, [], ◌∷◌, Option, Some, None, IfSome, length, slice_index_or}
+-- When a node of the tree tells of an instance what the definitions tell of it.
+use Rattle.std.specs.Prelude.{◌≡◌, ◌<◌, ◌≤◌, ℕ, suc, ℤ, ⊤, List, [], ◌∷◌, Option, Some, None, length}
+use Rattle.cilk_values.specs.Term.{Term}
 use Rattle.cilk_eval.specs.declared.slot.Slot.{Slot}
-use Rattle.cilk_model.specs.Declaration.{Declaration, local, global, unknown}
-use Rattle.cilk_model.specs.Labelled.{Labelled}
-use Rattle.cilk_model.specs.Values.{Cell}
-use Rattle.cilk_model.specs.Path.{Path, parent_of}
+use Rattle.cilk_labelled.specs.Labelled.{Labelled}
+use Rattle.cilk_model.specs.Path.{Path}
 use Rattle.cilk_model.specs.Instance as model
-use Rattle.cilk_model.specs.State as model_state
-use Rattle.cilk_load.specs.Slots.{size_of, slot_of}
-use Rattle.cilk_frame.specs.Frames.{Frame}
-use Rattle.cilk_frame.specs.Stands.{StandsFor}
-use Rattle.cilk_frame.specs.Reads.{HasCell, no_variable}
+use Rattle.cilk_model.specs.Instance.{Instance, body_at}
+use Rattle.cilk_scopes.specs.declared.owner.Owner.TheVariants.{Inlet}
+use Rattle.cilk_nodes.specs.Slots.{procedure_around}
+use Rattle.cilk_nodes.specs.declared.taker.Taker.TheVariants.{Through}
+use Rattle.cilk_nodes.specs.declared.action.Action.TheVariants.{Spawn}
+use Rattle.cilk_nodes.specs.declared.node.Node as action
+use Rattle.cilk_stands.specs.Cells.{SameCell}
+use Rattle.cilk_stands.specs.Stands.{node_in, bodies_of, lowest_of}
+use Rattle.cilk_spawn.specs.declared.delivery.Delivery.{Delivery}
 use Rattle.cilk_spawn.specs.declared.receiver.Receiver.{Receiver}
-use Rattle.cilk_spawn.specs.declared.receiver.Receiver.TheVariants.{Nothing, Place}
-use Rattle.cilk_spawn.specs.Nodes.{Node, path_at}
-use Rattle.cilk_spawn.specs.Instances.{Delivery, Instance, Entry}
+use Rattle.cilk_spawn.specs.declared.receiver.Receiver.TheVariants.{Nothing, Place, Call}
+use Rattle.cilk_spawn.specs.Nodes.{Node, node_at}
 
--- element k of a declaration that a name in body b may mean is there
-abbrev pub HasElement : Labelled → ℕ → Declaration → ℕ → Type 0
-HasElement program b (local n) k = HasCell program b n k
-HasElement program b (global n) k =
-    (n < length program.globals) × (k < size_of (slice_index_or program.globals n no_variable))
-HasElement program b unknown k = ⊥
+-- spawn n stands in body b, and its inlet is this one, which is given so many values behind the child's
+pub record CallsInlet (program : Labelled) (b n inlet : ℕ) (values : List ℤ) : Type 0 where
+  pub node : action.Node
+  pub others : List (Term Slot)
+  pub callee : ℕ
+  pub arguments : List (Term Slot)
+  pub there : node_in program n ≡ Some node
+  pub body : node.body ≡ b
+  pub spawns : node.action ≡ Spawn (Through inlet others) callee arguments
+  pub count : length values ≡ length others
+  -- the inlet takes a child's value and these, and stands in that procedure
+  pub owner : (body_at program inlet).owner ≡ Inlet
+  pub is_there : inlet < length program.bodies
+  pub parameters : (body_at program inlet).parameters ≡ suc (length values)
+  pub inside : procedure_around program inlet ≡ b
 
--- a slot and a subscript are those of a cell that body b reaches
-pub record SameCell (program : Labelled) (b : ℕ) (slot : Slot) (index : ℕ) (cell : Cell) : Type 0 where
-  pub slot_is : slot ≡ slot_of program b cell.place
-  pub index_is : index ≡ cell.index
-  -- no program has arrays yet
-  pub first : index ≡ 0
-  pub there : HasElement program b cell.place cell.index
-
--- what takes a value, at a cell that body b reached
+-- what takes a value, in the procedure whose body is b: a cell that it reached, or an inlet of its own
 abbrev pub Receives : Labelled → ℕ → Receiver → Option model.Receiver → Type 0
 Receives program b Nothing None = ⊤
 Receives program b Nothing (Some receiver) = ⊥
 Receives program b (Place op slot index spawn) None = ⊥
-Receives program b (Place op slot index spawn) (Some (model.place other cell n)) =
-    (op ≡ other) × (spawn ≡ n) × SameCell program b slot index cell
+Receives program b (Place op slot index spawn) (Some (model.place reached n)) =
+    (op ≡ reached.op) × (spawn ≡ n) × SameCell program b slot index reached.cell
+Receives program b (Place op slot index spawn) (Some (model.through inlet others n)) = ⊥
+Receives program b (Call spawn args) None = ⊥
+Receives program b (Call spawn args) (Some (model.place reached n)) = ⊥
+Receives program b (Call spawn args) (Some (model.through inlet others n)) = (spawn ≡ n) × (args ≡ others) × CallsInlet program b n inlet others
 
-pub record SameDelivery (program : Labelled) (b : ℕ) (d : Delivery) (e : model.Delivery) : Type 0 where
-  pub child : d.child ≡ e.child
+pub record SameDelivery (program : Labelled) (up : ℕ → Path) (b : ℕ) (d : Delivery) (e : model.Delivery) : Type 0 where
+  pub child : up d.child ≡ e.child
   pub value : d.value ≡ e.value
   pub receiver : Receives program b d.receiver (Some e.receiver)
 
-abbrev pub SameDeliveries : Labelled → ℕ → List Delivery → List model.Delivery → Type 0
-SameDeliveries program b [] [] = ⊤
-SameDeliveries program b [] (e ∷ es) = ⊥
-SameDeliveries program b (d ∷ ds) [] = ⊥
-SameDeliveries program b (d ∷ ds) (e ∷ es) = SameDelivery program b d e × SameDeliveries program b ds es
+abbrev pub SameDeliveries : Labelled → (ℕ → Path) → ℕ → List Delivery → List model.Delivery → Type 0
+SameDeliveries program up b [] [] = ⊤
+SameDeliveries program up b [] (e ∷ es) = ⊥
+SameDeliveries program up b (d ∷ ds) [] = ⊥
+SameDeliveries program up b (d ∷ ds) (e ∷ es) = SameDelivery program up b d e × SameDeliveries program up b ds es
 
--- a frame is that of the instance at p
-pub record IsFrameOf (program : Labelled) (ns : List Node) (p : Path) (i : model.Instance) (f : Frame) : Type 0 where
-  pub there : f.id < length ns
-  pub path : path_at ns f.id ≡ p
-  pub stands : StandsFor program f i
+-- the body of the procedure of each id
+abbrev pub procedure_in : List Node → ℕ → ℕ
+procedure_in ns i = (node_at ns i).procedure
 
--- the body of a parent, where `home` gives that of each instance
-abbrev pub home_of : (Path → ℕ) → Option Path → ℕ
-home_of home None = 0
-home_of home (Some p) = home p
+-- that of the parent, which takes a child's value
+abbrev pub taker_of : (ℕ → ℕ) → Option ℕ → ℕ
+taker_of procedures None = 0
+taker_of procedures (Some p) = procedures p
 
--- the instance at p: no C function and no inlet goes on above its procedure, whose body is home p
-pub record SameInstance (program : Labelled) (home : Path → ℕ) (ns : List Node) (p : Path) (a : Instance) (i : model.Instance) : Type 0 where
-  pub alone : i.below ≡ []
-  pub body : home p ≡ i.top.body
-  pub children : a.children ≡ i.children
-  pub waiting : SameDeliveries program (home p) a.waiting i.waiting
-  pub aborted : i.aborted ≡ false
-  pub receiver : Receives program (home_of home (parent_of p)) a.receiver i.receiver
-  pub parked : IfSome a.parked (IsFrameOf program ns p i)
+-- the body of the procedure's own activation, below those that it waits for
+abbrev pub lowest_body : Instance → ℕ
+lowest_body a = lowest_of a.top.body (bodies_of a.below)
 
--- the same instances at the same paths, in the same order
-abbrev pub SameEntries : Labelled → (Path → ℕ) → List Node → List Entry → List model_state.Entry → Type 0
-SameEntries program home ns [] [] = ⊤
-SameEntries program home ns [] (e ∷ es) = ⊥
-SameEntries program home ns (a ∷ entries) [] = ⊥
-SameEntries program home ns (a ∷ entries) (e ∷ es) =
-    (a.path ≡ e.path) × SameInstance program home ns a.path a.instance e.instance × SameEntries program home ns entries es
+-- a node tells of an instance, where all ids have these paths and procedures
+pub record Tells (program : Labelled) (up : ℕ → Path) (procedures : ℕ → ℕ) (n : Node) (a : Instance) : Type 0 where
+  pub procedure : n.procedure ≡ lowest_body a
+  pub children : n.children ≡ a.children
+  pub aborted : n.aborted ≡ a.aborted
+  pub waiting : SameDeliveries program up n.procedure n.waiting a.waiting
+  pub receiver : Receives program (taker_of procedures n.parent) n.receiver a.receiver
+
+-- a node that stays where it is in the tree, lives as it did and is marked as it was
+pub record SameLinks (a b : Node) : Type 0 where
+  pub parent : b.parent ≡ a.parent
+  pub ordinal : b.ordinal ≡ a.ordinal
+  pub procedure : b.procedure ≡ a.procedure
+  pub ending : b.ending ≡ a.ending
+  pub aborted : b.aborted ≡ a.aborted
+  pub children : a.children ≤ b.children

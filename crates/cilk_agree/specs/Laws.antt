@@ -1,130 +1,205 @@
--- What keeps agreement: the start of a program, and each change that a choice makes.
-use Rattle.std.specs.Prelude.{◌≡◌, ◌+◌, ℕ, ℤ, true, false, List, [], ◌∷◌, ◌++◌, length, Some, None, replicate, slice_set, Ok}
-use Rattle.cilk_core.specs.Tree as tree
-use Rattle.cilk_eval.specs.declared.area.Area.TheVariants.{Own, Global}
-use Rattle.cilk_eval.specs.declared.slot.Slot.{Slot}
-use Rattle.cilk_model.specs.Labelled.{Taker}
-use Rattle.cilk_model.specs.Label.{label}
-use Rattle.cilk_model.specs.Path.{Path}
-use Rattle.cilk_model.specs.Values.{Cell, initial_values, written}
-use Rattle.cilk_model.specs.Items.{opened, next}
+-- What keeps agreement.
+use Rattle.std.specs.Prelude.{◌≡◌, ◌<◌, ◌+◌, ℕ, ℤ, Bool, true, false, not, ◌&&◌, ◌||◌, nat_eq, List, [], ◌∷◌, ◌++◌, length, map, Option, Some, None, replicate, slice_set, if◌then◌else◌}
+use Rattle.cilk_syntax.specs.Tree.{Program}
+use Rattle.cilk_labelled.specs.Bodies.{label}
+use Rattle.cilk_model.specs.Path.{Path, child_path}
+use Rattle.cilk_model.specs.Values.{initial_values}
 use Rattle.cilk_model.specs.Instance as model
-use Rattle.cilk_model.specs.State.{State, instance_at}
-use Rattle.cilk_model.specs.Change.{store_of, next_child, receiver_of, after_going, after_write, after_place, after_start, after_return}
+use Rattle.cilk_model.specs.Instance.{Instance}
+use Rattle.cilk_model.specs.State.{State, changed, is_empty}
+use Rattle.cilk_model.specs.Change.{deliveries, with_deliveries, after_return, after_abort}
 use Rattle.cilk_model.specs.Event.{Event}
-use Rattle.cilk_model.specs.Choice.{Choice}
-use Rattle.cilk_model.specs.Pick.{Step, parks, goes_on, ends, spawns}
+use Rattle.cilk_model.specs.Pick.{ends}
+use Rattle.cilk_model.specs.Places.{IsWorker, no_place, hand_of, with_hand, popped_by, stolen_by, pushed_by}
 use Rattle.cilk_model.specs.Scheduler as sched
-use Rattle.cilk_model.specs.Run.{Standing, opening, after, stepped}
-use Rattle.cilk_load.specs.Table.{number_of}
-use Rattle.cilk_load.specs.Bodies.{body_of}
+use Rattle.cilk_model.specs.Run.{Standing, opening, stepped}
+use Rattle.cilk_placed.specs.Places.{EachInItsPlace}
+use Rattle.cilk_nodes.specs.Slots.{flat}
 use Rattle.cilk_frame.specs.Frames.{Frame}
-use Rattle.cilk_frame.specs.Starts.{Takes, started}
-use Rattle.cilk_frame.specs.Stands.{flat}
+use Rattle.cilk_stands.specs.Stands.{StandsFor}
+use Rattle.cilk_spawn.specs.declared.ending.Ending.{Ending}
+use Rattle.cilk_spawn.specs.declared.ending.Ending.TheVariants.{Returned, Aborted}
 use Rattle.cilk_spawn.specs.declared.receiver.Receiver.{Receiver}
-use Rattle.cilk_spawn.specs.Nodes.{Node, node_at, has_live_child, root_alone, with_child, with_parked, taken}
-use Rattle.cilk_sched.specs.Places.{Place, IsWorker, no_place, hand_of, deque_of, with_hand, with_deque, top_of, below_top, bottom_of, above_bottom}
-use Rattle.cilk_agree.specs.Alike.{SameCell, Receives}
-use Rattle.cilk_agree.specs.Agrees.{Agrees, name_in}
-use Rattle.cilk_agree.specs.Moves.{gone_to, with_own, advanced, past_spawn, returned, CanGoOn, Stays}
+use Rattle.cilk_spawn.specs.Nodes.{Node, AreFrom, node_at, has_live_child, root_alone, new_child, with_child, with_parked, takes_value, delivered, ended, marked_below, descends, path_at}
+use Rattle.cilk_agree.specs.Outside as outside
+use Rattle.cilk_agree.specs.declared.lock.Lock.{Lock}
+use Rattle.cilk_agree.specs.declared.lock.Lock.TheVariants.{Unset, Free, Held}
+use Rattle.cilk_agree.specs.Outside.{Outside, SameOutside}
+use Rattle.cilk_agree.specs.Alike.{Tells, SameLinks, procedure_in}
+use Rattle.cilk_agree.specs.Agrees.{Machine, Agrees, instead, read_off}
+use Rattle.cilk_agree.specs.Marks.{marked_if, marked_from}
 
--- before any choice of n workers, where the root runs body b
+-- before any choice of n workers, where the root runs body b in this frame
+abbrev pub opening_machine : Program → ℕ → ℕ → Frame → Machine
+opening_machine p b n f = record {
+  outside = record {
+    cells = flat (initial_values (label p).globals);
+    locks = replicate (length (label p).locks) Unset;
+    output = [];
+    outcome = outside.running;
+  };
+  nodes = root_alone b;
+  places = with_hand (replicate n no_place) 1 (Some f);
+}
+
 abbrev pub OpeningAgrees : Type 0
-OpeningAgrees = (p : tree.Program) (b n : ℕ) → Takes (body_of p b) [] → (label p).locks ≡ []
-    → Agrees p (flat (initial_values (label p).globals)) root_alone (with_hand (replicate n no_place) 1 (Some (started p 0 b []))) (opening (label p) b n)
+OpeningAgrees = (p : Program) (b n : ℕ) (f : Frame) → f.id ≡ 0 → StandsFor (label p) f (model.started (label p) b [])
+    → Agrees p (opening_machine p b n f) (λ i. model.started (label p) b []) (opening (label p) b n)
 
--- worker w pops
+-- the instances may be read off the standing
+abbrev pub NothingIsHidden : Type 0
+NothingIsHidden = (p : Program) (m : Machine) (who : ℕ → Instance) (at : Standing) → Agrees p m who at → Agrees p m (read_off p m at) at
+
+-- worker w pops, or steals from v
 abbrev pub PopsAgree : Type 0
-PopsAgree = (p : tree.Program) (globals : List ℤ) (ns : List Node) (places : List Place) (at : Standing) → Agrees p globals ns places at → (w : ℕ)
-    → Agrees p globals ns (with_hand (with_deque places w (above_bottom (deque_of places w))) w (bottom_of (deque_of places w))) (record { state = at.state; scheduler = sched.popped at.scheduler w })
+PopsAgree = (p : Program) (m : Machine) (who : ℕ → Instance) (at : Standing) → Agrees p m who at → (w : ℕ)
+    → Agrees p (record m { places = popped_by m.places w }) who (record at { scheduler = sched.popped at.scheduler w })
 
--- worker w steals from v
 abbrev pub StealsAgree : Type 0
-StealsAgree = (p : tree.Program) (globals : List ℤ) (ns : List Node) (places : List Place) (at : Standing) → Agrees p globals ns places at → (w v : ℕ)
-    → Agrees p globals ns (with_hand (with_deque places v (below_top (deque_of places v))) w (top_of (deque_of places v))) (record { state = at.state; scheduler = sched.stolen at.scheduler w v })
+StealsAgree = (p : Program) (m : Machine) (who : ℕ → Instance) (at : Standing) → Agrees p m who at → (w v : ℕ)
+    → Agrees p (record m { places = stolen_by m.places w v }) who (record at { scheduler = sched.stolen at.scheduler w v })
 
--- choices led to a standing that agrees, in which a worker has in its hand the frame of this instance
+-- a worker has in its hand this frame
 pub record Turn : Type 0 where
-  pub program : tree.Program
-  pub globals : List ℤ
-  pub nodes : List Node
-  pub places : List Place
+  pub program : Program
+  pub machine : Machine
+  pub who : ℕ → Instance
   pub at : Standing
   pub worker : ℕ
   pub frame : Frame
-  pub instance : model.Instance
-  pub agrees : Agrees program globals nodes places at
-  pub choices : List Choice
-  pub events : List Event
-  pub led : after (label program) (length places) choices ≡ Some (record { standing = at; events = events })
-  pub is_worker : IsWorker places worker
-  pub hand : hand_of places worker ≡ Some frame
-  pub there : instance_at at.state.instances (name_in nodes frame) ≡ Some instance
+  pub agrees : Agrees program machine who at
+  pub placed : EachInItsPlace at
+  pub is_worker : IsWorker machine.places worker
+  pub hand : hand_of machine.places worker ≡ Some frame
 
 abbrev pub path_of : Turn → Path
-path_of t = name_in t.nodes t.frame
+path_of t = path_at t.machine.nodes t.frame.id
 
--- the number of the action behind its head
-abbrev pub IsNext : Turn → ℕ → Type 0
-IsNext t to = number_of (opened (next true t.instance.top.items)) ≡ Some to
+abbrev pub node_of : Turn → Node
+node_of t = node_at t.machine.nodes t.frame.id
 
--- cells, tree and places agree with the standing after the step
-abbrev pub Agreed : Turn → List ℤ → List Node → List Place → Step → Type 0
-Agreed t cells ms now step = Agrees t.program cells ms now (stepped t.at t.worker (path_of t) step)
+abbrev pub instance_of : Turn → Instance
+instance_of t = t.who t.frame.id
 
--- the instance goes on, with frame g in the hand
-abbrev pub Becomes : Turn → List ℤ → List Node → Frame → State → Type 0
-Becomes t cells ms g s = (did : Event) → Agreed t cells ms (with_hand t.places t.worker (Some g)) (goes_on s did)
+-- all that an action has to show of the instance in the hand: frame, node and instance become f, n and a, and what is outside becomes o
+pub record Local (t : Turn) (f : Frame) (n : Node) (a : Instance) (o : Outside) (s : State) : Type 0 where
+  pub own : f.id ≡ t.frame.id
+  pub stands : StandsFor (label t.program) f a
+  pub links : SameLinks (node_of t) n
+  pub parked : n.parked ≡ (node_of t).parked
+  pub from : AreFrom t.machine.nodes t.frame.id n.waiting
+  pub tells : Tells (label t.program) (path_at t.machine.nodes) (procedure_in t.machine.nodes) n a
+  pub outside : SameOutside (label t.program) (path_at t.machine.nodes) (length t.machine.nodes) o s
+  pub instances : s.instances ≡ changed (path_of t) (λ _. a) t.at.state.instances
 
--- it does nothing but go on
-abbrev pub GoingAgrees : Type 0
-GoingAgrees = (t : Turn) (to : ℕ) → IsNext t to
-    → Becomes t t.globals t.nodes (gone_to to t.frame) (after_going t.at.state (path_of t) t.instance)
+-- frame, node, instance and what is outside become these
+abbrev pub Becomes : Turn → Frame → Node → Instance → Outside → State → Type 0
+Becomes t f n a o s =
+    Agrees t.program (record t.machine { outside = o; nodes = slice_set t.machine.nodes t.frame.id n; places = with_hand t.machine.places t.worker (Some f) })
+    (instead t.who t.frame.id a) (record t.at { state = s })
 
-abbrev pub after_writing : Turn → Cell → ℤ → State
-after_writing t cell z =
-    after_write t.at.state (path_of t) t.instance (written (store_of t.at.state (path_of t) t.instance) cell z)
+-- the same, where the node stays as it is
+abbrev pub Goes : Turn → Frame → Instance → Outside → State → Type 0
+Goes t f a o s =
+    Agrees t.program (record t.machine { outside = o; places = with_hand t.machine.places t.worker (Some f) }) (instead t.who t.frame.id a)
+    (record t.at { state = s })
 
--- it writes a cell of its own, or of the top level
-abbrev pub WritesAgree : Type 0
-WritesAgree = (t : Turn) (slot : Slot) (index : ℕ) (cell : Cell) (z : ℤ) (to : ℕ) → SameCell (label t.program) t.instance.top.body slot index cell → IsNext t to
-    → (slot.area ≡ Own → Becomes t t.globals t.nodes (advanced (slot.offset + index) z to t.frame) (after_writing t cell z))
-    × (slot.area ≡ Global → Becomes t (slice_set t.globals (slot.offset + index) z) t.nodes (gone_to to t.frame) (after_writing t cell z))
-
-abbrev pub after_taking : Turn → List model.Delivery → Cell → ℕ → ℤ → State
-after_taking t others cell n z = after_place t.at.state (path_of t) t.instance others cell n (Ok z)
-
--- it takes the oldest delivery, into a cell of its own or of the top level
-abbrev pub DeliveriesAgree : Type 0
-DeliveriesAgree = (t : Turn) (slot : Slot) (index : ℕ) (cell : Cell) (z : ℤ) (n : ℕ) (oldest : model.Delivery) (others : List model.Delivery) → SameCell (label t.program) t.instance.top.body slot index cell → t.instance.waiting ≡ oldest ∷ others
-    → (slot.area ≡ Own → Becomes t t.globals (taken t.nodes t.frame.id) (with_own (slot.offset + index) z t.frame) (after_taking t others cell n z))
-    × (slot.area ≡ Global → Becomes t (slice_set t.globals (slot.offset + index) z) (taken t.nodes t.frame.id) t.frame (after_taking t others cell n z))
+-- whatever it does by itself: an assignment, a call, a return from a call or an inlet, a delivery that it takes, a lock, a line of output
+abbrev pub LocalAgrees : Type 0
+LocalAgrees = (t : Turn) (f : Frame) (n : Node) (a : Instance) (o : Outside) (s : State) → Local t f n a o s → Becomes t f n a o s
 
 -- it waits for its children
 abbrev pub WaitingAgrees : Type 0
 WaitingAgrees = (t : Turn)
-    → Agreed t t.globals (with_parked t.nodes t.frame.id (Some t.frame)) (with_hand t.places t.worker None) parks
+    → Agrees t.program (record t.machine {
+      nodes = with_parked t.machine.nodes t.frame.id (Some t.frame);
+      places = with_hand t.machine.places t.worker None;
+    }) t.who
+    (record t.at { scheduler = sched.parked_from t.at.scheduler t.worker (path_of t) })
 
--- the parent's frame goes to the bottom of the deque, and the child's to the hand
-abbrev pub handed : List Place → ℕ → Frame → Frame → List Place
-handed places w parent child =
-    with_hand (with_deque (with_hand places w None) w (deque_of (with_hand places w None) w ++ parent ∷ [])) w (Some child)
+-- all that a spawn has to show: the parent becomes a, behind frame f, and g is the frame of the child c
+pub record Birth (t : Turn) (f g : Frame) (receiver : Receiver) (callee : ℕ) (a c : Instance) (s : State) : Type 0 where
+  pub own : f.id ≡ t.frame.id
+  pub stands : StandsFor (label t.program) f a
+  pub tells : Tells (label t.program) (path_at t.machine.nodes) (procedure_in t.machine.nodes) (record (node_of t) { children = (node_of t).children + 1 }) a
+  pub child_own : g.id ≡ length t.machine.nodes
+  pub child_stands : StandsFor (label t.program) g c
+  -- whatever the paths are, and wherever the parent's procedure is told
+  pub child_tells : (up : ℕ → Path) (procedures : ℕ → ℕ) → procedures t.frame.id ≡ (node_of t).procedure
+      → Tells (label t.program) up procedures (new_child t.machine.nodes t.frame.id callee receiver) c
+  pub outside : SameOutside (label t.program) (path_at t.machine.nodes) (length t.machine.nodes) t.machine.outside s
+  pub instances : s.instances
+      ≡ changed (path_of t) (λ _. a) t.at.state.instances ++ record { path = child_path (path_of t) ((node_of t).children + 1); instance = c } ∷ []
 
--- it spawns, by action n
+-- the parent goes to the bottom of the deque, and the child to the hand
+abbrev pub after_birth : Turn → Frame → Frame → Receiver → ℕ → Machine
+after_birth t f g receiver callee = record t.machine {
+  nodes = with_child t.machine.nodes t.frame.id callee receiver;
+  places = pushed_by t.machine.places t.worker f g;
+}
+
 abbrev pub SpawnsAgree : Type 0
-SpawnsAgree = (t : Turn) (n : ℕ) (taker : Taker Cell) (callee : ℕ) (arguments : List ℤ) (receiver : Receiver) (to : ℕ) (did : Event) → IsNext t to → Takes (body_of t.program callee) arguments → Receives (label t.program) t.instance.top.body receiver (receiver_of taker n)
-    → Agreed t t.globals (with_child t.nodes t.frame.id receiver) (handed t.places t.worker (past_spawn to t.frame) (started t.program (length t.nodes) callee arguments))
-    (spawns (next_child (path_of t) t.instance) (after_start (label t.program) t.at.state (path_of t) t.instance n taker callee arguments true) did)
+SpawnsAgree = (t : Turn) (f g : Frame) (receiver : Receiver) (callee : ℕ) (a c : Instance) (s : State) → Birth t f g receiver callee a c s
+    → Agrees t.program (after_birth t f g receiver callee) (instead (instead t.who t.frame.id a) (length t.machine.nodes) c)
+    (record { state = s; scheduler = sched.pushed t.at.scheduler t.worker (path_of t) (child_path (path_of t) ((node_of t).children + 1)) })
 
--- it returns z: what becomes of its parent, if it has one
-pub record Returning (t : Turn) (z : ℤ) (ms : List Node) (left : List Place) (step : Step) : Type 0 where
-  pub root : (node_at t.nodes t.frame.id).parent ≡ None → Agreed t t.globals ms left step
-  -- it cannot go on, or is not parked
-  pub stays : (r : ℕ) → (node_at t.nodes t.frame.id).parent ≡ Some r → Stays ms r → Agreed t t.globals ms left step
-  -- it is parked and can go on: it comes to the hand
-  pub wakes : (r : ℕ) (g : Frame) → (node_at t.nodes t.frame.id).parent ≡ Some r → (node_at ms r).parked ≡ Some g → CanGoOn ms r
-      → Agreed t t.globals (with_parked ms r None) (with_hand left t.worker (Some g)) step
+-- an `abort` in k marks its live descendants
+abbrev pub MarksAgree : Type 0
+MarksAgree = (p : Program) (m : Machine) (who : ℕ → Instance) (at : Standing) → Agrees p m who at → (k : ℕ) → k < length m.nodes
+    → Agrees p (record m { nodes = marked_below m.nodes k }) (λ i. marked_if (descends m.nodes k i) (who i))
+    (record at { state = marked_from at.state (path_at m.nodes k) })
+
+-- the value of k waits for its parent, if anything takes it; an aborted child delivers nothing
+abbrev pub sent : List Node → ℕ → ℤ → List Node
+sent ns k z = if takes_value (node_at ns k).receiver && not (node_at ns k).aborted then delivered ns k z else ns
+
+-- no child of r lives, or it is not aborted and a delivery waits
+abbrev pub can_go_on : List Node → ℕ → Bool
+can_go_on ns r = not (has_live_child ns r) || (not (node_at ns r).aborted && not (is_empty (node_at ns r).waiting))
+
+-- r comes to w's hand where it is parked and can go on
+abbrev pub woken_by : Machine → ℕ → ℕ → Option Frame → Bool → Machine
+woken_by m w r None can = m
+woken_by m w r (Some g) true = record m { nodes = with_parked m.nodes r None; places = with_hand m.places w (Some g) }
+woken_by m w r (Some g) false = m
+
+abbrev pub woken : Machine → ℕ → Option ℕ → Machine
+woken m w None = m
+woken m w (Some r) = woken_by m w r (node_at m.nodes r).parked (can_go_on m.nodes r)
+
+-- the frame in the hand is spent, and its instance is no more
+abbrev pub without_frame : Turn → Outside → List Node → Ending → Machine
+without_frame t o ns ending = record t.machine { outside = o; nodes = ended ns t.frame.id ending; places = with_hand t.machine.places t.worker None }
+
+-- the root's value is the program's
+abbrev pub outside_after : Turn → ℤ → Option ℕ → Outside
+outside_after t z None = record t.machine.outside { outcome = outside.finished z }
+outside_after t z (Some r) = t.machine.outside
+
+-- it returns z, and its parent may go on
+abbrev pub after_returning : Turn → ℤ → Machine
+after_returning t z =
+    woken (without_frame t (outside_after t z (node_of t).parent) (sent t.machine.nodes t.frame.id z) Returned) t.worker (node_of t).parent
+
+abbrev pub who_after : Turn → ℤ → Option ℕ → ℕ → Instance
+who_after t z None = t.who
+who_after t z (Some r) = instead t.who r (with_deliveries (deliveries (path_of t) z (instance_of t).receiver (instance_of t).aborted) (t.who r))
 
 abbrev pub ReturnsAgree : Type 0
-ReturnsAgree = (t : Turn) (z : ℤ) (did : Event) → has_live_child t.nodes t.frame.id ≡ false
-    → Returning t z (returned t.nodes t.frame.id z) (with_hand t.places t.worker None) (ends (after_return t.at.state (path_of t) t.instance z) did)
+ReturnsAgree = (t : Turn) (z : ℤ) (did : Event) → has_live_child t.machine.nodes t.frame.id ≡ false
+    → Agrees t.program (after_returning t z) (who_after t z (node_of t).parent)
+    (stepped t.at t.worker (path_of t) (ends (after_return t.at.state (path_of t) (instance_of t) z) did))
+
+-- an aborted instance ends, and its locks are free
+abbrev pub released : ℕ → Lock → Lock
+released k Unset = Unset
+released k Free = Free
+released k (Held i) = if nat_eq i k then Free else Held i
+
+abbrev pub freed : Turn → Outside
+freed t = record t.machine.outside { locks = map (released t.frame.id) t.machine.outside.locks }
+
+abbrev pub EndsAgree : Type 0
+EndsAgree = (t : Turn) (did : Event) → has_live_child t.machine.nodes t.frame.id ≡ false
+    → Agrees t.program (woken (without_frame t (freed t) t.machine.nodes Aborted) t.worker (node_of t).parent) t.who
+    (stepped t.at t.worker (path_of t) (ends (after_abort t.at.state (path_of t)) did))

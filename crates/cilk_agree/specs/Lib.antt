@@ -1,5 +1,9 @@
+pub mod Outside
 pub mod Alike
 pub mod Agrees
-pub mod Ready
-pub mod Moves
+pub mod Marks
 pub mod Laws
+pub mod Locks
+pub mod Actions
+pub mod Asked
+pub mod Between

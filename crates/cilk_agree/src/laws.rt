@@ -1,10 +1,15 @@
-//! What keeps agreement. These functions do nothing: their contracts are the laws.
+//! What keeps agreement. The functions do nothing: their contracts are what is proved.
 
-ghost use Rattle.cilk_agree.specs.Laws.{OpeningAgrees, PopsAgree, StealsAgree, GoingAgrees, WritesAgree, DeliveriesAgree, WaitingAgrees, SpawnsAgree, ReturnsAgree};
+ghost use Rattle.cilk_agree.specs.Laws.{OpeningAgrees, NothingIsHidden, PopsAgree, StealsAgree, LocalAgrees, WaitingAgrees, SpawnsAgree, MarksAgree, ReturnsAgree, EndsAgree};
+ghost use Rattle.cilk_agree.specs.Actions.{GoingAgrees, WritesAgree, CallsAgree, LeavesAgree, AnswersAgree, DeliveriesAgree, InletsAgree, PrintsAgree, LocksAgree, TrapsAgree, StartsAgree, AbortsAgree};
+ghost use Rattle.cilk_agree.specs.Asked.{AskedOf, OldestIsTold, NoneIsTold, PlacedOf};
+ghost use Rattle.cilk_agree.specs.Between.{HandsAreFilled, HandsAreRestored, HandsAreHandedOn, SendersCanEnd, ParentsOutlive};
 
-/// The root alone, with its frame in the hand of worker 1, agrees with the start of the program.
+/// The root alone, with its frame in the hand of worker 1, agrees with the start of the program;
+/// and the instances with which a machine agrees may be read off the standing.
 pub fn the_opening_agrees()
-    ensures { OpeningAgrees }
+    ensures opening { OpeningAgrees }
+    ensures nothing_is_hidden { NothingIsHidden }
 {}
 
 /// A frame that a worker pops or steals keeps agreement.
@@ -13,12 +18,47 @@ pub fn moves_keep_agreement()
     ensures steals { StealsAgree }
 {}
 
-/// A step of the instance in a worker's hand keeps agreement, whatever it does.
+/// What the instance in a worker's hand does keeps agreement: by itself, as it waits for its
+/// children, spawns, marks its descendants, returns, or ends where it was marked.
 pub fn steps_keep_agreement()
-    ensures going { GoingAgrees }
-    ensures writes { WritesAgree }
-    ensures deliveries { DeliveriesAgree }
+    ensures by_itself { LocalAgrees }
     ensures waiting { WaitingAgrees }
     ensures spawns { SpawnsAgree }
+    ensures marks { MarksAgree }
     ensures returns { ReturnsAgree }
+    ensures ends { EndsAgree }
+{}
+
+/// So does each action, and each delivery that is taken.
+pub fn actions_keep_agreement()
+    ensures going { GoingAgrees }
+    ensures writes { WritesAgree }
+    ensures calls { CallsAgree }
+    ensures leaves { LeavesAgree }
+    ensures answers { AnswersAgree }
+    ensures deliveries { DeliveriesAgree }
+    ensures inlets { InletsAgree }
+    ensures prints { PrintsAgree }
+    ensures locks { LocksAgree }
+    ensures traps { TrapsAgree }
+    ensures starts { StartsAgree }
+    ensures aborts { AbortsAgree }
+{}
+
+/// What a step or a choice asks of the standing is told by the machine.
+pub fn questions_have_one_answer()
+    ensures steps { AskedOf }
+    ensures oldest { OldestIsTold }
+    ensures none { NoneIsTold }
+    ensures choices { PlacedOf }
+{}
+
+/// A step goes through states that agree with no standing: the frame is out of the hand, or an
+/// instance has sent its value and not ended yet.
+pub fn steps_have_halves()
+    ensures filled { HandsAreFilled }
+    ensures restored { HandsAreRestored }
+    ensures handed_on { HandsAreHandedOn }
+    ensures senders { SendersCanEnd }
+    ensures parents { ParentsOutlive }
 {}

@@ -1,5 +1,12 @@
-//! When the tree of instances, the places of the workers and the cells of the top level are a
-//! standing of the definition of runs, and that each change of them keeps that.
+//! When the machine stands as the definitions of runs say, and that each of its steps keeps this:
+//! the machine names an instance by its id, and the definitions by its path.
 #![tactic(auto)]
 
-pub mod laws;
+mod laws;
+mod lock;
+
+pub use laws::{
+    actions_keep_agreement, moves_keep_agreement, questions_have_one_answer, steps_have_halves,
+    steps_keep_agreement, the_opening_agrees,
+};
+pub use lock::Lock;

@@ -2,11 +2,11 @@
 use Rattle.std.proofs.Common.{◌≡◌, ◌≢◌, ℕ, zero, suc, ℤ, Bool, List, [], ◌∷◌, map, refl, sym, ap, subst, slice_set}
 use Rattle.std.specs.Prelude.{option_map, slice_get, slice_index_or}
 use Rattle.cilk_labelled.specs.Labelled.{Declaration, local, outer, global, of_lock, of_body, unknown}
-use Rattle.cilk_runs.specs.Values.{Values, Store, Cell}
-use Rattle.cilk_runs.specs.Instance.{Activation, outer_values}
-use Rattle.cilk_runs.specs.Change.{with_value, own_with, outer_with, globals_with, on_lowest}
-use Rattle.cilk_runs.specs.Written as written
-use Rattle.cilk_runs.specs.Written.{content, Writes, Holding}
+use Rattle.cilk_model.specs.Values.{Values, Store, Cell}
+use Rattle.cilk_model.specs.Instance.{Activation, outer_values}
+use Rattle.cilk_model.specs.Change.{with_value, own_with, outer_with, globals_with, on_lowest}
+use Rattle.cilk_model.specs.Written as written
+use Rattle.cilk_model.specs.Written.{content, Writes, Holding}
 
 pub get_set_same : {A : Type 0} (xs : List A) (k : ℕ) (z : A) → slice_get (slice_set xs k z) k ≡ option_map (λ _. z) (slice_get xs k)
 get_set_same [] k z = refl

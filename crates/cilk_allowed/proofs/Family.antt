@@ -1,9 +1,9 @@
 -- The parent of a live child lives, and has counted it; the paths of live instances stay apart.
 use Rattle.std.proofs.Common.{◌≡◌, ℕ, ◌+◌, ◌≤◌, Bool, true, false, not, ◌&&◌, ◌||◌, cond, [], ◌∷◌, Option, Some, None, is_some, refl, sym, ap, ◌∙◌, if◌then◌else◌, arith}
 use Rattle.std.specs.Prelude.{option_map}
-use Rattle.cilk_runs.specs.Path.{Path, same_path, child_path}
-use Rattle.cilk_runs.specs.Instance.{Instance}
-use Rattle.cilk_runs.specs.State.{Instances, State, instance_at, is_live, has_live_child}
+use Rattle.cilk_model.specs.Path.{Path, same_path, child_path}
+use Rattle.cilk_model.specs.Instance.{Instance}
+use Rattle.cilk_model.specs.State.{Instances, State, instance_at, is_live, has_live_child}
 use Rattle.cilk_allowed.specs.Order.{PathsAreApart, Counted, InOrder}
 use Rattle.cilk_allowed.proofs.Lookups.{same-is, times, times-cons}
 use Rattle.cilk_allowed.proofs.Paths.{not_root, same-parent, same-number, is-child, child_seen}

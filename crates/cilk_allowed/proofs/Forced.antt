@@ -4,21 +4,21 @@ use Rattle.std.proofs.lemmas.Bool.{cond_both, and_parts, and_from, or_left, or_r
 use Rattle.cilk_values.specs.declared.trap.Trap.{Trap}
 use Rattle.cilk_labelled.specs.Labelled.{Labelled, Action, Numbered}
 use Rattle.cilk_labelled.specs.Items.{head_of}
-use Rattle.cilk_runs.specs.Values.{Reached, read_at, combined}
-use Rattle.cilk_runs.specs.Effect.{Effect, writes, answers, enters, gives, starts, writes_out, turns, marks, effect_of}
-use Rattle.cilk_runs.specs.Path.{Path, child_path}
-use Rattle.cilk_runs.specs.Instance.{Activation, Receiver, place, through, Delivery, Instance}
-use Rattle.cilk_runs.specs.State.{Kind, depth, instances, output, State, instance_at, has_live_child, is_empty, is_synched, store_of, lock_at}
-use Rattle.cilk_runs.specs.Event as event
-use Rattle.cilk_runs.specs.Event.{Event}
-use Rattle.cilk_runs.specs.Change.{after_abort, after_call, after_start, after_print, leaves, is_sync, leaves_function, waits_here, head_waits, at_boundary, ends_thread, holds_lock, Turn, turned, refused, blocked, turn_by}
-use Rattle.cilk_runs.specs.Written as written
-use Rattle.cilk_runs.specs.Written.{Leaves, Waits, AtBoundary, Free}
-use Rattle.cilk_runs.specs.Fails as fails
-use Rattle.cilk_runs.specs.Fails.{here, MayLeave, HasNoValue, Fails}
-use Rattle.cilk_runs.specs.Rule as rule
-use Rattle.cilk_runs.specs.Rule.{Bare, Acts, Steps, Allows}
-use Rattle.cilk_runs.specs.Pick.{Step, waits, parks, goes_on, ends, spawns, if_room, step_by_combined, step_by_answer, step_by_leaving, step_by_turn, step_by_effect, step_by_head, step_by_place, step_by_receiver, step_at_boundary, step_of_aborted, step_of_instance, step_of_live, step_of}
+use Rattle.cilk_model.specs.Values.{Reached, read_at, combined}
+use Rattle.cilk_model.specs.Effect.{Effect, writes, answers, enters, gives, starts, writes_out, turns, marks, effect_of}
+use Rattle.cilk_model.specs.Path.{Path, child_path}
+use Rattle.cilk_model.specs.Instance.{Activation, Receiver, place, through, Delivery, Instance}
+use Rattle.cilk_model.specs.State.{Kind, depth, instances, output, State, instance_at, has_live_child, is_empty, is_synched, store_of, lock_at}
+use Rattle.cilk_model.specs.Event as event
+use Rattle.cilk_model.specs.Event.{Event}
+use Rattle.cilk_model.specs.Change.{after_abort, after_call, after_start, after_print, leaves, is_sync, leaves_function, waits_here, head_waits, at_boundary, ends_thread, holds_lock, Turn, turned, refused, blocked, turn_by}
+use Rattle.cilk_model.specs.Written as written
+use Rattle.cilk_model.specs.Written.{Leaves, Waits, AtBoundary, Free}
+use Rattle.cilk_model.specs.Fails as fails
+use Rattle.cilk_model.specs.Fails.{here, MayLeave, HasNoValue, Fails}
+use Rattle.cilk_model.specs.Rule as rule
+use Rattle.cilk_model.specs.Rule.{Bare, Acts, Steps, Allows}
+use Rattle.cilk_model.specs.Pick.{Step, waits, parks, goes_on, ends, spawns, if_room, step_by_combined, step_by_answer, step_by_leaving, step_by_turn, step_by_effect, step_by_head, step_by_place, step_by_receiver, step_at_boundary, step_of_aborted, step_of_instance, step_of_live, step_of}
 use Rattle.cilk_allowed.specs.Forced.{Stays, AbortedParent, EachWaitIsForced}
 use Rattle.cilk_allowed.proofs.Locks.{holds_seen}
 use Rattle.cilk_allowed.proofs.Forms.{FitsTurn, FitsEffect, Fits, held_at, thread_ends, acts_fit}

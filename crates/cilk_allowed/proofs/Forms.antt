@@ -12,20 +12,20 @@ use Rattle.cilk_values.specs.Arithmetic.{is_zero}
 use Rattle.cilk_values.specs.Term.{Term}
 use Rattle.cilk_values.specs.Value.{Environment, value_of, values_of, ◌>>=◌}
 use Rattle.cilk_labelled.specs.Labelled.{Labelled, Declaration, Into, Taker, nothing, into, through, Action, assign, call, spawn, print, tests, sync}
-use Rattle.cilk_runs.specs.Values.{Cell, Reached, read_at, reached_at, reached_if, combined}
-use Rattle.cilk_runs.specs.Effect.{Effect, writes, answers, enters, gives, starts, writes_out, turns, marks, start_of, effect_of}
-use Rattle.cilk_runs.specs.Path.{Path, same_path}
-use Rattle.cilk_runs.specs.Instance.{Activation, Receiver, place, through, Delivery, Instance, owner_at}
-use Rattle.cilk_runs.specs.State as state
-use Rattle.cilk_runs.specs.State.{Kind, of_value, lock, held_lock, depth, instances, output, State, unset, free, held, is_empty, store_of, lock_at}
-use Rattle.cilk_runs.specs.Change.{is_function, leaves_function, ends_thread, holds_lock, Turn, turned, refused, blocked, turn_by}
-use Rattle.cilk_runs.specs.Printing.{printed}
-use Rattle.cilk_runs.specs.Written as written
-use Rattle.cilk_runs.specs.Written.{HoldsNone, Leaves, Gives, Receives, place_of, others_of}
-use Rattle.cilk_runs.specs.Fails as fails
-use Rattle.cilk_runs.specs.Fails.{here, InFunction, InInlet, MayLeave, MayPass, EndsThread, HasNoValue, MayNot, Fails}
-use Rattle.cilk_runs.specs.Rule as rule
-use Rattle.cilk_runs.specs.Rule.{GoesOn, GoesBy, Puts, PutsOn, Enters, Resumes, Answers, Births, RootEnds, ChildEnds, Marks, Turns, Traps, Bare, Acts, Starts, Takes}
+use Rattle.cilk_model.specs.Values.{Cell, Reached, read_at, reached_at, reached_if, combined}
+use Rattle.cilk_model.specs.Effect.{Effect, writes, answers, enters, gives, starts, writes_out, turns, marks, start_of, effect_of}
+use Rattle.cilk_model.specs.Path.{Path, same_path}
+use Rattle.cilk_model.specs.Instance.{Activation, Receiver, place, through, Delivery, Instance, owner_at}
+use Rattle.cilk_model.specs.State as state
+use Rattle.cilk_model.specs.State.{Kind, of_value, lock, held_lock, depth, instances, output, State, unset, free, held, is_empty, store_of, lock_at}
+use Rattle.cilk_model.specs.Change.{is_function, leaves_function, ends_thread, holds_lock, Turn, turned, refused, blocked, turn_by}
+use Rattle.cilk_model.specs.Printing.{printed}
+use Rattle.cilk_model.specs.Written as written
+use Rattle.cilk_model.specs.Written.{HoldsNone, Leaves, Gives, Receives, place_of, others_of}
+use Rattle.cilk_model.specs.Fails as fails
+use Rattle.cilk_model.specs.Fails.{here, InFunction, InInlet, MayLeave, MayPass, EndsThread, HasNoValue, MayNot, Fails}
+use Rattle.cilk_model.specs.Rule as rule
+use Rattle.cilk_model.specs.Rule.{GoesOn, GoesBy, Puts, PutsOn, Enters, Resumes, Answers, Births, RootEnds, ChildEnds, Marks, Turns, Traps, Bare, Acts, Starts, Takes}
 use Rattle.cilk_allowed.proofs.Lookups.{then_is, same-is, same-self}
 use Rattle.cilk_allowed.proofs.Locks.{holds_seen, none_seen}
 

@@ -9,21 +9,21 @@ use Rattle.cilk_values.specs.Arithmetic.{is_zero}
 use Rattle.cilk_values.specs.Term.{Term}
 use Rattle.cilk_values.specs.Value.{Environment, value_of, values_of, ◌>>=◌}
 use Rattle.cilk_labelled.specs.Labelled.{Labelled, Declaration, Into, Action, assign, print, locking, tests, sync, abort}
-use Rattle.cilk_runs.specs.Values.{Reached, read_at, reached_at, combined}
-use Rattle.cilk_runs.specs.Effect.{writes, answers, writes_out, effect_of}
-use Rattle.cilk_runs.specs.Path.{Path, same_path, is_below}
-use Rattle.cilk_runs.specs.Instance.{Activation, Instance}
-use Rattle.cilk_runs.specs.State as state
-use Rattle.cilk_runs.specs.State.{of_value, lock, output, unset, free, held, State, instance_at, is_empty, is_synched, store_of, lock_at, changed}
-use Rattle.cilk_runs.specs.Event as event
-use Rattle.cilk_runs.specs.Change.{turned, refused, blocked, turn_by, gone_on, put, holds_lock, after_write, after_going, after_print, after_lock, after_marks}
-use Rattle.cilk_runs.specs.Printing.{printed}
-use Rattle.cilk_runs.specs.Written.{Heads}
-use Rattle.cilk_runs.specs.Fails as fails
-use Rattle.cilk_runs.specs.Fails.{here, MayPass}
-use Rattle.cilk_runs.specs.Rule as rule
-use Rattle.cilk_runs.specs.Rule.{Bare, Turns, Marks}
-use Rattle.cilk_runs.specs.Pick.{goes_on, if_room, step_by_effect, step_by_turn}
+use Rattle.cilk_model.specs.Values.{Reached, read_at, reached_at, combined}
+use Rattle.cilk_model.specs.Effect.{writes, answers, writes_out, effect_of}
+use Rattle.cilk_model.specs.Path.{Path, same_path, is_below}
+use Rattle.cilk_model.specs.Instance.{Activation, Instance}
+use Rattle.cilk_model.specs.State as state
+use Rattle.cilk_model.specs.State.{of_value, lock, output, unset, free, held, State, instance_at, is_empty, is_synched, store_of, lock_at, changed}
+use Rattle.cilk_model.specs.Event as event
+use Rattle.cilk_model.specs.Change.{turned, refused, blocked, turn_by, gone_on, put, holds_lock, after_write, after_going, after_print, after_lock, after_marks}
+use Rattle.cilk_model.specs.Printing.{printed}
+use Rattle.cilk_model.specs.Written.{Heads}
+use Rattle.cilk_model.specs.Fails as fails
+use Rattle.cilk_model.specs.Fails.{here, MayPass}
+use Rattle.cilk_model.specs.Rule as rule
+use Rattle.cilk_model.specs.Rule.{Bare, Turns, Marks}
+use Rattle.cilk_model.specs.Pick.{goes_on, if_room, step_by_effect, step_by_turn}
 use Rattle.cilk_allowed.proofs.Lookups.{same-is, same-self, marked, at-marked_below, at-marked_beside}
 use Rattle.cilk_allowed.proofs.Paths.{not_below}
 use Rattle.cilk_allowed.proofs.Live.{marked_alike}

@@ -3,19 +3,19 @@ use Rattle.std.proofs.Common.{◌≡◌, ◌≢◌, ℕ, ℤ, Bool, true, false,
 use Rattle.std.specs.Prelude.{option_map}
 use Rattle.std.proofs.lemmas.Bool.{and_parts}
 use Rattle.cilk_labelled.specs.Labelled.{Labelled, Action}
-use Rattle.cilk_runs.specs.Values.{Cell}
-use Rattle.cilk_runs.specs.Path.{Path}
-use Rattle.cilk_runs.specs.Instance.{Activation, Instance, outer_values}
-use Rattle.cilk_runs.specs.State.{Kind, State, running, instance_at, changed, has_live_child, is_empty, is_synched}
-use Rattle.cilk_runs.specs.Event as event
-use Rattle.cilk_runs.specs.Event.{Event}
-use Rattle.cilk_runs.specs.Change.{gone_on, holds_lock, own_with, outer_with, on_lowest, put, with_put, stopped}
-use Rattle.cilk_runs.specs.Written.{Heads, Free}
-use Rattle.cilk_runs.specs.Fails.{Fails}
-use Rattle.cilk_runs.specs.Rule as rule
-use Rattle.cilk_runs.specs.Rule.{Flags, GoesOn, GoesBy, Puts, PutsOn, Acts, Steps}
-use Rattle.cilk_runs.specs.Pick as pick
-use Rattle.cilk_runs.specs.Pick.{Step, waits, parks, goes_on, ends, spawns}
+use Rattle.cilk_model.specs.Values.{Cell}
+use Rattle.cilk_model.specs.Path.{Path}
+use Rattle.cilk_model.specs.Instance.{Activation, Instance, outer_values}
+use Rattle.cilk_model.specs.State.{Kind, State, running, instance_at, changed, has_live_child, is_empty, is_synched}
+use Rattle.cilk_model.specs.Event as event
+use Rattle.cilk_model.specs.Event.{Event}
+use Rattle.cilk_model.specs.Change.{gone_on, holds_lock, own_with, outer_with, on_lowest, put, with_put, stopped}
+use Rattle.cilk_model.specs.Written.{Heads, Free}
+use Rattle.cilk_model.specs.Fails.{Fails}
+use Rattle.cilk_model.specs.Rule as rule
+use Rattle.cilk_model.specs.Rule.{Flags, GoesOn, GoesBy, Puts, PutsOn, Acts, Steps}
+use Rattle.cilk_model.specs.Pick as pick
+use Rattle.cilk_model.specs.Pick.{Step, waits, parks, goes_on, ends, spawns}
 use Rattle.cilk_allowed.specs.Told.{told_by_action, told, AllowsAs}
 use Rattle.cilk_allowed.proofs.Lookups.{apart, at-changed_same, at-changed_other}
 use Rattle.cilk_allowed.proofs.Live.{Alike, Fewer, More, alike, changed_alike}

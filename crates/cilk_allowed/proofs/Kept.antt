@@ -1,14 +1,14 @@
 -- Each choice that is possible keeps the written rule, and leaves a state in order.
 use Rattle.std.proofs.Common.{◌≡◌, ℕ, Bool, true, false, not, [], Option, Some, None, refl, sym, ap, subst, ◌∙◌, if◌then◌else◌}
 use Rattle.cilk_labelled.specs.Labelled.{Labelled}
-use Rattle.cilk_runs.specs.Path.{Path}
-use Rattle.cilk_runs.specs.Instance.{started}
-use Rattle.cilk_runs.specs.State.{State, Outcome, running, finished, trapped, opening_state}
-use Rattle.cilk_runs.specs.Pick.{Step, waits, parks, goes_on, ends, spawns, step_of}
-use Rattle.cilk_runs.specs.Scheduler.{hand_of}
-use Rattle.cilk_runs.specs.Choice.{Act, step, pop, steal, Choice, over}
-use Rattle.cilk_runs.specs.Run.{Standing, Position, is_running, is_worker, act_refusal, refusal_of, state_after, event_of_step, next_by_hand, next_by, event_by_hand, event_by, event_of, after, one_more}
-use Rattle.cilk_runs.specs.Choice.{no_worker}
+use Rattle.cilk_model.specs.Path.{Path}
+use Rattle.cilk_model.specs.Instance.{started}
+use Rattle.cilk_model.specs.State.{State, Outcome, running, finished, trapped, opening_state}
+use Rattle.cilk_model.specs.Pick.{Step, waits, parks, goes_on, ends, spawns, step_of}
+use Rattle.cilk_model.specs.Scheduler.{hand_of}
+use Rattle.cilk_model.specs.Choice.{Act, step, pop, steal, Choice, over}
+use Rattle.cilk_model.specs.Run.{Standing, Position, is_running, is_worker, act_refusal, refusal_of, state_after, event_of_step, next_by_hand, next_by, event_by_hand, event_by, event_of, after, one_more}
+use Rattle.cilk_model.specs.Choice.{no_worker}
 use Rattle.cilk_allowed.specs.Order.{InOrder, EachStateIsInOrder}
 use Rattle.cilk_allowed.specs.Kept.{KeepsRule, OneMore, EachChoiceKeepsRule}
 use Rattle.cilk_allowed.proofs.Family.{alike_order, fewer_order, more_order, root_order}

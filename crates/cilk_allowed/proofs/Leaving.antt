@@ -8,20 +8,20 @@ use Rattle.cilk_values.specs.declared.trap.Trap.{Trap}
 use Rattle.cilk_values.specs.Term.{Term}
 use Rattle.cilk_values.specs.Value.{Environment, value_of, ◌>>=◌}
 use Rattle.cilk_labelled.specs.Labelled.{Labelled, Declaration, Action, return_with, return_nothing, close}
-use Rattle.cilk_runs.specs.Values.{Reached, Cell, read_at, combined}
-use Rattle.cilk_runs.specs.Effect.{gives, effect_of}
-use Rattle.cilk_runs.specs.Path.{Path, child_path, parent_of}
-use Rattle.cilk_runs.specs.Instance.{Activation, Receiver, Instance, owner_at}
-use Rattle.cilk_runs.specs.State.{of_value, State, instance_at, is_live, without, is_empty, is_synched, store_of}
-use Rattle.cilk_runs.specs.Event as event
-use Rattle.cilk_runs.specs.Change.{is_function, leaves_function, holds_lock, put, resumed_to, resumed, after_leaving, after_answer, deliveries, with_deliveries, after_return_to, after_return}
-use Rattle.cilk_runs.specs.Written as written
-use Rattle.cilk_runs.specs.Written.{HoldsNone, Free, Gives, Heads, Delivers}
-use Rattle.cilk_runs.specs.Fails as fails
-use Rattle.cilk_runs.specs.Fails.{here, InFunction, InInlet, MayLeave}
-use Rattle.cilk_runs.specs.Rule as rule
-use Rattle.cilk_runs.specs.Rule.{Puts, Resumes, RootEnds, ChildEnds}
-use Rattle.cilk_runs.specs.Pick.{goes_on, ends, step_by_combined, step_by_answer, step_by_leaving, step_by_effect}
+use Rattle.cilk_model.specs.Values.{Reached, Cell, read_at, combined}
+use Rattle.cilk_model.specs.Effect.{gives, effect_of}
+use Rattle.cilk_model.specs.Path.{Path, child_path, parent_of}
+use Rattle.cilk_model.specs.Instance.{Activation, Receiver, Instance, owner_at}
+use Rattle.cilk_model.specs.State.{of_value, State, instance_at, is_live, without, is_empty, is_synched, store_of}
+use Rattle.cilk_model.specs.Event as event
+use Rattle.cilk_model.specs.Change.{is_function, leaves_function, holds_lock, put, resumed_to, resumed, after_leaving, after_answer, deliveries, with_deliveries, after_return_to, after_return}
+use Rattle.cilk_model.specs.Written as written
+use Rattle.cilk_model.specs.Written.{HoldsNone, Free, Gives, Heads, Delivers}
+use Rattle.cilk_model.specs.Fails as fails
+use Rattle.cilk_model.specs.Fails.{here, InFunction, InInlet, MayLeave}
+use Rattle.cilk_model.specs.Rule as rule
+use Rattle.cilk_model.specs.Rule.{Puts, Resumes, RootEnds, ChildEnds}
+use Rattle.cilk_model.specs.Pick.{goes_on, ends, step_by_combined, step_by_answer, step_by_leaving, step_by_effect}
 use Rattle.cilk_allowed.proofs.Lookups.{otherwise, then_is, apart, at-changed_same, at-changed_other, at-without_other, none_there}
 use Rattle.cilk_allowed.proofs.Paths.{not_own, Origin, origin}
 use Rattle.cilk_allowed.proofs.Live.{Fewer, without_fewer, changed_fewer}

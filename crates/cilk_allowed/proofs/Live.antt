@@ -1,10 +1,10 @@
 -- Which instances live after a change, and how many children they have counted.
 use Rattle.std.proofs.Common.{◌≡◌, ℕ, ◌+◌, Bool, true, false, not, ◌&&◌, ◌||◌, cond, [], ◌∷◌, ◌++◌, map, Option, Some, None, is_some, refl, sym, ap, ◌∙◌, if◌then◌else◌}
 use Rattle.std.specs.Prelude.{option_map}
-use Rattle.cilk_runs.specs.Path.{Path, same_path, child_path, is_below}
-use Rattle.cilk_runs.specs.Instance.{Instance}
-use Rattle.cilk_runs.specs.State.{Entry, Instances, instance_at, is_live, change, changed, without}
-use Rattle.cilk_runs.specs.Change.{mark}
+use Rattle.cilk_model.specs.Path.{Path, same_path, child_path, is_below}
+use Rattle.cilk_model.specs.Instance.{Instance}
+use Rattle.cilk_model.specs.State.{Entry, Instances, instance_at, is_live, change, changed, without}
+use Rattle.cilk_model.specs.Change.{mark}
 use Rattle.cilk_allowed.proofs.Lookups.{same-is, times, live-mapped, times-mapped, change-path, mark-path, live-without, times-without, at-changed_same, at-changed_other, at-without_other, either_of, at-push, live-push, times-push, marked, at-marked_below, at-marked_beside}
 
 -- how many children the instance at a path ever spawned

@@ -2,10 +2,10 @@
 use Rattle.std.proofs.Common.{◌≡◌, ◌≢◌, ℕ, zero, suc, Bool, true, false, ◌||◌, List, [], ◌∷◌, Option, Some, None, refl, sym, ap, ◌∙◌, if◌then◌else◌}
 use Rattle.std.specs.Prelude.{option_map, slice_get}
 use Rattle.std.specs.List.{list_any}
-use Rattle.cilk_runs.specs.Path.{Path, same_path}
-use Rattle.cilk_runs.specs.State.{Lock, unset, free, held, State}
-use Rattle.cilk_runs.specs.Change.{is_held_by, holds_lock, released}
-use Rattle.cilk_runs.specs.Written.{Lets, Holds, HoldsNone}
+use Rattle.cilk_model.specs.Path.{Path, same_path}
+use Rattle.cilk_model.specs.State.{Lock, unset, free, held, State}
+use Rattle.cilk_model.specs.Change.{is_held_by, holds_lock, released}
+use Rattle.cilk_model.specs.Written.{Lets, Holds, HoldsNone}
 use Rattle.cilk_allowed.proofs.Lookups.{same-is, same-self}
 
 pub held-is : (p : Path) (lock : Lock) → is_held_by p lock ≡ true → lock ≡ held p

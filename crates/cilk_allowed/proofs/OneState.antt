@@ -3,17 +3,17 @@ use Rattle.std.proofs.Common.{◌≡◌, ◌≢◌, ℕ, ◌+◌, ◌⊎◌, inl
 use Rattle.std.specs.Prelude.{slice_get, slice_index_or}
 use Rattle.cilk_values.specs.declared.trap.Trap.{Trap}
 use Rattle.cilk_labelled.specs.Labelled.{Labelled, global}
-use Rattle.cilk_runs.specs.Values.{Values, Store, Cell, Reached}
-use Rattle.cilk_runs.specs.Effect.{Effect, writes, answers, enters, gives, starts, writes_out, turns, marks, effect_of}
-use Rattle.cilk_runs.specs.Path.{Path, child_path, parent_of, is_below}
+use Rattle.cilk_model.specs.Values.{Values, Store, Cell, Reached}
+use Rattle.cilk_model.specs.Effect.{Effect, writes, answers, enters, gives, starts, writes_out, turns, marks, effect_of}
+use Rattle.cilk_model.specs.Path.{Path, child_path, parent_of, is_below}
 use Rattle.cilk_labelled.specs.Items.{opened, next}
-use Rattle.cilk_runs.specs.Instance.{Activation, Receiver, place, through, Delivery, Instance, entered}
-use Rattle.cilk_runs.specs.State.{Kind, of_value, held_lock, depth, instances, output, Lock, State, instance_at, lock_at}
-use Rattle.cilk_runs.specs.Change.{leaves_function, with_deliveries, deliveries, Turn, turned, refused, blocked, turn_by}
-use Rattle.cilk_runs.specs.Written as written
-use Rattle.cilk_runs.specs.Written.{content, Writes, Holding, Delivers, Lets}
-use Rattle.cilk_runs.specs.Fails.{here}
-use Rattle.cilk_runs.specs.Rule.{Flags, past, GoesOn, GoesBy, Puts, PutsOn, Enters, Resumes, Births, RootEnds, ChildEnds, Marks, Traps, Starts, Ends}
+use Rattle.cilk_model.specs.Instance.{Activation, Receiver, place, through, Delivery, Instance, entered}
+use Rattle.cilk_model.specs.State.{Kind, of_value, held_lock, depth, instances, output, Lock, State, instance_at, lock_at}
+use Rattle.cilk_model.specs.Change.{leaves_function, with_deliveries, deliveries, Turn, turned, refused, blocked, turn_by}
+use Rattle.cilk_model.specs.Written as written
+use Rattle.cilk_model.specs.Written.{content, Writes, Holding, Delivers, Lets}
+use Rattle.cilk_model.specs.Fails.{here}
+use Rattle.cilk_model.specs.Rule.{Flags, past, GoesOn, GoesBy, Puts, PutsOn, Enters, Resumes, Births, RootEnds, ChildEnds, Marks, Traps, Starts, Ends}
 use Rattle.cilk_allowed.specs.OneState.{AlikeAt, equal, by_cells, Alike, RuleLeavesOneState}
 use Rattle.cilk_allowed.proofs.Paths.{parent-child, same-parent}
 use Rattle.cilk_allowed.proofs.Decided.{at, number_decided, cell_decided, path_decided, lock_decided, empty_decided}

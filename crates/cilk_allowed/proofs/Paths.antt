@@ -1,8 +1,8 @@
 -- Parents, children and what is below a path.
 use Rattle.std.proofs.Common.{◌≡◌, ◌≢◌, ℕ, ◌==◌, Bool, true, false, ◌&&◌, ◌||◌, [], ◌∷◌, Option, Some, None, refl, sym, ap, ◌∙◌}
 use Rattle.std.specs.Prelude.{option_map}
-use Rattle.cilk_runs.specs.Path.{Path, same_path, child_path, parent_of, is_that, is_child, is_below}
-use Rattle.cilk_runs.specs.State.{Entry, Instances, is_live, has_live_child}
+use Rattle.cilk_model.specs.Path.{Path, same_path, child_path, parent_of, is_that, is_child, is_below}
+use Rattle.cilk_model.specs.State.{Entry, Instances, is_live, has_live_child}
 use Rattle.cilk_allowed.proofs.Lookups.{same-is, same-self, live-cons}
 
 pub not_own : (q : Path) (k : ℕ) → q ≡ child_path q k → ⊥

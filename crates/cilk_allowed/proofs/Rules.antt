@@ -7,21 +7,21 @@ use Rattle.cilk_scopes.specs.declared.owner.Owner.TheVariants.{Function, Procedu
 use Rattle.cilk_values.specs.declared.trap.Trap.{Trap}
 use Rattle.cilk_labelled.specs.Labelled.{Labelled, Action, assign, call, spawn, print, locking, null, break_off, go_round, tests, sync, abort, return_with, return_nothing, close, Numbered}
 use Rattle.cilk_labelled.specs.Items.{head_of}
-use Rattle.cilk_runs.specs.Values.{Reached, read_at, combined}
-use Rattle.cilk_runs.specs.Effect.{effect_of}
-use Rattle.cilk_runs.specs.Path.{Path}
-use Rattle.cilk_runs.specs.Instance.{Receiver, place, through, Delivery, Activation, Instance, entered, owner_at}
-use Rattle.cilk_runs.specs.State.{of_value, held_lock, State, running, instance_at, has_live_child, is_empty, is_synched, store_of}
-use Rattle.cilk_runs.specs.Event as event
-use Rattle.cilk_runs.specs.Change.{is_function, waits_here, head_waits, at_boundary, ends_thread, holds_lock, above, put, after_place, after_inlet, released, after_abort}
-use Rattle.cilk_runs.specs.Written as written
-use Rattle.cilk_runs.specs.Written.{Leaves, Waits, Heads, AtBoundary, Lets}
-use Rattle.cilk_runs.specs.Fails as fails
-use Rattle.cilk_runs.specs.Fails.{here, EndsThread}
-use Rattle.cilk_runs.specs.Rule as rule
-use Rattle.cilk_runs.specs.Rule.{Ends, Starts}
-use Rattle.cilk_runs.specs.Pick as pick
-use Rattle.cilk_runs.specs.Pick.{Step, waits, parks, goes_on, ends, spawns, step_by_effect, step_by_head, step_by_place, step_by_receiver, step_at_boundary, step_of_aborted, step_of_instance, step_of_live, step_of}
+use Rattle.cilk_model.specs.Values.{Reached, read_at, combined}
+use Rattle.cilk_model.specs.Effect.{effect_of}
+use Rattle.cilk_model.specs.Path.{Path}
+use Rattle.cilk_model.specs.Instance.{Receiver, place, through, Delivery, Activation, Instance, entered, owner_at}
+use Rattle.cilk_model.specs.State.{of_value, held_lock, State, running, instance_at, has_live_child, is_empty, is_synched, store_of}
+use Rattle.cilk_model.specs.Event as event
+use Rattle.cilk_model.specs.Change.{is_function, waits_here, head_waits, at_boundary, ends_thread, holds_lock, above, put, after_place, after_inlet, released, after_abort}
+use Rattle.cilk_model.specs.Written as written
+use Rattle.cilk_model.specs.Written.{Leaves, Waits, Heads, AtBoundary, Lets}
+use Rattle.cilk_model.specs.Fails as fails
+use Rattle.cilk_model.specs.Fails.{here, EndsThread}
+use Rattle.cilk_model.specs.Rule as rule
+use Rattle.cilk_model.specs.Rule.{Ends, Starts}
+use Rattle.cilk_model.specs.Pick as pick
+use Rattle.cilk_model.specs.Pick.{Step, waits, parks, goes_on, ends, spawns, step_by_effect, step_by_head, step_by_place, step_by_receiver, step_at_boundary, step_of_aborted, step_of_instance, step_of_live, step_of}
 use Rattle.cilk_allowed.specs.Order.{InOrder, AllowedStep, EachPickIsAllowed}
 use Rattle.cilk_allowed.proofs.Lookups.{apart, at-without_other, none_there}
 use Rattle.cilk_allowed.proofs.Live.{alike, without_fewer}

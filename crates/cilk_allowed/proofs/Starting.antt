@@ -5,21 +5,21 @@ use Rattle.cilk_values.specs.declared.trap.Trap.{Trap}
 use Rattle.cilk_values.specs.Term.{Term}
 use Rattle.cilk_values.specs.Value.{Environment, values_of, ◌>>=◌}
 use Rattle.cilk_labelled.specs.Labelled.{Labelled, Declaration, Into, Taker, nothing, into, through, call, spawn}
-use Rattle.cilk_runs.specs.Values.{Reached, reached_at, reached_if}
-use Rattle.cilk_runs.specs.Effect.{enters, starts, start_of, effect_of}
-use Rattle.cilk_runs.specs.Path.{Path, same_path, child_path}
-use Rattle.cilk_runs.specs.Instance as instance
-use Rattle.cilk_runs.specs.Instance.{Receiver, place, Instance, entered, started}
-use Rattle.cilk_runs.specs.State.{Entry, of_value, depth, instances, State, instance_at, is_live, change, changed}
-use Rattle.cilk_runs.specs.Event as event
-use Rattle.cilk_runs.specs.Change.{gone_on, above, after_call, after_start}
-use Rattle.cilk_runs.specs.Written as written
-use Rattle.cilk_runs.specs.Written.{HoldsNone, Heads, Receives, place_of, others_of}
-use Rattle.cilk_runs.specs.Fails as fails
-use Rattle.cilk_runs.specs.Fails.{here}
-use Rattle.cilk_runs.specs.Rule as rule
-use Rattle.cilk_runs.specs.Rule.{Enters, Births}
-use Rattle.cilk_runs.specs.Pick.{goes_on, spawns, if_room, step_by_effect}
+use Rattle.cilk_model.specs.Values.{Reached, reached_at, reached_if}
+use Rattle.cilk_model.specs.Effect.{enters, starts, start_of, effect_of}
+use Rattle.cilk_model.specs.Path.{Path, same_path, child_path}
+use Rattle.cilk_model.specs.Instance as instance
+use Rattle.cilk_model.specs.Instance.{Receiver, place, Instance, entered, started}
+use Rattle.cilk_model.specs.State.{Entry, of_value, depth, instances, State, instance_at, is_live, change, changed}
+use Rattle.cilk_model.specs.Event as event
+use Rattle.cilk_model.specs.Change.{gone_on, above, after_call, after_start}
+use Rattle.cilk_model.specs.Written as written
+use Rattle.cilk_model.specs.Written.{HoldsNone, Heads, Receives, place_of, others_of}
+use Rattle.cilk_model.specs.Fails as fails
+use Rattle.cilk_model.specs.Fails.{here}
+use Rattle.cilk_model.specs.Rule as rule
+use Rattle.cilk_model.specs.Rule.{Enters, Births}
+use Rattle.cilk_model.specs.Pick.{goes_on, spawns, if_room, step_by_effect}
 use Rattle.cilk_allowed.proofs.Lookups.{otherwise, then_is, same-self, apart, live-mapped, change-path, none_of_live, either_of, either_none, at-push}
 use Rattle.cilk_allowed.proofs.Live.{More, birth_more}
 use Rattle.cilk_allowed.proofs.Family.{fresh}

@@ -1,12 +1,12 @@
 -- Where an instance does not step, the written rule allows it no step.
 use Rattle.std.specs.Prelude.{◌≡◌, true, Some, ⊤}
 use Rattle.cilk_labelled.specs.Labelled.{Labelled}
-use Rattle.cilk_runs.specs.Path.{Path}
-use Rattle.cilk_runs.specs.Instance.{Instance}
-use Rattle.cilk_runs.specs.State.{State, instance_at, has_live_child}
-use Rattle.cilk_runs.specs.Event.{Event}
-use Rattle.cilk_runs.specs.Rule.{Allows}
-use Rattle.cilk_runs.specs.Pick.{Step, waits, parks, goes_on, ends, spawns, step_of}
+use Rattle.cilk_model.specs.Path.{Path}
+use Rattle.cilk_model.specs.Instance.{Instance}
+use Rattle.cilk_model.specs.State.{State, instance_at, has_live_child}
+use Rattle.cilk_model.specs.Event.{Event}
+use Rattle.cilk_model.specs.Rule.{Allows}
+use Rattle.cilk_model.specs.Pick.{Step, waits, parks, goes_on, ends, spawns, step_of}
 
 -- nothing is changed
 abbrev pub Stays : Step → Type 0

@@ -1,12 +1,12 @@
 -- Each choice keeps the written rule.
 use Rattle.std.specs.Prelude.{◌≡◌, ◌≢◌, ℕ, List, [], ◌∷◌, ◌++◌, Option, Some, None}
 use Rattle.cilk_labelled.specs.Labelled.{Labelled}
-use Rattle.cilk_runs.specs.Path.{Path}
-use Rattle.cilk_runs.specs.State.{State}
-use Rattle.cilk_runs.specs.Event.{Event, moved}
-use Rattle.cilk_runs.specs.Scheduler.{hand_of}
-use Rattle.cilk_runs.specs.Choice.{Choice}
-use Rattle.cilk_runs.specs.Run.{Position, after}
+use Rattle.cilk_model.specs.Path.{Path}
+use Rattle.cilk_model.specs.State.{State}
+use Rattle.cilk_model.specs.Event.{Event, moved}
+use Rattle.cilk_model.specs.Scheduler.{hand_of}
+use Rattle.cilk_model.specs.Choice.{Choice}
+use Rattle.cilk_model.specs.Run.{Position, after}
 use Rattle.cilk_allowed.specs.Told.{AllowsAs}
 
 -- s allows t by a step of the instance in a hand, which is told by this event

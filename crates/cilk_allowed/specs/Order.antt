@@ -1,12 +1,12 @@
 -- The written rule allows each step that is taken from a state that is in order, and each state that choices reach is.
 use Rattle.std.specs.Prelude.{◌≡◌, ℕ, ◌≤◌, true, ⊤, cond, List, Some, count_by}
 use Rattle.cilk_labelled.specs.Labelled.{Labelled}
-use Rattle.cilk_runs.specs.Path.{Path, same_path, child_path}
-use Rattle.cilk_runs.specs.Instance.{Instance}
-use Rattle.cilk_runs.specs.State.{State, Instances, running, instance_at, is_live}
-use Rattle.cilk_runs.specs.Pick.{Step, waits, parks, goes_on, ends, spawns, step_of}
-use Rattle.cilk_runs.specs.Choice.{Choice}
-use Rattle.cilk_runs.specs.Run.{Position, after}
+use Rattle.cilk_model.specs.Path.{Path, same_path, child_path}
+use Rattle.cilk_model.specs.Instance.{Instance}
+use Rattle.cilk_model.specs.State.{State, Instances, running, instance_at, is_live}
+use Rattle.cilk_model.specs.Pick.{Step, waits, parks, goes_on, ends, spawns, step_of}
+use Rattle.cilk_model.specs.Choice.{Choice}
+use Rattle.cilk_model.specs.Run.{Position, after}
 use Rattle.cilk_allowed.specs.Told.{AllowsAs}
 
 -- the live instances have different paths

@@ -1,13 +1,13 @@
 -- The event that a step of the written rule is told by.
 use Rattle.std.specs.Prelude.{◌≡◌, ℕ, ◌+◌, ℤ, List, ◌++◌}
 use Rattle.cilk_labelled.specs.Labelled.{Labelled, Action}
-use Rattle.cilk_runs.specs.Path.{Path, child_path}
-use Rattle.cilk_runs.specs.Instance.{Receiver, Delivery, Instance}
-use Rattle.cilk_runs.specs.State.{of_value, State}
-use Rattle.cilk_runs.specs.Event as event
-use Rattle.cilk_runs.specs.Event.{Event}
-use Rattle.cilk_runs.specs.Rule as rule
-use Rattle.cilk_runs.specs.Rule.{Acts, Takes, Steps, Allows}
+use Rattle.cilk_model.specs.Path.{Path, child_path}
+use Rattle.cilk_model.specs.Instance.{Receiver, Delivery, Instance}
+use Rattle.cilk_model.specs.State.{of_value, State}
+use Rattle.cilk_model.specs.Event as event
+use Rattle.cilk_model.specs.Event.{Event}
+use Rattle.cilk_model.specs.Rule as rule
+use Rattle.cilk_model.specs.Rule.{Acts, Takes, Steps, Allows}
 
 module _ (program : Labelled) (s : State) (p : Path) (i : Instance) (t : State) where
   -- the number is that of the head

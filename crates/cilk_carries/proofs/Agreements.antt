@@ -1,39 +1,39 @@
 -- A plan that is carried out leads where the step of its instance leads.
 use Rattle.std.proofs.Common.{◌≡◌, ◌≢◌, ◌+◌, ℕ, ℤ, true, List, length, Option, Some, None, refl, sym, ap, ◌∙◌, subst}
 use Rattle.cilk_labelled.specs.Bodies.{label}
-use Rattle.cilk_runs.specs.Path.{child_path}
-use Rattle.cilk_runs.specs.Instance as model
-use Rattle.cilk_runs.specs.Instance.{Instance, entered}
-use Rattle.cilk_runs.specs.Event as event
-use Rattle.cilk_runs.specs.Change.{is_function, put, above, resumed, gone_on, stopped, after_write, after_going, after_call, after_leaving, after_answer, after_start, after_print, after_lock, after_marks, after_place, after_inlet, after_return, after_abort}
-use Rattle.cilk_runs.specs.Places.{with_hand}
-use Rattle.cilk_runs.specs.Pick.{Step, parks, goes_on, ends, spawns}
-use Rattle.cilk_runs.specs.Run.{waits_now, stepped, event_of_step}
+use Rattle.cilk_model.specs.Path.{child_path}
+use Rattle.cilk_model.specs.Instance as model
+use Rattle.cilk_model.specs.Instance.{Instance, entered}
+use Rattle.cilk_model.specs.Event as event
+use Rattle.cilk_model.specs.Change.{is_function, put, above, resumed, gone_on, stopped, after_write, after_going, after_call, after_leaving, after_answer, after_start, after_print, after_lock, after_marks, after_place, after_inlet, after_return, after_abort}
+use Rattle.cilk_model.specs.Places.{with_hand}
+use Rattle.cilk_model.specs.Pick.{Step, parks, goes_on, ends, spawns}
+use Rattle.cilk_model.specs.Run.{waits_now, stepped, event_of_step}
 use Rattle.cilk_nodes.specs.declared.body.Body.{Body}
 use Rattle.cilk_nodes.specs.Bodies.{body_of}
-use Rattle.cilk_frames.specs.declared.awaited.Await.{Await}
-use Rattle.cilk_instances.specs.declared.ending.Ending.TheVariants as ending
-use Rattle.cilk_instances.specs.declared.receiver.Receiver.{Receiver}
-use Rattle.cilk_instances.specs.Nodes.{Node, with_child, descends, path_at}
-use Rattle.cilk_instances.proofs.Trees.{path_child}
-use Rattle.cilk_instances.proofs.Grown.{grows, tree_child, path_old}
+use Rattle.cilk_frame.specs.declared.awaited.Await.{Await}
+use Rattle.cilk_spawn.specs.declared.ending.Ending.TheVariants as ending
+use Rattle.cilk_spawn.specs.declared.receiver.Receiver.{Receiver}
+use Rattle.cilk_spawn.specs.Nodes.{Node, with_child, descends, path_at}
+use Rattle.cilk_spawn.proofs.Trees.{path_child}
+use Rattle.cilk_spawn.proofs.Grown.{grows, tree_child, path_old}
 use Rattle.cilk_effects.specs.declared.reached.Reached as code
-use Rattle.cilk_agrees.specs.declared.lock.Lock.{Lock}
-use Rattle.cilk_agrees.specs.Outside.{lock_by}
-use Rattle.cilk_agrees.specs.Marks.{marked_if}
-use Rattle.cilk_agrees.specs.Agrees.{Machine, Agrees, instead}
-use Rattle.cilk_agrees.specs.Laws.{Turn, path_of, node_of, instance_of, sent, freed, without_frame, outside_after, after_returning, who_after}
-use Rattle.cilk_agrees.proofs.Frames.{given-back}
-use Rattle.cilk_agrees.proofs.Alone.{holds, inside}
-use Rattle.cilk_agrees.proofs.Waits.{waiting-agrees}
-use Rattle.cilk_agrees.proofs.Returns.{returns-agree, ends-agree}
-use Rattle.cilk_agrees.proofs.Actions.{told, going-agrees, writes-agree, calls-agree, leaves-agree, answers-agree, prints-agree, locks-agree, traps-agree, aborts-agree}
-use Rattle.cilk_agrees.proofs.Inlets.{deliveries-agree, inlets-agree, starts-agree}
+use Rattle.cilk_agree.specs.declared.lock.Lock.{Lock}
+use Rattle.cilk_agree.specs.Outside.{lock_by}
+use Rattle.cilk_agree.specs.Marks.{marked_if}
+use Rattle.cilk_agree.specs.Agrees.{Machine, Agrees, instead}
+use Rattle.cilk_agree.specs.Laws.{Turn, path_of, node_of, instance_of, sent, freed, without_frame, outside_after, after_returning, who_after}
+use Rattle.cilk_agree.proofs.Frames.{given-back}
+use Rattle.cilk_agree.proofs.Alone.{holds, inside}
+use Rattle.cilk_agree.proofs.Waits.{waiting-agrees}
+use Rattle.cilk_agree.proofs.Returns.{returns-agree, ends-agree}
+use Rattle.cilk_agree.proofs.Actions.{told, going-agrees, writes-agree, calls-agree, leaves-agree, answers-agree, prints-agree, locks-agree, traps-agree, aborts-agree}
+use Rattle.cilk_agree.proofs.Inlets.{deliveries-agree, inlets-agree, starts-agree}
 use Rattle.cilk_plans.specs.declared.kind.Kind.{Kind}
 use Rattle.cilk_plans.specs.declared.plan.Plan.{Plan}
 use Rattle.cilk_plans.specs.declared.plan.Plan.TheVariants as plan
 use Rattle.cilk_plans.specs.Words.{kind_of}
-use Rattle.cilk_plans.specs.Plans.{IsPlan, step_in, acts, Ends, Takes_in, Enters, Goes, Writes, Calls, Leaves, Answers, Returns, Spawns, Prints, Turns, Aborts}
+use Rattle.cilk_plans.specs.Plans.{IsPlan, step_in, acts, Ends, TakesOldest, Enters, Goes, Writes, Calls, Leaves, Answers, Returns, Spawns, Prints, Turns, Aborts}
 use Rattle.cilk_carries.specs.declared.did.Did.{Did}
 use Rattle.cilk_carries.specs.declared.did.Did.TheVariants as did
 use Rattle.cilk_carries.specs.Words.{event_by}
@@ -93,7 +93,7 @@ module _ (t : Turn) (body : Option Body) where
       (subst (λ places. Agrees t.program (record m { places = places }) t.who (stepped t.at t.worker (path_of t) step)) (sym kept)
       (traps-agree t n (kind_of kind)))
 
-  leads-take : (child n : ℕ) (reached : code.Reached) (z : ℤ) → Takes_in t child n reached z → Leads t body (plan.Take child n reached z)
+  leads-take : (child n : ℕ) (reached : code.Reached) (z : ℤ) → TakesOldest t child n reached z → Leads t body (plan.Take child n reached z)
   leads-take child n reached z h =
       let first = h.first in
       leads t _ (did.Delivered child n)
@@ -132,7 +132,7 @@ module _ (t : Turn) (body : Option Body) where
       leads t _ (did.Returned k n) step who h.step refl refl
       (subst (λ m. Agrees t.program m who (stepped t.at t.worker (path_of t) step))
       (woken-is (without_frame t (outside_given t.machine.outside z parent) (sent t.machine.nodes k z) ending.Returned) t.worker parent)
-      (subst (λ o. Agrees t.program (Rattle.cilk_agrees.specs.Laws.woken (without_frame t o (sent t.machine.nodes k z) ending.Returned) t.worker parent) who
+      (subst (λ o. Agrees t.program (Rattle.cilk_agree.specs.Laws.woken (without_frame t o (sent t.machine.nodes k z) ending.Returned) t.worker parent) who
       (stepped t.at t.worker (path_of t) step)) (outside-is z parent)
       (returns-agree t z (event.returned (path_of t) n) h.childless)))
 

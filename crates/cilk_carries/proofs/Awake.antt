@@ -1,16 +1,16 @@
 -- A parked parent that can go on comes to the hand, and a hand that was emptied takes a frame.
 use Rattle.std.proofs.Common.{◌≡◌, ◌≢◌, ℕ, length, zero, suc, Bool, true, false, List, [], ◌∷◌, Option, Some, None, refl, sym, slice_set, if◌then◌else◌}
 use Rattle.std.specs.Prelude.{slice_index_or}
-use Rattle.cilk_runs.specs.Places.{PlaceOf, IsWorker, with_hand}
+use Rattle.cilk_model.specs.Places.{PlaceOf, IsWorker, with_hand}
 use Rattle.cilk_nodes.specs.declared.body.Body.{Body}
-use Rattle.cilk_frames.specs.Frames.{Frame}
-use Rattle.cilk_instances.specs.Nodes.{Node, no_node, node_at, with_child, with_parked}
-use Rattle.cilk_agrees.specs.Outside.{Outside}
-use Rattle.cilk_agrees.specs.Agrees.{Machine}
-use Rattle.cilk_agrees.specs.Laws.{can_go_on, woken, woken_by}
-use Rattle.cilk_agrees.specs.Actions.{past_spawn}
-use Rattle.cilk_agrees.proofs.Frames.{hand-over}
-use Rattle.cilk_agrees.proofs.Between.{hands-filled, hands-handed_on}
+use Rattle.cilk_frame.specs.Frames.{Frame}
+use Rattle.cilk_spawn.specs.Nodes.{Node, no_node, node_at, with_child, with_parked}
+use Rattle.cilk_agree.specs.Outside.{Outside}
+use Rattle.cilk_agree.specs.Agrees.{Machine}
+use Rattle.cilk_agree.specs.Laws.{can_go_on, woken, woken_by}
+use Rattle.cilk_agree.specs.Actions.{past_spawn}
+use Rattle.cilk_agree.proofs.Frames.{hand-over}
+use Rattle.cilk_agree.proofs.Between.{hands-filled, hands-handed_on}
 use Rattle.cilk_plans.specs.declared.plan.Plan.{Plan}
 use Rattle.cilk_plans.specs.declared.plan.Plan.TheVariants as plan
 use Rattle.cilk_carries.specs.Carried.{nodes_awake, places_awake, awake_in, started_as, handed_back, after_plan}

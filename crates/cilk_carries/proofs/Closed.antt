@@ -1,15 +1,15 @@
 -- The frame of an instance that is no more is spent.
 use Rattle.std.proofs.Common.{◌≡◌, ℕ, ℤ, List, map, Option, Some, None, refl, sym, ap, ◌∙◌, subst}
-use Rattle.cilk_runs.specs.Places.{hand_of, with_hand}
+use Rattle.cilk_model.specs.Places.{hand_of, with_hand}
 use Rattle.cilk_nodes.specs.declared.body.Body.{Body}
-use Rattle.cilk_frames.specs.Frames.{Frame}
-use Rattle.cilk_instances.specs.declared.ending.Ending.TheVariants as ending
-use Rattle.cilk_instances.specs.Nodes.{Node, node_at, ended}
-use Rattle.cilk_agrees.specs.Outside as outside
-use Rattle.cilk_agrees.specs.Outside.{Outside}
-use Rattle.cilk_agrees.specs.Agrees.{Machine}
-use Rattle.cilk_agrees.specs.Laws.{sent, released}
-use Rattle.cilk_agrees.proofs.Frames.{given-back}
+use Rattle.cilk_frame.specs.Frames.{Frame}
+use Rattle.cilk_spawn.specs.declared.ending.Ending.TheVariants as ending
+use Rattle.cilk_spawn.specs.Nodes.{Node, node_at, ended}
+use Rattle.cilk_agree.specs.Outside as outside
+use Rattle.cilk_agree.specs.Outside.{Outside}
+use Rattle.cilk_agree.specs.Agrees.{Machine}
+use Rattle.cilk_agree.specs.Laws.{sent, released}
+use Rattle.cilk_agree.proofs.Frames.{given-back}
 use Rattle.cilk_plans.specs.declared.plan.Plan.{Plan}
 use Rattle.cilk_plans.specs.declared.plan.Plan.TheVariants as plan
 use Rattle.cilk_carries.specs.declared.did.Did.{Did}

@@ -2,29 +2,29 @@
 use Rattle.std.proofs.Common.{◌≡◌, ◌≢◌, ℕ, zero, suc, ◌+◌, ◌<◌, ◌^◌, ℤ, pos, true, not, List, [], ◌∷◌, map, length, Option, refl, sym, ap, ◌∙◌, subst, arith}
 use Rattle.std.specs.Prelude.{slice_index_or}
 use borrow.Author.Tests.{ltb-true}
-use Rattle.cilk_terms.specs.declared.area.Area.{Area}
-use Rattle.cilk_terms.specs.declared.area.Area.TheVariants.{Own, Outer, Global}
-use Rattle.cilk_terms.specs.declared.slot.Slot.{Slot}
+use Rattle.cilk_eval.specs.declared.area.Area.{Area}
+use Rattle.cilk_eval.specs.declared.area.Area.TheVariants.{Own, Outer, Global}
+use Rattle.cilk_eval.specs.declared.slot.Slot.{Slot}
 use Rattle.cilk_labelled.specs.Labelled.{Declaration, local, outer, global, of_lock, of_body, unknown, Variable, Body, Labelled}
 use Rattle.cilk_labelled.specs.Bodies.{label}
-use Rattle.cilk_runs.specs.Values.{Values, Cell}
-use Rattle.cilk_runs.specs.Instance.{Instance, no_body}
-use Rattle.cilk_runs.specs.State.{is_empty}
-use Rattle.cilk_runs.specs.Change.{gone_on}
+use Rattle.cilk_model.specs.Values.{Values, Cell}
+use Rattle.cilk_model.specs.Instance.{Instance, no_body}
+use Rattle.cilk_model.specs.State.{is_empty}
+use Rattle.cilk_model.specs.Change.{gone_on}
 use Rattle.cilk_nodes.specs.declared.body.Body as code
 use Rattle.cilk_nodes.specs.Slots.{size_of, cells_of, flat, procedure_around, slot_from, slot_of}
-use Rattle.cilk_frames.specs.Frames.{Frame, depth, left}
+use Rattle.cilk_frame.specs.Frames.{Frame, depth, left}
 use Rattle.cilk_stands.specs.Starts.{Takes}
 use Rattle.cilk_stands.specs.Cells.{SameCell, HasCell, no_variable, own_variables, outer_variables}
 use Rattle.cilk_stands.specs.Reads.{lent, seen_by}
 use Rattle.cilk_stands.specs.Stands.{StandsFor}
 use Rattle.cilk_stands.proofs.Values.{cell-there}
 use Rattle.cilk_stands.proofs.Steps.{lent-seen, alone-is, return-stands}
-use Rattle.cilk_agrees.specs.Laws.{Turn, instance_of}
-use Rattle.cilk_agrees.specs.Actions.{gone_to}
-use Rattle.cilk_agrees.proofs.Alone.{holds, free}
-use Rattle.cilk_agrees.proofs.Actions.{gone}
-use Rattle.cilk_agrees.proofs.Between.{senders-can-end, parents-outlive}
+use Rattle.cilk_agree.specs.Laws.{Turn, instance_of}
+use Rattle.cilk_agree.specs.Actions.{gone_to}
+use Rattle.cilk_agree.proofs.Alone.{holds, free}
+use Rattle.cilk_agree.proofs.Actions.{gone}
+use Rattle.cilk_agree.proofs.Between.{senders-can-end, parents-outlive}
 use Rattle.cilk_plans.specs.declared.plan.Plan.{Plan}
 use Rattle.cilk_plans.specs.declared.plan.Plan.TheVariants as plan
 use Rattle.cilk_plans.specs.Plans.{IsPlan, Caller}

@@ -1,19 +1,19 @@
 -- What a machine becomes as a plan is carried out.
 use Rattle.std.specs.Prelude.{◌≡◌, ℕ, ℤ, false, List, [], ◌∷◌, ◌++◌, length, map, Option, Some, None, slice_set, if◌then◌else◌}
-use Rattle.cilk_runs.specs.Places.{PlaceOf, with_hand, pushed_by}
+use Rattle.cilk_model.specs.Places.{PlaceOf, with_hand, pushed_by}
 use Rattle.cilk_nodes.specs.declared.body.Body.{Body}
-use Rattle.cilk_frames.specs.Frames as frames
-use Rattle.cilk_frames.specs.Frames.{Frame, left}
+use Rattle.cilk_frame.specs.Frames as frames
+use Rattle.cilk_frame.specs.Frames.{Frame, left}
 use Rattle.cilk_stands.specs.Starts.{starts_with}
 use Rattle.cilk_stands.specs.Cells.{frame_put, globals_put}
-use Rattle.cilk_instances.specs.declared.ending.Ending.TheVariants as ending
-use Rattle.cilk_instances.specs.Nodes.{Node, node_at, with_child, with_parked, taken, ended, marked_below}
+use Rattle.cilk_spawn.specs.declared.ending.Ending.TheVariants as ending
+use Rattle.cilk_spawn.specs.Nodes.{Node, node_at, with_child, with_parked, taken, ended, marked_below}
 use Rattle.cilk_effects.specs.declared.reached.Reached.{Reached}
-use Rattle.cilk_agrees.specs.Outside as outside
-use Rattle.cilk_agrees.specs.Outside.{Outside}
-use Rattle.cilk_agrees.specs.Agrees.{Machine}
-use Rattle.cilk_agrees.specs.Laws.{sent, can_go_on, released}
-use Rattle.cilk_agrees.specs.Actions.{gone_to, past_spawn}
+use Rattle.cilk_agree.specs.Outside as outside
+use Rattle.cilk_agree.specs.Outside.{Outside}
+use Rattle.cilk_agree.specs.Agrees.{Machine}
+use Rattle.cilk_agree.specs.Laws.{sent, can_go_on, released}
+use Rattle.cilk_agree.specs.Actions.{gone_to, past_spawn}
 use Rattle.cilk_plans.specs.declared.plan.Plan.{Plan}
 use Rattle.cilk_plans.specs.declared.plan.Plan.TheVariants as plan
 use Rattle.cilk_plans.specs.Words.{kind_of}

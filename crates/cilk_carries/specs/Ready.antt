@@ -1,16 +1,16 @@
 -- What has to be there for a plan to be carried out.
 use Rattle.std.specs.Prelude.{◌≡◌, ◌<◌, ◌+◌, ◌^◌, ℕ, ℤ, ⊤, true, false, List, length, Option, Some, None}
-use Rattle.cilk_terms.specs.declared.slot.Slot.{Slot}
-use Rattle.cilk_terms.specs.Slots.{area_cells}
+use Rattle.cilk_eval.specs.declared.slot.Slot.{Slot}
+use Rattle.cilk_eval.specs.Slots.{area_cells}
 use Rattle.cilk_nodes.specs.declared.body.Body.{Body}
-use Rattle.cilk_frames.specs.Frames.{Frame, depth, left}
+use Rattle.cilk_frame.specs.Frames.{Frame, depth, left}
 use Rattle.cilk_stands.specs.Starts.{Takes}
 use Rattle.cilk_stands.specs.Reads.{lent}
-use Rattle.cilk_instances.specs.declared.ending.Ending.{Ending}
-use Rattle.cilk_instances.specs.declared.ending.Ending.TheVariants as ending
-use Rattle.cilk_instances.specs.Nodes.{Node, node_at, is_live, has_live_child, ended}
-use Rattle.cilk_agrees.specs.Laws.{sent}
-use Rattle.cilk_agrees.specs.Actions.{gone_to}
+use Rattle.cilk_spawn.specs.declared.ending.Ending.{Ending}
+use Rattle.cilk_spawn.specs.declared.ending.Ending.TheVariants as ending
+use Rattle.cilk_spawn.specs.Nodes.{Node, node_at, is_live, has_live_child, ended}
+use Rattle.cilk_agree.specs.Laws.{sent}
+use Rattle.cilk_agree.specs.Actions.{gone_to}
 use Rattle.cilk_plans.specs.declared.plan.Plan.{Plan}
 use Rattle.cilk_plans.specs.declared.plan.Plan.TheVariants as plan
 

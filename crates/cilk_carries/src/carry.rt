@@ -2,8 +2,8 @@
 
 ghost use Rattle.std.specs.Prelude.{◌≡◌, None, IfErr, IfOk, OnErr};
 ghost use Rattle.std.specs.Option.{option_copied};
-ghost use Rattle.cilk_runs.specs.Places.{IsWorker, hand_of};
-ghost use Rattle.cilk_agrees.specs.Outside as outside;
+ghost use Rattle.cilk_model.specs.Places.{IsWorker, hand_of};
+ghost use Rattle.cilk_agree.specs.Outside as outside;
 ghost use Rattle.cilk_carries.specs.Words.{machine_of, outcome_of};
 ghost use Rattle.cilk_carries.specs.Ready.{Ready};
 ghost use Rattle.cilk_carries.specs.Carried.{Carried};
@@ -16,10 +16,10 @@ use crate::releasing::{release, turn};
 use crate::returning::{end, give_value};
 use crate::starting::{child_frame, start};
 use crate::writing::write;
-use cilk_frames::Frame;
-use cilk_instances::Ending;
+use cilk_frame::Frame;
 use cilk_nodes::Body;
 use cilk_plans::Plan;
+use cilk_spawn::Ending;
 
 /// Carries out the plan of the frame in the worker's hand. The body is the one of the procedure, the
 /// C function or the inlet that the plan starts. Where memory has run out, nothing has changed.

@@ -2,12 +2,12 @@
 
 ghost use Rattle.std.specs.Prelude.{◌≡◌, ◌<◌, IfErr, IfOk};
 ghost use Rattle.std.specs.Option.{option_copied};
-ghost use Rattle.cilk_frames.specs.Frames as frames;
-ghost use Rattle.cilk_frames.specs.Frames.{depth, jumped, with_boundary, left};
+ghost use Rattle.cilk_frame.specs.Frames as frames;
+ghost use Rattle.cilk_frame.specs.Frames.{depth, jumped, with_boundary, left};
 ghost use Rattle.cilk_stands.specs.Starts.{Takes, starts_with};
-ghost use Rattle.cilk_agrees.specs.Actions.{gone_to};
+ghost use Rattle.cilk_agree.specs.Actions.{gone_to};
 
-use cilk_frames::{Await, Frame};
+use cilk_frame::{Await, Frame};
 use cilk_nodes::Body;
 
 /// An action of the procedure's own clears the flag.

@@ -1,10 +1,10 @@
 //! Locks.
 
 ghost use Rattle.std.specs.Prelude.{◌≡◌, map, slice_set};
-ghost use Rattle.cilk_agrees.specs.Laws.{released};
+ghost use Rattle.cilk_agree.specs.Laws.{released};
 
-use cilk_agrees::Lock;
-use cilk_frames::Id;
+use cilk_agree::Lock;
+use cilk_frame::Id;
 
 /// The locks of an instance that was aborted are free.
 pub(crate) fn release(locks: &mut Vec<Lock>, id: Id)

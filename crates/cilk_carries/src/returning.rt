@@ -1,17 +1,17 @@
 //! An instance is no more.
 
 ghost use Rattle.std.specs.Prelude.{◌≡◌, true, false, None, Some, ℕ, IfErr, IfOk, OnErr, OnOk};
-ghost use Rattle.cilk_runs.specs.Places.{IsWorker, hand_of};
-ghost use Rattle.cilk_instances.specs.declared.ending.Ending.TheVariants as ending;
-ghost use Rattle.cilk_instances.specs.Nodes.{node_at, is_live, has_live_child, ended};
-ghost use Rattle.cilk_agrees.specs.Laws.{sent};
+ghost use Rattle.cilk_model.specs.Places.{IsWorker, hand_of};
+ghost use Rattle.cilk_spawn.specs.declared.ending.Ending.TheVariants as ending;
+ghost use Rattle.cilk_spawn.specs.Nodes.{node_at, is_live, has_live_child, ended};
+ghost use Rattle.cilk_agree.specs.Laws.{sent};
 ghost use Rattle.cilk_carries.specs.Carried.{nodes_awake, places_awake, awake_in, value_outcome};
 ghost use Rattle.cilk_carries.specs.Ready.{CanEnd};
 
 use crate::did::Outcome;
-use cilk_frames::{Frame, Id, Memory};
-use cilk_hands::Hands;
-use cilk_instances::{Ending, Receiver, Tree};
+use cilk_frame::{Frame, Id, Memory};
+use cilk_sched::Hands;
+use cilk_spawn::{Ending, Receiver, Tree};
 
 /// The instance of a frame ends with a value. That of the root is the program's; that of a child
 /// waits for the parent, where something takes it, and a parked parent that can go on comes to the

@@ -2,18 +2,18 @@
 
 ghost use Rattle.std.specs.Prelude.{◌≡◌, ◌+◌, ◌<◌, ◌^◌, ◌∷◌, [], length, true, None, IfErr, IfOk, IfSome, OnErr, OnOk};
 ghost use Rattle.std.specs.Option.{option_copied};
-ghost use Rattle.cilk_runs.specs.Places.{IsWorker, hand_of, pushed_by};
-ghost use Rattle.cilk_frames.specs.Frames as frames;
-ghost use Rattle.cilk_instances.specs.Nodes.{node_at, is_live, with_child};
+ghost use Rattle.cilk_model.specs.Places.{IsWorker, hand_of, pushed_by};
+ghost use Rattle.cilk_frame.specs.Frames as frames;
+ghost use Rattle.cilk_spawn.specs.Nodes.{node_at, is_live, with_child};
 ghost use Rattle.cilk_stands.specs.Starts.{Takes};
-ghost use Rattle.cilk_agrees.specs.Actions.{past_spawn};
+ghost use Rattle.cilk_agree.specs.Actions.{past_spawn};
 ghost use Rattle.cilk_carries.specs.Carried.{started_as};
 
 use crate::entering::resumed;
-use cilk_frames::{Frame, Id};
-use cilk_hands::Hands;
-use cilk_instances::{Receiver, Tree};
+use cilk_frame::{Frame, Id};
 use cilk_nodes::Body;
+use cilk_sched::Hands;
+use cilk_spawn::{Receiver, Tree};
 use std::alloc::Global;
 
 /// The frame of a child at its start.

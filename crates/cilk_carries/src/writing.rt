@@ -5,8 +5,8 @@ ghost use Rattle.cilk_stands.specs.Cells.{frame_put, globals_put};
 ghost use Rattle.cilk_carries.specs.Ready.{Fits};
 
 use cilk_effects::Reached;
-use cilk_frames::Frame;
-use cilk_terms::Area;
+use cilk_eval::Area;
+use cilk_frame::Frame;
 
 /// Writes a cell of the frame's top activation, of the procedure's own, or of the top level.
 pub(crate) fn write(globals: &mut Vec<i32>, mut frame: Frame, reached: Reached, value: i32) -> Frame

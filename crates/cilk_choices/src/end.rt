@@ -1,5 +1,5 @@
-use cilk_instances::Path;
 use cilk_plans::Kind;
+use cilk_spawn::Path;
 
 /// How a program stands when no more choices are made.
 #[derive(Debug, Drop)]

@@ -1,5 +1,5 @@
-use cilk_instances::Path;
 use cilk_plans::Kind;
+use cilk_spawn::Path;
 
 /// What a choice did. The number n is that of an action of the program.
 #[derive(Debug, Drop)]

@@ -13,8 +13,8 @@ mod refusal;
 
 pub use act::Act;
 pub use choice::Choice;
-pub use cilk_instances::Path;
 pub use cilk_plans::Kind;
+pub use cilk_spawn::Path;
 pub use cilk_syntax::Memory;
 pub use closing::ending;
 pub use end::End;

@@ -1,5 +1,5 @@
-use cilk_instances::Path;
 use cilk_plans::Kind;
+use cilk_spawn::Path;
 
 /// Whether a program has ended, and how.
 #[derive(Debug, Drop)]

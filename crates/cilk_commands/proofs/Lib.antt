@@ -2,6 +2,5 @@ pub mod Explained
 pub mod Fronts
 pub mod Ran
 pub mod Moved
-pub mod Taken
 pub mod WholeText
 pub mod Told

@@ -1,7 +1,7 @@
 -- One choice more of one worker.
 use Rattle.std.proofs.Common.{[], ◌∷◌, ◌++◌, ◌∙◌}
-use Rattle.cilk_core.specs.Tree.{Program}
-use Rattle.cilk_model.specs.Label.{label}
+use Rattle.cilk_syntax.specs.Tree.{Program}
+use Rattle.cilk_labelled.specs.Bodies.{label}
 use Rattle.cilk_model.specs.Choice.{Choice}
 use Rattle.cilk_model.specs.Event.{Event}
 use Rattle.cilk_model.specs.Run.{next_of}

@@ -1,7 +1,7 @@
 -- The closing text of a machine that is not moved any more.
 use Rattle.std.proofs.Common.{◌≡◌, ℕ, true, List, length, Option, sym, ap, ◌∙◌, arith, refl}
-use Rattle.cilk_core.specs.Tree.{Program}
-use Rattle.cilk_model.specs.Label.{label}
+use Rattle.cilk_syntax.specs.Tree.{Program}
+use Rattle.cilk_labelled.specs.Bodies.{label}
 use Rattle.cilk_model.specs.Run.{Standing, after}
 use Rattle.cilk_model.specs.End as model
 use Rattle.cilk_machine.specs.Situation.{Situation}

@@ -4,9 +4,9 @@ use Rattle.cilk_model.specs.Choice as model
 use Rattle.cilk_model.specs.Run.{Standing}
 use Rattle.cilk_machine.specs.Situation.{Situation}
 use Rattle.cilk_machine.specs.Made.{refused}
-use Rattle.cilk_machine.specs.Words.{reason_of}
-use Rattle.cilk_machine.specs.declared.refusal.Refusal.{Refusal}
-use Rattle.cilk_machine.specs.declared.refusal.Refusal.TheVariants.{Over, NoWorker, HandEmpty, Busy, DequeEmpty, Waiting, Memory}
+use Rattle.cilk_choices.specs.Words.{reason_of}
+use Rattle.cilk_choices.specs.declared.refusal.Refusal.{Refusal}
+use Rattle.cilk_choices.specs.declared.refusal.Refusal.TheVariants.{Over, NoWorker, HandEmpty, Busy, DequeEmpty, Waiting, Memory}
 
 -- the worker can step, or its hand is empty and it can pop
 abbrev pub GoesOn : Situation → Standing → Type 0

@@ -6,7 +6,7 @@ use Rattle.std.proofs.Math.Seq.{take-length}
 use Rattle.cilk_lex.specs.declared.reading.TheConstants.{TEXT_LIMIT}
 use Rattle.cilk_commands.specs.Front.{Gains, GainsFront}
 use Rattle.cilk_commands.specs.Held.{Held, IsReadOf}
-use Rattle.cilk_commands.specs.Loading.{Unprinted, Unready}
+use Rattle.cilk_commands.specs.Loading.{Unready}
 use Rattle.cilk_commands.specs.Program.{Explains, IsReason, IsNoProgram, IsIllFormed}
 use Rattle.cilk_commands.specs.Status.{status_of}
 use Rattle.cilk_commands.specs.Telling.{GivesUp, IsExplanation, Tells}
@@ -74,65 +74,40 @@ explained_whole bytes text (failure.Fault (fault.Check found) line column) read 
 explained_whole bytes text failure.NotUtf8 read told =
     record { reason = subst (λ t. IsReason t failure.NotUtf8) (read_whole bytes text read told.reason.0) told.reason }
 explained_whole bytes text failure.Memory read told = record { reason = tt }
-explained_whole bytes text failure.NotYet read told = absurd told.reason
 explained_whole bytes text failure.TooMany read told = absurd told.reason
 explained_whole bytes text failure.CannotRead read told = absurd told.reason
 explained_whole bytes text failure.CannotWrite read told = absurd told.reason
 
-unprinted_whole : (bytes text : List ℕ) (why : Failure) → text ≡ take (TEXT_LIMIT + 1) bytes → Unprinted text why → Unprinted bytes why
-unprinted_whole bytes text failure.TooMany read told = subst (λ t. Unprinted t failure.TooMany) (read_whole bytes text read told.is.text.short) told
-unprinted_whole bytes text (failure.Fault found line column) read told = explained_whole bytes text (failure.Fault found line column) read told
-unprinted_whole bytes text failure.NotUtf8 read told = explained_whole bytes text failure.NotUtf8 read told
-unprinted_whole bytes text failure.Memory read told = explained_whole bytes text failure.Memory read told
-unprinted_whole bytes text failure.NotYet read told = explained_whole bytes text failure.NotYet read told
-unprinted_whole bytes text failure.CannotRead read told = explained_whole bytes text failure.CannotRead read told
-unprinted_whole bytes text failure.CannotWrite read told = explained_whole bytes text failure.CannotWrite read told
-
 unready_whole : (bytes text : List ℕ) (why : Failure) → text ≡ take (TEXT_LIMIT + 1) bytes → Unready text why → Unready bytes why
 unready_whole bytes text failure.TooMany read told = subst (λ t. Unready t failure.TooMany) (read_whole bytes text read told.is.text.short) told
-unready_whole bytes text failure.NotYet read told = subst (λ t. Unready t failure.NotYet) (read_whole bytes text read told.is.text.short) told
 unready_whole bytes text (failure.Fault found line column) read told = explained_whole bytes text (failure.Fault found line column) read told
 unready_whole bytes text failure.NotUtf8 read told = explained_whole bytes text failure.NotUtf8 read told
 unready_whole bytes text failure.Memory read told = explained_whole bytes text failure.Memory read told
 unready_whole bytes text failure.CannotRead read told = explained_whole bytes text failure.CannotRead read told
 unready_whole bytes text failure.CannotWrite read told = explained_whole bytes text failure.CannotWrite read told
 
-reason_held : (Reason : List ℕ → Failure → Type 0) → ((bytes text : List ℕ) (why : Failure) → text ≡ take (TEXT_LIMIT + 1) bytes → Reason text why → Reason bytes why)
-    → (known : Option (List ℕ)) (text : List ℕ) (why : Failure) → IsReadOf known text → Reason text why → Held known (λ bytes. Reason bytes why)
-reason_held Reason whole None text why read told = record { bytes = text; held = tt; are = told }
-reason_held Reason whole (Some bytes) text why read told = record { bytes = bytes; held = refl; are = whole bytes text why read told }
+reason_held : (known : Option (List ℕ)) (text : List ℕ) (why : Failure) → IsReadOf known text → Unready text why → Held known (λ bytes. Unready bytes why)
+reason_held None text why read told = record { bytes = text; held = tt; are = told }
+reason_held (Some bytes) text why read told = record { bytes = bytes; held = refl; are = unready_whole bytes text why read told }
 
 -- what is told of a failure with a text that was read
-gives_up : (Reason : List ℕ → Failure → Type 0) → ((bytes text : List ℕ) (why : Failure) → text ≡ take (TEXT_LIMIT + 1) bytes → Reason text why → Reason bytes why)
-    → (explain : Bool) (name : List ℕ) (ended : Status) (known old new : Option (List ℕ)) (text : List ℕ) (why : Failure) → IsReadOf known text
-    → (status_of why ≡ status.Refused → Reason text why) → ended ≡ status_of why
-    → (behind : List ℕ) × (IsExplanation explain text why behind × Tells name why behind old new) → GivesUp Reason explain name ended known old new
-gives_up Reason whole explain name ended known old new text why read reason is told = record {
+pub gives_up : (explain : Bool) (name : List ℕ) (ended : Status) (known old new : Option (List ℕ)) (text : List ℕ) (why : Failure) → IsReadOf known text
+    → (status_of why ≡ status.Refused → Unready text why) → ended ≡ status_of why
+    → (behind : List ℕ) × (IsExplanation explain text why behind × Tells name why behind old new) → GivesUp Unready explain name ended known old new
+gives_up explain name ended known old new text why read reason is told = record {
   why = why;
   status_is = is;
-  declined = λ refused. reason_held Reason whole known text why read (reason (sym is ∙ refused));
+  declined = λ refused. reason_held known text why read (reason (sym is ∙ refused));
   behind = told.0;
   explained = record { text = text; read = read; is = told.1.0 };
   told = told.1.1;
 }
-
-pub print_gives_up : (explain : Bool) (name : List ℕ) (ended : Status) (known old new : Option (List ℕ)) (text : List ℕ) (why : Failure) → IsReadOf known text
-    → (status_of why ≡ status.Refused → Unprinted text why) → ended ≡ status_of why
-    → (behind : List ℕ) × (IsExplanation explain text why behind × Tells name why behind old new) → GivesUp Unprinted explain name ended known old new
-print_gives_up = gives_up Unprinted unprinted_whole
-
-pub run_gives_up : (explain : Bool) (name : List ℕ) (ended : Status) (known old new : Option (List ℕ)) (text : List ℕ) (why : Failure) → IsReadOf known text
-    → (status_of why ≡ status.Refused → Unready text why) → ended ≡ status_of why
-    → (behind : List ℕ) × (IsExplanation explain text why behind × Tells name why behind old new) → GivesUp Unready explain name ended known old new
-run_gives_up = gives_up Unready unready_whole
 
 unexplained : (explain : Bool) (text : List ℕ) (why : Failure) → status_of why ≢ status.Refused → IsExplanation explain text why []
 unexplained true text (failure.Fault found line column) other = inl refl
 unexplained false text (failure.Fault found line column) other = refl
 unexplained true text failure.NotUtf8 other = refl
 unexplained false text failure.NotUtf8 other = refl
-unexplained true text failure.NotYet other = refl
-unexplained false text failure.NotYet other = refl
 unexplained true text failure.TooMany other = refl
 unexplained false text failure.TooMany other = refl
 unexplained true text failure.Memory other = refl

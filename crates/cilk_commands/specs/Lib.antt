@@ -8,11 +8,9 @@ pub mod Checking
 pub mod Status
 pub mod Running
 pub mod Telling
-pub use Rattle.cilk_core.specs.Tree as CoreTree
 pub use Rattle.cilk_syntax.specs.Tree
 pub use Rattle.cilk_canonical.specs.ProgramText
 pub use Rattle.cilk_explain.specs.Lines
-pub use Rattle.cilk_narrow.specs.Narrow
 pub use Rattle.cilk_parse.specs.Text
 pub use Rattle.cilk_check.specs.Fault as CheckFaults
-pub use Rattle.cilk_model.specs.Count
+pub use Rattle.cilk_labelled.specs.Count

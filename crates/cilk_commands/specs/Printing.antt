@@ -4,12 +4,12 @@ use Rattle.cilk_syntax.specs.Tree.{Program}
 use Rattle.cilk_canonical.specs.ProgramText.{program_text}
 use Rattle.cilk_commands.specs.Front.{Gains, GainsFront}
 use Rattle.cilk_commands.specs.Held.{Held}
-use Rattle.cilk_commands.specs.Loading.{IsPrintable}
+use Rattle.cilk_commands.specs.Loading.{IsReady}
 
 -- the canonical text of the program that the bytes of a text are
 pub record IsPrinted (bytes text : List ℕ) : Type 0 where
   pub program : Program
-  pub is_program : IsPrintable bytes program
+  pub ready : IsReady bytes program
   pub is : text ≡ program_text program
 
 -- a writer has gained that of the program that a reader held, or has failed in it

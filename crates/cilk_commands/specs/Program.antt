@@ -56,7 +56,6 @@ IsReason bytes (failure.Fault (fault.Read found) line column) = IsTooLong bytes 
 IsReason bytes (failure.Fault (fault.Check found) line column) = IsIllFormed bytes found line column
 IsReason bytes failure.NotUtf8 = (length bytes ≤ TEXT_LIMIT) × ¬ (IsUtf8 bytes)
 IsReason bytes failure.Memory = Unit {0}
-IsReason bytes failure.NotYet = ⊥
 IsReason bytes failure.TooMany = ⊥
 IsReason bytes failure.CannotRead = ⊥
 IsReason bytes failure.CannotWrite = ⊥

@@ -1,7 +1,7 @@
 -- What `run` does with a program, and what it writes.
 use Rattle.std.specs.Prelude.{◌≡◌, ◌≤◌, ℕ, List, length, Option, Some}
-use Rattle.cilk_core.specs.Tree.{Program}
-use Rattle.cilk_model.specs.Label.{label}
+use Rattle.cilk_syntax.specs.Tree.{Program}
+use Rattle.cilk_labelled.specs.Bodies.{label}
 use Rattle.cilk_model.specs.Choice.{Choice}
 use Rattle.cilk_model.specs.Event.{Event}
 use Rattle.cilk_model.specs.Run.{Standing, Position, after}

@@ -22,7 +22,6 @@ code_of status.CannotWrite = 7
 abbrev pub status_of : Failure → Status
 status_of (failure.Fault fault line column) = status.Refused
 status_of failure.NotUtf8 = status.Refused
-status_of failure.NotYet = status.Refused
 status_of failure.TooMany = status.Refused
 status_of failure.Memory = status.Memory
 status_of failure.CannotRead = status.CannotRead

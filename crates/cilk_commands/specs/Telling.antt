@@ -67,7 +67,6 @@ abbrev pub line_of : List ℕ → Failure → List ℕ
 line_of name failure.CannotRead = codes "cilk: cannot read " ++ (name ++ codes "\n")
 line_of name (failure.Fault found line column) = fault_line name (decimal line) (decimal column) (words_of found)
 line_of name failure.NotUtf8 = name ++ codes ": not UTF-8\n"
-line_of name failure.NotYet = name ++ codes ": not yet\n"
 line_of name failure.TooMany = name ++ codes ": N1 TooMany\n"
 line_of name failure.Memory = codes "cilk: out of memory\n"
 line_of name failure.CannotWrite = codes "cilk: cannot write output\n"

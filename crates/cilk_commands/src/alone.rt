@@ -1,10 +1,11 @@
 //! A program that one worker moves.
 
 ghost use Rattle.std.specs.Prelude.{◌≡◌, ◌<◌, ◌-◌, ◌^◌, false, IfOk, IfErr, OnOk};
+ghost use Rattle.cilk_check.specs.Fault.{WellFormed};
+ghost use Rattle.cilk_labelled.specs.Bodies.{label};
 ghost use Rattle.cilk_model.specs.Choice as model;
 ghost use Rattle.cilk_model.specs.Event as event;
 ghost use Rattle.cilk_model.specs.End.{is_stuck};
-ghost use Rattle.cilk_model.specs.Label.{label};
 ghost use Rattle.cilk_model.specs.Run.{Standing};
 ghost use Rattle.cilk_machine.specs.Made.{Makes};
 ghost use Rattle.cilk_machine.specs.Situation.{workers_of};
@@ -34,6 +35,8 @@ pub fn run_alone(alloc: Global, program: Loaded, limit: u32) -> Result<Machine, 
     ensures stops { IfOk result (Stops limit) }
     ensures err { IfErr result (λ why. why ≡ Failure.Memory) }
 {
+    // The rules of the language hold of it.
+    let _tree = program.program();
     let mut machine = match Machine::new(alloc, program, 1) {
         Ok(machine) => machine,
         Err(MachineFault::Memory(_)) => return Err(Failure::Memory),
@@ -50,6 +53,7 @@ pub fn run_alone(alloc: Global, program: Loaded, limit: u32) -> Result<Machine, 
 
 // The one worker makes the next choice.
 fn go_on(machine: &mut Machine) -> Result<(), Failure>
+    requires well_formed { WellFormed machine.old.program }
     requires alone { workers_of machine.old ≡ 1 }
     requires runs { machine.old.outcome ≡ Outcome.Running }
     requires goes { (at : Standing)
@@ -60,11 +64,10 @@ fn go_on(machine: &mut Machine) -> Result<(), Failure>
     ensures err { IfErr result (λ why. why ≡ Failure.Memory) }
 {
     one_worker_goes_on();
-    match machine.make(STEP) {
+    match machine.advance(STEP) {
         Ok(_) => Ok(()),
-        Err(Refusal::HandEmpty) => match machine.make(POP) {
+        Err(Refusal::HandEmpty) => match machine.advance(POP) {
             Ok(_) => Ok(()),
-            Err(Refusal::Memory) => Err(Failure::Memory),
             Err(_) => unreachable!(),
         },
         Err(Refusal::Memory) => Err(Failure::Memory),

@@ -24,8 +24,6 @@ pub enum Failure {
     },
     /// The bytes are not UTF-8.
     NotUtf8,
-    /// The program has a form that does not run so far.
-    NotYet,
     /// The program has more than 65,535 actions.
     TooMany,
     /// Memory has run out.
@@ -43,9 +41,7 @@ impl Failure {
         ensures { result ≡ status_of self.now }
     {
         match self {
-            Failure::Fault { .. } | Failure::NotUtf8 | Failure::NotYet | Failure::TooMany => {
-                Status::Refused
-            },
+            Failure::Fault { .. } | Failure::NotUtf8 | Failure::TooMany => Status::Refused,
             Failure::Memory => Status::Memory,
             Failure::CannotRead => Status::CannotRead,
             Failure::CannotWrite => Status::CannotWrite,
@@ -105,7 +101,6 @@ impl Failure {
                 )
             }
             Failure::NotUtf8 => write_parts(err, &[name, ": not UTF-8\n"]),
-            Failure::NotYet => write_parts(err, &[name, ": not yet\n"]),
             Failure::TooMany => write_parts(err, &[name, ": N1 TooMany\n"]),
             Failure::Memory => write_parts(err, &["cilk: out of memory\n"]),
             Failure::CannotWrite => write_parts(err, &["cilk: cannot write output\n"]),

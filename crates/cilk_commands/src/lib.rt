@@ -1,7 +1,7 @@
 //! What each subcommand of the program does, over a reader and two writers.
 //!
 //! No clause can promise that a reader or a writer works, or that one is flushed. So a body of
-//! `program_from` or `write_answer` that always says that it does not work meets its contract too,
+//! `read_text` or `write_answer` that always says that it does not work meets its contract too,
 //! as does one of `Failure::report` that writes less than the line. Tests see these.
 #![tactic(auto)]
 
@@ -22,7 +22,7 @@ pub use alone::run_alone;
 pub use check::check_text;
 pub use failure::Failure;
 pub use fault::Fault;
-pub use loading::{printable_of, ready_of};
+pub use loading::ready_of;
 pub use print::print_text;
 pub use program::program_of;
 pub use run::run_text;

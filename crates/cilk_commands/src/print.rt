@@ -1,17 +1,16 @@
 ghost use Rattle.std.specs.Prelude.{◌≡◌, ◌≢◌, true, false, IfErr, OnOk};
 ghost use Rattle.cilk_commands.specs.Front.{Gains, GainsFront};
-ghost use Rattle.cilk_commands.specs.Loading.{Unprinted};
+ghost use Rattle.cilk_commands.specs.Loading.{Unready};
 ghost use Rattle.cilk_commands.specs.Telling.{GivesUp};
 ghost use Rattle.cilk_commands.specs.Printing.{IsPrinted, Prints, PrintsFront};
 ghost use Rattle.cilk_commands.specs.Status.{status_of, is_answer};
 
 use crate::answer::write_answer;
 use crate::failure::Failure;
-use crate::loading::printable_of;
+use crate::loading::ready_of;
 use crate::source::read_text;
 use crate::status::Status;
 use crate::telling::tell_of;
-use cilk_tree::canonical;
 use std::alloc::Global;
 use std::io::{Read, Write};
 
@@ -32,7 +31,7 @@ pub fn print_text<R: Read, O: Write, E: Write>(
     ensures only { is_answer result ≡ true → result ≡ Status.Done }
 
     // Where there is no answer.
-    ensures told { is_answer result ≡ false → GivesUp Unprinted explain name.now result
+    ensures told { is_answer result ≡ false → GivesUp Unready explain name.now result
         (R.remaining reader.old) (E.contents err.old) (E.contents err.new) }
     ensures begun { result ≡ Status.CannotWrite
         → PrintsFront (R.remaining reader.old) (O.contents out.old) (O.contents out.new) }
@@ -54,13 +53,13 @@ pub fn print_text<R: Read, O: Write, E: Write>(
 
 fn print<W: Write>(alloc: Global, text: &[u8], out: &mut W) -> Result<(), Failure>
     ensures ok { OnOk result (Gains (IsPrinted text.now) (W.contents out.old) (W.contents out.new)) }
-    ensures declined { IfErr result (λ why. status_of why ≡ Status.Refused → Unprinted text.now why) }
+    ensures declined { IfErr result (λ why. status_of why ≡ Status.Refused → Unready text.now why) }
     ensures begun { IfErr result (λ why. status_of why ≡ Status.CannotWrite
         → GainsFront (IsPrinted text.now) (W.contents out.old) (W.contents out.new)) }
     ensures kept { IfErr result (λ why. status_of why ≢ Status.CannotWrite → out.new ≡ out.old) }
 {
-    let program = printable_of(alloc, text)?;
-    let Ok(answer) = canonical(alloc, program.program()) else {
+    let program = ready_of(alloc, text)?;
+    let Ok(answer) = program.text() else {
         return Err(Failure::Memory);
     };
     write_answer(out, answer.as_bytes())

@@ -10,15 +10,15 @@ use Rattle.cilk_values.specs.declared.trap.Trap.TheVariants.{Index}
 use Rattle.cilk_values.specs.Arithmetic.{is_zero}
 use Rattle.cilk_values.specs.Term.{Term, rename}
 use Rattle.cilk_values.specs.Value.{Environment, value_of, values_of, ◌>>=◌}
-use Rattle.cilk_terms.specs.declared.slot.Slot.{Slot}
-use Rattle.cilk_terms.specs.Slots.{Cells, slot_cell, sizes_of, LiesWithin, SlotsLieWithin}
-use Rattle.cilk_terms.specs.Slots as slots
+use Rattle.cilk_eval.specs.declared.slot.Slot.{Slot}
+use Rattle.cilk_eval.specs.Slots.{Cells, slot_cell, sizes_of, LiesWithin, SlotsLieWithin}
+use Rattle.cilk_eval.specs.Slots as slots
 use Rattle.cilk_labelled.specs.Labelled.{Declaration, local, outer, global, of_lock, of_body, unknown, Variable, Labelled, Target, variable, element, Into, Taker, nothing, into, through, Action, assign, call, spawn, print, locking, null, break_off, go_round, tests, sync, abort, return_with, return_nothing, close}
-use Rattle.cilk_runs.specs.Values.{Values, Store, Cell, Reached, cells_of, cell_of, environment, element_cell, cell_at, reached_at, reached_if, combined}
-use Rattle.cilk_runs.specs.Instance as model
-use Rattle.cilk_runs.specs.Effect as effect
-use Rattle.cilk_runs.specs.Effect.{effect_of, start_of}
-use Rattle.cilk_runs.specs.Printing.{printed}
+use Rattle.cilk_model.specs.Values.{Values, Store, Cell, Reached, cells_of, cell_of, environment, element_cell, cell_at, reached_at, reached_if, combined}
+use Rattle.cilk_model.specs.Instance as model
+use Rattle.cilk_model.specs.Effect as effect
+use Rattle.cilk_model.specs.Effect.{effect_of, start_of}
+use Rattle.cilk_model.specs.Printing.{printed}
 use Rattle.cilk_nodes.specs.Slots.{size_of, slot_of}
 use Rattle.cilk_nodes.specs.Actions.{slotted_place, slotted_target, slotted_taker, slotted}
 use Rattle.cilk_stands.specs.Cells.{own_variables, outer_variables, HasCell}
@@ -27,7 +27,7 @@ use Rattle.cilk_stands.proofs.Slots.{cells-size}
 use Rattle.cilk_stands.proofs.Values.{array-inside, array-declared, array-same, declared-within, cell-same, value-same, slots-within}
 use Rattle.cilk_effects.specs.declared.effect.Effect.{Effect}
 use Rattle.cilk_effects.specs.declared.effect.Effect.TheVariants.{Writes, Answers, Enters, Gives, Starts, Prints, Turns, Marks}
-use Rattle.cilk_instances.specs.declared.receiver.Receiver as receiver
+use Rattle.cilk_spawn.specs.declared.receiver.Receiver as receiver
 use Rattle.cilk_effects.specs.Fits.{FitsPlace, FitsTarget, FitsTaker, FitsAct}
 use Rattle.cilk_effects.specs.Effects.{element_index, index_of, assigned, awaited, started, effect_in}
 use Rattle.cilk_sound.specs.Known.{KnownTarget, KnownPlace, KnownTaker, KnownAct}

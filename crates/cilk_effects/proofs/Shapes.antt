@@ -7,11 +7,11 @@ use Rattle.cilk_values.specs.Arithmetic.{is_zero}
 use Rattle.cilk_values.specs.Term.{Term}
 use Rattle.cilk_values.specs.Value.{Environment, value_of, values_of, ◌>>=◌}
 use Rattle.cilk_labelled.specs.Labelled.{Declaration, Target, variable, element, Into, Taker, nothing, into, through, Action, assign, call, spawn, print, locking, null, break_off, go_round, tests, sync, abort, return_with, return_nothing, close}
-use Rattle.cilk_runs.specs.Values.{Cell, Reached, element_cell, cell_at, reached_at, reached_if, combined}
-use Rattle.cilk_runs.specs.Instance as model
-use Rattle.cilk_runs.specs.Effect as effect
-use Rattle.cilk_runs.specs.Effect.{Effect, writes, answers, enters, gives, starts, writes_out, turns, marks, effect_of, start_of}
-use Rattle.cilk_runs.specs.Printing.{printed}
+use Rattle.cilk_model.specs.Values.{Cell, Reached, element_cell, cell_at, reached_at, reached_if, combined}
+use Rattle.cilk_model.specs.Instance as model
+use Rattle.cilk_model.specs.Effect as effect
+use Rattle.cilk_model.specs.Effect.{Effect, writes, answers, enters, gives, starts, writes_out, turns, marks, effect_of, start_of}
+use Rattle.cilk_model.specs.Printing.{printed}
 
 -- what a target names
 abbrev pub named_by : Target → Declaration

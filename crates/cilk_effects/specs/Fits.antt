@@ -2,8 +2,8 @@
 use Rattle.std.specs.Prelude.{⊤, Option, Some, None}
 use Rattle.std.specs.List.{All}
 use Rattle.cilk_values.specs.Term.{Term}
-use Rattle.cilk_terms.specs.declared.slot.Slot.{Slot}
-use Rattle.cilk_terms.specs.Slots.{Sizes, LiesWithin, SlotsLieWithin}
+use Rattle.cilk_eval.specs.declared.slot.Slot.{Slot}
+use Rattle.cilk_eval.specs.Slots.{Sizes, LiesWithin, SlotsLieWithin}
 use Rattle.cilk_nodes.specs.declared.place.Place.{Place}
 use Rattle.cilk_nodes.specs.declared.target.Target.{Target}
 use Rattle.cilk_nodes.specs.declared.taker.Taker.{Taker}

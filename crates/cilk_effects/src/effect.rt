@@ -1,7 +1,7 @@
 use crate::bytes::Bytes;
 use crate::reached::Reached;
-use cilk_frames::Await;
-use cilk_instances::{Arguments, Receiver};
+use cilk_frame::Await;
+use cilk_spawn::{Arguments, Receiver};
 use cilk_syntax::LockAction;
 
 /// What an action comes to, once its expressions have their values.

@@ -2,7 +2,7 @@
 
 ghost use Rattle.std.specs.Prelude.{◌≡◌, IfOk};
 ghost use Rattle.std.specs.List.{All};
-ghost use Rattle.cilk_terms.specs.Slots.{cells_of, sizes_of, SlotsLieWithin};
+ghost use Rattle.cilk_eval.specs.Slots.{cells_of, sizes_of, SlotsLieWithin};
 ghost use Rattle.cilk_effects.specs.Effects.{assigned, awaited, started, effect_in};
 ghost use Rattle.cilk_effects.specs.Fits.{FitsPlace, FitsTarget, FitsTaker, FitsAct};
 
@@ -10,11 +10,11 @@ use crate::effect::Effect;
 use crate::printing::printed;
 use crate::reached::Reached;
 use crate::values::{combined, held, index_of, values_of};
-use cilk_frames::Await;
-use cilk_instances::Receiver;
+use cilk_eval::{Code, Slots, eval};
+use cilk_frame::Await;
 use cilk_nodes::{Action, Taker, Target};
+use cilk_spawn::Receiver;
 use cilk_syntax::Memory;
-use cilk_terms::{Code, Slots, eval};
 use cilk_values::Trap;
 use std::alloc::Global;
 

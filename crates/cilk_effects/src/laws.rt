@@ -1,10 +1,10 @@
 //! Laws about effects. The function does nothing: its contract is what is proved.
 
 ghost use Rattle.std.specs.Prelude.{◌≡◌, ℕ, Ok};
-ghost use Rattle.cilk_terms.specs.Slots.{Cells, sizes_of};
+ghost use Rattle.cilk_eval.specs.Slots.{Cells, sizes_of};
 ghost use Rattle.cilk_labelled.specs.Labelled.{Labelled, Action};
-ghost use Rattle.cilk_runs.specs.Values.{Store, environment};
-ghost use Rattle.cilk_runs.specs.Effect as effect;
+ghost use Rattle.cilk_model.specs.Values.{Store, environment};
+ghost use Rattle.cilk_model.specs.Effect as effect;
 ghost use Rattle.cilk_nodes.specs.Actions.{slotted};
 ghost use Rattle.cilk_nodes.specs.Slots.{slot_of};
 ghost use Rattle.cilk_stands.specs.Reads.{Seen};

@@ -10,8 +10,8 @@ mod reached;
 mod values;
 
 pub use bytes::Bytes;
-pub use cilk_frames::Await;
-pub use cilk_instances::{Arguments, Receiver};
+pub use cilk_frame::Await;
+pub use cilk_spawn::{Arguments, Receiver};
 pub use cilk_syntax::Memory;
 pub use effect::Effect;
 pub use effects::effect_of;

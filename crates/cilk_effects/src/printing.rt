@@ -1,7 +1,7 @@
 //! What `printf` writes.
 
 ghost use Rattle.std.specs.Prelude.{◌≡◌, ◌∷◌, ◌++◌, ℕ, List, IfOk};
-ghost use Rattle.cilk_runs.specs.Printing as model;
+ghost use Rattle.cilk_model.specs.Printing as model;
 
 use crate::bytes::Bytes;
 use cilk_syntax::Memory;

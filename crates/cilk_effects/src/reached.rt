@@ -1,4 +1,4 @@
-use cilk_terms::Slot;
+use cilk_eval::Slot;
 
 /// A cell that was reached: an element of an array, or the one cell of a variable.
 #[derive(Clone, Copy, Debug, PartialEq, Eq)]

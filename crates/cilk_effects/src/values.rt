@@ -3,15 +3,15 @@
 ghost use Rattle.std.specs.Prelude.{◌≡◌, ◌<◌, max, IfOk};
 ghost use Rattle.std.specs.List.{All};
 ghost use Rattle.cilk_values.specs.Value.{values_of};
-ghost use Rattle.cilk_terms.specs.Slots.{cells_of, slot_cell, sizes_of, environment, SlotsLieWithin};
-ghost use Rattle.cilk_runs.specs.Values as model;
+ghost use Rattle.cilk_eval.specs.Slots.{cells_of, slot_cell, sizes_of, environment, SlotsLieWithin};
+ghost use Rattle.cilk_model.specs.Values as model;
 ghost use Rattle.cilk_effects.specs.Effects.{index_of};
 ghost use Rattle.cilk_effects.specs.Fits.{FitsPlace};
 
-use cilk_instances::Arguments;
+use cilk_eval::{Area, Code, Slot, Slots, apply, eval};
 use cilk_nodes::Place;
+use cilk_spawn::Arguments;
 use cilk_syntax::{BinOp, Memory};
-use cilk_terms::{Area, Code, Slot, Slots, apply, eval};
 use cilk_values::Trap;
 use std::alloc::Global;
 

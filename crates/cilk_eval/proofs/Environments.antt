@@ -1,11 +1,12 @@
 -- The value of an expression in two environments, and under other names for its places.
 use Rattle.std.proofs.Common.{◌≡◌, ℕ, ℤ, pos, negsuc, Bool, true, false, cond, nat_lt, Ok, Err, Result, refl, ap, ◌∙◌}
-use Rattle.cilk_eval.specs.declared.trap.Trap.{Trap}
-use Rattle.cilk_eval.specs.declared.trap.Trap.TheVariants.{Index}
+use Rattle.cilk_values.specs.declared.trap.Trap.{Trap}
+use Rattle.cilk_values.specs.declared.trap.Trap.TheVariants.{Index}
 use borrow.Author.Tests.{ltb-true}
-use Rattle.cilk_eval.specs.Arithmetic.{truth, is_zero, unary_result}
-use Rattle.cilk_eval.specs.Term.{Term, number, variable, element, synched, unary, binary, choose, rename}
-use Rattle.cilk_eval.specs.Value.{Environment, ◌>>=◌, element_at, settled_by_left, joined, value_of, seen_through, SameArray, ReadsSame}
+use Rattle.cilk_values.specs.Arithmetic.{truth, is_zero, unary_result}
+use Rattle.cilk_values.specs.Term.{Term, number, variable, element, synched, unary, binary, choose, rename}
+use Rattle.cilk_values.specs.Value.{Environment, ◌>>=◌, element_at, settled_by_left, joined, value_of, seen_through}
+use Rattle.cilk_eval.specs.Reads.{SameArray, ReadsSame}
 
 -- an expression under other names for its places has the value that it has where those names are seen through
 pub value_of-rename : {P Q : Type 0} (f : P → Q) (env : Environment Q) (t : Term P) → value_of env (rename f t) ≡ value_of (seen_through f env) t

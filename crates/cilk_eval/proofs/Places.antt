@@ -1,5 +1,6 @@
 -- What holds of each place that an expression may read.
-use Rattle.cilk_eval.specs.Term.{Term, number, variable, element, synched, unary, binary, choose, rename, AllReads}
+use Rattle.cilk_values.specs.Term.{Term, number, variable, element, synched, unary, binary, choose, rename}
+use Rattle.cilk_eval.specs.Reads.{AllReads}
 
 pub AllReads-map : {P : Type 0} (V V' A A' : P → Type 0) (S S' : Type 0) → ((p : P) → V p → V' p) → ((p : P) → A p → A' p) → (S → S') → (t : Term P) → AllReads V A S t → AllReads V' A' S' t
 AllReads-map V V' A A' S S' v a s (number n) h = tt

@@ -1,6 +1,4 @@
-pub mod Arithmetic
-pub mod Term
-pub mod Value
+pub mod Reads
 pub mod Coding
 pub mod View
 pub mod Size

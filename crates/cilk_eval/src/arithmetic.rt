@@ -1,10 +1,10 @@
 //! The operators on the integers of the language.
 
 ghost use Rattle.std.specs.Prelude.{◌≡◌};
-ghost use Rattle.cilk_eval.specs.Arithmetic.{binary_result, unary_result, quotient, remainder, shifted_left, shifted_right};
+ghost use Rattle.cilk_values.specs.Arithmetic.{binary_result, unary_result, quotient, remainder, shifted_left, shifted_right};
 
-use crate::trap::Trap;
-use cilk_core::{BinOp, UnOp};
+use cilk_syntax::{BinOp, UnOp};
+use cilk_values::Trap;
 
 /// The value of two operands under an operator, or the trap (C 1990, 6.3.5 to 6.3.14). Both
 /// operands are values already; `&&` and `||` give 1 or 0 by whether they are other than 0.

@@ -1,7 +1,7 @@
 //! The value of an expression over slots.
 
 ghost use Rattle.std.specs.Prelude.{◌≡◌};
-ghost use Rattle.cilk_eval.specs.Value.{value_of, settled_by_left, element_at};
+ghost use Rattle.cilk_values.specs.Value.{value_of, settled_by_left, element_at};
 ghost use Rattle.cilk_eval.specs.Slots.{environment, cells_of, sizes_of, area_cells, LiesWithin, SlotsLieWithin};
 
 use crate::area::Area;
@@ -9,8 +9,8 @@ use crate::arithmetic::{apply, unary};
 use crate::code::{Code, CodeNode};
 use crate::slot::Slot;
 use crate::slots::Slots;
-use crate::trap::Trap;
-use cilk_core::BinOp;
+use cilk_syntax::BinOp;
+use cilk_values::Trap;
 
 /// The value of an expression, or the first trap from the left (C 1990, 6.3). `&&`, `||` and `?:`
 /// evaluate only the operands that they need. Each slot in the expression lies in its area, which

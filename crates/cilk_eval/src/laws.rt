@@ -2,8 +2,9 @@
 
 ghost use Rattle.std.specs.Prelude.{◌≡◌, ◌≢◌, ℕ, ◌^◌, ℤ, pos, int_div, int_rem};
 ghost use Rattle.std.specs.Int.{int_div_euclid};
-ghost use Rattle.cilk_eval.specs.Term.{Term, rename};
-ghost use Rattle.cilk_eval.specs.Value.{Environment, value_of, seen_through, ReadsSame};
+ghost use Rattle.cilk_values.specs.Term.{Term, rename};
+ghost use Rattle.cilk_values.specs.Value.{Environment, value_of, seen_through};
+ghost use Rattle.cilk_eval.specs.Reads.{ReadsSame};
 ghost use Rattle.cilk_eval.specs.Rounding.{Truncates, RoundsDown};
 
 /// Other names for the places of an expression leave its value as it is, and so does a change of

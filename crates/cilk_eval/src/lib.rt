@@ -9,14 +9,13 @@ mod evaluate;
 mod laws;
 mod slot;
 mod slots;
-mod trap;
 
 pub use area::Area;
 pub use arithmetic::{apply, unary};
-pub use cilk_core::Memory;
+pub use cilk_syntax::Memory;
+pub use cilk_values::Trap;
 pub use code::{Code, CodeNode};
 pub use evaluate::eval;
 pub use laws::{quotients_are_rounded, value_is_of_what_is_read};
 pub use slot::Slot;
 pub use slots::Slots;
-pub use trap::Trap;

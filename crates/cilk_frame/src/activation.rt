@@ -2,7 +2,8 @@ ghost use Rattle.std.specs.Prelude.{◌≡◌, ◌<◌, length, slice_set, IfOk}
 ghost use Rattle.cilk_frame.specs.Starts.{first_cells};
 
 use crate::awaited::Await;
-use cilk_load::{Body, Memory};
+use cilk_nodes::Body;
+use cilk_syntax::Memory;
 use std::alloc::Global;
 use std::marker::Model;
 

@@ -1,12 +1,12 @@
-ghost use Rattle.std.specs.Prelude.{◌≡◌, ◌<◌, ◌≤◌, length, OnErr, OnOk, IfOk};
-ghost use Rattle.cilk_load.specs.Bodies.{body_of};
+ghost use Rattle.std.specs.Prelude.{◌≡◌, ◌<◌, ◌≤◌, ◌∷◌, [], false, length, None, Some, OnErr, OnOk, IfOk};
 ghost use Rattle.cilk_frame.specs.Frames.{depth, activation_at, top_of, with_cell, jumped, with_boundary, entered, left};
-ghost use Rattle.cilk_frame.specs.Starts.{Takes, first_activation, started};
+ghost use Rattle.cilk_frame.specs.Starts.{activation_of};
 
 use crate::activation::Activation;
 use crate::awaited::Await;
 use crate::id::Id;
-use cilk_load::{Loaded, Memory};
+use cilk_nodes::Body;
+use cilk_syntax::Memory;
 use std::alloc::Global;
 use std::marker::Model;
 
@@ -35,28 +35,21 @@ impl Frame {
     pub const DEPTH: u32 = 256;
 
     /// An instance of a procedure at its start. There are as many arguments as it has parameters.
-    pub fn start(
-        alloc: Global,
-        id: Id,
-        loaded: &Loaded,
-        procedure: u32,
-        arguments: &[i32],
-    ) -> Result<Frame, Memory>
-        requires { Takes (body_of loaded.now procedure) arguments.now }
-        ensures { IfOk result (λ frame. frame ≡ started loaded.now id procedure arguments.now) }
+    pub fn start(alloc: Global, id: Id, body: &Body, arguments: &[i32]) -> Result<Frame, Memory>
+        requires { length arguments.now ≡ body.now.params }
+        ensures { IfOk result (λ frame. frame ≡ record {
+          id = id;
+          activations = activation_of body.now arguments.now None ∷ [];
+          boundary = false;
+        }) }
     {
-        match loaded.body(procedure) {
-            None => unreachable!(),
-            Some(body) => {
-                let mut activations = Vec::with_capacity(alloc, 1)?;
-                activations.push(Activation::start(alloc, body, arguments, None)?)?;
-                Ok(Frame {
-                    id,
-                    activations,
-                    boundary: false,
-                })
-            }
-        }
+        let mut activations = Vec::with_capacity(alloc, 1)?;
+        activations.push(Activation::start(alloc, body, arguments, None)?)?;
+        Ok(Frame {
+            id,
+            activations,
+            boundary: false,
+        })
     }
 
     /// Whose frame it is.
@@ -100,6 +93,15 @@ impl Frame {
         activation.cells()
     }
 
+    /// What awaits the value of the top activation.
+    pub fn awaits(&self) -> Option<Await>
+        ensures { result ≡ (top_of self.now).awaits }
+    {
+        let top = self.activations.len() - 1;
+        let activation = &self.activations[top];
+        activation.awaits()
+    }
+
     /// Puts a value into a cell of activation i.
     pub fn set_cell(&mut self, i: u32, slot: u32, value: i32)
         requires activation { i < depth self.old }
@@ -130,25 +132,19 @@ impl Frame {
     /// called, or an inlet.
     pub fn enter(
         &mut self,
-        loaded: &Loaded,
-        callee: u32,
+        body: &Body,
         arguments: &[i32],
         awaits: Option<Await>,
     ) -> Result<(), Memory>
-        requires takes { Takes (body_of loaded.now callee) arguments.now }
+        requires takes { length arguments.now ≡ body.now.params }
         requires room { depth self.old < 256 }
-        ensures ok { OnOk result (self.new ≡ entered (first_activation loaded.now callee arguments.now awaits) self.old) }
+        ensures ok { OnOk result (self.new ≡ entered (activation_of body.now arguments.now awaits) self.old) }
         ensures err { OnErr result (self.new ≡ self.old) }
     {
-        match loaded.body(callee) {
-            None => unreachable!(),
-            Some(body) => {
-                let alloc = *self.activations.allocator();
-                let activation = Activation::start(alloc, body, arguments, awaits)?;
-                self.activations.push(activation)?;
-                Ok(())
-            }
-        }
+        let alloc = *self.activations.allocator();
+        let activation = Activation::start(alloc, body, arguments, awaits)?;
+        self.activations.push(activation)?;
+        Ok(())
     }
 
     /// The top activation is left. Answers what awaits its value.

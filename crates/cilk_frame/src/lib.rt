@@ -26,10 +26,8 @@ mod activation;
 mod awaited;
 mod frame;
 mod id;
-mod laws;
 
 pub use awaited::Await;
-pub use cilk_load::Memory;
+pub use cilk_syntax::Memory;
 pub use frame::Frame;
 pub use id::Id;
-pub use laws::{a_call_stands, a_start_stands, a_write_stands, an_action_stands, values_are_seen};

@@ -1,8 +1,6 @@
-pub mod Slots
-pub mod Table
-pub mod Bodies
-pub mod Tables
-pub mod Laws
-pub mod Spawns
-pub mod Names
+pub mod Scope
+pub mod Shown
+pub mod Acts
 pub mod Pass
+pub mod Outer
+pub mod Tables

@@ -1,114 +1,162 @@
--- The tables part by part, as one pass over the tree writes them: `at` is the number of the next action, and b the body's number.
-use Rattle.std.specs.Prelude.{ℕ, ◌+◌, ◌≤◌, ⊤, List, [], ◌∷◌, ◌++◌, Option, Some, None, length, map}
-use Rattle.cilk_core.specs.Adjustments.{operator_of}
-use Rattle.cilk_core.specs.Tree as tree
-use Rattle.cilk_core.specs.Parameters.{parameter_decl}
-use Rattle.cilk_core_check.specs.Names.{decls_of}
-use Rattle.cilk_eval.specs.Term as term
-use Rattle.cilk_eval.specs.declared.area.Area.TheVariants.{Own, Global}
-use Rattle.cilk_model.specs.Count.{count_option, count_decls, count_stmt, count_item}
-use Rattle.cilk_model.specs.Labelled.{Variable}
-use Rattle.cilk_model.specs.Label.{variable_of, block_variables, item_names, item_globals}
-use Rattle.cilk_load.specs.declared.var.Var.{Var}
-use Rattle.cilk_load.specs.declared.body.Body.{Body}
-use Rattle.cilk_load.specs.declared.action.Action.{Action}
-use Rattle.cilk_load.specs.declared.action.Action.TheVariants.{Close, AssignBy, Null, Sync}
-use Rattle.cilk_load.specs.declared.node.Node.{Node}
-use Rattle.cilk_load.specs.Slots.{cells_of}
-use Rattle.cilk_load.specs.Bodies.{vars_from}
-use Rattle.cilk_load.specs.Names.{Names, up_to, slot_in, code_in, assignment_in, return_action, spawn_in}
+-- The nodes part by part, as one pass over the tree writes them: `at` is the number of the next action, b the body's number, and n that of its next variable.
+use Rattle.std.specs.Prelude.{ℕ, zero, suc, ◌+◌, Bool, false, nat_eq, nat_lt, if◌then◌else◌, List, [], ◌∷◌, ◌++◌, Option, Some, None, length}
+use Rattle.cilk_syntax.specs.Tree as tree
+use Rattle.cilk_syntax.specs.Tree.{Word}
+use Rattle.cilk_eval.specs.declared.slot.Slot.{Slot}
+use Rattle.cilk_labelled.specs.Count.{count_option, count_shape, count_stmt, count_stmts, count_locals, count_block}
+use Rattle.cilk_labelled.specs.Label.{stmt_variables, locals_variables, block_variables}
+use Rattle.cilk_nodes.specs.declared.action.Action.{Action}
+use Rattle.cilk_nodes.specs.declared.action.Action.TheVariants.{Print, Locking, Null, Break, Continue, Test, Sync, Abort}
+use Rattle.cilk_nodes.specs.declared.node.Node.{Node}
+use Rattle.cilk_nodes.specs.declared.var.Var.{Var}
+use Rattle.cilk_nodes.specs.Slots.{nowhere}
+use Rattle.cilk_load.specs.declared.exits.Exits.{Exits}
+use Rattle.cilk_load.specs.Scope.{Named, Scope, declared}
+use Rattle.cilk_load.specs.Acts.{code_in, codes_in, number_in, move_in, spawn_in, return_in, initialiser_in}
 
--- the node of an action behind which the body goes on
-abbrev pub onward : ℕ → ℕ → Action → Node
-onward b at action = record { action = action; next = Some (at + 1); body = b }
+-- the slot of variable n of these
+abbrev pub var_slot : List Var → ℕ → Slot
+var_slot [] n = nowhere
+var_slot (v ∷ vars) zero = v.slot
+var_slot (v ∷ vars) (suc n) = var_slot vars n
 
--- that of one with which the body is left
-abbrev pub leaving : ℕ → Action → Node
-leaving b action = record { action = action; next = None; body = b }
+abbrev pub known_var : List Var → ℕ → Word → Named
+known_var vars n word = record { name = word.text; known = record { slot = var_slot vars n; number = n } }
 
-abbrev pub initialiser_nodes : ℕ → Names → ℕ → List ℕ → Option tree.Expr → List Node
-initialiser_nodes b names at name None = []
-initialiser_nodes b names at name (Some value) = onward b at (assignment_in names name value) ∷ []
+-- a lock or a body
+abbrev pub known_number : ℕ → Word → Named
+known_number n word = record { name = word.text; known = record { slot = nowhere; number = n } }
 
--- an initialiser sees the variables up to its own, the first of these declarations being declaration n
-abbrev pub decls_nodes : ℕ → Names → ℕ → ℕ → List tree.Decl → List Node
-decls_nodes b names n at [] = []
-decls_nodes b names n at (d ∷ decls) =
-    initialiser_nodes b (up_to (n + 1) names) at d.name.text d.value ++ decls_nodes b names (n + 1) (at + count_option d.value) decls
+abbrev pub node : ℕ → Action → Option ℕ → Option ℕ → Node
+node b act next other = record { action = act; next = next; other = other; body = b }
 
-abbrev pub stmt_nodes : ℕ → Names → ℕ → tree.Stmt → List Node
-stmt_nodes b names at (tree.assign place value) = onward b at (assignment_in names place.name.text value) ∷ []
-stmt_nodes b names at (tree.return_at place value) = leaving b (return_action names value) ∷ []
-stmt_nodes b names at tree.null = onward b at Null ∷ []
-stmt_nodes b names at (tree.update place op value) =
-    onward b at (AssignBy op (slot_in names place.name.text) (code_in names value)) ∷ []
-stmt_nodes b names at (tree.adjust place by) =
-    onward b at (AssignBy (operator_of by) (slot_in names place.name.text) (term.number 1)) ∷ []
-stmt_nodes b names at (tree.spawn_at place taker callee arguments) =
-    onward b at (spawn_in names taker callee.text arguments) ∷ []
-stmt_nodes b names at (tree.sync_at place) = onward b at Sync ∷ []
+-- of an action behind which one list comes
+abbrev pub onward : ℕ → Action → Option ℕ → Node
+onward b act next = node b act next next
 
-abbrev pub stmts_nodes : ℕ → Names → ℕ → tree.Stmts → List Node
-stmts_nodes b names at tree.none = []
-stmts_nodes b names at (tree.also first others) =
-    stmt_nodes b names at first ++ stmts_nodes b names (at + count_stmt first) others
+-- the number with which so many actions begin, or what comes behind them
+abbrev pub first_if : ℕ → ℕ → Option ℕ → Option ℕ
+first_if count at next = if nat_eq count 0 then next else Some at
 
--- a block whose first declaration is declaration n
-abbrev pub block_nodes : ℕ → Names → ℕ → ℕ → tree.Block → List Node
-block_nodes b names n at (tree.block decls stmts) =
-    decls_nodes b names n at decls ++ stmts_nodes b names (at + count_decls decls) stmts
+abbrev pub block_first : ℕ → tree.Block → Option ℕ → Option ℕ
+block_first at body next = first_if (count_block body) at next
 
--- the variables of the body of a procedure
-abbrev pub own_variables : tree.Proc → List Variable
-own_variables p = map variable_of (map parameter_decl p.parameters) ++ block_variables p.body
+-- that of the first initialiser among these declarations: an inlet is no part of what its procedure does
+abbrev pub locals_first : ℕ → tree.Locals → Option ℕ → Option ℕ
+locals_first at tree.no_locals next = next
+locals_first at (tree.and_local (tree.declared d) others) next =
+    first_if (count_shape d.shape) at (locals_first (at + count_shape d.shape) others next)
+locals_first at (tree.and_local (tree.inlet_at place name parameters body) others) next =
+    locals_first (at + (count_block body + 1)) others next
 
-abbrev pub own_vars : tree.Proc → List Var
-own_vars p = vars_from Own 0 (own_variables p)
+-- whether a declaration is an action
+abbrev pub is_initialised : tree.Local → Bool
+is_initialised (tree.declared d) = nat_lt 0 (count_shape d.shape)
+is_initialised (tree.inlet_at place name parameters body) = false
 
--- the nodes of a procedure, by the variables of the top level and the names of the bodies
-abbrev pub procedure_nodes : List Var → List (List ℕ) → ℕ → ℕ → tree.Proc → List Node
-procedure_nodes globals bodies b at p =
-    block_nodes b (record { vars = own_vars p; globals = globals; bodies = bodies }) (length p.parameters) at p.body ++ leaving b Close ∷ []
+abbrev pub exits_to : Option ℕ → Exits → Exits
+exits_to next ex = record { next = next; past = ex.past; again = ex.again }
 
-abbrev pub item_nodes : List Var → List (List ℕ) → ℕ → ℕ → tree.Item → List Node
-item_nodes globals bodies b at (tree.procedure p) = procedure_nodes globals bodies b at p
-item_nodes globals bodies b at (tree.global g) = []
+-- in the body of a loop with this mark
+abbrev pub in_loop : ℕ → Option ℕ → Exits
+in_loop mark next = record { next = Some mark; past = next; again = Some mark }
 
--- how many bodies a definition has
-abbrev pub body_count : tree.Item → ℕ
-body_count item = length (item_names item)
+-- the first part or the advance of a `for`, behind which its test comes
+abbrev pub part_nodes : ℕ → Scope → Option tree.Move → ℕ → List Node
+part_nodes b s None mark = []
+part_nodes b s (Some what) mark = onward b (move_in s what) (Some mark) ∷ []
 
-abbrev pub items_nodes : List Var → List (List ℕ) → ℕ → ℕ → List tree.Item → List Node
-items_nodes globals bodies b at [] = []
-items_nodes globals bodies b at (first ∷ others) =
-    item_nodes globals bodies b at first ++ items_nodes globals bodies (b + body_count first) (at + count_item first) others
+-- of a `for` whose first action is `at`: the number of the advance, if there is one, else that of the test
+abbrev pub again_at : ℕ → Option tree.Move → Option tree.Move → ℕ
+again_at at first None = at + count_option first
+again_at at first (Some advance) = at + (count_option first + 1)
 
--- the body of a procedure, whose first action has the number `at`
-abbrev pub procedure_body : ℕ → tree.Proc → Body
-procedure_body at p =
-    record { name = p.name.text; entry = at; params = length p.parameters; cells = cells_of (own_variables p); vars = own_vars p }
+-- where its body begins
+abbrev pub inside_at : ℕ → Option tree.Move → Option tree.Move → ℕ
+inside_at at first advance = at + (count_option first + (1 + count_option advance))
 
-abbrev pub item_bodies : ℕ → tree.Item → List Body
-item_bodies at (tree.procedure p) = procedure_body at p ∷ []
-item_bodies at (tree.global g) = []
+-- an initialiser sees its own variable
+abbrev pub shape_nodes : ℕ → Scope → Word → tree.Shape → Option ℕ → List Node
+shape_nodes b s name (tree.variable None) next = []
+shape_nodes b s name (tree.variable (Some value)) next = onward b (initialiser_in s name value) next ∷ []
+shape_nodes b s name (tree.array n) next = []
 
-abbrev pub items_bodies : ℕ → List tree.Item → List Body
-items_bodies at [] = []
-items_bodies at (first ∷ others) = item_bodies at first ++ items_bodies (at + count_item first) others
+-- behind declarations without inlets
+abbrev pub locals_scope : List Var → ℕ → tree.Locals → Scope → Scope
+locals_scope vars n tree.no_locals s = s
+locals_scope vars n (tree.and_local (tree.declared d) others) s = locals_scope vars (n + 1) others (declared s (known_var vars n d.name))
+locals_scope vars n (tree.and_local (tree.inlet_at place name parameters body) others) s = locals_scope vars n others s
 
--- the variables of the top level, where the cells of the first begin at `at`
-abbrev pub item_vars : ℕ → tree.Item → List Var
-item_vars at item = vars_from Global at (item_globals item)
+abbrev pub locals_nodes : ℕ → List Var → Scope → ℕ → ℕ → tree.Locals → Option ℕ → List Node
+locals_nodes b vars s at n tree.no_locals next = []
+locals_nodes b vars s at n (tree.and_local (tree.declared d) others) next =
+    shape_nodes b (declared s (known_var vars n d.name)) d.name d.shape (locals_first (at + count_shape d.shape) others next)
+    ++ locals_nodes b vars (declared s (known_var vars n d.name)) (at + count_shape d.shape) (n + 1) others next
+locals_nodes b vars s at n (tree.and_local (tree.inlet_at place name parameters body) others) next = locals_nodes b vars s at n others next
 
-abbrev pub items_vars : ℕ → List tree.Item → List Var
-items_vars at [] = []
-items_vars at (first ∷ others) = item_vars at first ++ items_vars (at + length (item_globals first)) others
+-- the action of a statement that is one action
+abbrev pub action_in : Scope → tree.Stmt → Option Action
+action_in s (tree.move what) = Some (move_in s what)
+action_in s (tree.spawn_at place taker callee arguments) = Some (spawn_in s taker callee arguments)
+action_in s (tree.print format arguments) = Some (Print format.bytes (codes_in s arguments))
+action_in s (tree.locking what name) = Some (Locking what (number_in s name))
+action_in s tree.null = Some Null
+action_in s (tree.sync_at place) = Some Sync
+action_in s (tree.abort_at place) = Some Abort
+action_in s (tree.break_at place) = Some Break
+action_in s (tree.continue_at place) = Some Continue
+action_in s (tree.return_at place value) = Some (return_in s value)
+action_in s other = None
 
--- no activation has more than 4,096 cells
-abbrev pub item_is_small : tree.Item → Type 0
-item_is_small (tree.procedure p) = length p.parameters + length (decls_of p.body) ≤ 4096
-item_is_small (tree.global g) = ⊤
+-- where it leads
+abbrev pub behind : tree.Stmt → Exits → Option ℕ
+behind (tree.break_at place) ex = ex.past
+behind (tree.continue_at place) ex = ex.again
+behind (tree.return_at place value) ex = None
+behind other ex = ex.next
 
-abbrev pub AllAreSmall : List tree.Item → Type 0
-AllAreSmall [] = ⊤
-AllAreSmall (first ∷ others) = item_is_small first × AllAreSmall others
+abbrev pub single_nodes : ℕ → Option Action → Option ℕ → List Node
+single_nodes b None next = []
+single_nodes b (Some act) next = onward b act next ∷ []
+
+abbrev mutual
+  pub stmt_nodes : ℕ → List Var → Scope → ℕ → ℕ → tree.Stmt → Exits → List Node
+  stmt_nodes b vars s at n (tree.move what) ex = onward b (move_in s what) ex.next ∷ []
+  stmt_nodes b vars s at n (tree.spawn_at place taker callee arguments) ex = onward b (spawn_in s taker callee arguments) ex.next ∷ []
+  stmt_nodes b vars s at n (tree.print format arguments) ex = onward b (Print format.bytes (codes_in s arguments)) ex.next ∷ []
+  stmt_nodes b vars s at n (tree.locking what name) ex = onward b (Locking what (number_in s name)) ex.next ∷ []
+  stmt_nodes b vars s at n tree.null ex = onward b Null ex.next ∷ []
+  stmt_nodes b vars s at n (tree.sync_at place) ex = onward b Sync ex.next ∷ []
+  stmt_nodes b vars s at n (tree.abort_at place) ex = onward b Abort ex.next ∷ []
+  stmt_nodes b vars s at n (tree.break_at place) ex = onward b Break ex.past ∷ []
+  stmt_nodes b vars s at n (tree.continue_at place) ex = onward b Continue ex.again ∷ []
+  stmt_nodes b vars s at n (tree.return_at place value) ex = onward b (return_in s value) None ∷ []
+  stmt_nodes b vars s at n (tree.when value body) ex =
+      node b (Test (code_in s value)) (block_first (at + 1) body ex.next) ex.next ∷ block_nodes b vars s (at + 1) n body ex
+  stmt_nodes b vars s at n (tree.either value body other) ex =
+      node b (Test (code_in s value)) (block_first (at + 1) body ex.next) (block_first (at + (1 + count_block body)) other ex.next)
+      ∷ (block_nodes b vars s (at + 1) n body ex
+      ++ block_nodes b vars s (at + (1 + count_block body)) (n + length (block_variables body)) other ex)
+  stmt_nodes b vars s at n (tree.while value body) ex =
+      node b (Test (code_in s value)) (block_first (at + 1) body (Some at)) ex.next
+      ∷ block_nodes b vars s (at + 1) n body (in_loop at ex.next)
+  stmt_nodes b vars s at n (tree.repeat body value) ex =
+      block_nodes b vars s at n body (in_loop (at + count_block body) ex.next)
+      ++ node b (Test (code_in s value)) (block_first at body (Some (at + count_block body))) ex.next ∷ []
+  stmt_nodes b vars s at n (tree.loop first value advance body) ex =
+      part_nodes b s first (at + count_option first)
+      ++ node b (Test (code_in s value)) (block_first (inside_at at first advance) body (Some (again_at at first advance))) ex.next
+      ∷ (part_nodes b s advance (at + count_option first)
+      ++ block_nodes b vars s (inside_at at first advance) n body (in_loop (again_at at first advance) ex.next))
+  stmt_nodes b vars s at n (tree.nested inside) ex = block_nodes b vars s at n inside ex
+
+  pub stmts_nodes : ℕ → List Var → Scope → ℕ → ℕ → tree.Stmts → Exits → List Node
+  stmts_nodes b vars s at n tree.none ex = []
+  stmts_nodes b vars s at n (tree.also first others) ex =
+      stmt_nodes b vars s at n first (exits_to (first_if (count_stmts others) (at + count_stmt first) ex.next) ex)
+      ++ stmts_nodes b vars s (at + count_stmt first) (n + length (stmt_variables first)) others ex
+
+  pub block_nodes : ℕ → List Var → Scope → ℕ → ℕ → tree.Block → Exits → List Node
+  block_nodes b vars s at n (tree.block locals stmts) ex =
+      locals_nodes b vars s at n locals (first_if (count_stmts stmts) (at + count_locals locals) ex.next)
+      ++ stmts_nodes b vars (locals_scope vars n locals s) (at + count_locals locals) (n + length (locals_variables locals)) stmts ex

@@ -1,121 +1,189 @@
-//! The nodes and the bodies of a program.
+//! The tables of bodies.
 
-ghost use Rattle.std.specs.Prelude.{◌≡◌, ◌+◌, ◌<◌, ◌≤◌, ◌^◌, [], ◌∷◌, ◌++◌, IfSome, IsSome, OnOk, Some, length, position, vec_len};
-ghost use Rattle.cilk_core.specs.Tree.{procedure};
-ghost use Rattle.cilk_model.specs.Count.{count_item, count_items};
-ghost use Rattle.cilk_model.specs.Label.{names_of};
-ghost use Rattle.cilk_load.specs.Pass.{procedure_nodes, item_nodes, items_nodes, procedure_body, item_bodies, items_bodies, body_count, item_is_small, AllAreSmall};
-ghost use Rattle.cilk_load.specs.Bodies.{starts_here};
+ghost use Rattle.std.specs.Prelude.{◌≡◌, ◌+◌, ◌≤◌, ◌++◌, ◌∷◌, [], pos, map, IfOk, OnOk, position, unwrap_or};
+ghost use Rattle.cilk_syntax.specs.Tree as tree;
+ghost use Rattle.cilk_syntax.specs.Tree.{locals_of};
+ghost use Rattle.cilk_scopes.specs.declared.owner.Owner.TheVariants as owner;
+ghost use Rattle.cilk_scopes.specs.Parts.{owner_of};
+ghost use Rattle.cilk_labelled.specs.Count.{count_block, count_locals, count_item, count_items};
+ghost use Rattle.cilk_labelled.specs.Bodies.{one_cell, parameter_variables};
+ghost use Rattle.cilk_load.specs.Outer.{body_first, table_of, inlet_tables, item_tables, items_tables};
+ghost use Rattle.cilk_load.specs.Tables.{starts_here};
 
-use crate::action::Action;
-use crate::body::Body;
-use crate::names::Names;
-use crate::node::Node;
-use crate::numbering::{put_block, put_leaving};
-use crate::var::Var;
-use crate::variables::body_of;
-use cilk_core::{Item, ItemNode, Proc};
-use std::alloc::{AllocError, Global};
+use crate::counts::{
+    actions_in, actions_of_item, actions_of_locals, actions_of_stmts, count_shape,
+};
+use crate::firsts::{first_if, locals_first};
+use crate::room::NoRoom;
+use crate::variables::{copied, put_block_variables, put_parameters, put_words};
+use cilk_nodes::{Body, Vars};
+use cilk_scopes::Owner;
+use cilk_syntax::{Block, Item, ItemNode, Local, LocalNode, Proc, Word};
+use std::alloc::Global;
 
-/// Appends the nodes and the bodies of these definitions, which have these variables of the top
-/// level.
-pub(crate) fn put_items(
-    alloc: Global,
-    nodes: &mut Vec<Node>,
-    bodies: &mut Vec<Body>,
-    globals: &[Var],
-    items: &[Item],
-) -> Result<(), AllocError>
-    requires room { vec_len nodes.old + count_items items.now ≤ 65535 }
-    requires bodies { vec_len bodies.old + length (names_of items.now) < 2 ^ 32 }
-    requires small { AllAreSmall items.now }
-    ensures nodes { OnOk result (nodes.new.items ≡ nodes.old.items
-        ++ items_nodes globals.now (names_of items.now) (vec_len bodies.old) (vec_len nodes.old + 1) items.now) }
-    ensures bodies { OnOk result (bodies.new.items ≡ bodies.old.items ++ items_bodies (vec_len nodes.old + 1) items.now) }
-    ensures len { OnOk result (vec_len nodes.new ≡ vec_len nodes.old + count_items items.now) }
+// The number of the first action of a body, which begins at a number.
+fn body_first(block: &Block, at: u32) -> Option<u32>
+    requires { at + count_block block.now ≤ 65535 }
+    ensures { result ≡ body_first at block.now }
 {
-    for item in items {
-        put_item(alloc, nodes, bodies, globals, items, item)?;
+    let middle = at + actions_of_locals(&block.locals);
+    let stmts = actions_of_stmts(&block.stmts);
+    let first = first_if(stmts, middle, Some(middle + stmts));
+    locals_first(&block.locals, at, first)
+}
+
+// The number of the first action, or 0, which no body has.
+fn entry_of(block: &Block, at: u32) -> u32
+    requires { at + count_block block.now ≤ 65535 }
+    ensures { result ≡ unwrap_or (body_first at block.now) 0 }
+{
+    body_first(block, at).unwrap_or(0)
+}
+
+fn owner_of(definition: &Proc) -> Owner
+    ensures { result ≡ owner_of definition.now.is_cilk definition.now.returns }
+{
+    if definition.is_cilk {
+        Owner::Procedure(definition.returns)
+    } else {
+        Owner::Function(definition.returns)
+    }
+}
+
+// Appends the table of a definition's own body.
+fn put_own(alloc: Global, bodies: &mut Vec<Body>, at: u32, definition: &Proc) -> Result<(), NoRoom>
+    requires { at + count_block definition.now.body ≤ 65535 }
+    ensures { OnOk result (bodies.new.items ≡ bodies.old.items
+        ++ table_of at (owner_of definition.now.is_cilk definition.now.returns) definition.now.name
+        (parameter_variables definition.now.parameters) definition.now.body ∷ []) }
+{
+    let mut vars = Vec::new(alloc);
+    let cells = put_parameters(alloc, &mut vars, 0, &definition.parameters)?;
+    let params = u32::try_from(vars.len()).map_err(|_| NoRoom::TooLarge)?;
+    let cells = put_block_variables(alloc, &mut vars, cells, &definition.body)?;
+    bodies.push(Body {
+        name: copied(alloc, &definition.name)?,
+        owner: owner_of(definition),
+        entry: entry_of(&definition.body, at),
+        params,
+        cells,
+        vars: Vars::new(vars),
+    })?;
+    Ok(())
+}
+
+// Appends the table of the body of an inlet.
+fn put_inlet(
+    alloc: Global,
+    bodies: &mut Vec<Body>,
+    at: u32,
+    name: &Word,
+    parameters: &[Word],
+    body: &Block,
+) -> Result<(), NoRoom>
+    requires { at + count_block body.now ≤ 65535 }
+    ensures { OnOk result (bodies.new.items ≡ bodies.old.items
+        ++ table_of at owner.Inlet name.now (map (one_cell (pos 0)) parameters.now) body.now ∷ []) }
+{
+    let mut vars = Vec::new(alloc);
+    let cells = put_words(alloc, &mut vars, 0, parameters)?;
+    let params = u32::try_from(vars.len()).map_err(|_| NoRoom::TooLarge)?;
+    let cells = put_block_variables(alloc, &mut vars, cells, body)?;
+    bodies.push(Body {
+        name: copied(alloc, name)?,
+        owner: Owner::Inlet,
+        entry: entry_of(body, at),
+        params,
+        cells,
+        vars: Vars::new(vars),
+    })?;
+    Ok(())
+}
+
+// Appends the tables of the inlets among these declarations, whose first action has the number `at`.
+fn put_inlets(
+    alloc: Global,
+    bodies: &mut Vec<Body>,
+    at: u32,
+    locals: &[Local],
+) -> Result<(), NoRoom>
+    requires { at + count_locals (locals_of locals.now) ≤ 65536 }
+    ensures { OnOk result (bodies.new.items ≡ bodies.old.items ++ inlet_tables at (locals_of locals.now)) }
+{
+    let mut at = at;
+    for local in locals {
+        match &local.node {
+            LocalNode::Decl(decl) => at += count_shape(&decl.shape),
+            LocalNode::Inlet(inlet) => {
+                put_inlet(
+                    alloc,
+                    bodies,
+                    at,
+                    &inlet.name,
+                    &inlet.parameters,
+                    &inlet.body,
+                )?;
+                at += actions_in(&inlet.body) + 1;
+            }
+        }
     }
     Ok(())
 }
 
-// Appends those of one of these definitions.
-fn put_item(
-    alloc: Global,
-    nodes: &mut Vec<Node>,
-    bodies: &mut Vec<Body>,
-    globals: &[Var],
-    items: &[Item],
-    item: &Item,
-) -> Result<(), AllocError>
-    requires room { vec_len nodes.old + count_item item.now ≤ 65535 }
-    requires bodies { vec_len bodies.old + body_count item.now < 2 ^ 32 }
-    requires names { length (names_of items.now) < 2 ^ 32 }
-    requires small { item_is_small item.now }
-    ensures nodes { OnOk result (nodes.new.items ≡ nodes.old.items
-        ++ item_nodes globals.now (names_of items.now) (vec_len bodies.old) (vec_len nodes.old + 1) item.now) }
-    ensures bodies { OnOk result (bodies.new.items ≡ bodies.old.items ++ item_bodies (vec_len nodes.old + 1) item.now) }
-    ensures len { OnOk result (vec_len nodes.new ≡ vec_len nodes.old + count_item item.now) }
-    ensures count { OnOk result (vec_len bodies.new ≡ vec_len bodies.old + body_count item.now) }
+fn put_item(alloc: Global, bodies: &mut Vec<Body>, at: u32, item: &Item) -> Result<(), NoRoom>
+    requires { at + count_item item.now ≤ 65536 }
+    ensures { OnOk result (bodies.new.items ≡ bodies.old.items ++ item_tables at item.now) }
 {
     match &item.node {
-        ItemNode::Procedure(definition) => {
-            put_procedure(alloc, nodes, bodies, globals, items, definition)
-        }
+        ItemNode::Procedure(definition) => put_procedure(alloc, bodies, at, definition),
         ItemNode::Global(_) => Ok(()),
+        ItemNode::Lock(_) => Ok(()),
+        ItemNode::Prototype(_) => Ok(()),
     }
 }
 
-#[tactic(auto, using(crate::proofs::Blocks::blocks))]
 fn put_procedure(
     alloc: Global,
-    nodes: &mut Vec<Node>,
     bodies: &mut Vec<Body>,
-    globals: &[Var],
-    items: &[Item],
+    at: u32,
     definition: &Proc,
-) -> Result<(), AllocError>
-    requires room { vec_len nodes.old + count_item (procedure definition.now) ≤ 65535 }
-    requires bodies { vec_len bodies.old + 1 < 2 ^ 32 }
-    requires names { length (names_of items.now) < 2 ^ 32 }
-    requires small { item_is_small (procedure definition.now) }
-    ensures nodes { OnOk result (nodes.new.items ≡ nodes.old.items
-        ++ procedure_nodes globals.now (names_of items.now) (vec_len bodies.old) (vec_len nodes.old + 1) definition.now) }
-    ensures bodies { OnOk result (bodies.new.items ≡ bodies.old.items ++ procedure_body (vec_len nodes.old + 1) definition.now ∷ []) }
-    ensures len { OnOk result (vec_len nodes.new ≡ vec_len nodes.old + count_item (procedure definition.now)) }
-    ensures count { OnOk result (vec_len bodies.new ≡ vec_len bodies.old + 1) }
+) -> Result<(), NoRoom>
+    requires { at + count_item (tree.procedure definition.now) ≤ 65536 }
+    ensures { OnOk result (bodies.new.items ≡ bodies.old.items ++ item_tables at (tree.procedure definition.now)) }
 {
-    let place = bodies.len() as u32;
-    let entry = nodes.len() as u32 + 1;
-    let body = body_of(alloc, entry, definition)?;
-    let parameters = definition.parameters.len();
-    let names = Names::new(body.vars.as_slice(), globals, items);
-    put_block(alloc, nodes, place, &names, parameters, &definition.body)?;
-    put_leaving(nodes, place, Action::Close)?;
-    bodies.push(body)?;
-    Ok(())
+    put_own(alloc, bodies, at, definition)?;
+    let body = &definition.body;
+    put_inlets(alloc, bodies, at, &body.locals)
+}
+
+/// The tables of the bodies of a program.
+pub(crate) fn bodies_of(alloc: Global, items: &[Item]) -> Result<Vec<Body>, NoRoom>
+    requires { count_items items.now ≤ 65535 }
+    ensures { IfOk result (λ bodies. bodies.items ≡ items_tables 1 items.now) }
+{
+    let mut bodies = Vec::new(alloc);
+    let mut at = 1;
+    for item in items {
+        put_item(alloc, &mut bodies, at, item)?;
+        at += actions_of_item(item);
+    }
+    Ok(bodies)
 }
 
 /// The place of the first body to start with.
-pub(crate) fn place_of_main(bodies: &[Body]) -> u32
-    requires there { IsSome (position starts_here bodies.now) }
-    requires small { length bodies.now < 2 ^ 32 }
-    ensures { position starts_here bodies.now ≡ Some result }
-{
-    start_of(bodies).unwrap() as u32
-}
-
-fn start_of(bodies: &[Body]) -> Option<usize>
+pub(crate) fn place_of_main(bodies: &[Body]) -> Option<usize>
     ensures value { result ≡ position starts_here bodies.now }
-    ensures bound { IfSome result (λ place. place < length bodies.now) }
 {
     bodies.iter().position(|body| starts_here(body))
 }
 
-// Whether it is the body of a `main` without parameters.
+// Whether it is the body of a procedure `main`.
 fn starts_here(body: &Body) -> bool
     ensures { result ≡ starts_here body.now }
 {
-    body.name.as_str() == "main" && body.params == 0
+    match body.owner {
+        Owner::Procedure(_) => body.name.as_str() == "main",
+        Owner::Function(_) => false,
+        Owner::Inlet => false,
+    }
 }

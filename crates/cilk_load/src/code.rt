@@ -1,22 +1,28 @@
 //! Expressions over slots.
 
-ghost use Rattle.std.specs.Prelude.{◌≡◌, IfOk, map};
-ghost use Rattle.cilk_load.specs.Names.{code_in};
+ghost use Rattle.std.specs.Prelude.{◌≡◌, IfOk, option_map};
+ghost use Rattle.cilk_load.specs.Acts.{code_in, codes_in};
 
-use crate::codes::Codes;
 use crate::names::Names;
-use cilk_core::{Expr, ExprNode};
+use crate::room::NoRoom;
 use cilk_eval::{Code, CodeNode};
-use std::alloc::{AllocError, Global};
+use cilk_nodes::Codes;
+use cilk_syntax::{Expr, ExprNode};
+use std::alloc::Global;
 
 /// An expression over the slots of these names.
 #[cycle(code_in)]
-pub(crate) fn code_in(alloc: Global, names: &Names, expr: &Expr) -> Result<Code, AllocError>
+pub(crate) fn code_in(alloc: Global, names: &Names, expr: &Expr) -> Result<Code, NoRoom>
     ensures { IfOk result (λ code. code ≡ code_in names.now expr.now) }
 {
     let node = match &expr.node {
         ExprNode::Number(number) => CodeNode::Number(*number),
-        ExprNode::Name(name) => CodeNode::Variable(names.slot_of(name.as_str())),
+        ExprNode::Name(name) => CodeNode::Variable(names.known(name.as_str()).slot),
+        ExprNode::Element(name, index) => CodeNode::Element(
+            names.known(name.as_str()).slot,
+            boxed_code_in(alloc, names, index)?,
+        ),
+        ExprNode::Synched(_) => CodeNode::Synched,
         ExprNode::Binary(op, left, right) => CodeNode::Binary(
             *op,
             boxed_code_in(alloc, names, left)?,
@@ -35,7 +41,7 @@ pub(crate) fn code_in(alloc: Global, names: &Names, expr: &Expr) -> Result<Code,
 }
 
 #[cycle(code_in)]
-fn boxed_code_in(alloc: Global, names: &Names, expr: &Expr) -> Result<Box<Code>, AllocError>
+fn boxed_code_in(alloc: Global, names: &Names, expr: &Expr) -> Result<Box<Code>, NoRoom>
     ensures { IfOk result (λ code. code.value ≡ code_in names.now expr.now) }
 {
     let code = code_in(alloc, names, expr)?;
@@ -43,12 +49,26 @@ fn boxed_code_in(alloc: Global, names: &Names, expr: &Expr) -> Result<Box<Code>,
 }
 
 /// Each of these expressions, in their order.
-pub(crate) fn codes_in(alloc: Global, names: &Names, exprs: &[Expr]) -> Result<Codes, AllocError>
-    ensures { IfOk result (λ codes. codes ≡ map (code_in names.now) exprs.now) }
+pub(crate) fn codes_in(alloc: Global, names: &Names, exprs: &[Expr]) -> Result<Codes, NoRoom>
+    ensures { IfOk result (λ codes. codes ≡ codes_in names.now exprs.now) }
 {
     let mut codes = Vec::new(alloc);
     for expr in exprs {
         codes.push(code_in(alloc, names, expr)?)?;
     }
     Ok(Codes::new(codes))
+}
+
+/// The expression, if there is one.
+pub(crate) fn option_code_in(
+    alloc: Global,
+    names: &Names,
+    expr: &Option<Expr>,
+) -> Result<Option<Code>, NoRoom>
+    ensures { IfOk result (λ code. code ≡ option_map (code_in names.now) expr.now) }
+{
+    match expr {
+        None => Ok(None),
+        Some(expr) => Ok(Some(code_in(alloc, names, expr)?)),
+    }
 }

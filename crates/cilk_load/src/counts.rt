@@ -1,16 +1,17 @@
 //! How many actions a program has, as far as the limit asks.
 
 ghost use Rattle.std.specs.Prelude.{◌≡◌, ◌+◌, ◌≤◌, min};
-ghost use Rattle.cilk_core.specs.Stmts.{stmts_of};
-ghost use Rattle.cilk_model.specs.Count.{count_option, count_decls, count_stmt, count_stmts, count_block, count_item, count_items};
+ghost use Rattle.cilk_syntax.specs.Tree.{stmts_of, locals_of};
+ghost use Rattle.cilk_syntax.specs.MoveView.{shape_of};
+ghost use Rattle.cilk_labelled.specs.Count.{count_option, count_shape, count_stmt};
+ghost use Rattle.cilk_labelled.specs.Count.{count_stmts, count_local, count_locals, count_block, count_item, count_items};
 
-use cilk_core::{Block, Decl, Expr, Item, ItemNode, Stmt, StmtNode};
+use cilk_syntax::{Block, Expr, Item, ItemNode, Local, LocalNode, Move, Shape, Stmt, StmtNode};
 
 /// The actions that a program may have.
 pub(crate) const MAX_ACTIONS: u32 = 65_535;
 
-/// How many actions these definitions have; one more than a program may have stands for any
-/// greater number.
+/// How many actions these items have; one more than a program may have stands for any greater number.
 pub(crate) fn count_items(items: &[Item]) -> u32
     ensures { result ≡ min (count_items items.now) 65536 }
 {
@@ -26,24 +27,46 @@ fn count_item(item: &Item) -> u32
 {
     match &item.node {
         ItemNode::Procedure(definition) => plus(count_block(&definition.body), 1),
-        ItemNode::Global(_) => 0,
+        ItemNode::Global(_) | ItemNode::Lock(_) | ItemNode::Prototype(_) => 0,
     }
 }
 
+#[cycle(count)]
 fn count_block(block: &Block) -> u32
     ensures { result ≡ min (count_block block.now) 65536 }
 {
-    plus(count_decls(&block.decls), count_stmts(&block.stmts))
+    plus(count_locals(&block.locals), count_stmts(&block.stmts))
 }
 
-fn count_decls(decls: &[Decl]) -> u32
-    ensures { result ≡ min (count_decls decls.now) 65536 }
+#[cycle(count)]
+fn count_locals(locals: &[Local]) -> u32
+    ensures { result ≡ min (count_locals (locals_of locals.now)) 65536 }
 {
     let mut count = 0;
-    for decl in decls {
-        count = plus(count, count_value(&decl.value));
+    for local in locals {
+        count = plus(count, count_local(local));
     }
     count
+}
+
+#[cycle(count)]
+pub(crate) fn count_local(local: &Local) -> u32
+    ensures { result ≡ min (count_local local.now) 65536 }
+{
+    match &local.node {
+        LocalNode::Decl(decl) => count_shape(&decl.shape),
+        LocalNode::Inlet(inlet) => plus(count_block(&inlet.body), 1),
+    }
+}
+
+/// 1 of an initialiser that is there.
+pub(crate) fn count_shape(shape: &Shape) -> u32
+    ensures { result ≡ count_shape (shape_of shape.now) }
+{
+    match shape {
+        Shape::Variable(value) => count_value(value),
+        Shape::Array(_) => 0,
+    }
 }
 
 fn count_value(value: &Option<Expr>) -> u32
@@ -55,6 +78,17 @@ fn count_value(value: &Option<Expr>) -> u32
     }
 }
 
+/// 1 of a part that is there.
+pub(crate) fn count_part(part: &Option<Move>) -> u32
+    ensures { result ≡ count_option part.now }
+{
+    match part {
+        None => 0,
+        Some(_) => 1,
+    }
+}
+
+#[cycle(count)]
 fn count_stmts(stmts: &[Stmt]) -> u32
     ensures { result ≡ min (count_stmts (stmts_of stmts.now)) 65536 }
 {
@@ -65,17 +99,23 @@ fn count_stmts(stmts: &[Stmt]) -> u32
     count
 }
 
+#[cycle(count)]
 fn count_stmt(stmt: &Stmt) -> u32
-    ensures { result ≡ count_stmt stmt.now }
+    ensures { result ≡ min (count_stmt stmt.now) 65536 }
 {
     match &stmt.node {
-        StmtNode::Assign(_, _)
-        | StmtNode::Return(_, _)
-        | StmtNode::Null
-        | StmtNode::Update(_, _, _)
-        | StmtNode::Adjust(_, _)
-        | StmtNode::Spawn(_, _, _, _)
-        | StmtNode::Sync(_) => 1,
+        StmtNode::If(_, body, None) | StmtNode::While(_, body) | StmtNode::Do(body, _) => {
+            plus(count_block(body), 1)
+        }
+        StmtNode::If(_, body, Some(other)) => {
+            plus(plus(count_block(body), count_block(other)), 1)
+        }
+        StmtNode::For(first, _, advance, body) => plus(
+            count_block(body),
+            count_part(first) + 1 + count_part(advance),
+        ),
+        StmtNode::Nested(inside) => count_block(inside),
+        _ => 1,
     }
 }
 
@@ -85,4 +125,40 @@ fn plus(count: u32, more: u32) -> u32
     ensures { result ≡ min (count + more) 65536 }
 {
     (count + more).min(MAX_ACTIONS + 1)
+}
+
+pub(crate) fn actions_of_item(item: &Item) -> u32
+    requires { count_item item.now ≤ 65535 }
+    ensures { result ≡ count_item item.now }
+{
+    count_item(item)
+}
+
+/// How many actions there are, of which a program may have so many.
+pub(crate) fn actions_in(block: &Block) -> u32
+    requires { count_block block.now ≤ 65535 }
+    ensures { result ≡ count_block block.now }
+{
+    count_block(block)
+}
+
+pub(crate) fn actions_of_locals(locals: &[Local]) -> u32
+    requires { count_locals (locals_of locals.now) ≤ 65535 }
+    ensures { result ≡ count_locals (locals_of locals.now) }
+{
+    count_locals(locals)
+}
+
+pub(crate) fn actions_of_stmts(stmts: &[Stmt]) -> u32
+    requires { count_stmts (stmts_of stmts.now) ≤ 65535 }
+    ensures { result ≡ count_stmts (stmts_of stmts.now) }
+{
+    count_stmts(stmts)
+}
+
+pub(crate) fn actions(stmt: &Stmt) -> u32
+    requires { count_stmt stmt.now ≤ 65535 }
+    ensures { result ≡ count_stmt stmt.now }
+{
+    count_stmt(stmt)
 }

@@ -1,18 +1,17 @@
 ghost use Rattle.std.specs.Prelude.{◌≡◌, ◌≤◌, ◌↔◌, IsSome, IfOk, Some, option_copied, string_bytes};
 ghost use Rattle.std.specs.Arc.{arc_value};
-ghost use Rattle.cilk_core.specs.ProgramText.{program_text};
-ghost use Rattle.cilk_core_check.specs.Fault.{WellFormed};
-ghost use Rattle.cilk_model.specs.Label.{label};
-ghost use Rattle.cilk_model.specs.Count.{count_program};
-ghost use Rattle.cilk_model.specs.End as model;
-ghost use Rattle.cilk_load.specs.Table.{node_of};
-ghost use Rattle.cilk_load.specs.Bodies.{body_of, globals_of, locks_of};
+ghost use Rattle.cilk_canonical.specs.ProgramText.{program_text};
+ghost use Rattle.cilk_check.specs.Fault.{WellFormed};
+ghost use Rattle.cilk_labelled.specs.Bodies.{label};
+ghost use Rattle.cilk_labelled.specs.Count.{count_program};
+ghost use Rattle.cilk_model.specs.End as runs;
+ghost use Rattle.cilk_nodes.specs.Table.{node_of};
+ghost use Rattle.cilk_nodes.specs.Bodies.{body_of, globals_of, locks_of};
 
-use crate::body::Body;
-use crate::node::Node;
 use crate::tables::Tables;
-use crate::var::Var;
-use cilk_core::{Memory, Program, canonical};
+use cilk_canonical::canonical;
+use cilk_nodes::{Body, Node, Var};
+use cilk_syntax::{Memory, Program};
 use std::marker::Model;
 use std::sync::Arc;
 
@@ -24,8 +23,8 @@ pub struct Loaded {
 }
 
 impl Model for Loaded {
-    ghost use Rattle.cilk_core.specs.Tree as tree;
-    ghost use Rattle.cilk_core.specs.ProgramCoding.{coded_Program};
+    ghost use Rattle.cilk_syntax.specs.Tree as tree;
+    ghost use Rattle.cilk_syntax.specs.ProgramCoding.{coded_Program};
     ghost use Rattle.std.specs.Arc.{arc_value};
 
     ghost Value = { tree.Program };
@@ -63,7 +62,7 @@ impl Loaded {
     /// The line of the canonical text on which action n stands, both counted from 1.
     pub fn line_of(&self, n: u32) -> Option<u32>
         ensures some { IsSome result ↔ ((1 ≤ n) × (n ≤ count_program self.now)) }
-        ensures value { result ≡ model.line_of (label self.now) n }
+        ensures value { result ≡ runs.line_of (label self.now) n }
     {
         let tables: &Tables = &self.tables;
         let index = n.checked_sub(1)?;
@@ -76,8 +75,9 @@ impl Loaded {
         ensures value { option_copied result ≡ node_of self.now n }
     {
         let tables: &Tables = &self.tables;
+        let nodes = tables.nodes.as_slice();
         let index = n.checked_sub(1)?;
-        tables.nodes.get(index as usize)
+        nodes.get(index as usize)
     }
 
     /// The number of the body of `main`.

@@ -1,16 +1,22 @@
-ghost use Rattle.std.specs.Prelude.{◌≡◌, ◌<◌, ◌≤◌, ◌↔◌, true, IfOk};
-ghost use Rattle.cilk_model.specs.Count.{count_program};
+ghost use Rattle.std.specs.Prelude.{◌≡◌, ◌<◌, ◌≤◌, ◌↔◌, true, IfOk, length, vec_len};
+ghost use Rattle.cilk_labelled.specs.Count.{count_program};
+ghost use Rattle.cilk_nodes.specs.Plain.{PlainItems};
+ghost use Rattle.cilk_load.specs.Outer.{globals_count, locks_count, bodies_count, items_nodes, file_scope};
 
-use crate::building::{place_of_main, put_items};
+use crate::building::{bodies_of, place_of_main};
 use crate::counts::{MAX_ACTIONS, count_items};
 use crate::fault::LoadFault;
-use crate::globals::globals_of;
+use crate::file::{declare_file, globals_of, locks_of};
 use crate::lines::action_lines;
 use crate::loaded::Loaded;
+use crate::names::Names;
+use crate::outer::put_items;
+use crate::room::NoRoom;
 use crate::tables::Tables;
-use cilk_core::Program;
-use cilk_core_check::Checked;
-use std::alloc::{AllocError, Global};
+use cilk_check::Checked;
+use cilk_nodes::{Body, Node, Var};
+use cilk_syntax::Program;
+use std::alloc::Global;
 use std::sync::Arc;
 
 /// Whether a program has more actions than it may have.
@@ -31,7 +37,7 @@ pub fn load(alloc: Global, checked: Checked) -> Result<Loaded, LoadFault>
     loaded(alloc, checked).map_err(|_| LoadFault::Memory)
 }
 
-fn loaded(alloc: Global, checked: Checked) -> Result<Loaded, AllocError>
+fn loaded(alloc: Global, checked: Checked) -> Result<Loaded, NoRoom>
     requires { count_program checked ≤ 65535 }
     ensures { IfOk result (λ loaded. loaded ≡ checked) }
 {
@@ -39,23 +45,18 @@ fn loaded(alloc: Global, checked: Checked) -> Result<Loaded, AllocError>
     Ok(Loaded::new(Arc::new(alloc, tables)?))
 }
 
-fn tables_of(alloc: Global, checked: Checked) -> Result<Tables, AllocError>
+fn tables_of(alloc: Global, checked: Checked) -> Result<Tables, NoRoom>
     requires { count_program checked ≤ 65535 }
     ensures { IfOk result (λ tables. tables ≡ checked) }
 {
-    let mut nodes = Vec::new(alloc);
-    let mut bodies = Vec::new(alloc);
     let program = checked.program();
     let globals = globals_of(alloc, &program.items)?;
-    put_items(
-        alloc,
-        &mut nodes,
-        &mut bodies,
-        globals.as_slice(),
-        &program.items,
-    )?;
-    let lines = action_lines(alloc, &program.items)?;
-    let main = place_of_main(&bodies);
+    let locks = locks_of(alloc, &program.items)?;
+    let bodies = bodies_of(alloc, &program.items)?;
+    let nodes = nodes_of(alloc, &globals, &locks, &bodies, program)?;
+    let lines = action_lines(alloc, program)?;
+    let main = place_of_main(&bodies).ok_or(NoRoom::TooLarge)?;
+    let main = u32::try_from(main).map_err(|_| NoRoom::TooLarge)?;
     Ok(Tables {
         program: checked,
         nodes,
@@ -63,6 +64,28 @@ fn tables_of(alloc: Global, checked: Checked) -> Result<Tables, AllocError>
         bodies,
         main,
         globals,
-        locks: Vec::new(alloc),
+        locks,
     })
+}
+
+fn nodes_of(
+    alloc: Global,
+    globals: &[Var],
+    locks: &[Var],
+    bodies: &[Body],
+    program: &Program,
+) -> Result<Vec<Node>, NoRoom>
+    requires globals { length globals.now ≡ globals_count program.now.items }
+    requires locks { length locks.now ≡ locks_count program.now.items }
+    requires bodies { length bodies.now ≡ bodies_count program.now.items }
+    requires few { count_program program.now ≤ 65535 }
+    requires plain { PlainItems program.now.items }
+    ensures nodes { IfOk result (λ nodes. nodes.items ≡ items_nodes bodies.now 0 (file_scope globals.now program.now.items) 1 program.now.items) }
+    ensures len { IfOk result (λ nodes. vec_len nodes ≡ count_program program.now) }
+{
+    let mut nodes = Vec::new(alloc);
+    let mut names = Names::new(alloc);
+    declare_file(&mut names, globals, locks, bodies, &program.items)?;
+    put_items(alloc, &mut nodes, &mut names, bodies, &program.items)?;
+    Ok(nodes)
 }

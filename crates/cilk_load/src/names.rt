@@ -1,117 +1,194 @@
-ghost use Rattle.std.specs.Prelude.{◌≡◌, ◌<◌, ◌≤◌, ◌^◌, length};
-ghost use Rattle.cilk_model.specs.Scope.{place_among};
-ghost use Rattle.cilk_model.specs.Label.{names_of};
-ghost use Rattle.cilk_load.specs.Names.{up_to, first_slot, last_slot, slot_in};
+//! What names stand for, with the nearest declaration of each name at hand.
 
-use crate::var::Var;
-use cilk_core::{Item, ItemNode};
+ghost use Rattle.std.specs.Prelude.{◌≡◌, ◌≤◌, ◌<◌, drop, length, [], ◌∷◌, OnOk};
+ghost use Rattle.cilk_nodes.specs.Slots.{nowhere};
+ghost use Rattle.cilk_load.specs.Scope.{found, visible, outward_area, outward, entered, declared, left_of, unknown_name};
+ghost use Rattle.cilk_load.specs.Shown.{told};
+
+use crate::entry::Entry;
+use crate::known::Known;
+use crate::nearest::Nearest;
+use crate::room::NoRoom;
 use cilk_eval::{Area, Slot};
+use cilk_syntax::Word;
+use std::alloc::Global;
+use std::collections::BTreeMap;
 use std::marker::Model;
 
-/// What names stand for at a place of the text: the variables of the body, those of the top level,
-/// and the definitions of the program.
+/// The declarations that are visible. Those of the innermost body come last.
 #[derive(Drop)]
 pub(crate) struct Names<'a> {
-    vars: &'a [Var],
-    globals: &'a [Var],
-    items: &'a [Item],
+    nearest: BTreeMap<&'a str, Nearest>,
+    entries: Vec<Entry<'a>>,
+    /// The entries from this place on are those of the innermost body.
+    innermost: usize,
 }
 
 impl<'a> Model for Names<'a> {
-    ghost use Rattle.std.specs.Prelude.{◌<◌, ◌^◌, length};
-    ghost use Rattle.cilk_model.specs.Label.{names_of};
-    ghost use Rattle.cilk_load.specs.Names as names;
+    ghost use Rattle.cilk_load.specs.Scope.{Scope};
+    ghost use Rattle.cilk_load.specs.Shown.{scope_of, IsTable};
 
-    ghost Value = { names.Names };
+    ghost Value = { Scope };
 
-    ghost view = { λ n. record { vars = n.vars.now; globals = n.globals.now; bodies = names_of n.items.now } };
+    ghost view = { λ n. scope_of n.innermost n.entries.items };
 
-    ghost invariant = { λ n. length (names_of n.items.now) < 2 ^ 32 };
+    ghost invariant = { λ n. IsTable n.nearest n.entries.items n.innermost };
 }
 
 impl<'a> Names<'a> {
-    ghost use Rattle.cilk_model.specs.Label.{names_of};
-
-    pub(crate) fn new(vars: &'a [Var], globals: &'a [Var], items: &'a [Item]) -> Names<'a>
-        requires { length (names_of items.now) < 2 ^ 32 }
-        ensures { result ≡ record { vars = vars.now; globals = globals.now; bodies = names_of items.now } }
+    /// Nothing is visible.
+    pub(crate) fn new(alloc: Global) -> Names<'a>
+        ensures { result ≡ record { innermost = []; outer = [] } }
     {
         Names {
-            vars,
-            globals,
-            items,
+            nearest: BTreeMap::new(alloc),
+            entries: Vec::new(alloc),
+            innermost: 0,
         }
     }
 
-    /// The same, with only the first so many variables of the body.
-    pub(crate) fn up_to(&self, count: usize) -> Names<'a>
-        requires { count ≤ length self.now.vars }
-        ensures { result ≡ up_to count self.now }
+    /// What a name stands for. In a program that passed the check no other name is used.
+    pub(crate) fn known(&self, name: &str) -> Known
+        ensures { result ≡ found (visible self.now) name.now }
     {
-        Names {
-            vars: &self.vars[..count],
-            globals: self.globals,
-            items: self.items,
+        match self.nearest.get(name) {
+            Some(nearest) => told(self.innermost, *nearest),
+            None => unknown_name(),
         }
     }
 
-    /// The slot of a variable. A program that passed the check uses no other name.
-    pub(crate) fn slot_of(&self, name: &str) -> Slot
-        ensures { result ≡ slot_in self.now name.now }
+    /// One more declaration in the innermost body.
+    pub(crate) fn declare(&mut self, name: &'a Word, known: Known) -> Result<(), NoRoom>
+        ensures { OnOk result (self.new ≡ declared self.old (record { name = name.now.text; known = known })) }
     {
-        last_slot(first_slot(self.globals, name), self.vars, name)
+        let at = self.entries.len();
+        let hidden = self.nearest.get(name.as_str()).copied();
+        self.entries.push(Entry {
+            name,
+            known,
+            hidden,
+        })?;
+        match self.nearest.insert(name.as_str(), Nearest { known, at }) {
+            Ok(_) => Ok(()),
+            Err(failed) => {
+                self.entries.pop();
+                Err(NoRoom::from(failed))
+            }
+        }
     }
 
-    /// The number of a body. A program that passed the check spawns no other name.
-    pub(crate) fn callee_of(&self, name: &str) -> u32
-        ensures { result ≡ place_among self.now.bodies name.now }
+    /// Opens a body. The answer is what `leave` has to be given.
+    pub(crate) fn enter(&mut self) -> usize
+        ensures outer { result ≡ length self.old.outer }
+        ensures entered { self.new ≡ entered self.old }
     {
-        place_of_body(self.items, name)
+        let outer = self.innermost;
+        self.innermost = self.entries.len();
+        outer
+    }
+
+    // The newest declaration of the innermost body is no longer visible.
+    fn forget_one(&mut self) -> Result<(), NoRoom>
+        requires { 0 < length self.now.innermost }
+        ensures { OnOk result (self.new ≡ record { innermost = drop 1 self.old.innermost; outer = self.old.outer }) }
+    {
+        if let Some(entry) = self.entries.pop() {
+            let text = entry.name.as_str();
+            match entry.hidden {
+                None => {
+                    self.nearest.remove(text);
+                }
+                Some(hidden) => {
+                    self.nearest.insert(text, hidden)?;
+                }
+            }
+        }
+        Ok(())
+    }
+
+    /// So many of the newest declarations of the innermost body are no longer visible.
+    pub(crate) fn forget(&mut self, count: usize) -> Result<(), NoRoom>
+        requires { count ≤ length self.now.innermost }
+        ensures { OnOk result (self.new ≡ record { innermost = drop count self.old.innermost; outer = self.old.outer }) }
+    {
+        for _ in 0..count {
+            self.forget_one()?;
+        }
+        Ok(())
+    }
+
+    /// Closes the innermost body, where `outer` is what `enter` answered.
+    pub(crate) fn leave(&mut self, outer: usize) -> Result<(), NoRoom>
+        requires { outer ≤ length self.now.outer }
+        ensures { OnOk result (self.new ≡ left_of outer self.old.outer) }
+    {
+        self.forget_all()?;
+        self.innermost = outer;
+        Ok(())
+    }
+
+    // No declaration of the innermost body is visible any more.
+    fn forget_all(&mut self) -> Result<(), NoRoom>
+        ensures { OnOk result (self.new ≡ record { innermost = []; outer = self.old.outer }) }
+    {
+        for _ in self.innermost..self.entries.len() {
+            self.forget_one()?;
+        }
+        Ok(())
     }
 }
 
-fn first_slot(vars: &[Var], name: &str) -> Slot
-    ensures { result ≡ first_slot vars.now name.now }
+// What a declaration stands for in the innermost body, which begins at a place.
+fn told(innermost: usize, nearest: Nearest) -> Known
+    ensures { result ≡ told innermost nearest }
 {
-    for var in vars {
-        if var.name.as_str() == name {
-            return var.slot;
-        }
+    if nearest.at < innermost {
+        outward(nearest.known)
+    } else {
+        nearest.known
     }
+}
+
+fn outward(known: Known) -> Known
+    ensures { result ≡ outward known }
+{
+    let slot = Slot {
+        area: outward_area(known.slot.area),
+        offset: known.slot.offset,
+        length: known.slot.length,
+    };
+    Known {
+        slot,
+        number: known.number,
+    }
+}
+
+fn outward_area(area: Area) -> Area
+    ensures { result ≡ outward_area area }
+{
+    match area {
+        Area::Own => Area::Outer,
+        Area::Outer => Area::Outer,
+        Area::Global => Area::Global,
+    }
+}
+
+/// What stands for no variable.
+pub(crate) fn nowhere() -> Slot
+    ensures { result ≡ nowhere }
+{
     Slot {
-        area: Area::Own,
+        area: Area::Global,
         offset: 0,
         length: 0,
     }
 }
 
-// The slot of the last of these variables that has the name, or else the one that was found
-// before.
-fn last_slot(found: Slot, vars: &[Var], name: &str) -> Slot
-    ensures { result ≡ last_slot found vars.now name.now }
+fn unknown_name() -> Known
+    ensures { result ≡ unknown_name }
 {
-    let mut slot = found;
-    for var in vars {
-        if var.name.as_str() == name {
-            slot = var.slot;
-        }
+    Known {
+        slot: nowhere(),
+        number: 0,
     }
-    slot
-}
-
-// How many bodies stand before the first of this name.
-fn place_of_body(items: &[Item], name: &str) -> u32
-    requires { length (names_of items.now) < 2 ^ 32 }
-    ensures { result ≡ place_among (names_of items.now) name.now }
-{
-    let mut place = 0;
-    for item in items {
-        if let ItemNode::Procedure(definition) = &item.node {
-            if definition.name.as_str() == name {
-                return place;
-            }
-            place += 1;
-        }
-    }
-    place
 }

@@ -1,7 +1,5 @@
-use crate::body::Body;
-use crate::node::Node;
-use crate::var::Var;
-use cilk_core_check::Checked;
+use cilk_check::Checked;
+use cilk_nodes::{Body, Node, Var};
 use std::marker::Model;
 
 /// A program and its tables, seen as the program.
@@ -17,8 +15,8 @@ pub struct Tables {
 }
 
 impl Model for Tables {
-    ghost use Rattle.cilk_core.specs.Tree as tree;
-    ghost use Rattle.cilk_core.specs.ProgramCoding.{coded_Program};
+    ghost use Rattle.cilk_syntax.specs.Tree as tree;
+    ghost use Rattle.cilk_syntax.specs.ProgramCoding.{coded_Program};
 
     ghost Value = { tree.Program };
 

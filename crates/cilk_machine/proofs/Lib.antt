@@ -1,13 +1,11 @@
-pub mod Newlines
-pub mod Undone
-pub mod Sent
-pub mod Carries
+pub mod Initial
+pub mod Cells
 pub mod Refusals
+pub mod Told
 pub mod Leading
 pub mod Free
 pub mod Steps
+pub mod Anyone
 pub mod Stuckness
-pub mod Initial
 pub mod Idle
 pub mod Openings
-pub mod Cells

@@ -1,79 +1,245 @@
--- A step of the instance in a worker's hand, from the machine's parts.
-use Rattle.std.proofs.Common.{◌≡◌, ℕ, ℤ, List, Option, Some, None, sym, ap, ◌∙◌, subst}
-use Rattle.cilk_core.specs.Tree as tree
+-- The step of the instance in a worker's hand, carried out.
+use Rattle.std.proofs.Common.{◌≡◌, ℕ, Option, Some, None, refl, sym, ap, ◌∙◌, subst, arith}
+use Rattle.std.specs.Prelude.{List, option_map}
+use Rattle.cilk_syntax.specs.Tree.{Program}
+use Rattle.cilk_check.specs.Fault.{WellFormed}
+use Rattle.cilk_labelled.specs.Bodies.{label}
 use Rattle.cilk_model.specs.Choice as model
-use Rattle.cilk_model.specs.Instance.{Instance}
-use Rattle.cilk_model.specs.State.{State}
+use Rattle.cilk_model.specs.Event.{Event}
+use Rattle.cilk_model.specs.Path.{Path}
+use Rattle.cilk_model.specs.State as state
+use Rattle.cilk_model.specs.Run.{Standing, next_by_hand, event_by_hand, step_refusal}
+use Rattle.cilk_model.specs.Places.{IsWorker, hand_of}
+use Rattle.cilk_nodes.specs.declared.body.Body.{Body}
+use Rattle.cilk_sound.proofs.Room.{variables, globals}
 use Rattle.cilk_frame.specs.Frames.{Frame}
-use Rattle.cilk_spawn.specs.Nodes.{Node}
-use Rattle.cilk_sched.specs.Places.{Place, IsWorker, hand_of, with_hand}
-use Rattle.cilk_sched.proofs.Seats.{deque-kept}
-use Rattle.cilk_agree.specs.Ready.{Ready, CanStep}
-use Rattle.cilk_agree.proofs.Frames.{given-back, hand-twice}
-use Rattle.cilk_step.specs.declared.plan.Plan.{Plan}
-use Rattle.cilk_step.specs.Plans.{IsPlan}
-use Rattle.cilk_machine.specs.declared.act.Act.TheVariants.{Step}
-use Rattle.cilk_machine.specs.declared.event.Event.{Event}
-use Rattle.cilk_machine.specs.declared.outcome.Outcome.{Outcome}
-use Rattle.cilk_machine.specs.Words.{event_of}
-use Rattle.cilk_machine.specs.Situation.{Situation}
-use Rattle.cilk_machine.specs.Stands.{IsSound}
-use Rattle.cilk_machine.specs.Refused.{refused_by}
-use Rattle.cilk_machine.specs.Made.{Makes}
-use Rattle.cilk_machine.specs.Carried.{CanCarry, Carries}
-use Rattle.cilk_machine.proofs.Leading.{moved_to, can-step, can-carry, makes-step}
-use Rattle.cilk_machine.proofs.Free.{frees}
+use Rattle.cilk_spawn.specs.Nodes.{Node, path_at}
+use Rattle.cilk_agree.specs.Outside as outside
+use Rattle.cilk_agree.specs.Agrees.{Agrees, name_in}
+use Rattle.cilk_agree.specs.Laws.{Turn}
+use Rattle.cilk_plans.specs.declared.plan.Plan.{Plan}
+use Rattle.cilk_plans.specs.declared.plan.Plan.TheVariants as plan
+use Rattle.cilk_plans.specs.Made.{planned}
+use Rattle.cilk_plans.specs.Plans.{step_in, IsPlan}
+use Rattle.cilk_plans.specs.Sights.{Sight}
+use Rattle.cilk_carries.specs.declared.did.Did.{Did}
+use Rattle.cilk_carries.specs.declared.did.Done.{Done}
+use Rattle.cilk_carries.specs.declared.parts.Parts.{Parts}
+use Rattle.cilk_carries.specs.Words as carries
+use Rattle.cilk_carries.specs.Words.{machine_of, event_by}
+use Rattle.cilk_carries.specs.Carries.{CellsAreFew, Starts, Planned, CanCarry, Carries}
+use Rattle.cilk_step.specs.Scenes.{HeadFits}
+use Rattle.cilk_step.proofs.Fits.{head-fits}
+use Rattle.cilk_choices.specs.declared.act.Act.TheVariants.{Step}
+use Rattle.cilk_choices.specs.declared.outcome.Outcome.{Outcome}
+use Rattle.cilk_choices.specs.Words.{outcome_of}
+use Rattle.cilk_machine.specs.Situation.{Situation, sight_at, outcome_at}
+use Rattle.cilk_machine.specs.Stands.{Led, IsSound}
+use Rattle.cilk_machine.specs.Refused.{planned_by, planned_in, refused_by}
+use Rattle.cilk_machine.specs.Made.{Makes, Does}
+use Rattle.cilk_machine.specs.Told.{event_in, HasPaths, started_number, body_numbered, body_started, trapped_path, outcome_with, trapper_of, IsTrapPath}
+use Rattle.cilk_machine.proofs.Refusals.{turn-of, plan-in, hand-is}
+use Rattle.cilk_machine.proofs.Told.{event-told, paths-there, trapped-there, outcome-told, outcome-at}
+use Rattle.cilk_machine.proofs.Leading.{moved_to, Next, makes, told-as, free-is}
+use Rattle.cilk_machine.proofs.Free.{Frees, frees, Steps, step-free, of-old, free-old}
 
--- the plan is true wherever the frame's instance may be stepped
-abbrev pub IsTrue : tree.Program → List ℤ → List Node → Frame → Plan → Type 0
-IsTrue p globals ns f plan = (s : State) (i : Instance) → Ready p globals ns f s i → IsPlan p ns f s i plan
+few-cells : (p : Program) → WellFormed p → CellsAreFew (label p)
+few-cells p well = record {
+  own = λ b there. let room = variables p well b there in let low = room.few_cells in omega (arith, low);
+  globals = let room = globals p well in let low = room.few_cells in omega (arith, low);
+}
 
-one_frame : (f g : Frame) (o : Option Frame) → Some f ≡ o → o ≡ Some g → f ≡ g
+starts-it : (p : Program) (x : Plan) → Starts p (body_started p x) x
+starts-it p plan.Wait = tt
+starts-it p plan.Park = tt
+starts-it p plan.End = tt
+starts-it p (plan.Trap kind n) = tt
+starts-it p (plan.Take child n reached z) = tt
+starts-it p (plan.Enter child n inlet arguments) = refl
+starts-it p (plan.Go n to) = tt
+starts-it p (plan.Write n reached z to) = tt
+starts-it p (plan.Call n awaits callee arguments to) = refl
+starts-it p (plan.Leave n) = tt
+starts-it p (plan.Answer n reached z) = tt
+starts-it p (plan.Return n z) = tt
+starts-it p (plan.Spawn n receiver callee arguments to) = refl
+starts-it p (plan.Print n bytes to) = tt
+starts-it p (plan.Turn n lock now to) = tt
+starts-it p (plan.Abort n to) = tt
+
+abbrev pub stepping : ℕ → model.Choice
+stepping w = record { worker = w; act = model.step }
+
+-- worker w can step
+module _ (m : Situation) (w : ℕ) (sound : IsSound m) (free : refused_by m (record { worker = w; act = Step }) ≡ None) where
+  known : Frees m (record { worker = w; act = Step })
+  known = frees m (record { worker = w; act = Step }) free
+
+  pub it : Steps m w
+  it = step-free m w free
+
+  abbrev f : Frame
+  f = it.frame
+
+  abbrev turn : (choices : List model.Choice) (events : List Event) (at : Standing) → Led m choices events at → Turn
+  turn choices events at h = turn-of m choices events at h w f known.worker it.held
+
+  pub plan-here : planned_in m w ≡ planned (sight_at m f)
+  plan-here = ap (planned_by m) it.held
+
+  -- the plan is that of the step
+  is-plan : (x : Plan) → x ≡ planned_in m w → (choices : List model.Choice) (events : List Event) (at : Standing)
+      (h : Led m choices events at) → IsPlan (turn choices events at h) x
+  is-plan x is choices events at h =
+      subst (IsPlan (turn choices events at h)) (sym (is ∙ plan-here)) (plan-in m sound.well_formed choices events at h w f known.worker it.held)
+
+  pub paths : (x : Plan) → x ≡ planned_in m w → HasPaths m.machine.nodes f.id x
+  paths x is =
+      let s = sound.stands in
+      paths-there (turn s.choices s.events sound.at s.led) x (is-plan x is s.choices s.events sound.at s.led)
+
+  -- what the choice does is what its step does
+  hand-here : (choices : List model.Choice) (events : List Event) (at : Standing) (h : Led m choices events at)
+      → Rattle.cilk_model.specs.Scheduler.hand_of at.scheduler.places w ≡ Some (path_at m.machine.nodes f.id)
+  hand-here choices events at h =
+      hand-is m sound.well_formed choices events at h w ∙ ap (option_map (name_in m.machine.nodes)) it.held
+
+  pub does : (x : Plan) → x ≡ planned_in m w → Does m (stepping w) (event_in m.machine.nodes f.id x)
+  does x is at s =
+      event-told (turn s.choices s.events at s.led) x (is-plan x is s.choices s.events at s.led)
+      ∙ ap (event_by_hand (label m.program) at.state) (sym (hand-here s.choices s.events at s.led))
+
+  module _ (parts : Parts) (is_parts : m.machine ≡ machine_of parts outside.running) (body : Option Body) (x : Plan) (is : x ≡ planned_in m w) (starts : body ≡ body_started m.program x) where
+    planned_there : (choices : List model.Choice) (events : List Event) (at : Standing) (h : Led m choices events at)
+        → Planned parts w body x (turn choices events at h)
+    planned_there choices events at h = record {
+      machine = is_parts;
+      worker = refl;
+      is_plan = is-plan x is choices events at h;
+      starts = subst (λ b. Starts m.program b x) (sym starts) (starts-it m.program x);
+    }
+
+    pub can-carry : CanCarry parts w body x
+    can-carry =
+        let s = sound.stands in
+        record {
+          goes = λ e. it.goes (sym (is ∙ plan-here) ∙ e);
+          turn = turn s.choices s.events sound.at s.led;
+          planned = planned_there s.choices s.events sound.at s.led;
+          few = few-cells m.program sound.well_formed;
+        }
+
+    -- where it leads
+    next-there : (now : Parts) (done : Done) (path : Path) → path ≡ trapped_path m.machine.nodes f.id x → Carries parts w body x now done
+        → (choices : List model.Choice) (events : List Event) (at : Standing) → Led m choices events at
+        → Next m (machine_of now (carries.outcome_of done.outcome)) (outcome_with path done.outcome) (stepping w)
+        (event_by (path_at m.machine.nodes) (path_at now.tree.nodes) done.did) at
+    next-there now done path named carried choices events at h =
+        let t = turn choices events at h in
+        let s = carried t (planned_there choices events at h) in
+        let hand = hand-here choices events at h in
+        let runs : at.state.outcome ≡ state.running = sym h.outcome ∙ ap outcome_of known.runs_on in
+        let agrees = subst (λ o. Agrees m.program (machine_of now (carries.outcome_of done.outcome)) s.who (next_by_hand (label m.program) at w o)) (sym hand) s.agrees in
+        record {
+          possible = free-is m sound.well_formed (record { worker = w; act = Step }) free choices events at h;
+          event = s.event ∙ ap (event_by_hand (label m.program) at.state) (sym hand);
+          outcome_is =
+              outcome-told (path_at now.tree.nodes) path done.outcome _ s.agrees.outside.outcome
+              (subst (λ q. Rattle.cilk_machine.proofs.Told.TrappedAt q (Rattle.cilk_model.specs.Run.state_after at.state (step_in t)).outcome) (sym named)
+              (trapped-there t runs x (is-plan x is choices events at h)))
+              ∙ ap (λ o. (next_by_hand (label m.program) at w o).state.outcome) (sym hand);
+          who = s.who;
+          agrees = agrees;
+        }
+
+    pub step-made : (now : Parts) (done : Done) (path : Path) → path ≡ trapped_path m.machine.nodes f.id x → Carries parts w body x now done
+        → Makes m (moved_to m (machine_of now (outcome_at (trapper_of done.outcome) (outcome_with path done.outcome))) (outcome_with path done.outcome)) (stepping w)
+        (event_by (path_at m.machine.nodes) (path_at now.tree.nodes) done.did)
+    step-made now done path named carried =
+        subst (λ o. Makes m (moved_to m (machine_of now o) (outcome_with path done.outcome)) (stepping w) (event_by (path_at m.machine.nodes) (path_at now.tree.nodes) done.did))
+        (sym (outcome-at path done.outcome))
+        (makes m (machine_of now (carries.outcome_of done.outcome)) (outcome_with path done.outcome) (stepping w) _ sound (next-there now done path named carried))
+
+-- the same of a frame that was looked at
+one_frame : (f g : Frame) (o : Option Frame) → Some f ≡ o → o ≡ Some g → g ≡ f
 one_frame f g o a b = let e : Some f ≡ Some g = a ∙ b in cc
 
--- a machine in which nothing has changed
-pub same-sound : (m : Situation) (cells : List ℤ) (ms : List Node) (now : List Place) → cells ≡ m.globals → ms ≡ m.nodes → now ≡ m.places → IsSound m
-    → IsSound (record { program = m.program; globals = cells; nodes = ms; places = now; outcome = m.outcome; choices = m.choices })
-same-sound m cells ms now a b c sound =
-    subst IsSound (λ i. record {
-      program = m.program;
-      globals = sym a i;
-      nodes = sym b i;
-      places = sym c i;
-      outcome = m.outcome;
-      choices = m.choices;
-    }) sound
+module _ (m : Situation) (w : ℕ) (sound : IsSound m) (free : refused_by m (record { worker = w; act = Step }) ≡ None) (g : Frame) (looked : Some g ≡ hand_of m.machine.places w) where
+  pub same-frame : (it m w sound free).frame ≡ g
+  same-frame =
+      let s = it m w sound free in
+      one_frame g s.frame (hand_of m.machine.places w) looked s.held
 
-pub put-back : (places left again now : List Place) (w : ℕ) (f g : Frame) → IsWorker places w → hand_of places w ≡ Some f → left ≡ with_hand places w None → again ≡ left → g ≡ f → now ≡ with_hand again w (Some g) → now ≡ places
-put-back places left again now w f g worker held taken same frame is =
-    is ∙ (λ i. with_hand ((same ∙ taken) i) w (Some (frame i)))
-    ∙ hand-twice places w None (Some f) (deque-kept places w None worker) ∙ ap (with_hand places w) (sym held) ∙ given-back places w
+  module _ (ns : List Node) (k : ℕ) (x : Plan) (is : x ≡ planned_in m w) (nodes_are : ns ≡ m.machine.nodes) (id_is : k ≡ g.id) where
+    -- what the step is to do, by the number of the instance
+    by-number : {A : Type 0} (P : List Node → ℕ → Plan → A) → P m.machine.nodes (it m w sound free).frame.id x ≡ P ns k x
+    by-number P = λ j. P (sym nodes_are j) ((ap (λ (f : Frame). f.id) same-frame ∙ sym id_is) j) x
 
-module _ (m : Situation) (w : ℕ) (sound : IsSound m) (free : refused_by m (record { worker = w; act = Step }) ≡ None) where
-  pub stepper : IsWorker m.places w
-  stepper = let f = frees m (record { worker = w; act = Step }) free in f.worker
+    pub paths-here : HasPaths ns k x
+    paths-here = by-type (paths m w sound free x is)
+      where
+        by-type : HasPaths m.machine.nodes (it m w sound free).frame.id x → HasPaths ns k x
+        by-type h = subst (λ i. HasPaths ns i x) (ap (λ (f : Frame). f.id) same-frame ∙ sym id_is) (subst (λ l. HasPaths l (it m w sound free).frame.id x) (sym nodes_are) h)
 
-  pub can-step-now : (f : Frame) (cells : List ℤ) → Some f ≡ hand_of m.places w → cells ≡ m.globals → CanStep m.program cells m.nodes f
-  can-step-now f cells held same =
-      let now = frees m (record { worker = w; act = Step }) free in
-      subst (λ x. CanStep m.program x m.nodes f) (sym same) (can-step m sound.well_formed w f stepper (sym held) now.runs_on sound.at sound.stands)
+    pub does-here : (did : Event) → did ≡ event_in ns k x → Does m (stepping w) did
+    does-here did told at s = told ∙ sym (by-number event_in) ∙ does m w sound free x is at s
 
-  -- the plan of the frame that was looked at, for the frame that was taken
-  moved-plan : (f g : Frame) (cells : List ℤ) (plan : Plan) → Some f ≡ hand_of m.places w → hand_of m.places w ≡ Some g → cells ≡ m.globals → IsTrue m.program cells m.nodes f plan → IsTrue m.program m.globals m.nodes g plan
-  moved-plan f g cells plan held taken same is =
-      subst (λ x. IsTrue m.program m.globals m.nodes x plan) (one_frame f g (hand_of m.places w) held taken) (subst (λ x. IsTrue m.program x m.nodes f plan) same is)
+    pub path-here : (path : Path) → path ≡ trapped_path ns k x → path ≡ trapped_path m.machine.nodes (it m w sound free).frame.id x
+    path-here path named = named ∙ sym (by-number trapped_path)
 
-  pub can-carry-now : (f g : Frame) (cells : List ℤ) (left : List Place) (plan : Plan) → Some f ≡ hand_of m.places w → hand_of m.places w ≡ Some g → cells ≡ m.globals → left ≡ with_hand m.places w None → IsTrue m.program cells m.nodes f plan
-      → CanCarry m.globals m.nodes left w g plan
-  can-carry-now f g cells left plan held taken same is true_of =
-      let now = frees m (record { worker = w; act = Step }) free in
-      subst (λ x. CanCarry m.globals m.nodes x w g plan) (sym is)
-      (can-carry m sound.well_formed w g stepper taken now.runs_on plan (moved-plan f g cells plan held taken same true_of) sound.at sound.stands)
+-- the step of the instance in a hand can be planned
+pub fits-here : (m : Situation) → IsSound m → (w : ℕ) → IsWorker m.machine.places w → (f : Frame) → Some f ≡ hand_of m.machine.places w → (g : Sight) → g ≡ sight_at m f → HeadFits g
+fits-here m sound w worker f looked g is =
+    let s = sound.stands in
+    subst HeadFits (sym is) (head-fits (turn-of m s.choices s.events sound.at s.led w f worker (sym looked)) sound.well_formed)
 
-  pub made-now : (f g : Frame) (cells : List ℤ) (left : List Place) (plan : Plan) → Some f ≡ hand_of m.places w → hand_of m.places w ≡ Some g → cells ≡ m.globals → left ≡ with_hand m.places w None → IsTrue m.program cells m.nodes f plan
-      → (new : List ℤ) (ms : List Node) (now : List Place) (outcome : Outcome) (did : Event) → Carries m.globals m.nodes left w g plan new ms now outcome did
-      → Makes m (moved_to m new ms now outcome) (record { worker = w; act = model.step }) (event_of did)
-  made-now f g cells left plan held taken same is true_of new ms now outcome did carries =
-      let going = frees m (record { worker = w; act = Step }) free in
-      makes-step m sound.well_formed w g stepper taken going.runs_on plan (moved-plan f g cells plan held taken same true_of) new ms now outcome did free sound
-      (subst (λ x. Carries m.globals m.nodes x w g plan new ms now outcome did) is carries)
+-- what a machine is to carry out, and the path of the instance where that is a trap
+pub record Carrying (m : Situation) (w : ℕ) (x : Plan) (path : Path) : Type 0 where
+  pub sound : IsSound m
+  pub free : refused_by m (record { worker = w; act = Step }) ≡ None
+  pub planned : x ≡ planned_in m w
+  pub trap : IsTrapPath m w x path
+
+pub carrying : (m now : Situation) (w : ℕ) (x : Plan) (path : Path) → m ≡ now → IsSound m → refused_by now (record { worker = w; act = Step }) ≡ None → x ≡ planned_in now w
+    → IsTrapPath now w x path → Carrying m w x path
+carrying m now w x path is sound free planned trap = record {
+  sound = sound;
+  free = free-old m now (record { worker = w; act = Step }) is free;
+  planned = planned ∙ ap (λ (y : Situation). planned_in y w) (sym is);
+  trap = subst (λ (y : Situation). IsTrapPath y w x path) (sym is) trap;
+}
+
+-- from the parts of a machine
+module _ (program : Program) (parts : Parts) (trapper : ℕ) (outcome : Outcome) (choices : ℕ) where
+  abbrev whole : Situation
+  whole = record { program = program; machine = machine_of parts (outcome_at trapper outcome); outcome = outcome; choices = choices }
+
+  module _ (w : ℕ) (x : Plan) (path : Path) (c : Carrying whole w x path) (body : Option Body) (number : Option ℕ) (body_is : body ≡ body_numbered program number) (number_is : number ≡ started_number x) where
+    parts_are : machine_of parts (outcome_at trapper outcome) ≡ machine_of parts outside.running
+    parts_are =
+        let known = frees whole (record { worker = w; act = Step }) c.free in
+        ap (λ o. machine_of parts (outcome_at trapper o)) known.runs_on
+
+    starts_is : body ≡ body_started program x
+    starts_is = body_is ∙ ap (body_numbered program) number_is
+
+    pub whole-carries : CanCarry parts w body x
+    whole-carries = can-carry whole w c.sound c.free parts parts_are body x c.planned starts_is
+
+    pub whole-made : (now : Parts) (done : Done) (came : ℕ) (stands : Outcome) → Carries parts w body x now done → came ≡ trapper_of done.outcome → stands ≡ outcome_with path done.outcome
+        → Makes whole (moved_to whole (machine_of now (outcome_at came stands)) stands) (stepping w) (event_by (path_at parts.tree.nodes) (path_at now.tree.nodes) done.did)
+    whole-made now done came stands carried came_is stands_is =
+        let s = it whole w c.sound c.free in
+        subst (λ i. Makes whole (moved_to whole (machine_of now (outcome_at i stands)) stands) (stepping w) (event_by (path_at parts.tree.nodes) (path_at now.tree.nodes) done.did)) (sym came_is)
+        (subst (λ o. Makes whole (moved_to whole (machine_of now (outcome_at (trapper_of done.outcome) o)) o) (stepping w) (event_by (path_at parts.tree.nodes) (path_at now.tree.nodes) done.did)) (sym stands_is)
+        (step-made whole w c.sound c.free parts parts_are body x c.planned starts_is now done path (c.trap s.frame s.held) carried))
+
+-- a machine by another name
+pub made-old : (m old n : Situation) (w : ℕ) (ns : List Node) (did : Did) → m ≡ old → Makes m n (stepping w) (event_by (path_at m.machine.nodes) (path_at ns) did)
+    → Makes old n (stepping w) (event_by (path_at old.machine.nodes) (path_at ns) did)
+made-old m old n w ns did is made =
+    subst (λ (x : Situation). Makes x n (stepping w) (event_by (path_at x.machine.nodes) (path_at ns) did)) is made
+
+pub told-old : (m old n : Situation) (w : ℕ) (did other : Event) → m ≡ old → IsSound m → Makes m n (stepping w) did → Does old (stepping w) other → Makes old n (stepping w) other
+told-old m old n w did other is sound made does =
+    of-old m old n (stepping w) other is (told-as m n (stepping w) did other made (subst (λ (x : Situation). Does x (stepping w) other) (sym is) does) sound)

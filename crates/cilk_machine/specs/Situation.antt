@@ -1,18 +1,37 @@
 -- What contracts see of a machine.
-use Rattle.std.specs.Prelude.{ℕ, ℤ, List, length}
-use Rattle.cilk_core.specs.Tree as tree
-use Rattle.cilk_spawn.specs.Nodes.{Node}
-use Rattle.cilk_sched.specs.Places.{Place}
-use Rattle.cilk_machine.specs.declared.outcome.Outcome.{Outcome}
+use Rattle.std.specs.Prelude.{ℕ, length}
+use Rattle.cilk_syntax.specs.Tree as tree
+use Rattle.cilk_frame.specs.Frames.{Frame}
+use Rattle.cilk_agree.specs.Outside as outside
+use Rattle.cilk_agree.specs.Agrees.{Machine}
+use Rattle.cilk_plans.specs.Words.{kind_of}
+use Rattle.cilk_plans.specs.Sights.{Sight}
+use Rattle.cilk_choices.specs.declared.outcome.Outcome.{Outcome}
+use Rattle.cilk_choices.specs.declared.outcome.Outcome.TheVariants.{Running, Finished, Trapped}
 
--- the program, the cells of its variables of the top level, its instances by id, what the workers have, how it stands, and the number of choices made
+-- the program, its parts, how it stands, and the number of choices made
 pub record Situation : Type 0 where
   pub program : tree.Program
-  pub globals : List ℤ
-  pub nodes : List Node
-  pub places : List Place
+  pub machine : Machine
   pub outcome : Outcome
   pub choices : ℕ
 
 abbrev pub workers_of : Situation → ℕ
-workers_of m = length m.places
+workers_of m = length m.machine.places
+
+-- how it stands, where the instance that was trapped goes by its number
+abbrev pub outcome_at : ℕ → Outcome → outside.Outcome
+outcome_at id Running = outside.running
+outcome_at id (Finished value) = outside.finished value
+outcome_at id (Trapped kind path n) = outside.trapped (kind_of kind) id n
+
+-- what a step of the instance of a frame looks at
+abbrev pub sight_at : Situation → Frame → Sight
+sight_at m f = record {
+  program = m.program;
+  globals = m.machine.outside.cells;
+  locks = m.machine.outside.locks;
+  printed = length m.machine.outside.output;
+  nodes = m.machine.nodes;
+  frame = f;
+}

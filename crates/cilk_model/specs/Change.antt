@@ -1,114 +1,189 @@
 -- What one step of an instance does to the state.
-use Rattle.std.specs.Prelude.{ℕ, ◌+◌, ◌-◌, ◌^◌, nat_lt, ℤ, Bool, true, false, not, ◌&&◌, ◌||◌, if◌then◌else◌, List, [], ◌∷◌, ◌++◌, length, map, Option, Some, None, Result, Ok, Err}
-use Rattle.cilk_eval.specs.declared.trap.Trap.{Trap}
-use Rattle.cilk_model.specs.Labelled.{Labelled, Taker, nothing, into, Action, assign, return_with, close, assign_by, null, return_nothing, spawn, sync}
-use Rattle.cilk_model.specs.Items.{Head, head_of, opened, next}
-use Rattle.cilk_model.specs.Values.{Values, Store, Cell, environment, read_at, written}
-use Rattle.cilk_model.specs.Effect.{Effect, writes, gives, goes_by, starts, effect_of, received}
-use Rattle.cilk_model.specs.Path.{Path, same_path, child_path, parent_of}
-use Rattle.cilk_model.specs.Instance.{Receiver, place, Delivery, Instance, started}
-use Rattle.cilk_model.specs.State.{Kind, of_value, instances, Instances, finished, trapped, Lock, unset, free, held, changed, without, has_live_child, State}
+use Rattle.std.specs.Prelude.{ℕ, ◌+◌, ℤ, Bool, true, false, not, ◌&&◌, ◌||◌, if◌then◌else◌, List, [], ◌∷◌, ◌++◌, map, Option, Some, None, slice_index_or, slice_set}
+use Rattle.std.specs.List.{list_any}
+use Rattle.cilk_syntax.specs.declared.lock_action.LockAction.{LockAction}
+use Rattle.cilk_syntax.specs.declared.lock_action.LockAction.TheVariants.{Init, Unlock}
+use Rattle.cilk_syntax.specs.declared.lock_action.LockAction.TheVariants as action
+use Rattle.cilk_scopes.specs.declared.owner.Owner.{Owner}
+use Rattle.cilk_scopes.specs.declared.owner.Owner.TheVariants.{Function, Procedure, Inlet}
+use Rattle.cilk_labelled.specs.Labelled.{Labelled, Declaration, local, outer, global, Action, sync, spawn, return_with, return_nothing, close, Numbered}
+use Rattle.cilk_labelled.specs.Items.{head_of, opened, next}
+use Rattle.cilk_model.specs.Values.{Values, Cell, Reached}
+use Rattle.cilk_model.specs.Path.{Path, same_path, child_path, parent_of, is_below}
+use Rattle.cilk_model.specs.Instance.{Activation, Receiver, Delivery, Instance, entered, started, owner_at}
+use Rattle.cilk_model.specs.State.{Kind, Lock, unset, free, held, Entry, finished, trapped, State, changed, without, is_empty, lock_at}
 
-abbrev pub is_empty : {A : Type 0} → List A → Bool
-is_empty [] = true
-is_empty (x ∷ xs) = false
+-- the actions that leave a body
+abbrev pub leaves : Action → Bool
+leaves (return_with value) = true
+leaves return_nothing = true
+leaves close = true
+leaves other = false
 
--- nothing to wait for: no live child, and no delivery that waits (Cilk 5.4 manual, `SYNCHED`)
-abbrev pub is_synched : State → Path → Instance → Bool
-is_synched s p i = not (has_live_child s.instances p) && is_empty i.waiting
+abbrev pub is_sync : Action → Bool
+is_sync sync = true
+is_sync other = false
 
--- the procedure's own activation goes on, with none above it
-abbrev pub is_alone : Instance → Bool
-is_alone i = is_empty i.below
+abbrev pub is_spawn : Action → Bool
+is_spawn (spawn taker callee arguments) = true
+is_spawn other = false
 
--- a procedure waits for all its children before it returns (Cilk 5.4 manual, `sync`, `return`)
-abbrev pub syncs : Action → Bool
-syncs (assign target value) = false
-syncs (return_with value) = true
-syncs close = true
-syncs (assign_by op target value) = false
-syncs null = false
-syncs return_nothing = true
-syncs (spawn taker callee arguments) = false
-syncs sync = true
+-- the procedure's own activation waits for all children before it passes a `sync` or returns (Cilk 5.4 manual, `sync`, `return`)
+abbrev pub waits_here : Instance → Action → Bool
+waits_here i act = is_empty i.below && (is_sync act || leaves act)
 
-abbrev pub syncs_next : Option Head → Bool
-syncs_next None = false
-syncs_next (Some head) = syncs head.act
+abbrev pub head_waits : Instance → Option Numbered → Bool
+head_waits i None = false
+head_waits i (Some head) = waits_here i head.act
 
--- between two threads of the procedure, where an inlet may run: after a spawn, and before what waits for the children (Cilk 5.4 manual, `inlet`)
+-- between two threads of the procedure, where an inlet may run (Cilk 5.4 manual, `inlet`)
 abbrev pub at_boundary : Instance → Bool
-at_boundary i = is_alone i && (i.spawned || syncs_next (head_of i.top.items))
+at_boundary i = is_empty i.below && (i.spawned || head_waits i (head_of i.top.items))
 
--- whether the head need not wait for children
-abbrev pub passes : State → Path → Instance → Head → Bool
-passes s p i head = not (is_alone i && syncs head.act) || is_synched s p i
+abbrev pub is_function : Owner → Bool
+is_function (Function returns) = true
+is_function (Procedure returns) = false
+is_function Inlet = false
 
--- what the activation sees
-abbrev pub store_of : State → Path → Instance → Store
-store_of s p i = record { own = i.top.values; globals = s.globals; synched = is_synched s p i }
+-- whether a C function is left, rather than an inlet, as the top activation is left
+abbrev pub leaves_function : Labelled → Instance → Bool
+leaves_function program i = is_function (owner_at program i)
+
+-- whether a thread or an inlet ends with the action
+abbrev pub ends_thread : Labelled → Instance → Action → Bool
+ends_thread program i act = is_sync act || (is_spawn act || (leaves act && (is_empty i.below || not (leaves_function program i))))
+
+abbrev pub is_held_by : Path → Lock → Bool
+is_held_by p unset = false
+is_held_by p free = false
+is_held_by p (held q) = same_path q p
+
+abbrev pub holds_lock : State → Path → Bool
+holds_lock s p = list_any (is_held_by p) s.locks
 
 -- a trap changes the outcome alone
 abbrev pub stopped : State → Path → ℕ → Kind → State
 stopped s p n kind = record s { outcome = trapped kind p n }
 
-abbrev pub after_trap : State → Path → ℕ → Trap → State
-after_trap s p n trap = stopped s p n (of_value trap)
-
--- the instance past its head, where a test gave this answer and its body now has these values; an action of the procedure's own takes the mark of a spawn away
-abbrev pub gone_on : Bool → Values → Instance → Instance
-gone_on answer values i = record i {
-  top = record i.top { items = opened (next answer i.top.items); values = values };
-  spawned = i.spawned && not (is_alone i);
+-- the instance past its head, where a test gave this answer; an action of the procedure's own takes the mark of a spawn away
+abbrev pub gone_on : Bool → Instance → Instance
+gone_on answer i = record i {
+  top = record i.top { items = opened (next answer i.top.items) };
+  spawned = i.spawned && not (is_empty i.below);
 }
 
-abbrev pub after_write : State → Path → Instance → Store → State
-after_write s p i store = record s {
-  globals = store.globals;
-  instances = changed p (λ _. gone_on true store.own i) s.instances;
+-- z in cell k of variable n
+abbrev pub with_value : ℕ → ℕ → ℤ → Values → Values
+with_value n k z values = slice_set values n (slice_set (slice_index_or values n []) k z)
+
+abbrev pub own_with : Declaration → ℕ → ℤ → Values → Values
+own_with (local n) k z values = with_value n k z values
+own_with other k z values = values
+
+abbrev pub outer_with : Declaration → ℕ → ℤ → Values → Values
+outer_with (outer n) k z values = with_value n k z values
+outer_with other k z values = values
+
+abbrev pub globals_with : Declaration → ℕ → ℤ → Values → Values
+globals_with (global n) k z values = with_value n k z values
+globals_with other k z values = values
+
+-- of the lowest activation, which is the procedure's
+abbrev pub on_lowest : (Values → Values) → List Activation → List Activation
+on_lowest f [] = []
+on_lowest f (a ∷ []) = record a { values = f a.values } ∷ []
+on_lowest f (a ∷ b ∷ below) = a ∷ on_lowest f (b ∷ below)
+
+-- the instance with z in a cell that its top activation sees
+abbrev pub put : Cell → ℤ → Instance → Instance
+put cell z i = record i {
+  top = record i.top { values = own_with cell.place cell.index z i.top.values };
+  below = on_lowest (outer_with cell.place cell.index z) i.below;
 }
 
--- the instance is past its head, and nothing else is changed
-abbrev pub after_going : State → Path → Instance → State
-after_going s p i = record s { instances = changed p (λ _. gone_on true i.top.values i) s.instances }
+-- the instance at p is this one now
+abbrev pub with_instance : State → Path → Instance → State
+with_instance s p i = record s { instances = changed p (λ _. i) s.instances }
 
--- the path of the next child
-abbrev pub next_child : Path → Instance → Path
-next_child p i = child_path p (i.children + 1)
+abbrev pub with_put : State → Path → Instance → Cell → ℤ → State
+with_put s p i cell z =
+    record (with_instance s p (put cell z i)) { globals = globals_with cell.place cell.index z s.globals }
 
--- whether there may be one more child: fewer than 65,536 instances live, and this one has spawned fewer than 4,294,967,295
-abbrev pub has_room : State → Instance → Bool
-has_room s i = nat_lt (length s.instances) 65536 && nat_lt i.children (2 ^ 32 - 1)
+abbrev pub after_going : State → Path → Instance → Bool → State
+after_going s p i answer = with_instance s p (gone_on answer i)
 
--- what takes the value of the child of spawn n
-abbrev pub receiver_of : Taker Cell → ℕ → Option Receiver
-receiver_of nothing n = None
-receiver_of (into op cell) n = Some (place op cell n)
+abbrev pub after_write : State → Path → Instance → Cell → ℤ → State
+after_write s p i cell z = with_put s p (gone_on true i) cell z
 
--- the parent past its spawn
-abbrev pub with_child : Instance → Instance
-with_child i = record (gone_on true i.top.values i) { spawned = true; children = i.children + 1 }
+-- a C function above the caller, which stands at what follows its call (C 1990, 6.3.2.2)
+abbrev pub above : Activation → Instance → Instance
+above a i = record i { top = a; below = i.top ∷ i.below }
 
--- a child at its start: one of an aborted instance is aborted from its birth
-abbrev pub child_of : Labelled → Instance → ℕ → Taker Cell → ℕ → List ℤ → Instance
-child_of program i n taker callee arguments =
-    record (started program callee arguments) { aborted = i.aborted; receiver = receiver_of taker n }
+abbrev pub after_call : Labelled → State → Path → Instance → Option Reached → ℕ → List ℤ → State
+after_call program s p i awaits callee zs = with_instance s p (above (entered program callee zs awaits) (gone_on true i))
 
--- the child is the youngest of the live instances
-abbrev pub with_birth : Path → Instance → Path → Instance → Instances → Instances
-with_birth p parent c child entries = changed p (λ _. parent) entries ++ record { path = c; instance = child } ∷ []
+abbrev pub resumed_to : Instance → List Activation → Instance
+resumed_to i [] = i
+resumed_to i (caller ∷ below) = record i { top = caller; below = below }
 
--- after spawn n, whether or not there was room for the child
-abbrev pub after_start : Labelled → State → Path → Instance → ℕ → Taker Cell → ℕ → List ℤ → Bool → State
-after_start program s p i n taker callee arguments true =
-    record s { instances = with_birth p (with_child i) (next_child p i) (child_of program i n taker callee arguments) s.instances }
-after_start program s p i n taker callee arguments false = stopped s p n instances
+-- the activation below goes on
+abbrev pub resumed : Instance → Instance
+resumed i = resumed_to i i.below
+
+abbrev pub after_leaving : State → Path → Instance → State
+after_leaving s p i = with_instance s p (resumed i)
+
+abbrev pub after_answer : State → Path → Instance → Cell → ℤ → State
+after_answer s p i cell z = with_put s p (resumed i) cell z
+
+-- the child is the youngest of the live instances: one of an aborted instance is aborted from its birth (Cilk 5.4 manual, `spawn`, `abort`)
+abbrev pub after_start : Labelled → State → Path → Instance → Option Receiver → ℕ → List ℤ → State
+after_start program s p i receiver callee zs = record s {
+  instances = changed p (λ _. record (gone_on true i) { spawned = true; children = i.children + 1 }) s.instances
+      ++ record {
+        path = child_path p (i.children + 1);
+        instance = record (started program callee zs) { aborted = i.aborted; receiver = receiver };
+      } ∷ [];
+}
+
+abbrev pub after_print : State → Path → Instance → List ℕ → State
+after_print s p i bytes = record (with_instance s p (gone_on true i)) { output = s.output ++ bytes }
+
+-- what a call of a lock makes of it: it is turned, or that is not allowed, or it has to wait (Cilk 5.4 manual, locks)
+pub data Turn : Type 0 where
+  turned : (now : Lock) → Turn
+  refused : Turn
+  blocked : Turn
+
+abbrev pub turn_by : Path → LockAction → Lock → Turn
+turn_by p Init unset = turned free
+turn_by p Init free = turned free
+turn_by p Init (held q) = refused
+turn_by p action.Lock unset = refused
+turn_by p action.Lock free = turned (held p)
+turn_by p action.Lock (held q) = if same_path q p then refused else blocked
+turn_by p Unlock unset = refused
+turn_by p Unlock free = refused
+turn_by p Unlock (held q) = if same_path q p then turned free else refused
+
+abbrev pub turn_of : State → Path → LockAction → ℕ → Turn
+turn_of s p what k = turn_by p what (lock_at s k)
+
+abbrev pub after_lock : State → Path → Instance → ℕ → Lock → State
+after_lock s p i k now = record (with_instance s p (gone_on true i)) { locks = slice_set s.locks k now }
+
+-- each live descendant of p is marked (Cilk 5.4 manual, `abort`)
+abbrev pub mark : Path → Entry → Entry
+mark p e = if is_below p e.path then record e { instance = record e.instance { aborted = true } } else e
+
+abbrev pub after_marks : State → Path → Instance → State
+after_marks s p i = record s { instances = map (mark p) (changed p (λ _. gone_on true i) s.instances) }
 
 -- a child's value waits for the parent where something takes it; an aborted child delivers nothing
-abbrev pub deliveries : Path → Instance → ℤ → Option Receiver → Bool → List Delivery
-deliveries p i z None aborted = []
-deliveries p i z (Some receiver) true = []
-deliveries p i z (Some receiver) false = record { child = p; value = z; receiver = receiver } ∷ []
+abbrev pub deliveries : Path → ℤ → Option Receiver → Bool → List Delivery
+deliveries p z None aborted = []
+deliveries p z (Some receiver) true = []
+deliveries p z (Some receiver) false = record { child = p; value = z; receiver = receiver } ∷ []
 
 abbrev pub with_deliveries : List Delivery → Instance → Instance
 with_deliveries new i = record i { waiting = i.waiting ++ new }
@@ -116,55 +191,24 @@ with_deliveries new i = record i { waiting = i.waiting ++ new }
 -- an instance is no more: the root's value is the program's, and a child's goes to its parent (Cilk 5.4 manual, `return`)
 abbrev pub after_return_to : Option Path → State → Path → Instance → ℤ → State
 after_return_to None s p i z = record s { outcome = finished z; instances = without p s.instances }
-after_return_to (Some q) s p i z = record s {
-  instances = changed q (with_deliveries (deliveries p i z i.receiver i.aborted)) (without p s.instances);
-}
+after_return_to (Some q) s p i z =
+    record s { instances = changed q (with_deliveries (deliveries p z i.receiver i.aborted)) (without p s.instances) }
 
 abbrev pub after_return : State → Path → Instance → ℤ → State
 after_return s p i z = after_return_to (parent_of p) s p i z
 
--- after action n, which came to this
-abbrev pub after_effect : Labelled → State → Path → Instance → ℕ → Result Effect Trap → State
-after_effect program s p i n (Err trap) = after_trap s p n trap
-after_effect program s p i n (Ok (writes cell z)) = after_write s p i (written (store_of s p i) cell z)
-after_effect program s p i n (Ok (gives z)) = after_return s p i z
-after_effect program s p i n (Ok goes_by) = after_going s p i
-after_effect program s p i n (Ok (starts taker callee arguments)) =
-    after_start program s p i n taker callee arguments (has_room s i)
+-- after an implicit inlet, where the others still wait (Cilk 5.4 manual, `spawn`)
+abbrev pub after_place : State → Path → Instance → List Delivery → Cell → ℤ → State
+after_place s p i others cell z = with_put s p (record i { waiting = others }) cell z
 
-abbrev pub head_effect : State → Path → Instance → Head → Result Effect Trap
-head_effect s p i head = effect_of (environment (store_of s p i)) head.act
-
-abbrev pub after_head : Labelled → State → Path → Instance → Head → State
-after_head program s p i head = after_effect program s p i head.number (head_effect s p i head)
-
--- after an implicit inlet, whose place now holds this (Cilk 5.4 manual, `spawn`, `inlet`)
-abbrev pub after_place : State → Path → Instance → List Delivery → Cell → ℕ → Result ℤ Trap → State
-after_place s p i others cell n (Err trap) = after_trap s p n trap
-after_place s p i others cell n (Ok z) =
-    let store = written (store_of s p i) cell z in
-    record s {
-      globals = store.globals;
-      instances = changed p (λ _. record i { waiting = others; top = record i.top { values = store.own } }) s.instances;
-    }
-
--- the place is read as the inlet runs
-abbrev pub received_at : State → Path → Instance → Receiver → ℤ → Result ℤ Trap
-received_at s p i (place op cell n) z = received op (read_at (store_of s p i) cell) z
-
-abbrev pub after_receiver : Labelled → State → Path → Instance → List Delivery → Receiver → ℤ → State
-after_receiver program s p i others (place op cell n) z =
-    after_place s p i others cell n (received_at s p i (place op cell n) z)
-
--- after a delivery, where the others still wait
-abbrev pub after_delivery : Labelled → State → Path → Instance → Delivery → List Delivery → State
-after_delivery program s p i delivery others = after_receiver program s p i others delivery.receiver delivery.value
+-- an inlet is entered (Cilk 5.4 manual, `inlet`)
+abbrev pub after_inlet : Labelled → State → Path → Instance → List Delivery → ℕ → List ℤ → State
+after_inlet program s p i others inlet zs =
+    with_instance s p (above (entered program inlet zs None) (record i { waiting = others }))
 
 -- a lock that p held is free
 abbrev pub released : Path → Lock → Lock
-released p unset = unset
-released p free = free
-released p (held q) = if same_path q p then free else held q
+released p lock = if is_held_by p lock then free else lock
 
 -- an aborted instance is no more (Cilk 5.4 manual, `abort`)
 abbrev pub after_abort : State → Path → State

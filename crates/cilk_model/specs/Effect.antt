@@ -1,60 +1,59 @@
--- What an action comes to, once its expressions have their values.
-use Rattle.std.specs.Prelude.{ℕ, ℤ, pos, List, [], ◌∷◌, Option, Some, None, Result, Ok}
-use Rattle.cilk_core.specs.declared.operator.BinOp.{BinOp}
-use Rattle.cilk_eval.specs.declared.trap.Trap.{Trap}
-use Rattle.cilk_eval.specs.Arithmetic.{binary_result}
-use Rattle.cilk_eval.specs.Term.{Term}
-use Rattle.cilk_eval.specs.Value.{Environment, value_of, ◌>>=◌}
-use Rattle.cilk_model.specs.Declaration.{Declaration}
-use Rattle.cilk_model.specs.Labelled.{Target, variable, Taker, nothing, into, Action, assign, return_with, close, assign_by, null, return_nothing, spawn, sync}
-use Rattle.cilk_model.specs.Values.{Cell}
+-- What an action comes to, once its expressions have their values, or the first trap from the left.
+use Rattle.std.specs.Prelude.{ℕ, ℤ, pos, Bool, true, not, List, Option, Some, None, Result, Ok}
+use Rattle.cilk_syntax.specs.declared.lock_action.LockAction.{LockAction}
+use Rattle.cilk_values.specs.declared.trap.Trap.{Trap}
+use Rattle.cilk_values.specs.Arithmetic.{is_zero}
+use Rattle.cilk_values.specs.Term.{Term}
+use Rattle.cilk_values.specs.Value.{Environment, value_of, values_of, ◌>>=◌}
+use Rattle.cilk_labelled.specs.Labelled.{Declaration, Taker, nothing, into, through, Action, assign, call, spawn, print, locking, null, break_off, go_round, tests, sync, abort, return_with, return_nothing, close}
+use Rattle.cilk_model.specs.Values.{Cell, Reached, reached_at, reached_if, combined}
+use Rattle.cilk_model.specs.Instance as instance
+use Rattle.cilk_model.specs.Instance.{Receiver, place}
+use Rattle.cilk_model.specs.Printing.{printed}
 
 pub data Effect : Type 0 where
   -- a cell takes a value
   writes : (cell : Cell) (value : ℤ) → Effect
+  -- what comes next is reached, with this answer of a test
+  answers : (answer : Bool) → Effect
+  -- a C function is to start
+  enters : (awaits : Option Reached) (callee : ℕ) (arguments : List ℤ) → Effect
   -- the body is left with a value
   gives : (value : ℤ) → Effect
-  -- what comes next is reached, and nothing else is changed
-  goes_by : Effect
-  -- a child is to start: what takes its value, at the cell that was reached, its body, and what its arguments are
-  starts : (taker : Taker Cell) (callee : ℕ) (arguments : List ℤ) → Effect
+  -- a child is to start
+  starts : (receiver : Option Receiver) (callee : ℕ) (arguments : List ℤ) → Effect
+  writes_out : (bytes : List ℕ) → Effect
+  turns : (what : LockAction) (lock : ℕ) → Effect
+  marks : Effect
 
--- the cell that is written to
-abbrev pub reached_cell : Environment Declaration → Target → Result Cell Trap
-reached_cell env (variable d) = Ok (record { place = d; index = 0 })
+-- the place that takes a child's value, what takes it once its place is reached, and what an inlet is given (Cilk 5.4 manual, `spawn`, `inlet`)
+abbrev pub start_of : Environment Declaration → ℕ → Taker → ℕ → List (Term Declaration) → Result Effect Trap
+start_of env n nothing callee es = values_of env es >>= λ zs. Ok (starts None callee zs)
+start_of env n (into what) callee es =
+    reached_at env what >>= λ reached. values_of env es >>= λ zs. Ok (starts (Some (place reached n)) callee zs)
+start_of env n (through inlet others) callee es =
+    values_of env es >>= λ zs. values_of env others >>= λ ys. Ok (starts (Some (instance.through inlet ys n)) callee zs)
 
--- what takes a child's value, once its place is reached
-abbrev pub reached_taker : Environment Declaration → Taker Target → Result (Taker Cell) Trap
-reached_taker env nothing = Ok nothing
-reached_taker env (into op target) = reached_cell env target >>= λ cell. Ok (into op cell)
-
--- what arguments are, from left to right
-abbrev pub values_of : Environment Declaration → List (Term Declaration) → Result (List ℤ) Trap
-values_of env [] = Ok []
-values_of env (first ∷ others) = value_of env first >>= λ z. values_of env others >>= λ zs. Ok (z ∷ zs)
-
--- the effect, or the first trap from the left
-abbrev pub effect_of : Environment Declaration → Action → Result Effect Trap
--- C 1990, 6.3.16, with the place first
-effect_of env (assign target value) = reached_cell env target >>= λ cell. value_of env value >>= λ z. Ok (writes cell z)
--- C 1990, 6.6.6.4
-effect_of env (return_with value) = value_of env value >>= λ z. Ok (gives z)
+-- the effect of action n
+abbrev pub effect_of : Environment Declaration → ℕ → Action → Result Effect Trap
+-- C 1990, 6.3.16: the place, then the value, and only then what the place holds
+effect_of env n (assign what e) =
+    reached_at env what >>= λ r. value_of env e >>= λ z. combined r.op (env.cell r.cell.place r.cell.index) z >>= λ y. Ok (writes r.cell y)
+-- C 1990, 6.3.2.2
+effect_of env n (call what callee es) =
+    reached_if env what >>= λ reached. values_of env es >>= λ zs. Ok (enters reached callee zs)
+effect_of env n (spawn taker callee es) = start_of env n taker callee es
+-- C 1990, 7.9.6.3
+effect_of env n (print format es) = values_of env es >>= λ zs. Ok (writes_out (printed format zs))
+effect_of env n (locking what lock) = Ok (turns what lock)
+effect_of env n null = Ok (answers true)
+effect_of env n break_off = Ok (answers true)
+effect_of env n go_round = Ok (answers true)
+-- C 1990, 6.6.4.1, 6.6.5
+effect_of env n (tests e) = value_of env e >>= λ z. Ok (answers (not (is_zero z)))
+effect_of env n sync = Ok (answers true)
+effect_of env n abort = Ok marks
 -- C 1990, 6.6.6.4: where C leaves the value open, it is 0
-effect_of env close = Ok (gives (pos 0))
--- C 1990, 6.3.16.2: the place, then the value, and only then what the place holds
-effect_of env (assign_by op target value) =
-    reached_cell env target >>= λ cell. value_of env value >>= λ z. binary_result op (env.cell cell.place cell.index) z >>= λ y. Ok (writes cell y)
--- C 1990, 6.6.3
-effect_of env null = Ok goes_by
--- C 1990, 6.6.6.4, with 0 as at the closing brace
-effect_of env return_nothing = Ok (gives (pos 0))
--- Cilk 5.4 manual, `spawn`: the place first, and then the arguments
-effect_of env (spawn taker callee arguments) =
-    reached_taker env taker >>= λ taken. values_of env arguments >>= λ zs. Ok (starts taken callee zs)
--- Cilk 5.4 manual, `sync`, of an instance that need not wait
-effect_of env sync = Ok goes_by
-
--- what a place holds after an implicit inlet, where it held the first number (Cilk 5.4 manual, `spawn`)
-abbrev pub received : Option BinOp → ℤ → ℤ → Result ℤ Trap
-received None old z = Ok z
-received (Some op) old z = binary_result op old z
+effect_of env n (return_with e) = value_of env e >>= λ z. Ok (gives z)
+effect_of env n return_nothing = Ok (gives (pos 0))
+effect_of env n close = Ok (gives (pos 0))

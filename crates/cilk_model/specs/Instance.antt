@@ -1,9 +1,10 @@
 -- An instance of a procedure that was spawned, or of `main` (Cilk 5.4 manual, `spawn`, `sync`, `inlet`).
 use Rattle.std.specs.Prelude.{ℕ, ℤ, Bool, false, List, [], ◌∷◌, Option, None, slice_index_or}
-use Rattle.cilk_core.specs.declared.operator.BinOp.{BinOp}
-use Rattle.cilk_model.specs.Labelled.{Body, Labelled, none}
-use Rattle.cilk_model.specs.Items.{Items, opened, start_items}
-use Rattle.cilk_model.specs.Values.{Values, Cell, initial_values}
+use Rattle.cilk_scopes.specs.declared.owner.Owner.{Owner}
+use Rattle.cilk_scopes.specs.declared.owner.Owner.TheVariants.{Inlet}
+use Rattle.cilk_labelled.specs.Labelled.{Body, Labelled, none}
+use Rattle.cilk_labelled.specs.Items.{Items, opened, start_items}
+use Rattle.cilk_model.specs.Values.{Values, Reached, initial_values}
 use Rattle.cilk_model.specs.Path.{Path}
 
 -- a body that is being run
@@ -14,13 +15,15 @@ pub record Activation : Type 0 where
   pub items : Items
   -- what its declarations hold
   pub values : Values
-  -- of a C function: the cell that awaits its value, if any
-  pub awaits : Option Cell
+  -- of a C function: the cell of its caller that awaits its value, if any does (C 1990, 6.3.2.2)
+  pub awaits : Option Reached
 
 -- what takes a child's value, with the number of the spawn
 pub data Receiver : Type 0 where
-  -- an implicit inlet, as in `x = spawn f();` and `x += spawn f();`: the operator, if any, and the cell that was reached at the spawn
-  place : (op : Option BinOp) (cell : Cell) (spawn : ℕ) → Receiver
+  -- an implicit inlet, and the cell that was reached at the spawn
+  place : (reached : Reached) (spawn : ℕ) → Receiver
+  -- an inlet, and what it was given behind the value at the spawn
+  through : (inlet : ℕ) (others : List ℤ) (spawn : ℕ) → Receiver
 
 -- a child's value that waits for its parent
 pub record Delivery : Type 0 where
@@ -45,7 +48,7 @@ pub record Instance : Type 0 where
 
 -- what stands at a place where there is no body
 abbrev pub no_body : Body
-no_body = record { name = []; parameters = 0; variables = []; stmts = none; closing = 0 }
+no_body = record { name = []; owner = Inlet; parameters = 0; variables = []; stmts = none; closing = 0 }
 
 abbrev pub body_at : Labelled → ℕ → Body
 body_at program b = slice_index_or program.bodies b no_body
@@ -56,19 +59,19 @@ with_arguments [] values = values
 with_arguments (z ∷ arguments) [] = []
 with_arguments (z ∷ arguments) (cells ∷ values) = (z ∷ []) ∷ with_arguments arguments values
 
--- a body at its start
-abbrev pub entered : Labelled → ℕ → List ℤ → Activation
-entered program b arguments = record {
+-- a body at its start, and what awaits its value
+abbrev pub entered : Labelled → ℕ → List ℤ → Option Reached → Activation
+entered program b arguments awaits = record {
   body = b;
   items = opened (start_items (body_at program b));
   values = with_arguments arguments (initial_values (body_at program b).variables);
-  awaits = None;
+  awaits = awaits;
 }
 
 -- an instance at its start
 abbrev pub started : Labelled → ℕ → List ℤ → Instance
 started program b arguments = record {
-  top = entered program b arguments;
+  top = entered program b arguments None;
   below = [];
   spawned = false;
   waiting = [];
@@ -76,3 +79,13 @@ started program b arguments = record {
   aborted = false;
   receiver = None;
 }
+
+-- whose body its top activation runs
+abbrev pub owner_at : Labelled → Instance → Owner
+owner_at program i = (body_at program i.top.body).owner
+
+-- what the procedure's own activation holds, below the one that goes on
+abbrev pub outer_values : List Activation → Values
+outer_values [] = []
+outer_values (a ∷ []) = a.values
+outer_values (a ∷ b ∷ below) = outer_values (b ∷ below)

@@ -1,5 +1,5 @@
 -- A path names an instance: the root's is empty, and a child's is its parent's followed by the child's number among all children of that parent, from 1 on.
-use Rattle.std.specs.Prelude.{ℕ, Bool, false, List, [], ◌∷◌, ◌++◌, Option, Some, None, option_map, bytes_eq, codes, decimal}
+use Rattle.std.specs.Prelude.{ℕ, ◌==◌, ◌&&◌, Bool, true, false, List, [], ◌∷◌, ◌++◌, Option, Some, None, option_map, bytes_eq, codes, decimal}
 
 abbrev pub Path : Type 0
 Path = List ℕ
@@ -33,3 +33,10 @@ numbers_text (k ∷ p) = codes "/" ++ (decimal k ++ numbers_text p)
 abbrev pub path_text : Path → List ℕ
 path_text [] = codes "/"
 path_text (k ∷ p) = numbers_text (k ∷ p)
+
+-- whether the second path is that of a child of the first, or of a child of one, and so on
+abbrev pub is_below : Path → Path → Bool
+is_below [] [] = false
+is_below [] (k ∷ q) = true
+is_below (k ∷ p) [] = false
+is_below (k ∷ p) (l ∷ q) = k == l && is_below p q

@@ -1,16 +1,16 @@
 -- The one step of an instance that is taken, of those that the written rule allows.
-use Rattle.std.specs.Prelude.{ℕ, ℤ, Bool, true, false, if◌then◌else◌, List, [], ◌∷◌, Option, Some, None, Result, Ok, Err}
-use Rattle.cilk_eval.specs.declared.trap.Trap.{Trap}
-use Rattle.cilk_model.specs.Labelled.{Labelled, Taker}
-use Rattle.cilk_model.specs.Items.{Head, head_of}
-use Rattle.cilk_model.specs.Values.{Cell}
-use Rattle.cilk_model.specs.Effect.{Effect, writes, gives, goes_by, starts}
-use Rattle.cilk_model.specs.Path.{Path}
-use Rattle.cilk_model.specs.Instance.{Receiver, place, Delivery, Instance}
-use Rattle.cilk_model.specs.State.{of_value, instances, State, instance_at, has_live_child}
+use Rattle.std.specs.Prelude.{ℕ, ◌+◌, ◌-◌, ◌^◌, ℤ, Bool, true, false, not, ◌&&◌, nat_lt, nat_le, if◌then◌else◌, List, [], ◌∷◌, length, Option, Some, None, Result, Ok, Err}
+use Rattle.cilk_values.specs.declared.trap.Trap.{Trap}
+use Rattle.cilk_labelled.specs.Labelled.{Labelled, Numbered}
+use Rattle.cilk_labelled.specs.Items.{head_of}
+use Rattle.cilk_model.specs.Values.{Cell, Reached, environment, read_at, combined}
+use Rattle.cilk_model.specs.Effect.{Effect, writes, answers, enters, gives, starts, writes_out, turns, marks, effect_of}
+use Rattle.cilk_model.specs.Path.{Path, child_path}
+use Rattle.cilk_model.specs.Instance.{Receiver, place, through, Delivery, Instance}
+use Rattle.cilk_model.specs.State.{Kind, of_value, lock, held_lock, depth, instances, output, State, instance_at, has_live_child, is_synched, store_of, is_empty}
+use Rattle.cilk_model.specs.Change.{Turn, turned, refused, blocked, turn_of, at_boundary, ends_thread, waits_here, holds_lock, leaves_function, stopped, after_write, after_going, after_call, after_leaving, after_answer, after_start, after_print, after_lock, after_marks, after_return, after_place, after_inlet, after_abort, resumed}
 use Rattle.cilk_model.specs.Event as event
 use Rattle.cilk_model.specs.Event.{Event}
-use Rattle.cilk_model.specs.Change.{at_boundary, passes, next_child, has_room, head_effect, after_start, after_effect, received_at, after_delivery, after_abort}
 
 pub data Step : Type 0 where
   -- it cannot go on as things stand
@@ -24,40 +24,75 @@ pub data Step : Type 0 where
   -- it is live after the step, and so is this new child
   spawns : (child : Path) (state : State) (did : Event) → Step
 
--- spawn n, whether or not there is room for the child
-abbrev pub step_by_start : Labelled → State → Path → Instance → ℕ → Taker Cell → ℕ → List ℤ → Bool → Step
-step_by_start program s p i n taker callee arguments true =
-    spawns (next_child p i) (after_start program s p i n taker callee arguments true) (event.spawned (next_child p i) n)
-step_by_start program s p i n taker callee arguments false =
-    goes_on (after_start program s p i n taker callee arguments false) (event.trapped instances p n)
+abbrev pub traps : State → Path → ℕ → Kind → Step
+traps s p n kind = goes_on (stopped s p n kind) (event.trapped kind p n)
 
--- action n came to this
+-- where there is room, this; else the trap
+abbrev pub if_room : State → Path → ℕ → Kind → Bool → Step → Step
+if_room s p n kind true step = step
+if_room s p n kind false step = traps s p n kind
+
+-- a C function is left with z, for its caller's place (C 1990, 6.6.6.4)
+abbrev pub step_by_combined : State → Path → Instance → ℕ → Cell → Result ℤ Trap → Step
+step_by_combined s p i n cell (Ok y) = goes_on (after_answer s p i cell y) (event.acted p n)
+step_by_combined s p i n cell (Err trap) = traps s p n (of_value trap)
+
+abbrev pub step_by_answer : State → Path → Instance → ℕ → Option Reached → ℤ → Step
+step_by_answer s p i n None z = goes_on (after_leaving s p i) (event.acted p n)
+step_by_answer s p i n (Some reached) z =
+    step_by_combined s p i n reached.cell (combined reached.op (read_at (store_of s p (resumed i)) reached.cell) z)
+
+-- a body is left: of the procedure, of a C function, of an inlet
+abbrev pub step_by_leaving : Labelled → State → Path → Instance → ℕ → ℤ → Step
+step_by_leaving program s p i n z =
+    if is_empty i.below then ends (after_return s p i z) (event.returned p n)
+    else (if leaves_function program i then step_by_answer s p i n i.top.awaits z
+    else goes_on (after_leaving s p i) (event.acted p n))
+
+abbrev pub step_by_turn : State → Path → Instance → ℕ → ℕ → Turn → Step
+step_by_turn s p i n k blocked = waits
+step_by_turn s p i n k refused = traps s p n lock
+step_by_turn s p i n k (turned now) = goes_on (after_lock s p i k now) (event.acted p n)
+
+-- action n came to this; 256 activations, 65,536 live instances, 4,294,967,295 children of one and 1,048,576 bytes of output are the most
 abbrev pub step_by_effect : Labelled → State → Path → Instance → ℕ → Result Effect Trap → Step
-step_by_effect program s p i n (Err trap) =
-    goes_on (after_effect program s p i n (Err trap)) (event.trapped (of_value trap) p n)
-step_by_effect program s p i n (Ok (writes cell z)) = goes_on (after_effect program s p i n (Ok (writes cell z))) (event.acted p n)
-step_by_effect program s p i n (Ok (gives z)) = ends (after_effect program s p i n (Ok (gives z))) (event.returned p n)
-step_by_effect program s p i n (Ok goes_by) = goes_on (after_effect program s p i n (Ok goes_by)) (event.acted p n)
-step_by_effect program s p i n (Ok (starts taker callee arguments)) =
-    step_by_start program s p i n taker callee arguments (has_room s i)
+step_by_effect program s p i n (Err trap) = traps s p n (of_value trap)
+step_by_effect program s p i n (Ok (writes cell z)) = goes_on (after_write s p i cell z) (event.acted p n)
+step_by_effect program s p i n (Ok (answers answer)) = goes_on (after_going s p i answer) (event.acted p n)
+step_by_effect program s p i n (Ok (enters awaits callee zs)) =
+    if_room s p n depth (nat_lt (length i.below) 255) (goes_on (after_call program s p i awaits callee zs) (event.acted p n))
+step_by_effect program s p i n (Ok (gives z)) = step_by_leaving program s p i n z
+step_by_effect program s p i n (Ok (starts receiver callee zs)) =
+    if_room s p n instances (nat_lt (length s.instances) 65536 && nat_lt i.children (2 ^ 32 - 1))
+    (spawns (child_path p (i.children + 1)) (after_start program s p i receiver callee zs) (event.spawned (child_path p (i.children + 1)) n))
+step_by_effect program s p i n (Ok (writes_out bytes)) =
+    if_room s p n output (nat_le (length s.output + length bytes) 1048576) (goes_on (after_print s p i bytes) (event.acted p n))
+step_by_effect program s p i n (Ok (turns what k)) = step_by_turn s p i n k (turn_of s p what k)
+step_by_effect program s p i n (Ok marks) = goes_on (after_marks s p i) (event.acted p n)
 
-abbrev pub step_by_head : Labelled → State → Path → Instance → Option Head → Step
+-- a lock may not be held where a thread ends; the procedure may have to wait for its children (Cilk 5.4 manual, `sync`, locks)
+abbrev pub step_by_head : Labelled → State → Path → Instance → Option Numbered → Step
 step_by_head program s p i None = waits
 step_by_head program s p i (Some head) =
-    if passes s p i head then step_by_effect program s p i head.number (head_effect s p i head) else parks
+    if ends_thread program i head.act && holds_lock s p then traps s p head.number held_lock
+    else (if waits_here i head.act && not (is_synched s p i) then parks
+    else step_by_effect program s p i head.number (effect_of (environment (store_of s p i)) head.number head.act))
 
-abbrev pub spawn_of : Receiver → ℕ
-spawn_of (place op cell n) = n
+abbrev pub step_by_place : State → Path → Instance → List Delivery → Path → Reached → ℕ → Result ℤ Trap → Step
+step_by_place s p i others c reached n (Err trap) = traps s p n (of_value trap)
+step_by_place s p i others c reached n (Ok y) = goes_on (after_place s p i others reached.cell y) (event.delivered c n)
 
-abbrev pub delivery_event : Path → Delivery → Result ℤ Trap → Event
-delivery_event p delivery (Err trap) = event.trapped (of_value trap) p (spawn_of delivery.receiver)
-delivery_event p delivery (Ok z) = event.delivered delivery.child (spawn_of delivery.receiver)
+-- a delivery is taken, and the others still wait
+abbrev pub step_by_receiver : Labelled → State → Path → Instance → List Delivery → Path → ℤ → Receiver → Step
+step_by_receiver program s p i others c z (place reached n) =
+    step_by_place s p i others c reached n (combined reached.op (read_at (store_of s p i) reached.cell) z)
+step_by_receiver program s p i others c z (through inlet ys n) =
+    goes_on (after_inlet program s p i others inlet (z ∷ ys)) (event.delivered c n)
 
 -- at a boundary the oldest delivery comes first, and before the head
 abbrev pub step_at_boundary : Labelled → State → Path → Instance → List Delivery → Step
 step_at_boundary program s p i [] = step_by_head program s p i (head_of i.top.items)
-step_at_boundary program s p i (oldest ∷ others) =
-    goes_on (after_delivery program s p i oldest others) (delivery_event p oldest (received_at s p i oldest.receiver oldest.value))
+step_at_boundary program s p i (oldest ∷ others) = step_by_receiver program s p i others oldest.child oldest.value oldest.receiver
 
 -- an aborted instance only ends, after its children
 abbrev pub step_of_aborted : State → Path → Step

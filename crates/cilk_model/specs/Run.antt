@@ -1,10 +1,10 @@
 -- Which choices are possible, what they do, and where a list of them leads.
 use Rattle.std.specs.Prelude.{ℕ, Bool, true, false, not, ◌&&◌, ◌||◌, ◌==◌, nat_le, if◌then◌else◌, List, [], ◌∷◌, ◌++◌, length, Option, Some, None, is_some, is_none}
-use Rattle.cilk_model.specs.Labelled.{Labelled}
+use Rattle.cilk_labelled.specs.Labelled.{Labelled}
 use Rattle.cilk_model.specs.Path.{Path}
 use Rattle.cilk_model.specs.State.{Outcome, running, finished, trapped, State, opening_state}
 use Rattle.cilk_model.specs.Event.{Event, moved}
-use Rattle.cilk_model.specs.Change.{is_empty}
+use Rattle.cilk_model.specs.State.{is_empty}
 use Rattle.cilk_model.specs.Pick.{Step, waits, parks, goes_on, ends, spawns, step_of}
 use Rattle.cilk_model.specs.Scheduler.{Place, Scheduler, hand_of, deque_of, popped, stolen, after_step, opening_scheduler}
 use Rattle.cilk_model.specs.Choice.{Act, step, pop, steal, Choice, Refusal, over, no_worker, hand_empty, busy, deque_empty, waiting}

@@ -1,76 +1,33 @@
 -- Where the instances are: each worker has at most one in its hand, and a deque of others (Cilk 5.4 manual, work stealing).
-use Rattle.std.specs.Prelude.{ℕ, ◌-◌, Bool, false, not, ◌&&◌, ◌||◌, if◌then◌else◌, List, [], ◌∷◌, ◌++◌, Option, Some, None, slice_index_or, slice_set, replicate}
+use Rattle.std.specs.Prelude.{ℕ, Bool, false, not, ◌&&◌, ◌||◌, if◌then◌else◌, List, [], Option, Some, None, replicate}
+use Rattle.cilk_model.specs.Places.{PlaceOf, popped_by, stolen_by, pushed_by}
 use Rattle.cilk_model.specs.Path.{Path, same_path, parent_of}
 use Rattle.cilk_model.specs.Instance.{Instance}
 use Rattle.cilk_model.specs.State.{Instances, instance_at, has_live_child}
-use Rattle.cilk_model.specs.Change.{is_empty}
+use Rattle.cilk_model.specs.State.{is_empty}
 use Rattle.cilk_model.specs.Pick.{Step, waits, parks, goes_on, ends, spawns}
+pub use Rattle.cilk_model.specs.Places.{no_place, place_of, hand_of, deque_of, with_hand, with_deque, top_of, below_top, bottom_of, above_bottom}
 
--- a worker's hand, and its deque from top to bottom
-pub record Place : Type 0 where
-  pub hand : Option Path
-  pub deque : List Path
+-- what one worker has of the instances
+abbrev pub Place : Type 0
+Place = PlaceOf Path
 
 -- the places of the workers from worker 1 on, and which instances are parked
 pub record Scheduler : Type 0 where
   pub places : List Place
   pub parked : Path → Bool
 
-abbrev pub no_place : Place
-no_place = record { hand = None; deque = [] }
-
--- workers are numbered from 1
-abbrev pub place_of : List Place → ℕ → Place
-place_of places w = slice_index_or places (w - 1) no_place
-
-abbrev pub hand_of : List Place → ℕ → Option Path
-hand_of places w = (place_of places w).hand
-
-abbrev pub deque_of : List Place → ℕ → List Path
-deque_of places w = (place_of places w).deque
-
-abbrev pub with_hand : List Place → ℕ → Option Path → List Place
-with_hand places w hand = slice_set places (w - 1) (record { hand = hand; deque = deque_of places w })
-
-abbrev pub with_deque : List Place → ℕ → List Path → List Place
-with_deque places w deque = slice_set places (w - 1) (record { hand = hand_of places w; deque = deque })
-
--- the ends of a deque, and what is left of it
-abbrev pub top_of : List Path → Option Path
-top_of [] = None
-top_of (p ∷ deque) = Some p
-
-abbrev pub below_top : List Path → List Path
-below_top [] = []
-below_top (p ∷ deque) = deque
-
-abbrev pub bottom_of : List Path → Option Path
-bottom_of [] = None
-bottom_of (p ∷ []) = Some p
-bottom_of (p ∷ q ∷ deque) = bottom_of (q ∷ deque)
-
-abbrev pub above_bottom : List Path → List Path
-above_bottom [] = []
-above_bottom (p ∷ []) = []
-above_bottom (p ∷ q ∷ deque) = p ∷ above_bottom (q ∷ deque)
-
 -- the bottom of w's own deque comes to its hand
 abbrev pub popped : Scheduler → ℕ → Scheduler
-popped sched w = record sched {
-  places = with_hand (with_deque sched.places w (above_bottom (deque_of sched.places w))) w (bottom_of (deque_of sched.places w));
-}
+popped sched w = record sched { places = popped_by sched.places w }
 
 -- the top of v's deque comes to w's hand
 abbrev pub stolen : Scheduler → ℕ → ℕ → Scheduler
-stolen sched w v = record sched {
-  places = with_hand (with_deque sched.places v (below_top (deque_of sched.places v))) w (top_of (deque_of sched.places v));
-}
+stolen sched w v = record sched { places = stolen_by sched.places w v }
 
 -- p leaves w's hand for the bottom of its deque, and c comes to the hand
 abbrev pub pushed : Scheduler → ℕ → Path → Path → Scheduler
-pushed sched w p c = record sched {
-  places = with_hand (with_deque sched.places w (deque_of sched.places w ++ p ∷ [])) w (Some c);
-}
+pushed sched w p c = record sched { places = pushed_by sched.places w p c }
 
 -- p leaves w's hand and is parked
 abbrev pub parked_from : Scheduler → ℕ → Path → Scheduler

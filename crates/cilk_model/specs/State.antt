@@ -1,11 +1,11 @@
 -- The state of a program that runs.
-use Rattle.std.specs.Prelude.{ℕ, ℤ, Bool, not, List, [], ◌∷◌, map, replicate, length, Option, Some, None, is_some, if◌then◌else◌, filter}
+use Rattle.std.specs.Prelude.{ℕ, ℤ, Bool, true, false, not, ◌&&◌, slice_index_or, List, [], ◌∷◌, map, replicate, length, Option, Some, None, is_some, if◌then◌else◌, filter}
 use Rattle.std.specs.List.{list_any}
-use Rattle.cilk_eval.specs.declared.trap.Trap.{Trap}
-use Rattle.cilk_model.specs.Labelled.{Labelled}
-use Rattle.cilk_model.specs.Values.{Values, initial_values}
+use Rattle.cilk_values.specs.declared.trap.Trap.{Trap}
+use Rattle.cilk_labelled.specs.Labelled.{Labelled}
+use Rattle.cilk_model.specs.Values.{Values, Store, initial_values}
 use Rattle.cilk_model.specs.Path.{Path, same_path, is_child}
-use Rattle.cilk_model.specs.Instance.{Instance, started}
+use Rattle.cilk_model.specs.Instance.{Instance, started, outer_values}
 
 -- why a program is stopped
 pub data Kind : Type 0 where
@@ -83,3 +83,23 @@ opening_state program main = record {
   outcome = running;
   instances = record { path = []; instance = started program main [] } ∷ [];
 }
+
+abbrev pub is_empty : {A : Type 0} → List A → Bool
+is_empty [] = true
+is_empty (x ∷ xs) = false
+
+-- nothing to wait for: no live child, and no delivery that waits (Cilk 5.4 manual, `SYNCHED`)
+abbrev pub is_synched : State → Path → Instance → Bool
+is_synched s p i = not (has_live_child s.instances p) && is_empty i.waiting
+
+-- what the top activation sees
+abbrev pub store_of : State → Path → Instance → Store
+store_of s p i = record {
+  own = i.top.values;
+  outer = outer_values i.below;
+  globals = s.globals;
+  synched = is_synched s p i;
+}
+
+abbrev pub lock_at : State → ℕ → Lock
+lock_at s k = slice_index_or s.locks k unset

@@ -1,97 +1,121 @@
--- The trees of some small programs that spawn, and one of them labelled.
-use Rattle.std.specs.Prelude.{ℕ, negsuc, List, [], ◌∷◌, codes, Some, None}
-use Rattle.cilk_core.specs.Tree.{Word, Expr, number, named, binary, Decl, nothing, into, Stmt, assign, spawn_at, sync_at, return_at, Stmts, none, also, block, Item, procedure, global, Program}
-use Rattle.cilk_core.specs.declared.operator.BinOp.TheVariants.{Multiply, Add}
-use Rattle.cilk_core.specs.declared.return_type.ReturnType.{ReturnType}
-use Rattle.cilk_core.specs.declared.return_type.ReturnType.TheVariants.{Int, Void}
-use Rattle.cilk_eval.specs.Term as term
-use Rattle.cilk_model.specs.Declaration.{local}
-use Rattle.cilk_model.specs.Labelled as labelled
-use Rattle.cilk_model.specs.Labelled.{Labelled, action, variable}
-use Rattle.cilk_model.specs.Rows.{word, cell_named, body_named, own, shared}
+-- Worked programs.
+use Rattle.std.specs.Prelude.{ℕ, true, List, [], ◌∷◌, Option, Some, None, codes}
+use Rattle.cilk_syntax.specs.declared.operator.BinOp.TheVariants.{Add, Less, Equal}
+use Rattle.cilk_syntax.specs.declared.adjustment.Adjustment.TheVariants.{Increment}
+use Rattle.cilk_syntax.specs.declared.lock_action.LockAction.TheVariants.{Init, Lock, Unlock}
+use Rattle.cilk_syntax.specs.declared.return_type.ReturnType.{ReturnType}
+use Rattle.cilk_syntax.specs.declared.return_type.ReturnType.TheVariants.{Int, Void}
+use Rattle.cilk_syntax.specs.Tree as tree
+use Rattle.cilk_syntax.specs.Tree.{Word, Expr, number, named, binary, Target, Place, Local, declared, inlet_at, Stmt, stmts_of, locals_of, Block, block, Item, Program}
+
+abbrev pub word : List ℕ → Word
+word text = record { text = text; place = 0 }
 
 abbrev pub name : List ℕ → Expr
 name text = named (word text)
 
-abbrev pub assigned : List ℕ → Expr → Stmt
-assigned text value = assign (record { name = word text }) value
+abbrev pub target : List ℕ → Target
+target text = record { place = record { name = word text; index = None }; op = None }
 
-abbrev pub returned : Expr → Stmt
-returned value = return_at 0 (Some value)
+abbrev pub assigns : List ℕ → Expr → Stmt
+assigns text e = tree.move (tree.assign (target text) e)
 
-abbrev pub adds_spawned : List ℕ → List ℕ → Stmt
-adds_spawned text callee = spawn_at 0 (into (Some Add) (record { name = word text })) (word callee) []
+abbrev pub int : List ℕ → Option Expr → Local
+int text value = declared (record { name = word text; shape = tree.variable value })
 
-abbrev pub stmts : List Stmt → Stmts
-stmts [] = none
-stmts (first ∷ others) = also first (stmts others)
+abbrev pub returns : Expr → Stmt
+returns e = tree.return_at 0 (Some e)
 
-abbrev pub procedure_named : ReturnType → List ℕ → List Word → List Decl → List Stmt → Item
-procedure_named returns text parameters decls body =
-    procedure (record { returns = returns; name = word text; parameters = parameters; body = block decls (stmts body) })
+abbrev pub spawns : List ℕ → Stmt
+spawns callee = tree.spawn_at 0 tree.nothing (word callee) []
 
-abbrev pub program_of : List Item → Program
-program_of items = record { items = items; length = 0 }
+abbrev pub procedure : ReturnType → List ℕ → List Word → List Local → List Stmt → Item
+procedure what text parameters locals stmts = tree.procedure (record {
+  is_cilk = true;
+  returns = what;
+  name = word text;
+  parameters = tree.ints parameters;
+  body = block (locals_of locals) (stmts_of stmts);
+})
+
+abbrev pub global : List ℕ → Item
+global text = tree.global (record { name = word text; shape = tree.global_variable None })
+
+abbrev pub program : List Item → Program
+program items = record { headers = []; items = items; length = 0 }
 
 -- int g; cilk void inc(void) { int t; t = g; g = t + 1; } cilk int main(void) { spawn inc(); spawn inc(); sync; return g; }
-abbrev pub counting_program : Program
-counting_program = program_of (
-    global (record { name = word (codes "g"); value = None })
-    ∷ procedure_named Void (codes "inc") [] (record { name = word (codes "t"); value = None } ∷ [])
-    (assigned (codes "t") (name (codes "g")) ∷ assigned (codes "g") (binary Add (name (codes "t")) (number 1)) ∷ [])
-    ∷ procedure_named Int (codes "main") [] []
-    (spawn_at 0 nothing (word (codes "inc")) [] ∷ spawn_at 0 nothing (word (codes "inc")) [] ∷ sync_at 0 ∷ returned (name (codes "g")) ∷ [])
-    ∷ []
-    )
+abbrev pub counting : Program
+counting = program
+    (global (codes "g")
+    ∷ procedure Void (codes "inc") [] (int (codes "t") None ∷ [])
+    (assigns (codes "t") (name (codes "g")) ∷ assigns (codes "g") (binary Add (name (codes "t")) (number 1)) ∷ [])
+    ∷ procedure Int (codes "main") [] []
+    (spawns (codes "inc") ∷ spawns (codes "inc") ∷ tree.sync_at 0 ∷ returns (name (codes "g")) ∷ []) ∷ [])
 
--- cilk int f(void) { return 5; } cilk int main(void) { int x = 1; x += spawn f(); x = x * 2; x = x * 2; sync; return x; }
-abbrev pub doubling_program : Program
-doubling_program =
-    let twice = assigned (codes "x") (binary Multiply (name (codes "x")) (number 2)) in
-    program_of (
-    procedure_named Int (codes "f") [] [] (returned (number 5) ∷ [])
-    ∷ procedure_named Int (codes "main") [] (record { name = word (codes "x"); value = Some (number 1) } ∷ [])
-    (adds_spawned (codes "x") (codes "f") ∷ twice ∷ twice ∷ sync_at 0 ∷ returned (name (codes "x")) ∷ [])
-    ∷ []
-    )
+abbrev pub takes : ℕ → Stmt
+takes n = tree.spawn_at 0 (tree.through (word (codes "take")) []) (word (codes "look")) (number n ∷ [])
 
--- cilk int f(void) { return 2147483647; } cilk int main(void) { int x = 1; x += spawn f(); sync; return x; }
-abbrev pub passing_program : Program
-passing_program = program_of (
-    procedure_named Int (codes "f") [] [] (returned (number 2147483647) ∷ [])
-    ∷ procedure_named Int (codes "main") [] (record { name = word (codes "x"); value = Some (number 1) } ∷ [])
-    (adds_spawned (codes "x") (codes "f") ∷ sync_at 0 ∷ returned (name (codes "x")) ∷ [])
-    ∷ []
-    )
+-- int done; cilk int look(int v) { printf("%d\n", v); done = done + 1; return v; }
+-- cilk int main(void) { int best = 0; inlet void take(int v) { best = v; abort; } take(spawn look(1)); take(spawn look(2)); sync; return best; }
+abbrev pub first_of_two : Program
+first_of_two = program (global (codes "done")
+    ∷ procedure Int (codes "look") (word (codes "v") ∷ []) []
+    (tree.print (record { bytes = codes "%d\n"; place = 0 }) (name (codes "v") ∷ [])
+    ∷ assigns (codes "done") (binary Add (name (codes "done")) (number 1)) ∷ returns (name (codes "v")) ∷ [])
+    ∷ procedure Int (codes "main") []
+    (int (codes "best") (Some (number 0))
+    ∷ inlet_at 0 (word (codes "take")) (word (codes "v") ∷ [])
+    (block tree.no_locals (stmts_of (assigns (codes "best") (name (codes "v")) ∷ tree.abort_at 0 ∷ []))) ∷ [])
+    (takes 1 ∷ takes 2 ∷ tree.sync_at 0 ∷ returns (name (codes "best")) ∷ []) ∷ [])
 
--- int g = -7; cilk int main(void) { int x; x = spawn sum(x, g); return x; } int x; cilk int sum(int a, int b) { return a + x; }
-abbrev pub hiding_program : Program
-hiding_program = program_of (
-    global (record { name = word (codes "g"); value = Some (negsuc 6) })
-    ∷ procedure_named Int (codes "main") [] (record { name = word (codes "x"); value = None } ∷ [])
-    (spawn_at 0 (into None (record { name = word (codes "x") })) (word (codes "sum")) (name (codes "x") ∷ name (codes "g") ∷ []) ∷ returned (name (codes "x")) ∷ [])
-    ∷ global (record { name = word (codes "x"); value = None })
-    ∷ procedure_named Int (codes "sum") (word (codes "a") ∷ word (codes "b") ∷ []) []
-    (returned (binary Add (name (codes "a")) (name (codes "x"))) ∷ [])
-    ∷ []
-    )
+abbrev pub locks : List ℕ → Stmt
+locks text = tree.locking Lock (word text)
 
-abbrev pub hiding : Labelled
-hiding = record {
-  bodies =
-      body_named (codes "main") (cell_named (codes "x") ∷ []) 3
-      (labelled.also (action 1 (labelled.spawn (labelled.into None (variable (local 0))) 1 (own 0 ∷ shared 0 ∷ [])))
-      (labelled.also (action 2 (labelled.return_with (own 0))) labelled.none))
-      ∷ record {
-        name = codes "sum";
-        parameters = 2;
-        variables = cell_named (codes "a") ∷ cell_named (codes "b") ∷ [];
-        stmts = labelled.also (action 4 (labelled.return_with (term.binary Add (own 0) (shared 1)))) labelled.none;
-        closing = 5;
-      }
-      ∷ [];
-  globals = record { name = codes "g"; length = 0; initial = negsuc 6 } ∷ cell_named (codes "x") ∷ [];
-  locks = [];
-  main = Some 0;
-  lines = 4 ∷ 5 ∷ 6 ∷ 9 ∷ 10 ∷ [];
-}
+abbrev pub unlocks : List ℕ → Stmt
+unlocks text = tree.locking Unlock (word text)
+
+abbrev pub inits : List ℕ → Stmt
+inits text = tree.locking Init (word text)
+
+-- Cilk_lockvar l; int g; cilk void add(void) { Cilk_lock(l); g++; Cilk_unlock(l); } cilk int main(void) { Cilk_lock_init(l); spawn add(); spawn add(); sync; return g; }
+abbrev pub adding : Program
+adding = program (tree.lock (word (codes "l")) ∷ global (codes "g")
+    ∷ procedure Void (codes "add") [] []
+    (locks (codes "l") ∷ tree.move (tree.adjust (record { name = word (codes "g"); index = None }) Increment) ∷ unlocks (codes "l") ∷ [])
+    ∷ procedure Int (codes "main") [] []
+    (inits (codes "l") ∷ spawns (codes "add") ∷ spawns (codes "add") ∷ tree.sync_at 0 ∷ returns (name (codes "g")) ∷ []) ∷ [])
+
+-- Cilk_lockvar l; cilk void f(void) { } cilk int main(void) { Cilk_lock_init(l); Cilk_lock(l); spawn f(); return 0; }
+abbrev pub holding : Program
+holding = program (tree.lock (word (codes "l")) ∷ procedure Void (codes "f") [] [] []
+    ∷ procedure Int (codes "main") [] []
+    (inits (codes "l") ∷ locks (codes "l") ∷ spawns (codes "f") ∷ returns (number 0) ∷ []) ∷ [])
+
+-- cilk void f(void) { } cilk int main(void) { int s; spawn f(); s = SYNCHED; sync; return s; }
+abbrev pub asking : Program
+asking = program (procedure Void (codes "f") [] [] []
+    ∷ procedure Int (codes "main") [] (int (codes "s") None ∷ [])
+    (spawns (codes "f") ∷ assigns (codes "s") (tree.synched 0) ∷ tree.sync_at 0 ∷ returns (name (codes "s")) ∷ []) ∷ [])
+
+-- the locks a and b are taken in this order
+abbrev pub taking : List ℕ → List ℕ → List ℕ → Item
+taking text a b = procedure Void text [] [] (locks a ∷ locks b ∷ unlocks b ∷ unlocks a ∷ [])
+
+-- Cilk_lockvar a, b; two procedures that take them in two orders, and a `main` that spawns both
+abbrev pub crossing : Program
+crossing = program (tree.lock (word (codes "a")) ∷ tree.lock (word (codes "b"))
+    ∷ taking (codes "p") (codes "a") (codes "b") ∷ taking (codes "q") (codes "b") (codes "a")
+    ∷ procedure Int (codes "main") [] []
+    (inits (codes "a") ∷ inits (codes "b") ∷ spawns (codes "p") ∷ spawns (codes "q") ∷ tree.sync_at 0 ∷ returns (number 0) ∷ []) ∷ [])
+
+-- cilk int main(void) { int i, s = 0; for (i = 0; i < 5; i++) { if (i == 3) continue; s += i; } return s; }
+abbrev pub summing : Program
+summing = program (procedure Int (codes "main") []
+    (int (codes "i") None ∷ int (codes "s") (Some (number 0)) ∷ [])
+    (tree.loop (Some (tree.assign (target (codes "i")) (number 0))) (binary Less (name (codes "i")) (number 5))
+    (Some (tree.adjust (record { name = word (codes "i"); index = None }) Increment))
+    (block tree.no_locals (stmts_of
+    (tree.when (binary Equal (name (codes "i")) (number 3)) (block tree.no_locals (stmts_of (tree.continue_at 0 ∷ [])))
+    ∷ tree.move (tree.assign (record { place = record { name = word (codes "s"); index = None }; op = Some Add }) (name (codes "i"))) ∷ [])))
+    ∷ returns (name (codes "s")) ∷ []) ∷ [])

@@ -1,8 +1,11 @@
--- What the variables hold.
-use Rattle.std.specs.Prelude.{ℕ, ℤ, pos, Bool, List, [], map, length, max, replicate, slice_index_or, slice_set}
-use Rattle.cilk_eval.specs.Value.{Environment}
-use Rattle.cilk_model.specs.Declaration.{Declaration, local, global, unknown}
-use Rattle.cilk_model.specs.Labelled.{Variable}
+-- What the variables hold, and which cell a place is.
+use Rattle.std.specs.Prelude.{ℕ, ℤ, pos, negsuc, Bool, List, [], map, length, max, replicate, nat_lt, if◌then◌else◌, slice_index_or, Option, Some, None, Result, Ok, Err}
+use Rattle.cilk_syntax.specs.declared.operator.BinOp.{BinOp}
+use Rattle.cilk_values.specs.declared.trap.Trap.{Trap}
+use Rattle.cilk_values.specs.declared.trap.Trap.TheVariants.{Index}
+use Rattle.cilk_values.specs.Arithmetic.{binary_result}
+use Rattle.cilk_values.specs.Value.{Environment, value_of, ◌>>=◌}
+use Rattle.cilk_labelled.specs.Labelled.{Declaration, local, outer, global, of_lock, of_body, unknown, Variable, Target, variable, element, Into}
 
 -- the cells of each variable, in the order of the declarations: a variable that is no array has one
 abbrev pub Values : Type 0
@@ -12,23 +15,19 @@ Values = List (List ℤ)
 abbrev pub initial_values : List Variable → Values
 initial_values variables = map (λ v. replicate (max v.length 1) v.initial) variables
 
--- one cell
-abbrev pub value_at : Values → ℕ → ℕ → ℤ
-value_at values n k = slice_index_or (slice_index_or values n []) k (pos 0)
-
--- the values with z in one cell
-abbrev pub with_value : Values → ℕ → ℕ → ℤ → Values
-with_value values n k z = slice_set values n (slice_set (slice_index_or values n []) k z)
-
--- what an activation sees: the values of its own body and of the top level, and whether the instance has nothing to wait for
+-- what an activation sees: the values of its own body, of its procedure and of the top level, and whether the instance has nothing to wait for
 pub record Store : Type 0 where
   pub own : Values
+  pub outer : Values
   pub globals : Values
   pub synched : Bool
 
 abbrev pub cells_of : Store → Declaration → List ℤ
 cells_of store (local n) = slice_index_or store.own n []
+cells_of store (outer n) = slice_index_or store.outer n []
 cells_of store (global n) = slice_index_or store.globals n []
+cells_of store (of_lock n) = []
+cells_of store (of_body n) = []
 cells_of store unknown = []
 
 abbrev pub cell_of : Store → Declaration → ℕ → ℤ
@@ -51,11 +50,30 @@ pub record Cell : Type 0 where
 abbrev pub read_at : Store → Cell → ℤ
 read_at store cell = cell_of store cell.place cell.index
 
-abbrev pub written_at : Store → Declaration → ℕ → ℤ → Store
-written_at store (local n) k z = record store { own = with_value store.own n k z }
-written_at store (global n) k z = record store { globals = with_value store.globals n k z }
-written_at store unknown k z = store
+-- a cell that was reached, and the operator that is applied to it
+pub record Reached : Type 0 where
+  pub op : Option BinOp
+  pub cell : Cell
 
--- the store with z in the cell (C 1990, 6.3.16)
-abbrev pub written : Store → Cell → ℤ → Store
-written store cell z = written_at store cell.place cell.index z
+-- element k, where the array has it (C 1990, 6.3.2.1)
+abbrev pub element_cell : Environment Declaration → Declaration → ℤ → Result Cell Trap
+element_cell env d (pos k) = if nat_lt k (env.length d) then Ok (record { place = d; index = k }) else Err Index
+element_cell env d (negsuc k) = Err Index
+
+-- the cell that a target is: its subscript is evaluated, and its range is tested
+abbrev pub cell_at : Environment Declaration → Target → Result Cell Trap
+cell_at env (variable d) = Ok (record { place = d; index = 0 })
+cell_at env (element d subscript) = value_of env subscript >>= element_cell env d
+
+abbrev pub reached_at : Environment Declaration → Into → Result Reached Trap
+reached_at env place = cell_at env place.target >>= λ cell. Ok (record { op = place.op; cell = cell })
+
+-- of what may be missing
+abbrev pub reached_if : Environment Declaration → Option Into → Result (Option Reached) Trap
+reached_if env None = Ok None
+reached_if env (Some place) = reached_at env place >>= λ reached. Ok (Some reached)
+
+-- what an assignment makes of the old value and the new one (C 1990, 6.3.16; Cilk 5.4 manual, `spawn`)
+abbrev pub combined : Option BinOp → ℤ → ℤ → Result ℤ Trap
+combined None old z = Ok z
+combined (Some op) old z = binary_result op old z

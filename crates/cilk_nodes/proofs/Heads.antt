@@ -10,7 +10,7 @@ use Rattle.cilk_labelled.specs.Labelled.{Body, Labelled, Numbered, Stmt, action,
 use Rattle.cilk_labelled.specs.Items.{Items, pieces, plain_round, open_stmt, open_stmts, opened, head_of, reached}
 use Rattle.cilk_labelled.specs.Bodies.{label, file_names}
 use Rattle.cilk_labelled.specs.Count.{count_items, count_program}
-use Rattle.cilk_runs.specs.Instance.{body_at, no_body}
+use Rattle.cilk_model.specs.Instance.{body_at, no_body}
 use Rattle.cilk_nodes.specs.declared.body.Body as table
 use Rattle.cilk_nodes.specs.declared.node.Node.{Node}
 use Rattle.cilk_nodes.specs.Slots.{slot_of}

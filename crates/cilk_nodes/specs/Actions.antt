@@ -1,7 +1,7 @@
 -- Actions with slots in place of declarations.
 use Rattle.std.specs.Prelude.{Option, Some, None, map, option_map}
 use Rattle.cilk_values.specs.Term.{rename}
-use Rattle.cilk_terms.specs.declared.slot.Slot.{Slot}
+use Rattle.cilk_eval.specs.declared.slot.Slot.{Slot}
 use Rattle.cilk_labelled.specs.Labelled.{Declaration}
 use Rattle.cilk_labelled.specs.Labelled as labelled
 use Rattle.cilk_nodes.specs.declared.place.Place.{Place}

@@ -5,7 +5,7 @@ use Rattle.cilk_check.specs.Fault.{WellFormed}
 use Rattle.cilk_labelled.specs.Bodies.{label}
 use Rattle.cilk_labelled.specs.Count.{count_program}
 use Rattle.cilk_labelled.specs.Items.{Items, reached}
-use Rattle.cilk_runs.specs.Instance.{body_at}
+use Rattle.cilk_model.specs.Instance.{body_at}
 use Rattle.cilk_nodes.specs.declared.body.Body.{Body}
 use Rattle.cilk_nodes.specs.declared.node.Node.{Node}
 use Rattle.cilk_nodes.specs.Table.{number_of, node_at, node_of, successor}

@@ -2,12 +2,12 @@
 use Rattle.std.specs.Prelude.{ℕ, zero, suc, ◌+◌, ℤ, Bool, true, false, if◌then◌else◌, max, List, [], ◌∷◌, ◌++◌}
 use Rattle.cilk_scopes.specs.declared.owner.Owner.{Owner}
 use Rattle.cilk_scopes.specs.declared.owner.Owner.TheVariants.{Function, Procedure, Inlet}
-use Rattle.cilk_terms.specs.declared.area.Area.{Area}
-use Rattle.cilk_terms.specs.declared.area.Area.TheVariants.{Own, Outer, Global}
-use Rattle.cilk_terms.specs.declared.slot.Slot.{Slot}
+use Rattle.cilk_eval.specs.declared.area.Area.{Area}
+use Rattle.cilk_eval.specs.declared.area.Area.TheVariants.{Own, Outer, Global}
+use Rattle.cilk_eval.specs.declared.slot.Slot.{Slot}
 use Rattle.cilk_labelled.specs.Labelled.{Declaration, local, outer, global, of_lock, of_body, unknown, Variable, Labelled}
-use Rattle.cilk_runs.specs.Values.{Values}
-use Rattle.cilk_runs.specs.Instance.{body_at}
+use Rattle.cilk_model.specs.Values.{Values}
+use Rattle.cilk_model.specs.Instance.{body_at}
 
 -- how many cells a variable has: one, if it is no array
 abbrev pub size_of : Variable → ℕ

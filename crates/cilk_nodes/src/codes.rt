@@ -1,6 +1,6 @@
 ghost use Rattle.std.specs.Prelude.{◌≡◌};
 
-use cilk_terms::Code;
+use cilk_eval::Code;
 use std::marker::Model;
 
 /// Arguments from left to right, which contracts see as a list.
@@ -13,8 +13,8 @@ impl Model for Codes {
     ghost use Rattle.std.specs.Prelude.{List};
     ghost use Rattle.std.specs.Coded.{coded_list};
     ghost use Rattle.cilk_values.specs.Term.{Term};
-    ghost use Rattle.cilk_terms.specs.Coding.{coded_Term};
-    ghost use Rattle.cilk_terms.specs.declared.slot.Slot.{Slot};
+    ghost use Rattle.cilk_eval.specs.Coding.{coded_Term};
+    ghost use Rattle.cilk_eval.specs.declared.slot.Slot.{Slot};
 
     ghost Value = { List (Term Slot) };
 

@@ -3,7 +3,7 @@
 ghost use Rattle.cilk_nodes.specs.Laws.{HeadsTellLists, NoHeadTellsEnd, NumbersAreWithin, NodesStandForLists, SuccessorsStandForNext, EntriesStandForStarts};
 ghost use Rattle.cilk_nodes.specs.Laws.{BodiesHaveTables, TablesHaveBodies};
 ghost use Rattle.std.specs.Prelude.{◌≡◌, [], ◌∷◌, Some, None, map};
-ghost use Rattle.cilk_terms.specs.declared.area.Area.TheVariants.{Own, Outer};
+ghost use Rattle.cilk_eval.specs.declared.area.Area.TheVariants.{Own, Outer};
 ghost use Rattle.cilk_labelled.specs.Bodies.{label};
 ghost use Rattle.cilk_labelled.specs.Labelled.{local, outer};
 ghost use Rattle.cilk_labelled.specs.Rows.{fib_program};

@@ -1,4 +1,4 @@
-use cilk_terms::{Code, Slot};
+use cilk_eval::{Code, Slot};
 
 /// A variable, or an element of an array (C 1990, 6.3.2.1).
 #[derive(Drop)]

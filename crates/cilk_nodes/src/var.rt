@@ -1,5 +1,5 @@
 use crate::name::Name;
-use cilk_terms::Slot;
+use cilk_eval::Slot;
 
 /// A variable, and where it lies.
 #[derive(Drop)]

@@ -3,12 +3,12 @@ use Rattle.std.proofs.Common.{◌≡◌, ℕ, zero, suc, ◌-◌, Bool, true, fa
 use Rattle.std.specs.Prelude.{slice_index_or}
 use Rattle.std.proofs.lemmas.List.{length-replicate, length-set}
 use Rattle.cilk_labelled.specs.Labelled.{Labelled}
-use Rattle.cilk_runs.specs.Path.{Path, same_path, parent_of}
-use Rattle.cilk_runs.specs.State.{Instances}
-use Rattle.cilk_runs.specs.Pick.{Step, waits, parks, goes_on, ends, spawns, step_of}
-use Rattle.cilk_runs.specs.Scheduler.{Place, Scheduler, no_place, hand_of, deque_of, with_hand, with_deque, bottom_of, can_go_on, woken, with_empty_hand, after_step}
-use Rattle.cilk_runs.specs.Choice.{Act, step, pop, steal, Choice}
-use Rattle.cilk_runs.specs.Run.{Standing, Position, next_by_hand, next_by, after}
+use Rattle.cilk_model.specs.Path.{Path, same_path, parent_of}
+use Rattle.cilk_model.specs.State.{Instances}
+use Rattle.cilk_model.specs.Pick.{Step, waits, parks, goes_on, ends, spawns, step_of}
+use Rattle.cilk_model.specs.Scheduler.{Place, Scheduler, no_place, hand_of, deque_of, with_hand, with_deque, bottom_of, can_go_on, woken, with_empty_hand, after_step}
+use Rattle.cilk_model.specs.Choice.{Act, step, pop, steal, Choice}
+use Rattle.cilk_model.specs.Run.{Standing, Position, next_by_hand, next_by, after}
 use Rattle.cilk_placed.specs.Places.{line_of}
 use Rattle.cilk_placed.specs.Laws.{OneWorkerHasOneLeaf}
 use Rattle.cilk_placed.proofs.Runs.{at_each}

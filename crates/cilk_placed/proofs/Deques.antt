@@ -5,12 +5,12 @@ use Rattle.std.proofs.lemmas.Bool.{cases_eq, eqb-false}
 use Rattle.std.proofs.lemmas.List.{length-replicate}
 use Rattle.std.proofs.lemmas.List.Sums.{sum_by-cons}
 use Rattle.cilk_labelled.specs.Labelled.{Labelled}
-use Rattle.cilk_runs.specs.Path.{Path, same_path, parent_of, is_that, is_child}
-use Rattle.cilk_runs.specs.State.{State, is_live}
-use Rattle.cilk_runs.specs.Pick.{Step, waits, parks, goes_on, ends, spawns, step_of}
-use Rattle.cilk_runs.specs.Scheduler.{Place, no_place, place_of, hand_of, deque_of, with_hand, with_deque, top_of, below_top, bottom_of, above_bottom, can_go_on, woken, with_empty_hand}
-use Rattle.cilk_runs.specs.Choice.{Act, step, pop, steal}
-use Rattle.cilk_runs.specs.Run.{Standing, is_worker, act_refusal, stepped, next_by_hand, next_by, opening}
+use Rattle.cilk_model.specs.Path.{Path, same_path, parent_of, is_that, is_child}
+use Rattle.cilk_model.specs.State.{State, is_live}
+use Rattle.cilk_model.specs.Pick.{Step, waits, parks, goes_on, ends, spawns, step_of}
+use Rattle.cilk_model.specs.Scheduler.{Place, no_place, place_of, hand_of, deque_of, with_hand, with_deque, top_of, below_top, bottom_of, above_bottom, can_go_on, woken, with_empty_hand}
+use Rattle.cilk_model.specs.Choice.{Act, step, pop, steal}
+use Rattle.cilk_model.specs.Run.{Standing, is_worker, act_refusal, stepped, next_by_hand, next_by, opening}
 use Rattle.cilk_placed.specs.Places.{Descends, in_hand, line_of}
 use Rattle.cilk_placed.proofs.Stuck.{within}
 use Rattle.cilk_placed.proofs.Entries.{same-sym}

@@ -2,16 +2,16 @@
 use Rattle.std.proofs.Common.{◌≡◌, ℕ, ℤ, ◌^◌, ◌+◌, ◌-◌, ◌<◌, Bool, true, false, not, cond, List, [], ◌∷◌, ◌++◌, map, length, Option, Some, None, refl, sym, subst, if◌then◌else◌, arith}
 use Rattle.cilk_labelled.specs.Labelled.{Labelled, Numbered}
 use Rattle.cilk_labelled.specs.Items.{head_of}
-use Rattle.cilk_runs.specs.Values.{Cell, Reached}
-use Rattle.cilk_runs.specs.Path.{Path, same_path, child_path, parent_of, is_below}
-use Rattle.cilk_runs.specs.Instance as instance
-use Rattle.cilk_runs.specs.Instance.{Activation, Receiver, Delivery, Instance, started}
-use Rattle.cilk_runs.specs.State.{Entry, Instances, State, instance_at, changed, without, is_empty}
-use Rattle.cilk_runs.specs.Change.{leaves, gone_on, put, above, resumed, mark, after_return_to}
-use Rattle.cilk_runs.specs.Pick.{Step, step_of_live}
-use Rattle.cilk_runs.specs.Scheduler.{hand_of}
-use Rattle.cilk_runs.specs.Choice.{Act, step, pop, steal, Choice}
-use Rattle.cilk_runs.specs.Run.{Standing, Position, state_after, next_by_hand, next_by, after}
+use Rattle.cilk_model.specs.Values.{Cell, Reached}
+use Rattle.cilk_model.specs.Path.{Path, same_path, child_path, parent_of, is_below}
+use Rattle.cilk_model.specs.Instance as instance
+use Rattle.cilk_model.specs.Instance.{Activation, Receiver, Delivery, Instance, started}
+use Rattle.cilk_model.specs.State.{Entry, Instances, State, instance_at, changed, without, is_empty}
+use Rattle.cilk_model.specs.Change.{leaves, gone_on, put, above, resumed, mark, after_return_to}
+use Rattle.cilk_model.specs.Pick.{Step, step_of_live}
+use Rattle.cilk_model.specs.Scheduler.{hand_of}
+use Rattle.cilk_model.specs.Choice.{Act, step, pop, steal, Choice}
+use Rattle.cilk_model.specs.Run.{Standing, Position, state_after, next_by_hand, next_by, after}
 use Rattle.cilk_placed.proofs.Entries.{same-is}
 use Rattle.cilk_placed.proofs.Runs.{at_each}
 use Rattle.cilk_placed.proofs.Rows.{Heads, Row, headless, locked, parked, stopping, going, writing, calling, leaving, answering, spawning, printing, turning, marking, returning, placing, taking, aborting, step_row}

@@ -3,9 +3,9 @@ use Rattle.std.proofs.Common.{◌≡◌, ℕ, ◌+◌, Bool, true, false, not, �
 use Rattle.std.specs.Prelude.{option_map}
 use Rattle.std.proofs.lemmas.List.Sums.{sum_by-cons, sum_by-append}
 use Rattle.std.proofs.lemmas.Slice.Eq.{bytes_eq-Decides}
-use Rattle.cilk_runs.specs.Path.{Path, same_path}
-use Rattle.cilk_runs.specs.Instance.{Instance}
-use Rattle.cilk_runs.specs.State.{Entry, Instances, instance_at, is_live, change, changed, without}
+use Rattle.cilk_model.specs.Path.{Path, same_path}
+use Rattle.cilk_model.specs.Instance.{Instance}
+use Rattle.cilk_model.specs.State.{Entry, Instances, instance_at, is_live, change, changed, without}
 
 pub same-is : (p q : Path) → same_path p q ≡ true → p ≡ q
 same-is p q = (bytes_eq-Decides p q).0

@@ -1,11 +1,11 @@
 -- The parent of a live child lives, and has counted it.
 use Rattle.std.proofs.Common.{◌≡◌, ℕ, ◌+◌, ◌≤◌, Bool, true, false, not, ◌&&◌, ◌||◌, [], ◌∷◌, Option, Some, None, is_some, refl, sym, ap, ◌∙◌, if◌then◌else◌, arith}
 use Rattle.std.specs.Prelude.{option_map}
-use Rattle.cilk_runs.specs.Path.{Path, same_path, child_path, parent_of, is_that, is_child}
-use Rattle.cilk_runs.specs.Instance.{Instance}
-use Rattle.cilk_runs.specs.State.{Entry, Instances, State, instance_at, is_live, has_live_child}
-use Rattle.cilk_runs.specs.Pick.{Step, waits, parks, goes_on, ends, spawns}
-use Rattle.cilk_runs.specs.Run.{state_after}
+use Rattle.cilk_model.specs.Path.{Path, same_path, child_path, parent_of, is_that, is_child}
+use Rattle.cilk_model.specs.Instance.{Instance}
+use Rattle.cilk_model.specs.State.{Entry, Instances, State, instance_at, is_live, has_live_child}
+use Rattle.cilk_model.specs.Pick.{Step, waits, parks, goes_on, ends, spawns}
+use Rattle.cilk_model.specs.Run.{state_after}
 use Rattle.cilk_placed.specs.Family.{Counted, ChildrenAreCounted}
 use Rattle.cilk_placed.proofs.Entries.{same-is, same-self, live-cons, children_at}
 use Rattle.cilk_placed.proofs.Live.{Alike, Fewer, More, Lives, Waited}

@@ -3,10 +3,10 @@ use Rattle.std.proofs.Common.{◌≡◌, ℕ, zero, suc, ◌+◌, ◌-◌, ◌<�
 use Rattle.std.specs.Prelude.{slice_index_or}
 use Rattle.std.specs.List.{list_any}
 use Rattle.std.proofs.lemmas.List.Sums.{sum_by-cons}
-use Rattle.cilk_runs.specs.Path.{Path, is_that}
-use Rattle.cilk_runs.specs.State.{Entry, Instances, is_live, has_live_child}
-use Rattle.cilk_runs.specs.Scheduler.{Place, no_place, bottom_of}
-use Rattle.cilk_runs.specs.Run.{Standing}
+use Rattle.cilk_model.specs.Path.{Path, is_that}
+use Rattle.cilk_model.specs.State.{Entry, Instances, is_live, has_live_child}
+use Rattle.cilk_model.specs.Scheduler.{Place, no_place, bottom_of}
+use Rattle.cilk_model.specs.Run.{Standing}
 use Rattle.cilk_placed.specs.Family.{PathsAreApart}
 use Rattle.cilk_placed.specs.Places.{line_of, EachInItsPlace}
 use Rattle.cilk_placed.specs.Laws.{NoMoreLeavesThanWorkers}

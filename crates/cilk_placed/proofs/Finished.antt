@@ -2,14 +2,14 @@
 use Rattle.std.proofs.Common.{◌≡◌, ℕ, zero, suc, ◌+◌, ◌≤◌, ℤ, Bool, true, false, not, ◌&&◌, List, [], ◌∷◌, length, length-append, Option, Some, None, ◌⊎◌, inl, inr, refl, sym, ap, ◌∙◌, arith}
 use Rattle.std.specs.Prelude.{option_map}
 use Rattle.cilk_labelled.specs.Labelled.{Labelled}
-use Rattle.cilk_runs.specs.Path.{Path, same_path, child_path, parent_of, is_child}
-use Rattle.cilk_runs.specs.Instance.{Instance}
-use Rattle.cilk_runs.specs.State.{Instances, State, running, finished, instance_at, is_live, has_live_child}
-use Rattle.cilk_runs.specs.Change.{after_return_to}
-use Rattle.cilk_runs.specs.Pick.{Step, step_of_live}
-use Rattle.cilk_runs.specs.Scheduler.{hand_of}
-use Rattle.cilk_runs.specs.Choice.{Act, step, pop, steal, Choice}
-use Rattle.cilk_runs.specs.Run.{Standing, Position, state_after, next_by_hand, next_by, after}
+use Rattle.cilk_model.specs.Path.{Path, same_path, child_path, parent_of, is_child}
+use Rattle.cilk_model.specs.Instance.{Instance}
+use Rattle.cilk_model.specs.State.{Instances, State, running, finished, instance_at, is_live, has_live_child}
+use Rattle.cilk_model.specs.Change.{after_return_to}
+use Rattle.cilk_model.specs.Pick.{Step, step_of_live}
+use Rattle.cilk_model.specs.Scheduler.{hand_of}
+use Rattle.cilk_model.specs.Choice.{Act, step, pop, steal, Choice}
+use Rattle.cilk_model.specs.Run.{Standing, Position, state_after, next_by_hand, next_by, after}
 use Rattle.cilk_placed.specs.Places.{EachInItsPlace}
 use Rattle.cilk_placed.specs.Laws.{FinishedIsEmpty}
 use Rattle.cilk_placed.proofs.Runs.{at_each}

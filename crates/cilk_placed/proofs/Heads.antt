@@ -6,9 +6,9 @@ use Rattle.std.proofs.lemmas.Bool.{and_parts}
 use Rattle.std.proofs.lemmas.List.Elements.{All-nil, All-cons}
 use Rattle.cilk_labelled.specs.Labelled.{Labelled, Body}
 use Rattle.cilk_labelled.specs.Items.{head_of}
-use Rattle.cilk_runs.specs.Values.{Values}
-use Rattle.cilk_runs.specs.Instance.{Activation, Instance, no_body, body_at}
-use Rattle.cilk_runs.specs.Change.{on_lowest, resumed_to}
+use Rattle.cilk_model.specs.Values.{Values}
+use Rattle.cilk_model.specs.Instance.{Activation, Instance, no_body, body_at}
+use Rattle.cilk_model.specs.Change.{on_lowest, resumed_to}
 use Rattle.cilk_placed.specs.Loops.{body_fits, breaks_fit}
 use Rattle.cilk_placed.specs.Laws.{EachHasHead}
 use Rattle.cilk_placed.proofs.Items.{GoesOn, next_goes_on, start_goes_on}

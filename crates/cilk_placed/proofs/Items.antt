@@ -3,7 +3,7 @@ use Rattle.std.proofs.Common.{◌≡◌, ◌≢◌, Bool, true, false, ◌&&◌,
 use Rattle.std.proofs.lemmas.Bool.{and_parts}
 use Rattle.cilk_labelled.specs.Labelled.{Action, assign, call, spawn, print, locking, null, break_off, go_round, tests, sync, abort, return_with, return_nothing, close, Numbered, Stmt, action, choose, while, repeat, loop, nested, Stmts, none, also, Body}
 use Rattle.cilk_labelled.specs.Items.{Round, Item, piece, at_test, at_advance, Items, pieces, plain_round, open_stmt, open_stmts, opened, head_of, past_mark, from_mark, after_action, next_mark, after_stmt, after_test, next, start_items}
-use Rattle.cilk_runs.specs.Change.{leaves}
+use Rattle.cilk_model.specs.Change.{leaves}
 use Rattle.cilk_placed.specs.Loops.{may_stand, stmt_fits, stmts_fit}
 
 -- whether a loop is being run, whose mark stands among the items

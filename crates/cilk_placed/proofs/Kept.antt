@@ -4,12 +4,12 @@ use Rattle.std.proofs.lemmas.List.{length-replicate}
 use Rattle.std.proofs.lemmas.Bool.{and_parts, leb-true}
 use Rattle.std.proofs.lemmas.List.Sums.{sum_by-cons}
 use Rattle.cilk_labelled.specs.Labelled.{Labelled}
-use Rattle.cilk_runs.specs.Path.{Path, same_path}
-use Rattle.cilk_runs.specs.Instance.{Instance, started}
-use Rattle.cilk_runs.specs.State.{is_live, opening_state}
-use Rattle.cilk_runs.specs.Scheduler.{no_place, hand_of}
-use Rattle.cilk_runs.specs.Choice.{Choice}
-use Rattle.cilk_runs.specs.Run.{Standing, Position, refusal_of, next_of, opening, is_crew, after}
+use Rattle.cilk_model.specs.Path.{Path, same_path}
+use Rattle.cilk_model.specs.Instance.{Instance, started}
+use Rattle.cilk_model.specs.State.{is_live, opening_state}
+use Rattle.cilk_model.specs.Scheduler.{no_place, hand_of}
+use Rattle.cilk_model.specs.Choice.{Choice}
+use Rattle.cilk_model.specs.Run.{Standing, Position, refusal_of, next_of, opening, is_crew, after}
 use Rattle.cilk_placed.specs.Places.{times_held, EachInItsPlace}
 use Rattle.cilk_placed.specs.Laws.{PlacesAreKept}
 use Rattle.cilk_placed.proofs.Entries.{same-sym, times-cons}

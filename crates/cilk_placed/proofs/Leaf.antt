@@ -1,8 +1,8 @@
 -- Below each live instance there is one without a live child.
 use Rattle.std.proofs.Common.{◌≡◌, ℕ, zero, suc, ◌+◌, ◌≤◌, Bool, true, false, ◌||◌, [], ◌∷◌, length, Option, Some, None, refl, sym, ap, ◌∙◌, arith}
 use Rattle.std.specs.Prelude.{option_map}
-use Rattle.cilk_runs.specs.Path.{Path, same_path, parent_of, is_that}
-use Rattle.cilk_runs.specs.State.{Entry, Instances, is_live, has_live_child}
+use Rattle.cilk_model.specs.Path.{Path, same_path, parent_of, is_that}
+use Rattle.cilk_model.specs.State.{Entry, Instances, is_live, has_live_child}
 use Rattle.cilk_placed.proofs.Entries.{same-is, live-cons}
 use Rattle.cilk_placed.proofs.Parked.{live_child}
 

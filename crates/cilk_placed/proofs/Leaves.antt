@@ -3,10 +3,10 @@ use Rattle.std.proofs.Common.{◌≡◌, ℕ, suc, ◌+◌, ◌-◌, ◌<◌, �
 use Rattle.std.specs.Prelude.{slice_index_or}
 use Rattle.std.proofs.lemmas.Bool.{cases_lt}
 use Rattle.std.proofs.lemmas.List.Sums.{sum_by-cons, sum_by-append}
-use Rattle.cilk_runs.specs.Path.{Path, same_path, is_that, is_child}
-use Rattle.cilk_runs.specs.State.{is_live, has_live_child}
-use Rattle.cilk_runs.specs.Scheduler.{Place, no_place, place_of, hand_of, bottom_of}
-use Rattle.cilk_runs.specs.Run.{Standing, is_worker}
+use Rattle.cilk_model.specs.Path.{Path, same_path, is_that, is_child}
+use Rattle.cilk_model.specs.State.{is_live, has_live_child}
+use Rattle.cilk_model.specs.Scheduler.{Place, no_place, place_of, hand_of, bottom_of}
+use Rattle.cilk_model.specs.Run.{Standing, is_worker}
 use Rattle.cilk_placed.specs.Places.{times_held, EachInItsPlace, Descends, in_hand, line_of}
 use Rattle.cilk_placed.specs.Laws.{EachLeafIsBusy}
 use Rattle.cilk_placed.proofs.Stuck.{within}

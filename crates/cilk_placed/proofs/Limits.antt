@@ -1,15 +1,15 @@
 -- No limit is passed.
 use Rattle.std.proofs.Common.{◌≡◌, ℕ, ℤ, ◌^◌, ◌-◌, ◌≤◌, List, [], ◌∷◌, length, length-append, Option, Some, None, refl, arith}
 use Rattle.cilk_labelled.specs.Labelled.{Labelled}
-use Rattle.cilk_runs.specs.Values.{Values, Cell}
-use Rattle.cilk_runs.specs.Path.{Path, parent_of}
-use Rattle.cilk_runs.specs.Instance.{Activation, Instance}
-use Rattle.cilk_runs.specs.State.{State, instance_at}
-use Rattle.cilk_runs.specs.Change.{outer_with, on_lowest, put, resumed_to, after_return_to}
-use Rattle.cilk_runs.specs.Pick.{Step, waits, parks, goes_on, ends, spawns, step_of_live, step_of}
-use Rattle.cilk_runs.specs.Scheduler.{hand_of}
-use Rattle.cilk_runs.specs.Choice.{Act, step, pop, steal, Choice}
-use Rattle.cilk_runs.specs.Run.{Standing, Position, state_after, next_by_hand, next_by, after}
+use Rattle.cilk_model.specs.Values.{Values, Cell}
+use Rattle.cilk_model.specs.Path.{Path, parent_of}
+use Rattle.cilk_model.specs.Instance.{Activation, Instance}
+use Rattle.cilk_model.specs.State.{State, instance_at}
+use Rattle.cilk_model.specs.Change.{outer_with, on_lowest, put, resumed_to, after_return_to}
+use Rattle.cilk_model.specs.Pick.{Step, waits, parks, goes_on, ends, spawns, step_of_live, step_of}
+use Rattle.cilk_model.specs.Scheduler.{hand_of}
+use Rattle.cilk_model.specs.Choice.{Act, step, pop, steal, Choice}
+use Rattle.cilk_model.specs.Run.{Standing, Position, state_after, next_by_hand, next_by, after}
 use Rattle.cilk_placed.specs.Laws.{LimitsAreKept}
 use Rattle.cilk_placed.proofs.Runs.{at_each}
 use Rattle.cilk_placed.proofs.Rows.{Row, headless, locked, parked, stopping, going, writing, calling, leaving, answering, spawning, printing, turning, marking, returning, placing, taking, aborting, step_row}

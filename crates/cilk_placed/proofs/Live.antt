@@ -4,11 +4,11 @@ use Rattle.std.specs.Prelude.{option_map}
 use Rattle.std.proofs.lemmas.List.Sums.{length-filter, count_by-le-length}
 use Rattle.std.proofs.lemmas.List.{length-map}
 use Rattle.cilk_labelled.specs.Labelled.{Labelled}
-use Rattle.cilk_runs.specs.Path.{Path, same_path, child_path, parent_of, is_below}
-use Rattle.cilk_runs.specs.Instance.{Activation, Instance, entered}
-use Rattle.cilk_runs.specs.State.{Entry, Instances, State, instance_at, is_live, change, changed, without, has_live_child}
-use Rattle.cilk_runs.specs.Change.{gone_on, put, above, resumed_to, resumed, mark, after_return_to}
-use Rattle.cilk_runs.specs.Pick.{Step, waits, parks, goes_on, ends, spawns, step_of_live, step_of}
+use Rattle.cilk_model.specs.Path.{Path, same_path, child_path, parent_of, is_below}
+use Rattle.cilk_model.specs.Instance.{Activation, Instance, entered}
+use Rattle.cilk_model.specs.State.{Entry, Instances, State, instance_at, is_live, change, changed, without, has_live_child}
+use Rattle.cilk_model.specs.Change.{gone_on, put, above, resumed_to, resumed, mark, after_return_to}
+use Rattle.cilk_model.specs.Pick.{Step, waits, parks, goes_on, ends, spawns, step_of_live, step_of}
 use Rattle.cilk_placed.proofs.Entries.{times, live-cons, times-cons, live-changed, times-changed, live-without, times-without, children_at, children-changed, at-changed_same, at-changed_other, at-without_other, either_of, at-push, live-push, times-push, live_some}
 use Rattle.cilk_placed.proofs.Rows.{Row, headless, locked, parked, stopping, going, writing, calling, leaving, answering, spawning, printing, turning, marking, returning, placing, taking, aborting, step_row}
 

@@ -6,14 +6,14 @@ use Rattle.cilk_syntax.specs.declared.lock_action.LockAction.{LockAction}
 use Rattle.cilk_syntax.specs.declared.lock_action.LockAction.TheVariants.{Init, Unlock}
 use Rattle.cilk_syntax.specs.declared.lock_action.LockAction.TheVariants as action
 use Rattle.cilk_labelled.specs.Labelled.{Labelled}
-use Rattle.cilk_runs.specs.Path.{Path, same_path, parent_of}
-use Rattle.cilk_runs.specs.Instance.{Instance}
-use Rattle.cilk_runs.specs.State.{Lock, unset, free, held, State, instance_at, is_live, lock_at}
-use Rattle.cilk_runs.specs.Change.{turned, refused, blocked, turn_by, is_held_by, released, after_return_to}
-use Rattle.cilk_runs.specs.Pick.{Step, step_of_live}
-use Rattle.cilk_runs.specs.Scheduler.{hand_of}
-use Rattle.cilk_runs.specs.Choice.{Act, step, pop, steal}
-use Rattle.cilk_runs.specs.Run.{Standing, state_after, next_by_hand, next_by}
+use Rattle.cilk_model.specs.Path.{Path, same_path, parent_of}
+use Rattle.cilk_model.specs.Instance.{Instance}
+use Rattle.cilk_model.specs.State.{Lock, unset, free, held, State, instance_at, is_live, lock_at}
+use Rattle.cilk_model.specs.Change.{turned, refused, blocked, turn_by, is_held_by, released, after_return_to}
+use Rattle.cilk_model.specs.Pick.{Step, step_of_live}
+use Rattle.cilk_model.specs.Scheduler.{hand_of}
+use Rattle.cilk_model.specs.Choice.{Act, step, pop, steal}
+use Rattle.cilk_model.specs.Run.{Standing, state_after, next_by_hand, next_by}
 use Rattle.cilk_placed.specs.Locks.{HoldersLive, EachHolderLives}
 use Rattle.cilk_placed.proofs.Entries.{same-is, same-self}
 use Rattle.cilk_placed.proofs.Runs.{at_each}

@@ -1,12 +1,12 @@
 -- Each instance that is parked has a live child.
 use Rattle.std.proofs.Common.{◌≡◌, ℕ, Bool, true, false, not, ◌&&◌, ◌||◌, [], ◌∷◌, Option, Some, None, refl, sym, ap, ◌∙◌, if◌then◌else◌}
 use Rattle.cilk_labelled.specs.Labelled.{Labelled}
-use Rattle.cilk_runs.specs.Path.{Path, same_path, parent_of, is_that, is_child}
-use Rattle.cilk_runs.specs.State.{Entry, Instances, State, instance_at, is_live, has_live_child}
-use Rattle.cilk_runs.specs.Pick.{Step, waits, parks, goes_on, ends, spawns, step_of}
-use Rattle.cilk_runs.specs.Scheduler.{Scheduler, hand_of, with_hand, can_take, can_go_on, woken, with_empty_hand}
-use Rattle.cilk_runs.specs.Choice.{Act, step, pop, steal}
-use Rattle.cilk_runs.specs.Run.{Standing, stepped, next_by_hand, next_by, opening}
+use Rattle.cilk_model.specs.Path.{Path, same_path, parent_of, is_that, is_child}
+use Rattle.cilk_model.specs.State.{Entry, Instances, State, instance_at, is_live, has_live_child}
+use Rattle.cilk_model.specs.Pick.{Step, waits, parks, goes_on, ends, spawns, step_of}
+use Rattle.cilk_model.specs.Scheduler.{Scheduler, hand_of, with_hand, can_take, can_go_on, woken, with_empty_hand}
+use Rattle.cilk_model.specs.Choice.{Act, step, pop, steal}
+use Rattle.cilk_model.specs.Run.{Standing, stepped, next_by_hand, next_by, opening}
 use Rattle.cilk_placed.proofs.Entries.{same-is, same-self, live-cons}
 use Rattle.cilk_placed.proofs.Live.{Alike, Fewer, More, Lives, step_lives, Waited, step_waited}
 use Rattle.cilk_placed.proofs.Family.{child_seen}

@@ -1,14 +1,14 @@
 -- The root lives as long as the program runs: no `abort` marks it.
 use Rattle.std.proofs.Common.{◌≡◌, ℕ, ℤ, Bool, true, false, not, ◌&&◌, ◌||◌, List, [], ◌∷◌, Option, Some, None, refl, sym, ap, ◌∙◌}
 use Rattle.cilk_labelled.specs.Labelled.{Labelled}
-use Rattle.cilk_runs.specs.Path.{Path, same_path, parent_of, is_below}
-use Rattle.cilk_runs.specs.Instance.{Activation, Instance}
-use Rattle.cilk_runs.specs.State.{State, running, instance_at, is_live}
-use Rattle.cilk_runs.specs.Change.{resumed_to, after_return_to}
-use Rattle.cilk_runs.specs.Pick.{Step, waits, parks, goes_on, ends, spawns, step_of_live, step_of}
-use Rattle.cilk_runs.specs.Scheduler.{hand_of}
-use Rattle.cilk_runs.specs.Choice.{Act, step, pop, steal, Choice}
-use Rattle.cilk_runs.specs.Run.{Standing, Position, state_after, next_by_hand, next_by, after}
+use Rattle.cilk_model.specs.Path.{Path, same_path, parent_of, is_below}
+use Rattle.cilk_model.specs.Instance.{Activation, Instance}
+use Rattle.cilk_model.specs.State.{State, running, instance_at, is_live}
+use Rattle.cilk_model.specs.Change.{resumed_to, after_return_to}
+use Rattle.cilk_model.specs.Pick.{Step, waits, parks, goes_on, ends, spawns, step_of_live, step_of}
+use Rattle.cilk_model.specs.Scheduler.{hand_of}
+use Rattle.cilk_model.specs.Choice.{Act, step, pop, steal, Choice}
+use Rattle.cilk_model.specs.Run.{Standing, Position, state_after, next_by_hand, next_by, after}
 use Rattle.cilk_placed.proofs.Entries.{same-is}
 use Rattle.cilk_placed.proofs.Runs.{at_each}
 use Rattle.cilk_placed.proofs.Possible.{possible}

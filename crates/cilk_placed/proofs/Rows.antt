@@ -9,15 +9,15 @@ use Rattle.cilk_values.specs.Term.{Term}
 use Rattle.cilk_values.specs.Value.{Environment, value_of, values_of, ◌>>=◌}
 use Rattle.cilk_labelled.specs.Labelled.{Labelled, Numbered, Declaration, Taker, nothing, into, through, Action, assign, call, spawn, print, locking, null, break_off, go_round, tests, sync, abort, return_with, return_nothing, close}
 use Rattle.cilk_labelled.specs.Items.{head_of}
-use Rattle.cilk_runs.specs.Values.{Cell, Reached, environment, read_at, reached_at, reached_if, combined}
-use Rattle.cilk_runs.specs.Effect.{Effect, writes, answers, enters, gives, starts, writes_out, turns, marks, start_of, effect_of}
-use Rattle.cilk_runs.specs.Path.{Path, same_path, child_path}
-use Rattle.cilk_runs.specs.Instance as instance
-use Rattle.cilk_runs.specs.Instance.{Receiver, place, Delivery, Instance}
-use Rattle.cilk_runs.specs.State.{Kind, Lock, unset, free, held, State, has_live_child, is_synched, store_of, is_empty, lock_at}
-use Rattle.cilk_runs.specs.Change.{Turn, turned, refused, blocked, turn_by, turn_of, leaves, is_sync, waits_here, head_waits, at_boundary, ends_thread, holds_lock, leaves_function, resumed, after_write, after_going, after_call, after_leaving, after_answer, after_start, after_print, after_lock, after_marks, after_return, after_place, after_inlet, after_abort}
-use Rattle.cilk_runs.specs.Event as event
-use Rattle.cilk_runs.specs.Pick.{Step, waits, parks, goes_on, ends, spawns, traps, if_room, step_by_combined, step_by_answer, step_by_leaving, step_by_turn, step_by_effect, step_by_head, step_by_place, step_by_receiver, step_at_boundary, step_of_instance}
+use Rattle.cilk_model.specs.Values.{Cell, Reached, environment, read_at, reached_at, reached_if, combined}
+use Rattle.cilk_model.specs.Effect.{Effect, writes, answers, enters, gives, starts, writes_out, turns, marks, start_of, effect_of}
+use Rattle.cilk_model.specs.Path.{Path, same_path, child_path}
+use Rattle.cilk_model.specs.Instance as instance
+use Rattle.cilk_model.specs.Instance.{Receiver, place, Delivery, Instance}
+use Rattle.cilk_model.specs.State.{Kind, Lock, unset, free, held, State, has_live_child, is_synched, store_of, is_empty, lock_at}
+use Rattle.cilk_model.specs.Change.{Turn, turned, refused, blocked, turn_by, turn_of, leaves, is_sync, waits_here, head_waits, at_boundary, ends_thread, holds_lock, leaves_function, resumed, after_write, after_going, after_call, after_leaving, after_answer, after_start, after_print, after_lock, after_marks, after_return, after_place, after_inlet, after_abort}
+use Rattle.cilk_model.specs.Event as event
+use Rattle.cilk_model.specs.Pick.{Step, waits, parks, goes_on, ends, spawns, traps, if_room, step_by_combined, step_by_answer, step_by_leaving, step_by_turn, step_by_effect, step_by_head, step_by_place, step_by_receiver, step_at_boundary, step_of_instance}
 
 -- what an effect tells of its action
 abbrev Tells : Action → Result Effect Trap → Type 0

@@ -3,10 +3,10 @@ use Rattle.std.proofs.Common.{◌≡◌, ◌≢◌, inl, inr, ℕ, zero, suc, �
 use Rattle.std.specs.List.{list_all}
 use Rattle.std.proofs.lemmas.Bool.{and_parts, and_from, leb-true, cases_eq}
 use Rattle.cilk_labelled.specs.Labelled.{Labelled}
-use Rattle.cilk_runs.specs.Scheduler.{Place}
-use Rattle.cilk_runs.specs.Choice.{Act, step, pop, steal, Choice, Refusal, no_worker}
-use Rattle.cilk_runs.specs.Run.{Standing, is_running, is_worker, act_refusal, refusal_of}
-use Rattle.cilk_runs.specs.End.{numbers, choices_of, choices_below, all_choices}
+use Rattle.cilk_model.specs.Scheduler.{Place}
+use Rattle.cilk_model.specs.Choice.{Act, step, pop, steal, Choice, Refusal, no_worker}
+use Rattle.cilk_model.specs.Run.{Standing, is_running, is_worker, act_refusal, refusal_of}
+use Rattle.cilk_model.specs.End.{numbers, choices_of, choices_below, all_choices}
 use Rattle.cilk_placed.specs.Laws.{StuckExactly}
 use Rattle.cilk_placed.proofs.Possible.{possible, is_running-true}
 

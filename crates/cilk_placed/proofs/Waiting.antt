@@ -3,13 +3,13 @@ use Rattle.std.proofs.Common.{◌≡◌, ◌≢◌, ℕ, ◌≤◌, nat_le, Bool
 use Rattle.std.proofs.lemmas.Bool.{and_from, le-leb}
 use Rattle.cilk_labelled.specs.Labelled.{Labelled}
 use Rattle.cilk_labelled.specs.Items.{head_of}
-use Rattle.cilk_runs.specs.Path.{Path, same_path}
-use Rattle.cilk_runs.specs.Instance.{Instance}
-use Rattle.cilk_runs.specs.State.{State, running, instance_at, is_live, is_empty}
-use Rattle.cilk_runs.specs.Pick.{Step, waits, parks, goes_on, ends, spawns, step_of_live, step_of}
-use Rattle.cilk_runs.specs.Scheduler.{Place, place_of, hand_of, deque_of, bottom_of}
-use Rattle.cilk_runs.specs.Choice.{Act, step, pop, Refusal, over, no_worker, busy, deque_empty, waiting}
-use Rattle.cilk_runs.specs.Run.{Standing, is_running, is_worker, waits_now, step_refusal, pop_refusal, act_refusal, refusal_of}
+use Rattle.cilk_model.specs.Path.{Path, same_path}
+use Rattle.cilk_model.specs.Instance.{Instance}
+use Rattle.cilk_model.specs.State.{State, running, instance_at, is_live, is_empty}
+use Rattle.cilk_model.specs.Pick.{Step, waits, parks, goes_on, ends, spawns, step_of_live, step_of}
+use Rattle.cilk_model.specs.Scheduler.{Place, place_of, hand_of, deque_of, bottom_of}
+use Rattle.cilk_model.specs.Choice.{Act, step, pop, Refusal, over, no_worker, busy, deque_empty, waiting}
+use Rattle.cilk_model.specs.Run.{Standing, is_running, is_worker, waits_now, step_refusal, pop_refusal, act_refusal, refusal_of}
 use Rattle.cilk_placed.specs.Places.{in_hand, line_of, EachInItsPlace}
 use Rattle.cilk_placed.specs.Locks.{HoldersLive, WaitsForLock}
 use Rattle.cilk_placed.specs.Laws.{SomeChoiceIsPossible, StuckOnLocks}

@@ -1,8 +1,8 @@
 -- The live instances as a family: their paths are apart, and each child has a live parent that has counted it.
 use Rattle.std.specs.Prelude.{◌≡◌, ◌≤◌, ℕ, true, cond, Some, count_by}
-use Rattle.cilk_runs.specs.Path.{Path, same_path, child_path}
-use Rattle.cilk_runs.specs.Instance.{Instance}
-use Rattle.cilk_runs.specs.State.{Instances, instance_at, is_live}
+use Rattle.cilk_model.specs.Path.{Path, same_path, child_path}
+use Rattle.cilk_model.specs.Instance.{Instance}
+use Rattle.cilk_model.specs.State.{Instances, instance_at, is_live}
 
 -- no two live instances have one path
 abbrev pub PathsAreApart : Instances → Type 0

@@ -1,14 +1,14 @@
 -- What holds of every run.
 use Rattle.std.specs.Prelude.{◌≡◌, ◌≢◌, ◌↔◌, ◌≤◌, ℕ, ◌+◌, ◌-◌, ◌^◌, ℤ, true, false, not, All, List, [], ◌∷◌, ◌++◌, length, Some, None, count_by}
 use Rattle.cilk_labelled.specs.Labelled.{Labelled}
-use Rattle.cilk_runs.specs.Path.{Path}
+use Rattle.cilk_model.specs.Path.{Path}
 use Rattle.cilk_labelled.specs.Items.{head_of}
-use Rattle.cilk_runs.specs.Instance.{Activation, Instance}
-use Rattle.cilk_runs.specs.State.{State, running, finished, held, instance_at, is_live, has_live_child, lock_at}
-use Rattle.cilk_runs.specs.Scheduler.{place_of, bottom_of}
-use Rattle.cilk_runs.specs.Choice.{Choice, step, waiting}
-use Rattle.cilk_runs.specs.Run.{Standing, Position, is_crew, refusal_of, next_of, opening, after, one_more}
-use Rattle.cilk_runs.specs.End.{is_stuck}
+use Rattle.cilk_model.specs.Instance.{Activation, Instance}
+use Rattle.cilk_model.specs.State.{State, running, finished, held, instance_at, is_live, has_live_child, lock_at}
+use Rattle.cilk_model.specs.Scheduler.{place_of, bottom_of}
+use Rattle.cilk_model.specs.Choice.{Choice, step, waiting}
+use Rattle.cilk_model.specs.Run.{Standing, Position, is_crew, refusal_of, next_of, opening, after, one_more}
+use Rattle.cilk_model.specs.End.{is_stuck}
 use Rattle.cilk_placed.specs.Loops.{breaks_fit}
 use Rattle.cilk_placed.specs.Locks.{AllWait}
 use Rattle.cilk_placed.specs.Places.{line_of, EachInItsPlace}

@@ -3,12 +3,12 @@ use Rattle.std.specs.Prelude.{◌≡◌, ◌≢◌, ℕ, true, List, Some}
 use Rattle.cilk_syntax.specs.declared.lock_action.LockAction.TheVariants as action
 use Rattle.cilk_labelled.specs.Labelled.{Labelled, Numbered, locking}
 use Rattle.cilk_labelled.specs.Items.{head_of}
-use Rattle.cilk_runs.specs.Path.{Path}
-use Rattle.cilk_runs.specs.Instance.{Instance}
-use Rattle.cilk_runs.specs.State.{State, held, instance_at, is_live, lock_at}
-use Rattle.cilk_runs.specs.Scheduler.{hand_of}
-use Rattle.cilk_runs.specs.Choice.{Choice}
-use Rattle.cilk_runs.specs.Run.{Standing, Position, is_worker, after}
+use Rattle.cilk_model.specs.Path.{Path}
+use Rattle.cilk_model.specs.Instance.{Instance}
+use Rattle.cilk_model.specs.State.{State, held, instance_at, is_live, lock_at}
+use Rattle.cilk_model.specs.Scheduler.{hand_of}
+use Rattle.cilk_model.specs.Choice.{Choice}
+use Rattle.cilk_model.specs.Run.{Standing, Position, is_worker, after}
 
 abbrev pub HoldersLive : State → Type 0
 HoldersLive s = (k : ℕ) (p : Path) → lock_at s k ≡ held p → is_live s.instances p ≡ true

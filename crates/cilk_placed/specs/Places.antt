@@ -1,9 +1,9 @@
 -- Where the live instances are: each is in one hand, in one deque or parked.
 use Rattle.std.specs.Prelude.{◌≡◌, ℕ, ◌+◌, true, ⊤, cond, List, [], ◌∷◌, ◌++◌, Option, Some, None, sum_by, count_by}
-use Rattle.cilk_runs.specs.Path.{Path, same_path, is_that, is_child}
-use Rattle.cilk_runs.specs.State.{is_live, has_live_child}
-use Rattle.cilk_runs.specs.Scheduler.{Place, Scheduler, place_of}
-use Rattle.cilk_runs.specs.Run.{Standing}
+use Rattle.cilk_model.specs.Path.{Path, same_path, is_that, is_child}
+use Rattle.cilk_model.specs.State.{is_live, has_live_child}
+use Rattle.cilk_model.specs.Scheduler.{Place, Scheduler, place_of}
+use Rattle.cilk_model.specs.Run.{Standing}
 use Rattle.cilk_placed.specs.Family.{IsFamily}
 
 -- how often p stands in a hand, in a deque and among what is parked

@@ -13,17 +13,17 @@ use Rattle.cilk_values.specs.Value.{Environment, values_of}
 use Rattle.cilk_labelled.specs.Labelled.{Declaration, Labelled, Into, Taker, nothing, into, through, Action, assign, call, spawn, print, locking, null, break_off, go_round, tests, sync, abort, return_with, return_nothing, close}
 use Rattle.cilk_labelled.specs.Bodies.{label, is_procedure}
 use Rattle.cilk_heads.specs.Heads.{GoesOn}
-use Rattle.cilk_runs.specs.Values.{Reached, environment}
-use Rattle.cilk_runs.specs.Instance as model
-use Rattle.cilk_runs.specs.Instance.{Instance, body_at}
-use Rattle.cilk_runs.specs.State as state
-use Rattle.cilk_runs.specs.State.{is_empty, store_of}
-use Rattle.cilk_runs.specs.Effect as effect
-use Rattle.cilk_runs.specs.Effect.{effect_of}
-use Rattle.cilk_runs.specs.Change as change
-use Rattle.cilk_runs.specs.Change.{after_call}
-use Rattle.cilk_runs.specs.Event.{acted}
-use Rattle.cilk_runs.specs.Pick.{Step, goes_on, if_room, step_by_effect, step_by_turn, traps}
+use Rattle.cilk_model.specs.Values.{Reached, environment}
+use Rattle.cilk_model.specs.Instance as model
+use Rattle.cilk_model.specs.Instance.{Instance, body_at}
+use Rattle.cilk_model.specs.State as state
+use Rattle.cilk_model.specs.State.{is_empty, store_of}
+use Rattle.cilk_model.specs.Effect as effect
+use Rattle.cilk_model.specs.Effect.{effect_of}
+use Rattle.cilk_model.specs.Change as change
+use Rattle.cilk_model.specs.Change.{after_call}
+use Rattle.cilk_model.specs.Event.{acted}
+use Rattle.cilk_model.specs.Pick.{Step, goes_on, if_room, step_by_effect, step_by_turn, traps}
 use Rattle.cilk_nodes.specs.declared.node.Node.{Node}
 use Rattle.cilk_nodes.specs.declared.action.Action as code
 use Rattle.cilk_nodes.specs.Actions.{slotted_place, slotted_target, slotted_taker, slotted}
@@ -31,8 +31,8 @@ use Rattle.cilk_nodes.specs.Slots.{slot_of, is_inlet, procedure_around}
 use Rattle.cilk_nodes.specs.Table.{node_of}
 use Rattle.cilk_nodes.specs.Bodies.{body_table, body_of}
 use Rattle.cilk_nodes.proofs.Heads.{bodies-have}
-use Rattle.cilk_frames.specs.declared.awaited.Await.{Await}
-use Rattle.cilk_frames.specs.Frames.{depth}
+use Rattle.cilk_frame.specs.declared.awaited.Await.{Await}
+use Rattle.cilk_frame.specs.Frames.{depth}
 use Rattle.cilk_stands.specs.Starts as starts
 use Rattle.cilk_stands.specs.Cells.{HasCell, SameCell}
 use Rattle.cilk_stands.specs.Stands.{AwaitsAt, AwaitsSame, AllInside, bodies_of, lowest_of}
@@ -42,21 +42,21 @@ use Rattle.cilk_sound.specs.Known.{KnownAct, Calls}
 use Rattle.cilk_effects.specs.Slotted.{ReachesCells, slotted_await, slotted_receiver, slotted_effect, slotted_result}
 use Rattle.cilk_effects.proofs.Shapes.{named_by, IsOf, ShapeOf, Awaits, shape, values-count}
 use Rattle.cilk_effects.proofs.Shapes as shapes
-use Rattle.cilk_instances.specs.Nodes.{node_at, is_synched, has_live_child, live_ids}
-use Rattle.cilk_agrees.specs.declared.lock.Lock.{Lock}
-use Rattle.cilk_agrees.specs.Locks.{LockTurn, turned, refused, blocked, turn_among, turn_named}
-use Rattle.cilk_agrees.specs.Outside.{lock_by, LockWithin}
-use Rattle.cilk_agrees.specs.Laws.{Turn, path_of, instance_of}
-use Rattle.cilk_agrees.specs.Laws as laws
-use Rattle.cilk_agrees.specs.Actions.{IsNext}
-use Rattle.cilk_agrees.specs.Asked.{Asked}
+use Rattle.cilk_spawn.specs.Nodes.{node_at, is_synched, has_live_child, live_ids}
+use Rattle.cilk_agree.specs.declared.lock.Lock.{Lock}
+use Rattle.cilk_agree.specs.Locks.{LockTurn, turned, refused, blocked, turn_among, turn_named}
+use Rattle.cilk_agree.specs.Outside.{lock_by, LockWithin}
+use Rattle.cilk_agree.specs.Laws.{Turn, path_of, instance_of}
+use Rattle.cilk_agree.specs.Laws as laws
+use Rattle.cilk_agree.specs.Actions.{IsNext}
+use Rattle.cilk_agree.specs.Asked.{Asked}
 use Rattle.cilk_plans.specs.Made as made
 use Rattle.cilk_plans.specs.Made.{next_of, by_effect, has_room, turned_to}
 use Rattle.cilk_plans.specs.Plans.{sight_in, step_in, IsPlan}
 use Rattle.cilk_plans.specs.Sights.{Sight}
 
 -- the name of a place over slots
-pub slot-named : (slots : Declaration → Rattle.cilk_terms.specs.declared.slot.Slot.Slot) (t : Rattle.cilk_labelled.specs.Labelled.Target) → (slotted_place slots t).slot ≡ slots (named_by t)
+pub slot-named : (slots : Declaration → Rattle.cilk_eval.specs.declared.slot.Slot.Slot) (t : Rattle.cilk_labelled.specs.Labelled.Target) → (slotted_place slots t).slot ≡ slots (named_by t)
 slot-named slots (Rattle.cilk_labelled.specs.Labelled.variable d) = refl
 slot-named slots (Rattle.cilk_labelled.specs.Labelled.element d s) = refl
 
@@ -97,7 +97,7 @@ module _ (t : Turn) (asked : Asked t) (b m : ℕ) where
   abbrev s : state.State
   s = t.at.state
 
-  abbrev slots : Declaration → Rattle.cilk_terms.specs.declared.slot.Slot.Slot
+  abbrev slots : Declaration → Rattle.cilk_eval.specs.declared.slot.Slot.Slot
   slots = slot_of program b
 
   abbrev env : Environment Declaration
@@ -141,7 +141,7 @@ module _ (t : Turn) (asked : Asked t) (b m : ℕ) where
   turns-plan act node a goes what lock x e = subst (Planned node) (sym e) (λ step there. by_turn (turn_among g.locks t.frame.id what lock) (asked.turned_within what lock) (step ∙ ap (step_by_turn s (path_of t) i m lock) (asked.turn what lock)))
     where
       by_turn : (turn : LockTurn) → ((now : Lock) → turn ≡ turned now → LockWithin (length t.machine.nodes) now)
-          → step_in t ≡ step_by_turn s (path_of t) i m lock (turn_named (Rattle.cilk_instances.specs.Nodes.path_at t.machine.nodes) turn) → IsPlan t (turned_to m (next_of node true) lock turn)
+          → step_in t ≡ step_by_turn s (path_of t) i m lock (turn_named (Rattle.cilk_spawn.specs.Nodes.path_at t.machine.nodes) turn) → IsPlan t (turned_to m (next_of node true) lock turn)
       by_turn (turned now) within step = record { step = step; within = within now refl; next = a.goes goes true }
       by_turn refused within step = step
       by_turn blocked within step = step
@@ -172,7 +172,7 @@ module _ (t : Turn) (asked : Asked t) (b m : ℕ) where
   calls-plan what callee es node a x w = subst (Planned node) (sym w.is) (λ step there. by_room (nat_lt (length i.below) 255) refl step there)
     where
       stands : Rattle.cilk_stands.specs.Stands.StandsFor program t.frame i
-      stands = (Rattle.cilk_agrees.proofs.Alone.holds t).stands
+      stands = (Rattle.cilk_agree.proofs.Alone.holds t).stands
 
       by_case : (room : Bool) → nat_lt (length i.below) 255 ≡ room
           → step_in t ≡ if_room s (path_of t) m state.depth room (goes_on (after_call program s (path_of t) i w.awaits callee w.values) (acted (path_of t) m))

@@ -10,16 +10,16 @@ use Rattle.cilk_values.specs.Term.{Term, rename}
 use Rattle.cilk_values.specs.Value.{Environment, values_of}
 use Rattle.cilk_labelled.specs.Labelled.{Declaration, Labelled, Into, Taker, nothing, into, through, spawn}
 use Rattle.cilk_labelled.specs.Bodies.{label, is_procedure}
-use Rattle.cilk_runs.specs.Path.{child_path}
-use Rattle.cilk_runs.specs.Values.{environment}
-use Rattle.cilk_runs.specs.Instance as model
-use Rattle.cilk_runs.specs.Instance.{Instance, body_at}
-use Rattle.cilk_runs.specs.State as state
-use Rattle.cilk_runs.specs.State.{store_of, is_empty}
-use Rattle.cilk_runs.specs.Effect as effect
-use Rattle.cilk_runs.specs.Change.{after_start}
-use Rattle.cilk_runs.specs.Event.{spawned}
-use Rattle.cilk_runs.specs.Pick.{Step, spawns, if_room, step_by_effect}
+use Rattle.cilk_model.specs.Path.{child_path}
+use Rattle.cilk_model.specs.Values.{environment}
+use Rattle.cilk_model.specs.Instance as model
+use Rattle.cilk_model.specs.Instance.{Instance, body_at}
+use Rattle.cilk_model.specs.State as state
+use Rattle.cilk_model.specs.State.{store_of, is_empty}
+use Rattle.cilk_model.specs.Effect as effect
+use Rattle.cilk_model.specs.Change.{after_start}
+use Rattle.cilk_model.specs.Event.{spawned}
+use Rattle.cilk_model.specs.Pick.{Step, spawns, if_room, step_by_effect}
 use Rattle.cilk_nodes.specs.declared.node.Node.{Node}
 use Rattle.cilk_nodes.specs.Actions.{slotted_taker}
 use Rattle.cilk_nodes.specs.Slots.{slot_of, is_inlet, procedure_around}
@@ -30,12 +30,12 @@ use Rattle.cilk_sound.specs.Known.{KnownAct, StandsIn}
 use Rattle.cilk_effects.specs.Slotted.{TakenCell, ReachesCells, slotted_receiver, slotted_effect}
 use Rattle.cilk_effects.proofs.Shapes as shapes
 use Rattle.cilk_effects.proofs.Shapes.{values-count}
-use Rattle.cilk_instances.specs.Nodes.{live_ids}
-use Rattle.cilk_agrees.specs.Alike.{Receives, lowest_body}
-use Rattle.cilk_agrees.specs.Laws.{Turn, path_of, node_of, instance_of}
-use Rattle.cilk_agrees.specs.Asked.{Asked}
-use Rattle.cilk_agrees.proofs.Alone.{holds}
-use Rattle.cilk_agrees.proofs.Actions.{told}
+use Rattle.cilk_spawn.specs.Nodes.{live_ids}
+use Rattle.cilk_agree.specs.Alike.{Receives, lowest_body}
+use Rattle.cilk_agree.specs.Laws.{Turn, path_of, node_of, instance_of}
+use Rattle.cilk_agree.specs.Asked.{Asked}
+use Rattle.cilk_agree.proofs.Alone.{holds}
+use Rattle.cilk_agree.proofs.Actions.{told}
 use Rattle.cilk_plans.specs.declared.kind.Kind.TheVariants as kind
 use Rattle.cilk_plans.specs.declared.plan.Plan.TheVariants as plan
 use Rattle.cilk_plans.specs.Made as made
@@ -80,7 +80,7 @@ module _ (t : Turn) (asked : Asked t) (b m : ℕ) where
   abbrev s : state.State
   s = t.at.state
 
-  abbrev slots : Declaration → Rattle.cilk_terms.specs.declared.slot.Slot.Slot
+  abbrev slots : Declaration → Rattle.cilk_eval.specs.declared.slot.Slot.Slot
   slots = slot_of program b
 
   abbrev env : Environment Declaration

@@ -1,30 +1,30 @@
 -- A delivery is taken: the plan is the step.
 use Rattle.std.proofs.Common.{◌≡◌, ℕ, suc, ◌<◌, ℤ, true, List, [], ◌∷◌, length, Option, Some, None, Result, Ok, Err, refl, sym, ap, ◌∙◌, subst, arith}
 use Rattle.cilk_values.specs.declared.trap.Trap.{Trap}
-use Rattle.cilk_terms.specs.Slots.{slot_cell}
+use Rattle.cilk_eval.specs.Slots.{slot_cell}
 use Rattle.cilk_labelled.specs.Labelled.{Labelled}
 use Rattle.cilk_labelled.specs.Bodies.{label}
-use Rattle.cilk_runs.specs.Values.{Reached, combined, cell_of}
-use Rattle.cilk_runs.specs.Instance as model
-use Rattle.cilk_runs.specs.Instance.{Instance}
-use Rattle.cilk_runs.specs.State as state
-use Rattle.cilk_runs.specs.State.{store_of}
-use Rattle.cilk_runs.specs.Pick.{step_by_place, step_by_receiver}
+use Rattle.cilk_model.specs.Values.{Reached, combined, cell_of}
+use Rattle.cilk_model.specs.Instance as model
+use Rattle.cilk_model.specs.Instance.{Instance}
+use Rattle.cilk_model.specs.State as state
+use Rattle.cilk_model.specs.State.{store_of}
+use Rattle.cilk_model.specs.Pick.{step_by_place, step_by_receiver}
 use Rattle.cilk_nodes.specs.Table as table
-use Rattle.cilk_frames.specs.Frames.{depth}
+use Rattle.cilk_frame.specs.Frames.{depth}
 use Rattle.cilk_stands.specs.Starts as starts
 use Rattle.cilk_stands.specs.Stands.{StandsFor}
 use Rattle.cilk_stands.proofs.Tops.{depth-is}
 use Rattle.cilk_stands.proofs.Values.{cell-same}
-use Rattle.cilk_instances.specs.declared.delivery.Delivery.{Delivery}
-use Rattle.cilk_instances.specs.declared.receiver.Receiver.{Receiver}
-use Rattle.cilk_instances.specs.declared.receiver.Receiver.TheVariants.{Nothing, Place, Call}
-use Rattle.cilk_instances.specs.Nodes.{path_at}
-use Rattle.cilk_agrees.specs.Alike.{Receives, SameDelivery, lowest_body}
-use Rattle.cilk_agrees.specs.Laws.{Turn, path_of, node_of, instance_of}
-use Rattle.cilk_agrees.specs.Asked.{Asked}
-use Rattle.cilk_agrees.proofs.Alone.{holds}
-use Rattle.cilk_agrees.proofs.Actions.{told}
+use Rattle.cilk_spawn.specs.declared.delivery.Delivery.{Delivery}
+use Rattle.cilk_spawn.specs.declared.receiver.Receiver.{Receiver}
+use Rattle.cilk_spawn.specs.declared.receiver.Receiver.TheVariants.{Nothing, Place, Call}
+use Rattle.cilk_spawn.specs.Nodes.{path_at}
+use Rattle.cilk_agree.specs.Alike.{Receives, SameDelivery, lowest_body}
+use Rattle.cilk_agree.specs.Laws.{Turn, path_of, node_of, instance_of}
+use Rattle.cilk_agree.specs.Asked.{Asked}
+use Rattle.cilk_agree.proofs.Alone.{holds}
+use Rattle.cilk_agree.proofs.Actions.{told}
 use Rattle.cilk_plans.specs.declared.plan.Plan.TheVariants as plan
 use Rattle.cilk_plans.specs.Made.{taken_by, takes_by, inlet_of_node, inlet_of_action}
 use Rattle.cilk_plans.specs.Plans.{sight_in, step_in, IsPlan, Oldest}
@@ -53,7 +53,7 @@ module _ (t : Turn) (asked : Asked t) where
   procedure-is alone =
       (told t).procedure ∙ ap (λ ms. Rattle.cilk_stands.specs.Stands.lowest_of i.top.body (Rattle.cilk_stands.specs.Stands.bodies_of ms)) alone
 
-  place-plan : (child : ℕ) (first : Oldest t child) (slot : Rattle.cilk_terms.specs.declared.slot.Slot.Slot) (index : ℕ) (r : Reached)
+  place-plan : (child : ℕ) (first : Oldest t child) (slot : Rattle.cilk_eval.specs.declared.slot.Slot.Slot) (index : ℕ) (r : Reached)
       → Rattle.cilk_stands.specs.Cells.SameCell program i.top.body slot index r.cell → (n : ℕ) (z : ℤ)
       → step_in t ≡ step_by_place s (path_of t) i first.others first.oldest.child r n (combined r.op (cell_of (store_of s (path_of t) i) r.cell.place r.cell.index) z)
       → IsPlan t (takes_by n (combined r.op (slot_cell (cells_in g) slot index) z) (λ y. plan.Take child n (record { slot = slot; index = index }) y))

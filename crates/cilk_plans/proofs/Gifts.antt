@@ -2,35 +2,35 @@
 use Rattle.std.proofs.Common.{◌≡◌, ℕ, suc, ℤ, Bool, true, false, not, ◌&&◌, ◌||◌, ◌==◌, nat_lt, List, [], ◌∷◌, map, length, Option, Some, None, Result, Ok, Err, refl, sym, ap, ◌∙◌, subst, arith, if◌then◌else◌}
 use Rattle.std.proofs.lemmas.Bool.{ne_eqb}
 use Rattle.cilk_values.specs.declared.trap.Trap.{Trap}
-use Rattle.cilk_terms.specs.Slots.{slot_cell}
+use Rattle.cilk_eval.specs.Slots.{slot_cell}
 use Rattle.cilk_labelled.specs.Labelled.{Labelled, Action}
 use Rattle.cilk_labelled.specs.Bodies.{label}
-use Rattle.cilk_runs.specs.Values.{Reached, combined, cell_of}
-use Rattle.cilk_runs.specs.Instance as model
-use Rattle.cilk_runs.specs.Instance.{Instance, body_at}
-use Rattle.cilk_runs.specs.State as state
-use Rattle.cilk_runs.specs.State.{is_empty, store_of}
-use Rattle.cilk_runs.specs.Change as change
-use Rattle.cilk_runs.specs.Change.{leaves_function, after_return, after_leaving, after_answer, resumed}
-use Rattle.cilk_runs.specs.Event.{acted, returned}
-use Rattle.cilk_runs.specs.Pick.{Step, goes_on, ends, traps, step_by_leaving, step_by_answer, step_by_combined}
+use Rattle.cilk_model.specs.Values.{Reached, combined, cell_of}
+use Rattle.cilk_model.specs.Instance as model
+use Rattle.cilk_model.specs.Instance.{Instance, body_at}
+use Rattle.cilk_model.specs.State as state
+use Rattle.cilk_model.specs.State.{is_empty, store_of}
+use Rattle.cilk_model.specs.Change as change
+use Rattle.cilk_model.specs.Change.{leaves_function, after_return, after_leaving, after_answer, resumed}
+use Rattle.cilk_model.specs.Event.{acted, returned}
+use Rattle.cilk_model.specs.Pick.{Step, goes_on, ends, traps, step_by_leaving, step_by_answer, step_by_combined}
 use Rattle.cilk_nodes.specs.declared.node.Node.{Node}
 use Rattle.cilk_nodes.specs.declared.target.Target.{Target}
 use Rattle.cilk_nodes.specs.Table.{node_of}
 use Rattle.cilk_nodes.specs.Bodies.{body_table, body_of}
 use Rattle.cilk_nodes.proofs.Heads.{bodies-have}
 use Rattle.cilk_nodes.specs.Slots.{slot_of}
-use Rattle.cilk_frames.specs.declared.awaited.Await.{Await}
-use Rattle.cilk_frames.specs.Frames.{depth, top_of, left}
+use Rattle.cilk_frame.specs.declared.awaited.Await.{Await}
+use Rattle.cilk_frame.specs.Frames.{depth, top_of, left}
 use Rattle.cilk_stands.specs.Stands.{StandsFor, AwaitsSame, AwaitsAt, bodies_of}
 use Rattle.cilk_stands.specs.Reads.{Seen, seen_by}
 use Rattle.cilk_stands.proofs.Tops.{depth-is}
 use Rattle.cilk_stands.proofs.Steps.{awaits-same, return-stands, lent-seen}
 use Rattle.cilk_stands.proofs.Values.{cell-same}
-use Rattle.cilk_instances.specs.Nodes.{has_live_child, is_synched}
-use Rattle.cilk_agrees.specs.Laws.{Turn, path_of, instance_of}
-use Rattle.cilk_agrees.specs.Asked.{Asked}
-use Rattle.cilk_agrees.proofs.Alone.{holds}
+use Rattle.cilk_spawn.specs.Nodes.{has_live_child, is_synched}
+use Rattle.cilk_agree.specs.Laws.{Turn, path_of, instance_of}
+use Rattle.cilk_agree.specs.Asked.{Asked}
+use Rattle.cilk_agree.proofs.Alone.{holds}
 use Rattle.cilk_plans.specs.declared.plan.Plan.TheVariants as plan
 use Rattle.cilk_plans.specs.Made.{given, answered, answered_at, takes_by, target_of_node, is_function_body}
 use Rattle.cilk_plans.specs.Plans.{sight_in, step_in, IsPlan}
@@ -44,7 +44,7 @@ outer-is t = ap (λ d. d == 1) (depth-is (label t.program) t.frame (instance_of 
     by_below (m ∷ ms) = ne_eqb (suc (suc (length ms))) 1 (λ h. omega (arith, h))
 
 -- cells that hold what a body sees
-pub sight-seen : (t : Turn) (asked : Asked t) (f : Rattle.cilk_frames.specs.Frames.Frame) (i : Instance) → StandsFor (label t.program) f i → f.id ≡ t.frame.id → i.waiting ≡ (instance_of t).waiting
+pub sight-seen : (t : Turn) (asked : Asked t) (f : Rattle.cilk_frame.specs.Frames.Frame) (i : Instance) → StandsFor (label t.program) f i → f.id ≡ t.frame.id → i.waiting ≡ (instance_of t).waiting
     → Seen (label t.program) i.top.body (cells_by (sight_in t) f) (store_of t.at.state (path_of t) i)
 sight-seen t asked f i s own waiting =
     let o = t.agrees.outside in
@@ -76,7 +76,7 @@ module _ (t : Turn) (asked : Asked t) (m : ℕ) where
       let target-is : target_of_node (node_of t.program w.n) ≡ Some a.target =
       ap target_of_node a.there ∙ ap Rattle.cilk_plans.specs.Made.target_of_action a.calls in
       let back : StandsFor program (left t.frame) (record i { top = caller; below = below }) = return-stands program t.frame i caller below stands is in
-      let resumed-is : resumed i ≡ record i { top = caller; below = below } = ap (Rattle.cilk_runs.specs.Change.resumed_to i) is in
+      let resumed-is : resumed i ≡ record i { top = caller; below = below } = ap (Rattle.cilk_model.specs.Change.resumed_to i) is in
       let seen = sight-seen t asked (left t.frame) (record i { top = caller; below = below }) back refl refl in
       let cell : slot_cell (cells_by g (left t.frame)) a.target.place.slot w.index ≡ cell_of (store_of s (path_of t) (resumed i)) r.cell.place r.cell.index =
       (λ j. slot_cell (cells_by g (left t.frame)) (a.same.slot_is j) (a.same.index_is j))

@@ -7,20 +7,20 @@ use Rattle.cilk_labelled.specs.Labelled.{Labelled, Numbered}
 use Rattle.cilk_labelled.specs.Items.{Items, opened, next, head_of, reached}
 use Rattle.cilk_labelled.specs.Bodies.{label}
 use Rattle.cilk_heads.specs.Heads.{GoesOn}
-use Rattle.cilk_runs.specs.Instance.{Instance, body_at}
+use Rattle.cilk_model.specs.Instance.{Instance, body_at}
 use Rattle.cilk_nodes.specs.declared.node.Node.{Node}
 use Rattle.cilk_nodes.specs.Actions.{slotted}
 use Rattle.cilk_nodes.specs.Slots.{slot_of}
 use Rattle.cilk_nodes.specs.Table.{number_of, number_after, node_over, node_of, successor}
 use Rattle.cilk_nodes.specs.Laws.{Reached}
 use Rattle.cilk_nodes.proofs.Heads.{nodes-stand}
-use Rattle.cilk_frames.specs.Frames.{top_of}
+use Rattle.cilk_frame.specs.Frames.{top_of}
 use Rattle.cilk_stands.specs.Stands.{StandsFor}
 use Rattle.cilk_stands.proofs.Tops.{Stands, top-stands}
 use Rattle.cilk_sound.specs.Known.{KnownAct}
-use Rattle.cilk_agrees.specs.Laws.{Turn, instance_of}
-use Rattle.cilk_agrees.specs.Actions.{IsNext}
-use Rattle.cilk_agrees.proofs.Alone.{holds}
+use Rattle.cilk_agree.specs.Laws.{Turn, instance_of}
+use Rattle.cilk_agree.specs.Actions.{IsNext}
+use Rattle.cilk_agree.proofs.Alone.{holds}
 use Rattle.cilk_plans.specs.Made.{next_of}
 use Rattle.cilk_plans.specs.Plans.{sight_in}
 use Rattle.cilk_plans.specs.Sights.{head_number}

@@ -3,21 +3,21 @@ use Rattle.std.proofs.Common.{◌≡◌, ℕ, suc, ◌<◌, ℤ, Bool, true, fal
 use Rattle.cilk_scopes.specs.declared.owner.Owner.{Owner}
 use Rattle.cilk_values.specs.declared.trap.Trap.{Trap}
 use Rattle.cilk_values.specs.Value.{Environment}
-use Rattle.cilk_terms.specs.declared.slot.Slot.{Slot}
+use Rattle.cilk_eval.specs.declared.slot.Slot.{Slot}
 use Rattle.cilk_labelled.specs.Labelled.{Declaration, Labelled, Numbered, Action, assign, call, spawn, print, locking, null, break_off, go_round, tests, sync, abort, return_with, return_nothing, close}
 use Rattle.cilk_labelled.specs.Items.{head_of}
 use Rattle.cilk_labelled.specs.Bodies.{label}
-use Rattle.cilk_runs.specs.Values.{environment}
-use Rattle.cilk_runs.specs.Instance as model
-use Rattle.cilk_runs.specs.Instance.{Instance, body_at, owner_at}
-use Rattle.cilk_runs.specs.State as state
-use Rattle.cilk_runs.specs.State.{is_empty, store_of}
-use Rattle.cilk_runs.specs.Effect as effect
-use Rattle.cilk_runs.specs.Effect.{effect_of}
-use Rattle.cilk_runs.specs.Change as change
-use Rattle.cilk_runs.specs.Change.{is_function, leaves_function}
-use Rattle.cilk_runs.specs.Event.{ended}
-use Rattle.cilk_runs.specs.Pick.{Step, parks, ends, traps, step_by_effect, step_by_head, step_at_boundary, step_of_aborted, step_of_instance, step_of_live}
+use Rattle.cilk_model.specs.Values.{environment}
+use Rattle.cilk_model.specs.Instance as model
+use Rattle.cilk_model.specs.Instance.{Instance, body_at, owner_at}
+use Rattle.cilk_model.specs.State as state
+use Rattle.cilk_model.specs.State.{is_empty, store_of}
+use Rattle.cilk_model.specs.Effect as effect
+use Rattle.cilk_model.specs.Effect.{effect_of}
+use Rattle.cilk_model.specs.Change as change
+use Rattle.cilk_model.specs.Change.{is_function, leaves_function}
+use Rattle.cilk_model.specs.Event.{ended}
+use Rattle.cilk_model.specs.Pick.{Step, parks, ends, traps, step_by_effect, step_by_head, step_at_boundary, step_of_aborted, step_of_instance, step_of_live}
 use Rattle.cilk_nodes.specs.declared.node.Node.{Node}
 use Rattle.cilk_nodes.specs.Actions.{slotted}
 use Rattle.cilk_nodes.specs.Slots.{slot_of}
@@ -29,14 +29,14 @@ use Rattle.cilk_effects.specs.Slotted.{ReachesCells, slotted_effect, slotted_res
 use Rattle.cilk_effects.proofs.Same.{effect-same, effect-reaches}
 use Rattle.cilk_effects.proofs.Shapes.{ShapeOf, shape}
 use Rattle.cilk_effects.proofs.Shapes as shapes
-use Rattle.cilk_instances.specs.declared.delivery.Delivery.{Delivery}
-use Rattle.cilk_instances.specs.Nodes.{has_live_child, is_synched, path_at}
-use Rattle.cilk_agrees.specs.Alike.{SameDeliveries}
-use Rattle.cilk_agrees.specs.Laws.{Turn, path_of, node_of, instance_of}
-use Rattle.cilk_agrees.specs.Asked.{Asked}
-use Rattle.cilk_agrees.proofs.Actions.{told}
-use Rattle.cilk_agrees.proofs.Asked.{oldest-told}
-use Rattle.cilk_agrees.proofs.Alone.{holds}
+use Rattle.cilk_spawn.specs.declared.delivery.Delivery.{Delivery}
+use Rattle.cilk_spawn.specs.Nodes.{has_live_child, is_synched, path_at}
+use Rattle.cilk_agree.specs.Alike.{SameDeliveries}
+use Rattle.cilk_agree.specs.Laws.{Turn, path_of, node_of, instance_of}
+use Rattle.cilk_agree.specs.Asked.{Asked}
+use Rattle.cilk_agree.proofs.Actions.{told}
+use Rattle.cilk_agree.proofs.Asked.{oldest-told}
+use Rattle.cilk_agree.proofs.Alone.{holds}
 use Rattle.cilk_plans.specs.declared.kind.Kind.TheVariants as kind
 use Rattle.cilk_plans.specs.declared.plan.Plan.TheVariants as plan
 use Rattle.cilk_plans.specs.Made as made

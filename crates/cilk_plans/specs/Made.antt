@@ -4,9 +4,9 @@ use Rattle.cilk_scopes.specs.declared.owner.Owner.{Owner}
 use Rattle.cilk_scopes.specs.declared.owner.Owner.TheVariants.{Function, Procedure, Inlet}
 use Rattle.cilk_syntax.specs.declared.lock_action.LockAction.{LockAction}
 use Rattle.cilk_values.specs.declared.trap.Trap.{Trap}
-use Rattle.cilk_terms.specs.Slots.{slot_cell}
-use Rattle.cilk_runs.specs.Values.{combined}
-use Rattle.cilk_runs.specs.Change.{is_function}
+use Rattle.cilk_eval.specs.Slots.{slot_cell}
+use Rattle.cilk_model.specs.Values.{combined}
+use Rattle.cilk_model.specs.Change.{is_function}
 use Rattle.cilk_nodes.specs.declared.body.Body.{Body}
 use Rattle.cilk_nodes.specs.declared.node.Node as action
 use Rattle.cilk_nodes.specs.declared.target.Target.{Target}
@@ -16,17 +16,17 @@ use Rattle.cilk_nodes.specs.declared.action.Action.{Action}
 use Rattle.cilk_nodes.specs.declared.action.Action.TheVariants.{Assign, Call, Spawn, Print, Locking, Null, Break, Continue, Test, Sync, Abort, Return, ReturnNothing, Close}
 use Rattle.cilk_nodes.specs.Table.{successor, node_of}
 use Rattle.cilk_nodes.specs.Bodies.{body_of}
-use Rattle.cilk_frames.specs.declared.awaited.Await.{Await}
-use Rattle.cilk_frames.specs.Frames.{depth, top_of, left}
-use Rattle.cilk_instances.specs.declared.delivery.Delivery.{Delivery}
-use Rattle.cilk_instances.specs.declared.receiver.Receiver as receiver
-use Rattle.cilk_instances.specs.declared.receiver.Receiver.{Receiver}
-use Rattle.cilk_instances.specs.Nodes.{node_at, is_synched, has_live_child, live_ids}
+use Rattle.cilk_frame.specs.declared.awaited.Await.{Await}
+use Rattle.cilk_frame.specs.Frames.{depth, top_of, left}
+use Rattle.cilk_spawn.specs.declared.delivery.Delivery.{Delivery}
+use Rattle.cilk_spawn.specs.declared.receiver.Receiver as receiver
+use Rattle.cilk_spawn.specs.declared.receiver.Receiver.{Receiver}
+use Rattle.cilk_spawn.specs.Nodes.{node_at, is_synched, has_live_child, live_ids}
 use Rattle.cilk_effects.specs.declared.reached.Reached.{Reached}
 use Rattle.cilk_effects.specs.declared.effect.Effect.{Effect}
 use Rattle.cilk_effects.specs.declared.effect.Effect.TheVariants.{Writes, Answers, Enters, Gives, Starts, Prints, Turns, Marks}
 use Rattle.cilk_effects.specs.Effects.{effect_in}
-use Rattle.cilk_agrees.specs.Locks.{LockTurn, turned, refused, blocked, turn_among}
+use Rattle.cilk_agree.specs.Locks.{LockTurn, turned, refused, blocked, turn_among}
 use Rattle.cilk_plans.specs.declared.kind.Kind.{Kind}
 use Rattle.cilk_plans.specs.declared.kind.Kind.TheVariants as kind
 use Rattle.cilk_plans.specs.declared.plan.Plan.{Plan}

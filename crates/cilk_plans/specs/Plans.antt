@@ -1,31 +1,31 @@
 -- What a plan says of the step of an instance that the definition of runs takes.
 use Rattle.std.specs.Prelude.{◌≡◌, ◌<◌, ◌+◌, ◌^◌, ℕ, ℤ, Bool, true, false, List, ◌∷◌, length, Option}
 use Rattle.cilk_labelled.specs.Bodies.{label}
-use Rattle.cilk_runs.specs.Path.{Path, child_path}
-use Rattle.cilk_runs.specs.Values.{Cell, Reached}
-use Rattle.cilk_runs.specs.Instance as model
-use Rattle.cilk_runs.specs.Instance.{Activation, Delivery, body_at}
-use Rattle.cilk_runs.specs.State.{State}
-use Rattle.cilk_runs.specs.Event.{Event, acted, spawned, delivered, returned, ended, trapped}
-use Rattle.cilk_runs.specs.Change.{stopped, after_going, after_write, after_place, after_inlet, after_call, after_leaving, after_answer, after_return, after_start, after_print, after_lock, after_marks, after_abort}
-use Rattle.cilk_runs.specs.Pick.{Step, waits, parks, goes_on, ends, spawns, step_of}
+use Rattle.cilk_model.specs.Path.{Path, child_path}
+use Rattle.cilk_model.specs.Values.{Cell, Reached}
+use Rattle.cilk_model.specs.Instance as model
+use Rattle.cilk_model.specs.Instance.{Activation, Delivery, body_at}
+use Rattle.cilk_model.specs.State.{State}
+use Rattle.cilk_model.specs.Event.{Event, acted, spawned, delivered, returned, ended, trapped}
+use Rattle.cilk_model.specs.Change.{stopped, after_going, after_write, after_place, after_inlet, after_call, after_leaving, after_answer, after_return, after_start, after_print, after_lock, after_marks, after_abort}
+use Rattle.cilk_model.specs.Pick.{Step, waits, parks, goes_on, ends, spawns, step_of}
 use Rattle.cilk_scopes.specs.declared.owner.Owner.TheVariants.{Function, Inlet}
 use Rattle.cilk_syntax.specs.declared.return_type.ReturnType.{ReturnType}
 use Rattle.cilk_nodes.specs.Slots.{is_inlet, procedure_around}
 use Rattle.cilk_nodes.specs.Bodies.{body_of}
-use Rattle.cilk_frames.specs.declared.awaited.Await.{Await}
-use Rattle.cilk_frames.specs.Frames.{depth}
+use Rattle.cilk_frame.specs.declared.awaited.Await.{Await}
+use Rattle.cilk_frame.specs.Frames.{depth}
 use Rattle.cilk_stands.specs.Starts.{Takes}
 use Rattle.cilk_stands.specs.Cells.{SameCell}
 use Rattle.cilk_stands.specs.Stands.{AwaitsSame, bodies_of}
-use Rattle.cilk_instances.specs.declared.receiver.Receiver.{Receiver}
-use Rattle.cilk_instances.specs.Nodes.{has_live_child, path_at}
+use Rattle.cilk_spawn.specs.declared.receiver.Receiver.{Receiver}
+use Rattle.cilk_spawn.specs.Nodes.{has_live_child, path_at}
 use Rattle.cilk_effects.specs.declared.reached.Reached as code
-use Rattle.cilk_agrees.specs.declared.lock.Lock.{Lock}
-use Rattle.cilk_agrees.specs.Outside.{LockWithin, lock_by}
-use Rattle.cilk_agrees.specs.Alike.{Receives, lowest_body}
-use Rattle.cilk_agrees.specs.Laws.{Turn, path_of, node_of, instance_of}
-use Rattle.cilk_agrees.specs.Actions.{IsNext}
+use Rattle.cilk_agree.specs.declared.lock.Lock.{Lock}
+use Rattle.cilk_agree.specs.Outside.{LockWithin, lock_by}
+use Rattle.cilk_agree.specs.Alike.{Receives, lowest_body}
+use Rattle.cilk_agree.specs.Laws.{Turn, path_of, node_of, instance_of}
+use Rattle.cilk_agree.specs.Actions.{IsNext}
 use Rattle.cilk_plans.specs.declared.kind.Kind.{Kind}
 use Rattle.cilk_plans.specs.declared.plan.Plan as plan
 use Rattle.cilk_plans.specs.declared.plan.Plan.{Plan}
@@ -68,7 +68,7 @@ pub record At (t : Turn) (b : ℕ) (reached : code.Reached) : Type 0 where
   pub cell : Cell
   pub same : SameCell (label t.program) b reached.slot reached.index cell
 
-pub record Takes_in (t : Turn) (child n : ℕ) (reached : code.Reached) (z : ℤ) : Type 0 where
+pub record TakesOldest (t : Turn) (child n : ℕ) (reached : code.Reached) (z : ℤ) : Type 0 where
   pub first : Oldest t child
   pub at : At t (instance_of t).top.body reached
   pub step : step_in t ≡ goes_on (after_place t.at.state (path_of t) (instance_of t) first.others at.cell z) (delivered first.oldest.child n)
@@ -153,7 +153,7 @@ IsPlan t plan.TheVariants.Park = step_in t ≡ parks
 IsPlan t plan.TheVariants.End = Ends t
 IsPlan t (plan.TheVariants.Trap kind n) =
     step_in t ≡ goes_on (stopped t.at.state (path_of t) n (kind_of kind)) (trapped (kind_of kind) (path_of t) n)
-IsPlan t (plan.TheVariants.Take child n reached z) = Takes_in t child n reached z
+IsPlan t (plan.TheVariants.Take child n reached z) = TakesOldest t child n reached z
 IsPlan t (plan.TheVariants.Enter child n inlet arguments) = Enters t child n inlet arguments
 IsPlan t (plan.TheVariants.Go n to) = Goes t n to
 IsPlan t (plan.TheVariants.Write n reached z to) = Writes t n reached z to

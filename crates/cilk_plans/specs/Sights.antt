@@ -2,12 +2,12 @@
 use Rattle.std.specs.Prelude.{ℕ, ℤ, Bool, List, length, ◌==◌}
 use Rattle.std.specs.List.{list_any}
 use Rattle.cilk_syntax.specs.Tree.{Program}
-use Rattle.cilk_terms.specs.Slots.{Cells}
-use Rattle.cilk_frames.specs.Frames.{Frame, depth, top_of}
+use Rattle.cilk_eval.specs.Slots.{Cells}
+use Rattle.cilk_frame.specs.Frames.{Frame, depth, top_of}
 use Rattle.cilk_stands.specs.Reads.{lent}
-use Rattle.cilk_instances.specs.Nodes.{Node, node_at, is_synched}
-use Rattle.cilk_agrees.specs.declared.lock.Lock.{Lock}
-use Rattle.cilk_agrees.specs.Locks.{is_held_by}
+use Rattle.cilk_spawn.specs.Nodes.{Node, node_at, is_synched}
+use Rattle.cilk_agree.specs.declared.lock.Lock.{Lock}
+use Rattle.cilk_agree.specs.Locks.{is_held_by}
 
 -- the program, the cells of its variables of the top level, its locks, how many bytes were printed, the instances by id, and the frame of the one that steps
 pub record Sight : Type 0 where

@@ -1,5 +1,5 @@
 -- What the kinds of traps of the code mean.
-use Rattle.cilk_runs.specs.State as state
+use Rattle.cilk_model.specs.State as state
 use Rattle.cilk_plans.specs.declared.kind.Kind.{Kind}
 use Rattle.cilk_plans.specs.declared.kind.Kind.TheVariants.{Value, Lock, HeldLock, Depth, Instances, Output}
 

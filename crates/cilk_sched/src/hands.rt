@@ -1,6 +1,6 @@
 ghost use Rattle.std.specs.Prelude.{◌≡◌, ◌++◌, ◌∷◌, [], Some, None, length, replicate, slice_get, IfOk, IfErr, OnErr, OnOk};
 ghost use Rattle.std.specs.Option.{option_copied};
-ghost use Rattle.cilk_sched.specs.Places.{no_place, IsWorker, hand_of, deque_of, with_hand, with_deque, top_of, below_top, bottom_of, above_bottom};
+ghost use Rattle.cilk_model.specs.Places.{no_place, IsWorker, hand_of, deque_of, with_hand, with_deque, top_of, below_top, bottom_of, above_bottom};
 
 use crate::place::Place;
 use cilk_frame::{Frame, Memory};
@@ -17,9 +17,10 @@ pub struct Hands {
 
 impl Model for Hands {
     ghost use Rattle.std.specs.Prelude.{List};
-    ghost use Rattle.cilk_sched.specs.Places as seen;
+    ghost use Rattle.cilk_model.specs.Places as seen;
+    ghost use Rattle.cilk_frame.specs.Frames.{Frame};
 
-    ghost Value = { List seen.Place };
+    ghost Value = { List (seen.PlaceOf Frame) };
 
     ghost view = { λ h. h.places.items };
 }

@@ -1,97 +1,97 @@
 //! Laws about the places of the workers. The functions do nothing: their contracts are what is
 //! proved.
 
-ghost use Rattle.std.specs.Prelude.{◌≡◌, ◌≢◌, ◌+◌, ◌++◌, ◌∷◌, [], ℕ, Bool, List, Option, Some, None, length, map, option_map, replicate, sum_by};
+ghost use Rattle.std.specs.Prelude.{◌≡◌, ◌≢◌, ◌+◌, ◌++◌, ◌∷◌, [], ℕ, Bool, List, Option, Some, None, length, map, option_map, replicate};
 ghost use Rattle.cilk_model.specs.Path.{Path, same_path};
 ghost use Rattle.cilk_model.specs.Scheduler as model;
-ghost use Rattle.cilk_model.specs.Laws as model_laws;
 ghost use Rattle.cilk_frame.specs.Frames.{Frame};
-ghost use Rattle.cilk_sched.specs.Places.{Place, no_place, IsWorker, place_of, hand_of, deque_of, with_hand, with_deque, top_of, below_top, bottom_of, above_bottom};
-ghost use Rattle.cilk_sched.specs.Count.{once, frames_where, AllHeld, IsCounted};
-ghost use Rattle.cilk_sched.specs.Names.{named};
+ghost use Rattle.cilk_model.specs.Places.{PlaceOf, no_place, IsWorker, place_of, hand_of, deque_of, with_hand, with_deque, top_of, below_top, bottom_of, above_bottom, named};
+ghost use Rattle.cilk_sched.specs.Count.{once, count_where, AllHeld, IsCounted};
 
 /// A worker has what it was given, and all others keep what they have.
 pub fn others_keep_their_places()
-    ensures hand { (places : List Place) (w : ℕ) (hand : Option Frame) → IsWorker places w
+    ensures hand { (places : List (PlaceOf Frame)) (w : ℕ) (hand : Option Frame) → IsWorker places w
         → hand_of (with_hand places w hand) w ≡ hand }
-    ensures its_deque { (places : List Place) (w : ℕ) (hand : Option Frame) → IsWorker places w
+    ensures its_deque { (places : List (PlaceOf Frame)) (w : ℕ) (hand : Option Frame) → IsWorker places w
         → deque_of (with_hand places w hand) w ≡ deque_of places w }
-    ensures deque { (places : List Place) (w : ℕ) (deque : List Frame) → IsWorker places w
+    ensures deque { (places : List (PlaceOf Frame)) (w : ℕ) (deque : List Frame) → IsWorker places w
         → deque_of (with_deque places w deque) w ≡ deque }
-    ensures its_hand { (places : List Place) (w : ℕ) (deque : List Frame) → IsWorker places w
+    ensures its_hand { (places : List (PlaceOf Frame)) (w : ℕ) (deque : List Frame) → IsWorker places w
         → hand_of (with_deque places w deque) w ≡ hand_of places w }
 
-    ensures others_of_hand { (places : List Place) (w v : ℕ) (hand : Option Frame) → IsWorker places w → IsWorker places v → v ≢ w
+    ensures others_of_hand { (places : List (PlaceOf Frame)) (w v : ℕ) (hand : Option Frame) → IsWorker places w → IsWorker places v → v ≢ w
         → place_of (with_hand places w hand) v ≡ place_of places v }
-    ensures others_of_deque { (places : List Place) (w v : ℕ) (deque : List Frame) → IsWorker places w → IsWorker places v → v ≢ w
+    ensures others_of_deque { (places : List (PlaceOf Frame)) (w v : ℕ) (deque : List Frame) → IsWorker places w → IsWorker places v → v ≢ w
         → place_of (with_deque places w deque) v ≡ place_of places v }
-    ensures workers_of_hand { (places : List Place) (w : ℕ) (hand : Option Frame) → length (with_hand places w hand) ≡ length places }
-    ensures workers_of_deque { (places : List Place) (w : ℕ) (deque : List Frame) → length (with_deque places w deque) ≡ length places }
+    ensures workers_of_hand { (places : List (PlaceOf Frame)) (w : ℕ) (hand : Option Frame) → length (with_hand places w hand) ≡ length places }
+    ensures workers_of_deque { (places : List (PlaceOf Frame)) (w : ℕ) (deque : List Frame) → length (with_deque places w deque) ≡ length places }
 {}
 
 /// Whatever the test, a move changes the number of the frames that pass it by the frame that it
 /// moves, and by nothing else.
 pub fn moves_are_counted()
-    ensures none { (test : Frame → Bool) (n : ℕ) → frames_where test (replicate n no_place) ≡ 0 }
-    ensures gives { (test : Frame → Bool) (places : List Place) (w : ℕ) (f : Frame) → IsWorker places w → hand_of places w ≡ None
-        → frames_where test (with_hand places w (Some f)) ≡ frames_where test places + once test (Some f) }
-    ensures takes { (test : Frame → Bool) (places : List Place) (w : ℕ) → IsWorker places w
-        → frames_where test (with_hand places w None) + once test (hand_of places w) ≡ frames_where test places }
-    ensures pushes { (test : Frame → Bool) (places : List Place) (w : ℕ) (f : Frame) → IsWorker places w
-        → frames_where test (with_deque places w (deque_of places w ++ f ∷ [])) ≡ frames_where test places + once test (Some f) }
-    ensures pops { (test : Frame → Bool) (places : List Place) (w : ℕ) → IsWorker places w
-        → frames_where test (with_deque places w (above_bottom (deque_of places w))) + once test (bottom_of (deque_of places w)) ≡ frames_where test places }
-    ensures steals { (test : Frame → Bool) (places : List Place) (v : ℕ) → IsWorker places v
-        → frames_where test (with_deque places v (below_top (deque_of places v))) + once test (top_of (deque_of places v)) ≡ frames_where test places }
+    ensures none { (test : Frame → Bool) (n : ℕ) → count_where test (replicate n no_place) ≡ 0 }
+    ensures gives { (test : Frame → Bool) (places : List (PlaceOf Frame)) (w : ℕ) (f : Frame) → IsWorker places w → hand_of places w ≡ None
+        → count_where test (with_hand places w (Some f)) ≡ count_where test places + once test (Some f) }
+    ensures takes { (test : Frame → Bool) (places : List (PlaceOf Frame)) (w : ℕ) → IsWorker places w
+        → count_where test (with_hand places w None) + once test (hand_of places w) ≡ count_where test places }
+    ensures pushes { (test : Frame → Bool) (places : List (PlaceOf Frame)) (w : ℕ) (f : Frame) → IsWorker places w
+        → count_where test (with_deque places w (deque_of places w ++ f ∷ [])) ≡ count_where test places + once test (Some f) }
+    ensures pops { (test : Frame → Bool) (places : List (PlaceOf Frame)) (w : ℕ) → IsWorker places w
+        → count_where test (with_deque places w (above_bottom (deque_of places w))) + once test (bottom_of (deque_of places w)) ≡ count_where test places }
+    ensures steals { (test : Frame → Bool) (places : List (PlaceOf Frame)) (v : ℕ) → IsWorker places v
+        → count_where test (with_deque places v (below_top (deque_of places v))) + once test (top_of (deque_of places v)) ≡ count_where test places }
 {}
 
 /// Each frame that a worker has is counted by every test that it passes.
 pub fn each_frame_is_counted()
-    ensures { (places : List Place) → AllHeld (IsCounted places) places }
+    ensures { (places : List (PlaceOf Frame)) → AllHeld (IsCounted places) places }
 {}
 
 /// Under any name that each frame has, the places hold the paths that those of the definition of
 /// runs hold after the same move.
 pub fn names_go_along()
     ensures none { (name : Frame → Path) (n : ℕ) → named name (replicate n no_place) ≡ replicate n model.no_place }
-    ensures gives { (name : Frame → Path) (places : List Place) (w : ℕ) (f : Frame)
+    ensures gives { (name : Frame → Path) (places : List (PlaceOf Frame)) (w : ℕ) (f : Frame)
         → named name (with_hand places w (Some f)) ≡ model.with_hand (named name places) w (Some (name f)) }
-    ensures takes { (name : Frame → Path) (places : List Place) (w : ℕ)
+    ensures takes { (name : Frame → Path) (places : List (PlaceOf Frame)) (w : ℕ)
         → named name (with_hand places w None) ≡ model.with_hand (named name places) w None }
-    ensures pushes { (name : Frame → Path) (places : List Place) (w : ℕ) (f : Frame)
+    ensures pushes { (name : Frame → Path) (places : List (PlaceOf Frame)) (w : ℕ) (f : Frame)
         → named name (with_deque places w (deque_of places w ++ f ∷ []))
         ≡ model.with_deque (named name places) w (model.deque_of (named name places) w ++ name f ∷ []) }
-    ensures pops { (name : Frame → Path) (places : List Place) (w : ℕ)
+    ensures pops { (name : Frame → Path) (places : List (PlaceOf Frame)) (w : ℕ)
         → named name (with_deque places w (above_bottom (deque_of places w)))
         ≡ model.with_deque (named name places) w (model.above_bottom (model.deque_of (named name places) w)) }
-    ensures steals { (name : Frame → Path) (places : List Place) (v : ℕ)
+    ensures steals { (name : Frame → Path) (places : List (PlaceOf Frame)) (v : ℕ)
         → named name (with_deque places v (below_top (deque_of places v)))
         ≡ model.with_deque (named name places) v (model.below_top (model.deque_of (named name places) v)) }
 
     // A pop or a steal, and then a give of what it took.
-    ensures popped { (name : Frame → Path) (parked : Path → Bool) (places : List Place) (w : ℕ)
+    ensures popped { (name : Frame → Path) (parked : Path → Bool) (places : List (PlaceOf Frame)) (w : ℕ)
         → named name (with_hand (with_deque places w (above_bottom (deque_of places w))) w (bottom_of (deque_of places w)))
         ≡ (model.popped (record { places = named name places; parked = parked }) w).places }
-    ensures stolen { (name : Frame → Path) (parked : Path → Bool) (places : List Place) (w v : ℕ)
+    ensures stolen { (name : Frame → Path) (parked : Path → Bool) (places : List (PlaceOf Frame)) (w v : ℕ)
         → named name (with_hand (with_deque places v (below_top (deque_of places v))) w (top_of (deque_of places v)))
         ≡ (model.stolen (record { places = named name places; parked = parked }) w v).places }
 {}
 
 /// What the named places hold is what the workers have, worker by worker.
 pub fn names_are_read()
-    ensures workers { (name : Frame → Path) (places : List Place) → length (named name places) ≡ length places }
-    ensures hand { (name : Frame → Path) (places : List Place) (w : ℕ) → model.hand_of (named name places) w ≡ option_map name (hand_of places w) }
-    ensures deque { (name : Frame → Path) (places : List Place) (w : ℕ) → model.deque_of (named name places) w ≡ map name (deque_of places w) }
+    ensures workers { (name : Frame → Path) (places : List (PlaceOf Frame)) → length (named name places) ≡ length places }
+    ensures hand { (name : Frame → Path) (places : List (PlaceOf Frame)) (w : ℕ)
+        → model.hand_of (named name places) w ≡ option_map name (hand_of places w) }
+    ensures deque { (name : Frame → Path) (places : List (PlaceOf Frame)) (w : ℕ)
+        → model.deque_of (named name places) w ≡ map name (deque_of places w) }
     ensures bottom { (name : Frame → Path) (deque : List Frame) → option_map name (bottom_of deque) ≡ model.bottom_of (map name deque) }
     ensures above { (name : Frame → Path) (deque : List Frame) → map name (above_bottom deque) ≡ model.above_bottom (map name deque) }
     ensures top { (name : Frame → Path) (deque : List Frame) → option_map name (top_of deque) ≡ model.top_of (map name deque) }
     ensures below { (name : Frame → Path) (deque : List Frame) → map name (below_top deque) ≡ model.below_top (map name deque) }
 
     // A path is held as often as a frame is there that it names.
-    ensures counted { (name : Frame → Path) (p : Path) (places : List Place)
-        → sum_by (model_laws.times_held p) (named name places) ≡ frames_where (λ f. same_path p (name f)) places }
+    ensures counted { (name : Frame → Path) (p : Path) (places : List (PlaceOf Frame))
+        → count_where (same_path p) (named name places) ≡ count_where (λ f. same_path p (name f)) places }
 
     // Frames that are elsewhere may have any names.
-    ensures elsewhere { (name other : Frame → Path) (places : List Place) → AllHeld (λ f. name f ≡ other f) places
+    ensures elsewhere { (name other : Frame → Path) (places : List (PlaceOf Frame)) → AllHeld (λ f. name f ≡ other f) places
         → named name places ≡ named other places }
 {}

@@ -1,6 +1,6 @@
 ghost use Rattle.std.specs.Prelude.{◌≡◌, ◌++◌, ◌∷◌, [], Some, None, length, slice_get, IfErr, OnErr, OnOk};
 ghost use Rattle.std.specs.Option.{option_copied};
-ghost use Rattle.cilk_sched.specs.Places.{no_place, top_of, below_top, bottom_of, above_bottom};
+ghost use Rattle.cilk_model.specs.Places.{no_place, top_of, below_top, bottom_of, above_bottom};
 
 use cilk_frame::Frame;
 use std::alloc::Global;
@@ -15,9 +15,10 @@ pub struct Place {
 }
 
 impl Model for Place {
-    ghost use Rattle.cilk_sched.specs.Places as seen;
+    ghost use Rattle.cilk_model.specs.Places as seen;
+    ghost use Rattle.cilk_frame.specs.Frames.{Frame};
 
-    ghost Value = { seen.Place };
+    ghost Value = { seen.PlaceOf Frame };
 
     ghost view = { λ p. record { hand = p.hand; deque = p.deque.items } };
 }

@@ -6,7 +6,7 @@ use Rattle.cilk_check.specs.Fault.{WellFormed}
 use Rattle.cilk_labelled.specs.Labelled.{Numbered}
 use Rattle.cilk_labelled.specs.Items.{Items, head_of, reached}
 use Rattle.cilk_labelled.specs.Bodies.{label}
-use Rattle.cilk_runs.specs.Instance.{Instance, body_at}
+use Rattle.cilk_model.specs.Instance.{Instance, body_at}
 use Rattle.cilk_heads.specs.Heads.{GoesOn}
 use Rattle.cilk_nodes.specs.Slots.{slot_of}
 use Rattle.cilk_nodes.specs.Actions.{slotted}
@@ -15,7 +15,7 @@ use Rattle.cilk_nodes.specs.Table.{number_of, number_after, node_of}
 use Rattle.cilk_nodes.specs.Bodies.{body_of}
 use Rattle.cilk_nodes.specs.Laws.{items_at}
 use Rattle.cilk_nodes.proofs.Heads.{nodes-stand, bodies-have}
-use Rattle.cilk_frames.specs.Frames.{Frame, top_of}
+use Rattle.cilk_frame.specs.Frames.{Frame, top_of}
 use Rattle.cilk_stands.specs.Stands.{StandsFor}
 use Rattle.cilk_stands.specs.Starts.{Takes}
 use Rattle.cilk_stands.proofs.Tops.{top-stands}

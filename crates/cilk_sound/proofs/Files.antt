@@ -15,7 +15,7 @@ use Rattle.cilk_labelled.specs.Names.{Names, with_words, with_name, with_paramet
 use Rattle.cilk_labelled.specs.Count.{count_local, count_item}
 use Rattle.cilk_labelled.specs.Label.{locals_variables, stmts_variables, block_variables}
 use Rattle.cilk_labelled.specs.Bodies.{is_procedure, one_cell, parameter_variables, label_body, inlet_bodies, block_locals, procedure_names, inlet_count, body_count, item_bodies, items_bodies, file_names, bodies_of}
-use Rattle.cilk_runs.specs.Instance.{body_at, no_body}
+use Rattle.cilk_model.specs.Instance.{body_at, no_body}
 use Rattle.cilk_heads.specs.Heads.{EachOf}
 use Rattle.cilk_sound.specs.Known as known
 use Rattle.cilk_sound.proofs.Lists.{get_is, StandAt, stand_all, stand_left, stand_right, stand_behind, stand_first, stand_others}

@@ -16,7 +16,7 @@ use Rattle.cilk_labelled.specs.Names.{Names, with_words, with_name, with_paramet
 use Rattle.cilk_labelled.specs.Count.{count_local}
 use Rattle.cilk_labelled.specs.Label.{block_variables}
 use Rattle.cilk_labelled.specs.Bodies.{is_procedure, one_cell, inlet_count}
-use Rattle.cilk_runs.specs.Instance.{body_at}
+use Rattle.cilk_model.specs.Instance.{body_at}
 use Rattle.cilk_heads.specs.Heads.{EachOf}
 use Rattle.cilk_sound.specs.Known.{owner_of}
 use Rattle.cilk_sound.proofs.Lists.{StandAt, stand_all, stand_left, stand_right}

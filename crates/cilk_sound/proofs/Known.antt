@@ -7,7 +7,7 @@ use Rattle.cilk_check.specs.Fault.{WellFormed}
 use Rattle.cilk_labelled.specs.Labelled.{Labelled, Body, Numbered, Action}
 use Rattle.cilk_labelled.specs.Items.{head_of, reached}
 use Rattle.cilk_labelled.specs.Bodies.{label, bodies_of, file_names, is_start, is_procedure}
-use Rattle.cilk_runs.specs.Instance.{body_at}
+use Rattle.cilk_model.specs.Instance.{body_at}
 use Rattle.cilk_heads.specs.Heads.{MayStand, EachOf, LeavesInLoops, GoesOn}
 use Rattle.cilk_heads.proofs.Items.{reached_each, head_each, each_map}
 use Rattle.cilk_heads.proofs.Heads.{in_any, starts, goes_on, ends}

@@ -16,7 +16,7 @@ use Rattle.cilk_labelled.specs.Names.{Names, with_words, with_local, local_count
 use Rattle.cilk_labelled.specs.Count.{count_local}
 use Rattle.cilk_labelled.specs.Label.{local_variables, locals_variables, label_initialiser, label_locals, names_behind}
 use Rattle.cilk_labelled.specs.Bodies.{is_procedure, one_cell, label_body, inlet_bodies}
-use Rattle.cilk_runs.specs.Instance.{body_at, no_body}
+use Rattle.cilk_model.specs.Instance.{body_at, no_body}
 use Rattle.cilk_heads.specs.Heads.{MayStand, EachOf}
 use Rattle.cilk_stands.specs.Cells.{no_variable}
 use Rattle.cilk_stands.specs.Reads.{IsVariable}

@@ -19,7 +19,7 @@ use Rattle.cilk_rules_of_names.specs.Uses.{use_as}
 use Rattle.cilk_labelled.specs.Labelled.{Declaration, local, outer, global, of_lock, of_body, unknown, Labelled}
 use Rattle.cilk_labelled.specs.Names.{Names, meaning_at, meaning_of, number_of, with_name, with_words, with_parameters, outward}
 use Rattle.cilk_labelled.specs.Bodies.{is_procedure, one_cell, parameter_variables}
-use Rattle.cilk_runs.specs.Instance.{body_at}
+use Rattle.cilk_model.specs.Instance.{body_at}
 use Rattle.cilk_nodes.specs.Slots.{is_inlet, procedure_around}
 use Rattle.cilk_stands.specs.Cells.{variable_at, own_variables}
 use Rattle.cilk_stands.specs.Reads.{IsVariable, IsArray}

@@ -17,7 +17,7 @@ use Rattle.cilk_rules_of_forms.specs.Forms.{Passes}
 use Rattle.cilk_labelled.specs.Labelled.{Variable, Body}
 use Rattle.cilk_labelled.specs.Label.{local_variables, locals_variables, stmt_variables, stmts_variables, block_variables}
 use Rattle.cilk_labelled.specs.Bodies.{one_cell, shaped_variable, item_globals, label, bodies_of}
-use Rattle.cilk_runs.specs.Instance.{body_at, no_body}
+use Rattle.cilk_model.specs.Instance.{body_at, no_body}
 use Rattle.cilk_nodes.specs.Slots as slots
 use Rattle.cilk_sound.specs.Room.{HasRoom, ParametersFirst}
 use Rattle.cilk_sound.proofs.Lists.{get_there}

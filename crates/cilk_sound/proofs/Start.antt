@@ -22,7 +22,7 @@ use Rattle.cilk_labelled.specs.Names.{Names}
 use Rattle.cilk_labelled.specs.Count.{count_item}
 use Rattle.cilk_labelled.specs.Label.{block_variables}
 use Rattle.cilk_labelled.specs.Bodies.{one_cell, parameter_variables, body_count, item_bodies, items_bodies, bodies_of, file_names, is_procedure, is_start, label}
-use Rattle.cilk_runs.specs.Instance.{body_at, no_body}
+use Rattle.cilk_model.specs.Instance.{body_at, no_body}
 use Rattle.cilk_sound.specs.Room.{IsTold, StartsWith}
 use Rattle.cilk_sound.proofs.Lists.{get_within, get_is, found_at, found_passes}
 use Rattle.cilk_sound.proofs.Origins.{Source, inlet, definition, Origin, origin}

@@ -10,7 +10,7 @@ use Rattle.cilk_labelled.specs.Labelled.{Labelled, Body, Variable}
 use Rattle.cilk_labelled.specs.Names.{Names}
 use Rattle.cilk_labelled.specs.Count.{count_item}
 use Rattle.cilk_labelled.specs.Bodies.{body_count, item_bodies, items_bodies, file_means, shaped_variable, item_globals, item_locks}
-use Rattle.cilk_runs.specs.Instance.{no_body}
+use Rattle.cilk_model.specs.Instance.{no_body}
 use Rattle.cilk_stands.specs.Cells.{no_variable}
 use Rattle.cilk_scopes.proofs.Elements.{Has}
 use Rattle.cilk_sound.proofs.Lists.{get_within, get_is, StandAt, stand_behind, stand_first, stand_others, Fit}

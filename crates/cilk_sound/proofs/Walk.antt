@@ -17,7 +17,7 @@ use Rattle.cilk_labelled.specs.Names.{Names, entered, label_expr}
 use Rattle.cilk_labelled.specs.Count.{count_option, count_stmt, count_locals, count_block}
 use Rattle.cilk_labelled.specs.Label.{locals_variables, stmt_variables, stmts_variables, block_variables, label_move, label_return, label_part, label_stmt, label_stmts, label_block, names_behind}
 use Rattle.cilk_labelled.specs.Bodies.{is_procedure, block_locals}
-use Rattle.cilk_runs.specs.Instance.{body_at}
+use Rattle.cilk_model.specs.Instance.{body_at}
 use Rattle.cilk_heads.specs.Heads.{MayStand, IfThere, EachOfStmt, EachOf}
 use Rattle.cilk_stands.specs.Reads.{IsKnown}
 use Rattle.cilk_sound.specs.Known.{owner_of}

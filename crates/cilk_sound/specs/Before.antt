@@ -4,7 +4,7 @@ use Rattle.cilk_syntax.specs.Tree.{Program}
 use Rattle.cilk_labelled.specs.Labelled.{Numbered}
 use Rattle.cilk_labelled.specs.Items.{head_of}
 use Rattle.cilk_labelled.specs.Bodies.{label}
-use Rattle.cilk_runs.specs.Instance.{Instance}
+use Rattle.cilk_model.specs.Instance.{Instance}
 use Rattle.cilk_heads.specs.Heads.{GoesOn}
 use Rattle.cilk_nodes.specs.Slots.{slot_of}
 use Rattle.cilk_nodes.specs.Actions.{slotted}

@@ -8,7 +8,7 @@ use Rattle.cilk_rules_of_forms.specs.Format.{numbers_in}
 use Rattle.cilk_rules_of_forms.specs.Forms.{returned_by}
 use Rattle.cilk_labelled.specs.Labelled.{Target, variable, element, Into, Taker, nothing, into, through, Action, assign, call, spawn, print, locking, null, break_off, go_round, tests, sync, abort, return_with, return_nothing, close, Labelled}
 use Rattle.cilk_labelled.specs.Bodies.{is_procedure}
-use Rattle.cilk_runs.specs.Instance.{body_at}
+use Rattle.cilk_model.specs.Instance.{body_at}
 use Rattle.cilk_stands.specs.Reads.{IsVariable, IsArray, IsKnown}
 
 -- the owner of body b

@@ -3,7 +3,7 @@ use Rattle.std.specs.Prelude.{◌≡◌, ℕ, ◌<◌, ◌≤◌, pos, ◌⊎◌
 use Rattle.cilk_syntax.specs.declared.return_type.ReturnType.TheVariants.{Int}
 use Rattle.cilk_scopes.specs.declared.owner.Owner.TheVariants.{Procedure}
 use Rattle.cilk_labelled.specs.Labelled.{Variable, Body, Labelled}
-use Rattle.cilk_runs.specs.Instance.{body_at}
+use Rattle.cilk_model.specs.Instance.{body_at}
 use Rattle.cilk_nodes.specs.Slots.{cells_of}
 
 -- so many cells at most, and no array of more than 65,536 elements

@@ -30,11 +30,17 @@ linked_set ns j n h l i =
 abbrev pub Outlives : List Node → List Node → Type 0
 Outlives ns ms = (i p : ℕ) → (node_at ns i).parent ≡ Some p → is_live (node_at ms i) ≡ true → is_live (node_at ms p) ≡ true
 
-pub from_linked : (ns ms : List Node) (i : ℕ) (deliveries : List Delivery) → ((j : ℕ) → Linked (node_at ns j) (node_at ms j)) → AreFrom ns i deliveries → AreFrom ms i deliveries
+pub from_linked : (ns ms : List Node) (i : ℕ) (deliveries : List Delivery) → ((j : ℕ) → Linked (node_at ns j) (node_at ms j)) → AreFrom ns i deliveries
+    → AreFrom ms i deliveries
 from_linked ns ms i deliveries linked sent = λ k d h. (linked (slice_index_or deliveries k d).child).parent ∙ sent k d h
 
-pub tree_linked : (ns ms : List Node) → length ms ≡ length ns → ((i : ℕ) → Linked (node_at ns i) (node_at ms i)) → Outlives ns ms → ((i : ℕ) → AreFrom ns i (node_at ms i).waiting) → IsTree ns → IsTree ms
-tree_linked ns ms len linked outlives sent t = record {
+-- whoever lives in ms has the mark of its parent
+abbrev pub Inherits : List Node → List Node → Type 0
+Inherits ns ms = (i p : ℕ) → (node_at ns i).parent ≡ Some p → is_live (node_at ms i) ≡ true → (node_at ms p).aborted ≡ true → (node_at ms i).aborted ≡ true
+
+pub tree_linked : (ns ms : List Node) → length ms ≡ length ns → ((i : ℕ) → Linked (node_at ns i) (node_at ms i)) → Outlives ns ms → Inherits ns ms
+    → ((i : ℕ) → AreFrom ns i (node_at ms i).waiting) → IsTree ns → IsTree ms
+tree_linked ns ms len linked outlives inherits sent t = record {
   some = let s = t.some in omega arith;
   below = λ i. subst (λ (o : Option ℕ). IsBelow o i) (sym (linked i).parent) (t.below i);
   root = λ i h e. t.root i (omega arith) (sym (linked i).parent ∙ e);
@@ -47,6 +53,7 @@ tree_linked ns ms len linked outlives sent t = record {
       (omega arith, omega arith);
   apart = λ i j p e f o. t.apart i j p (sym (linked i).parent ∙ e) (sym (linked j).parent ∙ f) (sym (linked i).ordinal ∙ o ∙ (linked j).ordinal);
   outlives = λ i p e l. outlives i p (sym (linked i).parent ∙ e) l;
+  inherits = λ i p e l m. inherits i p (sym (linked i).parent ∙ e) l m;
   sent = λ i. from_linked ns ms i (node_at ms i).waiting linked (sent i);
 }
 
@@ -60,18 +67,37 @@ lives_set ns j n h e i =
       | inr p ↦ ap is_live p.1
     ]
 
-pub sent_set : (ns : List Node) (j : ℕ) (n : Node) → j < length ns → AreFrom ns j n.waiting → IsTree ns → (i : ℕ) → AreFrom ns i (node_at (slice_set ns j n) i).waiting
+-- the same marks
+abbrev pub SameMarks : List Node → List Node → Type 0
+SameMarks ns ms = (i : ℕ) → (node_at ms i).aborted ≡ (node_at ns i).aborted
+
+pub marks_set : (ns : List Node) (j : ℕ) (n : Node) → j < length ns → n.aborted ≡ (node_at ns j).aborted → SameMarks ns (slice_set ns j n)
+marks_set ns j n h e i =
+    elim (at_set ns j n i no_node h) [
+      | inl p ↦ ap (λ (m : Node). m.aborted) p.1 ∙ e ∙ ap (λ (k : ℕ). (node_at ns k).aborted) (sym p.0)
+      | inr p ↦ ap (λ (m : Node). m.aborted) p.1
+    ]
+
+pub inherits_same : (ns ms : List Node) → IsTree ns → ((i : ℕ) → is_live (node_at ms i) ≡ true → is_live (node_at ns i) ≡ true) → SameMarks ns ms
+    → Inherits ns ms
+inherits_same ns ms t lived same i p parent live mark = same i ∙ t.inherits i p parent (lived i live) (sym (same p) ∙ mark)
+
+pub sent_set : (ns : List Node) (j : ℕ) (n : Node) → j < length ns → AreFrom ns j n.waiting → IsTree ns → (i : ℕ)
+    → AreFrom ns i (node_at (slice_set ns j n) i).waiting
 sent_set ns j n h sent t i =
     elim (at_set ns j n i no_node h) [
       | inl p ↦ subst (λ (m : Node). AreFrom ns i m.waiting) (sym p.1) (subst (λ (k : ℕ). AreFrom ns k n.waiting) (sym p.0) sent)
       | inr p ↦ subst (λ (m : Node). AreFrom ns i m.waiting) (sym p.1) (t.sent i)
     ]
 
--- a write that leaves parent, number and life, and takes no child away
-pub tree_set : (ns : List Node) (j : ℕ) (n : Node) → j < length ns → Linked (node_at ns j) n → n.ending ≡ (node_at ns j).ending → AreFrom ns j n.waiting → IsTree ns → IsTree (slice_set ns j n)
-tree_set ns j n h l e sent t =
+-- a write that leaves parent, number, life and mark, and takes no child away
+pub tree_set : (ns : List Node) (j : ℕ) (n : Node) → j < length ns → Linked (node_at ns j) n → n.ending ≡ (node_at ns j).ending
+    → n.aborted ≡ (node_at ns j).aborted
+    → AreFrom ns j n.waiting → IsTree ns → IsTree (slice_set ns j n)
+tree_set ns j n h l e m sent t =
     let same = lives_set ns j n h e in
-    tree_linked ns (slice_set ns j n) (length-set ns j n) (linked_set ns j n h l) (λ i p parent lives. same p ∙ t.outlives i p parent (sym (same i) ∙ lives)) (sent_set ns j n h sent t) t
+    tree_linked ns (slice_set ns j n) (length-set ns j n) (linked_set ns j n h l) (λ i p parent lives. same p ∙ t.outlives i p parent (sym (same i) ∙ lives))
+    (inherits_same ns (slice_set ns j n) t (λ i live. sym (same i) ∙ live) (marks_set ns j n h m)) (sent_set ns j n h sent t) t
 
 pub ids_same : (ns ms : List Node) → length ms ≡ length ns → SameLives ns ms → live_ids ms ≡ live_ids ns
 ids_same ns ms len same =
@@ -129,7 +155,7 @@ up_stays ns ms n t same (suc k) i h =
 pub path_linked : (ns ms : List Node) → IsTree ns → ((i : ℕ) → Linked (node_at ns i) (node_at ms i)) → (i : ℕ) → path_at ms i ≡ path_at ns i
 path_linked ns ms t linked i = up_stays ns ms (suc i) t (λ j h. ((linked j).parent, (linked j).ordinal)) (suc i) i (omega arith)
 
-no_end : (xs : Path) (a : ℕ) → [] ≡ child_path xs a → ⊥
+pub no_end : (xs : Path) (a : ℕ) → [] ≡ child_path xs a → ⊥
 no_end [] a e = cc
 no_end (x ∷ xs) a e = cc
 

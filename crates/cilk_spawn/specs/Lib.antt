@@ -1,3 +1,3 @@
 pub mod Nodes
+pub mod Family
 pub mod Records
-pub mod Instances

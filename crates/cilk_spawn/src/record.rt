@@ -1,88 +1,282 @@
-ghost use Rattle.std.specs.Prelude.{◌≡◌, ◌++◌, ◌∷◌, None, Some, [], OnErr, OnOk, drop, slice_get};
-ghost use Rattle.cilk_spawn.specs.Records.{node_of};
+ghost use Rattle.std.specs.Prelude.{ℕ, ◌≡◌, ◌<◌, ◌==◌, ◌++◌, ◌∷◌, None, Some, [], true, cond, length, IfNone, IfOk, IfSome, OnErr, OnOk, drop, option_copied, slice_get};
+ghost use Rattle.cilk_spawn.specs.Nodes.{is_live};
+ghost use Rattle.cilk_spawn.specs.declared.receiver.Receiver.TheVariants.{Nothing};
+ghost use Rattle.cilk_spawn.specs.Records.{node_of, node_at_start, child_of, place_of, SameBeside, HasRoom, NoneBetween};
 
 use crate::delivery::Delivery;
 use crate::ending::Ending;
+use crate::life::{Life, Live};
 use crate::receiver::Receiver;
 use cilk_frame::{Frame, Id, Memory};
 use std::alloc::Global;
-use std::collections::VecDeque;
+use std::collections::{BTreeMap, VecDeque};
+use std::mem::{replace, size_of};
+use std::ops::Bound;
 
-/// What is kept of an instance.
+/// What is kept of each instance ever made.
 #[derive(Drop)]
 pub struct Record {
     pub parent: Option<Id>,
     pub ordinal: u32,
+    pub procedure: u32,
     /// How many children it ever spawned.
     pub children: u32,
-    /// How many of these live.
-    pub living: usize,
-    pub ending: Option<Ending>,
-    pub receiver: Receiver,
-    /// Oldest first.
-    pub waiting: VecDeque<Delivery>,
-    pub parked: Option<Frame>,
+    pub aborted: bool,
+    pub life: Life,
 }
 
+// One that ended keeps this alone, however long the run goes on.
+const _: () = prove!(size_of::<Record>() <= 48);
+
 impl Record {
-    /// An instance at its start. It takes no memory.
-    pub fn start(alloc: Global, parent: Option<Id>, ordinal: u32, receiver: Receiver) -> Record
-        ensures node { node_of result ≡ record {
-          parent = parent;
-          ordinal = ordinal;
-          children = 0;
-          ending = None;
-          receiver = receiver;
-          waiting = [];
-          parked = None;
-        } }
-        ensures living { result.living ≡ 0 }
+    /// An instance at its start.
+    pub fn start(
+        alloc: Global,
+        parent: Option<Id>,
+        ordinal: u32,
+        procedure: u32,
+        aborted: bool,
+        receiver: Receiver,
+        place: usize,
+    ) -> Result<Record, Memory>
+        ensures node { IfOk result (λ r. node_of r ≡ node_at_start parent ordinal procedure aborted receiver) }
+        ensures children { IfOk result (λ r. (k : ℕ) → child_of r.life k ≡ None) }
+        ensures place { IfOk result (λ r. place_of r.life ≡ place) }
     {
-        Record {
+        let live = Box::new(
+            alloc,
+            Live {
+                living: BTreeMap::new(alloc),
+                receiver,
+                waiting: VecDeque::new(alloc),
+                parked: None,
+                place,
+            },
+        )?;
+        Ok(Record {
             parent,
             ordinal,
+            procedure,
             children: 0,
-            living: 0,
-            ending: None,
-            receiver,
-            waiting: VecDeque::new(alloc),
-            parked: None,
+            aborted,
+            life: Life::Live(live),
+        })
+    }
+
+    /// Whether it lives.
+    pub fn is_live(&self) -> bool
+        ensures { result ≡ is_live (node_of self.now) }
+    {
+        match &self.life {
+            Life::Live(_) => true,
+            Life::Ended(_) => false,
         }
     }
 
-    /// A value waits, behind those that wait already.
-    pub fn send(&mut self, delivery: Delivery) -> Result<(), Memory>
-        ensures ok { OnOk result (node_of self.new ≡ record (node_of self.old) { waiting = self.old.waiting.items ++ delivery ∷ [] }) }
-        ensures err { OnErr result (node_of self.new ≡ node_of self.old) }
-        ensures living { self.new.living ≡ self.old.living }
+    /// A child more, with the next ordinal.
+    pub fn adopt(&mut self, ordinal: u32, child: Id) -> Result<(), Memory>
+        requires live { is_live (node_of self.old) ≡ true }
+        ensures node { OnOk result (node_of self.new ≡ record (node_of self.old) { children = ordinal }) }
+        ensures children { OnOk result ((k : ℕ) → child_of self.new.life k ≡ cond (ordinal == k) (Some child) (child_of self.old.life k)) }
+        ensures place { OnOk result (place_of self.new.life ≡ place_of self.old.life) }
+        ensures err { OnErr result ((node_of self.new ≡ node_of self.old) × SameBeside self.old self.new) }
     {
-        self.waiting.push_back(delivery)?;
+        match &mut self.life {
+            Life::Live(live) => {
+                live.living.insert(ordinal, child)?;
+            }
+            Life::Ended(_) => {}
+        }
+        self.children = ordinal;
         Ok(())
+    }
+
+    /// The child with this ordinal lives no more.
+    pub fn lose(&mut self, ordinal: u32)
+        ensures node { node_of self.new ≡ node_of self.old }
+        ensures children { (k : ℕ) → child_of self.new.life k ≡ cond (ordinal == k) None (child_of self.old.life k) }
+        ensures place { place_of self.new.life ≡ place_of self.old.life }
+    {
+        match &mut self.life {
+            Life::Live(live) => {
+                live.living.remove(&ordinal);
+            }
+            Life::Ended(_) => {}
+        }
+    }
+
+    /// It has this place now among those that live.
+    pub fn move_to(&mut self, place: usize)
+        requires live { is_live (node_of self.old) ≡ true }
+        ensures node { node_of self.new ≡ node_of self.old }
+        ensures children { (k : ℕ) → child_of self.new.life k ≡ child_of self.old.life k }
+        ensures place { place_of self.new.life ≡ place }
+    {
+        match &mut self.life {
+            Life::Live(live) => live.place = place,
+            Life::Ended(_) => {}
+        }
+    }
+
+    /// It lives no more.
+    pub fn end(&mut self, ending: Ending)
+        ensures node { node_of self.new ≡ record (node_of self.old) { ending = Some ending; receiver = Nothing; waiting = []; parked = None } }
+        ensures children { (k : ℕ) → child_of self.new.life k ≡ None }
+    {
+        self.life = Life::Ended(ending);
+    }
+
+    /// Room for one more value that waits.
+    pub fn make_room(&mut self) -> Result<(), Memory>
+        requires live { is_live (node_of self.old) ≡ true }
+        ensures node { node_of self.new ≡ node_of self.old }
+        ensures beside { SameBeside self.old self.new }
+        ensures room { OnOk result (HasRoom self.new.life) }
+    {
+        match &mut self.life {
+            Life::Live(live) => live.waiting.reserve(1)?,
+            Life::Ended(_) => {}
+        }
+        Ok(())
+    }
+
+    /// A value waits, behind those that wait already.
+    pub fn send(&mut self, delivery: Delivery)
+        requires room { HasRoom self.old.life }
+        ensures node { node_of self.new ≡ record (node_of self.old) { waiting = (node_of self.old).waiting ++ delivery ∷ [] } }
+        ensures beside { SameBeside self.old self.new }
+    {
+        match &mut self.life {
+            Life::Live(live) => live.waiting.push_back_reserved(delivery),
+            Life::Ended(_) => unreachable!(),
+        }
+    }
+
+    /// Takes out what takes its value.
+    pub fn take_receiver(&mut self) -> Receiver
+        ensures result { result ≡ (node_of self.old).receiver }
+        ensures node { node_of self.new ≡ record (node_of self.old) { receiver = Nothing } }
+        ensures beside { SameBeside self.old self.new }
+    {
+        match &mut self.life {
+            Life::Live(live) => replace(&mut live.receiver, Receiver::Nothing),
+            Life::Ended(_) => Receiver::Nothing,
+        }
     }
 
     /// Takes out the value that has waited longest.
     pub fn take_oldest(&mut self) -> Option<Delivery>
-        ensures result { result ≡ slice_get self.old.waiting.items 0 }
-        ensures node { node_of self.new ≡ record (node_of self.old) { waiting = drop 1 self.old.waiting.items } }
-        ensures living { self.new.living ≡ self.old.living }
+        ensures result { result ≡ slice_get (node_of self.old).waiting 0 }
+        ensures node { node_of self.new ≡ record (node_of self.old) { waiting = drop 1 (node_of self.old).waiting } }
+        ensures beside { SameBeside self.old self.new }
     {
-        self.waiting.pop_front()
+        match &mut self.life {
+            Life::Live(live) => live.waiting.pop_front(),
+            Life::Ended(_) => None,
+        }
     }
 
     /// Keeps the frame.
     pub fn park(&mut self, frame: Frame)
+        requires live { is_live (node_of self.old) ≡ true }
         ensures node { node_of self.new ≡ record (node_of self.old) { parked = Some frame } }
-        ensures living { self.new.living ≡ self.old.living }
+        ensures beside { SameBeside self.old self.new }
     {
-        self.parked = Some(frame);
+        match &mut self.life {
+            Life::Live(live) => live.parked = Some(frame),
+            Life::Ended(_) => unreachable!(),
+        }
     }
 
     /// Takes out the frame that is kept.
     pub fn unpark(&mut self) -> Option<Frame>
-        ensures result { result ≡ self.old.parked }
+        ensures result { result ≡ (node_of self.old).parked }
         ensures node { node_of self.new ≡ record (node_of self.old) { parked = None } }
-        ensures living { self.new.living ≡ self.old.living }
+        ensures beside { SameBeside self.old self.new }
     {
-        self.parked.take()
+        match &mut self.life {
+            Life::Live(live) => live.parked.take(),
+            Life::Ended(_) => None,
+        }
+    }
+
+    /// What takes the value of an instance that lives.
+    pub fn receiver(&self) -> &Receiver
+        requires { is_live (node_of self.now) ≡ true }
+        ensures { result.now ≡ (node_of self.now).receiver }
+    {
+        match &self.life {
+            Life::Live(live) => &live.receiver,
+            Life::Ended(_) => unreachable!(),
+        }
+    }
+
+    /// The value that has waited longest.
+    pub fn first_delivery(&self) -> Option<&Delivery>
+        ensures { option_copied result ≡ slice_get (node_of self.now).waiting 0 }
+    {
+        match &self.life {
+            Life::Live(live) => live.waiting.front(),
+            Life::Ended(_) => None,
+        }
+    }
+
+    /// How many values wait.
+    pub fn waiting(&self) -> usize
+        ensures { result ≡ length (node_of self.now).waiting }
+    {
+        match &self.life {
+            Life::Live(live) => live.waiting.len(),
+            Life::Ended(_) => 0,
+        }
+    }
+
+    /// The frame that is kept.
+    pub fn parked(&self) -> Option<&Frame>
+        ensures { option_copied result ≡ (node_of self.now).parked }
+    {
+        match &self.life {
+            Life::Live(live) => live.parked.as_ref(),
+            Life::Ended(_) => None,
+        }
+    }
+
+    /// Where it stands among those that live.
+    pub fn place(&self) -> usize
+        ensures { result ≡ place_of self.now.life }
+    {
+        match &self.life {
+            Life::Live(live) => live.place,
+            Life::Ended(_) => 0,
+        }
+    }
+
+    /// The live child with this ordinal.
+    pub fn child(&self, ordinal: u32) -> Option<Id>
+        ensures { result ≡ child_of self.now.life ordinal }
+    {
+        match &self.life {
+            Life::Live(live) => live.living.get(&ordinal).copied(),
+            Life::Ended(_) => None,
+        }
+    }
+
+    /// The live child with the least ordinal above this one, and that ordinal.
+    pub fn next_child(&self, after: u32) -> Option<(u32, Id)>
+        ensures above { IfSome result (λ e. after < e.0) }
+        ensures child { IfSome result (λ e. child_of self.now.life e.0 ≡ Some e.1) }
+        ensures least { IfSome result (λ e. NoneBetween self.now.life after e.0) }
+        ensures none { IfNone result ((k : ℕ) → after < k → child_of self.now.life k ≡ None) }
+    {
+        match &self.life {
+            Life::Live(live) => {
+                let later = (Bound::Excluded(after), Bound::Unbounded);
+                match live.living.range(later).next() {
+                    Some((ordinal, child)) => Some((*ordinal, *child)),
+                    None => None,
+                }
+            }
+            Life::Ended(_) => None,
+        }
     }
 }

@@ -1,10 +1,10 @@
-ghost use Rattle.std.specs.Prelude.{ℕ, ◌≡◌, ◌<◌, ◌+◌, ◌^◌, IsTrue, length, None, Some, false, true, IfOk, IfSome, OnErr, OnOk, option_copied, slice_get};
-ghost use Rattle.cilk_model.specs.Path.{same_path};
-ghost use Rattle.cilk_spawn.specs.Nodes.{node_at, is_live, live_ids, has_live_child, is_synched, takes_value, root_alone, with_child, delivered, taken, ended, with_parked, path_at, IsTree};
+ghost use Rattle.std.specs.Prelude.{ℕ, ◌≡◌, ◌<◌, ◌+◌, ◌^◌, length, None, Some, false, true, [], ◌++◌, ◌∷◌, IfOk, IfSome, OnErr, OnOk, option_copied, slice_get};
+ghost use Rattle.cilk_spawn.specs.Nodes.{node_at, is_live, live_ids, has_live_child, is_synched, takes_value, root_alone, with_child, delivered, taken, ended, with_parked, marked_below, path_at, IsTree};
+ghost use Rattle.cilk_spawn.specs.Family.{IsRoll};
 
 use crate::delivery::Delivery;
 use crate::ending::Ending;
-use crate::kin::Kin;
+use crate::leaving::{leave_parent, settle};
 use crate::path::Path;
 use crate::receiver::Receiver;
 use crate::record::Record;
@@ -16,151 +16,192 @@ use std::marker::Model;
 #[derive(Drop)]
 pub struct Tree {
     records: Vec<Record>,
-    /// The parent and the ordinal of each record, side by side, since paths are read often.
-    kin: Vec<Kin>,
-    /// The ids of those that live, in the order of birth.
-    live: Vec<Id>,
+    /// The ids of those that live, each at the place that its record tells.
+    living: Vec<Id>,
 }
 
 impl Model for Tree {
-    ghost use Rattle.std.specs.Prelude.{◌≡◌, List, map};
-    ghost use Rattle.cilk_spawn.specs.Nodes.{Node};
-    ghost use Rattle.cilk_spawn.specs.Records.{nodes_of, kin_of, Kept};
+    ghost use Rattle.cilk_spawn.specs.Family.{Family};
+    ghost use Rattle.cilk_spawn.specs.Records.{nodes_of, Kept};
 
-    ghost Value = { List Node };
+    ghost Value = { Family };
 
-    ghost view = { λ t. nodes_of t.records.items };
+    ghost view = { λ t. record { nodes = nodes_of t.records.items; living = t.living.items } };
 
-    ghost invariant = { λ t. Kept t.records.items t.live.items × (t.kin.items ≡ map kin_of (nodes_of t.records.items)) };
+    ghost invariant = { λ t. Kept t.records.items t.living.items };
 }
 
 impl Tree {
-    /// The root alone.
-    pub fn new(alloc: Global) -> Result<Tree, Memory>
-        ensures { IfOk result (λ tree. tree ≡ root_alone) }
+    /// The root alone, `main` being this procedure.
+    pub fn new(alloc: Global, procedure: u32) -> Result<Tree, Memory>
+        ensures { IfOk result (λ tree. tree ≡ record { nodes = root_alone procedure; living = 0 ∷ [] }) }
     {
         let mut records = Vec::new(alloc);
-        records.push(Record::start(alloc, None, 0, Receiver::Nothing))?;
-        let mut kin = Vec::new(alloc);
-        kin.push(Kin {
-            parent: None,
-            ordinal: 0,
-        })?;
-        let mut live = Vec::new(alloc);
-        live.push(Id::new(0))?;
-        Ok(Tree { records, kin, live })
+        records.push(Record::start(alloc, None, 0, procedure, false, Receiver::Nothing, 0)?)?;
+        let mut living = Vec::new(alloc);
+        living.push(Id::new(0))?;
+        Ok(Tree { records, living })
     }
 
     /// The id that the next child gets, whoever spawns it.
     pub fn next_id(&self) -> Id
-        ensures id { result ≡ length self.now }
-        ensures tree { IsTree self.now }
+        ensures id { result ≡ length self.now.nodes }
+        ensures tree { IsTree self.now.nodes }
     {
         Id::new(self.records.len())
     }
 
-    /// A live parent spawns a child, and answers its id (Cilk 5.4 manual, `spawn`).
-    pub fn add_child(&mut self, parent: Id, receiver: Receiver) -> Result<Id, Memory>
-        requires live { is_live (node_at self.old parent) ≡ true }
-        requires room { (node_at self.old parent).children + 1 < 2 ^ 32 }
-        ensures id { IfOk result (λ id. id ≡ length self.old) }
-        ensures ok { OnOk result (self.new ≡ with_child self.old parent receiver) }
+    /// A live parent spawns a child, which is marked where the parent is, and answers its id
+    /// (Cilk 5.4 manual, `spawn`).
+    pub fn add_child(
+        &mut self,
+        parent: Id,
+        procedure: u32,
+        receiver: Receiver,
+    ) -> Result<Id, Memory>
+        requires live { is_live (node_at self.old.nodes parent) ≡ true }
+        requires room { (node_at self.old.nodes parent).children + 1 < 2 ^ 32 }
+        ensures id { IfOk result (λ id. id ≡ length self.old.nodes) }
+        ensures nodes { OnOk result (self.new.nodes ≡ with_child self.old.nodes parent procedure receiver) }
+        ensures living { OnOk result (self.new.living ≡ self.old.living ++ length self.old.nodes ∷ []) }
         ensures err { OnErr result (self.new ≡ self.old) }
     {
         let alloc = *self.records.allocator();
-        let id = self.next_id();
+        let id = Id::new(self.records.len());
         let spawner = parent.number();
-        let ordinal = self.records[spawner].children + 1;
-        self.live.reserve(1)?;
-        self.kin.reserve(1)?;
-        self.records
-            .push(Record::start(alloc, Some(parent), ordinal, receiver))?;
-        self.kin.push(Kin {
-            parent: Some(parent),
+        let record = &self.records[spawner];
+        let ordinal = record.children + 1;
+        let aborted = record.aborted;
+        let place = self.living.len();
+        let child = Record::start(
+            alloc,
+            Some(parent),
             ordinal,
-        })?;
-        self.live.push(id)?;
-        let record = &mut self.records[spawner];
-        record.children = ordinal;
-        record.living += 1;
+            procedure,
+            aborted,
+            receiver,
+            place,
+        )?;
+        self.records.reserve(1)?;
+        self.living.reserve(1)?;
+        self.records[spawner].adopt(ordinal, id)?;
+        self.records.push_reserved(child);
+        self.living.push_reserved(id);
         Ok(id)
     }
 
-    /// The value of a child waits for the parent, behind what waited before.
+    /// The value of a live child waits for the parent, behind what waited before, and takes along
+    /// what takes it.
     pub fn deliver(&mut self, child: Id, value: i32) -> Result<(), Memory>
-        requires there { child < length self.old }
-        requires receiver { takes_value (node_at self.old child).receiver ≡ true }
-        ensures ok { OnOk result (self.new ≡ delivered self.old child value) }
+        requires live { is_live (node_at self.old.nodes child) ≡ true }
+        requires receiver { takes_value (node_at self.old.nodes child).receiver ≡ true }
+        ensures ok { OnOk result (self.new ≡ record self.old { nodes = delivered self.old.nodes child value }) }
         ensures err { OnErr result (self.new ≡ self.old) }
     {
-        let record = &self.records[child.number()];
-        let receiver = record.receiver;
-        match record.parent {
+        match self.records[child.number()].parent {
             None => Ok(()),
             Some(parent) => {
-                let delivery = Delivery {
+                self.records[parent.number()].make_room()?;
+                let receiver = self.records[child.number()].take_receiver();
+                self.records[parent.number()].send(Delivery {
                     child,
                     value,
                     receiver,
-                };
-                self.records[parent.number()].send(delivery)
+                });
+                Ok(())
             }
         }
     }
 
-    /// Takes the oldest delivery that waits for an instance.
+    /// Takes the oldest delivery that waits for a live instance.
     pub fn take_delivery(&mut self, id: Id) -> Option<Delivery>
-        requires there { id < length self.old }
-        ensures result { result ≡ slice_get (node_at self.old id).waiting 0 }
-        ensures tree { self.new ≡ taken self.old id }
+        requires live { is_live (node_at self.old.nodes id) ≡ true }
+        ensures result { result ≡ slice_get (node_at self.old.nodes id).waiting 0 }
+        ensures tree { self.new ≡ record self.old { nodes = taken self.old.nodes id } }
     {
         self.records[id.number()].take_oldest()
     }
 
-    /// A live instance, all of whose children have ended, ends too.
-    pub fn end(&mut self, id: Id, ending: Ending)
-        requires live { is_live (node_at self.old id) ≡ true }
-        requires children { has_live_child self.old id ≡ false }
-        requires parked { (node_at self.old id).parked ≡ None }
-        ensures { self.new ≡ ended self.old id ending }
+    /// Marks the live descendants of a live instance (Cilk 5.4 manual, `abort`).
+    pub fn mark_aborted(&mut self, id: Id)
+        requires live { is_live (node_at self.old.nodes id) ≡ true }
+        ensures { self.new ≡ record self.old { nodes = marked_below self.old.nodes id } }
     {
-        let ended = id.number();
-        match self.records[ended].parent {
-            Some(parent) => self.records[parent.number()].living -= 1,
-            None => {}
+        let mut at = id;
+        let mut after = 0;
+        loop {
+            match self.records[at.number()].next_child(after) {
+                Some(next) => {
+                    let (ordinal, child) = next;
+                    let number = child.number();
+                    if self.records[number].aborted {
+                        after = ordinal;
+                    } else {
+                        self.records[number].aborted = true;
+                        at = child;
+                        after = 0;
+                    }
+                }
+                None => {
+                    if at == id {
+                        return;
+                    }
+                    let record = &self.records[at.number()];
+                    match record.parent {
+                        None => return,
+                        Some(parent) => {
+                            after = record.ordinal;
+                            at = parent;
+                        }
+                    }
+                }
+            }
         }
-        self.records[ended].ending = Some(ending);
-        self.live.retain(|other| other.number() != ended);
     }
 
-    /// Keeps the frame of an instance, until it is taken out.
+    /// A live instance, all of whose children have ended, ends too.
+    pub fn end(&mut self, id: Id, ending: Ending)
+        requires live { is_live (node_at self.old.nodes id) ≡ true }
+        requires children { has_live_child self.old.nodes id ≡ false }
+        requires parked { (node_at self.old.nodes id).parked ≡ None }
+        ensures { self.new.nodes ≡ ended self.old.nodes id ending }
+    {
+        let number = id.number();
+        let place = self.records[number].place();
+        leave_parent(&mut self.records, number);
+        self.records[number].end(ending);
+        self.living.swap_remove(place);
+        settle(&mut self.records, self.living.as_slice(), place);
+    }
+
+    /// Keeps the frame of a live instance, until it is taken out.
     pub fn park(&mut self, frame: Frame)
-        requires there { frame.id < length self.old }
-        requires free { (node_at self.old frame.id).parked ≡ None }
-        ensures { self.new ≡ with_parked self.old frame.id (Some frame) }
+        requires live { is_live (node_at self.old.nodes frame.id) ≡ true }
+        requires free { (node_at self.old.nodes frame.id).parked ≡ None }
+        ensures { self.new ≡ record self.old { nodes = with_parked self.old.nodes frame.id (Some frame) } }
     {
         let id = frame.id().number();
         self.records[id].park(frame);
     }
 
-    /// Takes out the frame of an instance, if it is parked.
+    /// Takes out the frame of a live instance, if it is parked.
     pub fn unpark(&mut self, id: Id) -> Option<Frame>
-        requires there { id < length self.old }
-        ensures result { result ≡ (node_at self.old id).parked }
-        ensures tree { self.new ≡ with_parked self.old id None }
+        requires live { is_live (node_at self.old.nodes id) ≡ true }
+        ensures result { result ≡ (node_at self.old.nodes id).parked }
+        ensures tree { self.new ≡ record self.old { nodes = with_parked self.old.nodes id None } }
     {
         self.records[id.number()].unpark()
     }
 
     /// The ordinals from the root's child down.
     pub fn path_of(&self, id: Id) -> Result<Path, Memory>
-        requires { id < length self.now }
-        ensures { IfOk result (λ path. path ≡ path_at self.now id) }
+        requires { id < length self.now.nodes }
+        ensures { IfOk result (λ path. path ≡ path_at self.now.nodes id) }
     {
         let mut numbers = Vec::new(*self.records.allocator());
         let mut at = id;
-        while let Some(parent) = self.kin[at.number()].parent {
-            numbers.push(self.kin[at.number()].ordinal)?;
+        while let Some(parent) = self.records[at.number()].parent {
+            numbers.push(self.records[at.number()].ordinal)?;
             at = parent;
         }
         numbers.reverse();
@@ -169,112 +210,116 @@ impl Tree {
 
     /// The live instance with this path.
     pub fn find(&self, path: &[u32]) -> Option<Id>
-        ensures there { IfSome result (λ id. id < length self.now) }
-        ensures found { IfSome result (λ id. (is_live (node_at self.now id) ≡ true) × (path_at self.now id ≡ path.now)) }
-        ensures all { (id : ℕ) → is_live (node_at self.now id) ≡ true → path_at self.now id ≡ path.now → result ≡ Some id }
+        ensures found { IfSome result (λ id. (is_live (node_at self.now.nodes id) ≡ true) × (path_at self.now.nodes id ≡ path.now)) }
+        ensures all { (id : ℕ) → is_live (node_at self.now.nodes id) ≡ true → path_at self.now.nodes id ≡ path.now → result ≡ Some id }
     {
-        for id in self.live.iter() {
-            if self.has_path(*id, path) {
-                return Some(*id);
+        let mut at = Id::new(0);
+        for ordinal in path {
+            match self.records[at.number()].child(*ordinal) {
+                None => return None,
+                Some(child) => at = child,
             }
         }
-        None
-    }
-
-    // Whether an instance has this path, read from its end.
-    fn has_path(&self, id: Id, path: &[u32]) -> bool
-        requires { id < length self.now }
-        ensures { result ≡ same_path (path_at self.now id) path.now }
-    {
-        let mut at = id;
-        let mut rest = path;
-        while let Some((last, front)) = rest.split_last() {
-            let kin = &self.kin[at.number()];
-            match kin.parent {
-                Some(parent) if kin.ordinal == *last => at = parent,
-                _ => return false,
-            }
-            rest = front;
+        if self.records[at.number()].is_live() {
+            Some(at)
+        } else {
+            None
         }
-        self.kin[at.number()].parent.is_none()
     }
 
     /// Nothing to wait for: no child lives, and no delivery waits (Cilk 5.4 manual, `SYNCHED`).
     pub fn is_synched(&self, id: Id) -> bool
-        requires { id < length self.now }
-        ensures { result ≡ is_synched self.now id }
+        requires { id < length self.now.nodes }
+        ensures { result ≡ is_synched self.now.nodes id }
     {
-        let record = &self.records[id.number()];
-        record.living == 0 && record.waiting.is_empty()
+        !self.has_live_child(id) && self.waiting(id) == 0
     }
 
     /// The delivery that waits longest.
-    pub fn first_delivery(&self, id: Id) -> Option<Delivery>
-        requires { id < length self.now }
-        ensures { result ≡ slice_get (node_at self.now id).waiting 0 }
+    pub fn first_delivery(&self, id: Id) -> Option<&Delivery>
+        requires { id < length self.now.nodes }
+        ensures { option_copied result ≡ slice_get (node_at self.now.nodes id).waiting 0 }
     {
-        self.records[id.number()].waiting.front().copied()
+        self.records[id.number()].first_delivery()
     }
 
-    /// What takes the instance's value.
-    pub fn receiver(&self, id: Id) -> Receiver
-        requires { id < length self.now }
-        ensures { result ≡ (node_at self.now id).receiver }
+    /// What takes the value of a live instance.
+    pub fn receiver(&self, id: Id) -> &Receiver
+        requires { is_live (node_at self.now.nodes id) ≡ true }
+        ensures { result.now ≡ (node_at self.now.nodes id).receiver }
     {
-        self.records[id.number()].receiver
+        self.records[id.number()].receiver()
     }
 
     /// Who spawned the instance. The root has no parent.
     pub fn parent(&self, id: Id) -> Option<Id>
-        requires { id < length self.now }
-        ensures { result ≡ (node_at self.now id).parent }
+        requires { id < length self.now.nodes }
+        ensures { result ≡ (node_at self.now.nodes id).parent }
     {
-        self.kin[id.number()].parent
+        self.records[id.number()].parent
+    }
+
+    /// The number of its procedure's body.
+    pub fn procedure(&self, id: Id) -> u32
+        requires { id < length self.now.nodes }
+        ensures { result ≡ (node_at self.now.nodes id).procedure }
+    {
+        self.records[id.number()].procedure
+    }
+
+    /// Whether an `abort` marked it.
+    pub fn is_aborted(&self, id: Id) -> bool
+        requires { id < length self.now.nodes }
+        ensures { result ≡ (node_at self.now.nodes id).aborted }
+    {
+        self.records[id.number()].aborted
     }
 
     /// Whether a child of it lives.
     pub fn has_live_child(&self, id: Id) -> bool
-        requires { id < length self.now }
-        ensures { result ≡ has_live_child self.now id }
+        requires { id < length self.now.nodes }
+        ensures { result ≡ has_live_child self.now.nodes id }
     {
-        self.records[id.number()].living > 0
+        self.records[id.number()].next_child(0).is_some()
     }
 
     /// How many deliveries wait for it.
     pub fn waiting(&self, id: Id) -> usize
-        requires { id < length self.now }
-        ensures { result ≡ length (node_at self.now id).waiting }
+        requires { id < length self.now.nodes }
+        ensures { result ≡ length (node_at self.now.nodes id).waiting }
     {
-        self.records[id.number()].waiting.len()
+        self.records[id.number()].waiting()
     }
 
     /// How many children it ever spawned.
     pub fn children(&self, id: Id) -> u32
-        requires { id < length self.now }
-        ensures { result ≡ (node_at self.now id).children }
+        requires { id < length self.now.nodes }
+        ensures { result ≡ (node_at self.now.nodes id).children }
     {
         self.records[id.number()].children
     }
 
     /// How many instances live.
     pub fn live(&self) -> usize
-        ensures { result ≡ length (live_ids self.now) }
+        ensures { result ≡ length (live_ids self.now.nodes) }
     {
-        self.live.len()
+        self.living.len()
     }
 
-    /// The live instance with this place in the order of birth, from 0 on.
+    /// The live instances one after another, each once, from place 0 on. A birth puts the new one
+    /// behind the others, and an end may give its place to the last.
     pub fn nth(&self, i: usize) -> Option<Id>
-        ensures { result ≡ slice_get (live_ids self.now) i }
+        ensures id { result ≡ slice_get self.now.living i }
+        ensures each { IsRoll self.now.nodes self.now.living }
     {
-        self.live.get(i).copied()
+        self.living.get(i).copied()
     }
 
     /// The frame of an instance, if it is parked.
     pub fn parked(&self, id: Id) -> Option<&Frame>
-        requires { id < length self.now }
-        ensures { option_copied result ≡ (node_at self.now id).parked }
+        requires { id < length self.now.nodes }
+        ensures { option_copied result ≡ (node_at self.now.nodes id).parked }
     {
-        self.records[id.number()].parked.as_ref()
+        self.records[id.number()].parked()
     }
 }

@@ -13,16 +13,16 @@ use Rattle.cilk_labelled.specs.Names.{Names, with_words, with_local, in_inlet}
 use Rattle.cilk_labelled.specs.Label.{locals_variables, stmt_variables, stmts_variables, block_variables}
 use Rattle.cilk_labelled.specs.Count.{count_local, count_item}
 use Rattle.cilk_labelled.specs.Bodies.{one_cell, parameter_variables, label_body, inlet_bodies, procedure_names, block_locals, body_count, items_bodies, file_names, label}
-use Rattle.cilk_runs.specs.Values.{initial_values}
-use Rattle.cilk_runs.specs.Instance.{no_body, body_at, with_arguments, entered}
+use Rattle.cilk_model.specs.Values.{initial_values}
+use Rattle.cilk_model.specs.Instance.{no_body, body_at, with_arguments, entered}
 use Rattle.cilk_nodes.specs.Slots.{size_of, flat, cells_of}
 use Rattle.cilk_nodes.specs.Table.{number_of}
 use Rattle.cilk_nodes.specs.Bodies.{body_table, body_of}
-use Rattle.cilk_frames.specs.declared.awaited.Await.{Await}
-use Rattle.cilk_frames.specs.Starts.{first_cells}
+use Rattle.cilk_frame.specs.declared.awaited.Await.{Await}
+use Rattle.cilk_frame.specs.Starts.{first_cells}
 use Rattle.cilk_stands.specs.Starts.{Takes, starts_with, first_activation}
 use Rattle.cilk_stands.specs.Stands.{Activates}
-use Rattle.cilk_runs.specs.Values.{Reached}
+use Rattle.cilk_model.specs.Values.{Reached}
 
 -- variables that hold 0 before any action
 abbrev AllZero : List Variable → Type 0

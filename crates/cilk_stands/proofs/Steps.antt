@@ -7,16 +7,16 @@ use Rattle.cilk_syntax.specs.Tree.{Program}
 use Rattle.cilk_labelled.specs.Labelled.{Declaration, Labelled}
 use Rattle.cilk_labelled.specs.Items.{opened, next}
 use Rattle.cilk_labelled.specs.Bodies.{label, is_procedure}
-use Rattle.cilk_runs.specs.Values.{Values, Reached}
-use Rattle.cilk_runs.specs.State.{is_empty}
-use Rattle.cilk_runs.specs.Change.{gone_on, put}
-use Rattle.cilk_runs.specs.Instance as model
-use Rattle.cilk_runs.specs.Instance.{Receiver, Delivery, Instance, body_at, outer_values}
+use Rattle.cilk_model.specs.Values.{Values, Reached}
+use Rattle.cilk_model.specs.State.{is_empty}
+use Rattle.cilk_model.specs.Change.{gone_on, put}
+use Rattle.cilk_model.specs.Instance as model
+use Rattle.cilk_model.specs.Instance.{Receiver, Delivery, Instance, body_at, outer_values}
 use Rattle.cilk_nodes.specs.Slots.{size_of, flat, is_inlet, procedure_around, slot_of}
 use Rattle.cilk_nodes.specs.Table.{number_of}
 use Rattle.cilk_nodes.specs.Bodies.{body_of}
-use Rattle.cilk_frames.specs.declared.awaited.Await.{Await}
-use Rattle.cilk_frames.specs.Frames.{Activation, Frame, no_activation, activation_at, depth, top_of, jumped, with_boundary, entered, left}
+use Rattle.cilk_frame.specs.declared.awaited.Await.{Await}
+use Rattle.cilk_frame.specs.Frames.{Activation, Frame, no_activation, activation_at, depth, top_of, jumped, with_boundary, entered, left}
 use Rattle.cilk_stands.specs.Starts.{Takes, first_activation, started}
 use Rattle.cilk_stands.specs.Cells.{own_variables, outer_variables, IsInlet, HasCell, frame_put}
 use Rattle.cilk_stands.specs.Stands.{AwaitsSame, Activates, AllActivate, bodies_of, lowest_of, AllInside, StandsFor}

@@ -3,16 +3,16 @@ use Rattle.std.proofs.Common.{◌≡◌, ℕ, zero, suc, ◌+◌, ◌-◌, ◌<�
 use Rattle.std.specs.Prelude.{slice_index_or, ⊤}
 use Rattle.cilk_values.specs.Term.{Term, rename}
 use Rattle.cilk_values.specs.Value.{Environment, seen_through, value_of}
-use Rattle.cilk_terms.specs.declared.area.Area.{Area}
-use Rattle.cilk_terms.specs.declared.area.Area.TheVariants.{Own, Outer, Global}
-use Rattle.cilk_terms.specs.declared.slot.Slot.{Slot}
-use Rattle.cilk_terms.specs.Reads.{SameArray}
-use Rattle.cilk_terms.specs.Slots.{Cells, area_cells, slot_cell, sizes_of, area_size, LiesWithin, SlotsLieWithin}
-use Rattle.cilk_terms.specs.Slots as slots
-use Rattle.cilk_terms.proofs.Places.{AllReads-map, AllReads-rename}
-use Rattle.cilk_terms.proofs.Environments.{value_of-rename, value_of-same}
+use Rattle.cilk_eval.specs.declared.area.Area.{Area}
+use Rattle.cilk_eval.specs.declared.area.Area.TheVariants.{Own, Outer, Global}
+use Rattle.cilk_eval.specs.declared.slot.Slot.{Slot}
+use Rattle.cilk_eval.specs.Reads.{SameArray}
+use Rattle.cilk_eval.specs.Slots.{Cells, area_cells, slot_cell, sizes_of, area_size, LiesWithin, SlotsLieWithin}
+use Rattle.cilk_eval.specs.Slots as slots
+use Rattle.cilk_eval.proofs.Places.{AllReads-map, AllReads-rename}
+use Rattle.cilk_eval.proofs.Environments.{value_of-rename, value_of-same}
 use Rattle.cilk_labelled.specs.Labelled.{Declaration, local, outer, global, of_lock, of_body, unknown, Variable, Labelled}
-use Rattle.cilk_runs.specs.Values.{Values, Store, cell_of, environment}
+use Rattle.cilk_model.specs.Values.{Values, Store, cell_of, environment}
 use Rattle.cilk_nodes.specs.Slots.{size_of, flat, slot_from, slot_of}
 use Rattle.cilk_stands.specs.Cells.{no_variable, own_variables, outer_variables, IsInlet, HasCell}
 use Rattle.cilk_stands.specs.Reads.{IsVariable, IsArray, IsKnown, Seen}

@@ -3,9 +3,9 @@ use Rattle.std.specs.Prelude.{◌≡◌, ℕ, ℤ, false, List, [], ◌∷◌, l
 use Rattle.cilk_syntax.specs.Tree.{Program}
 use Rattle.cilk_nodes.specs.declared.body.Body.{Body}
 use Rattle.cilk_nodes.specs.Bodies.{body_of}
-use Rattle.cilk_frames.specs.declared.awaited.Await.{Await}
-use Rattle.cilk_frames.specs.Frames.{Activation, Frame, no_activation}
-use Rattle.cilk_frames.specs.Starts.{activation_of}
+use Rattle.cilk_frame.specs.declared.awaited.Await.{Await}
+use Rattle.cilk_frame.specs.Frames.{Activation, Frame, no_activation}
+use Rattle.cilk_frame.specs.Starts.{activation_of}
 
 -- a body is there, and takes these arguments (C 1990, 6.3.2.2)
 abbrev pub Takes : Option Body → List ℤ → Type 0

@@ -1,8 +1,4 @@
-pub mod Made
-pub mod Several
-pub mod Cells
-pub mod Here
-pub mod Heads
-pub mod Acts
-pub mod Deliveries
-pub mod Nodes
+pub mod Waits
+pub mod Ways
+pub mod Left
+pub mod Fits

@@ -1,4 +1,1 @@
-pub mod Words
-pub mod Plans
-pub mod Reads
-pub mod Made
+pub mod Scenes

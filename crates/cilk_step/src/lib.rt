@@ -1,15 +1,17 @@
-//! What one step of an instance comes to, told before anything is changed.
+//! The step of an instance, planned before anything is changed.
 #![tactic(auto)]
 
 mod act;
-mod arguments;
-mod kind;
-mod parts;
+mod delivery;
+mod laws;
+mod leaving;
 mod plan;
-mod reached;
-mod values;
+mod scene;
+mod waiting;
 
-pub use cilk_spawn::{Frame, Id, Memory, Path, Receiver, Tree};
-pub use kind::Kind;
-pub use plan::{Plan, plan_step};
-pub use reached::Reached;
+pub use cilk_plans::{Kind, Plan};
+pub use cilk_syntax::Memory;
+pub use laws::scenes_fit;
+pub use plan::plan_step;
+pub use scene::Scene;
+pub use waiting::has_to_wait;

@@ -1,120 +1,44 @@
 //! The step that an instance takes.
 
 ghost use Rattle.std.specs.Prelude.{◌≡◌, ◌<◌, length, IfOk};
-ghost use Rattle.cilk_model.specs.Instance.{Instance};
-ghost use Rattle.cilk_model.specs.State.{State};
-ghost use Rattle.cilk_agree.specs.Ready.{Ready, CanStep};
-ghost use Rattle.cilk_step.specs.Plans.{IsPlan};
-ghost use Rattle.cilk_step.specs.Reads.{syncs, waits, delivery_before};
+ghost use Rattle.cilk_plans.specs.Sights.{id_of};
+ghost use Rattle.cilk_plans.specs.Made.{planned};
+ghost use Rattle.cilk_step.specs.Scenes.{sight_of, HeadFits};
 
-use crate::act::{act, delivered};
-use crate::kind::Kind;
-use crate::reached::Reached;
-use cilk_load::{Action, Loaded};
-use cilk_spawn::{Delivery, Frame, Memory, Path, Receiver, Tree};
+use crate::act::{act, at_boundary};
+use crate::delivery::taken;
+use crate::scene::Scene;
+use cilk_plans::Plan;
+use cilk_syntax::Memory;
 use std::alloc::Global;
 
-/// What a step is to do. It has all the memory that it takes, but that of the tree and of a deque.
-#[derive(Drop)]
-pub enum Plan {
-    /// The instance waits for its children.
-    Park,
-    /// It is trapped at action n, and the program ends. The path is there twice: for the event, and
-    /// for the outcome.
-    Trap {
-        kind: Kind,
-        path: Path,
-        copy: Path,
-        n: u32,
-    },
-    /// Action n leads to the next one, and changes nothing else.
-    Go {
-        path: Path,
-        n: u32,
-        to: u32,
-    },
-    /// Action n writes a cell, and leads to the next one.
-    Write {
-        path: Path,
-        n: u32,
-        reached: Reached,
-        value: i32,
-        to: u32,
-    },
-    /// The delivery that waits longest is taken: the cell takes the value. The number is that of
-    /// the child's spawn.
-    Deliver {
-        child: Path,
-        n: u32,
-        reached: Reached,
-        value: i32,
-    },
-    /// Action n gives a value, and the instance is no more.
-    Return {
-        path: Path,
-        n: u32,
-        value: i32,
-    },
-    /// Action n starts a child, and leads to the next one.
-    Spawn {
-        child: Path,
-        n: u32,
-        frame: Frame,
-        receiver: Receiver,
-        to: u32,
-    },
-}
-
-/// The step of the instance of a frame.
-pub fn plan_step(
-    alloc: Global,
-    loaded: &Loaded,
-    globals: &[i32],
-    tree: &Tree,
-    frame: &Frame,
-) -> Result<Plan, Memory>
-    requires { CanStep loaded.now globals.now tree.now frame.now }
-    ensures { IfOk result (λ plan. (s : State) (i : Instance) → Ready loaded.now globals.now tree.now frame.now s i
-        → IsPlan loaded.now tree.now frame.now s i plan) }
+/// The step of the instance of a frame. An aborted one waits for its children, and then ends; at a boundary the delivery
+/// that waits longest comes before the head (Cilk 5.4 manual, `inlet`, `abort`).
+pub fn plan_step(alloc: Global, scene: &Scene) -> Result<Plan, Memory>
+    requires there { id_of (sight_of scene.now) < length (sight_of scene.now).nodes }
+    requires fits { HeadFits (sight_of scene.now) }
+    ensures { IfOk result (λ plan. plan ≡ planned (sight_of scene.now)) }
 {
-    let n = frame.node(frame.depth() - 1);
-    match loaded.statement(n) {
-        None => unreachable!(),
-        Some(node) => match delivery_before(tree, frame, &node.action) {
-            Some(delivery) => delivered(globals, tree, frame, delivery),
-            None if waits(tree, frame, &node.action) => Ok(Plan::Park),
-            None => act(alloc, loaded, globals, tree, frame, n, node),
-        },
+    let id = scene.frame.id();
+    if scene.tree.is_aborted(id) {
+        return Ok(if scene.tree.has_live_child(id) {
+            Plan::Park
+        } else {
+            Plan::End
+        });
     }
-}
-
-// The delivery that is taken before an action: between two threads of the procedure the one that
-// waits longest.
-fn delivery_before(tree: &Tree, frame: &Frame, action: &Action) -> Option<Delivery>
-    requires { frame.now.id < length tree.now }
-    ensures { result ≡ delivery_before tree.now frame.now action.now }
-{
-    if frame.depth() == 1 && (frame.at_boundary() || syncs(action)) {
-        tree.first_delivery(frame.id())
-    } else {
-        None
-    }
-}
-
-// Whether the instance has to wait for its children before the action.
-fn waits(tree: &Tree, frame: &Frame, action: &Action) -> bool
-    requires { frame.now.id < length tree.now }
-    ensures { result ≡ waits tree.now frame.now action.now }
-{
-    syncs(action) && tree.has_live_child(frame.id())
-}
-
-// Whether an action waits for the children (Cilk 5.4 manual, `sync`, `return`).
-fn syncs(action: &Action) -> bool
-    ensures { result ≡ syncs action.now }
-{
-    match action {
-        Action::Return(_) | Action::Close | Action::ReturnNothing | Action::Sync => true,
-        Action::Assign(..) | Action::AssignBy(..) | Action::Null | Action::Spawn(..) => false,
+    let n = scene.frame.node(scene.frame.depth() - 1);
+    match scene.loaded.statement(n) {
+        None => Ok(Plan::Wait),
+        Some(node) => {
+            if at_boundary(scene, node) {
+                match scene.tree.first_delivery(id) {
+                    None => act(alloc, scene, n, node),
+                    Some(delivery) => taken(alloc, scene, delivery),
+                }
+            } else {
+                act(alloc, scene, n, node)
+            }
+        }
     }
 }

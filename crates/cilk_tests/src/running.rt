@@ -1,9 +1,11 @@
 //! Frames, hands, instances and schedules of more workers than one, closing texts, and readers and writers that break:
-//! what the program does not show.
+//! what the program does not show. And texts whose answers are known, which one worker runs.
 
+mod alone;
 mod closing;
 mod frames;
 mod hands;
+mod inlets;
 mod instances;
 mod schedules;
 mod script;

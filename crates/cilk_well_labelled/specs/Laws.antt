@@ -6,12 +6,12 @@ use Rattle.cilk_scopes.specs.declared.fault.CheckFault.TheVariants.{NoLoop}
 use Rattle.cilk_rules_of_forms.specs.Forms.{Faulty}
 use Rattle.cilk_labelled.specs.Bodies.{label}
 use Rattle.cilk_labelled.specs.Items.{head_of}
-use Rattle.cilk_runs.specs.Path.{Path}
-use Rattle.cilk_runs.specs.Instance.{Activation, Instance}
-use Rattle.cilk_runs.specs.State.{instance_at}
-use Rattle.cilk_runs.specs.Choice.{Choice}
-use Rattle.cilk_runs.specs.Run.{Position, after}
-use Rattle.cilk_runs.specs.End.{is_stuck}
+use Rattle.cilk_model.specs.Path.{Path}
+use Rattle.cilk_model.specs.Instance.{Activation, Instance}
+use Rattle.cilk_model.specs.State.{instance_at}
+use Rattle.cilk_model.specs.Choice.{Choice}
+use Rattle.cilk_model.specs.Run.{Position, after}
+use Rattle.cilk_model.specs.End.{is_stuck}
 use Rattle.cilk_placed.specs.Loops.{breaks_fit}
 use Rattle.cilk_placed.specs.Locks.{AllWait}
 

@@ -19,7 +19,7 @@ cilk int f(){x=spawn f();} and cilk int f(){  x=  spawn f();}
 cilk void f() { ; spawn f(); sync; } and cilk void f() { ;  spawn f ( ) ; sync ; }
 int f(void){if(x)return 010;return a[1];} and int f(){if (x) { return 8; } /* nothing */ return a[(1)];}
 void f(){for(;;)printf(\"a\\n\");} and void f ( void ) { for ( ; 1 ; ) { printf(\"a\\n\") ; } }
-cilk int f(int n){inlet void g(int r){abort;} g(spawn f(n-1));sync;return n;} and cilk int f(int n) { inlet void g(int r) { abort; } g(spawn f(n - 1)); sync; return n; }";
+cilk int f(int n){inlet void g(int r){abort;} g(spawn f(n-1));sync;} and cilk int f(int n) { inlet void g(int r) { abort; } g(spawn f(n - 1)); sync; }";
 
 const OTHER: &str =
     "cilk int main(){int a=2,b;b=a*(3+4)-5;return b;} and cilk int main(){int a=2,b;b=a/(3+4)-5;return b;}

@@ -32,7 +32,12 @@ fn tokens_at_their_places(rt: HostRuntime) {
     for (text, list) in [
         (
             "cilk int main(){int a=2,b;\n b=a*(3+4)-5;return b;}",
-            "Word(Cilk)@0:cilk Word(Int)@5:int Name@9:main Mark(OpenParenthesis)@13:( Mark(CloseParenthesis)@14:) Mark(OpenBrace)@15:{ Word(Int)@16:int Name@20:a Mark(Assign)@21:= Number(2)@22:2 Mark(Comma)@23:, Name@24:b Mark(Semicolon)@25:; Name@28:b Mark(Assign)@29:= Name@30:a Mark(Star)@31:* Mark(OpenParenthesis)@32:( Number(3)@33:3 Mark(Plus)@34:+ Number(4)@35:4 Mark(CloseParenthesis)@36:) Mark(Minus)@37:- Number(5)@38:5 Mark(Semicolon)@39:; Word(Return)@40:return Name@47:b Mark(Semicolon)@48:; Mark(CloseBrace)@49:} ",
+            "Word(Cilk)@0:cilk Word(Int)@5:int Name@9:main Mark(OpenParenthesis)@13:( \
+             Mark(CloseParenthesis)@14:) Mark(OpenBrace)@15:{ Word(Int)@16:int Name@20:a Mark(Assign)@21:= \
+             Number(2)@22:2 Mark(Comma)@23:, Name@24:b Mark(Semicolon)@25:; Name@28:b Mark(Assign)@29:= Name@30:a \
+             Mark(Star)@31:* Mark(OpenParenthesis)@32:( Number(3)@33:3 Mark(Plus)@34:+ Number(4)@35:4 \
+             Mark(CloseParenthesis)@36:) Mark(Minus)@37:- Number(5)@38:5 Mark(Semicolon)@39:; \
+             Word(Return)@40:return Name@47:b Mark(Semicolon)@48:; Mark(CloseBrace)@49:} ",
         ),
         (
             "intx _ a1_B Int",
@@ -44,7 +49,8 @@ fn tokens_at_their_places(rt: HostRuntime) {
         ),
         (
             "a+++b&&&c!==d",
-            "Name@0:a Mark(Increment)@1:++ Mark(Plus)@3:+ Name@4:b Mark(And)@5:&& Mark(Ampersand)@7:& Name@8:c Mark(NotEqual)@9:!= Mark(Assign)@11:= Name@12:d ",
+            "Name@0:a Mark(Increment)@1:++ Mark(Plus)@3:+ Name@4:b Mark(And)@5:&& Mark(Ampersand)@7:& Name@8:c \
+             Mark(NotEqual)@9:!= Mark(Assign)@11:= Name@12:d ",
         ),
         // The last byte of the text.
         ("x<", "Name@0:x Mark(Less)@1:< "),

@@ -1,15 +1,14 @@
-//! The values of expressions, and their traps. Arrays, `SYNCHED` and the cells round an inlet are
-//! in no text so far, so the expressions are built here.
+//! The values of expressions, and their traps, over cells that are known by hand.
 
 ghost use Rattle.std.specs.Prelude.{◌≡◌};
 ghost use Rattle.cilk_eval.specs.View.{term_of};
-ghost use Rattle.cilk_eval.specs.Term as term;
+ghost use Rattle.cilk_values.specs.Term as term;
 
-use cilk_core::{BinOp, UnOp};
 use cilk_eval::{
     Area, Code, CodeNode, Slot, Slots, Trap, apply, eval, quotients_are_rounded, unary,
     value_is_of_what_is_read,
 };
+use cilk_syntax::{BinOp, UnOp};
 use std::alloc::Global;
 use std::process::Abort;
 
@@ -24,8 +23,6 @@ fn traps(rt: HostRuntime) {
     assert_eq!(rt; apply(BinOp::ShiftRight, 1, 32), Err(Trap::Shift));
     assert_eq!(rt; apply(BinOp::Add, i32::MAX, 1), Err(Trap::Overflow));
     assert_eq!(rt; unary(UnOp::Minus, least), Err(Trap::Overflow));
-    let name = Trap::ZeroDivide.to_string(rt.alloc()).expect(&rt, "memory");
-    assert_eq!(rt; name.as_str(), "ZeroDivide");
 }
 
 #[test]

@@ -1,38 +1,39 @@
 //! A frame of a program that is known by hand.
 
 use super::program;
-use cilk_frame::{
-    Await, Frame, Id, a_call_stands, a_start_stands, a_write_stands, an_action_stands,
-    values_are_seen,
+use cilk_frame::{Await, Frame, Id};
+use cilk_load::{Body, Loaded};
+use cilk_stands::{
+    a_call_stands, a_start_stands, a_write_stands, an_action_stands, values_are_seen,
 };
-use cilk_load::Loaded;
 use std::alloc::Global;
 use std::process::Abort;
 
 const TEXT: &str =
-    "cilk int main(void) { int a; return a; } cilk int f(int b, int c) { int d, e; return b; }";
+    "cilk int main(void) { int a; return a; } int f(int b, int c) { int d, e; return b; }";
+
+fn body<'a>(rt: &impl Abort, loaded: &'a Loaded, number: u32) -> &'a Body {
+    loaded.body(number).expect(rt, "a body")
+}
 
 // Instance 7, of `main`.
 fn start(rt: &impl Abort, alloc: Global, loaded: &Loaded) -> Frame {
-    let main = loaded.body(0).expect(rt, "a body");
+    let main = body(rt, loaded, 0);
     assert_eq!(rt; main.params, 0);
-    Frame::start(alloc, Id::new(7), loaded, 0, &[]).expect(rt, "memory")
+    Frame::start(alloc, Id::new(7), main, &[]).expect(rt, "memory")
 }
 
 // Another body goes on.
 fn call(
     rt: &impl Abort,
     frame: &mut Frame,
-    (loaded, callee): (&Loaded, u32),
+    callee: &Body,
     arguments: &[i32],
     awaits: Option<Await>,
 ) {
-    let body = loaded.body(callee).expect(rt, "a body");
-    assert_eq!(rt; body.params as usize, arguments.len());
-    assert!(rt; frame.depth() < 256);
-    frame
-        .enter(loaded, callee, arguments, awaits)
-        .expect(rt, "memory");
+    assert_eq!(rt; callee.params as usize, arguments.len());
+    assert!(rt; frame.depth() < Frame::DEPTH);
+    frame.enter(callee, arguments, awaits).expect(rt, "memory");
 }
 
 #[test]
@@ -44,6 +45,7 @@ fn goes_on_and_ends(rt: HostRuntime) {
     assert_eq!(rt; frame.depth(), 1);
     assert_eq!(rt; frame.node(0), 1);
     assert_eq!(rt; frame.cells(0), [0].as_slice());
+    assert_eq!(rt; frame.awaits(), None);
     assert!(rt; !frame.at_boundary());
     frame.set_cell(0, 0, -5);
     frame.jump(2);
@@ -60,8 +62,15 @@ fn calls_and_returns(rt: HostRuntime) {
     let loaded = program(&rt, rt.alloc(), TEXT);
     let mut frame = start(&rt, rt.alloc(), &loaded);
     let awaits = Await { n: 2, index: 3 };
-    call(&rt, &mut frame, (&loaded, 1), &[6, -7], Some(awaits));
-    call(&rt, &mut frame, (&loaded, 0), &[], None);
+    call(
+        &rt,
+        &mut frame,
+        body(&rt, &loaded, 1),
+        &[6, -7],
+        Some(awaits),
+    );
+    assert_eq!(rt; frame.awaits(), Some(awaits));
+    call(&rt, &mut frame, body(&rt, &loaded, 0), &[], None);
     assert_eq!(rt; frame.depth(), 3);
     assert_eq!(rt; frame.cells(1), [6, -7, 0, 0].as_slice());
     frame.jump(2);

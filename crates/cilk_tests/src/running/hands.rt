@@ -1,7 +1,7 @@
 //! Frames that go from hand to hand.
 
 ghost use Rattle.std.specs.Prelude.{◌≡◌, length};
-ghost use Rattle.cilk_sched.specs.Places.{IsWorker};
+ghost use Rattle.cilk_model.specs.Places.{IsWorker};
 
 use super::program;
 use cilk_frame::{Frame, Id};
@@ -18,7 +18,7 @@ const TEXT: &str = "cilk int main(void) {}";
 fn frame(rt: &impl Abort, alloc: Global, loaded: &Loaded, number: usize) -> Frame {
     let main = loaded.body(0).expect(rt, "a body");
     assert_eq!(rt; main.params, 0);
-    Frame::start(alloc, Id::new(number), loaded, 0, &[]).expect(rt, "memory")
+    Frame::start(alloc, Id::new(number), main, &[]).expect(rt, "memory")
 }
 
 fn number(frame: Option<&Frame>) -> Option<usize> {

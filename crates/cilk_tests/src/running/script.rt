@@ -1,7 +1,7 @@
 //! Choices one after the other, each with what comes of it. `1s` is a step of worker 1, `2p` a pop
 //! of worker 2, and `2t1` its steal from worker 1. Behind the colon stands what was done, with the
 //! number of the action and the path of the instance: `a2/1` acted, `s4/1` spawned, `d4/1` delivered,
-//! `r3/1` returned, `t4/!Overflow` trapped, `m` moved. A refusal is told by its name.
+//! `r3/1` returned, `e/1` ended, `t4/!Overflow` trapped, `m` moved. A refusal is told by its name.
 
 use super::program;
 use cilk_machine::{Act, Choice, Event, Kind, Machine, Outcome, Path, ending};
@@ -65,6 +65,10 @@ fn event_word(rt: &impl Abort, alloc: Global, event: &Event) -> String {
         Event::Delivered { child, n } => word(rt, alloc, "d", *n, child),
         Event::Returned { path, n } => word(rt, alloc, "r", *n, path),
         Event::Trapped { kind, path, n } => trap_word(rt, alloc, *kind, path, *n),
+        Event::Ended { path } => {
+            let path = path_word(rt, alloc, path);
+            format!(in alloc; "e{path}").expect(rt, "memory")
+        }
         Event::Moved => String::from_str(alloc, "m").expect(rt, "memory"),
     }
 }
@@ -72,14 +76,19 @@ fn event_word(rt: &impl Abort, alloc: Global, event: &Event) -> String {
 fn trap_word(rt: &impl Abort, alloc: Global, kind: Kind, path: &Path, n: u32) -> String {
     let mut text = word(rt, alloc, "t", n, path);
     match kind {
-        Kind::Value(trap) => write!(text, "!{trap}").expect(rt, "memory"),
+        Kind::Value(trap) => write!(text, "!{trap:?}").expect(rt, "memory"),
         other => write!(text, "!{other:?}").expect(rt, "memory"),
     }
     text
 }
 
 fn word(rt: &impl Abort, alloc: Global, letter: &str, n: u32, path: &Path) -> String {
-    let mut text = format!(in alloc; "{letter}{n}/").expect(rt, "memory");
+    let path = path_word(rt, alloc, path);
+    format!(in alloc; "{letter}{n}{path}").expect(rt, "memory")
+}
+
+fn path_word(rt: &impl Abort, alloc: Global, path: &Path) -> String {
+    let mut text = String::from_str(alloc, "/").expect(rt, "memory");
     let mut separator = "";
     for ordinal in path.as_slice() {
         write!(text, "{separator}{ordinal}").expect(rt, "memory");
@@ -97,16 +106,30 @@ fn outcome_word(rt: &impl Abort, alloc: Global, outcome: &Outcome) -> String {
     }
 }
 
-// Asserts the outcome of a machine that is not stuck.
-pub fn stands(rt: &impl Abort, alloc: Global, machine: &Machine, outcome: &str) {
-    let told = outcome_word(rt, alloc, machine.outcome());
+// Makes the choices of a script from the start of the program of a text, and asserts what comes of
+// each, the outcome, `stuck` for a program that is stuck, and the closing text.
+pub fn comes_out(
+    rt: &impl Abort,
+    alloc: Global,
+    text: &str,
+    workers: u8,
+    script: &str,
+    outcome: &str,
+    closing: &str,
+) {
+    let mut machine = machine(rt, alloc, text, workers);
+    play(rt, alloc, &mut machine, script);
+    let told = if machine.is_stuck() {
+        String::from_str(alloc, "stuck").expect(rt, "memory")
+    } else {
+        outcome_word(rt, alloc, machine.outcome())
+    };
     assert_eq!(rt; told.as_str(), outcome);
-    assert!(rt; !machine.is_stuck());
+    closes(rt, alloc, &machine, closing);
 }
 
-// Asserts the closing text of a machine, which prints nothing.
+// Asserts the closing text of a machine: what it printed, and how it ended.
 pub fn closes(rt: &impl Abort, alloc: Global, machine: &Machine, wanted: &str) {
-    assert!(rt; machine.output().is_empty());
     let end = machine.end_now().expect(rt, "memory");
     let text = ending(alloc, machine.output(), &end, machine.choices()).expect(rt, "memory");
     assert_eq!(rt; text.as_slice(), wanted.as_bytes());

@@ -3,7 +3,7 @@ use Rattle.std.specs.Option.{option_copied}
 use Rattle.std.proofs.lemmas.Int.{to_z-of_z}
 use mir.Val.{of_z, to_z}
 use mir.Syntax.{w32}
-use Rattle.cilk_agrees.specs.Outside as outside
+use Rattle.cilk_agree.specs.Outside as outside
 use Rattle.cilk_carries.specs.Words.{machine_of, outcome_of}
 use Rattle.cilk_carries.proofs.Closed.{ended-carried, returned-carried}
 use Rattle.cilk_carries.proofs.carry.carry.Goals as goal

@@ -2,7 +2,7 @@ use Rattle.std.proofs.Common.{subst, sym, ◌∙◌}
 use Rattle.cilk_commands.specs.Held.{IsReadOf}
 use Rattle.cilk_commands.specs.Loading.{Unready}
 use Rattle.cilk_commands.specs.Checking.{IsCounted}
-use Rattle.cilk_commands.proofs.WholeText.{nothing_read, run_gives_up, gains_whole, gains_front_whole}
+use Rattle.cilk_commands.proofs.WholeText.{nothing_read, gives_up, gains_whole, gains_front_whole}
 use Rattle.cilk_commands.proofs.check.check_text.Goals as goal
 
 pub returns-in-Err-clause-told : goal.returns-in-Err-clause-told
@@ -16,7 +16,7 @@ returns-in-Ok-check-clause-done g c = λ done.
 pub returns-clause-told : goal.returns-clause-told
 returns-clause-told g c = λ none.
     let read : IsReadOf (g.R.Read.remaining c.args.reader.now) c.as_slice-text.result.now = subst (λ t. IsReadOf (g.R.Read.remaining c.args.reader.now) t) (sym c.as_slice-text.ensures.value) c.in-Ok.ensures.ok in
-    run_gives_up c.args.explain c.args.name.now _ (g.R.Read.remaining c.args.reader.now) _ _ c.as_slice-text.result.now c.in-Err-check.failure read c.in-Err-check.ensures.declined c.tell_of.ensures.status c.tell_of.ensures.told
+    gives_up c.args.explain c.args.name.now _ (g.R.Read.remaining c.args.reader.now) _ _ c.as_slice-text.result.now c.in-Err-check.failure read c.in-Err-check.ensures.declined c.tell_of.ensures.status c.tell_of.ensures.told
 
 pub returns-clause-begun : goal.returns-clause-begun
 returns-clause-begun g c = λ failed.

@@ -1,70 +1,53 @@
-use Rattle.std.proofs.Common.{◌≡◌, ◌+◌, ◌*◌, ◌≤◌, List, length, IsSome, sym, ap, subst, ◌∙◌, arith}
+use Rattle.std.proofs.Common.{◌≡◌, List, length, map, Some, rules, sym, ap, subst, ◌∙◌, arith}
+use Rattle.std.specs.Prelude.{flat_map}
 use Rattle.std.specs.List.{position}
-use Rattle.cilk_core.specs.Tree.{Item, Program}
-use Rattle.cilk_core.specs.ProgramText.{items_lines}
-use Rattle.cilk_model.specs.Count.{count_items, count_program}
-use Rattle.cilk_model.specs.Lines.{items_action_lines}
-use Rattle.cilk_load.specs.declared.body.Body.{Body}
-use Rattle.cilk_load.specs.declared.var.Var.{Var}
-use Rattle.cilk_load.specs.Bodies.{starts_here}
-use Rattle.cilk_model.specs.Label.{globals_of, names_of}
-use Rattle.cilk_load.specs.Pass.{AllAreSmall, items_nodes, items_bodies, items_vars}
-use Rattle.cilk_load.proofs.WellFormed.{well_formed-small, few_lines, few_globals, names_le-count, main_there}
-use Rattle.cilk_load.proofs.TablesMade.{tabled, only_nodes, only_bodies, length-items_bodies}
+use Rattle.cilk_syntax.specs.Tree as tree
+use Rattle.cilk_eval.specs.declared.area.Area.TheVariants.{Global}
+use Rattle.cilk_labelled.specs.Bodies.{item_globals, item_locks}
+use Rattle.cilk_nodes.specs.Bodies.{vars_from, lock_variable}
+use Rattle.cilk_labelled.specs.Count.{count_program}
+use Rattle.cilk_labelled.specs.Lines.{action_lines}
+use Rattle.cilk_nodes.specs.declared.body.Body.{Body}
+use Rattle.cilk_load.specs.Tables.{starts_here}
+use Rattle.cilk_nodes.specs.Plain.{PlainItems}
+use Rattle.cilk_nodes.proofs.Inner.{well_formed-plain}
+use Rattle.cilk_load.specs.Outer.{globals_count, locks_count, bodies_count, items_tables, items_nodes, file_scope}
+use Rattle.cilk_load.proofs.Made.{globals-counted, locks-counted, bodies-counted, tabled}
 use Rattle.cilk_load.proofs.loading.tables_of.Goals as goal
 
-pub globals_of-requires : goal.globals_of-requires
-globals_of-requires c =
-    let is_items : c.deref.result.now ≡ c.args.checked.items = c.deref.ensures.value ∙ ap (λ (p : Program). p.items) (c.program.view_is ∙ c.program-program.ensures.value) in
-    let few : length (globals_of c.deref.result.now) ≤ 1048576 = subst (λ (items : List Item). length (globals_of items) ≤ 1048576) (sym is_items) (few_globals c.args.checked c.program-program.ensures.well_formed) in
-    omega (arith, few)
+pub nodes_of-requires-clause-globals : goal.nodes_of-requires-clause-globals
+nodes_of-requires-clause-globals c =
+    let here : c.deref.result.now ≡ c.program-program.result.now.items = c.deref.ensures.value ∙ ap (λ (p : tree.Program). p.items) c.program.view_is in
+    ap length (c.deref-4.ensures.value ∙ c.in_ok-globals.ensures) ∙ globals-counted c.deref.result.now ∙ ap globals_count here
 
-pub put_items-requires-clause-bodies : goal.put_items-requires-clause-bodies
-put_items-requires-clause-bodies c =
-    let is_items : c.deref-2.result.now ≡ c.args.checked.items = c.deref-2.ensures.value ∙ ap (λ (p : Program). p.items) (c.program.view_is ∙ c.program-program.ensures.value) in
-    let few : length (names_of c.deref-2.result.now) ≤ count_program c.args.checked = subst (λ (items : List Item). length (names_of items) ≤ count_items c.args.checked.items) (sym is_items) (names_le-count c.args.checked.items) in
-    omega (arith, few, c.new-bodies.ensures.len, c.requires)
+pub nodes_of-requires-clause-locks : goal.nodes_of-requires-clause-locks
+nodes_of-requires-clause-locks c =
+    let here : c.deref-2.result.now ≡ c.program-program.result.now.items = c.deref-2.ensures.value ∙ ap (λ (p : tree.Program). p.items) c.program.view_is in
+    ap length (c.deref-5.ensures.value ∙ c.in_ok-locks.ensures) ∙ locks-counted c.deref-2.result.now ∙ ap locks_count here
 
-pub put_items-requires-clause-small : goal.put_items-requires-clause-small
-put_items-requires-clause-small c =
-    let is_items : c.deref-2.result.now ≡ c.args.checked.items = c.deref-2.ensures.value ∙ ap (λ (p : Program). p.items) (c.program.view_is ∙ c.program-program.ensures.value) in
-    subst AllAreSmall (sym is_items) (well_formed-small c.args.checked c.program-program.ensures.well_formed)
+pub nodes_of-requires-clause-bodies : goal.nodes_of-requires-clause-bodies
+nodes_of-requires-clause-bodies c =
+    let here : c.deref-3.result.now ≡ c.program-program.result.now.items = c.deref-3.ensures.value ∙ ap (λ (p : tree.Program). p.items) c.program.view_is in
+    ap length (c.deref-6.ensures.value ∙ c.in_ok-bodies.ensures) ∙ bodies-counted 1 c.deref-3.result.now ∙ ap bodies_count here
 
-pub action_lines-requires : goal.action_lines-requires
-action_lines-requires c =
-    let ok = c.program-program.ensures.well_formed in
-    let is_items : c.deref-3.result.now ≡ c.args.checked.items = c.deref-3.ensures.value ∙ ap (λ (p : Program). p.items) (c.program.view_is ∙ c.program-program.ensures.value) in
-    let lines : length (items_lines c.deref-3.result.now) ≤ 4098 * count_program c.args.checked + length (globals_of c.args.checked.items) = subst (λ (items : List Item). length
-    (items_lines items) ≤ 4098 * count_items c.args.checked.items + length (globals_of c.args.checked.items)) (sym is_items) (few_lines c.args.checked.items
-    (well_formed-small c.args.checked ok)) in
-    omega (arith, lines, few_globals c.args.checked ok, c.requires)
-
-pub place_of_main-main-requires-clause-there : goal.place_of_main-main-requires-clause-there
-place_of_main-main-requires-clause-there c =
-    let is_items : c.deref-2.result.now ≡ c.args.checked.items = c.deref-2.ensures.value ∙ ap (λ (p : Program). p.items) (c.program.view_is ∙ c.program-program.ensures.value) in
-    let is_bodies : c.put_items.new.bodies.items ≡ items_bodies 1 c.args.checked.items = only_bodies _ _ _ _ c.args.checked.items c.new-bodies.ensures.items c.new-nodes.ensures.len is_items c.in_ok-put_items.ensures.bodies in
-    subst (λ (bodies : List Body). IsSome (position starts_here bodies)) (sym (c.deref-4.ensures.value ∙ is_bodies)) (main_there c.args.checked c.program-program.ensures.well_formed 1)
-
-pub place_of_main-main-requires-clause-small : goal.place_of_main-main-requires-clause-small
-place_of_main-main-requires-clause-small c =
-    let is_items : c.deref-2.result.now ≡ c.args.checked.items = c.deref-2.ensures.value ∙ ap (λ (p : Program). p.items) (c.program.view_is ∙ c.program-program.ensures.value) in
-    let is_bodies : c.put_items.new.bodies.items ≡ items_bodies 1 c.args.checked.items = only_bodies _ _ _ _ c.args.checked.items c.new-bodies.ensures.items c.new-nodes.ensures.len is_items c.in_ok-put_items.ensures.bodies in
-    let size : length c.deref-4.result.now ≡ length (names_of c.args.checked.items) = ap length (c.deref-4.ensures.value ∙ is_bodies) ∙ length-items_bodies 1 c.args.checked.items in
-    omega (arith, size, names_le-count c.args.checked.items, c.requires)
+pub nodes_of-requires-clause-plain : goal.nodes_of-requires-clause-plain
+nodes_of-requires-clause-plain c =
+    subst (λ (p : tree.Program). PlainItems p.items) (sym c.program-program.ensures.value)
+    (well_formed-plain c.args.checked c.program-program.ensures.well_formed)
 
 pub invariant_of-result : goal.invariant_of-result
 invariant_of-result c =
-    let of_globals : c.deref.result.now ≡ c.args.checked.items = c.deref.ensures.value ∙ ap (λ (p : Program). p.items) (c.program.view_is ∙ c.program-program.ensures.value) in
-    let is_items : c.deref-2.result.now ≡ c.args.checked.items = c.deref-2.ensures.value ∙ ap (λ (p : Program). p.items) (c.program.view_is ∙ c.program-program.ensures.value) in
-    let of_lines : c.deref-3.result.now ≡ c.args.checked.items = c.deref-3.ensures.value ∙ ap (λ (p : Program). p.items) (c.program.view_is ∙ c.program-program.ensures.value) in
-    let is_globals : c.in_ok-globals.globals.items ≡ items_vars 0 c.args.checked.items = c.in_ok-globals.ensures ∙ ap (items_vars 0) of_globals in
-    let is_nodes : c.put_items.new.nodes.items ≡ items_nodes c.as_slice.result.now
-    (names_of c.args.checked.items) 0 1 c.args.checked.items = only_nodes _ _ _ _ _ _ c.args.checked.items c.new-nodes.ensures.items c.new-bodies.ensures.len c.new-nodes.ensures.len is_items c.in_ok-put_items.ensures.nodes in
-    let is_bodies : c.put_items.new.bodies.items ≡ items_bodies 1 c.args.checked.items = only_bodies _ _ _ _ c.args.checked.items c.new-bodies.ensures.items c.new-nodes.ensures.len is_items c.in_ok-put_items.ensures.bodies in
-    let is_lines : c.in_ok-lines.lines.items ≡ items_action_lines 1 c.args.checked.items = c.in_ok-lines.ensures.lines ∙ ap (items_action_lines 1) of_lines in
-    let is_main = ap (λ (bodies : List Body). position starts_here bodies) (sym c.deref-4.ensures.value) ∙ c.place_of_main-main.ensures in
-    let counts = ap count_items is_items in
-    let counts' = ap count_items of_lines in
-    let node_count : length c.put_items.new.nodes.items ≡ count_items c.args.checked.items = omega (arith, c.put_items.new.nodes.ok.0, c.in_ok-put_items.ensures.len, c.new-nodes.ensures.len, counts) in
-    let line_count : length c.in_ok-lines.lines.items ≡ count_items c.args.checked.items = omega (arith, c.in_ok-lines.lines.ok.0, c.in_ok-lines.ensures.len, counts') in
-    tabled c.args.checked _ _ _ _ _ _ c.requires (is_nodes ∙ ap (λ (vars : List Var). items_nodes vars (names_of c.args.checked.items) 0 1 c.args.checked.items) c.as_slice.ensures.value) is_lines is_bodies is_main is_globals c.new.ensures.items node_count line_count
+    let top = c.program-program.ensures.value in
+    let items : c.program.inside.items.items ≡ c.args.checked.items = ap (λ (p : tree.Program). p.items) (c.program.view_is ∙ top) in
+    let same : c.in_ok-main-2.main ≡ c.in_ok-main.main = search rules in
+    tabled c.args.checked c.in_ok-nodes.nodes.items c.in_ok-lines.lines.items c.in_ok-bodies.bodies.items c.in_ok-main-2.main
+    c.in_ok-globals.globals.items c.in_ok-locks.locks.items c.program-program.ensures.well_formed c.requires
+    (c.in_ok-nodes.ensures.nodes ∙ (λ i. items_nodes (c.deref-6.ensures.value i) 0 (file_scope (c.deref-4.ensures.value i) (top i).items) 1 (top i).items))
+    (omega (arith, c.in_ok-nodes.nodes.ok.0, c.in_ok-nodes.ensures.len, ap count_program top))
+    (c.in_ok-lines.ensures.lines ∙ ap action_lines top)
+    (omega (arith, c.in_ok-lines.lines.ok.0, c.in_ok-lines.ensures.len, ap count_program top))
+    (c.in_ok-bodies.ensures ∙ ap (items_tables 1) (c.deref-3.ensures.value ∙ items))
+    (ap (λ (bs : List Body). position starts_here bs) (sym c.deref-7.ensures.value) ∙ sym c.place_of_main.ensures.value ∙ c.in_ok-main.ensures.ok_part
+    ∙ ap (λ k. Some k) (sym same))
+    (c.in_ok-globals.ensures ∙ ap (λ (xs : List tree.Item). vars_from Global 0 (flat_map item_globals xs)) (c.deref.ensures.value ∙ items))
+    (c.in_ok-locks.ensures ∙ ap (λ (xs : List tree.Item). vars_from Global 0 (map lock_variable (flat_map item_locks xs))) (c.deref-2.ensures.value ∙ items))

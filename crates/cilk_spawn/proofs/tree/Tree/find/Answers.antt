@@ -1,45 +1,58 @@
-use Rattle.std.proofs.Common.{◌≡◌, ◌∙◌, ℕ, List, sym, subst, ap, Some, arith}
-use Rattle.cilk_spawn.specs.Nodes.{Node, live_ids, IsTree}
-use Rattle.cilk_spawn.specs.Records.{nodes_of, Kept}
-use Rattle.cilk_spawn.specs.declared.record.Record.{Record}
-use Rattle.cilk_spawn.proofs.Trees.{live_there}
-use Rattle.cilk_spawn.proofs.Paths.{same_is}
-use Rattle.cilk_spawn.proofs.Found.{listed_live, found_is, missed_more, none_found}
+use Rattle.std.proofs.Common.{◌≡◌, ◌<◌, ◌∙◌, ℕ, List, true, false, Some, ap, arith, length, refl, sym}
+use Rattle.cilk_spawn.specs.Nodes.{Node, node_at, is_live, path_at}
+use Rattle.cilk_spawn.specs.Records.{nodes_of}
+use Rattle.cilk_spawn.proofs.Finds.{near, found_there, found_path, none_there, found_is, found_one}
+use Rattle.cilk_spawn.proofs.Records.{at_is, nodes_length}
+use Rattle.cilk_spawn.proofs.Written.{nodes_are}
 use Rattle.cilk_spawn.proofs.tree.Tree.find.Goals as goal
 
-listed : (rs : List Record) (ids items : List ℕ) (ns : List Node) → Kept rs ids → nodes_of rs ≡ ns → items ≡ ids → items ≡ live_ids ns
-listed rs ids items ns kept nodes e = e ∙ kept.lives ∙ ap live_ids nodes
+pub loop-ordinal-preserved : goal.loop-ordinal-preserved
+loop-ordinal-preserved c =
+    let rs = c.self.inside.records.items in
+    let here = near rs c.loop-ordinal.at _ _ c.number.ensures c.loop-ordinal.invariant.there c.index.ensures in
+    record {
+      there = found_there rs c.self.inside.living.items c.self.invariant c.args.path.now c.loop-ordinal.ordinal-index c.loop-ordinal.at _ _ here
+          c.loop-ordinal.invariant.path c.loop-ordinal-test.true refl
+          c.in-Some.child (sym c.in-Some.ensures);
+      path = found_path rs c.self.inside.living.items c.self.invariant c.args.path.now c.loop-ordinal.ordinal-index c.loop-ordinal.at _ _ here
+          c.loop-ordinal.invariant.path c.loop-ordinal-test.true refl
+          c.in-Some.child (sym c.in-Some.ensures);
+    }
 
-is_tree : (rs : List Record) (ids : List ℕ) (ns : List Node) → Kept rs ids → nodes_of rs ≡ ns → IsTree ns
-is_tree rs ids ns kept nodes = subst IsTree nodes kept.tree
+pub returns-in-None-clause-all : goal.returns-in-None-clause-all
+returns-in-None-clause-all c = λ id live is.
+    let rs = c.self.inside.records.items in
+    let nodes = nodes_are _ _ _ c.self.view_is in
+    let here = near rs c.loop-ordinal.at _ _ c.number.ensures c.loop-ordinal.invariant.there c.index.ensures in
+    absurd
+    (none_there rs c.self.inside.living.items c.self.invariant c.args.path.now c.loop-ordinal.ordinal-index c.loop-ordinal.at _ _ here
+    c.loop-ordinal.invariant.path c.loop-ordinal-test.true refl
+    (sym c.in-None.ensures) id (ap (λ (ns : List Node). is_live (node_at ns id)) nodes ∙ live) (ap (λ (ns : List Node). path_at ns id) nodes ∙ is))
 
-pub has_path-requires : goal.has_path-requires
-has_path-requires c =
-    let ids = listed _ _ _ _ c.self.invariant.0 c.self.view_is c.deref-id-items.ensures.value in
-    live_there _ _ (listed_live c.args.self.now _ _ _ ids c.loop-id-test.true c.id-item.is)
+pub returns-then-is_live-clause-all : goal.returns-then-is_live-clause-all
+returns-then-is_live-clause-all c = λ id live is.
+    let rs = c.self.inside.records.items in
+    let nodes = nodes_are _ _ _ c.self.view_is in
+    let end : c.loop-ordinal.ordinal-index ≡ length c.args.path.now = omega arith in
+    let there : c.loop-ordinal.at < length (nodes_of rs) = omega (arith, c.loop-ordinal.invariant.there, nodes_length rs) in
+    ap (λ (k : ℕ). Some k)
+    (found_one (nodes_of rs) c.self.invariant.tree c.args.path.now c.loop-ordinal.at id there
+    (found_is (nodes_of rs) c.self.invariant.tree c.args.path.now c.loop-ordinal.ordinal-index c.loop-ordinal.at c.loop-ordinal.invariant.path end)
+    (ap (λ (ns : List Node). is_live (node_at ns id)) nodes ∙ live) (ap (λ (ns : List Node). path_at ns id) nodes ∙ is))
 
-pub returns-then-has_path-clause-found : goal.returns-then-has_path-clause-found
-returns-then-has_path-clause-found c =
-    let ids = listed _ _ _ _ c.self.invariant.0 c.self.view_is c.deref-id-items.ensures.value in
-    (listed_live c.args.self.now _ _ _ ids c.loop-id-test.true c.id-item.is, same_is _ _ (sym c.has_path.ensures ∙ c.if-has_path.true))
-
-pub returns-then-has_path-clause-all : goal.returns-then-has_path-clause-all
-returns-then-has_path-clause-all c = λ id live is.
-    let ids = listed _ _ _ _ c.self.invariant.0 c.self.view_is c.deref-id-items.ensures.value in
-    let lives = listed_live c.args.self.now _ _ _ ids c.loop-id-test.true c.id-item.is in
-    ap (λ (k : ℕ). Some k) (found_is c.args.self.now c.args.path.now c.id-item.result id (is_tree _ _ _ c.self.invariant.0 c.self.view_is) lives (sym c.if-has_path.true ∙ c.has_path.ensures) live is)
-
-pub loop-id-preserved : goal.loop-id-preserved
-loop-id-preserved c =
-    missed_more c.args.self.now _ c.args.path.now _ _ c.loop-id-test.true c.id-item.is (sym c.if-has_path.false ∙ c.has_path.ensures) c.loop-id.invariant
-
-pub returns-clause-all : goal.returns-clause-all
-returns-clause-all c = λ id live is.
-    let ids = listed _ _ _ _ c.self.invariant.0 c.self.view_is c.deref-id-items.ensures.value in
-    let end = c.loop-id-test.false in
-    absurd (none_found c.args.self.now _ c.args.path.now id ids (λ j h. c.loop-id.invariant j (omega arith)) live is)
-
-pub returns-then-has_path-clause-there : goal.returns-then-has_path-clause-there
-returns-then-has_path-clause-there c =
-    let ids = listed _ _ _ _ c.self.invariant.0 c.self.view_is c.deref-id-items.ensures.value in
-    live_there _ _ (listed_live c.args.self.now _ _ _ ids c.loop-id-test.true c.id-item.is)
+pub returns-else-is_live-clause-all : goal.returns-else-is_live-clause-all
+returns-else-is_live-clause-all c = λ id live is.
+    let rs = c.self.inside.records.items in
+    let nodes = nodes_are _ _ _ c.self.view_is in
+    let end : c.loop-ordinal.ordinal-index ≡ length c.args.path.now = omega arith in
+    let there : c.loop-ordinal.at < length (nodes_of rs) = omega (arith, c.loop-ordinal.invariant.there, nodes_length rs) in
+    let here = near rs c.loop-ordinal.at _ _ c.number-2.ensures c.loop-ordinal.invariant.there c.index-2.ensures in
+    let lives : is_live (node_at (nodes_of rs) id) ≡ true = ap (λ (ns : List Node). is_live (node_at ns id)) nodes ∙ live in
+    let same : c.loop-ordinal.at ≡ id =
+    found_one (nodes_of rs) c.self.invariant.tree c.args.path.now c.loop-ordinal.at id there
+    (found_is (nodes_of rs) c.self.invariant.tree c.args.path.now c.loop-ordinal.ordinal-index c.loop-ordinal.at c.loop-ordinal.invariant.path end)
+    lives (ap (λ (ns : List Node). path_at ns id) nodes ∙ is) in
+    let f : false ≡ true =
+    sym c.if-is_live.false ∙ c.is_live.ensures ∙ sym (ap is_live (at_is rs c.loop-ordinal.at _ here))
+    ∙ ap (λ (k : ℕ). is_live (node_at (nodes_of rs) k)) same ∙ lives in
+    cc

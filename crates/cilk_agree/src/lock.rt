@@ -1,0 +1,10 @@
+use cilk_frame::Id;
+
+/// A lock, whose holder goes by its id (Cilk 5.4 manual, locks).
+#[derive(Clone, Copy, Debug, PartialEq, Eq)]
+pub enum Lock {
+    /// It was not initialised yet.
+    Unset,
+    Free,
+    Held(Id),
+}

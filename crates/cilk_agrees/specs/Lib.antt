@@ -1,9 +1,0 @@
-pub mod Outside
-pub mod Alike
-pub mod Agrees
-pub mod Marks
-pub mod Laws
-pub mod Locks
-pub mod Actions
-pub mod Asked
-pub mod Between

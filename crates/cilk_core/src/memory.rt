@@ -1,7 +1,0 @@
-use std::alloc::AllocError;
-use thiserror::Error;
-
-/// Memory has run out.
-#[derive(Debug, Drop, Error)]
-#[error("out of memory")]
-pub struct Memory(#[from(alloc)] AllocError);

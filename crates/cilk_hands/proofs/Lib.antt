@@ -1,4 +1,0 @@
-pub mod Ends
-pub mod Seats
-pub mod Count
-pub mod Names

@@ -1,2 +1,0 @@
-pub mod Initial
-pub mod Cells

@@ -1,0 +1,15 @@
+use Rattle.std.proofs.Common.{refl}
+use Rattle.std.specs.Fmt.{digits}
+use Rattle.cilk_model.proofs.laws.rows_of_inlets_come_out.Goals as goal
+
+pub returns-clause-stops : goal.returns-clause-stops
+unfolding digits
+returns-clause-stops c = refl
+
+pub returns-clause-both : goal.returns-clause-both
+unfolding digits
+returns-clause-both c = refl
+
+pub returns-clause-woken : goal.returns-clause-woken
+unfolding digits
+returns-clause-woken c = refl

@@ -1,0 +1,120 @@
+-- More worked programs: places that take a child's value, control, arrays, calls, marks that reach grandchildren.
+use Rattle.std.specs.Prelude.{ℕ, false, List, [], ◌∷◌, Option, Some, None, codes}
+use Rattle.cilk_syntax.specs.declared.operator.BinOp.{BinOp}
+use Rattle.cilk_syntax.specs.declared.operator.BinOp.TheVariants.{Add, Subtract, Multiply, Divide, Less, Greater}
+use Rattle.cilk_syntax.specs.declared.un_op.UnOp.TheVariants.{Minus}
+use Rattle.cilk_syntax.specs.declared.adjustment.Adjustment.TheVariants.{Increment}
+use Rattle.cilk_syntax.specs.declared.return_type.ReturnType.TheVariants.{Int}
+use Rattle.cilk_syntax.specs.Tree as tree
+use Rattle.cilk_syntax.specs.Tree.{Word, Expr, number, element, binary, unary, Target, inlet_at, Stmt, stmts_of, Block, block, Item, Program}
+use Rattle.cilk_model.specs.Trees.{word, name, target, assigns, int, returns, procedure, program, locks, inits}
+
+abbrev pub inside : List Stmt → Block
+inside stmts = block tree.no_locals (stmts_of stmts)
+
+abbrev pub raises : List ℕ → Stmt
+raises text = tree.move (tree.adjust (record { name = word text; index = None }) Increment)
+
+-- name[index], perhaps behind an operator
+abbrev pub cell : List ℕ → Expr → Option BinOp → Target
+cell text index op = record { place = record { name = word text; index = Some index }; op = op }
+
+abbrev pub by : List ℕ → BinOp → Target
+by text op = record { place = record { name = word text; index = None }; op = Some op }
+
+-- cilk int f(void) { return n; }
+abbrev pub giving : List ℕ → ℕ → Item
+giving text n = procedure Int text [] [] (returns (number n) ∷ [])
+
+-- a C function
+abbrev pub function : List ℕ → List Word → List Stmt → Item
+function text parameters stmts = tree.procedure (record {
+  is_cilk = false;
+  returns = Int;
+  name = word text;
+  parameters = tree.ints parameters;
+  body = inside stmts;
+})
+
+abbrev pub doubles : Stmt
+doubles = assigns (codes "x") (binary Multiply (name (codes "x")) (number 2))
+
+-- cilk int f(void) { return 5; } cilk int main(void) { int x = 1; x += spawn f(); x = x * 2; x = x * 2; sync; return x; }
+abbrev pub doubling : Program
+doubling = program (giving (codes "f") 5
+    ∷ procedure Int (codes "main") [] (int (codes "x") (Some (number 1)) ∷ [])
+    (tree.spawn_at 0 (tree.into (by (codes "x") Add)) (word (codes "f")) [] ∷ doubles ∷ doubles ∷ tree.sync_at 0 ∷ returns (name (codes "x")) ∷ []) ∷ [])
+
+-- cilk int f(void) { return 2147483647; } cilk int main(void) { int x = 1; x += spawn f(); sync; return x; }
+abbrev pub passing : Program
+passing = program (giving (codes "f") 2147483647
+    ∷ procedure Int (codes "main") [] (int (codes "x") (Some (number 1)) ∷ [])
+    (tree.spawn_at 0 (tree.into (by (codes "x") Add)) (word (codes "f")) [] ∷ tree.sync_at 0 ∷ returns (name (codes "x")) ∷ []) ∷ [])
+
+-- int f(int n) { n = f(n + 1); return n; } cilk int main(void) { int r; r = f(0); return r; }
+abbrev pub descending : Program
+descending = program (function (codes "f") (word (codes "n") ∷ [])
+    (tree.move (tree.call (Some (target (codes "n"))) (word (codes "f")) (binary Add (name (codes "n")) (number 1) ∷ [])) ∷ returns (name (codes "n")) ∷ [])
+    ∷ procedure Int (codes "main") [] (int (codes "r") None ∷ [])
+    (tree.move (tree.call (Some (target (codes "r"))) (word (codes "f")) (number 0 ∷ [])) ∷ returns (name (codes "r")) ∷ []) ∷ [])
+
+abbrev pub array : List ℕ → ℕ → Item
+array text n = tree.global (record { name = word text; shape = tree.global_array n })
+
+-- int a[3]; cilk int main(void) { int i = 2; a[i] = 7; a[i] += a[i]; return a[2] + a[0]; }
+abbrev pub filling : Program
+filling = program (array (codes "a") 3
+    ∷ procedure Int (codes "main") [] (int (codes "i") (Some (number 2)) ∷ [])
+    (tree.move (tree.assign (cell (codes "a") (name (codes "i")) None) (number 7))
+    ∷ tree.move (tree.assign (cell (codes "a") (name (codes "i")) (Some Add)) (element (word (codes "a")) (name (codes "i"))))
+    ∷ returns (binary Add (element (word (codes "a")) (number 2)) (element (word (codes "a")) (number 0))) ∷ []) ∷ [])
+
+-- int a[3]; cilk int main(void) { a[3] = 1 / 0; return 0; }: the subscript comes before the value
+abbrev pub overrunning : Program
+overrunning = program (array (codes "a") 3
+    ∷ procedure Int (codes "main") [] []
+    (tree.move (tree.assign (cell (codes "a") (number 3) None) (binary Divide (number 1) (number 0))) ∷ returns (number 0) ∷ []) ∷ [])
+
+-- int a[2]; int next(void) { a[0]++; return a[0]; } cilk int main(void) { int i; a[i] += next(); return a[0]; }: the old value is read last
+abbrev pub reading_late : Program
+reading_late = program (array (codes "a") 2
+    ∷ function (codes "next") []
+    (tree.move (tree.adjust (record { name = word (codes "a"); index = Some (number 0) }) Increment) ∷ returns (element (word (codes "a")) (number 0)) ∷ [])
+    ∷ procedure Int (codes "main") [] (int (codes "i") None ∷ [])
+    (tree.move (tree.call (Some (cell (codes "a") (name (codes "i")) (Some Add))) (word (codes "next")) [])
+    ∷ returns (element (word (codes "a")) (number 0)) ∷ []) ∷ [])
+
+-- cilk int main(void) { int i; do i++; while (i < 3); while (1) { i++; if (i > 5) break; } return i; }
+abbrev pub rounding : Program
+rounding = program (procedure Int (codes "main") [] (int (codes "i") None ∷ [])
+    (tree.repeat (inside (raises (codes "i") ∷ [])) (binary Less (name (codes "i")) (number 3))
+    ∷ tree.while (number 1) (inside (raises (codes "i") ∷ tree.when (binary Greater (name (codes "i")) (number 5)) (inside (tree.break_at 0 ∷ [])) ∷ []))
+    ∷ returns (name (codes "i")) ∷ []) ∷ [])
+
+-- cilk int g(void) { return 1; } cilk int f(void) { int r; r = spawn g(); return r; } cilk int q(void) { return 7; }
+-- cilk int main(void) { inlet void i(int v) { abort; } i(spawn f()); i(spawn q()); sync; return 0; }
+abbrev pub marking : Program
+marking = program (giving (codes "g") 1
+    ∷ procedure Int (codes "f") [] (int (codes "r") None ∷ [])
+    (tree.spawn_at 0 (tree.into (target (codes "r"))) (word (codes "g")) [] ∷ returns (name (codes "r")) ∷ [])
+    ∷ giving (codes "q") 7
+    ∷ procedure Int (codes "main") [] (inlet_at 0 (word (codes "i")) (word (codes "v") ∷ []) (inside (tree.abort_at 0 ∷ [])) ∷ [])
+    (tree.spawn_at 0 (tree.through (word (codes "i")) []) (word (codes "f")) [] ∷ tree.spawn_at 0 (tree.through (word (codes "i")) []) (word (codes "q")) []
+    ∷ tree.sync_at 0 ∷ returns (number 0) ∷ []) ∷ [])
+
+-- cilk int main(void) { printf("%d%%\t%d\n", -2147483647 - 1, 0); return 0; }
+abbrev pub printing : Program
+printing = program (procedure Int (codes "main") [] []
+    (tree.print (record { bytes = codes "%d%%\t%d\n"; place = 0 }) (binary Subtract (unary Minus (number 2147483647)) (number 1) ∷ number 0 ∷ [])
+    ∷ returns (number 0) ∷ []) ∷ [])
+
+-- Cilk_lockvar l; cilk int main(void) { Cilk_lock_init(l); Cilk_lock(l); Cilk_lock(l); return 0; }
+abbrev pub locks_twice : Program
+locks_twice = program (tree.lock (word (codes "l"))
+    ∷ procedure Int (codes "main") [] []
+    (inits (codes "l") ∷ locks (codes "l") ∷ locks (codes "l") ∷ returns (number 0) ∷ []) ∷ [])
+
+-- Cilk_lockvar l; cilk int main(void) { Cilk_lock(l); return 0; }
+abbrev pub locks_unset : Program
+locks_unset = program (tree.lock (word (codes "l"))
+    ∷ procedure Int (codes "main") [] [] (locks (codes "l") ∷ returns (number 0) ∷ []) ∷ [])

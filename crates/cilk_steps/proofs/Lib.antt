@@ -1,4 +1,0 @@
-pub mod Waits
-pub mod Ways
-pub mod Left
-pub mod Fits

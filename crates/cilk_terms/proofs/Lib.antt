@@ -1,3 +1,0 @@
-pub mod Environments
-pub mod Rounding
-pub mod Places
