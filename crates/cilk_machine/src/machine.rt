@@ -58,7 +58,8 @@ impl Model for Machine {
 
     ghost coded = { Prim.hlevel (codes, coded_Program) };
 
-    ghost view = { λ m. record { program = m.loaded; machine = machine_of m.parts (outcome_at m.trapper m.outcome); outcome = m.outcome; choices = m.choices } };
+    ghost view = { λ m.
+        record { program = m.loaded; machine = machine_of m.parts (outcome_at m.trapper m.outcome); outcome = m.outcome; choices = m.choices } };
 
     ghost invariant = { λ m.
         IsSound (record { program = m.loaded; machine = machine_of m.parts (outcome_at m.trapper m.outcome); outcome = m.outcome; choices = m.choices })

@@ -11,8 +11,10 @@ ghost use Rattle.cilk_model.specs.Rows.{s, p, t, steps, outcome_of, closing_of, 
 /// Small programs in one thread, and two children that count at once.
 pub fn rows_of_steps_come_out()
     ensures rounds { outcome_of summing (steps 24 1) ≡ Some (state.finished (pos 7)) }
-    ensures early { outcome_of counting (s 1 ∷ s 1 ∷ s 1 ∷ s 1 ∷ p 1 ∷ s 1 ∷ s 1 ∷ s 1 ∷ s 1 ∷ p 1 ∷ s 1 ∷ s 1 ∷ []) ≡ Some (state.finished (pos 2)) }
-    ensures late { outcome_of counting (s 1 ∷ t 2 1 ∷ s 2 ∷ s 1 ∷ s 2 ∷ s 1 ∷ s 2 ∷ s 1 ∷ s 2 ∷ p 2 ∷ s 2 ∷ s 2 ∷ []) ≡ Some (state.finished (pos 1)) }
+    ensures early { outcome_of counting (s 1 ∷ s 1 ∷ s 1 ∷ s 1 ∷ p 1 ∷ s 1 ∷ s 1 ∷ s 1 ∷ s 1 ∷ p 1 ∷ s 1 ∷ s 1 ∷ [])
+        ≡ Some (state.finished (pos 2)) }
+    ensures late { outcome_of counting (s 1 ∷ t 2 1 ∷ s 2 ∷ s 1 ∷ s 2 ∷ s 1 ∷ s 2 ∷ s 1 ∷ s 2 ∷ p 2 ∷ s 2 ∷ s 2 ∷ [])
+        ≡ Some (state.finished (pos 1)) }
     ensures synched { outcome_of asking (s 1 ∷ s 1 ∷ p 1 ∷ s 1 ∷ s 1 ∷ s 1 ∷ []) ≡ Some (state.finished (pos 1)) }
     ensures not_synched { outcome_of asking (s 1 ∷ t 2 1 ∷ s 2 ∷ s 1 ∷ s 2 ∷ s 2 ∷ []) ≡ Some (state.finished (pos 0)) }
 {}

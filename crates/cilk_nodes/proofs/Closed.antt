@@ -128,7 +128,9 @@ module _ (G : Items → Type 0) (g-nil : G []) where
         let before = each-front G (first_lists first round items) rest h in
         let behind = each-back G (first_lists first round items) rest h in
         let mark = advance-good advance round items behind.1.0 good in
-        each-append Next (first_lists first round items) rest (first-closed first round items before behind.0 good) (test-closed test (Some advance) body items (pieces-good body (at_advance advance round ∷ items) behind.1.1 mark) good, (λ t. behind.0, stmts-closed body (at_advance advance round ∷ items) behind.1.1 mark))
+        let test_there = test-closed test (Some advance) body items (pieces-good body (at_advance advance round ∷ items) behind.1.1 mark) good in
+        let body_there = stmts-closed body (at_advance advance round ∷ items) behind.1.1 mark in
+        each-append Next (first_lists first round items) rest (first-closed first round items before behind.0 good) (test_there, (λ t. behind.0, body_there))
     stmt-closed (nested inside) items h good = stmts-closed inside items h good
 
     pub stmts-closed : (ss : Stmts) (items : Items) → Each G (stmts_lists ss items) → Good items → Each Next (stmts_lists ss items)
