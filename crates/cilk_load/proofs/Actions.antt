@@ -14,8 +14,8 @@ use Rattle.cilk_labelled.specs.Labelled as labelled
 use Rattle.cilk_nodes.specs.declared.action.Action.TheVariants.{Assign, Call, Spawn, Return}
 use Rattle.cilk_nodes.specs.declared.taker.Taker.TheVariants.{Into, Through}
 use Rattle.cilk_nodes.specs.Actions.{slotted_place, slotted_target, slotted_taker, slotted}
-use Rattle.cilk_load.specs.Scope.{Scope}
-use Rattle.cilk_load.specs.Acts.{slot_in, number_in, code_in, codes_in, place_in, target_in, move_in, taker_in, spawn_in, return_in, initialiser_in}
+use Rattle.cilk_resolve.specs.Scope.{Scope}
+use Rattle.cilk_resolve.specs.Acts.{slot_in, number_in, code_in, codes_in, place_in, target_in, move_in, taker_in, spawn_in, return_in, initialiser_in}
 use Rattle.cilk_load.proofs.Found.{Agree}
 
 module _ (slots : Declaration → Slot) (names : Names) (s : Scope) (agree : Agree slots names s) where

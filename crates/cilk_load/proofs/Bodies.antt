@@ -21,10 +21,11 @@ use Rattle.cilk_nodes.specs.Table.{number_of, node_over, node_at, stmts_lists, c
 use Rattle.cilk_nodes.specs.Bodies.{body_table}
 use Rattle.cilk_nodes.specs.Plain.{PlainBlock, OuterLocals, OuterBlock}
 use Rattle.cilk_nodes.proofs.Texts.{shape_rows, named_place, body_of_inlet, locals_rows, body_rows}
-use Rattle.cilk_load.specs.Scope as scope
-use Rattle.cilk_load.specs.Scope.{Scope, declared}
-use Rattle.cilk_load.specs.Pass.{known_var, known_number, onward, first_if, locals_first, shape_nodes, stmts_nodes, block_nodes}
-use Rattle.cilk_load.specs.Outer.{vars_at, body_exits, words_scope, parameters_scope, inlet_nodes, outer_nodes, outer_scope, body_nodes}
+use Rattle.cilk_resolve.specs.Scope as scope
+use Rattle.cilk_resolve.specs.Scope.{Scope, declared}
+use Rattle.cilk_layout.specs.Firsts.{first_if, locals_first}
+use Rattle.cilk_numbering.specs.Pass.{known_var, known_number, onward, shape_nodes, stmts_nodes, block_nodes}
+use Rattle.cilk_numbering.specs.Outer.{vars_at, body_exits, words_scope, parameters_scope, inlet_nodes, outer_nodes, outer_scope, body_nodes}
 use Rattle.cilk_load.proofs.Found.{Agree, agree-declared, agree-inlet}
 use Rattle.cilk_load.proofs.Actions.{initialiser-is}
 use Rattle.cilk_load.proofs.Starts.{stmts-pieces, locals-pieces}

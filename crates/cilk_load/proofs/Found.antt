@@ -11,8 +11,8 @@ use Rattle.cilk_eval.specs.declared.slot.Slot.{Slot}
 use Rattle.cilk_labelled.specs.Labelled.{Declaration, unknown}
 use Rattle.cilk_labelled.specs.Names as label
 use Rattle.cilk_labelled.specs.Names.{Names, meaning_at, number_of, with_name}
-use Rattle.cilk_load.specs.declared.known.Known.{Known}
-use Rattle.cilk_load.specs.Scope.{Named, Scope, found, visible, outward_area, outward, outward_named, declared, entered}
+use Rattle.cilk_resolve.specs.declared.known.Known.{Known}
+use Rattle.cilk_resolve.specs.Scope.{Named, Scope, found, visible, outward_area, outward, outward_named, declared, entered}
 
 abbrev pub known_of : (Declaration → Slot) → Declaration → Known
 known_of slots d = record { slot = slots d; number = number_of d }

@@ -1,7 +1,4 @@
-pub mod Cells
-pub mod Shown
-pub mod Scopes
-pub mod Parts
+pub mod Got
 pub mod Found
 pub mod Actions
 pub mod Starts

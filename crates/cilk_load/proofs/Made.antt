@@ -1,34 +1,27 @@
 -- The tables of a program that passed the check.
-use Rattle.std.proofs.Common.{◌≡◌, ℕ, suc, ◌+◌, ◌≤◌, not, cond, List, [], ◌∷◌, ◌++◌, length, map, Some, None, refl, sym, ap, ◌∙◌, nat_lt, arith}
-use Rattle.std.proofs.Common.{length-append, unwrap_or}
+use Rattle.std.proofs.Common.{◌≡◌, ℕ, suc, ◌+◌, ◌≤◌, not, cond, List, [], ◌∷◌, length, map, Some, None, refl, sym, ap, ◌∙◌, nat_lt}
+use Rattle.std.proofs.Common.{length-append}
 use Rattle.std.specs.Prelude.{slice_get, flat_map}
 use Rattle.std.specs.List.{prefix_len, position}
 use Rattle.cilk_syntax.specs.Tree as tree
 use Rattle.cilk_check.specs.Fault.{WellFormed}
-use Rattle.cilk_eval.specs.declared.area.Area.{Area}
-use Rattle.cilk_eval.specs.declared.area.Area.TheVariants.{Own, Global}
-use Rattle.cilk_labelled.specs.Labelled.{Variable, Body}
+use Rattle.cilk_eval.specs.declared.area.Area.TheVariants.{Global}
+use Rattle.cilk_labelled.specs.Labelled.{Body}
 use Rattle.cilk_labelled.specs.Count.{count_shape, count_block, count_item, count_program}
-use Rattle.cilk_labelled.specs.Label.{block_variables}
-use Rattle.cilk_scopes.specs.declared.owner.Owner.{Owner}
 use Rattle.cilk_labelled.specs.Lines.{action_lines}
 use Rattle.cilk_labelled.specs.Bodies.{label, bodies_of, file_names, is_start, item_globals, item_locks, inlet_count, block_locals, body_count}
 use Rattle.cilk_nodes.specs.declared.node.Node.{Node}
 use Rattle.cilk_nodes.specs.declared.body.Body as table
 use Rattle.cilk_nodes.specs.declared.var.Var.{Var}
-use Rattle.cilk_nodes.specs.Slots.{size_of, cells_of}
 use Rattle.cilk_nodes.specs.Bodies.{body_table, vars_from, lock_variable, globals_of, locks_of}
 use Rattle.cilk_nodes.proofs.Inner.{well_formed-plain}
-use Rattle.cilk_load.specs.Outer.{body_first, table_of, inlet_tables, item_tables, items_tables, items_nodes, globals_count, locks_count, bodies_count}
-use Rattle.cilk_load.specs.Outer.{file_scope}
-use Rattle.cilk_load.specs.Tables.{starts_here, Tabled}
-use Rattle.cilk_load.proofs.Cells.{cells_of-append, joined}
+use Rattle.cilk_layout.specs.Tables.{inlet_tables, item_tables, items_tables}
+use Rattle.cilk_numbering.specs.Outer.{items_nodes, globals_count, locks_count, bodies_count}
+use Rattle.cilk_numbering.specs.Outer.{file_scope}
+use Rattle.cilk_layout.specs.Tables.{starts_here}
+use Rattle.cilk_load.specs.Tables.{Tabled}
+use Rattle.cilk_layout.proofs.Tables.{length-vars}
 use Rattle.cilk_load.proofs.Programs.{items-tables-are, program-nodes, none-at-0, nodes-at}
-
--- a variable of the table for each variable
-length-vars : (area : Area) (at : ℕ) (vs : List Variable) → length (vars_from area at vs) ≡ length vs
-length-vars area at [] = refl
-length-vars area at (v ∷ vs) = ap suc (length-vars area (at + size_of v) vs)
 
 length-globals : (items : List tree.Item) → length (flat_map item_globals items) ≡ globals_count items
 length-globals [] = refl
@@ -77,22 +70,6 @@ same-length (b ∷ bodies) = ap suc (same-length bodies)
 
 same-position : (bodies : List Body) → position starts_here (map body_table bodies) ≡ position is_start bodies
 same-position bodies = λ i. cond (nat_lt (same-before bodies i) (same-length bodies i)) (Some (same-before bodies i)) None
-
--- the table of a body, from its parts
-pub table-made : (at : ℕ) (owner own : Owner) (name : tree.Word) (parameters : List Variable) (body : tree.Block) (text : List ℕ)
-    (entry params cells middle : ℕ) (before some vars : List Var) → text ≡ name.text → own ≡ owner → entry ≡ unwrap_or (body_first at body) 0
-    → before ≡ [] → some ≡ before ++ vars_from Own 0 parameters → middle ≡ 0 + cells_of parameters → params ≡ length some
-    → vars ≡ some ++ vars_from Own middle (block_variables body) → cells ≡ middle + cells_of (block_variables body)
-    → ◌≡◌ {A = table.Body} (record { name = text; owner = own; entry = entry; params = params; cells = cells; vars = vars })
-    (table_of at owner name parameters body)
-table-made at owner own name parameters body text entry params cells middle before some vars et eo ee eb es em ep ev ec =
-    let count : params ≡ length parameters = ep ∙ ap length (es ∙ ap (λ (vs : List Var). vs ++ vars_from Own 0 parameters) eb) ∙ length-vars Own 0 parameters in
-    let size : cells ≡ cells_of (parameters ++ block_variables body) = omega (arith, ec, em, cells_of-append parameters (block_variables body)) in
-    let all : vars ≡ vars_from Own 0 (parameters ++ block_variables body) =
-    joined Own 0 middle before some vars parameters (block_variables body) es em ev
-    ∙ ap (λ (vs : List Var). vs ++ vars_from Own 0 (parameters ++ block_variables body)) eb
-    in
-    λ i. record { name = et i; owner = eo i; entry = ee i; params = count i; cells = size i; vars = all i }
 
 pub tabled : (p : tree.Program) (nodes : List Node) (lines : List ℕ) (bodies : List table.Body) (main : ℕ) (globals locks : List Var) → WellFormed p
     → count_program p ≤ 65535

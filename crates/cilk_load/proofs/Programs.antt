@@ -14,7 +14,7 @@ use Rattle.cilk_scopes.proofs.Elements.{Has}
 use Rattle.cilk_check.specs.Fault.{WellFormed}
 use Rattle.cilk_labelled.specs.Labelled.{Variable, Body, Labelled, Numbered}
 use Rattle.cilk_labelled.specs.Items.{opened, head_of, start_items}
-use Rattle.cilk_labelled.specs.Names.{Names, with_parameters, meaning_at}
+use Rattle.cilk_labelled.specs.Names.{Names, meaning_at}
 use Rattle.cilk_labelled.specs.Names as label
 use Rattle.cilk_labelled.specs.Count.{count_shape, count_stmts, count_locals, count_block, count_item, count_program}
 use Rattle.cilk_labelled.specs.Label.{label_stmts, names_behind, locals_variables}
@@ -31,11 +31,12 @@ use Rattle.cilk_nodes.proofs.Inner.{well_formed-plain}
 use Rattle.cilk_nodes.proofs.Members.{has-from-at}
 use Rattle.cilk_nodes.proofs.Texts.{item_rows, items_rows, RowsSpan, length-item, items-from-text}
 use Rattle.cilk_nodes.proofs.Heads.{rows_of, text_of, text-spans, row-number, among-is, among-none, text-place, numbered, one-row}
-use Rattle.cilk_load.specs.Scope as scope
-use Rattle.cilk_load.specs.Scope.{Scope, outward_named}
-use Rattle.cilk_load.specs.Pass.{locals_first}
-use Rattle.cilk_load.specs.Outer.{vars_at, parameters_scope, item_nodes, items_nodes, body_first, table_of, inlet_tables, item_tables, items_tables}
-use Rattle.cilk_load.specs.Outer.{file_named, file_scope}
+use Rattle.cilk_resolve.specs.Scope as scope
+use Rattle.cilk_resolve.specs.Scope.{Scope, outward_named}
+use Rattle.cilk_layout.specs.Firsts.{locals_first}
+use Rattle.cilk_layout.specs.Tables.{body_first, table_of, inlet_tables, item_tables, items_tables}
+use Rattle.cilk_numbering.specs.Outer.{vars_at, parameters_scope, item_nodes, items_nodes}
+use Rattle.cilk_numbering.specs.Outer.{file_named, file_scope}
 use Rattle.cilk_load.proofs.Found.{known_of, same_name, Agree}
 use Rattle.cilk_load.proofs.Starts.{stmts-pieces, locals-pieces}
 use Rattle.cilk_load.proofs.Slots.{own-around, inlets-around, inlet-owners, file-known}

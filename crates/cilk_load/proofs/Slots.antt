@@ -21,10 +21,10 @@ use Rattle.cilk_model.specs.Instance.{body_at, no_body}
 use Rattle.cilk_nodes.specs.declared.var.Var.{Var}
 use Rattle.cilk_nodes.specs.Slots.{size_of, slot_from, slot_of, is_inlet, procedure_around}
 use Rattle.cilk_nodes.specs.Bodies.{vars_from, body_table}
-use Rattle.cilk_load.specs.declared.known.Known.{Known}
-use Rattle.cilk_load.specs.Scope.{Named, found, outward_area, outward, outward_named}
-use Rattle.cilk_load.specs.Pass.{var_slot, known_var, known_number}
-use Rattle.cilk_load.specs.Outer.{vars_at, file_named}
+use Rattle.cilk_resolve.specs.declared.known.Known.{Known}
+use Rattle.cilk_resolve.specs.Scope.{Named, found, outward_area, outward, outward_named}
+use Rattle.cilk_numbering.specs.Pass.{var_slot, known_var, known_number}
+use Rattle.cilk_numbering.specs.Outer.{vars_at, file_named}
 use Rattle.cilk_load.proofs.Found.{known_of, same_name, meaning-first}
 
 -- the slots of a table of variables

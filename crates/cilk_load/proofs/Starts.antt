@@ -1,29 +1,20 @@
 -- With which action a part of a body begins.
-use Rattle.std.proofs.Common.{◌≡◌, ℕ, zero, suc, inl, inr, ◌+◌, ◌<◌, Bool, true, false, cond, nat_eq, nat_lt, ◌∷◌, length, Option, Some, None, refl, sym}
+use Rattle.std.proofs.Common.{◌≡◌, ℕ, zero, suc, inl, inr, ◌+◌, ◌<◌, Bool, true, false, cond, nat_eq, ◌∷◌, length, Option, Some, None, refl, sym}
 use Rattle.std.proofs.Common.{ap, ◌∙◌, arith}
-use Rattle.std.proofs.lemmas.Bool.{false≢true, cases_eq, lt-ltb}
+use Rattle.std.proofs.lemmas.Bool.{false≢true, cases_eq}
 use Rattle.std.proofs.lemmas.Bool.Decides.{Decides-eqb}
 use Rattle.cilk_syntax.specs.Tree as tree
 use Rattle.cilk_labelled.specs.Labelled.{Stmts}
 use Rattle.cilk_labelled.specs.Items.{Items, pieces, plain_round, open_stmt, open_stmts, opened}
 use Rattle.cilk_labelled.specs.Names.{Names, with_local, entered}
-use Rattle.cilk_labelled.specs.Count.{count_option, count_shape, count_stmt, count_stmts, count_local, count_locals, count_block}
+use Rattle.cilk_labelled.specs.Count.{count_option, count_shape, count_stmt, count_stmts, count_locals, count_block}
 use Rattle.cilk_labelled.specs.Label.{label_test, label_initialiser, label_locals, label_stmt, label_stmts, label_block, names_behind, stmt_variables}
 use Rattle.cilk_labelled.specs.Label.{locals_variables}
 use Rattle.cilk_nodes.specs.Table.{number_of}
 use Rattle.cilk_nodes.specs.Plain.{PlainLocals, PlainStmt, PlainStmts, PlainBlock}
 use Rattle.cilk_nodes.proofs.Opens.{opened-pieces}
-use Rattle.cilk_load.specs.Pass.{first_if, block_first, is_initialised, locals_first}
-
-pub first_if-some : (c at : ℕ) (o : Option ℕ) → 0 < c → first_if c at o ≡ Some at
-first_if-some c at o h = by_test (nat_eq c 0) refl
-  where
-    by_test : (b : Bool) → nat_eq c 0 ≡ b → cond b o (Some at) ≡ Some at
-    by_test true e = absurd (omega (arith, h, (Decides-eqb c 0).0 e))
-    by_test false e = refl
-
-pub first_if-none : (c at : ℕ) (o : Option ℕ) → c ≡ 0 → first_if c at o ≡ o
-first_if-none c at o e = ap (λ k. first_if k at o) e
+use Rattle.cilk_layout.specs.Firsts.{first_if, block_first, locals_first}
+use Rattle.cilk_layout.proofs.Begins.{first_if-some}
 
 positive : (n : ℕ) → nat_eq n 0 ≡ false → 0 < n
 positive n e = elim (cases_eq n 0) [ inl z ↦ absurd (false≢true (sym e ∙ (Decides-eqb n 0).1 z)) | inr z ↦ above n z ]
@@ -150,21 +141,3 @@ locals-pieces names at n ls others items =
     ap number_of (opened-pieces (label_locals names at n ls others) items)
     ∙ locals-first names at n ls others items (opened items)
     ∙ ap (λ l. locals_first at ls (number_of l)) (sym (opened-pieces others items))
-
--- the first of some declarations is the first initialiser, or a later one is
-pub first-here : (at : ℕ) (l : tree.Local) (ls : tree.Locals) (next : Option ℕ) → is_initialised l ≡ true → locals_first at (tree.and_local l ls) next ≡ Some at
-first-here at (tree.declared d) ls next e = first_if-some (count_shape d.shape) at _ (above (count_shape d.shape) e)
-  where
-    above : (m : ℕ) → nat_lt 0 m ≡ true → 0 < m
-    above zero k = cc
-    above (suc m) k = omega arith
-first-here at (tree.inlet_at place name parameters body) ls next e = cc
-
-pub first-later : (at : ℕ) (l : tree.Local) (ls : tree.Locals) (next : Option ℕ) → is_initialised l ≡ false
-    → locals_first at (tree.and_local l ls) next ≡ locals_first (at + count_local l) ls next
-first-later at (tree.declared d) ls next e = first_if-none (count_shape d.shape) at _ (none (count_shape d.shape) e)
-  where
-    none : (m : ℕ) → nat_lt 0 m ≡ false → m ≡ 0
-    none zero k = refl
-    none (suc m) k = let above : nat_lt 0 (suc m) ≡ true = lt-ltb 0 (suc m) (omega arith) in cc
-first-later at (tree.inlet_at place name parameters body) ls next e = refl

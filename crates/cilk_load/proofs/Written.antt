@@ -19,11 +19,12 @@ use Rattle.cilk_nodes.specs.Actions.{slotted}
 use Rattle.cilk_nodes.specs.Table.{number_of, node_over, first_lists, advance_lists, round_of, stmt_lists, stmts_lists}
 use Rattle.cilk_nodes.specs.Plain.{PlainLocals, PlainStmt, PlainStmts, PlainBlock}
 use Rattle.cilk_nodes.proofs.Opens.{past-pieces, from-pieces}
-use Rattle.cilk_load.specs.declared.exits.Exits.{Exits}
-use Rattle.cilk_load.specs.Scope.{Scope, declared}
-use Rattle.cilk_load.specs.Acts.{move_in, code_in}
-use Rattle.cilk_load.specs.Pass.{var_slot, known_var, node, onward, first_if, locals_first, exits_to, part_nodes, shape_nodes, locals_scope}
-use Rattle.cilk_load.specs.Pass.{locals_nodes, stmt_nodes, stmts_nodes, block_nodes}
+use Rattle.cilk_numbering.specs.declared.exits.Exits.{Exits}
+use Rattle.cilk_resolve.specs.Scope.{Scope, declared}
+use Rattle.cilk_resolve.specs.Acts.{move_in, code_in}
+use Rattle.cilk_layout.specs.Firsts.{first_if, locals_first}
+use Rattle.cilk_numbering.specs.Pass.{var_slot, known_var, node, onward, exits_to, part_nodes, shape_nodes, locals_scope}
+use Rattle.cilk_numbering.specs.Pass.{locals_nodes, stmt_nodes, stmts_nodes, block_nodes}
 use Rattle.cilk_load.proofs.Found.{Agree, agree-declared, agree-entered}
 use Rattle.cilk_load.proofs.Actions.{number-is, code-is, codes-are, move-is, spawn-is, return-is, initialiser-is}
 use Rattle.cilk_load.proofs.Starts.{block-pieces, stmts-pieces, locals-pieces}

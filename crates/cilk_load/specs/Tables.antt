@@ -1,7 +1,7 @@
 -- The tables of a program are what its meaning says.
-use Rattle.std.specs.Prelude.{◌≡◌, ℕ, suc, ◌≤◌, Bool, ◌&&◌, bytes_eq, codes, List, Some, None, length, map, slice_get}
+use Rattle.std.specs.Prelude.{◌≡◌, ℕ, suc, ◌≤◌, List, Some, None, length, map, slice_get}
 use Rattle.cilk_syntax.specs.Tree as tree
-use Rattle.cilk_labelled.specs.Bodies.{label, is_procedure}
+use Rattle.cilk_labelled.specs.Bodies.{label}
 use Rattle.cilk_labelled.specs.Count.{count_program}
 use Rattle.cilk_labelled.specs.Lines.{action_lines}
 use Rattle.cilk_nodes.specs.declared.node.Node.{Node}
@@ -9,10 +9,6 @@ use Rattle.cilk_nodes.specs.declared.var.Var.{Var}
 use Rattle.cilk_nodes.specs.declared.body.Body.{Body}
 use Rattle.cilk_nodes.specs.Table.{node_of}
 use Rattle.cilk_nodes.specs.Bodies.{body_table, globals_of, locks_of}
-
--- whether a body is one to start with
-abbrev pub starts_here : Body → Bool
-starts_here body = is_procedure body.owner && bytes_eq body.name (codes "main")
 
 pub record Tabled (p : tree.Program) (nodes : List Node) (lines : List ℕ) (bodies : List Body) (main : ℕ) (globals locks : List Var) : Type 0 where
   -- the numbers of actions go from 1 on

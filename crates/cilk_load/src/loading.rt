@@ -1,20 +1,14 @@
-ghost use Rattle.std.specs.Prelude.{◌≡◌, ◌<◌, ◌≤◌, ◌↔◌, true, IfOk, length, vec_len};
+ghost use Rattle.std.specs.Prelude.{◌≡◌, ◌<◌, ◌≤◌, ◌↔◌, true, IfOk};
 ghost use Rattle.cilk_labelled.specs.Count.{count_program};
-ghost use Rattle.cilk_nodes.specs.Plain.{PlainItems};
-ghost use Rattle.cilk_load.specs.Outer.{globals_count, locks_count, bodies_count, items_nodes, file_scope};
 
-use crate::building::{bodies_of, place_of_main};
-use crate::counts::{MAX_ACTIONS, count_items};
 use crate::fault::LoadFault;
-use crate::file::{declare_file, globals_of, locks_of};
-use crate::lines::action_lines;
 use crate::loaded::Loaded;
-use crate::names::Names;
-use crate::outer::put_items;
-use crate::room::NoRoom;
 use crate::tables::Tables;
 use cilk_check::Checked;
-use cilk_nodes::{Body, Node, Var};
+use cilk_layout::{
+    MAX_ACTIONS, NoRoom, action_lines, bodies_of, count_items, globals_of, locks_of, place_of_main,
+};
+use cilk_numbering::nodes_of;
 use cilk_syntax::Program;
 use std::alloc::Global;
 use std::sync::Arc;
@@ -66,26 +60,4 @@ fn tables_of(alloc: Global, checked: Checked) -> Result<Tables, NoRoom>
         globals,
         locks,
     })
-}
-
-fn nodes_of(
-    alloc: Global,
-    globals: &[Var],
-    locks: &[Var],
-    bodies: &[Body],
-    program: &Program,
-) -> Result<Vec<Node>, NoRoom>
-    requires globals { length globals.now ≡ globals_count program.now.items }
-    requires locks { length locks.now ≡ locks_count program.now.items }
-    requires bodies { length bodies.now ≡ bodies_count program.now.items }
-    requires few { count_program program.now ≤ 65535 }
-    requires plain { PlainItems program.now.items }
-    ensures nodes { IfOk result (λ nodes. nodes.items ≡ items_nodes bodies.now 0 (file_scope globals.now program.now.items) 1 program.now.items) }
-    ensures len { IfOk result (λ nodes. vec_len nodes ≡ count_program program.now) }
-{
-    let mut nodes = Vec::new(alloc);
-    let mut names = Names::new(alloc);
-    declare_file(&mut names, globals, locks, bodies, &program.items)?;
-    put_items(alloc, &mut nodes, &mut names, bodies, &program.items)?;
-    Ok(nodes)
 }

@@ -5,4 +5,6 @@
 #[cfg(test)]
 mod front;
 #[cfg(test)]
+mod recorded;
+#[cfg(test)]
 mod running;

@@ -8,10 +8,11 @@ use Rattle.cilk_nodes.specs.Bodies.{vars_from, lock_variable}
 use Rattle.cilk_labelled.specs.Count.{count_program}
 use Rattle.cilk_labelled.specs.Lines.{action_lines}
 use Rattle.cilk_nodes.specs.declared.body.Body.{Body}
-use Rattle.cilk_load.specs.Tables.{starts_here}
+use Rattle.cilk_layout.specs.Tables.{starts_here}
 use Rattle.cilk_nodes.specs.Plain.{PlainItems}
 use Rattle.cilk_nodes.proofs.Inner.{well_formed-plain}
-use Rattle.cilk_load.specs.Outer.{globals_count, locks_count, bodies_count, items_tables, items_nodes, file_scope}
+use Rattle.cilk_layout.specs.Tables.{items_tables}
+use Rattle.cilk_numbering.specs.Outer.{globals_count, locks_count, bodies_count, items_nodes, file_scope}
 use Rattle.cilk_load.proofs.Made.{globals-counted, locks-counted, bodies-counted, tabled}
 use Rattle.cilk_load.proofs.loading.tables_of.Goals as goal
 

@@ -1,0 +1,216 @@
+ghost use Rattle.std.specs.Prelude.{◌≡◌, ◌≤◌, ◌<◌, ◌+◌, ℕ, ◌-◌, IfOk, IfErr, OnOk, OnErr, length, replicate, slice_set, true, false};
+ghost use Rattle.cilk_labelled.specs.Count.{count_program};
+ghost use Rattle.cilk_replay.specs.Tape.{tape_of, IsAt};
+ghost use Rattle.cilk_debug.specs.Faults.{Tells};
+ghost use Rattle.cilk_debug.specs.Moves.{StaysBehind, StaysAhead, StaysFrom, HasNo};
+
+use crate::fault::DebugFault;
+use cilk_load::Loaded;
+use cilk_log::Log;
+use cilk_machine::Machine;
+use cilk_replay::{ReplayFault, make_again, play};
+use std::alloc::Global;
+use std::marker::Model;
+
+/// A program that stands where the first choices of a recorded schedule led it.
+#[derive(Drop)]
+pub struct Debugger {
+    alloc: Global,
+    program: Loaded,
+    log: Log,
+    machine: Machine,
+    /// For each action whether a breakpoint is set there.
+    marks: Vec<bool>,
+}
+
+impl Model for Debugger {
+    ghost use Rattle.cilk_replay.specs.Tape.{tape_of};
+    ghost use Rattle.cilk_debug.specs.Debugging.{Debugging, IsSound};
+    ghost use Rattle.cilk_syntax.specs.ProgramCoding.{coded_Program};
+    ghost use Rattle.std.specs.Coded.{codes};
+
+    ghost Value = { Debugging };
+
+    ghost coded = { Prim.hlevel (codes, coded_Program) };
+
+    ghost view = { λ d.
+        record { tape = tape_of d.program d.log.workers d.log.choices; position = d.machine.choices; marks = d.marks.items } };
+
+    ghost invariant = { λ d. IsSound (tape_of d.program d.log.workers d.log.choices) d.machine d.marks.items };
+}
+
+impl Debugger {
+    /// How many choices led to where it stands.
+    pub fn position(&self) -> u64
+        ensures { result ≡ self.now.position }
+    {
+        self.machine.choices()
+    }
+
+    /// How many choices there are.
+    pub fn length(&self) -> u64
+        ensures { result ≡ length self.now.tape.choices }
+    {
+        self.log.choices.len() as u64
+    }
+
+    /// Before any choice of a recorded schedule, all of which are possible.
+    pub fn new(alloc: Global, program: Loaded, log: Log) -> Result<Debugger, DebugFault>
+        ensures tape { IfOk result (λ d. d.tape ≡ tape_of program log.workers log.choices) }
+        ensures start { IfOk result (λ d. d.position ≡ 0) }
+        ensures marks { IfOk result (λ d. d.marks ≡ replicate (count_program program) false) }
+        ensures told { IfErr result (Tells (tape_of program log.workers log.choices)) }
+    {
+        match played(alloc, &program, &log, log.choices.len()) {
+            Err(fault) => Err(fault),
+            Ok(_) => match played(alloc, &program, &log, 0) {
+                Err(fault) => Err(fault),
+                Ok(machine) => match no_marks(alloc, &program) {
+                    Err(fault) => Err(fault),
+                    Ok(marks) => Ok(Debugger {
+                        alloc,
+                        program,
+                        log,
+                        machine,
+                        marks,
+                    }),
+                },
+            },
+        }
+    }
+
+    /// The next choice is made.
+    pub fn step(&mut self) -> Result<(), DebugFault>
+        ensures moved { OnOk result (self.new ≡ record self.old { position = self.old.position + 1 }) }
+        ensures within { OnOk result (self.old.position < length self.old.tape.choices) }
+        ensures told { IfErr result (StaysBehind self.old) }
+        ensures same { OnErr result (self.new ≡ self.old) }
+    {
+        let at = self.machine.choices() as usize;
+        let choices = self.log.choices.as_slice();
+        if choices.len() <= at {
+            return Err(DebugFault::AtEnd);
+        }
+        match make_again(&mut self.machine, choices, at) {
+            Ok(_) => Ok(()),
+            Err(_) => Err(DebugFault::Memory),
+        }
+    }
+
+    /// The last choice that was made is taken back.
+    pub fn back(&mut self) -> Result<(), DebugFault>
+        ensures moved { OnOk result (self.new ≡ record self.old { position = self.old.position - 1 }) }
+        ensures within { OnOk result (0 < self.old.position) }
+        ensures told { IfErr result (StaysAhead self.old) }
+        ensures same { OnErr result (self.new ≡ self.old) }
+    {
+        let at = self.machine.choices() as usize;
+        if at == 0 {
+            return Err(DebugFault::AtStart);
+        }
+        self.stand_at(at - 1)
+    }
+
+    /// To the position behind the first k choices.
+    pub fn go(&mut self, k: u64) -> Result<(), DebugFault>
+        ensures moved { OnOk result (self.new ≡ record self.old { position = k }) }
+        ensures within { OnOk result (k ≤ length self.old.tape.choices) }
+        ensures told { IfErr result (StaysFrom self.old k) }
+        ensures same { OnErr result (self.new ≡ self.old) }
+    {
+        if self.length() < k {
+            return Err(DebugFault::OutOfRange);
+        }
+        self.stand_at(k as usize)
+    }
+
+    // A new machine goes there from the start, so that the old one stays where memory runs out.
+    fn stand_at(&mut self, k: usize) -> Result<(), DebugFault>
+        requires { k ≤ length self.old.tape.choices }
+        ensures moved { OnOk result (self.new ≡ record self.old { position = k }) }
+        ensures memory { IfErr result (λ why. why ≡ DebugFault.Memory) }
+        ensures same { OnErr result (self.new ≡ self.old) }
+    {
+        match self.machine_at(k) {
+            Err(fault) => Err(fault),
+            Ok(machine) => {
+                self.machine = machine;
+                Ok(())
+            }
+        }
+    }
+
+    /// Sets a breakpoint at action n, counted from 1.
+    pub fn set_break(&mut self, n: u32) -> Result<(), DebugFault>
+        ensures set { OnOk result (self.new ≡ record self.old { marks = slice_set self.old.marks (n - 1) true }) }
+        ensures within { OnOk result ((1 ≤ n) × (n ≤ count_program self.old.tape.program)) }
+        ensures told { IfErr result (HasNo self.old n) }
+        ensures same { OnErr result (self.new ≡ self.old) }
+    {
+        self.mark(n, true)
+    }
+
+    /// Takes the breakpoint at action n away, if there is one.
+    pub fn clear_break(&mut self, n: u32) -> Result<(), DebugFault>
+        ensures cleared { OnOk result (self.new ≡ record self.old { marks = slice_set self.old.marks (n - 1) false }) }
+        ensures within { OnOk result ((1 ≤ n) × (n ≤ count_program self.old.tape.program)) }
+        ensures told { IfErr result (HasNo self.old n) }
+        ensures same { OnErr result (self.new ≡ self.old) }
+    {
+        self.mark(n, false)
+    }
+
+    fn mark(&mut self, n: u32, mark: bool) -> Result<(), DebugFault>
+        ensures marked { OnOk result (self.new ≡ record self.old { marks = slice_set self.old.marks (n - 1) mark }) }
+        ensures within { OnOk result ((1 ≤ n) × (n ≤ count_program self.old.tape.program)) }
+        ensures told { IfErr result (HasNo self.old n) }
+        ensures same { OnErr result (self.new ≡ self.old) }
+    {
+        if n == 0 || self.program.count() < n {
+            return Err(DebugFault::NoStatement);
+        }
+        self.marks[n as usize - 1] = mark;
+        Ok(())
+    }
+
+    // The machine behind the first k choices. All of them are possible, so that only memory may be wanting.
+    fn machine_at(&self, k: usize) -> Result<Machine, DebugFault>
+        requires { k ≤ length self.now.tape.choices }
+        ensures stands { IfOk result (IsAt self.now.tape k) }
+        ensures memory { IfErr result (λ why. why ≡ DebugFault.Memory) }
+    {
+        match played(self.alloc, &self.program, &self.log, k) {
+            Ok(machine) => Ok(machine),
+            Err(_) => Err(DebugFault::Memory),
+        }
+    }
+}
+
+// The program after the first `count` choices.
+fn played(alloc: Global, program: &Loaded, log: &Log, count: usize) -> Result<Machine, DebugFault>
+    requires { count ≤ length log.now.choices }
+    ensures stands { IfOk result (IsAt (tape_of program.now log.now.workers log.now.choices) count) }
+    ensures told { IfErr result (Tells (tape_of program.now log.now.workers log.now.choices)) }
+{
+    match program.copy() {
+        Err(_) => Err(DebugFault::Memory),
+        Ok(copy) => match play(alloc, copy, log.workers, log.choices.as_slice(), count) {
+            Ok(machine) => Ok(machine),
+            Err(ReplayFault::Workers) => Err(DebugFault::Workers),
+            Err(ReplayFault::BadChoice(k, why)) => Err(DebugFault::BadChoice(k, why)),
+            Err(ReplayFault::Memory) => Err(DebugFault::Memory),
+        },
+    }
+}
+
+// No breakpoint is set.
+fn no_marks(alloc: Global, program: &Loaded) -> Result<Vec<bool>, DebugFault>
+    ensures marks { IfOk result (λ marks. marks.items ≡ replicate (count_program program.now) false) }
+    ensures memory { IfErr result (λ why. why ≡ DebugFault.Memory) }
+{
+    let mut marks = Vec::new(alloc);
+    match marks.resize(program.count() as usize, false) {
+        Err(_) => Err(DebugFault::Memory),
+        Ok(()) => Ok(marks),
+    }
+}

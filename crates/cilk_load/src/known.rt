@@ -1,8 +1,0 @@
-use cilk_eval::Slot;
-
-/// What a name stands for: the slot of a variable, and the number of the declaration among those of its kind.
-#[derive(Clone, Copy)]
-pub(crate) struct Known {
-    pub(crate) slot: Slot,
-    pub(crate) number: u32,
-}

@@ -1,0 +1,3 @@
+pub mod Vars
+pub mod Scopes
+pub mod Parts

@@ -1,0 +1,3 @@
+pub mod Scope
+pub mod Shown
+pub mod Acts

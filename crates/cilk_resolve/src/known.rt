@@ -1,0 +1,8 @@
+use cilk_eval::Slot;
+
+/// What a name stands for: the slot of a variable, and the number of the declaration among those of its kind.
+#[derive(Clone, Copy)]
+pub struct Known {
+    pub slot: Slot,
+    pub number: u32,
+}

@@ -1,0 +1,3 @@
+//! The texts of recorded schedules.
+
+mod texts;
