@@ -3,9 +3,9 @@ use Rattle.std.proofs.Common.{◌≡◌, ◌≢◌, ◌<◌, ◌++◌, ◌∷◌
 use Rattle.std.proofs.lemmas.List.Elements.{All-drop, All-push}
 use Rattle.cilk_frame.specs.Frames.{Frame}
 use Rattle.cilk_spawn.specs.declared.delivery.Delivery.{Delivery}
-use Rattle.cilk_spawn.specs.declared.ending.Ending.{Ending}
+use Rattle.cilk_spawn.specs.declared.fate.Fate.{Fate}
 use Rattle.cilk_spawn.specs.declared.receiver.Receiver.TheVariants.{Nothing}
-use Rattle.cilk_spawn.specs.Nodes.{Node, no_node, node_at, live_ids, with_waiting, without_receiver, delivery_of, delivered_to, delivered, taken, ended, with_parked, path_at, IsBelow, IsFrom, AreFrom, IsTree}
+use Rattle.cilk_spawn.specs.Nodes.{Node, no_node, node_at, is_live, lives, after_taking, with_fate, value_taken, live_ids, with_waiting, without_receiver, delivery_of, delivered_to, delivered, taken, ended, with_parked, path_at, IsBelow, IsFrom, AreFrom, IsTree}
 use Rattle.cilk_spawn.proofs.Trees.{Linked, linked_set, tree_set, ids_set, path_linked, path_root, child_there}
 use Rattle.cilk_spawn.proofs.Grown.{ended_linked}
 
@@ -25,49 +25,39 @@ pub record Quiet (a b : Node) : Type 0 where
   pub parent : b.parent ≡ a.parent
   pub ordinal : b.ordinal ≡ a.ordinal
   pub children : b.children ≡ a.children
-  pub ending : b.ending ≡ a.ending
+  pub live : is_live b ≡ is_live a
   pub aborted : b.aborted ≡ a.aborted
 
 pub quiet_linked : (a b : Node) → Quiet a b → Linked a b
 quiet_linked a b q = record { parent = q.parent; ordinal = q.ordinal; children = let c = q.children in omega arith }
 
 pub waiting_quiet : (n : Node) (deliveries : List Delivery) → Quiet n (record n { waiting = deliveries })
-waiting_quiet n deliveries = record { parent = refl; ordinal = refl; children = refl; ending = refl; aborted = refl }
+waiting_quiet n deliveries = record { parent = refl; ordinal = refl; children = refl; live = refl; aborted = refl }
 
 pub parked_quiet : (n : Node) (frame : Option Frame) → Quiet n (record n { parked = frame })
-parked_quiet n frame = record { parent = refl; ordinal = refl; children = refl; ending = refl; aborted = refl }
+parked_quiet n frame = record { parent = refl; ordinal = refl; children = refl; live = refl; aborted = refl }
 
 pub receiver_quiet : (n : Node) → Quiet n (record n { receiver = Nothing })
-receiver_quiet n = record { parent = refl; ordinal = refl; children = refl; ending = refl; aborted = refl }
+receiver_quiet n = record { parent = refl; ordinal = refl; children = refl; live = refl; aborted = refl }
 
 module _ (ns : List Node) (j : ℕ) (n : Node) (t : IsTree ns) (h : j < length ns) (quiet : Quiet (node_at ns j) n) where
   pub tree_quiet : AreFrom ns j n.waiting → IsTree (slice_set ns j n)
-  tree_quiet sent = tree_set ns j n h (quiet_linked (node_at ns j) n quiet) quiet.ending quiet.aborted sent t
+  tree_quiet sent = tree_set ns j n h (quiet_linked (node_at ns j) n quiet) quiet.live quiet.aborted sent t
 
   pub path_quiet : (i : ℕ) → path_at (slice_set ns j n) i ≡ path_at ns i
   path_quiet i = path_linked ns (slice_set ns j n) t (linked_set ns j n h (quiet_linked (node_at ns j) n quiet)) i
 
   pub ids_quiet : live_ids (slice_set ns j n) ≡ live_ids ns
-  ids_quiet = ids_set ns j n h quiet.ending
+  ids_quiet = ids_set ns j n h quiet.live
 
 pub tree_parked : (ns : List Node) (i : ℕ) (frame : Option Frame) → IsTree ns → i < length ns → IsTree (with_parked ns i frame)
 tree_parked ns i frame t h = tree_quiet ns i _ t h (parked_quiet (node_at ns i) frame) (t.sent i)
 
-pub tree_taken : (ns : List Node) (i : ℕ) → IsTree ns → i < length ns → IsTree (taken ns i)
-tree_taken ns i t h =
-    tree_quiet ns i _ t h (waiting_quiet (node_at ns i) (drop 1 (node_at ns i).waiting)) (All-drop (IsFrom ns i) 1 (node_at ns i).waiting (t.sent i))
-
-pub path_taken : (ns : List Node) (j i : ℕ) → IsTree ns → j < length ns → path_at (taken ns j) i ≡ path_at ns i
-path_taken ns j i t h = path_quiet ns j _ t h (waiting_quiet (node_at ns j) (drop 1 (node_at ns j).waiting)) i
-
 pub path_parked : (ns : List Node) (j : ℕ) (frame : Option Frame) (i : ℕ) → IsTree ns → j < length ns → path_at (with_parked ns j frame) i ≡ path_at ns i
 path_parked ns j frame i t h = path_quiet ns j _ t h (parked_quiet (node_at ns j) frame) i
 
-pub path_ended : (ns : List Node) (j : ℕ) (ending : Ending) (i : ℕ) → IsTree ns → j < length ns → path_at (ended ns j ending) i ≡ path_at ns i
-path_ended ns j ending i t h = path_linked ns (ended ns j ending) t (ended_linked ns j ending h) i
-
-pub ids_taken : (ns : List Node) (i : ℕ) → i < length ns → live_ids (taken ns i) ≡ live_ids ns
-ids_taken ns i h = ids_set ns i (record (node_at ns i) { waiting = drop 1 (node_at ns i).waiting }) h refl
+pub path_ended : (ns : List Node) (j : ℕ) (fate : Fate) (i : ℕ) → IsTree ns → j < length ns → path_at (ended ns j fate) i ≡ path_at ns i
+path_ended ns j fate i t h = path_linked ns (ended ns j fate) t (ended_linked ns j fate h) i
 
 pub ids_parked : (ns : List Node) (i : ℕ) (frame : Option Frame) → i < length ns → live_ids (with_parked ns i frame) ≡ live_ids ns
 ids_parked ns i frame h = ids_set ns i (record (node_at ns i) { parked = frame }) h refl

@@ -17,3 +17,4 @@ pub mod Returns
 pub mod Steps
 pub mod Endings
 pub mod Born
+pub mod Taking

@@ -60,10 +60,10 @@ tree_linked ns ms len linked outlives inherits sent t = record {
 abbrev pub SameLives : List Node → List Node → Type 0
 SameLives ns ms = (i : ℕ) → is_live (node_at ms i) ≡ is_live (node_at ns i)
 
-pub lives_set : (ns : List Node) (j : ℕ) (n : Node) → j < length ns → n.ending ≡ (node_at ns j).ending → SameLives ns (slice_set ns j n)
+pub lives_set : (ns : List Node) (j : ℕ) (n : Node) → j < length ns → is_live n ≡ is_live (node_at ns j) → SameLives ns (slice_set ns j n)
 lives_set ns j n h e i =
     elim (at_set ns j n i no_node h) [
-      | inl p ↦ ap is_live p.1 ∙ ap (λ o. not (is_some o)) e ∙ ap (λ (k : ℕ). is_live (node_at ns k)) (sym p.0)
+      | inl p ↦ ap is_live p.1 ∙ e ∙ ap (λ (k : ℕ). is_live (node_at ns k)) (sym p.0)
       | inr p ↦ ap is_live p.1
     ]
 
@@ -91,7 +91,7 @@ sent_set ns j n h sent t i =
     ]
 
 -- a write that leaves parent, number, life and mark, and takes no child away
-pub tree_set : (ns : List Node) (j : ℕ) (n : Node) → j < length ns → Linked (node_at ns j) n → n.ending ≡ (node_at ns j).ending
+pub tree_set : (ns : List Node) (j : ℕ) (n : Node) → j < length ns → Linked (node_at ns j) n → is_live n ≡ is_live (node_at ns j)
     → n.aborted ≡ (node_at ns j).aborted
     → AreFrom ns j n.waiting → IsTree ns → IsTree (slice_set ns j n)
 tree_set ns j n h l e m sent t =
@@ -104,7 +104,7 @@ ids_same ns ms len same =
     those_same (λ i. is_live (node_at ms i)) (λ i. is_live (node_at ns i)) (length ms) (λ i h. same i)
     ∙ ap (λ (n : ℕ). those (λ i. is_live (node_at ns i)) n) len
 
-pub ids_set : (ns : List Node) (j : ℕ) (n : Node) → j < length ns → n.ending ≡ (node_at ns j).ending → live_ids (slice_set ns j n) ≡ live_ids ns
+pub ids_set : (ns : List Node) (j : ℕ) (n : Node) → j < length ns → is_live n ≡ is_live (node_at ns j) → live_ids (slice_set ns j n) ≡ live_ids ns
 ids_set ns j n h e = ids_same ns (slice_set ns j n) (length-set ns j n) (lives_set ns j n h e)
 
 -- who has a parent is there, and so is who lives

@@ -85,5 +85,5 @@ pub same_kept : (rs : List Record) (ids : List ℕ) (j : ℕ) (x r : Record) →
     → Kept (slice_set rs j r) ids
 same_kept rs ids j x r at node same kept =
     kept_written rs j x r at (subst (Quiet (node_of x)) (sym node)
-    (record { parent = refl; ordinal = refl; children = refl; ending = refl; aborted = refl })) ids same
+    (record { parent = refl; ordinal = refl; children = refl; live = refl; aborted = refl })) ids same
     (All-same (IsFrom (nodes_of rs) j) (node_of r).waiting (node_of x).waiting (ap (λ (n : Node). n.waiting) node) (sent_at rs ids j x kept at)) kept

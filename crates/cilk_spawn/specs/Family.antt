@@ -13,9 +13,3 @@ pub record Stands (ids : List ℕ) (i : ℕ) : Type 0 where
   pub place : ℕ
   pub within : place < length ids
   pub is : slice_index_or ids place 0 ≡ i
-
--- the ids are those of the instances that live, each once
-pub record IsRoll (ns : List Node) (ids : List ℕ) : Type 0 where
-  pub lives : (k : ℕ) → k < length ids → is_live (node_at ns (slice_index_or ids k 0)) ≡ true
-  pub apart : (j k : ℕ) → j < length ids → k < length ids → slice_index_or ids j 0 ≡ slice_index_or ids k 0 → j ≡ k
-  pub all : (i : ℕ) → is_live (node_at ns i) ≡ true → Stands ids i
