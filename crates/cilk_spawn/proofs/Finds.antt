@@ -51,38 +51,42 @@ split x (y ∷ ys) =
     let r = split y ys in
     record { front = x ∷ r.front; last = r.last; is = ap (λ (zs : List ℕ). x ∷ zs) r.is }
 
--- a live child with this ordinal
-pub record Down (ns : List Node) (p o : ℕ) : Type 0 where
+-- a child with this ordinal, of which this holds
+pub record Down (ns : List Node) (holds : ℕ → Type 0) (p o : ℕ) : Type 0 where
   pub child : ℕ
-  pub is : IsChild ns p o child
+  pub is : holds child
+  pub parent : (node_at ns child).parent ≡ Some p
+  pub ordinal : (node_at ns child).ordinal ≡ o
 
 no_middle : (xs ys : List ℕ) (o : ℕ) → [] ≡ xs ++ o ∷ ys → ⊥
 no_middle [] ys o e = cc
 no_middle (x ∷ xs) ys o e = cc
 
-module _ (ns : List Node) (t : IsTree ns) (at o : ℕ) (there : at < length ns) where
-  down_by : (id : ℕ) (u : Option ℕ) (rest : List ℕ) → is_live (node_at ns id) ≡ true → (node_at ns id).parent ≡ u → path_at ns id ≡ path_at ns at ++ o ∷ rest
-      → ((q : ℕ) (front : List ℕ) → q < id → is_live (node_at ns q) ≡ true → path_at ns q ≡ path_at ns at ++ o ∷ front → Down ns at o) → Down ns at o
-  down_by id None rest live parent is less = absurd (no_middle (path_at ns at) rest o (sym (path_root ns id parent) ∙ is))
-  down_by id (Some q) [] live parent is less =
+-- what holds of an instance holds of its parent
+module _ (ns : List Node) (t : IsTree ns) (at o : ℕ) (there : at < length ns) (holds : ℕ → Type 0)
+    (above : (i p : ℕ) → (node_at ns i).parent ≡ Some p → holds i → holds p) where
+  down_by : (id : ℕ) (u : Option ℕ) (rest : List ℕ) → holds id → (node_at ns id).parent ≡ u → path_at ns id ≡ path_at ns at ++ o ∷ rest
+      → ((q : ℕ) (front : List ℕ) → q < id → holds q → path_at ns q ≡ path_at ns at ++ o ∷ front → Down ns holds at o) → Down ns holds at o
+  down_by id None rest here parent is less = absurd (no_middle (path_at ns at) rest o (sym (path_root ns id parent) ∙ is))
+  down_by id (Some q) [] here parent is less =
       let f = same_front (path_at ns q) (path_at ns at) (node_at ns id).ordinal o (sym (path_child ns t id q parent) ∙ is) in
       let same : q ≡ at = names ns t q at (parent_in ns id q t parent) there f.0 in
-      record { child = id; is = record { lives = live; parent = parent ∙ ap (λ (k : ℕ). Some k) same; ordinal = f.1 } }
-  down_by id (Some q) (r ∷ rest) live parent is less =
+      record { child = id; is = here; parent = parent ∙ ap (λ (k : ℕ). Some k) same; ordinal = f.1 }
+  down_by id (Some q) (r ∷ rest) here parent is less =
       let s = split r rest in
       let whole : path_at ns id ≡ child_path (path_at ns at ++ o ∷ s.front) s.last =
       is ∙ ap (λ (xs : List ℕ). path_at ns at ++ o ∷ xs) s.is ∙ sym (append_assoc (path_at ns at) (o ∷ s.front) (s.last ∷ [])) in
       let f = same_front (path_at ns q) (path_at ns at ++ o ∷ s.front) (node_at ns id).ordinal s.last (sym (path_child ns t id q parent) ∙ whole) in
-      less q s.front (subst (λ (u : Option ℕ). IsBelow u id) parent (t.below id)) (t.outlives id q parent live) f.0
+      less q s.front (subst (λ (u : Option ℕ). IsBelow u id) parent (t.below id)) (above id q parent here) f.0
 
-  down_in : (steps id : ℕ) (rest : List ℕ) → id < steps → is_live (node_at ns id) ≡ true → path_at ns id ≡ path_at ns at ++ o ∷ rest → Down ns at o
-  down_in zero id rest h live is = absurd (omega arith)
-  down_in (suc steps) id rest h live is =
-      down_by id (node_at ns id).parent rest live refl is (λ q front lt lives there. down_in steps q front (omega arith) lives there)
+  down_in : (steps id : ℕ) (rest : List ℕ) → id < steps → holds id → path_at ns id ≡ path_at ns at ++ o ∷ rest → Down ns holds at o
+  down_in zero id rest h here is = absurd (omega arith)
+  down_in (suc steps) id rest h here is =
+      down_by id (node_at ns id).parent rest here refl is (λ q front lt holds there. down_in steps q front (omega arith) holds there)
 
-  -- on the way to a live instance there is a live child
-  pub step_down : (id : ℕ) (rest : List ℕ) → is_live (node_at ns id) ≡ true → path_at ns id ≡ path_at ns at ++ o ∷ rest → Down ns at o
-  step_down id rest live is = down_in (suc id) id rest (omega arith) live is
+  -- on the way to an instance there is a child
+  pub step_down : (id : ℕ) (rest : List ℕ) → holds id → path_at ns id ≡ path_at ns at ++ o ∷ rest → Down ns holds at o
+  step_down id rest here is = down_in (suc id) id rest (omega arith) here is
 
 module _ (rs : List Record) (ids : List ℕ) (kept : Kept rs ids) (path : List ℕ) (k at o : ℕ) (x : Record) (here : At rs at x)
     (is : path_at (nodes_of rs) at ≡ take k path)
@@ -109,13 +113,12 @@ module _ (rs : List Record) (ids : List ℕ) (kept : Kept rs ids) (path : List �
   pub none_there : child_of x.life o ≡ None → (id : ℕ) → is_live (node_at (nodes_of rs) id) ≡ true → path_at (nodes_of rs) id ≡ path → ⊥
   none_there none id live there =
       let inside : at < length (nodes_of rs) = let t = here.there in omega (arith, t, nodes_length rs) in
-      let d = step_down (nodes_of rs) kept.tree at o inside id (drop (suc k) path) live
+      let d = step_down (nodes_of rs) kept.tree at o inside (λ i. is_live (node_at (nodes_of rs) i) ≡ true) kept.tree.outlives id (drop (suc k) path) live
       (there ∙ whole ∙ ap (λ (p : Path). p ++ o ∷ drop (suc k) path) (sym is)) in
-      let c = d.is in
       let f : None ≡ Some d.child =
       sym (ap (λ (r : Record). child_of r.life o) (record_is rs at x here) ∙ none)
-      ∙ ap (child_at rs at) (sym c.ordinal)
-      ∙ kept.listed d.child at c.lives c.parent in
+      ∙ ap (child_at rs at) (sym d.ordinal)
+      ∙ kept.listed d.child at d.is d.parent in
       cc
 
 -- at the end of the path

@@ -18,3 +18,5 @@ pub mod Steps
 pub mod Endings
 pub mod Born
 pub mod Taking
+pub mod Seeks
+pub mod Takes
