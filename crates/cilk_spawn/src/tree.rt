@@ -243,6 +243,7 @@ impl Tree {
     }
 
     fn find_live(&self, path: &[u32]) -> Option<Id>
+        ensures tree { IsTree self.now.nodes }
         ensures found { IfSome result (λ id. (is_live (node_at self.now.nodes id) ≡ true) × (path_at self.now.nodes id ≡ path.now)) }
         ensures all { (id : ℕ) → is_live (node_at self.now.nodes id) ≡ true → path_at self.now.nodes id ≡ path.now → result ≡ Some id }
     {
