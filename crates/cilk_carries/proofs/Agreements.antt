@@ -12,7 +12,7 @@ use Rattle.cilk_model.specs.Run.{waits_now, stepped, event_of_step}
 use Rattle.cilk_nodes.specs.declared.body.Body.{Body}
 use Rattle.cilk_nodes.specs.Bodies.{body_of}
 use Rattle.cilk_frame.specs.declared.awaited.Await.{Await}
-use Rattle.cilk_spawn.specs.declared.ending.Ending.TheVariants as ending
+use Rattle.cilk_spawn.specs.declared.fate.Fate.TheVariants as fate
 use Rattle.cilk_spawn.specs.declared.receiver.Receiver.{Receiver}
 use Rattle.cilk_spawn.specs.Nodes.{Node, with_child, descends, path_at}
 use Rattle.cilk_spawn.proofs.Trees.{path_child}
@@ -76,7 +76,7 @@ module _ (t : Turn) (body : Option Body) where
       let step = ends (after_abort t.at.state (path_of t)) (event.ended (path_of t)) in
       leads t _ (did.Ended k) step t.who h.step refl refl
       (subst (λ m. Agrees t.program m t.who (stepped t.at t.worker (path_of t) step))
-      (woken-is (without_frame t (freed t) t.machine.nodes ending.Aborted) t.worker (node_of t).parent)
+      (woken-is (without_frame t (freed t) t.machine.nodes (fate.Aborted choice)) t.worker (node_of t).parent)
       (ends-agree t (event.ended (path_of t)) h.childless))
 
   -- the frame comes back to the hand
@@ -131,8 +131,8 @@ module _ (t : Turn) (body : Option Body) where
       let who = who_after t z parent in
       leads t _ (did.Returned k n) step who h.step refl refl
       (subst (λ m. Agrees t.program m who (stepped t.at t.worker (path_of t) step))
-      (woken-is (without_frame t (outside_given t.machine.outside z parent) (sent t.machine.nodes k z) ending.Returned) t.worker parent)
-      (subst (λ o. Agrees t.program (Rattle.cilk_agree.specs.Laws.woken (without_frame t o (sent t.machine.nodes k z) ending.Returned) t.worker parent) who
+      (woken-is (without_frame t (outside_given t.machine.outside z parent) (sent t.machine.nodes k z) fate.Returned) t.worker parent)
+      (subst (λ o. Agrees t.program (Rattle.cilk_agree.specs.Laws.woken (without_frame t o (sent t.machine.nodes k z) fate.Returned) t.worker parent) who
       (stepped t.at t.worker (path_of t) step)) (outside-is z parent)
       (returns-agree t z (event.returned (path_of t) n) h.childless)))
 

@@ -3,7 +3,7 @@ use Rattle.std.proofs.Common.{◌≡◌, ℕ, ℤ, List, map, Option, Some, None
 use Rattle.cilk_model.specs.Places.{hand_of, with_hand}
 use Rattle.cilk_nodes.specs.declared.body.Body.{Body}
 use Rattle.cilk_frame.specs.Frames.{Frame}
-use Rattle.cilk_spawn.specs.declared.ending.Ending.TheVariants as ending
+use Rattle.cilk_spawn.specs.declared.fate.Fate.TheVariants as fate
 use Rattle.cilk_spawn.specs.Nodes.{Node, node_at, ended}
 use Rattle.cilk_agree.specs.Outside as outside
 use Rattle.cilk_agree.specs.Outside.{Outside}
@@ -29,12 +29,12 @@ closed m now w o ns parent empty same nodes places =
 pub ended-carried : (m now : Machine) (w : ℕ) (f : Frame) (body : Option Body) (x : Plan) (told : Did) (id : ℕ) (parent : Option ℕ) → x ≡ plan.End
     → hand_of m.places w ≡ None → id ≡ f.id → parent ≡ (node_at m.nodes id).parent
     → now.outside ≡ record m.outside { locks = map (released id) m.outside.locks }
-    → now.nodes ≡ nodes_awake (ended m.nodes f.id ending.Aborted) parent
-    → now.places ≡ places_awake m.places w (awake_in (ended m.nodes f.id ending.Aborted) parent)
+    → now.nodes ≡ nodes_awake (ended m.nodes f.id (fate.Aborted choice)) parent
+    → now.places ≡ places_awake m.places w (awake_in (ended m.nodes f.id (fate.Aborted choice)) parent)
     → told ≡ did.Ended id → Carried m w f body x now told
 ended-carried m now w f body x told id parent is empty own above same nodes places tells =
     let at : parent ≡ (node_at m.nodes f.id).parent = above ∙ ap (λ k. (node_at m.nodes k).parent) own in
-    let ns = ended m.nodes f.id ending.Aborted in
+    let ns = ended m.nodes f.id (fate.Aborted choice) in
     subst (λ y. Carried m w f body y now told) (sym is)
     (record {
       machine = closed m now w (record m.outside { locks = map (released f.id) m.outside.locks }) ns (node_at m.nodes f.id).parent empty
@@ -51,12 +51,12 @@ given-is o z (Some r) runs = λ j. record o { outcome = sym runs j }
 pub returned-carried : (m now : Machine) (w : ℕ) (f : Frame) (body : Option Body) (x : Plan) (told : Did) (id n : ℕ) (z y : ℤ) (outcome : Outcome)
     → x ≡ plan.Return n z → y ≡ z → hand_of m.places w ≡ None → m.outside.outcome ≡ outside.running → id ≡ f.id
     → outcome ≡ value_outcome y (node_at m.nodes f.id).parent → now.outside ≡ record m.outside { outcome = outcome_of outcome }
-    → now.nodes ≡ nodes_awake (ended (sent m.nodes f.id y) f.id ending.Returned) (node_at m.nodes f.id).parent
-    → now.places ≡ places_awake m.places w (awake_in (ended (sent m.nodes f.id y) f.id ending.Returned) (node_at m.nodes f.id).parent)
+    → now.nodes ≡ nodes_awake (ended (sent m.nodes f.id y) f.id fate.Returned) (node_at m.nodes f.id).parent
+    → now.places ≡ places_awake m.places w (awake_in (ended (sent m.nodes f.id y) f.id fate.Returned) (node_at m.nodes f.id).parent)
     → told ≡ did.Returned id n → Carried m w f body x now told
 returned-carried m now w f body x told id n z y outcome is same_value empty runs own gives same nodes places tells =
     let parent = (node_at m.nodes f.id).parent in
-    let ns : ℤ → List Node = λ v. ended (sent m.nodes f.id v) f.id ending.Returned in
+    let ns : ℤ → List Node = λ v. ended (sent m.nodes f.id v) f.id fate.Returned in
     subst (λ v. Carried m w f body v now told) (sym is)
     (record {
       machine = closed m now w (outside_given m.outside z parent) (ns z) parent empty

@@ -66,5 +66,5 @@ pub record Stepped (t : Turn) (m : Machine) (did : Did) : Type 0 where
   pub agrees : Agrees t.program m who (stepped t.at t.worker (path_of t) (step_in t))
 
 -- whatever the program and the standing were
-abbrev pub Carries : Parts → ℕ → Option Body → Plan → Parts → Done → Type 0
-Carries parts w body plan now done = (t : Turn) → Planned parts w body plan t → Stepped t (machine_of now (outcome_of done.outcome)) done.did
+abbrev pub Carries : ℕ → Parts → ℕ → Option Body → Plan → Parts → Done → Type 0
+Carries choice parts w body plan now done = (t : Turn) → Planned parts w body plan t → Stepped t (machine_of now (outcome_of done.outcome)) done.did
