@@ -1,0 +1,10 @@
+pub mod What
+pub mod Texts
+pub mod Made
+pub mod Frames
+pub mod Globals
+pub mod Workers
+pub mod Trees
+pub mod Listing
+pub mod Views
+pub mod Rows
