@@ -1,5 +1,5 @@
 -- The canonical text with the numbers of its lines and actions.
-use Rattle.std.specs.Prelude.{ℕ, suc, ◌-◌, ◌==◌, if◌then◌else◌, List, [], ◌∷◌, ◌++◌, length, replicate, position, codes, decimal, Option, Some, None, option_map}
+use Rattle.std.specs.Prelude.{ℕ, suc, ◌-◌, ◌==◌, if◌then◌else◌, List, [], ◌∷◌, ◌++◌, length, replicate, codes, decimal, Option, Some, None}
 use Rattle.cilk_syntax.specs.Tree.{Program}
 use Rattle.cilk_canonical.specs.ProgramText.{program_text}
 use Rattle.cilk_labelled.specs.Lines.{action_lines}
@@ -22,9 +22,10 @@ blanks n = replicate n 32
 abbrev pub right_in_six : List ℕ → List ℕ
 right_in_six text = blanks (6 - length text) ++ text
 
--- the number of the first action on line k, where each action stands on one of these lines
-abbrev pub first_on : List ℕ → ℕ → Option ℕ
-first_on lines k = option_map suc (position (λ l. l == k) lines)
+-- among actions that stand on these lines, and the first of which has number n, the number of the first one on line k
+abbrev pub first_on : ℕ → List ℕ → ℕ → Option ℕ
+first_on n [] k = None
+first_on n (l ∷ lines) k = if l == k then Some n else first_on (suc n) lines k
 
 abbrev pub first_text : Option ℕ → List ℕ
 first_text None = blanks 6
@@ -34,7 +35,7 @@ first_text (Some n) = right_in_six (decimal n)
 abbrev pub numbered_text : List ℕ → ℕ → List (List ℕ) → List ℕ
 numbered_text actions k [] = []
 numbered_text actions k (line ∷ lines) =
-    right_in_six (decimal k) ++ (codes " " ++ (first_text (first_on actions k)
+    right_in_six (decimal k) ++ (codes " " ++ (first_text (first_on 1 actions k)
     ++ (codes "  " ++ (line ++ (codes "\n" ++ numbered_text actions (suc k) lines)))))
 
 abbrev pub list_text : Program → List ℕ

@@ -16,6 +16,28 @@ use Rattle.cilk_seen.specs.Globals.{globals_text}
 use Rattle.cilk_seen.specs.Workers.{deques_text, hand_text, paths_text}
 use Rattle.cilk_view.specs.Turns.{by_worker, deque_line}
 use Rattle.cilk_view.specs.Globals.{width, globals_by}
+use Rattle.std.proofs.lemmas.List.Elements.{All-head, All-tail}
+use Rattle.std.proofs.Common.{◌∙◌, sym}
+use Rattle.std.specs.Prelude.{unwrap_or, option_and_then, IfSome, Option, Some, None}
+use Rattle.cilk_model.specs.Path.{path_text}
+use Rattle.cilk_syntax.specs.Tree.{Program}
+use Rattle.cilk_labelled.specs.Labelled.{Numbered, Labelled}
+use Rattle.cilk_labelled.specs.Items.{head_of}
+use Rattle.cilk_labelled.specs.Bodies.{label}
+use Rattle.cilk_model.specs.End.{line_of}
+use Rattle.cilk_model.specs.Instance.{Instance}
+use Rattle.cilk_model.specs.State.{instance_at}
+use Rattle.cilk_model.specs.Run.{Standing}
+use Rattle.cilk_frame.specs.Frames.{top_of}
+use Rattle.cilk_stands.specs.Stands.{StandsFor}
+use Rattle.cilk_stands.proofs.Tops.{top-stands}
+use Rattle.cilk_spawn.specs.Nodes.{path_at}
+use Rattle.cilk_sched.specs.Count.{AllAt, AllHeld}
+use Rattle.cilk_agree.specs.Agrees.{Machine, Held, Agrees}
+use Rattle.cilk_agree.proofs.Found.{found}
+use Rattle.cilk_seen.specs.Texts.{line_at}
+use Rattle.cilk_seen.specs.Workers.{line_of_instance, turn_text, turns_text}
+use Rattle.cilk_view.specs.Turns.{turn_by, turn_line}
 
 pub deques_are : (ns : List Node) (w : ℕ) (places : List (PlaceOf Frame)) → by_worker (deque_line ns) w places ≡ deques_text w (named (name_in ns) places)
 deques_are ns w [] = refl
@@ -46,3 +68,33 @@ globals_are up (tree.lock name ∷ items) values [] sizes = globals_are up items
 globals_are up (tree.lock name ∷ items) values (l ∷ locks) sizes = rw (globals_are up items values locks sizes) refl
 globals_are up (tree.prototype q ∷ items) values locks sizes = globals_are up items values locks sizes
 globals_are up (tree.procedure p ∷ items) values locks sizes = globals_are up items values locks sizes
+
+by_head : (program : Labelled) (o : Option Numbered) (n : ℕ) → option_map (λ (h : Numbered). h.number) o ≡ Some n
+    → unwrap_or (option_and_then (λ (h : Numbered). line_of program h.number) o) 0 ≡ unwrap_or (line_of program n) 0
+by_head program None n e = cc
+by_head program (Some h) n e = let same : h.number ≡ n = cc in ap (λ k. unwrap_or (line_of program k) 0) same
+
+-- the line of an instance is that of the node of its frame's top
+pub line_is : (program : Labelled) (f : Frame) (i : Instance) → StandsFor program f i → line_at program i.top.items ≡ unwrap_or (line_of program (top_of f).node) 0
+line_is program f i stands = by_head program (head_of i.top.items) (top_of f).node (top-stands program f i stands).acts.node_is
+
+module _ (p : Program) (m : Machine) (who : ℕ → Instance) (at : Standing) (agrees : Agrees p m who at) where
+  turn_is : (hand : Option Frame) → IfSome hand (Held p m.nodes who) → turn_by p m.nodes hand ≡ turn_text (label p) at.state.instances (option_map (name_in m.nodes) hand)
+  turn_is None held = refl
+  turn_is (Some f) held =
+      let there : instance_at at.state.instances (path_at m.nodes f.id) ≡ Some (who f.id) =
+      ap (λ es. instance_at es (path_at m.nodes f.id)) agrees.instances ∙ found m.nodes who f.id agrees.tree held.live
+      in
+      ap (λ k. codes " at " ++ (path_text (path_at m.nodes f.id) ++ (codes " line " ++ decimal k)))
+      (sym (ap (line_of_instance (label p)) there ∙ line_is (label p) f (who f.id) held.stands))
+
+  pub turns_are : (w : ℕ) (places : List (PlaceOf Frame)) → AllHeld (Held p m.nodes who) places
+      → by_worker (turn_line p m.nodes) w places ≡ turns_text (label p) at.state.instances w (named (name_in m.nodes) places)
+  turns_are w [] held = refl
+  turns_are w (x ∷ places) held =
+      let here = turn_is x.hand (All-head (AllAt (Held p m.nodes who)) x places held).0 in
+      let rest = turns_are (suc w) places (All-tail (AllAt (Held p m.nodes who)) x places held) in
+      ap (λ xs. xs ++ by_worker (turn_line p m.nodes) (suc w) places)
+      (ap (λ t. codes "worker " ++ (decimal w ++ (t ++ codes "\n"))) here)
+      ∙ ap (λ xs. (codes "worker " ++ (decimal w ++ (turn_text (label p) at.state.instances (option_map (name_in m.nodes) x.hand) ++ codes "\n"))) ++ xs) rest
+      ∙ simp append_assoc

@@ -1,3 +1,4 @@
 pub mod Turns
 pub mod Frames
 pub mod Globals
+pub mod Listing

@@ -6,6 +6,7 @@ mod deques;
 mod fault;
 mod frames;
 mod globals;
+mod listing;
 mod output;
 mod put;
 mod turns;
