@@ -13,7 +13,7 @@ use Rattle.cilk_agree.specs.declared.lock.Lock.{Lock}
 use Rattle.cilk_agree.specs.Outside.{lock_by}
 use Rattle.cilk_agree.specs.Agrees.{name_in}
 use Rattle.cilk_seen.specs.Globals.{globals_text}
-use Rattle.cilk_seen.specs.Workers.{deques_text, hand_text, paths_text}
+use Rattle.cilk_seen.specs.Workers.{deques_text}
 use Rattle.cilk_view.specs.Turns.{by_worker, deque_line}
 use Rattle.cilk_view.specs.Globals.{width, globals_by}
 use Rattle.std.proofs.lemmas.List.Elements.{All-head, All-tail}
@@ -41,7 +41,7 @@ use Rattle.cilk_view.specs.Turns.{turn_by, turn_line}
 
 pub deques_are : (ns : List Node) (w : ℕ) (places : List (PlaceOf Frame)) → by_worker (deque_line ns) w places ≡ deques_text w (named (name_in ns) places)
 deques_are ns w [] = refl
-deques_are ns w (at ∷ places) = rw (append_assoc, append_assoc, append_assoc, append_assoc, append_assoc) (ap (λ rest. decimal w ++ (codes ": hand " ++ (hand_text (option_map (name_in ns) at.hand) ++ (codes " deque" ++ (paths_text (map (name_in ns) at.deque) ++ (codes "\n" ++ rest)))))) (deques_are ns (suc w) places))
+deques_are ns w (at ∷ places) = ap (λ rest. deque_line ns w at ++ rest) (deques_are ns (suc w) places) ∙ simp append_assoc
 
 take_front : (xs ys : List ℤ) (n : ℕ) → length xs ≡ n → take n (xs ++ ys) ≡ xs
 take_front [] ys zero h = refl
