@@ -1,0 +1,23 @@
+-- Why choices cannot be made again.
+use Rattle.std.specs.Prelude.{◌≡◌, ℕ, suc, ⊤, false, Some}
+use Rattle.cilk_model.specs.Choice.{Refusal}
+use Rattle.cilk_model.specs.Run.{is_crew}
+use Rattle.cilk_choices.specs.declared.refusal.Refusal as code
+use Rattle.cilk_choices.specs.Words.{reason_of}
+use Rattle.cilk_replay.specs.Tape.{Tape, IsBad}
+use Rattle.cilk_replay.specs.declared.fault.ReplayFault.{ReplayFault}
+use Rattle.cilk_replay.specs.declared.fault.ReplayFault.TheVariants.{Workers, BadChoice, Memory}
+
+-- the choice of number k, counted from 1, is the first that is not possible, and this is why
+pub record IsFirst (t : Tape) (k : ℕ) (refusal : code.Refusal) : Type 0 where
+  pub before : ℕ
+  pub counted : k ≡ suc before
+  pub reason : Refusal
+  pub is : reason_of refusal ≡ Some reason
+  pub bad : IsBad t before reason
+
+-- memory may always run out
+abbrev pub Tells : Tape → ReplayFault → Type 0
+Tells t Workers = is_crew t.workers ≡ false
+Tells t (BadChoice k refusal) = IsFirst t k refusal
+Tells t Memory = ⊤

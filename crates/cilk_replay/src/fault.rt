@@ -1,0 +1,16 @@
+use cilk_choices::Refusal;
+use thiserror::Error;
+
+/// Why choices cannot be made again.
+#[derive(Debug, Drop, Error)]
+pub enum ReplayFault {
+    /// The number of workers is not one of 1 to 64.
+    #[error("B0 Workers")]
+    Workers,
+    /// The choice of this number, counted from 1, is the first that is not possible, for this reason.
+    #[error("B1 BadChoice {0} {1}")]
+    BadChoice(u64, Refusal),
+    /// Memory has run out.
+    #[error("out of memory")]
+    Memory,
+}

@@ -1,0 +1,8 @@
+//! A list of choices is made again, from the start of a program.
+#![tactic(auto)]
+
+mod fault;
+mod playing;
+
+pub use fault::ReplayFault;
+pub use playing::play;
