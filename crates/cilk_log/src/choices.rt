@@ -1,0 +1,62 @@
+ghost use Rattle.std.specs.Prelude.{◌≡◌, [], ◌∷◌, ◌++◌, length, slice_get, OnOk, OnErr};
+
+use cilk_choices::{Choice, Memory};
+use std::alloc::Global;
+use std::marker::Model;
+
+/// The choices that were made, the first one first. Contracts see them as a list.
+#[derive(Debug, Drop)]
+pub struct Choices {
+    choices: Vec<Choice>,
+}
+
+impl Model for Choices {
+    ghost use Rattle.std.specs.Prelude.{List};
+    ghost use Rattle.cilk_choices.specs.declared.choice.Choice.{Choice};
+
+    ghost Value = { List Choice };
+
+    ghost view = { λ c. c.choices.items };
+}
+
+impl Choices {
+    /// No choices. It takes no memory.
+    pub fn new(alloc: Global) -> Choices
+        ensures { result ≡ [] }
+    {
+        Choices {
+            choices: Vec::new(alloc),
+        }
+    }
+
+    /// How many there are.
+    pub fn len(&self) -> usize
+        ensures { result ≡ length self.now }
+    {
+        self.choices.len()
+    }
+
+
+    /// The choice behind so many others, if there is one.
+    pub fn get(&self, i: usize) -> Option<Choice>
+        ensures { result ≡ slice_get self.now i }
+    {
+        self.choices.get(i).copied()
+    }
+
+    /// All of them.
+    pub fn as_slice(&self) -> &[Choice]
+        ensures { result.now ≡ self.now }
+    {
+        self.choices.as_slice()
+    }
+
+    /// One more, behind the others. Where memory runs out, they stay as they were.
+    pub fn push(&mut self, choice: Choice) -> Result<(), Memory>
+        ensures pushed { OnOk result (self.new ≡ self.old ++ choice ∷ []) }
+        ensures kept { OnErr result (self.new ≡ self.old) }
+    {
+        self.choices.push(choice)?;
+        Ok(())
+    }
+}

@@ -1,0 +1,91 @@
+//! Lines, and what each of them tells.
+
+ghost use Rattle.std.specs.Prelude.{◌≡◌, ◌<◌, [], ◌∷◌, option_map, length, not, ◌==◌, IfNone, IfSome};
+ghost use Rattle.std.specs.Char.{is_ascii_digit};
+ghost use Rattle.std.specs.List.{prefix_len};
+ghost use Rattle.cilk_choices.specs.Words.{choice_of, act_of};
+ghost use Rattle.cilk_log.specs.Reading.{lines_of, workers_in, count_in, steal_in, act_in, choice_in};
+
+use crate::number::{number_in, worker_in};
+use cilk_choices::{Act, Choice};
+
+/// The first line without its newline, and what stands behind that newline, if there is one.
+pub(crate) fn split_line(text: &[u8]) -> Option<(&[u8], &[u8])>
+    ensures cut { IfNone result ((lines_of text.now).whole ≡ []) }
+    ensures lines { IfSome result (λ found. (lines_of text.now).whole ≡ found.0.now ∷ (lines_of found.1.now).whole) }
+    ensures rest { IfSome result (λ found. (lines_of text.now).rest ≡ (lines_of found.1.now).rest) }
+    ensures shorter { IfSome result (λ found. length found.1.now < length text.now) }
+{
+    let (line, behind) = text.split_at(line_end(text));
+    match behind {
+        [] => None,
+        [_newline, rest @ ..] => Some((line, rest)),
+    }
+}
+
+// How many bytes stand before the first newline.
+fn line_end(text: &[u8]) -> usize
+    ensures { result ≡ prefix_len (λ b. not (b == 10)) text.now }
+{
+    text.iter().take_while(|byte| **byte != b'\n').count()
+}
+
+/// The number of workers that a line tells.
+pub(crate) fn workers_in(line: &[u8]) -> Option<u8>
+    ensures { result ≡ workers_in line.now }
+{
+    match line.strip_prefix(b"workers ") {
+        None => None,
+        Some(number) => worker_in(number),
+    }
+}
+
+/// The number of choices that a line tells.
+pub(crate) fn count_in(line: &[u8]) -> Option<u64>
+    ensures { result ≡ count_in line.now }
+{
+    match line.strip_prefix(b"end ") {
+        None => None,
+        Some(number) => number_in(number, u64::MAX),
+    }
+}
+
+/// The choice that a line tells.
+pub(crate) fn choice_in(line: &[u8]) -> Option<Choice>
+    ensures { option_map choice_of result ≡ choice_in line.now }
+{
+    let (number, act) = line.split_at(digits_end(line));
+    match worker_in(number) {
+        None => None,
+        Some(worker) => match act_in(act) {
+            None => None,
+            Some(act) => Some(Choice { worker, act }),
+        },
+    }
+}
+
+// How many digits stand in front.
+fn digits_end(line: &[u8]) -> usize
+    ensures { result ≡ prefix_len is_ascii_digit line.now }
+{
+    line.iter().take_while(|byte| byte.is_ascii_digit()).count()
+}
+
+fn act_in(text: &[u8]) -> Option<Act>
+    ensures { option_map act_of result ≡ act_in text.now }
+{
+    match text {
+        b" step" => Some(Act::Step),
+        b" pop" => Some(Act::Pop),
+        _ => steal_in(text),
+    }
+}
+
+fn steal_in(text: &[u8]) -> Option<Act>
+    ensures { option_map act_of result ≡ steal_in text.now }
+{
+    match text.strip_prefix(b" steal ") {
+        None => None,
+        Some(victim) => worker_in(victim).map(Act::Steal),
+    }
+}
