@@ -1,5 +1,5 @@
 -- One choice after another is made again.
-use Rattle.std.proofs.Common.{◌≡◌, ℕ, suc, ◌+◌, List, [], ◌∷◌, ◌++◌, map, take, Option, Some, refl, sym, ap, ◌∙◌, subst, slice_get, option_map, arith, ◌≢◌}
+use Rattle.std.proofs.Common.{◌≡◌, ◌≢◌, ℕ, suc, ◌+◌, List, [], ◌∷◌, ◌++◌, map, take, Option, Some, refl, sym, ap, ◌∙◌, subst, slice_get, option_map, arith}
 use Rattle.std.proofs.lemmas.Option.{slice_get-map, slice_get_within, get_or_from_slice_get}
 use Rattle.std.proofs.Math.Seq.{take-suc}
 use Rattle.cilk_syntax.specs.Tree.{Program}
@@ -7,7 +7,8 @@ use Rattle.cilk_labelled.specs.Bodies.{label}
 use Rattle.cilk_model.specs.Choice as model
 use Rattle.cilk_model.specs.Choice.{Choice, Refusal}
 use Rattle.cilk_model.specs.Event.{Event}
-use Rattle.cilk_model.specs.Run.{after, refusal_of, next_of}
+use Rattle.cilk_model.specs.Run.{Position, after, refusal_of, next_of, event_of, one_more}
+use Rattle.cilk_placed.proofs.Runs.{after-push}
 use Rattle.cilk_spawn.specs.Nodes.{path_at}
 use Rattle.cilk_carries.specs.declared.did.Did.{Did}
 use Rattle.cilk_carries.specs.Words.{event_by}
@@ -19,7 +20,7 @@ use Rattle.cilk_machine.specs.Situation.{Situation, workers_of}
 use Rattle.cilk_machine.specs.Stands.{Led, Opens}
 use Rattle.cilk_machine.specs.Made.{Makes, MakesBy, IsRefused}
 use Rattle.cilk_replay.specs.Faults.{IsFirst}
-use Rattle.cilk_replay.specs.Tape.{Tape, position_at, IsAt, IsBad}
+use Rattle.cilk_replay.specs.Tape.{Tape, position_at, did_by, did_at, IsAt, IsBad}
 
 -- where a machine is, these choices lead
 pub led_in : (t : Tape) (k : ℕ) (m : Situation) (h : IsAt t k m) → position_at t k ≡ Some h.at
@@ -59,6 +60,14 @@ pub next_by : (m n : Situation) (choice : Choice) (did : Did) → MakesBy m n ch
     → (t : Tape) (k : ℕ) → IsAt t k m → slice_get t.choices k ≡ Some choice → IsAt t (suc k) n
 next_by m n choice did made t k h is = at_next t k choice is m n (event_by (path_at m.machine.nodes) (path_at n.machine.nodes) did) h made
 
+pub did_by_it : (m n : Situation) (choice : Choice) (did : Did) → MakesBy m n choice did
+    → (t : Tape) (k : ℕ) → IsAt t k m → slice_get t.choices k ≡ Some choice → did_at t k ≡ Some (event_by (path_at m.machine.nodes) (path_at n.machine.nodes) did)
+did_by_it m n choice did made t k h is =
+    let leads = made.leads (take k t.choices) h.at.events h.at.standing h.led in
+    ap (λ (o : Option Position). did_by t.program o (slice_get t.choices k)) (led_in t k m h)
+    ∙ ap (λ (o : Option Choice). did_by t.program (Some h.at) o) is
+    ∙ ap Some (ap (λ (p : Program). event_of (label p) h.at.standing choice) (sym h.program) ∙ sym leads.event)
+
 pub bad_by : (m : Situation) (choice : Choice) (r : code.Refusal) → IsRefused m choice (reason_of r)
     → (t : Tape) (k : ℕ) → IsAt t k m → slice_get t.choices k ≡ Some choice → (why : Refusal) → reason_of r ≡ Some why → IsBad t k why
 bad_by m choice r refused t k h is why reason = bad_at t k choice is m why h (subst (λ (o : Option Refusal). IsRefused m choice o) reason refused)
@@ -88,3 +97,8 @@ first_by t k refusal.Busy not bad = record { before = k; counted = omega arith; 
 first_by t k refusal.DequeEmpty not bad = record { before = k; counted = omega arith; reason = model.deque_empty; is = refl; bad = bad model.deque_empty refl }
 first_by t k refusal.Waiting not bad = record { before = k; counted = omega arith; reason = model.waiting; is = refl; bad = bad model.waiting refl }
 first_by t k refusal.Memory not bad = absurd (not refl)
+
+-- where all choices are possible, so are the first of them
+pub step_down : (t : Tape) (k : ℕ) (choice : Choice) → slice_get t.choices k ≡ Some choice → position_at t (suc k) ≡ one_more (label t.program) choice (position_at t k)
+step_down t k choice is =
+    ap (after (label t.program) t.workers) (through t k choice is) ∙ after-push (label t.program) t.workers (take k t.choices) choice

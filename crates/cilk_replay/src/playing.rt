@@ -1,7 +1,9 @@
 ghost use Rattle.std.specs.Prelude.{List, ◌≡◌, ◌≤◌, ◌<◌, ◌-◌, ◌^◌, ℕ, suc, IfOk, IfErr, OnOk, length, Some, slice_get, map, option_copied};
 ghost use Rattle.cilk_model.specs.Choice as model;
 ghost use Rattle.cilk_choices.specs.Words.{choice_of, reason_of};
-ghost use Rattle.cilk_replay.specs.Tape.{Tape, tape_of, IsAt, IsBad};
+ghost use Rattle.cilk_spawn.specs.Nodes.{path_at};
+ghost use Rattle.cilk_carries.specs.Words.{event_by};
+ghost use Rattle.cilk_replay.specs.Tape.{Tape, tape_of, did_at, IsAt, IsBad};
 ghost use Rattle.cilk_replay.specs.Faults.{Tells};
 
 use crate::fault::ReplayFault;
@@ -64,6 +66,8 @@ pub fn again(machine: &mut Machine, choices: &[Choice], made: usize) -> Result<D
     requires room { made < length choices.now }
     ensures next { OnOk result ((t : Tape) → t.choices ≡ map choice_of choices.now → IsAt t made machine.old → IsAt t (suc made) machine.new) }
     ensures made { OnOk result (machine.new.choices ≡ suc made) }
+    ensures did { IfOk result (λ did. (t : Tape) → t.choices ≡ map choice_of choices.now → IsAt t made machine.old
+        → did_at t made ≡ Some (event_by (path_at machine.old.machine.nodes) (path_at machine.new.machine.nodes) did)) }
     ensures told { IfErr result (λ why. (t : Tape) → t.choices ≡ map choice_of choices.now → IsAt t made machine.old → Tells t why) }
 {
     match chosen(choices, made) {
