@@ -5,4 +5,4 @@ mod fault;
 mod playing;
 
 pub use fault::ReplayFault;
-pub use playing::play;
+pub use playing::{make_again, play};

@@ -39,7 +39,7 @@ fn played(machine: Machine, choices: &[Choice], count: usize) -> Result<Machine,
 {
     let mut machine = machine;
     for made in 0..count {
-        match again(&mut machine, choices, made) {
+        match make_again(&mut machine, choices, made) {
             Ok(_) => {}
             Err(fault) => return Err(fault),
         }
@@ -61,7 +61,11 @@ fn opened(alloc: Global, program: Loaded, workers: u8) -> Result<Machine, Replay
 }
 
 /// The choice of this number, counted from 0, is made again, behind those before it.
-pub fn again(machine: &mut Machine, choices: &[Choice], made: usize) -> Result<Did, ReplayFault>
+pub fn make_again(
+    machine: &mut Machine,
+    choices: &[Choice],
+    made: usize,
+) -> Result<Did, ReplayFault>
     requires made { machine.old.choices ≡ made }
     requires room { made < length choices.now }
     ensures next { OnOk result ((t : Tape) → t.choices ≡ map choice_of choices.now → IsAt t made machine.old → IsAt t (suc made) machine.new) }

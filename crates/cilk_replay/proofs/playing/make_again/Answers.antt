@@ -1,7 +1,7 @@
 use Rattle.std.proofs.Common.{sym, ap, ◌∙◌, option_copied}
 use Rattle.cilk_choices.specs.Words.{choice_of}
 use Rattle.cilk_replay.proofs.Again.{chosen, next_by, did_by_it, bad_by}
-use Rattle.cilk_replay.proofs.playing.again.Goals as goal
+use Rattle.cilk_replay.proofs.playing.make_again.Goals as goal
 
 pub returns-in-Ok-clause-next : goal.returns-in-Ok-clause-next
 returns-in-Ok-clause-next c t same h =

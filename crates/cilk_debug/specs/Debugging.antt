@@ -1,0 +1,20 @@
+-- What contracts see of a debugger.
+use Rattle.std.specs.Prelude.{◌≡◌, ◌≤◌, ℕ, Bool, List, length}
+use Rattle.cilk_labelled.specs.Count.{count_program}
+use Rattle.cilk_machine.specs.Situation.{Situation}
+use Rattle.cilk_replay.specs.Tape.{Tape, IsPlayable, IsAt}
+
+pub record Debugging : Type 0 where
+  -- what is replayed
+  pub tape : Tape
+  -- how many choices led to where it stands
+  pub position : ℕ
+  -- for each action whether a breakpoint is set there
+  pub marks : List Bool
+
+-- what is always true of a debugger, whose machine is given
+pub record IsSound (t : Tape) (m : Situation) (marks : List Bool) : Type 0 where
+  pub whole : IsPlayable t
+  pub within : m.choices ≤ length t.choices
+  pub stands : IsAt t m.choices m
+  pub marked : length marks ≡ count_program t.program

@@ -1,0 +1,28 @@
+use cilk_choices::Refusal;
+use thiserror::Error;
+
+/// Why a debugger does not do what it is told.
+#[derive(Debug, Drop, Error)]
+pub enum DebugFault {
+    /// The number of workers is not one of 1 to 64.
+    #[error("B0 Workers")]
+    Workers,
+    /// The choice of this number, counted from 1, is the first that is not possible, for this reason.
+    #[error("B1 BadChoice {0} {1}")]
+    BadChoice(u64, Refusal),
+    /// All choices were made.
+    #[error("B2 AtEnd")]
+    AtEnd,
+    /// No choice was made yet.
+    #[error("B3 AtStart")]
+    AtStart,
+    /// The program has no action of that number.
+    #[error("B4 NoStatement")]
+    NoStatement,
+    /// There are fewer choices.
+    #[error("B6 OutOfRange")]
+    OutOfRange,
+    /// Memory has run out.
+    #[error("out of memory")]
+    Memory,
+}

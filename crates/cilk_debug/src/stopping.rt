@@ -1,0 +1,40 @@
+//! Breakpoints.
+
+ghost use Rattle.std.specs.Prelude.{◌≡◌, ℕ};
+ghost use Rattle.cilk_model.specs.Path.{Path};
+ghost use Rattle.cilk_carries.specs.Words.{event_by};
+ghost use Rattle.cilk_debug.specs.Breaks.{number_of, is_set, stops_at};
+
+use cilk_machine::Did;
+
+// The number of the action that an instance took, or was trapped at.
+fn number_of(did: Did) -> Option<u32>
+    ensures { (up : ℕ → Path) (now : ℕ → Path) → result ≡ number_of (event_by up now did) }
+{
+    match did {
+        Did::Acted(_, n) | Did::Spawned(_, n) | Did::Returned(_, n) | Did::Trapped(_, _, n) => Some(n),
+        Did::Delivered(_, _) | Did::Ended(_) | Did::Moved => None,
+    }
+}
+
+fn is_set(marks: &[bool], n: u32) -> bool
+    ensures { result ≡ is_set marks.now n }
+{
+    match n.checked_sub(1) {
+        None => false,
+        Some(k) => match marks.get(k as usize) {
+            None => false,
+            Some(mark) => *mark,
+        },
+    }
+}
+
+/// Whether a breakpoint is set where this was done.
+pub(crate) fn stops(marks: &[bool], did: Did) -> bool
+    ensures { (up : ℕ → Path) (now : ℕ → Path) → result ≡ stops_at marks.now (number_of (event_by up now did)) }
+{
+    match number_of(did) {
+        None => false,
+        Some(n) => is_set(marks, n),
+    }
+}
