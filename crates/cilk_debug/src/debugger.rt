@@ -1,12 +1,13 @@
-ghost use Rattle.std.specs.Prelude.{◌≡◌, ◌≤◌, ◌<◌, ◌+◌, ℕ, IfOk, IfErr, OnOk, OnErr, length};
+ghost use Rattle.std.specs.Prelude.{◌≡◌, ◌≤◌, ◌<◌, ◌+◌, ℕ, IfOk, IfErr, OnOk, OnErr, length, replicate, false};
 ghost use Rattle.cilk_labelled.specs.Count.{count_program};
-ghost use Rattle.cilk_replay.specs.Tape.{tape_of, IsAt, IsPlayable};
+ghost use Rattle.cilk_replay.specs.Tape.{tape_of, IsAt};
+ghost use Rattle.cilk_debug.specs.Faults.{Tells};
 
 use crate::fault::DebugFault;
 use cilk_load::Loaded;
 use cilk_log::Log;
 use cilk_machine::Machine;
-use cilk_replay::{ReplayFault, make_again, play};
+use cilk_replay::{ReplayFault, play};
 use std::alloc::Global;
 use std::marker::Model;
 
@@ -50,5 +51,71 @@ impl Debugger {
         ensures { result ≡ length self.now.tape.choices }
     {
         self.log.choices.len() as u64
+    }
+
+    /// Before any choice of a recorded schedule, all of which are possible.
+    pub fn new(alloc: Global, program: Loaded, log: Log) -> Result<Debugger, DebugFault>
+        ensures tape { IfOk result (λ d. d.tape ≡ tape_of program log.workers log.choices) }
+        ensures start { IfOk result (λ d. d.position ≡ 0) }
+        ensures marks { IfOk result (λ d. d.marks ≡ replicate (count_program program) false) }
+        ensures told { IfErr result (Tells (tape_of program log.workers log.choices)) }
+    {
+        match played(alloc, &program, &log, log.choices.len()) {
+            Err(fault) => Err(fault),
+            Ok(_) => match played(alloc, &program, &log, 0) {
+                Err(fault) => Err(fault),
+                Ok(machine) => match no_marks(alloc, &program) {
+                    Err(fault) => Err(fault),
+                    Ok(marks) => Ok(Debugger {
+                        alloc,
+                        program,
+                        log,
+                        machine,
+                        marks,
+                    }),
+                },
+            },
+        }
+    }
+
+    // The machine behind the first k choices. All of them are possible, so that only memory may be wanting.
+    fn machine_at(&self, k: usize) -> Result<Machine, DebugFault>
+        requires { k ≤ length self.now.tape.choices }
+        ensures stands { IfOk result (IsAt self.now.tape k) }
+        ensures memory { IfErr result (λ why. why ≡ DebugFault.Memory) }
+    {
+        match played(self.alloc, &self.program, &self.log, k) {
+            Ok(machine) => Ok(machine),
+            Err(_) => Err(DebugFault::Memory),
+        }
+    }
+}
+
+// The program after the first `count` choices.
+fn played(alloc: Global, program: &Loaded, log: &Log, count: usize) -> Result<Machine, DebugFault>
+    requires { count ≤ length log.now.choices }
+    ensures stands { IfOk result (IsAt (tape_of program.now log.now.workers log.now.choices) count) }
+    ensures told { IfErr result (Tells (tape_of program.now log.now.workers log.now.choices)) }
+{
+    match program.copy() {
+        Err(_) => Err(DebugFault::Memory),
+        Ok(copy) => match play(alloc, copy, log.workers, log.choices.as_slice(), count) {
+            Ok(machine) => Ok(machine),
+            Err(ReplayFault::Workers) => Err(DebugFault::Workers),
+            Err(ReplayFault::BadChoice(k, why)) => Err(DebugFault::BadChoice(k, why)),
+            Err(ReplayFault::Memory) => Err(DebugFault::Memory),
+        },
+    }
+}
+
+// No breakpoint is set.
+fn no_marks(alloc: Global, program: &Loaded) -> Result<Vec<bool>, DebugFault>
+    ensures marks { IfOk result (λ marks. marks.items ≡ replicate (count_program program.now) false) }
+    ensures memory { IfErr result (λ why. why ≡ DebugFault.Memory) }
+{
+    let mut marks = Vec::new(alloc);
+    match marks.resize(program.count() as usize, false) {
+        Err(_) => Err(DebugFault::Memory),
+        Ok(()) => Ok(marks),
     }
 }

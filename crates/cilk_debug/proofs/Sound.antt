@@ -1,0 +1,55 @@
+-- What always holds of a debugger.
+use Rattle.std.proofs.Common.{◌≡◌, ◌≢◌, ◌≤◌, ℕ, zero, suc, ◌+◌, Bool, true, false, List, length, Option, Some, None, refl, sym, ap, ◌∙◌, subst, arith, if◌then◌else◌, replicate}
+use Rattle.std.proofs.lemmas.List.{length-map, length-replicate}
+use Rattle.cilk_syntax.specs.Tree.{Program}
+use Rattle.cilk_choices.specs.declared.choice.Choice as code
+use Rattle.cilk_choices.specs.Words.{choice_of}
+use Rattle.cilk_labelled.specs.Labelled.{Labelled}
+use Rattle.cilk_labelled.specs.Bodies.{label}
+use Rattle.cilk_labelled.specs.Count.{count_program}
+use Rattle.cilk_model.specs.Choice.{Choice}
+use Rattle.cilk_model.specs.Run.{Position, is_crew, after_main}
+use Rattle.cilk_machine.specs.Situation.{Situation}
+use Rattle.cilk_replay.specs.Tape.{Tape, tape_of, position_at, IsPlayable, IsAt}
+use Rattle.cilk_replay.specs.Faults.{IsFirst}
+use Rattle.cilk_replay.proofs.Again.{led_in}
+use Rattle.cilk_replay.proofs.Whole.{none_is_bad}
+use Rattle.cilk_debug.specs.declared.fault.DebugFault.{DebugFault}
+use Rattle.cilk_debug.specs.declared.fault.DebugFault.TheVariants.{Workers, BadChoice, AtEnd, AtStart, NoStatement, OutOfRange, Memory}
+use Rattle.cilk_debug.specs.Debugging.{IsSound}
+use Rattle.cilk_debug.specs.Faults.{Tells}
+
+crew_by : (program : Labelled) (n : ℕ) (main : Option ℕ) (choices : List Choice) (at : Position) → is_crew n ≡ false → after_main program n main choices ≡ Some at → ⊥
+crew_by program n None choices at none h = cc
+crew_by program n (Some main) choices at none h = cc
+
+-- of choices that are all possible no fault is told but want of memory
+pub told_none : (t : Tape) → IsPlayable t → (f : DebugFault) → Tells t f → f ≢ Memory → ⊥
+told_none t whole Workers told not = crew_by (label t.program) t.workers (label t.program).main _ whole.at told whole.led
+told_none t whole (BadChoice k refusal) told not = none_is_bad t whole told.before told.reason told.bad
+told_none t whole AtEnd told not = told
+told_none t whole AtStart told not = told
+told_none t whole NoStatement told not = told
+told_none t whole OutOfRange told not = told
+told_none t whole Memory told not = not refl
+
+-- a machine behind all choices shows that they are possible
+pub playable_by : (t : Tape) (k : ℕ) (m : Situation) → k ≡ length t.choices → IsAt t k m → IsPlayable t
+playable_by t k m end h = record { at = h.at; led = subst (λ (j : ℕ). position_at t j ≡ Some h.at) end (led_in t k m h) }
+
+pub sound_at : (t : Tape) (k : ℕ) (m : Situation) (marks : List Bool) → IsPlayable t → k ≤ length t.choices → IsAt t k m → length marks ≡ count_program t.program → IsSound t m marks
+sound_at t k m marks whole within h marked = record {
+  whole = whole;
+  within = subst (λ (j : ℕ). j ≤ length t.choices) (sym h.choices) within;
+  stands = subst (λ (j : ℕ). IsAt t j m) (sym h.choices) h;
+  marked = marked;
+}
+
+pub sound_first : (program : Program) (workers : ℕ) (xs : List code.Choice) (k : ℕ) (whole m : Situation) (marks : List Bool) → k ≡ length xs
+    → IsAt (tape_of program workers xs) k whole → IsAt (tape_of program workers xs) 0 m → marks ≡ replicate (count_program program) false
+    → IsSound (tape_of program workers xs) m marks
+sound_first program workers xs k whole m marks end all none unset =
+    sound_at (tape_of program workers xs) 0 m marks
+    (playable_by (tape_of program workers xs) k whole (end ∙ sym (length-map xs choice_of)) all)
+    (omega arith) none
+    (ap length unset ∙ length-replicate (count_program program) false)
