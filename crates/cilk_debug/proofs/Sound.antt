@@ -1,5 +1,5 @@
 -- What always holds of a debugger.
-use Rattle.std.proofs.Common.{◌≡◌, ◌≢◌, ◌≤◌, ℕ, zero, suc, ◌+◌, Bool, true, false, List, length, Option, Some, None, refl, sym, ap, ◌∙◌, subst, arith, if◌then◌else◌, replicate}
+use Rattle.std.proofs.Common.{◌≡◌, ◌≢◌, ◌≤◌, ◌<◌, ℕ, suc, Bool, false, List, length, Option, Some, None, refl, sym, ap, ◌∙◌, subst, arith, replicate, map}
 use Rattle.std.proofs.lemmas.List.{length-map, length-replicate}
 use Rattle.cilk_syntax.specs.Tree.{Program}
 use Rattle.cilk_choices.specs.declared.choice.Choice as code
@@ -11,7 +11,6 @@ use Rattle.cilk_model.specs.Choice.{Choice}
 use Rattle.cilk_model.specs.Run.{Position, is_crew, after_main}
 use Rattle.cilk_machine.specs.Situation.{Situation}
 use Rattle.cilk_replay.specs.Tape.{Tape, tape_of, position_at, IsPlayable, IsAt}
-use Rattle.cilk_replay.specs.Faults.{IsFirst}
 use Rattle.cilk_replay.proofs.Again.{led_in}
 use Rattle.cilk_replay.proofs.Whole.{none_is_bad}
 use Rattle.cilk_debug.specs.declared.fault.DebugFault.{DebugFault}
@@ -53,3 +52,14 @@ sound_first program workers xs k whole m marks end all none unset =
     (playable_by (tape_of program workers xs) k whole (end ∙ sym (length-map xs choice_of)) all)
     (omega arith) none
     (ap length unset ∙ length-replicate (count_program program) false)
+
+-- behind one choice more
+pub sound_again : (program : Program) (workers : ℕ) (xs ys : List code.Choice) (m n : Situation) (marks : List Bool) (at : ℕ)
+    → IsSound (tape_of program workers xs) m marks → ys ≡ xs → at ≡ m.choices → at < length ys
+    → ((t : Tape) → t.choices ≡ map choice_of ys → IsAt t at m → IsAt t (suc at) n) → IsSound (tape_of program workers xs) n marks
+sound_again program workers xs ys m n marks at sound same e within next =
+    let t = tape_of program workers xs in
+    let count : length t.choices ≡ length ys = length-map xs choice_of ∙ ap length (sym same) in
+    sound_at t (suc at) n marks sound.whole (omega arith)
+    (next t (ap (map choice_of) (sym same)) (subst (λ (k : ℕ). IsAt t k m) (sym e) sound.stands))
+    sound.marked

@@ -1,5 +1,5 @@
 -- At which choices a move stops.
-use Rattle.std.specs.Prelude.{ℕ, zero, suc, ◌+◌, ◌-◌, Bool, true, false, List, [], ◌∷◌, length, Option, Some, None, option_map, slice_index_or}
+use Rattle.std.specs.Prelude.{ℕ, zero, suc, ◌+◌, ◌-◌, Bool, false, List, [], ◌∷◌, length, Option, Some, None, option_map, slice_index_or}
 use Rattle.std.specs.List.{find, range_with_len}
 use Rattle.cilk_model.specs.Event.{Event, acted, spawned, delivered, returned, ended, trapped, moved}
 use Rattle.cilk_replay.specs.Tape.{Tape, did_at}

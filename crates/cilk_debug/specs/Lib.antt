@@ -1,3 +1,4 @@
 pub mod Breaks
 pub mod Debugging
 pub mod Faults
+pub mod Moves

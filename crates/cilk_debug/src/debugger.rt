@@ -1,13 +1,14 @@
-ghost use Rattle.std.specs.Prelude.{◌≡◌, ◌≤◌, ◌<◌, ◌+◌, ℕ, IfOk, IfErr, OnOk, OnErr, length, replicate, false};
+ghost use Rattle.std.specs.Prelude.{◌≡◌, ◌≤◌, ◌<◌, ◌+◌, ℕ, ◌-◌, IfOk, IfErr, OnOk, OnErr, length, replicate, slice_set, true, false};
 ghost use Rattle.cilk_labelled.specs.Count.{count_program};
 ghost use Rattle.cilk_replay.specs.Tape.{tape_of, IsAt};
 ghost use Rattle.cilk_debug.specs.Faults.{Tells};
+ghost use Rattle.cilk_debug.specs.Moves.{StaysBehind, StaysAhead, StaysFrom, HasNo};
 
 use crate::fault::DebugFault;
 use cilk_load::Loaded;
 use cilk_log::Log;
 use cilk_machine::Machine;
-use cilk_replay::{ReplayFault, play};
+use cilk_replay::{ReplayFault, make_again, play};
 use std::alloc::Global;
 use std::marker::Model;
 
@@ -76,6 +77,100 @@ impl Debugger {
                 },
             },
         }
+    }
+
+    /// The next choice is made.
+    pub fn step(&mut self) -> Result<(), DebugFault>
+        ensures moved { OnOk result (self.new ≡ record self.old { position = self.old.position + 1 }) }
+        ensures within { OnOk result (self.old.position < length self.old.tape.choices) }
+        ensures told { IfErr result (StaysBehind self.old) }
+        ensures same { OnErr result (self.new ≡ self.old) }
+    {
+        let at = self.machine.choices() as usize;
+        let choices = self.log.choices.as_slice();
+        if choices.len() <= at {
+            return Err(DebugFault::AtEnd);
+        }
+        match make_again(&mut self.machine, choices, at) {
+            Ok(_) => Ok(()),
+            Err(_) => Err(DebugFault::Memory),
+        }
+    }
+
+    /// The last choice that was made is taken back.
+    pub fn back(&mut self) -> Result<(), DebugFault>
+        ensures moved { OnOk result (self.new ≡ record self.old { position = self.old.position - 1 }) }
+        ensures within { OnOk result (0 < self.old.position) }
+        ensures told { IfErr result (StaysAhead self.old) }
+        ensures same { OnErr result (self.new ≡ self.old) }
+    {
+        let at = self.machine.choices() as usize;
+        if at == 0 {
+            return Err(DebugFault::AtStart);
+        }
+        self.stand_at(at - 1)
+    }
+
+    /// To the position behind the first k choices.
+    pub fn go(&mut self, k: u64) -> Result<(), DebugFault>
+        ensures moved { OnOk result (self.new ≡ record self.old { position = k }) }
+        ensures within { OnOk result (k ≤ length self.old.tape.choices) }
+        ensures told { IfErr result (StaysFrom self.old k) }
+        ensures same { OnErr result (self.new ≡ self.old) }
+    {
+        if self.length() < k {
+            return Err(DebugFault::OutOfRange);
+        }
+        self.stand_at(k as usize)
+    }
+
+    // A new machine goes there from the start, so that the old one stays where memory runs out.
+    fn stand_at(&mut self, k: usize) -> Result<(), DebugFault>
+        requires { k ≤ length self.old.tape.choices }
+        ensures moved { OnOk result (self.new ≡ record self.old { position = k }) }
+        ensures memory { IfErr result (λ why. why ≡ DebugFault.Memory) }
+        ensures same { OnErr result (self.new ≡ self.old) }
+    {
+        match self.machine_at(k) {
+            Err(fault) => Err(fault),
+            Ok(machine) => {
+                self.machine = machine;
+                Ok(())
+            }
+        }
+    }
+
+    /// Sets a breakpoint at action n, counted from 1.
+    pub fn set_break(&mut self, n: u32) -> Result<(), DebugFault>
+        ensures set { OnOk result (self.new ≡ record self.old { marks = slice_set self.old.marks (n - 1) true }) }
+        ensures within { OnOk result ((1 ≤ n) × (n ≤ count_program self.old.tape.program)) }
+        ensures told { IfErr result (HasNo self.old n) }
+        ensures same { OnErr result (self.new ≡ self.old) }
+    {
+        self.mark(n, true)
+    }
+
+    /// Takes the breakpoint at action n away, if there is one.
+    pub fn clear_break(&mut self, n: u32) -> Result<(), DebugFault>
+        ensures cleared { OnOk result (self.new ≡ record self.old { marks = slice_set self.old.marks (n - 1) false }) }
+        ensures within { OnOk result ((1 ≤ n) × (n ≤ count_program self.old.tape.program)) }
+        ensures told { IfErr result (HasNo self.old n) }
+        ensures same { OnErr result (self.new ≡ self.old) }
+    {
+        self.mark(n, false)
+    }
+
+    fn mark(&mut self, n: u32, mark: bool) -> Result<(), DebugFault>
+        ensures marked { OnOk result (self.new ≡ record self.old { marks = slice_set self.old.marks (n - 1) mark }) }
+        ensures within { OnOk result ((1 ≤ n) × (n ≤ count_program self.old.tape.program)) }
+        ensures told { IfErr result (HasNo self.old n) }
+        ensures same { OnErr result (self.new ≡ self.old) }
+    {
+        if n == 0 || self.program.count() < n {
+            return Err(DebugFault::NoStatement);
+        }
+        self.marks[n as usize - 1] = mark;
+        Ok(())
     }
 
     // The machine behind the first k choices. All of them are possible, so that only memory may be wanting.

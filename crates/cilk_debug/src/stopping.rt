@@ -12,7 +12,9 @@ fn number_of(did: Did) -> Option<u32>
     ensures { (up : ℕ → Path) (now : ℕ → Path) → result ≡ number_of (event_by up now did) }
 {
     match did {
-        Did::Acted(_, n) | Did::Spawned(_, n) | Did::Returned(_, n) | Did::Trapped(_, _, n) => Some(n),
+        Did::Acted(_, n) | Did::Spawned(_, n) | Did::Returned(_, n) | Did::Trapped(_, _, n) => Some(
+            n,
+        ),
         Did::Delivered(_, _) | Did::Ended(_) | Did::Moved => None,
     }
 }

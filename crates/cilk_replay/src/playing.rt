@@ -1,4 +1,4 @@
-ghost use Rattle.std.specs.Prelude.{List, ◌≡◌, ◌≤◌, ◌<◌, ◌-◌, ◌^◌, ℕ, suc, IfOk, IfErr, OnOk, length, Some, slice_get, map, option_copied};
+ghost use Rattle.std.specs.Prelude.{List, ◌≡◌, ◌≤◌, ◌<◌, ◌-◌, ◌^◌, ℕ, suc, IfOk, IfErr, OnOk, OnErr, length, Some, slice_get, map, option_copied};
 ghost use Rattle.cilk_model.specs.Choice as model;
 ghost use Rattle.cilk_choices.specs.Words.{choice_of, reason_of};
 ghost use Rattle.cilk_spawn.specs.Nodes.{path_at};
@@ -73,6 +73,7 @@ pub fn make_again(
     ensures did { IfOk result (λ did. (t : Tape) → t.choices ≡ map choice_of choices.now → IsAt t made machine.old
         → did_at t made ≡ Some (event_by (path_at machine.old.machine.nodes) (path_at machine.new.machine.nodes) did)) }
     ensures told { IfErr result (λ why. (t : Tape) → t.choices ≡ map choice_of choices.now → IsAt t made machine.old → Tells t why) }
+    ensures unchanged { OnErr result (machine.new ≡ machine.old) }
 {
     match chosen(choices, made) {
         None => unreachable!(),

@@ -1,0 +1,46 @@
+-- Why a debugger does not move.
+use Rattle.std.specs.Prelude.{◌≡◌, ◌<◌, ◌≤◌, ◌⊎◌, ℕ, length}
+use Rattle.cilk_labelled.specs.Count.{count_program}
+use Rattle.cilk_debug.specs.Debugging.{Debugging}
+use Rattle.cilk_debug.specs.declared.fault.DebugFault.{DebugFault}
+use Rattle.cilk_debug.specs.declared.fault.DebugFault.TheVariants.{Workers, BadChoice, AtEnd, AtStart, NoStatement, OutOfRange, Memory}
+
+-- forwards: all choices were made, or else memory ran out
+abbrev pub StaysBehind : Debugging → DebugFault → Type 0
+StaysBehind d Workers = ⊥
+StaysBehind d (BadChoice k refusal) = ⊥
+StaysBehind d AtEnd = d.position ≡ length d.tape.choices
+StaysBehind d AtStart = ⊥
+StaysBehind d NoStatement = ⊥
+StaysBehind d OutOfRange = ⊥
+StaysBehind d Memory = d.position < length d.tape.choices
+
+-- backwards: none was made
+abbrev pub StaysAhead : Debugging → DebugFault → Type 0
+StaysAhead d Workers = ⊥
+StaysAhead d (BadChoice k refusal) = ⊥
+StaysAhead d AtEnd = ⊥
+StaysAhead d AtStart = d.position ≡ 0
+StaysAhead d NoStatement = ⊥
+StaysAhead d OutOfRange = ⊥
+StaysAhead d Memory = 0 < d.position
+
+-- to position k: there are fewer choices
+abbrev pub StaysFrom : Debugging → ℕ → DebugFault → Type 0
+StaysFrom d k Workers = ⊥
+StaysFrom d k (BadChoice j refusal) = ⊥
+StaysFrom d k AtEnd = ⊥
+StaysFrom d k AtStart = ⊥
+StaysFrom d k NoStatement = ⊥
+StaysFrom d k OutOfRange = length d.tape.choices < k
+StaysFrom d k Memory = k ≤ length d.tape.choices
+
+-- n is no action of the program
+abbrev pub HasNo : Debugging → ℕ → DebugFault → Type 0
+HasNo d n Workers = ⊥
+HasNo d n (BadChoice k refusal) = ⊥
+HasNo d n AtEnd = ⊥
+HasNo d n AtStart = ⊥
+HasNo d n NoStatement = (n ≡ 0) ⊎ (count_program d.tape.program < n)
+HasNo d n OutOfRange = ⊥
+HasNo d n Memory = ⊥
