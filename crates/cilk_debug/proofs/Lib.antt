@@ -1,1 +1,3 @@
+pub mod Ranges
 pub mod Sound
+pub mod Stops

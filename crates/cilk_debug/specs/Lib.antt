@@ -2,3 +2,4 @@ pub mod Breaks
 pub mod Debugging
 pub mod Faults
 pub mod Moves
+pub mod Seeking

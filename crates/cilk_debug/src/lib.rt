@@ -3,6 +3,7 @@
 
 mod debugger;
 mod fault;
+mod seeking;
 mod stopping;
 
 pub use cilk_log::Log;
