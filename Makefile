@@ -2,7 +2,7 @@
 
 sources := $(shell find crates \( -name out -o -name must-fail \) -prune -o -type f -print)
 
-.PHONY: test programs must_not_compile wrong-bodies budget bench clean
+.PHONY: test anew programs must_not_compile wrong-bodies edge budget bench clean
 
 # A program is built once it and the crates below it are proved, and only by running it.
 cilk: crates.txt HANDLES $(sources)
@@ -12,6 +12,10 @@ cilk: crates.txt HANDLES $(sources)
 
 test: must_not_compile
 	tools/gate
+
+# The same, but that nothing is taken from what was proved before on this machine.
+anew:
+	tools/gate --anew
 
 # Tries ./cilk on the cases of programs/, and on the examples of docs/LANGUAGE.md.
 programs: cilk
@@ -24,6 +28,10 @@ must_not_compile:
 # Tries the wrong bodies of the crates named in CRATES, or of all (docs/GATE.md).
 wrong-bodies:
 	tools/wrong_bodies $(CRATES)
+
+# Tries wrong bodies of the outermost functions, on each of which a case must fail (docs/GATE.md).
+edge:
+	tools/edge
 
 # Measures what the gate costs, against one proof of each crate (docs/GATE.md).
 budget:
