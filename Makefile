@@ -2,7 +2,7 @@
 
 sources := $(shell find crates \( -name out -o -name must-fail \) -prune -o -type f -print)
 
-.PHONY: test programs must_not_compile wrong-bodies budget bench clean
+.PHONY: demo test anew programs must_not_compile wrong-bodies edge budget bench clean
 
 # A program is built once it and the crates below it are proved, and only by running it.
 cilk: crates.txt HANDLES $(sources)
@@ -10,10 +10,18 @@ cilk: crates.txt HANDLES $(sources)
 	cd crates/cilk && rt run -- --help >/dev/null
 	cp crates/cilk/out/cilk $@
 
+# Proves, builds, runs the sample, and shows a race in the debugger.
+demo: cilk
+	tools/demo ./cilk
+
 test: must_not_compile
 	tools/gate
 
-# Tries ./cilk on the cases of programs/, and on the examples of docs/LANGUAGE.md.
+# The same, but that nothing is taken from what was proved before on this machine.
+anew:
+	tools/gate --anew
+
+# Tries ./cilk on the cases of programs/, on the examples of docs/LANGUAGE.md and the sessions of docs/DEBUGGER.md.
 programs: cilk
 	tools/programs ./cilk
 	tools/examples ./cilk
@@ -25,14 +33,19 @@ must_not_compile:
 wrong-bodies:
 	tools/wrong_bodies $(CRATES)
 
+# Tries wrong bodies of the outermost functions, on each of which a case must fail (docs/GATE.md).
+edge:
+	tools/edge
+
 # Measures what the gate costs, against one proof of each crate (docs/GATE.md).
 budget:
 	tools/gate_budget
 
-# Measures ./cilk print beside gcc on texts of the same size and shape, and ./cilk run beside ocamldebug.
+# Measures ./cilk print beside gcc on texts of the same size and shape, ./cilk run and replay beside ocamldebug, and logs beside sha256sum.
 bench: cilk
 	tools/bench ./cilk
 	tools/bench_runs ./cilk
+	tools/bench_logs ./cilk
 
 clean:
 	rm -rf cilk crates/*/out

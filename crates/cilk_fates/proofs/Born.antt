@@ -51,7 +51,7 @@ module _ (events : List Event) (entries later : Instances) (p c : Path) (n : ℕ
       let last = h.counted p (more.number + 1) more.number (ap (was_made events) (sym more.child) ∙ e) more.before in absurd (omega arith)
   fresh_by false e = refl
 
-  fresh : was_made events c ≡ false
+  pub fresh : was_made events c ≡ false
   fresh = fresh_by (was_made events c) refl
 
   parent_live : is_live entries p ≡ true

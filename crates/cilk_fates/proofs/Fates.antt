@@ -89,7 +89,7 @@ still_goes_on : (events : List Event) (entries : Instances) → Told events entr
 still_goes_on events entries h =
     record { now = still_told events entries h; moves = λ x fate has. plain_moves events moved (suc (length events)) x fate moved_plain has }
 
-live_goes_on : (program : Labelled) (events : List Event) (s : State) (p : Path) (o : Option Instance) → instance_at s.instances p ≡ o → Told events s.instances
+pub live_goes_on : (program : Labelled) (events : List Event) (s : State) (p : Path) (o : Option Instance) → instance_at s.instances p ≡ o → Told events s.instances
     → GoesOn events s.instances (event_of_step (step_of_live program s p o)) (state_after s (step_of_live program s p o)).instances
 live_goes_on program events s p None e h = still_goes_on events s.instances h
 live_goes_on program events s p (Some i) e h =
@@ -107,7 +107,7 @@ hand_goes_on : (program : Labelled) (events : List Event) (at : Standing) (w : �
 hand_goes_on program events at w None h = still_goes_on events at.state.instances h
 hand_goes_on program events at w (Some p) h = live_goes_on program events at.state p (instance_at at.state.instances p) refl h
 
-act_goes_on : (program : Labelled) (events : List Event) (at : Standing) (w : ℕ) (act : Act) → Told events at.state.instances
+pub act_goes_on : (program : Labelled) (events : List Event) (at : Standing) (w : ℕ) (act : Act) → Told events at.state.instances
     → GoesOn events at.state.instances (event_by program at w act) (next_by program at w act).state.instances
 act_goes_on program events at w step h = hand_goes_on program events at w (hand_of at.scheduler.places w) h
 act_goes_on program events at w pop h = still_goes_on events at.state.instances h
@@ -168,7 +168,7 @@ opening_told program main =
       waits = λ q ds there. let none = waits_none root ds (same_path [] q) refl there in subst (λ xs. Sound [] q xs) none tt;
     }
 
-told_at : (program : Labelled) (n : ℕ) (choices : List Choice) (at : Position) → after program n choices ≡ Some at → Told at.events at.standing.state.instances
+pub told_at : (program : Labelled) (n : ℕ) (choices : List Choice) (at : Position) → after program n choices ≡ Some at → Told at.events at.standing.state.instances
 told_at program n choices at h =
     each_main program (λ events x. Told events x.state.instances) (λ events x c holds. (act_goes_on program events x c.worker c.act holds).now) n program.main choices at
     (λ main. opening_told program main) h

@@ -1,0 +1,16 @@
+pub mod Runs
+pub mod Effects
+pub mod Ways
+pub mod Taken
+pub mod Once
+pub mod Lived
+pub mod Fields
+pub mod Marks
+pub mod Silent
+pub mod Track
+pub mod Settled
+pub mod Items
+pub mod Suited
+pub mod Alone
+pub mod Starts
+pub mod Waiting
