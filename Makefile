@@ -2,13 +2,17 @@
 
 sources := $(shell find crates \( -name out -o -name must-fail \) -prune -o -type f -print)
 
-.PHONY: test anew programs must_not_compile wrong-bodies edge budget bench clean
+.PHONY: demo test anew programs must_not_compile wrong-bodies edge budget bench clean
 
 # A program is built once it and the crates below it are proved, and only by running it.
 cilk: crates.txt HANDLES $(sources)
 	tools/prove
 	cd crates/cilk && rt run -- --help >/dev/null
 	cp crates/cilk/out/cilk $@
+
+# Proves, builds, runs the sample, and shows a race in the debugger.
+demo: cilk
+	tools/demo ./cilk
 
 test: must_not_compile
 	tools/gate
@@ -17,7 +21,7 @@ test: must_not_compile
 anew:
 	tools/gate --anew
 
-# Tries ./cilk on the cases of programs/, and on the examples of docs/LANGUAGE.md.
+# Tries ./cilk on the cases of programs/, on the examples of docs/LANGUAGE.md and the sessions of docs/DEBUGGER.md.
 programs: cilk
 	tools/programs ./cilk
 	tools/examples ./cilk
@@ -37,10 +41,11 @@ edge:
 budget:
 	tools/gate_budget
 
-# Measures ./cilk print beside gcc on texts of the same size and shape, and ./cilk run beside ocamldebug.
+# Measures ./cilk print beside gcc on texts of the same size and shape, ./cilk run and replay beside ocamldebug, and logs beside sha256sum.
 bench: cilk
 	tools/bench ./cilk
 	tools/bench_runs ./cilk
+	tools/bench_logs ./cilk
 
 clean:
 	rm -rf cilk crates/*/out

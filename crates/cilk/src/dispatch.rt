@@ -1,9 +1,9 @@
 ghost use Rattle.std.specs.Prelude.{◌≡◌, ◌≢◌, [], true, false};
-ghost use Rattle.cilk_commands.specs.Telling.{GivesUp, Tells};
+ghost use Rattle.cilk_commands.specs.Telling.{Tells};
 ghost use Rattle.cilk_commands.specs.Status.{is_answer};
-ghost use Rattle.cilk_words.specs.CommandLine.{texts_of};
-ghost use Rattle.cilk.specs.Ends.{Ends, IsShown, Shows};
-ghost use Rattle.cilk.specs.Task.{Begins, Does, Reason};
+ghost use Rattle.cilk_words.specs.CommandLine.{texts_of, wanted_by};
+ghost use Rattle.cilk.specs.Ends.{Ends, IsShown, Shows, opens_session};
+ghost use Rattle.cilk.specs.Task.{Does, Fails, Leaves, is_session};
 
 use crate::task::perform;
 use crate::texts::Texts;
@@ -20,10 +20,12 @@ pub fn run<T: Texts, O: Write, E: Write>(
     out: &mut O,
     err: &mut E,
 ) -> Status
-    ensures ends { Ends (texts_of words.now) (T.held texts.now) result
+    ensures ends { Ends (texts_of words.now) (T.held texts.now) (T.entered texts.now) result
         (O.contents out.old) (O.contents out.new) (E.contents err.old) (E.contents err.new) }
     ensures quiet { is_answer result ≡ true → err.new ≡ err.old }
-    ensures kept { is_answer result ≡ false → result ≢ Status.CannotWrite → out.new ≡ out.old }
+    ensures kept { opens_session (texts_of words.now) ≡ false
+        → is_answer result ≡ false → result ≢ Status.CannotWrite → out.new ≡ out.old }
+    ensures unanswered { result ≡ Status.Refused → out.new ≡ out.old }
 {
     match request_in(alloc, words) {
         Ok(request) => obey(alloc, &request, texts, out, err),
@@ -38,19 +40,24 @@ fn obey<T: Texts, O: Write, E: Write>(
     out: &mut O,
     err: &mut E,
 ) -> Status
-    ensures done { is_answer result ≡ true → Does request.now.task result
-        (T.held texts.now request.now.name.now) (O.contents out.old) (O.contents out.new) }
-    ensures told { is_answer result ≡ false
-        → GivesUp (Reason request.now.task) request.now.explain request.now.name.now result
-        (T.held texts.now request.now.name.now) (E.contents err.old) (E.contents err.new) }
-    ensures begun { result ≡ Status.CannotWrite → Begins request.now.task
-        (T.held texts.now request.now.name.now) (O.contents out.old) (O.contents out.new) }
+    ensures done { is_answer result ≡ true → Does (wanted_by request.now.task) result
+        (T.held texts.now request.now.name.now) (T.held texts.now) (T.entered texts.now)
+        (O.contents out.old) (O.contents out.new) }
+    ensures told { is_answer result ≡ false → Fails (wanted_by request.now.task)
+        request.now.explain request.now.name.now result
+        (T.held texts.now request.now.name.now) (T.held texts.now)
+        (E.contents err.old) (E.contents err.new) }
+    ensures begun { is_answer result ≡ false → Leaves (wanted_by request.now.task) result
+        (T.held texts.now request.now.name.now) (T.held texts.now) (T.entered texts.now)
+        (O.contents out.old) (O.contents out.new) }
     ensures usage { result ≢ Status.Usage }
     ensures quiet { is_answer result ≡ true → err.new ≡ err.old }
-    ensures kept { is_answer result ≡ false → result ≢ Status.CannotWrite → out.new ≡ out.old }
+    ensures kept { is_session (wanted_by request.now.task) ≡ false
+        → is_answer result ≡ false → result ≢ Status.CannotWrite → out.new ≡ out.old }
+    ensures unanswered { result ≡ Status.Refused → out.new ≡ out.old }
 {
     match texts.open(request.name) {
-        Some(mut reader) => perform(alloc, request, &mut reader, out, err),
+        Some(mut reader) => perform(alloc, request, texts, &mut reader, out, err),
         None => Failure::CannotRead.report(request.name, err),
     }
 }
@@ -67,6 +74,10 @@ fn tell<O: Write, E: Write>(refusal: &Refusal, out: &mut O, err: &mut E) -> Stat
         Refusal::Help(text) | Refusal::Version(text) => show(text.as_str(), out, err),
         Refusal::Usage(text) => {
             let _ = err.write_all(text.as_bytes());
+            Status::Usage
+        }
+        Refusal::Dash(dash) => {
+            let _ = err.write_all(dash.text().as_bytes());
             Status::Usage
         }
         Refusal::Memory => Failure::Memory.report("", err),

@@ -3,7 +3,7 @@ ghost use Rattle.std.specs.IoError.{error_kind};
 ghost use Rattle.cilk_commands.specs.declared.status.Status.{Status};
 ghost use Rattle.cilk_commands.specs.Status.{code_of, is_answer};
 ghost use Rattle.cilk_words.specs.CommandLine.{texts_of};
-ghost use Rattle.cilk.specs.Ends.{Ends, without_words};
+ghost use Rattle.cilk.specs.Ends.{Ends, opens_session, without_words};
 
 use crate::dispatch::run;
 use crate::texts::Texts;
@@ -30,11 +30,13 @@ pub fn exit_code<T: Texts, O: Write, E: Write>(
 ) -> u8
     ensures { (status : Status) × ((result ≡ code_of status)
         × MatchResult words
-        (λ list. Ends (texts_of list.items) (T.held texts.now) status
+        (λ list. Ends (texts_of list.items) (T.held texts.now) (T.entered texts.now) status
         (O.contents out.old) (O.contents out.new) (E.contents err.old) (E.contents err.new))
         (λ error. status ≡ without_words (error_kind error))
         × (is_answer status ≡ true → err.new ≡ err.old)
-        × (is_answer status ≡ false → status ≢ Status.CannotWrite → out.new ≡ out.old)) }
+        × (MatchResult words (λ list. opens_session (texts_of list.items) ≡ false) (λ error. Unit {0})
+        → is_answer status ≡ false → status ≢ Status.CannotWrite → out.new ≡ out.old)
+        × (status ≡ Status.Refused → out.new ≡ out.old)) }
 {
     let status = match words {
         Ok(words) => run(alloc, words.as_slice(), texts, out, err),

@@ -9,6 +9,7 @@
 mod dispatch;
 mod exit;
 mod host;
+mod streams;
 mod task;
 mod texts;
 
@@ -16,8 +17,10 @@ use exit::exit_code;
 use host::Host;
 use std::process::ExitCode;
 use std::{env, io};
+use streams::seat;
 
 fn main(rt: HostRuntime) -> ExitCode {
+    let seats = [seat(&rt), seat(&rt), seat(&rt)];
     let words = words(&rt);
     let texts = Host { rt: &rt };
     let code = exit_code(
@@ -27,6 +30,7 @@ fn main(rt: HostRuntime) -> ExitCode {
         &mut rt.stdout(),
         &mut rt.stderr(),
     );
+    drop(seats);
     ExitCode::from(code)
 }
 

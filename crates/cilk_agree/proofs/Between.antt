@@ -1,9 +1,9 @@
 -- The machine between the halves of a step.
-use Rattle.std.proofs.Common.{◌≡◌, ◌<◌, ◌≤◌, ◌-◌, ◌&&◌, not, ℕ, ℤ, Bool, true, false, List, [], ◌∷◌, ◌++◌, length, Option, Some, None, is_some, refl, sym, ap, ◌∙◌, subst, slice_set, get_or-set_same, get_or-set_other, if◌then◌else◌}
+use Rattle.std.proofs.Common.{◌≡◌, ◌<◌, ◌≤◌, ◌-◌, ◌&&◌, not, ℕ, ℤ, Bool, true, false, List, [], ◌∷◌, ◌++◌, length, Option, Some, None, refl, sym, ap, ◌∙◌, subst, slice_set, get_or-set_same, get_or-set_other, if◌then◌else◌}
 use Rattle.std.specs.List.{list_any}
 use Rattle.cilk_model.specs.Path.{is_child}
 use Rattle.cilk_model.specs.Places.{IsWorker, hand_of, deque_of, with_hand}
-use Rattle.cilk_spawn.specs.declared.ending.Ending.TheVariants.{Aborted}
+use Rattle.cilk_spawn.specs.declared.fate.Fate.TheVariants.{Aborted}
 use Rattle.cilk_spawn.specs.declared.receiver.Receiver.TheVariants.{Nothing}
 use Rattle.cilk_spawn.specs.Nodes.{Node, IsTree, no_node, node_at, is_live, has_live_child, takes_value, delivery_of, delivered, delivered_to, without_receiver, path_at}
 use Rattle.cilk_spawn.proofs.Trees.{live_there}
@@ -35,12 +35,12 @@ hands-handed_on places w f g worker =
 
 -- a node that lives as another does, is parked as it is and has its parent
 record Like (a b : Node) : Type 0 where
-  ending : b.ending ≡ a.ending
+  live : is_live b ≡ is_live a
   parked : b.parked ≡ a.parked
   parent : b.parent ≡ a.parent
 
 like-by : (a b : Node) → b ≡ a → Like a b
-like-by a b e = record { ending = ap (λ (n : Node). n.ending) e; parked = ap (λ (n : Node). n.parked) e; parent = ap (λ (n : Node). n.parent) e }
+like-by a b e = record { live = ap is_live e; parked = ap (λ (n : Node). n.parked) e; parent = ap (λ (n : Node). n.parent) e }
 
 sent-like : (ns : List Node) (k : ℕ) (z : ℤ) (o : Option ℕ) → IsTree ns → k < length ns → (node_at ns k).parent ≡ o
     → Like (node_at ns k) (node_at (delivered_to o ns (delivery_of ns k z)) k)
@@ -51,7 +51,7 @@ sent-like ns k z (Some r) t there e =
     get_or-set_other bare r k _ no_node (λ same. parent_other ns k r t e (sym same)) in
     let first : node_at bare k ≡ record (node_at ns k) { receiver = Nothing } = get_or-set_same ns k _ no_node there in
     record {
-      ending = ap (λ (n : Node). n.ending) (own ∙ first);
+      live = ap is_live (own ∙ first);
       parked = ap (λ (n : Node). n.parked) (own ∙ first);
       parent = ap (λ (n : Node). n.parent) (own ∙ first);
     }
@@ -74,7 +74,7 @@ module _ (t : Turn) (z : ℤ) (childless : has_live_child t.machine.nodes t.fram
   like = sent-like ns k z (node_at ns k).parent t.agrees.tree (inside t) refl
 
   lives : is_live (node_at ms k) ≡ true
-  lives = ap (λ o. not (is_some o)) like.ending ∙ (holds t).live
+  lives = like.live ∙ (holds t).live
 
   none-lives : has_live_child ms k ≡ false
   none-lives =
@@ -94,8 +94,8 @@ pub senders-can-end : SendersCanEnd
 senders-can-end t z childless = can-end t z childless
 
 pub parents-outlive : ParentsOutlive
-parents-outlive t z r parent childless = (
+parents-outlive t z choice r parent childless = (
   (sends t r parent z childless).live,
-  lives-after t.machine.nodes r t.frame.id Aborted (inside t)
+  lives-after t.machine.nodes r t.frame.id (Aborted choice) refl (inside t)
       (parent_other t.machine.nodes t.frame.id r t.agrees.tree parent) (live-parent t r parent z childless),
 )

@@ -138,7 +138,7 @@ module _ (t : Turn) (f g : Frame) (receiver : Receiver) (callee : ℕ) (a c : In
   gone = local-agrees t f (record (node_at ns k) { children = (node_at ns k).children + 1 }) a t.machine.outside part (record {
     own = b.own;
     stands = b.stands;
-    links = record { parent = refl; ordinal = refl; procedure = refl; ending = refl; aborted = refl; children = omega arith };
+    links = record { parent = refl; ordinal = refl; procedure = refl; live = refl; aborted = refl; children = omega arith };
     parked = refl;
     from = t.agrees.tree.sent k;
     tells = b.tells;
@@ -170,7 +170,7 @@ module _ (t : Turn) (f g : Frame) (receiver : Receiver) (callee : ℕ) (a c : In
   old i h e = omega (arith, h, e)
 
   set : Sets ns gs k (record (node_at ns k) { children = (node_at ns k).children + 1 })
-  set = sets ns k _ t.agrees.tree there (record { parent = refl; ordinal = refl; procedure = refl; ending = refl; aborted = refl; children = omega arith })
+  set = sets ns k _ t.agrees.tree there (record { parent = refl; ordinal = refl; procedure = refl; live = refl; aborted = refl; children = omega arith })
       (t.agrees.tree.sent k)
 
   stays : (i : ℕ) → i < l → path_at ms i ≡ path_at ns i

@@ -12,8 +12,8 @@ use Rattle.cilk_model.specs.Scheduler as sched
 use Rattle.cilk_model.specs.Run.{Standing}
 use Rattle.cilk_frame.specs.Frames.{Frame}
 use Rattle.cilk_stands.specs.Stands.{StandsFor}
-use Rattle.cilk_spawn.specs.declared.ending.Ending.{Ending}
-use Rattle.cilk_spawn.specs.Nodes.{Node, IsTree, no_node, node_at, is_live, live_ids, has_live_child, with_parked, ended, path_at}
+use Rattle.cilk_spawn.specs.declared.fate.Fate.{Fate}
+use Rattle.cilk_spawn.specs.Nodes.{Node, IsTree, no_node, node_at, is_live, lives, live_ids, has_live_child, with_parked, ended, path_at}
 use Rattle.cilk_spawn.proofs.Lists.{decide, at_set, those_same}
 use Rattle.cilk_spawn.proofs.Trees.{path_linked, live_there}
 use Rattle.cilk_spawn.proofs.Grown.{same_number, other_number, both_and, ids_ended, ended_node, ended_linked, ended_lives, tree_ended}
@@ -68,43 +68,43 @@ module _ (p : Program) (m : Machine) (who : ℕ → Instance) (at : Standing) (h
       ]
 
   -- k ends, and leaves w's hand empty
-  module _ (k w : ℕ) (ending : Ending) (inside : k < length ns) (childless : has_live_child ns k ≡ false) (free : (node_at ns k).parked ≡ None)
+  module _ (k w : ℕ) (fate : Fate) (over : lives fate ≡ false) (inside : k < length ns) (childless : has_live_child ns k ≡ false) (free : (node_at ns k).parked ≡ None)
       (others : AllHeld (λ g. g.id ≢ k) (with_hand m.places w None)) (o : Outside) (s : State) where
     abbrev ms : List Node
-    ms = ended ns k ending
+    ms = ended ns k fate
 
     up : path_at ms ≡ path_at ns
-    up = λ j i. path_linked ns ms h.tree (ended_linked ns k ending inside) i j
+    up = λ j i. path_linked ns ms h.tree (ended_linked ns k fate inside) i j
 
     size : length ms ≡ length ns
-    size = length-set ns k (ended_node ns k ending)
+    size = length-set ns k (ended_node ns k fate)
 
     other : (i : ℕ) → i ≢ k → node_at ms i ≡ node_at ns i
-    other i ne = elim (at_set ns k (ended_node ns k ending) i no_node inside) [
+    other i ne = elim (at_set ns k (ended_node ns k fate) i no_node inside) [
       | inl e ↦ absurd (ne e.0)
       | inr e ↦ e.1
     ]
 
     as-parked : (i : ℕ) → (node_at ms i).parked ≡ (node_at ns i).parked
-    as-parked i = elim (at_set ns k (ended_node ns k ending) i no_node inside) [
+    as-parked i = elim (at_set ns k (ended_node ns k fate) i no_node inside) [
       | inl e ↦ ap (λ (n : Node). n.parked) e.1 ∙ sym free ∙ ap (λ j. (node_at ns j).parked) (sym e.0)
       | inr e ↦ ap (λ (n : Node). n.parked) e.1
     ]
 
     procedures : procedure_in ms ≡ procedure_in ns
-    procedures = λ j i. elim (at_set ns k (ended_node ns k ending) i no_node inside) as (λ _. procedure_in ms i ≡ procedure_in ns i) [
+    procedures = λ j i. elim (at_set ns k (ended_node ns k fate) i no_node inside) as (λ _. procedure_in ms i ≡ procedure_in ns i) [
       | inl e ↦ ap (λ (n : Node). n.procedure) e.1 ∙ ap (procedure_in ns) (sym e.0)
       | inr e ↦ ap (λ (n : Node). n.procedure) e.1
     ] j
 
     lives-other : (i : ℕ) → is_live (node_at ms i) ≡ true → i ≢ k
     lives-other i live e = no_more (is_live (node_at ns i))
-        (ap (λ b. is_live (node_at ns i) && not b) (sym (same_number i k e)) ∙ sym (ended_lives ns k ending inside i) ∙ live)
+        (ap (λ b. is_live (node_at ns i) && not b) (sym (same_number i k e)) ∙ sym (ended_lives ns k fate over inside i) ∙ live)
 
     entries : instances_of ms who ≡ without (path_at ns k) (instances_of ns who)
     entries =
         let live : ℕ → Bool = λ j. is_live (node_at ns j) in
-        (λ j. map (λ i. record { path = up j i; instance = who i }) (ids_ended ns k ending inside j))
+        (λ j. map (λ i. record { path = up j i; instance = who i }) (ids_ended ns k fate over inside j))
         ∙ ap (map (entry_of ns who)) (sym (both_and live (λ j. not (nat_eq j k)) (range_with_len 0 (length ns)))
         ∙ those_same (λ j. live j && not (nat_eq j k)) (λ j. live j && not (same_path (path_at ns j) (path_at ns k))) (length ns)
         (λ j hj. ap (λ b. live j && not b) (number j k hj inside))
@@ -115,7 +115,7 @@ module _ (p : Program) (m : Machine) (who : ℕ → Instance) (at : Standing) (h
         → Agrees p (record m { outside = o; nodes = ms; places = with_hand m.places w None }) who
         (record { state = s; scheduler = sched.with_empty_hand at.scheduler w })
     end-agrees same is = record {
-      tree = tree_ended ns k ending inside childless h.tree;
+      tree = tree_ended ns k fate over inside childless h.tree;
       outside = subst (λ x. SameOutside (label p) x (length ms) o s) (sym up) (subst (λ l. SameOutside (label p) (path_at ns) l o s) (sym size) same);
       instances = is ∙ ap (without (path_at ns k)) h.instances ∙ sym entries;
       tells = λ i live.
@@ -173,7 +173,7 @@ module _ (p : Program) (m : Machine) (who : ℕ → Instance) (at : Standing) (h
   wake-agrees r w g live parked =
       let there = live_there ns r live in
       let n : Node = record (node_at ns r) { parked = None } in
-      let set = sets ns r n h.tree there (record { parent = refl; ordinal = refl; procedure = refl; ending = refl; aborted = refl; children = omega arith })
+      let set = sets ns r n h.tree there (record { parent = refl; ordinal = refl; procedure = refl; live = refl; aborted = refl; children = omega arith })
       (h.tree.sent r) in
       let one = h.waits r g live parked in
       subst (λ x. Agrees p (record m { nodes = with_parked ns r None; places = with_hand m.places w (Some g) }) x
@@ -214,15 +214,15 @@ module _ (p : Program) (m : Machine) (who : ℕ → Instance) (at : Standing) (h
       }))
 
 -- what the end of k leaves of another
-pub other-after : (ns : List Node) (r k : ℕ) (ending : Ending) → k < length ns → r ≢ k → node_at (ended ns k ending) r ≡ node_at ns r
-other-after ns r k ending h ne = elim (at_set ns k (ended_node ns k ending) r no_node h) [
+pub other-after : (ns : List Node) (r k : ℕ) (fate : Fate) → k < length ns → r ≢ k → node_at (ended ns k fate) r ≡ node_at ns r
+other-after ns r k fate h ne = elim (at_set ns k (ended_node ns k fate) r no_node h) [
   | inl e ↦ absurd (ne e.0)
   | inr e ↦ e.1
 ]
 
-pub lives-after : (ns : List Node) (r k : ℕ) (ending : Ending) → k < length ns → r ≢ k → is_live (node_at ns r) ≡ true
-    → is_live (node_at (ended ns k ending) r) ≡ true
-lives-after ns r k ending h ne live = ended_lives ns k ending h r ∙ (λ j. live j && not (other_number r k ne j))
+pub lives-after : (ns : List Node) (r k : ℕ) (fate : Fate) → lives fate ≡ false → k < length ns → r ≢ k → is_live (node_at ns r) ≡ true
+    → is_live (node_at (ended ns k fate) r) ≡ true
+lives-after ns r k fate over h ne live = ended_lives ns k fate over h r ∙ (λ j. live j && not (other_number r k ne j))
 
-pub path-after : (ns : List Node) (r k : ℕ) (ending : Ending) → IsTree ns → k < length ns → path_at (ended ns k ending) r ≡ path_at ns r
-path-after ns r k ending t h = path_linked ns (ended ns k ending) t (ended_linked ns k ending h) r
+pub path-after : (ns : List Node) (r k : ℕ) (fate : Fate) → IsTree ns → k < length ns → path_at (ended ns k fate) r ≡ path_at ns r
+path-after ns r k fate t h = path_linked ns (ended ns k fate) t (ended_linked ns k fate h) r

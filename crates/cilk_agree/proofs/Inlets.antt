@@ -42,7 +42,7 @@ deliveries-agree t slot index cell z oldest others same is =
       stands =
           same-put (label t.program) t.frame served slot index cell z
           (rest-stands (label t.program) t.frame i others i.children i.aborted i.receiver (holds t).stands) same;
-      links = record { parent = refl; ordinal = refl; procedure = refl; ending = refl; aborted = refl; children = omega arith };
+      links = record { parent = refl; ordinal = refl; procedure = refl; live = refl; aborted = refl; children = omega arith };
       parked = refl;
       from = All-drop (IsFrom t.machine.nodes t.frame.id) 1 (node_of t).waiting (t.agrees.tree.sent t.frame.id);
       tells = record {
@@ -65,7 +65,7 @@ inlets-agree t inlet arguments oldest others takes owner around is =
       stands =
           call-stands t.program t.frame (record i { waiting = others }) inlet arguments None None
           (rest-stands (label t.program) t.frame i others i.children i.aborted i.receiver (holds t).stands) takes tt (ap is_procedure owner) (λ _. around);
-      links = record { parent = refl; ordinal = refl; procedure = refl; ending = refl; aborted = refl; children = omega arith };
+      links = record { parent = refl; ordinal = refl; procedure = refl; live = refl; aborted = refl; children = omega arith };
       parked = refl;
       from = All-drop (IsFrom t.machine.nodes t.frame.id) 1 (node_of t).waiting (t.agrees.tree.sent t.frame.id);
       tells = record {

@@ -7,6 +7,7 @@ pub mod Waits
 pub mod Marks
 pub mod Births
 pub mod Ends
+pub mod Fates
 pub mod Found
 pub mod Wakes
 pub mod Sends

@@ -12,7 +12,7 @@ use Rattle.cilk_model.specs.Change.{after_return_to, after_abort}
 use Rattle.cilk_model.specs.Scheduler as sched
 use Rattle.cilk_model.specs.Run.{Standing}
 use Rattle.cilk_placed.proofs.Family.{parent-child}
-use Rattle.cilk_spawn.specs.declared.ending.Ending.TheVariants.{Returned, Aborted}
+use Rattle.cilk_spawn.specs.declared.fate.Fate.TheVariants.{Returned, Aborted}
 use Rattle.cilk_spawn.specs.Nodes.{Node, node_at, has_live_child, takes_value, delivery_of, delivered_to, path_at}
 use Rattle.cilk_spawn.proofs.Lists.{decide}
 use Rattle.cilk_spawn.proofs.Trees.{path_root, path_child}
@@ -77,7 +77,7 @@ module _ (t : Turn) where
       subst (λ o. Agrees p (without_frame t (outside_after t z None) (sent ns k z) Returned) t.who (returned-by z o))
       (sym (ap parent_of (path_root ns k parent)))
       (subst (λ ms. Agrees p (without_frame t (outside_after t z None) ms Returned) t.who (returned-by z None)) (sym (none-sent z parent))
-      (end-agrees p m t.who t.at t.agrees k t.worker Returned (inside t) childless (free t) (others t) _ _ (outside-finished z _) refl))
+      (end-agrees p m t.who t.at t.agrees k t.worker Returned refl (inside t) childless (free t) (others t) _ _ (outside-finished z _) refl))
   returned z childless (Some r) parent =
       let e = sends t r parent z childless in
       subst (λ o. Agrees p (woken (without_frame t m.outside (sent ns k z) Returned) t.worker (Some r)) (who_after t z (Some r)) (returned-by z o))
@@ -134,22 +134,23 @@ module _ (t : Turn) where
   abbrev aborted-by : Option Path → Standing
   aborted-by o = record { state = aborted; scheduler = sched.woken aborted.instances (sched.with_empty_hand t.at.scheduler t.worker) t.worker o }
 
-  gone : has_live_child ns k ≡ false
-      → Agrees p (without_frame t (freed t) ns Aborted) t.who (record { state = aborted; scheduler = sched.with_empty_hand t.at.scheduler t.worker })
-  gone childless = end-agrees p m t.who t.at t.agrees k t.worker Aborted (inside t) childless (free t) (others t) (freed t) aborted outside-freed refl
+  gone : (choice : ℕ) → has_live_child ns k ≡ false
+      → Agrees p (without_frame t (freed t) ns (Aborted choice)) t.who (record { state = aborted; scheduler = sched.with_empty_hand t.at.scheduler t.worker })
+  gone choice childless =
+      end-agrees p m t.who t.at t.agrees k t.worker (Aborted choice) refl (inside t) childless (free t) (others t) (freed t) aborted outside-freed refl
 
-  ended-of : has_live_child ns k ≡ false → (o : Option ℕ) → (node_at ns k).parent ≡ o
-      → Agrees p (woken (without_frame t (freed t) ns Aborted) t.worker o) t.who (aborted-by (parent_of (path_of t)))
-  ended-of childless None parent =
-      subst (λ o. Agrees p (without_frame t (freed t) ns Aborted) t.who (aborted-by o)) (sym (ap parent_of (path_root ns k parent))) (gone childless)
-  ended-of childless (Some r) parent =
-      let lives = lives-after ns r k Aborted (inside t) (parent_other ns k r t.agrees.tree parent) (t.agrees.tree.outlives k r parent (holds t).live) in
-      subst (λ q. Agrees p (woken (without_frame t (freed t) ns Aborted) t.worker (Some r)) t.who (aborted-by q))
-      (ap Some (path-after ns r k Aborted t.agrees.tree (inside t)) ∙ sym (parent-path r parent))
-      (woken-agrees p (without_frame t (freed t) ns Aborted) t.who _ (gone childless) r lives t.worker)
+  ended-of : (choice : ℕ) → has_live_child ns k ≡ false → (o : Option ℕ) → (node_at ns k).parent ≡ o
+      → Agrees p (woken (without_frame t (freed t) ns (Aborted choice)) t.worker o) t.who (aborted-by (parent_of (path_of t)))
+  ended-of choice childless None parent =
+      subst (λ o. Agrees p (without_frame t (freed t) ns (Aborted choice)) t.who (aborted-by o)) (sym (ap parent_of (path_root ns k parent))) (gone choice childless)
+  ended-of choice childless (Some r) parent =
+      let lives = lives-after ns r k (Aborted choice) refl (inside t) (parent_other ns k r t.agrees.tree parent) (t.agrees.tree.outlives k r parent (holds t).live) in
+      subst (λ q. Agrees p (woken (without_frame t (freed t) ns (Aborted choice)) t.worker (Some r)) t.who (aborted-by q))
+      (ap Some (path-after ns r k (Aborted choice) t.agrees.tree (inside t)) ∙ sym (parent-path r parent))
+      (woken-agrees p (without_frame t (freed t) ns (Aborted choice)) t.who _ (gone choice childless) r lives t.worker)
 
 pub returns-agree : ReturnsAgree
 returns-agree t z did childless = returned t z childless (node_at t.machine.nodes t.frame.id).parent refl
 
 pub ends-agree : EndsAgree
-ends-agree t did childless = ended-of t childless (node_at t.machine.nodes t.frame.id).parent refl
+ends-agree t choice did childless = ended-of t choice childless (node_at t.machine.nodes t.frame.id).parent refl

@@ -14,7 +14,7 @@ use Rattle.cilk_model.specs.Run.{Standing}
 use Rattle.cilk_frame.specs.Frames.{Frame}
 use Rattle.cilk_stands.specs.Stands.{StandsFor}
 use Rattle.cilk_spawn.specs.declared.delivery.Delivery.{Delivery}
-use Rattle.cilk_spawn.specs.declared.ending.Ending.TheVariants.{Returned}
+use Rattle.cilk_spawn.specs.declared.fate.Fate.TheVariants.{Returned}
 use Rattle.cilk_spawn.specs.declared.receiver.Receiver.{Receiver}
 use Rattle.cilk_spawn.specs.declared.receiver.Receiver.TheVariants as takers
 use Rattle.cilk_spawn.specs.Nodes.{Node, IsFrom, node_at, is_live, has_live_child, takes_value, delivery_of, delivered, with_waiting, ended, path_at}
@@ -95,7 +95,7 @@ module _ (t : Turn) (r : ℕ) (parent : (node_at t.machine.nodes t.frame.id).par
 
   ends : Agrees p (without_frame t t.machine.outside ns Returned) t.who before
   ends =
-      end-agrees p t.machine t.who t.at t.agrees k t.worker Returned (inside t) childless (free t) (others t) t.machine.outside gone
+      end-agrees p t.machine t.who t.at t.agrees k t.worker Returned refl (inside t) childless (free t) (others t) t.machine.outside gone
       (outside-of (label p) (path_at ns) (length ns) t.machine.outside t.at.state _ t.agrees.outside) refl
 
   same : node_at es r ≡ node_at ns r
@@ -130,7 +130,7 @@ module _ (t : Turn) (r : ℕ) (parent : (node_at t.machine.nodes t.frame.id).par
 
   set-more : Sets es (with_waiting es r ((node_at es r).waiting ++ delivery ∷ [])) r more
   set-more =
-      sets es r more ends.tree there (record { parent = refl; ordinal = refl; procedure = refl; ending = refl; aborted = refl; children = omega arith })
+      sets es r more ends.tree there (record { parent = refl; ordinal = refl; procedure = refl; live = refl; aborted = refl; children = omega arith })
       (All-push (IsFrom es r) (node_at es r).waiting delivery (ends.tree.sent r) ((ended_linked ns k Returned (inside t) k).parent ∙ parent))
 
   nodes : ended (delivered ns k z) k Returned ≡ with_waiting es r ((node_at es r).waiting ++ delivery ∷ [])

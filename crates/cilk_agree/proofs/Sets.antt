@@ -31,7 +31,7 @@ pub keeps-all : (ns : List Node) → IsTree ns → Keeps ns ns
 keeps-all ns t = record { tree = t; size = refl; up = refl; procedures = refl; lives = λ i. refl }
 
 pub links-all : (n : Node) → SameLinks n n
-links-all n = record { parent = refl; ordinal = refl; procedure = refl; ending = refl; aborted = refl; children = omega arith }
+links-all n = record { parent = refl; ordinal = refl; procedure = refl; live = refl; aborted = refl; children = omega arith }
 
 linked : (a b : Node) → SameLinks a b → Linked a b
 linked a b l = record { parent = l.parent; ordinal = l.ordinal; children = l.children }
@@ -50,11 +50,11 @@ sets ns k n t h links from =
     let l = linked (node_at ns k) n links in
     record {
       keeps = record {
-        tree = tree_set ns k n h l links.ending links.aborted from t;
+        tree = tree_set ns k n h l links.live links.aborted from t;
         size = length-set ns k n;
         up = λ j i. path_linked ns (slice_set ns k n) t (linked_set ns k n h l) i j;
         procedures = λ j i. procedure-set ns k n h links.procedure i j;
-        lives = lives_set ns k n h links.ending;
+        lives = lives_set ns k n h links.live;
       };
       own = elim (at_set ns k n k no_node h) [
         | inl e ↦ e.1

@@ -52,7 +52,7 @@ waiting-agrees t =
       parent = refl;
       ordinal = refl;
       procedure = refl;
-      ending = refl;
+      live = refl;
       aborted = refl;
       children = omega arith;
     }) (t.agrees.tree.sent k) in

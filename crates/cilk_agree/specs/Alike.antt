@@ -16,7 +16,7 @@ use Rattle.cilk_stands.specs.Stands.{node_in, bodies_of, lowest_of}
 use Rattle.cilk_spawn.specs.declared.delivery.Delivery.{Delivery}
 use Rattle.cilk_spawn.specs.declared.receiver.Receiver.{Receiver}
 use Rattle.cilk_spawn.specs.declared.receiver.Receiver.TheVariants.{Nothing, Place, Call}
-use Rattle.cilk_spawn.specs.Nodes.{Node, node_at}
+use Rattle.cilk_spawn.specs.Nodes.{Node, node_at, is_live}
 
 -- spawn n stands in body b, and its inlet is this one, which is given so many values behind the child's
 pub record CallsInlet (program : Labelled) (b n inlet : ℕ) (values : List ℤ) : Type 0 where
@@ -83,6 +83,6 @@ pub record SameLinks (a b : Node) : Type 0 where
   pub parent : b.parent ≡ a.parent
   pub ordinal : b.ordinal ≡ a.ordinal
   pub procedure : b.procedure ≡ a.procedure
-  pub ending : b.ending ≡ a.ending
+  pub live : is_live b ≡ is_live a
   pub aborted : b.aborted ≡ a.aborted
   pub children : a.children ≤ b.children

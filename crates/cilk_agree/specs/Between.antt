@@ -2,7 +2,7 @@
 use Rattle.std.specs.Prelude.{◌≡◌, ℕ, ℤ, true, false, List, [], ◌∷◌, ◌++◌, Some, None}
 use Rattle.cilk_model.specs.Places.{PlaceOf, IsWorker, hand_of, deque_of, with_hand, with_deque, pushed_by}
 use Rattle.cilk_frame.specs.Frames.{Frame}
-use Rattle.cilk_spawn.specs.declared.ending.Ending.TheVariants.{Returned, Aborted}
+use Rattle.cilk_spawn.specs.declared.fate.Fate.TheVariants.{Returned, Aborted}
 use Rattle.cilk_spawn.specs.Nodes.{Node, node_at, is_live, has_live_child, ended}
 use Rattle.cilk_agree.specs.Laws.{Turn, node_of, sent}
 
@@ -33,6 +33,6 @@ SendersCanEnd = (t : Turn) (z : ℤ) → has_live_child t.machine.nodes t.frame.
 
 -- its parent outlives it
 abbrev pub ParentsOutlive : Type 0
-ParentsOutlive = (t : Turn) (z : ℤ) (r : ℕ) → (node_of t).parent ≡ Some r → has_live_child t.machine.nodes t.frame.id ≡ false
+ParentsOutlive = (t : Turn) (z : ℤ) (choice r : ℕ) → (node_of t).parent ≡ Some r → has_live_child t.machine.nodes t.frame.id ≡ false
     → (is_live (node_at (ended (sent t.machine.nodes t.frame.id z) t.frame.id Returned) r) ≡ true)
-    × (is_live (node_at (ended t.machine.nodes t.frame.id Aborted) r) ≡ true)
+    × (is_live (node_at (ended t.machine.nodes t.frame.id (Aborted choice)) r) ≡ true)

@@ -17,10 +17,10 @@ use Rattle.cilk_placed.specs.Places.{EachInItsPlace}
 use Rattle.cilk_nodes.specs.Slots.{flat}
 use Rattle.cilk_frame.specs.Frames.{Frame}
 use Rattle.cilk_stands.specs.Stands.{StandsFor}
-use Rattle.cilk_spawn.specs.declared.ending.Ending.{Ending}
-use Rattle.cilk_spawn.specs.declared.ending.Ending.TheVariants.{Returned, Aborted}
+use Rattle.cilk_spawn.specs.declared.fate.Fate.{Fate}
+use Rattle.cilk_spawn.specs.declared.fate.Fate.TheVariants.{Returned, Aborted}
 use Rattle.cilk_spawn.specs.declared.receiver.Receiver.{Receiver}
-use Rattle.cilk_spawn.specs.Nodes.{Node, AreFrom, node_at, has_live_child, root_alone, new_child, with_child, with_parked, takes_value, delivered, ended, marked_below, descends, path_at}
+use Rattle.cilk_spawn.specs.Nodes.{Node, AreFrom, node_at, is_live, lives, with_fate, has_live_child, root_alone, new_child, with_child, with_parked, takes_value, delivered, ended, marked_below, descends, path_at}
 use Rattle.cilk_agree.specs.Outside as outside
 use Rattle.cilk_agree.specs.declared.lock.Lock.{Lock}
 use Rattle.cilk_agree.specs.declared.lock.Lock.TheVariants.{Unset, Free, Held}
@@ -41,6 +41,11 @@ opening_machine p b n f = record {
   nodes = root_alone b;
   places = with_hand (replicate n no_place) 1 (Some f);
 }
+
+-- another fate is told of an instance that lives as it did
+abbrev pub FatesAgree : Type 0
+FatesAgree = (p : Program) (m : Machine) (who : ℕ → Instance) (at : Standing) → Agrees p m who at → (k : ℕ) (fate : Fate) → k < length m.nodes
+    → lives fate ≡ is_live (node_at m.nodes k) → Agrees p (record m { nodes = with_fate m.nodes k fate }) who at
 
 abbrev pub OpeningAgrees : Type 0
 OpeningAgrees = (p : Program) (b n : ℕ) (f : Frame) → f.id ≡ 0 → StandsFor (label p) f (model.started (label p) b [])
@@ -168,8 +173,8 @@ woken m w None = m
 woken m w (Some r) = woken_by m w r (node_at m.nodes r).parked (can_go_on m.nodes r)
 
 -- the frame in the hand is spent, and its instance is no more
-abbrev pub without_frame : Turn → Outside → List Node → Ending → Machine
-without_frame t o ns ending = record t.machine { outside = o; nodes = ended ns t.frame.id ending; places = with_hand t.machine.places t.worker None }
+abbrev pub without_frame : Turn → Outside → List Node → Fate → Machine
+without_frame t o ns fate = record t.machine { outside = o; nodes = ended ns t.frame.id fate; places = with_hand t.machine.places t.worker None }
 
 -- the root's value is the program's
 abbrev pub outside_after : Turn → ℤ → Option ℕ → Outside
@@ -200,6 +205,6 @@ abbrev pub freed : Turn → Outside
 freed t = record t.machine.outside { locks = map (released t.frame.id) t.machine.outside.locks }
 
 abbrev pub EndsAgree : Type 0
-EndsAgree = (t : Turn) (did : Event) → has_live_child t.machine.nodes t.frame.id ≡ false
-    → Agrees t.program (woken (without_frame t (freed t) t.machine.nodes Aborted) t.worker (node_of t).parent) t.who
+EndsAgree = (t : Turn) (choice : ℕ) (did : Event) → has_live_child t.machine.nodes t.frame.id ≡ false
+    → Agrees t.program (woken (without_frame t (freed t) t.machine.nodes (Aborted choice)) t.worker (node_of t).parent) t.who
     (stepped t.at t.worker (path_of t) (ends (after_abort t.at.state (path_of t)) did))

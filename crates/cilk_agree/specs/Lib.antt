@@ -7,3 +7,4 @@ pub mod Locks
 pub mod Actions
 pub mod Asked
 pub mod Between
+pub mod Fated

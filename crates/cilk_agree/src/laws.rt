@@ -1,6 +1,6 @@
 //! What keeps agreement. The functions do nothing: their contracts are what is proved.
 
-ghost use Rattle.cilk_agree.specs.Laws.{OpeningAgrees, NothingIsHidden, PopsAgree, StealsAgree, LocalAgrees, WaitingAgrees, SpawnsAgree, MarksAgree, ReturnsAgree, EndsAgree};
+ghost use Rattle.cilk_agree.specs.Laws.{OpeningAgrees, NothingIsHidden, PopsAgree, StealsAgree, LocalAgrees, WaitingAgrees, SpawnsAgree, MarksAgree, ReturnsAgree, EndsAgree, FatesAgree};
 ghost use Rattle.cilk_agree.specs.Actions.{GoingAgrees, WritesAgree, CallsAgree, LeavesAgree, AnswersAgree, DeliveriesAgree, InletsAgree, PrintsAgree, LocksAgree, TrapsAgree, StartsAgree, AbortsAgree};
 ghost use Rattle.cilk_agree.specs.Asked.{AskedOf, OldestIsTold, NoneIsTold, PlacedOf};
 ghost use Rattle.cilk_agree.specs.Between.{HandsAreFilled, HandsAreRestored, HandsAreHandedOn, SendersCanEnd, ParentsOutlive};
@@ -19,7 +19,8 @@ pub fn moves_keep_agreement()
 {}
 
 /// What the instance in a worker's hand does keeps agreement: by itself, as it waits for its
-/// children, spawns, marks its descendants, returns, or ends where it was marked.
+/// children, spawns, marks its descendants, returns, or ends where it was marked. Another fate told
+/// of an instance that lives as it did keeps it too.
 pub fn steps_keep_agreement()
     ensures by_itself { LocalAgrees }
     ensures waiting { WaitingAgrees }
@@ -27,6 +28,7 @@ pub fn steps_keep_agreement()
     ensures marks { MarksAgree }
     ensures returns { ReturnsAgree }
     ensures ends { EndsAgree }
+    ensures fates { FatesAgree }
 {}
 
 /// So does each action, and each delivery that is taken.

@@ -3,7 +3,7 @@ use Rattle.std.proofs.Common.{◌≡◌, ℕ, ℤ, List, map, Option, Some, None
 use Rattle.cilk_model.specs.Places.{hand_of, with_hand}
 use Rattle.cilk_nodes.specs.declared.body.Body.{Body}
 use Rattle.cilk_frame.specs.Frames.{Frame}
-use Rattle.cilk_spawn.specs.declared.ending.Ending.TheVariants as ending
+use Rattle.cilk_spawn.specs.declared.fate.Fate.TheVariants as fate
 use Rattle.cilk_spawn.specs.Nodes.{Node, node_at, ended}
 use Rattle.cilk_agree.specs.Outside as outside
 use Rattle.cilk_agree.specs.Outside.{Outside}
@@ -26,16 +26,16 @@ closed m now w o ns parent empty same nodes places =
     places ∙ ap (λ ps. places_awake ps w (awake_in ns parent)) (sym still) in
     λ j. record { outside = same j; nodes = nodes j; places = back j }
 
-pub ended-carried : (m now : Machine) (w : ℕ) (f : Frame) (body : Option Body) (x : Plan) (told : Did) (id : ℕ) (parent : Option ℕ) → x ≡ plan.End
+pub ended-carried : (choice : ℕ) (m now : Machine) (w : ℕ) (f : Frame) (body : Option Body) (x : Plan) (told : Did) (id : ℕ) (parent : Option ℕ) → x ≡ plan.End
     → hand_of m.places w ≡ None → id ≡ f.id → parent ≡ (node_at m.nodes id).parent
     → now.outside ≡ record m.outside { locks = map (released id) m.outside.locks }
-    → now.nodes ≡ nodes_awake (ended m.nodes f.id ending.Aborted) parent
-    → now.places ≡ places_awake m.places w (awake_in (ended m.nodes f.id ending.Aborted) parent)
-    → told ≡ did.Ended id → Carried m w f body x now told
-ended-carried m now w f body x told id parent is empty own above same nodes places tells =
+    → now.nodes ≡ nodes_awake (ended m.nodes f.id (fate.Aborted choice)) parent
+    → now.places ≡ places_awake m.places w (awake_in (ended m.nodes f.id (fate.Aborted choice)) parent)
+    → told ≡ did.Ended id → Carried choice m w f body x now told
+ended-carried choice m now w f body x told id parent is empty own above same nodes places tells =
     let at : parent ≡ (node_at m.nodes f.id).parent = above ∙ ap (λ k. (node_at m.nodes k).parent) own in
-    let ns = ended m.nodes f.id ending.Aborted in
-    subst (λ y. Carried m w f body y now told) (sym is)
+    let ns = ended m.nodes f.id (fate.Aborted choice) in
+    subst (λ y. Carried choice m w f body y now told) (sym is)
     (record {
       machine = closed m now w (record m.outside { locks = map (released f.id) m.outside.locks }) ns (node_at m.nodes f.id).parent empty
           (same ∙ ap (λ k. record m.outside { locks = map (released k) m.outside.locks }) own) (nodes ∙ ap (nodes_awake ns) at)
@@ -48,16 +48,16 @@ given-is : (o : Outside) (z : ℤ) (parent : Option ℕ) → o.outcome ≡ outsi
 given-is o z None runs = refl
 given-is o z (Some r) runs = λ j. record o { outcome = sym runs j }
 
-pub returned-carried : (m now : Machine) (w : ℕ) (f : Frame) (body : Option Body) (x : Plan) (told : Did) (id n : ℕ) (z y : ℤ) (outcome : Outcome)
+pub returned-carried : (choice : ℕ) (m now : Machine) (w : ℕ) (f : Frame) (body : Option Body) (x : Plan) (told : Did) (id n : ℕ) (z y : ℤ) (outcome : Outcome)
     → x ≡ plan.Return n z → y ≡ z → hand_of m.places w ≡ None → m.outside.outcome ≡ outside.running → id ≡ f.id
     → outcome ≡ value_outcome y (node_at m.nodes f.id).parent → now.outside ≡ record m.outside { outcome = outcome_of outcome }
-    → now.nodes ≡ nodes_awake (ended (sent m.nodes f.id y) f.id ending.Returned) (node_at m.nodes f.id).parent
-    → now.places ≡ places_awake m.places w (awake_in (ended (sent m.nodes f.id y) f.id ending.Returned) (node_at m.nodes f.id).parent)
-    → told ≡ did.Returned id n → Carried m w f body x now told
-returned-carried m now w f body x told id n z y outcome is same_value empty runs own gives same nodes places tells =
+    → now.nodes ≡ nodes_awake (ended (sent m.nodes f.id y) f.id fate.Returned) (node_at m.nodes f.id).parent
+    → now.places ≡ places_awake m.places w (awake_in (ended (sent m.nodes f.id y) f.id fate.Returned) (node_at m.nodes f.id).parent)
+    → told ≡ did.Returned id n → Carried choice m w f body x now told
+returned-carried choice m now w f body x told id n z y outcome is same_value empty runs own gives same nodes places tells =
     let parent = (node_at m.nodes f.id).parent in
-    let ns : ℤ → List Node = λ v. ended (sent m.nodes f.id v) f.id ending.Returned in
-    subst (λ v. Carried m w f body v now told) (sym is)
+    let ns : ℤ → List Node = λ v. ended (sent m.nodes f.id v) f.id fate.Returned in
+    subst (λ v. Carried choice m w f body v now told) (sym is)
     (record {
       machine = closed m now w (outside_given m.outside z parent) (ns z) parent empty
           (same ∙ ap (λ (v : Outcome). record m.outside { outcome = outcome_of v }) (gives ∙ ap (λ v. value_outcome v parent) same_value)

@@ -2,6 +2,8 @@ pub mod Undone
 pub mod Released
 pub mod Closed
 pub mod Awake
+pub mod Followed
+pub mod Taken
 pub mod Agreements
 pub mod Readies
 pub mod Whole

@@ -76,7 +76,7 @@ fits program few f i globals cells stands are sizes slot index cell same =
           cell.place cell.index same.there;
     })))
 
-module _ (t : Turn) (few : CellsAreFew (label t.program)) (body : Option code.Body) where
+module _ (choice : ℕ) (t : Turn) (few : CellsAreFew (label t.program)) (body : Option code.Body) where
   acting : Acting t.machine.nodes t.frame.id
   acting = record { live = (holds t).live; free = free t }
 
@@ -89,11 +89,11 @@ module _ (t : Turn) (few : CellsAreFew (label t.program)) (body : Option code.Bo
   deeper c =
       ltb-true 1 (depth t.frame) (alone-is (label t.program) t.frame (instance_of t) (holds t).stands ∙ ap (λ below. not (is_empty below)) c.is)
 
-  needs : (x : Plan) → x ≢ plan.Wait → Starts t.program body x → IsPlan t x → Needs t.machine.nodes t.machine.outside.cells t.frame body x
+  needs : (x : Plan) → x ≢ plan.Wait → Starts t.program body x → IsPlan t x → Needs choice t.machine.nodes t.machine.outside.cells t.frame body x
   needs plan.Wait goes starts h = absurd (goes refl)
   needs plan.Park goes starts h = tt
   needs plan.End goes starts h =
-      record { acting = acting; childless = h.childless; outlives = λ r e. (parents-outlive t (pos 0) r e h.childless).1 }
+      record { acting = acting; childless = h.childless; outlives = λ r e. (parents-outlive t (pos 0) choice r e h.childless).1 }
   needs (plan.Trap kind n) goes starts h = tt
   needs (plan.Take child n reached z) goes starts h =
       fits-here t.frame (instance_of t) (holds t).stands reached.slot reached.index h.at.cell h.at.same
@@ -116,7 +116,7 @@ module _ (t : Turn) (few : CellsAreFew (label t.program)) (body : Option code.Bo
       record {
         acting = record { live = c.live; free = c.free };
         childless = c.childless;
-        outlives = λ r e. (parents-outlive t z r e h.childless).0;
+        outlives = λ r e. (parents-outlive t z choice r e h.childless).0;
       }
   needs (plan.Spawn n receiver callee arguments to) goes starts h =
       record { takes = subst (λ b. Takes b arguments) (sym starts) h.takes; room = h.room }
@@ -124,5 +124,5 @@ module _ (t : Turn) (few : CellsAreFew (label t.program)) (body : Option code.Bo
   needs (plan.Turn n lock now to) goes starts h = tt
   needs (plan.Abort n to) goes starts h = tt
 
-  pub ready : (x : Plan) → x ≢ plan.Wait → Starts t.program body x → IsPlan t x → Ready t.machine.nodes t.machine.outside.cells t.frame body x
+  pub ready : (x : Plan) → x ≢ plan.Wait → Starts t.program body x → IsPlan t x → Ready choice t.machine.nodes t.machine.outside.cells t.frame body x
   ready x goes starts h = record { acting = acting; needs = needs x goes starts h }

@@ -19,7 +19,7 @@ use Rattle.cilk_carries.proofs.Awake.{emptied, after-emptied}
 use Rattle.cilk_carries.proofs.Agreements.{leads-by}
 use Rattle.cilk_carries.proofs.Readies.{ready}
 
-module _ (parts : Parts) (w : ℕ) (body : Option Body) (x : Plan) where
+module _ (choice : ℕ) (parts : Parts) (w : ℕ) (body : Option Body) (x : Plan) where
   pub worker-there : (t : Turn) → Planned parts w body x t → IsWorker parts.hands w
   worker-there t p = subst (λ v. IsWorker parts.hands v) p.worker (subst (λ m. IsWorker m.places t.worker) p.machine t.is_worker)
 
@@ -29,25 +29,25 @@ module _ (parts : Parts) (w : ℕ) (body : Option Body) (x : Plan) where
   same-some : (f g : Frame) (o : Option Frame) → o ≡ Some f → o ≡ Some g → f ≡ g
   same-some f g o a b = let e : Some f ≡ Some g = sym a ∙ b in cc
 
-  pub ready-there : CanCarry parts w body x → (f : Frame) → hand_of parts.hands w ≡ Some f → Ready parts.tree.nodes parts.globals.items f body x
+  pub ready-there : CanCarry parts w body x → (f : Frame) → hand_of parts.hands w ≡ Some f → Ready choice parts.tree.nodes parts.globals.items f body x
   ready-there c f in_hand =
       let t = c.turn in
       let p = c.planned in
-      subst (λ g. Ready parts.tree.nodes parts.globals.items g body x) (same-some t.frame f (hand_of parts.hands w) (hand-there t p) in_hand)
-      (subst (λ m. Ready m.nodes m.outside.cells t.frame body x) p.machine (ready t c.few body x c.goes p.starts p.is_plan))
+      subst (λ g. Ready choice parts.tree.nodes parts.globals.items g body x) (same-some t.frame f (hand_of parts.hands w) (hand-there t p) in_hand)
+      (subst (λ m. Ready choice m.nodes m.outside.cells t.frame body x) p.machine (ready choice t c.few body x c.goes p.starts p.is_plan))
 
   pub carries-there : x ≢ plan.Wait → (f : Frame) (now : Parts) (done : Done) → hand_of parts.hands w ≡ Some f
-      → Carried (emptied (machine_of parts outside.running) w) w f body x (machine_of now (outcome_of done.outcome)) done.did
-      → Carries parts w body x now done
+      → Carried choice (emptied (machine_of parts outside.running) w) w f body x (machine_of now (outcome_of done.outcome)) done.did
+      → Carries choice parts w body x now done
   carries-there goes f now done in_hand c = λ t p.
       let m = machine_of parts outside.running in
       let frame = same-some f t.frame (hand_of parts.hands w) in_hand (hand-there t p) in
-      let machine : machine_of now (outcome_of done.outcome) ≡ after_plan t.machine t.worker t.frame body x =
-      c.machine ∙ after-emptied m w (worker-there t p) f body x goes ∙ (λ j. after_plan (sym p.machine j) (sym p.worker j) (frame j) body x) in
+      let machine : machine_of now (outcome_of done.outcome) ≡ after_plan choice t.machine t.worker t.frame body x =
+      c.machine ∙ after-emptied m w (worker-there t p) choice f body x goes ∙ (λ j. after_plan choice (sym p.machine j) (sym p.worker j) (frame j) body x) in
       let did : done.did ≡ did_of (length t.machine.nodes) t.frame x =
       c.did ∙ (λ j. did_of (length (sym p.machine j).nodes) (frame j) x) in
-      subst (λ y. Stepped t y done.did) (sym machine)
-      (subst (Stepped t (after_plan t.machine t.worker t.frame body x)) (sym did) (leads-by t body x goes p.starts p.is_plan))
+      subst (λ y. Stepped choice t y done.did) (sym machine)
+      (subst (Stepped choice t (after_plan choice t.machine t.worker t.frame body x)) (sym did) (leads-by choice t body x goes p.starts p.is_plan))
 
 -- what took the frame out and gave it back left all as it was
 pub given-again : (m part : Machine) (w : ℕ) (f g : Frame) (places : List (PlaceOf Frame)) → IsWorker m.places w → hand_of m.places w ≡ Some f → g ≡ f

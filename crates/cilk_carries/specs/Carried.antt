@@ -6,7 +6,7 @@ use Rattle.cilk_frame.specs.Frames as frames
 use Rattle.cilk_frame.specs.Frames.{Frame, left}
 use Rattle.cilk_stands.specs.Starts.{starts_with}
 use Rattle.cilk_stands.specs.Cells.{frame_put, globals_put}
-use Rattle.cilk_spawn.specs.declared.ending.Ending.TheVariants as ending
+use Rattle.cilk_spawn.specs.declared.fate.Fate.TheVariants as fate
 use Rattle.cilk_spawn.specs.Nodes.{Node, node_at, with_child, with_parked, taken, ended, marked_below}
 use Rattle.cilk_effects.specs.declared.reached.Reached.{Reached}
 use Rattle.cilk_agree.specs.Outside as outside
@@ -72,33 +72,33 @@ abbrev pub outside_given : Outside → ℤ → Option ℕ → Outside
 outside_given o z None = record o { outcome = outside.finished z }
 outside_given o z (Some r) = o
 
--- the machine in which w has frame f in its hand, once the plan is carried out: what it starts is this body
-abbrev pub after_plan : Machine → ℕ → Frame → Option Body → Plan → Machine
-after_plan m w f body plan.Wait = m
-after_plan m w f body plan.Park = record m { nodes = with_parked m.nodes f.id (Some f); places = with_hand m.places w None }
-after_plan m w f body plan.End =
-    handed_back m w (record m.outside { locks = map (released f.id) m.outside.locks }) (ended m.nodes f.id ending.Aborted) (node_at m.nodes f.id).parent
-after_plan m w f body (plan.Trap kind n) =
+-- the machine in which w has frame f in its hand, once the plan is carried out at this choice: what it starts is this body
+abbrev pub after_plan : ℕ → Machine → ℕ → Frame → Option Body → Plan → Machine
+after_plan choice m w f body plan.Wait = m
+after_plan choice m w f body plan.Park = record m { nodes = with_parked m.nodes f.id (Some f); places = with_hand m.places w None }
+after_plan choice m w f body plan.End =
+    handed_back m w (record m.outside { locks = map (released f.id) m.outside.locks }) (ended m.nodes f.id (fate.Aborted choice)) (node_at m.nodes f.id).parent
+after_plan choice m w f body (plan.Trap kind n) =
     with_frame (record m { outside = record m.outside { outcome = outside.trapped (kind_of kind) f.id n } }) w f
-after_plan m w f body (plan.Take child n reached z) = record (with_written m w f reached z) { nodes = taken m.nodes f.id }
-after_plan m w f body (plan.Enter child n inlet arguments) =
-    record (with_frame m w (frames.entered (starts_with body arguments None) f)) { nodes = taken m.nodes f.id }
-after_plan m w f body (plan.Go n to) = with_frame m w (gone_to to f)
-after_plan m w f body (plan.Write n reached z to) = with_written m w (gone_to to f) reached z
-after_plan m w f body (plan.Call n awaits callee arguments to) = with_frame m w (frames.entered (starts_with body arguments awaits) (gone_to to f))
-after_plan m w f body (plan.Leave n) = with_frame m w (left f)
-after_plan m w f body (plan.Answer n reached z) = with_written m w (left f) reached z
-after_plan m w f body (plan.Return n z) =
-    handed_back m w (outside_given m.outside z (node_at m.nodes f.id).parent) (ended (sent m.nodes f.id z) f.id ending.Returned) (node_at m.nodes f.id).parent
-after_plan m w f body (plan.Spawn n receiver callee arguments to) = record m {
+after_plan choice m w f body (plan.Take child n reached z) = record (with_written m w f reached z) { nodes = taken m.nodes f.id choice }
+after_plan choice m w f body (plan.Enter child n inlet arguments) =
+    record (with_frame m w (frames.entered (starts_with body arguments None) f)) { nodes = taken m.nodes f.id choice }
+after_plan choice m w f body (plan.Go n to) = with_frame m w (gone_to to f)
+after_plan choice m w f body (plan.Write n reached z to) = with_written m w (gone_to to f) reached z
+after_plan choice m w f body (plan.Call n awaits callee arguments to) = with_frame m w (frames.entered (starts_with body arguments awaits) (gone_to to f))
+after_plan choice m w f body (plan.Leave n) = with_frame m w (left f)
+after_plan choice m w f body (plan.Answer n reached z) = with_written m w (left f) reached z
+after_plan choice m w f body (plan.Return n z) =
+    handed_back m w (outside_given m.outside z (node_at m.nodes f.id).parent) (ended (sent m.nodes f.id z) f.id fate.Returned) (node_at m.nodes f.id).parent
+after_plan choice m w f body (plan.Spawn n receiver callee arguments to) = record m {
   nodes = with_child m.nodes f.id callee receiver;
   places = pushed_by m.places w (past_spawn to f) (started_as body (length m.nodes) arguments);
 }
-after_plan m w f body (plan.Print n bytes to) =
+after_plan choice m w f body (plan.Print n bytes to) =
     with_frame (record m { outside = record m.outside { output = m.outside.output ++ bytes } }) w (gone_to to f)
-after_plan m w f body (plan.Turn n lock now to) =
+after_plan choice m w f body (plan.Turn n lock now to) =
     with_frame (record m { outside = record m.outside { locks = slice_set m.outside.locks lock now } }) w (gone_to to f)
-after_plan m w f body (plan.Abort n to) = with_frame (record m { nodes = marked_below m.nodes f.id }) w (gone_to to f)
+after_plan choice m w f body (plan.Abort n to) = with_frame (record m { nodes = marked_below m.nodes f.id }) w (gone_to to f)
 
 -- what is told of it, where so many instances were ever made
 abbrev pub did_of : ℕ → Frame → Plan → Did
@@ -120,6 +120,6 @@ did_of count f (plan.Turn n lock now to) = did.Acted f.id n
 did_of count f (plan.Abort n to) = did.Acted f.id n
 
 -- one machine became another, as the plan says
-pub record Carried (m : Machine) (w : ℕ) (f : Frame) (body : Option Body) (plan : Plan) (now : Machine) (told : Did) : Type 0 where
-  pub machine : now ≡ after_plan m w f body plan
+pub record Carried (choice : ℕ) (m : Machine) (w : ℕ) (f : Frame) (body : Option Body) (plan : Plan) (now : Machine) (told : Did) : Type 0 where
+  pub machine : now ≡ after_plan choice m w f body plan
   pub did : told ≡ did_of (length m.nodes) f plan

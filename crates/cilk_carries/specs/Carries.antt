@@ -11,6 +11,7 @@ use Rattle.cilk_nodes.specs.Slots.{cells_of}
 use Rattle.cilk_spawn.specs.Nodes.{path_at}
 use Rattle.cilk_agree.specs.Outside as outside
 use Rattle.cilk_agree.specs.Agrees.{Machine, Agrees}
+use Rattle.cilk_agree.specs.Fated.{Follows}
 use Rattle.cilk_agree.specs.Laws.{Turn, path_of}
 use Rattle.cilk_plans.specs.declared.plan.Plan.{Plan}
 use Rattle.cilk_plans.specs.declared.plan.Plan.TheVariants as plan
@@ -58,13 +59,15 @@ pub record CanCarry (parts : Parts) (w : ℕ) (body : Option Body) (made : Plan)
   pub planned : Planned parts w body made turn
   pub few : CellsAreFew (label turn.program)
 
--- the step of the instance in the hand was taken, and it leads here
-pub record Stepped (t : Turn) (m : Machine) (did : Did) : Type 0 where
+-- the step of the instance in the hand was taken at this choice, and it leads here
+pub record Stepped (choice : ℕ) (t : Turn) (m : Machine) (did : Did) : Type 0 where
   pub free : waits_now (step_in t) ≡ None
   pub event : event_by (path_at t.machine.nodes) (path_at m.nodes) did ≡ event_of_step (step_in t)
   pub who : ℕ → Instance
   pub agrees : Agrees t.program m who (stepped t.at t.worker (path_of t) (step_in t))
+  -- each node keeps what became of its instance
+  pub follows : Follows (label t.program) choice t.machine.nodes m.nodes (event_of_step (step_in t))
 
 -- whatever the program and the standing were
-abbrev pub Carries : Parts → ℕ → Option Body → Plan → Parts → Done → Type 0
-Carries parts w body plan now done = (t : Turn) → Planned parts w body plan t → Stepped t (machine_of now (outcome_of done.outcome)) done.did
+abbrev pub Carries : ℕ → Parts → ℕ → Option Body → Plan → Parts → Done → Type 0
+Carries choice parts w body plan now done = (t : Turn) → Planned parts w body plan t → Stepped choice t (machine_of now (outcome_of done.outcome)) done.did

@@ -6,8 +6,8 @@ use Rattle.cilk_nodes.specs.declared.body.Body.{Body}
 use Rattle.cilk_frame.specs.Frames.{Frame, depth, left}
 use Rattle.cilk_stands.specs.Starts.{Takes}
 use Rattle.cilk_stands.specs.Reads.{lent}
-use Rattle.cilk_spawn.specs.declared.ending.Ending.{Ending}
-use Rattle.cilk_spawn.specs.declared.ending.Ending.TheVariants as ending
+use Rattle.cilk_spawn.specs.declared.fate.Fate.{Fate}
+use Rattle.cilk_spawn.specs.declared.fate.Fate.TheVariants as fate
 use Rattle.cilk_spawn.specs.Nodes.{Node, node_at, is_live, has_live_child, ended}
 use Rattle.cilk_agree.specs.Laws.{sent}
 use Rattle.cilk_agree.specs.Actions.{gone_to}
@@ -25,7 +25,7 @@ pub record Acting (ns : List Node) (k : ℕ) : Type 0 where
   pub free : (node_at ns k).parked ≡ None
 
 -- it can end, and this parent lives on
-pub record CanEnd (ns : List Node) (k : ℕ) (parent : Option ℕ) (how : Ending) : Type 0 where
+pub record CanEnd (ns : List Node) (k : ℕ) (parent : Option ℕ) (how : Fate) : Type 0 where
   pub acting : Acting ns k
   pub childless : has_live_child ns k ≡ false
   pub outlives : (r : ℕ) → parent ≡ Some r → is_live (node_at (ended ns k how) r) ≡ true
@@ -41,24 +41,24 @@ pub record CanSpawn (ns : List Node) (k : ℕ) (body : Option Body) (arguments :
   pub room : (node_at ns k).children + 1 < 2 ^ 32
 
 -- what the plan needs besides
-abbrev pub Needs : List Node → List ℤ → Frame → Option Body → Plan → Type 0
-Needs ns cells f body plan.Wait = ⊥
-Needs ns cells f body plan.Park = ⊤
-Needs ns cells f body plan.End = CanEnd ns f.id (node_at ns f.id).parent ending.Aborted
-Needs ns cells f body (plan.Trap kind n) = ⊤
-Needs ns cells f body (plan.Take child n reached z) = Fits reached.slot reached.index f cells
-Needs ns cells f body (plan.Enter child n inlet arguments) = CanEnter f body arguments
-Needs ns cells f body (plan.Go n to) = ⊤
-Needs ns cells f body (plan.Write n reached z to) = Fits reached.slot reached.index (gone_to to f) cells
-Needs ns cells f body (plan.Call n awaits callee arguments to) = CanEnter f body arguments
-Needs ns cells f body (plan.Leave n) = 1 < depth f
-Needs ns cells f body (plan.Answer n reached z) = (1 < depth f) × Fits reached.slot reached.index (left f) cells
-Needs ns cells f body (plan.Return n z) = CanEnd (sent ns f.id z) f.id (node_at ns f.id).parent ending.Returned
-Needs ns cells f body (plan.Spawn n receiver callee arguments to) = CanSpawn ns f.id body arguments
-Needs ns cells f body (plan.Print n bytes to) = ⊤
-Needs ns cells f body (plan.Turn n lock now to) = ⊤
-Needs ns cells f body (plan.Abort n to) = ⊤
+abbrev pub Needs : ℕ → List Node → List ℤ → Frame → Option Body → Plan → Type 0
+Needs choice ns cells f body plan.Wait = ⊥
+Needs choice ns cells f body plan.Park = ⊤
+Needs choice ns cells f body plan.End = CanEnd ns f.id (node_at ns f.id).parent (fate.Aborted choice)
+Needs choice ns cells f body (plan.Trap kind n) = ⊤
+Needs choice ns cells f body (plan.Take child n reached z) = Fits reached.slot reached.index f cells
+Needs choice ns cells f body (plan.Enter child n inlet arguments) = CanEnter f body arguments
+Needs choice ns cells f body (plan.Go n to) = ⊤
+Needs choice ns cells f body (plan.Write n reached z to) = Fits reached.slot reached.index (gone_to to f) cells
+Needs choice ns cells f body (plan.Call n awaits callee arguments to) = CanEnter f body arguments
+Needs choice ns cells f body (plan.Leave n) = 1 < depth f
+Needs choice ns cells f body (plan.Answer n reached z) = (1 < depth f) × Fits reached.slot reached.index (left f) cells
+Needs choice ns cells f body (plan.Return n z) = CanEnd (sent ns f.id z) f.id (node_at ns f.id).parent fate.Returned
+Needs choice ns cells f body (plan.Spawn n receiver callee arguments to) = CanSpawn ns f.id body arguments
+Needs choice ns cells f body (plan.Print n bytes to) = ⊤
+Needs choice ns cells f body (plan.Turn n lock now to) = ⊤
+Needs choice ns cells f body (plan.Abort n to) = ⊤
 
-pub record Ready (ns : List Node) (cells : List ℤ) (f : Frame) (body : Option Body) (plan : Plan) : Type 0 where
+pub record Ready (choice : ℕ) (ns : List Node) (cells : List ℤ) (f : Frame) (body : Option Body) (plan : Plan) : Type 0 where
   pub acting : Acting ns f.id
-  pub needs : Needs ns cells f body plan
+  pub needs : Needs choice ns cells f body plan

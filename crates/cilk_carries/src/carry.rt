@@ -21,22 +21,23 @@ use cilk_nodes::Body;
 use cilk_plans::Plan;
 use cilk_spawn::Ending;
 
-/// Carries out the plan of the frame in the worker's hand. The body is the one of the procedure, the
+/// Carries out the plan of the frame in the worker's hand, at this choice. The body is the one of the procedure, the
 /// C function or the inlet that the plan starts. Where memory has run out, nothing has changed.
 pub fn carry_out(
     worker: u8,
     plan: Plan,
     body: Option<&Body>,
+    choice: u64,
     parts: &mut Parts,
 ) -> Result<Done, NoMemory>
     requires turn { CanCarry parts.old worker (option_copied body) plan }
-    ensures done { IfOk result (λ done. Carries parts.old worker (option_copied body.entry) plan parts.new done) }
+    ensures done { IfOk result (λ done. Carries choice parts.old worker (option_copied body.entry) plan parts.new done) }
     ensures same { OnErr result (machine_of parts.new outside.running ≡ machine_of parts.old outside.running) }
     ensures living { OnErr result (parts.new.tree.living ≡ parts.old.tree.living) }
 {
     match parts.hands.take(worker) {
         None => unreachable!(),
-        Some(frame) => match carry(worker, frame, plan, body, parts) {
+        Some(frame) => match carry(worker, frame, plan, body, choice, parts) {
             Ok(done) => Ok(done),
             Err(frame) => {
                 parts.hands.give(worker, frame);
@@ -52,12 +53,13 @@ fn carry(
     frame: Frame,
     plan: Plan,
     body: Option<&Body>,
+    choice: u64,
     parts: &mut Parts,
 ) -> Result<Done, Frame>
     requires worker { IsWorker parts.old.hands worker }
     requires empty { hand_of parts.old.hands worker ≡ None }
-    requires ready { Ready parts.old.tree.nodes parts.old.globals.items frame (option_copied body) plan }
-    ensures done { IfOk result (λ done. Carried (machine_of parts.old outside.running) worker frame (option_copied body.entry) plan
+    requires ready { Ready choice parts.old.tree.nodes parts.old.globals.items frame (option_copied body) plan }
+    ensures done { IfOk result (λ done. Carried choice (machine_of parts.old outside.running) worker frame (option_copied body.entry) plan
         (machine_of parts.new (outcome_of done.outcome)) done.did) }
     ensures back { IfErr result (λ f. f ≡ frame) }
     ensures same { OnErr result (machine_of parts.new outside.running ≡ machine_of parts.old outside.running) }
@@ -78,6 +80,7 @@ fn carry(
                 frame,
                 parent,
                 Ending::Aborted,
+                choice,
                 &mut parts.tree,
                 &mut parts.hands,
             );
@@ -97,7 +100,7 @@ fn carry(
             value,
         } => {
             let frame = write(&mut parts.globals, frame, reached, value);
-            let _taken = parts.tree.take_delivery(id);
+            let _taken = parts.tree.take_delivery(id, choice);
             parts.hands.give(worker, frame);
             Ok(Done::running(Did::Delivered(child, n)))
         }
@@ -108,7 +111,7 @@ fn carry(
             arguments,
         } => {
             let frame = enter(frame, body, arguments.as_slice(), None)?;
-            let _taken = parts.tree.take_delivery(id);
+            let _taken = parts.tree.take_delivery(id, choice);
             parts.hands.give(worker, frame);
             Ok(Done::running(Did::Delivered(child, n)))
         }
@@ -147,7 +150,14 @@ fn carry(
             Ok(Done::running(Did::Acted(id, n)))
         }
         Plan::Return { n, value } => {
-            let outcome = give_value(worker, frame, value, &mut parts.tree, &mut parts.hands)?;
+            let outcome = give_value(
+                worker,
+                frame,
+                value,
+                choice,
+                &mut parts.tree,
+                &mut parts.hands,
+            )?;
             Ok(Done {
                 outcome,
                 did: Did::Returned(id, n),

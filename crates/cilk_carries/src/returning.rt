@@ -2,8 +2,8 @@
 
 ghost use Rattle.std.specs.Prelude.{◌≡◌, true, false, None, Some, ℕ, IfErr, IfOk, OnErr, OnOk};
 ghost use Rattle.cilk_model.specs.Places.{IsWorker, hand_of};
-ghost use Rattle.cilk_spawn.specs.declared.ending.Ending.TheVariants as ending;
-ghost use Rattle.cilk_spawn.specs.Nodes.{node_at, is_live, has_live_child, ended};
+ghost use Rattle.cilk_spawn.specs.declared.fate.Fate.TheVariants as fates;
+ghost use Rattle.cilk_spawn.specs.Nodes.{node_at, is_live, has_live_child, fate_at, ended};
 ghost use Rattle.cilk_agree.specs.Laws.{sent};
 ghost use Rattle.cilk_carries.specs.Carried.{nodes_awake, places_awake, awake_in, value_outcome};
 ghost use Rattle.cilk_carries.specs.Ready.{CanEnd};
@@ -20,19 +20,20 @@ pub(crate) fn give_value(
     worker: u8,
     frame: Frame,
     value: i32,
+    choice: u64,
     tree: &mut Tree,
     hands: &mut Hands,
 ) -> Result<Outcome, Frame>
     requires worker { IsWorker hands.old worker }
     requires empty { hand_of hands.old worker ≡ None }
     requires live { is_live (node_at tree.old.nodes frame.id) ≡ true }
-    requires end { CanEnd (sent tree.old.nodes frame.id value) frame.id (node_at tree.old.nodes frame.id).parent ending.Returned }
+    requires end { CanEnd (sent tree.old.nodes frame.id value) frame.id (node_at tree.old.nodes frame.id).parent fates.Returned }
     ensures outcome { IfOk result (λ outcome. outcome ≡ value_outcome value (node_at tree.old.nodes frame.id).parent) }
     ensures tree { OnOk result (tree.new.nodes
-        ≡ nodes_awake (ended (sent tree.old.nodes frame.id value) frame.id ending.Returned) (node_at tree.old.nodes frame.id).parent) }
+        ≡ nodes_awake (ended (sent tree.old.nodes frame.id value) frame.id fates.Returned) (node_at tree.old.nodes frame.id).parent) }
     ensures hands { OnOk result (hands.new
         ≡ places_awake hands.old worker
-        (awake_in (ended (sent tree.old.nodes frame.id value) frame.id ending.Returned) (node_at tree.old.nodes frame.id).parent)) }
+        (awake_in (ended (sent tree.old.nodes frame.id value) frame.id fates.Returned) (node_at tree.old.nodes frame.id).parent)) }
     ensures back { IfErr result (λ f. f ≡ frame) }
     ensures same_tree { OnErr result (tree.new ≡ tree.old) }
     ensures same_hands { OnErr result (hands.new ≡ hands.old) }
@@ -42,7 +43,7 @@ pub(crate) fn give_value(
     if send(tree, id, value).is_err() {
         return Err(frame);
     }
-    end(worker, frame, parent, Ending::Returned, tree, hands);
+    end(worker, frame, parent, Ending::Returned, choice, tree, hands);
     if parent.is_none() {
         Ok(Outcome::Finished(value))
     } else {
@@ -56,16 +57,17 @@ pub(crate) fn end(
     frame: Frame,
     parent: Option<Id>,
     ending: Ending,
+    choice: u64,
     tree: &mut Tree,
     hands: &mut Hands,
 )
     requires worker { IsWorker hands.old worker }
     requires empty { hand_of hands.old worker ≡ None }
-    requires end { CanEnd tree.old.nodes frame.id parent ending }
-    ensures tree { tree.new.nodes ≡ nodes_awake (ended tree.old.nodes frame.id ending) parent }
-    ensures hands { hands.new ≡ places_awake hands.old worker (awake_in (ended tree.old.nodes frame.id ending) parent) }
+    requires end { CanEnd tree.old.nodes frame.id parent (fate_at ending choice) }
+    ensures tree { tree.new.nodes ≡ nodes_awake (ended tree.old.nodes frame.id (fate_at ending choice)) parent }
+    ensures hands { hands.new ≡ places_awake hands.old worker (awake_in (ended tree.old.nodes frame.id (fate_at ending choice)) parent) }
 {
-    tree.end(frame.id(), ending);
+    tree.end(frame.id(), ending, choice);
     frame.finish();
     if let Some(parent) = parent {
         wake(worker, parent, tree, hands);

@@ -35,7 +35,7 @@ read_of (Some bytes) held limit start text same limited empty read =
     known_read
 
 -- something was read of each text
-some_read : (known : Option (List ℕ)) → (text : List ℕ) × IsReadOf known text
+pub some_read : (known : Option (List ℕ)) → (text : List ℕ) × IsReadOf known text
 some_read None = ([], tt)
 some_read (Some bytes) = (take (TEXT_LIMIT + 1) bytes, refl)
 
@@ -86,7 +86,7 @@ unready_whole bytes text failure.Memory read told = explained_whole bytes text f
 unready_whole bytes text failure.CannotRead read told = explained_whole bytes text failure.CannotRead read told
 unready_whole bytes text failure.CannotWrite read told = explained_whole bytes text failure.CannotWrite read told
 
-reason_held : (known : Option (List ℕ)) (text : List ℕ) (why : Failure) → IsReadOf known text → Unready text why → Held known (λ bytes. Unready bytes why)
+pub reason_held : (known : Option (List ℕ)) (text : List ℕ) (why : Failure) → IsReadOf known text → Unready text why → Held known (λ bytes. Unready bytes why)
 reason_held None text why read told = record { bytes = text; held = tt; are = told }
 reason_held (Some bytes) text why read told = record { bytes = bytes; held = refl; are = unready_whole bytes text why read told }
 
@@ -103,7 +103,7 @@ gives_up explain name ended known old new text why read reason is told = record 
   told = told.1.1;
 }
 
-unexplained : (explain : Bool) (text : List ℕ) (why : Failure) → status_of why ≢ status.Refused → IsExplanation explain text why []
+pub unexplained : (explain : Bool) (text : List ℕ) (why : Failure) → status_of why ≢ status.Refused → IsExplanation explain text why []
 unexplained true text (failure.Fault found line column) other = inl refl
 unexplained false text (failure.Fault found line column) other = refl
 unexplained true text failure.NotUtf8 other = refl

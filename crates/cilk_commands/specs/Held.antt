@@ -6,6 +6,10 @@ use Rattle.cilk_lex.specs.declared.reading.TheConstants.{TEXT_LIMIT}
 abbrev pub IsReadOf : Option (List ℕ) → List ℕ → Type 0
 IsReadOf known text = IfSome known (λ bytes. text ≡ take (TEXT_LIMIT + 1) bytes)
 
+-- all of the bytes, where they are known
+abbrev pub IsAllOf : Option (List ℕ) → List ℕ → Type 0
+IsAllOf known bytes = IfSome known (λ all. bytes ≡ all)
+
 -- the bytes that a reader held are so; where those are not known, some are
 pub record Held (known : Option (List ℕ)) (Are : List ℕ → Type 0) : Type 0 where
   pub bytes : List ℕ

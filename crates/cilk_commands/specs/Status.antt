@@ -17,6 +17,7 @@ code_of status.Limit = 5
 code_of status.Memory = 6
 code_of status.CannotRead = 7
 code_of status.CannotWrite = 7
+code_of status.CannotRecord = 7
 
 -- a text that is no program that may be run is refused; any other failure has its own status
 abbrev pub status_of : Failure → Status
@@ -45,3 +46,4 @@ is_answer status.Usage = false
 is_answer status.Memory = false
 is_answer status.CannotRead = false
 is_answer status.CannotWrite = false
+is_answer status.CannotRecord = false

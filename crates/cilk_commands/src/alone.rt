@@ -1,9 +1,9 @@
 //! A program that one worker moves.
 
-ghost use Rattle.std.specs.Prelude.{◌≡◌, ◌<◌, ◌-◌, ◌^◌, false, IfOk, IfErr, OnOk};
+ghost use Rattle.std.specs.Prelude.{◌≡◌, ◌<◌, ◌-◌, ◌^◌, false, IfOk, IfErr};
 ghost use Rattle.cilk_check.specs.Fault.{WellFormed};
+ghost use Rattle.cilk_choices.specs.Words.{choice_of};
 ghost use Rattle.cilk_labelled.specs.Bodies.{label};
-ghost use Rattle.cilk_model.specs.Choice as model;
 ghost use Rattle.cilk_model.specs.Event as event;
 ghost use Rattle.cilk_model.specs.End.{is_stuck};
 ghost use Rattle.cilk_model.specs.Run.{Standing};
@@ -51,23 +51,23 @@ pub fn run_alone(alloc: Global, program: Loaded, limit: u32) -> Result<Machine, 
     Ok(machine)
 }
 
-// The one worker makes the next choice.
-fn go_on(machine: &mut Machine) -> Result<(), Failure>
+/// The one worker makes the next choice, which is told.
+pub fn go_on(machine: &mut Machine) -> Result<Choice, Failure>
     requires well_formed { WellFormed machine.old.program }
     requires alone { workers_of machine.old ≡ 1 }
     requires runs { machine.old.outcome ≡ Outcome.Running }
     requires goes { (at : Standing)
         × (StandsAt machine.old at × (is_stuck (label machine.old.program) at ≡ false)) }
     requires room { machine.old.choices < 2 ^ 64 - 1 }
-    ensures ok { OnOk result ((choice : model.Choice) × (did : event.Event)
-        × Makes machine.old machine.new choice did) }
+    ensures ok { IfOk result (λ choice. (did : event.Event)
+        × Makes machine.old machine.new (choice_of choice) did) }
     ensures err { IfErr result (λ why. why ≡ Failure.Memory) }
 {
     one_worker_goes_on();
     match machine.advance(STEP) {
-        Ok(_) => Ok(()),
+        Ok(_) => Ok(STEP),
         Err(Refusal::HandEmpty) => match machine.advance(POP) {
-            Ok(_) => Ok(()),
+            Ok(_) => Ok(POP),
             Err(_) => unreachable!(),
         },
         Err(Refusal::Memory) => Err(Failure::Memory),

@@ -21,7 +21,7 @@ pub fn write_answer<W: Write>(out: &mut W, answer: &[u8]) -> Result<(), Failure>
 }
 
 /// Writes these texts one after the other.
-pub(crate) fn write_parts<W: Write>(out: &mut W, parts: &[&str]) -> io::Result<()>
+pub fn write_parts<W: Write>(out: &mut W, parts: &[&str]) -> io::Result<()>
     ensures ok { OnOk result
         (Appends (W.contents out.old) (W.contents out.new) (flat_map (λ part. part.now) parts.now)) }
     ensures front { OnErr result

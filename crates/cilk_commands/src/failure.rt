@@ -73,11 +73,12 @@ impl Failure {
         ensures front { OnErr result
             (AppendsFront (W.contents err.old) (W.contents err.new) (line_of name.now self.now ++ behind.now)) }
     {
-        self.tell(name, err)?;
+        self.write_line(name, err)?;
         write_whole(err, behind.as_bytes())
     }
 
-    fn tell<W: Write>(&self, name: &str, err: &mut W) -> io::Result<()>
+    /// Writes the line that tells of it, where `name` is the name of the text.
+    pub fn write_line<W: Write>(&self, name: &str, err: &mut W) -> io::Result<()>
         ensures ok { OnOk result
             (Appends (W.contents err.old) (W.contents err.new) (line_of name.now self.now)) }
         ensures front { OnErr result

@@ -18,12 +18,15 @@ mod source;
 mod status;
 mod telling;
 
-pub use alone::run_alone;
+pub use alone::{go_on, run_alone};
+pub use answer::{write_answer, write_parts};
 pub use check::check_text;
 pub use failure::Failure;
 pub use fault::Fault;
 pub use loading::ready_of;
 pub use print::print_text;
 pub use program::program_of;
-pub use run::run_text;
+pub use run::{run_text, status_at};
+pub use source::{read_all, read_text};
 pub use status::Status;
+pub use telling::tell_of;

@@ -76,7 +76,8 @@ fn run<W: Write>(alloc: Global, limit: u32, text: &[u8], out: &mut W) -> Result<
     Ok(status_at(&end))
 }
 
-fn status_at(end: &End) -> Status
+/// The status that tells how a run ended.
+pub fn status_at(end: &End) -> Status
     ensures { result ≡ status_at (end_of end.now) }
 {
     match end {

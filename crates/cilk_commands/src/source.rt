@@ -1,18 +1,19 @@
-ghost use Rattle.std.specs.Prelude.{◌≢◌, IfOk, IfErr};
-ghost use Rattle.cilk_commands.specs.Held.{IsReadOf};
+ghost use Rattle.std.specs.Prelude.{◌≢◌, ◌≡◌, ◌⊎◌, IfOk, IfErr};
+ghost use Rattle.cilk_commands.specs.Held.{IsReadOf, IsAllOf};
 ghost use Rattle.cilk_commands.specs.Status.{status_of};
 
 use crate::failure::Failure;
 use crate::status::Status;
 use cilk_lex::TEXT_LIMIT;
 use std::alloc::Global;
+use std::io;
 use std::io::{ErrorKind, Read};
 
 // One byte more than a text may have, so that a longer one is seen.
 const MOST_BYTES: u64 = TEXT_LIMIT as u64 + 1;
 
 /// The bytes that a reader holds, or as many as tell that they are too many.
-pub(crate) fn read_text<R: Read>(alloc: Global, reader: &mut R) -> Result<Vec<u8>, Failure>
+pub fn read_text<R: Read>(alloc: Global, reader: &mut R) -> Result<Vec<u8>, Failure>
     ensures ok { IfOk result (λ text. IsReadOf (R.remaining reader.old) text.items) }
     ensures status { IfErr result (λ why. status_of why ≢ Status.Refused) }
     ensures reads { IfErr result (λ why. status_of why ≢ Status.CannotWrite) }
@@ -20,7 +21,27 @@ pub(crate) fn read_text<R: Read>(alloc: Global, reader: &mut R) -> Result<Vec<u8
     let mut bytes = Vec::new(alloc);
     match reader.take(MOST_BYTES).read_to_end(&mut bytes) {
         Ok(_) => Ok(bytes),
-        Err(error) if error.kind() == ErrorKind::OutOfMemory => Err(Failure::Memory),
-        Err(_) => Err(Failure::CannotRead),
+        Err(error) => Err(unread(&error)),
+    }
+}
+
+/// The bytes that a reader holds, however many they are.
+pub fn read_all<R: Read>(alloc: Global, reader: &mut R) -> Result<Vec<u8>, Failure>
+    ensures ok { IfOk result (λ bytes. IsAllOf (R.remaining reader.old) bytes.items) }
+    ensures err { IfErr result (λ why. (why ≡ Failure.Memory) ⊎ (why ≡ Failure.CannotRead)) }
+{
+    let mut bytes = Vec::new(alloc);
+    match reader.read_to_end(&mut bytes) {
+        Ok(_) => Ok(bytes),
+        Err(error) => Err(unread(&error)),
+    }
+}
+
+fn unread(error: &io::Error) -> Failure
+    ensures { (result ≡ Failure.Memory) ⊎ (result ≡ Failure.CannotRead) }
+{
+    match error.kind() {
+        ErrorKind::OutOfMemory => Failure::Memory,
+        _ => Failure::CannotRead,
     }
 }

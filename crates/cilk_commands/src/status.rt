@@ -21,6 +21,8 @@ pub enum Status {
     CannotRead,
     /// The output failed, so that a part of the answer may be written.
     CannotWrite,
+    /// The recorded schedule cannot be written, so that there is no answer.
+    CannotRecord,
 }
 
 impl Status {
@@ -38,7 +40,7 @@ impl Status {
             Status::Stuck => 4,
             Status::Limit => 5,
             Status::Memory => 6,
-            Status::CannotRead | Status::CannotWrite => 7,
+            Status::CannotRead | Status::CannotWrite | Status::CannotRecord => 7,
         }
     }
 }

@@ -16,7 +16,7 @@ use std::io::Write;
 
 /// Writes the line that tells of a failure with the text of this name and these bytes, and behind it, if it is asked for,
 /// what explains it; returns the status. What cannot be written is lost, as is an explanation for which memory runs out.
-pub(crate) fn tell_of<E: Write>(
+pub fn tell_of<E: Write>(
     alloc: Global,
     name: &str,
     explain: bool,

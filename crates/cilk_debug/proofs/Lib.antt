@@ -1,1 +1,7 @@
+pub mod Ranges
+pub mod Seen
 pub mod Sound
+pub mod Stops
+mod Sessions
+mod Commands
+mod Ends

@@ -16,6 +16,8 @@ use Rattle.cilk_replay.proofs.Whole.{none_is_bad}
 use Rattle.cilk_debug.specs.declared.fault.DebugFault.{DebugFault}
 use Rattle.cilk_debug.specs.declared.fault.DebugFault.TheVariants.{Workers, BadChoice, AtEnd, AtStart, NoStatement, OutOfRange, Memory}
 use Rattle.cilk_debug.specs.Debugging.{IsSound}
+use Rattle.cilk_debug.specs.Seeking.{Stopped}
+use Rattle.cilk_debug.proofs.Stops.{stands_there}
 use Rattle.cilk_debug.specs.Faults.{Tells}
 
 crew_by : (program : Labelled) (n : ℕ) (main : Option ℕ) (choices : List Choice) (at : Position) → is_crew n ≡ false → after_main program n main choices ≡ Some at → ⊥
@@ -63,3 +65,13 @@ sound_again program workers xs ys m n marks at sound same e within next =
     sound_at t (suc at) n marks sound.whole (omega arith)
     (next t (ap (map choice_of) (sym same)) (subst (λ (k : ℕ). IsAt t k m) (sym e) sound.stands))
     sound.marked
+
+-- where a move to a breakpoint ends
+pub sound_stopped : (program : Program) (workers : ℕ) (xs ys : List code.Choice) (marks rest : List Bool) (old m n : Situation) (k : ℕ) (found : Bool)
+    → IsSound (tape_of program workers xs) old marks → ys ≡ xs → IsAt (tape_of program workers xs) k m → n.choices ≤ length ys
+    → ((t : Tape) → t.choices ≡ map choice_of ys → IsAt t m.choices m → Stopped t rest m.choices n found) → IsSound (tape_of program workers xs) n marks
+sound_stopped program workers xs ys marks rest old m n k found sound same h within stopped =
+    let t = tape_of program workers xs in
+    let end : Stopped t rest m.choices n found = stopped t (ap (map choice_of) (sym same)) (stands_there t k m h) in
+    let count : length t.choices ≡ length ys = length-map xs choice_of ∙ ap length (sym same) in
+    sound_at t n.choices n marks sound.whole (omega arith) end.stands sound.marked

@@ -1,4 +1,11 @@
 pub mod Breaks
 pub mod Debugging
+pub mod Ending
 pub mod Faults
 pub mod Moves
+pub mod Obeying
+pub mod Replies
+pub mod Rows
+pub mod Seeing
+pub mod Seeking
+pub mod Session

@@ -1,14 +1,20 @@
-ghost use Rattle.std.specs.Prelude.{◌≡◌, ◌≤◌, ◌<◌, ◌+◌, ℕ, ◌-◌, IfOk, IfErr, OnOk, OnErr, length, replicate, slice_set, true, false};
+ghost use Rattle.std.specs.Prelude.{◌≡◌, ◌≤◌, ◌<◌, ◌+◌, ℕ, ◌-◌, IfOk, IfErr, OnOk, OnErr, IfSome, length, replicate, slice_set, true, false, Err, ◌++◌, string_bytes, List};
 ghost use Rattle.cilk_labelled.specs.Count.{count_program};
-ghost use Rattle.cilk_replay.specs.Tape.{tape_of, IsAt};
+ghost use Rattle.cilk_model.specs.Run.{is_crew};
+ghost use Rattle.cilk_replay.specs.Tape.{tape_of, IsAt, IsPlayable};
 ghost use Rattle.cilk_debug.specs.Faults.{Tells};
 ghost use Rattle.cilk_debug.specs.Moves.{StaysBehind, StaysAhead, StaysFrom, HasNo};
+ghost use Rattle.cilk_view.specs.Words.{what_of};
+ghost use Rattle.cilk_debug.specs.Seeing.{seen_at, line_behind};
+ghost use Rattle.cilk_debug.specs.Seeking.{forward_position, is_any_ahead, back_position, is_any_behind, last_among};
 
 use crate::fault::DebugFault;
+use crate::position::put_position;
+use crate::seeking::{last_met, run_on};
 use cilk_load::Loaded;
 use cilk_log::Log;
-use cilk_machine::Machine;
-use cilk_replay::{ReplayFault, make_again, play};
+use cilk_machine::{Machine, Memory, ViewFault, What};
+use cilk_replay::{ReplayFault, is_crew, make_again, play};
 use std::alloc::Global;
 use std::marker::Model;
 
@@ -40,6 +46,11 @@ impl Model for Debugger {
 }
 
 impl Debugger {
+    /// What its memory is taken of.
+    pub(crate) fn allocator(&self) -> Global {
+        self.alloc
+    }
+
     /// How many choices led to where it stands.
     pub fn position(&self) -> u64
         ensures { result ≡ self.now.position }
@@ -54,13 +65,19 @@ impl Debugger {
         self.log.choices.len() as u64
     }
 
-    /// Before any choice of a recorded schedule, all of which are possible.
+    /// Before any choice of a recorded schedule, all of which are possible. The number of workers is
+    /// looked at before any memory is asked for.
     pub fn new(alloc: Global, program: Loaded, log: Log) -> Result<Debugger, DebugFault>
         ensures tape { IfOk result (λ d. d.tape ≡ tape_of program log.workers log.choices) }
         ensures start { IfOk result (λ d. d.position ≡ 0) }
         ensures marks { IfOk result (λ d. d.marks ≡ replicate (count_program program) false) }
+        ensures whole { IfOk result (λ d. IsPlayable d.tape) }
         ensures told { IfErr result (Tells (tape_of program log.workers log.choices)) }
+        ensures crew { is_crew log.workers ≡ false → result ≡ Err DebugFault.Workers }
     {
+        if !is_crew(log.workers) {
+            return Err(DebugFault::Workers);
+        }
         match played(alloc, &program, &log, log.choices.len()) {
             Err(fault) => Err(fault),
             Ok(_) => match played(alloc, &program, &log, 0) {
@@ -124,6 +141,78 @@ impl Debugger {
         self.stand_at(k as usize)
     }
 
+    /// To the next position behind a choice that does something where a breakpoint is set, or behind
+    /// all choices; whether there is one. Each choice is made at most once.
+    pub fn forward_to_break(&mut self) -> Result<bool, DebugFault>
+        ensures moved { OnOk result (self.new ≡ record self.old { position = forward_position self.old }) }
+        ensures found { IfOk result (λ found. found ≡ is_any_ahead self.old) }
+        ensures within { OnOk result (self.old.position < length self.old.tape.choices) }
+        ensures told { IfErr result (StaysBehind self.old) }
+        ensures same { OnErr result (self.new ≡ self.old) }
+    {
+        let at = self.machine.choices() as usize;
+        if self.log.choices.len() <= at {
+            return Err(DebugFault::AtEnd);
+        }
+        match self.machine_at(at) {
+            Err(fault) => Err(fault),
+            Ok(machine) => {
+                match run_on(machine, self.log.choices.as_slice(), self.marks.as_slice()) {
+                    Err(fault) => Err(fault),
+                    Ok((machine, found)) => {
+                        self.machine = machine;
+                        Ok(found)
+                    }
+                }
+            }
+        }
+    }
+
+    /// To the last position before this one behind a choice that does something where a breakpoint is
+    /// set, or before any choice; whether there is one. Each choice is made at most twice.
+    pub fn back_to_break(&mut self) -> Result<bool, DebugFault>
+        ensures moved { OnOk result (self.new ≡ record self.old { position = back_position self.old }) }
+        ensures found { IfOk result (λ found. found ≡ is_any_behind self.old) }
+        ensures within { OnOk result (0 < self.old.position) }
+        ensures told { IfErr result (StaysAhead self.old) }
+        ensures same { OnErr result (self.new ≡ self.old) }
+    {
+        let at = self.machine.choices() as usize;
+        if at == 0 {
+            return Err(DebugFault::AtStart);
+        }
+        match self.last_stop(at - 1) {
+            Err(fault) => Err(fault),
+            Ok(None) => match self.stand_at(0) {
+                Err(fault) => Err(fault),
+                Ok(()) => Ok(false),
+            },
+            Ok(Some(k)) => match self.stand_at(k) {
+                Err(fault) => Err(fault),
+                Ok(()) => Ok(true),
+            },
+        }
+    }
+
+    // The number, counted from 1, of the last of the first `count` choices that does something where a
+    // breakpoint is set.
+    fn last_stop(&self, count: usize) -> Result<Option<usize>, DebugFault>
+        requires { count ≤ length self.now.tape.choices }
+        ensures last { IfOk result (λ last. last ≡ last_among self.now.tape self.now.marks count) }
+        ensures within { IfOk result (λ last. IfSome last (λ k. k ≤ count)) }
+        ensures memory { IfErr result (λ why. why ≡ DebugFault.Memory) }
+    {
+        match self.machine_at(0) {
+            Err(fault) => Err(fault),
+            Ok(machine) => last_met(
+                machine,
+                self.log.choices.as_slice(),
+                self.marks.as_slice(),
+                count,
+            ),
+        }
+    }
+
     // A new machine goes there from the start, so that the old one stays where memory runs out.
     fn stand_at(&mut self, k: usize) -> Result<(), DebugFault>
         requires { k ≤ length self.old.tape.choices }
@@ -171,6 +260,40 @@ impl Debugger {
         }
         self.marks[n as usize - 1] = mark;
         Ok(())
+    }
+
+    /// The text of a view of where the program stands. There is none of the frame of what does not
+    /// live.
+    pub fn view(&self, what: &What) -> Result<String, ViewFault>
+        ensures text { IfOk result (λ text. seen_at self.now (what_of what.now) ≡ Some (string_bytes text)) }
+        ensures fault { result ≡ Err ViewFault.NoInstance → seen_at self.now (what_of what.now) ≡ None }
+    {
+        match self.machine.text(what) {
+            Err(fault) => Err(fault),
+            Ok(text) => match what {
+                What::Where => match self.behind_position(text.as_str()) {
+                    Err(memory) => Err(ViewFault::Memory(memory)),
+                    Ok(all) => Ok(all),
+                },
+                _ => Ok(text),
+            },
+        }
+    }
+
+    // The text behind the line on the position.
+    fn behind_position(&self, text: &str) -> Result<String, Memory>
+        ensures { IfOk result (λ all. string_bytes all ≡ line_behind self.now.tape self.now.position ++ text.now) }
+    {
+        let mut all = String::new(self.alloc);
+        put_position(
+            &mut all,
+            &self.program,
+            self.machine.outcome(),
+            self.position(),
+            self.length(),
+        )?;
+        all.push_str(text)?;
+        Ok(all)
     }
 
     // The machine behind the first k choices. All of them are possible, so that only memory may be wanting.

@@ -2,9 +2,18 @@
 #![tactic(auto)]
 
 mod debugger;
+mod ending;
 mod fault;
+mod obeying;
+mod position;
+mod reply;
+mod seeking;
+mod session;
 mod stopping;
 
+pub use cilk_console::ReadFault;
 pub use cilk_log::Log;
+pub use cilk_machine::{ViewFault, What};
 pub use debugger::Debugger;
+pub use ending::SessionFault;
 pub use fault::DebugFault;

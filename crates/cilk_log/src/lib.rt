@@ -15,5 +15,6 @@ pub use cilk_choices::{Act, Choice, Memory};
 pub use fault::LogFault;
 pub use laws::one_text_each;
 pub use log::Log;
+pub use number::number_in;
 pub use reading::read_log;
 pub use writing::write_log;

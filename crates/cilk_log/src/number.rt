@@ -7,7 +7,7 @@ ghost use Rattle.std.specs.Str.Parse.{digits_value};
 ghost use Rattle.cilk_log.specs.Reading.{is_decimal, number_in};
 
 /// The number that a text spells, up to the most that it may be.
-pub(crate) fn number_in(text: &[u8], most: u64) -> Option<u64>
+pub fn number_in(text: &[u8], most: u64) -> Option<u64>
     ensures { result ≡ number_in most text.now }
 {
     if !is_decimal(text) {

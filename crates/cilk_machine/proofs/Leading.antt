@@ -1,5 +1,5 @@
 -- A choice that is made leads on with every list of choices.
-use Rattle.std.proofs.Common.{◌≡◌, ℕ, ◌+◌, ◌≤◌, List, [], ◌∷◌, ◌++◌, length, Option, Some, None, is_none, refl, sym, ap, ◌∙◌, subst, length-append, if◌then◌else◌}
+use Rattle.std.proofs.Common.{◌≡◌, ℕ, suc, ◌+◌, ◌≤◌, List, [], ◌∷◌, ◌++◌, length, Option, Some, None, is_none, is_some, refl, sym, ap, ◌∙◌, subst, length-append, arith, if◌then◌else◌}
 use Rattle.cilk_check.specs.Fault.{WellFormed}
 use Rattle.cilk_labelled.specs.Bodies.{label}
 use Rattle.cilk_model.specs.Choice as model
@@ -10,7 +10,12 @@ use Rattle.cilk_model.specs.Run.{Standing, after, one_more, position_after, next
 use Rattle.cilk_model.specs.Places.{popped_by, stolen_by}
 use Rattle.cilk_placed.proofs.Runs.{after-push}
 use Rattle.cilk_placed.proofs.Crew.{crew_stays}
+use Rattle.cilk_fates.proofs.Fates.{the_living_live, each_choice_is_an_event}
+use Rattle.cilk_fated.specs.Laws.{LivingAreTold}
+use Rattle.cilk_fated.proofs.Kept.{fates-are-kept}
+use Rattle.cilk_spawn.specs.Nodes.{path_at}
 use Rattle.cilk_agree.specs.Agrees.{Machine, Agrees, read_off}
+use Rattle.cilk_agree.specs.Fated.{Follows, Fated}
 use Rattle.cilk_agree.proofs.Asked.{placed}
 use Rattle.cilk_agree.proofs.Found.{read-agrees}
 use Rattle.cilk_agree.proofs.Waits.{pop, steal}
@@ -35,6 +40,7 @@ pub record Next (m : Situation) (now : Machine) (outcome : Outcome) (choice : mo
   pub outcome_is : outcome_of outcome ≡ (next_of (label m.program) at choice).state.outcome
   pub who : ℕ → Instance
   pub agrees : Agrees m.program now who (next_of (label m.program) at choice)
+  pub follows : Follows (label m.program) (m.choices + 1) m.machine.nodes now.nodes did
 
 -- whatever list of choices led here
 abbrev pub Goes : Situation → Machine → Outcome → model.Choice → Event → Type 0
@@ -60,6 +66,23 @@ module _ (m : Situation) (now : Machine) (outcome : Outcome) (choice : model.Cho
       ∙ crew_stays (label m.program) (workers_of m) (choices ++ choice ∷ []) (record { standing = next_of (label m.program) at choice; events = events ++ did ∷ [] })
       (after-one choices events at h n)
 
+  -- whoever lives is told so
+  told_alive : (choices : List model.Choice) (events : List Event) (at : Standing) → Led m choices events at → Next m now outcome choice did at
+      → LivingAreTold now.nodes (events ++ did ∷ [])
+  told_alive choices events at h n i live =
+      let known = placed m.program now n.who (next_of (label m.program) at choice) n.agrees in
+      (the_living_live (label m.program) (workers_of m) (choices ++ choice ∷ []) (record { standing = next_of (label m.program) at choice; events = events ++ did ∷ [] })
+      (after-one choices events at h n) (path_at now.nodes i)).1
+      (ap is_some (known.found i live))
+
+  fated_on : (choices : List model.Choice) (events : List Event) (at : Standing) → Led m choices events at → Next m now outcome choice did at
+      → Fated (label m.program) now.nodes (events ++ did ∷ [])
+  fated_on choices events at h n =
+      let many = each_choice_is_an_event (label m.program) (workers_of m) choices (record { standing = at; events = events }) h.led in
+      let number : m.choices + 1 ≡ suc (length events) = (let c = h.counted in omega (arith, many, c)) in
+      fates-are-kept (label m.program) m.machine.nodes now.nodes events did n.agrees.tree h.fated
+      (subst (λ k. Follows (label m.program) k m.machine.nodes now.nodes did) number n.follows) (told_alive choices events at h n)
+
   leads_on : length now.places ≡ workers_of m → (choices : List model.Choice) (events : List Event) (at : Standing) → Led m choices events at
       → Next m now outcome choice did at → Leads m (moved_to m now outcome) choice did choices events at
   leads_on crew choices events at h n = record {
@@ -70,6 +93,7 @@ module _ (m : Situation) (now : Machine) (outcome : Outcome) (choice : model.Cho
       counted = length-append choices (choice ∷ []) ∙ ap (λ k. k + 1) h.counted;
       outcome = n.outcome_is;
       agrees = read-agrees m.program now n.who (next_of (label m.program) at choice) n.agrees;
+      fated = fated_on choices events at h n;
     };
   }
 
@@ -109,6 +133,10 @@ pub free-is : (m : Situation) → WellFormed m.program → (choice : Choice) →
     → (choices : List model.Choice) (events : List Event) (at : Standing) → Led m choices events at → refused m at (choice_of choice) ≡ None
 free-is m well choice free choices events at h = refusal-is m well choices events at h choice ∙ ap reason_by free
 
+-- no fate is changed
+moved-follows : (m : Situation) → Follows (label m.program) (m.choices + 1) m.machine.nodes m.machine.nodes event.moved
+moved-follows m = record { births = refl; stays = λ i lt. record { path = refl; procedure = refl; fate = refl } }
+
 -- a frame is moved, and nothing else
 pub makes-pop : (m : Situation) → IsSound m → (w : ℕ) → refused_by m (record { worker = w; act = Pop }) ≡ None
     → Makes m (moved_to m (record m.machine { places = popped_by m.machine.places w }) m.outcome) (record { worker = w; act = model.pop }) event.moved
@@ -120,6 +148,7 @@ makes-pop m sound w free =
       outcome_is = h.outcome;
       who = read_off m.program m.machine at;
       agrees = pop m.program m.machine (read_off m.program m.machine at) at h.agrees w;
+      follows = moved-follows m;
     })
 
 pub makes-steal : (m : Situation) → IsSound m → (w v : ℕ) → refused_by m (record { worker = w; act = Steal v }) ≡ None
@@ -132,4 +161,5 @@ makes-steal m sound w v free =
       outcome_is = h.outcome;
       who = read_off m.program m.machine at;
       agrees = steal m.program m.machine (read_off m.program m.machine at) at h.agrees w v;
+      follows = moved-follows m;
     })

@@ -9,3 +9,5 @@ pub mod Anyone
 pub mod Stuckness
 pub mod Idle
 pub mod Openings
+pub mod Shown
+pub mod Fates

@@ -30,6 +30,8 @@ use Rattle.cilk_spawn.specs.Nodes.{root_alone}
 use Rattle.cilk_sched.proofs.Seats.{workers-of-hand}
 use Rattle.cilk_agree.specs.declared.lock.Lock.TheVariants.{Unset}
 use Rattle.cilk_agree.specs.Outside as outside
+use Rattle.cilk_agree.specs.Fated.{Fated}
+use Rattle.cilk_fated.proofs.Kept.{roots-are-fated}
 use Rattle.cilk_agree.specs.Agrees.{Agrees, read_off}
 use Rattle.cilk_agree.specs.Laws.{opening_machine}
 use Rattle.cilk_agree.proofs.Opens.{opening-agrees}
@@ -200,6 +202,7 @@ module _ (p : Program) (n b : ℕ) (f : Frame) (parts : Parts) (low : 1 ≤ n) (
     counted = refl;
     outcome = refl;
     agrees = agrees;
+    fated = subst (λ ns. Fated (label p) ns []) (sym first.nodes) (roots-are-fated (label p) b main);
   }
 
   pub opened-sound : WellFormed p → IsSound (before_any p parts)

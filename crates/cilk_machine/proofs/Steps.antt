@@ -1,5 +1,5 @@
 -- The step of the instance in a worker's hand, carried out.
-use Rattle.std.proofs.Common.{◌≡◌, ℕ, Option, Some, None, refl, sym, ap, ◌∙◌, subst, arith}
+use Rattle.std.proofs.Common.{◌≡◌, ℕ, ◌+◌, Option, Some, None, refl, sym, ap, ◌∙◌, subst, arith}
 use Rattle.std.specs.Prelude.{List, option_map}
 use Rattle.cilk_syntax.specs.Tree.{Program}
 use Rattle.cilk_check.specs.Fault.{WellFormed}
@@ -16,6 +16,7 @@ use Rattle.cilk_frame.specs.Frames.{Frame}
 use Rattle.cilk_spawn.specs.Nodes.{Node, path_at}
 use Rattle.cilk_agree.specs.Outside as outside
 use Rattle.cilk_agree.specs.Agrees.{Agrees, name_in}
+use Rattle.cilk_agree.specs.Fated.{Follows}
 use Rattle.cilk_agree.specs.Laws.{Turn}
 use Rattle.cilk_plans.specs.declared.plan.Plan.{Plan}
 use Rattle.cilk_plans.specs.declared.plan.Plan.TheVariants as plan
@@ -130,7 +131,7 @@ module _ (m : Situation) (w : ℕ) (sound : IsSound m) (free : refused_by m (rec
         }
 
     -- where it leads
-    next-there : (now : Parts) (done : Done) (path : Path) → path ≡ trapped_path m.machine.nodes f.id x → Carries parts w body x now done
+    next-there : (now : Parts) (done : Done) (path : Path) → path ≡ trapped_path m.machine.nodes f.id x → Carries (m.choices + 1) parts w body x now done
         → (choices : List model.Choice) (events : List Event) (at : Standing) → Led m choices events at
         → Next m (machine_of now (carries.outcome_of done.outcome)) (outcome_with path done.outcome) (stepping w)
         (event_by (path_at m.machine.nodes) (path_at now.tree.nodes) done.did) at
@@ -150,9 +151,10 @@ module _ (m : Situation) (w : ℕ) (sound : IsSound m) (free : refused_by m (rec
               ∙ ap (λ o. (next_by_hand (label m.program) at w o).state.outcome) (sym hand);
           who = s.who;
           agrees = agrees;
+          follows = subst (Follows (label m.program) (m.choices + 1) m.machine.nodes now.tree.nodes) (sym s.event) s.follows;
         }
 
-    pub step-made : (now : Parts) (done : Done) (path : Path) → path ≡ trapped_path m.machine.nodes f.id x → Carries parts w body x now done
+    pub step-made : (now : Parts) (done : Done) (path : Path) → path ≡ trapped_path m.machine.nodes f.id x → Carries (m.choices + 1) parts w body x now done
         → Makes m (moved_to m (machine_of now (outcome_at (trapper_of done.outcome) (outcome_with path done.outcome))) (outcome_with path done.outcome)) (stepping w)
         (event_by (path_at m.machine.nodes) (path_at now.tree.nodes) done.did)
     step-made now done path named carried =
@@ -226,7 +228,7 @@ module _ (program : Program) (parts : Parts) (trapper : ℕ) (outcome : Outcome)
     pub whole-carries : CanCarry parts w body x
     whole-carries = can-carry whole w c.sound c.free parts parts_are body x c.planned starts_is
 
-    pub whole-made : (now : Parts) (done : Done) (came : ℕ) (stands : Outcome) → Carries parts w body x now done → came ≡ trapper_of done.outcome → stands ≡ outcome_with path done.outcome
+    pub whole-made : (now : Parts) (done : Done) (came : ℕ) (stands : Outcome) → Carries (choices + 1) parts w body x now done → came ≡ trapper_of done.outcome → stands ≡ outcome_with path done.outcome
         → Makes whole (moved_to whole (machine_of now (outcome_at came stands)) stands) (stepping w) (event_by (path_at parts.tree.nodes) (path_at now.tree.nodes) done.did)
     whole-made now done came stands carried came_is stands_is =
         let s = it whole w c.sound c.free in

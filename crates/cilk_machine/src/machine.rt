@@ -1,14 +1,17 @@
-ghost use Rattle.std.specs.Prelude.{◌≡◌, ◌≢◌, ◌<◌, ◌≤◌, ◌-◌, ◌^◌, ◌⊎◌, ◌↔◌, true, Option, Some, None, OnErr, OnOk, IfOk, IfErr, IfSome, IfNone};
+ghost use Rattle.std.specs.Prelude.{◌≡◌, ◌≢◌, ◌<◌, ◌≤◌, ◌-◌, ◌^◌, ◌⊎◌, ◌↔◌, true, List, Option, Some, None, option_map, OnErr, OnOk, IfOk, IfErr, IfSome, IfNone};
 ghost use Rattle.cilk_labelled.specs.Bodies.{label};
 ghost use Rattle.cilk_model.specs.Choice as choices;
 ghost use Rattle.cilk_model.specs.End as model;
 ghost use Rattle.cilk_model.specs.Event as events;
+ghost use Rattle.cilk_model.specs.Fate.{fate_of};
 ghost use Rattle.cilk_model.specs.Places.{IsWorker, hand_of};
 ghost use Rattle.cilk_model.specs.Run.{Standing};
+ghost use Rattle.cilk_agree.specs.Fated.{fate_named};
 ghost use Rattle.cilk_choices.specs.Words.{choice_of, reason_of, event_of, end_of, outcome_of};
 ghost use Rattle.cilk_step.specs.Scenes.{sight_of, is_wait};
+ghost use Rattle.cilk_view.specs.Shows.{machine_of};
 ghost use Rattle.cilk_machine.specs.Situation.{workers_of, sight_at};
-ghost use Rattle.cilk_machine.specs.Stands.{StandsAt, Opens};
+ghost use Rattle.cilk_machine.specs.Stands.{Led, StandsAt, Opens};
 ghost use Rattle.cilk_machine.specs.Refused.{refused_by, step_refused, is_full, planned_in, moves_by, any_moves};
 ghost use Rattle.cilk_machine.specs.Made.{Makes, MakesBy, Does, IsRefused};
 ghost use Rattle.cilk_machine.specs.Told.{IsTrapPath};
@@ -27,9 +30,10 @@ use cilk_frame::{Frame, Id};
 use cilk_load::Loaded;
 use cilk_plans::Plan;
 use cilk_sched::Hands;
-use cilk_spawn::Tree;
+use cilk_spawn::{Fate, Tree};
 use cilk_step::{Scene, has_to_wait, plan_step};
 use cilk_syntax::{Memory, Program};
+use cilk_view::Shown;
 use std::alloc::Global;
 use std::marker::Model;
 
@@ -316,7 +320,7 @@ impl Machine {
         ensures unchanged { OnErr result (self.new ≡ self.old) }
     {
         let body = body_numbered(&self.loaded, started_number(&plan));
-        match carry_out(worker, plan, body, &mut self.parts) {
+        match carry_out(worker, plan, body, self.choices + 1, &mut self.parts) {
             Err(_) => Err(Refusal::Memory),
             Ok(done) => {
                 self.trapper = trapper_of(done.outcome);
@@ -345,6 +349,27 @@ impl Machine {
     {
         steal(&mut self.parts.hands, worker, victim);
         self.choices += 1;
+    }
+
+    pub(crate) fn allocator(&self) -> Global {
+        self.alloc
+    }
+
+    /// The parts that views show.
+    pub(crate) fn shown<'a>(&'a self) -> Shown<'a>
+        ensures program { result.loaded.now ≡ self.now.program }
+        ensures parts { machine_of result self.now.machine.outside.outcome ≡ self.now.machine }
+        ensures workers { result.workers ≡ workers_of self.now }
+    {
+        Shown {
+            loaded: &self.loaded,
+            globals: self.parts.globals.as_slice(),
+            locks: self.parts.locks.as_slice(),
+            output: self.parts.output.as_slice(),
+            tree: &self.parts.tree,
+            hands: &self.parts.hands,
+            workers: self.workers,
+        }
     }
 
     /// The program's tree.
@@ -421,6 +446,18 @@ impl Machine {
             name,
             index,
         )
+    }
+
+    /// What became of the instance of this path, whether it lives or not. None where no such
+    /// instance was ever made. It needs no memory.
+    pub fn fate(&self, path: &[u32]) -> Option<Fate>
+        ensures { (choices : List choices.Choice) (events : List events.Event) (at : Standing) → Led self.now choices events at
+            → option_map fate_named result ≡ fate_of events path.now }
+    {
+        match self.parts.tree.find(path) {
+            None => None,
+            Some(id) => Some(self.parts.tree.fate(id)),
+        }
     }
 
     /// How the program stands.

@@ -1,21 +1,16 @@
 -- The head is acted: the plan by its effect is the step by that effect.
-use Rattle.std.proofs.Common.{◌≡◌, ℕ, zero, suc, ◌+◌, ◌-◌, ◌^◌, ◌<◌, ◌≤◌, ℤ, Bool, true, false, not, ◌&&◌, ◌||◌, nat_lt, nat_le, List, [], ◌∷◌, map, length, Option, Some, None, Result, Ok, Err, refl, sym, ap, ◌∙◌, subst, arith, if◌then◌else◌}
-use Rattle.std.specs.Prelude.{⊤, IsTrue, option_map, unwrap_or}
+use Rattle.std.proofs.Common.{◌≡◌, ℕ, suc, ◌+◌, ◌≤◌, ℤ, Bool, true, false, nat_lt, nat_le, List, ◌∷◌, map, length, Option, Some, None, Ok, refl, sym, ap, ◌∙◌, subst, arith}
 use borrow.Author.Tests.{ltb-true}
 use Rattle.std.proofs.lemmas.Bool.{lt-ltb, ltb-false}
 use Rattle.std.proofs.lemmas.Bool.Decides.{nat_tests}
 use Rattle.cilk_syntax.specs.declared.lock_action.LockAction.{LockAction}
-use Rattle.cilk_scopes.specs.declared.owner.Owner.{Owner}
-use Rattle.cilk_scopes.specs.declared.owner.Owner.TheVariants.{Function, Procedure, Inlet}
-use Rattle.cilk_values.specs.declared.trap.Trap.{Trap}
 use Rattle.cilk_values.specs.Term.{Term, rename}
-use Rattle.cilk_values.specs.Value.{Environment, values_of}
+use Rattle.cilk_values.specs.Value.{Environment}
 use Rattle.cilk_labelled.specs.Labelled.{Declaration, Labelled, Into, Taker, nothing, into, through, Action, assign, call, spawn, print, locking, null, break_off, go_round, tests, sync, abort, return_with, return_nothing, close}
-use Rattle.cilk_labelled.specs.Bodies.{label, is_procedure}
+use Rattle.cilk_labelled.specs.Bodies.{label}
 use Rattle.cilk_heads.specs.Heads.{GoesOn}
 use Rattle.cilk_model.specs.Values.{Reached, environment}
-use Rattle.cilk_model.specs.Instance as model
-use Rattle.cilk_model.specs.Instance.{Instance, body_at}
+use Rattle.cilk_model.specs.Instance.{Instance}
 use Rattle.cilk_model.specs.State as state
 use Rattle.cilk_model.specs.State.{is_empty, store_of}
 use Rattle.cilk_model.specs.Effect as effect
@@ -23,18 +18,16 @@ use Rattle.cilk_model.specs.Effect.{effect_of}
 use Rattle.cilk_model.specs.Change as change
 use Rattle.cilk_model.specs.Change.{after_call}
 use Rattle.cilk_model.specs.Event.{acted}
-use Rattle.cilk_model.specs.Pick.{Step, goes_on, if_room, step_by_effect, step_by_turn, traps}
+use Rattle.cilk_model.specs.Pick.{goes_on, if_room, step_by_effect, step_by_turn}
 use Rattle.cilk_nodes.specs.declared.node.Node.{Node}
-use Rattle.cilk_nodes.specs.declared.action.Action as code
-use Rattle.cilk_nodes.specs.Actions.{slotted_place, slotted_target, slotted_taker, slotted}
-use Rattle.cilk_nodes.specs.Slots.{slot_of, is_inlet, procedure_around}
+use Rattle.cilk_nodes.specs.Actions.{slotted_place, slotted_target, slotted}
+use Rattle.cilk_nodes.specs.Slots.{slot_of}
 use Rattle.cilk_nodes.specs.Table.{node_of}
-use Rattle.cilk_nodes.specs.Bodies.{body_table, body_of}
+use Rattle.cilk_nodes.specs.Bodies.{body_of}
 use Rattle.cilk_nodes.proofs.Heads.{bodies-have}
-use Rattle.cilk_frame.specs.declared.awaited.Await.{Await}
 use Rattle.cilk_frame.specs.Frames.{depth}
 use Rattle.cilk_stands.specs.Starts as starts
-use Rattle.cilk_stands.specs.Cells.{HasCell, SameCell}
+use Rattle.cilk_stands.specs.Cells.{HasCell}
 use Rattle.cilk_stands.specs.Stands.{AwaitsAt, AwaitsSame, AllInside, bodies_of, lowest_of}
 use Rattle.cilk_stands.proofs.Tops.{depth-is}
 use Rattle.cilk_sound.specs.Known as known
@@ -45,9 +38,8 @@ use Rattle.cilk_effects.proofs.Shapes as shapes
 use Rattle.cilk_spawn.specs.Nodes.{node_at, is_synched, has_live_child, live_ids}
 use Rattle.cilk_agree.specs.declared.lock.Lock.{Lock}
 use Rattle.cilk_agree.specs.Locks.{LockTurn, turned, refused, blocked, turn_among, turn_named}
-use Rattle.cilk_agree.specs.Outside.{lock_by, LockWithin}
+use Rattle.cilk_agree.specs.Outside.{LockWithin}
 use Rattle.cilk_agree.specs.Laws.{Turn, path_of, instance_of}
-use Rattle.cilk_agree.specs.Laws as laws
 use Rattle.cilk_agree.specs.Actions.{IsNext}
 use Rattle.cilk_agree.specs.Asked.{Asked}
 use Rattle.cilk_plans.specs.Made as made

@@ -1,14 +1,14 @@
 -- A spawn, and bodies that are left: the plan is the step.
-use Rattle.std.proofs.Common.{◌≡◌, ℕ, zero, suc, ◌+◌, ◌-◌, ◌^◌, ◌<◌, ℤ, Bool, true, false, not, ◌&&◌, ◌||◌, nat_lt, List, [], ◌∷◌, map, length, Option, Some, None, Result, Ok, Err, refl, sym, ap, ◌∙◌, subst, arith, if◌then◌else◌}
-use Rattle.std.specs.Prelude.{⊤, IsTrue}
+use Rattle.std.proofs.Common.{◌≡◌, ℕ, zero, suc, ◌+◌, ◌-◌, ◌^◌, Bool, true, false, ◌&&◌, nat_lt, List, [], ◌∷◌, map, length, Option, Ok, refl, sym, ap, ◌∙◌, subst, arith, if◌then◌else◌}
+use Rattle.std.specs.Prelude.{IsTrue}
 use borrow.Author.Tests.{ltb-true}
 use Rattle.std.proofs.lemmas.Bool.{ltb-false}
 use Rattle.std.proofs.lemmas.List.{length-map}
 use Rattle.cilk_scopes.specs.declared.owner.Owner.{Owner}
 use Rattle.cilk_scopes.specs.declared.owner.Owner.TheVariants.{Function, Procedure, Inlet}
 use Rattle.cilk_values.specs.Term.{Term, rename}
-use Rattle.cilk_values.specs.Value.{Environment, values_of}
-use Rattle.cilk_labelled.specs.Labelled.{Declaration, Labelled, Into, Taker, nothing, into, through, spawn}
+use Rattle.cilk_values.specs.Value.{Environment}
+use Rattle.cilk_labelled.specs.Labelled.{Declaration, Labelled, Taker, nothing, into, through, spawn}
 use Rattle.cilk_labelled.specs.Bodies.{label, is_procedure}
 use Rattle.cilk_model.specs.Path.{child_path}
 use Rattle.cilk_model.specs.Values.{environment}
@@ -21,17 +21,13 @@ use Rattle.cilk_model.specs.Change.{after_start}
 use Rattle.cilk_model.specs.Event.{spawned}
 use Rattle.cilk_model.specs.Pick.{Step, spawns, if_room, step_by_effect}
 use Rattle.cilk_nodes.specs.declared.node.Node.{Node}
-use Rattle.cilk_nodes.specs.Actions.{slotted_taker}
 use Rattle.cilk_nodes.specs.Slots.{slot_of, is_inlet, procedure_around}
-use Rattle.cilk_stands.specs.Cells.{HasCell}
 use Rattle.cilk_stands.specs.Stands.{StandsFor, AllInside, bodies_of}
-use Rattle.cilk_sound.specs.Known as known
-use Rattle.cilk_sound.specs.Known.{KnownAct, StandsIn}
+use Rattle.cilk_sound.specs.Known.{StandsIn}
 use Rattle.cilk_effects.specs.Slotted.{TakenCell, ReachesCells, slotted_receiver, slotted_effect}
 use Rattle.cilk_effects.proofs.Shapes as shapes
 use Rattle.cilk_effects.proofs.Shapes.{values-count}
-use Rattle.cilk_spawn.specs.Nodes.{live_ids}
-use Rattle.cilk_agree.specs.Alike.{Receives, lowest_body}
+use Rattle.cilk_agree.specs.Alike.{Receives}
 use Rattle.cilk_agree.specs.Laws.{Turn, path_of, node_of, instance_of}
 use Rattle.cilk_agree.specs.Asked.{Asked}
 use Rattle.cilk_agree.proofs.Alone.{holds}
@@ -41,8 +37,8 @@ use Rattle.cilk_plans.specs.declared.plan.Plan.TheVariants as plan
 use Rattle.cilk_plans.specs.Made as made
 use Rattle.cilk_plans.specs.Made.{next_of, by_effect, has_room}
 use Rattle.cilk_plans.specs.Plans.{sight_in, step_in, IsPlan}
-use Rattle.cilk_plans.specs.Sights.{Sight}
-use Rattle.cilk_plans.proofs.Acts.{Acting, takes-from, slot-named}
+use Rattle.cilk_plans.proofs.Callees.{callee-named}
+use Rattle.cilk_plans.proofs.Acts.{Acting, takes-from}
 
 -- a procedure's body is that of its own activation
 below-none : (program : Labelled) (below : List model.Activation) (b : ℕ) → AllInside program (b ∷ bodies_of below) → IsTrue (is_procedure (body_at program b).owner) → below ≡ []
@@ -147,6 +143,7 @@ module _ (t : Turn) (asked : Asked t) (b m : ℕ) where
             same = subst (λ c. Receives program c (slotted_receiver slots w.receiver) w.receiver) (a.body ∙ sym (procedure-is own)) (receives taker callee es node a w.receiver w.takes there);
             takes = takes-from t.program callee (length es) w.values a.known.2.takes (values-count env es w.values w.values_are);
             procedure = ap is_inlet a.known.2.owner;
+            named = callee-named t.program m node _ callee _ a.there a.action;
             room = omega (arith, children, few);
             step = step;
             next = a.goes tt true;

@@ -1,5 +1,5 @@
 -- A delivery is taken: the plan is the step.
-use Rattle.std.proofs.Common.{◌≡◌, ℕ, suc, ◌<◌, ℤ, true, List, [], ◌∷◌, length, Option, Some, None, Result, Ok, Err, refl, sym, ap, ◌∙◌, subst, arith}
+use Rattle.std.proofs.Common.{◌≡◌, ℕ, suc, ◌<◌, ℤ, List, [], ◌∷◌, length, Some, Result, Ok, Err, refl, sym, ap, ◌∙◌, subst, arith}
 use Rattle.cilk_values.specs.declared.trap.Trap.{Trap}
 use Rattle.cilk_eval.specs.Slots.{slot_cell}
 use Rattle.cilk_labelled.specs.Labelled.{Labelled}
@@ -11,8 +11,6 @@ use Rattle.cilk_model.specs.State as state
 use Rattle.cilk_model.specs.State.{store_of}
 use Rattle.cilk_model.specs.Pick.{step_by_place, step_by_receiver}
 use Rattle.cilk_nodes.specs.Table as table
-use Rattle.cilk_frame.specs.Frames.{depth}
-use Rattle.cilk_stands.specs.Starts as starts
 use Rattle.cilk_stands.specs.Stands.{StandsFor}
 use Rattle.cilk_stands.proofs.Tops.{depth-is}
 use Rattle.cilk_stands.proofs.Values.{cell-same}
@@ -20,7 +18,7 @@ use Rattle.cilk_spawn.specs.declared.delivery.Delivery.{Delivery}
 use Rattle.cilk_spawn.specs.declared.receiver.Receiver.{Receiver}
 use Rattle.cilk_spawn.specs.declared.receiver.Receiver.TheVariants.{Nothing, Place, Call}
 use Rattle.cilk_spawn.specs.Nodes.{path_at}
-use Rattle.cilk_agree.specs.Alike.{Receives, SameDelivery, lowest_body}
+use Rattle.cilk_agree.specs.Alike.{Receives, SameDelivery}
 use Rattle.cilk_agree.specs.Laws.{Turn, path_of, node_of, instance_of}
 use Rattle.cilk_agree.specs.Asked.{Asked}
 use Rattle.cilk_agree.proofs.Alone.{holds}

@@ -1,9 +1,9 @@
 -- A body is left: the plan is the step.
-use Rattle.std.proofs.Common.{◌≡◌, ℕ, suc, ℤ, Bool, true, false, not, ◌&&◌, ◌||◌, ◌==◌, nat_lt, List, [], ◌∷◌, map, length, Option, Some, None, Result, Ok, Err, refl, sym, ap, ◌∙◌, subst, arith, if◌then◌else◌}
+use Rattle.std.proofs.Common.{◌≡◌, ℕ, suc, ℤ, Bool, true, false, not, ◌&&◌, ◌==◌, List, [], ◌∷◌, length, Option, Some, None, Result, Ok, Err, refl, sym, ap, ◌∙◌, subst, arith, if◌then◌else◌}
 use Rattle.std.proofs.lemmas.Bool.{ne_eqb}
 use Rattle.cilk_values.specs.declared.trap.Trap.{Trap}
 use Rattle.cilk_eval.specs.Slots.{slot_cell}
-use Rattle.cilk_labelled.specs.Labelled.{Labelled, Action}
+use Rattle.cilk_labelled.specs.Labelled.{Labelled}
 use Rattle.cilk_labelled.specs.Bodies.{label}
 use Rattle.cilk_model.specs.Values.{Reached, combined, cell_of}
 use Rattle.cilk_model.specs.Instance as model
@@ -13,11 +13,10 @@ use Rattle.cilk_model.specs.State.{is_empty, store_of}
 use Rattle.cilk_model.specs.Change as change
 use Rattle.cilk_model.specs.Change.{leaves_function, after_return, after_leaving, after_answer, resumed}
 use Rattle.cilk_model.specs.Event.{acted, returned}
-use Rattle.cilk_model.specs.Pick.{Step, goes_on, ends, traps, step_by_leaving, step_by_answer, step_by_combined}
+use Rattle.cilk_model.specs.Pick.{Step, goes_on, ends, step_by_leaving, step_by_answer, step_by_combined}
 use Rattle.cilk_nodes.specs.declared.node.Node.{Node}
-use Rattle.cilk_nodes.specs.declared.target.Target.{Target}
 use Rattle.cilk_nodes.specs.Table.{node_of}
-use Rattle.cilk_nodes.specs.Bodies.{body_table, body_of}
+use Rattle.cilk_nodes.specs.Bodies.{body_of}
 use Rattle.cilk_nodes.proofs.Heads.{bodies-have}
 use Rattle.cilk_nodes.specs.Slots.{slot_of}
 use Rattle.cilk_frame.specs.declared.awaited.Await.{Await}

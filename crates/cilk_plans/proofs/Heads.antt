@@ -1,5 +1,5 @@
 -- The head of the instance in a worker's hand, as nodes and items tell it.
-use Rattle.std.proofs.Common.{◌≡◌, ℕ, ◌<◌, Bool, true, false, List, [], ◌∷◌, length, Option, Some, None, refl, sym, ap, ◌∙◌, subst}
+use Rattle.std.proofs.Common.{◌≡◌, ℕ, ◌<◌, Bool, true, false, List, ◌∷◌, length, Option, Some, None, refl, sym, ap, ◌∙◌, subst}
 use Rattle.std.specs.Prelude.{is_some, IsSome, unwrap_or, option_map}
 use Rattle.cilk_check.specs.Fault.{WellFormed}
 use Rattle.cilk_syntax.specs.Tree.{Program}

@@ -4,3 +4,4 @@ pub mod Births
 pub mod Gifts
 pub mod Deliveries
 pub mod Planned
+mod Callees

@@ -1,10 +1,9 @@
 -- The plan of a step is the step.
-use Rattle.std.proofs.Common.{◌≡◌, ℕ, suc, ◌<◌, ℤ, Bool, true, false, not, ◌&&◌, ◌||◌, List, [], ◌∷◌, length, Option, Some, None, Result, Ok, Err, refl, sym, ap, ◌∙◌, subst, if◌then◌else◌}
-use Rattle.cilk_scopes.specs.declared.owner.Owner.{Owner}
+use Rattle.std.proofs.Common.{◌≡◌, ℕ, ℤ, Bool, true, false, not, ◌&&◌, ◌||◌, List, [], ◌∷◌, Some, Result, Ok, Err, refl, sym, ap, ◌∙◌, subst, if◌then◌else◌}
 use Rattle.cilk_values.specs.declared.trap.Trap.{Trap}
 use Rattle.cilk_values.specs.Value.{Environment}
 use Rattle.cilk_eval.specs.declared.slot.Slot.{Slot}
-use Rattle.cilk_labelled.specs.Labelled.{Declaration, Labelled, Numbered, Action, assign, call, spawn, print, locking, null, break_off, go_round, tests, sync, abort, return_with, return_nothing, close}
+use Rattle.cilk_labelled.specs.Labelled.{Declaration, Labelled, Action, assign, call, spawn, print, locking, null, break_off, go_round, tests, sync, abort, return_with, return_nothing, close}
 use Rattle.cilk_labelled.specs.Items.{head_of}
 use Rattle.cilk_labelled.specs.Bodies.{label}
 use Rattle.cilk_model.specs.Values.{environment}

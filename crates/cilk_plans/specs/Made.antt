@@ -1,8 +1,5 @@
 -- The plan of a step, as the code makes it.
-use Rattle.std.specs.Prelude.{ℕ, ◌+◌, ◌-◌, ◌^◌, ℤ, Bool, true, false, not, ◌&&◌, ◌||◌, nat_lt, nat_le, if◌then◌else◌, List, [], ◌∷◌, length, Option, Some, None, Result, Ok, Err, unwrap_or, option_map}
-use Rattle.cilk_scopes.specs.declared.owner.Owner.{Owner}
-use Rattle.cilk_scopes.specs.declared.owner.Owner.TheVariants.{Function, Procedure, Inlet}
-use Rattle.cilk_syntax.specs.declared.lock_action.LockAction.{LockAction}
+use Rattle.std.specs.Prelude.{ℕ, ◌+◌, ◌-◌, ◌^◌, ℤ, Bool, true, false, not, ◌&&◌, ◌||◌, nat_lt, nat_le, if◌then◌else◌, List, [], ◌∷◌, length, Option, Some, None, Result, Ok, Err, unwrap_or}
 use Rattle.cilk_values.specs.declared.trap.Trap.{Trap}
 use Rattle.cilk_eval.specs.Slots.{slot_cell}
 use Rattle.cilk_model.specs.Values.{combined}
@@ -21,8 +18,7 @@ use Rattle.cilk_frame.specs.Frames.{depth, top_of, left}
 use Rattle.cilk_spawn.specs.declared.delivery.Delivery.{Delivery}
 use Rattle.cilk_spawn.specs.declared.receiver.Receiver as receiver
 use Rattle.cilk_spawn.specs.declared.receiver.Receiver.{Receiver}
-use Rattle.cilk_spawn.specs.Nodes.{node_at, is_synched, has_live_child, live_ids}
-use Rattle.cilk_effects.specs.declared.reached.Reached.{Reached}
+use Rattle.cilk_spawn.specs.Nodes.{is_synched, has_live_child, live_ids}
 use Rattle.cilk_effects.specs.declared.effect.Effect.{Effect}
 use Rattle.cilk_effects.specs.declared.effect.Effect.TheVariants.{Writes, Answers, Enters, Gives, Starts, Prints, Turns, Marks}
 use Rattle.cilk_effects.specs.Effects.{effect_in}

@@ -1,14 +1,15 @@
 -- What a plan says of the step of an instance that the definition of runs takes.
-use Rattle.std.specs.Prelude.{◌≡◌, ◌<◌, ◌+◌, ◌^◌, ℕ, ℤ, Bool, true, false, List, ◌∷◌, length, Option}
+use Rattle.std.specs.Prelude.{◌≡◌, ◌<◌, ◌+◌, ◌^◌, ℕ, ℤ, Bool, true, false, List, ◌∷◌, length, Option, Some}
 use Rattle.cilk_labelled.specs.Bodies.{label}
-use Rattle.cilk_model.specs.Path.{Path, child_path}
+use Rattle.cilk_model.specs.Path.{child_path}
 use Rattle.cilk_model.specs.Values.{Cell, Reached}
 use Rattle.cilk_model.specs.Instance as model
 use Rattle.cilk_model.specs.Instance.{Activation, Delivery, body_at}
 use Rattle.cilk_model.specs.State.{State}
-use Rattle.cilk_model.specs.Event.{Event, acted, spawned, delivered, returned, ended, trapped}
+use Rattle.cilk_model.specs.Event.{acted, spawned, delivered, returned, ended, trapped}
 use Rattle.cilk_model.specs.Change.{stopped, after_going, after_write, after_place, after_inlet, after_call, after_leaving, after_answer, after_return, after_start, after_print, after_lock, after_marks, after_abort}
 use Rattle.cilk_model.specs.Pick.{Step, waits, parks, goes_on, ends, spawns, step_of}
+use Rattle.cilk_seen.specs.Made.{callee_of}
 use Rattle.cilk_scopes.specs.declared.owner.Owner.TheVariants.{Function, Inlet}
 use Rattle.cilk_syntax.specs.declared.return_type.ReturnType.{ReturnType}
 use Rattle.cilk_nodes.specs.Slots.{is_inlet, procedure_around}
@@ -26,7 +27,6 @@ use Rattle.cilk_agree.specs.Outside.{LockWithin, lock_by}
 use Rattle.cilk_agree.specs.Alike.{Receives, lowest_body}
 use Rattle.cilk_agree.specs.Laws.{Turn, path_of, node_of, instance_of}
 use Rattle.cilk_agree.specs.Actions.{IsNext}
-use Rattle.cilk_plans.specs.declared.kind.Kind.{Kind}
 use Rattle.cilk_plans.specs.declared.plan.Plan as plan
 use Rattle.cilk_plans.specs.declared.plan.Plan.{Plan}
 use Rattle.cilk_plans.specs.Words.{kind_of}
@@ -126,6 +126,8 @@ pub record Spawns (t : Turn) (n : ℕ) (receiver : Receiver) (callee : ℕ) (arg
   pub same : Receives (label t.program) (node_of t).procedure receiver taken
   pub takes : Takes (body_of t.program callee) arguments
   pub procedure : is_inlet (body_at (label t.program) callee).owner ≡ false
+  -- action n of the program is a spawn of this procedure
+  pub named : callee_of (label t.program) n ≡ Some callee
   pub room : (node_of t).children + 1 < 2 ^ 32
   pub step : step_in t
       ≡ spawns (child_path (path_of t) ((instance_of t).children + 1))

@@ -1,5 +1,5 @@
 -- What a step looks at.
-use Rattle.std.specs.Prelude.{ℕ, ℤ, Bool, List, length, ◌==◌}
+use Rattle.std.specs.Prelude.{ℕ, ℤ, Bool, List, ◌==◌}
 use Rattle.std.specs.List.{list_any}
 use Rattle.cilk_syntax.specs.Tree.{Program}
 use Rattle.cilk_eval.specs.Slots.{Cells}

@@ -5,4 +5,4 @@ mod fault;
 mod playing;
 
 pub use fault::ReplayFault;
-pub use playing::{make_again, play};
+pub use playing::{is_crew, make_again, play};

@@ -1,5 +1,6 @@
-ghost use Rattle.std.specs.Prelude.{List, ◌≡◌, ◌≤◌, ◌<◌, ◌-◌, ◌^◌, ℕ, suc, IfOk, IfErr, OnOk, OnErr, length, Some, slice_get, map, option_copied};
+ghost use Rattle.std.specs.Prelude.{List, ◌≡◌, ◌≤◌, ◌<◌, ◌-◌, ◌^◌, ℕ, suc, false, IfOk, IfErr, OnOk, OnErr, length, Some, Err, slice_get, map, option_copied};
 ghost use Rattle.cilk_model.specs.Choice as model;
+ghost use Rattle.cilk_model.specs.Run.{is_crew};
 ghost use Rattle.cilk_choices.specs.Words.{choice_of, reason_of};
 ghost use Rattle.cilk_spawn.specs.Nodes.{path_at};
 ghost use Rattle.cilk_carries.specs.Words.{event_by};
@@ -12,7 +13,15 @@ use cilk_load::Loaded;
 use cilk_machine::{Did, Machine};
 use std::alloc::Global;
 
-/// The program after the first `count` of these choices.
+/// Whether a program may have so many workers: 1 to 64.
+pub fn is_crew(workers: u8) -> bool
+    ensures { result ≡ is_crew workers }
+{
+    1 <= workers && workers <= 64
+}
+
+/// The program after the first `count` of these choices. The number of workers is looked at before
+/// any memory is asked for.
 pub fn play(
     alloc: Global,
     program: Loaded,
@@ -23,7 +32,11 @@ pub fn play(
     requires { count ≤ length choices.now }
     ensures stands { IfOk result (IsAt (tape_of program workers choices.now) count) }
     ensures told { IfErr result (Tells (tape_of program workers choices.now)) }
+    ensures crew { is_crew workers ≡ false → result ≡ Err ReplayFault.Workers }
 {
+    if !is_crew(workers) {
+        return Err(ReplayFault::Workers);
+    }
     match opened(alloc, program, workers) {
         Err(fault) => Err(fault),
         Ok(machine) => played(machine, choices, count),

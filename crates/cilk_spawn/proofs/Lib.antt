@@ -17,3 +17,6 @@ pub mod Returns
 pub mod Steps
 pub mod Endings
 pub mod Born
+pub mod Taking
+pub mod Seeks
+pub mod Takes

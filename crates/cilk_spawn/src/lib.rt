@@ -24,6 +24,7 @@
 mod arguments;
 mod delivery;
 mod ending;
+mod fate;
 mod laws;
 mod leaving;
 mod life;
@@ -36,6 +37,7 @@ pub use arguments::Arguments;
 pub use cilk_frame::{Frame, Id, Memory};
 pub use delivery::Delivery;
 pub use ending::Ending;
+pub use fate::Fate;
 pub use laws::{
     a_return_ends_and_sends, ids_change, paths_are_names, paths_stay, trees_stay_trees,
 };

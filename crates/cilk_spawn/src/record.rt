@@ -1,10 +1,11 @@
-ghost use Rattle.std.specs.Prelude.{ℕ, ◌≡◌, ◌<◌, ◌==◌, ◌++◌, ◌∷◌, None, Some, [], true, cond, length, IfNone, IfOk, IfSome, OnErr, OnOk, drop, option_copied, slice_get};
-ghost use Rattle.cilk_spawn.specs.Nodes.{is_live};
+ghost use Rattle.std.specs.Prelude.{ℕ, ◌≡◌, ◌<◌, ◌==◌, ◌&&◌, ◌++◌, ◌∷◌, None, Some, [], true, cond, length, IfNone, IfOk, IfSome, OnErr, OnOk, drop, option_copied, slice_get};
+ghost use Rattle.cilk_spawn.specs.Nodes.{is_live, is_number, fate_at, after_taking};
 ghost use Rattle.cilk_spawn.specs.declared.receiver.Receiver.TheVariants.{Nothing};
 ghost use Rattle.cilk_spawn.specs.Records.{node_of, node_at_start, child_of, place_of, SameBeside, HasRoom, NoneBetween};
 
 use crate::delivery::Delivery;
 use crate::ending::Ending;
+use crate::fate::Fate;
 use crate::life::{Life, Live};
 use crate::receiver::Receiver;
 use cilk_frame::{Frame, Id, Memory};
@@ -69,7 +70,17 @@ impl Record {
     {
         match &self.life {
             Life::Live(_) => true,
-            Life::Ended(_) => false,
+            _ => false,
+        }
+    }
+
+    /// Whether it is the child of this instance with this ordinal.
+    pub fn is_child(&self, parent: Id, ordinal: u32) -> bool
+        ensures { result ≡ (is_number (node_of self.now).parent parent && ((node_of self.now).ordinal == ordinal)) }
+    {
+        match self.parent {
+            None => false,
+            Some(own) => own == parent && self.ordinal == ordinal,
         }
     }
 
@@ -85,7 +96,7 @@ impl Record {
             Life::Live(live) => {
                 live.living.insert(ordinal, child)?;
             }
-            Life::Ended(_) => {}
+            _ => {}
         }
         self.children = ordinal;
         Ok(())
@@ -101,7 +112,7 @@ impl Record {
             Life::Live(live) => {
                 live.living.remove(&ordinal);
             }
-            Life::Ended(_) => {}
+            _ => {}
         }
     }
 
@@ -114,16 +125,42 @@ impl Record {
     {
         match &mut self.life {
             Life::Live(live) => live.place = place,
-            Life::Ended(_) => {}
+            _ => {}
         }
     }
 
-    /// It lives no more.
-    pub fn end(&mut self, ending: Ending)
-        ensures node { node_of self.new ≡ record (node_of self.old) { ending = Some ending; receiver = Nothing; waiting = []; parked = None } }
+    /// It lives no more, from this choice on.
+    pub fn end(&mut self, ending: Ending, choice: u64)
+        ensures node { node_of self.new ≡ record (node_of self.old) { fate = fate_at ending choice; receiver = Nothing; waiting = []; parked = None } }
         ensures children { (k : ℕ) → child_of self.new.life k ≡ None }
     {
-        self.life = Life::Ended(ending);
+        self.life = match ending {
+            Ending::Returned => Life::Returned,
+            Ending::Aborted => Life::Aborted(choice),
+        };
+    }
+
+    /// Its value is taken at this choice. One that lives keeps its fate.
+    pub fn lose_value(&mut self, choice: u64)
+        ensures node { node_of self.new ≡ record (node_of self.old) { fate = after_taking choice (node_of self.old).fate } }
+        ensures beside { SameBeside self.old self.new }
+    {
+        match &self.life {
+            Life::Live(_) => {}
+            _ => self.life = Life::Delivered(choice),
+        }
+    }
+
+    /// What became of it.
+    pub fn fate(&self) -> Fate
+        ensures { result ≡ (node_of self.now).fate }
+    {
+        match &self.life {
+            Life::Live(_) => Fate::Live,
+            Life::Returned => Fate::Returned,
+            Life::Delivered(choice) => Fate::Delivered(*choice),
+            Life::Aborted(choice) => Fate::Aborted(*choice),
+        }
     }
 
     /// Room for one more value that waits.
@@ -135,7 +172,7 @@ impl Record {
     {
         match &mut self.life {
             Life::Live(live) => live.waiting.reserve(1)?,
-            Life::Ended(_) => {}
+            _ => {}
         }
         Ok(())
     }
@@ -148,7 +185,7 @@ impl Record {
     {
         match &mut self.life {
             Life::Live(live) => live.waiting.push_back_reserved(delivery),
-            Life::Ended(_) => unreachable!(),
+            _ => unreachable!(),
         }
     }
 
@@ -160,7 +197,7 @@ impl Record {
     {
         match &mut self.life {
             Life::Live(live) => replace(&mut live.receiver, Receiver::Nothing),
-            Life::Ended(_) => Receiver::Nothing,
+            _ => Receiver::Nothing,
         }
     }
 
@@ -172,7 +209,7 @@ impl Record {
     {
         match &mut self.life {
             Life::Live(live) => live.waiting.pop_front(),
-            Life::Ended(_) => None,
+            _ => None,
         }
     }
 
@@ -184,7 +221,7 @@ impl Record {
     {
         match &mut self.life {
             Life::Live(live) => live.parked = Some(frame),
-            Life::Ended(_) => unreachable!(),
+            _ => unreachable!(),
         }
     }
 
@@ -196,7 +233,7 @@ impl Record {
     {
         match &mut self.life {
             Life::Live(live) => live.parked.take(),
-            Life::Ended(_) => None,
+            _ => None,
         }
     }
 
@@ -207,7 +244,7 @@ impl Record {
     {
         match &self.life {
             Life::Live(live) => &live.receiver,
-            Life::Ended(_) => unreachable!(),
+            _ => unreachable!(),
         }
     }
 
@@ -217,7 +254,7 @@ impl Record {
     {
         match &self.life {
             Life::Live(live) => live.waiting.front(),
-            Life::Ended(_) => None,
+            _ => None,
         }
     }
 
@@ -227,7 +264,7 @@ impl Record {
     {
         match &self.life {
             Life::Live(live) => live.waiting.len(),
-            Life::Ended(_) => 0,
+            _ => 0,
         }
     }
 
@@ -237,7 +274,7 @@ impl Record {
     {
         match &self.life {
             Life::Live(live) => live.parked.as_ref(),
-            Life::Ended(_) => None,
+            _ => None,
         }
     }
 
@@ -247,7 +284,7 @@ impl Record {
     {
         match &self.life {
             Life::Live(live) => live.place,
-            Life::Ended(_) => 0,
+            _ => 0,
         }
     }
 
@@ -257,7 +294,7 @@ impl Record {
     {
         match &self.life {
             Life::Live(live) => live.living.get(&ordinal).copied(),
-            Life::Ended(_) => None,
+            _ => None,
         }
     }
 
@@ -276,7 +313,7 @@ impl Record {
                     None => None,
                 }
             }
-            Life::Ended(_) => None,
+            _ => None,
         }
     }
 }

@@ -1,9 +1,9 @@
-ghost use Rattle.std.specs.Prelude.{ℕ, ◌≡◌, ◌<◌, ◌+◌, ◌^◌, length, None, Some, false, true, [], ◌++◌, ◌∷◌, IfOk, IfSome, OnErr, OnOk, option_copied, slice_get};
-ghost use Rattle.cilk_spawn.specs.Nodes.{node_at, is_live, live_ids, has_live_child, is_synched, takes_value, root_alone, with_child, delivered, taken, ended, with_parked, marked_below, path_at, IsTree};
-ghost use Rattle.cilk_spawn.specs.Family.{IsRoll};
+ghost use Rattle.std.specs.Prelude.{ℕ, ◌≡◌, ◌<◌, ◌+◌, ◌^◌, length, None, Some, false, true, [], ◌++◌, ◌∷◌, IfOk, IfSome, OnErr, OnOk, cond, nat_lt, option_copied, slice_get};
+ghost use Rattle.cilk_spawn.specs.Nodes.{node_at, is_live, live_ids, has_live_child, is_synched, takes_value, root_alone, with_child, delivered, taken, fate_at, ended, with_parked, marked_below, path_at, IsTree};
 
 use crate::delivery::Delivery;
 use crate::ending::Ending;
+use crate::fate::Fate;
 use crate::leaving::{leave_parent, settle};
 use crate::path::Path;
 use crate::receiver::Receiver;
@@ -113,13 +113,20 @@ impl Tree {
         }
     }
 
-    /// Takes the oldest delivery that waits for a live instance.
-    pub fn take_delivery(&mut self, id: Id) -> Option<Delivery>
+    /// Takes the oldest delivery that waits for a live instance, at this choice. Its child, if that
+    /// lives no more, is Delivered from then on.
+    pub fn take_delivery(&mut self, id: Id, choice: u64) -> Option<Delivery>
         requires live { is_live (node_at self.old.nodes id) ≡ true }
         ensures result { result ≡ slice_get (node_at self.old.nodes id).waiting 0 }
-        ensures tree { self.new ≡ record self.old { nodes = taken self.old.nodes id } }
+        ensures tree { self.new ≡ record self.old { nodes = taken self.old.nodes id choice } }
     {
-        self.records[id.number()].take_oldest()
+        match self.records[id.number()].take_oldest() {
+            None => None,
+            Some(delivery) => {
+                self.records[delivery.child.number()].lose_value(choice);
+                Some(delivery)
+            }
+        }
     }
 
     /// Marks the live descendants of a live instance (Cilk 5.4 manual, `abort`).
@@ -159,17 +166,17 @@ impl Tree {
         }
     }
 
-    /// A live instance, all of whose children have ended, ends too.
-    pub fn end(&mut self, id: Id, ending: Ending)
+    /// A live instance, all of whose children have ended, ends too, at this choice.
+    pub fn end(&mut self, id: Id, ending: Ending, choice: u64)
         requires live { is_live (node_at self.old.nodes id) ≡ true }
         requires children { has_live_child self.old.nodes id ≡ false }
         requires parked { (node_at self.old.nodes id).parked ≡ None }
-        ensures { self.new.nodes ≡ ended self.old.nodes id ending }
+        ensures { self.new.nodes ≡ ended self.old.nodes id (fate_at ending choice) }
     {
         let number = id.number();
         let place = self.records[number].place();
         leave_parent(&mut self.records, number);
-        self.records[number].end(ending);
+        self.records[number].end(ending, choice);
         self.living.swap_remove(place);
         settle(&mut self.records, self.living.as_slice(), place);
     }
@@ -208,8 +215,35 @@ impl Tree {
         Ok(Path::new(numbers))
     }
 
-    /// The live instance with this path.
+    /// The instance with this path, whether it lives or not.
     pub fn find(&self, path: &[u32]) -> Option<Id>
+        ensures found { IfSome result (λ id. (id < length self.now.nodes) × (path_at self.now.nodes id ≡ path.now)) }
+        ensures all { (id : ℕ) → id < length self.now.nodes → path_at self.now.nodes id ≡ path.now → result ≡ Some id }
+    {
+        match self.find_live(path) {
+            Some(id) => Some(id),
+            None => self.find_made(path),
+        }
+    }
+
+    // A child was made after its parent.
+    fn find_made(&self, path: &[u32]) -> Option<Id>
+        ensures found { IfSome result (λ id. (id < length self.now.nodes) × (path_at self.now.nodes id ≡ path.now)) }
+        ensures all { (id : ℕ) → id < length self.now.nodes → path_at self.now.nodes id ≡ path.now → result ≡ Some id }
+    {
+        let mut at = Id::new(0);
+        let mut depth = 0;
+        for i in 0..self.records.len() {
+            if depth < path.len() && self.records[i].is_child(at, path[depth]) {
+                at = Id::new(i);
+                depth += 1;
+            }
+        }
+        if depth == path.len() { Some(at) } else { None }
+    }
+
+    fn find_live(&self, path: &[u32]) -> Option<Id>
+        ensures tree { IsTree self.now.nodes }
         ensures found { IfSome result (λ id. (is_live (node_at self.now.nodes id) ≡ true) × (path_at self.now.nodes id ≡ path.now)) }
         ensures all { (id : ℕ) → is_live (node_at self.now.nodes id) ≡ true → path_at self.now.nodes id ≡ path.now → result ≡ Some id }
     {
@@ -306,13 +340,23 @@ impl Tree {
         self.living.len()
     }
 
-    /// The live instances one after another, each once, from place 0 on. A birth puts the new one
-    /// behind the others, and an end may give its place to the last.
+    /// The instances ever made one after another, in the order of birth, from place 0 on.
     pub fn nth(&self, i: usize) -> Option<Id>
-        ensures id { result ≡ slice_get self.now.living i }
-        ensures each { IsRoll self.now.nodes self.now.living }
+        ensures { result ≡ cond (nat_lt i (length self.now.nodes)) (Some i) None }
     {
-        self.living.get(i).copied()
+        if i < self.records.len() {
+            Some(Id::new(i))
+        } else {
+            None
+        }
+    }
+
+    /// What became of it.
+    pub fn fate(&self, id: Id) -> Fate
+        requires { id < length self.now.nodes }
+        ensures { result ≡ (node_at self.now.nodes id).fate }
+    {
+        self.records[id.number()].fate()
     }
 
     /// The frame of an instance, if it is parked.

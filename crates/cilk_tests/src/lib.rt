@@ -3,8 +3,12 @@
 #![tactic(auto)]
 
 #[cfg(test)]
+mod debugging;
+#[cfg(test)]
 mod front;
 #[cfg(test)]
 mod recorded;
 #[cfg(test)]
 mod running;
+#[cfg(test)]
+mod sessions;

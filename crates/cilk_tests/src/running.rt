@@ -3,6 +3,7 @@
 
 mod alone;
 mod closing;
+mod fates;
 mod frames;
 mod hands;
 mod inlets;
@@ -17,6 +18,6 @@ use std::alloc::Global;
 use std::process::Abort;
 
 // The program of a text.
-fn program(rt: &impl Abort, alloc: Global, text: &str) -> Loaded {
+pub(crate) fn program(rt: &impl Abort, alloc: Global, text: &str) -> Loaded {
     ready_of(alloc, text.as_bytes()).expect(rt, "a program")
 }

@@ -1,3 +1,4 @@
 mod Requests
 mod Refusals
+mod Simple
 mod Rows

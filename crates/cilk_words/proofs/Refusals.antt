@@ -1,5 +1,7 @@
 -- What an error of the command line tells of the words.
-use Rattle.std.proofs.Common.{◌≡◌, ◌⊎◌, ◌||◌, ◌&&◌, ◌∙◌, inl, inr, refl, sym, ap, Bool, true, false, List, [], ◌∷◌, Option, None}
+use Rattle.std.proofs.Common.{◌≡◌, ◌⊎◌, ◌||◌, ◌&&◌, ◌∙◌, inl, inr, refl, sym, ap, Bool, true, false, List, [], ◌∷◌, Option, Some, None}
+use Rattle.std.specs.Prelude.{String}
+use Rattle.std.specs.Global.{Global}
 use Rattle.std.specs.List.{list_all, list_any}
 use Rattle.std.proofs.Math.Bool.{or-true}
 use Rattle.clap.specs.Kinds.{IsAmong, Kinds}
@@ -8,7 +10,8 @@ use Rattle.clap.specs.declared.error.kind.ErrorKind.{ErrorKind}
 use Rattle.clap.specs.declared.error.kind.ErrorKind.TheVariants.{OutOfMemory}
 use Rattle.cilk_words.specs.declared.refusal.Refusal.{Refusal}
 use Rattle.cilk_words.specs.declared.refusal.Refusal.TheVariants as refusal
-use Rattle.cilk_words.specs.CommandLine.{command_line, unless_fault}
+use Rattle.cilk_words.specs.declared.dash.Dash.{Dash}
+use Rattle.cilk_words.specs.CommandLine.{Asked, asked, command_line, dash_of, request_of_any, unless_fault, wished}
 use Rattle.cilk_words.specs.Refusing.{Tells, TellsOf, are_shown, is_help, is_shown, is_version}
 
 nothing_asked : (kinds : Kinds) (sub : Option (Text × List Row)) (k : ErrorKind) → IsAmong k kinds → unless_fault kinds sub ≡ None
@@ -33,13 +36,34 @@ not_shown : (k : ErrorKind) (kinds : Kinds) → IsAmong k kinds → is_shown k �
 not_shown k [] among is = absurd among
 not_shown k (x ∷ xs) among is = not_all k (x ∷ xs) among is
 
+asks_nothing : (words : List Text) → wished words ≡ None → asked words ≡ None
+asks_nothing words none = rw none refl
+
 -- an error of one of the kinds that the words lead to tells of the words
 pub told : (words : List Text) (k : ErrorKind) (r : Refusal) → (k ≡ OutOfMemory) ⊎ IsAmong k (fault_of command_line words) → TellsOf k r → Tells words r
 told words k refusal.Memory why tells = tt
+told words k (refusal.Dash d) why tells = absurd tells
 told words k (refusal.Help text) (inl memory) tells = cc
-told words k (refusal.Help text) (inr among) tells = (nothing_asked _ (subcommand_of command_line words) k among, any_is is_help k _ among (ap is_help tells))
+told words k (refusal.Help text) (inr among) tells =
+    (asks_nothing words (nothing_asked _ (subcommand_of command_line words) k among), any_is is_help k _ among (ap is_help tells))
 told words k (refusal.Version text) (inl memory) tells = cc
 told words k (refusal.Version text) (inr among) tells =
-    (nothing_asked _ (subcommand_of command_line words) k among, any_is is_version k _ among (ap is_version tells))
+    (asks_nothing words (nothing_asked _ (subcommand_of command_line words) k among), any_is is_version k _ among (ap is_version tells))
 told words k (refusal.Usage text) (inl memory) tells = absurd (tells.1 memory)
-told words k (refusal.Usage text) (inr among) tells = (nothing_asked _ (subcommand_of command_line words) k among, not_shown k _ among tells.0)
+told words k (refusal.Usage text) (inr among) tells =
+    (asks_nothing words (nothing_asked _ (subcommand_of command_line words) k among), not_shown k _ among tells.0)
+
+-- ---- words without a fault
+
+-- they ask for what was found, unless it has a dash
+pub asks : (words : List Text) (a : Asked) → fault_of command_line words ≡ [] → Some a ≡ request_of_any (subcommand_of command_line words) → dash_of a ≡ None
+    → asked words ≡ Some a
+asks words a no_fault found no_dash = rw (no_fault, ← found, no_dash) refl
+
+pub tells_of_dash : (words : List Text) (a : Asked) (d : Dash) → fault_of command_line words ≡ []
+    → Some a ≡ request_of_any (subcommand_of command_line words) → Some d ≡ dash_of a → Tells words (refusal.Dash d)
+tells_of_dash words a d no_fault found dashed = (rw (no_fault, ← found) (sym dashed), (rw (no_fault, ← found, ← dashed) refl, rw no_fault refl))
+
+pub tells_of_none : (words : List Text) (text : String Global) → fault_of command_line words ≡ [] → None ≡ request_of_any (subcommand_of command_line words)
+    → Tells words (refusal.Usage text)
+tells_of_none words text no_fault found = (rw (no_fault, ← found) refl, rw no_fault refl)

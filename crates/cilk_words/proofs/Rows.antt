@@ -1,53 +1,49 @@
 -- What some command lines ask for, and which faults some have.
-use Rattle.std.proofs.Common.{◌≡◌, refl, [], ◌∷◌, Some, true, false, codes}
-use Rattle.clap.specs.Words.{Text, fault_of, is_simple_and_free}
+use Rattle.std.proofs.Common.{◌≡◌, refl, [], ◌∷◌, Some, None, true, false, codes}
+use Rattle.std.specs.Prelude.{option_and_then}
+use Rattle.clap.specs.Words.{Text, fault_of}
 use Rattle.clap.proofs.OnLiterals.{clap_on_literals}
 use Rattle.clap.specs.declared.error.kind.ErrorKind.TheVariants as kind
-use Rattle.cilk_words.specs.declared.request.Task.{Task}
-use Rattle.cilk_words.specs.declared.request.Task.TheVariants as task
-use Rattle.cilk_words.specs.CommandLine.{Asked, asked, command_line}
+use Rattle.cilk_words.specs.declared.dash.Dash.TheVariants as dash
+use Rattle.cilk_words.specs.CommandLine.{Asked, Wanted, printed, checked, run, replayed, debugged, asked, command_line, dash_of, wished}
 use Rattle.cilk_words.specs.Refusing.{asks_for_help, asks_to_show}
 
 -- what is asked for without the flag, and with it
-abbrev briefly : Task → Text → Asked
-briefly wanted name = record { task = wanted; name = name; explain = false }
+abbrev briefly : Wanted → Text → Asked
+briefly wanted name = record { wanted = wanted; name = name; explain = false }
 
-abbrev at_length : Task → Text → Asked
-at_length wanted name = record { task = wanted; name = name; explain = true }
+abbrev at_length : Wanted → Text → Asked
+at_length wanted name = record { wanted = wanted; name = name; explain = true }
 
-is_simple : is_simple_and_free command_line ≡ true
-unfolding clap_on_literals
-is_simple = refl
-
-prints : asked (codes "cilk" ∷ codes "print" ∷ codes "a" ∷ []) ≡ Some (briefly task.Print (codes "a"))
+prints : asked (codes "cilk" ∷ codes "print" ∷ codes "a" ∷ []) ≡ Some (briefly printed (codes "a"))
 unfolding clap_on_literals
 prints = refl
 
-checks : asked (codes "cilk" ∷ codes "check" ∷ codes "-" ∷ []) ≡ Some (briefly task.Check (codes "-"))
+checks : asked (codes "cilk" ∷ codes "check" ∷ codes "-" ∷ []) ≡ Some (briefly checked (codes "-"))
 unfolding clap_on_literals
 checks = refl
 
-runs : asked (codes "cilk" ∷ codes "run" ∷ codes "a" ∷ []) ≡ Some (briefly (task.Run 1000000) (codes "a"))
+runs : asked (codes "cilk" ∷ codes "run" ∷ codes "a" ∷ []) ≡ Some (briefly (run 1000000 None) (codes "a"))
 unfolding clap_on_literals
 runs = refl
 
-runs_limited : asked (codes "cilk" ∷ codes "run" ∷ codes "a" ∷ codes "--limit" ∷ codes "5" ∷ []) ≡ Some (briefly (task.Run 5) (codes "a"))
+runs_limited : asked (codes "cilk" ∷ codes "run" ∷ codes "a" ∷ codes "--limit" ∷ codes "5" ∷ []) ≡ Some (briefly (run 5 None) (codes "a"))
 unfolding clap_on_literals
 runs_limited = refl
 
-explains_print : asked (codes "cilk" ∷ codes "print" ∷ codes "a" ∷ codes "--explain" ∷ []) ≡ Some (at_length task.Print (codes "a"))
+explains_print : asked (codes "cilk" ∷ codes "print" ∷ codes "a" ∷ codes "--explain" ∷ []) ≡ Some (at_length printed (codes "a"))
 unfolding clap_on_literals
 explains_print = refl
 
-explains_check : asked (codes "cilk" ∷ codes "check" ∷ codes "--explain" ∷ codes "-" ∷ []) ≡ Some (at_length task.Check (codes "-"))
+explains_check : asked (codes "cilk" ∷ codes "check" ∷ codes "--explain" ∷ codes "-" ∷ []) ≡ Some (at_length checked (codes "-"))
 unfolding clap_on_literals
 explains_check = refl
 
-explains_run : asked (codes "cilk" ∷ codes "run" ∷ codes "a" ∷ codes "--explain" ∷ codes "--limit" ∷ codes "5" ∷ []) ≡ Some (at_length (task.Run 5) (codes "a"))
+explains_run : asked (codes "cilk" ∷ codes "run" ∷ codes "a" ∷ codes "--explain" ∷ codes "--limit" ∷ codes "5" ∷ []) ≡ Some (at_length (run 5 None) (codes "a"))
 unfolding clap_on_literals
 explains_run = refl
 
-names_a_text : asked (codes "cilk" ∷ codes "check" ∷ codes "--" ∷ codes "--explain" ∷ []) ≡ Some (briefly task.Check (codes "--explain"))
+names_a_text : asked (codes "cilk" ∷ codes "check" ∷ codes "--" ∷ codes "--explain" ∷ []) ≡ Some (briefly checked (codes "--explain"))
 unfolding clap_on_literals
 names_a_text = refl
 
@@ -98,3 +94,50 @@ has_one_version = refl
 is_no_subcommand : fault_of command_line (codes "cilk" ∷ codes "frob" ∷ []) ≡ kind.UnknownArgument ∷ kind.InvalidSubcommand ∷ []
 unfolding clap_on_literals
 is_no_subcommand = refl
+
+-- ---- logs
+
+writes_a_log : asked (codes "cilk" ∷ codes "run" ∷ codes "a" ∷ codes "--log" ∷ codes "g" ∷ []) ≡ Some (briefly (run 1000000 (Some (codes "g"))) (codes "a"))
+unfolding clap_on_literals
+writes_a_log = refl
+
+has_one_worker : asked (codes "cilk" ∷ codes "run" ∷ codes "--workers" ∷ codes "1" ∷ codes "-" ∷ []) ≡ Some (briefly (run 1000000 None) (codes "-"))
+unfolding clap_on_literals
+has_one_worker = refl
+
+has_no_two_workers : fault_of command_line (codes "cilk" ∷ codes "run" ∷ codes "--workers" ∷ codes "2" ∷ codes "a" ∷ []) ≡ kind.ValueValidation ∷ []
+unfolding clap_on_literals
+has_no_two_workers = refl
+
+replays : asked (codes "cilk" ∷ codes "replay" ∷ codes "-" ∷ codes "g" ∷ []) ≡ Some (briefly (replayed (codes "g")) (codes "-"))
+unfolding clap_on_literals
+replays = refl
+
+debugs : asked (codes "cilk" ∷ codes "debug" ∷ codes "a" ∷ codes "g" ∷ []) ≡ Some (briefly (debugged (codes "g")) (codes "a"))
+unfolding clap_on_literals
+debugs = refl
+
+wants_a_log : fault_of command_line (codes "cilk" ∷ codes "replay" ∷ codes "a" ∷ []) ≡ kind.MissingRequiredArgument ∷ []
+unfolding clap_on_literals
+wants_a_log = refl
+
+explains_no_replay : fault_of command_line (codes "cilk" ∷ codes "replay" ∷ codes "a" ∷ codes "g" ∷ codes "--explain" ∷ []) ≡ kind.UnknownArgument ∷ []
+unfolding clap_on_literals
+explains_no_replay = refl
+
+-- a log is no dash, nor is a program where commands are read
+writes_no_dash : option_and_then dash_of (wished (codes "cilk" ∷ codes "run" ∷ codes "a" ∷ codes "--log" ∷ codes "-" ∷ [])) ≡ Some dash.Log
+unfolding clap_on_literals
+writes_no_dash = refl
+
+replays_no_dash : option_and_then dash_of (wished (codes "cilk" ∷ codes "replay" ∷ codes "-" ∷ codes "-" ∷ [])) ≡ Some dash.Log
+unfolding clap_on_literals
+replays_no_dash = refl
+
+debugs_no_dash : option_and_then dash_of (wished (codes "cilk" ∷ codes "debug" ∷ codes "-" ∷ codes "g" ∷ [])) ≡ Some dash.Program
+unfolding clap_on_literals
+debugs_no_dash = refl
+
+asks_nothing_with_a_dash : asked (codes "cilk" ∷ codes "debug" ∷ codes "a" ∷ codes "-" ∷ []) ≡ None
+unfolding clap_on_literals
+asks_nothing_with_a_dash = refl

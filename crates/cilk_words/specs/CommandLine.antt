@@ -1,5 +1,5 @@
 -- What the words of a command line ask for.
-use Rattle.std.specs.Prelude.{ℕ, Bool, true, false, String, List, map, [], ◌∷◌, Option, Some, None, ◌-◌, ◌^◌, pos, codes, if◌then◌else◌, option_and_then, option_map}
+use Rattle.std.specs.Prelude.{ℕ, Bool, true, false, String, List, map, [], ◌∷◌, Option, Some, None, is_some, ◌-◌, ◌^◌, pos, codes, if◌then◌else◌, option_and_then, option_map}
 use Rattle.std.specs.Global.{Global}
 use Rattle.std.specs.String.{string_bytes}
 use Rattle.std.specs.Str.{bytes_eq}
@@ -9,31 +9,64 @@ use Rattle.clap.specs.Kinds.{Kinds}
 use Rattle.clap.specs.Simple.{on_top}
 use Rattle.clap.specs.Words.{App, Row, Rule, Text, fault_of, first_of, new_app, new_rule, one_of, subcommand_of, with_rule, with_subcommand}
 use Rattle.clap.specs.declared.builder.action.ArgAction.TheVariants.{Set, SetTrue}
+use Rattle.clap.specs.declared.builder.value_parser.ValueParser.{ValueParser}
 use Rattle.clap.specs.declared.builder.value_parser.ValueParser.TheVariants.{Signed}
+use Rattle.cilk_words.specs.declared.dash.Dash.{Dash}
+use Rattle.cilk_words.specs.declared.dash.Dash.TheVariants as dash
 use Rattle.cilk_words.specs.declared.request.Request.{Request}
 use Rattle.cilk_words.specs.declared.request.Task.{Task}
 use Rattle.cilk_words.specs.declared.request.Task.TheVariants as task
+
+-- ---- the command line
 
 -- the argument that names a text
 abbrev pub file_rule : Rule
 file_rule = record (new_rule (codes "F")) { required = true; action = Some Set }
 
+-- the argument that names a log
+abbrev pub log_rule : Rule
+log_rule = record (new_rule (codes "G")) { required = true; action = Some Set }
+
+-- an option that takes a number, by this parser
+abbrev pub number_rule : Text → ValueParser → Text → Rule
+number_rule name parser default = record (new_rule name) {
+  long = Some name;
+  value_names = 1;
+  parser = Some parser;
+  defaults = default ∷ [];
+}
+
 -- the option that says how many choices a run may make
 abbrev pub limit_rule : Rule
-limit_rule = record (new_rule (codes "limit")) {
-  long = Some (codes "limit");
-  value_names = 1;
-  parser = Some (Signed (pos 1) (pos 10000000));
-  defaults = codes "1000000" ∷ [];
-}
+limit_rule = number_rule (codes "limit") (Signed (pos 1) (pos 10000000)) (codes "1000000")
+
+-- the option that says how many workers a run has, which takes 1 alone
+abbrev pub workers_rule : Rule
+workers_rule = number_rule (codes "workers") (Signed (pos 1) (pos 1)) (codes "1")
+
+-- the option that names the log to be written of a run
+abbrev pub written_rule : Rule
+written_rule = record (new_rule (codes "log")) { long = Some (codes "log"); value_names = 1; action = Some Set }
 
 -- the flag by which more is said of a fault
 abbrev pub explain_rule : Rule
 explain_rule = record (new_rule (codes "explain")) { long = Some (codes "explain"); action = Some SetTrue }
 
--- a subcommand on a text, of whose faults more may be said
+-- a subcommand on a text
 abbrev pub on_text : Text → App
-on_text name = with_rule (with_rule (new_app name) file_rule) explain_rule
+on_text name = with_rule (new_app name) file_rule
+
+-- one of whose faults more may be said
+abbrev pub on_explained : Text → App
+on_explained name = with_rule (on_text name) explain_rule
+
+-- one on a text and a log
+abbrev pub on_log : Text → App
+on_log name = with_rule (on_text name) log_rule
+
+-- a run, of which a log may be written
+abbrev pub on_run : App
+on_run = with_rule (with_rule (with_rule (on_explained (codes "run")) workers_rule) limit_rule) written_rule
 
 -- the program, which wants one of its subcommands
 abbrev pub bare : App
@@ -41,47 +74,70 @@ bare = on_top (λ s. record s { subcommand_required = true; arg_required_else_he
 
 -- the whole command line
 abbrev pub command_line : App
-command_line = with_subcommand (with_subcommand (with_subcommand bare (on_text (codes "print")).top)
-    (on_text (codes "check")).top) (with_rule (on_text (codes "run")) limit_rule).top
+command_line =
+    let front = with_subcommand (with_subcommand bare (on_explained (codes "print")).top) (on_explained (codes "check")).top in
+    let running = with_subcommand front on_run.top in
+    with_subcommand (with_subcommand running (on_log (codes "replay")).top) (on_log (codes "debug")).top
+
+-- ---- what is wished
+
+-- what is to be done with a text
+pub data Wanted : Type 0 where
+  printed : Wanted
+  checked : Wanted
+  -- run for at most so many choices, with a log of this name or none
+  run : (limit : ℕ) (log : Option Text) → Wanted
+  replayed : (log : Text) → Wanted
+  debugged : (log : Text) → Wanted
 
 -- the number that a word says in decimal, where 32 bits hold it
 abbrev pub number_of : Text → Option ℕ
 number_of word = if is_unsigned_in 0 (2 ^ 32 - 1) word then Some (digits_value 10 (without_leading_plus word)) else None
 
 -- a run for as many choices as a word says
-abbrev pub run_of : Option Text → Option Task
-run_of word = option_map (λ limit. task.Run limit) (option_and_then number_of word)
+abbrev pub run_of : Option Text → Option Text → Option Wanted
+run_of word log = option_map (λ limit. run limit log) (option_and_then number_of word)
 
--- the task that a subcommand of this name stands for, with what was given to it
-abbrev pub task_of : Text → List Row → Option Task
-task_of name rows =
-    if bytes_eq name (codes "print") then Some task.Print
-    else (if bytes_eq name (codes "check") then Some task.Check
-    else (if bytes_eq name (codes "run") then run_of (one_of (codes "limit") rows) else None))
+-- what a subcommand of this name wants, with what was given to it
+abbrev pub wanted_of : Text → List Row → Option Wanted
+wanted_of name rows =
+    if bytes_eq name (codes "print") then Some printed
+    else (if bytes_eq name (codes "check") then Some checked
+    else (if bytes_eq name (codes "run") then run_of (one_of (codes "limit") rows) (first_of (codes "log") rows)
+    else (if bytes_eq name (codes "replay") then option_map replayed (first_of (codes "G") rows)
+    else (if bytes_eq name (codes "debug") then option_map debugged (first_of (codes "G") rows) else None))))
 
 -- a flag is given, by the text that stands for it
 abbrev pub is_set : Option Text → Bool
 is_set None = false
 is_set (Some word) = bytes_eq word (codes "true")
 
--- a task, the name of the text that it is for, and whether more is to be said of a fault in that text
+-- what is wanted, the name of the text that it is for, and whether more is to be said of a fault in that text
 pub record Asked : Type 0 where
-  pub task : Task
+  pub wanted : Wanted
   pub name : Text
   pub explain : Bool
 
+-- what a task wants
+abbrev pub wanted_by : Task → Wanted
+wanted_by task.Print = printed
+wanted_by task.Check = checked
+wanted_by (task.Run limit log) = run limit (option_map (λ name. name.now) log)
+wanted_by (task.Replay log) = replayed log.now
+wanted_by (task.Debug log) = debugged log.now
+
 -- what a request asks for
 abbrev pub asked_by : Request → Asked
-asked_by r = record { task = r.task; name = r.name.now; explain = r.explain }
+asked_by r = record { wanted = wanted_by r.task; name = r.name.now; explain = r.explain }
 
--- what is asked for, where there is a task and a name
-abbrev pub request_for : Option Task → Option Text → Bool → Option Asked
-request_for (Some wanted) (Some name) explain = Some (record { task = wanted; name = name; explain = explain })
+-- what is asked for, where something is wanted and there is a name
+abbrev pub request_for : Option Wanted → Option Text → Bool → Option Asked
+request_for (Some wanted) (Some name) explain = Some (record { wanted = wanted; name = name; explain = explain })
 request_for _ _ explain = None
 
 -- what a subcommand asks for
 abbrev pub request_of : Text × List Row → Option Asked
-request_of sub = request_for (task_of sub.0 sub.1) (first_of (codes "F") sub.1) (is_set (one_of (codes "explain") sub.1))
+request_of sub = request_for (wanted_of sub.0 sub.1) (first_of (codes "F") sub.1) (is_set (one_of (codes "explain") sub.1))
 
 -- the same, where there is a subcommand
 abbrev pub request_of_any : Option (Text × List Row) → Option Asked
@@ -96,6 +152,34 @@ unless_fault (k ∷ ks) sub = None
 abbrev pub texts_of : List (String Global) → List Text
 texts_of = map string_bytes
 
+-- what the words ask for, dashes aside
+abbrev pub wished : List Text → Option Asked
+wished words = unless_fault (fault_of command_line words) (subcommand_of command_line words)
+
+-- ---- a dash that does not stand for standard input
+
+abbrev pub is_dash : Text → Bool
+is_dash name = bytes_eq name (codes "-")
+
+-- as a log
+abbrev pub log_dash : Text → Option Dash
+log_dash log = if is_dash log then Some dash.Log else None
+
+-- no log is a dash, and a program is none where commands are read from standard input
+abbrev pub dash_in : Wanted → Text → Option Dash
+dash_in printed name = None
+dash_in checked name = None
+dash_in (run limit log) name = option_and_then log_dash log
+dash_in (replayed log) name = log_dash log
+dash_in (debugged log) name = if is_dash name then Some dash.Program else log_dash log
+
+abbrev pub dash_of : Asked → Option Dash
+dash_of a = dash_in a.wanted a.name
+
+-- what is asked for, unless there is such a dash
+abbrev pub without_dash : Asked → Option Asked
+without_dash a = if is_some (dash_of a) then None else Some a
+
 -- what the words ask for
 abbrev pub asked : List Text → Option Asked
-asked words = unless_fault (fault_of command_line words) (subcommand_of command_line words)
+asked words = option_and_then without_dash (wished words)

@@ -1,11 +1,11 @@
 -- What is told where words ask for nothing to be done.
-use Rattle.std.specs.Prelude.{◌≡◌, ◌≢◌, Bool, true, false, List, [], ◌∷◌, None}
+use Rattle.std.specs.Prelude.{◌≡◌, ◌≢◌, Bool, true, false, List, [], ◌∷◌, Some, None, option_and_then}
 use Rattle.std.specs.List.{list_all, list_any}
 use Rattle.clap.specs.Kinds.{Kinds}
 use Rattle.clap.specs.Words.{Text, fault_of}
 use Rattle.clap.specs.declared.error.kind.ErrorKind.{ErrorKind}
 use Rattle.clap.specs.declared.error.kind.ErrorKind.TheVariants as kind
-use Rattle.cilk_words.specs.CommandLine.{asked, command_line}
+use Rattle.cilk_words.specs.CommandLine.{asked, command_line, dash_of, wished}
 use Rattle.cilk_words.specs.declared.refusal.Refusal.{Refusal}
 use Rattle.cilk_words.specs.declared.refusal.Refusal.TheVariants as refusal
 
@@ -47,6 +47,7 @@ abbrev pub TellsOf : ErrorKind → Refusal → Type 0
 TellsOf k (refusal.Help text) = k ≡ kind.DisplayHelp
 TellsOf k (refusal.Version text) = k ≡ kind.DisplayVersion
 TellsOf k (refusal.Usage text) = (is_shown k ≡ false) × (k ≢ kind.OutOfMemory)
+TellsOf k (refusal.Dash where_it_is) = ⊥
 TellsOf k refusal.Memory = Unit {0}
 
 -- what is told of words that ask for nothing to be done, unless memory runs out
@@ -54,4 +55,5 @@ abbrev pub Tells : List Text → Refusal → Type 0
 Tells words (refusal.Help text) = (asked words ≡ None) × (asks_for_help words ≡ true)
 Tells words (refusal.Version text) = (asked words ≡ None) × (asks_for_version words ≡ true)
 Tells words (refusal.Usage text) = (asked words ≡ None) × (asks_to_show words ≡ false)
+Tells words (refusal.Dash where_it_is) = (option_and_then dash_of (wished words) ≡ Some where_it_is) × ((asked words ≡ None) × (asks_to_show words ≡ false))
 Tells words refusal.Memory = Unit {0}

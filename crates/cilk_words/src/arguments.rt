@@ -1,35 +1,46 @@
-ghost use Rattle.std.specs.Prelude.{◌≡◌, IfOk};
-ghost use Rattle.clap.specs.Words.{FailsBy, app_of, fault_of, subcommand_of, subcommand_rows_of};
-ghost use Rattle.cilk_words.specs.CommandLine.{command_line, on_text, texts_of};
+ghost use Rattle.std.specs.Prelude.{◌≡◌, IfOk, false};
+ghost use Rattle.clap.specs.Words.{FailsBy, app_of, fault_of, rule_of, subcommand_of, subcommand_rows_of};
+ghost use Rattle.cilk_words.specs.CommandLine.{command_line, number_rule, on_explained, on_log, on_run, on_text, texts_of};
 
+use clap::builder::ValueParser;
 use clap::{Arg, ArgAction, ArgMatches, Command, Error, value_parser};
 use std::alloc::{AllocError, Global};
 
 /// The name of the argument that names the program's text.
 pub const FILE: &str = "F";
 
+/// The name of the argument that names a log.
+pub const LOG: &str = "G";
+
 /// The name of the argument that says how many choices a run may make.
 pub const LIMIT: &str = "limit";
 
+/// The name of the argument that names the log to be written of a run.
+pub const WRITTEN: &str = "log";
+
 /// The name of the flag by which more is said of a fault.
 pub const EXPLAIN: &str = "explain";
+
+const WORKERS: &str = "workers";
 
 const VERSION: &str = "0.1.0";
 
 // What the help of the program ends with.
 const STATUSES: &str = "\
-Limit of a run:
-  run F --limit K  makes at most K choices, from 1 to 10,000,000 [default: 1,000,000]
+A run:
+  run F --limit K    makes at most K choices, from 1 to 10,000,000 [default: 1,000,000]
+  run F --log G      writes its log to the file G
+  run F --workers N  has N workers, of which there can be 1 alone so far [default: 1]
 
 Exit status:
   0  done
-  1  the program is refused
+  1  the program or the log is refused
   2  the command line is wrong
   3  the run ended with a trap
   4  the run is stuck
   5  the run met its limit of choices
   6  memory has run out
-  7  the text cannot be read, or the output cannot be written";
+  7  a file cannot be read or written, or the input or the output failed";
 
 /// Which subcommand the words name, and with what.
 pub fn parse<'a>(alloc: Global, words: &'a [String]) -> Result<ArgMatches<'a>, Error>
@@ -45,40 +56,111 @@ pub fn parse<'a>(alloc: Global, words: &'a [String]) -> Result<ArgMatches<'a>, E
 pub fn command<'a>(alloc: Global) -> Result<Command<'a>, AllocError>
     ensures { IfOk result (λ c. app_of c ≡ command_line) }
 {
-    let print = on_file(alloc, "print", "Prints the canonical text of a program")?;
-    let check = on_file(alloc, "check", "Says whether a program may be run")?;
-    let limit = Arg::new(alloc, LIMIT)
-        .long(LIMIT)
-        .value_name("K")
-        .value_parser(value_parser!(u32).range(1..=10_000_000))
-        .default_value("1000000")
-        .help("At most so many choices are made, from 1 to 10,000,000");
-    let run = on_file(alloc, "run", "Runs a program, and tells how it ends")?.arg(limit)?;
+    let print = on_explained(alloc, "print", "Prints the canonical text of a program")?;
+    let check = on_explained(alloc, "check", "Says whether a program may be run")?;
+    let run = on_run(alloc)?;
+    let replay = on_log(
+        alloc,
+        "replay",
+        "Makes the choices of a log again, and tells how they end",
+    )?;
+    let debug = on_log(
+        alloc,
+        "debug",
+        "Answers commands on a log, read from standard input",
+    )?;
     Command::new(alloc, "cilk")
-        .about("Reads programs in Cilk 5.4")
+        .about("Reads and runs programs in Cilk 5.4")
         .version(VERSION)
         .after_help(STATUSES)
         .subcommand_required(true)
         .arg_required_else_help(true)
         .subcommand(print)?
         .subcommand(check)?
-        .subcommand(run)
+        .subcommand(run)?
+        .subcommand(replay)?
+        .subcommand(debug)
 }
 
 // A subcommand on one program's text, of whose faults more may be said.
-fn on_file<'a>(alloc: Global, name: &'a str, about: &'a str) -> Result<Command<'a>, AllocError>
+fn on_explained<'a>(alloc: Global, name: &'a str, about: &'a str) -> Result<Command<'a>, AllocError>
+    ensures { IfOk result (λ c. app_of c ≡ on_explained name.now) }
+{
+    let explain = Arg::new(alloc, EXPLAIN)
+        .long(EXPLAIN)
+        .action(ArgAction::SetTrue)
+        .help("Says more of a fault in the program");
+    on_text(
+        alloc,
+        name,
+        about,
+        "The program's text, or - for standard input",
+    )?
+    .arg(explain)
+}
+
+// A subcommand on one program's text and a log.
+fn on_log<'a>(alloc: Global, name: &'a str, about: &'a str) -> Result<Command<'a>, AllocError>
+    ensures { IfOk result (λ c. app_of c ≡ on_log name.now) }
+{
+    let log = Arg::new(alloc, LOG)
+        .required(true)
+        .action(ArgAction::Set)
+        .help("The log of a run, a file");
+    on_text(alloc, name, about, "The program's text")?.arg(log)
+}
+
+fn on_text<'a>(
+    alloc: Global,
+    name: &'a str,
+    about: &'a str,
+    help: &'a str,
+) -> Result<Command<'a>, AllocError>
     ensures { IfOk result (λ c. app_of c ≡ on_text name.now) }
 {
     let file = Arg::new(alloc, FILE)
         .required(true)
         .action(ArgAction::Set)
-        .help("The program's text, or - for standard input");
-    let explain = Arg::new(alloc, EXPLAIN)
-        .long(EXPLAIN)
-        .action(ArgAction::SetTrue)
-        .help("Says more of a fault in the program");
-    Command::new(alloc, name)
-        .about(about)
-        .arg(file)?
-        .arg(explain)
+        .help(help);
+    Command::new(alloc, name).about(about).arg(file)
+}
+
+fn on_run<'a>(alloc: Global) -> Result<Command<'a>, AllocError>
+    ensures { IfOk result (λ c. app_of c ≡ on_run) }
+{
+    let one = value_parser!(u32).range(1..=1);
+    let workers = number(alloc, WORKERS, "N", one, "1").help(
+        "How many workers the run has: 1 alone so far",
+    );
+    let choices = value_parser!(u32).range(1..=10_000_000);
+    let limit = number(alloc, LIMIT, "K", choices, "1000000").help(
+        "At most so many choices are made, from 1 to 10,000,000",
+    );
+    let log = Arg::new(alloc, WRITTEN)
+        .long(WRITTEN)
+        .value_name("G")
+        .action(ArgAction::Set)
+        .help("The file to which the log of the run is written");
+    on_explained(alloc, "run", "Runs a program, and tells how it ends")?
+        .arg(workers)?
+        .arg(limit)?
+        .arg(log)
+}
+
+// An option that takes a number, by a parser of numbers.
+fn number<'a>(
+    alloc: Global,
+    name: &'a str,
+    value: &'a str,
+    parser: ValueParser<'a>,
+    default: &'a str,
+) -> Arg<'a>
+    ensures rule { rule_of result ≡ number_rule name.now parser.entry default.now }
+    ensures local { result.global ≡ false }
+{
+    Arg::new(alloc, name)
+        .long(name)
+        .value_name(value)
+        .value_parser(parser)
+        .default_value(default)
 }

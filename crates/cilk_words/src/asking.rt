@@ -1,9 +1,11 @@
 ghost use Rattle.std.specs.Prelude.{◌≡◌, IfErr, IfOk, Some, codes, option_map};
 ghost use Rattle.clap.specs.Words.{found_of, one_of, rows_of, subcommand_rows_of};
-ghost use Rattle.cilk_words.specs.CommandLine.{asked, asked_by, is_set, request_of_any, task_of, texts_of};
+ghost use Rattle.cilk_words.specs.CommandLine.{asked, asked_by, is_set, request_of_any};
+ghost use Rattle.cilk_words.specs.CommandLine.{texts_of, wanted_by, wanted_of};
 ghost use Rattle.cilk_words.specs.Refusing.{Tells};
 
-use crate::arguments::{EXPLAIN, FILE, LIMIT, parse};
+use crate::arguments::{EXPLAIN, FILE, LIMIT, LOG, WRITTEN, parse};
+use crate::dash::Dash;
 use crate::refusal::Refusal;
 use crate::request::{Request, Task};
 use clap::ArgMatches;
@@ -14,12 +16,16 @@ pub fn request_in<'a>(alloc: Global, words: &'a [String]) -> Result<Request<'a>,
     ensures request { IfOk result (λ r. asked (texts_of words.now) ≡ Some (asked_by r)) }
     ensures refusal { IfErr result (Tells (texts_of words.now)) }
 {
-    match parse(alloc, words) {
-        Ok(matches) => match requested(&matches) {
-            Some(request) => Ok(request),
-            None => Err(Refusal::Usage(String::new(alloc))),
-        },
-        Err(error) => Err(Refusal::of_error(alloc, &error)),
+    let matches = match parse(alloc, words) {
+        Ok(matches) => matches,
+        Err(error) => return Err(Refusal::of_error(alloc, &error)),
+    };
+    let Some(request) = requested(&matches) else {
+        return Err(Refusal::Usage(String::new(alloc)));
+    };
+    match Dash::in_request(&request) {
+        Some(dash) => Err(Refusal::Dash(dash)),
+        None => Ok(request),
     }
 }
 
@@ -37,13 +43,22 @@ fn requested<'a>(matches: &ArgMatches<'a>) -> Option<Request<'a>>
     })
 }
 
-fn task_named(name: &str, found: &ArgMatches<'_>) -> Option<Task>
-    ensures { result ≡ task_of name.now (rows_of (found_of found.now)) }
+fn task_named<'a>(name: &str, found: &ArgMatches<'a>) -> Option<Task<'a>>
+    ensures { option_map wanted_by result ≡ wanted_of name.now (rows_of (found_of found.now)) }
 {
     match name {
         "print" => Some(Task::Print),
         "check" => Some(Task::Check),
-        "run" => Some(Task::Run(found.get_one(LIMIT)?)),
+        "run" => Some(Task::Run {
+            limit: found.get_one(LIMIT)?,
+            log: found.get_str(WRITTEN),
+        }),
+        "replay" => Some(Task::Replay {
+            log: found.get_str(LOG)?,
+        }),
+        "debug" => Some(Task::Debug {
+            log: found.get_str(LOG)?,
+        }),
         _ => None,
     }
 }

@@ -5,9 +5,11 @@
 
 mod arguments;
 mod asking;
+mod dash;
 mod refusal;
 mod request;
 
 pub use asking::request_in;
+pub use dash::Dash;
 pub use refusal::Refusal;
 pub use request::{Request, Task};

@@ -1,3 +1,4 @@
+use crate::dash::Dash;
 use clap::Error;
 use clap::error::ErrorKind;
 use std::alloc::Global;
@@ -11,6 +12,8 @@ pub enum Refusal {
     Version(String),
     /// The words are wrong, as this text says.
     Usage(String),
+    /// A dash stands where a file is to be named.
+    Dash(Dash),
     /// Memory has run out.
     Memory,
 }

@@ -1,19 +1,23 @@
 /// What is to be done with one program.
-#[derive(Clone, Copy, Debug, PartialEq, Eq)]
-pub enum Task {
+#[derive(Clone, Copy, Debug)]
+pub enum Task<'a> {
     /// To print its canonical text.
     Print,
     /// To say whether it may be run.
     Check,
-    /// To run it, for at most so many choices.
-    Run(u32),
+    /// To run it, for at most so many choices, and to write its log to the file of this name.
+    Run { limit: u32, log: Option<&'a str> },
+    /// To make the choices of the log of this name again.
+    Replay { log: &'a str },
+    /// To answer commands on the log of this name.
+    Debug { log: &'a str },
 }
 
 /// A task, the name of the text of the program that it is for, and whether more is to be said of a
 /// fault in that program.
 #[derive(Clone, Copy, Debug)]
 pub struct Request<'a> {
-    pub task: Task,
+    pub task: Task<'a>,
     pub name: &'a str,
     pub explain: bool,
 }

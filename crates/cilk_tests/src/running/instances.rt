@@ -6,7 +6,7 @@ ghost use Rattle.cilk_spawn.specs.Nodes.{node_at, is_live};
 use super::program;
 use cilk_eval::{Area, Slot};
 use cilk_spawn::{
-    Arguments, Delivery, Ending, Frame, Id, Path, Receiver, Tree, a_return_ends_and_sends,
+    Arguments, Delivery, Ending, Fate, Frame, Id, Path, Receiver, Tree, a_return_ends_and_sends,
     ids_change, paths_are_names, paths_stay, trees_stay_trees,
 };
 use cilk_syntax::BinOp;
@@ -68,12 +68,13 @@ fn delivery_word(rt: &impl Abort, alloc: Global, delivery: Option<&Delivery>) ->
 }
 
 // The live instance with this path.
-#[tactic(auto, using(cilk_spawn::proofs::Trees::live_there))]
 fn at(rt: &impl Abort, tree: &Tree, path: &[u32]) -> Id
     ensures there { result < length tree.now.nodes }
     ensures live { is_live (node_at tree.now.nodes result) ≡ true }
 {
-    tree.find(path).expect(rt, "an instance")
+    let id = tree.find(path).expect(rt, "an instance");
+    assert!(rt; tree.fate(id) == Fate::Live);
+    id
 }
 
 // The root and so many children whose values nobody takes.
@@ -103,14 +104,14 @@ fn give(rt: &impl Abort, tree: &mut Tree, path: &[u32], value: i32) {
         )
     );
     tree.deliver(child, value).expect(rt, "memory");
-    end(rt, tree, path, Ending::Returned);
+    end(rt, tree, path, Ending::Returned, 1);
 }
 
-fn end(rt: &impl Abort, tree: &mut Tree, path: &[u32], ending: Ending) {
+fn end(rt: &impl Abort, tree: &mut Tree, path: &[u32], ending: Ending, choice: u64) {
     let id = at(rt, tree, path);
     assert!(rt; !tree.has_live_child(id));
     assert!(rt; tree.parked(id).is_none());
-    tree.end(id, ending);
+    tree.end(id, ending, choice);
 }
 
 // The paths of those that an `abort` marked, of these.
@@ -181,20 +182,34 @@ fn readers_tell_what_was_put_in(rt: HostRuntime) {
 }
 
 #[test]
-fn those_that_ended_are_out(rt: HostRuntime) {
+fn those_that_ended_are_found_too(rt: HostRuntime) {
     let mut tree = family(&rt, rt.alloc(), 2);
     assert_eq!(rt; tree.live(), 3);
-    end(&rt, &mut tree, &[1], Ending::Returned);
+    end(&rt, &mut tree, &[1], Ending::Returned, 4);
     assert_eq!(rt; tree.live(), 2);
-    for (i, id) in [(0, Some(Id::new(0))), (1, Some(Id::new(2))), (2, None)] {
+    for (i, id) in [
+        (0, Some(Id::new(0))),
+        (1, Some(Id::new(1))),
+        (2, Some(Id::new(2))),
+        (3, None),
+    ] {
         assert_eq!(rt; tree.nth(i), id, "{i}");
     }
-    assert_eq!(rt; tree.find(&[1]), None);
+    assert_eq!(rt; tree.find(&[1]), Some(Id::new(1)));
     assert!(rt; tree.has_live_child(at(&rt, &tree, &[])));
-    end(&rt, &mut tree, &[2], Ending::Aborted);
+    end(&rt, &mut tree, &[2], Ending::Aborted, 5);
     assert!(rt; !tree.has_live_child(at(&rt, &tree, &[])));
     spawn(&rt, &mut tree, &[], Receiver::Nothing);
-    assert_eq!(rt; tree.find(&[3]), Some(Id::new(3)));
+    for (path, fate) in [
+        ([].as_slice(), Fate::Live),
+        ([1].as_slice(), Fate::Returned),
+        ([2].as_slice(), Fate::Aborted(5)),
+        ([3].as_slice(), Fate::Live),
+    ] {
+        let id = tree.find(path).expect(&rt, "an instance");
+        assert_eq!(rt; tree.fate(id), fate, "{path:?}");
+    }
+    assert_eq!(rt; tree.find(&[4]), None);
 }
 
 #[test]
@@ -213,7 +228,7 @@ fn an_abort_marks_those_below(rt: HostRuntime) {
     tree.mark_aborted(first);
     let words = marked(&rt, rt.alloc(), &tree, &paths);
     assert_eq!(rt; words.as_str(), "[1, 1][1, 1, 1]");
-    end(&rt, &mut tree, &[1, 1, 1], Ending::Aborted);
+    end(&rt, &mut tree, &[1, 1, 1], Ending::Aborted, 7);
     spawn(&rt, &mut tree, &[1, 1], Receiver::Nothing);
     assert!(rt; tree.is_aborted(at(&rt, &tree, &[1, 1, 2])));
     let root = at(&rt, &tree, &[]);
@@ -241,11 +256,15 @@ fn the_oldest_delivery_comes_first(rt: HostRuntime) {
         let root = at(&rt, &tree, &[]);
         let first = delivery_word(&rt, rt.alloc(), tree.first_delivery(root));
         assert_eq!(rt; first.as_str(), wanted);
-        let taken = tree.take_delivery(root);
+        let taken = tree.take_delivery(root, 8);
         let word = delivery_word(&rt, rt.alloc(), taken.as_ref());
         assert_eq!(rt; word.as_str(), wanted);
     }
     assert!(rt; tree.is_synched(at(&rt, &tree, &[])));
+    for path in [[1].as_slice(), [2].as_slice()] {
+        let child = tree.find(path).expect(&rt, "an instance");
+        assert_eq!(rt; tree.fate(child), Fate::Delivered(8), "{path:?}");
+    }
 }
 
 #[test]

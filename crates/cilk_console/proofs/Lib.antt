@@ -1,0 +1,4 @@
+mod Ordinals
+mod Known
+mod Cut
+mod Written

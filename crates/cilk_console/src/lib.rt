@@ -1,0 +1,21 @@
+//! What is asked of a debugger, line by line: the lines of an input, and the command that each one is.
+#![tactic(auto)]
+
+mod asking;
+mod chunk;
+mod command;
+mod fault;
+mod laws;
+mod lines;
+mod next;
+mod sending;
+mod taking;
+
+pub use asking::command_of;
+pub use cilk_view::What;
+pub use command::Command;
+pub use fault::{LineFault, ReadFault, WriteFault};
+pub use laws::lines_come_one_by_one;
+pub use lines::Lines;
+pub use next::Next;
+pub use sending::send;

@@ -1,0 +1,12 @@
+use crate::command::Command;
+
+/// What stands next in an input.
+#[derive(Debug, Drop)]
+pub enum Next {
+    /// A line with its newline asks this.
+    Line(Command),
+    /// The last line, which has no newline, asks this.
+    Last(Command),
+    /// No byte is left.
+    End,
+}

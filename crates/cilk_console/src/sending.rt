@@ -1,0 +1,35 @@
+//! What is written to who asked.
+
+ghost use Rattle.std.specs.Prelude.{OnOk};
+ghost use Rattle.std.specs.Io.KnownBytes.{Appends};
+
+use crate::fault::WriteFault;
+use std::io::Write;
+
+/// Writes a whole answer, and flushes it. Where there is none, nothing is flushed.
+pub fn send<W: Write>(writer: &mut W, answer: &[u8]) -> Result<(), WriteFault>
+    ensures { OnOk result (Appends (W.contents writer.old) (W.contents writer.new) answer.now) }
+{
+    if answer.is_empty() {
+        return Ok(());
+    }
+    write_whole(writer, answer)?;
+    match writer.flush() {
+        Err(_) => Err(WriteFault),
+        Ok(()) => Ok(()),
+    }
+}
+
+// What `write_all` does, but for a writer that was interrupted: that is not tried again.
+fn write_whole<W: Write>(writer: &mut W, answer: &[u8]) -> Result<(), WriteFault>
+    ensures { OnOk result (Appends (W.contents writer.old) (W.contents writer.new) answer.now) }
+{
+    let mut rest = answer;
+    while !rest.is_empty() {
+        match writer.write(rest) {
+            Ok(0) | Err(_) => return Err(WriteFault),
+            Ok(count) => rest = &rest[count..],
+        }
+    }
+    Ok(())
+}

@@ -1,0 +1,83 @@
+-- What is seen where a machine stands.
+use Rattle.std.proofs.Common.{◌≡◌, ◌≢◌, ℕ, Bool, List, [], ◌++◌, take, length, Option, Some, None, option_map, option_and_then, refl, ap, ◌∙◌, sym, subst}
+use Rattle.cilk_syntax.specs.Tree.{Program}
+use Rattle.cilk_labelled.specs.Bodies.{label}
+use Rattle.cilk_model.specs.State as state
+use Rattle.cilk_model.specs.Run.{Standing, Position}
+use Rattle.cilk_fates.proofs.Fates.{each_choice_is_an_event}
+use Rattle.cilk_seen.specs.What.{What, where_it_stands}
+use Rattle.cilk_seen.specs.Workers.{position_text}
+use Rattle.cilk_seen.specs.Views.{shown, first_line, view}
+use Rattle.cilk_view.specs.declared.what.What as code
+use Rattle.cilk_view.specs.declared.what.What.TheVariants.{Tree, Frame, Globals, Deques, Output, Where, List as Listing}
+use Rattle.cilk_view.specs.Words.{what_of}
+use Rattle.cilk_machine.specs.Situation.{Situation, workers_of}
+use Rattle.cilk_machine.specs.Stands.{StandsAt}
+use Rattle.cilk_replay.specs.Tape.{Tape, IsAt}
+use Rattle.cilk_replay.proofs.Again.{led_in}
+use Rattle.cilk_debug.specs.Debugging.{Debugging}
+use Rattle.cilk_debug.specs.Seeing.{seen_behind, line_of, line_behind}
+
+-- only the view of where it stands begins with a line of its own
+pub no_line : (p : Program) (at : Position) (m : ℕ) (what : code.What) → what ≢ Where → first_line p at m (what_of what) ≡ []
+no_line p at m Tree not = refl
+no_line p at m (Frame path) not = refl
+no_line p at m Globals not = refl
+no_line p at m Deques not = refl
+no_line p at m Output not = refl
+no_line p at m Where not = absurd (not refl)
+no_line p at m Listing not = refl
+
+module _ (t : Tape) (m : Situation) (h : IsAt t m.choices m) where
+  pub stands : StandsAt m h.at.standing
+  stands = record { choices = take m.choices t.choices; events = h.at.events; led = h.led }
+
+  as_many : length h.at.events ≡ m.choices
+  as_many = each_choice_is_an_event (label m.program) (workers_of m) (take m.choices t.choices) h.at h.led.led ∙ h.led.counted
+
+  seen_by : (what : What) → seen_behind t m.choices what ≡ view t.program h.at (length t.choices) what
+  seen_by what = ap (option_and_then (λ (at : Position). view t.program at (length t.choices) what)) (led_in t m.choices m h)
+
+  shown_by : (what : What) (o : Option (List ℕ)) → shown m.program h.at what ≡ o
+      → seen_behind t m.choices what ≡ option_map (λ (text : List ℕ). first_line t.program h.at (length t.choices) what ++ text) o
+  shown_by what o e =
+      seen_by what ∙ ap (option_map (λ (text : List ℕ). first_line t.program h.at (length t.choices) what ++ text))
+      (subst (λ (p : Program). shown p h.at what ≡ o) h.program e)
+
+  pub nothing : (what : code.What) → shown m.program h.at (what_of what) ≡ None → seen_behind t m.choices (what_of what) ≡ None
+  nothing what e = shown_by (what_of what) None e
+
+  pub plain : (what : code.What) (text : List ℕ) → what ≢ Where → shown m.program h.at (what_of what) ≡ Some text
+      → seen_behind t m.choices (what_of what) ≡ Some text
+  plain what text not e =
+      shown_by (what_of what) (Some text) e
+      ∙ ap (λ (line : List ℕ). Some (line ++ text)) (no_line t.program h.at (length t.choices) what not)
+
+  led_line : line_behind t m.choices ≡ first_line t.program h.at (length t.choices) where_it_stands
+  led_line = ap (line_of t) (led_in t m.choices m h)
+
+  pub line_here : (outcome : state.Outcome) (made all : ℕ) → outcome ≡ h.at.standing.state.outcome → made ≡ m.choices → all ≡ length t.choices
+      → position_text (label t.program) outcome made all ≡ line_behind t m.choices
+  line_here outcome made all stands made_is all_is =
+      ap (λ (o : state.Outcome). position_text (label t.program) o made all) stands
+      ∙ ap (λ (k : ℕ). position_text (label t.program) h.at.standing.state.outcome k all) (made_is ∙ sym as_many)
+      ∙ ap (position_text (label t.program) h.at.standing.state.outcome (length h.at.events)) all_is
+      ∙ sym led_line
+
+  pub with_line : (text : List ℕ) → shown m.program h.at where_it_stands ≡ Some text
+      → seen_behind t m.choices where_it_stands ≡ Some (line_behind t m.choices ++ text)
+  with_line text e = shown_by where_it_stands (Some text) e ∙ ap (λ (line : List ℕ). Some (line ++ text)) (sym led_line)
+
+-- the same as a debugger tells it
+pub line_seen : (d : Debugging) (t : Tape) (m : Situation) (marks : List Bool) → d ≡ record { tape = t; position = m.choices; marks = marks } → (h : IsAt t m.choices m)
+    → (outcome : state.Outcome) (made all : ℕ) → ((at : Standing) → StandsAt m at → outcome ≡ at.state.outcome) → made ≡ d.position → all ≡ length d.tape.choices
+    → position_text (label t.program) outcome made all ≡ line_behind d.tape d.position
+line_seen d t m marks is h outcome made all stood made_is all_is =
+    line_here t m h outcome made all (stood h.at.standing (stands t m h)) (made_is ∙ ap (λ (e : Debugging). e.position) is)
+    (all_is ∙ ap (λ (e : Debugging). length e.tape.choices) is)
+    ∙ sym (ap (λ (e : Debugging). line_behind e.tape e.position) is)
+
+pub put_behind : (wanted text : List ℕ) {empty before after line : List ℕ} → empty ≡ [] → before ≡ empty ++ line → after ≡ before ++ text → line ≡ wanted
+    → after ≡ wanted ++ text
+put_behind wanted text {line = line} none put pushed is =
+    pushed ∙ ap (λ (b : List ℕ). b ++ text) (put ∙ ap (λ (b : List ℕ). b ++ line) none ∙ is)

@@ -1,0 +1,16 @@
+use cilk_console::ReadFault;
+use thiserror::Error;
+
+/// Why a session ends before its input does.
+#[derive(Clone, Copy, Debug, PartialEq, Eq, Error)]
+pub enum SessionFault {
+    /// The input is at fault.
+    #[error("B7 {0}")]
+    Read(ReadFault),
+    /// The writer failed, so a part of the answer may be written.
+    #[error("B8")]
+    Write,
+    /// Memory has run out.
+    #[error("out of memory")]
+    Memory,
+}

@@ -1,0 +1,122 @@
+//! One command of a session.
+
+ghost use Rattle.std.specs.Prelude.{◌≡◌, IfOk, IfErr};
+ghost use Rattle.cilk_console.specs.Command as asked;
+ghost use Rattle.cilk_console.specs.Words.{asked_of};
+ghost use Rattle.cilk_view.specs.Words.{what_of};
+ghost use Rattle.cilk_debug.specs.Obeying.{shown_text};
+ghost use Rattle.cilk_debug.specs.Seeing.{seen_at};
+ghost use Rattle.cilk_debug.specs.Replies.{reply_text, Obeys};
+
+use crate::debugger::Debugger;
+use crate::ending::SessionFault;
+use crate::fault::DebugFault;
+use crate::reply::Reply;
+use cilk_console::Command;
+use cilk_machine::{ViewFault, What};
+
+impl Debugger {
+    /// Does what is asked. Where memory runs out for the answer, it is done all the same.
+    pub(crate) fn obey(&mut self, command: &Command) -> Result<Reply, SessionFault>
+        ensures { Obeys self.old self.new (asked_of command.now) result }
+    {
+        match command {
+            Command::Step => self.obey_step(),
+            Command::Back => self.obey_back(),
+            Command::Go(k) => self.obey_go(*k),
+            Command::Next => self.obey_next(),
+            Command::Previous => self.obey_previous(),
+            Command::Break(n) => self.obey_break(*n),
+            Command::Clear(n) => self.obey_clear(*n),
+            Command::View(what) => self.show(what),
+            Command::Quit | Command::Nothing => Ok(Reply::Nothing),
+            Command::Unknown => Ok(Reply::Unknown),
+        }
+    }
+
+    fn obey_step(&mut self) -> Result<Reply, SessionFault>
+        ensures { Obeys self.old self.new asked.step result }
+    {
+        match self.step() {
+            Ok(()) => self.show(&What::Where),
+            Err(DebugFault::AtEnd) => Ok(Reply::AtEnd),
+            Err(DebugFault::Memory) => Err(SessionFault::Memory),
+            Err(_) => unreachable!(),
+        }
+    }
+
+    fn obey_back(&mut self) -> Result<Reply, SessionFault>
+        ensures { Obeys self.old self.new asked.back result }
+    {
+        match self.back() {
+            Ok(()) => self.show(&What::Where),
+            Err(DebugFault::AtStart) => Ok(Reply::AtStart),
+            Err(DebugFault::Memory) => Err(SessionFault::Memory),
+            Err(_) => unreachable!(),
+        }
+    }
+
+    fn obey_go(&mut self, k: u64) -> Result<Reply, SessionFault>
+        ensures { Obeys self.old self.new (asked.go k) result }
+    {
+        match self.go(k) {
+            Ok(()) => self.show(&What::Where),
+            Err(DebugFault::OutOfRange) => Ok(Reply::OutOfRange),
+            Err(DebugFault::Memory) => Err(SessionFault::Memory),
+            Err(_) => unreachable!(),
+        }
+    }
+
+    fn obey_next(&mut self) -> Result<Reply, SessionFault>
+        ensures { Obeys self.old self.new asked.next result }
+    {
+        match self.forward_to_break() {
+            Ok(_) => self.show(&What::Where),
+            Err(DebugFault::AtEnd) => Ok(Reply::AtEnd),
+            Err(DebugFault::Memory) => Err(SessionFault::Memory),
+            Err(_) => unreachable!(),
+        }
+    }
+
+    fn obey_previous(&mut self) -> Result<Reply, SessionFault>
+        ensures { Obeys self.old self.new asked.previous result }
+    {
+        match self.back_to_break() {
+            Ok(_) => self.show(&What::Where),
+            Err(DebugFault::AtStart) => Ok(Reply::AtStart),
+            Err(DebugFault::Memory) => Err(SessionFault::Memory),
+            Err(_) => unreachable!(),
+        }
+    }
+
+    fn obey_break(&mut self, n: u32) -> Result<Reply, SessionFault>
+        ensures { Obeys self.old self.new (asked.set n) result }
+    {
+        match self.set_break(n) {
+            Ok(()) => Ok(Reply::Done),
+            Err(DebugFault::NoStatement) => Ok(Reply::NoStatement),
+            Err(_) => unreachable!(),
+        }
+    }
+
+    fn obey_clear(&mut self, n: u32) -> Result<Reply, SessionFault>
+        ensures { Obeys self.old self.new (asked.clear n) result }
+    {
+        match self.clear_break(n) {
+            Ok(()) => Ok(Reply::Done),
+            Err(DebugFault::NoStatement) => Ok(Reply::NoStatement),
+            Err(_) => unreachable!(),
+        }
+    }
+
+    fn show(&self, what: &What) -> Result<Reply, SessionFault>
+        ensures text { IfOk result (λ reply. reply_text reply ≡ shown_text (seen_at self.now (what_of what.now))) }
+        ensures memory { IfErr result (λ why. why ≡ SessionFault.Memory) }
+    {
+        match self.view(what) {
+            Ok(text) => Ok(Reply::Text(text)),
+            Err(ViewFault::NoInstance) => Ok(Reply::NoInstance),
+            Err(ViewFault::Memory(_)) => Err(SessionFault::Memory),
+        }
+    }
+}

@@ -1,0 +1,92 @@
+//! The line that tells where a program stands.
+
+ghost use Rattle.std.specs.Prelude.{◌≡◌};
+ghost use Rattle.cilk_canonical.specs.Appends.{Appends};
+ghost use Rattle.cilk_labelled.specs.Bodies.{label};
+ghost use Rattle.cilk_model.specs.End.{kind_text, trap_text};
+ghost use Rattle.cilk_model.specs.Path.{path_text};
+ghost use Rattle.cilk_choices.specs.Words.{outcome_of};
+ghost use Rattle.cilk_plans.specs.Words.{kind_of};
+ghost use Rattle.cilk_seen.specs.Workers.{outcome_text, position_text};
+
+use cilk_load::Loaded;
+use cilk_machine::{Kind, Outcome, Path};
+use cilk_syntax::Memory;
+use cilk_values::Trap;
+
+/// So many of all choices were made, and the program stands so.
+pub(crate) fn put_position(
+    out: &mut String,
+    program: &Loaded,
+    outcome: &Outcome,
+    made: u64,
+    all: u64,
+) -> Result<(), Memory>
+    ensures { Appends result out.old out.new (position_text (label program.now) (outcome_of outcome.now) made all) }
+{
+    write!(out, "position {made} of {all}: ")?;
+    put_outcome(out, program, outcome)?;
+    out.push_str("\n")?;
+    Ok(())
+}
+
+fn put_outcome(out: &mut String, program: &Loaded, outcome: &Outcome) -> Result<(), Memory>
+    ensures { Appends result out.old out.new (outcome_text (label program.now) (outcome_of outcome.now)) }
+{
+    match outcome {
+        Outcome::Running => {
+            out.push_str("running")?;
+            Ok(())
+        }
+        Outcome::Finished(value) => {
+            write!(out, "finished {value}")?;
+            Ok(())
+        }
+        Outcome::Trapped { kind, path, n } => {
+            let kind = kind_name(*kind);
+            let line = program.line_of(*n).unwrap_or(0);
+            write!(out, "trapped {kind} in ")?;
+            put_path(out, path)?;
+            write!(out, " at {n}, line {line}")?;
+            Ok(())
+        }
+    }
+}
+
+fn put_path(out: &mut String, path: &Path) -> Result<(), Memory>
+    ensures { Appends result out.old out.new (path_text path.now) }
+{
+    let numbers = path.as_slice();
+    if numbers.is_empty() {
+        out.push_str("/")?;
+        return Ok(());
+    }
+    for number in numbers {
+        write!(out, "/{number}")?;
+    }
+    Ok(())
+}
+
+fn kind_name(kind: Kind) -> &'static str
+    ensures { result.now ≡ kind_text (kind_of kind) }
+{
+    match kind {
+        Kind::Value(trap) => trap_name(trap),
+        Kind::Lock => "Lock",
+        Kind::HeldLock => "HeldLock",
+        Kind::Depth => "Depth",
+        Kind::Instances => "Instances",
+        Kind::Output => "Output",
+    }
+}
+
+fn trap_name(trap: Trap) -> &'static str
+    ensures { result.now ≡ trap_text trap }
+{
+    match trap {
+        Trap::Overflow => "Overflow",
+        Trap::ZeroDivide => "ZeroDivide",
+        Trap::Shift => "Shift",
+        Trap::Index => "Index",
+    }
+}

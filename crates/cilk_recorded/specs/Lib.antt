@@ -1,0 +1,6 @@
+pub mod Telling
+pub mod GivingUp
+pub mod Taped
+pub mod Recording
+pub mod Replaying
+pub mod Debugging

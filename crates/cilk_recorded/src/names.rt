@@ -1,0 +1,8 @@
+/// The names by which failures tell of a program's text and of a recorded schedule's.
+#[derive(Clone, Copy, Debug)]
+pub struct Names<'a> {
+    /// The name of the text of the program.
+    pub program: &'a str,
+    /// The name of the text of the recorded schedule.
+    pub log: &'a str,
+}

@@ -1,0 +1,208 @@
+//! Sessions of a debugger over readers and writers that work, end, or fail.
+
+use crate::running::program;
+use cilk_debug::{Debugger, ReadFault, SessionFault};
+use cilk_log::read_log;
+use std::alloc::Global;
+use std::io;
+use std::io::{ErrorKind, Read, Write};
+use std::process::Abort;
+
+const PROGRAM: &str = "cilk int main(void) { int x = 2; return x * 21; }";
+
+const RECORDED: &str = "cilklog 1\nworkers 1\n1 step\n1 step\nend 2\n";
+
+const FIRST: &str =
+    "back\nstep\nframe /\ngo 2\nstep\nframe /\ngo 3\nbreak 4\nbreak 2\ngo 0\nnext\nlist\nquit\n";
+
+const FIRST_ANSWERS: &str =
+    "B3 AtStart\nposition 1 of 2: running\nworker 1 at / line 3\nmain line 3\n    x = 2\nposition 2 of 2: finished 42\nworker 1 idle\nB2 AtEnd\nB5 NoInstance\nB6 OutOfRange\nB4 NoStatement\nok\nposition 0 of 2: running\nworker 1 at / line 2\nposition 2 of 2: finished 42\nworker 1 idle\n     1         cilk int main(void) {\n     2      1      int x = 2;\n     3      2      return x * 21;\n     4      3  }\n";
+
+const SECOND: &str = "prev\nbreak 1\ngo 2\nprev\nclear 1\nprev";
+
+const SECOND_ANSWERS: &str =
+    "position 0 of 2: running\nworker 1 at / line 2\nok\nposition 2 of 2: finished 42\nworker 1 idle\nposition 1 of 2: running\nworker 1 at / line 3\nok\nposition 0 of 2: running\nworker 1 at / line 2\n";
+
+// Steps to the end and back, each of which has an answer of two lines.
+const WALK: &str = "step\nstep\nback\nback\n";
+
+fn debugger(rt: &impl Abort, alloc: Global) -> Debugger {
+    let log = read_log(alloc, RECORDED.as_bytes()).expect(rt, "a recorded schedule");
+    Debugger::new(alloc, program(rt, alloc, PROGRAM), log).expect(rt, "a debugger")
+}
+
+// What a session writes that ends well.
+fn answers(rt: &impl Abort, alloc: Global, debugger: &mut Debugger, input: &[u8]) -> Vec<u8> {
+    let mut reader = input;
+    let mut out = Vec::new(alloc);
+    let ended = debugger.session(&mut reader, &mut out);
+    assert_eq!(rt; ended, Ok(()));
+    out
+}
+
+#[test]
+fn worked_sessions_come_out(rt: HostRuntime) {
+    let mut debugger = debugger(&rt, rt.alloc());
+    let first = answers(&rt, rt.alloc(), &mut debugger, FIRST.as_bytes());
+    assert_eq!(rt; first.as_slice(), FIRST_ANSWERS.as_bytes());
+    assert_eq!(rt; debugger.position(), 2);
+    let second = answers(&rt, rt.alloc(), &mut debugger, SECOND.as_bytes());
+    assert_eq!(rt; second.as_slice(), SECOND_ANSWERS.as_bytes());
+    assert_eq!(rt; debugger.position(), 0);
+}
+
+#[test]
+fn lines_that_are_no_commands(rt: HostRuntime) {
+    for line in [
+        "frame /0\n",
+        "go 007\n",
+        "go 1000000000\n",
+        "step 1\n",
+        " step\n",
+        "\r\r\n",
+        "tree\r",
+        "tree\0\n",
+    ] {
+        let mut debugger = debugger(&rt, rt.alloc());
+        let told = answers(&rt, rt.alloc(), &mut debugger, line.as_bytes());
+        assert_eq!(rt; told.as_slice(), b"unknown command\n".as_slice());
+    }
+}
+
+#[test]
+fn lines_with_a_return_or_without_a_newline(rt: HostRuntime) {
+    for (line, told) in [
+        ("frame /99\r\n", "B5 NoInstance\n"),
+        ("\r\n\n\r\nframe /99", "B5 NoInstance\n"),
+        ("quit\nframe /99\n", ""),
+        ("\n\r\n", ""),
+        ("", ""),
+    ] {
+        let mut debugger = debugger(&rt, rt.alloc());
+        let found = answers(&rt, rt.alloc(), &mut debugger, line.as_bytes());
+        assert_eq!(rt; found.as_slice(), told.as_bytes());
+    }
+}
+
+// So many bytes `x` and a newline.
+fn long_line(rt: &impl Abort, alloc: Global, count: usize) -> Vec<u8> {
+    let mut line = Vec::new(alloc);
+    line.resize(count, b'x').expect(rt, "memory");
+    line.push(b'\n').expect(rt, "memory");
+    line
+}
+
+#[test]
+fn long_lines(rt: HostRuntime) {
+    let mut debugger = debugger(&rt, rt.alloc());
+    let longest = long_line(&rt, rt.alloc(), 4096);
+    let told = answers(&rt, rt.alloc(), &mut debugger, &longest);
+    assert_eq!(rt; told.as_slice(), b"unknown command\n".as_slice());
+    let longer = long_line(&rt, rt.alloc(), 4097);
+    let mut reader = longer.as_slice();
+    let mut out = Vec::new(rt.alloc());
+    let ended = debugger.session(&mut reader, &mut out);
+    assert_eq!(rt; ended, Err(SessionFault::Read(ReadFault::LineTooLong)));
+    assert!(rt; out.is_empty());
+}
+
+#[test]
+fn many_lines(rt: HostRuntime) {
+    let mut debugger = debugger(&rt, rt.alloc());
+    let mut lines = Vec::new(rt.alloc());
+    lines.resize(1_000_000, b'\n').expect(&rt, "memory");
+    let told = answers(&rt, rt.alloc(), &mut debugger, &lines);
+    assert!(rt; told.is_empty());
+    lines.push(b'x').expect(&rt, "memory");
+    let mut reader = lines.as_slice();
+    let mut out = Vec::new(rt.alloc());
+    let ended = debugger.session(&mut reader, &mut out);
+    assert_eq!(rt; ended, Err(SessionFault::Read(ReadFault::TooManyLines)));
+    assert!(rt; out.is_empty());
+}
+
+// Gives one byte at each call but the one numbered `fails_at`, from 1, which is interrupted.
+#[derive(Drop)]
+struct Broken<'a> {
+    left: &'a [u8],
+    calls: usize,
+    fails_at: usize,
+}
+
+impl Read for Broken<'_> {
+    fn read(&mut self, buf: &mut [u8]) -> io::Result<usize> {
+        self.calls = self.calls.saturating_add(1);
+        if self.calls == self.fails_at {
+            return Err(io::Error::from(ErrorKind::Interrupted));
+        }
+        let count = buf.len().min(1);
+        self.left.read(&mut buf[..count])
+    }
+}
+
+// How many newlines stand among the first bytes.
+fn newlines_in(bytes: &[u8], count: usize) -> usize {
+    bytes
+        .iter()
+        .take(count)
+        .filter(|byte| **byte == b'\n')
+        .count()
+}
+
+#[test]
+fn each_read_fails_once(rt: HostRuntime) {
+    for given in 0..21usize {
+        let mut debugger = debugger(&rt, rt.alloc());
+        let mut reader = Broken {
+            left: WALK.as_bytes(),
+            calls: 0,
+            fails_at: given + 1,
+        };
+        let mut out = Vec::new(rt.alloc());
+        let ended = debugger.session(&mut reader, &mut out);
+        assert_eq!(rt; ended, Err(SessionFault::Read(ReadFault::Device)));
+        let lines = newlines_in(WALK.as_bytes(), given);
+        let stands = [0, 1, 2, 1, 0];
+        assert!(rt; lines < 5);
+        assert_eq!(rt; debugger.position(), stands[lines]);
+        assert_eq!(rt; newlines_in(&out, out.len()), 2 * lines);
+    }
+}
+
+// Takes `room` bytes, one at each call, and then fails.
+#[derive(Drop)]
+struct Full {
+    room: usize,
+}
+
+impl Write for Full {
+    fn write(&mut self, buf: &[u8]) -> io::Result<usize> {
+        if self.room == 0 {
+            return Err(io::Error::from(ErrorKind::Interrupted));
+        }
+        let count = buf.len().min(1);
+        self.room -= count;
+        Ok(count)
+    }
+
+    fn flush(&mut self) -> io::Result<()> {
+        Ok(())
+    }
+}
+
+#[test]
+fn each_write_fails_once(rt: HostRuntime) {
+    let mut plain = debugger(&rt, rt.alloc());
+    let whole = answers(&rt, rt.alloc(), &mut plain, WALK.as_bytes());
+    for room in 0..whole.len() {
+        let mut debugger = debugger(&rt, rt.alloc());
+        let mut reader = WALK.as_bytes();
+        let mut writer = Full { room };
+        let ended = debugger.session(&mut reader, &mut writer);
+        assert_eq!(rt; ended, Err(SessionFault::Write));
+        let newlines = newlines_in(&whole, room);
+        let stands = [1, 2, 1, 0];
+        assert!(rt; newlines < 8);
+        assert_eq!(rt; debugger.position(), stands[newlines / 2]);
+    }
+}

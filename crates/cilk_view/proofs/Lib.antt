@@ -1,0 +1,9 @@
+pub mod Lists
+pub mod Links
+pub mod Firsts
+pub mod Finds
+pub mod Bodies
+pub mod Told
+pub mod Orders
+pub mod Trees
+pub mod Places

@@ -1,0 +1,100 @@
+-- What the frames, cells and ids tell is what the views of a standing say.
+use Rattle.std.proofs.Common.{◌≡◌, ℕ, zero, suc, ◌++◌, ℤ, List, [], ◌∷◌, drop, take, map, length, refl, ap, arith, append_assoc}
+use Rattle.std.specs.Prelude.{codes, decimal, option_map, flat_map}
+use Rattle.cilk_syntax.specs.Tree as tree
+use Rattle.cilk_labelled.specs.Bodies.{item_globals}
+use Rattle.cilk_model.specs.Path.{Path}
+use Rattle.cilk_model.specs.Values.{Values}
+use Rattle.cilk_model.specs.Places.{PlaceOf, named}
+use Rattle.cilk_nodes.specs.Slots.{size_of, flat}
+use Rattle.cilk_frame.specs.Frames.{Frame}
+use Rattle.cilk_spawn.specs.Nodes.{Node}
+use Rattle.cilk_agree.specs.declared.lock.Lock.{Lock}
+use Rattle.cilk_agree.specs.Outside.{lock_by}
+use Rattle.cilk_agree.specs.Agrees.{name_in}
+use Rattle.cilk_seen.specs.Globals.{globals_text}
+use Rattle.cilk_seen.specs.Workers.{deques_text}
+use Rattle.cilk_view.specs.Turns.{by_worker, deque_line}
+use Rattle.cilk_view.specs.Globals.{width, globals_by}
+use Rattle.std.proofs.lemmas.List.Elements.{All-head, All-tail}
+use Rattle.std.proofs.Common.{◌∙◌, sym}
+use Rattle.std.specs.Prelude.{unwrap_or, option_and_then, IfSome, Option, Some, None}
+use Rattle.cilk_model.specs.Path.{path_text}
+use Rattle.cilk_syntax.specs.Tree.{Program}
+use Rattle.cilk_labelled.specs.Labelled.{Numbered, Labelled}
+use Rattle.cilk_labelled.specs.Items.{head_of}
+use Rattle.cilk_labelled.specs.Bodies.{label}
+use Rattle.cilk_model.specs.End.{line_of}
+use Rattle.cilk_model.specs.Instance.{Instance}
+use Rattle.cilk_model.specs.State.{instance_at}
+use Rattle.cilk_model.specs.Run.{Standing}
+use Rattle.cilk_frame.specs.Frames.{top_of}
+use Rattle.cilk_stands.specs.Stands.{StandsFor}
+use Rattle.cilk_stands.proofs.Tops.{top-stands}
+use Rattle.cilk_spawn.specs.Nodes.{path_at}
+use Rattle.cilk_sched.specs.Count.{AllAt, AllHeld}
+use Rattle.cilk_agree.specs.Agrees.{Machine, Held, Agrees}
+use Rattle.cilk_agree.proofs.Found.{found}
+use Rattle.cilk_seen.specs.Texts.{line_at}
+use Rattle.cilk_seen.specs.Workers.{line_of_instance, turn_text, turns_text}
+use Rattle.cilk_view.specs.Turns.{turn_by, turn_line}
+
+pub deques_are : (ns : List Node) (w : ℕ) (places : List (PlaceOf Frame)) → by_worker (deque_line ns) w places ≡ deques_text w (named (name_in ns) places)
+deques_are ns w [] = refl
+deques_are ns w (at ∷ places) = ap (λ rest. deque_line ns w at ++ rest) (deques_are ns (suc w) places) ∙ simp append_assoc
+
+pub take_front : (xs ys : List ℤ) (n : ℕ) → length xs ≡ n → take n (xs ++ ys) ≡ xs
+take_front [] ys zero h = refl
+take_front [] ys (suc n) h = absurd (omega (arith, h))
+take_front (x ∷ xs) ys zero h = absurd (omega (arith, h))
+take_front (x ∷ xs) ys (suc n) h = ap (λ zs. x ∷ zs) (take_front xs ys n (omega (arith, h)))
+
+pub drop_front : (xs ys : List ℤ) (n : ℕ) → length xs ≡ n → drop n (xs ++ ys) ≡ ys
+drop_front [] ys zero h = refl
+drop_front [] ys (suc n) h = absurd (omega (arith, h))
+drop_front (x ∷ xs) ys zero h = absurd (omega (arith, h))
+drop_front (x ∷ xs) ys (suc n) h = drop_front xs ys n (omega (arith, h))
+
+-- the cells of the top level, one variable after another, tell what each variable holds
+pub globals_are : (up : ℕ → Path) (items : List tree.Item) (values : Values) (locks : List Lock) → map length values ≡ map size_of (flat_map item_globals items)
+    → globals_by up items (flat values) locks ≡ globals_text items values (map (lock_by up) locks)
+globals_are up [] values locks sizes = refl
+globals_are up (tree.global g ∷ items) [] locks sizes = cc
+globals_are up (tree.global g ∷ items) (own ∷ values) locks sizes =
+    let size : length own ≡ width g = cc in
+    let others : map length values ≡ map size_of (flat_map item_globals items) = cc in
+    rw (take_front own (flat values) (width g) size, drop_front own (flat values) (width g) size, globals_are up items values locks others) refl
+globals_are up (tree.lock name ∷ items) values [] sizes = globals_are up items values [] sizes
+globals_are up (tree.lock name ∷ items) values (l ∷ locks) sizes = rw (globals_are up items values locks sizes) refl
+globals_are up (tree.prototype q ∷ items) values locks sizes = globals_are up items values locks sizes
+globals_are up (tree.procedure p ∷ items) values locks sizes = globals_are up items values locks sizes
+
+pub by_head : (program : Labelled) (o : Option Numbered) (n : ℕ) → option_map (λ (h : Numbered). h.number) o ≡ Some n
+    → unwrap_or (option_and_then (λ (h : Numbered). line_of program h.number) o) 0 ≡ unwrap_or (line_of program n) 0
+by_head program None n e = cc
+by_head program (Some h) n e = let same : h.number ≡ n = cc in ap (λ k. unwrap_or (line_of program k) 0) same
+
+-- the line of an instance is that of the node of its frame's top
+pub line_is : (program : Labelled) (f : Frame) (i : Instance) → StandsFor program f i → line_at program i.top.items ≡ unwrap_or (line_of program (top_of f).node) 0
+line_is program f i stands = by_head program (head_of i.top.items) (top_of f).node (top-stands program f i stands).acts.node_is
+
+module _ (p : Program) (m : Machine) (who : ℕ → Instance) (at : Standing) (agrees : Agrees p m who at) where
+  turn_is : (hand : Option Frame) → IfSome hand (Held p m.nodes who) → turn_by p m.nodes hand ≡ turn_text (label p) at.state.instances (option_map (name_in m.nodes) hand)
+  turn_is None held = refl
+  turn_is (Some f) held =
+      let there : instance_at at.state.instances (path_at m.nodes f.id) ≡ Some (who f.id) =
+      ap (λ es. instance_at es (path_at m.nodes f.id)) agrees.instances ∙ found m.nodes who f.id agrees.tree held.live
+      in
+      ap (λ k. codes " at " ++ (path_text (path_at m.nodes f.id) ++ (codes " line " ++ decimal k)))
+      (sym (ap (line_of_instance (label p)) there ∙ line_is (label p) f (who f.id) held.stands))
+
+  pub turns_are : (w : ℕ) (places : List (PlaceOf Frame)) → AllHeld (Held p m.nodes who) places
+      → by_worker (turn_line p m.nodes) w places ≡ turns_text (label p) at.state.instances w (named (name_in m.nodes) places)
+  turns_are w [] held = refl
+  turns_are w (x ∷ places) held =
+      let here = turn_is x.hand (All-head (AllAt (Held p m.nodes who)) x places held).0 in
+      let rest = turns_are (suc w) places (All-tail (AllAt (Held p m.nodes who)) x places held) in
+      ap (λ xs. xs ++ by_worker (turn_line p m.nodes) (suc w) places)
+      (ap (λ t. codes "worker " ++ (decimal w ++ (t ++ codes "\n"))) here)
+      ∙ ap (λ xs. (codes "worker " ++ (decimal w ++ (turn_text (label p) at.state.instances (option_map (name_in m.nodes) x.hand) ++ codes "\n"))) ++ xs) rest
+      ∙ simp append_assoc

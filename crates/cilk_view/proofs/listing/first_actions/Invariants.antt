@@ -1,0 +1,7 @@
+use Rattle.std.proofs.Common.{◌+◌, ◌-◌, drop}
+use Rattle.cilk_labelled.specs.Lines.{action_lines}
+use Rattle.cilk_view.specs.Listing.{HasFirsts}
+use Rattle.cilk_view.proofs.listing.first_actions.Given as goal
+
+abbrev pub invariant-loop-passed : goal.invariant-loop-passed
+invariant-loop-passed l = HasFirsts l.firsts (l.count - l.passed + 1) (drop (l.count - l.passed) (action_lines l.fn.loaded))

@@ -1,0 +1,6 @@
+use Rattle.std.proofs.Common.{◌≡◌, ◌++◌, ◌-◌, string_bytes}
+use Rattle.cilk_seen.specs.Listing.{blanks}
+use Rattle.cilk_view.proofs.listing.put_blanks.Given as goal
+
+abbrev pub invariant-loop : goal.invariant-loop
+invariant-loop l = string_bytes l.out ++ blanks (l.count - l.counter) ≡ string_bytes l.initial.out ++ blanks l.count

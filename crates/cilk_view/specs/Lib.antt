@@ -1,0 +1,9 @@
+pub mod Turns
+pub mod Frames
+pub mod Globals
+pub mod Listing
+pub mod Words
+pub mod Finding
+pub mod Shows
+pub mod Trees
+pub mod Sorting

@@ -1,0 +1,13 @@
+use cilk_syntax::Memory;
+use thiserror::Error;
+
+/// Why there is no text of a view.
+#[derive(Debug, Drop, Error)]
+pub enum ViewFault {
+    /// No live instance has the path.
+    #[error("B5 NoInstance")]
+    NoInstance,
+    /// Memory has run out.
+    #[error("out of memory")]
+    Memory(#[from] Memory),
+}

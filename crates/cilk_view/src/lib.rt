@@ -1,0 +1,23 @@
+//! The texts of the views of a program that runs.
+#![tactic(auto)]
+
+mod cells;
+mod deques;
+mod fault;
+mod finding;
+mod frames;
+mod globals;
+mod listing;
+mod output;
+mod put;
+mod showing;
+mod shown;
+mod texts;
+mod tree;
+mod turns;
+mod what;
+
+pub use fault::ViewFault;
+pub use showing::show;
+pub use shown::Shown;
+pub use what::What;

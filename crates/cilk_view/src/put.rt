@@ -1,0 +1,39 @@
+//! The smallest parts of a view.
+
+ghost use Rattle.std.specs.Prelude.{◌<◌, length};
+ghost use Rattle.cilk_canonical.specs.Appends.{Appends};
+ghost use Rattle.cilk_model.specs.Path.{path_text};
+ghost use Rattle.cilk_spawn.specs.Nodes.{path_at};
+
+use cilk_frame::Id;
+use cilk_spawn::Tree;
+use cilk_syntax::Memory;
+
+pub(crate) fn put(out: &mut String, text: &str) -> Result<(), Memory>
+    ensures { Appends result out.old out.new text.now }
+{
+    out.push_str(text)?;
+    Ok(())
+}
+
+/// The path with these numbers.
+pub(crate) fn put_path(out: &mut String, path: &[u32]) -> Result<(), Memory>
+    ensures { Appends result out.old out.new (path_text path.now) }
+{
+    if path.is_empty() {
+        return put(out, "/");
+    }
+    for number in path {
+        write!(out, "/{number}")?;
+    }
+    Ok(())
+}
+
+/// The path of an instance.
+pub(crate) fn put_name(out: &mut String, tree: &Tree, id: Id) -> Result<(), Memory>
+    requires { id < length tree.now.nodes }
+    ensures { Appends result out.old out.new (path_text (path_at tree.now.nodes id)) }
+{
+    let path = tree.path_of(id)?;
+    put_path(out, path.as_slice())
+}

@@ -1,0 +1,19 @@
+use cilk_agree::Lock;
+use cilk_load::Loaded;
+use cilk_sched::Hands;
+use cilk_spawn::Tree;
+
+/// The parts of a machine that views show.
+#[derive(Clone, Copy)]
+pub struct Shown<'a> {
+    pub loaded: &'a Loaded,
+    /// The cells of the variables of the top level, one variable after another.
+    pub globals: &'a [i32],
+    pub locks: &'a [Lock],
+    /// What was printed.
+    pub output: &'a [u8],
+    pub tree: &'a Tree,
+    pub hands: &'a Hands,
+    /// How many workers there are.
+    pub workers: u8,
+}

@@ -1,0 +1,20 @@
+use cilk_spawn::Path;
+
+/// What may be asked of a program that runs.
+#[derive(Debug, Drop)]
+pub enum What {
+    /// Each instance ever made.
+    Tree,
+    /// The activations of the live instance with this path.
+    Frame(Path),
+    /// The variables and locks of the top level.
+    Globals,
+    /// The hand and the deque of each worker.
+    Deques,
+    /// What was printed.
+    Output,
+    /// Where each worker goes on.
+    Where,
+    /// The canonical text with the numbers of its lines and actions.
+    List,
+}
