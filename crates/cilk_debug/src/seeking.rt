@@ -23,7 +23,8 @@ fn met(
     requires room { made < length choices.now }
     ensures next { OnOk result ((t : Tape) → t.choices ≡ map choice_of choices.now → IsAt t made machine.old → IsAt t (suc made) machine.new) }
     ensures made { OnOk result (machine.new.choices ≡ suc made) }
-    ensures stops { IfOk result (λ met. (t : Tape) → t.choices ≡ map choice_of choices.now → IsAt t made machine.old → met ≡ stops t marks.now made) }
+    ensures stops { IfOk result (λ met. (t : Tape) → t.choices ≡ map choice_of choices.now → IsAt t made machine.old
+        → met ≡ stops t marks.now made) }
     ensures memory { IfErr result (λ why. why ≡ DebugFault.Memory) }
 {
     match make_again(machine, choices, made) {
@@ -67,7 +68,8 @@ pub(crate) fn last_met(
 ) -> Result<Option<usize>, DebugFault>
     requires none { machine.choices ≡ 0 }
     requires room { count ≤ length choices.now }
-    ensures last { IfOk result (λ last. (t : Tape) → t.choices ≡ map choice_of choices.now → IsAt t 0 machine → last ≡ last_among t marks.now count) }
+    ensures last { IfOk result (λ last. (t : Tape) → t.choices ≡ map choice_of choices.now → IsAt t 0 machine
+        → last ≡ last_among t marks.now count) }
     ensures within { IfOk result (λ last. IfSome last (λ k. k ≤ count)) }
     ensures memory { IfErr result (λ why. why ≡ DebugFault.Memory) }
 {

@@ -18,7 +18,8 @@ take(spawn look(1)); take(spawn look(2)); sync; return best; }";
 
 // Choice 8 returns `/1`, 10 delivers it, 12 marks `/2` as aborted, and 13 ends it.
 const ABORTED: &str =
-    "cilklog 1\nworkers 2\n1 step\n1 step\n2 steal 1\n2 step\n2 step\n1 step\n1 step\n1 step\n1 steal 2\n1 step\n1 step\n1 step\n2 step\n1 step\n1 step\n1 step\nend 16\n";
+    "cilklog 1\nworkers 2\n1 step\n1 step\n2 steal 1\n2 step\n2 step\n1 step\n1 step\n1 step\n1 steal 2\n\
+     1 step\n1 step\n1 step\n2 step\n1 step\n1 step\n1 step\nend 16\n";
 
 // A debugger of the program and the recorded schedule of two texts.
 fn opened(

@@ -8,7 +8,8 @@ use std::process::Abort;
 
 // Both children return before the first inlet, and each `abort` marks nothing.
 const RETURNED: &str =
-    "cilklog 1\nworkers 2\n1 step\n1 step\n2 steal 1\n2 step\n1 step\n1 step\n1 step\n2 step\n2 step\n2 step\n2 pop\n2 step\n2 step\n2 step\n2 step\n2 step\n2 step\n2 step\n2 step\n2 step\n2 step\nend 21\n";
+    "cilklog 1\nworkers 2\n1 step\n1 step\n2 steal 1\n2 step\n1 step\n1 step\n1 step\n2 step\n2 step\n2 step\n\
+     2 pop\n2 step\n2 step\n2 step\n2 step\n2 step\n2 step\n2 step\n2 step\n2 step\n2 step\nend 21\n";
 
 fn shows(rt: &impl Abort, debugger: &Debugger, what: &What, wanted: &str) {
     let text = debugger.view(what).expect(rt, wanted);
