@@ -18,13 +18,15 @@ use cilk_syntax::Memory;
 use std::alloc::Global;
 
 /// The text of a view, without its line on the position. There is none of the frame of what does not
-/// live, and only then is `NoInstance` answered.
+/// live, and then, and only then, is `NoInstance` answered.
 pub fn show(alloc: Global, parts: &Shown, what: &What) -> Result<String, ViewFault>
     requires { Shows parts.now }
     ensures text { IfOk result (λ text. (at : Position) → ShowsAt parts.now at
         → shown parts.now.loaded.now at (what_of what.now) ≡ Some (string_bytes text)) }
     ensures fault { result ≡ Err ViewFault.NoInstance → (at : Position) → ShowsAt parts.now at
         → shown parts.now.loaded.now at (what_of what.now) ≡ None }
+    ensures none { (at : Position) → ShowsAt parts.now at → shown parts.now.loaded.now at (what_of what.now) ≡ None
+        → result ≡ Err ViewFault.NoInstance }
 {
     match what {
         What::Tree => told(tree_text(alloc, parts)),
@@ -43,6 +45,8 @@ fn show_frame(alloc: Global, parts: &Shown, path: &Path) -> Result<String, ViewF
         → shown parts.now.loaded.now at (what.frame path.now) ≡ Some (string_bytes text)) }
     ensures fault { result ≡ Err ViewFault.NoInstance → (at : Position) → ShowsAt parts.now at
         → shown parts.now.loaded.now at (what.frame path.now) ≡ None }
+    ensures none { (at : Position) → ShowsAt parts.now at → shown parts.now.loaded.now at (what.frame path.now) ≡ None
+        → result ≡ Err ViewFault.NoInstance }
 {
     let _program = parts.loaded.program();
     match find_live(parts.tree, path.as_slice()) {

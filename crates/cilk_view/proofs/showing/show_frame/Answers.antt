@@ -9,7 +9,7 @@ use Rattle.cilk_view.specs.Shows.{machine_of, ShowsAt}
 use Rattle.cilk_view.specs.Frames.{frame_by}
 use Rattle.cilk_view.proofs.Finds.{no_instance, instance_there, frame_stands, frame_there}
 use Rattle.cilk_view.proofs.Bodies.{frame_is}
-use Rattle.cilk_view.proofs.Told.{told_is}
+use Rattle.cilk_view.proofs.Told.{told_is, not_both}
 use Rattle.cilk_view.proofs.showing.show_frame.Goals as goal
 
 pub returns-in-None-clause-fault : goal.returns-in-None-clause-fault
@@ -39,3 +39,12 @@ returns-in-Some-frame_live-clause-text c =
     (sym (frame_is p c.program-program.ensures.well_formed c.in-Some-frame_live.frame.now (s.who c.in-Some.id)
     (frame_stands p m s.who at.standing s.agrees c.in-Some.id c.in-Some-frame_live.frame.now c.in-Some.ensures.found.0 (sym c.in-Some-frame_live.ensures)))
     ∙ sym is))
+
+pub returns-in-Some-frame_live-clause-none : goal.returns-in-Some-frame_live-clause-none
+returns-in-Some-frame_live-clause-none c = λ at s gone.
+    let p = c.args.parts.now.loaded.now in
+    let text = frame_text (label p) in
+    absurd (not_both (option_map text (instance_at at.standing.state.instances c.args.path.now)) (text (s.who c.in-Some.id))
+    (ap (λ (q : Path). option_map text (instance_at at.standing.state.instances q)) (sym (c.in-Some.ensures.found.1 ∙ c.as_slice.ensures))
+    ∙ ap (option_map text) (instance_there p (machine_of c.args.parts.now s.outcome) s.who at.standing s.agrees c.in-Some.id c.in-Some.ensures.found.0))
+    gone)
