@@ -28,6 +28,10 @@ no_line p at m Output not = refl
 no_line p at m Where not = absurd (not refl)
 no_line p at m Listing not = refl
 
+none_before : {A B : Type 0} (f : A → B) (o : Option A) → option_map f o ≡ None → o ≡ None
+none_before f None none = refl
+none_before f (Some x) none = cc
+
 module _ (t : Tape) (m : Situation) (h : IsAt t m.choices m) where
   pub stands : StandsAt m h.at.standing
   stands = record { choices = take m.choices t.choices; events = h.at.events; led = h.led }
@@ -46,6 +50,12 @@ module _ (t : Tape) (m : Situation) (h : IsAt t m.choices m) where
 
   pub nothing : (what : code.What) → shown m.program h.at (what_of what) ≡ None → seen_behind t m.choices (what_of what) ≡ None
   nothing what e = shown_by (what_of what) None e
+
+  pub gone : (what : code.What) → seen_behind t m.choices (what_of what) ≡ None → shown m.program h.at (what_of what) ≡ None
+  gone what e =
+      let asked = what_of what in
+      let o = shown m.program h.at asked in
+      none_before (λ (text : List ℕ). first_line t.program h.at (length t.choices) asked ++ text) o (sym (shown_by asked o refl) ∙ e)
 
   pub plain : (what : code.What) (text : List ℕ) → what ≢ Where → shown m.program h.at (what_of what) ≡ Some text
       → seen_behind t m.choices (what_of what) ≡ Some text

@@ -263,10 +263,11 @@ impl Debugger {
     }
 
     /// The text of a view of where the program stands. There is none of the frame of what does not
-    /// live.
+    /// live, and then, and only then, is `NoInstance` answered.
     pub fn view(&self, what: &What) -> Result<String, ViewFault>
         ensures text { IfOk result (λ text. seen_at self.now (what_of what.now) ≡ Some (string_bytes text)) }
         ensures fault { result ≡ Err ViewFault.NoInstance → seen_at self.now (what_of what.now) ≡ None }
+        ensures none { seen_at self.now (what_of what.now) ≡ None → result ≡ Err ViewFault.NoInstance }
     {
         match self.machine.text(what) {
             Err(fault) => Err(fault),

@@ -1,6 +1,6 @@
 //! One command of a session.
 
-ghost use Rattle.std.specs.Prelude.{◌≡◌, IfOk, IfErr};
+ghost use Rattle.std.specs.Prelude.{◌≡◌, None, Ok, IfOk, IfErr};
 ghost use Rattle.cilk_console.specs.Command as asked;
 ghost use Rattle.cilk_console.specs.Words.{asked_of};
 ghost use Rattle.cilk_view.specs.Words.{what_of};
@@ -111,6 +111,7 @@ impl Debugger {
 
     fn show(&self, what: &What) -> Result<Reply, SessionFault>
         ensures text { IfOk result (λ reply. reply_text reply ≡ shown_text (seen_at self.now (what_of what.now))) }
+        ensures none { seen_at self.now (what_of what.now) ≡ None → result ≡ Ok Reply.NoInstance }
         ensures memory { IfErr result (λ why. why ≡ SessionFault.Memory) }
     {
         match self.view(what) {
