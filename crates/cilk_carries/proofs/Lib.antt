@@ -1,6 +1,7 @@
 pub mod Undone
 pub mod Released
 pub mod Closed
+pub mod Arms
 pub mod Awake
 pub mod Followed
 pub mod Taken

@@ -9,17 +9,17 @@ ghost use Rattle.cilk_carries.specs.Ready.{Ready};
 ghost use Rattle.cilk_carries.specs.Carried.{Carried};
 ghost use Rattle.cilk_carries.specs.Carries.{CanCarry, Carries};
 
-use crate::did::{Did, Done, NoMemory, Outcome};
-use crate::entering::{call, enter, go_on, leave};
+use crate::acting::{acted, carry_abort, carry_print, carry_trap};
+use crate::did::{Did, Done, NoMemory};
+use crate::entering::{carry_call, carry_enter, go_on, leave};
 use crate::parts::Parts;
-use crate::releasing::{release, turn};
-use crate::returning::{end, give_value};
-use crate::starting::{child_frame, start};
-use crate::writing::write;
+use crate::releasing::carry_turn;
+use crate::returning::{carry_end, carry_return};
+use crate::starting::carry_spawn;
+use crate::writing::{carry_answer, carry_take, carry_write};
 use cilk_frame::Frame;
 use cilk_nodes::Body;
 use cilk_plans::Plan;
-use cilk_spawn::Ending;
 
 /// Carries out the plan of the frame in the worker's hand, at this choice. The body is the one of the procedure, the
 /// C function or the inlet that the plan starts. Where memory has run out, nothing has changed.
@@ -65,145 +65,56 @@ fn carry(
     ensures same { OnErr result (machine_of parts.new outside.running ≡ machine_of parts.old outside.running) }
     ensures living { OnErr result (parts.new.tree.living ≡ parts.old.tree.living) }
 {
-    let id = frame.id();
     match plan {
         Plan::Wait => unreachable!(),
         Plan::Park => {
             parts.tree.park(frame);
             Ok(Done::running(Did::Moved))
         }
-        Plan::End => {
-            let parent = parts.tree.parent(id);
-            release(&mut parts.locks, id);
-            end(
-                worker,
-                frame,
-                parent,
-                Ending::Aborted,
-                choice,
-                &mut parts.tree,
-                &mut parts.hands,
-            );
-            Ok(Done::running(Did::Ended(id)))
-        }
-        Plan::Trap { kind, n } => {
-            parts.hands.give(worker, frame);
-            Ok(Done {
-                outcome: Outcome::Trapped(kind, id, n),
-                did: Did::Trapped(kind, id, n),
-            })
-        }
+        Plan::End => Ok(carry_end(worker, frame, choice, parts)),
+        Plan::Trap { kind, n } => Ok(carry_trap(worker, frame, kind, n, parts)),
         Plan::Take {
             child,
             n,
             reached,
             value,
-        } => {
-            let frame = write(&mut parts.globals, frame, reached, value);
-            let _taken = parts.tree.take_delivery(id, choice);
-            parts.hands.give(worker, frame);
-            Ok(Done::running(Did::Delivered(child, n)))
-        }
+        } => Ok(carry_take(worker, frame, child, n, reached, value, choice, parts)),
         Plan::Enter {
             child,
             n,
             inlet: _,
             arguments,
-        } => {
-            let frame = enter(frame, body, arguments.as_slice(), None)?;
-            let _taken = parts.tree.take_delivery(id, choice);
-            parts.hands.give(worker, frame);
-            Ok(Done::running(Did::Delivered(child, n)))
-        }
-        Plan::Go { n, to } => {
-            parts.hands.give(worker, go_on(frame, to));
-            Ok(Done::running(Did::Acted(id, n)))
-        }
+        } => carry_enter(worker, frame, child, n, arguments, body, choice, parts),
+        Plan::Go { n, to } => Ok(acted(worker, go_on(frame, to), n, &mut parts.hands)),
         Plan::Write {
             n,
             reached,
             value,
             to,
-        } => {
-            let frame = write(&mut parts.globals, go_on(frame, to), reached, value);
-            parts.hands.give(worker, frame);
-            Ok(Done::running(Did::Acted(id, n)))
-        }
+        } => Ok(carry_write(worker, frame, n, reached, value, to, parts)),
         Plan::Call {
             n,
             awaits,
             callee: _,
             arguments,
             to,
-        } => {
-            let frame = call(frame, body, arguments.as_slice(), awaits, to)?;
-            parts.hands.give(worker, frame);
-            Ok(Done::running(Did::Acted(id, n)))
-        }
-        Plan::Leave { n } => {
-            parts.hands.give(worker, leave(frame));
-            Ok(Done::running(Did::Acted(id, n)))
-        }
-        Plan::Answer { n, reached, value } => {
-            let frame = write(&mut parts.globals, leave(frame), reached, value);
-            parts.hands.give(worker, frame);
-            Ok(Done::running(Did::Acted(id, n)))
-        }
-        Plan::Return { n, value } => {
-            let outcome = give_value(
-                worker,
-                frame,
-                value,
-                choice,
-                &mut parts.tree,
-                &mut parts.hands,
-            )?;
-            Ok(Done {
-                outcome,
-                did: Did::Returned(id, n),
-            })
-        }
+        } => carry_call(worker, frame, n, awaits, arguments, to, body, parts),
+        Plan::Leave { n } => Ok(acted(worker, leave(frame), n, &mut parts.hands)),
+        Plan::Answer { n, reached, value } => Ok(carry_answer(
+            worker, frame, n, reached, value, parts,
+        )),
+        Plan::Return { n, value } => carry_return(worker, frame, n, value, choice, parts),
         Plan::Spawn {
             n,
             receiver,
             callee,
             arguments,
             to,
-        } => {
-            let alloc = *parts.globals.allocator();
-            match child_frame(alloc, parts.tree.next_id(), body, arguments.as_slice()) {
-                None => Err(frame),
-                Some(young) => {
-                    let child = start(
-                        worker,
-                        frame,
-                        young,
-                        callee,
-                        receiver,
-                        to,
-                        &mut parts.tree,
-                        &mut parts.hands,
-                    )?;
-                    Ok(Done::running(Did::Spawned(child, n)))
-                }
-            }
-        }
-        Plan::Print { n, bytes, to } => match parts.output.extend_from_slice(bytes.as_slice()) {
-            Err(_) => Err(frame),
-            Ok(()) => {
-                parts.hands.give(worker, go_on(frame, to));
-                Ok(Done::running(Did::Acted(id, n)))
-            }
-        },
-        Plan::Turn { n, lock, now, to } => {
-            turn(&mut parts.locks, lock, now);
-            parts.hands.give(worker, go_on(frame, to));
-            Ok(Done::running(Did::Acted(id, n)))
-        }
-        Plan::Abort { n, to } => {
-            parts.tree.mark_aborted(id);
-            parts.hands.give(worker, go_on(frame, to));
-            Ok(Done::running(Did::Acted(id, n)))
-        }
+        } => carry_spawn(
+            worker, frame, n, receiver, callee, arguments, to, body, parts,
+        ),
+        Plan::Print { n, bytes, to } => carry_print(worker, frame, n, bytes, to, parts),
+        Plan::Turn { n, lock, now, to } => Ok(carry_turn(worker, frame, n, lock, now, to, parts)),
+        Plan::Abort { n, to } => Ok(carry_abort(worker, frame, n, to, parts)),
     }
 }

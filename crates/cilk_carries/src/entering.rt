@@ -1,13 +1,24 @@
 //! A body is entered or left, and an activation goes on.
 
-ghost use Rattle.std.specs.Prelude.{◌≡◌, ◌<◌, IfErr, IfOk};
+ghost use Rattle.std.specs.Prelude.{◌≡◌, ◌<◌, ℕ, true, None, IfErr, IfOk, OnErr};
 ghost use Rattle.std.specs.Option.{option_copied};
+ghost use Rattle.cilk_model.specs.Places.{IsWorker, hand_of};
 ghost use Rattle.cilk_frame.specs.Frames as frames;
 ghost use Rattle.cilk_frame.specs.Frames.{depth, jumped, with_boundary, left};
 ghost use Rattle.cilk_stands.specs.Starts.{Takes, starts_with};
+ghost use Rattle.cilk_spawn.specs.Nodes.{node_at, is_live};
 ghost use Rattle.cilk_agree.specs.Actions.{gone_to};
+ghost use Rattle.cilk_agree.specs.Outside as outside;
+ghost use Rattle.cilk_plans.specs.declared.plan.Plan.TheVariants as plans;
+ghost use Rattle.cilk_carries.specs.Words.{machine_of, outcome_of};
+ghost use Rattle.cilk_carries.specs.Ready.{CanEnter};
+ghost use Rattle.cilk_carries.specs.Carried.{Carried};
 
-use cilk_frame::{Await, Frame};
+use crate::acting::acted;
+use crate::did::{Did, Done};
+use crate::parts::Parts;
+use cilk_effects::Arguments;
+use cilk_frame::{Await, Frame, Id};
 use cilk_nodes::Body;
 
 /// An action of the procedure's own clears the flag.
@@ -35,8 +46,8 @@ pub(crate) fn leave(mut frame: Frame) -> Frame
     frame
 }
 
-/// A body starts above the others.
-pub(crate) fn enter(
+// A body starts above the others.
+fn enter(
     mut frame: Frame,
     body: Option<&Body>,
     arguments: &[i32],
@@ -56,8 +67,8 @@ pub(crate) fn enter(
     }
 }
 
-/// A body starts above, and its caller at what follows the call.
-pub(crate) fn call(
+// A body starts above, and its caller at what follows the call.
+fn call(
     frame: Frame,
     body: Option<&Body>,
     arguments: &[i32],
@@ -75,4 +86,57 @@ pub(crate) fn call(
         Ok(frame) => Ok(frame),
         Err(frame) => Err(resumed(frame, n, boundary)),
     }
+}
+
+/// The delivery that waits longest is taken: an inlet starts, whose body this is. Where memory has run out, the frame
+/// comes back, and nothing has changed.
+pub(crate) fn carry_enter(
+    worker: u8,
+    frame: Frame,
+    child: Id,
+    n: u32,
+    arguments: Arguments,
+    body: Option<&Body>,
+    choice: u64,
+    parts: &mut Parts,
+) -> Result<Done, Frame>
+    requires worker { IsWorker parts.old.hands worker }
+    requires empty { hand_of parts.old.hands worker ≡ None }
+    requires live { is_live (node_at parts.old.tree.nodes frame.id) ≡ true }
+    requires enters { CanEnter frame (option_copied body) arguments }
+    ensures done { IfOk result (λ done. (inlet : ℕ) → Carried choice (machine_of parts.old outside.running) worker frame (option_copied body.entry)
+        (plans.Enter child n inlet arguments) (machine_of parts.new (outcome_of done.outcome)) done.did) }
+    ensures back { IfErr result (λ f. f ≡ frame) }
+    ensures same { OnErr result (machine_of parts.new outside.running ≡ machine_of parts.old outside.running) }
+    ensures living { OnErr result (parts.new.tree.living ≡ parts.old.tree.living) }
+{
+    let id = frame.id();
+    let frame = enter(frame, body, arguments.as_slice(), None)?;
+    let _taken = parts.tree.take_delivery(id, choice);
+    parts.hands.give(worker, frame);
+    Ok(Done::running(Did::Delivered(child, n)))
+}
+
+/// A C function starts, whose body this is. Where memory has run out, the frame comes back, and nothing has changed.
+pub(crate) fn carry_call(
+    worker: u8,
+    frame: Frame,
+    n: u32,
+    awaits: Option<Await>,
+    arguments: Arguments,
+    to: u32,
+    body: Option<&Body>,
+    parts: &mut Parts,
+) -> Result<Done, Frame>
+    requires worker { IsWorker parts.old.hands worker }
+    requires empty { hand_of parts.old.hands worker ≡ None }
+    requires enters { CanEnter frame (option_copied body) arguments }
+    ensures done { IfOk result (λ done. (choice callee : ℕ) → Carried choice (machine_of parts.old outside.running) worker frame (option_copied body.entry)
+        (plans.Call n awaits callee arguments to) (machine_of parts.new (outcome_of done.outcome)) done.did) }
+    ensures back { IfErr result (λ f. f ≡ frame) }
+    ensures same { OnErr result (machine_of parts.new outside.running ≡ machine_of parts.old outside.running) }
+    ensures living { OnErr result (parts.new.tree.living ≡ parts.old.tree.living) }
+{
+    let frame = call(frame, body, arguments.as_slice(), awaits, to)?;
+    Ok(acted(worker, frame, n, &mut parts.hands))
 }

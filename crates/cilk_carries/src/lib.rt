@@ -2,6 +2,7 @@
 //! the hands.
 #![tactic(auto)]
 
+mod acting;
 mod carry;
 mod did;
 mod entering;
