@@ -1,0 +1,3 @@
+pub mod Cells
+pub mod Instances
+pub mod Standings
