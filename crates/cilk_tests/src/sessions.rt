@@ -16,12 +16,17 @@ const FIRST: &str =
     "back\nstep\nframe /\ngo 2\nstep\nframe /\ngo 3\nbreak 4\nbreak 2\ngo 0\nnext\nlist\nquit\n";
 
 const FIRST_ANSWERS: &str =
-    "B3 AtStart\nposition 1 of 2: running\nworker 1 at / line 3\nmain line 3\n    x = 2\nposition 2 of 2: finished 42\nworker 1 idle\nB2 AtEnd\nB5 NoInstance\nB6 OutOfRange\nB4 NoStatement\nok\nposition 0 of 2: running\nworker 1 at / line 2\nposition 2 of 2: finished 42\nworker 1 idle\n     1         cilk int main(void) {\n     2      1      int x = 2;\n     3      2      return x * 21;\n     4      3  }\n";
+    "B3 AtStart\nposition 1 of 2: running\nworker 1 at / line 3\nmain line 3\n    x = 2\n\
+     position 2 of 2: finished 42\nworker 1 idle\nB2 AtEnd\nB5 NoInstance\nB6 OutOfRange\n\
+     B4 NoStatement\nok\nposition 0 of 2: running\nworker 1 at / line 2\nposition 2 of 2: finished 42\n\
+     worker 1 idle\n     1         cilk int main(void) {\n     2      1      int x = 2;\n     3      2      return x * 21;\n     4      3  }\n";
 
 const SECOND: &str = "prev\nbreak 1\ngo 2\nprev\nclear 1\nprev";
 
 const SECOND_ANSWERS: &str =
-    "position 0 of 2: running\nworker 1 at / line 2\nok\nposition 2 of 2: finished 42\nworker 1 idle\nposition 1 of 2: running\nworker 1 at / line 3\nok\nposition 0 of 2: running\nworker 1 at / line 2\n";
+    "position 0 of 2: running\nworker 1 at / line 2\nok\nposition 2 of 2: finished 42\n\
+     worker 1 idle\nposition 1 of 2: running\nworker 1 at / line 3\nok\nposition 0 of 2: running\n\
+     worker 1 at / line 2\n";
 
 // Steps to the end and back, each of which has an answer of two lines.
 const WALK: &str = "step\nstep\nback\nback\n";
