@@ -14,7 +14,7 @@ ghost use Rattle.cilk_carries.specs.Ready.{Fits};
 ghost use Rattle.cilk_carries.specs.Carried.{Carried};
 
 use crate::acting::acted;
-use crate::did::{Did, Done};
+use crate::did::{Did, Done, Outcome};
 use crate::entering::{go_on, leave};
 use crate::parts::Parts;
 use cilk_effects::Reached;
@@ -36,8 +36,9 @@ pub(crate) fn carry_take(
     requires empty { hand_of parts.old.hands worker ≡ None }
     requires live { is_live (node_at parts.old.tree.nodes frame.id) ≡ true }
     requires fits { Fits reached.slot reached.index frame parts.old.globals.items }
-    ensures { (body : Option Body) → Carried choice (machine_of parts.old outside.running) worker frame body
+    ensures carried { (body : Option Body) → Carried choice (machine_of parts.old outside.running) worker frame body
         (plans.Take child n reached value) (machine_of parts.new (outcome_of result.outcome)) result.did }
+    ensures runs { result.outcome ≡ Outcome.Running }
 {
     let id = frame.id();
     let frame = write(&mut parts.globals, frame, reached, value);
@@ -59,8 +60,9 @@ pub(crate) fn carry_write(
     requires worker { IsWorker parts.old.hands worker }
     requires empty { hand_of parts.old.hands worker ≡ None }
     requires fits { Fits reached.slot reached.index (gone_to to frame) parts.old.globals.items }
-    ensures { (choice : ℕ) (body : Option Body) → Carried choice (machine_of parts.old outside.running) worker frame body
+    ensures carried { (choice : ℕ) (body : Option Body) → Carried choice (machine_of parts.old outside.running) worker frame body
         (plans.Write n reached value to) (machine_of parts.new (outcome_of result.outcome)) result.did }
+    ensures runs { result.outcome ≡ Outcome.Running }
 {
     let frame = write(&mut parts.globals, go_on(frame, to), reached, value);
     acted(worker, frame, n, &mut parts.hands)

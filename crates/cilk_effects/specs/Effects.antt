@@ -20,6 +20,7 @@ use Rattle.cilk_spawn.specs.declared.receiver.Receiver as receiver
 use Rattle.cilk_spawn.specs.declared.receiver.Receiver.{Receiver}
 use Rattle.cilk_effects.specs.declared.effect.Effect.{Effect}
 use Rattle.cilk_effects.specs.declared.effect.Effect.TheVariants.{Writes, Answers, Enters, Gives, Starts, Prints, Turns, Marks}
+use Rattle.cilk_effects.specs.declared.written.Written.{Written}
 
 -- element k of an array of this length (C 1990, 6.3.2.1)
 abbrev pub element_index : ℕ → ℤ → Result ℕ Trap
@@ -32,6 +33,11 @@ subscript_of cells length (Some t) = value_of (environment cells) t >>= element_
 
 abbrev pub index_of : Cells → Place → Result ℕ Trap
 index_of cells place = subscript_of cells place.slot.length place.subscript
+
+-- what an assignment writes is its effect
+abbrev pub written : Result Written Trap → Result Effect Trap
+written (Ok w) = Ok (Writes w.reached w.value)
+written (Err trap) = Err trap
 
 -- C 1990, 6.3.16: the place, then the value, and only then what the place holds
 abbrev pub assigned : Cells → Target → Term Slot → Result Effect Trap

@@ -3,13 +3,14 @@
 ghost use Rattle.std.specs.Prelude.{◌≡◌, IfOk};
 ghost use Rattle.std.specs.List.{All};
 ghost use Rattle.cilk_eval.specs.Slots.{cells_of, sizes_of, SlotsLieWithin};
-ghost use Rattle.cilk_effects.specs.Effects.{assigned, awaited, started, effect_in};
+ghost use Rattle.cilk_effects.specs.Effects.{written, assigned, awaited, started, effect_in};
 ghost use Rattle.cilk_effects.specs.Fits.{FitsPlace, FitsTarget, FitsTaker, FitsAct};
 
 use crate::effect::Effect;
 use crate::printing::printed;
 use crate::reached::Reached;
 use crate::values::{combined, held, index_of, values_of};
+use crate::written::Written;
 use cilk_eval::{Code, Slots, eval};
 use cilk_frame::Await;
 use cilk_nodes::{Action, Taker, Target};
@@ -30,7 +31,10 @@ pub fn effect_of(
     ensures { IfOk result (λ effect. effect ≡ effect_in (cells_of slots.now) n action.now) }
 {
     Ok(match action {
-        Action::Assign(target, code) => assigned(slots, target, code),
+        Action::Assign(target, code) => match assigned(slots, target, code) {
+            Err(trap) => Err(trap),
+            Ok(written) => Ok(Effect::Writes(written.reached, written.value)),
+        },
         Action::Call(target, callee, codes) => match awaited(slots, n, target) {
             Err(trap) => Err(trap),
             Ok(awaits) => match values_of(alloc, slots, codes.as_slice())? {
@@ -59,17 +63,21 @@ pub fn effect_of(
     })
 }
 
-// An assignment: the place, then the value, and only then what the place holds (C 1990, 6.3.16).
-fn assigned(slots: &Slots, target: &Target, code: &Code) -> Result<Effect, Trap>
+/// What an assignment writes: the place is reached, then the value is made, and only then is it read what the place holds
+/// (C 1990, 6.3.16).
+pub fn assigned(slots: &Slots, target: &Target, code: &Code) -> Result<Written, Trap>
     requires place { FitsPlace (sizes_of (cells_of slots.now)) target.now.place }
     requires code { SlotsLieWithin (sizes_of (cells_of slots.now)) code.now }
-    ensures { result ≡ assigned (cells_of slots.now) target.now code.now }
+    ensures { written result ≡ assigned (cells_of slots.now) target.now code.now }
 {
     let index = index_of(slots, &target.place)?;
     let value = eval(slots, code)?;
     let slot = target.place.slot;
     let value = combined(target.op, held(slots, slot, index), value)?;
-    Ok(Effect::Writes(Reached { slot, index }, value))
+    Ok(Written {
+        reached: Reached { slot, index },
+        value,
+    })
 }
 
 // What awaits the value of call n (C 1990, 6.3.2.2).

@@ -8,13 +8,15 @@ mod laws;
 mod printing;
 mod reached;
 mod values;
+mod written;
 
 pub use bytes::Bytes;
 pub use cilk_frame::Await;
 pub use cilk_spawn::{Arguments, Receiver};
 pub use cilk_syntax::Memory;
 pub use effect::Effect;
-pub use effects::effect_of;
+pub use effects::{assigned, effect_of};
 pub use laws::effects_are_seen;
 pub use reached::Reached;
 pub use values::{combined, held};
+pub use written::Written;

@@ -5,6 +5,7 @@ pub mod Told
 pub mod Leading
 pub mod Free
 pub mod Steps
+pub mod Lightly
 pub mod Anyone
 pub mod Stuckness
 pub mod Idle

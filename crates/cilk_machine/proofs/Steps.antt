@@ -213,7 +213,7 @@ carrying m now w x path is sound free planned trap = record {
 
 -- from the parts of a machine
 module _ (program : Program) (parts : Parts) (trapper : ℕ) (outcome : Outcome) (choices : ℕ) where
-  abbrev whole : Situation
+  abbrev pub whole : Situation
   whole = record { program = program; machine = machine_of parts (outcome_at trapper outcome); outcome = outcome; choices = choices }
 
   module _ (w : ℕ) (x : Plan) (path : Path) (c : Carrying whole w x path) (body : Option Body) (number : Option ℕ) (body_is : body ≡ body_numbered program number) (number_is : number ≡ started_number x) where

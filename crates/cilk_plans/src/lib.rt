@@ -3,8 +3,10 @@
 
 mod kind;
 mod laws;
+mod light;
 mod plan;
 
 pub use kind::Kind;
 pub use laws::plans_are_steps;
+pub use light::Light;
 pub use plan::Plan;

@@ -174,8 +174,8 @@ fn trap(kind: Kind, n: u32) -> Plan
     Plan::Trap { kind, n }
 }
 
-// The action that comes next, where a test has this answer.
-fn next_of(node: &Node, answer: bool) -> u32
+/// The action that comes next, where a test has this answer.
+pub(crate) fn next_of(node: &Node, answer: bool) -> u32
     ensures { result ≡ next_of node.now answer }
 {
     let next = if answer { node.next } else { node.other };

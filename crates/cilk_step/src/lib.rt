@@ -5,13 +5,15 @@ mod act;
 mod delivery;
 mod laws;
 mod leaving;
+mod light;
 mod plan;
 mod scene;
 mod waiting;
 
-pub use cilk_plans::{Kind, Plan};
+pub use cilk_plans::{Kind, Light, Plan};
 pub use cilk_syntax::Memory;
 pub use laws::scenes_fit;
+pub use light::plan_lightly;
 pub use plan::plan_step;
 pub use scene::Scene;
 pub use waiting::has_to_wait;

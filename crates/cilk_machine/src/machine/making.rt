@@ -11,7 +11,8 @@ ghost use Rattle.cilk_choices.specs.Words.{choice_of, reason_of, event_of};
 ghost use Rattle.cilk_step.specs.Scenes.{sight_of, is_wait};
 ghost use Rattle.cilk_machine.specs.Situation.{workers_of, sight_at};
 ghost use Rattle.cilk_machine.specs.Stands.{StandsAt};
-ghost use Rattle.cilk_machine.specs.Refused.{refused_by, step_refused, is_full, planned_in, moves_by, any_moves};
+ghost use Rattle.cilk_machine.specs.Refused.{refused_by, step_refused, is_full, planned_in, IsLight, moves_by, any_moves};
+ghost use Rattle.cilk_plans.specs.Words.{plan_of};
 ghost use Rattle.cilk_machine.specs.Made.{Makes, MakesBy, Does, IsRefused};
 ghost use Rattle.cilk_machine.specs.Told.{IsTrapPath};
 
@@ -21,11 +22,11 @@ use crate::refusing::{is_any_queued, is_worker, pop_refusal, steal_refusal};
 use crate::telling::{
     body_numbered, event_of, outcome_with, started_number, trapped_path, trapper_of,
 };
-use cilk_carries::{Did, carry_out};
+use cilk_carries::{Did, carry_lightly, carry_out};
 use cilk_choices::{Act, Choice, Event, Outcome, Path, Refusal};
 use cilk_frame::Frame;
-use cilk_plans::Plan;
-use cilk_step::{Scene, has_to_wait, plan_step};
+use cilk_plans::{Light, Plan};
+use cilk_step::{Scene, has_to_wait, plan_lightly, plan_step};
 
 impl Machine {
     /// Makes a choice. One that is refused changes nothing, and the refusal is the first that
@@ -65,6 +66,20 @@ impl Machine {
     /// The same, where instances go by their numbers: it takes no longer where an instance has many
     /// ancestors.
     pub fn advance(&mut self, choice: Choice) -> Result<Did, Refusal>
+        requires { self.old.choices < 2 ^ 64 - 1 }
+        ensures made { IfOk result (λ did. MakesBy self.old self.new (choice_of choice) did) }
+        ensures refused { IfErr result (λ r. IsRefused self.old (choice_of choice) (reason_of r)) }
+        ensures memory { choice.act ≢ Act.Step → result ≢ Err Refusal.Memory }
+        ensures unchanged { OnErr result (self.new ≡ self.old) }
+    {
+        match self.light(choice) {
+            None => self.advance_by_plan(choice),
+            Some(light) => Ok(self.step_lightly(choice.worker, light)),
+        }
+    }
+
+    // The same, where the plan is not light.
+    fn advance_by_plan(&mut self, choice: Choice) -> Result<Did, Refusal>
         requires { self.old.choices < 2 ^ 64 - 1 }
         ensures made { IfOk result (λ did. MakesBy self.old self.new (choice_of choice) did) }
         ensures refused { IfErr result (λ r. IsRefused self.old (choice_of choice) (reason_of r)) }
@@ -144,6 +159,50 @@ impl Machine {
             None => true,
             Some(frame) => has_to_wait(&self.scene(frame)),
         }
+    }
+
+    // The plan of the choice, where it is a step that can be taken, and one that is light.
+    fn light(&self, choice: Choice) -> Option<Light>
+        ensures step { IfSome result (λ light. choice.act ≡ Act.Step) }
+        ensures light { IfSome result (IsLight self.now choice.worker) }
+    {
+        match choice.act {
+            Act::Step => self.light_step(choice.worker),
+            Act::Pop | Act::Steal(_) => None,
+        }
+    }
+
+    fn light_step(&self, worker: u8) -> Option<Light>
+        ensures { IfSome result (IsLight self.now worker) }
+    {
+        let runs = matches!(self.outcome, Outcome::Running);
+        if runs && is_worker(worker, self.workers) {
+            self.light_plan(worker)
+        } else {
+            None
+        }
+    }
+
+    // The plan of the instance in the worker's hand, where it is a light one.
+    fn light_plan(&self, worker: u8) -> Option<Light>
+        requires { IsWorker self.now.machine.places worker }
+        ensures { IfSome result (λ light. plan_of light ≡ planned_in self.now worker) }
+    {
+        match self.parts.hands.hand(worker) {
+            None => None,
+            Some(frame) => plan_lightly(&self.scene(frame)),
+        }
+    }
+
+    // The instance in the worker's hand takes its step, which is a light one.
+    fn step_lightly(&mut self, worker: u8, light: Light) -> Did
+        requires light { IsLight self.old worker light }
+        requires room { self.old.choices < 2 ^ 64 - 1 }
+        ensures { MakesBy self.old self.new (record { worker = worker; act = choices.step }) result }
+    {
+        let did = carry_lightly(worker, light, self.choices + 1, &mut self.parts);
+        self.choices += 1;
+        did
     }
 
     // What a step of the instance of the frame looks at.

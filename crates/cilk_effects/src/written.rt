@@ -1,0 +1,9 @@
+use crate::reached::Reached;
+
+/// What an assignment writes.
+#[derive(Clone, Copy, Debug, PartialEq, Eq)]
+pub struct Written {
+    /// The cell that takes the value.
+    pub reached: Reached,
+    pub value: i32,
+}

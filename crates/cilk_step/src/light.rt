@@ -1,0 +1,103 @@
+//! A step that takes no memory, and after which the instance goes on in the same hand.
+
+ghost use Rattle.std.specs.Prelude.{◌≡◌, ◌<◌, length, IfSome};
+ghost use Rattle.cilk_eval.specs.Slots.{sizes_of};
+ghost use Rattle.cilk_effects.specs.Fits.{FitsAct};
+ghost use Rattle.cilk_plans.specs.Sights.{id_of, cells_in};
+ghost use Rattle.cilk_plans.specs.Made.{acted, taken_by, planned};
+ghost use Rattle.cilk_plans.specs.Words.{plan_of};
+ghost use Rattle.cilk_step.specs.Scenes.{sight_of, HeadFits};
+
+use crate::act::{at_boundary, next_of};
+use crate::scene::Scene;
+use cilk_effects::{Reached, Receiver, assigned, combined, held};
+use cilk_eval::eval;
+use cilk_nodes::{Action, Node};
+use cilk_plans::Light;
+use cilk_spawn::Delivery;
+
+/// The plan of the step of the instance of a frame, where it is a light one that is soon made: an assignment, a test, a
+/// jump, or a value that is taken into a place. None tells nothing.
+pub fn plan_lightly(scene: &Scene) -> Option<Light>
+    requires there { id_of (sight_of scene.now) < length (sight_of scene.now).nodes }
+    requires fits { HeadFits (sight_of scene.now) }
+    ensures { IfSome result (λ light. plan_of light ≡ planned (sight_of scene.now)) }
+{
+    let id = scene.frame.id();
+    if scene.tree.is_aborted(id) {
+        return None;
+    }
+    let n = scene.frame.node(scene.frame.depth() - 1);
+    match scene.loaded.statement(n) {
+        None => None,
+        Some(node) => {
+            if at_boundary(scene, node) {
+                match scene.tree.first_delivery(id) {
+                    None => act_lightly(scene, n, node),
+                    Some(delivery) => take_lightly(scene, delivery),
+                }
+            } else {
+                act_lightly(scene, n, node)
+            }
+        }
+    }
+}
+
+// The instance acts the node of its top activation, whose number is n.
+fn act_lightly(scene: &Scene, n: u32, node: &Node) -> Option<Light>
+    requires there { id_of (sight_of scene.now) < length (sight_of scene.now).nodes }
+    requires fits { FitsAct (sizes_of (cells_in (sight_of scene.now))) node.now.action }
+    ensures { IfSome result (λ light. plan_of light ≡ acted (sight_of scene.now) n node.now) }
+{
+    match &node.action {
+        Action::Assign(target, code) => match assigned(&scene.lent(), target, code) {
+            Err(_) => None,
+            Ok(written) => Some(Light::Write {
+                n,
+                reached: written.reached,
+                value: written.value,
+                to: next_of(node, true),
+            }),
+        },
+        Action::Test(code) => match eval(&scene.lent(), code) {
+            Err(_) => None,
+            Ok(value) => Some(Light::Go {
+                n,
+                to: next_of(node, value != 0),
+            }),
+        },
+        Action::Null | Action::Break | Action::Continue => Some(Light::Go {
+            n,
+            to: next_of(node, true),
+        }),
+        _ => None,
+    }
+}
+
+// The delivery is taken, if a place takes it.
+fn take_lightly(scene: &Scene, delivery: &Delivery) -> Option<Light>
+    requires { id_of (sight_of scene.now) < length (sight_of scene.now).nodes }
+    ensures { IfSome result (λ light.
+        plan_of light ≡ taken_by (sight_of scene.now) delivery.now.child delivery.now.value delivery.now.receiver) }
+{
+    match &delivery.receiver {
+        Receiver::Place {
+            op,
+            slot,
+            index,
+            spawn,
+        } => match combined(*op, held(&scene.lent(), *slot, *index), delivery.value) {
+            Err(_) => None,
+            Ok(value) => Some(Light::Take {
+                child: delivery.child,
+                n: *spawn,
+                reached: Reached {
+                    slot: *slot,
+                    index: *index,
+                },
+                value,
+            }),
+        },
+        Receiver::Nothing | Receiver::Call { .. } => None,
+    }
+}
