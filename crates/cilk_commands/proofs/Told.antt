@@ -1,7 +1,14 @@
 -- Why one worker that goes on may yet be refused.
-use Rattle.std.proofs.Common.{◌≡◌, Some, None, rules, sym, ◌∙◌, refl, inl, inr, ◌⊎◌}
+use Rattle.std.proofs.Common.{◌≡◌, ◌≤◌, ℕ, subst, Bool, true, false, Some, None, rules, sym, ◌∙◌, refl, inl, inr, ◌⊎◌}
 use Rattle.cilk_model.specs.Choice as model
 use Rattle.cilk_model.specs.Run.{Standing}
+use Rattle.cilk_labelled.specs.Labelled.{Labelled}
+use Rattle.cilk_labelled.specs.Bodies.{label}
+use Rattle.cilk_model.specs.State.{Outcome, running, finished, trapped}
+use Rattle.cilk_model.specs.End as model_end
+use Rattle.cilk_model.specs.End.{is_stuck, end_by}
+use Rattle.cilk_machine.specs.Stands.{StandsAt}
+use Rattle.cilk_commands.specs.Running.{Stops}
 use Rattle.cilk_machine.specs.Situation.{Situation}
 use Rattle.cilk_machine.specs.Made.{refused}
 use Rattle.cilk_choices.specs.Words.{reason_of}
@@ -44,3 +51,22 @@ pop_told m n at first why (inl free) is empty same told =
     search (rules, never)
 pop_told m n at first why (inr empty) is first_is same told =
     memory_of why (sym told ∙ (λ i. refused (same i) at (record { worker = 1; act = model.pop })) ∙ empty.1)
+
+pub not_going : (b : Bool) → (b ≡ false → ⊥) → b ≡ true
+not_going true never = refl
+not_going false never = absurd (never refl)
+
+-- where it is stuck, no choice is left
+stuck_by : (program : Labelled) (b : Bool) (o : Outcome) → b ≡ true → end_by program b o ≡ model_end.limit → ⊥
+stuck_by program true running is e = cc
+stuck_by program true (finished z) is e = cc
+stuck_by program true (trapped kind path n) is e = cc
+stuck_by program false o is e = cc
+
+-- so a run that stops there has not reached its limit
+pub stops_stuck : (limit : ℕ) (m n : Situation) → n ≡ m → m.choices ≤ limit
+    → ((at : Standing) → StandsAt m at → is_stuck (label m.program) at ≡ true) → Stops limit n
+stops_stuck limit m n same within stuck = subst (Stops limit) (sym same) (record {
+  within = within;
+  whole = λ at there ends. absurd (stuck_by (label m.program) (is_stuck (label m.program) at) at.state.outcome (stuck at there) ends);
+})

@@ -1,6 +1,6 @@
 //! A program that one worker moves.
 
-ghost use Rattle.std.specs.Prelude.{◌≡◌, ◌<◌, ◌-◌, ◌^◌, false, IfOk, IfErr};
+ghost use Rattle.std.specs.Prelude.{◌≡◌, ◌<◌, ◌-◌, ◌^◌, true, Ok, None, IfOk, IfErr, IfSome};
 ghost use Rattle.cilk_check.specs.Fault.{WellFormed};
 ghost use Rattle.cilk_choices.specs.Words.{choice_of};
 ghost use Rattle.cilk_labelled.specs.Bodies.{label};
@@ -43,34 +43,37 @@ pub fn run_alone(alloc: Global, program: Loaded, limit: u32) -> Result<Machine, 
         Err(MachineFault::Workers) => unreachable!(),
     };
     for _ in 0..limit {
-        if !matches!(machine.outcome(), Outcome::Running) || machine.is_stuck() {
+        if !matches!(machine.outcome(), Outcome::Running) {
             return Ok(machine);
         }
-        go_on(&mut machine)?;
+        match go_on(&mut machine)? {
+            None => return Ok(machine),
+            Some(_) => {}
+        }
     }
     Ok(machine)
 }
 
-/// The one worker makes the next choice, which is told.
-pub fn go_on(machine: &mut Machine) -> Result<Choice, Failure>
+/// The one worker makes the next choice, which is told. None where the program is stuck.
+pub fn go_on(machine: &mut Machine) -> Result<Option<Choice>, Failure>
     requires well_formed { WellFormed machine.old.program }
     requires alone { workers_of machine.old ≡ 1 }
     requires runs { machine.old.outcome ≡ Outcome.Running }
-    requires goes { (at : Standing)
-        × (StandsAt machine.old at × (is_stuck (label machine.old.program) at ≡ false)) }
     requires room { machine.old.choices < 2 ^ 64 - 1 }
-    ensures ok { IfOk result (λ choice. (did : event.Event)
-        × Makes machine.old machine.new (choice_of choice) did) }
+    ensures ok { IfOk result (λ made. IfSome made (λ choice. (did : event.Event)
+        × Makes machine.old machine.new (choice_of choice) did)) }
+    ensures stuck { result ≡ Ok None → (at : Standing) → StandsAt machine.old at → is_stuck (label machine.old.program) at ≡ true }
+    ensures same { result ≡ Ok None → machine.new ≡ machine.old }
     ensures err { IfErr result (λ why. why ≡ Failure.Memory) }
 {
     one_worker_goes_on();
     match machine.advance(STEP) {
-        Ok(_) => Ok(STEP),
+        Ok(_) => Ok(Some(STEP)),
         Err(Refusal::HandEmpty) => match machine.advance(POP) {
-            Ok(_) => Ok(POP),
-            Err(_) => unreachable!(),
+            Ok(_) => Ok(Some(POP)),
+            Err(_) => Ok(None),
         },
         Err(Refusal::Memory) => Err(Failure::Memory),
-        Err(_) => unreachable!(),
+        Err(_) => Ok(None),
     }
 }

@@ -32,11 +32,13 @@ pub(crate) fn record_alone(alloc: Global, program: Loaded, limit: u32) -> Result
     };
     let mut choices = Choices::new(alloc);
     for _ in 0..limit {
-        if !matches!(machine.outcome(), Outcome::Running) || machine.is_stuck() {
+        if !matches!(machine.outcome(), Outcome::Running) {
             return Ok(Recording { machine, choices });
         }
-        let choice = go_on(&mut machine)?;
-        keep(&mut choices, choice)?;
+        match go_on(&mut machine)? {
+            None => return Ok(Recording { machine, choices }),
+            Some(choice) => keep(&mut choices, choice)?,
+        }
     }
     Ok(Recording { machine, choices })
 }

@@ -1,8 +1,11 @@
-use Rattle.std.proofs.Common.{◌+◌, ap, ◌∙◌}
-use Rattle.cilk_commands.proofs.Moved.{led_on}
+use Rattle.std.proofs.Common.{rules, ◌≤◌, Ok, ap}
+use Rattle.cilk_commands.proofs.Told.{stops_stuck}
 use Rattle.cilk_commands.proofs.alone.run_alone.Goals as goal
 
-pub loop-preserved : goal.loop-preserved
-loop-preserved c =
-    let did = c.in_ok-go_on.ensures.ok in
-    (led_on c.args.program c.loop.machine c.go_on.new.machine _ did.0 did.1 c.loop.invariant.0, did.1.choices ∙ ap (λ k. k + 1) c.loop.invariant.1)
+pub returns-in-None-clause-stops : goal.returns-in-None-clause-stops
+returns-in-None-clause-stops c =
+    let made = c.loop.invariant.1 in
+    let left = c.loop-test.true in
+    let within : c.loop.machine.choices ≤ c.args.limit = search (rules, made, left) in
+    let stuck = ap Ok c.in-None.is in
+    stops_stuck c.args.limit c.loop.machine c.go_on.new.machine (c.in_ok-go_on.ensures.same stuck) within (c.in_ok-go_on.ensures.stuck stuck)
