@@ -14,7 +14,7 @@ use Rattle.cilk_model.specs.State.{State, Instances, changed}
 use Rattle.cilk_model.specs.Change.{is_function, put, gone_on, outer_with, globals_with, resumed_to, with_instance, with_put}
 use Rattle.cilk_model.specs.Places.{with_hand}
 use Rattle.cilk_nodes.specs.Slots.{is_inlet, slot_of}
-use Rattle.cilk_frame.specs.Frames.{Frame, left}
+use Rattle.cilk_frame.specs.Frames.{Frame, gone_to, left}
 use Rattle.cilk_stands.specs.Cells.{SameCell, put_in, frame_put, globals_put}
 use Rattle.cilk_stands.specs.Stands.{StandsFor, bodies_of, lowest_of}
 use Rattle.cilk_stands.proofs.Puts.{on_lowest-bodies, put-stands, put-globals, put-sizes}
@@ -24,7 +24,7 @@ use Rattle.cilk_agree.specs.Outside.{Outside, SameOutside, lock_by}
 use Rattle.cilk_agree.specs.Alike.{Tells, SameDeliveries, Receives, procedure_in, taker_of, lowest_body}
 use Rattle.cilk_agree.specs.Agrees.{Agrees, instead}
 use Rattle.cilk_agree.specs.Laws.{Turn, path_of, node_of, instance_of, Goes}
-use Rattle.cilk_agree.specs.Actions.{IsNext, gone_to, with_global, GoingAgrees, WritesAgree, CallsAgree, LeavesAgree, AnswersAgree, PrintsAgree, LocksAgree, TrapsAgree, AbortsAgree}
+use Rattle.cilk_agree.specs.Actions.{IsNext, with_global, GoingAgrees, WritesAgree, CallsAgree, LeavesAgree, AnswersAgree, PrintsAgree, LocksAgree, TrapsAgree, AbortsAgree}
 use Rattle.cilk_agree.proofs.Sets.{links-all, set-same}
 use Rattle.cilk_agree.proofs.Alone.{holds, inside}
 use Rattle.cilk_agree.proofs.Acts.{local-agrees}

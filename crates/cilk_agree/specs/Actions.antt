@@ -1,5 +1,5 @@
 -- The actions that an instance takes by itself, a spawn and an `abort`: each keeps agreement.
-use Rattle.std.specs.Prelude.{◌≡◌, ◌+◌, ◌&&◌, nat_lt, ℕ, ℤ, Bool, true, false, List, ◌∷◌, ◌++◌, drop, length, Option, Some, None, slice_set}
+use Rattle.std.specs.Prelude.{◌≡◌, ◌+◌, ℕ, ℤ, Bool, true, false, List, ◌∷◌, ◌++◌, drop, length, Option, Some, None, slice_set}
 use Rattle.cilk_eval.specs.declared.slot.Slot.{Slot}
 use Rattle.cilk_labelled.specs.Bodies.{label}
 use Rattle.cilk_labelled.specs.Items.{opened, next}
@@ -17,7 +17,7 @@ use Rattle.cilk_nodes.specs.Table.{number_of}
 use Rattle.cilk_nodes.specs.Bodies.{body_of}
 use Rattle.cilk_frame.specs.declared.awaited.Await.{Await}
 use Rattle.cilk_frame.specs.Frames as frames
-use Rattle.cilk_frame.specs.Frames.{Frame, depth, jumped, with_boundary, left}
+use Rattle.cilk_frame.specs.Frames.{Frame, jumped, with_boundary, gone_to, left}
 use Rattle.cilk_stands.specs.Starts.{Takes, first_activation, started}
 use Rattle.cilk_stands.specs.Cells.{SameCell, frame_put, globals_put}
 use Rattle.cilk_stands.specs.Stands.{AwaitsSame, bodies_of}
@@ -30,10 +30,6 @@ use Rattle.cilk_agree.specs.Alike.{Receives, lowest_body}
 use Rattle.cilk_agree.specs.Agrees.{Agrees, instead}
 use Rattle.cilk_agree.specs.Laws.{Turn, path_of, node_of, instance_of, Becomes, Goes, after_birth}
 use Rattle.cilk_agree.specs.Marks.{marked_if}
-
--- the frame goes on with action n; an action of the procedure's own clears the flag
-abbrev pub gone_to : ℕ → Frame → Frame
-gone_to n f = with_boundary (f.boundary && nat_lt 1 (depth f)) (jumped n f)
 
 -- where a test has this answer, that action comes next
 abbrev pub IsNext : Turn → Bool → ℕ → Type 0

@@ -49,6 +49,19 @@ module _ (choice : ℕ) (parts : Parts) (w : ℕ) (body : Option Body) (x : Plan
       subst (λ y. Stepped choice t y done.did) (sym machine)
       (subst (Stepped choice t (after_plan choice t.machine t.worker t.frame body x)) (sym did) (leads-by choice t body x goes p.starts p.is_plan))
 
+  -- the same, where the frame stays in the hand
+  pub carries-held : x ≢ plan.Wait → (f : Frame) (now : Parts) (done : Done) → hand_of parts.hands w ≡ Some f
+      → Carried choice (machine_of parts outside.running) w f body x (machine_of now (outcome_of done.outcome)) done.did
+      → Carries choice parts w body x now done
+  carries-held goes f now done in_hand c = λ t p.
+      let frame = same-some f t.frame (hand_of parts.hands w) in_hand (hand-there t p) in
+      let machine : machine_of now (outcome_of done.outcome) ≡ after_plan choice t.machine t.worker t.frame body x =
+      c.machine ∙ (λ j. after_plan choice (sym p.machine j) (sym p.worker j) (frame j) body x) in
+      let did : done.did ≡ did_of (length t.machine.nodes) t.frame x =
+      c.did ∙ (λ j. did_of (length (sym p.machine j).nodes) (frame j) x) in
+      subst (λ y. Stepped choice t y done.did) (sym machine)
+      (subst (Stepped choice t (after_plan choice t.machine t.worker t.frame body x)) (sym did) (leads-by choice t body x goes p.starts p.is_plan))
+
 -- what took the frame out and gave it back left all as it was
 pub given-again : (m part : Machine) (w : ℕ) (f g : Frame) (places : List (PlaceOf Frame)) → IsWorker m.places w → hand_of m.places w ≡ Some f → g ≡ f
     → part ≡ emptied m w → places ≡ with_hand part.places w (Some g) → record part { places = places } ≡ m

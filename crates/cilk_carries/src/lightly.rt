@@ -1,42 +1,46 @@
-//! A light plan is carried out.
+//! A light plan is carried out: the frame stays in the hand, and is changed there.
 
-ghost use Rattle.std.specs.Prelude.{◌≡◌, ℕ, Option, None};
-ghost use Rattle.cilk_model.specs.Places.{IsWorker, hand_of};
-ghost use Rattle.cilk_nodes.specs.declared.body.Body.{Body};
+ghost use Rattle.std.specs.Prelude.{◌≡◌, Some, None};
+ghost use Rattle.cilk_model.specs.Places.{IsWorker, hand_of, with_hand};
+ghost use Rattle.cilk_stands.specs.Cells.{frame_put, globals_put};
 ghost use Rattle.cilk_agree.specs.Outside as outside;
 ghost use Rattle.cilk_plans.specs.Words.{plan_of};
-ghost use Rattle.cilk_carries.specs.Words.{machine_of, outcome_of};
-ghost use Rattle.cilk_carries.specs.Ready.{Ready};
+ghost use Rattle.cilk_spawn.specs.Nodes.{node_at, is_live};
+ghost use Rattle.cilk_carries.specs.Words.{machine_of};
+ghost use Rattle.cilk_carries.specs.Ready.{Fits, Ready, frame_in};
 ghost use Rattle.cilk_carries.specs.Carried.{Carried};
 ghost use Rattle.cilk_carries.specs.Carries.{CanCarry, Carries};
 
-use crate::acting::acted;
 use crate::did::{Did, Done, Outcome};
-use crate::entering::go_on;
 use crate::parts::Parts;
-use crate::writing::{carry_take, carry_write};
-use cilk_frame::Frame;
+use cilk_effects::Reached;
+use cilk_eval::Area;
+use cilk_frame::Id;
 use cilk_plans::Light;
+use cilk_sched::Hands;
 
 /// Carries out the light plan of the frame in the worker's hand, at this choice. It takes no memory, and the program runs on.
 pub fn carry_lightly(worker: u8, light: Light, choice: u64, parts: &mut Parts) -> Did
     requires { CanCarry parts.old worker None (plan_of light) }
     ensures { Carries choice parts.old worker None (plan_of light) parts.new (record { outcome = Outcome.Running; did = result }) }
 {
-    match parts.hands.take(worker) {
+    match parts.hands.hand(worker) {
         None => unreachable!(),
-        Some(frame) => carry_light(worker, frame, light, choice, parts).did,
+        Some(frame) => {
+            let id = frame.id();
+            carry_light(worker, id, light, choice, parts)
+        }
     }
 }
 
-// The frame was taken out of the hand.
-fn carry_light(worker: u8, frame: Frame, light: Light, choice: u64, parts: &mut Parts) -> Done
+// The instance in the hand has this number.
+fn carry_light(worker: u8, id: Id, light: Light, choice: u64, parts: &mut Parts) -> Did
     requires worker { IsWorker parts.old.hands worker }
-    requires empty { hand_of parts.old.hands worker ≡ None }
-    requires ready { Ready choice parts.old.tree.nodes parts.old.globals.items frame None (plan_of light) }
-    ensures done { Carried choice (machine_of parts.old outside.running) worker frame None (plan_of light)
-        (machine_of parts.new (outcome_of result.outcome)) result.did }
-    ensures runs { result.outcome ≡ Outcome.Running }
+    requires held { hand_of parts.old.hands worker ≡ Some (frame_in parts.old.hands worker) }
+    requires id { id ≡ (frame_in parts.old.hands worker).id }
+    requires ready { Ready choice parts.old.tree.nodes parts.old.globals.items (frame_in parts.old.hands worker) None (plan_of light) }
+    ensures { Carried choice (machine_of parts.old outside.running) worker (frame_in parts.old.hands worker) None (plan_of light)
+        (machine_of parts.new outside.running) result }
 {
     match light {
         Light::Take {
@@ -44,13 +48,40 @@ fn carry_light(worker: u8, frame: Frame, light: Light, choice: u64, parts: &mut 
             n,
             reached,
             value,
-        } => carry_take(worker, frame, child, n, reached, value, choice, parts),
-        Light::Go { n, to } => acted(worker, go_on(frame, to), n, &mut parts.hands),
+        } => {
+            write(worker, reached, value, &mut parts.globals, &mut parts.hands);
+            let _taken = parts.tree.take_delivery(id, choice);
+            Did::Delivered(child, n)
+        }
+        Light::Go { n, to } => {
+            parts.hands.go_on(worker, to);
+            Did::Acted(id, n)
+        }
         Light::Write {
             n,
             reached,
             value,
             to,
-        } => carry_write(worker, frame, n, reached, value, to, parts),
+        } => {
+            parts.hands.go_on(worker, to);
+            write(worker, reached, value, &mut parts.globals, &mut parts.hands);
+            Did::Acted(id, n)
+        }
+    }
+}
+
+// Writes a cell of the top activation of the frame in the hand, of its procedure's own, or of the top level.
+fn write(worker: u8, reached: Reached, value: i32, globals: &mut Vec<i32>, hands: &mut Hands)
+    requires worker { IsWorker hands.old worker }
+    requires held { hand_of hands.old worker ≡ Some (frame_in hands.old worker) }
+    requires fits { Fits reached.slot reached.index (frame_in hands.old worker) globals.old.items }
+    ensures hands { hands.new ≡ with_hand hands.old worker (Some (frame_put reached.slot reached.index value (frame_in hands.old worker))) }
+    ensures globals { globals.new.items ≡ globals_put reached.slot reached.index value globals.old.items }
+{
+    let cell = reached.slot.offset + reached.index;
+    match reached.slot.area {
+        Area::Own => hands.set_top_cell(worker, cell, value),
+        Area::Outer => hands.set_lowest_cell(worker, cell, value),
+        Area::Global => globals[cell as usize] = value,
     }
 }

@@ -1,5 +1,5 @@
 -- What contracts see of a frame, and what each call makes of it.
-use Rattle.std.specs.Prelude.{ℕ, ℤ, ◌-◌, Bool, List, [], ◌∷◌, ◌++◌, length, take, Option, None, slice_index_or, slice_set}
+use Rattle.std.specs.Prelude.{ℕ, ℤ, ◌-◌, ◌&&◌, nat_lt, Bool, List, [], ◌∷◌, ◌++◌, length, take, Option, None, slice_index_or, slice_set}
 use Rattle.cilk_frame.specs.declared.awaited.Await.{Await}
 
 -- a body that is being run: the number of the action with which it goes on, its cells, and what awaits its value, if anything
@@ -41,12 +41,20 @@ abbrev pub with_cell : ℕ → ℕ → ℤ → Frame → Frame
 with_cell i slot z f =
     with_activation i (record (activation_at f i) { cells = slice_set (activation_at f i).cells slot z }) f
 
+-- the frame with z in one cell of the top activation
+abbrev pub put_top : ℕ → ℤ → Frame → Frame
+put_top slot z f = with_cell (top_place f) slot z f
+
 -- the top activation goes on with action n
 abbrev pub jumped : ℕ → Frame → Frame
 jumped n f = with_activation (top_place f) (record (top_of f) { node = n }) f
 
 abbrev pub with_boundary : Bool → Frame → Frame
 with_boundary b f = record f { boundary = b }
+
+-- the same, as an action is acted: one of the procedure's own clears the flag
+abbrev pub gone_to : ℕ → Frame → Frame
+gone_to n f = with_boundary (f.boundary && nat_lt 1 (depth f)) (jumped n f)
 
 -- another activation goes on
 abbrev pub entered : Activation → Frame → Frame

@@ -1,5 +1,5 @@
 ghost use Rattle.std.specs.Prelude.{◌≡◌, ◌<◌, ◌≤◌, ◌∷◌, [], false, length, None, Some, OnErr, OnOk, IfOk};
-ghost use Rattle.cilk_frame.specs.Frames.{depth, activation_at, top_of, with_cell, jumped, with_boundary, entered, left};
+ghost use Rattle.cilk_frame.specs.Frames.{depth, activation_at, top_of, with_cell, jumped, with_boundary, gone_to, entered, left};
 ghost use Rattle.cilk_frame.specs.Starts.{activation_of};
 
 use crate::activation::Activation;
@@ -119,6 +119,15 @@ impl Frame {
         let top = self.activations.len() - 1;
         let activation = &mut self.activations[top];
         activation.jump(n);
+    }
+
+    /// The same, as an action is acted: one of the procedure's own clears the flag.
+    pub fn go_on(&mut self, n: u32)
+        ensures { self.new ≡ gone_to n self.old }
+    {
+        let boundary = self.boundary && 1 < self.activations.len();
+        self.jump(n);
+        self.boundary = boundary;
     }
 
     /// Sets the boundary flag, or clears it.

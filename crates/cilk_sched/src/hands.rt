@@ -1,6 +1,8 @@
-ghost use Rattle.std.specs.Prelude.{◌≡◌, ◌++◌, ◌∷◌, [], Some, None, length, replicate, slice_get, IfOk, IfErr, OnErr, OnOk};
+ghost use Rattle.std.specs.Prelude.{◌≡◌, ◌<◌, ◌++◌, ◌∷◌, [], Some, None, length, replicate, option_map, slice_get, IfOk, IfErr, IfSome, OnErr, OnOk};
 ghost use Rattle.std.specs.Option.{option_copied};
 ghost use Rattle.cilk_model.specs.Places.{no_place, IsWorker, hand_of, deque_of, with_hand, with_deque, top_of, below_top, bottom_of, above_bottom};
+ghost use Rattle.cilk_frame.specs.Frames as frames;
+ghost use Rattle.cilk_frame.specs.Frames.{gone_to, with_cell, put_top};
 
 use crate::place::Place;
 use cilk_frame::{Frame, Memory};
@@ -55,6 +57,35 @@ impl Hands {
     {
         let place = &mut self.places[worker as usize - 1];
         place.take()
+    }
+
+    /// The instance in the worker's hand goes on with action n, as an action is acted.
+    pub fn go_on(&mut self, worker: u8, n: u32)
+        requires { IsWorker self.old worker }
+        ensures { self.new ≡ with_hand self.old worker (option_map (gone_to n) (hand_of self.old worker)) }
+    {
+        let place = &mut self.places[worker as usize - 1];
+        place.go_on(n);
+    }
+
+    /// Puts a value into a cell of the top activation of the frame in the worker's hand.
+    pub fn set_top_cell(&mut self, worker: u8, slot: u32, value: i32)
+        requires worker { IsWorker self.old worker }
+        requires cell { IfSome (hand_of self.old worker) (λ f. slot < length (frames.top_of f).cells) }
+        ensures { self.new ≡ with_hand self.old worker (option_map (put_top slot value) (hand_of self.old worker)) }
+    {
+        let place = &mut self.places[worker as usize - 1];
+        place.set_top_cell(slot, value);
+    }
+
+    /// Puts a value into a cell of the procedure's own activation of the frame in the worker's hand.
+    pub fn set_lowest_cell(&mut self, worker: u8, slot: u32, value: i32)
+        requires worker { IsWorker self.old worker }
+        requires cell { IfSome (hand_of self.old worker) (λ f. slot < length (frames.activation_at f 0).cells) }
+        ensures { self.new ≡ with_hand self.old worker (option_map (with_cell 0 slot value) (hand_of self.old worker)) }
+    {
+        let place = &mut self.places[worker as usize - 1];
+        place.set_lowest_cell(slot, value);
     }
 
     /// Puts a frame below the others of the worker's deque. Where memory has run out, the frame

@@ -1,6 +1,8 @@
-ghost use Rattle.std.specs.Prelude.{◌≡◌, ◌++◌, ◌∷◌, [], Some, None, length, slice_get, IfErr, OnErr, OnOk};
+ghost use Rattle.std.specs.Prelude.{◌≡◌, ◌<◌, ◌++◌, ◌∷◌, [], Some, None, length, option_map, slice_get, IfErr, IfSome, OnErr, OnOk};
 ghost use Rattle.std.specs.Option.{option_copied};
 ghost use Rattle.cilk_model.specs.Places.{no_place, top_of, below_top, bottom_of, above_bottom};
+ghost use Rattle.cilk_frame.specs.Frames as frames;
+ghost use Rattle.cilk_frame.specs.Frames.{gone_to, with_cell, put_top};
 
 use cilk_frame::Frame;
 use std::alloc::Global;
@@ -62,6 +64,41 @@ impl Place {
         ensures rest { self.new ≡ record self.old { hand = None } }
     {
         self.hand.take()
+    }
+
+    /// The instance in the hand goes on with action n, as an action is acted.
+    pub fn go_on(&mut self, n: u32)
+        ensures { self.new ≡ record self.old { hand = option_map (gone_to n) self.old.hand } }
+    {
+        match &mut self.hand {
+            None => {}
+            Some(frame) => frame.go_on(n),
+        }
+    }
+
+    /// Puts a value into a cell of the activation that goes on.
+    pub fn set_top_cell(&mut self, slot: u32, value: i32)
+        requires { IfSome self.old.hand (λ f. slot < length (frames.top_of f).cells) }
+        ensures { self.new ≡ record self.old { hand = option_map (put_top slot value) self.old.hand } }
+    {
+        match &mut self.hand {
+            None => {}
+            Some(frame) => {
+                let top = frame.depth() - 1;
+                frame.set_cell(top, slot, value);
+            }
+        }
+    }
+
+    /// Puts a value into a cell of the procedure's own activation.
+    pub fn set_lowest_cell(&mut self, slot: u32, value: i32)
+        requires { IfSome self.old.hand (λ f. slot < length (frames.activation_at f 0).cells) }
+        ensures { self.new ≡ record self.old { hand = option_map (with_cell 0 slot value) self.old.hand } }
+    {
+        match &mut self.hand {
+            None => {}
+            Some(frame) => frame.set_cell(0, slot, value),
+        }
     }
 
     pub fn push_bottom(&mut self, frame: Frame) -> Result<(), Frame>

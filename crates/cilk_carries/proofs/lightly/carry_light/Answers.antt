@@ -1,18 +1,32 @@
-use Rattle.std.proofs.Common.{◌≡◌, None, sym, ap, ◌∙◌, arith}
+use Rattle.std.proofs.Common.{◌≡◌, ℤ, Some, None, option_map, sym, ap, ◌∙◌, arith}
 use Rattle.std.proofs.lemmas.Int.{to_z-of_z}
 use mir.Val.{of_z, to_z}
 use mir.Syntax.{w32}
+use Rattle.cilk_model.specs.Places.{with_hand}
+use Rattle.cilk_frame.specs.Frames.{Frame, gone_to}
+use Rattle.cilk_stands.specs.Cells.{frame_put, globals_put}
+use Rattle.cilk_agree.specs.Outside as outside
 use Rattle.cilk_plans.specs.declared.plan.Plan.TheVariants as plan
 use Rattle.cilk_plans.specs.Words.{plan_of}
+use Rattle.cilk_carries.specs.declared.did.Did.TheVariants as did
+use Rattle.cilk_carries.specs.Words.{machine_of}
+use Rattle.cilk_carries.specs.Ready.{frame_in}
 use Rattle.cilk_carries.proofs.Arms.{by-arm}
+use Rattle.cilk_carries.proofs.Held.{written}
 use Rattle.cilk_carries.proofs.lightly.carry_light.Goals as goal
 
-pub returns-in-Take-clause-done : goal.returns-in-Take-clause-done
-returns-in-Take-clause-done c =
-    let z : to_z w32 (of_z w32 c.in-Take.value) ≡ c.in-Take.value = grind (arith, to_z-of_z) in
-    by-arm (ap plan_of c.in-Take.is ∙ (λ j. plan.Take c.in-Take.child c.in-Take.n c.in-Take.reached (sym z j))) (c.carry_take.ensures.carried None)
-
-pub returns-in-Write-clause-done : goal.returns-in-Write-clause-done
-returns-in-Write-clause-done c =
+pub returns-in-Write : goal.returns-in-Write
+returns-in-Write c =
+    let m = machine_of c.args.parts.now outside.running in
+    let w = c.args.worker in
+    let f = frame_in m.places w in
+    let at = c.in-Write.reached in
+    let to = c.in-Write.to in
     let z : to_z w32 (of_z w32 c.in-Write.value) ≡ c.in-Write.value = grind (arith, to_z-of_z) in
-    by-arm (ap plan_of c.in-Write.is ∙ (λ j. plan.Write c.in-Write.n c.in-Write.reached (sym z j) c.in-Write.to)) (c.carry_write.ensures.carried c.args.choice None)
+    let gone = c.go_on-in-Write.ensures ∙ ap (λ o. with_hand m.places w (option_map (gone_to to) o)) c.requires.held in
+    let hands = written m.places w c.requires.worker (gone_to to f) (frame_put at.slot at.index (to_z w32 (of_z w32 c.in-Write.value)))
+    c.go_on-in-Write.new.self c.write-in-Write.new.hands gone c.write-in-Write.ensures.hands in
+    by-arm (ap plan_of c.in-Write.is ∙ (λ j. plan.Write c.in-Write.n at (sym z j) to)) (record {
+      machine = λ j. record { outside = record m.outside { cells = c.write-in-Write.ensures.globals j }; nodes = m.nodes; places = hands j };
+      did = ap (λ k. did.Acted k c.in-Write.n) c.requires.id;
+    })

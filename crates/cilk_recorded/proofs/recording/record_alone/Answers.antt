@@ -1,10 +1,22 @@
-use Rattle.std.proofs.Common.{◌+◌, ap, ◌∙◌}
+use Rattle.std.proofs.Common.{◌+◌, ◌≡◌, ◌≤◌, ℕ, ap, ◌∙◌, rules, subst, Ok, IfSome}
+use Rattle.cilk_model.specs.Event.{Event}
+use Rattle.cilk_choices.specs.Words.{choice_of}
+use Rattle.cilk_machine.specs.Made.{Makes}
+use Rattle.cilk_commands.proofs.Told.{stops_stuck}
 use Rattle.cilk_recorded.proofs.Ran.{led_on}
 use Rattle.cilk_recorded.proofs.recording.record_alone.Goals as goal
 
 pub loop-preserved : goal.loop-preserved
 loop-preserved c =
-    let did = c.in_ok-choice.ensures.ok in (
-      led_on c.args.program c.loop.choices c.keep.new.choices c.loop.machine c.go_on.new.machine c.in_ok-choice.choice did.0 did.1 c.in_ok-keep.ensures.kept c.loop.invariant.0,
-      did.1.choices ∙ ap (λ k. k + 1) c.loop.invariant.1,
+    let made = subst (λ o. IfSome o (λ choice. (did : Event) × Makes c.loop.machine c.go_on.new.machine (choice_of choice) did)) c.in-Some.is c.in_ok-go_on.ensures.ok in (
+      led_on c.args.program c.loop.choices c.keep-in-Some.new.choices c.loop.machine c.go_on.new.machine c.in-Some.field-0 made.0 made.1 c.in_ok-keep-in-Some.ensures.kept c.loop.invariant.0,
+      made.1.choices ∙ ap (λ k. k + 1) c.loop.invariant.1,
     )
+
+pub returns-in-None-clause-stops : goal.returns-in-None-clause-stops
+returns-in-None-clause-stops c =
+    let made = c.loop.invariant.1 in
+    let left = c.loop-test.true in
+    let within : c.loop.machine.choices ≤ c.args.limit = search (rules, made, left) in
+    let stuck = ap Ok c.in-None.is in
+    stops_stuck c.args.limit c.loop.machine c.go_on.new.machine (c.in_ok-go_on.ensures.same stuck) within (c.in_ok-go_on.ensures.stuck stuck)
