@@ -298,6 +298,20 @@ impl Record {
         }
     }
 
+    /// A live child, and its ordinal: the one with the least.
+    pub fn first_child(&self) -> Option<(u32, Id)>
+        ensures child { IfSome result (λ e. child_of self.now.life e.0 ≡ Some e.1) }
+        ensures none { IfNone result ((k : ℕ) → child_of self.now.life k ≡ None) }
+    {
+        match &self.life {
+            Life::Live(live) => match live.living.first_key_value() {
+                Some((ordinal, child)) => Some((*ordinal, *child)),
+                None => None,
+            },
+            _ => None,
+        }
+    }
+
     /// The live child with the least ordinal above this one, and that ordinal.
     pub fn next_child(&self, after: u32) -> Option<(u32, Id)>
         ensures above { IfSome result (λ e. after < e.0) }

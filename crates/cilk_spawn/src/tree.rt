@@ -314,7 +314,7 @@ impl Tree {
         requires { id < length self.now.nodes }
         ensures { result ≡ has_live_child self.now.nodes id }
     {
-        self.records[id.number()].next_child(0).is_some()
+        self.records[id.number()].first_child().is_some()
     }
 
     /// How many deliveries wait for it.
