@@ -67,6 +67,15 @@ fn carry_light(worker: u8, id: Id, light: Light, choice: u64, parts: &mut Parts)
             write(worker, reached, value, &mut parts.globals, &mut parts.hands);
             Did::Acted(id, n)
         }
+        Light::Leave { n } => {
+            parts.hands.leave(worker);
+            Did::Acted(id, n)
+        }
+        Light::Answer { n, reached, value } => {
+            parts.hands.leave(worker);
+            write(worker, reached, value, &mut parts.globals, &mut parts.hands);
+            Did::Acted(id, n)
+        }
     }
 }
 

@@ -20,3 +20,5 @@ abbrev pub plan_of : Light → Plan
 plan_of (light.Take child n reached z) = plan.Take child n reached z
 plan_of (light.Go n to) = plan.Go n to
 plan_of (light.Write n reached z to) = plan.Write n reached z to
+plan_of (light.Leave n) = plan.Leave n
+plan_of (light.Answer n reached z) = plan.Answer n reached z

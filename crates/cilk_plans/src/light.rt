@@ -24,4 +24,14 @@ pub enum Light {
         value: i32,
         to: u32,
     },
+    /// A body above is left, and nothing takes its value.
+    Leave {
+        n: u32,
+    },
+    /// A C function is left, and a cell of its caller takes the value.
+    Answer {
+        n: u32,
+        reached: Reached,
+        value: i32,
+    },
 }

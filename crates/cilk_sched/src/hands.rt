@@ -2,7 +2,7 @@ ghost use Rattle.std.specs.Prelude.{◌≡◌, ◌<◌, ◌++◌, ◌∷◌, [],
 ghost use Rattle.std.specs.Option.{option_copied};
 ghost use Rattle.cilk_model.specs.Places.{no_place, IsWorker, hand_of, deque_of, with_hand, with_deque, top_of, below_top, bottom_of, above_bottom};
 ghost use Rattle.cilk_frame.specs.Frames as frames;
-ghost use Rattle.cilk_frame.specs.Frames.{gone_to, with_cell, put_top};
+ghost use Rattle.cilk_frame.specs.Frames.{gone_to, left, with_cell, put_top};
 
 use crate::place::Place;
 use cilk_frame::{Frame, Memory};
@@ -66,6 +66,16 @@ impl Hands {
     {
         let place = &mut self.places[worker as usize - 1];
         place.go_on(n);
+    }
+
+    /// The top activation of the frame in the worker's hand is left.
+    pub fn leave(&mut self, worker: u8)
+        requires worker { IsWorker self.old worker }
+        requires inside { IfSome (hand_of self.old worker) (λ f. 1 < frames.depth f) }
+        ensures { self.new ≡ with_hand self.old worker (option_map left (hand_of self.old worker)) }
+    {
+        let place = &mut self.places[worker as usize - 1];
+        place.leave();
     }
 
     /// Puts a value into a cell of the top activation of the frame in the worker's hand.

@@ -2,7 +2,7 @@ ghost use Rattle.std.specs.Prelude.{◌≡◌, ◌<◌, ◌++◌, ◌∷◌, [],
 ghost use Rattle.std.specs.Option.{option_copied};
 ghost use Rattle.cilk_model.specs.Places.{no_place, top_of, below_top, bottom_of, above_bottom};
 ghost use Rattle.cilk_frame.specs.Frames as frames;
-ghost use Rattle.cilk_frame.specs.Frames.{gone_to, with_cell, put_top};
+ghost use Rattle.cilk_frame.specs.Frames.{gone_to, left, with_cell, put_top};
 
 use cilk_frame::Frame;
 use std::alloc::Global;
@@ -98,6 +98,19 @@ impl Place {
         match &mut self.hand {
             None => {}
             Some(frame) => frame.set_cell(0, slot, value),
+        }
+    }
+
+    /// The body above the others, in the hand, is left.
+    pub fn leave(&mut self)
+        requires { IfSome self.old.hand (λ f. 1 < frames.depth f) }
+        ensures { self.new ≡ record self.old { hand = option_map left self.old.hand } }
+    {
+        match &mut self.hand {
+            None => {}
+            Some(frame) => {
+                let _awaited = frame.leave();
+            }
         }
     }
 

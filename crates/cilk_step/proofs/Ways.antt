@@ -1,17 +1,19 @@
 -- The ways of a step: what comes first decides.
-use Rattle.std.proofs.Common.{◌≡◌, ℕ, Bool, true, false, not, ◌&&◌, List, [], ◌∷◌, Option, Some, None, Result, refl, sym, ap, ◌∙◌, if◌then◌else◌}
+use Rattle.std.proofs.Common.{◌≡◌, ℕ, Bool, true, false, not, ◌&&◌, ◌||◌, ℤ, Ok, List, [], ◌∷◌, Option, Some, None, Result, refl, sym, ap, ◌∙◌, if◌then◌else◌}
 use Rattle.std.specs.Prelude.{slice_get}
 use Rattle.cilk_nodes.specs.declared.node.Node.{Node}
 use Rattle.cilk_nodes.specs.Table.{node_of}
+use Rattle.cilk_nodes.specs.Bodies.{body_of}
 use Rattle.cilk_values.specs.declared.trap.Trap.{Trap}
 use Rattle.cilk_spawn.specs.Nodes.{is_synched}
 use Rattle.cilk_effects.specs.declared.effect.Effect.{Effect}
+use Rattle.cilk_effects.specs.declared.effect.Effect.TheVariants.{Gives}
 use Rattle.cilk_effects.specs.Effects.{effect_in}
 use Rattle.cilk_spawn.specs.declared.delivery.Delivery.{Delivery}
 use Rattle.cilk_plans.specs.declared.kind.Kind.TheVariants as kind
 use Rattle.cilk_plans.specs.declared.plan.Plan.TheVariants as plan
-use Rattle.cilk_plans.specs.Made.{traps, waits_here, ends_thread, by_effect, planned, aborted, by_head, by_deliveries, acted, at_boundary}
-use Rattle.cilk_plans.specs.Sights.{Sight, id_of, own_node, head_number, cells_in, holds_lock}
+use Rattle.cilk_plans.specs.Made.{traps, waits_here, ends_thread, leaves, is_sync, is_spawn, is_function_body, given, by_effect, planned, aborted, by_head, by_deliveries, acted, at_boundary}
+use Rattle.cilk_plans.specs.Sights.{Sight, id_of, own_node, head_number, cells_in, holds_lock, is_outer}
 
 -- an action that may be acted comes to its effect
 pub acts_by : (g : Sight) (n : ℕ) (node : Node) (r : Result Effect Trap) → (ends_thread g node && holds_lock g) ≡ false
@@ -21,6 +23,29 @@ acts_by g n node r free ready is =
     ∙ ap (λ (b : Bool). if b then plan.Park else by_effect g n node (effect_in (cells_in g) n node.action)) (sym ready)
     ∙ ap (λ (b : Bool). if b then traps kind.HeldLock n
     else (if waits_here g node && not (is_synched g.nodes (id_of g)) then plan.Park else by_effect g n node (effect_in (cells_in g) n node.action))) (sym free)
+
+or-left : (a b : Bool) → (a || b) ≡ false → a ≡ false
+or-left true b h = cc
+or-left false b h = refl
+
+or-right : (a b : Bool) → (a || b) ≡ false → b ≡ false
+or-right true b h = cc
+or-right false b h = h
+
+no-thread : (sync spawn leaving outer inner : Bool) → leaving ≡ true → (sync || (spawn || (leaving && (outer || inner)))) ≡ false
+    → (outer && (sync || leaving)) ≡ false
+no-thread sync spawn leaving outer inner goes h =
+    let ends = or-right spawn (leaving && (outer || inner)) (or-right sync (spawn || (leaving && (outer || inner))) h) in
+    let stays = or-left outer inner (ap (λ b. b && (outer || inner)) (sym goes) ∙ ends) in
+    ap (λ b. b && (sync || leaving)) stays
+
+-- a C function is left, and no thread ends there
+pub leaves_by : (g : Sight) (n : ℕ) (node : Node) (z : ℤ) → leaves node.action ≡ true → ends_thread g node ≡ false
+    → effect_in (cells_in g) n node.action ≡ Ok (Gives z) → given g n node z ≡ acted g n node
+leaves_by g n node z goes inner is =
+    acts_by g n node (Ok (Gives z)) (ap (λ b. b && holds_lock g) inner)
+    (ap (λ b. b && not (is_synched g.nodes (id_of g))) (no-thread (is_sync node.action) (is_spawn node.action) (leaves node.action) (is_outer g)
+    (not (is_function_body (body_of g.program node.body))) goes inner)) (sym is)
 
 none-waits : (g : Sight) (n : ℕ) (node : Node) (ds : List Delivery) → slice_get ds 0 ≡ None → by_deliveries g n node ds ≡ acted g n node
 none-waits g n node [] h = refl

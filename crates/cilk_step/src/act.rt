@@ -264,8 +264,8 @@ fn waits_here(scene: &Scene, node: &Node) -> bool
     scene.is_outer() && (matches!(node.action, Action::Sync) || leaves(&node.action))
 }
 
-// Whether a Cilk thread or an inlet ends there.
-fn ends_thread(scene: &Scene, node: &Node) -> bool
+/// Whether a Cilk thread or an inlet ends there.
+pub(crate) fn ends_thread(scene: &Scene, node: &Node) -> bool
     ensures { result ≡ ends_thread (sight_of scene.now) node.now }
 {
     match &node.action {

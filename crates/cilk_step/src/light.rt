@@ -8,16 +8,17 @@ ghost use Rattle.cilk_plans.specs.Made.{acted, taken_by, planned};
 ghost use Rattle.cilk_plans.specs.Words.{plan_of};
 ghost use Rattle.cilk_step.specs.Scenes.{sight_of, HeadFits};
 
-use crate::act::{at_boundary, next_of};
+use crate::act::{at_boundary, ends_thread, next_of};
+use crate::leaving::given;
 use crate::scene::Scene;
 use cilk_effects::{Reached, Receiver, assigned, combined, held};
 use cilk_eval::eval;
 use cilk_nodes::{Action, Node};
-use cilk_plans::Light;
+use cilk_plans::{Light, Plan};
 use cilk_spawn::Delivery;
 
 /// The plan of the step of the instance of a frame, where it is a light one that is soon made: an assignment, a test, a
-/// jump, or a value that is taken into a place. None tells nothing.
+/// jump, the end of a C function, or a value that is taken into a place. None tells nothing.
 pub fn plan_lightly(scene: &Scene) -> Option<Light>
     requires there { id_of (sight_of scene.now) < length (sight_of scene.now).nodes }
     requires fits { HeadFits (sight_of scene.now) }
@@ -44,6 +45,7 @@ pub fn plan_lightly(scene: &Scene) -> Option<Light>
 }
 
 // The instance acts the node of its top activation, whose number is n.
+#[tactic(auto, using(crate::proofs::Ways::leaves_by))]
 fn act_lightly(scene: &Scene, n: u32, node: &Node) -> Option<Light>
     requires there { id_of (sight_of scene.now) < length (sight_of scene.now).nodes }
     requires fits { FitsAct (sizes_of (cells_in (sight_of scene.now))) node.now.action }
@@ -70,6 +72,24 @@ fn act_lightly(scene: &Scene, n: u32, node: &Node) -> Option<Light>
             n,
             to: next_of(node, true),
         }),
+        Action::Return(code) if !ends_thread(scene, node) => match eval(&scene.lent(), code) {
+            Err(_) => None,
+            Ok(value) => lightened(given(scene, n, node, value)),
+        },
+        Action::ReturnNothing | Action::Close if !ends_thread(scene, node) => {
+            lightened(given(scene, n, node, 0))
+        }
+        _ => None,
+    }
+}
+
+// The plan, where a C function is left by it.
+fn lightened(plan: Plan) -> Option<Light>
+    ensures { IfSome result (λ light. plan_of light ≡ plan) }
+{
+    match plan {
+        Plan::Leave { n } => Some(Light::Leave { n }),
+        Plan::Answer { n, reached, value } => Some(Light::Answer { n, reached, value }),
         _ => None,
     }
 }

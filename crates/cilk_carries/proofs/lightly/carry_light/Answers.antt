@@ -3,7 +3,7 @@ use Rattle.std.proofs.lemmas.Int.{to_z-of_z}
 use mir.Val.{of_z, to_z}
 use mir.Syntax.{w32}
 use Rattle.cilk_model.specs.Places.{with_hand}
-use Rattle.cilk_frame.specs.Frames.{Frame, gone_to}
+use Rattle.cilk_frame.specs.Frames.{Frame, gone_to, left}
 use Rattle.cilk_stands.specs.Cells.{frame_put, globals_put}
 use Rattle.cilk_agree.specs.Outside as outside
 use Rattle.cilk_plans.specs.declared.plan.Plan.TheVariants as plan
@@ -29,4 +29,19 @@ returns-in-Write c =
     by-arm (ap plan_of c.in-Write.is ∙ (λ j. plan.Write c.in-Write.n at (sym z j) to)) (record {
       machine = λ j. record { outside = record m.outside { cells = c.write-in-Write.ensures.globals j }; nodes = m.nodes; places = hands j };
       did = ap (λ k. did.Acted k c.in-Write.n) c.requires.id;
+    })
+
+pub returns-in-Answer : goal.returns-in-Answer
+returns-in-Answer c =
+    let m = machine_of c.args.parts.now outside.running in
+    let w = c.args.worker in
+    let f = frame_in m.places w in
+    let at = c.in-Answer.reached in
+    let z : to_z w32 (of_z w32 c.in-Answer.value) ≡ c.in-Answer.value = grind (arith, to_z-of_z) in
+    let gone = c.leave-in-Answer.ensures ∙ ap (λ o. with_hand m.places w (option_map left o)) c.requires.held in
+    let hands = written m.places w c.requires.worker (left f) (frame_put at.slot at.index (to_z w32 (of_z w32 c.in-Answer.value)))
+    c.leave-in-Answer.new.self c.write-in-Answer.new.hands gone c.write-in-Answer.ensures.hands in
+    by-arm (ap plan_of c.in-Answer.is ∙ (λ j. plan.Answer c.in-Answer.n at (sym z j))) (record {
+      machine = λ j. record { outside = record m.outside { cells = c.write-in-Answer.ensures.globals j }; nodes = m.nodes; places = hands j };
+      did = ap (λ k. did.Acted k c.in-Answer.n) c.requires.id;
     })
