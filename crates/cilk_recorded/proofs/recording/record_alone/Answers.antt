@@ -9,7 +9,7 @@ use Rattle.cilk_recorded.proofs.recording.record_alone.Goals as goal
 pub loop-preserved : goal.loop-preserved
 loop-preserved c =
     let made = subst (λ o. IfSome o (λ choice. (did : Event) × Makes c.loop.machine c.go_on.new.machine (choice_of choice) did)) c.in-Some.is c.in_ok-go_on.ensures.ok in (
-      led_on c.args.program c.loop.choices c.keep-in-Some.new.choices c.loop.machine c.go_on.new.machine c.in-Some.field-0 made.0 made.1 c.in_ok-keep-in-Some.ensures.kept c.loop.invariant.0,
+      led_on c.args.program c.loop.choices c.keep.new.choices c.loop.machine c.go_on.new.machine c.in-Some.choice made.0 made.1 c.in_ok-keep-in-Some.ensures.kept c.loop.invariant.0,
       made.1.choices ∙ ap (λ k. k + 1) c.loop.invariant.1,
     )
 
