@@ -5,13 +5,12 @@ ghost use Rattle.cilk_model.specs.Places.{IsWorker, hand_of, with_hand};
 ghost use Rattle.cilk_stands.specs.Cells.{frame_put, globals_put};
 ghost use Rattle.cilk_agree.specs.Outside as outside;
 ghost use Rattle.cilk_plans.specs.Words.{plan_of};
-ghost use Rattle.cilk_spawn.specs.Nodes.{node_at, is_live};
 ghost use Rattle.cilk_carries.specs.Words.{machine_of};
 ghost use Rattle.cilk_carries.specs.Ready.{Fits, Ready, frame_in};
 ghost use Rattle.cilk_carries.specs.Carried.{Carried};
 ghost use Rattle.cilk_carries.specs.Carries.{CanCarry, Carries};
 
-use crate::did::{Did, Done, Outcome};
+use crate::did::{Did, Outcome};
 use crate::parts::Parts;
 use cilk_effects::Reached;
 use cilk_eval::Area;
