@@ -298,7 +298,7 @@ impl Record {
         }
     }
 
-    /// A live child, and its ordinal: the one with the least.
+    /// A live child, and its ordinal, if there is one.
     pub fn first_child(&self) -> Option<(u32, Id)>
         ensures child { IfSome result (λ e. child_of self.now.life e.0 ≡ Some e.1) }
         ensures none { IfNone result ((k : ℕ) → child_of self.now.life k ≡ None) }
