@@ -19,6 +19,7 @@ use cilk_plans::Light;
 use cilk_sched::Hands;
 
 /// Carries out the light plan of the frame in the worker's hand, at this choice. It takes no memory, and the program runs on.
+#[inline(always)]
 pub fn carry_lightly(worker: u8, light: Light, choice: u64, parts: &mut Parts) -> Did
     requires { CanCarry parts.old worker None (plan_of light) }
     ensures { Carries choice parts.old worker None (plan_of light) parts.new (record { outcome = Outcome.Running; did = result }) }
@@ -33,6 +34,7 @@ pub fn carry_lightly(worker: u8, light: Light, choice: u64, parts: &mut Parts) -
 }
 
 // The instance in the hand has this number.
+#[inline(always)]
 fn carry_light(worker: u8, id: Id, light: Light, choice: u64, parts: &mut Parts) -> Did
     requires worker { IsWorker parts.old.hands worker }
     requires held { hand_of parts.old.hands worker ≡ Some (frame_in parts.old.hands worker) }
@@ -79,6 +81,7 @@ fn carry_light(worker: u8, id: Id, light: Light, choice: u64, parts: &mut Parts)
 }
 
 // Writes a cell of the top activation of the frame in the hand, of its procedure's own, or of the top level.
+#[inline(always)]
 fn write(worker: u8, reached: Reached, value: i32, globals: &mut Vec<i32>, hands: &mut Hands)
     requires worker { IsWorker hands.old worker }
     requires held { hand_of hands.old worker ≡ Some (frame_in hands.old worker) }

@@ -65,6 +65,7 @@ pub fn effect_of(
 
 /// What an assignment writes: the place is reached, then the value is made, and only then is it read what the place holds
 /// (C 1990, 6.3.16).
+#[inline(always)]
 pub fn assigned(slots: &Slots, target: &Target, code: &Code) -> Result<Written, Trap>
     requires place { FitsPlace (sizes_of (cells_of slots.now)) target.now.place }
     requires code { SlotsLieWithin (sizes_of (cells_of slots.now)) code.now }

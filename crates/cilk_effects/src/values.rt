@@ -41,6 +41,7 @@ pub fn combined(op: Option<BinOp>, old: i32, value: i32) -> Result<i32, Trap>
 }
 
 /// The index of the cell that a place is: its subscript, whose range is tested (C 1990, 6.3.2.1).
+#[inline(always)]
 pub(crate) fn index_of(slots: &Slots, place: &Place) -> Result<u32, Trap>
     requires { FitsPlace (sizes_of (cells_of slots.now)) place.now }
     ensures value { result ≡ index_of (cells_of slots.now) place.now }

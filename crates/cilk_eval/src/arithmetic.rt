@@ -8,6 +8,7 @@ use cilk_values::Trap;
 
 /// The value of two operands under an operator, or the trap (C 1990, 6.3.5 to 6.3.14). Both
 /// operands are values already; `&&` and `||` give 1 or 0 by whether they are other than 0.
+#[inline(always)]
 pub fn apply(op: BinOp, left: i32, right: i32) -> Result<i32, Trap>
     ensures { result ≡ binary_result op left right }
 {

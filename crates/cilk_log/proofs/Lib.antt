@@ -6,3 +6,4 @@ pub mod Acts
 pub mod Breaks
 pub mod Written
 pub mod Told
+pub mod Steps

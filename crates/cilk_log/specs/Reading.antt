@@ -1,5 +1,5 @@
 -- What bytes tell, read from the top as the text of a recorded schedule.
-use Rattle.std.specs.Prelude.{ℕ, ◌+◌, nat_le, ◌==◌, ◌&&◌, Bool, false, if◌then◌else◌, List, [], ◌∷◌, length, take, drop, Option, Some, None, option_map, Result, Ok, Err, bytes_eq, codes}
+use Rattle.std.specs.Prelude.{◌≡◌, ◌<◌, ℕ, ◌+◌, nat_le, ◌==◌, ◌&&◌, Bool, false, if◌then◌else◌, List, [], ◌∷◌, length, take, drop, Option, Some, None, option_map, Result, Ok, Err, bytes_eq, codes}
 use Rattle.std.specs.Char.{is_ascii_digit}
 use Rattle.std.specs.Int.{is_in_range}
 use Rattle.std.specs.List.{prefix_len}
@@ -76,6 +76,14 @@ choice_by None act = None
 abbrev pub choice_in : List ℕ → Option Choice
 choice_in line =
     choice_by (number_in 255 (take (prefix_len is_ascii_digit line) line)) (act_in (drop (prefix_len is_ascii_digit line) line))
+
+-- the first line of a text tells the choice, and these bytes stand behind it
+pub record TellsFirst (text : List ℕ) (choice : Choice) (behind : List ℕ) : Type 0 where
+  pub line : List ℕ
+  pub whole : (lines_of text).whole ≡ line ∷ (lines_of behind).whole
+  pub rest : (lines_of text).rest ≡ (lines_of behind).rest
+  pub tells : choice_in line ≡ Some choice
+  pub shorter : length behind < length text
 
 -- ---- what the lines tell
 

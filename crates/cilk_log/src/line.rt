@@ -1,10 +1,10 @@
 //! Lines, and what each of them tells.
 
-ghost use Rattle.std.specs.Prelude.{◌≡◌, ◌<◌, [], ◌∷◌, option_map, length, not, ◌==◌, IfNone, IfSome};
+ghost use Rattle.std.specs.Prelude.{◌≡◌, ◌<◌, [], ◌∷◌, ◌++◌, codes, option_map, length, not, ◌==◌, IfNone, IfSome};
 ghost use Rattle.std.specs.Char.{is_ascii_digit};
 ghost use Rattle.std.specs.List.{prefix_len};
 ghost use Rattle.cilk_choices.specs.Words.{choice_of, act_of};
-ghost use Rattle.cilk_log.specs.Reading.{lines_of, workers_in, count_in, steal_in, act_in, choice_in};
+ghost use Rattle.cilk_log.specs.Reading.{lines_of, workers_in, count_in, steal_in, act_in, choice_in, TellsFirst};
 
 use crate::number::{number_in, worker_in};
 use cilk_choices::{Act, Choice};
@@ -21,6 +21,32 @@ pub(crate) fn split_line(text: &[u8]) -> Option<(&[u8], &[u8])>
         [] => None,
         [_newline, rest @ ..] => Some((line, rest)),
     }
+}
+
+/// The choice that the first line tells, and what stands behind it, where that is a step of one of the workers 1 to 9: most
+/// lines of most logs are such, and need no search for their newline.
+#[tactic(auto, using(crate::proofs::Steps::at_front))]
+pub(crate) fn step_in_front(text: &[u8]) -> Option<(Choice, &[u8])>
+    ensures { IfSome result (λ found. TellsFirst text.now (choice_of found.0) found.1.now) }
+{
+    match text {
+        [digit @ b'1'..=b'9', rest @ ..] => match behind_step(rest) {
+            None => None,
+            Some(behind) => {
+                let worker = *digit - b'0';
+                let act = Act::Step;
+                Some((Choice { worker, act }, behind))
+            }
+        },
+        _ => None,
+    }
+}
+
+// What stands behind the rest of such a line.
+fn behind_step(text: &[u8]) -> Option<&[u8]>
+    ensures { IfSome result (λ behind. text.now ≡ codes " step\n" ++ behind.now) }
+{
+    text.strip_prefix(b" step\n")
 }
 
 // How many bytes stand before the first newline.

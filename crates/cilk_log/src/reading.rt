@@ -10,7 +10,7 @@ ghost use Rattle.cilk_log.specs.Words.{log_of, Gives};
 
 use crate::choices::Choices;
 use crate::fault::LogFault;
-use crate::line::{choice_in, count_in, split_line, workers_in};
+use crate::line::{choice_in, count_in, split_line, step_in_front, workers_in};
 use crate::log::Log;
 use std::alloc::Global;
 
@@ -59,6 +59,7 @@ fn read_choices_for(alloc: Global, workers: u8, text: &[u8]) -> Result<Log, LogF
     }
 }
 
+#[inline(never)]
 fn read_choices(alloc: Global, text: &[u8]) -> Result<Choices, LogFault>
     ensures { Gives (λ choices. map choice_of choices) result
         (ended (told_in (lines_of text.now).whole).choices (told_in (lines_of text.now).whole).others (lines_of text.now).rest) }
@@ -66,18 +67,20 @@ fn read_choices(alloc: Global, text: &[u8]) -> Result<Choices, LogFault>
     let mut choices = Choices::new(alloc);
     let mut rest = text;
     loop {
-        let (line, behind) = match split_line(rest) {
-            None => return Err(LogFault::Truncated),
+        let (choice, behind) = match step_in_front(rest) {
             Some(found) => found,
-        };
-        let choice = match choice_in(line) {
-            None => {
-                return match closing(choices.len() as u64, line, behind) {
-                    Err(fault) => Err(fault),
-                    Ok(()) => Ok(choices),
-                };
-            }
-            Some(choice) => choice,
+            None => match split_line(rest) {
+                None => return Err(LogFault::Truncated),
+                Some((line, behind)) => match choice_in(line) {
+                    None => {
+                        return match closing(choices.len() as u64, line, behind) {
+                            Err(fault) => Err(fault),
+                            Ok(()) => Ok(choices),
+                        };
+                    }
+                    Some(choice) => (choice, behind),
+                },
+            },
         };
         if choices.push(choice).is_err() {
             return Err(LogFault::Memory);

@@ -74,6 +74,7 @@ fn opened(alloc: Global, program: Loaded, workers: u8) -> Result<Machine, Replay
 }
 
 /// The choice of this number, counted from 0, is made again, behind those before it.
+#[inline(always)]
 pub fn make_again(
     machine: &mut Machine,
     choices: &[Choice],

@@ -259,6 +259,7 @@ impl Record {
     }
 
     /// How many values wait.
+    #[inline(always)]
     pub fn waiting(&self) -> usize
         ensures { result ≡ length (node_of self.now).waiting }
     {
@@ -299,6 +300,7 @@ impl Record {
     }
 
     /// A live child, and its ordinal, if there is one.
+    #[inline(always)]
     pub fn first_child(&self) -> Option<(u32, Id)>
         ensures child { IfSome result (λ e. child_of self.now.life e.0 ≡ Some e.1) }
         ensures none { IfNone result ((k : ℕ) → child_of self.now.life k ≡ None) }

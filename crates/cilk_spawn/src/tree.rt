@@ -262,6 +262,7 @@ impl Tree {
     }
 
     /// Nothing to wait for: no child lives, and no delivery waits (Cilk 5.4 manual, `SYNCHED`).
+    #[inline(always)]
     pub fn is_synched(&self, id: Id) -> bool
         requires { id < length self.now.nodes }
         ensures { result ≡ is_synched self.now.nodes id }
@@ -310,6 +311,7 @@ impl Tree {
     }
 
     /// Whether a child of it lives.
+    #[inline(always)]
     pub fn has_live_child(&self, id: Id) -> bool
         requires { id < length self.now.nodes }
         ensures { result ≡ has_live_child self.now.nodes id }
@@ -318,6 +320,7 @@ impl Tree {
     }
 
     /// How many deliveries wait for it.
+    #[inline(always)]
     pub fn waiting(&self, id: Id) -> usize
         requires { id < length self.now.nodes }
         ensures { result ≡ length (node_at self.now.nodes id).waiting }

@@ -247,8 +247,8 @@ pub(crate) fn lock_at(locks: &[Lock], lock: u32) -> Lock
     }
 }
 
-// Whether an action leaves its body.
-fn leaves(action: &Action) -> bool
+/// Whether an action leaves its body.
+pub(crate) fn leaves(action: &Action) -> bool
     ensures { result ≡ leaves action.now }
 {
     matches!(

@@ -26,6 +26,7 @@ pub struct Scene<'a> {
 
 impl<'a> Scene<'a> {
     /// The cells that the top activation sees.
+    #[inline(always)]
     pub fn lent(&self) -> Slots<'a>
         requires { id_of (sight_of self.now) < length (sight_of self.now).nodes }
         ensures { slots.cells_of result ≡ cells_in (sight_of self.now) }
