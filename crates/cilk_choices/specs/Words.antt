@@ -7,7 +7,7 @@ use Rattle.cilk_model.specs.End as end
 use Rattle.cilk_choices.specs.declared.act.Act.{Act}
 use Rattle.cilk_choices.specs.declared.act.Act.TheVariants.{Step, Pop, Steal}
 use Rattle.cilk_choices.specs.declared.choice.Choice.{Choice}
-use Rattle.cilk_plans.specs.Words.{kind_of}
+use Rattle.cilk_spawn.specs.Kinds.{kind_of}
 use Rattle.cilk_choices.specs.declared.outcome.Outcome.{Outcome}
 use Rattle.cilk_choices.specs.declared.outcome.Outcome.TheVariants as outcome
 use Rattle.cilk_choices.specs.declared.event.Event.{Event}

@@ -1,4 +1,4 @@
-use cilk_plans::Kind;
+use cilk_spawn::Kind;
 use cilk_spawn::Path;
 
 /// How a program stands when no more choices are made.

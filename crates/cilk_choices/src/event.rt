@@ -1,4 +1,4 @@
-use cilk_plans::Kind;
+use cilk_spawn::Kind;
 use cilk_spawn::Path;
 
 /// What a choice did. The number n is that of an action of the program.

@@ -13,7 +13,7 @@ mod refusal;
 
 pub use act::Act;
 pub use choice::Choice;
-pub use cilk_plans::Kind;
+pub use cilk_spawn::Kind;
 pub use cilk_spawn::Path;
 pub use cilk_syntax::Memory;
 pub use closing::ending;

@@ -1,4 +1,4 @@
-use cilk_plans::Kind;
+use cilk_spawn::Kind;
 use cilk_spawn::Path;
 
 /// Whether a program has ended, and how.

@@ -6,7 +6,7 @@ ghost use Rattle.cilk_labelled.specs.Bodies.{label};
 ghost use Rattle.cilk_model.specs.End.{kind_text, trap_text};
 ghost use Rattle.cilk_model.specs.Path.{path_text};
 ghost use Rattle.cilk_choices.specs.Words.{outcome_of};
-ghost use Rattle.cilk_plans.specs.Words.{kind_of};
+ghost use Rattle.cilk_spawn.specs.Kinds.{kind_of};
 ghost use Rattle.cilk_seen.specs.Workers.{outcome_text, position_text};
 
 use cilk_load::Loaded;

@@ -4,7 +4,7 @@ use Rattle.cilk_syntax.specs.Tree as tree
 use Rattle.cilk_frame.specs.Frames.{Frame}
 use Rattle.cilk_agree.specs.Outside as outside
 use Rattle.cilk_agree.specs.Agrees.{Machine}
-use Rattle.cilk_plans.specs.Words.{kind_of}
+use Rattle.cilk_spawn.specs.Kinds.{kind_of}
 use Rattle.cilk_plans.specs.Sights.{Sight}
 use Rattle.cilk_choices.specs.declared.outcome.Outcome.{Outcome}
 use Rattle.cilk_choices.specs.declared.outcome.Outcome.TheVariants.{Running, Finished, Trapped}

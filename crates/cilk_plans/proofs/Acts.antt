@@ -119,10 +119,10 @@ module _ (t : Turn) (asked : Asked t) (b m : ℕ) where
           → IsPlan t (by_effect g m node (Ok (slotted_effect slots m (effect.writes_out w.bytes))))
       by_room room e step =
           let same : nat_le (g.printed + length w.bytes) 1048576 ≡ room = ap (λ out. nat_le (length out + length w.bytes) 1048576) (sym t.agrees.outside.output) ∙ e in
-          subst (λ r. IsPlan t (made.if_room r Rattle.cilk_plans.specs.declared.kind.Kind.TheVariants.Output m (Rattle.cilk_plans.specs.declared.plan.Plan.TheVariants.Print m w.bytes (next_of node true)))) (sym same) (by_case room step)
+          subst (λ r. IsPlan t (made.if_room r Rattle.cilk_spawn.specs.declared.kind.Kind.TheVariants.Output m (Rattle.cilk_plans.specs.declared.plan.Plan.TheVariants.Print m w.bytes (next_of node true)))) (sym same) (by_case room step)
         where
           by_case : (room : Bool) → step_in t ≡ if_room s (path_of t) m state.output room (goes_on (change.after_print s (path_of t) i w.bytes) (acted (path_of t) m))
-              → IsPlan t (made.if_room room Rattle.cilk_plans.specs.declared.kind.Kind.TheVariants.Output m (Rattle.cilk_plans.specs.declared.plan.Plan.TheVariants.Print m w.bytes (next_of node true)))
+              → IsPlan t (made.if_room room Rattle.cilk_spawn.specs.declared.kind.Kind.TheVariants.Output m (Rattle.cilk_plans.specs.declared.plan.Plan.TheVariants.Print m w.bytes (next_of node true)))
           by_case true step = record { step = step; next = a.goes goes true }
           by_case false step = step
 
@@ -169,7 +169,7 @@ module _ (t : Turn) (asked : Asked t) (b m : ℕ) where
       by_case : (room : Bool) → nat_lt (length i.below) 255 ≡ room
           → step_in t ≡ if_room s (path_of t) m state.depth room (goes_on (after_call program s (path_of t) i w.awaits callee w.values) (acted (path_of t) m))
           → Rattle.cilk_effects.specs.Slotted.AwaitedCell program b w.awaits
-          → IsPlan t (made.if_room room Rattle.cilk_plans.specs.declared.kind.Kind.TheVariants.Depth m (Rattle.cilk_plans.specs.declared.plan.Plan.TheVariants.Call m (slotted_await m w.awaits) callee w.values (next_of node true)))
+          → IsPlan t (made.if_room room Rattle.cilk_spawn.specs.declared.kind.Kind.TheVariants.Depth m (Rattle.cilk_plans.specs.declared.plan.Plan.TheVariants.Call m (slotted_await m w.awaits) callee w.values (next_of node true)))
       by_case true e step there = record {
         awaited = w.awaits;
         same = awaits-same what callee es node a w.awaits w.awaits_is there;
@@ -188,5 +188,5 @@ module _ (t : Turn) (asked : Asked t) (b m : ℕ) where
           → IsPlan t (by_effect g m node (Ok (slotted_effect slots m (effect.enters w.awaits callee w.values))))
       by_room room e step there =
           let same : nat_lt (depth t.frame) 256 ≡ room = depth-room (depth t.frame) (length i.below) (depth-is program t.frame i stands) ∙ e in
-          subst (λ r. IsPlan t (made.if_room r Rattle.cilk_plans.specs.declared.kind.Kind.TheVariants.Depth m (Rattle.cilk_plans.specs.declared.plan.Plan.TheVariants.Call m (slotted_await m w.awaits) callee w.values (next_of node true)))) (sym same)
+          subst (λ r. IsPlan t (made.if_room r Rattle.cilk_spawn.specs.declared.kind.Kind.TheVariants.Depth m (Rattle.cilk_plans.specs.declared.plan.Plan.TheVariants.Call m (slotted_await m w.awaits) callee w.values (next_of node true)))) (sym same)
           (by_case room e (step ∙ ap (λ r. if_room s (path_of t) m state.depth r (goes_on (after_call program s (path_of t) i w.awaits callee w.values) (acted (path_of t) m))) e) there)

@@ -32,7 +32,7 @@ use Rattle.cilk_agree.specs.Laws.{Turn, path_of, node_of, instance_of}
 use Rattle.cilk_agree.specs.Asked.{Asked}
 use Rattle.cilk_agree.proofs.Alone.{holds}
 use Rattle.cilk_agree.proofs.Actions.{told}
-use Rattle.cilk_plans.specs.declared.kind.Kind.TheVariants as kind
+use Rattle.cilk_spawn.specs.declared.kind.Kind.TheVariants as kind
 use Rattle.cilk_plans.specs.declared.plan.Plan.TheVariants as plan
 use Rattle.cilk_plans.specs.Made as made
 use Rattle.cilk_plans.specs.Made.{next_of, by_effect, has_room}

@@ -36,7 +36,7 @@ use Rattle.cilk_agree.specs.Asked.{Asked}
 use Rattle.cilk_agree.proofs.Actions.{told}
 use Rattle.cilk_agree.proofs.Asked.{oldest-told}
 use Rattle.cilk_agree.proofs.Alone.{holds}
-use Rattle.cilk_plans.specs.declared.kind.Kind.TheVariants as kind
+use Rattle.cilk_spawn.specs.declared.kind.Kind.TheVariants as kind
 use Rattle.cilk_plans.specs.declared.plan.Plan.TheVariants as plan
 use Rattle.cilk_plans.specs.Made as made
 use Rattle.cilk_plans.specs.Made.{by_effect, planned, by_head, by_node, by_deliveries, acted, is_function_body}

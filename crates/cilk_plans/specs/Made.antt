@@ -23,8 +23,8 @@ use Rattle.cilk_effects.specs.declared.effect.Effect.{Effect}
 use Rattle.cilk_effects.specs.declared.effect.Effect.TheVariants.{Writes, Answers, Enters, Gives, Starts, Prints, Turns, Marks}
 use Rattle.cilk_effects.specs.Effects.{effect_in}
 use Rattle.cilk_agree.specs.Locks.{LockTurn, turned, refused, blocked, turn_among}
-use Rattle.cilk_plans.specs.declared.kind.Kind.{Kind}
-use Rattle.cilk_plans.specs.declared.kind.Kind.TheVariants as kind
+use Rattle.cilk_spawn.specs.declared.kind.Kind.{Kind}
+use Rattle.cilk_spawn.specs.declared.kind.Kind.TheVariants as kind
 use Rattle.cilk_plans.specs.declared.plan.Plan.{Plan}
 use Rattle.cilk_plans.specs.declared.plan.Plan.TheVariants as plan
 use Rattle.cilk_plans.specs.Sights.{Sight, id_of, own_node, head_number, cells_by, cells_in, holds_lock, is_outer}

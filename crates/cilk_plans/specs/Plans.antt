@@ -29,7 +29,7 @@ use Rattle.cilk_agree.specs.Laws.{Turn, path_of, node_of, instance_of}
 use Rattle.cilk_agree.specs.Actions.{IsNext}
 use Rattle.cilk_plans.specs.declared.plan.Plan as plan
 use Rattle.cilk_plans.specs.declared.plan.Plan.{Plan}
-use Rattle.cilk_plans.specs.Words.{kind_of}
+use Rattle.cilk_spawn.specs.Kinds.{kind_of}
 use Rattle.cilk_plans.specs.Sights.{Sight}
 
 -- what the step of the instance in the hand looks at

@@ -1,3 +1,4 @@
 pub mod Nodes
 pub mod Family
 pub mod Records
+pub mod Kinds

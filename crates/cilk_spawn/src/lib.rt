@@ -25,6 +25,7 @@ mod arguments;
 mod delivery;
 mod ending;
 mod fate;
+mod kind;
 mod laws;
 mod leaving;
 mod life;
@@ -38,6 +39,7 @@ pub use cilk_frame::{Frame, Id, Memory};
 pub use delivery::Delivery;
 pub use ending::Ending;
 pub use fate::Fate;
+pub use kind::Kind;
 pub use laws::{
     a_return_ends_and_sends, ids_change, paths_are_names, paths_stay, trees_stay_trees,
 };

@@ -25,8 +25,8 @@ use Rattle.cilk_effects.specs.declared.effect.Effect.{Effect}
 use Rattle.cilk_effects.specs.declared.effect.Effect.TheVariants.{Writes, Answers, Enters, Gives, Starts, Prints, Turns, Marks}
 use Rattle.cilk_effects.specs.Effects.{index_of, awaited, effect_in}
 use Rattle.cilk_agree.specs.Locks.{LockTurn, turned, refused, blocked, turn_among}
-use Rattle.cilk_plans.specs.declared.kind.Kind.{Kind}
-use Rattle.cilk_plans.specs.declared.kind.Kind.TheVariants as kind
+use Rattle.cilk_spawn.specs.declared.kind.Kind.{Kind}
+use Rattle.cilk_spawn.specs.declared.kind.Kind.TheVariants as kind
 use Rattle.cilk_plans.specs.declared.plan.Plan.{Plan}
 use Rattle.cilk_plans.specs.declared.plan.Plan.TheVariants as plan
 use Rattle.cilk_plans.specs.Made.{traps, if_room, takes_by, next_of, target_of_node, answered_at, answered, is_function_body, given, turned_to, by_effect, is_sync, is_spawn, leaves, acted}

@@ -10,7 +10,7 @@ use Rattle.cilk_effects.specs.declared.effect.Effect.{Effect}
 use Rattle.cilk_effects.specs.declared.effect.Effect.TheVariants.{Gives}
 use Rattle.cilk_effects.specs.Effects.{effect_in}
 use Rattle.cilk_spawn.specs.declared.delivery.Delivery.{Delivery}
-use Rattle.cilk_plans.specs.declared.kind.Kind.TheVariants as kind
+use Rattle.cilk_spawn.specs.declared.kind.Kind.TheVariants as kind
 use Rattle.cilk_plans.specs.declared.plan.Plan.TheVariants as plan
 use Rattle.cilk_plans.specs.Made.{traps, waits_here, ends_thread, leaves, is_sync, is_spawn, is_function_body, given, by_effect, planned, aborted, by_head, by_deliveries, acted, at_boundary}
 use Rattle.cilk_plans.specs.Sights.{Sight, id_of, own_node, head_number, cells_in, holds_lock, is_outer}

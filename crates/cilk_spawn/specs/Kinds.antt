@@ -1,0 +1,12 @@
+-- What the kinds of traps of the code mean.
+use Rattle.cilk_model.specs.State as state
+use Rattle.cilk_spawn.specs.declared.kind.Kind.{Kind}
+use Rattle.cilk_spawn.specs.declared.kind.Kind.TheVariants.{Value, Lock, HeldLock, Depth, Instances, Output}
+
+abbrev pub kind_of : Kind → state.Kind
+kind_of (Value trap) = state.of_value trap
+kind_of Lock = state.lock
+kind_of HeldLock = state.held_lock
+kind_of Depth = state.depth
+kind_of Instances = state.instances
+kind_of Output = state.output
