@@ -1,12 +1,12 @@
 -- What is to be written for what is wanted.
 use Rattle.std.specs.Prelude.{◌≡◌, ◌≢◌, ◌⊎◌, ℕ, Bool, true, false, List, Option, Some, None}
-use Rattle.cilk_commands.specs.Printing.{Prints, PrintsFront}
-use Rattle.cilk_commands.specs.Checking.{Passes, PassesFront}
-use Rattle.cilk_commands.specs.Running.{Runs, RunsFront}
-use Rattle.cilk_commands.specs.Loading.{Unready}
-use Rattle.cilk_commands.specs.Telling.{GivesUp}
-use Rattle.cilk_commands.specs.declared.status.Status.{Status}
-use Rattle.cilk_commands.specs.declared.status.Status.TheVariants.{CannotWrite, Done}
+use Rattle.cilk_recorded.specs.commands.Printing.{Prints, PrintsFront}
+use Rattle.cilk_recorded.specs.commands.Checking.{Passes, PassesFront}
+use Rattle.cilk_recorded.specs.commands.Running.{Runs, RunsFront}
+use Rattle.cilk_recorded.specs.commands.Loading.{Unready}
+use Rattle.cilk_recorded.specs.commands.Telling.{GivesUp}
+use Rattle.cilk_recorded.specs.commands.declared.status.Status.{Status}
+use Rattle.cilk_recorded.specs.commands.declared.status.Status.TheVariants.{CannotWrite, Done}
 use Rattle.cilk_recorded.specs.Debugging.{Debugs, DebugsFront}
 use Rattle.cilk_recorded.specs.GivingUp.{NoProgram, GivesUp as GivesUpOfLog}
 use Rattle.cilk_recorded.specs.Recording.{Records, RecordsFront}

@@ -1,13 +1,13 @@
 ghost use Rattle.std.specs.Prelude.{◌≡◌, ◌≢◌, [], true, false};
-ghost use Rattle.cilk_commands.specs.Telling.{Tells};
-ghost use Rattle.cilk_commands.specs.Status.{is_answer};
+ghost use Rattle.cilk_recorded.specs.commands.Telling.{Tells};
+ghost use Rattle.cilk_recorded.specs.commands.Status.{is_answer};
 ghost use Rattle.cilk_words.specs.CommandLine.{texts_of, wanted_by};
 ghost use Rattle.cilk.specs.Ends.{Ends, IsShown, Shows, opens_session};
 ghost use Rattle.cilk.specs.Task.{Does, Fails, Leaves, is_session};
 
 use crate::task::perform;
 use crate::texts::Texts;
-use cilk_commands::{Failure, Status};
+use cilk_recorded::{Failure, Status};
 use cilk_words::{Refusal, Request, request_in};
 use std::alloc::Global;
 use std::io::Write;

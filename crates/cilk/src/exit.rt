@@ -1,13 +1,13 @@
 ghost use Rattle.std.specs.Prelude.{◌≡◌, ◌≢◌, MatchResult, true, false};
 ghost use Rattle.std.specs.IoError.{error_kind};
-ghost use Rattle.cilk_commands.specs.declared.status.Status.{Status};
-ghost use Rattle.cilk_commands.specs.Status.{code_of, is_answer};
+ghost use Rattle.cilk_recorded.specs.commands.declared.status.Status.{Status};
+ghost use Rattle.cilk_recorded.specs.commands.Status.{code_of, is_answer};
 ghost use Rattle.cilk_words.specs.CommandLine.{texts_of};
 ghost use Rattle.cilk.specs.Ends.{Ends, opens_session, without_words};
 
 use crate::dispatch::run;
 use crate::texts::Texts;
-use cilk_commands::{Failure, Status};
+use cilk_recorded::{Failure, Status};
 use std::alloc::Global;
 use std::io;
 use std::io::{ErrorKind, Write};

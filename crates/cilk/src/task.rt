@@ -1,13 +1,15 @@
 ghost use Rattle.std.specs.Prelude.{◌≡◌, ◌≢◌, None, true, false};
-ghost use Rattle.cilk_commands.specs.Status.{is_answer};
+ghost use Rattle.cilk_recorded.specs.commands.Status.{is_answer};
 ghost use Rattle.cilk_words.specs.CommandLine.{wanted_by};
 ghost use Rattle.cilk_recorded.specs.GivingUp.{GivesUp, NoProgram};
 ghost use Rattle.cilk.specs.Task.{Does, Fails, Leaves, is_session};
 ghost use Rattle.cilk.specs.Task.{RecordsFrontSomewhere, RecordsSomewhere};
 
 use crate::texts::Texts;
-use cilk_commands::{Failure, Status, check_text, print_text, run_text};
-use cilk_recorded::{Names, RecordFailure, debug_text, record_text, replay_text};
+use cilk_recorded::{
+    Failure, Names, RecordFailure, Status, check_text, debug_text, print_text, record_text,
+    replay_text, run_text,
+};
 use cilk_words::{Request, Task};
 use std::alloc::Global;
 use std::io::{Read, Write};

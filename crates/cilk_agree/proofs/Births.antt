@@ -3,19 +3,19 @@ use Rattle.std.proofs.Common.{◌≡◌, ◌≢◌, ◌+◌, ◌<◌, ◌≤◌,
 use Rattle.std.specs.Prelude.{sum_by}
 use Rattle.std.proofs.lemmas.List.{map-append}
 use Rattle.std.proofs.lemmas.List.Elements.{All-head, All-tail, All-push, All-weaker}
-use Rattle.cilk_syntax.specs.Tree.{Program}
-use Rattle.cilk_labelled.specs.Labelled.{Labelled}
-use Rattle.cilk_labelled.specs.Bodies.{label}
-use Rattle.cilk_model.specs.Path.{Path, same_path, child_path}
-use Rattle.cilk_model.specs.Instance as model
-use Rattle.cilk_model.specs.Instance.{Instance}
-use Rattle.cilk_model.specs.State as state
-use Rattle.cilk_model.specs.State.{State, changed}
-use Rattle.cilk_model.specs.Places.{PlaceOf, deque_of, with_hand, with_deque, pushed_by, named}
-use Rattle.cilk_model.specs.Scheduler as sched
+use Rattle.cilk_placed.specs.syntax.Tree.{Program}
+use Rattle.cilk_placed.specs.labelled.Labelled.{Labelled}
+use Rattle.cilk_placed.specs.labelled.Bodies.{label}
+use Rattle.cilk_placed.specs.model.Path.{Path, same_path, child_path}
+use Rattle.cilk_placed.specs.model.Instance as model
+use Rattle.cilk_placed.specs.model.Instance.{Instance}
+use Rattle.cilk_placed.specs.model.State as state
+use Rattle.cilk_placed.specs.model.State.{State, changed}
+use Rattle.cilk_placed.specs.model.Places.{PlaceOf, deque_of, with_hand, with_deque, pushed_by, named}
+use Rattle.cilk_placed.specs.model.Scheduler as sched
 use Rattle.cilk_placed.specs.Places.{times_held}
 use Rattle.cilk_placed.proofs.Entries.{live-cons}
-use Rattle.cilk_frame.specs.Frames.{Frame}
+use Rattle.cilk_stands.specs.frame.Frames.{Frame}
 use Rattle.cilk_stands.specs.Stands.{StandsFor}
 use Rattle.cilk_spawn.specs.declared.delivery.Delivery.{Delivery}
 use Rattle.cilk_spawn.specs.declared.receiver.Receiver.{Receiver}

@@ -1,16 +1,16 @@
 -- An instance that ends; one that stays in its place, and whose node is changed; and a parked parent that comes to a hand.
 use Rattle.std.proofs.Common.{◌≡◌, ◌≢◌, ◌<◌, ℕ, Bool, true, false, not, ◌&&◌, nat_eq, cond, List, [], ◌∷◌, map, length, length-set, Some, None, is_some, refl, sym, ap, ◌∙◌, subst, arith, inl, inr, slice_set}
 use Rattle.std.specs.List.{filter, range_with_len}
-use Rattle.cilk_syntax.specs.Tree.{Program}
-use Rattle.cilk_labelled.specs.Labelled.{Labelled}
-use Rattle.cilk_labelled.specs.Bodies.{label}
-use Rattle.cilk_model.specs.Path.{Path, same_path}
-use Rattle.cilk_model.specs.Instance.{Instance}
-use Rattle.cilk_model.specs.State.{Instances, State, changed, without}
-use Rattle.cilk_model.specs.Places.{with_hand, named}
-use Rattle.cilk_model.specs.Scheduler as sched
-use Rattle.cilk_model.specs.Run.{Standing}
-use Rattle.cilk_frame.specs.Frames.{Frame}
+use Rattle.cilk_placed.specs.syntax.Tree.{Program}
+use Rattle.cilk_placed.specs.labelled.Labelled.{Labelled}
+use Rattle.cilk_placed.specs.labelled.Bodies.{label}
+use Rattle.cilk_placed.specs.model.Path.{Path, same_path}
+use Rattle.cilk_placed.specs.model.Instance.{Instance}
+use Rattle.cilk_placed.specs.model.State.{Instances, State, changed, without}
+use Rattle.cilk_placed.specs.model.Places.{with_hand, named}
+use Rattle.cilk_placed.specs.model.Scheduler as sched
+use Rattle.cilk_placed.specs.model.Run.{Standing}
+use Rattle.cilk_stands.specs.frame.Frames.{Frame}
 use Rattle.cilk_stands.specs.Stands.{StandsFor}
 use Rattle.cilk_spawn.specs.declared.fate.Fate.{Fate}
 use Rattle.cilk_spawn.specs.Nodes.{Node, IsTree, no_node, node_at, is_live, lives, live_ids, has_live_child, with_parked, ended, path_at}

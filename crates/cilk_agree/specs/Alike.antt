@@ -1,16 +1,16 @@
 -- When a node of the tree tells of an instance what the definitions tell of it.
 use Rattle.std.specs.Prelude.{◌≡◌, ◌<◌, ◌≤◌, ℕ, suc, ℤ, ⊤, List, [], ◌∷◌, Option, Some, None, length}
-use Rattle.cilk_values.specs.Term.{Term}
-use Rattle.cilk_eval.specs.declared.slot.Slot.{Slot}
-use Rattle.cilk_labelled.specs.Labelled.{Labelled}
-use Rattle.cilk_model.specs.Path.{Path}
-use Rattle.cilk_model.specs.Instance as model
-use Rattle.cilk_model.specs.Instance.{Instance, body_at}
-use Rattle.cilk_scopes.specs.declared.owner.Owner.TheVariants.{Inlet}
-use Rattle.cilk_nodes.specs.Slots.{procedure_around}
-use Rattle.cilk_nodes.specs.declared.taker.Taker.TheVariants.{Through}
-use Rattle.cilk_nodes.specs.declared.action.Action.TheVariants.{Spawn}
-use Rattle.cilk_nodes.specs.declared.node.Node as action
+use Rattle.cilk_placed.specs.values.Term.{Term}
+use Rattle.cilk_stands.specs.eval.declared.slot.Slot.{Slot}
+use Rattle.cilk_placed.specs.labelled.Labelled.{Labelled}
+use Rattle.cilk_placed.specs.model.Path.{Path}
+use Rattle.cilk_placed.specs.model.Instance as model
+use Rattle.cilk_placed.specs.model.Instance.{Instance, body_at}
+use Rattle.cilk_placed.specs.scopes.declared.owner.Owner.TheVariants.{Inlet}
+use Rattle.cilk_stands.specs.nodes.Slots.{procedure_around}
+use Rattle.cilk_stands.specs.nodes.declared.taker.Taker.TheVariants.{Through}
+use Rattle.cilk_stands.specs.nodes.declared.action.Action.TheVariants.{Spawn}
+use Rattle.cilk_stands.specs.nodes.declared.node.Node as action
 use Rattle.cilk_stands.specs.Cells.{SameCell}
 use Rattle.cilk_stands.specs.Stands.{node_in, bodies_of, lowest_of}
 use Rattle.cilk_spawn.specs.declared.delivery.Delivery.{Delivery}

@@ -1,17 +1,17 @@
 -- What a step asks of the standing, and what the machine tells of it.
 use Rattle.std.specs.Prelude.{◌≡◌, ◌<◌, ℕ, true, List, [], ◌∷◌, map, length, Some, None, option_map}
 use Rattle.std.specs.List.{list_any}
-use Rattle.cilk_syntax.specs.declared.lock_action.LockAction.{LockAction}
-use Rattle.cilk_syntax.specs.Tree.{Program}
-use Rattle.cilk_labelled.specs.Bodies.{label}
-use Rattle.cilk_model.specs.Instance as model
-use Rattle.cilk_model.specs.Instance.{Instance}
-use Rattle.cilk_model.specs.State as state
-use Rattle.cilk_model.specs.State.{instance_at, store_of}
-use Rattle.cilk_model.specs.Change as change
-use Rattle.cilk_model.specs.Places.{hand_of, deque_of}
-use Rattle.cilk_model.specs.Scheduler as sched
-use Rattle.cilk_model.specs.Run.{Standing}
+use Rattle.cilk_placed.specs.syntax.declared.lock_action.LockAction.{LockAction}
+use Rattle.cilk_placed.specs.syntax.Tree.{Program}
+use Rattle.cilk_placed.specs.labelled.Bodies.{label}
+use Rattle.cilk_placed.specs.model.Instance as model
+use Rattle.cilk_placed.specs.model.Instance.{Instance}
+use Rattle.cilk_placed.specs.model.State as state
+use Rattle.cilk_placed.specs.model.State.{instance_at, store_of}
+use Rattle.cilk_placed.specs.model.Change as change
+use Rattle.cilk_placed.specs.model.Places.{hand_of, deque_of}
+use Rattle.cilk_placed.specs.model.Scheduler as sched
+use Rattle.cilk_placed.specs.model.Run.{Standing}
 use Rattle.cilk_stands.specs.Reads.{Seen, lent}
 use Rattle.cilk_stands.specs.Stands.{StandsFor}
 use Rattle.cilk_spawn.specs.declared.delivery.Delivery.{Delivery}

@@ -1,21 +1,21 @@
 -- What keeps agreement.
 use Rattle.std.specs.Prelude.{◌≡◌, ◌<◌, ◌+◌, ℕ, ℤ, Bool, true, false, not, ◌&&◌, ◌||◌, nat_eq, List, [], ◌∷◌, ◌++◌, length, map, Option, Some, None, replicate, slice_set, if◌then◌else◌}
-use Rattle.cilk_syntax.specs.Tree.{Program}
-use Rattle.cilk_labelled.specs.Bodies.{label}
-use Rattle.cilk_model.specs.Path.{Path, child_path}
-use Rattle.cilk_model.specs.Values.{initial_values}
-use Rattle.cilk_model.specs.Instance as model
-use Rattle.cilk_model.specs.Instance.{Instance}
-use Rattle.cilk_model.specs.State.{State, changed, is_empty}
-use Rattle.cilk_model.specs.Change.{deliveries, with_deliveries, after_return, after_abort}
-use Rattle.cilk_model.specs.Event.{Event}
-use Rattle.cilk_model.specs.Pick.{ends}
-use Rattle.cilk_model.specs.Places.{IsWorker, no_place, hand_of, with_hand, popped_by, stolen_by, pushed_by}
-use Rattle.cilk_model.specs.Scheduler as sched
-use Rattle.cilk_model.specs.Run.{Standing, opening, stepped}
+use Rattle.cilk_placed.specs.syntax.Tree.{Program}
+use Rattle.cilk_placed.specs.labelled.Bodies.{label}
+use Rattle.cilk_placed.specs.model.Path.{Path, child_path}
+use Rattle.cilk_placed.specs.model.Values.{initial_values}
+use Rattle.cilk_placed.specs.model.Instance as model
+use Rattle.cilk_placed.specs.model.Instance.{Instance}
+use Rattle.cilk_placed.specs.model.State.{State, changed, is_empty}
+use Rattle.cilk_placed.specs.model.Change.{deliveries, with_deliveries, after_return, after_abort}
+use Rattle.cilk_placed.specs.model.Event.{Event}
+use Rattle.cilk_placed.specs.model.Pick.{ends}
+use Rattle.cilk_placed.specs.model.Places.{IsWorker, no_place, hand_of, with_hand, popped_by, stolen_by, pushed_by}
+use Rattle.cilk_placed.specs.model.Scheduler as sched
+use Rattle.cilk_placed.specs.model.Run.{Standing, opening, stepped}
 use Rattle.cilk_placed.specs.Places.{EachInItsPlace}
-use Rattle.cilk_nodes.specs.Slots.{flat}
-use Rattle.cilk_frame.specs.Frames.{Frame}
+use Rattle.cilk_stands.specs.nodes.Slots.{flat}
+use Rattle.cilk_stands.specs.frame.Frames.{Frame}
 use Rattle.cilk_stands.specs.Stands.{StandsFor}
 use Rattle.cilk_spawn.specs.declared.fate.Fate.{Fate}
 use Rattle.cilk_spawn.specs.declared.fate.Fate.TheVariants.{Returned, Aborted}

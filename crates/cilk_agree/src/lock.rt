@@ -1,4 +1,4 @@
-use cilk_frame::Id;
+use cilk_spawn::Id;
 
 /// A lock, whose holder goes by its id (Cilk 5.4 manual, locks).
 #[derive(Clone, Copy, Debug, PartialEq, Eq)]

@@ -1,7 +1,7 @@
 -- What a write leaves in each cell.
 use Rattle.std.proofs.Common.{◌≡◌, ◌≢◌, ℕ, zero, suc, ℤ, Bool, List, [], ◌∷◌, map, refl, sym, ap, subst, slice_set}
 use Rattle.std.specs.Prelude.{option_map, slice_get, slice_index_or}
-use Rattle.cilk_labelled.specs.Labelled.{Declaration, local, outer, global, of_lock, of_body, unknown}
+use Rattle.cilk_model.specs.labelled.Labelled.{Declaration, local, outer, global, of_lock, of_body, unknown}
 use Rattle.cilk_model.specs.Values.{Values, Store, Cell}
 use Rattle.cilk_model.specs.Instance.{Activation, outer_values}
 use Rattle.cilk_model.specs.Change.{with_value, own_with, outer_with, globals_with, on_lowest}

@@ -1,9 +1,9 @@
 -- Where an instance does not step, the written rule allows it no step.
 use Rattle.std.proofs.Common.{◌≡◌, ◌≢◌, ℕ, ◌+◌, ℤ, Bool, true, false, not, ◌&&◌, ◌||◌, List, [], ◌∷◌, ◌++◌, length, nat_lt, nat_le, Option, Some, None, Result, Ok, Err, refl, sym, ap, subst, ◌∙◌, if◌then◌else◌}
 use Rattle.std.proofs.lemmas.Bool.{cond_both, and_parts, and_from, or_left, or_right}
-use Rattle.cilk_values.specs.declared.trap.Trap.{Trap}
-use Rattle.cilk_labelled.specs.Labelled.{Labelled, Action, Numbered}
-use Rattle.cilk_labelled.specs.Items.{head_of}
+use Rattle.cilk_model.specs.values.declared.trap.Trap.{Trap}
+use Rattle.cilk_model.specs.labelled.Labelled.{Labelled, Action, Numbered}
+use Rattle.cilk_model.specs.labelled.Items.{head_of}
 use Rattle.cilk_model.specs.Values.{Reached, read_at, combined}
 use Rattle.cilk_model.specs.Effect.{Effect, writes, answers, enters, gives, starts, writes_out, turns, marks, effect_of}
 use Rattle.cilk_model.specs.Path.{Path, child_path}

@@ -2,16 +2,16 @@
 use Rattle.std.proofs.Common.{◌≡◌, ◌≢◌, ℕ, ◌+◌, ◌≤◌, nat_lt, nat_le, ◌⊎◌, inl, inr, ℤ, Bool, true, false, not, ◌&&◌, ◌||◌, List, [], ◌∷◌, ◌++◌, length, Option, Some, None, Result, Ok, Err, refl, sym, ap, subst, ◌∙◌, if◌then◌else◌}
 use Rattle.std.specs.Prelude.{option_map, slice_get}
 use Rattle.std.proofs.lemmas.Bool.{lt-ltb, le-ltb, le-leb, lt-leb, and_left, and_right, and_from, or_from}
-use Rattle.cilk_syntax.specs.declared.lock_action.LockAction.{LockAction}
-use Rattle.cilk_syntax.specs.declared.lock_action.LockAction.TheVariants.{Init, Lock, Unlock}
-use Rattle.cilk_syntax.specs.declared.return_type.ReturnType.{ReturnType}
-use Rattle.cilk_scopes.specs.declared.owner.Owner.{Owner}
-use Rattle.cilk_scopes.specs.declared.owner.Owner.TheVariants.{Function, Procedure, Inlet}
-use Rattle.cilk_values.specs.declared.trap.Trap.{Trap}
-use Rattle.cilk_values.specs.Arithmetic.{is_zero}
-use Rattle.cilk_values.specs.Term.{Term}
-use Rattle.cilk_values.specs.Value.{Environment, value_of, values_of, ◌>>=◌}
-use Rattle.cilk_labelled.specs.Labelled.{Labelled, Declaration, Into, Taker, nothing, into, through, Action, assign, call, spawn, print, tests, sync}
+use Rattle.cilk_model.specs.syntax.declared.lock_action.LockAction.{LockAction}
+use Rattle.cilk_model.specs.syntax.declared.lock_action.LockAction.TheVariants.{Init, Lock, Unlock}
+use Rattle.cilk_model.specs.syntax.declared.return_type.ReturnType.{ReturnType}
+use Rattle.cilk_model.specs.scopes.declared.owner.Owner.{Owner}
+use Rattle.cilk_model.specs.scopes.declared.owner.Owner.TheVariants.{Function, Procedure, Inlet}
+use Rattle.cilk_model.specs.values.declared.trap.Trap.{Trap}
+use Rattle.cilk_model.specs.values.Arithmetic.{is_zero}
+use Rattle.cilk_model.specs.values.Term.{Term}
+use Rattle.cilk_model.specs.values.Value.{Environment, value_of, values_of, ◌>>=◌}
+use Rattle.cilk_model.specs.labelled.Labelled.{Labelled, Declaration, Into, Taker, nothing, into, through, Action, assign, call, spawn, print, tests, sync}
 use Rattle.cilk_model.specs.Values.{Cell, Reached, read_at, reached_at, reached_if, combined}
 use Rattle.cilk_model.specs.Effect.{Effect, writes, answers, enters, gives, starts, writes_out, turns, marks, start_of, effect_of}
 use Rattle.cilk_model.specs.Path.{Path, same_path}

@@ -2,13 +2,13 @@
 use Rattle.std.proofs.Common.{◌≡◌, ℕ, ◌+◌, nat_le, ℤ, Bool, true, false, not, ◌&&◌, List, [], ◌∷◌, length, Result, Ok, Err, refl, sym, ap, ◌∙◌, if◌then◌else◌}
 use Rattle.std.specs.Prelude.{option_map}
 use Rattle.std.proofs.lemmas.Bool.{leb-true, leb-false}
-use Rattle.cilk_syntax.specs.declared.lock_action.LockAction.{LockAction}
-use Rattle.cilk_syntax.specs.declared.lock_action.LockAction.TheVariants.{Init, Lock, Unlock}
-use Rattle.cilk_values.specs.declared.trap.Trap.{Trap}
-use Rattle.cilk_values.specs.Arithmetic.{is_zero}
-use Rattle.cilk_values.specs.Term.{Term}
-use Rattle.cilk_values.specs.Value.{Environment, value_of, values_of, ◌>>=◌}
-use Rattle.cilk_labelled.specs.Labelled.{Labelled, Declaration, Into, Action, assign, print, locking, tests, sync, abort}
+use Rattle.cilk_model.specs.syntax.declared.lock_action.LockAction.{LockAction}
+use Rattle.cilk_model.specs.syntax.declared.lock_action.LockAction.TheVariants.{Init, Lock, Unlock}
+use Rattle.cilk_model.specs.values.declared.trap.Trap.{Trap}
+use Rattle.cilk_model.specs.values.Arithmetic.{is_zero}
+use Rattle.cilk_model.specs.values.Term.{Term}
+use Rattle.cilk_model.specs.values.Value.{Environment, value_of, values_of, ◌>>=◌}
+use Rattle.cilk_model.specs.labelled.Labelled.{Labelled, Declaration, Into, Action, assign, print, locking, tests, sync, abort}
 use Rattle.cilk_model.specs.Values.{Reached, read_at, reached_at, combined}
 use Rattle.cilk_model.specs.Effect.{writes, answers, writes_out, effect_of}
 use Rattle.cilk_model.specs.Path.{Path, same_path, is_below}

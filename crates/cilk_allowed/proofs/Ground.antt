@@ -2,7 +2,7 @@
 use Rattle.std.proofs.Common.{◌≡◌, ◌≢◌, ℕ, ℤ, Bool, true, false, not, ◌&&◌, List, [], ◌∷◌, Some, refl, sym, ap, ◌∙◌}
 use Rattle.std.specs.Prelude.{option_map}
 use Rattle.std.proofs.lemmas.Bool.{and_parts}
-use Rattle.cilk_labelled.specs.Labelled.{Labelled, Action}
+use Rattle.cilk_model.specs.labelled.Labelled.{Labelled, Action}
 use Rattle.cilk_model.specs.Values.{Cell}
 use Rattle.cilk_model.specs.Path.{Path}
 use Rattle.cilk_model.specs.Instance.{Activation, Instance, outer_values}

@@ -1,6 +1,6 @@
 -- Each choice that is possible keeps the written rule, and leaves a state in order.
 use Rattle.std.proofs.Common.{◌≡◌, ℕ, Bool, true, false, not, [], Option, Some, None, refl, sym, ap, subst, ◌∙◌, if◌then◌else◌}
-use Rattle.cilk_labelled.specs.Labelled.{Labelled}
+use Rattle.cilk_model.specs.labelled.Labelled.{Labelled}
 use Rattle.cilk_model.specs.Path.{Path}
 use Rattle.cilk_model.specs.Instance.{started}
 use Rattle.cilk_model.specs.State.{State, Outcome, running, finished, trapped, opening_state}

@@ -1,13 +1,13 @@
 -- Rows of the rule: a body is left.
 use Rattle.std.proofs.Common.{◌≡◌, ◌≢◌, ℕ, ℤ, pos, Bool, true, false, not, ◌&&◌, ◌||◌, ◌⊎◌, inl, inr, List, [], ◌∷◌, Option, Some, None, is_some, Result, Ok, Err, refl, sym, ap, subst, ◌∙◌}
 use Rattle.std.specs.Prelude.{option_map}
-use Rattle.cilk_syntax.specs.declared.return_type.ReturnType.{ReturnType}
-use Rattle.cilk_scopes.specs.declared.owner.Owner.{Owner}
-use Rattle.cilk_scopes.specs.declared.owner.Owner.TheVariants.{Function, Procedure, Inlet}
-use Rattle.cilk_values.specs.declared.trap.Trap.{Trap}
-use Rattle.cilk_values.specs.Term.{Term}
-use Rattle.cilk_values.specs.Value.{Environment, value_of, ◌>>=◌}
-use Rattle.cilk_labelled.specs.Labelled.{Labelled, Declaration, Action, return_with, return_nothing, close}
+use Rattle.cilk_model.specs.syntax.declared.return_type.ReturnType.{ReturnType}
+use Rattle.cilk_model.specs.scopes.declared.owner.Owner.{Owner}
+use Rattle.cilk_model.specs.scopes.declared.owner.Owner.TheVariants.{Function, Procedure, Inlet}
+use Rattle.cilk_model.specs.values.declared.trap.Trap.{Trap}
+use Rattle.cilk_model.specs.values.Term.{Term}
+use Rattle.cilk_model.specs.values.Value.{Environment, value_of, ◌>>=◌}
+use Rattle.cilk_model.specs.labelled.Labelled.{Labelled, Declaration, Action, return_with, return_nothing, close}
 use Rattle.cilk_model.specs.Values.{Reached, Cell, read_at, combined}
 use Rattle.cilk_model.specs.Effect.{gives, effect_of}
 use Rattle.cilk_model.specs.Path.{Path, child_path, parent_of}

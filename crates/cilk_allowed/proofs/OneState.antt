@@ -1,12 +1,12 @@
 -- The written rule leaves one state.
 use Rattle.std.proofs.Common.{◌≡◌, ◌≢◌, ℕ, ◌+◌, ◌⊎◌, inl, inr, ℤ, Bool, true, false, ◌&&◌, List, [], ◌∷◌, length, nat_lt, nat_le, Option, Some, None, Result, Ok, Err, refl, sym, ap, ap₂, subst, ◌∙◌}
 use Rattle.std.specs.Prelude.{slice_get, slice_index_or}
-use Rattle.cilk_values.specs.declared.trap.Trap.{Trap}
-use Rattle.cilk_labelled.specs.Labelled.{Labelled, global}
+use Rattle.cilk_model.specs.values.declared.trap.Trap.{Trap}
+use Rattle.cilk_model.specs.labelled.Labelled.{Labelled, global}
 use Rattle.cilk_model.specs.Values.{Values, Store, Cell, Reached}
 use Rattle.cilk_model.specs.Effect.{Effect, writes, answers, enters, gives, starts, writes_out, turns, marks, effect_of}
 use Rattle.cilk_model.specs.Path.{Path, child_path, parent_of, is_below}
-use Rattle.cilk_labelled.specs.Items.{opened, next}
+use Rattle.cilk_model.specs.labelled.Items.{opened, next}
 use Rattle.cilk_model.specs.Instance.{Activation, Receiver, place, through, Delivery, Instance, entered}
 use Rattle.cilk_model.specs.State.{Kind, of_value, held_lock, depth, instances, output, Lock, State, instance_at, lock_at}
 use Rattle.cilk_model.specs.Change.{leaves_function, with_deliveries, deliveries, Turn, turned, refused, blocked, turn_by}

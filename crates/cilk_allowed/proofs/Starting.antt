@@ -1,10 +1,10 @@
 -- Rows of the rule: a C function or a child starts.
 use Rattle.std.proofs.Common.{◌≡◌, ℕ, ◌+◌, ◌≤◌, nat_lt, ◌⊎◌, inl, inr, ℤ, Bool, true, false, ◌&&◌, List, [], ◌∷◌, ◌++◌, length, Option, Some, None, Result, Ok, Err, refl, sym, ap, ◌∙◌, if◌then◌else◌}
 use Rattle.std.proofs.lemmas.Bool.{and_parts, ltb-true, ltb-false}
-use Rattle.cilk_values.specs.declared.trap.Trap.{Trap}
-use Rattle.cilk_values.specs.Term.{Term}
-use Rattle.cilk_values.specs.Value.{Environment, values_of, ◌>>=◌}
-use Rattle.cilk_labelled.specs.Labelled.{Labelled, Declaration, Into, Taker, nothing, into, through, call, spawn}
+use Rattle.cilk_model.specs.values.declared.trap.Trap.{Trap}
+use Rattle.cilk_model.specs.values.Term.{Term}
+use Rattle.cilk_model.specs.values.Value.{Environment, values_of, ◌>>=◌}
+use Rattle.cilk_model.specs.labelled.Labelled.{Labelled, Declaration, Into, Taker, nothing, into, through, call, spawn}
 use Rattle.cilk_model.specs.Values.{Reached, reached_at, reached_if}
 use Rattle.cilk_model.specs.Effect.{enters, starts, start_of, effect_of}
 use Rattle.cilk_model.specs.Path.{Path, same_path, child_path}

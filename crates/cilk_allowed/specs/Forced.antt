@@ -1,6 +1,6 @@
 -- Where an instance does not step, the written rule allows it no step.
 use Rattle.std.specs.Prelude.{◌≡◌, true, Some, ⊤}
-use Rattle.cilk_labelled.specs.Labelled.{Labelled}
+use Rattle.cilk_model.specs.labelled.Labelled.{Labelled}
 use Rattle.cilk_model.specs.Path.{Path}
 use Rattle.cilk_model.specs.Instance.{Instance}
 use Rattle.cilk_model.specs.State.{State, instance_at, has_live_child}

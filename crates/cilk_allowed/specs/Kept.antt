@@ -1,6 +1,6 @@
 -- Each choice keeps the written rule.
 use Rattle.std.specs.Prelude.{◌≡◌, ◌≢◌, ℕ, List, [], ◌∷◌, ◌++◌, Option, Some, None}
-use Rattle.cilk_labelled.specs.Labelled.{Labelled}
+use Rattle.cilk_model.specs.labelled.Labelled.{Labelled}
 use Rattle.cilk_model.specs.Path.{Path}
 use Rattle.cilk_model.specs.State.{State}
 use Rattle.cilk_model.specs.Event.{Event, moved}

@@ -1,6 +1,6 @@
 -- The written rule leaves one state for each head, delivery and aborted end, as far as look-ups tell.
 use Rattle.std.specs.Prelude.{◌≡◌, ℕ, List, [], Some, slice_get, slice_index_or}
-use Rattle.cilk_labelled.specs.Labelled.{Labelled, Action}
+use Rattle.cilk_model.specs.labelled.Labelled.{Labelled, Action}
 use Rattle.cilk_model.specs.Values.{Values, Cell}
 use Rattle.cilk_model.specs.Path.{Path}
 use Rattle.cilk_model.specs.Instance.{Activation, Delivery, Instance}

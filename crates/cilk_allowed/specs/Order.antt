@@ -1,6 +1,6 @@
 -- The written rule allows each step that is taken from a state that is in order, and each state that choices reach is.
 use Rattle.std.specs.Prelude.{◌≡◌, ℕ, ◌≤◌, true, ⊤, cond, List, Some, count_by}
-use Rattle.cilk_labelled.specs.Labelled.{Labelled}
+use Rattle.cilk_model.specs.labelled.Labelled.{Labelled}
 use Rattle.cilk_model.specs.Path.{Path, same_path, child_path}
 use Rattle.cilk_model.specs.Instance.{Instance}
 use Rattle.cilk_model.specs.State.{State, Instances, running, instance_at, is_live}

@@ -1,6 +1,6 @@
 -- The event that a step of the written rule is told by.
 use Rattle.std.specs.Prelude.{◌≡◌, ℕ, ◌+◌, ℤ, List, ◌++◌}
-use Rattle.cilk_labelled.specs.Labelled.{Labelled, Action}
+use Rattle.cilk_model.specs.labelled.Labelled.{Labelled, Action}
 use Rattle.cilk_model.specs.Path.{Path, child_path}
 use Rattle.cilk_model.specs.Instance.{Receiver, Delivery, Instance}
 use Rattle.cilk_model.specs.State.{of_value, State}

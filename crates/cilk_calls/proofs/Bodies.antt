@@ -4,18 +4,18 @@ use Rattle.std.specs.Prelude.{slice_index_or}
 use Rattle.std.specs.List.{list_all, flat_map}
 use Rattle.std.proofs.lemmas.Bool.{and_from}
 use Rattle.std.proofs.lemmas.List.Folds.{list_all-append}
-use Rattle.cilk_syntax.specs.declared.return_type.ReturnType.{ReturnType}
-use Rattle.cilk_syntax.specs.Tree as tree
-use Rattle.cilk_scopes.specs.Scopes.{Scopes, enter, kind_of_global, kind_of_body, parameter_count, local_declares, parameters_declare, file_declares, file_scopes}
-use Rattle.cilk_scopes.specs.Parts.{Around, local, after_local, after_locals, in_body, in_inlet, block_parts, locals_parts, within_local, stmts_parts, owner_of, item_parts}
-use Rattle.cilk_labelled.specs.Labelled.{Labelled, of_body, Body}
-use Rattle.cilk_labelled.specs.Names as naming
-use Rattle.cilk_labelled.specs.Names.{Names, with_words, with_parameters, with_local, local_count, entered}
-use Rattle.cilk_labelled.specs.Label.{names_behind, label_block}
-use Rattle.cilk_labelled.specs.Count.{count_local, count_item}
-use Rattle.cilk_labelled.specs.Bodies.{is_procedure, parameter_variables, label_body, inlet_bodies, block_locals, procedure_names, inlet_count, body_count, item_bodies, items_bodies, file_means, file_names, label}
-use Rattle.cilk_model.specs.Instance.{no_body}
-use Rattle.cilk_model.specs.Change.{is_function}
+use Rattle.cilk_check.specs.syntax.declared.return_type.ReturnType.{ReturnType}
+use Rattle.cilk_check.specs.syntax.Tree as tree
+use Rattle.cilk_check.specs.scopes.Scopes.{Scopes, enter, kind_of_global, kind_of_body, parameter_count, local_declares, parameters_declare, file_declares, file_scopes}
+use Rattle.cilk_check.specs.scopes.Parts.{Around, local, after_local, after_locals, in_body, in_inlet, block_parts, locals_parts, within_local, stmts_parts, owner_of, item_parts}
+use Rattle.cilk_children.specs.labelled.Labelled.{Labelled, of_body, Body}
+use Rattle.cilk_children.specs.labelled.Names as naming
+use Rattle.cilk_children.specs.labelled.Names.{Names, with_words, with_parameters, with_local, local_count, entered}
+use Rattle.cilk_children.specs.labelled.Label.{names_behind, label_block}
+use Rattle.cilk_children.specs.labelled.Count.{count_local, count_item}
+use Rattle.cilk_children.specs.labelled.Bodies.{is_procedure, parameter_variables, label_body, inlet_bodies, block_locals, procedure_names, inlet_count, body_count, item_bodies, items_bodies, file_means, file_names, label}
+use Rattle.cilk_children.specs.model.Instance.{no_body}
+use Rattle.cilk_children.specs.model.Change.{is_function}
 use Rattle.cilk_children.specs.Calls.{owner_of_body, is_inlet, stmts_suit, body_suits}
 use Rattle.cilk_calls.specs.Laws.{CallsSuit}
 use Rattle.cilk_calls.proofs.Right.{Right, front, back, others, all_right}

@@ -1,14 +1,14 @@
 -- The statements of a body whose parts are right suit it after they are labelled.
 use Rattle.std.proofs.Common.{◌≡◌, ℕ, ◌+◌, Bool, true, false, ◌&&◌, ◌++◌, length, Option, Some, None, refl, sym, ap, ◌∙◌}
 use Rattle.std.proofs.lemmas.Bool.{and_from}
-use Rattle.cilk_syntax.specs.Tree as tree
-use Rattle.cilk_scopes.specs.declared.within.Within.{Within}
-use Rattle.cilk_scopes.specs.Parts.{Around, local, statement, Standing, inner, looped, after_local, after_locals, block_parts, locals_parts, within_local, stmts_parts, within_stmt}
-use Rattle.cilk_labelled.specs.Labelled.{Labelled, Stmts}
-use Rattle.cilk_labelled.specs.Names.{Names, with_local, local_count, entered}
-use Rattle.cilk_labelled.specs.Label.{locals_variables, names_behind, label_move, label_taker, label_part, label_initialiser, label_local, label_locals, label_stmt, label_stmts, label_block}
-use Rattle.cilk_labelled.specs.Count.{count_local, count_locals}
-use Rattle.cilk_labelled.specs.Bodies.{is_procedure}
+use Rattle.cilk_check.specs.syntax.Tree as tree
+use Rattle.cilk_check.specs.scopes.declared.within.Within.{Within}
+use Rattle.cilk_check.specs.scopes.Parts.{Around, local, statement, Standing, inner, looped, after_local, after_locals, block_parts, locals_parts, within_local, stmts_parts, within_stmt}
+use Rattle.cilk_children.specs.labelled.Labelled.{Labelled, Stmts}
+use Rattle.cilk_children.specs.labelled.Names.{Names, with_local, local_count, entered}
+use Rattle.cilk_children.specs.labelled.Label.{locals_variables, names_behind, label_move, label_taker, label_part, label_initialiser, label_local, label_locals, label_stmt, label_stmts, label_block}
+use Rattle.cilk_children.specs.labelled.Count.{count_local, count_locals}
+use Rattle.cilk_children.specs.labelled.Bodies.{is_procedure}
 use Rattle.cilk_children.specs.Calls.{taker_suits, action_suits, part_suits, stmt_suits, stmts_suit}
 use Rattle.cilk_calls.proofs.Right.{MoveRight, MovesRight, TakerRight, StmtRight, Right, front, back, first, others}
 use Rattle.cilk_calls.proofs.Named.{Agree, called_fits, fed_fits, agree_entered, agree_declared}

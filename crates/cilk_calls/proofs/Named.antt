@@ -3,14 +3,14 @@ use Rattle.std.proofs.Common.{◌≡◌, ℕ, suc, ◌+◌, ◌<◌, ◌≤◌, 
 use Rattle.std.specs.Prelude.{bytes_eq, slice_index_or, position, find}
 use Rattle.std.specs.List.{prefix_len}
 use Rattle.std.proofs.lemmas.Bool.{lt-ltb, le-ltb, cases_lt}
-use Rattle.cilk_syntax.specs.Tree.{Word}
-use Rattle.cilk_syntax.specs.Tree as tree
-use Rattle.cilk_scopes.specs.declared.kind.Kind.{Kind}
-use Rattle.cilk_scopes.specs.declared.kind.Kind.TheVariants as kind
-use Rattle.cilk_scopes.specs.Scopes.{Declared, Scopes, declare, enter, declare_all, parameter, parameters_declare, kind_of_shape, local_declares, meaning}
-use Rattle.cilk_labelled.specs.Labelled.{Labelled, Declaration, local, outer, global, of_lock, of_body, unknown}
-use Rattle.cilk_labelled.specs.Names.{Names, meaning_at, meaning_of, number_of, with_name, with_words, with_parameters, with_local, entered, outward, in_inlet}
-use Rattle.cilk_model.specs.Change.{is_function}
+use Rattle.cilk_check.specs.syntax.Tree.{Word}
+use Rattle.cilk_check.specs.syntax.Tree as tree
+use Rattle.cilk_check.specs.scopes.declared.kind.Kind.{Kind}
+use Rattle.cilk_check.specs.scopes.declared.kind.Kind.TheVariants as kind
+use Rattle.cilk_check.specs.scopes.Scopes.{Declared, Scopes, declare, enter, declare_all, parameter, parameters_declare, kind_of_shape, local_declares, meaning}
+use Rattle.cilk_children.specs.labelled.Labelled.{Labelled, Declaration, local, outer, global, of_lock, of_body, unknown}
+use Rattle.cilk_children.specs.labelled.Names.{Names, meaning_at, meaning_of, number_of, with_name, with_words, with_parameters, with_local, entered, outward, in_inlet}
+use Rattle.cilk_children.specs.model.Change.{is_function}
 use Rattle.cilk_children.specs.Calls.{owner_of_body, is_inlet}
 use Rattle.cilk_calls.proofs.Right.{is_function_kind, is_inlet_kind, Finds}
 

@@ -1,24 +1,24 @@
 -- What the rules of the checks leave of each part of a program: what is called is a C function, what is fed an inlet, and only procedures spawn and wait.
 use Rattle.std.proofs.Common.{◌≡◌, ℕ, ◌+◌, Bool, true, false, ◌&&◌, List, ◌∷◌, ◌++◌, length, Option, Some, None, is_some, inl, inr, refl, ap, ◌∙◌}
 use Rattle.std.specs.List.{Contains, flat_map}
-use Rattle.cilk_syntax.specs.Tree.{Word}
-use Rattle.cilk_syntax.specs.Tree as tree
-use Rattle.cilk_scopes.specs.declared.fault.CheckFault.TheVariants.{Unknown, WrongKind, InletNeedsSpawn, Reserved, NotInProcedure, InInlet}
-use Rattle.cilk_scopes.specs.declared.kind.Kind.{Kind}
-use Rattle.cilk_scopes.specs.declared.kind.Kind.TheVariants as kind
-use Rattle.cilk_scopes.specs.declared.owner.Owner.{Owner}
-use Rattle.cilk_scopes.specs.declared.owner.Owner.TheVariants.{Function, Procedure, Inlet}
-use Rattle.cilk_scopes.specs.Scopes.{Declared, Scopes, meaning}
-use Rattle.cilk_scopes.specs.Parts.{Around, Part, local, statement, Standing, parts_of, part_exprs, visible_in}
-use Rattle.cilk_scopes.proofs.Elements.{Has, Contains-from_Has, Has-append_left, Has-append_right, Has-flat_map}
-use Rattle.cilk_rules_of_names.specs.declared.role.Role.TheVariants as role
-use Rattle.cilk_rules_of_names.specs.Uses.{Use, use_as, expr_uses, target_uses, move_uses, moves_uses, taker_uses, own_uses, part_uses, uses_of}
-use Rattle.cilk_rules_of_names.specs.Names as names
-use Rattle.cilk_rules_of_names.specs.Names.{fits, Means}
-use Rattle.cilk_rules_of_names.specs.Reserved.{IsReserved}
-use Rattle.cilk_rules_of_forms.specs.Forms as forms
-use Rattle.cilk_rules_of_forms.specs.Forms.{synched_in, own_word, words_of_children}
-use Rattle.cilk_labelled.specs.Bodies.{is_procedure}
+use Rattle.cilk_check.specs.syntax.Tree.{Word}
+use Rattle.cilk_check.specs.syntax.Tree as tree
+use Rattle.cilk_check.specs.scopes.declared.fault.CheckFault.TheVariants.{Unknown, WrongKind, InletNeedsSpawn, Reserved, NotInProcedure, InInlet}
+use Rattle.cilk_check.specs.scopes.declared.kind.Kind.{Kind}
+use Rattle.cilk_check.specs.scopes.declared.kind.Kind.TheVariants as kind
+use Rattle.cilk_check.specs.scopes.declared.owner.Owner.{Owner}
+use Rattle.cilk_check.specs.scopes.declared.owner.Owner.TheVariants.{Function, Procedure, Inlet}
+use Rattle.cilk_check.specs.scopes.Scopes.{Declared, Scopes, meaning}
+use Rattle.cilk_check.specs.scopes.Parts.{Around, Part, local, statement, Standing, parts_of, part_exprs, visible_in}
+use Rattle.cilk_check.proofs.scopes_laws.Elements.{Has, Contains-from_Has, Has-append_left, Has-append_right, Has-flat_map}
+use Rattle.cilk_check.specs.rules_of_names.declared.role.Role.TheVariants as role
+use Rattle.cilk_check.specs.rules_of_names.Uses.{Use, use_as, expr_uses, target_uses, move_uses, moves_uses, taker_uses, own_uses, part_uses, uses_of}
+use Rattle.cilk_check.specs.rules_of_names.Names as names
+use Rattle.cilk_check.specs.rules_of_names.Names.{fits, Means}
+use Rattle.cilk_check.specs.rules_of_names.Reserved.{IsReserved}
+use Rattle.cilk_check.specs.rules_of_forms.Forms as forms
+use Rattle.cilk_check.specs.rules_of_forms.Forms.{synched_in, own_word, words_of_children}
+use Rattle.cilk_children.specs.labelled.Bodies.{is_procedure}
 use Rattle.cilk_check.specs.Fault.{WellFormed}
 
 abbrev pub is_function_kind : Kind → Bool

@@ -1,5 +1,5 @@
 -- What holds of runs where calls and spawns suit holds of those of well-formed programs.
-use Rattle.cilk_labelled.specs.Bodies.{label}
+use Rattle.cilk_children.specs.labelled.Bodies.{label}
 use Rattle.cilk_children.proofs.Alone as alone
 use Rattle.cilk_children.specs.Moments.{passes}
 use Rattle.cilk_children.proofs.Starts as starts

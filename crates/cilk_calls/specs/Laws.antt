@@ -1,15 +1,15 @@
 -- What is known of the calls, spawns and inlets of a well-formed program, after it is labelled too.
 use Rattle.std.specs.Prelude.{◌≡◌, ℕ, ℤ, true, List, [], Some}
-use Rattle.cilk_syntax.specs.Tree.{Program}
+use Rattle.cilk_check.specs.syntax.Tree.{Program}
 use Rattle.cilk_check.specs.Fault.{WellFormed}
-use Rattle.cilk_labelled.specs.Labelled.{sync}
-use Rattle.cilk_labelled.specs.Bodies.{label}
-use Rattle.cilk_model.specs.Path.{Path, child_path}
-use Rattle.cilk_model.specs.Instance.{through, Instance}
-use Rattle.cilk_model.specs.Event.{delivered}
-use Rattle.cilk_model.specs.Fate.{was_made}
-use Rattle.cilk_model.specs.Choice.{Choice}
-use Rattle.cilk_model.specs.Run.{Position, event_of, after}
+use Rattle.cilk_children.specs.labelled.Labelled.{sync}
+use Rattle.cilk_children.specs.labelled.Bodies.{label}
+use Rattle.cilk_children.specs.model.Path.{Path, child_path}
+use Rattle.cilk_children.specs.model.Instance.{through, Instance}
+use Rattle.cilk_children.specs.model.Event.{delivered}
+use Rattle.cilk_children.specs.model.Fate.{was_made}
+use Rattle.cilk_children.specs.model.Choice.{Choice}
+use Rattle.cilk_children.specs.model.Run.{Position, event_of, after}
 use Rattle.cilk_children.specs.Moments.{Acts, Settled}
 use Rattle.cilk_children.specs.Calls as calls
 use Rattle.cilk_children.specs.Inlets.{in_inlet, IsStep, Alone, HasStarted}

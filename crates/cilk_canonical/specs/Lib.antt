@@ -4,3 +4,5 @@ pub mod ExprText
 pub mod MoveText
 pub mod StmtLines
 pub mod ProgramText
+pub use Rattle.cilk_syntax.specs.lexeme
+pub use Rattle.cilk_syntax.specs as syntax

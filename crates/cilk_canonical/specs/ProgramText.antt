@@ -1,8 +1,8 @@
 -- The canonical text of a program: its lines, and a newline behind each.
 use Rattle.std.specs.Prelude.{ℕ, zero, suc, Bool, true, false, List, [], ◌∷◌, ◌++◌, map, codes, decimal, Some, None}
 use Rattle.std.specs.Fmt.{signed_decimal}
-use Rattle.cilk_lexeme.specs.declared.header.Header.{Header}
-use Rattle.cilk_lexeme.specs.declared.header.Header.TheVariants.{Cilk, CilkLib, CilkLibCilkh, Stdio, Stdlib}
+use Rattle.cilk_syntax.specs.lexeme.declared.header.Header.{Header}
+use Rattle.cilk_syntax.specs.lexeme.declared.header.Header.TheVariants.{Cilk, CilkLib, CilkLibCilkh, Stdio, Stdlib}
 use Rattle.cilk_syntax.specs.declared.return_type.ReturnType.{ReturnType}
 use Rattle.cilk_syntax.specs.Tree.{Word, Parameters, ints, command_line, Proc, Prototype, GlobalShape, global_variable, global_array, Global, Item, global, lock, prototype, procedure, Program}
 use Rattle.cilk_syntax.specs.ReturnWord.{word_of}

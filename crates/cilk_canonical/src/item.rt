@@ -13,9 +13,9 @@ use crate::head::put_names;
 use crate::line::put_length;
 use crate::put::put;
 use crate::stmt::put_body;
-use cilk_lexeme::Header;
 use cilk_syntax::{
-    GlobalShape, Item, ItemNode, Memory, Parameters, Proc, Program, Prototype, ReturnType, Word,
+    GlobalShape, Header, Item, ItemNode, Memory, Parameters, Proc, Program, Prototype, ReturnType,
+    Word,
 };
 use itoa::Buffer;
 use std::alloc::Global;

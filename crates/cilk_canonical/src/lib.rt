@@ -9,4 +9,9 @@ mod literal;
 mod put;
 mod stmt;
 
+pub use cilk_syntax::{
+    Adjustment, BinOp, Block, Decl, Expr, ExprNode, Global, GlobalShape, Inlet, Item, ItemNode,
+    Literal, Local, LocalNode, LockAction, Memory, Move, MoveNode, Parameters, Place, Proc,
+    Program, Prototype, ReturnType, Shape, Stmt, StmtNode, Taker, Target, UnOp, Word,
+};
 pub use item::canonical;

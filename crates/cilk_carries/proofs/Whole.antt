@@ -1,12 +1,12 @@
 -- The parts, where there is a turn for them.
 use Rattle.std.proofs.Common.{◌≡◌, ◌≢◌, ℕ, List, length, Option, Some, None, sym, ap, ◌∙◌, subst}
-use Rattle.cilk_model.specs.Places.{PlaceOf, IsWorker, hand_of, with_hand}
-use Rattle.cilk_nodes.specs.declared.body.Body.{Body}
-use Rattle.cilk_frame.specs.Frames.{Frame}
-use Rattle.cilk_agree.specs.Outside as outside
-use Rattle.cilk_agree.specs.Agrees.{Machine}
-use Rattle.cilk_agree.specs.Laws.{Turn}
-use Rattle.cilk_agree.proofs.Between.{hands-restored}
+use Rattle.cilk_plans.specs.model.Places.{PlaceOf, IsWorker, hand_of, with_hand}
+use Rattle.cilk_plans.specs.nodes.declared.body.Body.{Body}
+use Rattle.cilk_plans.specs.frame.Frames.{Frame}
+use Rattle.cilk_plans.specs.agree.Outside as outside
+use Rattle.cilk_plans.specs.agree.Agrees.{Machine}
+use Rattle.cilk_plans.specs.agree.Laws.{Turn}
+use Rattle.cilk_plans.proofs.agree_laws.Between.{hands-restored}
 use Rattle.cilk_plans.specs.declared.plan.Plan.{Plan}
 use Rattle.cilk_plans.specs.declared.plan.Plan.TheVariants as plan
 use Rattle.cilk_carries.specs.declared.did.Done.{Done}

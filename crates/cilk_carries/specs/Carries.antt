@@ -1,18 +1,18 @@
 -- What carrying out a plan promises.
 use Rattle.std.specs.Prelude.{◌≡◌, ◌≢◌, ◌<◌, ◌^◌, ℕ, ⊤, Option, None, length}
-use Rattle.cilk_labelled.specs.Labelled.{Labelled}
-use Rattle.cilk_labelled.specs.Bodies.{label}
-use Rattle.cilk_syntax.specs.Tree.{Program}
-use Rattle.cilk_model.specs.Instance.{Instance, body_at}
-use Rattle.cilk_model.specs.Run.{waits_now, stepped, event_of_step}
-use Rattle.cilk_nodes.specs.declared.body.Body.{Body}
-use Rattle.cilk_nodes.specs.Bodies.{body_of}
-use Rattle.cilk_nodes.specs.Slots.{cells_of}
-use Rattle.cilk_spawn.specs.Nodes.{path_at}
-use Rattle.cilk_agree.specs.Outside as outside
-use Rattle.cilk_agree.specs.Agrees.{Machine, Agrees}
-use Rattle.cilk_agree.specs.Fated.{Follows}
-use Rattle.cilk_agree.specs.Laws.{Turn, path_of}
+use Rattle.cilk_plans.specs.labelled.Labelled.{Labelled}
+use Rattle.cilk_plans.specs.labelled.Bodies.{label}
+use Rattle.cilk_plans.specs.syntax.Tree.{Program}
+use Rattle.cilk_plans.specs.model.Instance.{Instance, body_at}
+use Rattle.cilk_plans.specs.model.Run.{waits_now, stepped, event_of_step}
+use Rattle.cilk_plans.specs.nodes.declared.body.Body.{Body}
+use Rattle.cilk_plans.specs.nodes.Bodies.{body_of}
+use Rattle.cilk_plans.specs.nodes.Slots.{cells_of}
+use Rattle.cilk_plans.specs.spawn.Nodes.{path_at}
+use Rattle.cilk_plans.specs.agree.Outside as outside
+use Rattle.cilk_plans.specs.agree.Agrees.{Machine, Agrees}
+use Rattle.cilk_plans.specs.agree.Fated.{Follows}
+use Rattle.cilk_plans.specs.agree.Laws.{Turn, path_of}
 use Rattle.cilk_plans.specs.declared.plan.Plan.{Plan}
 use Rattle.cilk_plans.specs.declared.plan.Plan.TheVariants as plan
 use Rattle.cilk_plans.specs.Plans.{IsPlan, step_in}

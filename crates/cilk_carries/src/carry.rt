@@ -2,8 +2,8 @@
 
 ghost use Rattle.std.specs.Prelude.{◌≡◌, None, IfErr, IfOk, OnErr};
 ghost use Rattle.std.specs.Option.{option_copied};
-ghost use Rattle.cilk_model.specs.Places.{IsWorker, hand_of};
-ghost use Rattle.cilk_agree.specs.Outside as outside;
+ghost use Rattle.cilk_plans.specs.model.Places.{IsWorker, hand_of};
+ghost use Rattle.cilk_plans.specs.agree.Outside as outside;
 ghost use Rattle.cilk_carries.specs.Words.{machine_of, outcome_of};
 ghost use Rattle.cilk_carries.specs.Ready.{Ready};
 ghost use Rattle.cilk_carries.specs.Carried.{Carried};
@@ -17,9 +17,7 @@ use crate::releasing::carry_turn;
 use crate::returning::{carry_end, carry_return};
 use crate::starting::carry_spawn;
 use crate::writing::{carry_answer, carry_take, carry_write};
-use cilk_frame::Frame;
-use cilk_nodes::Body;
-use cilk_plans::Plan;
+use cilk_plans::{Body, Frame, Plan};
 
 /// Carries out the plan of the frame in the worker's hand, at this choice. The body is the one of the procedure, the
 /// C function or the inlet that the plan starts. Where memory has run out, nothing has changed.

@@ -1,9 +1,9 @@
 //! A light plan is carried out: the frame stays in the hand, and is changed there.
 
 ghost use Rattle.std.specs.Prelude.{◌≡◌, Some, None};
-ghost use Rattle.cilk_model.specs.Places.{IsWorker, hand_of, with_hand};
-ghost use Rattle.cilk_stands.specs.Cells.{frame_put, globals_put};
-ghost use Rattle.cilk_agree.specs.Outside as outside;
+ghost use Rattle.cilk_plans.specs.model.Places.{IsWorker, hand_of, with_hand};
+ghost use Rattle.cilk_plans.specs.stands.Cells.{frame_put, globals_put};
+ghost use Rattle.cilk_plans.specs.agree.Outside as outside;
 ghost use Rattle.cilk_plans.specs.Words.{plan_of};
 ghost use Rattle.cilk_carries.specs.Words.{machine_of};
 ghost use Rattle.cilk_carries.specs.Ready.{Fits, Ready, frame_in};
@@ -12,11 +12,7 @@ ghost use Rattle.cilk_carries.specs.Carries.{CanCarry, Carries};
 
 use crate::did::{Did, Outcome};
 use crate::parts::Parts;
-use cilk_effects::Reached;
-use cilk_eval::Area;
-use cilk_frame::Id;
-use cilk_plans::Light;
-use cilk_sched::Hands;
+use cilk_plans::{Area, Hands, Id, Light, Reached};
 
 /// Carries out the light plan of the frame in the worker's hand, at this choice. It takes no memory, and the program runs on.
 #[inline(always)]

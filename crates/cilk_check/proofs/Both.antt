@@ -1,9 +1,9 @@
 -- The first of the faults of two kinds.
 use Rattle.std.proofs.Common.{◌≡◌, [], ◌∷◌, Option, Some, None, ◌⊎◌, inl, inr, refl, subst, IfSome, IfNone}
-use Rattle.cilk_scopes.specs.declared.fault.CheckFault.{CheckFault}
-use Rattle.cilk_scopes.specs.Fault.{NoLater, IsFirst}
-use Rattle.cilk_scopes.specs.First.{first_among}
-use Rattle.cilk_scopes.proofs.Held.{NoLater-trans, first_among_first}
+use Rattle.cilk_rules_of_forms.specs.scopes.declared.fault.CheckFault.{CheckFault}
+use Rattle.cilk_rules_of_forms.specs.scopes.Fault.{NoLater, IsFirst}
+use Rattle.cilk_rules_of_forms.specs.scopes.First.{first_among}
+use Rattle.cilk_rules_of_forms.proofs.scopes_laws.Held.{NoLater-trans, first_among_first}
 use Rattle.cilk_check.specs.Earlier.{earlier}
 
 module _ (N M : CheckFault → Type 0) where

@@ -1,8 +1,8 @@
 -- What a program must not have: the rules that no grammar says.
 use Rattle.std.specs.Prelude.{◌⊎◌}
-use Rattle.cilk_syntax.specs.Tree as tree
-use Rattle.cilk_scopes.specs.declared.fault.CheckFault.{CheckFault}
-use Rattle.cilk_scopes.specs.Fault.{IsFirst}
+use Rattle.cilk_rules_of_forms.specs.syntax.Tree as tree
+use Rattle.cilk_rules_of_forms.specs.scopes.declared.fault.CheckFault.{CheckFault}
+use Rattle.cilk_rules_of_forms.specs.scopes.Fault.{IsFirst}
 use Rattle.cilk_rules_of_names.specs.Names as names
 use Rattle.cilk_rules_of_forms.specs.Forms as forms
 

@@ -1,12 +1,10 @@
 ghost use Rattle.std.specs.Prelude.{◌≡◌, ◌⊎◌, IsOk, IfOk, IfErr};
-ghost use Rattle.cilk_scopes.specs.declared.fault.CheckFault.TheVariants.{Memory};
+ghost use Rattle.cilk_rules_of_forms.specs.scopes.declared.fault.CheckFault.TheVariants.{Memory};
 ghost use Rattle.cilk_check.specs.Fault.{WellFormed, IsFirstFault};
 
 use crate::earlier::earlier_of;
-use cilk_rules_of_forms::first_form_fault;
+use cilk_rules_of_forms::{CheckFault, Program, first_form_fault};
 use cilk_rules_of_names::first_name_fault;
-use cilk_scopes::CheckFault;
-use cilk_syntax::Program;
 use std::alloc::Global;
 use std::marker::Model;
 
@@ -17,8 +15,8 @@ pub struct Checked {
 }
 
 impl Model for Checked {
-    ghost use Rattle.cilk_syntax.specs.Tree as tree;
-    ghost use Rattle.cilk_syntax.specs.ProgramCoding.{coded_Program};
+    ghost use Rattle.cilk_rules_of_forms.specs.syntax.Tree as tree;
+    ghost use Rattle.cilk_rules_of_forms.specs.syntax.ProgramCoding.{coded_Program};
     ghost use Rattle.cilk_check.specs.Fault.{WellFormed};
 
     ghost Value = { tree.Program };

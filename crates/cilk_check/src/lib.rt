@@ -5,4 +5,4 @@ mod checked;
 mod earlier;
 
 pub use checked::{Checked, check};
-pub use cilk_scopes::CheckFault;
+pub use cilk_rules_of_forms::{BinOp, CheckFault, LexFault, LockAction, Owner};

@@ -1,18 +1,18 @@
 -- While an inlet runs, each step of its instance is its own.
 use Rattle.std.proofs.Common.{◌≡◌, ℤ, Bool, true, false, not, ◌&&◌, ◌||◌, List, [], ◌∷◌, ◌++◌, Option, Some, None, ◌⊎◌, inl, inr, refl, sym, ap, subst, ◌∙◌, if◌then◌else◌}
 use Rattle.std.specs.Prelude.{option_map}
-use Rattle.cilk_labelled.specs.Labelled.{Labelled}
-use Rattle.cilk_labelled.specs.Items.{head_of}
-use Rattle.cilk_model.specs.Values.{Values, Cell}
-use Rattle.cilk_model.specs.Path.{Path, same_path, parent_of, is_below}
-use Rattle.cilk_model.specs.Instance.{Activation, Delivery, Instance, entered}
-use Rattle.cilk_model.specs.State.{Entry, Instances, State, instance_at, changed, without, is_empty}
-use Rattle.cilk_model.specs.Change.{gone_on, put, on_lowest, above, resumed_to, resumed, head_waits, at_boundary, deliveries, with_deliveries, after_return_to, after_marks}
-use Rattle.cilk_model.specs.Pick.{Step, step_of_live, step_of_instance}
-use Rattle.cilk_model.specs.Choice.{Choice}
-use Rattle.cilk_model.specs.Run.{Standing, Position, waits_now, step_refusal, act_refusal, refusal_of, next_of, next_by, next_by_hand, event_of, event_by, event_by_hand, event_of_step, state_after}
-use Rattle.cilk_placed.proofs.Entries.{same-is, at-changed_same, at-changed_other, at-without_other, either_of, at-push}
-use Rattle.cilk_placed.proofs.Possible.{possible}
+use Rattle.cilk_allowed.specs.labelled.Labelled.{Labelled}
+use Rattle.cilk_allowed.specs.labelled.Items.{head_of}
+use Rattle.cilk_allowed.specs.model.Values.{Values, Cell}
+use Rattle.cilk_allowed.specs.model.Path.{Path, same_path, parent_of, is_below}
+use Rattle.cilk_allowed.specs.model.Instance.{Activation, Delivery, Instance, entered}
+use Rattle.cilk_allowed.specs.model.State.{Entry, Instances, State, instance_at, changed, without, is_empty}
+use Rattle.cilk_allowed.specs.model.Change.{gone_on, put, on_lowest, above, resumed_to, resumed, head_waits, at_boundary, deliveries, with_deliveries, after_return_to, after_marks}
+use Rattle.cilk_allowed.specs.model.Pick.{Step, step_of_live, step_of_instance}
+use Rattle.cilk_allowed.specs.model.Choice.{Choice}
+use Rattle.cilk_allowed.specs.model.Run.{Standing, Position, waits_now, step_refusal, act_refusal, refusal_of, next_of, next_by, next_by_hand, event_of, event_by, event_by_hand, event_of_step, state_after}
+use Rattle.cilk_fates.proofs.placed_laws.Entries.{same-is, at-changed_same, at-changed_other, at-without_other, either_of, at-push}
+use Rattle.cilk_fates.proofs.placed_laws.Possible.{possible}
 use Rattle.cilk_allowed.proofs.Lookups.{marked, at-marked_below, at-marked_beside}
 use Rattle.cilk_allowed.proofs.Paths.{not_below}
 use Rattle.cilk_children.specs.Calls.{owner_of_body, is_inlet}

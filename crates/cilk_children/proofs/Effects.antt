@@ -1,13 +1,13 @@
 -- What an effect tells of its action.
 use Rattle.std.proofs.Common.{◌≡◌, ℕ, List, Option, Some, Result, Ok, Err, refl}
-use Rattle.cilk_values.specs.declared.trap.Trap.{Trap}
-use Rattle.cilk_values.specs.Term.{Term}
-use Rattle.cilk_values.specs.Value.{Environment, value_of, values_of, ◌>>=◌}
-use Rattle.cilk_labelled.specs.Labelled.{Declaration, Taker, nothing, into, through, Action, assign, call, spawn, print, locking, null, break_off, go_round, tests, sync, abort, return_with, return_nothing, close}
-use Rattle.cilk_model.specs.Values.{combined, reached_at, reached_if}
-use Rattle.cilk_model.specs.Effect.{Effect, enters, gives, starts, marks, start_of, effect_of}
-use Rattle.cilk_model.specs.Instance as instance
-use Rattle.cilk_model.specs.Instance.{Receiver, place}
+use Rattle.cilk_allowed.specs.values.declared.trap.Trap.{Trap}
+use Rattle.cilk_allowed.specs.values.Term.{Term}
+use Rattle.cilk_allowed.specs.values.Value.{Environment, value_of, values_of, ◌>>=◌}
+use Rattle.cilk_allowed.specs.labelled.Labelled.{Declaration, Taker, nothing, into, through, Action, assign, call, spawn, print, locking, null, break_off, go_round, tests, sync, abort, return_with, return_nothing, close}
+use Rattle.cilk_allowed.specs.model.Values.{combined, reached_at, reached_if}
+use Rattle.cilk_allowed.specs.model.Effect.{Effect, enters, gives, starts, marks, start_of, effect_of}
+use Rattle.cilk_allowed.specs.model.Instance as instance
+use Rattle.cilk_allowed.specs.model.Instance.{Receiver, place}
 
 -- what an action may come to, beside a trap
 pub data Sort : Type 0 where

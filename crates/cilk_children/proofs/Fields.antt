@@ -1,16 +1,16 @@
 -- What stays of each live instance over a step: what takes its value, its mark.
 use Rattle.std.proofs.Common.{◌≡◌, ℤ, ◌+◌, Bool, true, false, not, ◌&&◌, List, [], ◌∷◌, ◌++◌, Option, Some, None, is_some, refl, sym, ap, ◌∙◌, if◌then◌else◌, ◌⊎◌, inl, inr}
 use Rattle.std.specs.Prelude.{option_map}
-use Rattle.cilk_labelled.specs.Labelled.{Labelled, Numbered}
-use Rattle.cilk_model.specs.Values.{Cell}
-use Rattle.cilk_model.specs.Path.{Path, same_path, parent_of}
-use Rattle.cilk_model.specs.Instance.{Activation, Delivery, Instance, entered}
-use Rattle.cilk_model.specs.State.{Entry, Instances, State, instance_at, is_live, changed, without}
-use Rattle.cilk_model.specs.Change.{gone_on, put, above, resumed_to, resumed, with_deliveries, deliveries, after_return_to, after_marks}
-use Rattle.cilk_model.specs.Event.{acted}
-use Rattle.cilk_model.specs.Pick.{Step}
-use Rattle.cilk_model.specs.Run.{state_after, event_of_step}
-use Rattle.cilk_placed.proofs.Entries.{same-is, at-changed_same, at-changed_other, at-without_other, live-changed, live-without, either_of, at-push}
+use Rattle.cilk_allowed.specs.labelled.Labelled.{Labelled, Numbered}
+use Rattle.cilk_allowed.specs.model.Values.{Cell}
+use Rattle.cilk_allowed.specs.model.Path.{Path, same_path, parent_of}
+use Rattle.cilk_allowed.specs.model.Instance.{Activation, Delivery, Instance, entered}
+use Rattle.cilk_allowed.specs.model.State.{Entry, Instances, State, instance_at, is_live, changed, without}
+use Rattle.cilk_allowed.specs.model.Change.{gone_on, put, above, resumed_to, resumed, with_deliveries, deliveries, after_return_to, after_marks}
+use Rattle.cilk_allowed.specs.model.Event.{acted}
+use Rattle.cilk_allowed.specs.model.Pick.{Step}
+use Rattle.cilk_allowed.specs.model.Run.{state_after, event_of_step}
+use Rattle.cilk_fates.proofs.placed_laws.Entries.{same-is, at-changed_same, at-changed_other, at-without_other, live-changed, live-without, either_of, at-push}
 use Rattle.cilk_children.proofs.Effects.{marking, sort_of}
 use Rattle.cilk_children.proofs.Ways.{Acting, Way, resting, parking, ending, stopping, going, writing, entering, quitting, answering, returning, starting, printing, turning, aborts, placing, letting_in}
 

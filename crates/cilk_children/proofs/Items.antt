@@ -3,10 +3,10 @@ use Rattle.std.proofs.Common.{◌≡◌, ℕ, zero, suc, Bool, true, false, ◌&
 use Rattle.std.specs.Prelude.{slice_index_or}
 use Rattle.std.specs.List.{list_all}
 use Rattle.std.proofs.lemmas.Bool.{and_parts}
-use Rattle.cilk_labelled.specs.Labelled.{Labelled, Body, Action, assign, call, spawn, print, locking, null, break_off, go_round, tests, sync, abort, return_with, return_nothing, close, Numbered, Stmt, action, choose, while, repeat, loop, nested, Stmts, none, also}
-use Rattle.cilk_labelled.specs.Items.{Round, Item, piece, at_test, at_advance, Items, pieces, plain_round, open_first, open_stmt, open_stmts, opened, head_of_stmt, head_of, past_mark, from_mark, after_action, next_mark, next, start_items}
-use Rattle.cilk_labelled.specs.Bodies.{is_procedure}
-use Rattle.cilk_model.specs.Instance.{no_body, body_at}
+use Rattle.cilk_allowed.specs.labelled.Labelled.{Labelled, Body, Action, assign, call, spawn, print, locking, null, break_off, go_round, tests, sync, abort, return_with, return_nothing, close, Numbered, Stmt, action, choose, while, repeat, loop, nested, Stmts, none, also}
+use Rattle.cilk_allowed.specs.labelled.Items.{Round, Item, piece, at_test, at_advance, Items, pieces, plain_round, open_first, open_stmt, open_stmts, opened, head_of_stmt, head_of, past_mark, from_mark, after_action, next_mark, next, start_items}
+use Rattle.cilk_allowed.specs.labelled.Bodies.{is_procedure}
+use Rattle.cilk_allowed.specs.model.Instance.{no_body, body_at}
 use Rattle.cilk_children.specs.Calls.{action_suits, part_suits, taker_suits, stmt_suits, stmts_suit, body_suits, calls_suit}
 
 abbrev HoldsPart : (Action → Bool) → Option Numbered → Type 0

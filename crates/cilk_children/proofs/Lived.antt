@@ -1,11 +1,11 @@
 -- Each path that was made lived after some first of the choices.
 use Rattle.std.proofs.Common.{◌≡◌, ℕ, suc, Bool, true, false, ◌||◌, List, [], ◌∷◌, ◌++◌, length, Some, None, refl, sym, ap, ◌∙◌}
-use Rattle.cilk_labelled.specs.Labelled.{Labelled}
-use Rattle.cilk_model.specs.Path.{Path}
-use Rattle.cilk_model.specs.Event.{Event, acted, spawned, delivered, returned, ended, trapped, moved}
-use Rattle.cilk_model.specs.Fate.{Fate, lives, fate_by, is_birth, was_made}
-use Rattle.cilk_model.specs.Choice.{Choice}
-use Rattle.cilk_model.specs.Run.{Position, refusal_of, event_of, opening, after, position_after}
+use Rattle.cilk_allowed.specs.labelled.Labelled.{Labelled}
+use Rattle.cilk_allowed.specs.model.Path.{Path}
+use Rattle.cilk_allowed.specs.model.Event.{Event, acted, spawned, delivered, returned, ended, trapped, moved}
+use Rattle.cilk_allowed.specs.model.Fate.{Fate, lives, fate_by, is_birth, was_made}
+use Rattle.cilk_allowed.specs.model.Choice.{Choice}
+use Rattle.cilk_allowed.specs.model.Run.{Position, refusal_of, event_of, opening, after, position_after}
 use Rattle.cilk_fates.proofs.Events.{told, told-push, made-push}
 use Rattle.cilk_fates.proofs.Fates.{told_at}
 use Rattle.cilk_children.specs.Moments.{Lived}

@@ -1,17 +1,17 @@
 -- What an `abort` does, and what it leaves.
 use Rattle.std.proofs.Common.{◌≡◌, ℕ, ℤ, true, false, List, Option, Some, None, ◌⊎◌, inl, inr, is_some, refl, sym, ap, subst, ◌∙◌}
 use Rattle.std.specs.Prelude.{option_map}
-use Rattle.cilk_labelled.specs.Labelled.{Labelled, Numbered, Action, abort}
-use Rattle.cilk_labelled.specs.Items.{head_of}
-use Rattle.cilk_model.specs.Path.{Path, is_below}
-use Rattle.cilk_model.specs.Instance.{Instance}
-use Rattle.cilk_model.specs.State.{Instances, State, instance_at, is_live, changed, is_empty}
-use Rattle.cilk_model.specs.Change.{gone_on, after_marks, after_return}
-use Rattle.cilk_model.specs.Event.{acted, returned, moved}
-use Rattle.cilk_model.specs.Pick.{Step, step_of_instance}
-use Rattle.cilk_model.specs.Choice.{Choice}
-use Rattle.cilk_model.specs.Run.{Standing, Position, next_of, event_of_step, state_after}
-use Rattle.cilk_placed.proofs.Entries.{live-changed}
+use Rattle.cilk_allowed.specs.labelled.Labelled.{Labelled, Numbered, Action, abort}
+use Rattle.cilk_allowed.specs.labelled.Items.{head_of}
+use Rattle.cilk_allowed.specs.model.Path.{Path, is_below}
+use Rattle.cilk_allowed.specs.model.Instance.{Instance}
+use Rattle.cilk_allowed.specs.model.State.{Instances, State, instance_at, is_live, changed, is_empty}
+use Rattle.cilk_allowed.specs.model.Change.{gone_on, after_marks, after_return}
+use Rattle.cilk_allowed.specs.model.Event.{acted, returned, moved}
+use Rattle.cilk_allowed.specs.model.Pick.{Step, step_of_instance}
+use Rattle.cilk_allowed.specs.model.Choice.{Choice}
+use Rattle.cilk_allowed.specs.model.Run.{Standing, Position, next_of, event_of_step, state_after}
+use Rattle.cilk_fates.proofs.placed_laws.Entries.{live-changed}
 use Rattle.cilk_allowed.proofs.Lookups.{marked, at-marked_below, at-marked_beside}
 use Rattle.cilk_fates.proofs.Waits.{still-replaced, still-marked}
 use Rattle.cilk_children.specs.Moments.{mark_at, deliveries_at, Acts}

@@ -1,18 +1,18 @@
 -- No path is spawned twice, and no value is taken twice.
 use Rattle.std.proofs.Common.{◌≡◌, ℕ, suc, ◌+◌, ◌≤◌, Bool, true, false, ◌||◌, cond, List, [], ◌∷◌, ◌++◌, length, Some, ◌⊎◌, inl, inr, is_some, refl, sym, ap, subst, ◌∙◌, if◌then◌else◌, arith, count_by}
 use Rattle.std.proofs.lemmas.List.Sums.{sum_by_push}
-use Rattle.cilk_labelled.specs.Labelled.{Labelled}
-use Rattle.cilk_model.specs.Path.{Path, same_path}
-use Rattle.cilk_model.specs.State.{State, is_live}
-use Rattle.cilk_model.specs.Event.{Event, acted, spawned, delivered, returned, ended, trapped, moved}
-use Rattle.cilk_model.specs.Fate.{Fate, lives, has_returned, was_delivered, was_aborted, fate_by, is_birth, was_made}
-use Rattle.cilk_model.specs.Pick.{Step}
-use Rattle.cilk_model.specs.Choice.{Choice}
-use Rattle.cilk_model.specs.Run.{Position, event_of, event_of_step, after}
-use Rattle.cilk_placed.proofs.Entries.{same-is, same-self}
-use Rattle.cilk_placed.proofs.Rows.{step_row}
-use Rattle.cilk_placed.proofs.Live.{Lives, row_lives}
-use Rattle.cilk_placed.proofs.Family.{not_root}
+use Rattle.cilk_allowed.specs.labelled.Labelled.{Labelled}
+use Rattle.cilk_allowed.specs.model.Path.{Path, same_path}
+use Rattle.cilk_allowed.specs.model.State.{State, is_live}
+use Rattle.cilk_allowed.specs.model.Event.{Event, acted, spawned, delivered, returned, ended, trapped, moved}
+use Rattle.cilk_allowed.specs.model.Fate.{Fate, lives, has_returned, was_delivered, was_aborted, fate_by, is_birth, was_made}
+use Rattle.cilk_allowed.specs.model.Pick.{Step}
+use Rattle.cilk_allowed.specs.model.Choice.{Choice}
+use Rattle.cilk_allowed.specs.model.Run.{Position, event_of, event_of_step, after}
+use Rattle.cilk_fates.proofs.placed_laws.Entries.{same-is, same-self}
+use Rattle.cilk_fates.proofs.placed_laws.Rows.{step_row}
+use Rattle.cilk_fates.proofs.placed_laws.Live.{Lives, row_lives}
+use Rattle.cilk_fates.proofs.placed_laws.Family.{not_root}
 use Rattle.cilk_fates.proofs.Events.{told, told-push, made-push, IsPlain}
 use Rattle.cilk_fates.proofs.Tales.{Tale, rests, parks_it, acts, takes, starts, brings, leaves, row_tale}
 use Rattle.cilk_fates.proofs.Told.{Told, delivered_turns, was_returned}

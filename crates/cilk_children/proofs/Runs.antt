@@ -1,15 +1,15 @@
 -- What holds at one position, and is kept by each choice that is possible, holds at each later one.
 use Rattle.std.proofs.Common.{◌≡◌, ℕ, Bool, true, false, List, [], ◌∷◌, ◌++◌, Option, Some, None, ◌⊎◌, inl, inr, is_none, refl, sym, ap, subst, ◌∙◌, if◌then◌else◌}
-use Rattle.cilk_labelled.specs.Labelled.{Labelled}
-use Rattle.cilk_model.specs.Path.{Path}
-use Rattle.cilk_model.specs.Instance.{Instance}
-use Rattle.cilk_model.specs.State.{instance_at}
-use Rattle.cilk_model.specs.Event.{Event, moved}
-use Rattle.cilk_model.specs.Pick.{step_of_live, step_of_instance}
-use Rattle.cilk_model.specs.Scheduler.{hand_of}
-use Rattle.cilk_model.specs.Choice.{Act, step, pop, steal, Choice, Refusal}
-use Rattle.cilk_model.specs.Run.{Standing, Position, refusal_of, next_of, next_by, next_by_hand, event_of, event_by, event_by_hand, event_of_step, state_after, after_from, opening, is_crew, after_main, after, position_after, one_more}
-use Rattle.cilk_placed.proofs.Runs.{after-push, Went, went}
+use Rattle.cilk_allowed.specs.labelled.Labelled.{Labelled}
+use Rattle.cilk_allowed.specs.model.Path.{Path}
+use Rattle.cilk_allowed.specs.model.Instance.{Instance}
+use Rattle.cilk_allowed.specs.model.State.{instance_at}
+use Rattle.cilk_allowed.specs.model.Event.{Event, moved}
+use Rattle.cilk_allowed.specs.model.Pick.{step_of_live, step_of_instance}
+use Rattle.cilk_allowed.specs.model.Scheduler.{hand_of}
+use Rattle.cilk_allowed.specs.model.Choice.{Act, step, pop, steal, Choice, Refusal}
+use Rattle.cilk_allowed.specs.model.Run.{Standing, Position, refusal_of, next_of, next_by, next_by_hand, event_of, event_by, event_by_hand, event_of_step, state_after, after_from, opening, is_crew, after_main, after, position_after, one_more}
+use Rattle.cilk_fates.proofs.placed_laws.Runs.{after-push, Went, went}
 use Rattle.cilk_children.specs.Laws.{Leads}
 
 pub append-none : {A : Type 0} (xs : List A) → xs ++ [] ≡ xs

@@ -1,17 +1,17 @@
 -- As an instance passes a `sync` or returns, its children are settled.
 use Rattle.std.proofs.Common.{◌≡◌, ℕ, Bool, true, false, ◌&&◌, ◌||◌, List, [], Option, Some, None, ◌⊎◌, inl, inr, is_some, refl, sym, ap, subst, ◌∙◌}
 use Rattle.std.specs.Prelude.{option_map}
-use Rattle.cilk_labelled.specs.Labelled.{Labelled, Numbered, Action, call, spawn, sync, abort, return_with, return_nothing, close}
-use Rattle.cilk_model.specs.Path.{Path, child_path}
-use Rattle.cilk_model.specs.Instance.{Receiver, Instance}
-use Rattle.cilk_model.specs.State.{Instances, State, instance_at, is_live, has_live_child, is_empty}
-use Rattle.cilk_model.specs.Change.{leaves, is_sync, waits_here}
-use Rattle.cilk_model.specs.Event.{Event, returned, moved}
-use Rattle.cilk_model.specs.Fate.{Fate, lives, has_returned, was_delivered, was_aborted}
-use Rattle.cilk_model.specs.Pick.{step_of_instance}
-use Rattle.cilk_model.specs.Choice.{Choice}
-use Rattle.cilk_model.specs.Run.{Standing, event_of, after}
-use Rattle.cilk_placed.proofs.Family.{parent-child, is-child, child_seen}
+use Rattle.cilk_allowed.specs.labelled.Labelled.{Labelled, Numbered, Action, call, spawn, sync, abort, return_with, return_nothing, close}
+use Rattle.cilk_allowed.specs.model.Path.{Path, child_path}
+use Rattle.cilk_allowed.specs.model.Instance.{Receiver, Instance}
+use Rattle.cilk_allowed.specs.model.State.{Instances, State, instance_at, is_live, has_live_child, is_empty}
+use Rattle.cilk_allowed.specs.model.Change.{leaves, is_sync, waits_here}
+use Rattle.cilk_allowed.specs.model.Event.{Event, returned, moved}
+use Rattle.cilk_allowed.specs.model.Fate.{Fate, lives, has_returned, was_delivered, was_aborted}
+use Rattle.cilk_allowed.specs.model.Pick.{step_of_instance}
+use Rattle.cilk_allowed.specs.model.Choice.{Choice}
+use Rattle.cilk_allowed.specs.model.Run.{Standing, event_of, after}
+use Rattle.cilk_fates.proofs.placed_laws.Family.{parent-child, is-child, child_seen}
 use Rattle.cilk_fates.proofs.Events.{told, fate-made}
 use Rattle.cilk_fates.proofs.Told.{Told}
 use Rattle.cilk_fates.proofs.Fates.{told_at}

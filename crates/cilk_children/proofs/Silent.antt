@@ -3,19 +3,19 @@ use Rattle.std.proofs.Common.{◌≡◌, ◌≢◌, ℕ, suc, ◌+◌, Bool, tru
 use Rattle.std.specs.Prelude.{option_map}
 use Rattle.std.specs.List.{list_all}
 use Rattle.std.proofs.lemmas.Bool.{and_parts}
-use Rattle.cilk_labelled.specs.Labelled.{Labelled, Action, call, spawn, abort, return_with, return_nothing, close}
-use Rattle.cilk_model.specs.Path.{Path, same_path, child_path, is_below}
-use Rattle.cilk_model.specs.Instance.{Instance, started}
-use Rattle.cilk_model.specs.State.{Instances, State, instance_at, is_live, changed}
-use Rattle.cilk_model.specs.Change.{gone_on, after_marks, after_start}
-use Rattle.cilk_model.specs.Event.{Event, acted, spawned, delivered, returned, ended, trapped, moved}
-use Rattle.cilk_model.specs.Fate.{Fate, lives, has_returned, was_aborted, fate_by, is_birth, was_made}
-use Rattle.cilk_model.specs.Pick.{Step, waits, parks, goes_on, ends, spawns, step_of_instance}
-use Rattle.cilk_model.specs.Choice.{Choice}
-use Rattle.cilk_model.specs.Run.{Standing, Position, refusal_of, next_of, event_of, event_of_step, state_after, after, position_after}
-use Rattle.cilk_placed.proofs.Entries.{same-is, same-self, live-changed, either_of, at-push}
-use Rattle.cilk_placed.proofs.Rows.{step_row}
-use Rattle.cilk_placed.proofs.Live.{Lives, row_lives}
+use Rattle.cilk_allowed.specs.labelled.Labelled.{Labelled, Action, call, spawn, abort, return_with, return_nothing, close}
+use Rattle.cilk_allowed.specs.model.Path.{Path, same_path, child_path, is_below}
+use Rattle.cilk_allowed.specs.model.Instance.{Instance, started}
+use Rattle.cilk_allowed.specs.model.State.{Instances, State, instance_at, is_live, changed}
+use Rattle.cilk_allowed.specs.model.Change.{gone_on, after_marks, after_start}
+use Rattle.cilk_allowed.specs.model.Event.{Event, acted, spawned, delivered, returned, ended, trapped, moved}
+use Rattle.cilk_allowed.specs.model.Fate.{Fate, lives, has_returned, was_aborted, fate_by, is_birth, was_made}
+use Rattle.cilk_allowed.specs.model.Pick.{Step, waits, parks, goes_on, ends, spawns, step_of_instance}
+use Rattle.cilk_allowed.specs.model.Choice.{Choice}
+use Rattle.cilk_allowed.specs.model.Run.{Standing, Position, refusal_of, next_of, event_of, event_of_step, state_after, after, position_after}
+use Rattle.cilk_fates.proofs.placed_laws.Entries.{same-is, same-self, live-changed, either_of, at-push}
+use Rattle.cilk_fates.proofs.placed_laws.Rows.{step_row}
+use Rattle.cilk_fates.proofs.placed_laws.Live.{Lives, row_lives}
 use Rattle.cilk_fates.proofs.Events.{told, told-push, made-push}
 use Rattle.cilk_fates.proofs.Told.{Told}
 use Rattle.cilk_fates.proofs.Fates.{told_at}

@@ -2,17 +2,17 @@
 use Rattle.std.proofs.Common.{◌≡◌, ℕ, ℤ, true, ◌||◌, List, [], ◌∷◌, Some, None, ◌⊎◌, inl, inr, sym, ap, subst, ◌∙◌, if◌then◌else◌}
 use Rattle.std.specs.Prelude.{option_map}
 use Rattle.std.proofs.lemmas.Bool.{and_parts}
-use Rattle.cilk_labelled.specs.Labelled.{Labelled}
-use Rattle.cilk_labelled.specs.Items.{head_of}
-use Rattle.cilk_model.specs.Path.{Path, parent_of}
-use Rattle.cilk_model.specs.Instance.{through, Delivery, Instance, entered}
-use Rattle.cilk_model.specs.State.{State, instance_at, is_empty}
-use Rattle.cilk_model.specs.Change.{above, head_waits, at_boundary, after_inlet}
-use Rattle.cilk_model.specs.Event.{delivered, moved}
-use Rattle.cilk_model.specs.Pick.{step_by_receiver, step_at_boundary, step_by_head, step_of_aborted, step_of_instance}
-use Rattle.cilk_model.specs.Choice.{Choice}
-use Rattle.cilk_model.specs.Run.{Position, next_of, event_of, state_after, after}
-use Rattle.cilk_placed.proofs.Entries.{at-changed_same}
+use Rattle.cilk_allowed.specs.labelled.Labelled.{Labelled}
+use Rattle.cilk_allowed.specs.labelled.Items.{head_of}
+use Rattle.cilk_allowed.specs.model.Path.{Path, parent_of}
+use Rattle.cilk_allowed.specs.model.Instance.{through, Delivery, Instance, entered}
+use Rattle.cilk_allowed.specs.model.State.{State, instance_at, is_empty}
+use Rattle.cilk_allowed.specs.model.Change.{above, head_waits, at_boundary, after_inlet}
+use Rattle.cilk_allowed.specs.model.Event.{delivered, moved}
+use Rattle.cilk_allowed.specs.model.Pick.{step_by_receiver, step_at_boundary, step_by_head, step_of_aborted, step_of_instance}
+use Rattle.cilk_allowed.specs.model.Choice.{Choice}
+use Rattle.cilk_allowed.specs.model.Run.{Position, next_of, event_of, state_after, after}
+use Rattle.cilk_fates.proofs.placed_laws.Entries.{at-changed_same}
 use Rattle.cilk_fates.proofs.Fates.{told_at}
 use Rattle.cilk_fates.proofs.Sound.{Sound}
 use Rattle.cilk_children.specs.Calls.{owner_of_body, is_inlet, action_suits, calls_suit}

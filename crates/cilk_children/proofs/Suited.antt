@@ -1,21 +1,21 @@
 -- Where calls and spawns suit, what runs above a procedure's own activation never spawns, and what takes a child's value is an inlet.
 use Rattle.std.proofs.Common.{◌≡◌, ℕ, ℤ, ◌+◌, Bool, true, false, not, ◌&&◌, List, [], ◌∷◌, ◌++◌, Option, Some, None, ◌⊎◌, inl, inr, is_some, refl, sym, ap, subst, ◌∙◌, if◌then◌else◌}
 use Rattle.std.specs.Prelude.{option_map}
-use Rattle.cilk_scopes.specs.declared.owner.Owner.{Owner}
-use Rattle.cilk_scopes.specs.declared.owner.Owner.TheVariants.{Function, Procedure, Inlet}
-use Rattle.cilk_labelled.specs.Labelled as labelled
-use Rattle.cilk_labelled.specs.Labelled.{Labelled, Numbered, Taker, nothing, into, Action, call, spawn, abort, return_with, return_nothing, close}
-use Rattle.cilk_labelled.specs.Items.{head_of, next}
-use Rattle.cilk_labelled.specs.Bodies.{is_procedure}
-use Rattle.cilk_model.specs.Values.{Values, Cell, Reached}
-use Rattle.cilk_model.specs.Path.{Path, same_path, child_path, parent_of, is_below}
-use Rattle.cilk_model.specs.Instance.{Activation, Receiver, place, through, Delivery, Instance, entered, started}
-use Rattle.cilk_model.specs.State.{Entry, Instances, State, instance_at, is_live, changed, without, is_empty}
-use Rattle.cilk_model.specs.Change.{is_function, gone_on, put, on_lowest, above, resumed_to, resumed, deliveries, after_return_to, after_marks}
-use Rattle.cilk_model.specs.Pick.{Step}
-use Rattle.cilk_model.specs.Choice.{Choice}
-use Rattle.cilk_model.specs.Run.{Standing, Position, next_of, state_after, after}
-use Rattle.cilk_placed.proofs.Entries.{same-is, at-changed_same, at-changed_other, at-without_other, live-without, either_of, at-push}
+use Rattle.cilk_allowed.specs.scopes.declared.owner.Owner.{Owner}
+use Rattle.cilk_allowed.specs.scopes.declared.owner.Owner.TheVariants.{Function, Procedure, Inlet}
+use Rattle.cilk_allowed.specs.labelled.Labelled as labelled
+use Rattle.cilk_allowed.specs.labelled.Labelled.{Labelled, Numbered, Taker, nothing, into, Action, call, spawn, abort, return_with, return_nothing, close}
+use Rattle.cilk_allowed.specs.labelled.Items.{head_of, next}
+use Rattle.cilk_allowed.specs.labelled.Bodies.{is_procedure}
+use Rattle.cilk_allowed.specs.model.Values.{Values, Cell, Reached}
+use Rattle.cilk_allowed.specs.model.Path.{Path, same_path, child_path, parent_of, is_below}
+use Rattle.cilk_allowed.specs.model.Instance.{Activation, Receiver, place, through, Delivery, Instance, entered, started}
+use Rattle.cilk_allowed.specs.model.State.{Entry, Instances, State, instance_at, is_live, changed, without, is_empty}
+use Rattle.cilk_allowed.specs.model.Change.{is_function, gone_on, put, on_lowest, above, resumed_to, resumed, deliveries, after_return_to, after_marks}
+use Rattle.cilk_allowed.specs.model.Pick.{Step}
+use Rattle.cilk_allowed.specs.model.Choice.{Choice}
+use Rattle.cilk_allowed.specs.model.Run.{Standing, Position, next_of, state_after, after}
+use Rattle.cilk_fates.proofs.placed_laws.Entries.{same-is, at-changed_same, at-changed_other, at-without_other, live-without, either_of, at-push}
 use Rattle.cilk_allowed.proofs.Lookups.{marked, at-marked_below, at-marked_beside}
 use Rattle.cilk_children.specs.Calls.{owner_of_body, is_inlet, taker_suits, action_suits, calls_suit}
 use Rattle.cilk_children.proofs.Runs.{Stepped, Rested, what_happens, each_position}

@@ -1,17 +1,17 @@
 -- A delivery is taken at a boundary, where it waits first.
 use Rattle.std.proofs.Common.{◌≡◌, ℕ, Bool, true, false, ◌&&◌, ◌||◌, List, [], ◌∷◌, Option, Some, None, ◌⊎◌, inl, inr, refl, sym, ap, subst, ◌∙◌}
 use Rattle.std.specs.Prelude.{option_map}
-use Rattle.cilk_labelled.specs.Labelled.{Labelled, Numbered, Action, sync, return_with, return_nothing, close}
-use Rattle.cilk_labelled.specs.Items.{head_of}
-use Rattle.cilk_model.specs.Path.{Path, parent_of}
-use Rattle.cilk_model.specs.Instance.{Delivery, Instance}
-use Rattle.cilk_model.specs.State.{State, is_empty}
-use Rattle.cilk_model.specs.Change.{leaves, is_sync, head_waits, at_boundary}
-use Rattle.cilk_model.specs.Event.{moved, delivered}
-use Rattle.cilk_model.specs.Written.{Leaves, by_value, by_no_value, by_brace, Waits, for_sync, to_leave, AtBoundary, after_spawn, before_wait}
-use Rattle.cilk_model.specs.Pick.{Step, step_of_instance}
-use Rattle.cilk_model.specs.Choice.{Choice}
-use Rattle.cilk_model.specs.Run.{Position, event_of, event_of_step, after}
+use Rattle.cilk_allowed.specs.labelled.Labelled.{Labelled, Numbered, Action, sync, return_with, return_nothing, close}
+use Rattle.cilk_allowed.specs.labelled.Items.{head_of}
+use Rattle.cilk_allowed.specs.model.Path.{Path, parent_of}
+use Rattle.cilk_allowed.specs.model.Instance.{Delivery, Instance}
+use Rattle.cilk_allowed.specs.model.State.{State, is_empty}
+use Rattle.cilk_allowed.specs.model.Change.{leaves, is_sync, head_waits, at_boundary}
+use Rattle.cilk_allowed.specs.model.Event.{moved, delivered}
+use Rattle.cilk_allowed.specs.model.Written.{Leaves, by_value, by_no_value, by_brace, Waits, for_sync, to_leave, AtBoundary, after_spawn, before_wait}
+use Rattle.cilk_allowed.specs.model.Pick.{Step, step_of_instance}
+use Rattle.cilk_allowed.specs.model.Choice.{Choice}
+use Rattle.cilk_allowed.specs.model.Run.{Position, event_of, event_of_step, after}
 use Rattle.cilk_fates.proofs.Fates.{told_at}
 use Rattle.cilk_fates.proofs.Sound.{Sound}
 use Rattle.cilk_children.specs.Laws.{IsTaken, TakenAtBoundaries}

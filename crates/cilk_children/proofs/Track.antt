@@ -3,19 +3,19 @@ use Rattle.std.proofs.Common.{◌≡◌, ℕ, suc, ℤ, Bool, true, false, not, 
 use Rattle.std.specs.Prelude.{option_map}
 use Rattle.std.specs.List.{list_any}
 use Rattle.std.proofs.lemmas.List.Folds.{list_any-append}
-use Rattle.cilk_labelled.specs.Labelled.{Labelled}
-use Rattle.cilk_model.specs.Path.{Path, same_path, parent_of, is_below}
-use Rattle.cilk_model.specs.Instance.{Receiver, Delivery, Instance}
-use Rattle.cilk_model.specs.State.{Instances, State, instance_at, is_live, changed, without}
-use Rattle.cilk_model.specs.Change.{gone_on, deliveries, after_return_to, after_marks}
-use Rattle.cilk_model.specs.Event.{Event, acted, spawned, delivered, returned, ended, trapped, moved}
-use Rattle.cilk_model.specs.Fate.{Fate, lives, has_returned, was_delivered, was_aborted, fate_by, was_made}
-use Rattle.cilk_model.specs.Pick.{Step, ends, step_of_instance}
-use Rattle.cilk_model.specs.Choice.{Choice}
-use Rattle.cilk_model.specs.Run.{Position, refusal_of, next_of, event_of, event_of_step, state_after, after, position_after}
-use Rattle.cilk_placed.proofs.Entries.{same-is, same-self, same-sym}
-use Rattle.cilk_placed.proofs.Rows.{step_row}
-use Rattle.cilk_placed.proofs.Live.{Fewer, Lives, row_lives}
+use Rattle.cilk_allowed.specs.labelled.Labelled.{Labelled}
+use Rattle.cilk_allowed.specs.model.Path.{Path, same_path, parent_of, is_below}
+use Rattle.cilk_allowed.specs.model.Instance.{Receiver, Delivery, Instance}
+use Rattle.cilk_allowed.specs.model.State.{Instances, State, instance_at, is_live, changed, without}
+use Rattle.cilk_allowed.specs.model.Change.{gone_on, deliveries, after_return_to, after_marks}
+use Rattle.cilk_allowed.specs.model.Event.{Event, acted, spawned, delivered, returned, ended, trapped, moved}
+use Rattle.cilk_allowed.specs.model.Fate.{Fate, lives, has_returned, was_delivered, was_aborted, fate_by, was_made}
+use Rattle.cilk_allowed.specs.model.Pick.{Step, ends, step_of_instance}
+use Rattle.cilk_allowed.specs.model.Choice.{Choice}
+use Rattle.cilk_allowed.specs.model.Run.{Position, refusal_of, next_of, event_of, event_of_step, state_after, after, position_after}
+use Rattle.cilk_fates.proofs.placed_laws.Entries.{same-is, same-self, same-sym}
+use Rattle.cilk_fates.proofs.placed_laws.Rows.{step_row}
+use Rattle.cilk_fates.proofs.placed_laws.Live.{Fewer, Lives, row_lives}
 use Rattle.cilk_allowed.proofs.Lookups.{marked, at-marked_below, at-marked_beside}
 use Rattle.cilk_allowed.proofs.Paths.{Origin, origin}
 use Rattle.cilk_fates.proofs.Events.{told, told-push, told-plain}

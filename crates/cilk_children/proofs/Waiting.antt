@@ -1,16 +1,16 @@
 -- One that is marked takes no value of a child.
 use Rattle.std.proofs.Common.{◌≡◌, ℕ, Bool, true, false, not, List, [], ◌∷◌, Some, ◌⊎◌, inl, inr, is_some, refl, sym, ap, subst, ◌∙◌}
 use Rattle.std.specs.Prelude.{option_map}
-use Rattle.cilk_labelled.specs.Labelled.{Labelled}
-use Rattle.cilk_model.specs.Path.{Path, parent_of}
-use Rattle.cilk_model.specs.Instance.{Instance}
-use Rattle.cilk_model.specs.State.{instance_at}
-use Rattle.cilk_model.specs.Event.{Event, acted, spawned, delivered, returned, ended, trapped, moved}
-use Rattle.cilk_model.specs.Fate.{lives, was_aborted}
-use Rattle.cilk_model.specs.Pick.{step_of_instance}
-use Rattle.cilk_model.specs.Choice.{Choice}
-use Rattle.cilk_model.specs.Run.{Position, event_of, after}
-use Rattle.cilk_placed.proofs.Entries.{same-is}
+use Rattle.cilk_allowed.specs.labelled.Labelled.{Labelled}
+use Rattle.cilk_allowed.specs.model.Path.{Path, parent_of}
+use Rattle.cilk_allowed.specs.model.Instance.{Instance}
+use Rattle.cilk_allowed.specs.model.State.{instance_at}
+use Rattle.cilk_allowed.specs.model.Event.{Event, acted, spawned, delivered, returned, ended, trapped, moved}
+use Rattle.cilk_allowed.specs.model.Fate.{lives, was_aborted}
+use Rattle.cilk_allowed.specs.model.Pick.{step_of_instance}
+use Rattle.cilk_allowed.specs.model.Choice.{Choice}
+use Rattle.cilk_allowed.specs.model.Run.{Position, event_of, after}
+use Rattle.cilk_fates.proofs.placed_laws.Entries.{same-is}
 use Rattle.cilk_fates.proofs.Fates.{told_at}
 use Rattle.cilk_fates.proofs.Sound.{Sound}
 use Rattle.cilk_children.specs.Moments.{is_delivery}

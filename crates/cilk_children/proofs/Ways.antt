@@ -1,18 +1,18 @@
 -- Each way in which a live instance may take a step, with all that is known there.
 use Rattle.std.proofs.Common.{◌≡◌, ℕ, ℤ, ◌^◌, ◌+◌, ◌-◌, nat_lt, nat_le, Bool, true, false, not, ◌&&◌, ◌||◌, List, [], ◌∷◌, length, Option, Some, None, Result, Ok, Err, ◌⊎◌, inl, inr, refl, sym, ap, ◌∙◌}
 use Rattle.std.proofs.lemmas.Bool.{cond_both, and_parts}
-use Rattle.cilk_values.specs.declared.trap.Trap.{Trap}
-use Rattle.cilk_labelled.specs.Labelled.{Labelled, Numbered}
-use Rattle.cilk_labelled.specs.Items.{head_of}
-use Rattle.cilk_model.specs.Values.{Cell, Reached, environment, read_at, combined}
-use Rattle.cilk_model.specs.Effect.{Effect, writes, answers, enters, gives, starts, writes_out, turns, marks}
-use Rattle.cilk_model.specs.Path.{Path, child_path}
-use Rattle.cilk_model.specs.Instance as instance
-use Rattle.cilk_model.specs.Instance.{Receiver, place, Delivery, Instance}
-use Rattle.cilk_model.specs.State.{Kind, Lock, State, has_live_child, is_synched, store_of, is_empty}
-use Rattle.cilk_model.specs.Change.{Turn, turned, refused, blocked, turn_of, leaves, is_sync, waits_here, head_waits, at_boundary, ends_thread, holds_lock, leaves_function, resumed, after_write, after_going, after_call, after_leaving, after_answer, after_start, after_print, after_lock, after_marks, after_return, after_place, after_inlet, after_abort}
-use Rattle.cilk_model.specs.Event as event
-use Rattle.cilk_model.specs.Pick.{Step, waits, parks, goes_on, ends, spawns, traps, if_room, step_by_combined, step_by_answer, step_by_leaving, step_by_turn, step_by_effect, step_by_head, step_by_place, step_by_receiver, step_at_boundary, step_of_instance}
+use Rattle.cilk_allowed.specs.values.declared.trap.Trap.{Trap}
+use Rattle.cilk_allowed.specs.labelled.Labelled.{Labelled, Numbered}
+use Rattle.cilk_allowed.specs.labelled.Items.{head_of}
+use Rattle.cilk_allowed.specs.model.Values.{Cell, Reached, environment, read_at, combined}
+use Rattle.cilk_allowed.specs.model.Effect.{Effect, writes, answers, enters, gives, starts, writes_out, turns, marks}
+use Rattle.cilk_allowed.specs.model.Path.{Path, child_path}
+use Rattle.cilk_allowed.specs.model.Instance as instance
+use Rattle.cilk_allowed.specs.model.Instance.{Receiver, place, Delivery, Instance}
+use Rattle.cilk_allowed.specs.model.State.{Kind, Lock, State, has_live_child, is_synched, store_of, is_empty}
+use Rattle.cilk_allowed.specs.model.Change.{Turn, turned, refused, blocked, turn_of, leaves, is_sync, waits_here, head_waits, at_boundary, ends_thread, holds_lock, leaves_function, resumed, after_write, after_going, after_call, after_leaving, after_answer, after_start, after_print, after_lock, after_marks, after_return, after_place, after_inlet, after_abort}
+use Rattle.cilk_allowed.specs.model.Event as event
+use Rattle.cilk_allowed.specs.model.Pick.{Step, waits, parks, goes_on, ends, spawns, traps, if_room, step_by_combined, step_by_answer, step_by_leaving, step_by_turn, step_by_effect, step_by_head, step_by_place, step_by_receiver, step_at_boundary, step_of_instance}
 use Rattle.cilk_children.proofs.Effects.{plain, calling, marking, leaving, sort_of, Spawns, Tells, told}
 
 -- an instance that is not marked acts its head; where the head waits for the children, none lives and nothing waits

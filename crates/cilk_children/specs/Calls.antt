@@ -1,12 +1,12 @@
 -- What each body may call and spawn: only a procedure spawns and waits; what is called is a C function, and what takes a child's value an inlet (Cilk 5.4 manual, `cilk`, `inlet`).
 use Rattle.std.specs.Prelude.{ℕ, Bool, true, false, ◌&&◌, Option, Some, None}
 use Rattle.std.specs.List.{list_all}
-use Rattle.cilk_scopes.specs.declared.owner.Owner.{Owner}
-use Rattle.cilk_scopes.specs.declared.owner.Owner.TheVariants.{Function, Procedure, Inlet}
-use Rattle.cilk_labelled.specs.Labelled.{Taker, through, Action, call, spawn, sync, Numbered, Stmt, action, choose, while, repeat, loop, nested, Stmts, none, also, Body, Labelled}
-use Rattle.cilk_labelled.specs.Bodies.{is_procedure}
-use Rattle.cilk_model.specs.Instance.{body_at}
-use Rattle.cilk_model.specs.Change.{is_function}
+use Rattle.cilk_allowed.specs.scopes.declared.owner.Owner.{Owner}
+use Rattle.cilk_allowed.specs.scopes.declared.owner.Owner.TheVariants.{Function, Procedure, Inlet}
+use Rattle.cilk_allowed.specs.labelled.Labelled.{Taker, through, Action, call, spawn, sync, Numbered, Stmt, action, choose, while, repeat, loop, nested, Stmts, none, also, Body, Labelled}
+use Rattle.cilk_allowed.specs.labelled.Bodies.{is_procedure}
+use Rattle.cilk_allowed.specs.model.Instance.{body_at}
+use Rattle.cilk_allowed.specs.model.Change.{is_function}
 
 -- whose body this is, by its place among the bodies
 abbrev pub owner_of_body : Labelled → ℕ → Owner

@@ -1,13 +1,13 @@
 -- While an inlet runs: what its instance does until the inlet is left (Cilk 5.4 manual, `inlet`).
 use Rattle.std.specs.Prelude.{◌≡◌, ◌⊎◌, ℕ, Bool, true, false, List, [], ◌∷◌, Some}
-use Rattle.cilk_labelled.specs.Labelled.{Labelled}
-use Rattle.cilk_model.specs.Path.{Path}
-use Rattle.cilk_model.specs.Instance.{Activation, Instance}
-use Rattle.cilk_model.specs.State.{Kind, Instances, instance_at}
-use Rattle.cilk_model.specs.Event.{Event, acted, ended, trapped, moved}
-use Rattle.cilk_model.specs.Scheduler.{hand_of}
-use Rattle.cilk_model.specs.Choice.{Choice, step}
-use Rattle.cilk_model.specs.Run.{Standing}
+use Rattle.cilk_allowed.specs.labelled.Labelled.{Labelled}
+use Rattle.cilk_allowed.specs.model.Path.{Path}
+use Rattle.cilk_allowed.specs.model.Instance.{Activation, Instance}
+use Rattle.cilk_allowed.specs.model.State.{Kind, Instances, instance_at}
+use Rattle.cilk_allowed.specs.model.Event.{Event, acted, ended, trapped, moved}
+use Rattle.cilk_allowed.specs.model.Scheduler.{hand_of}
+use Rattle.cilk_allowed.specs.model.Choice.{Choice, step}
+use Rattle.cilk_allowed.specs.model.Run.{Standing}
 use Rattle.cilk_children.specs.Calls.{owner_of_body, is_inlet}
 
 -- whether the activation right above the lowest, which is the procedure's, is an inlet's: above it are C functions that it called

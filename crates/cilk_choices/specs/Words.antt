@@ -1,9 +1,9 @@
 -- What the choices, refusals, events and ends of the code mean.
 use Rattle.std.specs.Prelude.{Option, Some, None}
-use Rattle.cilk_model.specs.State as state
-use Rattle.cilk_model.specs.Choice as model
-use Rattle.cilk_model.specs.Event as event
-use Rattle.cilk_model.specs.End as end
+use Rattle.cilk_spawn.specs.model.State as state
+use Rattle.cilk_spawn.specs.model.Choice as model
+use Rattle.cilk_spawn.specs.model.Event as event
+use Rattle.cilk_spawn.specs.model.End as end
 use Rattle.cilk_choices.specs.declared.act.Act.{Act}
 use Rattle.cilk_choices.specs.declared.act.Act.TheVariants.{Step, Pop, Steal}
 use Rattle.cilk_choices.specs.declared.choice.Choice.{Choice}

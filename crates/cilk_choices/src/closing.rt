@@ -1,16 +1,13 @@
 //! The closing text of a run.
 
 ghost use Rattle.std.specs.Prelude.{◌≡◌, ◌++◌, IfOk, OnOk, codes, decimal, string_bytes};
-ghost use Rattle.cilk_model.specs.Path.{numbers_text, path_text};
-ghost use Rattle.cilk_model.specs.End.{kind_text, trap_text, line_break, end_text, ending};
+ghost use Rattle.cilk_spawn.specs.model.Path.{numbers_text, path_text};
+ghost use Rattle.cilk_spawn.specs.model.End.{kind_text, trap_text, line_break, end_text, ending};
 ghost use Rattle.cilk_spawn.specs.Kinds.{kind_of};
 ghost use Rattle.cilk_choices.specs.Words.{end_of};
 
 use crate::end::End;
-use cilk_spawn::Kind;
-use cilk_spawn::Path;
-use cilk_syntax::Memory;
-use cilk_values::Trap;
+use cilk_spawn::{Kind, Memory, Path, Trap};
 use std::alloc::Global;
 
 /// The closing text of a run: what the program printed, on lines of its own, and a line that tells

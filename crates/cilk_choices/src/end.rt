@@ -1,5 +1,4 @@
-use cilk_spawn::Kind;
-use cilk_spawn::Path;
+use cilk_spawn::{Kind, Path};
 
 /// How a program stands when no more choices are made.
 #[derive(Debug, Drop)]

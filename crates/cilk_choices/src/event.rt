@@ -1,5 +1,4 @@
-use cilk_spawn::Kind;
-use cilk_spawn::Path;
+use cilk_spawn::{Kind, Path};
 
 /// What a choice did. The number n is that of an action of the program.
 #[derive(Debug, Drop)]

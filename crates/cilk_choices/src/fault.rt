@@ -1,4 +1,4 @@
-use cilk_syntax::Memory;
+use cilk_spawn::Memory;
 use thiserror::Error;
 
 /// Why there is no machine.

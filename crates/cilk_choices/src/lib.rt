@@ -13,9 +13,7 @@ mod refusal;
 
 pub use act::Act;
 pub use choice::Choice;
-pub use cilk_spawn::Kind;
-pub use cilk_spawn::Path;
-pub use cilk_syntax::Memory;
+pub use cilk_spawn::{Kind, Memory, Path, Trap};
 pub use closing::ending;
 pub use end::End;
 pub use event::Event;

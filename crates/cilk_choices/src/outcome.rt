@@ -1,5 +1,4 @@
-use cilk_spawn::Kind;
-use cilk_spawn::Path;
+use cilk_spawn::{Kind, Path};
 
 /// Whether a program has ended, and how.
 #[derive(Debug, Drop)]

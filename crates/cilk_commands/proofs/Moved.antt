@@ -1,10 +1,10 @@
 -- One choice more of one worker.
 use Rattle.std.proofs.Common.{[], ◌∷◌, ◌++◌, ◌∙◌}
-use Rattle.cilk_syntax.specs.Tree.{Program}
-use Rattle.cilk_labelled.specs.Bodies.{label}
-use Rattle.cilk_model.specs.Choice.{Choice}
-use Rattle.cilk_model.specs.Event.{Event}
-use Rattle.cilk_model.specs.Run.{next_of}
+use Rattle.cilk_check.specs.syntax.Tree.{Program}
+use Rattle.cilk_machine.specs.labelled.Bodies.{label}
+use Rattle.cilk_machine.specs.model.Choice.{Choice}
+use Rattle.cilk_machine.specs.model.Event.{Event}
+use Rattle.cilk_machine.specs.model.Run.{next_of}
 use Rattle.cilk_machine.specs.Situation.{Situation}
 use Rattle.cilk_machine.specs.Made.{Makes}
 use Rattle.cilk_commands.specs.Running.{LedAlone}

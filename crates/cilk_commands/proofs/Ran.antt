@@ -1,9 +1,9 @@
 -- The closing text of a machine that is not moved any more.
 use Rattle.std.proofs.Common.{◌≡◌, ℕ, true, List, length, Option, sym, ap, ◌∙◌, arith, refl}
-use Rattle.cilk_syntax.specs.Tree.{Program}
-use Rattle.cilk_labelled.specs.Bodies.{label}
-use Rattle.cilk_model.specs.Run.{Standing, after}
-use Rattle.cilk_model.specs.End as model
+use Rattle.cilk_check.specs.syntax.Tree.{Program}
+use Rattle.cilk_machine.specs.labelled.Bodies.{label}
+use Rattle.cilk_machine.specs.model.Run.{Standing, after}
+use Rattle.cilk_machine.specs.model.End as model
 use Rattle.cilk_machine.specs.Situation.{Situation}
 use Rattle.cilk_machine.specs.Stands.{StandsAt}
 use Rattle.cilk_commands.specs.declared.status.Status.{Status}

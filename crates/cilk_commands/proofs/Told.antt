@@ -1,19 +1,19 @@
 -- Why one worker that goes on may yet be refused.
 use Rattle.std.proofs.Common.{◌≡◌, ◌≤◌, ℕ, subst, Bool, true, false, Some, None, rules, sym, ◌∙◌, refl, inl, inr, ◌⊎◌}
-use Rattle.cilk_model.specs.Choice as model
-use Rattle.cilk_model.specs.Run.{Standing}
-use Rattle.cilk_labelled.specs.Labelled.{Labelled}
-use Rattle.cilk_labelled.specs.Bodies.{label}
-use Rattle.cilk_model.specs.State.{Outcome, running, finished, trapped}
-use Rattle.cilk_model.specs.End as model_end
-use Rattle.cilk_model.specs.End.{is_stuck, end_by}
+use Rattle.cilk_machine.specs.model.Choice as model
+use Rattle.cilk_machine.specs.model.Run.{Standing}
+use Rattle.cilk_machine.specs.labelled.Labelled.{Labelled}
+use Rattle.cilk_machine.specs.labelled.Bodies.{label}
+use Rattle.cilk_machine.specs.model.State.{Outcome, running, finished, trapped}
+use Rattle.cilk_machine.specs.model.End as model_end
+use Rattle.cilk_machine.specs.model.End.{is_stuck, end_by}
 use Rattle.cilk_machine.specs.Stands.{StandsAt}
 use Rattle.cilk_commands.specs.Running.{Stops}
 use Rattle.cilk_machine.specs.Situation.{Situation}
 use Rattle.cilk_machine.specs.Made.{refused}
-use Rattle.cilk_choices.specs.Words.{reason_of}
-use Rattle.cilk_choices.specs.declared.refusal.Refusal.{Refusal}
-use Rattle.cilk_choices.specs.declared.refusal.Refusal.TheVariants.{Over, NoWorker, HandEmpty, Busy, DequeEmpty, Waiting, Memory}
+use Rattle.cilk_machine.specs.choices.Words.{reason_of}
+use Rattle.cilk_machine.specs.choices.declared.refusal.Refusal.{Refusal}
+use Rattle.cilk_machine.specs.choices.declared.refusal.Refusal.TheVariants.{Over, NoWorker, HandEmpty, Busy, DequeEmpty, Waiting, Memory}
 
 -- the worker can step, or its hand is empty and it can pop
 abbrev pub GoesOn : Situation → Standing → Type 0

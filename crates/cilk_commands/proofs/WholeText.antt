@@ -3,7 +3,7 @@ use Rattle.std.proofs.Common.{◌≡◌, ◌≤◌, ◌<◌, ◌+◌, ◌∙◌,
 use Rattle.std.specs.Prelude.{◌≢◌}
 use Rattle.std.proofs.lemmas.List.{length-take, take_min}
 use Rattle.std.proofs.Math.Seq.{take-length}
-use Rattle.cilk_lex.specs.declared.reading.TheConstants.{TEXT_LIMIT}
+use Rattle.cilk_explain.specs.lex.declared.reading.TheConstants.{TEXT_LIMIT}
 use Rattle.cilk_commands.specs.Front.{Gains, GainsFront}
 use Rattle.cilk_commands.specs.Held.{Held, IsReadOf}
 use Rattle.cilk_commands.specs.Loading.{Unready}

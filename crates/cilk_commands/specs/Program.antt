@@ -1,15 +1,15 @@
 -- Which program the bytes of a text are, and why they are none.
 use Rattle.std.specs.Prelude.{ℕ, List, length, ◌≡◌, ◌≢◌, ◌≤◌, ◌<◌, ◌⊎◌, IsUtf8}
-use Rattle.cilk_lexeme.specs.declared.fault.LexFault.TheVariants as lex
-use Rattle.cilk_lexeme.specs.Place.{line_of, column_of}
-use Rattle.cilk_lex.specs.declared.reading.TheConstants.{TEXT_LIMIT}
-use Rattle.cilk_syntax.specs.Tree.{Program}
+use Rattle.cilk_check.specs.lexeme.declared.fault.LexFault.TheVariants as lex
+use Rattle.cilk_check.specs.lexeme.Place.{line_of, column_of}
+use Rattle.cilk_explain.specs.lex.declared.reading.TheConstants.{TEXT_LIMIT}
+use Rattle.cilk_check.specs.syntax.Tree.{Program}
 use Rattle.cilk_parse.specs.declared.fault.ReadFault.{ReadFault}
 use Rattle.cilk_parse.specs.declared.fault.ReadFault.TheVariants as read
 use Rattle.cilk_parse.specs.Text.{Spells, HasFault}
 use Rattle.cilk_parse.specs.Place.{place_of as read_place}
-use Rattle.cilk_scopes.specs.declared.fault.CheckFault.{CheckFault}
-use Rattle.cilk_scopes.specs.Fault.{place_of as check_place}
+use Rattle.cilk_check.specs.scopes.declared.fault.CheckFault.{CheckFault}
+use Rattle.cilk_check.specs.scopes.Fault.{place_of as check_place}
 use Rattle.cilk_check.specs.Fault.{WellFormed, IsFirstFault}
 use Rattle.cilk_commands.specs.declared.fault.Fault.TheVariants as fault
 use Rattle.cilk_commands.specs.declared.failure.Failure.{Failure}

@@ -1,11 +1,11 @@
 -- What `run` does with a program, and what it writes.
 use Rattle.std.specs.Prelude.{◌≡◌, ◌≤◌, ℕ, List, length, Option, Some}
-use Rattle.cilk_syntax.specs.Tree.{Program}
-use Rattle.cilk_labelled.specs.Bodies.{label}
-use Rattle.cilk_model.specs.Choice.{Choice}
-use Rattle.cilk_model.specs.Event.{Event}
-use Rattle.cilk_model.specs.Run.{Standing, Position, after}
-use Rattle.cilk_model.specs.End as model
+use Rattle.cilk_check.specs.syntax.Tree.{Program}
+use Rattle.cilk_machine.specs.labelled.Bodies.{label}
+use Rattle.cilk_machine.specs.model.Choice.{Choice}
+use Rattle.cilk_machine.specs.model.Event.{Event}
+use Rattle.cilk_machine.specs.model.Run.{Standing, Position, after}
+use Rattle.cilk_machine.specs.model.End as model
 use Rattle.cilk_machine.specs.Situation.{Situation, workers_of}
 use Rattle.cilk_machine.specs.Stands.{Led, StandsAt}
 use Rattle.cilk_commands.specs.declared.status.Status.{Status}

@@ -1,6 +1,6 @@
 -- The statuses, and which one tells of a failure.
 use Rattle.std.specs.Prelude.{ℕ, Bool, true, false}
-use Rattle.cilk_model.specs.End as model
+use Rattle.cilk_machine.specs.model.End as model
 use Rattle.cilk_commands.specs.declared.failure.Failure.{Failure}
 use Rattle.cilk_commands.specs.declared.failure.Failure.TheVariants as failure
 use Rattle.cilk_commands.specs.declared.status.Status.{Status}

@@ -1,11 +1,11 @@
 -- The line that tells of a failure.
 use Rattle.std.specs.Prelude.{◌≡◌, ℕ, Bool, true, List, [], ◌++◌, ◌⊎◌, Option, codes, decimal, IsCharBoundary, IsUtf8}
-use Rattle.cilk_lexeme.specs.declared.fault.LexFault.{LexFault}
-use Rattle.cilk_lexeme.specs.declared.fault.LexFault.TheVariants as lex
+use Rattle.cilk_check.specs.lexeme.declared.fault.LexFault.{LexFault}
+use Rattle.cilk_check.specs.lexeme.declared.fault.LexFault.TheVariants as lex
 use Rattle.cilk_parse.specs.declared.fault.ReadFault.{ReadFault}
 use Rattle.cilk_parse.specs.declared.fault.ReadFault.TheVariants as read
-use Rattle.cilk_scopes.specs.declared.fault.CheckFault.{CheckFault}
-use Rattle.cilk_scopes.specs.declared.fault.CheckFault.TheVariants as check
+use Rattle.cilk_check.specs.scopes.declared.fault.CheckFault.{CheckFault}
+use Rattle.cilk_check.specs.scopes.declared.fault.CheckFault.TheVariants as check
 use Rattle.cilk_commands.specs.declared.fault.Fault.{Fault}
 use Rattle.cilk_commands.specs.declared.fault.Fault.TheVariants as fault
 use Rattle.cilk_commands.specs.declared.failure.Failure.{Failure}

@@ -2,20 +2,19 @@
 
 ghost use Rattle.std.specs.Prelude.{◌≡◌, ◌<◌, ◌-◌, ◌^◌, true, Ok, None, IfOk, IfErr, IfSome};
 ghost use Rattle.cilk_check.specs.Fault.{WellFormed};
-ghost use Rattle.cilk_choices.specs.Words.{choice_of};
-ghost use Rattle.cilk_labelled.specs.Bodies.{label};
-ghost use Rattle.cilk_model.specs.Event as event;
-ghost use Rattle.cilk_model.specs.End.{is_stuck};
-ghost use Rattle.cilk_model.specs.Run.{Standing};
+ghost use Rattle.cilk_machine.specs.choices.Words.{choice_of};
+ghost use Rattle.cilk_machine.specs.labelled.Bodies.{label};
+ghost use Rattle.cilk_machine.specs.model.Event as event;
+ghost use Rattle.cilk_machine.specs.model.End.{is_stuck};
+ghost use Rattle.cilk_machine.specs.model.Run.{Standing};
 ghost use Rattle.cilk_machine.specs.Made.{Makes};
 ghost use Rattle.cilk_machine.specs.Situation.{workers_of};
 ghost use Rattle.cilk_machine.specs.Stands.{StandsAt};
 ghost use Rattle.cilk_commands.specs.Running.{LedAlone, Stops};
 
 use crate::failure::Failure;
-use cilk_load::Loaded;
 use cilk_machine::laws::one_worker_goes_on;
-use cilk_machine::{Act, Choice, Machine, MachineFault, Outcome, Refusal};
+use cilk_machine::{Act, Choice, Loaded, Machine, MachineFault, Outcome, Refusal};
 use std::alloc::Global;
 
 const STEP: Choice = Choice {

@@ -2,8 +2,7 @@ ghost use Rattle.std.specs.Prelude.{◌≡◌};
 ghost use Rattle.cilk_commands.specs.Place.{place_of};
 ghost use Rattle.cilk_commands.specs.Telling.{check_words, lex_words, read_words, words_of};
 
-use cilk_check::CheckFault;
-use cilk_lex::LexFault;
+use cilk_check::{CheckFault, LexFault};
 use cilk_parse::ReadFault;
 use thiserror::Error;
 

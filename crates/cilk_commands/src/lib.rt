@@ -21,6 +21,9 @@ mod telling;
 pub use alone::{go_on, run_alone};
 pub use answer::{write_answer, write_parts};
 pub use check::check_text;
+pub use cilk_machine::{
+    Choice, Did, End, Event, Loaded, Machine, MachineFault, Outcome, Refusal, ending,
+};
 pub use failure::Failure;
 pub use fault::Fault;
 pub use loading::ready_of;

@@ -1,10 +1,10 @@
 ghost use Rattle.std.specs.Prelude.{◌≡◌, IfOk, IfErr, MatchResult};
-ghost use Rattle.cilk_syntax.specs.Tree as tree;
+ghost use Rattle.cilk_check.specs.syntax.Tree as tree;
 ghost use Rattle.cilk_commands.specs.Loading.{IsReady, Unready};
 
 use crate::failure::Failure;
 use crate::program::program_of;
-use cilk_load::{LoadFault, Loaded, load};
+use cilk_machine::{LoadFault, Loaded, load};
 use std::alloc::Global;
 
 /// The program that the bytes of a text are, ready to run. What is wrong is told in the order of `program_of`, and then

@@ -1,13 +1,13 @@
 ghost use Rattle.std.specs.Prelude.{◌≡◌, ◌≤◌, ◌<◌, ◌↔◌, length, IfOk, IfErr, IsErrOf, IsUtf8, MatchResult};
-ghost use Rattle.cilk_lexeme.specs.Place.{line_of, column_of};
-ghost use Rattle.cilk_syntax.specs.Tree as tree;
+ghost use Rattle.cilk_check.specs.lexeme.Place.{line_of, column_of};
+ghost use Rattle.cilk_check.specs.syntax.Tree as tree;
 ghost use Rattle.cilk_commands.specs.Program.{Explains, IsProgram};
 ghost use Rattle.cilk_commands.specs.Place.{place_of};
 
 use crate::failure::Failure;
 use crate::fault::Fault;
-use cilk_check::{CheckFault, Checked, check};
-use cilk_lex::{LexFault, TEXT_LIMIT, line_col};
+use cilk_check::{CheckFault, Checked, LexFault, check};
+use cilk_explain::{TEXT_LIMIT, line_col};
 use cilk_parse::{ReadFault, read};
 use std::alloc::Global;
 

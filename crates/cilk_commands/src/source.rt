@@ -4,7 +4,7 @@ ghost use Rattle.cilk_commands.specs.Status.{status_of};
 
 use crate::failure::Failure;
 use crate::status::Status;
-use cilk_lex::TEXT_LIMIT;
+use cilk_explain::TEXT_LIMIT;
 use std::alloc::Global;
 use std::io;
 use std::io::{ErrorKind, Read};

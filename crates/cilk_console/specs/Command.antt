@@ -1,6 +1,6 @@
 -- What may be asked of a debugger.
 use Rattle.std.specs.Prelude.{ℕ}
-use Rattle.cilk_seen.specs.What.{What}
+use Rattle.cilk_view.specs.seen.What.{What}
 
 pub data Command : Type 0 where
   -- the next choice is made

@@ -8,8 +8,7 @@ ghost use Rattle.cilk_view.specs.Words.{what_of};
 ghost use Rattle.cilk_console.specs.Words.{asked_of};
 
 use crate::command::Command;
-use cilk_log::{Memory, number_in};
-use cilk_spawn::Path;
+use cilk_log::{Memory, Path, number_in};
 use cilk_view::What;
 use std::alloc::Global;
 

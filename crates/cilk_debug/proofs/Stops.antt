@@ -2,9 +2,9 @@
 use Rattle.std.proofs.Common.{◌≡◌, ◌<◌, ℕ, suc, ◌+◌, ◌-◌, Bool, true, false, List, Option, Some, None, option_map, unwrap_or, is_some, length, map, ap, ◌∙◌, subst, sym, arith, if◌then◌else◌}
 use Rattle.std.proofs.lemmas.List.{length-map}
 use Rattle.std.specs.List.{find, range_with_len}
-use Rattle.cilk_choices.specs.declared.choice.Choice as code
-use Rattle.cilk_choices.specs.Words.{choice_of}
-use Rattle.cilk_machine.specs.Situation.{Situation}
+use Rattle.cilk_console.specs.choices.declared.choice.Choice as code
+use Rattle.cilk_console.specs.choices.Words.{choice_of}
+use Rattle.cilk_replay.specs.machine.Situation.{Situation}
 use Rattle.cilk_replay.specs.Tape.{Tape, IsAt}
 use Rattle.cilk_debug.specs.Breaks.{stops, down_from}
 use Rattle.cilk_debug.specs.Seeking.{Stopped, last_among}

@@ -1,6 +1,6 @@
 -- Why there is no debugger.
 use Rattle.std.specs.Prelude.{◌≡◌, ⊤, false}
-use Rattle.cilk_model.specs.Run.{is_crew}
+use Rattle.cilk_console.specs.model.Run.{is_crew}
 use Rattle.cilk_replay.specs.Tape.{Tape}
 use Rattle.cilk_replay.specs.Faults.{IsFirst}
 use Rattle.cilk_debug.specs.declared.fault.DebugFault.{DebugFault}

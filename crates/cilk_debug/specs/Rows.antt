@@ -1,8 +1,8 @@
 -- Worked sessions of a small program, `cilk int main(void) { int x = 2; return x * 21; }`, of which two steps were recorded.
 use Rattle.std.specs.Prelude.{◌≡◌, ℕ, refl, Bool, true, false, List, [], ◌∷◌, ◌++◌, codes, None}
 use Rattle.std.specs.Fmt.{digits}
-use Rattle.cilk_model.specs.Rows.{steps}
-use Rattle.cilk_seen.specs.Rows.{short}
+use Rattle.cilk_console.specs.model.Rows.{steps}
+use Rattle.cilk_console.specs.seen.Rows.{short}
 use Rattle.cilk_debug.specs.Debugging.{Debugging}
 use Rattle.cilk_debug.specs.Session.{session}
 

@@ -1,20 +1,18 @@
 ghost use Rattle.std.specs.Prelude.{◌≡◌, ◌≤◌, ◌<◌, ◌+◌, ℕ, ◌-◌, IfOk, IfErr, OnOk, OnErr, IfSome, length, replicate, slice_set, true, false, Err, ◌++◌, string_bytes, List};
-ghost use Rattle.cilk_labelled.specs.Count.{count_program};
-ghost use Rattle.cilk_model.specs.Run.{is_crew};
+ghost use Rattle.cilk_console.specs.labelled.Count.{count_program};
+ghost use Rattle.cilk_console.specs.model.Run.{is_crew};
 ghost use Rattle.cilk_replay.specs.Tape.{tape_of, IsAt, IsPlayable};
 ghost use Rattle.cilk_debug.specs.Faults.{Tells};
 ghost use Rattle.cilk_debug.specs.Moves.{StaysBehind, StaysAhead, StaysFrom, HasNo};
-ghost use Rattle.cilk_view.specs.Words.{what_of};
+ghost use Rattle.cilk_console.specs.view.Words.{what_of};
 ghost use Rattle.cilk_debug.specs.Seeing.{seen_at, line_behind};
 ghost use Rattle.cilk_debug.specs.Seeking.{forward_position, is_any_ahead, back_position, is_any_behind, last_among};
 
 use crate::fault::DebugFault;
 use crate::position::put_position;
 use crate::seeking::{last_met, run_on};
-use cilk_load::Loaded;
-use cilk_log::Log;
-use cilk_machine::{Machine, Memory, ViewFault, What};
-use cilk_replay::{ReplayFault, is_crew, make_again, play};
+use cilk_console::{Loaded, Log, Memory, ViewFault, What};
+use cilk_replay::{Machine, ReplayFault, is_crew, make_again, play};
 use std::alloc::Global;
 use std::marker::Model;
 
@@ -32,7 +30,7 @@ pub struct Debugger {
 impl Model for Debugger {
     ghost use Rattle.cilk_replay.specs.Tape.{tape_of};
     ghost use Rattle.cilk_debug.specs.Debugging.{Debugging, IsSound};
-    ghost use Rattle.cilk_syntax.specs.ProgramCoding.{coded_Program};
+    ghost use Rattle.cilk_console.specs.syntax.ProgramCoding.{coded_Program};
     ghost use Rattle.std.specs.Coded.{codes};
 
     ghost Value = { Debugging };

@@ -1,4 +1,4 @@
-use cilk_choices::Refusal;
+use cilk_console::Refusal;
 use thiserror::Error;
 
 /// Why a debugger does not do what it is told.

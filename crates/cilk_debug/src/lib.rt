@@ -11,9 +11,8 @@ mod seeking;
 mod session;
 mod stopping;
 
-pub use cilk_console::ReadFault;
-pub use cilk_log::Log;
-pub use cilk_machine::{ViewFault, What};
+pub use cilk_console::{Choices, Log, LogFault, ReadFault, ViewFault, What, read_log, write_log};
+pub use cilk_replay::{ReplayFault, play};
 pub use debugger::Debugger;
 pub use ending::SessionFault;
 pub use fault::DebugFault;

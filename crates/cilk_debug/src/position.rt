@@ -1,18 +1,15 @@
 //! The line that tells where a program stands.
 
 ghost use Rattle.std.specs.Prelude.{◌≡◌};
-ghost use Rattle.cilk_canonical.specs.Appends.{Appends};
-ghost use Rattle.cilk_labelled.specs.Bodies.{label};
-ghost use Rattle.cilk_model.specs.End.{kind_text, trap_text};
-ghost use Rattle.cilk_model.specs.Path.{path_text};
-ghost use Rattle.cilk_choices.specs.Words.{outcome_of};
-ghost use Rattle.cilk_spawn.specs.Kinds.{kind_of};
-ghost use Rattle.cilk_seen.specs.Workers.{outcome_text, position_text};
+ghost use Rattle.cilk_console.specs.canonical.Appends.{Appends};
+ghost use Rattle.cilk_console.specs.labelled.Bodies.{label};
+ghost use Rattle.cilk_console.specs.model.End.{kind_text, trap_text};
+ghost use Rattle.cilk_console.specs.model.Path.{path_text};
+ghost use Rattle.cilk_console.specs.choices.Words.{outcome_of};
+ghost use Rattle.cilk_console.specs.spawn.Kinds.{kind_of};
+ghost use Rattle.cilk_console.specs.seen.Workers.{outcome_text, position_text};
 
-use cilk_load::Loaded;
-use cilk_machine::{Kind, Outcome, Path};
-use cilk_syntax::Memory;
-use cilk_values::Trap;
+use cilk_console::{Kind, Loaded, Memory, Outcome, Path, Trap};
 
 /// So many of all choices were made, and the program stands so.
 pub(crate) fn put_position(

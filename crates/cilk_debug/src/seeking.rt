@@ -1,15 +1,15 @@
 //! Moves that look for a breakpoint.
 
 ghost use Rattle.std.specs.Prelude.{◌≡◌, ◌≤◌, ◌<◌, ◌+◌, List, suc, IfOk, OnOk, IfErr, IfSome, length, map, true, false, Some, None, ◌-◌, ◌^◌, if◌then◌else◌};
-ghost use Rattle.cilk_choices.specs.Words.{choice_of};
+ghost use Rattle.cilk_console.specs.choices.Words.{choice_of};
 ghost use Rattle.cilk_replay.specs.Tape.{Tape, IsAt};
 ghost use Rattle.cilk_debug.specs.Breaks.{stops};
 ghost use Rattle.cilk_debug.specs.Seeking.{Stopped, last_among};
 
 use crate::fault::DebugFault;
 use crate::stopping::stops;
-use cilk_machine::{Choice, Machine};
-use cilk_replay::make_again;
+use cilk_console::Choice;
+use cilk_replay::{Machine, make_again};
 
 // The choice of this number, counted from 0, is made again; whether a breakpoint is set where it did
 // something.

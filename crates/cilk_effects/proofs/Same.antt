@@ -4,27 +4,27 @@ use Rattle.std.specs.Prelude.{slice_index_or, ⊤, option_map}
 use Rattle.std.specs.List.{All}
 use Rattle.std.proofs.lemmas.List.Elements.{All-head, All-tail, All-map, All-weaker}
 use borrow.Author.Tests.{ltb-true}
-use Rattle.cilk_syntax.specs.declared.operator.BinOp.{BinOp}
-use Rattle.cilk_values.specs.declared.trap.Trap.{Trap}
-use Rattle.cilk_values.specs.declared.trap.Trap.TheVariants.{Index}
-use Rattle.cilk_values.specs.Arithmetic.{is_zero}
-use Rattle.cilk_values.specs.Term.{Term, rename}
-use Rattle.cilk_values.specs.Value.{Environment, value_of, values_of, ◌>>=◌}
-use Rattle.cilk_eval.specs.declared.slot.Slot.{Slot}
-use Rattle.cilk_eval.specs.Slots.{Cells, slot_cell, sizes_of, LiesWithin, SlotsLieWithin}
-use Rattle.cilk_eval.specs.Slots as slots
-use Rattle.cilk_labelled.specs.Labelled.{Declaration, local, outer, global, of_lock, of_body, unknown, Variable, Labelled, Target, variable, element, Into, Taker, nothing, into, through, Action, assign, call, spawn, print, locking, null, break_off, go_round, tests, sync, abort, return_with, return_nothing, close}
-use Rattle.cilk_model.specs.Values.{Values, Store, Cell, Reached, cells_of, cell_of, environment, element_cell, cell_at, reached_at, reached_if, combined}
-use Rattle.cilk_model.specs.Instance as model
-use Rattle.cilk_model.specs.Effect as effect
-use Rattle.cilk_model.specs.Effect.{effect_of, start_of}
-use Rattle.cilk_model.specs.Printing.{printed}
-use Rattle.cilk_nodes.specs.Slots.{size_of, slot_of}
-use Rattle.cilk_nodes.specs.Actions.{slotted_place, slotted_target, slotted_taker, slotted}
-use Rattle.cilk_stands.specs.Cells.{own_variables, outer_variables, HasCell}
-use Rattle.cilk_stands.specs.Reads.{IsVariable, IsArray, IsKnown, Seen}
-use Rattle.cilk_stands.proofs.Slots.{cells-size}
-use Rattle.cilk_stands.proofs.Values.{array-inside, array-declared, array-same, declared-within, cell-same, value-same, slots-within}
+use Rattle.cilk_sound.specs.syntax.declared.operator.BinOp.{BinOp}
+use Rattle.cilk_sound.specs.values.declared.trap.Trap.{Trap}
+use Rattle.cilk_sound.specs.values.declared.trap.Trap.TheVariants.{Index}
+use Rattle.cilk_sound.specs.values.Arithmetic.{is_zero}
+use Rattle.cilk_sound.specs.values.Term.{Term, rename}
+use Rattle.cilk_sound.specs.values.Value.{Environment, value_of, values_of, ◌>>=◌}
+use Rattle.cilk_sound.specs.eval.declared.slot.Slot.{Slot}
+use Rattle.cilk_sound.specs.eval.Slots.{Cells, slot_cell, sizes_of, LiesWithin, SlotsLieWithin}
+use Rattle.cilk_sound.specs.eval.Slots as slots
+use Rattle.cilk_sound.specs.labelled.Labelled.{Declaration, local, outer, global, of_lock, of_body, unknown, Variable, Labelled, Target, variable, element, Into, Taker, nothing, into, through, Action, assign, call, spawn, print, locking, null, break_off, go_round, tests, sync, abort, return_with, return_nothing, close}
+use Rattle.cilk_sound.specs.model.Values.{Values, Store, Cell, Reached, cells_of, cell_of, environment, element_cell, cell_at, reached_at, reached_if, combined}
+use Rattle.cilk_sound.specs.model.Instance as model
+use Rattle.cilk_sound.specs.model.Effect as effect
+use Rattle.cilk_sound.specs.model.Effect.{effect_of, start_of}
+use Rattle.cilk_sound.specs.model.Printing.{printed}
+use Rattle.cilk_sound.specs.nodes.Slots.{size_of, slot_of}
+use Rattle.cilk_sound.specs.nodes.Actions.{slotted_place, slotted_target, slotted_taker, slotted}
+use Rattle.cilk_sound.specs.stands.Cells.{own_variables, outer_variables, HasCell}
+use Rattle.cilk_sound.specs.stands.Reads.{IsVariable, IsArray, IsKnown, Seen}
+use Rattle.cilk_sound.proofs.stands_laws.SlotLaws.{cells-size}
+use Rattle.cilk_sound.proofs.stands_laws.Values.{array-inside, array-declared, array-same, declared-within, cell-same, value-same, slots-within}
 use Rattle.cilk_effects.specs.declared.effect.Effect.{Effect}
 use Rattle.cilk_effects.specs.declared.effect.Effect.TheVariants.{Writes, Answers, Enters, Gives, Starts, Prints, Turns, Marks}
 use Rattle.cilk_spawn.specs.declared.receiver.Receiver as receiver

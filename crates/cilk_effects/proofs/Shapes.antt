@@ -1,17 +1,17 @@
 -- What the effect of an action looks like, by the action.
 use Rattle.std.proofs.Common.{◌≡◌, ℕ, suc, ℤ, pos, negsuc, Bool, true, false, nat_lt, not, List, [], ◌∷◌, length, Option, Some, None, Result, Ok, Err, refl, sym, ap, ◌∙◌, if◌then◌else◌}
-use Rattle.cilk_syntax.specs.declared.operator.BinOp.{BinOp}
-use Rattle.cilk_values.specs.declared.trap.Trap.{Trap}
-use Rattle.cilk_values.specs.declared.trap.Trap.TheVariants.{Index}
-use Rattle.cilk_values.specs.Arithmetic.{is_zero}
-use Rattle.cilk_values.specs.Term.{Term}
-use Rattle.cilk_values.specs.Value.{Environment, value_of, values_of, ◌>>=◌}
-use Rattle.cilk_labelled.specs.Labelled.{Declaration, Target, variable, element, Into, Taker, nothing, into, through, Action, assign, call, spawn, print, locking, null, break_off, go_round, tests, sync, abort, return_with, return_nothing, close}
-use Rattle.cilk_model.specs.Values.{Cell, Reached, element_cell, cell_at, reached_at, reached_if, combined}
-use Rattle.cilk_model.specs.Instance as model
-use Rattle.cilk_model.specs.Effect as effect
-use Rattle.cilk_model.specs.Effect.{Effect, writes, answers, enters, gives, starts, writes_out, turns, marks, effect_of, start_of}
-use Rattle.cilk_model.specs.Printing.{printed}
+use Rattle.cilk_sound.specs.syntax.declared.operator.BinOp.{BinOp}
+use Rattle.cilk_sound.specs.values.declared.trap.Trap.{Trap}
+use Rattle.cilk_sound.specs.values.declared.trap.Trap.TheVariants.{Index}
+use Rattle.cilk_sound.specs.values.Arithmetic.{is_zero}
+use Rattle.cilk_sound.specs.values.Term.{Term}
+use Rattle.cilk_sound.specs.values.Value.{Environment, value_of, values_of, ◌>>=◌}
+use Rattle.cilk_sound.specs.labelled.Labelled.{Declaration, Target, variable, element, Into, Taker, nothing, into, through, Action, assign, call, spawn, print, locking, null, break_off, go_round, tests, sync, abort, return_with, return_nothing, close}
+use Rattle.cilk_sound.specs.model.Values.{Cell, Reached, element_cell, cell_at, reached_at, reached_if, combined}
+use Rattle.cilk_sound.specs.model.Instance as model
+use Rattle.cilk_sound.specs.model.Effect as effect
+use Rattle.cilk_sound.specs.model.Effect.{Effect, writes, answers, enters, gives, starts, writes_out, turns, marks, effect_of, start_of}
+use Rattle.cilk_sound.specs.model.Printing.{printed}
 
 -- what a target names
 abbrev pub named_by : Target → Declaration

@@ -1,21 +1,21 @@
 -- What an action comes to over slots.
 use Rattle.std.specs.Prelude.{ℕ, ℤ, pos, negsuc, Bool, true, not, nat_lt, if◌then◌else◌, List, Option, Some, None, Result, Ok, Err}
-use Rattle.cilk_values.specs.declared.trap.Trap.{Trap}
-use Rattle.cilk_values.specs.declared.trap.Trap.TheVariants.{Index}
-use Rattle.cilk_values.specs.Arithmetic.{is_zero}
-use Rattle.cilk_values.specs.Term.{Term}
-use Rattle.cilk_values.specs.Value.{value_of, values_of, ◌>>=◌}
-use Rattle.cilk_eval.specs.declared.slot.Slot.{Slot}
-use Rattle.cilk_eval.specs.Slots.{Cells, environment, slot_cell}
-use Rattle.cilk_model.specs.Values.{combined}
-use Rattle.cilk_model.specs.Printing.{printed}
-use Rattle.cilk_nodes.specs.declared.place.Place.{Place}
-use Rattle.cilk_nodes.specs.declared.target.Target.{Target}
-use Rattle.cilk_nodes.specs.declared.taker.Taker.{Taker}
-use Rattle.cilk_nodes.specs.declared.taker.Taker.TheVariants.{Nothing, Into, Through}
-use Rattle.cilk_nodes.specs.declared.action.Action.{Action}
-use Rattle.cilk_nodes.specs.declared.action.Action.TheVariants.{Assign, Call, Spawn, Print, Locking, Null, Break, Continue, Test, Sync, Abort, Return, ReturnNothing, Close}
-use Rattle.cilk_frame.specs.declared.awaited.Await.{Await}
+use Rattle.cilk_sound.specs.values.declared.trap.Trap.{Trap}
+use Rattle.cilk_sound.specs.values.declared.trap.Trap.TheVariants.{Index}
+use Rattle.cilk_sound.specs.values.Arithmetic.{is_zero}
+use Rattle.cilk_sound.specs.values.Term.{Term}
+use Rattle.cilk_sound.specs.values.Value.{value_of, values_of, ◌>>=◌}
+use Rattle.cilk_sound.specs.eval.declared.slot.Slot.{Slot}
+use Rattle.cilk_sound.specs.eval.Slots.{Cells, environment, slot_cell}
+use Rattle.cilk_sound.specs.model.Values.{combined}
+use Rattle.cilk_sound.specs.model.Printing.{printed}
+use Rattle.cilk_sound.specs.nodes.declared.place.Place.{Place}
+use Rattle.cilk_sound.specs.nodes.declared.target.Target.{Target}
+use Rattle.cilk_sound.specs.nodes.declared.taker.Taker.{Taker}
+use Rattle.cilk_sound.specs.nodes.declared.taker.Taker.TheVariants.{Nothing, Into, Through}
+use Rattle.cilk_sound.specs.nodes.declared.action.Action.{Action}
+use Rattle.cilk_sound.specs.nodes.declared.action.Action.TheVariants.{Assign, Call, Spawn, Print, Locking, Null, Break, Continue, Test, Sync, Abort, Return, ReturnNothing, Close}
+use Rattle.cilk_sound.specs.frame.declared.awaited.Await.{Await}
 use Rattle.cilk_spawn.specs.declared.receiver.Receiver as receiver
 use Rattle.cilk_spawn.specs.declared.receiver.Receiver.{Receiver}
 use Rattle.cilk_effects.specs.declared.effect.Effect.{Effect}

@@ -1,15 +1,15 @@
 -- Actions whose slots lie in the cells that are there.
 use Rattle.std.specs.Prelude.{⊤, Option, Some, None}
 use Rattle.std.specs.List.{All}
-use Rattle.cilk_values.specs.Term.{Term}
-use Rattle.cilk_eval.specs.declared.slot.Slot.{Slot}
-use Rattle.cilk_eval.specs.Slots.{Sizes, LiesWithin, SlotsLieWithin}
-use Rattle.cilk_nodes.specs.declared.place.Place.{Place}
-use Rattle.cilk_nodes.specs.declared.target.Target.{Target}
-use Rattle.cilk_nodes.specs.declared.taker.Taker.{Taker}
-use Rattle.cilk_nodes.specs.declared.taker.Taker.TheVariants.{Nothing, Into, Through}
-use Rattle.cilk_nodes.specs.declared.action.Action.{Action}
-use Rattle.cilk_nodes.specs.declared.action.Action.TheVariants.{Assign, Call, Spawn, Print, Locking, Null, Break, Continue, Test, Sync, Abort, Return, ReturnNothing, Close}
+use Rattle.cilk_sound.specs.values.Term.{Term}
+use Rattle.cilk_sound.specs.eval.declared.slot.Slot.{Slot}
+use Rattle.cilk_sound.specs.eval.Slots.{Sizes, LiesWithin, SlotsLieWithin}
+use Rattle.cilk_sound.specs.nodes.declared.place.Place.{Place}
+use Rattle.cilk_sound.specs.nodes.declared.target.Target.{Target}
+use Rattle.cilk_sound.specs.nodes.declared.taker.Taker.{Taker}
+use Rattle.cilk_sound.specs.nodes.declared.taker.Taker.TheVariants.{Nothing, Into, Through}
+use Rattle.cilk_sound.specs.nodes.declared.action.Action.{Action}
+use Rattle.cilk_sound.specs.nodes.declared.action.Action.TheVariants.{Assign, Call, Spawn, Print, Locking, Null, Break, Continue, Test, Sync, Abort, Return, ReturnNothing, Close}
 
 abbrev pub FitsSubscript : Sizes → Option (Term Slot) → Type 0
 FitsSubscript sizes None = ⊤

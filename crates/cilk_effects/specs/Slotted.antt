@@ -1,15 +1,15 @@
 -- The effects of actions with slots in place of declarations, and the cells that they reach.
 use Rattle.std.specs.Prelude.{ℕ, ⊤, List, Option, Some, None, option_map, Result, Ok, Err}
-use Rattle.cilk_values.specs.declared.trap.Trap.{Trap}
-use Rattle.cilk_eval.specs.declared.slot.Slot.{Slot}
-use Rattle.cilk_labelled.specs.Labelled.{Declaration, Labelled}
-use Rattle.cilk_model.specs.Values.{Cell, Reached}
-use Rattle.cilk_model.specs.Instance as model
-use Rattle.cilk_model.specs.Effect as effect
-use Rattle.cilk_frame.specs.declared.awaited.Await.{Await}
+use Rattle.cilk_sound.specs.values.declared.trap.Trap.{Trap}
+use Rattle.cilk_sound.specs.eval.declared.slot.Slot.{Slot}
+use Rattle.cilk_sound.specs.labelled.Labelled.{Declaration, Labelled}
+use Rattle.cilk_sound.specs.model.Values.{Cell, Reached}
+use Rattle.cilk_sound.specs.model.Instance as model
+use Rattle.cilk_sound.specs.model.Effect as effect
+use Rattle.cilk_sound.specs.frame.declared.awaited.Await.{Await}
 use Rattle.cilk_spawn.specs.declared.receiver.Receiver.{Receiver}
 use Rattle.cilk_spawn.specs.declared.receiver.Receiver.TheVariants.{Nothing, Place, Call}
-use Rattle.cilk_stands.specs.Cells.{HasCell}
+use Rattle.cilk_sound.specs.stands.Cells.{HasCell}
 use Rattle.cilk_effects.specs.declared.effect.Effect.{Effect}
 use Rattle.cilk_effects.specs.declared.effect.Effect.TheVariants.{Writes, Answers, Enters, Gives, Starts, Prints, Turns, Marks}
 

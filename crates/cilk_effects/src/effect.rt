@@ -1,8 +1,7 @@
 use crate::bytes::Bytes;
 use crate::reached::Reached;
-use cilk_frame::Await;
+use cilk_sound::{Await, LockAction};
 use cilk_spawn::{Arguments, Receiver};
-use cilk_syntax::LockAction;
 
 /// What an action comes to, once its expressions have their values.
 #[derive(Drop)]

@@ -2,7 +2,7 @@
 
 ghost use Rattle.std.specs.Prelude.{◌≡◌, IfOk};
 ghost use Rattle.std.specs.List.{All};
-ghost use Rattle.cilk_eval.specs.Slots.{cells_of, sizes_of, SlotsLieWithin};
+ghost use Rattle.cilk_sound.specs.eval.Slots.{cells_of, sizes_of, SlotsLieWithin};
 ghost use Rattle.cilk_effects.specs.Effects.{written, assigned, awaited, started, effect_in};
 ghost use Rattle.cilk_effects.specs.Fits.{FitsPlace, FitsTarget, FitsTaker, FitsAct};
 
@@ -11,12 +11,8 @@ use crate::printing::printed;
 use crate::reached::Reached;
 use crate::values::{combined, held, index_of, values_of};
 use crate::written::Written;
-use cilk_eval::{Code, Slots, eval};
-use cilk_frame::Await;
-use cilk_nodes::{Action, Taker, Target};
-use cilk_spawn::Receiver;
-use cilk_syntax::Memory;
-use cilk_values::Trap;
+use cilk_sound::{Action, Await, Code, Slots, Taker, Target, Trap, eval};
+use cilk_spawn::{Memory, Receiver};
 use std::alloc::Global;
 
 /// What action n comes to over the cells that its activation sees, or the first trap from the left

@@ -1,13 +1,13 @@
 //! Laws about effects. The function does nothing: its contract is what is proved.
 
 ghost use Rattle.std.specs.Prelude.{◌≡◌, ℕ, Ok};
-ghost use Rattle.cilk_eval.specs.Slots.{Cells, sizes_of};
-ghost use Rattle.cilk_labelled.specs.Labelled.{Labelled, Action};
-ghost use Rattle.cilk_model.specs.Values.{Store, environment};
-ghost use Rattle.cilk_model.specs.Effect as effect;
-ghost use Rattle.cilk_nodes.specs.Actions.{slotted};
-ghost use Rattle.cilk_nodes.specs.Slots.{slot_of};
-ghost use Rattle.cilk_stands.specs.Reads.{Seen};
+ghost use Rattle.cilk_sound.specs.eval.Slots.{Cells, sizes_of};
+ghost use Rattle.cilk_sound.specs.labelled.Labelled.{Labelled, Action};
+ghost use Rattle.cilk_sound.specs.model.Values.{Store, environment};
+ghost use Rattle.cilk_sound.specs.model.Effect as effect;
+ghost use Rattle.cilk_sound.specs.nodes.Actions.{slotted};
+ghost use Rattle.cilk_sound.specs.nodes.Slots.{slot_of};
+ghost use Rattle.cilk_sound.specs.stands.Reads.{Seen};
 ghost use Rattle.cilk_sound.specs.Known.{KnownAct};
 ghost use Rattle.cilk_effects.specs.Effects.{effect_in};
 ghost use Rattle.cilk_effects.specs.Fits.{FitsAct};

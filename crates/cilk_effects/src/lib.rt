@@ -11,9 +11,8 @@ mod values;
 mod written;
 
 pub use bytes::Bytes;
-pub use cilk_frame::Await;
-pub use cilk_spawn::{Arguments, Receiver};
-pub use cilk_syntax::Memory;
+pub use cilk_sound::Await;
+pub use cilk_spawn::{Arguments, Memory, Receiver};
 pub use effect::Effect;
 pub use effects::{assigned, effect_of};
 pub use laws::effects_are_seen;

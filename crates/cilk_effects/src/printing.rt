@@ -1,10 +1,10 @@
 //! What `printf` writes.
 
 ghost use Rattle.std.specs.Prelude.{◌≡◌, ◌∷◌, ◌++◌, ℕ, List, IfOk};
-ghost use Rattle.cilk_model.specs.Printing as model;
+ghost use Rattle.cilk_sound.specs.model.Printing as model;
 
 use crate::bytes::Bytes;
-use cilk_syntax::Memory;
+use cilk_spawn::Memory;
 use itoa::Buffer;
 use std::alloc::Global;
 

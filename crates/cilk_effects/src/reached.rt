@@ -1,4 +1,4 @@
-use cilk_eval::Slot;
+use cilk_sound::Slot;
 
 /// A cell that was reached: an element of an array, or the one cell of a variable.
 #[derive(Clone, Copy, Debug, PartialEq, Eq)]

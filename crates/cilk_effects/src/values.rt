@@ -2,17 +2,14 @@
 
 ghost use Rattle.std.specs.Prelude.{◌≡◌, ◌<◌, max, IfOk};
 ghost use Rattle.std.specs.List.{All};
-ghost use Rattle.cilk_values.specs.Value.{values_of};
-ghost use Rattle.cilk_eval.specs.Slots.{cells_of, slot_cell, sizes_of, environment, SlotsLieWithin};
-ghost use Rattle.cilk_model.specs.Values as model;
+ghost use Rattle.cilk_sound.specs.values.Value.{values_of};
+ghost use Rattle.cilk_sound.specs.eval.Slots.{cells_of, slot_cell, sizes_of, environment, SlotsLieWithin};
+ghost use Rattle.cilk_sound.specs.model.Values as model;
 ghost use Rattle.cilk_effects.specs.Effects.{index_of};
 ghost use Rattle.cilk_effects.specs.Fits.{FitsPlace};
 
-use cilk_eval::{Area, Code, Slot, Slots, apply, eval};
-use cilk_nodes::Place;
-use cilk_spawn::Arguments;
-use cilk_syntax::{BinOp, Memory};
-use cilk_values::Trap;
+use cilk_sound::{Area, BinOp, Code, Place, Slot, Slots, Trap, apply, eval};
+use cilk_spawn::{Arguments, Memory};
 use std::alloc::Global;
 
 /// What a cell holds, or 0 where its area has no such cell.

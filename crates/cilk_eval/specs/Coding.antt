@@ -3,10 +3,10 @@ use Rattle.std.specs.Prelude.{◌≡◌, ℕ, zero, suc, List, [], ◌∷◌, sl
 use Rattle.std.specs.Coded.{Coded}
 use Rattle.std.proofs.Common.{refl, sym, ap, ◌∙◌}
 use base.Stored.{Gv, gnil, gnum, gcons}
-use Rattle.cilk_syntax.specs.declared.operator.BinOp.{BinOp}
-use Rattle.cilk_syntax.specs.declared.operator.BinOp.TheVariants.{Multiply, Divide, Remainder, Add, Subtract, ShiftLeft, ShiftRight, Less, LessOrEqual, Greater, GreaterOrEqual, Equal, NotEqual, BitAnd, BitXor, BitOr, And, Or}
-use Rattle.cilk_syntax.specs.declared.un_op.UnOp.{UnOp}
-use Rattle.cilk_syntax.specs.declared.un_op.UnOp.TheVariants.{Minus, Plus, Not, Complement}
+use Rattle.cilk_values.specs.syntax.declared.operator.BinOp.{BinOp}
+use Rattle.cilk_values.specs.syntax.declared.operator.BinOp.TheVariants.{Multiply, Divide, Remainder, Add, Subtract, ShiftLeft, ShiftRight, Less, LessOrEqual, Greater, GreaterOrEqual, Equal, NotEqual, BitAnd, BitXor, BitOr, And, Or}
+use Rattle.cilk_values.specs.syntax.declared.un_op.UnOp.{UnOp}
+use Rattle.cilk_values.specs.syntax.declared.un_op.UnOp.TheVariants.{Minus, Plus, Not, Complement}
 use Rattle.cilk_eval.specs.declared.area.Area.{Area}
 use Rattle.cilk_eval.specs.declared.area.Area.TheVariants.{Own, Outer, Global}
 use Rattle.cilk_eval.specs.declared.slot.Slot.{Slot}

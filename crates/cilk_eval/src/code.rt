@@ -1,7 +1,7 @@
 //! Expressions whose variables are slots.
 
 use crate::slot::Slot;
-use cilk_syntax::{BinOp, UnOp};
+use cilk_values::{BinOp, UnOp};
 use std::marker::Model;
 
 /// An expression over slots, which contracts see as a `Term`: what it says, and not where it lies.

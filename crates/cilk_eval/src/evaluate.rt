@@ -10,8 +10,7 @@ use crate::arithmetic::{apply, unary};
 use crate::code::{Code, CodeNode};
 use crate::slot::Slot;
 use crate::slots::Slots;
-use cilk_syntax::BinOp;
-use cilk_values::Trap;
+use cilk_values::{BinOp, Trap};
 
 /// The value of an expression, or the first trap from the left (C 1990, 6.3). `&&`, `||` and `?:`
 /// evaluate only the operands that they need. Each slot in the expression lies in its area, which

@@ -12,8 +12,7 @@ mod slots;
 
 pub use area::Area;
 pub use arithmetic::{apply, unary};
-pub use cilk_syntax::Memory;
-pub use cilk_values::Trap;
+pub use cilk_values::{Memory, Trap};
 pub use code::{Code, CodeNode};
 pub use evaluate::eval;
 pub use laws::{quotients_are_rounded, value_is_of_what_is_read};

@@ -1,2 +1,3 @@
 pub mod Lines
 pub mod Said
+pub use Rattle.cilk_lex.specs as lex

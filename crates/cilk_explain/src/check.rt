@@ -5,8 +5,7 @@ use crate::meant::{say_again, say_count, say_kind, say_void};
 use crate::say::{say, say_number, say_quoted};
 use crate::search::{declared_in_file, has_command_line};
 use crate::site::Site;
-use cilk_scopes::CheckFault;
-use cilk_syntax::Memory;
+use cilk_scopes::{CheckFault, Memory};
 
 const NO_MAIN: &str =
     "The program has no `cilk int main` without parameters, or with `int argc, char *argv[]`, to begin with";

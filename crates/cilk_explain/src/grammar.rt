@@ -3,8 +3,8 @@
 use crate::left_out::{left_out_word, say_left_out};
 use crate::say::{say, say_quoted};
 use crate::source::Source;
-use cilk_lexeme::{Kind, Mark};
-use cilk_syntax::Memory;
+use cilk_lex::{Kind, Mark};
+use cilk_scopes::Memory;
 
 const CALL: &str =
     " stands behind a name here, but a call is a statement of its own or the whole right side of an \

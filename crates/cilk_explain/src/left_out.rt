@@ -2,8 +2,8 @@
 
 use crate::say::{say, say_quoted};
 use crate::source::Source;
-use cilk_lexeme::{Kind, Mark};
-use cilk_syntax::Memory;
+use cilk_lex::{Kind, Mark};
+use cilk_scopes::Memory;
 
 /// A word of Cilk 5.4 that is left out (Cilk 5.4 manual, keywords).
 fn is_of_cilk(word: &str) -> bool {

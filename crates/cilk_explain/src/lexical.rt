@@ -2,8 +2,8 @@
 
 use crate::lines::behind_newline;
 use crate::say::{say, say_quoted};
-use cilk_lexeme::LexFault;
-use cilk_syntax::Memory;
+use cilk_lex::LexFault;
+use cilk_scopes::Memory;
 
 const COMMENT: &str =
     "This line has `//`: this language leaves out the comments that begin so, and has those between `/*` and `*/`";

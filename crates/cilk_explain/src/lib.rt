@@ -15,6 +15,7 @@ mod source;
 mod telling;
 mod told;
 
+pub use cilk_lex::{TEXT_LIMIT, line_col};
 pub use lines::place_lines;
 pub use telling::sentence;
 pub use told::Told;

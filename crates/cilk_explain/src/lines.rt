@@ -1,13 +1,13 @@
 //! The line of a place.
 
 ghost use Rattle.std.specs.Prelude.{◌≡◌, IfOk, string_bytes, flat_map, IsCharBoundary};
-ghost use Rattle.cilk_lexeme.specs.Place.{is_newline};
+ghost use Rattle.cilk_lex.specs.lexeme.Place.{is_newline};
 ghost use Rattle.std.specs.List.{after_last, before_first};
 ghost use Rattle.cilk_explain.specs.Lines.{blank_for, place_lines};
 ghost use Rattle.cilk_explain.specs.Said.{Says};
 
 use crate::say::say;
-use cilk_syntax::Memory;
+use cilk_scopes::Memory;
 use std::alloc::Global;
 
 /// What stands behind the last newline.

@@ -2,8 +2,7 @@
 
 use crate::say::{say, say_number, say_quoted};
 use crate::site::Site;
-use cilk_scopes::Kind;
-use cilk_syntax::Memory;
+use cilk_scopes::{Kind, Memory};
 
 // The name at a place, and the line of its declaration.
 fn say_name(out: &mut String, site: Site<'_, '_>) -> Result<(), Memory> {

@@ -3,7 +3,7 @@
 ghost use Rattle.std.specs.Prelude.{flat_map, decimal};
 ghost use Rattle.cilk_explain.specs.Said.{Says};
 
-use cilk_syntax::Memory;
+use cilk_scopes::Memory;
 use itoa::Buffer;
 
 pub(crate) fn say(out: &mut String, text: &str) -> Result<(), Memory>

@@ -2,10 +2,9 @@
 
 use crate::declared::Declared;
 use crate::source::Source;
-use cilk_scopes::Kind;
-use cilk_syntax::{
-    Block, Decl, GlobalShape, Item, ItemNode, Local, LocalNode, Parameters, Proc, Program, Shape,
-    Stmt, StmtNode, Word,
+use cilk_scopes::{
+    Block, Decl, GlobalShape, Item, ItemNode, Kind, Local, LocalNode, Parameters, Proc, Program,
+    Shape, Stmt, StmtNode, Word,
 };
 
 /// A name, and where it stands.

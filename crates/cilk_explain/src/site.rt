@@ -1,7 +1,7 @@
 use crate::declared::Declared;
 use crate::search::meaning;
 use crate::source::Source;
-use cilk_syntax::Program;
+use cilk_scopes::Program;
 
 /// A place of a program's text.
 #[derive(Clone, Copy)]

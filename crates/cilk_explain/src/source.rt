@@ -1,7 +1,6 @@
 ghost use Rattle.std.specs.Prelude.{◌≤◌, length};
 
-use cilk_lex::line_col;
-use cilk_lexeme::{Kind, Mark, Token};
+use cilk_lex::{Kind, Mark, Token, line_col};
 
 /// A text and its tokens.
 #[derive(Clone, Copy)]

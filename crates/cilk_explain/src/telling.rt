@@ -9,9 +9,8 @@ use crate::say::say;
 use crate::site::Site;
 use crate::source::Source;
 use crate::told::Told;
-use cilk_lex::tokens;
-use cilk_lexeme::{LexFault, Token};
-use cilk_syntax::Memory;
+use cilk_lex::{LexFault, Token, tokens};
+use cilk_scopes::Memory;
 use std::alloc::{AllocError, Global};
 
 /// A sentence that says what was found at the place of a fault, and what the language wants there. It ends in a full stop

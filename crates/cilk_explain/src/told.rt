@@ -1,6 +1,5 @@
-use cilk_lexeme::LexFault;
-use cilk_scopes::CheckFault;
-use cilk_syntax::Program;
+use cilk_lex::LexFault;
+use cilk_scopes::{CheckFault, Program};
 
 /// A fault in a text, and what is known of the text.
 #[derive(Clone, Copy)]

@@ -4,16 +4,16 @@ use Rattle.std.proofs.lemmas.Bool.{eqb-true}
 use Rattle.std.specs.Str.{bytes_eq}
 use denote.Enum.Bare.{sameb, same_true, same_false}
 use Rattle.cilk_rules.specs.Rule.{has}
-use Rattle.cilk_lexeme.specs.Lexeme.{Lexeme, word, name, number, mark, literal, inclusion}
-use Rattle.cilk_lexeme.specs.contracts.keyword.Keyword as keyword_type
-use Rattle.cilk_lexeme.specs.contracts.mark.Mark as mark_type
-use Rattle.cilk_lexeme.specs.declared.header.Header.TheVariants as headers
-use Rattle.cilk_lexeme.specs.declared.keyword.Keyword.{Keyword}
-use Rattle.cilk_lexeme.specs.declared.keyword.Keyword.TheVariants as words
-use Rattle.cilk_lexeme.specs.declared.mark.Mark.{Mark}
-use Rattle.cilk_lexeme.specs.declared.mark.Mark.TheVariants as marks
-use Rattle.cilk_lexeme.specs.declared.token.Kind.{Kind}
-use Rattle.cilk_lexeme.specs.declared.token.Kind.TheVariants as kind
+use Rattle.cilk_syntax.specs.lexeme.Lexeme.{Lexeme, word, name, number, mark, literal, inclusion}
+use Rattle.cilk_syntax.specs.lexeme.contracts.keyword.Keyword as keyword_type
+use Rattle.cilk_syntax.specs.lexeme.contracts.mark.Mark as mark_type
+use Rattle.cilk_syntax.specs.lexeme.declared.header.Header.TheVariants as headers
+use Rattle.cilk_syntax.specs.lexeme.declared.keyword.Keyword.{Keyword}
+use Rattle.cilk_syntax.specs.lexeme.declared.keyword.Keyword.TheVariants as words
+use Rattle.cilk_syntax.specs.lexeme.declared.mark.Mark.{Mark}
+use Rattle.cilk_syntax.specs.lexeme.declared.mark.Mark.TheVariants as marks
+use Rattle.cilk_syntax.specs.lexeme.declared.token.Kind.{Kind}
+use Rattle.cilk_syntax.specs.lexeme.declared.token.Kind.TheVariants as kind
 use Rattle.cilk_syntax.specs.declared.un_op.UnOp.{UnOp}
 use Rattle.cilk_expression.specs.Classes.{a_word, a_mark, name_class, class_of, names, the_main, the_char, the_printf, the_lock_init, the_lock, the_unlock, other_name}
 use Rattle.cilk_expression.specs.Operators.{prefixes, sign_of}

@@ -2,13 +2,13 @@
 use Rattle.std.proofs.Common.{◌≡◌, ℕ, ◌==◌, ◌≤◌, ap, ◌∙◌, arith, length, slice_index_or, false, List, [], ◌∷◌, Some, refl, sym}
 use Rattle.std.specs.Option.{option_eq}
 use Rattle.std.proofs.lemmas.Bool.{eqb-true, false_from_ne_true}
-use Rattle.cilk_lexeme.specs.Lexeme.{Lexeme, Piece, word, name, number, mark, literal, inclusion, lexeme_of, piece_of, pieces_of}
-use Rattle.cilk_lexeme.specs.contracts.token.KindPartialEq.TheImpl.{eq-value}
-use Rattle.cilk_lexeme.specs.declared.keyword.Keyword.{Keyword}
-use Rattle.cilk_lexeme.specs.declared.mark.Mark.{Mark}
-use Rattle.cilk_lexeme.specs.declared.token.Kind.{Kind}
-use Rattle.cilk_lexeme.specs.declared.token.Kind.TheVariants as kind
-use Rattle.cilk_lexeme.specs.declared.token.Token.{Token}
+use Rattle.cilk_syntax.specs.lexeme.Lexeme.{Lexeme, Piece, word, name, number, mark, literal, inclusion, lexeme_of, piece_of, pieces_of}
+use Rattle.cilk_syntax.specs.lexeme.contracts.token.KindPartialEq.TheImpl.{eq-value}
+use Rattle.cilk_syntax.specs.lexeme.declared.keyword.Keyword.{Keyword}
+use Rattle.cilk_syntax.specs.lexeme.declared.mark.Mark.{Mark}
+use Rattle.cilk_syntax.specs.lexeme.declared.token.Kind.{Kind}
+use Rattle.cilk_syntax.specs.lexeme.declared.token.Kind.TheVariants as kind
+use Rattle.cilk_syntax.specs.lexeme.declared.token.Token.{Token}
 use Rattle.cilk_rules.specs.Rule.{is, behind, class_at}
 use Rattle.cilk_expression.specs.Classes.{a_word, a_mark, class_of, cls}
 use Rattle.cilk_expression.specs.Front.{kind_of, kind_at}

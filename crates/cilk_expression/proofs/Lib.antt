@@ -11,3 +11,6 @@ pub mod Compared
 pub mod Loop
 pub mod Literals
 pub mod Opens
+pub use Rattle.cilk_syntax.proofs.lexeme_laws
+pub use Rattle.cilk_rules.proofs as rules_laws
+pub use Rattle.cilk_syntax.proofs as syntax_laws

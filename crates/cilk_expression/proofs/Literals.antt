@@ -2,7 +2,7 @@
 use Rattle.std.proofs.Common.{◌≡◌, ℕ, ◌<◌, ◌==◌, Bool, true, false, if◌then◌else◌, List, [], ◌∷◌, ◌++◌, IsAscii, refl, sym, ap, subst, ◌∙◌, arith, append_assoc, eq-eqb}
 use Rattle.std.proofs.lemmas.Bool.{ne_eqb}
 use Rattle.std.proofs.lemmas.Str.{IsAscii-drop}
-use Rattle.cilk_lexeme.specs.Lexeme.{escaped, body_says}
+use Rattle.cilk_syntax.specs.lexeme.Lexeme.{escaped, body_says}
 
 -- a byte that says itself
 pub says_itself : (said rest others behind all : List ℕ) (b n : ℕ) → rest ≡ b ∷ others → others ≡ n ∷ behind → (b ≡ 34 → ⊥) → (b ≡ 92 → ⊥) → said ++ body_says rest ≡ all → (said ++ b ∷ []) ++ body_says others ≡ all

@@ -1,11 +1,11 @@
 -- Where reading an expression meets a fault, it meets it whatever follows that token.
 use Rattle.std.proofs.Common.{◌≡◌, ℕ, zero, suc, ◌<◌, ◌≤◌, ◌==◌, Bool, true, false, if◌then◌else◌, List, [], ◌∷◌, length, Option, Some, None, Ok, Err, refl, sym, ap, subst, ◌∙◌, arith, leb, ltb}
 use Rattle.std.proofs.lemmas.Bool.{ltb-true, lt-ltb}
-use Rattle.cilk_lexeme.specs.Lexeme.{Lexeme, Piece, word, name, number, mark, literal, inclusion}
-use Rattle.cilk_lexeme.specs.declared.keyword.Keyword.TheVariants as words
-use Rattle.cilk_lexeme.specs.declared.mark.Mark.TheVariants as marks
-use Rattle.cilk_lexeme.specs.declared.token.Kind.{Kind}
-use Rattle.cilk_lexeme.specs.declared.token.Kind.TheVariants as kind
+use Rattle.cilk_syntax.specs.lexeme.Lexeme.{Lexeme, Piece, word, name, number, mark, literal, inclusion}
+use Rattle.cilk_syntax.specs.lexeme.declared.keyword.Keyword.TheVariants as words
+use Rattle.cilk_syntax.specs.lexeme.declared.mark.Mark.TheVariants as marks
+use Rattle.cilk_syntax.specs.lexeme.declared.token.Kind.{Kind}
+use Rattle.cilk_syntax.specs.lexeme.declared.token.Kind.TheVariants as kind
 use Rattle.cilk_syntax.specs.declared.un_op.UnOp.{UnOp}
 use Rattle.cilk_syntax.specs.Tree as tree
 use Rattle.cilk_rules.specs.declared.fault.Fault.TheVariants.{Unexpected, TooDeep}

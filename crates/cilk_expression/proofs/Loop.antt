@@ -1,8 +1,8 @@
 -- Going on behind an expression, as a loop does.
 use Rattle.std.proofs.Common.{◌≡◌, ℕ, suc, ◌<◌, ◌≤◌, List, length, Option, Some, None, Result, Ok, Err, refl, sym, ap, ◌∙◌}
 use Rattle.std.proofs.lemmas.Bool.{lt-ltb}
-use Rattle.cilk_lexeme.specs.Lexeme.{Piece}
-use Rattle.cilk_lexeme.specs.declared.mark.Mark.TheVariants as marks
+use Rattle.cilk_syntax.specs.lexeme.Lexeme.{Piece}
+use Rattle.cilk_syntax.specs.lexeme.declared.mark.Mark.TheVariants as marks
 use Rattle.cilk_syntax.specs.declared.operator.BinOp.{BinOp}
 use Rattle.cilk_syntax.specs.Tree as tree
 use Rattle.cilk_rules.specs.declared.fault.Fault.{Fault}

@@ -1,6 +1,6 @@
 -- Other tokens that say the same spell the same expression but for places.
 use Rattle.std.proofs.Common.{◌≡◌, ℕ, suc, ◌+◌, ◌≤◌, List, [], ◌∷◌, ◌++◌, map, refl, sym, ap, ◌∙◌, arith}
-use Rattle.cilk_lexeme.specs.Lexeme.{Lexeme, Piece}
+use Rattle.cilk_syntax.specs.lexeme.Lexeme.{Lexeme, Piece}
 use Rattle.cilk_syntax.specs.Tree as tree
 use Rattle.cilk_rules.proofs.Moved as moved
 use Rattle.cilk_expression.specs.Classes.{class_of, lexeme_of}

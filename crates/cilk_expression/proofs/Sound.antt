@@ -2,12 +2,12 @@
 use Rattle.std.proofs.Common.{◌≡◌, ℕ, zero, suc, ◌+◌, ◌==◌, ◌<◌, ◌≤◌, List, [], ◌∷◌, ◌++◌, length, Bool, true, false, if◌then◌else◌, Option, Some, None, Ok, Err, refl, sym, ap, subst, ◌∙◌, append_assoc, inl, inr, arith, leb, ltb, length-append}
 use Rattle.std.proofs.lemmas.List.{append-nil}
 use Rattle.std.proofs.lemmas.Bool.{leb-true, leb-false, ltb-true, eqb-true}
-use Rattle.cilk_lexeme.specs.Lexeme.{Piece}
-use Rattle.cilk_lexeme.specs.declared.keyword.Keyword.TheVariants as words
-use Rattle.cilk_lexeme.specs.declared.mark.Mark.{Mark}
-use Rattle.cilk_lexeme.specs.declared.mark.Mark.TheVariants as marks
-use Rattle.cilk_lexeme.specs.declared.token.Kind.{Kind}
-use Rattle.cilk_lexeme.specs.declared.token.Kind.TheVariants as kind
+use Rattle.cilk_syntax.specs.lexeme.Lexeme.{Piece}
+use Rattle.cilk_syntax.specs.lexeme.declared.keyword.Keyword.TheVariants as words
+use Rattle.cilk_syntax.specs.lexeme.declared.mark.Mark.{Mark}
+use Rattle.cilk_syntax.specs.lexeme.declared.mark.Mark.TheVariants as marks
+use Rattle.cilk_syntax.specs.lexeme.declared.token.Kind.{Kind}
+use Rattle.cilk_syntax.specs.lexeme.declared.token.Kind.TheVariants as kind
 use Rattle.cilk_syntax.specs.declared.operator.BinOp.{BinOp}
 use Rattle.cilk_syntax.specs.declared.un_op.UnOp.{UnOp}
 use Rattle.cilk_syntax.specs.Tree as tree

@@ -1,10 +1,10 @@
 -- The steps of reading, whatever the count of steps.
 use Rattle.std.proofs.Common.{◌≡◌, ℕ, zero, suc, ◌<◌, ◌≤◌, ◌==◌, Bool, true, false, if◌then◌else◌, List, length, Option, Some, None, Ok, Err, refl, ap, ◌∙◌, arith, leb, ltb, length-append}
 use Rattle.std.proofs.lemmas.Bool.{le-leb, le-ltb, lt-ltb}
-use Rattle.cilk_lexeme.specs.Lexeme.{Piece}
-use Rattle.cilk_lexeme.specs.declared.mark.Mark.TheVariants as marks
-use Rattle.cilk_lexeme.specs.declared.token.Kind.{Kind}
-use Rattle.cilk_lexeme.specs.declared.token.Kind.TheVariants as kind
+use Rattle.cilk_syntax.specs.lexeme.Lexeme.{Piece}
+use Rattle.cilk_syntax.specs.lexeme.declared.mark.Mark.TheVariants as marks
+use Rattle.cilk_syntax.specs.lexeme.declared.token.Kind.{Kind}
+use Rattle.cilk_syntax.specs.lexeme.declared.token.Kind.TheVariants as kind
 use Rattle.cilk_syntax.specs.declared.operator.BinOp.{BinOp}
 use Rattle.cilk_syntax.specs.declared.un_op.UnOp.{UnOp}
 use Rattle.cilk_syntax.specs.Tree as tree

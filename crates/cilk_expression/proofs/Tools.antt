@@ -1,11 +1,11 @@
 -- What stands at the front of the tokens.
 use Rattle.std.proofs.Common.{◌≡◌, ℕ, suc, ◌<◌, ◌≤◌, true, List, [], ◌∷◌, length, Option, Some, None, Ok, refl, sym, ap, arith, eq-eqb}
 use Rattle.std.proofs.lemmas.Bool.{eqb-true}
-use Rattle.cilk_lexeme.specs.Lexeme.{Lexeme, Piece, word, name, number, mark, literal, inclusion}
-use Rattle.cilk_lexeme.specs.declared.keyword.Keyword.{Keyword}
-use Rattle.cilk_lexeme.specs.declared.mark.Mark.{Mark}
-use Rattle.cilk_lexeme.specs.declared.token.Kind.{Kind}
-use Rattle.cilk_lexeme.specs.declared.token.Kind.TheVariants as kind
+use Rattle.cilk_syntax.specs.lexeme.Lexeme.{Lexeme, Piece, word, name, number, mark, literal, inclusion}
+use Rattle.cilk_syntax.specs.lexeme.declared.keyword.Keyword.{Keyword}
+use Rattle.cilk_syntax.specs.lexeme.declared.mark.Mark.{Mark}
+use Rattle.cilk_syntax.specs.lexeme.declared.token.Kind.{Kind}
+use Rattle.cilk_syntax.specs.lexeme.declared.token.Kind.TheVariants as kind
 use Rattle.cilk_syntax.specs.Tree as tree
 use Rattle.cilk_rules.specs.Rule.{is, behind, class_at, token_at}
 use Rattle.cilk_rules.proofs.Tools.{ok_is}

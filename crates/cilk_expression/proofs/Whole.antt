@@ -1,8 +1,8 @@
 -- The laws of a whole expression, as a rule asks them of its parts.
 use Rattle.std.proofs.Common.{◌≡◌, ℕ, zero, suc, ◌≤◌, List, [], ◌∷◌, ◌++◌, length, true, false, Option, Some, None, Ok, refl, sym, ap, subst, ◌∙◌, arith}
-use Rattle.cilk_lexeme.specs.Lexeme.{Lexeme, Piece, name}
-use Rattle.cilk_lexeme.specs.declared.keyword.Keyword.TheVariants as words
-use Rattle.cilk_lexeme.specs.declared.mark.Mark.TheVariants as marks
+use Rattle.cilk_syntax.specs.lexeme.Lexeme.{Lexeme, Piece, name}
+use Rattle.cilk_syntax.specs.lexeme.declared.keyword.Keyword.TheVariants as words
+use Rattle.cilk_syntax.specs.lexeme.declared.mark.Mark.TheVariants as marks
 use Rattle.cilk_syntax.specs.declared.un_op.UnOp.{UnOp}
 use Rattle.cilk_syntax.specs.Tree as tree
 use Rattle.cilk_rules.specs.Rule.{has, class_at}

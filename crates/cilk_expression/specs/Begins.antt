@@ -1,9 +1,9 @@
 -- The kinds of tokens with which an expression begins.
 use Rattle.std.specs.Prelude.{Bool, true, false, is_some}
-use Rattle.cilk_lexeme.specs.declared.keyword.Keyword.TheVariants as words
-use Rattle.cilk_lexeme.specs.declared.mark.Mark.TheVariants as marks
-use Rattle.cilk_lexeme.specs.declared.token.Kind.{Kind}
-use Rattle.cilk_lexeme.specs.declared.token.Kind.TheVariants as kind
+use Rattle.cilk_syntax.specs.lexeme.declared.keyword.Keyword.TheVariants as words
+use Rattle.cilk_syntax.specs.lexeme.declared.mark.Mark.TheVariants as marks
+use Rattle.cilk_syntax.specs.lexeme.declared.token.Kind.{Kind}
+use Rattle.cilk_syntax.specs.lexeme.declared.token.Kind.TheVariants as kind
 use Rattle.cilk_expression.specs.Classes.{a_mark}
 use Rattle.cilk_expression.specs.Operators.{sign_of}
 

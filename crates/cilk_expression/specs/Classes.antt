@@ -2,11 +2,11 @@
 -- which a rule gives a meaning; other names share one, and so do numbers, text literals and inclusions.
 use Rattle.std.specs.Prelude.{ℕ, if◌then◌else◌, List, [], ◌∷◌, codes}
 use Rattle.std.specs.Str.{bytes_eq}
-use Rattle.cilk_lexeme.specs.Lexeme.{Lexeme, Piece, word, name, number, mark, literal, inclusion}
-use Rattle.cilk_lexeme.specs.declared.keyword.Keyword.{Keyword}
-use Rattle.cilk_lexeme.specs.declared.keyword.Keyword.TheVariants as words
-use Rattle.cilk_lexeme.specs.declared.mark.Mark.{Mark}
-use Rattle.cilk_lexeme.specs.declared.mark.Mark.TheVariants as marks
+use Rattle.cilk_syntax.specs.lexeme.Lexeme.{Lexeme, Piece, word, name, number, mark, literal, inclusion}
+use Rattle.cilk_syntax.specs.lexeme.declared.keyword.Keyword.{Keyword}
+use Rattle.cilk_syntax.specs.lexeme.declared.keyword.Keyword.TheVariants as words
+use Rattle.cilk_syntax.specs.lexeme.declared.mark.Mark.{Mark}
+use Rattle.cilk_syntax.specs.lexeme.declared.mark.Mark.TheVariants as marks
 
 -- a word
 abbrev pub a_word : Keyword → ℕ

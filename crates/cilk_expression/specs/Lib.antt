@@ -1,4 +1,4 @@
-pub use Rattle.cilk_lexeme.specs.Lexeme
+pub use Rattle.cilk_syntax.specs.lexeme.Lexeme
 pub use Rattle.cilk_syntax.specs.Tree
 pub use Rattle.cilk_rules.specs.Rule
 pub mod Classes
@@ -9,3 +9,6 @@ pub mod Reading
 pub mod Within
 pub mod Names
 pub mod Begins
+pub use Rattle.cilk_syntax.specs.lexeme
+pub use Rattle.cilk_rules.specs as rules
+pub use Rattle.cilk_syntax.specs as syntax

@@ -1,6 +1,6 @@
 -- The classes of names, as a program tells them apart.
 use Rattle.std.specs.Prelude.{ℕ, List, [], ◌∷◌, Option, Some, None}
-use Rattle.cilk_lexeme.specs.Lexeme.{Piece}
+use Rattle.cilk_syntax.specs.lexeme.Lexeme.{Piece}
 use Rattle.cilk_rules.specs.Rule.{class_at}
 use Rattle.cilk_expression.specs.declared.name_class.NameClass.{NameClass}
 use Rattle.cilk_expression.specs.declared.name_class.NameClass.TheVariants as class

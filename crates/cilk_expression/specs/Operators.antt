@@ -1,6 +1,6 @@
 -- The operators: the class of the mark of each, and how tightly it binds.
 use Rattle.std.specs.Prelude.{ℕ, ◌==◌, if◌then◌else◌, List, [], ◌∷◌, Option, Some, None}
-use Rattle.cilk_lexeme.specs.declared.mark.Mark.TheVariants as marks
+use Rattle.cilk_syntax.specs.lexeme.declared.mark.Mark.TheVariants as marks
 use Rattle.cilk_syntax.specs.declared.operator.BinOp.TheVariants as ops
 use Rattle.cilk_syntax.specs.declared.un_op.UnOp.{UnOp}
 use Rattle.cilk_syntax.specs.declared.un_op.UnOp.TheVariants as signs

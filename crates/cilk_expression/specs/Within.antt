@@ -1,7 +1,7 @@
 -- Tokens that can be cut out of their text.
 use Rattle.std.specs.Prelude.{ℕ, ◌<◌, ◌≤◌, List, length, slice_range}
 use Rattle.std.specs.Str.{IsCharBoundary, IsAscii}
-use Rattle.cilk_lexeme.specs.declared.token.Token.{Token}
+use Rattle.cilk_syntax.specs.lexeme.declared.token.Token.{Token}
 
 -- the place of a token is within the text, is not empty, and may be cut out of it
 pub record IsWithin (text : List ℕ) (t : Token) : Type 0 where

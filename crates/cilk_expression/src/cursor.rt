@@ -1,5 +1,5 @@
 ghost use Rattle.std.specs.Prelude.{◌≡◌, ◌+◌, ◌-◌, ◌<◌, ◌^◌, All, length, OnOk};
-ghost use Rattle.cilk_lexeme.specs.Lexeme.{pieces_of};
+ghost use Rattle.cilk_syntax.specs.lexeme.Lexeme.{pieces_of};
 ghost use Rattle.cilk_rules.specs.Gives.{Gives};
 ghost use Rattle.cilk_rules.specs.Rule.{behind, has, is, class_at, token_at};
 ghost use Rattle.cilk_expression.specs.Classes.{a_word, a_mark, cls};
@@ -11,9 +11,8 @@ ghost use Rattle.cilk_expression.specs.Within.{IsWithin};
 use crate::literal::said;
 use crate::name_class::NameClass;
 use crate::operator::{Infix, begins_by, infix_of};
-use cilk_lexeme::{Header, Keyword, Kind, Mark, Token};
 use cilk_rules::{Fault, ReadError};
-use cilk_syntax::{Literal, Word};
+use cilk_syntax::{Header, Keyword, Kind, Literal, Mark, Token, Word};
 use std::alloc::Global;
 use std::marker::Model;
 
@@ -28,7 +27,7 @@ pub struct Cursor<'a> {
 
 impl<'a> Model for Cursor<'a> {
     ghost use Rattle.std.specs.Prelude.{All};
-    ghost use Rattle.cilk_lexeme.specs.Lexeme.{pieces_of};
+    ghost use Rattle.cilk_syntax.specs.lexeme.Lexeme.{pieces_of};
     ghost use Rattle.cilk_expression.specs.Within.{IsWithin};
     ghost use Rattle.cilk_expression.specs.Front.{Standing};
 

@@ -17,6 +17,11 @@ mod name_class;
 mod operator;
 mod reading;
 
+pub use cilk_syntax::{
+    Adjustment, BinOp, Block, Decl, Expr, ExprNode, Global, GlobalShape, Header, Inlet, Item,
+    ItemNode, Keyword, Literal, Local, LocalNode, LockAction, Mark, Move, MoveNode, Parameters,
+    Place, Proc, Program, Prototype, ReturnType, Shape, Stmt, StmtNode, Taker, Target, Word,
+};
 pub use cursor::Cursor;
 pub use name_class::NameClass;
 pub use reading::expression;

@@ -1,7 +1,7 @@
 //! What text literals say (C 1990, 6.1.4).
 
 ghost use Rattle.std.specs.Prelude.{◌≡◌, ◌<◌, IfOk, drop, string_bytes, IsAscii};
-ghost use Rattle.cilk_lexeme.specs.Lexeme.{escaped, body_says};
+ghost use Rattle.cilk_syntax.specs.lexeme.Lexeme.{escaped, body_says};
 
 use std::alloc::{AllocError, Global};
 

@@ -3,8 +3,7 @@ ghost use Rattle.cilk_expression.specs.Begins.{begins_by};
 ghost use Rattle.cilk_expression.specs.Classes.{a_mark};
 ghost use Rattle.cilk_expression.specs.Operators.{infix_of, sign_of};
 
-use cilk_lexeme::{Keyword, Kind, Mark};
-use cilk_syntax::{BinOp, UnOp};
+use cilk_syntax::{BinOp, Keyword, Kind, Mark, UnOp};
 
 /// What goes on behind an operand: an operator and a second operand, or `?` (C 1990, 6.3.5 to 6.3.15).
 #[derive(Clone, Copy)]

@@ -7,9 +7,8 @@ ghost use Rattle.cilk_expression.specs.Reading.{choice_at, operand_at, named_at,
 
 use crate::cursor::Cursor;
 use crate::operator::{Infix, sign_of};
-use cilk_lexeme::{Keyword, Kind, Mark};
 use cilk_rules::ReadError;
-use cilk_syntax::{BinOp, Expr, ExprNode, UnOp, Word};
+use cilk_syntax::{BinOp, Expr, ExprNode, Keyword, Kind, Mark, UnOp, Word};
 use std::alloc::Global;
 
 // An operand binds more tightly than each operator.

@@ -2,19 +2,19 @@
 use Rattle.std.proofs.Common.{◌≡◌, ◌<◌, ◌+◌, ℕ, zero, suc, Bool, true, false, List, [], ◌∷◌, ◌++◌, map, length, Some, refl, sym, ap, ◌∙◌, subst, arith, inl, inr, if◌then◌else◌}
 use Rattle.std.specs.List.{range_with_len}
 use Rattle.std.proofs.lemmas.List.{map-append}
-use Rattle.cilk_labelled.specs.Labelled.{Labelled}
-use Rattle.cilk_model.specs.Path.{Path, same_path}
-use Rattle.cilk_model.specs.Event.{Event, acted, spawned, delivered, returned, ended, trapped, moved}
-use Rattle.cilk_model.specs.Fate as model
-use Rattle.cilk_model.specs.Fate.{fate_by, is_birth, was_made, fate_of}
+use Rattle.cilk_agree.specs.labelled.Labelled.{Labelled}
+use Rattle.cilk_agree.specs.model.Path.{Path, same_path}
+use Rattle.cilk_agree.specs.model.Event.{Event, acted, spawned, delivered, returned, ended, trapped, moved}
+use Rattle.cilk_agree.specs.model.Fate as model
+use Rattle.cilk_agree.specs.model.Fate.{fate_by, is_birth, was_made, fate_of}
 use Rattle.cilk_fates.proofs.Events.{told-push, made-push, fate-made, has_fate}
 use Rattle.cilk_fates.proofs.Born.{or_left}
-use Rattle.cilk_seen.specs.Made.{born, made, procedure_of}
-use Rattle.cilk_spawn.specs.declared.fate.Fate.{Fate}
-use Rattle.cilk_spawn.specs.declared.fate.Fate.TheVariants.{Live, Returned, Delivered, Aborted}
-use Rattle.cilk_spawn.specs.Nodes.{Node, IsTree, node_at, is_live, lives, after_taking, root_alone, path_at}
-use Rattle.cilk_spawn.proofs.Lists.{decide, range_more}
-use Rattle.cilk_spawn.proofs.Trees.{names}
+use Rattle.cilk_agree.specs.seen.Made.{born, made, procedure_of}
+use Rattle.cilk_agree.specs.spawn.declared.fate.Fate.{Fate}
+use Rattle.cilk_agree.specs.spawn.declared.fate.Fate.TheVariants.{Live, Returned, Delivered, Aborted}
+use Rattle.cilk_agree.specs.spawn.Nodes.{Node, IsTree, node_at, is_live, lives, after_taking, root_alone, path_at}
+use Rattle.cilk_agree.proofs.spawn_laws.Lists.{decide, range_more}
+use Rattle.cilk_agree.proofs.spawn_laws.Trees.{names}
 use Rattle.cilk_agree.specs.Fated.{fate_named, fate_after, IsBorn, Births, Follows, Fated}
 use Rattle.cilk_fated.specs.Laws.{RootsAreFated, LivingAreTold, FatesAreKept}
 use Rattle.cilk_fated.proofs.Made.{made-more, node-made, procedure-kept, procedure-born}

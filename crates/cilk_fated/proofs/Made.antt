@@ -3,14 +3,14 @@ use Rattle.std.proofs.Common.{◌≡◌, ◌<◌, ◌+◌, ℕ, zero, suc, Bool,
 use Rattle.std.specs.Prelude.{flat_map, option_and_then}
 use Rattle.std.specs.Option.{option_or}
 use Rattle.std.specs.List.{list_any, range_with_len}
-use Rattle.cilk_labelled.specs.Labelled.{Labelled}
-use Rattle.cilk_model.specs.Path.{Path, same_path}
-use Rattle.cilk_model.specs.Event.{Event, acted, spawned, delivered, returned, ended, trapped, moved}
-use Rattle.cilk_model.specs.Fate.{is_birth, was_made}
-use Rattle.cilk_placed.proofs.Entries.{same-is, same-self}
-use Rattle.cilk_seen.specs.Made.{callee_of, spawn_by, spawn_of, procedure_of, born, made}
-use Rattle.cilk_spawn.specs.Nodes.{Node, path_at}
-use Rattle.cilk_spawn.proofs.Alive.{any_map}
+use Rattle.cilk_agree.specs.labelled.Labelled.{Labelled}
+use Rattle.cilk_agree.specs.model.Path.{Path, same_path}
+use Rattle.cilk_agree.specs.model.Event.{Event, acted, spawned, delivered, returned, ended, trapped, moved}
+use Rattle.cilk_agree.specs.model.Fate.{is_birth, was_made}
+use Rattle.cilk_fates.proofs.placed_laws.Entries.{same-is, same-self}
+use Rattle.cilk_agree.specs.seen.Made.{callee_of, spawn_by, spawn_of, procedure_of, born, made}
+use Rattle.cilk_agree.specs.spawn.Nodes.{Node, path_at}
+use Rattle.cilk_agree.proofs.spawn_laws.Alive.{any_map}
 use Rattle.cilk_agree.specs.Fated.{Fated}
 
 -- one event more

@@ -1,10 +1,10 @@
 -- A node tells the fate of its path, whatever the events were.
 use Rattle.std.proofs.Common.{◌≡◌, ◌<◌, ℕ, Bool, true, false, List, length, Some, None, refl, sym, ap, ◌∙◌, if◌then◌else◌}
-use Rattle.cilk_labelled.specs.Labelled.{Labelled}
-use Rattle.cilk_model.specs.Path.{Path}
-use Rattle.cilk_model.specs.Event.{Event}
-use Rattle.cilk_model.specs.Fate.{lives, fate_from, was_made, fate_of}
-use Rattle.cilk_spawn.specs.Nodes.{Node, node_at, path_at}
+use Rattle.cilk_agree.specs.labelled.Labelled.{Labelled}
+use Rattle.cilk_agree.specs.model.Path.{Path}
+use Rattle.cilk_agree.specs.model.Event.{Event}
+use Rattle.cilk_agree.specs.model.Fate.{lives, fate_from, was_made, fate_of}
+use Rattle.cilk_agree.specs.spawn.Nodes.{Node, node_at, path_at}
 use Rattle.cilk_agree.specs.Fated.{fate_named, Fated}
 use Rattle.cilk_fated.specs.Laws.{FatesAreRead, FatesAreOne}
 use Rattle.cilk_fated.proofs.Made.{Node_of, node-made}

@@ -1,10 +1,10 @@
 -- What the nodes of instances keep of the events.
 use Rattle.std.specs.Prelude.{◌≡◌, ◌<◌, ℕ, suc, true, List, [], ◌∷◌, ◌++◌, length, Some, None}
-use Rattle.cilk_labelled.specs.Labelled.{Labelled}
-use Rattle.cilk_model.specs.Path.{Path}
-use Rattle.cilk_model.specs.Event.{Event}
-use Rattle.cilk_model.specs.Fate.{lives, fate_of}
-use Rattle.cilk_spawn.specs.Nodes.{Node, IsTree, node_at, is_live, root_alone, path_at}
+use Rattle.cilk_agree.specs.labelled.Labelled.{Labelled}
+use Rattle.cilk_agree.specs.model.Path.{Path}
+use Rattle.cilk_agree.specs.model.Event.{Event}
+use Rattle.cilk_agree.specs.model.Fate.{lives, fate_of}
+use Rattle.cilk_agree.specs.spawn.Nodes.{Node, IsTree, node_at, is_live, root_alone, path_at}
 use Rattle.cilk_agree.specs.Fated.{fate_named, Fated, Follows}
 
 -- before any event

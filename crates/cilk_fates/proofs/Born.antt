@@ -1,10 +1,10 @@
 -- What the events tell after a child was born.
 use Rattle.std.proofs.Common.{◌≡◌, ℕ, ◌+◌, ◌≤◌, Bool, true, false, ◌||◌, List, [], ◌∷◌, ◌++◌, length, length-append, Some, ◌⊎◌, inl, inr, refl, sym, ap, subst, ◌∙◌, arith}
-use Rattle.cilk_model.specs.Path.{Path, same_path, child_path, parent_of}
-use Rattle.cilk_model.specs.Instance.{Delivery}
-use Rattle.cilk_model.specs.State.{Instances, instance_at, is_live}
-use Rattle.cilk_model.specs.Event.{Event, spawned}
-use Rattle.cilk_model.specs.Fate.{lives, was_made}
+use Rattle.cilk_placed.specs.model.Path.{Path, same_path, child_path, parent_of}
+use Rattle.cilk_placed.specs.model.Instance.{Delivery}
+use Rattle.cilk_placed.specs.model.State.{Instances, instance_at, is_live}
+use Rattle.cilk_placed.specs.model.Event.{Event, spawned}
+use Rattle.cilk_placed.specs.model.Fate.{lives, was_made}
 use Rattle.cilk_placed.proofs.Entries.{same-is, same-self, children_at}
 use Rattle.cilk_placed.proofs.Live.{More}
 use Rattle.cilk_placed.proofs.Family.{parent-child, same-number, counted_live}

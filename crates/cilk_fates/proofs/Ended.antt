@@ -1,11 +1,11 @@
 -- What the events tell after an instance has ended.
 use Rattle.std.proofs.Common.{◌≡◌, ℕ, ◌≤◌, Bool, true, false, not, ◌&&◌, List, ◌++◌, Option, Some, None, is_some, refl, sym, ap, subst, ◌∙◌}
 use Rattle.std.specs.Prelude.{option_map}
-use Rattle.cilk_model.specs.Path.{Path, same_path, child_path, parent_of}
-use Rattle.cilk_model.specs.Instance.{Delivery, Instance}
-use Rattle.cilk_model.specs.State.{Instances, instance_at, is_live}
-use Rattle.cilk_model.specs.Event.{Event}
-use Rattle.cilk_model.specs.Fate.{Fate, lives, has_returned, was_made}
+use Rattle.cilk_placed.specs.model.Path.{Path, same_path, child_path, parent_of}
+use Rattle.cilk_placed.specs.model.Instance.{Delivery, Instance}
+use Rattle.cilk_placed.specs.model.State.{Instances, instance_at, is_live}
+use Rattle.cilk_placed.specs.model.Event.{Event}
+use Rattle.cilk_placed.specs.model.Fate.{Fate, lives, has_returned, was_made}
 use Rattle.cilk_placed.proofs.Entries.{same-is, same-sym, children_at}
 use Rattle.cilk_placed.proofs.Live.{Fewer}
 use Rattle.cilk_placed.proofs.Family.{counted_live}

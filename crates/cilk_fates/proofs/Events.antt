@@ -2,10 +2,10 @@
 use Rattle.std.proofs.Common.{◌≡◌, ℕ, suc, ◌+◌, Bool, true, false, ◌||◌, if◌then◌else◌, List, [], ◌∷◌, ◌++◌, length, Some, None, refl, ap, ◌∙◌, arith}
 use Rattle.std.specs.List.{list_any}
 use Rattle.std.proofs.lemmas.List.Folds.{list_any-append}
-use Rattle.cilk_model.specs.Path.{Path, same_path}
-use Rattle.cilk_model.specs.State.{Kind}
-use Rattle.cilk_model.specs.Event.{Event, acted, trapped, moved}
-use Rattle.cilk_model.specs.Fate.{Fate, lives, fate_by, fate_from, is_birth, was_made, fate_of}
+use Rattle.cilk_placed.specs.model.Path.{Path, same_path}
+use Rattle.cilk_placed.specs.model.State.{Kind}
+use Rattle.cilk_placed.specs.model.Event.{Event, acted, trapped, moved}
+use Rattle.cilk_placed.specs.model.Fate.{Fate, lives, fate_by, fate_from, is_birth, was_made, fate_of}
 
 -- the fate of a path that was made
 abbrev pub told : List Event → Path → Fate

@@ -1,16 +1,16 @@
 -- What the events tell holds at each position, and fates move on.
 use Rattle.std.proofs.Common.{◌≡◌, ℕ, suc, ◌+◌, Bool, true, false, ◌||◌, List, [], ◌∷◌, ◌++◌, length, length-append, Option, Some, None, is_none, is_some, refl, sym, ap, subst, ◌∙◌, if◌then◌else◌, arith}
 use Rattle.std.specs.Prelude.{option_map}
-use Rattle.cilk_labelled.specs.Labelled.{Labelled}
-use Rattle.cilk_model.specs.Path.{Path, same_path, child_path}
-use Rattle.cilk_model.specs.Instance.{Delivery, Instance, started}
-use Rattle.cilk_model.specs.State.{Instances, State, instance_at, is_live, opening_state}
-use Rattle.cilk_model.specs.Event.{Event, spawned, delivered, returned, ended, moved}
-use Rattle.cilk_model.specs.Fate.{Fate, lives, has_returned, was_delivered, was_aborted, was_made, fate_of}
-use Rattle.cilk_model.specs.Pick.{Step, step_of_live}
-use Rattle.cilk_model.specs.Scheduler.{hand_of}
-use Rattle.cilk_model.specs.Choice.{Act, step, pop, steal, Choice}
-use Rattle.cilk_model.specs.Run.{Standing, Position, refusal_of, state_after, event_of_step, next_by_hand, next_by, next_of, event_by_hand, event_by, event_of, after_from, opening, is_crew, after_main, after, one_more}
+use Rattle.cilk_placed.specs.labelled.Labelled.{Labelled}
+use Rattle.cilk_placed.specs.model.Path.{Path, same_path, child_path}
+use Rattle.cilk_placed.specs.model.Instance.{Delivery, Instance, started}
+use Rattle.cilk_placed.specs.model.State.{Instances, State, instance_at, is_live, opening_state}
+use Rattle.cilk_placed.specs.model.Event.{Event, spawned, delivered, returned, ended, moved}
+use Rattle.cilk_placed.specs.model.Fate.{Fate, lives, has_returned, was_delivered, was_aborted, was_made, fate_of}
+use Rattle.cilk_placed.specs.model.Pick.{Step, step_of_live}
+use Rattle.cilk_placed.specs.model.Scheduler.{hand_of}
+use Rattle.cilk_placed.specs.model.Choice.{Act, step, pop, steal, Choice}
+use Rattle.cilk_placed.specs.model.Run.{Standing, Position, refusal_of, state_after, event_of_step, next_by_hand, next_by, next_of, event_by_hand, event_by, event_of, after_from, opening, is_crew, after_main, after, one_more}
 use Rattle.cilk_placed.proofs.Entries.{same-is}
 use Rattle.cilk_placed.proofs.Runs.{after-push, went}
 use Rattle.cilk_placed.proofs.Rows.{step_row}

@@ -6,3 +6,4 @@ pub mod Told
 pub mod Ended
 pub mod Born
 pub mod Fates
+pub use Rattle.cilk_placed.proofs as placed_laws

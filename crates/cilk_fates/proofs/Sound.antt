@@ -1,9 +1,9 @@
 -- Each delivery that waits is of a child that has returned, and waits once.
 use Rattle.std.proofs.Common.{◌≡◌, Bool, true, false, List, [], ◌∷◌, ◌++◌, Some, refl, sym, ap, subst, ◌∙◌}
-use Rattle.cilk_model.specs.Path.{Path, same_path, parent_of}
-use Rattle.cilk_model.specs.Instance.{Delivery}
-use Rattle.cilk_model.specs.Event.{Event}
-use Rattle.cilk_model.specs.Fate.{lives, has_returned}
+use Rattle.cilk_placed.specs.model.Path.{Path, same_path, parent_of}
+use Rattle.cilk_placed.specs.model.Instance.{Delivery}
+use Rattle.cilk_placed.specs.model.Event.{Event}
+use Rattle.cilk_placed.specs.model.Fate.{lives, has_returned}
 use Rattle.cilk_placed.proofs.Entries.{same-is, same-self, same-sym}
 use Rattle.cilk_fates.proofs.Events.{told}
 use Rattle.cilk_fates.proofs.Tales.{IsOf}

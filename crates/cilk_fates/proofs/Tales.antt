@@ -1,13 +1,13 @@
 -- What each step tells, and what it does to the deliveries that wait.
 use Rattle.std.proofs.Common.{◌≡◌, ℕ, ℤ, Bool, true, false, List, [], ◌∷◌, ◌++◌, Option, Some, None, refl, sym, ap, ◌∙◌}
 use Rattle.std.specs.Prelude.{option_map}
-use Rattle.cilk_labelled.specs.Labelled.{Labelled}
-use Rattle.cilk_model.specs.Path.{Path, same_path, parent_of}
-use Rattle.cilk_model.specs.Instance.{Activation, Receiver, Delivery, Instance, entered}
-use Rattle.cilk_model.specs.State.{Instances, State, instance_at, is_live, changed, without}
-use Rattle.cilk_model.specs.Change.{gone_on, put, above, resumed_to, resumed, deliveries, with_deliveries, after_return_to}
-use Rattle.cilk_model.specs.Event.{Event, spawned, delivered, returned, ended}
-use Rattle.cilk_model.specs.Pick.{Step, waits, parks, goes_on, ends, spawns}
+use Rattle.cilk_placed.specs.labelled.Labelled.{Labelled}
+use Rattle.cilk_placed.specs.model.Path.{Path, same_path, parent_of}
+use Rattle.cilk_placed.specs.model.Instance.{Activation, Receiver, Delivery, Instance, entered}
+use Rattle.cilk_placed.specs.model.State.{Instances, State, instance_at, is_live, changed, without}
+use Rattle.cilk_placed.specs.model.Change.{gone_on, put, above, resumed_to, resumed, deliveries, with_deliveries, after_return_to}
+use Rattle.cilk_placed.specs.model.Event.{Event, spawned, delivered, returned, ended}
+use Rattle.cilk_placed.specs.model.Pick.{Step, waits, parks, goes_on, ends, spawns}
 use Rattle.cilk_placed.proofs.Entries.{same-self, live-changed}
 use Rattle.cilk_placed.proofs.Rows.{Row, headless, locked, parked, stopping, going, writing, calling, leaving, answering, spawning, printing, turning, marking, returning, placing, taking, aborting}
 use Rattle.cilk_fates.proofs.Events.{IsPlain, acted_plain, trapped_plain}

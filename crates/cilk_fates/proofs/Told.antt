@@ -1,10 +1,10 @@
 -- What the events tell of the instances, and what they tell after one more step.
 use Rattle.std.proofs.Common.{◌≡◌, ℕ, suc, ◌≤◌, Bool, true, false, List, [], ◌∷◌, ◌++◌, length, Some, refl, sym, ap, subst, ◌∙◌, if◌then◌else◌}
-use Rattle.cilk_model.specs.Path.{Path, same_path, child_path, parent_of}
-use Rattle.cilk_model.specs.Instance.{Delivery}
-use Rattle.cilk_model.specs.State.{Instances, is_live}
-use Rattle.cilk_model.specs.Event.{Event, delivered, returned, ended}
-use Rattle.cilk_model.specs.Fate.{Fate, lives, has_returned, was_delivered, was_aborted, was_made}
+use Rattle.cilk_placed.specs.model.Path.{Path, same_path, child_path, parent_of}
+use Rattle.cilk_placed.specs.model.Instance.{Delivery}
+use Rattle.cilk_placed.specs.model.State.{Instances, is_live}
+use Rattle.cilk_placed.specs.model.Event.{Event, delivered, returned, ended}
+use Rattle.cilk_placed.specs.model.Fate.{Fate, lives, has_returned, was_delivered, was_aborted, was_made}
 use Rattle.cilk_placed.proofs.Entries.{same-is, same-self, children_at}
 use Rattle.cilk_placed.proofs.Live.{Alike}
 use Rattle.cilk_fates.proofs.Events.{told, told-push, IsPlain, told-plain, made-unborn}

@@ -1,10 +1,10 @@
 -- Which deliveries wait at a path after each change.
 use Rattle.std.proofs.Common.{◌≡◌, Bool, true, false, List, [], ◌∷◌, ◌++◌, map, Option, Some, None, is_some, refl, sym, ap, ◌∙◌, if◌then◌else◌}
 use Rattle.std.specs.Prelude.{option_map}
-use Rattle.cilk_model.specs.Path.{Path, same_path, is_below}
-use Rattle.cilk_model.specs.Instance.{Delivery, Instance}
-use Rattle.cilk_model.specs.State.{Entry, Instances, instance_at, is_live, changed, without}
-use Rattle.cilk_model.specs.Change.{mark, with_deliveries}
+use Rattle.cilk_placed.specs.model.Path.{Path, same_path, is_below}
+use Rattle.cilk_placed.specs.model.Instance.{Delivery, Instance}
+use Rattle.cilk_placed.specs.model.State.{Entry, Instances, instance_at, is_live, changed, without}
+use Rattle.cilk_placed.specs.model.Change.{mark, with_deliveries}
 use Rattle.cilk_placed.proofs.Entries.{same-is, at-changed_same, at-changed_other, at-without_other, either_of, at-push}
 
 abbrev waits_of : Option Instance → Option (List Delivery)

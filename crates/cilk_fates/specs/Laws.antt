@@ -1,11 +1,11 @@
 -- What becomes of each path that was ever made, over every list of possible choices.
 use Rattle.std.specs.Prelude.{◌≡◌, ◌↔◌, ℕ, suc, true, List, [], ◌∷◌, ◌++◌, length, Some}
-use Rattle.cilk_labelled.specs.Labelled.{Labelled}
-use Rattle.cilk_model.specs.Path.{Path}
-use Rattle.cilk_model.specs.State.{is_live}
-use Rattle.cilk_model.specs.Choice.{Choice}
-use Rattle.cilk_model.specs.Fate.{Fate, lives, has_returned, was_delivered, was_aborted, fate_of}
-use Rattle.cilk_model.specs.Run.{Position, after}
+use Rattle.cilk_placed.specs.labelled.Labelled.{Labelled}
+use Rattle.cilk_placed.specs.model.Path.{Path}
+use Rattle.cilk_placed.specs.model.State.{is_live}
+use Rattle.cilk_placed.specs.model.Choice.{Choice}
+use Rattle.cilk_placed.specs.model.Fate.{Fate, lives, has_returned, was_delivered, was_aborted, fate_of}
+use Rattle.cilk_placed.specs.model.Run.{Position, after}
 
 -- each choice is one event
 abbrev pub EachChoiceIsAnEvent : Type 0

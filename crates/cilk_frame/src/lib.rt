@@ -28,6 +28,9 @@ mod frame;
 mod id;
 
 pub use awaited::Await;
-pub use cilk_syntax::Memory;
+pub use cilk_nodes::{
+    Action, Area, BinOp, Body, Code, Memory, Place, Slot, Slots, Taker, Target, Trap, Var, apply,
+    eval,
+};
 pub use frame::Frame;
 pub use id::Id;

@@ -1,14 +1,14 @@
 -- The laws of expressions, as those of a part of rules.
 use Rattle.std.proofs.Common.{◌≡◌, ℕ, ◌≤◌, true, false, List, [], ◌∷◌, ◌++◌, Option, Ok, refl, ◌∙◌, arith}
-use Rattle.cilk_lexeme.specs.Lexeme.{Piece, name}
-use Rattle.cilk_lexeme.specs.declared.keyword.Keyword.TheVariants as words
-use Rattle.cilk_lexeme.specs.declared.mark.Mark.TheVariants as marks
-use Rattle.cilk_syntax.specs.Tree as tree
-use Rattle.cilk_rules.specs.Rule.{has, class_at}
-use Rattle.cilk_rules.proofs.Tools.{or_right}
-use Rattle.cilk_rules.proofs.Tokens.{has_append}
-use Rattle.cilk_rules.proofs.Sound.{Took}
-use Rattle.cilk_rules.proofs.Local.{Local}
+use Rattle.cilk_expression.specs.lexeme.Lexeme.{Piece, name}
+use Rattle.cilk_expression.specs.lexeme.declared.keyword.Keyword.TheVariants as words
+use Rattle.cilk_expression.specs.lexeme.declared.mark.Mark.TheVariants as marks
+use Rattle.cilk_expression.specs.syntax.Tree as tree
+use Rattle.cilk_expression.specs.rules.Rule.{has, class_at}
+use Rattle.cilk_expression.proofs.rules_laws.Tools.{or_right}
+use Rattle.cilk_expression.proofs.rules_laws.Tokens.{has_append}
+use Rattle.cilk_expression.proofs.rules_laws.Sound.{Took}
+use Rattle.cilk_expression.proofs.rules_laws.Local.{Local}
 use Rattle.cilk_expression.specs.Classes.{cls, names, a_number, a_word, a_mark}
 use Rattle.cilk_expression.specs.Operators.{prefixes, classes}
 use Rattle.cilk_expression.specs.Grammar.{a_name_is, begins_expr, goes_on_expr, SpellsWhole}

@@ -1,10 +1,10 @@
 -- What the rules of moves make of parts that are the same but for places is the same but for places.
 use Rattle.std.proofs.Common.{◌≡◌, map, Option, Some, None, refl, sym, ◌∙◌}
-use Rattle.cilk_syntax.specs.Tree as tree
-use Rattle.cilk_syntax.specs.Tree.{Word, Expr}
+use Rattle.cilk_expression.specs.syntax.Tree as tree
+use Rattle.cilk_expression.specs.syntax.Tree.{Word, Expr}
 use Rattle.cilk_grammar.specs.Parts.{Value, computed, called, assigned}
 use Rattle.cilk_grammar.specs.Grammar as grammar
-use Rattle.cilk_syntax.specs.Bare.{bare_word, bare_expr, bare_value, bare_place, bare_target, bare_move}
+use Rattle.cilk_expression.specs.syntax.Bare.{bare_word, bare_expr, bare_value, bare_place, bare_target, bare_move}
 use Rattle.cilk_grammar.specs.Likes.{bare_written}
 use Rattle.cilk_grammar.proofs.Kept.{Kept, k_done, k_then, k_either, k_use, k_name, k_expr, k_value, k_between, k_commas}
 

@@ -1,17 +1,17 @@
 -- What the rules of items make of parts that are the same but for places is the same but for places.
 use Rattle.std.proofs.Common.{◌≡◌, ℕ, suc, List, [], ◌∷◌, map, length, Bool, false, Option, Some, None, pos, neg_ℤ, refl, sym, ap, ◌∙◌}
 use Rattle.std.proofs.lemmas.List.{length-map}
-use Rattle.cilk_lexeme.specs.declared.header.Header.{Header}
-use Rattle.cilk_syntax.specs.declared.return_type.ReturnType.{ReturnType}
-use Rattle.cilk_syntax.specs.declared.return_type.ReturnType.TheVariants as returns
-use Rattle.cilk_syntax.specs.Tree as tree
-use Rattle.cilk_syntax.specs.Tree.{Word}
-use Rattle.cilk_rules.specs.Rule.{Rule}
+use Rattle.cilk_expression.specs.lexeme.declared.header.Header.{Header}
+use Rattle.cilk_expression.specs.syntax.declared.return_type.ReturnType.{ReturnType}
+use Rattle.cilk_expression.specs.syntax.declared.return_type.ReturnType.TheVariants as returns
+use Rattle.cilk_expression.specs.syntax.Tree as tree
+use Rattle.cilk_expression.specs.syntax.Tree.{Word}
+use Rattle.cilk_expression.specs.rules.Rule.{Rule}
 use Rattle.cilk_grammar.specs.Parts.{Means}
 use Rattle.cilk_grammar.specs.Forms.{optional}
 use Rattle.cilk_grammar.specs.Grammar as grammar
 use Rattle.cilk_grammar.specs.Grammar.{Tail, declares, defines, function, all_named, named_of}
-use Rattle.cilk_syntax.specs.Bare.{bare_word, bare_block, bare_parameters, bare_global, bare_item}
+use Rattle.cilk_expression.specs.syntax.Bare.{bare_word, bare_block, bare_parameters, bare_global, bare_item}
 use Rattle.cilk_grammar.proofs.Kept.{Kept, k_done, k_skip, k_then, k_either, k_by, k_use, k_many, k_name, k_number, k_header, k_before, k_between, k_behind_commas, k_commas}
 use Rattle.cilk_grammar.proofs.KeepsStmts.{OfName, same_joined, block_kept}
 

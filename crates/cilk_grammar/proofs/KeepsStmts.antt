@@ -1,13 +1,13 @@
 -- What the rules of statements make of parts that are the same but for places is the same but for places.
 use Rattle.std.proofs.Common.{◌≡◌, ℕ, List, [], ◌∷◌, ◌++◌, map, Some, None, refl, sym, ap, ◌∙◌}
 use Rattle.std.proofs.lemmas.List.{map-append}
-use Rattle.cilk_lexeme.specs.declared.keyword.Keyword.{Keyword}
-use Rattle.cilk_syntax.specs.declared.lock_action.LockAction.{LockAction}
-use Rattle.cilk_syntax.specs.Tree as tree
-use Rattle.cilk_syntax.specs.Tree.{Word, stmts_of, locals_of}
+use Rattle.cilk_expression.specs.lexeme.declared.keyword.Keyword.{Keyword}
+use Rattle.cilk_expression.specs.syntax.declared.lock_action.LockAction.{LockAction}
+use Rattle.cilk_expression.specs.syntax.Tree as tree
+use Rattle.cilk_expression.specs.syntax.Tree.{Word, stmts_of, locals_of}
 use Rattle.cilk_grammar.specs.Forms.{joined, expression, optional}
 use Rattle.cilk_grammar.specs.Grammar as grammar
-use Rattle.cilk_syntax.specs.Bare.{bare_word, bare_expr, bare_value, bare_part, bare_taker, bare_decl, bare_stmt, bare_stmts, bare_local, bare_locals, bare_block}
+use Rattle.cilk_expression.specs.syntax.Bare.{bare_word, bare_expr, bare_value, bare_part, bare_taker, bare_decl, bare_stmt, bare_stmts, bare_local, bare_locals, bare_block}
 use Rattle.cilk_grammar.proofs.Kept.{Kept, k_done, k_skip, k_then, k_either, k_nearest, k_use, k_many, k_word, k_name, k_number, k_literal, k_expr, k_value, k_statement, k_unbraced, k_inlet, k_before, k_between, k_behind_commas, k_commas}
 use Rattle.cilk_grammar.proofs.Keeps.{arguments_kept, index_kept, op_kept, adjustment_kept, same_assigned, OfPlace, adjusted_kept, move_kept}
 

@@ -1,12 +1,12 @@
 -- What a rule makes of parts that are the same but for places, a step of the rule at a time.
 use Rattle.std.proofs.Common.{◌≡◌, ℕ, Bool, List, ◌∷◌, map, refl}
-use Rattle.cilk_rules.specs.Rule.{Rule, done, skip, part, and_then, either, many, nearest, by_value}
-use Rattle.cilk_rules.specs.Alike as alike
-use Rattle.cilk_rules.specs.Alike.{EachAlike, no_more, one_more}
-use Rattle.cilk_rules.proofs.Moved as moved
-use Rattle.cilk_lexeme.specs.declared.keyword.Keyword.{Keyword}
+use Rattle.cilk_expression.specs.rules.Rule.{Rule, done, skip, part, and_then, either, many, nearest, by_value}
+use Rattle.cilk_expression.specs.rules.Alike as alike
+use Rattle.cilk_expression.specs.rules.Alike.{EachAlike, no_more, one_more}
+use Rattle.cilk_expression.proofs.rules_laws.Moved as moved
+use Rattle.cilk_expression.specs.lexeme.declared.keyword.Keyword.{Keyword}
 use Rattle.cilk_grammar.specs.Parts.{token, the_literal, the_header, Means}
-use Rattle.cilk_syntax.specs.Bare.{bare_word, bare_literal, bare_expr, bare_stmt, bare_local}
+use Rattle.cilk_expression.specs.syntax.Bare.{bare_word, bare_literal, bare_expr, bare_stmt, bare_local}
 use Rattle.cilk_grammar.specs.Forms.{commas, behind_commas, place_of, name_of, number, expression, value, statement, unbraced, inlet}
 use Rattle.cilk_grammar.specs.Likes.{likes, bare_written}
 

@@ -1,11 +1,11 @@
 -- The laws of single tokens.
 use Rattle.std.proofs.Common.{◌≡◌, Bool, true, false, List, [], ◌∷◌, ◌++◌, length, Option, Some, None, Ok, Err, refl, sym, ap, subst, ◌∙◌, arith}
-use Rattle.cilk_lexeme.specs.Lexeme.{Piece}
-use Rattle.cilk_rules.specs.Rule.{has}
-use Rattle.cilk_rules.proofs.Tools.{ok_is}
-use Rattle.cilk_rules.proofs.Begun.{Begun, with_token}
-use Rattle.cilk_rules.proofs.Sound.{Took}
-use Rattle.cilk_rules.proofs.Local.{SameHead, Local, stuck_here, unexpected}
+use Rattle.cilk_expression.specs.lexeme.Lexeme.{Piece}
+use Rattle.cilk_expression.specs.rules.Rule.{has}
+use Rattle.cilk_expression.proofs.rules_laws.Tools.{ok_is}
+use Rattle.cilk_expression.proofs.rules_laws.Begun.{Begun, with_token}
+use Rattle.cilk_expression.proofs.rules_laws.Sound.{Took}
+use Rattle.cilk_expression.proofs.rules_laws.Local.{SameHead, Local, stuck_here, unexpected}
 use Rattle.cilk_expression.specs.Classes.{cls}
 use Rattle.cilk_grammar.specs.Parts.{Leaf, LeafMeans}
 use Rattle.cilk_grammar.specs.Spelling.{leaf_classes, said, IsOne, given, leaf_at}

@@ -12,3 +12,7 @@ pub mod KeepsItems
 pub mod Steady
 pub mod MovedNests
 pub mod Viable
+pub use Rattle.cilk_expression.proofs as expression_laws
+pub use Rattle.cilk_expression.proofs.lexeme_laws
+pub use Rattle.cilk_expression.proofs.rules_laws
+pub use Rattle.cilk_expression.proofs.syntax_laws

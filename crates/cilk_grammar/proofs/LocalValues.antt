@@ -1,15 +1,15 @@
 -- What reading the right side of an assignment meets depends on the tokens through the next one alone.
 use Rattle.std.proofs.Common.{◌≡◌, ℕ, suc, ◌≤◌, Bool, true, false, if◌then◌else◌, List, [], ◌∷◌, ◌++◌, length, Some, Ok, Err, refl, sym, ap, subst, ◌∙◌, arith}
-use Rattle.cilk_lexeme.specs.Lexeme.{Piece}
-use Rattle.cilk_lexeme.specs.declared.mark.Mark.TheVariants as sign
-use Rattle.cilk_syntax.specs.Tree as tree
-use Rattle.cilk_rules.specs.declared.fault.Fault.{Fault}
-use Rattle.cilk_rules.specs.declared.fault.Fault.TheVariants.{Unexpected, TooDeep}
-use Rattle.cilk_rules.specs.Rule as rule
-use Rattle.cilk_rules.specs.Rule.{◌>>=◌, Rule, Read, has, is, behind, class_at}
-use Rattle.cilk_rules.proofs.Tools.{ok_is}
-use Rattle.cilk_rules.proofs.Local.{Reader, SameHead, same_class, Again, Stuck, Local, unexpected, too_deep, local_bind, local_as, local_skip, local_choice, ok_here, stuck_here}
-use Rattle.cilk_rules.proofs.LocalRules as locals
+use Rattle.cilk_expression.specs.lexeme.Lexeme.{Piece}
+use Rattle.cilk_expression.specs.lexeme.declared.mark.Mark.TheVariants as sign
+use Rattle.cilk_expression.specs.syntax.Tree as tree
+use Rattle.cilk_expression.specs.rules.declared.fault.Fault.{Fault}
+use Rattle.cilk_expression.specs.rules.declared.fault.Fault.TheVariants.{Unexpected, TooDeep}
+use Rattle.cilk_expression.specs.rules.Rule as rule
+use Rattle.cilk_expression.specs.rules.Rule.{◌>>=◌, Rule, Read, has, is, behind, class_at}
+use Rattle.cilk_expression.proofs.rules_laws.Tools.{ok_is}
+use Rattle.cilk_expression.proofs.rules_laws.Local.{Reader, SameHead, same_class, Again, Stuck, Local, unexpected, too_deep, local_bind, local_as, local_skip, local_choice, ok_here, stuck_here}
+use Rattle.cilk_expression.proofs.rules_laws.LocalRules as locals
 use Rattle.cilk_expression.specs.Classes.{cls, a_mark, names}
 use Rattle.cilk_expression.specs.Reading.{whole_of}
 use Rattle.cilk_grammar.specs.Parts.{Part, the_name, token, an_expr, a_value, nest, Value, computed, Means}

@@ -1,9 +1,9 @@
 -- Other tokens that are the same lexemes spell what is the same but for places.
 use Rattle.std.proofs.Common.{◌≡◌, ℕ, zero, suc, List, [], ◌∷◌, map, Option, Some, None, refl, sym, ap, ◌∙◌, inl, inr}
-use Rattle.cilk_lexeme.specs.Lexeme.{Lexeme, Piece, name, number, literal, inclusion}
-use Rattle.cilk_syntax.specs.Tree as tree
-use Rattle.cilk_rules.specs.Rule.{has}
-use Rattle.cilk_rules.proofs.Moved as moved
+use Rattle.cilk_expression.specs.lexeme.Lexeme.{Lexeme, Piece, name, number, literal, inclusion}
+use Rattle.cilk_expression.specs.syntax.Tree as tree
+use Rattle.cilk_expression.specs.rules.Rule.{has}
+use Rattle.cilk_expression.proofs.rules_laws.Moved as moved
 use Rattle.cilk_expression.specs.Classes.{class_of, lexeme_of}
 use Rattle.cilk_expression.proofs.MovedExpr.{expr_moved}
 use Rattle.cilk_grammar.specs.Parts.{Leaf, the_word, the_name, the_number, the_literal, the_header, Nest, a_statement, no_block, an_inlet, Part, token, an_expr, a_value, nest, Value, computed, called, LeafMeans, NestMeans, Means}

@@ -1,19 +1,19 @@
 -- The laws of statements and inlets: by induction on how deep they may stand in one another, from the laws of rules.
 use Rattle.std.proofs.Common.{◌≡◌, ℕ, zero, suc, ◌≤◌, true, false, List, ◌++◌, length, Option, Ok, Err, refl, sym, ap, subst, inl, inr, arith}
-use Rattle.cilk_lexeme.specs.Lexeme.{Piece}
-use Rattle.cilk_rules.specs.declared.fault.Fault.TheVariants.{Unexpected, TooDeep}
-use Rattle.cilk_rules.specs.Rule as rule
-use Rattle.cilk_rules.specs.Rule.{Rule, Read, has, class_at}
-use Rattle.cilk_rules.proofs.Tools.{chosen}
-use Rattle.cilk_rules.proofs.Begun as begun
-use Rattle.cilk_rules.proofs.Begun.{Begun}
-use Rattle.cilk_rules.proofs.Sound as sound
-use Rattle.cilk_rules.proofs.Sound.{Took}
-use Rattle.cilk_rules.proofs.Complete as complete
-use Rattle.cilk_rules.proofs.Complete.{begins_so}
-use Rattle.cilk_rules.proofs.Local.{SameHead, same_class, Local, local_choice, stuck_here, unexpected, too_deep}
-use Rattle.cilk_rules.proofs.LocalRules as locals
-use Rattle.cilk_rules.proofs.Room as room
+use Rattle.cilk_expression.specs.lexeme.Lexeme.{Piece}
+use Rattle.cilk_expression.specs.rules.declared.fault.Fault.TheVariants.{Unexpected, TooDeep}
+use Rattle.cilk_expression.specs.rules.Rule as rule
+use Rattle.cilk_expression.specs.rules.Rule.{Rule, Read, has, class_at}
+use Rattle.cilk_expression.proofs.rules_laws.Tools.{chosen}
+use Rattle.cilk_expression.proofs.rules_laws.Begun as begun
+use Rattle.cilk_expression.proofs.rules_laws.Begun.{Begun}
+use Rattle.cilk_expression.proofs.rules_laws.Sound as sound
+use Rattle.cilk_expression.proofs.rules_laws.Sound.{Took}
+use Rattle.cilk_expression.proofs.rules_laws.Complete as complete
+use Rattle.cilk_expression.proofs.rules_laws.Complete.{begins_so}
+use Rattle.cilk_expression.proofs.rules_laws.Local.{SameHead, same_class, Local, local_choice, stuck_here, unexpected, too_deep}
+use Rattle.cilk_expression.proofs.rules_laws.LocalRules as locals
+use Rattle.cilk_expression.proofs.rules_laws.Room as room
 use Rattle.cilk_expression.specs.Classes.{cls}
 use Rattle.cilk_grammar.specs.Parts.{Nest, Part, token, an_expr, a_value, nest, NestMeans, Means}
 use Rattle.cilk_grammar.specs.Grammar.{rule_of}

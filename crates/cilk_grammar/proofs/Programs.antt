@@ -1,13 +1,13 @@
 -- The laws of programs.
 use Rattle.std.proofs.Common.{◌≡◌, ℕ, ◌+◌, ◌≤◌, true, false, List, [], ◌∷◌, ◌++◌, length, None, Ok, Err, refl, sym, ap, subst, ◌∙◌, arith}
 use Rattle.std.proofs.lemmas.List.{append-nil}
-use Rattle.cilk_lexeme.specs.Lexeme.{Piece}
-use Rattle.cilk_lexeme.specs.declared.header.Header.{Header}
-use Rattle.cilk_syntax.specs.Tree as tree
-use Rattle.cilk_rules.specs.Rule as rule
-use Rattle.cilk_rules.specs.Rule.{◌>>=◌, Rule, Read, has, class_at}
-use Rattle.cilk_rules.proofs.Tools.{bind_ok, ok_is}
-use Rattle.cilk_rules.proofs.Local.{SameHead, Local, local_bind, ok_here, stuck_here, unexpected}
+use Rattle.cilk_expression.specs.lexeme.Lexeme.{Piece}
+use Rattle.cilk_expression.specs.lexeme.declared.header.Header.{Header}
+use Rattle.cilk_expression.specs.syntax.Tree as tree
+use Rattle.cilk_expression.specs.rules.Rule as rule
+use Rattle.cilk_expression.specs.rules.Rule.{◌>>=◌, Rule, Read, has, class_at}
+use Rattle.cilk_expression.proofs.rules_laws.Tools.{bind_ok, ok_is}
+use Rattle.cilk_expression.proofs.rules_laws.Local.{SameHead, Local, local_bind, ok_here, stuck_here, unexpected}
 use Rattle.cilk_expression.specs.Classes.{cls}
 use Rattle.cilk_grammar.specs.Parts.{Means}
 use Rattle.cilk_grammar.specs.Grammar.{program}

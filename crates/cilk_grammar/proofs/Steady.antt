@@ -1,8 +1,8 @@
 -- The tests by which rules go on give the same on what is the same but for places.
 use Rattle.std.proofs.Common.{◌≡◌, ◌&&◌, Bool, true, false, refl}
-use Rattle.cilk_rules.specs.Rule.{Rule, done, skip, part, and_then, either, many, nearest, by_value}
-use Rattle.cilk_rules.specs.Alike as alike
-use Rattle.cilk_rules.proofs.Tools.{both_true}
+use Rattle.cilk_expression.specs.rules.Rule.{Rule, done, skip, part, and_then, either, many, nearest, by_value}
+use Rattle.cilk_expression.specs.rules.Alike as alike
+use Rattle.cilk_expression.proofs.rules_laws.Tools.{both_true}
 use Rattle.cilk_grammar.specs.Parts.{Means, Nest, a_statement, no_block, an_inlet}
 use Rattle.cilk_grammar.specs.Grammar as grammar
 use Rattle.cilk_grammar.specs.Grammar.{rule_of, program}

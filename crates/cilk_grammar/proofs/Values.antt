@@ -1,22 +1,22 @@
 -- The laws of what an assignment writes: by two tokens it is a call or an expression.
 use Rattle.std.proofs.Common.{◌≡◌, ℕ, ◌≤◌, Bool, true, false, List, [], ◌∷◌, ◌++◌, length, Option, Some, Ok, refl, sym, ap, subst, ◌∙◌, inl, inr, arith, length-append}
-use Rattle.cilk_lexeme.specs.Lexeme.{Lexeme, Piece, word, name, number, mark, literal, inclusion}
-use Rattle.cilk_lexeme.specs.declared.keyword.Keyword.{Keyword}
-use Rattle.cilk_lexeme.specs.declared.keyword.Keyword.TheVariants as words
-use Rattle.cilk_lexeme.specs.declared.mark.Mark.{Mark}
-use Rattle.cilk_lexeme.specs.declared.mark.Mark.TheVariants as sign
-use Rattle.cilk_syntax.specs.Tree as tree
-use Rattle.cilk_rules.specs.Rule as rule
-use Rattle.cilk_rules.specs.Rule.{◌>>=◌, Rule, Read, has, is, behind, class_at, and_then, done}
-use Rattle.cilk_rules.proofs.Tools.{bind_ok, ok_is, chosen, both_true, or_false}
-use Rattle.cilk_rules.proofs.Tokens.{apart_has}
-use Rattle.cilk_rules.proofs.Begun as begun
-use Rattle.cilk_rules.proofs.Begun.{Begun, with_token, with_nothing, wider}
-use Rattle.cilk_rules.proofs.Sound as sound
-use Rattle.cilk_rules.proofs.Sound.{Took}
-use Rattle.cilk_rules.proofs.Complete as complete
-use Rattle.cilk_rules.proofs.Complete.{begins_so}
-use Rattle.cilk_rules.proofs.Room as room
+use Rattle.cilk_expression.specs.lexeme.Lexeme.{Lexeme, Piece, word, name, number, mark, literal, inclusion}
+use Rattle.cilk_expression.specs.lexeme.declared.keyword.Keyword.{Keyword}
+use Rattle.cilk_expression.specs.lexeme.declared.keyword.Keyword.TheVariants as words
+use Rattle.cilk_expression.specs.lexeme.declared.mark.Mark.{Mark}
+use Rattle.cilk_expression.specs.lexeme.declared.mark.Mark.TheVariants as sign
+use Rattle.cilk_expression.specs.syntax.Tree as tree
+use Rattle.cilk_expression.specs.rules.Rule as rule
+use Rattle.cilk_expression.specs.rules.Rule.{◌>>=◌, Rule, Read, has, is, behind, class_at, and_then, done}
+use Rattle.cilk_expression.proofs.rules_laws.Tools.{bind_ok, ok_is, chosen, both_true, or_false}
+use Rattle.cilk_expression.proofs.rules_laws.Tokens.{apart_has}
+use Rattle.cilk_expression.proofs.rules_laws.Begun as begun
+use Rattle.cilk_expression.proofs.rules_laws.Begun.{Begun, with_token, with_nothing, wider}
+use Rattle.cilk_expression.proofs.rules_laws.Sound as sound
+use Rattle.cilk_expression.proofs.rules_laws.Sound.{Took}
+use Rattle.cilk_expression.proofs.rules_laws.Complete as complete
+use Rattle.cilk_expression.proofs.rules_laws.Complete.{begins_so}
+use Rattle.cilk_expression.proofs.rules_laws.Room as room
 use Rattle.cilk_expression.specs.Classes.{cls, class_of, a_word, a_mark, names}
 use Rattle.cilk_expression.specs.Grammar.{begins_expr, goes_on_expr, SpellsWhole}
 use Rattle.cilk_expression.specs.Reading.{whole_of}

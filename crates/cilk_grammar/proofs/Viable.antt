@@ -2,12 +2,12 @@
 use Rattle.std.proofs.Common.{◌≡◌, ℕ, ◌+◌, ◌-◌, ◌≤◌, List, [], ◌∷◌, ◌++◌, length, take, drop, map, Ok, Err, refl, sym, ap, subst, ◌∙◌, append_assoc, arith, length-append}
 use Rattle.std.proofs.Math.Seq.{drop-append_seam}
 use Rattle.std.proofs.lemmas.List.{map-append, take-append-drop}
-use Rattle.cilk_lexeme.specs.Lexeme.{Lexeme, Piece}
-use Rattle.cilk_syntax.specs.Tree as tree
-use Rattle.cilk_rules.specs.declared.fault.Fault.{Fault}
-use Rattle.cilk_rules.specs.declared.fault.Fault.TheVariants.{Unexpected, TooDeep}
-use Rattle.cilk_rules.specs.Rule.{Read}
-use Rattle.cilk_rules.proofs.Local.{SameHead, Local, Stuck, unexpected, too_deep}
+use Rattle.cilk_expression.specs.lexeme.Lexeme.{Lexeme, Piece}
+use Rattle.cilk_expression.specs.syntax.Tree as tree
+use Rattle.cilk_expression.specs.rules.declared.fault.Fault.{Fault}
+use Rattle.cilk_expression.specs.rules.declared.fault.Fault.TheVariants.{Unexpected, TooDeep}
+use Rattle.cilk_expression.specs.rules.Rule.{Read}
+use Rattle.cilk_expression.proofs.rules_laws.Local.{SameHead, Local, Stuck, unexpected, too_deep}
 use Rattle.cilk_expression.specs.Classes.{lexeme_of}
 use Rattle.cilk_grammar.specs.Spelling.{SpellsProgram, program_of}
 use Rattle.cilk_grammar.specs.Fault.{lexemes, IsNotGoingOn, at_token, at_end, any_limits, the_limits, start_or, place_left}

@@ -1,7 +1,7 @@
 -- Where tokens that spell no program go wrong.
 use Rattle.std.specs.Prelude.{◌≡◌, ℕ, ◌-◌, List, [], ◌∷◌, ◌++◌, length, drop, map}
-use Rattle.cilk_lexeme.specs.Lexeme.{Lexeme, Piece}
-use Rattle.cilk_syntax.specs.Tree.{Program}
+use Rattle.cilk_expression.specs.lexeme.Lexeme.{Lexeme, Piece}
+use Rattle.cilk_expression.specs.syntax.Tree.{Program}
 use Rattle.cilk_expression.specs.Classes.{lexeme_of}
 use Rattle.cilk_expression.specs.Grammar.{operator_limit, parenthesis_limit}
 use Rattle.cilk_grammar.specs.Spelling.{nesting_limit, SpellsProgram}

@@ -1,10 +1,10 @@
 -- What many rules are made of: tokens, and lists of what is alike.
 use Rattle.std.specs.Prelude.{ℕ, List, [], ◌∷◌, ◌++◌, Option, Some, None}
-use Rattle.cilk_lexeme.specs.declared.keyword.Keyword.{Keyword}
-use Rattle.cilk_lexeme.specs.declared.mark.Mark.{Mark}
-use Rattle.cilk_lexeme.specs.declared.mark.Mark.TheVariants as sign
-use Rattle.cilk_syntax.specs.Tree.{Word, Expr, Stmt, Local}
-use Rattle.cilk_rules.specs.Rule.{Rule, done, skip, part, and_then, either, many}
+use Rattle.cilk_expression.specs.lexeme.declared.keyword.Keyword.{Keyword}
+use Rattle.cilk_expression.specs.lexeme.declared.mark.Mark.{Mark}
+use Rattle.cilk_expression.specs.lexeme.declared.mark.Mark.TheVariants as sign
+use Rattle.cilk_expression.specs.syntax.Tree.{Word, Expr, Stmt, Local}
+use Rattle.cilk_expression.specs.rules.Rule.{Rule, done, skip, part, and_then, either, many}
 use Rattle.cilk_expression.specs.Classes.{a_word, a_mark}
 use Rattle.cilk_grammar.specs.Parts.{the_word, the_name, the_number, a_statement, no_block, an_inlet, token, an_expr, a_value, nest, Value, Means}
 

@@ -2,21 +2,21 @@
 -- and words stand in quotes. Numbers in parentheses are clauses of C 1990, and words there are entries of the Cilk 5.4
 -- manual. A rule that is factored says first what it stands behind.
 use Rattle.std.specs.Prelude.{ℕ, suc, List, [], ◌∷◌, length, map, Bool, true, false, Option, Some, None, ℤ, pos, neg_ℤ}
-use Rattle.cilk_lexeme.specs.declared.header.Header.{Header}
-use Rattle.cilk_lexeme.specs.declared.keyword.Keyword.{Keyword}
-use Rattle.cilk_lexeme.specs.declared.keyword.Keyword.TheVariants as key
-use Rattle.cilk_lexeme.specs.declared.mark.Mark.TheVariants as sign
-use Rattle.cilk_syntax.specs.declared.adjustment.Adjustment.{Adjustment}
-use Rattle.cilk_syntax.specs.declared.adjustment.Adjustment.TheVariants as adjustments
-use Rattle.cilk_syntax.specs.declared.lock_action.LockAction.{LockAction}
-use Rattle.cilk_syntax.specs.declared.lock_action.LockAction.TheVariants as actions
-use Rattle.cilk_syntax.specs.declared.operator.BinOp.{BinOp}
-use Rattle.cilk_syntax.specs.declared.operator.BinOp.TheVariants as ops
-use Rattle.cilk_syntax.specs.declared.return_type.ReturnType.{ReturnType}
-use Rattle.cilk_syntax.specs.declared.return_type.ReturnType.TheVariants as returns
-use Rattle.cilk_syntax.specs.Tree as tree
-use Rattle.cilk_syntax.specs.Tree.{Word, Expr, stmts_of, locals_of}
-use Rattle.cilk_rules.specs.Rule.{Rule, done, skip, part, and_then, either, many, nearest, by_value}
+use Rattle.cilk_expression.specs.lexeme.declared.header.Header.{Header}
+use Rattle.cilk_expression.specs.lexeme.declared.keyword.Keyword.{Keyword}
+use Rattle.cilk_expression.specs.lexeme.declared.keyword.Keyword.TheVariants as key
+use Rattle.cilk_expression.specs.lexeme.declared.mark.Mark.TheVariants as sign
+use Rattle.cilk_expression.specs.syntax.declared.adjustment.Adjustment.{Adjustment}
+use Rattle.cilk_expression.specs.syntax.declared.adjustment.Adjustment.TheVariants as adjustments
+use Rattle.cilk_expression.specs.syntax.declared.lock_action.LockAction.{LockAction}
+use Rattle.cilk_expression.specs.syntax.declared.lock_action.LockAction.TheVariants as actions
+use Rattle.cilk_expression.specs.syntax.declared.operator.BinOp.{BinOp}
+use Rattle.cilk_expression.specs.syntax.declared.operator.BinOp.TheVariants as ops
+use Rattle.cilk_expression.specs.syntax.declared.return_type.ReturnType.{ReturnType}
+use Rattle.cilk_expression.specs.syntax.declared.return_type.ReturnType.TheVariants as returns
+use Rattle.cilk_expression.specs.syntax.Tree as tree
+use Rattle.cilk_expression.specs.syntax.Tree.{Word, Expr, stmts_of, locals_of}
+use Rattle.cilk_expression.specs.rules.Rule.{Rule, done, skip, part, and_then, either, many, nearest, by_value}
 use Rattle.cilk_expression.specs.Classes.{names, the_main, the_char, the_printf, the_lock_init, the_lock, the_unlock, other_name}
 use Rattle.cilk_grammar.specs.Parts.{token, the_literal, the_header, Means, Nest, NestMeans, a_statement, no_block, an_inlet, assigned}
 use Rattle.cilk_grammar.specs.Forms.{word, mark, place_of, name_of, number, expression, value, statement, unbraced, inlet, before, ended, in_parentheses, in_brackets, in_braces, optional, behind_commas, commas, joined}

@@ -1,7 +1,7 @@
 -- When what two parts mean is the same, places aside.
 use Rattle.std.specs.Prelude.{◌≡◌, map}
 use Rattle.cilk_grammar.specs.Parts.{Leaf, the_word, the_name, the_number, the_literal, the_header, Nest, a_statement, no_block, an_inlet, Part, token, an_expr, a_value, nest, Value, computed, called, LeafMeans, NestMeans, Means}
-use Rattle.cilk_syntax.specs.Bare.{bare_word, bare_literal, bare_expr, bare_stmt, bare_local}
+use Rattle.cilk_expression.specs.syntax.Bare.{bare_word, bare_literal, bare_expr, bare_stmt, bare_local}
 
 abbrev pub bare_written : Value → Value
 bare_written (computed value) = computed (bare_expr value)

@@ -1,8 +1,8 @@
 -- What the rules of the grammar name, and what each of these means.
 use Rattle.std.specs.Prelude.{ℕ, List, Some}
-use Rattle.cilk_lexeme.specs.declared.header.Header.{Header}
-use Rattle.cilk_lexeme.specs.declared.keyword.Keyword.{Keyword}
-use Rattle.cilk_syntax.specs.Tree.{Word, Literal, Expr, Target, Move, assign, call, Stmt, Local}
+use Rattle.cilk_expression.specs.lexeme.declared.header.Header.{Header}
+use Rattle.cilk_expression.specs.lexeme.declared.keyword.Keyword.{Keyword}
+use Rattle.cilk_expression.specs.syntax.Tree.{Word, Literal, Expr, Target, Move, assign, call, Stmt, Local}
 
 -- one token
 pub data Leaf : Type 0 where

@@ -1,14 +1,14 @@
 -- What the rules of the grammar say of tokens, and how tokens are read by them. In all that follows an expression has at
 -- most l operators and subscript brackets, and at most d parentheses open at once.
 use Rattle.std.specs.Prelude.{◌≡◌, ℕ, zero, suc, ◌&&◌, Bool, true, false, if◌then◌else◌, List, [], ◌∷◌, length, Option, Some, None, Ok, Err, ◌⊎◌}
-use Rattle.cilk_lexeme.specs.Lexeme.{Lexeme, Piece, name, number, literal, inclusion}
-use Rattle.cilk_lexeme.specs.declared.header.Header.{Header}
-use Rattle.cilk_lexeme.specs.declared.keyword.Keyword.TheVariants as key
-use Rattle.cilk_lexeme.specs.declared.mark.Mark.TheVariants as sign
-use Rattle.cilk_syntax.specs.Tree as tree
-use Rattle.cilk_rules.specs.declared.fault.Fault.TheVariants.{Unexpected, TooDeep}
-use Rattle.cilk_rules.specs.Rule as rule
-use Rattle.cilk_rules.specs.Rule.{◌>>=◌, Rule, Read, behind, has, is, class_at, and_then, done}
+use Rattle.cilk_expression.specs.lexeme.Lexeme.{Lexeme, Piece, name, number, literal, inclusion}
+use Rattle.cilk_expression.specs.lexeme.declared.header.Header.{Header}
+use Rattle.cilk_expression.specs.lexeme.declared.keyword.Keyword.TheVariants as key
+use Rattle.cilk_expression.specs.lexeme.declared.mark.Mark.TheVariants as sign
+use Rattle.cilk_expression.specs.syntax.Tree as tree
+use Rattle.cilk_expression.specs.rules.declared.fault.Fault.TheVariants.{Unexpected, TooDeep}
+use Rattle.cilk_expression.specs.rules.Rule as rule
+use Rattle.cilk_expression.specs.rules.Rule.{◌>>=◌, Rule, Read, behind, has, is, class_at, and_then, done}
 use Rattle.cilk_expression.specs.Classes.{cls, a_word, a_mark, a_number, a_literal, an_inclusion, names, the_main, the_char, the_printf, the_lock_init, the_lock, the_unlock, other_name}
 use Rattle.cilk_grammar.specs.Parts.{Leaf, the_word, the_name, the_number, the_literal, the_header, Nest, a_statement, no_block, an_inlet, Part, token, an_expr, a_value, nest, Value, computed, called, LeafMeans, NestMeans, Means}
 use Rattle.cilk_grammar.specs.Grammar as grammar

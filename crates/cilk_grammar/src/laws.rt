@@ -1,11 +1,11 @@
 //! What holds of every list of tokens and its program. These functions do nothing: their contracts are the laws.
 
 ghost use Rattle.std.specs.Prelude.{◌≡◌, ℕ, ◌≤◌, length, List, [], Ok, Err, map};
-ghost use Rattle.cilk_lexeme.specs.Lexeme.{Piece};
-ghost use Rattle.cilk_syntax.specs.Tree as tree;
-ghost use Rattle.cilk_rules.specs.declared.fault.Fault.TheVariants.{Unexpected, TooDeep};
+ghost use Rattle.cilk_expression.specs.lexeme.Lexeme.{Piece};
+ghost use Rattle.cilk_expression.specs.syntax.Tree as tree;
+ghost use Rattle.cilk_expression.specs.rules.declared.fault.Fault.TheVariants.{Unexpected, TooDeep};
 ghost use Rattle.cilk_expression.specs.Grammar.{operator_limit, parenthesis_limit};
-ghost use Rattle.cilk_syntax.specs.Bare.{bare_program};
+ghost use Rattle.cilk_expression.specs.syntax.Bare.{bare_program};
 ghost use Rattle.cilk_grammar.specs.Spelling.{nesting_limit, SpellsProgram, program_of};
 ghost use Rattle.cilk_grammar.specs.Fault.{lexemes, IsNotGoingOn, any_limits, the_limits, place_left};
 

@@ -3,3 +3,10 @@
 #![tactic(auto)]
 
 pub mod laws;
+
+pub use cilk_expression::{
+    Adjustment, BinOp, Block, Cursor, Decl, Expr, ExprNode, Global, GlobalShape, Header, Inlet,
+    Item, ItemNode, Keyword, Literal, Local, LocalNode, LockAction, Mark, Move, MoveNode,
+    NameClass, Parameters, Place, Proc, Program, Prototype, ReturnType, Shape, Stmt, StmtNode,
+    Taker, Target, Word, expression,
+};

@@ -3,4 +3,5 @@
 
 mod laws;
 
+pub use cilk_labelled::{BinOp, LockAction, Trap};
 pub use laws::heads_are_there;

@@ -1,7 +1,7 @@
 -- The bodies of a program, and the whole program, labelled.
 use Rattle.std.specs.Prelude.{ℕ, suc, ◌+◌, ℤ, pos, List, [], ◌∷◌, ◌++◌, map, flat_map, length, codes, unwrap_or, bytes_eq, position, Bool, true, false, ◌&&◌}
-use Rattle.cilk_syntax.specs.Tree as tree
-use Rattle.cilk_syntax.specs.Tree.{Word}
+use Rattle.cilk_canonical.specs.syntax.Tree as tree
+use Rattle.cilk_canonical.specs.syntax.Tree.{Word}
 use Rattle.cilk_scopes.specs.declared.owner.Owner.{Owner}
 use Rattle.cilk_scopes.specs.declared.owner.Owner.TheVariants.{Function, Procedure, Inlet}
 use Rattle.cilk_scopes.specs.Scopes.{file_scopes}

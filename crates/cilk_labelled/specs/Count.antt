@@ -1,7 +1,7 @@
 -- How many actions a program has.
 use Rattle.std.specs.Prelude.{ℕ, ◌+◌, List, [], ◌∷◌, Option, Some, None}
-use Rattle.cilk_syntax.specs.Tree.{Shape, variable, array, Stmt, when, either, while, repeat, loop, nested, Stmts, none, also}
-use Rattle.cilk_syntax.specs.Tree.{Local, declared, inlet_at, Locals, no_locals, and_local, Block, block, Item, global, lock, prototype, procedure, Program}
+use Rattle.cilk_canonical.specs.syntax.Tree.{Shape, variable, array, Stmt, when, either, while, repeat, loop, nested, Stmts, none, also}
+use Rattle.cilk_canonical.specs.syntax.Tree.{Local, declared, inlet_at, Locals, no_locals, and_local, Block, block, Item, global, lock, prototype, procedure, Program}
 
 -- 1 of what is there
 abbrev pub count_option : {A : Type 0} → Option A → ℕ

@@ -1,7 +1,7 @@
 -- The statements of a body are labelled: a number at each action, in the order of the canonical text.
 use Rattle.std.specs.Prelude.{ℕ, ◌+◌, pos, List, [], ◌∷◌, ◌++◌, map, length, option_map, Option, Some, None}
-use Rattle.cilk_syntax.specs.Tree as tree
-use Rattle.cilk_syntax.specs.Adjustments.{operator_of}
+use Rattle.cilk_canonical.specs.syntax.Tree as tree
+use Rattle.cilk_canonical.specs.syntax.Adjustments.{operator_of}
 use Rattle.cilk_values.specs.Term as term
 use Rattle.cilk_labelled.specs.Labelled.{Variable, Taker, nothing, into, through, Action, assign, call, spawn, print, locking, null, break_off, go_round, tests, sync, abort, return_with, return_nothing}
 use Rattle.cilk_labelled.specs.Labelled.{Numbered, Stmt, action, choose, while, repeat, loop, nested, Stmts, none, also}

@@ -1,7 +1,7 @@
 -- The labelled program: a declaration in place of each use of a name, and a number at each action.
 use Rattle.std.specs.Prelude.{ℕ, ℤ, List, Option}
-use Rattle.cilk_syntax.specs.declared.operator.BinOp.{BinOp}
-use Rattle.cilk_syntax.specs.declared.lock_action.LockAction.{LockAction}
+use Rattle.cilk_canonical.specs.syntax.declared.operator.BinOp.{BinOp}
+use Rattle.cilk_canonical.specs.syntax.declared.lock_action.LockAction.{LockAction}
 use Rattle.cilk_scopes.specs.declared.owner.Owner.{Owner}
 use Rattle.cilk_values.specs.Term.{Term}
 

@@ -1,7 +1,7 @@
 -- On which line of the canonical text each action stands, the first line being line 1.
 use Rattle.std.specs.Prelude.{ℕ, ◌+◌, List, [], ◌∷◌, ◌++◌, length, Option, Some, None}
-use Rattle.cilk_syntax.specs.Tree.{Shape, variable, array, Stmt, when, either, while, repeat, loop, nested, Stmts, none, also}
-use Rattle.cilk_syntax.specs.Tree.{Local, declared, inlet_at, Locals, no_locals, and_local, Block, block, Item, global, lock, prototype, procedure, Program}
+use Rattle.cilk_canonical.specs.syntax.Tree.{Shape, variable, array, Stmt, when, either, while, repeat, loop, nested, Stmts, none, also}
+use Rattle.cilk_canonical.specs.syntax.Tree.{Local, declared, inlet_at, Locals, no_locals, and_local, Block, block, Item, global, lock, prototype, procedure, Program}
 use Rattle.cilk_canonical.specs.StmtLines.{stmt_lines, local_lines, locals_lines, block_lines}
 use Rattle.cilk_canonical.specs.ProgramText.{item_lines}
 

@@ -1,7 +1,7 @@
 -- Which declaration a name means: the scopes of the checks, with the meaning of each name in them (C 1990, 6.1.2.1).
 use Rattle.std.specs.Prelude.{ℕ, suc, List, [], ◌∷◌, ◌++◌, map, Option, Some, None, bytes_eq, position, slice_index_or}
-use Rattle.cilk_syntax.specs.Tree as tree
-use Rattle.cilk_syntax.specs.Tree.{Word}
+use Rattle.cilk_canonical.specs.syntax.Tree as tree
+use Rattle.cilk_canonical.specs.syntax.Tree.{Word}
 use Rattle.cilk_scopes.specs.declared.kind.Kind.TheVariants.{Strings}
 use Rattle.cilk_scopes.specs.Scopes.{Declared, Scopes, declare, enter, parameter, local_declares}
 use Rattle.cilk_values.specs.Term as term

@@ -1,10 +1,10 @@
 -- A worked program of the whole language.
 use Rattle.std.specs.Prelude.{ℕ, List, [], ◌∷◌, true, Some, None, codes}
-use Rattle.cilk_lexeme.specs.declared.header.Header.TheVariants.{Cilk}
-use Rattle.cilk_syntax.specs.declared.operator.BinOp.TheVariants.{Add, Subtract, Less}
-use Rattle.cilk_syntax.specs.declared.return_type.ReturnType.TheVariants.{Int}
-use Rattle.cilk_syntax.specs.Tree as tree
-use Rattle.cilk_syntax.specs.Tree.{Word, Expr, number, named, binary, Target, Local, declared, inlet_at, Stmt, stmts_of, locals_of, Block, block, Item, Program}
+use Rattle.cilk_canonical.specs.lexeme.declared.header.Header.TheVariants.{Cilk}
+use Rattle.cilk_canonical.specs.syntax.declared.operator.BinOp.TheVariants.{Add, Subtract, Less}
+use Rattle.cilk_canonical.specs.syntax.declared.return_type.ReturnType.TheVariants.{Int}
+use Rattle.cilk_canonical.specs.syntax.Tree as tree
+use Rattle.cilk_canonical.specs.syntax.Tree.{Word, Expr, number, named, binary, Target, Local, declared, inlet_at, Stmt, stmts_of, locals_of, Block, block, Item, Program}
 
 abbrev pub word : List ℕ → Word
 word text = record { text = text; place = 0 }

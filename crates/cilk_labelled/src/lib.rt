@@ -3,4 +3,8 @@
 
 mod laws;
 
+pub use cilk_canonical::{
+    BinOp, Global, GlobalShape, Item, ItemNode, LockAction, Program, Word, canonical,
+};
+pub use cilk_values::Trap;
 pub use laws::rows_are_labelled;

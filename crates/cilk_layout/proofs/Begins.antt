@@ -3,7 +3,7 @@ use Rattle.std.proofs.Common.{◌≡◌, ℕ, zero, suc, ◌+◌, ◌<◌, Bool,
 use Rattle.std.proofs.lemmas.Bool.{lt-ltb}
 use Rattle.std.proofs.lemmas.Bool.Decides.{Decides-eqb}
 use Rattle.cilk_syntax.specs.Tree as tree
-use Rattle.cilk_labelled.specs.Count.{count_shape, count_local}
+use Rattle.cilk_nodes.specs.labelled.Count.{count_shape, count_local}
 use Rattle.cilk_layout.specs.Firsts.{first_if, is_initialised, locals_first}
 
 pub first_if-some : (c at : ℕ) (o : Option ℕ) → 0 < c → first_if c at o ≡ Some at

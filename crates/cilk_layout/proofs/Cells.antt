@@ -3,8 +3,8 @@ use Rattle.std.proofs.Common.{◌≡◌, ℕ, ◌+◌, List, [], ◌∷◌, ◌+
 use Rattle.std.proofs.Common.{sym, ap, ◌∙◌, arith, append_assoc}
 use Rattle.std.specs.Prelude.{OnOk}
 use Rattle.std.proofs.lemmas.Result.{on_ok_weaker}
-use Rattle.cilk_eval.specs.declared.area.Area.{Area}
-use Rattle.cilk_labelled.specs.Labelled.{Variable}
+use Rattle.cilk_nodes.specs.eval.declared.area.Area.{Area}
+use Rattle.cilk_nodes.specs.labelled.Labelled.{Variable}
 use Rattle.cilk_nodes.specs.Slots.{size_of, cells_of}
 use Rattle.cilk_nodes.specs.declared.var.Var.{Var}
 use Rattle.cilk_nodes.specs.Bodies.{var_at, vars_from}

@@ -1,11 +1,11 @@
 -- The table of a body, from its parts.
 use Rattle.std.proofs.Common.{◌≡◌, ℕ, suc, ◌+◌, List, [], ◌∷◌, ◌++◌, length, refl, ap, ◌∙◌, arith, unwrap_or}
 use Rattle.cilk_syntax.specs.Tree as tree
-use Rattle.cilk_scopes.specs.declared.owner.Owner.{Owner}
-use Rattle.cilk_eval.specs.declared.area.Area.{Area}
-use Rattle.cilk_eval.specs.declared.area.Area.TheVariants.{Own}
-use Rattle.cilk_labelled.specs.Labelled.{Variable}
-use Rattle.cilk_labelled.specs.Label.{block_variables}
+use Rattle.cilk_nodes.specs.scopes.declared.owner.Owner.{Owner}
+use Rattle.cilk_nodes.specs.eval.declared.area.Area.{Area}
+use Rattle.cilk_nodes.specs.eval.declared.area.Area.TheVariants.{Own}
+use Rattle.cilk_nodes.specs.labelled.Labelled.{Variable}
+use Rattle.cilk_nodes.specs.labelled.Label.{block_variables}
 use Rattle.cilk_nodes.specs.declared.body.Body as table
 use Rattle.cilk_nodes.specs.declared.var.Var.{Var}
 use Rattle.cilk_nodes.specs.Slots.{size_of, cells_of}

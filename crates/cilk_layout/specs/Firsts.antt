@@ -1,7 +1,7 @@
 -- With which number a part of a body begins, where `at` is the number of the next action.
 use Rattle.std.specs.Prelude.{ℕ, ◌+◌, Bool, false, nat_eq, nat_lt, if◌then◌else◌, Option, Some}
 use Rattle.cilk_syntax.specs.Tree as tree
-use Rattle.cilk_labelled.specs.Count.{count_shape, count_block}
+use Rattle.cilk_nodes.specs.labelled.Count.{count_shape, count_block}
 
 -- the number with which so many actions begin, or what comes behind them
 abbrev pub first_if : ℕ → ℕ → Option ℕ → Option ℕ

@@ -2,14 +2,14 @@
 use Rattle.std.specs.Prelude.{ℕ, ◌+◌, pos, Bool, ◌&&◌, bytes_eq, codes, List, [], ◌∷◌, ◌++◌, Option, Some, length, map, unwrap_or}
 use Rattle.cilk_syntax.specs.Tree as tree
 use Rattle.cilk_syntax.specs.Tree.{Word}
-use Rattle.cilk_scopes.specs.declared.owner.Owner.{Owner}
-use Rattle.cilk_scopes.specs.declared.owner.Owner.TheVariants.{Inlet}
-use Rattle.cilk_scopes.specs.Parts.{owner_of}
-use Rattle.cilk_eval.specs.declared.area.Area.TheVariants.{Own}
-use Rattle.cilk_labelled.specs.Labelled.{Variable}
-use Rattle.cilk_labelled.specs.Count.{count_shape, count_stmts, count_locals, count_block, count_item}
-use Rattle.cilk_labelled.specs.Label.{block_variables}
-use Rattle.cilk_labelled.specs.Bodies.{one_cell, parameter_variables, block_locals, is_procedure}
+use Rattle.cilk_nodes.specs.scopes.declared.owner.Owner.{Owner}
+use Rattle.cilk_nodes.specs.scopes.declared.owner.Owner.TheVariants.{Inlet}
+use Rattle.cilk_nodes.specs.scopes.Parts.{owner_of}
+use Rattle.cilk_nodes.specs.eval.declared.area.Area.TheVariants.{Own}
+use Rattle.cilk_nodes.specs.labelled.Labelled.{Variable}
+use Rattle.cilk_nodes.specs.labelled.Count.{count_shape, count_stmts, count_locals, count_block, count_item}
+use Rattle.cilk_nodes.specs.labelled.Label.{block_variables}
+use Rattle.cilk_nodes.specs.labelled.Bodies.{one_cell, parameter_variables, block_locals, is_procedure}
 use Rattle.cilk_nodes.specs.declared.body.Body.{Body}
 use Rattle.cilk_nodes.specs.Slots.{cells_of}
 use Rattle.cilk_nodes.specs.Bodies.{vars_from}

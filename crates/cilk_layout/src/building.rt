@@ -3,10 +3,10 @@
 ghost use Rattle.std.specs.Prelude.{◌≡◌, ◌+◌, ◌≤◌, ◌++◌, ◌∷◌, [], pos, map, IfOk, OnOk, position, unwrap_or};
 ghost use Rattle.cilk_syntax.specs.Tree as tree;
 ghost use Rattle.cilk_syntax.specs.Tree.{locals_of};
-ghost use Rattle.cilk_scopes.specs.declared.owner.Owner.TheVariants as owner;
-ghost use Rattle.cilk_scopes.specs.Parts.{owner_of};
-ghost use Rattle.cilk_labelled.specs.Count.{count_block, count_locals, count_item, count_items};
-ghost use Rattle.cilk_labelled.specs.Bodies.{one_cell, parameter_variables};
+ghost use Rattle.cilk_nodes.specs.scopes.declared.owner.Owner.TheVariants as owner;
+ghost use Rattle.cilk_nodes.specs.scopes.Parts.{owner_of};
+ghost use Rattle.cilk_nodes.specs.labelled.Count.{count_block, count_locals, count_item, count_items};
+ghost use Rattle.cilk_nodes.specs.labelled.Bodies.{one_cell, parameter_variables};
 ghost use Rattle.cilk_layout.specs.Tables.{body_first, table_of, inlet_tables, item_tables, items_tables};
 ghost use Rattle.cilk_layout.specs.Tables.{starts_here};
 
@@ -16,8 +16,7 @@ use crate::counts::{
 use crate::firsts::{first_if, locals_first};
 use crate::room::NoRoom;
 use crate::variables::{copied, put_block_variables, put_parameters, put_words};
-use cilk_nodes::{Body, Vars};
-use cilk_scopes::Owner;
+use cilk_nodes::{Body, Owner, Vars};
 use cilk_syntax::{Block, Item, ItemNode, Local, LocalNode, Proc, Word};
 use std::alloc::Global;
 

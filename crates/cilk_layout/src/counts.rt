@@ -3,8 +3,8 @@
 ghost use Rattle.std.specs.Prelude.{◌≡◌, ◌+◌, ◌≤◌, min};
 ghost use Rattle.cilk_syntax.specs.Tree.{stmts_of, locals_of};
 ghost use Rattle.cilk_syntax.specs.MoveView.{shape_of};
-ghost use Rattle.cilk_labelled.specs.Count.{count_option, count_shape, count_stmt};
-ghost use Rattle.cilk_labelled.specs.Count.{count_stmts, count_local, count_locals, count_block, count_item, count_items};
+ghost use Rattle.cilk_nodes.specs.labelled.Count.{count_option, count_shape, count_stmt};
+ghost use Rattle.cilk_nodes.specs.labelled.Count.{count_stmts, count_local, count_locals, count_block, count_item, count_items};
 
 use cilk_syntax::{Block, Expr, Item, ItemNode, Local, LocalNode, Move, Shape, Stmt, StmtNode};
 

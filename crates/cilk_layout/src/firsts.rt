@@ -2,7 +2,7 @@
 
 ghost use Rattle.std.specs.Prelude.{◌≡◌, ◌+◌, ◌≤◌};
 ghost use Rattle.cilk_syntax.specs.Tree.{locals_of};
-ghost use Rattle.cilk_labelled.specs.Count.{count_locals, count_block};
+ghost use Rattle.cilk_nodes.specs.labelled.Count.{count_locals, count_block};
 ghost use Rattle.cilk_layout.specs.Firsts.{first_if, block_first, is_initialised, locals_first};
 
 use crate::counts::{actions_in, count_local, count_shape};

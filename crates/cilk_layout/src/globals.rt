@@ -2,15 +2,14 @@
 
 ghost use Rattle.std.specs.Prelude.{◌≡◌, ◌+◌, ◌++◌, map, flat_map, IfOk, OnOk};
 ghost use Rattle.cilk_syntax.specs.Tree.{global};
-ghost use Rattle.cilk_eval.specs.declared.area.Area.TheVariants as area;
-ghost use Rattle.cilk_labelled.specs.Bodies.{item_globals, item_locks};
+ghost use Rattle.cilk_nodes.specs.eval.declared.area.Area.TheVariants as area;
+ghost use Rattle.cilk_nodes.specs.labelled.Bodies.{item_globals, item_locks};
 ghost use Rattle.cilk_nodes.specs.Slots.{cells_of};
 ghost use Rattle.cilk_nodes.specs.Bodies.{vars_from, lock_variable};
 
 use crate::room::NoRoom;
 use crate::variables::put_variable;
-use cilk_eval::{Area, Slot};
-use cilk_nodes::Var;
+use cilk_nodes::{Area, Slot, Var};
 use cilk_syntax as tree;
 use cilk_syntax::{GlobalShape, Item, ItemNode};
 use std::alloc::Global;

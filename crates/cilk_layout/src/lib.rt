@@ -11,7 +11,14 @@ mod room;
 mod variables;
 
 pub use building::{bodies_of, place_of_main};
-pub use cilk_syntax::Memory;
+pub use cilk_nodes::{
+    Action, Body, Checked, Codes, Name, Node, Owner, Place, Slots, Taker, Target, Text, Trap, Var,
+    Vars, canonical, eval,
+};
+pub use cilk_syntax::{
+    Block, Decl, Expr, Inlet, Item, ItemNode, Local, LocalNode, LockAction, Memory, Move,
+    Parameters, Proc, Program, Shape, Stmt, StmtNode, Word,
+};
 pub use counts::{
     MAX_ACTIONS, actions, actions_in, actions_of_locals, actions_of_stmts, count_items, count_part,
 };

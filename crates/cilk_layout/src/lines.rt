@@ -3,12 +3,12 @@
 ghost use Rattle.std.specs.Prelude.{◌≡◌, ◌+◌, [], ◌∷◌, ◌++◌, IfOk, OnOk, length, vec_len};
 ghost use Rattle.cilk_syntax.specs.Tree.{stmts_of, locals_of};
 ghost use Rattle.cilk_syntax.specs.MoveView.{shape_of};
-ghost use Rattle.cilk_canonical.specs.StmtLines.{stmt_lines, stmts_lines, local_lines, locals_lines, block_lines};
-ghost use Rattle.cilk_canonical.specs.ProgramText.{item_lines, items_lines};
-ghost use Rattle.cilk_labelled.specs.Count.{count_option, count_shape, count_stmt, count_stmts, count_local};
-ghost use Rattle.cilk_labelled.specs.Count.{count_locals, count_block, count_item, count_items, count_program};
-ghost use Rattle.cilk_labelled.specs.Lines.{option_lines, shape_lines, stmt_action_lines, stmts_action_lines, local_action_lines, locals_action_lines};
-ghost use Rattle.cilk_labelled.specs.Lines.{block_action_lines, item_action_lines, items_action_lines, action_lines};
+ghost use Rattle.cilk_nodes.specs.canonical.StmtLines.{stmt_lines, stmts_lines, local_lines, locals_lines, block_lines};
+ghost use Rattle.cilk_nodes.specs.canonical.ProgramText.{item_lines, items_lines};
+ghost use Rattle.cilk_nodes.specs.labelled.Count.{count_option, count_shape, count_stmt, count_stmts, count_local};
+ghost use Rattle.cilk_nodes.specs.labelled.Count.{count_locals, count_block, count_item, count_items, count_program};
+ghost use Rattle.cilk_nodes.specs.labelled.Lines.{option_lines, shape_lines, stmt_action_lines, stmts_action_lines, local_action_lines, locals_action_lines};
+ghost use Rattle.cilk_nodes.specs.labelled.Lines.{block_action_lines, item_action_lines, items_action_lines, action_lines};
 
 use crate::room::NoRoom;
 use cilk_syntax::{Block, Item, ItemNode, Local, LocalNode, Move, Program, Shape, Stmt, StmtNode};

@@ -1,18 +1,17 @@
 //! The variables of one body, in their slots: parameters first, and then what its blocks declare.
 
 ghost use Rattle.std.specs.Prelude.{◌≡◌, ◌+◌, pos, [], ◌∷◌, ◌++◌, max, IfOk, OnOk, map};
-ghost use Rattle.cilk_eval.specs.declared.area.Area.TheVariants.{Own};
+ghost use Rattle.cilk_nodes.specs.eval.declared.area.Area.TheVariants.{Own};
 ghost use Rattle.cilk_syntax.specs.Tree.{stmts_of, locals_of};
 ghost use Rattle.cilk_syntax.specs.MoveView.{shape_of};
 ghost use Rattle.cilk_syntax.specs.ProgramView.{parameters_of};
-ghost use Rattle.cilk_labelled.specs.Label.{shape_length, stmt_variables, stmts_variables, local_variables, locals_variables, block_variables};
-ghost use Rattle.cilk_labelled.specs.Bodies.{one_cell, parameter_variables};
+ghost use Rattle.cilk_nodes.specs.labelled.Label.{shape_length, stmt_variables, stmts_variables, local_variables, locals_variables, block_variables};
+ghost use Rattle.cilk_nodes.specs.labelled.Bodies.{one_cell, parameter_variables};
 ghost use Rattle.cilk_nodes.specs.Slots.{cells_of};
 ghost use Rattle.cilk_nodes.specs.Bodies.{vars_from};
 
 use crate::room::NoRoom;
-use cilk_eval::{Area, Slot};
-use cilk_nodes::{Name, Var};
+use cilk_nodes::{Area, Name, Slot, Var};
 use cilk_syntax::{Block, Local, LocalNode, Parameters, Shape, Stmt, StmtNode, Word};
 use std::alloc::Global;
 

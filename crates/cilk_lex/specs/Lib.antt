@@ -1,2 +1,3 @@
 pub mod Front
 pub mod Reading
+pub use Rattle.cilk_lexeme.specs as lexeme

@@ -4,15 +4,15 @@ use Rattle.std.proofs.Common.{None, inl, inr, refl, sym, ap, ◌∙◌, arith}
 use Rattle.std.specs.Prelude.{bytes_eq, slice_index_or, position}
 use Rattle.std.specs.List.{prefix_len}
 use Rattle.std.proofs.lemmas.Bool.{lt-ltb, le-ltb, cases_lt}
-use Rattle.cilk_scopes.specs.Scopes.{Declared}
-use Rattle.cilk_eval.specs.declared.area.Area.{Area}
-use Rattle.cilk_eval.specs.declared.area.Area.TheVariants.{Own, Outer, Global}
-use Rattle.cilk_eval.specs.declared.slot.Slot.{Slot}
-use Rattle.cilk_labelled.specs.Labelled.{Declaration, unknown}
-use Rattle.cilk_labelled.specs.Names as label
-use Rattle.cilk_labelled.specs.Names.{Names, meaning_at, number_of, with_name}
-use Rattle.cilk_resolve.specs.declared.known.Known.{Known}
-use Rattle.cilk_resolve.specs.Scope.{Named, Scope, found, visible, outward_area, outward, outward_named, declared, entered}
+use Rattle.cilk_numbering.specs.scopes.Scopes.{Declared}
+use Rattle.cilk_numbering.specs.eval.declared.area.Area.{Area}
+use Rattle.cilk_numbering.specs.eval.declared.area.Area.TheVariants.{Own, Outer, Global}
+use Rattle.cilk_numbering.specs.eval.declared.slot.Slot.{Slot}
+use Rattle.cilk_numbering.specs.labelled.Labelled.{Declaration, unknown}
+use Rattle.cilk_numbering.specs.labelled.Names as label
+use Rattle.cilk_numbering.specs.labelled.Names.{Names, meaning_at, number_of, with_name}
+use Rattle.cilk_numbering.specs.resolve.declared.known.Known.{Known}
+use Rattle.cilk_numbering.specs.resolve.Scope.{Named, Scope, found, visible, outward_area, outward, outward_named, declared, entered}
 
 abbrev pub known_of : (Declaration → Slot) → Declaration → Known
 known_of slots d = record { slot = slots d; number = number_of d }

@@ -3,7 +3,7 @@ pub mod Found
 pub mod Actions
 pub mod Starts
 pub mod Written
-pub mod Slots
+pub mod SlotLaws
 pub mod Bodies
 pub mod Programs
 pub mod Made

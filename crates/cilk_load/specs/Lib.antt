@@ -1,1 +1,3 @@
 pub mod Tables
+pub use Rattle.cilk_numbering.specs.check
+pub use Rattle.cilk_numbering.specs.values

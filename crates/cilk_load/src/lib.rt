@@ -6,8 +6,10 @@ mod loaded;
 mod loading;
 mod tables;
 
-pub use cilk_nodes::{Action, Body, Codes, Name, Node, Place, Taker, Target, Text, Var, Vars};
-pub use cilk_syntax::Memory;
+pub use cilk_numbering::{
+    Action, Body, Codes, LockAction, Memory, Name, Node, Owner, Place, Slots, Taker, Target, Text,
+    Trap, Var, Vars, eval,
+};
 pub use fault::LoadFault;
 pub use loaded::Loaded;
 pub use loading::{has_too_many, load};

@@ -1,15 +1,13 @@
 ghost use Rattle.std.specs.Prelude.{◌≡◌, ◌<◌, ◌≤◌, ◌↔◌, true, IfOk};
-ghost use Rattle.cilk_labelled.specs.Count.{count_program};
+ghost use Rattle.cilk_numbering.specs.labelled.Count.{count_program};
 
 use crate::fault::LoadFault;
 use crate::loaded::Loaded;
 use crate::tables::Tables;
-use cilk_check::Checked;
-use cilk_layout::{
-    MAX_ACTIONS, NoRoom, action_lines, bodies_of, count_items, globals_of, locks_of, place_of_main,
+use cilk_numbering::{
+    Checked, MAX_ACTIONS, NoRoom, Program, action_lines, bodies_of, count_items, globals_of,
+    locks_of, nodes_of, place_of_main,
 };
-use cilk_numbering::nodes_of;
-use cilk_syntax::Program;
 use std::alloc::Global;
 use std::sync::Arc;
 

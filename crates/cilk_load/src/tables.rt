@@ -1,5 +1,4 @@
-use cilk_check::Checked;
-use cilk_nodes::{Body, Node, Var};
+use cilk_numbering::{Body, Checked, Node, Var};
 use std::marker::Model;
 
 /// A program and its tables, seen as the program.
@@ -15,8 +14,8 @@ pub struct Tables {
 }
 
 impl Model for Tables {
-    ghost use Rattle.cilk_syntax.specs.Tree as tree;
-    ghost use Rattle.cilk_syntax.specs.ProgramCoding.{coded_Program};
+    ghost use Rattle.cilk_numbering.specs.syntax.Tree as tree;
+    ghost use Rattle.cilk_numbering.specs.syntax.ProgramCoding.{coded_Program};
 
     ghost Value = { tree.Program };
 

@@ -3,7 +3,7 @@ use Rattle.std.proofs.Common.{◌≡◌, ℕ, ◌+◌, ◌^◌, ◌<◌, Bool, t
 use Rattle.std.specs.Prelude.{◌==◌, bytes_eq}
 use Rattle.std.specs.List.{AllByRecursion}
 use Rattle.std.proofs.lemmas.Slice.Eq.{bytes_eq-Decides}
-use Rattle.cilk_model.specs.Choice.{Choice}
+use Rattle.cilk_choices.specs.model.Choice.{Choice}
 use Rattle.cilk_log.specs.Text.{Log, LogFits, ChoiceFits, choice_text, end_text, workers_text, first_line, log_lines, log_text, with_newline}
 use Rattle.cilk_log.specs.Reading.{lines_of, Fault, wrong_count, wrong_version, Told, told_by, told_in, choice_in, count_in, workers_in, closed, counted, ended, with_workers, choices_read, workers_read, lines_read, log_read}
 use Rattle.cilk_log.proofs.Acts.{choice_told, count_told, workers_told}

@@ -1,7 +1,7 @@
 -- The text of a recorded schedule is read as that schedule.
 use Rattle.std.proofs.Common.{◌≡◌, ℕ, List, [], ◌∷◌, ◌++◌, map, length, None, Ok, refl, ap, ◌∙◌, eq-eqb}
 use Rattle.std.specs.List.{AllByRecursion}
-use Rattle.cilk_model.specs.Choice.{Choice}
+use Rattle.cilk_choices.specs.model.Choice.{Choice}
 use Rattle.cilk_log.specs.Text.{Log, LogFits, ChoiceFits, choice_text, end_text, log_lines, log_text}
 use Rattle.cilk_log.specs.Reading.{Lines, told_in, choice_in, lines_read, log_read}
 use Rattle.cilk_log.proofs.Acts.{choice_written, count_written, workers_written, end_is_no_choice}

@@ -5,7 +5,7 @@ use Rattle.std.specs.Int.{is_in_range}
 use Rattle.std.specs.List.{prefix_len}
 use Rattle.std.specs.Str.{all_ascii_digits}
 use Rattle.std.specs.Str.Parse.{digits_value}
-use Rattle.cilk_model.specs.Choice.{Act, step, pop, steal, Choice}
+use Rattle.cilk_choices.specs.model.Choice.{Act, step, pop, steal, Choice}
 use Rattle.cilk_log.specs.Text.{Log, first_line}
 
 -- ---- lines

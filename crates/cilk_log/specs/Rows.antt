@@ -1,7 +1,7 @@
 -- Worked rows: texts, and what they are read as.
 use Rattle.std.specs.Prelude.{◌≡◌, refl, [], ◌∷◌, Ok, Err, codes}
 use Rattle.std.specs.Fmt.{digits}
-use Rattle.cilk_model.specs.Choice.{step, pop, steal}
+use Rattle.cilk_choices.specs.model.Choice.{step, pop, steal}
 use Rattle.cilk_log.specs.Text.{log_text}
 use Rattle.cilk_log.specs.Reading.{log_read, wrong_version, wrong_line, truncated, wrong_count}
 

@@ -1,7 +1,7 @@
 //! Reads the text of a recorded schedule.
 
 ghost use Rattle.std.specs.Prelude.{◌≡◌, ◌+◌, ◌<◌, ◌^◌, List, Some, length, map, Ok, IfOk};
-ghost use Rattle.cilk_model.specs.Choice as model;
+ghost use Rattle.cilk_choices.specs.model.Choice as model;
 ghost use Rattle.cilk_choices.specs.Words.{choice_of};
 ghost use Rattle.cilk_log.specs.Text as text;
 ghost use Rattle.cilk_log.specs.Text.{LogFits, log_text};

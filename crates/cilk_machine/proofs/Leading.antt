@@ -1,24 +1,24 @@
 -- A choice that is made leads on with every list of choices.
 use Rattle.std.proofs.Common.{◌≡◌, ℕ, suc, ◌+◌, ◌≤◌, List, [], ◌∷◌, ◌++◌, length, Option, Some, None, is_none, is_some, refl, sym, ap, ◌∙◌, subst, length-append, arith, if◌then◌else◌}
-use Rattle.cilk_check.specs.Fault.{WellFormed}
-use Rattle.cilk_labelled.specs.Bodies.{label}
-use Rattle.cilk_model.specs.Choice as model
-use Rattle.cilk_model.specs.Event as event
-use Rattle.cilk_model.specs.Event.{Event}
-use Rattle.cilk_model.specs.Instance.{Instance}
-use Rattle.cilk_model.specs.Run.{Standing, after, one_more, position_after, next_of, event_of}
-use Rattle.cilk_model.specs.Places.{popped_by, stolen_by}
-use Rattle.cilk_placed.proofs.Runs.{after-push}
-use Rattle.cilk_placed.proofs.Crew.{crew_stays}
-use Rattle.cilk_fates.proofs.Fates.{the_living_live, each_choice_is_an_event}
+use Rattle.cilk_carries.specs.check.Fault.{WellFormed}
+use Rattle.cilk_carries.specs.labelled.Bodies.{label}
+use Rattle.cilk_choices.specs.model.Choice as model
+use Rattle.cilk_choices.specs.model.Event as event
+use Rattle.cilk_choices.specs.model.Event.{Event}
+use Rattle.cilk_choices.specs.model.Instance.{Instance}
+use Rattle.cilk_choices.specs.model.Run.{Standing, after, one_more, position_after, next_of, event_of}
+use Rattle.cilk_choices.specs.model.Places.{popped_by, stolen_by}
+use Rattle.cilk_carries.proofs.placed_laws.Runs.{after-push}
+use Rattle.cilk_carries.proofs.placed_laws.Crew.{crew_stays}
+use Rattle.cilk_fated.proofs.fates_laws.Fates.{the_living_live, each_choice_is_an_event}
 use Rattle.cilk_fated.specs.Laws.{LivingAreTold}
 use Rattle.cilk_fated.proofs.Kept.{fates-are-kept}
-use Rattle.cilk_spawn.specs.Nodes.{path_at}
-use Rattle.cilk_agree.specs.Agrees.{Machine, Agrees, read_off}
-use Rattle.cilk_agree.specs.Fated.{Follows, Fated}
-use Rattle.cilk_agree.proofs.Asked.{placed}
-use Rattle.cilk_agree.proofs.Found.{read-agrees}
-use Rattle.cilk_agree.proofs.Waits.{pop, steal}
+use Rattle.cilk_carries.specs.spawn.Nodes.{path_at}
+use Rattle.cilk_carries.specs.agree.Agrees.{Machine, Agrees, read_off}
+use Rattle.cilk_carries.specs.agree.Fated.{Follows, Fated}
+use Rattle.cilk_carries.proofs.agree_laws.Asked.{placed}
+use Rattle.cilk_carries.proofs.agree_laws.Found.{read-agrees}
+use Rattle.cilk_carries.proofs.agree_laws.Waits.{pop, steal}
 use Rattle.cilk_choices.specs.declared.choice.Choice.{Choice}
 use Rattle.cilk_choices.specs.declared.act.Act.TheVariants.{Pop, Steal}
 use Rattle.cilk_choices.specs.declared.outcome.Outcome.{Outcome}

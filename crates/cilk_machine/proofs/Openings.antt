@@ -3,39 +3,39 @@ use Rattle.std.proofs.Common.{◌≡◌, ℕ, zero, suc, ◌+◌, ◌<◌, ◌�
 use Rattle.std.specs.Prelude.{max, slice_get, slice_index_or}
 use Rattle.std.proofs.lemmas.Bool.{le-leb}
 use Rattle.std.proofs.lemmas.List.{length-replicate, length-map}
-use Rattle.cilk_syntax.specs.Tree.{Program}
-use Rattle.cilk_check.specs.Fault.{WellFormed}
-use Rattle.cilk_eval.specs.declared.area.Area.{Area}
-use Rattle.cilk_eval.specs.declared.area.Area.TheVariants.{Global}
-use Rattle.cilk_labelled.specs.Labelled.{Variable}
-use Rattle.cilk_labelled.specs.Labelled as labelled
-use Rattle.cilk_labelled.specs.Bodies.{label}
-use Rattle.cilk_model.specs.Values.{initial_values}
-use Rattle.cilk_model.specs.Instance as model
-use Rattle.cilk_model.specs.Instance.{Instance, no_body, body_at, with_arguments}
-use Rattle.cilk_model.specs.Places.{PlaceOf, no_place, with_hand}
-use Rattle.cilk_model.specs.Run.{Standing, is_crew, opening, after, after_main}
-use Rattle.cilk_nodes.specs.declared.body.Body.{Body}
-use Rattle.cilk_nodes.specs.Slots.{size_of, flat, is_inlet}
-use Rattle.cilk_nodes.specs.Bodies.{body_table, body_of, vars_from, globals_of, lock_variable, locks_of}
-use Rattle.cilk_frame.specs.Frames.{Frame}
-use Rattle.cilk_frame.specs.Starts.{activation_of}
-use Rattle.cilk_stands.specs.Stands.{StandsFor}
-use Rattle.cilk_stands.specs.Starts.{Takes, starts_with, started}
-use Rattle.cilk_stands.proofs.Steps.{start-stands}
-use Rattle.cilk_sound.specs.Room.{IsTold, StartsWith}
-use Rattle.cilk_sound.proofs.Room.{parameters_first}
-use Rattle.cilk_sound.proofs.Start.{main_starts}
-use Rattle.cilk_spawn.specs.Nodes.{root_alone}
-use Rattle.cilk_sched.proofs.Seats.{workers-of-hand}
-use Rattle.cilk_agree.specs.declared.lock.Lock.TheVariants.{Unset}
-use Rattle.cilk_agree.specs.Outside as outside
-use Rattle.cilk_agree.specs.Fated.{Fated}
+use Rattle.cilk_carries.specs.syntax.Tree.{Program}
+use Rattle.cilk_carries.specs.check.Fault.{WellFormed}
+use Rattle.cilk_carries.specs.eval.declared.area.Area.{Area}
+use Rattle.cilk_carries.specs.eval.declared.area.Area.TheVariants.{Global}
+use Rattle.cilk_carries.specs.labelled.Labelled.{Variable}
+use Rattle.cilk_carries.specs.labelled.Labelled as labelled
+use Rattle.cilk_carries.specs.labelled.Bodies.{label}
+use Rattle.cilk_choices.specs.model.Values.{initial_values}
+use Rattle.cilk_choices.specs.model.Instance as model
+use Rattle.cilk_choices.specs.model.Instance.{Instance, no_body, body_at, with_arguments}
+use Rattle.cilk_choices.specs.model.Places.{PlaceOf, no_place, with_hand}
+use Rattle.cilk_choices.specs.model.Run.{Standing, is_crew, opening, after, after_main}
+use Rattle.cilk_carries.specs.nodes.declared.body.Body.{Body}
+use Rattle.cilk_carries.specs.nodes.Slots.{size_of, flat, is_inlet}
+use Rattle.cilk_carries.specs.nodes.Bodies.{body_table, body_of, vars_from, globals_of, lock_variable, locks_of}
+use Rattle.cilk_carries.specs.frame.Frames.{Frame}
+use Rattle.cilk_carries.specs.frame.Starts.{activation_of}
+use Rattle.cilk_carries.specs.stands.Stands.{StandsFor}
+use Rattle.cilk_carries.specs.stands.Starts.{Takes, starts_with, started}
+use Rattle.cilk_carries.proofs.stands_laws.Steps.{start-stands}
+use Rattle.cilk_carries.specs.sound.Room.{IsTold, StartsWith}
+use Rattle.cilk_carries.proofs.sound_laws.Room.{parameters_first}
+use Rattle.cilk_carries.proofs.sound_laws.Start.{main_starts}
+use Rattle.cilk_carries.specs.spawn.Nodes.{root_alone}
+use Rattle.cilk_carries.proofs.sched_laws.Seats.{workers-of-hand}
+use Rattle.cilk_carries.specs.agree.declared.lock.Lock.TheVariants.{Unset}
+use Rattle.cilk_carries.specs.agree.Outside as outside
+use Rattle.cilk_carries.specs.agree.Fated.{Fated}
 use Rattle.cilk_fated.proofs.Kept.{roots-are-fated}
-use Rattle.cilk_agree.specs.Agrees.{Agrees, read_off}
-use Rattle.cilk_agree.specs.Laws.{opening_machine}
-use Rattle.cilk_agree.proofs.Opens.{opening-agrees}
-use Rattle.cilk_agree.proofs.Found.{read-agrees}
+use Rattle.cilk_carries.specs.agree.Agrees.{Agrees, read_off}
+use Rattle.cilk_carries.specs.agree.Laws.{opening_machine}
+use Rattle.cilk_carries.proofs.agree_laws.Opens.{opening-agrees}
+use Rattle.cilk_carries.proofs.agree_laws.Found.{read-agrees}
 use Rattle.cilk_carries.specs.declared.parts.Parts.{Parts}
 use Rattle.cilk_carries.specs.Words.{machine_of}
 use Rattle.cilk_choices.specs.declared.outcome.Outcome.TheVariants.{Running}

@@ -1,28 +1,28 @@
 -- The step of the instance in a worker's hand, carried out.
 use Rattle.std.proofs.Common.{◌≡◌, ℕ, ◌+◌, Option, Some, None, refl, sym, ap, ◌∙◌, subst, arith}
 use Rattle.std.specs.Prelude.{List, option_map}
-use Rattle.cilk_syntax.specs.Tree.{Program}
-use Rattle.cilk_check.specs.Fault.{WellFormed}
-use Rattle.cilk_labelled.specs.Bodies.{label}
-use Rattle.cilk_model.specs.Choice as model
-use Rattle.cilk_model.specs.Event.{Event}
-use Rattle.cilk_model.specs.Path.{Path}
-use Rattle.cilk_model.specs.State as state
-use Rattle.cilk_model.specs.Run.{Standing, next_by_hand, event_by_hand, step_refusal}
-use Rattle.cilk_model.specs.Places.{IsWorker, hand_of}
-use Rattle.cilk_nodes.specs.declared.body.Body.{Body}
-use Rattle.cilk_sound.proofs.Room.{variables, globals}
-use Rattle.cilk_frame.specs.Frames.{Frame}
-use Rattle.cilk_spawn.specs.Nodes.{Node, path_at}
-use Rattle.cilk_agree.specs.Outside as outside
-use Rattle.cilk_agree.specs.Agrees.{Agrees, name_in}
-use Rattle.cilk_agree.specs.Fated.{Follows}
-use Rattle.cilk_agree.specs.Laws.{Turn}
-use Rattle.cilk_plans.specs.declared.plan.Plan.{Plan}
-use Rattle.cilk_plans.specs.declared.plan.Plan.TheVariants as plan
-use Rattle.cilk_plans.specs.Made.{planned}
-use Rattle.cilk_plans.specs.Plans.{step_in, IsPlan}
-use Rattle.cilk_plans.specs.Sights.{Sight}
+use Rattle.cilk_carries.specs.syntax.Tree.{Program}
+use Rattle.cilk_carries.specs.check.Fault.{WellFormed}
+use Rattle.cilk_carries.specs.labelled.Bodies.{label}
+use Rattle.cilk_choices.specs.model.Choice as model
+use Rattle.cilk_choices.specs.model.Event.{Event}
+use Rattle.cilk_choices.specs.model.Path.{Path}
+use Rattle.cilk_choices.specs.model.State as state
+use Rattle.cilk_choices.specs.model.Run.{Standing, next_by_hand, event_by_hand, step_refusal}
+use Rattle.cilk_choices.specs.model.Places.{IsWorker, hand_of}
+use Rattle.cilk_carries.specs.nodes.declared.body.Body.{Body}
+use Rattle.cilk_carries.proofs.sound_laws.Room.{variables, globals}
+use Rattle.cilk_carries.specs.frame.Frames.{Frame}
+use Rattle.cilk_carries.specs.spawn.Nodes.{Node, path_at}
+use Rattle.cilk_carries.specs.agree.Outside as outside
+use Rattle.cilk_carries.specs.agree.Agrees.{Agrees, name_in}
+use Rattle.cilk_carries.specs.agree.Fated.{Follows}
+use Rattle.cilk_carries.specs.agree.Laws.{Turn}
+use Rattle.cilk_carries.specs.plans.declared.plan.Plan.{Plan}
+use Rattle.cilk_carries.specs.plans.declared.plan.Plan.TheVariants as plan
+use Rattle.cilk_carries.specs.plans.Made.{planned}
+use Rattle.cilk_carries.specs.plans.Plans.{step_in, IsPlan}
+use Rattle.cilk_carries.specs.plans.Sights.{Sight}
 use Rattle.cilk_carries.specs.declared.did.Did.{Did}
 use Rattle.cilk_carries.specs.declared.did.Done.{Done}
 use Rattle.cilk_carries.specs.declared.parts.Parts.{Parts}
@@ -101,7 +101,7 @@ module _ (m : Situation) (w : ℕ) (sound : IsSound m) (free : refused_by m (rec
 
   -- what the choice does is what its step does
   hand-here : (choices : List model.Choice) (events : List Event) (at : Standing) (h : Led m choices events at)
-      → Rattle.cilk_model.specs.Scheduler.hand_of at.scheduler.places w ≡ Some (path_at m.machine.nodes f.id)
+      → Rattle.cilk_choices.specs.model.Scheduler.hand_of at.scheduler.places w ≡ Some (path_at m.machine.nodes f.id)
   hand-here choices events at h =
       hand-is m sound.well_formed choices events at h w ∙ ap (option_map (name_in m.machine.nodes)) it.held
 
@@ -146,7 +146,7 @@ module _ (m : Situation) (w : ℕ) (sound : IsSound m) (free : refused_by m (rec
           event = s.event ∙ ap (event_by_hand (label m.program) at.state) (sym hand);
           outcome_is =
               outcome-told (path_at now.tree.nodes) path done.outcome _ s.agrees.outside.outcome
-              (subst (λ q. Rattle.cilk_machine.proofs.Told.TrappedAt q (Rattle.cilk_model.specs.Run.state_after at.state (step_in t)).outcome) (sym named)
+              (subst (λ q. Rattle.cilk_machine.proofs.Told.TrappedAt q (Rattle.cilk_choices.specs.model.Run.state_after at.state (step_in t)).outcome) (sym named)
               (trapped-there t runs x (is-plan x is choices events at h)))
               ∙ ap (λ o. (next_by_hand (label m.program) at w o).state.outcome) (sym hand);
           who = s.who;

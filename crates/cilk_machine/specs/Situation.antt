@@ -1,11 +1,11 @@
 -- What contracts see of a machine.
 use Rattle.std.specs.Prelude.{ℕ, length}
-use Rattle.cilk_syntax.specs.Tree as tree
-use Rattle.cilk_frame.specs.Frames.{Frame}
-use Rattle.cilk_agree.specs.Outside as outside
-use Rattle.cilk_agree.specs.Agrees.{Machine}
-use Rattle.cilk_spawn.specs.Kinds.{kind_of}
-use Rattle.cilk_plans.specs.Sights.{Sight}
+use Rattle.cilk_carries.specs.syntax.Tree as tree
+use Rattle.cilk_carries.specs.frame.Frames.{Frame}
+use Rattle.cilk_carries.specs.agree.Outside as outside
+use Rattle.cilk_carries.specs.agree.Agrees.{Machine}
+use Rattle.cilk_carries.specs.spawn.Kinds.{kind_of}
+use Rattle.cilk_carries.specs.plans.Sights.{Sight}
 use Rattle.cilk_choices.specs.declared.outcome.Outcome.{Outcome}
 use Rattle.cilk_choices.specs.declared.outcome.Outcome.TheVariants.{Running, Finished, Trapped}
 

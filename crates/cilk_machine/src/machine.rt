@@ -1,11 +1,11 @@
 ghost use Rattle.std.specs.Prelude.{◌≡◌, ◌<◌, ◌≤◌, ◌⊎◌, ◌↔◌, List, option_map, IfOk};
-ghost use Rattle.cilk_labelled.specs.Bodies.{label};
-ghost use Rattle.cilk_model.specs.Choice as choices;
-ghost use Rattle.cilk_model.specs.End as model;
-ghost use Rattle.cilk_model.specs.Event as events;
-ghost use Rattle.cilk_model.specs.Fate.{fate_of};
-ghost use Rattle.cilk_model.specs.Run.{Standing};
-ghost use Rattle.cilk_agree.specs.Fated.{fate_named};
+ghost use Rattle.cilk_carries.specs.labelled.Bodies.{label};
+ghost use Rattle.cilk_choices.specs.model.Choice as choices;
+ghost use Rattle.cilk_choices.specs.model.End as model;
+ghost use Rattle.cilk_choices.specs.model.Event as events;
+ghost use Rattle.cilk_choices.specs.model.Fate.{fate_of};
+ghost use Rattle.cilk_choices.specs.model.Run.{Standing};
+ghost use Rattle.cilk_carries.specs.agree.Fated.{fate_named};
 ghost use Rattle.cilk_choices.specs.Words.{end_of, outcome_of};
 ghost use Rattle.cilk_view.specs.Shows.{machine_of};
 ghost use Rattle.cilk_machine.specs.Situation.{workers_of};
@@ -16,13 +16,9 @@ mod making;
 
 use crate::opening::{first_frame, initial_cells, initial_locks};
 use crate::reading::cell_of;
-use cilk_carries::Parts;
-use cilk_choices::{End, MachineFault, Outcome};
-use cilk_frame::Id;
-use cilk_load::Loaded;
-use cilk_sched::Hands;
-use cilk_spawn::{Fate, Tree};
-use cilk_syntax::{Memory, Program};
+use cilk_carries::{Fate, Hands, Id, Parts, Program, Tree};
+use cilk_choices::{End, MachineFault, Memory, Outcome};
+use cilk_step::Loaded;
 use cilk_view::Shown;
 use std::alloc::Global;
 use std::marker::Model;
@@ -45,7 +41,7 @@ impl Model for Machine {
     ghost use Rattle.cilk_carries.specs.Words.{machine_of};
     ghost use Rattle.cilk_machine.specs.Situation.{Situation, outcome_at};
     ghost use Rattle.cilk_machine.specs.Stands.{IsSound};
-    ghost use Rattle.cilk_syntax.specs.ProgramCoding.{coded_Program};
+    ghost use Rattle.cilk_carries.specs.syntax.ProgramCoding.{coded_Program};
     ghost use Rattle.std.specs.Coded.{codes};
 
     ghost Value = { Situation };

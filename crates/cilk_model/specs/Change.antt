@@ -1,11 +1,11 @@
 -- What one step of an instance does to the state.
 use Rattle.std.specs.Prelude.{ℕ, ◌+◌, ℤ, Bool, true, false, not, ◌&&◌, ◌||◌, if◌then◌else◌, List, [], ◌∷◌, ◌++◌, map, Option, Some, None, slice_index_or, slice_set}
 use Rattle.std.specs.List.{list_any}
-use Rattle.cilk_syntax.specs.declared.lock_action.LockAction.{LockAction}
-use Rattle.cilk_syntax.specs.declared.lock_action.LockAction.TheVariants.{Init, Unlock}
-use Rattle.cilk_syntax.specs.declared.lock_action.LockAction.TheVariants as action
-use Rattle.cilk_scopes.specs.declared.owner.Owner.{Owner}
-use Rattle.cilk_scopes.specs.declared.owner.Owner.TheVariants.{Function, Procedure, Inlet}
+use Rattle.cilk_labelled.specs.syntax.declared.lock_action.LockAction.{LockAction}
+use Rattle.cilk_labelled.specs.syntax.declared.lock_action.LockAction.TheVariants.{Init, Unlock}
+use Rattle.cilk_labelled.specs.syntax.declared.lock_action.LockAction.TheVariants as action
+use Rattle.cilk_labelled.specs.scopes.declared.owner.Owner.{Owner}
+use Rattle.cilk_labelled.specs.scopes.declared.owner.Owner.TheVariants.{Function, Procedure, Inlet}
 use Rattle.cilk_labelled.specs.Labelled.{Labelled, Declaration, local, outer, global, Action, sync, spawn, return_with, return_nothing, close, Numbered}
 use Rattle.cilk_labelled.specs.Items.{head_of, opened, next}
 use Rattle.cilk_model.specs.Values.{Values, Cell, Reached}

@@ -2,8 +2,8 @@
 use Rattle.std.specs.Prelude.{ℕ, zero, suc, ℤ, Bool, true, ◌&&◌, ◌==◌, if◌then◌else◌, List, [], ◌∷◌, ◌++◌, length, map, Option, None, is_some, unwrap_or, slice_get, codes, decimal}
 use Rattle.std.specs.List.{list_all}
 use Rattle.std.specs.Fmt.{signed_decimal}
-use Rattle.cilk_values.specs.declared.trap.Trap.{Trap}
-use Rattle.cilk_values.specs.declared.trap.Trap.TheVariants.{Overflow, ZeroDivide, Shift, Index}
+use Rattle.cilk_labelled.specs.values.declared.trap.Trap.{Trap}
+use Rattle.cilk_labelled.specs.values.declared.trap.Trap.TheVariants.{Overflow, ZeroDivide, Shift, Index}
 use Rattle.cilk_labelled.specs.Labelled.{Labelled}
 use Rattle.cilk_model.specs.Path.{Path, path_text}
 use Rattle.cilk_model.specs.State as state

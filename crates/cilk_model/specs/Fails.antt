@@ -1,12 +1,12 @@
 -- Why an action has no meaning: the first trap from the left, or what is not allowed or has no room.
 use Rattle.std.specs.Prelude.{◌≡◌, ◌≢◌, ℕ, ◌+◌, ◌<◌, ◌≤◌, ℤ, ◌⊎◌, List, [], ◌∷◌, length, Option, Some, Ok, Err}
-use Rattle.cilk_syntax.specs.declared.lock_action.LockAction.{LockAction}
-use Rattle.cilk_syntax.specs.declared.lock_action.LockAction.TheVariants.{Init, Lock, Unlock}
-use Rattle.cilk_scopes.specs.declared.owner.Owner.TheVariants.{Function}
-use Rattle.cilk_syntax.specs.declared.return_type.ReturnType.{ReturnType}
-use Rattle.cilk_values.specs.declared.trap.Trap.{Trap}
-use Rattle.cilk_values.specs.Term.{Term}
-use Rattle.cilk_values.specs.Value.{Environment, value_of, values_of}
+use Rattle.cilk_labelled.specs.syntax.declared.lock_action.LockAction.{LockAction}
+use Rattle.cilk_labelled.specs.syntax.declared.lock_action.LockAction.TheVariants.{Init, Lock, Unlock}
+use Rattle.cilk_labelled.specs.scopes.declared.owner.Owner.TheVariants.{Function}
+use Rattle.cilk_labelled.specs.syntax.declared.return_type.ReturnType.{ReturnType}
+use Rattle.cilk_labelled.specs.values.declared.trap.Trap.{Trap}
+use Rattle.cilk_labelled.specs.values.Term.{Term}
+use Rattle.cilk_labelled.specs.values.Value.{Environment, value_of, values_of}
 use Rattle.cilk_labelled.specs.Labelled.{Labelled, Declaration, Into, Taker, Action, assign, call, spawn, print, locking, tests, sync, return_with}
 use Rattle.cilk_model.specs.Values.{Reached, environment, read_at, reached_at, reached_if, combined}
 use Rattle.cilk_model.specs.Path.{Path}

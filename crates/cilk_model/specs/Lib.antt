@@ -19,3 +19,8 @@ pub mod Fate
 pub mod Trees
 pub mod Programs
 pub mod Rows
+pub use Rattle.cilk_labelled.specs.canonical
+pub use Rattle.cilk_labelled.specs as labelled
+pub use Rattle.cilk_labelled.specs.scopes
+pub use Rattle.cilk_labelled.specs.syntax
+pub use Rattle.cilk_labelled.specs.values

@@ -1,6 +1,6 @@
 -- The one step of an instance that is taken, of those that the written rule allows.
 use Rattle.std.specs.Prelude.{ℕ, ◌+◌, ◌-◌, ◌^◌, ℤ, Bool, true, false, not, ◌&&◌, nat_lt, nat_le, if◌then◌else◌, List, [], ◌∷◌, length, Option, Some, None, Result, Ok, Err}
-use Rattle.cilk_values.specs.declared.trap.Trap.{Trap}
+use Rattle.cilk_labelled.specs.values.declared.trap.Trap.{Trap}
 use Rattle.cilk_labelled.specs.Labelled.{Labelled, Numbered}
 use Rattle.cilk_labelled.specs.Items.{head_of}
 use Rattle.cilk_model.specs.Values.{Cell, Reached, environment, read_at, combined}

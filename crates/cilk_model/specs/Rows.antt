@@ -1,6 +1,6 @@
 -- What becomes of worked programs.
 use Rattle.std.specs.Prelude.{ℕ, zero, suc, List, [], ◌∷◌, Option, option_map, option_and_then}
-use Rattle.cilk_syntax.specs.Tree.{Program}
+use Rattle.cilk_labelled.specs.syntax.Tree.{Program}
 use Rattle.cilk_labelled.specs.Bodies.{label}
 use Rattle.cilk_model.specs.Path.{Path}
 use Rattle.cilk_model.specs.State.{Outcome}

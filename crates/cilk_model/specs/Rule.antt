@@ -1,11 +1,11 @@
 -- The written rule: what one step of an instance may do to the state, said of what stands at each path, in each cell and at each lock.
 use Rattle.std.specs.Prelude.{◌≡◌, ◌≢◌, ℕ, ◌+◌, ◌<◌, ◌≤◌, ℤ, pos, Bool, true, false, not, ◌⊎◌, List, [], ◌∷◌, ◌++◌, length, Option, Some, None, option_map, Ok, Err, slice_get}
 use Rattle.std.specs.Ordering.{int_eq}
-use Rattle.cilk_syntax.specs.declared.lock_action.LockAction.{LockAction}
-use Rattle.cilk_syntax.specs.declared.lock_action.LockAction.TheVariants.{Init, Lock, Unlock}
-use Rattle.cilk_values.specs.declared.trap.Trap.{Trap}
-use Rattle.cilk_values.specs.Term.{Term}
-use Rattle.cilk_values.specs.Value.{value_of, values_of}
+use Rattle.cilk_labelled.specs.syntax.declared.lock_action.LockAction.{LockAction}
+use Rattle.cilk_labelled.specs.syntax.declared.lock_action.LockAction.TheVariants.{Init, Lock, Unlock}
+use Rattle.cilk_labelled.specs.values.declared.trap.Trap.{Trap}
+use Rattle.cilk_labelled.specs.values.Term.{Term}
+use Rattle.cilk_labelled.specs.values.Value.{value_of, values_of}
 use Rattle.cilk_labelled.specs.Labelled.{Labelled, Declaration, Into, Taker, Action, assign, call, spawn, print, locking, null, break_off, go_round, tests, sync, abort}
 use Rattle.cilk_labelled.specs.Items.{opened, next}
 use Rattle.cilk_model.specs.Values.{Values, Cell, Reached, read_at, reached_at, reached_if, combined}

@@ -1,7 +1,7 @@
 -- The state of a program that runs.
 use Rattle.std.specs.Prelude.{ℕ, ℤ, Bool, true, false, not, ◌&&◌, slice_index_or, List, [], ◌∷◌, map, replicate, length, Option, Some, None, is_some, if◌then◌else◌, filter}
 use Rattle.std.specs.List.{list_any}
-use Rattle.cilk_values.specs.declared.trap.Trap.{Trap}
+use Rattle.cilk_labelled.specs.values.declared.trap.Trap.{Trap}
 use Rattle.cilk_labelled.specs.Labelled.{Labelled}
 use Rattle.cilk_model.specs.Values.{Values, Store, initial_values}
 use Rattle.cilk_model.specs.Path.{Path, same_path, is_child}

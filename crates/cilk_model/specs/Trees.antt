@@ -1,12 +1,12 @@
 -- Worked programs.
 use Rattle.std.specs.Prelude.{ℕ, true, List, [], ◌∷◌, Option, Some, None, codes}
-use Rattle.cilk_syntax.specs.declared.operator.BinOp.TheVariants.{Add, Less, Equal}
-use Rattle.cilk_syntax.specs.declared.adjustment.Adjustment.TheVariants.{Increment}
-use Rattle.cilk_syntax.specs.declared.lock_action.LockAction.TheVariants.{Init, Lock, Unlock}
-use Rattle.cilk_syntax.specs.declared.return_type.ReturnType.{ReturnType}
-use Rattle.cilk_syntax.specs.declared.return_type.ReturnType.TheVariants.{Int, Void}
-use Rattle.cilk_syntax.specs.Tree as tree
-use Rattle.cilk_syntax.specs.Tree.{Word, Expr, number, named, binary, Target, Place, Local, declared, inlet_at, Stmt, stmts_of, locals_of, Block, block, Item, Program}
+use Rattle.cilk_labelled.specs.syntax.declared.operator.BinOp.TheVariants.{Add, Less, Equal}
+use Rattle.cilk_labelled.specs.syntax.declared.adjustment.Adjustment.TheVariants.{Increment}
+use Rattle.cilk_labelled.specs.syntax.declared.lock_action.LockAction.TheVariants.{Init, Lock, Unlock}
+use Rattle.cilk_labelled.specs.syntax.declared.return_type.ReturnType.{ReturnType}
+use Rattle.cilk_labelled.specs.syntax.declared.return_type.ReturnType.TheVariants.{Int, Void}
+use Rattle.cilk_labelled.specs.syntax.Tree as tree
+use Rattle.cilk_labelled.specs.syntax.Tree.{Word, Expr, number, named, binary, Target, Place, Local, declared, inlet_at, Stmt, stmts_of, locals_of, Block, block, Item, Program}
 
 abbrev pub word : List ℕ → Word
 word text = record { text = text; place = 0 }

@@ -1,7 +1,7 @@
 -- Words of the written rule: what is written, what waits, what is let go.
 use Rattle.std.specs.Prelude.{◌≡◌, ◌≢◌, ℕ, ℤ, pos, true, false, List, [], ◌∷◌, Option, Some, None, option_map, Ok, slice_get}
-use Rattle.cilk_values.specs.Term.{Term}
-use Rattle.cilk_values.specs.Value.{Environment, value_of}
+use Rattle.cilk_labelled.specs.values.Term.{Term}
+use Rattle.cilk_labelled.specs.values.Value.{Environment, value_of}
 use Rattle.cilk_labelled.specs.Labelled.{Declaration, Into, Taker, nothing, into, through, Action, sync, return_with, return_nothing, close}
 use Rattle.cilk_labelled.specs.Items.{head_of}
 use Rattle.cilk_model.specs.Values.{Values, Store, Cell, Reached, cells_of}

@@ -3,6 +3,7 @@
 
 mod laws;
 
+pub use cilk_labelled::{Global, GlobalShape, Item, ItemNode, Program, Word, canonical};
 pub use laws::{
     rows_of_calls_come_out, rows_of_control_come_out, rows_of_deliveries_come_out,
     rows_of_fates_come_out, rows_of_inlets_come_out, rows_of_locks_come_out,

@@ -1,8 +1,8 @@
 -- What holds of all lists in the table holds of those that come next.
 use Rattle.std.proofs.Common.{◌≡◌, List, [], ◌∷◌, ◌++◌, Option, Some, None, Bool, true, false, sym, subst}
-use Rattle.cilk_labelled.specs.Labelled.{Action, assign, call, spawn, print, locking, null, break_off, go_round, tests, sync, abort, return_with, return_nothing, close}
-use Rattle.cilk_labelled.specs.Labelled.{Numbered, Stmt, action, choose, while, repeat, loop, nested, Stmts, none, also}
-use Rattle.cilk_labelled.specs.Items.{Round, Item, piece, at_test, at_advance, Items, pieces, plain_round, open_stmt, open_stmts, opened, past_mark, from_mark, next, next_mark, after_action}
+use Rattle.cilk_model.specs.labelled.Labelled.{Action, assign, call, spawn, print, locking, null, break_off, go_round, tests, sync, abort, return_with, return_nothing, close}
+use Rattle.cilk_model.specs.labelled.Labelled.{Numbered, Stmt, action, choose, while, repeat, loop, nested, Stmts, none, also}
+use Rattle.cilk_model.specs.labelled.Items.{Round, Item, piece, at_test, at_advance, Items, pieces, plain_round, open_stmt, open_stmts, opened, past_mark, from_mark, next, next_mark, after_action}
 use Rattle.cilk_nodes.specs.Table.{first_lists, advance_lists, round_of, stmt_lists, stmts_lists}
 use Rattle.cilk_nodes.proofs.Opens.{opened-pieces, past-pieces, from-pieces}
 

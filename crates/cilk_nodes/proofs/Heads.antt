@@ -3,13 +3,13 @@ use Rattle.std.proofs.Common.{◌≡◌, ℕ, zero, suc, ◌+◌, ◌<◌, ◌�
 use Rattle.std.specs.Prelude.{⊤, slice_get, slice_index_or}
 use Rattle.std.proofs.lemmas.Bool.{false≢true}
 use Rattle.std.proofs.lemmas.Bool.Decides.{Decides-eqb}
-use Rattle.cilk_syntax.specs.Tree as tree
-use Rattle.cilk_scopes.proofs.Elements.{Has, Has-append_left, Has-append_right}
+use Rattle.cilk_check.specs.syntax.Tree as tree
+use Rattle.cilk_check.proofs.scopes_laws.Elements.{Has, Has-append_left, Has-append_right}
 use Rattle.cilk_check.specs.Fault.{WellFormed}
-use Rattle.cilk_labelled.specs.Labelled.{Body, Labelled, Numbered, Stmt, action, choose, while, repeat, loop, nested, Stmts, none, also}
-use Rattle.cilk_labelled.specs.Items.{Items, pieces, plain_round, open_stmt, open_stmts, opened, head_of, reached}
-use Rattle.cilk_labelled.specs.Bodies.{label, file_names}
-use Rattle.cilk_labelled.specs.Count.{count_items, count_program}
+use Rattle.cilk_model.specs.labelled.Labelled.{Body, Labelled, Numbered, Stmt, action, choose, while, repeat, loop, nested, Stmts, none, also}
+use Rattle.cilk_model.specs.labelled.Items.{Items, pieces, plain_round, open_stmt, open_stmts, opened, head_of, reached}
+use Rattle.cilk_model.specs.labelled.Bodies.{label, file_names}
+use Rattle.cilk_model.specs.labelled.Count.{count_items, count_program}
 use Rattle.cilk_model.specs.Instance.{body_at, no_body}
 use Rattle.cilk_nodes.specs.declared.body.Body as table
 use Rattle.cilk_nodes.specs.declared.node.Node.{Node}

@@ -6,3 +6,7 @@ pub mod Kept
 pub mod Spans
 pub mod Texts
 pub mod Heads
+pub use Rattle.cilk_eval.proofs as eval_laws
+pub use Rattle.cilk_check.proofs.rules_of_forms_laws
+pub use Rattle.cilk_check.proofs.rules_of_names_laws
+pub use Rattle.cilk_check.proofs.scopes_laws

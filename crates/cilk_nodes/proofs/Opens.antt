@@ -1,7 +1,7 @@
 -- What the items of a block open to, and where a `break` and a `continue` in it lead.
 use Rattle.std.proofs.Common.{◌≡◌, refl, ap}
-use Rattle.cilk_labelled.specs.Labelled.{Stmts, none, also}
-use Rattle.cilk_labelled.specs.Items.{Items, pieces, open_stmt, open_stmts, opened, past_mark, from_mark}
+use Rattle.cilk_model.specs.labelled.Labelled.{Stmts, none, also}
+use Rattle.cilk_model.specs.labelled.Items.{Items, pieces, open_stmt, open_stmts, opened, past_mark, from_mark}
 
 pub opened-pieces : (ss : Stmts) (items : Items) → opened (pieces ss items) ≡ open_stmts ss items (opened items)
 opened-pieces none items = refl

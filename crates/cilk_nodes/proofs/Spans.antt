@@ -1,11 +1,11 @@
 -- The heads of the lists of statements without inlets have the numbers of their actions, one after another.
 use Rattle.std.proofs.Common.{◌≡◌, ℕ, ◌+◌, List, [], ◌∷◌, ◌++◌, length, Option, Some, None, refl, sym, subst, arith}
-use Rattle.cilk_syntax.specs.Tree as tree
-use Rattle.cilk_labelled.specs.Labelled.{Numbered, Stmts, none}
-use Rattle.cilk_labelled.specs.Items.{Round, at_test, at_advance, Items, pieces, plain_round, next_mark}
-use Rattle.cilk_labelled.specs.Names.{Names, with_local, entered}
-use Rattle.cilk_labelled.specs.Count.{count_option, count_shape, count_stmt, count_stmts, count_locals, count_block}
-use Rattle.cilk_labelled.specs.Label.{label_part, label_test, label_initialiser, label_locals, label_stmt, label_stmts, label_block, names_behind, stmt_variables, block_variables, locals_variables}
+use Rattle.cilk_check.specs.syntax.Tree as tree
+use Rattle.cilk_model.specs.labelled.Labelled.{Numbered, Stmts, none}
+use Rattle.cilk_model.specs.labelled.Items.{Round, at_test, at_advance, Items, pieces, plain_round, next_mark}
+use Rattle.cilk_model.specs.labelled.Names.{Names, with_local, entered}
+use Rattle.cilk_model.specs.labelled.Count.{count_option, count_shape, count_stmt, count_stmts, count_locals, count_block}
+use Rattle.cilk_model.specs.labelled.Label.{label_part, label_test, label_initialiser, label_locals, label_stmt, label_stmts, label_block, names_behind, stmt_variables, block_variables, locals_variables}
 use Rattle.cilk_nodes.specs.Table.{number_of, first_lists, advance_lists, round_of, stmt_lists, stmts_lists, closing_items}
 use Rattle.cilk_nodes.specs.Plain.{PlainLocals, PlainStmt, PlainStmts, PlainBlock}
 

@@ -1,17 +1,17 @@
 -- The lists of all bodies in the order of the text: those of an inlet stand between the initialisers of its procedure.
 use Rattle.std.proofs.Common.{◌≡◌, ◌⊎◌, ℕ, suc, ◌+◌, ◌<◌, List, [], ◌∷◌, ◌++◌, length, map, Some, None, inl, inr, refl, sym, ap, subst, ◌∙◌, arith, pos, append_assoc}
-use Rattle.cilk_syntax.specs.Tree as tree
-use Rattle.cilk_syntax.specs.Tree.{Word}
-use Rattle.cilk_scopes.specs.declared.owner.Owner.{Owner}
-use Rattle.cilk_scopes.specs.declared.owner.Owner.TheVariants.{Inlet}
-use Rattle.cilk_scopes.specs.Parts.{owner_of}
-use Rattle.cilk_scopes.proofs.Elements.{Has, Has-append_left, Has-append_right, Has-append_cases}
-use Rattle.cilk_labelled.specs.Labelled.{Stmts, Variable, Body, Numbered}
-use Rattle.cilk_labelled.specs.Items.{Items, piece, pieces}
-use Rattle.cilk_labelled.specs.Names.{Names, with_local, with_words, local_count, in_inlet}
-use Rattle.cilk_labelled.specs.Count.{count_shape, count_local, count_locals, count_stmts, count_block, count_item, count_items}
-use Rattle.cilk_labelled.specs.Label.{single, label_move, label_initialiser, label_locals, label_stmts, label_block, names_behind, locals_variables}
-use Rattle.cilk_labelled.specs.Bodies.{one_cell, parameter_variables, label_body, inlet_body, inlet_bodies, block_locals, procedure_names, procedure_bodies, inlet_count, body_count, item_bodies, items_bodies}
+use Rattle.cilk_check.specs.syntax.Tree as tree
+use Rattle.cilk_check.specs.syntax.Tree.{Word}
+use Rattle.cilk_check.specs.scopes.declared.owner.Owner.{Owner}
+use Rattle.cilk_check.specs.scopes.declared.owner.Owner.TheVariants.{Inlet}
+use Rattle.cilk_check.specs.scopes.Parts.{owner_of}
+use Rattle.cilk_check.proofs.scopes_laws.Elements.{Has, Has-append_left, Has-append_right, Has-append_cases}
+use Rattle.cilk_model.specs.labelled.Labelled.{Stmts, Variable, Body, Numbered}
+use Rattle.cilk_model.specs.labelled.Items.{Items, piece, pieces}
+use Rattle.cilk_model.specs.labelled.Names.{Names, with_local, with_words, local_count, in_inlet}
+use Rattle.cilk_model.specs.labelled.Count.{count_shape, count_local, count_locals, count_stmts, count_block, count_item, count_items}
+use Rattle.cilk_model.specs.labelled.Label.{single, label_move, label_initialiser, label_locals, label_stmts, label_block, names_behind, locals_variables}
+use Rattle.cilk_model.specs.labelled.Bodies.{one_cell, parameter_variables, label_body, inlet_body, inlet_bodies, block_locals, procedure_names, procedure_bodies, inlet_count, body_count, item_bodies, items_bodies}
 use Rattle.cilk_nodes.specs.Table.{number_of, stmts_lists, closing_items, body_lists, Row, row, rows_from}
 use Rattle.cilk_nodes.specs.Plain.{PlainStmts, PlainBlock, OuterLocals, OuterBlock, PlainItem, PlainItems}
 use Rattle.cilk_nodes.proofs.Members.{has-both}

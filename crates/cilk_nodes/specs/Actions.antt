@@ -1,9 +1,9 @@
 -- Actions with slots in place of declarations.
 use Rattle.std.specs.Prelude.{Option, Some, None, map, option_map}
-use Rattle.cilk_values.specs.Term.{rename}
+use Rattle.cilk_model.specs.values.Term.{rename}
 use Rattle.cilk_eval.specs.declared.slot.Slot.{Slot}
-use Rattle.cilk_labelled.specs.Labelled.{Declaration}
-use Rattle.cilk_labelled.specs.Labelled as labelled
+use Rattle.cilk_model.specs.labelled.Labelled.{Declaration}
+use Rattle.cilk_model.specs.labelled.Labelled as labelled
 use Rattle.cilk_nodes.specs.declared.place.Place.{Place}
 use Rattle.cilk_nodes.specs.declared.target.Target.{Target}
 use Rattle.cilk_nodes.specs.declared.taker.Taker.{Taker}

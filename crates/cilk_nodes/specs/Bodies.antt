@@ -1,12 +1,12 @@
 -- The tables of bodies and variables.
 use Rattle.std.specs.Prelude.{ℕ, ◌+◌, pos, List, [], ◌∷◌, Option, map, slice_get, unwrap_or}
-use Rattle.cilk_syntax.specs.Tree as tree
+use Rattle.cilk_check.specs.syntax.Tree as tree
 use Rattle.cilk_eval.specs.declared.area.Area.{Area}
 use Rattle.cilk_eval.specs.declared.area.Area.TheVariants.{Own, Global}
-use Rattle.cilk_labelled.specs.Labelled.{Variable}
-use Rattle.cilk_labelled.specs.Labelled as labelled
-use Rattle.cilk_labelled.specs.Items.{opened, start_items}
-use Rattle.cilk_labelled.specs.Bodies.{label}
+use Rattle.cilk_model.specs.labelled.Labelled.{Variable}
+use Rattle.cilk_model.specs.labelled.Labelled as labelled
+use Rattle.cilk_model.specs.labelled.Items.{opened, start_items}
+use Rattle.cilk_model.specs.labelled.Bodies.{label}
 use Rattle.cilk_nodes.specs.declared.var.Var.{Var}
 use Rattle.cilk_nodes.specs.declared.body.Body.{Body}
 use Rattle.cilk_nodes.specs.Slots.{size_of, cells_of, slot_at}

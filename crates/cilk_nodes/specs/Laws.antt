@@ -1,10 +1,10 @@
 -- What a node stands for: the list of items that it is the head of.
 use Rattle.std.specs.Prelude.{◌≡◌, ℕ, ◌<◌, ◌≤◌, Bool, List, [], ◌∷◌, length, Some, None}
-use Rattle.cilk_syntax.specs.Tree.{Program}
+use Rattle.cilk_check.specs.syntax.Tree.{Program}
 use Rattle.cilk_check.specs.Fault.{WellFormed}
-use Rattle.cilk_labelled.specs.Bodies.{label}
-use Rattle.cilk_labelled.specs.Count.{count_program}
-use Rattle.cilk_labelled.specs.Items.{Items, reached}
+use Rattle.cilk_model.specs.labelled.Bodies.{label}
+use Rattle.cilk_model.specs.labelled.Count.{count_program}
+use Rattle.cilk_model.specs.labelled.Items.{Items, reached}
 use Rattle.cilk_model.specs.Instance.{body_at}
 use Rattle.cilk_nodes.specs.declared.body.Body.{Body}
 use Rattle.cilk_nodes.specs.declared.node.Node.{Node}

@@ -1,6 +1,6 @@
 -- Programs whose inlets stand at the heads of functions and procedures alone, and not in inner blocks or in inlets.
 use Rattle.std.specs.Prelude.{⊤, List, [], ◌∷◌}
-use Rattle.cilk_syntax.specs.Tree.{Stmt, when, either, while, repeat, loop, nested, Stmts, none, also, Local, declared, inlet_at, Locals, no_locals, and_local, Block, block, Item, procedure, Program}
+use Rattle.cilk_check.specs.syntax.Tree.{Stmt, when, either, while, repeat, loop, nested, Stmts, none, also, Local, declared, inlet_at, Locals, no_locals, and_local, Block, block, Item, procedure, Program}
 
 -- none of these declarations is an inlet
 abbrev pub PlainLocals : Locals → Type 0

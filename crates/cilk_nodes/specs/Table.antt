@@ -1,10 +1,10 @@
 -- The table of nodes: what each action does, and the numbers of those that come next.
 use Rattle.std.specs.Prelude.{ℕ, suc, Bool, true, false, nat_eq, if◌then◌else◌, List, [], ◌∷◌, ◌++◌, Option, Some, None, map, option_map}
-use Rattle.cilk_syntax.specs.Tree as tree
+use Rattle.cilk_check.specs.syntax.Tree as tree
 use Rattle.cilk_eval.specs.declared.slot.Slot.{Slot}
-use Rattle.cilk_labelled.specs.Labelled.{Declaration, close, Numbered, Stmt, action, choose, while, repeat, loop, nested, Stmts, none, also, Body, Labelled}
-use Rattle.cilk_labelled.specs.Items.{Round, piece, at_test, at_advance, Items, pieces, plain_round, opened, head_of, next_mark, next}
-use Rattle.cilk_labelled.specs.Bodies.{label}
+use Rattle.cilk_model.specs.labelled.Labelled.{Declaration, close, Numbered, Stmt, action, choose, while, repeat, loop, nested, Stmts, none, also, Body, Labelled}
+use Rattle.cilk_model.specs.labelled.Items.{Round, piece, at_test, at_advance, Items, pieces, plain_round, opened, head_of, next_mark, next}
+use Rattle.cilk_model.specs.labelled.Bodies.{label}
 use Rattle.cilk_nodes.specs.declared.node.Node.{Node}
 use Rattle.cilk_nodes.specs.Slots.{slot_of}
 use Rattle.cilk_nodes.specs.Actions.{slotted}

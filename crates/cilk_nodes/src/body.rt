@@ -1,6 +1,6 @@
 use crate::name::Name;
 use crate::vars::Vars;
-use cilk_scopes::Owner;
+use cilk_check::Owner;
 
 /// The body of a C function, a Cilk procedure or an inlet (Cilk 5.4 manual, `cilk`, `inlet`).
 #[derive(Drop)]

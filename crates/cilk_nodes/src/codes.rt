@@ -12,7 +12,7 @@ pub struct Codes {
 impl Model for Codes {
     ghost use Rattle.std.specs.Prelude.{List};
     ghost use Rattle.std.specs.Coded.{coded_list};
-    ghost use Rattle.cilk_values.specs.Term.{Term};
+    ghost use Rattle.cilk_model.specs.values.Term.{Term};
     ghost use Rattle.cilk_eval.specs.Coding.{coded_Term};
     ghost use Rattle.cilk_eval.specs.declared.slot.Slot.{Slot};
 

@@ -4,9 +4,9 @@ ghost use Rattle.cilk_nodes.specs.Laws.{HeadsTellLists, NoHeadTellsEnd, NumbersA
 ghost use Rattle.cilk_nodes.specs.Laws.{BodiesHaveTables, TablesHaveBodies};
 ghost use Rattle.std.specs.Prelude.{◌≡◌, [], ◌∷◌, Some, None, map};
 ghost use Rattle.cilk_eval.specs.declared.area.Area.TheVariants.{Own, Outer};
-ghost use Rattle.cilk_labelled.specs.Bodies.{label};
-ghost use Rattle.cilk_labelled.specs.Labelled.{local, outer};
-ghost use Rattle.cilk_labelled.specs.Rows.{fib_program};
+ghost use Rattle.cilk_model.specs.labelled.Bodies.{label};
+ghost use Rattle.cilk_model.specs.labelled.Labelled.{local, outer};
+ghost use Rattle.cilk_model.specs.labelled.Rows.{fib_program};
 ghost use Rattle.cilk_nodes.specs.Bodies.{body_table};
 ghost use Rattle.cilk_nodes.specs.Slots.{slot_at, slot_of};
 ghost use Rattle.cilk_nodes.specs.Rows.{loops_program, nexts, others, bodies};

@@ -16,6 +16,9 @@ mod vars;
 
 pub use action::Action;
 pub use body::Body;
+pub use cilk_check::{BinOp, Checked, Owner};
+pub use cilk_eval::{Area, Code, CodeNode, Memory, Slot, Slots, Trap, apply, eval};
+pub use cilk_model::canonical;
 pub use codes::Codes;
 pub use laws::{bodies_have_tables, nodes_stand_for_lists, rows_are_nodes};
 pub use name::Name;

@@ -1,5 +1,5 @@
 use crate::place::Place;
-use cilk_syntax::BinOp;
+use cilk_check::BinOp;
 
 /// What is written to, and the operator before the `=`, if there is one (C 1990, 6.3.16).
 #[derive(Drop)]

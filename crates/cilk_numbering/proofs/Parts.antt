@@ -1,15 +1,15 @@
 -- What the pass appends for the parts of a body makes up what it appends for the body.
 use Rattle.std.proofs.Common.{◌≡◌, ℕ, suc, ◌+◌, List, [], ◌∷◌, ◌++◌, ◌-◌, length, take, drop, Option, Some, None, ap, ◌∙◌, arith, append_assoc, length-drop}
 use Rattle.std.proofs.lemmas.List.{take_all}
-use Rattle.cilk_syntax.specs.Tree as tree
-use Rattle.cilk_syntax.specs.Tree.{Word, locals_of, stmts_of}
-use Rattle.cilk_labelled.specs.Count.{count_option, count_shape, count_stmt, count_stmts, count_local, count_locals, count_block}
-use Rattle.cilk_labelled.specs.Label.{stmt_variables, local_variables, locals_variables, block_variables}
-use Rattle.cilk_nodes.specs.declared.action.Action.TheVariants.{Close, Test}
-use Rattle.cilk_nodes.specs.declared.node.Node.{Node}
-use Rattle.cilk_nodes.specs.declared.var.Var.{Var}
-use Rattle.cilk_nodes.specs.declared.body.Body.{Body}
-use Rattle.cilk_nodes.specs.Plain.{PlainLocals, OuterLocals}
+use Rattle.cilk_layout.specs.syntax.Tree as tree
+use Rattle.cilk_layout.specs.syntax.Tree.{Word, locals_of, stmts_of}
+use Rattle.cilk_layout.specs.labelled.Count.{count_option, count_shape, count_stmt, count_stmts, count_local, count_locals, count_block}
+use Rattle.cilk_layout.specs.labelled.Label.{stmt_variables, local_variables, locals_variables, block_variables}
+use Rattle.cilk_layout.specs.nodes.declared.action.Action.TheVariants.{Close, Test}
+use Rattle.cilk_layout.specs.nodes.declared.node.Node.{Node}
+use Rattle.cilk_layout.specs.nodes.declared.var.Var.{Var}
+use Rattle.cilk_layout.specs.nodes.declared.body.Body.{Body}
+use Rattle.cilk_layout.specs.nodes.Plain.{PlainLocals, OuterLocals}
 use Rattle.cilk_numbering.specs.declared.exits.Exits.{Exits}
 use Rattle.cilk_resolve.specs.Scope.{Scope, declared}
 use Rattle.cilk_resolve.specs.Acts.{code_in}

@@ -1,14 +1,14 @@
 -- The nodes and the tables of whole bodies and of the program, as the pass writes them.
 use Rattle.std.specs.Prelude.{ℕ, suc, ◌+◌, List, [], ◌∷◌, ◌++◌, Option, Some, None, length, slice_get}
-use Rattle.cilk_syntax.specs.Tree as tree
-use Rattle.cilk_syntax.specs.Tree.{Word}
-use Rattle.cilk_labelled.specs.Count.{count_shape, count_stmts, count_locals, count_block, count_item}
-use Rattle.cilk_labelled.specs.Label.{locals_variables}
-use Rattle.cilk_labelled.specs.Bodies.{parameter_variables, body_count, item_globals, item_locks}
-use Rattle.cilk_nodes.specs.declared.action.Action.TheVariants.{Close}
-use Rattle.cilk_nodes.specs.declared.node.Node.{Node}
-use Rattle.cilk_nodes.specs.declared.var.Var.{Var}
-use Rattle.cilk_nodes.specs.declared.body.Body.{Body}
+use Rattle.cilk_layout.specs.syntax.Tree as tree
+use Rattle.cilk_layout.specs.syntax.Tree.{Word}
+use Rattle.cilk_layout.specs.labelled.Count.{count_shape, count_stmts, count_locals, count_block, count_item}
+use Rattle.cilk_layout.specs.labelled.Label.{locals_variables}
+use Rattle.cilk_layout.specs.labelled.Bodies.{parameter_variables, body_count, item_globals, item_locks}
+use Rattle.cilk_layout.specs.nodes.declared.action.Action.TheVariants.{Close}
+use Rattle.cilk_layout.specs.nodes.declared.node.Node.{Node}
+use Rattle.cilk_layout.specs.nodes.declared.var.Var.{Var}
+use Rattle.cilk_layout.specs.nodes.declared.body.Body.{Body}
 use Rattle.cilk_numbering.specs.declared.exits.Exits.{Exits}
 use Rattle.cilk_resolve.specs.Scope.{Named, Scope, declared, entered, unknown_name}
 use Rattle.cilk_layout.specs.Firsts.{first_if, locals_first}

@@ -1,15 +1,15 @@
 -- The nodes part by part, as one pass over the tree writes them: `at` is the number of the next action, b the body's number, and n that of its next variable.
 use Rattle.std.specs.Prelude.{ℕ, zero, suc, ◌+◌, List, [], ◌∷◌, ◌++◌, Option, Some, None, length}
-use Rattle.cilk_syntax.specs.Tree as tree
-use Rattle.cilk_syntax.specs.Tree.{Word}
-use Rattle.cilk_eval.specs.declared.slot.Slot.{Slot}
-use Rattle.cilk_labelled.specs.Count.{count_option, count_shape, count_stmt, count_stmts, count_locals, count_block}
-use Rattle.cilk_labelled.specs.Label.{stmt_variables, locals_variables, block_variables}
-use Rattle.cilk_nodes.specs.declared.action.Action.{Action}
-use Rattle.cilk_nodes.specs.declared.action.Action.TheVariants.{Print, Locking, Null, Break, Continue, Test, Sync, Abort}
-use Rattle.cilk_nodes.specs.declared.node.Node.{Node}
-use Rattle.cilk_nodes.specs.declared.var.Var.{Var}
-use Rattle.cilk_nodes.specs.Slots.{nowhere}
+use Rattle.cilk_layout.specs.syntax.Tree as tree
+use Rattle.cilk_layout.specs.syntax.Tree.{Word}
+use Rattle.cilk_layout.specs.eval.declared.slot.Slot.{Slot}
+use Rattle.cilk_layout.specs.labelled.Count.{count_option, count_shape, count_stmt, count_stmts, count_locals, count_block}
+use Rattle.cilk_layout.specs.labelled.Label.{stmt_variables, locals_variables, block_variables}
+use Rattle.cilk_layout.specs.nodes.declared.action.Action.{Action}
+use Rattle.cilk_layout.specs.nodes.declared.action.Action.TheVariants.{Print, Locking, Null, Break, Continue, Test, Sync, Abort}
+use Rattle.cilk_layout.specs.nodes.declared.node.Node.{Node}
+use Rattle.cilk_layout.specs.nodes.declared.var.Var.{Var}
+use Rattle.cilk_layout.specs.nodes.Slots.{nowhere}
 use Rattle.cilk_numbering.specs.declared.exits.Exits.{Exits}
 use Rattle.cilk_resolve.specs.Scope.{Named, Scope, declared}
 use Rattle.cilk_layout.specs.Firsts.{first_if, block_first, locals_first}

@@ -1,15 +1,13 @@
 //! What the names of the top level stand for.
 
 ghost use Rattle.std.specs.Prelude.{◌≡◌, ◌+◌, ◌++◌, IfOk, OnOk, length};
-ghost use Rattle.cilk_labelled.specs.Bodies.{item_globals, item_locks, body_count};
+ghost use Rattle.cilk_layout.specs.labelled.Bodies.{item_globals, item_locks, body_count};
 ghost use Rattle.cilk_numbering.specs.Outer.{globals_count, locks_count, bodies_count, item_named, file_named};
 
 use crate::numbering::known_var;
 use crate::outer::{bodies_behind, known_number};
-use cilk_layout::NoRoom;
-use cilk_nodes::{Body, Var};
+use cilk_layout::{Body, Item, ItemNode, NoRoom, Var};
 use cilk_resolve::Names;
-use cilk_syntax::{Item, ItemNode};
 
 // How many variables, locks and bodies of the top level come before an item.
 #[derive(Clone, Copy)]

@@ -9,6 +9,10 @@ mod outer;
 mod single;
 mod site;
 
-pub use cilk_layout::NoRoom;
+pub use cilk_layout::{
+    Action, Body, Checked, Codes, LockAction, MAX_ACTIONS, Memory, Name, NoRoom, Node, Owner,
+    Place, Program, Slots, Taker, Target, Text, Trap, Var, Vars, action_lines, bodies_of,
+    canonical, count_items, eval, globals_of, locks_of, place_of_main,
+};
 pub use exits::Exits;
 pub use nodes::nodes_of;

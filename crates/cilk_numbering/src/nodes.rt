@@ -1,16 +1,14 @@
 //! The nodes of a program.
 
 ghost use Rattle.std.specs.Prelude.{◌≡◌, ◌≤◌, IfOk, length, vec_len};
-ghost use Rattle.cilk_labelled.specs.Count.{count_program};
-ghost use Rattle.cilk_nodes.specs.Plain.{PlainItems};
+ghost use Rattle.cilk_layout.specs.labelled.Count.{count_program};
+ghost use Rattle.cilk_layout.specs.nodes.Plain.{PlainItems};
 ghost use Rattle.cilk_numbering.specs.Outer.{globals_count, locks_count, bodies_count, items_nodes, file_scope};
 
 use crate::file::declare_file;
 use crate::outer::put_items;
-use cilk_layout::NoRoom;
-use cilk_nodes::{Body, Node, Var};
+use cilk_layout::{Body, NoRoom, Node, Program, Var};
 use cilk_resolve::Names;
-use cilk_syntax::Program;
 use std::alloc::Global;
 
 /// The nodes of the actions of a program, in the order of the text, over the tables of its variables, locks and bodies.

@@ -2,12 +2,12 @@
 //! number of the body's next variable, and leaves the names as they were.
 
 ghost use Rattle.std.specs.Prelude.{◌≡◌, ◌+◌, ◌≤◌, ◌∷◌, ◌++◌, IfOk, OnOk, length, vec_len};
-ghost use Rattle.cilk_syntax.specs.Tree as tree;
-ghost use Rattle.cilk_syntax.specs.Tree.{stmts_of, locals_of};
-ghost use Rattle.cilk_labelled.specs.Count.{count_shape, count_stmt, count_stmts, count_locals, count_block};
-ghost use Rattle.cilk_labelled.specs.Label.{stmt_variables, stmts_variables, locals_variables, block_variables};
-ghost use Rattle.cilk_nodes.specs.Plain.{PlainLocals, PlainStmt, PlainStmts, PlainBlock};
-ghost use Rattle.cilk_nodes.specs.declared.action.Action.TheVariants.{Test};
+ghost use Rattle.cilk_layout.specs.syntax.Tree as tree;
+ghost use Rattle.cilk_layout.specs.syntax.Tree.{stmts_of, locals_of};
+ghost use Rattle.cilk_layout.specs.labelled.Count.{count_shape, count_stmt, count_stmts, count_locals, count_block};
+ghost use Rattle.cilk_layout.specs.labelled.Label.{stmt_variables, stmts_variables, locals_variables, block_variables};
+ghost use Rattle.cilk_layout.specs.nodes.Plain.{PlainLocals, PlainStmt, PlainStmts, PlainBlock};
+ghost use Rattle.cilk_layout.specs.nodes.declared.action.Action.TheVariants.{Test};
 ghost use Rattle.cilk_resolve.specs.Acts.{code_in};
 ghost use Rattle.cilk_resolve.specs.Scope.{declared};
 ghost use Rattle.cilk_layout.specs.Firsts.{block_first, locals_first};
@@ -18,12 +18,11 @@ use crate::exits::{Exits, exits_to, in_loop};
 use crate::single::{put_onward, put_part, put_single, put_test};
 use crate::site::Site;
 use cilk_layout::{
-    NoRoom, actions, actions_in, actions_of_locals, actions_of_stmts, block_first, count_part,
-    first_if, locals_first,
+    Block, Decl, Expr, Local, LocalNode, Move, NoRoom, Node, Shape, Stmt, StmtNode, Var, actions,
+    actions_in, actions_of_locals, actions_of_stmts, block_first, count_part, first_if,
+    locals_first,
 };
-use cilk_nodes::{Node, Var};
 use cilk_resolve::{Known, Names, initialiser_in, nowhere};
-use cilk_syntax::{Block, Decl, Expr, Local, LocalNode, Move, Shape, Stmt, StmtNode};
 use std::alloc::Global;
 
 /// Appends the nodes of a block in an inlet or in another block.

@@ -1,15 +1,15 @@
 //! The nodes of whole bodies: of functions and procedures, and of the inlets in them.
 
 ghost use Rattle.std.specs.Prelude.{◌≡◌, ◌+◌, ◌≤◌, ◌<◌, ◌^◌, [], ◌∷◌, ◌++◌, IfOk, OnOk, length, vec_len};
-ghost use Rattle.cilk_syntax.specs.Tree as tree;
-ghost use Rattle.cilk_syntax.specs.Tree.{stmts_of, locals_of};
-ghost use Rattle.cilk_syntax.specs.ProgramView.{parameters_of};
-ghost use Rattle.cilk_labelled.specs.Count.{count_block, count_locals, count_item, count_items};
-ghost use Rattle.cilk_labelled.specs.Label.{locals_variables};
-ghost use Rattle.cilk_labelled.specs.Bodies.{parameter_variables, inlet_count, body_count};
-ghost use Rattle.cilk_nodes.specs.Plain.{PlainBlock, OuterLocals, OuterBlock, PlainItem, PlainItems};
-ghost use Rattle.cilk_scopes.specs.Scopes.{parameters_declare};
-ghost use Rattle.cilk_nodes.specs.Slots.{nowhere};
+ghost use Rattle.cilk_layout.specs.syntax.Tree as tree;
+ghost use Rattle.cilk_layout.specs.syntax.Tree.{stmts_of, locals_of};
+ghost use Rattle.cilk_layout.specs.syntax.ProgramView.{parameters_of};
+ghost use Rattle.cilk_layout.specs.labelled.Count.{count_block, count_locals, count_item, count_items};
+ghost use Rattle.cilk_layout.specs.labelled.Label.{locals_variables};
+ghost use Rattle.cilk_layout.specs.labelled.Bodies.{parameter_variables, inlet_count, body_count};
+ghost use Rattle.cilk_layout.specs.nodes.Plain.{PlainBlock, OuterLocals, OuterBlock, PlainItem, PlainItems};
+ghost use Rattle.cilk_layout.specs.scopes.Scopes.{parameters_declare};
+ghost use Rattle.cilk_layout.specs.nodes.Slots.{nowhere};
 ghost use Rattle.cilk_resolve.specs.Scope.{declared};
 ghost use Rattle.cilk_numbering.specs.Pass.{known_number};
 ghost use Rattle.cilk_numbering.specs.Outer.{vars_at, body_exits, words_scope, parameters_scope};
@@ -19,10 +19,11 @@ use crate::exits::Exits;
 use crate::numbering::{known_var, put_block, put_decl, put_stmts};
 use crate::single::put_onward;
 use crate::site::Site;
-use cilk_layout::{NoRoom, actions_in, actions_of_locals, actions_of_stmts, first_if};
-use cilk_nodes::{Action, Body, Node, Var};
+use cilk_layout::{
+    Action, Block, Body, Inlet, Item, ItemNode, Local, LocalNode, NoRoom, Node, Parameters, Proc,
+    Var, Word, actions_in, actions_of_locals, actions_of_stmts, first_if,
+};
 use cilk_resolve::{Known, Names, nowhere};
-use cilk_syntax::{Block, Inlet, Item, ItemNode, Local, LocalNode, Parameters, Proc, Word};
 use std::alloc::Global;
 
 /// What stands for a lock or a body.

@@ -1,16 +1,14 @@
 //! The nodes of single actions.
 
 ghost use Rattle.std.specs.Prelude.{◌≡◌, ◌+◌, ◌∷◌, [], ◌++◌, IfOk, OnOk, vec_len};
-ghost use Rattle.cilk_labelled.specs.Count.{count_option};
-ghost use Rattle.cilk_nodes.specs.declared.action.Action.TheVariants.{Test};
+ghost use Rattle.cilk_layout.specs.labelled.Count.{count_option};
+ghost use Rattle.cilk_layout.specs.nodes.declared.action.Action.TheVariants.{Test};
 ghost use Rattle.cilk_resolve.specs.Acts.{code_in, action_in};
 ghost use Rattle.cilk_numbering.specs.Pass.{node, onward, part_nodes, behind, single_nodes};
 
 use crate::exits::Exits;
-use cilk_layout::NoRoom;
-use cilk_nodes::{Action, Node};
+use cilk_layout::{Action, Expr, Move, NoRoom, Node, Stmt, StmtNode};
 use cilk_resolve::{Names, action_in, code_in, move_in};
-use cilk_syntax::{Expr, Move, Stmt, StmtNode};
 use std::alloc::Global;
 
 /// The first part or the advance of a `for`, if there is one.

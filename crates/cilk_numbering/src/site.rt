@@ -1,4 +1,4 @@
-use cilk_nodes::Var;
+use cilk_layout::Var;
 
 /// The body whose nodes are written: its number, and its variables.
 #[derive(Clone, Copy)]

@@ -1,13 +1,13 @@
 -- Cells tell what variables hold, and a slot tells its variable.
 use Rattle.std.proofs.Common.{◌≡◌, ℕ, zero, suc, ◌+◌, ◌<◌, ℤ, List, [], ◌∷◌, ◌++◌, length, map, Option, Some, None, refl, sym, ap, ◌∙◌, subst, arith}
-use Rattle.cilk_eval.specs.declared.area.Area.{Area}
-use Rattle.cilk_eval.specs.declared.area.Area.TheVariants.{Own, Outer, Global}
-use Rattle.cilk_eval.specs.declared.slot.Slot.{Slot}
-use Rattle.cilk_labelled.specs.Labelled.{Declaration, local, outer, global, of_lock, of_body, unknown, Variable, Labelled}
-use Rattle.cilk_model.specs.Values.{Values, Cell}
-use Rattle.cilk_nodes.specs.Slots.{size_of, flat, slot_from, slot_of}
-use Rattle.cilk_stands.specs.Cells.{own_variables, outer_variables, HasCell, SameCell}
-use Rattle.cilk_stands.proofs.Slots.{slot-area, slot-offset}
+use Rattle.cilk_machine.specs.eval.declared.area.Area.{Area}
+use Rattle.cilk_machine.specs.eval.declared.area.Area.TheVariants.{Own, Outer, Global}
+use Rattle.cilk_machine.specs.eval.declared.slot.Slot.{Slot}
+use Rattle.cilk_machine.specs.labelled.Labelled.{Declaration, local, outer, global, of_lock, of_body, unknown, Variable, Labelled}
+use Rattle.cilk_machine.specs.model.Values.{Values, Cell}
+use Rattle.cilk_machine.specs.nodes.Slots.{size_of, flat, slot_from, slot_of}
+use Rattle.cilk_machine.specs.stands.Cells.{own_variables, outer_variables, HasCell, SameCell}
+use Rattle.cilk_machine.proofs.stands_laws.SlotLaws.{slot-area, slot-offset}
 
 -- fronts of one length
 parts : (xs ys us vs : List ℤ) → length xs ≡ length ys → xs ++ us ≡ ys ++ vs → (xs ≡ ys) × (us ≡ vs)

@@ -1,32 +1,32 @@
 -- A frame and a node stand for one instance.
 use Rattle.std.proofs.Common.{◌≡◌, ℕ, ℤ, List, [], ◌∷◌, map, Option, Some, None, refl, sym, ap, ◌∙◌, subst}
 use Rattle.std.specs.Prelude.{reverse}
-use Rattle.cilk_syntax.specs.Tree.{Program}
-use Rattle.cilk_syntax.specs.declared.operator.BinOp.{BinOp}
-use Rattle.cilk_check.specs.Fault.{WellFormed}
-use Rattle.cilk_eval.specs.declared.slot.Slot.{Slot}
-use Rattle.cilk_labelled.specs.Labelled.{Labelled}
-use Rattle.cilk_labelled.specs.Bodies.{label}
-use Rattle.cilk_model.specs.Path.{Path}
-use Rattle.cilk_model.specs.Values.{Reached}
-use Rattle.cilk_model.specs.Instance as model
-use Rattle.cilk_model.specs.Instance.{Instance, body_at}
-use Rattle.cilk_nodes.specs.declared.action.Action.TheVariants.{Call, Spawn}
-use Rattle.cilk_nodes.specs.declared.node.Node as action
-use Rattle.cilk_nodes.specs.declared.taker.Taker.TheVariants.{Through}
-use Rattle.cilk_nodes.specs.declared.target.Target.{Target}
-use Rattle.cilk_nodes.specs.Slots.{size_of}
-use Rattle.cilk_nodes.specs.Table.{number_of}
-use Rattle.cilk_nodes.proofs.Heads.{heads-tell}
-use Rattle.cilk_frame.specs.declared.awaited.Await.{Await}
-use Rattle.cilk_frame.specs.Frames.{Activation, Frame}
-use Rattle.cilk_stands.specs.Cells.{SameCell}
-use Rattle.cilk_stands.specs.Stands.{node_in, AwaitsAt, AwaitsSame, Activates, bodies_of, AllActivate, StandsFor}
-use Rattle.cilk_spawn.specs.declared.delivery.Delivery.{Delivery}
-use Rattle.cilk_spawn.specs.declared.receiver.Receiver.{Receiver}
-use Rattle.cilk_spawn.specs.declared.receiver.Receiver.TheVariants as code
-use Rattle.cilk_spawn.specs.Nodes.{Node}
-use Rattle.cilk_agree.specs.Alike.{CallsInlet, Receives, SameDelivery, SameDeliveries, taker_of, Tells}
+use Rattle.cilk_machine.specs.syntax.Tree.{Program}
+use Rattle.cilk_machine.specs.syntax.declared.operator.BinOp.{BinOp}
+use Rattle.cilk_machine.specs.check.Fault.{WellFormed}
+use Rattle.cilk_machine.specs.eval.declared.slot.Slot.{Slot}
+use Rattle.cilk_machine.specs.labelled.Labelled.{Labelled}
+use Rattle.cilk_machine.specs.labelled.Bodies.{label}
+use Rattle.cilk_machine.specs.model.Path.{Path}
+use Rattle.cilk_machine.specs.model.Values.{Reached}
+use Rattle.cilk_machine.specs.model.Instance as model
+use Rattle.cilk_machine.specs.model.Instance.{Instance, body_at}
+use Rattle.cilk_machine.specs.nodes.declared.action.Action.TheVariants.{Call, Spawn}
+use Rattle.cilk_machine.specs.nodes.declared.node.Node as action
+use Rattle.cilk_machine.specs.nodes.declared.taker.Taker.TheVariants.{Through}
+use Rattle.cilk_machine.specs.nodes.declared.target.Target.{Target}
+use Rattle.cilk_machine.specs.nodes.Slots.{size_of}
+use Rattle.cilk_machine.specs.nodes.Table.{number_of}
+use Rattle.cilk_machine.proofs.nodes_laws.Heads.{heads-tell}
+use Rattle.cilk_machine.specs.frame.declared.awaited.Await.{Await}
+use Rattle.cilk_machine.specs.frame.Frames.{Activation, Frame}
+use Rattle.cilk_machine.specs.stands.Cells.{SameCell}
+use Rattle.cilk_machine.specs.stands.Stands.{node_in, AwaitsAt, AwaitsSame, Activates, bodies_of, AllActivate, StandsFor}
+use Rattle.cilk_machine.specs.spawn.declared.delivery.Delivery.{Delivery}
+use Rattle.cilk_machine.specs.spawn.declared.receiver.Receiver.{Receiver}
+use Rattle.cilk_machine.specs.spawn.declared.receiver.Receiver.TheVariants as code
+use Rattle.cilk_machine.specs.spawn.Nodes.{Node}
+use Rattle.cilk_machine.specs.agree.Alike.{CallsInlet, Receives, SameDelivery, SameDeliveries, taker_of, Tells}
 use Rattle.cilk_one.proofs.Cells.{one-values, one-cell}
 
 module _ (program : Labelled) where

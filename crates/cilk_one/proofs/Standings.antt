@@ -3,32 +3,32 @@ use Rattle.std.proofs.Common.{◌≡◌, ◌<◌, ℕ, ◌+◌, Bool, true, fals
 use Rattle.std.specs.Prelude.{All, IfSome, sum_by, count_by}
 use Rattle.std.proofs.lemmas.List.Sums.{sum_by-cons}
 use Rattle.std.proofs.lemmas.List.Elements.{All-head, All-tail}
-use Rattle.cilk_syntax.specs.Tree.{Program}
-use Rattle.cilk_check.specs.Fault.{WellFormed}
-use Rattle.cilk_labelled.specs.Bodies.{label}
-use Rattle.cilk_model.specs.Path.{Path, same_path}
-use Rattle.cilk_model.specs.Instance.{Instance}
-use Rattle.cilk_model.specs.State as state
-use Rattle.cilk_model.specs.State.{Instances}
-use Rattle.cilk_model.specs.Places.{PlaceOf}
-use Rattle.cilk_model.specs.Scheduler.{Place}
-use Rattle.cilk_model.specs.Run.{Standing}
-use Rattle.cilk_placed.specs.Places.{times_held, EachInItsPlace}
-use Rattle.cilk_placed.proofs.Entries.{same-is}
-use Rattle.cilk_placed.proofs.Kept.{places_are_kept}
-use Rattle.cilk_frame.specs.Frames.{Frame}
-use Rattle.cilk_stands.specs.Stands.{StandsFor}
-use Rattle.cilk_spawn.specs.Nodes.{Node, node_at, is_live, path_at}
-use Rattle.cilk_spawn.proofs.Lists.{map_those}
-use Rattle.cilk_spawn.proofs.Trees.{live_there, names}
-use Rattle.cilk_sched.specs.Count as hands
-use Rattle.cilk_sched.specs.Count.{once, count_where, AllAt, AllHeld}
-use Rattle.cilk_sched.proofs.Names.{named-held}
-use Rattle.cilk_agree.specs.Alike.{procedure_in}
-use Rattle.cilk_agree.specs.Agrees.{Machine, Agrees, Held, entry_of, name_in, read_off}
-use Rattle.cilk_agree.proofs.Alone.{times-same}
-use Rattle.cilk_agree.proofs.Found.{found}
-use Rattle.cilk_agree.proofs.Frames.{held-both}
+use Rattle.cilk_machine.specs.syntax.Tree.{Program}
+use Rattle.cilk_machine.specs.check.Fault.{WellFormed}
+use Rattle.cilk_machine.specs.labelled.Bodies.{label}
+use Rattle.cilk_machine.specs.model.Path.{Path, same_path}
+use Rattle.cilk_machine.specs.model.Instance.{Instance}
+use Rattle.cilk_machine.specs.model.State as state
+use Rattle.cilk_machine.specs.model.State.{Instances}
+use Rattle.cilk_machine.specs.model.Places.{PlaceOf}
+use Rattle.cilk_machine.specs.model.Scheduler.{Place}
+use Rattle.cilk_machine.specs.model.Run.{Standing}
+use Rattle.cilk_machine.specs.placed.Places.{times_held, EachInItsPlace}
+use Rattle.cilk_machine.proofs.placed_laws.Entries.{same-is}
+use Rattle.cilk_machine.proofs.placed_laws.Kept.{places_are_kept}
+use Rattle.cilk_machine.specs.frame.Frames.{Frame}
+use Rattle.cilk_machine.specs.stands.Stands.{StandsFor}
+use Rattle.cilk_machine.specs.spawn.Nodes.{Node, node_at, is_live, path_at}
+use Rattle.cilk_machine.proofs.spawn_laws.Lists.{map_those}
+use Rattle.cilk_machine.proofs.spawn_laws.Trees.{live_there, names}
+use Rattle.cilk_machine.specs.sched.Count as hands
+use Rattle.cilk_machine.specs.sched.Count.{once, count_where, AllAt, AllHeld}
+use Rattle.cilk_machine.proofs.sched_laws.Names.{named-held}
+use Rattle.cilk_machine.specs.agree.Alike.{procedure_in}
+use Rattle.cilk_machine.specs.agree.Agrees.{Machine, Agrees, Held, entry_of, name_in, read_off}
+use Rattle.cilk_machine.proofs.agree_laws.Alone.{times-same}
+use Rattle.cilk_machine.proofs.agree_laws.Found.{found}
+use Rattle.cilk_machine.proofs.agree_laws.Frames.{held-both}
 use Rattle.cilk_machine.specs.Situation.{Situation, workers_of}
 use Rattle.cilk_machine.specs.Stands.{StandsAt}
 use Rattle.cilk_one.proofs.Cells.{one-values}

@@ -1,8 +1,8 @@
 //! Where a machine stands. This function does nothing: its contract is the law.
 
 ghost use Rattle.std.specs.Prelude.{◌≡◌};
-ghost use Rattle.cilk_check.specs.Fault.{WellFormed};
-ghost use Rattle.cilk_model.specs.Run.{Standing};
+ghost use Rattle.cilk_machine.specs.check.Fault.{WellFormed};
+ghost use Rattle.cilk_machine.specs.model.Run.{Standing};
 ghost use Rattle.cilk_machine.specs.Situation.{Situation};
 ghost use Rattle.cilk_machine.specs.Stands.{StandsAt};
 

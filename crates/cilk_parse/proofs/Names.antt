@@ -1,10 +1,10 @@
 -- Names but one.
 use Rattle.std.proofs.Common.{◌≡◌, ◌||◌, false, true, List, [], ◌∷◌, Some, Err, length, refl, sym, ap}
 use Rattle.std.proofs.lemmas.Bool.{eqb-true}
-use Rattle.cilk_lexeme.specs.Lexeme.{Piece}
+use Rattle.cilk_grammar.specs.lexeme.Lexeme.{Piece}
 use Rattle.cilk_rules.specs.declared.fault.Fault.TheVariants.{Unexpected}
 use Rattle.cilk_rules.specs.Rule.{has, is, class_at}
-use Rattle.cilk_expression.specs.Classes.{cls, names, the_main}
+use Rattle.cilk_grammar.specs.expression.Classes.{cls, names, the_main}
 use Rattle.cilk_grammar.specs.Grammar.{names_but_main}
 use Rattle.cilk_grammar.specs.Parts.{the_name}
 use Rattle.cilk_grammar.specs.Spelling.{said, given, leaf_at}

@@ -2,12 +2,12 @@
 use Rattle.std.proofs.Common.{◌≡◌, ℕ, ◌-◌, ◌≤◌, true, List, [], ◌∷◌, length, take, drop, map, Ok, Err, refl, sym, ap, subst, ◌∙◌, arith, slice_index_or, All}
 use Rattle.std.proofs.lemmas.List.Elements.{All-head, All-take, All-drop}
 use Rattle.std.proofs.lemmas.List.{drop-map, length-map, take_all, length-drop}
-use Rattle.cilk_lexeme.specs.Lexeme.{Piece, piece_of, pieces_of}
-use Rattle.cilk_lexeme.specs.declared.token.Token.{Token}
-use Rattle.cilk_lexeme.specs.Lexing.{Lexes, text_limit}
-use Rattle.cilk_lexeme.proofs.Unique.{one_reading}
+use Rattle.cilk_grammar.specs.lexeme.Lexeme.{Piece, piece_of, pieces_of}
+use Rattle.cilk_grammar.specs.lexeme.declared.token.Token.{Token}
+use Rattle.cilk_grammar.specs.lexeme.Lexing.{Lexes, text_limit}
+use Rattle.cilk_grammar.proofs.lexeme_laws.Unique.{one_reading}
 use Rattle.cilk_lex.specs.Reading.{IsWithin}
-use Rattle.cilk_syntax.specs.Tree as tree
+use Rattle.cilk_grammar.specs.syntax.Tree as tree
 use Rattle.cilk_rules.specs.declared.fault.Fault.{Fault}
 use Rattle.cilk_rules.specs.declared.fault.Fault.TheVariants.{Unexpected, TooDeep}
 use Rattle.cilk_rules.specs.Rule.{Read}

@@ -1,14 +1,14 @@
 -- Headers, then items, and then no more tokens.
 use Rattle.std.proofs.Common.{◌≡◌, ◌<◌, List, [], ◌∷◌, length, Ok, Err, refl, ap, ◌∙◌, arith}
-use Rattle.cilk_lexeme.specs.Lexeme.{Piece}
-use Rattle.cilk_lexeme.specs.declared.header.Header.{Header}
-use Rattle.cilk_syntax.specs.Tree as tree
+use Rattle.cilk_grammar.specs.lexeme.Lexeme.{Piece}
+use Rattle.cilk_grammar.specs.lexeme.declared.header.Header.{Header}
+use Rattle.cilk_grammar.specs.syntax.Tree as tree
 use Rattle.cilk_rules.specs.declared.fault.Fault.TheVariants.{Unexpected}
 use Rattle.cilk_rules.specs.declared.fault.ReadError.{ReadError}
 use Rattle.cilk_rules.specs.Gives.{Fails}
 use Rattle.cilk_rules.specs.Rule.{◌>>=◌, Rule, Read, part, many}
 use Rattle.cilk_rules.proofs.Loops.{fails_first}
-use Rattle.cilk_expression.specs.Grammar.{operator_limit, parenthesis_limit}
+use Rattle.cilk_grammar.specs.expression.Grammar.{operator_limit, parenthesis_limit}
 use Rattle.cilk_grammar.specs.Forms.{joined}
 use Rattle.cilk_grammar.specs.Grammar.{item}
 use Rattle.cilk_grammar.specs.Parts.{Means, token, the_header}

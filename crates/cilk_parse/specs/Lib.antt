@@ -7,3 +7,6 @@ pub use Rattle.cilk_lex.specs.Reading
 pub mod Views
 pub mod Place
 pub mod Text
+pub use Rattle.cilk_grammar.specs.expression
+pub use Rattle.cilk_grammar.specs as grammar
+pub use Rattle.cilk_rules.specs as rules

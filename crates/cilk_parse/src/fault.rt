@@ -1,7 +1,7 @@
 ghost use Rattle.std.specs.Prelude.{◌≡◌};
 ghost use Rattle.cilk_parse.specs.Place.{place_of};
 
-use cilk_lexeme::LexFault;
+use cilk_lex::LexFault;
 use thiserror::Error;
 
 /// Why a text was not read as a program.

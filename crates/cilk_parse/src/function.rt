@@ -7,11 +7,9 @@ ghost use Rattle.cilk_parse.specs.Views.{tail_of};
 
 use crate::kinds::{all_named, kinds, named_of};
 use crate::tail::Tail;
-use cilk_expression::Cursor;
-use cilk_lexeme::{Keyword, Mark};
+use cilk_grammar::{Cursor, Keyword, Mark, Parameters};
 use cilk_reader::block;
 use cilk_rules::ReadError;
-use cilk_syntax::Parameters;
 
 /// So many statements and inlets may stand in one another.
 pub const NESTING_LIMIT: u32 = 201;

@@ -1,13 +1,13 @@
 ghost use Rattle.std.specs.Prelude.{◌≡◌};
 ghost use Rattle.cilk_rules.specs.Gives.{Gives};
 ghost use Rattle.cilk_rules.specs.Rule.{is, class_at, part, many};
-ghost use Rattle.cilk_expression.specs.Classes.{cls, an_inclusion};
+ghost use Rattle.cilk_grammar.specs.expression.Classes.{cls, an_inclusion};
 ghost use Rattle.cilk_grammar.specs.Parts.{token, the_header};
 ghost use Rattle.cilk_grammar.specs.Spelling.{nesting_limit};
 ghost use Rattle.cilk_reader.specs.Limits.{read_in};
 
-use cilk_expression::Cursor;
-use cilk_lexeme::{Header, Kind};
+use cilk_grammar::{Cursor, Header};
+use cilk_lex::Kind;
 use cilk_reader::header;
 use cilk_rules::ReadError;
 

@@ -1,10 +1,10 @@
 ghost use Rattle.std.specs.Prelude.{◌≡◌, ◌∷◌, [], true, false};
 ghost use Rattle.cilk_rules.specs.Gives.{Gives};
-ghost use Rattle.cilk_expression.specs.Classes.{the_main, names};
+ghost use Rattle.cilk_grammar.specs.expression.Classes.{the_main, names};
 ghost use Rattle.cilk_grammar.specs.Grammar.{names_but_main, headed, tail, main_tail, function, globals, cilk_item, int_item, void_item};
 ghost use Rattle.cilk_rules.specs.Rule.{and_then, either, done};
-ghost use Rattle.cilk_lexeme.specs.declared.keyword.Keyword.TheVariants as key;
-ghost use Rattle.cilk_syntax.specs.declared.return_type.ReturnType.TheVariants as returns;
+ghost use Rattle.cilk_grammar.specs.lexeme.declared.keyword.Keyword.TheVariants as key;
+ghost use Rattle.cilk_grammar.specs.syntax.declared.return_type.ReturnType.TheVariants as returns;
 ghost use Rattle.cilk_parse.specs.Views.{int_tail_of};
 ghost use Rattle.cilk_grammar.specs.Forms.{word};
 ghost use Rattle.cilk_grammar.specs.Parts.{the_name};
@@ -15,11 +15,9 @@ use crate::function::function_tail;
 use crate::int_tail::{IntTail, one};
 use crate::main_function::of_main;
 use crate::variable::{behind_commas, shape};
-use cilk_expression::{Cursor, NameClass};
-use cilk_lexeme::{Keyword, Mark};
+use cilk_grammar::{Cursor, Item, Keyword, Mark, NameClass, ReturnType, Word};
 use cilk_reader::{is_class, name};
 use cilk_rules::ReadError;
-use cilk_syntax::{Item, ReturnType, Word};
 
 // The name `main`.
 #[tactic(auto, using(cilk_reader::proofs::Tokens::some_name))]

@@ -1,17 +1,15 @@
 ghost use Rattle.std.specs.Prelude.{◌≡◌, MatchResult};
 ghost use Rattle.cilk_rules.specs.Gives.{Gives, Fails};
 ghost use Rattle.cilk_rules.specs.Rule.{many, first, has, class_at};
-ghost use Rattle.cilk_expression.specs.Classes.{cls};
+ghost use Rattle.cilk_grammar.specs.expression.Classes.{cls};
 ghost use Rattle.cilk_grammar.specs.Grammar.{item};
 ghost use Rattle.cilk_grammar.specs.Spelling.{first_of, nesting_limit};
 ghost use Rattle.cilk_reader.specs.Limits.{read_in, Joins};
 
 use crate::item::{int_item, procedure, void_function};
 use crate::lock::locks;
-use cilk_expression::Cursor;
-use cilk_lexeme::Keyword;
+use cilk_grammar::{Cursor, Item, Keyword};
 use cilk_rules::ReadError;
-use cilk_syntax::Item;
 
 // Whether an item begins with the next token.
 fn begins_item(cursor: &Cursor) -> bool

@@ -1,17 +1,15 @@
 ghost use Rattle.std.specs.Prelude.{◌≡◌, MatchResult};
-ghost use Rattle.cilk_lexeme.specs.declared.keyword.Keyword.TheVariants.{Int};
-ghost use Rattle.cilk_lexeme.specs.declared.mark.Mark.TheVariants.{Comma};
+ghost use Rattle.cilk_grammar.specs.lexeme.declared.keyword.Keyword.TheVariants.{Int};
+ghost use Rattle.cilk_grammar.specs.lexeme.declared.mark.Mark.TheVariants.{Comma};
 ghost use Rattle.cilk_rules.specs.Gives.{Gives, onto};
 ghost use Rattle.cilk_grammar.specs.Forms.{word, mark, optional, behind_commas};
 ghost use Rattle.cilk_grammar.specs.Grammar.{name, kinds, all_named, named_of};
 ghost use Rattle.cilk_grammar.specs.Spelling.{nesting_limit};
 ghost use Rattle.cilk_reader.specs.Limits.{read_in};
 
-use cilk_expression::Cursor;
-use cilk_lexeme::{Keyword, Mark};
+use cilk_grammar::{Cursor, Keyword, Mark, Word};
 use cilk_reader::{is_name, name};
 use cilk_rules::ReadError;
-use cilk_syntax::Word;
 use std::alloc::Global;
 
 // A name, if there is one.

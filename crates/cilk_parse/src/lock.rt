@@ -1,17 +1,15 @@
 ghost use Rattle.std.specs.Prelude.{◌≡◌, map, MatchResult};
-ghost use Rattle.cilk_lexeme.specs.declared.mark.Mark.TheVariants.{Comma};
-ghost use Rattle.cilk_syntax.specs.Tree as tree;
+ghost use Rattle.cilk_grammar.specs.lexeme.declared.mark.Mark.TheVariants.{Comma};
+ghost use Rattle.cilk_grammar.specs.syntax.Tree as tree;
 ghost use Rattle.cilk_rules.specs.Gives.{Gives, onto};
 ghost use Rattle.cilk_grammar.specs.Forms.{mark, behind_commas, commas};
 ghost use Rattle.cilk_grammar.specs.Grammar.{name, lock_item};
 ghost use Rattle.cilk_grammar.specs.Spelling.{nesting_limit};
 ghost use Rattle.cilk_reader.specs.Limits.{read_in};
 
-use cilk_expression::Cursor;
-use cilk_lexeme::{Keyword, Mark};
+use cilk_grammar::{Cursor, Item, ItemNode, Keyword, Mark, Word};
 use cilk_reader::name;
 use cilk_rules::ReadError;
-use cilk_syntax::{Item, ItemNode, Word};
 use std::alloc::Global;
 
 // A comma and a name.

@@ -9,11 +9,9 @@ use crate::function::{NESTING_LIMIT, empty_tail};
 use crate::kinds::{all_named, kinds};
 use crate::main_tail::MainTail;
 use crate::tail::Tail;
-use cilk_expression::{Cursor, NameClass};
-use cilk_lexeme::{Keyword, Mark};
+use cilk_grammar::{Cursor, Keyword, Mark, NameClass, Word};
 use cilk_reader::{block, is_class, is_name, name};
 use cilk_rules::ReadError;
-use cilk_syntax::Word;
 
 // The words of the command line (C 1990, 5.1.2.2.1).
 #[tactic(auto, unfolding(cilk_grammar::specs::Spelling::read_at))]

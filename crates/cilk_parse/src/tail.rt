@@ -2,8 +2,8 @@ ghost use Rattle.std.specs.Prelude.{◌≡◌, MatchResult};
 ghost use Rattle.cilk_grammar.specs.Grammar.{function, declares};
 ghost use Rattle.cilk_parse.specs.Views.{tail_of};
 
+use cilk_grammar::{Block, Item, ItemNode, Parameters, Proc, Prototype, ReturnType, Word};
 use cilk_rules::ReadError;
-use cilk_syntax::{Block, Item, ItemNode, Parameters, Proc, Prototype, ReturnType, Word};
 
 /// What stands behind the name of a function: a declaration of so many parameters (C 1990, 6.5.4.3), or a definition
 /// (6.7.1).

@@ -1,18 +1,16 @@
 ghost use Rattle.std.specs.Prelude.{◌≡◌, ◌∷◌, map, MatchResult};
-ghost use Rattle.cilk_lexeme.specs.declared.mark.Mark.TheVariants.{Comma};
-ghost use Rattle.cilk_syntax.specs.Tree as tree;
-ghost use Rattle.cilk_syntax.specs.ProgramView.{global_shape_of};
+ghost use Rattle.cilk_grammar.specs.lexeme.declared.mark.Mark.TheVariants.{Comma};
+ghost use Rattle.cilk_grammar.specs.syntax.Tree as tree;
+ghost use Rattle.cilk_grammar.specs.syntax.ProgramView.{global_shape_of};
 ghost use Rattle.cilk_rules.specs.Gives.{Gives, onto};
 ghost use Rattle.cilk_grammar.specs.Forms.{mark, behind_commas};
 ghost use Rattle.cilk_grammar.specs.Grammar.{integer, global_shape, global};
 ghost use Rattle.cilk_grammar.specs.Spelling.{nesting_limit};
 ghost use Rattle.cilk_reader.specs.Limits.{read_in};
 
-use cilk_expression::Cursor;
-use cilk_lexeme::Mark;
+use cilk_grammar::{Cursor, Global, GlobalShape, Item, ItemNode, Mark};
 use cilk_reader::{array_length, name, number};
 use cilk_rules::ReadError;
-use cilk_syntax::{Global, GlobalShape, Item, ItemNode};
 use std::alloc;
 
 // A number, and the sign before it, if there is one (C 1990, 6.4). No token is a number that is no `int`.

@@ -1,13 +1,11 @@
 ghost use Rattle.cilk_rules.specs.Gives.{Gives};
-ghost use Rattle.cilk_expression.specs.Grammar.{operator_limit, parenthesis_limit};
+ghost use Rattle.cilk_grammar.specs.expression.Grammar.{operator_limit, parenthesis_limit};
 ghost use Rattle.cilk_grammar.specs.Spelling.{nesting_limit, program_of};
 
 use crate::headers::headers;
 use crate::items::items;
-use cilk_expression::Cursor;
-use cilk_lexeme::Header;
+use cilk_grammar::{Cursor, Header, Item};
 use cilk_rules::ReadError;
-use cilk_syntax::Item;
 
 /// The headers and the items of a program, which all of the tokens spell (C 1990, 6.7, 6.8.2; Cilk 5.4 manual).
 pub fn whole(cursor: &mut Cursor) -> Result<(Vec<Header>, Vec<Item>), ReadError>

@@ -1,7 +1,7 @@
 -- What each step keeps of an instance holds of each live instance at every position.
 use Rattle.std.proofs.Common.{◌≡◌, ℕ, ℤ, ◌^◌, ◌+◌, ◌-◌, ◌<◌, Bool, true, false, not, cond, List, [], ◌∷◌, ◌++◌, map, length, Option, Some, None, refl, sym, subst, if◌then◌else◌, arith}
-use Rattle.cilk_labelled.specs.Labelled.{Labelled, Numbered}
-use Rattle.cilk_labelled.specs.Items.{head_of}
+use Rattle.cilk_model.specs.labelled.Labelled.{Labelled, Numbered}
+use Rattle.cilk_model.specs.labelled.Items.{head_of}
 use Rattle.cilk_model.specs.Values.{Cell, Reached}
 use Rattle.cilk_model.specs.Path.{Path, same_path, child_path, parent_of, is_below}
 use Rattle.cilk_model.specs.Instance as instance

@@ -4,8 +4,8 @@ use Rattle.std.specs.Prelude.{slice_index_or}
 use Rattle.std.specs.List.{All, list_all}
 use Rattle.std.proofs.lemmas.Bool.{and_parts}
 use Rattle.std.proofs.lemmas.List.Elements.{All-nil, All-cons}
-use Rattle.cilk_labelled.specs.Labelled.{Labelled, Body}
-use Rattle.cilk_labelled.specs.Items.{head_of}
+use Rattle.cilk_model.specs.labelled.Labelled.{Labelled, Body}
+use Rattle.cilk_model.specs.labelled.Items.{head_of}
 use Rattle.cilk_model.specs.Values.{Values}
 use Rattle.cilk_model.specs.Instance.{Activation, Instance, no_body, body_at}
 use Rattle.cilk_model.specs.Change.{on_lowest, resumed_to}

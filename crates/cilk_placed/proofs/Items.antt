@@ -1,8 +1,8 @@
 -- What remains of an activation ends with the closing brace of its body, and has a head.
 use Rattle.std.proofs.Common.{◌≡◌, ◌≢◌, Bool, true, false, ◌&&◌, [], ◌∷◌, Option, Some, None, refl, sym, ap, ◌∙◌}
 use Rattle.std.proofs.lemmas.Bool.{and_parts}
-use Rattle.cilk_labelled.specs.Labelled.{Action, assign, call, spawn, print, locking, null, break_off, go_round, tests, sync, abort, return_with, return_nothing, close, Numbered, Stmt, action, choose, while, repeat, loop, nested, Stmts, none, also, Body}
-use Rattle.cilk_labelled.specs.Items.{Round, Item, piece, at_test, at_advance, Items, pieces, plain_round, open_stmt, open_stmts, opened, head_of, past_mark, from_mark, after_action, next_mark, after_stmt, after_test, next, start_items}
+use Rattle.cilk_model.specs.labelled.Labelled.{Action, assign, call, spawn, print, locking, null, break_off, go_round, tests, sync, abort, return_with, return_nothing, close, Numbered, Stmt, action, choose, while, repeat, loop, nested, Stmts, none, also, Body}
+use Rattle.cilk_model.specs.labelled.Items.{Round, Item, piece, at_test, at_advance, Items, pieces, plain_round, open_stmt, open_stmts, opened, head_of, past_mark, from_mark, after_action, next_mark, after_stmt, after_test, next, start_items}
 use Rattle.cilk_model.specs.Change.{leaves}
 use Rattle.cilk_placed.specs.Loops.{may_stand, stmt_fits, stmts_fit}
 

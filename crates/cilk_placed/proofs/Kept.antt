@@ -3,7 +3,7 @@ use Rattle.std.proofs.Common.{◌≡◌, ℕ, zero, suc, ◌≤◌, Bool, true, 
 use Rattle.std.proofs.lemmas.List.{length-replicate}
 use Rattle.std.proofs.lemmas.Bool.{and_parts, leb-true}
 use Rattle.std.proofs.lemmas.List.Sums.{sum_by-cons}
-use Rattle.cilk_labelled.specs.Labelled.{Labelled}
+use Rattle.cilk_model.specs.labelled.Labelled.{Labelled}
 use Rattle.cilk_model.specs.Path.{Path, same_path}
 use Rattle.cilk_model.specs.Instance.{Instance, started}
 use Rattle.cilk_model.specs.State.{is_live, opening_state}

@@ -21,3 +21,4 @@ pub mod Locks
 pub mod Waiting
 pub mod Finished
 pub mod Few
+pub use Rattle.cilk_model.proofs.canonical_laws

@@ -1,6 +1,6 @@
 -- No limit is passed.
 use Rattle.std.proofs.Common.{◌≡◌, ℕ, ℤ, ◌^◌, ◌-◌, ◌≤◌, List, [], ◌∷◌, length, length-append, Option, Some, None, refl, arith}
-use Rattle.cilk_labelled.specs.Labelled.{Labelled}
+use Rattle.cilk_model.specs.labelled.Labelled.{Labelled}
 use Rattle.cilk_model.specs.Values.{Values, Cell}
 use Rattle.cilk_model.specs.Path.{Path, parent_of}
 use Rattle.cilk_model.specs.Instance.{Activation, Instance}

@@ -1,6 +1,6 @@
 -- Each instance that is parked has a live child.
 use Rattle.std.proofs.Common.{◌≡◌, ℕ, Bool, true, false, not, ◌&&◌, ◌||◌, [], ◌∷◌, Option, Some, None, refl, sym, ap, ◌∙◌, if◌then◌else◌}
-use Rattle.cilk_labelled.specs.Labelled.{Labelled}
+use Rattle.cilk_model.specs.labelled.Labelled.{Labelled}
 use Rattle.cilk_model.specs.Path.{Path, same_path, parent_of, is_that, is_child}
 use Rattle.cilk_model.specs.State.{Entry, Instances, State, instance_at, is_live, has_live_child}
 use Rattle.cilk_model.specs.Pick.{Step, waits, parks, goes_on, ends, spawns, step_of}

@@ -1,6 +1,6 @@
 -- What is known where a choice is possible.
 use Rattle.std.proofs.Common.{◌≡◌, Bool, true, false, not, Some, None, refl, if◌then◌else◌}
-use Rattle.cilk_labelled.specs.Labelled.{Labelled}
+use Rattle.cilk_model.specs.labelled.Labelled.{Labelled}
 use Rattle.cilk_model.specs.State.{Outcome, running, finished, trapped}
 use Rattle.cilk_model.specs.Choice.{Choice, over, no_worker}
 use Rattle.cilk_model.specs.Run.{Standing, is_running, is_worker, act_refusal, refusal_of}

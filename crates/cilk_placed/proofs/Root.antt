@@ -1,6 +1,6 @@
 -- The root lives as long as the program runs: no `abort` marks it.
 use Rattle.std.proofs.Common.{◌≡◌, ℕ, ℤ, Bool, true, false, not, ◌&&◌, ◌||◌, List, [], ◌∷◌, Option, Some, None, refl, sym, ap, ◌∙◌}
-use Rattle.cilk_labelled.specs.Labelled.{Labelled}
+use Rattle.cilk_model.specs.labelled.Labelled.{Labelled}
 use Rattle.cilk_model.specs.Path.{Path, same_path, parent_of, is_below}
 use Rattle.cilk_model.specs.Instance.{Activation, Instance}
 use Rattle.cilk_model.specs.State.{State, running, instance_at, is_live}

@@ -1,14 +1,14 @@
 -- What a step of a live instance is: one row for each way to go on, with what is known there.
 use Rattle.std.proofs.Common.{◌≡◌, ℕ, ℤ, ◌^◌, ◌+◌, ◌-◌, ◌<◌, ◌≤◌, nat_lt, nat_le, Bool, true, false, not, ◌&&◌, ◌||◌, List, [], ◌∷◌, length, Option, Some, None, Result, Ok, Err, refl, sym, ap, subst, ◌∙◌, if◌then◌else◌}
 use Rattle.std.proofs.lemmas.Bool.{cond_both, and_parts, ltb-true, leb-true}
-use Rattle.cilk_syntax.specs.declared.lock_action.LockAction.{LockAction}
-use Rattle.cilk_syntax.specs.declared.lock_action.LockAction.TheVariants.{Init, Unlock}
-use Rattle.cilk_syntax.specs.declared.lock_action.LockAction.TheVariants as action
-use Rattle.cilk_values.specs.declared.trap.Trap.{Trap}
-use Rattle.cilk_values.specs.Term.{Term}
-use Rattle.cilk_values.specs.Value.{Environment, value_of, values_of, ◌>>=◌}
-use Rattle.cilk_labelled.specs.Labelled.{Labelled, Numbered, Declaration, Taker, nothing, into, through, Action, assign, call, spawn, print, locking, null, break_off, go_round, tests, sync, abort, return_with, return_nothing, close}
-use Rattle.cilk_labelled.specs.Items.{head_of}
+use Rattle.cilk_model.specs.syntax.declared.lock_action.LockAction.{LockAction}
+use Rattle.cilk_model.specs.syntax.declared.lock_action.LockAction.TheVariants.{Init, Unlock}
+use Rattle.cilk_model.specs.syntax.declared.lock_action.LockAction.TheVariants as action
+use Rattle.cilk_model.specs.values.declared.trap.Trap.{Trap}
+use Rattle.cilk_model.specs.values.Term.{Term}
+use Rattle.cilk_model.specs.values.Value.{Environment, value_of, values_of, ◌>>=◌}
+use Rattle.cilk_model.specs.labelled.Labelled.{Labelled, Numbered, Declaration, Taker, nothing, into, through, Action, assign, call, spawn, print, locking, null, break_off, go_round, tests, sync, abort, return_with, return_nothing, close}
+use Rattle.cilk_model.specs.labelled.Items.{head_of}
 use Rattle.cilk_model.specs.Values.{Cell, Reached, environment, read_at, reached_at, reached_if, combined}
 use Rattle.cilk_model.specs.Effect.{Effect, writes, answers, enters, gives, starts, writes_out, turns, marks, start_of, effect_of}
 use Rattle.cilk_model.specs.Path.{Path, same_path, child_path}

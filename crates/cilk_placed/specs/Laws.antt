@@ -1,8 +1,8 @@
 -- What holds of every run.
 use Rattle.std.specs.Prelude.{◌≡◌, ◌≢◌, ◌↔◌, ◌≤◌, ℕ, ◌+◌, ◌-◌, ◌^◌, ℤ, true, false, not, All, List, [], ◌∷◌, ◌++◌, length, Some, None, count_by}
-use Rattle.cilk_labelled.specs.Labelled.{Labelled}
+use Rattle.cilk_model.specs.labelled.Labelled.{Labelled}
 use Rattle.cilk_model.specs.Path.{Path}
-use Rattle.cilk_labelled.specs.Items.{head_of}
+use Rattle.cilk_model.specs.labelled.Items.{head_of}
 use Rattle.cilk_model.specs.Instance.{Activation, Instance}
 use Rattle.cilk_model.specs.State.{State, running, finished, held, instance_at, is_live, has_live_child, lock_at}
 use Rattle.cilk_model.specs.Scheduler.{place_of, bottom_of}

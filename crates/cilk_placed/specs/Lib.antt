@@ -3,3 +3,9 @@ pub mod Places
 pub mod Loops
 pub mod Locks
 pub mod Laws
+pub use Rattle.cilk_model.specs.canonical
+pub use Rattle.cilk_model.specs.labelled
+pub use Rattle.cilk_model.specs as model
+pub use Rattle.cilk_model.specs.scopes
+pub use Rattle.cilk_model.specs.syntax
+pub use Rattle.cilk_model.specs.values

@@ -1,8 +1,8 @@
 -- Who holds a lock, and who waits for one (Cilk 5.4 manual, locks).
 use Rattle.std.specs.Prelude.{◌≡◌, ◌≢◌, ℕ, true, List, Some}
-use Rattle.cilk_syntax.specs.declared.lock_action.LockAction.TheVariants as action
-use Rattle.cilk_labelled.specs.Labelled.{Labelled, Numbered, locking}
-use Rattle.cilk_labelled.specs.Items.{head_of}
+use Rattle.cilk_model.specs.syntax.declared.lock_action.LockAction.TheVariants as action
+use Rattle.cilk_model.specs.labelled.Labelled.{Labelled, Numbered, locking}
+use Rattle.cilk_model.specs.labelled.Items.{head_of}
 use Rattle.cilk_model.specs.Path.{Path}
 use Rattle.cilk_model.specs.Instance.{Instance}
 use Rattle.cilk_model.specs.State.{State, held, instance_at, is_live, lock_at}

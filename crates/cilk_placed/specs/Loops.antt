@@ -1,7 +1,7 @@
 -- Each `break` and `continue` stands in a loop of its body (C 1990, 6.6.6.2, 6.6.6.3).
 use Rattle.std.specs.Prelude.{Bool, true, false, ◌&&◌}
 use Rattle.std.specs.List.{list_all}
-use Rattle.cilk_labelled.specs.Labelled.{Action, break_off, go_round, Stmt, action, choose, while, repeat, loop, nested, Stmts, none, also, Body, Labelled}
+use Rattle.cilk_model.specs.labelled.Labelled.{Action, break_off, go_round, Stmt, action, choose, while, repeat, loop, nested, Stmts, none, also, Body, Labelled}
 
 -- whether an action may stand in a loop, or outside of all
 abbrev pub may_stand : Bool → Action → Bool

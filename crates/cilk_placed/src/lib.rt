@@ -3,6 +3,7 @@
 
 mod laws;
 
+pub use cilk_model::{Global, GlobalShape, Item, ItemNode, Program, Word};
 pub use laws::{
     a_program_is_stuck_on_locks_alone, choices_are_made_one_by_one, each_holder_of_a_lock_lives,
     each_instance_has_a_head, each_instance_is_in_its_place, each_leaf_is_busy, limits_are_kept,

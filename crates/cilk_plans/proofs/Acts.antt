@@ -3,39 +3,39 @@ use Rattle.std.proofs.Common.{◌≡◌, ℕ, suc, ◌+◌, ◌≤◌, ℤ, Bool
 use borrow.Author.Tests.{ltb-true}
 use Rattle.std.proofs.lemmas.Bool.{lt-ltb, ltb-false}
 use Rattle.std.proofs.lemmas.Bool.Decides.{nat_tests}
-use Rattle.cilk_syntax.specs.declared.lock_action.LockAction.{LockAction}
-use Rattle.cilk_values.specs.Term.{Term, rename}
-use Rattle.cilk_values.specs.Value.{Environment}
-use Rattle.cilk_labelled.specs.Labelled.{Declaration, Labelled, Into, Taker, nothing, into, through, Action, assign, call, spawn, print, locking, null, break_off, go_round, tests, sync, abort, return_with, return_nothing, close}
-use Rattle.cilk_labelled.specs.Bodies.{label}
-use Rattle.cilk_heads.specs.Heads.{GoesOn}
-use Rattle.cilk_model.specs.Values.{Reached, environment}
-use Rattle.cilk_model.specs.Instance.{Instance}
-use Rattle.cilk_model.specs.State as state
-use Rattle.cilk_model.specs.State.{is_empty, store_of}
-use Rattle.cilk_model.specs.Effect as effect
-use Rattle.cilk_model.specs.Effect.{effect_of}
-use Rattle.cilk_model.specs.Change as change
-use Rattle.cilk_model.specs.Change.{after_call}
-use Rattle.cilk_model.specs.Event.{acted}
-use Rattle.cilk_model.specs.Pick.{goes_on, if_room, step_by_effect, step_by_turn}
-use Rattle.cilk_nodes.specs.declared.node.Node.{Node}
-use Rattle.cilk_nodes.specs.Actions.{slotted_place, slotted_target, slotted}
-use Rattle.cilk_nodes.specs.Slots.{slot_of}
-use Rattle.cilk_nodes.specs.Table.{node_of}
-use Rattle.cilk_nodes.specs.Bodies.{body_of}
-use Rattle.cilk_nodes.proofs.Heads.{bodies-have}
-use Rattle.cilk_frame.specs.Frames.{depth}
-use Rattle.cilk_stands.specs.Starts as starts
-use Rattle.cilk_stands.specs.Cells.{HasCell}
-use Rattle.cilk_stands.specs.Stands.{AwaitsAt, AwaitsSame, AllInside, bodies_of, lowest_of}
-use Rattle.cilk_stands.proofs.Tops.{depth-is}
-use Rattle.cilk_sound.specs.Known as known
-use Rattle.cilk_sound.specs.Known.{KnownAct, Calls}
+use Rattle.cilk_agree.specs.syntax.declared.lock_action.LockAction.{LockAction}
+use Rattle.cilk_agree.specs.values.Term.{Term, rename}
+use Rattle.cilk_agree.specs.values.Value.{Environment}
+use Rattle.cilk_agree.specs.labelled.Labelled.{Declaration, Labelled, Into, Taker, nothing, into, through, Action, assign, call, spawn, print, locking, null, break_off, go_round, tests, sync, abort, return_with, return_nothing, close}
+use Rattle.cilk_agree.specs.labelled.Bodies.{label}
+use Rattle.cilk_effects.specs.heads.Heads.{GoesOn}
+use Rattle.cilk_agree.specs.model.Values.{Reached, environment}
+use Rattle.cilk_agree.specs.model.Instance.{Instance}
+use Rattle.cilk_agree.specs.model.State as state
+use Rattle.cilk_agree.specs.model.State.{is_empty, store_of}
+use Rattle.cilk_agree.specs.model.Effect as effect
+use Rattle.cilk_agree.specs.model.Effect.{effect_of}
+use Rattle.cilk_agree.specs.model.Change as change
+use Rattle.cilk_agree.specs.model.Change.{after_call}
+use Rattle.cilk_agree.specs.model.Event.{acted}
+use Rattle.cilk_agree.specs.model.Pick.{goes_on, if_room, step_by_effect, step_by_turn}
+use Rattle.cilk_agree.specs.nodes.declared.node.Node.{Node}
+use Rattle.cilk_agree.specs.nodes.Actions.{slotted_place, slotted_target, slotted}
+use Rattle.cilk_agree.specs.nodes.Slots.{slot_of}
+use Rattle.cilk_agree.specs.nodes.Table.{node_of}
+use Rattle.cilk_agree.specs.nodes.Bodies.{body_of}
+use Rattle.cilk_agree.proofs.nodes_laws.Heads.{bodies-have}
+use Rattle.cilk_agree.specs.frame.Frames.{depth}
+use Rattle.cilk_agree.specs.stands.Starts as starts
+use Rattle.cilk_agree.specs.stands.Cells.{HasCell}
+use Rattle.cilk_agree.specs.stands.Stands.{AwaitsAt, AwaitsSame, AllInside, bodies_of, lowest_of}
+use Rattle.cilk_agree.proofs.stands_laws.Tops.{depth-is}
+use Rattle.cilk_effects.specs.sound.Known as known
+use Rattle.cilk_effects.specs.sound.Known.{KnownAct, Calls}
 use Rattle.cilk_effects.specs.Slotted.{ReachesCells, slotted_await, slotted_receiver, slotted_effect, slotted_result}
 use Rattle.cilk_effects.proofs.Shapes.{named_by, IsOf, ShapeOf, Awaits, shape, values-count}
 use Rattle.cilk_effects.proofs.Shapes as shapes
-use Rattle.cilk_spawn.specs.Nodes.{node_at, is_synched, has_live_child, live_ids}
+use Rattle.cilk_agree.specs.spawn.Nodes.{node_at, is_synched, has_live_child, live_ids}
 use Rattle.cilk_agree.specs.declared.lock.Lock.{Lock}
 use Rattle.cilk_agree.specs.Locks.{LockTurn, turned, refused, blocked, turn_among, turn_named}
 use Rattle.cilk_agree.specs.Outside.{LockWithin}
@@ -48,12 +48,12 @@ use Rattle.cilk_plans.specs.Plans.{sight_in, step_in, IsPlan}
 use Rattle.cilk_plans.specs.Sights.{Sight}
 
 -- the name of a place over slots
-pub slot-named : (slots : Declaration → Rattle.cilk_eval.specs.declared.slot.Slot.Slot) (t : Rattle.cilk_labelled.specs.Labelled.Target) → (slotted_place slots t).slot ≡ slots (named_by t)
-slot-named slots (Rattle.cilk_labelled.specs.Labelled.variable d) = refl
-slot-named slots (Rattle.cilk_labelled.specs.Labelled.element d s) = refl
+pub slot-named : (slots : Declaration → Rattle.cilk_agree.specs.eval.declared.slot.Slot.Slot) (t : Rattle.cilk_agree.specs.labelled.Labelled.Target) → (slotted_place slots t).slot ≡ slots (named_by t)
+slot-named slots (Rattle.cilk_agree.specs.labelled.Labelled.variable d) = refl
+slot-named slots (Rattle.cilk_agree.specs.labelled.Labelled.element d s) = refl
 
 -- a body that takes so many arguments
-pub takes-from : (p : Rattle.cilk_syntax.specs.Tree.Program) (callee n : ℕ) (zs : List ℤ) → known.Accepts (label p) callee n → length zs ≡ n → starts.Takes (body_of p callee) zs
+pub takes-from : (p : Rattle.cilk_agree.specs.syntax.Tree.Program) (callee n : ℕ) (zs : List ℤ) → known.Accepts (label p) callee n → length zs ≡ n → starts.Takes (body_of p callee) zs
 takes-from p callee n zs h e =
     subst (λ o. starts.Takes o zs) (sym (bodies-have p callee h.is_there)) (e ∙ sym h.parameters)
 
@@ -89,7 +89,7 @@ module _ (t : Turn) (asked : Asked t) (b m : ℕ) where
   abbrev s : state.State
   s = t.at.state
 
-  abbrev slots : Declaration → Rattle.cilk_eval.specs.declared.slot.Slot.Slot
+  abbrev slots : Declaration → Rattle.cilk_agree.specs.eval.declared.slot.Slot.Slot
   slots = slot_of program b
 
   abbrev env : Environment Declaration
@@ -119,10 +119,10 @@ module _ (t : Turn) (asked : Asked t) (b m : ℕ) where
           → IsPlan t (by_effect g m node (Ok (slotted_effect slots m (effect.writes_out w.bytes))))
       by_room room e step =
           let same : nat_le (g.printed + length w.bytes) 1048576 ≡ room = ap (λ out. nat_le (length out + length w.bytes) 1048576) (sym t.agrees.outside.output) ∙ e in
-          subst (λ r. IsPlan t (made.if_room r Rattle.cilk_spawn.specs.declared.kind.Kind.TheVariants.Output m (Rattle.cilk_plans.specs.declared.plan.Plan.TheVariants.Print m w.bytes (next_of node true)))) (sym same) (by_case room step)
+          subst (λ r. IsPlan t (made.if_room r Rattle.cilk_agree.specs.spawn.declared.kind.Kind.TheVariants.Output m (Rattle.cilk_plans.specs.declared.plan.Plan.TheVariants.Print m w.bytes (next_of node true)))) (sym same) (by_case room step)
         where
           by_case : (room : Bool) → step_in t ≡ if_room s (path_of t) m state.output room (goes_on (change.after_print s (path_of t) i w.bytes) (acted (path_of t) m))
-              → IsPlan t (made.if_room room Rattle.cilk_spawn.specs.declared.kind.Kind.TheVariants.Output m (Rattle.cilk_plans.specs.declared.plan.Plan.TheVariants.Print m w.bytes (next_of node true)))
+              → IsPlan t (made.if_room room Rattle.cilk_agree.specs.spawn.declared.kind.Kind.TheVariants.Output m (Rattle.cilk_plans.specs.declared.plan.Plan.TheVariants.Print m w.bytes (next_of node true)))
           by_case true step = record { step = step; next = a.goes goes true }
           by_case false step = step
 
@@ -133,7 +133,7 @@ module _ (t : Turn) (asked : Asked t) (b m : ℕ) where
   turns-plan act node a goes what lock x e = subst (Planned node) (sym e) (λ step there. by_turn (turn_among g.locks t.frame.id what lock) (asked.turned_within what lock) (step ∙ ap (step_by_turn s (path_of t) i m lock) (asked.turn what lock)))
     where
       by_turn : (turn : LockTurn) → ((now : Lock) → turn ≡ turned now → LockWithin (length t.machine.nodes) now)
-          → step_in t ≡ step_by_turn s (path_of t) i m lock (turn_named (Rattle.cilk_spawn.specs.Nodes.path_at t.machine.nodes) turn) → IsPlan t (turned_to m (next_of node true) lock turn)
+          → step_in t ≡ step_by_turn s (path_of t) i m lock (turn_named (Rattle.cilk_agree.specs.spawn.Nodes.path_at t.machine.nodes) turn) → IsPlan t (turned_to m (next_of node true) lock turn)
       by_turn (turned now) within step = record { step = step; within = within now refl; next = a.goes goes true }
       by_turn refused within step = step
       by_turn blocked within step = step
@@ -163,13 +163,13 @@ module _ (t : Turn) (asked : Asked t) (b m : ℕ) where
       → shapes.Entered env what callee es x → Planned node x
   calls-plan what callee es node a x w = subst (Planned node) (sym w.is) (λ step there. by_room (nat_lt (length i.below) 255) refl step there)
     where
-      stands : Rattle.cilk_stands.specs.Stands.StandsFor program t.frame i
+      stands : Rattle.cilk_agree.specs.stands.Stands.StandsFor program t.frame i
       stands = (Rattle.cilk_agree.proofs.Alone.holds t).stands
 
       by_case : (room : Bool) → nat_lt (length i.below) 255 ≡ room
           → step_in t ≡ if_room s (path_of t) m state.depth room (goes_on (after_call program s (path_of t) i w.awaits callee w.values) (acted (path_of t) m))
           → Rattle.cilk_effects.specs.Slotted.AwaitedCell program b w.awaits
-          → IsPlan t (made.if_room room Rattle.cilk_spawn.specs.declared.kind.Kind.TheVariants.Depth m (Rattle.cilk_plans.specs.declared.plan.Plan.TheVariants.Call m (slotted_await m w.awaits) callee w.values (next_of node true)))
+          → IsPlan t (made.if_room room Rattle.cilk_agree.specs.spawn.declared.kind.Kind.TheVariants.Depth m (Rattle.cilk_plans.specs.declared.plan.Plan.TheVariants.Call m (slotted_await m w.awaits) callee w.values (next_of node true)))
       by_case true e step there = record {
         awaited = w.awaits;
         same = awaits-same what callee es node a w.awaits w.awaits_is there;
@@ -188,5 +188,5 @@ module _ (t : Turn) (asked : Asked t) (b m : ℕ) where
           → IsPlan t (by_effect g m node (Ok (slotted_effect slots m (effect.enters w.awaits callee w.values))))
       by_room room e step there =
           let same : nat_lt (depth t.frame) 256 ≡ room = depth-room (depth t.frame) (length i.below) (depth-is program t.frame i stands) ∙ e in
-          subst (λ r. IsPlan t (made.if_room r Rattle.cilk_spawn.specs.declared.kind.Kind.TheVariants.Depth m (Rattle.cilk_plans.specs.declared.plan.Plan.TheVariants.Call m (slotted_await m w.awaits) callee w.values (next_of node true)))) (sym same)
+          subst (λ r. IsPlan t (made.if_room r Rattle.cilk_agree.specs.spawn.declared.kind.Kind.TheVariants.Depth m (Rattle.cilk_plans.specs.declared.plan.Plan.TheVariants.Call m (slotted_await m w.awaits) callee w.values (next_of node true)))) (sym same)
           (by_case room e (step ∙ ap (λ r. if_room s (path_of t) m state.depth r (goes_on (after_call program s (path_of t) i w.awaits callee w.values) (acted (path_of t) m))) e) there)

@@ -4,26 +4,26 @@ use Rattle.std.specs.Prelude.{IsTrue}
 use borrow.Author.Tests.{ltb-true}
 use Rattle.std.proofs.lemmas.Bool.{ltb-false}
 use Rattle.std.proofs.lemmas.List.{length-map}
-use Rattle.cilk_scopes.specs.declared.owner.Owner.{Owner}
-use Rattle.cilk_scopes.specs.declared.owner.Owner.TheVariants.{Function, Procedure, Inlet}
-use Rattle.cilk_values.specs.Term.{Term, rename}
-use Rattle.cilk_values.specs.Value.{Environment}
-use Rattle.cilk_labelled.specs.Labelled.{Declaration, Labelled, Taker, nothing, into, through, spawn}
-use Rattle.cilk_labelled.specs.Bodies.{label, is_procedure}
-use Rattle.cilk_model.specs.Path.{child_path}
-use Rattle.cilk_model.specs.Values.{environment}
-use Rattle.cilk_model.specs.Instance as model
-use Rattle.cilk_model.specs.Instance.{Instance, body_at}
-use Rattle.cilk_model.specs.State as state
-use Rattle.cilk_model.specs.State.{store_of, is_empty}
-use Rattle.cilk_model.specs.Effect as effect
-use Rattle.cilk_model.specs.Change.{after_start}
-use Rattle.cilk_model.specs.Event.{spawned}
-use Rattle.cilk_model.specs.Pick.{Step, spawns, if_room, step_by_effect}
-use Rattle.cilk_nodes.specs.declared.node.Node.{Node}
-use Rattle.cilk_nodes.specs.Slots.{slot_of, is_inlet, procedure_around}
-use Rattle.cilk_stands.specs.Stands.{StandsFor, AllInside, bodies_of}
-use Rattle.cilk_sound.specs.Known.{StandsIn}
+use Rattle.cilk_agree.specs.scopes.declared.owner.Owner.{Owner}
+use Rattle.cilk_agree.specs.scopes.declared.owner.Owner.TheVariants.{Function, Procedure, Inlet}
+use Rattle.cilk_agree.specs.values.Term.{Term, rename}
+use Rattle.cilk_agree.specs.values.Value.{Environment}
+use Rattle.cilk_agree.specs.labelled.Labelled.{Declaration, Labelled, Taker, nothing, into, through, spawn}
+use Rattle.cilk_agree.specs.labelled.Bodies.{label, is_procedure}
+use Rattle.cilk_agree.specs.model.Path.{child_path}
+use Rattle.cilk_agree.specs.model.Values.{environment}
+use Rattle.cilk_agree.specs.model.Instance as model
+use Rattle.cilk_agree.specs.model.Instance.{Instance, body_at}
+use Rattle.cilk_agree.specs.model.State as state
+use Rattle.cilk_agree.specs.model.State.{store_of, is_empty}
+use Rattle.cilk_agree.specs.model.Effect as effect
+use Rattle.cilk_agree.specs.model.Change.{after_start}
+use Rattle.cilk_agree.specs.model.Event.{spawned}
+use Rattle.cilk_agree.specs.model.Pick.{Step, spawns, if_room, step_by_effect}
+use Rattle.cilk_agree.specs.nodes.declared.node.Node.{Node}
+use Rattle.cilk_agree.specs.nodes.Slots.{slot_of, is_inlet, procedure_around}
+use Rattle.cilk_agree.specs.stands.Stands.{StandsFor, AllInside, bodies_of}
+use Rattle.cilk_effects.specs.sound.Known.{StandsIn}
 use Rattle.cilk_effects.specs.Slotted.{TakenCell, ReachesCells, slotted_receiver, slotted_effect}
 use Rattle.cilk_effects.proofs.Shapes as shapes
 use Rattle.cilk_effects.proofs.Shapes.{values-count}
@@ -32,7 +32,7 @@ use Rattle.cilk_agree.specs.Laws.{Turn, path_of, node_of, instance_of}
 use Rattle.cilk_agree.specs.Asked.{Asked}
 use Rattle.cilk_agree.proofs.Alone.{holds}
 use Rattle.cilk_agree.proofs.Actions.{told}
-use Rattle.cilk_spawn.specs.declared.kind.Kind.TheVariants as kind
+use Rattle.cilk_agree.specs.spawn.declared.kind.Kind.TheVariants as kind
 use Rattle.cilk_plans.specs.declared.plan.Plan.TheVariants as plan
 use Rattle.cilk_plans.specs.Made as made
 use Rattle.cilk_plans.specs.Made.{next_of, by_effect, has_room}
@@ -76,7 +76,7 @@ module _ (t : Turn) (asked : Asked t) (b m : ℕ) where
   abbrev s : state.State
   s = t.at.state
 
-  abbrev slots : Declaration → Rattle.cilk_eval.specs.declared.slot.Slot.Slot
+  abbrev slots : Declaration → Rattle.cilk_agree.specs.eval.declared.slot.Slot.Slot
   slots = slot_of program b
 
   abbrev env : Environment Declaration
@@ -85,7 +85,7 @@ module _ (t : Turn) (asked : Asked t) (b m : ℕ) where
   procedure-is : (o : IsTrue (is_procedure (body_at program i.top.body).owner)) → (node_of t).procedure ≡ i.top.body
   procedure-is o =
       let inside : AllInside program (i.top.body ∷ bodies_of i.below) = ((holds t).stands).inside in
-      (told t).procedure ∙ ap (λ ms. Rattle.cilk_stands.specs.Stands.lowest_of i.top.body (bodies_of ms)) (below-none program i.below i.top.body inside o)
+      (told t).procedure ∙ ap (λ ms. Rattle.cilk_agree.specs.stands.Stands.lowest_of i.top.body (bodies_of ms)) (below-none program i.below i.top.body inside o)
 
   receives : (taker : Taker) (callee : ℕ) (es : List (Term Declaration)) (node : Node) → Acting t b m (spawn taker callee es) node → (r : Option model.Receiver) → shapes.Takes env m taker r
       → TakenCell program b r → Receives program b (slotted_receiver slots r) r

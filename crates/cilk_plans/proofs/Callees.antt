@@ -2,25 +2,25 @@
 use Rattle.std.proofs.Common.{◌≡◌, ℕ, suc, ◌+◌, Bool, true, false, nat_eq, List, [], ◌∷◌, ◌++◌, map, length, Option, Some, None, option_map, refl, sym, ap, ◌∙◌, subst, if◌then◌else◌, eqb-true}
 use Rattle.std.specs.Prelude.{⊤, ◌==◌}
 use Rattle.std.specs.Option.{option_or}
-use Rattle.cilk_syntax.specs.Tree as tree
-use Rattle.cilk_syntax.specs.Tree.{Program}
-use Rattle.cilk_syntax.specs.Tree.{Word}
-use Rattle.cilk_values.specs.Term.{Term}
-use Rattle.cilk_eval.specs.declared.slot.Slot.{Slot}
-use Rattle.cilk_labelled.specs.Labelled.{Declaration, Action, assign, call, spawn, print, locking, null, break_off, go_round, tests, sync, abort, return_with, return_nothing, close}
-use Rattle.cilk_labelled.specs.Labelled.{Numbered, Stmt, action, choose, while, repeat, loop, nested, Stmts, none, also, Body, Labelled}
-use Rattle.cilk_labelled.specs.Items.{Items, pieces, plain_round, head_of, next_mark}
-use Rattle.cilk_labelled.specs.Names.{Names, with_words, with_local, local_count, entered, in_inlet}
-use Rattle.cilk_labelled.specs.Count.{count_option, count_stmt, count_local, count_locals, count_block, count_item}
-use Rattle.cilk_labelled.specs.Label.{label_part, label_initialiser, label_local, label_locals, label_stmt, label_stmts, label_block, block_variables, stmt_variables, locals_variables, names_behind}
-use Rattle.cilk_labelled.specs.Bodies.{one_cell, parameter_variables, inlet_body, inlet_bodies, block_locals, procedure_names, body_count, item_bodies, items_bodies, file_names, label}
-use Rattle.cilk_seen.specs.Made.{callee_by, callee_in, callee_among, callee_by_bodies, callee_of}
-use Rattle.cilk_nodes.specs.declared.node.Node.{Node}
-use Rattle.cilk_nodes.specs.declared.taker.Taker.{Taker}
-use Rattle.cilk_nodes.specs.declared.action.Action.TheVariants.{Spawn}
-use Rattle.cilk_nodes.specs.Actions.{slotted}
-use Rattle.cilk_nodes.specs.Slots.{slot_of}
-use Rattle.cilk_nodes.specs.Table.{number_of, has_number, node_over, node_at, first_lists, advance_lists, round_of, stmt_lists, stmts_lists, closing_items, body_lists, Row, row, rows_from, node_among}
+use Rattle.cilk_agree.specs.syntax.Tree as tree
+use Rattle.cilk_agree.specs.syntax.Tree.{Program}
+use Rattle.cilk_agree.specs.syntax.Tree.{Word}
+use Rattle.cilk_agree.specs.values.Term.{Term}
+use Rattle.cilk_agree.specs.eval.declared.slot.Slot.{Slot}
+use Rattle.cilk_agree.specs.labelled.Labelled.{Declaration, Action, assign, call, spawn, print, locking, null, break_off, go_round, tests, sync, abort, return_with, return_nothing, close}
+use Rattle.cilk_agree.specs.labelled.Labelled.{Numbered, Stmt, action, choose, while, repeat, loop, nested, Stmts, none, also, Body, Labelled}
+use Rattle.cilk_agree.specs.labelled.Items.{Items, pieces, plain_round, head_of, next_mark}
+use Rattle.cilk_agree.specs.labelled.Names.{Names, with_words, with_local, local_count, entered, in_inlet}
+use Rattle.cilk_agree.specs.labelled.Count.{count_option, count_stmt, count_local, count_locals, count_block, count_item}
+use Rattle.cilk_agree.specs.labelled.Label.{label_part, label_initialiser, label_local, label_locals, label_stmt, label_stmts, label_block, block_variables, stmt_variables, locals_variables, names_behind}
+use Rattle.cilk_agree.specs.labelled.Bodies.{one_cell, parameter_variables, inlet_body, inlet_bodies, block_locals, procedure_names, body_count, item_bodies, items_bodies, file_names, label}
+use Rattle.cilk_agree.specs.seen.Made.{callee_by, callee_in, callee_among, callee_by_bodies, callee_of}
+use Rattle.cilk_agree.specs.nodes.declared.node.Node.{Node}
+use Rattle.cilk_agree.specs.nodes.declared.taker.Taker.{Taker}
+use Rattle.cilk_agree.specs.nodes.declared.action.Action.TheVariants.{Spawn}
+use Rattle.cilk_agree.specs.nodes.Actions.{slotted}
+use Rattle.cilk_agree.specs.nodes.Slots.{slot_of}
+use Rattle.cilk_agree.specs.nodes.Table.{number_of, has_number, node_over, node_at, first_lists, advance_lists, round_of, stmt_lists, stmts_lists, closing_items, body_lists, Row, row, rows_from, node_among}
 
 -- what spawn n starts, if it stands in front
 abbrev head-callee : ℕ → Option Numbered → Option ℕ
@@ -165,8 +165,8 @@ module _ (n : ℕ) where
     here : (b : ℕ) (items : Items) (h : Numbered) → head_of items ≡ Some h → nat_eq n h.number ≡ true → node_at program b items ≡ Some node
         → head-callee n (head_of items) ≡ Some callee
     here b items h e same is =
-        let is_node : option_map (λ (x : Numbered). record { action = slotted (slot_of program b) x.act; next = Rattle.cilk_nodes.specs.Table.number_after true items; other = Rattle.cilk_nodes.specs.Table.number_after false items; body = b }) (Some h) ≡ Some node =
-        ap (option_map (λ (x : Numbered). record { action = slotted (slot_of program b) x.act; next = Rattle.cilk_nodes.specs.Table.number_after true items; other = Rattle.cilk_nodes.specs.Table.number_after false items; body = b })) (sym e) ∙ is in
+        let is_node : option_map (λ (x : Numbered). record { action = slotted (slot_of program b) x.act; next = Rattle.cilk_agree.specs.nodes.Table.number_after true items; other = Rattle.cilk_agree.specs.nodes.Table.number_after false items; body = b }) (Some h) ≡ Some node =
+        ap (option_map (λ (x : Numbered). record { action = slotted (slot_of program b) x.act; next = Rattle.cilk_agree.specs.nodes.Table.number_after true items; other = Rattle.cilk_agree.specs.nodes.Table.number_after false items; body = b })) (sym e) ∙ is in
         let act_is : slotted (slot_of program b) h.act ≡ node.action = cc in
         let number : n ≡ h.number = eqb-true n h.number same in
         ap (head-callee n) e

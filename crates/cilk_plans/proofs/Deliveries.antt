@@ -1,23 +1,23 @@
 -- A delivery is taken: the plan is the step.
 use Rattle.std.proofs.Common.{◌≡◌, ℕ, suc, ◌<◌, ℤ, List, [], ◌∷◌, length, Some, Result, Ok, Err, refl, sym, ap, ◌∙◌, subst, arith}
-use Rattle.cilk_values.specs.declared.trap.Trap.{Trap}
-use Rattle.cilk_eval.specs.Slots.{slot_cell}
-use Rattle.cilk_labelled.specs.Labelled.{Labelled}
-use Rattle.cilk_labelled.specs.Bodies.{label}
-use Rattle.cilk_model.specs.Values.{Reached, combined, cell_of}
-use Rattle.cilk_model.specs.Instance as model
-use Rattle.cilk_model.specs.Instance.{Instance}
-use Rattle.cilk_model.specs.State as state
-use Rattle.cilk_model.specs.State.{store_of}
-use Rattle.cilk_model.specs.Pick.{step_by_place, step_by_receiver}
-use Rattle.cilk_nodes.specs.Table as table
-use Rattle.cilk_stands.specs.Stands.{StandsFor}
-use Rattle.cilk_stands.proofs.Tops.{depth-is}
-use Rattle.cilk_stands.proofs.Values.{cell-same}
-use Rattle.cilk_spawn.specs.declared.delivery.Delivery.{Delivery}
-use Rattle.cilk_spawn.specs.declared.receiver.Receiver.{Receiver}
-use Rattle.cilk_spawn.specs.declared.receiver.Receiver.TheVariants.{Nothing, Place, Call}
-use Rattle.cilk_spawn.specs.Nodes.{path_at}
+use Rattle.cilk_agree.specs.values.declared.trap.Trap.{Trap}
+use Rattle.cilk_agree.specs.eval.Slots.{slot_cell}
+use Rattle.cilk_agree.specs.labelled.Labelled.{Labelled}
+use Rattle.cilk_agree.specs.labelled.Bodies.{label}
+use Rattle.cilk_agree.specs.model.Values.{Reached, combined, cell_of}
+use Rattle.cilk_agree.specs.model.Instance as model
+use Rattle.cilk_agree.specs.model.Instance.{Instance}
+use Rattle.cilk_agree.specs.model.State as state
+use Rattle.cilk_agree.specs.model.State.{store_of}
+use Rattle.cilk_agree.specs.model.Pick.{step_by_place, step_by_receiver}
+use Rattle.cilk_agree.specs.nodes.Table as table
+use Rattle.cilk_agree.specs.stands.Stands.{StandsFor}
+use Rattle.cilk_agree.proofs.stands_laws.Tops.{depth-is}
+use Rattle.cilk_agree.proofs.stands_laws.Values.{cell-same}
+use Rattle.cilk_agree.specs.spawn.declared.delivery.Delivery.{Delivery}
+use Rattle.cilk_agree.specs.spawn.declared.receiver.Receiver.{Receiver}
+use Rattle.cilk_agree.specs.spawn.declared.receiver.Receiver.TheVariants.{Nothing, Place, Call}
+use Rattle.cilk_agree.specs.spawn.Nodes.{path_at}
 use Rattle.cilk_agree.specs.Alike.{Receives, SameDelivery}
 use Rattle.cilk_agree.specs.Laws.{Turn, path_of, node_of, instance_of}
 use Rattle.cilk_agree.specs.Asked.{Asked}
@@ -49,10 +49,10 @@ module _ (t : Turn) (asked : Asked t) where
   -- at a boundary the procedure's own activation is on top
   procedure-is : i.below ≡ [] → (node_of t).procedure ≡ i.top.body
   procedure-is alone =
-      (told t).procedure ∙ ap (λ ms. Rattle.cilk_stands.specs.Stands.lowest_of i.top.body (Rattle.cilk_stands.specs.Stands.bodies_of ms)) alone
+      (told t).procedure ∙ ap (λ ms. Rattle.cilk_agree.specs.stands.Stands.lowest_of i.top.body (Rattle.cilk_agree.specs.stands.Stands.bodies_of ms)) alone
 
-  place-plan : (child : ℕ) (first : Oldest t child) (slot : Rattle.cilk_eval.specs.declared.slot.Slot.Slot) (index : ℕ) (r : Reached)
-      → Rattle.cilk_stands.specs.Cells.SameCell program i.top.body slot index r.cell → (n : ℕ) (z : ℤ)
+  place-plan : (child : ℕ) (first : Oldest t child) (slot : Rattle.cilk_agree.specs.eval.declared.slot.Slot.Slot) (index : ℕ) (r : Reached)
+      → Rattle.cilk_agree.specs.stands.Cells.SameCell program i.top.body slot index r.cell → (n : ℕ) (z : ℤ)
       → step_in t ≡ step_by_place s (path_of t) i first.others first.oldest.child r n (combined r.op (cell_of (store_of s (path_of t) i) r.cell.place r.cell.index) z)
       → IsPlan t (takes_by n (combined r.op (slot_cell (cells_in g) slot index) z) (λ y. plan.Take child n (record { slot = slot; index = index }) y))
   place-plan child first slot index r same n z step =
@@ -85,7 +85,7 @@ module _ (t : Turn) (asked : Asked t) where
         first = first;
         takes = takes-from t.program inlet (suc (length ys)) (z ∷ args) (record { is_there = c.is_there; parameters = c.parameters }) (ap (λ xs. suc (length xs)) args_is);
         owner = c.owner;
-        inside = ap (λ ms. Rattle.cilk_stands.specs.Stands.lowest_of i.top.body (Rattle.cilk_stands.specs.Stands.bodies_of ms)) alone ∙ sym c.inside;
+        inside = ap (λ ms. Rattle.cilk_agree.specs.stands.Stands.lowest_of i.top.body (Rattle.cilk_agree.specs.stands.Stands.bodies_of ms)) alone ∙ sym c.inside;
         depth = let d = depth-is program t.frame i stands in let none : length i.below ≡ 0 = ap length alone in omega (arith, d, none);
         step = step ∙ (λ j. step_by_receiver program s (path_of t) i first.others first.oldest.child z (model.through inlet (sym args_is j) (sym n_is j)));
       })

@@ -1,32 +1,32 @@
 -- A body is left: the plan is the step.
 use Rattle.std.proofs.Common.{◌≡◌, ℕ, suc, ℤ, Bool, true, false, not, ◌&&◌, ◌==◌, List, [], ◌∷◌, length, Option, Some, None, Result, Ok, Err, refl, sym, ap, ◌∙◌, subst, arith, if◌then◌else◌}
 use Rattle.std.proofs.lemmas.Bool.{ne_eqb}
-use Rattle.cilk_values.specs.declared.trap.Trap.{Trap}
-use Rattle.cilk_eval.specs.Slots.{slot_cell}
-use Rattle.cilk_labelled.specs.Labelled.{Labelled}
-use Rattle.cilk_labelled.specs.Bodies.{label}
-use Rattle.cilk_model.specs.Values.{Reached, combined, cell_of}
-use Rattle.cilk_model.specs.Instance as model
-use Rattle.cilk_model.specs.Instance.{Instance, body_at}
-use Rattle.cilk_model.specs.State as state
-use Rattle.cilk_model.specs.State.{is_empty, store_of}
-use Rattle.cilk_model.specs.Change as change
-use Rattle.cilk_model.specs.Change.{leaves_function, after_return, after_leaving, after_answer, resumed}
-use Rattle.cilk_model.specs.Event.{acted, returned}
-use Rattle.cilk_model.specs.Pick.{Step, goes_on, ends, step_by_leaving, step_by_answer, step_by_combined}
-use Rattle.cilk_nodes.specs.declared.node.Node.{Node}
-use Rattle.cilk_nodes.specs.Table.{node_of}
-use Rattle.cilk_nodes.specs.Bodies.{body_of}
-use Rattle.cilk_nodes.proofs.Heads.{bodies-have}
-use Rattle.cilk_nodes.specs.Slots.{slot_of}
-use Rattle.cilk_frame.specs.declared.awaited.Await.{Await}
-use Rattle.cilk_frame.specs.Frames.{depth, top_of, left}
-use Rattle.cilk_stands.specs.Stands.{StandsFor, AwaitsSame, AwaitsAt, bodies_of}
-use Rattle.cilk_stands.specs.Reads.{Seen, seen_by}
-use Rattle.cilk_stands.proofs.Tops.{depth-is}
-use Rattle.cilk_stands.proofs.Steps.{awaits-same, return-stands, lent-seen}
-use Rattle.cilk_stands.proofs.Values.{cell-same}
-use Rattle.cilk_spawn.specs.Nodes.{has_live_child, is_synched}
+use Rattle.cilk_agree.specs.values.declared.trap.Trap.{Trap}
+use Rattle.cilk_agree.specs.eval.Slots.{slot_cell}
+use Rattle.cilk_agree.specs.labelled.Labelled.{Labelled}
+use Rattle.cilk_agree.specs.labelled.Bodies.{label}
+use Rattle.cilk_agree.specs.model.Values.{Reached, combined, cell_of}
+use Rattle.cilk_agree.specs.model.Instance as model
+use Rattle.cilk_agree.specs.model.Instance.{Instance, body_at}
+use Rattle.cilk_agree.specs.model.State as state
+use Rattle.cilk_agree.specs.model.State.{is_empty, store_of}
+use Rattle.cilk_agree.specs.model.Change as change
+use Rattle.cilk_agree.specs.model.Change.{leaves_function, after_return, after_leaving, after_answer, resumed}
+use Rattle.cilk_agree.specs.model.Event.{acted, returned}
+use Rattle.cilk_agree.specs.model.Pick.{Step, goes_on, ends, step_by_leaving, step_by_answer, step_by_combined}
+use Rattle.cilk_agree.specs.nodes.declared.node.Node.{Node}
+use Rattle.cilk_agree.specs.nodes.Table.{node_of}
+use Rattle.cilk_agree.specs.nodes.Bodies.{body_of}
+use Rattle.cilk_agree.proofs.nodes_laws.Heads.{bodies-have}
+use Rattle.cilk_agree.specs.nodes.Slots.{slot_of}
+use Rattle.cilk_agree.specs.frame.declared.awaited.Await.{Await}
+use Rattle.cilk_agree.specs.frame.Frames.{depth, top_of, left}
+use Rattle.cilk_agree.specs.stands.Stands.{StandsFor, AwaitsSame, AwaitsAt, bodies_of}
+use Rattle.cilk_agree.specs.stands.Reads.{Seen, seen_by}
+use Rattle.cilk_agree.proofs.stands_laws.Tops.{depth-is}
+use Rattle.cilk_agree.proofs.stands_laws.Steps.{awaits-same, return-stands, lent-seen}
+use Rattle.cilk_agree.proofs.stands_laws.Values.{cell-same}
+use Rattle.cilk_agree.specs.spawn.Nodes.{has_live_child, is_synched}
 use Rattle.cilk_agree.specs.Laws.{Turn, path_of, instance_of}
 use Rattle.cilk_agree.specs.Asked.{Asked}
 use Rattle.cilk_agree.proofs.Alone.{holds}
@@ -43,14 +43,14 @@ outer-is t = ap (λ d. d == 1) (depth-is (label t.program) t.frame (instance_of 
     by_below (m ∷ ms) = ne_eqb (suc (suc (length ms))) 1 (λ h. omega (arith, h))
 
 -- cells that hold what a body sees
-pub sight-seen : (t : Turn) (asked : Asked t) (f : Rattle.cilk_frame.specs.Frames.Frame) (i : Instance) → StandsFor (label t.program) f i → f.id ≡ t.frame.id → i.waiting ≡ (instance_of t).waiting
+pub sight-seen : (t : Turn) (asked : Asked t) (f : Rattle.cilk_agree.specs.frame.Frames.Frame) (i : Instance) → StandsFor (label t.program) f i → f.id ≡ t.frame.id → i.waiting ≡ (instance_of t).waiting
     → Seen (label t.program) i.top.body (cells_by (sight_in t) f) (store_of t.at.state (path_of t) i)
 sight-seen t asked f i s own waiting =
     let o = t.agrees.outside in
     let same : is_synched t.machine.nodes f.id ≡ state.is_synched t.at.state (path_of t) i =
     ap (is_synched t.machine.nodes) own ∙ sym asked.synched ∙ ap (λ ws. not (state.has_live_child t.at.state.instances (path_of t)) && is_empty ws) (sym waiting) in
-    subst (λ zs. Seen (label t.program) i.top.body (Rattle.cilk_stands.specs.Reads.lent f zs (is_synched t.machine.nodes f.id)) (store_of t.at.state (path_of t) i)) (sym o.cells)
-    (subst (λ y. Seen (label t.program) i.top.body (Rattle.cilk_stands.specs.Reads.lent f (Rattle.cilk_nodes.specs.Slots.flat t.at.state.globals) y) (store_of t.at.state (path_of t) i)) (sym same)
+    subst (λ zs. Seen (label t.program) i.top.body (Rattle.cilk_agree.specs.stands.Reads.lent f zs (is_synched t.machine.nodes f.id)) (store_of t.at.state (path_of t) i)) (sym o.cells)
+    (subst (λ y. Seen (label t.program) i.top.body (Rattle.cilk_agree.specs.stands.Reads.lent f (Rattle.cilk_agree.specs.nodes.Slots.flat t.at.state.globals) y) (store_of t.at.state (path_of t) i)) (sym same)
     (lent-seen (label t.program) f i t.at.state.globals (state.is_synched t.at.state (path_of t) i) s o.sizes))
 
 module _ (t : Turn) (asked : Asked t) (m : ℕ) where
@@ -75,7 +75,7 @@ module _ (t : Turn) (asked : Asked t) (m : ℕ) where
       let target-is : target_of_node (node_of t.program w.n) ≡ Some a.target =
       ap target_of_node a.there ∙ ap Rattle.cilk_plans.specs.Made.target_of_action a.calls in
       let back : StandsFor program (left t.frame) (record i { top = caller; below = below }) = return-stands program t.frame i caller below stands is in
-      let resumed-is : resumed i ≡ record i { top = caller; below = below } = ap (Rattle.cilk_model.specs.Change.resumed_to i) is in
+      let resumed-is : resumed i ≡ record i { top = caller; below = below } = ap (Rattle.cilk_agree.specs.model.Change.resumed_to i) is in
       let seen = sight-seen t asked (left t.frame) (record i { top = caller; below = below }) back refl refl in
       let cell : slot_cell (cells_by g (left t.frame)) a.target.place.slot w.index ≡ cell_of (store_of s (path_of t) (resumed i)) r.cell.place r.cell.index =
       (λ j. slot_cell (cells_by g (left t.frame)) (a.same.slot_is j) (a.same.index_is j))
@@ -107,7 +107,7 @@ module _ (t : Turn) (asked : Asked t) (m : ℕ) where
     where
       function-is : is_function_body (body_of t.program node.body) ≡ leaves_function program i
       function-is = ap (λ c. is_function_body (body_of t.program c)) body
-          ∙ ap is_function_body (bodies-have t.program i.top.body (Rattle.cilk_stands.proofs.Tops.top-stands program t.frame i stands).acts.is_there)
+          ∙ ap is_function_body (bodies-have t.program i.top.body (Rattle.cilk_agree.proofs.stands_laws.Tops.top-stands program t.frame i stands).acts.is_there)
 
       inner : Bool → Rattle.cilk_plans.specs.declared.plan.Plan.Plan
       inner function = if function then answered g m z (top_of t.frame).awaits else plan.Leave m

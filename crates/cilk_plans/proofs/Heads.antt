@@ -1,23 +1,23 @@
 -- The head of the instance in a worker's hand, as nodes and items tell it.
 use Rattle.std.proofs.Common.{◌≡◌, ℕ, ◌<◌, Bool, true, false, List, ◌∷◌, length, Option, Some, None, refl, sym, ap, ◌∙◌, subst}
 use Rattle.std.specs.Prelude.{is_some, IsSome, unwrap_or, option_map}
-use Rattle.cilk_check.specs.Fault.{WellFormed}
-use Rattle.cilk_syntax.specs.Tree.{Program}
-use Rattle.cilk_labelled.specs.Labelled.{Labelled, Numbered}
-use Rattle.cilk_labelled.specs.Items.{Items, opened, next, head_of, reached}
-use Rattle.cilk_labelled.specs.Bodies.{label}
-use Rattle.cilk_heads.specs.Heads.{GoesOn}
-use Rattle.cilk_model.specs.Instance.{Instance, body_at}
-use Rattle.cilk_nodes.specs.declared.node.Node.{Node}
-use Rattle.cilk_nodes.specs.Actions.{slotted}
-use Rattle.cilk_nodes.specs.Slots.{slot_of}
-use Rattle.cilk_nodes.specs.Table.{number_of, number_after, node_over, node_of, successor}
-use Rattle.cilk_nodes.specs.Laws.{Reached}
-use Rattle.cilk_nodes.proofs.Heads.{nodes-stand}
-use Rattle.cilk_frame.specs.Frames.{top_of}
-use Rattle.cilk_stands.specs.Stands.{StandsFor}
-use Rattle.cilk_stands.proofs.Tops.{Stands, top-stands}
-use Rattle.cilk_sound.specs.Known.{KnownAct}
+use Rattle.cilk_agree.specs.check.Fault.{WellFormed}
+use Rattle.cilk_agree.specs.syntax.Tree.{Program}
+use Rattle.cilk_agree.specs.labelled.Labelled.{Labelled, Numbered}
+use Rattle.cilk_agree.specs.labelled.Items.{Items, opened, next, head_of, reached}
+use Rattle.cilk_agree.specs.labelled.Bodies.{label}
+use Rattle.cilk_effects.specs.heads.Heads.{GoesOn}
+use Rattle.cilk_agree.specs.model.Instance.{Instance, body_at}
+use Rattle.cilk_agree.specs.nodes.declared.node.Node.{Node}
+use Rattle.cilk_agree.specs.nodes.Actions.{slotted}
+use Rattle.cilk_agree.specs.nodes.Slots.{slot_of}
+use Rattle.cilk_agree.specs.nodes.Table.{number_of, number_after, node_over, node_of, successor}
+use Rattle.cilk_agree.specs.nodes.Laws.{Reached}
+use Rattle.cilk_agree.proofs.nodes_laws.Heads.{nodes-stand}
+use Rattle.cilk_agree.specs.frame.Frames.{top_of}
+use Rattle.cilk_agree.specs.stands.Stands.{StandsFor}
+use Rattle.cilk_agree.proofs.stands_laws.Tops.{Stands, top-stands}
+use Rattle.cilk_effects.specs.sound.Known.{KnownAct}
 use Rattle.cilk_agree.specs.Laws.{Turn, instance_of}
 use Rattle.cilk_agree.specs.Actions.{IsNext}
 use Rattle.cilk_agree.proofs.Alone.{holds}
@@ -85,7 +85,7 @@ module _ (t : Turn) (sound : Sound t.program) where
       let at : Reached t.program b top.acts.answers head.number =
       record { is_there = there; number = ap number_of (sym top.acts.reached_by) ∙ top.acts.node_is ∙ ap Some (sym head-of.number) } in
       nodes-stand t.program b top.acts.answers head.number sound.well at
-      ∙ ap (λ xs. Rattle.cilk_nodes.specs.Table.node_at program b xs) (sym top.acts.reached_by)
+      ∙ ap (λ xs. Rattle.cilk_agree.specs.nodes.Table.node_at program b xs) (sym top.acts.reached_by)
       ∙ ap (option_map (λ (h : Numbered). record { action = slotted (slot_of program b) h.act; next = number_after true items; other = number_after false items; body = b })) head-of.is
 
   pub known : KnownAct program b head.act

@@ -1,42 +1,42 @@
 -- The plan of a step is the step.
 use Rattle.std.proofs.Common.{◌≡◌, ℕ, ℤ, Bool, true, false, not, ◌&&◌, ◌||◌, List, [], ◌∷◌, Some, Result, Ok, Err, refl, sym, ap, ◌∙◌, subst, if◌then◌else◌}
-use Rattle.cilk_values.specs.declared.trap.Trap.{Trap}
-use Rattle.cilk_values.specs.Value.{Environment}
-use Rattle.cilk_eval.specs.declared.slot.Slot.{Slot}
-use Rattle.cilk_labelled.specs.Labelled.{Declaration, Labelled, Action, assign, call, spawn, print, locking, null, break_off, go_round, tests, sync, abort, return_with, return_nothing, close}
-use Rattle.cilk_labelled.specs.Items.{head_of}
-use Rattle.cilk_labelled.specs.Bodies.{label}
-use Rattle.cilk_model.specs.Values.{environment}
-use Rattle.cilk_model.specs.Instance as model
-use Rattle.cilk_model.specs.Instance.{Instance, body_at, owner_at}
-use Rattle.cilk_model.specs.State as state
-use Rattle.cilk_model.specs.State.{is_empty, store_of}
-use Rattle.cilk_model.specs.Effect as effect
-use Rattle.cilk_model.specs.Effect.{effect_of}
-use Rattle.cilk_model.specs.Change as change
-use Rattle.cilk_model.specs.Change.{is_function, leaves_function}
-use Rattle.cilk_model.specs.Event.{ended}
-use Rattle.cilk_model.specs.Pick.{Step, parks, ends, traps, step_by_effect, step_by_head, step_at_boundary, step_of_aborted, step_of_instance, step_of_live}
-use Rattle.cilk_nodes.specs.declared.node.Node.{Node}
-use Rattle.cilk_nodes.specs.Actions.{slotted}
-use Rattle.cilk_nodes.specs.Slots.{slot_of}
-use Rattle.cilk_nodes.specs.Table as table
-use Rattle.cilk_nodes.specs.Bodies.{body_of}
-use Rattle.cilk_nodes.proofs.Heads.{bodies-have}
+use Rattle.cilk_agree.specs.values.declared.trap.Trap.{Trap}
+use Rattle.cilk_agree.specs.values.Value.{Environment}
+use Rattle.cilk_agree.specs.eval.declared.slot.Slot.{Slot}
+use Rattle.cilk_agree.specs.labelled.Labelled.{Declaration, Labelled, Action, assign, call, spawn, print, locking, null, break_off, go_round, tests, sync, abort, return_with, return_nothing, close}
+use Rattle.cilk_agree.specs.labelled.Items.{head_of}
+use Rattle.cilk_agree.specs.labelled.Bodies.{label}
+use Rattle.cilk_agree.specs.model.Values.{environment}
+use Rattle.cilk_agree.specs.model.Instance as model
+use Rattle.cilk_agree.specs.model.Instance.{Instance, body_at, owner_at}
+use Rattle.cilk_agree.specs.model.State as state
+use Rattle.cilk_agree.specs.model.State.{is_empty, store_of}
+use Rattle.cilk_agree.specs.model.Effect as effect
+use Rattle.cilk_agree.specs.model.Effect.{effect_of}
+use Rattle.cilk_agree.specs.model.Change as change
+use Rattle.cilk_agree.specs.model.Change.{is_function, leaves_function}
+use Rattle.cilk_agree.specs.model.Event.{ended}
+use Rattle.cilk_agree.specs.model.Pick.{Step, parks, ends, traps, step_by_effect, step_by_head, step_at_boundary, step_of_aborted, step_of_instance, step_of_live}
+use Rattle.cilk_agree.specs.nodes.declared.node.Node.{Node}
+use Rattle.cilk_agree.specs.nodes.Actions.{slotted}
+use Rattle.cilk_agree.specs.nodes.Slots.{slot_of}
+use Rattle.cilk_agree.specs.nodes.Table as table
+use Rattle.cilk_agree.specs.nodes.Bodies.{body_of}
+use Rattle.cilk_agree.proofs.nodes_laws.Heads.{bodies-have}
 use Rattle.cilk_effects.specs.Effects.{effect_in}
 use Rattle.cilk_effects.specs.Slotted.{ReachesCells, slotted_effect, slotted_result}
 use Rattle.cilk_effects.proofs.Same.{effect-same, effect-reaches}
 use Rattle.cilk_effects.proofs.Shapes.{ShapeOf, shape}
 use Rattle.cilk_effects.proofs.Shapes as shapes
-use Rattle.cilk_spawn.specs.declared.delivery.Delivery.{Delivery}
-use Rattle.cilk_spawn.specs.Nodes.{has_live_child, is_synched, path_at}
+use Rattle.cilk_agree.specs.spawn.declared.delivery.Delivery.{Delivery}
+use Rattle.cilk_agree.specs.spawn.Nodes.{has_live_child, is_synched, path_at}
 use Rattle.cilk_agree.specs.Alike.{SameDeliveries}
 use Rattle.cilk_agree.specs.Laws.{Turn, path_of, node_of, instance_of}
 use Rattle.cilk_agree.specs.Asked.{Asked}
 use Rattle.cilk_agree.proofs.Actions.{told}
 use Rattle.cilk_agree.proofs.Asked.{oldest-told}
 use Rattle.cilk_agree.proofs.Alone.{holds}
-use Rattle.cilk_spawn.specs.declared.kind.Kind.TheVariants as kind
+use Rattle.cilk_agree.specs.spawn.declared.kind.Kind.TheVariants as kind
 use Rattle.cilk_plans.specs.declared.plan.Plan.TheVariants as plan
 use Rattle.cilk_plans.specs.Made as made
 use Rattle.cilk_plans.specs.Made.{by_effect, planned, by_head, by_node, by_deliveries, acted, is_function_body}

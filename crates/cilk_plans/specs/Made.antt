@@ -1,30 +1,30 @@
 -- The plan of a step, as the code makes it.
 use Rattle.std.specs.Prelude.{ℕ, ◌+◌, ◌-◌, ◌^◌, ℤ, Bool, true, false, not, ◌&&◌, ◌||◌, nat_lt, nat_le, if◌then◌else◌, List, [], ◌∷◌, length, Option, Some, None, Result, Ok, Err, unwrap_or}
-use Rattle.cilk_values.specs.declared.trap.Trap.{Trap}
-use Rattle.cilk_eval.specs.Slots.{slot_cell}
-use Rattle.cilk_model.specs.Values.{combined}
-use Rattle.cilk_model.specs.Change.{is_function}
-use Rattle.cilk_nodes.specs.declared.body.Body.{Body}
-use Rattle.cilk_nodes.specs.declared.node.Node as action
-use Rattle.cilk_nodes.specs.declared.target.Target.{Target}
-use Rattle.cilk_nodes.specs.declared.taker.Taker.{Taker}
-use Rattle.cilk_nodes.specs.declared.taker.Taker.TheVariants.{Nothing, Into, Through}
-use Rattle.cilk_nodes.specs.declared.action.Action.{Action}
-use Rattle.cilk_nodes.specs.declared.action.Action.TheVariants.{Assign, Call, Spawn, Print, Locking, Null, Break, Continue, Test, Sync, Abort, Return, ReturnNothing, Close}
-use Rattle.cilk_nodes.specs.Table.{successor, node_of}
-use Rattle.cilk_nodes.specs.Bodies.{body_of}
-use Rattle.cilk_frame.specs.declared.awaited.Await.{Await}
-use Rattle.cilk_frame.specs.Frames.{depth, top_of, left}
-use Rattle.cilk_spawn.specs.declared.delivery.Delivery.{Delivery}
-use Rattle.cilk_spawn.specs.declared.receiver.Receiver as receiver
-use Rattle.cilk_spawn.specs.declared.receiver.Receiver.{Receiver}
-use Rattle.cilk_spawn.specs.Nodes.{is_synched, has_live_child, live_ids}
+use Rattle.cilk_agree.specs.values.declared.trap.Trap.{Trap}
+use Rattle.cilk_agree.specs.eval.Slots.{slot_cell}
+use Rattle.cilk_agree.specs.model.Values.{combined}
+use Rattle.cilk_agree.specs.model.Change.{is_function}
+use Rattle.cilk_agree.specs.nodes.declared.body.Body.{Body}
+use Rattle.cilk_agree.specs.nodes.declared.node.Node as action
+use Rattle.cilk_agree.specs.nodes.declared.target.Target.{Target}
+use Rattle.cilk_agree.specs.nodes.declared.taker.Taker.{Taker}
+use Rattle.cilk_agree.specs.nodes.declared.taker.Taker.TheVariants.{Nothing, Into, Through}
+use Rattle.cilk_agree.specs.nodes.declared.action.Action.{Action}
+use Rattle.cilk_agree.specs.nodes.declared.action.Action.TheVariants.{Assign, Call, Spawn, Print, Locking, Null, Break, Continue, Test, Sync, Abort, Return, ReturnNothing, Close}
+use Rattle.cilk_agree.specs.nodes.Table.{successor, node_of}
+use Rattle.cilk_agree.specs.nodes.Bodies.{body_of}
+use Rattle.cilk_agree.specs.frame.declared.awaited.Await.{Await}
+use Rattle.cilk_agree.specs.frame.Frames.{depth, top_of, left}
+use Rattle.cilk_agree.specs.spawn.declared.delivery.Delivery.{Delivery}
+use Rattle.cilk_agree.specs.spawn.declared.receiver.Receiver as receiver
+use Rattle.cilk_agree.specs.spawn.declared.receiver.Receiver.{Receiver}
+use Rattle.cilk_agree.specs.spawn.Nodes.{is_synched, has_live_child, live_ids}
 use Rattle.cilk_effects.specs.declared.effect.Effect.{Effect}
 use Rattle.cilk_effects.specs.declared.effect.Effect.TheVariants.{Writes, Answers, Enters, Gives, Starts, Prints, Turns, Marks}
 use Rattle.cilk_effects.specs.Effects.{effect_in}
 use Rattle.cilk_agree.specs.Locks.{LockTurn, turned, refused, blocked, turn_among}
-use Rattle.cilk_spawn.specs.declared.kind.Kind.{Kind}
-use Rattle.cilk_spawn.specs.declared.kind.Kind.TheVariants as kind
+use Rattle.cilk_agree.specs.spawn.declared.kind.Kind.{Kind}
+use Rattle.cilk_agree.specs.spawn.declared.kind.Kind.TheVariants as kind
 use Rattle.cilk_plans.specs.declared.plan.Plan.{Plan}
 use Rattle.cilk_plans.specs.declared.plan.Plan.TheVariants as plan
 use Rattle.cilk_plans.specs.Sights.{Sight, id_of, own_node, head_number, cells_by, cells_in, holds_lock, is_outer}

@@ -1,26 +1,26 @@
 -- What a plan says of the step of an instance that the definition of runs takes.
 use Rattle.std.specs.Prelude.{◌≡◌, ◌<◌, ◌+◌, ◌^◌, ℕ, ℤ, Bool, true, false, List, ◌∷◌, length, Option, Some}
-use Rattle.cilk_labelled.specs.Bodies.{label}
-use Rattle.cilk_model.specs.Path.{child_path}
-use Rattle.cilk_model.specs.Values.{Cell, Reached}
-use Rattle.cilk_model.specs.Instance as model
-use Rattle.cilk_model.specs.Instance.{Activation, Delivery, body_at}
-use Rattle.cilk_model.specs.State.{State}
-use Rattle.cilk_model.specs.Event.{acted, spawned, delivered, returned, ended, trapped}
-use Rattle.cilk_model.specs.Change.{stopped, after_going, after_write, after_place, after_inlet, after_call, after_leaving, after_answer, after_return, after_start, after_print, after_lock, after_marks, after_abort}
-use Rattle.cilk_model.specs.Pick.{Step, waits, parks, goes_on, ends, spawns, step_of}
-use Rattle.cilk_seen.specs.Made.{callee_of}
-use Rattle.cilk_scopes.specs.declared.owner.Owner.TheVariants.{Function, Inlet}
-use Rattle.cilk_syntax.specs.declared.return_type.ReturnType.{ReturnType}
-use Rattle.cilk_nodes.specs.Slots.{is_inlet, procedure_around}
-use Rattle.cilk_nodes.specs.Bodies.{body_of}
-use Rattle.cilk_frame.specs.declared.awaited.Await.{Await}
-use Rattle.cilk_frame.specs.Frames.{depth}
-use Rattle.cilk_stands.specs.Starts.{Takes}
-use Rattle.cilk_stands.specs.Cells.{SameCell}
-use Rattle.cilk_stands.specs.Stands.{AwaitsSame, bodies_of}
-use Rattle.cilk_spawn.specs.declared.receiver.Receiver.{Receiver}
-use Rattle.cilk_spawn.specs.Nodes.{has_live_child, path_at}
+use Rattle.cilk_agree.specs.labelled.Bodies.{label}
+use Rattle.cilk_agree.specs.model.Path.{child_path}
+use Rattle.cilk_agree.specs.model.Values.{Cell, Reached}
+use Rattle.cilk_agree.specs.model.Instance as model
+use Rattle.cilk_agree.specs.model.Instance.{Activation, Delivery, body_at}
+use Rattle.cilk_agree.specs.model.State.{State}
+use Rattle.cilk_agree.specs.model.Event.{acted, spawned, delivered, returned, ended, trapped}
+use Rattle.cilk_agree.specs.model.Change.{stopped, after_going, after_write, after_place, after_inlet, after_call, after_leaving, after_answer, after_return, after_start, after_print, after_lock, after_marks, after_abort}
+use Rattle.cilk_agree.specs.model.Pick.{Step, waits, parks, goes_on, ends, spawns, step_of}
+use Rattle.cilk_agree.specs.seen.Made.{callee_of}
+use Rattle.cilk_agree.specs.scopes.declared.owner.Owner.TheVariants.{Function, Inlet}
+use Rattle.cilk_agree.specs.syntax.declared.return_type.ReturnType.{ReturnType}
+use Rattle.cilk_agree.specs.nodes.Slots.{is_inlet, procedure_around}
+use Rattle.cilk_agree.specs.nodes.Bodies.{body_of}
+use Rattle.cilk_agree.specs.frame.declared.awaited.Await.{Await}
+use Rattle.cilk_agree.specs.frame.Frames.{depth}
+use Rattle.cilk_agree.specs.stands.Starts.{Takes}
+use Rattle.cilk_agree.specs.stands.Cells.{SameCell}
+use Rattle.cilk_agree.specs.stands.Stands.{AwaitsSame, bodies_of}
+use Rattle.cilk_agree.specs.spawn.declared.receiver.Receiver.{Receiver}
+use Rattle.cilk_agree.specs.spawn.Nodes.{has_live_child, path_at}
 use Rattle.cilk_effects.specs.declared.reached.Reached as code
 use Rattle.cilk_agree.specs.declared.lock.Lock.{Lock}
 use Rattle.cilk_agree.specs.Outside.{LockWithin, lock_by}
@@ -29,7 +29,7 @@ use Rattle.cilk_agree.specs.Laws.{Turn, path_of, node_of, instance_of}
 use Rattle.cilk_agree.specs.Actions.{IsNext}
 use Rattle.cilk_plans.specs.declared.plan.Plan as plan
 use Rattle.cilk_plans.specs.declared.plan.Plan.{Plan}
-use Rattle.cilk_spawn.specs.Kinds.{kind_of}
+use Rattle.cilk_agree.specs.spawn.Kinds.{kind_of}
 use Rattle.cilk_plans.specs.Sights.{Sight}
 
 -- what the step of the instance in the hand looks at

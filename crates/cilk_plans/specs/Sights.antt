@@ -1,11 +1,11 @@
 -- What a step looks at.
 use Rattle.std.specs.Prelude.{ℕ, ℤ, Bool, List, ◌==◌}
 use Rattle.std.specs.List.{list_any}
-use Rattle.cilk_syntax.specs.Tree.{Program}
-use Rattle.cilk_eval.specs.Slots.{Cells}
-use Rattle.cilk_frame.specs.Frames.{Frame, depth, top_of}
-use Rattle.cilk_stands.specs.Reads.{lent}
-use Rattle.cilk_spawn.specs.Nodes.{Node, node_at, is_synched}
+use Rattle.cilk_agree.specs.syntax.Tree.{Program}
+use Rattle.cilk_agree.specs.eval.Slots.{Cells}
+use Rattle.cilk_agree.specs.frame.Frames.{Frame, depth, top_of}
+use Rattle.cilk_agree.specs.stands.Reads.{lent}
+use Rattle.cilk_agree.specs.spawn.Nodes.{Node, node_at, is_synched}
 use Rattle.cilk_agree.specs.declared.lock.Lock.{Lock}
 use Rattle.cilk_agree.specs.Locks.{is_held_by}
 

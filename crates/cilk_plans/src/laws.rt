@@ -1,6 +1,6 @@
 //! The law of plans. The function does nothing: its contract is what is proved.
 
-ghost use Rattle.cilk_check.specs.Fault.{WellFormed};
+ghost use Rattle.cilk_agree.specs.check.Fault.{WellFormed};
 ghost use Rattle.cilk_agree.specs.Laws.{Turn};
 ghost use Rattle.cilk_plans.specs.Plans.{sight_in, IsPlan};
 ghost use Rattle.cilk_plans.specs.Made.{planned};

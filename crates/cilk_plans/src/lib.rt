@@ -5,7 +5,12 @@ mod laws;
 mod light;
 mod plan;
 
-pub use cilk_spawn::Kind;
+pub use cilk_agree::{
+    Area, Body, Delivery, Ending, Fate, Frame, Hands, Id, Kind, Lock, Program, Tree, Var,
+};
+pub use cilk_effects::{
+    Arguments, Await, Bytes, Effect, Memory, Reached, Receiver, assigned, combined, effect_of, held,
+};
 pub use laws::plans_are_steps;
 pub use light::Light;
 pub use plan::Plan;

@@ -1,5 +1,5 @@
+use cilk_agree::Id;
 use cilk_effects::Reached;
-use cilk_frame::Id;
 
 /// A plan that takes no memory, and after which the instance goes on in the same hand. Most steps have such a one. It is
 /// small, and is copied where a plan is moved.

@@ -1,7 +1,5 @@
-use crate::kind::Kind;
-use cilk_agree::Lock;
+use cilk_agree::{Id, Kind, Lock};
 use cilk_effects::{Arguments, Await, Bytes, Reached, Receiver};
-use cilk_frame::Id;
 
 /// What a step of an instance is to do. Numbers are those of actions: n that of the action that is acted, and `to` that of
 /// the one with which the activation goes on.

@@ -2,20 +2,20 @@
 use Rattle.std.proofs.Common.{◌≡◌, ℕ, Bool, true, false, cond, List, [], ◌∷◌, ◌++◌, codes, Some, inl, inr, refl, ap, ◌∙◌}
 use Rattle.std.specs.Str.{bytes_eq}
 use Rattle.std.proofs.lemmas.Slice.Eq.{bytes_eq-Decides}
-use Rattle.cilk_rules.specs.Rule.{has}
-use Rattle.cilk_expression.specs.Classes.{the_main, the_char, the_printf, the_lock_init, the_lock, the_unlock, other_name}
-use Rattle.cilk_grammar.specs.Grammar.{plain_names}
-use Rattle.cilk_syntax.specs.Tree as tree
-use Rattle.cilk_syntax.specs.Tree.{Word}
-use Rattle.cilk_scopes.specs.declared.fault.CheckFault.TheVariants.{Reserved}
-use Rattle.cilk_scopes.specs.Scopes.{Scopes, parameters_declare, file_scopes}
-use Rattle.cilk_scopes.specs.Parts.{Around, Standing, statement, inner, looped, after_local, after_locals, in_body, in_inlet, owner_of, block_parts, locals_parts, within_local, stmts_parts, within_stmt, item_parts, parts_of}
-use Rattle.cilk_scopes.proofs.Elements.{Has, Contains-from_Has, Has-append_left, Has-append_right, Has-flat_map}
-use Rattle.cilk_rules_of_names.specs.Reserved.{IsReserved}
-use Rattle.cilk_rules_of_names.specs.Uses.{Use, part_uses, uses_of}
-use Rattle.cilk_rules_of_names.specs.Names.{reserved_used}
-use Rattle.cilk_rules_of_names.specs.Finds.{is_reserved}
-use Rattle.cilk_rules_of_names.proofs.Decided.{reserved-Decides}
+use Rattle.cilk_parse.specs.rules.Rule.{has}
+use Rattle.cilk_parse.specs.expression.Classes.{the_main, the_char, the_printf, the_lock_init, the_lock, the_unlock, other_name}
+use Rattle.cilk_parse.specs.grammar.Grammar.{plain_names}
+use Rattle.cilk_check.specs.syntax.Tree as tree
+use Rattle.cilk_check.specs.syntax.Tree.{Word}
+use Rattle.cilk_check.specs.scopes.declared.fault.CheckFault.TheVariants.{Reserved}
+use Rattle.cilk_check.specs.scopes.Scopes.{Scopes, parameters_declare, file_scopes}
+use Rattle.cilk_check.specs.scopes.Parts.{Around, Standing, statement, inner, looped, after_local, after_locals, in_body, in_inlet, owner_of, block_parts, locals_parts, within_local, stmts_parts, within_stmt, item_parts, parts_of}
+use Rattle.cilk_check.proofs.scopes_laws.Elements.{Has, Contains-from_Has, Has-append_left, Has-append_right, Has-flat_map}
+use Rattle.cilk_check.specs.rules_of_names.Reserved.{IsReserved}
+use Rattle.cilk_check.specs.rules_of_names.Uses.{Use, part_uses, uses_of}
+use Rattle.cilk_check.specs.rules_of_names.Names.{reserved_used}
+use Rattle.cilk_check.specs.rules_of_names.Finds.{is_reserved}
+use Rattle.cilk_check.proofs.rules_of_names_laws.Decided.{reserved-Decides}
 use Rattle.cilk_check.specs.Fault.{WellFormed}
 use Rattle.cilk_reread.specs.Plain.{IsPlain, PlainMove, PlainStmt, PlainStmts, PlainLocal, PlainLocals, PlainBlock, PlainItem, PlainItems}
 

@@ -1,12 +1,12 @@
 -- The canonical text of a program that a text spells and that breaks no rule is a text of the same program.
 use Rattle.std.proofs.Common.{◌≡◌, ℕ, List, length, refl, arith}
-use Rattle.cilk_lexeme.specs.Lexeme.{Piece}
-use Rattle.cilk_syntax.specs.Tree as tree
-use Rattle.cilk_syntax.specs.Bare.{bare_program}
-use Rattle.cilk_canonical.specs.ProgramText.{program_text}
-use Rattle.cilk_canonical.proofs.BareText.{program_text_same}
-use Rattle.cilk_expression.specs.Grammar.{operator_limit, parenthesis_limit}
-use Rattle.cilk_grammar.specs.Spelling.{SpellsProgram, nesting_limit}
+use Rattle.cilk_check.specs.lexeme.Lexeme.{Piece}
+use Rattle.cilk_check.specs.syntax.Tree as tree
+use Rattle.cilk_check.specs.syntax.Bare.{bare_program}
+use Rattle.cilk_reread.specs.canonical.ProgramText.{program_text}
+use Rattle.cilk_reread.proofs.canonical_laws.BareText.{program_text_same}
+use Rattle.cilk_parse.specs.expression.Grammar.{operator_limit, parenthesis_limit}
+use Rattle.cilk_parse.specs.grammar.Spelling.{SpellsProgram, nesting_limit}
 use Rattle.cilk_parse.specs.Text.{Spells}
 use Rattle.cilk_check.specs.Fault.{WellFormed}
 use Rattle.cilk_reread.proofs.GoodTrees.{printed}

@@ -2,9 +2,9 @@
 //! are the laws.
 
 ghost use Rattle.std.specs.Prelude.{◌≡◌, ℕ, List};
-ghost use Rattle.cilk_canonical.specs.ProgramText.{program_text};
-ghost use Rattle.cilk_syntax.specs.Tree as tree;
-ghost use Rattle.cilk_syntax.specs.Bare.{bare_program};
+ghost use Rattle.cilk_reread.specs.canonical.ProgramText.{program_text};
+ghost use Rattle.cilk_check.specs.syntax.Tree as tree;
+ghost use Rattle.cilk_check.specs.syntax.Bare.{bare_program};
 ghost use Rattle.cilk_parse.specs.Text.{Spells};
 ghost use Rattle.cilk_check.specs.Fault.{WellFormed};
 ghost use Rattle.cilk_reread.specs.Plain.{PlainItems};

@@ -1,10 +1,10 @@
 -- Lists read one after another, and statements at a depth.
 use Rattle.std.proofs.Common.{◌≡◌, ℕ, zero, suc, ◌-◌, ◌<◌, true, false, List, [], ◌∷◌, ◌++◌, refl, sym, ap, ◌∙◌, arith, append_assoc}
-use Rattle.cilk_lexeme.specs.Lexeme.{Piece}
-use Rattle.cilk_lexeme.specs.declared.mark.Mark.TheVariants.{OpenBrace}
+use Rattle.cilk_grammar.specs.lexeme.Lexeme.{Piece}
+use Rattle.cilk_grammar.specs.lexeme.declared.mark.Mark.TheVariants.{OpenBrace}
 use Rattle.cilk_rules.specs.Rule.{has, is, class_at}
-use Rattle.cilk_expression.specs.Classes.{cls, a_mark}
-use Rattle.cilk_expression.specs.Grammar.{operator_limit, parenthesis_limit}
+use Rattle.cilk_grammar.specs.expression.Classes.{cls, a_mark}
+use Rattle.cilk_grammar.specs.expression.Grammar.{operator_limit, parenthesis_limit}
 use Rattle.cilk_grammar.specs.Forms.{joined}
 use Rattle.cilk_grammar.specs.Grammar.{no_block_rule}
 use Rattle.cilk_grammar.specs.Parts.{a_statement, no_block}

@@ -1,14 +1,14 @@
 -- A loop that reads one after another by a rule.
 use Rattle.std.proofs.Common.{◌≡◌, ℕ, ◌<◌, true, false, List, [], ◌∷◌, ◌++◌, Ok, length}
-use Rattle.cilk_lexeme.specs.Lexeme.{Piece}
+use Rattle.cilk_grammar.specs.lexeme.Lexeme.{Piece}
 use Rattle.cilk_rules.specs.declared.fault.ReadError.{ReadError}
 use Rattle.cilk_rules.specs.Gives.{Fails, onto}
 use Rattle.cilk_rules.specs.Rule as rule
 use Rattle.cilk_rules.specs.Rule.{Rule, Read, has, many, nullable, class_at}
 use Rattle.cilk_rules.proofs.LocalRules.{shorter}
 use Rattle.cilk_rules.proofs.Loops as loops
-use Rattle.cilk_expression.specs.Classes.{cls}
-use Rattle.cilk_expression.specs.Grammar.{operator_limit, parenthesis_limit}
+use Rattle.cilk_grammar.specs.expression.Classes.{cls}
+use Rattle.cilk_grammar.specs.expression.Grammar.{operator_limit, parenthesis_limit}
 use Rattle.cilk_grammar.specs.Parts.{Means}
 use Rattle.cilk_grammar.specs.Spelling.{first_of, read_at}
 use Rattle.cilk_grammar.proofs.Nests.{says, parts, begin_at, sound_at}

@@ -3,13 +3,13 @@ use Rattle.std.proofs.Common.{◌≡◌, ℕ, ◌==◌, Bool, true, false, if◌
 use Rattle.std.specs.Option.{option_eq}
 use Rattle.std.proofs.lemmas.Bool.{eqb-true, eq-eqb, false_from_ne_true}
 use denote.Enum.Bare.{sameb, same_true, same_false}
-use Rattle.cilk_expression.specs.declared.name_class.NameClass.{NameClass}
-use Rattle.cilk_expression.specs.contracts.name_class.NameClass as name_type
-use Rattle.cilk_expression.specs.declared.name_class.NameClass.TheVariants as class
-use Rattle.cilk_expression.specs.contracts.name_class.NameClassPartialEq.TheImpl.{eq-value}
+use Rattle.cilk_grammar.specs.expression.declared.name_class.NameClass.{NameClass}
+use Rattle.cilk_grammar.specs.expression.contracts.name_class.NameClass as name_type
+use Rattle.cilk_grammar.specs.expression.declared.name_class.NameClass.TheVariants as class
+use Rattle.cilk_grammar.specs.expression.contracts.name_class.NameClassPartialEq.TheImpl.{eq-value}
 use Rattle.cilk_rules.specs.Rule.{is}
-use Rattle.cilk_expression.specs.Operators.{found}
-use Rattle.cilk_expression.specs.Names.{name_classes, named_class, named_in}
+use Rattle.cilk_grammar.specs.expression.Operators.{found}
+use Rattle.cilk_grammar.specs.expression.Names.{name_classes, named_class, named_in}
 use Rattle.cilk_reader.specs.Names.{number_of}
 
 -- the row of a table that is found is of the class that was looked for

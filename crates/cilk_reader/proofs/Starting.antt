@@ -1,11 +1,11 @@
 -- With which tokens rules begin.
 use Rattle.std.proofs.Common.{◌≡◌, ℕ, ◌||◌, Bool, true, false, [], ◌∷◌, Option, refl, sym, ap, ◌∙◌}
-use Rattle.cilk_lexeme.specs.declared.mark.Mark.TheVariants.{Increment, Decrement}
+use Rattle.cilk_grammar.specs.lexeme.declared.mark.Mark.TheVariants.{Increment, Decrement}
 use Rattle.cilk_rules.specs.Rule as rule
 use Rattle.cilk_rules.specs.Rule.{has, is}
 use Rattle.cilk_rules.proofs.Tokens.{has_append}
 use Rattle.cilk_rules.proofs.Tools.{or_nothing}
-use Rattle.cilk_expression.specs.Classes.{a_mark, names, the_main, the_char, the_printf, the_lock_init, the_lock, the_unlock, other_name}
+use Rattle.cilk_grammar.specs.expression.Classes.{a_mark, names, the_main, the_char, the_printf, the_lock_init, the_lock, the_unlock, other_name}
 use Rattle.cilk_grammar.specs.Grammar.{move}
 use Rattle.cilk_grammar.specs.Spelling.{first_of, begins}
 use Rattle.cilk_grammar.specs.Parts.{no_block}

@@ -1,13 +1,13 @@
 -- Single tokens, as the cursor reads them.
 use Rattle.std.proofs.Common.{◌≡◌, ℕ, Bool, true, false, if◌then◌else◌, List, [], ◌∷◌, length, Some, None, Ok, Err, refl}
-use Rattle.cilk_lexeme.specs.Lexeme.{Lexeme, Piece, word, name, number, mark, literal, inclusion}
-use Rattle.cilk_lexeme.specs.declared.keyword.Keyword.{Keyword}
+use Rattle.cilk_grammar.specs.lexeme.Lexeme.{Lexeme, Piece, word, name, number, mark, literal, inclusion}
+use Rattle.cilk_grammar.specs.lexeme.declared.keyword.Keyword.{Keyword}
 use Rattle.cilk_rules.specs.declared.fault.Fault.TheVariants.{Unexpected}
-use Rattle.cilk_syntax.specs.Tree.{Word}
+use Rattle.cilk_grammar.specs.syntax.Tree.{Word}
 use Rattle.cilk_rules.specs.Rule.{◌>>=◌, Read, has, is, class_at, token_at, wanted}
-use Rattle.cilk_expression.specs.Classes.{a_word, a_number, a_literal, an_inclusion, names, cls, class_of}
-use Rattle.cilk_expression.specs.Front.{place_at, name_at, name_by, number_at, number_by, header_at, header_by, literal_at, literal_by}
-use Rattle.cilk_expression.proofs.ClassFacts.{names_are}
+use Rattle.cilk_grammar.specs.expression.Classes.{a_word, a_number, a_literal, an_inclusion, names, cls, class_of}
+use Rattle.cilk_grammar.specs.expression.Front.{place_at, name_at, name_by, number_at, number_by, header_at, header_by, literal_at, literal_by}
+use Rattle.cilk_grammar.proofs.expression_laws.ClassFacts.{names_are}
 use Rattle.cilk_grammar.specs.Parts.{the_word, the_name, the_number, the_literal, the_header}
 use Rattle.cilk_grammar.specs.Spelling.{said, given, leaf_at}
 

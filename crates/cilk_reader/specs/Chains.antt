@@ -1,7 +1,7 @@
 -- The last alternatives of a statement that is no block.
-use Rattle.cilk_lexeme.specs.declared.keyword.Keyword.TheVariants as key
-use Rattle.cilk_lexeme.specs.declared.mark.Mark.TheVariants.{Semicolon}
-use Rattle.cilk_syntax.specs.Tree as tree
+use Rattle.cilk_grammar.specs.lexeme.declared.keyword.Keyword.TheVariants as key
+use Rattle.cilk_grammar.specs.lexeme.declared.mark.Mark.TheVariants.{Semicolon}
+use Rattle.cilk_grammar.specs.syntax.Tree as tree
 use Rattle.cilk_rules.specs.Rule.{Rule, done, either}
 use Rattle.cilk_grammar.specs.Parts.{Means}
 use Rattle.cilk_grammar.specs.Forms.{mark}

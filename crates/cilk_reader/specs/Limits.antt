@@ -1,8 +1,8 @@
 -- What is read by a rule within the limits of the language.
 use Rattle.std.specs.Prelude.{◌≡◌, ℕ, List, Ok}
-use Rattle.cilk_lexeme.specs.Lexeme.{Piece}
+use Rattle.cilk_grammar.specs.lexeme.Lexeme.{Piece}
 use Rattle.cilk_rules.specs.Rule.{Rule, Read}
-use Rattle.cilk_expression.specs.Grammar.{operator_limit, parenthesis_limit}
+use Rattle.cilk_grammar.specs.expression.Grammar.{operator_limit, parenthesis_limit}
 use Rattle.cilk_grammar.specs.Forms.{joined}
 use Rattle.cilk_grammar.specs.Parts.{Means}
 use Rattle.cilk_grammar.specs.Spelling.{read_at}

@@ -1,8 +1,8 @@
 -- The number of a class of names.
 use Rattle.std.specs.Prelude.{ℕ}
-use Rattle.cilk_expression.specs.declared.name_class.NameClass.{NameClass}
-use Rattle.cilk_expression.specs.declared.name_class.NameClass.TheVariants as class
-use Rattle.cilk_expression.specs.Classes.{the_main, the_char, the_printf, the_lock_init, the_lock, the_unlock, other_name}
+use Rattle.cilk_grammar.specs.expression.declared.name_class.NameClass.{NameClass}
+use Rattle.cilk_grammar.specs.expression.declared.name_class.NameClass.TheVariants as class
+use Rattle.cilk_grammar.specs.expression.Classes.{the_main, the_char, the_printf, the_lock_init, the_lock, the_unlock, other_name}
 
 abbrev pub number_of : NameClass → ℕ
 number_of class.Main = the_main

@@ -1,8 +1,8 @@
 -- With what statements begin.
 use Rattle.std.specs.Prelude.{ℕ, List, [], ◌∷◌}
-use Rattle.cilk_lexeme.specs.declared.keyword.Keyword.TheVariants as key
-use Rattle.cilk_lexeme.specs.declared.mark.Mark.TheVariants as sign
-use Rattle.cilk_expression.specs.Classes.{a_word, a_mark}
+use Rattle.cilk_grammar.specs.lexeme.declared.keyword.Keyword.TheVariants as key
+use Rattle.cilk_grammar.specs.lexeme.declared.mark.Mark.TheVariants as sign
+use Rattle.cilk_grammar.specs.expression.Classes.{a_word, a_mark}
 
 -- the classes with which one begins that is no block, but for those of names
 abbrev pub other_starts : List ℕ

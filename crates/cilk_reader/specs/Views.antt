@@ -1,6 +1,6 @@
 -- What is read of a part of a statement, as the rules of the grammar have it.
 use Rattle.std.specs.Prelude.{Option, None}
-use Rattle.cilk_syntax.specs.Tree as tree
+use Rattle.cilk_grammar.specs.syntax.Tree as tree
 use Rattle.cilk_grammar.specs.Grammar.{place_at, target_at}
 use Rattle.cilk_grammar.specs.Parts as parts
 use Rattle.cilk_reader.specs.declared.action.Action.{Action}

@@ -2,7 +2,7 @@ ghost use Rattle.std.specs.Prelude.{◌≡◌};
 ghost use Rattle.cilk_reader.specs.Views.{action_of};
 
 use crate::right_side::RightSide;
-use cilk_syntax::{Adjustment, BinOp, Move, MoveNode, Place, Target};
+use cilk_grammar::{Adjustment, BinOp, Move, MoveNode, Place, Target};
 
 /// What is done to a place (C 1990, 6.3.16, 6.3.2.4).
 #[derive(Drop)]

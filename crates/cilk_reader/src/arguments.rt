@@ -4,12 +4,10 @@ ghost use Rattle.cilk_grammar.specs.Forms.{mark, expression, behind_commas, comm
 ghost use Rattle.cilk_grammar.specs.Grammar.{arguments, index};
 ghost use Rattle.cilk_grammar.specs.Spelling.{read_at};
 ghost use Rattle.cilk_reader.specs.Limits.{read_by};
-ghost use Rattle.cilk_lexeme.specs.declared.mark.Mark.TheVariants.{Comma};
+ghost use Rattle.cilk_grammar.specs.lexeme.declared.mark.Mark.TheVariants.{Comma};
 
-use cilk_expression::{Cursor, expression};
-use cilk_lexeme::Mark;
+use cilk_grammar::{Cursor, Expr, Mark, expression};
 use cilk_rules::ReadError;
-use cilk_syntax::Expr;
 
 // A comma and an expression.
 #[tactic(auto, unfolding(cilk_grammar::specs::Spelling::read_at))]

@@ -1,14 +1,13 @@
 ghost use Rattle.std.specs.Prelude.{◌≡◌};
 ghost use Rattle.cilk_rules.specs.Rule.{first, has, class_at};
-ghost use Rattle.cilk_expression.specs.Classes.{cls};
+ghost use Rattle.cilk_grammar.specs.expression.Classes.{cls};
 ghost use Rattle.cilk_grammar.specs.Grammar.{local};
 ghost use Rattle.cilk_grammar.specs.Parts.{a_statement, no_block};
 ghost use Rattle.cilk_grammar.specs.Spelling.{begins, first_of};
 ghost use Rattle.cilk_reader.specs.Starts.{other_starts};
 
 use crate::token::is_name;
-use cilk_expression::Cursor;
-use cilk_lexeme::{Keyword, Mark};
+use cilk_grammar::{Cursor, Keyword, Mark};
 
 // Whether the next token is one with which a statement begins that begins with no name and is no block.
 fn begins_otherwise(cursor: &Cursor) -> bool

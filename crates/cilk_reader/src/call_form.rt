@@ -2,7 +2,7 @@ ghost use Rattle.std.specs.Prelude.{◌≡◌};
 ghost use Rattle.cilk_reader.specs.Views.{called_by};
 
 use crate::child::Spawned;
-use cilk_syntax::{Expr, Move, MoveNode, Stmt, StmtNode, Taker, Word};
+use cilk_grammar::{Expr, Move, MoveNode, Stmt, StmtNode, Taker, Word};
 
 /// What stands behind the name of what is called.
 #[derive(Drop)]

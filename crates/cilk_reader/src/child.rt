@@ -1,16 +1,14 @@
 ghost use Rattle.std.specs.Prelude.{◌≡◌};
 ghost use Rattle.cilk_rules.specs.Gives.{Gives};
-ghost use Rattle.cilk_syntax.specs.MoveView.{taker_of};
+ghost use Rattle.cilk_grammar.specs.syntax.MoveView.{taker_of};
 ghost use Rattle.cilk_grammar.specs.Grammar.{child};
 ghost use Rattle.cilk_reader.specs.Limits.{read_by};
 ghost use Rattle.cilk_reader.specs.Views.{spawned};
 
 use crate::arguments::arguments;
 use crate::token::{name, place_of};
-use cilk_expression::Cursor;
-use cilk_lexeme::Keyword;
+use cilk_grammar::{Cursor, Expr, Keyword, Stmt, StmtNode, Taker, Word};
 use cilk_rules::ReadError;
-use cilk_syntax::{Expr, Stmt, StmtNode, Taker, Word};
 
 /// The place of the word `spawn`, the callee, and what it is called with (Cilk 5.4 manual, `spawn`).
 #[derive(Drop)]

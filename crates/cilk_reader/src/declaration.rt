@@ -1,16 +1,14 @@
 ghost use Rattle.std.specs.Prelude.{◌≡◌, map, MatchResult};
-ghost use Rattle.cilk_lexeme.specs.declared.mark.Mark.TheVariants.{Comma};
-ghost use Rattle.cilk_syntax.specs.Tree as tree;
+ghost use Rattle.cilk_grammar.specs.lexeme.declared.mark.Mark.TheVariants.{Comma};
+ghost use Rattle.cilk_grammar.specs.syntax.Tree as tree;
 ghost use Rattle.cilk_rules.specs.Gives.{Gives, onto};
 ghost use Rattle.cilk_grammar.specs.Forms.{mark, number, commas, behind_commas, in_brackets};
 ghost use Rattle.cilk_grammar.specs.Grammar.{declarator, declaration};
 ghost use Rattle.cilk_reader.specs.Limits.{read_by};
 
 use crate::token::{name, number};
-use cilk_expression::{Cursor, expression};
-use cilk_lexeme::{Keyword, Mark};
+use cilk_grammar::{Cursor, Decl, Keyword, Local, LocalNode, Mark, Shape, expression};
 use cilk_rules::ReadError;
-use cilk_syntax::{Decl, Local, LocalNode, Shape};
 use std::alloc::Global;
 
 /// The length of an array (C 1990, 6.5.4.2).

@@ -1,7 +1,7 @@
 ghost use Rattle.std.specs.Prelude.{◌≡◌};
 ghost use Rattle.cilk_rules.specs.Gives.{Gives};
 ghost use Rattle.cilk_rules.specs.Rule.{first, has, class_at};
-ghost use Rattle.cilk_expression.specs.Classes.{cls};
+ghost use Rattle.cilk_grammar.specs.expression.Classes.{cls};
 ghost use Rattle.cilk_grammar.specs.Forms.{ended, before, optional};
 ghost use Rattle.cilk_grammar.specs.Grammar.{move, test, loop_test};
 ghost use Rattle.cilk_grammar.specs.Spelling.{first_of};
@@ -9,10 +9,8 @@ ghost use Rattle.cilk_reader.specs.Limits.{read_by};
 
 use crate::moves::a_move;
 use crate::token::is_name;
-use cilk_expression::{Cursor, expression};
-use cilk_lexeme::Mark;
+use cilk_grammar::{Cursor, Expr, ExprNode, Mark, Move, expression};
 use cilk_rules::ReadError;
-use cilk_syntax::{Expr, ExprNode, Move};
 
 /// An expression in parentheses.
 #[tactic(auto, unfolding(cilk_grammar::specs::Spelling::read_at))]

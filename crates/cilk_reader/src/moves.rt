@@ -8,10 +8,8 @@ use crate::arguments::{arguments, index};
 use crate::place::{adjusted, adjustment, is_operator, operator};
 use crate::token::{is_name, name};
 use crate::value::value;
-use cilk_expression::Cursor;
-use cilk_lexeme::Mark;
+use cilk_grammar::{Cursor, Mark, Move, MoveNode, Place};
 use cilk_rules::ReadError;
-use cilk_syntax::{Move, MoveNode, Place};
 
 // What is done to a place.
 #[tactic(auto, unfolding(cilk_grammar::specs::Spelling::read_at))]

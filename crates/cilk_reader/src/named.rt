@@ -11,10 +11,8 @@ use crate::place::{adjustment, is_operator, operator};
 use crate::token::plain_name;
 use crate::value::value;
 use crate::write_form::WriteForm;
-use cilk_expression::Cursor;
-use cilk_lexeme::{Keyword, Mark};
+use cilk_grammar::{Cursor, Keyword, Mark, Place, Stmt};
 use cilk_rules::ReadError;
-use cilk_syntax::{Place, Stmt};
 
 // What stands behind a name that is called.
 #[tactic(auto, unfolding(cilk_grammar::specs::Spelling::read_at))]

@@ -1,16 +1,14 @@
 ghost use Rattle.std.specs.Prelude.{◌≡◌};
-ghost use Rattle.cilk_lexeme.specs.declared.keyword.Keyword.TheVariants.{Int};
-ghost use Rattle.cilk_lexeme.specs.declared.mark.Mark.TheVariants.{Comma};
+ghost use Rattle.cilk_grammar.specs.lexeme.declared.keyword.Keyword.TheVariants.{Int};
+ghost use Rattle.cilk_grammar.specs.lexeme.declared.mark.Mark.TheVariants.{Comma};
 ghost use Rattle.cilk_rules.specs.Gives.{Gives, onto};
 ghost use Rattle.cilk_grammar.specs.Forms.{word, mark, commas, behind_commas};
 ghost use Rattle.cilk_grammar.specs.Grammar.{name, parameters};
 ghost use Rattle.cilk_reader.specs.Limits.{read_by};
 
 use crate::token::name;
-use cilk_expression::Cursor;
-use cilk_lexeme::{Keyword, Mark};
+use cilk_grammar::{Cursor, Keyword, Mark, Word};
 use cilk_rules::ReadError;
-use cilk_syntax::Word;
 
 // `int` and a name.
 #[tactic(auto, unfolding(cilk_grammar::specs::Spelling::read_at))]

@@ -1,17 +1,15 @@
 ghost use Rattle.std.specs.Prelude.{◌≡◌};
 ghost use Rattle.cilk_rules.specs.Gives.{Gives};
 ghost use Rattle.cilk_rules.specs.Rule.{first, has, class_at};
-ghost use Rattle.cilk_expression.specs.Classes.{cls};
+ghost use Rattle.cilk_grammar.specs.expression.Classes.{cls};
 ghost use Rattle.cilk_grammar.specs.Grammar.{place, op, adjustment, adjusted};
 ghost use Rattle.cilk_grammar.specs.Spelling.{first_of};
 ghost use Rattle.cilk_reader.specs.Limits.{read_by};
 
 use crate::arguments::index;
 use crate::token::name;
-use cilk_expression::Cursor;
-use cilk_lexeme::Mark;
+use cilk_grammar::{Adjustment, BinOp, Cursor, Mark, Move, MoveNode, Place};
 use cilk_rules::ReadError;
-use cilk_syntax::{Adjustment, BinOp, Move, MoveNode, Place};
 
 /// A variable or an element of an array (C 1990, 6.3.1, 6.3.2.1).
 #[tactic(auto, unfolding(cilk_grammar::specs::Spelling::read_at))]

@@ -2,7 +2,7 @@ ghost use Rattle.std.specs.Prelude.{◌≡◌};
 ghost use Rattle.cilk_grammar.specs.Parts.{assigned};
 ghost use Rattle.cilk_reader.specs.Views.{value_of};
 
-use cilk_syntax::{Expr, Move, MoveNode, Target, Word};
+use cilk_grammar::{Expr, Move, MoveNode, Target, Word};
 
 /// What an assignment writes: an expression, or the value of a call of a C function (C 1990, 6.3.16, 6.3.2.2).
 #[derive(Drop)]

@@ -1,6 +1,6 @@
 ghost use Rattle.cilk_rules.specs.Gives.{Gives};
-ghost use Rattle.cilk_lexeme.specs.declared.keyword.Keyword.TheVariants as key;
-ghost use Rattle.cilk_syntax.specs.Tree as tree;
+ghost use Rattle.cilk_grammar.specs.lexeme.declared.keyword.Keyword.TheVariants as key;
+ghost use Rattle.cilk_grammar.specs.syntax.Tree as tree;
 ghost use Rattle.cilk_grammar.specs.Grammar.{adjusting, spawning, printing, locking, alone, returning};
 ghost use Rattle.cilk_reader.specs.Limits.{read_by};
 
@@ -8,10 +8,10 @@ use crate::arguments::behind_commas;
 use crate::child::child;
 use crate::place::adjusted;
 use crate::token::{is_class, literal, name, place_of};
-use cilk_expression::{Cursor, NameClass, expression};
-use cilk_lexeme::{Keyword, Mark};
+use cilk_grammar::{
+    Cursor, Keyword, LockAction, Mark, NameClass, Stmt, StmtNode, Taker, expression,
+};
 use cilk_rules::ReadError;
-use cilk_syntax::{LockAction, Stmt, StmtNode, Taker};
 
 /// `++` or `--` and a place (C 1990, 6.3.3.1).
 #[tactic(auto, unfolding(cilk_grammar::specs::Spelling::read_at))]

@@ -1,6 +1,6 @@
 ghost use Rattle.std.specs.Prelude.{◌≡◌, MatchResult};
 ghost use Rattle.cilk_rules.specs.Gives.{Gives, Fails};
-ghost use Rattle.cilk_expression.specs.Grammar.{operator_limit, parenthesis_limit};
+ghost use Rattle.cilk_grammar.specs.expression.Grammar.{operator_limit, parenthesis_limit};
 ghost use Rattle.cilk_grammar.specs.Grammar.{local, locals, statements, block, body, conditional, looping, repeating, for_loop, no_block_rule};
 ghost use Rattle.cilk_grammar.specs.Parts.{a_statement, no_block, an_inlet};
 ghost use Rattle.cilk_grammar.specs.Spelling.{nest_at};
@@ -16,10 +16,10 @@ use crate::simple::{
     aborting, adjusting, breaking, continuing, locking, printing, returning, spawning, syncing,
 };
 use crate::token::{is_class, is_lock_call, is_plain_name, name, place_of};
-use cilk_expression::{Cursor, NameClass};
-use cilk_lexeme::{Keyword, Mark};
+use cilk_grammar::{
+    Block, Cursor, Inlet, Keyword, Local, LocalNode, Mark, NameClass, Stmt, StmtNode,
+};
 use cilk_rules::ReadError;
-use cilk_syntax::{Block, Inlet, Local, LocalNode, Stmt, StmtNode};
 
 // `if` (C 1990, 6.6.4.1).
 #[cycle(statement)]

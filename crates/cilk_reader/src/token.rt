@@ -1,17 +1,15 @@
 ghost use Rattle.std.specs.Prelude.{◌≡◌, ◌∷◌, []};
 ghost use Rattle.cilk_rules.specs.Gives.{Gives};
 ghost use Rattle.cilk_rules.specs.Rule.{has, is, class_at};
-ghost use Rattle.cilk_expression.specs.Classes.{cls, names, the_lock_init, the_lock, the_unlock};
+ghost use Rattle.cilk_grammar.specs.expression.Classes.{cls, names, the_lock_init, the_lock, the_unlock};
 ghost use Rattle.cilk_grammar.specs.Grammar.{plain_names};
 ghost use Rattle.cilk_reader.specs.Names.{number_of};
 ghost use Rattle.cilk_grammar.specs.Forms.{name_of, place_of, number};
 ghost use Rattle.cilk_grammar.specs.Parts.{token, the_word, the_name, the_number, the_literal, the_header};
 ghost use Rattle.cilk_grammar.specs.Spelling.{leaf_at};
 
-use cilk_expression::{Cursor, NameClass};
-use cilk_lexeme::{Header, Keyword};
+use cilk_grammar::{Cursor, Header, Keyword, Literal, NameClass, Word};
 use cilk_rules::ReadError;
-use cilk_syntax::{Literal, Word};
 
 /// Whether the next token is a name.
 pub fn is_name(cursor: &Cursor) -> bool

@@ -1,13 +1,12 @@
 ghost use Rattle.cilk_rules.specs.Gives.{Gives};
-ghost use Rattle.cilk_expression.specs.Grammar.{operator_limit, parenthesis_limit};
+ghost use Rattle.cilk_grammar.specs.expression.Grammar.{operator_limit, parenthesis_limit};
 ghost use Rattle.cilk_grammar.specs.Spelling.{value_at};
 ghost use Rattle.cilk_reader.specs.Views.{value_of};
 
 use crate::arguments::arguments;
 use crate::right_side::RightSide;
 use crate::token::{is_name, name};
-use cilk_expression::{Cursor, expression};
-use cilk_lexeme::Mark;
+use cilk_grammar::{Cursor, Mark, expression};
 use cilk_rules::ReadError;
 
 /// A call where a name and a parenthesis come, and else an expression.

@@ -3,7 +3,7 @@ ghost use Rattle.cilk_reader.specs.Views.{written_to};
 
 use crate::action::Action;
 use crate::child::Spawned;
-use cilk_syntax::{BinOp, Place, Stmt, StmtNode, Taker, Target};
+use cilk_grammar::{BinOp, Place, Stmt, StmtNode, Taker, Target};
 
 /// What stands behind the place that a statement begins with.
 #[derive(Drop)]

@@ -2,9 +2,9 @@
 use Rattle.std.proofs.Common.{◌≡◌, ◌≤◌, ◌∙◌, ◌⊎◌, inl, inr, ◌++◌, ℕ, List, [], length, Option, Some, None, refl, sym, ap, subst, append-nil, append_assoc}
 use Rattle.std.specs.Prelude.{◌≢◌, false, replicate}
 use Rattle.std.specs.Io.KnownBytes.{Consumes}
-use Rattle.cilk_labelled.specs.Count.{count_program}
-use Rattle.cilk_lex.specs.declared.reading.TheConstants.{TEXT_LIMIT}
-use Rattle.cilk_replay.specs.Tape.{Tape, IsPlayable}
+use Rattle.cilk_commands.specs.labelled.Count.{count_program}
+use Rattle.cilk_commands.specs.lex.declared.reading.TheConstants.{TEXT_LIMIT}
+use Rattle.cilk_debug.specs.replay.Tape.{Tape, IsPlayable}
 use Rattle.cilk_debug.specs.Debugging.{Debugging}
 use Rattle.cilk_debug.specs.Session.{Session, session}
 use Rattle.cilk_debug.specs.Ending.{Answers, Breaks}
@@ -13,7 +13,7 @@ use Rattle.cilk_debug.specs.declared.fault.DebugFault.{DebugFault}
 use Rattle.cilk_debug.specs.declared.fault.DebugFault.TheVariants as debug
 use Rattle.cilk_debug.specs.declared.ending.SessionFault.{SessionFault}
 use Rattle.cilk_debug.specs.declared.ending.SessionFault.TheVariants.{Read, Write, Memory}
-use Rattle.cilk_console.specs.declared.fault.ReadFault.TheVariants.{Device, LineTooLong, TooManyLines}
+use Rattle.cilk_debug.specs.console.declared.fault.ReadFault.TheVariants.{Device, LineTooLong, TooManyLines}
 use Rattle.cilk_commands.specs.Front.{Gains}
 use Rattle.cilk_commands.specs.Held.{Held, IsReadOf}
 use Rattle.cilk_commands.proofs.WholeText.{gains_whole}

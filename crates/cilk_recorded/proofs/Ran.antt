@@ -1,19 +1,19 @@
 -- The texts of a machine that is not moved any more.
 use Rattle.std.proofs.Common.{◌≡◌, ◌≤◌, ℕ, List, [], ◌∷◌, ◌++◌, length, map, take, Option, Some, sym, ap, ◌∙◌, arith, refl, subst}
 use Rattle.std.proofs.lemmas.List.{length-map, map-append}
-use Rattle.cilk_syntax.specs.Tree.{Program}
-use Rattle.cilk_labelled.specs.Bodies.{label}
-use Rattle.cilk_model.specs.Choice as model
-use Rattle.cilk_model.specs.Event.{Event}
-use Rattle.cilk_model.specs.Run.{Standing, after, next_of}
-use Rattle.cilk_model.specs.End as end
-use Rattle.cilk_choices.specs.Words.{choice_of}
-use Rattle.cilk_choices.specs.declared.choice.Choice as code
-use Rattle.cilk_machine.specs.Situation.{Situation}
-use Rattle.cilk_machine.specs.Made.{Makes}
-use Rattle.cilk_machine.specs.Stands.{Led, StandsAt}
-use Rattle.cilk_log.specs.Text.{log_text}
-use Rattle.cilk_replay.specs.Tape.{Tape, tape_of, IsAt}
+use Rattle.cilk_commands.specs.syntax.Tree.{Program}
+use Rattle.cilk_commands.specs.labelled.Bodies.{label}
+use Rattle.cilk_commands.specs.model.Choice as model
+use Rattle.cilk_commands.specs.model.Event.{Event}
+use Rattle.cilk_commands.specs.model.Run.{Standing, after, next_of}
+use Rattle.cilk_commands.specs.model.End as end
+use Rattle.cilk_commands.specs.choices.Words.{choice_of}
+use Rattle.cilk_commands.specs.choices.declared.choice.Choice as code
+use Rattle.cilk_commands.specs.machine.Situation.{Situation}
+use Rattle.cilk_commands.specs.machine.Made.{Makes}
+use Rattle.cilk_commands.specs.machine.Stands.{Led, StandsAt}
+use Rattle.cilk_debug.specs.log.Text.{log_text}
+use Rattle.cilk_debug.specs.replay.Tape.{Tape, tape_of, IsAt}
 use Rattle.cilk_commands.specs.Loading.{IsReady}
 use Rattle.cilk_commands.specs.Running.{IsClosing, Stops}
 use Rattle.cilk_commands.specs.Status.{status_at}

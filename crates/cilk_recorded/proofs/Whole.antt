@@ -1,8 +1,8 @@
 -- What is said of the bytes that were read of texts is said of the texts.
 use Rattle.std.proofs.Common.{◌≡◌, ◌≤◌, ◌∙◌, ℕ, Bool, List, [], length, Option, Some, None, refl, sym}
 use Rattle.std.specs.Prelude.{◌≢◌}
-use Rattle.cilk_syntax.specs.Tree.{Program}
-use Rattle.cilk_lex.specs.declared.reading.TheConstants.{TEXT_LIMIT}
+use Rattle.cilk_commands.specs.syntax.Tree.{Program}
+use Rattle.cilk_commands.specs.lex.declared.reading.TheConstants.{TEXT_LIMIT}
 use Rattle.cilk_commands.specs.Held.{Held, IsReadOf}
 use Rattle.cilk_commands.specs.Loading.{IsReady, Unready}
 use Rattle.cilk_commands.specs.Status.{status_of as status_of_program}

@@ -1,14 +1,14 @@
 -- What a debugger's session writes.
 use Rattle.std.specs.Prelude.{◌≡◌, ℕ, false, List, ◌++◌, Option, None, IfSome, replicate}
-use Rattle.cilk_labelled.specs.Count.{count_program}
-use Rattle.cilk_replay.specs.Tape.{Tape, IsPlayable}
+use Rattle.cilk_commands.specs.labelled.Count.{count_program}
+use Rattle.cilk_debug.specs.replay.Tape.{Tape, IsPlayable}
 use Rattle.cilk_debug.specs.Debugging.{Debugging}
 use Rattle.cilk_debug.specs.Session.{session}
 use Rattle.cilk_debug.specs.declared.fault.DebugFault.{DebugFault}
 use Rattle.cilk_debug.specs.declared.fault.DebugFault.TheVariants as debug
 use Rattle.cilk_debug.specs.declared.ending.SessionFault.{SessionFault}
 use Rattle.cilk_debug.specs.declared.ending.SessionFault.TheVariants as ending
-use Rattle.cilk_replay.specs.declared.fault.ReplayFault.TheVariants as replay
+use Rattle.cilk_debug.specs.replay.declared.fault.ReplayFault.TheVariants as replay
 use Rattle.cilk_commands.specs.Front.{Gains}
 use Rattle.cilk_commands.specs.Held.{Held}
 use Rattle.cilk_commands.specs.declared.failure.Failure.TheVariants as failure

@@ -4,3 +4,4 @@ pub mod Taped
 pub mod Recording
 pub mod Replaying
 pub mod Debugging
+pub use Rattle.cilk_commands.specs as commands

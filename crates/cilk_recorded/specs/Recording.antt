@@ -1,14 +1,14 @@
 -- What a run writes that is recorded.
 use Rattle.std.specs.Prelude.{◌≡◌, ℕ, List, map, Option}
 use Rattle.std.specs.Io.KnownBytes.{Appends}
-use Rattle.cilk_syntax.specs.Tree.{Program}
-use Rattle.cilk_model.specs.Event.{Event}
-use Rattle.cilk_model.specs.Run.{Standing}
-use Rattle.cilk_choices.specs.Words.{choice_of}
-use Rattle.cilk_choices.specs.declared.choice.Choice as code
-use Rattle.cilk_machine.specs.Situation.{Situation, workers_of}
-use Rattle.cilk_machine.specs.Stands.{Led}
-use Rattle.cilk_log.specs.Text.{log_text}
+use Rattle.cilk_commands.specs.syntax.Tree.{Program}
+use Rattle.cilk_commands.specs.model.Event.{Event}
+use Rattle.cilk_commands.specs.model.Run.{Standing}
+use Rattle.cilk_commands.specs.choices.Words.{choice_of}
+use Rattle.cilk_commands.specs.choices.declared.choice.Choice as code
+use Rattle.cilk_commands.specs.machine.Situation.{Situation, workers_of}
+use Rattle.cilk_commands.specs.machine.Stands.{Led}
+use Rattle.cilk_debug.specs.log.Text.{log_text}
 use Rattle.cilk_commands.specs.Front.{AppendsFront}
 use Rattle.cilk_commands.specs.Held.{Held}
 use Rattle.cilk_commands.specs.Running.{IsClosing}

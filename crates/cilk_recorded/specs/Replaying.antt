@@ -1,10 +1,10 @@
 -- What a replay writes.
 use Rattle.std.specs.Prelude.{◌≡◌, ℕ, List, length, Option, Some}
-use Rattle.cilk_labelled.specs.Bodies.{label}
-use Rattle.cilk_model.specs.Run.{Standing, Position}
-use Rattle.cilk_model.specs.End as model
-use Rattle.cilk_machine.specs.Situation.{Situation}
-use Rattle.cilk_replay.specs.Tape.{Tape, position_at}
+use Rattle.cilk_commands.specs.labelled.Bodies.{label}
+use Rattle.cilk_commands.specs.model.Run.{Standing, Position}
+use Rattle.cilk_commands.specs.model.End as model
+use Rattle.cilk_commands.specs.machine.Situation.{Situation}
+use Rattle.cilk_debug.specs.replay.Tape.{Tape, position_at}
 use Rattle.cilk_commands.specs.Front.{Gains, GainsFront}
 use Rattle.cilk_commands.specs.Held.{Held}
 use Rattle.cilk_commands.specs.Status.{status_at}

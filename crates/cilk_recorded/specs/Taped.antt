@@ -1,12 +1,12 @@
 -- A program and a recorded schedule of it, and why there are none.
 use Rattle.std.specs.Prelude.{◌≡◌, ⊤, ℕ, List, Ok}
-use Rattle.cilk_syntax.specs.Tree.{Program}
-use Rattle.cilk_log.specs.Reading.{log_read}
-use Rattle.cilk_log.specs.Words.{fault_of, IsFault}
-use Rattle.cilk_log.specs.declared.fault.LogFault.{LogFault}
-use Rattle.cilk_replay.specs.Tape.{Tape}
-use Rattle.cilk_replay.specs.Faults.{Tells}
-use Rattle.cilk_replay.specs.declared.fault.ReplayFault.{ReplayFault}
+use Rattle.cilk_commands.specs.syntax.Tree.{Program}
+use Rattle.cilk_debug.specs.log.Reading.{log_read}
+use Rattle.cilk_debug.specs.log.Words.{fault_of, IsFault}
+use Rattle.cilk_debug.specs.log.declared.fault.LogFault.{LogFault}
+use Rattle.cilk_debug.specs.replay.Tape.{Tape}
+use Rattle.cilk_debug.specs.replay.Faults.{Tells}
+use Rattle.cilk_debug.specs.replay.declared.fault.ReplayFault.{ReplayFault}
 use Rattle.cilk_commands.specs.Loading.{IsReady, Unready}
 use Rattle.cilk_commands.specs.declared.failure.Failure.TheVariants as failure
 use Rattle.cilk_recorded.specs.declared.failure.RecordFailure.{RecordFailure}

@@ -1,13 +1,12 @@
 //! How a machine stands that is not moved any more.
 
 ghost use Rattle.std.specs.Prelude.{◌≡◌, true, IfOk, IfErr};
-ghost use Rattle.cilk_model.specs.Run.{Standing};
-ghost use Rattle.cilk_machine.specs.Stands.{StandsAt};
+ghost use Rattle.cilk_commands.specs.model.Run.{Standing};
+ghost use Rattle.cilk_commands.specs.machine.Stands.{StandsAt};
 ghost use Rattle.cilk_commands.specs.Status.{is_answer};
 ghost use Rattle.cilk_recorded.specs.Replaying.{ClosesAt};
 
-use cilk_commands::{Failure, Status, status_at};
-use cilk_machine::{Machine, ending};
+use cilk_commands::{Failure, Machine, Status, ending, status_at};
 use std::alloc::Global;
 
 /// The closing text of a run, and the status that tells how it ended.

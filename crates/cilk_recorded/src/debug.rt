@@ -10,8 +10,7 @@ use crate::failure::RecordFailure;
 use crate::names::Names;
 use crate::taped::{Taped, tape_in};
 use cilk_commands::{Failure, Status, read_text};
-use cilk_debug::{DebugFault, Debugger, SessionFault};
-use cilk_replay::ReplayFault;
+use cilk_debug::{DebugFault, Debugger, ReplayFault, SessionFault};
 use std::alloc::Global;
 use std::io::{Read, Write};
 

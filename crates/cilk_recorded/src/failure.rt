@@ -4,10 +4,8 @@ ghost use Rattle.cilk_commands.specs.Front.{AppendsFront};
 ghost use Rattle.cilk_recorded.specs.Telling.{choice_line, code_of, log_line, replay_line};
 
 use crate::names::Names;
-use cilk_choices::Refusal;
-use cilk_commands::{Failure, Status, tell_of, write_parts};
-use cilk_log::LogFault;
-use cilk_replay::ReplayFault;
+use cilk_commands::{Failure, Refusal, Status, tell_of, write_parts};
+use cilk_debug::{LogFault, ReplayFault};
 use itoa::Buffer;
 use std::alloc::Global;
 use std::io;

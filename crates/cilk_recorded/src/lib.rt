@@ -15,6 +15,7 @@ mod running;
 mod store;
 mod taped;
 
+pub use cilk_commands::{Failure, Status, check_text, print_text, run_text};
 pub use debug::debug_text;
 pub use failure::RecordFailure;
 pub use names::Names;

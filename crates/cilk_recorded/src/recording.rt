@@ -4,10 +4,8 @@ ghost use Rattle.std.specs.Prelude.{◌≡◌, [], ◌∷◌, ◌++◌, IfOk, If
 ghost use Rattle.cilk_commands.specs.Running.{Stops};
 ghost use Rattle.cilk_recorded.specs.Recording.{IsLedBy};
 
-use cilk_commands::{Failure, go_on};
-use cilk_load::Loaded;
-use cilk_log::Choices;
-use cilk_machine::{Choice, Machine, MachineFault, Outcome};
+use cilk_commands::{Choice, Failure, Loaded, Machine, MachineFault, Outcome, go_on};
+use cilk_debug::Choices;
 use std::alloc::Global;
 
 /// A program after a run, and the choices that were made in it.

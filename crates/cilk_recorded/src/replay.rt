@@ -12,7 +12,7 @@ use crate::failure::RecordFailure;
 use crate::names::Names;
 use crate::taped::{Taped, tape_in};
 use cilk_commands::{Status, read_text, write_answer};
-use cilk_replay::play;
+use cilk_debug::play;
 use std::alloc::Global;
 use std::io::{Read, Write};
 

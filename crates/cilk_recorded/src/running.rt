@@ -11,7 +11,7 @@ use crate::names::Names;
 use crate::recording::{Recording, record_alone};
 use crate::store::LogStore;
 use cilk_commands::{Failure, Status, read_text, ready_of, write_answer};
-use cilk_log::{Log, write_log};
+use cilk_debug::{Log, write_log};
 use std::alloc::Global;
 use std::io::{Read, Write};
 

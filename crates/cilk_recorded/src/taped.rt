@@ -3,16 +3,15 @@
 ghost use Rattle.std.specs.Prelude.{◌≡◌, ◌≢◌, ℕ, List, Option, Ok, IfSome, IfOk, IfErr};
 ghost use Rattle.cilk_commands.specs.Held.{Held};
 ghost use Rattle.cilk_commands.specs.declared.status.Status.TheVariants as ended;
-ghost use Rattle.cilk_log.specs.Reading.{log_read};
-ghost use Rattle.cilk_log.specs.Words.{log_of};
-ghost use Rattle.cilk_replay.specs.Tape.{tape_of};
+ghost use Rattle.cilk_debug.specs.log.Reading.{log_read};
+ghost use Rattle.cilk_debug.specs.log.Words.{log_of};
+ghost use Rattle.cilk_debug.specs.replay.Tape.{tape_of};
 ghost use Rattle.cilk_recorded.specs.Telling.{status_of};
 ghost use Rattle.cilk_recorded.specs.Taped.{Declines, IsTape, IsUnread};
 
 use crate::failure::RecordFailure;
-use cilk_commands::{Failure, read_all, ready_of};
-use cilk_load::Loaded;
-use cilk_log::{Log, read_log};
+use cilk_commands::{Failure, Loaded, read_all, ready_of};
+use cilk_debug::{Log, read_log};
 use std::alloc::Global;
 use std::io::Read;
 

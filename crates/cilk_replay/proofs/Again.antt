@@ -2,20 +2,20 @@
 use Rattle.std.proofs.Common.{◌≡◌, ◌≢◌, ℕ, suc, ◌+◌, List, [], ◌∷◌, ◌++◌, map, take, Option, Some, refl, sym, ap, ◌∙◌, subst, slice_get, option_map, arith}
 use Rattle.std.proofs.lemmas.Option.{slice_get-map, slice_get_within, get_or_from_slice_get}
 use Rattle.std.proofs.Math.Seq.{take-suc}
-use Rattle.cilk_syntax.specs.Tree.{Program}
-use Rattle.cilk_labelled.specs.Bodies.{label}
-use Rattle.cilk_model.specs.Choice as model
-use Rattle.cilk_model.specs.Choice.{Choice, Refusal}
-use Rattle.cilk_model.specs.Event.{Event}
-use Rattle.cilk_model.specs.Run.{Position, after, refusal_of, next_of, event_of, one_more}
-use Rattle.cilk_placed.proofs.Runs.{after-push}
-use Rattle.cilk_spawn.specs.Nodes.{path_at}
-use Rattle.cilk_carries.specs.declared.did.Did.{Did}
-use Rattle.cilk_carries.specs.Words.{event_by}
-use Rattle.cilk_choices.specs.declared.refusal.Refusal as code
-use Rattle.cilk_choices.specs.declared.refusal.Refusal.TheVariants as refusal
-use Rattle.cilk_choices.specs.declared.choice.Choice as coded
-use Rattle.cilk_choices.specs.Words.{choice_of, reason_of}
+use Rattle.cilk_machine.specs.syntax.Tree.{Program}
+use Rattle.cilk_machine.specs.labelled.Bodies.{label}
+use Rattle.cilk_machine.specs.model.Choice as model
+use Rattle.cilk_machine.specs.model.Choice.{Choice, Refusal}
+use Rattle.cilk_machine.specs.model.Event.{Event}
+use Rattle.cilk_machine.specs.model.Run.{Position, after, refusal_of, next_of, event_of, one_more}
+use Rattle.cilk_machine.proofs.placed_laws.Runs.{after-push}
+use Rattle.cilk_machine.specs.spawn.Nodes.{path_at}
+use Rattle.cilk_machine.specs.carries.declared.did.Did.{Did}
+use Rattle.cilk_machine.specs.carries.Words.{event_by}
+use Rattle.cilk_machine.specs.choices.declared.refusal.Refusal as code
+use Rattle.cilk_machine.specs.choices.declared.refusal.Refusal.TheVariants as refusal
+use Rattle.cilk_machine.specs.choices.declared.choice.Choice as coded
+use Rattle.cilk_machine.specs.choices.Words.{choice_of, reason_of}
 use Rattle.cilk_machine.specs.Situation.{Situation, workers_of}
 use Rattle.cilk_machine.specs.Stands.{Led, Opens}
 use Rattle.cilk_machine.specs.Made.{Makes, MakesBy, IsRefused}

@@ -1,2 +1,3 @@
 pub mod Again
 pub mod Whole
+pub use Rattle.cilk_machine.proofs.fates_laws

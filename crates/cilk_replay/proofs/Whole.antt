@@ -1,10 +1,10 @@
 -- Where all choices are possible, each of them is.
 use Rattle.std.proofs.Common.{◌≡◌, ℕ, zero, suc, ◌+◌, ◌≤◌, ◌-◌, length, Option, Some, None, is_none, refl, sym, ap, ◌∙◌, get_or, arith, if◌then◌else◌}
 use Rattle.std.proofs.lemmas.Option.{slice_get-get_or, slice_get_within}
-use Rattle.cilk_labelled.specs.Bodies.{label}
-use Rattle.cilk_labelled.specs.Labelled.{Labelled}
-use Rattle.cilk_model.specs.Choice.{Choice, Refusal, step}
-use Rattle.cilk_model.specs.Run.{Position, refusal_of, one_more, position_after}
+use Rattle.cilk_machine.specs.labelled.Bodies.{label}
+use Rattle.cilk_machine.specs.labelled.Labelled.{Labelled}
+use Rattle.cilk_machine.specs.model.Choice.{Choice, Refusal, step}
+use Rattle.cilk_machine.specs.model.Run.{Position, refusal_of, one_more, position_after}
 use Rattle.cilk_replay.specs.Tape.{Tape, position_at, IsPlayable, IsBad}
 use Rattle.cilk_replay.proofs.Again.{step_down}
 

@@ -1,9 +1,9 @@
 -- Why choices cannot be made again.
 use Rattle.std.specs.Prelude.{◌≡◌, ℕ, suc, ⊤, false, Some}
-use Rattle.cilk_model.specs.Choice.{Refusal}
-use Rattle.cilk_model.specs.Run.{is_crew}
-use Rattle.cilk_choices.specs.declared.refusal.Refusal as code
-use Rattle.cilk_choices.specs.Words.{reason_of}
+use Rattle.cilk_machine.specs.model.Choice.{Refusal}
+use Rattle.cilk_machine.specs.model.Run.{is_crew}
+use Rattle.cilk_machine.specs.choices.declared.refusal.Refusal as code
+use Rattle.cilk_machine.specs.choices.Words.{reason_of}
 use Rattle.cilk_replay.specs.Tape.{Tape, IsBad}
 use Rattle.cilk_replay.specs.declared.fault.ReplayFault.{ReplayFault}
 use Rattle.cilk_replay.specs.declared.fault.ReplayFault.TheVariants.{Workers, BadChoice, Memory}

@@ -1,12 +1,12 @@
 -- A program with the choices that are made again, and where the first of them lead.
 use Rattle.std.specs.Prelude.{◌≡◌, ℕ, List, map, take, length, Option, Some, None, slice_get}
-use Rattle.cilk_syntax.specs.Tree.{Program}
-use Rattle.cilk_labelled.specs.Bodies.{label}
-use Rattle.cilk_model.specs.Choice.{Choice, Refusal}
-use Rattle.cilk_model.specs.Event.{Event}
-use Rattle.cilk_model.specs.Run.{Position, after, refusal_of, event_of}
-use Rattle.cilk_choices.specs.declared.choice.Choice as code
-use Rattle.cilk_choices.specs.Words.{choice_of}
+use Rattle.cilk_machine.specs.syntax.Tree.{Program}
+use Rattle.cilk_machine.specs.labelled.Bodies.{label}
+use Rattle.cilk_machine.specs.model.Choice.{Choice, Refusal}
+use Rattle.cilk_machine.specs.model.Event.{Event}
+use Rattle.cilk_machine.specs.model.Run.{Position, after, refusal_of, event_of}
+use Rattle.cilk_machine.specs.choices.declared.choice.Choice as code
+use Rattle.cilk_machine.specs.choices.Words.{choice_of}
 use Rattle.cilk_machine.specs.Situation.{Situation, workers_of}
 use Rattle.cilk_machine.specs.Stands.{Led}
 

@@ -1,4 +1,4 @@
-use cilk_choices::Refusal;
+use cilk_machine::Refusal;
 use thiserror::Error;
 
 /// Why choices cannot be made again.

@@ -4,5 +4,6 @@
 mod fault;
 mod playing;
 
+pub use cilk_machine::{Did, Machine};
 pub use fault::ReplayFault;
 pub use playing::{is_crew, make_again, play};

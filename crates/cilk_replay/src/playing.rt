@@ -1,16 +1,14 @@
 ghost use Rattle.std.specs.Prelude.{List, ◌≡◌, ◌≤◌, ◌<◌, ◌-◌, ◌^◌, ℕ, suc, false, IfOk, IfErr, OnOk, OnErr, length, Some, Err, slice_get, map, option_copied};
-ghost use Rattle.cilk_model.specs.Choice as model;
-ghost use Rattle.cilk_model.specs.Run.{is_crew};
-ghost use Rattle.cilk_choices.specs.Words.{choice_of, reason_of};
-ghost use Rattle.cilk_spawn.specs.Nodes.{path_at};
-ghost use Rattle.cilk_carries.specs.Words.{event_by};
+ghost use Rattle.cilk_machine.specs.model.Choice as model;
+ghost use Rattle.cilk_machine.specs.model.Run.{is_crew};
+ghost use Rattle.cilk_machine.specs.choices.Words.{choice_of, reason_of};
+ghost use Rattle.cilk_machine.specs.spawn.Nodes.{path_at};
+ghost use Rattle.cilk_machine.specs.carries.Words.{event_by};
 ghost use Rattle.cilk_replay.specs.Tape.{Tape, tape_of, did_at, IsAt, IsBad};
 ghost use Rattle.cilk_replay.specs.Faults.{Tells};
 
 use crate::fault::ReplayFault;
-use cilk_choices::{Choice, MachineFault, Refusal};
-use cilk_load::Loaded;
-use cilk_machine::{Did, Machine};
+use cilk_machine::{Choice, Did, Loaded, Machine, MachineFault, Refusal};
 use std::alloc::Global;
 
 /// Whether a program may have so many workers: 1 to 64.

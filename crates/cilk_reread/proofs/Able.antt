@@ -1,13 +1,13 @@
 -- What good tokens spell can be written.
 use Rattle.std.proofs.Common.{◌≡◌, ℕ, zero, suc, Bool, List, [], ◌∷◌, ◌++◌, map, Option, Some, None, pos, neg_ℤ, sym, subst, inl, inr, All}
 use Rattle.std.proofs.lemmas.List.Elements.{All-head, All-tail}
-use Rattle.cilk_lexeme.specs.Lexeme.{Lexeme, Piece, name, number, literal}
-use Rattle.cilk_syntax.specs.declared.return_type.ReturnType.{ReturnType}
-use Rattle.cilk_syntax.specs.Tree as tree
-use Rattle.cilk_syntax.specs.Tree.{Word, Expr, stmts_of, locals_of}
-use Rattle.cilk_rules.specs.Rule.{Rule}
-use Rattle.cilk_expression.specs.Classes.{cls}
-use Rattle.cilk_expression.specs.Grammar.{Spells, a_number_is, a_name_is, synched_is, an_element, in_parentheses, of_one, of_two, of_three}
+use Rattle.cilk_grammar.specs.lexeme.Lexeme.{Lexeme, Piece, name, number, literal}
+use Rattle.cilk_grammar.specs.syntax.declared.return_type.ReturnType.{ReturnType}
+use Rattle.cilk_grammar.specs.syntax.Tree as tree
+use Rattle.cilk_grammar.specs.syntax.Tree.{Word, Expr, stmts_of, locals_of}
+use Rattle.cilk_grammar.specs.rules.Rule.{Rule}
+use Rattle.cilk_grammar.specs.expression.Classes.{cls}
+use Rattle.cilk_grammar.specs.expression.Grammar.{Spells, a_number_is, a_name_is, synched_is, an_element, in_parentheses, of_one, of_two, of_three}
 use Rattle.cilk_grammar.specs.Parts.{Leaf, the_word, the_name, the_number, the_literal, the_header, Nest, a_statement, no_block, an_inlet, Part, token, an_expr, a_value, nest, Value, computed, called, assigned, LeafMeans, NestMeans, Means}
 use Rattle.cilk_grammar.specs.Forms.{joined, expression, optional}
 use Rattle.cilk_grammar.specs.Grammar as grammar
@@ -153,10 +153,10 @@ module _ (good : Lexeme → Type 0) (one : good (number 1)) where
   locking_can : Given G grammar.locking CanStmt
   locking_can = g_either by (g_either by by)
     where
-      by : {c : ℕ} {a : Rattle.cilk_syntax.specs.declared.lock_action.LockAction.LockAction} → Given G (grammar.locking_by c a) CanStmt
+      by : {c : ℕ} {a : Rattle.cilk_grammar.specs.syntax.declared.lock_action.LockAction.LockAction} → Given G (grammar.locking_by c a) CanStmt
       by = g_skip (g_before (g_then (g_between g_name) (λ x h. g_done h)))
 
-  alone_can : (w : Rattle.cilk_lexeme.specs.declared.keyword.Keyword.Keyword) (f : ℕ → tree.Stmt) → ((at : ℕ) → CanStmt (f at)) → Given G (grammar.alone w f) CanStmt
+  alone_can : (w : Rattle.cilk_grammar.specs.lexeme.declared.keyword.Keyword.Keyword) (f : ℕ → tree.Stmt) → ((at : ℕ) → CanStmt (f at)) → Given G (grammar.alone w f) CanStmt
   alone_can w f h = g_before (g_then g_word (λ at u. g_done (h at)))
 
   -- ---- blocks

@@ -1,15 +1,15 @@
 -- Lexemes from which a rule is built, a step of the rule at a time.
 use Rattle.std.proofs.Common.{◌≡◌, ℕ, ◌≤◌, Bool, true, false, List, [], ◌∷◌, ◌++◌, map, Option, Some, refl, sym, subst, inl, inr, eq-eqb}
 use Rattle.std.proofs.lemmas.List.{append-nil}
-use Rattle.cilk_lexeme.specs.Lexeme.{Lexeme, Piece, word, name, number, literal, inclusion}
-use Rattle.cilk_lexeme.specs.declared.header.Header.{Header}
-use Rattle.cilk_lexeme.specs.declared.keyword.Keyword.{Keyword}
-use Rattle.cilk_syntax.specs.Tree as tree
-use Rattle.cilk_syntax.specs.Bare.{bare_word, bare_literal, bare_expr}
-use Rattle.cilk_rules.specs.Rule as rule
-use Rattle.cilk_rules.specs.Rule.{Rule, done, skip, part, and_then, either, many, nearest, by_value, has, is, next, no_more, one_more, EachBefore}
-use Rattle.cilk_expression.specs.Classes.{cls, class_of, a_word, name_class}
-use Rattle.cilk_expression.specs.Grammar.{operators}
+use Rattle.cilk_grammar.specs.lexeme.Lexeme.{Lexeme, Piece, word, name, number, literal, inclusion}
+use Rattle.cilk_grammar.specs.lexeme.declared.header.Header.{Header}
+use Rattle.cilk_grammar.specs.lexeme.declared.keyword.Keyword.{Keyword}
+use Rattle.cilk_grammar.specs.syntax.Tree as tree
+use Rattle.cilk_grammar.specs.syntax.Bare.{bare_word, bare_literal, bare_expr}
+use Rattle.cilk_grammar.specs.rules.Rule as rule
+use Rattle.cilk_grammar.specs.rules.Rule.{Rule, done, skip, part, and_then, either, many, nearest, by_value, has, is, next, no_more, one_more, EachBefore}
+use Rattle.cilk_grammar.specs.expression.Classes.{cls, class_of, a_word, name_class}
+use Rattle.cilk_grammar.specs.expression.Grammar.{operators}
 use Rattle.cilk_grammar.specs.Parts.{Leaf, the_literal, the_header, Part, token, an_expr, Means, LeafMeans}
 use Rattle.cilk_grammar.specs.Forms.{place_of, name_of}
 use Rattle.cilk_grammar.specs.Forms as forms

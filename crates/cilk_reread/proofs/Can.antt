@@ -1,10 +1,10 @@
 -- Trees of which each name, number and text literal is a good lexeme, whatever is good, and of which C has each assignment.
 use Rattle.std.specs.Prelude.{suc, ℤ, pos, negsuc, List, [], ◌∷◌, Option, Some, None}
-use Rattle.cilk_lexeme.specs.Lexeme.{Lexeme, name, number, literal}
-use Rattle.cilk_syntax.specs.declared.operator.BinOp.{BinOp}
-use Rattle.cilk_syntax.specs.declared.operator.BinOp.TheVariants as ops
-use Rattle.cilk_syntax.specs.Tree as tree
-use Rattle.cilk_syntax.specs.Tree.{Word, Expr}
+use Rattle.cilk_grammar.specs.lexeme.Lexeme.{Lexeme, name, number, literal}
+use Rattle.cilk_grammar.specs.syntax.declared.operator.BinOp.{BinOp}
+use Rattle.cilk_grammar.specs.syntax.declared.operator.BinOp.TheVariants as ops
+use Rattle.cilk_grammar.specs.syntax.Tree as tree
+use Rattle.cilk_grammar.specs.syntax.Tree.{Word, Expr}
 
 -- C has `=`, and this operator with `=` behind it (C 1990, 6.3.16)
 abbrev pub IsAssigned : Option BinOp → Type 0

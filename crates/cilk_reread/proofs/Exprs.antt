@@ -1,19 +1,19 @@
 -- The canonical lexemes of an expression spell it, places aside.
 use Rattle.std.proofs.Common.{◌≡◌, ℕ, zero, suc, ◌<◌, ◌≤◌, List, [], ◌∷◌, ◌++◌, map, Some, refl, ap, ◌∙◌, arith}
 use Rattle.std.proofs.lemmas.List.{map-append}
-use Rattle.cilk_lexeme.specs.Lexeme.{Lexeme, Piece, word, name, number, mark}
-use Rattle.cilk_lexeme.specs.declared.keyword.Keyword.TheVariants as key
-use Rattle.cilk_lexeme.specs.declared.mark.Mark.TheVariants as sign
-use Rattle.cilk_syntax.specs.declared.operator.BinOp.{BinOp}
-use Rattle.cilk_syntax.specs.declared.operator.BinOp.TheVariants as ops
-use Rattle.cilk_syntax.specs.declared.un_op.UnOp.{UnOp}
-use Rattle.cilk_syntax.specs.declared.un_op.UnOp.TheVariants as un
-use Rattle.cilk_syntax.specs.Tree as tree
-use Rattle.cilk_syntax.specs.Bare.{bare_expr}
-use Rattle.cilk_expression.specs.Classes.{a_mark}
-use Rattle.cilk_expression.specs.Operators.{operand, sign_of}
-use Rattle.cilk_expression.specs.Grammar.{operators, Spells, SpellsWhole, a_number_is, a_name_is, synched_is, an_element, in_parentheses, of_one, of_two, of_three}
-use Rattle.cilk_expression.proofs.MovedExpr.{operators-bare}
+use Rattle.cilk_grammar.specs.lexeme.Lexeme.{Lexeme, Piece, word, name, number, mark}
+use Rattle.cilk_grammar.specs.lexeme.declared.keyword.Keyword.TheVariants as key
+use Rattle.cilk_grammar.specs.lexeme.declared.mark.Mark.TheVariants as sign
+use Rattle.cilk_grammar.specs.syntax.declared.operator.BinOp.{BinOp}
+use Rattle.cilk_grammar.specs.syntax.declared.operator.BinOp.TheVariants as ops
+use Rattle.cilk_grammar.specs.syntax.declared.un_op.UnOp.{UnOp}
+use Rattle.cilk_grammar.specs.syntax.declared.un_op.UnOp.TheVariants as un
+use Rattle.cilk_grammar.specs.syntax.Tree as tree
+use Rattle.cilk_grammar.specs.syntax.Bare.{bare_expr}
+use Rattle.cilk_grammar.specs.expression.Classes.{a_mark}
+use Rattle.cilk_grammar.specs.expression.Operators.{operand, sign_of}
+use Rattle.cilk_grammar.specs.expression.Grammar.{operators, Spells, SpellsWhole, a_number_is, a_name_is, synched_is, an_element, in_parentheses, of_one, of_two, of_three}
+use Rattle.cilk_grammar.proofs.expression_laws.MovedExpr.{operators-bare}
 use Rattle.cilk_spelled.specs.ExprLexemes as written
 use Rattle.cilk_spelled.specs.ExprLexemes.{operator_mark, sign_mark, expr_lexemes, operand_lexemes}
 

@@ -1,12 +1,12 @@
 -- What a rule makes of good parts, a step of the rule at a time.
 use Rattle.std.proofs.Common.{◌≡◌, ℕ, ◌≤◌, Bool, true, false, List, [], ◌∷◌, Option, Some}
-use Rattle.cilk_lexeme.specs.declared.keyword.Keyword.{Keyword}
-use Rattle.cilk_lexeme.specs.declared.keyword.Keyword.TheVariants as key
-use Rattle.cilk_syntax.specs.Tree.{Word, Expr}
-use Rattle.cilk_syntax.specs.Bare.{bare_stmt, bare_local}
-use Rattle.cilk_rules.specs.Rule.{Rule, done, skip, part, and_then, either, many, nearest, by_value, has}
-use Rattle.cilk_expression.specs.Classes.{a_word, name_class}
-use Rattle.cilk_expression.specs.Grammar.{operators}
+use Rattle.cilk_grammar.specs.lexeme.declared.keyword.Keyword.{Keyword}
+use Rattle.cilk_grammar.specs.lexeme.declared.keyword.Keyword.TheVariants as key
+use Rattle.cilk_grammar.specs.syntax.Tree.{Word, Expr}
+use Rattle.cilk_grammar.specs.syntax.Bare.{bare_stmt, bare_local}
+use Rattle.cilk_grammar.specs.rules.Rule.{Rule, done, skip, part, and_then, either, many, nearest, by_value, has}
+use Rattle.cilk_grammar.specs.expression.Classes.{a_word, name_class}
+use Rattle.cilk_grammar.specs.expression.Grammar.{operators}
 use Rattle.cilk_grammar.specs.Parts.{the_word, the_name, the_number, the_literal, the_header, Nest, a_statement, no_block, an_inlet, Part, token, an_expr, a_value, nest, Value, computed, called, NestMeans, Means}
 use Rattle.cilk_grammar.specs.Forms.{place_of, name_of, number, expression, value, statement, unbraced, inlet, commas, behind_commas}
 use Rattle.cilk_grammar.specs.Spelling.{SpellsNest}

@@ -1,14 +1,14 @@
 -- What the tokens of a text spell can be written.
 use Rattle.std.proofs.Common.{◌≡◌, ℕ, ◌≤◌, true, List, [], ◌∷◌, Option, Some, None, pos, negsuc, refl, All, arith}
-use Rattle.cilk_lexeme.specs.Good.{IsGoodLexeme}
-use Rattle.cilk_lexeme.specs.Lexeme.{Lexeme, Piece}
-use Rattle.cilk_syntax.specs.declared.operator.BinOp.{BinOp}
-use Rattle.cilk_syntax.specs.declared.operator.BinOp.TheVariants as ops
-use Rattle.cilk_syntax.specs.Tree as tree
-use Rattle.cilk_syntax.specs.Bare.{bare_program}
-use Rattle.cilk_canonical.specs.ProgramText.{program_text}
-use Rattle.cilk_lexeme.specs.Lexing.{Lexes}
-use Rattle.cilk_lexeme.proofs.Sayable.{good_pieces}
+use Rattle.cilk_grammar.specs.lexeme.Good.{IsGoodLexeme}
+use Rattle.cilk_grammar.specs.lexeme.Lexeme.{Lexeme, Piece}
+use Rattle.cilk_grammar.specs.syntax.declared.operator.BinOp.{BinOp}
+use Rattle.cilk_grammar.specs.syntax.declared.operator.BinOp.TheVariants as ops
+use Rattle.cilk_grammar.specs.syntax.Tree as tree
+use Rattle.cilk_grammar.specs.syntax.Bare.{bare_program}
+use Rattle.cilk_spelled.specs.canonical.ProgramText.{program_text}
+use Rattle.cilk_grammar.specs.lexeme.Lexing.{Lexes}
+use Rattle.cilk_grammar.proofs.lexeme_laws.Sayable.{good_pieces}
 use Rattle.cilk_spelled.proofs.Programs.{program_made}
 use Rattle.cilk_grammar.specs.Spelling.{SpellsProgram}
 use Rattle.cilk_reread.specs.Plain.{PlainItems}

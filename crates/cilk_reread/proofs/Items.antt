@@ -1,16 +1,16 @@
 -- The canonical lexemes of what stands at the top level spell it again.
 use Rattle.std.proofs.Common.{◌≡◌, ℕ, zero, suc, ◌≤◌, Bool, true, false, List, [], ◌∷◌, ◌++◌, map, Option, ℤ, pos, neg_ℤ, refl, ap}
-use Rattle.cilk_lexeme.specs.Lexeme.{word, mark, inclusion}
-use Rattle.cilk_lexeme.specs.declared.header.Header.{Header}
-use Rattle.cilk_lexeme.specs.declared.keyword.Keyword.TheVariants as key
-use Rattle.cilk_lexeme.specs.declared.mark.Mark.TheVariants as sign
-use Rattle.cilk_syntax.specs.declared.return_type.ReturnType.{ReturnType}
-use Rattle.cilk_syntax.specs.declared.return_type.ReturnType.TheVariants as returns
-use Rattle.cilk_syntax.specs.Tree as tree
-use Rattle.cilk_syntax.specs.Tree.{Word}
-use Rattle.cilk_syntax.specs.Bare.{bare_word, bare_item}
-use Rattle.cilk_rules.specs.Rule.{Rule, part, many}
-use Rattle.cilk_expression.proofs.ClassFacts.{names_are}
+use Rattle.cilk_grammar.specs.lexeme.Lexeme.{word, mark, inclusion}
+use Rattle.cilk_grammar.specs.lexeme.declared.header.Header.{Header}
+use Rattle.cilk_grammar.specs.lexeme.declared.keyword.Keyword.TheVariants as key
+use Rattle.cilk_grammar.specs.lexeme.declared.mark.Mark.TheVariants as sign
+use Rattle.cilk_grammar.specs.syntax.declared.return_type.ReturnType.{ReturnType}
+use Rattle.cilk_grammar.specs.syntax.declared.return_type.ReturnType.TheVariants as returns
+use Rattle.cilk_grammar.specs.syntax.Tree as tree
+use Rattle.cilk_grammar.specs.syntax.Tree.{Word}
+use Rattle.cilk_grammar.specs.syntax.Bare.{bare_word, bare_item}
+use Rattle.cilk_grammar.specs.rules.Rule.{Rule, part, many}
+use Rattle.cilk_grammar.proofs.expression_laws.ClassFacts.{names_are}
 use Rattle.cilk_grammar.specs.Parts.{token, the_header, Means}
 use Rattle.cilk_grammar.specs.Forms.{joined}
 use Rattle.cilk_grammar.specs.Grammar as grammar
@@ -112,7 +112,7 @@ module _ (l d : ℕ) (le : l ≤ d) (n : ℕ) where
       (function_lexemes false returns.Int t x) (ap (λ i. i ∷ []) (function_bare false returns.Int t x))) made.no_more)))
       (g_before (g_then shape_given (λ s hs. g_then (g_behind_commas global_given) (λ gs hgs. g_done (globals_again (grammar.global_at x s ∷ gs) (made.one_more hs hgs))))))))
 
-  locks_again : (xs : List Word) → EachMade (λ x. GoodName Rattle.cilk_expression.specs.Classes.names x) xs → AllAgain (map tree.lock xs)
+  locks_again : (xs : List Word) → EachMade (λ x. GoodName Rattle.cilk_grammar.specs.expression.Classes.names x) xs → AllAgain (map tree.lock xs)
   locks_again xs made.no_more = made.no_more
   locks_again xs (made.one_more {x = x} {xs = ys} h t) = made.one_more
       (λ pl k. written (b_right (b_right (b_right (b_skip (word key.CilkLockvar) refl (b_before (mark sign.Semicolon) refl (b_last (b_only (b_name x h)))))))) refl refl) (locks_again ys t)

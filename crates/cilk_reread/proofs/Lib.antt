@@ -12,3 +12,4 @@ pub mod Programs
 pub mod Can
 pub mod Able
 pub mod GoodTrees
+pub use Rattle.cilk_spelled.proofs.canonical_laws

@@ -1,7 +1,7 @@
 -- What a rule makes of parts of which something holds.
 use Rattle.std.proofs.Common.{◌≡◌, ℕ, true, false, List, [], ◌∷◌, ◌++◌, Option, ◌⊎◌, inl, inr, sym, subst}
-use Rattle.cilk_rules.specs.Rule as rule
-use Rattle.cilk_rules.specs.Rule.{Rule, done, skip, part, and_then, either, many, nearest, by_value, EachBefore}
+use Rattle.cilk_grammar.specs.rules.Rule as rule
+use Rattle.cilk_grammar.specs.rules.Rule.{Rule, done, skip, part, and_then, either, many, nearest, by_value, EachBefore}
 
 pub data EachMade {A : Type 0} (R : A → Type 0) : List A → Type 0 where
   no_more : EachMade R []

@@ -1,15 +1,15 @@
 -- The canonical lexemes of a move spell it again.
 use Rattle.std.proofs.Common.{ℕ, ◌≤◌, List, [], ◌∷◌, map, Option, Some, None, refl, inl, inr}
-use Rattle.cilk_lexeme.specs.Lexeme.{Lexeme, mark}
-use Rattle.cilk_lexeme.specs.declared.mark.Mark.TheVariants as sign
-use Rattle.cilk_syntax.specs.Tree as tree
-use Rattle.cilk_syntax.specs.Tree.{Word, Expr}
-use Rattle.cilk_syntax.specs.declared.adjustment.Adjustment.{Adjustment}
-use Rattle.cilk_syntax.specs.declared.operator.BinOp.{BinOp}
-use Rattle.cilk_syntax.specs.Bare.{bare_word, bare_expr, bare_value, bare_move}
-use Rattle.cilk_rules.specs.Rule.{skip}
-use Rattle.cilk_expression.specs.Grammar.{operators}
-use Rattle.cilk_expression.proofs.ClassFacts.{names_are}
+use Rattle.cilk_grammar.specs.lexeme.Lexeme.{Lexeme, mark}
+use Rattle.cilk_grammar.specs.lexeme.declared.mark.Mark.TheVariants as sign
+use Rattle.cilk_grammar.specs.syntax.Tree as tree
+use Rattle.cilk_grammar.specs.syntax.Tree.{Word, Expr}
+use Rattle.cilk_grammar.specs.syntax.declared.adjustment.Adjustment.{Adjustment}
+use Rattle.cilk_grammar.specs.syntax.declared.operator.BinOp.{BinOp}
+use Rattle.cilk_grammar.specs.syntax.Bare.{bare_word, bare_expr, bare_value, bare_move}
+use Rattle.cilk_grammar.specs.rules.Rule.{skip}
+use Rattle.cilk_grammar.specs.expression.Grammar.{operators}
+use Rattle.cilk_grammar.proofs.expression_laws.ClassFacts.{names_are}
 use Rattle.cilk_grammar.specs.Parts.{Value, computed, called, assigned}
 use Rattle.cilk_grammar.specs.Forms.{expression, value, behind_commas, commas}
 use Rattle.cilk_grammar.specs.Grammar as grammar

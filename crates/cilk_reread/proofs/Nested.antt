@@ -1,9 +1,9 @@
 -- What tokens spell is good: its canonical lexemes spell it again. By induction on how deep statements and inlets stand.
 use Rattle.std.proofs.Common.{◌≡◌, ℕ, zero, suc, ◌≤◌, true, List, Option, Some, sym, subst, inl, inr}
-use Rattle.cilk_lexeme.specs.Lexeme.{Lexeme, Piece, name}
-use Rattle.cilk_syntax.specs.Tree as tree
-use Rattle.cilk_rules.specs.Rule.{has}
-use Rattle.cilk_expression.specs.Classes.{cls, class_of}
+use Rattle.cilk_grammar.specs.lexeme.Lexeme.{Lexeme, Piece, name}
+use Rattle.cilk_grammar.specs.syntax.Tree as tree
+use Rattle.cilk_grammar.specs.rules.Rule.{has}
+use Rattle.cilk_grammar.specs.expression.Classes.{cls, class_of}
 use Rattle.cilk_grammar.specs.Parts.{the_word, the_name, the_number, the_literal, the_header, Nest, a_statement, no_block, an_inlet, Part, token, an_expr, a_value, nest, Value, NestMeans, Means}
 use Rattle.cilk_grammar.specs.Grammar.{rule_of}
 use Rattle.cilk_grammar.specs.Spelling.{first_of, said, leaf_says, call, SpellsValue, SpellsNest}

@@ -1,10 +1,10 @@
 -- The canonical lexemes of a program that some tokens spell, spell it again.
 use Rattle.std.proofs.Common.{◌≡◌, ℕ, ◌≤◌, List, [], ◌∷◌, map, None, refl, sym, ap, ◌∙◌}
-use Rattle.cilk_lexeme.specs.Lexeme.{Lexeme, Piece}
-use Rattle.cilk_syntax.specs.Tree as tree
-use Rattle.cilk_syntax.specs.Bare.{bare_item, bare_program}
-use Rattle.cilk_syntax.proofs.BareLaws.{bare_item-bare}
-use Rattle.cilk_expression.specs.Classes.{cls}
+use Rattle.cilk_grammar.specs.lexeme.Lexeme.{Lexeme, Piece}
+use Rattle.cilk_grammar.specs.syntax.Tree as tree
+use Rattle.cilk_grammar.specs.syntax.Bare.{bare_item, bare_program}
+use Rattle.cilk_grammar.proofs.syntax_laws.BareLaws.{bare_item-bare}
+use Rattle.cilk_grammar.specs.expression.Classes.{cls}
 use Rattle.cilk_grammar.specs.Grammar.{program}
 use Rattle.cilk_grammar.specs.Spelling.{first_of, SpellsProgram}
 use Rattle.cilk_grammar.specs.Fault.{lexemes}

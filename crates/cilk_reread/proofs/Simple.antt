@@ -1,18 +1,18 @@
 -- The canonical lexemes of a simple statement spell it again.
 use Rattle.std.proofs.Common.{◌≡◌, ℕ, ◌≤◌, true, List, [], ◌∷◌, codes, Option, Some, None, refl, sym, subst}
-use Rattle.cilk_lexeme.specs.Lexeme.{word, name, mark}
-use Rattle.cilk_lexeme.specs.declared.keyword.Keyword.{Keyword}
-use Rattle.cilk_lexeme.specs.declared.keyword.Keyword.TheVariants as key
-use Rattle.cilk_lexeme.specs.declared.mark.Mark.TheVariants as sign
-use Rattle.cilk_syntax.specs.declared.lock_action.LockAction.{LockAction}
-use Rattle.cilk_syntax.specs.declared.operator.BinOp.{BinOp}
-use Rattle.cilk_syntax.specs.LockWord.{lock_word}
-use Rattle.cilk_syntax.specs.Tree as tree
-use Rattle.cilk_syntax.specs.Tree.{Word, Expr}
-use Rattle.cilk_syntax.specs.Bare.{bare_value, bare_stmt}
-use Rattle.cilk_rules.specs.Rule.{Rule, either, and_then, is}
-use Rattle.cilk_expression.specs.Classes.{name_class}
-use Rattle.cilk_expression.proofs.ClassFacts.{names_are}
+use Rattle.cilk_grammar.specs.lexeme.Lexeme.{word, name, mark}
+use Rattle.cilk_grammar.specs.lexeme.declared.keyword.Keyword.{Keyword}
+use Rattle.cilk_grammar.specs.lexeme.declared.keyword.Keyword.TheVariants as key
+use Rattle.cilk_grammar.specs.lexeme.declared.mark.Mark.TheVariants as sign
+use Rattle.cilk_grammar.specs.syntax.declared.lock_action.LockAction.{LockAction}
+use Rattle.cilk_grammar.specs.syntax.declared.operator.BinOp.{BinOp}
+use Rattle.cilk_grammar.specs.syntax.LockWord.{lock_word}
+use Rattle.cilk_grammar.specs.syntax.Tree as tree
+use Rattle.cilk_grammar.specs.syntax.Tree.{Word, Expr}
+use Rattle.cilk_grammar.specs.syntax.Bare.{bare_value, bare_stmt}
+use Rattle.cilk_grammar.specs.rules.Rule.{Rule, either, and_then, is}
+use Rattle.cilk_grammar.specs.expression.Classes.{name_class}
+use Rattle.cilk_grammar.proofs.expression_laws.ClassFacts.{names_are}
 use Rattle.cilk_grammar.specs.Parts.{Value, computed, called, assigned, Means}
 use Rattle.cilk_grammar.specs.Forms.{expression, optional}
 use Rattle.cilk_grammar.specs.Grammar as grammar

@@ -1,18 +1,18 @@
 -- The canonical lexemes of a statement and of a block spell them again.
 use Rattle.std.proofs.Common.{◌≡◌, ℕ, ◌≤◌, true, false, List, [], ◌∷◌, ◌++◌, map, Option, Some, None, refl, sym, ap, subst, ◌∙◌, inl, inr}
-use Rattle.cilk_lexeme.specs.Lexeme.{Lexeme, Piece, word, name, mark}
-use Rattle.cilk_lexeme.specs.declared.keyword.Keyword.TheVariants as key
-use Rattle.cilk_lexeme.specs.declared.mark.Mark.TheVariants as sign
-use Rattle.cilk_syntax.specs.Tree as tree
-use Rattle.cilk_syntax.specs.Tree.{Word, Expr, stmts_of, locals_of}
-use Rattle.cilk_syntax.specs.Bare.{bare_word, bare_part, bare_stmt, bare_stmts, bare_decl, bare_local, bare_locals, bare_block}
-use Rattle.cilk_rules.specs.Rule as rule
-use Rattle.cilk_rules.specs.Rule.{Rule, skip, either, next, has, EachBefore}
-use Rattle.cilk_rules.proofs.Begun.{Begun, with_token, with_nothing}
-use Rattle.cilk_rules.proofs.Tokens.{apart_has, next_append}
-use Rattle.cilk_expression.specs.Classes.{cls, a_word}
-use Rattle.cilk_expression.specs.Grammar.{operators}
-use Rattle.cilk_expression.proofs.ClassFacts.{names_are}
+use Rattle.cilk_grammar.specs.lexeme.Lexeme.{Lexeme, Piece, word, name, mark}
+use Rattle.cilk_grammar.specs.lexeme.declared.keyword.Keyword.TheVariants as key
+use Rattle.cilk_grammar.specs.lexeme.declared.mark.Mark.TheVariants as sign
+use Rattle.cilk_grammar.specs.syntax.Tree as tree
+use Rattle.cilk_grammar.specs.syntax.Tree.{Word, Expr, stmts_of, locals_of}
+use Rattle.cilk_grammar.specs.syntax.Bare.{bare_word, bare_part, bare_stmt, bare_stmts, bare_decl, bare_local, bare_locals, bare_block}
+use Rattle.cilk_grammar.specs.rules.Rule as rule
+use Rattle.cilk_grammar.specs.rules.Rule.{Rule, skip, either, next, has, EachBefore}
+use Rattle.cilk_grammar.proofs.rules_laws.Begun.{Begun, with_token, with_nothing}
+use Rattle.cilk_grammar.proofs.rules_laws.Tokens.{apart_has, next_append}
+use Rattle.cilk_grammar.specs.expression.Classes.{cls, a_word}
+use Rattle.cilk_grammar.specs.expression.Grammar.{operators}
+use Rattle.cilk_grammar.proofs.expression_laws.ClassFacts.{names_are}
 use Rattle.cilk_grammar.specs.Parts.{a_statement, an_inlet, Means}
 use Rattle.cilk_grammar.specs.Forms as forms
 use Rattle.cilk_grammar.specs.Forms.{joined, optional}

@@ -1,14 +1,14 @@
 -- The canonical lexemes of what stands behind the name of a function spell it again.
 use Rattle.std.proofs.Common.{◌≡◌, ℕ, zero, suc, ◌≤◌, true, List, [], ◌∷◌, ◌++◌, map, length, codes, Option, Some, None, refl, ap}
-use Rattle.cilk_lexeme.specs.Lexeme.{Lexeme, word, name, mark}
-use Rattle.cilk_lexeme.specs.declared.keyword.Keyword.TheVariants as key
-use Rattle.cilk_lexeme.specs.declared.mark.Mark.TheVariants as sign
-use Rattle.cilk_syntax.specs.Tree as tree
-use Rattle.cilk_syntax.specs.Tree.{Word}
-use Rattle.cilk_syntax.specs.Bare.{bare_word, bare_parameters, bare_block}
-use Rattle.cilk_rules.specs.Rule as rule
-use Rattle.cilk_rules.specs.Rule.{Rule, skip, either, and_then, done, next}
-use Rattle.cilk_expression.proofs.ClassFacts.{names_are}
+use Rattle.cilk_grammar.specs.lexeme.Lexeme.{Lexeme, word, name, mark}
+use Rattle.cilk_grammar.specs.lexeme.declared.keyword.Keyword.TheVariants as key
+use Rattle.cilk_grammar.specs.lexeme.declared.mark.Mark.TheVariants as sign
+use Rattle.cilk_grammar.specs.syntax.Tree as tree
+use Rattle.cilk_grammar.specs.syntax.Tree.{Word}
+use Rattle.cilk_grammar.specs.syntax.Bare.{bare_word, bare_parameters, bare_block}
+use Rattle.cilk_grammar.specs.rules.Rule as rule
+use Rattle.cilk_grammar.specs.rules.Rule.{Rule, skip, either, and_then, done, next}
+use Rattle.cilk_grammar.proofs.expression_laws.ClassFacts.{names_are}
 use Rattle.cilk_grammar.specs.Parts.{Means}
 use Rattle.cilk_grammar.specs.Forms as forms
 use Rattle.cilk_grammar.specs.Forms.{optional, behind_commas}

@@ -1,10 +1,10 @@
 -- Programs in which no statement that is an increment or a decrement has the name of `printf` or of a call of a lock. Canonical text
 -- writes the mark behind the place, and a statement that begins with one of those names is of another form.
 use Rattle.std.specs.Prelude.{◌≡◌, true, List, [], ◌∷◌, Some}
-use Rattle.cilk_syntax.specs.Tree as tree
-use Rattle.cilk_syntax.specs.Tree.{Word}
-use Rattle.cilk_rules.specs.Rule.{has}
-use Rattle.cilk_expression.specs.Classes.{name_class}
+use Rattle.cilk_grammar.specs.syntax.Tree as tree
+use Rattle.cilk_grammar.specs.syntax.Tree.{Word}
+use Rattle.cilk_grammar.specs.rules.Rule.{has}
+use Rattle.cilk_grammar.specs.expression.Classes.{name_class}
 use Rattle.cilk_grammar.specs.Grammar.{plain_names}
 
 abbrev pub IsPlain : Word → Type 0

@@ -1,12 +1,12 @@
 //! What holds of every program that tokens spell. These functions do nothing: their contracts are the laws.
 
 ghost use Rattle.std.specs.Prelude.{◌≡◌, ℕ, ◌≤◌, true, List, All};
-ghost use Rattle.cilk_lexeme.specs.Lexeme.{Piece};
-ghost use Rattle.cilk_canonical.specs.ProgramText.{program_text};
-ghost use Rattle.cilk_lexeme.specs.Good.{IsGoodLexeme};
-ghost use Rattle.cilk_lexeme.specs.Lexing.{Lexes};
-ghost use Rattle.cilk_syntax.specs.Tree as tree;
-ghost use Rattle.cilk_syntax.specs.Bare.{bare_program};
+ghost use Rattle.cilk_grammar.specs.lexeme.Lexeme.{Piece};
+ghost use Rattle.cilk_spelled.specs.canonical.ProgramText.{program_text};
+ghost use Rattle.cilk_grammar.specs.lexeme.Good.{IsGoodLexeme};
+ghost use Rattle.cilk_grammar.specs.lexeme.Lexing.{Lexes};
+ghost use Rattle.cilk_grammar.specs.syntax.Tree as tree;
+ghost use Rattle.cilk_grammar.specs.syntax.Bare.{bare_program};
 ghost use Rattle.cilk_grammar.specs.Spelling.{SpellsProgram};
 ghost use Rattle.cilk_grammar.specs.Fault.{lexemes};
 ghost use Rattle.cilk_spelled.specs.CanWrite.{CanWrite};

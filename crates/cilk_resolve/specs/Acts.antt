@@ -3,9 +3,9 @@ use Rattle.std.specs.Prelude.{ℕ, List, map, option_map, Option, Some, None}
 use Rattle.cilk_syntax.specs.Tree as tree
 use Rattle.cilk_syntax.specs.Tree.{Word}
 use Rattle.cilk_syntax.specs.Adjustments.{operator_of}
-use Rattle.cilk_values.specs.Term as term
-use Rattle.cilk_values.specs.Term.{Term}
-use Rattle.cilk_eval.specs.declared.slot.Slot.{Slot}
+use Rattle.cilk_nodes.specs.values.Term as term
+use Rattle.cilk_nodes.specs.values.Term.{Term}
+use Rattle.cilk_nodes.specs.eval.declared.slot.Slot.{Slot}
 use Rattle.cilk_nodes.specs.declared.place.Place.{Place}
 use Rattle.cilk_nodes.specs.declared.target.Target.{Target}
 use Rattle.cilk_nodes.specs.declared.taker.Taker.{Taker}

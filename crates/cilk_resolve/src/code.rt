@@ -4,8 +4,7 @@ ghost use Rattle.std.specs.Prelude.{◌≡◌, IfOk, option_map};
 ghost use Rattle.cilk_resolve.specs.Acts.{code_in, codes_in};
 
 use crate::names::Names;
-use cilk_eval::{Code, CodeNode};
-use cilk_nodes::Codes;
+use cilk_nodes::{Code, CodeNode, Codes};
 use cilk_syntax::{Expr, ExprNode, Memory};
 use std::alloc::Global;
 

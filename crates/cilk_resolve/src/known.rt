@@ -1,4 +1,4 @@
-use cilk_eval::Slot;
+use cilk_nodes::Slot;
 
 /// What a name stands for: the slot of a variable, and the number of the declaration among those of its kind.
 #[derive(Clone, Copy)]

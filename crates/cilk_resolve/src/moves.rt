@@ -6,8 +6,7 @@ ghost use Rattle.cilk_resolve.specs.Acts.{place_in, target_in, move_in};
 
 use crate::code::{code_in, codes_in, option_code_in};
 use crate::names::Names;
-use cilk_eval::{Code, CodeNode};
-use cilk_nodes::{Action, Place, Target};
+use cilk_nodes::{Action, Code, CodeNode, Place, Target};
 use cilk_syntax as tree;
 use cilk_syntax::{Adjustment, Expr, Memory, Move, MoveNode, Word};
 use std::alloc::Global;

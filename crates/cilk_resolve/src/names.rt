@@ -8,7 +8,7 @@ ghost use Rattle.cilk_resolve.specs.Shown.{told};
 use crate::entry::Entry;
 use crate::known::Known;
 use crate::nearest::Nearest;
-use cilk_eval::{Area, Slot};
+use cilk_nodes::{Area, Slot};
 use cilk_syntax::{Memory, Word};
 use std::alloc::Global;
 use std::collections::BTreeMap;

@@ -2,7 +2,7 @@
 use Rattle.std.proofs.Common.{◌≡◌, ◌++◌, refl, ap, ◌∙◌}
 use Rattle.std.specs.List.{flat_map}
 use Rattle.std.proofs.lemmas.List.Concat.{flat_map-append}
-use Rattle.cilk_syntax.specs.Tree as tree
+use Rattle.cilk_scopes.specs.syntax.Tree as tree
 use Rattle.cilk_scopes.specs.Parts.{Around, local, statement, inner, looped, after_local, after_locals, in_inlet, block_parts, locals_parts, within_local, stmts_parts, within_stmt}
 use Rattle.cilk_rules_of_forms.specs.Finds.{standing_faults, part_faults, block_faults, locals_faults, inside_local, stmts_faults, inside_stmt}
 

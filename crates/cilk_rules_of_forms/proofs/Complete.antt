@@ -2,8 +2,8 @@
 use Rattle.std.proofs.Common.{◌≡◌, ◌≢◌, ℕ, Bool, true, false, not, nat_eq, Option, Some, None, List, [], ◌∷◌, ◌++◌, length, map, ◌⊎◌, inl, inr, refl, sym, ap, subst, ◌∙◌}
 use Rattle.std.specs.List.{Contains, flat_map, list_any}
 use Rattle.std.proofs.lemmas.Bool.Decides.{Decides-eqb}
-use Rattle.cilk_syntax.specs.Tree.{Word}
-use Rattle.cilk_syntax.specs.Tree as tree
+use Rattle.cilk_scopes.specs.syntax.Tree.{Word}
+use Rattle.cilk_scopes.specs.syntax.Tree as tree
 use Rattle.cilk_scopes.specs.declared.fault.CheckFault.{CheckFault}
 use Rattle.cilk_scopes.specs.declared.fault.CheckFault.TheVariants.{NotInProcedure, InInlet, AbortOutside, NoLoop, NoMain, ReturnForm, Format, Limit}
 use Rattle.cilk_scopes.specs.declared.kind.Kind.{Kind}

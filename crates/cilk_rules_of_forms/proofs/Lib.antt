@@ -7,3 +7,4 @@ pub mod Passing
 pub mod Sound
 pub mod Mains
 pub mod Complete
+pub use Rattle.cilk_scopes.proofs as scopes_laws

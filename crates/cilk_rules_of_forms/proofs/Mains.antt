@@ -3,9 +3,9 @@ use Rattle.std.proofs.Common.{◌≡◌, Bool, true, false, ◌&&◌, ◌||◌, 
 use Rattle.std.specs.List.{list_any}
 use Rattle.std.specs.Str.{bytes_eq}
 use Rattle.std.proofs.lemmas.Slice.Eq.{bytes_eq-Decides}
-use Rattle.cilk_syntax.specs.declared.return_type.ReturnType.{ReturnType}
-use Rattle.cilk_syntax.specs.declared.return_type.ReturnType.TheVariants as returns
-use Rattle.cilk_syntax.specs.Tree as tree
+use Rattle.cilk_scopes.specs.syntax.declared.return_type.ReturnType.{ReturnType}
+use Rattle.cilk_scopes.specs.syntax.declared.return_type.ReturnType.TheVariants as returns
+use Rattle.cilk_scopes.specs.syntax.Tree as tree
 use Rattle.cilk_scopes.proofs.Elements.{Has}
 use Rattle.cilk_rules_of_forms.specs.Forms.{IsMain}
 use Rattle.cilk_rules_of_forms.specs.Finds.{is_int, is_main, starts}

@@ -1,7 +1,7 @@
 -- What is left behind declarations that stand one after another.
 use Rattle.std.proofs.Common.{◌≡◌, ℕ, ◌+◌, ◌<◌, ◌-◌, List, [], ◌∷◌, ◌++◌, length, get_or, drop, map, Option, Some, None, true, refl, ap, ◌∙◌, arith, nat_le}
 use Rattle.std.proofs.lemmas.Bool.Decides.{nat_tests}
-use Rattle.cilk_syntax.specs.Tree.{Word, Stmt, Local, Item, stmts_of, locals_of}
+use Rattle.cilk_scopes.specs.syntax.Tree.{Word, Stmt, Local, Item, stmts_of, locals_of}
 use Rattle.cilk_scopes.specs.Scopes.{Declared, parameter, local_declares, item_declares, file_declares}
 use Rattle.cilk_scopes.specs.Declarations.{locals_variables, stmts_variables, stmt_variables}
 use Rattle.cilk_scopes.specs.declared.fault.CheckFault.{CheckFault}

@@ -3,8 +3,8 @@ use Rattle.std.proofs.Common.{◌≡◌, ◌≢◌, ℕ, Bool, true, false, not,
 use Rattle.std.specs.List.{Contains, flat_map, list_any}
 use Rattle.std.proofs.lemmas.Bool.{false≢true}
 use Rattle.std.proofs.lemmas.Bool.Decides.{Decides-eqb}
-use Rattle.cilk_syntax.specs.Tree.{Word}
-use Rattle.cilk_syntax.specs.Tree as tree
+use Rattle.cilk_scopes.specs.syntax.Tree.{Word}
+use Rattle.cilk_scopes.specs.syntax.Tree as tree
 use Rattle.cilk_scopes.specs.declared.fault.CheckFault.{CheckFault}
 use Rattle.cilk_scopes.specs.declared.fault.CheckFault.TheVariants.{NotInProcedure}
 use Rattle.cilk_scopes.specs.declared.kind.Kind.{Kind}

@@ -1,7 +1,7 @@
 -- The first among the faults of a block, part by part.
 use Rattle.std.proofs.Common.{◌≡◌, ℕ, ◌+◌, ◌<◌, ◌-◌, List, [], ◌∷◌, length, get_or, drop, Option, Some, None, Bool, true, false, cond, nat_le, refl, ap, ◌∙◌}
 use Rattle.std.specs.List.{flat_map}
-use Rattle.cilk_syntax.specs.Tree.{Stmt, Local, Item, stmts_of, locals_of}
+use Rattle.cilk_scopes.specs.syntax.Tree.{Stmt, Local, Item, stmts_of, locals_of}
 use Rattle.cilk_scopes.specs.declared.fault.CheckFault.{CheckFault}
 use Rattle.cilk_scopes.specs.declared.fault.CheckFault.TheVariants.{Limit}
 use Rattle.cilk_scopes.specs.declared.within.Within.{Within}

@@ -5,7 +5,7 @@ use Rattle.cilk_scopes.specs.declared.owner.Owner.{Owner}
 use Rattle.cilk_scopes.specs.First.{first_among}
 use Rattle.cilk_scopes.proofs.Firsts.{first_among-append, first_among-flat_map}
 use Rattle.cilk_scopes.proofs.Steps.{flat_map_more}
-use Rattle.cilk_syntax.specs.Tree as tree
+use Rattle.cilk_scopes.specs.syntax.Tree as tree
 use Rattle.cilk_rules_of_forms.specs.Finds.{word_faults, words_faults, expr_faults, exprs_faults}
 
 pub words-append : (found : Option CheckFault) (o : Owner) (xs ys : List ℕ) → first_among found (words_faults o (xs ++ ys)) ≡ first_among (first_among found (words_faults o xs)) (words_faults o ys)

@@ -1,9 +1,9 @@
 -- The faults in the forms of a program as a list, part by part.
 use Rattle.std.specs.Prelude.{ℕ, List, [], ◌∷◌, ◌++◌, Bool, true, false, not, length, ◌-◌, ◌&&◌, ◌==◌, nat_le, if◌then◌else◌, codes, Option, Some, None, flat_map, map, bytes_eq}
 use Rattle.std.specs.List.{list_any}
-use Rattle.cilk_syntax.specs.declared.return_type.ReturnType.{ReturnType}
-use Rattle.cilk_syntax.specs.declared.return_type.ReturnType.TheVariants.{Int, Void}
-use Rattle.cilk_syntax.specs.Tree as tree
+use Rattle.cilk_scopes.specs.syntax.declared.return_type.ReturnType.{ReturnType}
+use Rattle.cilk_scopes.specs.syntax.declared.return_type.ReturnType.TheVariants.{Int, Void}
+use Rattle.cilk_scopes.specs.syntax.Tree as tree
 use Rattle.cilk_scopes.specs.declared.fault.CheckFault.{CheckFault}
 use Rattle.cilk_scopes.specs.declared.fault.CheckFault.TheVariants.{NotInProcedure, InInlet, AbortOutside, NoLoop, NoMain, ReturnForm, Format, Limit}
 use Rattle.cilk_scopes.specs.declared.kind.Kind.{Kind}

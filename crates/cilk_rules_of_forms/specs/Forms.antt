@@ -1,9 +1,9 @@
 -- What the forms of a program must not be, and what room it must not take.
 use Rattle.std.specs.Prelude.{◌≡◌, ◌≢◌, ℕ, Bool, true, false, IsTrue, IsFalse, ◌≤◌, ◌<◌, List, [], ◌∷◌, ◌++◌, flat_map, length, codes, Contains, Option, Some, is_some, is_none}
-use Rattle.cilk_syntax.specs.declared.return_type.ReturnType.{ReturnType}
-use Rattle.cilk_syntax.specs.declared.return_type.ReturnType.TheVariants.{Int, Void}
-use Rattle.cilk_syntax.specs.Tree.{Word}
-use Rattle.cilk_syntax.specs.Tree as tree
+use Rattle.cilk_scopes.specs.syntax.declared.return_type.ReturnType.{ReturnType}
+use Rattle.cilk_scopes.specs.syntax.declared.return_type.ReturnType.TheVariants.{Int, Void}
+use Rattle.cilk_scopes.specs.syntax.Tree.{Word}
+use Rattle.cilk_scopes.specs.syntax.Tree as tree
 use Rattle.cilk_scopes.specs.declared.fault.CheckFault.{CheckFault}
 use Rattle.cilk_scopes.specs.declared.fault.CheckFault.TheVariants.{NotInProcedure, InInlet, AbortOutside, NoLoop, NoMain, ReturnForm, Format, Limit}
 use Rattle.cilk_scopes.specs.declared.owner.Owner.{Owner}

@@ -1,15 +1,15 @@
 //! What the declarations of a body leave of a limit of cells.
 
 ghost use Rattle.std.specs.Prelude.{◌≡◌, ◌∷◌, [], map};
-ghost use Rattle.cilk_syntax.specs.Tree as tree;
-ghost use Rattle.cilk_syntax.specs.Tree.{locals_of, stmts_of};
-ghost use Rattle.cilk_syntax.specs.ProgramView.{parameters_of};
+ghost use Rattle.cilk_scopes.specs.syntax.Tree as tree;
+ghost use Rattle.cilk_scopes.specs.syntax.Tree.{locals_of, stmts_of};
+ghost use Rattle.cilk_scopes.specs.syntax.ProgramView.{parameters_of};
 ghost use Rattle.cilk_scopes.specs.Scopes.{parameter, parameters_declare, local_declares, file_declares, item_declares};
 ghost use Rattle.cilk_scopes.specs.Declarations.{block_variables, locals_variables, stmts_variables, stmt_variables};
 ghost use Rattle.cilk_rules_of_forms.specs.Room.{behind};
 
 use crate::space::Room;
-use cilk_syntax::{
+use cilk_scopes::{
     Block, Decl, GlobalShape, Item, ItemNode, Local, LocalNode, Parameters, Shape, Stmt, StmtNode,
     Word,
 };

@@ -2,13 +2,12 @@
 //! found so far, and answers the first of it and of those in its own part.
 
 ghost use Rattle.std.specs.Prelude.{◌≡◌};
-ghost use Rattle.cilk_syntax.specs.MoveView.{taker_of};
+ghost use Rattle.cilk_scopes.specs.syntax.MoveView.{taker_of};
 ghost use Rattle.cilk_scopes.specs.First.{first_among};
 ghost use Rattle.cilk_scopes.specs.Parts.{place_exprs, target_exprs, move_exprs, moves_exprs, taker_exprs};
 ghost use Rattle.cilk_rules_of_forms.specs.Finds.{word_faults, expr_faults, exprs_faults, value_faults};
 
-use cilk_scopes::{CheckFault, Owner, first};
-use cilk_syntax::{Expr, ExprNode, Move, MoveNode, Place, Taker, Target};
+use cilk_scopes::{CheckFault, Expr, ExprNode, Move, MoveNode, Owner, Place, Taker, Target, first};
 
 /// One of the words, in a body.
 pub(crate) fn at_word(owner: Owner, at: u32, found: Option<CheckFault>) -> Option<CheckFault>

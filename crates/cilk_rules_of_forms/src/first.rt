@@ -4,8 +4,7 @@ ghost use Rattle.cilk_scopes.specs.Fault.{IsFirst};
 ghost use Rattle.cilk_rules_of_forms.specs.Forms.{Faulty};
 
 use crate::top::first_listed;
-use cilk_scopes::CheckFault;
-use cilk_syntax::Program;
+use cilk_scopes::{CheckFault, Program};
 
 /// The first fault in the forms of a program: the one with the least place, and at that place with the least number.
 pub fn first_form_fault(program: &Program) -> Option<CheckFault>

@@ -11,4 +11,7 @@ mod statement;
 mod top;
 mod walk;
 
+pub use cilk_scopes::{
+    BinOp, CheckFault, LexFault, LockAction, Owner, Program, first as scopes_first,
+};
 pub use first::first_form_fault;

@@ -2,8 +2,8 @@
 
 ghost use Rattle.std.specs.Prelude.{◌≡◌, ◌++◌, not, map};
 ghost use Rattle.std.specs.Int.{is_in_range};
-ghost use Rattle.cilk_syntax.specs.Tree as tree;
-ghost use Rattle.cilk_syntax.specs.MoveView.{shape_of};
+ghost use Rattle.cilk_scopes.specs.syntax.Tree as tree;
+ghost use Rattle.cilk_scopes.specs.syntax.MoveView.{shape_of};
 ghost use Rattle.cilk_scopes.specs.declared.fault.CheckFault.TheVariants.{Limit, NotInProcedure};
 ghost use Rattle.cilk_scopes.specs.First.{first_among, fault_if};
 ghost use Rattle.cilk_scopes.specs.Scopes.{parameter, kind_of_shape};
@@ -16,8 +16,7 @@ ghost use Rattle.cilk_rules_of_forms.specs.Finds.{exprs_faults, kind_faults, pas
 use crate::cells::{behind_block, behind_names};
 use crate::children::in_value;
 use crate::space::Room;
-use cilk_scopes::{CheckFault, Owner, Within, first_if};
-use cilk_syntax::{Decl, Inlet, Shape};
+use cilk_scopes::{CheckFault, Decl, Inlet, Owner, Shape, Within, first_if};
 
 pub(crate) const MAX_CELLS: u32 = 4096;
 

@@ -1,7 +1,7 @@
 //! The first fault in a statement itself, without the blocks inside it.
 
 ghost use Rattle.std.specs.Prelude.{◌≡◌, ◌∷◌, ◌++◌, not, length};
-ghost use Rattle.cilk_syntax.specs.MoveView.{taker_of};
+ghost use Rattle.cilk_scopes.specs.syntax.MoveView.{taker_of};
 ghost use Rattle.cilk_scopes.specs.declared.fault.CheckFault.TheVariants.{Format, ReturnForm};
 ghost use Rattle.cilk_scopes.specs.First.{first_among, fault_if};
 ghost use Rattle.cilk_scopes.specs.Parts.{moves_exprs, taker_exprs};
@@ -11,8 +11,7 @@ ghost use Rattle.cilk_rules_of_forms.specs.Finds.{is_count, is_inlet, word_fault
 
 use crate::children::{at_word, in_expr, in_exprs, in_moves, in_taker, in_value};
 use crate::format::numbers_in;
-use cilk_scopes::{CheckFault, Owner, first_if};
-use cilk_syntax::{Expr, Literal, Move, ReturnType, Taker};
+use cilk_scopes::{CheckFault, Expr, Literal, Move, Owner, ReturnType, Taker, first_if};
 
 pub(crate) fn is_inlet(owner: Owner) -> bool
     ensures { result ≡ is_inlet owner }

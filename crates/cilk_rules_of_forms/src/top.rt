@@ -5,7 +5,7 @@ ghost use Rattle.std.specs.List.{list_any};
 ghost use Rattle.cilk_scopes.specs.First.{first_among};
 ghost use Rattle.cilk_scopes.specs.Scopes.{file_declares, item_declares};
 ghost use Rattle.cilk_scopes.specs.Parts.{owner_of};
-ghost use Rattle.cilk_syntax.specs.ProgramView.{parameters_of};
+ghost use Rattle.cilk_scopes.specs.syntax.ProgramView.{parameters_of};
 ghost use Rattle.cilk_rules_of_forms.specs.Cells.{max_global_cells};
 ghost use Rattle.cilk_rules_of_forms.specs.Forms.{are_of_main};
 ghost use Rattle.cilk_rules_of_forms.specs.Finds.{forms_faults, item_faults, procedure_faults, length_faults, passing, starts, is_main, is_int};
@@ -14,8 +14,10 @@ use crate::cells::{behind_block, behind_items, behind_parameters};
 use crate::local::{MAX_CELLS, is_length};
 use crate::space::Room;
 use crate::walk::in_block;
-use cilk_scopes::{CheckFault, Owner, Within, first_if};
-use cilk_syntax::{GlobalShape, Item, ItemNode, Parameters, Proc, Program, ReturnType};
+use cilk_scopes::{
+    CheckFault, GlobalShape, Item, ItemNode, Owner, Parameters, Proc, Program, ReturnType, Within,
+    first_if,
+};
 
 const MAX_GLOBAL_CELLS: u32 = 1_048_576;
 

@@ -2,8 +2,8 @@
 //! first of it and of those in its own part.
 
 ghost use Rattle.std.specs.Prelude.{◌≡◌, ◌++◌};
-ghost use Rattle.cilk_syntax.specs.Tree as tree;
-ghost use Rattle.cilk_syntax.specs.Tree.{locals_of, stmts_of};
+ghost use Rattle.cilk_scopes.specs.syntax.Tree as tree;
+ghost use Rattle.cilk_scopes.specs.syntax.Tree.{locals_of, stmts_of};
 ghost use Rattle.cilk_scopes.specs.First.{first_among};
 ghost use Rattle.cilk_scopes.specs.Parts as parts;
 ghost use Rattle.cilk_rules_of_forms.specs.Finds.{part_faults, block_faults, locals_faults, inside_local, stmts_faults, inside_stmt};
@@ -11,8 +11,7 @@ ghost use Rattle.cilk_rules_of_forms.specs.Finds.{part_faults, block_faults, loc
 use crate::children::{at_word, in_expr, in_move};
 use crate::local::{at_decl, at_inlet};
 use crate::statement::{at_header, at_print, at_return, at_spawn, is_inlet};
-use cilk_scopes::{CheckFault, Owner, Within, first_if};
-use cilk_syntax::{Block, Local, LocalNode, Stmt, StmtNode};
+use cilk_scopes::{Block, CheckFault, Local, LocalNode, Owner, Stmt, StmtNode, Within, first_if};
 
 #[cycle(in_block)]
 #[tactic(auto, using(crate::proofs::Walks::walks))]

@@ -2,7 +2,7 @@
 use Rattle.std.proofs.Common.{◌≡◌, List, ◌++◌, map, refl, sym, ap, ◌∙◌, append_assoc}
 use Rattle.std.specs.List.{flat_map}
 use Rattle.std.proofs.lemmas.List.Concat.{flat_map-append}
-use Rattle.cilk_syntax.specs.Tree as tree
+use Rattle.cilk_scopes.specs.syntax.Tree as tree
 use Rattle.cilk_scopes.specs.declared.fault.CheckFault.{CheckFault}
 use Rattle.cilk_scopes.specs.Scopes.{Scopes, declare, parameter, local_declares}
 use Rattle.cilk_scopes.specs.Parts.{Around, Part, Standing, local, statement, inner, looped, after_local, after_locals, in_inlet, block_parts, locals_parts, within_local, stmts_parts, within_stmt}

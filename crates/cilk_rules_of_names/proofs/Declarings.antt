@@ -2,7 +2,7 @@
 use Rattle.std.proofs.Common.{◌≡◌, ℕ, ◌+◌, ◌-◌, ◌<◌, ◌≤◌, List, [], ◌∷◌, ◌++◌, length, get_or, take, drop, map, Option, refl, ap, ◌∙◌, arith, length-append}
 use Rattle.std.specs.List.{flat_map}
 use Rattle.std.proofs.Math.Seq.{drop-append_seam, take-append_seam}
-use Rattle.cilk_syntax.specs.Tree.{Word, Stmt, Local, Block, block, Locals, no_locals, and_local, stmts_of, locals_of}
+use Rattle.cilk_scopes.specs.syntax.Tree.{Word, Stmt, Local, Block, block, Locals, no_locals, and_local, stmts_of, locals_of}
 use Rattle.cilk_scopes.specs.declared.fault.CheckFault.{CheckFault}
 use Rattle.cilk_scopes.specs.First.{first_among}
 use Rattle.cilk_scopes.specs.Scopes.{Declared, Scopes, declare, declare_all, enter, parameter, local_declares}

@@ -5,7 +5,7 @@ use Rattle.std.specs.Option.{option_map}
 use Rattle.std.specs.Str.{bytes_eq}
 use Rattle.std.proofs.lemmas.Bool.{false≢true}
 use Rattle.std.proofs.lemmas.Slice.Eq.{bytes_eq-Decides}
-use Rattle.cilk_syntax.specs.Tree as tree
+use Rattle.cilk_scopes.specs.syntax.Tree as tree
 use Rattle.cilk_scopes.specs.declared.fault.CheckFault.{CheckFault}
 use Rattle.cilk_scopes.specs.declared.fault.CheckFault.TheVariants.{Twice, WrongKind, ArgumentCount, VoidValue, Prototype, Reserved}
 use Rattle.cilk_scopes.specs.First.{fault_if}

@@ -1,7 +1,7 @@
 -- The faults of a part are those of what it declares and of what it uses.
 use Rattle.std.proofs.Common.{List, [], map, inl, inr, refl, sym, subst}
 use Rattle.std.specs.List.{flat_map}
-use Rattle.cilk_syntax.specs.Tree as tree
+use Rattle.cilk_scopes.specs.syntax.Tree as tree
 use Rattle.cilk_scopes.specs.declared.fault.CheckFault.{CheckFault}
 use Rattle.cilk_scopes.specs.Scopes.{Scopes, declare, parameter, local_declares}
 use Rattle.cilk_scopes.specs.Declarations.{Declaring, declaring, part_declarings}

@@ -6,8 +6,8 @@ use Rattle.cilk_scopes.specs.First.{first_among}
 use Rattle.cilk_scopes.specs.Scopes.{Scopes}
 use Rattle.cilk_scopes.proofs.Firsts.{first_among-append, first_among-flat_map}
 use Rattle.cilk_scopes.proofs.Steps.{flat_map_more}
-use Rattle.cilk_syntax.specs.Tree.{Word}
-use Rattle.cilk_syntax.specs.Tree as tree
+use Rattle.cilk_scopes.specs.syntax.Tree.{Word}
+use Rattle.cilk_scopes.specs.syntax.Tree as tree
 use Rattle.cilk_rules_of_names.specs.declared.role.Role.{Role}
 use Rattle.cilk_rules_of_names.specs.Uses.{Use, use_as}
 use Rattle.cilk_rules_of_names.specs.Finds.{name_faults, use_faults, expr_faults, exprs_faults}

@@ -1,9 +1,9 @@
 -- What the names of a program must not be.
 use Rattle.std.specs.Prelude.{◌≡◌, ◌≢◌, ℕ, Bool, true, false, IsFalse, List, length, codes, Contains, Option, Some, None, IsSome, IsNone}
-use Rattle.cilk_syntax.specs.declared.return_type.ReturnType.{ReturnType}
-use Rattle.cilk_syntax.specs.declared.return_type.ReturnType.TheVariants.{Void}
-use Rattle.cilk_syntax.specs.Tree.{Word}
-use Rattle.cilk_syntax.specs.Tree as tree
+use Rattle.cilk_scopes.specs.syntax.declared.return_type.ReturnType.{ReturnType}
+use Rattle.cilk_scopes.specs.syntax.declared.return_type.ReturnType.TheVariants.{Void}
+use Rattle.cilk_scopes.specs.syntax.Tree.{Word}
+use Rattle.cilk_scopes.specs.syntax.Tree as tree
 use Rattle.cilk_scopes.specs.declared.fault.CheckFault.{CheckFault}
 use Rattle.cilk_scopes.specs.declared.fault.CheckFault.TheVariants.{Twice, Unknown, WrongKind, ArgumentCount, VoidValue, InletNeedsSpawn, Prototype, Reserved}
 use Rattle.cilk_scopes.specs.declared.kind.Kind.{Kind}

@@ -1,6 +1,6 @@
 -- The names that a program may neither declare nor use.
 use Rattle.std.specs.Prelude.{ℕ, List, [], ◌∷◌, ◌++◌, codes, Contains}
-use Rattle.cilk_syntax.specs.Tree.{Word}
+use Rattle.cilk_scopes.specs.syntax.Tree.{Word}
 
 -- keywords (C 1990, 6.1.1) that are no words of this language
 abbrev pub c_keywords : List (List ℕ)

@@ -1,7 +1,7 @@
 -- The uses of names in a program: what each name is used as.
 use Rattle.std.specs.Prelude.{◌+◌, Bool, true, false, List, [], ◌∷◌, ◌++◌, flat_map, length, Option, Some, None, is_some}
-use Rattle.cilk_syntax.specs.Tree.{Word}
-use Rattle.cilk_syntax.specs.Tree as tree
+use Rattle.cilk_scopes.specs.syntax.Tree.{Word}
+use Rattle.cilk_scopes.specs.syntax.Tree as tree
 use Rattle.cilk_scopes.specs.Scopes.{Scopes}
 use Rattle.cilk_scopes.specs.Parts.{Part, local, statement, parts_of, part_exprs, visible_in}
 use Rattle.cilk_rules_of_names.specs.declared.role.Role.{Role}

@@ -1,6 +1,5 @@
 use crate::nearest::Nearest;
-use cilk_scopes::Kind;
-use cilk_syntax::Word;
+use cilk_scopes::{Kind, Word};
 
 /// A declaration that is visible, and what it hides.
 #[derive(Clone, Copy)]

@@ -1,7 +1,7 @@
 //! What the top level declares: its faults, and the table of it.
 
 ghost use Rattle.std.specs.Prelude.{◌≡◌, [], IfOk, OnOk, flat_map, length, option_to_list, option_map};
-ghost use Rattle.cilk_syntax.specs.ProgramView.{parameters_of};
+ghost use Rattle.cilk_scopes.specs.syntax.ProgramView.{parameters_of};
 ghost use Rattle.cilk_scopes.specs.First.{first_among};
 ghost use Rattle.cilk_scopes.specs.Scopes.{declare_all, file_declares, file_scopes, item_declares, kind_of_body, parameter_count};
 ghost use Rattle.cilk_scopes.specs.Declarations.{declaring};
@@ -9,8 +9,7 @@ ghost use Rattle.cilk_rules_of_names.specs.Finds.{declaring_faults, scope_faults
 
 use crate::table::Names;
 use crate::walk::at_declared;
-use cilk_scopes::{CheckFault, Kind};
-use cilk_syntax::{GlobalShape, Item, ItemNode, Memory, Parameters, ReturnType};
+use cilk_scopes::{CheckFault, GlobalShape, Item, ItemNode, Kind, Memory, Parameters, ReturnType};
 use std::alloc::Global;
 
 fn kind_of_body(is_cilk: bool, returns: ReturnType, parameters: usize) -> Kind

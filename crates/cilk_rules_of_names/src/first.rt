@@ -4,8 +4,7 @@ ghost use Rattle.cilk_scopes.specs.Fault.{IsFirst};
 ghost use Rattle.cilk_rules_of_names.specs.Names.{Faulty};
 
 use crate::top::first_listed;
-use cilk_scopes::CheckFault;
-use cilk_syntax::{Memory, Program};
+use cilk_scopes::{CheckFault, Memory, Program};
 use std::alloc::Global;
 
 /// The first fault in the names of a program: the one with the least place, and at that place with the least number.

@@ -6,8 +6,7 @@ ghost use Rattle.cilk_rules_of_names.specs.Names.{fits, arguments_of, parameters
 ghost use Rattle.cilk_rules_of_names.specs.Finds.{differ, is_void, is_spawned, is_called, is_inlet, meant_faults};
 
 use crate::role::Role;
-use cilk_scopes::{CheckFault, Kind, first_if};
-use cilk_syntax::{ReturnType, Word};
+use cilk_scopes::{CheckFault, Kind, ReturnType, Word, first_if};
 
 fn fits(role: Role, kind: Kind) -> bool
     ensures { result ≡ fits role kind }

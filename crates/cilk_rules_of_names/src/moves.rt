@@ -2,7 +2,7 @@
 //! value of a child: first of the names that stand outside expressions, and then of those in expressions.
 
 ghost use Rattle.std.specs.Prelude.{◌≡◌, flat_map};
-ghost use Rattle.cilk_syntax.specs.MoveView.{taker_of};
+ghost use Rattle.cilk_scopes.specs.syntax.MoveView.{taker_of};
 ghost use Rattle.cilk_scopes.specs.First.{first_among};
 ghost use Rattle.cilk_scopes.specs.Parts.{place_exprs, target_exprs, move_exprs, moves_exprs, taker_exprs};
 ghost use Rattle.cilk_rules_of_names.specs.Uses.{place_role, place_uses, target_uses, move_uses, moves_uses, taker_uses, takes_value};
@@ -11,8 +11,7 @@ ghost use Rattle.cilk_rules_of_names.specs.Finds.{use_faults, exprs_faults};
 use crate::role::Role;
 use crate::table::Names;
 use crate::uses::{at_name, in_expr, in_exprs, in_value};
-use cilk_scopes::CheckFault;
-use cilk_syntax::{Expr, Move, MoveNode, Place, Taker, Target};
+use cilk_scopes::{CheckFault, Expr, Move, MoveNode, Place, Taker, Target};
 
 fn place_role(index: &Option<Expr>) -> Role
     ensures { result ≡ place_role index.now }

@@ -2,15 +2,14 @@
 
 ghost use Rattle.std.specs.Prelude.{◌≡◌, List, IfOk, OnOk, flat_map};
 ghost use Rattle.std.specs.List.{list_any};
-ghost use Rattle.cilk_syntax.specs.Tree as tree;
+ghost use Rattle.cilk_scopes.specs.syntax.Tree as tree;
 ghost use Rattle.cilk_scopes.specs.First.{first_among};
 ghost use Rattle.cilk_rules_of_names.specs.Finds.{defines, prototype_faults};
 ghost use Rattle.cilk_rules_of_names.specs.Signatures.{GainsSignature, HasSignatures};
 
 use crate::reserved::is_reserved;
 use crate::signature::Signature;
-use cilk_scopes::{CheckFault, first_if};
-use cilk_syntax::{Item, ItemNode, Memory, Prototype};
+use cilk_scopes::{CheckFault, Item, ItemNode, Memory, Prototype, first_if};
 use std::alloc::Global;
 use std::collections::BTreeSet;
 

@@ -1,11 +1,11 @@
 ghost use Rattle.std.specs.Prelude.{◌≡◌};
-ghost use Rattle.cilk_syntax.specs.Tree as tree;
+ghost use Rattle.cilk_scopes.specs.syntax.Tree as tree;
 ghost use Rattle.cilk_rules_of_names.specs.declared.signature.Signature.{Signature as Signed};
 ghost use Rattle.cilk_rules_of_names.specs.Finds.{defines};
 ghost use Rattle.cilk_rules_of_names.specs.Signatures.{has_signature, is_signature};
 
 use crate::meant::is_void;
-use cilk_syntax::{Parameters, Proc, Prototype};
+use cilk_scopes::{Parameters, Proc, Prototype};
 
 /// What a prototype and the definition that it declares have in common.
 #[derive(Clone, Copy, PartialEq, Eq, PartialOrd, Ord, Drop)]

@@ -1,7 +1,7 @@
 //! The first fault among the uses of names in a statement itself, without the blocks inside it.
 
 ghost use Rattle.std.specs.Prelude.{◌≡◌, ◌∷◌, ◌++◌, flat_map};
-ghost use Rattle.cilk_syntax.specs.MoveView.{taker_of};
+ghost use Rattle.cilk_scopes.specs.syntax.MoveView.{taker_of};
 ghost use Rattle.cilk_scopes.specs.First.{first_among};
 ghost use Rattle.cilk_scopes.specs.Parts as parts;
 ghost use Rattle.cilk_scopes.specs.Parts.{moves_exprs, stmt_exprs, taker_exprs};
@@ -12,8 +12,7 @@ use crate::moves::{at_move, at_moves, at_taker, in_move, in_moves, in_taker, tak
 use crate::role::Role;
 use crate::table::Names;
 use crate::uses::{at_name, in_expr, in_exprs, in_value};
-use cilk_scopes::CheckFault;
-use cilk_syntax::{Expr, Move, Stmt, StmtNode, Taker};
+use cilk_scopes::{CheckFault, Expr, Move, Stmt, StmtNode, Taker};
 
 #[tactic(auto, using(crate::proofs::UseFaults::uses), unfolding(crate::specs::Finds::part_faults))]
 pub(crate) fn at_stmt(names: &Names, stmt: &Stmt, found: Option<CheckFault>) -> Option<CheckFault>

@@ -4,8 +4,7 @@ ghost use Rattle.cilk_rules_of_names.specs.Left.{left_of};
 
 use crate::entry::Entry;
 use crate::nearest::Nearest;
-use cilk_scopes::Kind;
-use cilk_syntax::{Memory, Word};
+use cilk_scopes::{Kind, Memory, Word};
 use std::alloc::Global;
 use std::collections::BTreeMap;
 use std::marker::Model;

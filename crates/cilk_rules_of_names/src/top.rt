@@ -8,8 +8,7 @@ use crate::file::{at_items, file_names};
 use crate::prototypes::at_prototypes;
 use crate::table::Names;
 use crate::walk::{at_parameters, in_block};
-use cilk_scopes::CheckFault;
-use cilk_syntax::{Item, ItemNode, Memory, Proc, Program};
+use cilk_scopes::{CheckFault, Item, ItemNode, Memory, Proc, Program};
 use std::alloc::Global;
 
 pub(crate) fn first_listed(alloc: Global, program: &Program) -> Result<Option<CheckFault>, Memory>

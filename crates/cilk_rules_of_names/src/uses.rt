@@ -9,8 +9,7 @@ use crate::meant::at_meant;
 use crate::reserved::is_reserved;
 use crate::role::Role;
 use crate::table::Names;
-use cilk_scopes::{CheckFault, first};
-use cilk_syntax::{Expr, ExprNode, Word};
+use cilk_scopes::{CheckFault, Expr, ExprNode, Word, first};
 
 /// A use of a name.
 #[tactic(auto, using(crate::proofs::UseFaults::uses))]

@@ -2,9 +2,9 @@
 //! first of it and of those in its own part. Where it answers, the names are visible that are so behind its part.
 
 ghost use Rattle.std.specs.Prelude.{◌≡◌, ◌++◌, [], ◌∷◌, IfOk, OnOk, flat_map, map};
-ghost use Rattle.cilk_syntax.specs.Tree as tree;
-ghost use Rattle.cilk_syntax.specs.Tree.{locals_of, stmts_of};
-ghost use Rattle.cilk_syntax.specs.ProgramView.{parameters_of};
+ghost use Rattle.cilk_scopes.specs.syntax.Tree as tree;
+ghost use Rattle.cilk_scopes.specs.syntax.Tree.{locals_of, stmts_of};
+ghost use Rattle.cilk_scopes.specs.syntax.ProgramView.{parameters_of};
 ghost use Rattle.cilk_scopes.specs.First.{first_among};
 ghost use Rattle.cilk_scopes.specs.Scopes.{declare, declare_all, enter, local_declares, parameter, parameters_declare};
 ghost use Rattle.cilk_scopes.specs.Declarations.{declaring};
@@ -16,8 +16,10 @@ use crate::reserved::is_reserved;
 use crate::statement::at_stmt;
 use crate::table::Names;
 use crate::uses::in_value;
-use cilk_scopes::{CheckFault, Kind, first_if};
-use cilk_syntax::{Block, Decl, Local, LocalNode, Memory, Parameters, Shape, Stmt, StmtNode, Word};
+use cilk_scopes::{
+    Block, CheckFault, Decl, Kind, Local, LocalNode, Memory, Parameters, Shape, Stmt, StmtNode,
+    Word, first_if,
+};
 
 /// A declaration in the innermost scope, which is visible behind it.
 #[tactic(auto, using(crate::proofs::UseFaults::uses), unfolding(crate::specs::Finds::declaring_faults))]

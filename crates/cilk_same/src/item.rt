@@ -1,11 +1,10 @@
 //! What stands at the top level.
 
 use crate::alike::Same;
-use cilk_lexeme::Header;
-use cilk_syntax::{Global, Item, ItemNode, Parameters, Proc, Program, Prototype};
+use cilk_syntax::{Global, Header, Item, ItemNode, Parameters, Proc, Program, Prototype};
 
 impl Same for Header {
-    ghost use Rattle.cilk_lexeme.specs.declared.header.Header.{Header};
+    ghost use Rattle.cilk_syntax.specs.lexeme.declared.header.Header.{Header};
 
     ghost Meaning = { Header };
 

@@ -2,10 +2,10 @@
 //! proved.
 
 ghost use Rattle.std.specs.Prelude.{◌≡◌, ◌≢◌, ◌+◌, ◌++◌, ◌∷◌, [], ℕ, Bool, List, Option, Some, None, length, map, option_map, replicate};
-ghost use Rattle.cilk_model.specs.Path.{Path, same_path};
-ghost use Rattle.cilk_model.specs.Scheduler as model;
+ghost use Rattle.cilk_frame.specs.model.Path.{Path, same_path};
+ghost use Rattle.cilk_frame.specs.model.Scheduler as model;
 ghost use Rattle.cilk_frame.specs.Frames.{Frame};
-ghost use Rattle.cilk_model.specs.Places.{PlaceOf, no_place, IsWorker, place_of, hand_of, deque_of, with_hand, with_deque, top_of, below_top, bottom_of, above_bottom, named};
+ghost use Rattle.cilk_frame.specs.model.Places.{PlaceOf, no_place, IsWorker, place_of, hand_of, deque_of, with_hand, with_deque, top_of, below_top, bottom_of, above_bottom, named};
 ghost use Rattle.cilk_sched.specs.Count.{once, count_where, AllHeld, IsCounted};
 
 /// A worker has what it was given, and all others keep what they have.

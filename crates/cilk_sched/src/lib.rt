@@ -6,7 +6,7 @@
 //! `clone`; the other two use a frame that is with a worker already.
 //!
 //! ```compile_fail unknown-method
-//! ghost use Rattle.cilk_model.specs.Places.{IsWorker};
+//! ghost use Rattle.cilk_frame.specs.model.Places.{IsWorker};
 //!
 //! use cilk_frame::Frame;
 //! use cilk_sched::Hands;
@@ -20,7 +20,7 @@
 //!
 //! ```compile_fail borrow-e0382
 //! ghost use Rattle.std.specs.Prelude.{◌≡◌, None};
-//! ghost use Rattle.cilk_model.specs.Places.{IsWorker, hand_of};
+//! ghost use Rattle.cilk_frame.specs.model.Places.{IsWorker, hand_of};
 //!
 //! use cilk_frame::Frame;
 //! use cilk_sched::Hands;
@@ -35,7 +35,7 @@
 //! ```
 //!
 //! ```compile_fail borrow-e0382
-//! ghost use Rattle.cilk_model.specs.Places.{IsWorker};
+//! ghost use Rattle.cilk_frame.specs.model.Places.{IsWorker};
 //!
 //! use cilk_frame::Frame;
 //! use cilk_sched::Hands;
@@ -53,7 +53,7 @@ mod hands;
 mod laws;
 mod place;
 
-pub use cilk_frame::Memory;
+pub use cilk_frame::{Body, Memory, Var};
 pub use hands::Hands;
 pub use laws::{
     each_frame_is_counted, moves_are_counted, names_are_read, names_go_along,

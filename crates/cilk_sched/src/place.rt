@@ -1,6 +1,6 @@
 ghost use Rattle.std.specs.Prelude.{◌≡◌, ◌<◌, ◌++◌, ◌∷◌, [], Some, None, length, option_map, slice_get, IfErr, IfSome, OnErr, OnOk};
 ghost use Rattle.std.specs.Option.{option_copied};
-ghost use Rattle.cilk_model.specs.Places.{no_place, top_of, below_top, bottom_of, above_bottom};
+ghost use Rattle.cilk_frame.specs.model.Places.{no_place, top_of, below_top, bottom_of, above_bottom};
 ghost use Rattle.cilk_frame.specs.Frames as frames;
 ghost use Rattle.cilk_frame.specs.Frames.{gone_to, left, with_cell, put_top};
 
@@ -17,7 +17,7 @@ pub struct Place {
 }
 
 impl Model for Place {
-    ghost use Rattle.cilk_model.specs.Places as seen;
+    ghost use Rattle.cilk_frame.specs.model.Places as seen;
     ghost use Rattle.cilk_frame.specs.Frames.{Frame};
 
     ghost Value = { seen.PlaceOf Frame };

@@ -8,6 +8,11 @@ mod order;
 mod owner;
 mod within;
 
+pub use cilk_syntax::{
+    BinOp, Block, Decl, Expr, ExprNode, GlobalShape, Inlet, Item, ItemNode, LexFault, Literal,
+    Local, LocalNode, LockAction, Memory, Move, MoveNode, Parameters, Place, Proc, Program,
+    Prototype, ReturnType, Shape, Stmt, StmtNode, Taker, Target, Word,
+};
 pub use fault::CheckFault;
 pub use kind::Kind;
 pub use order::{first, first_if};

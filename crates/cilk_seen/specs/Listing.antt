@@ -1,8 +1,8 @@
 -- The canonical text with the numbers of its lines and actions.
 use Rattle.std.specs.Prelude.{ℕ, suc, ◌-◌, ◌==◌, if◌then◌else◌, List, [], ◌∷◌, ◌++◌, length, replicate, codes, decimal, Option, Some, None}
-use Rattle.cilk_syntax.specs.Tree.{Program}
-use Rattle.cilk_canonical.specs.ProgramText.{program_text}
-use Rattle.cilk_labelled.specs.Lines.{action_lines}
+use Rattle.cilk_model.specs.syntax.Tree.{Program}
+use Rattle.cilk_model.specs.canonical.ProgramText.{program_text}
+use Rattle.cilk_model.specs.labelled.Lines.{action_lines}
 
 -- a byte in front of the first line
 abbrev pub before_first : ℕ → List (List ℕ) → List (List ℕ)

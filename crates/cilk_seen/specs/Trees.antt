@@ -1,7 +1,7 @@
 -- Every instance ever made, in the order of the paths.
 use Rattle.std.specs.Prelude.{ℕ, zero, suc, Bool, true, false, ◌==◌, ◌&&◌, ◌||◌, nat_lt, if◌then◌else◌, List, [], ◌∷◌, ◌++◌, length, flat_map, codes, decimal, Option, Some, None}
 use Rattle.std.specs.List.{list_any}
-use Rattle.cilk_labelled.specs.Labelled.{Labelled}
+use Rattle.cilk_model.specs.labelled.Labelled.{Labelled}
 use Rattle.cilk_model.specs.Path.{Path, same_path, is_that, path_text}
 use Rattle.cilk_model.specs.Instance.{Activation, Instance, body_at}
 use Rattle.cilk_model.specs.State.{instance_at}

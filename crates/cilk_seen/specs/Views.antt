@@ -1,7 +1,7 @@
 -- The text of each view of a program that runs.
 use Rattle.std.specs.Prelude.{ℕ, List, [], ◌++◌, length, codes, decimal, Option, Some, None, option_map}
-use Rattle.cilk_syntax.specs.Tree.{Program}
-use Rattle.cilk_labelled.specs.Bodies.{label}
+use Rattle.cilk_model.specs.syntax.Tree.{Program}
+use Rattle.cilk_model.specs.labelled.Bodies.{label}
 use Rattle.cilk_model.specs.State.{State, instance_at}
 use Rattle.cilk_model.specs.Run.{Standing, Position}
 use Rattle.cilk_seen.specs.What.{What, tree, frame, globals, deques, output, where_it_stands, list}

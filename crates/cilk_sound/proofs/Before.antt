@@ -1,21 +1,21 @@
 -- What the instance of a frame has before it.
 use Rattle.std.proofs.Common.{◌≡◌, ℕ, ◌<◌, ℤ, Bool, true, false, List, ◌∷◌, length, Option, Some, None, IsSome, refl, sym, ap, ◌∙◌, subst}
 use Rattle.std.specs.Prelude.{option_map}
-use Rattle.cilk_syntax.specs.Tree.{Program}
-use Rattle.cilk_check.specs.Fault.{WellFormed}
-use Rattle.cilk_labelled.specs.Labelled.{Numbered}
-use Rattle.cilk_labelled.specs.Items.{Items, head_of, reached}
-use Rattle.cilk_labelled.specs.Bodies.{label}
-use Rattle.cilk_model.specs.Instance.{Instance, body_at}
+use Rattle.cilk_heads.specs.syntax.Tree.{Program}
+use Rattle.cilk_stands.specs.check.Fault.{WellFormed}
+use Rattle.cilk_heads.specs.labelled.Labelled.{Numbered}
+use Rattle.cilk_heads.specs.labelled.Items.{Items, head_of, reached}
+use Rattle.cilk_heads.specs.labelled.Bodies.{label}
+use Rattle.cilk_stands.specs.model.Instance.{Instance, body_at}
 use Rattle.cilk_heads.specs.Heads.{GoesOn}
-use Rattle.cilk_nodes.specs.Slots.{slot_of}
-use Rattle.cilk_nodes.specs.Actions.{slotted}
-use Rattle.cilk_nodes.specs.declared.node.Node.{Node}
-use Rattle.cilk_nodes.specs.Table.{number_of, number_after, node_of}
-use Rattle.cilk_nodes.specs.Bodies.{body_of}
-use Rattle.cilk_nodes.specs.Laws.{items_at}
-use Rattle.cilk_nodes.proofs.Heads.{nodes-stand, bodies-have}
-use Rattle.cilk_frame.specs.Frames.{Frame, top_of}
+use Rattle.cilk_stands.specs.nodes.Slots.{slot_of}
+use Rattle.cilk_stands.specs.nodes.Actions.{slotted}
+use Rattle.cilk_stands.specs.nodes.declared.node.Node.{Node}
+use Rattle.cilk_stands.specs.nodes.Table.{number_of, number_after, node_of}
+use Rattle.cilk_stands.specs.nodes.Bodies.{body_of}
+use Rattle.cilk_stands.specs.nodes.Laws.{items_at}
+use Rattle.cilk_stands.proofs.nodes_laws.Heads.{nodes-stand, bodies-have}
+use Rattle.cilk_stands.specs.frame.Frames.{Frame, top_of}
 use Rattle.cilk_stands.specs.Stands.{StandsFor}
 use Rattle.cilk_stands.specs.Starts.{Takes}
 use Rattle.cilk_stands.proofs.Tops.{top-stands}

@@ -14,3 +14,4 @@ pub mod Room
 pub mod Start
 pub mod Reached
 pub mod Before
+pub use Rattle.cilk_stands.proofs as stands_laws

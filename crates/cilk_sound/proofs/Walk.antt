@@ -1,23 +1,23 @@
 -- The statements of a body of a well-formed program.
 use Rattle.std.proofs.Common.{◌≡◌, ℕ, ◌+◌, Bool, true, false, IsTrue, ◌∷◌, ◌++◌, length, Option, Some, None, option_to_list, inl, inr, refl, sym, ap, subst, ◌∙◌}
 use Rattle.std.proofs.lemmas.List.{length-map}
-use Rattle.cilk_syntax.specs.declared.return_type.ReturnType.{ReturnType}
-use Rattle.cilk_syntax.specs.declared.return_type.ReturnType.TheVariants as returns
-use Rattle.cilk_syntax.specs.Tree as tree
-use Rattle.cilk_scopes.specs.declared.owner.Owner.{Owner}
-use Rattle.cilk_scopes.specs.Parts.{Around, statement, parts_of, moves_exprs, inner, after_locals, block_parts, locals_parts, within_stmt, stmts_parts}
-use Rattle.cilk_scopes.proofs.Elements.{Has, Has-append_left, Has-append_right}
-use Rattle.cilk_check.specs.Fault.{WellFormed}
-use Rattle.cilk_rules_of_names.specs.Uses.{moves_uses}
-use Rattle.cilk_rules_of_names.specs.declared.role.Role.TheVariants as role
-use Rattle.cilk_rules_of_forms.specs.Format.{numbers_in}
-use Rattle.cilk_rules_of_forms.specs.Forms.{returned_by, has_form}
-use Rattle.cilk_labelled.specs.Labelled.{Labelled}
-use Rattle.cilk_labelled.specs.Names.{Names, entered, label_expr}
-use Rattle.cilk_labelled.specs.Count.{count_option, count_stmt, count_locals, count_block}
-use Rattle.cilk_labelled.specs.Label.{locals_variables, stmt_variables, stmts_variables, block_variables, label_move, label_return, label_part, label_stmt, label_stmts, label_block, names_behind}
-use Rattle.cilk_labelled.specs.Bodies.{is_procedure, block_locals}
-use Rattle.cilk_model.specs.Instance.{body_at}
+use Rattle.cilk_heads.specs.syntax.declared.return_type.ReturnType.{ReturnType}
+use Rattle.cilk_heads.specs.syntax.declared.return_type.ReturnType.TheVariants as returns
+use Rattle.cilk_heads.specs.syntax.Tree as tree
+use Rattle.cilk_heads.specs.scopes.declared.owner.Owner.{Owner}
+use Rattle.cilk_heads.specs.scopes.Parts.{Around, statement, parts_of, moves_exprs, inner, after_locals, block_parts, locals_parts, within_stmt, stmts_parts}
+use Rattle.cilk_heads.proofs.scopes_laws.Elements.{Has, Has-append_left, Has-append_right}
+use Rattle.cilk_stands.specs.check.Fault.{WellFormed}
+use Rattle.cilk_stands.specs.rules_of_names.Uses.{moves_uses}
+use Rattle.cilk_stands.specs.rules_of_names.declared.role.Role.TheVariants as role
+use Rattle.cilk_stands.specs.rules_of_forms.Format.{numbers_in}
+use Rattle.cilk_stands.specs.rules_of_forms.Forms.{returned_by, has_form}
+use Rattle.cilk_heads.specs.labelled.Labelled.{Labelled}
+use Rattle.cilk_heads.specs.labelled.Names.{Names, entered, label_expr}
+use Rattle.cilk_heads.specs.labelled.Count.{count_option, count_stmt, count_locals, count_block}
+use Rattle.cilk_heads.specs.labelled.Label.{locals_variables, stmt_variables, stmts_variables, block_variables, label_move, label_return, label_part, label_stmt, label_stmts, label_block, names_behind}
+use Rattle.cilk_heads.specs.labelled.Bodies.{is_procedure, block_locals}
+use Rattle.cilk_stands.specs.model.Instance.{body_at}
 use Rattle.cilk_heads.specs.Heads.{MayStand, IfThere, EachOfStmt, EachOf}
 use Rattle.cilk_stands.specs.Reads.{IsKnown}
 use Rattle.cilk_sound.specs.Known.{owner_of}

@@ -1,23 +1,23 @@
 //! What holds of the bodies of well-formed programs. The functions do nothing: their contracts are the laws.
 
 ghost use Rattle.std.specs.Prelude.{◌≡◌, ◌<◌, ◌∷◌, [], ℕ, ℤ, Bool, false, List, length, IsSome, IsNone, Some, Ok};
-ghost use Rattle.cilk_syntax.specs.Tree.{Program};
-ghost use Rattle.cilk_check.specs.Fault.{WellFormed};
-ghost use Rattle.cilk_labelled.specs.Labelled.{Numbered};
-ghost use Rattle.cilk_labelled.specs.Items.{head_of, reached};
-ghost use Rattle.cilk_labelled.specs.Bodies.{label};
+ghost use Rattle.cilk_heads.specs.syntax.Tree.{Program};
+ghost use Rattle.cilk_stands.specs.check.Fault.{WellFormed};
+ghost use Rattle.cilk_heads.specs.labelled.Labelled.{Numbered};
+ghost use Rattle.cilk_heads.specs.labelled.Items.{head_of, reached};
+ghost use Rattle.cilk_heads.specs.labelled.Bodies.{label};
 ghost use Rattle.cilk_heads.specs.Heads.{EachOf, LeavesInLoops, GoesOn};
-ghost use Rattle.cilk_model.specs.Instance.{body_at};
-ghost use Rattle.cilk_rules_of_forms.specs.Cells.{max_cells, max_global_cells};
-ghost use Rattle.cilk_eval.specs.Slots.{Cells};
-ghost use Rattle.cilk_labelled.specs.Labelled.{Labelled, Into};
-ghost use Rattle.cilk_model.specs.Values.{Store, Reached, environment, reached_at};
+ghost use Rattle.cilk_stands.specs.model.Instance.{body_at};
+ghost use Rattle.cilk_stands.specs.rules_of_forms.Cells.{max_cells, max_global_cells};
+ghost use Rattle.cilk_stands.specs.eval.Slots.{Cells};
+ghost use Rattle.cilk_heads.specs.labelled.Labelled.{Labelled, Into};
+ghost use Rattle.cilk_stands.specs.model.Values.{Store, Reached, environment, reached_at};
 ghost use Rattle.cilk_stands.specs.Cells.{HasCell};
 ghost use Rattle.cilk_stands.specs.Reads.{Seen};
-ghost use Rattle.cilk_model.specs.Instance.{Instance};
-ghost use Rattle.cilk_nodes.specs.Bodies.{body_of};
-ghost use Rattle.cilk_nodes.specs.Slots.{procedure_around};
-ghost use Rattle.cilk_frame.specs.Frames.{Frame, top_of};
+ghost use Rattle.cilk_stands.specs.model.Instance.{Instance};
+ghost use Rattle.cilk_stands.specs.nodes.Bodies.{body_of};
+ghost use Rattle.cilk_stands.specs.nodes.Slots.{procedure_around};
+ghost use Rattle.cilk_stands.specs.frame.Frames.{Frame, top_of};
 ghost use Rattle.cilk_stands.specs.Stands.{StandsFor};
 ghost use Rattle.cilk_stands.specs.Starts.{Takes};
 ghost use Rattle.cilk_sound.specs.Before.{Before};

@@ -1,5 +1,5 @@
 -- What the kinds of traps of the code mean.
-use Rattle.cilk_model.specs.State as state
+use Rattle.cilk_frame.specs.model.State as state
 use Rattle.cilk_spawn.specs.declared.kind.Kind.{Kind}
 use Rattle.cilk_spawn.specs.declared.kind.Kind.TheVariants.{Value, Lock, HeldLock, Depth, Instances, Output}
 

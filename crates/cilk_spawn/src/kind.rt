@@ -1,4 +1,4 @@
-use cilk_values::Trap;
+use cilk_frame::Trap;
 
 /// Why a program was trapped.
 #[derive(Clone, Copy, Debug, PartialEq, Eq)]

@@ -35,7 +35,7 @@ mod record;
 mod tree;
 
 pub use arguments::Arguments;
-pub use cilk_frame::{Frame, Id, Memory};
+pub use cilk_frame::{Frame, Id, Memory, Trap};
 pub use delivery::Delivery;
 pub use ending::Ending;
 pub use fate::Fate;

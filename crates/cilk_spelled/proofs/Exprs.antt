@@ -1,17 +1,17 @@
 -- The text of an expression writes its lexemes.
 use Rattle.std.proofs.Common.{◌≡◌, ℕ, List, [], ◌∷◌, ◌++◌, refl, codes}
-use Rattle.cilk_lexeme.specs.declared.keyword.Keyword.TheVariants as key
-use Rattle.cilk_lexeme.specs.declared.mark.Mark.TheVariants as sign
-use Rattle.cilk_lexeme.specs.Lexeme.{Lexeme, mark}
-use Rattle.cilk_lexeme.specs.Spelling.{mark_spelling, IsName}
-use Rattle.cilk_lexeme.proofs.Decimals.{decimal_number}
-use Rattle.cilk_lexeme.proofs.Longest.{BeginsNoMark, no_mark_on, name_begins, number_begins}
-use Rattle.cilk_syntax.specs.declared.operator.BinOp.{BinOp}
-use Rattle.cilk_syntax.specs.declared.operator.BinOp.TheVariants as ops
-use Rattle.cilk_syntax.specs.declared.un_op.UnOp.{UnOp}
-use Rattle.cilk_syntax.specs.declared.un_op.UnOp.TheVariants as signs
-use Rattle.cilk_syntax.specs.OperatorMark.{mark_of, sign_of}
-use Rattle.cilk_syntax.specs.Tree as tree
+use Rattle.cilk_canonical.specs.lexeme.declared.keyword.Keyword.TheVariants as key
+use Rattle.cilk_canonical.specs.lexeme.declared.mark.Mark.TheVariants as sign
+use Rattle.cilk_canonical.specs.lexeme.Lexeme.{Lexeme, mark}
+use Rattle.cilk_canonical.specs.lexeme.Spelling.{mark_spelling, IsName}
+use Rattle.cilk_canonical.proofs.lexeme_laws.Decimals.{decimal_number}
+use Rattle.cilk_canonical.proofs.lexeme_laws.Longest.{BeginsNoMark, no_mark_on, name_begins, number_begins}
+use Rattle.cilk_canonical.specs.syntax.declared.operator.BinOp.{BinOp}
+use Rattle.cilk_canonical.specs.syntax.declared.operator.BinOp.TheVariants as ops
+use Rattle.cilk_canonical.specs.syntax.declared.un_op.UnOp.{UnOp}
+use Rattle.cilk_canonical.specs.syntax.declared.un_op.UnOp.TheVariants as signs
+use Rattle.cilk_canonical.specs.syntax.OperatorMark.{mark_of, sign_of}
+use Rattle.cilk_canonical.specs.syntax.Tree as tree
 use Rattle.cilk_canonical.specs.ExprText.{expr_text, operand_text}
 use Rattle.cilk_spelled.specs.ExprLexemes.{operator_mark, sign_mark, expr_lexemes, operand_lexemes}
 use Rattle.cilk_spelled.specs.CanWrite.{CanWriteExpr}

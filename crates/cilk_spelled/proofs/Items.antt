@@ -1,17 +1,17 @@
 -- The lines of what stands at the top level write their lexemes.
 use Rattle.std.proofs.Common.{◌≡◌, ◌≤◌, ℕ, zero, suc, ℤ, pos, negsuc, unsigned_abs, Bool, true, false, List, [], ◌∷◌, ◌++◌, decimal, Some, None, refl, ap, ◌∙◌, codes}
 use Rattle.std.specs.Fmt.{signed_decimal}
-use Rattle.cilk_lexeme.specs.declared.keyword.Keyword.TheVariants as key
-use Rattle.cilk_lexeme.specs.declared.mark.Mark.TheVariants as sign
-use Rattle.cilk_lexeme.specs.Lexeme.{Lexeme, word, name, mark}
-use Rattle.cilk_lexeme.specs.Sight.{named, word_in, all_words}
-use Rattle.cilk_lexeme.specs.Spelling.{IsName, int_max}
-use Rattle.cilk_lexeme.proofs.Decimals.{decimal_number}
-use Rattle.cilk_lexeme.proofs.Longest.{no_mark_on, number_begins}
-use Rattle.cilk_syntax.specs.declared.return_type.ReturnType.{ReturnType}
-use Rattle.cilk_syntax.specs.declared.return_type.ReturnType.TheVariants as returns
-use Rattle.cilk_syntax.specs.ReturnWord.{word_of}
-use Rattle.cilk_syntax.specs.Tree as tree
+use Rattle.cilk_canonical.specs.lexeme.declared.keyword.Keyword.TheVariants as key
+use Rattle.cilk_canonical.specs.lexeme.declared.mark.Mark.TheVariants as sign
+use Rattle.cilk_canonical.specs.lexeme.Lexeme.{Lexeme, word, name, mark}
+use Rattle.cilk_canonical.specs.lexeme.Sight.{named, word_in, all_words}
+use Rattle.cilk_canonical.specs.lexeme.Spelling.{IsName, int_max}
+use Rattle.cilk_canonical.proofs.lexeme_laws.Decimals.{decimal_number}
+use Rattle.cilk_canonical.proofs.lexeme_laws.Longest.{no_mark_on, number_begins}
+use Rattle.cilk_canonical.specs.syntax.declared.return_type.ReturnType.{ReturnType}
+use Rattle.cilk_canonical.specs.syntax.declared.return_type.ReturnType.TheVariants as returns
+use Rattle.cilk_canonical.specs.syntax.ReturnWord.{word_of}
+use Rattle.cilk_canonical.specs.syntax.Tree as tree
 use Rattle.cilk_canonical.specs.ProgramText.{global_shape_text, head_text, next_types_text, types_text, parameters_text, item_lines, items_lines}
 use Rattle.cilk_spelled.specs.ExprLexemes.{each}
 use Rattle.cilk_spelled.specs.ProgramLexemes.{returns_word, head_lexemes, next_types_lexemes, types_lexemes, parameters_lexemes, integer_lexemes, global_shape_lexemes, item_lexemes}

@@ -8,3 +8,4 @@ pub mod Simple
 pub mod Stmts
 pub mod Items
 pub mod Programs
+pub use Rattle.cilk_canonical.proofs as canonical_laws

@@ -1,8 +1,8 @@
 -- Lines that write some lexemes, however deep they stand.
 use Rattle.std.proofs.Common.{◌≡◌, ℕ, List, [], ◌∷◌, ◌++◌, refl, codes, subst}
 use Rattle.std.proofs.lemmas.List.{append-nil}
-use Rattle.cilk_lexeme.specs.declared.mark.Mark.TheVariants as sign
-use Rattle.cilk_lexeme.specs.Lexeme.{Lexeme, mark}
+use Rattle.cilk_canonical.specs.lexeme.declared.mark.Mark.TheVariants as sign
+use Rattle.cilk_canonical.specs.lexeme.Lexeme.{Lexeme, mark}
 use Rattle.cilk_canonical.specs.Lines.{text_of, deeper, closed, ended}
 use Rattle.cilk_canonical.proofs.Lines.{text_of-append, text_of-deeper}
 use Rattle.cilk_spelled.specs.StmtLexemes as written

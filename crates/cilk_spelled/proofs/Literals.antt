@@ -4,12 +4,12 @@ use Rattle.std.specs.Prelude.{◌==◌}
 use Rattle.std.specs.List.{list_all}
 use Rattle.std.proofs.lemmas.Bool.{eqb-true}
 use Rattle.std.proofs.lemmas.Bool.Decides.{nat_tests}
-use Rattle.cilk_lexeme.specs.Byte.{is_plain}
-use Rattle.cilk_lexeme.specs.Good.{is_sayable}
-use Rattle.cilk_lexeme.specs.Lexeme.{literal}
-use Rattle.cilk_lexeme.specs.Spelling.{Says, says_nothing, says_byte, says_escape}
-use Rattle.cilk_lexeme.proofs.Runs.{both}
-use Rattle.cilk_syntax.specs.Tree.{Literal}
+use Rattle.cilk_canonical.specs.lexeme.Byte.{is_plain}
+use Rattle.cilk_canonical.specs.lexeme.Good.{is_sayable}
+use Rattle.cilk_canonical.specs.lexeme.Lexeme.{literal}
+use Rattle.cilk_canonical.specs.lexeme.Spelling.{Says, says_nothing, says_byte, says_escape}
+use Rattle.cilk_canonical.proofs.lexeme_laws.Runs.{both}
+use Rattle.cilk_canonical.specs.syntax.Tree.{Literal}
 use Rattle.cilk_canonical.specs.MoveText.{escape, escapes, literal_text}
 use Rattle.cilk_spelled.proofs.Writes.{WritesAlone, text_writes}
 

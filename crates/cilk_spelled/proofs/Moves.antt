@@ -1,15 +1,15 @@
 -- The texts of assignments and calls write their lexemes.
 use Rattle.std.proofs.Common.{◌≡◌, ℕ, List, [], ◌∷◌, ◌++◌, Option, Some, None, refl, ap, sym, subst, ◌∙◌, append_assoc, codes}
 use Rattle.std.proofs.lemmas.List.{append-nil}
-use Rattle.cilk_lexeme.specs.declared.mark.Mark.{Mark}
-use Rattle.cilk_lexeme.specs.declared.mark.Mark.TheVariants as sign
-use Rattle.cilk_lexeme.specs.Lexeme.{Lexeme, name, mark}
-use Rattle.cilk_lexeme.specs.Spelling.{IsName, mark_spelling}
-use Rattle.cilk_lexeme.proofs.Made.{Stops}
-use Rattle.cilk_syntax.specs.declared.adjustment.Adjustment.TheVariants as by
-use Rattle.cilk_syntax.specs.declared.operator.BinOp.{BinOp}
-use Rattle.cilk_syntax.specs.OperatorMark.{mark_of}
-use Rattle.cilk_syntax.specs.Tree as tree
+use Rattle.cilk_canonical.specs.lexeme.declared.mark.Mark.{Mark}
+use Rattle.cilk_canonical.specs.lexeme.declared.mark.Mark.TheVariants as sign
+use Rattle.cilk_canonical.specs.lexeme.Lexeme.{Lexeme, name, mark}
+use Rattle.cilk_canonical.specs.lexeme.Spelling.{IsName, mark_spelling}
+use Rattle.cilk_canonical.proofs.lexeme_laws.Made.{Stops}
+use Rattle.cilk_canonical.specs.syntax.declared.adjustment.Adjustment.TheVariants as by
+use Rattle.cilk_canonical.specs.syntax.declared.operator.BinOp.{BinOp}
+use Rattle.cilk_canonical.specs.syntax.OperatorMark.{mark_of}
+use Rattle.cilk_canonical.specs.syntax.Tree as tree
 use Rattle.cilk_canonical.specs.MoveText.{next_exprs_text, exprs_text, call_text, index_text, place_text, op_text, target_text, move_text}
 use Rattle.cilk_spelled.specs.StmtLexemes.{next_exprs_lexemes, exprs_lexemes, call_lexemes, index_lexemes, assign_mark, into_lexemes, move_lexemes}
 use Rattle.cilk_spelled.specs.CanWrite.{CanWriteExprs, CanWriteValue, CanAssign, CanWritePlace, CanWriteTarget, CanWriteMove}

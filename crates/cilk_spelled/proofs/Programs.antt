@@ -1,11 +1,11 @@
 -- The canonical text of a program is made of its canonical lexemes.
 use Rattle.std.proofs.Common.{ℕ, true, List, [], ◌∷◌, ◌++◌, map}
 use Rattle.std.proofs.lemmas.List.{append-nil}
-use Rattle.cilk_lexeme.specs.declared.header.Header.{Header}
-use Rattle.cilk_lexeme.specs.declared.header.Header.TheVariants as head
-use Rattle.cilk_lexeme.specs.Lexeme.{Lexeme, inclusion}
-use Rattle.cilk_lexeme.proofs.Made.{Made, nothing_made, include_made}
-use Rattle.cilk_syntax.specs.Tree as tree
+use Rattle.cilk_canonical.specs.lexeme.declared.header.Header.{Header}
+use Rattle.cilk_canonical.specs.lexeme.declared.header.Header.TheVariants as head
+use Rattle.cilk_canonical.specs.lexeme.Lexeme.{Lexeme, inclusion}
+use Rattle.cilk_canonical.proofs.lexeme_laws.Made.{Made, nothing_made, include_made}
+use Rattle.cilk_canonical.specs.syntax.Tree as tree
 use Rattle.cilk_canonical.specs.Lines.{text_of}
 use Rattle.cilk_canonical.specs.ProgramText.{header_line, items_lines, program_text}
 use Rattle.cilk_canonical.proofs.Lines.{text_of-append}

@@ -1,16 +1,16 @@
 -- The texts of statements and declarations that stand on one line write their lexemes.
 use Rattle.std.proofs.Common.{ℕ, List, [], ◌∷◌, ◌++◌, Option, Some, None, refl, sym, ap, append_assoc, codes}
 use Rattle.std.proofs.lemmas.List.{append-nil}
-use Rattle.cilk_lexeme.specs.declared.keyword.Keyword.TheVariants as key
-use Rattle.cilk_lexeme.specs.declared.mark.Mark.TheVariants as sign
-use Rattle.cilk_lexeme.specs.Lexeme.{Lexeme, word, name, mark, literal}
-use Rattle.cilk_lexeme.specs.Sight.{named, word_in, all_words}
-use Rattle.cilk_lexeme.specs.Spelling.{IsName}
-use Rattle.cilk_lexeme.proofs.Decimals.{decimal_number}
-use Rattle.cilk_syntax.specs.declared.lock_action.LockAction.{LockAction}
-use Rattle.cilk_syntax.specs.declared.lock_action.LockAction.TheVariants as locks
-use Rattle.cilk_syntax.specs.LockWord.{lock_word}
-use Rattle.cilk_syntax.specs.Tree as tree
+use Rattle.cilk_canonical.specs.lexeme.declared.keyword.Keyword.TheVariants as key
+use Rattle.cilk_canonical.specs.lexeme.declared.mark.Mark.TheVariants as sign
+use Rattle.cilk_canonical.specs.lexeme.Lexeme.{Lexeme, word, name, mark, literal}
+use Rattle.cilk_canonical.specs.lexeme.Sight.{named, word_in, all_words}
+use Rattle.cilk_canonical.specs.lexeme.Spelling.{IsName}
+use Rattle.cilk_canonical.proofs.lexeme_laws.Decimals.{decimal_number}
+use Rattle.cilk_canonical.specs.syntax.declared.lock_action.LockAction.{LockAction}
+use Rattle.cilk_canonical.specs.syntax.declared.lock_action.LockAction.TheVariants as locks
+use Rattle.cilk_canonical.specs.syntax.LockWord.{lock_word}
+use Rattle.cilk_canonical.specs.syntax.Tree as tree
 use Rattle.cilk_canonical.specs.MoveText.{call_text, spawn_text, print_text, locking_text, return_text, shape_text, decl_text}
 use Rattle.cilk_canonical.specs.StmtLines.{part_text, next_names_text, names_text}
 use Rattle.cilk_spelled.specs.ExprLexemes.{in_parentheses}

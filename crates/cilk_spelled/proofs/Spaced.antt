@@ -1,10 +1,10 @@
 -- Fixed texts between names and numbers: words and marks with blanks about them, and pairs of marks.
 use Rattle.std.proofs.Common.{List, [], ◌∷◌, ◌++◌, ℕ, refl, codes}
-use Rattle.cilk_lexeme.specs.declared.keyword.Keyword.{Keyword}
-use Rattle.cilk_lexeme.specs.declared.mark.Mark.{Mark}
-use Rattle.cilk_lexeme.specs.declared.mark.Mark.TheVariants as sign
-use Rattle.cilk_lexeme.specs.Lexeme.{Lexeme, word, mark}
-use Rattle.cilk_lexeme.specs.Spelling.{spelling, mark_spelling}
+use Rattle.cilk_canonical.specs.lexeme.declared.keyword.Keyword.{Keyword}
+use Rattle.cilk_canonical.specs.lexeme.declared.mark.Mark.{Mark}
+use Rattle.cilk_canonical.specs.lexeme.declared.mark.Mark.TheVariants as sign
+use Rattle.cilk_canonical.specs.lexeme.Lexeme.{Lexeme, word, mark}
+use Rattle.cilk_canonical.specs.lexeme.Spelling.{spelling, mark_spelling}
 use Rattle.cilk_spelled.specs.ExprLexemes.{in_parentheses, in_brackets}
 use Rattle.cilk_spelled.proofs.Writes.{Writes, WritesAlone, both_alone, ended_alone, blank_writes, sure_mark, mark_writes, word_writes}
 

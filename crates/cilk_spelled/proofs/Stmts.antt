@@ -1,11 +1,11 @@
 -- The lines of statements and blocks write their lexemes.
 use Rattle.std.proofs.Common.{◌≡◌, List, [], ◌∷◌, ◌++◌, Option, refl, codes, append_assoc, ap}
-use Rattle.cilk_lexeme.specs.declared.keyword.Keyword.{Keyword}
-use Rattle.cilk_lexeme.specs.declared.keyword.Keyword.TheVariants as key
-use Rattle.cilk_lexeme.specs.declared.mark.Mark.TheVariants as sign
-use Rattle.cilk_lexeme.specs.Lexeme.{Lexeme, word, name, mark}
-use Rattle.cilk_lexeme.specs.Spelling.{spelling, IsName}
-use Rattle.cilk_syntax.specs.Tree as tree
+use Rattle.cilk_canonical.specs.lexeme.declared.keyword.Keyword.{Keyword}
+use Rattle.cilk_canonical.specs.lexeme.declared.keyword.Keyword.TheVariants as key
+use Rattle.cilk_canonical.specs.lexeme.declared.mark.Mark.TheVariants as sign
+use Rattle.cilk_canonical.specs.lexeme.Lexeme.{Lexeme, word, name, mark}
+use Rattle.cilk_canonical.specs.lexeme.Spelling.{spelling, IsName}
+use Rattle.cilk_canonical.specs.syntax.Tree as tree
 use Rattle.cilk_canonical.specs.StmtLines.{test_line, until_line, for_line, inlet_line, stmt_lines, stmts_lines, local_lines, locals_lines, block_lines}
 use Rattle.cilk_spelled.specs.ExprLexemes.{in_parentheses, expr_lexemes}
 use Rattle.cilk_spelled.specs.StmtLexemes.{ended, part_lexemes, names_lexemes, stmt_lexemes, stmts_lexemes, local_lexemes, locals_lexemes, block_lexemes}

@@ -1,15 +1,15 @@
 -- Texts that write some lexemes, whatever stands before them and behind.
 use Rattle.std.proofs.Common.{◌≡◌, ℕ, Bool, true, false, ◌||◌, List, [], ◌∷◌, ◌++◌, Some, None, refl, subst, append_assoc, codes}
-use Rattle.cilk_lexeme.specs.declared.keyword.Keyword.{Keyword}
-use Rattle.cilk_lexeme.specs.declared.mark.Mark.{Mark}
-use Rattle.cilk_lexeme.specs.Byte.{is_blank, continues_number}
-use Rattle.cilk_lexeme.specs.Lexeme.{Lexeme, word, name, number, mark, literal}
-use Rattle.cilk_lexeme.specs.Lexing.{EndsBefore, Front, fresh_behind, of_blank, of_word, of_name, of_number, of_mark}
-use Rattle.cilk_lexeme.specs.Sight.{named}
-use Rattle.cilk_lexeme.specs.Spelling.{spelling, mark_spelling, has_name_form, IsName, IsNumber, Says}
-use Rattle.cilk_lexeme.proofs.Longest.{continues_mark, opens_mark, first_byte, longest_before, longest_alone}
-use Rattle.cilk_lexeme.proofs.Made.{Made, Stops, skip_made, take_made, name_stops, text_front}
-use Rattle.cilk_lexeme.proofs.Words.{named_front}
+use Rattle.cilk_canonical.specs.lexeme.declared.keyword.Keyword.{Keyword}
+use Rattle.cilk_canonical.specs.lexeme.declared.mark.Mark.{Mark}
+use Rattle.cilk_canonical.specs.lexeme.Byte.{is_blank, continues_number}
+use Rattle.cilk_canonical.specs.lexeme.Lexeme.{Lexeme, word, name, number, mark, literal}
+use Rattle.cilk_canonical.specs.lexeme.Lexing.{EndsBefore, Front, fresh_behind, of_blank, of_word, of_name, of_number, of_mark}
+use Rattle.cilk_canonical.specs.lexeme.Sight.{named}
+use Rattle.cilk_canonical.specs.lexeme.Spelling.{spelling, mark_spelling, has_name_form, IsName, IsNumber, Says}
+use Rattle.cilk_canonical.proofs.lexeme_laws.Longest.{continues_mark, opens_mark, first_byte, longest_before, longest_alone}
+use Rattle.cilk_canonical.proofs.lexeme_laws.Made.{Made, Stops, skip_made, take_made, name_stops, text_front}
+use Rattle.cilk_canonical.proofs.lexeme_laws.Words.{named_front}
 
 -- ---- what follows
 

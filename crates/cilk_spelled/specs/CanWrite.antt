@@ -2,11 +2,11 @@
 -- (C 1990, 6.1.4), and each operator before a `=` is one that C writes there (C 1990, 6.3.16).
 use Rattle.std.specs.Prelude.{◌≡◌, ◌≤◌, unsigned_abs, List, [], ◌∷◌, ◌++◌, codes, IsTrue, Option, Some, None}
 use Rattle.std.specs.List.{list_all}
-use Rattle.cilk_lexeme.specs.Good.{is_sayable}
-use Rattle.cilk_lexeme.specs.Spelling.{IsName, int_max, mark_spelling}
-use Rattle.cilk_syntax.specs.OperatorMark.{mark_of}
-use Rattle.cilk_syntax.specs.declared.operator.BinOp.{BinOp}
-use Rattle.cilk_syntax.specs.Tree as tree
+use Rattle.cilk_canonical.specs.lexeme.Good.{is_sayable}
+use Rattle.cilk_canonical.specs.lexeme.Spelling.{IsName, int_max, mark_spelling}
+use Rattle.cilk_canonical.specs.syntax.OperatorMark.{mark_of}
+use Rattle.cilk_canonical.specs.syntax.declared.operator.BinOp.{BinOp}
+use Rattle.cilk_canonical.specs.syntax.Tree as tree
 use Rattle.cilk_spelled.specs.StmtLexemes.{assign_mark}
 
 abbrev pub CanWriteExpr : tree.Expr → Type 0

@@ -1,14 +1,14 @@
 -- The lexemes of the canonical text of an expression (C 1990, 6.3).
 use Rattle.std.specs.Prelude.{List, [], ◌∷◌, ◌++◌}
-use Rattle.cilk_lexeme.specs.Lexeme.{Lexeme, word, name, number, mark}
-use Rattle.cilk_lexeme.specs.declared.keyword.Keyword.TheVariants as key
-use Rattle.cilk_lexeme.specs.declared.mark.Mark.{Mark}
-use Rattle.cilk_lexeme.specs.declared.mark.Mark.TheVariants as sign
-use Rattle.cilk_syntax.specs.declared.operator.BinOp.{BinOp}
-use Rattle.cilk_syntax.specs.declared.operator.BinOp.TheVariants as ops
-use Rattle.cilk_syntax.specs.declared.un_op.UnOp.{UnOp}
-use Rattle.cilk_syntax.specs.declared.un_op.UnOp.TheVariants as signs
-use Rattle.cilk_syntax.specs.Tree as tree
+use Rattle.cilk_canonical.specs.lexeme.Lexeme.{Lexeme, word, name, number, mark}
+use Rattle.cilk_canonical.specs.lexeme.declared.keyword.Keyword.TheVariants as key
+use Rattle.cilk_canonical.specs.lexeme.declared.mark.Mark.{Mark}
+use Rattle.cilk_canonical.specs.lexeme.declared.mark.Mark.TheVariants as sign
+use Rattle.cilk_canonical.specs.syntax.declared.operator.BinOp.{BinOp}
+use Rattle.cilk_canonical.specs.syntax.declared.operator.BinOp.TheVariants as ops
+use Rattle.cilk_canonical.specs.syntax.declared.un_op.UnOp.{UnOp}
+use Rattle.cilk_canonical.specs.syntax.declared.un_op.UnOp.TheVariants as signs
+use Rattle.cilk_canonical.specs.syntax.Tree as tree
 
 -- the mark of an operator between two operands
 abbrev pub operator_mark : BinOp → Mark

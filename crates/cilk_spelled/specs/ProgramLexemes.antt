@@ -1,13 +1,13 @@
 -- The lexemes of the canonical text of a program (C 1990, 6.7; Cilk 5.4 manual).
 use Rattle.std.specs.Prelude.{ℕ, zero, suc, ℤ, pos, negsuc, Bool, true, false, List, [], ◌∷◌, ◌++◌, codes, Some, None}
-use Rattle.cilk_lexeme.specs.Lexeme.{Lexeme, word, name, number, mark, inclusion}
-use Rattle.cilk_lexeme.specs.declared.keyword.Keyword.{Keyword}
-use Rattle.cilk_lexeme.specs.declared.keyword.Keyword.TheVariants as key
-use Rattle.cilk_lexeme.specs.declared.mark.Mark.TheVariants as sign
-use Rattle.cilk_syntax.specs.declared.return_type.ReturnType.{ReturnType}
-use Rattle.cilk_syntax.specs.declared.return_type.ReturnType.TheVariants as returns
-use Rattle.cilk_syntax.specs.Tree as tree
-use Rattle.cilk_syntax.specs.Tree.{Word}
+use Rattle.cilk_canonical.specs.lexeme.Lexeme.{Lexeme, word, name, number, mark, inclusion}
+use Rattle.cilk_canonical.specs.lexeme.declared.keyword.Keyword.{Keyword}
+use Rattle.cilk_canonical.specs.lexeme.declared.keyword.Keyword.TheVariants as key
+use Rattle.cilk_canonical.specs.lexeme.declared.mark.Mark.TheVariants as sign
+use Rattle.cilk_canonical.specs.syntax.declared.return_type.ReturnType.{ReturnType}
+use Rattle.cilk_canonical.specs.syntax.declared.return_type.ReturnType.TheVariants as returns
+use Rattle.cilk_canonical.specs.syntax.Tree as tree
+use Rattle.cilk_canonical.specs.syntax.Tree.{Word}
 use Rattle.cilk_spelled.specs.ExprLexemes.{each, in_parentheses, in_brackets}
 use Rattle.cilk_spelled.specs.StmtLexemes.{ended, names_lexemes, block_lexemes}
 

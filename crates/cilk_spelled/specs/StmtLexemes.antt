@@ -1,16 +1,16 @@
 -- The lexemes of the canonical text of statements and blocks (C 1990, 6.6; Cilk 5.4 manual).
 use Rattle.std.specs.Prelude.{List, [], ◌∷◌, ◌++◌, codes, Option, Some, None}
-use Rattle.cilk_lexeme.specs.Lexeme.{Lexeme, word, name, number, mark, literal}
-use Rattle.cilk_lexeme.specs.declared.keyword.Keyword.TheVariants as key
-use Rattle.cilk_lexeme.specs.declared.mark.Mark.{Mark}
-use Rattle.cilk_lexeme.specs.declared.mark.Mark.TheVariants as sign
-use Rattle.cilk_syntax.specs.declared.adjustment.Adjustment.{Adjustment}
-use Rattle.cilk_syntax.specs.declared.adjustment.Adjustment.TheVariants as by
-use Rattle.cilk_syntax.specs.declared.operator.BinOp.{BinOp}
-use Rattle.cilk_syntax.specs.declared.operator.BinOp.TheVariants as ops
-use Rattle.cilk_syntax.specs.LockWord.{lock_word}
-use Rattle.cilk_syntax.specs.Tree as tree
-use Rattle.cilk_syntax.specs.Tree.{Word, Expr}
+use Rattle.cilk_canonical.specs.lexeme.Lexeme.{Lexeme, word, name, number, mark, literal}
+use Rattle.cilk_canonical.specs.lexeme.declared.keyword.Keyword.TheVariants as key
+use Rattle.cilk_canonical.specs.lexeme.declared.mark.Mark.{Mark}
+use Rattle.cilk_canonical.specs.lexeme.declared.mark.Mark.TheVariants as sign
+use Rattle.cilk_canonical.specs.syntax.declared.adjustment.Adjustment.{Adjustment}
+use Rattle.cilk_canonical.specs.syntax.declared.adjustment.Adjustment.TheVariants as by
+use Rattle.cilk_canonical.specs.syntax.declared.operator.BinOp.{BinOp}
+use Rattle.cilk_canonical.specs.syntax.declared.operator.BinOp.TheVariants as ops
+use Rattle.cilk_canonical.specs.syntax.LockWord.{lock_word}
+use Rattle.cilk_canonical.specs.syntax.Tree as tree
+use Rattle.cilk_canonical.specs.syntax.Tree.{Word, Expr}
 use Rattle.cilk_spelled.specs.ExprLexemes.{each, in_parentheses, in_brackets, expr_lexemes}
 
 abbrev pub ended : List Lexeme → List Lexeme

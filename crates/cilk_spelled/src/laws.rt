@@ -2,11 +2,11 @@
 
 ghost use Rattle.std.specs.Prelude.{◌≡◌, ℕ, true, List, map};
 ghost use Rattle.cilk_canonical.specs.ProgramText.{program_text};
-ghost use Rattle.cilk_lexeme.specs.Lexeme.{Piece};
-ghost use Rattle.cilk_lexeme.specs.Lexing.{Lexes};
+ghost use Rattle.cilk_canonical.specs.lexeme.Lexeme.{Piece};
+ghost use Rattle.cilk_canonical.specs.lexeme.Lexing.{Lexes};
 ghost use Rattle.cilk_spelled.specs.CanWrite.{CanWrite};
 ghost use Rattle.cilk_spelled.specs.ProgramLexemes.{program_lexemes};
-ghost use Rattle.cilk_syntax.specs.Tree as tree;
+ghost use Rattle.cilk_canonical.specs.syntax.Tree as tree;
 
 /// The canonical text of a program that can be written, wherever it begins a line, is made of the program's canonical
 /// tokens (C 1990, 6.1).

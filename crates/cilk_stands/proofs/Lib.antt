@@ -1,7 +1,10 @@
 pub mod Flat
-pub mod Slots
+pub mod SlotLaws
 pub mod Values
 pub mod Puts
 pub mod Tops
 pub mod Starts
 pub mod Steps
+pub use Rattle.cilk_frame.proofs.nodes_laws
+pub use Rattle.cilk_frame.proofs.rules_of_forms_laws
+pub use Rattle.cilk_frame.proofs.rules_of_names_laws

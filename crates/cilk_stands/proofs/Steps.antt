@@ -3,18 +3,18 @@ use Rattle.std.proofs.Common.{◌≡◌, ℕ, suc, ℤ, Bool, true, false, not, 
 use Rattle.std.specs.Prelude.{slice_index_or, nat_lt}
 use Rattle.std.proofs.lemmas.Bool.{lt-ltb}
 use Rattle.std.proofs.lemmas.List.{reverse-append}
-use Rattle.cilk_syntax.specs.Tree.{Program}
-use Rattle.cilk_labelled.specs.Labelled.{Declaration, Labelled}
-use Rattle.cilk_labelled.specs.Items.{opened, next}
-use Rattle.cilk_labelled.specs.Bodies.{label, is_procedure}
-use Rattle.cilk_model.specs.Values.{Values, Reached}
-use Rattle.cilk_model.specs.State.{is_empty}
-use Rattle.cilk_model.specs.Change.{gone_on, put}
-use Rattle.cilk_model.specs.Instance as model
-use Rattle.cilk_model.specs.Instance.{Receiver, Delivery, Instance, body_at, outer_values}
-use Rattle.cilk_nodes.specs.Slots.{size_of, flat, is_inlet, procedure_around, slot_of}
-use Rattle.cilk_nodes.specs.Table.{number_of}
-use Rattle.cilk_nodes.specs.Bodies.{body_of}
+use Rattle.cilk_frame.specs.syntax.Tree.{Program}
+use Rattle.cilk_frame.specs.labelled.Labelled.{Declaration, Labelled}
+use Rattle.cilk_frame.specs.labelled.Items.{opened, next}
+use Rattle.cilk_frame.specs.labelled.Bodies.{label, is_procedure}
+use Rattle.cilk_frame.specs.model.Values.{Values, Reached}
+use Rattle.cilk_frame.specs.model.State.{is_empty}
+use Rattle.cilk_frame.specs.model.Change.{gone_on, put}
+use Rattle.cilk_frame.specs.model.Instance as model
+use Rattle.cilk_frame.specs.model.Instance.{Receiver, Delivery, Instance, body_at, outer_values}
+use Rattle.cilk_frame.specs.nodes.Slots.{size_of, flat, is_inlet, procedure_around, slot_of}
+use Rattle.cilk_frame.specs.nodes.Table.{number_of}
+use Rattle.cilk_frame.specs.nodes.Bodies.{body_of}
 use Rattle.cilk_frame.specs.declared.awaited.Await.{Await}
 use Rattle.cilk_frame.specs.Frames.{Activation, Frame, no_activation, activation_at, depth, top_of, jumped, with_boundary, entered, left}
 use Rattle.cilk_stands.specs.Starts.{Takes, first_activation, started}

@@ -3,9 +3,9 @@ use Rattle.std.proofs.Common.{◌≡◌, suc, ◌-◌, List, [], ◌∷◌, ◌+
 use Rattle.std.specs.Prelude.{slice_set, slice_index_or}
 use Rattle.std.proofs.lemmas.List.{length_push, length-reverse, reverse-append, reverse-reverse}
 use Rattle.std.proofs.Math.Seq.{get_or-append_seam, set-append_seam, take-append_seam}
-use Rattle.cilk_labelled.specs.Labelled.{Labelled}
-use Rattle.cilk_model.specs.Instance as model
-use Rattle.cilk_model.specs.Instance.{Instance}
+use Rattle.cilk_frame.specs.labelled.Labelled.{Labelled}
+use Rattle.cilk_frame.specs.model.Instance as model
+use Rattle.cilk_frame.specs.model.Instance.{Instance}
 use Rattle.cilk_frame.specs.Frames.{Activation, Frame, no_activation, depth, top_place, top_of, with_activation, entered, left}
 use Rattle.cilk_stands.specs.Stands.{AwaitsSame, Activates, AllActivate, bodies_of, AllInside, StandsFor}
 

@@ -1,23 +1,23 @@
 -- An expression has the same value over the cells of a frame as over the values of its instance.
 use Rattle.std.proofs.Common.{◌≡◌, ℕ, zero, suc, ◌+◌, ◌-◌, ◌<◌, pos, List, [], ◌∷◌, length, map, max, refl, ap, ◌∙◌, arith}
 use Rattle.std.specs.Prelude.{slice_index_or, ⊤}
-use Rattle.cilk_values.specs.Term.{Term, rename}
-use Rattle.cilk_values.specs.Value.{Environment, seen_through, value_of}
-use Rattle.cilk_eval.specs.declared.area.Area.{Area}
-use Rattle.cilk_eval.specs.declared.area.Area.TheVariants.{Own, Outer, Global}
-use Rattle.cilk_eval.specs.declared.slot.Slot.{Slot}
-use Rattle.cilk_eval.specs.Reads.{SameArray}
-use Rattle.cilk_eval.specs.Slots.{Cells, area_cells, slot_cell, sizes_of, area_size, LiesWithin, SlotsLieWithin}
-use Rattle.cilk_eval.specs.Slots as slots
-use Rattle.cilk_eval.proofs.Places.{AllReads-map, AllReads-rename}
-use Rattle.cilk_eval.proofs.Environments.{value_of-rename, value_of-same}
-use Rattle.cilk_labelled.specs.Labelled.{Declaration, local, outer, global, of_lock, of_body, unknown, Variable, Labelled}
-use Rattle.cilk_model.specs.Values.{Values, Store, cell_of, environment}
-use Rattle.cilk_nodes.specs.Slots.{size_of, flat, slot_from, slot_of}
+use Rattle.cilk_frame.specs.values.Term.{Term, rename}
+use Rattle.cilk_frame.specs.values.Value.{Environment, seen_through, value_of}
+use Rattle.cilk_frame.specs.eval.declared.area.Area.{Area}
+use Rattle.cilk_frame.specs.eval.declared.area.Area.TheVariants.{Own, Outer, Global}
+use Rattle.cilk_frame.specs.eval.declared.slot.Slot.{Slot}
+use Rattle.cilk_frame.specs.eval.Reads.{SameArray}
+use Rattle.cilk_frame.specs.eval.Slots.{Cells, area_cells, slot_cell, sizes_of, area_size, LiesWithin, SlotsLieWithin}
+use Rattle.cilk_frame.specs.eval.Slots as slots
+use Rattle.cilk_frame.proofs.eval_laws.Places.{AllReads-map, AllReads-rename}
+use Rattle.cilk_frame.proofs.eval_laws.Environments.{value_of-rename, value_of-same}
+use Rattle.cilk_frame.specs.labelled.Labelled.{Declaration, local, outer, global, of_lock, of_body, unknown, Variable, Labelled}
+use Rattle.cilk_frame.specs.model.Values.{Values, Store, cell_of, environment}
+use Rattle.cilk_frame.specs.nodes.Slots.{size_of, flat, slot_from, slot_of}
 use Rattle.cilk_stands.specs.Cells.{no_variable, own_variables, outer_variables, IsInlet, HasCell}
 use Rattle.cilk_stands.specs.Reads.{IsVariable, IsArray, IsKnown, Seen}
 use Rattle.cilk_stands.proofs.Flat.{before, flat-get}
-use Rattle.cilk_stands.proofs.Slots.{slot-area, slot-offset, slot-length, cells-size, within}
+use Rattle.cilk_stands.proofs.SlotLaws.{slot-area, slot-offset, slot-length, cells-size, within}
 
 area-size : (cells : Cells) (area : Area) → area_size (sizes_of cells) area ≡ length (area_cells cells area)
 area-size cells Own = refl

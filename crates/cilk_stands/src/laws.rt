@@ -2,22 +2,22 @@
 //! what is proved.
 
 ghost use Rattle.std.specs.Prelude.{◌≡◌, ◌<◌, ◌+◌, ◌&&◌, ◌∷◌, ℕ, ℤ, Bool, not, true, false, List, Option, Some, length, map, nat_lt};
-ghost use Rattle.cilk_syntax.specs.Tree.{Program};
-ghost use Rattle.cilk_values.specs.Term.{Term, rename};
-ghost use Rattle.cilk_values.specs.Value.{value_of};
-ghost use Rattle.cilk_eval.specs.Slots as slots;
-ghost use Rattle.cilk_eval.specs.Slots.{Cells, area_cells, slot_cell, sizes_of, SlotsLieWithin};
-ghost use Rattle.cilk_labelled.specs.Labelled.{Declaration, Labelled};
-ghost use Rattle.cilk_labelled.specs.Bodies.{label, is_procedure};
-ghost use Rattle.cilk_labelled.specs.Items.{opened, next};
-ghost use Rattle.cilk_model.specs.Values.{Values, Store, Reached, cell_of, environment};
-ghost use Rattle.cilk_model.specs.Instance as model;
-ghost use Rattle.cilk_model.specs.Instance.{Instance, Delivery, Receiver, body_at};
-ghost use Rattle.cilk_model.specs.State.{is_empty};
-ghost use Rattle.cilk_model.specs.Change.{gone_on, put, globals_with};
-ghost use Rattle.cilk_nodes.specs.Slots.{size_of, flat, is_inlet, procedure_around, slot_of};
-ghost use Rattle.cilk_nodes.specs.Table.{number_of};
-ghost use Rattle.cilk_nodes.specs.Bodies.{body_of};
+ghost use Rattle.cilk_frame.specs.syntax.Tree.{Program};
+ghost use Rattle.cilk_frame.specs.values.Term.{Term, rename};
+ghost use Rattle.cilk_frame.specs.values.Value.{value_of};
+ghost use Rattle.cilk_frame.specs.eval.Slots as slots;
+ghost use Rattle.cilk_frame.specs.eval.Slots.{Cells, area_cells, slot_cell, sizes_of, SlotsLieWithin};
+ghost use Rattle.cilk_frame.specs.labelled.Labelled.{Declaration, Labelled};
+ghost use Rattle.cilk_frame.specs.labelled.Bodies.{label, is_procedure};
+ghost use Rattle.cilk_frame.specs.labelled.Items.{opened, next};
+ghost use Rattle.cilk_frame.specs.model.Values.{Values, Store, Reached, cell_of, environment};
+ghost use Rattle.cilk_frame.specs.model.Instance as model;
+ghost use Rattle.cilk_frame.specs.model.Instance.{Instance, Delivery, Receiver, body_at};
+ghost use Rattle.cilk_frame.specs.model.State.{is_empty};
+ghost use Rattle.cilk_frame.specs.model.Change.{gone_on, put, globals_with};
+ghost use Rattle.cilk_frame.specs.nodes.Slots.{size_of, flat, is_inlet, procedure_around, slot_of};
+ghost use Rattle.cilk_frame.specs.nodes.Table.{number_of};
+ghost use Rattle.cilk_frame.specs.nodes.Bodies.{body_of};
 ghost use Rattle.cilk_frame.specs.declared.awaited.Await.{Await};
 ghost use Rattle.cilk_frame.specs.Frames.{Frame, depth, top_of, jumped, with_boundary, entered, left};
 ghost use Rattle.cilk_stands.specs.Starts.{Takes, first_activation, started};

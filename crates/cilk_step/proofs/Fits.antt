@@ -1,17 +1,17 @@
 -- The step of an instance in a worker's hand can be planned.
 use Rattle.std.proofs.Common.{◌≡◌, ◌<◌, length, Some, sym, ap, ◌∙◌, subst}
-use Rattle.cilk_check.specs.Fault.{WellFormed}
-use Rattle.cilk_sound.proofs.Known.{heads, follows}
-use Rattle.cilk_eval.specs.Slots.{sizes_of}
-use Rattle.cilk_labelled.specs.Bodies.{label}
-use Rattle.cilk_model.specs.State.{store_of}
-use Rattle.cilk_nodes.specs.declared.node.Node.{Node}
-use Rattle.cilk_nodes.specs.Table.{node_of}
-use Rattle.cilk_spawn.proofs.Trees.{live_there}
-use Rattle.cilk_effects.specs.Fits.{FitsAct}
-use Rattle.cilk_effects.proofs.Same.{act-fits}
-use Rattle.cilk_agree.specs.Laws.{Turn, path_of, instance_of}
-use Rattle.cilk_agree.proofs.Asked.{asked}
+use Rattle.cilk_load.specs.check.Fault.{WellFormed}
+use Rattle.cilk_plans.proofs.sound_laws.Known.{heads, follows}
+use Rattle.cilk_plans.specs.eval.Slots.{sizes_of}
+use Rattle.cilk_plans.specs.labelled.Bodies.{label}
+use Rattle.cilk_plans.specs.model.State.{store_of}
+use Rattle.cilk_plans.specs.nodes.declared.node.Node.{Node}
+use Rattle.cilk_plans.specs.nodes.Table.{node_of}
+use Rattle.cilk_plans.proofs.spawn_laws.Trees.{live_there}
+use Rattle.cilk_plans.specs.effects.Fits.{FitsAct}
+use Rattle.cilk_plans.proofs.effects_laws.Same.{act-fits}
+use Rattle.cilk_plans.specs.agree.Laws.{Turn, path_of, instance_of}
+use Rattle.cilk_plans.proofs.agree_laws.Asked.{asked}
 use Rattle.cilk_plans.specs.Plans.{sight_in}
 use Rattle.cilk_plans.specs.Sights.{id_of, cells_in}
 use Rattle.cilk_plans.proofs.Heads.{Sound, head-of, head, own_node, node-is, known}

@@ -1,8 +1,8 @@
 -- A body that is left.
 use Rattle.std.proofs.Common.{◌≡◌, ℕ, zero, suc, ◌<◌, ◌==◌, ℤ, Bool, true, false, ap, ◌∙◌, arith, if◌then◌else◌}
-use Rattle.cilk_nodes.specs.declared.node.Node.{Node}
-use Rattle.cilk_nodes.specs.Bodies.{body_of}
-use Rattle.cilk_frame.specs.Frames.{top_of}
+use Rattle.cilk_plans.specs.nodes.declared.node.Node.{Node}
+use Rattle.cilk_plans.specs.nodes.Bodies.{body_of}
+use Rattle.cilk_plans.specs.frame.Frames.{top_of}
 use Rattle.cilk_plans.specs.declared.plan.Plan.TheVariants as plan
 use Rattle.cilk_plans.specs.Made.{given, answered, is_function_body}
 use Rattle.cilk_plans.specs.Sights.{Sight, is_outer}

@@ -1,32 +1,32 @@
 -- No effect but that of a call of a lock makes an instance wait.
 use Rattle.std.proofs.Common.{◌≡◌, ℕ, ℤ, Bool, true, false, not, ◌&&◌, ◌||◌, List, Option, Some, None, Result, Ok, Err, refl, ◌∙◌, if◌then◌else◌}
-use Rattle.cilk_values.specs.declared.trap.Trap.{Trap}
-use Rattle.cilk_values.specs.Value.{value_of, values_of, ◌>>=◌}
-use Rattle.cilk_values.specs.Arithmetic.{is_zero}
-use Rattle.cilk_eval.specs.declared.slot.Slot.{Slot}
-use Rattle.cilk_values.specs.Term.{Term}
-use Rattle.cilk_eval.specs.Slots.{Cells, environment, slot_cell}
-use Rattle.cilk_model.specs.Values.{combined}
-use Rattle.cilk_model.specs.Printing.{printed}
-use Rattle.cilk_nodes.specs.declared.action.Action.{Action}
-use Rattle.cilk_nodes.specs.declared.action.Action.TheVariants.{Assign, Call, Spawn, Print, Locking, Null, Break, Continue, Test, Sync, Abort, Return, ReturnNothing, Close}
-use Rattle.cilk_nodes.specs.declared.node.Node.{Node}
-use Rattle.cilk_nodes.specs.declared.target.Target.{Target}
-use Rattle.cilk_nodes.specs.declared.taker.Taker.{Taker}
-use Rattle.cilk_nodes.specs.declared.taker.Taker.TheVariants.{Nothing, Into, Through}
-use Rattle.cilk_nodes.specs.Table.{node_of}
-use Rattle.cilk_nodes.specs.Bodies.{body_of}
-use Rattle.cilk_frame.specs.declared.awaited.Await.{Await}
-use Rattle.cilk_frame.specs.Frames.{top_of, left}
-use Rattle.cilk_spawn.specs.declared.receiver.Receiver as receiver
-use Rattle.cilk_spawn.specs.declared.receiver.Receiver.{Receiver}
-use Rattle.cilk_spawn.specs.Nodes.{is_synched}
-use Rattle.cilk_effects.specs.declared.effect.Effect.{Effect}
-use Rattle.cilk_effects.specs.declared.effect.Effect.TheVariants.{Writes, Answers, Enters, Gives, Starts, Prints, Turns, Marks}
-use Rattle.cilk_effects.specs.Effects.{index_of, awaited, effect_in}
-use Rattle.cilk_agree.specs.Locks.{LockTurn, turned, refused, blocked, turn_among}
-use Rattle.cilk_spawn.specs.declared.kind.Kind.{Kind}
-use Rattle.cilk_spawn.specs.declared.kind.Kind.TheVariants as kind
+use Rattle.cilk_load.specs.values.declared.trap.Trap.{Trap}
+use Rattle.cilk_load.specs.values.Value.{value_of, values_of, ◌>>=◌}
+use Rattle.cilk_load.specs.values.Arithmetic.{is_zero}
+use Rattle.cilk_plans.specs.eval.declared.slot.Slot.{Slot}
+use Rattle.cilk_load.specs.values.Term.{Term}
+use Rattle.cilk_plans.specs.eval.Slots.{Cells, environment, slot_cell}
+use Rattle.cilk_plans.specs.model.Values.{combined}
+use Rattle.cilk_plans.specs.model.Printing.{printed}
+use Rattle.cilk_plans.specs.nodes.declared.action.Action.{Action}
+use Rattle.cilk_plans.specs.nodes.declared.action.Action.TheVariants.{Assign, Call, Spawn, Print, Locking, Null, Break, Continue, Test, Sync, Abort, Return, ReturnNothing, Close}
+use Rattle.cilk_plans.specs.nodes.declared.node.Node.{Node}
+use Rattle.cilk_plans.specs.nodes.declared.target.Target.{Target}
+use Rattle.cilk_plans.specs.nodes.declared.taker.Taker.{Taker}
+use Rattle.cilk_plans.specs.nodes.declared.taker.Taker.TheVariants.{Nothing, Into, Through}
+use Rattle.cilk_plans.specs.nodes.Table.{node_of}
+use Rattle.cilk_plans.specs.nodes.Bodies.{body_of}
+use Rattle.cilk_plans.specs.frame.declared.awaited.Await.{Await}
+use Rattle.cilk_plans.specs.frame.Frames.{top_of, left}
+use Rattle.cilk_plans.specs.spawn.declared.receiver.Receiver as receiver
+use Rattle.cilk_plans.specs.spawn.declared.receiver.Receiver.{Receiver}
+use Rattle.cilk_plans.specs.spawn.Nodes.{is_synched}
+use Rattle.cilk_plans.specs.effects.declared.effect.Effect.{Effect}
+use Rattle.cilk_plans.specs.effects.declared.effect.Effect.TheVariants.{Writes, Answers, Enters, Gives, Starts, Prints, Turns, Marks}
+use Rattle.cilk_plans.specs.effects.Effects.{index_of, awaited, effect_in}
+use Rattle.cilk_plans.specs.agree.Locks.{LockTurn, turned, refused, blocked, turn_among}
+use Rattle.cilk_plans.specs.spawn.declared.kind.Kind.{Kind}
+use Rattle.cilk_plans.specs.spawn.declared.kind.Kind.TheVariants as kind
 use Rattle.cilk_plans.specs.declared.plan.Plan.{Plan}
 use Rattle.cilk_plans.specs.declared.plan.Plan.TheVariants as plan
 use Rattle.cilk_plans.specs.Made.{traps, if_room, takes_by, next_of, target_of_node, answered_at, answered, is_function_body, given, turned_to, by_effect, is_sync, is_spawn, leaves, acted}

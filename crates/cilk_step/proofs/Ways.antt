@@ -1,16 +1,16 @@
 -- The ways of a step: what comes first decides.
 use Rattle.std.proofs.Common.{◌≡◌, ℕ, Bool, true, false, not, ◌&&◌, ◌||◌, ℤ, Ok, List, [], ◌∷◌, Option, Some, None, Result, refl, sym, ap, ◌∙◌, if◌then◌else◌}
 use Rattle.std.specs.Prelude.{slice_get}
-use Rattle.cilk_nodes.specs.declared.node.Node.{Node}
-use Rattle.cilk_nodes.specs.Table.{node_of}
-use Rattle.cilk_nodes.specs.Bodies.{body_of}
-use Rattle.cilk_values.specs.declared.trap.Trap.{Trap}
-use Rattle.cilk_spawn.specs.Nodes.{is_synched}
-use Rattle.cilk_effects.specs.declared.effect.Effect.{Effect}
-use Rattle.cilk_effects.specs.declared.effect.Effect.TheVariants.{Gives}
-use Rattle.cilk_effects.specs.Effects.{effect_in}
-use Rattle.cilk_spawn.specs.declared.delivery.Delivery.{Delivery}
-use Rattle.cilk_spawn.specs.declared.kind.Kind.TheVariants as kind
+use Rattle.cilk_plans.specs.nodes.declared.node.Node.{Node}
+use Rattle.cilk_plans.specs.nodes.Table.{node_of}
+use Rattle.cilk_plans.specs.nodes.Bodies.{body_of}
+use Rattle.cilk_load.specs.values.declared.trap.Trap.{Trap}
+use Rattle.cilk_plans.specs.spawn.Nodes.{is_synched}
+use Rattle.cilk_plans.specs.effects.declared.effect.Effect.{Effect}
+use Rattle.cilk_plans.specs.effects.declared.effect.Effect.TheVariants.{Gives}
+use Rattle.cilk_plans.specs.effects.Effects.{effect_in}
+use Rattle.cilk_plans.specs.spawn.declared.delivery.Delivery.{Delivery}
+use Rattle.cilk_plans.specs.spawn.declared.kind.Kind.TheVariants as kind
 use Rattle.cilk_plans.specs.declared.plan.Plan.TheVariants as plan
 use Rattle.cilk_plans.specs.Made.{traps, waits_here, ends_thread, leaves, is_sync, is_spawn, is_function_body, given, by_effect, planned, aborted, by_head, by_deliveries, acted, at_boundary}
 use Rattle.cilk_plans.specs.Sights.{Sight, id_of, own_node, head_number, cells_in, holds_lock, is_outer}

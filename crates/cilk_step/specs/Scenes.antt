@@ -1,14 +1,14 @@
 -- What a scene shows.
 use Rattle.std.specs.Prelude.{◌≡◌, Bool, true, false, Some}
-use Rattle.cilk_eval.specs.Slots.{sizes_of}
-use Rattle.cilk_nodes.specs.declared.action.Action.{Action}
-use Rattle.cilk_nodes.specs.declared.action.Action.TheVariants.{Assign, Call, Spawn, Print, Locking, Null, Break, Continue, Test, Sync, Abort, Return, ReturnNothing, Close}
-use Rattle.cilk_nodes.specs.declared.node.Node.{Node}
-use Rattle.cilk_nodes.specs.Table.{node_of}
-use Rattle.cilk_spawn.specs.declared.receiver.Receiver as receiver
-use Rattle.cilk_spawn.specs.declared.receiver.Receiver.{Receiver}
-use Rattle.cilk_effects.specs.Fits.{FitsAct}
-use Rattle.cilk_agree.specs.Locks.{LockTurn, turned, refused, blocked, turn_among}
+use Rattle.cilk_plans.specs.eval.Slots.{sizes_of}
+use Rattle.cilk_plans.specs.nodes.declared.action.Action.{Action}
+use Rattle.cilk_plans.specs.nodes.declared.action.Action.TheVariants.{Assign, Call, Spawn, Print, Locking, Null, Break, Continue, Test, Sync, Abort, Return, ReturnNothing, Close}
+use Rattle.cilk_plans.specs.nodes.declared.node.Node.{Node}
+use Rattle.cilk_plans.specs.nodes.Table.{node_of}
+use Rattle.cilk_plans.specs.spawn.declared.receiver.Receiver as receiver
+use Rattle.cilk_plans.specs.spawn.declared.receiver.Receiver.{Receiver}
+use Rattle.cilk_plans.specs.effects.Fits.{FitsAct}
+use Rattle.cilk_plans.specs.agree.Locks.{LockTurn, turned, refused, blocked, turn_among}
 use Rattle.cilk_plans.specs.declared.plan.Plan.{Plan}
 use Rattle.cilk_plans.specs.declared.plan.Plan.TheVariants as plan
 use Rattle.cilk_plans.specs.Sights.{Sight, id_of, head_number, cells_in}

@@ -1,24 +1,19 @@
 //! The head of an instance is acted.
 
 ghost use Rattle.std.specs.Prelude.{◌≡◌, ◌<◌, ◌+◌, ◌&&◌, not, nat_lt, nat_le, length, slice_index_or, Ok, IfOk};
-ghost use Rattle.cilk_eval.specs.Slots.{sizes_of};
-ghost use Rattle.cilk_frame.specs.Frames.{depth};
-ghost use Rattle.cilk_spawn.specs.Nodes.{is_synched};
-ghost use Rattle.cilk_effects.specs.Fits.{FitsAct};
-ghost use Rattle.cilk_agree.specs.Locks.{turn_among};
+ghost use Rattle.cilk_plans.specs.eval.Slots.{sizes_of};
+ghost use Rattle.cilk_plans.specs.frame.Frames.{depth};
+ghost use Rattle.cilk_plans.specs.spawn.Nodes.{is_synched};
+ghost use Rattle.cilk_plans.specs.effects.Fits.{FitsAct};
+ghost use Rattle.cilk_plans.specs.agree.Locks.{turn_among};
 ghost use Rattle.cilk_plans.specs.Sights.{id_of, cells_in, holds_lock};
 ghost use Rattle.cilk_step.specs.Scenes.{sight_of};
 ghost use Rattle.cilk_plans.specs.Made.{leaves, if_room, next_of, has_room, at_boundary, waits_here, ends_thread, acted, by_effect, turned_to};
 
 use crate::leaving::{given, is_function_body};
 use crate::scene::Scene;
-use cilk_agree::Lock;
-use cilk_effects::{Arguments, Await, Bytes, Effect, Receiver, effect_of};
-use cilk_frame::Frame;
-use cilk_nodes::{Action, Node};
-use cilk_plans::{Kind, Plan};
-use cilk_syntax::{LockAction, Memory};
-use cilk_values::Trap;
+use cilk_load::{Action, LockAction, Memory, Node, Trap};
+use cilk_plans::{Arguments, Await, Bytes, Effect, Frame, Kind, Lock, Plan, Receiver, effect_of};
 use std::alloc::Global;
 
 /// The most instances that may live.

@@ -1,18 +1,14 @@
 //! A delivery that is taken.
 
 ghost use Rattle.std.specs.Prelude.{◌≡◌, ◌<◌, length, IfOk};
-ghost use Rattle.cilk_nodes.specs.Table.{node_of};
+ghost use Rattle.cilk_plans.specs.nodes.Table.{node_of};
 ghost use Rattle.cilk_plans.specs.Sights.{id_of};
 ghost use Rattle.cilk_step.specs.Scenes.{sight_of};
 ghost use Rattle.cilk_plans.specs.Made.{taken_by, inlet_of_taker, inlet_of_action, inlet_of_node};
 
 use crate::scene::Scene;
-use cilk_effects::{Arguments, Reached, Receiver, combined, held};
-use cilk_load::Loaded;
-use cilk_nodes::{Action, Taker};
-use cilk_plans::{Kind, Plan};
-use cilk_spawn::Delivery;
-use cilk_syntax::Memory;
+use cilk_load::{Action, Loaded, Memory, Taker};
+use cilk_plans::{Arguments, Delivery, Kind, Plan, Reached, Receiver, combined, held};
 use std::alloc::Global;
 
 /// A delivery is taken: its place is read now, or its inlet starts (Cilk 5.4 manual, `spawn`, `inlet`).

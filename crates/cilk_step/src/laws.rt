@@ -1,8 +1,8 @@
 //! The law of scenes. The function does nothing: its contract is what is proved.
 
 ghost use Rattle.std.specs.Prelude.{◌<◌, length};
-ghost use Rattle.cilk_check.specs.Fault.{WellFormed};
-ghost use Rattle.cilk_agree.specs.Laws.{Turn};
+ghost use Rattle.cilk_load.specs.check.Fault.{WellFormed};
+ghost use Rattle.cilk_plans.specs.agree.Laws.{Turn};
 ghost use Rattle.cilk_plans.specs.Plans.{sight_in};
 ghost use Rattle.cilk_plans.specs.Sights.{id_of};
 ghost use Rattle.cilk_step.specs.Scenes.{HeadFits};

@@ -1,21 +1,17 @@
 //! A body that is left.
 
 ghost use Rattle.std.specs.Prelude.{◌≡◌, ◌<◌, length};
-ghost use Rattle.cilk_eval.specs.Slots.{cells_of};
-ghost use Rattle.cilk_nodes.specs.Table.{node_of};
-ghost use Rattle.cilk_nodes.specs.Bodies.{body_of};
-ghost use Rattle.cilk_frame.specs.Frames.{depth, top_of, left};
+ghost use Rattle.cilk_plans.specs.eval.Slots.{cells_of};
+ghost use Rattle.cilk_plans.specs.nodes.Table.{node_of};
+ghost use Rattle.cilk_plans.specs.nodes.Bodies.{body_of};
+ghost use Rattle.cilk_plans.specs.frame.Frames.{depth, top_of, left};
 ghost use Rattle.cilk_plans.specs.Sights.{id_of, cells_by};
 ghost use Rattle.cilk_step.specs.Scenes.{sight_of};
 ghost use Rattle.cilk_plans.specs.Made.{given, answered, answered_at, target_of_node, is_function_body};
 
 use crate::scene::Scene;
-use cilk_effects::{Await, Reached, combined, held};
-use cilk_eval::Slots;
-use cilk_load::Loaded;
-use cilk_nodes::{Action, Node};
-use cilk_plans::{Kind, Plan};
-use cilk_scopes::Owner;
+use cilk_load::{Action, Loaded, Node, Owner, Slots};
+use cilk_plans::{Await, Kind, Plan, Reached, combined, held};
 
 /// A body is left with a value: that of the procedure, of a C function, of an inlet (C 1990, 6.6.6.4).
 pub(crate) fn given(scene: &Scene, n: u32, node: &Node, value: i32) -> Plan

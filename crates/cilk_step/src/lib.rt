@@ -10,8 +10,8 @@ mod plan;
 mod scene;
 mod waiting;
 
+pub use cilk_load::{LoadFault, Loaded, Memory, load};
 pub use cilk_plans::{Kind, Light, Plan};
-pub use cilk_syntax::Memory;
 pub use laws::scenes_fit;
 pub use light::plan_lightly;
 pub use plan::plan_step;

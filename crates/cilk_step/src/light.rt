@@ -1,10 +1,10 @@
 //! A step that takes no memory, and after which the instance goes on in the same hand.
 
 ghost use Rattle.std.specs.Prelude.{◌≡◌, ◌<◌, ℕ, true, length, Ok, IfOk, IfSome};
-ghost use Rattle.cilk_eval.specs.Slots.{sizes_of, cells_of};
-ghost use Rattle.cilk_effects.specs.Effects.{effect_in};
-ghost use Rattle.cilk_effects.specs.declared.effect.Effect.TheVariants.{Gives};
-ghost use Rattle.cilk_effects.specs.Fits.{FitsAct};
+ghost use Rattle.cilk_plans.specs.eval.Slots.{sizes_of, cells_of};
+ghost use Rattle.cilk_plans.specs.effects.Effects.{effect_in};
+ghost use Rattle.cilk_plans.specs.effects.declared.effect.Effect.TheVariants.{Gives};
+ghost use Rattle.cilk_plans.specs.effects.Fits.{FitsAct};
 ghost use Rattle.cilk_plans.specs.Sights.{id_of, cells_in};
 ghost use Rattle.cilk_plans.specs.Made.{acted, ends_thread, given, leaves, taken_by, planned};
 ghost use Rattle.cilk_plans.specs.Words.{plan_of};
@@ -13,12 +13,8 @@ ghost use Rattle.cilk_step.specs.Scenes.{sight_of, HeadFits};
 use crate::act::{at_boundary, ends_thread, leaves, next_of};
 use crate::leaving::given;
 use crate::scene::Scene;
-use cilk_effects::{Reached, Receiver, assigned, combined, held};
-use cilk_eval::{Slots, eval};
-use cilk_nodes::{Action, Node};
-use cilk_plans::{Light, Plan};
-use cilk_spawn::Delivery;
-use cilk_values::Trap;
+use cilk_load::{Action, Node, Slots, Trap, eval};
+use cilk_plans::{Delivery, Light, Plan, Reached, Receiver, assigned, combined, held};
 
 /// The plan of the step of the instance of a frame, where it is a light one that is soon made: an assignment, a test, a
 /// jump, the end of a C function, or a value that is taken into a place. None tells nothing.

@@ -8,8 +8,8 @@ ghost use Rattle.cilk_step.specs.Scenes.{sight_of, HeadFits};
 use crate::act::{act, at_boundary};
 use crate::delivery::taken;
 use crate::scene::Scene;
+use cilk_load::Memory;
 use cilk_plans::Plan;
-use cilk_syntax::Memory;
 use std::alloc::Global;
 
 /// The step of the instance of a frame. An aborted one waits for its children, and then ends; at a boundary the delivery

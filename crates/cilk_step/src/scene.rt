@@ -1,15 +1,12 @@
 ghost use Rattle.std.specs.Prelude.{◌≡◌, ◌<◌, length};
-ghost use Rattle.cilk_eval.specs.Slots as slots;
-ghost use Rattle.cilk_frame.specs.Frames.{depth};
-ghost use Rattle.cilk_agree.specs.Locks.{is_held_by};
+ghost use Rattle.cilk_plans.specs.eval.Slots as slots;
+ghost use Rattle.cilk_plans.specs.frame.Frames.{depth};
+ghost use Rattle.cilk_plans.specs.agree.Locks.{is_held_by};
 ghost use Rattle.cilk_plans.specs.Sights.{id_of, cells_in, holds_lock, is_outer};
 ghost use Rattle.cilk_step.specs.Scenes.{sight_of};
 
-use cilk_agree::Lock;
-use cilk_eval::Slots;
-use cilk_frame::{Frame, Id};
-use cilk_load::Loaded;
-use cilk_spawn::Tree;
+use cilk_load::{Loaded, Slots};
+use cilk_plans::{Frame, Id, Lock, Tree};
 
 /// All that a step looks at: the program, what is outside the instances, the tree of instances, and the frame of the
 /// one that steps.

@@ -7,10 +7,8 @@ ghost use Rattle.cilk_step.specs.Scenes.{sight_of, is_wait, takes_nothing, wants
 
 use crate::act::{at_boundary, lock_at};
 use crate::scene::Scene;
-use cilk_agree::Lock;
-use cilk_effects::Receiver;
-use cilk_nodes::{Action, Node};
-use cilk_syntax::LockAction;
+use cilk_load::{Action, LockAction, Node};
+use cilk_plans::{Lock, Receiver};
 
 /// Whether the instance of a frame cannot step now, told without memory: another one holds the lock that it wants
 /// (Cilk 5.4 manual, locks).

@@ -20,3 +20,4 @@ pub mod ReturnWord
 pub mod Adjustments
 pub mod LockWord
 pub mod Bare
+pub use Rattle.cilk_lexeme.specs as lexeme

@@ -30,6 +30,7 @@ mod word;
 
 pub use adjustment::Adjustment;
 pub use block::Block;
+pub use cilk_lexeme::{Header, Keyword, Kind, LexFault, Mark, Token};
 pub use decl::Decl;
 pub use expr::{Expr, ExprNode};
 pub use global::Global;

@@ -3,4 +3,5 @@
 
 mod trap;
 
+pub use cilk_syntax::{BinOp, Memory, UnOp};
 pub use trap::Trap;

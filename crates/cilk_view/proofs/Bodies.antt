@@ -2,27 +2,27 @@
 use Rattle.std.proofs.Common.{◌≡◌, ℕ, true, false, ◌+◌, ◌++◌, List, [], ◌∷◌, drop, map, reverse, length, refl, sym, ap, ◌∙◌, append_assoc, Option, Some, None, option_map}
 use Rattle.std.specs.Prelude.{codes, decimal, flat_map, option_and_then}
 use Rattle.std.proofs.lemmas.List.{reverse-reverse, reverse-append, map-append}
-use Rattle.cilk_syntax.specs.Tree.{Program}
-use Rattle.cilk_check.specs.Fault.{WellFormed}
-use Rattle.cilk_eval.specs.declared.area.Area.{Area}
-use Rattle.cilk_eval.specs.declared.area.Area.TheVariants.{Own}
-use Rattle.cilk_labelled.specs.Labelled.{Numbered, Variable}
-use Rattle.cilk_labelled.specs.Items.{Items, head_of}
-use Rattle.cilk_labelled.specs.Bodies.{label}
-use Rattle.cilk_model.specs.Values.{Values}
-use Rattle.cilk_model.specs.Instance as model
-use Rattle.cilk_model.specs.Instance.{Instance, body_at}
-use Rattle.cilk_nodes.specs.declared.node.Node.{Node}
-use Rattle.cilk_nodes.specs.Slots.{size_of, flat, slot_of}
-use Rattle.cilk_nodes.specs.Actions.{slotted}
-use Rattle.cilk_nodes.specs.Table.{number_of, number_after, node_at, node_of}
-use Rattle.cilk_nodes.specs.Bodies.{vars_from, body_table, body_of}
-use Rattle.cilk_nodes.specs.Laws.{Reached, items_at}
-use Rattle.cilk_nodes.proofs.Heads.{nodes-stand, bodies-have}
-use Rattle.cilk_frame.specs.Frames.{Activation, Frame}
-use Rattle.cilk_stands.specs.Stands.{Activates, AllActivate, StandsFor}
-use Rattle.cilk_seen.specs.Texts.{length_text, values_text, line_at}
-use Rattle.cilk_seen.specs.Frames.{variables_text, activation_text, frame_text}
+use Rattle.cilk_agree.specs.syntax.Tree.{Program}
+use Rattle.cilk_agree.specs.check.Fault.{WellFormed}
+use Rattle.cilk_agree.specs.eval.declared.area.Area.{Area}
+use Rattle.cilk_agree.specs.eval.declared.area.Area.TheVariants.{Own}
+use Rattle.cilk_agree.specs.labelled.Labelled.{Numbered, Variable}
+use Rattle.cilk_agree.specs.labelled.Items.{Items, head_of}
+use Rattle.cilk_agree.specs.labelled.Bodies.{label}
+use Rattle.cilk_agree.specs.model.Values.{Values}
+use Rattle.cilk_agree.specs.model.Instance as model
+use Rattle.cilk_agree.specs.model.Instance.{Instance, body_at}
+use Rattle.cilk_agree.specs.nodes.declared.node.Node.{Node}
+use Rattle.cilk_agree.specs.nodes.Slots.{size_of, flat, slot_of}
+use Rattle.cilk_agree.specs.nodes.Actions.{slotted}
+use Rattle.cilk_agree.specs.nodes.Table.{number_of, number_after, node_at, node_of}
+use Rattle.cilk_agree.specs.nodes.Bodies.{vars_from, body_table, body_of}
+use Rattle.cilk_agree.specs.nodes.Laws.{Reached, items_at}
+use Rattle.cilk_agree.proofs.nodes_laws.Heads.{nodes-stand, bodies-have}
+use Rattle.cilk_agree.specs.frame.Frames.{Activation, Frame}
+use Rattle.cilk_agree.specs.stands.Stands.{Activates, AllActivate, StandsFor}
+use Rattle.cilk_agree.specs.seen.Texts.{length_text, values_text, line_at}
+use Rattle.cilk_agree.specs.seen.Frames.{variables_text, activation_text, frame_text}
 use Rattle.cilk_view.specs.Turns.{line_number}
 use Rattle.cilk_view.specs.Frames.{body_with, vars_text, body_text, activation_by, frame_by}
 use Rattle.cilk_view.proofs.Links.{take_front, drop_front, by_head}

@@ -5,24 +5,24 @@ use Rattle.std.specs.Option.{option_or}
 use Rattle.std.proofs.lemmas.Bool.Decides.{Decides-eqb}
 use Rattle.std.proofs.lemmas.List.Elements.{All-head, All-tail}
 use Rattle.std.proofs.lemmas.List.Sums.{sum_by-cons}
-use Rattle.cilk_syntax.specs.Tree.{Program}
-use Rattle.cilk_labelled.specs.Bodies.{label}
-use Rattle.cilk_model.specs.Path.{Path, same_path, is_that}
-use Rattle.cilk_model.specs.Instance.{Instance}
-use Rattle.cilk_model.specs.State.{is_live, instance_at}
-use Rattle.cilk_model.specs.Places.{PlaceOf, named}
-use Rattle.cilk_model.specs.Run.{Standing}
-use Rattle.cilk_placed.specs.Places.{times_held, EachInItsPlace}
-use Rattle.cilk_placed.proofs.Entries.{same-is}
-use Rattle.cilk_frame.specs.Frames.{Frame}
-use Rattle.cilk_stands.specs.Stands.{StandsFor}
-use Rattle.cilk_spawn.specs.Nodes as nodes
-use Rattle.cilk_spawn.specs.Nodes.{Node, IsTree, node_at, live_ids, path_at}
-use Rattle.cilk_spawn.proofs.Lists.{decide, those_pass}
-use Rattle.cilk_spawn.proofs.Trees.{live_there}
-use Rattle.cilk_spawn.proofs.Paths.{other_there}
-use Rattle.cilk_sched.specs.Count.{AllAt, AllHeld}
-use Rattle.cilk_sched.proofs.Count.{AllHeld-weaker}
+use Rattle.cilk_agree.specs.syntax.Tree.{Program}
+use Rattle.cilk_agree.specs.labelled.Bodies.{label}
+use Rattle.cilk_agree.specs.model.Path.{Path, same_path, is_that}
+use Rattle.cilk_agree.specs.model.Instance.{Instance}
+use Rattle.cilk_agree.specs.model.State.{is_live, instance_at}
+use Rattle.cilk_agree.specs.model.Places.{PlaceOf, named}
+use Rattle.cilk_agree.specs.model.Run.{Standing}
+use Rattle.cilk_agree.specs.placed.Places.{times_held, EachInItsPlace}
+use Rattle.cilk_agree.proofs.placed_laws.Entries.{same-is}
+use Rattle.cilk_agree.specs.frame.Frames.{Frame}
+use Rattle.cilk_agree.specs.stands.Stands.{StandsFor}
+use Rattle.cilk_agree.specs.spawn.Nodes as nodes
+use Rattle.cilk_agree.specs.spawn.Nodes.{Node, IsTree, node_at, live_ids, path_at}
+use Rattle.cilk_agree.proofs.spawn_laws.Lists.{decide, those_pass}
+use Rattle.cilk_agree.proofs.spawn_laws.Trees.{live_there}
+use Rattle.cilk_agree.proofs.spawn_laws.Paths.{other_there}
+use Rattle.cilk_agree.specs.sched.Count.{AllAt, AllHeld}
+use Rattle.cilk_agree.proofs.sched_laws.Count.{AllHeld-weaker}
 use Rattle.cilk_agree.specs.Agrees.{Machine, Held, Agrees, entry_of, name_in}
 use Rattle.cilk_agree.proofs.Found.{found}
 use Rattle.cilk_view.specs.Finding.{frame_among, frame_at_by, frame_at, frame_held, frame_live}

@@ -5,10 +5,10 @@ use Rattle.std.specs.Prelude.{◌==◌, slice_get, Option, Some, None, if◌then
 use Rattle.std.specs.BTreeMap.{BTreeMap, Updates}
 use Rattle.std.specs.List.{before_first, after_first, position_or_len}
 use Rattle.std.specs.Ordering.{nat_cmp}
-use Rattle.cilk_labelled.specs.Labelled.{Labelled}
-use Rattle.cilk_model.specs.End.{line_of}
-use Rattle.cilk_seen.specs.Listing.{lines_in, first_on, numbered_text}
-use Rattle.cilk_seen.specs.Listing.{before_first as with_first}
+use Rattle.cilk_agree.specs.labelled.Labelled.{Labelled}
+use Rattle.cilk_agree.specs.model.End.{line_of}
+use Rattle.cilk_agree.specs.seen.Listing.{lines_in, first_on, numbered_text}
+use Rattle.cilk_agree.specs.seen.Listing.{before_first as with_first}
 use Rattle.cilk_view.specs.Listing.{HasFirsts, numbered_line}
 
 none_past : (xs : List ℕ) (n : ℕ) → slice_get xs n ≡ None → drop n xs ≡ []

@@ -1,42 +1,42 @@
 -- What the frames, cells and ids tell is what the views of a standing say.
 use Rattle.std.proofs.Common.{◌≡◌, ℕ, zero, suc, ◌++◌, ℤ, List, [], ◌∷◌, drop, take, map, length, refl, ap, arith, append_assoc}
 use Rattle.std.specs.Prelude.{codes, decimal, option_map, flat_map}
-use Rattle.cilk_syntax.specs.Tree as tree
-use Rattle.cilk_labelled.specs.Bodies.{item_globals}
-use Rattle.cilk_model.specs.Path.{Path}
-use Rattle.cilk_model.specs.Values.{Values}
-use Rattle.cilk_model.specs.Places.{PlaceOf, named}
-use Rattle.cilk_nodes.specs.Slots.{size_of, flat}
-use Rattle.cilk_frame.specs.Frames.{Frame}
-use Rattle.cilk_spawn.specs.Nodes.{Node}
+use Rattle.cilk_agree.specs.syntax.Tree as tree
+use Rattle.cilk_agree.specs.labelled.Bodies.{item_globals}
+use Rattle.cilk_agree.specs.model.Path.{Path}
+use Rattle.cilk_agree.specs.model.Values.{Values}
+use Rattle.cilk_agree.specs.model.Places.{PlaceOf, named}
+use Rattle.cilk_agree.specs.nodes.Slots.{size_of, flat}
+use Rattle.cilk_agree.specs.frame.Frames.{Frame}
+use Rattle.cilk_agree.specs.spawn.Nodes.{Node}
 use Rattle.cilk_agree.specs.declared.lock.Lock.{Lock}
 use Rattle.cilk_agree.specs.Outside.{lock_by}
 use Rattle.cilk_agree.specs.Agrees.{name_in}
-use Rattle.cilk_seen.specs.Globals.{globals_text}
-use Rattle.cilk_seen.specs.Workers.{deques_text}
+use Rattle.cilk_agree.specs.seen.Globals.{globals_text}
+use Rattle.cilk_agree.specs.seen.Workers.{deques_text}
 use Rattle.cilk_view.specs.Turns.{by_worker, deque_line}
 use Rattle.cilk_view.specs.Globals.{width, globals_by}
 use Rattle.std.proofs.lemmas.List.Elements.{All-head, All-tail}
 use Rattle.std.proofs.Common.{◌∙◌, sym}
 use Rattle.std.specs.Prelude.{unwrap_or, option_and_then, IfSome, Option, Some, None}
-use Rattle.cilk_model.specs.Path.{path_text}
-use Rattle.cilk_syntax.specs.Tree.{Program}
-use Rattle.cilk_labelled.specs.Labelled.{Numbered, Labelled}
-use Rattle.cilk_labelled.specs.Items.{head_of}
-use Rattle.cilk_labelled.specs.Bodies.{label}
-use Rattle.cilk_model.specs.End.{line_of}
-use Rattle.cilk_model.specs.Instance.{Instance}
-use Rattle.cilk_model.specs.State.{instance_at}
-use Rattle.cilk_model.specs.Run.{Standing}
-use Rattle.cilk_frame.specs.Frames.{top_of}
-use Rattle.cilk_stands.specs.Stands.{StandsFor}
-use Rattle.cilk_stands.proofs.Tops.{top-stands}
-use Rattle.cilk_spawn.specs.Nodes.{path_at}
-use Rattle.cilk_sched.specs.Count.{AllAt, AllHeld}
+use Rattle.cilk_agree.specs.model.Path.{path_text}
+use Rattle.cilk_agree.specs.syntax.Tree.{Program}
+use Rattle.cilk_agree.specs.labelled.Labelled.{Numbered, Labelled}
+use Rattle.cilk_agree.specs.labelled.Items.{head_of}
+use Rattle.cilk_agree.specs.labelled.Bodies.{label}
+use Rattle.cilk_agree.specs.model.End.{line_of}
+use Rattle.cilk_agree.specs.model.Instance.{Instance}
+use Rattle.cilk_agree.specs.model.State.{instance_at}
+use Rattle.cilk_agree.specs.model.Run.{Standing}
+use Rattle.cilk_agree.specs.frame.Frames.{top_of}
+use Rattle.cilk_agree.specs.stands.Stands.{StandsFor}
+use Rattle.cilk_agree.proofs.stands_laws.Tops.{top-stands}
+use Rattle.cilk_agree.specs.spawn.Nodes.{path_at}
+use Rattle.cilk_agree.specs.sched.Count.{AllAt, AllHeld}
 use Rattle.cilk_agree.specs.Agrees.{Machine, Held, Agrees}
 use Rattle.cilk_agree.proofs.Found.{found}
-use Rattle.cilk_seen.specs.Texts.{line_at}
-use Rattle.cilk_seen.specs.Workers.{line_of_instance, turn_text, turns_text}
+use Rattle.cilk_agree.specs.seen.Texts.{line_at}
+use Rattle.cilk_agree.specs.seen.Workers.{line_of_instance, turn_text, turns_text}
 use Rattle.cilk_view.specs.Turns.{turn_by, turn_line}
 
 pub deques_are : (ns : List Node) (w : ℕ) (places : List (PlaceOf Frame)) → by_worker (deque_line ns) w places ≡ deques_text w (named (name_in ns) places)

@@ -9,9 +9,9 @@ use Rattle.std.proofs.lemmas.List.Sorted.{ranks_by}
 use Rattle.std.proofs.lemmas.List.Sums.{sum_by-cons}
 use Rattle.std.proofs.lemmas.Map.Lookups.{exact_bytes}
 use Rattle.std.specs.Cmp.Lexicographic.{slice_cmp}
-use Rattle.cilk_model.specs.Path.{Path, same_path}
-use Rattle.cilk_placed.proofs.Entries.{same-is, same-self}
-use Rattle.cilk_seen.specs.Trees.{is_before, placed, in_order}
+use Rattle.cilk_agree.specs.model.Path.{Path, same_path}
+use Rattle.cilk_agree.proofs.placed_laws.Entries.{same-is, same-self}
+use Rattle.cilk_agree.specs.seen.Trees.{is_before, placed, in_order}
 
 abbrev pub before : Path → Path → Bool
 before p q = is_lt (slice_cmp nat_cmp p q)

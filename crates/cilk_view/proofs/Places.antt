@@ -4,34 +4,34 @@ use Rattle.std.specs.Prelude.{codes, decimal, flat_map, is_some, option_map, sli
 use Rattle.std.specs.Global.{Vec}
 use Rattle.std.specs.List.{list_any}
 use Rattle.std.proofs.lemmas.List.Elements.{All-head, All-tail}
-use Rattle.cilk_syntax.specs.Tree.{Program}
-use Rattle.cilk_labelled.specs.Labelled.{Labelled, Body}
-use Rattle.cilk_labelled.specs.Bodies.{label}
-use Rattle.cilk_model.specs.Path.{Path, same_path, is_that, path_text}
-use Rattle.cilk_model.specs.Instance as model
-use Rattle.cilk_model.specs.Instance.{Instance, body_at, no_body}
-use Rattle.cilk_model.specs.State.{instance_at}
-use Rattle.cilk_model.specs.Places.{PlaceOf, named}
-use Rattle.cilk_model.specs.Run.{Position}
-use Rattle.cilk_placed.specs.Places.{EachInItsPlace}
-use Rattle.cilk_nodes.specs.Bodies.{body_table}
-use Rattle.cilk_frame.specs.Frames.{Frame, top_of}
-use Rattle.cilk_stands.specs.Stands.{lowest_of, bodies_of}
-use Rattle.cilk_spawn.specs.declared.delivery.Delivery.{Delivery}
-use Rattle.cilk_spawn.specs.declared.fate.Fate.{Fate}
-use Rattle.cilk_spawn.specs.declared.fate.Fate.TheVariants.{Live, Returned, Delivered, Aborted}
-use Rattle.cilk_spawn.specs.Nodes as nodes
-use Rattle.cilk_spawn.specs.Nodes.{Node, IsTree, node_at, path_at}
-use Rattle.cilk_spawn.proofs.Trees.{live_there, names}
-use Rattle.cilk_spawn.proofs.Paths.{number_is_path}
-use Rattle.cilk_sched.specs.Count.{AllAt, AllHeld}
-use Rattle.cilk_sched.proofs.Count.{AllHeld-weaker}
+use Rattle.cilk_agree.specs.syntax.Tree.{Program}
+use Rattle.cilk_agree.specs.labelled.Labelled.{Labelled, Body}
+use Rattle.cilk_agree.specs.labelled.Bodies.{label}
+use Rattle.cilk_agree.specs.model.Path.{Path, same_path, is_that, path_text}
+use Rattle.cilk_agree.specs.model.Instance as model
+use Rattle.cilk_agree.specs.model.Instance.{Instance, body_at, no_body}
+use Rattle.cilk_agree.specs.model.State.{instance_at}
+use Rattle.cilk_agree.specs.model.Places.{PlaceOf, named}
+use Rattle.cilk_agree.specs.model.Run.{Position}
+use Rattle.cilk_agree.specs.placed.Places.{EachInItsPlace}
+use Rattle.cilk_agree.specs.nodes.Bodies.{body_table}
+use Rattle.cilk_agree.specs.frame.Frames.{Frame, top_of}
+use Rattle.cilk_agree.specs.stands.Stands.{lowest_of, bodies_of}
+use Rattle.cilk_agree.specs.spawn.declared.delivery.Delivery.{Delivery}
+use Rattle.cilk_agree.specs.spawn.declared.fate.Fate.{Fate}
+use Rattle.cilk_agree.specs.spawn.declared.fate.Fate.TheVariants.{Live, Returned, Delivered, Aborted}
+use Rattle.cilk_agree.specs.spawn.Nodes as nodes
+use Rattle.cilk_agree.specs.spawn.Nodes.{Node, IsTree, node_at, path_at}
+use Rattle.cilk_agree.proofs.spawn_laws.Trees.{live_there, names}
+use Rattle.cilk_agree.proofs.spawn_laws.Paths.{number_is_path}
+use Rattle.cilk_agree.specs.sched.Count.{AllAt, AllHeld}
+use Rattle.cilk_agree.proofs.sched_laws.Count.{AllHeld-weaker}
 use Rattle.std.specs.Prelude.{IfSome}
 use Rattle.cilk_agree.specs.Alike.{SameDeliveries}
 use Rattle.cilk_agree.specs.Agrees.{Machine, Held, Agrees, name_in}
 use Rattle.cilk_agree.specs.Fated.{fate_named, Fated}
-use Rattle.cilk_seen.specs.Trees.{lowest, holder_text, place_text, waiting_text, aborted_text, live_text, name_of, fate_text, state_text, path_line}
-use Rattle.cilk_seen.specs.Texts.{line_at}
+use Rattle.cilk_agree.specs.seen.Trees.{lowest, holder_text, place_text, waiting_text, aborted_text, live_text, name_of, fate_text, state_text, path_line}
+use Rattle.cilk_agree.specs.seen.Texts.{line_at}
 use Rattle.cilk_view.specs.Turns.{line_number}
 use Rattle.cilk_view.specs.Finding.{frame_among, frame_live}
 use Rattle.cilk_view.specs.Sorting.{IsMade, paths_in}

@@ -10,14 +10,14 @@ use Rattle.std.proofs.lemmas.List.Sorted.{sum_by-IsPermutation}
 use Rattle.std.proofs.lemmas.List.Sums.{sum_by-cons}
 use Rattle.std.proofs.lemmas.List.Elements.{All-push}
 use Rattle.std.proofs.lemmas.List.{map-append}
-use Rattle.cilk_syntax.specs.Tree.{Program}
-use Rattle.cilk_model.specs.Path.{Path, same_path}
-use Rattle.cilk_model.specs.Places.{PlaceOf}
-use Rattle.cilk_frame.specs.Frames.{Frame}
+use Rattle.cilk_agree.specs.syntax.Tree.{Program}
+use Rattle.cilk_agree.specs.model.Path.{Path, same_path}
+use Rattle.cilk_agree.specs.model.Places.{PlaceOf}
+use Rattle.cilk_agree.specs.frame.Frames.{Frame}
 use Rattle.cilk_view.specs.Trees.{lines_by}
-use Rattle.cilk_spawn.specs.Nodes.{Node, path_at}
-use Rattle.cilk_spawn.proofs.Lists.{range_more}
-use Rattle.cilk_seen.specs.Trees.{in_order}
+use Rattle.cilk_agree.specs.spawn.Nodes.{Node, path_at}
+use Rattle.cilk_agree.proofs.spawn_laws.Lists.{range_more}
+use Rattle.cilk_agree.specs.seen.Trees.{in_order}
 use Rattle.cilk_view.specs.Sorting.{IsMade, paths_in, AreMade}
 use Rattle.cilk_view.proofs.Orders.{Ascends, up_from, up_in_order, count_in_order, one_list}
 

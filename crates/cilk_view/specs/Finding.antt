@@ -1,9 +1,9 @@
 -- The frame of an instance.
 use Rattle.std.specs.Prelude.{ℕ, nat_eq, List, [], ◌∷◌, Option, Some, None, if◌then◌else◌}
 use Rattle.std.specs.Option.{option_or}
-use Rattle.cilk_model.specs.Places.{PlaceOf}
-use Rattle.cilk_frame.specs.Frames.{Frame}
-use Rattle.cilk_spawn.specs.Nodes.{Node, node_at}
+use Rattle.cilk_agree.specs.model.Places.{PlaceOf}
+use Rattle.cilk_agree.specs.frame.Frames.{Frame}
+use Rattle.cilk_agree.specs.spawn.Nodes.{Node, node_at}
 
 -- the first of these frames that is of instance id
 abbrev pub frame_among : ℕ → List Frame → Option Frame

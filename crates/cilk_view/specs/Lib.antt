@@ -7,3 +7,4 @@ pub mod Finding
 pub mod Shows
 pub mod Trees
 pub mod Sorting
+pub use Rattle.cilk_agree.specs.seen

@@ -1,9 +1,9 @@
 -- When the parts of a machine stand for a position.
 use Rattle.std.specs.Prelude.{◌≡◌, ℕ, length}
-use Rattle.cilk_model.specs.Instance.{Instance}
-use Rattle.cilk_model.specs.Run.{Position}
-use Rattle.cilk_labelled.specs.Bodies.{label}
-use Rattle.cilk_placed.specs.Places.{EachInItsPlace}
+use Rattle.cilk_agree.specs.model.Instance.{Instance}
+use Rattle.cilk_agree.specs.model.Run.{Position}
+use Rattle.cilk_agree.specs.labelled.Bodies.{label}
+use Rattle.cilk_agree.specs.placed.Places.{EachInItsPlace}
 use Rattle.cilk_agree.specs.Outside.{Outcome}
 use Rattle.cilk_agree.specs.Agrees.{Machine, Agrees}
 use Rattle.cilk_agree.specs.Fated.{Fated}

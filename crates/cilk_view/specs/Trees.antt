@@ -1,16 +1,16 @@
 -- A line for each instance ever made, as the nodes and the frames tell it.
 use Rattle.std.specs.Prelude.{ℕ, suc, nat_eq, Bool, false, is_some, List, [], ◌∷◌, ◌++◌, length, codes, decimal, flat_map, Option, Some, None, if◌then◌else◌}
 use Rattle.std.specs.Global.{Vec}
-use Rattle.cilk_syntax.specs.Tree.{Program}
-use Rattle.cilk_model.specs.Path.{Path, path_text}
-use Rattle.cilk_model.specs.Places.{PlaceOf}
-use Rattle.cilk_nodes.specs.declared.body.Body.{Body}
-use Rattle.cilk_nodes.specs.Bodies.{body_of}
-use Rattle.cilk_frame.specs.Frames.{Frame, top_of}
-use Rattle.cilk_spawn.specs.declared.fate.Fate.{Fate}
-use Rattle.cilk_spawn.specs.declared.fate.Fate.TheVariants.{Live, Returned, Delivered, Aborted}
-use Rattle.cilk_spawn.specs.Nodes.{Node, node_at}
-use Rattle.cilk_seen.specs.Trees.{waiting_text, aborted_text}
+use Rattle.cilk_agree.specs.syntax.Tree.{Program}
+use Rattle.cilk_agree.specs.model.Path.{Path, path_text}
+use Rattle.cilk_agree.specs.model.Places.{PlaceOf}
+use Rattle.cilk_agree.specs.nodes.declared.body.Body.{Body}
+use Rattle.cilk_agree.specs.nodes.Bodies.{body_of}
+use Rattle.cilk_agree.specs.frame.Frames.{Frame, top_of}
+use Rattle.cilk_agree.specs.spawn.declared.fate.Fate.{Fate}
+use Rattle.cilk_agree.specs.spawn.declared.fate.Fate.TheVariants.{Live, Returned, Delivered, Aborted}
+use Rattle.cilk_agree.specs.spawn.Nodes.{Node, node_at}
+use Rattle.cilk_agree.specs.seen.Trees.{waiting_text, aborted_text}
 use Rattle.cilk_view.specs.Turns.{line_number}
 use Rattle.cilk_view.specs.Finding.{frame_among, frame_live}
 

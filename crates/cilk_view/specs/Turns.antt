@@ -1,15 +1,15 @@
 -- What the workers have and where they go on, as their frames tell it.
 use Rattle.std.specs.Prelude.{ℕ, ◌<◌, suc, List, [], ◌∷◌, ◌++◌, map, length, codes, decimal, Option, Some, None, option_map, unwrap_or}
-use Rattle.cilk_syntax.specs.Tree.{Program}
-use Rattle.cilk_labelled.specs.Bodies.{label}
-use Rattle.cilk_model.specs.Path.{path_text}
-use Rattle.cilk_model.specs.Places.{PlaceOf}
-use Rattle.cilk_model.specs.End.{line_of}
-use Rattle.cilk_frame.specs.Frames.{Frame, top_of}
-use Rattle.cilk_spawn.specs.Nodes.{Node, path_at}
-use Rattle.cilk_sched.specs.Count.{AllHeld}
+use Rattle.cilk_agree.specs.syntax.Tree.{Program}
+use Rattle.cilk_agree.specs.labelled.Bodies.{label}
+use Rattle.cilk_agree.specs.model.Path.{path_text}
+use Rattle.cilk_agree.specs.model.Places.{PlaceOf}
+use Rattle.cilk_agree.specs.model.End.{line_of}
+use Rattle.cilk_agree.specs.frame.Frames.{Frame, top_of}
+use Rattle.cilk_agree.specs.spawn.Nodes.{Node, path_at}
+use Rattle.cilk_agree.specs.sched.Count.{AllHeld}
 use Rattle.cilk_agree.specs.Agrees.{name_in}
-use Rattle.cilk_seen.specs.Workers.{hand_text, paths_text}
+use Rattle.cilk_agree.specs.seen.Workers.{hand_text, paths_text}
 
 -- a text for each worker, the first of whom is w
 abbrev pub by_worker : (ℕ → PlaceOf Frame → List ℕ) → ℕ → List (PlaceOf Frame) → List ℕ

@@ -1,11 +1,11 @@
 //! Variables and what their cells hold.
 
 ghost use Rattle.std.specs.Prelude.{◌≡◌, ◌++◌, codes, take, drop};
-ghost use Rattle.cilk_canonical.specs.Appends.{Appends};
-ghost use Rattle.cilk_seen.specs.Texts.{length_text, values_text};
+ghost use Rattle.cilk_agree.specs.canonical.Appends.{Appends};
+ghost use Rattle.cilk_agree.specs.seen.Texts.{length_text, values_text};
 
 use crate::put::put;
-use cilk_syntax::Memory;
+use cilk_load::Memory;
 
 /// The first cells, as many as there are of so many.
 pub(crate) fn first_cells(cells: &[i32], size: usize) -> &[i32]

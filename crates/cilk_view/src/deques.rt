@@ -1,16 +1,15 @@
 //! What each worker has.
 
 ghost use Rattle.std.specs.Prelude.{◌≡◌, ◌<◌, length, map, option_map, slice_get, decimal, codes};
-ghost use Rattle.cilk_canonical.specs.Appends.{Appends};
-ghost use Rattle.cilk_model.specs.Places.{IsWorker, place_of, hand_of, deque_of};
+ghost use Rattle.cilk_agree.specs.canonical.Appends.{Appends};
+ghost use Rattle.cilk_agree.specs.model.Places.{IsWorker, place_of, hand_of, deque_of};
 ghost use Rattle.cilk_agree.specs.Agrees.{name_in};
-ghost use Rattle.cilk_seen.specs.Workers.{hand_text, paths_text};
+ghost use Rattle.cilk_agree.specs.seen.Workers.{hand_text, paths_text};
 ghost use Rattle.cilk_view.specs.Turns.{by_worker, AllMade, deque_line, queued_text};
 
 use crate::put::{put, put_name};
-use cilk_sched::Hands;
-use cilk_spawn::Tree;
-use cilk_syntax::Memory;
+use cilk_agree::{Hands, Tree};
+use cilk_load::Memory;
 
 /// A line for each of so many workers.
 pub(crate) fn put_deques(

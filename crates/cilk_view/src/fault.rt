@@ -1,4 +1,4 @@
-use cilk_syntax::Memory;
+use cilk_load::Memory;
 use thiserror::Error;
 
 /// Why there is no text of a view.

@@ -1,13 +1,11 @@
 //! The frame of an instance.
 
 ghost use Rattle.std.specs.Prelude.{◌≡◌, ℕ, true, length, Some, IfSome, option_copied};
-ghost use Rattle.cilk_model.specs.Places.{IsWorker, place_of, deque_of};
-ghost use Rattle.cilk_spawn.specs.Nodes.{node_at, is_live, path_at};
+ghost use Rattle.cilk_agree.specs.model.Places.{IsWorker, place_of, deque_of};
+ghost use Rattle.cilk_agree.specs.spawn.Nodes.{node_at, is_live, path_at};
 ghost use Rattle.cilk_view.specs.Finding.{frame_among, frame_at, frame_held, frame_live};
 
-use cilk_frame::{Frame, Id};
-use cilk_sched::Hands;
-use cilk_spawn::{Fate, Tree};
+use cilk_agree::{Fate, Frame, Hands, Id, Tree};
 
 /// The live instance with this path.
 pub(crate) fn find_live(tree: &Tree, path: &[u32]) -> Option<Id>

@@ -1,20 +1,19 @@
 //! The variables and locks of the top level.
 
 ghost use Rattle.std.specs.Prelude.{◌≡◌, ◌++◌, ◌∷◌, ◌<◌, List, length, All, take, drop, codes, IfOk, string_bytes};
-ghost use Rattle.cilk_canonical.specs.Appends.{Appends};
-ghost use Rattle.cilk_syntax.specs.Tree as trees;
-ghost use Rattle.cilk_labelled.specs.Bodies.{shaped_variable};
-ghost use Rattle.cilk_spawn.specs.Nodes.{path_at};
+ghost use Rattle.cilk_agree.specs.canonical.Appends.{Appends};
+ghost use Rattle.cilk_agree.specs.syntax.Tree as trees;
+ghost use Rattle.cilk_agree.specs.labelled.Bodies.{shaped_variable};
+ghost use Rattle.cilk_agree.specs.spawn.Nodes.{path_at};
 ghost use Rattle.cilk_agree.specs.Outside.{lock_by, LockWithin};
-ghost use Rattle.cilk_seen.specs.Texts.{variable_text};
-ghost use Rattle.cilk_seen.specs.Globals.{lock_text};
+ghost use Rattle.cilk_agree.specs.seen.Texts.{variable_text};
+ghost use Rattle.cilk_agree.specs.seen.Globals.{lock_text};
 ghost use Rattle.cilk_view.specs.Globals.{width, globals_by};
 
 use crate::cells::{first_cells, other_cells, put_variable};
 use crate::put::{put, put_name};
-use cilk_agree::Lock;
-use cilk_spawn::Tree;
-use cilk_syntax::{Global, GlobalShape, Item, ItemNode, Memory, Word};
+use cilk_agree::{Global, GlobalShape, Item, ItemNode, Lock, Tree, Word};
+use cilk_load::Memory;
 
 /// A line for each variable and each lock among the items, where these are the cells of the
 /// variables, one variable after another, and the locks in their order.

@@ -17,6 +17,7 @@ mod tree;
 mod turns;
 mod what;
 
+pub use cilk_load::Loaded;
 pub use fault::ViewFault;
 pub use showing::show;
 pub use shown::Shown;

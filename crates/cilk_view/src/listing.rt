@@ -3,14 +3,13 @@
 ghost use Rattle.std.specs.Prelude.{◌≡◌, ◌+◌, ℕ, decimal, drop, IfOk, OnOk};
 ghost use Rattle.std.specs.BTreeMap.{get};
 ghost use Rattle.std.specs.Ordering.{nat_cmp};
-ghost use Rattle.cilk_canonical.specs.Appends.{Appends};
-ghost use Rattle.cilk_labelled.specs.Lines.{action_lines};
-ghost use Rattle.cilk_seen.specs.Listing.{right_in_six, blanks, list_text};
+ghost use Rattle.cilk_agree.specs.canonical.Appends.{Appends};
+ghost use Rattle.cilk_agree.specs.labelled.Lines.{action_lines};
+ghost use Rattle.cilk_agree.specs.seen.Listing.{right_in_six, blanks, list_text};
 ghost use Rattle.cilk_view.specs.Listing.{HasFirsts, numbered_line};
 
 use crate::put::put;
-use cilk_load::Loaded;
-use cilk_syntax::Memory;
+use cilk_load::{Loaded, Memory};
 use itoa::Buffer;
 use std::alloc::Global;
 use std::collections::BTreeMap;

@@ -1,10 +1,10 @@
 //! What was printed.
 
-ghost use Rattle.cilk_canonical.specs.Appends.{Appends};
-ghost use Rattle.cilk_seen.specs.Views.{output_text};
+ghost use Rattle.cilk_agree.specs.canonical.Appends.{Appends};
+ghost use Rattle.cilk_agree.specs.seen.Views.{output_text};
 
 use crate::put::put;
-use cilk_syntax::Memory;
+use cilk_load::Memory;
 
 /// How many bytes were printed, and these.
 pub(crate) fn put_output(out: &mut String, output: &str) -> Result<(), Memory>

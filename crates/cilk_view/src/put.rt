@@ -1,13 +1,12 @@
 //! The smallest parts of a view.
 
 ghost use Rattle.std.specs.Prelude.{◌<◌, length};
-ghost use Rattle.cilk_canonical.specs.Appends.{Appends};
-ghost use Rattle.cilk_model.specs.Path.{path_text};
-ghost use Rattle.cilk_spawn.specs.Nodes.{path_at};
+ghost use Rattle.cilk_agree.specs.canonical.Appends.{Appends};
+ghost use Rattle.cilk_agree.specs.model.Path.{path_text};
+ghost use Rattle.cilk_agree.specs.spawn.Nodes.{path_at};
 
-use cilk_frame::Id;
-use cilk_spawn::Tree;
-use cilk_syntax::Memory;
+use cilk_agree::{Id, Tree};
+use cilk_load::Memory;
 
 pub(crate) fn put(out: &mut String, text: &str) -> Result<(), Memory>
     ensures { Appends result out.old out.new text.now }

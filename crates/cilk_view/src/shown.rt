@@ -1,7 +1,5 @@
-use cilk_agree::Lock;
+use cilk_agree::{Hands, Lock, Tree};
 use cilk_load::Loaded;
-use cilk_sched::Hands;
-use cilk_spawn::Tree;
 
 /// The parts of a machine that views show.
 #[derive(Clone, Copy)]

@@ -1,13 +1,13 @@
 //! Every instance ever made.
 
 ghost use Rattle.std.specs.Prelude.{◌≡◌, ◌<◌, ◌++◌, length, codes, decimal, true, IfOk, string_bytes};
-ghost use Rattle.cilk_canonical.specs.Appends.{Appends};
-ghost use Rattle.cilk_labelled.specs.Bodies.{label};
-ghost use Rattle.cilk_model.specs.Run.{Position};
-ghost use Rattle.cilk_model.specs.Places.{IsWorker, place_of, deque_of};
-ghost use Rattle.cilk_frame.specs.Frames.{top_of};
-ghost use Rattle.cilk_spawn.specs.Nodes.{node_at, is_live};
-ghost use Rattle.cilk_seen.specs.Trees.{tree_text, waiting_text, aborted_text};
+ghost use Rattle.cilk_agree.specs.canonical.Appends.{Appends};
+ghost use Rattle.cilk_agree.specs.labelled.Bodies.{label};
+ghost use Rattle.cilk_agree.specs.model.Run.{Position};
+ghost use Rattle.cilk_agree.specs.model.Places.{IsWorker, place_of, deque_of};
+ghost use Rattle.cilk_agree.specs.frame.Frames.{top_of};
+ghost use Rattle.cilk_agree.specs.spawn.Nodes.{node_at, is_live};
+ghost use Rattle.cilk_agree.specs.seen.Trees.{tree_text, waiting_text, aborted_text};
 ghost use Rattle.cilk_view.specs.Turns.{line_number};
 ghost use Rattle.cilk_view.specs.Finding.{frame_live};
 ghost use Rattle.cilk_view.specs.Shows.{ShowsAt, Shows};
@@ -18,10 +18,8 @@ use crate::finding::{frame_live, frame_queued};
 use crate::put::{put, put_path};
 use crate::shown::Shown;
 use crate::turns::line_number;
-use cilk_frame::{Frame, Id};
-use cilk_sched::Hands;
-use cilk_spawn::{Fate, Tree};
-use cilk_syntax::Memory;
+use cilk_agree::{Fate, Frame, Hands, Id, Tree};
+use cilk_load::Memory;
 use std::alloc::Global;
 
 /// A line for each instance ever made, in the order of their paths.

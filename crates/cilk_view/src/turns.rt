@@ -1,15 +1,13 @@
 //! Where each worker goes on.
 
 ghost use Rattle.std.specs.Prelude.{◌≡◌, length, decimal, codes};
-ghost use Rattle.cilk_canonical.specs.Appends.{Appends};
-ghost use Rattle.cilk_model.specs.Places.{IsWorker, place_of};
+ghost use Rattle.cilk_agree.specs.canonical.Appends.{Appends};
+ghost use Rattle.cilk_agree.specs.model.Places.{IsWorker, place_of};
 ghost use Rattle.cilk_view.specs.Turns.{by_worker, AllMade, turn_line, line_number};
 
 use crate::put::{put, put_name};
-use cilk_load::Loaded;
-use cilk_sched::Hands;
-use cilk_spawn::Tree;
-use cilk_syntax::Memory;
+use cilk_agree::{Hands, Tree};
+use cilk_load::{Loaded, Memory};
 
 /// The line on which action n stands.
 pub(crate) fn line_number(loaded: &Loaded, n: u32) -> u32

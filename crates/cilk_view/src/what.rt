@@ -1,4 +1,4 @@
-use cilk_spawn::Path;
+use cilk_agree::Path;
 
 /// What may be asked of a program that runs.
 #[derive(Debug, Drop)]

@@ -3,15 +3,15 @@ use Rattle.std.proofs.Common.{◌≡◌, ℕ, ◌+◌, Bool, true, false, ◌&&�
 use Rattle.std.specs.List.{list_all, Contains, flat_map}
 use Rattle.std.proofs.lemmas.Bool.{and_from}
 use Rattle.std.proofs.lemmas.List.Folds.{list_all-append}
-use Rattle.cilk_syntax.specs.Tree as tree
-use Rattle.cilk_scopes.specs.declared.fault.CheckFault.TheVariants.{NoLoop}
-use Rattle.cilk_scopes.specs.Scopes.{Scopes, parameters_declare, file_scopes}
-use Rattle.cilk_scopes.specs.Parts.{Around, Part, local, statement, after_local, after_locals, in_body, in_inlet, block_parts, locals_parts, within_local, stmts_parts, owner_of, item_parts, parts_of}
+use Rattle.cilk_rules_of_forms.specs.syntax.Tree as tree
+use Rattle.cilk_rules_of_forms.specs.scopes.declared.fault.CheckFault.TheVariants.{NoLoop}
+use Rattle.cilk_rules_of_forms.specs.scopes.Scopes.{Scopes, parameters_declare, file_scopes}
+use Rattle.cilk_rules_of_forms.specs.scopes.Parts.{Around, Part, local, statement, after_local, after_locals, in_body, in_inlet, block_parts, locals_parts, within_local, stmts_parts, owner_of, item_parts, parts_of}
 use Rattle.cilk_rules_of_forms.specs.Forms.{Faulty, no_loop}
-use Rattle.cilk_labelled.specs.Names.{Names, with_local}
-use Rattle.cilk_labelled.specs.Label.{label_block}
-use Rattle.cilk_labelled.specs.Bodies.{inlet_bodies, block_locals, body_count, item_bodies, items_bodies, file_names}
-use Rattle.cilk_labelled.specs.Count.{count_item}
+use Rattle.cilk_placed.specs.labelled.Names.{Names, with_local}
+use Rattle.cilk_placed.specs.labelled.Label.{label_block}
+use Rattle.cilk_placed.specs.labelled.Bodies.{inlet_bodies, block_locals, body_count, item_bodies, items_bodies, file_names}
+use Rattle.cilk_placed.specs.labelled.Count.{count_item}
 use Rattle.cilk_placed.specs.Loops.{stmts_fit, body_fits}
 use Rattle.cilk_well_labelled.specs.Laws.{BreaksStandInLoops}
 use Rattle.cilk_well_labelled.proofs.Loops.{stands, part_stands, Stand, front, back, others, label_block_fits}

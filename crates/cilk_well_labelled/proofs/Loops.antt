@@ -3,13 +3,13 @@ use Rattle.std.proofs.Common.{◌≡◌, ℕ, ◌+◌, Bool, true, List, [], ◌
 use Rattle.std.specs.List.{Contains}
 use Rattle.std.proofs.lemmas.Bool.{and_from}
 use Rattle.std.proofs.lemmas.List.Elements.{Contains-append_left, Contains-append_right}
-use Rattle.cilk_syntax.specs.Tree as tree
-use Rattle.cilk_scopes.specs.declared.within.Within.{Within}
-use Rattle.cilk_scopes.specs.Parts.{Around, Part, local, statement, Standing, inner, looped, after_local, after_locals, block_parts, locals_parts, stmts_parts, within_stmt}
-use Rattle.cilk_labelled.specs.Labelled.{Stmts}
-use Rattle.cilk_labelled.specs.Names.{Names, with_local, local_count, entered}
-use Rattle.cilk_labelled.specs.Label.{locals_variables, names_behind, label_initialiser, label_local, label_locals, label_stmt, label_stmts, label_block}
-use Rattle.cilk_labelled.specs.Count.{count_local, count_locals}
+use Rattle.cilk_rules_of_forms.specs.syntax.Tree as tree
+use Rattle.cilk_rules_of_forms.specs.scopes.declared.within.Within.{Within}
+use Rattle.cilk_rules_of_forms.specs.scopes.Parts.{Around, Part, local, statement, Standing, inner, looped, after_local, after_locals, block_parts, locals_parts, stmts_parts, within_stmt}
+use Rattle.cilk_placed.specs.labelled.Labelled.{Stmts}
+use Rattle.cilk_placed.specs.labelled.Names.{Names, with_local, local_count, entered}
+use Rattle.cilk_placed.specs.labelled.Label.{locals_variables, names_behind, label_initialiser, label_local, label_locals, label_stmt, label_stmts, label_block}
+use Rattle.cilk_placed.specs.labelled.Count.{count_local, count_locals}
 use Rattle.cilk_placed.specs.Loops.{stmt_fits, stmts_fit}
 
 -- a `break` or a `continue` stands in a loop

@@ -1,6 +1,6 @@
 -- What follows for every run of such a text.
-use Rattle.cilk_scopes.specs.declared.fault.CheckFault.TheVariants.{NoLoop}
-use Rattle.cilk_labelled.specs.Bodies.{label}
+use Rattle.cilk_rules_of_forms.specs.scopes.declared.fault.CheckFault.TheVariants.{NoLoop}
+use Rattle.cilk_placed.specs.labelled.Bodies.{label}
 use Rattle.cilk_placed.proofs.Heads as heads
 use Rattle.cilk_placed.proofs.Waiting as waiting
 use Rattle.cilk_well_labelled.specs.Laws.{EachHasHead, StuckOnLocks}

@@ -1,17 +1,17 @@
 -- What is known of a labelled program where the forms of its text have no fault.
 use Rattle.std.specs.Prelude.{◌≡◌, ◌≢◌, ℕ, true, All, List, Some, None}
-use Rattle.cilk_syntax.specs.Tree.{Program}
-use Rattle.cilk_scopes.specs.declared.fault.CheckFault.{CheckFault}
-use Rattle.cilk_scopes.specs.declared.fault.CheckFault.TheVariants.{NoLoop}
+use Rattle.cilk_rules_of_forms.specs.syntax.Tree.{Program}
+use Rattle.cilk_rules_of_forms.specs.scopes.declared.fault.CheckFault.{CheckFault}
+use Rattle.cilk_rules_of_forms.specs.scopes.declared.fault.CheckFault.TheVariants.{NoLoop}
 use Rattle.cilk_rules_of_forms.specs.Forms.{Faulty}
-use Rattle.cilk_labelled.specs.Bodies.{label}
-use Rattle.cilk_labelled.specs.Items.{head_of}
-use Rattle.cilk_model.specs.Path.{Path}
-use Rattle.cilk_model.specs.Instance.{Activation, Instance}
-use Rattle.cilk_model.specs.State.{instance_at}
-use Rattle.cilk_model.specs.Choice.{Choice}
-use Rattle.cilk_model.specs.Run.{Position, after}
-use Rattle.cilk_model.specs.End.{is_stuck}
+use Rattle.cilk_placed.specs.labelled.Bodies.{label}
+use Rattle.cilk_placed.specs.labelled.Items.{head_of}
+use Rattle.cilk_placed.specs.model.Path.{Path}
+use Rattle.cilk_placed.specs.model.Instance.{Activation, Instance}
+use Rattle.cilk_placed.specs.model.State.{instance_at}
+use Rattle.cilk_placed.specs.model.Choice.{Choice}
+use Rattle.cilk_placed.specs.model.Run.{Position, after}
+use Rattle.cilk_placed.specs.model.End.{is_stuck}
 use Rattle.cilk_placed.specs.Loops.{breaks_fit}
 use Rattle.cilk_placed.specs.Locks.{AllWait}
 

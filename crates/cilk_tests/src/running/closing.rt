@@ -1,7 +1,8 @@
 //! Closing texts.
 
+use cilk_commands::{End, ending};
 use cilk_eval::Trap;
-use cilk_machine::{End, Kind, Path, ending};
+use cilk_spawn::{Kind, Path};
 use std::alloc::Global;
 use std::process::Abort;
 

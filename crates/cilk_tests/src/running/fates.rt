@@ -1,7 +1,7 @@
 //! What became of each instance ever made.
 
 use super::script::{machine, play};
-use cilk_machine::Fate;
+use cilk_spawn::Fate;
 
 const PRINTING: &str =
     "int done; cilk int look(int v) { printf(\"%d\\n\", v); done = done + 1; return v; }

@@ -2,7 +2,9 @@
 
 use super::program;
 use super::script::{closes, comes_out, machine, play};
-use cilk_machine::{Act, Choice, Did, Id, Machine, MachineFault, Refusal};
+use cilk_commands::{Choice, Did, Machine, MachineFault, Refusal};
+use cilk_frame::Id;
+use cilk_log::Act;
 use std::alloc::Global;
 use std::process::Abort;
 

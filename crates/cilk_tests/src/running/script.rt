@@ -4,7 +4,9 @@
 //! `r3/1` returned, `e/1` ended, `t4/!Overflow` trapped, `m` moved. A refusal is told by its name.
 
 use super::program;
-use cilk_machine::{Act, Choice, Event, Kind, Machine, Outcome, Path, ending};
+use cilk_commands::{Choice, Event, Machine, Outcome, ending};
+use cilk_log::Act;
+use cilk_spawn::{Kind, Path};
 use std::alloc::Global;
 use std::process::Abort;
 

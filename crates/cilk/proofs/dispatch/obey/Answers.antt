@@ -1,5 +1,5 @@
 use Rattle.std.proofs.Common.{refl}
-use Rattle.cilk_commands.specs.declared.failure.Failure.TheVariants.{CannotRead}
+use Rattle.cilk_recorded.specs.commands.declared.failure.Failure.TheVariants.{CannotRead}
 use Rattle.cilk_words.specs.CommandLine.{wanted_by}
 use Rattle.cilk.proofs.Ended.{leaves_nothing, unread}
 use Rattle.cilk.proofs.dispatch.obey.Goals as goal

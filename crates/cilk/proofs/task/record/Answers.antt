@@ -1,5 +1,5 @@
 use Rattle.std.proofs.Common.{None}
-use Rattle.cilk_commands.specs.declared.failure.Failure.TheVariants.{Memory}
+use Rattle.cilk_recorded.specs.commands.declared.failure.Failure.TheVariants.{Memory}
 use Rattle.cilk_recorded.specs.GivingUp.{NoProgram}
 use Rattle.cilk.proofs.Ended.{no_program}
 use Rattle.cilk.proofs.task.record.Goals as goal

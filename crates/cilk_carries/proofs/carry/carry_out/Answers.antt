@@ -1,6 +1,6 @@
 use Rattle.std.proofs.Common.{sym, ◌∙◌, subst}
 use Rattle.std.specs.Option.{option_copied}
-use Rattle.cilk_agree.specs.Outside as outside
+use Rattle.cilk_plans.specs.agree.Outside as outside
 use Rattle.cilk_carries.specs.Words.{machine_of, outcome_of}
 use Rattle.cilk_carries.specs.Carried.{Carried}
 use Rattle.cilk_carries.proofs.Whole.{worker-there, ready-there, carries-there, given-again}

@@ -1,5 +1,5 @@
 use Rattle.std.proofs.Common.{◌≡◌, ◌++◌, drop, string_bytes}
-use Rattle.cilk_model.specs.Path.{numbers_text, path_text}
+use Rattle.cilk_spawn.specs.model.Path.{numbers_text, path_text}
 use Rattle.cilk_choices.proofs.closing.path_name.Given as goal
 
 abbrev pub invariant-loop-number : goal.invariant-loop-number

@@ -1,6 +1,6 @@
 use Rattle.std.proofs.Common.{rules, ◌≡◌, ◌⊎◌, subst, sym}
 use Rattle.cilk_machine.specs.Stands.{StandsAt}
-use Rattle.cilk_choices.specs.declared.refusal.Refusal.TheVariants.{HandEmpty, Memory}
+use Rattle.cilk_machine.specs.choices.declared.refusal.Refusal.TheVariants.{HandEmpty, Memory}
 use Rattle.cilk_commands.proofs.Told.{GoesOn, step_told, pop_told, not_going}
 use Rattle.cilk_commands.proofs.alone.go_on.Goals as goal
 

@@ -1,6 +1,6 @@
 use Rattle.std.proofs.Common.{◌≡◌, drop}
-use Rattle.cilk_values.specs.Value.{values_of}
-use Rattle.cilk_eval.specs.Slots.{cells_of, environment}
+use Rattle.cilk_sound.specs.values.Value.{values_of}
+use Rattle.cilk_sound.specs.eval.Slots.{cells_of, environment}
 use Rattle.cilk_effects.proofs.Several.{after}
 use Rattle.cilk_effects.proofs.values.values_of.Given as goal
 

@@ -1,5 +1,5 @@
 use Rattle.std.proofs.Common.{◌≡◌, ℕ, ◌<◌, List, [], ◌∷◌, ◌++◌, string_bytes, ap, ◌∙◌}
-use Rattle.cilk_lexeme.specs.Lexeme.{escaped}
+use Rattle.cilk_syntax.specs.lexeme.Lexeme.{escaped}
 use Rattle.cilk_expression.proofs.Literals.{says_itself, says_escaped, first_ascii, others_ascii, escaped_ascii}
 use Rattle.cilk_expression.proofs.literal.said.Goals as goal
 

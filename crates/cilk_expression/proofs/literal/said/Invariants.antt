@@ -1,5 +1,5 @@
 use Rattle.std.proofs.Common.{◌≡◌, ◌++◌, drop, string_bytes, IsAscii, length}
-use Rattle.cilk_lexeme.specs.Lexeme.{body_says}
+use Rattle.cilk_syntax.specs.lexeme.Lexeme.{body_says}
 use Rattle.cilk_expression.proofs.literal.said.Given as goal
 
 abbrev pub invariant-each : goal.invariant-each

@@ -1,6 +1,6 @@
 use Rattle.std.proofs.Common.{◌≡◌, ◌++◌, ◌∷◌, [], length, map, pos, rules, refl, ap, ◌∙◌, arith}
-use Rattle.cilk_scopes.specs.declared.owner.Owner.TheVariants as owner
-use Rattle.cilk_labelled.specs.Bodies.{one_cell}
+use Rattle.cilk_nodes.specs.scopes.declared.owner.Owner.TheVariants as owner
+use Rattle.cilk_nodes.specs.labelled.Bodies.{one_cell}
 use Rattle.cilk_nodes.specs.declared.body.Body.{Body}
 use Rattle.cilk_layout.proofs.Tables.{table-made}
 use Rattle.cilk_layout.proofs.building.put_inlet.Goals as goal

@@ -1,8 +1,8 @@
 use Rattle.std.proofs.Common.{◌≡◌, ◌++◌, ◌∷◌, [], length, rules, ap, ◌∙◌, arith}
 use Rattle.cilk_syntax.specs.Tree as tree
 use Rattle.cilk_syntax.specs.ProgramView.{parameters_of}
-use Rattle.cilk_scopes.specs.Parts.{owner_of}
-use Rattle.cilk_labelled.specs.Bodies.{parameter_variables}
+use Rattle.cilk_nodes.specs.scopes.Parts.{owner_of}
+use Rattle.cilk_nodes.specs.labelled.Bodies.{parameter_variables}
 use Rattle.cilk_nodes.specs.declared.body.Body.{Body}
 use Rattle.cilk_layout.specs.Tables.{table_of}
 use Rattle.cilk_layout.proofs.Tables.{table-made}

@@ -1,6 +1,6 @@
 use Rattle.std.proofs.Common.{◌≡◌, ◌+◌, ◌≤◌, min, drop}
 use Rattle.cilk_syntax.specs.Tree.{stmts_of, locals_of}
-use Rattle.cilk_labelled.specs.Count.{count_stmts, count_locals}
+use Rattle.cilk_nodes.specs.labelled.Count.{count_stmts, count_locals}
 use Rattle.cilk_layout.proofs.counts.+count.Given as goal
 
 abbrev pub invariant-count_locals-loop-local : goal.invariant-count_locals-loop-local

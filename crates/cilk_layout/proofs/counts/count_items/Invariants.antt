@@ -1,5 +1,5 @@
 use Rattle.std.proofs.Common.{◌≡◌, ◌+◌, ◌≤◌, min, drop}
-use Rattle.cilk_labelled.specs.Count.{count_items}
+use Rattle.cilk_nodes.specs.labelled.Count.{count_items}
 use Rattle.cilk_layout.proofs.counts.count_items.Given as goal
 
 abbrev pub invariant-loop-item : goal.invariant-loop-item

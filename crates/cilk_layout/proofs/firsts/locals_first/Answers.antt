@@ -2,7 +2,7 @@ use Rattle.std.proofs.Common.{◌≡◌, ◌+◌, drop, sym, ap, ◌∙◌, arit
 use Rattle.std.proofs.lemmas.List.{at_drop_more}
 use Rattle.cilk_syntax.specs.Tree as tree
 use Rattle.cilk_syntax.specs.Tree.{locals_of}
-use Rattle.cilk_labelled.specs.Count.{count_local, count_locals}
+use Rattle.cilk_nodes.specs.labelled.Count.{count_local, count_locals}
 use Rattle.cilk_layout.specs.Firsts.{locals_first}
 use Rattle.cilk_layout.proofs.Begins.{first-here, first-later}
 use Rattle.cilk_layout.proofs.firsts.locals_first.Goals as goal

@@ -1,6 +1,6 @@
 use Rattle.std.proofs.Common.{◌≡◌, ◌+◌, drop}
 use Rattle.cilk_syntax.specs.Tree.{locals_of}
-use Rattle.cilk_labelled.specs.Count.{count_locals}
+use Rattle.cilk_nodes.specs.labelled.Count.{count_locals}
 use Rattle.cilk_layout.specs.Firsts.{locals_first}
 use Rattle.cilk_layout.proofs.firsts.locals_first.Given as goal
 

@@ -1,7 +1,7 @@
 use Rattle.std.proofs.Common.{◌≡◌, ◌++◌, drop}
 use Rattle.std.specs.Prelude.{flat_map}
-use Rattle.cilk_eval.specs.declared.area.Area.TheVariants.{Global}
-use Rattle.cilk_labelled.specs.Bodies.{item_globals}
+use Rattle.cilk_nodes.specs.eval.declared.area.Area.TheVariants.{Global}
+use Rattle.cilk_nodes.specs.labelled.Bodies.{item_globals}
 use Rattle.cilk_nodes.specs.Bodies.{vars_from}
 use Rattle.cilk_layout.proofs.globals.globals_of.Given as goal
 

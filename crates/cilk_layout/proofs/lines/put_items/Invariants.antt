@@ -1,7 +1,7 @@
 use Rattle.std.proofs.Common.{◌≡◌, ◌+◌, ◌++◌, drop, length, vec_len}
-use Rattle.cilk_canonical.specs.ProgramText.{items_lines}
-use Rattle.cilk_labelled.specs.Count.{count_items}
-use Rattle.cilk_labelled.specs.Lines.{items_action_lines}
+use Rattle.cilk_nodes.specs.canonical.ProgramText.{items_lines}
+use Rattle.cilk_nodes.specs.labelled.Count.{count_items}
+use Rattle.cilk_nodes.specs.labelled.Lines.{items_action_lines}
 use Rattle.cilk_layout.proofs.lines.put_items.Given as goal
 
 abbrev pub invariant-loop-item : goal.invariant-loop-item

@@ -2,8 +2,8 @@ use Rattle.std.proofs.Common.{◌≡◌, ◌+◌, ◌++◌, List, drop, rules, r
 use Rattle.std.proofs.lemmas.List.{at_drop_more}
 use Rattle.cilk_syntax.specs.Tree as tree
 use Rattle.cilk_syntax.specs.Tree.{locals_of, stmts_of}
-use Rattle.cilk_eval.specs.declared.area.Area.TheVariants.{Own}
-use Rattle.cilk_labelled.specs.Label.{stmt_variables, stmts_variables, locals_variables, block_variables}
+use Rattle.cilk_nodes.specs.eval.declared.area.Area.TheVariants.{Own}
+use Rattle.cilk_nodes.specs.labelled.Label.{stmt_variables, stmts_variables, locals_variables, block_variables}
 use Rattle.cilk_nodes.specs.Slots.{cells_of}
 use Rattle.cilk_nodes.specs.Bodies.{vars_from}
 use Rattle.cilk_layout.proofs.Cells.{joined, ok_same, cells_of-append}

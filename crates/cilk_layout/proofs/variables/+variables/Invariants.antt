@@ -1,7 +1,7 @@
 use Rattle.std.proofs.Common.{◌≡◌, ◌+◌, ◌++◌, drop}
 use Rattle.cilk_syntax.specs.Tree.{stmts_of}
-use Rattle.cilk_eval.specs.declared.area.Area.TheVariants.{Own}
-use Rattle.cilk_labelled.specs.Label.{stmts_variables}
+use Rattle.cilk_nodes.specs.eval.declared.area.Area.TheVariants.{Own}
+use Rattle.cilk_nodes.specs.labelled.Label.{stmts_variables}
 use Rattle.cilk_nodes.specs.Slots.{cells_of}
 use Rattle.cilk_nodes.specs.Bodies.{vars_from}
 use Rattle.cilk_layout.proofs.variables.+variables.Given as goal

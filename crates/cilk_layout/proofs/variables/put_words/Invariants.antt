@@ -1,6 +1,6 @@
 use Rattle.std.proofs.Common.{◌≡◌, ◌+◌, ◌++◌, pos, map, drop}
-use Rattle.cilk_eval.specs.declared.area.Area.TheVariants.{Own}
-use Rattle.cilk_labelled.specs.Bodies.{one_cell}
+use Rattle.cilk_nodes.specs.eval.declared.area.Area.TheVariants.{Own}
+use Rattle.cilk_nodes.specs.labelled.Bodies.{one_cell}
 use Rattle.cilk_nodes.specs.Slots.{cells_of}
 use Rattle.cilk_nodes.specs.Bodies.{vars_from}
 use Rattle.cilk_layout.proofs.variables.put_words.Given as goal

@@ -1,10 +1,10 @@
 use Rattle.std.proofs.Common.{◌≡◌, ◌+◌, ◌-◌, ◌++◌, List, length, drop, vec_len, rules, refl, sym, ap, subst, ◌∙◌, arith, length-append}
 use Rattle.std.proofs.lemmas.List.{at_drop_more}
-use Rattle.cilk_syntax.specs.Tree as tree
-use Rattle.cilk_syntax.specs.Tree.{locals_of, stmts_of}
-use Rattle.cilk_labelled.specs.Count.{count_stmts}
-use Rattle.cilk_labelled.specs.Label.{stmt_variables, stmts_variables}
-use Rattle.cilk_nodes.specs.Plain.{PlainStmts, PlainBlock}
+use Rattle.cilk_layout.specs.syntax.Tree as tree
+use Rattle.cilk_layout.specs.syntax.Tree.{locals_of, stmts_of}
+use Rattle.cilk_layout.specs.labelled.Count.{count_stmts}
+use Rattle.cilk_layout.specs.labelled.Label.{stmt_variables, stmts_variables}
+use Rattle.cilk_layout.specs.nodes.Plain.{PlainStmts, PlainBlock}
 use Rattle.cilk_resolve.specs.Scope.{Scope}
 use Rattle.cilk_numbering.specs.Pass.{block_nodes, stmts_nodes}
 use Rattle.cilk_layout.proofs.Cells.{ok_same}

@@ -1,8 +1,8 @@
 use Rattle.std.proofs.Common.{◌≡◌, ◌+◌, ◌++◌, drop, length, vec_len}
-use Rattle.cilk_syntax.specs.Tree.{stmts_of}
-use Rattle.cilk_labelled.specs.Count.{count_stmts}
-use Rattle.cilk_labelled.specs.Label.{stmts_variables}
-use Rattle.cilk_nodes.specs.Plain.{PlainStmts}
+use Rattle.cilk_layout.specs.syntax.Tree.{stmts_of}
+use Rattle.cilk_layout.specs.labelled.Count.{count_stmts}
+use Rattle.cilk_layout.specs.labelled.Label.{stmts_variables}
+use Rattle.cilk_layout.specs.nodes.Plain.{PlainStmts}
 use Rattle.cilk_numbering.specs.Pass.{stmts_nodes}
 use Rattle.cilk_numbering.proofs.numbering.+put.Given as goal
 

@@ -1,5 +1,5 @@
 use Rattle.std.proofs.Common.{◌∙◌}
-use Rattle.cilk_numbering.proofs.Vars.{slot-there, slot-past}
+use Rattle.cilk_numbering.proofs.VarLaws.{slot-there, slot-past}
 use Rattle.cilk_numbering.proofs.numbering.known_var.Goals as goal
 
 pub returns-in-Some : goal.returns-in-Some

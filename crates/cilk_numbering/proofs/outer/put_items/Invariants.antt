@@ -1,6 +1,6 @@
 use Rattle.std.proofs.Common.{◌≡◌, ◌+◌, ◌++◌, drop, vec_len}
-use Rattle.cilk_labelled.specs.Count.{count_items}
-use Rattle.cilk_nodes.specs.Plain.{PlainItems}
+use Rattle.cilk_layout.specs.labelled.Count.{count_items}
+use Rattle.cilk_layout.specs.nodes.Plain.{PlainItems}
 use Rattle.cilk_numbering.specs.Outer.{items_nodes}
 use Rattle.cilk_numbering.proofs.outer.put_items.Given as goal
 

@@ -1,8 +1,8 @@
 use Rattle.std.proofs.Common.{◌≡◌, ◌+◌, ◌++◌, drop, length, vec_len}
-use Rattle.cilk_syntax.specs.Tree.{locals_of}
-use Rattle.cilk_labelled.specs.Count.{count_locals}
-use Rattle.cilk_labelled.specs.Label.{locals_variables}
-use Rattle.cilk_nodes.specs.Plain.{OuterLocals}
+use Rattle.cilk_layout.specs.syntax.Tree.{locals_of}
+use Rattle.cilk_layout.specs.labelled.Count.{count_locals}
+use Rattle.cilk_layout.specs.labelled.Label.{locals_variables}
+use Rattle.cilk_layout.specs.nodes.Plain.{OuterLocals}
 use Rattle.cilk_numbering.specs.Outer.{vars_at, outer_scope, outer_nodes}
 use Rattle.cilk_numbering.proofs.outer.put_locals.Given as goal
 

@@ -1,15 +1,15 @@
 use Rattle.std.proofs.Common.{◌≡◌, ◌∙◌, ◌∷◌, [], List, Result, Ok, Err, MatchResult, false, refl}
 use Rattle.std.proofs.lemmas.Result.{err_from_is_err_and}
-use Rattle.cilk_lexeme.specs.Lexeme.{Piece}
-use Rattle.cilk_lexeme.specs.declared.keyword.Keyword.TheVariants.{Int}
-use Rattle.cilk_syntax.specs.Tree.{Item, Word}
-use Rattle.cilk_syntax.specs.declared.return_type.ReturnType.TheVariants as kinds
+use Rattle.cilk_grammar.specs.lexeme.Lexeme.{Piece}
+use Rattle.cilk_grammar.specs.lexeme.declared.keyword.Keyword.TheVariants.{Int}
+use Rattle.cilk_grammar.specs.syntax.Tree.{Item, Word}
+use Rattle.cilk_grammar.specs.syntax.declared.return_type.ReturnType.TheVariants as kinds
 use Rattle.cilk_rules.specs.declared.fault.ReadError.{ReadError}
 use Rattle.cilk_rules.specs.declared.fault.ReadError.TheVariants.{Memory}
 use Rattle.cilk_rules.specs.Gives.{Gives}
 use Rattle.cilk_rules.specs.Rule.{◌>>=◌, Read, Rule, token_at, and_then, either, done}
 use Rattle.cilk_rules.proofs.Loops.{fails_first}
-use Rattle.cilk_expression.specs.Classes.{cls, a_word, names}
+use Rattle.cilk_grammar.specs.expression.Classes.{cls, a_word, names}
 use Rattle.cilk_grammar.specs.Grammar.{tail, function, globals, int_item}
 use Rattle.cilk_grammar.specs.Parts.{Means, the_name}
 use Rattle.cilk_grammar.specs.Spelling.{leaf_at, read_at, nesting_limit}

@@ -1,5 +1,5 @@
 use Rattle.std.proofs.Common.{◌≡◌, length, List}
-use Rattle.cilk_syntax.specs.Tree as tree
+use Rattle.cilk_grammar.specs.syntax.Tree as tree
 use Rattle.cilk_rules.specs.Gives.{onto}
 use Rattle.cilk_rules.specs.Rule.{many}
 use Rattle.cilk_grammar.specs.Forms.{joined}

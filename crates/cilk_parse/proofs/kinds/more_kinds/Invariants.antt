@@ -1,7 +1,7 @@
 use Rattle.std.proofs.Common.{◌≡◌, length}
 use Rattle.cilk_rules.specs.Gives.{onto}
 use Rattle.cilk_grammar.specs.Forms.{behind_commas, word, optional}
-use Rattle.cilk_lexeme.specs.declared.keyword.Keyword.TheVariants.{Int}
+use Rattle.cilk_grammar.specs.lexeme.declared.keyword.Keyword.TheVariants.{Int}
 use Rattle.cilk_grammar.specs.Grammar.{name}
 use Rattle.cilk_grammar.specs.Spelling.{nesting_limit}
 use Rattle.cilk_reader.specs.Limits.{read_in}

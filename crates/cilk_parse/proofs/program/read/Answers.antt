@@ -1,8 +1,8 @@
 use Rattle.std.proofs.Common.{◌≤◌, true, List, length, sym, ap, ◌∙◌, refl, arith, subst, inl, inr}
 use Rattle.std.proofs.lemmas.Bool.{cases_lt}
 use Rattle.std.proofs.lemmas.List.{length-map}
-use Rattle.cilk_lexeme.specs.Lexeme.{Piece, pieces_of, piece_of}
-use Rattle.cilk_lexeme.specs.Lexing.{Lexes, text_limit}
+use Rattle.cilk_grammar.specs.lexeme.Lexeme.{Piece, pieces_of, piece_of}
+use Rattle.cilk_grammar.specs.lexeme.Lexing.{Lexes, text_limit}
 use Rattle.cilk_lex.proofs.Within.{refused_within}
 use Rattle.cilk_grammar.specs.Fault.{place_left}
 use Rattle.cilk_grammar.proofs.Viable.{unexpected_within, too_deep_within}

@@ -1,4 +1,4 @@
-use Rattle.cilk_sound.proofs.Known.{heads, follows}
+use Rattle.cilk_effects.proofs.sound_laws.Known.{heads, follows}
 use Rattle.cilk_agree.proofs.Asked.{asked}
 use Rattle.cilk_plans.proofs.Planned.{plan-is}
 use Rattle.cilk_plans.proofs.laws.plans_are_steps.Goals as goal

@@ -1,5 +1,5 @@
 use Rattle.std.proofs.Common.{◌≡◌, ◌++◌, map}
-use Rattle.cilk_syntax.specs.Tree as tree
+use Rattle.cilk_grammar.specs.syntax.Tree as tree
 use Rattle.cilk_reader.proofs.declaration.declared.Given as goal
 
 abbrev pub invariant-each : goal.invariant-each

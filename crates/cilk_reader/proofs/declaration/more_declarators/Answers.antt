@@ -1,6 +1,6 @@
 use Rattle.std.proofs.Common.{sym, refl, ◌∙◌}
 use Rattle.std.proofs.lemmas.Result.{err_from_is_err_and}
-use Rattle.cilk_lexeme.specs.declared.mark.Mark.TheVariants.{Comma}
+use Rattle.cilk_grammar.specs.lexeme.declared.mark.Mark.TheVariants.{Comma}
 use Rattle.cilk_grammar.specs.Forms.{mark}
 use Rattle.cilk_grammar.specs.Grammar.{declarator}
 use Rattle.cilk_reader.proofs.Loops.{one_shorter, loop_ends, loop_fails, loop_goes}

@@ -1,5 +1,5 @@
 use Rattle.std.proofs.Common.{ap, ◌∙◌}
-use Rattle.cilk_model.specs.End.{ending}
+use Rattle.cilk_commands.specs.model.End.{ending}
 use Rattle.cilk_commands.specs.Status.{status_at}
 use Rattle.cilk_recorded.proofs.closing.closing_of.Goals as goal
 

@@ -1,6 +1,6 @@
 use Rattle.std.proofs.Common.{subst, sym, ap, ◌∙◌, inr}
 use Rattle.cilk_commands.specs.Held.{Held}
-use Rattle.cilk_replay.specs.Tape.{tape_of, IsPlayable}
+use Rattle.cilk_debug.specs.replay.Tape.{tape_of, IsPlayable}
 use Rattle.cilk_recorded.specs.Debugging.{broken_off}
 use Rattle.cilk_recorded.specs.Taped.{Declines}
 use Rattle.cilk_recorded.specs.Telling.{status_of}

@@ -1,7 +1,7 @@
 use Rattle.std.proofs.Common.{◌+◌, ◌≡◌, ◌≤◌, ℕ, ap, ◌∙◌, rules, subst, Ok, IfSome}
-use Rattle.cilk_model.specs.Event.{Event}
-use Rattle.cilk_choices.specs.Words.{choice_of}
-use Rattle.cilk_machine.specs.Made.{Makes}
+use Rattle.cilk_commands.specs.model.Event.{Event}
+use Rattle.cilk_commands.specs.choices.Words.{choice_of}
+use Rattle.cilk_commands.specs.machine.Made.{Makes}
 use Rattle.cilk_commands.proofs.Told.{stops_stuck}
 use Rattle.cilk_recorded.proofs.Ran.{led_on}
 use Rattle.cilk_recorded.proofs.recording.record_alone.Goals as goal

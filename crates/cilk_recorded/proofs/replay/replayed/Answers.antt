@@ -1,7 +1,7 @@
 use Rattle.std.proofs.Common.{subst, List}
-use Rattle.cilk_choices.specs.declared.choice.Choice as code
-use Rattle.cilk_replay.specs.Tape.{tape_of}
-use Rattle.cilk_replay.specs.Faults.{Tells}
+use Rattle.cilk_commands.specs.choices.declared.choice.Choice as code
+use Rattle.cilk_debug.specs.replay.Tape.{tape_of}
+use Rattle.cilk_debug.specs.replay.Faults.{Tells}
 use Rattle.cilk_recorded.proofs.Ran.{all_replayed}
 use Rattle.cilk_recorded.proofs.replay.replayed.Goals as goal
 

@@ -1,5 +1,5 @@
 use Rattle.std.proofs.Common.{◌≡◌, drop}
-use Rattle.cilk_syntax.specs.Tree.{stmts_of}
+use Rattle.cilk_scopes.specs.syntax.Tree.{stmts_of}
 use Rattle.cilk_scopes.specs.Declarations.{stmts_variables}
 use Rattle.cilk_rules_of_forms.specs.Room.{behind}
 use Rattle.cilk_rules_of_forms.proofs.cells.+behind_block.Given as goal

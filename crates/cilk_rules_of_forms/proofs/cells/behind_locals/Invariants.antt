@@ -1,5 +1,5 @@
 use Rattle.std.proofs.Common.{◌≡◌, drop}
-use Rattle.cilk_syntax.specs.Tree.{locals_of}
+use Rattle.cilk_scopes.specs.syntax.Tree.{locals_of}
 use Rattle.cilk_scopes.specs.Declarations.{locals_variables}
 use Rattle.cilk_rules_of_forms.specs.Room.{behind}
 use Rattle.cilk_rules_of_forms.proofs.cells.behind_locals.Given as goal

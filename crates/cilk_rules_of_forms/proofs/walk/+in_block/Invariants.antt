@@ -1,5 +1,5 @@
 use Rattle.std.proofs.Common.{◌≡◌, drop}
-use Rattle.cilk_syntax.specs.Tree.{locals_of, stmts_of}
+use Rattle.cilk_scopes.specs.syntax.Tree.{locals_of, stmts_of}
 use Rattle.cilk_scopes.specs.First.{first_among}
 use Rattle.cilk_rules_of_forms.specs.Finds.{locals_faults, stmts_faults}
 use Rattle.cilk_rules_of_forms.proofs.walk.+in_block.Given as goal

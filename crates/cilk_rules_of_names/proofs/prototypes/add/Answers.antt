@@ -1,7 +1,7 @@
 use Rattle.std.proofs.Common.{◌||◌, sym, ap, ◌∙◌}
 use Rattle.std.specs.Ordering.{is_eq}
 use Rattle.std.specs.BTreeSet.{contains}
-use Rattle.cilk_syntax.specs.ProgramView.{item_of}
+use Rattle.cilk_scopes.specs.syntax.ProgramView.{item_of}
 use Rattle.cilk_rules_of_names.specs.Signatures.{has_signature, is_signature, signature_cmp}
 use Rattle.cilk_rules_of_names.proofs.Definitions.{added}
 use Rattle.cilk_rules_of_names.proofs.prototypes.add.Goals as goal

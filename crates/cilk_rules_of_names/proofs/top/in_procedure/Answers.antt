@@ -1,5 +1,5 @@
 use Rattle.cilk_scopes.specs.Scopes.{parameters_declare}
-use Rattle.cilk_syntax.specs.ProgramView.{parameters_of}
+use Rattle.cilk_scopes.specs.syntax.ProgramView.{parameters_of}
 use Rattle.cilk_rules_of_names.proofs.Declarings.{outer_with, may_leave, has_left}
 use Rattle.cilk_rules_of_names.proofs.top.in_procedure.Goals as goal
 

@@ -1,6 +1,6 @@
 use Rattle.std.proofs.Common.{ℤ, w32, sym, ap, ◌∙◌}
 use Rattle.std.proofs.lemmas.Int.{to_z-of_z}
-use Rattle.cilk_frame.specs.Frames.{depth, top_of}
+use Rattle.cilk_plans.specs.frame.Frames.{depth, top_of}
 use Rattle.cilk_plans.specs.Made.{answered}
 use Rattle.cilk_step.specs.Scenes.{sight_of}
 use Rattle.cilk_step.proofs.Left.{inner-by, given-answers}

@@ -1,7 +1,7 @@
 use Rattle.std.proofs.Common.{ℕ, ◌-◌, sym, ap, ◌∙◌}
 use Rattle.std.specs.Prelude.{slice_get}
-use Rattle.cilk_frame.specs.Frames.{activation_at}
-use Rattle.cilk_spawn.specs.Nodes.{node_at}
+use Rattle.cilk_plans.specs.frame.Frames.{activation_at}
+use Rattle.cilk_plans.specs.spawn.Nodes.{node_at}
 use Rattle.cilk_step.specs.Scenes.{sight_of, is_wait}
 use Rattle.cilk_step.proofs.Waits.{acted-waits}
 use Rattle.cilk_step.proofs.Ways.{inner-way, free-way}

@@ -1,4 +1,4 @@
-use Rattle.cilk_labelled.specs.Bodies.{label}
+use Rattle.cilk_agree.specs.labelled.Bodies.{label}
 use Rattle.cilk_view.proofs.Firsts.{one_more, none_more}
 use Rattle.cilk_view.proofs.listing.add_action.Goals as goal
 

@@ -1,10 +1,10 @@
 use Rattle.std.proofs.Common.{◌≡◌, sym, ap, ◌∙◌, Some}
 use Rattle.std.specs.Prelude.{option_map, string_bytes}
-use Rattle.cilk_labelled.specs.Bodies.{label}
-use Rattle.cilk_model.specs.Path.{Path}
-use Rattle.cilk_model.specs.Run.{Position}
-use Rattle.cilk_model.specs.State.{instance_at}
-use Rattle.cilk_seen.specs.Frames.{frame_text}
+use Rattle.cilk_agree.specs.labelled.Bodies.{label}
+use Rattle.cilk_agree.specs.model.Path.{Path}
+use Rattle.cilk_agree.specs.model.Run.{Position}
+use Rattle.cilk_agree.specs.model.State.{instance_at}
+use Rattle.cilk_agree.specs.seen.Frames.{frame_text}
 use Rattle.cilk_view.specs.Shows.{machine_of, ShowsAt}
 use Rattle.cilk_view.specs.Frames.{frame_by}
 use Rattle.cilk_view.proofs.Finds.{no_instance, instance_there, frame_stands, frame_there}

@@ -1,5 +1,5 @@
 use Rattle.std.proofs.Common.{sym}
-use Rattle.cilk_choices.specs.Words.{outcome_of}
+use Rattle.cilk_console.specs.choices.Words.{outcome_of}
 use Rattle.cilk_replay.specs.Tape.{tape_of}
 use Rattle.cilk_debug.specs.Seeing.{line_behind}
 use Rattle.cilk_debug.proofs.Seen.{line_seen, put_behind}

@@ -1,7 +1,7 @@
 use Rattle.std.proofs.Common.{◌≡◌, ◌&&◌, ◌==◌, length, rules, sym, ap, ◌∙◌}
 use Rattle.std.specs.Str.{bytes_eq}
-use Rattle.cilk_syntax.specs.Tree as tree
-use Rattle.cilk_syntax.specs.ProgramView.{parameters_of}
+use Rattle.cilk_scopes.specs.syntax.Tree as tree
+use Rattle.cilk_scopes.specs.syntax.ProgramView.{parameters_of}
 use Rattle.cilk_rules_of_names.specs.declared.signature.Signature.{Signature}
 use Rattle.cilk_rules_of_names.specs.Finds.{same_bool}
 use Rattle.cilk_rules_of_names.specs.Signatures.{has_signature}

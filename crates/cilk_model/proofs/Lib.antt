@@ -1,0 +1,1 @@
+pub use Rattle.cilk_labelled.proofs.canonical_laws

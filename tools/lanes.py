@@ -1,0 +1,203 @@
+"""Crates checked side by side: what crates.txt says of them, and lanes, each a scratch copy of the repository in which one check runs at a time.
+
+`rt` keeps others out of the folder of a crate and of all that it stands on, so two checks in one repository wait for each other. In lanes they do not.
+"""
+import contextlib
+import fcntl
+import functools
+import os
+import shutil
+import signal
+import subprocess
+import time
+from concurrent.futures import FIRST_COMPLETED, ThreadPoolExecutor, wait
+
+TOP = os.path.dirname(os.path.dirname(os.path.realpath(__file__)))
+PARTS = ("src", "specs", "proofs")
+# The memory that a check may take, in bytes: most take a third of it.
+ROOM = 3_500_000_000
+# The most processes that one check gains from.
+MOST_JOBS = 4
+
+
+class Crates:
+    """The repository's crates, by the names of the libraries of the repository that each lists."""
+
+    def __init__(self, top=TOP):
+        self.top = top
+        with open(f"{top}/crates.txt", encoding="utf-8") as it:
+            lines = [line.partition("#")[0].partition(":") for line in it]
+        listed = {name.split()[0]: used.split() for name, found, used in lines if found}
+        self.uses = {name: [it for it in used if it in listed] for name, used in listed.items()}
+
+    def below(self, *names):
+        """Returns the libraries that these crates stand on, in the order of crates.txt."""
+        found, left = set(), list(names)
+        while left:
+            new = set(self.uses[left.pop()]) - found
+            found |= new
+            left += new
+        return [it for it in self.uses if it in found]
+
+    @functools.cache
+    def ways(self, name):
+        """Returns how many ways lead down from a crate through crates.txt, that to itself among them."""
+        return 1 + sum(self.ways(it) for it in self.uses[name])
+
+    @functools.cache
+    def size(self, name):
+        """Returns how many bytes of code, definitions and proofs a crate has."""
+        walked = [it for part in PARTS for it in os.walk(f"{self.top}/crates/{name}/{part}")]
+        return sum(os.path.getsize(f"{folder}/{it}") for folder, _, files in walked for it in files)
+
+    def behind(self, names):
+        """Returns for each of these crates the size of the longest chain of them that begins with it and goes upward."""
+        found = {}
+        for name in reversed(list(self.uses)):
+            if name in names:
+                found[name] = self.size(name) + max((found[it] for it in found if name in self.uses[it]), default=0)
+        return found
+
+
+def processors():
+    """Returns how many checks may run side by side: one a processor, and as many as there is memory for."""
+    with open("/proc/meminfo", encoding="utf-8") as it:
+        free = next(1024 * int(line.split()[1]) for line in it if line.startswith("MemAvailable:"))
+    return max(1, min(len(os.sched_getaffinity(0)), free // ROOM))
+
+
+@contextlib.contextmanager
+def held(folder):
+    """Keeps each other rt out of a crate's folder."""
+    it = os.open(folder, os.O_RDONLY)
+    try:
+        fcntl.flock(it, fcntl.LOCK_EX)
+        yield
+    finally:
+        os.close(it)
+
+
+def link_or_copy(one, other):
+    """Gives a file of a library a second name, since rt writes no such file where it stands, or else copies it."""
+    try:
+        os.link(one, other)
+    except OSError:
+        shutil.copy2(one, other)
+    return other
+
+
+class Lane:
+    """A scratch copy of the repository's crates, in which one check runs at a time."""
+
+    running = set()
+
+    def __init__(self, crates, folder):
+        self.crates, self.folder, self.has = crates, folder, set()
+        os.makedirs(f"{folder}/crates")
+        for name in crates.uses:
+            out_left_out = lambda at, _: ["out"] if os.path.dirname(at) == f"{crates.top}/crates" else []
+            shutil.copytree(f"{crates.top}/crates/{name}", f"{folder}/crates/{name}", symlinks=True, ignore=out_left_out)
+        for it in ("crates.txt", "HANDLES"):
+            shutil.copy2(f"{crates.top}/{it}", f"{folder}/{it}")
+
+    def bring(self, names):
+        """Gives the lane these libraries, as they were proved."""
+        for name in names:
+            if name not in self.has:
+                own, theirs = f"{self.folder}/crates/{name}/out/rlib", f"{self.crates.top}/crates/{name}/out/rlib"
+                shutil.rmtree(own, ignore_errors=True)
+                shutil.copytree(theirs, own, copy_function=link_or_copy)
+                self.has.add(name)
+
+    def run(self, name, words):
+        """Runs a command in a crate's folder of the lane; returns its status and what it said."""
+        how = {"stdin": subprocess.DEVNULL, "stdout": subprocess.PIPE, "stderr": subprocess.STDOUT}
+        ran = subprocess.Popen(words, cwd=f"{self.folder}/crates/{name}", start_new_session=True, text=True, errors="replace", **how)
+        Lane.running.add(ran)
+        said, _ = ran.communicate()
+        Lane.running.discard(ran)
+        return ran.returncode, said
+
+    def move_out(self, name, back):
+        """Moves what is kept of a crate's checks into the lane, or back into the repository."""
+        theirs, own = (f"{it}/crates/{name}/out" for it in (self.crates.top, self.folder))
+        source, target = (own, theirs) if back else (theirs, own)
+        with held(os.path.dirname(theirs)):
+            if os.path.isdir(source):
+                shutil.rmtree(target, ignore_errors=True)
+                shutil.move(source, target)
+
+    def prove(self, name, jobs):
+        """Proves a library; what was kept of it is moved here and back. Returns whether it is proved, and what was said."""
+        self.bring(self.crates.below(name))
+        self.move_out(name, back=False)
+        try:
+            status, said = self.run(name, ["rt", "lib", "--jobs", str(jobs)])
+        finally:
+            self.move_out(name, back=True)
+            self.has.discard(name)
+        return status == 0, said
+
+
+def stop_all():
+    """Ends all commands that run in lanes."""
+    for it in list(Lane.running):
+        with contextlib.suppress(ProcessLookupError):
+            os.killpg(it.pid, signal.SIGTERM)
+
+
+class Turns:
+    """Crates taken up in turn: each once those below it are done, the one with the longest chain above it first."""
+
+    def __init__(self, crates, names, most):
+        self.crates, self.left, self.most = crates, list(names), most
+        self.behind = crates.behind(set(names))
+        self.done, self.jobs = set(), {}
+
+    def ready(self):
+        wanted = set(self.left) | set(self.jobs)
+        found = [it for it in self.left if not set(self.crates.below(it)) & wanted]
+        return sorted(found, key=lambda it: -self.behind[it])
+
+    def next(self):
+        """Returns the crate to take up now and how many jobs it gets, or None."""
+        ready, free = self.ready(), self.most - sum(self.jobs.values())
+        if not ready or free < 1:
+            return None
+        name = ready[0]
+        is_longest = all(self.behind[it] <= self.behind[name] for it in self.jobs)
+        jobs = min(MOST_JOBS, max(1, free - len(ready) + 1)) if is_longest else 1
+        self.left.remove(name)
+        self.jobs[name] = jobs
+        return name, jobs
+
+    def end(self, name, is_proved):
+        """Notes that a crate is done. Where it is not proved, those above it are left out."""
+        del self.jobs[name]
+        if is_proved:
+            self.done.add(name)
+        else:
+            self.left = [it for it in self.left if name not in self.crates.below(it)]
+
+
+def prove_all(crates, names, room, tell):
+    """Proves libraries side by side in lanes below a folder, and tells what is begun and what has ended. Returns whether all are proved."""
+    most = processors()
+    turns, free, running = Turns(crates, names, most), [], {}
+    with ThreadPoolExecutor(most) as pool:
+        try:
+            while turns.left or running:
+                while (taken := turns.next()) is not None:
+                    lane = free.pop() if free else Lane(crates, f"{room}/{len(running)}-{len(turns.left)}")
+                    tell.begun(*taken)
+                    running[pool.submit(lane.prove, *taken)] = taken[0], lane, time.monotonic()
+                for it in wait(running, return_when=FIRST_COMPLETED).done:
+                    name, lane, began = running.pop(it)
+                    is_proved, said = it.result()
+                    turns.end(name, is_proved)
+                    free.append(lane)
+                    tell.ended(name, len(turns.done), time.monotonic() - began, None if is_proved else said)
+        except BaseException:
+            stop_all()
+            raise
+    return len(turns.done) == len(names)
