@@ -2,7 +2,7 @@
 
 sources := $(shell find crates \( -name out -o -name must-fail \) -prune -o -type f -print)
 
-.PHONY: demo test anew programs must_not_compile wrong-bodies edge budget bench clean
+.PHONY: demo test ways programs must_not_compile costs wrong-bodies edge budget bench clean
 
 # A program is built once it and the crates below it are proved, and only by running it.
 cilk: crates.txt HANDLES $(sources)
@@ -14,12 +14,16 @@ cilk: crates.txt HANDLES $(sources)
 demo: cilk
 	tools/demo ./cilk
 
-test: must_not_compile
+test: ways must_not_compile
 	tools/gate
 
-# The same, but that nothing is taken from what was proved before on this machine.
-anew:
-	tools/gate --anew
+# Counts the ways down through crates.txt, of which there may be few (docs/GATE.md).
+ways:
+	tools/ways
+
+# Tells what was dear in the last proofs: functions, and crates.
+costs:
+	tools/costs
 
 # Tries ./cilk on the cases of programs/, on the examples of docs/LANGUAGE.md and the sessions of docs/DEBUGGER.md.
 programs: cilk

@@ -95,15 +95,26 @@ class Lane:
         self.crates, self.folder, self.has = crates, folder, set()
         os.makedirs(f"{folder}/crates")
         for name in crates.uses:
-            out_left_out = lambda at, _: ["out"] if os.path.dirname(at) == f"{crates.top}/crates" else []
-            shutil.copytree(f"{crates.top}/crates/{name}", f"{folder}/crates/{name}", symlinks=True, ignore=out_left_out)
+            self.refresh(name)
         for it in ("crates.txt", "HANDLES"):
             shutil.copy2(f"{crates.top}/{it}", f"{folder}/{it}")
+
+    def refresh(self, name):
+        """Gives the lane a crate's files as they stand now."""
+        theirs, own = (f"{it}/crates/{name}" for it in (self.crates.top, self.folder))
+        for it in os.listdir(theirs):
+            if os.path.isfile(f"{theirs}/{it}"):
+                os.makedirs(own, exist_ok=True)
+                shutil.copy2(f"{theirs}/{it}", f"{own}/{it}")
+            elif it != "out":
+                shutil.rmtree(f"{own}/{it}", ignore_errors=True)
+                shutil.copytree(f"{theirs}/{it}", f"{own}/{it}")
 
     def bring(self, names):
         """Gives the lane these libraries, as they were proved."""
         for name in names:
             if name not in self.has:
+                self.refresh(name)
                 own, theirs = f"{self.folder}/crates/{name}/out/rlib", f"{self.crates.top}/crates/{name}/out/rlib"
                 shutil.rmtree(own, ignore_errors=True)
                 shutil.copytree(theirs, own, copy_function=link_or_copy)
@@ -130,6 +141,7 @@ class Lane:
     def prove(self, name, jobs):
         """Proves a library; what was kept of it is moved here and back. Returns whether it is proved, and what was said."""
         self.bring(self.crates.below(name))
+        self.refresh(name)
         self.move_out(name, back=False)
         try:
             status, said = self.run(name, ["rt", "lib", "--jobs", str(jobs)])
@@ -178,6 +190,27 @@ class Turns:
             self.done.add(name)
         else:
             self.left = [it for it in self.left if name not in self.crates.below(it)]
+
+
+class Teller:
+    """Says what is begun, what is proved, and how much is left."""
+
+    def __init__(self, count):
+        self.count, self.began = count, time.monotonic()
+
+    def say(self, words):
+        clock = int(time.monotonic() - self.began)
+        print(f"{clock // 60:2}:{clock % 60:02} {words}", flush=True)
+
+    def begun(self, name, jobs):
+        self.say(f"{name} .." + (f" ({jobs} jobs)" if jobs > 1 else ""))
+
+    def ended(self, name, done, seconds, said):
+        if said is None:
+            self.say(f"{done}/{self.count} {name} proved, {seconds:.0f} s")
+        else:
+            self.say(f"{name} is not proved:")
+            print(said, end="", flush=True)
 
 
 def prove_all(crates, names, room, tell):

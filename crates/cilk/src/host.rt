@@ -1,8 +1,7 @@
 ghost use Rattle.std.specs.Prelude.{None};
 ghost use Rattle.cilk.specs.Source.{IsSource};
 
-use crate::texts::Texts;
-use cilk_recorded::LogStore;
+use cilk_program::{LogStore, Texts};
 use either::Either;
 use std::alloc::{AllocError, Global};
 use std::fs::File;

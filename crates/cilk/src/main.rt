@@ -6,14 +6,10 @@
 //! all of these.
 #![tactic(auto)]
 
-mod dispatch;
-mod exit;
 mod host;
 mod streams;
-mod task;
-mod texts;
 
-use exit::exit_code;
+use cilk_program::exit_code;
 use host::Host;
 use std::process::ExitCode;
 use std::{env, io};

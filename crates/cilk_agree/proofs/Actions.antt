@@ -1,24 +1,24 @@
 -- What an action shows of the one instance.
 use Rattle.std.proofs.Common.{◌≡◌, ◌+◌, ℕ, ℤ, Bool, true, false, ◌++◌, length, Some, refl, sym, ap, ◌∙◌, subst, slice_set}
-use Rattle.cilk_stands.specs.eval.declared.area.Area.{Area}
-use Rattle.cilk_stands.specs.eval.declared.area.Area.TheVariants.{Own, Outer, Global}
-use Rattle.cilk_stands.specs.eval.declared.slot.Slot.{Slot}
-use Rattle.cilk_placed.specs.syntax.Tree.{Program}
-use Rattle.cilk_placed.specs.scopes.declared.owner.Owner.{Owner}
-use Rattle.cilk_placed.specs.scopes.declared.owner.Owner.TheVariants.{Function, Procedure, Inlet}
-use Rattle.cilk_placed.specs.labelled.Labelled.{Labelled}
-use Rattle.cilk_placed.specs.labelled.Bodies.{label, is_procedure}
-use Rattle.cilk_placed.specs.model.Values.{Cell}
-use Rattle.cilk_placed.specs.model.Instance.{Instance, body_at}
-use Rattle.cilk_placed.specs.model.State.{State, Instances, changed}
-use Rattle.cilk_placed.specs.model.Change.{is_function, put, gone_on, outer_with, globals_with, resumed_to, with_instance, with_put}
-use Rattle.cilk_placed.specs.model.Places.{with_hand}
-use Rattle.cilk_stands.specs.nodes.Slots.{is_inlet, slot_of}
-use Rattle.cilk_stands.specs.frame.Frames.{Frame, gone_to, left}
-use Rattle.cilk_stands.specs.Cells.{SameCell, put_in, frame_put, globals_put}
-use Rattle.cilk_stands.specs.Stands.{StandsFor, bodies_of, lowest_of}
-use Rattle.cilk_stands.proofs.Puts.{on_lowest-bodies, put-stands, put-globals, put-sizes}
-use Rattle.cilk_stands.proofs.Steps.{goes_on-stands, call-stands, return-stands}
+use Rattle.cilk_sched.specs.eval.declared.area.Area.{Area}
+use Rattle.cilk_sched.specs.eval.declared.area.Area.TheVariants.{Own, Outer, Global}
+use Rattle.cilk_sched.specs.eval.declared.slot.Slot.{Slot}
+use Rattle.cilk_fates.specs.syntax.Tree.{Program}
+use Rattle.cilk_fates.specs.scopes.declared.owner.Owner.{Owner}
+use Rattle.cilk_fates.specs.scopes.declared.owner.Owner.TheVariants.{Function, Procedure, Inlet}
+use Rattle.cilk_fates.specs.labelled.Labelled.{Labelled}
+use Rattle.cilk_fates.specs.labelled.Bodies.{label, is_procedure}
+use Rattle.cilk_fates.specs.model.Values.{Cell}
+use Rattle.cilk_fates.specs.model.Instance.{Instance, body_at}
+use Rattle.cilk_fates.specs.model.State.{State, Instances, changed}
+use Rattle.cilk_fates.specs.model.Change.{is_function, put, gone_on, outer_with, globals_with, resumed_to, with_instance, with_put}
+use Rattle.cilk_fates.specs.model.Places.{with_hand}
+use Rattle.cilk_sched.specs.nodes.Slots.{is_inlet, slot_of}
+use Rattle.cilk_sched.specs.frame.Frames.{Frame, gone_to, left}
+use Rattle.cilk_sched.specs.frame.Cells.{SameCell, put_in, frame_put, globals_put}
+use Rattle.cilk_sched.specs.frame.Stands.{StandsFor, bodies_of, lowest_of}
+use Rattle.cilk_sched.proofs.frame_laws.Puts.{on_lowest-bodies, put-stands, put-globals, put-sizes}
+use Rattle.cilk_sched.proofs.frame_laws.Steps.{goes_on-stands, call-stands, return-stands}
 use Rattle.cilk_spawn.specs.Nodes.{path_at}
 use Rattle.cilk_agree.specs.Outside.{Outside, SameOutside, lock_by}
 use Rattle.cilk_agree.specs.Alike.{Tells, SameDeliveries, Receives, procedure_in, taker_of, lowest_body}

@@ -1,13 +1,13 @@
 -- What an instance does by itself.
 use Rattle.std.proofs.Common.{◌≡◌, ℕ, List, Option, Some, None, is_some, sym, ap, ◌∙◌, subst, inl, inr, slice_set}
 use Rattle.std.specs.Prelude.{option_map}
-use Rattle.cilk_placed.specs.labelled.Bodies.{label}
-use Rattle.cilk_placed.specs.model.Instance.{Instance}
-use Rattle.cilk_placed.specs.model.State.{State}
-use Rattle.cilk_placed.specs.model.Places.{with_hand, named}
-use Rattle.cilk_placed.specs.model.Scheduler as sched
-use Rattle.cilk_stands.specs.frame.Frames.{Frame}
-use Rattle.cilk_stands.specs.Stands.{StandsFor}
+use Rattle.cilk_fates.specs.labelled.Bodies.{label}
+use Rattle.cilk_fates.specs.model.Instance.{Instance}
+use Rattle.cilk_fates.specs.model.State.{State}
+use Rattle.cilk_fates.specs.model.Places.{with_hand, named}
+use Rattle.cilk_fates.specs.model.Scheduler as sched
+use Rattle.cilk_sched.specs.frame.Frames.{Frame}
+use Rattle.cilk_sched.specs.frame.Stands.{StandsFor}
 use Rattle.cilk_spawn.specs.Nodes.{Node, node_at, is_live, path_at}
 use Rattle.cilk_spawn.proofs.Lists.{decide}
 use Rattle.cilk_sched.specs.Count.{AllHeld}

@@ -1,15 +1,15 @@
 -- What is known of the instance whose frame is in a worker's hand: no other frame is its own.
 use Rattle.std.proofs.Common.{◌≡◌, ◌≢◌, ℕ, ◌+◌, ◌<◌, Bool, true, false, cond, List, length, Option, Some, None, is_some, refl, sym, ap, ◌∙◌, subst, arith}
 use Rattle.std.specs.Prelude.{IfSome, sum_by, count_by}
-use Rattle.cilk_placed.specs.labelled.Bodies.{label}
-use Rattle.cilk_placed.specs.model.Path.{Path, same_path, is_that}
-use Rattle.cilk_placed.specs.model.Instance.{Instance}
-use Rattle.cilk_placed.specs.model.State as state
-use Rattle.cilk_placed.specs.model.Places.{PlaceOf, hand_of, with_hand}
-use Rattle.cilk_placed.specs.Places.{times_held}
-use Rattle.cilk_placed.proofs.Entries.{same-self}
-use Rattle.cilk_stands.specs.frame.Frames.{Frame}
-use Rattle.cilk_stands.specs.Stands.{StandsFor}
+use Rattle.cilk_fates.specs.labelled.Bodies.{label}
+use Rattle.cilk_fates.specs.model.Path.{Path, same_path, is_that}
+use Rattle.cilk_fates.specs.model.Instance.{Instance}
+use Rattle.cilk_fates.specs.model.State as state
+use Rattle.cilk_fates.specs.model.Places.{PlaceOf, hand_of, with_hand}
+use Rattle.cilk_fates.specs.placed.Places.{times_held}
+use Rattle.cilk_fates.proofs.placed_laws.Entries.{same-self}
+use Rattle.cilk_sched.specs.frame.Frames.{Frame}
+use Rattle.cilk_sched.specs.frame.Stands.{StandsFor}
 use Rattle.cilk_spawn.specs.Nodes.{Node, node_at, path_at}
 use Rattle.cilk_spawn.proofs.Trees.{live_there}
 use Rattle.cilk_sched.specs.Count as hands

@@ -3,16 +3,16 @@ use Rattle.std.proofs.Common.{◌≡◌, ◌&&◌, not, ℕ, List, [], ◌∷◌
 use Rattle.std.specs.List.{list_any}
 use Rattle.std.proofs.lemmas.List.{length-map}
 use Rattle.std.proofs.lemmas.List.Elements.{All-head}
-use Rattle.cilk_placed.specs.labelled.Labelled.{Labelled}
-use Rattle.cilk_placed.specs.labelled.Bodies.{label}
-use Rattle.cilk_placed.specs.model.Path.{Path}
-use Rattle.cilk_placed.specs.model.Instance as model
-use Rattle.cilk_placed.specs.model.State as state
-use Rattle.cilk_placed.specs.model.State.{store_of}
-use Rattle.cilk_placed.specs.model.Change as change
-use Rattle.cilk_placed.specs.model.Scheduler as sched
-use Rattle.cilk_stands.specs.Reads.{Seen, lent, seen_by}
-use Rattle.cilk_stands.proofs.Steps.{lent-seen}
+use Rattle.cilk_fates.specs.labelled.Labelled.{Labelled}
+use Rattle.cilk_fates.specs.labelled.Bodies.{label}
+use Rattle.cilk_fates.specs.model.Path.{Path}
+use Rattle.cilk_fates.specs.model.Instance as model
+use Rattle.cilk_fates.specs.model.State as state
+use Rattle.cilk_fates.specs.model.State.{store_of}
+use Rattle.cilk_fates.specs.model.Change as change
+use Rattle.cilk_fates.specs.model.Scheduler as sched
+use Rattle.cilk_sched.specs.frame.Reads.{Seen, lent, seen_by}
+use Rattle.cilk_sched.proofs.frame_laws.Steps.{lent-seen}
 use Rattle.cilk_spawn.specs.declared.delivery.Delivery.{Delivery}
 use Rattle.cilk_spawn.specs.Nodes.{IsFrom, AreFrom, has_live_child, is_synched, live_ids, path_at}
 use Rattle.cilk_spawn.proofs.Trees.{child_there}

@@ -3,20 +3,20 @@ use Rattle.std.proofs.Common.{◌≡◌, ◌≢◌, ◌+◌, ◌<◌, ◌≤◌,
 use Rattle.std.specs.Prelude.{sum_by}
 use Rattle.std.proofs.lemmas.List.{map-append}
 use Rattle.std.proofs.lemmas.List.Elements.{All-head, All-tail, All-push, All-weaker}
-use Rattle.cilk_placed.specs.syntax.Tree.{Program}
-use Rattle.cilk_placed.specs.labelled.Labelled.{Labelled}
-use Rattle.cilk_placed.specs.labelled.Bodies.{label}
-use Rattle.cilk_placed.specs.model.Path.{Path, same_path, child_path}
-use Rattle.cilk_placed.specs.model.Instance as model
-use Rattle.cilk_placed.specs.model.Instance.{Instance}
-use Rattle.cilk_placed.specs.model.State as state
-use Rattle.cilk_placed.specs.model.State.{State, changed}
-use Rattle.cilk_placed.specs.model.Places.{PlaceOf, deque_of, with_hand, with_deque, pushed_by, named}
-use Rattle.cilk_placed.specs.model.Scheduler as sched
-use Rattle.cilk_placed.specs.Places.{times_held}
-use Rattle.cilk_placed.proofs.Entries.{live-cons}
-use Rattle.cilk_stands.specs.frame.Frames.{Frame}
-use Rattle.cilk_stands.specs.Stands.{StandsFor}
+use Rattle.cilk_fates.specs.syntax.Tree.{Program}
+use Rattle.cilk_fates.specs.labelled.Labelled.{Labelled}
+use Rattle.cilk_fates.specs.labelled.Bodies.{label}
+use Rattle.cilk_fates.specs.model.Path.{Path, same_path, child_path}
+use Rattle.cilk_fates.specs.model.Instance as model
+use Rattle.cilk_fates.specs.model.Instance.{Instance}
+use Rattle.cilk_fates.specs.model.State as state
+use Rattle.cilk_fates.specs.model.State.{State, changed}
+use Rattle.cilk_fates.specs.model.Places.{PlaceOf, deque_of, with_hand, with_deque, pushed_by, named}
+use Rattle.cilk_fates.specs.model.Scheduler as sched
+use Rattle.cilk_fates.specs.placed.Places.{times_held}
+use Rattle.cilk_fates.proofs.placed_laws.Entries.{live-cons}
+use Rattle.cilk_sched.specs.frame.Frames.{Frame}
+use Rattle.cilk_sched.specs.frame.Stands.{StandsFor}
 use Rattle.cilk_spawn.specs.declared.delivery.Delivery.{Delivery}
 use Rattle.cilk_spawn.specs.declared.receiver.Receiver.{Receiver}
 use Rattle.cilk_spawn.specs.Nodes.{Node, IsTree, IsFrom, node_at, is_live, live_ids, new_child, with_child, path_at}

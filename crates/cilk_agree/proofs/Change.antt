@@ -1,15 +1,15 @@
 -- One instance is changed, with its node: whatever changes keeps agreement where it does so for that one.
 use Rattle.std.proofs.Common.{◌≡◌, ◌≢◌, ◌<◌, ℕ, true, List, length, Some, is_some, refl, sym, ap, ◌∙◌, subst, inl, inr}
-use Rattle.cilk_placed.specs.syntax.Tree.{Program}
-use Rattle.cilk_placed.specs.labelled.Bodies.{label}
-use Rattle.cilk_placed.specs.model.Path.{Path}
-use Rattle.cilk_placed.specs.model.Instance.{Instance}
-use Rattle.cilk_placed.specs.model.State.{changed}
-use Rattle.cilk_placed.specs.model.Run.{Standing}
-use Rattle.cilk_stands.specs.frame.Frames.{Frame}
+use Rattle.cilk_fates.specs.syntax.Tree.{Program}
+use Rattle.cilk_fates.specs.labelled.Bodies.{label}
+use Rattle.cilk_fates.specs.model.Path.{Path}
+use Rattle.cilk_fates.specs.model.Instance.{Instance}
+use Rattle.cilk_fates.specs.model.State.{changed}
+use Rattle.cilk_fates.specs.model.Run.{Standing}
+use Rattle.cilk_sched.specs.frame.Frames.{Frame}
 use Rattle.cilk_spawn.specs.Nodes.{Node, node_at, is_live, path_at}
 use Rattle.cilk_spawn.proofs.Lists.{decide}
-use Rattle.cilk_placed.specs.model.Places.{PlaceOf, named}
+use Rattle.cilk_fates.specs.model.Places.{PlaceOf, named}
 use Rattle.cilk_sched.specs.Count.{AllHeld}
 use Rattle.cilk_sched.proofs.Count.{AllHeld-weaker}
 use Rattle.cilk_agree.specs.Outside.{Outside, SameOutside}

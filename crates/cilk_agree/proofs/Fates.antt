@@ -1,11 +1,11 @@
 -- Another fate is told of an instance.
 use Rattle.std.proofs.Common.{◌≡◌, ◌<◌, ℕ, List, refl, sym, ap, ◌∙◌, subst, arith, inl, inr, length, map, is_some}
-use Rattle.cilk_placed.specs.model.Path.{Path}
-use Rattle.cilk_placed.specs.model.Instance.{Instance}
-use Rattle.cilk_placed.specs.model.Places.{named}
-use Rattle.cilk_placed.specs.model.Run.{Standing}
-use Rattle.cilk_placed.specs.labelled.Bodies.{label}
-use Rattle.cilk_placed.specs.syntax.Tree.{Program}
+use Rattle.cilk_fates.specs.model.Path.{Path}
+use Rattle.cilk_fates.specs.model.Instance.{Instance}
+use Rattle.cilk_fates.specs.model.Places.{named}
+use Rattle.cilk_fates.specs.model.Run.{Standing}
+use Rattle.cilk_fates.specs.labelled.Bodies.{label}
+use Rattle.cilk_fates.specs.syntax.Tree.{Program}
 use Rattle.cilk_spawn.specs.declared.fate.Fate.{Fate}
 use Rattle.cilk_spawn.specs.Nodes.{Node, no_node, node_at, is_live, lives, with_fate, path_at}
 use Rattle.cilk_spawn.proofs.Lists.{at_set}

@@ -2,10 +2,10 @@
 use Rattle.std.proofs.Common.{◌≡◌, ℕ, zero, suc, ◌-◌, List, [], ◌∷◌, Option, Some, None, refl, sym, subst, ◌∙◌}
 use Rattle.std.specs.Prelude.{IfSome, All, slice_index_or, slice_set}
 use Rattle.std.proofs.lemmas.List.Elements.{All-nil, All-cons, All-head, All-tail}
-use Rattle.cilk_placed.specs.model.Path.{Path}
-use Rattle.cilk_placed.specs.model.Scheduler as sched
-use Rattle.cilk_stands.specs.frame.Frames.{Frame}
-use Rattle.cilk_placed.specs.model.Places.{PlaceOf, IsWorker, no_place, place_of, hand_of, deque_of, with_hand, with_deque, bottom_of, above_bottom, top_of, below_top}
+use Rattle.cilk_fates.specs.model.Path.{Path}
+use Rattle.cilk_fates.specs.model.Scheduler as sched
+use Rattle.cilk_sched.specs.frame.Frames.{Frame}
+use Rattle.cilk_fates.specs.model.Places.{PlaceOf, IsWorker, no_place, place_of, hand_of, deque_of, with_hand, with_deque, bottom_of, above_bottom, top_of, below_top}
 use Rattle.cilk_sched.specs.Count.{AllAt, AllHeld}
 use Rattle.cilk_sched.proofs.Seats.{deque-kept, deque-same}
 

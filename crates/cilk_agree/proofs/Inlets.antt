@@ -1,16 +1,16 @@
 -- What an instance takes from its children: a value in a cell, or an inlet; and a child that it spawns.
 use Rattle.std.proofs.Common.{◌≡◌, ◌+◌, ℕ, true, List, [], ◌∷◌, ◌++◌, drop, length, None, refl, sym, ap, ◌∙◌, subst, arith}
 use Rattle.std.proofs.lemmas.List.Elements.{All-drop}
-use Rattle.cilk_placed.specs.labelled.Labelled.{Labelled}
-use Rattle.cilk_placed.specs.labelled.Bodies.{label, is_procedure}
-use Rattle.cilk_placed.specs.model.Path.{Path, child_path}
-use Rattle.cilk_placed.specs.model.Instance as model
-use Rattle.cilk_placed.specs.model.Instance.{Instance}
-use Rattle.cilk_placed.specs.model.State.{changed}
-use Rattle.cilk_placed.specs.model.Change.{gone_on, after_start}
-use Rattle.cilk_placed.specs.model.Scheduler.{pushed}
-use Rattle.cilk_stands.specs.Starts.{started}
-use Rattle.cilk_stands.proofs.Steps.{call-stands, start-stands, rest-stands}
+use Rattle.cilk_fates.specs.labelled.Labelled.{Labelled}
+use Rattle.cilk_fates.specs.labelled.Bodies.{label, is_procedure}
+use Rattle.cilk_fates.specs.model.Path.{Path, child_path}
+use Rattle.cilk_fates.specs.model.Instance as model
+use Rattle.cilk_fates.specs.model.Instance.{Instance}
+use Rattle.cilk_fates.specs.model.State.{changed}
+use Rattle.cilk_fates.specs.model.Change.{gone_on, after_start}
+use Rattle.cilk_fates.specs.model.Scheduler.{pushed}
+use Rattle.cilk_sched.specs.frame.Begins.{started}
+use Rattle.cilk_sched.proofs.frame_laws.Steps.{call-stands, start-stands, rest-stands}
 use Rattle.cilk_spawn.specs.declared.delivery.Delivery.{Delivery}
 use Rattle.cilk_spawn.specs.Nodes.{IsFrom, path_at}
 use Rattle.cilk_agree.specs.Alike.{SameDeliveries, Receives}

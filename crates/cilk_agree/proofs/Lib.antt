@@ -18,9 +18,13 @@ pub mod Actions
 pub mod Inlets
 pub mod Asked
 pub mod Between
-pub use Rattle.cilk_placed.proofs.canonical_laws
-pub use Rattle.cilk_stands.proofs.nodes_laws
-pub use Rattle.cilk_placed.proofs as placed_laws
+pub mod Made
+pub mod Kept
+pub mod One
+pub use Rattle.cilk_fates.proofs.canonical_laws
+pub use Rattle.cilk_fates.proofs as fates_laws
+pub use Rattle.cilk_sched.proofs.frame_laws
+pub use Rattle.cilk_sched.proofs.nodes_laws
+pub use Rattle.cilk_fates.proofs.placed_laws
 pub use Rattle.cilk_sched.proofs as sched_laws
 pub use Rattle.cilk_spawn.proofs as spawn_laws
-pub use Rattle.cilk_stands.proofs as stands_laws

@@ -2,12 +2,12 @@
 use Rattle.std.proofs.Common.{◌≡◌, ◌<◌, ℕ, zero, suc, Bool, true, false, ◌||◌, nat_eq, List, [], ◌∷◌, map, length, refl, sym, ap, ◌∙◌, subst, inl, inr, slice_index_or, slice_set, All, if◌then◌else◌}
 use Rattle.std.specs.List.{list_any}
 use Rattle.std.proofs.lemmas.List.Elements.{All-head, All-tail, All-cons}
-use Rattle.cilk_placed.specs.syntax.declared.lock_action.LockAction.{LockAction}
-use Rattle.cilk_placed.specs.syntax.declared.lock_action.LockAction.TheVariants.{Init, Unlock}
-use Rattle.cilk_placed.specs.syntax.declared.lock_action.LockAction.TheVariants as action
-use Rattle.cilk_placed.specs.model.Path.{Path, same_path}
-use Rattle.cilk_placed.specs.model.State as state
-use Rattle.cilk_placed.specs.model.Change as change
+use Rattle.cilk_fates.specs.syntax.declared.lock_action.LockAction.{LockAction}
+use Rattle.cilk_fates.specs.syntax.declared.lock_action.LockAction.TheVariants.{Init, Unlock}
+use Rattle.cilk_fates.specs.syntax.declared.lock_action.LockAction.TheVariants as action
+use Rattle.cilk_fates.specs.model.Path.{Path, same_path}
+use Rattle.cilk_fates.specs.model.State as state
+use Rattle.cilk_fates.specs.model.Change as change
 use Rattle.cilk_spawn.specs.Nodes.{Node, IsTree, path_at}
 use Rattle.cilk_spawn.proofs.Lists.{decide}
 use Rattle.cilk_spawn.proofs.Grown.{same_number, other_number}

@@ -1,15 +1,15 @@
 -- An `abort` marks the live descendants of an instance, by path and by id.
 use Rattle.std.proofs.Common.{◌≡◌, ◌<◌, ℕ, Bool, true, false, ◌&&◌, ◌||◌, List, map, length, is_some, refl, sym, ap, ◌∙◌, subst, if◌then◌else◌}
-use Rattle.cilk_placed.specs.syntax.Tree.{Program}
-use Rattle.cilk_placed.specs.labelled.Bodies.{label}
-use Rattle.cilk_placed.specs.model.Path.{Path}
-use Rattle.cilk_placed.specs.model.Instance.{Instance}
-use Rattle.cilk_placed.specs.model.State.{Entry, State}
-use Rattle.cilk_placed.specs.model.Change.{mark}
-use Rattle.cilk_placed.specs.model.Places.{named}
-use Rattle.cilk_placed.specs.model.Run.{Standing}
-use Rattle.cilk_stands.specs.frame.Frames.{Frame}
-use Rattle.cilk_stands.specs.Stands.{StandsFor}
+use Rattle.cilk_fates.specs.syntax.Tree.{Program}
+use Rattle.cilk_fates.specs.labelled.Bodies.{label}
+use Rattle.cilk_fates.specs.model.Path.{Path}
+use Rattle.cilk_fates.specs.model.Instance.{Instance}
+use Rattle.cilk_fates.specs.model.State.{Entry, State}
+use Rattle.cilk_fates.specs.model.Change.{mark}
+use Rattle.cilk_fates.specs.model.Places.{named}
+use Rattle.cilk_fates.specs.model.Run.{Standing}
+use Rattle.cilk_sched.specs.frame.Frames.{Frame}
+use Rattle.cilk_sched.specs.frame.Stands.{StandsFor}
 use Rattle.cilk_spawn.specs.Nodes.{Node, node_at, is_live, marked_below, descends, path_at}
 use Rattle.cilk_spawn.proofs.Marks.{below_is, marked_node}
 use Rattle.cilk_sched.proofs.Count.{AllHeld-weaker}

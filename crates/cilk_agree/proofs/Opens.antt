@@ -3,19 +3,19 @@ use Rattle.std.proofs.Common.{◌≡◌, ℕ, zero, suc, true, false, List, [], 
 use Rattle.std.specs.Prelude.{max}
 use Rattle.std.proofs.lemmas.List.{length-replicate}
 use Rattle.std.proofs.lemmas.List.Elements.{All-nil, All-cons, All-replicate}
-use Rattle.cilk_placed.specs.syntax.Tree.{Program}
-use Rattle.cilk_placed.specs.labelled.Labelled.{Variable}
-use Rattle.cilk_placed.specs.labelled.Bodies.{label}
-use Rattle.cilk_placed.specs.model.Path.{Path}
-use Rattle.cilk_placed.specs.model.Values.{initial_values}
-use Rattle.cilk_placed.specs.model.Instance as model
-use Rattle.cilk_placed.specs.model.State as state
-use Rattle.cilk_placed.specs.model.Places.{no_place}
-use Rattle.cilk_placed.specs.model.Scheduler as sched
-use Rattle.cilk_placed.specs.model.Run as run
-use Rattle.cilk_stands.specs.nodes.Slots.{size_of}
-use Rattle.cilk_stands.specs.frame.Frames.{Frame}
-use Rattle.cilk_stands.specs.Stands.{StandsFor}
+use Rattle.cilk_fates.specs.syntax.Tree.{Program}
+use Rattle.cilk_fates.specs.labelled.Labelled.{Variable}
+use Rattle.cilk_fates.specs.labelled.Bodies.{label}
+use Rattle.cilk_fates.specs.model.Path.{Path}
+use Rattle.cilk_fates.specs.model.Values.{initial_values}
+use Rattle.cilk_fates.specs.model.Instance as model
+use Rattle.cilk_fates.specs.model.State as state
+use Rattle.cilk_fates.specs.model.Places.{no_place}
+use Rattle.cilk_fates.specs.model.Scheduler as sched
+use Rattle.cilk_fates.specs.model.Run as run
+use Rattle.cilk_sched.specs.nodes.Slots.{size_of}
+use Rattle.cilk_sched.specs.frame.Frames.{Frame}
+use Rattle.cilk_sched.specs.frame.Stands.{StandsFor}
 use Rattle.cilk_spawn.specs.Nodes.{Node, node_at, is_live, root_alone, path_at}
 use Rattle.cilk_spawn.proofs.Grown.{tree_root}
 use Rattle.cilk_sched.specs.Count.{AllAt, AllHeld}

@@ -1,17 +1,17 @@
 -- A return: the instance is no more, its value goes to the parent, and a parked parent that can go on comes to the hand; and the end of one that is aborted.
 use Rattle.std.proofs.Common.{◌≡◌, ℕ, ℤ, Bool, true, false, not, ◌&&◌, List, [], ◌∷◌, map, length, Option, Some, None, refl, sym, ap, ◌∙◌, subst, inl, inr, All, if◌then◌else◌}
 use Rattle.std.proofs.lemmas.List.Elements.{All-head, All-tail, All-cons}
-use Rattle.cilk_placed.specs.syntax.Tree.{Program}
-use Rattle.cilk_placed.specs.labelled.Bodies.{label}
-use Rattle.cilk_placed.specs.model.Path.{Path, parent_of}
-use Rattle.cilk_placed.specs.model.Instance.{Instance}
-use Rattle.cilk_placed.specs.model.State as state
-use Rattle.cilk_placed.specs.model.State.{Instances, State}
-use Rattle.cilk_placed.specs.model.Change as change
-use Rattle.cilk_placed.specs.model.Change.{after_return_to, after_abort}
-use Rattle.cilk_placed.specs.model.Scheduler as sched
-use Rattle.cilk_placed.specs.model.Run.{Standing}
-use Rattle.cilk_placed.proofs.Family.{parent-child}
+use Rattle.cilk_fates.specs.syntax.Tree.{Program}
+use Rattle.cilk_fates.specs.labelled.Bodies.{label}
+use Rattle.cilk_fates.specs.model.Path.{Path, parent_of}
+use Rattle.cilk_fates.specs.model.Instance.{Instance}
+use Rattle.cilk_fates.specs.model.State as state
+use Rattle.cilk_fates.specs.model.State.{Instances, State}
+use Rattle.cilk_fates.specs.model.Change as change
+use Rattle.cilk_fates.specs.model.Change.{after_return_to, after_abort}
+use Rattle.cilk_fates.specs.model.Scheduler as sched
+use Rattle.cilk_fates.specs.model.Run.{Standing}
+use Rattle.cilk_fates.proofs.placed_laws.Family.{parent-child}
 use Rattle.cilk_spawn.specs.declared.fate.Fate.TheVariants.{Returned, Aborted}
 use Rattle.cilk_spawn.specs.Nodes.{Node, node_at, has_live_child, takes_value, delivery_of, delivered_to, path_at}
 use Rattle.cilk_spawn.proofs.Lists.{decide}

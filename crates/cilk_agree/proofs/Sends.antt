@@ -1,18 +1,18 @@
 -- A value that is sent to the parent, whose child has ended.
 use Rattle.std.proofs.Common.{◌≡◌, ◌≢◌, ◌<◌, ℕ, ℤ, true, false, Bool, not, ◌&&◌, List, [], ◌∷◌, ◌++◌, length, Option, Some, None, refl, sym, ap, ◌∙◌, subst, arith, ◌⊎◌, inl, inr, append-nil, if◌then◌else◌}
 use Rattle.std.proofs.lemmas.List.Elements.{All-push}
-use Rattle.cilk_placed.specs.syntax.Tree.{Program}
-use Rattle.cilk_placed.specs.labelled.Labelled.{Labelled}
-use Rattle.cilk_placed.specs.labelled.Bodies.{label}
-use Rattle.cilk_placed.specs.model.Path.{Path}
-use Rattle.cilk_placed.specs.model.Instance as model
-use Rattle.cilk_placed.specs.model.Instance.{Instance}
-use Rattle.cilk_placed.specs.model.State.{State, changed, without}
-use Rattle.cilk_placed.specs.model.Change.{deliveries, with_deliveries}
-use Rattle.cilk_placed.specs.model.Scheduler as sched
-use Rattle.cilk_placed.specs.model.Run.{Standing}
-use Rattle.cilk_stands.specs.frame.Frames.{Frame}
-use Rattle.cilk_stands.specs.Stands.{StandsFor}
+use Rattle.cilk_fates.specs.syntax.Tree.{Program}
+use Rattle.cilk_fates.specs.labelled.Labelled.{Labelled}
+use Rattle.cilk_fates.specs.labelled.Bodies.{label}
+use Rattle.cilk_fates.specs.model.Path.{Path}
+use Rattle.cilk_fates.specs.model.Instance as model
+use Rattle.cilk_fates.specs.model.Instance.{Instance}
+use Rattle.cilk_fates.specs.model.State.{State, changed, without}
+use Rattle.cilk_fates.specs.model.Change.{deliveries, with_deliveries}
+use Rattle.cilk_fates.specs.model.Scheduler as sched
+use Rattle.cilk_fates.specs.model.Run.{Standing}
+use Rattle.cilk_sched.specs.frame.Frames.{Frame}
+use Rattle.cilk_sched.specs.frame.Stands.{StandsFor}
 use Rattle.cilk_spawn.specs.declared.delivery.Delivery.{Delivery}
 use Rattle.cilk_spawn.specs.declared.fate.Fate.TheVariants.{Returned}
 use Rattle.cilk_spawn.specs.declared.receiver.Receiver.{Receiver}

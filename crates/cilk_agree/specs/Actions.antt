@@ -1,26 +1,26 @@
 -- The actions that an instance takes by itself, a spawn and an `abort`: each keeps agreement.
 use Rattle.std.specs.Prelude.{◌≡◌, ◌+◌, ℕ, ℤ, Bool, true, false, List, ◌∷◌, ◌++◌, drop, length, Option, Some, None, slice_set}
-use Rattle.cilk_stands.specs.eval.declared.slot.Slot.{Slot}
-use Rattle.cilk_placed.specs.labelled.Bodies.{label}
-use Rattle.cilk_placed.specs.labelled.Items.{opened, next}
-use Rattle.cilk_placed.specs.model.Path.{child_path}
-use Rattle.cilk_placed.specs.model.Values.{Cell, Reached}
-use Rattle.cilk_placed.specs.model.Instance as model
-use Rattle.cilk_placed.specs.model.Instance.{Activation, Instance, body_at, entered}
-use Rattle.cilk_placed.specs.model.State.{Kind}
-use Rattle.cilk_placed.specs.scopes.declared.owner.Owner.TheVariants.{Inlet}
-use Rattle.cilk_placed.specs.model.Change.{is_function, put, above, resumed, gone_on, stopped, after_write, after_going, after_call, after_leaving, after_answer, after_start, after_print, after_lock, after_marks, after_place, after_inlet}
-use Rattle.cilk_placed.specs.model.Places.{with_hand}
-use Rattle.cilk_placed.specs.model.Scheduler.{pushed}
-use Rattle.cilk_stands.specs.nodes.Slots.{is_inlet, procedure_around}
-use Rattle.cilk_stands.specs.nodes.Table.{number_of}
-use Rattle.cilk_stands.specs.nodes.Bodies.{body_of}
-use Rattle.cilk_stands.specs.frame.declared.awaited.Await.{Await}
-use Rattle.cilk_stands.specs.frame.Frames as frames
-use Rattle.cilk_stands.specs.frame.Frames.{Frame, jumped, with_boundary, gone_to, left}
-use Rattle.cilk_stands.specs.Starts.{Takes, first_activation, started}
-use Rattle.cilk_stands.specs.Cells.{SameCell, frame_put, globals_put}
-use Rattle.cilk_stands.specs.Stands.{AwaitsSame, bodies_of}
+use Rattle.cilk_sched.specs.eval.declared.slot.Slot.{Slot}
+use Rattle.cilk_fates.specs.labelled.Bodies.{label}
+use Rattle.cilk_fates.specs.labelled.Items.{opened, next}
+use Rattle.cilk_fates.specs.model.Path.{child_path}
+use Rattle.cilk_fates.specs.model.Values.{Cell, Reached}
+use Rattle.cilk_fates.specs.model.Instance as model
+use Rattle.cilk_fates.specs.model.Instance.{Activation, Instance, body_at, entered}
+use Rattle.cilk_fates.specs.model.State.{Kind}
+use Rattle.cilk_fates.specs.scopes.declared.owner.Owner.TheVariants.{Inlet}
+use Rattle.cilk_fates.specs.model.Change.{is_function, put, above, resumed, gone_on, stopped, after_write, after_going, after_call, after_leaving, after_answer, after_start, after_print, after_lock, after_marks, after_place, after_inlet}
+use Rattle.cilk_fates.specs.model.Places.{with_hand}
+use Rattle.cilk_fates.specs.model.Scheduler.{pushed}
+use Rattle.cilk_sched.specs.nodes.Slots.{is_inlet, procedure_around}
+use Rattle.cilk_sched.specs.nodes.Table.{number_of}
+use Rattle.cilk_sched.specs.nodes.Bodies.{body_of}
+use Rattle.cilk_sched.specs.frame.declared.awaited.Await.{Await}
+use Rattle.cilk_sched.specs.frame.Frames as frames
+use Rattle.cilk_sched.specs.frame.Frames.{Frame, jumped, with_boundary, gone_to, left}
+use Rattle.cilk_sched.specs.frame.Begins.{Takes, first_activation, started}
+use Rattle.cilk_sched.specs.frame.Cells.{SameCell, frame_put, globals_put}
+use Rattle.cilk_sched.specs.frame.Stands.{AwaitsSame, bodies_of}
 use Rattle.cilk_spawn.specs.declared.receiver.Receiver.{Receiver}
 use Rattle.cilk_spawn.specs.Nodes.{Node, descends, marked_below, path_at}
 use Rattle.cilk_agree.specs.Outside as outside

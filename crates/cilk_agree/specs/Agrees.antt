@@ -1,14 +1,14 @@
 -- When the machine stands as the definitions say: each id goes by its path, and each frame and node stand for the instance of their id.
 use Rattle.std.specs.Prelude.{◌≡◌, ◌<◌, ℕ, true, nat_eq, List, [], length, map, Option, Some, None, is_some, if◌then◌else◌}
-use Rattle.cilk_placed.specs.syntax.Tree.{Program}
-use Rattle.cilk_placed.specs.labelled.Bodies.{label}
-use Rattle.cilk_placed.specs.model.Path.{Path}
-use Rattle.cilk_placed.specs.model.Instance.{Instance, started}
-use Rattle.cilk_placed.specs.model.State.{Entry, Instances, instance_at}
-use Rattle.cilk_placed.specs.model.Places.{PlaceOf, named}
-use Rattle.cilk_placed.specs.model.Run.{Standing}
-use Rattle.cilk_stands.specs.frame.Frames.{Frame}
-use Rattle.cilk_stands.specs.Stands.{StandsFor}
+use Rattle.cilk_fates.specs.syntax.Tree.{Program}
+use Rattle.cilk_fates.specs.labelled.Bodies.{label}
+use Rattle.cilk_fates.specs.model.Path.{Path}
+use Rattle.cilk_fates.specs.model.Instance.{Instance, started}
+use Rattle.cilk_fates.specs.model.State.{Entry, Instances, instance_at}
+use Rattle.cilk_fates.specs.model.Places.{PlaceOf, named}
+use Rattle.cilk_fates.specs.model.Run.{Standing}
+use Rattle.cilk_sched.specs.frame.Frames.{Frame}
+use Rattle.cilk_sched.specs.frame.Stands.{StandsFor}
 use Rattle.cilk_spawn.specs.Nodes.{Node, IsTree, node_at, is_live, live_ids, path_at}
 use Rattle.cilk_sched.specs.Count.{AllHeld}
 use Rattle.cilk_agree.specs.Outside.{Outside, SameOutside}

@@ -1,18 +1,18 @@
 -- When a node of the tree tells of an instance what the definitions tell of it.
 use Rattle.std.specs.Prelude.{◌≡◌, ◌<◌, ◌≤◌, ℕ, suc, ℤ, ⊤, List, [], ◌∷◌, Option, Some, None, length}
-use Rattle.cilk_placed.specs.values.Term.{Term}
-use Rattle.cilk_stands.specs.eval.declared.slot.Slot.{Slot}
-use Rattle.cilk_placed.specs.labelled.Labelled.{Labelled}
-use Rattle.cilk_placed.specs.model.Path.{Path}
-use Rattle.cilk_placed.specs.model.Instance as model
-use Rattle.cilk_placed.specs.model.Instance.{Instance, body_at}
-use Rattle.cilk_placed.specs.scopes.declared.owner.Owner.TheVariants.{Inlet}
-use Rattle.cilk_stands.specs.nodes.Slots.{procedure_around}
-use Rattle.cilk_stands.specs.nodes.declared.taker.Taker.TheVariants.{Through}
-use Rattle.cilk_stands.specs.nodes.declared.action.Action.TheVariants.{Spawn}
-use Rattle.cilk_stands.specs.nodes.declared.node.Node as action
-use Rattle.cilk_stands.specs.Cells.{SameCell}
-use Rattle.cilk_stands.specs.Stands.{node_in, bodies_of, lowest_of}
+use Rattle.cilk_fates.specs.values.Term.{Term}
+use Rattle.cilk_sched.specs.eval.declared.slot.Slot.{Slot}
+use Rattle.cilk_fates.specs.labelled.Labelled.{Labelled}
+use Rattle.cilk_fates.specs.model.Path.{Path}
+use Rattle.cilk_fates.specs.model.Instance as model
+use Rattle.cilk_fates.specs.model.Instance.{Instance, body_at}
+use Rattle.cilk_fates.specs.scopes.declared.owner.Owner.TheVariants.{Inlet}
+use Rattle.cilk_sched.specs.nodes.Slots.{procedure_around}
+use Rattle.cilk_sched.specs.nodes.declared.taker.Taker.TheVariants.{Through}
+use Rattle.cilk_sched.specs.nodes.declared.action.Action.TheVariants.{Spawn}
+use Rattle.cilk_sched.specs.nodes.declared.node.Node as action
+use Rattle.cilk_sched.specs.frame.Cells.{SameCell}
+use Rattle.cilk_sched.specs.frame.Stands.{node_in, bodies_of, lowest_of}
 use Rattle.cilk_spawn.specs.declared.delivery.Delivery.{Delivery}
 use Rattle.cilk_spawn.specs.declared.receiver.Receiver.{Receiver}
 use Rattle.cilk_spawn.specs.declared.receiver.Receiver.TheVariants.{Nothing, Place, Call}

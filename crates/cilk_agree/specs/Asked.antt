@@ -1,19 +1,19 @@
 -- What a step asks of the standing, and what the machine tells of it.
 use Rattle.std.specs.Prelude.{◌≡◌, ◌<◌, ℕ, true, List, [], ◌∷◌, map, length, Some, None, option_map}
 use Rattle.std.specs.List.{list_any}
-use Rattle.cilk_placed.specs.syntax.declared.lock_action.LockAction.{LockAction}
-use Rattle.cilk_placed.specs.syntax.Tree.{Program}
-use Rattle.cilk_placed.specs.labelled.Bodies.{label}
-use Rattle.cilk_placed.specs.model.Instance as model
-use Rattle.cilk_placed.specs.model.Instance.{Instance}
-use Rattle.cilk_placed.specs.model.State as state
-use Rattle.cilk_placed.specs.model.State.{instance_at, store_of}
-use Rattle.cilk_placed.specs.model.Change as change
-use Rattle.cilk_placed.specs.model.Places.{hand_of, deque_of}
-use Rattle.cilk_placed.specs.model.Scheduler as sched
-use Rattle.cilk_placed.specs.model.Run.{Standing}
-use Rattle.cilk_stands.specs.Reads.{Seen, lent}
-use Rattle.cilk_stands.specs.Stands.{StandsFor}
+use Rattle.cilk_fates.specs.syntax.declared.lock_action.LockAction.{LockAction}
+use Rattle.cilk_fates.specs.syntax.Tree.{Program}
+use Rattle.cilk_fates.specs.labelled.Bodies.{label}
+use Rattle.cilk_fates.specs.model.Instance as model
+use Rattle.cilk_fates.specs.model.Instance.{Instance}
+use Rattle.cilk_fates.specs.model.State as state
+use Rattle.cilk_fates.specs.model.State.{instance_at, store_of}
+use Rattle.cilk_fates.specs.model.Change as change
+use Rattle.cilk_fates.specs.model.Places.{hand_of, deque_of}
+use Rattle.cilk_fates.specs.model.Scheduler as sched
+use Rattle.cilk_fates.specs.model.Run.{Standing}
+use Rattle.cilk_sched.specs.frame.Reads.{Seen, lent}
+use Rattle.cilk_sched.specs.frame.Stands.{StandsFor}
 use Rattle.cilk_spawn.specs.declared.delivery.Delivery.{Delivery}
 use Rattle.cilk_spawn.specs.Nodes.{node_at, is_live, has_live_child, is_synched, live_ids, path_at}
 use Rattle.cilk_agree.specs.declared.lock.Lock.{Lock}

@@ -1,7 +1,7 @@
 -- The machine between the halves of a step: the frame has left the hand, a value was sent, an instance has ended.
 use Rattle.std.specs.Prelude.{◌≡◌, ℕ, ℤ, true, false, List, [], ◌∷◌, ◌++◌, Some, None}
-use Rattle.cilk_placed.specs.model.Places.{PlaceOf, IsWorker, hand_of, deque_of, with_hand, with_deque, pushed_by}
-use Rattle.cilk_stands.specs.frame.Frames.{Frame}
+use Rattle.cilk_fates.specs.model.Places.{PlaceOf, IsWorker, hand_of, deque_of, with_hand, with_deque, pushed_by}
+use Rattle.cilk_sched.specs.frame.Frames.{Frame}
 use Rattle.cilk_spawn.specs.declared.fate.Fate.TheVariants.{Returned, Aborted}
 use Rattle.cilk_spawn.specs.Nodes.{Node, node_at, is_live, has_live_child, ended}
 use Rattle.cilk_agree.specs.Laws.{Turn, node_of, sent}

@@ -1,11 +1,11 @@
 -- What became of the instances: each node keeps what the events tell.
 use Rattle.std.specs.Prelude.{◌≡◌, ◌<◌, ℕ, suc, if◌then◌else◌, List, length, map, Some}
 use Rattle.std.specs.List.{range_with_len}
-use Rattle.cilk_placed.specs.labelled.Labelled.{Labelled}
-use Rattle.cilk_placed.specs.model.Path.{Path, same_path}
-use Rattle.cilk_placed.specs.model.Event.{Event, spawned, delivered, returned, ended}
-use Rattle.cilk_placed.specs.model.Fate as model
-use Rattle.cilk_placed.specs.model.Fate.{lives, has_returned, was_delivered, was_aborted, fate_of}
+use Rattle.cilk_fates.specs.labelled.Labelled.{Labelled}
+use Rattle.cilk_fates.specs.model.Path.{Path, same_path}
+use Rattle.cilk_fates.specs.model.Event.{Event, spawned, delivered, returned, ended}
+use Rattle.cilk_fates.specs.model.Fate as model
+use Rattle.cilk_fates.specs.model.Fate.{lives, has_returned, was_delivered, was_aborted, fate_of}
 use Rattle.cilk_seen.specs.Made.{callee_of, procedure_of, made}
 use Rattle.cilk_spawn.specs.declared.fate.Fate.{Fate}
 use Rattle.cilk_spawn.specs.declared.fate.Fate.TheVariants.{Live, Returned, Delivered, Aborted}

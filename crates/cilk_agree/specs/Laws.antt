@@ -1,22 +1,22 @@
 -- What keeps agreement.
 use Rattle.std.specs.Prelude.{◌≡◌, ◌<◌, ◌+◌, ℕ, ℤ, Bool, true, false, not, ◌&&◌, ◌||◌, nat_eq, List, [], ◌∷◌, ◌++◌, length, map, Option, Some, None, replicate, slice_set, if◌then◌else◌}
-use Rattle.cilk_placed.specs.syntax.Tree.{Program}
-use Rattle.cilk_placed.specs.labelled.Bodies.{label}
-use Rattle.cilk_placed.specs.model.Path.{Path, child_path}
-use Rattle.cilk_placed.specs.model.Values.{initial_values}
-use Rattle.cilk_placed.specs.model.Instance as model
-use Rattle.cilk_placed.specs.model.Instance.{Instance}
-use Rattle.cilk_placed.specs.model.State.{State, changed, is_empty}
-use Rattle.cilk_placed.specs.model.Change.{deliveries, with_deliveries, after_return, after_abort}
-use Rattle.cilk_placed.specs.model.Event.{Event}
-use Rattle.cilk_placed.specs.model.Pick.{ends}
-use Rattle.cilk_placed.specs.model.Places.{IsWorker, no_place, hand_of, with_hand, popped_by, stolen_by, pushed_by}
-use Rattle.cilk_placed.specs.model.Scheduler as sched
-use Rattle.cilk_placed.specs.model.Run.{Standing, opening, stepped}
-use Rattle.cilk_placed.specs.Places.{EachInItsPlace}
-use Rattle.cilk_stands.specs.nodes.Slots.{flat}
-use Rattle.cilk_stands.specs.frame.Frames.{Frame}
-use Rattle.cilk_stands.specs.Stands.{StandsFor}
+use Rattle.cilk_fates.specs.syntax.Tree.{Program}
+use Rattle.cilk_fates.specs.labelled.Bodies.{label}
+use Rattle.cilk_fates.specs.model.Path.{Path, child_path}
+use Rattle.cilk_fates.specs.model.Values.{initial_values}
+use Rattle.cilk_fates.specs.model.Instance as model
+use Rattle.cilk_fates.specs.model.Instance.{Instance}
+use Rattle.cilk_fates.specs.model.State.{State, changed, is_empty}
+use Rattle.cilk_fates.specs.model.Change.{deliveries, with_deliveries, after_return, after_abort}
+use Rattle.cilk_fates.specs.model.Event.{Event}
+use Rattle.cilk_fates.specs.model.Pick.{ends}
+use Rattle.cilk_fates.specs.model.Places.{IsWorker, no_place, hand_of, with_hand, popped_by, stolen_by, pushed_by}
+use Rattle.cilk_fates.specs.model.Scheduler as sched
+use Rattle.cilk_fates.specs.model.Run.{Standing, opening, stepped}
+use Rattle.cilk_fates.specs.placed.Places.{EachInItsPlace}
+use Rattle.cilk_sched.specs.nodes.Slots.{flat}
+use Rattle.cilk_sched.specs.frame.Frames.{Frame}
+use Rattle.cilk_sched.specs.frame.Stands.{StandsFor}
 use Rattle.cilk_spawn.specs.declared.fate.Fate.{Fate}
 use Rattle.cilk_spawn.specs.declared.fate.Fate.TheVariants.{Returned, Aborted}
 use Rattle.cilk_spawn.specs.declared.receiver.Receiver.{Receiver}

@@ -8,18 +8,18 @@ pub mod Actions
 pub mod Asked
 pub mod Between
 pub mod Fated
-pub use Rattle.cilk_placed.specs.canonical
-pub use Rattle.cilk_stands.specs.check
-pub use Rattle.cilk_stands.specs.eval
-pub use Rattle.cilk_stands.specs.frame
-pub use Rattle.cilk_placed.specs.labelled
-pub use Rattle.cilk_placed.specs.model
-pub use Rattle.cilk_stands.specs.nodes
-pub use Rattle.cilk_placed.specs as placed
+pub mod FateLaws
+pub use Rattle.cilk_fates.specs.canonical
+pub use Rattle.cilk_sched.specs.check
+pub use Rattle.cilk_sched.specs.eval
+pub use Rattle.cilk_sched.specs.frame
+pub use Rattle.cilk_fates.specs.labelled
+pub use Rattle.cilk_fates.specs.model
+pub use Rattle.cilk_sched.specs.nodes
+pub use Rattle.cilk_fates.specs.placed
 pub use Rattle.cilk_sched.specs as sched
-pub use Rattle.cilk_placed.specs.scopes
+pub use Rattle.cilk_fates.specs.scopes
 pub use Rattle.cilk_seen.specs as seen
 pub use Rattle.cilk_spawn.specs as spawn
-pub use Rattle.cilk_stands.specs as stands
-pub use Rattle.cilk_placed.specs.syntax
-pub use Rattle.cilk_placed.specs.values
+pub use Rattle.cilk_fates.specs.syntax
+pub use Rattle.cilk_fates.specs.values

@@ -1,10 +1,10 @@
 -- What a call of a lock makes of it, where its holder goes by its id (Cilk 5.4 manual, locks).
 use Rattle.std.specs.Prelude.{ℕ, Bool, false, nat_eq, List, if◌then◌else◌, slice_index_or}
-use Rattle.cilk_placed.specs.syntax.declared.lock_action.LockAction.{LockAction}
-use Rattle.cilk_placed.specs.syntax.declared.lock_action.LockAction.TheVariants.{Init, Unlock}
-use Rattle.cilk_placed.specs.syntax.declared.lock_action.LockAction.TheVariants as action
-use Rattle.cilk_placed.specs.model.Path.{Path}
-use Rattle.cilk_placed.specs.model.Change as change
+use Rattle.cilk_fates.specs.syntax.declared.lock_action.LockAction.{LockAction}
+use Rattle.cilk_fates.specs.syntax.declared.lock_action.LockAction.TheVariants.{Init, Unlock}
+use Rattle.cilk_fates.specs.syntax.declared.lock_action.LockAction.TheVariants as action
+use Rattle.cilk_fates.specs.model.Path.{Path}
+use Rattle.cilk_fates.specs.model.Change as change
 use Rattle.cilk_agree.specs.declared.lock.Lock.{Lock}
 use Rattle.cilk_agree.specs.declared.lock.Lock.TheVariants.{Unset, Free, Held}
 use Rattle.cilk_agree.specs.Outside.{lock_by}

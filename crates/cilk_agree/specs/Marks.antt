@@ -1,9 +1,9 @@
 -- What an `abort` marks (Cilk 5.4 manual, `abort`).
 use Rattle.std.specs.Prelude.{Bool, true, map, if◌then◌else◌}
-use Rattle.cilk_placed.specs.model.Path.{Path}
-use Rattle.cilk_placed.specs.model.Instance.{Instance}
-use Rattle.cilk_placed.specs.model.State.{State}
-use Rattle.cilk_placed.specs.model.Change.{mark}
+use Rattle.cilk_fates.specs.model.Path.{Path}
+use Rattle.cilk_fates.specs.model.Instance.{Instance}
+use Rattle.cilk_fates.specs.model.State.{State}
+use Rattle.cilk_fates.specs.model.Change.{mark}
 
 abbrev pub marked_if : Bool → Instance → Instance
 marked_if b i = if b then record i { aborted = true } else i

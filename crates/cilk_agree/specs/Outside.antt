@@ -1,10 +1,10 @@
 -- What the program has outside its instances: the machine names an instance by its id, and the definitions by its path.
 use Rattle.std.specs.Prelude.{◌≡◌, ◌<◌, ℕ, ℤ, ⊤, List, All, length, map}
-use Rattle.cilk_placed.specs.labelled.Labelled.{Labelled}
-use Rattle.cilk_placed.specs.model.Path.{Path}
-use Rattle.cilk_placed.specs.model.State as state
-use Rattle.cilk_placed.specs.model.State.{Kind, State}
-use Rattle.cilk_stands.specs.nodes.Slots.{size_of, flat}
+use Rattle.cilk_fates.specs.labelled.Labelled.{Labelled}
+use Rattle.cilk_fates.specs.model.Path.{Path}
+use Rattle.cilk_fates.specs.model.State as state
+use Rattle.cilk_fates.specs.model.State.{Kind, State}
+use Rattle.cilk_sched.specs.nodes.Slots.{size_of, flat}
 use Rattle.cilk_agree.specs.declared.lock.Lock.{Lock}
 use Rattle.cilk_agree.specs.declared.lock.Lock.TheVariants.{Unset, Free, Held}
 

@@ -4,6 +4,7 @@ ghost use Rattle.cilk_agree.specs.Laws.{OpeningAgrees, NothingIsHidden, PopsAgre
 ghost use Rattle.cilk_agree.specs.Actions.{GoingAgrees, WritesAgree, CallsAgree, LeavesAgree, AnswersAgree, DeliveriesAgree, InletsAgree, PrintsAgree, LocksAgree, TrapsAgree, StartsAgree, AbortsAgree};
 ghost use Rattle.cilk_agree.specs.Asked.{AskedOf, OldestIsTold, NoneIsTold, PlacedOf};
 ghost use Rattle.cilk_agree.specs.Between.{HandsAreFilled, HandsAreRestored, HandsAreHandedOn, SendersCanEnd, ParentsOutlive};
+ghost use Rattle.cilk_agree.specs.FateLaws.{RootsAreFated, FatesAreKept, FatesAreRead, FatesAreOne};
 
 /// The root alone, with its frame in the hand of worker 1, agrees with the start of the program;
 /// and the instances with which a machine agrees may be read off the standing.
@@ -63,4 +64,18 @@ pub fn steps_have_halves()
     ensures handed_on { HandsAreHandedOn }
     ensures senders { SendersCanEnd }
     ensures parents { ParentsOutlive }
+{}
+
+/// The root alone is fated as no event tells it; and what follows an event is fated as the events
+/// with that one tell it.
+pub fn fates_are_kept()
+    ensures start { RootsAreFated }
+    ensures kept { FatesAreKept }
+{}
+
+/// A node tells the fate of its path, and a path that is no node's was never made. So nodes are
+/// fated in one way, whatever the events were.
+pub fn fates_are_one()
+    ensures read { FatesAreRead }
+    ensures one { FatesAreOne }
 {}

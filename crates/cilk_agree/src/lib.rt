@@ -5,12 +5,11 @@
 mod laws;
 mod lock;
 
-pub use cilk_placed::{Global, GlobalShape, Item, ItemNode, Program, Word};
-pub use cilk_sched::{Body, Hands, Var};
+pub use cilk_fates::{Global, GlobalShape, Item, ItemNode, Program, Word};
+pub use cilk_sched::{Area, Body, Hands, Var};
 pub use cilk_spawn::{Delivery, Ending, Fate, Frame, Id, Kind, Path, Tree};
-pub use cilk_stands::Area;
 pub use laws::{
-    actions_keep_agreement, moves_keep_agreement, questions_have_one_answer, steps_have_halves,
-    steps_keep_agreement, the_opening_agrees,
+    actions_keep_agreement, fates_are_kept, fates_are_one, moves_keep_agreement,
+    questions_have_one_answer, steps_have_halves, steps_keep_agreement, the_opening_agrees,
 };
 pub use lock::Lock;

@@ -2,7 +2,7 @@
 
 ghost use Rattle.std.specs.Prelude.{◌≡◌, Some, None};
 ghost use Rattle.cilk_plans.specs.model.Places.{IsWorker, hand_of, with_hand};
-ghost use Rattle.cilk_plans.specs.stands.Cells.{frame_put, globals_put};
+ghost use Rattle.cilk_plans.specs.frame.Cells.{frame_put, globals_put};
 ghost use Rattle.cilk_plans.specs.agree.Outside as outside;
 ghost use Rattle.cilk_plans.specs.Words.{plan_of};
 ghost use Rattle.cilk_carries.specs.Words.{machine_of};

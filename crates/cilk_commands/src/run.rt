@@ -67,9 +67,12 @@ fn run<W: Write>(alloc: Global, limit: u32, text: &[u8], out: &mut W) -> Result<
     let program = ready_of(alloc, text)?;
     let machine = run_alone(alloc, program, limit)?;
     let Ok(end) = machine.end_now() else {
+        drop(machine);
         return Err(Failure::Memory);
     };
-    let Ok(answer) = ending(alloc, machine.output(), &end, machine.choices()) else {
+    let answer = ending(alloc, machine.output(), &end, machine.choices());
+    drop(machine);
+    let Ok(answer) = answer else {
         return Err(Failure::Memory);
     };
     write_answer(out, answer.as_slice())?;

@@ -8,10 +8,6 @@ pub mod Parts
 pub mod Rows
 pub use Rattle.cilk_log.specs.canonical
 pub use Rattle.cilk_log.specs.choices
-pub use Rattle.cilk_log.specs.labelled
 pub use Rattle.cilk_log.specs as log
-pub use Rattle.cilk_log.specs.model
 pub use Rattle.cilk_view.specs.seen
-pub use Rattle.cilk_log.specs.spawn
-pub use Rattle.cilk_log.specs.syntax
 pub use Rattle.cilk_view.specs as view

@@ -12,10 +12,8 @@ mod sending;
 mod taking;
 
 pub use asking::command_of;
-pub use cilk_log::{
-    Choice, Choices, Kind, Log, LogFault, Memory, Outcome, Path, Refusal, Trap, read_log, write_log,
-};
-pub use cilk_view::{Loaded, ViewFault, What};
+pub use cilk_log::{Choices, Log, LogFault, Trap, read_log, write_log};
+pub use cilk_view::{Loaded, What};
 pub use command::Command;
 pub use fault::{LineFault, ReadFault, WriteFault};
 pub use laws::lines_come_one_by_one;

@@ -5,3 +5,5 @@ pub mod Stops
 mod Sessions
 mod Commands
 mod Ends
+pub mod Again
+pub mod Whole

@@ -1,18 +1,18 @@
 -- What always holds of a debugger.
 use Rattle.std.proofs.Common.{◌≡◌, ◌≢◌, ◌≤◌, ◌<◌, ℕ, suc, Bool, false, List, length, Option, Some, None, refl, sym, ap, ◌∙◌, subst, arith, replicate, map}
 use Rattle.std.proofs.lemmas.List.{length-map, length-replicate}
-use Rattle.cilk_console.specs.syntax.Tree.{Program}
+use Rattle.cilk_machine.specs.syntax.Tree.{Program}
 use Rattle.cilk_console.specs.choices.declared.choice.Choice as code
 use Rattle.cilk_console.specs.choices.Words.{choice_of}
-use Rattle.cilk_console.specs.labelled.Labelled.{Labelled}
-use Rattle.cilk_console.specs.labelled.Bodies.{label}
-use Rattle.cilk_console.specs.labelled.Count.{count_program}
-use Rattle.cilk_console.specs.model.Choice.{Choice}
-use Rattle.cilk_console.specs.model.Run.{Position, is_crew, after_main}
-use Rattle.cilk_replay.specs.machine.Situation.{Situation}
-use Rattle.cilk_replay.specs.Tape.{Tape, tape_of, position_at, IsPlayable, IsAt}
-use Rattle.cilk_replay.proofs.Again.{led_in}
-use Rattle.cilk_replay.proofs.Whole.{none_is_bad}
+use Rattle.cilk_machine.specs.labelled.Labelled.{Labelled}
+use Rattle.cilk_machine.specs.labelled.Bodies.{label}
+use Rattle.cilk_machine.specs.labelled.Count.{count_program}
+use Rattle.cilk_machine.specs.model.Choice.{Choice}
+use Rattle.cilk_machine.specs.model.Run.{Position, is_crew, after_main}
+use Rattle.cilk_machine.specs.Situation.{Situation}
+use Rattle.cilk_debug.specs.Tape.{Tape, tape_of, position_at, IsPlayable, IsAt}
+use Rattle.cilk_debug.proofs.Again.{led_in}
+use Rattle.cilk_debug.proofs.Whole.{none_is_bad}
 use Rattle.cilk_debug.specs.declared.fault.DebugFault.{DebugFault}
 use Rattle.cilk_debug.specs.declared.fault.DebugFault.TheVariants.{Workers, BadChoice, AtEnd, AtStart, NoStatement, OutOfRange, Memory}
 use Rattle.cilk_debug.specs.Debugging.{IsSound}

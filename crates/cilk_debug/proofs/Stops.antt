@@ -4,8 +4,8 @@ use Rattle.std.proofs.lemmas.List.{length-map}
 use Rattle.std.specs.List.{find, range_with_len}
 use Rattle.cilk_console.specs.choices.declared.choice.Choice as code
 use Rattle.cilk_console.specs.choices.Words.{choice_of}
-use Rattle.cilk_replay.specs.machine.Situation.{Situation}
-use Rattle.cilk_replay.specs.Tape.{Tape, IsAt}
+use Rattle.cilk_machine.specs.Situation.{Situation}
+use Rattle.cilk_debug.specs.Tape.{Tape, IsAt}
 use Rattle.cilk_debug.specs.Breaks.{stops, down_from}
 use Rattle.cilk_debug.specs.Seeking.{Stopped, last_among}
 use Rattle.cilk_debug.proofs.Ranges.{halts, passes, none_left, one_more_down}

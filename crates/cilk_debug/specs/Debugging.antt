@@ -1,8 +1,8 @@
 -- What contracts see of a debugger.
 use Rattle.std.specs.Prelude.{◌≡◌, ◌≤◌, ℕ, Bool, List, length}
-use Rattle.cilk_console.specs.labelled.Count.{count_program}
-use Rattle.cilk_replay.specs.machine.Situation.{Situation}
-use Rattle.cilk_replay.specs.Tape.{Tape, IsPlayable, IsAt}
+use Rattle.cilk_machine.specs.labelled.Count.{count_program}
+use Rattle.cilk_machine.specs.Situation.{Situation}
+use Rattle.cilk_debug.specs.Tape.{Tape, IsPlayable, IsAt}
 
 pub record Debugging : Type 0 where
   -- what is replayed

@@ -1,8 +1,8 @@
 -- Why there is no debugger.
 use Rattle.std.specs.Prelude.{◌≡◌, ⊤, false}
-use Rattle.cilk_console.specs.model.Run.{is_crew}
-use Rattle.cilk_replay.specs.Tape.{Tape}
-use Rattle.cilk_replay.specs.Faults.{IsFirst}
+use Rattle.cilk_machine.specs.model.Run.{is_crew}
+use Rattle.cilk_debug.specs.Tape.{Tape}
+use Rattle.cilk_debug.specs.ReplayFaults.{IsFirst}
 use Rattle.cilk_debug.specs.declared.fault.DebugFault.{DebugFault}
 use Rattle.cilk_debug.specs.declared.fault.DebugFault.TheVariants.{Workers, BadChoice, AtEnd, AtStart, NoStatement, OutOfRange, Memory}
 

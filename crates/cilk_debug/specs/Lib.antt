@@ -9,6 +9,7 @@ pub mod Rows
 pub mod Seeing
 pub mod Seeking
 pub mod Session
+pub mod Tape
+pub mod ReplayFaults
 pub use Rattle.cilk_console.specs as console
 pub use Rattle.cilk_console.specs.log
-pub use Rattle.cilk_replay.specs as replay

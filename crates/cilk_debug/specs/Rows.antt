@@ -1,7 +1,7 @@
 -- Worked sessions of a small program, `cilk int main(void) { int x = 2; return x * 21; }`, of which two steps were recorded.
 use Rattle.std.specs.Prelude.{◌≡◌, ℕ, refl, Bool, true, false, List, [], ◌∷◌, ◌++◌, codes, None}
 use Rattle.std.specs.Fmt.{digits}
-use Rattle.cilk_console.specs.model.Rows.{steps}
+use Rattle.cilk_machine.specs.model.Rows.{steps}
 use Rattle.cilk_console.specs.seen.Rows.{short}
 use Rattle.cilk_debug.specs.Debugging.{Debugging}
 use Rattle.cilk_debug.specs.Session.{session}

@@ -1,9 +1,9 @@
 -- What a debugger shows.
 use Rattle.std.specs.Prelude.{ℕ, List, [], length, Option, Some, None, option_and_then}
-use Rattle.cilk_console.specs.model.Run.{Position}
+use Rattle.cilk_machine.specs.model.Run.{Position}
 use Rattle.cilk_console.specs.seen.What.{What, where_it_stands}
 use Rattle.cilk_console.specs.seen.Views.{first_line, view}
-use Rattle.cilk_replay.specs.Tape.{Tape, position_at}
+use Rattle.cilk_debug.specs.Tape.{Tape, position_at}
 use Rattle.cilk_debug.specs.Debugging.{Debugging}
 
 -- a view of where the first k choices lead

@@ -1,8 +1,8 @@
 -- Where a move to a breakpoint ends.
 use Rattle.std.specs.Prelude.{◌≡◌, ℕ, ◌+◌, Bool, List, length, Option, option_map, unwrap_or, is_some}
 use Rattle.std.specs.List.{find}
-use Rattle.cilk_replay.specs.machine.Situation.{Situation}
-use Rattle.cilk_replay.specs.Tape.{Tape, IsAt}
+use Rattle.cilk_machine.specs.Situation.{Situation}
+use Rattle.cilk_debug.specs.Tape.{Tape, IsAt}
 use Rattle.cilk_debug.specs.Breaks.{stops, down_from, next_stop, last_stop}
 use Rattle.cilk_debug.specs.Debugging.{Debugging}
 

@@ -1,7 +1,7 @@
 ghost use Rattle.std.specs.Prelude.{◌≡◌, ◌≤◌, ◌<◌, ◌+◌, ℕ, ◌-◌, IfOk, IfErr, OnOk, OnErr, IfSome, length, replicate, slice_set, true, false, Err, ◌++◌, string_bytes, List};
-ghost use Rattle.cilk_console.specs.labelled.Count.{count_program};
-ghost use Rattle.cilk_console.specs.model.Run.{is_crew};
-ghost use Rattle.cilk_replay.specs.Tape.{tape_of, IsAt, IsPlayable};
+ghost use Rattle.cilk_machine.specs.labelled.Count.{count_program};
+ghost use Rattle.cilk_machine.specs.model.Run.{is_crew};
+ghost use Rattle.cilk_debug.specs.Tape.{tape_of, IsAt, IsPlayable};
 ghost use Rattle.cilk_debug.specs.Faults.{Tells};
 ghost use Rattle.cilk_debug.specs.Moves.{StaysBehind, StaysAhead, StaysFrom, HasNo};
 ghost use Rattle.cilk_console.specs.view.Words.{what_of};
@@ -11,8 +11,9 @@ ghost use Rattle.cilk_debug.specs.Seeking.{forward_position, is_any_ahead, back_
 use crate::fault::DebugFault;
 use crate::position::put_position;
 use crate::seeking::{last_met, run_on};
-use cilk_console::{Loaded, Log, Memory, ViewFault, What};
-use cilk_replay::{Machine, ReplayFault, is_crew, make_again, play};
+use crate::{ReplayFault, is_crew, make_again, play};
+use cilk_console::{Loaded, Log};
+use cilk_machine::{Machine, Memory, ViewFault, What};
 use std::alloc::Global;
 use std::marker::Model;
 
@@ -28,9 +29,9 @@ pub struct Debugger {
 }
 
 impl Model for Debugger {
-    ghost use Rattle.cilk_replay.specs.Tape.{tape_of};
+    ghost use Rattle.cilk_debug.specs.Tape.{tape_of};
     ghost use Rattle.cilk_debug.specs.Debugging.{Debugging, IsSound};
-    ghost use Rattle.cilk_console.specs.syntax.ProgramCoding.{coded_Program};
+    ghost use Rattle.cilk_machine.specs.syntax.ProgramCoding.{coded_Program};
     ghost use Rattle.std.specs.Coded.{codes};
 
     ghost Value = { Debugging };
@@ -77,11 +78,24 @@ impl Debugger {
             return Err(DebugFault::Workers);
         }
         match played(alloc, &program, &log, log.choices.len()) {
-            Err(fault) => Err(fault),
+            Err(fault) => {
+                drop(program);
+                drop(log);
+                Err(fault)
+            }
             Ok(_) => match played(alloc, &program, &log, 0) {
-                Err(fault) => Err(fault),
+                Err(fault) => {
+                    drop(program);
+                    drop(log);
+                    Err(fault)
+                }
                 Ok(machine) => match no_marks(alloc, &program) {
-                    Err(fault) => Err(fault),
+                    Err(fault) => {
+                        drop(program);
+                        drop(log);
+                        drop(machine);
+                        Err(fault)
+                    }
                     Ok(marks) => Ok(Debugger {
                         alloc,
                         program,

@@ -1,4 +1,4 @@
-use cilk_console::Refusal;
+use cilk_machine::Refusal;
 use thiserror::Error;
 
 /// Why a debugger does not do what it is told.

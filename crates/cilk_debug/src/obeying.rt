@@ -12,7 +12,8 @@ use crate::debugger::Debugger;
 use crate::ending::SessionFault;
 use crate::fault::DebugFault;
 use crate::reply::Reply;
-use cilk_console::{Command, ViewFault, What};
+use cilk_console::Command;
+use cilk_machine::{ViewFault, What};
 
 impl Debugger {
     /// Does what is asked. Where memory runs out for the answer, it is done all the same.

@@ -2,14 +2,15 @@
 
 ghost use Rattle.std.specs.Prelude.{◌≡◌};
 ghost use Rattle.cilk_console.specs.canonical.Appends.{Appends};
-ghost use Rattle.cilk_console.specs.labelled.Bodies.{label};
-ghost use Rattle.cilk_console.specs.model.End.{kind_text, trap_text};
-ghost use Rattle.cilk_console.specs.model.Path.{path_text};
+ghost use Rattle.cilk_machine.specs.labelled.Bodies.{label};
+ghost use Rattle.cilk_machine.specs.model.End.{kind_text, trap_text};
+ghost use Rattle.cilk_machine.specs.model.Path.{path_text};
 ghost use Rattle.cilk_console.specs.choices.Words.{outcome_of};
-ghost use Rattle.cilk_console.specs.spawn.Kinds.{kind_of};
+ghost use Rattle.cilk_machine.specs.spawn.Kinds.{kind_of};
 ghost use Rattle.cilk_console.specs.seen.Workers.{outcome_text, position_text};
 
-use cilk_console::{Kind, Loaded, Memory, Outcome, Path, Trap};
+use cilk_console::{Loaded, Trap};
+use cilk_machine::{Kind, Memory, Outcome, Path};
 
 /// So many of all choices were made, and the program stands so.
 pub(crate) fn put_position(

@@ -2,14 +2,14 @@
 
 ghost use Rattle.std.specs.Prelude.{◌≡◌, ◌≤◌, ◌<◌, ◌+◌, List, suc, IfOk, OnOk, IfErr, IfSome, length, map, true, false, Some, None, ◌-◌, ◌^◌, if◌then◌else◌};
 ghost use Rattle.cilk_console.specs.choices.Words.{choice_of};
-ghost use Rattle.cilk_replay.specs.Tape.{Tape, IsAt};
+ghost use Rattle.cilk_debug.specs.Tape.{Tape, IsAt};
 ghost use Rattle.cilk_debug.specs.Breaks.{stops};
 ghost use Rattle.cilk_debug.specs.Seeking.{Stopped, last_among};
 
 use crate::fault::DebugFault;
+use crate::make_again;
 use crate::stopping::stops;
-use cilk_console::Choice;
-use cilk_replay::{Machine, make_again};
+use cilk_machine::{Choice, Machine};
 
 // The choice of this number, counted from 0, is made again; whether a breakpoint is set where it did
 // something.

@@ -1,11 +1,11 @@
 //! Breakpoints.
 
 ghost use Rattle.std.specs.Prelude.{◌≡◌, ℕ};
-ghost use Rattle.cilk_console.specs.model.Path.{Path};
-ghost use Rattle.cilk_replay.specs.carries.Words.{event_by};
+ghost use Rattle.cilk_machine.specs.model.Path.{Path};
+ghost use Rattle.cilk_machine.specs.carries.Words.{event_by};
 ghost use Rattle.cilk_debug.specs.Breaks.{number_of, is_set, stops_at};
 
-use cilk_replay::Did;
+use cilk_machine::Did;
 
 // The number of the action that an instance took, or was trapped at.
 fn number_of(did: Did) -> Option<u32>

@@ -21,10 +21,10 @@ use Rattle.cilk_sound.specs.model.Effect.{effect_of, start_of}
 use Rattle.cilk_sound.specs.model.Printing.{printed}
 use Rattle.cilk_sound.specs.nodes.Slots.{size_of, slot_of}
 use Rattle.cilk_sound.specs.nodes.Actions.{slotted_place, slotted_target, slotted_taker, slotted}
-use Rattle.cilk_sound.specs.stands.Cells.{own_variables, outer_variables, HasCell}
-use Rattle.cilk_sound.specs.stands.Reads.{IsVariable, IsArray, IsKnown, Seen}
-use Rattle.cilk_sound.proofs.stands_laws.SlotLaws.{cells-size}
-use Rattle.cilk_sound.proofs.stands_laws.Values.{array-inside, array-declared, array-same, declared-within, cell-same, value-same, slots-within}
+use Rattle.cilk_sound.specs.frame.Cells.{own_variables, outer_variables, HasCell}
+use Rattle.cilk_sound.specs.frame.Reads.{IsVariable, IsArray, IsKnown, Seen}
+use Rattle.cilk_sound.proofs.frame_laws.SlotLaws.{cells-size}
+use Rattle.cilk_sound.proofs.frame_laws.Values.{array-inside, array-declared, array-same, declared-within, cell-same, value-same, slots-within}
 use Rattle.cilk_effects.specs.declared.effect.Effect.{Effect}
 use Rattle.cilk_effects.specs.declared.effect.Effect.TheVariants.{Writes, Answers, Enters, Gives, Starts, Prints, Turns, Marks}
 use Rattle.cilk_spawn.specs.declared.receiver.Receiver as receiver

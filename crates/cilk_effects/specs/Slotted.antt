@@ -9,7 +9,7 @@ use Rattle.cilk_sound.specs.model.Effect as effect
 use Rattle.cilk_sound.specs.frame.declared.awaited.Await.{Await}
 use Rattle.cilk_spawn.specs.declared.receiver.Receiver.{Receiver}
 use Rattle.cilk_spawn.specs.declared.receiver.Receiver.TheVariants.{Nothing, Place, Call}
-use Rattle.cilk_sound.specs.stands.Cells.{HasCell}
+use Rattle.cilk_sound.specs.frame.Cells.{HasCell}
 use Rattle.cilk_effects.specs.declared.effect.Effect.{Effect}
 use Rattle.cilk_effects.specs.declared.effect.Effect.TheVariants.{Writes, Answers, Enters, Gives, Starts, Prints, Turns, Marks}
 

@@ -7,7 +7,7 @@ ghost use Rattle.cilk_sound.specs.model.Values.{Store, environment};
 ghost use Rattle.cilk_sound.specs.model.Effect as effect;
 ghost use Rattle.cilk_sound.specs.nodes.Actions.{slotted};
 ghost use Rattle.cilk_sound.specs.nodes.Slots.{slot_of};
-ghost use Rattle.cilk_sound.specs.stands.Reads.{Seen};
+ghost use Rattle.cilk_sound.specs.frame.Reads.{Seen};
 ghost use Rattle.cilk_sound.specs.Known.{KnownAct};
 ghost use Rattle.cilk_effects.specs.Effects.{effect_in};
 ghost use Rattle.cilk_effects.specs.Fits.{FitsAct};

@@ -6,4 +6,5 @@ pub mod Told
 pub mod Ended
 pub mod Born
 pub mod Fates
+pub use Rattle.cilk_placed.proofs.canonical_laws
 pub use Rattle.cilk_placed.proofs as placed_laws

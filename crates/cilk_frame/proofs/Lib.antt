@@ -1,4 +1,11 @@
-pub use Rattle.cilk_nodes.proofs.eval_laws
+pub mod Flat
+pub mod SlotLaws
+pub mod Values
+pub mod Puts
+pub mod Tops
+pub mod Starts
+pub mod Steps
 pub use Rattle.cilk_nodes.proofs as nodes_laws
 pub use Rattle.cilk_nodes.proofs.rules_of_forms_laws
 pub use Rattle.cilk_nodes.proofs.rules_of_names_laws
+pub use Rattle.cilk_nodes.proofs.scopes_laws

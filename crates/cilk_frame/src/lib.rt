@@ -26,11 +26,13 @@ mod activation;
 mod awaited;
 mod frame;
 mod id;
+mod laws;
 
 pub use awaited::Await;
 pub use cilk_nodes::{
-    Action, Area, BinOp, Body, Code, Memory, Place, Slot, Slots, Taker, Target, Trap, Var, apply,
-    eval,
+    Action, Area, BinOp, Body, Code, LockAction, Memory, Place, Slot, Slots, Taker, Target, Trap,
+    Var, apply, eval,
 };
 pub use frame::Frame;
 pub use id::Id;
+pub use laws::{a_call_stands, a_start_stands, a_write_stands, an_action_stands, values_are_seen};

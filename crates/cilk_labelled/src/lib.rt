@@ -3,8 +3,5 @@
 
 mod laws;
 
-pub use cilk_canonical::{
-    BinOp, Global, GlobalShape, Item, ItemNode, LockAction, Program, Word, canonical,
-};
-pub use cilk_values::Trap;
+pub use cilk_canonical::{Global, GlobalShape, Item, ItemNode, Program, Word, canonical};
 pub use laws::rows_are_labelled;

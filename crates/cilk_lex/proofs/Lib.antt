@@ -7,3 +7,4 @@ pub mod Refusals
 pub mod Texts
 pub mod Values
 pub mod Within
+mod Halves

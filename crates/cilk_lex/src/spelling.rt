@@ -1,6 +1,6 @@
 //! The lexemes that are told apart by their bytes alone.
 
-ghost use Rattle.std.specs.Prelude.{◌≡◌, ◌≢◌, ℕ, ◌≤◌, IsTrue, MatchOption};
+ghost use Rattle.std.specs.Prelude.{◌≡◌, ◌≢◌, ℕ, ◌≤◌, IsTrue, MatchOption, true, false};
 ghost use Rattle.std.specs.List.{list_all};
 ghost use Rattle.cilk_lexeme.specs.Byte.{continues_number};
 ghost use Rattle.cilk_lexeme.specs.declared.keyword.Keyword.{Keyword};
@@ -8,6 +8,7 @@ ghost use Rattle.cilk_lexeme.specs.declared.mark.Mark.{Mark};
 ghost use Rattle.cilk_lexeme.specs.declared.header.Header.{Header};
 ghost use Rattle.cilk_lexeme.specs.Spelling.{spelling, mark_spelling, header_spelling, has_number_form};
 ghost use Rattle.cilk_lexeme.specs.Sight.{valued, number_in};
+ghost use Rattle.cilk_lex.specs.Marks.{is_byte};
 
 use crate::bytes::is_x;
 use cilk_lexeme::{Header, Keyword, Mark};
@@ -44,6 +45,14 @@ pub(crate) fn mark_of(text: &str) -> Option<Mark>
     ensures { MatchOption result
         ((m : Mark) → text.now ≢ mark_spelling m) (λ m. text.now ≡ mark_spelling m) }
 {
+    byte_mark(text).or(longer_mark(text))
+}
+
+// The mark of one byte that a text is.
+fn byte_mark(text: &str) -> Option<Mark>
+    ensures { MatchOption result
+        ((m : Mark) → is_byte m ≡ true → text.now ≢ mark_spelling m) (λ m. text.now ≡ mark_spelling m) }
+{
     match text {
         "(" => Some(Mark::OpenParenthesis),
         ")" => Some(Mark::CloseParenthesis),
@@ -68,6 +77,16 @@ pub(crate) fn mark_of(text: &str) -> Option<Mark>
         "!" => Some(Mark::Exclamation),
         "<" => Some(Mark::Less),
         ">" => Some(Mark::Greater),
+        _ => None,
+    }
+}
+
+// The mark of two or three bytes that a text is.
+fn longer_mark(text: &str) -> Option<Mark>
+    ensures { MatchOption result
+        ((m : Mark) → is_byte m ≡ false → text.now ≢ mark_spelling m) (λ m. text.now ≡ mark_spelling m) }
+{
+    match text {
         "<<" => Some(Mark::ShiftLeft),
         ">>" => Some(Mark::ShiftRight),
         "<=" => Some(Mark::LessOrEqual),
@@ -96,14 +115,22 @@ pub(crate) fn header_of(name: &[u8]) -> Option<Header>
     ensures { MatchOption result
         ((h : Header) → name.now ≢ header_spelling h) (λ h. name.now ≡ header_spelling h) }
 {
-    match name {
-        b"cilk.h" => Some(Header::Cilk),
-        b"cilk-lib.h" => Some(Header::CilkLib),
-        b"cilk-lib.cilkh" => Some(Header::CilkLibCilkh),
-        b"stdio.h" => Some(Header::Stdio),
-        b"stdlib.h" => Some(Header::Stdlib),
-        _ => None,
+    if name == b"cilk.h".as_slice() {
+        return Some(Header::Cilk);
     }
+    if name == b"cilk-lib.h".as_slice() {
+        return Some(Header::CilkLib);
+    }
+    if name == b"cilk-lib.cilkh".as_slice() {
+        return Some(Header::CilkLibCilkh);
+    }
+    if name == b"stdio.h".as_slice() {
+        return Some(Header::Stdio);
+    }
+    if name == b"stdlib.h".as_slice() {
+        return Some(Header::Stdlib);
+    }
+    None
 }
 
 // The value of these digits, where they are digits of the radix and the value is an int.

@@ -45,10 +45,10 @@ fn tables_of(alloc: Global, checked: Checked) -> Result<Tables, NoRoom>
     let globals = globals_of(alloc, &program.items)?;
     let locks = locks_of(alloc, &program.items)?;
     let bodies = bodies_of(alloc, &program.items)?;
-    let nodes = nodes_of(alloc, &globals, &locks, &bodies, program)?;
-    let lines = action_lines(alloc, program)?;
     let main = place_of_main(&bodies).ok_or(NoRoom::TooLarge)?;
     let main = u32::try_from(main).map_err(|_| NoRoom::TooLarge)?;
+    let nodes = nodes_of(alloc, &globals, &locks, &bodies, program)?;
+    let lines = action_lines(alloc, program)?;
     Ok(Tables {
         program: checked,
         nodes,

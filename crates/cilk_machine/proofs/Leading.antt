@@ -10,9 +10,9 @@ use Rattle.cilk_choices.specs.model.Run.{Standing, after, one_more, position_aft
 use Rattle.cilk_choices.specs.model.Places.{popped_by, stolen_by}
 use Rattle.cilk_carries.proofs.placed_laws.Runs.{after-push}
 use Rattle.cilk_carries.proofs.placed_laws.Crew.{crew_stays}
-use Rattle.cilk_fated.proofs.fates_laws.Fates.{the_living_live, each_choice_is_an_event}
-use Rattle.cilk_fated.specs.Laws.{LivingAreTold}
-use Rattle.cilk_fated.proofs.Kept.{fates-are-kept}
+use Rattle.cilk_carries.proofs.fates_laws.Fates.{the_living_live, each_choice_is_an_event}
+use Rattle.cilk_carries.specs.agree.FateLaws.{LivingAreTold}
+use Rattle.cilk_carries.proofs.agree_laws.Kept.{fates-are-kept}
 use Rattle.cilk_carries.specs.spawn.Nodes.{path_at}
 use Rattle.cilk_carries.specs.agree.Agrees.{Machine, Agrees, read_off}
 use Rattle.cilk_carries.specs.agree.Fated.{Follows, Fated}

@@ -13,9 +13,8 @@ pub mod Openings
 pub mod Shown
 pub mod Fates
 pub use Rattle.cilk_carries.proofs.agree_laws
-pub use Rattle.cilk_fated.proofs.fates_laws
+pub use Rattle.cilk_carries.proofs.frame_laws
 pub use Rattle.cilk_carries.proofs.nodes_laws
 pub use Rattle.cilk_carries.proofs.placed_laws
 pub use Rattle.cilk_carries.proofs.sched_laws
 pub use Rattle.cilk_carries.proofs.spawn_laws
-pub use Rattle.cilk_carries.proofs.stands_laws

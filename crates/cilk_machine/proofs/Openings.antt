@@ -20,9 +20,9 @@ use Rattle.cilk_carries.specs.nodes.Slots.{size_of, flat, is_inlet}
 use Rattle.cilk_carries.specs.nodes.Bodies.{body_table, body_of, vars_from, globals_of, lock_variable, locks_of}
 use Rattle.cilk_carries.specs.frame.Frames.{Frame}
 use Rattle.cilk_carries.specs.frame.Starts.{activation_of}
-use Rattle.cilk_carries.specs.stands.Stands.{StandsFor}
-use Rattle.cilk_carries.specs.stands.Starts.{Takes, starts_with, started}
-use Rattle.cilk_carries.proofs.stands_laws.Steps.{start-stands}
+use Rattle.cilk_carries.specs.frame.Stands.{StandsFor}
+use Rattle.cilk_carries.specs.frame.Begins.{Takes, starts_with, started}
+use Rattle.cilk_carries.proofs.frame_laws.Steps.{start-stands}
 use Rattle.cilk_carries.specs.sound.Room.{IsTold, StartsWith}
 use Rattle.cilk_carries.proofs.sound_laws.Room.{parameters_first}
 use Rattle.cilk_carries.proofs.sound_laws.Start.{main_starts}
@@ -31,7 +31,7 @@ use Rattle.cilk_carries.proofs.sched_laws.Seats.{workers-of-hand}
 use Rattle.cilk_carries.specs.agree.declared.lock.Lock.TheVariants.{Unset}
 use Rattle.cilk_carries.specs.agree.Outside as outside
 use Rattle.cilk_carries.specs.agree.Fated.{Fated}
-use Rattle.cilk_fated.proofs.Kept.{roots-are-fated}
+use Rattle.cilk_carries.proofs.agree_laws.Kept.{roots-are-fated}
 use Rattle.cilk_carries.specs.agree.Agrees.{Agrees, read_off}
 use Rattle.cilk_carries.specs.agree.Laws.{opening_machine}
 use Rattle.cilk_carries.proofs.agree_laws.Opens.{opening-agrees}

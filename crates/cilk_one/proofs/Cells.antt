@@ -6,8 +6,8 @@ use Rattle.cilk_machine.specs.eval.declared.slot.Slot.{Slot}
 use Rattle.cilk_machine.specs.labelled.Labelled.{Declaration, local, outer, global, of_lock, of_body, unknown, Variable, Labelled}
 use Rattle.cilk_machine.specs.model.Values.{Values, Cell}
 use Rattle.cilk_machine.specs.nodes.Slots.{size_of, flat, slot_from, slot_of}
-use Rattle.cilk_machine.specs.stands.Cells.{own_variables, outer_variables, HasCell, SameCell}
-use Rattle.cilk_machine.proofs.stands_laws.SlotLaws.{slot-area, slot-offset}
+use Rattle.cilk_machine.specs.frame.Cells.{own_variables, outer_variables, HasCell, SameCell}
+use Rattle.cilk_machine.proofs.frame_laws.SlotLaws.{slot-area, slot-offset}
 
 -- fronts of one length
 parts : (xs ys us vs : List ℤ) → length xs ≡ length ys → xs ++ us ≡ ys ++ vs → (xs ≡ ys) × (us ≡ vs)

@@ -20,8 +20,8 @@ use Rattle.cilk_machine.specs.nodes.Table.{number_of}
 use Rattle.cilk_machine.proofs.nodes_laws.Heads.{heads-tell}
 use Rattle.cilk_machine.specs.frame.declared.awaited.Await.{Await}
 use Rattle.cilk_machine.specs.frame.Frames.{Activation, Frame}
-use Rattle.cilk_machine.specs.stands.Cells.{SameCell}
-use Rattle.cilk_machine.specs.stands.Stands.{node_in, AwaitsAt, AwaitsSame, Activates, bodies_of, AllActivate, StandsFor}
+use Rattle.cilk_machine.specs.frame.Cells.{SameCell}
+use Rattle.cilk_machine.specs.frame.Stands.{node_in, AwaitsAt, AwaitsSame, Activates, bodies_of, AllActivate, StandsFor}
 use Rattle.cilk_machine.specs.spawn.declared.delivery.Delivery.{Delivery}
 use Rattle.cilk_machine.specs.spawn.declared.receiver.Receiver.{Receiver}
 use Rattle.cilk_machine.specs.spawn.declared.receiver.Receiver.TheVariants as code

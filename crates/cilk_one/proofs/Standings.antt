@@ -17,7 +17,7 @@ use Rattle.cilk_machine.specs.placed.Places.{times_held, EachInItsPlace}
 use Rattle.cilk_machine.proofs.placed_laws.Entries.{same-is}
 use Rattle.cilk_machine.proofs.placed_laws.Kept.{places_are_kept}
 use Rattle.cilk_machine.specs.frame.Frames.{Frame}
-use Rattle.cilk_machine.specs.stands.Stands.{StandsFor}
+use Rattle.cilk_machine.specs.frame.Stands.{StandsFor}
 use Rattle.cilk_machine.specs.spawn.Nodes.{Node, node_at, is_live, path_at}
 use Rattle.cilk_machine.proofs.spawn_laws.Lists.{map_those}
 use Rattle.cilk_machine.proofs.spawn_laws.Trees.{live_there, names}

@@ -8,7 +8,7 @@ use Rattle.cilk_agree.specs.values.Term.{Term, rename}
 use Rattle.cilk_agree.specs.values.Value.{Environment}
 use Rattle.cilk_agree.specs.labelled.Labelled.{Declaration, Labelled, Into, Taker, nothing, into, through, Action, assign, call, spawn, print, locking, null, break_off, go_round, tests, sync, abort, return_with, return_nothing, close}
 use Rattle.cilk_agree.specs.labelled.Bodies.{label}
-use Rattle.cilk_effects.specs.heads.Heads.{GoesOn}
+use Rattle.cilk_effects.specs.sound.Heads.{GoesOn}
 use Rattle.cilk_agree.specs.model.Values.{Reached, environment}
 use Rattle.cilk_agree.specs.model.Instance.{Instance}
 use Rattle.cilk_agree.specs.model.State as state
@@ -26,10 +26,10 @@ use Rattle.cilk_agree.specs.nodes.Table.{node_of}
 use Rattle.cilk_agree.specs.nodes.Bodies.{body_of}
 use Rattle.cilk_agree.proofs.nodes_laws.Heads.{bodies-have}
 use Rattle.cilk_agree.specs.frame.Frames.{depth}
-use Rattle.cilk_agree.specs.stands.Starts as starts
-use Rattle.cilk_agree.specs.stands.Cells.{HasCell}
-use Rattle.cilk_agree.specs.stands.Stands.{AwaitsAt, AwaitsSame, AllInside, bodies_of, lowest_of}
-use Rattle.cilk_agree.proofs.stands_laws.Tops.{depth-is}
+use Rattle.cilk_agree.specs.frame.Begins as starts
+use Rattle.cilk_agree.specs.frame.Cells.{HasCell}
+use Rattle.cilk_agree.specs.frame.Stands.{AwaitsAt, AwaitsSame, AllInside, bodies_of, lowest_of}
+use Rattle.cilk_agree.proofs.frame_laws.Tops.{depth-is}
 use Rattle.cilk_effects.specs.sound.Known as known
 use Rattle.cilk_effects.specs.sound.Known.{KnownAct, Calls}
 use Rattle.cilk_effects.specs.Slotted.{ReachesCells, slotted_await, slotted_receiver, slotted_effect, slotted_result}
@@ -163,7 +163,7 @@ module _ (t : Turn) (asked : Asked t) (b m : ℕ) where
       → shapes.Entered env what callee es x → Planned node x
   calls-plan what callee es node a x w = subst (Planned node) (sym w.is) (λ step there. by_room (nat_lt (length i.below) 255) refl step there)
     where
-      stands : Rattle.cilk_agree.specs.stands.Stands.StandsFor program t.frame i
+      stands : Rattle.cilk_agree.specs.frame.Stands.StandsFor program t.frame i
       stands = (Rattle.cilk_agree.proofs.Alone.holds t).stands
 
       by_case : (room : Bool) → nat_lt (length i.below) 255 ≡ room

@@ -22,7 +22,7 @@ use Rattle.cilk_agree.specs.model.Event.{spawned}
 use Rattle.cilk_agree.specs.model.Pick.{Step, spawns, if_room, step_by_effect}
 use Rattle.cilk_agree.specs.nodes.declared.node.Node.{Node}
 use Rattle.cilk_agree.specs.nodes.Slots.{slot_of, is_inlet, procedure_around}
-use Rattle.cilk_agree.specs.stands.Stands.{StandsFor, AllInside, bodies_of}
+use Rattle.cilk_agree.specs.frame.Stands.{StandsFor, AllInside, bodies_of}
 use Rattle.cilk_effects.specs.sound.Known.{StandsIn}
 use Rattle.cilk_effects.specs.Slotted.{TakenCell, ReachesCells, slotted_receiver, slotted_effect}
 use Rattle.cilk_effects.proofs.Shapes as shapes
@@ -85,7 +85,7 @@ module _ (t : Turn) (asked : Asked t) (b m : ℕ) where
   procedure-is : (o : IsTrue (is_procedure (body_at program i.top.body).owner)) → (node_of t).procedure ≡ i.top.body
   procedure-is o =
       let inside : AllInside program (i.top.body ∷ bodies_of i.below) = ((holds t).stands).inside in
-      (told t).procedure ∙ ap (λ ms. Rattle.cilk_agree.specs.stands.Stands.lowest_of i.top.body (bodies_of ms)) (below-none program i.below i.top.body inside o)
+      (told t).procedure ∙ ap (λ ms. Rattle.cilk_agree.specs.frame.Stands.lowest_of i.top.body (bodies_of ms)) (below-none program i.below i.top.body inside o)
 
   receives : (taker : Taker) (callee : ℕ) (es : List (Term Declaration)) (node : Node) → Acting t b m (spawn taker callee es) node → (r : Option model.Receiver) → shapes.Takes env m taker r
       → TakenCell program b r → Receives program b (slotted_receiver slots r) r

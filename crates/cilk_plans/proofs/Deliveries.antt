@@ -11,9 +11,9 @@ use Rattle.cilk_agree.specs.model.State as state
 use Rattle.cilk_agree.specs.model.State.{store_of}
 use Rattle.cilk_agree.specs.model.Pick.{step_by_place, step_by_receiver}
 use Rattle.cilk_agree.specs.nodes.Table as table
-use Rattle.cilk_agree.specs.stands.Stands.{StandsFor}
-use Rattle.cilk_agree.proofs.stands_laws.Tops.{depth-is}
-use Rattle.cilk_agree.proofs.stands_laws.Values.{cell-same}
+use Rattle.cilk_agree.specs.frame.Stands.{StandsFor}
+use Rattle.cilk_agree.proofs.frame_laws.Tops.{depth-is}
+use Rattle.cilk_agree.proofs.frame_laws.Values.{cell-same}
 use Rattle.cilk_agree.specs.spawn.declared.delivery.Delivery.{Delivery}
 use Rattle.cilk_agree.specs.spawn.declared.receiver.Receiver.{Receiver}
 use Rattle.cilk_agree.specs.spawn.declared.receiver.Receiver.TheVariants.{Nothing, Place, Call}
@@ -49,10 +49,10 @@ module _ (t : Turn) (asked : Asked t) where
   -- at a boundary the procedure's own activation is on top
   procedure-is : i.below ≡ [] → (node_of t).procedure ≡ i.top.body
   procedure-is alone =
-      (told t).procedure ∙ ap (λ ms. Rattle.cilk_agree.specs.stands.Stands.lowest_of i.top.body (Rattle.cilk_agree.specs.stands.Stands.bodies_of ms)) alone
+      (told t).procedure ∙ ap (λ ms. Rattle.cilk_agree.specs.frame.Stands.lowest_of i.top.body (Rattle.cilk_agree.specs.frame.Stands.bodies_of ms)) alone
 
   place-plan : (child : ℕ) (first : Oldest t child) (slot : Rattle.cilk_agree.specs.eval.declared.slot.Slot.Slot) (index : ℕ) (r : Reached)
-      → Rattle.cilk_agree.specs.stands.Cells.SameCell program i.top.body slot index r.cell → (n : ℕ) (z : ℤ)
+      → Rattle.cilk_agree.specs.frame.Cells.SameCell program i.top.body slot index r.cell → (n : ℕ) (z : ℤ)
       → step_in t ≡ step_by_place s (path_of t) i first.others first.oldest.child r n (combined r.op (cell_of (store_of s (path_of t) i) r.cell.place r.cell.index) z)
       → IsPlan t (takes_by n (combined r.op (slot_cell (cells_in g) slot index) z) (λ y. plan.Take child n (record { slot = slot; index = index }) y))
   place-plan child first slot index r same n z step =
@@ -85,7 +85,7 @@ module _ (t : Turn) (asked : Asked t) where
         first = first;
         takes = takes-from t.program inlet (suc (length ys)) (z ∷ args) (record { is_there = c.is_there; parameters = c.parameters }) (ap (λ xs. suc (length xs)) args_is);
         owner = c.owner;
-        inside = ap (λ ms. Rattle.cilk_agree.specs.stands.Stands.lowest_of i.top.body (Rattle.cilk_agree.specs.stands.Stands.bodies_of ms)) alone ∙ sym c.inside;
+        inside = ap (λ ms. Rattle.cilk_agree.specs.frame.Stands.lowest_of i.top.body (Rattle.cilk_agree.specs.frame.Stands.bodies_of ms)) alone ∙ sym c.inside;
         depth = let d = depth-is program t.frame i stands in let none : length i.below ≡ 0 = ap length alone in omega (arith, d, none);
         step = step ∙ (λ j. step_by_receiver program s (path_of t) i first.others first.oldest.child z (model.through inlet (sym args_is j) (sym n_is j)));
       })

@@ -21,11 +21,11 @@ use Rattle.cilk_agree.proofs.nodes_laws.Heads.{bodies-have}
 use Rattle.cilk_agree.specs.nodes.Slots.{slot_of}
 use Rattle.cilk_agree.specs.frame.declared.awaited.Await.{Await}
 use Rattle.cilk_agree.specs.frame.Frames.{depth, top_of, left}
-use Rattle.cilk_agree.specs.stands.Stands.{StandsFor, AwaitsSame, AwaitsAt, bodies_of}
-use Rattle.cilk_agree.specs.stands.Reads.{Seen, seen_by}
-use Rattle.cilk_agree.proofs.stands_laws.Tops.{depth-is}
-use Rattle.cilk_agree.proofs.stands_laws.Steps.{awaits-same, return-stands, lent-seen}
-use Rattle.cilk_agree.proofs.stands_laws.Values.{cell-same}
+use Rattle.cilk_agree.specs.frame.Stands.{StandsFor, AwaitsSame, AwaitsAt, bodies_of}
+use Rattle.cilk_agree.specs.frame.Reads.{Seen, seen_by}
+use Rattle.cilk_agree.proofs.frame_laws.Tops.{depth-is}
+use Rattle.cilk_agree.proofs.frame_laws.Steps.{awaits-same, return-stands, lent-seen}
+use Rattle.cilk_agree.proofs.frame_laws.Values.{cell-same}
 use Rattle.cilk_agree.specs.spawn.Nodes.{has_live_child, is_synched}
 use Rattle.cilk_agree.specs.Laws.{Turn, path_of, instance_of}
 use Rattle.cilk_agree.specs.Asked.{Asked}
@@ -49,8 +49,8 @@ sight-seen t asked f i s own waiting =
     let o = t.agrees.outside in
     let same : is_synched t.machine.nodes f.id ≡ state.is_synched t.at.state (path_of t) i =
     ap (is_synched t.machine.nodes) own ∙ sym asked.synched ∙ ap (λ ws. not (state.has_live_child t.at.state.instances (path_of t)) && is_empty ws) (sym waiting) in
-    subst (λ zs. Seen (label t.program) i.top.body (Rattle.cilk_agree.specs.stands.Reads.lent f zs (is_synched t.machine.nodes f.id)) (store_of t.at.state (path_of t) i)) (sym o.cells)
-    (subst (λ y. Seen (label t.program) i.top.body (Rattle.cilk_agree.specs.stands.Reads.lent f (Rattle.cilk_agree.specs.nodes.Slots.flat t.at.state.globals) y) (store_of t.at.state (path_of t) i)) (sym same)
+    subst (λ zs. Seen (label t.program) i.top.body (Rattle.cilk_agree.specs.frame.Reads.lent f zs (is_synched t.machine.nodes f.id)) (store_of t.at.state (path_of t) i)) (sym o.cells)
+    (subst (λ y. Seen (label t.program) i.top.body (Rattle.cilk_agree.specs.frame.Reads.lent f (Rattle.cilk_agree.specs.nodes.Slots.flat t.at.state.globals) y) (store_of t.at.state (path_of t) i)) (sym same)
     (lent-seen (label t.program) f i t.at.state.globals (state.is_synched t.at.state (path_of t) i) s o.sizes))
 
 module _ (t : Turn) (asked : Asked t) (m : ℕ) where
@@ -107,7 +107,7 @@ module _ (t : Turn) (asked : Asked t) (m : ℕ) where
     where
       function-is : is_function_body (body_of t.program node.body) ≡ leaves_function program i
       function-is = ap (λ c. is_function_body (body_of t.program c)) body
-          ∙ ap is_function_body (bodies-have t.program i.top.body (Rattle.cilk_agree.proofs.stands_laws.Tops.top-stands program t.frame i stands).acts.is_there)
+          ∙ ap is_function_body (bodies-have t.program i.top.body (Rattle.cilk_agree.proofs.frame_laws.Tops.top-stands program t.frame i stands).acts.is_there)
 
       inner : Bool → Rattle.cilk_plans.specs.declared.plan.Plan.Plan
       inner function = if function then answered g m z (top_of t.frame).awaits else plan.Leave m

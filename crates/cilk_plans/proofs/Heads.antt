@@ -6,7 +6,7 @@ use Rattle.cilk_agree.specs.syntax.Tree.{Program}
 use Rattle.cilk_agree.specs.labelled.Labelled.{Labelled, Numbered}
 use Rattle.cilk_agree.specs.labelled.Items.{Items, opened, next, head_of, reached}
 use Rattle.cilk_agree.specs.labelled.Bodies.{label}
-use Rattle.cilk_effects.specs.heads.Heads.{GoesOn}
+use Rattle.cilk_effects.specs.sound.Heads.{GoesOn}
 use Rattle.cilk_agree.specs.model.Instance.{Instance, body_at}
 use Rattle.cilk_agree.specs.nodes.declared.node.Node.{Node}
 use Rattle.cilk_agree.specs.nodes.Actions.{slotted}
@@ -15,8 +15,8 @@ use Rattle.cilk_agree.specs.nodes.Table.{number_of, number_after, node_over, nod
 use Rattle.cilk_agree.specs.nodes.Laws.{Reached}
 use Rattle.cilk_agree.proofs.nodes_laws.Heads.{nodes-stand}
 use Rattle.cilk_agree.specs.frame.Frames.{top_of}
-use Rattle.cilk_agree.specs.stands.Stands.{StandsFor}
-use Rattle.cilk_agree.proofs.stands_laws.Tops.{Stands, top-stands}
+use Rattle.cilk_agree.specs.frame.Stands.{StandsFor}
+use Rattle.cilk_agree.proofs.frame_laws.Tops.{Stands, top-stands}
 use Rattle.cilk_effects.specs.sound.Known.{KnownAct}
 use Rattle.cilk_agree.specs.Laws.{Turn, instance_of}
 use Rattle.cilk_agree.specs.Actions.{IsNext}

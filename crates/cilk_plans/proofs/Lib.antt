@@ -7,9 +7,10 @@ pub mod Planned
 mod Callees
 pub use Rattle.cilk_agree.proofs as agree_laws
 pub use Rattle.cilk_effects.proofs as effects_laws
+pub use Rattle.cilk_agree.proofs.fates_laws
+pub use Rattle.cilk_agree.proofs.frame_laws
 pub use Rattle.cilk_agree.proofs.nodes_laws
 pub use Rattle.cilk_agree.proofs.placed_laws
 pub use Rattle.cilk_agree.proofs.sched_laws
 pub use Rattle.cilk_effects.proofs.sound_laws
 pub use Rattle.cilk_agree.proofs.spawn_laws
-pub use Rattle.cilk_agree.proofs.stands_laws

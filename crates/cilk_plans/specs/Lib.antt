@@ -15,5 +15,4 @@ pub use Rattle.cilk_agree.specs.sched
 pub use Rattle.cilk_agree.specs.seen
 pub use Rattle.cilk_effects.specs.sound
 pub use Rattle.cilk_agree.specs.spawn
-pub use Rattle.cilk_agree.specs.stands
 pub use Rattle.cilk_agree.specs.syntax

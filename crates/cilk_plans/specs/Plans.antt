@@ -16,9 +16,9 @@ use Rattle.cilk_agree.specs.nodes.Slots.{is_inlet, procedure_around}
 use Rattle.cilk_agree.specs.nodes.Bodies.{body_of}
 use Rattle.cilk_agree.specs.frame.declared.awaited.Await.{Await}
 use Rattle.cilk_agree.specs.frame.Frames.{depth}
-use Rattle.cilk_agree.specs.stands.Starts.{Takes}
-use Rattle.cilk_agree.specs.stands.Cells.{SameCell}
-use Rattle.cilk_agree.specs.stands.Stands.{AwaitsSame, bodies_of}
+use Rattle.cilk_agree.specs.frame.Begins.{Takes}
+use Rattle.cilk_agree.specs.frame.Cells.{SameCell}
+use Rattle.cilk_agree.specs.frame.Stands.{AwaitsSame, bodies_of}
 use Rattle.cilk_agree.specs.spawn.declared.receiver.Receiver.{Receiver}
 use Rattle.cilk_agree.specs.spawn.Nodes.{has_live_child, path_at}
 use Rattle.cilk_effects.specs.declared.reached.Reached as code

@@ -4,7 +4,7 @@ use Rattle.std.specs.List.{list_any}
 use Rattle.cilk_agree.specs.syntax.Tree.{Program}
 use Rattle.cilk_agree.specs.eval.Slots.{Cells}
 use Rattle.cilk_agree.specs.frame.Frames.{Frame, depth, top_of}
-use Rattle.cilk_agree.specs.stands.Reads.{lent}
+use Rattle.cilk_agree.specs.frame.Reads.{lent}
 use Rattle.cilk_agree.specs.spawn.Nodes.{Node, node_at, is_synched}
 use Rattle.cilk_agree.specs.declared.lock.Lock.{Lock}
 use Rattle.cilk_agree.specs.Locks.{is_held_by}

@@ -59,12 +59,39 @@ pub fn named(cursor: &mut Cursor) -> Result<Stmt, ReadError>
 {
     let name = plain_name(cursor)?;
     if cursor.is_mark(Mark::OpenParenthesis) {
-        let call = called(cursor)?;
-        cursor.mark(Mark::Semicolon)?;
+        let call = match called(cursor) {
+            Ok(call) => call,
+            Err(e) => {
+                drop(name);
+                return Err(e);
+            }
+        };
+        if let Err(e) = cursor.mark(Mark::Semicolon) {
+            drop(name);
+            drop(call);
+            return Err(e);
+        }
         return Ok(call.by(name));
     }
-    let index = index(cursor)?;
-    let write = written(cursor)?;
-    cursor.mark(Mark::Semicolon)?;
-    Ok(write.to(Place { name, index }))
+    let index = match index(cursor) {
+        Ok(index) => index,
+        Err(e) => {
+            drop(name);
+            return Err(e);
+        }
+    };
+    let place = Place { name, index };
+    let write = match written(cursor) {
+        Ok(write) => write,
+        Err(e) => {
+            drop(place);
+            return Err(e);
+        }
+    };
+    if let Err(e) = cursor.mark(Mark::Semicolon) {
+        drop(place);
+        drop(write);
+        return Err(e);
+    }
+    Ok(write.to(place))
 }

@@ -19,7 +19,10 @@ pub fn adjusting(cursor: &mut Cursor) -> Result<Stmt, ReadError>
     ensures { Gives (λ s. (s, cursor.new.pieces)) result (read_by adjusting cursor.old.pieces) }
 {
     let what = adjusted(cursor)?;
-    cursor.mark(Mark::Semicolon)?;
+    if let Err(e) = cursor.mark(Mark::Semicolon) {
+        drop(what);
+        return Err(e);
+    }
     Ok(Stmt {
         node: StmtNode::Move(what),
     })
@@ -132,12 +135,15 @@ pub fn returning(cursor: &mut Cursor) -> Result<Stmt, ReadError>
     ensures { Gives (λ s. (s, cursor.new.pieces)) result (read_by returning cursor.old.pieces) }
 {
     let at = place_of(cursor, Keyword::Return)?;
-    let mut value = None;
-    if cursor.begins_expression() {
-        value = Some(expression(cursor)?);
+    if !cursor.begins_expression() {
+        cursor.mark(Mark::Semicolon)?;
+        return Ok(Stmt {
+            node: StmtNode::Return(at, None),
+        });
     }
+    let value = expression(cursor)?;
     cursor.mark(Mark::Semicolon)?;
     Ok(Stmt {
-        node: StmtNode::Return(at, value),
+        node: StmtNode::Return(at, Some(value)),
     })
 }

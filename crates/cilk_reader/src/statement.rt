@@ -81,9 +81,28 @@ fn for_loop(cursor: &mut Cursor, depth: u32) -> Result<Stmt, ReadError>
     cursor.keyword(Keyword::For)?;
     cursor.mark(Mark::OpenParenthesis)?;
     let first = move_before(cursor, Mark::Semicolon)?;
-    let test = loop_test(cursor)?;
-    let advance = move_before(cursor, Mark::CloseParenthesis)?;
-    let body = body(cursor, depth)?;
+    let test = match loop_test(cursor) {
+        Ok(test) => test,
+        Err(e) => {
+            drop(first);
+            return Err(e);
+        }
+    };
+    let advance = match move_before(cursor, Mark::CloseParenthesis) {
+        Ok(advance) => advance,
+        Err(e) => {
+            drop(first);
+            return Err(e);
+        }
+    };
+    let body = match body(cursor, depth) {
+        Ok(body) => body,
+        Err(e) => {
+            drop(first);
+            drop(advance);
+            return Err(e);
+        }
+    };
     Ok(Stmt {
         node: StmtNode::For(first, test, advance, body),
     })

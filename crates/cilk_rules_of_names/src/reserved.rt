@@ -1,8 +1,16 @@
 ghost use Rattle.std.specs.Prelude.{◌≡◌};
-ghost use Rattle.cilk_rules_of_names.specs.Finds.{is_reserved};
+ghost use Rattle.cilk_rules_of_names.specs.Finds.{is_one_of, is_reserved};
+ghost use Rattle.cilk_rules_of_names.specs.Reserved.{c_keywords, library_names};
 
 pub(crate) fn is_reserved(name: &str) -> bool
     ensures { result ≡ is_reserved name.now }
+{
+    is_keyword_of_c(name) || is_library_name(name)
+}
+
+// A keyword of C that is no word of the language (C 1990, 6.1.1).
+fn is_keyword_of_c(name: &str) -> bool
+    ensures { result ≡ is_one_of c_keywords name.now }
 {
     match name {
         "auto"
@@ -26,8 +34,17 @@ pub(crate) fn is_reserved(name: &str) -> bool
         | "typedef"
         | "union"
         | "unsigned"
-        | "volatile"
-        | "private"
+        | "volatile" => true,
+        _ => false,
+    }
+}
+
+// A name with a meaning of its own in Cilk.
+fn is_library_name(name: &str) -> bool
+    ensures { result ≡ is_one_of library_names name.now }
+{
+    match name {
+        "private"
         | "shared"
         | "Self"
         | "Cilk_alloca"

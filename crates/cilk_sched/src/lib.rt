@@ -53,7 +53,7 @@ mod hands;
 mod laws;
 mod place;
 
-pub use cilk_frame::{Body, Memory, Var};
+pub use cilk_frame::{Area, Body, Memory, Var};
 pub use hands::Hands;
 pub use laws::{
     each_frame_is_counted, moves_are_counted, names_are_read, names_go_along,

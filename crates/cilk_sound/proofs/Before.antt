@@ -1,24 +1,24 @@
 -- What the instance of a frame has before it.
 use Rattle.std.proofs.Common.{◌≡◌, ℕ, ◌<◌, ℤ, Bool, true, false, List, ◌∷◌, length, Option, Some, None, IsSome, refl, sym, ap, ◌∙◌, subst}
 use Rattle.std.specs.Prelude.{option_map}
-use Rattle.cilk_heads.specs.syntax.Tree.{Program}
-use Rattle.cilk_stands.specs.check.Fault.{WellFormed}
-use Rattle.cilk_heads.specs.labelled.Labelled.{Numbered}
-use Rattle.cilk_heads.specs.labelled.Items.{Items, head_of, reached}
-use Rattle.cilk_heads.specs.labelled.Bodies.{label}
-use Rattle.cilk_stands.specs.model.Instance.{Instance, body_at}
-use Rattle.cilk_heads.specs.Heads.{GoesOn}
-use Rattle.cilk_stands.specs.nodes.Slots.{slot_of}
-use Rattle.cilk_stands.specs.nodes.Actions.{slotted}
-use Rattle.cilk_stands.specs.nodes.declared.node.Node.{Node}
-use Rattle.cilk_stands.specs.nodes.Table.{number_of, number_after, node_of}
-use Rattle.cilk_stands.specs.nodes.Bodies.{body_of}
-use Rattle.cilk_stands.specs.nodes.Laws.{items_at}
-use Rattle.cilk_stands.proofs.nodes_laws.Heads.{nodes-stand, bodies-have}
-use Rattle.cilk_stands.specs.frame.Frames.{Frame, top_of}
-use Rattle.cilk_stands.specs.Stands.{StandsFor}
-use Rattle.cilk_stands.specs.Starts.{Takes}
-use Rattle.cilk_stands.proofs.Tops.{top-stands}
+use Rattle.cilk_frame.specs.syntax.Tree.{Program}
+use Rattle.cilk_frame.specs.check.Fault.{WellFormed}
+use Rattle.cilk_frame.specs.labelled.Labelled.{Numbered}
+use Rattle.cilk_frame.specs.labelled.Items.{Items, head_of, reached}
+use Rattle.cilk_frame.specs.labelled.Bodies.{label}
+use Rattle.cilk_frame.specs.model.Instance.{Instance, body_at}
+use Rattle.cilk_sound.specs.Heads.{GoesOn}
+use Rattle.cilk_frame.specs.nodes.Slots.{slot_of}
+use Rattle.cilk_frame.specs.nodes.Actions.{slotted}
+use Rattle.cilk_frame.specs.nodes.declared.node.Node.{Node}
+use Rattle.cilk_frame.specs.nodes.Table.{number_of, number_after, node_of}
+use Rattle.cilk_frame.specs.nodes.Bodies.{body_of}
+use Rattle.cilk_frame.specs.nodes.Laws.{items_at}
+use Rattle.cilk_frame.proofs.nodes_laws.Heads.{nodes-stand, bodies-have}
+use Rattle.cilk_frame.specs.Frames.{Frame, top_of}
+use Rattle.cilk_frame.specs.Stands.{StandsFor}
+use Rattle.cilk_frame.specs.Begins.{Takes}
+use Rattle.cilk_frame.proofs.Tops.{top-stands}
 use Rattle.cilk_sound.specs.Known.{KnownAct}
 use Rattle.cilk_sound.specs.Before.{Before}
 use Rattle.cilk_sound.proofs.Known.{heads, follows}

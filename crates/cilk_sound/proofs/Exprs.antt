@@ -3,19 +3,19 @@ use Rattle.std.proofs.Common.{◌≡◌, ℕ, suc, ◌+◌, IsTrue, List, [], �
 use Rattle.std.specs.Prelude.{All}
 use Rattle.std.proofs.lemmas.List.{length-map}
 use Rattle.std.proofs.lemmas.List.Elements.{All-nil, All-cons}
-use Rattle.cilk_heads.specs.syntax.Tree.{Word}
-use Rattle.cilk_heads.specs.syntax.Tree as tree
-use Rattle.cilk_heads.specs.scopes.Parts.{place_exprs, target_exprs, move_exprs, taker_exprs}
-use Rattle.cilk_heads.proofs.scopes_laws.Elements.{Has, Has-append_left, Has-append_right}
-use Rattle.cilk_stands.specs.rules_of_names.declared.role.Role.TheVariants as role
-use Rattle.cilk_stands.specs.rules_of_names.Uses.{Use, use_as, expr_uses, place_role, place_uses, target_uses, move_uses, taker_uses, takes_value}
-use Rattle.cilk_heads.specs.labelled.Labelled as labelled
-use Rattle.cilk_heads.specs.labelled.Labelled.{Labelled}
-use Rattle.cilk_heads.specs.labelled.Names.{Names, meaning_of, number_of, label_expr, label_index, label_place, label_target}
-use Rattle.cilk_heads.specs.labelled.Label.{label_move, label_taker}
-use Rattle.cilk_heads.specs.labelled.Bodies.{is_procedure}
+use Rattle.cilk_frame.specs.syntax.Tree.{Word}
+use Rattle.cilk_frame.specs.syntax.Tree as tree
+use Rattle.cilk_frame.specs.scopes.Parts.{place_exprs, target_exprs, move_exprs, taker_exprs}
+use Rattle.cilk_frame.proofs.scopes_laws.Elements.{Has, Has-append_left, Has-append_right}
+use Rattle.cilk_frame.specs.rules_of_names.declared.role.Role.TheVariants as role
+use Rattle.cilk_frame.specs.rules_of_names.Uses.{Use, use_as, expr_uses, place_role, place_uses, target_uses, move_uses, taker_uses, takes_value}
+use Rattle.cilk_frame.specs.labelled.Labelled as labelled
+use Rattle.cilk_frame.specs.labelled.Labelled.{Labelled}
+use Rattle.cilk_frame.specs.labelled.Names.{Names, meaning_of, number_of, label_expr, label_index, label_place, label_target}
+use Rattle.cilk_frame.specs.labelled.Label.{label_move, label_taker}
+use Rattle.cilk_frame.specs.labelled.Bodies.{is_procedure}
 use Rattle.cilk_sound.specs.Known as known
-use Rattle.cilk_stands.specs.Reads.{IsKnown}
+use Rattle.cilk_frame.specs.Reads.{IsKnown}
 use Rattle.cilk_sound.specs.Known.{owner_of, KnownTarget, KnownPlace, Calls, Spawns, KnownTaker, KnownAct}
 use Rattle.cilk_sound.proofs.Facts.{Sound}
 use Rattle.cilk_sound.proofs.Meant.{FitNames, use_serves}

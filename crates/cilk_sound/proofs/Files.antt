@@ -2,21 +2,21 @@
 use Rattle.std.proofs.Common.{◌≡◌, ℕ, suc, ◌+◌, ◌<◌, ◌≤◌, pos, IsTrue, true, false, List, [], ◌∷◌, ◌++◌, length, inl, inr, refl, sym, ap, subst, arith, length-append}
 use Rattle.std.proofs.lemmas.Bool.{cases_lt}
 use Rattle.std.proofs.lemmas.List.{length-map}
-use Rattle.cilk_heads.specs.syntax.Tree.{Word}
-use Rattle.cilk_heads.specs.syntax.Tree as tree
-use Rattle.cilk_heads.specs.scopes.declared.owner.Owner.{Owner}
-use Rattle.cilk_heads.specs.scopes.Scopes.{parameter, declare_all, enter, parameters_declare, parameter_count, file_scopes}
-use Rattle.cilk_heads.specs.scopes.Parts.{Around, owner_of, block_parts, locals_parts, stmts_parts, after_locals, item_parts}
-use Rattle.cilk_heads.proofs.scopes_laws.Elements.{Has, Has-flat_map}
-use Rattle.cilk_stands.specs.check.Fault.{WellFormed}
-use Rattle.cilk_heads.specs.labelled.Labelled as labelled
-use Rattle.cilk_heads.specs.labelled.Labelled.{Labelled, Body, Variable}
-use Rattle.cilk_heads.specs.labelled.Names.{Names, with_words, with_name, with_parameters, with_local, local_count, entered}
-use Rattle.cilk_heads.specs.labelled.Count.{count_local, count_item}
-use Rattle.cilk_heads.specs.labelled.Label.{locals_variables, stmts_variables, block_variables}
-use Rattle.cilk_heads.specs.labelled.Bodies.{is_procedure, one_cell, parameter_variables, label_body, inlet_bodies, block_locals, procedure_names, inlet_count, body_count, item_bodies, items_bodies, file_names, bodies_of}
-use Rattle.cilk_stands.specs.model.Instance.{body_at, no_body}
-use Rattle.cilk_heads.specs.Heads.{EachOf}
+use Rattle.cilk_frame.specs.syntax.Tree.{Word}
+use Rattle.cilk_frame.specs.syntax.Tree as tree
+use Rattle.cilk_frame.specs.scopes.declared.owner.Owner.{Owner}
+use Rattle.cilk_frame.specs.scopes.Scopes.{parameter, declare_all, enter, parameters_declare, parameter_count, file_scopes}
+use Rattle.cilk_frame.specs.scopes.Parts.{Around, owner_of, block_parts, locals_parts, stmts_parts, after_locals, item_parts}
+use Rattle.cilk_frame.proofs.scopes_laws.Elements.{Has, Has-flat_map}
+use Rattle.cilk_frame.specs.check.Fault.{WellFormed}
+use Rattle.cilk_frame.specs.labelled.Labelled as labelled
+use Rattle.cilk_frame.specs.labelled.Labelled.{Labelled, Body, Variable}
+use Rattle.cilk_frame.specs.labelled.Names.{Names, with_words, with_name, with_parameters, with_local, local_count, entered}
+use Rattle.cilk_frame.specs.labelled.Count.{count_local, count_item}
+use Rattle.cilk_frame.specs.labelled.Label.{locals_variables, stmts_variables, block_variables}
+use Rattle.cilk_frame.specs.labelled.Bodies.{is_procedure, one_cell, parameter_variables, label_body, inlet_bodies, block_locals, procedure_names, inlet_count, body_count, item_bodies, items_bodies, file_names, bodies_of}
+use Rattle.cilk_frame.specs.model.Instance.{body_at, no_body}
+use Rattle.cilk_sound.specs.Heads.{EachOf}
 use Rattle.cilk_sound.specs.Known as known
 use Rattle.cilk_sound.proofs.Lists.{get_is, StandAt, stand_all, stand_left, stand_right, stand_behind, stand_first, stand_others}
 use Rattle.cilk_sound.proofs.Meant.{FitNames, parameters_fit}

@@ -1,23 +1,23 @@
 -- The bodies of the inlets of a procedure.
 use Rattle.std.proofs.Common.{◌≡◌, ℕ, suc, ◌+◌, ◌<◌, ◌≤◌, pos, true, false, IsTrue, List, [], ◌∷◌, ◌++◌, map, length, inl, inr, refl, sym, ap, subst, ◌∙◌, arith}
 use Rattle.std.proofs.lemmas.Bool.{cases_lt}
-use Rattle.cilk_heads.specs.syntax.Tree.{Word}
-use Rattle.cilk_heads.specs.syntax.Tree as tree
-use Rattle.cilk_heads.specs.scopes.declared.owner.Owner.{Owner}
-use Rattle.cilk_heads.specs.scopes.declared.owner.Owner.TheVariants as owner
-use Rattle.cilk_heads.specs.scopes.Scopes.{Scopes, parameter, declare_all, parameters_declare}
-use Rattle.cilk_heads.specs.scopes.Within.{whole_body}
-use Rattle.cilk_heads.specs.scopes.Parts.{block_parts, within_local}
-use Rattle.cilk_heads.proofs.scopes_laws.Elements.{Has-append_left}
-use Rattle.cilk_stands.specs.check.Fault.{WellFormed}
-use Rattle.cilk_heads.specs.labelled.Labelled as labelled
-use Rattle.cilk_heads.specs.labelled.Labelled.{Labelled, Body, Variable}
-use Rattle.cilk_heads.specs.labelled.Names.{Names, with_words, with_name, with_parameters, with_local, local_count, in_inlet}
-use Rattle.cilk_heads.specs.labelled.Count.{count_local}
-use Rattle.cilk_heads.specs.labelled.Label.{block_variables}
-use Rattle.cilk_heads.specs.labelled.Bodies.{is_procedure, one_cell, inlet_count}
-use Rattle.cilk_stands.specs.model.Instance.{body_at}
-use Rattle.cilk_heads.specs.Heads.{EachOf}
+use Rattle.cilk_frame.specs.syntax.Tree.{Word}
+use Rattle.cilk_frame.specs.syntax.Tree as tree
+use Rattle.cilk_frame.specs.scopes.declared.owner.Owner.{Owner}
+use Rattle.cilk_frame.specs.scopes.declared.owner.Owner.TheVariants as owner
+use Rattle.cilk_frame.specs.scopes.Scopes.{Scopes, parameter, declare_all, parameters_declare}
+use Rattle.cilk_frame.specs.scopes.Within.{whole_body}
+use Rattle.cilk_frame.specs.scopes.Parts.{block_parts, within_local}
+use Rattle.cilk_frame.proofs.scopes_laws.Elements.{Has-append_left}
+use Rattle.cilk_frame.specs.check.Fault.{WellFormed}
+use Rattle.cilk_frame.specs.labelled.Labelled as labelled
+use Rattle.cilk_frame.specs.labelled.Labelled.{Labelled, Body, Variable}
+use Rattle.cilk_frame.specs.labelled.Names.{Names, with_words, with_name, with_parameters, with_local, local_count, in_inlet}
+use Rattle.cilk_frame.specs.labelled.Count.{count_local}
+use Rattle.cilk_frame.specs.labelled.Label.{block_variables}
+use Rattle.cilk_frame.specs.labelled.Bodies.{is_procedure, one_cell, inlet_count}
+use Rattle.cilk_frame.specs.model.Instance.{body_at}
+use Rattle.cilk_sound.specs.Heads.{EachOf}
 use Rattle.cilk_sound.specs.Known.{owner_of}
 use Rattle.cilk_sound.proofs.Lists.{StandAt, stand_all, stand_left, stand_right}
 use Rattle.cilk_sound.proofs.Meant.{words_fit, outward_fits, visible}

@@ -1,16 +1,16 @@
 -- Each action of a well-formed program is known.
 use Rattle.std.proofs.Common.{◌≡◌, ℕ, ◌<◌, Bool, true, false, ◌&&◌, List, [], ◌∷◌, length, Some, IsSome, IsNone, codes, slice_get, bytes_eq, refl, sym, subst, append-nil}
 use Rattle.std.proofs.lemmas.Slice.Eq.{bytes_eq-Decides}
-use Rattle.cilk_heads.specs.syntax.Tree as tree
-use Rattle.cilk_heads.specs.scopes.Scopes.{file_declares}
-use Rattle.cilk_stands.specs.check.Fault.{WellFormed}
-use Rattle.cilk_heads.specs.labelled.Labelled.{Labelled, Body, Numbered, Action}
-use Rattle.cilk_heads.specs.labelled.Items.{head_of, reached}
-use Rattle.cilk_heads.specs.labelled.Bodies.{label, bodies_of, file_names, is_start, is_procedure}
-use Rattle.cilk_stands.specs.model.Instance.{body_at}
-use Rattle.cilk_heads.specs.Heads.{MayStand, EachOf, LeavesInLoops, GoesOn}
-use Rattle.cilk_heads.proofs.Items.{reached_each, head_each, each_map}
-use Rattle.cilk_heads.proofs.Heads.{in_any, starts, goes_on, ends}
+use Rattle.cilk_frame.specs.syntax.Tree as tree
+use Rattle.cilk_frame.specs.scopes.Scopes.{file_declares}
+use Rattle.cilk_frame.specs.check.Fault.{WellFormed}
+use Rattle.cilk_frame.specs.labelled.Labelled.{Labelled, Body, Numbered, Action}
+use Rattle.cilk_frame.specs.labelled.Items.{head_of, reached}
+use Rattle.cilk_frame.specs.labelled.Bodies.{label, bodies_of, file_names, is_start, is_procedure}
+use Rattle.cilk_frame.specs.model.Instance.{body_at}
+use Rattle.cilk_sound.specs.Heads.{MayStand, EachOf, LeavesInLoops, GoesOn}
+use Rattle.cilk_sound.proofs.Items.{reached_each, head_each, each_map}
+use Rattle.cilk_sound.proofs.Heads.{in_any, starts, goes_on, ends}
 use Rattle.cilk_sound.specs.Known.{KnownAct}
 use Rattle.cilk_sound.proofs.Lists.{stand_all, position_passes, Fit}
 use Rattle.cilk_sound.proofs.Facts.{global_in_range}

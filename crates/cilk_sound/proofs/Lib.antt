@@ -14,4 +14,6 @@ pub mod Room
 pub mod Start
 pub mod Reached
 pub mod Before
-pub use Rattle.cilk_stands.proofs as stands_laws
+pub mod Items
+pub mod Heads
+pub use Rattle.cilk_frame.proofs as frame_laws

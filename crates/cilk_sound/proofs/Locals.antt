@@ -2,24 +2,24 @@
 use Rattle.std.proofs.Common.{◌≡◌, ℕ, ◌+◌, ◌<◌, ◌≤◌, pos, Bool, IsTrue, ◌⊎◌, List, [], ◌++◌, map, length, Some, None, inl, inr, refl, sym, ap, subst, ◌∙◌, arith}
 use Rattle.std.proofs.lemmas.List.{length-map}
 use Rattle.std.proofs.lemmas.Bool.{cases_lt}
-use Rattle.cilk_heads.specs.syntax.Tree.{Word}
-use Rattle.cilk_heads.specs.syntax.Tree as tree
-use Rattle.cilk_heads.specs.scopes.declared.owner.Owner.{Owner}
-use Rattle.cilk_heads.specs.scopes.declared.owner.Owner.TheVariants as owner
-use Rattle.cilk_heads.specs.scopes.Scopes.{local_declares, kind_of_shape}
-use Rattle.cilk_heads.specs.scopes.Parts.{local, Standing, parts_of, after_local, after_locals, locals_parts, within_local}
-use Rattle.cilk_heads.proofs.scopes_laws.Elements.{Has, Has-append_left, Has-append_right}
-use Rattle.cilk_stands.specs.check.Fault.{WellFormed}
-use Rattle.cilk_heads.specs.labelled.Labelled.{Labelled, Body, Variable, Action, Stmts}
-use Rattle.cilk_heads.specs.labelled.Labelled as labelled
-use Rattle.cilk_heads.specs.labelled.Names.{Names, with_words, with_local, local_count, in_inlet}
-use Rattle.cilk_heads.specs.labelled.Count.{count_local}
-use Rattle.cilk_heads.specs.labelled.Label.{local_variables, locals_variables, label_initialiser, label_locals, names_behind}
-use Rattle.cilk_heads.specs.labelled.Bodies.{is_procedure, one_cell, label_body, inlet_bodies}
-use Rattle.cilk_stands.specs.model.Instance.{body_at, no_body}
-use Rattle.cilk_heads.specs.Heads.{MayStand, EachOf}
-use Rattle.cilk_stands.specs.Cells.{no_variable}
-use Rattle.cilk_stands.specs.Reads.{IsVariable}
+use Rattle.cilk_frame.specs.syntax.Tree.{Word}
+use Rattle.cilk_frame.specs.syntax.Tree as tree
+use Rattle.cilk_frame.specs.scopes.declared.owner.Owner.{Owner}
+use Rattle.cilk_frame.specs.scopes.declared.owner.Owner.TheVariants as owner
+use Rattle.cilk_frame.specs.scopes.Scopes.{local_declares, kind_of_shape}
+use Rattle.cilk_frame.specs.scopes.Parts.{local, Standing, parts_of, after_local, after_locals, locals_parts, within_local}
+use Rattle.cilk_frame.proofs.scopes_laws.Elements.{Has, Has-append_left, Has-append_right}
+use Rattle.cilk_frame.specs.check.Fault.{WellFormed}
+use Rattle.cilk_frame.specs.labelled.Labelled.{Labelled, Body, Variable, Action, Stmts}
+use Rattle.cilk_frame.specs.labelled.Labelled as labelled
+use Rattle.cilk_frame.specs.labelled.Names.{Names, with_words, with_local, local_count, in_inlet}
+use Rattle.cilk_frame.specs.labelled.Count.{count_local}
+use Rattle.cilk_frame.specs.labelled.Label.{local_variables, locals_variables, label_initialiser, label_locals, names_behind}
+use Rattle.cilk_frame.specs.labelled.Bodies.{is_procedure, one_cell, label_body, inlet_bodies}
+use Rattle.cilk_frame.specs.model.Instance.{body_at, no_body}
+use Rattle.cilk_sound.specs.Heads.{MayStand, EachOf}
+use Rattle.cilk_frame.specs.Cells.{no_variable}
+use Rattle.cilk_frame.specs.Reads.{IsVariable}
 use Rattle.cilk_sound.specs.Known.{owner_of, StandsIn, KnownAct}
 use Rattle.cilk_sound.proofs.Lists.{get_within, get_is, StandAt, stand_left, stand_behind, stand_first, stand_others}
 use Rattle.cilk_sound.proofs.Facts.{local_in_range, inlet_in_procedure}

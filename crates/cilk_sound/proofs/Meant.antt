@@ -2,27 +2,27 @@
 use Rattle.std.proofs.Common.{◌≡◌, ◌≢◌, ℕ, zero, suc, ◌<◌, ℤ, pos, Bool, true, false, IsTrue, inl, inr, if◌then◌else◌, arith, List, [], ◌∷◌, ◌++◌, map, length, get_or, Some, codes, bytes_eq, refl, sym, ap, subst, ◌∙◌}
 use Rattle.std.proofs.lemmas.Bool.{cases_lt}
 use Rattle.std.proofs.lemmas.Slice.Eq.{bytes_eq-Decides}
-use Rattle.cilk_heads.specs.syntax.declared.return_type.ReturnType.{ReturnType}
-use Rattle.cilk_heads.specs.syntax.declared.return_type.ReturnType.TheVariants as returns
-use Rattle.cilk_heads.specs.syntax.Tree.{Word}
-use Rattle.cilk_heads.specs.syntax.Tree as tree
-use Rattle.cilk_heads.specs.scopes.declared.owner.Owner.{Owner}
-use Rattle.cilk_heads.specs.scopes.declared.owner.Owner.TheVariants as owner
-use Rattle.cilk_heads.specs.scopes.declared.kind.Kind.{Kind}
-use Rattle.cilk_heads.specs.scopes.declared.kind.Kind.TheVariants as kind
-use Rattle.cilk_heads.specs.scopes.Scopes.{Declared, Scopes, parameter}
-use Rattle.cilk_stands.specs.rules_of_names.declared.role.Role.{Role}
-use Rattle.cilk_stands.specs.rules_of_names.declared.role.Role.TheVariants as role
-use Rattle.cilk_stands.specs.rules_of_names.Names as rules
-use Rattle.cilk_stands.specs.rules_of_names.Names.{fits, parameters_of}
-use Rattle.cilk_stands.specs.rules_of_names.Uses.{use_as}
-use Rattle.cilk_heads.specs.labelled.Labelled.{Declaration, local, outer, global, of_lock, of_body, unknown, Labelled}
-use Rattle.cilk_heads.specs.labelled.Names.{Names, meaning_at, meaning_of, number_of, with_name, with_words, with_parameters, outward}
-use Rattle.cilk_heads.specs.labelled.Bodies.{is_procedure, one_cell, parameter_variables}
-use Rattle.cilk_stands.specs.model.Instance.{body_at}
-use Rattle.cilk_stands.specs.nodes.Slots.{is_inlet, procedure_around}
-use Rattle.cilk_stands.specs.Cells.{variable_at, own_variables}
-use Rattle.cilk_stands.specs.Reads.{IsVariable, IsArray}
+use Rattle.cilk_frame.specs.syntax.declared.return_type.ReturnType.{ReturnType}
+use Rattle.cilk_frame.specs.syntax.declared.return_type.ReturnType.TheVariants as returns
+use Rattle.cilk_frame.specs.syntax.Tree.{Word}
+use Rattle.cilk_frame.specs.syntax.Tree as tree
+use Rattle.cilk_frame.specs.scopes.declared.owner.Owner.{Owner}
+use Rattle.cilk_frame.specs.scopes.declared.owner.Owner.TheVariants as owner
+use Rattle.cilk_frame.specs.scopes.declared.kind.Kind.{Kind}
+use Rattle.cilk_frame.specs.scopes.declared.kind.Kind.TheVariants as kind
+use Rattle.cilk_frame.specs.scopes.Scopes.{Declared, Scopes, parameter}
+use Rattle.cilk_frame.specs.rules_of_names.declared.role.Role.{Role}
+use Rattle.cilk_frame.specs.rules_of_names.declared.role.Role.TheVariants as role
+use Rattle.cilk_frame.specs.rules_of_names.Names as rules
+use Rattle.cilk_frame.specs.rules_of_names.Names.{fits, parameters_of}
+use Rattle.cilk_frame.specs.rules_of_names.Uses.{use_as}
+use Rattle.cilk_frame.specs.labelled.Labelled.{Declaration, local, outer, global, of_lock, of_body, unknown, Labelled}
+use Rattle.cilk_frame.specs.labelled.Names.{Names, meaning_at, meaning_of, number_of, with_name, with_words, with_parameters, outward}
+use Rattle.cilk_frame.specs.labelled.Bodies.{is_procedure, one_cell, parameter_variables}
+use Rattle.cilk_frame.specs.model.Instance.{body_at}
+use Rattle.cilk_frame.specs.nodes.Slots.{is_inlet, procedure_around}
+use Rattle.cilk_frame.specs.Cells.{variable_at, own_variables}
+use Rattle.cilk_frame.specs.Reads.{IsVariable, IsArray}
 use Rattle.cilk_sound.specs.Known.{owner_of, StandsIn, Accepts, Calls, Spawns, Feeds}
 use Rattle.cilk_sound.proofs.Lists.{get_within, found_at, found_passes, position_first, StandAt, stand_first, stand_others, Fit, fit_at, fit_map}
 use Rattle.cilk_sound.proofs.Facts.{Sound}

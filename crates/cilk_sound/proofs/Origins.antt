@@ -1,19 +1,19 @@
 -- From which definition each body comes.
 use Rattle.std.proofs.Common.{◌≡◌, ℕ, suc, ◌+◌, pos, List, [], ◌∷◌, ◌++◌, map, flat_map, length, inl, inr, refl}
-use Rattle.cilk_heads.specs.syntax.Tree.{Word}
-use Rattle.cilk_heads.specs.syntax.Tree as tree
-use Rattle.cilk_heads.specs.scopes.declared.owner.Owner.{Owner}
-use Rattle.cilk_heads.specs.scopes.declared.owner.Owner.TheVariants.{Inlet}
-use Rattle.cilk_heads.specs.scopes.Scopes.{Declared, parameter, parameters_declare, file_scopes}
-use Rattle.cilk_heads.specs.scopes.Parts.{Around, Standing, local, owner_of, after_local, in_body, block_parts, locals_parts, within_local, stmts_parts, after_locals, item_parts, parts_of}
-use Rattle.cilk_heads.specs.scopes.Parts as standing
-use Rattle.cilk_heads.specs.scopes.Declarations as declarations
-use Rattle.cilk_heads.specs.scopes.Declarations.{item_activations, inlet_activations, activations_of}
-use Rattle.cilk_heads.proofs.scopes_laws.Elements.{Has, Has-append_left, Has-append_right, Has-append_cases, Has-flat_map}
-use Rattle.cilk_heads.specs.labelled.Labelled.{Body, Variable}
-use Rattle.cilk_heads.specs.labelled.Names.{Names, with_words, with_local, local_count, in_inlet}
-use Rattle.cilk_heads.specs.labelled.Count.{count_local, count_item}
-use Rattle.cilk_heads.specs.labelled.Bodies.{one_cell, parameter_variables, label_body, inlet_bodies, block_locals, body_count, procedure_names, item_bodies, items_bodies, bodies_of, file_names}
+use Rattle.cilk_frame.specs.syntax.Tree.{Word}
+use Rattle.cilk_frame.specs.syntax.Tree as tree
+use Rattle.cilk_frame.specs.scopes.declared.owner.Owner.{Owner}
+use Rattle.cilk_frame.specs.scopes.declared.owner.Owner.TheVariants.{Inlet}
+use Rattle.cilk_frame.specs.scopes.Scopes.{Declared, parameter, parameters_declare, file_scopes}
+use Rattle.cilk_frame.specs.scopes.Parts.{Around, Standing, local, owner_of, after_local, in_body, block_parts, locals_parts, within_local, stmts_parts, after_locals, item_parts, parts_of}
+use Rattle.cilk_frame.specs.scopes.Parts as standing
+use Rattle.cilk_frame.specs.scopes.Declarations as declarations
+use Rattle.cilk_frame.specs.scopes.Declarations.{item_activations, inlet_activations, activations_of}
+use Rattle.cilk_frame.proofs.scopes_laws.Elements.{Has, Has-append_left, Has-append_right, Has-append_cases, Has-flat_map}
+use Rattle.cilk_frame.specs.labelled.Labelled.{Body, Variable}
+use Rattle.cilk_frame.specs.labelled.Names.{Names, with_words, with_local, local_count, in_inlet}
+use Rattle.cilk_frame.specs.labelled.Count.{count_local, count_item}
+use Rattle.cilk_frame.specs.labelled.Bodies.{one_cell, parameter_variables, label_body, inlet_bodies, block_locals, body_count, procedure_names, item_bodies, items_bodies, bodies_of, file_names}
 use Rattle.cilk_sound.proofs.Locals.{AllIn}
 
 -- the parameters of a body

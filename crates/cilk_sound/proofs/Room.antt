@@ -1,24 +1,24 @@
 -- The cells of bodies and of the top level are those of what is declared.
 use Rattle.std.proofs.Common.{◌≡◌, ℕ, zero, suc, ◌+◌, ◌<◌, ◌≤◌, max, ℤ, pos, Bool, true, false, List, [], ◌∷◌, ◌++◌, map, flat_map, length, Some, slice_get, inl, inr, refl, sym, ap, subst, ◌∙◌, arith, append_assoc, append-nil, length-append}
 use Rattle.std.proofs.lemmas.Bool.{cases_lt}
-use Rattle.cilk_heads.specs.syntax.declared.return_type.ReturnType.{ReturnType}
-use Rattle.cilk_heads.specs.syntax.Tree.{Word}
-use Rattle.cilk_heads.specs.syntax.Tree as tree
-use Rattle.cilk_heads.specs.scopes.Scopes.{Declared, parameter, local_declares, kind_of_body, kind_of_global, item_declares, file_declares}
-use Rattle.cilk_heads.specs.scopes.Parts.{Around, local, inner, looped, after_local, after_locals, block_parts, locals_parts, within_local, stmts_parts, within_stmt, parts_of}
-use Rattle.cilk_heads.specs.scopes.Declarations as declarations
-use Rattle.cilk_heads.specs.scopes.Declarations.{activations_of}
-use Rattle.cilk_heads.proofs.scopes_laws.Elements.{Has, Has-append_right, Has-append_cases, Contains-from_Has}
-use Rattle.cilk_stands.specs.check.Fault.{WellFormed}
-use Rattle.cilk_stands.specs.rules_of_forms.Cells as rules
-use Rattle.cilk_stands.specs.rules_of_forms.Cells.{cells_of, max_cells, max_global_cells}
-use Rattle.cilk_stands.specs.rules_of_forms.Forms as forms
-use Rattle.cilk_stands.specs.rules_of_forms.Forms.{Passes}
-use Rattle.cilk_heads.specs.labelled.Labelled.{Variable, Body}
-use Rattle.cilk_heads.specs.labelled.Label.{local_variables, locals_variables, stmt_variables, stmts_variables, block_variables}
-use Rattle.cilk_heads.specs.labelled.Bodies.{one_cell, shaped_variable, item_globals, label, bodies_of}
-use Rattle.cilk_stands.specs.model.Instance.{body_at, no_body}
-use Rattle.cilk_stands.specs.nodes.Slots as slots
+use Rattle.cilk_frame.specs.syntax.declared.return_type.ReturnType.{ReturnType}
+use Rattle.cilk_frame.specs.syntax.Tree.{Word}
+use Rattle.cilk_frame.specs.syntax.Tree as tree
+use Rattle.cilk_frame.specs.scopes.Scopes.{Declared, parameter, local_declares, kind_of_body, kind_of_global, item_declares, file_declares}
+use Rattle.cilk_frame.specs.scopes.Parts.{Around, local, inner, looped, after_local, after_locals, block_parts, locals_parts, within_local, stmts_parts, within_stmt, parts_of}
+use Rattle.cilk_frame.specs.scopes.Declarations as declarations
+use Rattle.cilk_frame.specs.scopes.Declarations.{activations_of}
+use Rattle.cilk_frame.proofs.scopes_laws.Elements.{Has, Has-append_right, Has-append_cases, Contains-from_Has}
+use Rattle.cilk_frame.specs.check.Fault.{WellFormed}
+use Rattle.cilk_frame.specs.rules_of_forms.Cells as rules
+use Rattle.cilk_frame.specs.rules_of_forms.Cells.{cells_of, max_cells, max_global_cells}
+use Rattle.cilk_frame.specs.rules_of_forms.Forms as forms
+use Rattle.cilk_frame.specs.rules_of_forms.Forms.{Passes}
+use Rattle.cilk_frame.specs.labelled.Labelled.{Variable, Body}
+use Rattle.cilk_frame.specs.labelled.Label.{local_variables, locals_variables, stmt_variables, stmts_variables, block_variables}
+use Rattle.cilk_frame.specs.labelled.Bodies.{one_cell, shaped_variable, item_globals, label, bodies_of}
+use Rattle.cilk_frame.specs.model.Instance.{body_at, no_body}
+use Rattle.cilk_frame.specs.nodes.Slots as slots
 use Rattle.cilk_sound.specs.Room.{HasRoom, ParametersFirst}
 use Rattle.cilk_sound.proofs.Lists.{get_there}
 use Rattle.cilk_sound.proofs.Facts.{InRange, local_in_range, global_in_range}

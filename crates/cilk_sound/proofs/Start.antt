@@ -3,26 +3,26 @@ use Rattle.std.proofs.Common.{◌≡◌, ℕ, ◌+◌, pos, Bool, true, false, c
 use Rattle.std.specs.List.{list_any}
 use Rattle.std.proofs.lemmas.Bool.{false≢true}
 use Rattle.std.proofs.lemmas.Slice.Eq.{bytes_eq-Decides}
-use Rattle.cilk_heads.specs.syntax.declared.return_type.ReturnType.TheVariants.{Int}
-use Rattle.cilk_heads.specs.syntax.Tree as tree
-use Rattle.cilk_heads.specs.scopes.declared.owner.Owner.TheVariants.{Procedure}
-use Rattle.cilk_heads.specs.scopes.declared.kind.Kind.TheVariants.{Lock}
-use Rattle.cilk_heads.specs.scopes.Scopes.{Declared, declared_in, parameter_count, kind_of_body, kind_of_global, item_declares, file_declares}
-use Rattle.cilk_heads.specs.scopes.Parts.{owner_of}
-use Rattle.cilk_heads.specs.scopes.Declarations.{Declaring, declaring, declarings_of}
-use Rattle.cilk_heads.proofs.scopes_laws.Elements.{Has, Has-append_left, Has-append_right, Has-flat_map, Has-from_Contains, Contains-from_Has}
-use Rattle.cilk_stands.specs.rules_of_names.Names as names
-use Rattle.cilk_stands.specs.rules_of_forms.Forms as forms
-use Rattle.cilk_stands.specs.rules_of_forms.Forms.{IsMain, are_of_main}
-use Rattle.cilk_stands.specs.rules_of_forms.Finds.{starts}
-use Rattle.cilk_stands.proofs.rules_of_forms_laws.Mains.{Started, started, starts_where}
-use Rattle.cilk_stands.specs.check.Fault.{WellFormed}
-use Rattle.cilk_heads.specs.labelled.Labelled.{Body, Variable}
-use Rattle.cilk_heads.specs.labelled.Names.{Names}
-use Rattle.cilk_heads.specs.labelled.Count.{count_item}
-use Rattle.cilk_heads.specs.labelled.Label.{block_variables}
-use Rattle.cilk_heads.specs.labelled.Bodies.{one_cell, parameter_variables, body_count, item_bodies, items_bodies, bodies_of, file_names, is_procedure, is_start, label}
-use Rattle.cilk_stands.specs.model.Instance.{body_at, no_body}
+use Rattle.cilk_frame.specs.syntax.declared.return_type.ReturnType.TheVariants.{Int}
+use Rattle.cilk_frame.specs.syntax.Tree as tree
+use Rattle.cilk_frame.specs.scopes.declared.owner.Owner.TheVariants.{Procedure}
+use Rattle.cilk_frame.specs.scopes.declared.kind.Kind.TheVariants.{Lock}
+use Rattle.cilk_frame.specs.scopes.Scopes.{Declared, declared_in, parameter_count, kind_of_body, kind_of_global, item_declares, file_declares}
+use Rattle.cilk_frame.specs.scopes.Parts.{owner_of}
+use Rattle.cilk_frame.specs.scopes.Declarations.{Declaring, declaring, declarings_of}
+use Rattle.cilk_frame.proofs.scopes_laws.Elements.{Has, Has-append_left, Has-append_right, Has-flat_map, Has-from_Contains, Contains-from_Has}
+use Rattle.cilk_frame.specs.rules_of_names.Names as names
+use Rattle.cilk_frame.specs.rules_of_forms.Forms as forms
+use Rattle.cilk_frame.specs.rules_of_forms.Forms.{IsMain, are_of_main}
+use Rattle.cilk_frame.specs.rules_of_forms.Finds.{starts}
+use Rattle.cilk_frame.proofs.rules_of_forms_laws.Mains.{Started, started, starts_where}
+use Rattle.cilk_frame.specs.check.Fault.{WellFormed}
+use Rattle.cilk_frame.specs.labelled.Labelled.{Body, Variable}
+use Rattle.cilk_frame.specs.labelled.Names.{Names}
+use Rattle.cilk_frame.specs.labelled.Count.{count_item}
+use Rattle.cilk_frame.specs.labelled.Label.{block_variables}
+use Rattle.cilk_frame.specs.labelled.Bodies.{one_cell, parameter_variables, body_count, item_bodies, items_bodies, bodies_of, file_names, is_procedure, is_start, label}
+use Rattle.cilk_frame.specs.model.Instance.{body_at, no_body}
 use Rattle.cilk_sound.specs.Room.{IsTold, StartsWith}
 use Rattle.cilk_sound.proofs.Lists.{get_within, get_is, found_at, found_passes}
 use Rattle.cilk_sound.proofs.Origins.{Source, inlet, definition, Origin, origin}

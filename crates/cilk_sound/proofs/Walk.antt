@@ -1,25 +1,25 @@
 -- The statements of a body of a well-formed program.
 use Rattle.std.proofs.Common.{◌≡◌, ℕ, ◌+◌, Bool, true, false, IsTrue, ◌∷◌, ◌++◌, length, Option, Some, None, option_to_list, inl, inr, refl, sym, ap, subst, ◌∙◌}
 use Rattle.std.proofs.lemmas.List.{length-map}
-use Rattle.cilk_heads.specs.syntax.declared.return_type.ReturnType.{ReturnType}
-use Rattle.cilk_heads.specs.syntax.declared.return_type.ReturnType.TheVariants as returns
-use Rattle.cilk_heads.specs.syntax.Tree as tree
-use Rattle.cilk_heads.specs.scopes.declared.owner.Owner.{Owner}
-use Rattle.cilk_heads.specs.scopes.Parts.{Around, statement, parts_of, moves_exprs, inner, after_locals, block_parts, locals_parts, within_stmt, stmts_parts}
-use Rattle.cilk_heads.proofs.scopes_laws.Elements.{Has, Has-append_left, Has-append_right}
-use Rattle.cilk_stands.specs.check.Fault.{WellFormed}
-use Rattle.cilk_stands.specs.rules_of_names.Uses.{moves_uses}
-use Rattle.cilk_stands.specs.rules_of_names.declared.role.Role.TheVariants as role
-use Rattle.cilk_stands.specs.rules_of_forms.Format.{numbers_in}
-use Rattle.cilk_stands.specs.rules_of_forms.Forms.{returned_by, has_form}
-use Rattle.cilk_heads.specs.labelled.Labelled.{Labelled}
-use Rattle.cilk_heads.specs.labelled.Names.{Names, entered, label_expr}
-use Rattle.cilk_heads.specs.labelled.Count.{count_option, count_stmt, count_locals, count_block}
-use Rattle.cilk_heads.specs.labelled.Label.{locals_variables, stmt_variables, stmts_variables, block_variables, label_move, label_return, label_part, label_stmt, label_stmts, label_block, names_behind}
-use Rattle.cilk_heads.specs.labelled.Bodies.{is_procedure, block_locals}
-use Rattle.cilk_stands.specs.model.Instance.{body_at}
-use Rattle.cilk_heads.specs.Heads.{MayStand, IfThere, EachOfStmt, EachOf}
-use Rattle.cilk_stands.specs.Reads.{IsKnown}
+use Rattle.cilk_frame.specs.syntax.declared.return_type.ReturnType.{ReturnType}
+use Rattle.cilk_frame.specs.syntax.declared.return_type.ReturnType.TheVariants as returns
+use Rattle.cilk_frame.specs.syntax.Tree as tree
+use Rattle.cilk_frame.specs.scopes.declared.owner.Owner.{Owner}
+use Rattle.cilk_frame.specs.scopes.Parts.{Around, statement, parts_of, moves_exprs, inner, after_locals, block_parts, locals_parts, within_stmt, stmts_parts}
+use Rattle.cilk_frame.proofs.scopes_laws.Elements.{Has, Has-append_left, Has-append_right}
+use Rattle.cilk_frame.specs.check.Fault.{WellFormed}
+use Rattle.cilk_frame.specs.rules_of_names.Uses.{moves_uses}
+use Rattle.cilk_frame.specs.rules_of_names.declared.role.Role.TheVariants as role
+use Rattle.cilk_frame.specs.rules_of_forms.Format.{numbers_in}
+use Rattle.cilk_frame.specs.rules_of_forms.Forms.{returned_by, has_form}
+use Rattle.cilk_frame.specs.labelled.Labelled.{Labelled}
+use Rattle.cilk_frame.specs.labelled.Names.{Names, entered, label_expr}
+use Rattle.cilk_frame.specs.labelled.Count.{count_option, count_stmt, count_locals, count_block}
+use Rattle.cilk_frame.specs.labelled.Label.{locals_variables, stmt_variables, stmts_variables, block_variables, label_move, label_return, label_part, label_stmt, label_stmts, label_block, names_behind}
+use Rattle.cilk_frame.specs.labelled.Bodies.{is_procedure, block_locals}
+use Rattle.cilk_frame.specs.model.Instance.{body_at}
+use Rattle.cilk_sound.specs.Heads.{MayStand, IfThere, EachOfStmt, EachOf}
+use Rattle.cilk_frame.specs.Reads.{IsKnown}
 use Rattle.cilk_sound.specs.Known.{owner_of}
 use Rattle.cilk_sound.proofs.Lists.{StandAt, stand_left, stand_right}
 use Rattle.cilk_sound.proofs.Facts.{abort_in_inlet, leaves_a_loop, returns_so, format_counts}

@@ -1,10 +1,10 @@
 -- How much room a program takes, and what it starts with.
 use Rattle.std.specs.Prelude.{◌≡◌, ℕ, ◌<◌, ◌≤◌, pos, ◌⊎◌, List, length, slice_get, codes, Some}
-use Rattle.cilk_heads.specs.syntax.declared.return_type.ReturnType.TheVariants.{Int}
-use Rattle.cilk_heads.specs.scopes.declared.owner.Owner.TheVariants.{Procedure}
-use Rattle.cilk_heads.specs.labelled.Labelled.{Variable, Body, Labelled}
-use Rattle.cilk_stands.specs.model.Instance.{body_at}
-use Rattle.cilk_stands.specs.nodes.Slots.{cells_of}
+use Rattle.cilk_frame.specs.syntax.declared.return_type.ReturnType.TheVariants.{Int}
+use Rattle.cilk_frame.specs.scopes.declared.owner.Owner.TheVariants.{Procedure}
+use Rattle.cilk_frame.specs.labelled.Labelled.{Variable, Body, Labelled}
+use Rattle.cilk_frame.specs.model.Instance.{body_at}
+use Rattle.cilk_frame.specs.nodes.Slots.{cells_of}
 
 -- so many cells at most, and no array of more than 65,536 elements
 pub record HasRoom (most : ℕ) (variables : List Variable) : Type 0 where

@@ -1,25 +1,23 @@
 //! What holds of the bodies of well-formed programs. The functions do nothing: their contracts are the laws.
 
 ghost use Rattle.std.specs.Prelude.{◌≡◌, ◌<◌, ◌∷◌, [], ℕ, ℤ, Bool, false, List, length, IsSome, IsNone, Some, Ok};
-ghost use Rattle.cilk_heads.specs.syntax.Tree.{Program};
-ghost use Rattle.cilk_stands.specs.check.Fault.{WellFormed};
-ghost use Rattle.cilk_heads.specs.labelled.Labelled.{Numbered};
-ghost use Rattle.cilk_heads.specs.labelled.Items.{head_of, reached};
-ghost use Rattle.cilk_heads.specs.labelled.Bodies.{label};
-ghost use Rattle.cilk_heads.specs.Heads.{EachOf, LeavesInLoops, GoesOn};
-ghost use Rattle.cilk_stands.specs.model.Instance.{body_at};
-ghost use Rattle.cilk_stands.specs.rules_of_forms.Cells.{max_cells, max_global_cells};
-ghost use Rattle.cilk_stands.specs.eval.Slots.{Cells};
-ghost use Rattle.cilk_heads.specs.labelled.Labelled.{Labelled, Into};
-ghost use Rattle.cilk_stands.specs.model.Values.{Store, Reached, environment, reached_at};
-ghost use Rattle.cilk_stands.specs.Cells.{HasCell};
-ghost use Rattle.cilk_stands.specs.Reads.{Seen};
-ghost use Rattle.cilk_stands.specs.model.Instance.{Instance};
-ghost use Rattle.cilk_stands.specs.nodes.Bodies.{body_of};
-ghost use Rattle.cilk_stands.specs.nodes.Slots.{procedure_around};
-ghost use Rattle.cilk_stands.specs.frame.Frames.{Frame, top_of};
-ghost use Rattle.cilk_stands.specs.Stands.{StandsFor};
-ghost use Rattle.cilk_stands.specs.Starts.{Takes};
+ghost use Rattle.cilk_frame.specs.syntax.Tree.{Program};
+ghost use Rattle.cilk_frame.specs.check.Fault.{WellFormed};
+ghost use Rattle.cilk_frame.specs.labelled.Labelled.{Numbered, Labelled, Into, Body};
+ghost use Rattle.cilk_frame.specs.labelled.Items.{head_of, reached};
+ghost use Rattle.cilk_frame.specs.labelled.Bodies.{label};
+ghost use Rattle.cilk_sound.specs.Heads.{EachOf, LeavesInLoops, GoesOn};
+ghost use Rattle.cilk_frame.specs.model.Instance.{body_at, Instance};
+ghost use Rattle.cilk_frame.specs.rules_of_forms.Cells.{max_cells, max_global_cells};
+ghost use Rattle.cilk_frame.specs.eval.Slots.{Cells};
+ghost use Rattle.cilk_frame.specs.model.Values.{Store, Reached, environment, reached_at};
+ghost use Rattle.cilk_frame.specs.Cells.{HasCell};
+ghost use Rattle.cilk_frame.specs.Reads.{Seen};
+ghost use Rattle.cilk_frame.specs.nodes.Bodies.{body_of};
+ghost use Rattle.cilk_frame.specs.nodes.Slots.{procedure_around};
+ghost use Rattle.cilk_frame.specs.Frames.{Frame, top_of};
+ghost use Rattle.cilk_frame.specs.Stands.{StandsFor};
+ghost use Rattle.cilk_frame.specs.Begins.{Takes};
 ghost use Rattle.cilk_sound.specs.Before.{Before};
 ghost use Rattle.cilk_sound.specs.Known.{StandsIn, KnownAct, KnownTarget};
 ghost use Rattle.cilk_sound.specs.Room.{HasRoom, ParametersFirst, StartsWith};
@@ -67,4 +65,13 @@ pub fn bodies_have_room()
     ensures parameters { (p : Program) (b : ℕ) → WellFormed p → b < length (label p).bodies → ParametersFirst (body_at (label p) b) }
     ensures globals { (p : Program) → WellFormed p → HasRoom max_global_cells (label p).globals }
     ensures main { (p : Program) → WellFormed p → (b : ℕ) × StartsWith (label p) b }
+{}
+
+/// In a body whose `break` and `continue` stand in loops, the list at its start has a head; behind each head that does
+/// not leave the body another one comes, whatever a test answers; and a list without a head is empty.
+pub fn heads_are_there()
+    ensures starts { (body : Body) → LeavesInLoops body → IsSome (head_of (reached body [])) }
+    ensures goes_on { (body : Body) (answers : List Bool) (answer : Bool) (head : Numbered) → LeavesInLoops body
+        → head_of (reached body answers) ≡ Some head → GoesOn head.act → IsSome (head_of (reached body (answer ∷ answers))) }
+    ensures ends { (body : Body) (answers : List Bool) → LeavesInLoops body → IsNone (head_of (reached body answers)) → reached body answers ≡ [] }
 {}

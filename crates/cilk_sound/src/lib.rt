@@ -3,8 +3,11 @@
 
 mod laws;
 
-pub use cilk_heads::{BinOp, LockAction, Trap};
-pub use cilk_stands::{Action, Area, Await, Code, Place, Slot, Slots, Taker, Target, apply, eval};
+pub use cilk_frame::{
+    Action, Area, Await, BinOp, Code, LockAction, Place, Slot, Slots, Taker, Target, Trap, apply,
+    eval,
+};
 pub use laws::{
-    actions_are_known, bodies_go_on, bodies_have_room, frames_have_actions, reached_cells_are_there,
+    actions_are_known, bodies_go_on, bodies_have_room, frames_have_actions, heads_are_there,
+    reached_cells_are_there,
 };

@@ -3,6 +3,4 @@ pub mod Family
 pub mod Records
 pub mod Kinds
 pub use Rattle.cilk_frame.specs.canonical
-pub use Rattle.cilk_frame.specs.labelled
 pub use Rattle.cilk_frame.specs.model
-pub use Rattle.cilk_frame.specs.syntax

@@ -73,6 +73,8 @@ impl Tree {
         let ordinal = record.children + 1;
         let aborted = record.aborted;
         let place = self.living.len();
+        self.records.reserve(1)?;
+        self.living.reserve(1)?;
         let child = Record::start(
             alloc,
             Some(parent),
@@ -82,8 +84,6 @@ impl Tree {
             receiver,
             place,
         )?;
-        self.records.reserve(1)?;
-        self.living.reserve(1)?;
         self.records[spawner].adopt(ordinal, id)?;
         self.records.push_reserved(child);
         self.living.push_reserved(id);

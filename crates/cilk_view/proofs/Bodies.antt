@@ -20,7 +20,7 @@ use Rattle.cilk_agree.specs.nodes.Bodies.{vars_from, body_table, body_of}
 use Rattle.cilk_agree.specs.nodes.Laws.{Reached, items_at}
 use Rattle.cilk_agree.proofs.nodes_laws.Heads.{nodes-stand, bodies-have}
 use Rattle.cilk_agree.specs.frame.Frames.{Activation, Frame}
-use Rattle.cilk_agree.specs.stands.Stands.{Activates, AllActivate, StandsFor}
+use Rattle.cilk_agree.specs.frame.Stands.{Activates, AllActivate, StandsFor}
 use Rattle.cilk_agree.specs.seen.Texts.{length_text, values_text, line_at}
 use Rattle.cilk_agree.specs.seen.Frames.{variables_text, activation_text, frame_text}
 use Rattle.cilk_view.specs.Turns.{line_number}

@@ -15,7 +15,7 @@ use Rattle.cilk_agree.specs.model.Run.{Standing}
 use Rattle.cilk_agree.specs.placed.Places.{times_held, EachInItsPlace}
 use Rattle.cilk_agree.proofs.placed_laws.Entries.{same-is}
 use Rattle.cilk_agree.specs.frame.Frames.{Frame}
-use Rattle.cilk_agree.specs.stands.Stands.{StandsFor}
+use Rattle.cilk_agree.specs.frame.Stands.{StandsFor}
 use Rattle.cilk_agree.specs.spawn.Nodes as nodes
 use Rattle.cilk_agree.specs.spawn.Nodes.{Node, IsTree, node_at, live_ids, path_at}
 use Rattle.cilk_agree.proofs.spawn_laws.Lists.{decide, those_pass}

@@ -7,3 +7,4 @@ pub mod Told
 pub mod Orders
 pub mod Trees
 pub mod Places
+pub use Rattle.cilk_agree.proofs.fates_laws

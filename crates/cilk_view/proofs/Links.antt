@@ -29,8 +29,8 @@ use Rattle.cilk_agree.specs.model.Instance.{Instance}
 use Rattle.cilk_agree.specs.model.State.{instance_at}
 use Rattle.cilk_agree.specs.model.Run.{Standing}
 use Rattle.cilk_agree.specs.frame.Frames.{top_of}
-use Rattle.cilk_agree.specs.stands.Stands.{StandsFor}
-use Rattle.cilk_agree.proofs.stands_laws.Tops.{top-stands}
+use Rattle.cilk_agree.specs.frame.Stands.{StandsFor}
+use Rattle.cilk_agree.proofs.frame_laws.Tops.{top-stands}
 use Rattle.cilk_agree.specs.spawn.Nodes.{path_at}
 use Rattle.cilk_agree.specs.sched.Count.{AllAt, AllHeld}
 use Rattle.cilk_agree.specs.Agrees.{Machine, Held, Agrees}

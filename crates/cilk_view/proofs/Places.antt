@@ -16,7 +16,7 @@ use Rattle.cilk_agree.specs.model.Run.{Position}
 use Rattle.cilk_agree.specs.placed.Places.{EachInItsPlace}
 use Rattle.cilk_agree.specs.nodes.Bodies.{body_table}
 use Rattle.cilk_agree.specs.frame.Frames.{Frame, top_of}
-use Rattle.cilk_agree.specs.stands.Stands.{lowest_of, bodies_of}
+use Rattle.cilk_agree.specs.frame.Stands.{lowest_of, bodies_of}
 use Rattle.cilk_agree.specs.spawn.declared.delivery.Delivery.{Delivery}
 use Rattle.cilk_agree.specs.spawn.declared.fate.Fate.{Fate}
 use Rattle.cilk_agree.specs.spawn.declared.fate.Fate.TheVariants.{Live, Returned, Delivered, Aborted}

@@ -2,3 +2,4 @@ mod Requests
 mod Refusals
 mod Simple
 mod Rows
+mod Built

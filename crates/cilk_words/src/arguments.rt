@@ -1,6 +1,6 @@
-ghost use Rattle.std.specs.Prelude.{◌≡◌, IfOk, false};
-ghost use Rattle.clap.specs.Words.{FailsBy, app_of, fault_of, rule_of, subcommand_of, subcommand_rows_of};
-ghost use Rattle.cilk_words.specs.CommandLine.{command_line, number_rule, on_explained, on_log, on_run, on_text, texts_of};
+ghost use Rattle.std.specs.Prelude.{◌≡◌, IfOk, IsOkAnd, false};
+ghost use Rattle.clap.specs.Words.{AddsArg, AddsSubcommand, FailsBy, app_of, fault_of, rule_of, subcommand_of, subcommand_rows_of};
+ghost use Rattle.cilk_words.specs.CommandLine.{bare, command_line, limit_rule, number_rule, on_explained, on_log, on_run, on_text, texts_of, workers_rule};
 
 use clap::builder::ValueParser;
 use clap::{Arg, ArgAction, ArgMatches, Command, Error, value_parser};
@@ -56,30 +56,48 @@ pub fn parse<'a>(alloc: Global, words: &'a [String]) -> Result<ArgMatches<'a>, E
 pub fn command<'a>(alloc: Global) -> Result<Command<'a>, AllocError>
     ensures { IfOk result (λ c. app_of c ≡ command_line) }
 {
-    let print = on_explained(alloc, "print", "Prints the canonical text of a program")?;
-    let check = on_explained(alloc, "check", "Says whether a program may be run")?;
-    let run = on_run(alloc)?;
+    let print = on_explained(alloc, "print", "Prints the canonical text of a program");
+    let printing = with(bare(alloc), print)?;
+    let check = on_explained(alloc, "check", "Says whether a program may be run");
+    let checking = with(printing, check)?;
+    let running = with(checking, on_run(alloc))?;
     let replay = on_log(
         alloc,
         "replay",
         "Makes the choices of a log again, and tells how they end",
-    )?;
+    );
+    let replaying = with(running, replay)?;
     let debug = on_log(
         alloc,
         "debug",
         "Answers commands on a log, read from standard input",
-    )?;
+    );
+    with(replaying, debug)
+}
+
+// The program, without its subcommands.
+fn bare<'a>(alloc: Global) -> Command<'a>
+    ensures { app_of result ≡ bare }
+{
     Command::new(alloc, "cilk")
         .about("Reads and runs programs in Cilk 5.4")
         .version(VERSION)
         .after_help(STATUSES)
         .subcommand_required(true)
         .arg_required_else_help(true)
-        .subcommand(print)?
-        .subcommand(check)?
-        .subcommand(run)?
-        .subcommand(replay)?
-        .subcommand(debug)
+}
+
+// A command with one subcommand more. (What is owned where a function leaves early is dear to prove: here that is one command at a time.)
+fn with<'a>(
+    command: Command<'a>,
+    subcommand: Result<Command<'a>, AllocError>,
+) -> Result<Command<'a>, AllocError>
+    ensures { IfOk result (λ whole. IsOkAnd subcommand.entry (λ sub. AddsSubcommand command.entry sub whole)) }
+{
+    match subcommand {
+        Ok(subcommand) => command.subcommand(subcommand),
+        Err(e) => Err(e),
+    }
 }
 
 // A subcommand on one program's text, of whose faults more may be said.
@@ -128,23 +146,48 @@ fn on_text<'a>(
 fn on_run<'a>(alloc: Global) -> Result<Command<'a>, AllocError>
     ensures { IfOk result (λ c. app_of c ≡ on_run) }
 {
-    let one = value_parser!(u32).range(1..=1);
-    let workers = number(alloc, WORKERS, "N", one, "1").help(
-        "How many workers the run has: 1 alone so far",
-    );
-    let choices = value_parser!(u32).range(1..=10_000_000);
-    let limit = number(alloc, LIMIT, "K", choices, "1000000").help(
-        "At most so many choices are made, from 1 to 10,000,000",
-    );
+    let explained = on_explained(alloc, "run", "Runs a program, and tells how it ends");
+    let crewed = taking(explained, workers(alloc));
+    let limited = taking(crewed, limit(alloc));
     let log = Arg::new(alloc, WRITTEN)
         .long(WRITTEN)
         .value_name("G")
         .action(ArgAction::Set)
         .help("The file to which the log of the run is written");
-    on_explained(alloc, "run", "Runs a program, and tells how it ends")?
-        .arg(workers)?
-        .arg(limit)?
-        .arg(log)
+    taking(limited, log)
+}
+
+// A command with one argument more.
+fn taking<'a>(
+    command: Result<Command<'a>, AllocError>,
+    argument: Arg<'a>,
+) -> Result<Command<'a>, AllocError>
+    ensures { IfOk result (λ whole. IsOkAnd command.entry (λ old. AddsArg old argument.entry whole)) }
+{
+    match command {
+        Ok(command) => command.arg(argument),
+        Err(e) => Err(e),
+    }
+}
+
+// The option that says how many workers a run has.
+fn workers<'a>(alloc: Global) -> Arg<'a>
+    ensures rule { rule_of result ≡ workers_rule }
+    ensures local { result.global ≡ false }
+{
+    let one = value_parser!(u32).range(1..=1);
+    number(alloc, WORKERS, "N", one, "1").help("How many workers the run has: 1 alone so far")
+}
+
+// The option that says how many choices a run may make.
+fn limit<'a>(alloc: Global) -> Arg<'a>
+    ensures rule { rule_of result ≡ limit_rule }
+    ensures local { result.global ≡ false }
+{
+    let choices = value_parser!(u32).range(1..=10_000_000);
+    number(alloc, LIMIT, "K", choices, "1000000").help(
+        "At most so many choices are made, from 1 to 10,000,000",
+    )
 }
 
 // An option that takes a number, by a parser of numbers.

@@ -1,11 +1,11 @@
 //! A frame of a program that is known by hand.
 
 use super::program;
-use cilk_frame::{Await, Frame, Id};
-use cilk_load::{Body, Loaded};
-use cilk_stands::{
-    a_call_stands, a_start_stands, a_write_stands, an_action_stands, values_are_seen,
+use cilk_frame::{
+    Await, Frame, Id, a_call_stands, a_start_stands, a_write_stands, an_action_stands,
+    values_are_seen,
 };
+use cilk_load::{Body, Loaded};
 use std::alloc::Global;
 use std::process::Abort;
 

@@ -1,5 +1,5 @@
 use Rattle.std.proofs.Common.{◌≡◌, ◌∙◌, subst, ℕ, suc, ◌+◌, arith}
-use Rattle.cilk_replay.specs.Tape.{IsAt}
+use Rattle.cilk_debug.specs.Tape.{IsAt}
 use Rattle.cilk_debug.proofs.Stops.{last_again}
 use Rattle.cilk_debug.proofs.seeking.last_met.Goals as goal
 

@@ -1,5 +1,5 @@
 use Rattle.std.proofs.Common.{◌≡◌, ◌∙◌, sym, subst, ℕ, suc, ◌+◌, arith}
-use Rattle.cilk_replay.specs.Tape.{IsAt}
+use Rattle.cilk_debug.specs.Tape.{IsAt}
 use Rattle.cilk_debug.proofs.Stops.{same_length, stopped_here, stopped_nowhere, goes_on}
 use Rattle.cilk_debug.proofs.seeking.run_on.Goals as goal
 

@@ -19,17 +19,17 @@ use Rattle.cilk_load.proofs.loading.tables_of.Goals as goal
 pub nodes_of-requires-clause-globals : goal.nodes_of-requires-clause-globals
 nodes_of-requires-clause-globals c =
     let here : c.deref.result.now ≡ c.program-program.result.now.items = c.deref.ensures.value ∙ ap (λ (p : tree.Program). p.items) c.program.view_is in
-    ap length (c.deref-4.ensures.value ∙ c.in_ok-globals.ensures) ∙ globals-counted c.deref.result.now ∙ ap globals_count here
+    ap length (c.deref-5.ensures.value ∙ c.in_ok-globals.ensures) ∙ globals-counted c.deref.result.now ∙ ap globals_count here
 
 pub nodes_of-requires-clause-locks : goal.nodes_of-requires-clause-locks
 nodes_of-requires-clause-locks c =
     let here : c.deref-2.result.now ≡ c.program-program.result.now.items = c.deref-2.ensures.value ∙ ap (λ (p : tree.Program). p.items) c.program.view_is in
-    ap length (c.deref-5.ensures.value ∙ c.in_ok-locks.ensures) ∙ locks-counted c.deref-2.result.now ∙ ap locks_count here
+    ap length (c.deref-6.ensures.value ∙ c.in_ok-locks.ensures) ∙ locks-counted c.deref-2.result.now ∙ ap locks_count here
 
 pub nodes_of-requires-clause-bodies : goal.nodes_of-requires-clause-bodies
 nodes_of-requires-clause-bodies c =
     let here : c.deref-3.result.now ≡ c.program-program.result.now.items = c.deref-3.ensures.value ∙ ap (λ (p : tree.Program). p.items) c.program.view_is in
-    ap length (c.deref-6.ensures.value ∙ c.in_ok-bodies.ensures) ∙ bodies-counted 1 c.deref-3.result.now ∙ ap bodies_count here
+    ap length (c.deref-7.ensures.value ∙ c.in_ok-bodies.ensures) ∙ bodies-counted 1 c.deref-3.result.now ∙ ap bodies_count here
 
 pub nodes_of-requires-clause-plain : goal.nodes_of-requires-clause-plain
 nodes_of-requires-clause-plain c =
@@ -43,12 +43,12 @@ invariant_of-result c =
     let same : c.in_ok-main-2.main ≡ c.in_ok-main.main = search rules in
     tabled c.args.checked c.in_ok-nodes.nodes.items c.in_ok-lines.lines.items c.in_ok-bodies.bodies.items c.in_ok-main-2.main
     c.in_ok-globals.globals.items c.in_ok-locks.locks.items c.program-program.ensures.well_formed c.requires
-    (c.in_ok-nodes.ensures.nodes ∙ (λ i. items_nodes (c.deref-6.ensures.value i) 0 (file_scope (c.deref-4.ensures.value i) (top i).items) 1 (top i).items))
+    (c.in_ok-nodes.ensures.nodes ∙ (λ i. items_nodes (c.deref-7.ensures.value i) 0 (file_scope (c.deref-5.ensures.value i) (top i).items) 1 (top i).items))
     (omega (arith, c.in_ok-nodes.nodes.ok.0, c.in_ok-nodes.ensures.len, ap count_program top))
     (c.in_ok-lines.ensures.lines ∙ ap action_lines top)
     (omega (arith, c.in_ok-lines.lines.ok.0, c.in_ok-lines.ensures.len, ap count_program top))
     (c.in_ok-bodies.ensures ∙ ap (items_tables 1) (c.deref-3.ensures.value ∙ items))
-    (ap (λ (bs : List Body). position starts_here bs) (sym c.deref-7.ensures.value) ∙ sym c.place_of_main.ensures.value ∙ c.in_ok-main.ensures.ok_part
+    (ap (λ (bs : List Body). position starts_here bs) (sym c.deref-4.ensures.value) ∙ sym c.place_of_main.ensures.value ∙ c.in_ok-main.ensures.ok_part
     ∙ ap (λ k. Some k) (sym same))
     (c.in_ok-globals.ensures ∙ ap (λ (xs : List tree.Item). vars_from Global 0 (flat_map item_globals xs)) (c.deref.ensures.value ∙ items))
     (c.in_ok-locks.ensures ∙ ap (λ (xs : List tree.Item). vars_from Global 0 (map lock_variable (flat_map item_locks xs))) (c.deref-2.ensures.value ∙ items))

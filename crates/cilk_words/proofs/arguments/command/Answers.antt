@@ -1,22 +1,29 @@
-use Rattle.std.proofs.Common.{rules, ◌≡◌, ◌∙◌, true, ap, ap₂, refl}
+use Rattle.std.proofs.Common.{codes, refl}
 use Rattle.std.proofs.lemmas.Result.{IfOk-weaker}
-use Rattle.clap.specs.Built.{AddsSubcommand}
-use Rattle.clap.specs.Simple.{App, app_of, with_subcommand}
-use Rattle.clap.specs.declared.builder.command.Command.{Command}
-use Rattle.clap.proofs.SimpleLemmas.{plain_fields}
-use Rattle.cilk_words.specs.CommandLine.{bare}
+use Rattle.clap.specs.Simple.{App, with_subcommand}
+use Rattle.cilk_words.specs.CommandLine.{bare, on_explained, on_log, on_run}
+use Rattle.cilk_words.proofs.Built.{has}
 use Rattle.cilk_words.proofs.arguments.command.Goals as goal
 
--- a plain subcommand is added as it is
-added : {old sub new : Command} {a b : App} → AddsSubcommand old sub new → app_of old ≡ a → app_of sub ≡ b → b.top.is_plain ≡ true
-    → app_of new ≡ with_subcommand a b.top
-added adds old_is sub_is plain =
-    adds.shape (plain_fields _ (ap (λ (x : App). x.top.is_plain) sub_is ∙ plain)).globals ∙ ap₂ with_subcommand old_is (ap (λ (x : App). x.top) sub_is)
+-- the command line with its first subcommand, with two, with three, with four
+with_print : App
+with_print = with_subcommand bare (on_explained (codes "print")).top
+
+with_check : App
+with_check = with_subcommand with_print (on_explained (codes "check")).top
+
+with_run : App
+with_run = with_subcommand with_check on_run.top
+
+with_replay : App
+with_replay = with_subcommand with_run (on_log (codes "replay")).top
 
 pub returns : goal.returns
+unfolding with_print with_check with_run with_replay
 returns c =
-    let bare_is : app_of c.arg_required_else_help.result ≡ bare = search rules in
-    let checked = added c.in_ok-subcommand-2.ensures (added c.in_ok-subcommand.ensures bare_is c.in_ok-print.ensures refl) c.in_ok-check.ensures refl in
-    let running = added c.in_ok-subcommand-3.ensures checked c.in_ok-run.ensures refl in
-    let replaying = added c.in_ok-subcommand-4.ensures running c.in_ok-replay.ensures refl in
-    IfOk-weaker c.subcommand-5.result _ _ (λ whole adds. added adds replaying c.in_ok-debug.ensures refl) c.subcommand-5.ensures
+    let print = has bare (on_explained (codes "print")) c.bare.result c.on_explained-print.result _ c.bare.ensures c.on_explained-print.ensures refl c.in_ok-printing.ensures in
+    let check = has with_print (on_explained (codes "check")) _ c.on_explained-check.result _ print c.on_explained-check.ensures refl c.in_ok-checking.ensures in
+    let run = has with_check on_run _ c.on_run.result _ check c.on_run.ensures refl c.in_ok-running.ensures in
+    let replay = has with_run (on_log (codes "replay")) _ c.on_log-replay.result _ run c.on_log-replay.ensures refl c.in_ok-replaying.ensures in
+    IfOk-weaker c.with-5.result _ _
+    (λ whole adds. has with_replay (on_log (codes "debug")) _ c.on_log-debug.result whole replay c.on_log-debug.ensures refl adds) c.with-5.ensures

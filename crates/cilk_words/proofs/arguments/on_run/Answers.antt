@@ -1,29 +1,16 @@
-use Rattle.std.proofs.Common.{rules, ◌≡◌, ◌∙◌, ap, ap₂, pos, codes, false}
-use Rattle.std.proofs.lemmas.Result.{IfOk-weaker}
-use Rattle.clap.specs.Built.{AddsArg}
-use Rattle.clap.specs.Walk.{Rule, rule_of}
-use Rattle.clap.specs.Simple.{App, app_of, with_rule}
-use Rattle.clap.specs.declared.builder.arg.Arg.{Arg}
-use Rattle.clap.specs.declared.builder.command.Command.{Command}
-use Rattle.clap.specs.declared.builder.value_parser.ValueParser.TheVariants.{Signed}
-use Rattle.cilk_words.specs.CommandLine.{limit_rule, number_rule, workers_rule, written_rule}
+use Rattle.std.proofs.Common.{rules, ◌≡◌, codes}
+use Rattle.clap.specs.Walk.{rule_of}
+use Rattle.clap.specs.Simple.{with_rule}
+use Rattle.cilk_words.specs.CommandLine.{limit_rule, on_explained, workers_rule, written_rule}
+use Rattle.cilk_words.proofs.Built.{takes}
 use Rattle.cilk_words.proofs.arguments.on_run.Goals as goal
-
--- a local argument is added by its rule
-with_local : {old new : Command} {arg : Arg} {a : App} {r : Rule} → AddsArg old arg new → app_of old ≡ a → rule_of arg ≡ r → arg.global ≡ false
-    → app_of new ≡ with_rule a r
-with_local adds old_is rule_is local = adds.shape local ∙ ap₂ with_rule old_is rule_is
 
 pub returns : goal.returns
 returns c =
-    let one : c.range-one.result ≡ Signed (pos 1) (pos 1) = rw (c.value_parser.ensures, c.new.ensures.start, c.new.ensures.end) at c.range-one.ensures in
-    let most : c.range-choices.result ≡ Signed (pos 1) (pos 10000000) =
-    rw (c.value_parser-2.ensures, c.new-2.ensures.start, c.new-2.ensures.end) at c.range-choices.ensures in
-    let workers_is : rule_of c.help-workers.result ≡ workers_rule =
-    rw (c.help-workers.ensures) (c.number.ensures.rule ∙ ap (λ p. number_rule (codes "workers") p (codes "1")) one) in
-    let limit_is : rule_of c.help-limit.result ≡ limit_rule =
-    rw (c.help-limit.ensures) (c.number-2.ensures.rule ∙ ap (λ p. number_rule (codes "limit") p (codes "1000000")) most) in
+    let crewed = takes (on_explained (codes "run")) workers_rule c.workers.result c.on_explained-explained.result c.taking-crewed.result
+        c.on_explained-explained.ensures c.taking-crewed.ensures c.workers.ensures.rule c.workers.ensures.local in
+    let limited = takes (with_rule (on_explained (codes "run")) workers_rule) limit_rule c.limit.result c.taking-crewed.result c.taking-limited.result
+        crewed c.taking-limited.ensures c.limit.ensures.rule c.limit.ensures.local in
     let log_is : rule_of c.help-log.result ≡ written_rule = search rules in
-    let first = with_local c.in_ok-arg.ensures c.in_ok-on_explained.ensures workers_is (rw (c.help-workers.ensures) c.number.ensures.local) in
-    let second = with_local c.in_ok-arg-2.ensures first limit_is (rw (c.help-limit.ensures) c.number-2.ensures.local) in
-    IfOk-weaker c.arg-3.result _ _ (λ whole adds. with_local adds second log_is (search rules)) c.arg-3.ensures
+    takes (with_rule (with_rule (on_explained (codes "run")) workers_rule) limit_rule) written_rule c.help-log.result c.taking-limited.result c.taking.result
+        limited c.taking.ensures log_is (search rules)

@@ -1,6 +1,6 @@
 use Rattle.std.proofs.Common.{sym}
 use Rattle.cilk_console.specs.choices.Words.{outcome_of}
-use Rattle.cilk_replay.specs.Tape.{tape_of}
+use Rattle.cilk_debug.specs.Tape.{tape_of}
 use Rattle.cilk_debug.specs.Seeing.{line_behind}
 use Rattle.cilk_debug.proofs.Seen.{line_seen, put_behind}
 use Rattle.cilk_debug.proofs.debugger.Debugger.behind_position.Goals as goal

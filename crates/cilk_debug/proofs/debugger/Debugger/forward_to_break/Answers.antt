@@ -1,5 +1,5 @@
 use Rattle.std.proofs.Common.{sym, subst}
-use Rattle.cilk_replay.specs.Tape.{IsAt}
+use Rattle.cilk_debug.specs.Tape.{IsAt}
 use Rattle.cilk_debug.specs.Debugging.{Debugging}
 use Rattle.cilk_debug.proofs.Sound.{sound_stopped}
 use Rattle.cilk_debug.proofs.debugger.Debugger.forward_to_break.Goals as goal

@@ -1,6 +1,6 @@
 use Rattle.std.proofs.Common.{sym, subst}
-use Rattle.cilk_replay.specs.machine.Situation.{Situation}
-use Rattle.cilk_replay.specs.Tape.{tape_of}
+use Rattle.cilk_machine.specs.Situation.{Situation}
+use Rattle.cilk_debug.specs.Tape.{tape_of}
 use Rattle.cilk_debug.specs.Debugging.{IsSound}
 use Rattle.cilk_debug.proofs.Sound.{sound_again}
 use Rattle.cilk_debug.proofs.debugger.Debugger.step.Goals as goal

@@ -1,0 +1,23 @@
+-- Why choices cannot be made again.
+use Rattle.std.specs.Prelude.{◌≡◌, ℕ, suc, ⊤, false, Some}
+use Rattle.cilk_machine.specs.model.Choice.{Refusal}
+use Rattle.cilk_machine.specs.model.Run.{is_crew}
+use Rattle.cilk_console.specs.choices.declared.refusal.Refusal as code
+use Rattle.cilk_console.specs.choices.Words.{reason_of}
+use Rattle.cilk_debug.specs.Tape.{Tape, IsBad}
+use Rattle.cilk_debug.specs.declared.replay_fault.ReplayFault.{ReplayFault}
+use Rattle.cilk_debug.specs.declared.replay_fault.ReplayFault.TheVariants.{Workers, BadChoice, Memory}
+
+-- the choice of number k, counted from 1, is the first that is not possible, and this is why
+pub record IsFirst (t : Tape) (k : ℕ) (refusal : code.Refusal) : Type 0 where
+  pub before : ℕ
+  pub counted : k ≡ suc before
+  pub reason : Refusal
+  pub is : reason_of refusal ≡ Some reason
+  pub bad : IsBad t before reason
+
+-- memory may always run out
+abbrev pub Tells : Tape → ReplayFault → Type 0
+Tells t Workers = is_crew t.workers ≡ false
+Tells t (BadChoice k refusal) = IsFirst t k refusal
+Tells t Memory = ⊤

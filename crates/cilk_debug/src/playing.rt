@@ -1,0 +1,114 @@
+ghost use Rattle.std.specs.Prelude.{List, ◌≡◌, ◌≤◌, ◌<◌, ◌-◌, ◌^◌, ℕ, suc, false, IfOk, IfErr, OnOk, OnErr, length, Some, Err, slice_get, map, option_copied};
+ghost use Rattle.cilk_machine.specs.model.Choice as model;
+ghost use Rattle.cilk_machine.specs.model.Run.{is_crew};
+ghost use Rattle.cilk_console.specs.choices.Words.{choice_of, reason_of};
+ghost use Rattle.cilk_machine.specs.spawn.Nodes.{path_at};
+ghost use Rattle.cilk_machine.specs.carries.Words.{event_by};
+ghost use Rattle.cilk_debug.specs.Tape.{Tape, tape_of, did_at, IsAt, IsBad};
+ghost use Rattle.cilk_debug.specs.ReplayFaults.{Tells};
+
+use crate::replay_fault::ReplayFault;
+use cilk_console::Loaded;
+use cilk_machine::{Choice, Did, Machine, MachineFault, Refusal};
+use std::alloc::Global;
+
+/// Whether a program may have so many workers: 1 to 64.
+pub fn is_crew(workers: u8) -> bool
+    ensures { result ≡ is_crew workers }
+{
+    1 <= workers && workers <= 64
+}
+
+/// The program after the first `count` of these choices. The number of workers is looked at before
+/// any memory is asked for.
+pub fn play(
+    alloc: Global,
+    program: Loaded,
+    workers: u8,
+    choices: &[Choice],
+    count: usize,
+) -> Result<Machine, ReplayFault>
+    requires { count ≤ length choices.now }
+    ensures stands { IfOk result (IsAt (tape_of program workers choices.now) count) }
+    ensures told { IfErr result (Tells (tape_of program workers choices.now)) }
+    ensures crew { is_crew workers ≡ false → result ≡ Err ReplayFault.Workers }
+{
+    if !is_crew(workers) {
+        return Err(ReplayFault::Workers);
+    }
+    match opened(alloc, program, workers) {
+        Err(fault) => Err(fault),
+        Ok(machine) => played(machine, choices, count),
+    }
+}
+
+// No choice was made yet.
+fn played(machine: Machine, choices: &[Choice], count: usize) -> Result<Machine, ReplayFault>
+    requires room { count ≤ length choices.now }
+    requires none { machine.choices ≡ 0 }
+    ensures stands { IfOk result (λ m. (t : Tape) → t.choices ≡ map choice_of choices.now → IsAt t 0 machine → IsAt t count m) }
+    ensures told { IfErr result (λ why. (t : Tape) → t.choices ≡ map choice_of choices.now → IsAt t 0 machine → Tells t why) }
+{
+    let mut machine = machine;
+    for made in 0..count {
+        match make_again(&mut machine, choices, made) {
+            Ok(_) => {}
+            Err(fault) => return Err(fault),
+        }
+    }
+    Ok(machine)
+}
+
+/// The program before any choice.
+fn opened(alloc: Global, program: Loaded, workers: u8) -> Result<Machine, ReplayFault>
+    ensures none { IfOk result (λ m. m.choices ≡ 0) }
+    ensures stands { IfOk result (λ m. (choices : List model.Choice) → IsAt (record { program = program; workers = workers; choices = choices }) 0 m) }
+    ensures told { IfErr result (λ why. (choices : List model.Choice) → Tells (record { program = program; workers = workers; choices = choices }) why) }
+{
+    match Machine::new(alloc, program, workers) {
+        Ok(machine) => Ok(machine),
+        Err(MachineFault::Workers) => Err(ReplayFault::Workers),
+        Err(MachineFault::Memory(_)) => Err(ReplayFault::Memory),
+    }
+}
+
+/// The choice of this number, counted from 0, is made again, behind those before it.
+#[inline(always)]
+pub fn make_again(
+    machine: &mut Machine,
+    choices: &[Choice],
+    made: usize,
+) -> Result<Did, ReplayFault>
+    requires made { machine.old.choices ≡ made }
+    requires room { made < length choices.now }
+    ensures next { OnOk result ((t : Tape) → t.choices ≡ map choice_of choices.now → IsAt t made machine.old → IsAt t (suc made) machine.new) }
+    ensures made { OnOk result (machine.new.choices ≡ suc made) }
+    ensures did { IfOk result (λ did. (t : Tape) → t.choices ≡ map choice_of choices.now → IsAt t made machine.old
+        → did_at t made ≡ Some (event_by (path_at machine.old.machine.nodes) (path_at machine.new.machine.nodes) did)) }
+    ensures told { IfErr result (λ why. (t : Tape) → t.choices ≡ map choice_of choices.now → IsAt t made machine.old → Tells t why) }
+    ensures unchanged { OnErr result (machine.new ≡ machine.old) }
+{
+    match chosen(choices, made) {
+        None => unreachable!(),
+        Some(choice) => match machine.advance(*choice) {
+            Ok(did) => Ok(did),
+            Err(refusal) => Err(refused(made, refusal)),
+        },
+    }
+}
+
+fn chosen(choices: &[Choice], k: usize) -> Option<&Choice>
+    ensures { option_copied result ≡ slice_get choices.now k }
+{
+    choices.get(k)
+}
+
+fn refused(made: usize, refusal: Refusal) -> ReplayFault
+    requires { made < 2 ^ 64 - 1 }
+    ensures { (t : Tape) → ((why : model.Refusal) → reason_of refusal ≡ Some why → IsBad t made why) → Tells t result }
+{
+    match refusal {
+        Refusal::Memory => ReplayFault::Memory,
+        refusal => ReplayFault::BadChoice(made as u64 + 1, refusal),
+    }
+}

@@ -1,0 +1,152 @@
+-- How the program ends where there is no answer.
+use Rattle.std.proofs.Common.{◌≡◌, ◌⊎◌, ◌∙◌, inl, inr, refl, subst, sym, ℕ, Bool, true, false, List, [], Option, Some, None, IfSome}
+use Rattle.std.specs.Prelude.{◌≢◌}
+use Rattle.cilk_commands.specs.Held.{IsReadOf}
+use Rattle.cilk_commands.specs.Loading.{Unready}
+use Rattle.cilk_commands.specs.Status.{is_answer, status_of}
+use Rattle.cilk_commands.specs.Telling.{IsExplanation, Tells as TellsLine}
+use Rattle.cilk_commands.proofs.WholeText.{nothing_read}
+use Rattle.cilk_commands.specs.declared.failure.Failure.{Failure}
+use Rattle.cilk_commands.specs.declared.failure.Failure.TheVariants as failure
+use Rattle.cilk_commands.specs.declared.status.Status.{Status}
+use Rattle.cilk_commands.specs.declared.status.Status.TheVariants as ended
+use Rattle.cilk_program.specs.GivingUp.{GivesUp, NoProgram}
+use Rattle.cilk_program.specs.Taped.{Declines}
+use Rattle.cilk_program.specs.declared.failure.RecordFailure.{RecordFailure}
+use Rattle.cilk_program.specs.declared.failure.RecordFailure.TheVariants as why
+use Rattle.cilk_words.specs.CommandLine.{Asked, Wanted, printed, checked, run, replayed, debugged, asked}
+use Rattle.cilk_words.specs.Refusing.{Tells, asks_for_help, asks_for_version, asks_to_show}
+use Rattle.cilk_words.specs.declared.refusal.Refusal.{Refusal}
+use Rattle.cilk_words.specs.declared.refusal.Refusal.TheVariants as refusal
+use Rattle.cilk_program.specs.Ends.{Ends, Shows}
+use Rattle.cilk_program.specs.Task.{Fails, Leaves}
+
+-- ---- a text that was not read
+
+some_read : (known : Option (List ℕ)) → (text : List ℕ) × IsReadOf known text
+some_read None = ([], tt)
+some_read (Some bytes) = (_, refl)
+
+nothing_said : (explain : Bool) (text : List ℕ) (found : Failure) → status_of found ≢ ended.Refused → IsExplanation explain text found []
+nothing_said true text (failure.Fault fault line column) other = inl refl
+nothing_said false text (failure.Fault fault line column) other = refl
+nothing_said true text failure.NotUtf8 other = refl
+nothing_said false text failure.NotUtf8 other = refl
+nothing_said true text failure.TooMany other = refl
+nothing_said false text failure.TooMany other = refl
+nothing_said true text failure.CannotRead other = refl
+nothing_said false text failure.CannotRead other = refl
+nothing_said true text failure.Memory other = refl
+nothing_said false text failure.Memory other = refl
+nothing_said true text failure.CannotWrite other = refl
+nothing_said false text failure.CannotWrite other = refl
+
+-- with a log
+pub no_program : (Reason : List ℕ → List ℕ → RecordFailure → Type 0) (explain : Bool) (name log : List ℕ) (status : Status) (known held old new : Option (List ℕ))
+    (found : Failure) → status_of found ≢ ended.Refused → status ≡ status_of found → TellsLine name found [] old new
+    → GivesUp Reason explain name log status known held old new
+no_program Reason explain name log status known held old new found other is told = record {
+  why = why.Program found;
+  status_is = is;
+  declined = λ refused. absurd (other (sym is ∙ refused));
+  behind = [];
+  explained = record { text = (some_read known).0; read = (some_read known).1; is = nothing_said explain (some_read known).0 found other };
+  told = told;
+}
+
+pub unread : (wanted : Wanted) (explain : Bool) (name : List ℕ) (status : Status) (known : Option (List ℕ)) (held : List ℕ → Option (List ℕ))
+    (old new : Option (List ℕ)) (found : Failure) → status_of found ≢ ended.Refused → status ≡ status_of found → TellsLine name found [] old new
+    → Fails wanted explain name status known held old new
+unread printed explain name status known held old new found other is told = nothing_read Unready explain name status known old new found other is told
+unread checked explain name status known held old new found other is told = nothing_read Unready explain name status known old new found other is told
+unread (run limit None) explain name status known held old new found other is told = nothing_read Unready explain name status known old new found other is told
+unread (run limit (Some log)) explain name status known held old new found other is told =
+    no_program NoProgram explain name log status known None old new found other is told
+unread (replayed log) explain name status known held old new found other is told =
+    no_program Declines false name log status known (held log) old new found other is told
+unread (debugged log) explain name status known held old new found other is told =
+    no_program Declines false name log status known (held log) old new found other is told
+
+-- nothing was written
+pub leaves_nothing : (wanted : Wanted) (status : Status) (known : Option (List ℕ)) (held : List ℕ → Option (List ℕ)) (entered old new : Option (List ℕ))
+    → status ≢ ended.CannotWrite → new ≡ old → Leaves wanted status known held entered old new
+leaves_nothing printed status known held entered old new other same = λ bad. absurd (other bad)
+leaves_nothing checked status known held entered old new other same = λ bad. absurd (other bad)
+leaves_nothing (run limit None) status known held entered old new other same = λ bad. absurd (other bad)
+leaves_nothing (run limit (Some log)) status known held entered old new other same = λ bad. absurd (other bad)
+leaves_nothing (replayed log) status known held entered old new other same = λ bad. absurd (other bad)
+leaves_nothing (debugged log) status known held entered old new other same = λ not. inl same
+
+-- memory that ran out before a text was opened: the line has no name
+memory_of : (wanted : Wanted) (explain : Bool) (name : List ℕ) (known : Option (List ℕ)) (held : List ℕ → Option (List ℕ)) (old new : Option (List ℕ))
+    → TellsLine [] failure.Memory [] old new → Fails wanted explain name ended.Memory known held old new
+memory_of wanted explain name known held old new told = unread wanted explain name ended.Memory known held old new failure.Memory (λ bad. cc) refl told
+
+is_memory_no_answer : (status : Status) → status ≡ ended.Memory → is_answer status ≡ false
+is_memory_no_answer status is = rw is refl
+
+-- ---- words that ask for nothing to be done
+
+for_each : (o : Option Asked) (P : Asked → Type 0) → ((x : Asked) → P x) → IfSome o P
+for_each None P each = tt
+for_each (Some x) P each = each x
+
+if_none : (o : Option Asked) (P : Asked → Type 0) → o ≡ None → IfSome o P
+if_none None P none = tt
+if_none (Some x) P none = cc
+
+nothing_done : (words : List (List ℕ)) (held : List ℕ → Option (List ℕ)) (entered : Option (List ℕ)) (status : Status) (old new err_old err_new : Option (List ℕ)) → asked words ≡ None
+    → status ≢ ended.Refused → status ≢ ended.CannotRead → (status ≡ ended.Usage → asks_to_show words ≡ false)
+    → (is_answer status ≡ true → (status ≡ ended.Done) × ((asks_for_help words ≡ true) ⊎ (asks_for_version words ≡ true)))
+    → (asks_for_help words ≡ false → asks_for_version words ≡ false → (status ≡ ended.Usage) ⊎ (status ≡ ended.Memory))
+    → Ends words held entered status old new err_old err_new
+nothing_done words held entered status old new err_old err_new none not_refused not_unread usage help wrong = record {
+  done = if_none (asked words) _ none;
+  told = if_none (asked words) _ none;
+  begun = if_none (asked words) _ none;
+  reads = λ which. absurd (elim which [ inl is ↦ not_refused is | inr is ↦ not_unread is ]);
+  usage = λ is. (none, usage is);
+  help = λ none answer. help answer;
+  wrong = λ none. wrong;
+}
+
+-- what is told of the words tells how the program ends
+pub refused_words : (words : List (List ℕ)) (held : List ℕ → Option (List ℕ)) (entered : Option (List ℕ)) (r : Refusal) (status : Status) (old new err_old err_new : Option (List ℕ)) → Tells words r
+    → Shows r status old new → (r ≡ refusal.Memory → TellsLine [] failure.Memory [] err_old err_new)
+    → (is_answer status ≡ false → status ≢ ended.CannotWrite → new ≡ old) → Ends words held entered status old new err_old err_new
+refused_words words held entered (refusal.Help text) status old new err_old err_new tells (inl done) memory kept =
+    subst (λ s. Ends words held entered s old new err_old err_new) (sym done.0)
+    (nothing_done words held entered ended.Done old new err_old err_new tells.0 (λ bad. cc) (λ bad. cc) (λ bad. cc) (λ answer. (refl, inl tells.1))
+    (λ no_help no_version. let bad : true ≡ false = sym tells.1 ∙ no_help in cc))
+refused_words words held entered (refusal.Help text) status old new err_old err_new tells (inr failed) memory kept =
+    subst (λ s. Ends words held entered s old new err_old err_new) (sym failed)
+    (nothing_done words held entered ended.CannotWrite old new err_old err_new tells.0 (λ bad. cc) (λ bad. cc) (λ bad. cc) (λ answer. let bad : false ≡ true = answer in cc)
+    (λ no_help no_version. let bad : true ≡ false = sym tells.1 ∙ no_help in cc))
+refused_words words held entered (refusal.Version text) status old new err_old err_new tells (inl done) memory kept =
+    subst (λ s. Ends words held entered s old new err_old err_new) (sym done.0)
+    (nothing_done words held entered ended.Done old new err_old err_new tells.0 (λ bad. cc) (λ bad. cc) (λ bad. cc) (λ answer. (refl, inr tells.1))
+    (λ no_help no_version. let bad : true ≡ false = sym tells.1 ∙ no_version in cc))
+refused_words words held entered (refusal.Version text) status old new err_old err_new tells (inr failed) memory kept =
+    subst (λ s. Ends words held entered s old new err_old err_new) (sym failed)
+    (nothing_done words held entered ended.CannotWrite old new err_old err_new tells.0 (λ bad. cc) (λ bad. cc) (λ bad. cc) (λ answer. let bad : false ≡ true = answer in cc)
+    (λ no_help no_version. let bad : true ≡ false = sym tells.1 ∙ no_version in cc))
+refused_words words held entered (refusal.Usage text) status old new err_old err_new tells is_usage memory kept =
+    subst (λ s. Ends words held entered s old new err_old err_new) (sym is_usage)
+    (nothing_done words held entered ended.Usage old new err_old err_new tells.0 (λ bad. cc) (λ bad. cc) (λ same. tells.1) (λ answer. let bad : false ≡ true = answer in cc)
+    (λ no_help no_version. inl refl))
+refused_words words held entered (refusal.Dash dash) status old new err_old err_new tells is_usage memory kept =
+    subst (λ s. Ends words held entered s old new err_old err_new) (sym is_usage)
+    (nothing_done words held entered ended.Usage old new err_old err_new tells.1.0 (λ bad. cc) (λ bad. cc) (λ same. tells.1.1) (λ answer. let bad : false ≡ true = answer in cc)
+    (λ no_help no_version. inl refl))
+refused_words words held entered refusal.Memory status old new err_old err_new tells is_memory memory kept =
+    subst (λ s. Ends words held entered s old new err_old err_new) (sym is_memory) (record {
+      done = for_each (asked words) _ (λ request answer. let bad : false ≡ true = answer in cc);
+      told = for_each (asked words) _ (λ request none.
+          memory_of request.wanted request.explain request.name (held request.name) held err_old err_new (memory refl));
+      begun = for_each (asked words) _ (λ request none. leaves_nothing request.wanted ended.Memory (held request.name) held entered old new
+          (λ bad. cc) (kept (is_memory_no_answer status is_memory) (λ bad. let worse : ended.Memory ≡ ended.CannotWrite = sym is_memory ∙ bad in cc)));
+      reads = λ which none. elim which [ inl bad ↦ cc | inr bad ↦ cc ];
+      usage = λ bad. cc;
+      help = λ none answer. let bad : false ≡ true = answer in cc;
+      wrong = λ none no_help no_version. inr refl;
+    })

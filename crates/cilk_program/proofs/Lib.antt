@@ -1,0 +1,4 @@
+mod Ended
+pub mod Whole
+pub mod Ran
+mod Debugged

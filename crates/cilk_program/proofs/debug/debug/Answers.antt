@@ -1,0 +1,31 @@
+use Rattle.std.proofs.Common.{subst, sym, ap, ◌∙◌, inr}
+use Rattle.cilk_commands.specs.Held.{Held}
+use Rattle.cilk_debug.specs.Tape.{tape_of, IsPlayable}
+use Rattle.cilk_program.specs.Debugging.{broken_off}
+use Rattle.cilk_program.specs.Taped.{Declines}
+use Rattle.cilk_program.specs.Telling.{status_of}
+use Rattle.cilk_program.specs.declared.failure.RecordFailure.{RecordFailure}
+use Rattle.cilk_program.proofs.Debugged.{opens, declines_held_of, answered, broken}
+use Rattle.cilk_program.proofs.debug.debug.Goals as goal
+
+pub returns-in-Err-new-clause-declined : goal.returns-in-Err-new-clause-declined
+returns-in-Err-new-clause-declined g c = λ held is refused.
+    let t = tape_of c.in-Ok.taped.program c.in-Ok.taped.log.workers c.in-Ok.taped.log.choices in
+    subst (λ (why : RecordFailure). Held held (λ bytes. Declines c.args.text.now bytes why)) (sym c.undebugged.ensures)
+    (declines_held_of held c.args.text.now t c.in-Err-new.fault (c.in-Ok.ensures.ok held is) c.in-Err-new.ensures.told
+    (ap status_of (sym c.undebugged.ensures) ∙ refused))
+
+pub returns-in-Ok-session-clause-ok : goal.returns-in-Ok-session-clause-ok
+returns-in-Ok-session-clause-ok g c = λ held is.
+    let t = tape_of c.in-Ok.taped.program c.in-Ok.taped.log.workers c.in-Ok.taped.log.choices in
+    let made = c.in-Ok-new.ensures in
+    answered held c.args.text.now t c.in-Ok-new.debugger _ _ _ (c.in-Ok.ensures.ok held is)
+    (opens c.in-Ok-new.debugger t made.tape made.start made.marks) (subst IsPlayable made.tape made.whole) _ c.in-Ok-session.ensures.done
+
+pub returns-in-Err-session-clause-begun : goal.returns-in-Err-session-clause-begun
+returns-in-Err-session-clause-begun g c = λ held is other.
+    let t = tape_of c.in-Ok.taped.program c.in-Ok.taped.log.workers c.in-Ok.taped.log.choices in
+    let made = c.in-Ok-new.ensures in
+    inr (broken held c.args.text.now t c.in-Ok-new.debugger _ _ _ (c.in-Ok.ensures.ok held is)
+    (opens c.in-Ok-new.debugger t made.tape made.start made.marks) (subst IsPlayable made.tape made.whole) _ _ c.in-Err-session.fault c.in-Err-session.ensures.fault
+    (λ is_write. other (ap status_of (c.broken_off.ensures ∙ ap broken_off is_write))))

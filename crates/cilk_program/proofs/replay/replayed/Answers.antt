@@ -1,0 +1,31 @@
+use Rattle.std.proofs.Common.{subst, List}
+use Rattle.cilk_commands.specs.choices.declared.choice.Choice as code
+use Rattle.cilk_debug.specs.Tape.{tape_of}
+use Rattle.cilk_debug.specs.ReplayFaults.{Tells}
+use Rattle.cilk_program.proofs.Ran.{all_replayed}
+use Rattle.cilk_program.proofs.replay.replayed.Goals as goal
+
+pub returns-in-Err-play-clause-declined : goal.returns-in-Err-play-clause-declined
+returns-in-Err-play-clause-declined g c = λ held is refused.
+    let read = c.in-Ok.ensures.ok held is in
+    record {
+      bytes = read.bytes;
+      held = read.held;
+      are = record {
+        tape = tape_of c.in-Ok.taped.program c.in-Ok.taped.log.workers c.in-Ok.taped.log.choices;
+        is = read.are;
+        told = subst (λ (choices : List code.Choice). Tells (tape_of c.in-Ok.taped.program c.in-Ok.taped.log.workers choices) c.in-Err-play.fault) c.as_slice-choices.ensures
+            c.in-Err-play.ensures.told;
+      };
+    }
+
+pub returns-in-Ok-closing_of-clause-ok : goal.returns-in-Ok-closing_of-clause-ok
+returns-in-Ok-closing_of-clause-ok g c = λ held is.
+    let read = c.in-Ok.ensures.ok held is in
+    record {
+      bytes = read.bytes;
+      held = read.held;
+      are = all_replayed c.in-Ok-closing_of.closing.status c.args.text.now read.bytes c.in-Ok-closing_of.closing.text.items c.in-Ok.taped.program
+          c.in-Ok.taped.log.workers c.in-Ok.taped.log.choices c.as_slice-choices.result.now c.in-Ok-play.machine c.as_slice-choices.ensures read.are
+          c.in-Ok-play.ensures.stands c.in-Ok-closing_of.ensures.closes;
+    }

@@ -1,0 +1,14 @@
+use Rattle.cilk_program.proofs.Whole.{any_held, unread_declines}
+use Rattle.cilk_program.proofs.taped.tape_in.Goals as goal
+
+pub returns-in-Err-clause-declined : goal.returns-in-Err-clause-declined
+returns-in-Err-clause-declined g c = λ held is refused. any_held held _ (λ bytes. c.in-Err.ensures.err)
+
+pub returns-in-Err-schedule_of-clause-declined : goal.returns-in-Err-schedule_of-clause-declined
+returns-in-Err-schedule_of-clause-declined g c = λ held is refused.
+    unread_declines held c.args.text.now c.in-Ok.program c.in-Err-schedule_of.why c.in-Ok.ensures.ok (c.in-Err-schedule_of.ensures.declined held is) refused
+
+pub returns-in-Ok-schedule_of-clause-ok : goal.returns-in-Ok-schedule_of-clause-ok
+returns-in-Ok-schedule_of-clause-ok g c = λ held is.
+    let read = c.in-Ok-schedule_of.ensures.ok held is in
+    record { bytes = read.bytes; held = read.held; are = record { ready = c.in-Ok.ensures.ok; read = read.are } }

@@ -1,0 +1,40 @@
+-- What is told in place of an answer about a recorded schedule.
+use Rattle.std.specs.Prelude.{◌≡◌, ℕ, Bool, List, [], ◌++◌, Option}
+use Rattle.cilk_commands.specs.Front.{AppendsFront}
+use Rattle.cilk_commands.specs.Held.{Held}
+use Rattle.cilk_commands.specs.Loading.{Unready}
+use Rattle.cilk_commands.specs.Telling.{Explained, IsExplanation}
+use Rattle.cilk_commands.specs.declared.status.Status.{Status}
+use Rattle.cilk_commands.specs.declared.status.Status.TheVariants as status
+use Rattle.cilk_program.specs.Telling.{line_of, status_of}
+use Rattle.cilk_program.specs.declared.failure.RecordFailure.{RecordFailure}
+use Rattle.cilk_program.specs.declared.failure.RecordFailure.TheVariants as why
+
+-- a writer has gained the line and what is told behind it, or the first bytes of them, since what cannot be written is lost
+abbrev pub TellsWith : List ℕ → List ℕ → RecordFailure → List ℕ → Option (List ℕ) → Option (List ℕ) → Type 0
+TellsWith program log found behind old new = AppendsFront old new (line_of program log found ++ behind)
+
+-- what is told behind the line: of a failure with the text of the program what explains it, and else nothing
+abbrev pub IsBehind : Bool → List ℕ → RecordFailure → List ℕ → Type 0
+IsBehind explain text (why.Program found) behind = IsExplanation explain text found behind
+IsBehind explain text found behind = behind ≡ []
+
+-- the same, of a text that a reader held
+abbrev pub IsToldBehind : Bool → Option (List ℕ) → RecordFailure → List ℕ → Type 0
+IsToldBehind explain known (why.Program found) behind = Explained explain known found behind
+IsToldBehind explain known found behind = behind ≡ []
+
+-- why the bytes of a text are no program that may be run
+abbrev pub NoProgram : List ℕ → List ℕ → RecordFailure → Type 0
+NoProgram program log (why.Program found) = Unready program found
+NoProgram program log found = ⊥
+
+-- in place of an answer a writer is told of a failure: the status is that failure's, and texts that are refused have it
+pub record GivesUp (Reason : List ℕ → List ℕ → RecordFailure → Type 0) (explain : Bool) (program_name log_name : List ℕ) (ended : Status)
+    (program log old new : Option (List ℕ)) : Type 0 where
+  pub why : RecordFailure
+  pub status_is : ended ≡ status_of why
+  pub declined : ended ≡ status.Refused → Held program (λ text. Held log (λ bytes. Reason text bytes why))
+  pub behind : List ℕ
+  pub explained : IsToldBehind explain program why behind
+  pub told : TellsWith program_name log_name why behind old new

@@ -1,0 +1,8 @@
+pub mod Ends
+pub mod Task
+pub mod Telling
+pub mod GivingUp
+pub mod Taped
+pub mod Recording
+pub mod Replaying
+pub mod Debugging

@@ -1,0 +1,120 @@
+ghost use Rattle.std.specs.Prelude.{◌≡◌, ◌≢◌, ◌⊎◌, true, false, ℕ, List, Option, IfSome, IfOk, IfErr};
+ghost use Rattle.cilk_commands.specs.Held.{Held};
+ghost use Rattle.cilk_commands.specs.Status.{is_answer};
+ghost use Rattle.cilk_program.specs.GivingUp.{GivesUp};
+ghost use Rattle.cilk_program.specs.Taped.{Declines};
+ghost use Rattle.cilk_program.specs.Telling.{status_of};
+ghost use Rattle.cilk_program.specs.Debugging.{Debugs, DebugsFront, GainsOf, IsSession, IsPart, undebugged, broken_off};
+
+use crate::failure::RecordFailure;
+use crate::names::Names;
+use crate::taped::{Taped, tape_in};
+use cilk_commands::{Failure, Status, read_text};
+use cilk_debug::{DebugFault, Debugger, ReplayFault, SessionFault};
+use std::alloc::Global;
+use std::io::{Read, Write};
+
+/// Answers the commands that a reader holds to `out`, with a debugger of a recorded schedule and the program that
+/// another reader holds, until they end, or else writes the line that says why not to `err`. There is no reader of the
+/// schedule where it cannot be opened, which is told once the program can be run. What was answered before a session
+/// broke off stays written. A line that cannot be written is lost.
+pub fn debug_text<R: Read, L: Read + Drop, C: Read, O: Write, E: Write>(
+    alloc: Global,
+    names: &Names<'_>,
+    reader: &mut R,
+    log: Option<L>,
+    commands: &mut C,
+    out: &mut O,
+    err: &mut E,
+) -> Status
+    ensures done { (held : Option (List ℕ)) → IfSome log (λ log. L.remaining log ≡ held)
+        → result ≡ Status.Done → Debugs (R.remaining reader.old) held (C.remaining commands.old)
+        (O.contents out.old) (O.contents out.new) }
+    ensures usage { result ≢ Status.Usage }
+    ensures only { is_answer result ≡ true → result ≡ Status.Done }
+
+    // Where the commands did not all have their answers.
+    ensures told { (held : Option (List ℕ)) → IfSome log (λ log. L.remaining log ≡ held)
+        → is_answer result ≡ false → GivesUp Declines false names.now.program.now names.now.log.now result
+        (R.remaining reader.old) held (E.contents err.old) (E.contents err.new) }
+    ensures begun { (held : Option (List ℕ)) → IfSome log (λ log. L.remaining log ≡ held)
+        → is_answer result ≡ false → result ≢ Status.CannotWrite → (out.new ≡ out.old)
+        ⊎ DebugsFront (R.remaining reader.old) held (C.remaining commands.old)
+        (O.contents out.old) (O.contents out.new) }
+
+    // What stays as it was.
+    ensures quiet { is_answer result ≡ true → err.new ≡ err.old }
+    ensures kept { result ≡ Status.Refused → out.new ≡ out.old }
+{
+    let bytes = match read_text(alloc, reader) {
+        Ok(bytes) => bytes,
+        Err(failure) => return RecordFailure::Program(failure).report(names, err),
+    };
+    let text = bytes.as_slice();
+    match debug(alloc, text, log, commands, out) {
+        Ok(()) => Status::Done,
+        Err(why) => why.explain(alloc, names, false, text, err),
+    }
+}
+
+fn debug<L: Read + Drop, C: Read, W: Write>(
+    alloc: Global,
+    text: &[u8],
+    log: Option<L>,
+    commands: &mut C,
+    out: &mut W,
+) -> Result<(), RecordFailure>
+    ensures ok { (held : Option (List ℕ)) → IfSome log (λ log. L.remaining log ≡ held)
+        → IfOk result (λ done. GainsOf (λ lines answers. Held held (λ bytes. IsSession text.now bytes lines answers))
+        (C.remaining commands.old) (W.contents out.old) (W.contents out.new)) }
+    ensures declined { (held : Option (List ℕ)) → IfSome log (λ log. L.remaining log ≡ held)
+        → IfErr result (λ why. status_of why ≡ Status.Refused → Held held (λ bytes. Declines text.now bytes why)) }
+    ensures begun { (held : Option (List ℕ)) → IfSome log (λ log. L.remaining log ≡ held)
+        → IfErr result (λ why. status_of why ≢ Status.CannotWrite → (out.new ≡ out.old)
+        ⊎ GainsOf (λ lines answers. Held held (λ bytes. IsPart text.now bytes lines answers))
+        (C.remaining commands.old) (W.contents out.old) (W.contents out.new)) }
+    ensures kept { IfErr result (λ why. status_of why ≡ Status.Refused → out.new ≡ out.old) }
+{
+    let Taped { program, log } = match tape_in(alloc, text, log) {
+        Ok(taped) => taped,
+        Err(why) => return Err(why),
+    };
+    let mut debugger = match Debugger::new(alloc, program, log) {
+        Ok(debugger) => debugger,
+        Err(fault) => return Err(undebugged(fault)),
+    };
+    match debugger.session(commands, out) {
+        Ok(()) => {
+            drop(debugger);
+            Ok(())
+        }
+        Err(fault) => {
+            drop(debugger);
+            Err(broken_off(fault))
+        }
+    }
+}
+
+// Why there is no debugger.
+fn undebugged(fault: DebugFault) -> RecordFailure
+    ensures { result ≡ undebugged fault }
+{
+    match fault {
+        DebugFault::Workers => RecordFailure::Replay(ReplayFault::Workers),
+        DebugFault::BadChoice(number, refusal) => {
+            RecordFailure::Replay(ReplayFault::BadChoice(number, refusal))
+        }
+        _ => RecordFailure::Program(Failure::Memory),
+    }
+}
+
+// Why a session broke off.
+fn broken_off(fault: SessionFault) -> RecordFailure
+    ensures { result ≡ broken_off fault }
+{
+    match fault {
+        SessionFault::Read(_) => RecordFailure::Commands,
+        SessionFault::Write => RecordFailure::Answers,
+        SessionFault::Memory => RecordFailure::Program(Failure::Memory),
+    }
+}

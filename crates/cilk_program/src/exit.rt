@@ -1,0 +1,59 @@
+ghost use Rattle.std.specs.Prelude.{◌≡◌, ◌≢◌, MatchResult, true, false};
+ghost use Rattle.std.specs.IoError.{error_kind};
+ghost use Rattle.cilk_commands.specs.declared.status.Status.{Status};
+ghost use Rattle.cilk_commands.specs.Status.{code_of, is_answer};
+ghost use Rattle.cilk_words.specs.CommandLine.{texts_of};
+ghost use Rattle.cilk_program.specs.Ends.{Ends, opens_session, without_words};
+
+use crate::dispatch::run;
+use crate::texts::Texts;
+use cilk_commands::{Failure, Status};
+use std::alloc::Global;
+use std::io;
+use std::io::{ErrorKind, Write};
+
+const NOT_UTF8: &str = "error: a word is not UTF-8
+
+Usage: cilk <COMMAND>
+
+For more information, try '--help'.
+";
+
+/// Does what the words ask for, or tells why there are none, and returns the number that the program
+/// exits with.
+pub fn exit_code<T: Texts, O: Write, E: Write>(
+    alloc: Global,
+    words: io::Result<Vec<String>>,
+    texts: &T,
+    out: &mut O,
+    err: &mut E,
+) -> u8
+    ensures { (status : Status) × ((result ≡ code_of status)
+        × MatchResult words
+        (λ list. Ends (texts_of list.items) (T.held texts.now) (T.entered texts.now) status
+        (O.contents out.old) (O.contents out.new) (E.contents err.old) (E.contents err.new))
+        (λ error. status ≡ without_words (error_kind error))
+        × (is_answer status ≡ true → err.new ≡ err.old)
+        × (MatchResult words (λ list. opens_session (texts_of list.items) ≡ false) (λ error. Unit {0})
+        → is_answer status ≡ false → status ≢ Status.CannotWrite → out.new ≡ out.old)
+        × (status ≡ Status.Refused → out.new ≡ out.old)) }
+{
+    let status = match words {
+        Ok(words) => run(alloc, words.as_slice(), texts, out, err),
+        Err(error) => refuse(&error, err),
+    };
+    status.code()
+}
+
+// Tells why there are no words: memory has run out, or one is not UTF-8.
+fn refuse<E: Write>(error: &io::Error, err: &mut E) -> Status
+    ensures { result ≡ without_words (error_kind error.now) }
+{
+    match error.kind() {
+        ErrorKind::OutOfMemory => Failure::Memory.report("", err),
+        _ => {
+            let _ = err.write_all(NOT_UTF8.as_bytes());
+            Status::Usage
+        }
+    }
+}

@@ -1,0 +1,26 @@
+//! The subcommands that write a recorded schedule or read one, and what the program does with its words, with texts by name and with two
+//! streams. `cilk` only says which these are.
+#![tactic(auto)]
+
+mod closing;
+mod debug;
+mod dispatch;
+mod exit;
+mod failure;
+mod names;
+mod recording;
+mod replay;
+mod running;
+mod store;
+mod taped;
+mod task;
+mod texts;
+
+pub use debug::debug_text;
+pub use exit::exit_code;
+pub use failure::RecordFailure;
+pub use names::Names;
+pub use replay::replay_text;
+pub use running::record_text;
+pub use store::LogStore;
+pub use texts::Texts;

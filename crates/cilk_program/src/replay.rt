@@ -1,0 +1,112 @@
+ghost use Rattle.std.specs.Prelude.{◌≡◌, ◌≢◌, true, false, ℕ, List, Option, IfSome, IfOk, IfErr};
+ghost use Rattle.cilk_commands.specs.Front.{Gains, GainsFront};
+ghost use Rattle.cilk_commands.specs.Held.{Held};
+ghost use Rattle.cilk_commands.specs.Status.{is_answer};
+ghost use Rattle.cilk_program.specs.GivingUp.{GivesUp};
+ghost use Rattle.cilk_program.specs.Taped.{Declines};
+ghost use Rattle.cilk_program.specs.Telling.{status_of};
+ghost use Rattle.cilk_program.specs.Replaying.{IsReplayed, Replays, ReplaysFront};
+
+use crate::closing::{Closing, closing_of};
+use crate::failure::RecordFailure;
+use crate::names::Names;
+use crate::taped::{Taped, tape_in};
+use cilk_commands::{Status, read_text, write_answer};
+use cilk_debug::play;
+use std::alloc::Global;
+use std::io::{Read, Write};
+
+/// Makes the choices of a recorded schedule again, from the start of the program that the reader holds, and writes how the
+/// program stands behind the last one to `out`, as `main returned 9`, or else the line that says why not to `err`. There
+/// is no reader of the schedule where it cannot be opened, which is told once the program can be run. The answer is made
+/// whole before any of it is written. A line that cannot be written is lost.
+pub fn replay_text<R: Read, L: Read + Drop, O: Write, E: Write>(
+    alloc: Global,
+    names: &Names<'_>,
+    reader: &mut R,
+    log: Option<L>,
+    out: &mut O,
+    err: &mut E,
+) -> Status
+    ensures done { (held : Option (List ℕ)) → IfSome log (λ log. L.remaining log ≡ held)
+        → is_answer result ≡ true → Replays result (R.remaining reader.old) held (O.contents out.old) (O.contents out.new) }
+    ensures usage { result ≢ Status.Usage }
+
+    // Where there is no answer.
+    ensures told { (held : Option (List ℕ)) → IfSome log (λ log. L.remaining log ≡ held)
+        → is_answer result ≡ false → GivesUp Declines false names.now.program.now names.now.log.now result
+        (R.remaining reader.old) held (E.contents err.old) (E.contents err.new) }
+    ensures begun { (held : Option (List ℕ)) → IfSome log (λ log. L.remaining log ≡ held)
+        → result ≡ Status.CannotWrite → ReplaysFront (R.remaining reader.old) held (O.contents out.old) (O.contents out.new) }
+
+    // What stays as it was.
+    ensures quiet { is_answer result ≡ true → err.new ≡ err.old }
+    ensures kept { is_answer result ≡ false → result ≢ Status.CannotWrite → out.new ≡ out.old }
+{
+    let bytes = match read_text(alloc, reader) {
+        Ok(bytes) => bytes,
+        Err(failure) => return RecordFailure::Program(failure).report(names, err),
+    };
+    let text = bytes.as_slice();
+    match replay(alloc, text, log, out) {
+        Ok(status) => status,
+        Err(why) => why.explain(alloc, names, false, text, err),
+    }
+}
+
+fn replay<L: Read + Drop, W: Write>(
+    alloc: Global,
+    text: &[u8],
+    log: Option<L>,
+    out: &mut W,
+) -> Result<Status, RecordFailure>
+    ensures ok { (held : Option (List ℕ)) → IfSome log (λ log. L.remaining log ≡ held)
+        → IfOk result (λ status. Gains (λ answer. Held held (λ bytes. IsReplayed status text.now bytes answer))
+        (W.contents out.old) (W.contents out.new)) }
+    ensures answer { IfOk result (λ status. is_answer status ≡ true) }
+    ensures declined { (held : Option (List ℕ)) → IfSome log (λ log. L.remaining log ≡ held)
+        → IfErr result (λ why. status_of why ≡ Status.Refused → Held held (λ bytes. Declines text.now bytes why)) }
+    ensures begun { (held : Option (List ℕ)) → IfSome log (λ log. L.remaining log ≡ held)
+        → IfErr result (λ why. status_of why ≡ Status.CannotWrite → (status : Status)
+        × GainsFront (λ answer. Held held (λ bytes. IsReplayed status text.now bytes answer))
+        (W.contents out.old) (W.contents out.new)) }
+    ensures kept { IfErr result (λ why. status_of why ≢ Status.CannotWrite → out.new ≡ out.old) }
+{
+    let closing = match replayed(alloc, text, log) {
+        Ok(closing) => closing,
+        Err(why) => return Err(why),
+    };
+    match write_answer(out, closing.text.as_slice()) {
+        Ok(()) => Ok(closing.status),
+        Err(failure) => Err(RecordFailure::Program(failure)),
+    }
+}
+
+// How the program stands behind the last choice.
+fn replayed<L: Read + Drop>(
+    alloc: Global,
+    text: &[u8],
+    log: Option<L>,
+) -> Result<Closing, RecordFailure>
+    ensures ok { (held : Option (List ℕ)) → IfSome log (λ log. L.remaining log ≡ held)
+        → IfOk result (λ closing. Held held (λ bytes.
+        IsReplayed closing.status text.now bytes closing.text.items)) }
+    ensures answer { IfOk result (λ closing. is_answer closing.status ≡ true) }
+    ensures declined { (held : Option (List ℕ)) → IfSome log (λ log. L.remaining log ≡ held)
+        → IfErr result (λ why. status_of why ≡ Status.Refused → Held held (λ bytes. Declines text.now bytes why)) }
+    ensures reads { IfErr result (λ why. status_of why ≢ Status.CannotWrite) }
+{
+    let Taped { program, log } = match tape_in(alloc, text, log) {
+        Ok(taped) => taped,
+        Err(why) => return Err(why),
+    };
+    let choices = log.choices.as_slice();
+    let machine = match play(alloc, program, log.workers, choices, choices.len()) {
+        Ok(machine) => machine,
+        Err(fault) => return Err(RecordFailure::Replay(fault)),
+    };
+    match closing_of(alloc, &machine) {
+        Ok(closing) => Ok(closing),
+        Err(failure) => Err(RecordFailure::Program(failure)),
+    }
+}

@@ -1,0 +1,98 @@
+ghost use Rattle.std.specs.Prelude.{◌≡◌, ◌≢◌, None, true, false};
+ghost use Rattle.cilk_commands.specs.Status.{is_answer};
+ghost use Rattle.cilk_words.specs.CommandLine.{wanted_by};
+ghost use Rattle.cilk_program.specs.GivingUp.{GivesUp, NoProgram};
+ghost use Rattle.cilk_program.specs.Task.{Does, Fails, Leaves, is_session};
+ghost use Rattle.cilk_program.specs.Task.{RecordsFrontSomewhere, RecordsSomewhere};
+
+use crate::texts::Texts;
+use crate::{Names, RecordFailure, debug_text, record_text, replay_text};
+use cilk_commands::{Failure, Status, check_text, print_text, run_text};
+use cilk_words::{Request, Task};
+use std::alloc::Global;
+use std::io::{Read, Write};
+
+/// Does what is asked for to the text that the reader holds.
+pub fn perform<T: Texts, R: Read, O: Write, E: Write>(
+    alloc: Global,
+    request: &Request<'_>,
+    texts: &T,
+    reader: &mut R,
+    out: &mut O,
+    err: &mut E,
+) -> Status
+    ensures done { is_answer result ≡ true → Does (wanted_by request.now.task) result
+        (R.remaining reader.old) (T.held texts.now) (T.entered texts.now)
+        (O.contents out.old) (O.contents out.new) }
+    ensures told { is_answer result ≡ false → Fails (wanted_by request.now.task)
+        request.now.explain request.now.name.now result
+        (R.remaining reader.old) (T.held texts.now) (E.contents err.old) (E.contents err.new) }
+    ensures begun { is_answer result ≡ false → Leaves (wanted_by request.now.task) result
+        (R.remaining reader.old) (T.held texts.now) (T.entered texts.now)
+        (O.contents out.old) (O.contents out.new) }
+    ensures usage { result ≢ Status.Usage }
+
+    ensures quiet { is_answer result ≡ true → err.new ≡ err.old }
+    ensures kept { is_session (wanted_by request.now.task) ≡ false
+        → is_answer result ≡ false → result ≢ Status.CannotWrite → out.new ≡ out.old }
+    ensures unanswered { result ≡ Status.Refused → out.new ≡ out.old }
+{
+    let Request { name, explain, .. } = *request;
+    match request.task {
+        Task::Print => print_text(alloc, name, explain, reader, out, err),
+        Task::Check => check_text(alloc, name, explain, reader, out, err),
+        Task::Run { limit, log: None } => run_text(alloc, name, explain, limit, reader, out, err),
+        Task::Run {
+            limit,
+            log: Some(log),
+        } => {
+            let names = Names { program: name, log };
+            record(alloc, &names, explain, limit, texts, reader, out, err)
+        }
+        Task::Replay { log } => {
+            let names = Names { program: name, log };
+            replay_text(alloc, &names, reader, texts.open(log), out, err)
+        }
+        Task::Debug { log } => {
+            let names = Names { program: name, log };
+            let mut commands = texts.commands();
+            debug_text(
+                alloc,
+                &names,
+                reader,
+                texts.open(log),
+                &mut commands,
+                out,
+                err,
+            )
+        }
+    }
+}
+
+// Runs the program that the reader holds, and writes the log of the run.
+fn record<T: Texts, R: Read, O: Write, E: Write>(
+    alloc: Global,
+    names: &Names<'_>,
+    explain: bool,
+    limit: u32,
+    texts: &T,
+    reader: &mut R,
+    out: &mut O,
+    err: &mut E,
+) -> Status
+    ensures done { is_answer result ≡ true → RecordsSomewhere limit result
+        (R.remaining reader.old) (O.contents out.old) (O.contents out.new) }
+    ensures told { is_answer result ≡ false
+        → GivesUp NoProgram explain names.now.program.now names.now.log.now result
+        (R.remaining reader.old) None (E.contents err.old) (E.contents err.new) }
+    ensures begun { result ≡ Status.CannotWrite → RecordsFrontSomewhere limit
+        (R.remaining reader.old) (O.contents out.old) (O.contents out.new) }
+    ensures usage { result ≢ Status.Usage }
+    ensures quiet { is_answer result ≡ true → err.new ≡ err.old }
+    ensures kept { is_answer result ≡ false → result ≢ Status.CannotWrite → out.new ≡ out.old }
+{
+    let Ok(mut store) = texts.log(alloc, names.log) else {
+        return RecordFailure::Program(Failure::Memory).report(names, err);
+    };
+    record_text(alloc, names, explain, limit, reader, &mut store, out, err)
+}

@@ -1,0 +1,31 @@
+ghost use Rattle.std.specs.Prelude.{◌≡◌, ℕ, IfSome, List, Option};
+
+use crate::LogStore;
+use std::alloc::{AllocError, Global};
+use std::io::Read;
+
+/// Where the texts are that names stand for.
+pub trait Texts {
+    type Reader: Read + Drop;
+
+    type Commands: Read + Drop;
+
+    type Store: LogStore + Drop;
+
+    // The bytes of the text of a name, where they are known.
+    ghost held: { Self → List ℕ → Option (List ℕ) };
+
+    // The bytes of the commands that are entered, where they are known.
+    ghost entered: { Self → Option (List ℕ) };
+
+    /// The text of this name, if it can be read.
+    fn open(&self, name: &str) -> Option<Self::Reader>
+        ensures { IfSome result (λ reader. Self.Reader.remaining reader ≡ held self.now name.now) };
+
+    /// The commands of a session.
+    fn commands(&self) -> Self::Commands
+        ensures { Self.Commands.remaining result ≡ entered self.now };
+
+    /// Where the log of this name is written. Nothing is created before its text is there.
+    fn log(&self, alloc: Global, name: &str) -> Result<Self::Store, AllocError>;
+}

@@ -1,7 +1,0 @@
-use Rattle.cilk_recorded.proofs.Ran.{ran}
-use Rattle.cilk_recorded.proofs.running.texts_of.Goals as goal
-
-pub returns-clause-ok : goal.returns-clause-ok
-returns-clause-ok c =
-    ran c.args.limit _ c.args.text.now _ _ _ _ _ c.in_ok-program.ensures.ok c.in-Ok.ensures.led c.in-Ok.ensures.stops c.in_ok-closing.ensures.closes
-    c.in-Ok-write_log.ensures

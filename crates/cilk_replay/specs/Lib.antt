@@ -1,4 +1,0 @@
-pub mod Tape
-pub mod Faults
-pub use Rattle.cilk_machine.specs.carries
-pub use Rattle.cilk_machine.specs as machine

@@ -1,5 +1,0 @@
-use Rattle.cilk_stands.proofs.Steps.{call-stands, return-stands, awaits-same}
-use Rattle.cilk_stands.proofs.laws.a_call_stands.Goals as goal
-
-pub returns : goal.returns
-returns c = record { enters = call-stands; leaves = return-stands; awaits = awaits-same }

@@ -1,5 +1,0 @@
-use Rattle.cilk_stands.proofs.Steps.{start-stands}
-use Rattle.cilk_stands.proofs.laws.a_start_stands.Goals as goal
-
-pub returns : goal.returns
-returns c = start-stands
