@@ -172,13 +172,11 @@ class Turns:
         return sorted(found, key=lambda it: -self.behind[it])
 
     def next(self):
-        """Returns the crate to take up now and how many jobs it gets, or None."""
+        """Returns the crate to take up now and how many jobs it gets, or None. Processors that are left over are shared among those that are ready."""
         ready, free = self.ready(), self.most - sum(self.jobs.values())
         if not ready or free < 1:
             return None
-        name = ready[0]
-        is_longest = all(self.behind[it] <= self.behind[name] for it in self.jobs)
-        jobs = min(MOST_JOBS, max(1, free - len(ready) + 1)) if is_longest else 1
+        name, jobs = ready[0], min(MOST_JOBS, max(1, -(-free // len(ready))))
         self.left.remove(name)
         self.jobs[name] = jobs
         return name, jobs
