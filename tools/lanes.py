@@ -17,7 +17,7 @@ PARTS = ("src", "specs", "proofs")
 # The memory that a check may take, in bytes: most take a third of it.
 ROOM = 3_500_000_000
 # The most processes that one check gains from.
-MOST_JOBS = 4
+MOST_JOBS = 2
 
 
 class Crates:
