@@ -25,10 +25,11 @@ ways:
 costs:
 	tools/costs
 
-# Tries ./cilk on the cases of programs/, on the examples of docs/LANGUAGE.md and the sessions of docs/DEBUGGER.md.
+# Tries ./cilk on the cases of programs/, on the examples of docs/LANGUAGE.md and the sessions of docs/DEBUGGER.md, and on runs by several workers.
 programs: cilk
 	tools/programs ./cilk
 	tools/examples ./cilk
+	tools/threads ./cilk
 
 must_not_compile:
 	tools/must_not_compile

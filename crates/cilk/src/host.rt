@@ -1,12 +1,13 @@
 ghost use Rattle.std.specs.Prelude.{None};
 ghost use Rattle.cilk.specs.Source.{IsSource};
 
+use crate::writing::write_whole;
 use cilk_program::{LogStore, Texts};
 use either::Either;
 use std::alloc::{AllocError, Global};
 use std::fs::File;
-use std::io;
-use std::io::Write;
+use std::os::unix::fs::MetadataExt;
+use std::{fs, io};
 
 /// The texts of the system: its files and its standard input.
 #[derive(Clone, Copy)]
@@ -41,30 +42,72 @@ impl<'r> Texts for Host<'r> {
         self.rt.reader()
     }
 
-    fn log(&self, alloc: Global, name: &str) -> Result<LogFile<'r>, AllocError> {
-        Ok(LogFile {
-            rt: self.rt,
-            path: String::from_str(alloc, name)?,
-        })
+    fn log(
+        &self,
+        alloc: Global,
+        program: &str,
+        name: Option<&str>,
+    ) -> Result<LogFile<'r>, AllocError> {
+        match name {
+            None => Ok(LogFile {
+                rt: self.rt,
+                alloc,
+                path: None,
+                is_program: false,
+            }),
+            Some(name) => Ok(LogFile {
+                rt: self.rt,
+                alloc,
+                path: Some(String::from_str(alloc, name)?),
+                is_program: is_same_file(self.rt, program, name),
+            }),
+        }
     }
 }
 
-/// The file that a log is written to, which is created when its text is there.
+/// The file that a log is written to, if there is one. It is created when the text of the log is there.
 #[derive(Drop)]
 pub struct LogFile<'r> {
     rt: &'r HostRuntime,
-    path: String,
+    alloc: Global,
+    path: Option<String>,
+    is_program: bool,
 }
 
 impl<'r> LogStore for LogFile<'r> {
     ghost stored = { λ file. None };
 
+    fn is_wanted(&self) -> bool {
+        self.path.is_some()
+    }
+
+    fn is_apart(&self) -> bool {
+        !self.is_program
+    }
+
     fn store(&mut self, text: &[u8]) -> io::Result<()> {
-        let mut file = File::create(self.rt, self.path.as_str())?;
-        file.write_all(text)?;
-        file.flush()
+        match &self.path {
+            Some(path) => write_whole(self.rt, self.alloc, path.as_str(), text),
+            None => Ok(()),
+        }
     }
 }
+
+// Whether a log of this name would be written to the file that the program's text came from.
+fn is_same_file(rt: &HostRuntime, program: &str, log: &str) -> bool {
+    let path = match source_of(program) {
+        Source::Standard => STANDARD_INPUT,
+        Source::Path(path) => path,
+    };
+    match (fs::metadata(rt, path), fs::metadata(rt, log)) {
+        (Ok(one), Ok(other)) => {
+            other.is_file() && one.dev() == other.dev() && one.ino() == other.ino()
+        }
+        _ => false,
+    }
+}
+
+const STANDARD_INPUT: &str = "/dev/stdin";
 
 /// What a name stands for.
 pub enum Source<'a> {

@@ -8,26 +8,35 @@
 
 mod host;
 mod streams;
+mod writing;
 
 use cilk_program::exit_code;
 use host::Host;
 use std::process::ExitCode;
+use std::sync::Wait;
+use std::thread::Threads;
 use std::{env, io};
 use streams::seat;
 
 fn main(rt: HostRuntime) -> ExitCode {
     let seats = [seat(&rt), seat(&rt), seat(&rt)];
-    let words = words(&rt);
-    let texts = Host { rt: &rt };
-    let code = exit_code(
+    let code = code(&rt, &rt);
+    drop(seats);
+    ExitCode::from(code)
+}
+
+// The number to exit with. Workers are started with the handle.
+fn code<H: Threads + Wait + Sync>(handle: &H, rt: &HostRuntime) -> u8 {
+    let words = words(rt);
+    let texts = Host { rt };
+    exit_code(
+        handle,
         rt.alloc(),
         words,
         &texts,
         &mut rt.stdout(),
         &mut rt.stderr(),
-    );
-    drop(seats);
-    ExitCode::from(code)
+    )
 }
 
 fn words(rt: &HostRuntime) -> io::Result<Vec<String>> {

@@ -1,6 +1,5 @@
 -- The statuses, and which one tells of a failure.
 use Rattle.std.specs.Prelude.{ℕ, Bool, true, false}
-use Rattle.cilk_machine.specs.model.End as model
 use Rattle.cilk_commands.specs.declared.failure.Failure.{Failure}
 use Rattle.cilk_commands.specs.declared.failure.Failure.TheVariants as failure
 use Rattle.cilk_commands.specs.declared.status.Status.{Status}
@@ -18,6 +17,7 @@ code_of status.Memory = 6
 code_of status.CannotRead = 7
 code_of status.CannotWrite = 7
 code_of status.CannotRecord = 7
+code_of status.CannotStart = 7
 
 -- a text that is no program that may be run is refused; any other failure has its own status
 abbrev pub status_of : Failure → Status
@@ -27,13 +27,6 @@ status_of failure.TooMany = status.Refused
 status_of failure.Memory = status.Memory
 status_of failure.CannotRead = status.CannotRead
 status_of failure.CannotWrite = status.CannotWrite
-
--- the status that tells how a run ended
-abbrev pub status_at : model.End → Status
-status_at (model.finished value) = status.Done
-status_at (model.trapped kind path n line) = status.Trapped
-status_at model.stuck = status.Stuck
-status_at model.limit = status.Limit
 
 -- whether an answer was written
 abbrev pub is_answer : Status → Bool
@@ -47,3 +40,4 @@ is_answer status.Memory = false
 is_answer status.CannotRead = false
 is_answer status.CannotWrite = false
 is_answer status.CannotRecord = false
+is_answer status.CannotStart = false

@@ -5,7 +5,6 @@
 //! as does one of `Failure::report` that writes less than the line. Tests see these.
 #![tactic(auto)]
 
-mod alone;
 mod answer;
 mod check;
 mod failure;
@@ -13,23 +12,18 @@ mod fault;
 mod loading;
 mod print;
 mod program;
-mod run;
 mod source;
 mod status;
 mod telling;
 
-pub use alone::{go_on, run_alone};
 pub use answer::{write_answer, write_parts};
 pub use check::check_text;
-pub use cilk_machine::{
-    Choice, Did, End, Event, Loaded, Machine, MachineFault, Outcome, Refusal, ending,
-};
+pub use cilk_load::Loaded;
 pub use failure::Failure;
 pub use fault::Fault;
 pub use loading::ready_of;
 pub use print::print_text;
 pub use program::program_of;
-pub use run::{run_text, status_at};
 pub use source::{read_all, read_text};
 pub use status::Status;
 pub use telling::tell_of;

@@ -4,7 +4,7 @@ ghost use Rattle.cilk_commands.specs.Loading.{IsReady, Unready};
 
 use crate::failure::Failure;
 use crate::program::program_of;
-use cilk_machine::{LoadFault, Loaded, load};
+use cilk_load::{LoadFault, Loaded, load};
 use std::alloc::Global;
 
 /// The program that the bytes of a text are, ready to run. What is wrong is told in the order of `program_of`, and then

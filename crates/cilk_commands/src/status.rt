@@ -23,6 +23,8 @@ pub enum Status {
     CannotWrite,
     /// The recorded schedule cannot be written, so that there is no answer.
     CannotRecord,
+    /// A worker cannot be started.
+    CannotStart,
 }
 
 impl Status {
@@ -40,7 +42,8 @@ impl Status {
             Status::Stuck => 4,
             Status::Limit => 5,
             Status::Memory => 6,
-            Status::CannotRead | Status::CannotWrite | Status::CannotRecord => 7,
+            Status::CannotRead | Status::CannotWrite | Status::CannotRecord | Status::CannotStart =>
+                7,
         }
     }
 }

@@ -9,7 +9,7 @@ use crate::failure::Failure;
 use crate::fault::Fault;
 use crate::status::Status;
 use cilk_explain::{Told, place_lines, sentence};
-use cilk_machine::Memory;
+use cilk_load::Memory;
 use cilk_parse::{ReadFault, read};
 use std::alloc::{AllocError, Global};
 use std::io::Write;

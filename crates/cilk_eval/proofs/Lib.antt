@@ -1,3 +1,5 @@
 pub mod Environments
 pub mod Rounding
 pub mod Places
+pub mod KnownLaws
+pub use Rattle.cilk_values.proofs.syntax_laws

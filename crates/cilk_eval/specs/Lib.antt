@@ -5,3 +5,4 @@ pub mod Size
 pub mod Falls
 pub mod Slots
 pub mod Rounding
+pub mod Known

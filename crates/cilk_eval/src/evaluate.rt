@@ -73,14 +73,14 @@ fn eval_whole(slots: Slots, code: &Code) -> Result<i32, Trap>
     }
 }
 
-fn literal(number: u32) -> Result<i32, Trap>
+pub(crate) fn literal(number: u32) -> Result<i32, Trap>
     ensures { result ≡ exact (pos number) }
 {
     i32::try_from(number).map_err(|_| Trap::Overflow)
 }
 
 // The value that `&&` or `||` has by its left operand alone.
-fn settled(op: BinOp, left: i32) -> Option<i32>
+pub(crate) fn settled(op: BinOp, left: i32) -> Option<i32>
     ensures { result ≡ settled_by_left op left }
 {
     match op {
@@ -90,7 +90,7 @@ fn settled(op: BinOp, left: i32) -> Option<i32>
     }
 }
 
-fn variable(slots: &Slots, slot: Slot) -> i32
+pub(crate) fn variable(slots: &Slots, slot: Slot) -> i32
     requires { LiesWithin (sizes_of (cells_of slots.now)) slot }
     ensures { result ≡ (environment (cells_of slots.now)).value slot }
 {

@@ -1,11 +1,14 @@
 //! Laws about values. The functions do nothing: their contracts are what is proved.
 
-ghost use Rattle.std.specs.Prelude.{◌≡◌, ◌≢◌, ℕ, ◌^◌, ℤ, pos, int_div, int_rem};
+ghost use Rattle.std.specs.Prelude.{◌≡◌, ◌≢◌, ℕ, ◌^◌, ℤ, pos, true, int_div, int_rem};
 ghost use Rattle.std.specs.Int.{int_div_euclid};
 ghost use Rattle.cilk_values.specs.Term.{Term, rename};
 ghost use Rattle.cilk_values.specs.Value.{Environment, value_of, seen_through};
+ghost use Rattle.cilk_eval.specs.declared.slot.Slot.{Slot};
+ghost use Rattle.cilk_eval.specs.Known.{is_plain, known, known_of};
 ghost use Rattle.cilk_eval.specs.Reads.{ReadsSame};
 ghost use Rattle.cilk_eval.specs.Rounding.{Truncates, RoundsDown};
+ghost use Rattle.cilk_eval.specs.Slots.{Cells, environment};
 
 /// Other names for the places of an expression leave its value as it is, and so does a change of
 /// what it does not read.
@@ -20,4 +23,10 @@ pub fn value_is_of_what_is_read<P, Q>()
 pub fn quotients_are_rounded()
     ensures division { (a b : ℤ) → b ≢ pos 0 → Truncates a b (int_div a b) (int_rem a b) }
     ensures shift { (a : ℤ) (k : ℕ) → RoundsDown a (2 ^ k) (int_div_euclid a (pos (2 ^ k))) }
+{}
+
+/// What is known of the variables of a plain expression, where cells hold them, gives it the value that it has over those cells.
+pub fn plain_values_are_known()
+    ensures { (cells : Cells) (t : Term Slot) → is_plain t ≡ true
+        → value_of (known (known_of cells t)) t ≡ value_of (environment cells) t }
 {}

@@ -7,3 +7,4 @@ pub mod SlotLaws
 pub mod Bodies
 pub mod Programs
 pub mod Made
+pub mod Crosses

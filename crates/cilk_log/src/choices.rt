@@ -29,6 +29,13 @@ impl Choices {
         }
     }
 
+    /// These choices, the first one first. It takes no memory.
+    pub fn of(choices: Vec<Choice>) -> Choices
+        ensures { result ≡ choices.items }
+    {
+        Choices { choices }
+    }
+
     /// How many there are.
     pub fn len(&self) -> usize
         ensures { result ≡ length self.now }

@@ -12,9 +12,11 @@ pub mod Idle
 pub mod Openings
 pub mod Shown
 pub mod Fates
+pub mod Crosses
 pub use Rattle.cilk_carries.proofs.agree_laws
 pub use Rattle.cilk_carries.proofs.frame_laws
 pub use Rattle.cilk_carries.proofs.nodes_laws
 pub use Rattle.cilk_carries.proofs.placed_laws
 pub use Rattle.cilk_carries.proofs.sched_laws
 pub use Rattle.cilk_carries.proofs.spawn_laws
+pub use Rattle.cilk_choices.proofs as choices_laws

@@ -41,7 +41,7 @@ use Rattle.cilk_carries.specs.Words.{machine_of}
 use Rattle.cilk_choices.specs.declared.outcome.Outcome.TheVariants.{Running}
 use Rattle.cilk_machine.specs.Situation.{Situation}
 use Rattle.cilk_machine.specs.Stands.{Led, IsSound}
-use Rattle.cilk_machine.specs.Opening.{cells_of, StartsMain}
+use Rattle.cilk_machine.specs.Opening.{cells_of, Begins, First, StartsMain}
 
 -- the cells of the table of variables are those of the definition
 first_cells : (area : Area) (at : ℕ) (variables : List Variable) → cells_of (vars_from area at variables) ≡ flat (initial_values variables)
@@ -154,16 +154,8 @@ module _ (p : Program) (well : WellFormed p) (b : ℕ) (main : (label p).main �
 crew_is : (n : ℕ) → 1 ≤ n → n ≤ 64 → is_crew n ≡ true
 crew_is n low high = λ i. le-leb 1 n low i && le-leb n 64 high i
 
-pub crew-of : (n : ℕ) (places : List (PlaceOf Frame)) (f : Frame) → places ≡ with_hand (replicate n no_place) 1 (Some f) → length places ≡ n
+crew-of : (n : ℕ) (places : List (PlaceOf Frame)) (f : Frame) → places ≡ with_hand (replicate n no_place) 1 (Some f) → length places ≡ n
 crew-of n places f h = ap length h ∙ workers-of-hand (replicate n no_place) 1 (Some f) ∙ length-replicate n no_place
-
--- what the parts of a machine are at first
-pub record First (p : Program) (n b : ℕ) (f : Frame) (parts : Parts) : Type 0 where
-  pub cells : parts.globals.items ≡ cells_of (globals_of p)
-  pub locks : parts.locks.items ≡ replicate (length (locks_of p)) Unset
-  pub output : parts.output.items ≡ []
-  pub nodes : parts.tree.nodes ≡ root_alone b
-  pub hands : parts.hands ≡ with_hand (replicate n no_place) 1 (Some f)
 
 abbrev pub before_any : Program → Parts → Situation
 before_any p parts = record { program = p; machine = machine_of parts outside.running; outcome = Running; choices = 0 }
@@ -193,7 +185,7 @@ module _ (p : Program) (n b : ℕ) (f : Frame) (parts : Parts) (low : 1 ≤ n) (
       read-agrees p (machine_of parts outside.running) (λ i. model.started (label p) b []) at
       (subst (λ x. Agrees p x (λ i. model.started (label p) b []) at) (sym machine-is) (opening-agrees p b n f starts.own stands))
 
-  pub opened-led : Led (before_any p parts) [] [] at
+  opened-led : Led (before_any p parts) [] [] at
   opened-led = record {
     led =
         ap (λ k. after (label p) k []) (crew-of n parts.hands f first.hands)
@@ -205,7 +197,7 @@ module _ (p : Program) (n b : ℕ) (f : Frame) (parts : Parts) (low : 1 ≤ n) (
     fated = subst (λ ns. Fated (label p) ns []) (sym first.nodes) (roots-are-fated (label p) b main);
   }
 
-  pub opened-sound : WellFormed p → IsSound (before_any p parts)
+  opened-sound : WellFormed p → IsSound (before_any p parts)
   opened-sound well =
       let crew = crew-of n parts.hands f first.hands in
       record {
@@ -215,3 +207,14 @@ module _ (p : Program) (n b : ℕ) (f : Frame) (parts : Parts) (low : 1 ≤ n) (
         at = at;
         stands = record { choices = []; events = []; led = opened-led };
       }
+
+-- where all parts are those of the beginning
+module _ (p : Program) (n : ℕ) (parts : Parts) (low : 1 ≤ n) (high : n ≤ 64) (begins : Begins p n parts) where
+  pub begun-led : (at : Standing) × Led (before_any p parts) [] [] at
+  begun-led = (opening (label p) begins.main n, opened-led p n begins.main begins.frame parts low high begins.is_main begins.starts begins.first)
+
+  pub begun-sound : WellFormed p → IsSound (before_any p parts)
+  begun-sound = opened-sound p n begins.main begins.frame parts low high begins.is_main begins.starts begins.first
+
+  pub begun-crew : n ≡ length parts.hands
+  begun-crew = sym (crew-of n parts.hands begins.frame begins.first.hands)

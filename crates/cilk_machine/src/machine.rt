@@ -14,9 +14,9 @@ ghost use Rattle.cilk_machine.specs.Globals.{global_of};
 
 mod making;
 
-use crate::opening::{first_frame, initial_cells, initial_locks};
+use crate::opening::first_parts;
 use crate::reading::cell_of;
-use cilk_carries::{Fate, Hands, Id, Parts, Program, Tree};
+use cilk_carries::{Fate, Id, Parts, Program};
 use cilk_choices::{End, MachineFault, Memory, Outcome};
 use cilk_step::Loaded;
 use cilk_view::Shown;
@@ -83,19 +83,12 @@ impl Machine {
         ensures opening { IfOk result Opens }
     {
         let _program = loaded.program();
-        let main = loaded.main();
-        let frame = first_frame(alloc, &loaded)?;
-        let globals = initial_cells(alloc, loaded.globals())?;
-        let locks = initial_locks(alloc, loaded.locks())?;
-        let tree = Tree::new(alloc, main)?;
-        let mut hands = Hands::new(alloc, workers)?;
-        hands.give(1, frame);
-        let parts = Parts {
-            globals,
-            locks,
-            output: Vec::new(alloc),
-            tree,
-            hands,
+        let parts = match first_parts(alloc, &loaded, workers) {
+            Ok(parts) => parts,
+            Err(memory) => {
+                drop(loaded);
+                return Err(memory);
+            }
         };
         Ok(Machine {
             alloc,

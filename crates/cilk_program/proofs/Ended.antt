@@ -19,7 +19,7 @@ use Rattle.cilk_words.specs.Refusing.{Tells, asks_for_help, asks_for_version, as
 use Rattle.cilk_words.specs.declared.refusal.Refusal.{Refusal}
 use Rattle.cilk_words.specs.declared.refusal.Refusal.TheVariants as refusal
 use Rattle.cilk_program.specs.Ends.{Ends, Shows}
-use Rattle.cilk_program.specs.Task.{Fails, Leaves}
+use Rattle.cilk_program.specs.Task.{Fails, Leaves, log_name}
 
 -- ---- a text that was not read
 
@@ -59,9 +59,8 @@ pub unread : (wanted : Wanted) (explain : Bool) (name : List ℕ) (status : Stat
     → Fails wanted explain name status known held old new
 unread printed explain name status known held old new found other is told = nothing_read Unready explain name status known old new found other is told
 unread checked explain name status known held old new found other is told = nothing_read Unready explain name status known old new found other is told
-unread (run limit None) explain name status known held old new found other is told = nothing_read Unready explain name status known old new found other is told
-unread (run limit (Some log)) explain name status known held old new found other is told =
-    no_program NoProgram explain name log status known None old new found other is told
+unread (run workers limit log) explain name status known held old new found other is told =
+    no_program NoProgram explain name (log_name log) status known None old new found other is told
 unread (replayed log) explain name status known held old new found other is told =
     no_program Declines false name log status known (held log) old new found other is told
 unread (debugged log) explain name status known held old new found other is told =
@@ -72,8 +71,7 @@ pub leaves_nothing : (wanted : Wanted) (status : Status) (known : Option (List �
     → status ≢ ended.CannotWrite → new ≡ old → Leaves wanted status known held entered old new
 leaves_nothing printed status known held entered old new other same = λ bad. absurd (other bad)
 leaves_nothing checked status known held entered old new other same = λ bad. absurd (other bad)
-leaves_nothing (run limit None) status known held entered old new other same = λ bad. absurd (other bad)
-leaves_nothing (run limit (Some log)) status known held entered old new other same = λ bad. absurd (other bad)
+leaves_nothing (run workers limit log) status known held entered old new other same = λ bad. absurd (other bad)
 leaves_nothing (replayed log) status known held entered old new other same = λ bad. absurd (other bad)
 leaves_nothing (debugged log) status known held entered old new other same = λ not. inl same
 

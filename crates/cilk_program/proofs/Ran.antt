@@ -1,58 +1,62 @@
 -- The texts of a machine that is not moved any more.
-use Rattle.std.proofs.Common.{◌≡◌, ℕ, List, [], ◌∷◌, ◌++◌, length, map, take, sym, ap, ◌∙◌, arith, subst}
-use Rattle.std.proofs.lemmas.List.{length-map, map-append}
+use Rattle.std.proofs.Common.{◌≡◌, ◌≤◌, ℕ, Bool, true, false, refl, List, length, map, take, sym, ap, ◌∙◌, subst}
+use Rattle.std.specs.Prelude.{Result, Ok, Err, IfOk}
+use Rattle.std.proofs.lemmas.List.{length-map}
 use Rattle.cilk_commands.specs.syntax.Tree.{Program}
 use Rattle.cilk_commands.specs.labelled.Bodies.{label}
-use Rattle.cilk_commands.specs.model.Event.{Event}
-use Rattle.cilk_commands.specs.model.Run.{Standing, after, next_of}
-use Rattle.cilk_commands.specs.model.End as end
-use Rattle.cilk_commands.specs.choices.Words.{choice_of}
-use Rattle.cilk_commands.specs.choices.declared.choice.Choice as code
-use Rattle.cilk_commands.specs.machine.Situation.{Situation}
-use Rattle.cilk_commands.specs.machine.Made.{Makes}
-use Rattle.cilk_commands.specs.machine.Stands.{Led, StandsAt}
+use Rattle.cilk_run.specs.model.Run.{Standing, after}
+use Rattle.cilk_run.specs.model.End as end
+use Rattle.cilk_run.specs.Runs as Runs
+use Rattle.cilk_run.specs.declared.outcome.Run.{Run}
+use Rattle.cilk_run.specs.choices.Words.{choice_of, end_of}
+use Rattle.cilk_run.specs.choices.declared.choice.Choice as code
+use Rattle.cilk_run.specs.machine.Situation.{Situation}
+use Rattle.cilk_run.specs.machine.Stands.{StandsAt}
 use Rattle.cilk_debug.specs.log.Text.{log_text}
+use Rattle.cilk_debug.specs.log.Words.{log_of}
 use Rattle.cilk_debug.specs.Tape.{Tape, tape_of, IsAt}
 use Rattle.cilk_commands.specs.Loading.{IsReady}
-use Rattle.cilk_commands.specs.Running.{IsClosing, Stops}
-use Rattle.cilk_commands.specs.Status.{status_at}
 use Rattle.cilk_commands.specs.declared.status.Status.{Status}
-use Rattle.cilk_program.specs.Recording.{IsLedBy, IsRecorded}
+use Rattle.cilk_program.specs.Running.{IsRun, status_at}
+use Rattle.cilk_program.specs.declared.running.Texts.{Texts}
 use Rattle.cilk_program.specs.Replaying.{ClosesAt, IsReplayed}
 use Rattle.cilk_program.specs.Taped.{IsTape}
 
--- one choice more
-pub led_on : (p : Program) (made more : List code.Choice) (m n : Situation) (choice : code.Choice) (did : Event) → Makes m n (choice_of choice) did
-    → more ≡ made ++ choice ∷ [] → IsLedBy p made m → IsLedBy p more n
-led_on p made more m n choice did makes is l = record {
-  program_is = makes.program ∙ l.program_is;
-  alone = makes.workers ∙ l.alone;
-  events = l.events ++ did ∷ [];
-  at = next_of (label m.program) l.at (choice_of choice);
-  led = subst (λ cs. Led n cs (l.events ++ did ∷ []) (next_of (label m.program) l.at (choice_of choice))) (sym (ap (map choice_of) is ∙ map-append choice_of made (choice ∷ [])))
-      (makes.leads (map choice_of made) l.events l.at l.led).led;
-}
-
--- the closing text of a run, and the recorded schedule of its choices
-pub ran : (limit : ℕ) (status : Status) (bytes log text : List ℕ) (p : Program) (made : List code.Choice) (m : Situation)
-    → IsReady bytes p → IsLedBy p made m → Stops limit m → ((at : Standing) → StandsAt m at → ClosesAt m at status text)
-    → log ≡ log_text (record { workers = 1; choices = map choice_of made }) → IsRecorded limit status bytes log text
-ran limit status bytes log text p made m ready l stops closes is =
-    let there : StandsAt m l.at = record { choices = map choice_of made; events = l.events; led = l.led } in
-    let counted : length (map choice_of made) ≡ m.choices = l.led.counted in
-    let now : end.end_now (label m.program) l.at ≡ end.end_now (label p) l.at = ap (λ (q : Program). end.end_now (label q) l.at) l.program_is in
-    let run : IsClosing limit status bytes text = record {
+-- the closing text of a run, and its log
+pub ran : (workers limit : ℕ) (bytes text : List ℕ) (p : Program) (r : Run) → IsReady bytes p → Runs.IsRun p workers limit r
+    → text ≡ end.ending r.output (end_of r.end) (length r.log.choices)
+    → IsRun workers limit (status_at (end_of r.end)) bytes (log_text (record { workers = r.log.workers; choices = map choice_of r.log.choices })) text
+ran workers limit bytes text p r ready l is =
+    let count : length r.log.choices ≡ length (map choice_of r.log.choices) = sym (length-map r.log.choices choice_of) in
+    record {
       program = p;
       ready = ready;
-      choices = map choice_of made;
-      at = record { standing = l.at; events = l.events };
-      led = (λ i. after (label (sym l.program_is i)) (sym l.alone i) (map choice_of made)) ∙ l.led.led;
-      within = omega (arith, stops.within, counted);
-      whole = λ e. counted ∙ stops.whole l.at there (now ∙ e);
-      tells = (closes l.at there).tells ∙ ap status_at now;
-      is = (closes l.at there).is ∙ (λ i. end.ending l.at.state.output (now i) (sym counted i));
-    } in
-    record { run = run; recorded = is }
+      choices = map choice_of r.log.choices;
+      at = l.at;
+      led = l.led;
+      within = subst (λ n. n ≤ limit) count l.within;
+      whole = λ e. sym count ∙ l.whole e;
+      tells = ap status_at l.end;
+      is = is ∙ (λ i. end.ending (l.output i) (l.end i) (count i));
+      recorded = ap (λ n. log_text (record { workers = n; choices = map choice_of r.log.choices })) l.workers;
+    }
+
+-- the texts that are made of a run
+pub told_of : {E : Type 0} (workers limit : ℕ) (p : Program) (r : Run) (is_logged : Bool) (texts : Result Texts E) → Runs.IsRun p workers limit r
+    → IfOk texts (λ t. t.status ≡ status_at (end_of r.end)) → IfOk texts (λ t. t.answer.items ≡ end.ending r.output (end_of r.end) (length r.log.choices))
+    → (is_logged ≡ true → IfOk texts (λ t. t.log.items ≡ log_text (log_of r.log)))
+    → IfOk texts (λ t. (bytes : List ℕ) → IsReady bytes p
+    → (log : List ℕ) × IsRun workers limit t.status bytes log t.answer.items × (is_logged ≡ true → t.log.items ≡ log))
+told_of workers limit p r is_logged (Ok t) l status text log = λ bytes ready. (
+  log_text (log_of r.log),
+  subst (λ s. IsRun workers limit s bytes (log_text (log_of r.log)) t.answer.items) (sym status) (ran workers limit bytes t.answer.items p r ready l text),
+  log,
+)
+told_of workers limit p r is_logged (Err e) l status text log = tt
+
+pub true_of : (b : Bool) → (b ≡ false → ⊥) → b ≡ true
+true_of true other = refl
+true_of false other = absurd (other refl)
 
 -- the closing text of a replay
 pub replayed : (status : Status) (text bytes answer : List ℕ) (t : Tape) (n : ℕ) (m : Situation) → IsTape text bytes t → n ≡ length t.choices → IsAt t n m

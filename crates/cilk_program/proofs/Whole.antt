@@ -1,5 +1,6 @@
 -- What is said of the bytes that were read of texts is said of the texts.
-use Rattle.std.proofs.Common.{◌≡◌, ◌≤◌, ◌∙◌, ℕ, Bool, List, [], length, Option, Some, None, refl, sym}
+use Rattle.std.proofs.Common.{◌≡◌, ◌≤◌, ◌∙◌, ◌++◌, ℕ, Bool, List, [], length, Option, Some, None, refl, subst, sym}
+use Rattle.std.specs.Io.KnownBytes.{Appends}
 use Rattle.std.specs.Prelude.{◌≢◌}
 use Rattle.cilk_commands.specs.syntax.Tree.{Program}
 use Rattle.cilk_commands.specs.lex.declared.reading.TheConstants.{TEXT_LIMIT}
@@ -12,7 +13,7 @@ use Rattle.cilk_commands.specs.declared.status.Status.{Status}
 use Rattle.cilk_commands.specs.declared.status.Status.TheVariants as status
 use Rattle.cilk_commands.proofs.WholeText.{some_read, reason_held, unexplained, whole_held}
 use Rattle.cilk_program.specs.GivingUp.{GivesUp, IsBehind, IsToldBehind, NoProgram, TellsWith}
-use Rattle.cilk_program.specs.Recording.{Stores, StoresFront}
+use Rattle.cilk_program.specs.Running.{Stores, StoresFront}
 use Rattle.cilk_program.specs.Taped.{Declines, IsUnread}
 use Rattle.cilk_program.specs.Telling.{status_of}
 use Rattle.cilk_program.specs.declared.failure.RecordFailure.{RecordFailure}
@@ -41,6 +42,12 @@ module _ (known : Option (List ℕ)) (text : List ℕ) (stored_old stored_new ol
     begun = s.begun;
   }
 
+-- known bytes that grew by a text grew by one that is equal where they are known
+pub appends_same : (old new : Option (List ℕ)) (kept text : List ℕ) → (old ≢ None → kept ≡ text) → Appends old new kept → Appends old new text
+appends_same None new kept text same grown = tt
+appends_same (Some bytes) None kept text same grown = absurd grown
+appends_same (Some bytes) (Some more) kept text same grown = subst (λ t. more ≡ bytes ++ t) (same (λ bad. cc)) grown
+
 -- ---- why there is no answer
 
 -- what is so of all bytes
@@ -62,6 +69,7 @@ unread_declines known text p (why.Log fault) ready told refused =
     record { bytes = told.bytes; held = told.held; are = record { program = p; ready = ready; first = told.are } }
 unread_declines known text p (why.Replay fault) ready told refused = absurd told.are
 unread_declines known text p why.CannotStore ready told refused = absurd told.are
+unread_declines known text p why.CannotStart ready told refused = absurd told.are
 unread_declines known text p why.Commands ready told refused = absurd told.are
 unread_declines known text p why.Answers ready told refused = absurd told.are
 
@@ -79,6 +87,7 @@ no_program_held known text why.CannotRead read told = absurd told
 no_program_held known text (why.Log fault) read told = absurd told
 no_program_held known text (why.Replay fault) read told = absurd told
 no_program_held known text why.CannotStore read told = absurd told
+no_program_held known text why.CannotStart read told = absurd told
 no_program_held known text why.Commands read told = absurd told
 no_program_held known text why.Answers read told = absurd told
 
@@ -98,6 +107,7 @@ declines_held known log text (why.Log fault) read told =
 declines_held known log text (why.Replay fault) read told =
     whole_held known text (λ t. Held log (λ bytes. Declines t bytes (why.Replay fault))) read told.are.is.ready.is.text.short told
 declines_held known log text why.CannotStore read told = absurd told.are
+declines_held known log text why.CannotStart read told = absurd told.are
 declines_held known log text why.Commands read told = absurd told.are
 declines_held known log text why.Answers read told = absurd told.are
 
@@ -108,6 +118,7 @@ told_behind explain known text why.CannotRead behind read is = is
 told_behind explain known text (why.Log fault) behind read is = is
 told_behind explain known text (why.Replay fault) behind read is = is
 told_behind explain known text why.CannotStore behind read is = is
+told_behind explain known text why.CannotStart behind read is = is
 told_behind explain known text why.Commands behind read is = is
 told_behind explain known text why.Answers behind read is = is
 

@@ -3,6 +3,6 @@ pub mod Task
 pub mod Telling
 pub mod GivingUp
 pub mod Taped
-pub mod Recording
+pub mod Running
 pub mod Replaying
 pub mod Debugging

@@ -1,14 +1,14 @@
 -- What a replay writes.
 use Rattle.std.specs.Prelude.{◌≡◌, ℕ, List, length, Option, Some}
 use Rattle.cilk_commands.specs.labelled.Bodies.{label}
-use Rattle.cilk_commands.specs.model.Run.{Standing, Position}
-use Rattle.cilk_commands.specs.model.End as model
-use Rattle.cilk_commands.specs.machine.Situation.{Situation}
+use Rattle.cilk_run.specs.model.Run.{Standing, Position}
+use Rattle.cilk_run.specs.model.End as model
+use Rattle.cilk_run.specs.machine.Situation.{Situation}
 use Rattle.cilk_debug.specs.Tape.{Tape, position_at}
 use Rattle.cilk_commands.specs.Front.{Gains, GainsFront}
 use Rattle.cilk_commands.specs.Held.{Held}
-use Rattle.cilk_commands.specs.Status.{status_at}
 use Rattle.cilk_commands.specs.declared.status.Status.{Status}
+use Rattle.cilk_program.specs.Running.{status_at}
 use Rattle.cilk_program.specs.Taped.{IsTape}
 
 -- the closing text of a machine and the status that tells how it stands, where it stands there

@@ -1,16 +1,15 @@
 -- What is to be written for what is wanted.
-use Rattle.std.specs.Prelude.{◌≡◌, ◌≢◌, ◌⊎◌, ℕ, Bool, true, false, List, Option, Some, None}
+use Rattle.std.specs.Prelude.{◌≡◌, ◌≢◌, ◌⊎◌, ℕ, Bool, true, false, List, [], Option, Some, None}
 use Rattle.cilk_commands.specs.Printing.{Prints, PrintsFront}
 use Rattle.cilk_commands.specs.Checking.{Passes, PassesFront}
-use Rattle.cilk_commands.specs.Running.{Runs, RunsFront}
 use Rattle.cilk_commands.specs.Loading.{Unready}
 use Rattle.cilk_commands.specs.Telling.{GivesUp}
 use Rattle.cilk_commands.specs.declared.status.Status.{Status}
 use Rattle.cilk_commands.specs.declared.status.Status.TheVariants.{CannotWrite, Done}
 use Rattle.cilk_program.specs.Debugging.{Debugs, DebugsFront}
 use Rattle.cilk_program.specs.GivingUp.{NoProgram, GivesUp as GivesUpOfLog}
-use Rattle.cilk_program.specs.Recording.{Records, RecordsFront}
 use Rattle.cilk_program.specs.Replaying.{Replays, ReplaysFront}
+use Rattle.cilk_program.specs.Running.{Runs, RunsFront}
 use Rattle.cilk_program.specs.Taped.{Declines}
 use Rattle.cilk_words.specs.CommandLine.{Wanted, printed, checked, run, replayed, debugged}
 
@@ -18,28 +17,32 @@ use Rattle.cilk_words.specs.CommandLine.{Wanted, printed, checked, run, replayed
 abbrev pub is_session : Wanted → Bool
 is_session printed = false
 is_session checked = false
-is_session (run limit log) = false
+is_session (run workers limit log) = false
 is_session (replayed log) = false
 is_session (debugged log) = true
 
--- a run is recorded in some store, whose bytes are known where they were
-pub record RecordsSomewhere (limit : ℕ) (status : Status) (known old new : Option (List ℕ)) : Type 0 where
+-- a run, with some store for its log, whose bytes may be known
+pub record RunsSomewhere (workers limit : ℕ) (status : Status) (known old new : Option (List ℕ)) : Type 0 where
   pub stored_old : Option (List ℕ)
   pub stored_new : Option (List ℕ)
-  pub is : Records limit status known stored_old stored_new old new
+  pub is : Runs workers limit status known stored_old stored_new old new
 
-pub record RecordsFrontSomewhere (limit : ℕ) (known old new : Option (List ℕ)) : Type 0 where
+pub record RunsFrontSomewhere (workers limit : ℕ) (known old new : Option (List ℕ)) : Type 0 where
   pub stored_old : Option (List ℕ)
   pub stored_new : Option (List ℕ)
-  pub is : RecordsFront limit known stored_old stored_new old new
+  pub is : RunsFront workers limit known stored_old stored_new old new
+
+-- the name by which a log is told of, where there is one
+abbrev pub log_name : Option (List ℕ) → List ℕ
+log_name None = []
+log_name (Some name) = name
 
 -- a writer has gained what is wanted of the bytes that a reader held, those that names stand for and those that are entered, and the
 -- status tells how it went
 abbrev pub Does : Wanted → Status → Option (List ℕ) → (List ℕ → Option (List ℕ)) → Option (List ℕ) → Option (List ℕ) → Option (List ℕ) → Type 0
 Does printed status known held entered old new = (status ≡ Done) × Prints known old new
 Does checked status known held entered old new = (status ≡ Done) × Passes known old new
-Does (run limit None) status known held entered old new = Runs limit status known old new
-Does (run limit (Some log)) status known held entered old new = RecordsSomewhere limit status known old new
+Does (run workers limit log) status known held entered old new = RunsSomewhere workers limit status known old new
 Does (replayed log) status known held entered old new = Replays status known (held log) old new
 Does (debugged log) status known held entered old new = (status ≡ Done) × Debugs known (held log) entered old new
 
@@ -47,8 +50,7 @@ Does (debugged log) status known held entered old new = (status ≡ Done) × Deb
 abbrev pub Leaves : Wanted → Status → Option (List ℕ) → (List ℕ → Option (List ℕ)) → Option (List ℕ) → Option (List ℕ) → Option (List ℕ) → Type 0
 Leaves printed status known held entered old new = status ≡ CannotWrite → PrintsFront known old new
 Leaves checked status known held entered old new = status ≡ CannotWrite → PassesFront known old new
-Leaves (run limit None) status known held entered old new = status ≡ CannotWrite → RunsFront limit known old new
-Leaves (run limit (Some log)) status known held entered old new = status ≡ CannotWrite → RecordsFrontSomewhere limit known old new
+Leaves (run workers limit log) status known held entered old new = status ≡ CannotWrite → RunsFrontSomewhere workers limit known old new
 Leaves (replayed log) status known held entered old new = status ≡ CannotWrite → ReplaysFront known (held log) old new
 Leaves (debugged log) status known held entered old new = status ≢ CannotWrite → (new ≡ old) ⊎ DebugsFront known (held log) entered old new
 
@@ -56,7 +58,6 @@ Leaves (debugged log) status known held entered old new = status ≢ CannotWrite
 abbrev pub Fails : Wanted → Bool → List ℕ → Status → Option (List ℕ) → (List ℕ → Option (List ℕ)) → Option (List ℕ) → Option (List ℕ) → Type 0
 Fails printed explain name status known held old new = GivesUp Unready explain name status known old new
 Fails checked explain name status known held old new = GivesUp Unready explain name status known old new
-Fails (run limit None) explain name status known held old new = GivesUp Unready explain name status known old new
-Fails (run limit (Some log)) explain name status known held old new = GivesUpOfLog NoProgram explain name log status known None old new
+Fails (run workers limit log) explain name status known held old new = GivesUpOfLog NoProgram explain name (log_name log) status known None old new
 Fails (replayed log) explain name status known held old new = GivesUpOfLog Declines false name log status known (held log) old new
 Fails (debugged log) explain name status known held old new = GivesUpOfLog Declines false name log status known (held log) old new

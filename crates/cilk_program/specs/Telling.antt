@@ -1,7 +1,7 @@
 -- The line that tells why there is no answer about a recorded schedule, and the status.
 use Rattle.std.specs.Prelude.{ℕ, List, ◌++◌, codes, decimal}
-use Rattle.cilk_commands.specs.choices.declared.refusal.Refusal.{Refusal}
-use Rattle.cilk_commands.specs.choices.declared.refusal.Refusal.TheVariants as refusal
+use Rattle.cilk_run.specs.choices.declared.refusal.Refusal.{Refusal}
+use Rattle.cilk_run.specs.choices.declared.refusal.Refusal.TheVariants as refusal
 use Rattle.cilk_debug.specs.log.declared.fault.LogFault.{LogFault}
 use Rattle.cilk_debug.specs.log.declared.fault.LogFault.TheVariants as log
 use Rattle.cilk_debug.specs.declared.replay_fault.ReplayFault.{ReplayFault}
@@ -47,6 +47,7 @@ line_of program name why.CannotRead = line_of_program name failure.CannotRead
 line_of program name (why.Log found) = log_line name found
 line_of program name (why.Replay found) = replay_line name found
 line_of program name why.CannotStore = codes "cilk: cannot write " ++ (name ++ codes "\n")
+line_of program name why.CannotStart = codes "cilk: cannot start a worker\n"
 line_of program name why.Commands = codes "cilk: session ended by B7\n"
 line_of program name why.Answers = codes "cilk: session ended by B8\n"
 
@@ -69,5 +70,6 @@ status_of why.CannotRead = status.CannotRead
 status_of (why.Log found) = log_status found
 status_of (why.Replay found) = replay_status found
 status_of why.CannotStore = status.CannotRecord
+status_of why.CannotStart = status.CannotStart
 status_of why.Commands = status.CannotRead
 status_of why.Answers = status.CannotWrite

@@ -1,12 +1,16 @@
-//! How a machine stands that is not moved any more.
+//! How a program stands whose choices are made.
 
-ghost use Rattle.std.specs.Prelude.{◌≡◌, true, IfOk, IfErr};
-ghost use Rattle.cilk_commands.specs.model.Run.{Standing};
-ghost use Rattle.cilk_commands.specs.machine.Stands.{StandsAt};
+ghost use Rattle.std.specs.Prelude.{◌≡◌, true, length, IfOk, IfErr};
+ghost use Rattle.cilk_run.specs.choices.Words.{end_of};
+ghost use Rattle.cilk_run.specs.machine.Stands.{StandsAt};
+ghost use Rattle.cilk_run.specs.model.End as model;
+ghost use Rattle.cilk_run.specs.model.Run.{Standing};
 ghost use Rattle.cilk_commands.specs.Status.{is_answer};
 ghost use Rattle.cilk_program.specs.Replaying.{ClosesAt};
+ghost use Rattle.cilk_program.specs.Running.{status_at};
 
-use cilk_commands::{Failure, Machine, Status, ending, status_at};
+use cilk_commands::{Failure, Status};
+use cilk_run::{End, Machine, Run, ending};
 use std::alloc::Global;
 
 /// The closing text of a run, and the status that tells how it ended.
@@ -33,4 +37,35 @@ pub(crate) fn closing_of(alloc: Global, machine: &Machine) -> Result<Closing, Fa
         status: status_at(&end),
         text,
     })
+}
+
+/// The closing text of a run by workers.
+pub(crate) fn closing_of_run(alloc: Global, run: &Run) -> Result<Closing, Failure>
+    ensures status { IfOk result (λ closing. closing.status ≡ status_at (end_of run.now.end)) }
+    ensures text { IfOk result (λ closing.
+        closing.text.items ≡ model.ending run.now.output (end_of run.now.end) (length run.now.log.choices)) }
+    ensures answer { IfOk result (λ closing. is_answer closing.status ≡ true) }
+    ensures err { IfErr result (λ why. why ≡ Failure.Memory) }
+{
+    let choices = run.log.choices.len() as u64;
+    match ending(alloc, run.output.as_slice(), &run.end, choices) {
+        Ok(text) => Ok(Closing {
+            status: status_at(&run.end),
+            text,
+        }),
+        Err(_) => Err(Failure::Memory),
+    }
+}
+
+// The status that tells how a run ended.
+fn status_at(end: &End) -> Status
+    ensures at { result ≡ status_at (end_of end.now) }
+    ensures answer { is_answer result ≡ true }
+{
+    match end {
+        End::Finished(_) => Status::Done,
+        End::Trapped { .. } => Status::Trapped,
+        End::Stuck => Status::Stuck,
+        End::Limit => Status::Limit,
+    }
 }

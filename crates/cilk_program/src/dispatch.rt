@@ -11,9 +11,12 @@ use cilk_commands::{Failure, Status};
 use cilk_words::{Refusal, Request, request_in};
 use std::alloc::Global;
 use std::io::Write;
+use std::sync::Wait;
+use std::thread::Threads;
 
 /// Does what the words ask for, the first of which is the program's own name.
-pub fn run<T: Texts, O: Write, E: Write>(
+pub fn run<H: Threads + Wait + Sync, T: Texts, O: Write, E: Write>(
+    rt: &H,
     alloc: Global,
     words: &[String],
     texts: &T,
@@ -28,12 +31,13 @@ pub fn run<T: Texts, O: Write, E: Write>(
     ensures unanswered { result ≡ Status.Refused → out.new ≡ out.old }
 {
     match request_in(alloc, words) {
-        Ok(request) => obey(alloc, &request, texts, out, err),
+        Ok(request) => obey(rt, alloc, &request, texts, out, err),
         Err(refusal) => tell(&refusal, out, err),
     }
 }
 
-fn obey<T: Texts, O: Write, E: Write>(
+fn obey<H: Threads + Wait + Sync, T: Texts, O: Write, E: Write>(
+    rt: &H,
     alloc: Global,
     request: &Request<'_>,
     texts: &T,
@@ -57,7 +61,7 @@ fn obey<T: Texts, O: Write, E: Write>(
     ensures unanswered { result ≡ Status.Refused → out.new ≡ out.old }
 {
     match texts.open(request.name) {
-        Some(mut reader) => perform(alloc, request, texts, &mut reader, out, err),
+        Some(mut reader) => perform(rt, alloc, request, texts, &mut reader, out, err),
         None => Failure::CannotRead.report(request.name, err),
     }
 }

@@ -11,6 +11,8 @@ use cilk_commands::{Failure, Status};
 use std::alloc::Global;
 use std::io;
 use std::io::{ErrorKind, Write};
+use std::sync::Wait;
+use std::thread::Threads;
 
 const NOT_UTF8: &str = "error: a word is not UTF-8
 
@@ -21,7 +23,8 @@ For more information, try '--help'.
 
 /// Does what the words ask for, or tells why there are none, and returns the number that the program
 /// exits with.
-pub fn exit_code<T: Texts, O: Write, E: Write>(
+pub fn exit_code<H: Threads + Wait + Sync, T: Texts, O: Write, E: Write>(
+    rt: &H,
     alloc: Global,
     words: io::Result<Vec<String>>,
     texts: &T,
@@ -39,7 +42,7 @@ pub fn exit_code<T: Texts, O: Write, E: Write>(
         × (status ≡ Status.Refused → out.new ≡ out.old)) }
 {
     let status = match words {
-        Ok(words) => run(alloc, words.as_slice(), texts, out, err),
+        Ok(words) => run(rt, alloc, words.as_slice(), texts, out, err),
         Err(error) => refuse(&error, err),
     };
     status.code()

@@ -4,14 +4,15 @@ ghost use Rattle.cilk_commands.specs.Front.{AppendsFront};
 ghost use Rattle.cilk_program.specs.Telling.{choice_line, code_of, log_line, replay_line};
 
 use crate::names::Names;
-use cilk_commands::{Failure, Refusal, Status, tell_of, write_parts};
+use cilk_commands::{Failure, Status, tell_of, write_parts};
 use cilk_debug::{LogFault, ReplayFault};
+use cilk_run::Refusal;
 use itoa::Buffer;
 use std::alloc::Global;
 use std::io;
 use std::io::Write;
 
-/// Why a subcommand on a recorded schedule has no answer.
+/// Why a run, or a subcommand on a recorded schedule, has no answer.
 #[derive(Debug, Drop)]
 pub enum RecordFailure {
     /// There is no program, or memory has run out, or the output failed.
@@ -24,6 +25,8 @@ pub enum RecordFailure {
     Replay(ReplayFault),
     /// The store failed, so a part of the recorded schedule may be kept.
     CannotStore,
+    /// A worker cannot be started.
+    CannotStart,
     /// The commands of a session cannot be read, or are too long or too many.
     Commands,
     /// The answers of a session cannot be written.
@@ -46,6 +49,7 @@ impl RecordFailure {
             RecordFailure::Log(_) | RecordFailure::Replay(_) => Status::Refused,
             RecordFailure::CannotRead | RecordFailure::Commands => Status::CannotRead,
             RecordFailure::CannotStore => Status::CannotRecord,
+            RecordFailure::CannotStart => Status::CannotStart,
             RecordFailure::Answers => Status::CannotWrite,
         }
     }
@@ -96,6 +100,7 @@ impl RecordFailure {
             RecordFailure::CannotStore => {
                 write_parts(err, &["cilk: cannot write ", names.log, "\n"])
             }
+            RecordFailure::CannotStart => write_parts(err, &["cilk: cannot start a worker\n"]),
             RecordFailure::Commands => write_parts(err, &["cilk: session ended by B7\n"]),
             RecordFailure::Answers => write_parts(err, &["cilk: session ended by B8\n"]),
         }

@@ -1,43 +1,51 @@
-ghost use Rattle.std.specs.Prelude.{◌≡◌, ◌≢◌, [], true, false, None, IfOk, IfErr};
-ghost use Rattle.cilk_commands.specs.Loading.{Unready};
+ghost use Rattle.std.specs.Prelude.{◌≡◌, ◌≢◌, ℕ, List, [], length, true, false, None, IfOk, IfErr, OnOk};
+ghost use Rattle.std.specs.Io.KnownBytes.{Appends};
+ghost use Rattle.cilk_run.specs.choices.Words.{end_of};
+ghost use Rattle.cilk_run.specs.log.Text.{log_text};
+ghost use Rattle.cilk_run.specs.log.Words.{log_of};
+ghost use Rattle.cilk_run.specs.model.End as model;
+ghost use Rattle.cilk_commands.specs.Loading.{IsReady};
 ghost use Rattle.cilk_commands.specs.Status.{is_answer};
 ghost use Rattle.cilk_program.specs.GivingUp.{GivesUp, NoProgram};
-ghost use Rattle.cilk_program.specs.Recording.{IsRecorded, Records, RecordsFront, Stores, StoresFront};
+ghost use Rattle.cilk_program.specs.Running.{IsRun, Runs, RunsFront, Stores, StoresFront, status_at};
 ghost use Rattle.cilk_program.specs.Telling.{status_of};
 
-use crate::closing::closing_of;
+use crate::closing::{Closing, closing_of_run};
 use crate::failure::RecordFailure;
+use crate::manner::Manner;
 use crate::names::Names;
-use crate::recording::{Recording, record_alone};
 use crate::store::LogStore;
-use cilk_commands::{Failure, Status, read_text, ready_of, write_answer};
-use cilk_debug::{Log, write_log};
+use cilk_commands::{Failure, Loaded, Status, read_text, ready_of, write_answer};
+use cilk_debug::write_log;
+use cilk_run::{Open, Run, RunFault, run};
 use std::alloc::Global;
 use std::io::{Read, Write};
+use std::sync::Wait;
+use std::thread::Threads;
 
-/// Runs the program that the reader holds with one worker, for at most `limit` choices. The text of the recorded schedule
-/// of these choices goes to the store, and then how the run ended to `out`, as `main returned 9`; or else the line that
-/// says why not goes to `err`, and behind it, with `explain`, more of a fault in the program. Both texts are made whole
-/// before the first of them is written. A line that cannot be written is lost.
-pub fn record_text<R: Read, S: LogStore, O: Write, E: Write>(
+/// Runs the program that the reader holds. The log of the run goes to the store, where one is wanted, and then how the run
+/// ended to `out`, as `main returned 9`; or else the line that says why not goes to `err`, and behind it, with
+/// `manner.explain`, more of a fault in the program. Both texts are made whole before the first of them is written. A line
+/// that cannot be written is lost.
+pub fn run_text<H: Threads + Wait + Sync, R: Read, S: LogStore, O: Write, E: Write>(
+    rt: &H,
     alloc: Global,
     names: &Names<'_>,
-    explain: bool,
-    limit: u32,
+    manner: &Manner,
     reader: &mut R,
     store: &mut S,
     out: &mut O,
     err: &mut E,
 ) -> Status
-    ensures done { is_answer result ≡ true → Records limit result (R.remaining reader.old)
+    ensures done { is_answer result ≡ true → Runs manner.now.workers manner.now.limit result (R.remaining reader.old)
         (S.stored store.old) (S.stored store.new) (O.contents out.old) (O.contents out.new) }
     ensures usage { result ≢ Status.Usage }
 
     // Where there is no answer.
     ensures told { is_answer result ≡ false
-        → GivesUp NoProgram explain names.now.program.now names.now.log.now result
+        → GivesUp NoProgram manner.now.explain names.now.program.now names.now.log.now result
         (R.remaining reader.old) None (E.contents err.old) (E.contents err.new) }
-    ensures begun { result ≡ Status.CannotWrite → RecordsFront limit (R.remaining reader.old)
+    ensures begun { result ≡ Status.CannotWrite → RunsFront manner.now.workers manner.now.limit (R.remaining reader.old)
         (S.stored store.old) (S.stored store.new) (O.contents out.old) (O.contents out.new) }
 
     // What stays as it was.
@@ -51,84 +59,132 @@ pub fn record_text<R: Read, S: LogStore, O: Write, E: Write>(
         Err(failure) => return RecordFailure::Program(failure).report(names, err),
     };
     let text = bytes.as_slice();
-    match run_recorded(alloc, limit, text, store, out) {
+    match run_stored(rt, alloc, manner, text, store, out) {
         Ok(status) => status,
-        Err(why) => why.explain(alloc, names, explain, text, err),
+        Err(why) => why.explain(alloc, names, manner.explain, text, err),
     }
 }
 
-// The schedule is kept before anything is written.
-fn run_recorded<S: LogStore, W: Write>(
+// The log is kept before anything is written.
+fn run_stored<H: Threads + Wait + Sync, S: LogStore, W: Write>(
+    rt: &H,
     alloc: Global,
-    limit: u32,
+    manner: &Manner,
     text: &[u8],
     store: &mut S,
     out: &mut W,
 ) -> Result<Status, RecordFailure>
-    ensures ok { IfOk result (λ status. Stores (IsRecorded limit status text.now)
+    ensures ok { IfOk result (λ status. Stores (IsRun manner.now.workers manner.now.limit status text.now)
         (S.stored store.old) (S.stored store.new) (W.contents out.old) (W.contents out.new)) }
     ensures answer { IfOk result (λ status. is_answer status ≡ true) }
     ensures declined { IfErr result (λ why. status_of why ≡ Status.Refused → NoProgram text.now [] why) }
     ensures begun { IfErr result (λ why. status_of why ≡ Status.CannotWrite → (status : Status)
-        × StoresFront (IsRecorded limit status text.now)
+        × StoresFront (IsRun manner.now.workers manner.now.limit status text.now)
         (S.stored store.old) (S.stored store.new) (W.contents out.old) (W.contents out.new)) }
     ensures kept { IfErr result (λ why. status_of why ≢ Status.CannotWrite → out.new ≡ out.old) }
     ensures unopened { IfErr result (λ why. status_of why ≢ Status.CannotWrite
         → status_of why ≢ Status.CannotRecord → store.new ≡ store.old) }
 {
-    let recorded = match texts_of(alloc, limit, text) {
-        Ok(recorded) => recorded,
+    let program = match ready_of(alloc, text) {
+        Ok(program) => program,
         Err(failure) => return Err(RecordFailure::Program(failure)),
     };
-    if store.store(recorded.log.as_slice()).is_err() {
+    if !store.is_apart() {
+        drop(program);
         return Err(RecordFailure::CannotStore);
     }
-    match write_answer(out, recorded.answer.as_slice()) {
-        Ok(()) => Ok(recorded.status),
+    let texts = match texts_of(rt, alloc, manner, program, store.is_wanted()) {
+        Ok(texts) => texts,
+        Err(why) => return Err(why),
+    };
+    match keep(store, texts.log.as_slice()) {
+        Ok(()) => {}
+        Err(()) => {
+            drop(texts);
+            return Err(RecordFailure::CannotStore);
+        }
+    }
+    match write_answer(out, texts.answer.as_slice()) {
+        Ok(()) => Ok(texts.status),
         Err(failure) => Err(RecordFailure::Program(failure)),
+    }
+}
+
+// Keeps the log, where one is wanted.
+fn keep<S: LogStore>(store: &mut S, log: &[u8]) -> Result<(), ()>
+    ensures kept { OnOk result ((text : List ℕ) → (S.stored store.old ≢ None → log.now ≡ text)
+        → Appends (S.stored store.old) (S.stored store.new) text) }
+{
+    if !store.is_wanted() {
+        return Ok(());
+    }
+    match store.store(log) {
+        Ok(()) => Ok(()),
+        Err(_) => Err(()),
     }
 }
 
 /// What is to be written of a run.
 #[derive(Drop)]
-struct Recorded {
+struct Texts {
     status: Status,
+    /// Empty where no log is wanted.
     log: Vec<u8>,
     answer: Vec<u8>,
 }
 
-fn texts_of(alloc: Global, limit: u32, text: &[u8]) -> Result<Recorded, Failure>
-    ensures ok { IfOk result (λ run. IsRecorded limit run.status text.now run.log.items run.answer.items) }
-    ensures answer { IfOk result (λ run. is_answer run.status ≡ true) }
-    ensures err { IfErr result (Unready text.now) }
+fn texts_of<H: Threads + Wait + Sync>(
+    rt: &H,
+    alloc: Global,
+    manner: &Manner,
+    program: Loaded,
+    is_logged: bool,
+) -> Result<Texts, RecordFailure>
+    ensures ok { IfOk result (λ texts. (bytes : List ℕ) → IsReady bytes program → (log : List ℕ)
+        × IsRun manner.now.workers manner.now.limit texts.status bytes log texts.answer.items
+        × (is_logged ≡ true → texts.log.items ≡ log)) }
+    ensures answer { IfOk result (λ texts. is_answer texts.status ≡ true) }
+    ensures err { IfErr result (λ why. (status_of why ≢ Status.Refused) × (status_of why ≢ Status.CannotWrite)) }
 {
-    let program = ready_of(alloc, text)?;
-    let Recording { machine, choices } = match record_alone(alloc, program, limit) {
-        Ok(run) => run,
-        Err(failure) => return Err(failure),
+    let ended = match run(rt, alloc, program, manner.workers, manner.limit, &Open) {
+        Ok(ended) => ended,
+        Err(RunFault::Memory) => return Err(RecordFailure::Program(Failure::Memory)),
+        Err(RunFault::Start | RunFault::Workers) => return Err(RecordFailure::CannotStart),
     };
-    let closing = match closing_of(alloc, &machine) {
+    let texts = texts_at(alloc, &ended, is_logged);
+    drop(ended);
+    texts
+}
+
+// The texts of a run.
+fn texts_at(alloc: Global, run: &Run, is_logged: bool) -> Result<Texts, RecordFailure>
+    ensures status { IfOk result (λ texts. texts.status ≡ status_at (end_of run.now.end)) }
+    ensures text { IfOk result (λ texts.
+        texts.answer.items ≡ model.ending run.now.output (end_of run.now.end) (length run.now.log.choices)) }
+    ensures log { is_logged ≡ true → IfOk result (λ texts. texts.log.items ≡ log_text (log_of run.now.log)) }
+    ensures answer { IfOk result (λ texts. is_answer texts.status ≡ true) }
+    ensures err { IfErr result (λ why. why ≡ RecordFailure.Program Failure.Memory) }
+{
+    let Closing { status, text } = match closing_of_run(alloc, run) {
         Ok(closing) => closing,
-        Err(failure) => {
-            drop(machine);
-            drop(choices);
-            return Err(failure);
+        Err(failure) => return Err(RecordFailure::Program(failure)),
+    };
+    if !is_logged {
+        return Ok(Texts {
+            status,
+            log: Vec::new(alloc),
+            answer: text,
+        });
+    }
+    match write_log(alloc, &run.log) {
+        Ok(log) => Ok(Texts {
+            status,
+            log,
+            answer: text,
+        }),
+        Err(_) => {
+            drop(text);
+            Err(RecordFailure::Program(Failure::Memory))
         }
-    };
-    drop(machine);
-    let log = Log {
-        workers: 1,
-        choices,
-    };
-    let written = write_log(alloc, &log);
-    drop(log);
-    let Ok(written) = written else {
-        drop(closing);
-        return Err(Failure::Memory);
-    };
-    Ok(Recorded {
-        status: closing.status,
-        log: written,
-        answer: closing.text,
-    })
+    }
 }

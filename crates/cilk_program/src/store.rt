@@ -1,13 +1,20 @@
-ghost use Rattle.std.specs.Prelude.{OnOk, ℕ, List, Option};
+ghost use Rattle.std.specs.Prelude.{◌≡◌, OnOk, ℕ, List, Option, None, false};
 ghost use Rattle.std.specs.Io.KnownBytes.{Appends};
 
 use std::io;
 
-/// Where the text of a recorded schedule is kept. It is opened when that text is there, so that a
-/// program which cannot be run leaves the store as it was.
+/// Where the log of a run is kept, if it is to be kept. It is opened when the text of the log is there, so that a program
+/// which cannot be run leaves the store as it was.
 pub trait LogStore {
     // The bytes that were kept, where they are known.
     ghost stored: { Self → Option (List ℕ) };
+
+    /// Whether a log is to be kept. Of a store that keeps none no byte is known.
+    fn is_wanted(&self) -> bool
+        ensures { result ≡ false → stored self.now ≡ None };
+
+    /// Whether it is another place than the one that the program's text came from.
+    fn is_apart(&self) -> bool;
 
     /// Keeps the whole text. Where that fails, a part of it may be kept.
     fn store(&mut self, text: &[u8]) -> io::Result<()>

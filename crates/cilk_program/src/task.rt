@@ -1,19 +1,22 @@
-ghost use Rattle.std.specs.Prelude.{◌≡◌, ◌≢◌, None, true, false};
+ghost use Rattle.std.specs.Prelude.{◌≡◌, ◌≢◌, None, true, false, option_map};
 ghost use Rattle.cilk_commands.specs.Status.{is_answer};
 ghost use Rattle.cilk_words.specs.CommandLine.{wanted_by};
 ghost use Rattle.cilk_program.specs.GivingUp.{GivesUp, NoProgram};
 ghost use Rattle.cilk_program.specs.Task.{Does, Fails, Leaves, is_session};
-ghost use Rattle.cilk_program.specs.Task.{RecordsFrontSomewhere, RecordsSomewhere};
+ghost use Rattle.cilk_program.specs.Task.{RunsFrontSomewhere, RunsSomewhere, log_name};
 
 use crate::texts::Texts;
-use crate::{Names, RecordFailure, debug_text, record_text, replay_text};
-use cilk_commands::{Failure, Status, check_text, print_text, run_text};
+use crate::{Manner, Names, RecordFailure, debug_text, replay_text, run_text};
+use cilk_commands::{Failure, Status, check_text, print_text};
 use cilk_words::{Request, Task};
 use std::alloc::Global;
 use std::io::{Read, Write};
+use std::sync::Wait;
+use std::thread::Threads;
 
 /// Does what is asked for to the text that the reader holds.
-pub fn perform<T: Texts, R: Read, O: Write, E: Write>(
+pub fn perform<H: Threads + Wait + Sync, T: Texts, R: Read, O: Write, E: Write>(
+    rt: &H,
     alloc: Global,
     request: &Request<'_>,
     texts: &T,
@@ -41,13 +44,17 @@ pub fn perform<T: Texts, R: Read, O: Write, E: Write>(
     match request.task {
         Task::Print => print_text(alloc, name, explain, reader, out, err),
         Task::Check => check_text(alloc, name, explain, reader, out, err),
-        Task::Run { limit, log: None } => run_text(alloc, name, explain, limit, reader, out, err),
         Task::Run {
+            workers,
             limit,
-            log: Some(log),
+            log,
         } => {
-            let names = Names { program: name, log };
-            record(alloc, &names, explain, limit, texts, reader, out, err)
+            let manner = Manner {
+                explain,
+                workers,
+                limit,
+            };
+            run_named(rt, alloc, name, log, &manner, texts, reader, out, err)
         }
         Task::Replay { log } => {
             let names = Names { program: name, log };
@@ -69,30 +76,35 @@ pub fn perform<T: Texts, R: Read, O: Write, E: Write>(
     }
 }
 
-// Runs the program that the reader holds, and writes the log of the run.
-fn record<T: Texts, R: Read, O: Write, E: Write>(
+// Runs the program that the reader holds, which has this name, with a log of that name, if there is one.
+fn run_named<H: Threads + Wait + Sync, T: Texts, R: Read, O: Write, E: Write>(
+    rt: &H,
     alloc: Global,
-    names: &Names<'_>,
-    explain: bool,
-    limit: u32,
+    name: &str,
+    log: Option<&str>,
+    manner: &Manner,
     texts: &T,
     reader: &mut R,
     out: &mut O,
     err: &mut E,
 ) -> Status
-    ensures done { is_answer result ≡ true → RecordsSomewhere limit result
+    ensures done { is_answer result ≡ true → RunsSomewhere manner.now.workers manner.now.limit result
         (R.remaining reader.old) (O.contents out.old) (O.contents out.new) }
     ensures told { is_answer result ≡ false
-        → GivesUp NoProgram explain names.now.program.now names.now.log.now result
+        → GivesUp NoProgram manner.now.explain name.now (log_name (option_map (λ it. it.now) log.entry)) result
         (R.remaining reader.old) None (E.contents err.old) (E.contents err.new) }
-    ensures begun { result ≡ Status.CannotWrite → RecordsFrontSomewhere limit
+    ensures begun { result ≡ Status.CannotWrite → RunsFrontSomewhere manner.now.workers manner.now.limit
         (R.remaining reader.old) (O.contents out.old) (O.contents out.new) }
     ensures usage { result ≢ Status.Usage }
     ensures quiet { is_answer result ≡ true → err.new ≡ err.old }
     ensures kept { is_answer result ≡ false → result ≢ Status.CannotWrite → out.new ≡ out.old }
 {
-    let Ok(mut store) = texts.log(alloc, names.log) else {
-        return RecordFailure::Program(Failure::Memory).report(names, err);
+    let names = Names {
+        program: name,
+        log: log.unwrap_or(""),
     };
-    record_text(alloc, names, explain, limit, reader, &mut store, out, err)
+    let Ok(mut store) = texts.log(alloc, name, log) else {
+        return RecordFailure::Program(Failure::Memory).report(&names, err);
+    };
+    run_text(rt, alloc, &names, manner, reader, &mut store, out, err)
 }

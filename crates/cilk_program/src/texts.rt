@@ -26,6 +26,12 @@ pub trait Texts {
     fn commands(&self) -> Self::Commands
         ensures { Self.Commands.remaining result ≡ entered self.now };
 
-    /// Where the log of this name is written. Nothing is created before its text is there.
-    fn log(&self, alloc: Global, name: &str) -> Result<Self::Store, AllocError>;
+    /// Where the log of this name is written, if there is one, of a run of the program whose text has that name. Nothing is
+    /// created before the text of the log is there.
+    fn log(
+        &self,
+        alloc: Global,
+        program: &str,
+        name: Option<&str>,
+    ) -> Result<Self::Store, AllocError>;
 }

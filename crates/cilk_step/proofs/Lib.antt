@@ -2,3 +2,4 @@ pub mod Waits
 pub mod Ways
 pub mod Left
 pub mod Fits
+pub use Rattle.cilk_load.proofs as load_laws

@@ -11,6 +11,7 @@ mod instances;
 mod schedules;
 mod script;
 mod streams;
+mod workers;
 
 use cilk_commands::ready_of;
 use cilk_load::Loaded;

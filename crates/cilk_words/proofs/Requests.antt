@@ -1,18 +1,18 @@
 -- What is asked for, by what was found for a subcommand.
-use Rattle.std.proofs.Common.{◌≡◌, ◌-◌, ◌^◌, ◌<◌, ◌∙◌, arith, refl, sym, ℕ, Bool, true, false, List, Option, Some, None, codes, cond, option_map}
-use Rattle.std.specs.Prelude.{◌≢◌, Decides, MatchBool, unwrap_or}
+use Rattle.std.proofs.Common.{◌≡◌, ◌+◌, ◌-◌, ◌^◌, ◌<◌, ◌≤◌, ◌∙◌, arith, refl, sym, ℕ, Bool, true, false, List, Option, Some, None, codes, cond, option_map}
+use Rattle.std.specs.Prelude.{◌≢◌, Decides, MatchBool, option_and_then, unwrap_or}
 use Rattle.std.specs.Str.{bytes_eq}
 use Rattle.std.specs.Str.Parse.{IsNumeral, ParsesBool, digits_value, false_text, true_text, without_leading_plus}
 use Rattle.std.proofs.lemmas.Slice.Eq.{bytes_eq-Decides}
 use Rattle.clap.specs.ValueTests.{is_unsigned_in}
-use Rattle.clap.specs.Words.{ReadsOne, Row, Text, first_value, one_of, one_text, rows_of, subcommand_name_of, subcommand_rows_of}
+use Rattle.clap.specs.Words.{ReadsOne, Row, Text, first_of, first_value, one_of, one_text, rows_of, subcommand_name_of, subcommand_rows_of}
 use Rattle.clap.specs.declared.builder.value_parser.ValueParser.TheVariants.{Unsigned}
 use Rattle.clap.specs.declared.parser.matches.ArgMatches.{ArgMatches}
 use Rattle.clap.specs.declared.parser.matches.ArgMatches.TheViews.{out-ArgMatches}
 use Rattle.clap.specs.declared.parser.matches.Found.{Found}
 use Rattle.clap.proofs.ValueTestLemmas.{Accepts-accepts, accepts-Accepts}
 use Rattle.clap.proofs.WalkLemmas.{first_value-rows, one_text-rows}
-use Rattle.cilk_words.specs.CommandLine.{Wanted, run, replayed, debugged, is_set, request_for, request_of_any, run_of, wanted_of}
+use Rattle.cilk_words.specs.CommandLine.{Wanted, run, replayed, debugged, is_set, number_to, request_for, request_of_any, run_of, wanted_of}
 
 -- ---- the subcommand that was met
 
@@ -37,42 +37,67 @@ requests m name f wanted file named given wanted_is file_is =
     let sub_is = both_are (subcommand_rows_of m) name (rows_of f) (sym names ∙ sym named) (sym given) in
     rw (sub_is, wanted_is, file_is, first_value-rows f (codes "F")) refl
 
--- ---- the limit of a run
+-- ---- the numbers of a run
 
-abbrev Reads : Text → Type 0
-Reads word = IsNumeral 10 (without_leading_plus word) × (digits_value 10 (without_leading_plus word) < 2 ^ 32)
+abbrev ReadsBelow : ℕ → Text → Type 0
+ReadsBelow bound word = IsNumeral 10 (without_leading_plus word) × (digits_value 10 (without_leading_plus word) < bound)
 
-reads_as : (word log : Option Text) (limit : ℕ) → (word ≡ None → Some limit ≡ None)
-    → ((t : Text) → word ≡ Some t → Reads t × (limit ≡ digits_value 10 (without_leading_plus t))) → run_of word log ≡ Some (run limit log)
-reads_as None log limit none value = let bad = none refl in cc
-reads_as (Some t) log limit none value =
-    let read = value t refl in
-    let fits : is_unsigned_in 0 (2 ^ 32 - 1) t ≡ true = Accepts-accepts false (Unsigned 0 (2 ^ 32 - 1)) t (read.0.0, omega arith, omega arith, omega arith) in
-    rw (fits, read.1) refl
+module _ (bound most : ℕ) (is : bound ≡ most + 1) (fits : bound ≤ 2 ^ 64) where
+  reads : (word : Option Text) (n : ℕ) → (word ≡ None → Some n ≡ None) → ((t : Text) → word ≡ Some t → ReadsBelow bound t × (n ≡ digits_value 10 (without_leading_plus t)))
+      → option_and_then (number_to most) word ≡ Some n
+  reads None n none value = let bad = none refl in cc
+  reads (Some t) n none value =
+      let read = value t refl in
+      let within : is_unsigned_in 0 most t ≡ true = Accepts-accepts false (Unsigned 0 most) t (read.0.0, omega arith, omega (arith, is, read.0.1), omega (arith, is, fits, read.0.1)) in
+      rw (within, read.1) refl
 
--- a run with a limit that 32 bits hold has that limit, and the log that was named
-pub limit_given : (f : Found) (limit : ℕ) (log : Option Text) → (one_text f (codes "limit") ≡ None → Some limit ≡ None)
-    → ((t : Text) → one_text f (codes "limit") ≡ Some t → Reads t × (limit ≡ digits_value 10 (without_leading_plus t)))
-    → log ≡ first_value f (codes "log") → wanted_of (codes "run") (rows_of f) ≡ Some (run limit log)
-limit_given f limit log none value log_is =
-    rw (← one_text-rows f (codes "limit"), ← first_value-rows f (codes "log"), ← log_is) (reads_as (one_text f (codes "limit")) log limit none value)
+  abbrev number_if : Bool → Text → Option ℕ
+  number_if accepted word = cond accepted (Some (digits_value 10 (without_leading_plus word))) None
 
-abbrev run_if : Bool → Text → Option Text → Option Wanted
-run_if fits word log = option_map (λ limit. run limit log) (cond fits (Some (digits_value 10 (without_leading_plus word))) None)
+  unread : (word : Option Text) → ((t : Text) → word ≡ Some t → ReadsBelow bound t → ⊥) → option_and_then (number_to most) word ≡ None
+  unread None fails = refl
+  unread (Some t) fails = go (is_unsigned_in 0 most t) (λ accepted.
+      let read = accepts-Accepts false (Unsigned 0 most) t accepted in
+      fails t refl (read.0, omega (arith, is, read.1)))
+    where
+      go : (accepted : Bool) → (accepted ≡ true → ⊥) → number_if accepted t ≡ None
+      go true fails = absurd (fails refl)
+      go false fails = refl
 
-unread : (word log : Option Text) → ((t : Text) → word ≡ Some t → Reads t → ⊥) → run_of word log ≡ None
-unread None log fails = refl
-unread (Some t) log fails = go (is_unsigned_in 0 (2 ^ 32 - 1) t) (λ fits.
-    let read = accepts-Accepts false (Unsigned 0 (2 ^ 32 - 1)) t fits in
-    fails t refl (read.0, omega arith))
-  where
-    go : (fits : Bool) → (fits ≡ true → ⊥) → run_if fits t log ≡ None
-    go true fails = absurd (fails refl)
-    go false fails = refl
+-- a number that was found is the one that the word says
+pub workers_read : (f : Found) (n : ℕ) → (one_text f (codes "workers") ≡ None → Some n ≡ None)
+    → ((t : Text) → one_text f (codes "workers") ≡ Some t → ReadsBelow (2 ^ 8) t × (n ≡ digits_value 10 (without_leading_plus t)))
+    → option_and_then (number_to (2 ^ 8 - 1)) (one_of (codes "workers") (rows_of f)) ≡ Some n
+workers_read f n none value = rw (← one_text-rows f (codes "workers")) (reads (2 ^ 8) (2 ^ 8 - 1) refl (omega arith) (one_text f (codes "workers")) n none value)
 
--- and one without asks for nothing
-pub no_limit : (f : Found) → ((t : Text) → one_text f (codes "limit") ≡ Some t → Reads t → ⊥) → wanted_of (codes "run") (rows_of f) ≡ None
-no_limit f fails = rw (← one_text-rows f (codes "limit")) (unread (one_text f (codes "limit")) _ fails)
+pub limit_read : (f : Found) (n : ℕ) → (one_text f (codes "limit") ≡ None → Some n ≡ None)
+    → ((t : Text) → one_text f (codes "limit") ≡ Some t → ReadsBelow (2 ^ 32) t × (n ≡ digits_value 10 (without_leading_plus t)))
+    → option_and_then (number_to (2 ^ 32 - 1)) (one_of (codes "limit") (rows_of f)) ≡ Some n
+limit_read f n none value = rw (← one_text-rows f (codes "limit")) (reads (2 ^ 32) (2 ^ 32 - 1) refl (omega arith) (one_text f (codes "limit")) n none value)
+
+-- and where none was found, it says none
+pub no_workers : (f : Found) → ((t : Text) → one_text f (codes "workers") ≡ Some t → ReadsBelow (2 ^ 8) t → ⊥)
+    → option_and_then (number_to (2 ^ 8 - 1)) (one_of (codes "workers") (rows_of f)) ≡ None
+no_workers f fails = rw (← one_text-rows f (codes "workers")) (unread (2 ^ 8) (2 ^ 8 - 1) refl (omega arith) (one_text f (codes "workers")) fails)
+
+pub no_limit : (f : Found) → ((t : Text) → one_text f (codes "limit") ≡ Some t → ReadsBelow (2 ^ 32) t → ⊥)
+    → option_and_then (number_to (2 ^ 32 - 1)) (one_of (codes "limit") (rows_of f)) ≡ None
+no_limit f fails = rw (← one_text-rows f (codes "limit")) (unread (2 ^ 32) (2 ^ 32 - 1) refl (omega arith) (one_text f (codes "limit")) fails)
+
+-- the run of these numbers
+pub run_given : (workers limit log : Option Text) (n k : ℕ) → option_and_then (number_to (2 ^ 8 - 1)) workers ≡ Some n
+    → option_and_then (number_to (2 ^ 32 - 1)) limit ≡ Some k → run_of workers limit log ≡ Some (run n k log)
+run_given workers limit log n k crew within = rw (crew, within) refl
+
+pub no_crew : (workers limit log : Option Text) → option_and_then (number_to (2 ^ 8 - 1)) workers ≡ None → run_of workers limit log ≡ None
+no_crew workers limit log none = rw (none) refl
+
+pub no_end : (workers limit log : Option Text) (n : ℕ) → option_and_then (number_to (2 ^ 8 - 1)) workers ≡ Some n
+    → option_and_then (number_to (2 ^ 32 - 1)) limit ≡ None → run_of workers limit log ≡ None
+no_end workers limit log n crew none = rw (crew, none) refl
+
+pub log_found : (f : Found) (log : Option Text) → log ≡ first_value f (codes "log") → log ≡ first_of (codes "log") (rows_of f)
+log_found f log is = rw (← first_value-rows f (codes "log")) is
 
 -- ---- the log of a replay
 

@@ -23,11 +23,11 @@ checks : asked (codes "cilk" ∷ codes "check" ∷ codes "-" ∷ []) ≡ Some (b
 unfolding clap_on_literals
 checks = refl
 
-runs : asked (codes "cilk" ∷ codes "run" ∷ codes "a" ∷ []) ≡ Some (briefly (run 1000000 None) (codes "a"))
+runs : asked (codes "cilk" ∷ codes "run" ∷ codes "a" ∷ []) ≡ Some (briefly (run 1 1000000 None) (codes "a"))
 unfolding clap_on_literals
 runs = refl
 
-runs_limited : asked (codes "cilk" ∷ codes "run" ∷ codes "a" ∷ codes "--limit" ∷ codes "5" ∷ []) ≡ Some (briefly (run 5 None) (codes "a"))
+runs_limited : asked (codes "cilk" ∷ codes "run" ∷ codes "a" ∷ codes "--limit" ∷ codes "5" ∷ []) ≡ Some (briefly (run 1 5 None) (codes "a"))
 unfolding clap_on_literals
 runs_limited = refl
 
@@ -39,7 +39,7 @@ explains_check : asked (codes "cilk" ∷ codes "check" ∷ codes "--explain" ∷
 unfolding clap_on_literals
 explains_check = refl
 
-explains_run : asked (codes "cilk" ∷ codes "run" ∷ codes "a" ∷ codes "--explain" ∷ codes "--limit" ∷ codes "5" ∷ []) ≡ Some (at_length (run 5 None) (codes "a"))
+explains_run : asked (codes "cilk" ∷ codes "run" ∷ codes "a" ∷ codes "--explain" ∷ codes "--limit" ∷ codes "5" ∷ []) ≡ Some (at_length (run 1 5 None) (codes "a"))
 unfolding clap_on_literals
 explains_run = refl
 
@@ -97,17 +97,25 @@ is_no_subcommand = refl
 
 -- ---- logs
 
-writes_a_log : asked (codes "cilk" ∷ codes "run" ∷ codes "a" ∷ codes "--log" ∷ codes "g" ∷ []) ≡ Some (briefly (run 1000000 (Some (codes "g"))) (codes "a"))
+writes_a_log : asked (codes "cilk" ∷ codes "run" ∷ codes "a" ∷ codes "--log" ∷ codes "g" ∷ []) ≡ Some (briefly (run 1 1000000 (Some (codes "g"))) (codes "a"))
 unfolding clap_on_literals
 writes_a_log = refl
 
-has_one_worker : asked (codes "cilk" ∷ codes "run" ∷ codes "--workers" ∷ codes "1" ∷ codes "-" ∷ []) ≡ Some (briefly (run 1000000 None) (codes "-"))
+has_one_worker : asked (codes "cilk" ∷ codes "run" ∷ codes "--workers" ∷ codes "1" ∷ codes "-" ∷ []) ≡ Some (briefly (run 1 1000000 None) (codes "-"))
 unfolding clap_on_literals
 has_one_worker = refl
 
-has_no_two_workers : fault_of command_line (codes "cilk" ∷ codes "run" ∷ codes "--workers" ∷ codes "2" ∷ codes "a" ∷ []) ≡ kind.ValueValidation ∷ []
+has_four_workers : asked (codes "cilk" ∷ codes "run" ∷ codes "a" ∷ codes "--workers" ∷ codes "4" ∷ codes "--limit" ∷ codes "5" ∷ []) ≡ Some (briefly (run 4 5 None) (codes "a"))
 unfolding clap_on_literals
-has_no_two_workers = refl
+has_four_workers = refl
+
+has_at_most_64_workers : fault_of command_line (codes "cilk" ∷ codes "run" ∷ codes "--workers" ∷ codes "65" ∷ codes "a" ∷ []) ≡ kind.ValueValidation ∷ []
+unfolding clap_on_literals
+has_at_most_64_workers = refl
+
+has_a_worker : fault_of command_line (codes "cilk" ∷ codes "run" ∷ codes "--workers" ∷ codes "0" ∷ codes "a" ∷ []) ≡ kind.ValueValidation ∷ []
+unfolding clap_on_literals
+has_a_worker = refl
 
 replays : asked (codes "cilk" ∷ codes "replay" ∷ codes "-" ∷ codes "g" ∷ []) ≡ Some (briefly (replayed (codes "g")) (codes "-"))
 unfolding clap_on_literals

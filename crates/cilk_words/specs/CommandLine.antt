@@ -40,9 +40,9 @@ number_rule name parser default = record (new_rule name) {
 abbrev pub limit_rule : Rule
 limit_rule = number_rule (codes "limit") (Signed (pos 1) (pos 10000000)) (codes "1000000")
 
--- the option that says how many workers a run has, which takes 1 alone
+-- the option that says how many workers a run has
 abbrev pub workers_rule : Rule
-workers_rule = number_rule (codes "workers") (Signed (pos 1) (pos 1)) (codes "1")
+workers_rule = number_rule (codes "workers") (Signed (pos 1) (pos 64)) (codes "1")
 
 -- the option that names the log to be written of a run
 abbrev pub written_rule : Rule
@@ -85,25 +85,26 @@ command_line =
 pub data Wanted : Type 0 where
   printed : Wanted
   checked : Wanted
-  -- run for at most so many choices, with a log of this name or none
-  run : (limit : ℕ) (log : Option Text) → Wanted
+  -- run with so many workers for at most so many choices, with a log of this name or none
+  run : (workers limit : ℕ) (log : Option Text) → Wanted
   replayed : (log : Text) → Wanted
   debugged : (log : Text) → Wanted
 
--- the number that a word says in decimal, where 32 bits hold it
-abbrev pub number_of : Text → Option ℕ
-number_of word = if is_unsigned_in 0 (2 ^ 32 - 1) word then Some (digits_value 10 (without_leading_plus word)) else None
+-- the number that a word says in decimal, where it is at most so great
+abbrev pub number_to : ℕ → Text → Option ℕ
+number_to most word = if is_unsigned_in 0 most word then Some (digits_value 10 (without_leading_plus word)) else None
 
--- a run for as many choices as a word says
-abbrev pub run_of : Option Text → Option Text → Option Wanted
-run_of word log = option_map (λ limit. run limit log) (option_and_then number_of word)
+-- a run with as many workers and for as many choices as two words say
+abbrev pub run_of : Option Text → Option Text → Option Text → Option Wanted
+run_of workers limit log =
+    option_and_then (λ n. option_map (λ k. run n k log) (option_and_then (number_to (2 ^ 32 - 1)) limit)) (option_and_then (number_to (2 ^ 8 - 1)) workers)
 
 -- what a subcommand of this name wants, with what was given to it
 abbrev pub wanted_of : Text → List Row → Option Wanted
 wanted_of name rows =
     if bytes_eq name (codes "print") then Some printed
     else (if bytes_eq name (codes "check") then Some checked
-    else (if bytes_eq name (codes "run") then run_of (one_of (codes "limit") rows) (first_of (codes "log") rows)
+    else (if bytes_eq name (codes "run") then run_of (one_of (codes "workers") rows) (one_of (codes "limit") rows) (first_of (codes "log") rows)
     else (if bytes_eq name (codes "replay") then option_map replayed (first_of (codes "G") rows)
     else (if bytes_eq name (codes "debug") then option_map debugged (first_of (codes "G") rows) else None))))
 
@@ -122,7 +123,7 @@ pub record Asked : Type 0 where
 abbrev pub wanted_by : Task → Wanted
 wanted_by task.Print = printed
 wanted_by task.Check = checked
-wanted_by (task.Run limit log) = run limit (option_map (λ name. name.now) log)
+wanted_by (task.Run workers limit log) = run workers limit (option_map (λ name. name.now) log)
 wanted_by (task.Replay log) = replayed log.now
 wanted_by (task.Debug log) = debugged log.now
 
@@ -169,7 +170,7 @@ log_dash log = if is_dash log then Some dash.Log else None
 abbrev pub dash_in : Wanted → Text → Option Dash
 dash_in printed name = None
 dash_in checked name = None
-dash_in (run limit log) name = option_and_then log_dash log
+dash_in (run workers limit log) name = option_and_then log_dash log
 dash_in (replayed log) name = log_dash log
 dash_in (debugged log) name = if is_dash name then Some dash.Program else log_dash log
 

@@ -21,7 +21,8 @@ pub const WRITTEN: &str = "log";
 /// The name of the flag by which more is said of a fault.
 pub const EXPLAIN: &str = "explain";
 
-const WORKERS: &str = "workers";
+/// The name of the argument that says how many workers a run has.
+pub const WORKERS: &str = "workers";
 
 const VERSION: &str = "0.1.0";
 
@@ -30,7 +31,7 @@ const STATUSES: &str = "\
 A run:
   run F --limit K    makes at most K choices, from 1 to 10,000,000 [default: 1,000,000]
   run F --log G      writes its log to the file G
-  run F --workers N  has N workers, of which there can be 1 alone so far [default: 1]
+  run F --workers N  has N workers, from 1 to 64 [default: 1]
 
 Exit status:
   0  done
@@ -175,8 +176,8 @@ fn workers<'a>(alloc: Global) -> Arg<'a>
     ensures rule { rule_of result ≡ workers_rule }
     ensures local { result.global ≡ false }
 {
-    let one = value_parser!(u32).range(1..=1);
-    number(alloc, WORKERS, "N", one, "1").help("How many workers the run has: 1 alone so far")
+    let crew = value_parser!(u8).range(1..=64);
+    number(alloc, WORKERS, "N", crew, "1").help("How many workers the run has, from 1 to 64")
 }
 
 // The option that says how many choices a run may make.

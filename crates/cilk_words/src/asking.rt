@@ -1,10 +1,10 @@
 ghost use Rattle.std.specs.Prelude.{◌≡◌, IfErr, IfOk, Some, codes, option_map};
-ghost use Rattle.clap.specs.Words.{found_of, one_of, rows_of, subcommand_rows_of};
-ghost use Rattle.cilk_words.specs.CommandLine.{asked, asked_by, is_set, request_of_any};
+ghost use Rattle.clap.specs.Words.{first_of, found_of, one_of, rows_of, subcommand_rows_of};
+ghost use Rattle.cilk_words.specs.CommandLine.{asked, asked_by, is_set, request_of_any, run_of};
 ghost use Rattle.cilk_words.specs.CommandLine.{texts_of, wanted_by, wanted_of};
 ghost use Rattle.cilk_words.specs.Refusing.{Tells};
 
-use crate::arguments::{EXPLAIN, FILE, LIMIT, LOG, WRITTEN, parse};
+use crate::arguments::{EXPLAIN, FILE, LIMIT, LOG, WORKERS, WRITTEN, parse};
 use crate::dash::Dash;
 use crate::refusal::Refusal;
 use crate::request::{Request, Task};
@@ -49,10 +49,7 @@ fn task_named<'a>(name: &str, found: &ArgMatches<'a>) -> Option<Task<'a>>
     match name {
         "print" => Some(Task::Print),
         "check" => Some(Task::Check),
-        "run" => Some(Task::Run {
-            limit: found.get_one(LIMIT)?,
-            log: found.get_str(WRITTEN),
-        }),
+        "run" => run_in(found),
         "replay" => Some(Task::Replay {
             log: found.get_str(LOG)?,
         }),
@@ -61,6 +58,19 @@ fn task_named<'a>(name: &str, found: &ArgMatches<'a>) -> Option<Task<'a>>
         }),
         _ => None,
     }
+}
+
+fn run_in<'a>(found: &ArgMatches<'a>) -> Option<Task<'a>>
+    ensures { option_map wanted_by result ≡ run_of (one_of (codes "workers") (rows_of (found_of found.now)))
+        (one_of (codes "limit") (rows_of (found_of found.now))) (first_of (codes "log") (rows_of (found_of found.now))) }
+{
+    let workers = found.get_one(WORKERS)?;
+    let limit = found.get_one(LIMIT)?;
+    Some(Task::Run {
+        workers,
+        limit,
+        log: found.get_str(WRITTEN),
+    })
 }
 
 // Whether the flag is given. `get_flag` says nothing of a text that is no `bool`.

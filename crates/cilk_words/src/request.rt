@@ -5,12 +5,20 @@ pub enum Task<'a> {
     Print,
     /// To say whether it may be run.
     Check,
-    /// To run it, for at most so many choices, and to write its log to the file of this name.
-    Run { limit: u32, log: Option<&'a str> },
+    /// To run it with so many workers, for at most so many choices, and to write its log to the file of this name.
+    Run {
+        workers: u8,
+        limit: u32,
+        log: Option<&'a str>,
+    },
     /// To make the choices of the log of this name again.
-    Replay { log: &'a str },
+    Replay {
+        log: &'a str,
+    },
     /// To answer commands on the log of this name.
-    Debug { log: &'a str },
+    Debug {
+        log: &'a str,
+    },
 }
 
 /// A task, the name of the text of the program that it is for, and whether more is to be said of a

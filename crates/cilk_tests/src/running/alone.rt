@@ -1,9 +1,13 @@
 //! Texts of programs that one worker runs: how many actions they have, their canonical texts, and
 //! how they end.
 
-use cilk_commands::{Status, check_text, print_text, run_text};
+use super::program;
+use cilk_commands::{Status, check_text, print_text};
+use cilk_run::{Open, ending, run};
 use std::alloc::Global;
 use std::process::Abort;
+use std::sync::Wait;
+use std::thread::Threads;
 
 // Asserts what `check` writes, and where.
 fn checks(rt: &impl Abort, alloc: Global, text: &str, status: Status, wanted: &str) {
@@ -25,14 +29,18 @@ fn prints(rt: &impl Abort, alloc: Global, text: &str, status: Status, wanted: &s
     written(rt, status, (&out, &err), wanted);
 }
 
-// Asserts what `run` writes after at most so many choices.
-fn runs(rt: &impl Abort, alloc: Global, text: &str, limit: u32, status: Status, wanted: &str) {
-    let mut out = Vec::new(alloc);
-    let mut err = Vec::new(alloc);
-    let mut reader = text.as_bytes();
-    let given = run_text(alloc, "-", false, limit, &mut reader, &mut out, &mut err);
-    assert_eq!(rt; given, status, "{wanted}");
-    written(rt, status, (&out, &err), wanted);
+// Asserts how one worker's run of at most so many choices ends.
+fn runs<R: Abort + Threads + Wait + Sync>(
+    rt: &R,
+    alloc: Global,
+    text: &str,
+    limit: u32,
+    wanted: &str,
+) {
+    let run = run(rt, alloc, program(rt, alloc, text), 1, limit, &Open).expect(rt, "a run");
+    let choices = run.log.choices.len() as u64;
+    let closing = ending(alloc, run.output.as_slice(), &run.end, choices).expect(rt, "memory");
+    assert_eq!(rt; closing.as_slice(), wanted.as_bytes());
 }
 
 // What is refused is told in the errors, and all else in the output.
@@ -124,25 +132,20 @@ cilk int main(void) {
 
 #[test]
 fn runs_end_where_they_do(rt: HostRuntime) {
-    for (text, limit, status, wanted) in [
-        (SUMMING, 24, Status::Done, "main returned 7\n"),
-        (SUMMING, 23, Status::Limit, "limit after 23 choices\n"),
-        (
-            DIVING,
-            256,
-            Status::Trapped,
-            "trapped Depth in / at 1, line 2\n",
-        ),
-        (DIVING, 255, Status::Limit, "limit after 255 choices\n"),
-        (LOOPING, 1000, Status::Limit, "limit after 1000 choices\n"),
-        (NESTED, 3, Status::Done, "main returned -39\n"),
-        (NESTED, 2, Status::Limit, "limit after 2 choices\n"),
-        (FIBONACCI, 1504, Status::Done, "main returned 55\n"),
-        (FIBONACCI, 1503, Status::Limit, "limit after 1503 choices\n"),
-        ("", 1, Status::Refused, "-:1:1: C12 NoMain\n"),
+    for (text, limit, wanted) in [
+        (SUMMING, 24, "main returned 7\n"),
+        (SUMMING, 23, "limit after 23 choices\n"),
+        (DIVING, 256, "trapped Depth in / at 1, line 2\n"),
+        (DIVING, 255, "limit after 255 choices\n"),
+        (LOOPING, 1000, "limit after 1000 choices\n"),
+        (NESTED, 3, "main returned -39\n"),
+        (NESTED, 2, "limit after 2 choices\n"),
+        (FIBONACCI, 1504, "main returned 55\n"),
+        (FIBONACCI, 1503, "limit after 1503 choices\n"),
     ] {
-        runs(&rt, rt.alloc(), text, limit, status, wanted);
+        runs(&rt, rt.alloc(), text, limit, wanted);
     }
+    checks(&rt, rt.alloc(), "", Status::Refused, "-:1:1: C12 NoMain\n");
 }
 
 #[test]
@@ -166,17 +169,10 @@ fn the_program_has_one_word(rt: HostRuntime) {
     for argv in ["char *argv[]", "char **argv"] {
         let text = format!(in rt.alloc(); "cilk int main(int argc, {argv}) {{ return argc; }}");
         let text = text.expect(&rt, "memory");
-        runs(
-            &rt,
-            rt.alloc(),
-            text.as_str(),
-            1,
-            Status::Done,
-            "main returned 1\n",
-        );
+        runs(&rt, rt.alloc(), text.as_str(), 1, "main returned 1\n");
         prints(&rt, rt.alloc(), text.as_str(), Status::Done, canonical);
     }
     let text = "#include <cilk-lib.cilkh>\ncilk int main(void) {\n    return 0;\n}\n";
-    runs(&rt, rt.alloc(), text, 1, Status::Done, "main returned 0\n");
+    runs(&rt, rt.alloc(), text, 1, "main returned 0\n");
     prints(&rt, rt.alloc(), text, Status::Done, text);
 }

@@ -1,7 +1,7 @@
 //! Closing texts.
 
-use cilk_commands::{End, ending};
 use cilk_eval::Trap;
+use cilk_run::{End, ending};
 use cilk_spawn::{Kind, Path};
 use std::alloc::Global;
 use std::process::Abort;

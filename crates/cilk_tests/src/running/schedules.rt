@@ -2,9 +2,9 @@
 
 use super::program;
 use super::script::{closes, comes_out, machine, play};
-use cilk_commands::{Choice, Did, Machine, MachineFault, Refusal};
 use cilk_frame::Id;
 use cilk_log::Act;
+use cilk_run::{Choice, Did, Machine, MachineFault, Refusal};
 use std::alloc::Global;
 use std::process::Abort;
 

@@ -4,8 +4,8 @@
 //! `r3/1` returned, `e/1` ended, `t4/!Overflow` trapped, `m` moved. A refusal is told by its name.
 
 use super::program;
-use cilk_commands::{Choice, Event, Machine, Outcome, ending};
 use cilk_log::Act;
+use cilk_run::{Choice, Event, Machine, Outcome, ending};
 use cilk_spawn::{Kind, Path};
 use std::alloc::Global;
 use std::process::Abort;

@@ -1,6 +1,6 @@
 use Rattle.std.proofs.Common.{◌<◌, ◌∙◌, ap, arith}
 use Rattle.std.specs.Prelude.{Err}
-use Rattle.cilk_machine.specs.labelled.Count.{count_program}
+use Rattle.cilk_load.specs.labelled.Count.{count_program}
 use Rattle.cilk_commands.proofs.loading.ready_of.Goals as goal
 
 pub returns-in-Ok-load-clause-every_program : goal.returns-in-Ok-load-clause-every_program

@@ -1,5 +1,5 @@
 use Rattle.std.proofs.Common.{subst, List}
-use Rattle.cilk_commands.specs.choices.declared.choice.Choice as code
+use Rattle.cilk_run.specs.choices.declared.choice.Choice as code
 use Rattle.cilk_debug.specs.Tape.{tape_of}
 use Rattle.cilk_debug.specs.ReplayFaults.{Tells}
 use Rattle.cilk_program.proofs.Ran.{all_replayed}

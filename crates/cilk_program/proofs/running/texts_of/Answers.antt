@@ -1,7 +1,7 @@
-use Rattle.cilk_program.proofs.Ran.{ran}
+use Rattle.cilk_program.proofs.Ran.{told_of}
 use Rattle.cilk_program.proofs.running.texts_of.Goals as goal
 
 pub returns-clause-ok : goal.returns-clause-ok
-returns-clause-ok c =
-    ran c.args.limit _ c.args.text.now _ _ _ _ _ c.in_ok-program.ensures.ok c.in-Ok.ensures.led c.in-Ok.ensures.stops c.in-Ok-closing_of.ensures.closes
-    c.in-Ok-written.ensures
+returns-clause-ok g c =
+    told_of c.args.manner.now.workers c.args.manner.now.limit c.args.program c.in-Ok.ended c.args.is_logged c.texts_at-texts.result c.in-Ok.ensures.ok
+    c.texts_at-texts.ensures.status c.texts_at-texts.ensures.text c.texts_at-texts.ensures.log

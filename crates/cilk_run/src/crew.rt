@@ -1,0 +1,175 @@
+//! The workers of a run.
+
+ghost use Rattle.std.specs.Prelude.{◌≡◌, ◌≢◌, ◌<◌, ◌⊎◌, ◌↔◌, [], Err, IfOk, IfErr};
+ghost use Rattle.cilk_machine.specs.Situation.{workers_of};
+ghost use Rattle.cilk_run.specs.Runs.{IsRun};
+
+use crate::gate::Gate;
+use crate::locked::Locked;
+use crate::outcome::{Run, RunFault};
+use crate::post::{Post, Turn};
+use crate::table::{Setting, Table};
+use cilk_machine::{Loaded, MachineFault};
+use std::alloc::Global;
+use std::marker::Brand;
+use std::sync::{Mutex, Wait};
+use std::thread;
+use std::thread::{Builder, Threads};
+
+/// Runs a program with 1 to 64 workers until it ends, is stuck, or they have made `limit` choices. Each worker is a thread of its own, but for
+/// an only one, which is the caller's. All threads that were started have ended when this returns. A worker passes the gate before each turn.
+pub fn run<R: Threads + Wait + Sync, G: Gate + Sync>(
+    rt: &R,
+    alloc: Global,
+    program: Loaded,
+    workers: u8,
+    limit: u32,
+    gate: &G,
+) -> Result<Run, RunFault>
+    ensures ok { IfOk result (λ r. IsRun program workers limit r) }
+    ensures workers { (result ≡ Err RunFault.Workers) ↔ ((workers ≡ 0) ⊎ (64 < workers)) }
+{
+    match Locked::new(alloc, program, workers) {
+        Err(MachineFault::Workers) => Err(RunFault::Workers),
+        Err(MachineFault::Memory(_)) => Err(RunFault::Memory),
+        Ok(locked) => run_on(rt, alloc, locked, workers, limit, gate),
+    }
+}
+
+// The same, of a machine before any choice.
+fn run_on<R: Threads + Wait + Sync, G: Gate + Sync>(
+    rt: &R,
+    alloc: Global,
+    locked: Locked,
+    workers: u8,
+    limit: u32,
+    gate: &G,
+) -> Result<Run, RunFault>
+    requires crew { workers_of locked.machine ≡ workers }
+    requires none { locked.history ≡ [] }
+    ensures ok { IfOk result (λ r. IsRun locked.machine.program workers limit r) }
+    ensures err { IfErr result (λ e. e ≢ RunFault.Workers) }
+{
+    run_as::<Brand, R, G>(rt, alloc, locked, workers, limit, gate)
+}
+
+// The size of a worker's stack in bytes.
+const STACK: usize = 1 << 20;
+
+// How often a worker that found nothing to do leaves its processor to others before it looks again, at most: it does so once more each time.
+const MOST_YIELDS: u8 = 16;
+
+fn run_as<J: Setting + Send + Sync, R: Threads + Wait + Sync, G: Gate + Sync>(
+    rt: &R,
+    alloc: Global,
+    locked: Locked,
+    workers: u8,
+    limit: u32,
+    gate: &G,
+) -> Result<Run, RunFault>
+    requires program { locked.machine.program ≡ J.program }
+    requires crew { workers_of locked.machine ≡ J.workers }
+    requires workers { workers ≡ J.workers }
+    requires limit { limit ≡ J.limit }
+    requires none { locked.history ≡ [] }
+    ensures ok { IfOk result (λ r. IsRun J.program J.workers J.limit r) }
+    ensures err { IfErr result (λ e. e ≢ RunFault.Workers) }
+{
+    let table: Table<J> = Table::new(alloc, locked, workers, limit)?;
+    if workers == 1 {
+        return finish(rt, alloc, work_alone(rt, table, gate), workers);
+    }
+    let lock = Mutex::new(table);
+    let all_started = start_all(rt, &lock, gate, workers);
+    let table = lock.into_inner();
+    if !all_started {
+        return Err(RunFault::Start);
+    }
+    finish(rt, alloc, table, workers)
+}
+
+/// Starts the workers' threads, and waits until all that were started have ended. False: the system did not start one of them.
+fn start_all<'a, T: Post + Send, R: Threads + Wait + Sync, G: Gate + Sync>(
+    rt: &'a R,
+    lock: &'a Mutex<T>,
+    gate: &'a G,
+    workers: u8,
+) -> bool {
+    thread::scope(thread::scope_env(), rt, |scope| {
+        for before in 0..workers {
+            let worker = before + 1;
+            let builder = Builder::new().stack_size(STACK);
+            if builder
+                .spawn_scoped(scope, move || work(rt, lock, gate, worker))
+                .is_err()
+            {
+                lock.lock(rt).stop();
+                return false;
+            }
+        }
+        true
+    })
+}
+
+/// What a worker's thread does.
+fn work<T: Post, R: Wait, G: Gate>(rt: &R, lock: &Mutex<T>, gate: &G, worker: u8) {
+    let mut turn = 1u64;
+    let mut in_vain = 0u8;
+    for _ in rt.forever() {
+        gate.before(worker, turn);
+        let came = lock.lock(rt).turn(worker);
+        match came {
+            Turn::Stop => return,
+            Turn::Idle => {
+                in_vain = MOST_YIELDS.min(in_vain.saturating_add(1));
+                for _ in 0..in_vain {
+                    thread::yield_now();
+                }
+            }
+            Turn::Made => {
+                turn = turn.wrapping_add(1);
+                in_vain = 0;
+            }
+        }
+    }
+}
+
+/// What an only worker does, who needs no lock.
+fn work_alone<J: Setting, R: Wait, G: Gate>(rt: &R, table: Table<J>, gate: &G) -> Table<J> {
+    let mut table = table;
+    let mut turn = 1u64;
+    for _ in rt.forever() {
+        gate.before(1, turn);
+        match table.take_turn(1) {
+            Turn::Stop => break,
+            Turn::Idle => {}
+            Turn::Made => turn = turn.wrapping_add(1),
+        }
+    }
+    table
+}
+
+/// Goes on in the caller's thread, for each worker in turn, where the run is not over yet; then gives it.
+fn finish<J: Setting, R: Wait>(
+    rt: &R,
+    alloc: Global,
+    table: Table<J>,
+    workers: u8,
+) -> Result<Run, RunFault>
+    ensures ok { IfOk result (λ r. IsRun J.program J.workers J.limit r) }
+    ensures err { IfErr result (λ e. e ≡ RunFault.Memory) }
+{
+    let mut table = table;
+    for _ in rt.forever() {
+        if table.is_short() {
+            return Err(RunFault::Memory);
+        }
+        if table.has_ended() {
+            return table.into_run(alloc);
+        }
+        for before in 0..workers {
+            table.take_turn(before + 1);
+        }
+    }
+    unreachable!()
+}

@@ -1,0 +1,20 @@
+//! A program run by several workers: each is a thread, and all take their turns at one machine under one lock, which keeps the choices that
+//! were made beside it.
+#![tactic(auto)]
+
+mod crew;
+mod gate;
+mod lists;
+mod locked;
+mod outcome;
+mod post;
+mod table;
+
+pub use cilk_machine::{
+    Act, Choice, Did, End, Event, Loaded, Machine, MachineFault, Outcome, Refusal, ending,
+};
+pub use crew::run;
+pub use gate::{Gate, Open};
+pub use lists::{Output, Turns};
+pub use locked::Locked;
+pub use outcome::{Run, RunFault};

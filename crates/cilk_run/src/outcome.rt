@@ -1,0 +1,27 @@
+//! What comes of a run.
+
+use crate::lists::{Output, Turns};
+use cilk_log::Log;
+use cilk_machine::End;
+
+/// A run that ended, was stuck, or came to its limit.
+#[derive(Debug, Drop)]
+pub struct Run {
+    /// How the program stands at the end.
+    pub end: End,
+    /// The choices, in the order in which the workers had the lock.
+    pub log: Log,
+    pub output: Output,
+    pub turns: Turns,
+}
+
+/// Why there is no run.
+#[derive(Clone, Copy, PartialEq, Eq, Debug)]
+pub enum RunFault {
+    /// There are 1 to 64 workers.
+    Workers,
+    /// The system started no thread for one of the workers. All that were started have ended.
+    Start,
+    /// Memory has run out.
+    Memory,
+}

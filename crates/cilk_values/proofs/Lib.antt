@@ -1,0 +1,1 @@
+pub use Rattle.cilk_syntax.proofs as syntax_laws
