@@ -15,7 +15,7 @@ use Rattle.cilk_choices.specs.declared.event.Event.TheVariants.{Acted, Spawned, 
 use Rattle.cilk_choices.specs.declared.end.End.{End}
 use Rattle.cilk_choices.specs.declared.end.End.TheVariants as ends
 use Rattle.cilk_choices.specs.declared.refusal.Refusal.{Refusal}
-use Rattle.cilk_choices.specs.declared.refusal.Refusal.TheVariants.{Over, NoWorker, HandEmpty, Busy, DequeEmpty, Waiting, Memory}
+use Rattle.cilk_choices.specs.declared.refusal.Refusal.TheVariants.{Over, NoWorker, HandEmpty, Busy, DequeEmpty, Waiting, Memory, Stale}
 
 abbrev pub act_of : Act → model.Act
 act_of Step = model.step
@@ -34,6 +34,7 @@ reason_of Busy = Some model.busy
 reason_of DequeEmpty = Some model.deque_empty
 reason_of Waiting = Some model.waiting
 reason_of Memory = None
+reason_of Stale = Some model.stale
 
 abbrev pub outcome_of : Outcome → state.Outcome
 outcome_of outcome.Running = state.running

@@ -1,6 +1,6 @@
 use thiserror::Error;
 
-/// Why a choice was not made: the first reason that applies, and want of memory last.
+/// Why a choice was not made: the first reason that applies, and want of memory last. `Stale` is none of a choice, but of what was seen beforehand.
 #[derive(Clone, Copy, Debug, PartialEq, Eq, Error)]
 pub enum Refusal {
     /// The program has ended.
@@ -24,4 +24,7 @@ pub enum Refusal {
     /// Memory has run out.
     #[error("M7 Memory")]
     Memory,
+    /// What was seen of the step is no longer so.
+    #[error("M8 Stale")]
+    Stale,
 }

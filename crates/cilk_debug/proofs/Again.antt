@@ -97,6 +97,7 @@ first_by t k refusal.Busy not bad = record { before = k; counted = omega arith; 
 first_by t k refusal.DequeEmpty not bad = record { before = k; counted = omega arith; reason = model.deque_empty; is = refl; bad = bad model.deque_empty refl }
 first_by t k refusal.Waiting not bad = record { before = k; counted = omega arith; reason = model.waiting; is = refl; bad = bad model.waiting refl }
 first_by t k refusal.Memory not bad = absurd (not refl)
+first_by t k refusal.Stale not bad = record { before = k; counted = omega arith; reason = model.stale; is = refl; bad = bad model.stale refl }
 
 -- where all choices are possible, so are the first of them
 pub step_down : (t : Tape) (k : ℕ) (choice : Choice) → slice_get t.choices k ≡ Some choice → position_at t (suc k) ≡ one_more (label t.program) choice (position_at t k)

@@ -6,6 +6,7 @@ pub mod Leading
 pub mod Free
 pub mod Steps
 pub mod Lightly
+pub mod Looking
 pub mod Anyone
 pub mod Stuckness
 pub mod Idle

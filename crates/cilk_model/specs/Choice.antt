@@ -27,3 +27,5 @@ pub data Refusal : Type 0 where
   deque_empty : Refusal
   -- the step has to wait for a lock
   waiting : Refusal
+  -- what was seen of the step beforehand is no longer so: only what was seen is refused for it, never a choice
+  stale : Refusal

@@ -6,7 +6,7 @@ mod light;
 mod plan;
 
 pub use cilk_agree::{
-    Area, Body, Delivery, Ending, Fate, Frame, Hands, Id, Kind, Lock, Program, Tree, Var,
+    Area, Body, Delivery, Ending, Fate, Frame, Hands, Id, Kind, Lock, Path, Program, Tree, Var,
 };
 pub use cilk_effects::{
     Arguments, Await, Bytes, Effect, Memory, Reached, Receiver, assigned, combined, effect_of, held,

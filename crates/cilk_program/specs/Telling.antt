@@ -23,6 +23,7 @@ code_of refusal.Busy = codes "M4"
 code_of refusal.DequeEmpty = codes "M5"
 code_of refusal.Waiting = codes "M6"
 code_of refusal.Memory = codes "M7"
+code_of refusal.Stale = codes "M8"
 
 -- the line and its newline, for a text of this name; want of memory has no name
 abbrev pub log_line : List ℕ → LogFault → List ℕ

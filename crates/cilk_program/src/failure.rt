@@ -171,5 +171,6 @@ fn code_of(refusal: &Refusal) -> &'static str
         Refusal::DequeEmpty => "M5",
         Refusal::Waiting => "M6",
         Refusal::Memory => "M7",
+        Refusal::Stale => "M8",
     }
 }

@@ -4,10 +4,12 @@
 
 mod crew;
 mod gate;
+mod glimpse;
 mod lists;
 mod locked;
 mod outcome;
 mod post;
+mod proposal;
 mod table;
 
 pub use cilk_machine::{
@@ -15,6 +17,8 @@ pub use cilk_machine::{
 };
 pub use crew::run;
 pub use gate::{Gate, Open};
+pub use glimpse::Glimpse;
 pub use lists::{Output, Turns};
 pub use locked::Locked;
 pub use outcome::{Run, RunFault};
+pub use proposal::{Proposal, propose};

@@ -1,14 +1,18 @@
 //! What a lock keeps.
 
-ghost use Rattle.std.specs.Prelude.{◌≡◌, ◌<◌, ◌⊎◌, ◌↔◌, [], ◌∷◌, ◌++◌, Err, IfOk, IfErr, OnOk, OnErr};
+ghost use Rattle.std.specs.Prelude.{◌≡◌, ◌<◌, ◌⊎◌, ◌↔◌, [], ◌∷◌, ◌++◌, None, Some, option_map, Err, IfOk, IfErr, IfSome, OnOk, OnErr};
+ghost use Rattle.cilk_machine.specs.model.Choice as choices;
 ghost use Rattle.cilk_machine.specs.choices.Words.{choice_of, event_of, reason_of};
+ghost use Rattle.cilk_machine.specs.Looking.{look_refused, look_at, IsUnseen, IsUnsettled};
 ghost use Rattle.cilk_machine.specs.Situation.{workers_of};
 ghost use Rattle.cilk_machine.specs.Made.{Makes, MakesBy, IsRefused};
 ghost use Rattle.cilk_machine.specs.Stands.{Opens};
 ghost use Rattle.cilk_run.specs.Histories.{IsLedBy};
 
+use crate::glimpse::Glimpse;
+use crate::proposal::Proposal;
 use cilk_log::Choices;
-use cilk_machine::{Choice, Did, Event, Loaded, Machine, MachineFault, Refusal};
+use cilk_machine::{Act, Choice, Did, Event, Loaded, Machine, MachineFault, Refusal};
 use std::alloc::Global;
 use std::marker::Model;
 
@@ -80,6 +84,58 @@ impl Locked {
         let did = self.machine.advance(choice)?;
         self.history.push_reserved(choice);
         Ok(did)
+    }
+
+    /// What the worker's next step evaluates, where it assigns to a variable that is no element, or tests, and neither an element nor `SYNCHED`
+    /// stands in the expression. It is refused as a step is, but for one that has to wait.
+    pub fn glimpse(&self, worker: u8) -> Result<Option<Glimpse>, Refusal>
+        ensures free { OnOk result (look_refused self.now.machine worker ≡ None) }
+        ensures looks { IfOk result (λ o. option_map (λ g. g.look) o ≡ look_at self.now.machine worker) }
+        ensures worker { IfOk result (λ o. IfSome o (λ g. g.worker ≡ worker)) }
+        ensures refused { IfErr result (IsUnseen self.now.machine worker) }
+    {
+        match self.machine.peek(worker) {
+            Err(refusal) => Err(refusal),
+            Ok(None) => Ok(None),
+            Ok(Some(peek)) => Ok(Some(Glimpse::new(worker, peek))),
+        }
+    }
+
+    /// Makes the choice of a step by the value of what its worker saw of it, and the history ends with the choice then. Where one sees something
+    /// else by now, it is refused as stale. A refusal changes nothing.
+    pub fn commit(&mut self, proposal: Proposal) -> Result<Event, Refusal>
+        ensures free { OnOk result (look_refused self.old.machine proposal.worker ≡ None) }
+        ensures seen { OnOk result (look_at self.old.machine proposal.worker ≡ Some proposal.look) }
+        ensures made { IfOk result (λ e. Makes self.old.machine self.new.machine (record { worker = proposal.worker; act = choices.step }) (event_of e)) }
+        ensures history { OnOk result (self.new.history ≡ self.old.history ++ record { worker = proposal.worker; act = Act.Step } ∷ []) }
+        ensures refused { IfErr result (IsUnsettled self.old.machine proposal.worker proposal.look) }
+        ensures unchanged { OnErr result (self.new ≡ self.old) }
+    {
+        if self.history.reserve(1).is_err() {
+            return Err(self.want_of(&proposal));
+        }
+        let worker = proposal.worker();
+        let event = self
+            .machine
+            .settle(worker, proposal.peek(), proposal.value())?;
+        self.history.push_reserved(Choice {
+            worker,
+            act: Act::Step,
+        });
+        Ok(event)
+    }
+
+    // Why a step is not made by what was seen of it where the history cannot grow.
+    fn want_of(&self, proposal: &Proposal) -> Refusal
+        ensures { IsUnsettled self.now.machine proposal.now.worker proposal.now.look result }
+    {
+        match self
+            .machine
+            .settle_refusal(proposal.worker(), proposal.peek())
+        {
+            None => Refusal::Memory,
+            Some(refusal) => refusal,
+        }
     }
 
     // Why the choice is not made where the history cannot grow.

@@ -2,4 +2,5 @@ pub mod Waits
 pub mod Ways
 pub mod Left
 pub mod Fits
+pub mod Looks
 pub use Rattle.cilk_load.proofs as load_laws

@@ -5,6 +5,7 @@ mod alone;
 mod closing;
 mod fates;
 mod frames;
+mod glimpses;
 mod hands;
 mod inlets;
 mod instances;

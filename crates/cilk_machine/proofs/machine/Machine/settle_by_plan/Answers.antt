@@ -1,0 +1,5 @@
+use Rattle.cilk_choices.specs.Words.{event_of}
+use Rattle.cilk_machine.proofs.machine.Machine.settle_by_plan.Goals as goal
+
+pub returns-in-Ok-step-clause-made : goal.returns-in-Ok-step-clause-made
+returns-in-Ok-step-clause-made c = c.in-Ok-step.ensures.event (event_of c.in-Ok.event) c.in-Ok.ensures.event

@@ -1,0 +1,5 @@
+use Rattle.cilk_choices.specs.Words.{event_of}
+use Rattle.cilk_machine.proofs.machine.Machine.settle_lightly.Goals as goal
+
+pub returns-clause-made : goal.returns-clause-made
+returns-clause-made c = c.step_lightly-did.ensures.event (event_of c.in-Ok.event) c.in-Ok.ensures.event

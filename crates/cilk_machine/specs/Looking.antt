@@ -1,0 +1,52 @@
+-- Looking ahead at a step, and taking it by the value of what was seen.
+use Rattle.std.specs.Prelude.{◌≡◌, ◌≢◌, ◌⊎◌, ℕ, not, if◌then◌else◌, Option, Some, None, option_and_then, Result, Ok, Err}
+use Rattle.cilk_carries.specs.frame.Frames.{Frame}
+use Rattle.cilk_carries.specs.plans.declared.light.Light.{Light}
+use Rattle.cilk_carries.specs.plans.declared.plan.Plan.{Plan}
+use Rattle.cilk_carries.specs.plans.Words.{plan_of}
+use Rattle.cilk_choices.specs.model.Places.{hand_of}
+use Rattle.cilk_choices.specs.declared.refusal.Refusal.{Refusal}
+use Rattle.cilk_choices.specs.declared.refusal.Refusal.TheVariants.{Over, NoWorker, HandEmpty, Memory, Stale}
+use Rattle.cilk_step.specs.Looks.{Look, look_in}
+use Rattle.cilk_machine.specs.Situation.{Situation, workers_of, sight_at}
+use Rattle.cilk_machine.specs.Refused.{runs, is_worker_of, is_full}
+
+-- the first reason why the worker has no step to look at
+abbrev pub look_refused : Situation → ℕ → Option Refusal
+look_refused m w =
+    if not (runs m.outcome) then Some Over
+    else (if not (is_worker_of (workers_of m) w) then Some NoWorker
+    else (if is_full m.machine.places w then None
+    else Some HandEmpty))
+
+abbrev pub look_by : Situation → Frame → Option Look
+look_by m f = look_in (sight_at m f)
+
+-- what the worker sees of its step
+abbrev pub look_at : Situation → ℕ → Option Look
+look_at m w = option_and_then (look_by m) (hand_of m.machine.places w)
+
+-- why one does not see: want of memory is told only where there is no other reason
+abbrev pub IsUnseen : Situation → ℕ → Refusal → Type 0
+IsUnseen m w r = (look_refused m w ≡ Some r) ⊎ ((r ≡ Memory) × (look_refused m w ≡ None))
+
+-- the worker's step is not as it was seen
+pub record IsStale (m : Situation) (w : ℕ) (look : Look) (r : Refusal) : Type 0 where
+  pub reason : r ≡ Stale
+  pub free : look_refused m w ≡ None
+  pub other : look_at m w ≢ Some look
+
+-- it is, and memory is wanted
+pub record IsShort (m : Situation) (w : ℕ) (look : Look) (r : Refusal) : Type 0 where
+  pub reason : r ≡ Memory
+  pub free : look_refused m w ≡ None
+  pub same : look_at m w ≡ Some look
+
+-- why a step is not taken by what was seen of it
+abbrev pub IsUnsettled : Situation → ℕ → Look → Refusal → Type 0
+IsUnsettled m w look r = (look_refused m w ≡ Some r) ⊎ (IsStale m w look r ⊎ IsShort m w look r)
+
+-- a plan, light or not
+abbrev pub plan_by : Result Light Plan → Plan
+plan_by (Ok light) = plan_of light
+plan_by (Err plan) = plan

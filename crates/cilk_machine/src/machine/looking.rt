@@ -1,0 +1,215 @@
+//! What a worker's step evaluates, seen beforehand, and the step taken by its value.
+
+ghost use Rattle.std.specs.Prelude.{◌≡◌, ◌≢◌, ◌<◌, ◌-◌, ◌^◌, ◌⊎◌, Decides, true, Some, None, option_map, OnErr, OnOk, IfOk, IfErr, IfSome, IfNone};
+ghost use Rattle.cilk_choices.specs.model.Choice as choices;
+ghost use Rattle.cilk_choices.specs.model.Places.{IsWorker};
+ghost use Rattle.cilk_choices.specs.Words.{reason_of, event_of};
+ghost use Rattle.cilk_step.specs.eval.Known.{known};
+ghost use Rattle.cilk_step.specs.values.Value.{value_of};
+ghost use Rattle.cilk_step.specs.Looks.{look_of};
+ghost use Rattle.cilk_machine.specs.Situation.{workers_of};
+ghost use Rattle.cilk_machine.specs.Refused.{runs, is_worker_of, is_full, refused_by, planned_in};
+ghost use Rattle.cilk_machine.specs.Made.{Makes, MakesBy, IsRefused};
+ghost use Rattle.cilk_machine.specs.Looking.{look_refused, look_at, IsUnseen, IsUnsettled, IsStale, plan_by};
+ghost use Rattle.cilk_carries.specs.plans.Words.{plan_of};
+
+use super::Machine;
+use crate::refusing::is_worker;
+use cilk_carries::Did;
+use cilk_choices::{Act, Event, Outcome, Refusal};
+use cilk_step::{Light, Peek, Plan, Trap, is_seen, look_ahead, plan_by_value};
+
+impl Machine {
+    /// What the next step of a worker evaluates, where it assigns to a variable that is no element, or tests, and neither an element nor
+    /// `SYNCHED` stands in the expression. It is refused as a step is, but for one that has to wait, of which there is nothing to see.
+    pub fn peek(&self, worker: u8) -> Result<Option<Peek>, Refusal>
+        ensures free { OnOk result (look_refused self.now worker ≡ None) }
+        ensures looks { IfOk result (λ peek. option_map look_of peek ≡ look_at self.now worker) }
+        ensures refused { IfErr result (IsUnseen self.now worker) }
+    {
+        match self.look_refusal(worker) {
+            Some(refusal) => Err(refusal),
+            None => self.look(worker),
+        }
+    }
+
+    // The same of a worker that has a frame in its hand.
+    fn look(&self, worker: u8) -> Result<Option<Peek>, Refusal>
+        requires worker { IsWorker self.now.machine.places worker }
+        requires full { is_full self.now.machine.places worker ≡ true }
+        ensures looks { IfOk result (λ peek. option_map look_of peek ≡ look_at self.now worker) }
+        ensures memory { IfErr result (λ r. r ≡ Refusal.Memory) }
+    {
+        match self.parts.hands.hand(worker) {
+            None => unreachable!(),
+            Some(frame) => match look_ahead(self.alloc, &self.scene(frame)) {
+                Err(_) => Err(Refusal::Memory),
+                Ok(peek) => Ok(peek),
+            },
+        }
+    }
+
+    /// Makes the choice of the worker's step by the value of what was seen of it. Where one sees something else by now, it is refused as stale.
+    /// A refusal changes nothing.
+    pub fn settle(
+        &mut self,
+        worker: u8,
+        peek: &Peek,
+        value: Result<i32, Trap>,
+    ) -> Result<Event, Refusal>
+        requires room { self.old.choices < 2 ^ 64 - 1 }
+        requires value { value ≡ value_of (known peek.now.values.items) peek.now.code }
+        ensures free { OnOk result (look_refused self.old worker ≡ None) }
+        ensures seen { OnOk result (look_at self.old worker ≡ Some (look_of peek.now)) }
+        ensures made { IfOk result (λ e. Makes self.old self.new (record { worker = worker; act = choices.step }) (event_of e)) }
+        ensures refused { IfErr result (IsUnsettled self.old worker (look_of peek.now)) }
+        ensures unchanged { OnErr result (self.new ≡ self.old) }
+    {
+        if let Some(refusal) = self.look_refusal(worker) {
+            return Err(refusal);
+        }
+        if !self.still_sees(worker, peek) {
+            return Err(Refusal::Stale);
+        }
+        match self.plan_seen(worker, peek, value) {
+            Ok(light) => self.settle_lightly(worker, &light),
+            Err(plan) => self.settle_by_plan(worker, plan),
+        }
+    }
+
+    /// Why the worker's step is not taken by what was seen of it: the first reason that applies, want of memory left out. None where one still
+    /// sees the same.
+    pub fn settle_refusal(&self, worker: u8, peek: &Peek) -> Option<Refusal>
+        ensures free { IfNone result (look_refused self.now worker ≡ None) }
+        ensures seen { IfNone result (look_at self.now worker ≡ Some (look_of peek.now)) }
+        ensures refused { IfSome result (λ r. (look_refused self.now worker ≡ Some r) ⊎ IsStale self.now worker (look_of peek.now) r) }
+    {
+        match self.look_refusal(worker) {
+            Some(refusal) => Some(refusal),
+            None => {
+                if self.still_sees(worker, peek) {
+                    None
+                } else {
+                    Some(Refusal::Stale)
+                }
+            }
+        }
+    }
+
+    // Whether the worker, which has a frame in its hand, sees the same now.
+    fn still_sees(&self, worker: u8, peek: &Peek) -> bool
+        requires worker { IsWorker self.now.machine.places worker }
+        requires full { is_full self.now.machine.places worker ≡ true }
+        ensures { Decides result (look_at self.now worker ≡ Some (look_of peek.now)) }
+    {
+        match self.parts.hands.hand(worker) {
+            None => unreachable!(),
+            Some(frame) => is_seen(&self.scene(frame), peek),
+        }
+    }
+
+    // The plan of the worker's step, of which one sees the same.
+    fn plan_seen(&self, worker: u8, peek: &Peek, value: Result<i32, Trap>) -> Result<Light, Plan>
+        requires value { value ≡ value_of (known peek.now.values.items) peek.now.code }
+        requires worker { IsWorker self.now.machine.places worker }
+        requires crew { is_worker_of (workers_of self.now) worker ≡ true }
+        requires runs { runs self.now.outcome ≡ true }
+        requires full { is_full self.now.machine.places worker ≡ true }
+        requires seen { look_at self.now worker ≡ Some (look_of peek.now) }
+        ensures free { refused_by self.now (record { worker = worker; act = Act.Step }) ≡ None }
+        ensures planned { plan_by result ≡ planned_in self.now worker }
+    {
+        match self.parts.hands.hand(worker) {
+            None => unreachable!(),
+            Some(frame) => plan_by_value(&self.scene(frame), peek, value),
+        }
+    }
+
+    // The step by its light plan.
+    fn settle_lightly(&mut self, worker: u8, light: &Light) -> Result<Event, Refusal>
+        requires free { refused_by self.old (record { worker = worker; act = Act.Step }) ≡ None }
+        requires planned { plan_of light.now ≡ planned_in self.old worker }
+        requires room { self.old.choices < 2 ^ 64 - 1 }
+        ensures made { IfOk result (λ e. Makes self.old self.new (record { worker = worker; act = choices.step }) (event_of e)) }
+        ensures memory { IfErr result (λ r. r ≡ Refusal.Memory) }
+        ensures unchanged { OnErr result (self.new ≡ self.old) }
+    {
+        let plan = plan_of(*light);
+        match self.event(worker, &plan) {
+            Err(_) => Err(Refusal::Memory),
+            Ok(event) => {
+                let _did = self.step_lightly(worker, *light);
+                Ok(event)
+            }
+        }
+    }
+
+    // The step by a plan that is not light.
+    fn settle_by_plan(&mut self, worker: u8, plan: Plan) -> Result<Event, Refusal>
+        requires free { refused_by self.old (record { worker = worker; act = Act.Step }) ≡ None }
+        requires planned { plan ≡ planned_in self.old worker }
+        requires room { self.old.choices < 2 ^ 64 - 1 }
+        ensures made { IfOk result (λ e. Makes self.old self.new (record { worker = worker; act = choices.step }) (event_of e)) }
+        ensures memory { IfErr result (λ r. r ≡ Refusal.Memory) }
+        ensures unchanged { OnErr result (self.new ≡ self.old) }
+    {
+        match self.event(worker, &plan) {
+            Err(_) => Err(Refusal::Memory),
+            Ok(event) => match self.step(worker, plan) {
+                Err(_) => Err(Refusal::Memory),
+                Ok(_) => Ok(event),
+            },
+        }
+    }
+
+    fn look_refusal(&self, worker: u8) -> Option<Refusal>
+        ensures value { result ≡ look_refused self.now worker }
+        ensures worker { IfNone result (IsWorker self.now.machine.places worker) }
+        ensures crew { IfNone result (is_worker_of (workers_of self.now) worker ≡ true) }
+        ensures runs { IfNone result (runs self.now.outcome ≡ true) }
+        ensures full { IfNone result (is_full self.now.machine.places worker ≡ true) }
+    {
+        if !matches!(self.outcome, Outcome::Running) {
+            return Some(Refusal::Over);
+        }
+        if !is_worker(worker, self.workers) {
+            return Some(Refusal::NoWorker);
+        }
+        match self.parts.hands.hand(worker) {
+            None => Some(Refusal::HandEmpty),
+            Some(_) => None,
+        }
+    }
+}
+
+fn plan_of(light: Light) -> Plan
+    ensures { result ≡ plan_of light }
+{
+    match light {
+        Light::Take {
+            child,
+            n,
+            reached,
+            value,
+        } => Plan::Take {
+            child,
+            n,
+            reached,
+            value,
+        },
+        Light::Go { n, to } => Plan::Go { n, to },
+        Light::Write {
+            n,
+            reached,
+            value,
+            to,
+        } => Plan::Write {
+            n,
+            reached,
+            value,
+            to,
+        },
+        Light::Leave { n } => Plan::Leave { n },
+        Light::Answer { n, reached, value } => Plan::Answer { n, reached, value },
+    }
+}

@@ -1,0 +1,36 @@
+//! What a worker sees of its step.
+
+ghost use Rattle.std.specs.Prelude.{◌≡◌};
+ghost use Rattle.cilk_machine.specs.step.Looks.{look_of};
+
+use cilk_machine::Peek;
+use std::marker::Model;
+
+/// What a worker saw of its next step, while it had the lock.
+#[derive(Drop)]
+pub struct Glimpse {
+    pub(crate) worker: u8,
+    pub(crate) peek: Peek,
+}
+
+impl Model for Glimpse {
+    ghost use Rattle.cilk_machine.specs.step.Looks.{look_of};
+    ghost use Rattle.cilk_machine.specs.step.eval.Coding.{coded_Term};
+    ghost use Rattle.cilk_run.specs.Glimpses.{Glanced};
+    ghost use Rattle.std.specs.Coded.{codes};
+
+    ghost Value = { Glanced };
+
+    ghost coded = { Prim.hlevel (codes, coded_Term) };
+
+    ghost view = { λ g. record { worker = g.worker; look = look_of g.peek } };
+}
+
+impl Glimpse {
+    pub(crate) fn new(worker: u8, peek: Peek) -> Glimpse
+        ensures worker { result.worker ≡ worker }
+        ensures look { result.look ≡ look_of peek }
+    {
+        Glimpse { worker, peek }
+    }
+}

@@ -1,0 +1,82 @@
+-- What a step evaluates that may be evaluated before it is taken, by one who holds no lock meanwhile.
+use Rattle.std.specs.Prelude.{ℕ, ℤ, Bool, not, ◌&&◌, if◌then◌else◌, List, Option, Some, None, is_some, option_map, slice_get, Result, Ok}
+use Rattle.cilk_load.specs.values.declared.trap.Trap.{Trap}
+use Rattle.cilk_load.specs.values.Arithmetic.{is_zero}
+use Rattle.cilk_load.specs.values.Term.{Term}
+use Rattle.cilk_load.specs.values.Value.{◌>>=◌}
+use Rattle.cilk_eval.specs.declared.slot.Slot.{Slot}
+use Rattle.cilk_eval.specs.declared.known.Known.{Known}
+use Rattle.cilk_eval.specs.Known.{is_plain, known_of}
+use Rattle.cilk_plans.specs.eval.Slots.{Cells, slot_cell}
+use Rattle.cilk_plans.specs.model.Path.{Path}
+use Rattle.cilk_plans.specs.model.Values.{combined}
+use Rattle.cilk_plans.specs.nodes.declared.action.Action.{Action}
+use Rattle.cilk_plans.specs.nodes.declared.action.Action.TheVariants.{Assign, Call, Spawn, Print, Locking, Null, Break, Continue, Test, Sync, Abort, Return, ReturnNothing, Close}
+use Rattle.cilk_plans.specs.nodes.declared.node.Node.{Node}
+use Rattle.cilk_plans.specs.nodes.declared.place.Place.{Place}
+use Rattle.cilk_plans.specs.nodes.Table.{node_of}
+use Rattle.cilk_plans.specs.spawn.Nodes.{path_at}
+use Rattle.cilk_plans.specs.effects.declared.effect.Effect.{Effect}
+use Rattle.cilk_plans.specs.effects.declared.effect.Effect.TheVariants.{Writes, Answers}
+use Rattle.cilk_plans.specs.Sights.{Sight, id_of, own_node, head_number, cells_in}
+use Rattle.cilk_plans.specs.Made.{at_boundary}
+use Rattle.cilk_step.specs.declared.peek.Peek.{Peek}
+
+-- an instance, the action that it acts next, the expression that this evaluates, and what the variables hold that stand in it
+pub record Look : Type 0 where
+  pub path : Path
+  pub n : ℕ
+  pub code : Term Slot
+  pub values : List Known
+
+abbrev pub plain : Term Slot → Option (Term Slot)
+plain code = if is_plain code then Some code else None
+
+abbrev pub is_element : Place → Bool
+is_element place = is_some place.subscript
+
+-- the right side of an assignment to a variable that is no element, an initialiser's value and the 1 of `++` and `--` among them, or a test,
+-- where neither an element nor `SYNCHED` stands in it
+abbrev pub code_of : Action → Option (Term Slot)
+code_of (Assign target code) = if is_element target.place then None else plain code
+code_of (Call target callee arguments) = None
+code_of (Spawn taker callee arguments) = None
+code_of (Print format arguments) = None
+code_of (Locking what lock) = None
+code_of Null = None
+code_of Break = None
+code_of Continue = None
+code_of (Test code) = plain code
+code_of Sync = None
+code_of Abort = None
+code_of (Return code) = None
+code_of ReturnNothing = None
+code_of Close = None
+
+-- a delivery waits, and is taken before the action
+abbrev pub is_delayed : Sight → Node → Bool
+is_delayed g node = at_boundary g node && is_some (slice_get (own_node g).waiting 0)
+
+abbrev pub code_ahead : Sight → Option Node → Option (Term Slot)
+code_ahead g None = None
+code_ahead g (Some node) = if is_delayed g node then None else code_of node.action
+
+-- the expression that the step of the instance evaluates, if it acts and the expression is such a one
+abbrev pub code_in : Sight → Option (Term Slot)
+code_in g = if (own_node g).aborted then None else code_ahead g (node_of g.program (head_number g))
+
+abbrev pub look_by : Sight → Term Slot → Look
+look_by g code = record { path = path_at g.nodes (id_of g); n = head_number g; code = code; values = known_of (cells_in g) code }
+
+-- what one sees who looks ahead at the step of the instance
+abbrev pub look_in : Sight → Option Look
+look_in g = option_map (look_by g) (code_in g)
+
+abbrev pub look_of : Peek → Look
+look_of peek = record { path = peek.path; n = peek.n; code = peek.code; values = peek.values.items }
+
+-- what an action comes to whose expression has this value: the variable that it assigns to is read only now (C 1990, 6.3.16)
+abbrev pub effect_by : Cells → Action → Result ℤ Trap → Result Effect Trap
+effect_by cells (Assign target code) r =
+    r >>= λ z. combined target.op (slot_cell cells target.place.slot 0) z >>= λ y. Ok (Writes (record { slot = target.place.slot; index = 0 }) y)
+effect_by cells act r = r >>= λ z. Ok (Answers (not (is_zero z)))
