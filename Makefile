@@ -25,11 +25,12 @@ ways:
 costs:
 	tools/costs
 
-# Tries ./cilk on the cases of programs/, on the examples of docs/LANGUAGE.md and the sessions of docs/DEBUGGER.md, and on runs by several workers.
+# Tries ./cilk on the cases of programs/, on the examples of docs/LANGUAGE.md and the sessions of docs/DEBUGGER.md, on runs by several workers, and on runs that are broken off.
 programs: cilk
 	tools/programs ./cilk
 	tools/examples ./cilk
 	tools/threads ./cilk
+	tools/broken_off ./cilk
 
 must_not_compile:
 	tools/must_not_compile

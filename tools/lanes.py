@@ -18,6 +18,10 @@ PARTS = ("src", "specs", "proofs")
 ROOM = 3_500_000_000
 # The most processes that one check gains from.
 MOST_JOBS = 2
+# What loading what a crate stands on weighs, in bytes of code.
+LOADING = 5000
+# A chain of crates is among the longest if it is so much of the longest one.
+NEARLY = 0.93
 
 
 class Crates:
@@ -47,15 +51,23 @@ class Crates:
     @functools.cache
     def size(self, name):
         """Returns how many bytes of code, definitions and proofs a crate has."""
-        walked = [it for part in PARTS for it in os.walk(f"{self.top}/crates/{name}/{part}")]
-        return sum(os.path.getsize(f"{folder}/{it}") for folder, _, files in walked for it in files)
+        return sum(self.bytes(name, it) for it in PARTS)
+
+    def bytes(self, name, part):
+        """Returns how many bytes the files of a part of a crate have."""
+        return sum(os.path.getsize(f"{folder}/{it}") for folder, _, files in os.walk(f"{self.top}/crates/{name}/{part}") for it in files)
+
+    @functools.cache
+    def weight(self, name):
+        """Returns about how long a crate takes to prove, in no unit: functions are dear, and not what is said of them."""
+        return LOADING + self.bytes(name, "src")
 
     def behind(self, names):
-        """Returns for each of these crates the size of the longest chain of them that begins with it and goes upward."""
+        """Returns for each of these crates the weight of the longest chain of them that begins with it and goes upward."""
         found = {}
         for name in reversed(list(self.uses)):
             if name in names:
-                found[name] = self.size(name) + max((found[it] for it in found if name in self.uses[it]), default=0)
+                found[name] = self.weight(name) + max((found[it] for it in found if name in self.uses[it]), default=0)
         return found
 
 
@@ -172,11 +184,15 @@ class Turns:
         return sorted(found, key=lambda it: -self.behind[it])
 
     def next(self):
-        """Returns the crate to take up now and how many jobs it gets, or None. Processors that are left over are shared among those that are ready."""
+        """Returns the crate to take up now and how many jobs it gets, or None. Processors that are left over are shared among those that are ready, and
+        where there are enough a crate with one of the longest chains above it gets all that it gains from."""
         ready, free = self.ready(), self.most - sum(self.jobs.values())
         if not ready or free < 1:
             return None
         name, jobs = ready[0], min(MOST_JOBS, max(1, -(-free // len(ready))))
+        longest = max(self.behind[it] for it in [*self.left, *self.jobs])
+        if self.most >= 2 * MOST_JOBS and self.behind[name] >= NEARLY * longest:
+            jobs = MOST_JOBS
         self.left.remove(name)
         self.jobs[name] = jobs
         return name, jobs

@@ -1,4 +1,4 @@
-ghost use Rattle.std.specs.Prelude.{None};
+ghost use Rattle.std.specs.Prelude.{None, is_some};
 ghost use Rattle.cilk.specs.Source.{IsSource};
 
 use crate::writing::write_whole;
@@ -75,6 +75,8 @@ pub struct LogFile<'r> {
 }
 
 impl<'r> LogStore for LogFile<'r> {
+    ghost wanted = { λ file. is_some file.path };
+
     ghost stored = { λ file. None };
 
     fn is_wanted(&self) -> bool {
@@ -82,7 +84,7 @@ impl<'r> LogStore for LogFile<'r> {
     }
 
     fn is_apart(&self) -> bool {
-        !self.is_program
+        self.path.is_none() || !self.is_program
     }
 
     fn store(&mut self, text: &[u8]) -> io::Result<()> {

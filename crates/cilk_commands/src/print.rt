@@ -59,7 +59,9 @@ fn print<W: Write>(alloc: Global, text: &[u8], out: &mut W) -> Result<(), Failur
     ensures kept { IfErr result (λ why. status_of why ≢ Status.CannotWrite → out.new ≡ out.old) }
 {
     let program = ready_of(alloc, text)?;
-    let Ok(answer) = program.text() else {
+    let made = program.text();
+    program.let_go();
+    let Ok(answer) = made else {
         return Err(Failure::Memory);
     };
     write_answer(out, answer.as_bytes())

@@ -50,6 +50,9 @@ impl Debugger {
         self.alloc
     }
 
+    /// Lets it go. To drop it in another crate is proved there again, which is dear.
+    pub fn let_go(self) {}
+
     /// How many choices led to where it stands.
     pub fn position(&self) -> u64
         ensures { result ≡ self.now.position }

@@ -8,6 +8,7 @@ mod copy;
 mod evaluate;
 mod known;
 mod laws;
+mod length;
 mod same;
 mod seen;
 mod slot;

@@ -1,6 +1,6 @@
 //! The variables and the locks of the top level.
 
-ghost use Rattle.std.specs.Prelude.{◌≡◌, ◌+◌, ◌++◌, map, flat_map, IfOk, OnOk};
+ghost use Rattle.std.specs.Prelude.{◌≡◌, ◌+◌, ◌++◌, [], map, flat_map, IfOk, OnOk};
 ghost use Rattle.cilk_syntax.specs.Tree.{global};
 ghost use Rattle.cilk_nodes.specs.eval.declared.area.Area.TheVariants as area;
 ghost use Rattle.cilk_nodes.specs.labelled.Bodies.{item_globals, item_locks};
@@ -15,16 +15,26 @@ use cilk_syntax::{GlobalShape, Item, ItemNode};
 use std::alloc::Global;
 
 /// The variables of the top level, in their slots.
-#[tactic(auto, using(crate::proofs::Cells::variables))]
 pub fn globals_of(alloc: Global, items: &[Item]) -> Result<Vec<Var>, NoRoom>
     ensures { IfOk result (λ vars. vars.items ≡ vars_from area.Global 0 (flat_map item_globals items.now)) }
 {
     let mut vars = Vec::new(alloc);
+    match put_globals(alloc, &mut vars, items) {
+        Ok(()) => Ok(vars),
+        Err(fault) => Err(fault),
+    }
+}
+
+#[tactic(auto, using(crate::proofs::Cells::variables))]
+fn put_globals(alloc: Global, vars: &mut Vec<Var>, items: &[Item]) -> Result<(), NoRoom>
+    requires { vars.old.items ≡ [] }
+    ensures { OnOk result (vars.new.items ≡ vars_from area.Global 0 (flat_map item_globals items.now)) }
+{
     let mut cells = 0;
     for item in items {
-        cells = put_global(alloc, &mut vars, cells, item)?;
+        cells = put_global(alloc, vars, cells, item)?;
     }
-    Ok(vars)
+    Ok(())
 }
 
 fn put_global(alloc: Global, vars: &mut Vec<Var>, cells: u32, item: &Item) -> Result<u32, NoRoom>

@@ -123,6 +123,9 @@ impl Machine {
         }
     }
 
+    /// Lets it go. To drop it in another crate is proved there again, which is dear.
+    pub fn let_go(self) {}
+
     /// The program's tree.
     pub fn program(&self) -> &Program
         ensures { result.now ≡ self.now.program }

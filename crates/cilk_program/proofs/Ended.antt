@@ -1,5 +1,5 @@
 -- How the program ends where there is no answer.
-use Rattle.std.proofs.Common.{◌≡◌, ◌⊎◌, ◌∙◌, inl, inr, refl, subst, sym, ℕ, Bool, true, false, List, [], Option, Some, None, IfSome}
+use Rattle.std.proofs.Common.{◌≡◌, ◌⊎◌, ◌∙◌, inl, inr, refl, subst, sym, ℕ, Bool, true, false, List, [], Option, Some, None, IfSome, Bor, option_map, unwrap_or}
 use Rattle.std.specs.Prelude.{◌≢◌}
 use Rattle.cilk_commands.specs.Held.{IsReadOf}
 use Rattle.cilk_commands.specs.Loading.{Unready}
@@ -10,7 +10,7 @@ use Rattle.cilk_commands.specs.declared.failure.Failure.{Failure}
 use Rattle.cilk_commands.specs.declared.failure.Failure.TheVariants as failure
 use Rattle.cilk_commands.specs.declared.status.Status.{Status}
 use Rattle.cilk_commands.specs.declared.status.Status.TheVariants as ended
-use Rattle.cilk_program.specs.GivingUp.{GivesUp, NoProgram}
+use Rattle.cilk_program.specs.GivingUp.{GivesUp, GivesUpRun, NoProgram}
 use Rattle.cilk_program.specs.Taped.{Declines}
 use Rattle.cilk_program.specs.declared.failure.RecordFailure.{RecordFailure}
 use Rattle.cilk_program.specs.declared.failure.RecordFailure.TheVariants as why
@@ -20,6 +20,11 @@ use Rattle.cilk_words.specs.declared.refusal.Refusal.{Refusal}
 use Rattle.cilk_words.specs.declared.refusal.Refusal.TheVariants as refusal
 use Rattle.cilk_program.specs.Ends.{Ends, Shows}
 use Rattle.cilk_program.specs.Task.{Fails, Leaves, log_name}
+
+-- the name by which a log is told of
+pub name_told : (log : Option (Bor (List ℕ))) (none : Bor (List ℕ)) → none.now ≡ [] → (unwrap_or log none).now ≡ log_name (option_map (λ it. it.now) log)
+name_told None none empty = empty
+name_told (Some name) none empty = refl
 
 -- ---- a text that was not read
 
@@ -54,13 +59,21 @@ no_program Reason explain name log status known held old new found other is told
   told = told;
 }
 
+-- of a run
+pub no_run : (workers : ℕ) (wanted explain : Bool) (name log : List ℕ) (status : Status) (known old new : Option (List ℕ))
+    (found : Failure) → status_of found ≢ ended.Refused → status ≡ status_of found → TellsLine name found [] old new
+    → GivesUpRun workers wanted explain name log status known old new
+unfolding no_program
+no_run workers wanted explain name log status known old new found other is told =
+    record { is = no_program NoProgram explain name log status known None old new found other is told; of_run = tt }
+
 pub unread : (wanted : Wanted) (explain : Bool) (name : List ℕ) (status : Status) (known : Option (List ℕ)) (held : List ℕ → Option (List ℕ))
     (old new : Option (List ℕ)) (found : Failure) → status_of found ≢ ended.Refused → status ≡ status_of found → TellsLine name found [] old new
     → Fails wanted explain name status known held old new
 unread printed explain name status known held old new found other is told = nothing_read Unready explain name status known old new found other is told
 unread checked explain name status known held old new found other is told = nothing_read Unready explain name status known old new found other is told
 unread (run workers limit log) explain name status known held old new found other is told =
-    no_program NoProgram explain name (log_name log) status known None old new found other is told
+    no_run workers _ explain name (log_name log) status known old new found other is told
 unread (replayed log) explain name status known held old new found other is told =
     no_program Declines false name log status known (held log) old new found other is told
 unread (debugged log) explain name status known held old new found other is told =

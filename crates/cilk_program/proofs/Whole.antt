@@ -12,7 +12,7 @@ use Rattle.cilk_commands.specs.declared.failure.Failure.TheVariants as failure
 use Rattle.cilk_commands.specs.declared.status.Status.{Status}
 use Rattle.cilk_commands.specs.declared.status.Status.TheVariants as status
 use Rattle.cilk_commands.proofs.WholeText.{some_read, reason_held, unexplained, whole_held}
-use Rattle.cilk_program.specs.GivingUp.{GivesUp, IsBehind, IsToldBehind, NoProgram, TellsWith}
+use Rattle.cilk_program.specs.GivingUp.{GivesUp, GivesUpRun, IsBehind, IsOfRun, IsToldBehind, NoProgram, TellsWith}
 use Rattle.cilk_program.specs.Running.{Stores, StoresFront}
 use Rattle.cilk_program.specs.Taped.{Declines, IsUnread}
 use Rattle.cilk_program.specs.Telling.{status_of}
@@ -148,3 +148,18 @@ module _ (Reason : List ℕ → List ℕ → RecordFailure → Type 0) (explain 
     explained = record { text = (some_read known).0; read = (some_read known).1; is = unexplained explain (some_read known).0 found other };
     told = told;
   }
+
+-- the same of a run
+module _ (workers : ℕ) (wanted explain : Bool) (program_name log_name : List ℕ) (ended : Status) (known old new : Option (List ℕ)) where
+  pub run_gave_up : (text : List ℕ) (found : RecordFailure) → IsReadOf known text
+      → (status_of found ≡ status.Refused → Held known (λ t. Held None (λ bytes. NoProgram t bytes found))) → IsOfRun workers wanted found → ended ≡ status_of found
+      → (behind : List ℕ) × (IsBehind explain text found behind × TellsWith program_name log_name found behind old new)
+      → GivesUpRun workers wanted explain program_name log_name ended known old new
+  unfolding gave_up
+  run_gave_up text found read reason of_run is told =
+      record { is = gave_up NoProgram explain program_name log_name ended known None old new text found read reason is told; of_run = of_run }
+
+  pub run_not_read : (found : Failure) → status_of_program found ≢ status.Refused → ended ≡ status_of (why.Program found)
+      → TellsWith program_name log_name (why.Program found) [] old new → GivesUpRun workers wanted explain program_name log_name ended known old new
+  unfolding not_read
+  run_not_read found other is told = record { is = not_read NoProgram explain program_name log_name ended known None old new found other is told; of_run = tt }

@@ -1,5 +1,5 @@
 -- What is told in place of an answer about a recorded schedule.
-use Rattle.std.specs.Prelude.{◌≡◌, ℕ, Bool, List, [], ◌++◌, Option}
+use Rattle.std.specs.Prelude.{⊤, ◌≡◌, ◌≢◌, ℕ, Bool, true, List, [], ◌++◌, Option, None}
 use Rattle.cilk_commands.specs.Front.{AppendsFront}
 use Rattle.cilk_commands.specs.Held.{Held}
 use Rattle.cilk_commands.specs.Loading.{Unready}
@@ -38,3 +38,15 @@ pub record GivesUp (Reason : List ℕ → List ℕ → RecordFailure → Type 0)
   pub behind : List ℕ
   pub explained : IsToldBehind explain program why behind
   pub told : TellsWith program_name log_name why behind old new
+
+-- what may keep so many workers from a run, with a log that is wanted or without one: an only worker is not started
+abbrev pub IsOfRun : ℕ → Bool → RecordFailure → Type 0
+IsOfRun workers wanted (why.Program found) = ⊤
+IsOfRun workers wanted why.CannotStore = wanted ≡ true
+IsOfRun workers wanted why.CannotStart = workers ≢ 1
+IsOfRun workers wanted found = ⊥
+
+-- what is told in place of a run
+pub record GivesUpRun (workers : ℕ) (wanted explain : Bool) (program_name log_name : List ℕ) (ended : Status) (program old new : Option (List ℕ)) : Type 0 where
+  pub is : GivesUp NoProgram explain program_name log_name ended program None old new
+  pub of_run : IsOfRun workers wanted is.why

@@ -1,5 +1,5 @@
 -- What is to be written for what is wanted.
-use Rattle.std.specs.Prelude.{◌≡◌, ◌≢◌, ◌⊎◌, ℕ, Bool, true, false, List, [], Option, Some, None}
+use Rattle.std.specs.Prelude.{◌≡◌, ◌≢◌, ◌⊎◌, ℕ, Bool, true, false, List, [], Option, Some, None, is_some}
 use Rattle.cilk_commands.specs.Printing.{Prints, PrintsFront}
 use Rattle.cilk_commands.specs.Checking.{Passes, PassesFront}
 use Rattle.cilk_commands.specs.Loading.{Unready}
@@ -7,7 +7,7 @@ use Rattle.cilk_commands.specs.Telling.{GivesUp}
 use Rattle.cilk_commands.specs.declared.status.Status.{Status}
 use Rattle.cilk_commands.specs.declared.status.Status.TheVariants.{CannotWrite, Done}
 use Rattle.cilk_program.specs.Debugging.{Debugs, DebugsFront}
-use Rattle.cilk_program.specs.GivingUp.{NoProgram, GivesUp as GivesUpOfLog}
+use Rattle.cilk_program.specs.GivingUp.{GivesUpRun, GivesUp as GivesUpOfLog}
 use Rattle.cilk_program.specs.Replaying.{Replays, ReplaysFront}
 use Rattle.cilk_program.specs.Running.{Runs, RunsFront}
 use Rattle.cilk_program.specs.Taped.{Declines}
@@ -58,6 +58,6 @@ Leaves (debugged log) status known held entered old new = status ≢ CannotWrite
 abbrev pub Fails : Wanted → Bool → List ℕ → Status → Option (List ℕ) → (List ℕ → Option (List ℕ)) → Option (List ℕ) → Option (List ℕ) → Type 0
 Fails printed explain name status known held old new = GivesUp Unready explain name status known old new
 Fails checked explain name status known held old new = GivesUp Unready explain name status known old new
-Fails (run workers limit log) explain name status known held old new = GivesUpOfLog NoProgram explain name (log_name log) status known None old new
+Fails (run workers limit log) explain name status known held old new = GivesUpRun workers (is_some log) explain name (log_name log) status known old new
 Fails (replayed log) explain name status known held old new = GivesUpOfLog Declines false name log status known (held log) old new
 Fails (debugged log) explain name status known held old new = GivesUpOfLog Declines false name log status known (held log) old new

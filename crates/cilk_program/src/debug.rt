@@ -85,11 +85,11 @@ fn debug<L: Read + Drop, C: Read, W: Write>(
     };
     match debugger.session(commands, out) {
         Ok(()) => {
-            drop(debugger);
+            debugger.let_go();
             Ok(())
         }
         Err(fault) => {
-            drop(debugger);
+            debugger.let_go();
             Err(broken_off(fault))
         }
     }

@@ -1,4 +1,4 @@
-ghost use Rattle.std.specs.Prelude.{◌≡◌, ◌≢◌, ℕ, List, [], length, true, false, None, IfOk, IfErr, OnOk};
+ghost use Rattle.std.specs.Prelude.{◌≡◌, ◌≢◌, ℕ, List, [], length, true, false, None, IfOk, IfErr, OnOk, OnErr};
 ghost use Rattle.std.specs.Io.KnownBytes.{Appends};
 ghost use Rattle.cilk_run.specs.choices.Words.{end_of};
 ghost use Rattle.cilk_run.specs.log.Text.{log_text};
@@ -6,7 +6,7 @@ ghost use Rattle.cilk_run.specs.log.Words.{log_of};
 ghost use Rattle.cilk_run.specs.model.End as model;
 ghost use Rattle.cilk_commands.specs.Loading.{IsReady};
 ghost use Rattle.cilk_commands.specs.Status.{is_answer};
-ghost use Rattle.cilk_program.specs.GivingUp.{GivesUp, NoProgram};
+ghost use Rattle.cilk_program.specs.GivingUp.{GivesUpRun, IsOfRun, NoProgram};
 ghost use Rattle.cilk_program.specs.Running.{IsRun, Runs, RunsFront, Stores, StoresFront, status_at};
 ghost use Rattle.cilk_program.specs.Telling.{status_of};
 
@@ -43,8 +43,8 @@ pub fn run_text<H: Threads + Wait + Sync, R: Read, S: LogStore, O: Write, E: Wri
 
     // Where there is no answer.
     ensures told { is_answer result ≡ false
-        → GivesUp NoProgram manner.now.explain names.now.program.now names.now.log.now result
-        (R.remaining reader.old) None (E.contents err.old) (E.contents err.new) }
+        → GivesUpRun manner.now.workers (S.wanted store.old) manner.now.explain names.now.program.now names.now.log.now result
+        (R.remaining reader.old) (E.contents err.old) (E.contents err.new) }
     ensures begun { result ≡ Status.CannotWrite → RunsFront manner.now.workers manner.now.limit (R.remaining reader.old)
         (S.stored store.old) (S.stored store.new) (O.contents out.old) (O.contents out.new) }
 
@@ -78,6 +78,7 @@ fn run_stored<H: Threads + Wait + Sync, S: LogStore, W: Write>(
         (S.stored store.old) (S.stored store.new) (W.contents out.old) (W.contents out.new)) }
     ensures answer { IfOk result (λ status. is_answer status ≡ true) }
     ensures declined { IfErr result (λ why. status_of why ≡ Status.Refused → NoProgram text.now [] why) }
+    ensures of_run { IfErr result (IsOfRun manner.now.workers (S.wanted store.old)) }
     ensures begun { IfErr result (λ why. status_of why ≡ Status.CannotWrite → (status : Status)
         × StoresFront (IsRun manner.now.workers manner.now.limit status text.now)
         (S.stored store.old) (S.stored store.new) (W.contents out.old) (W.contents out.new)) }
@@ -90,7 +91,7 @@ fn run_stored<H: Threads + Wait + Sync, S: LogStore, W: Write>(
         Err(failure) => return Err(RecordFailure::Program(failure)),
     };
     if !store.is_apart() {
-        drop(program);
+        program.let_go();
         return Err(RecordFailure::CannotStore);
     }
     let texts = match texts_of(rt, alloc, manner, program, store.is_wanted()) {
@@ -114,6 +115,7 @@ fn run_stored<H: Threads + Wait + Sync, S: LogStore, W: Write>(
 fn keep<S: LogStore>(store: &mut S, log: &[u8]) -> Result<(), ()>
     ensures kept { OnOk result ((text : List ℕ) → (S.stored store.old ≢ None → log.now ≡ text)
         → Appends (S.stored store.old) (S.stored store.new) text) }
+    ensures wanted { OnErr result (S.wanted store.old ≡ true) }
 {
     if !store.is_wanted() {
         return Ok(());
@@ -145,6 +147,7 @@ fn texts_of<H: Threads + Wait + Sync>(
         × (is_logged ≡ true → texts.log.items ≡ log)) }
     ensures answer { IfOk result (λ texts. is_answer texts.status ≡ true) }
     ensures err { IfErr result (λ why. (status_of why ≢ Status.Refused) × (status_of why ≢ Status.CannotWrite)) }
+    ensures of_run { IfErr result (IsOfRun manner.now.workers is_logged) }
 {
     let ended = match run(rt, alloc, program, manner.workers, manner.limit, &Open) {
         Ok(ended) => ended,

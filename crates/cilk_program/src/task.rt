@@ -1,7 +1,7 @@
-ghost use Rattle.std.specs.Prelude.{◌≡◌, ◌≢◌, None, true, false, option_map};
+ghost use Rattle.std.specs.Prelude.{◌≡◌, ◌≢◌, true, false, is_some, option_map};
 ghost use Rattle.cilk_commands.specs.Status.{is_answer};
 ghost use Rattle.cilk_words.specs.CommandLine.{wanted_by};
-ghost use Rattle.cilk_program.specs.GivingUp.{GivesUp, NoProgram};
+ghost use Rattle.cilk_program.specs.GivingUp.{GivesUpRun};
 ghost use Rattle.cilk_program.specs.Task.{Does, Fails, Leaves, is_session};
 ghost use Rattle.cilk_program.specs.Task.{RunsFrontSomewhere, RunsSomewhere, log_name};
 
@@ -91,8 +91,8 @@ fn run_named<H: Threads + Wait + Sync, T: Texts, R: Read, O: Write, E: Write>(
     ensures done { is_answer result ≡ true → RunsSomewhere manner.now.workers manner.now.limit result
         (R.remaining reader.old) (O.contents out.old) (O.contents out.new) }
     ensures told { is_answer result ≡ false
-        → GivesUp NoProgram manner.now.explain name.now (log_name (option_map (λ it. it.now) log.entry)) result
-        (R.remaining reader.old) None (E.contents err.old) (E.contents err.new) }
+        → GivesUpRun manner.now.workers (is_some log.entry) manner.now.explain name.now (log_name (option_map (λ it. it.now) log.entry)) result
+        (R.remaining reader.old) (E.contents err.old) (E.contents err.new) }
     ensures begun { result ≡ Status.CannotWrite → RunsFrontSomewhere manner.now.workers manner.now.limit
         (R.remaining reader.old) (O.contents out.old) (O.contents out.new) }
     ensures usage { result ≢ Status.Usage }

@@ -1,4 +1,4 @@
-ghost use Rattle.std.specs.Prelude.{◌≡◌, ℕ, IfSome, List, Option};
+ghost use Rattle.std.specs.Prelude.{◌≡◌, ℕ, IfOk, IfSome, List, Option, is_some};
 
 use crate::LogStore;
 use std::alloc::{AllocError, Global};
@@ -33,5 +33,6 @@ pub trait Texts {
         alloc: Global,
         program: &str,
         name: Option<&str>,
-    ) -> Result<Self::Store, AllocError>;
+    ) -> Result<Self::Store, AllocError>
+        ensures { IfOk result (λ store. Self.Store.wanted store ≡ is_some name.entry) };
 }

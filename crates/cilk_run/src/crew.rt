@@ -7,14 +7,16 @@ ghost use Rattle.cilk_run.specs.Runs.{IsRun};
 use crate::gate::Gate;
 use crate::locked::Locked;
 use crate::outcome::{Run, RunFault};
-use crate::post::{Post, Turn};
+use crate::post::{Begun, Post, Turn};
+use crate::proposal::propose;
 use crate::table::{Setting, Table};
 use cilk_machine::{Loaded, MachineFault};
 use std::alloc::Global;
 use std::marker::Brand;
-use std::sync::{Mutex, Wait};
+use std::sync::{Condvar, Mutex, Wait};
 use std::thread;
 use std::thread::{Builder, Threads};
+use std::time::Duration;
 
 /// Runs a program with 1 to 64 workers until it ends, is stuck, or they have made `limit` choices. Each worker is a thread of its own, but for
 /// an only one, which is the caller's. All threads that were started have ended when this returns. A worker passes the gate before each turn.
@@ -28,6 +30,7 @@ pub fn run<R: Threads + Wait + Sync, G: Gate + Sync>(
 ) -> Result<Run, RunFault>
     ensures ok { IfOk result (λ r. IsRun program workers limit r) }
     ensures workers { (result ≡ Err RunFault.Workers) ↔ ((workers ≡ 0) ⊎ (64 < workers)) }
+    ensures alone { workers ≡ 1 → result ≢ Err RunFault.Start }
 {
     match Locked::new(alloc, program, workers) {
         Err(MachineFault::Workers) => Err(RunFault::Workers),
@@ -49,6 +52,7 @@ fn run_on<R: Threads + Wait + Sync, G: Gate + Sync>(
     requires none { locked.history ≡ [] }
     ensures ok { IfOk result (λ r. IsRun locked.machine.program workers limit r) }
     ensures err { IfErr result (λ e. e ≢ RunFault.Workers) }
+    ensures alone { workers ≡ 1 → result ≢ Err RunFault.Start }
 {
     run_as::<Brand, R, G>(rt, alloc, locked, workers, limit, gate)
 }
@@ -56,8 +60,13 @@ fn run_on<R: Threads + Wait + Sync, G: Gate + Sync>(
 // The size of a worker's stack in bytes.
 const STACK: usize = 1 << 20;
 
-// How often a worker that found nothing to do leaves its processor to others before it looks again, at most: it does so once more each time.
-const MOST_YIELDS: u8 = 16;
+// A worker that found nothing to do leaves its processor to others before it looks again, once more each time, up to so many times.
+const MOST_YIELDS: u32 = 16;
+
+// From then on it sleeps before it looks again, so many microseconds longer each time, up to so many times as long.
+const NAP: u32 = 50;
+
+const LONGEST_NAP: u32 = 40;
 
 fn run_as<J: Setting + Send + Sync, R: Threads + Wait + Sync, G: Gate + Sync>(
     rt: &R,
@@ -74,13 +83,15 @@ fn run_as<J: Setting + Send + Sync, R: Threads + Wait + Sync, G: Gate + Sync>(
     requires none { locked.history ≡ [] }
     ensures ok { IfOk result (λ r. IsRun J.program J.workers J.limit r) }
     ensures err { IfErr result (λ e. e ≢ RunFault.Workers) }
+    ensures alone { workers ≡ 1 → result ≢ Err RunFault.Start }
 {
     let table: Table<J> = Table::new(alloc, locked, workers, limit)?;
     if workers == 1 {
         return finish(rt, alloc, work_alone(rt, table, gate), workers);
     }
     let lock = Mutex::new(table);
-    let all_started = start_all(rt, &lock, gate, workers);
+    let bell = Condvar::new();
+    let all_started = start_all(rt, &lock, &bell, gate, workers);
     let table = lock.into_inner();
     if !all_started {
         return Err(RunFault::Start);
@@ -92,6 +103,7 @@ fn run_as<J: Setting + Send + Sync, R: Threads + Wait + Sync, G: Gate + Sync>(
 fn start_all<'a, T: Post + Send, R: Threads + Wait + Sync, G: Gate + Sync>(
     rt: &'a R,
     lock: &'a Mutex<T>,
+    bell: &'a Condvar,
     gate: &'a G,
     workers: u8,
 ) -> bool {
@@ -100,10 +112,11 @@ fn start_all<'a, T: Post + Send, R: Threads + Wait + Sync, G: Gate + Sync>(
             let worker = before + 1;
             let builder = Builder::new().stack_size(STACK);
             if builder
-                .spawn_scoped(scope, move || work(rt, lock, gate, worker))
+                .spawn_scoped(scope, move || work(rt, lock, bell, gate, worker))
                 .is_err()
             {
                 lock.lock(rt).stop();
+                bell.notify_all();
                 return false;
             }
         }
@@ -111,25 +124,51 @@ fn start_all<'a, T: Post + Send, R: Threads + Wait + Sync, G: Gate + Sync>(
     })
 }
 
-/// What a worker's thread does.
-fn work<T: Post, R: Wait, G: Gate>(rt: &R, lock: &Mutex<T>, gate: &G, worker: u8) {
+/// What a worker's thread does. Who ends rings the bell for those that sleep.
+fn work<T: Post, R: Wait, G: Gate>(rt: &R, lock: &Mutex<T>, bell: &Condvar, gate: &G, worker: u8) {
     let mut turn = 1u64;
-    let mut in_vain = 0u8;
+    let mut in_vain = 0u32;
     for _ in rt.forever() {
         gate.before(worker, turn);
-        let came = lock.lock(rt).turn(worker);
-        match came {
-            Turn::Stop => return,
+        match take_turn(rt, lock, worker) {
+            Turn::Stop => {
+                bell.notify_all();
+                return;
+            }
             Turn::Idle => {
-                in_vain = MOST_YIELDS.min(in_vain.saturating_add(1));
-                for _ in 0..in_vain {
-                    thread::yield_now();
-                }
+                in_vain = in_vain.saturating_add(1);
+                rest(rt, bell, in_vain);
             }
             Turn::Made => {
                 turn = turn.wrapping_add(1);
                 in_vain = 0;
             }
+        }
+    }
+}
+
+/// What a worker does between two turns that it takes in vain, of which it took so many.
+fn rest<R: Wait>(rt: &R, bell: &Condvar, in_vain: u32) {
+    if in_vain <= MOST_YIELDS {
+        for _ in 0..in_vain {
+            thread::yield_now();
+        }
+    } else {
+        let naps = LONGEST_NAP.min(in_vain - MOST_YIELDS);
+        let length = Duration::from_micros(u64::from(naps) * u64::from(NAP));
+        bell.sleep(rt, bell.notifications(), length);
+    }
+}
+
+/// A turn of a worker that holds the lock only while it has to.
+#[inline(always)]
+fn take_turn<T: Post, R: Wait>(rt: &R, lock: &Mutex<T>, worker: u8) -> Turn {
+    let begun = lock.lock(rt).begin(worker);
+    match begun {
+        Begun::Over(turn) => turn,
+        Begun::Seen(glimpse) => {
+            let proposal = propose(glimpse);
+            lock.lock(rt).end(proposal)
         }
     }
 }

@@ -2,12 +2,12 @@ use Rattle.std.proofs.Common.{subst, sym, ◌∙◌, None}
 use Rattle.cilk_commands.specs.Held.{IsReadOf}
 use Rattle.cilk_program.specs.GivingUp.{NoProgram}
 use Rattle.cilk_program.specs.Running.{IsRun}
-use Rattle.cilk_program.proofs.Whole.{no_program_held, gave_up, not_read, stores_whole, stores_front_whole}
+use Rattle.cilk_program.proofs.Whole.{no_program_held, run_gave_up, run_not_read, stores_whole, stores_front_whole}
 use Rattle.cilk_program.proofs.running.run_text.Goals as goal
 
 pub returns-in-Err-clause-told : goal.returns-in-Err-clause-told
 returns-in-Err-clause-told g c = λ none.
-    not_read NoProgram c.args.manner.now.explain c.args.names.now.program.now c.args.names.now.log.now _ (g.R.Read.remaining c.args.reader.now) None _ _ c.in-Err.failure
+    run_not_read c.args.manner.now.workers (g.S.LogStore.wanted c.args.store.now) c.args.manner.now.explain c.args.names.now.program.now c.args.names.now.log.now _ (g.R.Read.remaining c.args.reader.now) _ _ c.in-Err.failure
     c.in-Err.ensures.status c.report.ensures.status c.report.ensures.told
 
 pub returns-in-Ok-run_stored-clause-done : goal.returns-in-Ok-run_stored-clause-done
@@ -19,10 +19,10 @@ returns-in-Ok-run_stored-clause-done g c = λ answered.
 pub returns-clause-told : goal.returns-clause-told
 returns-clause-told g c = λ none.
     let read : IsReadOf (g.R.Read.remaining c.args.reader.now) c.as_slice-text.result.now = subst (λ t. IsReadOf (g.R.Read.remaining c.args.reader.now) t) (sym c.as_slice-text.ensures.value) c.in-Ok.ensures.ok in
-    gave_up NoProgram c.args.manner.now.explain c.args.names.now.program.now c.args.names.now.log.now _ (g.R.Read.remaining c.args.reader.now) None _ _ c.as_slice-text.result.now
+    run_gave_up c.args.manner.now.workers (g.S.LogStore.wanted c.args.store.now) c.args.manner.now.explain c.args.names.now.program.now c.args.names.now.log.now _ (g.R.Read.remaining c.args.reader.now) _ _ c.as_slice-text.result.now
     c.in-Err-run_stored.why read
     (λ refused. no_program_held (g.R.Read.remaining c.args.reader.now) c.as_slice-text.result.now c.in-Err-run_stored.why read (c.in-Err-run_stored.ensures.declined refused))
-    c.explain.ensures.status c.explain.ensures.told
+    c.in-Err-run_stored.ensures.of_run c.explain.ensures.status c.explain.ensures.told
 
 pub returns-clause-begun : goal.returns-clause-begun
 returns-clause-begun g c = λ failed.

@@ -3,7 +3,7 @@ use Rattle.std.specs.Prelude.{flat_map}
 use Rattle.cilk_nodes.specs.eval.declared.area.Area.TheVariants.{Global}
 use Rattle.cilk_nodes.specs.labelled.Bodies.{item_globals}
 use Rattle.cilk_nodes.specs.Bodies.{vars_from}
-use Rattle.cilk_layout.proofs.globals.globals_of.Given as goal
+use Rattle.cilk_layout.proofs.globals.put_globals.Given as goal
 
 abbrev pub invariant-loop-item : goal.invariant-loop-item
 invariant-loop-item l =
