@@ -9,9 +9,15 @@ use std::alloc::Global;
 use std::marker::Model;
 
 /// A program that passed the check.
-#[derive(Drop)]
 pub struct Checked {
     program: Program,
+}
+
+// To drop it elsewhere is to call this, and its fields' drops are proved here alone.
+impl Drop for Checked {
+    fn drop(self) {
+        let Checked { program: _program } = self;
+    }
 }
 
 impl Model for Checked {
@@ -42,7 +48,8 @@ impl Checked {
         ensures value { result ≡ self }
         ensures well_formed { WellFormed self }
     {
-        self.program
+        let Checked { program } = self;
+        program
     }
 }
 

@@ -1,4 +1,4 @@
-ghost use Rattle.std.specs.Prelude.{◌≡◌, ◌≢◌, true, false, IfErr, IfOk, OnOk, string_bytes};
+ghost use Rattle.std.specs.Prelude.{◌≡◌, ◌≢◌, true, false, IfErr, OnOk};
 ghost use Rattle.cilk_commands.specs.Front.{Gains, GainsFront};
 ghost use Rattle.cilk_commands.specs.Loading.{Unready};
 ghost use Rattle.cilk_commands.specs.Telling.{GivesUp};
@@ -58,23 +58,10 @@ fn check<W: Write>(alloc: Global, text: &[u8], out: &mut W) -> Result<(), Failur
         → GainsFront (IsCounted text.now) (W.contents out.old) (W.contents out.new)) }
     ensures kept { IfErr result (λ why. status_of why ≢ Status.CannotWrite → out.new ≡ out.old) }
 {
-    match line_of(alloc, text) {
-        Ok(line) => write_answer(out, line.as_bytes()),
-        Err(failure) => Err(failure),
-    }
-}
-
-// The line that tells how many actions the program has.
-fn line_of(alloc: Global, text: &[u8]) -> Result<String, Failure>
-    ensures ok { IfOk result (λ line. IsCounted text.now (string_bytes line)) }
-    ensures declined { IfErr result (λ why. status_of why ≡ Status.Refused → Unready text.now why) }
-    ensures unwritten { IfErr result (λ why. status_of why ≢ Status.CannotWrite) }
-{
     let program = ready_of(alloc, text)?;
     let count = program.count();
-    program.let_go();
-    match format!(in alloc; "ok, {count} actions\n") {
-        Ok(line) => Ok(line),
-        Err(_) => Err(Failure::Memory),
-    }
+    let Ok(line) = format!(in alloc; "ok, {count} actions\n") else {
+        return Err(Failure::Memory);
+    };
+    write_answer(out, line.as_bytes())
 }

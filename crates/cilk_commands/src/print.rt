@@ -59,9 +59,7 @@ fn print<W: Write>(alloc: Global, text: &[u8], out: &mut W) -> Result<(), Failur
     ensures kept { IfErr result (λ why. status_of why ≢ Status.CannotWrite → out.new ≡ out.old) }
 {
     let program = ready_of(alloc, text)?;
-    let made = program.text();
-    program.let_go();
-    let Ok(answer) = made else {
+    let Ok(answer) = program.text() else {
         return Err(Failure::Memory);
     };
     write_answer(out, answer.as_bytes())

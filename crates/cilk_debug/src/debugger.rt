@@ -18,7 +18,6 @@ use std::alloc::Global;
 use std::marker::Model;
 
 /// A program that stands where the first choices of a recorded schedule led it.
-#[derive(Drop)]
 pub struct Debugger {
     alloc: Global,
     program: Loaded,
@@ -26,6 +25,19 @@ pub struct Debugger {
     machine: Machine,
     /// For each action whether a breakpoint is set there.
     marks: Vec<bool>,
+}
+
+// To drop it elsewhere is to call this, and its fields' drops are proved here alone.
+impl Drop for Debugger {
+    fn drop(self) {
+        let Debugger {
+            alloc: _,
+            program: _program,
+            log: _log,
+            machine: _machine,
+            marks: _marks,
+        } = self;
+    }
 }
 
 impl Model for Debugger {
@@ -49,9 +61,6 @@ impl Debugger {
     pub(crate) fn allocator(&self) -> Global {
         self.alloc
     }
-
-    /// Lets it go. To drop it in another crate is proved there again, which is dear.
-    pub fn let_go(self) {}
 
     /// How many choices led to where it stands.
     pub fn position(&self) -> u64

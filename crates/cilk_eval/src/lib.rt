@@ -8,7 +8,6 @@ mod copy;
 mod evaluate;
 mod known;
 mod laws;
-mod length;
 mod same;
 mod seen;
 mod slot;

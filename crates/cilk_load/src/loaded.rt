@@ -128,7 +128,4 @@ impl Loaded {
             tables: Arc::try_clone(&self.tables)?,
         })
     }
-
-    /// Lets it go. To drop it in another crate is proved there again, which is dear.
-    pub fn let_go(self) {}
 }

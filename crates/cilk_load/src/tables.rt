@@ -2,7 +2,6 @@ use cilk_numbering::{Body, Checked, Node, Var};
 use std::marker::Model;
 
 /// A program and its tables, seen as the program.
-#[derive(Drop)]
 pub struct Tables {
     pub(crate) program: Checked,
     pub(crate) nodes: Vec<Node>,
@@ -11,6 +10,21 @@ pub struct Tables {
     pub(crate) main: u32,
     pub(crate) globals: Vec<Var>,
     pub(crate) locks: Vec<Var>,
+}
+
+// To drop them elsewhere is to call this, and their fields' drops are proved here alone.
+impl Drop for Tables {
+    fn drop(self) {
+        let Tables {
+            program: _program,
+            nodes: _nodes,
+            lines: _lines,
+            bodies: _bodies,
+            main: _,
+            globals: _globals,
+            locks: _locks,
+        } = self;
+    }
 }
 
 impl Model for Tables {

@@ -25,7 +25,6 @@ use std::alloc::Global;
 use std::marker::Model;
 
 /// A program that runs, moved by one choice at a time.
-#[derive(Drop)]
 pub struct Machine {
     alloc: Global,
     loaded: Loaded,
@@ -35,6 +34,21 @@ pub struct Machine {
     /// The instance that was trapped.
     trapper: Id,
     choices: u64,
+}
+
+// To drop it elsewhere is to call this, and its fields' drops are proved here alone.
+impl Drop for Machine {
+    fn drop(self) {
+        let Machine {
+            alloc: _,
+            loaded: _loaded,
+            parts: _parts,
+            workers: _,
+            outcome: _outcome,
+            trapper: _,
+            choices: _,
+        } = self;
+    }
 }
 
 impl Model for Machine {
@@ -122,9 +136,6 @@ impl Machine {
             workers: self.workers,
         }
     }
-
-    /// Lets it go. To drop it in another crate is proved there again, which is dear.
-    pub fn let_go(self) {}
 
     /// The program's tree.
     pub fn program(&self) -> &Program

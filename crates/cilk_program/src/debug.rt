@@ -85,11 +85,11 @@ fn debug<L: Read + Drop, C: Read, W: Write>(
     };
     match debugger.session(commands, out) {
         Ok(()) => {
-            debugger.let_go();
+            drop(debugger);
             Ok(())
         }
         Err(fault) => {
-            debugger.let_go();
+            drop(debugger);
             Err(broken_off(fault))
         }
     }

@@ -106,13 +106,7 @@ fn replayed<L: Read + Drop>(
         Err(fault) => return Err(RecordFailure::Replay(fault)),
     };
     match closing_of(alloc, &machine) {
-        Ok(closing) => {
-            machine.let_go();
-            Ok(closing)
-        }
-        Err(failure) => {
-            machine.let_go();
-            Err(RecordFailure::Program(failure))
-        }
+        Ok(closing) => Ok(closing),
+        Err(failure) => Err(RecordFailure::Program(failure)),
     }
 }

@@ -91,7 +91,7 @@ fn run_stored<H: Threads + Wait + Sync, S: LogStore, W: Write>(
         Err(failure) => return Err(RecordFailure::Program(failure)),
     };
     if !store.is_apart() {
-        program.let_go();
+        drop(program);
         return Err(RecordFailure::CannotStore);
     }
     let texts = match texts_of(rt, alloc, manner, program, store.is_wanted()) {

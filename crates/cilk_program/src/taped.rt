@@ -16,6 +16,7 @@ use std::alloc::Global;
 use std::io::Read;
 
 /// A program and a recorded schedule. Whether the choices can be made again is not known.
+#[derive(Drop)]
 pub(crate) struct Taped {
     pub program: Loaded,
     pub log: Log,
@@ -38,10 +39,7 @@ pub(crate) fn tape_in<L: Read + Drop>(
     match ready_of(alloc, text) {
         Err(failure) => Err(RecordFailure::Program(failure)),
         Ok(program) => match schedule_of(alloc, log) {
-            Err(why) => {
-                program.let_go();
-                Err(why)
-            }
+            Err(why) => Err(why),
             Ok(log) => Ok(Taped { program, log }),
         },
     }

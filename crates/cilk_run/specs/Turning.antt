@@ -3,8 +3,6 @@ use Rattle.std.specs.Prelude.{◌≡◌, ◌⊎◌, ◌||◌, ℕ, Bool, true, [
 use Rattle.cilk_machine.specs.choices.declared.act.Act.{Act}
 use Rattle.cilk_run.specs.Histories.{Posted}
 use Rattle.cilk_run.specs.Runs.{Stops}
-use Rattle.cilk_run.specs.declared.post.Begun.{Begun}
-use Rattle.cilk_run.specs.declared.post.Begun.TheVariants.{Over, Seen}
 use Rattle.cilk_run.specs.declared.post.Turn.{Turn}
 use Rattle.cilk_run.specs.declared.post.Turn.TheVariants.{Made, Idle, Stop}
 
@@ -23,8 +21,3 @@ IsTurn limit w old Made new = (act : Act) × (new.history ≡ old.history ++ rec
 -- nothing was changed
 IsTurn limit w old Idle new = new ≡ old
 IsTurn limit w old Stop new = (new.history ≡ old.history) × IsOver limit new
-
--- what worker w did who began a turn: all of it, or nothing but to look at its own step
-abbrev pub IsBegun : ℕ → ℕ → Posted → Begun → Posted → Type 0
-IsBegun limit w old (Over turn) new = IsTurn limit w old turn new
-IsBegun limit w old (Seen glimpse) new = (new ≡ old) × (glimpse.worker ≡ w)

@@ -7,8 +7,7 @@ ghost use Rattle.cilk_run.specs.Runs.{IsRun};
 use crate::gate::Gate;
 use crate::locked::Locked;
 use crate::outcome::{Run, RunFault};
-use crate::post::{Begun, Post, Turn};
-use crate::proposal::propose;
+use crate::post::{Post, Turn};
 use crate::table::{Setting, Table};
 use cilk_machine::{Loaded, MachineFault};
 use std::alloc::Global;
@@ -130,7 +129,8 @@ fn work<T: Post, R: Wait, G: Gate>(rt: &R, lock: &Mutex<T>, bell: &Condvar, gate
     let mut in_vain = 0u32;
     for _ in rt.forever() {
         gate.before(worker, turn);
-        match take_turn(rt, lock, worker) {
+        let came = lock.lock(rt).turn(worker);
+        match came {
             Turn::Stop => {
                 bell.notify_all();
                 return;
@@ -157,19 +157,6 @@ fn rest<R: Wait>(rt: &R, bell: &Condvar, in_vain: u32) {
         let naps = LONGEST_NAP.min(in_vain - MOST_YIELDS);
         let length = Duration::from_micros(u64::from(naps) * u64::from(NAP));
         bell.sleep(rt, bell.notifications(), length);
-    }
-}
-
-/// A turn of a worker that holds the lock only while it has to.
-#[inline(always)]
-fn take_turn<T: Post, R: Wait>(rt: &R, lock: &Mutex<T>, worker: u8) -> Turn {
-    let begun = lock.lock(rt).begin(worker);
-    match begun {
-        Begun::Over(turn) => turn,
-        Begun::Seen(glimpse) => {
-            let proposal = propose(glimpse);
-            lock.lock(rt).end(proposal)
-        }
     }
 }
 

@@ -1,18 +1,17 @@
 //! What lies under the lock of a run, and what a worker does with it in one turn.
 
-ghost use Rattle.std.specs.Prelude.{ℕ, ◌≡◌, ◌≢◌, ◌<◌, ◌≤◌, ◌⊎◌, ◌+◌, ◌-◌, ◌^◌, [], ◌∷◌, ◌++◌, length, slice_index, slice_set, true, IfOk, IfErr, OnOk, OnErr};
+ghost use Rattle.std.specs.Prelude.{ℕ, ◌≡◌, ◌≢◌, ◌<◌, ◌≤◌, ◌⊎◌, [], ◌∷◌, ◌++◌, length, true, IfOk, IfErr, OnOk, OnErr};
 ghost use Rattle.cilk_machine.specs.choices.Words.{choice_of, reason_of};
 ghost use Rattle.cilk_machine.specs.Situation.{workers_of};
 ghost use Rattle.cilk_machine.specs.Made.{IsRefused};
 ghost use Rattle.cilk_run.specs.Histories.{IsCounted};
 ghost use Rattle.cilk_run.specs.Runs.{IsRun, Stops};
-ghost use Rattle.cilk_run.specs.Turning.{IsTurn, IsBegun, IsOver, is_broken};
+ghost use Rattle.cilk_run.specs.Turning.{IsTurn, IsOver, is_broken};
 
 use crate::lists::{Output, Turns};
 use crate::locked::Locked;
 use crate::outcome::{Run, RunFault};
-use crate::post::{Begun, Post, Turn};
-use crate::proposal::Proposal;
+use crate::post::{Post, Turn};
 use cilk_log::Log;
 use cilk_machine::{Act, Choice, Outcome, Refusal};
 use std::alloc::Global;
@@ -41,10 +40,6 @@ impl Setting for Brand {
     ghost limit = { 0 };
 }
 
-// A worker evaluates what has more operators than so many without the lock. To look at less twice, and take the lock twice, costs more than to
-// evaluate it (docs/DECISIONS.md).
-const FEW_OPERATORS: u32 = 16;
-
 /// The machine with its history, the number of choices that each worker made, and why all are to end, if they are.
 #[derive(Drop)]
 pub struct Table<J: Setting> {
@@ -55,8 +50,6 @@ pub struct Table<J: Setting> {
     /// A worker met want of memory.
     is_short: bool,
     is_stopped: bool,
-    /// Some action evaluates many operators.
-    looks_ahead: bool,
     of: PhantomData<J>,
 }
 
@@ -90,7 +83,6 @@ impl<J: Setting> Table<J> {
         let Ok(turns) = vec![in alloc; 0u64; usize::from(workers)] else {
             return Err(RunFault::Memory);
         };
-        let looks_ahead = !locked.machine().evaluates_few(FEW_OPERATORS);
         Ok(Table {
             locked,
             workers,
@@ -98,7 +90,6 @@ impl<J: Setting> Table<J> {
             turns,
             is_short: false,
             is_stopped: false,
-            looks_ahead,
             of: PhantomData,
         })
     }
@@ -111,7 +102,7 @@ impl<J: Setting> Table<J> {
         ensures broken { is_broken self.old ≡ true → result ≡ Turn.Stop }
         ensures limit { J.limit ≤ length self.old.history → result ≡ Turn.Stop }
     {
-        if self.is_over() {
+        if self.is_stopped || self.is_short || self.is_spent() {
             return Turn::Stop;
         }
         match self.make(worker, Act::Step) {
@@ -119,60 +110,6 @@ impl<J: Setting> Table<J> {
             Err(Refusal::HandEmpty) => self.take_up(worker),
             Err(refusal) => self.stay(refusal),
         }
-    }
-
-    /// The same of one who lets others have the lock meanwhile: where the worker's step evaluates many operators, nothing is done yet, and it is
-    /// told what the worker sees of the step.
-    #[inline(always)]
-    pub fn begin_turn(&mut self, worker: u8) -> Begun
-        ensures begun { IsBegun J.limit worker self.old result self.new }
-    {
-        if self.looks_ahead && self.locked.machine().evaluates_more(worker, FEW_OPERATORS) {
-            self.look(worker)
-        } else {
-            Begun::Over(self.take_turn(worker))
-        }
-    }
-
-    #[inline(never)]
-    fn look(&mut self, worker: u8) -> Begun
-        ensures begun { IsBegun J.limit worker self.old result self.new }
-    {
-        if self.is_over() {
-            return Begun::Over(Turn::Stop);
-        }
-        match self.locked.glimpse(worker) {
-            Ok(Some(glimpse)) => Begun::Seen(glimpse),
-            Err(Refusal::Memory) => Begun::Over(self.stay(Refusal::Memory)),
-            Ok(None) | Err(_) => Begun::Over(self.take_turn(worker)),
-        }
-    }
-
-    /// The rest of such a turn: the step by the value of what was seen of it, and where one sees something else by now a turn as any.
-    pub fn end_turn(&mut self, proposal: Proposal) -> Turn
-        ensures turn { IsTurn J.limit proposal.worker self.old result self.new }
-        ensures broken { is_broken self.old ≡ true → result ≡ Turn.Stop }
-        ensures limit { J.limit ≤ length self.old.history → result ≡ Turn.Stop }
-    {
-        if self.is_over() {
-            return Turn::Stop;
-        }
-        let worker = proposal.worker();
-        match self.commit(proposal) {
-            Ok(()) => Turn::Made,
-            Err(Refusal::Memory) => self.stay(Refusal::Memory),
-            Err(_) => self.take_turn(worker),
-        }
-    }
-
-    // Whether all are to end, the program has ended, or the limit is reached.
-    #[inline(always)]
-    fn is_over(&self) -> bool
-        ensures over { result ≡ true → IsOver J.limit self.now }
-        ensures broken { is_broken self.now ≡ true → result ≡ true }
-        ensures limit { J.limit ≤ length self.now.history → result ≡ true }
-    {
-        self.is_stopped || self.is_short || self.is_spent()
     }
 
     // Whether the program has ended, or the limit is reached.
@@ -249,28 +186,8 @@ impl<J: Setting> Table<J> {
             return Err(Refusal::NoWorker);
         }
         self.locked.advance(Choice { worker, act })?;
-        count(&mut self.turns, worker);
+        self.turns[usize::from(worker) - 1] += 1;
         Ok(())
-    }
-
-    // Makes the choice of a step by what was seen of it, and counts it.
-    fn commit(&mut self, proposal: Proposal) -> Result<(), Refusal>
-        requires { length self.old.history < J.limit }
-        ensures history { OnOk result (self.new.history ≡ self.old.history ++ record { worker = proposal.worker; act = Act.Step } ∷ []) }
-        ensures flags { (self.new.short ≡ self.old.short) × (self.new.stopped ≡ self.old.stopped) }
-        ensures unchanged { OnErr result (self.new ≡ self.old) }
-    {
-        let worker = proposal.worker();
-        if worker == 0 || worker > self.workers {
-            return Err(Refusal::NoWorker);
-        }
-        match self.locked.commit(proposal) {
-            Err(refusal) => Err(refusal),
-            Ok(_) => {
-                count(&mut self.turns, worker);
-                Ok(())
-            }
-        }
     }
 
     /// From now on no turn makes a choice.
@@ -326,25 +243,10 @@ impl<J: Setting> Table<J> {
     }
 }
 
-// Counts a choice of a worker.
-#[inline(always)]
-fn count(turns: &mut Vec<u64>, worker: u8)
-    requires worker { 0 < worker }
-    requires there { worker - 1 < length turns.old.items }
-    requires room { slice_index turns.old.items (worker - 1) < 2 ^ 64 - 1 }
-    ensures { turns.new.items ≡ slice_set turns.old.items (worker - 1) (slice_index turns.old.items (worker - 1) + 1) }
-{
-    turns[usize::from(worker) - 1] += 1;
-}
-
 impl<J: Setting> Post for Table<J> {
     #[inline(always)]
-    fn begin(&mut self, worker: u8) -> Begun {
-        self.begin_turn(worker)
-    }
-
-    fn end(&mut self, proposal: Proposal) -> Turn {
-        self.end_turn(proposal)
+    fn turn(&mut self, worker: u8) -> Turn {
+        self.take_turn(worker)
     }
 
     fn stop(&mut self) {

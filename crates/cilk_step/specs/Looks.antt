@@ -1,5 +1,5 @@
 -- What a step evaluates that may be evaluated before it is taken, by one who holds no lock meanwhile.
-use Rattle.std.specs.Prelude.{⊤, ◌<◌, ◌≤◌, ℕ, ℤ, Bool, not, ◌&&◌, if◌then◌else◌, List, Option, Some, None, is_some, option_map, slice_get, Result, Ok}
+use Rattle.std.specs.Prelude.{ℕ, ℤ, Bool, not, ◌&&◌, if◌then◌else◌, List, Option, Some, None, is_some, option_map, slice_get, Result, Ok}
 use Rattle.cilk_load.specs.values.declared.trap.Trap.{Trap}
 use Rattle.cilk_load.specs.values.Arithmetic.{is_zero}
 use Rattle.cilk_load.specs.values.Term.{Term}
@@ -7,7 +7,6 @@ use Rattle.cilk_load.specs.values.Value.{◌>>=◌}
 use Rattle.cilk_eval.specs.declared.slot.Slot.{Slot}
 use Rattle.cilk_eval.specs.declared.known.Known.{Known}
 use Rattle.cilk_eval.specs.Known.{is_plain, known_of}
-use Rattle.cilk_eval.specs.Size.{term_size}
 use Rattle.cilk_plans.specs.eval.Slots.{Cells, slot_cell}
 use Rattle.cilk_plans.specs.model.Path.{Path}
 use Rattle.cilk_plans.specs.model.Values.{combined}
@@ -72,20 +71,6 @@ look_by g code = record { path = path_at g.nodes (id_of g); n = head_number g; c
 -- what one sees who looks ahead at the step of the instance
 abbrev pub look_in : Sight → Option Look
 look_in g = option_map (look_by g) (code_in g)
-
--- there is something to see, and it has more operators than so many
-abbrev pub IsLonger : ℕ → Option Look → Type 0
-IsLonger most None = ⊥
-IsLonger most (Some look) = most < term_size look.code
-
--- an action evaluates no such expression with more operators than so many
-abbrev pub HasFew : ℕ → Option (Term Slot) → Type 0
-HasFew most None = ⊤
-HasFew most (Some code) = term_size code ≤ most
-
-abbrev pub EvaluatesFew : ℕ → Option Node → Type 0
-EvaluatesFew most None = ⊤
-EvaluatesFew most (Some node) = HasFew most (code_of node.action)
 
 abbrev pub look_of : Peek → Look
 look_of peek = record { path = peek.path; n = peek.n; code = peek.code; values = peek.values.items }

@@ -17,7 +17,7 @@ pub use cilk_load::{LoadFault, Loaded, Memory, Trap, load};
 pub use cilk_plans::{Kind, Light, Plan};
 pub use laws::scenes_fit;
 pub use light::plan_lightly;
-pub use look::{evaluates_few, evaluates_more, is_seen, look_ahead, plan_by_value};
+pub use look::{is_seen, look_ahead, plan_by_value};
 pub use peek::Peek;
 pub use plan::plan_step;
 pub use scene::Scene;

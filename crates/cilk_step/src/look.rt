@@ -1,6 +1,6 @@
 //! What a step evaluates, taken from it beforehand, and its value given back.
 
-ghost use Rattle.std.specs.Prelude.{ℕ, ◌≡◌, ◌<◌, ◌+◌, length, option_map, option_copied, true, false, Some, Ok, Decides, IfOk, IfErr, IfSome};
+ghost use Rattle.std.specs.Prelude.{◌≡◌, ◌<◌, length, option_map, false, Some, Ok, Decides, IfOk, IfErr, IfSome};
 ghost use Rattle.cilk_eval.specs.Slots.{sizes_of, SlotsLieWithin};
 ghost use Rattle.cilk_eval.specs.Known.{known};
 ghost use Rattle.cilk_load.specs.values.Value.{value_of};
@@ -8,15 +8,13 @@ ghost use Rattle.cilk_plans.specs.Sights.{id_of, head_number, cells_in};
 ghost use Rattle.cilk_plans.specs.Made.{by_effect, planned};
 ghost use Rattle.cilk_plans.specs.Words.{plan_of};
 ghost use Rattle.cilk_step.specs.Scenes.{sight_of, HeadFits, is_wait};
-ghost use Rattle.cilk_step.specs.Looks.{code_of, plain, is_element, is_delayed, code_in, look_in, look_of, effect_by, IsLonger, EvaluatesFew};
-ghost use Rattle.cilk_load.specs.labelled.Count.{count_program};
-ghost use Rattle.cilk_plans.specs.nodes.Table.{node_of};
+ghost use Rattle.cilk_step.specs.Looks.{code_of, plain, is_element, is_delayed, code_in, look_in, look_of, effect_by};
 
 use crate::act::{at_boundary, next_of};
 use crate::peek::Peek;
 use crate::scene::Scene;
 use cilk_eval::{Code, is_known_of, known_of};
-use cilk_load::{Action, Loaded, Memory, Node, Place, Trap};
+use cilk_load::{Action, Memory, Node, Place, Trap};
 use cilk_plans::{Kind, Light, Plan, Reached, combined, held};
 use std::alloc::Global;
 
@@ -40,42 +38,6 @@ pub fn look_ahead(alloc: Global, scene: &Scene) -> Result<Option<Peek>, Memory>
                 values,
             }))
         }
-    }
-}
-
-/// Whether the step evaluates such an expression, and one with more operators than so many.
-pub fn evaluates_more(scene: &Scene, most: u32) -> bool
-    requires there { id_of (sight_of scene.now) < length (sight_of scene.now).nodes }
-    requires fits { HeadFits (sight_of scene.now) }
-    ensures { Decides result (IsLonger most (look_in (sight_of scene.now))) }
-{
-    match code_ahead(scene) {
-        None => false,
-        Some(code) => code.has_more_operators(most),
-    }
-}
-
-/// Whether no action of a program evaluates such an expression with more operators than so many.
-pub fn evaluates_few(loaded: &Loaded, most: u32) -> bool
-    ensures { result ≡ true → (k : ℕ) → k < count_program loaded.now → EvaluatesFew most (node_of loaded.now (k + 1)) }
-{
-    for before in 0..loaded.count() {
-        if !acts_on_few(loaded.statement(before + 1), most) {
-            return false;
-        }
-    }
-    true
-}
-
-fn acts_on_few(node: Option<&Node>, most: u32) -> bool
-    ensures { result ≡ true → EvaluatesFew most (option_copied node.entry) }
-{
-    match node {
-        None => true,
-        Some(node) => match code_of(&node.action) {
-            None => true,
-            Some(code) => !code.has_more_operators(most),
-        },
     }
 }
 

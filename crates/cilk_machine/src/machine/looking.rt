@@ -1,27 +1,23 @@
 //! What a worker's step evaluates, seen beforehand, and the step taken by its value.
 
-ghost use Rattle.std.specs.Prelude.{ℕ, ◌≡◌, ◌≢◌, ◌<◌, ◌+◌, ◌-◌, ◌^◌, ◌⊎◌, Decides, true, Some, None, option_map, OnErr, OnOk, IfOk, IfErr, IfSome, IfNone};
+ghost use Rattle.std.specs.Prelude.{◌≡◌, ◌≢◌, ◌<◌, ◌-◌, ◌^◌, ◌⊎◌, Decides, true, Some, None, option_map, OnErr, OnOk, IfOk, IfErr, IfSome, IfNone};
 ghost use Rattle.cilk_choices.specs.model.Choice as choices;
 ghost use Rattle.cilk_choices.specs.model.Places.{IsWorker};
 ghost use Rattle.cilk_choices.specs.Words.{reason_of, event_of};
 ghost use Rattle.cilk_step.specs.eval.Known.{known};
 ghost use Rattle.cilk_step.specs.values.Value.{value_of};
-ghost use Rattle.cilk_step.specs.Looks.{look_of, IsLonger, EvaluatesFew};
+ghost use Rattle.cilk_step.specs.Looks.{look_of};
 ghost use Rattle.cilk_machine.specs.Situation.{workers_of};
 ghost use Rattle.cilk_machine.specs.Refused.{runs, is_worker_of, is_full, refused_by, planned_in};
 ghost use Rattle.cilk_machine.specs.Made.{Makes, MakesBy, IsRefused};
 ghost use Rattle.cilk_machine.specs.Looking.{look_refused, look_at, IsUnseen, IsUnsettled, IsStale, plan_by};
-ghost use Rattle.cilk_carries.specs.labelled.Count.{count_program};
 ghost use Rattle.cilk_carries.specs.plans.Words.{plan_of};
-ghost use Rattle.cilk_carries.specs.plans.nodes.Table.{node_of};
 
 use super::Machine;
 use crate::refusing::is_worker;
 use cilk_carries::Did;
 use cilk_choices::{Act, Event, Outcome, Refusal};
-use cilk_step::{
-    Light, Peek, Plan, Trap, evaluates_few, evaluates_more, is_seen, look_ahead, plan_by_value,
-};
+use cilk_step::{Light, Peek, Plan, Trap, is_seen, look_ahead, plan_by_value};
 
 impl Machine {
     /// What the next step of a worker evaluates, where it assigns to a variable that is no element, or tests, and neither an element nor
@@ -50,35 +46,6 @@ impl Machine {
                 Err(_) => Err(Refusal::Memory),
                 Ok(peek) => Ok(peek),
             },
-        }
-    }
-
-    /// Whether no action of the program evaluates an expression that may be seen beforehand with more operators than so many.
-    pub fn evaluates_few(&self, most: u32) -> bool
-        ensures { result ≡ true → (k : ℕ) → k < count_program self.now.program → EvaluatesFew most (node_of self.now.program (k + 1)) }
-    {
-        evaluates_few(&self.loaded, most)
-    }
-
-    /// Whether there is something to see of the worker's next step, with more operators than so many.
-    pub fn evaluates_more(&self, worker: u8, most: u32) -> bool
-        ensures { Decides result ((look_refused self.now worker ≡ None) × IsLonger most (look_at self.now worker)) }
-    {
-        match self.look_refusal(worker) {
-            Some(_) => false,
-            None => self.is_longer(worker, most),
-        }
-    }
-
-    // The same of a worker that has a frame in its hand.
-    fn is_longer(&self, worker: u8, most: u32) -> bool
-        requires worker { IsWorker self.now.machine.places worker }
-        requires full { is_full self.now.machine.places worker ≡ true }
-        ensures { Decides result (IsLonger most (look_at self.now worker)) }
-    {
-        match self.parts.hands.hand(worker) {
-            None => unreachable!(),
-            Some(frame) => evaluates_more(&self.scene(frame), most),
         }
     }
 
