@@ -2,18 +2,23 @@
 
 sources := $(shell find crates \( -name out -o -name must-fail \) -prune -o -type f -print)
 
-.PHONY: demo test ways programs must_not_compile costs wrong-bodies edge budget bench clean
+.PHONY: help demo test ways programs must_not_compile costs wrong-bodies edge budget bench clean
 
-# A program is built once it and the crates below it are proved, and only by running it.
+# Proves what ./cilk is made of, and builds it.
 cilk: crates.txt HANDLES $(sources)
 	tools/prove
 	cd crates/cilk && rt run -- --help >/dev/null
 	cp crates/cilk/out/cilk $@
 
+# Lists what may be asked for.
+help:
+	@awk '/^# /{said=substr($$0,3)} /^[a-z][a-z_-]*:/{sub(/:.*/,""); printf "make %-18s%s\n",$$0,said; said=""}' Makefile
+
 # Proves, builds, runs the sample, and shows a race in the debugger.
 demo: cilk
 	tools/demo ./cilk
 
+# The gate, which what lands has to pass (docs/GATE.md).
 test: ways must_not_compile
 	tools/gate
 
@@ -25,13 +30,14 @@ ways:
 costs:
 	tools/costs
 
-# Tries ./cilk on the cases of programs/, on the examples of docs/LANGUAGE.md and the sessions of docs/DEBUGGER.md, on runs by several workers, and on runs that are broken off.
+# Tries ./cilk on the cases of programs/, on the examples of the pages, on runs by several workers, and on runs that are broken off.
 programs: cilk
 	tools/programs ./cilk
 	tools/examples ./cilk
 	tools/threads ./cilk
 	tools/broken_off ./cilk
 
+# Tries the examples that the compiler must refuse.
 must_not_compile:
 	tools/must_not_compile
 
@@ -47,12 +53,13 @@ edge:
 budget:
 	tools/gate_budget
 
-# Measures ./cilk print beside gcc on texts of the same size and shape, ./cilk run and replay beside ocamldebug, and logs beside sha256sum.
+# Measures ./cilk print beside gcc, ./cilk run and replay beside ocamldebug, logs beside sha256sum, and runs by several workers.
 bench: cilk
 	tools/bench ./cilk
 	tools/bench_runs ./cilk
 	tools/bench_workers ./cilk
 	tools/bench_logs ./cilk
 
+# Removes the program and all that was proved.
 clean:
 	rm -rf cilk crates/*/out
