@@ -17,12 +17,21 @@ use Rattle.cilk_commands.specs.Front.{Gains}
 use Rattle.cilk_commands.specs.Held.{Held, IsReadOf}
 use Rattle.cilk_commands.proofs.WholeText.{gains_whole}
 use Rattle.cilk_commands.specs.declared.status.Status.TheVariants as status
-use Rattle.cilk_program.specs.Debugging.{IsSession, IsPart, GainsOf, Debugs, DebugsFront, opened, undebugged}
+use Rattle.cilk_program.specs.Debugging.{IsSession, IsPart, GainsOf, Debugs, DebugsFront, opened, undebugged, broken_off}
 use Rattle.cilk_program.specs.Taped.{IsTape, Declines}
 use Rattle.cilk_program.specs.Telling.{status_of}
 
 pub opens : (d : Debugging) (t : Tape) → d.tape ≡ t → d.position ≡ 0 → d.marks ≡ replicate (count_program t.program) false → d ≡ opened t
 opens d t tape position marks = λ i. record { tape = tape i; position = position i; marks = marks i }
+
+pub playable_of : (d : Debugging) (t : Tape) → d.tape ≡ t → IsPlayable d.tape → IsPlayable t
+playable_of d t same whole = subst IsPlayable same whole
+
+-- what breaks a session off is no fault of the texts
+pub broken_not_refused : (fault : SessionFault) → status_of (broken_off fault) ≢ status.Refused
+broken_not_refused (Read fault) bad = cc
+broken_not_refused Write bad = cc
+broken_not_refused Memory bad = cc
 
 -- why there is no debugger
 pub declines_of : (text bytes : List ℕ) (t : Tape) (fault : DebugFault) → IsTape text bytes t → Tells t fault → status_of (undebugged fault) ≡ status.Refused

@@ -2,3 +2,4 @@ mod Ended
 pub mod Whole
 pub mod Ran
 mod Debugged
+mod Told

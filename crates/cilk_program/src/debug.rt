@@ -1,3 +1,5 @@
+//! The subcommand `debug`: a session over a recorded schedule.
+
 ghost use Rattle.std.specs.Prelude.{◌≡◌, ◌≢◌, ◌⊎◌, true, false, ℕ, List, Option, IfSome, IfOk, IfErr};
 ghost use Rattle.cilk_commands.specs.Held.{Held};
 ghost use Rattle.cilk_commands.specs.Status.{is_answer};

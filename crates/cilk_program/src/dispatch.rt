@@ -1,3 +1,5 @@
+//! Where the words of the command line are obeyed: a task is done, or help, the version or what is wrong is written.
+
 ghost use Rattle.std.specs.Prelude.{◌≡◌, ◌≢◌, [], true, false};
 ghost use Rattle.cilk_commands.specs.Telling.{Tells};
 ghost use Rattle.cilk_commands.specs.Status.{is_answer};

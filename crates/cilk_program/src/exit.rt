@@ -1,3 +1,5 @@
+//! From the words, where the system has them, to the number that the program exits with.
+
 ghost use Rattle.std.specs.Prelude.{◌≡◌, ◌≢◌, MatchResult, true, false};
 ghost use Rattle.std.specs.IoError.{error_kind};
 ghost use Rattle.cilk_commands.specs.declared.status.Status.{Status};

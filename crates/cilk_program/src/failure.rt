@@ -1,3 +1,5 @@
+//! The failures of `run`, `replay` and `debug`, with the line that is written of each and its status.
+
 ghost use Rattle.std.specs.Prelude.{◌≡◌, ◌++◌, ℕ, List, [], OnErr, OnOk, codes};
 ghost use Rattle.std.specs.Io.KnownBytes.{Appends};
 ghost use Rattle.cilk_commands.specs.Front.{AppendsFront};

@@ -1,3 +1,5 @@
+//! What a run is told besides its program: its workers, its limit, and whether faults are explained.
+
 /// How a program is to be run.
 #[derive(Clone, Copy, Debug)]
 pub struct Manner {

@@ -1,3 +1,5 @@
+//! The names of a program and of its log, as the lines of failures have them.
+
 /// The names by which failures tell of a program's text and of a recorded schedule's.
 #[derive(Clone, Copy, Debug)]
 pub struct Names<'a> {

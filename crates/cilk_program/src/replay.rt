@@ -1,3 +1,5 @@
+//! The subcommand `replay`: the choices of a recorded schedule made again, and how they end.
+
 ghost use Rattle.std.specs.Prelude.{◌≡◌, ◌≢◌, true, false, ℕ, List, Option, IfSome, IfOk, IfErr};
 ghost use Rattle.cilk_commands.specs.Front.{Gains, GainsFront};
 ghost use Rattle.cilk_commands.specs.Held.{Held};

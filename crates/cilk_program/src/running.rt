@@ -1,3 +1,5 @@
+//! The subcommand `run`: a run by workers, its log, and how it ends.
+
 ghost use Rattle.std.specs.Prelude.{◌≡◌, ◌≢◌, ℕ, List, [], length, true, false, None, IfOk, IfErr, OnOk, OnErr};
 ghost use Rattle.std.specs.Io.KnownBytes.{Appends};
 ghost use Rattle.cilk_run.specs.choices.Words.{end_of};

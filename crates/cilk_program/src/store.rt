@@ -1,3 +1,5 @@
+//! What the program needs of the place where it keeps the log of a run.
+
 ghost use Rattle.std.specs.Prelude.{◌≡◌, OnOk, ℕ, Bool, List, Option, None, true, false};
 ghost use Rattle.std.specs.Io.KnownBytes.{Appends};
 

@@ -55,7 +55,15 @@ fn schedule_of<L: Read + Drop>(alloc: Global, log: Option<L>) -> Result<Log, Rec
     let Some(mut log) = log else {
         return Err(RecordFailure::CannotRead);
     };
-    let bytes = match read_all(alloc, &mut log) {
+    read_schedule(alloc, &mut log)
+}
+
+fn read_schedule<L: Read>(alloc: Global, reader: &mut L) -> Result<Log, RecordFailure>
+    ensures ok { IfOk result (λ log. Held (L.remaining reader.old) (λ bytes. log_read bytes ≡ Ok (log_of log))) }
+    ensures declined { IfErr result (λ why. Held (L.remaining reader.old) (λ bytes. IsUnread bytes why)) }
+    ensures reads { IfErr result (λ why. status_of why ≢ ended.CannotWrite) }
+{
+    let bytes = match read_all(alloc, reader) {
         Ok(bytes) => bytes,
         Err(Failure::Memory) => return Err(RecordFailure::Program(Failure::Memory)),
         Err(_) => return Err(RecordFailure::CannotRead),

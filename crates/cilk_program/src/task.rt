@@ -1,7 +1,12 @@
-ghost use Rattle.std.specs.Prelude.{◌≡◌, ◌≢◌, true, false, is_some, option_map};
+//! From a task to the subcommand that does it, with the texts that it reads and the log that it writes.
+
+ghost use Rattle.std.specs.Prelude.{◌≡◌, ◌≢◌, ◌⊎◌, true, false, is_some, option_map};
 ghost use Rattle.cilk_commands.specs.Status.{is_answer};
 ghost use Rattle.cilk_words.specs.CommandLine.{wanted_by};
-ghost use Rattle.cilk_program.specs.GivingUp.{GivesUpRun};
+ghost use Rattle.cilk_program.specs.Debugging.{Debugs, DebugsFront};
+ghost use Rattle.cilk_program.specs.GivingUp.{GivesUp, GivesUpRun};
+ghost use Rattle.cilk_program.specs.Replaying.{Replays, ReplaysFront};
+ghost use Rattle.cilk_program.specs.Taped.{Declines};
 ghost use Rattle.cilk_program.specs.Task.{Does, Fails, Leaves, is_session};
 ghost use Rattle.cilk_program.specs.Task.{RunsFrontSomewhere, RunsSomewhere, log_name};
 
@@ -56,23 +61,8 @@ pub fn perform<H: Threads + Wait + Sync, T: Texts, R: Read, O: Write, E: Write>(
             };
             run_named(rt, alloc, name, log, &manner, texts, reader, out, err)
         }
-        Task::Replay { log } => {
-            let names = Names { program: name, log };
-            replay_text(alloc, &names, reader, texts.open(log), out, err)
-        }
-        Task::Debug { log } => {
-            let names = Names { program: name, log };
-            let mut commands = texts.commands();
-            debug_text(
-                alloc,
-                &names,
-                reader,
-                texts.open(log),
-                &mut commands,
-                out,
-                err,
-            )
-        }
+        Task::Replay { log } => replay_named(alloc, name, log, texts, reader, out, err),
+        Task::Debug { log } => debug_named(alloc, name, log, texts, reader, out, err),
     }
 }
 
@@ -107,4 +97,65 @@ fn run_named<H: Threads + Wait + Sync, T: Texts, R: Read, O: Write, E: Write>(
         return RecordFailure::Program(Failure::Memory).report(&names, err);
     };
     run_text(rt, alloc, &names, manner, reader, &mut store, out, err)
+}
+
+// Replays the log of this name, of the program that the reader holds.
+fn replay_named<T: Texts, R: Read, O: Write, E: Write>(
+    alloc: Global,
+    name: &str,
+    log: &str,
+    texts: &T,
+    reader: &mut R,
+    out: &mut O,
+    err: &mut E,
+) -> Status
+    ensures done { is_answer result ≡ true → Replays result (R.remaining reader.old)
+        (T.held texts.now log.now) (O.contents out.old) (O.contents out.new) }
+    ensures told { is_answer result ≡ false
+        → GivesUp Declines false name.now log.now result
+        (R.remaining reader.old) (T.held texts.now log.now) (E.contents err.old) (E.contents err.new) }
+    ensures begun { result ≡ Status.CannotWrite → ReplaysFront (R.remaining reader.old)
+        (T.held texts.now log.now) (O.contents out.old) (O.contents out.new) }
+    ensures usage { result ≢ Status.Usage }
+    ensures quiet { is_answer result ≡ true → err.new ≡ err.old }
+    ensures kept { is_answer result ≡ false → result ≢ Status.CannotWrite → out.new ≡ out.old }
+{
+    let names = Names { program: name, log };
+    replay_text(alloc, &names, reader, texts.open(log), out, err)
+}
+
+// Debugs the log of this name, of the program that the reader holds.
+fn debug_named<T: Texts, R: Read, O: Write, E: Write>(
+    alloc: Global,
+    name: &str,
+    log: &str,
+    texts: &T,
+    reader: &mut R,
+    out: &mut O,
+    err: &mut E,
+) -> Status
+    ensures done { result ≡ Status.Done → Debugs (R.remaining reader.old)
+        (T.held texts.now log.now) (T.entered texts.now) (O.contents out.old) (O.contents out.new) }
+    ensures told { is_answer result ≡ false
+        → GivesUp Declines false name.now log.now result
+        (R.remaining reader.old) (T.held texts.now log.now) (E.contents err.old) (E.contents err.new) }
+    ensures begun { is_answer result ≡ false → result ≢ Status.CannotWrite → (out.new ≡ out.old)
+        ⊎ DebugsFront (R.remaining reader.old) (T.held texts.now log.now) (T.entered texts.now)
+        (O.contents out.old) (O.contents out.new) }
+    ensures usage { result ≢ Status.Usage }
+    ensures only { is_answer result ≡ true → result ≡ Status.Done }
+    ensures quiet { is_answer result ≡ true → err.new ≡ err.old }
+    ensures kept { result ≡ Status.Refused → out.new ≡ out.old }
+{
+    let names = Names { program: name, log };
+    let mut commands = texts.commands();
+    debug_text(
+        alloc,
+        &names,
+        reader,
+        texts.open(log),
+        &mut commands,
+        out,
+        err,
+    )
 }

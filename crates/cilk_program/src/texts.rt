@@ -1,3 +1,5 @@
+//! What the program needs of the system: texts by their names, the commands of a session, and a store for a log.
+
 ghost use Rattle.std.specs.Prelude.{◌≡◌, ℕ, IfOk, IfSome, List, Option, is_some};
 
 use crate::LogStore;

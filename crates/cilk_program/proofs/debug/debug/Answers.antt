@@ -1,11 +1,12 @@
 use Rattle.std.proofs.Common.{subst, sym, ap, ◌∙◌, inr}
 use Rattle.cilk_commands.specs.Held.{Held}
-use Rattle.cilk_debug.specs.Tape.{tape_of, IsPlayable}
+use Rattle.cilk_debug.specs.Tape.{tape_of}
 use Rattle.cilk_program.specs.Debugging.{broken_off}
 use Rattle.cilk_program.specs.Taped.{Declines}
 use Rattle.cilk_program.specs.Telling.{status_of}
 use Rattle.cilk_program.specs.declared.failure.RecordFailure.{RecordFailure}
-use Rattle.cilk_program.proofs.Debugged.{opens, declines_held_of, answered, broken}
+use Rattle.cilk_program.proofs.Debugged.{opens, playable_of, broken_not_refused, declines_held_of, answered, broken}
+use Rattle.std.proofs.Common.{inl, refl}
 use Rattle.cilk_program.proofs.debug.debug.Goals as goal
 
 pub returns-in-Err-new-clause-declined : goal.returns-in-Err-new-clause-declined
@@ -20,12 +21,34 @@ returns-in-Ok-session-clause-ok g c = λ held is.
     let t = tape_of c.in-Ok.taped.program c.in-Ok.taped.log.workers c.in-Ok.taped.log.choices in
     let made = c.in-Ok-new.ensures in
     answered held c.args.text.now t c.in-Ok-new.debugger _ _ _ (c.in-Ok.ensures.ok held is)
-    (opens c.in-Ok-new.debugger t made.tape made.start made.marks) (subst IsPlayable made.tape made.whole) _ c.in-Ok-session.ensures.done
+    (opens c.in-Ok-new.debugger t made.tape made.start made.marks) (playable_of c.in-Ok-new.debugger t made.tape made.whole) _ c.in-Ok-session.ensures.done
 
 pub returns-in-Err-session-clause-begun : goal.returns-in-Err-session-clause-begun
 returns-in-Err-session-clause-begun g c = λ held is other.
     let t = tape_of c.in-Ok.taped.program c.in-Ok.taped.log.workers c.in-Ok.taped.log.choices in
     let made = c.in-Ok-new.ensures in
     inr (broken held c.args.text.now t c.in-Ok-new.debugger _ _ _ (c.in-Ok.ensures.ok held is)
-    (opens c.in-Ok-new.debugger t made.tape made.start made.marks) (subst IsPlayable made.tape made.whole) _ _ c.in-Err-session.fault c.in-Err-session.ensures.fault
+    (opens c.in-Ok-new.debugger t made.tape made.start made.marks) (playable_of c.in-Ok-new.debugger t made.tape made.whole) _ _ c.in-Err-session.fault c.in-Err-session.ensures.fault
     (λ is_write. other (ap status_of (c.broken_off.ensures ∙ ap broken_off is_write))))
+
+pub returns-in-Err-clause-declined : goal.returns-in-Err-clause-declined
+returns-in-Err-clause-declined g c = λ held is refused. c.in-Err.ensures.declined held is refused
+
+pub returns-in-Err-session-clause-declined : goal.returns-in-Err-session-clause-declined
+returns-in-Err-session-clause-declined g c = λ held is refused.
+    absurd (broken_not_refused c.in-Err-session.fault (ap status_of (sym c.broken_off.ensures) ∙ refused))
+
+pub returns-in-Err-session-clause-kept : goal.returns-in-Err-session-clause-kept
+returns-in-Err-session-clause-kept g c = λ refused. absurd (broken_not_refused c.in-Err-session.fault (ap status_of (sym c.broken_off.ensures) ∙ refused))
+
+pub returns-in-Err-clause-begun : goal.returns-in-Err-clause-begun
+returns-in-Err-clause-begun g c = λ held is other. inl refl
+
+pub returns-in-Err-clause-kept : goal.returns-in-Err-clause-kept
+returns-in-Err-clause-kept g c = λ refused. refl
+
+pub returns-in-Err-new-clause-begun : goal.returns-in-Err-new-clause-begun
+returns-in-Err-new-clause-begun g c = λ held is other. inl refl
+
+pub returns-in-Err-new-clause-kept : goal.returns-in-Err-new-clause-kept
+returns-in-Err-new-clause-kept g c = λ refused. refl

@@ -3,6 +3,10 @@ use Rattle.cilk_commands.specs.Held.{IsReadOf}
 use Rattle.cilk_program.specs.Taped.{Declines}
 use Rattle.cilk_program.proofs.Whole.{declines_held, gave_up, not_read}
 use Rattle.cilk_program.proofs.Debugged.{debugs_whole, debugs_left}
+use Rattle.std.proofs.Common.{ap}
+use Rattle.cilk_commands.specs.Status.{is_answer}
+use Rattle.cilk_program.specs.declared.failure.RecordFailure.TheVariants as why
+use Rattle.cilk_program.proofs.Told.{not_told, no_usage_told}
 use Rattle.cilk_program.proofs.debug.debug_text.Goals as goal
 
 pub returns-in-Err-clause-told : goal.returns-in-Err-clause-told
@@ -27,3 +31,30 @@ returns-clause-begun g c = λ held is none other.
     let read : IsReadOf (g.R.Read.remaining c.args.reader.now) c.as_slice-text.result.now = subst (λ t. IsReadOf (g.R.Read.remaining c.args.reader.now) t) (sym c.as_slice-text.ensures.value) c.in-Ok.ensures.ok in
     debugs_left (g.R.Read.remaining c.args.reader.now) held c.as_slice-text.result.now _ _ read _ _
     (c.in-Err-debug.ensures.begun held is (λ bad. other (c.explain.ensures.status ∙ bad)))
+
+pub returns-in-Err-clause-done : goal.returns-in-Err-clause-done
+returns-in-Err-clause-done g c = λ held is done. not_told c.report.result (why.Program c.in-Err.failure) c.report.ensures.status (ap is_answer done)
+
+pub returns-in-Err-clause-usage : goal.returns-in-Err-clause-usage
+returns-in-Err-clause-usage g c = no_usage_told c.report.result (why.Program c.in-Err.failure) c.report.ensures.status
+
+pub returns-in-Err-clause-only : goal.returns-in-Err-clause-only
+returns-in-Err-clause-only g c = λ answered. not_told c.report.result (why.Program c.in-Err.failure) c.report.ensures.status answered
+
+pub returns-in-Err-clause-quiet : goal.returns-in-Err-clause-quiet
+returns-in-Err-clause-quiet g c = λ answered. not_told c.report.result (why.Program c.in-Err.failure) c.report.ensures.status answered
+
+pub returns-clause-done : goal.returns-clause-done
+returns-clause-done g c = λ held is done. not_told c.explain.result c.in-Err-debug.why c.explain.ensures.status (ap is_answer done)
+
+pub returns-clause-usage : goal.returns-clause-usage
+returns-clause-usage g c = no_usage_told c.explain.result c.in-Err-debug.why c.explain.ensures.status
+
+pub returns-clause-only : goal.returns-clause-only
+returns-clause-only g c = λ answered. not_told c.explain.result c.in-Err-debug.why c.explain.ensures.status answered
+
+pub returns-clause-quiet : goal.returns-clause-quiet
+returns-clause-quiet g c = λ answered. not_told c.explain.result c.in-Err-debug.why c.explain.ensures.status answered
+
+pub returns-clause-kept : goal.returns-clause-kept
+returns-clause-kept g c = λ refused. c.in-Err-debug.ensures.kept (sym c.explain.ensures.status ∙ refused)

@@ -4,6 +4,8 @@ use Rattle.cilk_commands.proofs.WholeText.{gains_whole, gains_front_whole}
 use Rattle.cilk_program.specs.Replaying.{IsReplayed}
 use Rattle.cilk_program.specs.Taped.{Declines}
 use Rattle.cilk_program.proofs.Whole.{declines_held, gave_up, not_read}
+use Rattle.cilk_program.specs.declared.failure.RecordFailure.TheVariants as why
+use Rattle.cilk_program.proofs.Told.{not_both, not_told, not_failed, no_usage_told, no_usage_answered}
 use Rattle.cilk_program.proofs.replay.replay_text.Goals as goal
 
 pub returns-in-Err-clause-told : goal.returns-in-Err-clause-told
@@ -32,3 +34,39 @@ returns-clause-begun g c = λ held is failed.
       gains_front_whole (g.R.Read.remaining c.args.reader.now) c.as_slice-text.result.now _ _ (λ text answer. Held held (λ (bytes : List ℕ). IsReplayed begun.0 text bytes answer))
           (λ answer all. all.are.is_tape.ready.is.text.short) read begun.1,
     )
+
+pub returns-in-Err-clause-done : goal.returns-in-Err-clause-done
+returns-in-Err-clause-done g c = λ held is answered. not_told c.report.result (why.Program c.in-Err.failure) c.report.ensures.status answered
+
+pub returns-in-Err-clause-usage : goal.returns-in-Err-clause-usage
+returns-in-Err-clause-usage g c = no_usage_told c.report.result (why.Program c.in-Err.failure) c.report.ensures.status
+
+pub returns-in-Err-clause-begun : goal.returns-in-Err-clause-begun
+returns-in-Err-clause-begun g c = λ held is failed. absurd (c.in-Err.ensures.reads (sym c.report.ensures.status ∙ failed))
+
+pub returns-in-Err-clause-quiet : goal.returns-in-Err-clause-quiet
+returns-in-Err-clause-quiet g c = λ answered. not_told c.report.result (why.Program c.in-Err.failure) c.report.ensures.status answered
+
+pub returns-in-Ok-replay-clause-usage : goal.returns-in-Ok-replay-clause-usage
+returns-in-Ok-replay-clause-usage g c = no_usage_answered c.in-Ok-replay.status c.in-Ok-replay.ensures.answer
+
+pub returns-in-Ok-replay-clause-told : goal.returns-in-Ok-replay-clause-told
+returns-in-Ok-replay-clause-told g c = λ held is none. not_both c.in-Ok-replay.status c.in-Ok-replay.ensures.answer none
+
+pub returns-in-Ok-replay-clause-begun : goal.returns-in-Ok-replay-clause-begun
+returns-in-Ok-replay-clause-begun g c = λ held is failed. not_failed c.in-Ok-replay.status c.in-Ok-replay.ensures.answer failed
+
+pub returns-in-Ok-replay-clause-kept : goal.returns-in-Ok-replay-clause-kept
+returns-in-Ok-replay-clause-kept g c = λ none other. not_both c.in-Ok-replay.status c.in-Ok-replay.ensures.answer none
+
+pub returns-clause-done : goal.returns-clause-done
+returns-clause-done g c = λ held is answered. not_told c.explain.result c.in-Err-replay.why c.explain.ensures.status answered
+
+pub returns-clause-usage : goal.returns-clause-usage
+returns-clause-usage g c = no_usage_told c.explain.result c.in-Err-replay.why c.explain.ensures.status
+
+pub returns-clause-quiet : goal.returns-clause-quiet
+returns-clause-quiet g c = λ answered. not_told c.explain.result c.in-Err-replay.why c.explain.ensures.status answered
+
+pub returns-clause-kept : goal.returns-clause-kept
+returns-clause-kept g c = λ none other. c.in-Err-replay.ensures.kept (λ bad. other (c.explain.ensures.status ∙ bad))

@@ -3,6 +3,7 @@ use Rattle.cilk_run.specs.choices.declared.choice.Choice as code
 use Rattle.cilk_debug.specs.Tape.{tape_of}
 use Rattle.cilk_debug.specs.ReplayFaults.{Tells}
 use Rattle.cilk_program.proofs.Ran.{all_replayed}
+use Rattle.cilk_program.proofs.Told.{replay_reads}
 use Rattle.cilk_program.proofs.replay.replayed.Goals as goal
 
 pub returns-in-Err-play-clause-declined : goal.returns-in-Err-play-clause-declined
@@ -29,3 +30,15 @@ returns-in-Ok-closing_of-clause-ok g c = λ held is.
           c.in-Ok.taped.log.workers c.in-Ok.taped.log.choices c.as_slice-choices.result.now c.in-Ok-play.machine c.as_slice-choices.ensures read.are
           c.in-Ok-play.ensures.stands c.in-Ok-closing_of.ensures.closes;
     }
+
+pub returns-in-Err-clause-declined : goal.returns-in-Err-clause-declined
+returns-in-Err-clause-declined g c = λ held is refused. c.in-Err.ensures.declined held is refused
+
+pub returns-in-Err-clause-reads : goal.returns-in-Err-clause-reads
+returns-in-Err-clause-reads g c = c.in-Err.ensures.reads
+
+pub returns-in-Err-play-clause-reads : goal.returns-in-Err-play-clause-reads
+returns-in-Err-play-clause-reads g c = replay_reads c.in-Err-play.fault
+
+pub returns-in-Ok-closing_of-clause-answer : goal.returns-in-Ok-closing_of-clause-answer
+returns-in-Ok-closing_of-clause-answer g c = c.in-Ok-closing_of.ensures.answer

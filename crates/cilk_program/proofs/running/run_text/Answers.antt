@@ -1,8 +1,9 @@
-use Rattle.std.proofs.Common.{subst, sym, ◌∙◌, None}
+use Rattle.std.proofs.Common.{subst, sym, ◌∙◌}
 use Rattle.cilk_commands.specs.Held.{IsReadOf}
-use Rattle.cilk_program.specs.GivingUp.{NoProgram}
 use Rattle.cilk_program.specs.Running.{IsRun}
 use Rattle.cilk_program.proofs.Whole.{no_program_held, run_gave_up, run_not_read, stores_whole, stores_front_whole}
+use Rattle.cilk_program.specs.declared.failure.RecordFailure.TheVariants as why
+use Rattle.cilk_program.proofs.Told.{not_both, not_told, not_failed, no_usage_told, no_usage_answered}
 use Rattle.cilk_program.proofs.running.run_text.Goals as goal
 
 pub returns-in-Err-clause-told : goal.returns-in-Err-clause-told
@@ -32,3 +33,46 @@ returns-clause-begun g c = λ failed.
       stores_front_whole (g.R.Read.remaining c.args.reader.now) c.as_slice-text.result.now _ _ _ _ (IsRun c.args.manner.now.workers c.args.manner.now.limit begun.0)
           (λ log answer is. is.ready.is.text.short) read begun.1,
     )
+
+pub returns-in-Err-clause-done : goal.returns-in-Err-clause-done
+returns-in-Err-clause-done g c = λ answered. not_told c.report.result (why.Program c.in-Err.failure) c.report.ensures.status answered
+
+pub returns-in-Err-clause-usage : goal.returns-in-Err-clause-usage
+returns-in-Err-clause-usage g c = no_usage_told c.report.result (why.Program c.in-Err.failure) c.report.ensures.status
+
+pub returns-in-Err-clause-begun : goal.returns-in-Err-clause-begun
+returns-in-Err-clause-begun g c = λ failed. absurd (c.in-Err.ensures.reads (sym c.report.ensures.status ∙ failed))
+
+pub returns-in-Err-clause-quiet : goal.returns-in-Err-clause-quiet
+returns-in-Err-clause-quiet g c = λ answered. not_told c.report.result (why.Program c.in-Err.failure) c.report.ensures.status answered
+
+pub returns-in-Ok-run_stored-clause-usage : goal.returns-in-Ok-run_stored-clause-usage
+returns-in-Ok-run_stored-clause-usage g c = no_usage_answered c.in-Ok-run_stored.status c.in-Ok-run_stored.ensures.answer
+
+pub returns-in-Ok-run_stored-clause-told : goal.returns-in-Ok-run_stored-clause-told
+returns-in-Ok-run_stored-clause-told g c = λ none. not_both c.in-Ok-run_stored.status c.in-Ok-run_stored.ensures.answer none
+
+pub returns-in-Ok-run_stored-clause-begun : goal.returns-in-Ok-run_stored-clause-begun
+returns-in-Ok-run_stored-clause-begun g c = λ failed. not_failed c.in-Ok-run_stored.status c.in-Ok-run_stored.ensures.answer failed
+
+pub returns-in-Ok-run_stored-clause-kept : goal.returns-in-Ok-run_stored-clause-kept
+returns-in-Ok-run_stored-clause-kept g c = λ none other. not_both c.in-Ok-run_stored.status c.in-Ok-run_stored.ensures.answer none
+
+pub returns-in-Ok-run_stored-clause-unopened : goal.returns-in-Ok-run_stored-clause-unopened
+returns-in-Ok-run_stored-clause-unopened g c = λ none other apart. not_both c.in-Ok-run_stored.status c.in-Ok-run_stored.ensures.answer none
+
+pub returns-clause-done : goal.returns-clause-done
+returns-clause-done g c = λ answered. not_told c.explain.result c.in-Err-run_stored.why c.explain.ensures.status answered
+
+pub returns-clause-usage : goal.returns-clause-usage
+returns-clause-usage g c = no_usage_told c.explain.result c.in-Err-run_stored.why c.explain.ensures.status
+
+pub returns-clause-quiet : goal.returns-clause-quiet
+returns-clause-quiet g c = λ answered. not_told c.explain.result c.in-Err-run_stored.why c.explain.ensures.status answered
+
+pub returns-clause-kept : goal.returns-clause-kept
+returns-clause-kept g c = λ none other. c.in-Err-run_stored.ensures.kept (λ bad. other (c.explain.ensures.status ∙ bad))
+
+pub returns-clause-unopened : goal.returns-clause-unopened
+returns-clause-unopened g c = λ none other apart.
+    c.in-Err-run_stored.ensures.unopened (λ bad. other (c.explain.ensures.status ∙ bad)) (λ bad. apart (c.explain.ensures.status ∙ bad))

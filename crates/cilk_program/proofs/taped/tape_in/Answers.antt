@@ -1,4 +1,5 @@
 use Rattle.cilk_program.proofs.Whole.{any_held, unread_declines}
+use Rattle.cilk_program.proofs.Told.{unready_reads}
 use Rattle.cilk_program.proofs.taped.tape_in.Goals as goal
 
 pub returns-in-Err-clause-declined : goal.returns-in-Err-clause-declined
@@ -12,3 +13,21 @@ pub returns-in-Ok-schedule_of-clause-ok : goal.returns-in-Ok-schedule_of-clause-
 returns-in-Ok-schedule_of-clause-ok g c = λ held is.
     let read = c.in-Ok-schedule_of.ensures.ok held is in
     record { bytes = read.bytes; held = read.held; are = record { ready = c.in-Ok.ensures.ok; read = read.are } }
+
+pub returns-in-Err-clause-ok : goal.returns-in-Err-clause-ok
+returns-in-Err-clause-ok g c = λ held is. tt
+
+pub returns-in-Err-clause-reads : goal.returns-in-Err-clause-reads
+returns-in-Err-clause-reads g c = unready_reads c.args.text.now c.in-Err.failure c.in-Err.ensures.err
+
+pub returns-in-Err-schedule_of-clause-ok : goal.returns-in-Err-schedule_of-clause-ok
+returns-in-Err-schedule_of-clause-ok g c = λ held is. tt
+
+pub returns-in-Err-schedule_of-clause-reads : goal.returns-in-Err-schedule_of-clause-reads
+returns-in-Err-schedule_of-clause-reads g c = c.in-Err-schedule_of.ensures.reads
+
+pub returns-in-Ok-schedule_of-clause-declined : goal.returns-in-Ok-schedule_of-clause-declined
+returns-in-Ok-schedule_of-clause-declined g c = λ held is. tt
+
+pub returns-in-Ok-schedule_of-clause-reads : goal.returns-in-Ok-schedule_of-clause-reads
+returns-in-Ok-schedule_of-clause-reads g c = tt

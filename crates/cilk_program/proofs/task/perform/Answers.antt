@@ -1,0 +1,45 @@
+use Rattle.std.proofs.Common.{ap, inl, inr}
+use Rattle.cilk_program.proofs.task.perform.Goals as goal
+
+pub returns-in-Print-clause-done : goal.returns-in-Print-clause-done
+returns-in-Print-clause-done g c = rw c.in-Print.is (λ answered. (c.print_text.ensures.only answered, c.print_text.ensures.done (c.print_text.ensures.only answered)))
+
+pub returns-in-Print-clause-told : goal.returns-in-Print-clause-told
+returns-in-Print-clause-told g c = rw c.in-Print.is c.print_text.ensures.told
+
+pub returns-in-Print-clause-begun : goal.returns-in-Print-clause-begun
+returns-in-Print-clause-begun g c = rw c.in-Print.is (λ none. c.print_text.ensures.begun)
+
+pub returns-in-Check-clause-done : goal.returns-in-Check-clause-done
+returns-in-Check-clause-done g c = rw c.in-Check.is (λ answered. (c.check_text.ensures.only answered, c.check_text.ensures.done (c.check_text.ensures.only answered)))
+
+pub returns-in-Check-clause-told : goal.returns-in-Check-clause-told
+returns-in-Check-clause-told g c = rw c.in-Check.is c.check_text.ensures.told
+
+pub returns-in-Check-clause-begun : goal.returns-in-Check-clause-begun
+returns-in-Check-clause-begun g c = rw c.in-Check.is (λ none. c.check_text.ensures.begun)
+
+pub returns-in-Debug-clause-done : goal.returns-in-Debug-clause-done
+returns-in-Debug-clause-done g c = rw c.in-Debug.is (λ answered. (c.debug_named.ensures.only answered, c.debug_named.ensures.done (c.debug_named.ensures.only answered)))
+
+pub returns-in-Debug-clause-told : goal.returns-in-Debug-clause-told
+returns-in-Debug-clause-told g c = rw c.in-Debug.is c.debug_named.ensures.told
+
+pub returns-in-Debug-clause-begun : goal.returns-in-Debug-clause-begun
+returns-in-Debug-clause-begun g c =
+    rw c.in-Debug.is (λ none other. elim (c.debug_named.ensures.begun none other) [ inl same ↦ inl (ap g.O.Write.contents same) | inr front ↦ inr front ])
+
+pub returns-in-Run-clause-done : goal.returns-in-Run-clause-done
+returns-in-Run-clause-done g c = rw c.in-Run.is c.run_named.ensures.done
+
+pub returns-in-Run-clause-begun : goal.returns-in-Run-clause-begun
+returns-in-Run-clause-begun g c = rw c.in-Run.is (λ none. c.run_named.ensures.begun)
+
+pub returns-in-Replay-clause-done : goal.returns-in-Replay-clause-done
+returns-in-Replay-clause-done g c = rw c.in-Replay.is c.replay_named.ensures.done
+
+pub returns-in-Replay-clause-told : goal.returns-in-Replay-clause-told
+returns-in-Replay-clause-told g c = rw c.in-Replay.is c.replay_named.ensures.told
+
+pub returns-in-Replay-clause-begun : goal.returns-in-Replay-clause-begun
+returns-in-Replay-clause-begun g c = rw c.in-Replay.is (λ none. c.replay_named.ensures.begun)
