@@ -1,5 +1,5 @@
 -- The value of a plain expression is that over what is known of its variables.
-use Rattle.std.proofs.Common.{◌≡◌, ◌⊎◌, inl, inr, ◌&&◌, ◌==◌, Bool, true, false, ℕ, ℤ, List, [], ◌∷◌, ◌++◌, map, refl, sym, ap, ◌∙◌, arith, cond}
+use Rattle.std.proofs.Common.{◌≡◌, ◌<◌, zero, suc, drop, ◌⊎◌, inl, inr, ◌&&◌, ◌==◌, Bool, true, false, ℕ, ℤ, List, [], ◌∷◌, ◌++◌, map, refl, sym, ap, ◌∙◌, arith, cond}
 use Rattle.std.specs.Prelude.{Decides, Option, Some, None, length, option_and_then}
 use Rattle.std.specs.Ordering.{int_eq}
 use Rattle.std.proofs.lemmas.List.{map-append}
@@ -176,3 +176,11 @@ none_left ks values left = (
   λ yes. cc,
   λ same. let bad : None ≡ Some [] = left ∙ ap (behind_known ks) same ∙ behind_all ks in cc,
 )
+
+-- nothing is left for a variable
+pub behind_nothing : (cells : Cells) (ss : List Slot) (i : ℕ) (left : List Known) → i < length ss → length left ≡ 0
+    → behind_known (map (known_in cells) (drop i ss)) left ≡ None
+behind_nothing cells [] i left there empty = absurd (omega (arith, there))
+behind_nothing cells (s ∷ ss) zero [] there empty = refl
+behind_nothing cells (s ∷ ss) zero (k ∷ ks) there empty = absurd (omega (arith, empty))
+behind_nothing cells (s ∷ ss) (suc i) left there empty = behind_nothing cells ss i left (omega (arith, there)) empty

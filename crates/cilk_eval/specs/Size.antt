@@ -1,4 +1,4 @@
--- A number that is larger for an expression than for its parts.
+-- The number of operators of an expression, subscripts among them, which is larger for an expression than for its parts.
 use Rattle.std.specs.Prelude.{ℕ, ◌+◌}
 use Rattle.cilk_values.specs.Term.{Term, number, variable, element, synched, unary, binary, choose}
 

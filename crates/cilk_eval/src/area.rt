@@ -1,3 +1,5 @@
+//! The areas of cells that an expression may read.
+
 /// Where the cells of a variable lie.
 #[derive(Clone, Copy, Debug, PartialEq, Eq)]
 pub enum Area {

@@ -109,7 +109,7 @@ fn element(slots: &Slots, slot: Slot, subscript: i32) -> Result<i32, Trap>
     Ok(cells[slot.offset as usize + index as usize])
 }
 
-fn cells_in<'a>(slots: &Slots<'a>, area: Area) -> &'a [i32]
+pub(crate) fn cells_in<'a>(slots: &Slots<'a>, area: Area) -> &'a [i32]
     ensures { result.now ≡ area_cells (cells_of slots.now) area }
 {
     match area {

@@ -1,3 +1,5 @@
+//! The slots of variables: which cells of which area are theirs.
+
 use crate::area::Area;
 
 /// The place of a variable: its cells stand one after another in an area.

@@ -1,3 +1,5 @@
+//! What is lent to evaluate an expression: the cells of each area, and the answer to `SYNCHED`.
+
 /// The cells that an expression may read.
 #[derive(Clone, Copy, Debug)]
 pub struct Slots<'a> {

@@ -1,17 +1,24 @@
 -- Steps that were looked at beforehand.
-use Rattle.std.proofs.Common.{◌≡◌, ℕ, Bool, true, false, not, Option, Some, None, is_some, Result, Ok, Err, refl, sym, ap, ◌∙◌, if◌then◌else◌}
-use Rattle.std.specs.Prelude.{IfOk, IfErr}
+use Rattle.std.proofs.Common.{◌≡◌, ℕ, Bool, true, false, not, List, Option, Some, None, is_some, option_map, Result, Ok, Err, refl, sym, ap, ◌∙◌, subst, if◌then◌else◌}
+use Rattle.std.specs.Prelude.{IfOk, IfErr, IfSome, OnOk, option_and_then}
 use Rattle.cilk_carries.specs.frame.Frames.{Frame}
 use Rattle.cilk_carries.specs.plans.declared.light.Light.{Light}
 use Rattle.cilk_carries.specs.plans.declared.plan.Plan.{Plan}
+use Rattle.cilk_carries.specs.plans.Sights.{Sight, cells_in}
 use Rattle.cilk_carries.specs.plans.Words.{plan_of}
 use Rattle.cilk_choices.specs.model.Places.{hand_of}
 use Rattle.cilk_choices.specs.declared.act.Act.TheVariants.{Step}
 use Rattle.cilk_choices.specs.declared.refusal.Refusal.TheVariants.{Over, NoWorker}
+use Rattle.cilk_step.specs.eval.Known.{known_of}
+use Rattle.cilk_step.specs.eval.declared.known.Known.{Known}
+use Rattle.cilk_step.specs.eval.declared.slot.Slot.{Slot}
+use Rattle.cilk_step.specs.values.Term.{Term}
+use Rattle.cilk_step.specs.Looks as sights
+use Rattle.cilk_step.specs.Looks.{code_in}
 use Rattle.cilk_step.specs.Scenes.{is_wait}
-use Rattle.cilk_machine.specs.Situation.{Situation, workers_of}
+use Rattle.cilk_machine.specs.Situation.{Situation, workers_of, sight_at}
 use Rattle.cilk_machine.specs.Refused.{runs, is_worker_of, is_full, planned_by, planned_in, waits_by, step_refused, act_refused, refused_by}
-use Rattle.cilk_machine.specs.Looking.{plan_by}
+use Rattle.cilk_machine.specs.Looking.{look_by, plan_by}
 use Rattle.cilk_machine.proofs.Lightly.{goes}
 
 -- a plan by a value never waits
@@ -34,3 +41,20 @@ plan-free m w x on worker full free is =
 pub either-plan : (r : Result Light Plan) (p : Plan) → IfOk r (λ x. plan_of x ≡ p) → IfErr r (λ x. x ≡ p) → plan_by r ≡ p
 either-plan (Ok light) p h k = h
 either-plan (Err x) p h k = k
+
+on_ok : {A E P Q : Type 0} (r : Result A E) → (P → Q) → OnOk r P → OnOk r Q
+on_ok (Ok a) f p = f p
+on_ok (Err e) f p = tt
+
+taken_by : (g : Sight) (o : Option (Term Slot)) (listed : Term Slot) (values : List Known) → values ≡ known_of (cells_in g) listed
+    → IfSome (option_map (sights.look_by g) o) (λ look. listed ≡ look.code → values ≡ look.values)
+taken_by g None listed values is = tt
+taken_by g (Some code) listed values is = λ same. is ∙ ap (known_of (cells_in g)) same
+
+-- what is taken down of an expression is what is seen of it
+pub taken-down : {A E : Type 0} (r : Result A E) (m : Situation) (f : Frame) (g : Sight) (o : Option Frame) (listed : Term Slot) (values : List Known)
+    → g ≡ sight_at m f → Some f ≡ o → OnOk r (values ≡ known_of (cells_in g) listed)
+    → OnOk r (IfSome (option_and_then (look_by m) o) (λ look. listed ≡ look.code → values ≡ look.values))
+taken-down r m f g o listed values here in_hand = on_ok r (λ is.
+    subst (λ (x : Option Frame). IfSome (option_and_then (look_by m) x) (λ look. listed ≡ look.code → values ≡ look.values)) in_hand
+    (taken_by (sight_at m f) (code_in (sight_at m f)) listed values (is ∙ ap (λ (x : Sight). known_of (cells_in x) listed) here)))

@@ -1,12 +1,20 @@
 -- Looking ahead at a step, and taking it by the value of what was seen.
-use Rattle.std.specs.Prelude.{◌≡◌, ◌≢◌, ◌⊎◌, ℕ, not, if◌then◌else◌, Option, Some, None, option_and_then, Result, Ok, Err}
+use Rattle.std.specs.Prelude.{◌≡◌, ◌≢◌, ◌⊎◌, ◌-◌, ℕ, ℤ, not, if◌then◌else◌, List, [], slice_get, Option, Some, None, is_some, option_map, option_and_then, Result, Ok, Err}
 use Rattle.cilk_carries.specs.frame.Frames.{Frame}
 use Rattle.cilk_carries.specs.plans.declared.light.Light.{Light}
 use Rattle.cilk_carries.specs.plans.declared.plan.Plan.{Plan}
 use Rattle.cilk_carries.specs.plans.Words.{plan_of}
+use Rattle.cilk_carries.specs.spawn.Nodes.{path_at}
+use Rattle.cilk_choices.specs.model.Path.{Path}
 use Rattle.cilk_choices.specs.model.Places.{hand_of}
 use Rattle.cilk_choices.specs.declared.refusal.Refusal.{Refusal}
 use Rattle.cilk_choices.specs.declared.refusal.Refusal.TheVariants.{Over, NoWorker, HandEmpty, Memory, Stale}
+use Rattle.cilk_step.specs.eval.Known.{known}
+use Rattle.cilk_step.specs.eval.declared.known.Known.{Known}
+use Rattle.cilk_step.specs.eval.declared.slot.Slot.{Slot}
+use Rattle.cilk_step.specs.values.declared.trap.Trap.{Trap}
+use Rattle.cilk_step.specs.values.Term.{Term}
+use Rattle.cilk_step.specs.values.Value.{value_of}
 use Rattle.cilk_step.specs.Looks.{Look, look_in}
 use Rattle.cilk_machine.specs.Situation.{Situation, workers_of, sight_at}
 use Rattle.cilk_machine.specs.Refused.{runs, is_worker_of, is_full}
@@ -25,6 +33,34 @@ look_by m f = look_in (sight_at m f)
 -- what the worker sees of its step
 abbrev pub look_at : Situation → ℕ → Option Look
 look_at m w = option_and_then (look_by m) (hand_of m.machine.places w)
+
+-- the number of the action of which it sees something
+abbrev pub number_ahead : Situation → ℕ → Option ℕ
+number_ahead m w = if is_some (look_refused m w) then None else option_map (λ (look : Look). look.n) (look_at m w)
+
+-- the instance in a hand
+abbrev pub path_by : Situation → Option Frame → Path
+path_by m None = []
+path_by m (Some f) = path_at m.machine.nodes f.id
+
+-- what it sees where its instance stands before action n, which evaluates that expression, of whose variables this is known
+abbrev pub noted_at : Situation → ℕ → ℕ → Term Slot → List Known → Look
+noted_at m w n code values = record { path = path_by m (hand_of m.machine.places w); n = n; code = code; values = values }
+
+-- it sees an action of this number, of whose expression this is known
+pub record IsNoted (m : Situation) (w n : ℕ) (lists : List (Option (Term Slot))) (values : List Known) : Type 0 where
+  pub free : look_refused m w ≡ None
+  pub look : Look
+  pub seen : look_at m w ≡ Some look
+  pub number : look.n ≡ n
+  pub values_are : slice_get lists (n - 1) ≡ Some (Some look.code) → values ≡ look.values
+
+-- it sees an action of this number, whose expression has this value over what the variables hold
+pub record IsSeenAt (m : Situation) (w n : ℕ) (value : Result ℤ Trap) : Type 0 where
+  pub look : Look
+  pub seen : look_at m w ≡ Some look
+  pub number : look.n ≡ n
+  pub value_is : value ≡ value_of (known look.values) look.code
 
 -- why one does not see: want of memory is told only where there is no other reason
 abbrev pub IsUnseen : Situation → ℕ → Refusal → Type 0

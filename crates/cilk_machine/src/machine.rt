@@ -1,3 +1,5 @@
+//! What a machine is made of, and what it tells between two choices: its outcome, output, variables, fates and end.
+
 ghost use Rattle.std.specs.Prelude.{◌≡◌, ◌<◌, ◌≤◌, ◌⊎◌, ◌↔◌, List, option_map, IfOk};
 ghost use Rattle.cilk_carries.specs.labelled.Bodies.{label};
 ghost use Rattle.cilk_choices.specs.model.Choice as choices;
@@ -142,6 +144,13 @@ impl Machine {
         ensures { result.now ≡ self.now.program }
     {
         self.loaded.program()
+    }
+
+    /// The program with its tables.
+    pub fn loaded(&self) -> &Loaded
+        ensures { result.now ≡ self.now.program }
+    {
+        &self.loaded
     }
 
     /// How many choices were made: so many possible ones led here from the start of the program.

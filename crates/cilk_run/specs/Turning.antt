@@ -1,8 +1,14 @@
 -- What a turn does.
-use Rattle.std.specs.Prelude.{◌≡◌, ◌⊎◌, ◌||◌, ℕ, Bool, true, [], ◌∷◌, ◌++◌}
+use Rattle.std.specs.Prelude.{◌≡◌, ◌⊎◌, ◌||◌, ◌+◌, ℕ, Bool, true, List, [], ◌∷◌, ◌++◌, Option, Some, slice_get}
 use Rattle.cilk_machine.specs.choices.declared.act.Act.{Act}
+use Rattle.cilk_machine.specs.step.Looks.{code_at}
+use Rattle.cilk_machine.specs.step.eval.declared.slot.Slot.{Slot}
+use Rattle.cilk_machine.specs.step.values.Term.{Term}
+use Rattle.cilk_machine.specs.syntax.Tree.{Program}
 use Rattle.cilk_run.specs.Histories.{Posted}
 use Rattle.cilk_run.specs.Runs.{Stops}
+use Rattle.cilk_run.specs.declared.post.Begun.{Begun}
+use Rattle.cilk_run.specs.declared.post.Begun.TheVariants.{Over, Seen}
 use Rattle.cilk_run.specs.declared.post.Turn.{Turn}
 use Rattle.cilk_run.specs.declared.post.Turn.TheVariants.{Made, Idle, Stop}
 
@@ -21,3 +27,12 @@ IsTurn limit w old Made new = (act : Act) × (new.history ≡ old.history ++ rec
 -- nothing was changed
 IsTurn limit w old Idle new = new ≡ old
 IsTurn limit w old Stop new = (new.history ≡ old.history) × IsOver limit new
+
+-- how far worker w came who began a turn: to its end, or no further than to look at its own step
+abbrev pub IsBegun : ℕ → ℕ → Posted → Begun → Posted → Type 0
+IsBegun limit w old (Over turn) new = IsTurn limit w old turn new
+IsBegun limit w old (Seen n) new = new ≡ old
+
+-- expressions that stand where those of the program's actions do that may be seen beforehand, from action 1 on
+abbrev pub IsListed : Program → List (Option (Term Slot)) → Type 0
+IsListed p lists = (k : ℕ) (t : Term Slot) → slice_get lists k ≡ Some (Some t) → code_at p (k + 1) ≡ Some t

@@ -4,10 +4,12 @@ ghost use Rattle.std.specs.Prelude.{◌≡◌, ◌≢◌, ◌<◌, ◌⊎◌, �
 ghost use Rattle.cilk_machine.specs.Situation.{workers_of};
 ghost use Rattle.cilk_run.specs.Runs.{IsRun};
 
+use crate::ahead::Ahead;
 use crate::gate::Gate;
 use crate::locked::Locked;
 use crate::outcome::{Run, RunFault};
 use crate::post::{Post, Turn};
+use crate::shared::Shared;
 use crate::table::{Setting, Table};
 use cilk_machine::{Loaded, MachineFault};
 use std::alloc::Global;
@@ -88,10 +90,14 @@ fn run_as<J: Setting + Send + Sync, R: Threads + Wait + Sync, G: Gate + Sync>(
     if workers == 1 {
         return finish(rt, alloc, work_alone(rt, table, gate), workers);
     }
-    let lock = Mutex::new(table);
+    let ahead: Ahead<J> = table.ahead(alloc)?;
+    let shared = Shared {
+        lock: Mutex::new(table),
+        ahead,
+    };
     let bell = Condvar::new();
-    let all_started = start_all(rt, &lock, &bell, gate, workers);
-    let table = lock.into_inner();
+    let all_started = start_all(rt, alloc, &shared, &bell, gate, workers);
+    let table = shared.lock.into_inner();
     if !all_started {
         return Err(RunFault::Start);
     }
@@ -99,9 +105,10 @@ fn run_as<J: Setting + Send + Sync, R: Threads + Wait + Sync, G: Gate + Sync>(
 }
 
 /// Starts the workers' threads, and waits until all that were started have ended. False: the system did not start one of them.
-fn start_all<'a, T: Post + Send, R: Threads + Wait + Sync, G: Gate + Sync>(
+fn start_all<'a, T: Post + Sync, R: Threads + Wait + Sync, G: Gate + Sync>(
     rt: &'a R,
-    lock: &'a Mutex<T>,
+    alloc: Global,
+    post: &'a T,
     bell: &'a Condvar,
     gate: &'a G,
     workers: u8,
@@ -111,10 +118,10 @@ fn start_all<'a, T: Post + Send, R: Threads + Wait + Sync, G: Gate + Sync>(
             let worker = before + 1;
             let builder = Builder::new().stack_size(STACK);
             if builder
-                .spawn_scoped(scope, move || work(rt, lock, bell, gate, worker))
+                .spawn_scoped(scope, move || work(rt, alloc, post, bell, gate, worker))
                 .is_err()
             {
-                lock.lock(rt).stop();
+                post.stop(rt);
                 bell.notify_all();
                 return false;
             }
@@ -124,13 +131,20 @@ fn start_all<'a, T: Post + Send, R: Threads + Wait + Sync, G: Gate + Sync>(
 }
 
 /// What a worker's thread does. Who ends rings the bell for those that sleep.
-fn work<T: Post, R: Wait, G: Gate>(rt: &R, lock: &Mutex<T>, bell: &Condvar, gate: &G, worker: u8) {
+fn work<T: Post, R: Wait, G: Gate>(
+    rt: &R,
+    alloc: Global,
+    post: &T,
+    bell: &Condvar,
+    gate: &G,
+    worker: u8,
+) {
+    let mut values = Vec::new(alloc);
     let mut turn = 1u64;
     let mut in_vain = 0u32;
     for _ in rt.forever() {
         gate.before(worker, turn);
-        let came = lock.lock(rt).turn(worker);
-        match came {
+        match post.turn(rt, worker, &mut values) {
             Turn::Stop => {
                 bell.notify_all();
                 return;

@@ -2,6 +2,7 @@
 //! were made beside it.
 #![tactic(auto)]
 
+mod ahead;
 mod crew;
 mod gate;
 mod glimpse;
@@ -10,6 +11,7 @@ mod locked;
 mod outcome;
 mod post;
 mod proposal;
+mod shared;
 mod table;
 
 pub use cilk_machine::{

@@ -3,8 +3,11 @@
 ghost use Rattle.std.specs.Prelude.{◌≡◌, ◌<◌, ◌⊎◌, ◌↔◌, [], ◌∷◌, ◌++◌, None, Some, option_map, Err, IfOk, IfErr, IfSome, OnOk, OnErr};
 ghost use Rattle.cilk_machine.specs.model.Choice as choices;
 ghost use Rattle.cilk_machine.specs.choices.Words.{choice_of, event_of, reason_of};
-ghost use Rattle.cilk_machine.specs.Looking.{look_refused, look_at, IsUnseen, IsUnsettled};
+ghost use Rattle.cilk_machine.specs.Looking.{look_refused, look_at, noted_at, IsUnseen, IsUnsettled};
 ghost use Rattle.cilk_machine.specs.Situation.{workers_of};
+ghost use Rattle.cilk_machine.specs.step.eval.Known.{known};
+ghost use Rattle.cilk_machine.specs.step.values.Value.{value_of};
+ghost use Rattle.cilk_machine.specs.step.Looks.{code_at};
 ghost use Rattle.cilk_machine.specs.Made.{Makes, MakesBy, IsRefused};
 ghost use Rattle.cilk_machine.specs.Stands.{Opens};
 ghost use Rattle.cilk_run.specs.Histories.{IsLedBy};
@@ -12,7 +15,9 @@ ghost use Rattle.cilk_run.specs.Histories.{IsLedBy};
 use crate::glimpse::Glimpse;
 use crate::proposal::Proposal;
 use cilk_log::Choices;
-use cilk_machine::{Act, Choice, Did, Event, Loaded, Machine, MachineFault, Refusal};
+use cilk_machine::{
+    Act, Choice, Did, Event, Known, Listed, Loaded, Machine, MachineFault, Refusal, Trap,
+};
 use std::alloc::Global;
 use std::marker::Model;
 
@@ -123,6 +128,44 @@ impl Locked {
             act: Act::Step,
         });
         Ok(event)
+    }
+
+    /// The same by what was taken down of the step, with the value of the expression of action n over that. An instance that something befell is
+    /// told by its number.
+    pub(crate) fn settle_noted(
+        &mut self,
+        worker: u8,
+        n: u32,
+        listed: &Listed,
+        values: &[Known],
+        value: Result<i32, Trap>,
+    ) -> Result<Did, Refusal>
+        requires code { code_at self.old.machine.program n ≡ Some listed.now }
+        requires value { value ≡ value_of (known values.now) listed.now }
+        ensures seen { OnOk result (look_at self.old.machine worker ≡ Some (noted_at self.old.machine worker n listed.now values.now)) }
+        ensures made { IfOk result (λ did. MakesBy self.old.machine self.new.machine (record { worker = worker; act = choices.step }) did) }
+        ensures history { OnOk result (self.new.history ≡ self.old.history ++ record { worker = worker; act = Act.Step } ∷ []) }
+        ensures refused { IfErr result (IsUnsettled self.old.machine worker (noted_at self.old.machine worker n listed.now values.now)) }
+        ensures unchanged { OnErr result (self.new ≡ self.old) }
+    {
+        if self.history.reserve(1).is_err() {
+            return Err(self.want_of_noted(worker, n, listed, values));
+        }
+        let did = self.machine.settle_noted(worker, n, listed, values, value)?;
+        let act = Act::Step;
+        self.history.push_reserved(Choice { worker, act });
+        Ok(did)
+    }
+
+    // Why a step is not made by what was taken down of it where the history cannot grow.
+    fn want_of_noted(&self, worker: u8, n: u32, listed: &Listed, values: &[Known]) -> Refusal
+        requires { code_at self.now.machine.program n ≡ Some listed.now }
+        ensures { IsUnsettled self.now.machine worker (noted_at self.now.machine worker n listed.now values.now) result }
+    {
+        match self.machine.noted_refusal(worker, n, listed, values) {
+            None => Refusal::Memory,
+            Some(refusal) => refusal,
+        }
     }
 
     // Why a step is not made by what was seen of it where the history cannot grow.

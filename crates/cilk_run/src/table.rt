@@ -1,19 +1,23 @@
 //! What lies under the lock of a run, and what a worker does with it in one turn.
 
-ghost use Rattle.std.specs.Prelude.{ℕ, ◌≡◌, ◌≢◌, ◌<◌, ◌≤◌, ◌⊎◌, [], ◌∷◌, ◌++◌, length, true, IfOk, IfErr, OnOk, OnErr};
+ghost use Rattle.std.specs.Prelude.{ℕ, ◌+◌, ◌≡◌, ◌≢◌, ◌<◌, ◌≤◌, ◌⊎◌, [], ◌∷◌, ◌++◌, length, slice_index, slice_set, ◌-◌, ◌^◌, true, Some, IfOk, IfErr, OnOk, OnErr};
 ghost use Rattle.cilk_machine.specs.choices.Words.{choice_of, reason_of};
 ghost use Rattle.cilk_machine.specs.Situation.{workers_of};
 ghost use Rattle.cilk_machine.specs.Made.{IsRefused};
+ghost use Rattle.cilk_machine.specs.step.eval.Known.{known};
+ghost use Rattle.cilk_machine.specs.step.values.Value.{value_of};
+ghost use Rattle.cilk_machine.specs.step.Looks.{code_at};
 ghost use Rattle.cilk_run.specs.Histories.{IsCounted};
 ghost use Rattle.cilk_run.specs.Runs.{IsRun, Stops};
-ghost use Rattle.cilk_run.specs.Turning.{IsTurn, IsOver, is_broken};
+ghost use Rattle.cilk_run.specs.Turning.{IsTurn, IsBegun, IsOver, is_broken};
 
+use crate::ahead::Ahead;
 use crate::lists::{Output, Turns};
 use crate::locked::Locked;
 use crate::outcome::{Run, RunFault};
-use crate::post::{Post, Turn};
+use crate::post::{Begun, Turn};
 use cilk_log::Log;
-use cilk_machine::{Act, Choice, Outcome, Refusal};
+use cilk_machine::{Act, Choice, Known, Listed, Outcome, Refusal, Trap};
 use std::alloc::Global;
 use std::marker::{Brand, Model, PhantomData};
 
@@ -102,7 +106,7 @@ impl<J: Setting> Table<J> {
         ensures broken { is_broken self.old ≡ true → result ≡ Turn.Stop }
         ensures limit { J.limit ≤ length self.old.history → result ≡ Turn.Stop }
     {
-        if self.is_stopped || self.is_short || self.is_spent() {
+        if self.is_over() {
             return Turn::Stop;
         }
         match self.make(worker, Act::Step) {
@@ -110,6 +114,74 @@ impl<J: Setting> Table<J> {
             Err(Refusal::HandEmpty) => self.take_up(worker),
             Err(refusal) => self.stay(refusal),
         }
+    }
+
+    /// The same of one who lets others have the lock meanwhile: where the worker's step evaluates one of these expressions, by number from 1 on,
+    /// nothing is done yet but to take down what its variables hold.
+    #[inline(always)]
+    pub fn begin_turn(
+        &mut self,
+        worker: u8,
+        lists: &[Option<Listed>],
+        values: &mut Vec<Known>,
+    ) -> Begun
+        ensures { IsBegun J.limit worker self.old result self.new }
+    {
+        if lists.is_empty() {
+            Begun::Over(self.take_turn(worker))
+        } else {
+            self.look(worker, lists, values)
+        }
+    }
+
+    #[inline(never)]
+    fn look(&mut self, worker: u8, lists: &[Option<Listed>], values: &mut Vec<Known>) -> Begun
+        ensures { IsBegun J.limit worker self.old result self.new }
+    {
+        if self.is_over() {
+            return Begun::Over(Turn::Stop);
+        }
+        match self.locked.machine().note(worker, lists, values) {
+            Ok(Some(n)) => Begun::Seen(n),
+            Ok(None) => Begun::Over(self.take_turn(worker)),
+            Err(_) => Begun::Over(self.stay(Refusal::Memory)),
+        }
+    }
+
+    /// The rest of such a turn, with the value of the expression of action n over what was taken down: the step by it, and a turn as any where one
+    /// sees something else by now.
+    pub fn end_turn(
+        &mut self,
+        worker: u8,
+        n: u32,
+        listed: &Listed,
+        values: &[Known],
+        value: Result<i32, Trap>,
+    ) -> Turn
+        requires code { code_at J.program n ≡ Some listed.now }
+        requires value { value ≡ value_of (known values.now) listed.now }
+        ensures turn { IsTurn J.limit worker self.old result self.new }
+        ensures broken { is_broken self.old ≡ true → result ≡ Turn.Stop }
+        ensures limit { J.limit ≤ length self.old.history → result ≡ Turn.Stop }
+    {
+        if self.is_over() {
+            return Turn::Stop;
+        }
+        match self.settle(worker, n, listed, values, value) {
+            Ok(()) => Turn::Made,
+            Err(Refusal::Memory) => self.stay(Refusal::Memory),
+            Err(_) => self.take_turn(worker),
+        }
+    }
+
+    // Whether all are to end, the program has ended, or the limit is reached.
+    #[inline(always)]
+    fn is_over(&self) -> bool
+        ensures over { result ≡ true → IsOver J.limit self.now }
+        ensures broken { is_broken self.now ≡ true → result ≡ true }
+        ensures limit { J.limit ≤ length self.now.history → result ≡ true }
+    {
+        self.is_stopped || self.is_short || self.is_spent()
     }
 
     // Whether the program has ended, or the limit is reached.
@@ -186,8 +258,42 @@ impl<J: Setting> Table<J> {
             return Err(Refusal::NoWorker);
         }
         self.locked.advance(Choice { worker, act })?;
-        self.turns[usize::from(worker) - 1] += 1;
+        count(&mut self.turns, worker);
         Ok(())
+    }
+
+    // Makes the choice of a step by what was taken down of it, and counts it.
+    fn settle(
+        &mut self,
+        worker: u8,
+        n: u32,
+        listed: &Listed,
+        values: &[Known],
+        value: Result<i32, Trap>,
+    ) -> Result<(), Refusal>
+        requires room { length self.old.history < J.limit }
+        requires code { code_at J.program n ≡ Some listed.now }
+        requires value { value ≡ value_of (known values.now) listed.now }
+        ensures history { OnOk result (self.new.history ≡ self.old.history ++ record { worker = worker; act = Act.Step } ∷ []) }
+        ensures flags { (self.new.short ≡ self.old.short) × (self.new.stopped ≡ self.old.stopped) }
+        ensures unchanged { OnErr result (self.new ≡ self.old) }
+    {
+        if worker == 0 || worker > self.workers {
+            return Err(Refusal::NoWorker);
+        }
+        self.locked.settle_noted(worker, n, listed, values, value)?;
+        count(&mut self.turns, worker);
+        Ok(())
+    }
+
+    /// What the workers may evaluate while they do not have it.
+    pub fn ahead(&self, alloc: Global) -> Result<Ahead<J>, RunFault>
+        ensures { IfErr result (λ e. e ≡ RunFault.Memory) }
+    {
+        match Ahead::new(alloc, self.locked.machine().loaded()) {
+            Err(_) => Err(RunFault::Memory),
+            Ok(ahead) => Ok(ahead),
+        }
     }
 
     /// From now on no turn makes a choice.
@@ -243,13 +349,13 @@ impl<J: Setting> Table<J> {
     }
 }
 
-impl<J: Setting> Post for Table<J> {
-    #[inline(always)]
-    fn turn(&mut self, worker: u8) -> Turn {
-        self.take_turn(worker)
-    }
-
-    fn stop(&mut self) {
-        self.end_all();
-    }
+// Counts a choice of a worker.
+#[inline(always)]
+fn count(turns: &mut Vec<u64>, worker: u8)
+    requires worker { 0 < worker }
+    requires there { worker - 1 < length turns.old.items }
+    requires room { slice_index turns.old.items (worker - 1) < 2 ^ 64 - 1 }
+    ensures { turns.new.items ≡ slice_set turns.old.items (worker - 1) (slice_index turns.old.items (worker - 1) + 1) }
+{
+    turns[usize::from(worker) - 1] += 1;
 }

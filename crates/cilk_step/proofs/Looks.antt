@@ -202,3 +202,6 @@ module _ (g : Sight) (look : Look) (seen : look_in g ≡ Some look) (r : Result 
       ap (λ (k : ℕ). by_effect g k node (effect_by (cells_in g) node.action r)) at
       ∙ ap (λ (x : Node). by_effect g (head_number g) x (effect_by (cells_in g) x.action r)) (sym same)
       ∙ sym (value-plan g s.code s.code_is r value_is)
+
+  pub seen-number : look.n ≡ head_number g
+  seen-number = sym (ap (λ (l : Look). l.n) s.same)

@@ -1,14 +1,15 @@
 -- What a step evaluates that may be evaluated before it is taken, by one who holds no lock meanwhile.
-use Rattle.std.specs.Prelude.{ℕ, ℤ, Bool, not, ◌&&◌, if◌then◌else◌, List, Option, Some, None, is_some, option_map, slice_get, Result, Ok}
+use Rattle.std.specs.Prelude.{ℕ, ℤ, Bool, not, ◌&&◌, if◌then◌else◌, List, Option, Some, None, is_some, option_and_then, option_map, slice_get, ◌≡◌, Result, Ok}
 use Rattle.cilk_load.specs.values.declared.trap.Trap.{Trap}
 use Rattle.cilk_load.specs.values.Arithmetic.{is_zero}
 use Rattle.cilk_load.specs.values.Term.{Term}
-use Rattle.cilk_load.specs.values.Value.{◌>>=◌}
+use Rattle.cilk_load.specs.values.Value.{◌>>=◌, value_of}
 use Rattle.cilk_eval.specs.declared.slot.Slot.{Slot}
 use Rattle.cilk_eval.specs.declared.known.Known.{Known}
-use Rattle.cilk_eval.specs.Known.{is_plain, known_of}
+use Rattle.cilk_eval.specs.Known.{is_plain, known, known_of}
 use Rattle.cilk_plans.specs.eval.Slots.{Cells, slot_cell}
 use Rattle.cilk_plans.specs.model.Path.{Path}
+use Rattle.cilk_plans.specs.agree.syntax.Tree.{Program}
 use Rattle.cilk_plans.specs.model.Values.{combined}
 use Rattle.cilk_plans.specs.nodes.declared.action.Action.{Action}
 use Rattle.cilk_plans.specs.nodes.declared.action.Action.TheVariants.{Assign, Call, Spawn, Print, Locking, Null, Break, Continue, Test, Sync, Abort, Return, ReturnNothing, Close}
@@ -80,3 +81,18 @@ abbrev pub effect_by : Cells → Action → Result ℤ Trap → Result Effect Tr
 effect_by cells (Assign target code) r =
     r >>= λ z. combined target.op (slot_cell cells target.place.slot 0) z >>= λ y. Ok (Writes (record { slot = target.place.slot; index = 0 }) y)
 effect_by cells act r = r >>= λ z. Ok (Answers (not (is_zero z)))
+
+-- the expression that an action evaluates, if it is such a one
+abbrev pub code_at : Program → ℕ → Option (Term Slot)
+code_at p n = option_and_then (λ (node : Node). code_of node.action) (node_of p n)
+
+-- what one sees of the instance where that stands before action n
+abbrev pub noted : Sight → ℕ → Term Slot → List Known → Look
+noted g n code values = record { path = path_at g.nodes (id_of g); n = n; code = code; values = values }
+
+-- one sees an action of this number, whose expression has this value over what the variables hold
+pub record IsSeenAs (g : Sight) (n : ℕ) (value : Result ℤ Trap) : Type 0 where
+  pub look : Look
+  pub seen : look_in g ≡ Some look
+  pub number : look.n ≡ n
+  pub value_is : value ≡ value_of (known look.values) look.code

@@ -12,12 +12,14 @@ mod plan;
 mod scene;
 mod waiting;
 
-pub use cilk_eval::{Code, Known};
+pub use cilk_eval::{Code, Known, Listed};
 pub use cilk_load::{LoadFault, Loaded, Memory, Trap, load};
 pub use cilk_plans::{Kind, Light, Plan};
 pub use laws::scenes_fit;
 pub use light::plan_lightly;
-pub use look::{is_seen, look_ahead, plan_by_value};
+pub use look::{
+    code_numbered, is_seen, is_still_seen, look_ahead, number_ahead, plan_by_value, take_down,
+};
 pub use peek::Peek;
 pub use plan::plan_step;
 pub use scene::Scene;

@@ -1,20 +1,19 @@
 //! What a step evaluates, taken from it beforehand, and its value given back.
 
-ghost use Rattle.std.specs.Prelude.{◌≡◌, ◌<◌, length, option_map, false, Some, Ok, Decides, IfOk, IfErr, IfSome};
+ghost use Rattle.std.specs.Prelude.{◌≡◌, ◌<◌, length, option_map, false, Some, Ok, Decides, IfOk, IfErr, IfSome, OnOk};
 ghost use Rattle.cilk_eval.specs.Slots.{sizes_of, SlotsLieWithin};
-ghost use Rattle.cilk_eval.specs.Known.{known};
-ghost use Rattle.cilk_load.specs.values.Value.{value_of};
+ghost use Rattle.cilk_eval.specs.Known.{known_of};
 ghost use Rattle.cilk_plans.specs.Sights.{id_of, head_number, cells_in};
 ghost use Rattle.cilk_plans.specs.Made.{by_effect, planned};
 ghost use Rattle.cilk_plans.specs.Words.{plan_of};
 ghost use Rattle.cilk_step.specs.Scenes.{sight_of, HeadFits, is_wait};
-ghost use Rattle.cilk_step.specs.Looks.{code_of, plain, is_element, is_delayed, code_in, look_in, look_of, effect_by};
+ghost use Rattle.cilk_step.specs.Looks.{code_of, plain, is_element, is_delayed, code_in, look_in, look_of, effect_by, code_at, noted, IsSeenAs};
 
 use crate::act::{at_boundary, next_of};
 use crate::peek::Peek;
 use crate::scene::Scene;
-use cilk_eval::{Code, is_known_of, known_of};
-use cilk_load::{Action, Memory, Node, Place, Trap};
+use cilk_eval::{Code, Known, Listed, is_known_of, known_of};
+use cilk_load::{Action, Loaded, Memory, Node, Place, Trap};
 use cilk_plans::{Kind, Light, Plan, Reached, combined, held};
 use std::alloc::Global;
 
@@ -41,6 +40,61 @@ pub fn look_ahead(alloc: Global, scene: &Scene) -> Result<Option<Peek>, Memory>
     }
 }
 
+/// The number of the action of which one sees something who looks ahead.
+pub fn number_ahead(scene: &Scene) -> Option<u32>
+    requires there { id_of (sight_of scene.now) < length (sight_of scene.now).nodes }
+    requires fits { HeadFits (sight_of scene.now) }
+    ensures { result ≡ option_map (λ look. look.n) (look_in (sight_of scene.now)) }
+{
+    match code_ahead(scene) {
+        None => None,
+        Some(_) => Some(head_number(scene)),
+    }
+}
+
+/// The expression that an action evaluates, where it is one of which one may see something.
+pub fn code_numbered(loaded: &Loaded, n: u32) -> Option<&Code>
+    ensures { option_map (λ code. code.now) result ≡ code_at loaded.now n }
+{
+    let node = loaded.statement(n)?;
+    code_of(&node.action)
+}
+
+/// Takes what the variables of an expression hold for the instance.
+pub fn take_down(scene: &Scene, listed: &Listed, values: &mut Vec<Known>) -> Result<(), Memory>
+    requires { id_of (sight_of scene.now) < length (sight_of scene.now).nodes }
+    ensures { OnOk result (values.new.items ≡ known_of (cells_in (sight_of scene.now)) listed.now) }
+{
+    listed.hold(&scene.lent(), values)
+}
+
+/// Whether one sees this who looks now: that the action has this number and evaluates this expression, of whose variables this is known.
+pub fn is_still_seen(scene: &Scene, n: u32, listed: &Listed, values: &[Known]) -> bool
+    requires there { id_of (sight_of scene.now) < length (sight_of scene.now).nodes }
+    requires fits { HeadFits (sight_of scene.now) }
+    requires code { code_at (sight_of scene.now).program n ≡ Some listed.now }
+    ensures { Decides result (look_in (sight_of scene.now) ≡ Some (noted (sight_of scene.now) n listed.now values.now)) }
+{
+    match number_ahead(scene) {
+        None => false,
+        Some(number) => number == n && listed.still_holds(&scene.lent(), values),
+    }
+}
+
+/// The plan of the step of which one sees that, whose expression has this value: a light one, or else another.
+pub fn plan_by_value(scene: &Scene, n: u32, value: Result<i32, Trap>) -> Result<Light, Plan>
+    requires there { id_of (sight_of scene.now) < length (sight_of scene.now).nodes }
+    requires seen { IsSeenAs (sight_of scene.now) n value }
+    ensures light { IfOk result (λ light. plan_of light ≡ planned (sight_of scene.now)) }
+    ensures other { IfErr result (λ plan. plan ≡ planned (sight_of scene.now)) }
+    ensures goes { IfErr result (λ plan. is_wait plan ≡ false) }
+{
+    match scene.loaded.statement(n) {
+        None => unreachable!(),
+        Some(node) => by_value(scene, n, node, value),
+    }
+}
+
 /// Whether one sees the same who looks now.
 pub fn is_seen(scene: &Scene, peek: &Peek) -> bool
     requires there { id_of (sight_of scene.now) < length (sight_of scene.now).nodes }
@@ -58,23 +112,7 @@ pub fn is_seen(scene: &Scene, peek: &Peek) -> bool
     }
 }
 
-/// The plan of the step, whose expression has this value: a light one, or else another.
-pub fn plan_by_value(scene: &Scene, peek: &Peek, value: Result<i32, Trap>) -> Result<Light, Plan>
-    requires there { id_of (sight_of scene.now) < length (sight_of scene.now).nodes }
-    requires seen { look_in (sight_of scene.now) ≡ Some (look_of peek.now) }
-    requires value { value ≡ value_of (known peek.now.values.items) peek.now.code }
-    ensures light { IfOk result (λ light. plan_of light ≡ planned (sight_of scene.now)) }
-    ensures other { IfErr result (λ plan. plan ≡ planned (sight_of scene.now)) }
-    ensures goes { IfErr result (λ plan. is_wait plan ≡ false) }
-{
-    let n = head_number(scene);
-    match scene.loaded.statement(n) {
-        None => unreachable!(),
-        Some(node) => by_value(scene, n, node, value),
-    }
-}
-
-// The same, of the action that is acted.
+// The plan by the value of the expression that the action evaluates.
 #[tactic(auto, using(crate::proofs::Looks::no_effect))]
 fn by_value(scene: &Scene, n: u32, node: &Node, value: Result<i32, Trap>) -> Result<Light, Plan>
     requires { id_of (sight_of scene.now) < length (sight_of scene.now).nodes }

@@ -1,3 +1,5 @@
+//! An expression that the next step evaluates, with all that its value needs apart from the machine.
+
 ghost use Rattle.std.specs.Prelude.{◌≡◌};
 ghost use Rattle.cilk_eval.specs.Known.{known};
 ghost use Rattle.cilk_load.specs.values.Value.{value_of};

@@ -1,3 +1,5 @@
+//! What a step may look at, and not change, while its plan is made.
+
 ghost use Rattle.std.specs.Prelude.{◌≡◌, ◌<◌, length};
 ghost use Rattle.cilk_plans.specs.eval.Slots as slots;
 ghost use Rattle.cilk_plans.specs.frame.Frames.{depth};

@@ -1,23 +1,26 @@
 //! What a worker's step evaluates, seen beforehand, and the step taken by its value.
 
-ghost use Rattle.std.specs.Prelude.{◌≡◌, ◌≢◌, ◌<◌, ◌-◌, ◌^◌, ◌⊎◌, Decides, true, Some, None, option_map, OnErr, OnOk, IfOk, IfErr, IfSome, IfNone};
+ghost use Rattle.std.specs.Prelude.{◌≡◌, ◌≢◌, ◌<◌, ◌-◌, ◌^◌, ◌⊎◌, Decides, true, Some, None, option_map, OnErr, OnOk, IfOk, IfErr, IfSome, IfNone, IsSome, slice_get};
 ghost use Rattle.cilk_choices.specs.model.Choice as choices;
 ghost use Rattle.cilk_choices.specs.model.Places.{IsWorker};
 ghost use Rattle.cilk_choices.specs.Words.{reason_of, event_of};
 ghost use Rattle.cilk_step.specs.eval.Known.{known};
 ghost use Rattle.cilk_step.specs.values.Value.{value_of};
-ghost use Rattle.cilk_step.specs.Looks.{look_of};
+ghost use Rattle.cilk_step.specs.Looks.{code_at, look_of};
 ghost use Rattle.cilk_machine.specs.Situation.{workers_of};
 ghost use Rattle.cilk_machine.specs.Refused.{runs, is_worker_of, is_full, refused_by, planned_in};
 ghost use Rattle.cilk_machine.specs.Made.{Makes, MakesBy, IsRefused};
-ghost use Rattle.cilk_machine.specs.Looking.{look_refused, look_at, IsUnseen, IsUnsettled, IsStale, plan_by};
+ghost use Rattle.cilk_machine.specs.Looking.{look_refused, look_at, IsUnseen, IsUnsettled, IsStale, IsNoted, IsSeenAt, noted_at, number_ahead, plan_by};
 ghost use Rattle.cilk_carries.specs.plans.Words.{plan_of};
 
 use super::Machine;
 use crate::refusing::is_worker;
 use cilk_carries::Did;
-use cilk_choices::{Act, Event, Outcome, Refusal};
-use cilk_step::{Light, Peek, Plan, Trap, is_seen, look_ahead, plan_by_value};
+use cilk_choices::{Act, Event, Memory, Outcome, Refusal};
+use cilk_step::{
+    Known, Light, Listed, Peek, Plan, Trap, is_seen, is_still_seen, look_ahead, number_ahead,
+    plan_by_value, take_down,
+};
 
 impl Machine {
     /// What the next step of a worker evaluates, where it assigns to a variable that is no element, or tests, and neither an element nor
@@ -71,9 +74,135 @@ impl Machine {
         if !self.still_sees(worker, peek) {
             return Err(Refusal::Stale);
         }
-        match self.plan_seen(worker, peek, value) {
+        match self.plan_seen(worker, peek.n, value) {
             Ok(light) => self.settle_lightly(worker, &light),
             Err(plan) => self.settle_by_plan(worker, plan),
+        }
+    }
+
+    /// Takes down what the worker sees of its step, if the expression of the action is among these, by number from 1 on: what the variables hold.
+    /// It tells the number. None where it sees nothing, or where there is no such expression.
+    pub fn note(
+        &self,
+        worker: u8,
+        lists: &[Option<Listed>],
+        values: &mut Vec<Known>,
+    ) -> Result<Option<u32>, Memory>
+        ensures { IfOk result (λ o. IfSome o (λ n. IsNoted self.now worker n lists.now values.new.items)) }
+    {
+        match self.number_ahead(worker) {
+            None => Ok(None),
+            Some(n) => match listed_at(lists, n) {
+                None => Ok(None),
+                Some(listed) => {
+                    self.take_down(worker, listed, values)?;
+                    Ok(Some(n))
+                }
+            },
+        }
+    }
+
+    /// Makes the choice of the worker's step by the number of its action and what was taken down, with the value of the expression over that. Where
+    /// one sees something else by now, it is refused as stale. A refusal changes nothing.
+    pub fn settle_noted(
+        &mut self,
+        worker: u8,
+        n: u32,
+        listed: &Listed,
+        values: &[Known],
+        value: Result<i32, Trap>,
+    ) -> Result<Did, Refusal>
+        requires room { self.old.choices < 2 ^ 64 - 1 }
+        requires code { code_at self.old.program n ≡ Some listed.now }
+        requires value { value ≡ value_of (known values.now) listed.now }
+        ensures free { OnOk result (look_refused self.old worker ≡ None) }
+        ensures seen { OnOk result (look_at self.old worker ≡ Some (noted_at self.old worker n listed.now values.now)) }
+        ensures made { IfOk result (λ did. MakesBy self.old self.new (record { worker = worker; act = choices.step }) did) }
+        ensures refused { IfErr result (IsUnsettled self.old worker (noted_at self.old worker n listed.now values.now)) }
+        ensures unchanged { OnErr result (self.new ≡ self.old) }
+    {
+        if let Some(refusal) = self.noted_refusal(worker, n, listed, values) {
+            return Err(refusal);
+        }
+        match self.plan_seen(worker, n, value) {
+            Ok(light) => Ok(self.step_lightly(worker, light)),
+            Err(plan) => match self.step(worker, plan) {
+                Err(_) => Err(Refusal::Memory),
+                Ok(did) => Ok(did),
+            },
+        }
+    }
+
+    /// Why the worker's step is not taken by what was taken down: the first reason that applies, want of memory left out. None where one still sees
+    /// the same.
+    pub fn noted_refusal(
+        &self,
+        worker: u8,
+        n: u32,
+        listed: &Listed,
+        values: &[Known],
+    ) -> Option<Refusal>
+        requires { code_at self.now.program n ≡ Some listed.now }
+        ensures free { IfNone result (look_refused self.now worker ≡ None) }
+        ensures seen { IfNone result (look_at self.now worker ≡ Some (noted_at self.now worker n listed.now values.now)) }
+        ensures refused { IfSome result (λ r. (look_refused self.now worker ≡ Some r)
+            ⊎ IsStale self.now worker (noted_at self.now worker n listed.now values.now) r) }
+    {
+        match self.look_refusal(worker) {
+            Some(refusal) => Some(refusal),
+            None => {
+                if self.still_noted(worker, n, listed, values) {
+                    None
+                } else {
+                    Some(Refusal::Stale)
+                }
+            }
+        }
+    }
+
+    // The number of the action of which the worker sees something.
+    fn number_ahead(&self, worker: u8) -> Option<u32>
+        ensures { result ≡ number_ahead self.now worker }
+    {
+        match self.look_refusal(worker) {
+            Some(_) => None,
+            None => self.number_in_hand(worker),
+        }
+    }
+
+    // The same of a worker that has a frame in its hand.
+    fn number_in_hand(&self, worker: u8) -> Option<u32>
+        requires worker { IsWorker self.now.machine.places worker }
+        requires full { is_full self.now.machine.places worker ≡ true }
+        ensures { result ≡ option_map (λ look. look.n) (look_at self.now worker) }
+    {
+        match self.parts.hands.hand(worker) {
+            None => unreachable!(),
+            Some(frame) => number_ahead(&self.scene(frame)),
+        }
+    }
+
+    // Takes what the variables of an expression hold for a worker that sees something of its step.
+    fn take_down(&self, worker: u8, listed: &Listed, values: &mut Vec<Known>) -> Result<(), Memory>
+        requires { IsSome (number_ahead self.now worker) }
+        ensures { OnOk result (IfSome (look_at self.now worker) (λ look. listed.now ≡ look.code → values.new.items ≡ look.values)) }
+    {
+        match self.parts.hands.hand(worker) {
+            None => unreachable!(),
+            Some(frame) => take_down(&self.scene(frame), listed, values),
+        }
+    }
+
+    // Whether the worker, which has a frame in its hand, sees now what was taken down.
+    fn still_noted(&self, worker: u8, n: u32, listed: &Listed, values: &[Known]) -> bool
+        requires worker { IsWorker self.now.machine.places worker }
+        requires full { is_full self.now.machine.places worker ≡ true }
+        requires code { code_at self.now.program n ≡ Some listed.now }
+        ensures { Decides result (look_at self.now worker ≡ Some (noted_at self.now worker n listed.now values.now)) }
+    {
+        match self.parts.hands.hand(worker) {
+            None => unreachable!(),
+            Some(frame) => is_still_seen(&self.scene(frame), n, listed, values),
         }
     }
 
@@ -109,19 +238,18 @@ impl Machine {
     }
 
     // The plan of the worker's step, of which one sees the same.
-    fn plan_seen(&self, worker: u8, peek: &Peek, value: Result<i32, Trap>) -> Result<Light, Plan>
-        requires value { value ≡ value_of (known peek.now.values.items) peek.now.code }
+    fn plan_seen(&self, worker: u8, n: u32, value: Result<i32, Trap>) -> Result<Light, Plan>
         requires worker { IsWorker self.now.machine.places worker }
         requires crew { is_worker_of (workers_of self.now) worker ≡ true }
         requires runs { runs self.now.outcome ≡ true }
         requires full { is_full self.now.machine.places worker ≡ true }
-        requires seen { look_at self.now worker ≡ Some (look_of peek.now) }
+        requires seen { IsSeenAt self.now worker n value }
         ensures free { refused_by self.now (record { worker = worker; act = Act.Step }) ≡ None }
         ensures planned { plan_by result ≡ planned_in self.now worker }
     {
         match self.parts.hands.hand(worker) {
             None => unreachable!(),
-            Some(frame) => plan_by_value(&self.scene(frame), peek, value),
+            Some(frame) => plan_by_value(&self.scene(frame), n, value),
         }
     }
 
@@ -179,6 +307,16 @@ impl Machine {
             None => Some(Refusal::HandEmpty),
             Some(_) => None,
         }
+    }
+}
+
+// The expression of action n, counted from 1, if there is one.
+fn listed_at(lists: &[Option<Listed>], n: u32) -> Option<&Listed>
+    ensures { IfSome result (λ listed. slice_get lists.now (n - 1) ≡ Some (Some listed.now)) }
+{
+    match lists.get(n.checked_sub(1)? as usize) {
+        Some(Some(listed)) => Some(listed),
+        _ => None,
     }
 }
 

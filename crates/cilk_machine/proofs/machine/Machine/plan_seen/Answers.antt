@@ -12,9 +12,15 @@ use Rattle.cilk_machine.proofs.machine.Machine.plan_seen.Goals as goal
 
 pub plan_by_value-requires-clause-seen : goal.plan_by_value-requires-clause-seen
 plan_by_value-requires-clause-seen c =
-    ap look_in c.scene.ensures
-    ∙ ap (option_and_then (look_by c.args.self.now)) (c.in-Some.ensures ∙ ap (λ (x : Situation). hand_of x.machine.places c.args.worker) c.self.view_is)
-    ∙ c.requires.seen
+    let s = c.requires.seen in record {
+      look = s.look;
+      seen =
+          ap look_in c.scene.ensures
+          ∙ ap (option_and_then (look_by c.args.self.now)) (c.in-Some.ensures ∙ ap (λ (x : Situation). hand_of x.machine.places c.args.worker) c.self.view_is)
+          ∙ s.seen;
+      number = s.number;
+      value_is = s.value_is;
+    }
 
 pub returns-clause-free : goal.returns-clause-free
 returns-clause-free c =

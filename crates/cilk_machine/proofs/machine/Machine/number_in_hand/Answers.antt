@@ -1,0 +1,12 @@
+use Rattle.std.proofs.Common.{ap, ◌∙◌, subst}
+use Rattle.cilk_choices.specs.model.Places.{hand_of}
+use Rattle.cilk_step.specs.Scenes.{sight_of}
+use Rattle.cilk_machine.specs.Situation.{Situation}
+use Rattle.cilk_machine.specs.Stands.{IsSound}
+use Rattle.cilk_machine.proofs.Steps.{fits-here}
+use Rattle.cilk_machine.proofs.machine.Machine.number_in_hand.Goals as goal
+
+pub number_ahead-requires-clause-fits : goal.number_ahead-requires-clause-fits
+number_ahead-requires-clause-fits c =
+    fits-here c.args.self.now (subst IsSound c.self.view_is c.self.invariant.0) c.args.worker c.requires.worker c.in-Some.frame.now
+    (c.in-Some.ensures ∙ ap (λ (x : Situation). hand_of x.machine.places c.args.worker) c.self.view_is) (sight_of c.scene.result) c.scene.ensures

@@ -1,0 +1,11 @@
+use Rattle.std.proofs.Common.{ap, ◌∙◌}
+use Rattle.cilk_choices.specs.model.Places.{hand_of}
+use Rattle.cilk_step.specs.Scenes.{sight_of}
+use Rattle.cilk_machine.specs.Situation.{Situation}
+use Rattle.cilk_machine.proofs.Looking.{taken-down}
+use Rattle.cilk_machine.proofs.machine.Machine.take_down.Goals as goal
+
+pub returns : goal.returns
+returns c =
+    taken-down c.take_down.result c.args.self.now c.in-Some.frame.now (sight_of c.scene.result) _ c.args.listed.now _ c.scene.ensures
+    (c.in-Some.ensures ∙ ap (λ (x : Situation). hand_of x.machine.places c.args.worker) c.self.view_is) c.take_down.ensures
