@@ -1,3 +1,5 @@
+//! The files and the standard input of the system, as the places where the program finds its texts and keeps a log.
+
 ghost use Rattle.std.specs.Prelude.{None, is_some};
 ghost use Rattle.cilk.specs.Source.{IsSource};
 

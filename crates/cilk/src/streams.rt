@@ -1,3 +1,5 @@
+//! What is opened where a standard stream is closed, before another file may take its number.
+
 use std::fs::File;
 use std::os::fd::AsRawFd;
 

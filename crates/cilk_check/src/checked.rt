@@ -1,3 +1,5 @@
+//! The check of a program, and the tree of one that passed it.
+
 ghost use Rattle.std.specs.Prelude.{◌≡◌, ◌⊎◌, IsOk, IfOk, IfErr};
 ghost use Rattle.cilk_rules_of_forms.specs.scopes.declared.fault.CheckFault.TheVariants.{Memory};
 ghost use Rattle.cilk_check.specs.Fault.{WellFormed, IsFirstFault};

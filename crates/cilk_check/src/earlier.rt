@@ -1,3 +1,5 @@
+//! Which fault is told where both the names and the forms of a program have one.
+
 ghost use Rattle.std.specs.Prelude.{◌≡◌};
 ghost use Rattle.cilk_check.specs.Earlier as spec;
 

@@ -1,3 +1,5 @@
+//! What the worker of a choice does: a step, a pop or a steal.
+
 /// What a worker does.
 #[derive(Clone, Copy, Debug, PartialEq, Eq)]
 pub enum Act {

@@ -1,3 +1,5 @@
+//! One choice of a schedule: a worker, and what it does.
+
 use crate::act::Act;
 
 /// What happens next, where several workers could go on.

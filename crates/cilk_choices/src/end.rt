@@ -1,3 +1,5 @@
+//! How a run may close: with the value of `main`, with a trap, stuck, or with more choices possible.
+
 use cilk_spawn::{Kind, Path};
 
 /// How a program stands when no more choices are made.

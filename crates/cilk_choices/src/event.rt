@@ -1,3 +1,5 @@
+//! The events by which a machine tells what a choice did, with paths and the numbers of actions.
+
 use cilk_spawn::{Kind, Path};
 
 /// What a choice did. The number n is that of an action of the program.

@@ -1,3 +1,5 @@
+//! What keeps a program from being opened as a machine: the number of its workers, or want of memory.
+
 use cilk_spawn::Memory;
 use thiserror::Error;
 

@@ -1,3 +1,5 @@
+//! The outcome that a machine has behind each choice: running, finished with a value, or trapped.
+
 use cilk_spawn::{Kind, Path};
 
 /// Whether a program has ended, and how.

@@ -1,3 +1,5 @@
+//! The reasons for which a choice is refused, in the order in which they are looked for, and that a proposal is stale.
+
 use thiserror::Error;
 
 /// Why a choice was not made: the first reason that applies, and want of memory last. `Stale` is none of a choice, but of what was seen beforehand.

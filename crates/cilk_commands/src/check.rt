@@ -1,3 +1,5 @@
+//! The subcommand `check`: how many actions a program has, or why it may not be run.
+
 ghost use Rattle.std.specs.Prelude.{◌≡◌, ◌≢◌, true, false, IfErr, OnOk};
 ghost use Rattle.cilk_commands.specs.Front.{Gains, GainsFront};
 ghost use Rattle.cilk_commands.specs.Loading.{Unready};

@@ -1,3 +1,5 @@
+//! The failures that every subcommand may have, with the line that is written of each and its status.
+
 ghost use Rattle.std.specs.Prelude.{◌≡◌, ◌++◌, [], OnErr, OnOk};
 ghost use Rattle.std.specs.Io.KnownBytes.{Appends};
 ghost use Rattle.cilk_commands.specs.Front.{AppendsFront};

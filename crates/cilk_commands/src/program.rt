@@ -1,3 +1,5 @@
+//! From the bytes of a text to a checked program, or to the first of what is wrong, with its line and column.
+
 ghost use Rattle.std.specs.Prelude.{◌≡◌, ◌≤◌, ◌<◌, ◌↔◌, length, IfOk, IfErr, IsErrOf, IsUtf8, MatchResult};
 ghost use Rattle.cilk_check.specs.lexeme.Place.{line_of, column_of};
 ghost use Rattle.cilk_check.specs.syntax.Tree as tree;

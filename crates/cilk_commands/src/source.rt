@@ -1,3 +1,5 @@
+//! The bytes of a reader, up to the limit of a text or to their end.
+
 ghost use Rattle.std.specs.Prelude.{◌≢◌, ◌≡◌, ◌⊎◌, IfOk, IfErr};
 ghost use Rattle.cilk_commands.specs.Held.{IsReadOf, IsAllOf};
 ghost use Rattle.cilk_commands.specs.Status.{status_of};

@@ -1,3 +1,5 @@
+//! The statuses with which the program exits, and the number of each.
+
 ghost use Rattle.std.specs.Prelude.{◌≡◌};
 
 /// How a subcommand ended, as the status with which the program exits.

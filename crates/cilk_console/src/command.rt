@@ -1,3 +1,5 @@
+//! The commands that a line of a session may be, an empty or an unknown one among them.
+
 use cilk_view::What;
 
 /// What a line of a session asks of a debugger.

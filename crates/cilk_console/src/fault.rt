@@ -1,3 +1,5 @@
+//! What may go wrong with the input of a session, with its next line, and with what is written.
+
 use thiserror::Error;
 
 /// Why an input is not read to its end.

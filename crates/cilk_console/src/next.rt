@@ -1,3 +1,5 @@
+//! What the next line of an input is: a command, the last command, or no line at all.
+
 use crate::command::Command;
 
 /// What stands next in an input.

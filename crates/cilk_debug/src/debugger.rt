@@ -1,3 +1,5 @@
+//! A recorded schedule with a position in it: moves to other positions, breakpoints, and views from there.
+
 ghost use Rattle.std.specs.Prelude.{◌≡◌, ◌≤◌, ◌<◌, ◌+◌, ℕ, ◌-◌, IfOk, IfErr, OnOk, OnErr, IfSome, length, replicate, slice_set, true, false, Err, ◌++◌, string_bytes, List};
 ghost use Rattle.cilk_machine.specs.labelled.Count.{count_program};
 ghost use Rattle.cilk_machine.specs.model.Run.{is_crew};

@@ -1,3 +1,5 @@
+//! What breaks off a session of a debugger: its input, its writer, or want of memory.
+
 use cilk_console::ReadFault;
 use thiserror::Error;
 

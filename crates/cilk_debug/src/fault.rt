@@ -1,3 +1,5 @@
+//! Why there is no debugger of a recorded schedule, or why one makes no move or sets no breakpoint.
+
 use cilk_machine::Refusal;
 use thiserror::Error;
 

@@ -1,3 +1,5 @@
+//! The first choices of a schedule, made again from the start of a program.
+
 ghost use Rattle.std.specs.Prelude.{List, ◌≡◌, ◌≤◌, ◌<◌, ◌-◌, ◌^◌, ℕ, suc, false, IfOk, IfErr, OnOk, OnErr, length, Some, Err, slice_get, map, option_copied};
 ghost use Rattle.cilk_machine.specs.model.Choice as model;
 ghost use Rattle.cilk_machine.specs.model.Run.{is_crew};

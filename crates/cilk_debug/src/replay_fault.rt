@@ -1,3 +1,5 @@
+//! What is wrong with a schedule that cannot be replayed: its workers or its first bad choice; or want of memory.
+
 use cilk_machine::Refusal;
 use thiserror::Error;
 

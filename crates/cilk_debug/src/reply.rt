@@ -1,3 +1,5 @@
+//! The answers of a session, and the bytes that are written for each.
+
 ghost use Rattle.std.specs.Prelude.{◌≡◌};
 ghost use Rattle.cilk_debug.specs.Replies.{reply_text};
 

@@ -1,3 +1,5 @@
+//! The bytes that one `printf` adds to the output.
+
 ghost use Rattle.std.specs.Prelude.{◌≡◌};
 
 use std::marker::Model;

@@ -1,3 +1,5 @@
+//! The effects that actions may have, each with the values that it needs.
+
 use crate::bytes::Bytes;
 use crate::reached::Reached;
 use cilk_sound::{Await, LockAction};

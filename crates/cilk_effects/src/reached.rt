@@ -1,3 +1,5 @@
+//! Which cell a place comes to, once its subscript has a value.
+
 use cilk_sound::Slot;
 
 /// A cell that was reached: an element of an array, or the one cell of a variable.

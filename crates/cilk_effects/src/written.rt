@@ -1,3 +1,5 @@
+//! What an assignment comes to: a cell, and the value that it takes.
+
 use crate::reached::Reached;
 
 /// What an assignment writes.

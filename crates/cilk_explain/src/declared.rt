@@ -1,3 +1,5 @@
+//! What is said of a declaration: what kind of thing it declares, and how many parameters that has.
+
 use cilk_scopes::Kind;
 
 /// A declaration of a name, and its place.

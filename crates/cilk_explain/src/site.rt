@@ -1,3 +1,5 @@
+//! A place of a program with the text at hand: the word that stands there, and what it means.
+
 use crate::declared::Declared;
 use crate::search::meaning;
 use crate::source::Source;

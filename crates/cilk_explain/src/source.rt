@@ -1,3 +1,5 @@
+//! A text with its tokens at hand: words, lines and scopes by their places.
+
 ghost use Rattle.std.specs.Prelude.{◌≤◌, length};
 
 use cilk_lex::{Kind, Mark, Token, line_col};

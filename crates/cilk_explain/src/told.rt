@@ -1,3 +1,5 @@
+//! The faults that can be told to people, each with what its telling needs.
+
 use cilk_lex::LexFault;
 use cilk_scopes::{CheckFault, Program};
 

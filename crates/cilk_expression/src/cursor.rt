@@ -1,3 +1,5 @@
+//! The cursor with which each rule of the grammar takes tokens from the front of those that are left.
+
 ghost use Rattle.std.specs.Prelude.{◌≡◌, ◌+◌, ◌-◌, ◌<◌, ◌^◌, All, length, OnOk};
 ghost use Rattle.cilk_syntax.specs.lexeme.Lexeme.{pieces_of};
 ghost use Rattle.cilk_rules.specs.Gives.{Gives};

@@ -1,3 +1,5 @@
+//! The names that the grammar tells apart from others, such as `main` and `printf`.
+
 ghost use Rattle.std.specs.Prelude.{◌≡◌, Some};
 ghost use Rattle.cilk_expression.specs.Classes.{name_class};
 ghost use Rattle.cilk_expression.specs.Names.{named_class};

@@ -1,3 +1,5 @@
+//! Which marks are operators, how tightly they bind, and with which tokens expressions begin.
+
 ghost use Rattle.std.specs.Prelude.{◌≡◌};
 ghost use Rattle.cilk_expression.specs.Begins.{begins_by};
 ghost use Rattle.cilk_expression.specs.Classes.{a_mark};

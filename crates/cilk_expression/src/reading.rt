@@ -1,3 +1,5 @@
+//! How expressions are read: operands, operators and subscripts, within the limits of nesting.
+
 ghost use Rattle.std.specs.Prelude.{◌≡◌, ◌<◌, ◌≤◌, MatchResult, length};
 ghost use Rattle.cilk_rules.specs.Gives.{Gives};
 ghost use Rattle.cilk_syntax.specs.Tree as tree;

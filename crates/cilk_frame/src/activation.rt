@@ -1,3 +1,5 @@
+//! The activations of a frame: where an open body goes on, its cells, and what awaits its value.
+
 ghost use Rattle.std.specs.Prelude.{◌≡◌, ◌<◌, length, slice_set, IfOk};
 ghost use Rattle.cilk_frame.specs.Starts.{first_cells};
 

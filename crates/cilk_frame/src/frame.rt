@@ -1,3 +1,5 @@
+//! The frame of an instance: its activations, of which the top one goes on, and its boundary flag.
+
 ghost use Rattle.std.specs.Prelude.{◌≡◌, ◌<◌, ◌≤◌, ◌∷◌, [], false, length, None, Some, OnErr, OnOk, IfOk};
 ghost use Rattle.cilk_frame.specs.Frames.{depth, activation_at, top_of, with_cell, jumped, with_boundary, gone_to, entered, left};
 ghost use Rattle.cilk_frame.specs.Starts.{activation_of};

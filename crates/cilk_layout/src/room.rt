@@ -1,3 +1,5 @@
+//! What may be wanting to make the tables of a program: memory, or numbers that are large enough.
+
 use cilk_syntax::Memory;
 use std::alloc::AllocError;
 use thiserror::Error;

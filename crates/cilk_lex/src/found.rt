@@ -1,3 +1,5 @@
+//! What was found at the front of a text: a token or a blank, and its length.
+
 use cilk_lexeme::Kind;
 
 /// The token at the front of a text, or none for a blank, and how many bytes it takes.

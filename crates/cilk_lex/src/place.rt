@@ -1,3 +1,5 @@
+//! From a place in a text to its line and its column.
+
 ghost use Rattle.std.specs.Prelude.{◌≡◌, ◌<◌, ◌-◌, ◌^◌, length, take};
 ghost use Rattle.cilk_lexeme.specs.Place.{line_of, column_of};
 

@@ -1,3 +1,5 @@
+//! All tokens of a text from left to right, or the first fault among them, and the limit on its length.
+
 ghost use Rattle.std.specs.Prelude.{◌≡◌, true, ℕ, ◌<◌, ◌≤◌, ◌⊎◌, ◌↔◌, List, length, All, IfOk, IfErr, MatchResult};
 ghost use Rattle.cilk_lexeme.specs.declared.fault.LexFault.{LexFault};
 ghost use Rattle.cilk_lexeme.specs.Lexeme.{Piece, pieces_of};

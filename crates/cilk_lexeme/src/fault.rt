@@ -1,3 +1,5 @@
+//! The faults for which a text has no tokens, and the place of each.
+
 ghost use Rattle.std.specs.Prelude.{◌≡◌};
 ghost use Rattle.cilk_lexeme.specs.declared.fault.LexFault.TheVariants.{Memory};
 

@@ -1,3 +1,5 @@
+//! The marks of the language: its operators, brackets and separators.
+
 /// An operator or a punctuator (C 1990, 6.1.5 and 6.1.6).
 #[derive(Clone, Copy, Debug, PartialEq, Eq)]
 pub enum Mark {

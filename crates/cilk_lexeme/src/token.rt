@@ -1,3 +1,5 @@
+//! Tokens, which have a kind and a place and no bytes of their own.
+
 use crate::header::Header;
 use crate::keyword::Keyword;
 use crate::mark::Mark;

@@ -1,3 +1,5 @@
+//! What keeps a checked program from having tables: too many actions, or want of memory.
+
 use thiserror::Error;
 
 /// Why a program was not loaded.

@@ -1,3 +1,5 @@
+//! The program that a machine runs: its tables, asked by the numbers of actions and bodies.
+
 ghost use Rattle.std.specs.Prelude.{◌≡◌, ◌≤◌, ◌↔◌, IsSome, IfOk, Some, option_copied, string_bytes};
 ghost use Rattle.std.specs.Arc.{arc_value};
 ghost use Rattle.cilk_numbering.specs.canonical.ProgramText.{program_text};

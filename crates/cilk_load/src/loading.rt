@@ -1,3 +1,5 @@
+//! How the tables of a checked program are made.
+
 ghost use Rattle.std.specs.Prelude.{◌≡◌, ◌<◌, ◌≤◌, ◌↔◌, true, IfOk};
 ghost use Rattle.cilk_numbering.specs.labelled.Count.{count_program};
 

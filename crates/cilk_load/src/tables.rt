@@ -1,3 +1,5 @@
+//! The tables of a program, which all copies of it share, and what holds of them together.
+
 use cilk_numbering::{Body, Checked, Node, Var};
 use std::marker::Model;
 

@@ -1,3 +1,5 @@
+//! Lists of choices, to which one more is put behind the others.
+
 ghost use Rattle.std.specs.Prelude.{◌≡◌, [], ◌∷◌, ◌++◌, length, slice_get, OnOk, OnErr};
 
 use cilk_choices::{Choice, Memory};

@@ -1,3 +1,5 @@
+//! The faults for which bytes are not read as a recorded schedule.
+
 use thiserror::Error;
 
 /// Why bytes are not the text of a recorded schedule: what is wrong first, from the top, or want of memory.

@@ -1,3 +1,5 @@
+//! Recorded schedules as values: a number of workers and their choices.
+
 use crate::choices::Choices;
 
 /// A recorded schedule: for so many workers, the choices that were made.

@@ -1,3 +1,5 @@
+//! The actions of nodes, with slots for variables and numbers for bodies and locks.
+
 use crate::codes::Codes;
 use crate::taker::Taker;
 use crate::target::Target;

@@ -1,3 +1,5 @@
+//! The bodies of a program that runs: where each begins, and which variables and cells it has.
+
 use crate::name::Name;
 use crate::vars::Vars;
 use cilk_check::Owner;

@@ -1,3 +1,5 @@
+//! The arguments of calls, spawns and `printf`, as expressions over slots.
+
 ghost use Rattle.std.specs.Prelude.{◌≡◌};
 
 use cilk_eval::Code;

@@ -1,3 +1,5 @@
+//! The names that a program that runs keeps from its text.
+
 ghost use Rattle.std.specs.Prelude.{◌≡◌, string_bytes};
 
 use std::marker::Model;

@@ -1,3 +1,5 @@
+//! The entry of one action in the tables: what it does, what may come next, and in which body it stands.
+
 use crate::action::Action;
 
 /// One action of a program.

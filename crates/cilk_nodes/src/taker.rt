@@ -1,3 +1,5 @@
+//! What a spawn in the tables says of its child's value, before its subscripts and arguments have values.
+
 use crate::codes::Codes;
 use crate::target::Target;
 

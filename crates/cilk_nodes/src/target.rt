@@ -1,3 +1,5 @@
+//! Targets over slots: a place that is written to, and how its old value is joined with the new one.
+
 use crate::place::Place;
 use cilk_check::BinOp;
 

@@ -1,3 +1,5 @@
+//! The formats of `printf`, as the text literals of the program say them.
+
 ghost use Rattle.std.specs.Prelude.{◌≡◌, string_bytes};
 
 use std::marker::Model;

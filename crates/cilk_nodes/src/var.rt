@@ -1,3 +1,5 @@
+//! One variable or lock in the tables: its name, where it lies, and what its cells begin with.
+
 use crate::name::Name;
 use cilk_eval::Slot;
 

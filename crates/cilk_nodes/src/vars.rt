@@ -1,3 +1,5 @@
+//! The list of the variables of one body, parameters first.
+
 ghost use Rattle.std.specs.Prelude.{◌≡◌};
 
 use crate::var::Var;

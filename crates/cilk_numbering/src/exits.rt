@@ -1,3 +1,5 @@
+//! With which actions an instance goes on behind a statement, behind the loop around it, or in its next round.
+
 ghost use Rattle.std.specs.Prelude.{◌≡◌};
 ghost use Rattle.cilk_numbering.specs.Pass.{exits_to, in_loop};
 

@@ -1,3 +1,5 @@
+//! What is known of the body around the statements that are numbered.
+
 use cilk_layout::Var;
 
 /// The body whose nodes are written: its number, and its variables.

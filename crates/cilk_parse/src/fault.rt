@@ -1,3 +1,5 @@
+//! The faults for which a text spells no program, with the place of each.
+
 ghost use Rattle.std.specs.Prelude.{◌≡◌};
 ghost use Rattle.cilk_parse.specs.Place.{place_of};
 

@@ -1,3 +1,5 @@
+//! How a function is read behind its name: its parameters, and its body if it is defined.
+
 ghost use Rattle.std.specs.Prelude.{◌≡◌};
 ghost use Rattle.cilk_rules.specs.Gives.{Gives};
 ghost use Rattle.cilk_grammar.specs.Grammar.{int_tail, empty_tail, tail};

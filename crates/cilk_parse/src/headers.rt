@@ -1,3 +1,5 @@
+//! How the inclusions at the head of a program are read.
+
 ghost use Rattle.std.specs.Prelude.{◌≡◌};
 ghost use Rattle.cilk_rules.specs.Gives.{Gives};
 ghost use Rattle.cilk_rules.specs.Rule.{is, class_at, part, many};

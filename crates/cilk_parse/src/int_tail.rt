@@ -1,3 +1,5 @@
+//! What may follow `int` and a name at the top level: the rest of a function, or of variables.
+
 ghost use Rattle.std.specs.Prelude.{◌≡◌, ◌∷◌, [], MatchResult};
 ghost use Rattle.cilk_parse.specs.Views.{int_tail_of};
 

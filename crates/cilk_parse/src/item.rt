@@ -1,3 +1,5 @@
+//! How a procedure, a function, or variables of the top level are read, from their first word on.
+
 ghost use Rattle.std.specs.Prelude.{◌≡◌, ◌∷◌, [], true, false};
 ghost use Rattle.cilk_rules.specs.Gives.{Gives};
 ghost use Rattle.cilk_grammar.specs.expression.Classes.{the_main, names};

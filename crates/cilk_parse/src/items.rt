@@ -1,3 +1,5 @@
+//! How all items of a program are read, and with which tokens one begins.
+
 ghost use Rattle.std.specs.Prelude.{◌≡◌, MatchResult};
 ghost use Rattle.cilk_rules.specs.Gives.{Gives, Fails};
 ghost use Rattle.cilk_rules.specs.Rule.{many, first, has, class_at};

@@ -1,3 +1,5 @@
+//! How the parameters of a prototype or a definition are read, with or without names.
+
 ghost use Rattle.std.specs.Prelude.{◌≡◌, MatchResult};
 ghost use Rattle.cilk_grammar.specs.lexeme.declared.keyword.Keyword.TheVariants.{Int};
 ghost use Rattle.cilk_grammar.specs.lexeme.declared.mark.Mark.TheVariants.{Comma};

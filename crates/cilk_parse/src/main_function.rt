@@ -1,3 +1,5 @@
+//! How the parameters and the body of `main` are read, in each of its forms.
+
 ghost use Rattle.std.specs.Prelude.{◌≡◌};
 ghost use Rattle.cilk_rules.specs.Gives.{Gives};
 ghost use Rattle.cilk_grammar.specs.Grammar.{strings, command_line_tail, main_others, main_alone, main_named, main_nameless, main_ints, main_tail};

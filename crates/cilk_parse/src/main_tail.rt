@@ -1,3 +1,5 @@
+//! What may follow the named first parameter of `main`, and what both make together.
+
 ghost use Rattle.std.specs.Prelude.{◌≡◌, MatchResult};
 ghost use Rattle.cilk_parse.specs.Views.{tail_of, main_tail_of};
 

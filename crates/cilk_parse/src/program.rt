@@ -1,3 +1,5 @@
+//! A program read from its text: the tokens, then the grammar, and the faults of both with their places.
+
 ghost use Rattle.std.specs.Prelude.{◌≡◌, ◌≢◌, ◌<◌, ◌≤◌, ◌⊎◌, ◌↔◌, length, All, IfOk, IfErr, MatchResult};
 ghost use Rattle.cilk_grammar.specs.lexeme.declared.fault.LexFault.{LexFault};
 ghost use Rattle.cilk_grammar.specs.lexeme.Lexeme.{pieces_of, place_of as lex_place};

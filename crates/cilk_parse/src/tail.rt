@@ -1,3 +1,5 @@
+//! What may follow the name of a function, and the item that both make together.
+
 ghost use Rattle.std.specs.Prelude.{◌≡◌, MatchResult};
 ghost use Rattle.cilk_grammar.specs.Grammar.{function, declares};
 ghost use Rattle.cilk_parse.specs.Views.{tail_of};

@@ -1,3 +1,5 @@
+//! How variables and arrays of the top level are read, with their first values and lengths.
+
 ghost use Rattle.std.specs.Prelude.{◌≡◌, ◌∷◌, map, MatchResult};
 ghost use Rattle.cilk_grammar.specs.lexeme.declared.mark.Mark.TheVariants.{Comma};
 ghost use Rattle.cilk_grammar.specs.syntax.Tree as tree;

@@ -1,3 +1,5 @@
+//! How a whole program is read from its tokens: headers, items, and nothing behind them.
+
 ghost use Rattle.cilk_rules.specs.Gives.{Gives};
 ghost use Rattle.cilk_grammar.specs.expression.Grammar.{operator_limit, parenthesis_limit};
 ghost use Rattle.cilk_grammar.specs.Spelling.{nesting_limit, program_of};

@@ -1,3 +1,5 @@
+//! The plans of light steps, which need no memory and leave the frame in its hand.
+
 use cilk_agree::Id;
 use cilk_effects::Reached;
 

@@ -1,3 +1,5 @@
+//! The plans that a step may have, each with the values that carrying it out needs.
+
 use cilk_agree::{Id, Kind, Lock};
 use cilk_effects::{Arguments, Await, Bytes, Reached, Receiver};
 

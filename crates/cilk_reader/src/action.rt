@@ -1,3 +1,5 @@
+//! The ways in which a move changes its place: an assignment, or `++` or `--`.
+
 ghost use Rattle.std.specs.Prelude.{◌≡◌};
 ghost use Rattle.cilk_reader.specs.Views.{action_of};
 

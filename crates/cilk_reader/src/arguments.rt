@@ -1,3 +1,5 @@
+//! How arguments and subscripts are read: expressions between parentheses, commas and brackets.
+
 ghost use Rattle.std.specs.Prelude.{◌≡◌, ◌∷◌, []};
 ghost use Rattle.cilk_rules.specs.Gives.{Gives, onto};
 ghost use Rattle.cilk_grammar.specs.Forms.{mark, expression, behind_commas, commas};

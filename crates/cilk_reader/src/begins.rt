@@ -1,3 +1,5 @@
+//! With which tokens statements and declarations begin.
+
 ghost use Rattle.std.specs.Prelude.{◌≡◌};
 ghost use Rattle.cilk_rules.specs.Rule.{first, has, class_at};
 ghost use Rattle.cilk_grammar.specs.expression.Classes.{cls};

@@ -1,3 +1,5 @@
+//! The ways in which a statement calls the name that it begins with: an inlet on a child's value, or a C function.
+
 ghost use Rattle.std.specs.Prelude.{◌≡◌};
 ghost use Rattle.cilk_reader.specs.Views.{called_by};
 

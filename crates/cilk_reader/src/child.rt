@@ -1,3 +1,5 @@
+//! How a spawn and its call are read, and the statement that they make with what takes the child's value.
+
 ghost use Rattle.std.specs.Prelude.{◌≡◌};
 ghost use Rattle.cilk_rules.specs.Gives.{Gives};
 ghost use Rattle.cilk_grammar.specs.syntax.MoveView.{taker_of};

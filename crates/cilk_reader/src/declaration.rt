@@ -1,3 +1,5 @@
+//! How declarations of variables and arrays in bodies are read.
+
 ghost use Rattle.std.specs.Prelude.{◌≡◌, map, MatchResult};
 ghost use Rattle.cilk_grammar.specs.lexeme.declared.mark.Mark.TheVariants.{Comma};
 ghost use Rattle.cilk_grammar.specs.syntax.Tree as tree;

@@ -1,3 +1,5 @@
+//! How what stands in the parentheses of `if`, `while`, `do` and `for` is read.
+
 ghost use Rattle.std.specs.Prelude.{◌≡◌};
 ghost use Rattle.cilk_rules.specs.Gives.{Gives};
 ghost use Rattle.cilk_rules.specs.Rule.{first, has, class_at};

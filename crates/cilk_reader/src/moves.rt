@@ -1,3 +1,5 @@
+//! How moves are read: assignments, adjustments and calls, as a `for` may have them in its header.
+
 ghost use Rattle.cilk_rules.specs.Gives.{Gives};
 ghost use Rattle.cilk_grammar.specs.Grammar.{move, move_of_place};
 ghost use Rattle.cilk_reader.specs.Limits.{read_by};

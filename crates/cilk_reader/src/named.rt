@@ -1,3 +1,5 @@
+//! How statements that begin with a name are read: moves, and spawns whose value is taken.
+
 ghost use Rattle.cilk_rules.specs.Gives.{Gives};
 ghost use Rattle.cilk_grammar.specs.Grammar.{called, written, named};
 ghost use Rattle.cilk_reader.specs.Limits.{read_by};

@@ -1,3 +1,5 @@
+//! How the parameters of an inlet are read.
+
 ghost use Rattle.std.specs.Prelude.{◌≡◌};
 ghost use Rattle.cilk_grammar.specs.lexeme.declared.keyword.Keyword.TheVariants.{Int};
 ghost use Rattle.cilk_grammar.specs.lexeme.declared.mark.Mark.TheVariants.{Comma};

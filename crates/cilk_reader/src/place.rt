@@ -1,3 +1,5 @@
+//! How places are read, and the operators that change them.
+
 ghost use Rattle.std.specs.Prelude.{◌≡◌};
 ghost use Rattle.cilk_rules.specs.Gives.{Gives};
 ghost use Rattle.cilk_rules.specs.Rule.{first, has, class_at};

@@ -1,3 +1,5 @@
+//! The right sides that an assignment may have: expressions and calls.
+
 ghost use Rattle.std.specs.Prelude.{◌≡◌};
 ghost use Rattle.cilk_grammar.specs.Parts.{assigned};
 ghost use Rattle.cilk_reader.specs.Views.{value_of};

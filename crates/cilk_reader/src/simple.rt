@@ -1,3 +1,5 @@
+//! How statements that hold no others are read, but for moves and spawns that begin with a name.
+
 ghost use Rattle.cilk_rules.specs.Gives.{Gives};
 ghost use Rattle.cilk_grammar.specs.lexeme.declared.keyword.Keyword.TheVariants as key;
 ghost use Rattle.cilk_grammar.specs.syntax.Tree as tree;

@@ -1,3 +1,5 @@
+//! How statements, blocks and inlets are read, one in another, within the limit of nesting.
+
 ghost use Rattle.std.specs.Prelude.{◌≡◌, MatchResult};
 ghost use Rattle.cilk_rules.specs.Gives.{Gives, Fails};
 ghost use Rattle.cilk_grammar.specs.expression.Grammar.{operator_limit, parenthesis_limit};

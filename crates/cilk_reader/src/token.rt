@@ -1,3 +1,5 @@
+//! How single tokens are read and told apart: names by their class, words, numbers, text literals and headers.
+
 ghost use Rattle.std.specs.Prelude.{◌≡◌, ◌∷◌, []};
 ghost use Rattle.cilk_rules.specs.Gives.{Gives};
 ghost use Rattle.cilk_rules.specs.Rule.{has, is, class_at};

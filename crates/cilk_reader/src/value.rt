@@ -1,3 +1,5 @@
+//! How the right side of an assignment is read.
+
 ghost use Rattle.cilk_rules.specs.Gives.{Gives};
 ghost use Rattle.cilk_grammar.specs.expression.Grammar.{operator_limit, parenthesis_limit};
 ghost use Rattle.cilk_grammar.specs.Spelling.{value_at};

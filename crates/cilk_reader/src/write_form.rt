@@ -1,3 +1,5 @@
+//! The ways in which a statement writes to the place that it begins with: at once, or by a child's value.
+
 ghost use Rattle.std.specs.Prelude.{◌≡◌};
 ghost use Rattle.cilk_reader.specs.Views.{written_to};
 

@@ -1,3 +1,5 @@
+//! The visible declarations in the table by which names become slots, with what each of them hides.
+
 use crate::known::Known;
 use crate::nearest::Nearest;
 use cilk_syntax::Word;

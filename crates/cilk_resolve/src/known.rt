@@ -1,3 +1,5 @@
+//! What a name of the text becomes in nodes: a slot or a number.
+
 use cilk_nodes::Slot;
 
 /// What a name stands for: the slot of a variable, and the number of the declaration among those of its kind.

@@ -1,3 +1,5 @@
+//! The declaration that a use of a name means, and where it lies in the table by which names become slots.
+
 use crate::known::Known;
 
 /// The nearest declaration of a name, and how many declarations are visible before it.

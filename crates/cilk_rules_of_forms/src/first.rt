@@ -1,3 +1,5 @@
+//! The answer of this crate on a program, by the definition of faults: the first one in its forms.
+
 ghost use Rattle.std.specs.Prelude.{IfSome, IfNone};
 ghost use Rattle.cilk_scopes.specs.declared.fault.CheckFault.{CheckFault};
 ghost use Rattle.cilk_scopes.specs.Fault.{IsFirst};

@@ -1,3 +1,5 @@
+//! How many numbers a format of `printf` asks for, where it is one.
+
 ghost use Rattle.std.specs.Prelude.{◌≡◌};
 ghost use Rattle.cilk_rules_of_forms.specs.Format.{numbers_in};
 

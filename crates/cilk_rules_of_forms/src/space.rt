@@ -1,3 +1,5 @@
+//! A limit of cells that declarations use up, with the fault of the one that passes it.
+
 ghost use Rattle.std.specs.Prelude.{◌≡◌};
 ghost use Rattle.cilk_rules_of_forms.specs.Room.{take_from};
 

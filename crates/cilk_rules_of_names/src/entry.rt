@@ -1,3 +1,5 @@
+//! The visible declarations in the table by which names are checked, with what each of them hides.
+
 use crate::nearest::Nearest;
 use cilk_scopes::{Kind, Word};
 

@@ -1,3 +1,5 @@
+//! The declaration that a use of a name means, and where it lies in the table by which names are checked.
+
 use cilk_scopes::Kind;
 
 /// The nearest declaration of a name: what it is declared as, and how many declarations are visible before it.

@@ -1,3 +1,5 @@
+//! The reserved names: keywords of C that the language has not, and names that mean something in Cilk.
+
 ghost use Rattle.std.specs.Prelude.{◌≡◌};
 ghost use Rattle.cilk_rules_of_names.specs.Finds.{is_one_of, is_reserved};
 ghost use Rattle.cilk_rules_of_names.specs.Reserved.{c_keywords, library_names};

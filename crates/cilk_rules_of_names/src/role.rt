@@ -1,3 +1,5 @@
+//! The roles in which names are used: as variables, arrays, locks, functions, procedures or inlets.
+
 /// What a name is used as.
 #[derive(Clone, Copy)]
 pub enum Role {

@@ -1,3 +1,5 @@
+//! What prototypes and definitions are compared by, to find what a prototype declares.
+
 ghost use Rattle.std.specs.Prelude.{◌≡◌};
 ghost use Rattle.cilk_scopes.specs.syntax.Tree as tree;
 ghost use Rattle.cilk_rules_of_names.specs.declared.signature.Signature.{Signature as Signed};

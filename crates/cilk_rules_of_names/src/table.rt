@@ -1,3 +1,5 @@
+//! The table of the names that are visible, scope by scope.
+
 ghost use Rattle.std.specs.Prelude.{◌≡◌, ◌++◌, ◌≤◌, ◌<◌, drop, length, [], is_some, option_map, OnOk, IfOk};
 ghost use Rattle.cilk_scopes.specs.Scopes.{Scopes, declare, enter, meaning, declared_in};
 ghost use Rattle.cilk_rules_of_names.specs.Left.{left_of};

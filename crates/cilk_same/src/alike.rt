@@ -1,3 +1,5 @@
+//! The comparison of what trees say, without their places, and of lists and options of them.
+
 ghost use Rattle.std.specs.Prelude.{◌≡◌, ◌↔◌, IsTrue};
 
 /// What may stand at different places and say the same.

@@ -1,3 +1,5 @@
+//! The hand and the deque of one worker.
+
 ghost use Rattle.std.specs.Prelude.{◌≡◌, ◌<◌, ◌++◌, ◌∷◌, [], Some, None, length, option_map, slice_get, IfErr, IfSome, OnErr, OnOk};
 ghost use Rattle.std.specs.Option.{option_copied};
 ghost use Rattle.cilk_frame.specs.model.Places.{no_place, top_of, below_top, bottom_of, above_bottom};

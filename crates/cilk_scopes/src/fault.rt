@@ -1,3 +1,5 @@
+//! The faults of the check, C1 to C16, with the place and the number of each.
+
 ghost use Rattle.std.specs.Prelude.{◌≡◌};
 ghost use Rattle.cilk_scopes.specs.declared.fault.CheckFault.TheVariants.{Memory};
 

@@ -1,3 +1,5 @@
+//! The kinds of things that a name may be declared as.
+
 use cilk_syntax::ReturnType;
 
 /// What a name is declared as.

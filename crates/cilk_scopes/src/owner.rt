@@ -1,3 +1,5 @@
+//! The bodies that may surround a part of a program: a function's, a procedure's or an inlet's.
+
 use cilk_syntax::ReturnType;
 
 /// Whose body a part of a program stands in: the innermost one.

@@ -1,3 +1,5 @@
+//! What surrounds a part of a program: whose body, and whether a loop or an inner block of it.
+
 ghost use Rattle.std.specs.Prelude.{◌≡◌};
 ghost use Rattle.cilk_scopes.specs.Within.{whole_body, inner_block, loop_block};
 

@@ -1,3 +1,5 @@
+//! The kinds of traps that end a program.
+
 use cilk_frame::Trap;
 
 /// Why a program was trapped.

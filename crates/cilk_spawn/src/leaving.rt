@@ -1,3 +1,5 @@
+//! What changes in the records of other instances where one ends.
+
 ghost use Rattle.std.specs.Prelude.{◌≡◌, ◌<◌, true, length, slice_index_or};
 ghost use Rattle.cilk_spawn.specs.Nodes.{node_at, is_live, IsTree};
 ghost use Rattle.cilk_spawn.specs.Records.{nodes_of, Lost, Moved};

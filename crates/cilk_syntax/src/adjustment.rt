@@ -1,3 +1,5 @@
+//! The adjustments `++` and `--`, and the operator that each stands for.
+
 ghost use Rattle.std.specs.Prelude.{◌≡◌};
 ghost use Rattle.cilk_syntax.specs.Adjustments.{adjustment_mark, operator_of};
 

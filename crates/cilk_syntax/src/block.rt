@@ -1,3 +1,5 @@
+//! Blocks of the tree: what is declared at their head, and their statements.
+
 use crate::local::Local;
 use crate::stmt::Stmt;
 use std::marker::Model;

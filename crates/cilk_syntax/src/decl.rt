@@ -1,3 +1,5 @@
+//! Declarations of variables and arrays in bodies.
+
 use crate::shape::Shape;
 use crate::word::Word;
 use std::marker::Model;

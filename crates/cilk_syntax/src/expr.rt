@@ -1,3 +1,5 @@
+//! Expressions of the tree.
+
 use crate::operator::BinOp;
 use crate::un_op::UnOp;
 use crate::word::Word;

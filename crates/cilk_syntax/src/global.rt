@@ -1,3 +1,5 @@
+//! Variables and arrays of the top level.
+
 use crate::global_shape::GlobalShape;
 use crate::word::Word;
 use std::marker::Model;

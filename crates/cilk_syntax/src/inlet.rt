@@ -1,3 +1,5 @@
+//! Inlets of the tree, with their parameters and bodies.
+
 use crate::block::Block;
 use crate::word::Word;
 

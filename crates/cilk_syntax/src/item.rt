@@ -1,3 +1,5 @@
+//! The items of the top level: variables, locks, prototypes and definitions.
+
 use crate::global::Global;
 use crate::procedure::Proc;
 use crate::prototype::Prototype;

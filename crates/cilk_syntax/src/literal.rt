@@ -1,3 +1,5 @@
+//! Text literals of the tree, by what they say.
+
 ghost use Rattle.std.specs.Prelude.{◌≡◌, string_bytes};
 
 use std::marker::Model;

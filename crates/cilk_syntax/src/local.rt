@@ -1,3 +1,5 @@
+//! What the head of a block may declare: variables, arrays and inlets.
+
 use crate::decl::Decl;
 use crate::inlet::Inlet;
 use std::marker::Model;

@@ -1,3 +1,5 @@
+//! The three calls of a lock, and their names.
+
 ghost use Rattle.std.specs.Prelude.{◌≡◌};
 ghost use Rattle.cilk_syntax.specs.LockWord.{lock_word};
 

@@ -1,3 +1,5 @@
+//! Want of memory, as an error that the crates above share.
+
 use std::alloc::AllocError;
 use thiserror::Error;
 

@@ -1,3 +1,5 @@
+//! Moves of the tree: assignments, adjustments and calls.
+
 use crate::adjustment::Adjustment;
 use crate::expr::Expr;
 use crate::place::Place;

@@ -1,3 +1,5 @@
+//! The operators between two operands, and how each is written.
+
 ghost use Rattle.std.specs.Prelude.{◌≡◌};
 ghost use Rattle.cilk_syntax.specs.OperatorMark.{mark_of};
 

@@ -1,3 +1,5 @@
+//! The parameters of functions and procedures, and those of a `main` that is told of the command line.
+
 use crate::word::Word;
 
 /// The `int` parameters, or the two of the form of `main` that is told of the command line (C 1990, 5.1.2.2.1).

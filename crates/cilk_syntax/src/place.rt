@@ -1,3 +1,5 @@
+//! Places of the tree, to which moves and spawns write.
+
 use crate::expr::Expr;
 use crate::word::Word;
 use std::marker::Model;

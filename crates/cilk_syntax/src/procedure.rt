@@ -1,3 +1,5 @@
+//! Definitions of functions and procedures, with their bodies.
+
 use crate::block::Block;
 use crate::parameters::Parameters;
 use crate::return_type::ReturnType;

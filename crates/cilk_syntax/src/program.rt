@@ -1,3 +1,5 @@
+//! The whole tree of a program.
+
 use crate::item::Item;
 use cilk_lexeme::Header;
 use std::marker::Model;

@@ -1,3 +1,5 @@
+//! Prototypes of functions and procedures, without bodies.
+
 use crate::return_type::ReturnType;
 use crate::word::Word;
 use std::marker::Model;

@@ -1,3 +1,5 @@
+//! The two types that functions and procedures may return, and their words.
+
 ghost use Rattle.std.specs.Prelude.{◌≡◌};
 ghost use Rattle.cilk_syntax.specs.ReturnWord.{word_of};
 

@@ -1,3 +1,5 @@
+//! Statements of the tree, of each kind.
+
 use crate::block::Block;
 use crate::expr::Expr;
 use crate::literal::Literal;

@@ -1,3 +1,5 @@
+//! What a spawn of the tree says of its child's value.
+
 use crate::expr::Expr;
 use crate::target::Target;
 use crate::word::Word;

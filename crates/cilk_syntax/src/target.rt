@@ -1,3 +1,5 @@
+//! Targets of the tree: a place that is written to, and how its old value is joined with the new one.
+
 use crate::operator::BinOp;
 use crate::place::Place;
 use std::marker::Model;

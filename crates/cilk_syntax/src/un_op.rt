@@ -1,3 +1,5 @@
+//! The operators before one operand, and how each is written.
+
 ghost use Rattle.std.specs.Prelude.{◌≡◌};
 ghost use Rattle.cilk_syntax.specs.OperatorMark.{sign_of};
 

@@ -1,3 +1,5 @@
+//! Names of the tree, each with its place in the text.
+
 ghost use Rattle.std.specs.Prelude.{◌≡◌, string_bytes};
 
 use std::marker::Model;

@@ -1,3 +1,5 @@
+//! The traps of expressions: overflow, division by 0, and bad shifts and subscripts.
+
 /// Why an expression has no value.
 #[derive(Clone, Copy, Debug, PartialEq, Eq)]
 pub enum Trap {

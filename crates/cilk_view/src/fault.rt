@@ -1,3 +1,5 @@
+//! What leaves a view without a text: a path that no live instance has, or want of memory.
+
 use cilk_load::Memory;
 use thiserror::Error;
 

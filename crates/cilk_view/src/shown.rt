@@ -1,3 +1,5 @@
+//! What a machine lends to those that make the texts of views.
+
 use cilk_agree::{Hands, Lock, Tree};
 use cilk_load::Loaded;
 

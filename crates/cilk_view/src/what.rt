@@ -1,3 +1,5 @@
+//! The views that there are, and the path that one of them needs.
+
 use cilk_agree::Path;
 
 /// What may be asked of a program that runs.

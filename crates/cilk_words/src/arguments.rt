@@ -1,3 +1,5 @@
+//! The command line as `clap` is told it: subcommands, arguments, options, and the words of help.
+
 ghost use Rattle.std.specs.Prelude.{◌≡◌, IfOk, IsOkAnd, false};
 ghost use Rattle.clap.specs.Words.{AddsArg, AddsSubcommand, FailsBy, app_of, fault_of, rule_of, subcommand_of, subcommand_rows_of};
 ghost use Rattle.cilk_words.specs.CommandLine.{bare, command_line, limit_rule, number_rule, on_explained, on_log, on_run, on_text, texts_of, workers_rule};

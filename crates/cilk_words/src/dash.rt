@@ -1,3 +1,5 @@
+//! The dashes that cannot stand for standard input, and what is said of them.
+
 ghost use Rattle.std.specs.Prelude.{◌≡◌};
 ghost use Rattle.cilk_words.specs.CommandLine.{asked_by, dash_of, log_dash};
 

@@ -1,3 +1,5 @@
+//! What is told where the words ask for no task: help, the version, or what is wrong.
+
 use crate::dash::Dash;
 use clap::Error;
 use clap::error::ErrorKind;

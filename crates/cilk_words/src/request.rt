@@ -1,3 +1,5 @@
+//! The requests that words may make: a task, the name of a program, and whether its faults are explained.
+
 /// What is to be done with one program.
 #[derive(Clone, Copy, Debug)]
 pub enum Task<'a> {
