@@ -2,13 +2,15 @@
 
 sources := $(shell find crates \( -name out -o -name must-fail \) -prune -o -type f -print)
 
-.PHONY: help demo test ways programs must_not_compile costs wrong-bodies edge budget bench clean
+.PHONY: help demo libraries test ways programs must_not_compile costs wrong-bodies edge budget bench clean
 
 # Proves what ./cilk is made of, and builds it.
 cilk: crates.txt HANDLES $(sources)
+	tools/build
+
+# Proves the libraries of the program where they stand, for who works on a crate: rt check in its folder goes on from there.
+libraries:
 	tools/prove
-	cd crates/cilk && rt run -- --help >/dev/null
-	cp crates/cilk/out/cilk $@
 
 # Lists what may be asked for.
 help:
@@ -46,7 +48,7 @@ wrong-bodies:
 	tools/wrong_bodies $(CRATES)
 
 # Tries wrong bodies of the outermost functions, on each of which a case must fail (docs/GATE.md).
-edge:
+edge: libraries
 	tools/edge
 
 # Measures what the gate costs, against one proof of each crate (docs/GATE.md).
