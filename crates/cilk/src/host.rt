@@ -73,6 +73,7 @@ pub struct LogFile<'r> {
     rt: &'r HostRuntime,
     alloc: Global,
     path: Option<String>,
+    /// The path leads to the file that the program came from.
     is_program: bool,
 }
 

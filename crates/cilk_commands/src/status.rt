@@ -7,7 +7,7 @@ ghost use Rattle.std.specs.Prelude.{◌≡◌};
 pub enum Status {
     /// All is done, or help was asked for; of a run, `main` returned.
     Done,
-    /// The text is no program.
+    /// The text is no program that may be run, or the log none of it.
     Refused,
     /// The command line is wrong.
     Usage,

@@ -1,4 +1,4 @@
-//! The bytes of one line.
+//! How the bytes of one line are taken from a reader, up to its newline or to the end.
 
 ghost use Rattle.std.specs.Prelude.{◌≡◌, ◌<◌, ◌≤◌, ◌+◌, ◌++◌, ◌∷◌, [], true, false, length, not, ◌==◌, IfOk, IfErr};
 ghost use Rattle.std.specs.Io.KnownBytes.{Consumes, IsAtEnd};

@@ -25,6 +25,7 @@ impl Debugger {
         ensures fault { IfErr result (λ why. (all : List ℕ) → R.remaining reader.old ≡ Some all
             → Breaks self.old self.new all (R.remaining reader.new) (W.contents writer.old) (W.contents writer.new) why) }
     {
+        // A law, whose clauses the proof of the loop cites.
         lines_come_one_by_one();
         let mut lines = match Lines::new(self.allocator()) {
             Err(_) => return Err(SessionFault::Memory),

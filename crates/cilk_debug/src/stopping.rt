@@ -1,4 +1,4 @@
-//! Breakpoints.
+//! Whether a move stops at a choice: the breakpoints, and the action that a choice acted.
 
 ghost use Rattle.std.specs.Prelude.{◌≡◌, ℕ};
 ghost use Rattle.cilk_machine.specs.model.Path.{Path};

@@ -33,7 +33,7 @@ pub struct Machine {
     parts: Parts,
     workers: u8,
     outcome: Outcome,
-    /// The instance that was trapped.
+    /// The instance that was trapped, which contracts alone read.
     trapper: Id,
     choices: u64,
 }
@@ -99,6 +99,7 @@ impl Machine {
         ensures choices { IfOk result (λ m. m.choices ≡ 0) }
         ensures opening { IfOk result Opens }
     {
+        // Brings its clauses into the proof.
         let _program = loaded.program();
         let parts = match first_parts(alloc, &loaded, workers) {
             Ok(parts) => parts,

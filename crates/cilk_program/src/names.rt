@@ -5,6 +5,6 @@
 pub struct Names<'a> {
     /// The name of the text of the program.
     pub program: &'a str,
-    /// The name of the text of the recorded schedule.
+    /// The name of the text of the recorded schedule; empty where none is named.
     pub log: &'a str,
 }

@@ -1,4 +1,4 @@
-//! The workers of a run.
+//! `run`: starts the threads of the workers, lets them take turns, and gives the run.
 
 ghost use Rattle.std.specs.Prelude.{◌≡◌, ◌≢◌, ◌<◌, ◌⊎◌, ◌↔◌, [], Err, IfOk, IfErr};
 ghost use Rattle.cilk_machine.specs.Situation.{workers_of};
@@ -20,7 +20,8 @@ use std::thread::{Builder, Threads};
 use std::time::Duration;
 
 /// Runs a program with 1 to 64 workers until it ends, is stuck, or they have made `limit` choices. Each worker is a thread of its own, but for
-/// an only one, which is the caller's. All threads that were started have ended when this returns. A worker passes the gate before each turn.
+/// an only one, which is the caller's. All threads that were started have ended when this returns. A worker passes the gate before each turn. It is
+/// refused for another number of workers, where the system starts no thread for one of them, and where memory has run out.
 pub fn run<R: Threads + Wait + Sync, G: Gate + Sync>(
     rt: &R,
     alloc: Global,
@@ -207,6 +208,7 @@ fn finish<J: Setting, R: Wait>(
         if table.has_ended() {
             return table.into_run(alloc);
         }
+        // It never comes to this: a worker ends only where the run is over.
         for before in 0..workers {
             table.take_turn(before + 1);
         }

@@ -1,4 +1,4 @@
-//! Where workers may be held.
+//! A hook before each turn, by which tests hold workers back.
 
 /// What each worker is told of before it takes a turn, while it does not hold the lock.
 pub trait Gate {

@@ -1,4 +1,4 @@
-//! Lists that a run gives.
+//! The counts and the output of a run, as contracts see them.
 
 ghost use Rattle.std.specs.Prelude.{◌≡◌};
 

@@ -1,4 +1,4 @@
-//! What a lock keeps.
+//! A machine with the list of the choices that led to it.
 
 ghost use Rattle.std.specs.Prelude.{◌≡◌, ◌<◌, ◌⊎◌, ◌↔◌, [], ◌∷◌, ◌++◌, None, Some, option_map, Err, IfOk, IfErr, IfSome, OnOk, OnErr};
 ghost use Rattle.cilk_machine.specs.model.Choice as choices;

@@ -11,14 +11,16 @@ pub struct Run {
     pub end: End,
     /// The choices, in the order in which the workers had the lock.
     pub log: Log,
+    /// What the program printed.
     pub output: Output,
+    /// How many choices each worker made.
     pub turns: Turns,
 }
 
 /// Why there is no run.
 #[derive(Clone, Copy, PartialEq, Eq, Debug)]
 pub enum RunFault {
-    /// There are 1 to 64 workers.
+    /// The number of workers is not one of 1 to 64.
     Workers,
     /// The system started no thread for one of the workers. All that were started have ended.
     Start,

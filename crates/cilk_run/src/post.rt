@@ -1,11 +1,11 @@
-//! Turns, whatever they are taken at.
+//! What workers take turns at, as their threads see it, and how a turn ends.
 
 use cilk_machine::Known;
 use std::sync::Wait;
 
 /// What workers take turns at, one at a time.
 pub trait Post {
-    /// A worker takes a turn. What it holds of the variables of its step's expression goes into a list of its own.
+    /// A worker takes a turn. `values` is memory of its own that is used again: what is in it before and behind a turn means nothing.
     fn turn<R: Wait>(&self, rt: &R, worker: u8, values: &mut Vec<Known>) -> Turn;
 
     /// From now on each turn is the last of its worker.
@@ -15,6 +15,7 @@ pub trait Post {
 /// How far a worker came with its turn.
 #[derive(Clone, Copy, PartialEq, Eq, Debug)]
 pub enum Begun {
+    /// To its end.
     Over(Turn),
     /// It sees something of its step, which is of the action of this number, and evaluates that while others have their turns.
     Seen(u32),
@@ -27,6 +28,6 @@ pub enum Turn {
     Made,
     /// None was possible for this worker, as things stand.
     Idle,
-    /// There is nothing left to do for any worker.
+    /// No turn will make a choice any more: the program has ended or is stuck, the limit is reached, memory ran out, or all were told to end.
     Stop,
 }

@@ -8,7 +8,7 @@ use crate::table::{Setting, Table};
 use cilk_machine::Known;
 use std::sync::{Mutex, Wait};
 
-/// The machine with its history under a lock, and beside it what may be evaluated without.
+/// The machine with its history under a lock, and beside it what may be evaluated without it.
 #[derive(Drop)]
 pub struct Shared<J: Setting> {
     pub lock: Mutex<Table<J>>,
@@ -37,6 +37,7 @@ impl<J: Setting> Shared<J> {
     // The rest of a turn whose worker saw this of action n, on which its step depends.
     fn evaluate<R: Wait>(&self, rt: &R, worker: u8, n: u32, values: &[Known]) -> Turn {
         match self.ahead.of(n) {
+            // No clause says that there is one, so it is asked again.
             None => self.lock.lock(rt).take_turn(worker),
             Some(listed) => {
                 let value = listed.value(values);

@@ -53,6 +53,7 @@ pub struct Table<J: Setting> {
     turns: Vec<u64>,
     /// A worker met want of memory.
     is_short: bool,
+    /// All were told to end.
     is_stopped: bool,
     of: PhantomData<J>,
 }
@@ -76,6 +77,7 @@ impl<J: Setting> Model for Table<J> {
 }
 
 impl<J: Setting> Table<J> {
+    /// A machine before any choice, for a run of so many workers that make at most `limit` choices.
     pub fn new(alloc: Global, locked: Locked, workers: u8, limit: u32) -> Result<Table<J>, RunFault>
         requires program { locked.machine.program ≡ J.program }
         requires crew { workers_of locked.machine ≡ J.workers }

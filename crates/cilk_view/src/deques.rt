@@ -1,4 +1,4 @@
-//! What each worker has.
+//! The view `deques`: what each worker has in its hand and in its deque.
 
 ghost use Rattle.std.specs.Prelude.{◌≡◌, ◌<◌, length, map, option_map, slice_get, decimal, codes};
 ghost use Rattle.cilk_agree.specs.canonical.Appends.{Appends};

@@ -1,4 +1,4 @@
-//! The frame of an instance.
+//! Where the frame of an instance is found: in a hand, in a deque, or parked.
 
 ghost use Rattle.std.specs.Prelude.{◌≡◌, ℕ, true, length, Some, IfSome, option_copied};
 ghost use Rattle.cilk_agree.specs.model.Places.{IsWorker, place_of, deque_of};

@@ -1,4 +1,4 @@
-//! The activations of an instance.
+//! The view `frame`: the activations of an instance, with their variables.
 
 ghost use Rattle.std.specs.Prelude.{◌≡◌, ◌++◌, ◌<◌, codes, decimal, option_copied};
 ghost use Rattle.cilk_agree.specs.canonical.Appends.{Appends};

@@ -1,4 +1,4 @@
-//! What was printed.
+//! The view `output`: what the program printed.
 
 ghost use Rattle.cilk_agree.specs.canonical.Appends.{Appends};
 ghost use Rattle.cilk_agree.specs.seen.Views.{output_text};

@@ -48,6 +48,7 @@ fn show_frame(alloc: Global, parts: &Shown, path: &Path) -> Result<String, ViewF
     ensures none { (at : Position) → ShowsAt parts.now at → shown parts.now.loaded.now at (what.frame path.now) ≡ None
         → result ≡ Err ViewFault.NoInstance }
 {
+    // Brings its clauses into the proof.
     let _program = parts.loaded.program();
     match find_live(parts.tree, path.as_slice()) {
         None => Err(ViewFault::NoInstance),

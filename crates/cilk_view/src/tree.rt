@@ -1,4 +1,4 @@
-//! Every instance ever made.
+//! The view `tree`: a line for every instance that was ever made.
 
 ghost use Rattle.std.specs.Prelude.{◌≡◌, ◌<◌, ◌++◌, length, codes, decimal, true, IfOk, string_bytes};
 ghost use Rattle.cilk_agree.specs.canonical.Appends.{Appends};

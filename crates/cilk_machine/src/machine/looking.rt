@@ -290,6 +290,7 @@ impl Machine {
         }
     }
 
+    // The first reason why the worker has no step to look at: the program has ended, there is no such worker, or its hand is empty.
     fn look_refusal(&self, worker: u8) -> Option<Refusal>
         ensures value { result ≡ look_refused self.now worker }
         ensures worker { IfNone result (IsWorker self.now.machine.places worker) }
