@@ -1,16 +1,17 @@
 -- The first of the faults of two kinds.
 use Rattle.std.proofs.Common.{◌≡◌, [], ◌∷◌, Option, Some, None, ◌⊎◌, inl, inr, refl, subst, IfSome, IfNone}
-use Rattle.cilk_rules_of_forms.specs.scopes.declared.fault.CheckFault.{CheckFault}
-use Rattle.cilk_rules_of_forms.specs.scopes.Fault.{NoLater, IsFirst}
-use Rattle.cilk_rules_of_forms.specs.scopes.First.{first_among}
-use Rattle.cilk_rules_of_forms.proofs.scopes_laws.Held.{NoLater-trans, first_among_first}
+use Rattle.cilk_check_forms.specs.scopes.declared.fault.CheckFault.{CheckFault}
+use Rattle.cilk_check_forms.specs.scopes.Fault.{NoLater, IsFirst}
+use Rattle.cilk_check_forms.specs.scopes.First.{first_among}
+use Rattle.cilk_check_forms.proofs.scopes_laws.Held.{NoLater-trans, first_among_first}
 use Rattle.cilk_check.specs.Earlier.{earlier}
 
 module _ (N M : CheckFault → Type 0) where
   abbrev Either : CheckFault → Type 0
   Either f = N f ⊎ M f
 
-  pub both_none : (n m : Option CheckFault) → IfNone n ((f : CheckFault) → ¬ N f) → IfNone m ((f : CheckFault) → ¬ M f) → earlier n m ≡ None → (f : CheckFault) → ¬ Either f
+  pub both_none : (n m : Option CheckFault) → IfNone n ((f : CheckFault) → ¬ N f) → IfNone m ((f : CheckFault) → ¬ M f) → earlier n m ≡ None
+      → (f : CheckFault) → ¬ Either f
   both_none None None a b e f (inl h) = a f h
   both_none None None a b e f (inr h) = b f h
   both_none (Some g) None a b e f h = cc
@@ -18,10 +19,22 @@ module _ (N M : CheckFault → Type 0) where
   both_none (Some g) (Some k) a b e f h = cc
 
   names_alone : (g r : CheckFault) → IsFirst N g → ((f : CheckFault) → ¬ M f) → g ≡ r → IsFirst Either r
-  names_alone g r first none e = subst (IsFirst Either) e (record { is_told = inl first.is_told; is_first = λ f h. elim h as (λ _. NoLater g f) [ inl k ↦ first.is_first f k | inr k ↦ absurd (none f k) ] })
+  names_alone g r first none e =
+      subst (IsFirst Either) e
+      (record {
+        is_told = inl first.is_told;
+        is_first = λ f h. elim h as (λ _. NoLater g f)
+            [ inl k ↦ first.is_first f k | inr k ↦ absurd (none f k) ];
+      })
 
   forms_alone : (g r : CheckFault) → IsFirst M g → ((f : CheckFault) → ¬ N f) → g ≡ r → IsFirst Either r
-  forms_alone g r first none e = subst (IsFirst Either) e (record { is_told = inr first.is_told; is_first = λ f h. elim h as (λ _. NoLater g f) [ inl k ↦ absurd (none f k) | inr k ↦ first.is_first f k ] })
+  forms_alone g r first none e =
+      subst (IsFirst Either) e
+      (record {
+        is_told = inr first.is_told;
+        is_first = λ f h. elim h as (λ _. NoLater g f)
+            [ inl k ↦ absurd (none f k) | inr k ↦ first.is_first f k ];
+      })
 
   of_both : (g k r : CheckFault) → IsFirst N g → IsFirst M k → first_among (Some g) (k ∷ []) ≡ Some r → IsFirst Either r
   of_both g k r a b e =
@@ -37,7 +50,8 @@ module _ (N M : CheckFault → Type 0) where
         ];
       }
 
-  pub both_first : (n m : Option CheckFault) (r : CheckFault) → IfNone n ((f : CheckFault) → ¬ N f) → IfSome n (IsFirst N) → IfNone m ((f : CheckFault) → ¬ M f) → IfSome m (IsFirst M) → earlier n m ≡ Some r → IsFirst Either r
+  pub both_first : (n m : Option CheckFault) (r : CheckFault) → IfNone n ((f : CheckFault) → ¬ N f) → IfSome n (IsFirst N)
+      → IfNone m ((f : CheckFault) → ¬ M f) → IfSome m (IsFirst M) → earlier n m ≡ Some r → IsFirst Either r
   both_first None None r a x b y e = cc
   both_first (Some g) None r a x b y e = let same : g ≡ r = cc in names_alone g r x b same
   both_first None (Some k) r a x b y e = let same : k ≡ r = cc in forms_alone k r y a same

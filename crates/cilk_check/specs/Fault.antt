@@ -1,10 +1,10 @@
 -- What a program must not have: the rules that no grammar says.
 use Rattle.std.specs.Prelude.{◌⊎◌}
-use Rattle.cilk_rules_of_forms.specs.syntax.Tree as tree
-use Rattle.cilk_rules_of_forms.specs.scopes.declared.fault.CheckFault.{CheckFault}
-use Rattle.cilk_rules_of_forms.specs.scopes.Fault.{IsFirst}
-use Rattle.cilk_rules_of_names.specs.Names as names
-use Rattle.cilk_rules_of_forms.specs.Forms as forms
+use Rattle.cilk_check_forms.specs.syntax.Tree as tree
+use Rattle.cilk_check_forms.specs.scopes.declared.fault.CheckFault.{CheckFault}
+use Rattle.cilk_check_forms.specs.scopes.Fault.{IsFirst}
+use Rattle.cilk_check_names.specs.Names as names
+use Rattle.cilk_check_forms.specs.Forms as forms
 
 -- what is wrong in a program, and at which place: with its names, or with its forms
 abbrev pub Faulty : tree.Program → CheckFault → Type 0

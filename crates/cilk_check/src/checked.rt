@@ -1,12 +1,12 @@
 //! The check of a program, and the tree of one that passed it.
 
 ghost use Rattle.std.specs.Prelude.{◌≡◌, ◌⊎◌, IsOk, IfOk, IfErr};
-ghost use Rattle.cilk_rules_of_forms.specs.scopes.declared.fault.CheckFault.TheVariants.{Memory};
+ghost use Rattle.cilk_check_forms.specs.scopes.declared.fault.CheckFault.TheVariants.{Memory};
 ghost use Rattle.cilk_check.specs.Fault.{WellFormed, IsFirstFault};
 
 use crate::earlier::earlier_of;
-use cilk_rules_of_forms::{CheckFault, Program, first_form_fault};
-use cilk_rules_of_names::first_name_fault;
+use cilk_check_forms::{CheckFault, Program, first_form_fault};
+use cilk_check_names::first_name_fault;
 use std::alloc::Global;
 use std::marker::Model;
 
@@ -23,8 +23,8 @@ impl Drop for Checked {
 }
 
 impl Model for Checked {
-    ghost use Rattle.cilk_rules_of_forms.specs.syntax.Tree as tree;
-    ghost use Rattle.cilk_rules_of_forms.specs.syntax.ProgramCoding.{coded_Program};
+    ghost use Rattle.cilk_check_forms.specs.syntax.Tree as tree;
+    ghost use Rattle.cilk_check_forms.specs.syntax.ProgramCoding.{coded_Program};
     ghost use Rattle.cilk_check.specs.Fault.{WellFormed};
 
     ghost Value = { tree.Program };

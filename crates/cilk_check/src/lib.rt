@@ -5,4 +5,4 @@ mod checked;
 mod earlier;
 
 pub use checked::{Checked, check};
-pub use cilk_rules_of_forms::{BinOp, CheckFault, LexFault, LockAction, Owner};
+pub use cilk_check_forms::{BinOp, CheckFault, LexFault, LockAction, Owner};

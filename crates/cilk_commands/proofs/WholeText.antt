@@ -1,15 +1,16 @@
 -- What is said of the bytes that were read of a text is said of the text.
-use Rattle.std.proofs.Common.{◌≡◌, ◌≤◌, ◌<◌, ◌+◌, ◌∙◌, ℕ, List, length, take, subst, min, arith, Bool, true, false, Option, Some, None, IfSome, inl, inr, [], ◌++◌, option_map, refl, sym}
+use Rattle.std.proofs.Common.{◌≡◌, ◌≤◌, ◌<◌, ◌+◌, ◌∙◌, ℕ, List, length, take, subst, min, arith, Bool, true, false, Option, Some, None, IfSome, inl}
+use Rattle.std.proofs.Common.{inr, [], ◌++◌, option_map, refl, sym}
 use Rattle.std.specs.Prelude.{◌≢◌}
 use Rattle.std.proofs.lemmas.List.{length-take, take_min}
 use Rattle.std.proofs.Math.Seq.{take-length}
-use Rattle.cilk_explain.specs.lex.declared.reading.TheConstants.{TEXT_LIMIT}
+use Rattle.cilk_check_explain.specs.lex.declared.reading.TheConstants.{TEXT_LIMIT}
 use Rattle.cilk_commands.specs.Front.{Gains, GainsFront}
 use Rattle.cilk_commands.specs.Held.{Held, IsReadOf}
 use Rattle.cilk_commands.specs.Loading.{Unready}
 use Rattle.cilk_commands.specs.Program.{Explains, IsReason, IsNoProgram, IsIllFormed}
 use Rattle.cilk_commands.specs.Status.{status_of}
-use Rattle.cilk_commands.specs.Telling.{GivesUp, IsExplanation, Tells}
+use Rattle.cilk_commands.specs.Telling.{GivesUp, IsExplanation, WritesFailure}
 use Rattle.cilk_commands.specs.declared.failure.Failure.{Failure}
 use Rattle.cilk_commands.specs.declared.failure.Failure.TheVariants as failure
 use Rattle.cilk_commands.specs.declared.fault.Fault.TheVariants as fault
@@ -25,7 +26,8 @@ read_whole bytes text read short =
     read ∙ (rw (← take_min (TEXT_LIMIT + 1) bytes) whole)
 
 -- what a limited read adds to an empty buffer
-pub read_of : (known held : Option (List ℕ)) (limit : ℕ) (start text : List ℕ) → held ≡ known → limit ≡ (TEXT_LIMIT + 1) → start ≡ [] → IfSome (option_map (take limit) held) (λ bytes. text ≡ start ++ bytes) → IsReadOf known text
+pub read_of : (known held : Option (List ℕ)) (limit : ℕ) (start text : List ℕ) → held ≡ known → limit ≡ (TEXT_LIMIT + 1) → start ≡ []
+    → IfSome (option_map (take limit) held) (λ bytes. text ≡ start ++ bytes) → IsReadOf known text
 read_of None held limit start text same limited empty read = tt
 read_of (Some bytes) held limit start text same limited empty read =
     let known_read : IfSome (option_map (take (TEXT_LIMIT + 1)) (Some bytes)) (λ xs. text ≡ [] ++ xs) =
@@ -66,7 +68,15 @@ module _ (known : Option (List ℕ)) (text : List ℕ) (old new : Option (List �
 explained_whole : (bytes text : List ℕ) (why : Failure) → text ≡ take (TEXT_LIMIT + 1) bytes → Explains text why → Explains bytes why
 explained_whole bytes text (failure.Fault (fault.Read found) line column) read told = elim told.reason [
   | inl too_long ↦ (let long : TEXT_LIMIT < length (take (TEXT_LIMIT + 1) bytes) = rw (← read) too_long.long in
-      record { reason = inl (record { long = omega (arith, length-take (TEXT_LIMIT + 1) bytes); fault_is = too_long.fault_is; line_is = too_long.line_is; column_is = too_long.column_is }) })
+      record {
+        reason = inl
+            (record {
+              long = omega (arith, length-take (TEXT_LIMIT + 1) bytes);
+              fault_is = too_long.fault_is;
+              line_is = too_long.line_is;
+              column_is = too_long.column_is;
+            });
+      })
   | inr none ↦ record { reason = inr (subst (λ t. IsNoProgram t found line column) (read_whole bytes text read none.short) none) }
 ]
 explained_whole bytes text (failure.Fault (fault.Check found) line column) read told =
@@ -93,7 +103,7 @@ reason_held (Some bytes) text why read told = record { bytes = bytes; held = ref
 -- what is told of a failure with a text that was read
 pub gives_up : (explain : Bool) (name : List ℕ) (ended : Status) (known old new : Option (List ℕ)) (text : List ℕ) (why : Failure) → IsReadOf known text
     → (status_of why ≡ status.Refused → Unready text why) → ended ≡ status_of why
-    → (behind : List ℕ) × (IsExplanation explain text why behind × Tells name why behind old new) → GivesUp Unready explain name ended known old new
+    → (behind : List ℕ) × (IsExplanation explain text why behind × WritesFailure name why behind old new) → GivesUp Unready explain name ended known old new
 gives_up explain name ended known old new text why read reason is told = record {
   why = why;
   status_is = is;
@@ -119,7 +129,7 @@ unexplained false text failure.CannotWrite other = refl
 
 -- where no text was read
 pub nothing_read : (Reason : List ℕ → Failure → Type 0) (explain : Bool) (name : List ℕ) (ended : Status) (known old new : Option (List ℕ)) (why : Failure)
-    → status_of why ≢ status.Refused → ended ≡ status_of why → Tells name why [] old new → GivesUp Reason explain name ended known old new
+    → status_of why ≢ status.Refused → ended ≡ status_of why → WritesFailure name why [] old new → GivesUp Reason explain name ended known old new
 nothing_read Reason explain name ended known old new why other is told = record {
   why = why;
   status_is = is;

@@ -1,6 +1,6 @@
 -- What a reader held, where it is known, and what was read of it.
 use Rattle.std.specs.Prelude.{ℕ, List, ◌≡◌, ◌+◌, Option, IfSome, take}
-use Rattle.cilk_explain.specs.lex.declared.reading.TheConstants.{TEXT_LIMIT}
+use Rattle.cilk_check_explain.specs.lex.declared.reading.TheConstants.{TEXT_LIMIT}
 
 -- what is read of the bytes of a text, where they are known: all of them, or one more than a text may have
 abbrev pub IsReadOf : Option (List ℕ) → List ℕ → Type 0

@@ -2,7 +2,7 @@
 use Rattle.std.specs.Prelude.{ℕ, List, length, ◌≡◌, ◌≢◌, ◌≤◌, ◌<◌, ◌⊎◌, IsUtf8}
 use Rattle.cilk_check.specs.lexeme.declared.fault.LexFault.TheVariants as lex
 use Rattle.cilk_check.specs.lexeme.Place.{line_of, column_of}
-use Rattle.cilk_explain.specs.lex.declared.reading.TheConstants.{TEXT_LIMIT}
+use Rattle.cilk_check_explain.specs.lex.declared.reading.TheConstants.{TEXT_LIMIT}
 use Rattle.cilk_check.specs.syntax.Tree.{Program}
 use Rattle.cilk_parse.specs.declared.fault.ReadFault.{ReadFault}
 use Rattle.cilk_parse.specs.declared.fault.ReadFault.TheVariants as read

@@ -12,7 +12,7 @@ use Rattle.cilk_commands.specs.declared.failure.Failure.{Failure}
 use Rattle.cilk_commands.specs.declared.failure.Failure.TheVariants as failure
 use Rattle.cilk_commands.specs.declared.status.Status.{Status}
 use Rattle.cilk_commands.specs.declared.status.Status.TheVariants as status
-use Rattle.cilk_explain.specs.Lines.{place_lines}
+use Rattle.cilk_check_explain.specs.Lines.{place_lines}
 use Rattle.cilk_commands.specs.Front.{AppendsFront}
 use Rattle.cilk_commands.specs.Held.{Held, IsReadOf}
 use Rattle.cilk_commands.specs.Place.{place_of}
@@ -63,13 +63,13 @@ abbrev pub fault_line : List ℕ → List ℕ → List ℕ → List ℕ → List
 fault_line name line column words = name ++ (codes ":" ++ (line ++ (codes ":" ++ (column ++ (codes ": " ++ (words ++ codes "\n"))))))
 
 -- the line and its newline for the text of this name
-abbrev pub line_of : List ℕ → Failure → List ℕ
-line_of name failure.CannotRead = codes "cilk: cannot read " ++ (name ++ codes "\n")
-line_of name (failure.Fault found line column) = fault_line name (decimal line) (decimal column) (words_of found)
-line_of name failure.NotUtf8 = name ++ codes ": not UTF-8\n"
-line_of name failure.TooMany = name ++ codes ": N1 TooMany\n"
-line_of name failure.Memory = codes "cilk: out of memory\n"
-line_of name failure.CannotWrite = codes "cilk: cannot write output\n"
+abbrev pub failure_line : List ℕ → Failure → List ℕ
+failure_line name failure.CannotRead = codes "cilk: cannot read " ++ (name ++ codes "\n")
+failure_line name (failure.Fault found line column) = fault_line name (decimal line) (decimal column) (words_of found)
+failure_line name failure.NotUtf8 = name ++ codes ": not UTF-8\n"
+failure_line name failure.TooMany = name ++ codes ": N1 TooMany\n"
+failure_line name failure.Memory = codes "cilk: out of memory\n"
+failure_line name failure.CannotWrite = codes "cilk: cannot write output\n"
 
 -- what people are told of a fault: the line of its place, with a mark below the place, and a sentence
 pub record IsTold (text : List ℕ) (at : ℕ) (told : List ℕ) : Type 0 where
@@ -84,8 +84,8 @@ IsExplanation true text (failure.Fault found line column) told = (told ≡ []) �
 IsExplanation explain text why told = told ≡ []
 
 -- a writer has gained that line and what is told behind it, or the first bytes of them, since what cannot be written is lost
-abbrev pub Tells : List ℕ → Failure → List ℕ → Option (List ℕ) → Option (List ℕ) → Type 0
-Tells name why told old new = AppendsFront old new (line_of name why ++ told)
+abbrev pub WritesFailure : List ℕ → Failure → List ℕ → Option (List ℕ) → Option (List ℕ) → Type 0
+WritesFailure name why told old new = AppendsFront old new (failure_line name why ++ told)
 
 -- what is told behind the line of a failure with the text that a reader held
 pub record Explained (explain : Bool) (known : Option (List ℕ)) (why : Failure) (told : List ℕ) : Type 0 where
@@ -100,4 +100,4 @@ pub record GivesUp (Reason : List ℕ → Failure → Type 0) (explain : Bool) (
   pub declined : ended ≡ status.Refused → Held known (λ bytes. Reason bytes why)
   pub behind : List ℕ
   pub explained : Explained explain known why behind
-  pub told : Tells name why behind old new
+  pub told : WritesFailure name why behind old new

@@ -35,7 +35,7 @@ pub enum Failure {
 }
 
 impl Failure {
-    ghost use Rattle.cilk_commands.specs.Telling.{Tells, line_of};
+    ghost use Rattle.cilk_commands.specs.Telling.{WritesFailure, failure_line};
     ghost use Rattle.cilk_commands.specs.Status.{status_of};
 
     /// The status that tells of it.
@@ -54,7 +54,7 @@ impl Failure {
     /// A line that cannot be written is lost.
     pub fn report<W: Write>(&self, name: &str, err: &mut W) -> Status
         ensures status { result ≡ status_of self.now }
-        ensures told { Tells name.now self.now [] (W.contents err.old) (W.contents err.new) }
+        ensures told { WritesFailure name.now self.now [] (W.contents err.old) (W.contents err.new) }
     {
         self.report_with(name, "", err)
     }
@@ -62,7 +62,7 @@ impl Failure {
     /// Writes the same line, and then what is told behind it, and returns the status.
     pub(crate) fn report_with<W: Write>(&self, name: &str, behind: &str, err: &mut W) -> Status
         ensures status { result ≡ status_of self.now }
-        ensures told { Tells name.now self.now behind.now (W.contents err.old) (W.contents err.new) }
+        ensures told { WritesFailure name.now self.now behind.now (W.contents err.old) (W.contents err.new) }
     {
         let _ = self.tell_all(name, behind, err);
         self.status()
@@ -71,9 +71,9 @@ impl Failure {
     #[tactic(auto, using(crate::proofs::Fronts::all_behind, crate::proofs::Fronts::front_before, crate::proofs::Fronts::front_behind))]
     fn tell_all<W: Write>(&self, name: &str, behind: &str, err: &mut W) -> io::Result<()>
         ensures ok { OnOk result
-            (Appends (W.contents err.old) (W.contents err.new) (line_of name.now self.now ++ behind.now)) }
+            (Appends (W.contents err.old) (W.contents err.new) (failure_line name.now self.now ++ behind.now)) }
         ensures front { OnErr result
-            (AppendsFront (W.contents err.old) (W.contents err.new) (line_of name.now self.now ++ behind.now)) }
+            (AppendsFront (W.contents err.old) (W.contents err.new) (failure_line name.now self.now ++ behind.now)) }
     {
         self.write_line(name, err)?;
         write_whole(err, behind.as_bytes())
@@ -82,9 +82,9 @@ impl Failure {
     /// Writes the line that tells of it, where `name` is the name of the text.
     pub fn write_line<W: Write>(&self, name: &str, err: &mut W) -> io::Result<()>
         ensures ok { OnOk result
-            (Appends (W.contents err.old) (W.contents err.new) (line_of name.now self.now)) }
+            (Appends (W.contents err.old) (W.contents err.new) (failure_line name.now self.now)) }
         ensures front { OnErr result
-            (AppendsFront (W.contents err.old) (W.contents err.new) (line_of name.now self.now)) }
+            (AppendsFront (W.contents err.old) (W.contents err.new) (failure_line name.now self.now)) }
     {
         match self {
             Failure::CannotRead => write_parts(err, &["cilk: cannot read ", name, "\n"]),

@@ -9,7 +9,7 @@ ghost use Rattle.cilk_commands.specs.Place.{place_of};
 use crate::failure::Failure;
 use crate::fault::Fault;
 use cilk_check::{CheckFault, Checked, LexFault, check};
-use cilk_explain::{TEXT_LIMIT, line_col};
+use cilk_check_explain::{TEXT_LIMIT, line_col};
 use cilk_parse::{ReadFault, read};
 use std::alloc::Global;
 

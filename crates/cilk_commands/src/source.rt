@@ -6,7 +6,7 @@ ghost use Rattle.cilk_commands.specs.Status.{status_of};
 
 use crate::failure::Failure;
 use crate::status::Status;
-use cilk_explain::TEXT_LIMIT;
+use cilk_check_explain::TEXT_LIMIT;
 use std::alloc::Global;
 use std::io;
 use std::io::{ErrorKind, Read};

@@ -3,12 +3,12 @@
 ghost use Rattle.std.specs.Prelude.{◌≡◌, ◌++◌, ℕ, List, IfOk, codes, string_bytes};
 ghost use Rattle.cilk_commands.specs.Place.{place_of};
 ghost use Rattle.cilk_commands.specs.Status.{status_of};
-ghost use Rattle.cilk_commands.specs.Telling.{IsExplanation, IsTold, Tells};
+ghost use Rattle.cilk_commands.specs.Telling.{IsExplanation, IsTold, WritesFailure};
 
 use crate::failure::Failure;
 use crate::fault::Fault;
 use crate::status::Status;
-use cilk_explain::{Told, place_lines, sentence};
+use cilk_check_explain::{Told, place_lines, sentence};
 use cilk_load::Memory;
 use cilk_parse::{ReadFault, read};
 use std::alloc::{AllocError, Global};
@@ -26,7 +26,7 @@ pub fn tell_of<E: Write>(
 ) -> Status
     ensures status { result ≡ status_of failure.now }
     ensures told { (behind : List ℕ) × (IsExplanation explain text.now failure.now behind
-        × Tells name.now failure.now behind (E.contents err.old) (E.contents err.new)) }
+        × WritesFailure name.now failure.now behind (E.contents err.old) (E.contents err.new)) }
 {
     match explanation(alloc, explain, text, failure) {
         Ok(behind) => failure.report_with(name, behind.as_str(), err),

@@ -4,18 +4,18 @@ use Rattle.std.proofs.lemmas.Option.{slice_get-map, slice_get_within, get_or_fro
 use Rattle.std.proofs.Math.Seq.{take-suc}
 use Rattle.cilk_machine.specs.syntax.Tree.{Program}
 use Rattle.cilk_machine.specs.labelled.Bodies.{label}
-use Rattle.cilk_machine.specs.model.Choice as model
-use Rattle.cilk_machine.specs.model.Choice.{Choice, Refusal}
-use Rattle.cilk_machine.specs.model.Event.{Event}
-use Rattle.cilk_machine.specs.model.Run.{Position, after, refusal_of, next_of, event_of, one_more}
-use Rattle.cilk_machine.proofs.placed_laws.Runs.{after-push}
+use Rattle.cilk_debug_console.specs.model.Choice as model
+use Rattle.cilk_debug_console.specs.model.Choice.{Choice, Refusal}
+use Rattle.cilk_debug_console.specs.model.Event.{Event}
+use Rattle.cilk_debug_console.specs.model.Run.{Position, after, refusal_of, next_of, event_of, one_more}
+use Rattle.cilk_debug_console.proofs.placed_laws.Runs.{after-push}
 use Rattle.cilk_machine.specs.spawn.Nodes.{path_at}
 use Rattle.cilk_machine.specs.carries.declared.did.Did.{Did}
 use Rattle.cilk_machine.specs.carries.Words.{event_by}
-use Rattle.cilk_console.specs.choices.declared.refusal.Refusal as code
-use Rattle.cilk_console.specs.choices.declared.refusal.Refusal.TheVariants as refusal
-use Rattle.cilk_console.specs.choices.declared.choice.Choice as coded
-use Rattle.cilk_console.specs.choices.Words.{choice_of, reason_of}
+use Rattle.cilk_debug_console.specs.choices.declared.refusal.Refusal as code
+use Rattle.cilk_debug_console.specs.choices.declared.refusal.Refusal.TheVariants as refusal
+use Rattle.cilk_debug_console.specs.choices.declared.choice.Choice as coded
+use Rattle.cilk_debug_console.specs.choices.Words.{choice_of, reason_of}
 use Rattle.cilk_machine.specs.Situation.{Situation, workers_of}
 use Rattle.cilk_machine.specs.Stands.{Led, Opens}
 use Rattle.cilk_machine.specs.Made.{Makes, MakesBy, IsRefused}
@@ -61,7 +61,8 @@ pub next_by : (m n : Situation) (choice : Choice) (did : Did) → MakesBy m n ch
 next_by m n choice did made t k h is = at_next t k choice is m n (event_by (path_at m.machine.nodes) (path_at n.machine.nodes) did) h made
 
 pub did_by_it : (m n : Situation) (choice : Choice) (did : Did) → MakesBy m n choice did
-    → (t : Tape) (k : ℕ) → IsAt t k m → slice_get t.choices k ≡ Some choice → did_at t k ≡ Some (event_by (path_at m.machine.nodes) (path_at n.machine.nodes) did)
+    → (t : Tape) (k : ℕ) → IsAt t k m → slice_get t.choices k ≡ Some choice
+    → did_at t k ≡ Some (event_by (path_at m.machine.nodes) (path_at n.machine.nodes) did)
 did_by_it m n choice did made t k h is =
     let leads = made.leads (take k t.choices) h.at.events h.at.standing h.led in
     ap (λ (o : Option Position). did_by t.program o (slice_get t.choices k)) (led_in t k m h)
@@ -100,6 +101,7 @@ first_by t k refusal.Memory not bad = absurd (not refl)
 first_by t k refusal.Stale not bad = record { before = k; counted = omega arith; reason = model.stale; is = refl; bad = bad model.stale refl }
 
 -- where all choices are possible, so are the first of them
-pub step_down : (t : Tape) (k : ℕ) (choice : Choice) → slice_get t.choices k ≡ Some choice → position_at t (suc k) ≡ one_more (label t.program) choice (position_at t k)
+pub step_down : (t : Tape) (k : ℕ) (choice : Choice) → slice_get t.choices k ≡ Some choice
+    → position_at t (suc k) ≡ one_more (label t.program) choice (position_at t k)
 step_down t k choice is =
     ap (after (label t.program) t.workers) (through t k choice is) ∙ after-push (label t.program) t.workers (take k t.choices) choice

@@ -1,12 +1,13 @@
 -- A session after one more command.
-use Rattle.std.proofs.Common.{◌≡◌, arith, ℕ, suc, ◌<◌, ◌⊎◌, inl, inr, true, false, List, [], ◌∷◌, ◌++◌, Option, Some, None, refl, sym, ap, ◌∙◌, append_assoc, append-nil}
+use Rattle.std.proofs.Common.{◌≡◌, arith, ℕ, suc, ◌<◌, ◌⊎◌, inl, inr, true, false, List, [], ◌∷◌, ◌++◌, Option, Some, None, refl, sym, ap, ◌∙◌}
+use Rattle.std.proofs.Common.{append_assoc, append-nil}
 use Rattle.std.specs.Prelude.{Err}
 use Rattle.std.specs.Io.KnownBytes.{Appends, Keeps}
 use Rattle.std.proofs.KnownBytes.{Appends-trans, Appends-kept, Consumes-trans}
-use Rattle.cilk_console.specs.Command.{Command}
-use Rattle.cilk_console.specs.Input.{Asked, asking, asked_behind, asked_in, most_lines}
-use Rattle.cilk_console.specs.Taking.{IsLine, TakesLine, TakesLast}
-use Rattle.cilk_console.specs.OneByOne.{OneByOne}
+use Rattle.cilk_debug_console.specs.Command.{Command}
+use Rattle.cilk_debug_console.specs.Input.{Asked, asking, asked_behind, asked_in, most_lines}
+use Rattle.cilk_debug_console.specs.Taking.{IsLine, TakesLine, TakesLast}
+use Rattle.cilk_debug_console.specs.OneByOne.{OneByOne}
 use Rattle.cilk_debug.specs.Debugging.{Debugging}
 use Rattle.cilk_debug.specs.Obeying.{obeyed}
 use Rattle.cilk_debug.specs.Session.{ends_it, answering, heard_all, session_behind, session}
@@ -32,9 +33,12 @@ module _ (law : OneByOne) (d0 d : Debugging) (all : List ℕ) (k : ℕ) (ahead o
     same_bytes rest = append_assoc g.lines (t.line ++ 10 ∷ []) rest ∙ ap (λ l. g.lines ++ l) (append_assoc t.line (10 ∷ []) rest)
 
     goes_there : (rest : List ℕ) → session d0 (taken ++ rest) ≡ answering g.replies (heard_all d (asking c (asked_behind (suc k) rest)))
-    goes_there rest = ap (session d0) (same_bytes rest) ∙ g.goes (t.line ++ 10 ∷ rest) ∙ ap (λ (a : Asked). answering g.replies (heard_all d a)) (behind_line rest)
+    goes_there rest =
+        ap (session d0) (same_bytes rest) ∙ g.goes (t.line ++ 10 ∷ rest)
+        ∙ ap (λ (a : Asked). answering g.replies (heard_all d a)) (behind_line rest)
 
-    goes_next : ends_it c ≡ false → (rest : List ℕ) → session d0 (taken ++ rest) ≡ answering (g.replies ++ (obeyed d c).reply) (session_behind (suc k) (obeyed d c).left rest)
+    goes_next : ends_it c ≡ false → (rest : List ℕ)
+        → session d0 (taken ++ rest) ≡ answering (g.replies ++ (obeyed d c).reply) (session_behind (suc k) (obeyed d c).left rest)
     goes_next on rest =
         goes_there rest ∙ ap (answering g.replies) (goes_on d c (asked_behind (suc k) rest) on)
         ∙ twice g.replies (obeyed d c).reply (session_behind (suc k) (obeyed d c).left rest)
@@ -47,7 +51,9 @@ module _ (law : OneByOne) (d0 d : Debugging) (all : List ℕ) (k : ℕ) (ahead o
         let w = left law d0 d all k ahead old new g (t.line ++ 10 ∷ []) more t.taken in
         record {
           replies = g.replies;
-          is = ap (session d0) (w.1.0 ∙ ends_line w.0) ∙ goes_there w.0 ∙ ap (answering g.replies) (stops d c (asked_behind (suc k) w.0) end) ∙ finished g.replies d None;
+          is =
+              ap (session d0) (w.1.0 ∙ ends_line w.0) ∙ goes_there w.0 ∙ ap (answering g.replies) (stops d c (asked_behind (suc k) w.0) end)
+              ∙ finished g.replies d None;
           written = g.written;
         }
 
@@ -80,7 +86,10 @@ module _ (law : OneByOne) (d0 d : Debugging) (all : List ℕ) (k : ℕ) (ahead o
           let there : IsLine 0 t.line = record { plain = t.is.plain; short = t.is.short; room = first_room k t.is.room } in
           record {
             others = (asked_behind 1 rest).commands;
-            is = ap (λ l. (asked_in l).commands) (append_assoc t.line (10 ∷ []) rest) ∙ ap (λ (a : Asked). a.commands) (law.line 0 t.line rest there) ∙ ap (λ (x : Command). x ∷ (asked_behind 1 rest).commands) (sym t.asks);
+            is =
+                ap (λ l. (asked_in l).commands) (append_assoc t.line (10 ∷ []) rest)
+                ∙ ap (λ (a : Asked). a.commands) (law.line 0 t.line rest there)
+                ∙ ap (λ (x : Command). x ∷ (asked_behind 1 rest).commands) (sym t.asks);
           }
 
       pub short_line : (now : Option (List ℕ)) → Keeps new now → (then ≡ d) ⊎ (then ≡ (obeyed d c).left) → RanShort d0 then all old now
@@ -96,7 +105,8 @@ module _ (law : OneByOne) (d0 d : Debugging) (all : List ℕ) (k : ℕ) (ahead o
             stands = elim stands [ inl same ↦ inl same | inr done ↦ inr (c, (first_line w.0, done)) ];
           }
 
-      pub fails_line : (now : Option (List ℕ)) (rest : Option (List ℕ)) (why : SessionFault) → Answered d then c new now (Err why) → Breaks d0 then all rest old now why
+      pub fails_line : (now : Option (List ℕ)) (rest : Option (List ℕ)) (why : SessionFault) → Answered d then c new now (Err why)
+          → Breaks d0 then all rest old now why
       fails_line now rest (Read fault) a = absurd a
       fails_line now rest Write a = unwritten_line a
       fails_line now rest Memory a = short_line now a.0 a.1
@@ -115,7 +125,8 @@ module _ (law : OneByOne) (d0 d : Debugging) (all : List ℕ) (k : ℕ) (ahead o
     goes_last : session d0 all ≡ record { replies = g.replies ++ (obeyed d c).reply; left = (obeyed d c).left; fault = None }
     goes_last =
         ap (session d0) whole ∙ g.goes t.line ∙ ap (λ (a : Asked). answering g.replies (heard_all d a)) last_asked ∙ ap (answering g.replies) (one_command d c)
-        ∙ twice g.replies (obeyed d c).reply (record { replies = []; left = (obeyed d c).left; fault = None }) ∙ finished (g.replies ++ (obeyed d c).reply) (obeyed d c).left None
+        ∙ twice g.replies (obeyed d c).reply (record { replies = []; left = (obeyed d c).left; fault = None })
+        ∙ finished (g.replies ++ (obeyed d c).reply) (obeyed d c).left None
 
     module _ (then : Debugging) where
       at_left : then ≡ (obeyed d c).left → session d0 all ≡ record { replies = g.replies ++ (obeyed d c).reply; left = then; fault = None }
@@ -154,7 +165,8 @@ module _ (law : OneByOne) (d0 d : Debugging) (all : List ℕ) (k : ℕ) (ahead o
         stands = elim stands [ inl same ↦ inl same | inr done ↦ inr (c, (first_last, done)) ];
       }
 
-      pub fails_last : (now : Option (List ℕ)) (rest : Option (List ℕ)) (why : SessionFault) → Answered d then c new now (Err why) → Breaks d0 then all rest old now why
+      pub fails_last : (now : Option (List ℕ)) (rest : Option (List ℕ)) (why : SessionFault) → Answered d then c new now (Err why)
+          → Breaks d0 then all rest old now why
       fails_last now rest (Read fault) a = absurd a
       fails_last now rest Write a = unwritten_last a
       fails_last now rest Memory a = short_last now a.0 a.1

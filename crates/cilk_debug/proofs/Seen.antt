@@ -2,15 +2,15 @@
 use Rattle.std.proofs.Common.{◌≡◌, ◌≢◌, ℕ, Bool, List, [], ◌++◌, take, length, Option, Some, None, option_map, option_and_then, refl, ap, ◌∙◌, sym, subst}
 use Rattle.cilk_machine.specs.syntax.Tree.{Program}
 use Rattle.cilk_machine.specs.labelled.Bodies.{label}
-use Rattle.cilk_machine.specs.model.State as state
-use Rattle.cilk_machine.specs.model.Run.{Standing, Position}
-use Rattle.cilk_console.proofs.fates_laws.Fates.{each_choice_is_an_event}
-use Rattle.cilk_console.specs.seen.What.{What, where_it_stands}
-use Rattle.cilk_console.specs.seen.Workers.{position_text}
-use Rattle.cilk_console.specs.seen.Views.{shown, first_line, view}
-use Rattle.cilk_console.specs.view.declared.what.What as code
-use Rattle.cilk_console.specs.view.declared.what.What.TheVariants.{Tree, Frame, Globals, Deques, Output, Where, List as Listing}
-use Rattle.cilk_console.specs.view.Words.{what_of}
+use Rattle.cilk_debug_console.specs.model.State as state
+use Rattle.cilk_debug_console.specs.model.Run.{Standing, Position}
+use Rattle.cilk_debug_console.proofs.placed_laws.Fates.{each_choice_is_an_event}
+use Rattle.cilk_debug_console.specs.model.What.{What, where_it_stands}
+use Rattle.cilk_debug_console.specs.model.Workers.{position_text}
+use Rattle.cilk_debug_console.specs.model.Views.{shown, first_line, view}
+use Rattle.cilk_debug_console.specs.view.declared.what.What as code
+use Rattle.cilk_debug_console.specs.view.declared.what.What.TheVariants.{Tree, Frame, Globals, Deques, Output, Where, List as Listing}
+use Rattle.cilk_debug_console.specs.view.Words.{what_of}
 use Rattle.cilk_machine.specs.Situation.{Situation, workers_of}
 use Rattle.cilk_machine.specs.Stands.{StandsAt}
 use Rattle.cilk_debug.specs.Tape.{Tape, IsAt}
@@ -74,13 +74,11 @@ module _ (t : Tape) (m : Situation) (h : IsAt t m.choices m) where
       ∙ ap (position_text (label t.program) h.at.standing.state.outcome (length h.at.events)) all_is
       ∙ sym led_line
 
-  pub with_line : (text : List ℕ) → shown m.program h.at where_it_stands ≡ Some text
-      → seen_behind t m.choices where_it_stands ≡ Some (line_behind t m.choices ++ text)
-  with_line text e = shown_by where_it_stands (Some text) e ∙ ap (λ (line : List ℕ). Some (line ++ text)) (sym led_line)
-
 -- the same as a debugger tells it
-pub line_seen : (d : Debugging) (t : Tape) (m : Situation) (marks : List Bool) → d ≡ record { tape = t; position = m.choices; marks = marks } → (h : IsAt t m.choices m)
-    → (outcome : state.Outcome) (made all : ℕ) → ((at : Standing) → StandsAt m at → outcome ≡ at.state.outcome) → made ≡ d.position → all ≡ length d.tape.choices
+pub line_seen : (d : Debugging) (t : Tape) (m : Situation) (marks : List Bool)
+    → d ≡ record { tape = t; position = m.choices; marks = marks } → (h : IsAt t m.choices m)
+    → (outcome : state.Outcome) (made all : ℕ) → ((at : Standing) → StandsAt m at → outcome ≡ at.state.outcome) → made ≡ d.position
+    → all ≡ length d.tape.choices
     → position_text (label t.program) outcome made all ≡ line_behind d.tape d.position
 line_seen d t m marks is h outcome made all stood made_is all_is =
     line_here t m h outcome made all (stood h.at.standing (stands t m h)) (made_is ∙ ap (λ (e : Debugging). e.position) is)

@@ -2,10 +2,10 @@
 use Rattle.std.proofs.Common.{◌≡◌, ℕ, inl, true, false, List, [], ◌∷◌, ◌++◌, Option, Some, None, refl, sym, ap, ◌∙◌, append_assoc, append-nil, subst}
 use Rattle.std.specs.Io.KnownBytes.{Appends, Consumes, IsAtEnd}
 use Rattle.std.proofs.KnownBytes.{Appends-nil, Consumes-nil, Consumes-trans}
-use Rattle.cilk_console.specs.Command.{Command, step, back, go, next, previous, set, clear, see, quit, nothing, unknown}
-use Rattle.cilk_console.specs.Input.{Fault, Asked, line_too_long, too_many_lines, faulty, asking, asked_behind}
-use Rattle.cilk_console.specs.Taking.{IsCut, IsTooLong, IsTooMany}
-use Rattle.cilk_console.specs.OneByOne.{OneByOne}
+use Rattle.cilk_debug_console.specs.Command.{Command, step, back, go, next, previous, set, clear, see, quit, nothing, unknown}
+use Rattle.cilk_debug_console.specs.Input.{Fault, Asked, line_too_long, too_many_lines, faulty, asking, asked_behind}
+use Rattle.cilk_debug_console.specs.Taking.{IsCut, IsTooLong, IsTooMany}
+use Rattle.cilk_debug_console.specs.OneByOne.{OneByOne}
 use Rattle.cilk_debug.specs.Debugging.{Debugging}
 use Rattle.cilk_debug.specs.Obeying.{obeyed}
 use Rattle.cilk_debug.specs.Session.{Session, ends_it, answering, heard, heard_all, session_behind, session}
@@ -30,7 +30,8 @@ started d all ahead old is = record {
   goes = λ more. refl;
 }
 
-pub finished : (replies : List ℕ) (d : Debugging) (fault : Option Fault) → answering replies (record { replies = []; left = d; fault = fault }) ≡ record { replies = replies; left = d; fault = fault }
+pub finished : (replies : List ℕ) (d : Debugging) (fault : Option Fault)
+    → answering replies (record { replies = []; left = d; fault = fault }) ≡ record { replies = replies; left = d; fault = fault }
 finished replies d fault = ap (λ (r : List ℕ). record { replies = r; left = d; fault = fault }) (append-nil replies)
 
 pub so_far : (d0 d : Debugging) (all : List ℕ) (k : ℕ) (ahead old new : Option (List ℕ)) (g : Going d0 d all k ahead old new)
@@ -39,7 +40,8 @@ so_far d0 d all k ahead old new g = ap (session d0) (sym (append-nil g.lines)) �
 
 -- ---- one command
 
-pub one_command : (d : Debugging) (c : Command) → heard d (c ∷ []) None ≡ answering (obeyed d c).reply (record { replies = []; left = (obeyed d c).left; fault = None })
+pub one_command : (d : Debugging) (c : Command)
+    → heard d (c ∷ []) None ≡ answering (obeyed d c).reply (record { replies = []; left = (obeyed d c).left; fault = None })
 one_command d step = refl
 one_command d back = refl
 one_command d (go k) = refl
@@ -52,7 +54,8 @@ one_command d quit = refl
 one_command d nothing = refl
 one_command d unknown = refl
 
-pub goes_on : (d : Debugging) (c : Command) (others : Asked) → ends_it c ≡ false → heard_all d (asking c others) ≡ answering (obeyed d c).reply (heard_all (obeyed d c).left others)
+pub goes_on : (d : Debugging) (c : Command) (others : Asked) → ends_it c ≡ false
+    → heard_all d (asking c others) ≡ answering (obeyed d c).reply (heard_all (obeyed d c).left others)
 goes_on d c others on = rw on refl
 
 pub stops : (d : Debugging) (c : Command) (others : Asked) → ends_it c ≡ true → heard_all d (asking c others) ≡ record { replies = []; left = d; fault = None }
@@ -100,12 +103,15 @@ module _ (law : OneByOne) (d0 d : Debugging) (all : List ℕ) (k : ℕ) (ahead o
     answers = record { replies = g.replies; is = so_far d0 d all k ahead old new g; written = g.written };
   }
 
-  ends_in : (fault : Fault) (part : List ℕ) (more : Option (List ℕ)) → Consumes ahead more part → ((rest : List ℕ) → asked_behind k (part ++ rest) ≡ faulty fault) → Answers d0 d all (Some fault) old new
+  ends_in : (fault : Fault) (part : List ℕ) (more : Option (List ℕ)) → Consumes ahead more part
+      → ((rest : List ℕ) → asked_behind k (part ++ rest) ≡ faulty fault) → Answers d0 d all (Some fault) old new
   ends_in fault part more taken is =
       let w = left part more taken in
       record {
         replies = g.replies;
-        is = ap (session d0) w.1.0 ∙ g.goes (part ++ w.0) ∙ ap (λ (a : Asked). answering g.replies (heard_all d a)) (is w.0) ∙ finished g.replies d (Some fault);
+        is =
+            ap (session d0) w.1.0 ∙ g.goes (part ++ w.0) ∙ ap (λ (a : Asked). answering g.replies (heard_all d a)) (is w.0)
+            ∙ finished g.replies d (Some fault);
         written = g.written;
       }
 

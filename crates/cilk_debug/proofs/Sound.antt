@@ -2,13 +2,13 @@
 use Rattle.std.proofs.Common.{◌≡◌, ◌≢◌, ◌≤◌, ◌<◌, ℕ, suc, Bool, false, List, length, Option, Some, None, refl, sym, ap, ◌∙◌, subst, arith, replicate, map}
 use Rattle.std.proofs.lemmas.List.{length-map, length-replicate}
 use Rattle.cilk_machine.specs.syntax.Tree.{Program}
-use Rattle.cilk_console.specs.choices.declared.choice.Choice as code
-use Rattle.cilk_console.specs.choices.Words.{choice_of}
+use Rattle.cilk_debug_console.specs.choices.declared.choice.Choice as code
+use Rattle.cilk_debug_console.specs.choices.Words.{choice_of}
 use Rattle.cilk_machine.specs.labelled.Labelled.{Labelled}
 use Rattle.cilk_machine.specs.labelled.Bodies.{label}
 use Rattle.cilk_machine.specs.labelled.Count.{count_program}
-use Rattle.cilk_machine.specs.model.Choice.{Choice}
-use Rattle.cilk_machine.specs.model.Run.{Position, is_crew, after_main}
+use Rattle.cilk_debug_console.specs.model.Choice.{Choice}
+use Rattle.cilk_debug_console.specs.model.Run.{Position, is_crew, after_main}
 use Rattle.cilk_machine.specs.Situation.{Situation}
 use Rattle.cilk_debug.specs.Tape.{Tape, tape_of, position_at, IsPlayable, IsAt}
 use Rattle.cilk_debug.proofs.Again.{led_in}
@@ -18,27 +18,19 @@ use Rattle.cilk_debug.specs.declared.fault.DebugFault.TheVariants.{Workers, BadC
 use Rattle.cilk_debug.specs.Debugging.{IsSound}
 use Rattle.cilk_debug.specs.Seeking.{Stopped}
 use Rattle.cilk_debug.proofs.Stops.{stands_there}
-use Rattle.cilk_debug.specs.Faults.{Tells}
+use Rattle.cilk_debug.specs.Faults.{IsFaultOf}
 
-crew_by : (program : Labelled) (n : ℕ) (main : Option ℕ) (choices : List Choice) (at : Position) → is_crew n ≡ false → after_main program n main choices ≡ Some at → ⊥
+crew_by : (program : Labelled) (n : ℕ) (main : Option ℕ) (choices : List Choice) (at : Position) → is_crew n ≡ false
+    → after_main program n main choices ≡ Some at → ⊥
 crew_by program n None choices at none h = cc
 crew_by program n (Some main) choices at none h = cc
-
--- of choices that are all possible no fault is told but want of memory
-pub told_none : (t : Tape) → IsPlayable t → (f : DebugFault) → Tells t f → f ≢ Memory → ⊥
-told_none t whole Workers told not = crew_by (label t.program) t.workers (label t.program).main _ whole.at told whole.led
-told_none t whole (BadChoice k refusal) told not = none_is_bad t whole told.before told.reason told.bad
-told_none t whole AtEnd told not = told
-told_none t whole AtStart told not = told
-told_none t whole NoStatement told not = told
-told_none t whole OutOfRange told not = told
-told_none t whole Memory told not = not refl
 
 -- a machine behind all choices shows that they are possible
 pub playable_by : (t : Tape) (k : ℕ) (m : Situation) → k ≡ length t.choices → IsAt t k m → IsPlayable t
 playable_by t k m end h = record { at = h.at; led = subst (λ (j : ℕ). position_at t j ≡ Some h.at) end (led_in t k m h) }
 
-pub sound_at : (t : Tape) (k : ℕ) (m : Situation) (marks : List Bool) → IsPlayable t → k ≤ length t.choices → IsAt t k m → length marks ≡ count_program t.program → IsSound t m marks
+pub sound_at : (t : Tape) (k : ℕ) (m : Situation) (marks : List Bool) → IsPlayable t → k ≤ length t.choices → IsAt t k m
+    → length marks ≡ count_program t.program → IsSound t m marks
 sound_at t k m marks whole within h marked = record {
   whole = whole;
   within = subst (λ (j : ℕ). j ≤ length t.choices) (sym h.choices) within;

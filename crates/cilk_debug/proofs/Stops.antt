@@ -1,9 +1,10 @@
 -- Where a move to a breakpoint ends.
-use Rattle.std.proofs.Common.{◌≡◌, ◌<◌, ℕ, suc, ◌+◌, ◌-◌, Bool, true, false, List, Option, Some, None, option_map, unwrap_or, is_some, length, map, ap, ◌∙◌, subst, sym, arith, if◌then◌else◌}
+use Rattle.std.proofs.Common.{◌≡◌, ◌<◌, ℕ, suc, ◌+◌, ◌-◌, Bool, true, false, List, Option, Some, None, option_map, unwrap_or, is_some, length, map}
+use Rattle.std.proofs.Common.{ap, ◌∙◌, subst, sym, arith, if◌then◌else◌}
 use Rattle.std.proofs.lemmas.List.{length-map}
 use Rattle.std.specs.List.{find, range_with_len}
-use Rattle.cilk_console.specs.choices.declared.choice.Choice as code
-use Rattle.cilk_console.specs.choices.Words.{choice_of}
+use Rattle.cilk_debug_console.specs.choices.declared.choice.Choice as code
+use Rattle.cilk_debug_console.specs.choices.Words.{choice_of}
 use Rattle.cilk_machine.specs.Situation.{Situation}
 use Rattle.cilk_debug.specs.Tape.{Tape, IsAt}
 use Rattle.cilk_debug.specs.Breaks.{stops, down_from}
@@ -18,10 +19,13 @@ pub same_length : (t : Tape) (xs : List code.Choice) → t.choices ≡ map choic
 same_length t xs same = ap length same ∙ length-map xs choice_of
 
 module _ (t : Tape) (marks : List Bool) (from made : ℕ) (m : Situation) (same : seen_from t marks from ≡ seen_from t marks made) where
-  position_by : (o : Option ℕ) → seen_from t marks made ≡ o → unwrap_or (option_map (λ (k : ℕ). k + 1) (seen_from t marks from)) (length t.choices) ≡ unwrap_or (option_map (λ (k : ℕ). k + 1) o) (length t.choices)
+  position_by : (o : Option ℕ) → seen_from t marks made ≡ o
+      → unwrap_or (option_map (λ (k : ℕ). k + 1) (seen_from t marks from)) (length t.choices)
+      ≡ unwrap_or (option_map (λ (k : ℕ). k + 1) o) (length t.choices)
   position_by o e = ap (λ (o : Option ℕ). unwrap_or (option_map (λ (k : ℕ). k + 1) o) (length t.choices)) (same ∙ e)
 
-  found_by : (o : Option ℕ) → seen_from t marks made ≡ o → is_some (option_map (λ (k : ℕ). k + 1) (seen_from t marks from)) ≡ is_some (option_map (λ (k : ℕ). k + 1) o)
+  found_by : (o : Option ℕ) → seen_from t marks made ≡ o
+      → is_some (option_map (λ (k : ℕ). k + 1) (seen_from t marks from)) ≡ is_some (option_map (λ (k : ℕ). k + 1) o)
   found_by o e = ap (λ (o : Option ℕ). is_some (option_map (λ (k : ℕ). k + 1) o)) (same ∙ e)
 
   pub stopped_here : stops t marks made ≡ true → made < length t.choices → IsAt t (suc made) m → m.choices ≡ suc made → Stopped t marks from m true

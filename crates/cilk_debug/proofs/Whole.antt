@@ -3,8 +3,8 @@ use Rattle.std.proofs.Common.{◌≡◌, ℕ, zero, suc, ◌+◌, ◌≤◌, ◌
 use Rattle.std.proofs.lemmas.Option.{slice_get-get_or, slice_get_within}
 use Rattle.cilk_machine.specs.labelled.Bodies.{label}
 use Rattle.cilk_machine.specs.labelled.Labelled.{Labelled}
-use Rattle.cilk_machine.specs.model.Choice.{Choice, Refusal, step}
-use Rattle.cilk_machine.specs.model.Run.{Position, refusal_of, one_more, position_after}
+use Rattle.cilk_debug_console.specs.model.Choice.{Choice, Refusal, step}
+use Rattle.cilk_debug_console.specs.model.Run.{Position, refusal_of, one_more, position_after}
 use Rattle.cilk_debug.specs.Tape.{Tape, position_at, IsPlayable, IsBad}
 use Rattle.cilk_debug.proofs.Again.{step_down}
 
@@ -13,7 +13,8 @@ pub record Leads (t : Tape) (k : ℕ) : Type 0 where
   pub at : Position
   pub led : position_at t k ≡ Some at
 
-before_more : (t : Tape) (k : ℕ) (choice : Choice) (o : Option Position) (end : Position) → position_at t k ≡ o → one_more (label t.program) choice o ≡ Some end → Leads t k
+before_more : (t : Tape) (k : ℕ) (choice : Choice) (o : Option Position) (end : Position) → position_at t k ≡ o
+    → one_more (label t.program) choice o ≡ Some end → Leads t k
 before_more t k choice None end e h = cc
 before_more t k choice (Some at) end e h = record { at = at; led = e }
 

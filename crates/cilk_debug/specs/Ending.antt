@@ -1,10 +1,10 @@
 -- How a session ends over a reader that tells its bytes.
 use Rattle.std.specs.Prelude.{◌≡◌, ℕ, ◌⊎◌, List, [], ◌∷◌, ◌++◌, Option, Some, None}
 use Rattle.std.specs.Io.KnownBytes.{Appends, Consumes}
-use Rattle.cilk_console.specs.Command.{Command}
-use Rattle.cilk_console.specs.Input.{Fault, line_too_long, too_many_lines, asked_in}
-use Rattle.cilk_console.specs.Taking.{IsPlain}
-use Rattle.cilk_console.specs.declared.fault.ReadFault.TheVariants.{Device, LineTooLong, TooManyLines}
+use Rattle.cilk_debug_console.specs.Command.{Command}
+use Rattle.cilk_debug_console.specs.Input.{Fault, line_too_long, too_many_lines, asked_in}
+use Rattle.cilk_debug_console.specs.Taking.{IsPlain}
+use Rattle.cilk_debug_console.specs.declared.fault.InputFault.TheVariants.{Device, LineTooLong, TooManyLines}
 use Rattle.cilk_debug.specs.Debugging.{Debugging}
 use Rattle.cilk_debug.specs.Obeying.{obeyed}
 use Rattle.cilk_debug.specs.Session.{session}

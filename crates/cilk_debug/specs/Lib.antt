@@ -11,5 +11,5 @@ pub mod Seeking
 pub mod Session
 pub mod Tape
 pub mod ReplayFaults
-pub use Rattle.cilk_console.specs as console
-pub use Rattle.cilk_console.specs.log
+pub use Rattle.cilk_debug_console.specs as console
+pub use Rattle.cilk_debug_console.specs.log

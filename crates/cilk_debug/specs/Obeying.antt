@@ -1,8 +1,8 @@
 -- What a debugger does at a command, and what it answers.
 use Rattle.std.specs.Prelude.{ℕ, ◌+◌, ◌-◌, nat_le, nat_lt, ◌&&◌, Bool, true, false, if◌then◌else◌, List, [], length, slice_set, codes, Option, Some, None}
 use Rattle.cilk_machine.specs.labelled.Count.{count_program}
-use Rattle.cilk_console.specs.seen.What.{where_it_stands}
-use Rattle.cilk_console.specs.Command.{Command, step, back, go, next, previous, set, clear, see, quit, nothing, unknown}
+use Rattle.cilk_debug_console.specs.model.What.{where_it_stands}
+use Rattle.cilk_debug_console.specs.Command.{Command, step, back, go, next, previous, set, clear, see, quit, nothing, unknown}
 use Rattle.cilk_debug.specs.Debugging.{Debugging}
 use Rattle.cilk_debug.specs.Seeing.{seen_at}
 use Rattle.cilk_debug.specs.Seeking.{forward_position, back_position}

@@ -1,9 +1,9 @@
 -- Why choices cannot be made again.
 use Rattle.std.specs.Prelude.{◌≡◌, ℕ, suc, ⊤, false, Some}
-use Rattle.cilk_machine.specs.model.Choice.{Refusal}
-use Rattle.cilk_machine.specs.model.Run.{is_crew}
-use Rattle.cilk_console.specs.choices.declared.refusal.Refusal as code
-use Rattle.cilk_console.specs.choices.Words.{reason_of}
+use Rattle.cilk_debug_console.specs.model.Choice.{Refusal}
+use Rattle.cilk_debug_console.specs.model.Run.{is_crew}
+use Rattle.cilk_debug_console.specs.choices.declared.refusal.Refusal as code
+use Rattle.cilk_debug_console.specs.choices.Words.{reason_of}
 use Rattle.cilk_debug.specs.Tape.{Tape, IsBad}
 use Rattle.cilk_debug.specs.declared.replay_fault.ReplayFault.{ReplayFault}
 use Rattle.cilk_debug.specs.declared.replay_fault.ReplayFault.TheVariants.{Workers, BadChoice, Memory}
@@ -17,7 +17,7 @@ pub record IsFirst (t : Tape) (k : ℕ) (refusal : code.Refusal) : Type 0 where
   pub bad : IsBad t before reason
 
 -- memory may always run out
-abbrev pub Tells : Tape → ReplayFault → Type 0
-Tells t Workers = is_crew t.workers ≡ false
-Tells t (BadChoice k refusal) = IsFirst t k refusal
-Tells t Memory = ⊤
+abbrev pub IsFaultOf : Tape → ReplayFault → Type 0
+IsFaultOf t Workers = is_crew t.workers ≡ false
+IsFaultOf t (BadChoice k refusal) = IsFirst t k refusal
+IsFaultOf t Memory = ⊤

@@ -1,9 +1,9 @@
 -- What the code's words for answers mean.
 use Rattle.std.specs.Prelude.{◌≡◌, ◌⊎◌, ℕ, List, [], Option, Result, Ok, Err, codes, string_bytes}
 use Rattle.std.specs.Io.KnownBytes.{Appends, Keeps}
-use Rattle.cilk_console.specs.Command.{Command}
-use Rattle.cilk_console.specs.declared.fault.LineFault.{LineFault}
-use Rattle.cilk_console.specs.declared.fault.LineFault.TheVariants as line
+use Rattle.cilk_debug_console.specs.Command.{Command}
+use Rattle.cilk_debug_console.specs.declared.fault.LineFault.{LineFault}
+use Rattle.cilk_debug_console.specs.declared.fault.LineFault.TheVariants as line
 use Rattle.cilk_debug.specs.Debugging.{Debugging}
 use Rattle.cilk_debug.specs.Obeying.{obeyed}
 use Rattle.cilk_debug.specs.declared.reply.Reply.{Reply}

@@ -1,8 +1,8 @@
 -- What a debugger shows.
 use Rattle.std.specs.Prelude.{ℕ, List, [], length, Option, Some, None, option_and_then}
-use Rattle.cilk_machine.specs.model.Run.{Position}
-use Rattle.cilk_console.specs.seen.What.{What, where_it_stands}
-use Rattle.cilk_console.specs.seen.Views.{first_line, view}
+use Rattle.cilk_debug_console.specs.model.Run.{Position}
+use Rattle.cilk_debug_console.specs.model.What.{What, where_it_stands}
+use Rattle.cilk_debug_console.specs.model.Views.{first_line, view}
 use Rattle.cilk_debug.specs.Tape.{Tape, position_at}
 use Rattle.cilk_debug.specs.Debugging.{Debugging}
 

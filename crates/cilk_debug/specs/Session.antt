@@ -1,7 +1,7 @@
 -- A session: commands that are read line by line and obeyed one after the other.
 use Rattle.std.specs.Prelude.{ℕ, Bool, true, false, if◌then◌else◌, List, [], ◌∷◌, ◌++◌, Option, None}
-use Rattle.cilk_console.specs.Command.{Command, step, back, go, next, previous, set, clear, see, quit, nothing, unknown}
-use Rattle.cilk_console.specs.Input.{Fault, Asked, asked_behind}
+use Rattle.cilk_debug_console.specs.Command.{Command, step, back, go, next, previous, set, clear, see, quit, nothing, unknown}
+use Rattle.cilk_debug_console.specs.Input.{Fault, Asked, asked_behind}
 use Rattle.cilk_debug.specs.Debugging.{Debugging}
 use Rattle.cilk_debug.specs.Obeying.{obeyed}
 

@@ -2,11 +2,11 @@
 use Rattle.std.specs.Prelude.{◌≡◌, ℕ, List, map, take, length, Option, Some, None, slice_get}
 use Rattle.cilk_machine.specs.syntax.Tree.{Program}
 use Rattle.cilk_machine.specs.labelled.Bodies.{label}
-use Rattle.cilk_machine.specs.model.Choice.{Choice, Refusal}
-use Rattle.cilk_machine.specs.model.Event.{Event}
-use Rattle.cilk_machine.specs.model.Run.{Position, after, refusal_of, event_of}
-use Rattle.cilk_console.specs.choices.declared.choice.Choice as code
-use Rattle.cilk_console.specs.choices.Words.{choice_of}
+use Rattle.cilk_debug_console.specs.model.Choice.{Choice, Refusal}
+use Rattle.cilk_debug_console.specs.model.Event.{Event}
+use Rattle.cilk_debug_console.specs.model.Run.{Position, after, refusal_of, event_of}
+use Rattle.cilk_debug_console.specs.choices.declared.choice.Choice as code
+use Rattle.cilk_debug_console.specs.choices.Words.{choice_of}
 use Rattle.cilk_machine.specs.Situation.{Situation, workers_of}
 use Rattle.cilk_machine.specs.Stands.{Led}
 

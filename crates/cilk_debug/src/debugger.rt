@@ -1,12 +1,13 @@
 //! A recorded schedule with a position in it: moves to other positions, breakpoints, and views from there.
 
-ghost use Rattle.std.specs.Prelude.{◌≡◌, ◌≤◌, ◌<◌, ◌+◌, ℕ, ◌-◌, IfOk, IfErr, OnOk, OnErr, IfSome, length, replicate, slice_set, true, false, Err, ◌++◌, string_bytes, List};
+ghost use Rattle.std.specs.Prelude.{◌≡◌, ◌≤◌, ◌<◌, ◌+◌, ℕ, ◌-◌, IfOk, IfErr, OnOk, OnErr, IfSome, length, replicate, slice_set, true, false, Err};
+ghost use Rattle.std.specs.Prelude.{◌++◌, string_bytes, List};
 ghost use Rattle.cilk_machine.specs.labelled.Count.{count_program};
-ghost use Rattle.cilk_machine.specs.model.Run.{is_crew};
+ghost use Rattle.cilk_debug_console.specs.model.Run.{is_crew};
 ghost use Rattle.cilk_debug.specs.Tape.{tape_of, IsAt, IsPlayable};
-ghost use Rattle.cilk_debug.specs.Faults.{Tells};
+ghost use Rattle.cilk_debug.specs.Faults.{IsFaultOf};
 ghost use Rattle.cilk_debug.specs.Moves.{StaysBehind, StaysAhead, StaysFrom, HasNo};
-ghost use Rattle.cilk_console.specs.view.Words.{what_of};
+ghost use Rattle.cilk_debug_console.specs.view.Words.{what_of};
 ghost use Rattle.cilk_debug.specs.Seeing.{seen_at, line_behind};
 ghost use Rattle.cilk_debug.specs.Seeking.{forward_position, is_any_ahead, back_position, is_any_behind, last_among};
 
@@ -14,7 +15,7 @@ use crate::fault::DebugFault;
 use crate::position::put_position;
 use crate::seeking::{last_met, run_on};
 use crate::{ReplayFault, is_crew, make_again, play};
-use cilk_console::{Loaded, Log};
+use cilk_debug_console::{Loaded, Log};
 use cilk_machine::{Machine, Memory, ViewFault, What};
 use std::alloc::Global;
 use std::marker::Model;
@@ -85,7 +86,7 @@ impl Debugger {
         ensures start { IfOk result (λ d. d.position ≡ 0) }
         ensures marks { IfOk result (λ d. d.marks ≡ replicate (count_program program) false) }
         ensures whole { IfOk result (λ d. IsPlayable d.tape) }
-        ensures told { IfErr result (Tells (tape_of program log.workers log.choices)) }
+        ensures told { IfErr result (IsFaultOf (tape_of program log.workers log.choices)) }
         ensures crew { is_crew log.workers ≡ false → result ≡ Err DebugFault.Workers }
     {
         if !is_crew(log.workers) {
@@ -340,7 +341,7 @@ impl Debugger {
 fn played(alloc: Global, program: &Loaded, log: &Log, count: usize) -> Result<Machine, DebugFault>
     requires { count ≤ length log.now.choices }
     ensures stands { IfOk result (IsAt (tape_of program.now log.now.workers log.now.choices) count) }
-    ensures told { IfErr result (Tells (tape_of program.now log.now.workers log.now.choices)) }
+    ensures told { IfErr result (IsFaultOf (tape_of program.now log.now.workers log.now.choices)) }
 {
     match program.copy() {
         Err(_) => Err(DebugFault::Memory),

@@ -1,6 +1,6 @@
 //! What breaks off a session of a debugger: its input, its writer, or want of memory.
 
-use cilk_console::ReadFault;
+use cilk_debug_console::InputFault;
 use thiserror::Error;
 
 /// Why a session ends before its input does.
@@ -8,7 +8,7 @@ use thiserror::Error;
 pub enum SessionFault {
     /// The input is at fault.
     #[error("B7 {0}")]
-    Read(ReadFault),
+    Read(InputFault),
     /// The writer failed, so a part of the answer may be written.
     #[error("B8")]
     Write,

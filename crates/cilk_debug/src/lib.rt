@@ -13,7 +13,7 @@ mod seeking;
 mod session;
 mod stopping;
 
-pub use cilk_console::{Choices, Log, LogFault, ReadFault, read_log, write_log};
+pub use cilk_debug_console::{Choices, InputFault, Log, LogFault, read_log, write_log};
 pub use cilk_machine::{ViewFault, What};
 pub use debugger::Debugger;
 pub use ending::SessionFault;

@@ -1,9 +1,9 @@
 //! One command of a session.
 
 ghost use Rattle.std.specs.Prelude.{◌≡◌, None, Ok, IfOk, IfErr};
-ghost use Rattle.cilk_console.specs.Command as asked;
-ghost use Rattle.cilk_console.specs.Words.{asked_of};
-ghost use Rattle.cilk_console.specs.view.Words.{what_of};
+ghost use Rattle.cilk_debug_console.specs.Command as asked;
+ghost use Rattle.cilk_debug_console.specs.Words.{asked_of};
+ghost use Rattle.cilk_debug_console.specs.view.Words.{what_of};
 ghost use Rattle.cilk_debug.specs.Obeying.{shown_text};
 ghost use Rattle.cilk_debug.specs.Seeing.{seen_at};
 ghost use Rattle.cilk_debug.specs.Replies.{reply_text, Obeys};
@@ -12,7 +12,7 @@ use crate::debugger::Debugger;
 use crate::ending::SessionFault;
 use crate::fault::DebugFault;
 use crate::reply::Reply;
-use cilk_console::Command;
+use cilk_debug_console::Command;
 use cilk_machine::{ViewFault, What};
 
 impl Debugger {

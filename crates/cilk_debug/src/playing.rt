@@ -1,16 +1,16 @@
 //! The first choices of a schedule, made again from the start of a program.
 
 ghost use Rattle.std.specs.Prelude.{List, ◌≡◌, ◌≤◌, ◌<◌, ◌-◌, ◌^◌, ℕ, suc, false, IfOk, IfErr, OnOk, OnErr, length, Some, Err, slice_get, map, option_copied};
-ghost use Rattle.cilk_machine.specs.model.Choice as model;
-ghost use Rattle.cilk_machine.specs.model.Run.{is_crew};
-ghost use Rattle.cilk_console.specs.choices.Words.{choice_of, reason_of};
+ghost use Rattle.cilk_debug_console.specs.model.Choice as model;
+ghost use Rattle.cilk_debug_console.specs.model.Run.{is_crew};
+ghost use Rattle.cilk_debug_console.specs.choices.Words.{choice_of, reason_of};
 ghost use Rattle.cilk_machine.specs.spawn.Nodes.{path_at};
 ghost use Rattle.cilk_machine.specs.carries.Words.{event_by};
 ghost use Rattle.cilk_debug.specs.Tape.{Tape, tape_of, did_at, IsAt, IsBad};
-ghost use Rattle.cilk_debug.specs.ReplayFaults.{Tells};
+ghost use Rattle.cilk_debug.specs.ReplayFaults.{IsFaultOf};
 
 use crate::replay_fault::ReplayFault;
-use cilk_console::Loaded;
+use cilk_debug_console::Loaded;
 use cilk_machine::{Choice, Did, Machine, MachineFault, Refusal};
 use std::alloc::Global;
 
@@ -32,7 +32,7 @@ pub fn play(
 ) -> Result<Machine, ReplayFault>
     requires { count ≤ length choices.now }
     ensures stands { IfOk result (IsAt (tape_of program workers choices.now) count) }
-    ensures told { IfErr result (Tells (tape_of program workers choices.now)) }
+    ensures told { IfErr result (IsFaultOf (tape_of program workers choices.now)) }
     ensures crew { is_crew workers ≡ false → result ≡ Err ReplayFault.Workers }
 {
     if !is_crew(workers) {
@@ -49,7 +49,7 @@ fn played(machine: Machine, choices: &[Choice], count: usize) -> Result<Machine,
     requires room { count ≤ length choices.now }
     requires none { machine.choices ≡ 0 }
     ensures stands { IfOk result (λ m. (t : Tape) → t.choices ≡ map choice_of choices.now → IsAt t 0 machine → IsAt t count m) }
-    ensures told { IfErr result (λ why. (t : Tape) → t.choices ≡ map choice_of choices.now → IsAt t 0 machine → Tells t why) }
+    ensures told { IfErr result (λ why. (t : Tape) → t.choices ≡ map choice_of choices.now → IsAt t 0 machine → IsFaultOf t why) }
 {
     let mut machine = machine;
     for made in 0..count {
@@ -65,7 +65,7 @@ fn played(machine: Machine, choices: &[Choice], count: usize) -> Result<Machine,
 fn opened(alloc: Global, program: Loaded, workers: u8) -> Result<Machine, ReplayFault>
     ensures none { IfOk result (λ m. m.choices ≡ 0) }
     ensures stands { IfOk result (λ m. (choices : List model.Choice) → IsAt (record { program = program; workers = workers; choices = choices }) 0 m) }
-    ensures told { IfErr result (λ why. (choices : List model.Choice) → Tells (record { program = program; workers = workers; choices = choices }) why) }
+    ensures told { IfErr result (λ why. (choices : List model.Choice) → IsFaultOf (record { program = program; workers = workers; choices = choices }) why) }
 {
     match Machine::new(alloc, program, workers) {
         Ok(machine) => Ok(machine),
@@ -87,7 +87,7 @@ pub fn make_again(
     ensures made { OnOk result (machine.new.choices ≡ suc made) }
     ensures did { IfOk result (λ did. (t : Tape) → t.choices ≡ map choice_of choices.now → IsAt t made machine.old
         → did_at t made ≡ Some (event_by (path_at machine.old.machine.nodes) (path_at machine.new.machine.nodes) did)) }
-    ensures told { IfErr result (λ why. (t : Tape) → t.choices ≡ map choice_of choices.now → IsAt t made machine.old → Tells t why) }
+    ensures told { IfErr result (λ why. (t : Tape) → t.choices ≡ map choice_of choices.now → IsAt t made machine.old → IsFaultOf t why) }
     ensures unchanged { OnErr result (machine.new ≡ machine.old) }
 {
     match chosen(choices, made) {
@@ -107,7 +107,7 @@ fn chosen(choices: &[Choice], k: usize) -> Option<&Choice>
 
 fn refused(made: usize, refusal: Refusal) -> ReplayFault
     requires { made < 2 ^ 64 - 1 }
-    ensures { (t : Tape) → ((why : model.Refusal) → reason_of refusal ≡ Some why → IsBad t made why) → Tells t result }
+    ensures { (t : Tape) → ((why : model.Refusal) → reason_of refusal ≡ Some why → IsBad t made why) → IsFaultOf t result }
 {
     match refusal {
         Refusal::Memory => ReplayFault::Memory,

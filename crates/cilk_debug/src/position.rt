@@ -1,16 +1,16 @@
 //! The line that tells where a program stands.
 
 ghost use Rattle.std.specs.Prelude.{◌≡◌};
-ghost use Rattle.cilk_console.specs.canonical.Appends.{Appends};
+ghost use Rattle.cilk_debug_console.specs.canonical.Appends.{Appends};
 ghost use Rattle.cilk_machine.specs.labelled.Bodies.{label};
-ghost use Rattle.cilk_machine.specs.model.End.{kind_text, trap_text};
-ghost use Rattle.cilk_machine.specs.model.Path.{path_text};
-ghost use Rattle.cilk_console.specs.choices.Words.{outcome_of};
+ghost use Rattle.cilk_debug_console.specs.model.End.{kind_text, trap_text};
+ghost use Rattle.cilk_debug_console.specs.model.Path.{path_text};
+ghost use Rattle.cilk_debug_console.specs.choices.Words.{outcome_of};
 ghost use Rattle.cilk_machine.specs.spawn.Kinds.{kind_of};
-ghost use Rattle.cilk_console.specs.seen.Workers.{outcome_text, position_text};
+ghost use Rattle.cilk_debug_console.specs.model.Workers.{outcome_text, position_text};
 
-use cilk_console::{Loaded, Trap};
-use cilk_machine::{Kind, Memory, Outcome, Path};
+use cilk_debug_console::{Loaded, Trap};
+use cilk_machine::{Memory, Outcome, Path, TrapKind};
 
 /// So many of all choices were made, and the program stands so.
 pub(crate) fn put_position(
@@ -65,16 +65,16 @@ fn put_path(out: &mut String, path: &Path) -> Result<(), Memory>
     Ok(())
 }
 
-fn kind_name(kind: Kind) -> &'static str
+fn kind_name(kind: TrapKind) -> &'static str
     ensures { result.now ≡ kind_text (kind_of kind) }
 {
     match kind {
-        Kind::Value(trap) => trap_name(trap),
-        Kind::Lock => "Lock",
-        Kind::HeldLock => "HeldLock",
-        Kind::Depth => "Depth",
-        Kind::Instances => "Instances",
-        Kind::Output => "Output",
+        TrapKind::Value(trap) => trap_name(trap),
+        TrapKind::Lock => "Lock",
+        TrapKind::HeldLock => "HeldLock",
+        TrapKind::Depth => "Depth",
+        TrapKind::Instances => "Instances",
+        TrapKind::Output => "Output",
     }
 }
 

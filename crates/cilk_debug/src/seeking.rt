@@ -1,7 +1,7 @@
 //! Moves that look for a breakpoint.
 
 ghost use Rattle.std.specs.Prelude.{◌≡◌, ◌≤◌, ◌<◌, ◌+◌, List, suc, IfOk, OnOk, IfErr, IfSome, length, map, true, false, Some, None, ◌-◌, ◌^◌, if◌then◌else◌};
-ghost use Rattle.cilk_console.specs.choices.Words.{choice_of};
+ghost use Rattle.cilk_debug_console.specs.choices.Words.{choice_of};
 ghost use Rattle.cilk_debug.specs.Tape.{Tape, IsAt};
 ghost use Rattle.cilk_debug.specs.Breaks.{stops};
 ghost use Rattle.cilk_debug.specs.Seeking.{Stopped, last_among};

@@ -1,14 +1,14 @@
 //! A session over a reader and a writer.
 
 ghost use Rattle.std.specs.Prelude.{◌≡◌, List, ℕ, Some, None, OnOk, IfErr};
-ghost use Rattle.cilk_console.specs.Words.{asked_of};
+ghost use Rattle.cilk_debug_console.specs.Words.{asked_of};
 ghost use Rattle.cilk_debug.specs.Session.{ends_it};
 ghost use Rattle.cilk_debug.specs.Ending.{Answers, Breaks};
 ghost use Rattle.cilk_debug.specs.Replies.{fault_of, Answered};
 
 use crate::debugger::Debugger;
 use crate::ending::SessionFault;
-use cilk_console::{Command, LineFault, Lines, Next, lines_come_one_by_one, send};
+use cilk_debug_console::{Command, LineFault, Lines, Next, lines_come_one_by_one, send};
 use std::io::{Read, Write};
 
 impl Debugger {

@@ -1,7 +1,7 @@
 //! Whether a move stops at a choice: the breakpoints, and the action that a choice acted.
 
 ghost use Rattle.std.specs.Prelude.{◌≡◌, ℕ};
-ghost use Rattle.cilk_machine.specs.model.Path.{Path};
+ghost use Rattle.cilk_debug_console.specs.model.Path.{Path};
 ghost use Rattle.cilk_machine.specs.carries.Words.{event_by};
 ghost use Rattle.cilk_debug.specs.Breaks.{number_of, is_set, stops_at};
 

@@ -1,11 +1,11 @@
 -- The value of an expression in two environments, and under other names for its places.
 use Rattle.std.proofs.Common.{◌≡◌, ℕ, ℤ, pos, negsuc, Bool, true, false, cond, nat_lt, Ok, Err, Result, refl, ap, ◌∙◌}
-use Rattle.cilk_values.specs.declared.trap.Trap.{Trap}
-use Rattle.cilk_values.specs.declared.trap.Trap.TheVariants.{Index}
+use Rattle.cilk_model_labels.specs.declared.trap.Trap.{Trap}
+use Rattle.cilk_model_labels.specs.declared.trap.Trap.TheVariants.{Index}
 use borrow.Author.Tests.{ltb-true}
-use Rattle.cilk_values.specs.Arithmetic.{truth, is_zero, unary_result}
-use Rattle.cilk_values.specs.Term.{Term, number, variable, element, synched, unary, binary, choose, rename}
-use Rattle.cilk_values.specs.Value.{Environment, ◌>>=◌, element_at, settled_by_left, joined, value_of, seen_through}
+use Rattle.cilk_model_labels.specs.Arithmetic.{truth, is_zero, unary_result}
+use Rattle.cilk_model_labels.specs.Term.{Term, number, variable, element, synched, unary, binary, choose, rename}
+use Rattle.cilk_model_labels.specs.Value.{Environment, ◌>>=◌, element_at, settled_by_left, joined, value_of, seen_through}
 use Rattle.cilk_eval.specs.Reads.{SameArray, ReadsSame}
 
 -- an expression under other names for its places has the value that it has where those names are seen through
@@ -20,7 +20,9 @@ value_of-rename f env (binary op a b) =
 value_of-rename f env (choose t a b) =
     λ i. value_of-rename f env t i >>= λ z. cond (is_zero z) (value_of-rename f env b i) (value_of-rename f env a i)
 
-cell-same : {P : Type 0} (env other : Environment P) (p : P) (k : ℕ) (inside : Bool) → nat_lt k (env.length p) ≡ inside → SameArray env other p → cond {A = Result ℤ Trap} inside (Ok (env.cell p k)) (Err Index) ≡ cond inside (Ok (other.cell p k)) (Err Index)
+cell-same : {P : Type 0} (env other : Environment P) (p : P) (k : ℕ) (inside : Bool) → nat_lt k (env.length p) ≡ inside
+    → SameArray env other p
+    → cond {A = Result ℤ Trap} inside (Ok (env.cell p k)) (Err Index) ≡ cond inside (Ok (other.cell p k)) (Err Index)
 cell-same env other p k true inside h = ap Ok (h.cells k (ltb-true k (env.length p) inside))
 cell-same env other p k false inside h = refl
 
@@ -39,7 +41,8 @@ pub value_of-same : {P : Type 0} (env other : Environment P) (t : Term P) → Re
 value_of-same env other (number n) h = refl
 value_of-same env other (variable p) h = ap Ok h
 value_of-same env other (element p t) (array, h) =
-    ap (λ r. r >>= element_at env p) (value_of-same env other t h) ∙ then-same (value_of other t) (element_at env p) (element_at other p) (λ k. element_at-same env other p k array)
+    ap (λ r. r >>= element_at env p) (value_of-same env other t h)
+    ∙ then-same (value_of other t) (element_at env p) (element_at other p) (λ k. element_at-same env other p k array)
 value_of-same env other synched h = ap (λ s. Ok (truth s)) h
 value_of-same env other (unary op t) h = ap (λ r. r >>= unary_result op) (value_of-same env other t h)
 value_of-same env other (binary op a b) (h, k) =

@@ -1,11 +1,12 @@
 -- The value of a plain expression is that over what is known of its variables.
-use Rattle.std.proofs.Common.{◌≡◌, ◌<◌, zero, suc, drop, ◌⊎◌, inl, inr, ◌&&◌, ◌==◌, Bool, true, false, ℕ, ℤ, List, [], ◌∷◌, ◌++◌, map, refl, sym, ap, ◌∙◌, arith, cond}
+use Rattle.std.proofs.Common.{◌≡◌, ◌<◌, zero, suc, drop, ◌⊎◌, inl, inr, ◌&&◌, ◌==◌, Bool, true, false, ℕ, ℤ, List, [], ◌∷◌, ◌++◌, map, refl, sym, ap}
+use Rattle.std.proofs.Common.{◌∙◌, arith, cond}
 use Rattle.std.specs.Prelude.{Decides, Option, Some, None, length, option_and_then}
 use Rattle.std.specs.Ordering.{int_eq}
 use Rattle.std.proofs.lemmas.List.{map-append}
 use Rattle.std.proofs.lemmas.Bool.Decides.{Decides-int_eq, nat_tests}
-use Rattle.cilk_values.specs.Term.{Term, number, variable, element, synched, unary, binary, choose}
-use Rattle.cilk_values.specs.Value.{value_of}
+use Rattle.cilk_model_labels.specs.Term.{Term, number, variable, element, synched, unary, binary, choose}
+use Rattle.cilk_model_labels.specs.Value.{value_of}
 use Rattle.cilk_eval.specs.declared.area.Area.{Area}
 use Rattle.cilk_eval.specs.declared.area.Area.TheVariants.{Own, Outer, Global}
 use Rattle.cilk_eval.specs.declared.slot.Slot.{Slot}
@@ -164,7 +165,8 @@ behind_all [] = refl
 behind_all (k ∷ ks) = rw (own-known k) (behind_all ks)
 
 -- whether all values stood there, by what is left of them
-pub some_left : (ks values rest : List Known) (is_empty : Bool) → Some rest ≡ behind_known ks values → is_empty ≡ (length rest == 0) → Decides is_empty (values ≡ ks)
+pub some_left : (ks values rest : List Known) (is_empty : Bool) → Some rest ≡ behind_known ks values → is_empty ≡ (length rest == 0)
+    → Decides is_empty (values ≡ ks)
 some_left ks values [] is_empty left empty = (λ yes. all_behind ks values (sym left), λ same. empty)
 some_left ks values (r ∷ rs) is_empty left empty = (
   λ yes. absurd (omega (arith, same-number (length (r ∷ rs)) 0 (sym empty ∙ yes))),

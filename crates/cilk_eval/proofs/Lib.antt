@@ -2,4 +2,4 @@ pub mod Environments
 pub mod Rounding
 pub mod Places
 pub mod KnownLaws
-pub use Rattle.cilk_values.proofs.syntax_laws
+pub use Rattle.cilk_model_labels.proofs.syntax_laws

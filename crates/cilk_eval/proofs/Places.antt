@@ -1,8 +1,9 @@
 -- What holds of each place that an expression may read.
-use Rattle.cilk_values.specs.Term.{Term, number, variable, element, synched, unary, binary, choose, rename}
+use Rattle.cilk_model_labels.specs.Term.{Term, number, variable, element, synched, unary, binary, choose, rename}
 use Rattle.cilk_eval.specs.Reads.{AllReads}
 
-pub AllReads-map : {P : Type 0} (V V' A A' : P → Type 0) (S S' : Type 0) → ((p : P) → V p → V' p) → ((p : P) → A p → A' p) → (S → S') → (t : Term P) → AllReads V A S t → AllReads V' A' S' t
+pub AllReads-map : {P : Type 0} (V V' A A' : P → Type 0) (S S' : Type 0) → ((p : P) → V p → V' p) → ((p : P) → A p → A' p) → (S → S')
+    → (t : Term P) → AllReads V A S t → AllReads V' A' S' t
 AllReads-map V V' A A' S S' v a s (number n) h = tt
 AllReads-map V V' A A' S S' v a s (variable p) h = v p h
 AllReads-map V V' A A' S S' v a s (element p t) (h, k) = (a p h, AllReads-map V V' A A' S S' v a s t k)
@@ -14,7 +15,8 @@ AllReads-map V V' A A' S S' v a s (choose t b c) (h, k, l) =
     (AllReads-map V V' A A' S S' v a s t h, AllReads-map V V' A A' S S' v a s b k, AllReads-map V V' A A' S S' v a s c l)
 
 -- of the places under other names, from what holds of those that they stand for
-pub AllReads-rename : {P Q : Type 0} (f : P → Q) (V A : Q → Type 0) (S : Type 0) (t : Term P) → AllReads (λ p. V (f p)) (λ p. A (f p)) S t → AllReads V A S (rename f t)
+pub AllReads-rename : {P Q : Type 0} (f : P → Q) (V A : Q → Type 0) (S : Type 0) (t : Term P) → AllReads (λ p. V (f p)) (λ p. A (f p)) S t
+    → AllReads V A S (rename f t)
 AllReads-rename f V A S (number n) h = tt
 AllReads-rename f V A S (variable p) h = h
 AllReads-rename f V A S (element p t) (h, k) = (h, AllReads-rename f V A S t k)

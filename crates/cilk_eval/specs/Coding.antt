@@ -3,14 +3,16 @@ use Rattle.std.specs.Prelude.{◌≡◌, ℕ, zero, suc, List, [], ◌∷◌, sl
 use Rattle.std.specs.Coded.{Coded}
 use Rattle.std.proofs.Common.{refl, sym, ap, ◌∙◌}
 use base.Stored.{Gv, gnil, gnum, gcons}
-use Rattle.cilk_values.specs.syntax.declared.operator.BinOp.{BinOp}
-use Rattle.cilk_values.specs.syntax.declared.operator.BinOp.TheVariants.{Multiply, Divide, Remainder, Add, Subtract, ShiftLeft, ShiftRight, Less, LessOrEqual, Greater, GreaterOrEqual, Equal, NotEqual, BitAnd, BitXor, BitOr, And, Or}
-use Rattle.cilk_values.specs.syntax.declared.un_op.UnOp.{UnOp}
-use Rattle.cilk_values.specs.syntax.declared.un_op.UnOp.TheVariants.{Minus, Plus, Not, Complement}
+use Rattle.cilk_model_labels.specs.syntax.declared.operator.BinOp.{BinOp}
+use Rattle.cilk_model_labels.specs.syntax.declared.operator.BinOp.TheVariants.{Multiply, Divide, Remainder, Add, Subtract, ShiftLeft, ShiftRight}
+use Rattle.cilk_model_labels.specs.syntax.declared.operator.BinOp.TheVariants.{Less, LessOrEqual, Greater, GreaterOrEqual, Equal, NotEqual, BitAnd}
+use Rattle.cilk_model_labels.specs.syntax.declared.operator.BinOp.TheVariants.{BitXor, BitOr, And, Or}
+use Rattle.cilk_model_labels.specs.syntax.declared.un_op.UnOp.{UnOp}
+use Rattle.cilk_model_labels.specs.syntax.declared.un_op.UnOp.TheVariants.{Minus, Plus, Not, Complement}
 use Rattle.cilk_eval.specs.declared.area.Area.{Area}
 use Rattle.cilk_eval.specs.declared.area.Area.TheVariants.{Own, Outer, Global}
 use Rattle.cilk_eval.specs.declared.slot.Slot.{Slot}
-use Rattle.cilk_values.specs.Term.{Term, number, variable, element, synched, unary, binary, choose}
+use Rattle.cilk_model_labels.specs.Term.{Term, number, variable, element, synched, unary, binary, choose}
 
 abbrev num_of : Gv → ℕ
 num_of (gnum n) = n
@@ -79,7 +81,8 @@ binop_to Or = gnum 17
 
 abbrev binops : List BinOp
 binops =
-    Multiply ∷ Divide ∷ Remainder ∷ Add ∷ Subtract ∷ ShiftLeft ∷ ShiftRight ∷ Less ∷ LessOrEqual ∷ Greater ∷ GreaterOrEqual ∷ Equal ∷ NotEqual ∷ BitAnd ∷ BitXor ∷ BitOr ∷ And ∷ Or ∷ []
+    Multiply ∷ Divide ∷ Remainder ∷ Add ∷ Subtract ∷ ShiftLeft ∷ ShiftRight ∷ Less ∷ LessOrEqual ∷ Greater ∷ GreaterOrEqual ∷ Equal
+    ∷ NotEqual ∷ BitAnd ∷ BitXor ∷ BitOr ∷ And ∷ Or ∷ []
 
 abbrev binop_from : Gv → BinOp
 binop_from op = slice_index_or binops (num_of op) Or

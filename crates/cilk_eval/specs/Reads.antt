@@ -1,7 +1,7 @@
 -- What an expression may read.
 use Rattle.std.specs.Prelude.{◌≡◌, ◌<◌, ℕ, ⊤}
-use Rattle.cilk_values.specs.Term.{Term, number, variable, element, synched, unary, binary, choose}
-use Rattle.cilk_values.specs.Value.{Environment}
+use Rattle.cilk_model_labels.specs.Term.{Term, number, variable, element, synched, unary, binary, choose}
+use Rattle.cilk_model_labels.specs.Value.{Environment}
 
 -- what an expression may read, evaluated or not: V holds of each of its variables, A of each of its arrays, and S where `SYNCHED` stands in it
 abbrev pub AllReads : {P : Type 0} → (P → Type 0) → (P → Type 0) → Type 0 → Term P → Type 0

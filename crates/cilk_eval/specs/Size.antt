@@ -1,6 +1,6 @@
 -- The number of operators of an expression, subscripts among them, which is larger for an expression than for its parts.
 use Rattle.std.specs.Prelude.{ℕ, ◌+◌}
-use Rattle.cilk_values.specs.Term.{Term, number, variable, element, synched, unary, binary, choose}
+use Rattle.cilk_model_labels.specs.Term.{Term, number, variable, element, synched, unary, binary, choose}
 
 abbrev pub term_size : {P : Type 0} → Term P → ℕ
 term_size (number n) = 0

@@ -4,9 +4,9 @@ use Rattle.cilk_eval.specs.declared.area.Area.{Area}
 use Rattle.cilk_eval.specs.declared.area.Area.TheVariants.{Own, Outer, Global}
 use Rattle.cilk_eval.specs.declared.slot.Slot.{Slot}
 use Rattle.cilk_eval.specs.declared.slots.Slots.{Slots}
-use Rattle.cilk_values.specs.Term.{Term}
+use Rattle.cilk_model_labels.specs.Term.{Term}
 use Rattle.cilk_eval.specs.Reads.{AllReads}
-use Rattle.cilk_values.specs.Value.{Environment}
+use Rattle.cilk_model_labels.specs.Value.{Environment}
 
 -- the cells of the three areas, and whether the instance has nothing to wait for
 pub record Cells : Type 0 where

@@ -1,6 +1,6 @@
 -- One level of an expression in memory, as the plain expression that it is.
-use Rattle.cilk_values.specs.Term as term
-use Rattle.cilk_values.specs.Term.{Term}
+use Rattle.cilk_model_labels.specs.Term as term
+use Rattle.cilk_model_labels.specs.Term.{Term}
 use Rattle.cilk_eval.specs.declared.slot.Slot.{Slot}
 use Rattle.cilk_eval.specs.declared.code.CodeNode.{CodeNode}
 use Rattle.cilk_eval.specs.declared.code.CodeNode.TheVariants.{Number, Variable, Element, Synched, Unary, Binary, Choose}

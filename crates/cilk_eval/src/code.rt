@@ -1,7 +1,7 @@
 //! Expressions whose variables are slots.
 
 use crate::slot::Slot;
-use cilk_values::{BinOp, UnOp};
+use cilk_model_labels::{BinOp, UnOp};
 use std::marker::Model;
 
 /// An expression over slots, which contracts see as a `Term`: what it says, and not where it lies.
@@ -29,7 +29,7 @@ pub enum CodeNode {
 }
 
 impl Model for Code {
-    ghost use Rattle.cilk_values.specs.Term.{Term};
+    ghost use Rattle.cilk_model_labels.specs.Term.{Term};
     ghost use Rattle.cilk_eval.specs.Coding.{coded_Term};
     ghost use Rattle.cilk_eval.specs.declared.slot.Slot.{Slot};
 

@@ -3,7 +3,7 @@
 ghost use Rattle.std.specs.Prelude.{◌≡◌, IfOk};
 
 use crate::code::{Code, CodeNode};
-use cilk_values::Memory;
+use cilk_model_labels::Memory;
 use std::alloc::Global;
 
 impl Code {

@@ -1,8 +1,8 @@
 //! The value of an expression over slots.
 
 ghost use Rattle.std.specs.Prelude.{◌≡◌, pos};
-ghost use Rattle.cilk_values.specs.Arithmetic.{exact};
-ghost use Rattle.cilk_values.specs.Value.{value_of, settled_by_left, element_at};
+ghost use Rattle.cilk_model_labels.specs.Arithmetic.{exact};
+ghost use Rattle.cilk_model_labels.specs.Value.{value_of, settled_by_left, element_at};
 ghost use Rattle.cilk_eval.specs.Slots.{environment, cells_of, sizes_of, area_cells, LiesWithin, SlotsLieWithin};
 
 use crate::area::Area;
@@ -10,7 +10,7 @@ use crate::arithmetic::{apply, unary};
 use crate::code::{Code, CodeNode};
 use crate::slot::Slot;
 use crate::slots::Slots;
-use cilk_values::{BinOp, Trap};
+use cilk_model_labels::{BinOp, Trap};
 
 /// The value of an expression, or the first trap from the left (C 1990, 6.3). `&&`, `||` and `?:`
 /// evaluate only the operands that they need. Each slot in the expression lies in its area, which

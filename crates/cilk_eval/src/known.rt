@@ -1,7 +1,7 @@
 //! The value of an expression over variables of which a value is known.
 
 ghost use Rattle.std.specs.Prelude.{◌≡◌};
-ghost use Rattle.cilk_values.specs.Value.{value_of};
+ghost use Rattle.cilk_model_labels.specs.Value.{value_of};
 ghost use Rattle.cilk_eval.specs.Known.{is_area, is_known, is_slot, known, known_value, no_element};
 
 use crate::area::Area;
@@ -9,7 +9,7 @@ use crate::arithmetic::{apply, unary};
 use crate::code::{Code, CodeNode};
 use crate::evaluate::{literal, settled};
 use crate::slot::Slot;
-use cilk_values::Trap;
+use cilk_model_labels::Trap;
 
 /// A variable that is no element, and its value at some time.
 #[derive(Clone, Copy, Debug, PartialEq, Eq)]

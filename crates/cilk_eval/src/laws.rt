@@ -2,8 +2,8 @@
 
 ghost use Rattle.std.specs.Prelude.{◌≡◌, ◌≢◌, ℕ, ◌^◌, ℤ, pos, true, int_div, int_rem};
 ghost use Rattle.std.specs.Int.{int_div_euclid};
-ghost use Rattle.cilk_values.specs.Term.{Term, rename};
-ghost use Rattle.cilk_values.specs.Value.{Environment, value_of, seen_through};
+ghost use Rattle.cilk_model_labels.specs.Term.{Term, rename};
+ghost use Rattle.cilk_model_labels.specs.Value.{Environment, value_of, seen_through};
 ghost use Rattle.cilk_eval.specs.declared.slot.Slot.{Slot};
 ghost use Rattle.cilk_eval.specs.Known.{is_plain, known, known_of};
 ghost use Rattle.cilk_eval.specs.Reads.{ReadsSame};

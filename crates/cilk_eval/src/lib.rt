@@ -17,7 +17,7 @@ mod slots;
 
 pub use area::Area;
 pub use arithmetic::{apply, unary};
-pub use cilk_values::{Memory, Trap};
+pub use cilk_model_labels::{Memory, Trap};
 pub use code::{Code, CodeNode};
 pub use evaluate::eval;
 pub use known::{Known, eval_known};

@@ -1,7 +1,7 @@
 //! An expression whose variables are listed, so that what they hold is soon taken and soon compared.
 
 ghost use Rattle.std.specs.Prelude.{◌≡◌, ◌++◌, Decides, IfOk, OnOk, map, option_map};
-ghost use Rattle.cilk_values.specs.Value.{value_of};
+ghost use Rattle.cilk_model_labels.specs.Value.{value_of};
 ghost use Rattle.cilk_eval.specs.Known.{behind_known, known, known_in, known_of, variables_of};
 ghost use Rattle.cilk_eval.specs.Slots.{cells_of, slot_cell};
 
@@ -10,7 +10,7 @@ use crate::evaluate::cells_in;
 use crate::known::{Known, eval_known, is_known};
 use crate::slot::Slot;
 use crate::slots::Slots;
-use cilk_values::{Memory, Trap};
+use cilk_model_labels::{Memory, Trap};
 use std::alloc::Global;
 use std::marker::Model;
 
@@ -23,7 +23,7 @@ pub struct Listed {
 
 impl Model for Listed {
     ghost use Rattle.std.specs.Prelude.{◌≡◌};
-    ghost use Rattle.cilk_values.specs.Term.{Term};
+    ghost use Rattle.cilk_model_labels.specs.Term.{Term};
     ghost use Rattle.cilk_eval.specs.Coding.{coded_Term};
     ghost use Rattle.cilk_eval.specs.Known.{variables_of};
     ghost use Rattle.cilk_eval.specs.declared.slot.Slot.{Slot};

@@ -8,7 +8,7 @@ use crate::code::{Code, CodeNode};
 use crate::evaluate::variable;
 use crate::known::{Known, is_known};
 use crate::slots::Slots;
-use cilk_values::Memory;
+use cilk_model_labels::Memory;
 use std::alloc::Global;
 
 impl Code {

@@ -2,9 +2,9 @@
 use Rattle.std.proofs.Common.{◌≡◌, ℕ, zero, suc, ◌+◌, ◌-◌, ◌<◌, ℤ, List, [], ◌∷◌, ◌++◌, length, map, refl, ap, ◌∙◌, arith}
 use Rattle.std.specs.Prelude.{slice_set, slice_index_or}
 use Rattle.std.proofs.lemmas.List.{set-append_left, set-append_right, get_or-append-add, get_or_append_left}
-use Rattle.cilk_nodes.specs.model.Values.{Values}
-use Rattle.cilk_nodes.specs.model.Change.{with_value}
-use Rattle.cilk_nodes.specs.Slots.{flat}
+use Rattle.cilk_load_nodes.specs.model.Values.{Values}
+use Rattle.cilk_load_nodes.specs.model.Change.{with_value}
+use Rattle.cilk_load_nodes.specs.Slots.{flat}
 
 -- how many cells come before variable n, where variables have these sizes
 abbrev pub before : List ℕ → ℕ → ℕ

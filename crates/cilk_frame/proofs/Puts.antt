@@ -2,14 +2,14 @@
 use Rattle.std.proofs.Common.{◌≡◌, ℕ, ◌+◌, ℤ, true, false, List, [], ◌∷◌, ◌++◌, length, map, reverse, refl, sym, ap, ◌∙◌, subst, arith}
 use Rattle.std.specs.Prelude.{slice_set, slice_index_or}
 use Rattle.std.proofs.lemmas.List.{reverse-append}
-use Rattle.cilk_nodes.specs.eval.declared.area.Area.TheVariants.{Own, Outer, Global}
-use Rattle.cilk_nodes.specs.eval.declared.area.Area.{Area}
-use Rattle.cilk_nodes.specs.labelled.Labelled.{Declaration, local, outer, global, of_lock, of_body, unknown, Variable, Labelled}
-use Rattle.cilk_nodes.specs.model.Values.{Values}
-use Rattle.cilk_nodes.specs.model.Instance as model
-use Rattle.cilk_nodes.specs.model.Instance.{Instance, body_at, outer_values}
-use Rattle.cilk_nodes.specs.model.Change.{with_value, outer_with, globals_with, on_lowest, put}
-use Rattle.cilk_nodes.specs.Slots.{size_of, flat, is_inlet, procedure_around, slot_from, slot_of}
+use Rattle.cilk_load_nodes.specs.eval.declared.area.Area.TheVariants.{Own, Outer, Global}
+use Rattle.cilk_load_nodes.specs.eval.declared.area.Area.{Area}
+use Rattle.cilk_load_nodes.specs.labelled.Labelled.{Declaration, local, outer, global, of_lock, of_body, unknown, Variable, Labelled}
+use Rattle.cilk_load_nodes.specs.model.Values.{Values}
+use Rattle.cilk_load_nodes.specs.model.Instance as model
+use Rattle.cilk_load_nodes.specs.model.Instance.{Instance, body_at, outer_values}
+use Rattle.cilk_load_nodes.specs.model.Change.{with_value, outer_with, globals_with, on_lowest, put}
+use Rattle.cilk_load_nodes.specs.Slots.{size_of, flat, is_inlet, procedure_around, slot_from, slot_of}
 use Rattle.cilk_frame.specs.Frames.{Activation, Frame, no_activation, top_place, top_of, with_cell}
 use Rattle.cilk_frame.specs.Cells.{own_variables, outer_variables, IsInlet, HasIn, HasCell, put_in, frame_put, globals_in, globals_put}
 use Rattle.cilk_frame.specs.Stands.{AwaitsSame, Activates, AllActivate, bodies_of, lowest_of, AllInside, StandsFor}

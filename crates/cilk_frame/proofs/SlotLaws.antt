@@ -2,11 +2,11 @@
 use Rattle.std.proofs.Common.{◌≡◌, ℕ, zero, suc, ◌+◌, ◌<◌, ℤ, List, [], ◌∷◌, length, map, refl, ap, arith, length-append}
 use Rattle.std.specs.Prelude.{slice_index_or}
 use Rattle.std.proofs.lemmas.List.{length-set}
-use Rattle.cilk_nodes.specs.eval.declared.area.Area.{Area}
-use Rattle.cilk_nodes.specs.labelled.Labelled.{Variable}
-use Rattle.cilk_nodes.specs.model.Values.{Values}
-use Rattle.cilk_nodes.specs.model.Change.{with_value}
-use Rattle.cilk_nodes.specs.Slots.{size_of, flat, slot_from}
+use Rattle.cilk_load_nodes.specs.eval.declared.area.Area.{Area}
+use Rattle.cilk_load_nodes.specs.labelled.Labelled.{Variable}
+use Rattle.cilk_load_nodes.specs.model.Values.{Values}
+use Rattle.cilk_load_nodes.specs.model.Change.{with_value}
+use Rattle.cilk_load_nodes.specs.Slots.{size_of, flat, slot_from}
 use Rattle.cilk_frame.specs.Cells.{no_variable}
 use Rattle.cilk_frame.proofs.Flat.{before}
 

@@ -1,28 +1,30 @@
 -- A body at its start.
-use Rattle.std.proofs.Common.{◌≡◌, ℕ, zero, suc, ◌+◌, ◌-◌, ◌<◌, ℤ, pos, List, [], ◌∷◌, ◌++◌, length, map, drop, Option, Some, None, refl, sym, ap, ◌∙◌, subst, arith}
+use Rattle.std.proofs.Common.{◌≡◌, ℕ, zero, suc, ◌+◌, ◌-◌, ◌<◌, ℤ, pos, List, [], ◌∷◌, ◌++◌, length, map, drop, Option, Some, None, refl, sym, ap}
+use Rattle.std.proofs.Common.{◌∙◌, subst, arith}
 use Rattle.std.specs.Prelude.{slice_get, slice_index_or, replicate, unwrap_or, ⊤, IsSome, option_map}
 use Rattle.std.proofs.lemmas.List.{length-replicate, replicate-append-replicate}
-use Rattle.cilk_nodes.specs.syntax.Tree as tree
-use Rattle.cilk_nodes.specs.syntax.Tree.{Word}
-use Rattle.cilk_nodes.specs.scopes.declared.owner.Owner.{Owner}
-use Rattle.cilk_nodes.specs.scopes.declared.owner.Owner.TheVariants as owner
-use Rattle.cilk_nodes.specs.labelled.Labelled.{Variable, Body}
-use Rattle.cilk_nodes.specs.labelled.Labelled as labelled
-use Rattle.cilk_nodes.specs.labelled.Items.{Items, pieces, open_stmt, open_stmts, opened, head_of, start_items, plain_round}
-use Rattle.cilk_nodes.specs.labelled.Names.{Names, with_words, with_local, in_inlet}
-use Rattle.cilk_nodes.specs.labelled.Label.{locals_variables, stmt_variables, stmts_variables, block_variables}
-use Rattle.cilk_nodes.specs.labelled.Count.{count_local, count_item}
-use Rattle.cilk_nodes.specs.labelled.Bodies.{one_cell, parameter_variables, label_body, inlet_bodies, procedure_names, block_locals, body_count, items_bodies, file_names, label}
-use Rattle.cilk_nodes.specs.model.Values.{initial_values}
-use Rattle.cilk_nodes.specs.model.Instance.{no_body, body_at, with_arguments, entered}
-use Rattle.cilk_nodes.specs.Slots.{size_of, flat, cells_of}
-use Rattle.cilk_nodes.specs.Table.{number_of}
-use Rattle.cilk_nodes.specs.Bodies.{body_table, body_of}
+use Rattle.cilk_load_nodes.specs.syntax.Tree as tree
+use Rattle.cilk_load_nodes.specs.syntax.Tree.{Word}
+use Rattle.cilk_load_nodes.specs.scopes.declared.owner.Owner.{Owner}
+use Rattle.cilk_load_nodes.specs.scopes.declared.owner.Owner.TheVariants as owner
+use Rattle.cilk_load_nodes.specs.labelled.Labelled.{Variable, Body}
+use Rattle.cilk_load_nodes.specs.labelled.Labelled as labelled
+use Rattle.cilk_load_nodes.specs.labelled.Items.{Items, pieces, open_stmt, open_stmts, opened, head_of, start_items, plain_round}
+use Rattle.cilk_load_nodes.specs.labelled.Names.{Names, with_words, with_local, in_inlet}
+use Rattle.cilk_load_nodes.specs.labelled.Label.{locals_variables, stmt_variables, stmts_variables, block_variables}
+use Rattle.cilk_load_nodes.specs.labelled.Count.{count_local, count_item}
+use Rattle.cilk_load_nodes.specs.labelled.Bodies.{one_cell, parameter_variables, label_body, inlet_bodies, procedure_names, block_locals, body_count}
+use Rattle.cilk_load_nodes.specs.labelled.Bodies.{items_bodies, file_names, label}
+use Rattle.cilk_load_nodes.specs.model.Values.{initial_values}
+use Rattle.cilk_load_nodes.specs.model.Instance.{no_body, body_at, with_arguments, entered}
+use Rattle.cilk_load_nodes.specs.Slots.{size_of, flat, cells_of}
+use Rattle.cilk_load_nodes.specs.Table.{number_of}
+use Rattle.cilk_load_nodes.specs.Bodies.{body_table, body_of}
 use Rattle.cilk_frame.specs.declared.awaited.Await.{Await}
 use Rattle.cilk_frame.specs.Starts.{first_cells}
 use Rattle.cilk_frame.specs.Begins.{Takes, starts_with, first_activation}
 use Rattle.cilk_frame.specs.Stands.{Activates}
-use Rattle.cilk_nodes.specs.model.Values.{Reached}
+use Rattle.cilk_load_nodes.specs.model.Values.{Reached}
 
 -- variables that hold 0 before any action
 abbrev AllZero : List Variable → Type 0

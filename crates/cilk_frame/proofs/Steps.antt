@@ -1,20 +1,21 @@
 -- What each call makes of a frame that stands for an instance.
-use Rattle.std.proofs.Common.{◌≡◌, ℕ, suc, ℤ, Bool, true, false, not, ◌&&◌, List, [], ◌∷◌, length, map, reverse, Option, Some, None, refl, sym, ap, ◌∙◌, subst, arith}
+use Rattle.std.proofs.Common.{◌≡◌, ℕ, suc, ℤ, Bool, true, false, not, ◌&&◌, List, [], ◌∷◌, length, map, reverse, Option, Some, None, refl, sym, ap}
+use Rattle.std.proofs.Common.{◌∙◌, subst, arith}
 use Rattle.std.specs.Prelude.{slice_index_or, nat_lt}
 use Rattle.std.proofs.lemmas.Bool.{lt-ltb}
 use Rattle.std.proofs.lemmas.List.{reverse-append}
-use Rattle.cilk_nodes.specs.syntax.Tree.{Program}
-use Rattle.cilk_nodes.specs.labelled.Labelled.{Declaration, Labelled}
-use Rattle.cilk_nodes.specs.labelled.Items.{opened, next}
-use Rattle.cilk_nodes.specs.labelled.Bodies.{label, is_procedure}
-use Rattle.cilk_nodes.specs.model.Values.{Values, Reached}
-use Rattle.cilk_nodes.specs.model.State.{is_empty}
-use Rattle.cilk_nodes.specs.model.Change.{gone_on, put}
-use Rattle.cilk_nodes.specs.model.Instance as model
-use Rattle.cilk_nodes.specs.model.Instance.{Receiver, Delivery, Instance, body_at, outer_values}
-use Rattle.cilk_nodes.specs.Slots.{size_of, flat, is_inlet, procedure_around, slot_of}
-use Rattle.cilk_nodes.specs.Table.{number_of}
-use Rattle.cilk_nodes.specs.Bodies.{body_of}
+use Rattle.cilk_load_nodes.specs.syntax.Tree.{Program}
+use Rattle.cilk_load_nodes.specs.labelled.Labelled.{Declaration, Labelled}
+use Rattle.cilk_load_nodes.specs.labelled.Items.{opened, next}
+use Rattle.cilk_load_nodes.specs.labelled.Bodies.{label, is_procedure}
+use Rattle.cilk_load_nodes.specs.model.Values.{Values, Reached}
+use Rattle.cilk_load_nodes.specs.model.State.{is_empty}
+use Rattle.cilk_load_nodes.specs.model.Change.{gone_on, put}
+use Rattle.cilk_load_nodes.specs.model.Instance as model
+use Rattle.cilk_load_nodes.specs.model.Instance.{Receiver, Delivery, Instance, body_at, outer_values}
+use Rattle.cilk_load_nodes.specs.Slots.{size_of, flat, is_inlet, procedure_around, slot_of}
+use Rattle.cilk_load_nodes.specs.Table.{number_of}
+use Rattle.cilk_load_nodes.specs.Bodies.{body_of}
 use Rattle.cilk_frame.specs.declared.awaited.Await.{Await}
 use Rattle.cilk_frame.specs.Frames.{Activation, Frame, no_activation, activation_at, depth, top_of, jumped, with_boundary, entered, left}
 use Rattle.cilk_frame.specs.Begins.{Takes, first_activation, started}

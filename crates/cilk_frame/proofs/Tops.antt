@@ -3,9 +3,9 @@ use Rattle.std.proofs.Common.{◌≡◌, suc, ◌-◌, List, [], ◌∷◌, ◌+
 use Rattle.std.specs.Prelude.{slice_set, slice_index_or}
 use Rattle.std.proofs.lemmas.List.{length_push, length-reverse, reverse-append, reverse-reverse}
 use Rattle.std.proofs.Math.Seq.{get_or-append_seam, set-append_seam, take-append_seam}
-use Rattle.cilk_nodes.specs.labelled.Labelled.{Labelled}
-use Rattle.cilk_nodes.specs.model.Instance as model
-use Rattle.cilk_nodes.specs.model.Instance.{Instance}
+use Rattle.cilk_load_nodes.specs.labelled.Labelled.{Labelled}
+use Rattle.cilk_load_nodes.specs.model.Instance as model
+use Rattle.cilk_load_nodes.specs.model.Instance.{Instance}
 use Rattle.cilk_frame.specs.Frames.{Activation, Frame, no_activation, depth, top_place, top_of, with_activation, entered, left}
 use Rattle.cilk_frame.specs.Stands.{AwaitsSame, Activates, AllActivate, bodies_of, AllInside, StandsFor}
 

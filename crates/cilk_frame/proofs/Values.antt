@@ -1,19 +1,19 @@
 -- An expression has the same value over the cells of a frame as over the values of its instance.
 use Rattle.std.proofs.Common.{◌≡◌, ℕ, zero, suc, ◌+◌, ◌-◌, ◌<◌, pos, List, [], ◌∷◌, length, map, max, refl, ap, ◌∙◌, arith}
 use Rattle.std.specs.Prelude.{slice_index_or, ⊤}
-use Rattle.cilk_nodes.specs.values.Term.{Term, rename}
-use Rattle.cilk_nodes.specs.values.Value.{Environment, seen_through, value_of}
-use Rattle.cilk_nodes.specs.eval.declared.area.Area.{Area}
-use Rattle.cilk_nodes.specs.eval.declared.area.Area.TheVariants.{Own, Outer, Global}
-use Rattle.cilk_nodes.specs.eval.declared.slot.Slot.{Slot}
-use Rattle.cilk_nodes.specs.eval.Reads.{SameArray}
-use Rattle.cilk_nodes.specs.eval.Slots.{Cells, area_cells, slot_cell, sizes_of, area_size, LiesWithin, SlotsLieWithin}
-use Rattle.cilk_nodes.specs.eval.Slots as slots
-use Rattle.cilk_nodes.proofs.eval_laws.Places.{AllReads-map, AllReads-rename}
-use Rattle.cilk_nodes.proofs.eval_laws.Environments.{value_of-rename, value_of-same}
-use Rattle.cilk_nodes.specs.labelled.Labelled.{Declaration, local, outer, global, of_lock, of_body, unknown, Variable, Labelled}
-use Rattle.cilk_nodes.specs.model.Values.{Values, Store, cell_of, environment}
-use Rattle.cilk_nodes.specs.Slots.{size_of, flat, slot_from, slot_of}
+use Rattle.cilk_load_nodes.specs.labelled.Term.{Term, rename}
+use Rattle.cilk_load_nodes.specs.labelled.Value.{Environment, seen_through, value_of}
+use Rattle.cilk_load_nodes.specs.eval.declared.area.Area.{Area}
+use Rattle.cilk_load_nodes.specs.eval.declared.area.Area.TheVariants.{Own, Outer, Global}
+use Rattle.cilk_load_nodes.specs.eval.declared.slot.Slot.{Slot}
+use Rattle.cilk_load_nodes.specs.eval.Reads.{SameArray}
+use Rattle.cilk_load_nodes.specs.eval.Slots.{Cells, area_cells, slot_cell, sizes_of, area_size, LiesWithin, SlotsLieWithin}
+use Rattle.cilk_load_nodes.specs.eval.Slots as slots
+use Rattle.cilk_load_nodes.proofs.eval_laws.Places.{AllReads-map, AllReads-rename}
+use Rattle.cilk_load_nodes.proofs.eval_laws.Environments.{value_of-rename, value_of-same}
+use Rattle.cilk_load_nodes.specs.labelled.Labelled.{Declaration, local, outer, global, of_lock, of_body, unknown, Variable, Labelled}
+use Rattle.cilk_load_nodes.specs.model.Values.{Values, Store, cell_of, environment}
+use Rattle.cilk_load_nodes.specs.Slots.{size_of, flat, slot_from, slot_of}
 use Rattle.cilk_frame.specs.Cells.{no_variable, own_variables, outer_variables, IsInlet, HasCell}
 use Rattle.cilk_frame.specs.Reads.{IsVariable, IsArray, IsKnown, Seen}
 use Rattle.cilk_frame.proofs.Flat.{before, flat-get}

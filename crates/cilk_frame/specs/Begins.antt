@@ -1,8 +1,8 @@
 -- Bodies of a program at their start.
 use Rattle.std.specs.Prelude.{◌≡◌, ℕ, ℤ, false, List, [], ◌∷◌, length, Option, Some, None}
-use Rattle.cilk_nodes.specs.syntax.Tree.{Program}
-use Rattle.cilk_nodes.specs.declared.body.Body.{Body}
-use Rattle.cilk_nodes.specs.Bodies.{body_of}
+use Rattle.cilk_load_nodes.specs.syntax.Tree.{Program}
+use Rattle.cilk_load_nodes.specs.declared.body.Body.{Body}
+use Rattle.cilk_load_nodes.specs.Bodies.{body_of}
 use Rattle.cilk_frame.specs.declared.awaited.Await.{Await}
 use Rattle.cilk_frame.specs.Frames.{Activation, Frame, no_activation}
 use Rattle.cilk_frame.specs.Starts.{activation_of}

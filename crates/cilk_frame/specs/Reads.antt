@@ -1,12 +1,12 @@
 -- What an expression may read, and the cells that a frame lends to it.
 use Rattle.std.specs.Prelude.{◌≡◌, ℕ, ◌<◌, ℤ, Bool, ⊤, List, length, map}
-use Rattle.cilk_nodes.specs.values.Term.{Term}
-use Rattle.cilk_nodes.specs.eval.Reads.{AllReads}
-use Rattle.cilk_nodes.specs.eval.Slots.{Cells}
-use Rattle.cilk_nodes.specs.labelled.Labelled.{Declaration, local, outer, global, of_lock, of_body, unknown, Labelled}
-use Rattle.cilk_nodes.specs.model.Values.{Values, Store}
-use Rattle.cilk_nodes.specs.model.Instance.{Instance, outer_values}
-use Rattle.cilk_nodes.specs.Slots.{size_of, flat}
+use Rattle.cilk_load_nodes.specs.labelled.Term.{Term}
+use Rattle.cilk_load_nodes.specs.eval.Reads.{AllReads}
+use Rattle.cilk_load_nodes.specs.eval.Slots.{Cells}
+use Rattle.cilk_load_nodes.specs.labelled.Labelled.{Declaration, local, outer, global, of_lock, of_body, unknown, Labelled}
+use Rattle.cilk_load_nodes.specs.model.Values.{Values, Store}
+use Rattle.cilk_load_nodes.specs.model.Instance.{Instance, outer_values}
+use Rattle.cilk_load_nodes.specs.Slots.{size_of, flat}
 use Rattle.cilk_frame.specs.Frames.{Frame, activation_at, top_of}
 use Rattle.cilk_frame.specs.Cells.{variable_at, own_variables, outer_variables, IsInlet}
 

@@ -1,18 +1,18 @@
 -- The instance that a frame stands for.
 use Rattle.std.specs.Prelude.{◌≡◌, ℕ, ◌<◌, false, Bool, ⊤, List, [], ◌∷◌, map, length, reverse, Option, Some, None}
-use Rattle.cilk_nodes.specs.values.Term.{Term}
-use Rattle.cilk_nodes.specs.eval.declared.slot.Slot.{Slot}
-use Rattle.cilk_nodes.specs.labelled.Labelled.{Labelled}
-use Rattle.cilk_nodes.specs.labelled.Bodies.{is_procedure}
-use Rattle.cilk_nodes.specs.labelled.Items.{reached}
-use Rattle.cilk_nodes.specs.model.Values.{Reached}
-use Rattle.cilk_nodes.specs.model.Instance as model
-use Rattle.cilk_nodes.specs.model.Instance.{Instance, body_at}
-use Rattle.cilk_nodes.specs.declared.target.Target.{Target}
-use Rattle.cilk_nodes.specs.declared.action.Action.TheVariants.{Call}
-use Rattle.cilk_nodes.specs.declared.node.Node.{Node}
-use Rattle.cilk_nodes.specs.Slots.{size_of, flat, is_inlet, procedure_around}
-use Rattle.cilk_nodes.specs.Table.{number_of, rows_from, node_among}
+use Rattle.cilk_load_nodes.specs.labelled.Term.{Term}
+use Rattle.cilk_load_nodes.specs.eval.declared.slot.Slot.{Slot}
+use Rattle.cilk_load_nodes.specs.labelled.Labelled.{Labelled}
+use Rattle.cilk_load_nodes.specs.labelled.Bodies.{is_procedure}
+use Rattle.cilk_load_nodes.specs.labelled.Items.{reached}
+use Rattle.cilk_load_nodes.specs.model.Values.{Reached}
+use Rattle.cilk_load_nodes.specs.model.Instance as model
+use Rattle.cilk_load_nodes.specs.model.Instance.{Instance, body_at}
+use Rattle.cilk_load_nodes.specs.declared.target.Target.{Target}
+use Rattle.cilk_load_nodes.specs.declared.action.Action.TheVariants.{Call}
+use Rattle.cilk_load_nodes.specs.declared.node.Node.{Node}
+use Rattle.cilk_load_nodes.specs.Slots.{size_of, flat, is_inlet, procedure_around}
+use Rattle.cilk_load_nodes.specs.Table.{number_of, rows_from, node_among}
 use Rattle.cilk_frame.specs.declared.awaited.Await.{Await}
 use Rattle.cilk_frame.specs.Frames.{Activation, Frame}
 use Rattle.cilk_frame.specs.Cells.{SameCell, IsInlet}

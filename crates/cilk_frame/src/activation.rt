@@ -4,7 +4,7 @@ ghost use Rattle.std.specs.Prelude.{◌≡◌, ◌<◌, length, slice_set, IfOk}
 ghost use Rattle.cilk_frame.specs.Starts.{first_cells};
 
 use crate::awaited::Await;
-use cilk_nodes::{Body, Memory};
+use cilk_load_nodes::{Body, Memory};
 use std::alloc::Global;
 use std::marker::Model;
 

@@ -7,7 +7,7 @@ ghost use Rattle.cilk_frame.specs.Starts.{activation_of};
 use crate::activation::Activation;
 use crate::awaited::Await;
 use crate::id::Id;
-use cilk_nodes::{Body, Memory};
+use cilk_load_nodes::{Body, Memory};
 use std::alloc::Global;
 use std::marker::Model;
 

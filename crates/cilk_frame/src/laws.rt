@@ -2,22 +2,22 @@
 //! what is proved.
 
 ghost use Rattle.std.specs.Prelude.{◌≡◌, ◌<◌, ◌+◌, ◌&&◌, ◌∷◌, ℕ, ℤ, Bool, not, true, false, List, Option, Some, length, map, nat_lt};
-ghost use Rattle.cilk_nodes.specs.syntax.Tree.{Program};
-ghost use Rattle.cilk_nodes.specs.values.Term.{Term, rename};
-ghost use Rattle.cilk_nodes.specs.values.Value.{value_of};
-ghost use Rattle.cilk_nodes.specs.eval.Slots as slots;
-ghost use Rattle.cilk_nodes.specs.eval.Slots.{Cells, area_cells, slot_cell, sizes_of, SlotsLieWithin};
-ghost use Rattle.cilk_nodes.specs.labelled.Labelled.{Declaration, Labelled};
-ghost use Rattle.cilk_nodes.specs.labelled.Bodies.{label, is_procedure};
-ghost use Rattle.cilk_nodes.specs.labelled.Items.{opened, next};
-ghost use Rattle.cilk_nodes.specs.model.Values.{Values, Store, Reached, cell_of, environment};
-ghost use Rattle.cilk_nodes.specs.model.Instance as model;
-ghost use Rattle.cilk_nodes.specs.model.Instance.{Instance, Delivery, Receiver, body_at};
-ghost use Rattle.cilk_nodes.specs.model.State.{is_empty};
-ghost use Rattle.cilk_nodes.specs.model.Change.{gone_on, put, globals_with};
-ghost use Rattle.cilk_nodes.specs.Slots.{size_of, flat, is_inlet, procedure_around, slot_of};
-ghost use Rattle.cilk_nodes.specs.Table.{number_of};
-ghost use Rattle.cilk_nodes.specs.Bodies.{body_of};
+ghost use Rattle.cilk_load_nodes.specs.syntax.Tree.{Program};
+ghost use Rattle.cilk_load_nodes.specs.labelled.Term.{Term, rename};
+ghost use Rattle.cilk_load_nodes.specs.labelled.Value.{value_of};
+ghost use Rattle.cilk_load_nodes.specs.eval.Slots as slots;
+ghost use Rattle.cilk_load_nodes.specs.eval.Slots.{Cells, area_cells, slot_cell, sizes_of, SlotsLieWithin};
+ghost use Rattle.cilk_load_nodes.specs.labelled.Labelled.{Declaration, Labelled};
+ghost use Rattle.cilk_load_nodes.specs.labelled.Bodies.{label, is_procedure};
+ghost use Rattle.cilk_load_nodes.specs.labelled.Items.{opened, next};
+ghost use Rattle.cilk_load_nodes.specs.model.Values.{Values, Store, Reached, cell_of, environment};
+ghost use Rattle.cilk_load_nodes.specs.model.Instance as model;
+ghost use Rattle.cilk_load_nodes.specs.model.Instance.{Instance, Delivery, Receiver, body_at};
+ghost use Rattle.cilk_load_nodes.specs.model.State.{is_empty};
+ghost use Rattle.cilk_load_nodes.specs.model.Change.{gone_on, put, globals_with};
+ghost use Rattle.cilk_load_nodes.specs.Slots.{size_of, flat, is_inlet, procedure_around, slot_of};
+ghost use Rattle.cilk_load_nodes.specs.Table.{number_of};
+ghost use Rattle.cilk_load_nodes.specs.Bodies.{body_of};
 ghost use Rattle.cilk_frame.specs.declared.awaited.Await.{Await};
 ghost use Rattle.cilk_frame.specs.Frames.{Frame, depth, top_of, jumped, with_boundary, entered, left};
 ghost use Rattle.cilk_frame.specs.Begins.{Takes, first_activation, started};

@@ -29,9 +29,9 @@ mod id;
 mod laws;
 
 pub use awaited::Await;
-pub use cilk_nodes::{
-    Action, Area, BinOp, Body, Code, LockAction, Memory, Place, Slot, Slots, Taker, Target, Trap,
-    Var, apply, eval,
+pub use cilk_load_nodes::{
+    Action, Area, BinOp, Body, Code, LockAction, Memory, Slot, SlotPlace, Slots, Taker, Target,
+    Trap, Var, apply, eval,
 };
 pub use frame::Frame;
 pub use id::Id;

@@ -6,11 +6,11 @@ use Rattle.std.specs.List.{prefix_len}
 use Rattle.std.proofs.lemmas.List.{get_or-take, length-take-le}
 use Rattle.std.proofs.lemmas.List.Sums.{prefix_len-le-length}
 use Rattle.std.proofs.lemmas.Str.{IsCharBoundary-after_ascii}
-use Rattle.cilk_lexeme.specs.Byte.{begins_name, continues_name, continues_number}
-use Rattle.cilk_lexeme.specs.Spelling.{has_name_form, has_number_form}
-use Rattle.cilk_lexeme.proofs.Forms.{IsPlain, EndsPlain, name_plain, number_plain}
-use Rattle.cilk_lexeme.proofs.Numbers.{number_form}
-use Rattle.cilk_lexeme.proofs.Words.{name_form}
+use Rattle.cilk_lex_tokens.specs.Byte.{begins_name, continues_name, continues_number}
+use Rattle.cilk_lex_tokens.specs.Spelling.{has_name_form, has_number_form}
+use Rattle.cilk_lex_tokens.proofs.Forms.{IsPlain, EndsPlain, name_plain, number_plain}
+use Rattle.cilk_lex_tokens.proofs.Numbers.{number_form}
+use Rattle.cilk_lex_tokens.proofs.Words.{name_form}
 
 -- behind an ASCII byte
 pub ends_cut : (t : List ℕ) (n : ℕ) → IsUtf8 t → n ≤ length t → EndsPlain (take n t) → IsCharBoundary t n
@@ -29,7 +29,8 @@ pub name_formed : (t : List ℕ) (n : ℕ) → 0 < length t → begins_name (get
 name_formed [] n l h e = absurd (omega (arith, l))
 name_formed (b ∷ bs) n l h e = rw e (name_form b bs h)
 
-pub number_formed : (t : List ℕ) (n : ℕ) → 0 < length t → is_ascii_digit (get_or t 0 0) ≡ true → n ≡ prefix_len continues_number t → has_number_form (take n t) ≡ true
+pub number_formed : (t : List ℕ) (n : ℕ) → 0 < length t → is_ascii_digit (get_or t 0 0) ≡ true → n ≡ prefix_len continues_number t
+    → has_number_form (take n t) ≡ true
 number_formed [] n l h e = absurd (omega (arith, l))
 number_formed (b ∷ bs) n l h e = rw e (number_form b bs h)
 

@@ -2,8 +2,8 @@
 use Rattle.std.proofs.Common.{◌≡◌, ◌≢◌, ℕ, List, Bool, true, false, refl}
 use Rattle.std.specs.Prelude.{MatchOption, Option, Some, None}
 use Rattle.std.specs.Option.{option_or}
-use Rattle.cilk_lexeme.specs.declared.mark.Mark.{Mark}
-use Rattle.cilk_lexeme.specs.Spelling.{mark_spelling}
+use Rattle.cilk_lex_tokens.specs.declared.mark.Mark.{Mark}
+use Rattle.cilk_lex_tokens.specs.Spelling.{mark_spelling}
 use Rattle.cilk_lex.specs.Marks.{is_byte}
 
 -- no mark of either length

@@ -1,17 +1,19 @@
 -- What the code finds on a line that includes a header.
-use Rattle.std.proofs.Common.{◌≡◌, ◌≢◌, ℕ, ◌+◌, Bool, true, false, cond, ◌&&◌, List, [], ◌∷◌, ◌++◌, length, take, drop, codes, Option, Some, None, refl, sym, ap, ◌∙◌, arith}
+use Rattle.std.proofs.Common.{◌≡◌, ◌≢◌, ℕ, ◌+◌, Bool, true, false, cond, ◌&&◌, List, [], ◌∷◌, ◌++◌, length, take, drop, codes, Option, Some, None}
+use Rattle.std.proofs.Common.{refl, sym, ap, ◌∙◌, arith}
 use Rattle.std.specs.Prelude.{◌==◌, bytes_eq}
 use Rattle.std.specs.Bool.{then_some}
 use Rattle.std.specs.List.{prefix_len}
 use Rattle.std.proofs.lemmas.List.{length-take-le}
 use Rattle.std.proofs.lemmas.List.Sums.{prefix_len-le-length}
-use Rattle.cilk_lexeme.specs.declared.fault.LexFault.TheVariants.{BadDirective}
-use Rattle.cilk_lexeme.specs.declared.header.Header.{Header}
-use Rattle.cilk_lexeme.specs.declared.token.Kind.TheVariants as kind
-use Rattle.cilk_lexeme.specs.Byte.{is_line_blank, continues_name, continues_header, opens_header}
-use Rattle.cilk_lexeme.specs.Sight.{amiss, ends_line, closes, closed_at, all_headers, header_among, header_at, behind_word, word_at, include_in, include_shown, include_sight}
-use Rattle.cilk_lexeme.specs.Spelling.{header_spelling, closing_of}
-use Rattle.cilk_lexeme.proofs.Headers.{header_again, no_header}
+use Rattle.cilk_lex_tokens.specs.declared.fault.LexFault.TheVariants.{BadDirective}
+use Rattle.cilk_lex_tokens.specs.declared.header.Header.{Header}
+use Rattle.cilk_lex_tokens.specs.declared.token.TokenKind.TheVariants as kind
+use Rattle.cilk_lex_tokens.specs.Byte.{is_line_blank, continues_name, continues_header, opens_header}
+use Rattle.cilk_lex_tokens.specs.Sight.{amiss, ends_line, closes, closed_at, all_headers, header_among, header_at, behind_word, word_at, include_in}
+use Rattle.cilk_lex_tokens.specs.Sight.{include_shown, include_sight}
+use Rattle.cilk_lex_tokens.specs.Spelling.{header_spelling, closing_of}
+use Rattle.cilk_lex_tokens.proofs.Headers.{header_again, no_header}
 use Rattle.cilk_lex.specs.Front.{IsSeen}
 
 -- ---- the header's name
@@ -35,7 +37,8 @@ module _ (i q : ℕ) (t rest : List ℕ) (e : t ≡ q ∷ rest) where
   unfolding header_at
   not_opened h = rw (e, h) refl
 
-  module _ (name behind : List ℕ) (h : opens_header q ≡ true) (n : name ≡ take (prefix_len continues_header rest) rest) (b : behind ≡ drop (prefix_len continues_header rest) rest) where
+  module _ (name behind : List ℕ) (h : opens_header q ≡ true) (n : name ≡ take (prefix_len continues_header rest) rest)
+      (b : behind ≡ drop (prefix_len continues_header rest) rest) where
     pub no_name : ((k : Header) → name ≢ header_spelling k) → header_at i t ≡ None
     unfolding header_at closed_at
     no_name k = rw (e, h, ← n, no_header name k) refl
@@ -47,7 +50,8 @@ module _ (i q : ℕ) (t rest : List ℕ) (e : t ≡ q ∷ rest) where
     pub a_name : (k : Header) → name ≡ header_spelling k → header_at i t ≡ then_some (closes q behind) (k, i + 2 + length name)
     unfolding header_at closed_at
     a_name k s =
-        let l : length name ≡ prefix_len continues_header rest = ap length n ∙ length-take-le (prefix_len continues_header rest) rest (prefix_len-le-length continues_header rest) in
+        let l : length name ≡ prefix_len continues_header rest = ap length n
+        ∙ length-take-le (prefix_len continues_header rest) rest (prefix_len-le-length continues_header rest) in
         rw (e, h, ← n, ap (header_among all_headers) s ∙ header_again k, ← b) (shown (closes q behind) k _ _ (omega (arith, l)))
 
 -- ---- the line
@@ -61,7 +65,8 @@ module _ (t before rest word more : List ℕ) (b : before ≡ take (prefix_len i
   unfolding include_in word_at
   no_word e = rw (← r, ← w, e) refl
 
-  pub behind_word_at : (between last : List ℕ) → bytes_eq word (codes "include") ≡ true → between ≡ take (prefix_len is_line_blank more) more → last ≡ drop (prefix_len is_line_blank more) more
+  pub behind_word_at : (between last : List ℕ) → bytes_eq word (codes "include") ≡ true
+      → between ≡ take (prefix_len is_line_blank more) more → last ≡ drop (prefix_len is_line_blank more) more
       → include_in t ≡ header_at (1 + length before + length word + length between) last
   unfolding include_in word_at behind_word
   behind_word_at between last e f g =
@@ -78,6 +83,7 @@ module _ (text line : List ℕ) (at : ℕ) (e : text ≡ codes "#" ++ line) wher
   unfolding include_sight include_shown
   not_included i = rw (e, ← i) refl
 
-  pub is_included : (h : Header) (n : ℕ) → Some (h, n) ≡ include_in line → IsSeen text (include_sight true at text) (record { kind = Some (kind.Include h); end = n })
+  pub is_included : (h : Header) (n : ℕ) → Some (h, n) ≡ include_in line
+      → IsSeen text (include_sight true at text) (record { kind = Some (kind.Include h); end = n })
   unfolding include_sight include_shown
   is_included h n i = rw (e, ← i) refl

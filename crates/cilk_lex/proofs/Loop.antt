@@ -1,18 +1,19 @@
 -- How far a text is read.
-use Rattle.std.proofs.Common.{◌≡◌, ℕ, ◌+◌, ◌-◌, ◌<◌, ◌≤◌, Bool, true, List, [], ◌∷◌, ◌++◌, length, take, drop, Option, Some, None, refl, sym, ap, subst, ◌∙◌, arith, append_assoc}
+use Rattle.std.proofs.Common.{◌≡◌, ℕ, ◌+◌, ◌-◌, ◌<◌, ◌≤◌, Bool, true, List, [], ◌∷◌, ◌++◌, length, take, drop, Option, Some, None, refl, sym, ap}
+use Rattle.std.proofs.Common.{subst, ◌∙◌, arith, append_assoc}
 use Rattle.std.specs.Prelude.{option_map, All, IsCharBoundary, IsUtf8, slice_range}
 use Rattle.std.proofs.lemmas.List.{map_push, append-nil, length-take-le, length-drop, take-append-drop, drop-drop, nil_from_length}
 use Rattle.std.proofs.lemmas.List.Elements.{All-nil, All-push}
 use Rattle.std.proofs.lemmas.Str.{IsCharBoundary-from_drop, IsCharBoundary-from_rest}
-use Rattle.cilk_lexeme.specs.declared.fault.LexFault.{LexFault}
-use Rattle.cilk_lexeme.specs.declared.token.Kind.{Kind}
-use Rattle.cilk_lexeme.specs.declared.token.Token.{Token}
-use Rattle.cilk_lexeme.specs.Lexeme.{Lexeme, lexeme_of, Piece, piece_of, pieces_of}
-use Rattle.cilk_lexeme.specs.Lexing.{Front, fresh_behind, Lexes, finished, skipped, taken, Faulty, here, later}
-use Rattle.cilk_lexeme.specs.Sight.{sight, amiss}
-use Rattle.cilk_lexeme.proofs.Forms.{front_ends, front_some, lexeme_plain}
-use Rattle.cilk_lexeme.proofs.Sees.{sees}
-use Rattle.cilk_lexeme.proofs.Shows.{Shows}
+use Rattle.cilk_lex_tokens.specs.declared.fault.LexFault.{LexFault}
+use Rattle.cilk_lex_tokens.specs.declared.token.TokenKind.{TokenKind}
+use Rattle.cilk_lex_tokens.specs.declared.token.Token.{Token}
+use Rattle.cilk_lex_tokens.specs.Lexeme.{Lexeme, lexeme_of, Piece, piece_of, pieces_of}
+use Rattle.cilk_lex_tokens.specs.Lexing.{Front, fresh_behind, Lexes, finished, skipped, taken, Faulty, here, later}
+use Rattle.cilk_lex_tokens.specs.Sight.{sight, amiss}
+use Rattle.cilk_lex_tokens.proofs.Forms.{front_ends, front_some, lexeme_plain}
+use Rattle.cilk_lex_tokens.proofs.Sees.{sees}
+use Rattle.cilk_lex_tokens.proofs.Shows.{Shows}
 use Rattle.cilk_lex.specs.declared.found.Found.{Found}
 use Rattle.cilk_lex.specs.Front.{IsSeen}
 use Rattle.cilk_lex.specs.Reading.{IsWithin}
@@ -58,19 +59,26 @@ module _ (text rest : List ℕ) (ts : List Token) (fresh : Bool) (at n : ℕ) (s
   left_on : drop n rest ≡ drop (at + n) text
   left_on = ap (λ t. drop n t) s.left ∙ drop-drop n at text
 
-  faulty_on : {x : Option Lexeme} → Front fresh (take n rest) (drop n rest) x → (f : LexFault) → Faulty (fresh_behind fresh (take n rest)) (at + n) (drop n rest) f → Faulty true 0 text f
-  faulty_on f g h = s.faulty g (later f (sym (take-append-drop n rest)) (subst (λ i. Faulty (fresh_behind fresh (take n rest)) (at + i) (drop n rest) g) (sym (front_length rest n l)) h))
+  faulty_on : {x : Option Lexeme} → Front fresh (take n rest) (drop n rest) x → (f : LexFault)
+      → Faulty (fresh_behind fresh (take n rest)) (at + n) (drop n rest) f → Faulty true 0 text f
+  faulty_on f g h =
+      s.faulty g
+      (later f (sym (take-append-drop n rest)) (subst (λ i. Faulty (fresh_behind fresh (take n rest)) (at + i) (drop n rest) g)
+      (sym (front_length rest n l)) h))
 
   pub blank_read : Front fresh (take n rest) (drop n rest) None → ReadSoFar text ts (fresh_behind fresh (take n rest)) (at + n) (drop n rest)
   blank_read f = record {
     place = place_on;
     left = left_on;
-    lexed = λ ps h. s.lexed ps (skipped f (sym (take-append-drop n rest)) (subst (λ i. Lexes (fresh_behind fresh (take n rest)) (at + i) (drop n rest) ps) (sym (front_length rest n l)) h));
+    lexed =
+        λ ps h. s.lexed ps
+        (skipped f (sym (take-append-drop n rest)) (subst (λ i. Lexes (fresh_behind fresh (take n rest)) (at + i) (drop n rest) ps)
+        (sym (front_length rest n l)) h));
     faulty = faulty_on f;
     within = s.within;
   }
 
-  module _ (k : Kind) (f : Front fresh (take n rest) (drop n rest) (Some (lexeme_of (take n rest) k))) where
+  module _ (k : TokenKind) (f : Front fresh (take n rest) (drop n rest) (Some (lexeme_of (take n rest) k))) where
     -- the token that stands there
     token : Token
     token = record { kind = k; start = at; end = at + n }
@@ -84,10 +92,15 @@ module _ (text rest : List ℕ) (ts : List Token) (fresh : Bool) (at n : ℕ) (s
     unfolding token
     piece_is = rw (bytes_are, front_length rest n l) refl
 
-    lexed_on : (ps : List Piece) → Lexes (fresh_behind fresh (take n rest)) (at + n) (drop n rest) ps → Lexes true 0 text (pieces_of text (ts ++ token ∷ []) ++ ps)
+    lexed_on : (ps : List Piece) → Lexes (fresh_behind fresh (take n rest)) (at + n) (drop n rest) ps
+        → Lexes true 0 text (pieces_of text (ts ++ token ∷ []) ++ ps)
     lexed_on ps h =
-        let g = s.lexed _ (taken f (sym (take-append-drop n rest)) (subst (λ i. Lexes (fresh_behind fresh (take n rest)) (at + i) (drop n rest) ps) (sym (front_length rest n l)) h) (ap (λ p. p ∷ ps) (sym piece_is))) in
-        subst (λ ps. Lexes true 0 text ps) (sym (append_assoc (pieces_of text ts) (piece_of text token ∷ []) ps) ∙ ap (λ qs. qs ++ ps) (sym (map_push (piece_of text) ts token))) g
+        let g = s.lexed _
+        (taken f (sym (take-append-drop n rest)) (subst (λ i. Lexes (fresh_behind fresh (take n rest)) (at + i) (drop n rest) ps)
+        (sym (front_length rest n l)) h) (ap (λ p. p ∷ ps) (sym piece_is))) in
+        subst (λ ps. Lexes true 0 text ps)
+        (sym (append_assoc (pieces_of text ts) (piece_of text token ∷ []) ps)
+        ∙ ap (λ qs. qs ++ ps) (sym (map_push (piece_of text) ts token))) g
 
     within_on : IsUtf8 text → IsUtf8 rest → IsWithin text token
     unfolding token
@@ -97,11 +110,15 @@ module _ (text rest : List ℕ) (ts : List Token) (fresh : Bool) (at n : ℕ) (s
           not_empty = omega (arith, p.0, front_length rest n l);
           in_text = omega (arith, s.place, l);
           cut_at_start = IsCharBoundary-from_drop text at (omega (arith, s.place)) (subst (λ t. IsUtf8 t) s.left v);
-          cut_at_end = IsCharBoundary-from_rest text at n (omega (arith, s.place)) (subst (λ t. IsCharBoundary t n) s.left (ends_cut rest n v l (front_ends f)));
+          cut_at_end =
+              IsCharBoundary-from_rest text at n (omega (arith, s.place))
+              (subst (λ t. IsCharBoundary t n) s.left (ends_cut rest n v l (front_ends f)));
           ascii = rw bytes_are p.1;
         }
 
-    pub token_read : IsUtf8 text → IsUtf8 rest → ReadSoFar text (ts ++ record { kind = k; start = at; end = at + n } ∷ []) (fresh_behind fresh (take n rest)) (at + n) (drop n rest)
+    pub token_read : IsUtf8 text → IsUtf8 rest
+        → ReadSoFar text (ts ++ record { kind = k; start = at; end = at + n } ∷ []) (fresh_behind fresh (take n rest)) (at + n)
+        (drop n rest)
     unfolding token
     token_read u v = record {
       place = place_on;
@@ -112,7 +129,8 @@ module _ (text rest : List ℕ) (ts : List Token) (fresh : Bool) (at n : ℕ) (s
     }
 
 -- at the end of the text
-pub all_read : (text rest : List ℕ) (ts : List Token) (fresh : Bool) (at : ℕ) → ReadSoFar text ts fresh at rest → length rest ≡ 0 → Lexes true 0 text (pieces_of text ts)
+pub all_read : (text rest : List ℕ) (ts : List Token) (fresh : Bool) (at : ℕ) → ReadSoFar text ts fresh at rest → length rest ≡ 0
+    → Lexes true 0 text (pieces_of text ts)
 all_read text rest ts fresh at s e = subst (λ ps. Lexes true 0 text ps) (append-nil (pieces_of text ts)) (s.lexed [] (finished (nil_from_length rest e) refl))
 
 -- ---- one turn of the loop
@@ -123,12 +141,14 @@ takes_some fresh rest f i = omega (arith, front_some i.front, front_length rest 
 -- what the loop knows behind a front: a blank, or one more token
 pub record Behind (text rest more : List ℕ) (ts us : List Token) (after : Bool) (at : ℕ) (f : Found) : Type 0 where
   pub blank : f.kind ≡ None → us ≡ ts → ReadSoFar text us after (at + f.end) more
-  pub token : (k : Kind) → IsUtf8 text → IsUtf8 rest → f.kind ≡ Some k → us ≡ ts ++ record { kind = k; start = at; end = at + f.end } ∷ [] → ReadSoFar text us after (at + f.end) more
+  pub token : (k : TokenKind) → IsUtf8 text → IsUtf8 rest → f.kind ≡ Some k → us ≡ ts ++ record { kind = k; start = at; end = at + f.end } ∷ []
+      → ReadSoFar text us after (at + f.end) more
 
 pub behind : (text rest more : List ℕ) (ts us : List Token) (fresh after : Bool) (at : ℕ) (f : Found) → ReadSoFar text ts fresh at rest → IsFound fresh rest f
     → more ≡ drop f.end rest → after ≡ fresh_behind fresh (take f.end rest) → Behind text rest more ts us after at f
 behind text rest more ts us fresh after at f s i h b =
-    let front = λ (k : Option Kind) (e : f.kind ≡ k). subst (λ k. Front fresh (take f.end rest) (drop f.end rest) (option_map (lexeme_of (take f.end rest)) k)) e i.front in
+    let front = λ (k : Option TokenKind) (e : f.kind ≡ k). subst
+    (λ k. Front fresh (take f.end rest) (drop f.end rest) (option_map (lexeme_of (take f.end rest)) k)) e i.front in
     record {
       blank = λ e g. rw (g, h, b) (blank_read text rest ts fresh at f.end s i.in_text (front None e));
       token = λ k u v e g. rw (g, h, b) (token_read text rest ts fresh at f.end s i.in_text k (front (Some k) e) u v);

@@ -1,12 +1,13 @@
 -- One byte more of a text.
-use Rattle.std.proofs.Common.{◌≡◌, ◌≢◌, ℕ, ◌+◌, ◌-◌, ◌<◌, ◌≤◌, Bool, true, false, List, ◌∷◌, ◌||◌, ◌&&◌, length, get_or, drop, Some, None, refl, sym, ap, ◌∙◌, add-one, drop-cons}
+use Rattle.std.proofs.Common.{◌≡◌, ◌≢◌, ℕ, ◌+◌, ◌-◌, ◌<◌, ◌≤◌, Bool, true, false, List, ◌∷◌, ◌||◌, ◌&&◌, length, get_or, drop, Some, None, refl, sym}
+use Rattle.std.proofs.Common.{ap, ◌∙◌, add-one, drop-cons}
 use Rattle.std.specs.Prelude.{◌==◌}
 use Rattle.std.proofs.lemmas.Bool.{ne_eqb}
 use Rattle.std.proofs.lemmas.List.{drop_all}
-use Rattle.cilk_lexeme.specs.declared.fault.LexFault.TheVariants.{BadByte, BadEscape}
-use Rattle.cilk_lexeme.specs.Byte.{is_space, is_line_end, is_escape, is_printed}
-use Rattle.cilk_lexeme.specs.Lexing.{fresh_behind}
-use Rattle.cilk_lexeme.specs.Sight.{ends_line, quote_from, fault_from}
+use Rattle.cilk_lex_tokens.specs.declared.fault.LexFault.TheVariants.{BadByte, BadEscape}
+use Rattle.cilk_lex_tokens.specs.Byte.{is_space, is_line_end, is_escape, is_printed}
+use Rattle.cilk_lex_tokens.specs.Lexing.{fresh_behind}
+use Rattle.cilk_lex_tokens.specs.Sight.{ends_line, quote_from, fault_from}
 
 module _ (t : List ℕ) (i : ℕ) (l : i < length t) where
   next : drop i t ≡ get_or t i 0 ∷ drop (i + 1) t

@@ -1,8 +1,9 @@
 -- The fault of a text that is refused.
 use Rattle.std.proofs.Common.{◌≡◌, ℕ, ◌<◌, ◌≤◌, Bool, true, List, length, Result, Err, arith}
-use Rattle.cilk_lexeme.specs.declared.fault.LexFault.{LexFault}
-use Rattle.cilk_lexeme.specs.declared.fault.LexFault.TheVariants as fault
-use Rattle.cilk_lexeme.specs.Lexing.{Amiss, bad_byte, open_comment, open_text, bad_text, bad_number, bad_directive, BodyFault, escape_fault, byte_fault, Faulty, here, later, text_limit}
+use Rattle.cilk_lex_tokens.specs.declared.fault.LexFault.{LexFault}
+use Rattle.cilk_lex_tokens.specs.declared.fault.LexFault.TheVariants as fault
+use Rattle.cilk_lex_tokens.specs.Lexing.{Amiss, bad_byte, open_comment, open_text, bad_text, bad_number, bad_directive, BodyFault, escape_fault}
+use Rattle.cilk_lex_tokens.specs.Lexing.{byte_fault, Faulty, here, later, text_limit}
 use Rattle.cilk_lex.specs.Reading.{Refuses}
 
 body_not_long : {at : ℕ} {body : List ℕ} {f : LexFault} → BodyFault at body f → f ≡ fault.TooLong → ⊥
@@ -35,5 +36,6 @@ err_is : {X : Type 0} (f g : LexFault) → ◌≡◌ {A = Result X LexFault} (Er
 err_is f g e = cc
 
 pub another_fault : {X : Type 0} (text : List ℕ) (f : LexFault) → length text ≤ text_limit → Faulty true 0 text f
-    → (◌≡◌ {A = Result X LexFault} (Err f) (Err fault.TooLong) → text_limit < length text) × (text_limit < length text → ◌≡◌ {A = Result X LexFault} (Err f) (Err fault.TooLong))
+    → (◌≡◌ {A = Result X LexFault} (Err f) (Err fault.TooLong) → text_limit < length text)
+    × (text_limit < length text → ◌≡◌ {A = Result X LexFault} (Err f) (Err fault.TooLong))
 another_fault text f l h = (λ e. absurd (not_too_long h (err_is f fault.TooLong e)), λ m. absurd (omega (arith, l, m)))

@@ -1,5 +1,6 @@
 -- The value of a number, and what `from_str_radix` makes of its digits.
-use Rattle.std.proofs.Common.{◌≡◌, ◌≢◌, ℕ, zero, suc, ◌<◌, ◌≤◌, Bool, true, false, cond, eqb, ◌&&◌, ◌⊎◌, inl, inr, List, [], ◌∷◌, length, get_or, drop, Some, None, Result, Ok, Err, refl, sym, ◌∙◌, arith}
+use Rattle.std.proofs.Common.{◌≡◌, ◌≢◌, ℕ, zero, suc, ◌<◌, ◌≤◌, Bool, true, false, cond, eqb, ◌&&◌, ◌⊎◌, inl, inr, List, [], ◌∷◌, length, get_or}
+use Rattle.std.proofs.Common.{drop, Some, None, Result, Ok, Err, refl, sym, ◌∙◌, arith}
 use Rattle.std.specs.Prelude.{nat_le}
 use Rattle.std.specs.Bool.{then_some}
 use Rattle.std.specs.List.{list_all}
@@ -7,11 +8,11 @@ use Rattle.std.specs.Result.{result_ok}
 use Rattle.std.specs.Str.Parse.{ParsesUnsigned, digits_value, without_leading_plus}
 use Rattle.std.proofs.lemmas.Bool.{leb-true, eq-eqb, ne_eqb}
 use Rattle.std.proofs.lemmas.Bool.Decides.{nat_tests}
-use Rattle.cilk_lexeme.specs.Byte.{continues_number, is_x}
-use Rattle.cilk_lexeme.specs.Sight.{is_numeral, valued, number_in}
-use Rattle.cilk_lexeme.specs.Spelling.{int_max, has_number_form}
-use Rattle.cilk_lexeme.proofs.Numbers.{numeral_true, true_numeral, number_passes}
-use Rattle.cilk_lexeme.proofs.Runs.{both}
+use Rattle.cilk_lex_tokens.specs.Byte.{continues_number, is_x}
+use Rattle.cilk_lex_tokens.specs.Sight.{is_numeral, valued, number_in}
+use Rattle.cilk_lex_tokens.specs.Spelling.{int_max, has_number_form}
+use Rattle.cilk_lex_tokens.proofs.Numbers.{numeral_true, true_numeral, number_passes}
+use Rattle.cilk_lex_tokens.proofs.Runs.{both}
 
 no_plus_byte : (b : ℕ) → continues_number b ≡ true → eqb b 43 ≡ false
 no_plus_byte b h = grind (arith, nat_tests)
@@ -20,7 +21,8 @@ no_plus : (ds : List ℕ) → list_all continues_number ds ≡ true → without_
 no_plus [] h = refl
 no_plus (b ∷ bs) h = rw (no_plus_byte b (both (continues_number b) (list_all continues_number bs) h).0) refl
 
-pub no_value : {E : Type 0} (radix : ℕ) (ds : List ℕ) (r : Result ℕ E) → list_all continues_number ds ≡ true → ParsesUnsigned 32 radix ds r → None ≡ result_ok r → valued radix ds ≡ None
+pub no_value : {E : Type 0} (radix : ℕ) (ds : List ℕ) (r : Result ℕ E) → list_all continues_number ds ≡ true → ParsesUnsigned 32 radix ds r
+    → None ≡ result_ok r → valued radix ds ≡ None
 unfolding valued
 no_value radix ds (Ok x) h p e = absurd cc
 no_value radix ds (Err x) h p e = at (is_numeral radix ds && nat_le (digits_value radix ds) int_max) refl
@@ -33,7 +35,8 @@ no_value radix ds (Err x) h p e = at (is_numeral radix ds && nat_le (digits_valu
         let l = leb-true (digits_value radix ds) int_max q.1 in
         absurd ((rw (no_plus ds h) at p) (n, omega (arith, l)))
 
-pub some_value : {E : Type 0} (radix : ℕ) (ds : List ℕ) (v : ℕ) (r : Result ℕ E) → list_all continues_number ds ≡ true → ParsesUnsigned 32 radix ds r → Some v ≡ result_ok r → valued radix ds ≡ then_some (nat_le v int_max) v
+pub some_value : {E : Type 0} (radix : ℕ) (ds : List ℕ) (v : ℕ) (r : Result ℕ E) → list_all continues_number ds ≡ true
+    → ParsesUnsigned 32 radix ds r → Some v ≡ result_ok r → valued radix ds ≡ then_some (nat_le v int_max) v
 unfolding valued
 some_value radix ds v (Err x) h p e = absurd cc
 some_value radix ds v (Ok x) h p e =
@@ -65,12 +68,3 @@ unfolding number_in
 in_eight [] l h x = absurd (omega (arith, l))
 in_eight (a ∷ []) l h x = absurd (omega (arith, l))
 in_eight (a ∷ b ∷ bs) l h x = rw (eq-eqb a 48 h, x) refl
-
--- the digits have no sign
-drop_passes : (n : ℕ) (t : List ℕ) → list_all continues_number t ≡ true → list_all continues_number (drop n t) ≡ true
-drop_passes zero t h = h
-drop_passes (suc n) [] h = refl
-drop_passes (suc n) (b ∷ bs) h = drop_passes n bs (both (continues_number b) (list_all continues_number bs) h).1
-
-pub digits_pass : (n : ℕ) (t : List ℕ) → has_number_form t ≡ true → list_all continues_number (drop n t) ≡ true
-digits_pass n t h = drop_passes n t (number_passes t h)

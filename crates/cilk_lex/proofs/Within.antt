@@ -1,9 +1,10 @@
 -- The place of a fault is in the text.
 use Rattle.std.proofs.Common.{ℕ, ◌+◌, ◌≤◌, Bool, List, ◌∷◌, ◌++◌, length, codes, ap, arith, length-append}
-use Rattle.cilk_lexeme.specs.declared.fault.LexFault.{LexFault}
-use Rattle.cilk_lexeme.specs.declared.fault.LexFault.TheVariants as fault
-use Rattle.cilk_lexeme.specs.Lexeme.{place_of}
-use Rattle.cilk_lexeme.specs.Lexing.{BodyFault, escape_fault, byte_fault, Amiss, bad_byte, open_comment, open_text, bad_text, bad_number, bad_directive, Faulty, here, later}
+use Rattle.cilk_lex_tokens.specs.declared.fault.LexFault.{LexFault}
+use Rattle.cilk_lex_tokens.specs.declared.fault.LexFault.TheVariants as fault
+use Rattle.cilk_lex_tokens.specs.Lexeme.{place_of}
+use Rattle.cilk_lex_tokens.specs.Lexing.{BodyFault, escape_fault, byte_fault, Amiss, bad_byte, open_comment, open_text, bad_text, bad_number}
+use Rattle.cilk_lex_tokens.specs.Lexing.{bad_directive, Faulty, here, later}
 use Rattle.cilk_lex.specs.Reading.{Refuses}
 
 body_within : {at : ℕ} {body : List ℕ} {f : LexFault} → BodyFault at body f → place_of f ≤ at + length body

@@ -1,8 +1,8 @@
 -- What was found at the front of a text.
 use Rattle.std.specs.Prelude.{◌≡◌, List, ℕ, take, option_map, Result, MatchResult}
-use Rattle.cilk_lexeme.specs.declared.fault.LexFault.{LexFault}
-use Rattle.cilk_lexeme.specs.Lexeme.{lexeme_of}
-use Rattle.cilk_lexeme.specs.Sight.{Sight, found, amiss}
+use Rattle.cilk_lex_tokens.specs.declared.fault.LexFault.{LexFault}
+use Rattle.cilk_lex_tokens.specs.Lexeme.{lexeme_of}
+use Rattle.cilk_lex_tokens.specs.Sight.{Sight, found, amiss}
 use Rattle.cilk_lex.specs.declared.found.Found.{Found}
 
 -- what was found is what is seen there: a token of these bytes, or a blank

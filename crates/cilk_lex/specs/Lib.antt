@@ -1,4 +1,4 @@
 pub mod Front
 pub mod Reading
-pub use Rattle.cilk_lexeme.specs as lexeme
 pub mod Marks
+pub use Rattle.cilk_lex_tokens.specs as lexeme

@@ -1,9 +1,9 @@
 -- What reading a text gives.
 use Rattle.std.specs.Prelude.{ℕ, ◌<◌, ◌≤◌, true, List, length, IsAscii, IsCharBoundary, slice_range}
-use Rattle.cilk_lexeme.specs.declared.fault.LexFault.{LexFault}
-use Rattle.cilk_lexeme.specs.declared.fault.LexFault.TheVariants as fault
-use Rattle.cilk_lexeme.specs.declared.token.Token.{Token}
-use Rattle.cilk_lexeme.specs.Lexing.{Faulty, text_limit}
+use Rattle.cilk_lex_tokens.specs.declared.fault.LexFault.{LexFault}
+use Rattle.cilk_lex_tokens.specs.declared.fault.LexFault.TheVariants as fault
+use Rattle.cilk_lex_tokens.specs.declared.token.Token.{Token}
+use Rattle.cilk_lex_tokens.specs.Lexing.{Faulty, text_limit}
 
 -- the place of a token is within the text, is not empty, and may be cut out of it
 pub record IsWithin (text : List ℕ) (t : Token) : Type 0 where

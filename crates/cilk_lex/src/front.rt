@@ -2,10 +2,10 @@
 
 ghost use Rattle.std.specs.Prelude.{◌≡◌, ◌≢◌, ◌<◌, ◌≤◌, ◌+◌, ◌^◌, ◌++◌, codes, List, ℕ, length, take, ◌==◌, ◌||◌, ◌&&◌, IsTrue, MatchOption, slice_index};
 ghost use Rattle.std.specs.Char.{is_ascii_digit};
-ghost use Rattle.cilk_lexeme.specs.declared.mark.Mark.{Mark};
-ghost use Rattle.cilk_lexeme.specs.Byte.{begins_name, is_space};
-ghost use Rattle.cilk_lexeme.specs.Lexing.{fresh_behind};
-ghost use Rattle.cilk_lexeme.specs.Sight.{sight, name_sight, number_sight, mark_in, mark_sight, comment_sight};
+ghost use Rattle.cilk_lex_tokens.specs.declared.mark.Mark.{Mark};
+ghost use Rattle.cilk_lex_tokens.specs.Byte.{begins_name, is_space};
+ghost use Rattle.cilk_lex_tokens.specs.Lexing.{fresh_behind};
+ghost use Rattle.cilk_lex_tokens.specs.Sight.{sight, name_sight, number_sight, mark_in, mark_sight, comment_sight};
 ghost use Rattle.cilk_lex.specs.Front.{IsSeen, Finds};
 
 use crate::bytes::{begins_name, is_blank, is_space, name_end, number_end};
@@ -13,7 +13,7 @@ use crate::found::Found;
 use crate::inclusion::first_include;
 use crate::literal::first_text;
 use crate::spelling::{keyword_of, mark_of, number_of};
-use cilk_lexeme::{Kind, LexFault, Mark};
+use cilk_lex_tokens::{LexFault, Mark, TokenKind};
 
 fn first_name(text: &str) -> Found
     requires some { 0 < length text.now }
@@ -22,8 +22,8 @@ fn first_name(text: &str) -> Found
 {
     let end = name_end(text.as_bytes());
     let kind = match keyword_of(&text[..end]) {
-        Some(word) => Kind::Word(word),
-        None => Kind::Name,
+        Some(word) => TokenKind::Word(word),
+        None => TokenKind::Name,
     };
     Found {
         kind: Some(kind),
@@ -39,7 +39,7 @@ fn first_number(text: &str, at: u32) -> Result<Found, LexFault>
     let end = number_end(text.as_bytes());
     match number_of(&text[..end]) {
         Some(value) => Ok(Found {
-            kind: Some(Kind::Number(value)),
+            kind: Some(TokenKind::Number(value)),
             end,
         }),
         None => Err(LexFault::BadNumber(at)),
@@ -54,10 +54,10 @@ fn mark_within(text: &str, end: usize) -> Option<Mark>
 }
 
 fn found_mark(mark: Mark, end: usize) -> Result<Found, LexFault>
-    ensures { result ≡ Ok (record { kind = Some (Kind.Mark mark); end = end }) }
+    ensures { result ≡ Ok (record { kind = Some (TokenKind.Mark mark); end = end }) }
 {
     Ok(Found {
-        kind: Some(Kind::Mark(mark)),
+        kind: Some(TokenKind::Mark(mark)),
         end,
     })
 }

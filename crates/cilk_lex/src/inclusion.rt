@@ -1,14 +1,14 @@
 //! Lines that include a header (C 1990, 6.8.2).
 
 ghost use Rattle.std.specs.Prelude.{◌≡◌, ℕ, ◌+◌, ◌<◌, ◌^◌, ◌++◌, List, length, codes};
-ghost use Rattle.cilk_lexeme.specs.Sight.{closes, header_at, include_in, include_sight};
-ghost use Rattle.cilk_lexeme.specs.Spelling.{closing_of};
+ghost use Rattle.cilk_lex_tokens.specs.Sight.{closes, header_at, include_in, include_sight};
+ghost use Rattle.cilk_lex_tokens.specs.Spelling.{closing_of};
 ghost use Rattle.cilk_lex.specs.Front.{Finds};
 
 use crate::bytes::{ends_line, opens_header, split_blanks, split_header, split_name};
 use crate::found::Found;
 use crate::spelling::header_of;
-use cilk_lexeme::{Header, Kind, LexFault};
+use cilk_lex_tokens::{Header, LexFault, TokenKind};
 
 /// What closes the name of a header.
 fn closing_of(opening: u8) -> u8
@@ -68,7 +68,7 @@ pub(crate) fn first_include(line: &[u8], fresh: bool, at: u32) -> Result<Found, 
     }
     match included(line) {
         Some((header, end)) => Ok(Found {
-            kind: Some(Kind::Include(header)),
+            kind: Some(TokenKind::Include(header)),
             end,
         }),
         None => Err(LexFault::BadDirective(at)),

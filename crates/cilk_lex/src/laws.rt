@@ -1,9 +1,9 @@
 //! What holds of every text. These functions tell their callers nothing: their contracts are the laws.
 
 ghost use Rattle.std.specs.Prelude.{◌≡◌, ◌⊎◌, ℕ, Bool, List};
-ghost use Rattle.cilk_lexeme.specs.declared.fault.LexFault.{LexFault};
-ghost use Rattle.cilk_lexeme.specs.Lexeme.{Piece};
-ghost use Rattle.cilk_lexeme.specs.Lexing.{Lexes, Faulty};
+ghost use Rattle.cilk_lex_tokens.specs.declared.fault.LexFault.{LexFault};
+ghost use Rattle.cilk_lex_tokens.specs.Lexeme.{Piece};
+ghost use Rattle.cilk_lex_tokens.specs.Lexing.{Lexes, Faulty};
 
 /// A text is made of its pieces in one way only.
 pub fn one_reading()

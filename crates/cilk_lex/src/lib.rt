@@ -11,6 +11,6 @@ mod place;
 mod reading;
 mod spelling;
 
-pub use cilk_lexeme::{Header, Keyword, Kind, LexFault, Mark, Token};
+pub use cilk_lex_tokens::{Header, Keyword, LexFault, Mark, Token, TokenKind};
 pub use place::line_col;
 pub use reading::{TEXT_LIMIT, tokens};

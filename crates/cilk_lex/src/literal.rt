@@ -1,12 +1,12 @@
 //! Text literals (C 1990, 6.1.4).
 
 ghost use Rattle.std.specs.Prelude.{◌≡◌, ℕ, ◌+◌, ◌<◌, ◌^◌, ◌++◌, List, false, length, codes};
-ghost use Rattle.cilk_lexeme.specs.Sight.{quote_from, fault_from, text_sight};
+ghost use Rattle.cilk_lex_tokens.specs.Sight.{quote_from, fault_from, text_sight};
 ghost use Rattle.cilk_lex.specs.Front.{Finds};
 
 use crate::bytes::{is_escape, is_printed};
 use crate::found::Found;
-use cilk_lexeme::{Kind, LexFault};
+use cilk_lex_tokens::{LexFault, TokenKind};
 
 /// Where the quote stands that closes a text literal, on its line, in the text behind the one that opens it. A backslash
 /// takes the byte behind it along.
@@ -66,7 +66,7 @@ pub(crate) fn first_text(behind: &[u8], at: u32) -> Result<Found, LexFault>
     match fault_within(&behind[..end], at + 1) {
         Some(fault) => Err(fault),
         None => Ok(Found {
-            kind: Some(Kind::Text),
+            kind: Some(TokenKind::Text),
             end: end + 2,
         }),
     }

@@ -1,7 +1,7 @@
 //! From a place in a text to its line and its column.
 
 ghost use Rattle.std.specs.Prelude.{◌≡◌, ◌<◌, ◌-◌, ◌^◌, length, take};
-ghost use Rattle.cilk_lexeme.specs.Place.{line_of, column_of};
+ghost use Rattle.cilk_lex_tokens.specs.Place.{line_of, column_of};
 
 /// The line and the column of a place in a text, in bytes from its beginning. Both count from 1. Behind the text's end
 /// they are those of its end.

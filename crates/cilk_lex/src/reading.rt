@@ -1,13 +1,13 @@
 //! All tokens of a text from left to right, or the first fault among them, and the limit on its length.
 
 ghost use Rattle.std.specs.Prelude.{◌≡◌, true, ℕ, ◌<◌, ◌≤◌, ◌⊎◌, ◌↔◌, List, length, All, IfOk, IfErr, MatchResult};
-ghost use Rattle.cilk_lexeme.specs.declared.fault.LexFault.{LexFault};
-ghost use Rattle.cilk_lexeme.specs.Lexeme.{Piece, pieces_of};
-ghost use Rattle.cilk_lexeme.specs.Lexing.{Lexes, Faulty, text_limit};
+ghost use Rattle.cilk_lex_tokens.specs.declared.fault.LexFault.{LexFault};
+ghost use Rattle.cilk_lex_tokens.specs.Lexeme.{Piece, pieces_of};
+ghost use Rattle.cilk_lex_tokens.specs.Lexing.{Lexes, Faulty, text_limit};
 ghost use Rattle.cilk_lex.specs.Reading.{IsWithin, Refuses};
 
 use crate::front::{first, fresh_behind};
-use cilk_lexeme::{LexFault, Token};
+use cilk_lex_tokens::{LexFault, Token};
 use std::alloc::Global;
 
 /// The most bytes that a text may have.

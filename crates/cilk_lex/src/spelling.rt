@@ -2,16 +2,16 @@
 
 ghost use Rattle.std.specs.Prelude.{◌≡◌, ◌≢◌, ℕ, ◌≤◌, IsTrue, MatchOption, true, false};
 ghost use Rattle.std.specs.List.{list_all};
-ghost use Rattle.cilk_lexeme.specs.Byte.{continues_number};
-ghost use Rattle.cilk_lexeme.specs.declared.keyword.Keyword.{Keyword};
-ghost use Rattle.cilk_lexeme.specs.declared.mark.Mark.{Mark};
-ghost use Rattle.cilk_lexeme.specs.declared.header.Header.{Header};
-ghost use Rattle.cilk_lexeme.specs.Spelling.{spelling, mark_spelling, header_spelling, has_number_form};
-ghost use Rattle.cilk_lexeme.specs.Sight.{valued, number_in};
+ghost use Rattle.cilk_lex_tokens.specs.Byte.{continues_number};
+ghost use Rattle.cilk_lex_tokens.specs.declared.keyword.Keyword.{Keyword};
+ghost use Rattle.cilk_lex_tokens.specs.declared.mark.Mark.{Mark};
+ghost use Rattle.cilk_lex_tokens.specs.declared.header.Header.{Header};
+ghost use Rattle.cilk_lex_tokens.specs.Spelling.{spelling, mark_spelling, header_spelling, has_number_form};
+ghost use Rattle.cilk_lex_tokens.specs.Sight.{valued, number_in};
 ghost use Rattle.cilk_lex.specs.Marks.{is_byte};
 
 use crate::bytes::is_x;
-use cilk_lexeme::{Header, Keyword, Mark};
+use cilk_lex_tokens::{Header, Keyword, Mark};
 
 const INT_MAX: u32 = 2147483647;
 

@@ -4,17 +4,17 @@ use Rattle.std.proofs.Common.{None, inl, inr, refl, sym, ap, ◌∙◌, arith}
 use Rattle.std.specs.Prelude.{bytes_eq, slice_index_or, position}
 use Rattle.std.specs.List.{prefix_len}
 use Rattle.std.proofs.lemmas.Bool.{lt-ltb, le-ltb, cases_lt}
-use Rattle.cilk_numbering.specs.scopes.Scopes.{Declared}
-use Rattle.cilk_numbering.specs.eval.declared.area.Area.{Area}
-use Rattle.cilk_numbering.specs.eval.declared.area.Area.TheVariants.{Own, Outer, Global}
-use Rattle.cilk_numbering.specs.eval.declared.slot.Slot.{Slot}
-use Rattle.cilk_numbering.specs.labelled.Labelled.{Declaration, unknown}
-use Rattle.cilk_numbering.specs.labelled.Names as label
-use Rattle.cilk_numbering.specs.labelled.Names.{Names, meaning_at, number_of, with_name}
-use Rattle.cilk_numbering.specs.resolve.declared.known.Known.{Known}
-use Rattle.cilk_numbering.specs.resolve.Scope.{Named, Scope, found, visible, outward_area, outward, outward_named, declared, entered}
+use Rattle.cilk_load_numbering.specs.scopes.Scopes.{Declared}
+use Rattle.cilk_load_numbering.specs.eval.declared.area.Area.{Area}
+use Rattle.cilk_load_numbering.specs.eval.declared.area.Area.TheVariants.{Own, Outer, Global}
+use Rattle.cilk_load_numbering.specs.eval.declared.slot.Slot.{Slot}
+use Rattle.cilk_load_numbering.specs.labelled.Labelled.{Declaration, unknown}
+use Rattle.cilk_load_numbering.specs.labelled.Names as label
+use Rattle.cilk_load_numbering.specs.labelled.Names.{Names, meaning_at, number_of, with_name}
+use Rattle.cilk_load_numbering.specs.resolve.declared.known.Binding.{Binding}
+use Rattle.cilk_load_numbering.specs.resolve.Scope.{Named, Scope, found, visible, outward_area, outward, outward_named, declared, entered}
 
-abbrev pub known_of : (Declaration → Slot) → Declaration → Known
+abbrev pub known_of : (Declaration → Slot) → Declaration → Binding
 known_of slots d = record { slot = slots d; number = number_of d }
 
 abbrev pub same_name : List ℕ → Declared → Bool
@@ -70,7 +70,7 @@ agree-declared slots names s d what e same stands agree = record {
       ∙ ap (known_of slots) (sym (meaning-first (same_name name) what (names.scopes.innermost ++ names.scopes.outer) d names.means));
 }
   where
-    choice : (b : Bool) (k : Known) (m : Declaration) → cond b (known_of slots d) (known_of slots m) ≡ known_of slots (cond b d m)
+    choice : (b : Bool) (k : Binding) (m : Declaration) → cond b (known_of slots d) (known_of slots m) ≡ known_of slots (cond b d m)
     choice true k m = refl
     choice false k m = refl
 
@@ -106,7 +106,7 @@ found-outward [] name = refl
 found-outward (e ∷ es) name =
     ap (λ k. cond (bytes_eq e.name name) (outward e.known) k) (found-outward es name) ∙ choice (bytes_eq e.name name) e.known (found es name)
   where
-    choice : (b : Bool) (k l : Known) → cond b (outward k) (outward l) ≡ outward (cond b k l)
+    choice : (b : Bool) (k l : Binding) → cond b (outward k) (outward l) ≡ outward (cond b k l)
     choice true k l = refl
     choice false k l = refl
 

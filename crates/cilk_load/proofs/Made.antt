@@ -3,24 +3,24 @@ use Rattle.std.proofs.Common.{◌≡◌, ℕ, suc, ◌+◌, ◌≤◌, not, cond
 use Rattle.std.proofs.Common.{length-append}
 use Rattle.std.specs.Prelude.{slice_get, flat_map}
 use Rattle.std.specs.List.{prefix_len, position}
-use Rattle.cilk_numbering.specs.syntax.Tree as tree
-use Rattle.cilk_numbering.specs.check.Fault.{WellFormed}
-use Rattle.cilk_numbering.specs.eval.declared.area.Area.TheVariants.{Global}
-use Rattle.cilk_numbering.specs.labelled.Labelled.{Body}
-use Rattle.cilk_numbering.specs.labelled.Count.{count_shape, count_block, count_item, count_program}
-use Rattle.cilk_numbering.specs.labelled.Lines.{action_lines}
-use Rattle.cilk_numbering.specs.labelled.Bodies.{label, bodies_of, file_names, is_start, item_globals, item_locks, inlet_count, block_locals, body_count}
-use Rattle.cilk_numbering.specs.nodes.declared.node.Node.{Node}
-use Rattle.cilk_numbering.specs.nodes.declared.body.Body as table
-use Rattle.cilk_numbering.specs.nodes.declared.var.Var.{Var}
-use Rattle.cilk_numbering.specs.nodes.Bodies.{body_table, vars_from, lock_variable, globals_of, locks_of}
-use Rattle.cilk_numbering.proofs.nodes_laws.Inner.{well_formed-plain}
-use Rattle.cilk_numbering.specs.layout.Tables.{inlet_tables, item_tables, items_tables}
-use Rattle.cilk_numbering.specs.Outer.{items_nodes, globals_count, locks_count, bodies_count}
-use Rattle.cilk_numbering.specs.Outer.{file_scope}
-use Rattle.cilk_numbering.specs.layout.Tables.{starts_here}
+use Rattle.cilk_load_numbering.specs.syntax.Tree as tree
+use Rattle.cilk_load_numbering.specs.check.Fault.{WellFormed}
+use Rattle.cilk_load_numbering.specs.eval.declared.area.Area.TheVariants.{Global}
+use Rattle.cilk_load_numbering.specs.labelled.Labelled.{Body}
+use Rattle.cilk_load_numbering.specs.labelled.Count.{count_shape, count_block, count_item, count_program}
+use Rattle.cilk_load_numbering.specs.labelled.Lines.{action_lines}
+use Rattle.cilk_load_numbering.specs.labelled.Bodies.{label, bodies_of, file_names, is_start, item_globals, item_locks, inlet_count, block_locals, body_count}
+use Rattle.cilk_load_numbering.specs.nodes.declared.node.Node.{Node}
+use Rattle.cilk_load_numbering.specs.nodes.declared.body.Body as table
+use Rattle.cilk_load_numbering.specs.nodes.declared.var.Var.{Var}
+use Rattle.cilk_load_numbering.specs.nodes.Bodies.{body_table, vars_from, lock_variable, globals_of, locks_of}
+use Rattle.cilk_load_numbering.proofs.nodes_laws.Inner.{well_formed-plain}
+use Rattle.cilk_load_numbering.specs.layout.Tables.{inlet_tables, item_tables, items_tables}
+use Rattle.cilk_load_numbering.specs.Outer.{items_nodes, globals_count, locks_count, bodies_count}
+use Rattle.cilk_load_numbering.specs.Outer.{file_scope}
+use Rattle.cilk_load_numbering.specs.layout.Tables.{starts_here}
 use Rattle.cilk_load.specs.Tables.{Tabled}
-use Rattle.cilk_numbering.proofs.layout_laws.Tables.{length-vars}
+use Rattle.cilk_load_numbering.proofs.layout_laws.Tables.{length-vars}
 use Rattle.cilk_load.proofs.Programs.{items-tables-are, program-nodes, none-at-0, nodes-at}
 
 length-globals : (items : List tree.Item) → length (flat_map item_globals items) ≡ globals_count items

@@ -4,39 +4,40 @@ use Rattle.std.proofs.Common.{arith, append-nil, length-append, unwrap_or, pos}
 use Rattle.std.specs.Prelude.{filter_map, slice_get, slice_index_or, option_map, position}
 use Rattle.std.specs.List.{cons_option}
 use Rattle.std.proofs.lemmas.List.Elements.{filter_map-append}
-use Rattle.cilk_numbering.specs.syntax.Tree as tree
-use Rattle.cilk_numbering.specs.syntax.Tree.{Word}
-use Rattle.cilk_numbering.specs.scopes.Parts.{owner_of}
-use Rattle.cilk_numbering.specs.scopes.Scopes.{file_declares}
-use Rattle.cilk_numbering.specs.scopes.declared.owner.Owner.{Owner}
-use Rattle.cilk_numbering.specs.scopes.declared.owner.Owner.TheVariants.{Inlet}
-use Rattle.cilk_numbering.proofs.scopes_laws.Elements.{Has}
-use Rattle.cilk_numbering.specs.check.Fault.{WellFormed}
-use Rattle.cilk_numbering.specs.labelled.Labelled.{Variable, Body, Labelled, Numbered}
-use Rattle.cilk_numbering.specs.labelled.Items.{opened, head_of, start_items}
-use Rattle.cilk_numbering.specs.labelled.Names.{Names, meaning_at}
-use Rattle.cilk_numbering.specs.labelled.Names as label
-use Rattle.cilk_numbering.specs.labelled.Count.{count_shape, count_stmts, count_locals, count_block, count_item, count_program}
-use Rattle.cilk_numbering.specs.labelled.Label.{label_stmts, names_behind, locals_variables}
-use Rattle.cilk_numbering.specs.labelled.Bodies.{label, label_body, one_cell, parameter_variables, inlet_bodies, inlet_count, block_locals, procedure_names}
-use Rattle.cilk_numbering.specs.labelled.Bodies.{body_count, item_bodies, items_bodies, file_means, file_names}
-use Rattle.cilk_numbering.specs.model.Instance.{body_at, no_body}
-use Rattle.cilk_numbering.specs.nodes.declared.node.Node.{Node}
-use Rattle.cilk_numbering.specs.nodes.Slots.{slot_of, is_inlet, procedure_around}
-use Rattle.cilk_numbering.specs.nodes.Actions.{slotted}
-use Rattle.cilk_numbering.specs.nodes.Table.{number_of, number_after, closing_items, Row, node_of}
-use Rattle.cilk_numbering.specs.nodes.Bodies.{body_table, globals_of}
-use Rattle.cilk_numbering.specs.nodes.Plain.{PlainLocals, PlainBlock, OuterLocals, OuterBlock, PlainItem, PlainItems}
-use Rattle.cilk_numbering.proofs.nodes_laws.Inner.{well_formed-plain}
-use Rattle.cilk_numbering.proofs.nodes_laws.Members.{has-from-at}
-use Rattle.cilk_numbering.proofs.nodes_laws.Texts.{item_rows, items_rows, RowsSpan, length-item, items-from-text}
-use Rattle.cilk_numbering.proofs.nodes_laws.Heads.{rows_of, text_of, text-spans, row-number, among-is, among-none, text-place, numbered, one-row}
-use Rattle.cilk_numbering.specs.resolve.Scope as scope
-use Rattle.cilk_numbering.specs.resolve.Scope.{Scope, outward_named}
-use Rattle.cilk_numbering.specs.layout.Firsts.{locals_first}
-use Rattle.cilk_numbering.specs.layout.Tables.{body_first, table_of, inlet_tables, item_tables, items_tables}
-use Rattle.cilk_numbering.specs.Outer.{vars_at, parameters_scope, item_nodes, items_nodes}
-use Rattle.cilk_numbering.specs.Outer.{file_named, file_scope}
+use Rattle.cilk_load_numbering.specs.syntax.Tree as tree
+use Rattle.cilk_load_numbering.specs.syntax.Tree.{Word}
+use Rattle.cilk_load_numbering.specs.scopes.Parts.{owner_of}
+use Rattle.cilk_load_numbering.specs.scopes.Scopes.{file_declares}
+use Rattle.cilk_load_numbering.specs.scopes.declared.owner.Owner.{Owner}
+use Rattle.cilk_load_numbering.specs.scopes.declared.owner.Owner.TheVariants.{Inlet}
+use Rattle.cilk_load_numbering.proofs.scopes_laws.Elements.{Has}
+use Rattle.cilk_load_numbering.specs.check.Fault.{WellFormed}
+use Rattle.cilk_load_numbering.specs.labelled.Labelled.{Variable, Body, Labelled, Numbered}
+use Rattle.cilk_load_numbering.specs.labelled.Items.{opened, head_of, start_items}
+use Rattle.cilk_load_numbering.specs.labelled.Names.{Names, meaning_at}
+use Rattle.cilk_load_numbering.specs.labelled.Names as label
+use Rattle.cilk_load_numbering.specs.labelled.Count.{count_shape, count_stmts, count_locals, count_block, count_item, count_program}
+use Rattle.cilk_load_numbering.specs.labelled.Label.{label_stmts, names_behind, locals_variables}
+use Rattle.cilk_load_numbering.specs.labelled.Bodies.{label, label_body, one_cell, parameter_variables, inlet_bodies, inlet_count, block_locals}
+use Rattle.cilk_load_numbering.specs.labelled.Bodies.{procedure_names}
+use Rattle.cilk_load_numbering.specs.labelled.Bodies.{body_count, item_bodies, items_bodies, file_means, file_names}
+use Rattle.cilk_load_numbering.specs.model.Instance.{body_at, no_body}
+use Rattle.cilk_load_numbering.specs.nodes.declared.node.Node.{Node}
+use Rattle.cilk_load_numbering.specs.nodes.Slots.{slot_of, is_inlet, procedure_around}
+use Rattle.cilk_load_numbering.specs.nodes.Actions.{slotted}
+use Rattle.cilk_load_numbering.specs.nodes.Table.{number_of, number_after, closing_items, Row, node_of}
+use Rattle.cilk_load_numbering.specs.nodes.Bodies.{body_table, globals_of}
+use Rattle.cilk_load_numbering.specs.nodes.Plain.{PlainLocals, PlainBlock, OuterLocals, OuterBlock, PlainItem, PlainItems}
+use Rattle.cilk_load_numbering.proofs.nodes_laws.Inner.{well_formed-plain}
+use Rattle.cilk_load_numbering.proofs.nodes_laws.Members.{has-from-at}
+use Rattle.cilk_load_numbering.proofs.nodes_laws.Texts.{item_rows, items_rows, RowsSpan, length-item, items-from-text}
+use Rattle.cilk_load_numbering.proofs.nodes_laws.Heads.{rows_of, text_of, text-spans, row-number, among-is, among-none, text-place, numbered, one-row}
+use Rattle.cilk_load_numbering.specs.resolve.Scope as scope
+use Rattle.cilk_load_numbering.specs.resolve.Scope.{Scope, outward_named}
+use Rattle.cilk_load_numbering.specs.layout.Firsts.{locals_first}
+use Rattle.cilk_load_numbering.specs.layout.Tables.{body_first, table_of, inlet_tables, item_tables, items_tables}
+use Rattle.cilk_load_numbering.specs.Outer.{vars_at, parameters_scope, item_nodes, items_nodes}
+use Rattle.cilk_load_numbering.specs.Outer.{file_named, file_scope}
 use Rattle.cilk_load.proofs.Found.{known_of, same_name, Agree}
 use Rattle.cilk_load.proofs.Starts.{stmts-pieces, locals-pieces}
 use Rattle.cilk_load.proofs.SlotLaws.{own-around, inlets-around, inlet-owners, file-known}

@@ -1,30 +1,30 @@
 -- The slots of the tables are those that stand for declarations.
 use Rattle.std.proofs.Common.{◌≡◌, ℕ, zero, suc, ◌+◌, ◌<◌, Bool, true, false, cond, List, [], ◌∷◌, map, refl, sym, ap, ◌∙◌, arith}
 use Rattle.std.specs.Prelude.{slice_index_or, bytes_eq}
-use Rattle.cilk_numbering.specs.syntax.Tree as tree
-use Rattle.cilk_numbering.specs.syntax.Tree.{Word}
-use Rattle.cilk_numbering.specs.scopes.declared.owner.Owner.{Owner}
-use Rattle.cilk_numbering.specs.scopes.declared.owner.Owner.TheVariants.{Inlet}
-use Rattle.cilk_numbering.specs.scopes.declared.kind.Kind.TheVariants.{Lock}
-use Rattle.cilk_numbering.specs.scopes.Scopes.{Declared, kind_of_global, kind_of_body, parameter_count, file_declares}
-use Rattle.cilk_numbering.specs.eval.declared.area.Area.{Area}
-use Rattle.cilk_numbering.specs.eval.declared.area.Area.TheVariants.{Own, Outer, Global}
-use Rattle.cilk_numbering.specs.eval.declared.slot.Slot.{Slot}
-use Rattle.cilk_numbering.specs.labelled.Labelled.{Declaration, local, outer, global, of_lock, of_body, unknown, Variable, Labelled}
-use Rattle.cilk_numbering.specs.labelled.Labelled as labelled
-use Rattle.cilk_numbering.specs.labelled.Names as label
-use Rattle.cilk_numbering.specs.labelled.Names.{Names, meaning_at}
-use Rattle.cilk_numbering.specs.labelled.Count.{count_shape, count_block}
-use Rattle.cilk_numbering.specs.labelled.Bodies.{file_means, body_count, inlet_bodies}
+use Rattle.cilk_load_numbering.specs.syntax.Tree as tree
+use Rattle.cilk_load_numbering.specs.syntax.Tree.{Word}
+use Rattle.cilk_load_numbering.specs.scopes.declared.owner.Owner.{Owner}
+use Rattle.cilk_load_numbering.specs.scopes.declared.owner.Owner.TheVariants.{Inlet}
+use Rattle.cilk_load_numbering.specs.scopes.declared.declaration_kind.DeclarationKind.TheVariants.{Lock}
+use Rattle.cilk_load_numbering.specs.scopes.Scopes.{Declared, kind_of_global, kind_of_body, parameter_count, file_declares}
+use Rattle.cilk_load_numbering.specs.eval.declared.area.Area.{Area}
+use Rattle.cilk_load_numbering.specs.eval.declared.area.Area.TheVariants.{Own, Outer, Global}
+use Rattle.cilk_load_numbering.specs.eval.declared.slot.Slot.{Slot}
+use Rattle.cilk_load_numbering.specs.labelled.Labelled.{Declaration, local, outer, global, of_lock, of_body, unknown, Variable, Labelled}
+use Rattle.cilk_load_numbering.specs.labelled.Labelled as labelled
+use Rattle.cilk_load_numbering.specs.labelled.Names as label
+use Rattle.cilk_load_numbering.specs.labelled.Names.{Names, meaning_at}
+use Rattle.cilk_load_numbering.specs.labelled.Count.{count_shape, count_block}
+use Rattle.cilk_load_numbering.specs.labelled.Bodies.{file_means, body_count, inlet_bodies}
 use Rattle.std.specs.Prelude.{position}
-use Rattle.cilk_numbering.specs.model.Instance.{body_at, no_body}
-use Rattle.cilk_numbering.specs.nodes.declared.var.Var.{Var}
-use Rattle.cilk_numbering.specs.nodes.Slots.{size_of, slot_from, slot_of, is_inlet, procedure_around}
-use Rattle.cilk_numbering.specs.nodes.Bodies.{vars_from, body_table}
-use Rattle.cilk_numbering.specs.resolve.declared.known.Known.{Known}
-use Rattle.cilk_numbering.specs.resolve.Scope.{Named, found, outward_area, outward, outward_named}
-use Rattle.cilk_numbering.specs.Pass.{var_slot, known_var, known_number}
-use Rattle.cilk_numbering.specs.Outer.{vars_at, file_named}
+use Rattle.cilk_load_numbering.specs.model.Instance.{body_at, no_body}
+use Rattle.cilk_load_numbering.specs.nodes.declared.var.Var.{Var}
+use Rattle.cilk_load_numbering.specs.nodes.Slots.{size_of, slot_from, slot_of, is_inlet, procedure_around}
+use Rattle.cilk_load_numbering.specs.nodes.Bodies.{vars_from, body_table}
+use Rattle.cilk_load_numbering.specs.resolve.declared.known.Binding.{Binding}
+use Rattle.cilk_load_numbering.specs.resolve.Scope.{Named, found, outward_area, outward, outward_named}
+use Rattle.cilk_load_numbering.specs.Pass.{var_slot, known_var, known_number}
+use Rattle.cilk_load_numbering.specs.Outer.{vars_at, file_named}
 use Rattle.cilk_load.proofs.Found.{known_of, same_name, meaning-first}
 
 -- the slots of a table of variables
@@ -97,7 +97,7 @@ module _ (program : Labelled) (b : ℕ) where
   abbrev globals : List Var
   globals = vars_from Global 0 program.globals
 
-  abbrev stood : List Named → List ℕ → Known
+  abbrev stood : List Named → List ℕ → Binding
   stood es name = found (map outward_named es) name
 
   choice : (t : Bool) (d m : Declaration) → cond t (known_of (slot_of program b) d) (known_of (slot_of program b) m) ≡ known_of (slot_of program b) (cond t d m)

@@ -2,29 +2,30 @@
 use Rattle.std.proofs.Common.{◌≡◌, ℕ, ◌+◌, List, [], ◌∷◌, ◌++◌, length, Option, Some, None, refl, sym, ap, ◌∙◌, append_assoc, append-nil}
 use Rattle.std.specs.Prelude.{filter_map}
 use Rattle.std.proofs.lemmas.List.Elements.{filter_map-append}
-use Rattle.cilk_numbering.specs.syntax.Tree as tree
-use Rattle.cilk_numbering.specs.syntax.Tree.{Word}
-use Rattle.cilk_numbering.specs.eval.declared.slot.Slot.{Slot}
-use Rattle.cilk_numbering.specs.labelled.Labelled.{Declaration, local, Numbered, Stmts}
-use Rattle.cilk_numbering.specs.labelled.Items.{Round, piece, at_test, at_advance, Items, pieces, opened, past_mark, from_mark}
-use Rattle.cilk_numbering.specs.labelled.Names.{Names, with_local, entered}
-use Rattle.cilk_numbering.specs.labelled.Count.{count_option, count_shape, count_stmt, count_stmts, count_locals, count_block}
-use Rattle.cilk_numbering.specs.labelled.Label.{numbered, single, label_move, label_part, label_test, label_initialiser, label_locals, label_stmt, label_stmts}
-use Rattle.cilk_numbering.specs.labelled.Label.{label_block, names_behind, stmt_variables, block_variables, locals_variables}
-use Rattle.cilk_numbering.specs.nodes.declared.action.Action as action
-use Rattle.cilk_numbering.specs.nodes.declared.action.Action.TheVariants.{Print, Locking, Test}
-use Rattle.cilk_numbering.specs.nodes.declared.node.Node.{Node}
-use Rattle.cilk_numbering.specs.nodes.declared.var.Var.{Var}
-use Rattle.cilk_numbering.specs.nodes.Actions.{slotted}
-use Rattle.cilk_numbering.specs.nodes.Table.{number_of, node_over, first_lists, advance_lists, round_of, stmt_lists, stmts_lists}
-use Rattle.cilk_numbering.specs.nodes.Plain.{PlainLocals, PlainStmt, PlainStmts, PlainBlock}
-use Rattle.cilk_numbering.proofs.nodes_laws.Opens.{past-pieces, from-pieces}
-use Rattle.cilk_numbering.specs.declared.exits.Exits.{Exits}
-use Rattle.cilk_numbering.specs.resolve.Scope.{Scope, declared}
-use Rattle.cilk_numbering.specs.resolve.Acts.{move_in, code_in}
-use Rattle.cilk_numbering.specs.layout.Firsts.{first_if, locals_first}
-use Rattle.cilk_numbering.specs.Pass.{var_slot, known_var, node, onward, exits_to, part_nodes, shape_nodes, locals_scope}
-use Rattle.cilk_numbering.specs.Pass.{locals_nodes, stmt_nodes, stmts_nodes, block_nodes}
+use Rattle.cilk_load_numbering.specs.syntax.Tree as tree
+use Rattle.cilk_load_numbering.specs.syntax.Tree.{Word}
+use Rattle.cilk_load_numbering.specs.eval.declared.slot.Slot.{Slot}
+use Rattle.cilk_load_numbering.specs.labelled.Labelled.{Declaration, local, Numbered, Stmts}
+use Rattle.cilk_load_numbering.specs.labelled.Items.{Round, piece, at_test, at_advance, Items, pieces, opened, past_mark, from_mark}
+use Rattle.cilk_load_numbering.specs.labelled.Names.{Names, with_local, entered}
+use Rattle.cilk_load_numbering.specs.labelled.Count.{count_option, count_shape, count_stmt, count_stmts, count_locals, count_block}
+use Rattle.cilk_load_numbering.specs.labelled.Label.{numbered, single, label_move, label_part, label_test, label_initialiser, label_locals}
+use Rattle.cilk_load_numbering.specs.labelled.Label.{label_stmt, label_stmts}
+use Rattle.cilk_load_numbering.specs.labelled.Label.{label_block, names_behind, stmt_variables, block_variables, locals_variables}
+use Rattle.cilk_load_numbering.specs.nodes.declared.action.Action as action
+use Rattle.cilk_load_numbering.specs.nodes.declared.action.Action.TheVariants.{Print, Locking, Test}
+use Rattle.cilk_load_numbering.specs.nodes.declared.node.Node.{Node}
+use Rattle.cilk_load_numbering.specs.nodes.declared.var.Var.{Var}
+use Rattle.cilk_load_numbering.specs.nodes.Actions.{slotted}
+use Rattle.cilk_load_numbering.specs.nodes.Table.{number_of, node_over, first_lists, advance_lists, round_of, stmt_lists, stmts_lists}
+use Rattle.cilk_load_numbering.specs.nodes.Plain.{PlainLocals, PlainStmt, PlainStmts, PlainBlock}
+use Rattle.cilk_load_numbering.proofs.nodes_laws.Opens.{past-pieces, from-pieces}
+use Rattle.cilk_load_numbering.specs.declared.exits.Exits.{Exits}
+use Rattle.cilk_load_numbering.specs.resolve.Scope.{Scope, declared}
+use Rattle.cilk_load_numbering.specs.resolve.Acts.{move_in, code_in}
+use Rattle.cilk_load_numbering.specs.layout.Firsts.{first_if, locals_first}
+use Rattle.cilk_load_numbering.specs.Pass.{var_slot, known_var, node, onward, exits_to, part_nodes, shape_nodes, locals_scope}
+use Rattle.cilk_load_numbering.specs.Pass.{locals_nodes, stmt_nodes, stmts_nodes, block_nodes}
 use Rattle.cilk_load.proofs.Found.{Agree, agree-declared, agree-entered}
 use Rattle.cilk_load.proofs.Actions.{number-is, code-is, codes-are, move-is, spawn-is, return-is, initialiser-is}
 use Rattle.cilk_load.proofs.Starts.{block-pieces, stmts-pieces, locals-pieces}
@@ -107,13 +108,6 @@ module _ (slots : Declaration → Slot) (b : ℕ) (vars : List Var) (lie : (n : 
   first-nodes names s agree None at mark value advance body items = refl
   first-nodes names s agree (Some what) at mark value advance body items =
       move-node names s agree what at (at_test (round_of (label_test names mark value) advance body) ∷ items) (Some mark) refl
-
-  advance-nodes : (names : Names) (s : Scope) → Agree slots names s
-      → (part : Option tree.Move) (at mark : ℕ) (value : tree.Expr) (advance : Option Numbered) (body : Stmts) (items : Items)
-      → part_nodes b s part mark ≡ over (advance_lists (label_part names at part) (round_of (label_test names mark value) advance body) items)
-  advance-nodes names s agree None at mark value advance body items = refl
-  advance-nodes names s agree (Some what) at mark value advance body items =
-      λ i. one _ _ (Some mark) (Some mark) _ _ (move-is slots names s agree what) refl refl i ∷ []
 
   test-act : (names : Names) (s : Scope) → Agree slots names s → (value : tree.Expr) (at : ℕ)
       → Test (code_in s value) ≡ slotted slots (label_test names at value).act

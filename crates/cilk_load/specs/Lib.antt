@@ -1,5 +1,4 @@
 pub mod Tables
-pub use Rattle.cilk_numbering.specs.canonical
-pub use Rattle.cilk_numbering.specs.check
-pub use Rattle.cilk_numbering.specs.labelled
-pub use Rattle.cilk_numbering.specs.values
+pub use Rattle.cilk_load_numbering.specs.canonical
+pub use Rattle.cilk_load_numbering.specs.check
+pub use Rattle.cilk_load_numbering.specs.labelled

@@ -6,9 +6,9 @@ mod loaded;
 mod loading;
 mod tables;
 
-pub use cilk_numbering::{
-    Action, Body, Codes, LockAction, Memory, Name, Node, Owner, Place, Slots, Taker, Target, Text,
-    Trap, Var, Vars, eval,
+pub use cilk_load_numbering::{
+    Action, Body, Codes, LockAction, Memory, Name, Node, Owner, SlotPlace, Slots, Taker, Target,
+    Text, Trap, Var, Vars, eval,
 };
 pub use fault::LoadFault;
 pub use loaded::Loaded;

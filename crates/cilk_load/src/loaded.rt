@@ -2,16 +2,16 @@
 
 ghost use Rattle.std.specs.Prelude.{◌≡◌, ◌≤◌, ◌↔◌, IsSome, IfOk, Some, option_copied, string_bytes};
 ghost use Rattle.std.specs.Arc.{arc_value};
-ghost use Rattle.cilk_numbering.specs.canonical.ProgramText.{program_text};
-ghost use Rattle.cilk_numbering.specs.check.Fault.{WellFormed};
-ghost use Rattle.cilk_numbering.specs.labelled.Bodies.{label};
-ghost use Rattle.cilk_numbering.specs.labelled.Count.{count_program};
-ghost use Rattle.cilk_numbering.specs.model.End as runs;
-ghost use Rattle.cilk_numbering.specs.nodes.Table.{node_of};
-ghost use Rattle.cilk_numbering.specs.nodes.Bodies.{body_of, globals_of, locks_of};
+ghost use Rattle.cilk_load_numbering.specs.canonical.ProgramText.{program_text};
+ghost use Rattle.cilk_load_numbering.specs.check.Fault.{WellFormed};
+ghost use Rattle.cilk_load_numbering.specs.labelled.Bodies.{label};
+ghost use Rattle.cilk_load_numbering.specs.labelled.Count.{count_program};
+ghost use Rattle.cilk_load_numbering.specs.model.End as runs;
+ghost use Rattle.cilk_load_numbering.specs.nodes.Table.{node_of};
+ghost use Rattle.cilk_load_numbering.specs.nodes.Bodies.{body_of, globals_of, locks_of};
 
 use crate::tables::Tables;
-use cilk_numbering::{Body, Memory, Node, Program, Var, canonical};
+use cilk_load_numbering::{Body, Memory, Node, Program, Var, canonical};
 use std::marker::Model;
 use std::sync::Arc;
 
@@ -23,8 +23,8 @@ pub struct Loaded {
 }
 
 impl Model for Loaded {
-    ghost use Rattle.cilk_numbering.specs.syntax.Tree as tree;
-    ghost use Rattle.cilk_numbering.specs.syntax.ProgramCoding.{coded_Program};
+    ghost use Rattle.cilk_load_numbering.specs.syntax.Tree as tree;
+    ghost use Rattle.cilk_load_numbering.specs.syntax.ProgramCoding.{coded_Program};
     ghost use Rattle.std.specs.Arc.{arc_value};
 
     ghost Value = { tree.Program };

@@ -1,12 +1,12 @@
 //! How the tables of a checked program are made.
 
 ghost use Rattle.std.specs.Prelude.{◌≡◌, ◌<◌, ◌≤◌, ◌↔◌, true, IfOk};
-ghost use Rattle.cilk_numbering.specs.labelled.Count.{count_program};
+ghost use Rattle.cilk_load_numbering.specs.labelled.Count.{count_program};
 
 use crate::fault::LoadFault;
 use crate::loaded::Loaded;
 use crate::tables::Tables;
-use cilk_numbering::{
+use cilk_load_numbering::{
     Checked, MAX_ACTIONS, NoRoom, Program, action_lines, bodies_of, count_items, globals_of,
     locks_of, nodes_of, place_of_main,
 };

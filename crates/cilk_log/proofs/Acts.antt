@@ -1,12 +1,13 @@
 -- The line of a choice tells that choice, and no other line does.
-use Rattle.std.proofs.Common.{◌≡◌, ℕ, ◌^◌, ◌<◌, ◌≤◌, Bool, true, false, cond, List, [], ◌∷◌, ◌++◌, length, take, drop, Option, Some, None, option_map, decimal, refl, sym, ap, ◌∙◌, arith}
+use Rattle.std.proofs.Common.{◌≡◌, ℕ, ◌^◌, ◌<◌, ◌≤◌, Bool, true, false, cond, List, [], ◌∷◌, ◌++◌, length, take, drop, Option, Some, None, option_map}
+use Rattle.std.proofs.Common.{decimal, refl, sym, ap, ◌∙◌, arith}
 use Rattle.std.specs.Prelude.{bytes_eq, codes}
 use Rattle.std.specs.Char.{is_ascii_digit}
 use Rattle.std.specs.List.{prefix_len}
 use Rattle.std.specs.Str.{all_ascii_digits}
 use Rattle.std.proofs.lemmas.List.{take_at, drop_at, take-append-drop}
 use Rattle.std.proofs.lemmas.Slice.Eq.{bytes_eq-Decides}
-use Rattle.cilk_choices.specs.model.Choice.{Act, step, pop, steal, Choice}
+use Rattle.cilk_machine_choices.specs.model.Choice.{Act, step, pop, steal, Choice}
 use Rattle.cilk_log.specs.Text.{act_text, choice_text, ActFits, ChoiceFits, end_text, workers_text}
 use Rattle.cilk_log.specs.Reading.{number_in, behind, number_told, workers_in, count_in, steal_in, act_in, choice_by, choice_in}
 use Rattle.cilk_log.proofs.Decimals.{both, decimal_digits, number_written, number_spelled}
@@ -40,7 +41,15 @@ choice_written choice f =
     let d = deed_text choice.act in
     let digits = decimal_digits choice.worker (omega (arith, f.worker)) in
     let run : prefix_len is_ascii_digit (w ++ 32 ∷ d) ≡ length w = digits_run w d digits in
-    rw (deed choice.act, run, take_at w (32 ∷ d) (length w) refl, drop_at w (32 ∷ d) (length w) refl, number_written 255 choice.worker (omega (arith, f.worker)) (omega (arith, f.worker)), act_written choice.act f.act) refl
+    rw (
+      deed choice.act,
+      run,
+      take_at w (32 ∷ d) (length w) refl,
+      drop_at w (32 ∷ d) (length w) refl,
+      number_written 255 choice.worker
+          (omega (arith, f.worker)) (omega (arith, f.worker)),
+      act_written choice.act f.act,
+    ) refl
 
 pub count_written : (n : ℕ) → n < 2 ^ 64 → count_in (end_text n) ≡ Some n
 count_written n h = number_written 18446744073709551615 n (omega arith) h

@@ -1,5 +1,6 @@
 -- A text is its lines, each with its newline.
-use Rattle.std.proofs.Common.{◌≡◌, ℕ, ◌^◌, ◌<◌, Bool, true, false, cond, not, List, [], ◌∷◌, ◌++◌, map, length, flat_map, decimal, refl, ap, ◌∙◌, append_assoc, eqb-true, arith}
+use Rattle.std.proofs.Common.{◌≡◌, ℕ, ◌^◌, ◌<◌, Bool, true, false, cond, not, List, [], ◌∷◌, ◌++◌, map, length, flat_map, decimal, refl, ap, ◌∙◌}
+use Rattle.std.proofs.Common.{append_assoc, eqb-true, arith}
 use Rattle.std.specs.Prelude.{◌==◌}
 use Rattle.std.specs.Char.{is_ascii_digit}
 use Rattle.std.specs.Str.{all_ascii_digits}
@@ -7,7 +8,7 @@ use Rattle.std.specs.List.{list_all, AllByRecursion}
 use Rattle.std.proofs.lemmas.List.{length-append}
 use Rattle.std.proofs.lemmas.List.Folds.{list_all-append}
 use Rattle.std.proofs.lemmas.Bool.Decides.{nat_tests}
-use Rattle.cilk_choices.specs.model.Choice.{Act, step, pop, steal, Choice}
+use Rattle.cilk_machine_choices.specs.model.Choice.{Act, step, pop, steal, Choice}
 use Rattle.cilk_log.specs.Text.{Log, LogFits, ActFits, ChoiceFits, act_text, choice_text, end_text, log_lines, with_newline}
 use Rattle.cilk_log.specs.Reading.{Lines, lines_of, behind_byte, TellsFirst}
 use Rattle.cilk_log.proofs.Acts.{choice_written}
@@ -78,14 +79,21 @@ choices_are_plain (choice ∷ choices) line f e = (choice_is_plain choice f.0, c
 
 pub lines_written : (log : Log) → LogFits log → lines_of (flat_map with_newline (log_lines log)) ≡ record { whole = log_lines log; rest = [] }
 lines_written log f =
-    lines_flat (log_lines log)
-    (refl, (decimal_is_plain log.workers (omega (arith, f.workers)), choices_are_plain log.choices (end_text (length log.choices)) f.choices (decimal_is_plain (length log.choices) f.count)))
+    lines_flat (log_lines log) (
+      refl,
+      (
+        decimal_is_plain log.workers (omega (arith, f.workers)),
+        choices_are_plain log.choices (end_text (length log.choices)) f.choices
+            (decimal_is_plain (length log.choices) f.count),
+      ),
+    )
 
 -- ---- a choice in front of a text
 
 pub line_of_choice : (choice : Choice) (behind : List ℕ) → ChoiceFits choice → TellsFirst (choice_text choice ++ 10 ∷ behind) choice behind
 line_of_choice choice behind f =
-    let parts : lines_of (choice_text choice ++ 10 ∷ behind) ≡ parted (choice_text choice) behind = lines_line (choice_text choice) behind (choice_is_plain choice f) in
+    let parts : lines_of (choice_text choice ++ 10 ∷ behind)
+    ≡ parted (choice_text choice) behind = lines_line (choice_text choice) behind (choice_is_plain choice f) in
     record {
       line = choice_text choice;
       whole = ap (λ (l : Lines). l.whole) parts;

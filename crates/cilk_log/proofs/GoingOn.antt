@@ -1,7 +1,7 @@
 -- How the lines behind the first choices go on.
 use Rattle.std.proofs.Common.{◌≡◌, ℕ, ◌+◌, Bool, true, false, cond, List, [], ◌∷◌, ◌++◌, length, Some, None, Result, Err, refl, ap, append_assoc, eq-eqb}
 use Rattle.std.specs.Prelude.{◌==◌}
-use Rattle.cilk_choices.specs.model.Choice.{Choice}
+use Rattle.cilk_machine_choices.specs.model.Choice.{Choice}
 use Rattle.cilk_log.specs.Reading.{Lines, lines_of, behind_byte, Fault, truncated, wrong_line, told_in, choice_in, count_in, closed, counted, ended}
 
 -- behind these choices
@@ -35,6 +35,7 @@ more_behind : (number : ℕ) (bs : List ℕ) (choices : List Choice) → false �
 more_behind number [] choices h = absurd cc
 more_behind number (b ∷ bs) choices h = at_byte number b choices (lines_of bs).whole (lines_of bs).rest (b == 10)
 
-pub counted_more : (line : List ℕ) (told count : ℕ) (behind : List ℕ) (choices : List Choice) → Some told ≡ count_in line → told ≡ count → false ≡ (length behind == 0) → length choices ≡ count
+pub counted_more : (line : List ℕ) (told count : ℕ) (behind : List ℕ) (choices : List Choice) → Some told ≡ count_in line → told ≡ count
+    → false ≡ (length behind == 0) → length choices ≡ count
     → counted (count_in line) (count + 3) (lines_of behind).whole (lines_of behind).rest choices ≡ Err (wrong_line (count + 3 + 1))
 counted_more line told count behind choices e t h l = rw (← e, t, l, eq-eqb count count refl) (more_behind (count + 3) behind choices h)

@@ -1,7 +1,7 @@
 -- Worked rows: texts, and what they are read as.
 use Rattle.std.specs.Prelude.{◌≡◌, refl, [], ◌∷◌, Ok, Err, codes}
 use Rattle.std.specs.Fmt.{digits}
-use Rattle.cilk_choices.specs.model.Choice.{step, pop, steal}
+use Rattle.cilk_machine_choices.specs.model.Choice.{step, pop, steal}
 use Rattle.cilk_log.specs.Text.{log_text}
 use Rattle.cilk_log.specs.Reading.{log_read, wrong_version, wrong_line, truncated, wrong_count}
 
@@ -10,7 +10,12 @@ written_empty : log_text (record { workers = 255; choices = [] }) ≡ codes "cil
 unfolding digits log_text
 written_empty = refl
 
-written : log_text (record { workers = 2; choices = record { worker = 1; act = step } ∷ record { worker = 2; act = steal 1 } ∷ record { worker = 1; act = pop } ∷ [] })
+written : log_text
+    (record {
+      workers = 2;
+      choices = record { worker = 1; act = step } ∷ record { worker = 2; act = steal 1 }
+          ∷ record { worker = 1; act = pop } ∷ [];
+    })
     ≡ codes "cilklog 1\nworkers 2\n1 step\n2 steal 1\n1 pop\nend 3\n"
 unfolding digits log_text
 written = refl

@@ -1,7 +1,7 @@
 -- A recorded schedule, and its text.
 use Rattle.std.specs.Prelude.{ℕ, ◌<◌, ◌^◌, ⊤, List, [], ◌∷◌, ◌++◌, map, length, flat_map, codes, decimal}
 use Rattle.std.specs.List.{AllByRecursion}
-use Rattle.cilk_choices.specs.model.Choice.{Act, step, pop, steal, Choice}
+use Rattle.cilk_machine_choices.specs.model.Choice.{Act, step, pop, steal, Choice}
 
 -- for so many workers, the choices that were made, the first one first
 pub record Log : Type 0 where

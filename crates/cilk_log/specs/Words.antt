@@ -1,6 +1,6 @@
 -- What the code's words for recorded schedules and their faults mean.
 use Rattle.std.specs.Prelude.{◌≡◌, ⊤, map, Option, Some, None, Result, Ok, Err}
-use Rattle.cilk_choices.specs.Words.{choice_of}
+use Rattle.cilk_machine_choices.specs.Words.{choice_of}
 use Rattle.cilk_log.specs.declared.log.Log.{Log}
 use Rattle.cilk_log.specs.declared.fault.LogFault.{LogFault}
 use Rattle.cilk_log.specs.declared.fault.LogFault.TheVariants.{Version, Line, Truncated, Count, Memory}
@@ -23,6 +23,6 @@ IsFault read None = ⊤
 IsFault read (Some fault) = read ≡ Err fault
 
 -- The result, seen by view, is what was read, unless memory ran out.
-abbrev pub Gives : {A B : Type 0} → (A → B) → Result A LogFault → Result B reading.Fault → Type 0
-Gives view (Ok value) read = read ≡ Ok (view value)
-Gives view (Err fault) read = IsFault read (fault_of fault)
+abbrev pub ReadsAs : {A B : Type 0} → (A → B) → Result A LogFault → Result B reading.Fault → Type 0
+ReadsAs view (Ok value) read = read ≡ Ok (view value)
+ReadsAs view (Err fault) read = IsFault read (fault_of fault)

@@ -11,7 +11,7 @@ mod reading;
 mod writing;
 
 pub use choices::Choices;
-pub use cilk_choices::{Act, Choice, Memory, Path, Trap};
+pub use cilk_machine_choices::{Act, Choice, Memory, Path, Trap};
 pub use fault::LogFault;
 pub use laws::one_text_each;
 pub use log::Log;

@@ -3,11 +3,11 @@
 ghost use Rattle.std.specs.Prelude.{◌≡◌, ◌<◌, [], ◌∷◌, ◌++◌, codes, option_map, length, not, ◌==◌, IfNone, IfSome};
 ghost use Rattle.std.specs.Char.{is_ascii_digit};
 ghost use Rattle.std.specs.List.{prefix_len};
-ghost use Rattle.cilk_choices.specs.Words.{choice_of, act_of};
+ghost use Rattle.cilk_machine_choices.specs.Words.{choice_of, act_of};
 ghost use Rattle.cilk_log.specs.Reading.{lines_of, workers_in, count_in, steal_in, act_in, choice_in, TellsFirst};
 
 use crate::number::{number_in, worker_in};
-use cilk_choices::{Act, Choice};
+use cilk_machine_choices::{Act, Choice};
 
 /// The first line without its newline, and what stands behind that newline, if there is one.
 pub(crate) fn split_line(text: &[u8]) -> Option<(&[u8], &[u8])>

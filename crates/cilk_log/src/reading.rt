@@ -1,12 +1,12 @@
 //! Reads the text of a recorded schedule.
 
 ghost use Rattle.std.specs.Prelude.{◌≡◌, ◌+◌, ◌<◌, ◌^◌, List, Some, length, map, Ok, IfOk};
-ghost use Rattle.cilk_choices.specs.model.Choice as model;
-ghost use Rattle.cilk_choices.specs.Words.{choice_of};
+ghost use Rattle.cilk_machine_choices.specs.model.Choice as model;
+ghost use Rattle.cilk_machine_choices.specs.Words.{choice_of};
 ghost use Rattle.cilk_log.specs.Text as text;
 ghost use Rattle.cilk_log.specs.Text.{LogFits, log_text};
 ghost use Rattle.cilk_log.specs.Reading.{lines_of, told_in, count_in, counted, ended, choices_read, workers_read, log_read};
-ghost use Rattle.cilk_log.specs.Words.{log_of, Gives};
+ghost use Rattle.cilk_log.specs.Words.{log_of, ReadsAs};
 
 use crate::choices::Choices;
 use crate::fault::LogFault;
@@ -17,15 +17,15 @@ use std::alloc::Global;
 /// The recorded schedule of which this is the text, or what is wrong first, from the top.
 pub fn read_log(alloc: Global, bytes: &[u8]) -> Result<Log, LogFault>
     ensures read { IfOk result (λ log. bytes.now ≡ log_text (log_of log)) }
-    ensures only { (log : text.Log) → LogFits log → bytes.now ≡ log_text log → Gives log_of result (Ok log) }
-    ensures exact { Gives log_of result (log_read bytes.now) }
+    ensures only { (log : text.Log) → LogFits log → bytes.now ≡ log_text log → ReadsAs log_of result (Ok log) }
+    ensures exact { ReadsAs log_of result (log_read bytes.now) }
 {
     read_lines(alloc, bytes)
 }
 
 #[tactic(auto, unfolding(crate::specs::Reading::log_read))]
 fn read_lines(alloc: Global, bytes: &[u8]) -> Result<Log, LogFault>
-    ensures { Gives log_of result (log_read bytes.now) }
+    ensures { ReadsAs log_of result (log_read bytes.now) }
 {
     match split_line(bytes) {
         None => Err(LogFault::Truncated),
@@ -39,7 +39,7 @@ fn read_lines(alloc: Global, bytes: &[u8]) -> Result<Log, LogFault>
 }
 
 fn read_workers(alloc: Global, text: &[u8]) -> Result<Log, LogFault>
-    ensures { Gives log_of result (workers_read (lines_of text.now).whole (lines_of text.now).rest) }
+    ensures { ReadsAs log_of result (workers_read (lines_of text.now).whole (lines_of text.now).rest) }
 {
     match split_line(text) {
         None => Err(LogFault::Truncated),
@@ -51,7 +51,7 @@ fn read_workers(alloc: Global, text: &[u8]) -> Result<Log, LogFault>
 }
 
 fn read_choices_for(alloc: Global, workers: u8, text: &[u8]) -> Result<Log, LogFault>
-    ensures { Gives log_of result (choices_read (Some workers) (lines_of text.now).whole (lines_of text.now).rest) }
+    ensures { ReadsAs log_of result (choices_read (Some workers) (lines_of text.now).whole (lines_of text.now).rest) }
 {
     match read_choices(alloc, text) {
         Err(fault) => Err(fault),
@@ -61,7 +61,7 @@ fn read_choices_for(alloc: Global, workers: u8, text: &[u8]) -> Result<Log, LogF
 
 #[inline(never)]
 fn read_choices(alloc: Global, text: &[u8]) -> Result<Choices, LogFault>
-    ensures { Gives (λ choices. map choice_of choices) result
+    ensures { ReadsAs (λ choices. map choice_of choices) result
         (ended (told_in (lines_of text.now).whole).choices (told_in (lines_of text.now).whole).others (lines_of text.now).rest) }
 {
     let mut choices = Choices::new(alloc);
@@ -93,7 +93,7 @@ fn read_choices(alloc: Global, text: &[u8]) -> Result<Choices, LogFault>
 fn closing(count: u64, line: &[u8], behind: &[u8]) -> Result<(), LogFault>
     requires { count + 4 < 2 ^ 64 }
     ensures { (choices : List model.Choice) → length choices ≡ count
-        → Gives (λ _. choices) result (counted (count_in line.now) (count + 3) (lines_of behind.now).whole (lines_of behind.now).rest choices) }
+        → ReadsAs (λ _. choices) result (counted (count_in line.now) (count + 3) (lines_of behind.now).whole (lines_of behind.now).rest choices) }
 {
     let number = count + 3;
     match count_in(line) {

@@ -1,12 +1,12 @@
 //! Writes the text of a recorded schedule.
 
 ghost use Rattle.std.specs.Prelude.{◌≡◌, ◌++◌, IfOk, OnOk, codes, decimal};
-ghost use Rattle.cilk_choices.specs.Words.{choice_of, act_of};
+ghost use Rattle.cilk_machine_choices.specs.Words.{choice_of, act_of};
 ghost use Rattle.cilk_log.specs.Text.{act_text, choice_text, with_newline, log_text};
 ghost use Rattle.cilk_log.specs.Words.{log_of};
 
 use crate::log::Log;
-use cilk_choices::{Act, Choice, Memory};
+use cilk_machine_choices::{Act, Choice, Memory};
 use itoa::Buffer;
 use std::alloc::Global;
 

@@ -1,10 +1,10 @@
 -- Machines may be handed from thread to thread.
 use denote.Param.Send.{IsSend, sendable}
 use Rattle.std.proofs.Crossing.{crosses}
-use Rattle.cilk_carries.proofs.frame_laws.id.Id.TheSendSync as id
-use Rattle.cilk_carries.proofs.parts.Parts.TheSendSync as parts
-use Rattle.cilk_choices.proofs.outcome.Outcome.TheSendSync as outcome
-use Rattle.cilk_step.proofs.load_laws.Crosses.{loaded_send}
+use Rattle.cilk_machine_carry.proofs.frame_laws.id.Id.TheSendSync as id
+use Rattle.cilk_machine_carry.proofs.parts.Parts.TheSendSync as parts
+use Rattle.cilk_machine_choices.proofs.outcome.Outcome.TheSendSync as outcome
+use Rattle.cilk_machine_step.proofs.load_laws.Crosses.{loaded_send}
 use Rattle.cilk_machine.specs.contracts.machine.Machine as machine
 
 pub machine_send : IsSend machine.the_row

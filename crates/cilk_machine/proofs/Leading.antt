@@ -1,28 +1,29 @@
 -- A choice that is made leads on with every list of choices.
-use Rattle.std.proofs.Common.{◌≡◌, ℕ, suc, ◌+◌, ◌≤◌, List, [], ◌∷◌, ◌++◌, length, Option, Some, None, is_none, is_some, refl, sym, ap, ◌∙◌, subst, length-append, arith, if◌then◌else◌}
-use Rattle.cilk_carries.specs.check.Fault.{WellFormed}
-use Rattle.cilk_carries.specs.labelled.Bodies.{label}
-use Rattle.cilk_choices.specs.model.Choice as model
-use Rattle.cilk_choices.specs.model.Event as event
-use Rattle.cilk_choices.specs.model.Event.{Event}
-use Rattle.cilk_choices.specs.model.Instance.{Instance}
-use Rattle.cilk_choices.specs.model.Run.{Standing, after, one_more, position_after, next_of, event_of}
-use Rattle.cilk_choices.specs.model.Places.{popped_by, stolen_by}
-use Rattle.cilk_carries.proofs.placed_laws.Runs.{after-push}
-use Rattle.cilk_carries.proofs.placed_laws.Crew.{crew_stays}
-use Rattle.cilk_carries.proofs.fates_laws.Fates.{the_living_live, each_choice_is_an_event}
-use Rattle.cilk_carries.specs.agree.FateLaws.{LivingAreTold}
-use Rattle.cilk_carries.proofs.agree_laws.Kept.{fates-are-kept}
-use Rattle.cilk_carries.specs.spawn.Nodes.{path_at}
-use Rattle.cilk_carries.specs.agree.Agrees.{Machine, Agrees, read_off}
-use Rattle.cilk_carries.specs.agree.Fated.{Follows, Fated}
-use Rattle.cilk_carries.proofs.agree_laws.Asked.{placed}
-use Rattle.cilk_carries.proofs.agree_laws.Found.{read-agrees}
-use Rattle.cilk_carries.proofs.agree_laws.Waits.{pop, steal}
-use Rattle.cilk_choices.specs.declared.choice.Choice.{Choice}
-use Rattle.cilk_choices.specs.declared.act.Act.TheVariants.{Pop, Steal}
-use Rattle.cilk_choices.specs.declared.outcome.Outcome.{Outcome}
-use Rattle.cilk_choices.specs.Words.{choice_of, outcome_of}
+use Rattle.std.proofs.Common.{◌≡◌, ℕ, suc, ◌+◌, ◌≤◌, List, [], ◌∷◌, ◌++◌, length, Option, Some, None, is_none, is_some, refl, sym, ap, ◌∙◌, subst}
+use Rattle.std.proofs.Common.{length-append, arith, if◌then◌else◌}
+use Rattle.cilk_machine_carry.specs.check.Fault.{WellFormed}
+use Rattle.cilk_machine_carry.specs.labelled.Bodies.{label}
+use Rattle.cilk_machine_choices.specs.model.Choice as model
+use Rattle.cilk_machine_choices.specs.model.Event as event
+use Rattle.cilk_machine_choices.specs.model.Event.{Event}
+use Rattle.cilk_machine_choices.specs.model.Instance.{Instance}
+use Rattle.cilk_machine_choices.specs.model.Run.{Standing, after, one_more, position_after, next_of, event_of}
+use Rattle.cilk_machine_choices.specs.model.Places.{popped_by, stolen_by}
+use Rattle.cilk_machine_carry.proofs.placed_laws.Runs.{after-push}
+use Rattle.cilk_machine_carry.proofs.placed_laws.Crew.{crew_stays}
+use Rattle.cilk_machine_carry.proofs.placed_laws.Fates.{the_living_live, each_choice_is_an_event}
+use Rattle.cilk_machine_carry.specs.agree.FateLaws.{LivingAreTold}
+use Rattle.cilk_machine_carry.proofs.agree_laws.Kept.{fates-are-kept}
+use Rattle.cilk_machine_carry.specs.spawn.Nodes.{path_at}
+use Rattle.cilk_machine_carry.specs.agree.Agrees.{MachineParts, Agrees, read_off}
+use Rattle.cilk_machine_carry.specs.agree.Fated.{Follows, Fated}
+use Rattle.cilk_machine_carry.proofs.agree_laws.Asked.{placed}
+use Rattle.cilk_machine_carry.proofs.agree_laws.Found.{read-agrees}
+use Rattle.cilk_machine_carry.proofs.agree_laws.Waits.{pop, steal}
+use Rattle.cilk_machine_choices.specs.declared.choice.Choice.{Choice}
+use Rattle.cilk_machine_choices.specs.declared.act.Act.TheVariants.{Pop, Steal}
+use Rattle.cilk_machine_choices.specs.declared.outcome.Outcome.{Outcome}
+use Rattle.cilk_machine_choices.specs.Words.{choice_of, outcome_of}
 use Rattle.cilk_machine.specs.Situation.{Situation, workers_of}
 use Rattle.cilk_machine.specs.Stands.{Led, StandsAt, IsSound}
 use Rattle.cilk_machine.specs.Refused.{refused_by}
@@ -30,11 +31,11 @@ use Rattle.cilk_machine.specs.Made.{refused, Leads, Makes}
 use Rattle.cilk_machine.proofs.Refusals.{reason_by, refusal-is}
 
 -- the machine after a choice
-abbrev pub moved_to : Situation → Machine → Outcome → Situation
+abbrev pub moved_to : Situation → MachineParts → Outcome → Situation
 moved_to m now outcome = record { program = m.program; machine = now; outcome = outcome; choices = m.choices + 1 }
 
 -- what is to be shown of the next standing
-pub record Next (m : Situation) (now : Machine) (outcome : Outcome) (choice : model.Choice) (did : Event) (at : Standing) : Type 0 where
+pub record Next (m : Situation) (now : MachineParts) (outcome : Outcome) (choice : model.Choice) (did : Event) (at : Standing) : Type 0 where
   pub possible : refused m at choice ≡ None
   pub event : did ≡ event_of (label m.program) at choice
   pub outcome_is : outcome_of outcome ≡ (next_of (label m.program) at choice).state.outcome
@@ -43,18 +44,21 @@ pub record Next (m : Situation) (now : Machine) (outcome : Outcome) (choice : mo
   pub follows : Follows (label m.program) (m.choices + 1) m.machine.nodes now.nodes did
 
 -- whatever list of choices led here
-abbrev pub Goes : Situation → Machine → Outcome → model.Choice → Event → Type 0
+abbrev pub Goes : Situation → MachineParts → Outcome → model.Choice → Event → Type 0
 Goes m now outcome choice did =
     (choices : List model.Choice) (events : List Event) (at : Standing) → Led m choices events at → Next m now outcome choice did at
 
-module _ (m : Situation) (now : Machine) (outcome : Outcome) (choice : model.Choice) (did : Event) where
+module _ (m : Situation) (now : MachineParts) (outcome : Outcome) (choice : model.Choice) (did : Event) where
   -- one choice more was made from the start
   after-one : (choices : List model.Choice) (events : List Event) (at : Standing) → Led m choices events at → Next m now outcome choice did at
-      → after (label m.program) (workers_of m) (choices ++ choice ∷ []) ≡ Some (record { standing = next_of (label m.program) at choice; events = events ++ did ∷ [] })
+      → after (label m.program) (workers_of m) (choices ++ choice ∷ [])
+      ≡ Some (record { standing = next_of (label m.program) at choice; events = events ++ did ∷ [] })
   after-one choices events at h n =
       after-push (label m.program) (workers_of m) choices choice
       ∙ ap (one_more (label m.program) choice) h.led
-      ∙ ap (λ (o : Option model.Refusal). if is_none o then Some (position_after (label m.program) (record { standing = at; events = events }) choice) else None) n.possible
+      ∙ ap
+      (λ (o : Option model.Refusal). if is_none o then Some
+      (position_after (label m.program) (record { standing = at; events = events }) choice) else None) n.possible
       ∙ (λ i. Some (record { standing = next_of (label m.program) at choice; events = events ++ sym n.event i ∷ [] }))
 
   -- there are as many workers as before
@@ -63,7 +67,8 @@ module _ (m : Situation) (now : Machine) (outcome : Outcome) (choice : model.Cho
   same_crew choices events at h n =
       let known = placed m.program now n.who (next_of (label m.program) at choice) n.agrees in
       sym known.workers
-      ∙ crew_stays (label m.program) (workers_of m) (choices ++ choice ∷ []) (record { standing = next_of (label m.program) at choice; events = events ++ did ∷ [] })
+      ∙ crew_stays (label m.program) (workers_of m) (choices ++ choice ∷ [])
+      (record { standing = next_of (label m.program) at choice; events = events ++ did ∷ [] })
       (after-one choices events at h n)
 
   -- whoever lives is told so
@@ -71,7 +76,8 @@ module _ (m : Situation) (now : Machine) (outcome : Outcome) (choice : model.Cho
       → LivingAreTold now.nodes (events ++ did ∷ [])
   told_alive choices events at h n i live =
       let known = placed m.program now n.who (next_of (label m.program) at choice) n.agrees in
-      (the_living_live (label m.program) (workers_of m) (choices ++ choice ∷ []) (record { standing = next_of (label m.program) at choice; events = events ++ did ∷ [] })
+      (the_living_live (label m.program) (workers_of m) (choices ++ choice ∷ [])
+      (record { standing = next_of (label m.program) at choice; events = events ++ did ∷ [] })
       (after-one choices events at h n) (path_at now.nodes i)).1
       (ap is_some (known.found i live))
 

@@ -14,10 +14,10 @@ pub mod Openings
 pub mod Shown
 pub mod Fates
 pub mod Crosses
-pub use Rattle.cilk_carries.proofs.agree_laws
-pub use Rattle.cilk_carries.proofs.frame_laws
-pub use Rattle.cilk_carries.proofs.nodes_laws
-pub use Rattle.cilk_carries.proofs.placed_laws
-pub use Rattle.cilk_carries.proofs.sched_laws
-pub use Rattle.cilk_carries.proofs.spawn_laws
-pub use Rattle.cilk_choices.proofs as choices_laws
+pub use Rattle.cilk_machine_carry.proofs.agree_laws
+pub use Rattle.cilk_machine_carry.proofs.frame_laws
+pub use Rattle.cilk_machine_carry.proofs.nodes_laws
+pub use Rattle.cilk_machine_carry.proofs.placed_laws
+pub use Rattle.cilk_machine_carry.proofs.sched_laws
+pub use Rattle.cilk_machine_carry.proofs.spawn_laws
+pub use Rattle.cilk_machine_choices.proofs as choices_laws

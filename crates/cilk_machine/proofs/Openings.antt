@@ -1,44 +1,45 @@
 -- A machine before any choice.
-use Rattle.std.proofs.Common.{◌≡◌, ℕ, zero, suc, ◌+◌, ◌<◌, ◌≤◌, ℤ, pos, Bool, true, false, ◌&&◌, ◌⊎◌, inl, inr, List, [], ◌∷◌, ◌++◌, map, length, replicate, Option, Some, None, refl, sym, ap, ◌∙◌, subst, arith, if◌then◌else◌}
+use Rattle.std.proofs.Common.{◌≡◌, ℕ, zero, suc, ◌+◌, ◌<◌, ◌≤◌, ℤ, pos, Bool, true, false, ◌&&◌, ◌⊎◌, inl, inr, List, [], ◌∷◌, ◌++◌, map, length}
+use Rattle.std.proofs.Common.{replicate, Option, Some, None, refl, sym, ap, ◌∙◌, subst, arith, if◌then◌else◌}
 use Rattle.std.specs.Prelude.{max, slice_get, slice_index_or}
 use Rattle.std.proofs.lemmas.Bool.{le-leb}
 use Rattle.std.proofs.lemmas.List.{length-replicate, length-map}
-use Rattle.cilk_carries.specs.syntax.Tree.{Program}
-use Rattle.cilk_carries.specs.check.Fault.{WellFormed}
-use Rattle.cilk_carries.specs.eval.declared.area.Area.{Area}
-use Rattle.cilk_carries.specs.eval.declared.area.Area.TheVariants.{Global}
-use Rattle.cilk_carries.specs.labelled.Labelled.{Variable}
-use Rattle.cilk_carries.specs.labelled.Labelled as labelled
-use Rattle.cilk_carries.specs.labelled.Bodies.{label}
-use Rattle.cilk_choices.specs.model.Values.{initial_values}
-use Rattle.cilk_choices.specs.model.Instance as model
-use Rattle.cilk_choices.specs.model.Instance.{Instance, no_body, body_at, with_arguments}
-use Rattle.cilk_choices.specs.model.Places.{PlaceOf, no_place, with_hand}
-use Rattle.cilk_choices.specs.model.Run.{Standing, is_crew, opening, after, after_main}
-use Rattle.cilk_carries.specs.nodes.declared.body.Body.{Body}
-use Rattle.cilk_carries.specs.nodes.Slots.{size_of, flat, is_inlet}
-use Rattle.cilk_carries.specs.nodes.Bodies.{body_table, body_of, vars_from, globals_of, lock_variable, locks_of}
-use Rattle.cilk_carries.specs.frame.Frames.{Frame}
-use Rattle.cilk_carries.specs.frame.Starts.{activation_of}
-use Rattle.cilk_carries.specs.frame.Stands.{StandsFor}
-use Rattle.cilk_carries.specs.frame.Begins.{Takes, starts_with, started}
-use Rattle.cilk_carries.proofs.frame_laws.Steps.{start-stands}
-use Rattle.cilk_carries.specs.sound.Room.{IsTold, StartsWith}
-use Rattle.cilk_carries.proofs.sound_laws.Room.{parameters_first}
-use Rattle.cilk_carries.proofs.sound_laws.Start.{main_starts}
-use Rattle.cilk_carries.specs.spawn.Nodes.{root_alone}
-use Rattle.cilk_carries.proofs.sched_laws.Seats.{workers-of-hand}
-use Rattle.cilk_carries.specs.agree.declared.lock.Lock.TheVariants.{Unset}
-use Rattle.cilk_carries.specs.agree.Outside as outside
-use Rattle.cilk_carries.specs.agree.Fated.{Fated}
-use Rattle.cilk_carries.proofs.agree_laws.Kept.{roots-are-fated}
-use Rattle.cilk_carries.specs.agree.Agrees.{Agrees, read_off}
-use Rattle.cilk_carries.specs.agree.Laws.{opening_machine}
-use Rattle.cilk_carries.proofs.agree_laws.Opens.{opening-agrees}
-use Rattle.cilk_carries.proofs.agree_laws.Found.{read-agrees}
-use Rattle.cilk_carries.specs.declared.parts.Parts.{Parts}
-use Rattle.cilk_carries.specs.Words.{machine_of}
-use Rattle.cilk_choices.specs.declared.outcome.Outcome.TheVariants.{Running}
+use Rattle.cilk_machine_carry.specs.syntax.Tree.{Program}
+use Rattle.cilk_machine_carry.specs.check.Fault.{WellFormed}
+use Rattle.cilk_machine_carry.specs.eval.declared.area.Area.{Area}
+use Rattle.cilk_machine_carry.specs.eval.declared.area.Area.TheVariants.{Global}
+use Rattle.cilk_machine_carry.specs.labelled.Labelled.{Variable}
+use Rattle.cilk_machine_carry.specs.labelled.Labelled as labelled
+use Rattle.cilk_machine_carry.specs.labelled.Bodies.{label}
+use Rattle.cilk_machine_choices.specs.model.Values.{initial_values}
+use Rattle.cilk_machine_choices.specs.model.Instance as model
+use Rattle.cilk_machine_choices.specs.model.Instance.{Instance, no_body, body_at, with_arguments}
+use Rattle.cilk_machine_choices.specs.model.Places.{WorkerOf, no_place, with_hand}
+use Rattle.cilk_machine_choices.specs.model.Run.{Standing, is_crew, opening, after, after_main}
+use Rattle.cilk_machine_carry.specs.nodes.declared.body.Body.{Body}
+use Rattle.cilk_machine_carry.specs.nodes.Slots.{size_of, flat, is_inlet}
+use Rattle.cilk_machine_carry.specs.nodes.Bodies.{body_table, body_of, vars_from, globals_of, lock_variable, locks_of}
+use Rattle.cilk_machine_carry.specs.frame.Frames.{Frame}
+use Rattle.cilk_machine_carry.specs.frame.Starts.{activation_of}
+use Rattle.cilk_machine_carry.specs.frame.Stands.{StandsFor}
+use Rattle.cilk_machine_carry.specs.frame.Begins.{Takes, starts_with, started}
+use Rattle.cilk_machine_carry.proofs.frame_laws.Steps.{start-stands}
+use Rattle.cilk_machine_carry.specs.effects.Room.{IsTold, StartsWith}
+use Rattle.cilk_machine_carry.proofs.effects_laws.Room.{parameters_first}
+use Rattle.cilk_machine_carry.proofs.effects_laws.Start.{main_starts}
+use Rattle.cilk_machine_carry.specs.spawn.Nodes.{root_alone}
+use Rattle.cilk_machine_carry.proofs.sched_laws.Seats.{workers-of-hand}
+use Rattle.cilk_machine_carry.specs.agree.declared.lock.Lock.TheVariants.{Unset}
+use Rattle.cilk_machine_carry.specs.agree.Outside as outside
+use Rattle.cilk_machine_carry.specs.agree.Fated.{Fated}
+use Rattle.cilk_machine_carry.proofs.agree_laws.Kept.{roots-are-fated}
+use Rattle.cilk_machine_carry.specs.agree.Agrees.{Agrees, read_off}
+use Rattle.cilk_machine_carry.specs.agree.Laws.{opening_machine}
+use Rattle.cilk_machine_carry.proofs.agree_laws.Opens.{opening-agrees}
+use Rattle.cilk_machine_carry.proofs.agree_laws.Found.{read-agrees}
+use Rattle.cilk_machine_carry.specs.declared.parts.Parts.{Parts}
+use Rattle.cilk_machine_carry.specs.Words.{machine_of}
+use Rattle.cilk_machine_choices.specs.declared.outcome.Outcome.TheVariants.{Running}
 use Rattle.cilk_machine.specs.Situation.{Situation}
 use Rattle.cilk_machine.specs.Stands.{Led, IsSound}
 use Rattle.cilk_machine.specs.Opening.{cells_of, Begins, First, StartsMain}
@@ -154,7 +155,7 @@ module _ (p : Program) (well : WellFormed p) (b : ℕ) (main : (label p).main �
 crew_is : (n : ℕ) → 1 ≤ n → n ≤ 64 → is_crew n ≡ true
 crew_is n low high = λ i. le-leb 1 n low i && le-leb n 64 high i
 
-crew-of : (n : ℕ) (places : List (PlaceOf Frame)) (f : Frame) → places ≡ with_hand (replicate n no_place) 1 (Some f) → length places ≡ n
+crew-of : (n : ℕ) (places : List (WorkerOf Frame)) (f : Frame) → places ≡ with_hand (replicate n no_place) 1 (Some f) → length places ≡ n
 crew-of n places f h = ap length h ∙ workers-of-hand (replicate n no_place) 1 (Some f) ∙ length-replicate n no_place
 
 abbrev pub before_any : Program → Parts → Situation

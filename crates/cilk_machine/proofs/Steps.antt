@@ -1,39 +1,39 @@
 -- The step of the instance in a worker's hand, carried out.
 use Rattle.std.proofs.Common.{◌≡◌, ℕ, ◌+◌, Option, Some, None, refl, sym, ap, ◌∙◌, subst, arith}
 use Rattle.std.specs.Prelude.{List, option_map}
-use Rattle.cilk_carries.specs.syntax.Tree.{Program}
-use Rattle.cilk_carries.specs.check.Fault.{WellFormed}
-use Rattle.cilk_carries.specs.labelled.Bodies.{label}
-use Rattle.cilk_choices.specs.model.Choice as model
-use Rattle.cilk_choices.specs.model.Event.{Event}
-use Rattle.cilk_choices.specs.model.Path.{Path}
-use Rattle.cilk_choices.specs.model.State as state
-use Rattle.cilk_choices.specs.model.Run.{Standing, next_by_hand, event_by_hand, step_refusal}
-use Rattle.cilk_choices.specs.model.Places.{IsWorker, hand_of}
-use Rattle.cilk_carries.specs.nodes.declared.body.Body.{Body}
-use Rattle.cilk_carries.proofs.sound_laws.Room.{variables, globals}
-use Rattle.cilk_carries.specs.frame.Frames.{Frame}
-use Rattle.cilk_carries.specs.spawn.Nodes.{Node, path_at}
-use Rattle.cilk_carries.specs.agree.Outside as outside
-use Rattle.cilk_carries.specs.agree.Agrees.{Agrees, name_in}
-use Rattle.cilk_carries.specs.agree.Fated.{Follows}
-use Rattle.cilk_carries.specs.agree.Laws.{Turn}
-use Rattle.cilk_carries.specs.plans.declared.plan.Plan.{Plan}
-use Rattle.cilk_carries.specs.plans.declared.plan.Plan.TheVariants as plan
-use Rattle.cilk_carries.specs.plans.Made.{planned}
-use Rattle.cilk_carries.specs.plans.Plans.{step_in, IsPlan}
-use Rattle.cilk_carries.specs.plans.Sights.{Sight}
-use Rattle.cilk_carries.specs.declared.did.Did.{Did}
-use Rattle.cilk_carries.specs.declared.did.Done.{Done}
-use Rattle.cilk_carries.specs.declared.parts.Parts.{Parts}
-use Rattle.cilk_carries.specs.Words as carries
-use Rattle.cilk_carries.specs.Words.{machine_of, event_by}
-use Rattle.cilk_carries.specs.Carries.{CellsAreFew, Starts, Planned, CanCarry, Carries}
-use Rattle.cilk_step.specs.Scenes.{HeadFits}
-use Rattle.cilk_step.proofs.Fits.{head-fits}
-use Rattle.cilk_choices.specs.declared.act.Act.TheVariants.{Step}
-use Rattle.cilk_choices.specs.declared.outcome.Outcome.{Outcome}
-use Rattle.cilk_choices.specs.Words.{outcome_of}
+use Rattle.cilk_machine_carry.specs.syntax.Tree.{Program}
+use Rattle.cilk_machine_carry.specs.check.Fault.{WellFormed}
+use Rattle.cilk_machine_carry.specs.labelled.Bodies.{label}
+use Rattle.cilk_machine_choices.specs.model.Choice as model
+use Rattle.cilk_machine_choices.specs.model.Event.{Event}
+use Rattle.cilk_machine_choices.specs.model.Path.{Path}
+use Rattle.cilk_machine_choices.specs.model.State as state
+use Rattle.cilk_machine_choices.specs.model.Run.{Standing, next_by_hand, event_by_hand, step_refusal}
+use Rattle.cilk_machine_choices.specs.model.Places.{IsWorker, hand_of}
+use Rattle.cilk_machine_carry.specs.nodes.declared.body.Body.{Body}
+use Rattle.cilk_machine_carry.proofs.effects_laws.Room.{variables, globals}
+use Rattle.cilk_machine_carry.specs.frame.Frames.{Frame}
+use Rattle.cilk_machine_carry.specs.spawn.Nodes.{Node, path_at}
+use Rattle.cilk_machine_carry.specs.agree.Outside as outside
+use Rattle.cilk_machine_carry.specs.agree.Agrees.{Agrees, name_in}
+use Rattle.cilk_machine_carry.specs.agree.Fated.{Follows}
+use Rattle.cilk_machine_carry.specs.agree.Laws.{Turn}
+use Rattle.cilk_machine_carry.specs.plans.declared.plan.Plan.{Plan}
+use Rattle.cilk_machine_carry.specs.plans.declared.plan.Plan.TheVariants as plan
+use Rattle.cilk_machine_carry.specs.plans.Made.{planned}
+use Rattle.cilk_machine_carry.specs.plans.Plans.{step_in, IsPlan}
+use Rattle.cilk_machine_carry.specs.plans.Sights.{StepInput}
+use Rattle.cilk_machine_carry.specs.declared.did.Did.{Did}
+use Rattle.cilk_machine_carry.specs.declared.did.Done.{Done}
+use Rattle.cilk_machine_carry.specs.declared.parts.Parts.{Parts}
+use Rattle.cilk_machine_carry.specs.Words as carries
+use Rattle.cilk_machine_carry.specs.Words.{machine_of, event_by}
+use Rattle.cilk_machine_carry.specs.Carries.{CellsAreFew, Starts, Planned, CanCarry, Carries}
+use Rattle.cilk_machine_step.specs.Scenes.{HeadFits}
+use Rattle.cilk_machine_step.proofs.Fits.{head-fits}
+use Rattle.cilk_machine_choices.specs.declared.act.Act.TheVariants.{Step}
+use Rattle.cilk_machine_choices.specs.declared.outcome.Outcome.{Outcome}
+use Rattle.cilk_machine_choices.specs.Words.{outcome_of}
 use Rattle.cilk_machine.specs.Situation.{Situation, sight_at, outcome_at}
 use Rattle.cilk_machine.specs.Stands.{Led, IsSound}
 use Rattle.cilk_machine.specs.Refused.{planned_by, planned_in, refused_by}
@@ -101,7 +101,7 @@ module _ (m : Situation) (w : ℕ) (sound : IsSound m) (free : refused_by m (rec
 
   -- what the choice does is what its step does
   hand-here : (choices : List model.Choice) (events : List Event) (at : Standing) (h : Led m choices events at)
-      → Rattle.cilk_choices.specs.model.Scheduler.hand_of at.scheduler.places w ≡ Some (path_at m.machine.nodes f.id)
+      → Rattle.cilk_machine_choices.specs.model.Scheduler.hand_of at.scheduler.places w ≡ Some (path_at m.machine.nodes f.id)
   hand-here choices events at h =
       hand-is m sound.well_formed choices events at h w ∙ ap (option_map (name_in m.machine.nodes)) it.held
 
@@ -110,7 +110,8 @@ module _ (m : Situation) (w : ℕ) (sound : IsSound m) (free : refused_by m (rec
       event-told (turn s.choices s.events at s.led) x (is-plan x is s.choices s.events at s.led)
       ∙ ap (event_by_hand (label m.program) at.state) (sym (hand-here s.choices s.events at s.led))
 
-  module _ (parts : Parts) (is_parts : m.machine ≡ machine_of parts outside.running) (body : Option Body) (x : Plan) (is : x ≡ planned_in m w) (starts : body ≡ body_started m.program x) where
+  module _ (parts : Parts) (is_parts : m.machine ≡ machine_of parts outside.running) (body : Option Body) (x : Plan)
+      (is : x ≡ planned_in m w) (starts : body ≡ body_started m.program x) where
     planned_there : (choices : List model.Choice) (events : List Event) (at : Standing) (h : Led m choices events at)
         → Planned parts w body x (turn choices events at h)
     planned_there choices events at h = record {
@@ -140,13 +141,16 @@ module _ (m : Situation) (w : ℕ) (sound : IsSound m) (free : refused_by m (rec
         let s = carried t (planned_there choices events at h) in
         let hand = hand-here choices events at h in
         let runs : at.state.outcome ≡ state.running = sym h.outcome ∙ ap outcome_of known.runs_on in
-        let agrees = subst (λ o. Agrees m.program (machine_of now (carries.outcome_of done.outcome)) s.who (next_by_hand (label m.program) at w o)) (sym hand) s.agrees in
+        let agrees = subst
+        (λ o. Agrees m.program (machine_of now (carries.outcome_of done.outcome)) s.who (next_by_hand (label m.program) at w o)) (sym hand)
+        s.agrees in
         record {
           possible = free-is m sound.well_formed (record { worker = w; act = Step }) free choices events at h;
           event = s.event ∙ ap (event_by_hand (label m.program) at.state) (sym hand);
           outcome_is =
               outcome-told (path_at now.tree.nodes) path done.outcome _ s.agrees.outside.outcome
-              (subst (λ q. Rattle.cilk_machine.proofs.Told.TrappedAt q (Rattle.cilk_choices.specs.model.Run.state_after at.state (step_in t)).outcome) (sym named)
+              (subst (λ q. Rattle.cilk_machine.proofs.Told.TrappedAt q
+              (Rattle.cilk_machine_choices.specs.model.Run.state_after at.state (step_in t)).outcome) (sym named)
               (trapped-there t runs x (is-plan x is choices events at h)))
               ∙ ap (λ o. (next_by_hand (label m.program) at w o).state.outcome) (sym hand);
           who = s.who;
@@ -155,18 +159,24 @@ module _ (m : Situation) (w : ℕ) (sound : IsSound m) (free : refused_by m (rec
         }
 
     pub step-made : (now : Parts) (done : Done) (path : Path) → path ≡ trapped_path m.machine.nodes f.id x → Carries (m.choices + 1) parts w body x now done
-        → Makes m (moved_to m (machine_of now (outcome_at (trapper_of done.outcome) (outcome_with path done.outcome))) (outcome_with path done.outcome)) (stepping w)
+        → Makes m
+        (moved_to m (machine_of now (outcome_at (trapper_of done.outcome) (outcome_with path done.outcome)))
+        (outcome_with path done.outcome)) (stepping w)
         (event_by (path_at m.machine.nodes) (path_at now.tree.nodes) done.did)
     step-made now done path named carried =
-        subst (λ o. Makes m (moved_to m (machine_of now o) (outcome_with path done.outcome)) (stepping w) (event_by (path_at m.machine.nodes) (path_at now.tree.nodes) done.did))
+        subst
+        (λ o. Makes m (moved_to m (machine_of now o) (outcome_with path done.outcome)) (stepping w)
+        (event_by (path_at m.machine.nodes) (path_at now.tree.nodes) done.did))
         (sym (outcome-at path done.outcome))
-        (makes m (machine_of now (carries.outcome_of done.outcome)) (outcome_with path done.outcome) (stepping w) _ sound (next-there now done path named carried))
+        (makes m (machine_of now (carries.outcome_of done.outcome)) (outcome_with path done.outcome) (stepping w) _ sound
+        (next-there now done path named carried))
 
 -- the same of a frame that was looked at
 one_frame : (f g : Frame) (o : Option Frame) → Some f ≡ o → o ≡ Some g → g ≡ f
 one_frame f g o a b = let e : Some f ≡ Some g = a ∙ b in cc
 
-module _ (m : Situation) (w : ℕ) (sound : IsSound m) (free : refused_by m (record { worker = w; act = Step }) ≡ None) (g : Frame) (looked : Some g ≡ hand_of m.machine.places w) where
+module _ (m : Situation) (w : ℕ) (sound : IsSound m) (free : refused_by m (record { worker = w; act = Step }) ≡ None) (g : Frame)
+    (looked : Some g ≡ hand_of m.machine.places w) where
   pub same-frame : (it m w sound free).frame ≡ g
   same-frame =
       let s = it m w sound free in
@@ -181,7 +191,9 @@ module _ (m : Situation) (w : ℕ) (sound : IsSound m) (free : refused_by m (rec
     paths-here = by-type (paths m w sound free x is)
       where
         by-type : HasPaths m.machine.nodes (it m w sound free).frame.id x → HasPaths ns k x
-        by-type h = subst (λ i. HasPaths ns i x) (ap (λ (f : Frame). f.id) same-frame ∙ sym id_is) (subst (λ l. HasPaths l (it m w sound free).frame.id x) (sym nodes_are) h)
+        by-type h =
+            subst (λ i. HasPaths ns i x) (ap (λ (f : Frame). f.id) same-frame ∙ sym id_is)
+            (subst (λ l. HasPaths l (it m w sound free).frame.id x) (sym nodes_are) h)
 
     pub does-here : (did : Event) → did ≡ event_in ns k x → Does m (stepping w) did
     does-here did told at s = told ∙ sym (by-number event_in) ∙ does m w sound free x is at s
@@ -190,7 +202,8 @@ module _ (m : Situation) (w : ℕ) (sound : IsSound m) (free : refused_by m (rec
     path-here path named = named ∙ sym (by-number trapped_path)
 
 -- the step of the instance in a hand can be planned
-pub fits-here : (m : Situation) → IsSound m → (w : ℕ) → IsWorker m.machine.places w → (f : Frame) → Some f ≡ hand_of m.machine.places w → (g : Sight) → g ≡ sight_at m f → HeadFits g
+pub fits-here : (m : Situation) → IsSound m → (w : ℕ) → IsWorker m.machine.places w → (f : Frame) → Some f ≡ hand_of m.machine.places w
+    → (g : StepInput) → g ≡ sight_at m f → HeadFits g
 fits-here m sound w worker f looked g is =
     let s = sound.stands in
     subst HeadFits (sym is) (head-fits (turn-of m s.choices s.events sound.at s.led w f worker (sym looked)) sound.well_formed)
@@ -202,7 +215,8 @@ pub record Carrying (m : Situation) (w : ℕ) (x : Plan) (path : Path) : Type 0 
   pub planned : x ≡ planned_in m w
   pub trap : IsTrapPath m w x path
 
-pub carrying : (m now : Situation) (w : ℕ) (x : Plan) (path : Path) → m ≡ now → IsSound m → refused_by now (record { worker = w; act = Step }) ≡ None → x ≡ planned_in now w
+pub carrying : (m now : Situation) (w : ℕ) (x : Plan) (path : Path) → m ≡ now → IsSound m
+    → refused_by now (record { worker = w; act = Step }) ≡ None → x ≡ planned_in now w
     → IsTrapPath now w x path → Carrying m w x path
 carrying m now w x path is sound free planned trap = record {
   sound = sound;
@@ -216,7 +230,8 @@ module _ (program : Program) (parts : Parts) (trapper : ℕ) (outcome : Outcome)
   abbrev pub whole : Situation
   whole = record { program = program; machine = machine_of parts (outcome_at trapper outcome); outcome = outcome; choices = choices }
 
-  module _ (w : ℕ) (x : Plan) (path : Path) (c : Carrying whole w x path) (body : Option Body) (number : Option ℕ) (body_is : body ≡ body_numbered program number) (number_is : number ≡ started_number x) where
+  module _ (w : ℕ) (x : Plan) (path : Path) (c : Carrying whole w x path) (body : Option Body) (number : Option ℕ)
+      (body_is : body ≡ body_numbered program number) (number_is : number ≡ started_number x) where
     parts_are : machine_of parts (outcome_at trapper outcome) ≡ machine_of parts outside.running
     parts_are =
         let known = frees whole (record { worker = w; act = Step }) c.free in
@@ -228,20 +243,27 @@ module _ (program : Program) (parts : Parts) (trapper : ℕ) (outcome : Outcome)
     pub whole-carries : CanCarry parts w body x
     whole-carries = can-carry whole w c.sound c.free parts parts_are body x c.planned starts_is
 
-    pub whole-made : (now : Parts) (done : Done) (came : ℕ) (stands : Outcome) → Carries (choices + 1) parts w body x now done → came ≡ trapper_of done.outcome → stands ≡ outcome_with path done.outcome
-        → Makes whole (moved_to whole (machine_of now (outcome_at came stands)) stands) (stepping w) (event_by (path_at parts.tree.nodes) (path_at now.tree.nodes) done.did)
+    pub whole-made : (now : Parts) (done : Done) (came : ℕ) (stands : Outcome) → Carries (choices + 1) parts w body x now done
+        → came ≡ trapper_of done.outcome → stands ≡ outcome_with path done.outcome
+        → Makes whole (moved_to whole (machine_of now (outcome_at came stands)) stands) (stepping w)
+        (event_by (path_at parts.tree.nodes) (path_at now.tree.nodes) done.did)
     whole-made now done came stands carried came_is stands_is =
         let s = it whole w c.sound c.free in
-        subst (λ i. Makes whole (moved_to whole (machine_of now (outcome_at i stands)) stands) (stepping w) (event_by (path_at parts.tree.nodes) (path_at now.tree.nodes) done.did)) (sym came_is)
-        (subst (λ o. Makes whole (moved_to whole (machine_of now (outcome_at (trapper_of done.outcome) o)) o) (stepping w) (event_by (path_at parts.tree.nodes) (path_at now.tree.nodes) done.did)) (sym stands_is)
+        subst
+        (λ i. Makes whole (moved_to whole (machine_of now (outcome_at i stands)) stands) (stepping w)
+        (event_by (path_at parts.tree.nodes) (path_at now.tree.nodes) done.did)) (sym came_is)
+        (subst (λ o. Makes whole (moved_to whole (machine_of now (outcome_at (trapper_of done.outcome) o)) o) (stepping w)
+        (event_by (path_at parts.tree.nodes) (path_at now.tree.nodes) done.did)) (sym stands_is)
         (step-made whole w c.sound c.free parts parts_are body x c.planned starts_is now done path (c.trap s.frame s.held) carried))
 
 -- a machine by another name
-pub made-old : (m old n : Situation) (w : ℕ) (ns : List Node) (did : Did) → m ≡ old → Makes m n (stepping w) (event_by (path_at m.machine.nodes) (path_at ns) did)
+pub made-old : (m old n : Situation) (w : ℕ) (ns : List Node) (did : Did) → m ≡ old
+    → Makes m n (stepping w) (event_by (path_at m.machine.nodes) (path_at ns) did)
     → Makes old n (stepping w) (event_by (path_at old.machine.nodes) (path_at ns) did)
 made-old m old n w ns did is made =
     subst (λ (x : Situation). Makes x n (stepping w) (event_by (path_at x.machine.nodes) (path_at ns) did)) is made
 
-pub told-old : (m old n : Situation) (w : ℕ) (did other : Event) → m ≡ old → IsSound m → Makes m n (stepping w) did → Does old (stepping w) other → Makes old n (stepping w) other
+pub told-old : (m old n : Situation) (w : ℕ) (did other : Event) → m ≡ old → IsSound m → Makes m n (stepping w) did
+    → Does old (stepping w) other → Makes old n (stepping w) other
 told-old m old n w did other is sound made does =
     of-old m old n (stepping w) other is (told-as m n (stepping w) did other made (subst (λ (x : Situation). Does x (stepping w) other) (sym is) does) sound)

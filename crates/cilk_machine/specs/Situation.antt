@@ -1,18 +1,18 @@
 -- What contracts see of a machine.
 use Rattle.std.specs.Prelude.{ℕ, length}
-use Rattle.cilk_carries.specs.syntax.Tree as tree
-use Rattle.cilk_carries.specs.frame.Frames.{Frame}
-use Rattle.cilk_carries.specs.agree.Outside as outside
-use Rattle.cilk_carries.specs.agree.Agrees.{Machine}
-use Rattle.cilk_carries.specs.spawn.Kinds.{kind_of}
-use Rattle.cilk_carries.specs.plans.Sights.{Sight}
-use Rattle.cilk_choices.specs.declared.outcome.Outcome.{Outcome}
-use Rattle.cilk_choices.specs.declared.outcome.Outcome.TheVariants.{Running, Finished, Trapped}
+use Rattle.cilk_machine_carry.specs.syntax.Tree as tree
+use Rattle.cilk_machine_carry.specs.frame.Frames.{Frame}
+use Rattle.cilk_machine_carry.specs.agree.Outside as outside
+use Rattle.cilk_machine_carry.specs.agree.Agrees.{MachineParts}
+use Rattle.cilk_machine_carry.specs.spawn.Kinds.{kind_of}
+use Rattle.cilk_machine_carry.specs.plans.Sights.{StepInput}
+use Rattle.cilk_machine_choices.specs.declared.outcome.Outcome.{Outcome}
+use Rattle.cilk_machine_choices.specs.declared.outcome.Outcome.TheVariants.{Running, Finished, Trapped}
 
 -- the program, its parts, how it stands, and the number of choices made
 pub record Situation : Type 0 where
   pub program : tree.Program
-  pub machine : Machine
+  pub machine : MachineParts
   pub outcome : Outcome
   pub choices : ℕ
 
@@ -26,7 +26,7 @@ outcome_at id (Finished value) = outside.finished value
 outcome_at id (Trapped kind path n) = outside.trapped (kind_of kind) id n
 
 -- what a step of the instance of a frame looks at
-abbrev pub sight_at : Situation → Frame → Sight
+abbrev pub sight_at : Situation → Frame → StepInput
 sight_at m f = record {
   program = m.program;
   globals = m.machine.outside.cells;

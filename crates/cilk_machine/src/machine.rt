@@ -1,14 +1,14 @@
 //! What a machine is made of, and what it tells between two choices: its outcome, output, variables, fates and end.
 
 ghost use Rattle.std.specs.Prelude.{◌≡◌, ◌<◌, ◌≤◌, ◌⊎◌, ◌↔◌, List, option_map, IfOk};
-ghost use Rattle.cilk_carries.specs.labelled.Bodies.{label};
-ghost use Rattle.cilk_choices.specs.model.Choice as choices;
-ghost use Rattle.cilk_choices.specs.model.End as model;
-ghost use Rattle.cilk_choices.specs.model.Event as events;
-ghost use Rattle.cilk_choices.specs.model.Fate.{fate_of};
-ghost use Rattle.cilk_choices.specs.model.Run.{Standing};
-ghost use Rattle.cilk_carries.specs.agree.Fated.{fate_named};
-ghost use Rattle.cilk_choices.specs.Words.{end_of, outcome_of};
+ghost use Rattle.cilk_machine_carry.specs.labelled.Bodies.{label};
+ghost use Rattle.cilk_machine_choices.specs.model.Choice as choices;
+ghost use Rattle.cilk_machine_choices.specs.model.End as model;
+ghost use Rattle.cilk_machine_choices.specs.model.Event as events;
+ghost use Rattle.cilk_machine_choices.specs.model.Fate.{fate_of};
+ghost use Rattle.cilk_machine_choices.specs.model.Run.{Standing};
+ghost use Rattle.cilk_machine_carry.specs.agree.Fated.{fate_named};
+ghost use Rattle.cilk_machine_choices.specs.Words.{end_of, outcome_of};
 ghost use Rattle.cilk_view.specs.Shows.{machine_of};
 ghost use Rattle.cilk_machine.specs.Situation.{workers_of};
 ghost use Rattle.cilk_machine.specs.Stands.{Led, StandsAt, Opens};
@@ -19,9 +19,9 @@ mod making;
 
 use crate::opening::first_parts;
 use crate::reading::cell_of;
-use cilk_carries::{Fate, Id, Parts, Program};
-use cilk_choices::{End, MachineFault, Memory, Outcome};
-use cilk_step::Loaded;
+use cilk_machine_carry::{Fate, Id, Parts, Program};
+use cilk_machine_choices::{End, MachineFault, Memory, Outcome};
+use cilk_machine_step::Loaded;
 use cilk_view::Shown;
 use std::alloc::Global;
 use std::marker::Model;
@@ -55,10 +55,10 @@ impl Drop for Machine {
 
 impl Model for Machine {
     ghost use Rattle.std.specs.Prelude.{◌≡◌, length};
-    ghost use Rattle.cilk_carries.specs.Words.{machine_of};
+    ghost use Rattle.cilk_machine_carry.specs.Words.{machine_of};
     ghost use Rattle.cilk_machine.specs.Situation.{Situation, outcome_at};
     ghost use Rattle.cilk_machine.specs.Stands.{IsSound};
-    ghost use Rattle.cilk_carries.specs.syntax.ProgramCoding.{coded_Program};
+    ghost use Rattle.cilk_machine_carry.specs.syntax.ProgramCoding.{coded_Program};
     ghost use Rattle.std.specs.Coded.{codes};
 
     ghost Value = { Situation };

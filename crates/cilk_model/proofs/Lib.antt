@@ -1,1 +1,1 @@
-pub use Rattle.cilk_labelled.proofs.canonical_laws
+pub use Rattle.cilk_model_labels.proofs.canonical_laws

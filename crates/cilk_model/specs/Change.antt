@@ -1,17 +1,18 @@
 -- What one step of an instance does to the state.
-use Rattle.std.specs.Prelude.{ℕ, ◌+◌, ℤ, Bool, true, false, not, ◌&&◌, ◌||◌, if◌then◌else◌, List, [], ◌∷◌, ◌++◌, map, Option, Some, None, slice_index_or, slice_set}
+use Rattle.std.specs.Prelude.{ℕ, ◌+◌, ℤ, Bool, true, false, not, ◌&&◌, ◌||◌, if◌then◌else◌, List, [], ◌∷◌, ◌++◌, map, Option, Some, None}
+use Rattle.std.specs.Prelude.{slice_index_or, slice_set}
 use Rattle.std.specs.List.{list_any}
-use Rattle.cilk_labelled.specs.syntax.declared.lock_action.LockAction.{LockAction}
-use Rattle.cilk_labelled.specs.syntax.declared.lock_action.LockAction.TheVariants.{Init, Unlock}
-use Rattle.cilk_labelled.specs.syntax.declared.lock_action.LockAction.TheVariants as action
-use Rattle.cilk_labelled.specs.scopes.declared.owner.Owner.{Owner}
-use Rattle.cilk_labelled.specs.scopes.declared.owner.Owner.TheVariants.{Function, Procedure, Inlet}
-use Rattle.cilk_labelled.specs.Labelled.{Labelled, Declaration, local, outer, global, Action, sync, spawn, return_with, return_nothing, close, Numbered}
-use Rattle.cilk_labelled.specs.Items.{head_of, opened, next}
+use Rattle.cilk_model_labels.specs.syntax.declared.lock_action.LockAction.{LockAction}
+use Rattle.cilk_model_labels.specs.syntax.declared.lock_action.LockAction.TheVariants.{Init, Unlock}
+use Rattle.cilk_model_labels.specs.syntax.declared.lock_action.LockAction.TheVariants as action
+use Rattle.cilk_model_labels.specs.scopes.declared.owner.Owner.{Owner}
+use Rattle.cilk_model_labels.specs.scopes.declared.owner.Owner.TheVariants.{Function, Procedure, Inlet}
+use Rattle.cilk_model_labels.specs.Labelled.{Labelled, Declaration, local, outer, global, Action, sync, spawn, return_with, return_nothing, close, Numbered}
+use Rattle.cilk_model_labels.specs.Items.{head_of, opened, next}
 use Rattle.cilk_model.specs.Values.{Values, Cell, Reached}
 use Rattle.cilk_model.specs.Path.{Path, same_path, child_path, parent_of, is_below}
 use Rattle.cilk_model.specs.Instance.{Activation, Receiver, Delivery, Instance, entered, started, owner_at}
-use Rattle.cilk_model.specs.State.{Kind, Lock, unset, free, held, Entry, finished, trapped, State, changed, without, is_empty, lock_at}
+use Rattle.cilk_model.specs.State.{TrapKind, Lock, unset, free, held, Entry, finished, trapped, State, changed, without, is_empty, lock_at}
 
 -- the actions that leave a body
 abbrev pub leaves : Action → Bool
@@ -62,7 +63,7 @@ abbrev pub holds_lock : State → Path → Bool
 holds_lock s p = list_any (is_held_by p) s.locks
 
 -- a trap changes the outcome alone
-abbrev pub stopped : State → Path → ℕ → Kind → State
+abbrev pub stopped : State → Path → ℕ → TrapKind → State
 stopped s p n kind = record s { outcome = trapped kind p n }
 
 -- the instance past its head, where a test gave this answer; an action of the procedure's own takes the mark of a spawn away

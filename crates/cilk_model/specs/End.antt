@@ -1,13 +1,14 @@
 -- How things stand after the last choice, and the closing text of a run.
-use Rattle.std.specs.Prelude.{ℕ, zero, suc, ℤ, Bool, true, ◌&&◌, ◌==◌, if◌then◌else◌, List, [], ◌∷◌, ◌++◌, length, map, Option, None, is_some, unwrap_or, slice_get, codes, decimal}
+use Rattle.std.specs.Prelude.{ℕ, zero, suc, ℤ, Bool, true, ◌&&◌, ◌==◌, if◌then◌else◌, List, [], ◌∷◌, ◌++◌, length, map, Option, None, is_some}
+use Rattle.std.specs.Prelude.{unwrap_or, slice_get, codes, decimal}
 use Rattle.std.specs.List.{list_all}
 use Rattle.std.specs.Fmt.{signed_decimal}
-use Rattle.cilk_labelled.specs.values.declared.trap.Trap.{Trap}
-use Rattle.cilk_labelled.specs.values.declared.trap.Trap.TheVariants.{Overflow, ZeroDivide, Shift, Index}
-use Rattle.cilk_labelled.specs.Labelled.{Labelled}
+use Rattle.cilk_model_labels.specs.declared.trap.Trap.{Trap}
+use Rattle.cilk_model_labels.specs.declared.trap.Trap.TheVariants.{Overflow, ZeroDivide, Shift, Index}
+use Rattle.cilk_model_labels.specs.Labelled.{Labelled}
 use Rattle.cilk_model.specs.Path.{Path, path_text}
 use Rattle.cilk_model.specs.State as state
-use Rattle.cilk_model.specs.State.{Kind, of_value, lock, held_lock, depth, instances, output, Outcome}
+use Rattle.cilk_model.specs.State.{TrapKind, of_value, lock, held_lock, depth, instances, output, Outcome}
 use Rattle.cilk_model.specs.Choice.{Choice, step, pop, steal}
 use Rattle.cilk_model.specs.Run.{Standing, Position, is_running, refusal_of}
 
@@ -39,7 +40,7 @@ is_stuck program at =
 pub data End : Type 0 where
   finished : (value : ℤ) → End
   -- with the line of the action
-  trapped : (kind : Kind) (path : Path) (n line : ℕ) → End
+  trapped : (kind : TrapKind) (path : Path) (n line : ℕ) → End
   -- it has not ended, and no choice is possible
   stuck : End
   -- it has not ended, and some choice is possible
@@ -64,7 +65,7 @@ trap_text ZeroDivide = codes "ZeroDivide"
 trap_text Shift = codes "Shift"
 trap_text Index = codes "Index"
 
-abbrev pub kind_text : Kind → List ℕ
+abbrev pub kind_text : TrapKind → List ℕ
 kind_text (of_value trap) = trap_text trap
 kind_text lock = codes "Lock"
 kind_text held_lock = codes "HeldLock"

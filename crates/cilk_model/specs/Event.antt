@@ -1,7 +1,7 @@
 -- What a choice did: the number is that of the action.
 use Rattle.std.specs.Prelude.{ℕ}
 use Rattle.cilk_model.specs.Path.{Path}
-use Rattle.cilk_model.specs.State.{Kind}
+use Rattle.cilk_model.specs.State.{TrapKind}
 
 pub data Event : Type 0 where
   acted : (path : Path) (n : ℕ) → Event
@@ -11,6 +11,6 @@ pub data Event : Type 0 where
   returned : (path : Path) (n : ℕ) → Event
   -- an aborted instance is no more
   ended : (path : Path) → Event
-  trapped : (kind : Kind) (path : Path) (n : ℕ) → Event
+  trapped : (kind : TrapKind) (path : Path) (n : ℕ) → Event
   -- frames were moved, and nothing else was changed
   moved : Event

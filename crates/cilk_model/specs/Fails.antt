@@ -1,19 +1,19 @@
 -- Why an action has no meaning: the first trap from the left, or what is not allowed or has no room.
 use Rattle.std.specs.Prelude.{◌≡◌, ◌≢◌, ℕ, ◌+◌, ◌<◌, ◌≤◌, ℤ, ◌⊎◌, List, [], ◌∷◌, length, Option, Some, Ok, Err}
-use Rattle.cilk_labelled.specs.syntax.declared.lock_action.LockAction.{LockAction}
-use Rattle.cilk_labelled.specs.syntax.declared.lock_action.LockAction.TheVariants.{Init, Lock, Unlock}
-use Rattle.cilk_labelled.specs.scopes.declared.owner.Owner.TheVariants.{Function}
-use Rattle.cilk_labelled.specs.syntax.declared.return_type.ReturnType.{ReturnType}
-use Rattle.cilk_labelled.specs.values.declared.trap.Trap.{Trap}
-use Rattle.cilk_labelled.specs.values.Term.{Term}
-use Rattle.cilk_labelled.specs.values.Value.{Environment, value_of, values_of}
-use Rattle.cilk_labelled.specs.Labelled.{Labelled, Declaration, Into, Taker, Action, assign, call, spawn, print, locking, tests, sync, return_with}
+use Rattle.cilk_model_labels.specs.syntax.declared.lock_action.LockAction.{LockAction}
+use Rattle.cilk_model_labels.specs.syntax.declared.lock_action.LockAction.TheVariants.{Init, Lock, Unlock}
+use Rattle.cilk_model_labels.specs.scopes.declared.owner.Owner.TheVariants.{Function}
+use Rattle.cilk_model_labels.specs.syntax.declared.return_type.ReturnType.{ReturnType}
+use Rattle.cilk_model_labels.specs.declared.trap.Trap.{Trap}
+use Rattle.cilk_model_labels.specs.Term.{Term}
+use Rattle.cilk_model_labels.specs.Value.{Environment, value_of, values_of}
+use Rattle.cilk_model_labels.specs.Labelled.{Labelled, Declaration, Into, Taker, Action, assign, call, spawn, print, locking, tests, sync, return_with}
 use Rattle.cilk_model.specs.Values.{Reached, environment, read_at, reached_at, reached_if, combined}
 use Rattle.cilk_model.specs.Path.{Path}
 use Rattle.cilk_model.specs.Instance.{Activation, Instance, owner_at}
-use Rattle.cilk_model.specs.State.{Kind, of_value, lock, held_lock, depth, instances, output, State, unset, held, store_of, lock_at}
+use Rattle.cilk_model.specs.State.{TrapKind, of_value, lock, held_lock, depth, instances, output, State, unset, held, store_of, lock_at}
 use Rattle.cilk_model.specs.Printing.{printed}
-use Rattle.cilk_model.specs.Written.{Holds, HoldsNone, Free, Leaves, Gives, place_of, others_of}
+use Rattle.cilk_model.specs.Written.{Holds, HoldsNone, Free, Leaves, LeavesWith, taker_place, others_of}
 
 module _ (program : Labelled) (s : State) (p : Path) (i : Instance) where
   -- what its expressions are evaluated in
@@ -62,11 +62,11 @@ module _ (program : Labelled) (s : State) (p : Path) (i : Instance) where
     of_call_argument : (place : Option Into) (callee : ℕ) (es : List (Term Declaration)) (reached : Option Reached)
         → reached_if here place ≡ Ok reached → values_of here es ≡ Err trap → HasNoValue trap (call place callee es)
     of_spawn_place : (taker : Taker) (callee : ℕ) (es : List (Term Declaration)) → HoldsNone s p
-        → reached_if here (place_of taker) ≡ Err trap → HasNoValue trap (spawn taker callee es)
+        → reached_if here (taker_place taker) ≡ Err trap → HasNoValue trap (spawn taker callee es)
     of_spawn_argument : (taker : Taker) (callee : ℕ) (es : List (Term Declaration)) (reached : Option Reached) → HoldsNone s p
-        → reached_if here (place_of taker) ≡ Ok reached → values_of here es ≡ Err trap → HasNoValue trap (spawn taker callee es)
+        → reached_if here (taker_place taker) ≡ Ok reached → values_of here es ≡ Err trap → HasNoValue trap (spawn taker callee es)
     of_inlet_argument : (taker : Taker) (callee : ℕ) (es : List (Term Declaration)) (reached : Option Reached) (zs : List ℤ) → HoldsNone s p
-        → reached_if here (place_of taker) ≡ Ok reached → values_of here es ≡ Ok zs → values_of here (others_of taker) ≡ Err trap
+        → reached_if here (taker_place taker) ≡ Ok reached → values_of here es ≡ Ok zs → values_of here (others_of taker) ≡ Err trap
         → HasNoValue trap (spawn taker callee es)
     of_print_argument : (format : List ℕ) (es : List (Term Declaration)) → values_of here es ≡ Err trap → HasNoValue trap (print format es)
     of_test : (e : Term Declaration) → value_of here e ≡ Err trap → HasNoValue trap (tests e)
@@ -79,7 +79,7 @@ module _ (program : Labelled) (s : State) (p : Path) (i : Instance) where
     lock_own : lock_at s k ≡ held p → MayNot k Lock
     unlock_other : lock_at s k ≢ held p → MayNot k Unlock
 
-  pub data Fails : Action → Kind → Type 0 where
+  pub data Fails : Action → TrapKind → Type 0 where
     has_no_value : (act : Action) (trap : Trap) → HasNoValue trap act → Fails act (of_value trap)
     holds_lock : (act : Action) → EndsThread act → Holds s p → Fails act held_lock
     may_not : (what : LockAction) (k : ℕ) → MayNot k what → Fails (locking what k) lock
@@ -88,13 +88,13 @@ module _ (program : Labelled) (s : State) (p : Path) (i : Instance) where
         → reached_if here place ≡ Ok reached → values_of here es ≡ Ok zs → 255 ≤ length i.below → Fails (call place callee es) depth
     -- 65,536 live instances are the most, and 4,294,967,295 children of one
     too_many : (taker : Taker) (callee : ℕ) (es : List (Term Declaration)) (reached : Option Reached) (zs ys : List ℤ) → HoldsNone s p
-        → reached_if here (place_of taker) ≡ Ok reached → values_of here es ≡ Ok zs → values_of here (others_of taker) ≡ Ok ys
+        → reached_if here (taker_place taker) ≡ Ok reached → values_of here es ≡ Ok zs → values_of here (others_of taker) ≡ Ok ys
         → (65536 ≤ length s.instances) ⊎ (4294967295 ≤ i.children) → Fails (spawn taker callee es) instances
     -- 1,048,576 bytes of output are the most
     too_long : (format : List ℕ) (es : List (Term Declaration)) (zs : List ℤ) → values_of here es ≡ Ok zs
         → 1048576 < length s.output + length (printed format zs) → Fails (print format es) output
     -- as a C function is left, its caller's place is read now, and the operator traps
     of_caller : (act : Action) (z : ℤ) (trap : Trap) (caller : Activation) (below : List Activation) (reached : Reached)
-        → InFunction → Gives here act z → i.below ≡ caller ∷ below → i.top.awaits ≡ Some reached
+        → InFunction → LeavesWith here act z → i.below ≡ caller ∷ below → i.top.awaits ≡ Some reached
         → combined reached.op (read_at (store_of s p (record i { top = caller; below = below })) reached.cell) z ≡ Err trap
         → Fails act (of_value trap)

@@ -19,8 +19,17 @@ pub mod Fate
 pub mod Trees
 pub mod Programs
 pub mod Rows
-pub use Rattle.cilk_labelled.specs.canonical
-pub use Rattle.cilk_labelled.specs as labelled
-pub use Rattle.cilk_labelled.specs.scopes
-pub use Rattle.cilk_labelled.specs.syntax
-pub use Rattle.cilk_labelled.specs.values
+pub mod What
+pub mod Texts
+pub mod Made
+pub mod Frames
+pub mod Globals
+pub mod Workers
+pub mod ViewTrees
+pub mod Listing
+pub mod Views
+pub mod ViewRows
+pub use Rattle.cilk_model_labels.specs as labelled
+pub use Rattle.cilk_model_labels.specs.canonical
+pub use Rattle.cilk_model_labels.specs.scopes
+pub use Rattle.cilk_model_labels.specs.syntax

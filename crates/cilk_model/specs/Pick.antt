@@ -1,14 +1,18 @@
 -- The one step of an instance that is taken, of those that the written rule allows.
-use Rattle.std.specs.Prelude.{ℕ, ◌+◌, ◌-◌, ◌^◌, ℤ, Bool, true, false, not, ◌&&◌, nat_lt, nat_le, if◌then◌else◌, List, [], ◌∷◌, length, Option, Some, None, Result, Ok, Err}
-use Rattle.cilk_labelled.specs.values.declared.trap.Trap.{Trap}
-use Rattle.cilk_labelled.specs.Labelled.{Labelled, Numbered}
-use Rattle.cilk_labelled.specs.Items.{head_of}
+use Rattle.std.specs.Prelude.{ℕ, ◌+◌, ◌-◌, ◌^◌, ℤ, Bool, true, false, not, ◌&&◌, nat_lt, nat_le, if◌then◌else◌, List, [], ◌∷◌, length, Option, Some}
+use Rattle.std.specs.Prelude.{None, Result, Ok, Err}
+use Rattle.cilk_model_labels.specs.declared.trap.Trap.{Trap}
+use Rattle.cilk_model_labels.specs.Labelled.{Labelled, Numbered}
+use Rattle.cilk_model_labels.specs.Items.{head_of}
 use Rattle.cilk_model.specs.Values.{Cell, Reached, environment, read_at, combined}
 use Rattle.cilk_model.specs.Effect.{Effect, writes, answers, enters, gives, starts, writes_out, turns, marks, effect_of}
 use Rattle.cilk_model.specs.Path.{Path, child_path}
 use Rattle.cilk_model.specs.Instance.{Receiver, place, through, Delivery, Instance}
-use Rattle.cilk_model.specs.State.{Kind, of_value, lock, held_lock, depth, instances, output, State, instance_at, has_live_child, is_synched, store_of, is_empty}
-use Rattle.cilk_model.specs.Change.{Turn, turned, refused, blocked, turn_of, at_boundary, ends_thread, waits_here, holds_lock, leaves_function, stopped, after_write, after_going, after_call, after_leaving, after_answer, after_start, after_print, after_lock, after_marks, after_return, after_place, after_inlet, after_abort, resumed}
+use Rattle.cilk_model.specs.State.{TrapKind, of_value, lock, held_lock, depth, instances, output, State, instance_at, has_live_child, is_synched}
+use Rattle.cilk_model.specs.State.{store_of, is_empty}
+use Rattle.cilk_model.specs.Change.{Turn, turned, refused, blocked, turn_of, at_boundary, ends_thread, waits_here, holds_lock, leaves_function}
+use Rattle.cilk_model.specs.Change.{stopped, after_write, after_going, after_call, after_leaving, after_answer, after_start, after_print, after_lock}
+use Rattle.cilk_model.specs.Change.{after_marks, after_return, after_place, after_inlet, after_abort, resumed}
 use Rattle.cilk_model.specs.Event as event
 use Rattle.cilk_model.specs.Event.{Event}
 
@@ -24,11 +28,11 @@ pub data Step : Type 0 where
   -- it is live after the step, and so is this new child
   spawns : (child : Path) (state : State) (did : Event) → Step
 
-abbrev pub traps : State → Path → ℕ → Kind → Step
+abbrev pub traps : State → Path → ℕ → TrapKind → Step
 traps s p n kind = goes_on (stopped s p n kind) (event.trapped kind p n)
 
 -- where there is room, this; else the trap
-abbrev pub if_room : State → Path → ℕ → Kind → Bool → Step → Step
+abbrev pub if_room : State → Path → ℕ → TrapKind → Bool → Step → Step
 if_room s p n kind true step = step
 if_room s p n kind false step = traps s p n kind
 

@@ -1,12 +1,12 @@
 -- More worked programs: places that take a child's value, control, arrays, calls, marks that reach grandchildren.
 use Rattle.std.specs.Prelude.{ℕ, false, List, [], ◌∷◌, Option, Some, None, codes}
-use Rattle.cilk_labelled.specs.syntax.declared.operator.BinOp.{BinOp}
-use Rattle.cilk_labelled.specs.syntax.declared.operator.BinOp.TheVariants.{Add, Subtract, Multiply, Divide, Less, Greater}
-use Rattle.cilk_labelled.specs.syntax.declared.un_op.UnOp.TheVariants.{Minus}
-use Rattle.cilk_labelled.specs.syntax.declared.adjustment.Adjustment.TheVariants.{Increment}
-use Rattle.cilk_labelled.specs.syntax.declared.return_type.ReturnType.TheVariants.{Int}
-use Rattle.cilk_labelled.specs.syntax.Tree as tree
-use Rattle.cilk_labelled.specs.syntax.Tree.{Word, Expr, number, element, binary, unary, Target, inlet_at, Stmt, stmts_of, Block, block, Item, Program}
+use Rattle.cilk_model_labels.specs.syntax.declared.operator.BinOp.{BinOp}
+use Rattle.cilk_model_labels.specs.syntax.declared.operator.BinOp.TheVariants.{Add, Subtract, Multiply, Divide, Less, Greater}
+use Rattle.cilk_model_labels.specs.syntax.declared.un_op.UnOp.TheVariants.{Minus}
+use Rattle.cilk_model_labels.specs.syntax.declared.adjustment.Adjustment.TheVariants.{Increment}
+use Rattle.cilk_model_labels.specs.syntax.declared.return_type.ReturnType.TheVariants.{Int}
+use Rattle.cilk_model_labels.specs.syntax.Tree as tree
+use Rattle.cilk_model_labels.specs.syntax.Tree.{Word, Expr, number, element, binary, unary, Target, inlet_at, Stmt, stmts_of, Block, block, Item, Program}
 use Rattle.cilk_model.specs.Trees.{word, name, target, assigns, int, returns, procedure, program, locks, inits}
 
 abbrev pub inside : List Stmt → Block

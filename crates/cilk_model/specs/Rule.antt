@@ -1,20 +1,23 @@
 -- The written rule: what one step of an instance may do to the state, said of what stands at each path, in each cell and at each lock.
-use Rattle.std.specs.Prelude.{◌≡◌, ◌≢◌, ℕ, ◌+◌, ◌<◌, ◌≤◌, ℤ, pos, Bool, true, false, not, ◌⊎◌, List, [], ◌∷◌, ◌++◌, length, Option, Some, None, option_map, Ok, Err, slice_get}
+use Rattle.std.specs.Prelude.{◌≡◌, ◌≢◌, ℕ, ◌+◌, ◌<◌, ◌≤◌, ℤ, pos, Bool, true, false, not, ◌⊎◌, List, [], ◌∷◌, ◌++◌, length, Option, Some, None}
+use Rattle.std.specs.Prelude.{option_map, Ok, Err, slice_get}
 use Rattle.std.specs.Ordering.{int_eq}
-use Rattle.cilk_labelled.specs.syntax.declared.lock_action.LockAction.{LockAction}
-use Rattle.cilk_labelled.specs.syntax.declared.lock_action.LockAction.TheVariants.{Init, Lock, Unlock}
-use Rattle.cilk_labelled.specs.values.declared.trap.Trap.{Trap}
-use Rattle.cilk_labelled.specs.values.Term.{Term}
-use Rattle.cilk_labelled.specs.values.Value.{value_of, values_of}
-use Rattle.cilk_labelled.specs.Labelled.{Labelled, Declaration, Into, Taker, Action, assign, call, spawn, print, locking, null, break_off, go_round, tests, sync, abort}
-use Rattle.cilk_labelled.specs.Items.{opened, next}
+use Rattle.cilk_model_labels.specs.syntax.declared.lock_action.LockAction.{LockAction}
+use Rattle.cilk_model_labels.specs.syntax.declared.lock_action.LockAction.TheVariants.{Init, Lock, Unlock}
+use Rattle.cilk_model_labels.specs.declared.trap.Trap.{Trap}
+use Rattle.cilk_model_labels.specs.Term.{Term}
+use Rattle.cilk_model_labels.specs.Value.{value_of, values_of}
+use Rattle.cilk_model_labels.specs.Labelled.{Labelled, Declaration, Into, Taker, Action, assign, call, spawn, print, locking, null, break_off}
+use Rattle.cilk_model_labels.specs.Labelled.{go_round, tests, sync, abort}
+use Rattle.cilk_model_labels.specs.Items.{opened, next}
 use Rattle.cilk_model.specs.Values.{Values, Cell, Reached, read_at, reached_at, reached_if, combined}
 use Rattle.cilk_model.specs.Path.{Path, child_path, is_below}
 use Rattle.cilk_model.specs.Instance.{Activation, Receiver, place, through, Delivery, Instance, entered, started, outer_values}
 use Rattle.cilk_model.specs.State as state
-use Rattle.cilk_model.specs.State.{Kind, of_value, finished, trapped, running, unset, free, held, State, instance_at, has_live_child, is_synched, store_of, lock_at}
+use Rattle.cilk_model.specs.State.{TrapKind, of_value, finished, trapped, running, unset, free, held, State, instance_at, has_live_child, is_synched}
+use Rattle.cilk_model.specs.State.{store_of, lock_at}
 use Rattle.cilk_model.specs.Printing.{printed}
-use Rattle.cilk_model.specs.Written.{Writes, Holding, place_of, others_of, Receives, Delivers, Gives, Heads, AtBoundary, Lets, HoldsNone, Free}
+use Rattle.cilk_model.specs.Written.{Writes, Holding, taker_place, others_of, Receives, Delivers, LeavesWith, Heads, AtBoundary, Lets, HoldsNone, Free}
 use Rattle.cilk_model.specs.Fails.{here, InFunction, InInlet, MayPass, Fails}
 
 -- i stands at p in s, and t is the state after the step
@@ -139,7 +142,7 @@ module _ (program : Labelled) (s : State) (p : Path) (i : Instance) (t : State) 
     pub still : t ≡ record s { locks = t.locks; instances = t.instances }
 
   -- a trap changes the outcome alone
-  abbrev pub Traps : ℕ → Kind → Type 0
+  abbrev pub Traps : ℕ → TrapKind → Type 0
   Traps n kind = t ≡ record s { outcome = trapped kind p n }
 
   -- nothing but p's own place in its body is changed
@@ -166,13 +169,13 @@ module _ (program : Labelled) (s : State) (p : Path) (i : Instance) (t : State) 
         → reached_if (here program s p i) what ≡ Ok reached → values_of (here program s p i) es ≡ Ok zs
         → Enters callee zs reached → Acts n (call what callee es)
     leaves_function : (act : Action) (z : ℤ) (caller : Activation) (below : List Activation) → InFunction program s p i
-        → Gives (here program s p i) act z → i.below ≡ caller ∷ below → Answers caller below z i.top.awaits → Acts n act
+        → LeavesWith (here program s p i) act z → i.below ≡ caller ∷ below → Answers caller below z i.top.awaits → Acts n act
     leaves_inlet : (act : Action) (z : ℤ) (caller : Activation) (below : List Activation) → InInlet program s p i → HoldsNone s p
-        → Gives (here program s p i) act z → i.below ≡ caller ∷ below → Resumes caller below → Acts n act
+        → LeavesWith (here program s p i) act z → i.below ≡ caller ∷ below → Resumes caller below → Acts n act
     leaves_procedure : (act : Action) (z : ℤ) → i.below ≡ [] → Free s p i
-        → Gives (here program s p i) act z → RootEnds z ⊎ ChildEnds z → Acts n act
+        → LeavesWith (here program s p i) act z → RootEnds z ⊎ ChildEnds z → Acts n act
     spawns : (taker : Taker) (callee : ℕ) (es : List (Term Declaration)) (reached : Option Reached) (zs ys : List ℤ) (receiver : Option Receiver)
-        → HoldsNone s p → reached_if (here program s p i) (place_of taker) ≡ Ok reached
+        → HoldsNone s p → reached_if (here program s p i) (taker_place taker) ≡ Ok reached
         → values_of (here program s p i) es ≡ Ok zs → values_of (here program s p i) (others_of taker) ≡ Ok ys
         → Receives n taker reached ys receiver → Births callee zs receiver → Acts n (spawn taker callee es)
     passes : MayPass program s p i → GoesBy true → Acts n sync
@@ -181,7 +184,7 @@ module _ (program : Labelled) (s : State) (p : Path) (i : Instance) (t : State) 
     prints : (format : List ℕ) (es : List (Term Declaration)) (zs : List ℤ) → values_of (here program s p i) es ≡ Ok zs
         → length s.output + length (printed format zs) ≤ 1048576 → GoesOn true
         → t ≡ record s { output = s.output ++ printed format zs; instances = t.instances } → Acts n (print format es)
-    traps : (act : Action) (kind : Kind) → Fails program s p i act kind → Traps n kind → Acts n act
+    traps : (act : Action) (kind : TrapKind) → Fails program s p i act kind → Traps n kind → Acts n act
 
   -- an inlet starts, before which the procedure stands where it stood; the mark of a spawn stays (Cilk 5.4 manual, `inlet`)
   pub record Starts (left : List Delivery) (inlet : ℕ) (arguments : List ℤ) : Type 0 where

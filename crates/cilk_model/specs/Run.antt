@@ -1,12 +1,13 @@
 -- Which choices are possible, what they do, and where a list of them leads.
-use Rattle.std.specs.Prelude.{ℕ, Bool, true, false, not, ◌&&◌, ◌||◌, ◌==◌, nat_le, if◌then◌else◌, List, [], ◌∷◌, ◌++◌, length, Option, Some, None, is_some, is_none}
-use Rattle.cilk_labelled.specs.Labelled.{Labelled}
+use Rattle.std.specs.Prelude.{ℕ, Bool, true, false, not, ◌&&◌, ◌||◌, ◌==◌, nat_le, if◌then◌else◌, List, [], ◌∷◌, ◌++◌, length, Option, Some, None}
+use Rattle.std.specs.Prelude.{is_some, is_none}
+use Rattle.cilk_model_labels.specs.Labelled.{Labelled}
 use Rattle.cilk_model.specs.Path.{Path}
 use Rattle.cilk_model.specs.State.{Outcome, running, finished, trapped, State, opening_state}
 use Rattle.cilk_model.specs.Event.{Event, moved}
 use Rattle.cilk_model.specs.State.{is_empty}
 use Rattle.cilk_model.specs.Pick.{Step, waits, parks, goes_on, ends, spawns, step_of}
-use Rattle.cilk_model.specs.Scheduler.{Place, Scheduler, hand_of, deque_of, popped, stolen, after_step, opening_scheduler}
+use Rattle.cilk_model.specs.Scheduler.{Worker, Scheduler, hand_of, deque_of, popped, stolen, after_step, opening_scheduler}
 use Rattle.cilk_model.specs.Choice.{Act, step, pop, steal, Choice, Refusal, over, no_worker, hand_empty, busy, deque_empty, waiting}
 
 -- the state of the program, and where its instances are
@@ -20,7 +21,7 @@ is_running (finished z) = false
 is_running (trapped kind path n) = false
 
 -- whether there is a worker of this number
-abbrev pub is_worker : List Place → ℕ → Bool
+abbrev pub is_worker : List Worker → ℕ → Bool
 is_worker places w = nat_le 1 w && nat_le w (length places)
 
 abbrev pub waits_now : Step → Option Refusal
@@ -34,13 +35,13 @@ abbrev pub step_refusal : Labelled → State → Option Path → Option Refusal
 step_refusal program s None = Some hand_empty
 step_refusal program s (Some p) = waits_now (step_of program s p)
 
-abbrev pub pop_refusal : List Place → ℕ → Option Refusal
+abbrev pub pop_refusal : List Worker → ℕ → Option Refusal
 pop_refusal places w =
     if is_some (hand_of places w) then Some busy
     else (if is_empty (deque_of places w) then Some deque_empty
     else None)
 
-abbrev pub steal_refusal : List Place → ℕ → ℕ → Option Refusal
+abbrev pub steal_refusal : List Worker → ℕ → ℕ → Option Refusal
 steal_refusal places w v =
     if not (is_worker places v) || (v == w) then Some no_worker
     else (if is_some (hand_of places w) || not (is_empty (deque_of places w)) then Some busy

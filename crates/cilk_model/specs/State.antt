@@ -1,24 +1,25 @@
 -- The state of a program that runs.
-use Rattle.std.specs.Prelude.{ℕ, ℤ, Bool, true, false, not, ◌&&◌, slice_index_or, List, [], ◌∷◌, map, replicate, length, Option, Some, None, is_some, if◌then◌else◌, filter}
+use Rattle.std.specs.Prelude.{ℕ, ℤ, Bool, true, false, not, ◌&&◌, slice_index_or, List, [], ◌∷◌, map, replicate, length, Option, Some, None, is_some}
+use Rattle.std.specs.Prelude.{if◌then◌else◌, filter}
 use Rattle.std.specs.List.{list_any}
-use Rattle.cilk_labelled.specs.values.declared.trap.Trap.{Trap}
-use Rattle.cilk_labelled.specs.Labelled.{Labelled}
+use Rattle.cilk_model_labels.specs.declared.trap.Trap.{Trap}
+use Rattle.cilk_model_labels.specs.Labelled.{Labelled}
 use Rattle.cilk_model.specs.Values.{Values, Store, initial_values}
 use Rattle.cilk_model.specs.Path.{Path, same_path, is_child}
 use Rattle.cilk_model.specs.Instance.{Instance, started, outer_values}
 
 -- why a program is stopped
-pub data Kind : Type 0 where
+pub data TrapKind : Type 0 where
   -- an expression has no value (C 1990, 6.3)
-  of_value : (trap : Trap) → Kind
+  of_value : (trap : Trap) → TrapKind
   -- a lock is taken or let go by one that may not (Cilk 5.4 manual, `Cilk_lock`)
-  lock : Kind
+  lock : TrapKind
   -- a lock is held where a Cilk thread ends
-  held_lock : Kind
+  held_lock : TrapKind
   -- too many activations of one instance, live instances, bytes of output
-  depth : Kind
-  instances : Kind
-  output : Kind
+  depth : TrapKind
+  instances : TrapKind
+  output : TrapKind
 
 -- how the program stands
 pub data Outcome : Type 0 where
@@ -26,7 +27,7 @@ pub data Outcome : Type 0 where
   -- the root's value (C 1990, 5.1.2.2.3)
   finished : (value : ℤ) → Outcome
   -- the instance that met the trap, and the number of its action
-  trapped : (kind : Kind) (path : Path) (n : ℕ) → Outcome
+  trapped : (kind : TrapKind) (path : Path) (n : ℕ) → Outcome
 
 -- a lock (Cilk 5.4 manual, `Cilk_lockvar`)
 pub data Lock : Type 0 where

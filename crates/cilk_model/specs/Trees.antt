@@ -1,12 +1,13 @@
 -- Worked programs.
 use Rattle.std.specs.Prelude.{ℕ, true, List, [], ◌∷◌, Option, Some, None, codes}
-use Rattle.cilk_labelled.specs.syntax.declared.operator.BinOp.TheVariants.{Add, Less, Equal}
-use Rattle.cilk_labelled.specs.syntax.declared.adjustment.Adjustment.TheVariants.{Increment}
-use Rattle.cilk_labelled.specs.syntax.declared.lock_action.LockAction.TheVariants.{Init, Lock, Unlock}
-use Rattle.cilk_labelled.specs.syntax.declared.return_type.ReturnType.{ReturnType}
-use Rattle.cilk_labelled.specs.syntax.declared.return_type.ReturnType.TheVariants.{Int, Void}
-use Rattle.cilk_labelled.specs.syntax.Tree as tree
-use Rattle.cilk_labelled.specs.syntax.Tree.{Word, Expr, number, named, binary, Target, Place, Local, declared, inlet_at, Stmt, stmts_of, locals_of, Block, block, Item, Program}
+use Rattle.cilk_model_labels.specs.syntax.declared.operator.BinOp.TheVariants.{Add, Less, Equal}
+use Rattle.cilk_model_labels.specs.syntax.declared.adjustment.Adjustment.TheVariants.{Increment}
+use Rattle.cilk_model_labels.specs.syntax.declared.lock_action.LockAction.TheVariants.{Init, Lock, Unlock}
+use Rattle.cilk_model_labels.specs.syntax.declared.return_type.ReturnType.{ReturnType}
+use Rattle.cilk_model_labels.specs.syntax.declared.return_type.ReturnType.TheVariants.{Int, Void}
+use Rattle.cilk_model_labels.specs.syntax.Tree as tree
+use Rattle.cilk_model_labels.specs.syntax.Tree.{Word, Expr, number, named, binary, Target, Place, Local, declared, inlet_at, Stmt, stmts_of}
+use Rattle.cilk_model_labels.specs.syntax.Tree.{locals_of, Block, block, Item, Program}
 
 abbrev pub word : List ℕ → Word
 word text = record { text = text; place = 0 }
@@ -78,7 +79,8 @@ unlocks text = tree.locking Unlock (word text)
 abbrev pub inits : List ℕ → Stmt
 inits text = tree.locking Init (word text)
 
--- Cilk_lockvar l; int g; cilk void add(void) { Cilk_lock(l); g++; Cilk_unlock(l); } cilk int main(void) { Cilk_lock_init(l); spawn add(); spawn add(); sync; return g; }
+-- Cilk_lockvar l; int g; cilk void add(void) { Cilk_lock(l); g++; Cilk_unlock(l); } cilk int main(void) { Cilk_lock_init(l); spawn add();
+-- spawn add(); sync; return g; }
 abbrev pub adding : Program
 adding = program (tree.lock (word (codes "l")) ∷ global (codes "g")
     ∷ procedure Void (codes "add") [] []

@@ -1,9 +1,9 @@
 -- Words of the written rule: what is written, what waits, what is let go.
 use Rattle.std.specs.Prelude.{◌≡◌, ◌≢◌, ℕ, ℤ, pos, true, false, List, [], ◌∷◌, Option, Some, None, option_map, Ok, slice_get}
-use Rattle.cilk_labelled.specs.values.Term.{Term}
-use Rattle.cilk_labelled.specs.values.Value.{Environment, value_of}
-use Rattle.cilk_labelled.specs.Labelled.{Declaration, Into, Taker, nothing, into, through, Action, sync, return_with, return_nothing, close}
-use Rattle.cilk_labelled.specs.Items.{head_of}
+use Rattle.cilk_model_labels.specs.Term.{Term}
+use Rattle.cilk_model_labels.specs.Value.{Environment, value_of}
+use Rattle.cilk_model_labels.specs.Labelled.{Declaration, Into, Taker, nothing, into, through, Action, sync, return_with, return_nothing, close}
+use Rattle.cilk_model_labels.specs.Items.{head_of}
 use Rattle.cilk_model.specs.Values.{Values, Store, Cell, Reached, cells_of}
 use Rattle.cilk_model.specs.Path.{Path}
 use Rattle.cilk_model.specs.Instance as instance
@@ -26,10 +26,10 @@ pub data Holding (values : Values) : List Activation → List Activation → Typ
   above : (a b : Activation) (below after : List Activation) → Holding values (b ∷ below) after → Holding values (a ∷ b ∷ below) (a ∷ after)
 
 -- what the place of a taker is, and what its inlet is given behind the value (Cilk 5.4 manual, `spawn`, `inlet`)
-abbrev pub place_of : Taker → Option Into
-place_of nothing = None
-place_of (into what) = Some what
-place_of (through inlet others) = None
+abbrev pub taker_place : Taker → Option Into
+taker_place nothing = None
+taker_place (into what) = Some what
+taker_place (through inlet others) = None
 
 abbrev pub others_of : Taker → List (Term Declaration)
 others_of nothing = []
@@ -61,10 +61,10 @@ pub data Waits : Action → Type 0 where
   to_leave : (act : Action) → Leaves act → Waits act
 
 -- the value with which a body is left: 0 where none is written (C 1990, 6.6.6.4)
-pub data Gives (env : Environment Declaration) : Action → ℤ → Type 0 where
-  gives_value : (e : Term Declaration) (z : ℤ) → value_of env e ≡ Ok z → Gives env (return_with e) z
-  gives_nothing : Gives env return_nothing (pos 0)
-  gives_brace : Gives env close (pos 0)
+pub data LeavesWith (env : Environment Declaration) : Action → ℤ → Type 0 where
+  gives_value : (e : Term Declaration) (z : ℤ) → value_of env e ≡ Ok z → LeavesWith env (return_with e) z
+  gives_nothing : LeavesWith env return_nothing (pos 0)
+  gives_brace : LeavesWith env close (pos 0)
 
 -- action n is the head of the top activation
 abbrev pub Heads : Instance → ℕ → Action → Type 0

@@ -5,7 +5,8 @@ ghost use Rattle.cilk_model.specs.State as state;
 ghost use Rattle.cilk_model.specs.Choice as choice;
 ghost use Rattle.cilk_model.specs.Fate as fate;
 ghost use Rattle.cilk_model.specs.Trees.{counting, first_of_two, adding, holding, asking, crossing, summing};
-ghost use Rattle.cilk_model.specs.Programs.{doubling, passing, descending, filling, overrunning, reading_late, rounding, marking, printing, locks_twice, locks_unset};
+ghost use Rattle.cilk_model.specs.Programs.{doubling, passing, descending, filling, overrunning, reading_late, rounding, marking, printing};
+ghost use Rattle.cilk_model.specs.Programs.{locks_twice, locks_unset};
 ghost use Rattle.cilk_model.specs.Rows.{s, p, t, steps, outcome_of, closing_of, refusal_then, fate_after, front, stops, both, woken, marks};
 
 /// Small programs in one thread, and two children that count at once.

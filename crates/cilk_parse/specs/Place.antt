@@ -1,6 +1,6 @@
 -- Where a fault of a text is.
 use Rattle.std.specs.Prelude.{ℕ}
-use Rattle.cilk_grammar.specs.lexeme.Lexeme.{place_of as lex_place}
+use Rattle.cilk_lex.specs.lexeme.Lexeme.{place_of as lex_place}
 use Rattle.cilk_parse.specs.declared.fault.ReadFault.{ReadFault}
 use Rattle.cilk_parse.specs.declared.fault.ReadFault.TheVariants as fault
 

@@ -1,14 +1,14 @@
 -- Which program a text spells, and where a text that spells none goes wrong.
 use Rattle.std.specs.Prelude.{◌≡◌, ◌≢◌, ℕ, ◌≤◌, true, List, length}
-use Rattle.cilk_grammar.specs.lexeme.declared.fault.LexFault.{LexFault}
-use Rattle.cilk_grammar.specs.lexeme.declared.fault.LexFault.TheVariants as lex
-use Rattle.cilk_grammar.specs.lexeme.Lexeme.{Piece}
-use Rattle.cilk_grammar.specs.lexeme.Lexing.{Lexes, text_limit}
+use Rattle.cilk_lex.specs.lexeme.declared.fault.LexFault.{LexFault}
+use Rattle.cilk_lex.specs.lexeme.declared.fault.LexFault.TheVariants as lex
+use Rattle.cilk_lex.specs.lexeme.Lexeme.{Piece}
+use Rattle.cilk_lex.specs.lexeme.Lexing.{Lexes, text_limit}
 use Rattle.cilk_lex.specs.Reading.{Refuses}
-use Rattle.cilk_grammar.specs.syntax.Tree.{Program}
-use Rattle.cilk_grammar.specs.expression.Grammar.{operator_limit, parenthesis_limit}
-use Rattle.cilk_grammar.specs.Fault.{IsNotGoingOn, any_limits, the_limits}
-use Rattle.cilk_grammar.specs.Spelling.{SpellsProgram, nesting_limit}
+use Rattle.cilk_parse_grammar.specs.syntax.Tree.{Program}
+use Rattle.cilk_parse_grammar.specs.Expressions.{operator_limit, parenthesis_limit}
+use Rattle.cilk_parse_grammar.specs.Fault.{IsNotGoingOn, any_limits, the_limits}
+use Rattle.cilk_parse_grammar.specs.Spelling.{SpellsProgram, nesting_limit}
 use Rattle.cilk_parse.specs.declared.fault.ReadFault.{ReadFault}
 use Rattle.cilk_parse.specs.declared.fault.ReadFault.TheVariants as fault
 

@@ -1,9 +1,9 @@
 -- What stands behind the name of a function, as the rules of the grammar have it.
 use Rattle.std.specs.Prelude.{suc, false, List, [], ◌∷◌, length, map}
-use Rattle.cilk_grammar.specs.syntax.Tree as tree
-use Rattle.cilk_grammar.specs.syntax.ProgramView.{parameters_of, global_shape_of}
-use Rattle.cilk_grammar.specs.syntax.declared.return_type.ReturnType.TheVariants as returns
-use Rattle.cilk_grammar.specs.Grammar as grammar
+use Rattle.cilk_parse_grammar.specs.syntax.Tree as tree
+use Rattle.cilk_parse_grammar.specs.syntax.ProgramView.{parameters_of, global_shape_of}
+use Rattle.cilk_parse_grammar.specs.syntax.declared.return_type.ReturnType.TheVariants as returns
+use Rattle.cilk_parse_grammar.specs.Grammar as grammar
 use Rattle.cilk_parse.specs.declared.int_tail.IntTail.{IntTail}
 use Rattle.cilk_parse.specs.declared.int_tail.IntTail.TheVariants as ints
 use Rattle.cilk_parse.specs.declared.main_tail.MainTail.{MainTail}

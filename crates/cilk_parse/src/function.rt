@@ -1,25 +1,25 @@
 //! How a function is read behind its name: its parameters, and its body if it is defined.
 
 ghost use Rattle.std.specs.Prelude.{◌≡◌};
-ghost use Rattle.cilk_rules.specs.Gives.{Gives};
-ghost use Rattle.cilk_grammar.specs.Grammar.{int_tail, empty_tail, tail};
-ghost use Rattle.cilk_grammar.specs.Spelling.{nesting_limit};
-ghost use Rattle.cilk_reader.specs.Limits.{read_in};
+ghost use Rattle.cilk_parse_rules.specs.ReadsAs.{ReadsAs};
+ghost use Rattle.cilk_parse_grammar.specs.Grammar.{int_tail, empty_tail, tail};
+ghost use Rattle.cilk_parse_grammar.specs.Spelling.{nesting_limit};
+ghost use Rattle.cilk_parse_statements.specs.Limits.{read_in};
 ghost use Rattle.cilk_parse.specs.Views.{tail_of};
 
 use crate::kinds::{all_named, kinds, named_of};
 use crate::tail::Tail;
-use cilk_grammar::{Cursor, Keyword, Mark, Parameters};
-use cilk_reader::block;
-use cilk_rules::ReadError;
+use cilk_parse_grammar::{Cursor, Keyword, Mark, Parameters};
+use cilk_parse_rules::ReadError;
+use cilk_parse_statements::block;
 
 /// So many statements and inlets may stand in one another.
 pub const NESTING_LIMIT: u32 = 201;
 
 // Behind `(` and `int`: the parameters of a function, and its body if it is defined (C 1990, 6.5.4.3, 6.7.1).
-#[tactic(auto, unfolding(cilk_grammar::specs::Spelling::read_at))]
+#[tactic(auto, unfolding(cilk_parse_grammar::specs::Spelling::read_at))]
 fn int_tail(cursor: &mut Cursor) -> Result<Tail, ReadError>
-    ensures { Gives (λ t. (tail_of t, cursor.new.pieces)) result (read_in nesting_limit int_tail cursor.old.pieces) }
+    ensures { ReadsAs (λ t. (tail_of t, cursor.new.pieces)) result (read_in nesting_limit int_tail cursor.old.pieces) }
 {
     let kinds = kinds(cursor)?;
     if all_named(&kinds) && !cursor.is_mark(Mark::Semicolon) {
@@ -32,9 +32,9 @@ fn int_tail(cursor: &mut Cursor) -> Result<Tail, ReadError>
 }
 
 /// Behind the parameters of a function that has none: its body, if it is defined.
-#[tactic(auto, unfolding(cilk_grammar::specs::Spelling::read_at))]
+#[tactic(auto, unfolding(cilk_parse_grammar::specs::Spelling::read_at))]
 pub fn empty_tail(cursor: &mut Cursor) -> Result<Tail, ReadError>
-    ensures { Gives (λ t. (tail_of t, cursor.new.pieces)) result (read_in nesting_limit empty_tail cursor.old.pieces) }
+    ensures { ReadsAs (λ t. (tail_of t, cursor.new.pieces)) result (read_in nesting_limit empty_tail cursor.old.pieces) }
 {
     cursor.mark(Mark::CloseParenthesis)?;
     if cursor.is_mark(Mark::Semicolon) {
@@ -47,9 +47,9 @@ pub fn empty_tail(cursor: &mut Cursor) -> Result<Tail, ReadError>
 }
 
 /// Behind the name of a function (C 1990, 6.5.4.3, 6.7.1).
-#[tactic(auto, unfolding(cilk_grammar::specs::Spelling::read_at))]
+#[tactic(auto, unfolding(cilk_parse_grammar::specs::Spelling::read_at))]
 pub fn function_tail(cursor: &mut Cursor) -> Result<Tail, ReadError>
-    ensures { Gives (λ t. (tail_of t, cursor.new.pieces)) result (read_in nesting_limit tail cursor.old.pieces) }
+    ensures { ReadsAs (λ t. (tail_of t, cursor.new.pieces)) result (read_in nesting_limit tail cursor.old.pieces) }
 {
     cursor.mark(Mark::OpenParenthesis)?;
     if cursor.is_mark(Mark::CloseParenthesis) {

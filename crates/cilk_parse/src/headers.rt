@@ -1,28 +1,28 @@
 //! How the inclusions at the head of a program are read.
 
 ghost use Rattle.std.specs.Prelude.{◌≡◌};
-ghost use Rattle.cilk_rules.specs.Gives.{Gives};
-ghost use Rattle.cilk_rules.specs.Rule.{is, class_at, part, many};
-ghost use Rattle.cilk_grammar.specs.expression.Classes.{cls, an_inclusion};
-ghost use Rattle.cilk_grammar.specs.Parts.{token, the_header};
-ghost use Rattle.cilk_grammar.specs.Spelling.{nesting_limit};
-ghost use Rattle.cilk_reader.specs.Limits.{read_in};
+ghost use Rattle.cilk_parse_rules.specs.ReadsAs.{ReadsAs};
+ghost use Rattle.cilk_parse_rules.specs.Rule.{is, class_at, part, many};
+ghost use Rattle.cilk_parse_grammar.specs.Classes.{cls, an_inclusion};
+ghost use Rattle.cilk_parse_grammar.specs.Parts.{token, the_header};
+ghost use Rattle.cilk_parse_grammar.specs.Spelling.{nesting_limit};
+ghost use Rattle.cilk_parse_statements.specs.Limits.{read_in};
 
-use cilk_grammar::{Cursor, Header};
-use cilk_lex::Kind;
-use cilk_reader::header;
-use cilk_rules::ReadError;
+use cilk_lex::TokenKind;
+use cilk_parse_grammar::{Cursor, Header};
+use cilk_parse_rules::ReadError;
+use cilk_parse_statements::header;
 
 // Whether the next token includes a header.
 fn is_inclusion(cursor: &Cursor) -> bool
     ensures { result ≡ is an_inclusion (class_at cls cursor.now.pieces) }
 {
-    matches!(cursor.kind(), Some(Kind::Include(_)))
+    matches!(cursor.kind(), Some(TokenKind::Include(_)))
 }
 
 /// The headers that are included, in order (C 1990, 6.8.2).
 pub fn headers(cursor: &mut Cursor) -> Result<Vec<Header>, ReadError>
-    ensures { Gives (λ v. (v.items, cursor.new.pieces)) result
+    ensures { ReadsAs (λ v. (v.items, cursor.new.pieces)) result
         (read_in nesting_limit (many (part (token the_header))) cursor.old.pieces) }
 {
     let mut headers = Vec::new(cursor.alloc());

@@ -1,30 +1,30 @@
 //! How a procedure, a function, or variables of the top level are read, from their first word on.
 
 ghost use Rattle.std.specs.Prelude.{◌≡◌, ◌∷◌, [], true, false};
-ghost use Rattle.cilk_rules.specs.Gives.{Gives};
-ghost use Rattle.cilk_grammar.specs.expression.Classes.{the_main, names};
-ghost use Rattle.cilk_grammar.specs.Grammar.{names_but_main, headed, tail, main_tail, function, globals, cilk_item, int_item, void_item};
-ghost use Rattle.cilk_rules.specs.Rule.{and_then, either, done};
-ghost use Rattle.cilk_grammar.specs.lexeme.declared.keyword.Keyword.TheVariants as key;
-ghost use Rattle.cilk_grammar.specs.syntax.declared.return_type.ReturnType.TheVariants as returns;
+ghost use Rattle.cilk_parse_rules.specs.ReadsAs.{ReadsAs};
+ghost use Rattle.cilk_parse_grammar.specs.Classes.{the_main, names};
+ghost use Rattle.cilk_parse_grammar.specs.Grammar.{names_but_main, headed, tail, main_tail, function, globals, cilk_item, int_item, void_item};
+ghost use Rattle.cilk_parse_rules.specs.Rule.{and_then, either, done};
+ghost use Rattle.cilk_lex.specs.lexeme.declared.keyword.Keyword.TheVariants as key;
+ghost use Rattle.cilk_parse_grammar.specs.syntax.declared.return_type.ReturnType.TheVariants as returns;
 ghost use Rattle.cilk_parse.specs.Views.{int_tail_of};
-ghost use Rattle.cilk_grammar.specs.Forms.{word};
-ghost use Rattle.cilk_grammar.specs.Parts.{the_name};
-ghost use Rattle.cilk_grammar.specs.Spelling.{leaf_at, nesting_limit};
-ghost use Rattle.cilk_reader.specs.Limits.{read_in};
+ghost use Rattle.cilk_parse_grammar.specs.Forms.{word};
+ghost use Rattle.cilk_parse_grammar.specs.Parts.{the_name};
+ghost use Rattle.cilk_parse_grammar.specs.Spelling.{leaf_at, nesting_limit};
+ghost use Rattle.cilk_parse_statements.specs.Limits.{read_in};
 
 use crate::function::function_tail;
 use crate::int_tail::{IntTail, one};
 use crate::main_function::of_main;
 use crate::variable::{behind_commas, shape};
-use cilk_grammar::{Cursor, Item, Keyword, Mark, NameClass, ReturnType, Word};
-use cilk_reader::{is_class, name};
-use cilk_rules::ReadError;
+use cilk_parse_grammar::{Cursor, Item, Keyword, Mark, NameClass, ReturnType, Word};
+use cilk_parse_rules::ReadError;
+use cilk_parse_statements::{is_class, name};
 
 // The name `main`.
-#[tactic(auto, using(cilk_reader::proofs::Tokens::some_name))]
+#[tactic(auto, using(cilk_parse_statements::proofs::Tokens::some_name))]
 fn main_name(cursor: &mut Cursor) -> Result<Word, ReadError>
-    ensures { Gives (λ w. (w, cursor.new.pieces)) result (leaf_at (the_name (the_main ∷ [])) cursor.old.pieces) }
+    ensures { ReadsAs (λ w. (w, cursor.new.pieces)) result (leaf_at (the_name (the_main ∷ [])) cursor.old.pieces) }
 {
     if !is_class(cursor, NameClass::Main) {
         return Err(cursor.unexpected());
@@ -35,7 +35,7 @@ fn main_name(cursor: &mut Cursor) -> Result<Word, ReadError>
 // A name that is not `main`.
 #[tactic(auto, using(crate::proofs::Names::not_main, crate::proofs::Names::but_main))]
 fn name_but_main(cursor: &mut Cursor) -> Result<Word, ReadError>
-    ensures { Gives (λ w. (w, cursor.new.pieces)) result (leaf_at (the_name names_but_main) cursor.old.pieces) }
+    ensures { ReadsAs (λ w. (w, cursor.new.pieces)) result (leaf_at (the_name names_but_main) cursor.old.pieces) }
 {
     if is_class(cursor, NameClass::Main) {
         return Err(cursor.unexpected());
@@ -44,9 +44,9 @@ fn name_but_main(cursor: &mut Cursor) -> Result<Word, ReadError>
 }
 
 // A Cilk procedure that returns nothing (Cilk 5.4 manual, `cilk`).
-#[tactic(auto, unfolding(cilk_grammar::specs::Spelling::read_at))]
+#[tactic(auto, unfolding(cilk_parse_grammar::specs::Spelling::read_at))]
 fn void_procedure(cursor: &mut Cursor) -> Result<Vec<Item>, ReadError>
-    ensures { Gives (λ v. (v.items, cursor.new.pieces)) result
+    ensures { ReadsAs (λ v. (v.items, cursor.new.pieces)) result
         (read_in nesting_limit (word key.Void (headed true returns.Void names tail)) cursor.old.pieces) }
 {
     cursor.keyword(Keyword::Void)?;
@@ -56,9 +56,9 @@ fn void_procedure(cursor: &mut Cursor) -> Result<Vec<Item>, ReadError>
 }
 
 // A Cilk procedure that returns an `int` (Cilk 5.4 manual, `cilk`).
-#[tactic(auto, unfolding(cilk_grammar::specs::Spelling::read_at))]
+#[tactic(auto, unfolding(cilk_parse_grammar::specs::Spelling::read_at))]
 fn int_procedure(cursor: &mut Cursor) -> Result<Vec<Item>, ReadError>
-    ensures { Gives (λ v. (v.items, cursor.new.pieces)) result
+    ensures { ReadsAs (λ v. (v.items, cursor.new.pieces)) result
         (read_in nesting_limit (word key.Int (either (headed true returns.Int (the_main ∷ []) main_tail)
         (headed true returns.Int names_but_main tail))) cursor.old.pieces) }
 {
@@ -74,9 +74,9 @@ fn int_procedure(cursor: &mut Cursor) -> Result<Vec<Item>, ReadError>
 }
 
 /// A Cilk procedure (Cilk 5.4 manual, `cilk`).
-#[tactic(auto, unfolding(cilk_grammar::specs::Spelling::read_at))]
+#[tactic(auto, unfolding(cilk_parse_grammar::specs::Spelling::read_at))]
 pub fn procedure(cursor: &mut Cursor) -> Result<Vec<Item>, ReadError>
-    ensures { Gives (λ v. (v.items, cursor.new.pieces)) result
+    ensures { ReadsAs (λ v. (v.items, cursor.new.pieces)) result
         (read_in nesting_limit cilk_item cursor.old.pieces) }
 {
     cursor.keyword(Keyword::Cilk)?;
@@ -87,9 +87,9 @@ pub fn procedure(cursor: &mut Cursor) -> Result<Vec<Item>, ReadError>
 }
 
 /// A C function that returns nothing (C 1990, 6.7.1).
-#[tactic(auto, unfolding(cilk_grammar::specs::Spelling::read_at))]
+#[tactic(auto, unfolding(cilk_parse_grammar::specs::Spelling::read_at))]
 pub fn void_function(cursor: &mut Cursor) -> Result<Vec<Item>, ReadError>
-    ensures { Gives (λ v. (v.items, cursor.new.pieces)) result (read_in nesting_limit void_item cursor.old.pieces) }
+    ensures { ReadsAs (λ v. (v.items, cursor.new.pieces)) result (read_in nesting_limit void_item cursor.old.pieces) }
 {
     cursor.keyword(Keyword::Void)?;
     let name = name(cursor)?;
@@ -98,9 +98,9 @@ pub fn void_function(cursor: &mut Cursor) -> Result<Vec<Item>, ReadError>
 }
 
 // Behind the name of a variable or array, with those that are declared together with it (C 1990, 6.7.2).
-#[tactic(auto, unfolding(cilk_grammar::specs::Spelling::read_at))]
+#[tactic(auto, unfolding(cilk_parse_grammar::specs::Spelling::read_at))]
 fn variables(cursor: &mut Cursor) -> Result<IntTail, ReadError>
-    ensures { Gives (λ t. (int_tail_of t, cursor.new.pieces)) result
+    ensures { ReadsAs (λ t. (int_tail_of t, cursor.new.pieces)) result
         (read_in nesting_limit globals cursor.old.pieces) }
 {
     let shape = shape(cursor)?;
@@ -110,9 +110,9 @@ fn variables(cursor: &mut Cursor) -> Result<IntTail, ReadError>
 }
 
 // Behind `int` and a name.
-#[tactic(auto, unfolding(cilk_grammar::specs::Spelling::read_at))]
+#[tactic(auto, unfolding(cilk_parse_grammar::specs::Spelling::read_at))]
 fn int_tail(cursor: &mut Cursor) -> Result<IntTail, ReadError>
-    ensures { Gives (λ t. (int_tail_of t, cursor.new.pieces)) result
+    ensures { ReadsAs (λ t. (int_tail_of t, cursor.new.pieces)) result
         (read_in nesting_limit (either (and_then tail (done (λ t x. function false returns.Int t x ∷ []))) globals) cursor.old.pieces) }
 {
     if cursor.is_mark(Mark::OpenParenthesis) {
@@ -123,9 +123,9 @@ fn int_tail(cursor: &mut Cursor) -> Result<IntTail, ReadError>
 }
 
 /// A C function that returns an `int`, or variables and arrays that are declared together (C 1990, 6.7.1, 6.7.2).
-#[tactic(auto, unfolding(cilk_grammar::specs::Spelling::read_at))]
+#[tactic(auto, unfolding(cilk_parse_grammar::specs::Spelling::read_at))]
 pub fn int_item(cursor: &mut Cursor) -> Result<Vec<Item>, ReadError>
-    ensures { Gives (λ v. (v.items, cursor.new.pieces)) result (read_in nesting_limit int_item cursor.old.pieces) }
+    ensures { ReadsAs (λ v. (v.items, cursor.new.pieces)) result (read_in nesting_limit int_item cursor.old.pieces) }
 {
     cursor.keyword(Keyword::Int)?;
     let name = name(cursor)?;

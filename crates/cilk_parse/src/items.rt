@@ -1,17 +1,17 @@
 //! How all items of a program are read, and with which tokens one begins.
 
 ghost use Rattle.std.specs.Prelude.{◌≡◌, MatchResult};
-ghost use Rattle.cilk_rules.specs.Gives.{Gives, Fails};
-ghost use Rattle.cilk_rules.specs.Rule.{many, first, has, class_at};
-ghost use Rattle.cilk_grammar.specs.expression.Classes.{cls};
-ghost use Rattle.cilk_grammar.specs.Grammar.{item};
-ghost use Rattle.cilk_grammar.specs.Spelling.{first_of, nesting_limit};
-ghost use Rattle.cilk_reader.specs.Limits.{read_in, Joins};
+ghost use Rattle.cilk_parse_rules.specs.ReadsAs.{ReadsAs, Fails};
+ghost use Rattle.cilk_parse_rules.specs.Rule.{many, first, has, class_at};
+ghost use Rattle.cilk_parse_grammar.specs.Classes.{cls};
+ghost use Rattle.cilk_parse_grammar.specs.Grammar.{item};
+ghost use Rattle.cilk_parse_grammar.specs.Spelling.{first_of, nesting_limit};
+ghost use Rattle.cilk_parse_statements.specs.Limits.{read_in, Joins};
 
 use crate::item::{int_item, procedure, void_function};
 use crate::lock::locks;
-use cilk_grammar::{Cursor, Item, Keyword};
-use cilk_rules::ReadError;
+use cilk_parse_grammar::{Cursor, Item, Keyword};
+use cilk_parse_rules::ReadError;
 
 // Whether an item begins with the next token.
 fn begins_item(cursor: &Cursor) -> bool
@@ -24,9 +24,9 @@ fn begins_item(cursor: &Cursor) -> bool
 }
 
 // What is declared or defined together at the top level (C 1990, 6.7; Cilk 5.4 manual, `cilk`, locks).
-#[tactic(auto, unfolding(cilk_grammar::specs::Spelling::read_at))]
+#[tactic(auto, unfolding(cilk_parse_grammar::specs::Spelling::read_at))]
 fn any_item(cursor: &mut Cursor) -> Result<Vec<Item>, ReadError>
-    ensures { Gives (λ v. (v.items, cursor.new.pieces)) result (read_in nesting_limit item cursor.old.pieces) }
+    ensures { ReadsAs (λ v. (v.items, cursor.new.pieces)) result (read_in nesting_limit item cursor.old.pieces) }
 {
     if cursor.is_keyword(Keyword::Cilk) {
         return procedure(cursor);

@@ -1,23 +1,23 @@
 //! How the parameters of a prototype or a definition are read, with or without names.
 
 ghost use Rattle.std.specs.Prelude.{◌≡◌, MatchResult};
-ghost use Rattle.cilk_grammar.specs.lexeme.declared.keyword.Keyword.TheVariants.{Int};
-ghost use Rattle.cilk_grammar.specs.lexeme.declared.mark.Mark.TheVariants.{Comma};
-ghost use Rattle.cilk_rules.specs.Gives.{Gives, onto};
-ghost use Rattle.cilk_grammar.specs.Forms.{word, mark, optional, behind_commas};
-ghost use Rattle.cilk_grammar.specs.Grammar.{name, kinds, all_named, named_of};
-ghost use Rattle.cilk_grammar.specs.Spelling.{nesting_limit};
-ghost use Rattle.cilk_reader.specs.Limits.{read_in};
+ghost use Rattle.cilk_lex.specs.lexeme.declared.keyword.Keyword.TheVariants.{Int};
+ghost use Rattle.cilk_lex.specs.lexeme.declared.mark.Mark.TheVariants.{Comma};
+ghost use Rattle.cilk_parse_rules.specs.ReadsAs.{ReadsAs, onto};
+ghost use Rattle.cilk_parse_grammar.specs.Forms.{word, mark, optional, behind_commas};
+ghost use Rattle.cilk_parse_grammar.specs.Grammar.{name, kinds, all_named, named_of};
+ghost use Rattle.cilk_parse_grammar.specs.Spelling.{nesting_limit};
+ghost use Rattle.cilk_parse_statements.specs.Limits.{read_in};
 
-use cilk_grammar::{Cursor, Keyword, Mark, Word};
-use cilk_reader::{is_name, name};
-use cilk_rules::ReadError;
+use cilk_parse_grammar::{Cursor, Keyword, Mark, Word};
+use cilk_parse_rules::ReadError;
+use cilk_parse_statements::{is_name, name};
 use std::alloc::Global;
 
 // A name, if there is one.
-#[tactic(auto, unfolding(cilk_grammar::specs::Spelling::read_at))]
+#[tactic(auto, unfolding(cilk_parse_grammar::specs::Spelling::read_at))]
 fn optional_name(cursor: &mut Cursor) -> Result<Option<Word>, ReadError>
-    ensures { Gives (λ w. (w, cursor.new.pieces)) result (read_in nesting_limit (optional name) cursor.old.pieces) }
+    ensures { ReadsAs (λ w. (w, cursor.new.pieces)) result (read_in nesting_limit (optional name) cursor.old.pieces) }
 {
     if !is_name(cursor) {
         return Ok(None);
@@ -27,9 +27,9 @@ fn optional_name(cursor: &mut Cursor) -> Result<Option<Word>, ReadError>
 }
 
 // A comma, `int` and the name of a parameter, if it has one.
-#[tactic(auto, unfolding(cilk_grammar::specs::Spelling::read_at))]
+#[tactic(auto, unfolding(cilk_parse_grammar::specs::Spelling::read_at))]
 fn next_kind(cursor: &mut Cursor) -> Result<Option<Word>, ReadError>
-    ensures { Gives (λ w. (w, cursor.new.pieces)) result (read_in nesting_limit (mark Comma (word Int (optional name))) cursor.old.pieces) }
+    ensures { ReadsAs (λ w. (w, cursor.new.pieces)) result (read_in nesting_limit (mark Comma (word Int (optional name))) cursor.old.pieces) }
 {
     cursor.mark(Mark::Comma)?;
     cursor.keyword(Keyword::Int)?;
@@ -41,7 +41,7 @@ fn more_kinds(
     cursor: &mut Cursor,
     mut names: Vec<Option<Word>>,
 ) -> Result<Vec<Option<Word>>, ReadError>
-    ensures { Gives (λ v. (v.items, cursor.new.pieces)) result
+    ensures { ReadsAs (λ v. (v.items, cursor.new.pieces)) result
         (onto names.items (read_in nesting_limit (behind_commas (word Int (optional name))) cursor.old.pieces)) }
 {
     'each: while cursor.is_mark(Mark::Comma) {
@@ -52,9 +52,9 @@ fn more_kinds(
 }
 
 /// Behind the first `int`: the names that the parameters have, and the end of these (C 1990, 6.5.4.3).
-#[tactic(auto, unfolding(cilk_grammar::specs::Spelling::read_at, cilk_rules::specs::Gives::onto))]
+#[tactic(auto, unfolding(cilk_parse_grammar::specs::Spelling::read_at, cilk_parse_rules::specs::ReadsAs::onto))]
 pub fn kinds(cursor: &mut Cursor) -> Result<Vec<Option<Word>>, ReadError>
-    ensures { Gives (λ v. (v.items, cursor.new.pieces)) result (read_in nesting_limit kinds cursor.old.pieces) }
+    ensures { ReadsAs (λ v. (v.items, cursor.new.pieces)) result (read_in nesting_limit kinds cursor.old.pieces) }
 {
     let mut all = Vec::new(cursor.alloc());
     let first = optional_name(cursor)?;

@@ -1,23 +1,23 @@
 //! How declarations of locks are read.
 
 ghost use Rattle.std.specs.Prelude.{◌≡◌, map, MatchResult};
-ghost use Rattle.cilk_grammar.specs.lexeme.declared.mark.Mark.TheVariants.{Comma};
-ghost use Rattle.cilk_grammar.specs.syntax.Tree as tree;
-ghost use Rattle.cilk_rules.specs.Gives.{Gives, onto};
-ghost use Rattle.cilk_grammar.specs.Forms.{mark, behind_commas, commas};
-ghost use Rattle.cilk_grammar.specs.Grammar.{name, lock_item};
-ghost use Rattle.cilk_grammar.specs.Spelling.{nesting_limit};
-ghost use Rattle.cilk_reader.specs.Limits.{read_in};
+ghost use Rattle.cilk_lex.specs.lexeme.declared.mark.Mark.TheVariants.{Comma};
+ghost use Rattle.cilk_parse_grammar.specs.syntax.Tree as tree;
+ghost use Rattle.cilk_parse_rules.specs.ReadsAs.{ReadsAs, onto};
+ghost use Rattle.cilk_parse_grammar.specs.Forms.{mark, behind_commas, commas};
+ghost use Rattle.cilk_parse_grammar.specs.Grammar.{name, lock_item};
+ghost use Rattle.cilk_parse_grammar.specs.Spelling.{nesting_limit};
+ghost use Rattle.cilk_parse_statements.specs.Limits.{read_in};
 
-use cilk_grammar::{Cursor, Item, ItemNode, Keyword, Mark, Word};
-use cilk_reader::name;
-use cilk_rules::ReadError;
+use cilk_parse_grammar::{Cursor, Item, ItemNode, Keyword, Mark, Word};
+use cilk_parse_rules::ReadError;
+use cilk_parse_statements::name;
 use std::alloc::Global;
 
 // A comma and a name.
-#[tactic(auto, unfolding(cilk_grammar::specs::Spelling::read_at))]
+#[tactic(auto, unfolding(cilk_parse_grammar::specs::Spelling::read_at))]
 fn next_name(cursor: &mut Cursor) -> Result<Word, ReadError>
-    ensures { Gives (λ w. (w, cursor.new.pieces)) result (read_in nesting_limit (mark Comma name) cursor.old.pieces) }
+    ensures { ReadsAs (λ w. (w, cursor.new.pieces)) result (read_in nesting_limit (mark Comma name) cursor.old.pieces) }
 {
     cursor.mark(Mark::Comma)?;
     name(cursor)
@@ -25,7 +25,7 @@ fn next_name(cursor: &mut Cursor) -> Result<Word, ReadError>
 
 // Behind these names all that follow, each behind a comma.
 fn more_names(cursor: &mut Cursor, mut names: Vec<Word>) -> Result<Vec<Word>, ReadError>
-    ensures { Gives (λ v. (v.items, cursor.new.pieces)) result
+    ensures { ReadsAs (λ v. (v.items, cursor.new.pieces)) result
         (onto names.items (read_in nesting_limit (behind_commas name) cursor.old.pieces)) }
 {
     'each: while cursor.is_mark(Mark::Comma) {
@@ -36,9 +36,9 @@ fn more_names(cursor: &mut Cursor, mut names: Vec<Word>) -> Result<Vec<Word>, Re
 }
 
 // One name or more, with commas between them.
-#[tactic(auto, unfolding(cilk_grammar::specs::Spelling::read_at, cilk_rules::specs::Gives::onto))]
+#[tactic(auto, unfolding(cilk_parse_grammar::specs::Spelling::read_at, cilk_parse_rules::specs::ReadsAs::onto))]
 fn names(cursor: &mut Cursor) -> Result<Vec<Word>, ReadError>
-    ensures { Gives (λ v. (v.items, cursor.new.pieces)) result (read_in nesting_limit (commas name) cursor.old.pieces) }
+    ensures { ReadsAs (λ v. (v.items, cursor.new.pieces)) result (read_in nesting_limit (commas name) cursor.old.pieces) }
 {
     let mut all = Vec::new(cursor.alloc());
     let first = name(cursor)?;
@@ -60,9 +60,9 @@ fn as_items(alloc: Global, names: Vec<Word>) -> Result<Vec<Item>, ReadError>
 }
 
 /// Locks that are declared together (Cilk 5.4 manual, locks).
-#[tactic(auto, unfolding(cilk_grammar::specs::Spelling::read_at))]
+#[tactic(auto, unfolding(cilk_parse_grammar::specs::Spelling::read_at))]
 pub fn locks(cursor: &mut Cursor) -> Result<Vec<Item>, ReadError>
-    ensures { Gives (λ v. (v.items, cursor.new.pieces)) result (read_in nesting_limit lock_item cursor.old.pieces) }
+    ensures { ReadsAs (λ v. (v.items, cursor.new.pieces)) result (read_in nesting_limit lock_item cursor.old.pieces) }
 {
     cursor.keyword(Keyword::CilkLockvar)?;
     let all = names(cursor)?;

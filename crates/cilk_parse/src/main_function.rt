@@ -1,24 +1,24 @@
 //! How the parameters and the body of `main` are read, in each of its forms.
 
 ghost use Rattle.std.specs.Prelude.{◌≡◌};
-ghost use Rattle.cilk_rules.specs.Gives.{Gives};
-ghost use Rattle.cilk_grammar.specs.Grammar.{strings, command_line_tail, main_others, main_alone, main_named, main_nameless, main_ints, main_tail};
-ghost use Rattle.cilk_grammar.specs.Spelling.{nesting_limit};
-ghost use Rattle.cilk_reader.specs.Limits.{read_in};
+ghost use Rattle.cilk_parse_rules.specs.ReadsAs.{ReadsAs};
+ghost use Rattle.cilk_parse_grammar.specs.Grammar.{strings, command_line_tail, main_others, main_alone, main_named, main_nameless, main_ints, main_tail};
+ghost use Rattle.cilk_parse_grammar.specs.Spelling.{nesting_limit};
+ghost use Rattle.cilk_parse_statements.specs.Limits.{read_in};
 ghost use Rattle.cilk_parse.specs.Views.{tail_of, main_tail_of};
 
 use crate::function::{NESTING_LIMIT, empty_tail};
 use crate::kinds::{all_named, kinds};
 use crate::main_tail::MainTail;
 use crate::tail::Tail;
-use cilk_grammar::{Cursor, Keyword, Mark, NameClass, Word};
-use cilk_reader::{block, is_class, is_name, name};
-use cilk_rules::ReadError;
+use cilk_parse_grammar::{Cursor, Keyword, Mark, NameClass, Word};
+use cilk_parse_rules::ReadError;
+use cilk_parse_statements::{block, is_class, is_name, name};
 
 // The words of the command line (C 1990, 5.1.2.2.1).
-#[tactic(auto, unfolding(cilk_grammar::specs::Spelling::read_at))]
+#[tactic(auto, unfolding(cilk_parse_grammar::specs::Spelling::read_at))]
 fn strings(cursor: &mut Cursor) -> Result<Word, ReadError>
-    ensures { Gives (λ w. (w, cursor.new.pieces)) result (read_in nesting_limit strings cursor.old.pieces) }
+    ensures { ReadsAs (λ w. (w, cursor.new.pieces)) result (read_in nesting_limit strings cursor.old.pieces) }
 {
     cursor.mark(Mark::Star)?;
     if is_name(cursor) {
@@ -32,9 +32,9 @@ fn strings(cursor: &mut Cursor) -> Result<Word, ReadError>
 }
 
 // Behind a comma: the words of the command line, and the body.
-#[tactic(auto, unfolding(cilk_grammar::specs::Spelling::read_at))]
+#[tactic(auto, unfolding(cilk_parse_grammar::specs::Spelling::read_at))]
 fn command_line(cursor: &mut Cursor) -> Result<MainTail, ReadError>
-    ensures { Gives (λ t. (main_tail_of t, cursor.new.pieces)) result (read_in nesting_limit command_line_tail cursor.old.pieces) }
+    ensures { ReadsAs (λ t. (main_tail_of t, cursor.new.pieces)) result (read_in nesting_limit command_line_tail cursor.old.pieces) }
 {
     if !is_class(cursor, NameClass::Char) {
         return Err(cursor.unexpected());
@@ -47,9 +47,9 @@ fn command_line(cursor: &mut Cursor) -> Result<MainTail, ReadError>
 }
 
 // Behind a comma and `int`: the other parameters, and the body if there is one.
-#[tactic(auto, unfolding(cilk_grammar::specs::Spelling::read_at))]
+#[tactic(auto, unfolding(cilk_parse_grammar::specs::Spelling::read_at))]
 fn others(cursor: &mut Cursor) -> Result<MainTail, ReadError>
-    ensures { Gives (λ t. (main_tail_of t, cursor.new.pieces)) result (read_in nesting_limit main_others cursor.old.pieces) }
+    ensures { ReadsAs (λ t. (main_tail_of t, cursor.new.pieces)) result (read_in nesting_limit main_others cursor.old.pieces) }
 {
     let kinds = kinds(cursor)?;
     if all_named(&kinds) && !cursor.is_mark(Mark::Semicolon) {
@@ -61,9 +61,9 @@ fn others(cursor: &mut Cursor) -> Result<MainTail, ReadError>
 }
 
 // Behind the only parameter: the body, if there is one.
-#[tactic(auto, unfolding(cilk_grammar::specs::Spelling::read_at))]
+#[tactic(auto, unfolding(cilk_parse_grammar::specs::Spelling::read_at))]
 fn alone(cursor: &mut Cursor) -> Result<MainTail, ReadError>
-    ensures { Gives (λ t. (main_tail_of t, cursor.new.pieces)) result (read_in nesting_limit main_alone cursor.old.pieces) }
+    ensures { ReadsAs (λ t. (main_tail_of t, cursor.new.pieces)) result (read_in nesting_limit main_alone cursor.old.pieces) }
 {
     cursor.mark(Mark::CloseParenthesis)?;
     if cursor.is_mark(Mark::Semicolon) {
@@ -77,9 +77,9 @@ fn alone(cursor: &mut Cursor) -> Result<MainTail, ReadError>
 }
 
 // Behind the name of the first parameter.
-#[tactic(auto, unfolding(cilk_grammar::specs::Spelling::read_at))]
+#[tactic(auto, unfolding(cilk_parse_grammar::specs::Spelling::read_at))]
 fn behind_name(cursor: &mut Cursor) -> Result<MainTail, ReadError>
-    ensures { Gives (λ t. (main_tail_of t, cursor.new.pieces)) result (read_in nesting_limit main_named cursor.old.pieces) }
+    ensures { ReadsAs (λ t. (main_tail_of t, cursor.new.pieces)) result (read_in nesting_limit main_named cursor.old.pieces) }
 {
     if cursor.is_mark(Mark::CloseParenthesis) {
         return alone(cursor);
@@ -93,9 +93,9 @@ fn behind_name(cursor: &mut Cursor) -> Result<MainTail, ReadError>
 }
 
 // Behind the first `int` of a declaration, where no name follows.
-#[tactic(auto, unfolding(cilk_grammar::specs::Spelling::read_at))]
+#[tactic(auto, unfolding(cilk_parse_grammar::specs::Spelling::read_at))]
 fn nameless(cursor: &mut Cursor) -> Result<Tail, ReadError>
-    ensures { Gives (λ t. (tail_of t, cursor.new.pieces)) result (read_in nesting_limit main_nameless cursor.old.pieces) }
+    ensures { ReadsAs (λ t. (tail_of t, cursor.new.pieces)) result (read_in nesting_limit main_nameless cursor.old.pieces) }
 {
     if cursor.is_mark(Mark::CloseParenthesis) {
         cursor.mark(Mark::CloseParenthesis)?;
@@ -110,9 +110,9 @@ fn nameless(cursor: &mut Cursor) -> Result<Tail, ReadError>
 }
 
 // Behind the first `int`.
-#[tactic(auto, unfolding(cilk_grammar::specs::Spelling::read_at))]
+#[tactic(auto, unfolding(cilk_parse_grammar::specs::Spelling::read_at))]
 fn ints(cursor: &mut Cursor) -> Result<Tail, ReadError>
-    ensures { Gives (λ t. (tail_of t, cursor.new.pieces)) result (read_in nesting_limit main_ints cursor.old.pieces) }
+    ensures { ReadsAs (λ t. (tail_of t, cursor.new.pieces)) result (read_in nesting_limit main_ints cursor.old.pieces) }
 {
     if !is_name(cursor) {
         return nameless(cursor);
@@ -123,9 +123,9 @@ fn ints(cursor: &mut Cursor) -> Result<Tail, ReadError>
 }
 
 /// Behind `cilk`, `int` and `main` (C 1990, 5.1.2.2.1; Cilk 5.4 manual, `cilk`).
-#[tactic(auto, unfolding(cilk_grammar::specs::Spelling::read_at))]
+#[tactic(auto, unfolding(cilk_parse_grammar::specs::Spelling::read_at))]
 pub fn of_main(cursor: &mut Cursor) -> Result<Tail, ReadError>
-    ensures { Gives (λ t. (tail_of t, cursor.new.pieces)) result (read_in nesting_limit main_tail cursor.old.pieces) }
+    ensures { ReadsAs (λ t. (tail_of t, cursor.new.pieces)) result (read_in nesting_limit main_tail cursor.old.pieces) }
 {
     cursor.mark(Mark::OpenParenthesis)?;
     if cursor.is_mark(Mark::CloseParenthesis) {

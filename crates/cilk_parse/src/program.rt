@@ -1,20 +1,20 @@
 //! A program read from its text: the tokens, then the grammar, and the faults of both with their places.
 
 ghost use Rattle.std.specs.Prelude.{◌≡◌, ◌≢◌, ◌<◌, ◌≤◌, ◌⊎◌, ◌↔◌, length, All, IfOk, IfErr, MatchResult};
-ghost use Rattle.cilk_grammar.specs.lexeme.declared.fault.LexFault.{LexFault};
-ghost use Rattle.cilk_grammar.specs.lexeme.Lexeme.{pieces_of, place_of as lex_place};
-ghost use Rattle.cilk_grammar.specs.lexeme.Lexing.{text_limit};
+ghost use Rattle.cilk_lex.specs.lexeme.declared.fault.LexFault.{LexFault};
+ghost use Rattle.cilk_lex.specs.lexeme.Lexeme.{pieces_of, place_of as lex_place};
+ghost use Rattle.cilk_lex.specs.lexeme.Lexing.{text_limit};
 ghost use Rattle.cilk_lex.specs.Reading.{IsWithin};
-ghost use Rattle.cilk_grammar.specs.syntax.Tree as tree;
-ghost use Rattle.cilk_grammar.specs.Fault.{place_left};
+ghost use Rattle.cilk_parse_grammar.specs.syntax.Tree as tree;
+ghost use Rattle.cilk_parse_grammar.specs.Fault.{place_left};
 ghost use Rattle.cilk_parse.specs.Place.{place_of};
 ghost use Rattle.cilk_parse.specs.Text.{Spells, HasFault, HasLexFault};
 
 use crate::fault::ReadFault;
 use crate::whole::whole;
-use cilk_grammar::{Cursor, Program};
 use cilk_lex::{LexFault, Token, tokens};
-use cilk_rules::{Fault, ReadError};
+use cilk_parse_grammar::{Cursor, Program};
+use cilk_parse_rules::{Fault, ReadError};
 use std::alloc::Global;
 
 // Why a text is not read that has no tokens.

@@ -1,24 +1,24 @@
 //! How variables and arrays of the top level are read, with their first values and lengths.
 
 ghost use Rattle.std.specs.Prelude.{◌≡◌, ◌∷◌, map, MatchResult};
-ghost use Rattle.cilk_grammar.specs.lexeme.declared.mark.Mark.TheVariants.{Comma};
-ghost use Rattle.cilk_grammar.specs.syntax.Tree as tree;
-ghost use Rattle.cilk_grammar.specs.syntax.ProgramView.{global_shape_of};
-ghost use Rattle.cilk_rules.specs.Gives.{Gives, onto};
-ghost use Rattle.cilk_grammar.specs.Forms.{mark, behind_commas};
-ghost use Rattle.cilk_grammar.specs.Grammar.{integer, global_shape, global};
-ghost use Rattle.cilk_grammar.specs.Spelling.{nesting_limit};
-ghost use Rattle.cilk_reader.specs.Limits.{read_in};
+ghost use Rattle.cilk_lex.specs.lexeme.declared.mark.Mark.TheVariants.{Comma};
+ghost use Rattle.cilk_parse_grammar.specs.syntax.Tree as tree;
+ghost use Rattle.cilk_parse_grammar.specs.syntax.ProgramView.{global_shape_of};
+ghost use Rattle.cilk_parse_rules.specs.ReadsAs.{ReadsAs, onto};
+ghost use Rattle.cilk_parse_grammar.specs.Forms.{mark, behind_commas};
+ghost use Rattle.cilk_parse_grammar.specs.Grammar.{integer, global_shape, global};
+ghost use Rattle.cilk_parse_grammar.specs.Spelling.{nesting_limit};
+ghost use Rattle.cilk_parse_statements.specs.Limits.{read_in};
 
-use cilk_grammar::{Cursor, Global, GlobalShape, Item, ItemNode, Mark};
-use cilk_reader::{array_length, name, number};
-use cilk_rules::ReadError;
+use cilk_parse_grammar::{Cursor, Global, GlobalShape, Item, ItemNode, Mark};
+use cilk_parse_rules::ReadError;
+use cilk_parse_statements::{array_length, name, number};
 use std::alloc;
 
 // A number, and the sign before it, if there is one (C 1990, 6.4). No token is a number that is no `int`.
-#[tactic(auto, unfolding(cilk_grammar::specs::Spelling::read_at))]
+#[tactic(auto, unfolding(cilk_parse_grammar::specs::Spelling::read_at))]
 fn integer(cursor: &mut Cursor) -> Result<i32, ReadError>
-    ensures { Gives (λ z. (z, cursor.new.pieces)) result (read_in nesting_limit integer cursor.old.pieces) }
+    ensures { ReadsAs (λ z. (z, cursor.new.pieces)) result (read_in nesting_limit integer cursor.old.pieces) }
 {
     let negative = cursor.is_mark(Mark::Minus);
     if negative {
@@ -35,9 +35,9 @@ fn integer(cursor: &mut Cursor) -> Result<i32, ReadError>
 }
 
 /// Behind the name of a variable or array of the top level (C 1990, 6.5.4.2, 6.5.7, 6.7.2).
-#[tactic(auto, unfolding(cilk_grammar::specs::Spelling::read_at))]
+#[tactic(auto, unfolding(cilk_parse_grammar::specs::Spelling::read_at))]
 pub fn shape(cursor: &mut Cursor) -> Result<GlobalShape, ReadError>
-    ensures { Gives (λ s. (global_shape_of s, cursor.new.pieces)) result (read_in nesting_limit global_shape cursor.old.pieces) }
+    ensures { ReadsAs (λ s. (global_shape_of s, cursor.new.pieces)) result (read_in nesting_limit global_shape cursor.old.pieces) }
 {
     if cursor.is_mark(Mark::Assign) {
         cursor.mark(Mark::Assign)?;
@@ -52,9 +52,9 @@ pub fn shape(cursor: &mut Cursor) -> Result<GlobalShape, ReadError>
 }
 
 // A comma, and a variable or array.
-#[tactic(auto, unfolding(cilk_grammar::specs::Spelling::read_at))]
+#[tactic(auto, unfolding(cilk_parse_grammar::specs::Spelling::read_at))]
 fn next_global(cursor: &mut Cursor) -> Result<Global, ReadError>
-    ensures { Gives (λ g. (g, cursor.new.pieces)) result (read_in nesting_limit (mark Comma global) cursor.old.pieces) }
+    ensures { ReadsAs (λ g. (g, cursor.new.pieces)) result (read_in nesting_limit (mark Comma global) cursor.old.pieces) }
 {
     cursor.mark(Mark::Comma)?;
     let name = name(cursor)?;
@@ -64,7 +64,7 @@ fn next_global(cursor: &mut Cursor) -> Result<Global, ReadError>
 
 // Behind these all that follow, each behind a comma.
 fn more_globals(cursor: &mut Cursor, mut globals: Vec<Global>) -> Result<Vec<Global>, ReadError>
-    ensures { Gives (λ v. (v.items, cursor.new.pieces)) result
+    ensures { ReadsAs (λ v. (v.items, cursor.new.pieces)) result
         (onto globals.items (read_in nesting_limit (behind_commas global) cursor.old.pieces)) }
 {
     'each: while cursor.is_mark(Mark::Comma) {
@@ -75,9 +75,9 @@ fn more_globals(cursor: &mut Cursor, mut globals: Vec<Global>) -> Result<Vec<Glo
 }
 
 /// Variables and arrays, each behind a comma.
-#[tactic(auto, using(cilk_rules::proofs::Loops::onto_nothing))]
+#[tactic(auto, using(cilk_parse_rules::proofs::Loops::onto_nothing))]
 pub fn behind_commas(cursor: &mut Cursor) -> Result<Vec<Global>, ReadError>
-    ensures { Gives (λ v. (v.items, cursor.new.pieces)) result
+    ensures { ReadsAs (λ v. (v.items, cursor.new.pieces)) result
         (read_in nesting_limit (behind_commas global) cursor.old.pieces) }
 {
     more_globals(cursor, Vec::new(cursor.alloc()))

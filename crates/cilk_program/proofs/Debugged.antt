@@ -7,12 +7,12 @@ use Rattle.cilk_debug.specs.Tape.{Tape, IsPlayable}
 use Rattle.cilk_debug.specs.Debugging.{Debugging}
 use Rattle.cilk_debug.specs.Session.{Session, session}
 use Rattle.cilk_debug.specs.Ending.{Answers, Breaks}
-use Rattle.cilk_debug.specs.Faults.{Tells}
+use Rattle.cilk_debug.specs.Faults.{IsFaultOf}
 use Rattle.cilk_debug.specs.declared.fault.DebugFault.{DebugFault}
 use Rattle.cilk_debug.specs.declared.fault.DebugFault.TheVariants as debug
 use Rattle.cilk_debug.specs.declared.ending.SessionFault.{SessionFault}
 use Rattle.cilk_debug.specs.declared.ending.SessionFault.TheVariants.{Read, Write, Memory}
-use Rattle.cilk_debug.specs.console.declared.fault.ReadFault.TheVariants.{Device, LineTooLong, TooManyLines}
+use Rattle.cilk_debug.specs.console.declared.fault.InputFault.TheVariants.{Device, LineTooLong, TooManyLines}
 use Rattle.cilk_commands.specs.Front.{Gains}
 use Rattle.cilk_commands.specs.Held.{Held, IsReadOf}
 use Rattle.cilk_commands.proofs.WholeText.{gains_whole}
@@ -34,7 +34,7 @@ broken_not_refused Write bad = cc
 broken_not_refused Memory bad = cc
 
 -- why there is no debugger
-pub declines_of : (text bytes : List ℕ) (t : Tape) (fault : DebugFault) → IsTape text bytes t → Tells t fault → status_of (undebugged fault) ≡ status.Refused
+pub declines_of : (text bytes : List ℕ) (t : Tape) (fault : DebugFault) → IsTape text bytes t → IsFaultOf t fault → status_of (undebugged fault) ≡ status.Refused
     → Declines text bytes (undebugged fault)
 declines_of text bytes t debug.Workers is told refused = record { tape = t; is = is; told = told }
 declines_of text bytes t (debug.BadChoice k refusal) is told refused = record { tape = t; is = is; told = told }
@@ -44,7 +44,7 @@ declines_of text bytes t debug.NoStatement is told refused = absurd told
 declines_of text bytes t debug.OutOfRange is told refused = absurd told
 declines_of text bytes t debug.Memory is told refused = cc
 
-pub declines_held_of : (held : Option (List ℕ)) (text : List ℕ) (t : Tape) (fault : DebugFault) → Held held (λ bytes. IsTape text bytes t) → Tells t fault
+pub declines_held_of : (held : Option (List ℕ)) (text : List ℕ) (t : Tape) (fault : DebugFault) → Held held (λ bytes. IsTape text bytes t) → IsFaultOf t fault
     → status_of (undebugged fault) ≡ status.Refused → Held held (λ bytes. Declines text bytes (undebugged fault))
 declines_held_of held text t fault is told refused =
     record { bytes = is.bytes; held = is.held; are = declines_of text is.bytes t fault is.are told refused }
@@ -97,14 +97,23 @@ module _ (held : Option (List ℕ)) (text : List ℕ) (t : Tape) (d after : Debu
       → Gains (λ answers. Held held (λ bytes. IsPart text bytes all answers)) old new
   broke all left (Read Device) h other =
       let cut = cut_at all h.lines h.part left h.given in
-      record { answer = h.answers.replies; is = part_of all h.lines cut.0 h.answers.replies cut.1 (ap (λ (s : Session). s.replies) h.answers.is); written = h.answers.written }
+      record {
+        answer = h.answers.replies;
+        is = part_of all h.lines cut.0 h.answers.replies cut.1 (ap (λ (s : Session). s.replies) h.answers.is);
+        written = h.answers.written;
+      }
   broke all left (Read LineTooLong) h other =
       record { answer = h.replies; is = part_of all all [] h.replies (sym (append-nil all)) (ap (λ (s : Session). s.replies) h.is); written = h.written }
   broke all left (Read TooManyLines) h other =
       record { answer = h.replies; is = part_of all all [] h.replies (sym (append-nil all)) (ap (λ (s : Session). s.replies) h.is); written = h.written }
   broke all left Write h other = absurd (other refl)
   broke all left Memory h other =
-      record { answer = h.answers.replies; is = part_of all h.lines h.rest h.answers.replies h.split (ap (λ (s : Session). s.replies) h.answers.is); written = h.answers.written }
+      record {
+        answer = h.answers.replies;
+        is = part_of all h.lines h.rest h.answers.replies h.split
+            (ap (λ (s : Session). s.replies) h.answers.is);
+        written = h.answers.written;
+      }
 
   pub broken : (known left : Option (List ℕ)) (fault : SessionFault) → ((all : List ℕ) → known ≡ Some all → Breaks d after all left old new fault)
       → fault ≢ Write → GainsOf (λ lines answers. Held held (λ bytes. IsPart text bytes lines answers)) known old new
@@ -127,7 +136,8 @@ module _ (known held : Option (List ℕ)) (text : List ℕ) (old new : Option (L
       gains_whole known text old new (λ of answers. Held held (λ (bytes : List ℕ). IsPart of bytes lines answers))
       (λ answers all. all.are.is_tape.ready.is.text.short) read gained
 
-  pub debugs_left : (Same : Type 0) (commands : Option (List ℕ)) → Same ⊎ GainsOf (λ lines answers. Held held (λ bytes. IsPart text bytes lines answers)) commands old new
+  pub debugs_left : (Same : Type 0) (commands : Option (List ℕ)) → Same
+      ⊎ GainsOf (λ lines answers. Held held (λ bytes. IsPart text bytes lines answers)) commands old new
       → Same ⊎ DebugsFront known held commands old new
   debugs_left Same commands (inl same) = inl same
   debugs_left Same commands (inr gained) = inr (debugs_part commands gained)

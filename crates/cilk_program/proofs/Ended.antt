@@ -4,7 +4,7 @@ use Rattle.std.specs.Prelude.{◌≢◌}
 use Rattle.cilk_commands.specs.Held.{IsReadOf}
 use Rattle.cilk_commands.specs.Loading.{Unready}
 use Rattle.cilk_commands.specs.Status.{is_answer, status_of}
-use Rattle.cilk_commands.specs.Telling.{IsExplanation, Tells as TellsLine}
+use Rattle.cilk_commands.specs.Telling.{IsExplanation, WritesFailure as TellsLine}
 use Rattle.cilk_commands.proofs.WholeText.{nothing_read}
 use Rattle.cilk_commands.specs.declared.failure.Failure.{Failure}
 use Rattle.cilk_commands.specs.declared.failure.Failure.TheVariants as failure
@@ -15,9 +15,9 @@ use Rattle.cilk_program.specs.Taped.{Declines}
 use Rattle.cilk_program.specs.declared.failure.RecordFailure.{RecordFailure}
 use Rattle.cilk_program.specs.declared.failure.RecordFailure.TheVariants as why
 use Rattle.cilk_words.specs.CommandLine.{Asked, Wanted, printed, checked, run, replayed, debugged, asked}
-use Rattle.cilk_words.specs.Refusing.{Tells, asks_for_help, asks_for_version, asks_to_show}
-use Rattle.cilk_words.specs.declared.refusal.Refusal.{Refusal}
-use Rattle.cilk_words.specs.declared.refusal.Refusal.TheVariants as refusal
+use Rattle.cilk_words.specs.Refusing.{WritesFailure, asks_for_help, asks_for_version, asks_to_show}
+use Rattle.cilk_words.specs.declared.refusal.NoRequest.{NoRequest}
+use Rattle.cilk_words.specs.declared.refusal.NoRequest.TheVariants as refusal
 use Rattle.cilk_program.specs.Ends.{Ends, Shows}
 use Rattle.cilk_program.specs.Task.{Fails, Leaves, log_name}
 
@@ -47,7 +47,8 @@ nothing_said true text failure.CannotWrite other = refl
 nothing_said false text failure.CannotWrite other = refl
 
 -- with a log
-pub no_program : (Reason : List ℕ → List ℕ → RecordFailure → Type 0) (explain : Bool) (name log : List ℕ) (status : Status) (known held old new : Option (List ℕ))
+pub no_program : (Reason : List ℕ → List ℕ → RecordFailure → Type 0) (explain : Bool) (name log : List ℕ) (status : Status)
+    (known held old new : Option (List ℕ))
     (found : Failure) → status_of found ≢ ended.Refused → status ≡ status_of found → TellsLine name found [] old new
     → GivesUp Reason explain name log status known held old new
 no_program Reason explain name log status known held old new found other is told = record {
@@ -106,7 +107,8 @@ if_none : (o : Option Asked) (P : Asked → Type 0) → o ≡ None → IfSome o 
 if_none None P none = tt
 if_none (Some x) P none = cc
 
-nothing_done : (words : List (List ℕ)) (held : List ℕ → Option (List ℕ)) (entered : Option (List ℕ)) (status : Status) (old new err_old err_new : Option (List ℕ)) → asked words ≡ None
+nothing_done : (words : List (List ℕ)) (held : List ℕ → Option (List ℕ)) (entered : Option (List ℕ)) (status : Status)
+    (old new err_old err_new : Option (List ℕ)) → asked words ≡ None
     → status ≢ ended.Refused → status ≢ ended.CannotRead → (status ≡ ended.Usage → asks_to_show words ≡ false)
     → (is_answer status ≡ true → (status ≡ ended.Done) × ((asks_for_help words ≡ true) ⊎ (asks_for_version words ≡ true)))
     → (asks_for_help words ≡ false → asks_for_version words ≡ false → (status ≡ ended.Usage) ⊎ (status ≡ ended.Memory))
@@ -122,7 +124,8 @@ nothing_done words held entered status old new err_old err_new none not_refused 
 }
 
 -- what is told of the words tells how the program ends
-pub refused_words : (words : List (List ℕ)) (held : List ℕ → Option (List ℕ)) (entered : Option (List ℕ)) (r : Refusal) (status : Status) (old new err_old err_new : Option (List ℕ)) → Tells words r
+pub refused_words : (words : List (List ℕ)) (held : List ℕ → Option (List ℕ)) (entered : Option (List ℕ)) (r : NoRequest) (status : Status)
+    (old new err_old err_new : Option (List ℕ)) → WritesFailure words r
     → Shows r status old new → (r ≡ refusal.Memory → TellsLine [] failure.Memory [] err_old err_new)
     → (is_answer status ≡ false → status ≢ ended.CannotWrite → new ≡ old) → Ends words held entered status old new err_old err_new
 refused_words words held entered (refusal.Help text) status old new err_old err_new tells (inl done) memory kept =
@@ -131,7 +134,8 @@ refused_words words held entered (refusal.Help text) status old new err_old err_
     (λ no_help no_version. let bad : true ≡ false = sym tells.1 ∙ no_help in cc))
 refused_words words held entered (refusal.Help text) status old new err_old err_new tells (inr failed) memory kept =
     subst (λ s. Ends words held entered s old new err_old err_new) (sym failed)
-    (nothing_done words held entered ended.CannotWrite old new err_old err_new tells.0 (λ bad. cc) (λ bad. cc) (λ bad. cc) (λ answer. let bad : false ≡ true = answer in cc)
+    (nothing_done words held entered ended.CannotWrite old new err_old err_new tells.0 (λ bad. cc) (λ bad. cc) (λ bad. cc)
+    (λ answer. let bad : false ≡ true = answer in cc)
     (λ no_help no_version. let bad : true ≡ false = sym tells.1 ∙ no_help in cc))
 refused_words words held entered (refusal.Version text) status old new err_old err_new tells (inl done) memory kept =
     subst (λ s. Ends words held entered s old new err_old err_new) (sym done.0)
@@ -139,15 +143,18 @@ refused_words words held entered (refusal.Version text) status old new err_old e
     (λ no_help no_version. let bad : true ≡ false = sym tells.1 ∙ no_version in cc))
 refused_words words held entered (refusal.Version text) status old new err_old err_new tells (inr failed) memory kept =
     subst (λ s. Ends words held entered s old new err_old err_new) (sym failed)
-    (nothing_done words held entered ended.CannotWrite old new err_old err_new tells.0 (λ bad. cc) (λ bad. cc) (λ bad. cc) (λ answer. let bad : false ≡ true = answer in cc)
+    (nothing_done words held entered ended.CannotWrite old new err_old err_new tells.0 (λ bad. cc) (λ bad. cc) (λ bad. cc)
+    (λ answer. let bad : false ≡ true = answer in cc)
     (λ no_help no_version. let bad : true ≡ false = sym tells.1 ∙ no_version in cc))
 refused_words words held entered (refusal.Usage text) status old new err_old err_new tells is_usage memory kept =
     subst (λ s. Ends words held entered s old new err_old err_new) (sym is_usage)
-    (nothing_done words held entered ended.Usage old new err_old err_new tells.0 (λ bad. cc) (λ bad. cc) (λ same. tells.1) (λ answer. let bad : false ≡ true = answer in cc)
+    (nothing_done words held entered ended.Usage old new err_old err_new tells.0 (λ bad. cc) (λ bad. cc) (λ same. tells.1)
+    (λ answer. let bad : false ≡ true = answer in cc)
     (λ no_help no_version. inl refl))
 refused_words words held entered (refusal.Dash dash) status old new err_old err_new tells is_usage memory kept =
     subst (λ s. Ends words held entered s old new err_old err_new) (sym is_usage)
-    (nothing_done words held entered ended.Usage old new err_old err_new tells.1.0 (λ bad. cc) (λ bad. cc) (λ same. tells.1.1) (λ answer. let bad : false ≡ true = answer in cc)
+    (nothing_done words held entered ended.Usage old new err_old err_new tells.1.0 (λ bad. cc) (λ bad. cc) (λ same. tells.1.1)
+    (λ answer. let bad : false ≡ true = answer in cc)
     (λ no_help no_version. inl refl))
 refused_words words held entered refusal.Memory status old new err_old err_new tells is_memory memory kept =
     subst (λ s. Ends words held entered s old new err_old err_new) (sym is_memory) (record {

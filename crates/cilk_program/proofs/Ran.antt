@@ -18,7 +18,7 @@ use Rattle.cilk_debug.specs.Tape.{Tape, tape_of, IsAt}
 use Rattle.cilk_commands.specs.Loading.{IsReady}
 use Rattle.cilk_commands.specs.declared.status.Status.{Status}
 use Rattle.cilk_program.specs.Running.{IsRun, status_at}
-use Rattle.cilk_program.specs.declared.running.Texts.{Texts}
+use Rattle.cilk_program.specs.declared.running.RunAnswer.{RunAnswer}
 use Rattle.cilk_program.specs.Replaying.{ClosesAt, IsReplayed}
 use Rattle.cilk_program.specs.Taped.{IsTape}
 
@@ -42,7 +42,7 @@ ran workers limit bytes text p r ready l is =
     }
 
 -- the texts that are made of a run
-pub told_of : {E : Type 0} (workers limit : ℕ) (p : Program) (r : Run) (is_logged : Bool) (texts : Result Texts E) → Runs.IsRun p workers limit r
+pub told_of : {E : Type 0} (workers limit : ℕ) (p : Program) (r : Run) (is_logged : Bool) (texts : Result RunAnswer E) → Runs.IsRun p workers limit r
     → IfOk texts (λ t. t.status ≡ status_at (end_of r.end)) → IfOk texts (λ t. t.answer.items ≡ end.ending r.output (end_of r.end) (length r.log.choices))
     → (is_logged ≡ true → IfOk texts (λ t. t.log.items ≡ log_text (log_of r.log)))
     → IfOk texts (λ t. (bytes : List ℕ) → IsReady bytes p
@@ -53,10 +53,6 @@ told_of workers limit p r is_logged (Ok t) l status text log = λ bytes ready. (
   log,
 )
 told_of workers limit p r is_logged (Err e) l status text log = tt
-
-pub true_of : (b : Bool) → (b ≡ false → ⊥) → b ≡ true
-true_of true other = refl
-true_of false other = absurd (other refl)
 
 -- the closing text of a replay
 pub replayed : (status : Status) (text bytes answer : List ℕ) (t : Tape) (n : ℕ) (m : Situation) → IsTape text bytes t → n ≡ length t.choices → IsAt t n m

@@ -23,7 +23,8 @@ use Rattle.cilk_program.specs.declared.failure.RecordFailure.TheVariants as why
 
 module _ (known : Option (List ℕ)) (text : List ℕ) (stored_old stored_new old new : Option (List ℕ)) (Are : List ℕ → List ℕ → List ℕ → Type 0)
     (short : (log answer : List ℕ) → Are text log answer → length text ≤ TEXT_LIMIT) (read : IsReadOf known text) where
-  pub stores_whole : Stores (Are text) stored_old stored_new old new → Stores (λ log answer. Held known (λ bytes. Are bytes log answer)) stored_old stored_new old new
+  pub stores_whole : Stores (Are text) stored_old stored_new old new
+      → Stores (λ log answer. Held known (λ bytes. Are bytes log answer)) stored_old stored_new old new
   stores_whole s = record {
     log = s.log;
     answer = s.answer;
@@ -42,12 +43,6 @@ module _ (known : Option (List ℕ)) (text : List ℕ) (stored_old stored_new ol
     begun = s.begun;
   }
 
--- known bytes that grew by a text grew by one that is equal where they are known
-pub appends_same : (old new : Option (List ℕ)) (kept text : List ℕ) → (old ≢ None → kept ≡ text) → Appends old new kept → Appends old new text
-appends_same None new kept text same grown = tt
-appends_same (Some bytes) None kept text same grown = absurd grown
-appends_same (Some bytes) (Some more) kept text same grown = subst (λ t. more ≡ bytes ++ t) (same (λ bad. cc)) grown
-
 -- ---- why there is no answer
 
 -- what is so of all bytes
@@ -56,7 +51,8 @@ any_held None Are all = record { bytes = []; held = tt; are = all [] }
 any_held (Some bytes) Are all = record { bytes = bytes; held = refl; are = all bytes }
 
 -- bytes that are not read as a recorded schedule, where there is a program
-pub unread_declines : (known : Option (List ℕ)) (text : List ℕ) (p : Program) (found : RecordFailure) → IsReady text p → Held known (λ bytes. IsUnread bytes found)
+pub unread_declines : (known : Option (List ℕ)) (text : List ℕ) (p : Program) (found : RecordFailure) → IsReady text p
+    → Held known (λ bytes. IsUnread bytes found)
     → status_of found ≡ status.Refused → Held known (λ bytes. Declines text bytes found)
 unread_declines known text p (why.Program (failure.Fault fault line column)) ready told refused = absurd told.are
 unread_declines known text p (why.Program failure.NotUtf8) ready told refused = absurd told.are
@@ -92,7 +88,8 @@ no_program_held known text why.Commands read told = absurd told
 no_program_held known text why.Answers read told = absurd told
 
 -- why there is nothing to replay
-unready_held : (known log : Option (List ℕ)) (text : List ℕ) (found : Failure) → IsReadOf known text → Held log (λ bytes. Declines text bytes (why.Program found))
+unready_held : (known log : Option (List ℕ)) (text : List ℕ) (found : Failure) → IsReadOf known text
+    → Held log (λ bytes. Declines text bytes (why.Program found))
     → Held known (λ t. Held log (λ bytes. Declines t bytes (why.Program found)))
 unready_held known log text found read told =
     let h = reason_held known text found read told.are in
@@ -111,7 +108,8 @@ declines_held known log text why.CannotStart read told = absurd told.are
 declines_held known log text why.Commands read told = absurd told.are
 declines_held known log text why.Answers read told = absurd told.are
 
-told_behind : (explain : Bool) (known : Option (List ℕ)) (text : List ℕ) (found : RecordFailure) (behind : List ℕ) → IsReadOf known text → IsBehind explain text found behind
+told_behind : (explain : Bool) (known : Option (List ℕ)) (text : List ℕ) (found : RecordFailure) (behind : List ℕ) → IsReadOf known text
+    → IsBehind explain text found behind
     → IsToldBehind explain known found behind
 told_behind explain known text (why.Program found) behind read is = record { text = text; read = read; is = is }
 told_behind explain known text why.CannotRead behind read is = is
@@ -122,7 +120,8 @@ told_behind explain known text why.CannotStart behind read is = is
 told_behind explain known text why.Commands behind read is = is
 told_behind explain known text why.Answers behind read is = is
 
-module _ (Reason : List ℕ → List ℕ → RecordFailure → Type 0) (explain : Bool) (program_name log_name : List ℕ) (ended : Status) (known log old new : Option (List ℕ)) where
+module _ (Reason : List ℕ → List ℕ → RecordFailure → Type 0) (explain : Bool) (program_name log_name : List ℕ) (ended : Status)
+    (known log old new : Option (List ℕ)) where
   -- where the text of the program was read
   pub gave_up : (text : List ℕ) (found : RecordFailure) → IsReadOf known text
       → (status_of found ≡ status.Refused → Held known (λ t. Held log (λ bytes. Reason t bytes found))) → ended ≡ status_of found
@@ -152,7 +151,8 @@ module _ (Reason : List ℕ → List ℕ → RecordFailure → Type 0) (explain 
 -- the same of a run
 module _ (workers : ℕ) (wanted explain : Bool) (program_name log_name : List ℕ) (ended : Status) (known old new : Option (List ℕ)) where
   pub run_gave_up : (text : List ℕ) (found : RecordFailure) → IsReadOf known text
-      → (status_of found ≡ status.Refused → Held known (λ t. Held None (λ bytes. NoProgram t bytes found))) → IsOfRun workers wanted found → ended ≡ status_of found
+      → (status_of found ≡ status.Refused → Held known (λ t. Held None (λ bytes. NoProgram t bytes found))) → IsOfRun workers wanted found
+      → ended ≡ status_of found
       → (behind : List ℕ) × (IsBehind explain text found behind × TellsWith program_name log_name found behind old new)
       → GivesUpRun workers wanted explain program_name log_name ended known old new
   unfolding gave_up

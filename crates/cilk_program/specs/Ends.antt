@@ -9,8 +9,8 @@ use Rattle.cilk_commands.specs.declared.status.Status.{Status}
 use Rattle.cilk_commands.specs.declared.status.Status.TheVariants as ended
 use Rattle.cilk_words.specs.CommandLine.{Asked, asked}
 use Rattle.cilk_words.specs.Refusing.{asks_for_help, asks_for_version, asks_to_show}
-use Rattle.cilk_words.specs.declared.refusal.Refusal.{Refusal}
-use Rattle.cilk_words.specs.declared.refusal.Refusal.TheVariants as refusal
+use Rattle.cilk_words.specs.declared.refusal.NoRequest.{NoRequest}
+use Rattle.cilk_words.specs.declared.refusal.NoRequest.TheVariants as refusal
 use Rattle.cilk_program.specs.Task.{Does, Fails, Leaves, is_session}
 
 -- what is to be shown was written whole, or the writer failed
@@ -18,7 +18,7 @@ abbrev pub IsShown : List ℕ → Status → Option (List ℕ) → Option (List 
 IsShown text status old new = ((status ≡ ended.Done) × Appends old new text) ⊎ (status ≡ ended.CannotWrite)
 
 -- how the program ends where nothing is to be done with a text
-abbrev pub Shows : Refusal → Status → Option (List ℕ) → Option (List ℕ) → Type 0
+abbrev pub Shows : NoRequest → Status → Option (List ℕ) → Option (List ℕ) → Type 0
 Shows (refusal.Help text) status old new = IsShown (string_bytes text) status old new
 Shows (refusal.Version text) status old new = IsShown (string_bytes text) status old new
 Shows (refusal.Usage text) status old new = status ≡ ended.Usage

@@ -6,13 +6,13 @@ use Rattle.cilk_commands.specs.Loading.{Unready}
 use Rattle.cilk_commands.specs.Telling.{Explained, IsExplanation}
 use Rattle.cilk_commands.specs.declared.status.Status.{Status}
 use Rattle.cilk_commands.specs.declared.status.Status.TheVariants as status
-use Rattle.cilk_program.specs.Telling.{line_of, status_of}
+use Rattle.cilk_program.specs.Telling.{failure_line, status_of}
 use Rattle.cilk_program.specs.declared.failure.RecordFailure.{RecordFailure}
 use Rattle.cilk_program.specs.declared.failure.RecordFailure.TheVariants as why
 
 -- a writer has gained the line and what is told behind it, or the first bytes of them, since what cannot be written is lost
 abbrev pub TellsWith : List ℕ → List ℕ → RecordFailure → List ℕ → Option (List ℕ) → Option (List ℕ) → Type 0
-TellsWith program log found behind old new = AppendsFront old new (line_of program log found ++ behind)
+TellsWith program log found behind old new = AppendsFront old new (failure_line program log found ++ behind)
 
 -- what is told behind the line: of a failure with the text of the program what explains it, and else nothing
 abbrev pub IsBehind : Bool → List ℕ → RecordFailure → List ℕ → Type 0

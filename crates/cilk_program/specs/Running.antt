@@ -1,12 +1,12 @@
 -- What a run writes.
 use Rattle.std.specs.Prelude.{◌≡◌, ◌≤◌, ℕ, List, length, Option, Some}
 use Rattle.std.specs.Io.KnownBytes.{Appends}
-use Rattle.cilk_run.specs.syntax.Tree.{Program}
-use Rattle.cilk_run.specs.labelled.Bodies.{label}
+use Rattle.cilk_commands.specs.syntax.Tree.{Program}
+use Rattle.cilk_commands.specs.labelled.Bodies.{label}
 use Rattle.cilk_run.specs.model.Choice.{Choice}
 use Rattle.cilk_run.specs.model.End as model
 use Rattle.cilk_run.specs.model.Run.{Position, after}
-use Rattle.cilk_run.specs.log.Text.{log_text}
+use Rattle.cilk_debug.specs.log.Text.{log_text}
 use Rattle.cilk_commands.specs.Front.{AppendsFront}
 use Rattle.cilk_commands.specs.Held.{Held}
 use Rattle.cilk_commands.specs.Loading.{IsReady}

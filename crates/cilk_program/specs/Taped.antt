@@ -5,7 +5,7 @@ use Rattle.cilk_debug.specs.log.Reading.{log_read}
 use Rattle.cilk_debug.specs.log.Words.{fault_of, IsFault}
 use Rattle.cilk_debug.specs.log.declared.fault.LogFault.{LogFault}
 use Rattle.cilk_debug.specs.Tape.{Tape}
-use Rattle.cilk_debug.specs.ReplayFaults.{Tells}
+use Rattle.cilk_debug.specs.ReplayFaults.{IsFaultOf}
 use Rattle.cilk_debug.specs.declared.replay_fault.ReplayFault.{ReplayFault}
 use Rattle.cilk_commands.specs.Loading.{IsReady, Unready}
 use Rattle.cilk_commands.specs.declared.failure.Failure.TheVariants as failure
@@ -35,7 +35,7 @@ pub record IsNoLog (text bytes : List ℕ) (fault : LogFault) : Type 0 where
 pub record IsNotPlayable (text bytes : List ℕ) (fault : ReplayFault) : Type 0 where
   pub tape : Tape
   pub is : IsTape text bytes tape
-  pub told : Tells tape fault
+  pub told : IsFaultOf tape fault
 
 -- why there is nothing to replay: the text of the program is looked at first
 abbrev pub Declines : List ℕ → List ℕ → RecordFailure → Type 0

@@ -10,7 +10,7 @@ use Rattle.cilk_commands.specs.declared.failure.Failure.TheVariants as failure
 use Rattle.cilk_commands.specs.declared.status.Status.{Status}
 use Rattle.cilk_commands.specs.declared.status.Status.TheVariants as status
 use Rattle.cilk_commands.specs.Status.{status_of as status_of_program}
-use Rattle.cilk_commands.specs.Telling.{line_of as line_of_program}
+use Rattle.cilk_commands.specs.Telling.{failure_line as line_of_program}
 use Rattle.cilk_program.specs.declared.failure.RecordFailure.{RecordFailure}
 use Rattle.cilk_program.specs.declared.failure.RecordFailure.TheVariants as why
 
@@ -42,15 +42,15 @@ replay_line name (replay.BadChoice number why) = choice_line name (decimal numbe
 replay_line name replay.Memory = line_of_program name failure.Memory
 
 -- the same, for the text of a program and that of a recorded schedule of these names
-abbrev pub line_of : List ℕ → List ℕ → RecordFailure → List ℕ
-line_of program name (why.Program found) = line_of_program program found
-line_of program name why.CannotRead = line_of_program name failure.CannotRead
-line_of program name (why.Log found) = log_line name found
-line_of program name (why.Replay found) = replay_line name found
-line_of program name why.CannotStore = codes "cilk: cannot write " ++ (name ++ codes "\n")
-line_of program name why.CannotStart = codes "cilk: cannot start a worker\n"
-line_of program name why.Commands = codes "cilk: session ended by B7\n"
-line_of program name why.Answers = codes "cilk: session ended by B8\n"
+abbrev pub failure_line : List ℕ → List ℕ → RecordFailure → List ℕ
+failure_line program name (why.Program found) = line_of_program program found
+failure_line program name why.CannotRead = line_of_program name failure.CannotRead
+failure_line program name (why.Log found) = log_line name found
+failure_line program name (why.Replay found) = replay_line name found
+failure_line program name why.CannotStore = codes "cilk: cannot write " ++ (name ++ codes "\n")
+failure_line program name why.CannotStart = codes "cilk: cannot start a worker\n"
+failure_line program name why.Commands = codes "cilk: session ended by B7\n"
+failure_line program name why.Answers = codes "cilk: session ended by B8\n"
 
 -- bytes that are no recorded schedule are refused, as is one whose choices cannot be made again
 abbrev pub log_status : LogFault → Status

@@ -9,7 +9,7 @@ ghost use Rattle.cilk_program.specs.Telling.{status_of};
 ghost use Rattle.cilk_program.specs.Debugging.{Debugs, DebugsFront, GainsOf, IsSession, IsPart, undebugged, broken_off};
 
 use crate::failure::RecordFailure;
-use crate::names::Names;
+use crate::file_names::FileNames;
 use crate::taped::{Taped, tape_in};
 use cilk_commands::{Failure, Status, read_text};
 use cilk_debug::{DebugFault, Debugger, ReplayFault, SessionFault};
@@ -22,7 +22,7 @@ use std::io::{Read, Write};
 /// broke off stays written. A line that cannot be written is lost.
 pub fn debug_text<R: Read, L: Read + Drop, C: Read, O: Write, E: Write>(
     alloc: Global,
-    names: &Names<'_>,
+    names: &FileNames<'_>,
     reader: &mut R,
     log: Option<L>,
     commands: &mut C,

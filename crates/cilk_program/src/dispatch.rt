@@ -1,7 +1,7 @@
 //! Where the words of the command line are obeyed: a task is done, or help, the version or what is wrong is written.
 
 ghost use Rattle.std.specs.Prelude.{◌≡◌, ◌≢◌, [], true, false};
-ghost use Rattle.cilk_commands.specs.Telling.{Tells};
+ghost use Rattle.cilk_commands.specs.Telling.{WritesFailure};
 ghost use Rattle.cilk_commands.specs.Status.{is_answer};
 ghost use Rattle.cilk_words.specs.CommandLine.{texts_of, wanted_by};
 ghost use Rattle.cilk_program.specs.Ends.{Ends, IsShown, Shows, opens_session};
@@ -10,7 +10,7 @@ ghost use Rattle.cilk_program.specs.Task.{Does, Fails, Leaves, is_session};
 use crate::task::perform;
 use crate::texts::Texts;
 use cilk_commands::{Failure, Status};
-use cilk_words::{Refusal, Request, request_in};
+use cilk_words::{NoRequest, Request, request_in};
 use std::alloc::Global;
 use std::io::Write;
 use std::sync::Wait;
@@ -69,24 +69,24 @@ fn obey<H: Threads + Wait + Sync, T: Texts, O: Write, E: Write>(
 }
 
 // Help and the version go to the output, and what is wrong with the words elsewhere.
-fn tell<O: Write, E: Write>(refusal: &Refusal, out: &mut O, err: &mut E) -> Status
+fn tell<O: Write, E: Write>(refusal: &NoRequest, out: &mut O, err: &mut E) -> Status
     ensures shows { Shows refusal.now result (O.contents out.old) (O.contents out.new) }
-    ensures memory { refusal.now ≡ Refusal.Memory
-        → Tells [] Failure.Memory [] (E.contents err.old) (E.contents err.new) }
+    ensures memory { refusal.now ≡ NoRequest.Memory
+        → WritesFailure [] Failure.Memory [] (E.contents err.old) (E.contents err.new) }
     ensures quiet { is_answer result ≡ true → err.new ≡ err.old }
     ensures kept { is_answer result ≡ false → result ≢ Status.CannotWrite → out.new ≡ out.old }
 {
     match refusal {
-        Refusal::Help(text) | Refusal::Version(text) => show(text.as_str(), out, err),
-        Refusal::Usage(text) => {
+        NoRequest::Help(text) | NoRequest::Version(text) => show(text.as_str(), out, err),
+        NoRequest::Usage(text) => {
             let _ = err.write_all(text.as_bytes());
             Status::Usage
         }
-        Refusal::Dash(dash) => {
+        NoRequest::Dash(dash) => {
             let _ = err.write_all(dash.text().as_bytes());
             Status::Usage
         }
-        Refusal::Memory => Failure::Memory.report("", err),
+        NoRequest::Memory => Failure::Memory.report("", err),
     }
 }
 

@@ -50,7 +50,7 @@ pub fn exit_code<H: Threads + Wait + Sync, T: Texts, O: Write, E: Write>(
     status.code()
 }
 
-// Tells why there are no words: memory has run out, or one is not UTF-8.
+// WritesFailure why there are no words: memory has run out, or one is not UTF-8.
 fn refuse<E: Write>(error: &io::Error, err: &mut E) -> Status
     ensures { result ≡ without_words (error_kind error.now) }
 {

@@ -5,7 +5,7 @@ ghost use Rattle.std.specs.Io.KnownBytes.{Appends};
 ghost use Rattle.cilk_commands.specs.Front.{AppendsFront};
 ghost use Rattle.cilk_program.specs.Telling.{choice_line, code_of, log_line, replay_line};
 
-use crate::names::Names;
+use crate::file_names::FileNames;
 use cilk_commands::{Failure, Status, tell_of, write_parts};
 use cilk_debug::{LogFault, ReplayFault};
 use cilk_run::Refusal;
@@ -36,7 +36,7 @@ pub enum RecordFailure {
 }
 
 impl RecordFailure {
-    ghost use Rattle.cilk_program.specs.Telling.{line_of, status_of};
+    ghost use Rattle.cilk_program.specs.Telling.{failure_line, status_of};
     ghost use Rattle.cilk_program.specs.GivingUp.{IsBehind, TellsWith};
 
     /// The status that tells of it.
@@ -58,7 +58,7 @@ impl RecordFailure {
 
     /// Writes the line that tells of it, with the names of the texts, and returns the status. A line that cannot be written
     /// is lost.
-    pub fn report<W: Write>(&self, names: &Names<'_>, err: &mut W) -> Status
+    pub fn report<W: Write>(&self, names: &FileNames<'_>, err: &mut W) -> Status
         ensures status { result ≡ status_of self.now }
         ensures told { TellsWith names.now.program.now names.now.log.now self.now []
             (W.contents err.old) (W.contents err.new) }
@@ -71,7 +71,7 @@ impl RecordFailure {
     pub(crate) fn explain<W: Write>(
         &self,
         alloc: Global,
-        names: &Names<'_>,
+        names: &FileNames<'_>,
         explain: bool,
         text: &[u8],
         err: &mut W,
@@ -88,11 +88,11 @@ impl RecordFailure {
         }
     }
 
-    fn tell<W: Write>(&self, names: &Names<'_>, err: &mut W) -> io::Result<()>
+    fn tell<W: Write>(&self, names: &FileNames<'_>, err: &mut W) -> io::Result<()>
         ensures ok { OnOk result (Appends (W.contents err.old) (W.contents err.new)
-            (line_of names.now.program.now names.now.log.now self.now)) }
+            (failure_line names.now.program.now names.now.log.now self.now)) }
         ensures front { OnErr result (AppendsFront (W.contents err.old) (W.contents err.new)
-            (line_of names.now.program.now names.now.log.now self.now)) }
+            (failure_line names.now.program.now names.now.log.now self.now)) }
     {
         match self {
             RecordFailure::Program(failure) => failure.write_line(names.program, err),

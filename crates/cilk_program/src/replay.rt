@@ -11,7 +11,7 @@ ghost use Rattle.cilk_program.specs.Replaying.{IsReplayed, Replays, ReplaysFront
 
 use crate::closing::{Closing, closing_of};
 use crate::failure::RecordFailure;
-use crate::names::Names;
+use crate::file_names::FileNames;
 use crate::taped::{Taped, tape_in};
 use cilk_commands::{Status, read_text, write_answer};
 use cilk_debug::play;
@@ -24,7 +24,7 @@ use std::io::{Read, Write};
 /// whole before any of it is written. A line that cannot be written is lost.
 pub fn replay_text<R: Read, L: Read + Drop, O: Write, E: Write>(
     alloc: Global,
-    names: &Names<'_>,
+    names: &FileNames<'_>,
     reader: &mut R,
     log: Option<L>,
     out: &mut O,

@@ -3,8 +3,8 @@
 ghost use Rattle.std.specs.Prelude.{◌≡◌, ◌≢◌, ℕ, List, [], length, true, false, None, IfOk, IfErr, OnOk, OnErr};
 ghost use Rattle.std.specs.Io.KnownBytes.{Appends};
 ghost use Rattle.cilk_run.specs.choices.Words.{end_of};
-ghost use Rattle.cilk_run.specs.log.Text.{log_text};
-ghost use Rattle.cilk_run.specs.log.Words.{log_of};
+ghost use Rattle.cilk_debug.specs.log.Text.{log_text};
+ghost use Rattle.cilk_debug.specs.log.Words.{log_of};
 ghost use Rattle.cilk_run.specs.model.End as model;
 ghost use Rattle.cilk_commands.specs.Loading.{IsReady};
 ghost use Rattle.cilk_commands.specs.Status.{is_answer};
@@ -14,8 +14,8 @@ ghost use Rattle.cilk_program.specs.Telling.{status_of};
 
 use crate::closing::{Closing, closing_of_run};
 use crate::failure::RecordFailure;
+use crate::file_names::FileNames;
 use crate::manner::Manner;
-use crate::names::Names;
 use crate::store::LogStore;
 use cilk_commands::{Failure, Loaded, Status, read_text, ready_of, write_answer};
 use cilk_debug::write_log;
@@ -32,7 +32,7 @@ use std::thread::Threads;
 pub fn run_text<H: Threads + Wait + Sync, R: Read, S: LogStore, O: Write, E: Write>(
     rt: &H,
     alloc: Global,
-    names: &Names<'_>,
+    names: &FileNames<'_>,
     manner: &Manner,
     reader: &mut R,
     store: &mut S,
@@ -130,7 +130,7 @@ fn keep<S: LogStore>(store: &mut S, log: &[u8]) -> Result<(), ()>
 
 /// What is to be written of a run.
 #[derive(Drop)]
-struct Texts {
+struct RunAnswer {
     status: Status,
     /// Empty where no log is wanted.
     log: Vec<u8>,
@@ -143,7 +143,7 @@ fn texts_of<H: Threads + Wait + Sync>(
     manner: &Manner,
     program: Loaded,
     is_logged: bool,
-) -> Result<Texts, RecordFailure>
+) -> Result<RunAnswer, RecordFailure>
     ensures ok { IfOk result (λ texts. (bytes : List ℕ) → IsReady bytes program → (log : List ℕ)
         × IsRun manner.now.workers manner.now.limit texts.status bytes log texts.answer.items
         × (is_logged ≡ true → texts.log.items ≡ log)) }
@@ -162,7 +162,7 @@ fn texts_of<H: Threads + Wait + Sync>(
 }
 
 // The texts of a run.
-fn texts_at(alloc: Global, run: &Run, is_logged: bool) -> Result<Texts, RecordFailure>
+fn texts_at(alloc: Global, run: &Run, is_logged: bool) -> Result<RunAnswer, RecordFailure>
     ensures status { IfOk result (λ texts. texts.status ≡ status_at (end_of run.now.end)) }
     ensures text { IfOk result (λ texts.
         texts.answer.items ≡ model.ending run.now.output (end_of run.now.end) (length run.now.log.choices)) }
@@ -175,14 +175,14 @@ fn texts_at(alloc: Global, run: &Run, is_logged: bool) -> Result<Texts, RecordFa
         Err(failure) => return Err(RecordFailure::Program(failure)),
     };
     if !is_logged {
-        return Ok(Texts {
+        return Ok(RunAnswer {
             status,
             log: Vec::new(alloc),
             answer: text,
         });
     }
     match write_log(alloc, &run.log) {
-        Ok(log) => Ok(Texts {
+        Ok(log) => Ok(RunAnswer {
             status,
             log,
             answer: text,

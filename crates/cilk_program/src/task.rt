@@ -11,7 +11,7 @@ ghost use Rattle.cilk_program.specs.Task.{Does, Fails, Leaves, is_session};
 ghost use Rattle.cilk_program.specs.Task.{RunsFrontSomewhere, RunsSomewhere, log_name};
 
 use crate::texts::Texts;
-use crate::{Manner, Names, RecordFailure, debug_text, replay_text, run_text};
+use crate::{FileNames, Manner, RecordFailure, debug_text, replay_text, run_text};
 use cilk_commands::{Failure, Status, check_text, print_text};
 use cilk_words::{Request, Task};
 use std::alloc::Global;
@@ -89,7 +89,7 @@ fn run_named<H: Threads + Wait + Sync, T: Texts, R: Read, O: Write, E: Write>(
     ensures quiet { is_answer result ≡ true → err.new ≡ err.old }
     ensures kept { is_answer result ≡ false → result ≢ Status.CannotWrite → out.new ≡ out.old }
 {
-    let names = Names {
+    let names = FileNames {
         program: name,
         log: log.unwrap_or(""),
     };
@@ -120,7 +120,7 @@ fn replay_named<T: Texts, R: Read, O: Write, E: Write>(
     ensures quiet { is_answer result ≡ true → err.new ≡ err.old }
     ensures kept { is_answer result ≡ false → result ≢ Status.CannotWrite → out.new ≡ out.old }
 {
-    let names = Names { program: name, log };
+    let names = FileNames { program: name, log };
     replay_text(alloc, &names, reader, texts.open(log), out, err)
 }
 
@@ -147,7 +147,7 @@ fn debug_named<T: Texts, R: Read, O: Write, E: Write>(
     ensures quiet { is_answer result ≡ true → err.new ≡ err.old }
     ensures kept { result ≡ Status.Refused → out.new ≡ out.old }
 {
-    let names = Names { program: name, log };
+    let names = FileNames { program: name, log };
     let mut commands = texts.commands();
     debug_text(
         alloc,

@@ -8,19 +8,15 @@ use Rattle.cilk_machine.specs.model.State.{Outcome, running, finished, trapped}
 use Rattle.cilk_machine.specs.model.Event.{Event}
 use Rattle.cilk_machine.specs.model.Run.{Standing, after, next_of}
 use Rattle.cilk_machine.specs.model.End as model
-use Rattle.cilk_machine.specs.choices.Words.{choice_of, end_of}
-use Rattle.cilk_machine.specs.choices.declared.choice.Choice as code
-use Rattle.cilk_machine.specs.choices.declared.end.End.{End}
+use Rattle.cilk_log.specs.choices.Words.{choice_of, end_of}
+use Rattle.cilk_log.specs.choices.declared.choice.Choice as code
+use Rattle.cilk_log.specs.choices.declared.end.End.{End}
 use Rattle.cilk_machine.specs.Situation.{Situation, workers_of}
 use Rattle.cilk_machine.specs.Made.{Makes}
 use Rattle.cilk_machine.specs.Stands.{Led, StandsAt, Opens}
 use Rattle.cilk_run.specs.Histories.{IsLedBy, IsCounted}
 use Rattle.cilk_run.specs.Runs.{Stops, IsRun}
 use Rattle.cilk_run.specs.declared.outcome.Run.{Run}
-
--- no choice was made yet
-pub led-open : (m : Situation) → Opens m → IsLedBy m []
-led-open m opens = record { events = []; at = opens.0; led = opens.1 }
 
 pub led-on : (made : List code.Choice) (m n : Situation) (choice : code.Choice) (did : Event) → Makes m n (choice_of choice) did
     → IsLedBy m made → IsLedBy n (made ++ choice ∷ [])
@@ -54,7 +50,8 @@ ends-stuck limit m seen made b same l within told is =
       whole = λ at there ends. absurd (stuck_by (label m.program) (model.is_stuck (label m.program) at) at.state.outcome (sym (told' at there) ∙ is) ends);
     }
 
-pub ran : (p : Program) (n limit : ℕ) (m seen : Situation) (made : List code.Choice) (r : Run) → seen ≡ m → m.program ≡ p → workers_of m ≡ n → IsLedBy m made → Stops limit m
+pub ran : (p : Program) (n limit : ℕ) (m seen : Situation) (made : List code.Choice) (r : Run) → seen ≡ m → m.program ≡ p → workers_of m ≡ n
+    → IsLedBy m made → Stops limit m
     → r.log.workers ≡ n → r.log.choices ≡ made → IsCounted n r.turns made
     → ((at : Standing) → StandsAt seen at → r.output ≡ at.state.output)
     → ((at : Standing) → StandsAt seen at → end_of r.end ≡ model.end_now (label seen.program) at)

@@ -2,8 +2,8 @@
 use Rattle.std.specs.Prelude.{◌≡◌, ◌+◌, ◌<◌, ◌==◌, ℕ, Bool, List, length, map, count_by, slice_index}
 use Rattle.cilk_machine.specs.model.Event.{Event}
 use Rattle.cilk_machine.specs.model.Run.{Standing}
-use Rattle.cilk_machine.specs.choices.Words.{choice_of}
-use Rattle.cilk_machine.specs.choices.declared.choice.Choice.{Choice}
+use Rattle.cilk_log.specs.choices.Words.{choice_of}
+use Rattle.cilk_log.specs.choices.declared.choice.Choice.{Choice}
 use Rattle.cilk_machine.specs.Situation.{Situation}
 use Rattle.cilk_machine.specs.Stands.{Led}
 

@@ -2,10 +2,10 @@ pub mod Histories
 pub mod Glimpses
 pub mod Runs
 pub mod Turning
-pub use Rattle.cilk_machine.specs.choices
-pub use Rattle.cilk_machine.specs.labelled
 pub use Rattle.cilk_log.specs as log
+pub use Rattle.cilk_log.specs.choices
 pub use Rattle.cilk_machine.specs as machine
+pub use Rattle.cilk_machine.specs.labelled
 pub use Rattle.cilk_machine.specs.model
 pub use Rattle.cilk_machine.specs.step
 pub use Rattle.cilk_machine.specs.syntax

@@ -4,7 +4,7 @@ use Rattle.cilk_machine.specs.syntax.Tree.{Program}
 use Rattle.cilk_machine.specs.labelled.Bodies.{label}
 use Rattle.cilk_machine.specs.model.End as model
 use Rattle.cilk_machine.specs.model.Run.{Standing, Position, after}
-use Rattle.cilk_machine.specs.choices.Words.{choice_of, end_of}
+use Rattle.cilk_log.specs.choices.Words.{choice_of, end_of}
 use Rattle.cilk_machine.specs.Situation.{Situation}
 use Rattle.cilk_machine.specs.Stands.{StandsAt}
 use Rattle.cilk_run.specs.Histories.{IsCounted}

@@ -1,9 +1,9 @@
 -- What a turn does.
 use Rattle.std.specs.Prelude.{◌≡◌, ◌⊎◌, ◌||◌, ◌+◌, ℕ, Bool, true, List, [], ◌∷◌, ◌++◌, Option, Some, slice_get}
-use Rattle.cilk_machine.specs.choices.declared.act.Act.{Act}
+use Rattle.cilk_log.specs.choices.declared.act.Act.{Act}
 use Rattle.cilk_machine.specs.step.Looks.{code_at}
-use Rattle.cilk_machine.specs.step.eval.declared.slot.Slot.{Slot}
-use Rattle.cilk_machine.specs.step.values.Term.{Term}
+use Rattle.cilk_machine.specs.eval.declared.slot.Slot.{Slot}
+use Rattle.cilk_machine.specs.labelled.Term.{Term}
 use Rattle.cilk_machine.specs.syntax.Tree.{Program}
 use Rattle.cilk_run.specs.Histories.{Posted}
 use Rattle.cilk_run.specs.Runs.{Stops}

@@ -15,7 +15,7 @@ pub struct Glimpse {
 
 impl Model for Glimpse {
     ghost use Rattle.cilk_machine.specs.step.Looks.{look_of};
-    ghost use Rattle.cilk_machine.specs.step.eval.Coding.{coded_Term};
+    ghost use Rattle.cilk_machine.specs.eval.Coding.{coded_Term};
     ghost use Rattle.cilk_run.specs.Glimpses.{Glanced};
     ghost use Rattle.std.specs.Coded.{codes};
 

@@ -2,11 +2,11 @@
 
 ghost use Rattle.std.specs.Prelude.{◌≡◌, ◌<◌, ◌⊎◌, ◌↔◌, [], ◌∷◌, ◌++◌, None, Some, option_map, Err, IfOk, IfErr, IfSome, OnOk, OnErr};
 ghost use Rattle.cilk_machine.specs.model.Choice as choices;
-ghost use Rattle.cilk_machine.specs.choices.Words.{choice_of, event_of, reason_of};
+ghost use Rattle.cilk_log.specs.choices.Words.{choice_of, event_of, reason_of};
 ghost use Rattle.cilk_machine.specs.Looking.{look_refused, look_at, noted_at, IsUnseen, IsUnsettled};
 ghost use Rattle.cilk_machine.specs.Situation.{workers_of};
-ghost use Rattle.cilk_machine.specs.step.eval.Known.{known};
-ghost use Rattle.cilk_machine.specs.step.values.Value.{value_of};
+ghost use Rattle.cilk_machine.specs.eval.Known.{known};
+ghost use Rattle.cilk_machine.specs.labelled.Value.{value_of};
 ghost use Rattle.cilk_machine.specs.step.Looks.{code_at};
 ghost use Rattle.cilk_machine.specs.Made.{Makes, MakesBy, IsRefused};
 ghost use Rattle.cilk_machine.specs.Stands.{Opens};

@@ -1,8 +1,8 @@
 //! The value of what a worker saw of its step.
 
 ghost use Rattle.std.specs.Prelude.{◌≡◌};
-ghost use Rattle.cilk_machine.specs.step.eval.Known.{known};
-ghost use Rattle.cilk_machine.specs.step.values.Value.{value_of};
+ghost use Rattle.cilk_machine.specs.eval.Known.{known};
+ghost use Rattle.cilk_machine.specs.labelled.Value.{value_of};
 ghost use Rattle.cilk_machine.specs.step.Looks.{look_of};
 
 use crate::glimpse::Glimpse;
@@ -19,9 +19,9 @@ pub struct Proposal {
 
 impl Model for Proposal {
     ghost use Rattle.std.specs.Prelude.{◌≡◌};
-    ghost use Rattle.cilk_machine.specs.step.eval.Coding.{coded_Term};
-    ghost use Rattle.cilk_machine.specs.step.eval.Known.{known};
-    ghost use Rattle.cilk_machine.specs.step.values.Value.{value_of};
+    ghost use Rattle.cilk_machine.specs.eval.Coding.{coded_Term};
+    ghost use Rattle.cilk_machine.specs.eval.Known.{known};
+    ghost use Rattle.cilk_machine.specs.labelled.Value.{value_of};
     ghost use Rattle.cilk_machine.specs.step.Looks.{look_of};
     ghost use Rattle.cilk_run.specs.Glimpses.{Proposed};
     ghost use Rattle.std.specs.Coded.{codes};

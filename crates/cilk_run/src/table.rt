@@ -1,11 +1,12 @@
 //! What lies under the lock of a run, and what a worker does with it in one turn.
 
-ghost use Rattle.std.specs.Prelude.{ℕ, ◌+◌, ◌≡◌, ◌≢◌, ◌<◌, ◌≤◌, ◌⊎◌, [], ◌∷◌, ◌++◌, length, slice_index, slice_set, ◌-◌, ◌^◌, true, Some, IfOk, IfErr, OnOk, OnErr};
-ghost use Rattle.cilk_machine.specs.choices.Words.{choice_of, reason_of};
+ghost use Rattle.std.specs.Prelude.{ℕ, ◌+◌, ◌≡◌, ◌≢◌, ◌<◌, ◌≤◌, ◌⊎◌, [], ◌∷◌, ◌++◌, length, slice_index, slice_set, ◌-◌, ◌^◌, true, Some, IfOk, IfErr};
+ghost use Rattle.std.specs.Prelude.{OnOk, OnErr};
+ghost use Rattle.cilk_log.specs.choices.Words.{choice_of, reason_of};
 ghost use Rattle.cilk_machine.specs.Situation.{workers_of};
 ghost use Rattle.cilk_machine.specs.Made.{IsRefused};
-ghost use Rattle.cilk_machine.specs.step.eval.Known.{known};
-ghost use Rattle.cilk_machine.specs.step.values.Value.{value_of};
+ghost use Rattle.cilk_machine.specs.eval.Known.{known};
+ghost use Rattle.cilk_machine.specs.labelled.Value.{value_of};
 ghost use Rattle.cilk_machine.specs.step.Looks.{code_at};
 ghost use Rattle.cilk_run.specs.Histories.{IsCounted};
 ghost use Rattle.cilk_run.specs.Runs.{IsRun, Stops};

@@ -6,7 +6,7 @@ ghost use Rattle.cilk_frame.specs.model.Places.{no_place, IsWorker, hand_of, deq
 ghost use Rattle.cilk_frame.specs.Frames as frames;
 ghost use Rattle.cilk_frame.specs.Frames.{gone_to, left, with_cell, put_top};
 
-use crate::place::Place;
+use crate::worker::Worker;
 use cilk_frame::{Frame, Memory};
 use std::alloc::Global;
 use std::marker::Model;
@@ -16,7 +16,7 @@ use std::marker::Model;
 /// owned: it comes in by a move, and goes out by one.
 #[derive(Drop)]
 pub struct Hands {
-    places: Vec<Place>,
+    places: Vec<Worker>,
 }
 
 impl Model for Hands {
@@ -24,7 +24,7 @@ impl Model for Hands {
     ghost use Rattle.cilk_frame.specs.model.Places as seen;
     ghost use Rattle.cilk_frame.specs.Frames.{Frame};
 
-    ghost Value = { List (seen.PlaceOf Frame) };
+    ghost Value = { List (seen.WorkerOf Frame) };
 
     ghost view = { λ h. h.places.items };
 }
@@ -36,7 +36,7 @@ impl Hands {
     {
         let mut places = Vec::with_capacity(alloc, workers as usize)?;
         for _ in 0..workers {
-            places.push(Place::new(alloc))?;
+            places.push(Worker::new(alloc))?;
         }
         Ok(Hands { places })
     }

@@ -51,7 +51,7 @@
 
 mod hands;
 mod laws;
-mod place;
+mod worker;
 
 pub use cilk_frame::{Area, Body, Memory, Var};
 pub use hands::Hands;

@@ -1,9 +1,9 @@
 -- What the kinds of traps of the code mean.
 use Rattle.cilk_frame.specs.model.State as state
-use Rattle.cilk_spawn.specs.declared.kind.Kind.{Kind}
-use Rattle.cilk_spawn.specs.declared.kind.Kind.TheVariants.{Value, Lock, HeldLock, Depth, Instances, Output}
+use Rattle.cilk_spawn.specs.declared.trap_kind.TrapKind.{TrapKind}
+use Rattle.cilk_spawn.specs.declared.trap_kind.TrapKind.TheVariants.{Value, Lock, HeldLock, Depth, Instances, Output}
 
-abbrev pub kind_of : Kind → state.Kind
+abbrev pub kind_of : TrapKind → state.TrapKind
 kind_of (Value trap) = state.of_value trap
 kind_of Lock = state.lock
 kind_of HeldLock = state.held_lock

@@ -25,13 +25,13 @@ mod arguments;
 mod delivery;
 mod ending;
 mod fate;
-mod kind;
 mod laws;
 mod leaving;
 mod life;
 mod path;
 mod receiver;
 mod record;
+mod trap_kind;
 mod tree;
 
 pub use arguments::Arguments;
@@ -39,10 +39,10 @@ pub use cilk_frame::{Frame, Id, Memory, Trap};
 pub use delivery::Delivery;
 pub use ending::Ending;
 pub use fate::Fate;
-pub use kind::Kind;
 pub use laws::{
     a_return_ends_and_sends, ids_change, paths_are_names, paths_stay, trees_stay_trees,
 };
 pub use path::Path;
 pub use receiver::Receiver;
+pub use trap_kind::TrapKind;
 pub use tree::Tree;

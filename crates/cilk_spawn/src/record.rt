@@ -1,9 +1,10 @@
 //! The record of one instance in the tree: its family, its fate, and what waits for it while it lives.
 
-ghost use Rattle.std.specs.Prelude.{ℕ, ◌≡◌, ◌<◌, ◌==◌, ◌&&◌, ◌++◌, ◌∷◌, None, Some, [], true, cond, length, IfNone, IfOk, IfSome, OnErr, OnOk, drop, option_copied, slice_get};
+ghost use Rattle.std.specs.Prelude.{ℕ, ◌≡◌, ◌<◌, ◌==◌, ◌&&◌, ◌++◌, ◌∷◌, None, Some, [], true, cond, length, IfNone, IfOk, IfSome, OnErr, OnOk, drop};
+ghost use Rattle.std.specs.Prelude.{option_copied, slice_get};
 ghost use Rattle.cilk_spawn.specs.Nodes.{is_live, is_number, fate_at, after_taking};
 ghost use Rattle.cilk_spawn.specs.declared.receiver.Receiver.TheVariants.{Nothing};
-ghost use Rattle.cilk_spawn.specs.Records.{node_of, node_at_start, child_of, place_of, SameBeside, HasRoom, NoneBetween};
+ghost use Rattle.cilk_spawn.specs.Records.{node_of, node_at_start, child_of, live_index, SameBeside, HasRoom, NoneBetween};
 
 use crate::delivery::Delivery;
 use crate::ending::Ending;
@@ -44,7 +45,7 @@ impl Record {
     ) -> Result<Record, Memory>
         ensures node { IfOk result (λ r. node_of r ≡ node_at_start parent ordinal procedure aborted receiver) }
         ensures children { IfOk result (λ r. (k : ℕ) → child_of r.life k ≡ None) }
-        ensures place { IfOk result (λ r. place_of r.life ≡ place) }
+        ensures place { IfOk result (λ r. live_index r.life ≡ place) }
     {
         let live = Box::new(
             alloc,
@@ -91,7 +92,7 @@ impl Record {
         requires live { is_live (node_of self.old) ≡ true }
         ensures node { OnOk result (node_of self.new ≡ record (node_of self.old) { children = ordinal }) }
         ensures children { OnOk result ((k : ℕ) → child_of self.new.life k ≡ cond (ordinal == k) (Some child) (child_of self.old.life k)) }
-        ensures place { OnOk result (place_of self.new.life ≡ place_of self.old.life) }
+        ensures place { OnOk result (live_index self.new.life ≡ live_index self.old.life) }
         ensures err { OnErr result ((node_of self.new ≡ node_of self.old) × SameBeside self.old self.new) }
     {
         match &mut self.life {
@@ -108,7 +109,7 @@ impl Record {
     pub fn lose(&mut self, ordinal: u32)
         ensures node { node_of self.new ≡ node_of self.old }
         ensures children { (k : ℕ) → child_of self.new.life k ≡ cond (ordinal == k) None (child_of self.old.life k) }
-        ensures place { place_of self.new.life ≡ place_of self.old.life }
+        ensures place { live_index self.new.life ≡ live_index self.old.life }
     {
         match &mut self.life {
             Life::Live(live) => {
@@ -123,7 +124,7 @@ impl Record {
         requires live { is_live (node_of self.old) ≡ true }
         ensures node { node_of self.new ≡ node_of self.old }
         ensures children { (k : ℕ) → child_of self.new.life k ≡ child_of self.old.life k }
-        ensures place { place_of self.new.life ≡ place }
+        ensures place { live_index self.new.life ≡ place }
     {
         match &mut self.life {
             Life::Live(live) => live.place = place,
@@ -283,7 +284,7 @@ impl Record {
 
     /// Where it stands among those that live.
     pub fn place(&self) -> usize
-        ensures { result ≡ place_of self.now.life }
+        ensures { result ≡ live_index self.now.life }
     {
         match &self.life {
             Life::Live(live) => live.place,

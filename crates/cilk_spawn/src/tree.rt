@@ -1,7 +1,9 @@
 //! The tree of instances: who is born, waits, is parked, is marked by an `abort`, and ends.
 
-ghost use Rattle.std.specs.Prelude.{ℕ, ◌≡◌, ◌<◌, ◌+◌, ◌^◌, length, None, Some, false, true, [], ◌++◌, ◌∷◌, IfOk, IfSome, OnErr, OnOk, cond, nat_lt, option_copied, slice_get};
-ghost use Rattle.cilk_spawn.specs.Nodes.{node_at, is_live, live_ids, has_live_child, is_synched, takes_value, root_alone, with_child, delivered, taken, fate_at, ended, with_parked, marked_below, path_at, IsTree};
+ghost use Rattle.std.specs.Prelude.{ℕ, ◌≡◌, ◌<◌, ◌+◌, ◌^◌, length, None, Some, false, true, [], ◌++◌, ◌∷◌, IfOk, IfSome, OnErr, OnOk, cond, nat_lt};
+ghost use Rattle.std.specs.Prelude.{option_copied, slice_get};
+ghost use Rattle.cilk_spawn.specs.Nodes.{node_at, is_live, live_ids, has_live_child, is_synched, takes_value, root_alone, with_child, delivered};
+ghost use Rattle.cilk_spawn.specs.Nodes.{taken, fate_at, ended, with_parked, marked_below, path_at, IsTree};
 
 use crate::delivery::Delivery;
 use crate::ending::Ending;

@@ -1,7 +1,7 @@
 //! Sessions of a debugger over readers and writers that work, end, or fail.
 
 use crate::running::program;
-use cilk_debug::{Debugger, ReadFault, SessionFault};
+use cilk_debug::{Debugger, InputFault, SessionFault};
 use cilk_log::read_log;
 use std::alloc::Global;
 use std::io;
@@ -107,7 +107,7 @@ fn long_lines(rt: HostRuntime) {
     let mut reader = longer.as_slice();
     let mut out = Vec::new(rt.alloc());
     let ended = debugger.session(&mut reader, &mut out);
-    assert_eq!(rt; ended, Err(SessionFault::Read(ReadFault::LineTooLong)));
+    assert_eq!(rt; ended, Err(SessionFault::Read(InputFault::LineTooLong)));
     assert!(rt; out.is_empty());
 }
 
@@ -122,7 +122,7 @@ fn many_lines(rt: HostRuntime) {
     let mut reader = lines.as_slice();
     let mut out = Vec::new(rt.alloc());
     let ended = debugger.session(&mut reader, &mut out);
-    assert_eq!(rt; ended, Err(SessionFault::Read(ReadFault::TooManyLines)));
+    assert_eq!(rt; ended, Err(SessionFault::Read(InputFault::TooManyLines)));
     assert!(rt; out.is_empty());
 }
 
@@ -165,7 +165,7 @@ fn each_read_fails_once(rt: HostRuntime) {
         };
         let mut out = Vec::new(rt.alloc());
         let ended = debugger.session(&mut reader, &mut out);
-        assert_eq!(rt; ended, Err(SessionFault::Read(ReadFault::Device)));
+        assert_eq!(rt; ended, Err(SessionFault::Read(InputFault::Device)));
         let lines = newlines_in(WALK.as_bytes(), given);
         let stands = [0, 1, 2, 1, 0];
         assert!(rt; lines < 5);

@@ -1,9 +1,19 @@
-//! The syntax tree of a program, and its canonical text.
+//! The canonical text of a program, and whether two trees say the same, wherever they stand in their texts.
 #![tactic(auto)]
 
-pub use cilk_canonical::{
+mod alike;
+mod expr;
+mod head;
+mod item;
+mod line;
+mod literal;
+mod put;
+mod stmt;
+
+pub use alike::Same;
+pub use cilk_tree_syntax::{
     Adjustment, BinOp, Block, Decl, Expr, ExprNode, Global, GlobalShape, Inlet, Item, ItemNode,
     Literal, Local, LocalNode, LockAction, Memory, Move, MoveNode, Parameters, Place, Proc,
-    Program, Prototype, ReturnType, Shape, Stmt, StmtNode, Taker, Target, UnOp, Word, canonical,
+    Program, Prototype, ReturnType, Shape, Stmt, StmtNode, Taker, Target, UnOp, Word,
 };
-pub use cilk_same::Same;
+pub use item::canonical;

@@ -1,28 +1,29 @@
 -- What the activations of a frame tell is what those of its instance say.
-use Rattle.std.proofs.Common.{◌≡◌, ℕ, true, false, ◌+◌, ◌++◌, List, [], ◌∷◌, drop, map, reverse, length, refl, sym, ap, ◌∙◌, append_assoc, Option, Some, None, option_map}
+use Rattle.std.proofs.Common.{◌≡◌, ℕ, true, false, ◌+◌, ◌++◌, List, [], ◌∷◌, drop, map, reverse, length, refl, sym, ap, ◌∙◌, append_assoc, Option}
+use Rattle.std.proofs.Common.{Some, None, option_map}
 use Rattle.std.specs.Prelude.{codes, decimal, flat_map, option_and_then}
 use Rattle.std.proofs.lemmas.List.{reverse-reverse, reverse-append, map-append}
-use Rattle.cilk_agree.specs.syntax.Tree.{Program}
-use Rattle.cilk_agree.specs.check.Fault.{WellFormed}
-use Rattle.cilk_agree.specs.eval.declared.area.Area.{Area}
-use Rattle.cilk_agree.specs.eval.declared.area.Area.TheVariants.{Own}
-use Rattle.cilk_agree.specs.labelled.Labelled.{Numbered, Variable}
-use Rattle.cilk_agree.specs.labelled.Items.{Items, head_of}
-use Rattle.cilk_agree.specs.labelled.Bodies.{label}
-use Rattle.cilk_agree.specs.model.Values.{Values}
-use Rattle.cilk_agree.specs.model.Instance as model
-use Rattle.cilk_agree.specs.model.Instance.{Instance, body_at}
-use Rattle.cilk_agree.specs.nodes.declared.node.Node.{Node}
-use Rattle.cilk_agree.specs.nodes.Slots.{size_of, flat, slot_of}
-use Rattle.cilk_agree.specs.nodes.Actions.{slotted}
-use Rattle.cilk_agree.specs.nodes.Table.{number_of, number_after, node_at, node_of}
-use Rattle.cilk_agree.specs.nodes.Bodies.{vars_from, body_table, body_of}
-use Rattle.cilk_agree.specs.nodes.Laws.{Reached, items_at}
-use Rattle.cilk_agree.proofs.nodes_laws.Heads.{nodes-stand, bodies-have}
-use Rattle.cilk_agree.specs.frame.Frames.{Activation, Frame}
-use Rattle.cilk_agree.specs.frame.Stands.{Activates, AllActivate, StandsFor}
-use Rattle.cilk_agree.specs.seen.Texts.{length_text, values_text, line_at}
-use Rattle.cilk_agree.specs.seen.Frames.{variables_text, activation_text, frame_text}
+use Rattle.cilk_machine_agree.specs.syntax.Tree.{Program}
+use Rattle.cilk_load.specs.check.Fault.{WellFormed}
+use Rattle.cilk_machine_agree.specs.eval.declared.area.Area.{Area}
+use Rattle.cilk_machine_agree.specs.eval.declared.area.Area.TheVariants.{Own}
+use Rattle.cilk_load.specs.labelled.Labelled.{Numbered, Variable}
+use Rattle.cilk_load.specs.labelled.Items.{Items, head_of}
+use Rattle.cilk_load.specs.labelled.Bodies.{label}
+use Rattle.cilk_machine_agree.specs.model.Values.{Values}
+use Rattle.cilk_machine_agree.specs.model.Instance as model
+use Rattle.cilk_machine_agree.specs.model.Instance.{Instance, body_at}
+use Rattle.cilk_machine_agree.specs.nodes.declared.node.Node.{Node}
+use Rattle.cilk_machine_agree.specs.nodes.Slots.{size_of, flat, slot_of}
+use Rattle.cilk_machine_agree.specs.nodes.Actions.{slotted}
+use Rattle.cilk_machine_agree.specs.nodes.Table.{number_of, number_after, node_at, node_of}
+use Rattle.cilk_machine_agree.specs.nodes.Bodies.{vars_from, body_table, body_of}
+use Rattle.cilk_machine_agree.specs.nodes.Laws.{Reached, items_at}
+use Rattle.cilk_machine_agree.proofs.nodes_laws.Heads.{nodes-stand, bodies-have}
+use Rattle.cilk_machine_agree.specs.frame.Frames.{Activation, Frame}
+use Rattle.cilk_machine_agree.specs.frame.Stands.{Activates, AllActivate, StandsFor}
+use Rattle.cilk_machine_agree.specs.model.Texts.{length_text, values_text, line_at}
+use Rattle.cilk_machine_agree.specs.model.Frames.{variables_text, activation_text, frame_text}
 use Rattle.cilk_view.specs.Turns.{line_number}
 use Rattle.cilk_view.specs.Frames.{body_with, vars_text, body_text, activation_by, frame_by}
 use Rattle.cilk_view.proofs.Links.{take_front, drop_front, by_head}
@@ -61,7 +62,9 @@ body_by_head p b items n o some is = ap (option_and_then (λ (node : Node). body
 
 map-reverse : {A B : Type 0} (f : A → B) (xs : List A) → map f (reverse xs) ≡ reverse (map f xs)
 map-reverse f [] = refl
-map-reverse f (x ∷ xs) = ap (map f) (reverse-append (x ∷ []) xs) ∙ map-append f (reverse xs) (x ∷ []) ∙ ap (λ ys. ys ++ f x ∷ []) (map-reverse f xs) ∙ sym (reverse-append (f x ∷ []) (map f xs))
+map-reverse f (x ∷ xs) =
+    ap (map f) (reverse-append (x ∷ []) xs) ∙ map-append f (reverse xs) (x ∷ []) ∙ ap (λ ys. ys ++ f x ∷ []) (map-reverse f xs)
+    ∙ sym (reverse-append (f x ∷ []) (map f xs))
 
 joined : {A : Type 0} (f : A → List ℕ) (xs : List A) → flat_map f xs ≡ flat_map (λ (t : List ℕ). t) (map f xs)
 joined f [] = refl
@@ -84,8 +87,12 @@ module _ (p : Program) (ok : WellFormed p) where
       let line : line_at (label p) m.items ≡ line_number p a.node = by_head (label p) (head_of m.items) a.node acts.node_is in
       ap (body_text p a.node a.cells) (body_is a m acts)
       ∙ ap (λ k. own.name ++ (codes " line " ++ (decimal k ++ (codes "\n" ++ vars_text (vars_from Own 0 own.variables) a.cells)))) (sym line)
-      ∙ ap (λ cells. own.name ++ (codes " line " ++ (decimal (line_at (label p) m.items) ++ (codes "\n" ++ vars_text (vars_from Own 0 own.variables) cells)))) acts.cells_are
-      ∙ ap (λ text. own.name ++ (codes " line " ++ (decimal (line_at (label p) m.items) ++ (codes "\n" ++ text)))) (vars_are Own 0 own.variables m.values acts.sizes_are)
+      ∙ ap
+      (λ cells. own.name
+      ++ (codes " line " ++ (decimal (line_at (label p) m.items) ++ (codes "\n" ++ vars_text (vars_from Own 0 own.variables) cells))))
+      acts.cells_are
+      ∙ ap (λ text. own.name ++ (codes " line " ++ (decimal (line_at (label p) m.items) ++ (codes "\n" ++ text))))
+      (vars_are Own 0 own.variables m.values acts.sizes_are)
 
   all_are : (xs : List Activation) (ms : List model.Activation) → AllActivate (label p) xs ms → map (activation_by p) xs ≡ map (activation_text (label p)) ms
   all_are [] [] h = refl
@@ -96,8 +103,11 @@ module _ (p : Program) (ok : WellFormed p) where
   -- a frame that stands for an instance tells what the definition says
   pub frame_is : (f : Frame) (i : Instance) → StandsFor (label p) f i → frame_by p f ≡ frame_text (label p) i
   frame_is f i stands =
-      let same : map (activation_by p) (reverse f.activations) ≡ map (activation_text (label p)) (i.top ∷ i.below) = all_are (reverse f.activations) (i.top ∷ i.below) stands.activations in
+      let same : map (activation_by p) (reverse f.activations)
+      ≡ map (activation_text (label p)) (i.top ∷ i.below) = all_are (reverse f.activations) (i.top ∷ i.below) stands.activations in
       joined (activation_by p) f.activations
       ∙ ap (λ xs. flat_map (λ (t : List ℕ). t) (map (activation_by p) xs)) (sym (reverse-reverse f.activations))
-      ∙ ap (flat_map (λ (t : List ℕ). t)) (map-reverse (activation_by p) (reverse f.activations) ∙ ap reverse same ∙ sym (map-reverse (activation_text (label p)) (i.top ∷ i.below)))
+      ∙ ap (flat_map (λ (t : List ℕ). t))
+      (map-reverse (activation_by p) (reverse f.activations) ∙ ap reverse same
+      ∙ sym (map-reverse (activation_text (label p)) (i.top ∷ i.below)))
       ∙ sym (joined (activation_text (label p)) (reverse (i.top ∷ i.below)))

@@ -1,30 +1,31 @@
 -- The frame of a live instance is the one that stands for it.
-use Rattle.std.proofs.Common.{◌≡◌, ℕ, zero, suc, ◌+◌, ◌<◌, Bool, true, false, nat_eq, cond, List, [], ◌∷◌, drop, map, length, Option, Some, None, refl, sym, ap, ◌∙◌, subst, arith, All, inl, inr, sum_by, count_by}
+use Rattle.std.proofs.Common.{◌≡◌, ℕ, zero, suc, ◌+◌, ◌<◌, Bool, true, false, nat_eq, cond, List, [], ◌∷◌, drop, map, length, Option, Some, None}
+use Rattle.std.proofs.Common.{refl, sym, ap, ◌∙◌, subst, arith, All, inl, inr, sum_by, count_by}
 use Rattle.std.specs.Prelude.{slice_get, IfSome, is_some, option_map}
 use Rattle.std.specs.Option.{option_or}
 use Rattle.std.proofs.lemmas.Bool.Decides.{Decides-eqb}
 use Rattle.std.proofs.lemmas.List.Elements.{All-head, All-tail}
 use Rattle.std.proofs.lemmas.List.Sums.{sum_by-cons}
-use Rattle.cilk_agree.specs.syntax.Tree.{Program}
-use Rattle.cilk_agree.specs.labelled.Bodies.{label}
-use Rattle.cilk_agree.specs.model.Path.{Path, same_path, is_that}
-use Rattle.cilk_agree.specs.model.Instance.{Instance}
-use Rattle.cilk_agree.specs.model.State.{is_live, instance_at}
-use Rattle.cilk_agree.specs.model.Places.{PlaceOf, named}
-use Rattle.cilk_agree.specs.model.Run.{Standing}
-use Rattle.cilk_agree.specs.placed.Places.{times_held, EachInItsPlace}
-use Rattle.cilk_agree.proofs.placed_laws.Entries.{same-is}
-use Rattle.cilk_agree.specs.frame.Frames.{Frame}
-use Rattle.cilk_agree.specs.frame.Stands.{StandsFor}
-use Rattle.cilk_agree.specs.spawn.Nodes as nodes
-use Rattle.cilk_agree.specs.spawn.Nodes.{Node, IsTree, node_at, live_ids, path_at}
-use Rattle.cilk_agree.proofs.spawn_laws.Lists.{decide, those_pass}
-use Rattle.cilk_agree.proofs.spawn_laws.Trees.{live_there}
-use Rattle.cilk_agree.proofs.spawn_laws.Paths.{other_there}
-use Rattle.cilk_agree.specs.sched.Count.{AllAt, AllHeld}
-use Rattle.cilk_agree.proofs.sched_laws.Count.{AllHeld-weaker}
-use Rattle.cilk_agree.specs.Agrees.{Machine, Held, Agrees, entry_of, name_in}
-use Rattle.cilk_agree.proofs.Found.{found}
+use Rattle.cilk_machine_agree.specs.syntax.Tree.{Program}
+use Rattle.cilk_load.specs.labelled.Bodies.{label}
+use Rattle.cilk_machine_agree.specs.model.Path.{Path, same_path, is_that}
+use Rattle.cilk_machine_agree.specs.model.Instance.{Instance}
+use Rattle.cilk_machine_agree.specs.model.State.{is_live, instance_at}
+use Rattle.cilk_machine_agree.specs.model.Places.{WorkerOf, named}
+use Rattle.cilk_machine_agree.specs.model.Run.{Standing}
+use Rattle.cilk_machine_agree.specs.placed.Places.{times_held, EachInItsPlace}
+use Rattle.cilk_machine_agree.proofs.placed_laws.Entries.{same-is}
+use Rattle.cilk_machine_agree.specs.frame.Frames.{Frame}
+use Rattle.cilk_machine_agree.specs.frame.Stands.{StandsFor}
+use Rattle.cilk_machine_agree.specs.spawn.Nodes as nodes
+use Rattle.cilk_machine_agree.specs.spawn.Nodes.{Node, IsTree, node_at, live_ids, path_at}
+use Rattle.cilk_machine_agree.proofs.spawn_laws.Lists.{decide, those_pass}
+use Rattle.cilk_machine_agree.proofs.spawn_laws.Trees.{live_there}
+use Rattle.cilk_machine_agree.proofs.spawn_laws.Paths.{other_there}
+use Rattle.cilk_machine_agree.specs.sched.Count.{AllAt, AllHeld}
+use Rattle.cilk_machine_agree.proofs.sched_laws.Count.{AllHeld-weaker}
+use Rattle.cilk_machine_agree.specs.Agrees.{MachineParts, Held, Agrees, entry_of, name_in}
+use Rattle.cilk_machine_agree.proofs.Found.{found}
 use Rattle.cilk_view.specs.Finding.{frame_among, frame_at_by, frame_at, frame_held, frame_live}
 
 pub among_here : (id : ℕ) (deque : List Frame) (i : ℕ) (f : Frame) → Some f ≡ slice_get deque i → nat_eq f.id id ≡ true → Some f ≡ frame_among id (drop i deque)
@@ -64,7 +65,8 @@ record Is (P : Frame → Type 0) (id : ℕ) (f : Frame) : Type 0 where
   pub holds : P f
 
 module _ (P : Frame → Type 0) (id : ℕ) (f : Frame) where
-  first_is : (g : Frame) (b : Bool) (later : Option Frame) → nat_eq g.id id ≡ b → P g → (later ≡ Some f → Is P id f) → cond b (Some g) later ≡ Some f → Is P id f
+  first_is : (g : Frame) (b : Bool) (later : Option Frame) → nat_eq g.id id ≡ b → P g → (later ≡ Some f → Is P id f)
+      → cond b (Some g) later ≡ Some f → Is P id f
   first_is g true later is holds behind e =
       let same : g ≡ f = cc in
       record { own = ap (λ (x : Frame). x.id) (sym same) ∙ same_id g.id id is; holds = subst P same holds }
@@ -83,7 +85,7 @@ module _ (P : Frame → Type 0) (id : ℕ) (f : Frame) where
   or_is None later first behind e = behind e
   or_is (Some g) later first behind e = first e
 
-  held_is : (places : List (PlaceOf Frame)) → AllHeld P places → frame_held id places ≡ Some f → Is P id f
+  held_is : (places : List (WorkerOf Frame)) → AllHeld P places → frame_held id places ≡ Some f → Is P id f
   held_is [] all e = cc
   held_is (at ∷ places) all e =
       let here = All-head (AllAt P) at places all in
@@ -131,19 +133,22 @@ module _ (ns : List Node) (t : IsTree ns) (id : ℕ) (there : id < length ns) wh
   or_none None later e = (refl, e)
   or_none (Some g) later e = cc
 
-  none_held : (places : List (PlaceOf Frame)) → AllHeld (Made ns) places → frame_held id places ≡ None → sum_by (times_held (path_at ns id)) (named (name_in ns) places) ≡ 0
+  none_held : (places : List (WorkerOf Frame)) → AllHeld (Made ns) places → frame_held id places ≡ None
+      → sum_by (times_held (path_at ns id)) (named (name_in ns) places) ≡ 0
   none_held [] all none = refl
   none_held (at ∷ places) all none =
       let both = or_none (frame_at id at) (frame_held id places) none in
       let own = All-head (AllAt (Made ns)) at places all in
       let here = none_at at.hand at.deque own.0 own.1 both.0 in
       let rest = none_held places (All-tail (AllAt (Made ns)) at places all) both.1 in
-      let whole = sum_by-cons (times_held (path_at ns id)) (record { hand = option_map (name_in ns) at.hand; deque = map (name_in ns) at.deque }) (named (name_in ns) places) in
+      let whole = sum_by-cons (times_held (path_at ns id))
+      (record { hand = option_map (name_in ns) at.hand; deque = map (name_in ns) at.deque }) (named (name_in ns) places) in
       omega (arith, here, rest, whole)
 
-module _ (p : Program) (m : Machine) (who : ℕ → Instance) (at : Standing) (agrees : Agrees p m who at) where
+module _ (p : Program) (m : MachineParts) (who : ℕ → Instance) (at : Standing) (agrees : Agrees p m who at) where
   -- the instances at a path that no live one has
-  pub no_instance : (path : Path) → ((id : ℕ) → nodes.is_live (node_at m.nodes id) ≡ true → path_at m.nodes id ≡ path → ⊥) → instance_at at.state.instances path ≡ None
+  pub no_instance : (path : Path) → ((id : ℕ) → nodes.is_live (node_at m.nodes id) ≡ true → path_at m.nodes id ≡ path → ⊥)
+      → instance_at at.state.instances path ≡ None
   no_instance path none =
       ap (λ es. instance_at es path) agrees.instances
       ∙ among (live_ids m.nodes) (λ k d lt. those_pass (λ j. nodes.is_live (node_at m.nodes j)) (length m.nodes) k d lt)
@@ -187,7 +192,8 @@ module _ (p : Program) (m : Machine) (who : ℕ → Instance) (at : Standing) (a
       let unparked : once (at.scheduler.parked q) ≡ 0 = ap once (agrees.parked id there ∙ ap is_some both.0) in
       let held : sum_by (times_held q) at.scheduler.places ≡ 0 =
       ap (sum_by (times_held q)) agrees.places
-      ∙ none_held m.nodes agrees.tree id there m.places (AllHeld-weaker (Held p m.nodes who) (Made m.nodes) (λ f h. live_there m.nodes f.id h.live) m.places agrees.held) both.1
+      ∙ none_held m.nodes agrees.tree id there m.places
+      (AllHeld-weaker (Held p m.nodes who) (Made m.nodes) (λ f h. live_there m.nodes f.id h.live) m.places agrees.held) both.1
       in
       let lives : once (is_live at.state.instances q) ≡ 1 = ap (λ (o : Option Instance). once (is_some o)) (instance_there id live) in
       let once = placed.once q in

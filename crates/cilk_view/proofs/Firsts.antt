@@ -1,14 +1,15 @@
 -- The map of the first actions, and the lines of a text.
-use Rattle.std.proofs.Common.{◌≡◌, ℕ, zero, suc, ◌+◌, ◌<◌, ◌≤◌, length-drop, ◌++◌, Bool, true, false, cond, not, List, [], ◌∷◌, drop, take, length, refl, sym, ap, subst, ◌∙◌, arith, append_assoc}
+use Rattle.std.proofs.Common.{◌≡◌, ℕ, zero, suc, ◌+◌, ◌<◌, ◌≤◌, length-drop, ◌++◌, Bool, true, false, cond, not, List, [], ◌∷◌, drop, take, length}
+use Rattle.std.proofs.Common.{refl, sym, ap, subst, ◌∙◌, arith, append_assoc}
 use Rattle.std.proofs.lemmas.Grind.{common_steps}
 use Rattle.std.specs.Prelude.{◌==◌, slice_get, Option, Some, None, if◌then◌else◌, IsSome}
 use Rattle.std.specs.BTreeMap.{BTreeMap, Updates}
 use Rattle.std.specs.List.{before_first, after_first, position_or_len}
 use Rattle.std.specs.Ordering.{nat_cmp}
-use Rattle.cilk_agree.specs.labelled.Labelled.{Labelled}
-use Rattle.cilk_agree.specs.model.End.{line_of}
-use Rattle.cilk_agree.specs.seen.Listing.{lines_in, first_on, numbered_text}
-use Rattle.cilk_agree.specs.seen.Listing.{before_first as with_first}
+use Rattle.cilk_load.specs.labelled.Labelled.{Labelled}
+use Rattle.cilk_machine_agree.specs.model.End.{line_of}
+use Rattle.cilk_machine_agree.specs.model.Listing.{lines_in, first_on, numbered_text}
+use Rattle.cilk_machine_agree.specs.model.Listing.{before_first as with_first}
 use Rattle.cilk_view.specs.Listing.{HasFirsts, numbered_line}
 
 none_past : (xs : List ℕ) (n : ℕ) → slice_get xs n ≡ None → drop n xs ≡ []
@@ -84,7 +85,9 @@ module _ (b : ℕ) (text : List ℕ) where
       let next : suc (to_line text) + 1 ≡ suc (to_line text + 1) = omega arith in
       ap (λ x. if x then [] ∷ lines_in text else with_first b (lines_in text)) other
       ∙ ap (with_first b) rest
-      ∙ sym (ap (λ n. take n (b ∷ text) ∷ lines_in (drop (n + 1) (b ∷ text))) (far other) ∙ ap (λ n. (b ∷ before_first newline text) ∷ lines_in (drop n (b ∷ text))) next)
+      ∙ sym
+      (ap (λ n. take n (b ∷ text) ∷ lines_in (drop (n + 1) (b ∷ text))) (far other)
+      ∙ ap (λ n. (b ∷ before_first newline text) ∷ lines_in (drop n (b ∷ text))) next)
 
 cut_by : (b : ℕ) (text : List ℕ) (c : Bool) → newline b ≡ c → to_line (b ∷ text) < length (b ∷ text)
     → (to_line text < length text → lines_in text ≡ before_first newline text ∷ lines_in (after_first newline text))
@@ -109,11 +112,13 @@ pub uncut : (b : ℕ) (text : List ℕ) → to_line (b ∷ text) ≡ length (b �
 uncut b [] all = uncut_by b [] (newline b) ((b ∷ []) ∷ []) refl all (λ h. refl)
 uncut b (c ∷ text) all = uncut_by b (c ∷ text) (newline b) ((b ∷ c ∷ text) ∷ []) refl all (λ h. ap (with_first b) (uncut c text h))
 
-one_line : (actions : List ℕ) (k : ℕ) (line : List ℕ) (lines : List (List ℕ)) → numbered_text actions k (line ∷ lines) ≡ numbered_line (first_on 1 actions k) k line ++ numbered_text actions (suc k) lines
+one_line : (actions : List ℕ) (k : ℕ) (line : List ℕ) (lines : List (List ℕ))
+    → numbered_text actions k (line ∷ lines) ≡ numbered_line (first_on 1 actions k) k line ++ numbered_text actions (suc k) lines
 one_line actions k line lines = simp append_assoc
 
 -- the text so far, and one line more
-pub line_more : (actions : List ℕ) (k : ℕ) (old now whole line rest others : List ℕ) (first : Option ℕ) → now ≡ old ++ numbered_line first k line → first ≡ first_on 1 actions k
+pub line_more : (actions : List ℕ) (k : ℕ) (old now whole line rest others : List ℕ) (first : Option ℕ)
+    → now ≡ old ++ numbered_line first k line → first ≡ first_on 1 actions k
     → lines_in rest ≡ line ∷ lines_in others → old ++ numbered_text actions k (lines_in rest) ≡ whole
     → now ++ numbered_text actions (k + 1) (lines_in others) ≡ whole
 line_more actions k old now whole line rest others first is has begin so_far =

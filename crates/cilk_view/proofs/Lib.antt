@@ -7,4 +7,4 @@ pub mod Told
 pub mod Orders
 pub mod Trees
 pub mod Places
-pub use Rattle.cilk_agree.proofs.fates_laws
+pub use Rattle.cilk_machine_agree.proofs.placed_laws

@@ -1,45 +1,45 @@
 -- What the frames, cells and ids tell is what the views of a standing say.
 use Rattle.std.proofs.Common.{◌≡◌, ℕ, zero, suc, ◌++◌, ℤ, List, [], ◌∷◌, drop, take, map, length, refl, ap, arith, append_assoc}
 use Rattle.std.specs.Prelude.{codes, decimal, option_map, flat_map}
-use Rattle.cilk_agree.specs.syntax.Tree as tree
-use Rattle.cilk_agree.specs.labelled.Bodies.{item_globals}
-use Rattle.cilk_agree.specs.model.Path.{Path}
-use Rattle.cilk_agree.specs.model.Values.{Values}
-use Rattle.cilk_agree.specs.model.Places.{PlaceOf, named}
-use Rattle.cilk_agree.specs.nodes.Slots.{size_of, flat}
-use Rattle.cilk_agree.specs.frame.Frames.{Frame}
-use Rattle.cilk_agree.specs.spawn.Nodes.{Node}
-use Rattle.cilk_agree.specs.declared.lock.Lock.{Lock}
-use Rattle.cilk_agree.specs.Outside.{lock_by}
-use Rattle.cilk_agree.specs.Agrees.{name_in}
-use Rattle.cilk_agree.specs.seen.Globals.{globals_text}
-use Rattle.cilk_agree.specs.seen.Workers.{deques_text}
+use Rattle.cilk_machine_agree.specs.syntax.Tree as tree
+use Rattle.cilk_load.specs.labelled.Bodies.{item_globals}
+use Rattle.cilk_machine_agree.specs.model.Path.{Path}
+use Rattle.cilk_machine_agree.specs.model.Values.{Values}
+use Rattle.cilk_machine_agree.specs.model.Places.{WorkerOf, named}
+use Rattle.cilk_machine_agree.specs.nodes.Slots.{size_of, flat}
+use Rattle.cilk_machine_agree.specs.frame.Frames.{Frame}
+use Rattle.cilk_machine_agree.specs.spawn.Nodes.{Node}
+use Rattle.cilk_machine_agree.specs.declared.lock.Lock.{Lock}
+use Rattle.cilk_machine_agree.specs.Outside.{lock_by}
+use Rattle.cilk_machine_agree.specs.Agrees.{name_in}
+use Rattle.cilk_machine_agree.specs.model.Globals.{globals_text}
+use Rattle.cilk_machine_agree.specs.model.Workers.{deques_text}
 use Rattle.cilk_view.specs.Turns.{by_worker, deque_line}
 use Rattle.cilk_view.specs.Globals.{width, globals_by}
 use Rattle.std.proofs.lemmas.List.Elements.{All-head, All-tail}
 use Rattle.std.proofs.Common.{◌∙◌, sym}
 use Rattle.std.specs.Prelude.{unwrap_or, option_and_then, IfSome, Option, Some, None}
-use Rattle.cilk_agree.specs.model.Path.{path_text}
-use Rattle.cilk_agree.specs.syntax.Tree.{Program}
-use Rattle.cilk_agree.specs.labelled.Labelled.{Numbered, Labelled}
-use Rattle.cilk_agree.specs.labelled.Items.{head_of}
-use Rattle.cilk_agree.specs.labelled.Bodies.{label}
-use Rattle.cilk_agree.specs.model.End.{line_of}
-use Rattle.cilk_agree.specs.model.Instance.{Instance}
-use Rattle.cilk_agree.specs.model.State.{instance_at}
-use Rattle.cilk_agree.specs.model.Run.{Standing}
-use Rattle.cilk_agree.specs.frame.Frames.{top_of}
-use Rattle.cilk_agree.specs.frame.Stands.{StandsFor}
-use Rattle.cilk_agree.proofs.frame_laws.Tops.{top-stands}
-use Rattle.cilk_agree.specs.spawn.Nodes.{path_at}
-use Rattle.cilk_agree.specs.sched.Count.{AllAt, AllHeld}
-use Rattle.cilk_agree.specs.Agrees.{Machine, Held, Agrees}
-use Rattle.cilk_agree.proofs.Found.{found}
-use Rattle.cilk_agree.specs.seen.Texts.{line_at}
-use Rattle.cilk_agree.specs.seen.Workers.{line_of_instance, turn_text, turns_text}
+use Rattle.cilk_machine_agree.specs.model.Path.{path_text}
+use Rattle.cilk_machine_agree.specs.syntax.Tree.{Program}
+use Rattle.cilk_load.specs.labelled.Labelled.{Numbered, Labelled}
+use Rattle.cilk_load.specs.labelled.Items.{head_of}
+use Rattle.cilk_load.specs.labelled.Bodies.{label}
+use Rattle.cilk_machine_agree.specs.model.End.{line_of}
+use Rattle.cilk_machine_agree.specs.model.Instance.{Instance}
+use Rattle.cilk_machine_agree.specs.model.State.{instance_at}
+use Rattle.cilk_machine_agree.specs.model.Run.{Standing}
+use Rattle.cilk_machine_agree.specs.frame.Frames.{top_of}
+use Rattle.cilk_machine_agree.specs.frame.Stands.{StandsFor}
+use Rattle.cilk_machine_agree.proofs.frame_laws.Tops.{top-stands}
+use Rattle.cilk_machine_agree.specs.spawn.Nodes.{path_at}
+use Rattle.cilk_machine_agree.specs.sched.Count.{AllAt, AllHeld}
+use Rattle.cilk_machine_agree.specs.Agrees.{MachineParts, Held, Agrees}
+use Rattle.cilk_machine_agree.proofs.Found.{found}
+use Rattle.cilk_machine_agree.specs.model.Texts.{line_at}
+use Rattle.cilk_machine_agree.specs.model.Workers.{line_of_instance, turn_text, turns_text}
 use Rattle.cilk_view.specs.Turns.{turn_by, turn_line}
 
-pub deques_are : (ns : List Node) (w : ℕ) (places : List (PlaceOf Frame)) → by_worker (deque_line ns) w places ≡ deques_text w (named (name_in ns) places)
+pub deques_are : (ns : List Node) (w : ℕ) (places : List (WorkerOf Frame)) → by_worker (deque_line ns) w places ≡ deques_text w (named (name_in ns) places)
 deques_are ns w [] = refl
 deques_are ns w (at ∷ places) = ap (λ rest. deque_line ns w at ++ rest) (deques_are ns (suc w) places) ∙ simp append_assoc
 
@@ -75,11 +75,13 @@ by_head program None n e = cc
 by_head program (Some h) n e = let same : h.number ≡ n = cc in ap (λ k. unwrap_or (line_of program k) 0) same
 
 -- the line of an instance is that of the node of its frame's top
-pub line_is : (program : Labelled) (f : Frame) (i : Instance) → StandsFor program f i → line_at program i.top.items ≡ unwrap_or (line_of program (top_of f).node) 0
+pub line_is : (program : Labelled) (f : Frame) (i : Instance) → StandsFor program f i
+    → line_at program i.top.items ≡ unwrap_or (line_of program (top_of f).node) 0
 line_is program f i stands = by_head program (head_of i.top.items) (top_of f).node (top-stands program f i stands).acts.node_is
 
-module _ (p : Program) (m : Machine) (who : ℕ → Instance) (at : Standing) (agrees : Agrees p m who at) where
-  turn_is : (hand : Option Frame) → IfSome hand (Held p m.nodes who) → turn_by p m.nodes hand ≡ turn_text (label p) at.state.instances (option_map (name_in m.nodes) hand)
+module _ (p : Program) (m : MachineParts) (who : ℕ → Instance) (at : Standing) (agrees : Agrees p m who at) where
+  turn_is : (hand : Option Frame) → IfSome hand (Held p m.nodes who)
+      → turn_by p m.nodes hand ≡ turn_text (label p) at.state.instances (option_map (name_in m.nodes) hand)
   turn_is None held = refl
   turn_is (Some f) held =
       let there : instance_at at.state.instances (path_at m.nodes f.id) ≡ Some (who f.id) =
@@ -88,7 +90,7 @@ module _ (p : Program) (m : Machine) (who : ℕ → Instance) (at : Standing) (a
       ap (λ k. codes " at " ++ (path_text (path_at m.nodes f.id) ++ (codes " line " ++ decimal k)))
       (sym (ap (line_of_instance (label p)) there ∙ line_is (label p) f (who f.id) held.stands))
 
-  pub turns_are : (w : ℕ) (places : List (PlaceOf Frame)) → AllHeld (Held p m.nodes who) places
+  pub turns_are : (w : ℕ) (places : List (WorkerOf Frame)) → AllHeld (Held p m.nodes who) places
       → by_worker (turn_line p m.nodes) w places ≡ turns_text (label p) at.state.instances w (named (name_in m.nodes) places)
   turns_are w [] held = refl
   turns_are w (x ∷ places) held =

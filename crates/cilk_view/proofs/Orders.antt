@@ -1,5 +1,6 @@
 -- A sorted list of the paths is the definition's.
-use Rattle.std.proofs.Common.{◌≡◌, ℕ, ◌+◌, ◌<◌, Bool, true, false, cond, ◌&&◌, ◌||◌, ◌==◌, List, [], ◌∷◌, refl, sym, ap, ◌∙◌, subst, arith, if◌then◌else◌, count_by}
+use Rattle.std.proofs.Common.{◌≡◌, ℕ, ◌+◌, ◌<◌, Bool, true, false, cond, ◌&&◌, ◌||◌, ◌==◌, List, [], ◌∷◌, refl, sym, ap, ◌∙◌, subst, arith}
+use Rattle.std.proofs.Common.{if◌then◌else◌, count_by}
 use Rattle.std.specs.Prelude.{⊤, nat_lt}
 use Rattle.std.proofs.Common.{Ordering, Less, Equal, Greater}
 use Rattle.std.specs.Ordering.{nat_cmp, is_lt, ordering_then, ordering_reverse}
@@ -9,9 +10,9 @@ use Rattle.std.proofs.lemmas.List.Sorted.{ranks_by}
 use Rattle.std.proofs.lemmas.List.Sums.{sum_by-cons}
 use Rattle.std.proofs.lemmas.Map.Lookups.{exact_bytes}
 use Rattle.std.specs.Cmp.Lexicographic.{slice_cmp}
-use Rattle.cilk_agree.specs.model.Path.{Path, same_path}
-use Rattle.cilk_agree.proofs.placed_laws.Entries.{same-is, same-self}
-use Rattle.cilk_agree.specs.seen.Trees.{is_before, placed, in_order}
+use Rattle.cilk_machine_agree.specs.model.Path.{Path, same_path}
+use Rattle.cilk_machine_agree.proofs.placed_laws.Entries.{same-is, same-self}
+use Rattle.cilk_machine_agree.specs.model.ViewTrees.{is_before, placed, in_order}
 
 abbrev pub before : Path → Path → Bool
 before p q = is_lt (slice_cmp nat_cmp p q)

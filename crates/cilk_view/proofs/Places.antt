@@ -1,37 +1,39 @@
 -- The line of an instance ever made is what the definition says.
-use Rattle.std.proofs.Common.{◌≡◌, ℕ, zero, suc, ◌<◌, Bool, true, false, cond, ◌||◌, List, [], ◌∷◌, ◌++◌, map, length, Option, Some, None, refl, sym, ap, ◌∙◌, subst, All, nat_eq, slice_index_or, if◌then◌else◌}
+use Rattle.std.proofs.Common.{◌≡◌, ℕ, zero, suc, ◌<◌, Bool, true, false, cond, ◌||◌, List, [], ◌∷◌, ◌++◌, map, length, Option, Some, None, refl, sym}
+use Rattle.std.proofs.Common.{ap, ◌∙◌, subst, All, nat_eq, slice_index_or, if◌then◌else◌}
 use Rattle.std.specs.Prelude.{codes, decimal, flat_map, is_some, option_map, slice_get}
 use Rattle.std.specs.Global.{Vec}
 use Rattle.std.specs.List.{list_any}
 use Rattle.std.proofs.lemmas.List.Elements.{All-head, All-tail}
-use Rattle.cilk_agree.specs.syntax.Tree.{Program}
-use Rattle.cilk_agree.specs.labelled.Labelled.{Labelled, Body}
-use Rattle.cilk_agree.specs.labelled.Bodies.{label}
-use Rattle.cilk_agree.specs.model.Path.{Path, same_path, is_that, path_text}
-use Rattle.cilk_agree.specs.model.Instance as model
-use Rattle.cilk_agree.specs.model.Instance.{Instance, body_at, no_body}
-use Rattle.cilk_agree.specs.model.State.{instance_at}
-use Rattle.cilk_agree.specs.model.Places.{PlaceOf, named}
-use Rattle.cilk_agree.specs.model.Run.{Position}
-use Rattle.cilk_agree.specs.placed.Places.{EachInItsPlace}
-use Rattle.cilk_agree.specs.nodes.Bodies.{body_table}
-use Rattle.cilk_agree.specs.frame.Frames.{Frame, top_of}
-use Rattle.cilk_agree.specs.frame.Stands.{lowest_of, bodies_of}
-use Rattle.cilk_agree.specs.spawn.declared.delivery.Delivery.{Delivery}
-use Rattle.cilk_agree.specs.spawn.declared.fate.Fate.{Fate}
-use Rattle.cilk_agree.specs.spawn.declared.fate.Fate.TheVariants.{Live, Returned, Delivered, Aborted}
-use Rattle.cilk_agree.specs.spawn.Nodes as nodes
-use Rattle.cilk_agree.specs.spawn.Nodes.{Node, IsTree, node_at, path_at}
-use Rattle.cilk_agree.proofs.spawn_laws.Trees.{live_there, names}
-use Rattle.cilk_agree.proofs.spawn_laws.Paths.{number_is_path}
-use Rattle.cilk_agree.specs.sched.Count.{AllAt, AllHeld}
-use Rattle.cilk_agree.proofs.sched_laws.Count.{AllHeld-weaker}
+use Rattle.cilk_machine_agree.specs.syntax.Tree.{Program}
+use Rattle.cilk_load.specs.labelled.Labelled.{Labelled, Body}
+use Rattle.cilk_load.specs.labelled.Bodies.{label}
+use Rattle.cilk_machine_agree.specs.model.Path.{Path, same_path, is_that, path_text}
+use Rattle.cilk_machine_agree.specs.model.Instance as model
+use Rattle.cilk_machine_agree.specs.model.Instance.{Instance, body_at, no_body}
+use Rattle.cilk_machine_agree.specs.model.State.{instance_at}
+use Rattle.cilk_machine_agree.specs.model.Places.{WorkerOf, named}
+use Rattle.cilk_machine_agree.specs.model.Run.{Position}
+use Rattle.cilk_machine_agree.specs.placed.Places.{EachInItsPlace}
+use Rattle.cilk_machine_agree.specs.nodes.Bodies.{body_table}
+use Rattle.cilk_machine_agree.specs.frame.Frames.{Frame, top_of}
+use Rattle.cilk_machine_agree.specs.frame.Stands.{lowest_of, bodies_of}
+use Rattle.cilk_machine_agree.specs.spawn.declared.delivery.Delivery.{Delivery}
+use Rattle.cilk_machine_agree.specs.spawn.declared.fate.Fate.{Fate}
+use Rattle.cilk_machine_agree.specs.spawn.declared.fate.Fate.TheVariants.{Live, Returned, Delivered, Aborted}
+use Rattle.cilk_machine_agree.specs.spawn.Nodes as nodes
+use Rattle.cilk_machine_agree.specs.spawn.Nodes.{Node, IsTree, node_at, path_at}
+use Rattle.cilk_machine_agree.proofs.spawn_laws.Trees.{live_there, names}
+use Rattle.cilk_machine_agree.proofs.spawn_laws.Paths.{number_is_path}
+use Rattle.cilk_machine_agree.specs.sched.Count.{AllAt, AllHeld}
+use Rattle.cilk_machine_agree.proofs.sched_laws.Count.{AllHeld-weaker}
 use Rattle.std.specs.Prelude.{IfSome}
-use Rattle.cilk_agree.specs.Alike.{SameDeliveries}
-use Rattle.cilk_agree.specs.Agrees.{Machine, Held, Agrees, name_in}
-use Rattle.cilk_agree.specs.Fated.{fate_named, Fated}
-use Rattle.cilk_agree.specs.seen.Trees.{lowest, holder_text, place_text, waiting_text, aborted_text, live_text, name_of, fate_text, state_text, path_line}
-use Rattle.cilk_agree.specs.seen.Texts.{line_at}
+use Rattle.cilk_machine_agree.specs.Alike.{SameDeliveries}
+use Rattle.cilk_machine_agree.specs.Agrees.{MachineParts, Held, Agrees, name_in}
+use Rattle.cilk_machine_agree.specs.Fated.{fate_named, Fated}
+use Rattle.cilk_machine_agree.specs.model.ViewTrees.{lowest, holder_text, place_text, waiting_text, aborted_text, live_text, name_of, fate_text}
+use Rattle.cilk_machine_agree.specs.model.ViewTrees.{state_text, path_line}
+use Rattle.cilk_machine_agree.specs.model.Texts.{line_at}
 use Rattle.cilk_view.specs.Turns.{line_number}
 use Rattle.cilk_view.specs.Finding.{frame_among, frame_live}
 use Rattle.cilk_view.specs.Sorting.{IsMade, paths_in}
@@ -52,7 +54,8 @@ lowest_is : (a : model.Activation) (below : List model.Activation) → lowest_of
 lowest_is a [] = refl
 lowest_is a (b ∷ below) = lowest_is b below
 
-same_count : (program : Labelled) (up : ℕ → Path) (b : ℕ) (ds : List Delivery) (es : List model.Delivery) → SameDeliveries program up b ds es → length ds ≡ length es
+same_count : (program : Labelled) (up : ℕ → Path) (b : ℕ) (ds : List Delivery) (es : List model.Delivery)
+    → SameDeliveries program up b ds es → length ds ≡ length es
 same_count program up b [] [] h = refl
 same_count program up b [] (e ∷ es) h = absurd h
 same_count program up b (d ∷ ds) [] h = absurd h
@@ -73,7 +76,8 @@ module _ (ns : List Node) (t : IsTree ns) (id : ℕ) (there : id < length ns) wh
       either (nat_eq f.id id) f (frame_among id deque)
       ∙ (λ i. number_is_path ns id f.id t there (All-head (Made ns) f deque made) i || deque_is deque (All-tail (Made ns) f deque made) i)
 
-  holder_is : (w : ℕ) (places : List (PlaceOf Frame)) → AllHeld (Made ns) places → holder_by id w places ≡ holder_text w (named (name_in ns) places) (path_at ns id)
+  holder_is : (w : ℕ) (places : List (WorkerOf Frame)) → AllHeld (Made ns) places
+      → holder_by id w places ≡ holder_text w (named (name_in ns) places) (path_at ns id)
   holder_is w [] made = refl
   holder_is w (at ∷ places) made =
       let own = All-head (AllAt (Made ns)) at places made in
@@ -82,14 +86,15 @@ module _ (ns : List Node) (t : IsTree ns) (id : ℕ) (there : id < length ns) wh
       let rest = holder_is (suc w) places (All-tail (AllAt (Made ns)) at places made) in
       λ i. if hand i then codes "hand " ++ decimal w else (if deque i then codes "deque " ++ decimal w else rest i)
 
-module _ (p : Program) (m : Machine) (who : ℕ → Instance) (at : Position) (agrees : Agrees p m who at.standing) (placed : EachInItsPlace at.standing)
+module _ (p : Program) (m : MachineParts) (who : ℕ → Instance) (at : Position) (agrees : Agrees p m who at.standing) (placed : EachInItsPlace at.standing)
     (fated : Fated (label p) m.nodes at.events) where
   place_is : (id : ℕ) (o : Option Frame) → id < length m.nodes → (node_at m.nodes id).parked ≡ o
       → place_by m.places id o ≡ place_text at.standing.scheduler (path_at m.nodes id)
   place_is id (Some f) there e =
       sym (ap (λ b. if b then codes "parked" else holder_text 1 at.standing.scheduler.places (path_at m.nodes id)) (agrees.parked id there ∙ ap is_some e))
   place_is id None there e =
-      holder_is m.nodes agrees.tree id there 1 m.places (AllHeld-weaker (Held p m.nodes who) (Made m.nodes) (λ f h. live_there m.nodes f.id h.live) m.places agrees.held)
+      holder_is m.nodes agrees.tree id there 1 m.places
+      (AllHeld-weaker (Held p m.nodes who) (Made m.nodes) (λ f h. live_there m.nodes f.id h.live) m.places agrees.held)
       ∙ ap (λ places. holder_text 1 places (path_at m.nodes id)) (sym agrees.places)
       ∙ sym (ap (λ b. if b then codes "parked" else holder_text 1 at.standing.scheduler.places (path_at m.nodes id)) (agrees.parked id there ∙ ap is_some e))
 
@@ -103,7 +108,8 @@ module _ (p : Program) (m : Machine) (who : ℕ → Instance) (at : Position) (a
       let name : procedure_name p (node_at m.nodes id).procedure ≡ (body_at (label p) (lowest i.top i.below).body).name =
       name_is p (node_at m.nodes id).procedure ∙ ap (λ b. (body_at (label p) b).name) (tells.procedure ∙ lowest_is i.top i.below) in
       let place = place_is id (node_at m.nodes id).parked there refl in
-      let line : line_number p (top_of f).node ≡ line_at (label p) i.top.items = sym (line_is (label p) f i (frame_stands p m who at.standing agrees id f live e)) in
+      let line : line_number p (top_of f).node
+      ≡ line_at (label p) i.top.items = sym (line_is (label p) f i (frame_stands p m who at.standing agrees id f live e)) in
       let waits : length (node_at m.nodes id).waiting ≡ length i.waiting =
       same_count (label p) (path_at m.nodes) (node_at m.nodes id).procedure (node_at m.nodes id).waiting i.waiting tells.waiting in
       λ j. name j ++ (codes " " ++ (place j ++ (codes " line " ++ (decimal (line j) ++ (waiting_text (waits j) ++ aborted_text (tells.aborted j))))))

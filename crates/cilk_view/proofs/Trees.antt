@@ -1,5 +1,6 @@
 -- The lines of the instances ever made are what the definition says.
-use Rattle.std.proofs.Common.{◌≡◌, append-nil, drop, ℕ, zero, suc, ◌+◌, ◌<◌, ◌≤◌, Bool, false, cond, List, [], ◌∷◌, ◌++◌, map, length, refl, sym, ap, ◌∙◌, subst, arith, All, count_by, sum_by, slice_index_or}
+use Rattle.std.proofs.Common.{◌≡◌, append-nil, drop, ℕ, zero, suc, ◌+◌, ◌<◌, ◌≤◌, Bool, false, cond, List, [], ◌∷◌, ◌++◌, map, length, refl, sym, ap}
+use Rattle.std.proofs.Common.{◌∙◌, subst, arith, All, count_by, sum_by, slice_index_or}
 use Rattle.std.specs.Global.{Vec}
 use Rattle.std.specs.List.{range_with_len}
 use Rattle.std.specs.List.Sorted.{IsPermutation, IsSorted}
@@ -10,14 +11,14 @@ use Rattle.std.proofs.lemmas.List.Sorted.{sum_by-IsPermutation}
 use Rattle.std.proofs.lemmas.List.Sums.{sum_by-cons}
 use Rattle.std.proofs.lemmas.List.Elements.{All-push}
 use Rattle.std.proofs.lemmas.List.{map-append}
-use Rattle.cilk_agree.specs.syntax.Tree.{Program}
-use Rattle.cilk_agree.specs.model.Path.{Path, same_path}
-use Rattle.cilk_agree.specs.model.Places.{PlaceOf}
-use Rattle.cilk_agree.specs.frame.Frames.{Frame}
+use Rattle.cilk_machine_agree.specs.syntax.Tree.{Program}
+use Rattle.cilk_machine_agree.specs.model.Path.{Path, same_path}
+use Rattle.cilk_machine_agree.specs.model.Places.{WorkerOf}
+use Rattle.cilk_machine_agree.specs.frame.Frames.{Frame}
 use Rattle.cilk_view.specs.Trees.{lines_by}
-use Rattle.cilk_agree.specs.spawn.Nodes.{Node, path_at}
-use Rattle.cilk_agree.proofs.spawn_laws.Lists.{range_more}
-use Rattle.cilk_agree.specs.seen.Trees.{in_order}
+use Rattle.cilk_machine_agree.specs.spawn.Nodes.{Node, path_at}
+use Rattle.cilk_machine_agree.proofs.spawn_laws.Lists.{range_more}
+use Rattle.cilk_machine_agree.specs.model.ViewTrees.{in_order}
 use Rattle.cilk_view.specs.Sorting.{IsMade, paths_in, AreMade}
 use Rattle.cilk_view.proofs.Orders.{Ascends, up_from, up_in_order, count_in_order, one_list}
 
@@ -34,9 +35,6 @@ made_more ns n made now path h there is grown =
           ∙ sym (ap (λ k. map (path_at ns) (range_with_len 0 k)) next ∙ ap (map (path_at ns)) (range_more 0 n)
           ∙ map-append (path_at ns) (range_with_len 0 n) ((0 + n) ∷ []) ∙ ap (λ k. map (path_at ns) (range_with_len 0 n) ++ path_at ns k ∷ []) at);
     }
-
-pub none_made : (ns : List Node) (made : List (Vec ℕ × ℕ)) → made ≡ [] → AreMade ns 0 made
-none_made ns made none = record { each = subst (All (IsMade ns)) (sym none) (λ k d lt. absurd (omega (arith, lt))); paths = ap paths_in none }
 
 abbrev by_pair : Vec ℕ × ℕ → Vec ℕ × ℕ → Ordering
 by_pair x y = ordering_then (slice_cmp nat_cmp x.0.items y.0.items) (nat_cmp x.1 y.1)
@@ -85,7 +83,7 @@ drop_past (x ∷ xs) zero h = absurd (omega (arith, h))
 drop_past (x ∷ xs) (suc n) h = drop_past xs n (omega (arith, h))
 
 -- the text is whole behind the last instance
-pub ended_by : (p : Program) (ns : List Node) (places : List (PlaceOf Frame)) (made : List (Vec ℕ × ℕ)) (n : ℕ) (now first : List ℕ) → length made ≤ n
+pub ended_by : (p : Program) (ns : List Node) (places : List (WorkerOf Frame)) (made : List (Vec ℕ × ℕ)) (n : ℕ) (now first : List ℕ) → length made ≤ n
     → now ++ lines_by p ns places (drop n made) ≡ first ++ lines_by p ns places made → first ≡ [] → now ≡ lines_by p ns places made
 ended_by p ns places made n now first past is empty =
     sym (append-nil now) ∙ ap (λ xs. now ++ lines_by p ns places xs) (sym (drop_past made n past)) ∙ is ∙ ap (λ xs. xs ++ lines_by p ns places made) empty

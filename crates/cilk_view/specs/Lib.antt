@@ -7,4 +7,4 @@ pub mod Finding
 pub mod Shows
 pub mod Trees
 pub mod Sorting
-pub use Rattle.cilk_agree.specs.seen
+pub use Rattle.cilk_machine_agree.specs.model

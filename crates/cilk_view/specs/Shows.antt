@@ -1,16 +1,16 @@
 -- When the parts of a machine stand for a position.
 use Rattle.std.specs.Prelude.{◌≡◌, ℕ, length}
-use Rattle.cilk_agree.specs.model.Instance.{Instance}
-use Rattle.cilk_agree.specs.model.Run.{Position}
-use Rattle.cilk_agree.specs.labelled.Bodies.{label}
-use Rattle.cilk_agree.specs.placed.Places.{EachInItsPlace}
-use Rattle.cilk_agree.specs.Outside.{Outcome}
-use Rattle.cilk_agree.specs.Agrees.{Machine, Agrees}
-use Rattle.cilk_agree.specs.Fated.{Fated}
+use Rattle.cilk_machine_agree.specs.model.Instance.{Instance}
+use Rattle.cilk_machine_agree.specs.model.Run.{Position}
+use Rattle.cilk_load.specs.labelled.Bodies.{label}
+use Rattle.cilk_machine_agree.specs.placed.Places.{EachInItsPlace}
+use Rattle.cilk_machine_agree.specs.Outside.{Outcome}
+use Rattle.cilk_machine_agree.specs.Agrees.{MachineParts, Agrees}
+use Rattle.cilk_machine_agree.specs.Fated.{Fated}
 use Rattle.cilk_view.specs.declared.shown.Shown.{Shown}
 
 -- the machine of these parts, where the program stands so
-abbrev pub machine_of : Shown → Outcome → Machine
+abbrev pub machine_of : Shown → Outcome → MachineParts
 machine_of s outcome = record {
   outside = record { cells = s.globals.now; locks = s.locks.now; output = s.output.now; outcome = outcome };
   nodes = s.tree.now.nodes;

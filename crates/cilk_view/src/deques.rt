@@ -1,15 +1,15 @@
 //! The view `deques`: what each worker has in its hand and in its deque.
 
 ghost use Rattle.std.specs.Prelude.{◌≡◌, ◌<◌, length, map, option_map, slice_get, decimal, codes};
-ghost use Rattle.cilk_agree.specs.canonical.Appends.{Appends};
-ghost use Rattle.cilk_agree.specs.model.Places.{IsWorker, place_of, hand_of, deque_of};
-ghost use Rattle.cilk_agree.specs.Agrees.{name_in};
-ghost use Rattle.cilk_agree.specs.seen.Workers.{hand_text, paths_text};
+ghost use Rattle.cilk_load.specs.canonical.Appends.{Appends};
+ghost use Rattle.cilk_machine_agree.specs.model.Places.{IsWorker, worker_at, hand_of, deque_of};
+ghost use Rattle.cilk_machine_agree.specs.Agrees.{name_in};
+ghost use Rattle.cilk_machine_agree.specs.model.Workers.{hand_text, paths_text};
 ghost use Rattle.cilk_view.specs.Turns.{by_worker, AllMade, deque_line, queued_text};
 
 use crate::put::{put, put_name};
-use cilk_agree::{Hands, Tree};
 use cilk_load::Memory;
+use cilk_machine_agree::{Hands, Tree};
 
 /// A line for each of so many workers.
 pub(crate) fn put_deques(
@@ -31,7 +31,7 @@ pub(crate) fn put_deques(
 fn put_place(out: &mut String, tree: &Tree, hands: &Hands, worker: u8) -> Result<(), Memory>
     requires worker { IsWorker hands.now worker }
     requires made { AllMade tree.now.nodes hands.now }
-    ensures { Appends result out.old out.new (deque_line tree.now.nodes worker (place_of hands.now worker)) }
+    ensures { Appends result out.old out.new (deque_line tree.now.nodes worker (worker_at hands.now worker)) }
 {
     write!(out, "{worker}: hand ")?;
     put_hand(out, tree, hands, worker)?;

@@ -1,11 +1,11 @@
 //! Where the frame of an instance is found: in a hand, in a deque, or parked.
 
 ghost use Rattle.std.specs.Prelude.{◌≡◌, ℕ, true, length, Some, IfSome, option_copied};
-ghost use Rattle.cilk_agree.specs.model.Places.{IsWorker, place_of, deque_of};
-ghost use Rattle.cilk_agree.specs.spawn.Nodes.{node_at, is_live, path_at};
+ghost use Rattle.cilk_machine_agree.specs.model.Places.{IsWorker, worker_at, deque_of};
+ghost use Rattle.cilk_machine_agree.specs.spawn.Nodes.{node_at, is_live, path_at};
 ghost use Rattle.cilk_view.specs.Finding.{frame_among, frame_at, frame_held, frame_live};
 
-use cilk_agree::{Fate, Frame, Hands, Id, Tree};
+use cilk_machine_agree::{Fate, Frame, Hands, Id, Tree};
 
 /// The live instance with this path.
 pub(crate) fn find_live(tree: &Tree, path: &[u32]) -> Option<Id>
@@ -50,7 +50,7 @@ fn frame_held(hands: &Hands, workers: u8, id: Id) -> Option<&Frame>
 
 fn frame_at(hands: &Hands, worker: u8, id: Id) -> Option<&Frame>
     requires { IsWorker hands.now worker }
-    ensures { option_copied result ≡ frame_at id (place_of hands.now worker) }
+    ensures { option_copied result ≡ frame_at id (worker_at hands.now worker) }
 {
     match hands.hand(worker) {
         Some(frame) if frame.id() == id => Some(frame),

@@ -1,7 +1,7 @@
 //! The view `output`: what the program printed.
 
-ghost use Rattle.cilk_agree.specs.canonical.Appends.{Appends};
-ghost use Rattle.cilk_agree.specs.seen.Views.{output_text};
+ghost use Rattle.cilk_load.specs.canonical.Appends.{Appends};
+ghost use Rattle.cilk_machine_agree.specs.model.Views.{output_text};
 
 use crate::put::put;
 use cilk_load::Memory;

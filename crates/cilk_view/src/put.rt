@@ -1,12 +1,12 @@
 //! The smallest parts of a view.
 
 ghost use Rattle.std.specs.Prelude.{◌<◌, length};
-ghost use Rattle.cilk_agree.specs.canonical.Appends.{Appends};
-ghost use Rattle.cilk_agree.specs.model.Path.{path_text};
-ghost use Rattle.cilk_agree.specs.spawn.Nodes.{path_at};
+ghost use Rattle.cilk_load.specs.canonical.Appends.{Appends};
+ghost use Rattle.cilk_machine_agree.specs.model.Path.{path_text};
+ghost use Rattle.cilk_machine_agree.specs.spawn.Nodes.{path_at};
 
-use cilk_agree::{Id, Tree};
 use cilk_load::Memory;
+use cilk_machine_agree::{Id, Tree};
 
 pub(crate) fn put(out: &mut String, text: &str) -> Result<(), Memory>
     ensures { Appends result out.old out.new text.now }

@@ -1,13 +1,13 @@
 //! The view `tree`: a line for every instance that was ever made.
 
 ghost use Rattle.std.specs.Prelude.{◌≡◌, ◌<◌, ◌++◌, length, codes, decimal, true, IfOk, string_bytes};
-ghost use Rattle.cilk_agree.specs.canonical.Appends.{Appends};
-ghost use Rattle.cilk_agree.specs.labelled.Bodies.{label};
-ghost use Rattle.cilk_agree.specs.model.Run.{Position};
-ghost use Rattle.cilk_agree.specs.model.Places.{IsWorker, place_of, deque_of};
-ghost use Rattle.cilk_agree.specs.frame.Frames.{top_of};
-ghost use Rattle.cilk_agree.specs.spawn.Nodes.{node_at, is_live};
-ghost use Rattle.cilk_agree.specs.seen.Trees.{tree_text, waiting_text, aborted_text};
+ghost use Rattle.cilk_load.specs.canonical.Appends.{Appends};
+ghost use Rattle.cilk_load.specs.labelled.Bodies.{label};
+ghost use Rattle.cilk_machine_agree.specs.model.Run.{Position};
+ghost use Rattle.cilk_machine_agree.specs.model.Places.{IsWorker, worker_at, deque_of};
+ghost use Rattle.cilk_machine_agree.specs.frame.Frames.{top_of};
+ghost use Rattle.cilk_machine_agree.specs.spawn.Nodes.{node_at, is_live};
+ghost use Rattle.cilk_machine_agree.specs.model.ViewTrees.{tree_text, waiting_text, aborted_text};
 ghost use Rattle.cilk_view.specs.Turns.{line_number};
 ghost use Rattle.cilk_view.specs.Finding.{frame_live};
 ghost use Rattle.cilk_view.specs.Shows.{ShowsAt, Shows};
@@ -18,8 +18,8 @@ use crate::finding::{frame_live, frame_queued};
 use crate::put::{put, put_path};
 use crate::shown::Shown;
 use crate::turns::line_number;
-use cilk_agree::{Fate, Frame, Hands, Id, Tree};
 use cilk_load::Memory;
+use cilk_machine_agree::{Fate, Frame, Hands, Id, Tree};
 use std::alloc::Global;
 
 /// A line for each instance ever made, in the order of their paths.
@@ -169,7 +169,7 @@ fn put_holder(out: &mut String, hands: &Hands, workers: u8, id: Id) -> Result<()
 
 fn is_in_hand(hands: &Hands, worker: u8, id: Id) -> bool
     requires { IsWorker hands.now worker }
-    ensures { result ≡ is_of id (place_of hands.now worker).hand }
+    ensures { result ≡ is_of id (worker_at hands.now worker).hand }
 {
     match hands.hand(worker) {
         None => false,

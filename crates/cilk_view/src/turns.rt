@@ -1,13 +1,13 @@
 //! Where each worker goes on.
 
 ghost use Rattle.std.specs.Prelude.{◌≡◌, length, decimal, codes};
-ghost use Rattle.cilk_agree.specs.canonical.Appends.{Appends};
-ghost use Rattle.cilk_agree.specs.model.Places.{IsWorker, place_of};
+ghost use Rattle.cilk_load.specs.canonical.Appends.{Appends};
+ghost use Rattle.cilk_machine_agree.specs.model.Places.{IsWorker, worker_at};
 ghost use Rattle.cilk_view.specs.Turns.{by_worker, AllMade, turn_line, line_number};
 
 use crate::put::{put, put_name};
-use cilk_agree::{Hands, Tree};
 use cilk_load::{Loaded, Memory};
+use cilk_machine_agree::{Hands, Tree};
 
 /// The line on which action n stands.
 pub(crate) fn line_number(loaded: &Loaded, n: u32) -> u32
@@ -43,7 +43,7 @@ fn put_turn(
 ) -> Result<(), Memory>
     requires worker { IsWorker hands.now worker }
     requires made { AllMade tree.now.nodes hands.now }
-    ensures { Appends result out.old out.new (turn_line loaded.now tree.now.nodes worker (place_of hands.now worker)) }
+    ensures { Appends result out.old out.new (turn_line loaded.now tree.now.nodes worker (worker_at hands.now worker)) }
 {
     write!(out, "worker {worker}")?;
     match hands.hand(worker) {

@@ -1,6 +1,6 @@
 //! The views that there are, and the path that one of them needs.
 
-use cilk_agree::Path;
+use cilk_machine_agree::Path;
 
 /// What may be asked of a program that runs.
 #[derive(Debug, Drop)]

@@ -8,8 +8,8 @@ use Rattle.clap.specs.Kinds.{IsAmong, Kinds}
 use Rattle.clap.specs.Words.{Row, Text, fault_of, subcommand_of}
 use Rattle.clap.specs.declared.error.kind.ErrorKind.{ErrorKind}
 use Rattle.clap.specs.declared.error.kind.ErrorKind.TheVariants.{OutOfMemory}
-use Rattle.cilk_words.specs.declared.refusal.Refusal.{Refusal}
-use Rattle.cilk_words.specs.declared.refusal.Refusal.TheVariants as refusal
+use Rattle.cilk_words.specs.declared.refusal.NoRequest.{NoRequest}
+use Rattle.cilk_words.specs.declared.refusal.NoRequest.TheVariants as refusal
 use Rattle.cilk_words.specs.declared.dash.Dash.{Dash}
 use Rattle.cilk_words.specs.CommandLine.{Asked, asked, command_line, dash_of, request_of_any, unless_fault, wished}
 use Rattle.cilk_words.specs.Refusing.{Tells, TellsOf, are_shown, is_help, is_shown, is_version}
@@ -40,7 +40,7 @@ asks_nothing : (words : List Text) → wished words ≡ None → asked words ≡
 asks_nothing words none = rw none refl
 
 -- an error of one of the kinds that the words lead to tells of the words
-pub told : (words : List Text) (k : ErrorKind) (r : Refusal) → (k ≡ OutOfMemory) ⊎ IsAmong k (fault_of command_line words) → TellsOf k r → Tells words r
+pub told : (words : List Text) (k : ErrorKind) (r : NoRequest) → (k ≡ OutOfMemory) ⊎ IsAmong k (fault_of command_line words) → TellsOf k r → Tells words r
 told words k refusal.Memory why tells = tt
 told words k (refusal.Dash d) why tells = absurd tells
 told words k (refusal.Help text) (inl memory) tells = cc
@@ -59,11 +59,3 @@ told words k (refusal.Usage text) (inr among) tells =
 pub asks : (words : List Text) (a : Asked) → fault_of command_line words ≡ [] → Some a ≡ request_of_any (subcommand_of command_line words) → dash_of a ≡ None
     → asked words ≡ Some a
 asks words a no_fault found no_dash = rw (no_fault, ← found, no_dash) refl
-
-pub tells_of_dash : (words : List Text) (a : Asked) (d : Dash) → fault_of command_line words ≡ []
-    → Some a ≡ request_of_any (subcommand_of command_line words) → Some d ≡ dash_of a → Tells words (refusal.Dash d)
-tells_of_dash words a d no_fault found dashed = (rw (no_fault, ← found) (sym dashed), (rw (no_fault, ← found, ← dashed) refl, rw no_fault refl))
-
-pub tells_of_none : (words : List Text) (text : String Global) → fault_of command_line words ≡ [] → None ≡ request_of_any (subcommand_of command_line words)
-    → Tells words (refusal.Usage text)
-tells_of_none words text no_fault found = (rw (no_fault, ← found) refl, rw no_fault refl)

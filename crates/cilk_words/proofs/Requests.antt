@@ -43,12 +43,15 @@ abbrev ReadsBelow : ℕ → Text → Type 0
 ReadsBelow bound word = IsNumeral 10 (without_leading_plus word) × (digits_value 10 (without_leading_plus word) < bound)
 
 module _ (bound most : ℕ) (is : bound ≡ most + 1) (fits : bound ≤ 2 ^ 64) where
-  reads : (word : Option Text) (n : ℕ) → (word ≡ None → Some n ≡ None) → ((t : Text) → word ≡ Some t → ReadsBelow bound t × (n ≡ digits_value 10 (without_leading_plus t)))
+  reads : (word : Option Text) (n : ℕ) → (word ≡ None → Some n ≡ None)
+      → ((t : Text) → word ≡ Some t → ReadsBelow bound t × (n ≡ digits_value 10 (without_leading_plus t)))
       → option_and_then (number_to most) word ≡ Some n
   reads None n none value = let bad = none refl in cc
   reads (Some t) n none value =
       let read = value t refl in
-      let within : is_unsigned_in 0 most t ≡ true = Accepts-accepts false (Unsigned 0 most) t (read.0.0, omega arith, omega (arith, is, read.0.1), omega (arith, is, fits, read.0.1)) in
+      let within : is_unsigned_in 0 most t
+      ≡ true = Accepts-accepts false (Unsigned 0 most) t
+      (read.0.0, omega arith, omega (arith, is, read.0.1), omega (arith, is, fits, read.0.1)) in
       rw (within, read.1) refl
 
   abbrev number_if : Bool → Text → Option ℕ
@@ -68,7 +71,8 @@ module _ (bound most : ℕ) (is : bound ≡ most + 1) (fits : bound ≤ 2 ^ 64) 
 pub workers_read : (f : Found) (n : ℕ) → (one_text f (codes "workers") ≡ None → Some n ≡ None)
     → ((t : Text) → one_text f (codes "workers") ≡ Some t → ReadsBelow (2 ^ 8) t × (n ≡ digits_value 10 (without_leading_plus t)))
     → option_and_then (number_to (2 ^ 8 - 1)) (one_of (codes "workers") (rows_of f)) ≡ Some n
-workers_read f n none value = rw (← one_text-rows f (codes "workers")) (reads (2 ^ 8) (2 ^ 8 - 1) refl (omega arith) (one_text f (codes "workers")) n none value)
+workers_read f n none value =
+    rw (← one_text-rows f (codes "workers")) (reads (2 ^ 8) (2 ^ 8 - 1) refl (omega arith) (one_text f (codes "workers")) n none value)
 
 pub limit_read : (f : Found) (n : ℕ) → (one_text f (codes "limit") ≡ None → Some n ≡ None)
     → ((t : Text) → one_text f (codes "limit") ≡ Some t → ReadsBelow (2 ^ 32) t × (n ≡ digits_value 10 (without_leading_plus t)))
@@ -129,5 +133,6 @@ flag_of E (Some t) (Some given) none value = read_flag t given (value t refl)
 
 -- the flag is given where its text says so
 pub flag_given : (E : Type 0) (f : Found) (given : Option Bool) → (one_text f (codes "explain") ≡ None → given ≡ None)
-    → ((t : Text) → one_text f (codes "explain") ≡ Some t → ReadsOne (ParsesBool {E = E}) t given) → unwrap_or given false ≡ is_set (one_of (codes "explain") (rows_of f))
+    → ((t : Text) → one_text f (codes "explain") ≡ Some t → ReadsOne (ParsesBool {E = E}) t given)
+    → unwrap_or given false ≡ is_set (one_of (codes "explain") (rows_of f))
 flag_given E f given = rw (← one_text-rows f (codes "explain")) (flag_of E (one_text f (codes "explain")) given)

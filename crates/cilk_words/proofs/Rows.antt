@@ -39,7 +39,8 @@ explains_check : asked (codes "cilk" ∷ codes "check" ∷ codes "--explain" ∷
 unfolding clap_on_literals
 explains_check = refl
 
-explains_run : asked (codes "cilk" ∷ codes "run" ∷ codes "a" ∷ codes "--explain" ∷ codes "--limit" ∷ codes "5" ∷ []) ≡ Some (at_length (run 1 5 None) (codes "a"))
+explains_run : asked (codes "cilk" ∷ codes "run" ∷ codes "a" ∷ codes "--explain" ∷ codes "--limit" ∷ codes "5" ∷ [])
+    ≡ Some (at_length (run 1 5 None) (codes "a"))
 unfolding clap_on_literals
 explains_run = refl
 
@@ -105,7 +106,8 @@ has_one_worker : asked (codes "cilk" ∷ codes "run" ∷ codes "--workers" ∷ c
 unfolding clap_on_literals
 has_one_worker = refl
 
-has_four_workers : asked (codes "cilk" ∷ codes "run" ∷ codes "a" ∷ codes "--workers" ∷ codes "4" ∷ codes "--limit" ∷ codes "5" ∷ []) ≡ Some (briefly (run 4 5 None) (codes "a"))
+has_four_workers : asked (codes "cilk" ∷ codes "run" ∷ codes "a" ∷ codes "--workers" ∷ codes "4" ∷ codes "--limit" ∷ codes "5" ∷ [])
+    ≡ Some (briefly (run 4 5 None) (codes "a"))
 unfolding clap_on_literals
 has_four_workers = refl
 

@@ -6,8 +6,8 @@ use Rattle.clap.specs.Words.{Text, fault_of}
 use Rattle.clap.specs.declared.error.kind.ErrorKind.{ErrorKind}
 use Rattle.clap.specs.declared.error.kind.ErrorKind.TheVariants as kind
 use Rattle.cilk_words.specs.CommandLine.{asked, command_line, dash_of, wished}
-use Rattle.cilk_words.specs.declared.refusal.Refusal.{Refusal}
-use Rattle.cilk_words.specs.declared.refusal.Refusal.TheVariants as refusal
+use Rattle.cilk_words.specs.declared.refusal.NoRequest.{NoRequest}
+use Rattle.cilk_words.specs.declared.refusal.NoRequest.TheVariants as refusal
 
 -- an error of this kind is help
 abbrev pub is_help : ErrorKind → Bool
@@ -43,7 +43,7 @@ abbrev pub asks_to_show : List Text → Bool
 asks_to_show words = are_shown (fault_of command_line words)
 
 -- what is told of an error of this kind, unless memory runs out
-abbrev pub TellsOf : ErrorKind → Refusal → Type 0
+abbrev pub TellsOf : ErrorKind → NoRequest → Type 0
 TellsOf k (refusal.Help text) = k ≡ kind.DisplayHelp
 TellsOf k (refusal.Version text) = k ≡ kind.DisplayVersion
 TellsOf k (refusal.Usage text) = (is_shown k ≡ false) × (k ≢ kind.OutOfMemory)
@@ -51,7 +51,7 @@ TellsOf k (refusal.Dash where_it_is) = ⊥
 TellsOf k refusal.Memory = Unit {0}
 
 -- what is told of words that ask for nothing to be done, unless memory runs out
-abbrev pub Tells : List Text → Refusal → Type 0
+abbrev pub Tells : List Text → NoRequest → Type 0
 Tells words (refusal.Help text) = (asked words ≡ None) × (asks_for_help words ≡ true)
 Tells words (refusal.Version text) = (asked words ≡ None) × (asks_for_version words ≡ true)
 Tells words (refusal.Usage text) = (asked words ≡ None) × (asks_to_show words ≡ false)

@@ -8,25 +8,25 @@ ghost use Rattle.cilk_words.specs.Refusing.{Tells};
 
 use crate::arguments::{EXPLAIN, FILE, LIMIT, LOG, WORKERS, WRITTEN, parse};
 use crate::dash::Dash;
-use crate::refusal::Refusal;
+use crate::refusal::NoRequest;
 use crate::request::{Request, Task};
 use clap::ArgMatches;
 use std::alloc::Global;
 
 /// What the words of a command line ask for, the first of which is the program's own name.
-pub fn request_in<'a>(alloc: Global, words: &'a [String]) -> Result<Request<'a>, Refusal>
+pub fn request_in<'a>(alloc: Global, words: &'a [String]) -> Result<Request<'a>, NoRequest>
     ensures request { IfOk result (λ r. asked (texts_of words.now) ≡ Some (asked_by r)) }
     ensures refusal { IfErr result (Tells (texts_of words.now)) }
 {
     let matches = match parse(alloc, words) {
         Ok(matches) => matches,
-        Err(error) => return Err(Refusal::of_error(alloc, &error)),
+        Err(error) => return Err(NoRequest::of_error(alloc, &error)),
     };
     let Some(request) = requested(&matches) else {
-        return Err(Refusal::Usage(String::new(alloc)));
+        return Err(NoRequest::Usage(String::new(alloc)));
     };
     match Dash::in_request(&request) {
-        Some(dash) => Err(Refusal::Dash(dash)),
+        Some(dash) => Err(NoRequest::Dash(dash)),
         None => Ok(request),
     }
 }

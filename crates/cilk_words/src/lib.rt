@@ -11,5 +11,5 @@ mod request;
 
 pub use asking::request_in;
 pub use dash::Dash;
-pub use refusal::Refusal;
+pub use refusal::NoRequest;
 pub use request::{Request, Task};

@@ -7,7 +7,7 @@ use std::alloc::Global;
 
 /// Why there is no program to do something with.
 #[derive(Debug, Drop)]
-pub enum Refusal {
+pub enum NoRequest {
     /// Help is asked for, which is this text.
     Help(String),
     /// The version is asked for, which is this line.
@@ -20,24 +20,24 @@ pub enum Refusal {
     Memory,
 }
 
-impl Refusal {
+impl NoRequest {
     ghost use Rattle.clap.specs.Words.{kind_of};
     ghost use Rattle.cilk_words.specs.Refusing.{TellsOf};
 
     /// What is told of an error of the command line.
-    pub(crate) fn of_error(alloc: Global, error: &Error) -> Refusal
+    pub(crate) fn of_error(alloc: Global, error: &Error) -> NoRequest
         ensures { TellsOf (kind_of error.now) result }
     {
         if error.kind() == ErrorKind::OutOfMemory {
-            return Refusal::Memory;
+            return NoRequest::Memory;
         }
         let Ok(text) = format!(in alloc; "{error}") else {
-            return Refusal::Memory;
+            return NoRequest::Memory;
         };
         match error.kind() {
-            ErrorKind::DisplayHelp => Refusal::Help(text),
-            ErrorKind::DisplayVersion => Refusal::Version(text),
-            _ => Refusal::Usage(text),
+            ErrorKind::DisplayHelp => NoRequest::Help(text),
+            ErrorKind::DisplayVersion => NoRequest::Version(text),
+            _ => NoRequest::Usage(text),
         }
     }
 }

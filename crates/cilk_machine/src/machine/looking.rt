@@ -1,23 +1,24 @@
 //! What a worker's step evaluates, seen beforehand, and the step taken by its value.
 
-ghost use Rattle.std.specs.Prelude.{◌≡◌, ◌≢◌, ◌<◌, ◌-◌, ◌^◌, ◌⊎◌, Decides, true, Some, None, option_map, OnErr, OnOk, IfOk, IfErr, IfSome, IfNone, IsSome, slice_get};
-ghost use Rattle.cilk_choices.specs.model.Choice as choices;
-ghost use Rattle.cilk_choices.specs.model.Places.{IsWorker};
-ghost use Rattle.cilk_choices.specs.Words.{reason_of, event_of};
-ghost use Rattle.cilk_step.specs.eval.Known.{known};
-ghost use Rattle.cilk_step.specs.values.Value.{value_of};
-ghost use Rattle.cilk_step.specs.Looks.{code_at, look_of};
+ghost use Rattle.std.specs.Prelude.{◌≡◌, ◌≢◌, ◌<◌, ◌-◌, ◌^◌, ◌⊎◌, Decides, true, Some, None, option_map, OnErr, OnOk, IfOk, IfErr, IfSome, IfNone};
+ghost use Rattle.std.specs.Prelude.{IsSome, slice_get};
+ghost use Rattle.cilk_machine_choices.specs.model.Choice as choices;
+ghost use Rattle.cilk_machine_choices.specs.model.Places.{IsWorker};
+ghost use Rattle.cilk_machine_choices.specs.Words.{reason_of, event_of};
+ghost use Rattle.cilk_machine_carry.specs.eval.Known.{known};
+ghost use Rattle.cilk_machine_carry.specs.labelled.Value.{value_of};
+ghost use Rattle.cilk_machine_step.specs.Looks.{code_at, look_of};
 ghost use Rattle.cilk_machine.specs.Situation.{workers_of};
 ghost use Rattle.cilk_machine.specs.Refused.{runs, is_worker_of, is_full, refused_by, planned_in};
 ghost use Rattle.cilk_machine.specs.Made.{Makes, MakesBy, IsRefused};
 ghost use Rattle.cilk_machine.specs.Looking.{look_refused, look_at, IsUnseen, IsUnsettled, IsStale, IsNoted, IsSeenAt, noted_at, number_ahead, plan_by};
-ghost use Rattle.cilk_carries.specs.plans.Words.{plan_of};
+ghost use Rattle.cilk_machine_carry.specs.plans.Words.{plan_of};
 
 use super::Machine;
 use crate::refusing::is_worker;
-use cilk_carries::Did;
-use cilk_choices::{Act, Event, Memory, Outcome, Refusal};
-use cilk_step::{
+use cilk_machine_carry::Did;
+use cilk_machine_choices::{Act, Event, Memory, Outcome, Refusal};
+use cilk_machine_step::{
     Known, Light, Listed, Peek, Plan, Trap, is_seen, is_still_seen, look_ahead, number_ahead,
     plan_by_value, take_down,
 };

@@ -2,7 +2,7 @@
 
 use cilk_eval::Trap;
 use cilk_run::{End, ending};
-use cilk_spawn::{Kind, Path};
+use cilk_spawn::{Path, TrapKind};
 use std::alloc::Global;
 use std::process::Abort;
 
@@ -15,7 +15,7 @@ fn ends(rt: &impl Abort, alloc: Global, output: &str, end: &End, choices: u64, w
 #[test]
 fn tells_how_a_run_ends(rt: HostRuntime) {
     let trapped = End::Trapped {
-        kind: Kind::Value(Trap::Overflow),
+        kind: TrapKind::Value(Trap::Overflow),
         path: Path::root(rt.alloc()),
         n: 1,
         line: 2,

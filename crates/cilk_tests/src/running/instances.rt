@@ -9,7 +9,7 @@ use cilk_spawn::{
     Arguments, Delivery, Ending, Fate, Frame, Id, Path, Receiver, Tree, a_return_ends_and_sends,
     ids_change, paths_are_names, paths_stay, trees_stay_trees,
 };
-use cilk_syntax::BinOp;
+use cilk_tree_syntax::BinOp;
 use std::alloc::Global;
 use std::process::Abort;
 

@@ -6,7 +6,7 @@
 use super::program;
 use cilk_log::Act;
 use cilk_run::{Choice, Event, Machine, Outcome, ending};
-use cilk_spawn::{Kind, Path};
+use cilk_spawn::{Path, TrapKind};
 use std::alloc::Global;
 use std::process::Abort;
 
@@ -75,10 +75,10 @@ fn event_word(rt: &impl Abort, alloc: Global, event: &Event) -> String {
     }
 }
 
-fn trap_word(rt: &impl Abort, alloc: Global, kind: Kind, path: &Path, n: u32) -> String {
+fn trap_word(rt: &impl Abort, alloc: Global, kind: TrapKind, path: &Path, n: u32) -> String {
     let mut text = word(rt, alloc, "t", n, path);
     match kind {
-        Kind::Value(trap) => write!(text, "!{trap:?}").expect(rt, "memory"),
+        TrapKind::Value(trap) => write!(text, "!{trap:?}").expect(rt, "memory"),
         other => write!(text, "!{other:?}").expect(rt, "memory"),
     }
     text

@@ -1,5 +1,5 @@
 use Rattle.std.proofs.Common.{sym, ap, ◌∙◌, option_copied}
-use Rattle.cilk_console.specs.choices.Words.{choice_of}
+use Rattle.cilk_debug_console.specs.choices.Words.{choice_of}
 use Rattle.cilk_debug.proofs.Again.{chosen, next_by, did_by_it, bad_by}
 use Rattle.cilk_debug.proofs.playing.make_again.Goals as goal
 

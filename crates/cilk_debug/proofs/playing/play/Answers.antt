@@ -1,5 +1,5 @@
 use Rattle.std.proofs.Common.{map}
-use Rattle.cilk_console.specs.choices.Words.{choice_of}
+use Rattle.cilk_debug_console.specs.choices.Words.{choice_of}
 use Rattle.cilk_debug.proofs.playing.play.Goals as goal
 
 pub returns-in-Err-clause-told : goal.returns-in-Err-clause-told

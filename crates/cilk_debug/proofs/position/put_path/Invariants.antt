@@ -1,5 +1,5 @@
 use Rattle.std.proofs.Common.{◌≡◌, ◌++◌, string_bytes, drop}
-use Rattle.cilk_machine.specs.model.Path.{numbers_text, path_text}
+use Rattle.cilk_debug_console.specs.model.Path.{numbers_text, path_text}
 use Rattle.cilk_debug.proofs.position.put_path.Given as goal
 
 abbrev pub invariant-loop-number : goal.invariant-loop-number

@@ -1,5 +1,5 @@
 use Rattle.std.proofs.Common.{◌≡◌, ◌≤◌, map, IfSome}
-use Rattle.cilk_console.specs.choices.Words.{choice_of}
+use Rattle.cilk_debug_console.specs.choices.Words.{choice_of}
 use Rattle.cilk_debug.specs.Tape.{Tape, IsAt}
 use Rattle.cilk_debug.specs.Seeking.{last_among}
 use Rattle.cilk_debug.proofs.seeking.last_met.Given as goal

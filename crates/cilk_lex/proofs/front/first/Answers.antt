@@ -8,24 +8,30 @@ returns-then-is_blank c = at_blank c.args.fresh c.args.at c.args.text.now c.requ
 
 pub returns-then-begins_name : goal.returns-then-begins_name
 returns-then-begins_name c =
-    at_name c.args.fresh c.args.at c.args.text.now c.requires.some (rw c.as_bytes.ensures.value at (sym c.if-is_blank.ensures)) (rw c.as_bytes.ensures.value at (sym c.if-begins_name.ensures)) ∙ c.first_name.ensures
+    at_name c.args.fresh c.args.at c.args.text.now c.requires.some (rw c.as_bytes.ensures.value at (sym c.if-is_blank.ensures))
+    (rw c.as_bytes.ensures.value at (sym c.if-begins_name.ensures)) ∙ c.first_name.ensures
 
 pub returns-then-is_ascii_digit : goal.returns-then-is_ascii_digit
 returns-then-is_ascii_digit c =
-    let o = other c.args.text.now c.requires.some (rw c.as_bytes.ensures.value at (sym c.if-is_blank.ensures)) (rw c.as_bytes.ensures.value at (sym c.if-begins_name.ensures)) in
-    finds_at c.args.text.now _ _ c.first_number.result (at_digit c.args.fresh c.args.at c.args.text.now o (rw c.as_bytes.ensures.value at (sym c.if-is_ascii_digit.ensures.value))) c.first_number.ensures
+    let o = other c.args.text.now c.requires.some (rw c.as_bytes.ensures.value at (sym c.if-is_blank.ensures))
+    (rw c.as_bytes.ensures.value at (sym c.if-begins_name.ensures)) in
+    finds_at c.args.text.now _ _ c.first_number.result
+    (at_digit c.args.fresh c.args.at c.args.text.now o (rw c.as_bytes.ensures.value at (sym c.if-is_ascii_digit.ensures.value)))
+    c.first_number.ensures
 
 pub returns-in-Some : goal.returns-in-Some
 returns-in-Some c =
     let t = c.args.text.now in
     let e = strip_prefix_char 34 t (Some c.in-Some.behind) c.in-Some.ensures.cases (omega arith) in
-    finds_at t _ _ c.first_text.result (at_quote c.args.fresh c.args.at t c.in-Some.behind.now e) (c.first_text.ensures t (rw c.as_bytes-in-Some.ensures.value e))
+    finds_at t _ _ c.first_text.result (at_quote c.args.fresh c.args.at t c.in-Some.behind.now e)
+    (c.first_text.ensures t (rw c.as_bytes-in-Some.ensures.value e))
 
 pub returns-in-Some-strip_prefix : goal.returns-in-Some-strip_prefix
 returns-in-Some-strip_prefix c =
     let t = c.args.text.now in
     let e = strip_prefix_char 35 t (Some c.in-Some-strip_prefix.line) c.in-Some-strip_prefix.ensures.cases (omega arith) in
-    finds_at t _ _ c.first_include.result (at_directive c.args.fresh c.args.at t c.in-Some-strip_prefix.line.now e) (c.first_include.ensures t (rw c.as_bytes-in-Some-strip_prefix.ensures.value e))
+    finds_at t _ _ c.first_include.result (at_directive c.args.fresh c.args.at t c.in-Some-strip_prefix.line.now e)
+    (c.first_include.ensures t (rw c.as_bytes-in-Some-strip_prefix.ensures.value e))
 
 pub returns-in-Some-strip_prefix-2 : goal.returns-in-Some-strip_prefix-2
 returns-in-Some-strip_prefix-2 c =
@@ -37,7 +43,8 @@ returns-in-Some-strip_prefix-2 c =
 pub returns-in-None : goal.returns-in-None
 returns-in-None c =
     let t = c.args.text.now in
-    let o = other t c.requires.some (rw c.as_bytes.ensures.value at (sym c.if-is_blank.ensures)) (rw c.as_bytes.ensures.value at (sym c.if-begins_name.ensures)) in
+    let o = other t c.requires.some (rw c.as_bytes.ensures.value at (sym c.if-is_blank.ensures))
+    (rw c.as_bytes.ensures.value at (sym c.if-begins_name.ensures)) in
     let no_quote = strip_prefix_char 34 t None c.in_default.ensures.cases (omega arith) in
     let no_line = strip_prefix_char 35 t None c.in_default-strip_prefix.ensures.cases (omega arith) in
     let digit = rw c.as_bytes.ensures.value at (sym c.if-is_ascii_digit.ensures.value) in

@@ -1,5 +1,5 @@
 use Rattle.std.proofs.Common.{◌≡◌, drop}
-use Rattle.cilk_lexeme.specs.Lexing.{fresh_behind}
+use Rattle.cilk_lex_tokens.specs.Lexing.{fresh_behind}
 use Rattle.cilk_lex.proofs.front.fresh_behind.Given as goal
 
 abbrev pub invariant-loop-byte : goal.invariant-loop-byte

@@ -4,7 +4,10 @@ use Rattle.cilk_lex.proofs.literal.closing_quote.Goals as goal
 use Rattle.cilk_lex.proofs.literal.closing_quote.Goals.{then-escaped, else-escaped+else-byte-eq34}
 
 pub returns-then-byte-eq10 : goal.returns-then-byte-eq10
-returns-then-byte-eq10 c = sym (c.loop-byte.invariant.left ∙ quote_newline c.args.text.now c.loop-byte.byte-index c.loop-byte-test.true c.loop-byte.escaped c.if-byte-eq10.true)
+returns-then-byte-eq10 c =
+    sym
+    (c.loop-byte.invariant.left ∙ quote_newline c.args.text.now c.loop-byte.byte-index c.loop-byte-test.true c.loop-byte.escaped
+    c.if-byte-eq10.true)
 
 pub returns-then-byte-eq34 : goal.returns-then-byte-eq34
 returns-then-byte-eq34 c =
@@ -25,4 +28,7 @@ loop-byte-preserved c = record {
 }
 
 pub returns : goal.returns
-returns c = sym (c.loop-byte.invariant.left ∙ quote_done c.args.text.now c.loop-byte.byte-index c.loop-byte.byte-index c.loop-byte.escaped c.loop-byte-test.false)
+returns c =
+    sym
+    (c.loop-byte.invariant.left ∙ quote_done c.args.text.now c.loop-byte.byte-index c.loop-byte.byte-index c.loop-byte.escaped
+    c.loop-byte-test.false)

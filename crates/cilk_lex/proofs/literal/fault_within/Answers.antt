@@ -1,7 +1,8 @@
 use Rattle.std.proofs.Common.{sym, ◌∙◌, arith}
 use Rattle.cilk_lex.proofs.Loops.{fault_escape, fault_taken, fault_backslash, fault_byte, fault_on, fault_done}
 use Rattle.cilk_lex.proofs.literal.fault_within.Goals as goal
-use Rattle.cilk_lex.proofs.literal.fault_within.Goals.{then-escaped+else-not-is_escape, else-escaped+then-byte-eq92, else-escaped+else-byte-eq92+else-not-is_printed}
+use Rattle.cilk_lex.proofs.literal.fault_within.Goals.{then-escaped+else-not-is_escape, else-escaped+then-byte-eq92}
+use Rattle.cilk_lex.proofs.literal.fault_within.Goals.{else-escaped+else-byte-eq92+else-not-is_printed}
 
 pub returns-then-not-is_escape : goal.returns-then-not-is_escape
 returns-then-not-is_escape c =
@@ -26,7 +27,9 @@ loop-byte-preserved c = record {
         rw w.escaped-is (h ∙ fault_backslash c.args.body.now c.loop-byte.byte-index c.loop-byte-test.true c.loop-byte.place w.if-byte-eq92.true)
     | else-escaped+else-byte-eq92+else-not-is_printed w ↦
         let h = rw w.if-escaped.false at c.loop-byte.invariant.left in
-        rw (w.escaped-is, w.if-escaped.false) (h ∙ fault_on c.args.body.now c.loop-byte.byte-index c.loop-byte-test.true c.loop-byte.place w.if-byte-eq92.false (sym w.if-not-is_printed.ensures))
+        rw (w.escaped-is, w.if-escaped.false)
+        (h ∙ fault_on c.args.body.now c.loop-byte.byte-index c.loop-byte-test.true c.loop-byte.place w.if-byte-eq92.false
+        (sym w.if-not-is_printed.ensures))
   ];
 }
 

@@ -7,13 +7,16 @@ pub returns-in_default : goal.returns-in_default
 returns-in_default c = λ text e. seen_open text c.args.behind.now c.args.at e c.in_default.ensures
 
 pub slice_bounds-fault_within-end : goal.slice_bounds-fault_within-end
-slice_bounds-fault_within-end c = sym (length-take-le c.in-Some.end c.args.behind.now (omega (arith, quote_within c.args.behind.now c.in-Some.end c.in-Some.ensures)))
+slice_bounds-fault_within-end c =
+    sym (length-take-le c.in-Some.end c.args.behind.now (omega (arith, quote_within c.args.behind.now c.in-Some.end c.in-Some.ensures)))
 
 pub overflow_add-result : goal.overflow_add-result
 overflow_add-result c = omega (arith, quote_within c.args.behind.now c.in-Some.end c.in-Some.ensures)
 
 pub returns-in-Some-fault_within : goal.returns-in-Some-fault_within
-returns-in-Some-fault_within c = λ text e. seen_fault text c.args.behind.now c.args.at e c.in-Some.end c.in-Some-fault_within.fault c.in-Some.ensures c.in-Some-fault_within.ensures
+returns-in-Some-fault_within c =
+    λ text e. seen_fault text c.args.behind.now c.args.at e c.in-Some.end c.in-Some-fault_within.fault c.in-Some.ensures
+    c.in-Some-fault_within.ensures
 
 pub returns-in-None : goal.returns-in-None
 returns-in-None c = λ text e. seen_text text c.args.behind.now c.args.at e c.in-Some.end c.in-Some.ensures c.in-None.ensures

@@ -1,5 +1,5 @@
 use Rattle.std.proofs.Common.{◌≡◌, ◌≤◌, ◌+◌}
-use Rattle.cilk_lexeme.specs.Place.{line_of, column_of}
+use Rattle.cilk_lex_tokens.specs.Place.{line_of, column_of}
 use Rattle.cilk_lex.proofs.place.line_col.Given as goal
 
 abbrev pub invariant-loop-byte : goal.invariant-loop-byte

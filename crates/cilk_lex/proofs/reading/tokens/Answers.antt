@@ -2,7 +2,7 @@ use Rattle.std.proofs.Common.{inl, sym, ap, ◌∙◌, arith}
 use Rattle.std.proofs.lemmas.List.{length-take-le}
 use Rattle.std.proofs.lemmas.Result.{err_from_is_err_and}
 use Rattle.std.proofs.lemmas.Bool.Decides.{nat_tests}
-use Rattle.cilk_lexeme.proofs.Unique.{one_reading, never_both, one_fault}
+use Rattle.cilk_lex_tokens.proofs.Unique.{one_reading, never_both, one_fault}
 use Rattle.cilk_lex.proofs.Loop.{found_there, fault_there, found_cut, takes_some, behind, all_read}
 use Rattle.cilk_lex.proofs.Refusals.{refused, another_fault}
 use Rattle.cilk_lex.proofs.reading.tokens.Goals as goal
@@ -48,7 +48,8 @@ slice_bounds-fresh_behind-end c =
 
 pub range_from-rest-requires : goal.range_from-rest-requires
 range_from-rest-requires c = λ positive.
-    found_cut c.loop-rest.fresh c.loop-rest.rest.now c.in_ok-front.front c.loop-rest.invariant.0 (found_there c.loop-rest.fresh c.loop-rest.start c.loop-rest.rest.now c.in_ok-front.front c.in_ok-front.ensures)
+    found_cut c.loop-rest.fresh c.loop-rest.rest.now c.in_ok-front.front c.loop-rest.invariant.0
+    (found_there c.loop-rest.fresh c.loop-rest.start c.loop-rest.rest.now c.in_ok-front.front c.in_ok-front.ensures)
 
 pub loop-rest-smaller : goal.loop-rest-smaller
 loop-rest-smaller c =
@@ -61,7 +62,8 @@ loop-rest-preserved c =
     let i = found_there t.fresh t.start t.rest.now c.in_ok-front.front c.in_ok-front.ensures in
     let r = c.range_from-rest in
     let b = rw c.as_bytes.ensures.value at c.fresh_behind-fresh.ensures in
-    let after = behind c.args.text.now t.rest.now r.result.now t.found.items c.match-front.found.items t.fresh c.fresh_behind-fresh.result t.start c.in_ok-front.front t.invariant.1 i r.ensures.value b in (
+    let after = behind c.args.text.now t.rest.now r.result.now t.found.items c.match-front.found.items t.fresh c.fresh_behind-fresh.result
+    t.start c.in_ok-front.front t.invariant.1 i r.ensures.value b in (
       r.utf8,
       elim c.match-front.branch [
         | in-Some+in_ok-push w ↦ after.token w.in-Some.kind c.utf8.text t.invariant.0 w.in-Some.is (ap (λ v. v.items) w.found-is ∙ w.in_ok-push.ensures.items)
@@ -70,10 +72,18 @@ loop-rest-preserved c =
     )
 
 pub returns-clause-tokens : goal.returns-clause-tokens
-returns-clause-tokens c = all_read c.args.text.now c.loop-rest.rest.now c.loop-rest.found.items c.loop-rest.fresh c.loop-rest.start c.loop-rest.invariant.1 (grind (arith, nat_tests))
+returns-clause-tokens c =
+    all_read c.args.text.now c.loop-rest.rest.now c.loop-rest.found.items c.loop-rest.fresh c.loop-rest.start c.loop-rest.invariant.1
+    (grind (arith, nat_tests))
 
 pub returns-clause-every_text : goal.returns-clause-every_text
-returns-clause-every_text c = λ l ps h. one_reading (all_read c.args.text.now c.loop-rest.rest.now c.loop-rest.found.items c.loop-rest.fresh c.loop-rest.start c.loop-rest.invariant.1 (grind (arith, nat_tests))) h
+returns-clause-every_text c =
+    λ l ps h. one_reading
+    (all_read c.args.text.now c.loop-rest.rest.now c.loop-rest.found.items c.loop-rest.fresh c.loop-rest.start c.loop-rest.invariant.1
+    (grind (arith, nat_tests))) h
 
 pub returns-clause-every_fault : goal.returns-clause-every_fault
-returns-clause-every_fault c = λ l f h. never_both (all_read c.args.text.now c.loop-rest.rest.now c.loop-rest.found.items c.loop-rest.fresh c.loop-rest.start c.loop-rest.invariant.1 (grind (arith, nat_tests))) h
+returns-clause-every_fault c =
+    λ l f h. never_both
+    (all_read c.args.text.now c.loop-rest.rest.now c.loop-rest.found.items c.loop-rest.fresh c.loop-rest.start c.loop-rest.invariant.1
+    (grind (arith, nat_tests))) h

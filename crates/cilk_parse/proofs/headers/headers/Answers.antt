@@ -1,10 +1,10 @@
 use Rattle.std.proofs.Common.{sym, refl, ◌∙◌}
 use Rattle.std.proofs.lemmas.Result.{err_from_is_err_and}
-use Rattle.cilk_rules.proofs.Loops.{onto_nothing}
-use Rattle.cilk_rules.specs.Rule.{part}
-use Rattle.cilk_grammar.specs.Parts.{token, the_header}
-use Rattle.cilk_grammar.specs.Spelling.{nesting_limit, read_at}
-use Rattle.cilk_reader.proofs.Loops.{one_shorter, loop_ends, loop_fails, loop_goes}
+use Rattle.cilk_parse_rules.proofs.Loops.{onto_nothing}
+use Rattle.cilk_parse_rules.specs.Rule.{part}
+use Rattle.cilk_parse_grammar.specs.Parts.{token, the_header}
+use Rattle.cilk_parse_grammar.specs.Spelling.{nesting_limit, read_at}
+use Rattle.cilk_parse_statements.proofs.Loops.{one_shorter, loop_ends, loop_fails, loop_goes}
 use Rattle.cilk_parse.proofs.headers.headers.Goals as goal
 
 pub each-init : goal.each-init
@@ -14,7 +14,9 @@ pub returns-in_err-next : goal.returns-in_err-next
 unfolding read_at
 returns-in_err-next c =
     let p = err_from_is_err_and c.from_residual.result c.from_residual.ensures.1 in
-    rw (p.1, p.2) (loop_fails nesting_limit (part (token the_header)) refl _ _ _ _ (sym c.is_inclusion.ensures ∙ c.each-test.true) c.each.invariant c.in_err-next.ensures)
+    rw (p.1, p.2)
+    (loop_fails nesting_limit (part (token the_header)) refl _ _ _ _ (sym c.is_inclusion.ensures ∙ c.each-test.true) c.each.invariant
+    c.in_err-next.ensures)
 
 pub each-smaller : goal.each-smaller
 unfolding read_at
@@ -22,7 +24,10 @@ each-smaller c = one_shorter nesting_limit (part (token the_header)) refl _ _ c.
 
 pub each-preserved : goal.each-preserved
 unfolding read_at
-each-preserved c = rw c.in_ok-push.ensures.items (loop_goes nesting_limit (part (token the_header)) refl _ _ _ _ _ (sym c.is_inclusion.ensures ∙ c.each-test.true) c.each.invariant c.in_ok-next.ensures)
+each-preserved c =
+    rw c.in_ok-push.ensures.items
+    (loop_goes nesting_limit (part (token the_header)) refl _ _ _ _ _ (sym c.is_inclusion.ensures ∙ c.each-test.true) c.each.invariant
+    c.in_ok-next.ensures)
 
 pub returns : goal.returns
 returns c = loop_ends nesting_limit (part (token the_header)) refl _ _ _ (sym c.is_inclusion.ensures ∙ c.each-test.false) c.each.invariant

@@ -1,19 +1,19 @@
 use Rattle.std.proofs.Common.{◌≡◌, ◌∙◌, ◌∷◌, [], List, Result, Ok, Err, MatchResult, false, refl}
 use Rattle.std.proofs.lemmas.Result.{err_from_is_err_and}
-use Rattle.cilk_grammar.specs.lexeme.Lexeme.{Piece}
-use Rattle.cilk_grammar.specs.lexeme.declared.keyword.Keyword.TheVariants.{Int}
-use Rattle.cilk_grammar.specs.syntax.Tree.{Item, Word}
-use Rattle.cilk_grammar.specs.syntax.declared.return_type.ReturnType.TheVariants as kinds
-use Rattle.cilk_rules.specs.declared.fault.ReadError.{ReadError}
-use Rattle.cilk_rules.specs.declared.fault.ReadError.TheVariants.{Memory}
-use Rattle.cilk_rules.specs.Gives.{Gives}
-use Rattle.cilk_rules.specs.Rule.{◌>>=◌, Read, Rule, token_at, and_then, either, done}
-use Rattle.cilk_rules.proofs.Loops.{fails_first}
-use Rattle.cilk_grammar.specs.expression.Classes.{cls, a_word, names}
-use Rattle.cilk_grammar.specs.Grammar.{tail, function, globals, int_item}
-use Rattle.cilk_grammar.specs.Parts.{Means, the_name}
-use Rattle.cilk_grammar.specs.Spelling.{leaf_at, read_at, nesting_limit}
-use Rattle.cilk_reader.specs.Limits.{read_in}
+use Rattle.cilk_lex.specs.lexeme.Lexeme.{Piece}
+use Rattle.cilk_lex.specs.lexeme.declared.keyword.Keyword.TheVariants.{Int}
+use Rattle.cilk_parse_grammar.specs.syntax.Tree.{Item, Word}
+use Rattle.cilk_parse_grammar.specs.syntax.declared.return_type.ReturnType.TheVariants as kinds
+use Rattle.cilk_parse_rules.specs.declared.fault.ReadError.{ReadError}
+use Rattle.cilk_parse_rules.specs.declared.fault.ReadError.TheVariants.{Memory}
+use Rattle.cilk_parse_rules.specs.ReadsAs.{ReadsAs}
+use Rattle.cilk_parse_rules.specs.Rule.{◌>>=◌, Read, Rule, token_at, and_then, either, done}
+use Rattle.cilk_parse_rules.proofs.Loops.{fails_first}
+use Rattle.cilk_parse_grammar.specs.Classes.{cls, a_word, names}
+use Rattle.cilk_parse_grammar.specs.Grammar.{tail, function, globals, int_item}
+use Rattle.cilk_parse_grammar.specs.Parts.{Means, the_name}
+use Rattle.cilk_parse_grammar.specs.Spelling.{leaf_at, read_at, nesting_limit}
+use Rattle.cilk_parse_statements.specs.Limits.{read_in}
 use Rattle.cilk_parse.proofs.item.int_item.Goals as goal
 
 -- what stands behind `int` and a name
@@ -28,7 +28,7 @@ behind_name ts us vs x e d = rw (e, d) refl
 
 -- items that are made of what was read, unless memory runs out
 made : {X : Type 0} (items : X → List Item) (xs : List Item) (left : List Piece) (result : Result X ReadError) (reading : Read Piece (List Item))
-    → reading ≡ Ok (xs, left) → MatchResult result (λ v. items v ≡ xs) (λ e. e ≡ Memory) → Gives (λ v. (items v, left)) result reading
+    → reading ≡ Ok (xs, left) → MatchResult result (λ v. items v ≡ xs) (λ e. e ≡ Memory) → ReadsAs (λ v. (items v, left)) result reading
 made items xs left (Ok v) reading e h = rw (h, e) refl
 made items xs left (Err f) reading e h = rw h tt
 

@@ -1,5 +1,5 @@
 use Rattle.std.proofs.Common.{◌≡◌, drop}
-use Rattle.cilk_grammar.specs.Grammar.{all_named}
+use Rattle.cilk_parse_grammar.specs.Grammar.{all_named}
 use Rattle.cilk_parse.proofs.kinds.all_named.Given as goal
 
 abbrev pub invariant-each : goal.invariant-each

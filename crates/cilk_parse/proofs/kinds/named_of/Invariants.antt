@@ -1,5 +1,5 @@
 use Rattle.std.proofs.Common.{◌≡◌, ◌++◌}
-use Rattle.cilk_grammar.specs.Grammar.{named_of}
+use Rattle.cilk_parse_grammar.specs.Grammar.{named_of}
 use Rattle.cilk_parse.proofs.kinds.named_of.Given as goal
 
 abbrev pub invariant-each : goal.invariant-each

@@ -1,5 +1,5 @@
 use Rattle.std.proofs.Common.{◌≡◌, ◌++◌, map}
-use Rattle.cilk_grammar.specs.syntax.Tree as tree
+use Rattle.cilk_parse_grammar.specs.syntax.Tree as tree
 use Rattle.cilk_parse.proofs.lock.as_items.Given as goal
 
 abbrev pub invariant-each : goal.invariant-each

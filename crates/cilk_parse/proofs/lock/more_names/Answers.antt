@@ -1,10 +1,10 @@
 use Rattle.std.proofs.Common.{sym, refl, ◌∙◌}
 use Rattle.std.proofs.lemmas.Result.{err_from_is_err_and}
-use Rattle.cilk_grammar.specs.lexeme.declared.mark.Mark.TheVariants.{Comma}
-use Rattle.cilk_grammar.specs.Forms.{mark}
-use Rattle.cilk_grammar.specs.Spelling.{nesting_limit}
-use Rattle.cilk_grammar.specs.Grammar.{name}
-use Rattle.cilk_reader.proofs.Loops.{one_shorter, loop_ends, loop_fails, loop_goes}
+use Rattle.cilk_lex.specs.lexeme.declared.mark.Mark.TheVariants.{Comma}
+use Rattle.cilk_parse_grammar.specs.Forms.{mark}
+use Rattle.cilk_parse_grammar.specs.Spelling.{nesting_limit}
+use Rattle.cilk_parse_grammar.specs.Grammar.{name}
+use Rattle.cilk_parse_statements.proofs.Loops.{one_shorter, loop_ends, loop_fails, loop_goes}
 use Rattle.cilk_parse.proofs.lock.more_names.Goals as goal
 
 pub returns-in_err-next : goal.returns-in_err-next
@@ -16,7 +16,10 @@ pub each-smaller : goal.each-smaller
 each-smaller c = one_shorter nesting_limit (mark Comma name) refl _ _ c.in_ok-next.ensures
 
 pub each-preserved : goal.each-preserved
-each-preserved c = rw c.in_ok-push.ensures.items (loop_goes nesting_limit (mark Comma name) refl _ _ _ _ _ (sym c.is_mark.ensures ∙ c.each-test.true) c.each.invariant c.in_ok-next.ensures)
+each-preserved c =
+    rw c.in_ok-push.ensures.items
+    (loop_goes nesting_limit (mark Comma name) refl _ _ _ _ _ (sym c.is_mark.ensures ∙ c.each-test.true) c.each.invariant
+    c.in_ok-next.ensures)
 
 pub returns : goal.returns
 returns c = loop_ends nesting_limit (mark Comma name) refl _ _ _ (sym c.is_mark.ensures ∙ c.each-test.false) c.each.invariant

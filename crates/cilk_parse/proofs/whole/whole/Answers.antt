@@ -14,7 +14,9 @@ returns-in_err-items c =
     rw (p.1, p.2) (items_fail _ _ _ _ c.in_ok-headers.ensures c.in_err-items.ensures)
 
 pub returns-then-left-gt0 : goal.returns-then-left-gt0
-returns-then-left-gt0 c = rw c.unexpected.ensures (more_left _ _ _ _ _ c.in_ok-headers.ensures c.in_ok-items.ensures (omega (arith, c.if-left-gt0.true, c.left.ensures)))
+returns-then-left-gt0 c =
+    rw c.unexpected.ensures
+    (more_left _ _ _ _ _ c.in_ok-headers.ensures c.in_ok-items.ensures (omega (arith, c.if-left-gt0.true, c.left.ensures)))
 
 pub returns : goal.returns
 returns c = all_read _ _ _ _ _ c.in_ok-headers.ensures c.in_ok-items.ensures (omega (arith, c.if-left-gt0.false, c.left.ensures))

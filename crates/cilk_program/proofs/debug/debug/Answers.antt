@@ -28,7 +28,8 @@ returns-in-Err-session-clause-begun g c = λ held is other.
     let t = tape_of c.in-Ok.taped.program c.in-Ok.taped.log.workers c.in-Ok.taped.log.choices in
     let made = c.in-Ok-new.ensures in
     inr (broken held c.args.text.now t c.in-Ok-new.debugger _ _ _ (c.in-Ok.ensures.ok held is)
-    (opens c.in-Ok-new.debugger t made.tape made.start made.marks) (playable_of c.in-Ok-new.debugger t made.tape made.whole) _ _ c.in-Err-session.fault c.in-Err-session.ensures.fault
+    (opens c.in-Ok-new.debugger t made.tape made.start made.marks) (playable_of c.in-Ok-new.debugger t made.tape made.whole) _ _
+    c.in-Err-session.fault c.in-Err-session.ensures.fault
     (λ is_write. other (ap status_of (c.broken_off.ensures ∙ ap broken_off is_write))))
 
 pub returns-in-Err-clause-declined : goal.returns-in-Err-clause-declined

@@ -11,24 +11,30 @@ use Rattle.cilk_program.proofs.debug.debug_text.Goals as goal
 
 pub returns-in-Err-clause-told : goal.returns-in-Err-clause-told
 returns-in-Err-clause-told g c = λ held is none.
-    not_read Declines false c.args.names.now.program.now c.args.names.now.log.now _ (g.R.Read.remaining c.args.reader.now) held _ _ c.in-Err.failure c.in-Err.ensures.status
+    not_read Declines false c.args.names.now.program.now c.args.names.now.log.now _ (g.R.Read.remaining c.args.reader.now) held _ _
+    c.in-Err.failure c.in-Err.ensures.status
     c.report.ensures.status c.report.ensures.told
 
 pub returns-in-Ok-debug-clause-done : goal.returns-in-Ok-debug-clause-done
 returns-in-Ok-debug-clause-done g c = λ held is done.
-    let read : IsReadOf (g.R.Read.remaining c.args.reader.now) c.as_slice-text.result.now = subst (λ t. IsReadOf (g.R.Read.remaining c.args.reader.now) t) (sym c.as_slice-text.ensures.value) c.in-Ok.ensures.ok in
+    let read : IsReadOf (g.R.Read.remaining c.args.reader.now) c.as_slice-text.result.now = subst
+    (λ t. IsReadOf (g.R.Read.remaining c.args.reader.now) t) (sym c.as_slice-text.ensures.value) c.in-Ok.ensures.ok in
     debugs_whole (g.R.Read.remaining c.args.reader.now) held c.as_slice-text.result.now _ _ read _ (c.in-Ok-debug.ensures.ok held is)
 
 pub returns-clause-told : goal.returns-clause-told
 returns-clause-told g c = λ held is none.
-    let read : IsReadOf (g.R.Read.remaining c.args.reader.now) c.as_slice-text.result.now = subst (λ t. IsReadOf (g.R.Read.remaining c.args.reader.now) t) (sym c.as_slice-text.ensures.value) c.in-Ok.ensures.ok in
-    gave_up Declines false c.args.names.now.program.now c.args.names.now.log.now _ (g.R.Read.remaining c.args.reader.now) held _ _ c.as_slice-text.result.now c.in-Err-debug.why read
-    (λ refused. declines_held (g.R.Read.remaining c.args.reader.now) held c.as_slice-text.result.now c.in-Err-debug.why read (c.in-Err-debug.ensures.declined held is refused))
+    let read : IsReadOf (g.R.Read.remaining c.args.reader.now) c.as_slice-text.result.now = subst
+    (λ t. IsReadOf (g.R.Read.remaining c.args.reader.now) t) (sym c.as_slice-text.ensures.value) c.in-Ok.ensures.ok in
+    gave_up Declines false c.args.names.now.program.now c.args.names.now.log.now _ (g.R.Read.remaining c.args.reader.now) held _ _
+    c.as_slice-text.result.now c.in-Err-debug.why read
+    (λ refused. declines_held (g.R.Read.remaining c.args.reader.now) held c.as_slice-text.result.now c.in-Err-debug.why read
+    (c.in-Err-debug.ensures.declined held is refused))
     c.explain.ensures.status c.explain.ensures.told
 
 pub returns-clause-begun : goal.returns-clause-begun
 returns-clause-begun g c = λ held is none other.
-    let read : IsReadOf (g.R.Read.remaining c.args.reader.now) c.as_slice-text.result.now = subst (λ t. IsReadOf (g.R.Read.remaining c.args.reader.now) t) (sym c.as_slice-text.ensures.value) c.in-Ok.ensures.ok in
+    let read : IsReadOf (g.R.Read.remaining c.args.reader.now) c.as_slice-text.result.now = subst
+    (λ t. IsReadOf (g.R.Read.remaining c.args.reader.now) t) (sym c.as_slice-text.ensures.value) c.in-Ok.ensures.ok in
     debugs_left (g.R.Read.remaining c.args.reader.now) held c.as_slice-text.result.now _ _ read _ _
     (c.in-Err-debug.ensures.begun held is (λ bad. other (c.explain.ensures.status ∙ bad)))
 

@@ -6,7 +6,9 @@ use Rattle.cilk_program.proofs.replay.replay.Goals as goal
 pub returns-in-Ok-write_answer-clause-ok : goal.returns-in-Ok-write_answer-clause-ok
 returns-in-Ok-write_answer-clause-ok g c = λ held is. record {
   answer = c.as_slice.result.now;
-  is = subst (λ (answer : List ℕ). Held held (λ bytes. IsReplayed c.in-Ok.closing.status c.args.text.now bytes answer)) (sym c.as_slice.ensures.value) (c.in-Ok.ensures.ok held is);
+  is =
+      subst (λ (answer : List ℕ). Held held (λ bytes. IsReplayed c.in-Ok.closing.status c.args.text.now bytes answer))
+      (sym c.as_slice.ensures.value) (c.in-Ok.ensures.ok held is);
   written = c.in-Ok-write_answer.ensures.ok;
 }
 
@@ -15,7 +17,9 @@ returns-clause-begun g c = λ held is failed. (
   c.in-Ok.closing.status,
   record {
     answer = c.as_slice.result.now;
-    is = subst (λ (answer : List ℕ). Held held (λ bytes. IsReplayed c.in-Ok.closing.status c.args.text.now bytes answer)) (sym c.as_slice.ensures.value) (c.in-Ok.ensures.ok held is);
+    is =
+        subst (λ (answer : List ℕ). Held held (λ bytes. IsReplayed c.in-Ok.closing.status c.args.text.now bytes answer))
+        (sym c.as_slice.ensures.value) (c.in-Ok.ensures.ok held is);
     begun = c.in-Err-write_answer.ensures.front;
   },
 )

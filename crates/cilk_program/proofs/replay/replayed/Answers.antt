@@ -1,7 +1,7 @@
 use Rattle.std.proofs.Common.{subst, List}
 use Rattle.cilk_run.specs.choices.declared.choice.Choice as code
 use Rattle.cilk_debug.specs.Tape.{tape_of}
-use Rattle.cilk_debug.specs.ReplayFaults.{Tells}
+use Rattle.cilk_debug.specs.ReplayFaults.{IsFaultOf}
 use Rattle.cilk_program.proofs.Ran.{all_replayed}
 use Rattle.cilk_program.proofs.Told.{replay_reads}
 use Rattle.cilk_program.proofs.replay.replayed.Goals as goal
@@ -15,7 +15,10 @@ returns-in-Err-play-clause-declined g c = λ held is refused.
       are = record {
         tape = tape_of c.in-Ok.taped.program c.in-Ok.taped.log.workers c.in-Ok.taped.log.choices;
         is = read.are;
-        told = subst (λ (choices : List code.Choice). Tells (tape_of c.in-Ok.taped.program c.in-Ok.taped.log.workers choices) c.in-Err-play.fault) c.as_slice-choices.ensures
+        told =
+            subst
+            (λ (choices : List code.Choice). IsFaultOf (tape_of c.in-Ok.taped.program c.in-Ok.taped.log.workers choices) c.in-Err-play.fault)
+            c.as_slice-choices.ensures
             c.in-Err-play.ensures.told;
       };
     }

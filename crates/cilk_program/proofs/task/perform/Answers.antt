@@ -2,7 +2,8 @@ use Rattle.std.proofs.Common.{ap, inl, inr}
 use Rattle.cilk_program.proofs.task.perform.Goals as goal
 
 pub returns-in-Print-clause-done : goal.returns-in-Print-clause-done
-returns-in-Print-clause-done g c = rw c.in-Print.is (λ answered. (c.print_text.ensures.only answered, c.print_text.ensures.done (c.print_text.ensures.only answered)))
+returns-in-Print-clause-done g c =
+    rw c.in-Print.is (λ answered. (c.print_text.ensures.only answered, c.print_text.ensures.done (c.print_text.ensures.only answered)))
 
 pub returns-in-Print-clause-told : goal.returns-in-Print-clause-told
 returns-in-Print-clause-told g c = rw c.in-Print.is c.print_text.ensures.told
@@ -11,7 +12,8 @@ pub returns-in-Print-clause-begun : goal.returns-in-Print-clause-begun
 returns-in-Print-clause-begun g c = rw c.in-Print.is (λ none. c.print_text.ensures.begun)
 
 pub returns-in-Check-clause-done : goal.returns-in-Check-clause-done
-returns-in-Check-clause-done g c = rw c.in-Check.is (λ answered. (c.check_text.ensures.only answered, c.check_text.ensures.done (c.check_text.ensures.only answered)))
+returns-in-Check-clause-done g c =
+    rw c.in-Check.is (λ answered. (c.check_text.ensures.only answered, c.check_text.ensures.done (c.check_text.ensures.only answered)))
 
 pub returns-in-Check-clause-told : goal.returns-in-Check-clause-told
 returns-in-Check-clause-told g c = rw c.in-Check.is c.check_text.ensures.told
@@ -20,7 +22,8 @@ pub returns-in-Check-clause-begun : goal.returns-in-Check-clause-begun
 returns-in-Check-clause-begun g c = rw c.in-Check.is (λ none. c.check_text.ensures.begun)
 
 pub returns-in-Debug-clause-done : goal.returns-in-Debug-clause-done
-returns-in-Debug-clause-done g c = rw c.in-Debug.is (λ answered. (c.debug_named.ensures.only answered, c.debug_named.ensures.done (c.debug_named.ensures.only answered)))
+returns-in-Debug-clause-done g c =
+    rw c.in-Debug.is (λ answered. (c.debug_named.ensures.only answered, c.debug_named.ensures.done (c.debug_named.ensures.only answered)))
 
 pub returns-in-Debug-clause-told : goal.returns-in-Debug-clause-told
 returns-in-Debug-clause-told g c = rw c.in-Debug.is c.debug_named.ensures.told

@@ -7,7 +7,8 @@ use Rattle.cilk_program.proofs.task.run_named.Goals as goal
 
 pub returns-in_default-clause-told : goal.returns-in_default-clause-told
 returns-in_default-clause-told g c = λ none.
-    no_run c.args.manner.now.workers (is_some c.args.log) c.args.manner.now.explain c.args.name.now (log_name (option_map (λ it. it.now) c.args.log)) c.report.result _ _ _ Memory (λ bad. cc)
+    no_run c.args.manner.now.workers (is_some c.args.log) c.args.manner.now.explain c.args.name.now
+    (log_name (option_map (λ it. it.now) c.args.log)) c.report.result _ _ _ Memory (λ bad. cc)
     c.report.ensures.status c.report.ensures.told
 
 pub returns-clause-told : goal.returns-clause-told

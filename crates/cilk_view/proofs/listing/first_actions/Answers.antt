@@ -1,6 +1,6 @@
 use Rattle.std.proofs.Common.{◌≡◌, ◌+◌, ◌-◌, drop, subst, sym, arith}
-use Rattle.cilk_agree.specs.labelled.Bodies.{label}
-use Rattle.cilk_agree.specs.labelled.Lines.{action_lines}
+use Rattle.cilk_load.specs.labelled.Bodies.{label}
+use Rattle.cilk_load.specs.labelled.Lines.{action_lines}
 use Rattle.cilk_view.specs.Listing.{HasFirsts}
 use Rattle.cilk_view.proofs.Firsts.{begins}
 use Rattle.cilk_view.proofs.listing.first_actions.Goals as goal

@@ -1,5 +1,5 @@
 use Rattle.std.proofs.Common.{◌+◌, ◌-◌, drop}
-use Rattle.cilk_agree.specs.labelled.Lines.{action_lines}
+use Rattle.cilk_load.specs.labelled.Lines.{action_lines}
 use Rattle.cilk_view.specs.Listing.{HasFirsts}
 use Rattle.cilk_view.proofs.listing.first_actions.Given as goal
 

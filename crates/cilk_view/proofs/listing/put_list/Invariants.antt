@@ -1,8 +1,8 @@
 use Rattle.std.proofs.Common.{◌≡◌, ◌≤◌, ◌+◌, ◌++◌, string_bytes, length}
 use denote.Text.{Utf8}
 use denote.Shadow.{shadow}
-use Rattle.cilk_agree.specs.labelled.Lines.{action_lines}
-use Rattle.cilk_agree.specs.seen.Listing.{list_text, numbered_text, lines_in}
+use Rattle.cilk_load.specs.labelled.Lines.{action_lines}
+use Rattle.cilk_machine_agree.specs.model.Listing.{list_text, numbered_text, lines_in}
 use Rattle.cilk_view.proofs.listing.put_list.Given as goal
 
 abbrev pub invariant-loop-line : goal.invariant-loop-line

@@ -1,5 +1,5 @@
 use Rattle.std.proofs.Common.{◌≡◌, ◌++◌, string_bytes, drop}
-use Rattle.cilk_agree.specs.model.Path.{numbers_text, path_text}
+use Rattle.cilk_machine_agree.specs.model.Path.{numbers_text, path_text}
 use Rattle.cilk_view.proofs.put.put_path.Given as goal
 
 abbrev pub invariant-loop-number : goal.invariant-loop-number

@@ -1,10 +1,10 @@
 use Rattle.std.proofs.Common.{◌≡◌, sym, ap, ◌∙◌, Some}
 use Rattle.std.specs.Prelude.{option_map, string_bytes}
-use Rattle.cilk_agree.specs.labelled.Bodies.{label}
-use Rattle.cilk_agree.specs.model.Path.{Path}
-use Rattle.cilk_agree.specs.model.Run.{Position}
-use Rattle.cilk_agree.specs.model.State.{instance_at}
-use Rattle.cilk_agree.specs.seen.Frames.{frame_text}
+use Rattle.cilk_load.specs.labelled.Bodies.{label}
+use Rattle.cilk_machine_agree.specs.model.Path.{Path}
+use Rattle.cilk_machine_agree.specs.model.Run.{Position}
+use Rattle.cilk_machine_agree.specs.model.State.{instance_at}
+use Rattle.cilk_machine_agree.specs.model.Frames.{frame_text}
 use Rattle.cilk_view.specs.Shows.{machine_of, ShowsAt}
 use Rattle.cilk_view.specs.Frames.{frame_by}
 use Rattle.cilk_view.proofs.Finds.{no_instance, instance_there, frame_stands, frame_there}
@@ -21,7 +21,9 @@ returns-in-None-clause-fault c = λ _ at s.
 
 pub returns-in-None-frame_live-clause-fault : goal.returns-in-None-frame_live-clause-fault
 returns-in-None-frame_live-clause-fault c = λ _ at s.
-    absurd (frame_there c.args.parts.now.loaded.now (machine_of c.args.parts.now s.outcome) s.who at.standing s.agrees c.in-Some.id c.in-Some.ensures.found.0 s.placed
+    absurd
+    (frame_there c.args.parts.now.loaded.now (machine_of c.args.parts.now s.outcome) s.who at.standing s.agrees c.in-Some.id
+    c.in-Some.ensures.found.0 s.placed
     (sym c.in-None-frame_live.ensures))
 
 pub returns-in-Some-frame_live-clause-text : goal.returns-in-Some-frame_live-clause-text
@@ -29,7 +31,8 @@ returns-in-Some-frame_live-clause-text c =
     let p = c.args.parts.now.loaded.now in
     let parts = c.args.parts.now in
     told_is c.frame_text.result c.told.result (λ text. string_bytes text ≡ frame_by p c.in-Some-frame_live.frame.now)
-    (λ text. (at : Position) → ShowsAt parts at → option_map (frame_text (label p)) (instance_at at.standing.state.instances c.args.path.now) ≡ Some (string_bytes text))
+    (λ text. (at : Position) → ShowsAt parts at → option_map (frame_text (label p))
+    (instance_at at.standing.state.instances c.args.path.now) ≡ Some (string_bytes text))
     c.told.ensures.text c.frame_text.ensures
     (λ text is at s.
     let m = machine_of parts s.outcome in

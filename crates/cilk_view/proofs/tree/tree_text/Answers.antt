@@ -1,7 +1,7 @@
 use Rattle.std.proofs.Common.{ap, ◌∙◌, arith}
 use Rattle.std.specs.Prelude.{flat_map}
-use Rattle.cilk_agree.specs.labelled.Bodies.{label}
-use Rattle.cilk_agree.specs.seen.Trees.{in_order, path_line}
+use Rattle.cilk_load.specs.labelled.Bodies.{label}
+use Rattle.cilk_machine_agree.specs.model.ViewTrees.{in_order, path_line}
 use Rattle.cilk_view.specs.Shows.{machine_of}
 use Rattle.cilk_view.proofs.Trees.{sorted_are, ended_by}
 use Rattle.cilk_view.specs.Sorting.{paths_in}

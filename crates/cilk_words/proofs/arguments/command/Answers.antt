@@ -21,8 +21,10 @@ with_replay = with_subcommand with_run (on_log (codes "replay")).top
 pub returns : goal.returns
 unfolding with_print with_check with_run with_replay
 returns c =
-    let print = has bare (on_explained (codes "print")) c.bare.result c.on_explained-print.result _ c.bare.ensures c.on_explained-print.ensures refl c.in_ok-printing.ensures in
-    let check = has with_print (on_explained (codes "check")) _ c.on_explained-check.result _ print c.on_explained-check.ensures refl c.in_ok-checking.ensures in
+    let print = has bare (on_explained (codes "print")) c.bare.result c.on_explained-print.result _ c.bare.ensures
+    c.on_explained-print.ensures refl c.in_ok-printing.ensures in
+    let check = has with_print (on_explained (codes "check")) _ c.on_explained-check.result _ print c.on_explained-check.ensures refl
+    c.in_ok-checking.ensures in
     let run = has with_check on_run _ c.on_run.result _ check c.on_run.ensures refl c.in_ok-running.ensures in
     let replay = has with_run (on_log (codes "replay")) _ c.on_log-replay.result _ run c.on_log-replay.ensures refl c.in_ok-replaying.ensures in
     IfOk-weaker c.with-5.result _ _

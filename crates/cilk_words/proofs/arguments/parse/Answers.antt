@@ -8,4 +8,5 @@ pub returns-clause-kinds : goal.returns-clause-kinds
 returns-clause-kinds c =
     let words = texts_of c.args.words.now in
     let result = c.try_get_matches_from.result in
-    subst (λ (app : App). is_simple_and_free app ≡ true → FailsBy (fault_of app words) result) c.in_ok-command.ensures c.try_get_matches_from.ensures.kinds is_simple
+    subst (λ (app : App). is_simple_and_free app ≡ true → FailsBy (fault_of app words) result) c.in_ok-command.ensures
+    c.try_get_matches_from.ensures.kinds is_simple

@@ -8,7 +8,8 @@ pub returns-in_err-name-2 : goal.returns-in_err-name-2
 returns-in_err-name-2 c =
     let met = c.in_ok-name in
     rw (c.from_residual-in_err-name-2.ensures)
-    (requests c.args.matches.now met.name.now (found_of met.found.now) (Some (wanted_by c.in_ok-task.task)) None met.ensures.name met.ensures.rows c.in_ok-task.ensures
+    (requests c.args.matches.now met.name.now (found_of met.found.now) (Some (wanted_by c.in_ok-task.task)) None met.ensures.name
+    met.ensures.rows c.in_ok-task.ensures
     c.in_err-name-2.ensures)
 
 pub returns : goal.returns

@@ -17,7 +17,9 @@ returns-in_err-limit c =
     let crew = workers_read f c.in_ok-workers.workers c.in_ok-workers.ensures.none (λ t e. (c.in_ok-workers.ensures.value t e).0) in
     let none = no_limit f (λ t e. (c.in_err-limit.ensures.value t e).1.0) in
     ap (option_map wanted_by) c.from_residual-in_err-limit.ensures
-    ∙ sym (no_end (one_of (codes "workers") (rows_of f)) (one_of (codes "limit") (rows_of f)) (first_of (codes "log") (rows_of f)) c.in_ok-workers.workers crew none)
+    ∙ sym
+    (no_end (one_of (codes "workers") (rows_of f)) (one_of (codes "limit") (rows_of f)) (first_of (codes "log") (rows_of f))
+    c.in_ok-workers.workers crew none)
 
 pub returns : goal.returns
 returns c =

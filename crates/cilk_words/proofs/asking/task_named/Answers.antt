@@ -13,7 +13,8 @@ returns-in_err-get_str-in-replay c =
 
 pub returns-in_err-get_str-in-debug : goal.returns-in_err-get_str-in-debug
 returns-in_err-get_str-in-debug c =
-    rw (c.in-debug.is, debug_given (found_of c.args.found.now) None c.in_err-get_str-in-debug.ensures) (ap (option_map wanted_by) c.from_residual-in_err-get_str-in-debug.ensures)
+    rw (c.in-debug.is, debug_given (found_of c.args.found.now) None c.in_err-get_str-in-debug.ensures)
+    (ap (option_map wanted_by) c.from_residual-in_err-get_str-in-debug.ensures)
 
 pub returns-in_ok-get_str-in-replay : goal.returns-in_ok-get_str-in-replay
 returns-in_ok-get_str-in-replay c =

@@ -1,6 +1,6 @@
 use Rattle.std.proofs.Common.{sym, ◌∙◌}
 use Rattle.std.proofs.lemmas.List.{length-map}
-use Rattle.cilk_console.specs.choices.Words.{choice_of}
+use Rattle.cilk_debug_console.specs.choices.Words.{choice_of}
 use Rattle.cilk_debug.specs.Tape.{tape_of}
 use Rattle.cilk_debug.proofs.Sound.{sound_first, playable_by}
 use Rattle.cilk_debug.proofs.debugger.Debugger.new.Goals as goal

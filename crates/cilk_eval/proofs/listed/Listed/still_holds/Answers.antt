@@ -1,5 +1,5 @@
 use Rattle.std.proofs.Common.{◌≡◌, ◌∙◌, List, ap, map, option_map, subst, sym}
-use Rattle.cilk_values.specs.Term.{Term}
+use Rattle.cilk_model_labels.specs.Term.{Term}
 use Rattle.cilk_eval.specs.declared.known.Known.{Known}
 use Rattle.cilk_eval.specs.declared.slot.Slot.{Slot}
 use Rattle.cilk_eval.specs.Known.{behind_known, known_in, known_of, variables_of}
@@ -16,11 +16,13 @@ same_known cells variables code seen slots values lent listed viewed =
 pub returns-in-Some : goal.returns-in-Some
 returns-in-Some c =
     some_left (known_of (cells_of c.args.slots.now) c.args.self.now) c.args.values.now c.in-Some.others.now c.is_empty.result
-    (sym (ap (option_map (λ others. others.now)) c.in-Some.is) ∙ c.behind_listed.ensures ∙ same_known (cells_of c.args.slots.now) c.self.inside.variables.items c.self.inside.code c.args.self.now _ c.args.values.now
+    (sym (ap (option_map (λ others. others.now)) c.in-Some.is) ∙ c.behind_listed.ensures
+    ∙ same_known (cells_of c.args.slots.now) c.self.inside.variables.items c.self.inside.code c.args.self.now _ c.args.values.now
     c.as_slice.ensures.value c.self.invariant c.self.view_is) c.is_empty.ensures
 
 pub returns-in-None : goal.returns-in-None
 returns-in-None c =
     none_left (known_of (cells_of c.args.slots.now) c.args.self.now) c.args.values.now
-    (sym (ap (option_map (λ others. others.now)) c.in-None.is) ∙ c.behind_listed.ensures ∙ same_known (cells_of c.args.slots.now) c.self.inside.variables.items c.self.inside.code c.args.self.now _ c.args.values.now
+    (sym (ap (option_map (λ others. others.now)) c.in-None.is) ∙ c.behind_listed.ensures
+    ∙ same_known (cells_of c.args.slots.now) c.self.inside.variables.items c.self.inside.code c.args.self.now _ c.args.values.now
     c.as_slice.ensures.value c.self.invariant c.self.view_is)

@@ -1,9 +1,9 @@
 use Rattle.std.proofs.Common.{ap, ◌∙◌}
 use Rattle.std.specs.Prelude.{option_and_then}
-use Rattle.cilk_choices.specs.model.Places.{hand_of}
-use Rattle.cilk_carries.specs.plans.Made.{planned}
-use Rattle.cilk_step.specs.Scenes.{sight_of}
-use Rattle.cilk_step.specs.Looks.{look_in}
+use Rattle.cilk_machine_choices.specs.model.Places.{hand_of}
+use Rattle.cilk_machine_carry.specs.plans.Made.{planned}
+use Rattle.cilk_machine_step.specs.Scenes.{sight_of}
+use Rattle.cilk_machine_step.specs.Looks.{look_in}
 use Rattle.cilk_machine.specs.Situation.{Situation}
 use Rattle.cilk_machine.specs.Refused.{planned_by}
 use Rattle.cilk_machine.specs.Looking.{look_by, plan_by}

@@ -1,4 +1,4 @@
-use Rattle.cilk_choices.specs.Words.{event_of}
+use Rattle.cilk_machine_choices.specs.Words.{event_of}
 use Rattle.cilk_machine.proofs.machine.Machine.settle_by_plan.Goals as goal
 
 pub returns-in-Ok-step-clause-made : goal.returns-in-Ok-step-clause-made

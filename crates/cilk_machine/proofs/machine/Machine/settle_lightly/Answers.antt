@@ -1,4 +1,4 @@
-use Rattle.cilk_choices.specs.Words.{event_of}
+use Rattle.cilk_machine_choices.specs.Words.{event_of}
 use Rattle.cilk_machine.proofs.machine.Machine.settle_lightly.Goals as goal
 
 pub returns-clause-made : goal.returns-clause-made

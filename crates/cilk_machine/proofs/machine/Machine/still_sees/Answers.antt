@@ -1,8 +1,8 @@
 use Rattle.std.proofs.Common.{◌≡◌, Option, Some, ap, ◌∙◌, subst}
 use Rattle.std.specs.Prelude.{option_and_then, Decides}
-use Rattle.cilk_choices.specs.model.Places.{hand_of}
-use Rattle.cilk_step.specs.Scenes.{sight_of}
-use Rattle.cilk_step.specs.Looks.{Look, look_in, look_of}
+use Rattle.cilk_machine_choices.specs.model.Places.{hand_of}
+use Rattle.cilk_machine_step.specs.Scenes.{sight_of}
+use Rattle.cilk_machine_step.specs.Looks.{Look, look_in, look_of}
 use Rattle.cilk_machine.specs.Situation.{Situation}
 use Rattle.cilk_machine.specs.Stands.{IsSound}
 use Rattle.cilk_machine.specs.Looking.{look_by}

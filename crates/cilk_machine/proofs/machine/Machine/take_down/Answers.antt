@@ -1,6 +1,6 @@
 use Rattle.std.proofs.Common.{ap, ◌∙◌}
-use Rattle.cilk_choices.specs.model.Places.{hand_of}
-use Rattle.cilk_step.specs.Scenes.{sight_of}
+use Rattle.cilk_machine_choices.specs.model.Places.{hand_of}
+use Rattle.cilk_machine_step.specs.Scenes.{sight_of}
 use Rattle.cilk_machine.specs.Situation.{Situation}
 use Rattle.cilk_machine.proofs.Looking.{taken-down}
 use Rattle.cilk_machine.proofs.machine.Machine.take_down.Goals as goal

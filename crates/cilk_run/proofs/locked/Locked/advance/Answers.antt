@@ -11,4 +11,5 @@ invariant_of-self-2 c =
     let n = c.advance.new.self in
     let items = c.push_reserved.ensures.items ∙ ap (λ xs. xs ++ c.args.choice ∷ []) c.reserve.ensures.items in
     subst (λ xs. IsLedBy n xs) (sym items)
-    (led-on c.self.inside.history.items m n c.args.choice (event_by (path_at m.machine.nodes) (path_at n.machine.nodes) c.in_ok-did.did) c.in_ok-did.ensures.made c.self.invariant)
+    (led-on c.self.inside.history.items m n c.args.choice (event_by (path_at m.machine.nodes) (path_at n.machine.nodes) c.in_ok-did.did)
+    c.in_ok-did.ensures.made c.self.invariant)

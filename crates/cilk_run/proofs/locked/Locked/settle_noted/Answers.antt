@@ -1,8 +1,8 @@
 use Rattle.std.proofs.Common.{sym, subst, ap, ◌∙◌, ◌++◌, ◌∷◌, []}
 use Rattle.cilk_machine.specs.spawn.Nodes.{path_at}
 use Rattle.cilk_machine.specs.carries.Words.{event_by}
-use Rattle.cilk_machine.specs.choices.declared.act.Act.TheVariants.{Step}
-use Rattle.cilk_machine.specs.choices.declared.choice.Choice.{Choice}
+use Rattle.cilk_log.specs.choices.declared.act.Act.TheVariants.{Step}
+use Rattle.cilk_log.specs.choices.declared.choice.Choice.{Choice}
 use Rattle.cilk_run.specs.Histories.{IsLedBy}
 use Rattle.cilk_run.proofs.Ran.{led-on}
 use Rattle.cilk_run.proofs.locked.Locked.settle_noted.Goals as goal

@@ -1,8 +1,0 @@
-pub mod Lines
-pub mod Appends
-pub mod ExprText
-pub mod MoveText
-pub mod StmtLines
-pub mod ProgramText
-pub use Rattle.cilk_syntax.specs.lexeme
-pub use Rattle.cilk_syntax.specs as syntax

@@ -1,0 +1,98 @@
+//! Texts that have no tokens: L1 to L7.
+
+use crate::lines::behind_newline;
+use crate::say::{say, say_quoted};
+use cilk_check_scopes::Memory;
+use cilk_lex::LexFault;
+
+const COMMENT: &str =
+    "This line has `//`: this language leaves out the comments that begin so, and has those between `/*` and `*/`";
+
+const CHARACTER: &str =
+    "A `'` begins a character constant of C, but this language leaves those out";
+
+const POINT: &str =
+    "A `.` is of C's structures and floating numbers, which this language leaves out";
+
+const BLANK: &str =
+    "A text literal has the printable characters of ASCII only: a tab in it is written `\\t`, and other blanks than spaces \
+    have no place in it";
+
+const OTHER: &str =
+    "This character may stand in a comment only, since a text literal has the printable ones of ASCII";
+
+const NUMBER: &str =
+    " is no whole number from 0 to 2147483647, written in decimal, in octal behind a `0`, or in \
+    hexadecimal behind `0x`, without a suffix";
+
+pub(crate) fn say_lex(out: &mut String, text: &str, fault: LexFault) -> Result<(), Memory> {
+    let (before, _) = text.split_at(text.floor_char_boundary(fault.place() as usize));
+    if is_behind_slashes(behind_newline(before)) {
+        return say(out, COMMENT);
+    }
+    match fault {
+        LexFault::BadByte(at) => say_bad_byte(out, text, at),
+        LexFault::BadNumber(at) => say_bad_number(out, text, at),
+        _ => say(out, words(fault)),
+    }
+}
+
+// Whether a comment of the kind that the language leaves out ends this front of a line, as far as the front alone tells.
+fn is_behind_slashes(front: &str) -> bool {
+    match front.split_once("//") {
+        Some((code, behind)) => {
+            !code.contains("\"") && !code.contains("/*") && !behind.contains("*/")
+        }
+        None => false,
+    }
+}
+
+fn words(fault: LexFault) -> &'static str {
+    match fault {
+        LexFault::TooLong => "The text is longer than the 1048576 bytes that a program may have",
+        LexFault::OpenComment(_) => "The comment that begins here is not closed: `*/` is missing",
+        LexFault::OpenText(_) =>
+            "The text literal that begins here has no closing quote on its line",
+        LexFault::BadEscape(_) => {
+            "In a text literal a backslash stands before `n`, `t`, a backslash or a quote only: this language leaves out the \
+            other escapes of C"
+        }
+        LexFault::BadDirective(_) => {
+            "A `#` may only begin a line that includes `cilk.h`, `cilk-lib.h`, `cilk-lib.cilkh`, `stdio.h` or `stdlib.h` and \
+            has nothing else, not even a comment: this language leaves out the other directives of C"
+        }
+        LexFault::BadByte(_) | LexFault::BadNumber(_) | LexFault::Memory => "Memory has run out",
+    }
+}
+
+fn say_bad_byte(out: &mut String, text: &str, at: u32) -> Result<(), Memory> {
+    let (_, behind) = text.split_at(text.floor_char_boundary(at as usize));
+    match behind.chars().next() {
+        Some('\'') => say(out, CHARACTER),
+        Some('.') => say(out, POINT),
+        Some('\t' | '\x0b' | '\x0c' | '\r') => say(out, BLANK),
+        Some(' '..='~') => {
+            say_quoted(out, behind.get(..1).unwrap_or(""))?;
+            say(out, " begins no token of this language")
+        }
+        _ => say(out, OTHER),
+    }
+}
+
+fn say_bad_number(out: &mut String, text: &str, at: u32) -> Result<(), Memory> {
+    let (_, behind) = text.split_at(text.floor_char_boundary(at as usize));
+    let end = behind
+        .as_bytes()
+        .iter()
+        .take_while(|byte| byte.is_ascii_alphanumeric() || **byte == b'_' || **byte == b'.')
+        .count();
+    let number = behind.get(..end).unwrap_or("");
+    say_quoted(out, number)?;
+    if number.contains('.') {
+        return say(
+            out,
+            " is a floating number of C, but this language leaves those out",
+        );
+    }
+    say(out, NUMBER)
+}

@@ -1,0 +1,68 @@
+//! A text with its tokens at hand: words, lines and scopes by their places.
+
+ghost use Rattle.std.specs.Prelude.{◌≤◌, length};
+
+use cilk_lex::{Mark, Token, TokenKind, line_col};
+
+/// A text and its tokens.
+#[derive(Clone, Copy)]
+pub(crate) struct Source<'a> {
+    pub(crate) text: &'a str,
+    pub(crate) tokens: &'a [Token],
+}
+
+impl<'a> Source<'a> {
+    /// How many tokens begin before a place.
+    pub(crate) fn index_of(self, at: u32) -> usize
+        ensures { result ≤ length self.entry.tokens.now }
+    {
+        self.tokens.partition_point(|token| token.start < at)
+    }
+
+    /// How a token is spelled.
+    pub(crate) fn cut(self, token: Token) -> &'a str {
+        match self.text.get(token.start as usize..token.end as usize) {
+            Some(word) => word,
+            None => "",
+        }
+    }
+
+    /// How the token with this index is spelled.
+    pub(crate) fn word(self, index: usize) -> &'a str {
+        match self.tokens.get(index) {
+            Some(token) => self.cut(*token),
+            None => "",
+        }
+    }
+
+    /// How the token at a place is spelled.
+    pub(crate) fn word_at(self, at: u32) -> &'a str {
+        self.word(self.index_of(at))
+    }
+
+    /// The line of a place.
+    pub(crate) fn line(self, at: u32) -> usize {
+        if self.text.len() >= u32::MAX as usize {
+            return 1;
+        }
+        line_col(self.text, at).0 as usize
+    }
+
+    /// Whether the scope of what is declared at the first place goes on at the second, where so many braces of that scope
+    /// are open at the first (C 1990, 6.1.2.1).
+    pub(crate) fn is_open(self, from: u32, to: u32, braces: usize) -> bool {
+        let mut open = braces;
+        for token in &self.tokens[self.index_of(from)..] {
+            if token.start >= to {
+                return true;
+            }
+            match token.kind {
+                TokenKind::Mark(Mark::OpenBrace) => open = open.saturating_add(1),
+                TokenKind::Mark(Mark::CloseBrace) if open <= 1 => return false,
+                TokenKind::Mark(Mark::CloseBrace) => open -= 1,
+                _ => {}
+            }
+        }
+        true
+    }
+}

@@ -1,0 +1,16 @@
+use Rattle.cilk_check_scopes.proofs.Told.{none_is_told, first_is_told}
+use Rattle.cilk_check_forms.specs.Forms.{Faulty}
+use Rattle.cilk_check_forms.specs.Finds.{forms_faults}
+use Rattle.cilk_check_forms.proofs.Sound.{forms_sound}
+use Rattle.cilk_check_forms.proofs.Complete.{forms_complete}
+use Rattle.cilk_check_forms.proofs.first.first_form_fault.Goals as goal
+
+pub returns-clause-none : goal.returns-clause-none
+returns-clause-none c =
+    let p = c.args.program.now in
+    none_is_told (Faulty p) (forms_faults p) (forms_complete p) c.first_listed.result c.first_listed.ensures
+
+pub returns-clause-first : goal.returns-clause-first
+returns-clause-first c =
+    let p = c.args.program.now in
+    first_is_told (Faulty p) (forms_faults p) (forms_complete p) c.first_listed.result c.first_listed.ensures (forms_sound p)

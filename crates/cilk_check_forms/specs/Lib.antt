@@ -1,0 +1,8 @@
+pub mod Cells
+pub mod Format
+pub mod Forms
+pub mod Finds
+pub mod Room
+pub use Rattle.cilk_check_scopes.specs as scopes
+pub use Rattle.cilk_check_scopes.specs.lexeme
+pub use Rattle.cilk_check_scopes.specs.syntax

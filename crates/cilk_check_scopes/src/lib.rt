@@ -1,0 +1,20 @@
+//! What the names of a program mean where they stand (C 1990, 6.1.2.1), and what surrounds each part of it. The crate
+//! has the definitions, which speak of trees alone, and the faults that the rules over them find.
+#![tactic(auto)]
+
+mod declaration_kind;
+mod fault;
+mod order;
+mod owner;
+mod within;
+
+pub use cilk_tree_syntax::{
+    BinOp, Block, Decl, Expr, ExprNode, GlobalShape, Inlet, Item, ItemNode, LexFault, Literal,
+    Local, LocalNode, LockAction, Memory, Move, MoveNode, Parameters, Place, Proc, Program,
+    Prototype, ReturnType, Shape, Stmt, StmtNode, Taker, Target, Word,
+};
+pub use declaration_kind::DeclarationKind;
+pub use fault::CheckFault;
+pub use order::{first, first_if};
+pub use owner::Owner;
+pub use within::Within;

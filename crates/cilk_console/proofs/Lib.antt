@@ -1,5 +1,0 @@
-mod Ordinals
-mod Known
-mod Cut
-mod Written
-pub use Rattle.cilk_view.proofs.fates_laws

@@ -1,0 +1,13 @@
+pub mod Command
+pub mod Words
+pub mod Asking
+pub mod Input
+pub mod Taking
+pub mod OneByOne
+pub mod Parts
+pub mod Rows
+pub use Rattle.cilk_log.specs as log
+pub use Rattle.cilk_log.specs.canonical
+pub use Rattle.cilk_log.specs.choices
+pub use Rattle.cilk_view.specs as view
+pub use Rattle.cilk_view.specs.model

@@ -1,8 +1,0 @@
-use Rattle.std.proofs.Common.{◌≡◌, drop}
-use Rattle.cilk_sound.specs.values.Value.{values_of}
-use Rattle.cilk_sound.specs.eval.Slots.{cells_of, environment}
-use Rattle.cilk_effects.proofs.Several.{after}
-use Rattle.cilk_effects.proofs.values.values_of.Given as goal
-
-abbrev pub invariant-loop-code : goal.invariant-loop-code
-invariant-loop-code l = values_of (environment (cells_of l.slots)) l.codes ≡ after l.values.items (values_of (environment (cells_of l.slots)) (drop l.code-index l.codes))

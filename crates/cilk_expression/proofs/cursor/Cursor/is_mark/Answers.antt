@@ -1,6 +1,0 @@
-use Rattle.std.proofs.Common.{◌∙◌}
-use Rattle.cilk_expression.proofs.Compared.{is_mark}
-use Rattle.cilk_expression.proofs.cursor.Cursor.is_mark.Goals as goal
-
-pub returns : goal.returns
-returns c = c.eq.ensures ∙ rw c.kind.ensures (is_mark c.args.wanted _)

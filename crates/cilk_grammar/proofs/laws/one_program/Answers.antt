@@ -1,5 +1,0 @@
-use Rattle.cilk_grammar.proofs.Programs.{program_same}
-use Rattle.cilk_grammar.proofs.laws.one_program.Goals as goal
-
-pub returns : goal.returns
-returns c = program_same

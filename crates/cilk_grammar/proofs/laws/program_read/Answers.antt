@@ -1,8 +1,0 @@
-use Rattle.cilk_grammar.proofs.Programs.{program_takes, program_again}
-use Rattle.cilk_grammar.proofs.laws.program_read.Goals as goal
-
-pub returns-clause-sound : goal.returns-clause-sound
-returns-clause-sound c = program_takes
-
-pub returns-clause-complete : goal.returns-clause-complete
-returns-clause-complete c = program_again

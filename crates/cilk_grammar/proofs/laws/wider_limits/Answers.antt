@@ -1,5 +1,0 @@
-use Rattle.cilk_grammar.proofs.Programs.{program_wider}
-use Rattle.cilk_grammar.proofs.laws.wider_limits.Goals as goal
-
-pub returns : goal.returns
-returns c = program_wider

@@ -1,1 +1,0 @@
-pub use Rattle.cilk_canonical.proofs as canonical_laws

@@ -1,0 +1,27 @@
+pub mod Writes
+pub mod Spaced
+pub mod Exprs
+pub mod Literals
+pub mod Moves
+pub mod Lines
+pub mod Simple
+pub mod Stmts
+pub mod Items
+pub mod Programs
+pub mod ReadExprs
+pub mod Made
+pub mod Built
+pub mod Given
+pub mod ReadMoves
+pub mod ReadSimple
+pub mod ReadStmts
+pub mod Nested
+pub mod Tails
+pub mod ReadItems
+pub mod ReadPrograms
+pub mod Can
+pub mod Able
+pub mod GoodTrees
+pub mod Plain
+pub mod Printed
+pub use Rattle.cilk_tree.proofs as canonical_laws

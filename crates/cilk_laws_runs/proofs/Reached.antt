@@ -1,0 +1,13 @@
+-- What follows for every run of such a text.
+use Rattle.cilk_check.specs.scopes.declared.fault.CheckFault.TheVariants.{NoLoop}
+use Rattle.cilk_laws_allowed.specs.labelled.Bodies.{label}
+use Rattle.cilk_laws_placed.proofs.Heads as heads
+use Rattle.cilk_laws_placed.proofs.Waiting as waiting
+use Rattle.cilk_laws_runs.specs.HeadLaws.{EachHasHead, StuckOnLocks}
+use Rattle.cilk_laws_runs.proofs.LoopBodies.{breaks_stand_in_loops}
+
+pub each_has_head : EachHasHead
+each_has_head p right = heads.each_has_head (label p) (breaks_stand_in_loops p (λ at. right (NoLoop at)))
+
+pub stuck_on_locks : StuckOnLocks
+stuck_on_locks p right = waiting.stuck_on_locks (label p) (breaks_stand_in_loops p (λ at. right (NoLoop at)))

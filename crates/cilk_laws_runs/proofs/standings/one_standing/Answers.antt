@@ -1,0 +1,5 @@
+use Rattle.cilk_laws_runs.proofs.Standings.{one-standing}
+use Rattle.cilk_laws_runs.proofs.standings.one_standing.Goals as goal
+
+pub returns : goal.returns
+returns c = one-standing

@@ -1,0 +1,43 @@
+-- Variables one list behind the other.
+use Rattle.std.proofs.Common.{◌≡◌, ℕ, ◌+◌, List, [], ◌∷◌, ◌++◌, Result}
+use Rattle.std.proofs.Common.{sym, ap, ◌∙◌, arith, append_assoc}
+use Rattle.std.specs.Prelude.{OnOk}
+use Rattle.std.proofs.lemmas.Result.{on_ok_weaker}
+use Rattle.cilk_load_nodes.specs.eval.declared.area.Area.{Area}
+use Rattle.cilk_load_nodes.specs.labelled.Labelled.{Variable}
+use Rattle.cilk_load_nodes.specs.Slots.{size_of, cells_of}
+use Rattle.cilk_load_nodes.specs.declared.var.Var.{Var}
+use Rattle.cilk_load_nodes.specs.Bodies.{var_at, vars_from}
+
+pub cells_of-append : (vs ws : List Variable) → cells_of (vs ++ ws) ≡ cells_of vs + cells_of ws
+cells_of-append [] ws = omega arith
+cells_of-append (v ∷ vs) ws = omega (arith, cells_of-append vs ws)
+
+pub vars_from-append : (area : Area) (at : ℕ) (vs ws : List Variable)
+    → vars_from area at (vs ++ ws) ≡ vars_from area at vs ++ vars_from area (at + cells_of vs) ws
+vars_from-append area at [] ws = ap (λ k. vars_from area k ws) (none-more at)
+  where
+    none-more : (n : ℕ) → n ≡ n + 0
+    none-more n = omega arith
+vars_from-append area at (v ∷ vs) ws =
+    ap (λ rest. var_at area at v ∷ rest)
+    (vars_from-append area (at + size_of v) vs ws
+    ∙ ap (λ k. vars_from area (at + size_of v) vs ++ vars_from area k ws) (regroup at (size_of v) (cells_of vs)))
+  where
+    regroup : (a b c : ℕ) → a + b + c ≡ a + (b + c)
+    regroup a b c = omega arith
+
+-- one stretch of variables behind another
+pub joined : (area : Area) (at cells : ℕ) (before middle after : List Var) (vs ws : List Variable) → middle ≡ before ++ vars_from area at vs
+    → cells ≡ at + cells_of vs → after ≡ middle ++ vars_from area cells ws → after ≡ before ++ vars_from area at (vs ++ ws)
+joined area at cells before middle after vs ws e f g =
+    g
+    ∙ (λ i. e i ++ vars_from area (f i) ws)
+    ∙ append_assoc before (vars_from area at vs) (vars_from area (at + cells_of vs) ws)
+    ∙ ap (λ rest. before ++ rest) (sym (vars_from-append area at vs ws))
+
+-- where a call may fail
+pub ok_same : {A E X : Type 0} (r : Result A E) (xs ys zs : X) → OnOk r (xs ≡ ys) → ys ≡ zs → OnOk r (xs ≡ zs)
+ok_same r xs ys zs h e = on_ok_weaker r (λ (k : xs ≡ ys). k ∙ e) h
+
+pub ruleset variables = (cells_of-append, vars_from-append)

@@ -1,0 +1,16 @@
+pub mod Slots
+pub mod Actions
+pub mod Table
+pub mod Bodies
+pub mod Plain
+pub mod Laws
+pub mod Rows
+pub use Rattle.cilk_check.specs as check
+pub use Rattle.cilk_check.specs.rules_of_forms
+pub use Rattle.cilk_check.specs.rules_of_names
+pub use Rattle.cilk_check.specs.scopes
+pub use Rattle.cilk_check.specs.syntax
+pub use Rattle.cilk_eval.specs as eval
+pub use Rattle.cilk_model.specs as model
+pub use Rattle.cilk_model.specs.canonical
+pub use Rattle.cilk_model.specs.labelled

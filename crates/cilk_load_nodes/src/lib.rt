@@ -1,0 +1,31 @@
+//! The nodes, bodies and variables of a program that runs: what they are, and what they stand for in the labelled program.
+#![tactic(auto)]
+
+mod action;
+mod body;
+mod codes;
+mod laws;
+mod name;
+mod node;
+mod slot_place;
+mod taker;
+mod target;
+mod text;
+mod var;
+mod vars;
+
+pub use action::Action;
+pub use body::Body;
+pub use cilk_check::{BinOp, Checked, LockAction, Owner};
+pub use cilk_eval::{Area, Code, CodeNode, Memory, Slot, Slots, Trap, apply, eval};
+pub use cilk_model::canonical;
+pub use codes::Codes;
+pub use laws::{bodies_have_tables, nodes_stand_for_lists, rows_are_nodes};
+pub use name::Name;
+pub use node::Node;
+pub use slot_place::SlotPlace;
+pub use taker::Taker;
+pub use target::Target;
+pub use text::Text;
+pub use var::Var;
+pub use vars::Vars;

@@ -1,0 +1,23 @@
+pub mod Outside
+pub mod Alike
+pub mod Agrees
+pub mod Marks
+pub mod Laws
+pub mod Locks
+pub mod Actions
+pub mod Asked
+pub mod Between
+pub mod Fated
+pub mod FateLaws
+pub use Rattle.cilk_laws_placed.specs as placed
+pub use Rattle.cilk_laws_placed.specs.canonical
+pub use Rattle.cilk_laws_placed.specs.labelled
+pub use Rattle.cilk_laws_placed.specs.scopes
+pub use Rattle.cilk_laws_placed.specs.syntax
+pub use Rattle.cilk_model.specs as model
+pub use Rattle.cilk_sched.specs as sched
+pub use Rattle.cilk_sched.specs.check
+pub use Rattle.cilk_sched.specs.eval
+pub use Rattle.cilk_sched.specs.frame
+pub use Rattle.cilk_sched.specs.nodes
+pub use Rattle.cilk_spawn.specs as spawn

@@ -1,0 +1,41 @@
+-- What a call of a lock makes of it, where its holder goes by its id (Cilk 5.4 manual, locks).
+use Rattle.std.specs.Prelude.{ℕ, Bool, false, nat_eq, List, if◌then◌else◌, slice_index_or}
+use Rattle.cilk_laws_placed.specs.syntax.declared.lock_action.LockAction.{LockAction}
+use Rattle.cilk_laws_placed.specs.syntax.declared.lock_action.LockAction.TheVariants.{Init, Unlock}
+use Rattle.cilk_laws_placed.specs.syntax.declared.lock_action.LockAction.TheVariants as action
+use Rattle.cilk_model.specs.Path.{Path}
+use Rattle.cilk_model.specs.Change as change
+use Rattle.cilk_machine_agree.specs.declared.lock.Lock.{Lock}
+use Rattle.cilk_machine_agree.specs.declared.lock.Lock.TheVariants.{Unset, Free, Held}
+use Rattle.cilk_machine_agree.specs.Outside.{lock_by}
+
+pub data LockTurn : Type 0 where
+  turned : (now : Lock) → LockTurn
+  refused : LockTurn
+  blocked : LockTurn
+
+abbrev pub turn_at : ℕ → LockAction → Lock → LockTurn
+turn_at k Init Unset = turned Free
+turn_at k Init Free = turned Free
+turn_at k Init (Held i) = refused
+turn_at k action.Lock Unset = refused
+turn_at k action.Lock Free = turned (Held k)
+turn_at k action.Lock (Held i) = if nat_eq i k then refused else blocked
+turn_at k Unlock Unset = refused
+turn_at k Unlock Free = refused
+turn_at k Unlock (Held i) = if nat_eq i k then turned Free else refused
+
+-- lock l, for the instance k
+abbrev pub turn_among : List Lock → ℕ → LockAction → ℕ → LockTurn
+turn_among locks k what l = turn_at k what (slice_index_or locks l Unset)
+
+abbrev pub turn_named : (ℕ → Path) → LockTurn → change.Turn
+turn_named up (turned now) = change.turned (lock_by up now)
+turn_named up refused = change.refused
+turn_named up blocked = change.blocked
+
+-- whether instance k holds it
+abbrev pub is_held_by : ℕ → Lock → Bool
+is_held_by k Unset = false
+is_held_by k Free = false
+is_held_by k (Held i) = nat_eq i k

@@ -1,0 +1,13 @@
+-- What an `abort` marks (Cilk 5.4 manual, `abort`).
+use Rattle.std.specs.Prelude.{Bool, true, map, if◌then◌else◌}
+use Rattle.cilk_model.specs.Path.{Path}
+use Rattle.cilk_model.specs.Instance.{Instance}
+use Rattle.cilk_model.specs.State.{State}
+use Rattle.cilk_model.specs.Change.{mark}
+
+abbrev pub marked_if : Bool → Instance → Instance
+marked_if b i = if b then record i { aborted = true } else i
+
+-- the live descendants of p are marked, and p does not go on
+abbrev pub marked_from : State → Path → State
+marked_from s p = record s { instances = map (mark p) s.instances }

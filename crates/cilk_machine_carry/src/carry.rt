@@ -1,0 +1,118 @@
+//! A plan is carried out.
+
+ghost use Rattle.std.specs.Prelude.{◌≡◌, None, IfErr, IfOk, OnErr};
+ghost use Rattle.std.specs.Option.{option_copied};
+ghost use Rattle.cilk_machine_plan.specs.model.Places.{IsWorker, hand_of};
+ghost use Rattle.cilk_machine_plan.specs.agree.Outside as outside;
+ghost use Rattle.cilk_machine_carry.specs.Words.{machine_of, outcome_of};
+ghost use Rattle.cilk_machine_carry.specs.Ready.{Ready};
+ghost use Rattle.cilk_machine_carry.specs.Carried.{Carried};
+ghost use Rattle.cilk_machine_carry.specs.Carries.{CanCarry, Carries};
+
+use crate::acting::{acted, carry_abort, carry_print, carry_trap};
+use crate::did::{Did, Done, NoMemory};
+use crate::entering::{carry_call, carry_enter, go_on, leave};
+use crate::parts::Parts;
+use crate::releasing::carry_turn;
+use crate::returning::{carry_end, carry_return};
+use crate::starting::carry_spawn;
+use crate::writing::{carry_answer, carry_take, carry_write};
+use cilk_machine_plan::{Body, Frame, Plan};
+
+/// Carries out the plan of the frame in the worker's hand, at this choice. The body is the one of the procedure, the
+/// C function or the inlet that the plan starts. Where memory has run out, nothing has changed.
+pub fn carry_out(
+    worker: u8,
+    plan: Plan,
+    body: Option<&Body>,
+    choice: u64,
+    parts: &mut Parts,
+) -> Result<Done, NoMemory>
+    requires turn { CanCarry parts.old worker (option_copied body) plan }
+    ensures done { IfOk result (λ done. Carries choice parts.old worker (option_copied body.entry) plan parts.new done) }
+    ensures same { OnErr result (machine_of parts.new outside.running ≡ machine_of parts.old outside.running) }
+    ensures living { OnErr result (parts.new.tree.living ≡ parts.old.tree.living) }
+{
+    match parts.hands.take(worker) {
+        None => unreachable!(),
+        Some(frame) => match carry(worker, frame, plan, body, choice, parts) {
+            Ok(done) => Ok(done),
+            Err(frame) => {
+                parts.hands.give(worker, frame);
+                Err(NoMemory)
+            }
+        },
+    }
+}
+
+// The frame was taken out of the hand. Where memory has run out, it comes back.
+fn carry(
+    worker: u8,
+    frame: Frame,
+    plan: Plan,
+    body: Option<&Body>,
+    choice: u64,
+    parts: &mut Parts,
+) -> Result<Done, Frame>
+    requires worker { IsWorker parts.old.hands worker }
+    requires empty { hand_of parts.old.hands worker ≡ None }
+    requires ready { Ready choice parts.old.tree.nodes parts.old.globals.items frame (option_copied body) plan }
+    ensures done { IfOk result (λ done. Carried choice (machine_of parts.old outside.running) worker frame (option_copied body.entry) plan
+        (machine_of parts.new (outcome_of done.outcome)) done.did) }
+    ensures back { IfErr result (λ f. f ≡ frame) }
+    ensures same { OnErr result (machine_of parts.new outside.running ≡ machine_of parts.old outside.running) }
+    ensures living { OnErr result (parts.new.tree.living ≡ parts.old.tree.living) }
+{
+    match plan {
+        Plan::Wait => unreachable!(),
+        Plan::Park => {
+            parts.tree.park(frame);
+            Ok(Done::running(Did::Moved))
+        }
+        Plan::End => Ok(carry_end(worker, frame, choice, parts)),
+        Plan::Trap { kind, n } => Ok(carry_trap(worker, frame, kind, n, parts)),
+        Plan::Take {
+            child,
+            n,
+            reached,
+            value,
+        } => Ok(carry_take(worker, frame, child, n, reached, value, choice, parts)),
+        Plan::Enter {
+            child,
+            n,
+            inlet: _,
+            arguments,
+        } => carry_enter(worker, frame, child, n, arguments, body, choice, parts),
+        Plan::Go { n, to } => Ok(acted(worker, go_on(frame, to), n, &mut parts.hands)),
+        Plan::Write {
+            n,
+            reached,
+            value,
+            to,
+        } => Ok(carry_write(worker, frame, n, reached, value, to, parts)),
+        Plan::Call {
+            n,
+            awaits,
+            callee: _,
+            arguments,
+            to,
+        } => carry_call(worker, frame, n, awaits, arguments, to, body, parts),
+        Plan::Leave { n } => Ok(acted(worker, leave(frame), n, &mut parts.hands)),
+        Plan::Answer { n, reached, value } => Ok(carry_answer(
+            worker, frame, n, reached, value, parts,
+        )),
+        Plan::Return { n, value } => carry_return(worker, frame, n, value, choice, parts),
+        Plan::Spawn {
+            n,
+            receiver,
+            callee,
+            arguments,
+            to,
+        } => carry_spawn(
+            worker, frame, n, receiver, callee, arguments, to, body, parts,
+        ),
+        Plan::Print { n, bytes, to } => carry_print(worker, frame, n, bytes, to, parts),
+        Plan::Turn { n, lock, now, to } => Ok(carry_turn(worker, frame, n, lock, now, to, parts)),
+        Plan::Abort { n, to } => Ok(carry_abort(worker, frame, n, to, parts)),
+    }
+}

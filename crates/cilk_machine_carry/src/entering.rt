@@ -1,0 +1,139 @@
+//! A body is entered or left, and an activation goes on.
+
+ghost use Rattle.std.specs.Prelude.{◌≡◌, ◌<◌, ℕ, true, None, IfErr, IfOk, OnErr};
+ghost use Rattle.std.specs.Option.{option_copied};
+ghost use Rattle.cilk_machine_plan.specs.model.Places.{IsWorker, hand_of};
+ghost use Rattle.cilk_machine_plan.specs.frame.Frames as frames;
+ghost use Rattle.cilk_machine_plan.specs.frame.Frames.{depth, jumped, with_boundary, gone_to, left};
+ghost use Rattle.cilk_machine_plan.specs.frame.Begins.{Takes, starts_with};
+ghost use Rattle.cilk_machine_plan.specs.spawn.Nodes.{node_at, is_live};
+ghost use Rattle.cilk_machine_plan.specs.agree.Outside as outside;
+ghost use Rattle.cilk_machine_plan.specs.declared.plan.Plan.TheVariants as plans;
+ghost use Rattle.cilk_machine_carry.specs.Words.{machine_of, outcome_of};
+ghost use Rattle.cilk_machine_carry.specs.Ready.{CanEnter};
+ghost use Rattle.cilk_machine_carry.specs.Carried.{Carried};
+
+use crate::acting::acted;
+use crate::did::{Did, Done};
+use crate::parts::Parts;
+use cilk_machine_plan::{Arguments, Await, Body, Frame, Id};
+
+/// An action of the procedure's own clears the flag.
+pub(crate) fn go_on(frame: Frame, to: u32) -> Frame
+    ensures { result ≡ gone_to to frame }
+{
+    let boundary = frame.at_boundary() && 1 < frame.depth();
+    resumed(frame, to, boundary)
+}
+
+pub(crate) fn resumed(mut frame: Frame, n: u32, boundary: bool) -> Frame
+    ensures { result ≡ with_boundary boundary (jumped n frame) }
+{
+    frame.jump(n);
+    frame.set_boundary(boundary);
+    frame
+}
+
+/// The body above is left.
+pub(crate) fn leave(mut frame: Frame) -> Frame
+    requires { 1 < depth frame }
+    ensures { result ≡ left frame }
+{
+    let _awaited = frame.leave();
+    frame
+}
+
+// A body starts above the others.
+fn enter(
+    mut frame: Frame,
+    body: Option<&Body>,
+    arguments: &[i32],
+    awaits: Option<Await>,
+) -> Result<Frame, Frame>
+    requires takes { Takes (option_copied body) arguments.now }
+    requires room { depth frame < 256 }
+    ensures entered { IfOk result (λ f. f ≡ frames.entered (starts_with (option_copied body.entry) arguments.now awaits) frame) }
+    ensures back { IfErr result (λ f. f ≡ frame) }
+{
+    match body {
+        None => unreachable!(),
+        Some(body) => match frame.enter(body, arguments, awaits) {
+            Ok(()) => Ok(frame),
+            Err(_) => Err(frame),
+        },
+    }
+}
+
+// A body starts above, and its caller at what follows the call.
+fn call(
+    frame: Frame,
+    body: Option<&Body>,
+    arguments: &[i32],
+    awaits: Option<Await>,
+    to: u32,
+) -> Result<Frame, Frame>
+    requires takes { Takes (option_copied body) arguments.now }
+    requires room { depth frame < 256 }
+    ensures entered { IfOk result (λ f. f ≡ frames.entered (starts_with (option_copied body.entry) arguments.now awaits) (gone_to to frame)) }
+    ensures back { IfErr result (λ f. f ≡ frame) }
+{
+    let n = frame.node(frame.depth() - 1);
+    let boundary = frame.at_boundary();
+    match enter(go_on(frame, to), body, arguments, awaits) {
+        Ok(frame) => Ok(frame),
+        Err(frame) => Err(resumed(frame, n, boundary)),
+    }
+}
+
+/// The delivery that waits longest is taken: an inlet starts, whose body this is. Where memory has run out, the frame
+/// comes back, and nothing has changed.
+pub(crate) fn carry_enter(
+    worker: u8,
+    frame: Frame,
+    child: Id,
+    n: u32,
+    arguments: Arguments,
+    body: Option<&Body>,
+    choice: u64,
+    parts: &mut Parts,
+) -> Result<Done, Frame>
+    requires worker { IsWorker parts.old.hands worker }
+    requires empty { hand_of parts.old.hands worker ≡ None }
+    requires live { is_live (node_at parts.old.tree.nodes frame.id) ≡ true }
+    requires enters { CanEnter frame (option_copied body) arguments }
+    ensures done { IfOk result (λ done. (inlet : ℕ) → Carried choice (machine_of parts.old outside.running) worker frame (option_copied body.entry)
+        (plans.Enter child n inlet arguments) (machine_of parts.new (outcome_of done.outcome)) done.did) }
+    ensures back { IfErr result (λ f. f ≡ frame) }
+    ensures same { OnErr result (machine_of parts.new outside.running ≡ machine_of parts.old outside.running) }
+    ensures living { OnErr result (parts.new.tree.living ≡ parts.old.tree.living) }
+{
+    let id = frame.id();
+    let frame = enter(frame, body, arguments.as_slice(), None)?;
+    let _taken = parts.tree.take_delivery(id, choice);
+    parts.hands.give(worker, frame);
+    Ok(Done::running(Did::Delivered(child, n)))
+}
+
+/// A C function starts, whose body this is. Where memory has run out, the frame comes back, and nothing has changed.
+pub(crate) fn carry_call(
+    worker: u8,
+    frame: Frame,
+    n: u32,
+    awaits: Option<Await>,
+    arguments: Arguments,
+    to: u32,
+    body: Option<&Body>,
+    parts: &mut Parts,
+) -> Result<Done, Frame>
+    requires worker { IsWorker parts.old.hands worker }
+    requires empty { hand_of parts.old.hands worker ≡ None }
+    requires enters { CanEnter frame (option_copied body) arguments }
+    ensures done { IfOk result (λ done. (choice callee : ℕ) → Carried choice (machine_of parts.old outside.running) worker frame (option_copied body.entry)
+        (plans.Call n awaits callee arguments to) (machine_of parts.new (outcome_of done.outcome)) done.did) }
+    ensures back { IfErr result (λ f. f ≡ frame) }
+    ensures same { OnErr result (machine_of parts.new outside.running ≡ machine_of parts.old outside.running) }
+    ensures living { OnErr result (parts.new.tree.living ≡ parts.old.tree.living) }
+{
+    let frame = call(frame, body, arguments.as_slice(), awaits, to)?;
+    Ok(acted(worker, frame, n, &mut parts.hands))
+}

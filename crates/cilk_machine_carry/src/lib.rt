@@ -1,0 +1,20 @@
+//! A plan is carried out: what one step changes in the cells, the locks, the output, the tree and
+//! the hands.
+#![tactic(auto)]
+
+mod acting;
+mod carry;
+mod did;
+mod entering;
+mod lightly;
+mod parts;
+mod releasing;
+mod returning;
+mod starting;
+mod writing;
+
+pub use carry::carry_out;
+pub use cilk_machine_plan::{Body, Fate, Frame, Hands, Id, Lock, Program, Tree, Var};
+pub use did::{Did, Done, NoMemory, Outcome};
+pub use lightly::carry_lightly;
+pub use parts::Parts;

@@ -1,0 +1,64 @@
+//! How locks change: taken and set free by a step, and let go of by an instance that was aborted.
+
+ghost use Rattle.std.specs.Prelude.{◌≡◌, ℕ, Option, None, map, slice_set};
+ghost use Rattle.cilk_machine_plan.specs.model.Places.{IsWorker, hand_of};
+ghost use Rattle.cilk_machine_plan.specs.nodes.declared.body.Body.{Body};
+ghost use Rattle.cilk_machine_plan.specs.agree.Laws.{released};
+ghost use Rattle.cilk_machine_plan.specs.agree.Outside as outside;
+ghost use Rattle.cilk_machine_plan.specs.declared.plan.Plan.TheVariants as plans;
+ghost use Rattle.cilk_machine_carry.specs.Words.{machine_of, outcome_of};
+ghost use Rattle.cilk_machine_carry.specs.Carried.{Carried};
+
+use crate::acting::acted;
+use crate::did::Done;
+use crate::entering::go_on;
+use crate::parts::Parts;
+use cilk_machine_plan::{Frame, Id, Lock};
+
+/// The locks of an instance that was aborted are free.
+pub(crate) fn release(locks: &mut Vec<Lock>, id: Id)
+    ensures { locks.new.items ≡ map (released id) locks.old.items }
+{
+    for lock in locks.iter_mut() {
+        *lock = released(*lock, id);
+    }
+}
+
+fn released(lock: Lock, id: Id) -> Lock
+    ensures { result ≡ released id lock }
+{
+    match lock {
+        Lock::Held(holder) => { if holder == id { Lock::Free } else { lock } }
+        Lock::Unset => lock,
+        Lock::Free => lock,
+    }
+}
+
+// A lock becomes this.
+fn turn(locks: &mut Vec<Lock>, lock: u32, now: Lock)
+    ensures { locks.new.items ≡ slice_set locks.old.items lock now }
+{
+    let place = lock as usize;
+    if place < locks.len() {
+        locks[place] = now;
+    }
+}
+
+/// A lock is taken, set or freed.
+pub(crate) fn carry_turn(
+    worker: u8,
+    frame: Frame,
+    n: u32,
+    lock: u32,
+    now: Lock,
+    to: u32,
+    parts: &mut Parts,
+) -> Done
+    requires worker { IsWorker parts.old.hands worker }
+    requires empty { hand_of parts.old.hands worker ≡ None }
+    ensures { (choice : ℕ) (body : Option Body) → Carried choice (machine_of parts.old outside.running) worker frame body
+        (plans.Turn n lock now to) (machine_of parts.new (outcome_of result.outcome)) result.did }
+{
+    turn(&mut parts.locks, lock, now);
+    acted(worker, go_on(frame, to), n, &mut parts.hands)
+}

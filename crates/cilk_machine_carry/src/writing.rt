@@ -1,0 +1,104 @@
+//! A cell is written.
+
+ghost use Rattle.std.specs.Prelude.{◌≡◌, ◌<◌, ℕ, true, Option, None};
+ghost use Rattle.cilk_machine_plan.specs.model.Places.{IsWorker, hand_of};
+ghost use Rattle.cilk_machine_plan.specs.nodes.declared.body.Body.{Body};
+ghost use Rattle.cilk_machine_plan.specs.frame.Frames.{depth, gone_to, left};
+ghost use Rattle.cilk_machine_plan.specs.frame.Cells.{frame_put, globals_put};
+ghost use Rattle.cilk_machine_plan.specs.spawn.Nodes.{node_at, is_live};
+ghost use Rattle.cilk_machine_plan.specs.agree.Outside as outside;
+ghost use Rattle.cilk_machine_plan.specs.declared.plan.Plan.TheVariants as plans;
+ghost use Rattle.cilk_machine_carry.specs.Words.{machine_of, outcome_of};
+ghost use Rattle.cilk_machine_carry.specs.Ready.{Fits};
+ghost use Rattle.cilk_machine_carry.specs.Carried.{Carried};
+
+use crate::acting::acted;
+use crate::did::{Did, Done, Outcome};
+use crate::entering::{go_on, leave};
+use crate::parts::Parts;
+use cilk_machine_plan::{Area, Frame, Id, Reached};
+
+/// The delivery that waits longest is taken: the cell takes the value.
+pub(crate) fn carry_take(
+    worker: u8,
+    frame: Frame,
+    child: Id,
+    n: u32,
+    reached: Reached,
+    value: i32,
+    choice: u64,
+    parts: &mut Parts,
+) -> Done
+    requires worker { IsWorker parts.old.hands worker }
+    requires empty { hand_of parts.old.hands worker ≡ None }
+    requires live { is_live (node_at parts.old.tree.nodes frame.id) ≡ true }
+    requires fits { Fits reached.slot reached.index frame parts.old.globals.items }
+    ensures carried { (body : Option Body) → Carried choice (machine_of parts.old outside.running) worker frame body
+        (plans.Take child n reached value) (machine_of parts.new (outcome_of result.outcome)) result.did }
+    ensures runs { result.outcome ≡ Outcome.Running }
+{
+    let id = frame.id();
+    let frame = write(&mut parts.globals, frame, reached, value);
+    let _taken = parts.tree.take_delivery(id, choice);
+    parts.hands.give(worker, frame);
+    Done::running(Did::Delivered(child, n))
+}
+
+/// A cell takes a value.
+pub(crate) fn carry_write(
+    worker: u8,
+    frame: Frame,
+    n: u32,
+    reached: Reached,
+    value: i32,
+    to: u32,
+    parts: &mut Parts,
+) -> Done
+    requires worker { IsWorker parts.old.hands worker }
+    requires empty { hand_of parts.old.hands worker ≡ None }
+    requires fits { Fits reached.slot reached.index (gone_to to frame) parts.old.globals.items }
+    ensures carried { (choice : ℕ) (body : Option Body) → Carried choice (machine_of parts.old outside.running) worker frame body
+        (plans.Write n reached value to) (machine_of parts.new (outcome_of result.outcome)) result.did }
+    ensures runs { result.outcome ≡ Outcome.Running }
+{
+    let frame = write(&mut parts.globals, go_on(frame, to), reached, value);
+    acted(worker, frame, n, &mut parts.hands)
+}
+
+/// A C function is left, and the cell that its caller reached takes the value.
+pub(crate) fn carry_answer(
+    worker: u8,
+    frame: Frame,
+    n: u32,
+    reached: Reached,
+    value: i32,
+    parts: &mut Parts,
+) -> Done
+    requires worker { IsWorker parts.old.hands worker }
+    requires empty { hand_of parts.old.hands worker ≡ None }
+    requires inside { 1 < depth frame }
+    requires fits { Fits reached.slot reached.index (left frame) parts.old.globals.items }
+    ensures { (choice : ℕ) (body : Option Body) → Carried choice (machine_of parts.old outside.running) worker frame body
+        (plans.Answer n reached value) (machine_of parts.new (outcome_of result.outcome)) result.did }
+{
+    let frame = write(&mut parts.globals, leave(frame), reached, value);
+    acted(worker, frame, n, &mut parts.hands)
+}
+
+// Writes a cell of the frame's top activation, of the procedure's own, or of the top level.
+fn write(globals: &mut Vec<i32>, mut frame: Frame, reached: Reached, value: i32) -> Frame
+    requires { Fits reached.slot reached.index frame globals.old.items }
+    ensures frame { result ≡ frame_put reached.slot reached.index value frame }
+    ensures globals { globals.new.items ≡ globals_put reached.slot reached.index value globals.old.items }
+{
+    let cell = reached.slot.offset + reached.index;
+    match reached.slot.area {
+        Area::Own => {
+            let top = frame.depth() - 1;
+            frame.set_cell(top, cell, value);
+        }
+        Area::Outer => frame.set_cell(0, cell, value),
+        Area::Global => globals[cell as usize] = value,
+    }
+    frame
+}

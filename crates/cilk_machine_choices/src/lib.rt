@@ -1,0 +1,22 @@
+//! What a machine is told and what it tells: choices and why they are refused, events, how a program ends, and the
+//! closing text of a run.
+#![tactic(auto)]
+
+mod act;
+mod choice;
+mod closing;
+mod end;
+mod event;
+mod fault;
+mod outcome;
+mod refusal;
+
+pub use act::Act;
+pub use choice::Choice;
+pub use cilk_spawn::{Memory, Path, Trap, TrapKind};
+pub use closing::ending;
+pub use end::End;
+pub use event::Event;
+pub use fault::MachineFault;
+pub use outcome::Outcome;
+pub use refusal::Refusal;

@@ -1,0 +1,13 @@
+pub mod Known
+pub mod Room
+pub mod Before
+pub mod Heads
+pub mod Fits
+pub mod Effects
+pub mod Slotted
+pub use Rattle.cilk_frame.specs as frame
+pub use Rattle.cilk_frame.specs.eval
+pub use Rattle.cilk_frame.specs.labelled
+pub use Rattle.cilk_frame.specs.model
+pub use Rattle.cilk_frame.specs.nodes
+pub use Rattle.cilk_frame.specs.syntax

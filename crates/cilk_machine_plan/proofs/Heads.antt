@@ -1,0 +1,116 @@
+-- The head of the instance in a worker's hand, as nodes and items tell it.
+use Rattle.std.proofs.Common.{◌≡◌, ℕ, ◌<◌, Bool, true, false, List, ◌∷◌, length, Option, Some, None, refl, sym, ap, ◌∙◌, subst}
+use Rattle.std.specs.Prelude.{is_some, IsSome, unwrap_or, option_map}
+use Rattle.cilk_machine_agree.specs.check.Fault.{WellFormed}
+use Rattle.cilk_machine_agree.specs.syntax.Tree.{Program}
+use Rattle.cilk_machine_agree.specs.labelled.Labelled.{Labelled, Numbered}
+use Rattle.cilk_machine_agree.specs.labelled.Items.{Items, opened, next, head_of, reached}
+use Rattle.cilk_machine_agree.specs.labelled.Bodies.{label}
+use Rattle.cilk_machine_effects.specs.Heads.{GoesOn}
+use Rattle.cilk_machine_agree.specs.model.Instance.{Instance, body_at}
+use Rattle.cilk_machine_agree.specs.nodes.declared.node.Node.{Node}
+use Rattle.cilk_machine_agree.specs.nodes.Actions.{slotted}
+use Rattle.cilk_machine_agree.specs.nodes.Slots.{slot_of}
+use Rattle.cilk_machine_agree.specs.nodes.Table.{number_of, number_after, node_over, node_of, successor}
+use Rattle.cilk_machine_agree.specs.nodes.Laws.{Reached}
+use Rattle.cilk_machine_agree.proofs.nodes_laws.Heads.{nodes-stand}
+use Rattle.cilk_machine_agree.specs.frame.Frames.{top_of}
+use Rattle.cilk_machine_agree.specs.frame.Stands.{StandsFor}
+use Rattle.cilk_machine_agree.proofs.frame_laws.Tops.{Stands, top-stands}
+use Rattle.cilk_machine_effects.specs.Known.{KnownAct}
+use Rattle.cilk_machine_agree.specs.Laws.{Turn, instance_of}
+use Rattle.cilk_machine_agree.specs.Actions.{IsNext}
+use Rattle.cilk_machine_agree.proofs.Alone.{holds}
+use Rattle.cilk_machine_plan.specs.Made.{next_of}
+use Rattle.cilk_machine_plan.specs.Plans.{sight_in}
+use Rattle.cilk_machine_plan.specs.Sights.{head_number}
+
+number-there : (o : Option Numbered) → is_some o ≡ true
+    → option_map (λ (h : Numbered). h.number) o ≡ Some (unwrap_or (option_map (λ (h : Numbered). h.number) o) 0)
+number-there None h = cc
+number-there (Some x) h = refl
+
+-- the head of these items, whose number is that of the frame
+pub record HeadOf (items : Items) (n : ℕ) : Type 0 where
+  pub head : Numbered
+  pub is : head_of items ≡ Some head
+  pub number : head.number ≡ n
+
+head-by : (items : Items) (n : ℕ) (o : Option Numbered) → head_of items ≡ o → number_of items ≡ Some n → HeadOf items n
+head-by items n None e h = let none : number_of items ≡ None = ap (λ (x : Option Numbered). option_map (λ (y : Numbered). y.number) x) e in cc
+head-by items n (Some x) e h =
+    let some : number_of items ≡ Some x.number = ap (λ (y : Option Numbered). option_map (λ (z : Numbered). z.number) y) e in
+    record { head = x; is = e; number = cc }
+
+-- what is known of the heads of a well-formed program
+pub record Sound (p : Program) : Type 0 where
+  pub well : WellFormed p
+  pub heads : (b : ℕ) (answers : List Bool) (head : Numbered) → b < length (label p).bodies
+      → head_of (reached (body_at (label p) b) answers) ≡ Some head → KnownAct (label p) b head.act
+  pub follows : (b : ℕ) (answers : List Bool) (answer : Bool) (head : Numbered) → b < length (label p).bodies
+      → head_of (reached (body_at (label p) b) answers) ≡ Some head → GoesOn head.act
+      → IsSome (head_of (reached (body_at (label p) b) (answer ∷ answers)))
+
+module _ (t : Turn) (sound : Sound t.program) where
+  abbrev program : Labelled
+  program = label t.program
+
+  abbrev i : Instance
+  i = instance_of t
+
+  abbrev b : ℕ
+  b = i.top.body
+
+  abbrev items : Items
+  items = i.top.items
+
+  pub stands : StandsFor program t.frame i
+  stands = (holds t).stands
+
+  top : Stands program (top_of t.frame) i.top i.below
+  top = top-stands program t.frame i stands
+
+  pub there : b < length program.bodies
+  there = top.acts.is_there
+
+  pub head-of : HeadOf items (head_number (sight_in t))
+  head-of = head-by items _ (head_of items) refl top.acts.node_is
+
+  abbrev pub head : Numbered
+  head = head-of.head
+
+  -- the node of the head
+  abbrev pub own_node : Node
+  own_node = record { action = slotted (slot_of program b) head.act; next = number_after true items; other = number_after false items; body = b }
+
+  pub node-is : node_of t.program head.number ≡ Some own_node
+  node-is =
+      let at : Reached t.program b top.acts.answers head.number =
+      record { is_there = there; number = ap number_of (sym top.acts.reached_by) ∙ top.acts.node_is ∙ ap Some (sym head-of.number) } in
+      nodes-stand t.program b top.acts.answers head.number sound.well at
+      ∙ ap (λ xs. Rattle.cilk_machine_agree.specs.nodes.Table.node_at program b xs) (sym top.acts.reached_by)
+      ∙ ap
+      (option_map
+      (λ (h : Numbered). record {
+        action = slotted (slot_of program b) h.act;
+        next = number_after true items;
+        other = number_after false
+            items;
+        body = b;
+      })) head-of.is
+
+  pub known : KnownAct program b head.act
+  known = sound.heads b top.acts.answers head there (ap head_of (sym top.acts.reached_by) ∙ head-of.is)
+
+  -- behind a head that does not leave its body another one comes
+  pub next-is : GoesOn head.act → (answer : Bool) → IsNext t answer (next_of own_node answer)
+  next-is goes answer =
+      let at : head_of (reached (body_at program b) top.acts.answers) ≡ Some head = ap head_of (sym top.acts.reached_by) ∙ head-of.is in
+      let some : IsSome (head_of (opened (next answer items))) =
+      subst (λ xs. IsSome (head_of (opened (next answer xs)))) (sym top.acts.reached_by) (sound.follows b top.acts.answers answer head there at goes) in
+      by_answer answer (number-there (head_of (opened (next answer items))) some)
+    where
+      by_answer : (answer : Bool) → number_of (opened (next answer items)) ≡ Some (unwrap_or (number_of (opened (next answer items))) 0)
+          → IsNext t answer (next_of own_node answer)
+      by_answer true h = h
+      by_answer false h = h

@@ -1,0 +1,14 @@
+pub mod Heads
+pub mod Acts
+pub mod Births
+pub mod Gifts
+pub mod Deliveries
+pub mod Planned
+mod Callees
+pub use Rattle.cilk_machine_agree.proofs as agree_laws
+pub use Rattle.cilk_machine_agree.proofs.frame_laws
+pub use Rattle.cilk_machine_agree.proofs.nodes_laws
+pub use Rattle.cilk_machine_agree.proofs.placed_laws
+pub use Rattle.cilk_machine_agree.proofs.sched_laws
+pub use Rattle.cilk_machine_agree.proofs.spawn_laws
+pub use Rattle.cilk_machine_effects.proofs as effects_laws

@@ -1,0 +1,16 @@
+pub mod Words
+pub mod Sights
+pub mod Made
+pub mod Plans
+pub use Rattle.cilk_machine_agree.specs as agree
+pub use Rattle.cilk_machine_agree.specs.check
+pub use Rattle.cilk_machine_agree.specs.eval
+pub use Rattle.cilk_machine_agree.specs.frame
+pub use Rattle.cilk_machine_agree.specs.labelled
+pub use Rattle.cilk_machine_agree.specs.model
+pub use Rattle.cilk_machine_agree.specs.nodes
+pub use Rattle.cilk_machine_agree.specs.placed
+pub use Rattle.cilk_machine_agree.specs.sched
+pub use Rattle.cilk_machine_agree.specs.spawn
+pub use Rattle.cilk_machine_agree.specs.syntax
+pub use Rattle.cilk_machine_effects.specs as effects

@@ -1,0 +1,16 @@
+//! The plan of one step of an instance: what it says, and that it is the step that the definition of runs takes.
+#![tactic(auto)]
+
+mod laws;
+mod light;
+mod plan;
+
+pub use cilk_machine_agree::{
+    Area, Body, Delivery, Ending, Fate, Frame, Hands, Id, Lock, Path, Program, TrapKind, Tree, Var,
+};
+pub use cilk_machine_effects::{
+    Arguments, Await, Bytes, Effect, Memory, Reached, Receiver, assigned, combined, effect_of, held,
+};
+pub use laws::plans_are_steps;
+pub use light::Light;
+pub use plan::Plan;

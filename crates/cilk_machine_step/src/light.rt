@@ -1,0 +1,170 @@
+//! A step that takes no memory, and after which the instance goes on in the same hand.
+
+ghost use Rattle.std.specs.Prelude.{◌≡◌, ◌<◌, ℕ, true, length, Ok, IfOk, IfSome};
+ghost use Rattle.cilk_eval.specs.Slots.{sizes_of, cells_of};
+ghost use Rattle.cilk_machine_plan.specs.effects.Effects.{effect_in};
+ghost use Rattle.cilk_machine_plan.specs.effects.declared.effect.Effect.TheVariants.{Gives};
+ghost use Rattle.cilk_machine_plan.specs.effects.Fits.{FitsAct};
+ghost use Rattle.cilk_machine_plan.specs.Sights.{id_of, cells_in};
+ghost use Rattle.cilk_machine_plan.specs.Made.{acted, ends_thread, given, leaves, taken_by, planned};
+ghost use Rattle.cilk_machine_plan.specs.Words.{plan_of};
+ghost use Rattle.cilk_machine_step.specs.Scenes.{sight_of, HeadFits};
+
+use crate::act::{at_boundary, ends_thread, leaves, next_of};
+use crate::leaving::given;
+use crate::scene::Scene;
+use cilk_load::{Action, Node, Slots, Trap, eval};
+use cilk_machine_plan::{Delivery, Light, Plan, Reached, Receiver, assigned, combined, held};
+
+/// The plan of the step of the instance of a frame, where it is a light one that is soon made: an assignment, a test, a
+/// jump, the end of a C function, or a value that is taken into a place. None tells nothing.
+#[inline(always)]
+pub fn plan_lightly(scene: &Scene) -> Option<Light>
+    requires there { id_of (sight_of scene.now) < length (sight_of scene.now).nodes }
+    requires fits { HeadFits (sight_of scene.now) }
+    ensures { IfSome result (λ light. plan_of light ≡ planned (sight_of scene.now)) }
+{
+    let id = scene.frame.id();
+    if scene.tree.is_aborted(id) {
+        return None;
+    }
+    let n = scene.frame.node(scene.frame.depth() - 1);
+    match scene.loaded.statement(n) {
+        None => None,
+        Some(node) => {
+            if at_boundary(scene, node) {
+                match scene.tree.first_delivery(id) {
+                    None => act_lightly(scene, n, node),
+                    Some(delivery) => take_lightly(scene, delivery),
+                }
+            } else {
+                act_lightly(scene, n, node)
+            }
+        }
+    }
+}
+
+// The instance acts the node of its top activation, whose number is n.
+#[inline(always)]
+fn act_lightly(scene: &Scene, n: u32, node: &Node) -> Option<Light>
+    requires there { id_of (sight_of scene.now) < length (sight_of scene.now).nodes }
+    requires fits { FitsAct (sizes_of (cells_in (sight_of scene.now))) node.now.action }
+    ensures { IfSome result (λ light. plan_of light ≡ acted (sight_of scene.now) n node.now) }
+{
+    let slots = scene.lent();
+    match &node.action {
+        Action::Assign(target, code) => match assigned(&slots, target, code) {
+            Err(_) => None,
+            Ok(written) => Some(Light::Write {
+                n,
+                reached: written.reached,
+                value: written.value,
+                to: next_of(node, true),
+            }),
+        },
+        Action::Test(code) => match eval(&slots, code) {
+            Err(_) => None,
+            Ok(value) => Some(Light::Go {
+                n,
+                to: next_of(node, value != 0),
+            }),
+        },
+        Action::Null | Action::Break | Action::Continue => Some(Light::Go {
+            n,
+            to: next_of(node, true),
+        }),
+        action if leaves(action) => leave_lightly(scene, &slots, n, node),
+        _ => None,
+    }
+}
+
+// The same, where the action leaves its body.
+#[tactic(auto, using(crate::proofs::Ways::leaves_by))]
+#[inline(always)]
+fn leave_lightly(scene: &Scene, slots: &Slots, n: u32, node: &Node) -> Option<Light>
+    requires there { id_of (sight_of scene.now) < length (sight_of scene.now).nodes }
+    requires fits { FitsAct (sizes_of (cells_in (sight_of scene.now))) node.now.action }
+    requires slots { cells_of slots.now ≡ cells_in (sight_of scene.now) }
+    requires leaves { leaves node.now.action ≡ true }
+    ensures { IfSome result (λ light. plan_of light ≡ acted (sight_of scene.now) n node.now) }
+{
+    if ends(*scene, node) {
+        return None;
+    }
+    match answer(slots, &node.action) {
+        Err(_) => None,
+        Ok(value) => lightened(left(*scene, n, node, value)),
+    }
+}
+
+// The scene of these two is a copy, so that the one of other steps need not stand in memory.
+
+// Whether a thread ends there.
+#[inline(never)]
+fn ends(scene: Scene, node: &Node) -> bool
+    ensures { result ≡ ends_thread (sight_of scene.entry) node.now }
+{
+    ends_thread(&scene, node)
+}
+
+// A body is left with a value.
+#[inline(never)]
+fn left(scene: Scene, n: u32, node: &Node, value: i32) -> Plan
+    requires { id_of (sight_of scene) < length (sight_of scene).nodes }
+    ensures { result ≡ given (sight_of scene.entry) n node.now value }
+{
+    given(&scene, n, node, value)
+}
+
+// The value with which an action leaves its body.
+#[inline(always)]
+fn answer(slots: &Slots, action: &Action) -> Result<i32, Trap>
+    requires { FitsAct (sizes_of (cells_of slots.now)) action.now }
+    ensures { IfOk result (λ value. (n : ℕ) → leaves action.now ≡ true → effect_in (cells_of slots.now) n action.now ≡ Ok (Gives value)) }
+{
+    match action {
+        Action::Return(code) => eval(slots, code),
+        _ => Ok(0),
+    }
+}
+
+// The plan, where a C function is left by it.
+#[inline(always)]
+fn lightened(plan: Plan) -> Option<Light>
+    ensures { IfSome result (λ light. plan_of light ≡ plan) }
+{
+    match plan {
+        Plan::Leave { n } => Some(Light::Leave { n }),
+        Plan::Answer { n, reached, value } => Some(Light::Answer { n, reached, value }),
+        _ => None,
+    }
+}
+
+// The delivery is taken, if a place takes it.
+#[inline(always)]
+fn take_lightly(scene: &Scene, delivery: &Delivery) -> Option<Light>
+    requires { id_of (sight_of scene.now) < length (sight_of scene.now).nodes }
+    ensures { IfSome result (λ light.
+        plan_of light ≡ taken_by (sight_of scene.now) delivery.now.child delivery.now.value delivery.now.receiver) }
+{
+    match &delivery.receiver {
+        Receiver::Place {
+            op,
+            slot,
+            index,
+            spawn,
+        } => match combined(*op, held(&scene.lent(), *slot, *index), delivery.value) {
+            Err(_) => None,
+            Ok(value) => Some(Light::Take {
+                child: delivery.child,
+                n: *spawn,
+                reached: Reached {
+                    slot: *slot,
+                    index: *index,
+                },
+                value,
+            }),
+        },
+        Receiver::Nothing | Receiver::Call { .. } => None,
+    }
+}

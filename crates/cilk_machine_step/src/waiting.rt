@@ -1,0 +1,60 @@
+//! Whether an instance has to wait for another one.
+
+ghost use Rattle.std.specs.Prelude.{◌≡◌, ◌<◌, length};
+ghost use Rattle.cilk_machine_plan.specs.Sights.{id_of};
+ghost use Rattle.cilk_machine_plan.specs.Made.{planned};
+ghost use Rattle.cilk_machine_step.specs.Scenes.{sight_of, is_wait, takes_nothing, wants_held_lock};
+
+use crate::act::{at_boundary, lock_at};
+use crate::scene::Scene;
+use cilk_load::{Action, LockAction, Node};
+use cilk_machine_plan::{Lock, Receiver};
+
+/// Whether the instance of a frame cannot step now, told without memory: another one holds the lock that it wants
+/// (Cilk 5.4 manual, locks).
+pub fn has_to_wait(scene: &Scene) -> bool
+    requires { id_of (sight_of scene.now) < length (sight_of scene.now).nodes }
+    ensures { result ≡ is_wait (planned (sight_of scene.now)) }
+{
+    let id = scene.frame.id();
+    if scene.tree.is_aborted(id) {
+        return false;
+    }
+    let n = scene.frame.node(scene.frame.depth() - 1);
+    match scene.loaded.statement(n) {
+        None => true,
+        Some(node) => {
+            if at_boundary(scene, node) {
+                match scene.tree.first_delivery(id) {
+                    None => wants_held_lock(scene, node),
+                    Some(delivery) => takes_nothing(&delivery.receiver),
+                }
+            } else {
+                wants_held_lock(scene, node)
+            }
+        }
+    }
+}
+
+// Whether nothing takes a value.
+fn takes_nothing(receiver: &Receiver) -> bool
+    ensures { result ≡ takes_nothing receiver.now }
+{
+    match receiver {
+        Receiver::Nothing => true,
+        Receiver::Place { .. } | Receiver::Call { .. } => false,
+    }
+}
+
+// Whether an action is to take a lock that another instance holds.
+fn wants_held_lock(scene: &Scene, node: &Node) -> bool
+    ensures { result ≡ wants_held_lock (sight_of scene.now) node.now.action }
+{
+    match &node.action {
+        Action::Locking(LockAction::Lock, lock) => match lock_at(scene.locks, *lock) {
+            Lock::Held(by) => by != scene.frame.id(),
+            Lock::Unset | Lock::Free => false,
+        },
+        _ => false,
+    }
+}

@@ -1,5 +1,0 @@
-use Rattle.cilk_nodes.proofs.Heads.{bodies-have, tables-have}
-use Rattle.cilk_nodes.proofs.laws.bodies_have_tables.Goals as goal
-
-pub returns : goal.returns
-returns c = record { tables = bodies-have; bodies = tables-have }

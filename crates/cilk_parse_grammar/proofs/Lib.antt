@@ -1,0 +1,30 @@
+pub mod Tables
+pub mod ClassFacts
+pub mod Tools
+pub mod Sound
+pub mod Complete
+pub mod Whole
+pub mod MovedExpr
+pub mod Steps
+pub mod LocalExpr
+pub mod Compared
+pub mod Loop
+pub mod Literals
+pub mod Opens
+pub mod Fine
+pub mod Leaves
+pub mod Exprs
+pub mod Values
+pub mod LocalValues
+pub mod Nests
+pub mod Programs
+pub mod Kept
+pub mod Keeps
+pub mod KeepsStmts
+pub mod KeepsItems
+pub mod Steady
+pub mod MovedNests
+pub mod Viable
+pub use Rattle.cilk_parse_rules.proofs as rules_laws
+pub use Rattle.cilk_tree_syntax.proofs as syntax_laws
+pub use Rattle.cilk_tree_syntax.proofs.lexeme_laws

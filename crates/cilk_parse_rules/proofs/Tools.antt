@@ -1,0 +1,52 @@
+-- Truth values, and steps that did not fail.
+use Rattle.std.proofs.Common.{◌≡◌, ◌||◌, ◌&&◌, not, Bool, true, false, if◌then◌else◌, Result, Ok, Err, refl, ap, ◌∙◌, ◌⊎◌, inl, inr}
+use Rattle.cilk_parse_rules.specs.declared.fault.Fault.{Fault}
+use Rattle.cilk_parse_rules.specs.Rule.{◌>>=◌}
+
+pub both_true : (a b : Bool) → (a && b) ≡ true → (a ≡ true) × (b ≡ true)
+both_true true b e = (refl, e)
+both_true false b e = absurd cc
+
+pub or_right : (a b : Bool) → b ≡ true → (a || b) ≡ true
+or_right true b e = refl
+or_right false b e = e
+
+pub or_left : (a b : Bool) → a ≡ true → (a || b) ≡ true
+or_left true b e = refl
+or_left false b e = absurd cc
+
+pub or_false : (a b : Bool) → (a || b) ≡ false → (a ≡ false) × (b ≡ false)
+or_false true b e = absurd cc
+or_false false b e = (refl, e)
+
+pub or_nothing : (a : Bool) → (a || false) ≡ a
+or_nothing true = refl
+or_nothing false = refl
+
+pub or_assoc : (a b c : Bool) → ((a || b) || c) ≡ (a || (b || c))
+or_assoc true b c = refl
+or_assoc false b c = refl
+
+pub not_true : (a : Bool) → not a ≡ true → a ≡ false
+not_true true e = absurd cc
+not_true false e = refl
+
+-- the value of a step that did not fail
+pub bind_ok : {A B : Type 0} (r : Result A Fault) (f : A → Result B Fault) (y : B) → (r >>= f) ≡ Ok y → (x : A) × (r ≡ Ok x) × (f x ≡ Ok y)
+bind_ok (Ok x) f y e = (x, refl, e)
+bind_ok (Err d) f y e = absurd cc
+
+abbrev as_ok : {A : Type 0} → A → Result A Fault
+as_ok x = Ok x
+
+pub ok_is : {A : Type 0} (x y : A) → as_ok x ≡ as_ok y → x ≡ y
+ok_is x y e = cc
+
+-- which way a test went
+pub chosen : {A : Type 0} (b : Bool) (x y z : A) → (if b then x else y) ≡ z → ((b ≡ true) × (x ≡ z)) ⊎ ((b ≡ false) × (y ≡ z))
+chosen true x y z e = inl (refl, e)
+chosen false x y z e = inr (refl, e)
+
+pub bind_same : {A B : Type 0} (r r' : Result A Fault) (k k' : A → Result B Fault) → r ≡ r' → ((x : A) → r ≡ Ok x → k x ≡ k' x) → (r >>= k) ≡ (r' >>= k')
+bind_same (Ok x) r' k k' e h = h x refl ∙ ap (λ q. q >>= k') e
+bind_same (Err f) r' k k' e h = ap (λ q. q >>= k') e

@@ -1,0 +1,32 @@
+//! The right sides that an assignment may have: expressions and calls.
+
+ghost use Rattle.std.specs.Prelude.{◌≡◌};
+ghost use Rattle.cilk_parse_grammar.specs.Parts.{assigned};
+ghost use Rattle.cilk_parse_statements.specs.Views.{value_of};
+
+use cilk_parse_grammar::{Expr, Move, MoveNode, Target, Word};
+
+/// What an assignment writes: an expression, or the value of a call of a C function (C 1990, 6.3.16, 6.3.2.2).
+#[derive(Drop)]
+pub enum RightSide {
+    Computed(Expr),
+    Called(Word, Vec<Expr>),
+}
+
+impl RightSide {
+    /// The assignment of the value.
+    pub fn assigned(self, target: Target) -> Move
+        ensures { result ≡ assigned target (value_of self) }
+    {
+        Move {
+            node: match self {
+                RightSide::Computed(value) => MoveNode::Assign(target, value),
+                RightSide::Called(callee, arguments) => MoveNode::Call(
+                    Some(target),
+                    callee,
+                    arguments,
+                ),
+            },
+        }
+    }
+}

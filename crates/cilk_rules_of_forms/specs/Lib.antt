@@ -1,8 +1,0 @@
-pub mod Cells
-pub mod Format
-pub mod Forms
-pub mod Finds
-pub mod Room
-pub use Rattle.cilk_scopes.specs.lexeme
-pub use Rattle.cilk_scopes.specs as scopes
-pub use Rattle.cilk_scopes.specs.syntax

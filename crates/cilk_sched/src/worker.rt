@@ -1,0 +1,140 @@
+//! The hand and the deque of one worker.
+
+ghost use Rattle.std.specs.Prelude.{◌≡◌, ◌<◌, ◌++◌, ◌∷◌, [], Some, None, length, option_map, slice_get, IfErr, IfSome, OnErr, OnOk};
+ghost use Rattle.std.specs.Option.{option_copied};
+ghost use Rattle.cilk_frame.specs.model.Places.{no_place, top_of, below_top, bottom_of, above_bottom};
+ghost use Rattle.cilk_frame.specs.Frames as frames;
+ghost use Rattle.cilk_frame.specs.Frames.{gone_to, left, with_cell, put_top};
+
+use cilk_frame::Frame;
+use std::alloc::Global;
+use std::collections::VecDeque;
+use std::marker::Model;
+
+/// What one worker has.
+#[derive(Drop)]
+pub struct Worker {
+    hand: Option<Frame>,
+    deque: VecDeque<Frame>,
+}
+
+impl Model for Worker {
+    ghost use Rattle.cilk_frame.specs.model.Places as seen;
+    ghost use Rattle.cilk_frame.specs.Frames.{Frame};
+
+    ghost Value = { seen.WorkerOf Frame };
+
+    ghost view = { λ p. record { hand = p.hand; deque = p.deque.items } };
+}
+
+impl Worker {
+    pub fn new(alloc: Global) -> Worker
+        ensures { result ≡ no_place }
+    {
+        Worker {
+            hand: None,
+            deque: VecDeque::new(alloc),
+        }
+    }
+
+    pub fn hand(&self) -> Option<&Frame>
+        ensures { option_copied result ≡ self.now.hand }
+    {
+        self.hand.as_ref()
+    }
+
+    pub fn len(&self) -> usize
+        ensures { result ≡ length self.now.deque }
+    {
+        self.deque.len()
+    }
+
+    pub fn queued(&self, i: usize) -> Option<&Frame>
+        ensures { option_copied result ≡ slice_get self.now.deque i }
+    {
+        self.deque.get(i)
+    }
+
+    pub fn give(&mut self, frame: Frame)
+        ensures { self.new ≡ record self.old { hand = Some frame } }
+    {
+        self.hand = Some(frame);
+    }
+
+    pub fn take(&mut self) -> Option<Frame>
+        ensures value { result ≡ self.old.hand }
+        ensures rest { self.new ≡ record self.old { hand = None } }
+    {
+        self.hand.take()
+    }
+
+    /// The instance in the hand goes on with action n, as an action is acted.
+    pub fn go_on(&mut self, n: u32)
+        ensures { self.new ≡ record self.old { hand = option_map (gone_to n) self.old.hand } }
+    {
+        match &mut self.hand {
+            None => {}
+            Some(frame) => frame.go_on(n),
+        }
+    }
+
+    /// Puts a value into a cell of the activation that goes on.
+    pub fn set_top_cell(&mut self, slot: u32, value: i32)
+        requires { IfSome self.old.hand (λ f. slot < length (frames.top_of f).cells) }
+        ensures { self.new ≡ record self.old { hand = option_map (put_top slot value) self.old.hand } }
+    {
+        match &mut self.hand {
+            None => {}
+            Some(frame) => {
+                let top = frame.depth() - 1;
+                frame.set_cell(top, slot, value);
+            }
+        }
+    }
+
+    /// Puts a value into a cell of the procedure's own activation.
+    pub fn set_lowest_cell(&mut self, slot: u32, value: i32)
+        requires { IfSome self.old.hand (λ f. slot < length (frames.activation_at f 0).cells) }
+        ensures { self.new ≡ record self.old { hand = option_map (with_cell 0 slot value) self.old.hand } }
+    {
+        match &mut self.hand {
+            None => {}
+            Some(frame) => frame.set_cell(0, slot, value),
+        }
+    }
+
+    /// The body above the others, in the hand, is left.
+    pub fn leave(&mut self)
+        requires { IfSome self.old.hand (λ f. 1 < frames.depth f) }
+        ensures { self.new ≡ record self.old { hand = option_map left self.old.hand } }
+    {
+        match &mut self.hand {
+            None => {}
+            Some(frame) => {
+                let _awaited = frame.leave();
+            }
+        }
+    }
+
+    pub fn push_bottom(&mut self, frame: Frame) -> Result<(), Frame>
+        ensures ok { OnOk result (self.new ≡ record self.old { deque = self.old.deque ++ frame ∷ [] }) }
+        ensures err { OnErr result (self.new ≡ self.old) }
+        ensures back { IfErr result (λ f. f ≡ frame) }
+    {
+        self.deque.push_back(frame).map_err(|failed| failed.value)
+    }
+
+    pub fn pop_bottom(&mut self) -> Option<Frame>
+        ensures value { result ≡ bottom_of self.old.deque }
+        ensures rest { self.new ≡ record self.old { deque = above_bottom self.old.deque } }
+    {
+        self.deque.pop_back()
+    }
+
+    pub fn steal_top(&mut self) -> Option<Frame>
+        ensures value { result ≡ top_of self.old.deque }
+        ensures rest { self.new ≡ record self.old { deque = below_top self.old.deque } }
+    {
+        self.deque.pop_front()
+    }
+}

@@ -1,5 +1,0 @@
-use Rattle.cilk_spelled.proofs.Programs.{program_made}
-use Rattle.cilk_spelled.proofs.laws.spelled.Goals as goal
-
-pub returns : goal.returns
-returns c = λ at p h. (program_made p h).from at

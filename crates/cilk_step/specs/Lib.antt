@@ -1,4 +1,0 @@
-pub mod Scenes
-pub mod Looks
-pub use Rattle.cilk_eval.specs as eval
-pub use Rattle.cilk_load.specs.values

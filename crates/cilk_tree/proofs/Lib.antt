@@ -1,0 +1,8 @@
+pub mod Lines
+pub mod Escapes
+pub mod Sizes
+pub mod Written
+pub mod BareText
+pub mod Images
+pub use Rattle.cilk_tree_syntax.proofs as syntax_laws
+pub use Rattle.cilk_tree_syntax.proofs.lexeme_laws

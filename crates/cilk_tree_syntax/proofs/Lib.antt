@@ -1,0 +1,4 @@
+pub mod Lists
+pub mod BareLaws
+pub mod Crosses
+pub use Rattle.cilk_lex_tokens.proofs as lexeme_laws

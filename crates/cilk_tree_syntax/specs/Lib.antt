@@ -1,0 +1,23 @@
+pub mod Tree
+pub mod Coding
+pub mod OperatorCoding
+pub mod AdjustmentCoding
+pub mod ChoiceCoding
+pub mod ExprCoding
+pub mod ExprView
+pub mod ExprSize
+pub mod ExprFalls
+pub mod MoveCoding
+pub mod MoveView
+pub mod StmtCoding
+pub mod StmtView
+pub mod StmtSize
+pub mod StmtFalls
+pub mod ProgramCoding
+pub mod ProgramView
+pub mod OperatorMark
+pub mod ReturnWord
+pub mod Adjustments
+pub mod LockWord
+pub mod Bare
+pub use Rattle.cilk_lex_tokens.specs as lexeme

@@ -1,0 +1,25 @@
+//! Declarations of variables and arrays in bodies.
+
+use crate::shape::Shape;
+use crate::word::Word;
+use std::marker::Model;
+
+/// The declaration of one variable or array (C 1990, 6.5).
+#[derive(Drop)]
+pub struct Decl {
+    pub name: Word,
+    pub shape: Shape,
+}
+
+impl Model for Decl {
+    ghost use Rattle.cilk_tree_syntax.specs.Tree as tree;
+    ghost use Rattle.cilk_tree_syntax.specs.MoveCoding.{coded_Decl};
+
+    ghost Value = { tree.Decl };
+
+    ghost coded = { coded_Decl };
+
+    ghost use Rattle.cilk_tree_syntax.specs.MoveView.{shape_of};
+
+    ghost view = { λ d. record { name = d.name; shape = shape_of d.shape } };
+}

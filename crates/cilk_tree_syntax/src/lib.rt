@@ -1,0 +1,57 @@
+//! The syntax tree of a program.
+#![tactic(auto)]
+
+mod adjustment;
+mod block;
+mod decl;
+mod expr;
+mod global;
+mod global_shape;
+mod inlet;
+mod item;
+mod literal;
+mod local;
+mod lock_action;
+mod memory;
+mod moves;
+mod operator;
+mod parameters;
+mod place;
+mod procedure;
+mod program;
+mod prototype;
+mod return_type;
+mod shape;
+mod stmt;
+mod taker;
+mod target;
+mod un_op;
+mod word;
+
+pub use adjustment::Adjustment;
+pub use block::Block;
+pub use cilk_lex_tokens::{Header, Keyword, LexFault, Mark, Token, TokenKind};
+pub use decl::Decl;
+pub use expr::{Expr, ExprNode};
+pub use global::Global;
+pub use global_shape::GlobalShape;
+pub use inlet::Inlet;
+pub use item::{Item, ItemNode};
+pub use literal::Literal;
+pub use local::{Local, LocalNode};
+pub use lock_action::LockAction;
+pub use memory::Memory;
+pub use moves::{Move, MoveNode};
+pub use operator::BinOp;
+pub use parameters::Parameters;
+pub use place::Place;
+pub use procedure::Proc;
+pub use program::Program;
+pub use prototype::Prototype;
+pub use return_type::ReturnType;
+pub use shape::Shape;
+pub use stmt::{Stmt, StmtNode};
+pub use taker::Taker;
+pub use target::Target;
+pub use un_op::UnOp;
+pub use word::Word;

@@ -1,0 +1,23 @@
+//! Places of the tree, to which moves and spawns write.
+
+use crate::expr::Expr;
+use crate::word::Word;
+use std::marker::Model;
+
+/// A variable, or an element of an array (C 1990, 6.3.2.1).
+#[derive(Drop)]
+pub struct Place {
+    pub name: Word,
+    pub index: Option<Expr>,
+}
+
+impl Model for Place {
+    ghost use Rattle.cilk_tree_syntax.specs.Tree as tree;
+    ghost use Rattle.cilk_tree_syntax.specs.MoveCoding.{coded_Place};
+
+    ghost Value = { tree.Place };
+
+    ghost coded = { coded_Place };
+
+    ghost view = { λ p. record { name = p.name; index = p.index } };
+}

@@ -1,1 +1,0 @@
-pub use Rattle.cilk_syntax.proofs as syntax_laws
