@@ -3,7 +3,7 @@ use Rattle.std.proofs.Common.{◌≡◌, ℕ, ◌==◌, ◌≤◌, ap, ◌∙◌
 use Rattle.std.specs.Option.{option_eq}
 use Rattle.std.proofs.lemmas.Bool.{eqb-true, false_from_ne_true}
 use Rattle.cilk_tree_syntax.specs.lexeme.Lexeme.{Lexeme, Piece, word, name, number, mark, literal, inclusion, lexeme_of, piece_of, pieces_of}
-use Rattle.cilk_tree_syntax.specs.lexeme.contracts.token.KindPartialEq.TheImpl.{eq-value}
+use Rattle.cilk_tree_syntax.specs.lexeme.contracts.token.TokenKindPartialEq.TheImpl.{eq-value}
 use Rattle.cilk_tree_syntax.specs.lexeme.declared.keyword.Keyword.{Keyword}
 use Rattle.cilk_tree_syntax.specs.lexeme.declared.mark.Mark.{Mark}
 use Rattle.cilk_tree_syntax.specs.lexeme.declared.token.TokenKind.{TokenKind}

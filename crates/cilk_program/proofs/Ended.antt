@@ -15,7 +15,7 @@ use Rattle.cilk_program.specs.Taped.{Declines}
 use Rattle.cilk_program.specs.declared.failure.RecordFailure.{RecordFailure}
 use Rattle.cilk_program.specs.declared.failure.RecordFailure.TheVariants as why
 use Rattle.cilk_words.specs.CommandLine.{Asked, Wanted, printed, checked, run, replayed, debugged, asked}
-use Rattle.cilk_words.specs.Refusing.{WritesFailure, asks_for_help, asks_for_version, asks_to_show}
+use Rattle.cilk_words.specs.Refusing.{IsNoRequest, asks_for_help, asks_for_version, asks_to_show}
 use Rattle.cilk_words.specs.declared.refusal.NoRequest.{NoRequest}
 use Rattle.cilk_words.specs.declared.refusal.NoRequest.TheVariants as refusal
 use Rattle.cilk_program.specs.Ends.{Ends, Shows}
@@ -125,7 +125,7 @@ nothing_done words held entered status old new err_old err_new none not_refused 
 
 -- what is told of the words tells how the program ends
 pub refused_words : (words : List (List ℕ)) (held : List ℕ → Option (List ℕ)) (entered : Option (List ℕ)) (r : NoRequest) (status : Status)
-    (old new err_old err_new : Option (List ℕ)) → WritesFailure words r
+    (old new err_old err_new : Option (List ℕ)) → IsNoRequest words r
     → Shows r status old new → (r ≡ refusal.Memory → TellsLine [] failure.Memory [] err_old err_new)
     → (is_answer status ≡ false → status ≢ ended.CannotWrite → new ≡ old) → Ends words held entered status old new err_old err_new
 refused_words words held entered (refusal.Help text) status old new err_old err_new tells (inl done) memory kept =

@@ -12,7 +12,7 @@ use Rattle.cilk_words.specs.declared.refusal.NoRequest.{NoRequest}
 use Rattle.cilk_words.specs.declared.refusal.NoRequest.TheVariants as refusal
 use Rattle.cilk_words.specs.declared.dash.Dash.{Dash}
 use Rattle.cilk_words.specs.CommandLine.{Asked, asked, command_line, dash_of, request_of_any, unless_fault, wished}
-use Rattle.cilk_words.specs.Refusing.{Tells, TellsOf, are_shown, is_help, is_shown, is_version}
+use Rattle.cilk_words.specs.Refusing.{IsNoRequest, TellsOf, are_shown, is_help, is_shown, is_version}
 
 nothing_asked : (kinds : Kinds) (sub : Option (Text × List Row)) (k : ErrorKind) → IsAmong k kinds → unless_fault kinds sub ≡ None
 nothing_asked [] sub k among = absurd among
@@ -40,7 +40,7 @@ asks_nothing : (words : List Text) → wished words ≡ None → asked words ≡
 asks_nothing words none = rw none refl
 
 -- an error of one of the kinds that the words lead to tells of the words
-pub told : (words : List Text) (k : ErrorKind) (r : NoRequest) → (k ≡ OutOfMemory) ⊎ IsAmong k (fault_of command_line words) → TellsOf k r → Tells words r
+pub told : (words : List Text) (k : ErrorKind) (r : NoRequest) → (k ≡ OutOfMemory) ⊎ IsAmong k (fault_of command_line words) → TellsOf k r → IsNoRequest words r
 told words k refusal.Memory why tells = tt
 told words k (refusal.Dash d) why tells = absurd tells
 told words k (refusal.Help text) (inl memory) tells = cc

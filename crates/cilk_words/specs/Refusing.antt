@@ -51,9 +51,9 @@ TellsOf k (refusal.Dash where_it_is) = ⊥
 TellsOf k refusal.Memory = Unit {0}
 
 -- what is told of words that ask for nothing to be done, unless memory runs out
-abbrev pub Tells : List Text → NoRequest → Type 0
-Tells words (refusal.Help text) = (asked words ≡ None) × (asks_for_help words ≡ true)
-Tells words (refusal.Version text) = (asked words ≡ None) × (asks_for_version words ≡ true)
-Tells words (refusal.Usage text) = (asked words ≡ None) × (asks_to_show words ≡ false)
-Tells words (refusal.Dash where_it_is) = (option_and_then dash_of (wished words) ≡ Some where_it_is) × ((asked words ≡ None) × (asks_to_show words ≡ false))
-Tells words refusal.Memory = Unit {0}
+abbrev pub IsNoRequest : List Text → NoRequest → Type 0
+IsNoRequest words (refusal.Help text) = (asked words ≡ None) × (asks_for_help words ≡ true)
+IsNoRequest words (refusal.Version text) = (asked words ≡ None) × (asks_for_version words ≡ true)
+IsNoRequest words (refusal.Usage text) = (asked words ≡ None) × (asks_to_show words ≡ false)
+IsNoRequest words (refusal.Dash where_it_is) = (option_and_then dash_of (wished words) ≡ Some where_it_is) × ((asked words ≡ None) × (asks_to_show words ≡ false))
+IsNoRequest words refusal.Memory = Unit {0}

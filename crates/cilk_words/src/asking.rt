@@ -4,7 +4,7 @@ ghost use Rattle.std.specs.Prelude.{◌≡◌, IfErr, IfOk, Some, codes, option_
 ghost use Rattle.clap.specs.Words.{first_of, found_of, one_of, rows_of, subcommand_rows_of};
 ghost use Rattle.cilk_words.specs.CommandLine.{asked, asked_by, is_set, request_of_any, run_of};
 ghost use Rattle.cilk_words.specs.CommandLine.{texts_of, wanted_by, wanted_of};
-ghost use Rattle.cilk_words.specs.Refusing.{Tells};
+ghost use Rattle.cilk_words.specs.Refusing.{IsNoRequest};
 
 use crate::arguments::{EXPLAIN, FILE, LIMIT, LOG, WORKERS, WRITTEN, parse};
 use crate::dash::Dash;
@@ -16,7 +16,7 @@ use std::alloc::Global;
 /// What the words of a command line ask for, the first of which is the program's own name.
 pub fn request_in<'a>(alloc: Global, words: &'a [String]) -> Result<Request<'a>, NoRequest>
     ensures request { IfOk result (λ r. asked (texts_of words.now) ≡ Some (asked_by r)) }
-    ensures refusal { IfErr result (Tells (texts_of words.now)) }
+    ensures refusal { IfErr result (IsNoRequest (texts_of words.now)) }
 {
     let matches = match parse(alloc, words) {
         Ok(matches) => matches,
