@@ -14,8 +14,8 @@ mod written;
 
 pub use bytes::Bytes;
 pub use cilk_frame::{
-    Action, Area, Await, BinOp, Code, LockAction, Place, Slot, Slots, Taker, Target, Trap, apply,
-    eval,
+    Action, Area, Await, BinOp, Code, LockAction, Slot, SlotPlace, Slots, Taker, Target, Trap,
+    apply, eval,
 };
 pub use cilk_spawn::{Arguments, Memory, Receiver};
 pub use effect::Effect;
