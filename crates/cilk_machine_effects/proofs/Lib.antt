@@ -12,7 +12,7 @@ pub mod Known
 pub mod Origins
 pub mod Room
 pub mod Start
-pub mod Reached
+pub mod ReachedCells
 pub mod Before
 pub mod Items
 pub mod Heads

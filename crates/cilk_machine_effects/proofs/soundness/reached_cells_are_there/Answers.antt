@@ -1,4 +1,4 @@
-use Rattle.cilk_machine_effects.proofs.Reached.{reached_has}
+use Rattle.cilk_machine_effects.proofs.ReachedCells.{reached_has}
 use Rattle.cilk_machine_effects.proofs.soundness.reached_cells_are_there.Goals as goal
 
 pub returns : goal.returns
