@@ -72,7 +72,7 @@ hand-twice places w a b same =
     ∙ set_again places (w - 1) (record { hand = a; deque = deque_of places w }) (record { hand = b; deque = deque_of places w })
 
 -- what a hand holds is put there again
-pub hand-kept-by : (places : List sched.Place) (w : ℕ) (p : Path) → sched.hand_of places w ≡ Some p → places ≡ sched.with_hand places w (Some p)
+pub hand-kept-by : (places : List sched.Worker) (w : ℕ) (p : Path) → sched.hand_of places w ≡ Some p → places ≡ sched.with_hand places w (Some p)
 hand-kept-by places w p h =
     sym (seat_same sched.no_place places (w - 1) (record { hand = Some p; deque = sched.deque_of places w })
     (λ i. record { hand = h i; deque = sched.deque_of places w }))
