@@ -24,9 +24,10 @@ demo: cilk
 test: ways must_not_compile
 	tools/gate
 
-# Counts the ways down through crates.txt, of which there may be few (docs/GATE.md).
+# Counts the ways down through crates.txt, of which there may be few, and looks up what the pages name (docs/GATE.md).
 ways:
 	tools/ways
+	tools/pages
 
 # Tells what was dear in the last proofs: functions, and crates.
 costs:
