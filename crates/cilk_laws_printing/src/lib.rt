@@ -1,4 +1,5 @@
-//! The canonical text of a program is made of the canonical tokens of that program, and spells the program again.
+//! Laws of the canonical text of a program: it is made of the program's lexemes (`writing`), tokens that are these spell the program again
+//! (`rereading`), and so does the text of each program that passes the check (`printing`).
 #![tactic(auto)]
 
 pub mod printing;

@@ -1,5 +1,5 @@
-//! Laws of runs, over every list of possible choices: what labels and calls of a well-formed text come to, an instance and its children, and
-//! that a machine stands at one standing of the definitions.
+//! Laws of runs, over every list of possible choices: what instances of a well-formed text go on with (`heads`), an instance and its children
+//! (`children`), calls and inlets of a well-formed text (`calls`), and that a machine stands at one standing of the definitions (`standings`).
 #![tactic(auto)]
 
 pub mod calls;
