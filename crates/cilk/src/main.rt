@@ -10,7 +10,7 @@ mod host;
 mod streams;
 mod writing;
 
-use cilk_program::exit_code;
+use cilk_program::{Streams, exit_code};
 use host::Host;
 use std::process::ExitCode;
 use std::sync::Wait;
@@ -29,14 +29,11 @@ fn main(rt: HostRuntime) -> ExitCode {
 fn code<H: Threads + Wait + Sync>(handle: &H, rt: &HostRuntime) -> u8 {
     let words = words(rt);
     let texts = Host { rt };
-    exit_code(
-        handle,
-        rt.alloc(),
-        words,
-        &texts,
-        &mut rt.stdout(),
-        &mut rt.stderr(),
-    )
+    let mut streams = Streams {
+        output: rt.stdout(),
+        errors: rt.stderr(),
+    };
+    exit_code(handle, rt.alloc(), words, &texts, &mut streams)
 }
 
 fn words(rt: &HostRuntime) -> io::Result<Vec<String>> {

@@ -1,4 +1,3 @@
-pub mod Fault
 pub mod Earlier
 pub use Rattle.cilk_check_forms.specs as rules_of_forms
 pub use Rattle.cilk_check_forms.specs.lexeme

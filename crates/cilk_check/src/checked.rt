@@ -2,7 +2,7 @@
 
 ghost use Rattle.std.specs.Prelude.{◌≡◌, ◌⊎◌, IsOk, IfOk, IfErr};
 ghost use Rattle.cilk_check_forms.specs.scopes.declared.fault.CheckFault.TheVariants.{Memory};
-ghost use Rattle.cilk_check.specs.Fault.{WellFormed, IsFirstFault};
+ghost use Rattle.cilk_check_forms.specs.scopes.WellFormed.{WellFormed, IsFirstFault};
 
 use crate::earlier::earlier_of;
 use cilk_check_forms::{CheckFault, Program, first_form_fault};
@@ -25,7 +25,7 @@ impl Drop for Checked {
 impl Model for Checked {
     ghost use Rattle.cilk_check_forms.specs.syntax.Tree as tree;
     ghost use Rattle.cilk_check_forms.specs.syntax.ProgramCoding.{coded_Program};
-    ghost use Rattle.cilk_check.specs.Fault.{WellFormed};
+    ghost use Rattle.cilk_check_forms.specs.scopes.WellFormed.{WellFormed};
 
     ghost Value = { tree.Program };
 
@@ -43,15 +43,6 @@ impl Checked {
         ensures well_formed { WellFormed self.now }
     {
         &self.program
-    }
-
-    /// The program's tree, on its own.
-    pub fn into_program(self) -> Program
-        ensures value { result ≡ self }
-        ensures well_formed { WellFormed self }
-    {
-        let Checked { program } = self;
-        program
     }
 }
 

@@ -21,11 +21,11 @@ use Rattle.cilk_check_scopes.proofs.Elements.{Has, Has-from_Contains, Contains-f
 use Rattle.cilk_check_scopes.proofs.Elements.{Has-flat_map, Has-flat_map_cases}
 use Rattle.cilk_check_scopes.proofs.Held.{Has-fault_if}
 use Rattle.cilk_check_scopes.proofs.Splits.{is_declared}
-use Rattle.cilk_check_forms.specs.Cells.{max_cells, max_global_cells, is_length}
-use Rattle.cilk_check_forms.specs.Format.{numbers_in}
-use Rattle.cilk_check_forms.specs.Forms.{synched_in, own_word, words_of_children, leaves_at, returned_by, has_form, is_procedure, IsMain, Faulty}
-use Rattle.cilk_check_forms.specs.Forms.{in_function, inlet_in_no_procedure, inlet_in_inner_block, in_inlet, abort_outside, no_loop, no_main}
-use Rattle.cilk_check_forms.specs.Forms.{return_form, format, array_length, limit, global_limit}
+use Rattle.cilk_check_scopes.specs.Cells.{max_cells, max_global_cells, is_length}
+use Rattle.cilk_check_scopes.specs.Format.{numbers_in}
+use Rattle.cilk_check_scopes.specs.Forms.{synched_in, own_word, words_of_children, leaves_at, returned_by, has_form, is_procedure, IsMain, Faulty}
+use Rattle.cilk_check_scopes.specs.Forms.{in_function, inlet_in_no_procedure, inlet_in_inner_block, in_inlet, abort_outside, no_loop, no_main}
+use Rattle.cilk_check_scopes.specs.Forms.{return_form, format, array_length, limit, global_limit}
 use Rattle.cilk_check_forms.specs.Finds.{word_faults, words_faults, expr_faults, exprs_faults, is_inlet, is_count, kind_faults, length_faults}
 use Rattle.cilk_check_forms.specs.Finds.{passing, stmt_faults, part_faults, standing_faults, block_faults, procedure_faults, item_faults, starts}
 use Rattle.cilk_check_forms.specs.Finds.{forms_faults}

@@ -6,7 +6,7 @@ use Rattle.std.proofs.Math.ListN.{drop_of_length-le}
 use Rattle.std.proofs.Math.Seq.{drop-cons}
 use Rattle.std.proofs.lemmas.Bool.Decides.{nat_tests}
 use Rattle.cilk_check_scopes.proofs.Steps.{drop_at}
-use Rattle.cilk_check_forms.specs.Format.{numbers_in}
+use Rattle.cilk_check_scopes.specs.Format.{numbers_in}
 
 -- how many there are, with n before, where a `%` may stand before
 abbrev pub counted : ℕ → Bool → List ℕ → Option ℕ

@@ -7,7 +7,7 @@ use Rattle.cilk_check_scopes.specs.syntax.declared.return_type.ReturnType.{Retur
 use Rattle.cilk_check_scopes.specs.syntax.declared.return_type.ReturnType.TheVariants as returns
 use Rattle.cilk_check_scopes.specs.syntax.Tree as tree
 use Rattle.cilk_check_scopes.proofs.Elements.{Has}
-use Rattle.cilk_check_forms.specs.Forms.{IsMain}
+use Rattle.cilk_check_scopes.specs.Forms.{IsMain}
 use Rattle.cilk_check_forms.specs.Finds.{is_int, is_main, starts}
 
 and_true : (a b : Bool) → (a && b) ≡ true → (a ≡ true) × (b ≡ true)

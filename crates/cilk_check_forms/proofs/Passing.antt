@@ -5,8 +5,8 @@ use Rattle.cilk_check_scopes.specs.declared.fault.CheckFault.{CheckFault}
 use Rattle.cilk_check_scopes.specs.declared.fault.CheckFault.TheVariants.{Limit}
 use Rattle.cilk_check_scopes.specs.Scopes.{Declared}
 use Rattle.cilk_check_scopes.proofs.Elements.{Has}
-use Rattle.cilk_check_forms.specs.Cells.{cells_of}
-use Rattle.cilk_check_forms.specs.Forms.{Passes}
+use Rattle.cilk_check_scopes.specs.Cells.{cells_of}
+use Rattle.cilk_check_scopes.specs.Forms.{Passes}
 use Rattle.cilk_check_forms.specs.Finds.{passing}
 
 -- one of the declarations passes what is left, and its fault is this

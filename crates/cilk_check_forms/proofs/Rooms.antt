@@ -8,7 +8,7 @@ use Rattle.cilk_check_scopes.specs.declared.fault.CheckFault.{CheckFault}
 use Rattle.cilk_check_scopes.proofs.Steps.{drop_at}
 use Rattle.cilk_check_forms.specs.declared.space.Room.{Room}
 use Rattle.cilk_check_forms.specs.Room.{taken, take_from, behind}
-use Rattle.cilk_check_forms.specs.Cells.{cells_of}
+use Rattle.cilk_check_scopes.specs.Cells.{cells_of}
 
 pub behind-append : (room : Room) (xs ys : List Declared) → behind room (xs ++ ys) ≡ behind (behind room xs) ys
 behind-append room [] ys = refl

@@ -10,7 +10,7 @@ use Rattle.cilk_check_scopes.specs.Scopes.{Declared, item_declares, file_declare
 use Rattle.cilk_check_scopes.specs.Parts.{local, statement}
 use Rattle.cilk_check_scopes.proofs.Firsts.{first_among-append, first_among-flat_map}
 use Rattle.cilk_check_scopes.proofs.Steps.{drop_at, flat_map_more}
-use Rattle.cilk_check_forms.specs.Cells.{cells_of}
+use Rattle.cilk_check_scopes.specs.Cells.{cells_of}
 use Rattle.cilk_check_forms.specs.Finds.{passing, length_faults, item_faults, part_faults, locals_faults, inside_local, stmts_faults, inside_stmt}
 use Rattle.cilk_check_forms.specs.Room.{behind}
 use Rattle.cilk_check_forms.proofs.Rooms.{behind-append}

@@ -17,9 +17,9 @@ use Rattle.cilk_check_scopes.specs.Scopes.{Declared, parameter, kind_of_shape, f
 use Rattle.cilk_check_scopes.specs.Within.{whole_body, inner_block, loop_block}
 use Rattle.cilk_check_scopes.specs.Parts.{Part, local, statement, PartInContext, owner_of, stmt_exprs, local_exprs}
 use Rattle.cilk_check_scopes.specs.Declarations.{block_variables}
-use Rattle.cilk_check_forms.specs.Cells.{cells_of, max_cells, max_global_cells, is_length}
-use Rattle.cilk_check_forms.specs.Format.{numbers_in}
-use Rattle.cilk_check_forms.specs.Forms.{synched_in, own_word, returned_by, has_form, is_procedure, are_of_main}
+use Rattle.cilk_check_scopes.specs.Cells.{cells_of, max_cells, max_global_cells, is_length}
+use Rattle.cilk_check_scopes.specs.Format.{numbers_in}
+use Rattle.cilk_check_scopes.specs.Forms.{synched_in, own_word, returned_by, has_form, is_procedure, are_of_main}
 
 -- of the word `spawn`, `sync` or `SYNCHED` at this place in a body
 abbrev pub word_faults : Owner → ℕ → List CheckFault

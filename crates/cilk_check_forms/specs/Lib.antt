@@ -1,6 +1,3 @@
-pub mod Cells
-pub mod Format
-pub mod Forms
 pub mod Finds
 pub mod Room
 pub use Rattle.cilk_check_scopes.specs as scopes

@@ -5,7 +5,7 @@ use Rattle.cilk_check_scopes.specs.declared.fault.CheckFault.TheVariants.{Limit}
 use Rattle.cilk_check_scopes.specs.First.{first_among}
 use Rattle.cilk_check_scopes.specs.Scopes.{Declared}
 use Rattle.cilk_check_forms.specs.declared.space.Room.{Room}
-use Rattle.cilk_check_forms.specs.Cells.{cells_of}
+use Rattle.cilk_check_scopes.specs.Cells.{cells_of}
 
 abbrev pub taken : Option ℕ → Option CheckFault → ℕ → ℕ → Room
 taken None found n at = record { left = None; found = found }

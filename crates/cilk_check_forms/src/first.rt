@@ -3,7 +3,7 @@
 ghost use Rattle.std.specs.Prelude.{IfSome, IfNone};
 ghost use Rattle.cilk_check_scopes.specs.declared.fault.CheckFault.{CheckFault};
 ghost use Rattle.cilk_check_scopes.specs.Fault.{IsFirst};
-ghost use Rattle.cilk_check_forms.specs.Forms.{Faulty};
+ghost use Rattle.cilk_check_scopes.specs.Forms.{Faulty};
 
 use crate::top::first_listed;
 use cilk_check_scopes::{CheckFault, Program};

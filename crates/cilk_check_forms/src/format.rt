@@ -1,7 +1,7 @@
 //! How many numbers a format of `printf` asks for, where it is one.
 
 ghost use Rattle.std.specs.Prelude.{◌≡◌};
-ghost use Rattle.cilk_check_forms.specs.Format.{numbers_in};
+ghost use Rattle.cilk_check_scopes.specs.Format.{numbers_in};
 
 /// How many `%d` stand in a format, or nothing where a `%` stands before another character than `d` or `%`, or at the
 /// end (C 1990, 7.9.6.1).

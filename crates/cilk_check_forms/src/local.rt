@@ -9,8 +9,8 @@ ghost use Rattle.cilk_check_scopes.specs.First.{first_among, fault_if};
 ghost use Rattle.cilk_check_scopes.specs.Scopes.{parameter, kind_of_shape};
 ghost use Rattle.cilk_check_scopes.specs.Parts.{local_exprs};
 ghost use Rattle.cilk_check_scopes.specs.Declarations.{block_variables};
-ghost use Rattle.cilk_check_forms.specs.Cells.{is_length, max_cells};
-ghost use Rattle.cilk_check_forms.specs.Forms.{is_procedure};
+ghost use Rattle.cilk_check_scopes.specs.Cells.{is_length, max_cells};
+ghost use Rattle.cilk_check_scopes.specs.Forms.{is_procedure};
 ghost use Rattle.cilk_check_forms.specs.Finds.{exprs_faults, kind_faults, passing};
 
 use crate::cells::{behind_block, behind_names};

@@ -5,8 +5,8 @@ ghost use Rattle.cilk_check_scopes.specs.syntax.MoveView.{taker_of};
 ghost use Rattle.cilk_check_scopes.specs.declared.fault.CheckFault.TheVariants.{Format, ReturnForm};
 ghost use Rattle.cilk_check_scopes.specs.First.{first_among, fault_if};
 ghost use Rattle.cilk_check_scopes.specs.Parts.{moves_exprs, taker_exprs};
-ghost use Rattle.cilk_check_forms.specs.Format.{numbers_in};
-ghost use Rattle.cilk_check_forms.specs.Forms.{has_form, returned_by};
+ghost use Rattle.cilk_check_scopes.specs.Format.{numbers_in};
+ghost use Rattle.cilk_check_scopes.specs.Forms.{has_form, returned_by};
 ghost use Rattle.cilk_check_forms.specs.Finds.{is_count, is_inlet, word_faults, exprs_faults, value_faults};
 
 use crate::children::{at_word, in_expr, in_exprs, in_moves, in_taker, in_value};

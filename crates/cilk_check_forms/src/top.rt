@@ -6,8 +6,8 @@ ghost use Rattle.cilk_check_scopes.specs.First.{first_among};
 ghost use Rattle.cilk_check_scopes.specs.Scopes.{file_declares, item_declares};
 ghost use Rattle.cilk_check_scopes.specs.Parts.{owner_of};
 ghost use Rattle.cilk_check_scopes.specs.syntax.ProgramView.{parameters_of};
-ghost use Rattle.cilk_check_forms.specs.Cells.{max_global_cells};
-ghost use Rattle.cilk_check_forms.specs.Forms.{are_of_main};
+ghost use Rattle.cilk_check_scopes.specs.Cells.{max_global_cells};
+ghost use Rattle.cilk_check_scopes.specs.Forms.{are_of_main};
 ghost use Rattle.cilk_check_forms.specs.Finds.{forms_faults, item_faults, procedure_faults, length_faults, passing, starts, is_main, is_int};
 
 use crate::cells::{behind_block, behind_items, behind_parameters};

@@ -15,11 +15,11 @@ use Rattle.cilk_check_scopes.specs.Declarations.{Declaring, declaring, part_decl
 use Rattle.cilk_check_scopes.proofs.Elements.{Has, Has-from_Contains, Contains-from_Has, Has-append_left, Has-append_right, Has-append_cases}
 use Rattle.cilk_check_scopes.proofs.Elements.{Has-flat_map, Has-flat_map_cases}
 use Rattle.cilk_check_scopes.proofs.Held.{Has-fault_if}
-use Rattle.cilk_check_names.specs.Reserved.{IsReserved}
-use Rattle.cilk_check_names.specs.Uses.{Use, part_uses, uses_of}
-use Rattle.cilk_check_names.specs.Names.{fits, arguments_of, parameters_of, returned_by, is_for_value, Means, Defines, Faulty, twice, unknown}
-use Rattle.cilk_check_names.specs.Names.{wrong_kind, main_spawned, argument_count, void_value, inlet_called, undefined, reserved_declared}
-use Rattle.cilk_check_names.specs.Names.{reserved_used, reserved_prototype}
+use Rattle.cilk_check_scopes.specs.Reserved.{IsReserved}
+use Rattle.cilk_check_scopes.specs.Uses.{Use, part_uses, uses_of}
+use Rattle.cilk_check_scopes.specs.Names.{fits, arguments_of, parameters_of, returned_by, is_for_value, Means, Defines, Faulty, twice, unknown}
+use Rattle.cilk_check_scopes.specs.Names.{wrong_kind, main_spawned, argument_count, void_value, inlet_called, undefined, reserved_declared}
+use Rattle.cilk_check_scopes.specs.Names.{reserved_used, reserved_prototype}
 use Rattle.cilk_check_names.specs.Finds.{is_reserved, differ, is_void, is_spawned, is_called, is_inlet, meant_faults, visible_faults, use_faults}
 use Rattle.cilk_check_names.specs.Finds.{declaring_faults, defines, prototype_faults, scope_faults, block_faults, procedure_faults, item_faults}
 use Rattle.cilk_check_names.specs.Finds.{names_faults}
@@ -48,7 +48,8 @@ standing_cases p (tree.global g) s f there stands h = absurd stands
 standing_cases p (tree.lock name) s f there stands h = absurd stands
 standing_cases p (tree.prototype q) s f there stands h = absurd stands
 
-standing_has : (p : tree.Program) (s : PartInContext) (f : CheckFault) → Has (parts_of p) s → Has (whole_faults s.around.scopes s.part) f → Has (names_faults p) f
+standing_has : (p : tree.Program) (s : PartInContext) (f : CheckFault) → Has (parts_of p) s → Has (whole_faults s.around.scopes s.part) f
+    → Has (names_faults p) f
 standing_has p s f stands h =
     let o = Has-flat_map_cases (item_parts (file_scopes p.items)) p.items s stands in
     standing_cases p o.owner s f o.is_element o.has h

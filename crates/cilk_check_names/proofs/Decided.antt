@@ -13,10 +13,10 @@ use Rattle.cilk_check_scopes.specs.syntax.Tree as tree
 use Rattle.cilk_check_scopes.specs.declared.declaration_kind.DeclarationKind.{DeclarationKind}
 use Rattle.cilk_check_scopes.specs.declared.declaration_kind.DeclarationKind.TheVariants as kind
 use Rattle.cilk_check_scopes.proofs.Elements.{Has, Has-from_Contains, Contains-from_Has}
-use Rattle.cilk_check_names.specs.declared.role.Role.{Role}
-use Rattle.cilk_check_names.specs.declared.role.Role.TheVariants as role
-use Rattle.cilk_check_names.specs.Reserved.{c_keywords, library_names, IsReserved}
-use Rattle.cilk_check_names.specs.Names.{Defines}
+use Rattle.cilk_check_scopes.specs.declared.role.Role.{Role}
+use Rattle.cilk_check_scopes.specs.declared.role.Role.TheVariants as role
+use Rattle.cilk_check_scopes.specs.Reserved.{c_keywords, library_names, IsReserved}
+use Rattle.cilk_check_scopes.specs.Names.{Defines}
 use Rattle.cilk_check_names.specs.Finds.{is_one_of, is_reserved, differ, is_void, is_spawned, is_called, is_inlet, has_count, same_bool, same_return, defines}
 
 element-Decides : (names : List (List ℕ)) (text : List ℕ) → Decides (is_one_of names text) (Has names text)

@@ -15,10 +15,10 @@ use Rattle.cilk_check_scopes.specs.Declarations.{Declaring, declaring, part_decl
 use Rattle.cilk_check_scopes.proofs.Elements.{Has, Has-from_Contains, Contains-from_Has, Has-append_left, Has-append_right, Has-append_cases}
 use Rattle.cilk_check_scopes.proofs.Elements.{Has-flat_map, Has-flat_map_cases}
 use Rattle.cilk_check_scopes.proofs.Held.{Has-fault_if_cases}
-use Rattle.cilk_check_names.specs.Uses.{Use, part_uses, uses_of}
-use Rattle.cilk_check_names.specs.Names.{fits, arguments_of, parameters_of, returned_by, is_for_value, Means, Faulty, twice, unknown, wrong_kind}
-use Rattle.cilk_check_names.specs.Names.{main_spawned, argument_count, void_value, inlet_called, undefined, reserved_declared, reserved_used}
-use Rattle.cilk_check_names.specs.Names.{reserved_prototype}
+use Rattle.cilk_check_scopes.specs.Uses.{Use, part_uses, uses_of}
+use Rattle.cilk_check_scopes.specs.Names.{fits, arguments_of, parameters_of, returned_by, is_for_value, Means, Faulty, twice, unknown, wrong_kind}
+use Rattle.cilk_check_scopes.specs.Names.{main_spawned, argument_count, void_value, inlet_called, undefined, reserved_declared, reserved_used}
+use Rattle.cilk_check_scopes.specs.Names.{reserved_prototype}
 use Rattle.cilk_check_names.specs.Finds.{is_reserved, differ, is_void, is_spawned, is_called, is_inlet, meant_faults, visible_faults, use_faults}
 use Rattle.cilk_check_names.specs.Finds.{declaring_faults, defines, prototype_faults, scope_faults, procedure_faults, item_faults, names_faults}
 use Rattle.cilk_check_names.proofs.Blocks.{block_is, standing_faults}

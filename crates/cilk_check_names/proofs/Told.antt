@@ -7,7 +7,7 @@ use Rattle.cilk_check_scopes.specs.Scopes.{Scopes, declare, parameter, local_dec
 use Rattle.cilk_check_scopes.specs.Declarations.{Declaring, declaring, part_declarings}
 use Rattle.cilk_check_scopes.specs.Parts.{Part, local, statement, stmt_exprs, local_exprs}
 use Rattle.cilk_check_scopes.proofs.Elements.{Has, Has-append_left, Has-append_right, Has-append_cases, Has-flat_map, Has-flat_map_cases}
-use Rattle.cilk_check_names.specs.Uses.{Use, expr_uses, stmt_uses, part_uses}
+use Rattle.cilk_check_scopes.specs.Uses.{Use, expr_uses, stmt_uses, part_uses}
 use Rattle.cilk_check_names.specs.Finds.{declaring_faults, use_faults, expr_faults, exprs_faults, part_faults}
 use Rattle.cilk_check_names.proofs.Blocks.{whole_faults}
 

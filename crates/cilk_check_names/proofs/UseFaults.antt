@@ -8,8 +8,8 @@ use Rattle.cilk_check_scopes.proofs.Firsts.{first_among-append, first_among-flat
 use Rattle.cilk_check_scopes.proofs.Steps.{flat_map_more}
 use Rattle.cilk_check_scopes.specs.syntax.Tree.{Word}
 use Rattle.cilk_check_scopes.specs.syntax.Tree as tree
-use Rattle.cilk_check_names.specs.declared.role.Role.{Role}
-use Rattle.cilk_check_names.specs.Uses.{Use, use_as}
+use Rattle.cilk_check_scopes.specs.declared.role.Role.{Role}
+use Rattle.cilk_check_scopes.specs.Uses.{Use, use_as}
 use Rattle.cilk_check_names.specs.Finds.{name_faults, use_faults, expr_faults, exprs_faults}
 
 pub uses-append : (found : Option CheckFault) (xs ys : List Use)

@@ -9,7 +9,6 @@ mod moves;
 mod nearest;
 mod prototypes;
 mod reserved;
-mod role;
 mod signature;
 mod statement;
 mod table;
@@ -18,4 +17,3 @@ mod uses;
 mod walk;
 
 pub use first::first_name_fault;
-pub use role::Role;

@@ -5,13 +5,12 @@ ghost use Rattle.std.specs.Prelude.{◌≡◌, flat_map};
 ghost use Rattle.cilk_check_scopes.specs.syntax.MoveView.{taker_of};
 ghost use Rattle.cilk_check_scopes.specs.First.{first_among};
 ghost use Rattle.cilk_check_scopes.specs.Parts.{place_exprs, target_exprs, move_exprs, moves_exprs, taker_exprs};
-ghost use Rattle.cilk_check_names.specs.Uses.{place_role, place_uses, target_uses, move_uses, moves_uses, taker_uses, takes_value};
+ghost use Rattle.cilk_check_scopes.specs.Uses.{place_role, place_uses, target_uses, move_uses, moves_uses, taker_uses, takes_value};
 ghost use Rattle.cilk_check_names.specs.Finds.{use_faults, exprs_faults};
 
-use crate::role::Role;
 use crate::table::SymbolTable;
 use crate::uses::{at_name, in_expr, in_exprs, in_value};
-use cilk_check_scopes::{CheckFault, Expr, Move, MoveNode, Place, Taker, Target};
+use cilk_check_scopes::{CheckFault, Expr, Move, MoveNode, Place, Role, Taker, Target};
 
 fn place_role(index: &Option<Expr>) -> Role
     ensures { result ≡ place_role index.now }

@@ -2,7 +2,7 @@
 
 ghost use Rattle.std.specs.Prelude.{◌≡◌};
 ghost use Rattle.cilk_check_names.specs.Finds.{is_one_of, is_reserved};
-ghost use Rattle.cilk_check_names.specs.Reserved.{c_keywords, library_names};
+ghost use Rattle.cilk_check_scopes.specs.Reserved.{c_keywords, library_names};
 
 pub(crate) fn is_reserved(name: &str) -> bool
     ensures { result ≡ is_reserved name.now }

@@ -5,14 +5,13 @@ ghost use Rattle.cilk_check_scopes.specs.syntax.MoveView.{taker_of};
 ghost use Rattle.cilk_check_scopes.specs.First.{first_among};
 ghost use Rattle.cilk_check_scopes.specs.Parts as parts;
 ghost use Rattle.cilk_check_scopes.specs.Parts.{moves_exprs, stmt_exprs, taker_exprs};
-ghost use Rattle.cilk_check_names.specs.Uses.{stmt_uses};
+ghost use Rattle.cilk_check_scopes.specs.Uses.{stmt_uses};
 ghost use Rattle.cilk_check_names.specs.Finds.{use_faults, exprs_faults, part_faults};
 
 use crate::moves::{at_move, at_moves, at_taker, in_move, in_moves, in_taker, takes_value};
-use crate::role::Role;
 use crate::table::SymbolTable;
 use crate::uses::{at_name, in_expr, in_exprs, in_value};
-use cilk_check_scopes::{CheckFault, Expr, Move, Stmt, StmtNode, Taker};
+use cilk_check_scopes::{CheckFault, Expr, Move, Role, Stmt, StmtNode, Taker};
 
 #[tactic(auto, using(crate::proofs::UseFaults::uses), unfolding(crate::specs::Finds::part_faults))]
 pub(crate) fn at_stmt(

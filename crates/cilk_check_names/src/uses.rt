@@ -7,9 +7,8 @@ ghost use Rattle.cilk_check_names.specs.Finds.{name_faults, expr_faults, exprs_f
 
 use crate::meant::at_meant;
 use crate::reserved::is_reserved;
-use crate::role::Role;
 use crate::table::SymbolTable;
-use cilk_check_scopes::{CheckFault, Expr, ExprNode, Word, first};
+use cilk_check_scopes::{CheckFault, Expr, ExprNode, Role, Word, first};
 
 /// A use of a name.
 #[tactic(auto, using(crate::proofs::UseFaults::uses))]

@@ -4,5 +4,12 @@ pub mod Within
 pub mod Scopes
 pub mod Parts
 pub mod Declarations
+pub mod Cells
+pub mod Format
+pub mod Forms
+pub mod Reserved
+pub mod Uses
+pub mod Names
+pub mod WellFormed
 pub use Rattle.cilk_tree_syntax.specs as syntax
 pub use Rattle.cilk_tree_syntax.specs.lexeme

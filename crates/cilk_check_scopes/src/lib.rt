@@ -1,11 +1,12 @@
-//! What the names of a program mean where they stand (C 1990, 6.1.2.1), and what surrounds each part of it. The crate
-//! has the definitions, which speak of trees alone, and the faults that the rules over them find.
+//! What the names of a program mean where they stand (C 1990, 6.1.2.1), what surrounds each part of it, and what each rule of the check
+//! forbids. The crate has the definitions, which speak of trees alone, and the faults that the rules over them find.
 #![tactic(auto)]
 
 mod declaration_kind;
 mod fault;
 mod order;
 mod owner;
+mod role;
 mod within;
 
 pub use cilk_tree_syntax::{
@@ -17,4 +18,5 @@ pub use declaration_kind::DeclarationKind;
 pub use fault::CheckFault;
 pub use order::{first, first_if};
 pub use owner::Owner;
+pub use role::Role;
 pub use within::Within;

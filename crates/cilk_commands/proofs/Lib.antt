@@ -1,3 +1,3 @@
 pub mod Explained
-pub mod Fronts
 pub mod WholeText
+pub use Rattle.cilk_load.proofs.Fronts

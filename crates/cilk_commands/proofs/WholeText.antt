@@ -5,7 +5,7 @@ use Rattle.std.specs.Prelude.{◌≢◌}
 use Rattle.std.proofs.lemmas.List.{length-take, take_min}
 use Rattle.std.proofs.Math.Seq.{take-length}
 use Rattle.cilk_check_explain.specs.lex.declared.reading.TheConstants.{TEXT_LIMIT}
-use Rattle.cilk_commands.specs.Front.{Gains, GainsFront}
+use Rattle.cilk_load.specs.Front.{Gains, GainsFront}
 use Rattle.cilk_commands.specs.Held.{Held, IsReadOf}
 use Rattle.cilk_commands.specs.Loading.{Unready}
 use Rattle.cilk_commands.specs.Program.{Explains, IsReason, IsNoProgram, IsIllFormed}

@@ -2,7 +2,7 @@
 use Rattle.std.specs.Prelude.{◌≡◌, ℕ, List, ◌++◌, Option, codes, decimal}
 use Rattle.cilk_check.specs.syntax.Tree.{Program}
 use Rattle.cilk_load.specs.labelled.Count.{count_program}
-use Rattle.cilk_commands.specs.Front.{Gains, GainsFront}
+use Rattle.cilk_load.specs.Front.{Gains, GainsFront}
 use Rattle.cilk_commands.specs.Held.{Held}
 use Rattle.cilk_commands.specs.Loading.{IsReady}
 

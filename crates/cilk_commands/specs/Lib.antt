@@ -1,4 +1,3 @@
-pub mod Front
 pub mod Held
 pub mod Place
 pub mod Program
@@ -7,11 +6,12 @@ pub mod Printing
 pub mod Checking
 pub mod Status
 pub mod Telling
-pub use Rattle.cilk_check.specs.Fault as CheckFaults
+pub use Rattle.cilk_check.specs.scopes.WellFormed as CheckFaults
 pub use Rattle.cilk_check.specs.syntax
 pub use Rattle.cilk_check.specs.syntax.Tree
 pub use Rattle.cilk_check_explain.specs.Lines
 pub use Rattle.cilk_check_explain.specs.lex
+pub use Rattle.cilk_load.specs.Front
 pub use Rattle.cilk_load.specs.canonical.ProgramText
 pub use Rattle.cilk_load.specs.labelled
 pub use Rattle.cilk_load.specs.labelled.Count

@@ -10,7 +10,7 @@ use Rattle.cilk_parse.specs.Text.{Spells, HasFault}
 use Rattle.cilk_parse.specs.Place.{place_of as read_place}
 use Rattle.cilk_check.specs.scopes.declared.fault.CheckFault.{CheckFault}
 use Rattle.cilk_check.specs.scopes.Fault.{place_of as check_place}
-use Rattle.cilk_check.specs.Fault.{WellFormed, IsFirstFault}
+use Rattle.cilk_check.specs.scopes.WellFormed.{WellFormed, IsFirstFault}
 use Rattle.cilk_commands.specs.declared.fault.Fault.TheVariants as fault
 use Rattle.cilk_commands.specs.declared.failure.Failure.{Failure}
 use Rattle.cilk_commands.specs.declared.failure.Failure.TheVariants as failure

@@ -13,7 +13,7 @@ use Rattle.cilk_commands.specs.declared.failure.Failure.TheVariants as failure
 use Rattle.cilk_commands.specs.declared.status.Status.{Status}
 use Rattle.cilk_commands.specs.declared.status.Status.TheVariants as status
 use Rattle.cilk_check_explain.specs.Lines.{place_lines}
-use Rattle.cilk_commands.specs.Front.{AppendsFront}
+use Rattle.cilk_load.specs.Front.{AppendsFront}
 use Rattle.cilk_commands.specs.Held.{Held, IsReadOf}
 use Rattle.cilk_commands.specs.Place.{place_of}
 use Rattle.cilk_commands.specs.Status.{status_of}

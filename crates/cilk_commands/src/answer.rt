@@ -2,7 +2,7 @@
 
 ghost use Rattle.std.specs.Prelude.{◌≡◌, IfErr, OnErr, OnOk, flat_map};
 ghost use Rattle.std.specs.Io.KnownBytes.{Appends};
-ghost use Rattle.cilk_commands.specs.Front.{AppendsFront};
+ghost use Rattle.cilk_load.specs.Front.{AppendsFront};
 
 use crate::failure::Failure;
 use std::io;

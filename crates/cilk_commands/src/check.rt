@@ -1,7 +1,7 @@
 //! The subcommand `check`: how many actions a program has, or why it may not be run.
 
 ghost use Rattle.std.specs.Prelude.{◌≡◌, ◌≢◌, true, false, IfErr, OnOk};
-ghost use Rattle.cilk_commands.specs.Front.{Gains, GainsFront};
+ghost use Rattle.cilk_load.specs.Front.{Gains, GainsFront};
 ghost use Rattle.cilk_commands.specs.Loading.{Unready};
 ghost use Rattle.cilk_commands.specs.Telling.{GivesUp};
 ghost use Rattle.cilk_commands.specs.Checking.{IsCounted, Passes, PassesFront};

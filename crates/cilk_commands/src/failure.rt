@@ -2,7 +2,7 @@
 
 ghost use Rattle.std.specs.Prelude.{◌≡◌, ◌++◌, [], OnErr, OnOk};
 ghost use Rattle.std.specs.Io.KnownBytes.{Appends};
-ghost use Rattle.cilk_commands.specs.Front.{AppendsFront};
+ghost use Rattle.cilk_load.specs.Front.{AppendsFront};
 ghost use Rattle.cilk_commands.specs.Telling.{fault_line};
 
 use crate::answer::{write_parts, write_whole};
@@ -68,7 +68,7 @@ impl Failure {
         self.status()
     }
 
-    #[tactic(auto, using(crate::proofs::Fronts::all_behind, crate::proofs::Fronts::front_before, crate::proofs::Fronts::front_behind))]
+    #[tactic(auto, using(cilk_load::proofs::Fronts::all_behind, cilk_load::proofs::Fronts::front_before, cilk_load::proofs::Fronts::front_behind))]
     fn tell_all<W: Write>(&self, name: &str, behind: &str, err: &mut W) -> io::Result<()>
         ensures ok { OnOk result
             (Appends (W.contents err.old) (W.contents err.new) (failure_line name.now self.now ++ behind.now)) }

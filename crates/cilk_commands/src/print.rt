@@ -1,7 +1,7 @@
 //! The subcommand `print`: the canonical text of a program, or why there is none.
 
 ghost use Rattle.std.specs.Prelude.{◌≡◌, ◌≢◌, true, false, IfErr, OnOk};
-ghost use Rattle.cilk_commands.specs.Front.{Gains, GainsFront};
+ghost use Rattle.cilk_load.specs.Front.{Gains, GainsFront};
 ghost use Rattle.cilk_commands.specs.Loading.{Unready};
 ghost use Rattle.cilk_commands.specs.Telling.{GivesUp};
 ghost use Rattle.cilk_commands.specs.Printing.{IsPrinted, Prints, PrintsFront};

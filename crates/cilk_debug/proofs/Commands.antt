@@ -5,6 +5,8 @@ use Rattle.std.specs.Prelude.{Err}
 use Rattle.std.specs.Io.KnownBytes.{Appends, Keeps}
 use Rattle.std.proofs.KnownBytes.{Appends-trans, Appends-kept, Consumes-trans}
 use Rattle.cilk_debug_console.specs.Command.{Command}
+use Rattle.cilk_debug_console.specs.Front.{AppendsFront}
+use Rattle.cilk_debug_console.proofs.Fronts.{front_behind}
 use Rattle.cilk_debug_console.specs.Input.{Asked, asking, asked_behind, asked_in, most_lines}
 use Rattle.cilk_debug_console.specs.Taking.{IsLine, TakesLine, TakesLast}
 use Rattle.cilk_debug_console.specs.OneByOne.{OneByOne}
@@ -68,8 +70,8 @@ module _ (law : OneByOne) (d0 d : Debugging) (all : List ℕ) (k : ℕ) (ahead o
         goes = λ rest. goes_next on rest ∙ ap (λ (x : Debugging). answering (g.replies ++ (obeyed d c).reply) (session_behind (suc k) x rest)) (sym is);
       }
 
-      pub unwritten_line : then ≡ (obeyed d c).left → Unwritten d0 then all
-      unwritten_line is =
+      pub unwritten_line : (now : Option (List ℕ)) → AppendsFront new now (obeyed d c).reply → then ≡ (obeyed d c).left → Unwritten d0 then all old now
+      unwritten_line now begun is =
           let w = left law d0 d all k ahead old new g (t.line ++ 10 ∷ []) more t.taken in
           record {
             lines = taken;
@@ -79,6 +81,7 @@ module _ (law : OneByOne) (d0 d : Debugging) (all : List ℕ) (k : ℕ) (ahead o
             replies = g.replies ++ (obeyed d c).reply;
             is = ap (session d0) (sym (append-nil taken)) ∙ goes_next on [] ∙ finished (g.replies ++ (obeyed d c).reply) (obeyed d c).left None
                 ∙ ap (λ (x : Debugging). record { replies = g.replies ++ (obeyed d c).reply; left = x; fault = None }) (sym is);
+            begun = front_behind old new now g.replies (obeyed d c).reply g.written begun;
           }
 
       first_line : (rest : List ℕ) → IsFirst ((t.line ++ 10 ∷ []) ++ rest) c
@@ -108,7 +111,7 @@ module _ (law : OneByOne) (d0 d : Debugging) (all : List ℕ) (k : ℕ) (ahead o
       pub fails_line : (now : Option (List ℕ)) (rest : Option (List ℕ)) (why : SessionFault) → Answered d then c new now (Err why)
           → Breaks d0 then all rest old now why
       fails_line now rest (Read fault) a = absurd a
-      fails_line now rest Write a = unwritten_line a
+      fails_line now rest Write a = unwritten_line now a.0 a.1
       fails_line now rest Memory a = short_line now a.0 a.1
 
   -- ---- the last line, which has none
@@ -139,14 +142,15 @@ module _ (law : OneByOne) (d0 d : Debugging) (all : List ℕ) (k : ℕ) (ahead o
         written = Appends-trans old new now g.replies (obeyed d c).reply g.written written;
       }
 
-      pub unwritten_last : then ≡ (obeyed d c).left → Unwritten d0 then all
-      unwritten_last is = record {
+      pub unwritten_last : (now : Option (List ℕ)) → AppendsFront new now (obeyed d c).reply → then ≡ (obeyed d c).left → Unwritten d0 then all old now
+      unwritten_last now begun is = record {
         lines = all;
         rest = [];
         split = sym (append-nil all);
         are = inr refl;
         replies = g.replies ++ (obeyed d c).reply;
         is = at_left is;
+        begun = front_behind old new now g.replies (obeyed d c).reply g.written begun;
       }
 
       first_last : IsFirst t.line c
@@ -168,5 +172,5 @@ module _ (law : OneByOne) (d0 d : Debugging) (all : List ℕ) (k : ℕ) (ahead o
       pub fails_last : (now : Option (List ℕ)) (rest : Option (List ℕ)) (why : SessionFault) → Answered d then c new now (Err why)
           → Breaks d0 then all rest old now why
       fails_last now rest (Read fault) a = absurd a
-      fails_last now rest Write a = unwritten_last a
+      fails_last now rest Write a = unwritten_last now a.0 a.1
       fails_last now rest Memory a = short_last now a.0 a.1

@@ -2,6 +2,7 @@
 use Rattle.std.specs.Prelude.{◌≡◌, ℕ, ◌⊎◌, List, [], ◌∷◌, ◌++◌, Option, Some, None}
 use Rattle.std.specs.Io.KnownBytes.{Appends, Consumes}
 use Rattle.cilk_debug_console.specs.Command.{Command}
+use Rattle.cilk_debug_console.specs.Front.{AppendsFront}
 use Rattle.cilk_debug_console.specs.Input.{Fault, line_too_long, too_many_lines, asked_in}
 use Rattle.cilk_debug_console.specs.Taking.{IsPlain}
 use Rattle.cilk_debug_console.specs.declared.fault.InputFault.TheVariants.{Device, LineTooLong, TooManyLines}
@@ -45,18 +46,19 @@ pub record RanShort (before after : Debugging) (all : List ℕ) (old new : Optio
   pub answers : Answers before there lines None old new
   pub stands : (after ≡ there) ⊎ ((command : Command) × (IsFirst rest command × (after ≡ (obeyed there command).left)))
 
--- it stands where the commands of these bytes left it, the answer to the last of which was not written
-pub record Unwritten (before after : Debugging) (all : List ℕ) : Type 0 where
+-- it stands where the commands of these bytes left it, and of the answers to them the first bytes were written
+pub record Unwritten (before after : Debugging) (all : List ℕ) (old new : Option (List ℕ)) : Type 0 where
   pub lines : List ℕ
   pub rest : List ℕ
   pub split : all ≡ lines ++ rest
   pub are : AreLines lines ⊎ (rest ≡ [])
   pub replies : List ℕ
   pub is : session before lines ≡ record { replies = replies; left = after; fault = None }
+  pub begun : AppendsFront old new replies
 
 abbrev pub Breaks : Debugging → Debugging → List ℕ → Option (List ℕ) → Option (List ℕ) → Option (List ℕ) → SessionFault → Type 0
 Breaks before after all left old new (Read Device) = CutOff before after all left old new
 Breaks before after all left old new (Read LineTooLong) = Answers before after all (Some line_too_long) old new
 Breaks before after all left old new (Read TooManyLines) = Answers before after all (Some too_many_lines) old new
-Breaks before after all left old new Write = Unwritten before after all
+Breaks before after all left old new Write = Unwritten before after all old new
 Breaks before after all left old new Memory = RanShort before after all old new

@@ -2,6 +2,7 @@
 use Rattle.std.specs.Prelude.{◌≡◌, ◌⊎◌, ℕ, List, [], Option, Result, Ok, Err, codes, string_bytes}
 use Rattle.std.specs.Io.KnownBytes.{Appends, Keeps}
 use Rattle.cilk_debug_console.specs.Command.{Command}
+use Rattle.cilk_debug_console.specs.Front.{AppendsFront}
 use Rattle.cilk_debug_console.specs.declared.fault.LineFault.{LineFault}
 use Rattle.cilk_debug_console.specs.declared.fault.LineFault.TheVariants as line
 use Rattle.cilk_debug.specs.Debugging.{Debugging}
@@ -27,11 +28,11 @@ abbrev pub Obeys : Debugging → Debugging → Command → Result Reply SessionF
 Obeys before after command (Ok reply) = (reply_text reply ≡ (obeyed before command).reply) × (after ≡ (obeyed before command).left)
 Obeys before after command (Err why) = (why ≡ Memory) × ((after ≡ before) ⊎ (after ≡ (obeyed before command).left))
 
--- and the answer was written
+-- and the answer was written, or its first bytes where the writer failed
 abbrev pub Answered : Debugging → Debugging → Command → Option (List ℕ) → Option (List ℕ) → Result (Unit {0}) SessionFault → Type 0
 Answered before after command old new (Ok done) = Appends old new (obeyed before command).reply × (after ≡ (obeyed before command).left)
 Answered before after command old new (Err (Read fault)) = ⊥
-Answered before after command old new (Err Write) = after ≡ (obeyed before command).left
+Answered before after command old new (Err Write) = AppendsFront old new (obeyed before command).reply × (after ≡ (obeyed before command).left)
 Answered before after command old new (Err Memory) = Keeps old new × ((after ≡ before) ⊎ (after ≡ (obeyed before command).left))
 
 abbrev pub fault_of : LineFault → SessionFault

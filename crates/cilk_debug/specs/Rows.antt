@@ -16,8 +16,10 @@ none = false ∷ false ∷ []
 moves : session (stands 0 none) (codes "back\nstep\nframe /\ngo 2\nstep\nframe /\ngo 3\nbreak 4\nbreak 2\ngo 0\nnext\nlist\nquit\n") ≡ record {
   replies = codes "B3 AtStart\nposition 1 of 2: running\nworker 1 at / line 3\nmain line 3\n    x = 2\nposition 2 of 2: finished 42\nworker 1 idle\n"
       ++ (codes "B2 AtEnd\nB5 NoInstance\nB6 OutOfRange\nB4 NoStatement\nok\nposition 0 of 2: running\nworker 1 at / line 2\n"
+      ++ (codes
+      "position 2 of 2: finished 42\nworker 1 idle\n     1         cilk int main(void) {\n"
       ++ codes
-      "position 2 of 2: finished 42\nworker 1 idle\n     1         cilk int main(void) {\n     2      1      int x = 2;\n     3      2      return x * 21;\n     4      3  }\n");
+      "     2      1      int x = 2;\n     3      2      return x * 21;\n     4      3  }\n"));
   left = stands 2 (false ∷ true ∷ []);
   fault = None;
 }
@@ -28,7 +30,8 @@ moves = refl
 moves_back : session (stands 2 (false ∷ true ∷ [])) (codes "prev\nbreak 1\ngo 2\nprev\nclear 1\nprev") ≡ record {
   replies =
       codes
-      "position 0 of 2: running\nworker 1 at / line 2\nok\nposition 2 of 2: finished 42\nworker 1 idle\nposition 1 of 2: running\nworker 1 at / line 3\nok\nposition 0 of 2: running\nworker 1 at / line 2\n";
+      "position 0 of 2: running\nworker 1 at / line 2\nok\nposition 2 of 2: finished 42\nworker 1 idle\n"
+      ++ codes "position 1 of 2: running\nworker 1 at / line 3\nok\nposition 0 of 2: running\nworker 1 at / line 2\n";
   left = stands 0 (false ∷ true ∷ []);
   fault = None;
 }

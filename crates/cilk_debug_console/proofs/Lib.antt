@@ -1,5 +1,5 @@
 mod Ordinals
 mod Known
 mod Cut
-mod Written
+pub use Rattle.cilk_view.proofs.Fronts
 pub use Rattle.cilk_view.proofs.placed_laws

@@ -10,4 +10,5 @@ pub use Rattle.cilk_log.specs as log
 pub use Rattle.cilk_log.specs.canonical
 pub use Rattle.cilk_log.specs.choices
 pub use Rattle.cilk_view.specs as view
+pub use Rattle.cilk_view.specs.Front
 pub use Rattle.cilk_view.specs.model

@@ -1,14 +1,16 @@
 //! What is written to who asked.
 
-ghost use Rattle.std.specs.Prelude.{OnOk};
+ghost use Rattle.std.specs.Prelude.{OnErr, OnOk};
 ghost use Rattle.std.specs.Io.KnownBytes.{Appends};
+ghost use Rattle.cilk_view.specs.Front.{AppendsFront};
 
 use crate::fault::WriteFault;
 use std::io::Write;
 
 /// Writes a whole answer, and flushes it. Where there is none, nothing is flushed.
 pub fn send<W: Write>(writer: &mut W, answer: &[u8]) -> Result<(), WriteFault>
-    ensures { OnOk result (Appends (W.contents writer.old) (W.contents writer.new) answer.now) }
+    ensures ok { OnOk result (Appends (W.contents writer.old) (W.contents writer.new) answer.now) }
+    ensures front { OnErr result (AppendsFront (W.contents writer.old) (W.contents writer.new) answer.now) }
 {
     if answer.is_empty() {
         return Ok(());
@@ -22,7 +24,8 @@ pub fn send<W: Write>(writer: &mut W, answer: &[u8]) -> Result<(), WriteFault>
 
 // What `write_all` does, but for a writer that was interrupted: that is not tried again.
 fn write_whole<W: Write>(writer: &mut W, answer: &[u8]) -> Result<(), WriteFault>
-    ensures { OnOk result (Appends (W.contents writer.old) (W.contents writer.new) answer.now) }
+    ensures ok { OnOk result (Appends (W.contents writer.old) (W.contents writer.new) answer.now) }
+    ensures front { OnErr result (AppendsFront (W.contents writer.old) (W.contents writer.new) answer.now) }
 {
     let mut rest = answer;
     while !rest.is_empty() {

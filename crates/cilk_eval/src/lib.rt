@@ -21,7 +21,9 @@ pub use cilk_model_labels::{Memory, Trap};
 pub use code::{Code, CodeNode};
 pub use evaluate::eval;
 pub use known::{Known, eval_known};
-pub use laws::{plain_values_are_known, quotients_are_rounded, value_is_of_what_is_read};
+pub use laws::{
+    plain_values_are_known, quotients_are_rounded, results_are_rounded, value_is_of_what_is_read,
+};
 pub use listed::Listed;
 pub use seen::{is_known_of, known_of};
 pub use slot::Slot;

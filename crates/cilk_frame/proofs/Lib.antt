@@ -6,6 +6,4 @@ pub mod Tops
 pub mod Starts
 pub mod Steps
 pub use Rattle.cilk_load_nodes.proofs as nodes_laws
-pub use Rattle.cilk_load_nodes.proofs.rules_of_forms_laws
-pub use Rattle.cilk_load_nodes.proofs.rules_of_names_laws
 pub use Rattle.cilk_load_nodes.proofs.scopes_laws

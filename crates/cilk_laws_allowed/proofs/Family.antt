@@ -4,8 +4,8 @@ use Rattle.std.proofs.Common.{if◌then◌else◌, arith}
 use Rattle.std.specs.Prelude.{option_map}
 use Rattle.cilk_model.specs.Path.{Path, same_path, child_path}
 use Rattle.cilk_model.specs.Instance.{Instance}
-use Rattle.cilk_model.specs.State.{Instances, State, instance_at, is_live, has_live_child}
-use Rattle.cilk_laws_allowed.specs.Order.{PathsAreApart, Counted, InOrder}
+use Rattle.cilk_model.specs.State.{Instances, PathsAreApart, Counted, State, instance_at, is_live, has_live_child}
+use Rattle.cilk_laws_allowed.specs.Order.{InOrder}
 use Rattle.cilk_laws_allowed.proofs.Lookups.{same-is, times, times-cons}
 use Rattle.cilk_laws_allowed.proofs.Paths.{not_root, same-parent, same-number, is-child, child_seen}
 use Rattle.cilk_laws_allowed.proofs.Live.{children_at, Alike, Fewer, More}

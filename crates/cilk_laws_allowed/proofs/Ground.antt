@@ -6,7 +6,7 @@ use Rattle.cilk_model.specs.labelled.Labelled.{Labelled, Action}
 use Rattle.cilk_model.specs.Values.{Cell}
 use Rattle.cilk_model.specs.Path.{Path}
 use Rattle.cilk_model.specs.Instance.{Activation, Instance, outer_values}
-use Rattle.cilk_model.specs.State.{TrapKind, State, running, instance_at, changed, has_live_child, is_empty, is_synched}
+use Rattle.cilk_model.specs.State.{TrapKind, State, PathsAreApart, running, instance_at, changed, has_live_child, is_empty, is_synched}
 use Rattle.cilk_model.specs.Event as event
 use Rattle.cilk_model.specs.Event.{Event}
 use Rattle.cilk_model.specs.Change.{gone_on, holds_lock, own_with, outer_with, on_lowest, put, with_put, stopped}
@@ -26,6 +26,7 @@ use Rattle.cilk_laws_allowed.proofs.Locks.{holds_none}
 -- i stands at p in a program that runs
 pub record Stands (program : Labelled) (s : State) (p : Path) (i : Instance) : Type 0 where
   pub runs : s.outcome ≡ running
+  pub apart : PathsAreApart s.instances
   pub live : instance_at s.instances p ≡ Some i
   pub family : Family s.instances
 
@@ -62,7 +63,8 @@ is_so false h = cc
 
 module _ (program : Labelled) (s : State) (p : Path) (i : Instance) (stands : Stands program s p i) where
   pub stepped : (t : State) (did : Event) (step : Steps program s p i t) → told program s p i t step ≡ did → AllowsAs program s p t did
-  stepped t did step tells = record { allows = record { runs = stands.runs; instance = i; live = stands.live; step = step }; tells = tells }
+  stepped t did step tells =
+      record { allows = record { runs = stands.runs; apart = stands.apart; instance = i; live = stands.live; step = step }; tells = tells }
 
   pub acts_on : (n : ℕ) (act : Action) → Heads i n act → (t : State) → Alike s.instances t.instances → (acts : Acts program s p i t n act)
       → told_by_action program s p i t n act acts ≡ event.acted p n → Ruled program s p (goes_on t (event.acted p n))

@@ -15,7 +15,7 @@ use Rattle.cilk_laws_allowed.specs.Kept.{KeepsRule, OneMore, EachChoiceKeepsRule
 use Rattle.cilk_laws_allowed.proofs.Family.{alike_order, fewer_order, more_order, root_order}
 use Rattle.cilk_laws_allowed.proofs.Ground.{Ruled}
 use Rattle.cilk_laws_allowed.proofs.Rules.{step_rule}
-use Rattle.cilk_laws_allowed.proofs.Runs.{after-push, at_each, Went, went}
+use Rattle.cilk_model.proofs.Runs.{after-push, at_each, Went, went}
 
 is_running-true : (o : Outcome) → is_running o ≡ true → o ≡ running
 is_running-true running h = refl

@@ -168,7 +168,8 @@ module _ (program : Labelled) (s : State) (p : Path) (i : Instance) (stands : St
   above_some P [] e h f = absurd (h e)
   above_some P (caller ∷ below) e h f = f caller below e
 
-  pub leaving_rule : (act : Action) (z : ℤ) → Heads i n act → LeavesWith env act z → MayLeave program s p i → Ruled program s p (step_by_leaving program s p i n z)
+  pub leaving_rule : (act : Action) (z : ℤ) → Heads i n act → LeavesWith env act z → MayLeave program s p i
+      → Ruled program s p (step_by_leaving program s p i n z)
   leaving_rule act z head given (fails.of_procedure alone whole) =
       subst (Ruled program s p) (sym (then_is (is_empty i.below) _ _ (ap is_empty alone))) (procedure_rule act z head given alone whole)
   leaving_rule act z head given (fails.of_inlet inside unheld) =

@@ -9,9 +9,9 @@ pub mod Going
 pub mod Leaving
 pub mod Starting
 pub mod Rules
-pub mod Runs
 pub mod Kept
 pub mod Decided
 pub mod Forms
 pub mod OneState
 pub mod Forced
+pub mod Synched

@@ -28,7 +28,7 @@ use Rattle.cilk_model.specs.Pick.{step_at_boundary, step_of_aborted, step_of_ins
 use Rattle.cilk_laws_allowed.specs.Order.{InOrder, AllowedStep, EachPickIsAllowed}
 use Rattle.cilk_laws_allowed.proofs.Lookups.{apart, at-without_other, none_there}
 use Rattle.cilk_laws_allowed.proofs.Live.{alike, without_fewer}
-use Rattle.cilk_laws_allowed.proofs.Family.{Family, family_of}
+use Rattle.cilk_laws_allowed.proofs.Family.{family_of}
 use Rattle.cilk_laws_allowed.proofs.Cells.{get_map}
 use Rattle.cilk_laws_allowed.proofs.Locks.{holds, holds_none, lets}
 use Rattle.cilk_laws_allowed.proofs.Ground.{Stands, Ruled, empty_is, stepped, failed, at_p, at_other, one_changed, puts}
@@ -183,13 +183,14 @@ module _ (program : Labelled) (s : State) (p : Path) (i : Instance) (stands : St
       (λ _. cond_both (at_boundary i) _ _ (Ruled program s p)
       (λ boundary. boundary_rule boundary i.waiting refl) (λ _. head_rule (head_of i.top.items) refl))
 
-live_rule : (program : Labelled) (s : State) (p : Path) → s.outcome ≡ running → Family s.instances → (o : Option Instance) → instance_at s.instances p ≡ o
+live_rule : (program : Labelled) (s : State) (p : Path) → s.outcome ≡ running → InOrder s → (o : Option Instance) → instance_at s.instances p ≡ o
     → Ruled program s p (step_of_live program s p o)
-live_rule program s p runs family None live = tt
-live_rule program s p runs family (Some i) live = instance_rule program s p i (record { runs = runs; live = live; family = family })
+live_rule program s p runs order None live = tt
+live_rule program s p runs order (Some i) live =
+    instance_rule program s p i (record { runs = runs; apart = order.apart; live = live; family = family_of s order })
 
 pub step_rule : (program : Labelled) (s : State) (p : Path) → s.outcome ≡ running → InOrder s → Ruled program s p (step_of program s p)
-step_rule program s p runs order = live_rule program s p runs (family_of s order) (instance_at s.instances p) refl
+step_rule program s p runs order = live_rule program s p runs order (instance_at s.instances p) refl
 
 ruled_allowed : (program : Labelled) (s : State) (p : Path) (taken : Step) → Ruled program s p taken → AllowedStep program s p taken
 ruled_allowed program s p waits r = tt

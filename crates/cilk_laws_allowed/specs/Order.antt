@@ -1,24 +1,12 @@
 -- The written rule allows each step that is taken from a state that is in order, and each state that choices reach is.
-use Rattle.std.specs.Prelude.{◌≡◌, ℕ, ◌≤◌, true, ⊤, cond, List, Some, count_by}
+use Rattle.std.specs.Prelude.{◌≡◌, ℕ, true, ⊤, List, Some}
 use Rattle.cilk_model.specs.labelled.Labelled.{Labelled}
-use Rattle.cilk_model.specs.Path.{Path, same_path, child_path}
-use Rattle.cilk_model.specs.Instance.{Instance}
-use Rattle.cilk_model.specs.State.{State, Instances, running, instance_at, is_live}
+use Rattle.cilk_model.specs.Path.{Path, child_path}
+use Rattle.cilk_model.specs.State.{State, PathsAreApart, Counted, running, is_live}
 use Rattle.cilk_model.specs.Pick.{Step, waits, parks, goes_on, ends, spawns, step_of}
 use Rattle.cilk_model.specs.Choice.{Choice}
 use Rattle.cilk_model.specs.Run.{Position, after}
 use Rattle.cilk_laws_allowed.specs.Told.{AllowsAs}
-
--- the live instances have different paths
-abbrev pub PathsAreApart : Instances → Type 0
-PathsAreApart entries = (p : Path) → count_by (λ e. same_path e.path p) entries ≡ cond (is_live entries p) 1 0
-
--- p lives, and has counted its child k; children are numbered from 1
-pub record Counted (entries : Instances) (p : Path) (k : ℕ) : Type 0 where
-  pub parent : Instance
-  pub lives : instance_at entries p ≡ Some parent
-  pub first : 1 ≤ k
-  pub within : k ≤ parent.children
 
 pub record InOrder (s : State) : Type 0 where
   pub apart : PathsAreApart s.instances

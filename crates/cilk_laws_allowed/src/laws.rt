@@ -4,6 +4,7 @@ ghost use Rattle.cilk_laws_allowed.specs.Order.{EachPickIsAllowed, EachStateIsIn
 ghost use Rattle.cilk_laws_allowed.specs.Kept.{EachChoiceKeepsRule};
 ghost use Rattle.cilk_laws_allowed.specs.Forced.{EachWaitIsForced};
 ghost use Rattle.cilk_laws_allowed.specs.OneState.{RuleLeavesOneState};
+ghost use Rattle.cilk_laws_allowed.specs.Synched.{SynchedMeans};
 
 /// The written rule allows each step that is taken, from any state that is in order, whether or not
 /// a run leads there, and the event is the one that the rule's step is told by.
@@ -32,4 +33,10 @@ pub fn each_choice_keeps_the_rule()
 /// as look-ups tell.
 pub fn written_rule_leaves_one_state()
     ensures { RuleLeavesOneState }
+{}
+
+/// `SYNCHED` is 1, and a procedure may pass a `sync` or return, exactly where no child of it lives and no
+/// delivery waits.
+pub fn synched_means_nothing_to_wait_for()
+    ensures { SynchedMeans }
 {}

@@ -5,5 +5,5 @@ mod laws;
 
 pub use laws::{
     each_choice_keeps_the_rule, each_pick_is_allowed, each_state_is_in_order, each_wait_is_forced,
-    written_rule_leaves_one_state,
+    synched_means_nothing_to_wait_for, written_rule_leaves_one_state,
 };

@@ -13,7 +13,7 @@ use Rattle.cilk_model.specs.Choice.{Act, step, pop, steal, Choice}
 use Rattle.cilk_model.specs.Run.{Standing, Position, next_by_hand, next_by, after}
 use Rattle.cilk_laws_placed.specs.Places.{worker_paths}
 use Rattle.cilk_laws_placed.specs.Laws.{OneWorkerHasOneLeaf}
-use Rattle.cilk_laws_placed.proofs.Runs.{at_each}
+use Rattle.cilk_model.proofs.Runs.{at_each}
 use Rattle.cilk_laws_placed.proofs.Leaves.{each_leaf_is_busy}
 
 hand_size : (places : List Worker) (w : ℕ) (o : Option Path) → length (with_hand places w o) ≡ length places

@@ -4,10 +4,10 @@ use Rattle.std.proofs.Common.{if◌then◌else◌, arith}
 use Rattle.std.specs.Prelude.{option_map}
 use Rattle.cilk_model.specs.Path.{Path, same_path, child_path, parent_of, is_that, is_child}
 use Rattle.cilk_model.specs.Instance.{Instance}
-use Rattle.cilk_model.specs.State.{Entry, Instances, State, instance_at, is_live, has_live_child}
+use Rattle.cilk_model.specs.State.{Entry, Instances, Counted, State, instance_at, is_live, has_live_child}
 use Rattle.cilk_model.specs.Pick.{Step, waits, parks, goes_on, ends, spawns}
 use Rattle.cilk_model.specs.Run.{state_after}
-use Rattle.cilk_laws_placed.specs.Family.{Counted, ChildrenAreCounted}
+use Rattle.cilk_laws_placed.specs.Family.{ChildrenAreCounted}
 use Rattle.cilk_laws_placed.proofs.Entries.{same-is, same-self, live-cons, children_at}
 use Rattle.cilk_laws_placed.proofs.Live.{Alike, Fewer, More, Lives, Waited}
 
@@ -151,7 +151,7 @@ counted_by entries p k None e c h = cc
 counted_by entries p k (Some i) e c h =
     let same : i.children ≡ c.number = cc in
     let within = c.within in
-    record { parent = i; lives = e; first = c.first; last = omega arith }
+    record { parent = i; lives = e; first = c.first; within = omega arith }
 
 -- the family as the definitions have it
 pub counted : (entries : Instances) → Family entries → ChildrenAreCounted entries
@@ -161,4 +161,4 @@ counted entries family p k live =
 pub family_of : (entries : Instances) → ChildrenAreCounted entries → Family entries
 family_of entries children p k live =
     let c = children p k live in
-    record { number = c.parent.children; there = ap (option_map (λ (i : Instance). i.children)) c.lives; first = c.first; within = c.last }
+    record { number = c.parent.children; there = ap (option_map (λ (i : Instance). i.children)) c.lives; first = c.first; within = c.within }

@@ -14,7 +14,7 @@ use Rattle.cilk_model.specs.Choice.{Act, step, pop, steal, Choice}
 use Rattle.cilk_model.specs.Run.{Standing, Position, refusal_of, state_after, event_of_step, next_by_hand, next_by, next_of, event_by_hand, event_by}
 use Rattle.cilk_model.specs.Run.{event_of, after_from, opening, is_crew, after_main, after, one_more}
 use Rattle.cilk_laws_placed.proofs.Entries.{same-is}
-use Rattle.cilk_laws_placed.proofs.Runs.{after-push, went}
+use Rattle.cilk_model.proofs.Runs.{after-push, went}
 use Rattle.cilk_laws_placed.proofs.Rows.{step_row}
 use Rattle.cilk_laws_placed.proofs.Live.{alike, Lives, row_lives}
 use Rattle.cilk_laws_placed.proofs.Family.{not_root}

@@ -5,10 +5,9 @@ use Rattle.std.specs.Prelude.{slice_index_or}
 use Rattle.std.specs.List.{list_any}
 use Rattle.std.proofs.lemmas.List.Sums.{sum_by-cons}
 use Rattle.cilk_model.specs.Path.{Path, is_that}
-use Rattle.cilk_model.specs.State.{Entry, Instances, is_live, has_live_child}
+use Rattle.cilk_model.specs.State.{PathsAreApart, Entry, Instances, is_live, has_live_child}
 use Rattle.cilk_model.specs.Scheduler.{Worker, no_place, bottom_of}
 use Rattle.cilk_model.specs.Run.{Standing}
-use Rattle.cilk_laws_placed.specs.Family.{PathsAreApart}
 use Rattle.cilk_laws_placed.specs.Places.{worker_paths, EachInItsPlace}
 use Rattle.cilk_laws_placed.specs.Laws.{NoMoreLeavesThanWorkers}
 use Rattle.cilk_laws_placed.proofs.Entries.{same-self}

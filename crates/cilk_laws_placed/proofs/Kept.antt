@@ -13,7 +13,7 @@ use Rattle.cilk_model.specs.Run.{Standing, Position, refusal_of, next_of, openin
 use Rattle.cilk_laws_placed.specs.Places.{times_held, EachInItsPlace}
 use Rattle.cilk_laws_placed.specs.Laws.{PlacesAreKept}
 use Rattle.cilk_laws_placed.proofs.Entries.{same-sym, times-cons}
-use Rattle.cilk_laws_placed.proofs.Runs.{at_each}
+use Rattle.cilk_model.proofs.Runs.{at_each}
 use Rattle.cilk_laws_placed.proofs.Possible.{possible}
 use Rattle.cilk_laws_placed.proofs.Family.{root_family, counted, family_of}
 use Rattle.cilk_laws_placed.proofs.Places.{once, held, given, Placed, keeps_places}

@@ -1,4 +1,3 @@
-pub mod Runs
 pub mod Possible
 pub mod Stuck
 pub mod Entries
@@ -29,4 +28,5 @@ pub mod Told
 pub mod Ended
 pub mod Born
 pub mod Fates
+pub use Rattle.cilk_model.proofs as model_laws
 pub use Rattle.cilk_model.proofs.canonical_laws

@@ -17,7 +17,7 @@ use Rattle.cilk_model.specs.Choice.{Act, step, pop, steal}
 use Rattle.cilk_model.specs.Run.{Standing, state_after, next_by_hand, next_by}
 use Rattle.cilk_laws_placed.specs.Locks.{HoldersLive, EachHolderLives}
 use Rattle.cilk_laws_placed.proofs.Entries.{same-is, same-self}
-use Rattle.cilk_laws_placed.proofs.Runs.{at_each}
+use Rattle.cilk_model.proofs.Runs.{at_each}
 use Rattle.cilk_laws_placed.proofs.Rows.{Row, headless, locked, parked, stopping, going, writing, calling, leaving, answering, spawning, printing}
 use Rattle.cilk_laws_placed.proofs.Rows.{turning, marking, returning, placing, taking, aborting, step_row}
 use Rattle.cilk_laws_placed.proofs.Live.{Lives, row_lives}

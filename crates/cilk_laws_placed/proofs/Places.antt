@@ -6,13 +6,12 @@ use Rattle.std.proofs.lemmas.Bool.{eqb-false}
 use Rattle.std.proofs.lemmas.List.Sums.{sum_by-set, sum_by-cons, sum_by-append}
 use Rattle.cilk_model.specs.labelled.Labelled.{Labelled}
 use Rattle.cilk_model.specs.Path.{Path, same_path, is_that, parent_of}
-use Rattle.cilk_model.specs.State.{State, is_live, is_empty}
+use Rattle.cilk_model.specs.State.{PathsAreApart, State, is_live, is_empty}
 use Rattle.cilk_model.specs.Pick.{Step, waits, parks, goes_on, ends, spawns, step_of}
 use Rattle.cilk_model.specs.Scheduler.{Worker, Scheduler, no_place, worker_at, hand_of, deque_of, with_hand, with_deque, top_of, below_top, bottom_of}
 use Rattle.cilk_model.specs.Scheduler.{above_bottom, popped, stolen, pushed, parked_from, can_go_on, woken, with_empty_hand}
 use Rattle.cilk_model.specs.Choice.{Act, step, pop, steal, Choice, Refusal, no_worker, busy}
 use Rattle.cilk_model.specs.Run.{Standing, is_worker, act_refusal, pop_refusal, steal_refusal, refusal_of, state_after, stepped, next_by_hand, next_by, next_of}
-use Rattle.cilk_laws_placed.specs.Family.{PathsAreApart}
 use Rattle.cilk_laws_placed.specs.Places.{times_held, times_placed}
 use Rattle.cilk_laws_placed.proofs.Possible.{possible}
 use Rattle.cilk_laws_placed.proofs.Stuck.{within}

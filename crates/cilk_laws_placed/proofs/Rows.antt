@@ -26,18 +26,18 @@ use Rattle.cilk_model.specs.Pick.{Step, waits, parks, goes_on, ends, spawns, tra
 use Rattle.cilk_model.specs.Pick.{step_by_turn, step_by_effect, step_by_head, step_by_place, step_by_receiver, step_at_boundary, step_of_instance}
 
 -- what an effect tells of its action
-abbrev Tells : Action → Result Effect Trap → Type 0
-Tells act (Ok (gives z)) = leaves act ≡ true
-Tells act (Ok (turns what k)) = act ≡ locking what k
-Tells act (Ok other) = leaves act ≡ false
-Tells act (Err trap) = Unit {0}
+abbrev TellsLeaving : Action → Result Effect Trap → Type 0
+TellsLeaving act (Ok (gives z)) = leaves act ≡ true
+TellsLeaving act (Ok (turns what k)) = act ≡ locking what k
+TellsLeaving act (Ok other) = leaves act ≡ false
+TellsLeaving act (Err trap) = Unit {0}
 
-told_after : {A : Type 0} (act : Action) (r : Result A Trap) (f : A → Result Effect Trap) → ((x : A) → Tells act (f x)) → Tells act (r >>= f)
+told_after : {A : Type 0} (act : Action) (r : Result A Trap) (f : A → Result Effect Trap) → ((x : A) → TellsLeaving act (f x)) → TellsLeaving act (r >>= f)
 told_after act (Ok x) f h = h x
 told_after act (Err trap) f h = tt
 
 start_told : (env : Environment Declaration) (n : ℕ) (taker : Taker) (callee : ℕ) (es : List (Term Declaration))
-    → Tells (spawn taker callee es) (start_of env n taker callee es)
+    → TellsLeaving (spawn taker callee es) (start_of env n taker callee es)
 start_told env n nothing callee es = told_after (spawn nothing callee es) (values_of env es) _ (λ zs. refl)
 start_told env n (into what) callee es =
     let act = spawn (into what) callee es in
@@ -46,7 +46,7 @@ start_told env n (through inlet others) callee es =
     let act = spawn (through inlet others) callee es in
     told_after act (values_of env es) _ (λ zs. told_after act (values_of env others) _ (λ ys. refl))
 
-pub told : (env : Environment Declaration) (n : ℕ) (act : Action) → Tells act (effect_of env n act)
+pub told : (env : Environment Declaration) (n : ℕ) (act : Action) → TellsLeaving act (effect_of env n act)
 told env n (assign what e) =
     let act = assign what e in
     told_after act (reached_at env what) _
@@ -208,7 +208,7 @@ module _ (program : Labelled) (s : State) (p : Path) (i : Instance) where
 
   effect_row : (head : Numbered) → i.aborted ≡ false → head_of i.top.items ≡ Some head
       → (ends_thread program i head.act && holds_lock s p) ≡ false → (waits_here i head.act && not (is_synched s p i)) ≡ false
-      → (r : Result Effect Trap) → Tells head.act r → Row program s p i (step_by_effect program s p i head.number r)
+      → (r : Result Effect Trap) → TellsLeaving head.act r → Row program s p i (step_by_effect program s p i head.number r)
   effect_row head unmarked first lockless ready (Err trap) tells = stopping head.number _
   effect_row head unmarked first lockless ready (Ok (writes cell z)) tells = writing head cell z (record { first = first; stays = tells })
   effect_row head unmarked first lockless ready (Ok (answers answer)) tells = going head answer (record { first = first; stays = tells })

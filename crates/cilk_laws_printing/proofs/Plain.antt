@@ -12,12 +12,12 @@ use Rattle.cilk_check.specs.scopes.Scopes.{Scopes, parameters_declare, file_scop
 use Rattle.cilk_check.specs.scopes.Parts.{Around, PartInContext, statement, inner, looped, after_local, after_locals, in_body, in_inlet, owner_of}
 use Rattle.cilk_check.specs.scopes.Parts.{block_parts, locals_parts, within_local, stmts_parts, within_stmt, item_parts, parts_of}
 use Rattle.cilk_check.proofs.scopes_laws.Elements.{Has, Contains-from_Has, Has-append_left, Has-append_right, Has-flat_map}
-use Rattle.cilk_check.specs.rules_of_names.Reserved.{IsReserved}
-use Rattle.cilk_check.specs.rules_of_names.Uses.{Use, part_uses, uses_of}
-use Rattle.cilk_check.specs.rules_of_names.Names.{reserved_used}
+use Rattle.cilk_check.specs.scopes.Reserved.{IsReserved}
+use Rattle.cilk_check.specs.scopes.Uses.{Use, part_uses, uses_of}
+use Rattle.cilk_check.specs.scopes.Names.{reserved_used}
 use Rattle.cilk_check.specs.rules_of_names.Finds.{is_reserved}
 use Rattle.cilk_check.proofs.rules_of_names_laws.Decided.{reserved-Decides}
-use Rattle.cilk_check.specs.Fault.{WellFormed}
+use Rattle.cilk_check.specs.scopes.WellFormed.{WellFormed}
 use Rattle.cilk_laws_printing.specs.Plain.{IsPlain, PlainMove, PlainStmt, PlainStmts, PlainLocal, PlainLocals, PlainBlock, PlainItem, PlainItems}
 
 -- ---- names that are not reserved

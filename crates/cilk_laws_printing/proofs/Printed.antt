@@ -8,7 +8,7 @@ use Rattle.cilk_tree.proofs.BareText.{program_text_same}
 use Rattle.cilk_parse_grammar.specs.Expressions.{operator_limit, parenthesis_limit}
 use Rattle.cilk_parse_grammar.specs.Spelling.{SpellsProgram, nesting_limit}
 use Rattle.cilk_parse.specs.Text.{Spells}
-use Rattle.cilk_check.specs.Fault.{WellFormed}
+use Rattle.cilk_check.specs.scopes.WellFormed.{WellFormed}
 use Rattle.cilk_laws_printing.proofs.GoodTrees.{printed}
 use Rattle.cilk_laws_printing.proofs.Plain.{program_is_plain}
 

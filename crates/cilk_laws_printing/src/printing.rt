@@ -6,7 +6,7 @@ ghost use Rattle.cilk_tree.specs.ProgramText.{program_text};
 ghost use Rattle.cilk_check.specs.syntax.Tree as tree;
 ghost use Rattle.cilk_check.specs.syntax.Bare.{bare_program};
 ghost use Rattle.cilk_parse.specs.Text.{Spells};
-ghost use Rattle.cilk_check.specs.Fault.{WellFormed};
+ghost use Rattle.cilk_check.specs.scopes.WellFormed.{WellFormed};
 ghost use Rattle.cilk_laws_printing.specs.Plain.{PlainItems};
 
 /// In a program that breaks no rule no statement increments or decrements what has the name of `printf` or of a call

@@ -3,7 +3,7 @@ use Rattle.std.proofs.Common.{◌≡◌, ℕ, ℤ, List, [], ◌∷◌, map, Opt
 use Rattle.std.specs.Prelude.{reverse}
 use Rattle.cilk_check.specs.syntax.Tree.{Program}
 use Rattle.cilk_check.specs.syntax.declared.operator.BinOp.{BinOp}
-use Rattle.cilk_check.specs.Fault.{WellFormed}
+use Rattle.cilk_check.specs.scopes.WellFormed.{WellFormed}
 use Rattle.cilk_machine.specs.eval.declared.slot.Slot.{Slot}
 use Rattle.cilk_laws_allowed.specs.labelled.Labelled.{Labelled}
 use Rattle.cilk_laws_allowed.specs.labelled.Bodies.{label}
@@ -69,11 +69,11 @@ module _ (program : Labelled) where
   one-receiver : (b : ℕ) (r : Receiver) (x y : Option model.Receiver) → Receives program b r x → Receives program b r y → x ≡ y
   one-receiver b code.Nothing None None h k = refl
   one-receiver b code.Nothing None (Some y) h k = absurd k
-  one-receiver b (code.Worker op slot index spawn) (Some (model.place r n)) (Some (model.place s m)) h k =
+  one-receiver b (code.Place op slot index spawn) (Some (model.place r n)) (Some (model.place s m)) h k =
       let reached = one-reached b op slot index r s h.0 k.0 h.2 k.2 in
       let spawns = sym h.1 ∙ k.1 in
       λ i. Some (model.place (reached i) (spawns i))
-  one-receiver b (code.Worker op slot index spawn) (Some (model.place r n)) y h k = absurd k
+  one-receiver b (code.Place op slot index spawn) (Some (model.place r n)) y h k = absurd k
   one-receiver b (code.Call spawn args) (Some (model.through inlet others n)) (Some (model.through other values m)) h k =
       let spawns : n ≡ m = sym h.0 ∙ k.0 in
       let inlets = one-inlet b n inlet other others values h.2 (subst (λ j. CallsInlet program b j other values) (sym spawns) k.2) in

@@ -24,4 +24,4 @@ pub mod CallBodies
 pub mod CallRuns
 pub mod Cells
 pub mod Instances
-pub mod Standings
+pub mod OneStanding

@@ -8,7 +8,7 @@ use Rattle.cilk_check.specs.scopes.declared.fault.CheckFault.TheVariants.{NoLoop
 use Rattle.cilk_check.specs.scopes.Scopes.{Scopes, parameters_declare, file_scopes}
 use Rattle.cilk_check.specs.scopes.Parts.{Around, Part, local, statement, after_local, after_locals, in_body, in_inlet, block_parts, locals_parts}
 use Rattle.cilk_check.specs.scopes.Parts.{within_local, stmts_parts, owner_of, item_parts, parts_of}
-use Rattle.cilk_check_forms.specs.Forms.{Faulty, no_loop}
+use Rattle.cilk_check.specs.scopes.Forms.{Faulty, no_loop}
 use Rattle.cilk_laws_allowed.specs.labelled.Names.{Names, with_local}
 use Rattle.cilk_laws_allowed.specs.labelled.Label.{label_block}
 use Rattle.cilk_laws_allowed.specs.labelled.Bodies.{inlet_bodies, block_locals, body_count, item_bodies, items_bodies, file_names}

@@ -86,7 +86,8 @@ name_fits program names scopes name d agree e =
     (meaning_at names.means (position (λ x. bytes_eq x.name.text name.text) (s.innermost ++ s.outer))))) (sym agree.same)
     (found_fits program (λ x. bytes_eq x.name.text name.text) (scopes.innermost ++ scopes.outer) names.means d agree.aligned e)
 
-function_fits : (program : Labelled) (k : DeclarationKind) (b : ℕ) → is_function_kind k ≡ true → KindFits program k b → is_function (owner_of_body program b) ≡ true
+function_fits : (program : Labelled) (k : DeclarationKind) (b : ℕ) → is_function_kind k ≡ true → KindFits program k b
+    → is_function (owner_of_body program b) ≡ true
 function_fits program (kind.Function returns n) b h f = f
 function_fits program (kind.Inlet n) b h f = cc
 function_fits program kind.Variable b h f = cc

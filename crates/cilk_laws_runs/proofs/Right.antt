@@ -11,15 +11,15 @@ use Rattle.cilk_check.specs.scopes.declared.owner.Owner.TheVariants.{Function, P
 use Rattle.cilk_check.specs.scopes.Scopes.{Declared, Scopes, meaning}
 use Rattle.cilk_check.specs.scopes.Parts.{Around, Part, local, statement, PartInContext, parts_of, part_exprs, visible_in}
 use Rattle.cilk_check.proofs.scopes_laws.Elements.{Has, Contains-from_Has, Has-append_left, Has-append_right, Has-flat_map}
-use Rattle.cilk_check.specs.rules_of_names.declared.role.Role.TheVariants as role
-use Rattle.cilk_check.specs.rules_of_names.Uses.{Use, use_as, expr_uses, target_uses, move_uses, moves_uses, taker_uses, own_uses, part_uses, uses_of}
-use Rattle.cilk_check.specs.rules_of_names.Names as names
-use Rattle.cilk_check.specs.rules_of_names.Names.{fits, Means}
-use Rattle.cilk_check.specs.rules_of_names.Reserved.{IsReserved}
-use Rattle.cilk_check_forms.specs.Forms as forms
-use Rattle.cilk_check_forms.specs.Forms.{synched_in, own_word, words_of_children}
+use Rattle.cilk_check.specs.scopes.declared.role.Role.TheVariants as role
+use Rattle.cilk_check.specs.scopes.Uses.{Use, use_as, expr_uses, target_uses, move_uses, moves_uses, taker_uses, own_uses, part_uses, uses_of}
+use Rattle.cilk_check.specs.scopes.Names as names
+use Rattle.cilk_check.specs.scopes.Names.{fits, Means}
+use Rattle.cilk_check.specs.scopes.Reserved.{IsReserved}
+use Rattle.cilk_check.specs.scopes.Forms as forms
+use Rattle.cilk_check.specs.scopes.Forms.{synched_in, own_word, words_of_children}
 use Rattle.cilk_laws_allowed.specs.labelled.Bodies.{is_procedure}
-use Rattle.cilk_check.specs.Fault.{WellFormed}
+use Rattle.cilk_check.specs.scopes.WellFormed.{WellFormed}
 
 abbrev pub is_function_kind : DeclarationKind → Bool
 is_function_kind (kind.Function returns n) = true

@@ -11,7 +11,7 @@ use Rattle.cilk_laws_allowed.specs.model.Scheduler.{hand_of}
 use Rattle.cilk_laws_allowed.specs.model.Choice.{Act, step, pop, steal, Choice, Refusal}
 use Rattle.cilk_laws_allowed.specs.model.Run.{Standing, Position, refusal_of, next_of, next_by, next_by_hand, event_of, event_by, event_by_hand}
 use Rattle.cilk_laws_allowed.specs.model.Run.{event_of_step, state_after, after_from, opening, is_crew, after_main, after, position_after, one_more}
-use Rattle.cilk_laws_placed.proofs.Runs.{after-push, Went, went}
+use Rattle.cilk_laws_placed.proofs.model_laws.Runs.{after-push, Went, went}
 use Rattle.cilk_laws_runs.specs.ChildLaws.{Leads}
 
 pub append-none : {A : Type 0} (xs : List A) → xs ++ [] ≡ xs

@@ -1,7 +1,7 @@
 -- What is known of the calls, spawns and inlets of a well-formed program, after it is labelled too.
 use Rattle.std.specs.Prelude.{◌≡◌, ℕ, ℤ, true, List, [], Some}
 use Rattle.cilk_check.specs.syntax.Tree.{Program}
-use Rattle.cilk_check.specs.Fault.{WellFormed}
+use Rattle.cilk_check.specs.scopes.WellFormed.{WellFormed}
 use Rattle.cilk_laws_allowed.specs.labelled.Labelled.{sync}
 use Rattle.cilk_laws_allowed.specs.labelled.Bodies.{label}
 use Rattle.cilk_laws_allowed.specs.model.Path.{Path, child_path}

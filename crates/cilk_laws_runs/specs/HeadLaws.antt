@@ -3,7 +3,7 @@ use Rattle.std.specs.Prelude.{◌≡◌, ◌≢◌, ℕ, true, All, List, Some, 
 use Rattle.cilk_check.specs.syntax.Tree.{Program}
 use Rattle.cilk_check.specs.scopes.declared.fault.CheckFault.{CheckFault}
 use Rattle.cilk_check.specs.scopes.declared.fault.CheckFault.TheVariants.{NoLoop}
-use Rattle.cilk_check_forms.specs.Forms.{Faulty}
+use Rattle.cilk_check.specs.scopes.Forms.{Faulty}
 use Rattle.cilk_laws_allowed.specs.labelled.Bodies.{label}
 use Rattle.cilk_laws_allowed.specs.labelled.Items.{head_of}
 use Rattle.cilk_laws_allowed.specs.model.Path.{Path}

@@ -1,7 +1,7 @@
 //! Where a machine stands. This function does nothing: its contract is the law.
 
 ghost use Rattle.std.specs.Prelude.{◌≡◌};
-ghost use Rattle.cilk_check.specs.Fault.{WellFormed};
+ghost use Rattle.cilk_check.specs.scopes.WellFormed.{WellFormed};
 ghost use Rattle.cilk_laws_allowed.specs.model.Run.{Standing};
 ghost use Rattle.cilk_machine.specs.Situation.{Situation};
 ghost use Rattle.cilk_machine.specs.Stands.{StandsAt};

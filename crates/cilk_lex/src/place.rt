@@ -1,12 +1,12 @@
 //! From a place in a text to its line and its column.
 
-ghost use Rattle.std.specs.Prelude.{◌≡◌, ◌<◌, ◌-◌, ◌^◌, length, take};
+ghost use Rattle.std.specs.Prelude.{◌≡◌, ◌<◌, ◌-◌, ◌^◌, min, length, take};
 ghost use Rattle.cilk_lex_tokens.specs.Place.{line_of, column_of};
 
 /// The line and the column of a place in a text, in bytes from its beginning. Both count from 1. Behind the text's end
 /// they are those of its end.
 pub fn line_col(text: &str, at: u32) -> (u32, u32)
-    requires fits { length text.now < 2 ^ 32 - 1 }
+    requires fits { min at (length text.now) < 2 ^ 32 - 1 }
     ensures line { result.0 ≡ line_of text.now at }
     ensures column { result.1 ≡ column_of text.now at }
 {

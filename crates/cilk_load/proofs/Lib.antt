@@ -1,3 +1,4 @@
+pub mod Fronts
 pub mod Got
 pub mod Found
 pub mod Actions

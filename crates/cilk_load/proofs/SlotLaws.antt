@@ -1,12 +1,12 @@
 -- The slots of the tables are those that stand for declarations.
 use Rattle.std.proofs.Common.{◌≡◌, ℕ, zero, suc, ◌+◌, ◌<◌, Bool, true, false, cond, List, [], ◌∷◌, map, refl, sym, ap, ◌∙◌, arith}
 use Rattle.std.specs.Prelude.{slice_index_or, bytes_eq}
-use Rattle.cilk_load_numbering.specs.syntax.Tree as tree
-use Rattle.cilk_load_numbering.specs.syntax.Tree.{Word}
-use Rattle.cilk_load_numbering.specs.scopes.declared.owner.Owner.{Owner}
-use Rattle.cilk_load_numbering.specs.scopes.declared.owner.Owner.TheVariants.{Inlet}
-use Rattle.cilk_load_numbering.specs.scopes.declared.declaration_kind.DeclarationKind.TheVariants.{Lock}
-use Rattle.cilk_load_numbering.specs.scopes.Scopes.{Declared, kind_of_global, kind_of_body, parameter_count, file_declares}
+use Rattle.cilk_check.specs.syntax.Tree as tree
+use Rattle.cilk_check.specs.syntax.Tree.{Word}
+use Rattle.cilk_check.specs.scopes.declared.owner.Owner.{Owner}
+use Rattle.cilk_check.specs.scopes.declared.owner.Owner.TheVariants.{Inlet}
+use Rattle.cilk_check.specs.scopes.declared.declaration_kind.DeclarationKind.TheVariants.{Lock}
+use Rattle.cilk_check.specs.scopes.Scopes.{Declared, kind_of_global, kind_of_body, parameter_count, file_declares}
 use Rattle.cilk_load_numbering.specs.eval.declared.area.Area.{Area}
 use Rattle.cilk_load_numbering.specs.eval.declared.area.Area.TheVariants.{Own, Outer, Global}
 use Rattle.cilk_load_numbering.specs.eval.declared.slot.Slot.{Slot}

@@ -3,7 +3,7 @@
 ghost use Rattle.std.specs.Prelude.{◌≡◌, ◌≤◌, ◌↔◌, IsSome, IfOk, Some, option_copied, string_bytes};
 ghost use Rattle.std.specs.Arc.{arc_value};
 ghost use Rattle.cilk_load_numbering.specs.canonical.ProgramText.{program_text};
-ghost use Rattle.cilk_load_numbering.specs.check.Fault.{WellFormed};
+ghost use Rattle.cilk_check.specs.scopes.WellFormed.{WellFormed};
 ghost use Rattle.cilk_load_numbering.specs.labelled.Bodies.{label};
 ghost use Rattle.cilk_load_numbering.specs.labelled.Count.{count_program};
 ghost use Rattle.cilk_load_numbering.specs.model.End as runs;
@@ -23,8 +23,8 @@ pub struct Loaded {
 }
 
 impl Model for Loaded {
-    ghost use Rattle.cilk_load_numbering.specs.syntax.Tree as tree;
-    ghost use Rattle.cilk_load_numbering.specs.syntax.ProgramCoding.{coded_Program};
+    ghost use Rattle.cilk_check.specs.syntax.Tree as tree;
+    ghost use Rattle.cilk_check.specs.syntax.ProgramCoding.{coded_Program};
     ghost use Rattle.std.specs.Arc.{arc_value};
 
     ghost Value = { tree.Program };

@@ -6,9 +6,10 @@ ghost use Rattle.cilk_load_numbering.specs.labelled.Count.{count_program};
 use crate::fault::LoadFault;
 use crate::loaded::Loaded;
 use crate::tables::Tables;
+use cilk_check::Checked;
 use cilk_load_numbering::{
-    Checked, MAX_ACTIONS, NoRoom, Program, action_lines, bodies_of, count_items, globals_of,
-    locks_of, nodes_of, place_of_main,
+    MAX_ACTIONS, NoRoom, Program, action_lines, bodies_of, count_items, globals_of, locks_of,
+    nodes_of, place_of_main,
 };
 use std::alloc::Global;
 use std::sync::Arc;

@@ -1,6 +1,7 @@
 //! The tables of a program, which all copies of it share, and what holds of them together.
 
-use cilk_load_numbering::{Body, Checked, Node, Var};
+use cilk_check::Checked;
+use cilk_load_numbering::{Body, Node, Var};
 use std::marker::Model;
 
 /// A program and its tables, seen as the program.
@@ -30,8 +31,8 @@ impl Drop for Tables {
 }
 
 impl Model for Tables {
-    ghost use Rattle.cilk_load_numbering.specs.syntax.Tree as tree;
-    ghost use Rattle.cilk_load_numbering.specs.syntax.ProgramCoding.{coded_Program};
+    ghost use Rattle.cilk_check.specs.syntax.Tree as tree;
+    ghost use Rattle.cilk_check.specs.syntax.ProgramCoding.{coded_Program};
 
     ghost Value = { tree.Program };
 

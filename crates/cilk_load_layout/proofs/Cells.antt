@@ -1,8 +1,8 @@
 -- Variables one list behind the other.
 use Rattle.std.proofs.Common.{◌≡◌, ℕ, ◌+◌, List, [], ◌∷◌, ◌++◌, Result}
 use Rattle.std.proofs.Common.{sym, ap, ◌∙◌, arith, append_assoc}
-use Rattle.std.specs.Prelude.{OnOk}
-use Rattle.std.proofs.lemmas.Result.{on_ok_weaker}
+use Rattle.std.specs.Prelude.{IfOk, OnOk}
+use Rattle.std.proofs.lemmas.Result.{IfOk-weaker, on_ok_weaker}
 use Rattle.cilk_load_nodes.specs.eval.declared.area.Area.{Area}
 use Rattle.cilk_load_nodes.specs.labelled.Labelled.{Variable}
 use Rattle.cilk_load_nodes.specs.Slots.{size_of, cells_of}
@@ -39,5 +39,12 @@ joined area at cells before middle after vs ws e f g =
 -- where a call may fail
 pub ok_same : {A E X : Type 0} (r : Result A E) (xs ys zs : X) → OnOk r (xs ≡ ys) → ys ≡ zs → OnOk r (xs ≡ zs)
 ok_same r xs ys zs h e = on_ok_weaker r (λ (k : xs ≡ ys). k ∙ e) h
+
+-- the place behind one stretch of variables and another
+pub ok_behind : {E : Type 0} (r : Result ℕ E) (at cells : ℕ) (vs ws all : List Variable) → IfOk r (λ after. after ≡ cells + cells_of ws)
+    → cells ≡ at + cells_of vs → vs ++ ws ≡ all → IfOk r (λ after. after ≡ at + cells_of all)
+ok_behind r at cells vs ws all h e f =
+    IfOk-weaker r (λ after. after ≡ cells + cells_of ws) (λ after. after ≡ at + cells_of all)
+    (λ (after : ℕ) (k : after ≡ cells + cells_of ws). omega (arith, k, e, ap cells_of f, cells_of-append vs ws)) h
 
 pub ruleset variables = (cells_of-append, vars_from-append)

@@ -12,8 +12,8 @@ mod variables;
 
 pub use building::{bodies_of, place_of_main};
 pub use cilk_load_nodes::{
-    Action, Body, Checked, Codes, Name, Node, Owner, SlotPlace, Slots, Taker, Target, Text, Trap,
-    Var, Vars, canonical, eval,
+    Action, Body, Codes, Name, Node, Owner, SlotPlace, Slots, Taker, Target, Text, Trap, Var, Vars,
+    canonical, eval,
 };
 pub use cilk_tree_syntax::{
     Block, Decl, Expr, Inlet, Item, ItemNode, Local, LocalNode, LockAction, Memory, Move,

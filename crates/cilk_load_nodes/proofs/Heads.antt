@@ -4,9 +4,9 @@ use Rattle.std.proofs.Common.{option_map, inl, inr, refl, sym, ap, subst, ◌∙
 use Rattle.std.specs.Prelude.{⊤, slice_get, slice_index_or}
 use Rattle.std.proofs.lemmas.Bool.{false≢true}
 use Rattle.std.proofs.lemmas.Bool.Decides.{Decides-eqb}
-use Rattle.cilk_check.specs.syntax.Tree as tree
-use Rattle.cilk_check.proofs.scopes_laws.Elements.{Has, Has-append_left, Has-append_right}
-use Rattle.cilk_check.specs.Fault.{WellFormed}
+use Rattle.cilk_check_scopes.specs.syntax.Tree as tree
+use Rattle.cilk_check_scopes.proofs.Elements.{Has, Has-append_left, Has-append_right}
+use Rattle.cilk_check_scopes.specs.WellFormed.{WellFormed}
 use Rattle.cilk_model.specs.labelled.Labelled.{Body, Labelled, Numbered, Stmt, action, choose, while, repeat, loop, nested, Stmts, none, also}
 use Rattle.cilk_model.specs.labelled.Items.{Items, pieces, plain_round, open_stmt, open_stmts, opened, head_of, reached}
 use Rattle.cilk_model.specs.labelled.Bodies.{label, file_names}

@@ -1,15 +1,15 @@
 -- In a well-formed program inlets stand at the heads of procedures alone.
 use Rattle.std.proofs.Common.{◌≡◌, ℕ, Bool, true, false, not, List, [], ◌∷◌, ◌++◌, inl, inr, refl, ap, ◌∙◌, sym}
 use Rattle.std.specs.Prelude.{IsFalse}
-use Rattle.cilk_check.specs.syntax.Tree as tree
-use Rattle.cilk_check.specs.scopes.declared.owner.Owner.TheVariants.{Inlet}
-use Rattle.cilk_check.specs.scopes.Parts.{Around, PartInContext, local, statement, inner, looped, after_local, after_locals, in_inlet, in_body, owner_of}
-use Rattle.cilk_check.specs.scopes.Parts.{block_parts, locals_parts, within_local, stmts_parts, within_stmt, item_parts, parts_of}
-use Rattle.cilk_check.specs.scopes.Scopes.{Scopes, file_scopes, parameters_declare}
-use Rattle.cilk_check.proofs.scopes_laws.Elements.{Has, Contains-from_Has, Has-append_left, Has-append_right, Has-flat_map}
-use Rattle.cilk_check.specs.rules_of_forms.Forms as forms
-use Rattle.cilk_check.specs.Fault.{WellFormed}
-use Rattle.cilk_check.specs.scopes.declared.fault.CheckFault.TheVariants.{NotInProcedure}
+use Rattle.cilk_check_scopes.specs.syntax.Tree as tree
+use Rattle.cilk_check_scopes.specs.declared.owner.Owner.TheVariants.{Inlet}
+use Rattle.cilk_check_scopes.specs.Parts.{Around, PartInContext, local, statement, inner, looped, after_local, after_locals, in_inlet, in_body, owner_of}
+use Rattle.cilk_check_scopes.specs.Parts.{block_parts, locals_parts, within_local, stmts_parts, within_stmt, item_parts, parts_of}
+use Rattle.cilk_check_scopes.specs.Scopes.{Scopes, file_scopes, parameters_declare}
+use Rattle.cilk_check_scopes.proofs.Elements.{Has, Contains-from_Has, Has-append_left, Has-append_right, Has-flat_map}
+use Rattle.cilk_check_scopes.specs.Forms as forms
+use Rattle.cilk_check_scopes.specs.WellFormed.{WellFormed}
+use Rattle.cilk_check_scopes.specs.declared.fault.CheckFault.TheVariants.{NotInProcedure}
 use Rattle.cilk_load_nodes.specs.Plain.{PlainLocals, PlainStmt, PlainStmts, PlainBlock, OuterLocals, OuterBlock, PlainItem, PlainItems}
 
 module _ (p : tree.Program) (ok : WellFormed p) where

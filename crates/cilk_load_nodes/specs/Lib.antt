@@ -5,11 +5,8 @@ pub mod Bodies
 pub mod Plain
 pub mod Laws
 pub mod Rows
-pub use Rattle.cilk_check.specs as check
-pub use Rattle.cilk_check.specs.rules_of_forms
-pub use Rattle.cilk_check.specs.rules_of_names
-pub use Rattle.cilk_check.specs.scopes
-pub use Rattle.cilk_check.specs.syntax
+pub use Rattle.cilk_check_scopes.specs as scopes
+pub use Rattle.cilk_check_scopes.specs.syntax
 pub use Rattle.cilk_eval.specs as eval
 pub use Rattle.cilk_model.specs as model
 pub use Rattle.cilk_model.specs.canonical

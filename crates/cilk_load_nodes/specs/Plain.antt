@@ -1,7 +1,7 @@
 -- Programs whose inlets stand at the heads of functions and procedures alone, and not in inner blocks or in inlets.
 use Rattle.std.specs.Prelude.{⊤, List, [], ◌∷◌}
-use Rattle.cilk_check.specs.syntax.Tree.{Stmt, when, either, while, repeat, loop, nested, Stmts, none, also, Local, declared, inlet_at, Locals}
-use Rattle.cilk_check.specs.syntax.Tree.{no_locals, and_local, Block, block, Item, procedure, Program}
+use Rattle.cilk_check_scopes.specs.syntax.Tree.{Stmt, when, either, while, repeat, loop, nested, Stmts, none, also, Local, declared, inlet_at, Locals}
+use Rattle.cilk_check_scopes.specs.syntax.Tree.{no_locals, and_local, Block, block, Item, procedure, Program}
 
 -- none of these declarations is an inlet
 abbrev pub PlainLocals : Locals → Type 0

@@ -1,6 +1,6 @@
 -- The table of nodes: what each action does, and the numbers of those that come next.
 use Rattle.std.specs.Prelude.{ℕ, suc, Bool, true, false, nat_eq, if◌then◌else◌, List, [], ◌∷◌, ◌++◌, Option, Some, None, map, option_map}
-use Rattle.cilk_check.specs.syntax.Tree as tree
+use Rattle.cilk_check_scopes.specs.syntax.Tree as tree
 use Rattle.cilk_eval.specs.declared.slot.Slot.{Slot}
 use Rattle.cilk_model.specs.labelled.Labelled.{Declaration, close, Numbered, Stmt, action, choose, while, repeat, loop, nested, Stmts, none, also}
 use Rattle.cilk_model.specs.labelled.Labelled.{Body, Labelled}

@@ -16,7 +16,7 @@ mod vars;
 
 pub use action::Action;
 pub use body::Body;
-pub use cilk_check::{BinOp, Checked, LockAction, Owner};
+pub use cilk_check_scopes::{BinOp, LockAction, Owner};
 pub use cilk_eval::{Area, Code, CodeNode, Memory, Slot, Slots, Trap, apply, eval};
 pub use cilk_model::canonical;
 pub use codes::Codes;

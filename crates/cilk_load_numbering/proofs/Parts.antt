@@ -19,20 +19,20 @@ use Rattle.cilk_load_numbering.specs.Pass.{inside_at, shape_nodes, locals_scope,
 use Rattle.cilk_load_numbering.specs.Outer.{vars_at, body_exits, inlet_nodes, outer_nodes, outer_scope, body_nodes}
 
 -- a block
-pub block-written : (b : ℕ) (vars : List Var) (s t : Scope) (size size' len n m c d : ℕ) (xs xs' is : List tree.Local) (ys ys' js : List tree.Stmt)
+pub block-written : (b : ℕ) (vars : List Var) (s t : Scope) (size size' here n m c d : ℕ) (xs xs' is : List tree.Local) (ys ys' js : List tree.Stmt)
     (x : tree.Block) (first : Option ℕ) (ex : Exits) (before middle after : List Node)
-    → xs ≡ is → xs' ≡ is → ys ≡ js → ys' ≡ js → tree.block (locals_of is) (stmts_of js) ≡ x → len ≡ size → c ≡ count_locals (locals_of xs)
-    → d ≡ count_stmts (stmts_of ys) → first ≡ first_if d (len + 1 + c) ex.next
+    → xs ≡ is → xs' ≡ is → ys ≡ js → ys' ≡ js → tree.block (locals_of is) (stmts_of js) ≡ x → here ≡ size + 1 → c ≡ count_locals (locals_of xs)
+    → d ≡ count_stmts (stmts_of ys) → first ≡ first_if d (here + c) ex.next
     → middle ≡ before ++ locals_nodes b vars s (size + 1) n (locals_of xs') first → size' ≡ size + count_locals (locals_of xs')
     → t ≡ locals_scope vars n (locals_of xs') s → m ≡ n + length (locals_variables (locals_of xs'))
     → after ≡ middle ++ stmts_nodes b vars t (size' + 1) m (stmts_of ys') ex → after ≡ before ++ block_nodes b vars s (size + 1) n x ex
-block-written b vars s t size size' len n m c d xs xs' is ys ys' js x first ex before middle after ex1 ex2 ey1 ey2 view el ec ed ef em es et en ea =
+block-written b vars s t size size' here n m c d xs xs' is ys ys' js x first ex before middle after ex1 ex2 ey1 ey2 view el ec ed ef em es et en ea =
     let ls : tree.Locals = locals_of is in
     let ss : tree.Stmts = stmts_of js in
     let at : ℕ = size + 1 in
     let count : c ≡ count_locals ls = ec ∙ ap (λ (zs : List tree.Local). count_locals (locals_of zs)) ex1 in
     let left : d ≡ count_stmts ss = ed ∙ ap (λ (zs : List tree.Stmt). count_stmts (stmts_of zs)) ey1 in
-    let behind : len + 1 + c ≡ at + count_locals ls = omega (arith, el, count) in
+    let behind : here + c ≡ at + count_locals ls = omega (arith, el, count) in
     let place : size' + 1 ≡ at + count_locals ls = omega (arith, es, ap (λ (zs : List tree.Local). count_locals (locals_of zs)) ex2) in
     let opening : first ≡ first_if (count_stmts ss) (at + count_locals ls) ex.next = ef ∙ (λ i. first_if (left i) (behind i) ex.next) in
     let scope : t ≡ locals_scope vars n ls s = et ∙ ap (λ (zs : List tree.Local). locals_scope vars n (locals_of zs) s) ex2 in
@@ -45,16 +45,16 @@ block-written b vars s t size size' len n m c d xs xs' is ys ys' js x first ex b
     ∙ ap (λ (y : tree.Block). before ++ block_nodes b vars s at n y ex) view
 
 -- a whole body
-pub body-written : (bodies : List Body) (vars : List Var) (b k : ℕ) (s t : Scope) (size size' len n m c d : ℕ) (xs xs' is : List tree.Local)
+pub body-written : (bodies : List Body) (vars : List Var) (b k : ℕ) (s t : Scope) (size size' here n m c d : ℕ) (xs xs' is : List tree.Local)
     (ys ys' js : List tree.Stmt) (x : tree.Block) (first : Option ℕ) (ex : Exits) (before middle inner after : List Node)
-    → xs ≡ is → xs' ≡ is → ys ≡ js → ys' ≡ js → tree.block (locals_of is) (stmts_of js) ≡ x → len ≡ size → c ≡ count_locals (locals_of xs)
-    → d ≡ count_stmts (stmts_of ys) → first ≡ first_if d (len + 1 + c) (Some (len + 1 + c + d)) → ex ≡ body_exits (len + 1 + c + d)
+    → xs ≡ is → xs' ≡ is → ys ≡ js → ys' ≡ js → tree.block (locals_of is) (stmts_of js) ≡ x → here ≡ size + 1 → c ≡ count_locals (locals_of xs)
+    → d ≡ count_stmts (stmts_of ys) → first ≡ first_if d (here + c) (Some (here + c + d)) → ex ≡ body_exits (here + c + d)
     → vars ≡ vars_at bodies b → k ≡ b + 1 → middle ≡ before ++ outer_nodes bodies b k s (size + 1) n (locals_of xs') first
     → size' ≡ size + count_locals (locals_of xs') → t ≡ outer_scope (vars_at bodies b) k n (locals_of xs') s
     → m ≡ n + length (locals_variables (locals_of xs'))
     → inner ≡ middle ++ stmts_nodes b vars t (size' + 1) m (stmts_of ys') ex → after ≡ inner ++ onward b Close None ∷ []
     → after ≡ before ++ body_nodes bodies b s (size + 1) n x
-body-written bodies vars b k s t size size' len n m c d xs xs' is ys ys' js x first ex before middle inner after ex1 ex2 ey1 ey2 view el ec ed ef ee ev
+body-written bodies vars b k s t size size' here n m c d xs xs' is ys ys' js x first ex before middle inner after ex1 ex2 ey1 ey2 view el ec ed ef ee ev
     ek em es et en ei ea =
     let ls : tree.Locals = locals_of is in
     let ss : tree.Stmts = stmts_of js in
@@ -63,8 +63,8 @@ body-written bodies vars b k s t size size' len n m c d xs xs' is ys ys' js x fi
     let last : List Node = onward b Close None ∷ [] in
     let count : c ≡ count_locals ls = ec ∙ ap (λ (zs : List tree.Local). count_locals (locals_of zs)) ex1 in
     let left : d ≡ count_stmts ss = ed ∙ ap (λ (zs : List tree.Stmt). count_stmts (stmts_of zs)) ey1 in
-    let behind : len + 1 + c ≡ at + count_locals ls = omega (arith, el, count) in
-    let end : len + 1 + c + d ≡ closing = omega (arith, el, count, left) in
+    let behind : here + c ≡ at + count_locals ls = omega (arith, el, count) in
+    let end : here + c + d ≡ closing = omega (arith, el, count, left) in
     let place : size' + 1 ≡ at + count_locals ls = omega (arith, es, ap (λ (zs : List tree.Local). count_locals (locals_of zs)) ex2) in
     let next : k ≡ suc b = omega (arith, ek) in
     let start : Option ℕ = first_if (count_stmts ss) (at + count_locals ls) (Some closing) in
@@ -84,27 +84,72 @@ body-written bodies vars b k s t size size' len n m c d xs xs' is ys ys' js x fi
     ∙ ap (λ ns. before ++ ns) (append_assoc heads rest last)
     ∙ ap (λ (y : tree.Block). before ++ body_nodes bodies b s at n y) view
 
+-- a block behind a test
+pub tested : (b : ℕ) (vars : List Var) (s t : Scope) (size size' n : ℕ) (value : tree.Expr) (body : tree.Block) (first entry other : Option ℕ)
+    (inner : Exits) (before middle after : List Node)
+    → first ≡ entry → middle ≡ before ++ node b (Test (code_in s value)) first other ∷ [] → size' ≡ size + 1 → t ≡ s
+    → after ≡ middle ++ block_nodes b vars t (size' + 1) n body inner
+    → after ≡ before ++ (node b (Test (code_in s value)) entry other ∷ block_nodes b vars s (size + 1 + 1) n body inner)
+tested b vars s t size size' n value body first entry other inner before middle after ef em es et ea =
+    let place : size' + 1 ≡ size + 1 + 1 = omega (arith, es) in
+    ea
+    ∙ (λ i. (em ∙ ap (λ o. before ++ node b (Test (code_in s value)) o other ∷ []) ef) i ++ block_nodes b vars (et i) (place i) n body inner)
+    ∙ append_assoc before (node b (Test (code_in s value)) entry other ∷ []) (block_nodes b vars s (size + 1 + 1) n body inner)
+
+-- a `while`
+pub while-written : (b : ℕ) (vars : List Var) (s t : Scope) (size size' n here : ℕ) (value : tree.Expr) (body : tree.Block) (first : Option ℕ)
+    (ex inner : Exits) (before middle after : List Node)
+    → here ≡ size + 1 → first ≡ block_first (here + 1) body (Some here) → inner ≡ in_loop here ex.next
+    → middle ≡ before ++ node b (Test (code_in s value)) first ex.next ∷ [] → size' ≡ size + 1 → t ≡ s
+    → after ≡ middle ++ block_nodes b vars t (size' + 1) n body inner → after ≡ before ++ stmt_nodes b vars s (size + 1) n (tree.while value body) ex
+while-written b vars s t size size' n here value body first ex inner before middle after eh ef ei em es et ea =
+    let at : ℕ = size + 1 in
+    let opening : first ≡ block_first (at + 1) body (Some at) = ef ∙ ap (λ k. block_first (k + 1) body (Some k)) eh in
+    let leads : inner ≡ in_loop at ex.next = ei ∙ ap (λ k. in_loop k ex.next) eh in
+    tested b vars s t size size' n value body first (block_first (at + 1) body (Some at)) ex.next inner before middle after opening em es et ea
+    ∙ ap (λ (e : Exits). before ++ (node b (Test (code_in s value)) (block_first (at + 1) body (Some at)) ex.next ∷ block_nodes b vars s (at + 1) n body e))
+    leads
+
+-- a `do`
+pub do-written : (b : ℕ) (vars : List Var) (s t : Scope) (size n here count : ℕ) (value : tree.Expr) (body : tree.Block) (first : Option ℕ)
+    (ex inner : Exits) (before middle after : List Node)
+    → here ≡ size + 1 → count ≡ count_block body → first ≡ block_first here body (Some (here + count)) → inner ≡ in_loop (here + count) ex.next
+    → middle ≡ before ++ block_nodes b vars s (size + 1) n body inner → t ≡ s → after ≡ middle ++ node b (Test (code_in t value)) first ex.next ∷ []
+    → after ≡ before ++ stmt_nodes b vars s (size + 1) n (tree.repeat body value) ex
+do-written b vars s t size n here count value body first ex inner before middle after eh ec ef ei em et ea =
+    let at : ℕ = size + 1 in
+    let mark : here + count ≡ at + count_block body = omega (arith, eh, ec) in
+    let opening : first ≡ block_first at body (Some (at + count_block body)) = ef ∙ (λ i. block_first (eh i) body (Some (mark i))) in
+    let leads : inner ≡ in_loop (at + count_block body) ex.next = ei ∙ ap (λ k. in_loop k ex.next) mark in
+    ea
+    ∙ (λ i. (em ∙ ap (λ (e : Exits). before ++ block_nodes b vars s at n body e) leads) i ++ node b (Test (code_in (et i) value)) (opening i) ex.next ∷ [])
+    ∙ append_assoc before (block_nodes b vars s at n body (in_loop (at + count_block body) ex.next))
+    (node b (Test (code_in s value)) (block_first at body (Some (at + count_block body))) ex.next ∷ [])
+
 -- a `for`
 again-is : (at first advance again : ℕ) (f : Option tree.Move) (a : Option tree.Move) → first ≡ count_option f → advance ≡ count_option a
     → again + 1 ≡ at + first + 1 + advance → again ≡ again_at at f a
 again-is at first advance again f None ef ea e = omega (arith, ef, ea, e)
 again-is at first advance again f (Some what) ef ea e = omega (arith, ef, ea, e)
 
-pub for-written : (b : ℕ) (vars : List Var) (s t : Scope) (size size1 size2 size3 n len first advance again : ℕ) (f : Option tree.Move)
+pub for-written : (b : ℕ) (vars : List Var) (s s1 s2 s3 : Scope) (size size1 size2 size3 n here first advance again : ℕ) (f : Option tree.Move)
     (value : tree.Expr) (a : Option tree.Move) (body : tree.Block) (entry : Option ℕ) (ex inner : Exits) (before p1 p2 p3 after : List Node)
-    → len ≡ size → first ≡ count_option f → advance ≡ count_option a → again + 1 ≡ len + 1 + first + 1 + advance
-    → entry ≡ block_first (len + 1 + first + 1 + advance) body (Some again) → inner ≡ in_loop again ex.next
-    → p1 ≡ before ++ part_nodes b s f (len + 1 + first) → size1 ≡ size + count_option f → p2 ≡ p1 ++ node b (Test (code_in s value)) entry ex.next ∷ []
-    → size2 ≡ size1 + 1
-    → p3 ≡ p2 ++ part_nodes b s a (len + 1 + first) → size3 ≡ size2 + count_option a → after ≡ p3 ++ block_nodes b vars s (size3 + 1) n body inner
+    → here ≡ size + 1 → first ≡ count_option f → advance ≡ count_option a → again + 1 ≡ here + first + 1 + advance
+    → entry ≡ block_first (here + first + 1 + advance) body (Some again) → inner ≡ in_loop again ex.next
+    → p1 ≡ before ++ part_nodes b s f (here + first) → size1 ≡ size + count_option f → s1 ≡ s
+    → p2 ≡ p1 ++ node b (Test (code_in s1 value)) entry ex.next ∷ [] → size2 ≡ size1 + 1 → s2 ≡ s1
+    → p3 ≡ p2 ++ part_nodes b s2 a (here + first) → size3 ≡ size2 + count_option a → s3 ≡ s2
+    → after ≡ p3 ++ block_nodes b vars s3 (size3 + 1) n body inner
     → after ≡ before ++ stmt_nodes b vars s (size + 1) n (tree.loop f value a body) ex
-for-written b vars s t size size1 size2 size3 n len first advance again f value a body entry ex inner before p1 p2 p3 after el ef ea eg ee ei e1 s1 e2 s2
-    e3 s3 e4 =
+for-written b vars s s1 s2 s3 size size1 size2 size3 n here first advance again f value a body entry ex inner before p1 p2 p3 after el ef ea eg ee ei e1
+    z1 n1 e2 z2 n2 e3 z3 n3 e4 =
     let at : ℕ = size + 1 in
-    let mark : len + 1 + first ≡ at + count_option f = omega (arith, el, ef) in
+    let mark : here + first ≡ at + count_option f = omega (arith, el, ef) in
     let same : again ≡ again_at at f a = again-is at first advance again f a ef ea (omega (arith, el, eg)) in
-    let place : len + 1 + first + 1 + advance ≡ inside_at at f a = omega (arith, el, ef, ea) in
-    let inside : size3 + 1 ≡ inside_at at f a = omega (arith, s1, s2, s3) in
+    let place : here + first + 1 + advance ≡ inside_at at f a = omega (arith, el, ef, ea) in
+    let inside : size3 + 1 ≡ inside_at at f a = omega (arith, z1, z2, z3) in
+    let second : s2 ≡ s = n2 ∙ n1 in
+    let third : s3 ≡ s = n3 ∙ n2 ∙ n1 in
     let opening : entry ≡ block_first (inside_at at f a) body (Some (again_at at f a)) = ee ∙ (λ i. block_first (place i) body (Some (same i))) in
     let leads : inner ≡ in_loop (again_at at f a) ex.next = ei ∙ ap (λ k. in_loop k ex.next) same in
     let xs : List Node = part_nodes b s f (at + count_option f) in
@@ -112,8 +157,8 @@ for-written b vars s t size size1 size2 size3 n len first advance again f value 
     let ys : List Node = part_nodes b s a (at + count_option f) in
     let zs : List Node = block_nodes b vars s (inside_at at f a) n body (in_loop (again_at at f a) ex.next) in
     e4
-    ∙ (λ i. (e3 ∙ (λ j. (e2 ∙ (λ l. (e1 ∙ ap (λ k. before ++ part_nodes b s f k) mark) l ++ node b (Test (code_in s value)) (opening l) ex.next ∷ [])) j
-    ++ part_nodes b s a (mark j))) i ++ block_nodes b vars s (inside i) n body (leads i))
+    ∙ (λ i. (e3 ∙ (λ j. (e2 ∙ (λ l. (e1 ∙ ap (λ k. before ++ part_nodes b s f k) mark) l ++ node b (Test (code_in (n1 l) value)) (opening l) ex.next ∷ [])) j
+    ++ part_nodes b (second j) a (mark j))) i ++ block_nodes b vars (third i) (inside i) n body (leads i))
     ∙ regroup before xs ys zs test
   where
     regroup : (us vs ws rs : List Node) (x : Node) → (((us ++ vs) ++ x ∷ []) ++ ws) ++ rs ≡ us ++ (vs ++ x ∷ (ws ++ rs))
@@ -121,15 +166,15 @@ for-written b vars s t size size1 size2 size3 n len first advance again f value 
         append_assoc ((us ++ vs) ++ x ∷ []) ws rs ∙ append_assoc (us ++ vs) (x ∷ []) (ws ++ rs) ∙ append_assoc us vs (x ∷ (ws ++ rs))
 
 -- an `if` with an `else`
-pub either-written : (b : ℕ) (vars : List Var) (s t : Scope) (size size1 n m len count : ℕ) (value : tree.Expr) (body other : tree.Block) (x : tree.Stmt)
+pub either-written : (b : ℕ) (vars : List Var) (s t : Scope) (size size1 n m here count : ℕ) (value : tree.Expr) (body other : tree.Block) (x : tree.Stmt)
     (second : Option ℕ) (ex : Exits) (before middle after : List Node)
-    → tree.either value body other ≡ x → len ≡ size → count ≡ count_block body → second ≡ block_first (len + 2 + count) other ex.next
+    → tree.either value body other ≡ x → here ≡ size + 1 → count ≡ count_block body → second ≡ block_first (here + 1 + count) other ex.next
     → middle ≡ before ++ (node b (Test (code_in s value)) (block_first (size + 1 + 1) body ex.next) second ∷ block_nodes b vars s (size + 1 + 1) n body
     ex) → size1 ≡ size + (1 + count_block body) → t ≡ s → m ≡ n + length (block_variables body)
     → after ≡ middle ++ block_nodes b vars t (size1 + 1) m other ex → after ≡ before ++ stmt_nodes b vars s (size + 1) n x ex
-either-written b vars s t size size1 n m len count value body other x second ex before middle after view el ec e2 em es et en ea =
+either-written b vars s t size size1 n m here count value body other x second ex before middle after view el ec e2 em es et en ea =
     let at : ℕ = size + 1 in
-    let behind : len + 2 + count ≡ at + (1 + count_block body) = omega (arith, el, ec) in
+    let behind : here + 1 + count ≡ at + (1 + count_block body) = omega (arith, el, ec) in
     let place : size1 + 1 ≡ at + (1 + count_block body) = omega (arith, es) in
     let opening : second ≡ block_first (at + (1 + count_block body)) other ex.next = e2 ∙ ap (λ k. block_first k other ex.next) behind in
     let xs : List Node = node b (Test (code_in s value)) (block_first (at + 1) body ex.next) (block_first (at + (1 + count_block body)) other ex.next)
@@ -142,14 +187,14 @@ either-written b vars s t size size1 n m len count value body other x second ex 
     ∙ ap (λ (y : tree.Stmt). before ++ stmt_nodes b vars s at n y ex) view
 
 -- the first of some statements
-pub stmts-turn : (b : ℕ) (vars : List Var) (s t : Scope) (size size' n m len count left : ℕ) (x : tree.Stmt) (xs : tree.Stmts) (next : Option ℕ)
+pub stmts-turn : (b : ℕ) (vars : List Var) (s t : Scope) (size size' n m here count left : ℕ) (x : tree.Stmt) (xs : tree.Stmts) (next : Option ℕ)
     (ex inner : Exits) (before after : List Node)
-    → len ≡ size → count ≡ count_stmt x → left ≡ count_stmts xs → next ≡ first_if left (len + 1 + count) ex.next → inner ≡ exits_to next ex
+    → here ≡ size + 1 → count ≡ count_stmt x → left ≡ count_stmts xs → next ≡ first_if left (here + count) ex.next → inner ≡ exits_to next ex
     → after ≡ before ++ stmt_nodes b vars s (size + 1) n x inner → size' ≡ size + count_stmt x → t ≡ s → m ≡ n + length (stmt_variables x)
     → after ++ stmts_nodes b vars t (size' + 1) m xs ex ≡ before ++ stmts_nodes b vars s (size + 1) n (tree.also x xs) ex
-stmts-turn b vars s t size size' n m len count left x xs next ex inner before after el ec ef ex1 ei ea es et en =
+stmts-turn b vars s t size size' n m here count left x xs next ex inner before after el ec ef ex1 ei ea es et en =
     let at : ℕ = size + 1 in
-    let behind : len + 1 + count ≡ at + count_stmt x = omega (arith, el, ec) in
+    let behind : here + count ≡ at + count_stmt x = omega (arith, el, ec) in
     let place : size' + 1 ≡ at + count_stmt x = omega (arith, es) in
     let leads : inner ≡ exits_to (first_if (count_stmts xs) (at + count_stmt x) ex.next) ex = ei
     ∙ ap (λ o. exits_to o ex) (ex1 ∙ (λ i. first_if (ef i) (behind i) ex.next)) in

@@ -2,7 +2,6 @@ pub mod Pass
 pub mod Outer
 pub use Rattle.cilk_load_layout.specs as layout
 pub use Rattle.cilk_load_layout.specs.canonical
-pub use Rattle.cilk_load_layout.specs.check
 pub use Rattle.cilk_load_layout.specs.eval
 pub use Rattle.cilk_load_layout.specs.labelled
 pub use Rattle.cilk_load_layout.specs.model

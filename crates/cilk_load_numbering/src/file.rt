@@ -47,7 +47,37 @@ fn count_of(length: usize) -> Result<u32, NoRoom>
     u32::try_from(length).map_err(|_| NoRoom::TooLarge)
 }
 
-// What comes before an item is answered, of what comes behind it.
+fn less(count: u32, by: u32) -> Result<u32, NoRoom>
+    ensures { IfOk result (λ left. left + by ≡ count) }
+{
+    count.checked_sub(by).ok_or(NoRoom::TooLarge)
+}
+
+// What comes before an item, of what comes behind it.
+fn before_item(behind: Before, item: &Item) -> Result<Before, NoRoom>
+    ensures globals { IfOk result (λ b. b.globals + length (item_globals item.now) ≡ behind.globals) }
+    ensures locks { IfOk result (λ b. b.locks + length (item_locks item.now) ≡ behind.locks) }
+    ensures bodies { IfOk result (λ b. b.bodies + body_count item.now ≡ behind.bodies) }
+{
+    match &item.node {
+        ItemNode::Global(_) => {
+            let globals = less(behind.globals, 1)?;
+            Ok(Before { globals, ..behind })
+        }
+        ItemNode::Lock(_) => {
+            let locks = less(behind.locks, 1)?;
+            Ok(Before { locks, ..behind })
+        }
+        ItemNode::Prototype(_) => Ok(behind),
+        ItemNode::Procedure(definition) => {
+            let count = bodies_behind(0, definition)?;
+            let bodies = less(behind.bodies, count)?;
+            Ok(Before { bodies, ..behind })
+        }
+    }
+}
+
+// Declares what an item does, and answers what comes before it.
 fn declare_item<'a>(
     names: &mut SymbolTable<'a>,
     globals: &[Var],
@@ -60,26 +90,20 @@ fn declare_item<'a>(
     ensures locks { IfOk result (λ b. b.locks + length (item_locks item.now) ≡ behind.locks) }
     ensures bodies { IfOk result (λ b. b.bodies + body_count item.now ≡ behind.bodies) }
 {
+    let before = before_item(behind, item)?;
     match &item.node {
         ItemNode::Global(definition) => {
-            let globals_before = behind.globals.checked_sub(1).ok_or(NoRoom::TooLarge)?;
-            names.declare(&definition.name, known_var(globals, globals_before))?;
-            Ok(Before {
-                globals: globals_before,
-                ..behind
-            })
+            names.declare(&definition.name, known_var(globals, before.globals))?;
+            Ok(before)
         }
         ItemNode::Lock(name) => {
-            let locks = behind.locks.checked_sub(1).ok_or(NoRoom::TooLarge)?;
-            names.declare(name, known_number(locks))?;
-            Ok(Before { locks, ..behind })
+            names.declare(name, known_number(before.locks))?;
+            Ok(before)
         }
-        ItemNode::Prototype(_) => Ok(behind),
+        ItemNode::Prototype(_) => Ok(before),
         ItemNode::Procedure(definition) => {
-            let count = bodies_behind(0, definition)?;
-            let bodies = behind.bodies.checked_sub(count).ok_or(NoRoom::TooLarge)?;
-            names.declare(&definition.name, known_number(bodies))?;
-            Ok(Before { bodies, ..behind })
+            names.declare(&definition.name, known_number(before.bodies))?;
+            Ok(before)
         }
     }
 }

@@ -6,13 +6,13 @@ mod file;
 mod nodes;
 mod numbering;
 mod outer;
+mod pass;
 mod single;
-mod site;
 
 pub use cilk_load_layout::{
-    Action, Body, Checked, Codes, LockAction, MAX_ACTIONS, Memory, Name, NoRoom, Node, Owner,
-    Program, SlotPlace, Slots, Taker, Target, Text, Trap, Var, Vars, action_lines, bodies_of,
-    canonical, count_items, eval, globals_of, locks_of, place_of_main,
+    Action, Body, Codes, LockAction, MAX_ACTIONS, Memory, Name, NoRoom, Node, Owner, Program,
+    SlotPlace, Slots, Taker, Target, Text, Trap, Var, Vars, action_lines, bodies_of, canonical,
+    count_items, eval, globals_of, locks_of, place_of_main,
 };
 pub use exits::Exits;
 pub use nodes::nodes_of;

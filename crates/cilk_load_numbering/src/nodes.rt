@@ -6,9 +6,8 @@ ghost use Rattle.cilk_load_layout.specs.nodes.Plain.{PlainItems};
 ghost use Rattle.cilk_load_numbering.specs.Outer.{globals_count, locks_count, bodies_count, items_nodes, file_scope};
 
 use crate::file::declare_file;
-use crate::outer::put_items;
+use crate::pass::Pass;
 use cilk_load_layout::{Body, NoRoom, Node, Program, Var};
-use cilk_load_names::SymbolTable;
 use std::alloc::Global;
 
 /// The nodes of the actions of a program, in the order of the text, over the tables of its variables, locks and bodies.
@@ -27,9 +26,8 @@ pub fn nodes_of(
     ensures nodes { IfOk result (λ nodes. nodes.items ≡ items_nodes bodies.now 0 (file_scope globals.now program.now.items) 1 program.now.items) }
     ensures len { IfOk result (λ nodes. vec_len nodes ≡ count_program program.now) }
 {
-    let mut nodes = Vec::new(alloc);
-    let mut names = SymbolTable::new(alloc);
-    declare_file(&mut names, globals, locks, bodies, &program.items)?;
-    put_items(alloc, &mut nodes, &mut names, bodies, &program.items)?;
-    Ok(nodes)
+    let mut pass = Pass::new(alloc);
+    declare_file(&mut pass.names, globals, locks, bodies, &program.items)?;
+    pass.put_items(bodies, &program.items)?;
+    Ok(pass.nodes)
 }

@@ -16,15 +16,13 @@ ghost use Rattle.cilk_load_numbering.specs.Outer.{vars_at, body_exits, words_sco
 ghost use Rattle.cilk_load_numbering.specs.Outer.{inlet_nodes, outer_nodes, outer_scope, body_nodes, item_nodes, items_nodes};
 
 use crate::exits::Exits;
-use crate::numbering::{known_var, put_block, put_decl, put_stmts};
-use crate::single::put_onward;
-use crate::site::Site;
+use crate::numbering::known_var;
+use crate::pass::{Pass, Site};
 use cilk_load_layout::{
-    Action, Block, Body, Inlet, Item, ItemNode, Local, LocalNode, NoRoom, Node, Parameters, Proc,
-    Var, Word, actions_in, actions_of_locals, actions_of_stmts, first_if,
+    Action, Block, Body, Inlet, Item, ItemNode, Local, LocalNode, NoRoom, Parameters, Proc, Var,
+    Word, actions_in, actions_of_locals, actions_of_stmts, first_if,
 };
 use cilk_load_names::{Binding, SymbolTable, nowhere};
-use std::alloc::Global;
 
 /// What stands for a lock or a body.
 pub(crate) fn known_number(number: u32) -> Binding
@@ -92,161 +90,165 @@ fn put_parameters<'a>(
     }
 }
 
-// An inlet, whose body is body k, where its name is visible.
-fn put_inlet<'a>(
-    alloc: Global,
-    nodes: &mut Vec<Node>,
-    names: &mut SymbolTable<'a>,
-    bodies: &[Body],
-    k: u32,
-    parameters: &'a [Word],
-    body: &'a Block,
-) -> Result<(), NoRoom>
-    requires room { vec_len nodes.old + count_block body.now ≤ 65534 }
-    requires plain { PlainBlock body.now }
-    ensures nodes { OnOk result (nodes.new.items ≡ nodes.old.items
-        ++ inlet_nodes bodies.now k names.old (vec_len nodes.old + 1) parameters.now body.now) }
-    ensures len { OnOk result (vec_len nodes.new ≡ vec_len nodes.old + (count_block body.now + 1)) }
-    ensures names { OnOk result (names.new ≡ names.old) }
-{
-    let site = Site {
-        body: k,
-        vars: vars_at(bodies, k),
-    };
-    let exits = body_exits(nodes.len() as u32 + 1 + actions_in(body));
-    let outer = names.enter();
-    let n = put_words(names, site.vars, 0, parameters)?;
-    put_block(alloc, nodes, names, site, n, body, exits)?;
-    put_onward(nodes, k, Action::Close, None)?;
-    names.forget(parameters.len())?;
-    names.leave(outer)?;
-    Ok(())
-}
+impl<'a> Pass<'a> {
+    // An inlet, whose body is body k, where its name is visible.
+    fn put_inlet(
+        &mut self,
+        bodies: &[Body],
+        k: u32,
+        parameters: &'a [Word],
+        body: &'a Block,
+    ) -> Result<(), NoRoom>
+        requires room { vec_len self.old.nodes + count_block body.now ≤ 65534 }
+        requires plain { PlainBlock body.now }
+        ensures nodes { OnOk result (self.new.nodes.items ≡ self.old.nodes.items
+            ++ inlet_nodes bodies.now k self.old.names (vec_len self.old.nodes + 1) parameters.now body.now) }
+        ensures len { OnOk result (vec_len self.new.nodes ≡ vec_len self.old.nodes + (count_block body.now + 1)) }
+        ensures names { OnOk result (self.new.names ≡ self.old.names) }
+    {
+        let site = Site {
+            body: k,
+            vars: vars_at(bodies, k),
+        };
+        let exits = body_exits(self.at() + actions_in(body));
+        let outer = self.names.enter();
+        let n = put_words(&mut self.names, site.vars, 0, parameters)?;
+        self.put_block(site, n, body, exits)?;
+        self.put_onward(k, Action::Close, None)?;
+        self.names.forget(parameters.len())?;
+        self.names.leave(outer)?;
+        Ok(())
+    }
 
-// An inlet and its name, which remains visible. The number of the next inlet's body is answered.
-fn put_named_inlet<'a>(
-    alloc: Global,
-    nodes: &mut Vec<Node>,
-    names: &mut SymbolTable<'a>,
-    bodies: &[Body],
-    k: u32,
-    inlet: &'a Inlet,
-) -> Result<u32, NoRoom>
-    requires room { vec_len nodes.old + count_block inlet.now.body ≤ 65534 }
-    requires plain { PlainBlock inlet.now.body }
-    ensures nodes { OnOk result (nodes.new.items ≡ nodes.old.items
-        ++ inlet_nodes bodies.now k (declared names.old (known_number k inlet.now.name)) (vec_len nodes.old + 1) inlet.now.parameters.items inlet.now.body) }
-    ensures len { OnOk result (vec_len nodes.new ≡ vec_len nodes.old + (count_block inlet.now.body + 1)) }
-    ensures names { OnOk result (names.new ≡ declared names.old (known_number k inlet.now.name)) }
-    ensures after { IfOk result (λ after. after ≡ k + 1) }
-{
-    names.declare(&inlet.name, known_number(k))?;
-    let parameters = &inlet.parameters;
-    put_inlet(alloc, nodes, names, bodies, k, parameters, &inlet.body)?;
-    k.checked_add(1).ok_or(NoRoom::TooLarge)
-}
+    // An inlet and its name, which remains visible. The number of the next inlet's body is answered.
+    fn put_named_inlet(&mut self, bodies: &[Body], k: u32, inlet: &'a Inlet) -> Result<u32, NoRoom>
+        requires room { vec_len self.old.nodes + count_block inlet.now.body ≤ 65534 }
+        requires plain { PlainBlock inlet.now.body }
+        ensures nodes { OnOk result (self.new.nodes.items ≡ self.old.nodes.items
+            ++ inlet_nodes bodies.now k (declared self.old.names (known_number k inlet.now.name)) (vec_len self.old.nodes + 1)
+            inlet.now.parameters.items inlet.now.body) }
+        ensures len { OnOk result (vec_len self.new.nodes ≡ vec_len self.old.nodes + (count_block inlet.now.body + 1)) }
+        ensures names { OnOk result (self.new.names ≡ declared self.old.names (known_number k inlet.now.name)) }
+        ensures after { IfOk result (λ after. after ≡ k + 1) }
+    {
+        self.names.declare(&inlet.name, known_number(k))?;
+        self.put_inlet(bodies, k, &inlet.parameters, &inlet.body)?;
+        k.checked_add(1).ok_or(NoRoom::TooLarge)
+    }
 
-// The declarations of the outermost block of a body, whose next inlet has body k. They remain visible.
-fn put_locals<'a>(
-    alloc: Global,
-    nodes: &mut Vec<Node>,
-    names: &mut SymbolTable<'a>,
-    bodies: &[Body],
-    b: u32,
-    k: u32,
-    n: u32,
-    locals: &'a [Local],
-    next: Option<u32>,
-) -> Result<u32, NoRoom>
-    requires room { vec_len nodes.old + count_locals (locals_of locals.now) ≤ 65534 }
-    requires plain { OuterLocals (locals_of locals.now) }
-    ensures nodes { OnOk result (nodes.new.items ≡ nodes.old.items
-        ++ outer_nodes bodies.now b k names.old (vec_len nodes.old + 1) n (locals_of locals.now) next) }
-    ensures len { OnOk result (vec_len nodes.new ≡ vec_len nodes.old + count_locals (locals_of locals.now)) }
-    ensures names { OnOk result (names.new ≡ outer_scope (vars_at bodies.now b) k n (locals_of locals.now) names.old) }
-    ensures after { IfOk result (λ m. m ≡ n + length (locals_variables (locals_of locals.now))) }
-{
-    let site = Site {
-        body: b,
-        vars: vars_at(bodies, b),
-    };
-    let mut k = k;
-    let mut n = n;
-    for (i, local) in locals.iter().enumerate() {
-        match &local.node {
-            LocalNode::Decl(decl) => {
-                n = put_decl(alloc, nodes, names, site, n, decl, &locals[i + 1..], next)?;
-            }
-            LocalNode::Inlet(inlet) => {
-                k = put_named_inlet(alloc, nodes, names, bodies, k, inlet)?;
+    // The declarations of the outermost block of a body, whose next inlet has body k. They remain visible.
+    fn put_outer_locals(
+        &mut self,
+        bodies: &[Body],
+        b: u32,
+        k: u32,
+        n: u32,
+        locals: &'a [Local],
+        next: Option<u32>,
+    ) -> Result<u32, NoRoom>
+        requires room { vec_len self.old.nodes + count_locals (locals_of locals.now) ≤ 65534 }
+        requires plain { OuterLocals (locals_of locals.now) }
+        ensures nodes { OnOk result (self.new.nodes.items ≡ self.old.nodes.items
+            ++ outer_nodes bodies.now b k self.old.names (vec_len self.old.nodes + 1) n (locals_of locals.now) next) }
+        ensures len { OnOk result (vec_len self.new.nodes ≡ vec_len self.old.nodes + count_locals (locals_of locals.now)) }
+        ensures names { OnOk result (self.new.names ≡ outer_scope (vars_at bodies.now b) k n (locals_of locals.now) self.old.names) }
+        ensures after { IfOk result (λ m. m ≡ n + length (locals_variables (locals_of locals.now))) }
+    {
+        let site = Site {
+            body: b,
+            vars: vars_at(bodies, b),
+        };
+        let mut k = k;
+        let mut n = n;
+        for (i, local) in locals.iter().enumerate() {
+            match &local.node {
+                LocalNode::Decl(decl) => {
+                    n = self.put_decl(site, n, decl, &locals[i + 1..], next)?;
+                }
+                LocalNode::Inlet(inlet) => {
+                    k = self.put_named_inlet(bodies, k, inlet)?;
+                }
             }
         }
+        Ok(n)
     }
-    Ok(n)
-}
 
-// Body b, of which n variables are parameters, which are visible.
-fn put_body<'a>(
-    alloc: Global,
-    nodes: &mut Vec<Node>,
-    names: &mut SymbolTable<'a>,
-    bodies: &[Body],
-    b: u32,
-    n: u32,
-    block: &'a Block,
-) -> Result<(), NoRoom>
-    requires room { vec_len nodes.old + count_block block.now ≤ 65534 }
-    requires plain { OuterBlock block.now }
-    ensures nodes { OnOk result (nodes.new.items ≡ nodes.old.items ++ body_nodes bodies.now b names.old (vec_len nodes.old + 1) n block.now) }
-    ensures len { OnOk result (vec_len nodes.new ≡ vec_len nodes.old + (count_block block.now + 1)) }
-    ensures names { OnOk result (names.new ≡ names.old) }
-{
-    let middle = nodes.len() as u32 + 1 + actions_of_locals(&block.locals);
-    let stmts = actions_of_stmts(&block.stmts);
-    let closing = middle + stmts;
-    let first = first_if(stmts, middle, Some(closing));
-    let k = b.checked_add(1).ok_or(NoRoom::TooLarge)?;
-    let site = Site {
-        body: b,
-        vars: vars_at(bodies, b),
-    };
-    let n = put_locals(alloc, nodes, names, bodies, b, k, n, &block.locals, first)?;
-    put_stmts(
-        alloc,
-        nodes,
-        names,
-        site,
-        n,
-        &block.stmts,
-        body_exits(closing),
-    )?;
-    put_onward(nodes, b, Action::Close, None)?;
-    names.forget(block.locals.len())?;
-    Ok(())
-}
+    // Body b, of which n variables are parameters, which are visible.
+    fn put_body(&mut self, bodies: &[Body], b: u32, n: u32, block: &'a Block) -> Result<(), NoRoom>
+        requires room { vec_len self.old.nodes + count_block block.now ≤ 65534 }
+        requires plain { OuterBlock block.now }
+        ensures nodes { OnOk result (self.new.nodes.items ≡ self.old.nodes.items
+            ++ body_nodes bodies.now b self.old.names (vec_len self.old.nodes + 1) n block.now) }
+        ensures len { OnOk result (vec_len self.new.nodes ≡ vec_len self.old.nodes + (count_block block.now + 1)) }
+        ensures names { OnOk result (self.new.names ≡ self.old.names) }
+    {
+        let middle = self.at() + actions_of_locals(&block.locals);
+        let stmts = actions_of_stmts(&block.stmts);
+        let closing = middle + stmts;
+        let first = first_if(stmts, middle, Some(closing));
+        let k = b.checked_add(1).ok_or(NoRoom::TooLarge)?;
+        let site = Site {
+            body: b,
+            vars: vars_at(bodies, b),
+        };
+        let n = self.put_outer_locals(bodies, b, k, n, &block.locals, first)?;
+        self.put_stmts(site, n, &block.stmts, body_exits(closing))?;
+        self.put_onward(b, Action::Close, None)?;
+        self.names.forget(block.locals.len())?;
+        Ok(())
+    }
 
-fn put_procedure<'a>(
-    alloc: Global,
-    nodes: &mut Vec<Node>,
-    names: &mut SymbolTable<'a>,
-    bodies: &[Body],
-    b: u32,
-    definition: &'a Proc,
-) -> Result<(), NoRoom>
-    requires room { vec_len nodes.old + count_item (tree.procedure definition.now) ≤ 65535 }
-    requires plain { PlainItem (tree.procedure definition.now) }
-    ensures nodes { OnOk result (nodes.new.items ≡ nodes.old.items
-        ++ item_nodes bodies.now b names.old (vec_len nodes.old + 1) (tree.procedure definition.now)) }
-    ensures len { OnOk result (vec_len nodes.new ≡ vec_len nodes.old + count_item (tree.procedure definition.now)) }
-    ensures names { OnOk result (names.new ≡ names.old) }
-{
-    let outer = names.enter();
-    let vars = vars_at(bodies, b);
-    let n = put_parameters(names, vars, &definition.parameters)?;
-    put_body(alloc, nodes, names, bodies, b, n, &definition.body)?;
-    names.forget(names_of(&definition.parameters))?;
-    names.leave(outer)?;
-    Ok(())
+    fn put_procedure(&mut self, bodies: &[Body], b: u32, definition: &'a Proc) -> Result<(), NoRoom>
+        requires room { vec_len self.old.nodes + count_item (tree.procedure definition.now) ≤ 65535 }
+        requires plain { PlainItem (tree.procedure definition.now) }
+        ensures nodes { OnOk result (self.new.nodes.items ≡ self.old.nodes.items
+            ++ item_nodes bodies.now b self.old.names (vec_len self.old.nodes + 1) (tree.procedure definition.now)) }
+        ensures len { OnOk result (vec_len self.new.nodes ≡ vec_len self.old.nodes + count_item (tree.procedure definition.now)) }
+        ensures names { OnOk result (self.new.names ≡ self.old.names) }
+    {
+        let outer = self.names.enter();
+        let vars = vars_at(bodies, b);
+        let n = put_parameters(&mut self.names, vars, &definition.parameters)?;
+        self.put_body(bodies, b, n, &definition.body)?;
+        self.names.forget(names_of(&definition.parameters))?;
+        self.names.leave(outer)?;
+        Ok(())
+    }
+
+    fn put_item(&mut self, bodies: &[Body], b: u32, item: &'a Item) -> Result<u32, NoRoom>
+        requires room { vec_len self.old.nodes + count_item item.now ≤ 65535 }
+        requires plain { PlainItem item.now }
+        ensures nodes { OnOk result (self.new.nodes.items ≡ self.old.nodes.items
+            ++ item_nodes bodies.now b self.old.names (vec_len self.old.nodes + 1) item.now) }
+        ensures len { OnOk result (vec_len self.new.nodes ≡ vec_len self.old.nodes + count_item item.now) }
+        ensures names { OnOk result (self.new.names ≡ self.old.names) }
+        ensures after { IfOk result (λ after. after ≡ b + body_count item.now) }
+    {
+        match &item.node {
+            ItemNode::Procedure(definition) => {
+                self.put_procedure(bodies, b, definition)?;
+                bodies_behind(b, definition)
+            }
+            ItemNode::Global(_) => Ok(b),
+            ItemNode::Lock(_) => Ok(b),
+            ItemNode::Prototype(_) => Ok(b),
+        }
+    }
+
+    /// Appends the nodes of these items, where the names of the file are visible.
+    pub(crate) fn put_items(&mut self, bodies: &[Body], items: &'a [Item]) -> Result<(), NoRoom>
+        requires room { vec_len self.old.nodes + count_items items.now ≤ 65535 }
+        requires plain { PlainItems items.now }
+        ensures nodes { OnOk result (self.new.nodes.items ≡ self.old.nodes.items
+            ++ items_nodes bodies.now 0 self.old.names (vec_len self.old.nodes + 1) items.now) }
+        ensures len { OnOk result (vec_len self.new.nodes ≡ vec_len self.old.nodes + count_items items.now) }
+    {
+        let mut b = 0;
+        for item in items {
+            b = self.put_item(bodies, b, item)?;
+        }
+        Ok(())
+    }
 }
 
 // How many names parameters are.
@@ -256,32 +258,6 @@ fn names_of(parameters: &Parameters) -> usize
     match parameters {
         Parameters::Ints(words) => words.len(),
         Parameters::CommandLine(_, _) => 2,
-    }
-}
-
-fn put_item<'a>(
-    alloc: Global,
-    nodes: &mut Vec<Node>,
-    names: &mut SymbolTable<'a>,
-    bodies: &[Body],
-    b: u32,
-    item: &'a Item,
-) -> Result<u32, NoRoom>
-    requires room { vec_len nodes.old + count_item item.now ≤ 65535 }
-    requires plain { PlainItem item.now }
-    ensures nodes { OnOk result (nodes.new.items ≡ nodes.old.items ++ item_nodes bodies.now b names.old (vec_len nodes.old + 1) item.now) }
-    ensures len { OnOk result (vec_len nodes.new ≡ vec_len nodes.old + count_item item.now) }
-    ensures names { OnOk result (names.new ≡ names.old) }
-    ensures after { IfOk result (λ after. after ≡ b + body_count item.now) }
-{
-    match &item.node {
-        ItemNode::Procedure(definition) => {
-            put_procedure(alloc, nodes, names, bodies, b, definition)?;
-            bodies_behind(b, definition)
-        }
-        ItemNode::Global(_) => Ok(b),
-        ItemNode::Lock(_) => Ok(b),
-        ItemNode::Prototype(_) => Ok(b),
     }
 }
 
@@ -298,24 +274,4 @@ pub(crate) fn bodies_behind(b: u32, definition: &Proc) -> Result<u32, NoRoom>
         }
     }
     Ok(after)
-}
-
-/// Appends the nodes of these items, where the names of the file are visible.
-pub(crate) fn put_items<'a>(
-    alloc: Global,
-    nodes: &mut Vec<Node>,
-    names: &mut SymbolTable<'a>,
-    bodies: &[Body],
-    items: &'a [Item],
-) -> Result<(), NoRoom>
-    requires room { vec_len nodes.old + count_items items.now ≤ 65535 }
-    requires plain { PlainItems items.now }
-    ensures nodes { OnOk result (nodes.new.items ≡ nodes.old.items ++ items_nodes bodies.now 0 names.old (vec_len nodes.old + 1) items.now) }
-    ensures len { OnOk result (vec_len nodes.new ≡ vec_len nodes.old + count_items items.now) }
-{
-    let mut b = 0;
-    for item in items {
-        b = put_item(alloc, nodes, names, bodies, b, item)?;
-    }
-    Ok(())
 }

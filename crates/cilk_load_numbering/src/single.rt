@@ -7,74 +7,95 @@ ghost use Rattle.cilk_load_names.specs.Acts.{code_in, action_in};
 ghost use Rattle.cilk_load_numbering.specs.Pass.{node, onward, part_nodes, behind, single_nodes};
 
 use crate::exits::Exits;
+use crate::pass::Pass;
 use cilk_load_layout::{Action, Expr, Move, NoRoom, Node, Stmt, StmtNode};
-use cilk_load_names::{SymbolTable, action_in, code_in, move_in};
-use std::alloc::Global;
+use cilk_load_names::{action_in, code_in, move_in};
 
-/// The first part or the advance of a `for`, if there is one.
-pub(crate) fn put_part(
-    alloc: Global,
-    nodes: &mut Vec<Node>,
-    names: &SymbolTable,
-    body: u32,
-    part: &Option<Move>,
-    mark: u32,
-) -> Result<(), NoRoom>
-    ensures nodes { OnOk result (nodes.new.items ≡ nodes.old.items ++ part_nodes body names.now part.now mark) }
-    ensures len { OnOk result (vec_len nodes.new ≡ vec_len nodes.old + count_option part.now) }
-{
-    match part {
-        None => Ok(()),
-        Some(what) => {
-            let action = move_in(alloc, names, what)?;
-            put_onward(nodes, body, action, Some(mark))
+impl<'a> Pass<'a> {
+    /// The first part or the advance of a `for`, if there is one.
+    pub(crate) fn put_part(
+        &mut self,
+        body: u32,
+        part: &Option<Move>,
+        mark: u32,
+    ) -> Result<(), NoRoom>
+        ensures nodes { OnOk result (self.new.nodes.items ≡ self.old.nodes.items ++ part_nodes body self.old.names part.now mark) }
+        ensures len { OnOk result (vec_len self.new.nodes ≡ vec_len self.old.nodes + count_option part.now) }
+        ensures names { OnOk result (self.new.names ≡ self.old.names) }
+    {
+        match part {
+            None => Ok(()),
+            Some(what) => {
+                let action = move_in(self.alloc, &self.names, what)?;
+                self.put_onward(body, action, Some(mark))
+            }
         }
     }
-}
 
-/// A test, behind which one list comes where it is not 0, and another where it is.
-pub(crate) fn put_test(
-    alloc: Global,
-    nodes: &mut Vec<Node>,
-    names: &SymbolTable,
-    body: u32,
-    test: &Expr,
-    next: Option<u32>,
-    other: Option<u32>,
-) -> Result<(), NoRoom>
-    ensures nodes { OnOk result (nodes.new.items ≡ nodes.old.items ++ node body (Test (code_in names.now test.now)) next other ∷ []) }
-    ensures len { OnOk result (vec_len nodes.new ≡ vec_len nodes.old + 1) }
-{
-    let action = Action::Test(code_in(alloc, names, test)?);
-    nodes.push(Node {
-        action,
-        next,
-        other,
-        body,
-    })?;
-    Ok(())
-}
+    /// A test, behind which one list comes where it is not 0, and another where it is.
+    pub(crate) fn put_test(
+        &mut self,
+        body: u32,
+        test: &Expr,
+        next: Option<u32>,
+        other: Option<u32>,
+    ) -> Result<(), NoRoom>
+        ensures nodes { OnOk result (self.new.nodes.items
+            ≡ self.old.nodes.items ++ node body (Test (code_in self.old.names test.now)) next other ∷ []) }
+        ensures len { OnOk result (vec_len self.new.nodes ≡ vec_len self.old.nodes + 1) }
+        ensures names { OnOk result (self.new.names ≡ self.old.names) }
+    {
+        let action = Action::Test(code_in(self.alloc, &self.names, test)?);
+        self.nodes.push(Node {
+            action,
+            next,
+            other,
+            body,
+        })?;
+        Ok(())
+    }
 
-/// Appends the node of a statement that is one action, and nothing for another one.
-pub(crate) fn put_single(
-    alloc: Global,
-    nodes: &mut Vec<Node>,
-    names: &SymbolTable,
-    body: u32,
-    n: u32,
-    stmt: &Stmt,
-    exits: Exits,
-) -> Result<u32, NoRoom>
-    ensures nodes { OnOk result (nodes.new.items ≡ nodes.old.items ++ single_nodes body (action_in names.now stmt.now) (behind stmt.now exits)) }
-    ensures len { OnOk result (vec_len nodes.new ≡ vec_len nodes.old + count_option (action_in names.now stmt.now)) }
-    ensures after { IfOk result (λ m. m ≡ n) }
-{
-    match action_in(alloc, names, stmt)? {
-        None => Ok(n),
-        Some(action) => {
-            put_onward(nodes, body, action, behind(stmt, exits))?;
-            Ok(n)
+    /// Appends the node of a statement that is one action, and nothing for another one.
+    pub(crate) fn put_single(
+        &mut self,
+        body: u32,
+        n: u32,
+        stmt: &Stmt,
+        exits: Exits,
+    ) -> Result<u32, NoRoom>
+        ensures nodes { OnOk result (self.new.nodes.items
+            ≡ self.old.nodes.items ++ single_nodes body (action_in self.old.names stmt.now) (behind stmt.now exits)) }
+        ensures len { OnOk result (vec_len self.new.nodes ≡ vec_len self.old.nodes + count_option (action_in self.old.names stmt.now)) }
+        ensures names { OnOk result (self.new.names ≡ self.old.names) }
+        ensures after { IfOk result (λ m. m ≡ n) }
+    {
+        match action_in(self.alloc, &self.names, stmt)? {
+            None => Ok(n),
+            Some(action) => {
+                self.put_onward(body, action, behind(stmt, exits))?;
+                Ok(n)
+            }
         }
+    }
+
+    /// Appends an action behind which one list comes.
+    pub(crate) fn put_onward(
+        &mut self,
+        body: u32,
+        action: Action,
+        next: Option<u32>,
+    ) -> Result<(), NoRoom>
+        ensures nodes { OnOk result (self.new.nodes.items ≡ self.old.nodes.items ++ onward body action next ∷ []) }
+        ensures len { OnOk result (vec_len self.new.nodes ≡ vec_len self.old.nodes + 1) }
+        ensures names { OnOk result (self.new.names ≡ self.old.names) }
+    {
+        self.nodes.push(Node {
+            action,
+            next,
+            other: next,
+            body,
+        })?;
+        Ok(())
     }
 }
 
@@ -87,23 +108,4 @@ fn behind(stmt: &Stmt, exits: Exits) -> Option<u32>
         StmtNode::Return(_, _) => None,
         _ => exits.next,
     }
-}
-
-/// Appends an action behind which one list comes.
-pub(crate) fn put_onward(
-    nodes: &mut Vec<Node>,
-    body: u32,
-    action: Action,
-    next: Option<u32>,
-) -> Result<(), NoRoom>
-    ensures nodes { OnOk result (nodes.new.items ≡ nodes.old.items ++ onward body action next ∷ []) }
-    ensures len { OnOk result (vec_len nodes.new ≡ vec_len nodes.old + 1) }
-{
-    nodes.push(Node {
-        action,
-        next,
-        other: next,
-        body,
-    })?;
-    Ok(())
 }

@@ -1,7 +1,7 @@
 -- A choice that is made leads on with every list of choices.
 use Rattle.std.proofs.Common.{◌≡◌, ℕ, suc, ◌+◌, ◌≤◌, List, [], ◌∷◌, ◌++◌, length, Option, Some, None, is_none, is_some, refl, sym, ap, ◌∙◌, subst}
 use Rattle.std.proofs.Common.{length-append, arith, if◌then◌else◌}
-use Rattle.cilk_machine_carry.specs.check.Fault.{WellFormed}
+use Rattle.cilk_machine_carry.specs.agree.scopes.WellFormed.{WellFormed}
 use Rattle.cilk_machine_carry.specs.labelled.Bodies.{label}
 use Rattle.cilk_machine_choices.specs.model.Choice as model
 use Rattle.cilk_machine_choices.specs.model.Event as event
@@ -9,7 +9,7 @@ use Rattle.cilk_machine_choices.specs.model.Event.{Event}
 use Rattle.cilk_machine_choices.specs.model.Instance.{Instance}
 use Rattle.cilk_machine_choices.specs.model.Run.{Standing, after, one_more, position_after, next_of, event_of}
 use Rattle.cilk_machine_choices.specs.model.Places.{popped_by, stolen_by}
-use Rattle.cilk_machine_carry.proofs.placed_laws.Runs.{after-push}
+use Rattle.cilk_machine_carry.proofs.placed_laws.model_laws.Runs.{after-push}
 use Rattle.cilk_machine_carry.proofs.placed_laws.Crew.{crew_stays}
 use Rattle.cilk_machine_carry.proofs.placed_laws.Fates.{the_living_live, each_choice_is_an_event}
 use Rattle.cilk_machine_carry.specs.agree.FateLaws.{LivingAreTold}
@@ -25,9 +25,9 @@ use Rattle.cilk_machine_choices.specs.declared.act.Act.TheVariants.{Pop, Steal}
 use Rattle.cilk_machine_choices.specs.declared.outcome.Outcome.{Outcome}
 use Rattle.cilk_machine_choices.specs.Words.{choice_of, outcome_of}
 use Rattle.cilk_machine.specs.Situation.{Situation, workers_of}
-use Rattle.cilk_machine.specs.Stands.{Led, StandsAt, IsSound}
+use Rattle.cilk_machine.specs.Stands.{Led, IsSound}
 use Rattle.cilk_machine.specs.Refused.{refused_by}
-use Rattle.cilk_machine.specs.Made.{refused, Leads, Makes}
+use Rattle.cilk_machine.specs.Made.{refused, Leads, Makes, Does}
 use Rattle.cilk_machine.proofs.Refusals.{reason_by, refusal-is}
 
 -- the machine after a choice
@@ -128,12 +128,16 @@ module _ (m : Situation) (now : MachineParts) (outcome : Outcome) (choice : mode
       }
 
 -- what is done goes by another name
-pub told-as : (m n : Situation) (choice : model.Choice) (did other : Event) → Makes m n choice did
-    → ((at : Standing) → StandsAt m at → other ≡ event_of (label m.program) at choice) → IsSound m → Makes m n choice other
-told-as m n choice did other made same sound =
-    let made_is = made.leads sound.stands.choices sound.stands.events sound.at sound.stands.led in
-    let is : did ≡ other = made_is.event ∙ sym (same sound.at sound.stands) in
-    subst (Makes m n choice) is made
+pub told-as : (m n : Situation) (choice : model.Choice) (did other : Event) → Makes m n choice did → Does m choice other → Makes m n choice other
+told-as m n choice did other made does = record {
+  program = made.program;
+  workers = made.workers;
+  choices = made.choices;
+  leads = λ choices events at h.
+      let leads = made.leads choices events at h in
+      let same : did ≡ other = leads.event ∙ sym (does at (record { choices = choices; events = events; led = h })) in
+      subst (λ (e : Event). Leads m n choice e choices events at) same leads;
+}
 
 pub free-is : (m : Situation) → WellFormed m.program → (choice : Choice) → refused_by m choice ≡ None
     → (choices : List model.Choice) (events : List Event) (at : Standing) → Led m choices events at → refused m at (choice_of choice) ≡ None

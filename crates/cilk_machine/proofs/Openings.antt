@@ -5,7 +5,7 @@ use Rattle.std.specs.Prelude.{max, slice_get, slice_index_or}
 use Rattle.std.proofs.lemmas.Bool.{le-leb}
 use Rattle.std.proofs.lemmas.List.{length-replicate, length-map}
 use Rattle.cilk_machine_carry.specs.syntax.Tree.{Program}
-use Rattle.cilk_machine_carry.specs.check.Fault.{WellFormed}
+use Rattle.cilk_machine_carry.specs.agree.scopes.WellFormed.{WellFormed}
 use Rattle.cilk_machine_carry.specs.eval.declared.area.Area.{Area}
 use Rattle.cilk_machine_carry.specs.eval.declared.area.Area.TheVariants.{Global}
 use Rattle.cilk_machine_carry.specs.labelled.Labelled.{Variable}

@@ -2,7 +2,7 @@
 use Rattle.std.proofs.Common.{◌≡◌, ℕ, ◌+◌, Option, Some, None, refl, sym, ap, ◌∙◌, subst, arith}
 use Rattle.std.specs.Prelude.{List, option_map}
 use Rattle.cilk_machine_carry.specs.syntax.Tree.{Program}
-use Rattle.cilk_machine_carry.specs.check.Fault.{WellFormed}
+use Rattle.cilk_machine_carry.specs.agree.scopes.WellFormed.{WellFormed}
 use Rattle.cilk_machine_carry.specs.labelled.Bodies.{label}
 use Rattle.cilk_machine_choices.specs.model.Choice as model
 use Rattle.cilk_machine_choices.specs.model.Event.{Event}
@@ -41,8 +41,8 @@ use Rattle.cilk_machine.specs.Made.{Makes, Does}
 use Rattle.cilk_machine.specs.Told.{event_in, HasPaths, started_number, body_numbered, body_started, trapped_path, outcome_with, trapper_of, IsTrapPath}
 use Rattle.cilk_machine.proofs.Refusals.{turn-of, plan-in, hand-is}
 use Rattle.cilk_machine.proofs.Told.{event-told, paths-there, trapped-there, outcome-told, outcome-at}
-use Rattle.cilk_machine.proofs.Leading.{moved_to, Next, makes, told-as, free-is}
-use Rattle.cilk_machine.proofs.Free.{Frees, frees, Steps, step-free, of-old, free-old}
+use Rattle.cilk_machine.proofs.Leading.{moved_to, Next, makes, free-is}
+use Rattle.cilk_machine.proofs.Free.{Frees, frees, Steps, step-free, free-old}
 
 few-cells : (p : Program) → WellFormed p → CellsAreFew (label p)
 few-cells p well = record {
@@ -262,8 +262,3 @@ pub made-old : (m old n : Situation) (w : ℕ) (ns : List Node) (did : Did) → 
     → Makes old n (stepping w) (event_by (path_at old.machine.nodes) (path_at ns) did)
 made-old m old n w ns did is made =
     subst (λ (x : Situation). Makes x n (stepping w) (event_by (path_at x.machine.nodes) (path_at ns) did)) is made
-
-pub told-old : (m old n : Situation) (w : ℕ) (did other : Event) → m ≡ old → IsSound m → Makes m n (stepping w) did
-    → Does old (stepping w) other → Makes old n (stepping w) other
-told-old m old n w did other is sound made does =
-    of-old m old n (stepping w) other is (told-as m n (stepping w) did other made (subst (λ (x : Situation). Does x (stepping w) other) (sym is) does) sound)

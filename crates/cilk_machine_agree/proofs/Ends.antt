@@ -124,7 +124,8 @@ module _ (p : Program) (m : MachineParts) (who : ℕ → Instance) (at : Standin
           let ne = lives-other i live in
           subst (λ x. NodeStandsFor (label p) x (procedure_in ms) (node_at ms i) (who i)) (sym up)
           (subst (λ x. NodeStandsFor (label p) (path_at ns) x (node_at ms i) (who i)) (sym procedures)
-          (subst (λ n. NodeStandsFor (label p) (path_at ns) (procedure_in ns) n (who i)) (sym (other i ne)) (h.tells i (ap is_live (sym (other i ne)) ∙ live))));
+          (subst (λ n. NodeStandsFor (label p) (path_at ns) (procedure_in ns) n (who i)) (sym (other i ne))
+          (h.tells i (ap is_live (sym (other i ne)) ∙ live))));
       places = ap (λ ps. sched.with_hand ps w None) h.places ∙ sym (named-with_hand (name_in ns) m.places w None)
           ∙ ap (λ (x : ℕ → Path). named (λ f. x f.id) (with_hand m.places w None)) (sym up);
       parked = λ i lt. ap (λ (x : ℕ → Path). at.scheduler.parked (x i)) up ∙ h.parked i (subst (λ l. i < l) size lt) ∙ ap is_some (sym (as-parked i));

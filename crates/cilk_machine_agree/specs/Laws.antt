@@ -128,7 +128,8 @@ WaitingAgrees = (t : Turn)
 pub record Birth (t : Turn) (f g : Frame) (receiver : Receiver) (callee : ℕ) (a c : Instance) (s : State) : Type 0 where
   pub own : f.id ≡ t.frame.id
   pub stands : StandsFor (label t.program) f a
-  pub tells : NodeStandsFor (label t.program) (path_at t.machine.nodes) (procedure_in t.machine.nodes) (record (node_of t) { children = (node_of t).children + 1 }) a
+  pub tells : NodeStandsFor (label t.program) (path_at t.machine.nodes) (procedure_in t.machine.nodes)
+      (record (node_of t) { children = (node_of t).children + 1 }) a
   pub child_own : g.id ≡ length t.machine.nodes
   pub child_stands : StandsFor (label t.program) g c
   -- whatever the paths are, and wherever the parent's procedure is told

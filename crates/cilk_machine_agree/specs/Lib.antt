@@ -16,7 +16,6 @@ pub use Rattle.cilk_laws_placed.specs.scopes
 pub use Rattle.cilk_laws_placed.specs.syntax
 pub use Rattle.cilk_model.specs as model
 pub use Rattle.cilk_sched.specs as sched
-pub use Rattle.cilk_sched.specs.check
 pub use Rattle.cilk_sched.specs.eval
 pub use Rattle.cilk_sched.specs.frame
 pub use Rattle.cilk_sched.specs.nodes

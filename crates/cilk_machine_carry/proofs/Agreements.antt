@@ -28,7 +28,7 @@ use Rattle.cilk_machine_plan.specs.agree.Outside.{lock_by}
 use Rattle.cilk_machine_plan.specs.agree.Fated.{fate_after, Births, Follows}
 use Rattle.cilk_machine_plan.specs.agree.Marks.{marked_if}
 use Rattle.cilk_machine_plan.specs.agree.Agrees.{MachineParts, Agrees, instead}
-use Rattle.cilk_machine_plan.specs.agree.Laws.{Turn, path_of, node_of, instance_of, sent, freed, without_frame, outside_after, after_returning, who_after}
+use Rattle.cilk_machine_plan.specs.agree.Laws.{Turn, path_of, node_of, instance_of, sent, freed, without_frame, outside_after, who_after}
 use Rattle.cilk_machine_plan.proofs.agree_laws.Frames.{given-back}
 use Rattle.cilk_machine_plan.proofs.agree_laws.Alone.{holds, inside}
 use Rattle.cilk_machine_plan.proofs.agree_laws.Waits.{waiting-agrees}

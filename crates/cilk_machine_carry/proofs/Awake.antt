@@ -1,6 +1,6 @@
 -- A parked parent that can go on comes to the hand, and a hand that was emptied takes a frame.
-use Rattle.std.proofs.Common.{◌≡◌, ◌≢◌, ℕ, length, zero, suc, Bool, true, false, List, [], ◌∷◌, Option, Some, None, refl, sym, slice_set, if◌then◌else◌}
-use Rattle.std.specs.Prelude.{slice_index_or}
+use Rattle.std.proofs.Common.{◌≡◌, ◌≢◌, ℕ, length, Bool, true, false, List, Option, Some, None, refl, sym, ◌∙◌, slice_set, if◌then◌else◌}
+use Rattle.std.proofs.lemmas.List.{set-get_or}
 use Rattle.cilk_machine_plan.specs.model.Places.{WorkerOf, IsWorker, with_hand}
 use Rattle.cilk_machine_plan.specs.nodes.declared.body.Body.{Body}
 use Rattle.cilk_machine_plan.specs.frame.Frames.{Frame}
@@ -15,14 +15,9 @@ use Rattle.cilk_machine_plan.specs.declared.plan.Plan.{Plan}
 use Rattle.cilk_machine_plan.specs.declared.plan.Plan.TheVariants as plan
 use Rattle.cilk_machine_carry.specs.Carried.{nodes_awake, places_awake, awake_in, started_as, handed_back, after_plan}
 
-set-same : (xs : List Node) (k : ℕ) {x : Node} → slice_index_or xs k no_node ≡ x → slice_set xs k x ≡ xs
-set-same [] k e = refl
-set-same (y ∷ xs) zero e = λ j. sym e j ∷ xs
-set-same (y ∷ xs) (suc k) e = λ j. y ∷ set-same xs k e j
-
 -- nothing is parked there
 not-parked : (ns : List Node) (r : ℕ) → (node_at ns r).parked ≡ None → with_parked ns r None ≡ ns
-not-parked ns r none = set-same ns r (λ j. record (node_at ns r) { parked = none j })
+not-parked ns r none = (λ j. slice_set ns r (record (node_at ns r) { parked = sym none j })) ∙ set-get_or ns r no_node
 
 -- both ways to say it
 abbrev awake : MachineParts → ℕ → Option ℕ → MachineParts

@@ -1,6 +1,7 @@
 -- The nodes keep what became of the instances, whatever a plan does.
 use Rattle.std.proofs.Common.{◌≡◌, ◌≢◌, ◌<◌, ◌&&◌, not, ℕ, ℤ, Bool, true, false, nat_eq, List, drop, length, length-set, Option, Some, None, refl}
 use Rattle.std.proofs.Common.{sym, ap, ◌∙◌, subst, arith, inl, inr, slice_get, slice_set, if◌then◌else◌}
+use Rattle.std.proofs.lemmas.Bool.{eq-eqb, ne_eqb}
 use Rattle.cilk_machine_plan.specs.labelled.Labelled.{Labelled}
 use Rattle.cilk_machine_plan.specs.labelled.Bodies.{label}
 use Rattle.cilk_machine_plan.specs.model.Path.{Path, same_path}
@@ -16,7 +17,7 @@ use Rattle.cilk_machine_plan.specs.spawn.Nodes.{delivered_to, without_receiver, 
 use Rattle.cilk_machine_plan.proofs.spawn_laws.Lists.{at_set}
 use Rattle.cilk_machine_plan.proofs.spawn_laws.Trees.{Linked, linked_set, path_linked}
 use Rattle.cilk_machine_plan.proofs.spawn_laws.Children.{parent_in}
-use Rattle.cilk_machine_plan.proofs.spawn_laws.Grown.{grown, grown_parent, grown_other, grows, path_old, same_number, other_number}
+use Rattle.cilk_machine_plan.proofs.spawn_laws.Grown.{grown, grown_parent, grown_other, grows, path_old}
 use Rattle.cilk_machine_plan.proofs.spawn_laws.Marks.{marked_node, marked_length, marked_linked}
 use Rattle.cilk_machine_plan.proofs.spawn_laws.Paths.{number_is_path}
 use Rattle.cilk_machine_plan.specs.agree.Fated.{fate_after, Births, Follows}
@@ -78,8 +79,8 @@ pub set-one : (g : Fate → Fate) (ns : List Node) (k : ℕ) (n : Node) → k < 
     → n.fate ≡ g (node_at ns k).fate → Fates (at_one k g) ns (slice_set ns k n)
 set-one g ns k n there linked procedure own =
     set-fates (at_one k g) ns k n there linked procedure
-    (own ∙ sym (ap (λ b. if b then g (node_at ns k).fate else (node_at ns k).fate) (same_number k k refl)))
-    (λ i ne fate. ap (λ b. if b then g fate else fate) (other_number i k ne))
+    (own ∙ sym (ap (λ b. if b then g (node_at ns k).fate else (node_at ns k).fate) (eq-eqb k k refl)))
+    (λ i ne fate. ap (λ b. if b then g fate else fate) (ne_eqb i k ne))
 
 pub parked-same : (ns : List Node) (k : ℕ) (frame : _) → k < length ns → Same ns (with_parked ns k frame)
 parked-same ns k frame there = set-same ns k _ there (record { parent = refl; ordinal = refl; children = omega arith }) refl refl

@@ -1,5 +1,5 @@
 -- The oldest delivery is taken: its child has lost its value.
-use Rattle.std.proofs.Common.{◌≡◌, ◌<◌, ℕ, List, [], ◌∷◌, drop, length, length-set, Some, refl, sym, ap, ◌∙◌, subst, slice_get}
+use Rattle.std.proofs.Common.{◌≡◌, ◌<◌, ℕ, List, [], ◌∷◌, drop, length, length-set, Some, refl, sym, ap, subst, slice_get}
 use Rattle.cilk_machine_plan.specs.labelled.Bodies.{label}
 use Rattle.cilk_machine_plan.specs.syntax.Tree.{Program}
 use Rattle.cilk_machine_plan.specs.model.Instance as model
@@ -7,25 +7,17 @@ use Rattle.cilk_machine_plan.specs.model.Instance.{Instance}
 use Rattle.cilk_machine_plan.specs.model.Event as event
 use Rattle.cilk_machine_plan.specs.model.Run.{Standing}
 use Rattle.cilk_machine_plan.specs.spawn.declared.delivery.Delivery.{Delivery}
-use Rattle.cilk_machine_plan.specs.spawn.declared.fate.Fate.{Fate}
-use Rattle.cilk_machine_plan.specs.spawn.declared.fate.Fate.TheVariants.{Live, Returned, Delivered, Aborted}
-use Rattle.cilk_machine_plan.specs.spawn.Nodes.{node_at, lives, after_taking, value_taken, with_waiting, taken, path_at}
+use Rattle.cilk_machine_plan.specs.spawn.Nodes.{node_at, after_taking, value_taken, with_waiting, taken, path_at}
 use Rattle.cilk_machine_plan.specs.agree.Alike.{SameDeliveries}
 use Rattle.cilk_machine_plan.specs.agree.Agrees.{MachineParts, Agrees}
 use Rattle.cilk_machine_plan.specs.agree.Fated.{Follows}
 use Rattle.cilk_machine_plan.specs.agree.Laws.{Turn, node_of, instance_of}
+use Rattle.cilk_machine_plan.proofs.spawn_laws.Taking.{still_lives}
 use Rattle.cilk_machine_plan.proofs.agree_laws.Alone.{inside}
 use Rattle.cilk_machine_plan.proofs.agree_laws.Actions.{told}
 use Rattle.cilk_machine_plan.proofs.agree_laws.Asked.{oldest-told}
 use Rattle.cilk_machine_plan.proofs.agree_laws.Fates.{fates-agree}
 use Rattle.cilk_machine_carry.proofs.Followed.{at_one, taken-one, followed, by-path}
-
--- one that lives goes on living
-lives-taken : (choice : ℕ) (fate : Fate) → lives (after_taking choice fate) ≡ lives fate
-lives-taken choice Live = refl
-lives-taken choice Returned = refl
-lives-taken choice (Delivered other) = refl
-lives-taken choice (Aborted other) = refl
 
 -- the node's oldest delivery
 pub record First (t : Turn) (oldest : model.Delivery) : Type 0 where
@@ -57,7 +49,7 @@ taken-agrees p m k choice who at d within is h =
     subst (λ o. Agrees p (record m { nodes = value_taken o choice fewer }) who at) (sym is)
     (fates-agree p (record m { nodes = fewer }) who at h d.child (after_taking choice (node_at fewer d.child).fate)
     (subst (λ l. d.child < l) (sym (length-set m.nodes k (record (node_at m.nodes k) { waiting = drop 1 (node_at m.nodes k).waiting }))) within)
-    (lives-taken choice (node_at fewer d.child).fate))
+    (still_lives choice (node_at fewer d.child).fate))
 
 pub taken-followed : (t : Turn) (choice n : ℕ) (oldest : model.Delivery) → First t oldest
     → Follows (label t.program) choice t.machine.nodes (taken t.machine.nodes t.frame.id choice) (event.delivered oldest.child n)

@@ -1,5 +1,5 @@
 -- What finds no memory is undone.
-use Rattle.std.proofs.Common.{◌≡◌, ℕ, zero, suc, ◌-◌, Bool, List, [], ◌∷◌, ◌++◌, length, Option, Some, None, refl, sym, ap, ◌∙◌, slice_set}
+use Rattle.std.proofs.Common.{◌≡◌, ℕ, zero, suc, ◌-◌, Bool, List, [], ◌∷◌, ◌++◌, length, Option, Some, refl, ap, ◌∙◌, slice_set}
 use Rattle.std.specs.Prelude.{slice_index_or}
 use Rattle.std.proofs.lemmas.List.{length-set}
 use Rattle.cilk_machine_plan.specs.model.Places.{WorkerOf, IsWorker, hand_of, deque_of, with_deque, bottom_of, above_bottom}
@@ -51,9 +51,3 @@ module _ (places now : List (WorkerOf Frame)) (w : ℕ) (g : Frame) (worker : Is
   popped-again back is =
       is ∙ (λ i. with_deque (pushed i) w ((ap above_bottom deque-now ∙ above_bottom-push (deque_of places w) g) i))
       ∙ deque-again places w (deque_of places w ++ g ∷ []) worker
-
-pub same_frame : (g h : Frame) (o : Option Frame) → o ≡ Some g → o ≡ Some h → h ≡ g
-same_frame g h o a b = let e : Some h ≡ Some g = sym b ∙ a in cc
-
-pub no_frame : (g : Frame) (o : Option Frame) → o ≡ Some g → o ≡ None → ⊥
-no_frame g o a b = let e : Some g ≡ None = sym a ∙ b in cc

@@ -1,5 +1,6 @@
 -- The parts, where there is a turn for them.
 use Rattle.std.proofs.Common.{◌≡◌, ◌≢◌, ℕ, List, length, Option, Some, None, sym, ap, ◌∙◌, subst}
+use Rattle.std.proofs.lemmas.Option.{same_Some}
 use Rattle.cilk_machine_plan.specs.model.Places.{WorkerOf, IsWorker, hand_of, with_hand}
 use Rattle.cilk_machine_plan.specs.nodes.declared.body.Body.{Body}
 use Rattle.cilk_machine_plan.specs.frame.Frames.{Frame}
@@ -26,14 +27,11 @@ module _ (choice : ℕ) (parts : Parts) (w : ℕ) (body : Option Body) (x : Plan
   pub hand-there : (t : Turn) → Planned parts w body x t → hand_of parts.hands w ≡ Some t.frame
   hand-there t p = (λ j. hand_of (sym p.machine j).places (sym p.worker j)) ∙ t.hand
 
-  same-some : (f g : Frame) (o : Option Frame) → o ≡ Some f → o ≡ Some g → f ≡ g
-  same-some f g o a b = let e : Some f ≡ Some g = sym a ∙ b in cc
-
   pub ready-there : CanCarry parts w body x → (f : Frame) → hand_of parts.hands w ≡ Some f → Ready choice parts.tree.nodes parts.globals.items f body x
   ready-there c f in_hand =
       let t = c.turn in
       let p = c.planned in
-      subst (λ g. Ready choice parts.tree.nodes parts.globals.items g body x) (same-some t.frame f (hand_of parts.hands w) (hand-there t p) in_hand)
+      subst (λ g. Ready choice parts.tree.nodes parts.globals.items g body x) (same_Some t.frame f (sym (hand-there t p) ∙ in_hand))
       (subst (λ m. Ready choice m.nodes m.outside.cells t.frame body x) p.machine (ready choice t c.few body x c.goes p.starts p.is_plan))
 
   pub carries-there : x ≢ plan.Wait → (f : Frame) (now : Parts) (done : Done) → hand_of parts.hands w ≡ Some f
@@ -41,7 +39,7 @@ module _ (choice : ℕ) (parts : Parts) (w : ℕ) (body : Option Body) (x : Plan
       → Carries choice parts w body x now done
   carries-there goes f now done in_hand c = λ t p.
       let m = machine_of parts outside.running in
-      let frame = same-some f t.frame (hand_of parts.hands w) in_hand (hand-there t p) in
+      let frame = same_Some f t.frame (sym in_hand ∙ hand-there t p) in
       let machine : machine_of now (outcome_of done.outcome) ≡ after_plan choice t.machine t.worker t.frame body x =
       c.machine ∙ after-emptied m w (worker-there t p) choice f body x goes ∙ (λ j. after_plan choice (sym p.machine j) (sym p.worker j) (frame j) body x) in
       let did : done.did ≡ did_of (length t.machine.nodes) t.frame x =
@@ -54,7 +52,7 @@ module _ (choice : ℕ) (parts : Parts) (w : ℕ) (body : Option Body) (x : Plan
       → Carried choice (machine_of parts outside.running) w f body x (machine_of now (outcome_of done.outcome)) done.did
       → Carries choice parts w body x now done
   carries-held goes f now done in_hand c = λ t p.
-      let frame = same-some f t.frame (hand_of parts.hands w) in_hand (hand-there t p) in
+      let frame = same_Some f t.frame (sym in_hand ∙ hand-there t p) in
       let machine : machine_of now (outcome_of done.outcome) ≡ after_plan choice t.machine t.worker t.frame body x =
       c.machine ∙ (λ j. after_plan choice (sym p.machine j) (sym p.worker j) (frame j) body x) in
       let did : done.did ≡ did_of (length t.machine.nodes) t.frame x =

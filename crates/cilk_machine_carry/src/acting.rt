@@ -11,6 +11,7 @@ ghost use Rattle.cilk_machine_carry.specs.Carried.{Carried};
 
 use crate::did::{Did, Done, Outcome};
 use crate::entering::go_on;
+use crate::given::Passage;
 use crate::parts::Parts;
 use cilk_machine_plan::{Bytes, Frame, Hands, TrapKind};
 
@@ -52,33 +53,42 @@ pub(crate) fn carry_trap(
 pub(crate) fn carry_print(
     worker: u8,
     frame: Frame,
-    n: u32,
+    passage: Passage,
     bytes: Bytes,
-    to: u32,
     parts: &mut Parts,
 ) -> Result<Done, Frame>
     requires worker { IsWorker parts.old.hands worker }
     requires empty { hand_of parts.old.hands worker ≡ None }
     ensures done { IfOk result (λ done. (choice : ℕ) (body : Option Body) → Carried choice (machine_of parts.old outside.running) worker frame body
-        (plans.Print n bytes to) (machine_of parts.new (outcome_of done.outcome)) done.did) }
+        (plans.Print passage.n bytes passage.to) (machine_of parts.new (outcome_of done.outcome)) done.did) }
     ensures back { IfErr result (λ f. f ≡ frame) }
     ensures same { OnErr result (machine_of parts.new outside.running ≡ machine_of parts.old outside.running) }
     ensures living { OnErr result (parts.new.tree.living ≡ parts.old.tree.living) }
 {
     match parts.output.extend_from_slice(bytes.as_slice()) {
         Err(_) => Err(frame),
-        Ok(()) => Ok(acted(worker, go_on(frame, to), n, &mut parts.hands)),
+        Ok(()) => Ok(acted(
+            worker,
+            go_on(frame, passage.to),
+            passage.n,
+            &mut parts.hands,
+        )),
     }
 }
 
 /// The live descendants are marked.
-pub(crate) fn carry_abort(worker: u8, frame: Frame, n: u32, to: u32, parts: &mut Parts) -> Done
+pub(crate) fn carry_abort(worker: u8, frame: Frame, passage: Passage, parts: &mut Parts) -> Done
     requires worker { IsWorker parts.old.hands worker }
     requires empty { hand_of parts.old.hands worker ≡ None }
     requires live { is_live (node_at parts.old.tree.nodes frame.id) ≡ true }
     ensures { (choice : ℕ) (body : Option Body) → Carried choice (machine_of parts.old outside.running) worker frame body
-        (plans.Abort n to) (machine_of parts.new (outcome_of result.outcome)) result.did }
+        (plans.Abort passage.n passage.to) (machine_of parts.new (outcome_of result.outcome)) result.did }
 {
     parts.tree.mark_aborted(frame.id());
-    acted(worker, go_on(frame, to), n, &mut parts.hands)
+    acted(
+        worker,
+        go_on(frame, passage.to),
+        passage.n,
+        &mut parts.hands,
+    )
 }

@@ -12,6 +12,7 @@ ghost use Rattle.cilk_machine_carry.specs.Carries.{CanCarry, Carries};
 use crate::acting::{acted, carry_abort, carry_print, carry_trap};
 use crate::did::{Did, Done, NoMemory};
 use crate::entering::{carry_call, carry_enter, go_on, leave};
+use crate::given::{Passage, Sender, Start, Writing};
 use crate::parts::Parts;
 use crate::releasing::carry_turn;
 use crate::returning::{carry_end, carry_return};
@@ -76,31 +77,52 @@ fn carry(
             n,
             reached,
             value,
-        } => Ok(carry_take(worker, frame, child, n, reached, value, choice, parts)),
+        } => {
+            let writing = Writing { reached, value };
+            Ok(carry_take(worker, frame, Sender { child, n }, writing, choice, parts))
+        }
         Plan::Enter {
             child,
             n,
-            inlet: _,
+            inlet,
             arguments,
-        } => carry_enter(worker, frame, child, n, arguments, body, choice, parts),
+        } => {
+            let start = Start {
+                number: inlet,
+                body,
+                arguments,
+            };
+            carry_enter(worker, frame, Sender { child, n }, start, choice, parts)
+        }
         Plan::Go { n, to } => Ok(acted(worker, go_on(frame, to), n, &mut parts.hands)),
         Plan::Write {
             n,
             reached,
             value,
             to,
-        } => Ok(carry_write(worker, frame, n, reached, value, to, parts)),
+        } => {
+            let writing = Writing { reached, value };
+            Ok(carry_write(worker, frame, Passage { n, to }, writing, parts))
+        }
         Plan::Call {
             n,
             awaits,
-            callee: _,
+            callee,
             arguments,
             to,
-        } => carry_call(worker, frame, n, awaits, arguments, to, body, parts),
+        } => {
+            let start = Start {
+                number: callee,
+                body,
+                arguments,
+            };
+            carry_call(worker, frame, Passage { n, to }, awaits, start, parts)
+        }
         Plan::Leave { n } => Ok(acted(worker, leave(frame), n, &mut parts.hands)),
-        Plan::Answer { n, reached, value } => Ok(carry_answer(
-            worker, frame, n, reached, value, parts,
-        )),
+        Plan::Answer { n, reached, value } => {
+            let writing = Writing { reached, value };
+            Ok(carry_answer(worker, frame, n, writing, parts))
+        }
         Plan::Return { n, value } => carry_return(worker, frame, n, value, choice, parts),
         Plan::Spawn {
             n,
@@ -108,11 +130,23 @@ fn carry(
             callee,
             arguments,
             to,
-        } => carry_spawn(
-            worker, frame, n, receiver, callee, arguments, to, body, parts,
-        ),
-        Plan::Print { n, bytes, to } => carry_print(worker, frame, n, bytes, to, parts),
-        Plan::Turn { n, lock, now, to } => Ok(carry_turn(worker, frame, n, lock, now, to, parts)),
-        Plan::Abort { n, to } => Ok(carry_abort(worker, frame, n, to, parts)),
+        } => {
+            let start = Start {
+                number: callee,
+                body,
+                arguments,
+            };
+            carry_spawn(worker, frame, Passage { n, to }, receiver, start, parts)
+        }
+        Plan::Print { n, bytes, to } => carry_print(worker, frame, Passage { n, to }, bytes, parts),
+        Plan::Turn { n, lock, now, to } => Ok(carry_turn(
+            worker,
+            frame,
+            Passage { n, to },
+            lock,
+            now,
+            parts,
+        )),
+        Plan::Abort { n, to } => Ok(carry_abort(worker, frame, Passage { n, to }, parts)),
     }
 }

@@ -15,8 +15,9 @@ ghost use Rattle.cilk_machine_carry.specs.Carried.{Carried};
 
 use crate::acting::acted;
 use crate::did::{Did, Done};
+use crate::given::{Passage, Sender, Start};
 use crate::parts::Parts;
-use cilk_machine_plan::{Arguments, Await, Body, Frame, Id};
+use cilk_machine_plan::{Await, Body, Frame};
 
 /// An action of the procedure's own clears the flag.
 pub(crate) fn go_on(frame: Frame, to: u32) -> Frame
@@ -90,50 +91,57 @@ fn call(
 pub(crate) fn carry_enter(
     worker: u8,
     frame: Frame,
-    child: Id,
-    n: u32,
-    arguments: Arguments,
-    body: Option<&Body>,
+    sender: Sender,
+    start: Start,
     choice: u64,
     parts: &mut Parts,
 ) -> Result<Done, Frame>
     requires worker { IsWorker parts.old.hands worker }
     requires empty { hand_of parts.old.hands worker ≡ None }
     requires live { is_live (node_at parts.old.tree.nodes frame.id) ≡ true }
-    requires enters { CanEnter frame (option_copied body) arguments }
-    ensures done { IfOk result (λ done. (inlet : ℕ) → Carried choice (machine_of parts.old outside.running) worker frame (option_copied body.entry)
-        (plans.Enter child n inlet arguments) (machine_of parts.new (outcome_of done.outcome)) done.did) }
+    requires enters { CanEnter frame (option_copied start.body) start.arguments }
+    ensures done { IfOk result (λ done. Carried choice (machine_of parts.old outside.running) worker frame (option_copied start.entry.body)
+        (plans.Enter sender.child sender.n start.entry.number start.entry.arguments) (machine_of parts.new (outcome_of done.outcome)) done.did) }
     ensures back { IfErr result (λ f. f ≡ frame) }
     ensures same { OnErr result (machine_of parts.new outside.running ≡ machine_of parts.old outside.running) }
     ensures living { OnErr result (parts.new.tree.living ≡ parts.old.tree.living) }
 {
     let id = frame.id();
+    let Start {
+        number: _,
+        body,
+        arguments,
+    } = start;
     let frame = enter(frame, body, arguments.as_slice(), None)?;
     let _taken = parts.tree.take_delivery(id, choice);
     parts.hands.give(worker, frame);
-    Ok(Done::running(Did::Delivered(child, n)))
+    Ok(Done::running(Did::Delivered(sender.child, sender.n)))
 }
 
 /// A C function starts, whose body this is. Where memory has run out, the frame comes back, and nothing has changed.
 pub(crate) fn carry_call(
     worker: u8,
     frame: Frame,
-    n: u32,
+    passage: Passage,
     awaits: Option<Await>,
-    arguments: Arguments,
-    to: u32,
-    body: Option<&Body>,
+    start: Start,
     parts: &mut Parts,
 ) -> Result<Done, Frame>
     requires worker { IsWorker parts.old.hands worker }
     requires empty { hand_of parts.old.hands worker ≡ None }
-    requires enters { CanEnter frame (option_copied body) arguments }
-    ensures done { IfOk result (λ done. (choice callee : ℕ) → Carried choice (machine_of parts.old outside.running) worker frame (option_copied body.entry)
-        (plans.Call n awaits callee arguments to) (machine_of parts.new (outcome_of done.outcome)) done.did) }
+    requires enters { CanEnter frame (option_copied start.body) start.arguments }
+    ensures done { IfOk result (λ done. (choice : ℕ) → Carried choice (machine_of parts.old outside.running) worker frame (option_copied start.entry.body)
+        (plans.Call passage.n awaits start.entry.number start.entry.arguments passage.to)
+        (machine_of parts.new (outcome_of done.outcome)) done.did) }
     ensures back { IfErr result (λ f. f ≡ frame) }
     ensures same { OnErr result (machine_of parts.new outside.running ≡ machine_of parts.old outside.running) }
     ensures living { OnErr result (parts.new.tree.living ≡ parts.old.tree.living) }
 {
-    let frame = call(frame, body, arguments.as_slice(), awaits, to)?;
-    Ok(acted(worker, frame, n, &mut parts.hands))
+    let Start {
+        number: _,
+        body,
+        arguments,
+    } = start;
+    let frame = call(frame, body, arguments.as_slice(), awaits, passage.to)?;
+    Ok(acted(worker, frame, passage.n, &mut parts.hands))
 }

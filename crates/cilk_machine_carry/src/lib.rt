@@ -6,6 +6,7 @@ mod acting;
 mod carry;
 mod did;
 mod entering;
+mod given;
 mod lightly;
 mod parts;
 mod releasing;

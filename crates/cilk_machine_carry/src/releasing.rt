@@ -12,6 +12,7 @@ ghost use Rattle.cilk_machine_carry.specs.Carried.{Carried};
 use crate::acting::acted;
 use crate::did::Done;
 use crate::entering::go_on;
+use crate::given::Passage;
 use crate::parts::Parts;
 use cilk_machine_plan::{Frame, Id, Lock};
 
@@ -48,17 +49,21 @@ fn turn(locks: &mut Vec<Lock>, lock: u32, now: Lock)
 pub(crate) fn carry_turn(
     worker: u8,
     frame: Frame,
-    n: u32,
+    passage: Passage,
     lock: u32,
     now: Lock,
-    to: u32,
     parts: &mut Parts,
 ) -> Done
     requires worker { IsWorker parts.old.hands worker }
     requires empty { hand_of parts.old.hands worker ≡ None }
     ensures { (choice : ℕ) (body : Option Body) → Carried choice (machine_of parts.old outside.running) worker frame body
-        (plans.Turn n lock now to) (machine_of parts.new (outcome_of result.outcome)) result.did }
+        (plans.Turn passage.n lock now passage.to) (machine_of parts.new (outcome_of result.outcome)) result.did }
 {
     turn(&mut parts.locks, lock, now);
-    acted(worker, go_on(frame, to), n, &mut parts.hands)
+    acted(
+        worker,
+        go_on(frame, passage.to),
+        passage.n,
+        &mut parts.hands,
+    )
 }

@@ -13,6 +13,7 @@ ghost use Rattle.cilk_machine_carry.specs.Carried.{Carried, nodes_awake, places_
 ghost use Rattle.cilk_machine_carry.specs.Ready.{CanEnd};
 
 use crate::did::{Did, Done, Outcome};
+use crate::given::End;
 use crate::parts::Parts;
 use crate::releasing::release;
 use cilk_machine_plan::{Ending, Frame, Hands, Id, Memory, Receiver, Tree};
@@ -28,12 +29,15 @@ pub(crate) fn carry_end(worker: u8, frame: Frame, choice: u64, parts: &mut Parts
     let id = frame.id();
     let parent = parts.tree.parent(id);
     release(&mut parts.locks, id);
+    let aborted = End {
+        ending: Ending::Aborted,
+        choice,
+    };
     end(
         worker,
         frame,
         parent,
-        Ending::Aborted,
-        choice,
+        aborted,
         &mut parts.tree,
         &mut parts.hands,
     );
@@ -104,7 +108,11 @@ fn give_value(
     if send(tree, id, value).is_err() {
         return Err(frame);
     }
-    end(worker, frame, parent, Ending::Returned, choice, tree, hands);
+    let returned = End {
+        ending: Ending::Returned,
+        choice,
+    };
+    end(worker, frame, parent, returned, tree, hands);
     if parent.is_none() {
         Ok(Outcome::Finished(value))
     } else {
@@ -113,22 +121,14 @@ fn give_value(
 }
 
 // The instance of a frame ends, and a parked parent that can go on comes to the worker's hand.
-fn end(
-    worker: u8,
-    frame: Frame,
-    parent: Option<Id>,
-    ending: Ending,
-    choice: u64,
-    tree: &mut Tree,
-    hands: &mut Hands,
-)
+fn end(worker: u8, frame: Frame, parent: Option<Id>, end: End, tree: &mut Tree, hands: &mut Hands)
     requires worker { IsWorker hands.old worker }
     requires empty { hand_of hands.old worker ≡ None }
-    requires end { CanEnd tree.old.nodes frame.id parent (fate_at ending choice) }
-    ensures tree { tree.new.nodes ≡ nodes_awake (ended tree.old.nodes frame.id (fate_at ending choice)) parent }
-    ensures hands { hands.new ≡ places_awake hands.old worker (awake_in (ended tree.old.nodes frame.id (fate_at ending choice)) parent) }
+    requires end { CanEnd tree.old.nodes frame.id parent (fate_at end.ending end.choice) }
+    ensures tree { tree.new.nodes ≡ nodes_awake (ended tree.old.nodes frame.id (fate_at end.ending end.choice)) parent }
+    ensures hands { hands.new ≡ places_awake hands.old worker (awake_in (ended tree.old.nodes frame.id (fate_at end.ending end.choice)) parent) }
 {
-    tree.end(frame.id(), ending, choice);
+    tree.end(frame.id(), end.ending, end.choice);
     frame.finish();
     if let Some(parent) = parent {
         wake(worker, parent, tree, hands);

@@ -15,47 +15,61 @@ ghost use Rattle.cilk_machine_carry.specs.Carried.{Carried, started_as};
 
 use crate::did::{Did, Done};
 use crate::entering::resumed;
+use crate::given::{Passage, Start};
 use crate::parts::Parts;
-use cilk_machine_plan::{Arguments, Body, Frame, Hands, Id, Receiver, Tree};
+use cilk_machine_plan::{Body, Frame, Hands, Id, Receiver, Tree};
 use std::alloc::Global;
+
+// A child that starts: its procedure, what takes its value, and its frame.
+struct Child {
+    procedure: u32,
+    receiver: Receiver,
+    frame: Frame,
+}
 
 /// A child starts, whose body this is. Where memory has run out, the parent's frame comes back, and nothing has changed.
 pub(crate) fn carry_spawn(
     worker: u8,
     frame: Frame,
-    n: u32,
+    passage: Passage,
     receiver: Receiver,
-    callee: u32,
-    arguments: Arguments,
-    to: u32,
-    body: Option<&Body>,
+    start: Start,
     parts: &mut Parts,
 ) -> Result<Done, Frame>
     requires worker { IsWorker parts.old.hands worker }
     requires empty { hand_of parts.old.hands worker ≡ None }
     requires live { is_live (node_at parts.old.tree.nodes frame.id) ≡ true }
-    requires spawns { CanSpawn parts.old.tree.nodes frame.id (option_copied body) arguments }
-    ensures done { IfOk result (λ done. (choice : ℕ) → Carried choice (machine_of parts.old outside.running) worker frame (option_copied body.entry)
-        (plans.Spawn n receiver callee arguments to) (machine_of parts.new (outcome_of done.outcome)) done.did) }
+    requires spawns { CanSpawn parts.old.tree.nodes frame.id (option_copied start.body) start.arguments }
+    ensures done { IfOk result (λ done. (choice : ℕ) → Carried choice (machine_of parts.old outside.running) worker frame (option_copied start.entry.body)
+        (plans.Spawn passage.n receiver start.entry.number start.entry.arguments passage.to)
+        (machine_of parts.new (outcome_of done.outcome)) done.did) }
     ensures back { IfErr result (λ f. f ≡ frame) }
     ensures same { OnErr result (machine_of parts.new outside.running ≡ machine_of parts.old outside.running) }
     ensures living { OnErr result (parts.new.tree.living ≡ parts.old.tree.living) }
 {
+    let Start {
+        number,
+        body,
+        arguments,
+    } = start;
     let alloc = *parts.globals.allocator();
     match child_frame(alloc, parts.tree.next_id(), body, arguments.as_slice()) {
         None => Err(frame),
         Some(young) => {
-            let child = start(
+            let child = Child {
+                procedure: number,
+                receiver,
+                frame: young,
+            };
+            let id = hand_on(
                 worker,
                 frame,
-                young,
-                callee,
-                receiver,
-                to,
+                passage.to,
+                child,
                 &mut parts.tree,
                 &mut parts.hands,
             )?;
-            Ok(Done::running(Did::Spawned(child, n)))
+            Ok(Done::running(Did::Spawned(id, passage.n)))
         }
     }
 }
@@ -76,13 +90,11 @@ fn child_frame(alloc: Global, id: Id, body: Option<&Body>, arguments: &[i32]) ->
 
 // The parent goes to the bottom of the worker's deque, past its spawn, and the child to its hand.
 // Where memory has run out, the parent's frame comes back, and nothing has changed.
-fn start(
+fn hand_on(
     worker: u8,
     frame: Frame,
-    young: Frame,
-    callee: u32,
-    receiver: Receiver,
     to: u32,
+    child: Child,
     tree: &mut Tree,
     hands: &mut Hands,
 ) -> Result<Id, Frame>
@@ -91,8 +103,8 @@ fn start(
     requires live { is_live (node_at tree.old.nodes frame.id) ≡ true }
     requires room { (node_at tree.old.nodes frame.id).children + 1 < 2 ^ 32 }
     ensures id { IfOk result (λ id. id ≡ length tree.old.nodes) }
-    ensures tree { OnOk result (tree.new.nodes ≡ with_child tree.old.nodes frame.id callee receiver) }
-    ensures hands { OnOk result (hands.new ≡ pushed_by hands.old worker (past_spawn to frame) young) }
+    ensures tree { OnOk result (tree.new.nodes ≡ with_child tree.old.nodes frame.id child.procedure child.receiver) }
+    ensures hands { OnOk result (hands.new ≡ pushed_by hands.old worker (past_spawn to frame) child.frame) }
     ensures back { IfErr result (λ f. f ≡ frame) }
     ensures same_tree { OnErr result (tree.new ≡ tree.old) }
     ensures same_hands { OnErr result (hands.new ≡ hands.old) }
@@ -100,11 +112,16 @@ fn start(
     let id = frame.id();
     let n = frame.node(frame.depth() - 1);
     let boundary = frame.at_boundary();
+    let Child {
+        procedure,
+        receiver,
+        frame: young,
+    } = child;
     let parent = resumed(frame, to, true);
     if let Err(parent) = hands.push_bottom(worker, parent) {
         return Err(resumed(parent, n, boundary));
     }
-    match tree.add_child(id, callee, receiver) {
+    match tree.add_child(id, procedure, receiver) {
         Ok(child) => {
             hands.give(worker, young);
             Ok(child)

@@ -15,54 +15,51 @@ ghost use Rattle.cilk_machine_carry.specs.Carried.{Carried};
 use crate::acting::acted;
 use crate::did::{Did, Done, Outcome};
 use crate::entering::{go_on, leave};
+use crate::given::{Passage, Sender, Writing};
 use crate::parts::Parts;
-use cilk_machine_plan::{Area, Frame, Id, Reached};
+use cilk_machine_plan::{Area, Frame};
 
 /// The delivery that waits longest is taken: the cell takes the value.
 pub(crate) fn carry_take(
     worker: u8,
     frame: Frame,
-    child: Id,
-    n: u32,
-    reached: Reached,
-    value: i32,
+    sender: Sender,
+    writing: Writing,
     choice: u64,
     parts: &mut Parts,
 ) -> Done
     requires worker { IsWorker parts.old.hands worker }
     requires empty { hand_of parts.old.hands worker ≡ None }
     requires live { is_live (node_at parts.old.tree.nodes frame.id) ≡ true }
-    requires fits { Fits reached.slot reached.index frame parts.old.globals.items }
+    requires fits { Fits writing.reached.slot writing.reached.index frame parts.old.globals.items }
     ensures carried { (body : Option Body) → Carried choice (machine_of parts.old outside.running) worker frame body
-        (plans.Take child n reached value) (machine_of parts.new (outcome_of result.outcome)) result.did }
+        (plans.Take sender.child sender.n writing.reached writing.value) (machine_of parts.new (outcome_of result.outcome)) result.did }
     ensures runs { result.outcome ≡ Outcome.Running }
 {
     let id = frame.id();
-    let frame = write(&mut parts.globals, frame, reached, value);
+    let frame = write(&mut parts.globals, frame, writing);
     let _taken = parts.tree.take_delivery(id, choice);
     parts.hands.give(worker, frame);
-    Done::running(Did::Delivered(child, n))
+    Done::running(Did::Delivered(sender.child, sender.n))
 }
 
 /// A cell takes a value.
 pub(crate) fn carry_write(
     worker: u8,
     frame: Frame,
-    n: u32,
-    reached: Reached,
-    value: i32,
-    to: u32,
+    passage: Passage,
+    writing: Writing,
     parts: &mut Parts,
 ) -> Done
     requires worker { IsWorker parts.old.hands worker }
     requires empty { hand_of parts.old.hands worker ≡ None }
-    requires fits { Fits reached.slot reached.index (gone_to to frame) parts.old.globals.items }
+    requires fits { Fits writing.reached.slot writing.reached.index (gone_to passage.to frame) parts.old.globals.items }
     ensures carried { (choice : ℕ) (body : Option Body) → Carried choice (machine_of parts.old outside.running) worker frame body
-        (plans.Write n reached value to) (machine_of parts.new (outcome_of result.outcome)) result.did }
+        (plans.Write passage.n writing.reached writing.value passage.to) (machine_of parts.new (outcome_of result.outcome)) result.did }
     ensures runs { result.outcome ≡ Outcome.Running }
 {
-    let frame = write(&mut parts.globals, go_on(frame, to), reached, value);
-    acted(worker, frame, n, &mut parts.hands)
+    let frame = write(&mut parts.globals, go_on(frame, passage.to), writing);
+    acted(worker, frame, passage.n, &mut parts.hands)
 }
 
 /// A C function is left, and the cell that its caller reached takes the value.
@@ -70,27 +67,27 @@ pub(crate) fn carry_answer(
     worker: u8,
     frame: Frame,
     n: u32,
-    reached: Reached,
-    value: i32,
+    writing: Writing,
     parts: &mut Parts,
 ) -> Done
     requires worker { IsWorker parts.old.hands worker }
     requires empty { hand_of parts.old.hands worker ≡ None }
     requires inside { 1 < depth frame }
-    requires fits { Fits reached.slot reached.index (left frame) parts.old.globals.items }
+    requires fits { Fits writing.reached.slot writing.reached.index (left frame) parts.old.globals.items }
     ensures { (choice : ℕ) (body : Option Body) → Carried choice (machine_of parts.old outside.running) worker frame body
-        (plans.Answer n reached value) (machine_of parts.new (outcome_of result.outcome)) result.did }
+        (plans.Answer n writing.reached writing.value) (machine_of parts.new (outcome_of result.outcome)) result.did }
 {
-    let frame = write(&mut parts.globals, leave(frame), reached, value);
+    let frame = write(&mut parts.globals, leave(frame), writing);
     acted(worker, frame, n, &mut parts.hands)
 }
 
 // Writes a cell of the frame's top activation, of the procedure's own, or of the top level.
-fn write(globals: &mut Vec<i32>, mut frame: Frame, reached: Reached, value: i32) -> Frame
-    requires { Fits reached.slot reached.index frame globals.old.items }
-    ensures frame { result ≡ frame_put reached.slot reached.index value frame }
-    ensures globals { globals.new.items ≡ globals_put reached.slot reached.index value globals.old.items }
+fn write(globals: &mut Vec<i32>, mut frame: Frame, writing: Writing) -> Frame
+    requires { Fits writing.reached.slot writing.reached.index frame globals.old.items }
+    ensures frame { result ≡ frame_put writing.reached.slot writing.reached.index writing.value frame }
+    ensures globals { globals.new.items ≡ globals_put writing.reached.slot writing.reached.index writing.value globals.old.items }
 {
+    let Writing { reached, value } = writing;
     let cell = reached.slot.offset + reached.index;
     match reached.slot.area {
         Area::Own => {

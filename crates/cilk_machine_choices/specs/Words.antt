@@ -1,5 +1,6 @@
 -- What the choices, refusals, events and ends of the code mean.
-use Rattle.std.specs.Prelude.{Option, Some, None}
+use Rattle.std.specs.Prelude.{ℕ, List, ◌++◌, codes, decimal, Option, Some, None}
+use Rattle.cilk_spawn.specs.model.Path.{Path, path_text}
 use Rattle.cilk_spawn.specs.model.State as state
 use Rattle.cilk_spawn.specs.model.Choice as model
 use Rattle.cilk_spawn.specs.model.Event as event
@@ -55,3 +56,8 @@ end_of (ends.Finished value) = end.finished value
 end_of (ends.Trapped kind path n line) = end.trapped (kind_of kind) path n line
 end_of ends.Stuck = end.stuck
 end_of ends.Limit = end.limit
+
+-- how a trap is told, at action n on a line, as the closing text and the line of a position tell it
+abbrev pub trapped_text : state.TrapKind → Path → ℕ → ℕ → List ℕ
+trapped_text kind path n line =
+    codes "trapped " ++ (end.kind_text kind ++ (codes " in " ++ (path_text path ++ (codes " at " ++ (decimal n ++ (codes ", line " ++ decimal line))))))

@@ -1,5 +1,5 @@
-//! What a machine is told and what it tells: choices and why they are refused, events, how a program ends, and the
-//! closing text of a run.
+//! What a machine is told and what it tells: choices and why they are refused, events, how a program ends, the
+//! closing text of a run, and the text of a trap.
 #![tactic(auto)]
 
 mod act;
@@ -8,6 +8,7 @@ mod closing;
 mod end;
 mod event;
 mod fault;
+mod naming;
 mod outcome;
 mod refusal;
 
@@ -18,5 +19,6 @@ pub use closing::ending;
 pub use end::End;
 pub use event::Event;
 pub use fault::MachineFault;
+pub use naming::put_trapped;
 pub use outcome::Outcome;
 pub use refusal::Refusal;

@@ -1,8 +1,8 @@
 -- What the instance of a frame has before it.
 use Rattle.std.proofs.Common.{◌≡◌, ℕ, ◌<◌, ℤ, Bool, true, false, List, ◌∷◌, length, Option, Some, None, IsSome, refl, sym, ap, ◌∙◌, subst}
 use Rattle.std.specs.Prelude.{option_map}
-use Rattle.cilk_frame.specs.syntax.Tree.{Program}
-use Rattle.cilk_frame.specs.check.Fault.{WellFormed}
+use Rattle.cilk_check.specs.syntax.Tree.{Program}
+use Rattle.cilk_check.specs.scopes.WellFormed.{WellFormed}
 use Rattle.cilk_frame.specs.labelled.Labelled.{Numbered}
 use Rattle.cilk_frame.specs.labelled.Items.{Items, head_of, reached}
 use Rattle.cilk_frame.specs.labelled.Bodies.{label}

@@ -4,12 +4,12 @@ use Rattle.std.proofs.Common.{inl, inr, refl, sym, subst, arith}
 use Rattle.std.specs.Prelude.{All}
 use Rattle.std.proofs.lemmas.List.{length-map}
 use Rattle.std.proofs.lemmas.List.Elements.{All-nil, All-cons}
-use Rattle.cilk_frame.specs.syntax.Tree.{Word}
-use Rattle.cilk_frame.specs.syntax.Tree as tree
-use Rattle.cilk_frame.specs.scopes.Parts.{place_exprs, target_exprs, move_exprs, taker_exprs}
-use Rattle.cilk_frame.proofs.scopes_laws.Elements.{Has, Has-append_left, Has-append_right}
-use Rattle.cilk_frame.specs.rules_of_names.declared.role.Role.TheVariants as role
-use Rattle.cilk_frame.specs.rules_of_names.Uses.{Use, use_as, expr_uses, place_role, place_uses, target_uses, move_uses, taker_uses, takes_value}
+use Rattle.cilk_check.specs.syntax.Tree.{Word}
+use Rattle.cilk_check.specs.syntax.Tree as tree
+use Rattle.cilk_check.specs.scopes.Parts.{place_exprs, target_exprs, move_exprs, taker_exprs}
+use Rattle.cilk_check.proofs.scopes_laws.Elements.{Has, Has-append_left, Has-append_right}
+use Rattle.cilk_check.specs.scopes.declared.role.Role.TheVariants as role
+use Rattle.cilk_check.specs.scopes.Uses.{Use, use_as, expr_uses, place_role, place_uses, target_uses, move_uses, taker_uses, takes_value}
 use Rattle.cilk_frame.specs.labelled.Labelled as labelled
 use Rattle.cilk_frame.specs.labelled.Labelled.{Labelled}
 use Rattle.cilk_frame.specs.labelled.Names.{Names, meaning_of, number_of, label_expr, label_index, label_place, label_target}

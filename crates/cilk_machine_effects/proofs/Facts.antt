@@ -3,29 +3,29 @@ use Rattle.std.proofs.Common.{◌≡◌, ◌≢◌, ℕ, ◌<◌, ◌≤◌, Boo
 use Rattle.std.proofs.Common.{is_some, codes, inl, inr, refl, sym, ap, ◌∙◌, arith}
 use Rattle.std.specs.List.{Contains}
 use Rattle.std.proofs.lemmas.Bool.Decides.{Decides-eqb, nat_tests}
-use Rattle.cilk_frame.specs.syntax.declared.return_type.ReturnType.TheVariants as returns
-use Rattle.cilk_frame.specs.syntax.Tree.{Word}
-use Rattle.cilk_frame.specs.syntax.Tree as tree
-use Rattle.cilk_frame.specs.scopes.declared.owner.Owner.{Owner}
-use Rattle.cilk_frame.specs.scopes.declared.owner.Owner.TheVariants as owner
-use Rattle.cilk_frame.specs.scopes.declared.declaration_kind.DeclarationKind.TheVariants as kind
-use Rattle.cilk_frame.specs.scopes.Scopes.{Declared, meaning, kind_of_global, item_declares, file_declares}
-use Rattle.cilk_frame.specs.scopes.Parts.{Around, Part, local, statement, PartInContext, parts_of}
-use Rattle.cilk_frame.specs.scopes.Declarations.{Declaring, declaring, item_parameters, part_declarings, declarings_of}
-use Rattle.cilk_frame.proofs.scopes_laws.Elements.{Has, Contains-from_Has, Has-append_left, Has-append_right, Has-flat_map}
-use Rattle.cilk_frame.proofs.scopes_laws.Splits.{declared_behind}
-use Rattle.cilk_frame.specs.rules_of_names.declared.role.Role.TheVariants as role
-use Rattle.cilk_frame.specs.rules_of_names.Uses.{Use, part_uses, uses_of}
-use Rattle.cilk_frame.specs.rules_of_names.Names as names
-use Rattle.cilk_frame.specs.rules_of_names.Names.{fits, arguments_of, parameters_of, is_for_value, Means}
-use Rattle.cilk_frame.specs.rules_of_names.Finds.{is_reserved}
-use Rattle.cilk_frame.proofs.rules_of_names_laws.Decided.{reserved-Decides, not_from}
-use Rattle.cilk_frame.specs.rules_of_forms.Format.{numbers_in}
-use Rattle.cilk_frame.specs.rules_of_forms.Cells.{is_length}
-use Rattle.cilk_frame.specs.rules_of_forms.Forms as forms
-use Rattle.cilk_frame.specs.rules_of_forms.Forms.{words_of_children, leaves_at, returned_by, has_form}
+use Rattle.cilk_check.specs.syntax.declared.return_type.ReturnType.TheVariants as returns
+use Rattle.cilk_check.specs.syntax.Tree.{Word}
+use Rattle.cilk_check.specs.syntax.Tree as tree
+use Rattle.cilk_check.specs.scopes.declared.owner.Owner.{Owner}
+use Rattle.cilk_check.specs.scopes.declared.owner.Owner.TheVariants as owner
+use Rattle.cilk_check.specs.scopes.declared.declaration_kind.DeclarationKind.TheVariants as kind
+use Rattle.cilk_check.specs.scopes.Scopes.{Declared, meaning, kind_of_global, item_declares, file_declares}
+use Rattle.cilk_check.specs.scopes.Parts.{Around, Part, local, statement, PartInContext, parts_of}
+use Rattle.cilk_check.specs.scopes.Declarations.{Declaring, declaring, item_parameters, part_declarings, declarings_of}
+use Rattle.cilk_check.proofs.scopes_laws.Elements.{Has, Contains-from_Has, Has-append_left, Has-append_right, Has-flat_map}
+use Rattle.cilk_check.proofs.scopes_laws.Splits.{declared_behind}
+use Rattle.cilk_check.specs.scopes.declared.role.Role.TheVariants as role
+use Rattle.cilk_check.specs.scopes.Uses.{Use, part_uses, uses_of}
+use Rattle.cilk_check.specs.scopes.Names as names
+use Rattle.cilk_check.specs.scopes.Names.{fits, arguments_of, parameters_of, is_for_value, Means}
+use Rattle.cilk_check.specs.rules_of_names.Finds.{is_reserved}
+use Rattle.cilk_check.proofs.rules_of_names_laws.Decided.{reserved-Decides, not_from}
+use Rattle.cilk_check.specs.scopes.Format.{numbers_in}
+use Rattle.cilk_check.specs.scopes.Cells.{is_length}
+use Rattle.cilk_check.specs.scopes.Forms as forms
+use Rattle.cilk_check.specs.scopes.Forms.{words_of_children, leaves_at, returned_by, has_form}
 use Rattle.cilk_frame.specs.labelled.Bodies.{is_procedure}
-use Rattle.cilk_frame.specs.check.Fault.{WellFormed}
+use Rattle.cilk_check.specs.scopes.WellFormed.{WellFormed}
 
 -- what a use means, and that it is one of these
 pub record Sound (used : Use) : Type 0 where

@@ -3,13 +3,13 @@ use Rattle.std.proofs.Common.{◌≡◌, ℕ, suc, ◌+◌, ◌<◌, ◌≤◌, 
 use Rattle.std.proofs.Common.{arith, length-append}
 use Rattle.std.proofs.lemmas.Bool.{cases_lt}
 use Rattle.std.proofs.lemmas.List.{length-map}
-use Rattle.cilk_frame.specs.syntax.Tree.{Word}
-use Rattle.cilk_frame.specs.syntax.Tree as tree
-use Rattle.cilk_frame.specs.scopes.declared.owner.Owner.{Owner}
-use Rattle.cilk_frame.specs.scopes.Scopes.{parameter, declare_all, enter, parameters_declare, parameter_count, file_scopes}
-use Rattle.cilk_frame.specs.scopes.Parts.{Around, owner_of, block_parts, locals_parts, stmts_parts, after_locals, item_parts}
-use Rattle.cilk_frame.proofs.scopes_laws.Elements.{Has, Has-flat_map}
-use Rattle.cilk_frame.specs.check.Fault.{WellFormed}
+use Rattle.cilk_check.specs.syntax.Tree.{Word}
+use Rattle.cilk_check.specs.syntax.Tree as tree
+use Rattle.cilk_check.specs.scopes.declared.owner.Owner.{Owner}
+use Rattle.cilk_check.specs.scopes.Scopes.{parameter, declare_all, enter, parameters_declare, parameter_count, file_scopes}
+use Rattle.cilk_check.specs.scopes.Parts.{Around, owner_of, block_parts, locals_parts, stmts_parts, after_locals, item_parts}
+use Rattle.cilk_check.proofs.scopes_laws.Elements.{Has, Has-flat_map}
+use Rattle.cilk_check.specs.scopes.WellFormed.{WellFormed}
 use Rattle.cilk_frame.specs.labelled.Labelled as labelled
 use Rattle.cilk_frame.specs.labelled.Labelled.{Labelled, Body, Variable}
 use Rattle.cilk_frame.specs.labelled.Names.{Names, with_words, with_name, with_parameters, with_local, local_count, entered}

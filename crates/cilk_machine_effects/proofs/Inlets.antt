@@ -2,15 +2,15 @@
 use Rattle.std.proofs.Common.{◌≡◌, ℕ, suc, ◌+◌, ◌<◌, ◌≤◌, pos, true, false, IsTrue, List, [], ◌∷◌, ◌++◌, map, length, inl, inr, refl, sym, ap, subst}
 use Rattle.std.proofs.Common.{◌∙◌, arith}
 use Rattle.std.proofs.lemmas.Bool.{cases_lt}
-use Rattle.cilk_frame.specs.syntax.Tree.{Word}
-use Rattle.cilk_frame.specs.syntax.Tree as tree
-use Rattle.cilk_frame.specs.scopes.declared.owner.Owner.{Owner}
-use Rattle.cilk_frame.specs.scopes.declared.owner.Owner.TheVariants as owner
-use Rattle.cilk_frame.specs.scopes.Scopes.{Scopes, parameter, declare_all, parameters_declare}
-use Rattle.cilk_frame.specs.scopes.Within.{whole_body}
-use Rattle.cilk_frame.specs.scopes.Parts.{block_parts, within_local}
-use Rattle.cilk_frame.proofs.scopes_laws.Elements.{Has-append_left}
-use Rattle.cilk_frame.specs.check.Fault.{WellFormed}
+use Rattle.cilk_check.specs.syntax.Tree.{Word}
+use Rattle.cilk_check.specs.syntax.Tree as tree
+use Rattle.cilk_check.specs.scopes.declared.owner.Owner.{Owner}
+use Rattle.cilk_check.specs.scopes.declared.owner.Owner.TheVariants as owner
+use Rattle.cilk_check.specs.scopes.Scopes.{Scopes, parameter, declare_all, parameters_declare}
+use Rattle.cilk_check.specs.scopes.Within.{whole_body}
+use Rattle.cilk_check.specs.scopes.Parts.{block_parts, within_local}
+use Rattle.cilk_check.proofs.scopes_laws.Elements.{Has-append_left}
+use Rattle.cilk_check.specs.scopes.WellFormed.{WellFormed}
 use Rattle.cilk_frame.specs.labelled.Labelled as labelled
 use Rattle.cilk_frame.specs.labelled.Labelled.{Labelled, Body, Variable}
 use Rattle.cilk_frame.specs.labelled.Names.{Names, with_words, with_name, with_parameters, with_local, local_count, in_inlet}

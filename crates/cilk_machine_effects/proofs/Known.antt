@@ -2,9 +2,9 @@
 use Rattle.std.proofs.Common.{◌≡◌, ℕ, ◌<◌, Bool, true, false, ◌&&◌, List, [], ◌∷◌, length, Some, IsSome, IsNone, codes, slice_get, bytes_eq, refl}
 use Rattle.std.proofs.Common.{sym, subst, append-nil}
 use Rattle.std.proofs.lemmas.Slice.Eq.{bytes_eq-Decides}
-use Rattle.cilk_frame.specs.syntax.Tree as tree
-use Rattle.cilk_frame.specs.scopes.Scopes.{file_declares}
-use Rattle.cilk_frame.specs.check.Fault.{WellFormed}
+use Rattle.cilk_check.specs.syntax.Tree as tree
+use Rattle.cilk_check.specs.scopes.Scopes.{file_declares}
+use Rattle.cilk_check.specs.scopes.WellFormed.{WellFormed}
 use Rattle.cilk_frame.specs.labelled.Labelled.{Labelled, Body, Numbered, Action}
 use Rattle.cilk_frame.specs.labelled.Items.{head_of, reached}
 use Rattle.cilk_frame.specs.labelled.Bodies.{label, bodies_of, file_names, is_start, is_procedure}

@@ -20,4 +20,7 @@ pub mod Several
 pub mod Printed
 pub mod Same
 pub mod Shapes
+pub use Rattle.cilk_check.proofs as check_laws
+pub use Rattle.cilk_check.proofs.rules_of_forms_laws
+pub use Rattle.cilk_check.proofs.rules_of_names_laws
 pub use Rattle.cilk_frame.proofs as frame_laws

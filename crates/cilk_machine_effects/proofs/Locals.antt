@@ -3,14 +3,14 @@ use Rattle.std.proofs.Common.{◌≡◌, ℕ, ◌+◌, ◌<◌, ◌≤◌, pos, 
 use Rattle.std.proofs.Common.{◌∙◌, arith}
 use Rattle.std.proofs.lemmas.List.{length-map}
 use Rattle.std.proofs.lemmas.Bool.{cases_lt}
-use Rattle.cilk_frame.specs.syntax.Tree.{Word}
-use Rattle.cilk_frame.specs.syntax.Tree as tree
-use Rattle.cilk_frame.specs.scopes.declared.owner.Owner.{Owner}
-use Rattle.cilk_frame.specs.scopes.declared.owner.Owner.TheVariants as owner
-use Rattle.cilk_frame.specs.scopes.Scopes.{local_declares, kind_of_shape}
-use Rattle.cilk_frame.specs.scopes.Parts.{local, PartInContext, parts_of, after_local, after_locals, locals_parts, within_local}
-use Rattle.cilk_frame.proofs.scopes_laws.Elements.{Has, Has-append_left, Has-append_right}
-use Rattle.cilk_frame.specs.check.Fault.{WellFormed}
+use Rattle.cilk_check.specs.syntax.Tree.{Word}
+use Rattle.cilk_check.specs.syntax.Tree as tree
+use Rattle.cilk_check.specs.scopes.declared.owner.Owner.{Owner}
+use Rattle.cilk_check.specs.scopes.declared.owner.Owner.TheVariants as owner
+use Rattle.cilk_check.specs.scopes.Scopes.{local_declares, kind_of_shape}
+use Rattle.cilk_check.specs.scopes.Parts.{local, PartInContext, parts_of, after_local, after_locals, locals_parts, within_local}
+use Rattle.cilk_check.proofs.scopes_laws.Elements.{Has, Has-append_left, Has-append_right}
+use Rattle.cilk_check.specs.scopes.WellFormed.{WellFormed}
 use Rattle.cilk_frame.specs.labelled.Labelled.{Labelled, Body, Variable, Action, Stmts}
 use Rattle.cilk_frame.specs.labelled.Labelled as labelled
 use Rattle.cilk_frame.specs.labelled.Names.{Names, with_words, with_local, local_count, in_inlet}

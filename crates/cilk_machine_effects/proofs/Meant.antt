@@ -3,20 +3,20 @@ use Rattle.std.proofs.Common.{◌≡◌, ◌≢◌, ℕ, zero, suc, ◌<◌, ℤ
 use Rattle.std.proofs.Common.{map, length, get_or, Some, codes, bytes_eq, refl, sym, ap, subst, ◌∙◌}
 use Rattle.std.proofs.lemmas.Bool.{cases_lt}
 use Rattle.std.proofs.lemmas.Slice.Eq.{bytes_eq-Decides}
-use Rattle.cilk_frame.specs.syntax.declared.return_type.ReturnType.{ReturnType}
-use Rattle.cilk_frame.specs.syntax.declared.return_type.ReturnType.TheVariants as returns
-use Rattle.cilk_frame.specs.syntax.Tree.{Word}
-use Rattle.cilk_frame.specs.syntax.Tree as tree
-use Rattle.cilk_frame.specs.scopes.declared.owner.Owner.{Owner}
-use Rattle.cilk_frame.specs.scopes.declared.owner.Owner.TheVariants as owner
-use Rattle.cilk_frame.specs.scopes.declared.declaration_kind.DeclarationKind.{DeclarationKind}
-use Rattle.cilk_frame.specs.scopes.declared.declaration_kind.DeclarationKind.TheVariants as kind
-use Rattle.cilk_frame.specs.scopes.Scopes.{Declared, Scopes, parameter}
-use Rattle.cilk_frame.specs.rules_of_names.declared.role.Role.{Role}
-use Rattle.cilk_frame.specs.rules_of_names.declared.role.Role.TheVariants as role
-use Rattle.cilk_frame.specs.rules_of_names.Names as rules
-use Rattle.cilk_frame.specs.rules_of_names.Names.{fits, parameters_of}
-use Rattle.cilk_frame.specs.rules_of_names.Uses.{use_as}
+use Rattle.cilk_check.specs.syntax.declared.return_type.ReturnType.{ReturnType}
+use Rattle.cilk_check.specs.syntax.declared.return_type.ReturnType.TheVariants as returns
+use Rattle.cilk_check.specs.syntax.Tree.{Word}
+use Rattle.cilk_check.specs.syntax.Tree as tree
+use Rattle.cilk_check.specs.scopes.declared.owner.Owner.{Owner}
+use Rattle.cilk_check.specs.scopes.declared.owner.Owner.TheVariants as owner
+use Rattle.cilk_check.specs.scopes.declared.declaration_kind.DeclarationKind.{DeclarationKind}
+use Rattle.cilk_check.specs.scopes.declared.declaration_kind.DeclarationKind.TheVariants as kind
+use Rattle.cilk_check.specs.scopes.Scopes.{Declared, Scopes, parameter}
+use Rattle.cilk_check.specs.scopes.declared.role.Role.{Role}
+use Rattle.cilk_check.specs.scopes.declared.role.Role.TheVariants as role
+use Rattle.cilk_check.specs.scopes.Names as rules
+use Rattle.cilk_check.specs.scopes.Names.{fits, parameters_of}
+use Rattle.cilk_check.specs.scopes.Uses.{use_as}
 use Rattle.cilk_frame.specs.labelled.Labelled.{Declaration, local, outer, global, of_lock, of_body, unknown, Labelled}
 use Rattle.cilk_frame.specs.labelled.Names.{Names, meaning_at, meaning_of, number_of, with_name, with_words, with_parameters, outward}
 use Rattle.cilk_frame.specs.labelled.Bodies.{is_procedure, one_cell, parameter_variables}

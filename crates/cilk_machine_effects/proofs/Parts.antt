@@ -1,12 +1,12 @@
 -- The uses and expressions of one part of a body.
 use Rattle.std.proofs.Common.{◌≡◌, ℕ, Bool, IsTrue, ap, ◌∙◌}
-use Rattle.cilk_frame.specs.syntax.Tree as tree
-use Rattle.cilk_frame.specs.scopes.declared.owner.Owner.{Owner}
-use Rattle.cilk_frame.specs.scopes.Parts.{Around, Part, local, statement, PartInContext, parts_of, stmt_exprs, local_exprs}
-use Rattle.cilk_frame.proofs.scopes_laws.Elements.{Has, Has-append_left, Has-append_right, Has-flat_map}
-use Rattle.cilk_frame.specs.check.Fault.{WellFormed}
-use Rattle.cilk_frame.specs.rules_of_names.Uses.{Use, expr_uses, stmt_uses}
-use Rattle.cilk_frame.specs.rules_of_forms.Forms.{own_word}
+use Rattle.cilk_check.specs.syntax.Tree as tree
+use Rattle.cilk_check.specs.scopes.declared.owner.Owner.{Owner}
+use Rattle.cilk_check.specs.scopes.Parts.{Around, Part, local, statement, PartInContext, parts_of, stmt_exprs, local_exprs}
+use Rattle.cilk_check.proofs.scopes_laws.Elements.{Has, Has-append_left, Has-append_right, Has-flat_map}
+use Rattle.cilk_check.specs.scopes.WellFormed.{WellFormed}
+use Rattle.cilk_check.specs.scopes.Uses.{Use, expr_uses, stmt_uses}
+use Rattle.cilk_check.specs.scopes.Forms.{own_word}
 use Rattle.cilk_frame.specs.labelled.Labelled.{Labelled}
 use Rattle.cilk_frame.specs.labelled.Names.{Names, with_local}
 use Rattle.cilk_frame.specs.labelled.Bodies.{is_procedure}

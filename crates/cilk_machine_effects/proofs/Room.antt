@@ -2,20 +2,20 @@
 use Rattle.std.proofs.Common.{◌≡◌, ℕ, zero, suc, ◌+◌, ◌<◌, ◌≤◌, max, ℤ, pos, Bool, true, false, List, [], ◌∷◌, ◌++◌, map, flat_map, length, Some}
 use Rattle.std.proofs.Common.{slice_get, inl, inr, refl, sym, ap, subst, ◌∙◌, arith, append_assoc, append-nil, length-append}
 use Rattle.std.proofs.lemmas.Bool.{cases_lt}
-use Rattle.cilk_frame.specs.syntax.declared.return_type.ReturnType.{ReturnType}
-use Rattle.cilk_frame.specs.syntax.Tree.{Word}
-use Rattle.cilk_frame.specs.syntax.Tree as tree
-use Rattle.cilk_frame.specs.scopes.Scopes.{Declared, parameter, local_declares, kind_of_body, kind_of_global, item_declares, file_declares}
-use Rattle.cilk_frame.specs.scopes.Parts.{Around, local, inner, looped, after_local, after_locals, block_parts, locals_parts, within_local}
-use Rattle.cilk_frame.specs.scopes.Parts.{stmts_parts, within_stmt, parts_of}
-use Rattle.cilk_frame.specs.scopes.Declarations as declarations
-use Rattle.cilk_frame.specs.scopes.Declarations.{activations_of}
-use Rattle.cilk_frame.proofs.scopes_laws.Elements.{Has, Has-append_right, Has-append_cases, Contains-from_Has}
-use Rattle.cilk_frame.specs.check.Fault.{WellFormed}
-use Rattle.cilk_frame.specs.rules_of_forms.Cells as rules
-use Rattle.cilk_frame.specs.rules_of_forms.Cells.{cells_of, max_cells, max_global_cells}
-use Rattle.cilk_frame.specs.rules_of_forms.Forms as forms
-use Rattle.cilk_frame.specs.rules_of_forms.Forms.{Passes}
+use Rattle.cilk_check.specs.syntax.declared.return_type.ReturnType.{ReturnType}
+use Rattle.cilk_check.specs.syntax.Tree.{Word}
+use Rattle.cilk_check.specs.syntax.Tree as tree
+use Rattle.cilk_check.specs.scopes.Scopes.{Declared, parameter, local_declares, kind_of_body, kind_of_global, item_declares, file_declares}
+use Rattle.cilk_check.specs.scopes.Parts.{Around, local, inner, looped, after_local, after_locals, block_parts, locals_parts, within_local}
+use Rattle.cilk_check.specs.scopes.Parts.{stmts_parts, within_stmt, parts_of}
+use Rattle.cilk_check.specs.scopes.Declarations as declarations
+use Rattle.cilk_check.specs.scopes.Declarations.{activations_of}
+use Rattle.cilk_check.proofs.scopes_laws.Elements.{Has, Has-append_right, Has-append_cases, Contains-from_Has}
+use Rattle.cilk_check.specs.scopes.WellFormed.{WellFormed}
+use Rattle.cilk_check.specs.scopes.Cells as rules
+use Rattle.cilk_check.specs.scopes.Cells.{cells_of, max_cells, max_global_cells}
+use Rattle.cilk_check.specs.scopes.Forms as forms
+use Rattle.cilk_check.specs.scopes.Forms.{Passes}
 use Rattle.cilk_frame.specs.labelled.Labelled.{Variable, Body}
 use Rattle.cilk_frame.specs.labelled.Label.{local_variables, locals_variables, stmt_variables, stmts_variables, block_variables}
 use Rattle.cilk_frame.specs.labelled.Bodies.{one_cell, shaped_variable, item_globals, label, bodies_of}

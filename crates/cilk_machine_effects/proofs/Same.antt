@@ -5,7 +5,7 @@ use Rattle.std.specs.Prelude.{slice_index_or, ⊤, option_map}
 use Rattle.std.specs.List.{All}
 use Rattle.std.proofs.lemmas.List.Elements.{All-head, All-tail, All-map, All-weaker}
 use borrow.Author.Tests.{ltb-true}
-use Rattle.cilk_frame.specs.syntax.declared.operator.BinOp.{BinOp}
+use Rattle.cilk_check.specs.syntax.declared.operator.BinOp.{BinOp}
 use Rattle.cilk_frame.specs.labelled.declared.trap.Trap.{Trap}
 use Rattle.cilk_frame.specs.labelled.declared.trap.Trap.TheVariants.{Index}
 use Rattle.cilk_frame.specs.labelled.Arithmetic.{is_zero}

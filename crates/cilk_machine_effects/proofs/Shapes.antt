@@ -1,7 +1,7 @@
 -- What the effect of an action looks like, by the action.
 use Rattle.std.proofs.Common.{◌≡◌, ℕ, suc, ℤ, pos, negsuc, Bool, true, false, nat_lt, not, List, [], ◌∷◌, length, Option, Some, None, Result, Ok, Err}
 use Rattle.std.proofs.Common.{refl, sym, ap, ◌∙◌, if◌then◌else◌}
-use Rattle.cilk_frame.specs.syntax.declared.operator.BinOp.{BinOp}
+use Rattle.cilk_check.specs.syntax.declared.operator.BinOp.{BinOp}
 use Rattle.cilk_frame.specs.labelled.declared.trap.Trap.{Trap}
 use Rattle.cilk_frame.specs.labelled.declared.trap.Trap.TheVariants.{Index}
 use Rattle.cilk_frame.specs.labelled.Arithmetic.{is_zero}

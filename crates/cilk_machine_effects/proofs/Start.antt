@@ -4,20 +4,20 @@ use Rattle.std.proofs.Common.{is_some, codes, slice_get, bytes_eq, inl, inr, ref
 use Rattle.std.specs.List.{list_any}
 use Rattle.std.proofs.lemmas.Bool.{false≢true}
 use Rattle.std.proofs.lemmas.Slice.Eq.{bytes_eq-Decides}
-use Rattle.cilk_frame.specs.syntax.declared.return_type.ReturnType.TheVariants.{Int}
-use Rattle.cilk_frame.specs.syntax.Tree as tree
-use Rattle.cilk_frame.specs.scopes.declared.owner.Owner.TheVariants.{Procedure}
-use Rattle.cilk_frame.specs.scopes.declared.declaration_kind.DeclarationKind.TheVariants.{Lock}
-use Rattle.cilk_frame.specs.scopes.Scopes.{Declared, declared_in, parameter_count, kind_of_body, kind_of_global, item_declares, file_declares}
-use Rattle.cilk_frame.specs.scopes.Parts.{owner_of}
-use Rattle.cilk_frame.specs.scopes.Declarations.{Declaring, declaring, declarings_of}
-use Rattle.cilk_frame.proofs.scopes_laws.Elements.{Has, Has-append_left, Has-append_right, Has-flat_map, Has-from_Contains, Contains-from_Has}
-use Rattle.cilk_frame.specs.rules_of_names.Names as names
-use Rattle.cilk_frame.specs.rules_of_forms.Forms as forms
-use Rattle.cilk_frame.specs.rules_of_forms.Forms.{IsMain, are_of_main}
-use Rattle.cilk_frame.specs.rules_of_forms.Finds.{starts}
-use Rattle.cilk_frame.proofs.rules_of_forms_laws.Mains.{Started, started, starts_where}
-use Rattle.cilk_frame.specs.check.Fault.{WellFormed}
+use Rattle.cilk_check.specs.syntax.declared.return_type.ReturnType.TheVariants.{Int}
+use Rattle.cilk_check.specs.syntax.Tree as tree
+use Rattle.cilk_check.specs.scopes.declared.owner.Owner.TheVariants.{Procedure}
+use Rattle.cilk_check.specs.scopes.declared.declaration_kind.DeclarationKind.TheVariants.{Lock}
+use Rattle.cilk_check.specs.scopes.Scopes.{Declared, declared_in, parameter_count, kind_of_body, kind_of_global, item_declares, file_declares}
+use Rattle.cilk_check.specs.scopes.Parts.{owner_of}
+use Rattle.cilk_check.specs.scopes.Declarations.{Declaring, declaring, declarings_of}
+use Rattle.cilk_check.proofs.scopes_laws.Elements.{Has, Has-append_left, Has-append_right, Has-flat_map, Has-from_Contains, Contains-from_Has}
+use Rattle.cilk_check.specs.scopes.Names as names
+use Rattle.cilk_check.specs.scopes.Forms as forms
+use Rattle.cilk_check.specs.scopes.Forms.{IsMain, are_of_main}
+use Rattle.cilk_check.specs.rules_of_forms.Finds.{starts}
+use Rattle.cilk_check.proofs.rules_of_forms_laws.Mains.{Started, started, starts_where}
+use Rattle.cilk_check.specs.scopes.WellFormed.{WellFormed}
 use Rattle.cilk_frame.specs.labelled.Labelled.{Body, Variable}
 use Rattle.cilk_frame.specs.labelled.Names.{Names}
 use Rattle.cilk_frame.specs.labelled.Count.{count_item}

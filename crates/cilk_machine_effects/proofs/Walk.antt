@@ -2,17 +2,17 @@
 use Rattle.std.proofs.Common.{◌≡◌, ℕ, ◌+◌, Bool, true, false, IsTrue, ◌∷◌, ◌++◌, length, Option, Some, None, option_to_list, inl, inr, refl, sym, ap}
 use Rattle.std.proofs.Common.{subst, ◌∙◌}
 use Rattle.std.proofs.lemmas.List.{length-map}
-use Rattle.cilk_frame.specs.syntax.declared.return_type.ReturnType.{ReturnType}
-use Rattle.cilk_frame.specs.syntax.declared.return_type.ReturnType.TheVariants as returns
-use Rattle.cilk_frame.specs.syntax.Tree as tree
-use Rattle.cilk_frame.specs.scopes.declared.owner.Owner.{Owner}
-use Rattle.cilk_frame.specs.scopes.Parts.{Around, statement, parts_of, moves_exprs, inner, after_locals, block_parts, locals_parts, within_stmt, stmts_parts}
-use Rattle.cilk_frame.proofs.scopes_laws.Elements.{Has, Has-append_left, Has-append_right}
-use Rattle.cilk_frame.specs.check.Fault.{WellFormed}
-use Rattle.cilk_frame.specs.rules_of_names.Uses.{moves_uses}
-use Rattle.cilk_frame.specs.rules_of_names.declared.role.Role.TheVariants as role
-use Rattle.cilk_frame.specs.rules_of_forms.Format.{numbers_in}
-use Rattle.cilk_frame.specs.rules_of_forms.Forms.{returned_by, has_form}
+use Rattle.cilk_check.specs.syntax.declared.return_type.ReturnType.{ReturnType}
+use Rattle.cilk_check.specs.syntax.declared.return_type.ReturnType.TheVariants as returns
+use Rattle.cilk_check.specs.syntax.Tree as tree
+use Rattle.cilk_check.specs.scopes.declared.owner.Owner.{Owner}
+use Rattle.cilk_check.specs.scopes.Parts.{Around, statement, parts_of, moves_exprs, inner, after_locals, block_parts, locals_parts, within_stmt, stmts_parts}
+use Rattle.cilk_check.proofs.scopes_laws.Elements.{Has, Has-append_left, Has-append_right}
+use Rattle.cilk_check.specs.scopes.WellFormed.{WellFormed}
+use Rattle.cilk_check.specs.scopes.Uses.{moves_uses}
+use Rattle.cilk_check.specs.scopes.declared.role.Role.TheVariants as role
+use Rattle.cilk_check.specs.scopes.Format.{numbers_in}
+use Rattle.cilk_check.specs.scopes.Forms.{returned_by, has_form}
 use Rattle.cilk_frame.specs.labelled.Labelled.{Labelled}
 use Rattle.cilk_frame.specs.labelled.Names.{Names, entered, label_expr}
 use Rattle.cilk_frame.specs.labelled.Count.{count_option, count_stmt, count_locals, count_block}

@@ -1,6 +1,6 @@
 -- What an instance has before it, and the node that stands for it.
 use Rattle.std.specs.Prelude.{◌≡◌, ℕ, Bool, true, false, IsSome, Some}
-use Rattle.cilk_frame.specs.syntax.Tree.{Program}
+use Rattle.cilk_check.specs.syntax.Tree.{Program}
 use Rattle.cilk_frame.specs.labelled.Labelled.{Numbered}
 use Rattle.cilk_frame.specs.labelled.Items.{head_of}
 use Rattle.cilk_frame.specs.labelled.Bodies.{label}

@@ -1,11 +1,11 @@
 -- What the actions of a body use is there: variables and arrays, bodies that take the arguments, locks.
 use Rattle.std.specs.Prelude.{◌≡◌, ◌≢◌, ℕ, suc, ◌<◌, ◌≤◌, All, Bool, true, false, IsTrue, ⊤, length, Option, Some, None, is_some}
-use Rattle.cilk_frame.specs.syntax.declared.return_type.ReturnType.{ReturnType}
-use Rattle.cilk_frame.specs.syntax.declared.return_type.ReturnType.TheVariants.{Int, Void}
-use Rattle.cilk_frame.specs.scopes.declared.owner.Owner.{Owner}
-use Rattle.cilk_frame.specs.scopes.declared.owner.Owner.TheVariants.{Function, Procedure, Inlet}
-use Rattle.cilk_frame.specs.rules_of_forms.Format.{numbers_in}
-use Rattle.cilk_frame.specs.rules_of_forms.Forms.{returned_by}
+use Rattle.cilk_check.specs.syntax.declared.return_type.ReturnType.{ReturnType}
+use Rattle.cilk_check.specs.syntax.declared.return_type.ReturnType.TheVariants.{Int, Void}
+use Rattle.cilk_check.specs.scopes.declared.owner.Owner.{Owner}
+use Rattle.cilk_check.specs.scopes.declared.owner.Owner.TheVariants.{Function, Procedure, Inlet}
+use Rattle.cilk_check.specs.scopes.Format.{numbers_in}
+use Rattle.cilk_check.specs.scopes.Forms.{returned_by}
 use Rattle.cilk_frame.specs.labelled.Labelled.{Target, variable, element, Into, Taker, nothing, into, through, Action, assign, call, spawn, print}
 use Rattle.cilk_frame.specs.labelled.Labelled.{locking, null, break_off, go_round, tests, sync, abort, return_with, return_nothing, close, Labelled}
 use Rattle.cilk_frame.specs.labelled.Bodies.{is_procedure}

@@ -5,9 +5,12 @@ pub mod Heads
 pub mod Fits
 pub mod Effects
 pub mod Slotted
+pub use Rattle.cilk_check.specs as check
+pub use Rattle.cilk_check.specs.rules_of_forms
+pub use Rattle.cilk_check.specs.rules_of_names
+pub use Rattle.cilk_check.specs.syntax
 pub use Rattle.cilk_frame.specs as frame
 pub use Rattle.cilk_frame.specs.eval
 pub use Rattle.cilk_frame.specs.labelled
 pub use Rattle.cilk_frame.specs.model
 pub use Rattle.cilk_frame.specs.nodes
-pub use Rattle.cilk_frame.specs.syntax

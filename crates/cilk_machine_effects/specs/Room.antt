@@ -1,7 +1,7 @@
 -- How much room a program takes, and what it starts with.
 use Rattle.std.specs.Prelude.{◌≡◌, ℕ, ◌<◌, ◌≤◌, pos, ◌⊎◌, List, length, slice_get, codes, Some}
-use Rattle.cilk_frame.specs.syntax.declared.return_type.ReturnType.TheVariants.{Int}
-use Rattle.cilk_frame.specs.scopes.declared.owner.Owner.TheVariants.{Procedure}
+use Rattle.cilk_check.specs.syntax.declared.return_type.ReturnType.TheVariants.{Int}
+use Rattle.cilk_check.specs.scopes.declared.owner.Owner.TheVariants.{Procedure}
 use Rattle.cilk_frame.specs.labelled.Labelled.{Variable, Body, Labelled}
 use Rattle.cilk_frame.specs.model.Instance.{body_at}
 use Rattle.cilk_frame.specs.nodes.Slots.{cells_of}

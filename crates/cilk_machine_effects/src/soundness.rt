@@ -1,14 +1,14 @@
 //! What holds of the bodies of well-formed programs. The functions do nothing: their contracts are the laws.
 
 ghost use Rattle.std.specs.Prelude.{◌≡◌, ◌<◌, ◌∷◌, [], ℕ, ℤ, Bool, false, List, length, IsSome, IsNone, Some, Ok};
-ghost use Rattle.cilk_frame.specs.syntax.Tree.{Program};
-ghost use Rattle.cilk_frame.specs.check.Fault.{WellFormed};
+ghost use Rattle.cilk_check.specs.syntax.Tree.{Program};
+ghost use Rattle.cilk_check.specs.scopes.WellFormed.{WellFormed};
 ghost use Rattle.cilk_frame.specs.labelled.Labelled.{Numbered, Labelled, Into, Body};
 ghost use Rattle.cilk_frame.specs.labelled.Items.{head_of, reached};
 ghost use Rattle.cilk_frame.specs.labelled.Bodies.{label};
 ghost use Rattle.cilk_machine_effects.specs.Heads.{EachOf, LeavesInLoops, GoesOn};
 ghost use Rattle.cilk_frame.specs.model.Instance.{body_at, Instance};
-ghost use Rattle.cilk_frame.specs.rules_of_forms.Cells.{max_cells, max_global_cells};
+ghost use Rattle.cilk_check.specs.scopes.Cells.{max_cells, max_global_cells};
 ghost use Rattle.cilk_frame.specs.eval.Slots.{Cells};
 ghost use Rattle.cilk_frame.specs.model.Values.{Store, Reached, environment, reached_at};
 ghost use Rattle.cilk_frame.specs.Cells.{HasCell};

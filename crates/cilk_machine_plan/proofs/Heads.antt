@@ -1,7 +1,7 @@
 -- The head of the instance in a worker's hand, as nodes and items tell it.
 use Rattle.std.proofs.Common.{◌≡◌, ℕ, ◌<◌, Bool, true, false, List, ◌∷◌, length, Option, Some, None, refl, sym, ap, ◌∙◌, subst}
 use Rattle.std.specs.Prelude.{is_some, IsSome, unwrap_or, option_map}
-use Rattle.cilk_machine_agree.specs.check.Fault.{WellFormed}
+use Rattle.cilk_machine_agree.specs.scopes.WellFormed.{WellFormed}
 use Rattle.cilk_machine_agree.specs.syntax.Tree.{Program}
 use Rattle.cilk_machine_agree.specs.labelled.Labelled.{Labelled, Numbered}
 use Rattle.cilk_machine_agree.specs.labelled.Items.{Items, opened, next, head_of, reached}

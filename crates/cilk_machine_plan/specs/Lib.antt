@@ -3,7 +3,6 @@ pub mod Sights
 pub mod Made
 pub mod Plans
 pub use Rattle.cilk_machine_agree.specs as agree
-pub use Rattle.cilk_machine_agree.specs.check
 pub use Rattle.cilk_machine_agree.specs.eval
 pub use Rattle.cilk_machine_agree.specs.frame
 pub use Rattle.cilk_machine_agree.specs.labelled
@@ -14,3 +13,4 @@ pub use Rattle.cilk_machine_agree.specs.sched
 pub use Rattle.cilk_machine_agree.specs.spawn
 pub use Rattle.cilk_machine_agree.specs.syntax
 pub use Rattle.cilk_machine_effects.specs as effects
+pub use Rattle.cilk_machine_effects.specs.check

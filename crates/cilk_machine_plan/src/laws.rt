@@ -1,6 +1,6 @@
 //! The law of plans. The function does nothing: its contract is what is proved.
 
-ghost use Rattle.cilk_machine_agree.specs.check.Fault.{WellFormed};
+ghost use Rattle.cilk_machine_agree.specs.scopes.WellFormed.{WellFormed};
 ghost use Rattle.cilk_machine_agree.specs.Laws.{Turn};
 ghost use Rattle.cilk_machine_plan.specs.Plans.{sight_in, IsPlan};
 ghost use Rattle.cilk_machine_plan.specs.Made.{planned};

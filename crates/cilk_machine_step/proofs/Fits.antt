@@ -1,6 +1,6 @@
 -- The step of an instance in a worker's hand can be planned.
 use Rattle.std.proofs.Common.{◌≡◌, ◌<◌, length, Some, sym, ap, ◌∙◌, subst}
-use Rattle.cilk_load.specs.check.Fault.{WellFormed}
+use Rattle.cilk_load.specs.check.scopes.WellFormed.{WellFormed}
 use Rattle.cilk_machine_plan.proofs.effects_laws.Known.{heads, follows}
 use Rattle.cilk_eval.specs.Slots.{sizes_of}
 use Rattle.cilk_load.specs.labelled.Bodies.{label}

@@ -183,7 +183,8 @@ trap-effect cells (Return t) trap = refl
 trap-effect cells ReturnNothing trap = refl
 trap-effect cells Close trap = refl
 
-pub no_effect : (g : StepInput) (n : ℕ) (node : Node) (trap : Trap) → traps (kind.Value trap) n ≡ by_effect g n node (effect_by (cells_in g) node.action (Err trap))
+pub no_effect : (g : StepInput) (n : ℕ) (node : Node) (trap : Trap)
+    → traps (kind.Value trap) n ≡ by_effect g n node (effect_by (cells_in g) node.action (Err trap))
 no_effect g n node trap = ap (by_effect g n node) (sym (trap-effect (cells_in g) node.action trap))
 
 same_node : (a b : Node) → Some a ≡ Some b → a ≡ b

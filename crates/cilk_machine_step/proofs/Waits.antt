@@ -21,7 +21,7 @@ use Rattle.cilk_machine_plan.specs.frame.declared.awaited.Await.{Await}
 use Rattle.cilk_machine_plan.specs.frame.Frames.{top_of, left}
 use Rattle.cilk_machine_plan.specs.spawn.declared.receiver.Receiver as receiver
 use Rattle.cilk_machine_plan.specs.spawn.declared.receiver.Receiver.{Receiver}
-use Rattle.cilk_machine_plan.specs.spawn.Nodes.{is_synched}
+use Rattle.cilk_machine_plan.specs.spawn.Nodes.{is_synched, has_live_child}
 use Rattle.cilk_machine_plan.specs.effects.declared.effect.Effect.{Effect}
 use Rattle.cilk_machine_plan.specs.effects.declared.effect.Effect.TheVariants.{Writes, Answers, Enters, Gives, Starts, Prints, Turns, Marks}
 use Rattle.cilk_machine_plan.specs.effects.Effects.{index_of, awaited, effect_in}
@@ -31,9 +31,9 @@ use Rattle.cilk_machine_plan.specs.spawn.declared.trap_kind.TrapKind.TheVariants
 use Rattle.cilk_machine_plan.specs.declared.plan.Plan.{Plan}
 use Rattle.cilk_machine_plan.specs.declared.plan.Plan.TheVariants as plan
 use Rattle.cilk_machine_plan.specs.Made.{traps, if_room, takes_by, next_of, target_of_node, answered_at, answered, is_function_body, given, turned_to}
-use Rattle.cilk_machine_plan.specs.Made.{by_effect, is_sync, is_spawn, leaves, acted}
+use Rattle.cilk_machine_plan.specs.Made.{by_effect, is_sync, is_spawn, leaves, acted, aborted, taken_by}
 use Rattle.cilk_machine_plan.specs.Sights.{StepInput, id_of, cells_by, cells_in, holds_lock, is_outer}
-use Rattle.cilk_machine_step.specs.Scenes.{is_wait, is_blocked, wants_held_lock}
+use Rattle.cilk_machine_step.specs.Scenes.{is_wait, takes_nothing, is_blocked, wants_held_lock}
 
 if-goes : (b : Bool) (x y : Plan) → is_wait x ≡ false → is_wait y ≡ false → is_wait (if b then x else y) ≡ false
 if-goes true x y h k = h
@@ -69,6 +69,17 @@ turned-waits n to lock (turned now) = refl
 turned-waits n to lock refused = refl
 turned-waits n to lock blocked = refl
 
+-- an instance that was aborted never waits for a lock
+pub aborted-goes : (g : StepInput) → is_wait (aborted g) ≡ false
+aborted-goes g = if-goes (has_live_child g.nodes (id_of g)) plan.Park plan.End refl refl
+
+-- a delivery waits where nothing takes it
+pub taken-waits : (g : StepInput) (child : ℕ) (z : ℤ) (taken : Receiver) → is_wait (taken_by g child z taken) ≡ takes_nothing taken
+taken-waits g child z receiver.TheVariants.Nothing = refl
+taken-waits g child z (receiver.TheVariants.Place op slot index n) =
+    takes-goes n (combined op (slot_cell (cells_in g) slot index) z) (λ y. plan.Take child n (record { slot = slot; index = index }) y) (λ y. refl)
+taken-waits g child z (receiver.TheVariants.Call n others) = refl
+
 -- whether a step waits that has this effect
 abbrev is_stopped : StepInput → Result Effect Trap → Bool
 is_stopped g (Err trap) = false
@@ -92,7 +103,8 @@ effect-waits g n node (Ok (Prints bytes)) = room-goes _ kind.Output n (plan.Prin
 effect-waits g n node (Ok (Turns what lock)) = turned-waits n (next_of node true) lock (turn_among g.locks (id_of g) what lock)
 effect-waits g n node (Ok Marks) = refl
 
-then-goes : {A : Type 0} (g : StepInput) (r : Result A Trap) (f : A → Result Effect Trap) → ((a : A) → is_stopped g (f a) ≡ false) → is_stopped g (r >>= f) ≡ false
+then-goes : {A : Type 0} (g : StepInput) (r : Result A Trap) (f : A → Result Effect Trap) → ((a : A) → is_stopped g (f a) ≡ false)
+    → is_stopped g (r >>= f) ≡ false
 then-goes g (Ok a) f h = h a
 then-goes g (Err trap) f h = refl
 

@@ -1,4 +1,5 @@
 pub mod Scenes
 pub mod Looks
+pub mod Comings
 pub use Rattle.cilk_eval.specs as eval
 pub use Rattle.cilk_load.specs.labelled

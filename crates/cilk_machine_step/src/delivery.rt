@@ -1,6 +1,6 @@
 //! A delivery that is taken.
 
-ghost use Rattle.std.specs.Prelude.{◌≡◌, ◌<◌, length, IfOk};
+ghost use Rattle.std.specs.Prelude.{◌≡◌, ◌<◌, ◌∷◌, length, IfOk};
 ghost use Rattle.cilk_machine_plan.specs.nodes.Table.{node_of};
 ghost use Rattle.cilk_machine_plan.specs.Sights.{id_of};
 ghost use Rattle.cilk_machine_step.specs.Scenes.{sight_of};
@@ -42,18 +42,25 @@ pub(crate) fn taken(alloc: Global, scene: &Scene, delivery: &Delivery) -> Result
             })
         }
         Receiver::Call { n, args } => {
-            let others = args.as_slice();
-            let mut values = Vec::with_capacity(alloc, others.len() + 1)?;
-            values.push(delivery.value)?;
-            values.extend_from_slice(others)?;
+            let arguments = arguments_of(alloc, delivery.value, args.as_slice())?;
             Ok(Plan::Enter {
                 child: delivery.child,
                 n: *n,
                 inlet: inlet_of(scene.loaded, *n),
-                arguments: Arguments::new(values),
+                arguments,
             })
         }
     }
+}
+
+// The value of the child, and the others behind it.
+fn arguments_of(alloc: Global, value: i32, others: &[i32]) -> Result<Arguments, Memory>
+    ensures { IfOk result (λ arguments. arguments ≡ value ∷ others.now) }
+{
+    let mut values = Vec::with_capacity(alloc, others.len() + 1)?;
+    values.push(value)?;
+    values.extend_from_slice(others)?;
+    Ok(Arguments::new(values))
 }
 
 // The inlet of spawn n.

@@ -1,7 +1,7 @@
 //! The law of scenes. The function does nothing: its contract is what is proved.
 
 ghost use Rattle.std.specs.Prelude.{◌<◌, length};
-ghost use Rattle.cilk_load.specs.check.Fault.{WellFormed};
+ghost use Rattle.cilk_load.specs.check.scopes.WellFormed.{WellFormed};
 ghost use Rattle.cilk_machine_plan.specs.agree.Laws.{Turn};
 ghost use Rattle.cilk_machine_plan.specs.Plans.{sight_in};
 ghost use Rattle.cilk_machine_plan.specs.Sights.{id_of};

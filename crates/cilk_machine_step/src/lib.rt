@@ -2,6 +2,7 @@
 #![tactic(auto)]
 
 mod act;
+mod coming;
 mod delivery;
 mod laws;
 mod leaving;

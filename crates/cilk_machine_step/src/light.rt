@@ -10,7 +10,8 @@ ghost use Rattle.cilk_machine_plan.specs.Made.{acted, ends_thread, given, leaves
 ghost use Rattle.cilk_machine_plan.specs.Words.{plan_of};
 ghost use Rattle.cilk_machine_step.specs.Scenes.{sight_of, HeadFits};
 
-use crate::act::{at_boundary, ends_thread, leaves, next_of};
+use crate::act::{ends_thread, leaves, next_of};
+use crate::coming::{Coming, comes_next};
 use crate::leaving::given;
 use crate::scene::Scene;
 use cilk_load::{Action, Node, Slots, Trap, eval};
@@ -24,23 +25,10 @@ pub fn plan_lightly(scene: &Scene) -> Option<Light>
     requires fits { HeadFits (sight_of scene.now) }
     ensures { IfSome result (λ light. plan_of light ≡ planned (sight_of scene.now)) }
 {
-    let id = scene.frame.id();
-    if scene.tree.is_aborted(id) {
-        return None;
-    }
-    let n = scene.frame.node(scene.frame.depth() - 1);
-    match scene.loaded.statement(n) {
-        None => None,
-        Some(node) => {
-            if at_boundary(scene, node) {
-                match scene.tree.first_delivery(id) {
-                    None => act_lightly(scene, n, node),
-                    Some(delivery) => take_lightly(scene, delivery),
-                }
-            } else {
-                act_lightly(scene, n, node)
-            }
-        }
+    match comes_next(scene) {
+        Coming::End | Coming::Nothing => None,
+        Coming::Delivery(delivery) => take_lightly(scene, delivery),
+        Coming::Act(n, node) => act_lightly(scene, n, node),
     }
 }
 

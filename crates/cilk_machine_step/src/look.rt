@@ -7,9 +7,10 @@ ghost use Rattle.cilk_machine_plan.specs.Sights.{id_of, head_number, cells_in};
 ghost use Rattle.cilk_machine_plan.specs.Made.{by_effect, planned};
 ghost use Rattle.cilk_machine_plan.specs.Words.{plan_of};
 ghost use Rattle.cilk_machine_step.specs.Scenes.{sight_of, HeadFits, is_wait};
-ghost use Rattle.cilk_machine_step.specs.Looks.{code_of, plain, is_element, is_delayed, code_in, look_in, look_of, effect_by, code_at, noted, IsSeenAs};
+ghost use Rattle.cilk_machine_step.specs.Looks.{code_of, plain, is_element, code_in, look_in, look_of, effect_by, code_at, noted, IsSeenAs};
 
-use crate::act::{at_boundary, next_of};
+use crate::act::next_of;
+use crate::coming::{Coming, comes_next};
 use crate::peek::Peek;
 use crate::scene::Scene;
 use cilk_eval::{Code, Known, Listed, is_known_of, known_of};
@@ -167,22 +168,10 @@ fn code_ahead<'a>(scene: &Scene<'a>) -> Option<&'a Code>
     ensures value { option_map (λ code. code.now) result ≡ code_in (sight_of scene.now) }
     ensures fits { IfSome result (λ code. SlotsLieWithin (sizes_of (cells_in (sight_of scene.now))) code.now) }
 {
-    if scene.tree.is_aborted(scene.frame.id()) {
-        return None;
+    match comes_next(scene) {
+        Coming::End | Coming::Nothing | Coming::Delivery(_) => None,
+        Coming::Act(_, node) => code_of(&node.action),
     }
-    match scene.loaded.statement(head_number(scene)) {
-        None => None,
-        Some(node) if is_delayed(scene, node) => None,
-        Some(node) => code_of(&node.action),
-    }
-}
-
-// Whether a delivery is taken before the action.
-fn is_delayed(scene: &Scene, node: &Node) -> bool
-    requires { id_of (sight_of scene.now) < length (sight_of scene.now).nodes }
-    ensures { result ≡ is_delayed (sight_of scene.now) node.now }
-{
-    at_boundary(scene, node) && scene.tree.first_delivery(scene.frame.id()).is_some()
 }
 
 fn code_of(action: &Action) -> Option<&Code>

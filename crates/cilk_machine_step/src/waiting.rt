@@ -5,7 +5,8 @@ ghost use Rattle.cilk_machine_plan.specs.Sights.{id_of};
 ghost use Rattle.cilk_machine_plan.specs.Made.{planned};
 ghost use Rattle.cilk_machine_step.specs.Scenes.{sight_of, is_wait, takes_nothing, wants_held_lock};
 
-use crate::act::{at_boundary, lock_at};
+use crate::act::lock_at;
+use crate::coming::{Coming, comes_next};
 use crate::scene::Scene;
 use cilk_load::{Action, LockAction, Node};
 use cilk_machine_plan::{Lock, Receiver};
@@ -16,23 +17,11 @@ pub fn has_to_wait(scene: &Scene) -> bool
     requires { id_of (sight_of scene.now) < length (sight_of scene.now).nodes }
     ensures { result ≡ is_wait (planned (sight_of scene.now)) }
 {
-    let id = scene.frame.id();
-    if scene.tree.is_aborted(id) {
-        return false;
-    }
-    let n = scene.frame.node(scene.frame.depth() - 1);
-    match scene.loaded.statement(n) {
-        None => true,
-        Some(node) => {
-            if at_boundary(scene, node) {
-                match scene.tree.first_delivery(id) {
-                    None => wants_held_lock(scene, node),
-                    Some(delivery) => takes_nothing(&delivery.receiver),
-                }
-            } else {
-                wants_held_lock(scene, node)
-            }
-        }
+    match comes_next(scene) {
+        Coming::End => false,
+        Coming::Nothing => true,
+        Coming::Delivery(delivery) => takes_nothing(&delivery.receiver),
+        Coming::Act(_, node) => wants_held_lock(scene, node),
     }
 }
 

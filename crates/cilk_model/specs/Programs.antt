@@ -1,13 +1,14 @@
--- More worked programs: places that take a child's value, control, arrays, calls, marks that reach grandchildren.
+-- More worked programs: places that take a child's value, control, arrays, arguments, calls, marks that reach grandchildren.
 use Rattle.std.specs.Prelude.{ℕ, false, List, [], ◌∷◌, Option, Some, None, codes}
 use Rattle.cilk_model_labels.specs.syntax.declared.operator.BinOp.{BinOp}
-use Rattle.cilk_model_labels.specs.syntax.declared.operator.BinOp.TheVariants.{Add, Subtract, Multiply, Divide, Less, Greater}
+use Rattle.cilk_model_labels.specs.syntax.declared.operator.BinOp.TheVariants.{Add, Subtract, Multiply, Divide, ShiftLeft, Less, Greater, Equal}
 use Rattle.cilk_model_labels.specs.syntax.declared.un_op.UnOp.TheVariants.{Minus}
 use Rattle.cilk_model_labels.specs.syntax.declared.adjustment.Adjustment.TheVariants.{Increment}
 use Rattle.cilk_model_labels.specs.syntax.declared.return_type.ReturnType.TheVariants.{Int}
 use Rattle.cilk_model_labels.specs.syntax.Tree as tree
-use Rattle.cilk_model_labels.specs.syntax.Tree.{Word, Expr, number, element, binary, unary, Target, inlet_at, Stmt, stmts_of, Block, block, Item, Program}
-use Rattle.cilk_model.specs.Trees.{word, name, target, assigns, int, returns, procedure, program, locks, inits}
+use Rattle.cilk_model_labels.specs.syntax.Tree.{Word, Expr, number, element, binary, unary, Target, Local, declared, inlet_at, Stmt, stmts_of, Block, block}
+use Rattle.cilk_model_labels.specs.syntax.Tree.{Item, Program}
+use Rattle.cilk_model.specs.Trees.{word, name, target, assigns, int, returns, procedure, global, program, locks, inits}
 
 abbrev pub inside : List Stmt → Block
 inside stmts = block tree.no_locals (stmts_of stmts)
@@ -51,6 +52,27 @@ passing = program (giving (codes "f") 2147483647
     ∷ procedure Int (codes "main") [] (int (codes "x") (Some (number 1)) ∷ [])
     (tree.spawn_at 0 (tree.into (by (codes "x") Add)) (word (codes "f")) [] ∷ tree.sync_at 0 ∷ returns (name (codes "x")) ∷ []) ∷ [])
 
+-- int f(void) { return 3; } cilk int g(void) { return 2; } cilk int main(void) { int x = 20; x -= 4; x -= f(); x -= spawn g(); sync; return x; }
+abbrev pub taking_away : Program
+taking_away = program (function (codes "f") [] (returns (number 3) ∷ []) ∷ giving (codes "g") 2
+    ∷ procedure Int (codes "main") [] (int (codes "x") (Some (number 20)) ∷ [])
+    (tree.move (tree.assign (by (codes "x") Subtract) (number 4)) ∷ tree.move (tree.call (Some (by (codes "x") Subtract)) (word (codes "f")) [])
+    ∷ tree.spawn_at 0 (tree.into (by (codes "x") Subtract)) (word (codes "g")) [] ∷ tree.sync_at 0 ∷ returns (name (codes "x")) ∷ []) ∷ [])
+
+-- int f(int a, int b) { return a + b; } cilk int main(void) { int x; x = f(1 / 0, 1 << 32); return x; }
+abbrev pub from_the_left : Program
+from_the_left = program (function (codes "f") (word (codes "a") ∷ word (codes "b") ∷ []) (returns (binary Add (name (codes "a")) (name (codes "b"))) ∷ [])
+    ∷ procedure Int (codes "main") [] (int (codes "x") None ∷ [])
+    (tree.move (tree.call (Some (target (codes "x"))) (word (codes "f")) (binary Divide (number 1) (number 0) ∷ binary ShiftLeft (number 1) (number 32) ∷ []))
+    ∷ returns (name (codes "x")) ∷ []) ∷ [])
+
+-- cilk int f(int a) { return a; } cilk int main(void) { inlet void i(int v, int w) { } i(spawn f(1 << 32), 1 / 0); sync; return 0; }
+abbrev pub others_last : Program
+others_last = program (procedure Int (codes "f") (word (codes "a") ∷ []) [] (returns (name (codes "a")) ∷ [])
+    ∷ procedure Int (codes "main") [] (inlet_at 0 (word (codes "i")) (word (codes "v") ∷ word (codes "w") ∷ []) (inside []) ∷ [])
+    (tree.spawn_at 0 (tree.through (word (codes "i")) (binary Divide (number 1) (number 0) ∷ [])) (word (codes "f"))
+    (binary ShiftLeft (number 1) (number 32) ∷ []) ∷ tree.sync_at 0 ∷ returns (number 0) ∷ []) ∷ [])
+
 -- int f(int n) { n = f(n + 1); return n; } cilk int main(void) { int r; r = f(0); return r; }
 abbrev pub descending : Program
 descending = program (function (codes "f") (word (codes "n") ∷ [])
@@ -90,6 +112,58 @@ rounding = program (procedure Int (codes "main") [] (int (codes "i") None ∷ []
     (tree.repeat (inside (raises (codes "i") ∷ [])) (binary Less (name (codes "i")) (number 3))
     ∷ tree.while (number 1) (inside (raises (codes "i") ∷ tree.when (binary Greater (name (codes "i")) (number 5)) (inside (tree.break_at 0 ∷ [])) ∷ []))
     ∷ returns (name (codes "i")) ∷ []) ∷ [])
+
+-- name op= e
+abbrev pub changes : List ℕ → BinOp → Expr → Stmt
+changes text op e = tree.move (tree.assign (by text op) e)
+
+-- cilk int main(void) { int i; int n; do { i++; if (i == 2) continue; n += i; } while (i < 4);
+-- while (1) { for (; ; ) { n++; break; } if (n > 9) break; else { n += 5; } } return n; }
+abbrev pub turning : Program
+turning = program (procedure Int (codes "main") [] (int (codes "i") None ∷ int (codes "n") None ∷ [])
+    (tree.repeat (inside (raises (codes "i") ∷ tree.when (binary Equal (name (codes "i")) (number 2)) (inside (tree.continue_at 0 ∷ []))
+    ∷ changes (codes "n") Add (name (codes "i")) ∷ [])) (binary Less (name (codes "i")) (number 4))
+    ∷ tree.while (number 1) (inside (tree.loop None (number 1) None (inside (raises (codes "n") ∷ tree.break_at 0 ∷ []))
+    ∷ tree.either (binary Greater (name (codes "n")) (number 9)) (inside (tree.break_at 0 ∷ [])) (inside (changes (codes "n") Add (number 5) ∷ [])) ∷ []))
+    ∷ returns (name (codes "n")) ∷ []) ∷ [])
+
+-- an array of a body
+abbrev pub row : List ℕ → ℕ → Local
+row text n = declared (record { name = word text; shape = tree.array n })
+
+-- name[index] = e
+abbrev pub fills : List ℕ → Expr → Expr → Stmt
+fills text index e = tree.move (tree.assign (cell text index None) e)
+
+-- name[n]
+abbrev pub at : List ℕ → ℕ → Expr
+at text n = element (word text) (number n)
+
+-- int a[2]; cilk int main(void) { int b[2]; int x = 7; b[1] = 5; a[0] = x; { int x; x = b[1]; a[1] = x; } return a[0] * 100 + (a[1] * 10 + b[0]); }
+abbrev pub hiding : Program
+hiding = program (array (codes "a") 2
+    ∷ procedure Int (codes "main") [] (row (codes "b") 2 ∷ int (codes "x") (Some (number 7)) ∷ [])
+    (fills (codes "b") (number 1) (number 5) ∷ fills (codes "a") (number 0) (name (codes "x"))
+    ∷ tree.nested (block (tree.locals_of (int (codes "x") None ∷ [])) (stmts_of (assigns (codes "x") (at (codes "b") 1)
+    ∷ fills (codes "a") (number 1) (name (codes "x")) ∷ [])))
+    ∷ returns (binary Add (binary Multiply (at (codes "a") 0) (number 100))
+    (binary Add (binary Multiply (at (codes "a") 1) (number 10)) (at (codes "b") 0))) ∷ []) ∷ [])
+
+-- put(spawn f(n), k);
+abbrev pub puts : ℕ → ℕ → Stmt
+puts n k = tree.spawn_at 0 (tree.through (word (codes "put")) (number k ∷ [])) (word (codes "f")) (number n ∷ [])
+
+-- int g; cilk int f(int n) { return n; } cilk int main(void) { int b[2]; inlet void put(int v, int k) { b[k] = v; g = g * 10 + b[0]; }
+-- put(spawn f(3), 1); put(spawn f(4), 0); sync; return b[1] * 1000 + (b[0] * 100 + g); }
+abbrev pub putting : Program
+putting = program (global (codes "g")
+    ∷ procedure Int (codes "f") (word (codes "n") ∷ []) [] (returns (name (codes "n")) ∷ [])
+    ∷ procedure Int (codes "main") [] (row (codes "b") 2 ∷ inlet_at 0 (word (codes "put")) (word (codes "v") ∷ word (codes "k") ∷ [])
+    (inside (fills (codes "b") (name (codes "k")) (name (codes "v"))
+    ∷ assigns (codes "g") (binary Add (binary Multiply (name (codes "g")) (number 10)) (at (codes "b") 0)) ∷ [])) ∷ [])
+    (puts 3 1 ∷ puts 4 0 ∷ tree.sync_at 0
+    ∷ returns (binary Add (binary Multiply (at (codes "b") 1) (number 1000))
+    (binary Add (binary Multiply (at (codes "b") 0) (number 100)) (name (codes "g")))) ∷ []) ∷ [])
 
 -- cilk int g(void) { return 1; } cilk int f(void) { int r; r = spawn g(); return r; } cilk int q(void) { return 7; }
 -- cilk int main(void) { inlet void i(int v) { abort; } i(spawn f()); i(spawn q()); sync; return 0; }

@@ -15,7 +15,7 @@ use Rattle.cilk_model.specs.Path.{Path, child_path, is_below}
 use Rattle.cilk_model.specs.Instance.{Activation, Receiver, place, through, Delivery, Instance, entered, started, outer_values}
 use Rattle.cilk_model.specs.State as state
 use Rattle.cilk_model.specs.State.{TrapKind, of_value, finished, trapped, running, unset, free, held, State, instance_at, has_live_child, is_synched}
-use Rattle.cilk_model.specs.State.{store_of, lock_at}
+use Rattle.cilk_model.specs.State.{PathsAreApart, store_of, lock_at}
 use Rattle.cilk_model.specs.Printing.{printed}
 use Rattle.cilk_model.specs.Written.{Writes, Holding, taker_place, others_of, Receives, Delivers, LeavesWith, Heads, AtBoundary, Lets, HoldsNone, Free}
 use Rattle.cilk_model.specs.Fails.{here, InFunction, InInlet, MayPass, Fails}
@@ -220,6 +220,7 @@ module _ (program : Labelled) (s : State) (p : Path) (i : Instance) (t : State) 
 -- s allows t by a step of p
 pub record Allows (program : Labelled) (s : State) (p : Path) (t : State) : Type 0 where
   pub runs : s.outcome ≡ running
+  pub apart : PathsAreApart s.instances
   pub instance : Instance
   pub live : instance_at s.instances p ≡ Some instance
   pub step : Steps program s p instance t

@@ -1,6 +1,6 @@
 -- The state of a program that runs.
-use Rattle.std.specs.Prelude.{ℕ, ℤ, Bool, true, false, not, ◌&&◌, slice_index_or, List, [], ◌∷◌, map, replicate, length, Option, Some, None, is_some}
-use Rattle.std.specs.Prelude.{if◌then◌else◌, filter}
+use Rattle.std.specs.Prelude.{◌≡◌, ℕ, ◌≤◌, ℤ, Bool, true, false, not, ◌&&◌, cond, slice_index_or, List, [], ◌∷◌, map, replicate, length, Option, Some, None}
+use Rattle.std.specs.Prelude.{is_some, if◌then◌else◌, filter, count_by}
 use Rattle.std.specs.List.{list_any}
 use Rattle.cilk_model_labels.specs.declared.trap.Trap.{Trap}
 use Rattle.cilk_model_labels.specs.Labelled.{Labelled}
@@ -64,6 +64,17 @@ without p entries = filter (λ e. not (same_path e.path p)) entries
 
 abbrev pub has_live_child : Instances → Path → Bool
 has_live_child entries p = list_any (λ e. is_child p e.path) entries
+
+-- one entry stands at each path that lives, and no two have one path
+abbrev pub PathsAreApart : Instances → Type 0
+PathsAreApart entries = (p : Path) → count_by (λ e. same_path e.path p) entries ≡ cond (is_live entries p) 1 0
+
+-- p lives, and has counted its child k; children are numbered from 1
+pub record Counted (entries : Instances) (p : Path) (k : ℕ) : Type 0 where
+  pub parent : Instance
+  pub lives : instance_at entries p ≡ Some parent
+  pub first : 1 ≤ k
+  pub within : k ≤ parent.children
 
 pub record State : Type 0 where
   -- what the variables of the top level hold

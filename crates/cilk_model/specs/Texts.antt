@@ -1,5 +1,5 @@
 -- Variables as views show them, and lines.
-use Rattle.std.specs.Prelude.{ℕ, zero, suc, ℤ, List, [], ◌∷◌, ◌++◌, codes, decimal, Option, None, unwrap_or, option_and_then}
+use Rattle.std.specs.Prelude.{ℕ, zero, suc, ℤ, List, [], ◌∷◌, ◌++◌, codes, decimal, unwrap_or, option_and_then}
 use Rattle.std.specs.Fmt.{signed_decimal}
 use Rattle.cilk_model_labels.specs.Labelled.{Numbered, Variable, Labelled}
 use Rattle.cilk_model_labels.specs.Items.{Items, head_of}

@@ -1,6 +1,6 @@
 -- Worked programs.
 use Rattle.std.specs.Prelude.{ℕ, true, List, [], ◌∷◌, Option, Some, None, codes}
-use Rattle.cilk_model_labels.specs.syntax.declared.operator.BinOp.TheVariants.{Add, Less, Equal}
+use Rattle.cilk_model_labels.specs.syntax.declared.operator.BinOp.TheVariants.{Add, Multiply, Less, Equal}
 use Rattle.cilk_model_labels.specs.syntax.declared.adjustment.Adjustment.TheVariants.{Increment}
 use Rattle.cilk_model_labels.specs.syntax.declared.lock_action.LockAction.TheVariants.{Init, Lock, Unlock}
 use Rattle.cilk_model_labels.specs.syntax.declared.return_type.ReturnType.{ReturnType}
@@ -99,6 +99,13 @@ abbrev pub asking : Program
 asking = program (procedure Void (codes "f") [] [] []
     ∷ procedure Int (codes "main") [] (int (codes "s") None ∷ [])
     (spawns (codes "f") ∷ assigns (codes "s") (tree.synched 0) ∷ tree.sync_at 0 ∷ returns (name (codes "s")) ∷ []) ∷ [])
+
+-- cilk int f(void) { return 5; } cilk int main(void) { int x; int s; int y; x = spawn f(); y = 1; s = SYNCHED; sync; return s * 100 + x; }
+abbrev pub asking_late : Program
+asking_late = program (procedure Int (codes "f") [] [] (returns (number 5) ∷ [])
+    ∷ procedure Int (codes "main") [] (int (codes "x") None ∷ int (codes "s") None ∷ int (codes "y") None ∷ [])
+    (tree.spawn_at 0 (tree.into (target (codes "x"))) (word (codes "f")) [] ∷ assigns (codes "y") (number 1) ∷ assigns (codes "s") (tree.synched 0)
+    ∷ tree.sync_at 0 ∷ returns (binary Add (binary Multiply (name (codes "s")) (number 100)) (name (codes "x"))) ∷ []) ∷ [])
 
 -- the locks a and b are taken in this order
 abbrev pub taking : List ℕ → List ℕ → List ℕ → Item

@@ -6,10 +6,9 @@ use Rattle.cilk_model_labels.specs.Labelled.{Labelled}
 use Rattle.cilk_model.specs.Path.{Path, same_path, is_that, path_text}
 use Rattle.cilk_model.specs.Instance.{Activation, Instance, body_at}
 use Rattle.cilk_model.specs.State.{instance_at}
-use Rattle.cilk_model.specs.Event.{Event}
 use Rattle.cilk_model.specs.Fate.{Fate, lives, has_returned, was_delivered, was_aborted, fate_of}
 use Rattle.cilk_model.specs.Scheduler.{Worker, Scheduler}
-use Rattle.cilk_model.specs.Run.{Standing, Position}
+use Rattle.cilk_model.specs.Run.{Position}
 use Rattle.cilk_model.specs.Texts.{line_at}
 use Rattle.cilk_model.specs.Made.{made, procedure_of}
 

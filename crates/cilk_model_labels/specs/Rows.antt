@@ -1,7 +1,8 @@
--- A worked program of the whole language.
+-- Worked programs of the whole language.
 use Rattle.std.specs.Prelude.{ℕ, List, [], ◌∷◌, true, Some, None, codes}
 use Rattle.cilk_check_scopes.specs.lexeme.declared.header.Header.TheVariants.{Cilk}
 use Rattle.cilk_check_scopes.specs.syntax.declared.operator.BinOp.TheVariants.{Add, Subtract, Less}
+use Rattle.cilk_check_scopes.specs.syntax.declared.adjustment.Adjustment.TheVariants.{Increment}
 use Rattle.cilk_check_scopes.specs.syntax.declared.return_type.ReturnType.TheVariants.{Int}
 use Rattle.cilk_check_scopes.specs.syntax.Tree as tree
 use Rattle.cilk_check_scopes.specs.syntax.Tree.{Word, Expr, number, named, binary, Target, Local, declared, inlet_at, Stmt, stmts_of, locals_of}
@@ -46,6 +47,25 @@ fib_program = record {
       (whole (declared (record { name = word (codes "r"); shape = tree.variable None }) ∷ [])
       (tree.spawn_at 0 (tree.into (into (codes "r"))) (word (codes "fib")) (number 10 ∷ [])
       ∷ tree.sync_at 0 ∷ tree.return_at 0 (Some (named (word (codes "r")))) ∷ []))
+      ∷ [];
+  length = 0;
+}
+
+-- i++
+abbrev pub raises : tree.Move
+raises = tree.adjust (record { name = word (codes "i"); index = None }) Increment
+
+-- cilk int main(void) { int i = 0; do { { i++; } } while (i < 3); for (i = 0; i < 4; i++) ; return i; }
+abbrev pub looped_program : Program
+looped_program = record {
+  headers = [];
+  items =
+      procedure (codes "main") []
+      (whole (declared (record { name = word (codes "i"); shape = tree.variable (Some (number 0)) }) ∷ [])
+      (tree.repeat (whole [] (tree.nested (whole [] (tree.move raises ∷ [])) ∷ [])) (binary Less (named (word (codes "i"))) (number 3))
+      ∷ tree.loop (Some (tree.assign (into (codes "i")) (number 0))) (binary Less (named (word (codes "i"))) (number 4)) (Some raises)
+      (whole [] (tree.null ∷ []))
+      ∷ tree.return_at 0 (Some (named (word (codes "i")))) ∷ []))
       ∷ [];
   length = 0;
 }

@@ -8,6 +8,7 @@ mod int_tail;
 mod item;
 mod items;
 mod kinds;
+pub mod laws;
 mod lock;
 mod main_function;
 mod main_tail;

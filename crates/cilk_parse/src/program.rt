@@ -1,14 +1,17 @@
 //! A program read from its text: the tokens, then the grammar, and the faults of both with their places.
 
-ghost use Rattle.std.specs.Prelude.{◌≡◌, ◌≢◌, ◌<◌, ◌≤◌, ◌⊎◌, ◌↔◌, length, All, IfOk, IfErr, MatchResult};
+ghost use Rattle.std.specs.Prelude.{◌≡◌, ◌≢◌, ◌<◌, ◌≤◌, ◌⊎◌, ◌↔◌, true, length, All, IfOk, IfErr, MatchResult};
 ghost use Rattle.cilk_lex.specs.lexeme.declared.fault.LexFault.{LexFault};
 ghost use Rattle.cilk_lex.specs.lexeme.Lexeme.{pieces_of, place_of as lex_place};
-ghost use Rattle.cilk_lex.specs.lexeme.Lexing.{text_limit};
+ghost use Rattle.cilk_lex.specs.lexeme.Lexing.{Lexes, text_limit};
 ghost use Rattle.cilk_lex.specs.Reading.{IsWithin};
 ghost use Rattle.cilk_parse_grammar.specs.syntax.Tree as tree;
+ghost use Rattle.cilk_parse_rules.specs.ReadsAs.{Fails};
+ghost use Rattle.cilk_parse_grammar.specs.Expressions.{operator_limit, parenthesis_limit};
 ghost use Rattle.cilk_parse_grammar.specs.Fault.{place_left};
+ghost use Rattle.cilk_parse_grammar.specs.Spelling.{nesting_limit, program_of};
 ghost use Rattle.cilk_parse.specs.Place.{place_of};
-ghost use Rattle.cilk_parse.specs.Text.{Spells, HasFault, HasLexFault};
+ghost use Rattle.cilk_parse.specs.Text.{Spells, ReadingStops, told_of, HasFault, HasLexFault};
 
 use crate::fault::ReadFault;
 use crate::whole::whole;
@@ -33,13 +36,52 @@ fn of_tokens(fault: LexFault) -> ReadFault
 fn place_left(text: &str, tokens: &[Token], left: usize) -> u32
     requires in_tokens { left ≤ length tokens.now }
     requires in_limit { length text.now ≤ text_limit }
-    requires within { All (IsWithin text.now) tokens.now }
-    ensures place { result ≡ place_left (length text.now) (pieces_of text.now tokens.now) left }
-    ensures in_text { result ≤ length text.now }
+    ensures { result ≡ place_left (length text.now) (pieces_of text.now tokens.now) left }
 {
     match &tokens[tokens.len() - left..] {
         [] => text.len() as u32,
         [next, ..] => next.start,
+    }
+}
+
+// What is told of the error with which reading the tokens of a text ended.
+fn told(text: &str, tokens: &[Token], error: ReadError) -> ReadFault
+    requires short { length text.now ≤ text_limit }
+    requires met { Fails error (program_of operator_limit parenthesis_limit nesting_limit (pieces_of text.now tokens.now)) }
+    ensures { result ≡ told_of (length text.now) (pieces_of text.now tokens.now) error }
+{
+    match error {
+        ReadError::Memory => ReadFault::Memory,
+        ReadError::Fault(Fault::Unexpected(left)) => {
+            ReadFault::Unexpected(place_left(text, tokens, left))
+        }
+        ReadError::Fault(Fault::TooDeep(left)) => {
+            ReadFault::TooDeep(place_left(text, tokens, left))
+        }
+    }
+}
+
+// The program that the tokens of a text spell, or where they go wrong.
+fn program_by(alloc: Global, text: &str, tokens: &[Token]) -> Result<Program, ReadFault>
+    requires short { length text.now ≤ text_limit }
+    requires within { All (IsWithin text.now) tokens.now }
+    requires lexed { Lexes true 0 text.now (pieces_of text.now tokens.now) }
+    ensures found { IfOk result (Spells text.now) }
+    ensures refused { IfErr result (HasFault text.now) }
+    ensures placed { IfErr result (λ f. place_of f ≤ length text.now) }
+    ensures every_program { (p : tree.Program) → Spells text.now p
+        → MatchResult result (λ q. q ≡ p) (λ f. f ≡ ReadFault.Memory) }
+    ensures every_fault { (f : ReadFault) → ReadingStops text.now f
+        → MatchResult result (λ _. ⊥) (λ g. (g ≡ f) ⊎ (g ≡ ReadFault.Memory)) }
+{
+    let mut cursor = Cursor::new(alloc, text, tokens);
+    match whole(&mut cursor) {
+        Ok((headers, items)) => Ok(Program {
+            headers,
+            items,
+            length: text.len() as u32,
+        }),
+        Err(error) => Err(told(text, tokens, error)),
     }
 }
 
@@ -57,24 +99,11 @@ pub fn read(alloc: Global, text: &str) -> Result<Program, ReadFault>
         → MatchResult result (λ q. q ≡ p) (λ f. f ≡ ReadFault.Memory) }
     ensures every_lex_fault { (f : LexFault) → HasLexFault text.now f
         → MatchResult result (λ _. ⊥) (λ g. (g ≡ ReadFault.Lex f) ⊎ (g ≡ ReadFault.Memory)) }
+    ensures every_fault { (f : ReadFault) → length text.now ≤ text_limit → ReadingStops text.now f
+        → MatchResult result (λ _. ⊥) (λ g. (g ≡ f) ⊎ (g ≡ ReadFault.Memory)) }
 {
-    let tokens = match tokens(alloc, text) {
-        Ok(tokens) => tokens,
-        Err(fault) => return Err(of_tokens(fault)),
-    };
-    let mut cursor = Cursor::new(alloc, text, &tokens);
-    match whole(&mut cursor) {
-        Ok((headers, items)) => Ok(Program {
-            headers,
-            items,
-            length: text.len() as u32,
-        }),
-        Err(ReadError::Memory) => Err(ReadFault::Memory),
-        Err(ReadError::Fault(Fault::Unexpected(left))) => {
-            Err(ReadFault::Unexpected(place_left(text, &tokens, left)))
-        }
-        Err(ReadError::Fault(Fault::TooDeep(left))) => {
-            Err(ReadFault::TooDeep(place_left(text, &tokens, left)))
-        }
+    match tokens(alloc, text) {
+        Ok(tokens) => program_by(alloc, text, &tokens),
+        Err(fault) => Err(of_tokens(fault)),
     }
 }

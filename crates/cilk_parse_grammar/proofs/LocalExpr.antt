@@ -93,7 +93,8 @@ module _ (same : Type 0) (l l' n : ℕ) (le : l ≤ l') (eq : same → l ≡ l')
           let fits : ltb n l' ≡ true = lt-ltb n l' (omega (arith, ltb-true n l e, le)) in
           subst (λ (r : List Piece). Local {A = Both} same r v (λ us. if_room l' go' us)) (sym w)
           (local_skip same t (behind ts) v go' _ (λ us s. rw fits refl) h)
-      by false e = λ s. let full : ltb n l' ≡ false = ap (λ i. ltb n i) (sym (eq s)) ∙ e in stuck_here too_deep ts _ (λ us t. rw full refl)
+      by false e =
+          λ s. let full : ltb n l' ≡ false = ap (λ i. ltb n i) (sym (eq s)) ∙ e in (stuck_here too_deep ts _ (λ us t. rw full refl), omega (arith, ap length w))
 
 local_closed : (same : Type 0) (c : ℕ) (f : tree.Expr → tree.Expr) (ts : List Piece) (r : Reads) (m : List Piece → Reads)
     → Local {A = Both} same ts r m → Local {A = Both} same ts (closed c f r) (λ us. closed c f (m us))
@@ -119,7 +120,10 @@ module _ (same : Type 0) (inner inner' : ℕ → ℕ → ℕ → List Piece → 
       (local_bind same (behind ts) (inner d operand (suc n) (behind ts)) (λ us. inner' d' operand (suc n) us)
       (λ e. Ok ((tree.unary o e.0.0, e.0.1), e.1)) (λ e. Ok ((tree.unary o e.0.0, e.0.1), e.1))
       (li d d' operand (suc n) (behind ts) (omega (arith, ap length w)) le' eq') (λ e r. ok_here (tree.unary o e.0.0, e.0.1) e.1 _ (λ us s. refl)))
-  local_mark zero d' t ts None true w le' eq' li = λ s. stuck_here too_deep ts _ (λ us i. ap (λ j. at_mark inner' l' j n us None true) (sym (eq' s)))
+  local_mark zero d' t ts None true w le' eq' li = λ s. (
+    stuck_here too_deep ts _ (λ us i. ap (λ j. at_mark inner' l' j n us None true) (sym (eq' s))),
+    omega (arith, ap length w),
+  )
   local_mark (suc d) zero t ts None true w le' eq' li = absurd (omega (arith, le'))
   local_mark (suc d) (suc d') t ts None true w le' eq' li =
       let inside = local_closed same (a_mark marks.CloseParenthesis) (λ e. e) (behind ts) (inner d 0 n (behind ts)) (λ us. inner' d' 0 n us)

@@ -65,7 +65,7 @@ module _ {A : Type 0} (t : Piece) (z : A) (m : Reader Piece A) (takes : m (t ∷
                 ∙ again rest s;
           }
   unskip same ts (Err (Unexpected n)) a = stuck_unskip unexpected ts n a
-  unskip same ts (Err (TooDeep n)) a = λ s. stuck_unskip too_deep ts n (a s)
+  unskip same ts (Err (TooDeep n)) a = λ s. let f = a s in (stuck_unskip too_deep ts n f.0, f.1)
 
 module _ (same : Type 0) (l l' d d' : ℕ) (le : l ≤ l') (le' : d ≤ d') (eq : same → l ≡ l') (eq' : same → d ≡ d') where
   leaf_parts_local : (p : Part) (ts : List Piece) → Local {A = Means p} same ts (leaf_parts l d p ts) (λ us. leaf_parts l' d' p us)

@@ -1,5 +1,6 @@
 -- The laws of statements and inlets: by induction on how deep they may stand in one another, from the laws of rules.
-use Rattle.std.proofs.Common.{◌≡◌, ℕ, zero, suc, ◌≤◌, true, false, List, ◌++◌, length, Option, Ok, Err, refl, sym, ap, subst, inl, inr, arith}
+use Rattle.std.proofs.Common.{◌≡◌, ℕ, zero, suc, ◌≤◌, true, false, List, [], ◌∷◌, ◌++◌, length, Option, None, Ok, Err, refl, sym, ap, subst, ◌∙◌, inl}
+use Rattle.std.proofs.Common.{inr, arith}
 use Rattle.cilk_tree_syntax.specs.lexeme.Lexeme.{Piece}
 use Rattle.cilk_parse_rules.specs.declared.fault.Fault.TheVariants.{Unexpected, TooDeep}
 use Rattle.cilk_parse_rules.specs.Rule as rule
@@ -150,6 +151,16 @@ rule_wider l l' d d' n n' le le' lt r k us x s =
 
 -- ---- where reading stops
 
+pub nothing_follows : (cs : List ℕ) → has cs None ≡ false
+nothing_follows [] = refl
+nothing_follows (c ∷ []) = refl
+nothing_follows (c ∷ d ∷ cs) = nothing_follows (d ∷ cs)
+
+-- a class that is there is that of a token
+some_follow : (cs : List ℕ) (ts : List Piece) → has cs (class_at cls ts) ≡ true → 1 ≤ length ts
+some_follow cs [] e = let none : true ≡ false = sym e ∙ nothing_follows cs in absurd cc
+some_follow cs (t ∷ ts) e = omega arith
+
 module _ (same : Type 0) (l l' d d' : ℕ) (le : l ≤ l') (le' : d ≤ d') (eq : same → l ≡ l') (eq' : same → d ≡ d') where
   parts_local : (reader reader' : InnerReader) → ((p : Nest) (ts : List Piece) → Local {A = NestMeans p} same ts (reader p ts) (λ us. reader' p us))
       → (p : Part) (ts : List Piece) → Local {A = Means p} same ts (parts_by l d reader p ts) (λ us. parts_by l' d' reader' p us)
@@ -170,7 +181,7 @@ module _ (same : Type 0) (l l' d d' : ℕ) (le : l ≤ l') (le' : d ≤ d') (eq 
   nest_local zero zero lt h p ts =
       local_choice same (λ us. has (begins p) (class_at cls us)) ts _ _ _ (λ us. Err (TooDeep (length us)))
       (λ us. Err (Unexpected (length us))) (heads p ts) refl
-      (λ e s. stuck_here too_deep ts _ (λ us t. refl)) (λ e. stuck_here unexpected ts _ (λ us t. refl))
+      (λ e s. (stuck_here too_deep ts _ (λ us t. refl), some_follow (begins p) ts e)) (λ e. stuck_here unexpected ts _ (λ us t. refl))
   nest_local zero (suc n') lt h p ts =
       local_choice same (λ us. has (begins p) (class_at cls us)) ts _ _ _ (λ us. inside n' p us) (λ us. Err (Unexpected (length us))) (heads p ts) refl
       (λ e s. absurd (omega (arith, h s))) (λ e. stuck_here unexpected ts _ (λ us t. refl))

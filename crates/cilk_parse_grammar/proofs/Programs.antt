@@ -13,7 +13,7 @@ use Rattle.cilk_parse_grammar.specs.Parts.{Means}
 use Rattle.cilk_parse_grammar.specs.Grammar.{program}
 use Rattle.cilk_parse_grammar.specs.Spelling.{first_of, more_of, SpellsRule, read_at, at_end, all_by, SpellsProgram, program_of}
 use Rattle.cilk_parse_grammar.proofs.Fine.{program_fine}
-use Rattle.cilk_parse_grammar.proofs.Nests.{rule_takes, rule_again, rule_wider, rule_local}
+use Rattle.cilk_parse_grammar.proofs.Nests.{rule_takes, rule_again, rule_wider, nothing_follows, rule_local}
 
 abbrev pub Parts : Type 0
 Parts = List Header × List tree.Item
@@ -21,11 +21,6 @@ Parts = List Header × List tree.Item
 nothing_left : {A : Type 0} (x y : A × List Piece) → at_end x ≡ Ok y → (x ≡ y) × (x.1 ≡ [])
 nothing_left (a, []) y e = (ok_is (a, []) y e, refl)
 nothing_left (a, t ∷ ts) y e = absurd cc
-
-nothing_follows : (cs : List ℕ) → has cs None ≡ false
-nothing_follows [] = refl
-nothing_follows (c ∷ []) = refl
-nothing_follows (c ∷ d ∷ cs) = nothing_follows (d ∷ cs)
 
 -- ---- all tokens, by any rule
 

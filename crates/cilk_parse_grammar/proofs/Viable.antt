@@ -8,7 +8,7 @@ use Rattle.cilk_tree_syntax.specs.Tree as tree
 use Rattle.cilk_parse_rules.specs.declared.fault.Fault.{Fault}
 use Rattle.cilk_parse_rules.specs.declared.fault.Fault.TheVariants.{Unexpected, TooDeep}
 use Rattle.cilk_parse_rules.specs.Rule.{Read}
-use Rattle.cilk_parse_rules.proofs.Local.{SameHead, Local, Stuck, unexpected, too_deep}
+use Rattle.cilk_parse_rules.proofs.Local.{SameHead, Local, Stuck, Full, unexpected, too_deep}
 use Rattle.cilk_parse_grammar.specs.Classes.{lexeme_of}
 use Rattle.cilk_parse_grammar.specs.Spelling.{SpellsProgram, program_of}
 use Rattle.cilk_parse_grammar.specs.Fault.{lexemes, IsNotGoingOn, at_token, at_end, any_limits, the_limits, start_or, place_left}
@@ -106,8 +106,8 @@ no_room l d n k ps h e = record {
   more = omega (arith, h.0);
   wider = omega (arith, h.1);
   deeper = omega (arith, h.2);
-  stuck = subst (λ r. Local {A = Parts} (Unit {0}) ps r (λ us. program_of 200 200 201 us)) e
-      (program_local (Unit {0}) 200 200 200 200 201 201 (omega arith) (omega arith) (omega arith) (λ s. refl) (λ s. refl) (λ s. refl) ps) tt;
+  stuck = (subst (λ r. Local {A = Parts} (Unit {0}) ps r (λ us. program_of 200 200 201 us)) e
+      (program_local (Unit {0}) 200 200 200 200 201 201 (omega arith) (omega arith) (omega arith) (λ s. refl) (λ s. refl) (λ s. refl) ps) tt).0;
 }
 
 split_at : (ps : List Piece) (n : ℕ) → ps ≡ take n ps ++ drop n ps
@@ -137,7 +137,12 @@ unexpected_within l d n ts k e =
     stuck_within unexpected ts k (λ us. program_of l d n us)
     (subst (λ r. Local {A = Parts} (Unit {0}) ts r (λ us. program_of l d n us)) e (local_read l d n ts))
 
+full_at : (l d n : ℕ) (ts : List Piece) (k : ℕ) → program_of l d n ts ≡ Err (TooDeep k) → Full Parts ts k (λ us. program_of l d n us)
+full_at l d n ts k e = subst (λ r. Local {A = Parts} (Unit {0}) ts r (λ us. program_of l d n us)) e (local_read l d n ts) tt
+
 pub too_deep_within : (l d n : ℕ) (ts : List Piece) (k : ℕ) → program_of l d n ts ≡ Err (TooDeep k) → k ≤ length ts
-too_deep_within l d n ts k e =
-    stuck_within too_deep ts k (λ us. program_of l d n us)
-    (subst (λ r. Local {A = Parts} (Unit {0}) ts r (λ us. program_of l d n us)) e (local_read l d n ts) tt)
+too_deep_within l d n ts k e = stuck_within too_deep ts k (λ us. program_of l d n us) (full_at l d n ts k e).0
+
+-- and where there is no more room, a token is left
+pub too_deep_token : (l d n : ℕ) (ts : List Piece) (k : ℕ) → program_of l d n ts ≡ Err (TooDeep k) → 1 ≤ k
+too_deep_token l d n ts k e = (full_at l d n ts k e).1

@@ -216,7 +216,9 @@ parameters = in_parentheses (either (word key.Void (done [])) (either (commas (w
 
 -- "inlet" "void" Name "(" [Params] ")" Block (`inlet`)
 abbrev pub inlet_rule : Rule Means tree.Local
-inlet_rule = and_then (keyword_place key.Inlet) (word key.Void (and_then name (and_then parameters (and_then block (done (λ b ps x at. tree.inlet_at at x ps b))))))
+inlet_rule =
+    and_then (keyword_place key.Inlet)
+    (word key.Void (and_then name (and_then parameters (and_then block (done (λ b ps x at. tree.inlet_at at x ps b))))))
 
 abbrev pub rule_of : (p : Nest) → Rule Means (NestMeans p)
 rule_of a_statement = statement_rule

@@ -29,14 +29,15 @@ pub fn wider_limits()
         → SpellsProgram l d n ts p → SpellsProgram l' d' n' ts p }
 {}
 
-/// The token at which reading stops is one through which no program goes: whatever the limits, or within the limits.
+/// The token at which reading stops is one through which no program goes: whatever the limits, or within the limits. At the
+/// end of the tokens, where none is left, reading never finds itself too deep.
 pub fn reading_stops()
     ensures unexpected { (end : ℕ) (ts : List Piece) (left : ℕ)
         → program_of operator_limit parenthesis_limit nesting_limit ts ≡ Err (Unexpected left)
         → IsNotGoingOn any_limits end ts (place_left end ts left) × (left ≤ length ts) }
     ensures too_deep { (end : ℕ) (ts : List Piece) (left : ℕ)
         → program_of operator_limit parenthesis_limit nesting_limit ts ≡ Err (TooDeep left)
-        → IsNotGoingOn the_limits end ts (place_left end ts left) × (left ≤ length ts) }
+        → IsNotGoingOn the_limits end ts (place_left end ts left) × (1 ≤ left) × (left ≤ length ts) }
 {}
 
 /// Places do not matter: other tokens that are the same lexemes spell the same program, places aside.

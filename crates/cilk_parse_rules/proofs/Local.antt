@@ -1,5 +1,5 @@
 -- What reading meets depends on the tokens through the next one alone.
-use Rattle.std.proofs.Common.{◌≡◌, ℕ, Bool, true, false, if◌then◌else◌, List, [], ◌∷◌, ◌++◌, length, Ok, Err, refl, sym, ap, subst, ◌∙◌, append_assoc}
+use Rattle.std.proofs.Common.{◌≡◌, ℕ, ◌≤◌, Bool, true, false, if◌then◌else◌, List, [], ◌∷◌, ◌++◌, length, Ok, Err, refl, sym, ap, subst, ◌∙◌, append_assoc}
 use Rattle.cilk_parse_rules.specs.declared.fault.Fault.{Fault}
 use Rattle.cilk_parse_rules.specs.declared.fault.Fault.TheVariants.{Unexpected, TooDeep}
 use Rattle.cilk_parse_rules.specs.Rule.{◌>>=◌, Read, behind, wanted, is, class_at, token_at}
@@ -44,11 +44,15 @@ module _ {P : Type 0} where
     pub place : k ≡ length left
     pub again : (rest : List P) → SameHead left rest → m (used ++ rest) ≡ Err (fault (length rest))
 
+  -- where reading found no room, it finds none again, and that is at a token
+  abbrev pub Full : (A : Type 0) → List P → ℕ → Reader P A → Type 0
+  Full A ts k m = Stuck A too_deep ts k m × (1 ≤ k)
+
   -- What one reader met, another meets again. The other may have more room; where it has the same, it stops where the first did.
   abbrev pub Local : {A : Type 0} → Type 0 → List P → Read P A → Reader P A → Type 0
   Local {A = A} same ts (Ok x) m = Again A ts x m
   Local {A = A} same ts (Err (Unexpected k)) m = Stuck A unexpected ts k m
-  Local {A = A} same ts (Err (TooDeep k)) m = same → Stuck A too_deep ts k m
+  Local {A = A} same ts (Err (TooDeep k)) m = same → Full A ts k m
 
   -- one step, then another on what is left
   step_again : {A B : Type 0} (ts left : List P) (x : A × List P) (m : Reader P A) (k : A × List P → Read P B) (used : List P) (r : List P → Read P B)
@@ -76,7 +80,7 @@ module _ {P : Type 0} where
     again = step_again ts y.1 x m k b.used (λ rest. Ok (y.0, rest)) a b.whole b.again;
   }
   after_ok same ts x (Err (Unexpected n)) m k a b = stuck_after unexpected ts n x m k a b
-  after_ok same ts x (Err (TooDeep n)) m k a b = λ s. stuck_after too_deep ts n x m k a (b s)
+  after_ok same ts x (Err (TooDeep n)) m k a b = λ s. let f = b s in (stuck_after too_deep ts n x m k a f.0, f.1)
 
   stuck_bind : {A B : Type 0} (fault : ℕ → Fault) (ts : List P) (n : ℕ) (m : Reader P A) (k : A × List P → Read P B) → Stuck A fault ts n m
       → Stuck B fault ts n (λ us. m us >>= k)
@@ -86,7 +90,7 @@ module _ {P : Type 0} where
       → Local same ts r m → ((x : A × List P) → r ≡ Ok x → Local same x.1 (k x) (λ us. k' (x.0, us))) → Local same ts (r >>= k) (λ us. m us >>= k')
   local_bind same ts (Ok x) m k k' a b = after_ok same ts x (k x) m k' a (b x refl)
   local_bind same ts (Err (Unexpected n)) m k k' a b = stuck_bind unexpected ts n m k' a
-  local_bind same ts (Err (TooDeep n)) m k k' a b = λ s. stuck_bind too_deep ts n m k' (a s)
+  local_bind same ts (Err (TooDeep n)) m k k' a b = λ s. let f = a s in (stuck_bind too_deep ts n m k' f.0, f.1)
 
   -- the same reader, in other words
   stuck_as : {A : Type 0} (fault : ℕ → Fault) (ts : List P) (n : ℕ) (m m' : Reader P A) → ((us : List P) → SameHead ts us → m' us ≡ m us)
@@ -107,7 +111,7 @@ module _ {P : Type 0} where
     again = λ rest h. e (a.used ++ rest) (subst (λ (l : List P). SameHead l (a.used ++ rest)) (sym a.whole) (same_head a.used x.1 rest h)) ∙ a.again rest h;
   }
   local_as same ts (Err (Unexpected n)) m m' e a = stuck_as unexpected ts n m m' e a
-  local_as same ts (Err (TooDeep n)) m m' e a = λ s. stuck_as too_deep ts n m m' e (a s)
+  local_as same ts (Err (TooDeep n)) m m' e a = λ s. let f = a s in (stuck_as too_deep ts n m m' e f.0, f.1)
 
   -- what stops at once, and what takes nothing
   pub stuck_here : {A : Type 0} (fault : ℕ → Fault) (ts : List P) (m : Reader P A)
@@ -136,7 +140,7 @@ module _ {P : Type 0} where
     again = λ rest h. e (a.used ++ rest) (subst (λ (l : List P). SameHead l (a.used ++ rest)) (sym a.whole) (same_head a.used x.1 rest h)) ∙ a.again rest h;
   }
   local_skip same t ts (Err (Unexpected n)) m m' e a = stuck_skip unexpected t ts n m m' e a
-  local_skip same t ts (Err (TooDeep n)) m m' e a = λ s. stuck_skip too_deep t ts n m m' e (a s)
+  local_skip same t ts (Err (TooDeep n)) m m' e a = λ s. let f = a s in (stuck_skip too_deep t ts n m m' e f.0, f.1)
 
   -- ---- one token
 

@@ -13,11 +13,11 @@ use Rattle.cilk_debug.specs.declared.fault.DebugFault.TheVariants as debug
 use Rattle.cilk_debug.specs.declared.ending.SessionFault.{SessionFault}
 use Rattle.cilk_debug.specs.declared.ending.SessionFault.TheVariants.{Read, Write, Memory}
 use Rattle.cilk_debug.specs.console.declared.fault.InputFault.TheVariants.{Device, LineTooLong, TooManyLines}
-use Rattle.cilk_commands.specs.Front.{Gains}
+use Rattle.cilk_commands.specs.Front.{Gains, GainsFront}
 use Rattle.cilk_commands.specs.Held.{Held, IsReadOf}
-use Rattle.cilk_commands.proofs.WholeText.{gains_whole}
+use Rattle.cilk_commands.proofs.WholeText.{gains_whole, gains_front_whole}
 use Rattle.cilk_commands.specs.declared.status.Status.TheVariants as status
-use Rattle.cilk_program.specs.Debugging.{IsSession, IsPart, GainsOf, Debugs, DebugsFront, opened, undebugged, broken_off}
+use Rattle.cilk_program.specs.Debugging.{IsSession, IsPart, GainsOf, GainsFrontOf, Debugs, DebugsFront, DebugsPart, opened, undebugged, broken_off}
 use Rattle.cilk_program.specs.Taped.{IsTape, Declines}
 use Rattle.cilk_program.specs.Telling.{status_of}
 
@@ -33,9 +33,24 @@ broken_not_refused (Read fault) bad = cc
 broken_not_refused Write bad = cc
 broken_not_refused Memory bad = cc
 
+-- it is the output that failed where the writer of the answers did, and there alone
+pub undebugged_reads : (fault : DebugFault) → status_of (undebugged fault) ≢ status.CannotWrite
+undebugged_reads debug.Workers bad = cc
+undebugged_reads (debug.BadChoice k refusal) bad = cc
+undebugged_reads debug.AtEnd bad = cc
+undebugged_reads debug.AtStart bad = cc
+undebugged_reads debug.NoStatement bad = cc
+undebugged_reads debug.OutOfRange bad = cc
+undebugged_reads debug.Memory bad = cc
+
+pub broken_by_writer : (fault : SessionFault) → status_of (broken_off fault) ≡ status.CannotWrite → fault ≡ Write
+broken_by_writer (Read fault) failed = cc
+broken_by_writer Write failed = refl
+broken_by_writer Memory failed = cc
+
 -- why there is no debugger
-pub declines_of : (text bytes : List ℕ) (t : Tape) (fault : DebugFault) → IsTape text bytes t → IsFaultOf t fault → status_of (undebugged fault) ≡ status.Refused
-    → Declines text bytes (undebugged fault)
+pub declines_of : (text bytes : List ℕ) (t : Tape) (fault : DebugFault) → IsTape text bytes t → IsFaultOf t fault
+    → status_of (undebugged fault) ≡ status.Refused → Declines text bytes (undebugged fault)
 declines_of text bytes t debug.Workers is told refused = record { tape = t; is = is; told = told }
 declines_of text bytes t (debug.BadChoice k refusal) is told refused = record { tape = t; is = is; told = told }
 declines_of text bytes t debug.AtEnd is told refused = absurd told
@@ -120,6 +135,21 @@ module _ (held : Option (List ℕ)) (text : List ℕ) (t : Tape) (d after : Debu
   broken None left fault breaks other = tt
   broken (Some all) left fault breaks other = broke all left fault (breaks all refl) other
 
+  broke_writing : (all : List ℕ) (left : Option (List ℕ)) (fault : SessionFault) → Breaks d after all left old new fault → fault ≡ Write
+      → GainsFront (λ answers. Held held (λ bytes. IsPart text bytes all answers)) old new
+  broke_writing all left (Read fault) h failed = cc
+  broke_writing all left Write h failed = record {
+    answer = h.replies;
+    is = part_of all h.lines h.rest h.replies h.split (ap (λ (s : Session). s.replies) h.is);
+    begun = h.begun;
+  }
+  broke_writing all left Memory h failed = cc
+
+  pub broken_writing : (known left : Option (List ℕ)) (fault : SessionFault) → ((all : List ℕ) → known ≡ Some all → Breaks d after all left old new fault)
+      → fault ≡ Write → GainsFrontOf (λ lines answers. Held held (λ bytes. IsPart text bytes lines answers)) known old new
+  broken_writing None left fault breaks failed = tt
+  broken_writing (Some all) left fault breaks failed = broke_writing all left fault (breaks all refl) failed
+
 -- of the text of the program that was read
 module _ (known held : Option (List ℕ)) (text : List ℕ) (old new : Option (List ℕ)) (read : IsReadOf known text) where
   pub debugs_whole : (commands : Option (List ℕ)) → GainsOf (λ lines answers. Held held (λ bytes. IsSession text bytes lines answers)) commands old new
@@ -130,14 +160,21 @@ module _ (known held : Option (List ℕ)) (text : List ℕ) (old new : Option (L
       (λ answers all. all.are.is_tape.ready.is.text.short) read gained
 
   pub debugs_part : (commands : Option (List ℕ)) → GainsOf (λ lines answers. Held held (λ bytes. IsPart text bytes lines answers)) commands old new
-      → DebugsFront known held commands old new
+      → DebugsPart known held commands old new
   debugs_part None gained = tt
   debugs_part (Some lines) gained =
       gains_whole known text old new (λ of answers. Held held (λ (bytes : List ℕ). IsPart of bytes lines answers))
       (λ answers all. all.are.is_tape.ready.is.text.short) read gained
 
+  pub debugs_front : (commands : Option (List ℕ)) → GainsFrontOf (λ lines answers. Held held (λ bytes. IsPart text bytes lines answers)) commands old new
+      → DebugsFront known held commands old new
+  debugs_front None gained = tt
+  debugs_front (Some lines) gained =
+      gains_front_whole known text old new (λ of answers. Held held (λ (bytes : List ℕ). IsPart of bytes lines answers))
+      (λ answers all. all.are.is_tape.ready.is.text.short) read gained
+
   pub debugs_left : (Same : Type 0) (commands : Option (List ℕ)) → Same
       ⊎ GainsOf (λ lines answers. Held held (λ bytes. IsPart text bytes lines answers)) commands old new
-      → Same ⊎ DebugsFront known held commands old new
+      → Same ⊎ DebugsPart known held commands old new
   debugs_left Same commands (inl same) = inl same
   debugs_left Same commands (inr gained) = inr (debugs_part commands gained)

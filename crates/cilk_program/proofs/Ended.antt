@@ -11,6 +11,7 @@ use Rattle.cilk_commands.specs.declared.failure.Failure.TheVariants as failure
 use Rattle.cilk_commands.specs.declared.status.Status.{Status}
 use Rattle.cilk_commands.specs.declared.status.Status.TheVariants as ended
 use Rattle.cilk_program.specs.GivingUp.{GivesUp, GivesUpRun, NoProgram}
+use Rattle.cilk_program.proofs.Whole.{any_held}
 use Rattle.cilk_program.specs.Taped.{Declines}
 use Rattle.cilk_program.specs.declared.failure.RecordFailure.{RecordFailure}
 use Rattle.cilk_program.specs.declared.failure.RecordFailure.TheVariants as why
@@ -55,6 +56,7 @@ no_program Reason explain name log status known held old new found other is told
   why = why.Program found;
   status_is = is;
   declined = λ refused. absurd (other (sym is ∙ refused));
+  follows = any_held known _ (λ t. tt);
   behind = [];
   explained = record { text = (some_read known).0; read = (some_read known).1; is = nothing_said explain (some_read known).0 found other };
   told = told;
@@ -87,7 +89,7 @@ leaves_nothing printed status known held entered old new other same = λ bad. ab
 leaves_nothing checked status known held entered old new other same = λ bad. absurd (other bad)
 leaves_nothing (run workers limit log) status known held entered old new other same = λ bad. absurd (other bad)
 leaves_nothing (replayed log) status known held entered old new other same = λ bad. absurd (other bad)
-leaves_nothing (debugged log) status known held entered old new other same = λ not. inl same
+leaves_nothing (debugged log) status known held entered old new other same = (λ bad. absurd (other bad), λ not. inl same)
 
 -- memory that ran out before a text was opened: the line has no name
 memory_of : (wanted : Wanted) (explain : Bool) (name : List ℕ) (known : Option (List ℕ)) (held : List ℕ → Option (List ℕ)) (old new : Option (List ℕ))

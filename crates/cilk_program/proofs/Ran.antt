@@ -18,6 +18,7 @@ use Rattle.cilk_debug.specs.Tape.{Tape, tape_of, IsAt}
 use Rattle.cilk_commands.specs.Loading.{IsReady}
 use Rattle.cilk_commands.specs.declared.status.Status.{Status}
 use Rattle.cilk_program.specs.Running.{IsRun, status_at}
+use Rattle.cilk_program.specs.declared.closing.Closing.{Closing}
 use Rattle.cilk_program.specs.declared.running.RunAnswer.{RunAnswer}
 use Rattle.cilk_program.specs.Replaying.{ClosesAt, IsReplayed}
 use Rattle.cilk_program.specs.Taped.{IsTape}
@@ -53,6 +54,17 @@ told_of workers limit p r is_logged (Ok t) l status text log = λ bytes ready. (
   log,
 )
 told_of workers limit p r is_logged (Err e) l status text log = tt
+
+-- the closing text that is made of what a machine tells
+pub closes_by : {E : Type 0} (closing : Result Closing E) (m : Situation) (output : List ℕ) (ended : end.End) (n : ℕ)
+    → ((at : Standing) → StandsAt m at → output ≡ at.state.output) → ((at : Standing) → StandsAt m at → ended ≡ end.end_now (label m.program) at)
+    → n ≡ m.choices → IfOk closing (λ c. c.status ≡ status_at ended) → IfOk closing (λ c. c.text.items ≡ end.ending output ended n)
+    → IfOk closing (λ c. (at : Standing) → StandsAt m at → ClosesAt m at c.status c.text.items)
+closes_by (Ok c) m output ended n printed ends counted status text = λ at there. record {
+  tells = status ∙ ap status_at (ends at there);
+  is = text ∙ (λ i. end.ending (printed at there i) (ends at there i) (counted i));
+}
+closes_by (Err e) m output ended n printed ends counted status text = tt
 
 -- the closing text of a replay
 pub replayed : (status : Status) (text bytes answer : List ℕ) (t : Tape) (n : ℕ) (m : Situation) → IsTape text bytes t → n ≡ length t.choices → IsAt t n m

@@ -12,7 +12,7 @@ use Rattle.cilk_commands.specs.declared.failure.Failure.TheVariants as failure
 use Rattle.cilk_commands.specs.declared.status.Status.{Status}
 use Rattle.cilk_commands.specs.declared.status.Status.TheVariants as status
 use Rattle.cilk_commands.proofs.WholeText.{some_read, reason_held, unexplained, whole_held}
-use Rattle.cilk_program.specs.GivingUp.{GivesUp, GivesUpRun, IsBehind, IsOfRun, IsToldBehind, NoProgram, TellsWith}
+use Rattle.cilk_program.specs.GivingUp.{FollowsProgram, GivesUp, GivesUpRun, IsBehind, IsOfRun, IsToldBehind, NoProgram, TellsWith}
 use Rattle.cilk_program.specs.Running.{Stores, StoresFront}
 use Rattle.cilk_program.specs.Taped.{Declines, IsUnread}
 use Rattle.cilk_program.specs.Telling.{status_of}
@@ -108,6 +108,31 @@ declines_held known log text why.CannotStart read told = absurd told.are
 declines_held known log text why.Commands read told = absurd told.are
 declines_held known log text why.Answers read told = absurd told.are
 
+-- what is told of a program that can be run
+pub follows_of : (text : List ℕ) (p : Program) (found : RecordFailure) → IsReady text p → FollowsProgram text found
+follows_of text p (why.Program found) ready = tt
+follows_of text p why.CannotRead ready = (p, ready)
+follows_of text p (why.Log fault) ready = (p, ready)
+follows_of text p (why.Replay fault) ready = (p, ready)
+follows_of text p why.CannotStore ready = (p, ready)
+follows_of text p why.CannotStart ready = (p, ready)
+follows_of text p why.Commands ready = (p, ready)
+follows_of text p why.Answers ready = (p, ready)
+
+ready_held : (known : Option (List ℕ)) (text : List ℕ) → IsReadOf known text → (p : Program) × IsReady text p → Held known (λ t. (p : Program) × IsReady t p)
+ready_held known text read there = whole_held known text (λ t. (p : Program) × IsReady t p) read there.1.is.text.short there
+
+follows_held : (known : Option (List ℕ)) (text : List ℕ) (found : RecordFailure) → IsReadOf known text → FollowsProgram text found
+    → Held known (λ t. FollowsProgram t found)
+follows_held known text (why.Program found) read there = any_held known _ (λ t. tt)
+follows_held known text why.CannotRead read there = ready_held known text read there
+follows_held known text (why.Log fault) read there = ready_held known text read there
+follows_held known text (why.Replay fault) read there = ready_held known text read there
+follows_held known text why.CannotStore read there = ready_held known text read there
+follows_held known text why.CannotStart read there = ready_held known text read there
+follows_held known text why.Commands read there = ready_held known text read there
+follows_held known text why.Answers read there = ready_held known text read there
+
 told_behind : (explain : Bool) (known : Option (List ℕ)) (text : List ℕ) (found : RecordFailure) (behind : List ℕ) → IsReadOf known text
     → IsBehind explain text found behind
     → IsToldBehind explain known found behind
@@ -124,13 +149,14 @@ module _ (Reason : List ℕ → List ℕ → RecordFailure → Type 0) (explain 
     (known log old new : Option (List ℕ)) where
   -- where the text of the program was read
   pub gave_up : (text : List ℕ) (found : RecordFailure) → IsReadOf known text
-      → (status_of found ≡ status.Refused → Held known (λ t. Held log (λ bytes. Reason t bytes found))) → ended ≡ status_of found
+      → (status_of found ≡ status.Refused → Held known (λ t. Held log (λ bytes. Reason t bytes found))) → FollowsProgram text found → ended ≡ status_of found
       → (behind : List ℕ) × (IsBehind explain text found behind × TellsWith program_name log_name found behind old new)
       → GivesUp Reason explain program_name log_name ended known log old new
-  gave_up text found read reason is told = record {
+  gave_up text found read reason follows is told = record {
     why = found;
     status_is = is;
     declined = λ refused. reason (sym is ∙ refused);
+    follows = follows_held known text found read follows;
     behind = told.0;
     explained = told_behind explain known text found told.0 read told.1.0;
     told = told.1.1;
@@ -143,6 +169,7 @@ module _ (Reason : List ℕ → List ℕ → RecordFailure → Type 0) (explain 
     why = why.Program found;
     status_is = is;
     declined = λ refused. absurd (other (sym is ∙ refused));
+    follows = any_held known _ (λ t. tt);
     behind = [];
     explained = record { text = (some_read known).0; read = (some_read known).1; is = unexplained explain (some_read known).0 found other };
     told = told;
@@ -151,15 +178,23 @@ module _ (Reason : List ℕ → List ℕ → RecordFailure → Type 0) (explain 
 -- the same of a run
 module _ (workers : ℕ) (wanted explain : Bool) (program_name log_name : List ℕ) (ended : Status) (known old new : Option (List ℕ)) where
   pub run_gave_up : (text : List ℕ) (found : RecordFailure) → IsReadOf known text
-      → (status_of found ≡ status.Refused → Held known (λ t. Held None (λ bytes. NoProgram t bytes found))) → IsOfRun workers wanted found
-      → ended ≡ status_of found
+      → (status_of found ≡ status.Refused → Held known (λ t. Held None (λ bytes. NoProgram t bytes found))) → FollowsProgram text found
+      → IsOfRun workers wanted found → ended ≡ status_of found
       → (behind : List ℕ) × (IsBehind explain text found behind × TellsWith program_name log_name found behind old new)
       → GivesUpRun workers wanted explain program_name log_name ended known old new
   unfolding gave_up
-  run_gave_up text found read reason of_run is told =
-      record { is = gave_up NoProgram explain program_name log_name ended known None old new text found read reason is told; of_run = of_run }
+  run_gave_up text found read reason follows of_run is told =
+      record { is = gave_up NoProgram explain program_name log_name ended known None old new text found read reason follows is told; of_run = of_run }
 
   pub run_not_read : (found : Failure) → status_of_program found ≢ status.Refused → ended ≡ status_of (why.Program found)
       → TellsWith program_name log_name (why.Program found) [] old new → GivesUpRun workers wanted explain program_name log_name ended known old new
   unfolding not_read
   run_not_read found other is told = record { is = not_read NoProgram explain program_name log_name ended known None old new found other is told; of_run = tt }
+
+-- by the same names
+pub renamed : (workers : ℕ) (wanted explain : Bool) (program_name log_name program_same log_same : List ℕ) (ended : Status) (known old new : Option (List ℕ))
+    → program_name ≡ program_same → log_name ≡ log_same → GivesUpRun workers wanted explain program_name log_name ended known old new
+    → GivesUpRun workers wanted explain program_same log_same ended known old new
+renamed workers wanted explain program_name log_name program_same log_same ended known old new program log told =
+    subst (λ l. GivesUpRun workers wanted explain program_same l ended known old new) log
+    (subst (λ p. GivesUpRun workers wanted explain p log_name ended known old new) program told)

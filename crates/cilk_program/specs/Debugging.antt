@@ -9,7 +9,7 @@ use Rattle.cilk_debug.specs.declared.fault.DebugFault.TheVariants as debug
 use Rattle.cilk_debug.specs.declared.ending.SessionFault.{SessionFault}
 use Rattle.cilk_debug.specs.declared.ending.SessionFault.TheVariants as ending
 use Rattle.cilk_debug.specs.declared.replay_fault.ReplayFault.TheVariants as replay
-use Rattle.cilk_commands.specs.Front.{Gains}
+use Rattle.cilk_commands.specs.Front.{Gains, GainsFront}
 use Rattle.cilk_commands.specs.Held.{Held}
 use Rattle.cilk_commands.specs.declared.failure.Failure.TheVariants as failure
 use Rattle.cilk_program.specs.Taped.{IsTape}
@@ -42,14 +42,22 @@ pub record IsPart (text bytes commands answers : List ℕ) : Type 0 where
 abbrev pub GainsOf : (List ℕ → List ℕ → Type 0) → Option (List ℕ) → Option (List ℕ) → Option (List ℕ) → Type 0
 GainsOf Are commands old new = IfSome commands (λ lines. Gains (Are lines) old new)
 
+-- or has failed in them, and has gained the first of their bytes
+abbrev pub GainsFrontOf : (List ℕ → List ℕ → Type 0) → Option (List ℕ) → Option (List ℕ) → Option (List ℕ) → Type 0
+GainsFrontOf Are commands old new = IfSome commands (λ lines. GainsFront (Are lines) old new)
+
 -- of what three readers held
 abbrev pub Debugs : Option (List ℕ) → Option (List ℕ) → Option (List ℕ) → Option (List ℕ) → Option (List ℕ) → Type 0
 Debugs program log commands old new =
     GainsOf (λ lines answers. Held program (λ text. Held log (λ bytes. IsSession text bytes lines answers))) commands old new
 
+abbrev pub DebugsPart : Option (List ℕ) → Option (List ℕ) → Option (List ℕ) → Option (List ℕ) → Option (List ℕ) → Type 0
+DebugsPart program log commands old new =
+    GainsOf (λ lines answers. Held program (λ text. Held log (λ bytes. IsPart text bytes lines answers))) commands old new
+
 abbrev pub DebugsFront : Option (List ℕ) → Option (List ℕ) → Option (List ℕ) → Option (List ℕ) → Option (List ℕ) → Type 0
 DebugsFront program log commands old new =
-    GainsOf (λ lines answers. Held program (λ text. Held log (λ bytes. IsPart text bytes lines answers))) commands old new
+    GainsFrontOf (λ lines answers. Held program (λ text. Held log (λ bytes. IsPart text bytes lines answers))) commands old new
 
 -- what is told where there is no debugger: want of memory, or what is wrong with the schedule
 abbrev pub undebugged : DebugFault → RecordFailure

@@ -2,8 +2,9 @@
 use Rattle.std.specs.Prelude.{⊤, ◌≡◌, ◌≢◌, ℕ, Bool, true, List, [], ◌++◌, Option, None}
 use Rattle.cilk_commands.specs.Front.{AppendsFront}
 use Rattle.cilk_commands.specs.Held.{Held}
-use Rattle.cilk_commands.specs.Loading.{Unready}
+use Rattle.cilk_commands.specs.Loading.{IsReady, Unready}
 use Rattle.cilk_commands.specs.Telling.{Explained, IsExplanation}
+use Rattle.cilk_commands.specs.syntax.Tree.{Program}
 use Rattle.cilk_commands.specs.declared.status.Status.{Status}
 use Rattle.cilk_commands.specs.declared.status.Status.TheVariants as status
 use Rattle.cilk_program.specs.Telling.{failure_line, status_of}
@@ -29,12 +30,18 @@ abbrev pub NoProgram : List ℕ → List ℕ → RecordFailure → Type 0
 NoProgram program log (why.Program found) = Unready program found
 NoProgram program log found = ⊥
 
+-- what is no failure with the text of the program is told only where that is a program that can be run
+abbrev pub FollowsProgram : List ℕ → RecordFailure → Type 0
+FollowsProgram text (why.Program found) = ⊤
+FollowsProgram text found = (program : Program) × IsReady text program
+
 -- in place of an answer a writer is told of a failure: the status is that failure's, and texts that are refused have it
 pub record GivesUp (Reason : List ℕ → List ℕ → RecordFailure → Type 0) (explain : Bool) (program_name log_name : List ℕ) (ended : Status)
     (program log old new : Option (List ℕ)) : Type 0 where
   pub why : RecordFailure
   pub status_is : ended ≡ status_of why
   pub declined : ended ≡ status.Refused → Held program (λ text. Held log (λ bytes. Reason text bytes why))
+  pub follows : Held program (λ text. FollowsProgram text why)
   pub behind : List ℕ
   pub explained : IsToldBehind explain program why behind
   pub told : TellsWith program_name log_name why behind old new

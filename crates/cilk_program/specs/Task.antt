@@ -6,7 +6,7 @@ use Rattle.cilk_commands.specs.Loading.{Unready}
 use Rattle.cilk_commands.specs.Telling.{GivesUp}
 use Rattle.cilk_commands.specs.declared.status.Status.{Status}
 use Rattle.cilk_commands.specs.declared.status.Status.TheVariants.{CannotWrite, Done}
-use Rattle.cilk_program.specs.Debugging.{Debugs, DebugsFront}
+use Rattle.cilk_program.specs.Debugging.{Debugs, DebugsFront, DebugsPart}
 use Rattle.cilk_program.specs.GivingUp.{GivesUpRun, GivesUp as GivesUpOfLog}
 use Rattle.cilk_program.specs.Replaying.{Replays, ReplaysFront}
 use Rattle.cilk_program.specs.Running.{Runs, RunsFront}
@@ -46,13 +46,14 @@ Does (run workers limit log) status known held entered old new = RunsSomewhere w
 Does (replayed log) status known held entered old new = Replays status known (held log) old new
 Does (debugged log) status known held entered old new = (status ≡ Done) × Debugs known (held log) entered old new
 
--- or it has failed, and has gained at most the first bytes of that
+-- or it has failed, and has gained at most the first bytes of that; of a session that breaks off otherwise whole answers
 abbrev pub Leaves : Wanted → Status → Option (List ℕ) → (List ℕ → Option (List ℕ)) → Option (List ℕ) → Option (List ℕ) → Option (List ℕ) → Type 0
 Leaves printed status known held entered old new = status ≡ CannotWrite → PrintsFront known old new
 Leaves checked status known held entered old new = status ≡ CannotWrite → PassesFront known old new
 Leaves (run workers limit log) status known held entered old new = status ≡ CannotWrite → RunsFrontSomewhere workers limit known old new
 Leaves (replayed log) status known held entered old new = status ≡ CannotWrite → ReplaysFront known (held log) old new
-Leaves (debugged log) status known held entered old new = status ≢ CannotWrite → (new ≡ old) ⊎ DebugsFront known (held log) entered old new
+Leaves (debugged log) status known held entered old new =
+    (status ≡ CannotWrite → DebugsFront known (held log) entered old new) × (status ≢ CannotWrite → (new ≡ old) ⊎ DebugsPart known (held log) entered old new)
 
 -- and another writer is told why, with the names of the text and of the log
 abbrev pub Fails : Wanted → Bool → List ℕ → Status → Option (List ℕ) → (List ℕ → Option (List ℕ)) → Option (List ℕ) → Option (List ℕ) → Type 0

@@ -27,16 +27,10 @@ pub(crate) fn closing_of(alloc: Global, machine: &Machine) -> Result<Closing, Fa
     ensures answer { IfOk result (λ closing. is_answer closing.status ≡ true) }
     ensures err { IfErr result (λ why. why ≡ Failure.Memory) }
 {
-    let Ok(end) = machine.end_now() else {
-        return Err(Failure::Memory);
-    };
-    let Ok(text) = ending(alloc, machine.output(), &end, machine.choices()) else {
-        return Err(Failure::Memory);
-    };
-    Ok(Closing {
-        status: status_at(&end),
-        text,
-    })
+    match machine.end_now() {
+        Ok(end) => closing_by(alloc, machine.output(), &end, machine.choices()),
+        Err(_) => Err(Failure::Memory),
+    }
 }
 
 /// The closing text of a run by workers.
@@ -48,9 +42,19 @@ pub(crate) fn closing_of_run(alloc: Global, run: &Run) -> Result<Closing, Failur
     ensures err { IfErr result (λ why. why ≡ Failure.Memory) }
 {
     let choices = run.log.choices.len() as u64;
-    match ending(alloc, run.output.as_slice(), &run.end, choices) {
+    closing_by(alloc, run.output.as_slice(), &run.end, choices)
+}
+
+// The closing text of what printed this and ended so, behind so many choices.
+fn closing_by(alloc: Global, output: &[u8], end: &End, choices: u64) -> Result<Closing, Failure>
+    ensures status { IfOk result (λ closing. closing.status ≡ status_at (end_of end.now)) }
+    ensures text { IfOk result (λ closing. closing.text.items ≡ model.ending output.now (end_of end.now) choices) }
+    ensures answer { IfOk result (λ closing. is_answer closing.status ≡ true) }
+    ensures err { IfErr result (λ why. why ≡ Failure.Memory) }
+{
+    match ending(alloc, output, end, choices) {
         Ok(text) => Ok(Closing {
-            status: status_at(&run.end),
+            status: status_at(end),
             text,
         }),
         Err(_) => Err(Failure::Memory),

@@ -3,21 +3,23 @@
 ghost use Rattle.std.specs.Prelude.{◌≡◌, ◌≢◌, ◌⊎◌, true, false, ℕ, List, Option, IfSome, IfOk, IfErr};
 ghost use Rattle.cilk_commands.specs.Held.{Held};
 ghost use Rattle.cilk_commands.specs.Status.{is_answer};
-ghost use Rattle.cilk_program.specs.GivingUp.{GivesUp};
+ghost use Rattle.cilk_program.specs.GivingUp.{FollowsProgram, GivesUp};
 ghost use Rattle.cilk_program.specs.Taped.{Declines};
 ghost use Rattle.cilk_program.specs.Telling.{status_of};
-ghost use Rattle.cilk_program.specs.Debugging.{Debugs, DebugsFront, GainsOf, IsSession, IsPart, undebugged, broken_off};
+ghost use Rattle.cilk_program.specs.Debugging.{Debugs, DebugsFront, DebugsPart, GainsFrontOf, GainsOf};
+ghost use Rattle.cilk_program.specs.Debugging.{IsSession, IsPart, undebugged, broken_off};
 
 use crate::failure::RecordFailure;
 use crate::file_names::FileNames;
+use crate::streams::Streams;
 use crate::taped::{Taped, tape_in};
 use cilk_commands::{Failure, Status, read_text};
 use cilk_debug::{DebugFault, Debugger, ReplayFault, SessionFault};
 use std::alloc::Global;
 use std::io::{Read, Write};
 
-/// Answers the commands that a reader holds to `out`, with a debugger of a recorded schedule and the program that
-/// another reader holds, until they end, or else writes the line that says why not to `err`. There is no reader of the
+/// Answers the commands that a reader holds to the output, with a debugger of a recorded schedule and the program that
+/// another reader holds, until they end, or else writes the line that says why not to the errors. There is no reader of the
 /// schedule where it cannot be opened, which is told once the program can be run. What was answered before a session
 /// broke off stays written. A line that cannot be written is lost.
 pub fn debug_text<R: Read, L: Read + Drop, C: Read, O: Write, E: Write>(
@@ -26,36 +28,38 @@ pub fn debug_text<R: Read, L: Read + Drop, C: Read, O: Write, E: Write>(
     reader: &mut R,
     log: Option<L>,
     commands: &mut C,
-    out: &mut O,
-    err: &mut E,
+    streams: &mut Streams<O, E>,
 ) -> Status
     ensures done { (held : Option (List ℕ)) → IfSome log (λ log. L.remaining log ≡ held)
         → result ≡ Status.Done → Debugs (R.remaining reader.old) held (C.remaining commands.old)
-        (O.contents out.old) (O.contents out.new) }
+        (O.contents streams.old.output) (O.contents streams.new.output) }
     ensures usage { result ≢ Status.Usage }
     ensures only { is_answer result ≡ true → result ≡ Status.Done }
 
     // Where the commands did not all have their answers.
     ensures told { (held : Option (List ℕ)) → IfSome log (λ log. L.remaining log ≡ held)
         → is_answer result ≡ false → GivesUp Declines false names.now.program.now names.now.log.now result
-        (R.remaining reader.old) held (E.contents err.old) (E.contents err.new) }
+        (R.remaining reader.old) held (E.contents streams.old.errors) (E.contents streams.new.errors) }
     ensures begun { (held : Option (List ℕ)) → IfSome log (λ log. L.remaining log ≡ held)
-        → is_answer result ≡ false → result ≢ Status.CannotWrite → (out.new ≡ out.old)
-        ⊎ DebugsFront (R.remaining reader.old) held (C.remaining commands.old)
-        (O.contents out.old) (O.contents out.new) }
+        → result ≡ Status.CannotWrite → DebugsFront (R.remaining reader.old) held (C.remaining commands.old)
+        (O.contents streams.old.output) (O.contents streams.new.output) }
+    ensures part { (held : Option (List ℕ)) → IfSome log (λ log. L.remaining log ≡ held)
+        → is_answer result ≡ false → result ≢ Status.CannotWrite → (streams.new.output ≡ streams.old.output)
+        ⊎ DebugsPart (R.remaining reader.old) held (C.remaining commands.old)
+        (O.contents streams.old.output) (O.contents streams.new.output) }
 
     // What stays as it was.
-    ensures quiet { is_answer result ≡ true → err.new ≡ err.old }
-    ensures kept { result ≡ Status.Refused → out.new ≡ out.old }
+    ensures quiet { is_answer result ≡ true → streams.new.errors ≡ streams.old.errors }
+    ensures kept { result ≡ Status.Refused → streams.new.output ≡ streams.old.output }
 {
     let bytes = match read_text(alloc, reader) {
         Ok(bytes) => bytes,
-        Err(failure) => return RecordFailure::Program(failure).report(names, err),
+        Err(failure) => return RecordFailure::Program(failure).report(names, &mut streams.errors),
     };
     let text = bytes.as_slice();
-    match debug(alloc, text, log, commands, out) {
+    match debug(alloc, text, log, commands, &mut streams.output) {
         Ok(()) => Status::Done,
-        Err(why) => why.explain(alloc, names, false, text, err),
+        Err(why) => why.explain(alloc, names, false, text, &mut streams.errors),
     }
 }
 
@@ -71,7 +75,12 @@ fn debug<L: Read + Drop, C: Read, W: Write>(
         (C.remaining commands.old) (W.contents out.old) (W.contents out.new)) }
     ensures declined { (held : Option (List ℕ)) → IfSome log (λ log. L.remaining log ≡ held)
         → IfErr result (λ why. status_of why ≡ Status.Refused → Held held (λ bytes. Declines text.now bytes why)) }
+    ensures follows { IfErr result (FollowsProgram text.now) }
     ensures begun { (held : Option (List ℕ)) → IfSome log (λ log. L.remaining log ≡ held)
+        → IfErr result (λ why. status_of why ≡ Status.CannotWrite
+        → GainsFrontOf (λ lines answers. Held held (λ bytes. IsPart text.now bytes lines answers))
+        (C.remaining commands.old) (W.contents out.old) (W.contents out.new)) }
+    ensures part { (held : Option (List ℕ)) → IfSome log (λ log. L.remaining log ≡ held)
         → IfErr result (λ why. status_of why ≢ Status.CannotWrite → (out.new ≡ out.old)
         ⊎ GainsOf (λ lines answers. Held held (λ bytes. IsPart text.now bytes lines answers))
         (C.remaining commands.old) (W.contents out.old) (W.contents out.new)) }

@@ -7,6 +7,7 @@ ghost use Rattle.cilk_words.specs.CommandLine.{texts_of, wanted_by};
 ghost use Rattle.cilk_program.specs.Ends.{Ends, IsShown, Shows, opens_session};
 ghost use Rattle.cilk_program.specs.Task.{Does, Fails, Leaves, is_session};
 
+use crate::streams::Streams;
 use crate::task::perform;
 use crate::texts::Texts;
 use cilk_commands::{Failure, Status};
@@ -22,19 +23,18 @@ pub fn run<H: Threads + Wait + Sync, T: Texts, O: Write, E: Write>(
     alloc: Global,
     words: &[String],
     texts: &T,
-    out: &mut O,
-    err: &mut E,
+    streams: &mut Streams<O, E>,
 ) -> Status
     ensures ends { Ends (texts_of words.now) (T.held texts.now) (T.entered texts.now) result
-        (O.contents out.old) (O.contents out.new) (E.contents err.old) (E.contents err.new) }
-    ensures quiet { is_answer result ≡ true → err.new ≡ err.old }
+        (O.contents streams.old.output) (O.contents streams.new.output) (E.contents streams.old.errors) (E.contents streams.new.errors) }
+    ensures quiet { is_answer result ≡ true → streams.new.errors ≡ streams.old.errors }
     ensures kept { opens_session (texts_of words.now) ≡ false
-        → is_answer result ≡ false → result ≢ Status.CannotWrite → out.new ≡ out.old }
-    ensures unanswered { result ≡ Status.Refused → out.new ≡ out.old }
+        → is_answer result ≡ false → result ≢ Status.CannotWrite → streams.new.output ≡ streams.old.output }
+    ensures unanswered { result ≡ Status.Refused → streams.new.output ≡ streams.old.output }
 {
     match request_in(alloc, words) {
-        Ok(request) => obey(rt, alloc, &request, texts, out, err),
-        Err(refusal) => tell(&refusal, out, err),
+        Ok(request) => obey(rt, alloc, &request, texts, streams),
+        Err(refusal) => tell(&refusal, streams),
     }
 }
 
@@ -43,63 +43,62 @@ fn obey<H: Threads + Wait + Sync, T: Texts, O: Write, E: Write>(
     alloc: Global,
     request: &Request<'_>,
     texts: &T,
-    out: &mut O,
-    err: &mut E,
+    streams: &mut Streams<O, E>,
 ) -> Status
     ensures done { is_answer result ≡ true → Does (wanted_by request.now.task) result
         (T.held texts.now request.now.name.now) (T.held texts.now) (T.entered texts.now)
-        (O.contents out.old) (O.contents out.new) }
+        (O.contents streams.old.output) (O.contents streams.new.output) }
     ensures told { is_answer result ≡ false → Fails (wanted_by request.now.task)
         request.now.explain request.now.name.now result
         (T.held texts.now request.now.name.now) (T.held texts.now)
-        (E.contents err.old) (E.contents err.new) }
+        (E.contents streams.old.errors) (E.contents streams.new.errors) }
     ensures begun { is_answer result ≡ false → Leaves (wanted_by request.now.task) result
         (T.held texts.now request.now.name.now) (T.held texts.now) (T.entered texts.now)
-        (O.contents out.old) (O.contents out.new) }
+        (O.contents streams.old.output) (O.contents streams.new.output) }
     ensures usage { result ≢ Status.Usage }
-    ensures quiet { is_answer result ≡ true → err.new ≡ err.old }
+    ensures quiet { is_answer result ≡ true → streams.new.errors ≡ streams.old.errors }
     ensures kept { is_session (wanted_by request.now.task) ≡ false
-        → is_answer result ≡ false → result ≢ Status.CannotWrite → out.new ≡ out.old }
-    ensures unanswered { result ≡ Status.Refused → out.new ≡ out.old }
+        → is_answer result ≡ false → result ≢ Status.CannotWrite → streams.new.output ≡ streams.old.output }
+    ensures unanswered { result ≡ Status.Refused → streams.new.output ≡ streams.old.output }
 {
     match texts.open(request.name) {
-        Some(mut reader) => perform(rt, alloc, request, texts, &mut reader, out, err),
-        None => Failure::CannotRead.report(request.name, err),
+        Some(mut reader) => perform(rt, alloc, request, texts, &mut reader, streams),
+        None => Failure::CannotRead.report(request.name, &mut streams.errors),
     }
 }
 
 // Help and the version go to the output, and what is wrong with the words elsewhere.
-fn tell<O: Write, E: Write>(refusal: &NoRequest, out: &mut O, err: &mut E) -> Status
-    ensures shows { Shows refusal.now result (O.contents out.old) (O.contents out.new) }
+fn tell<O: Write, E: Write>(refusal: &NoRequest, streams: &mut Streams<O, E>) -> Status
+    ensures shows { Shows refusal.now result (O.contents streams.old.output) (O.contents streams.new.output) }
     ensures memory { refusal.now ≡ NoRequest.Memory
-        → WritesFailure [] Failure.Memory [] (E.contents err.old) (E.contents err.new) }
-    ensures quiet { is_answer result ≡ true → err.new ≡ err.old }
-    ensures kept { is_answer result ≡ false → result ≢ Status.CannotWrite → out.new ≡ out.old }
+        → WritesFailure [] Failure.Memory [] (E.contents streams.old.errors) (E.contents streams.new.errors) }
+    ensures quiet { is_answer result ≡ true → streams.new.errors ≡ streams.old.errors }
+    ensures kept { is_answer result ≡ false → result ≢ Status.CannotWrite → streams.new.output ≡ streams.old.output }
 {
     match refusal {
-        NoRequest::Help(text) | NoRequest::Version(text) => show(text.as_str(), out, err),
+        NoRequest::Help(text) | NoRequest::Version(text) => show(text.as_str(), streams),
         NoRequest::Usage(text) => {
-            let _ = err.write_all(text.as_bytes());
+            let _ = streams.errors.write_all(text.as_bytes());
             Status::Usage
         }
         NoRequest::Dash(dash) => {
-            let _ = err.write_all(dash.text().as_bytes());
+            let _ = streams.errors.write_all(dash.text().as_bytes());
             Status::Usage
         }
-        NoRequest::Memory => Failure::Memory.report("", err),
+        NoRequest::Memory => Failure::Memory.report("", &mut streams.errors),
     }
 }
 
-fn show<O: Write, E: Write>(text: &str, out: &mut O, err: &mut E) -> Status
-    ensures shows { IsShown text.now result (O.contents out.old) (O.contents out.new) }
-    ensures quiet { is_answer result ≡ true → err.new ≡ err.old }
+fn show<O: Write, E: Write>(text: &str, streams: &mut Streams<O, E>) -> Status
+    ensures shows { IsShown text.now result (O.contents streams.old.output) (O.contents streams.new.output) }
+    ensures quiet { is_answer result ≡ true → streams.new.errors ≡ streams.old.errors }
 {
-    let written = match out.write_all(text.as_bytes()) {
-        Ok(()) => out.flush(),
+    let written = match streams.output.write_all(text.as_bytes()) {
+        Ok(()) => streams.output.flush(),
         Err(error) => Err(error),
     };
     match written {
         Ok(()) => Status::Done,
-        Err(_) => Failure::CannotWrite.report("", err),
+        Err(_) => Failure::CannotWrite.report("", &mut streams.errors),
     }
 }

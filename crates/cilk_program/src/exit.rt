@@ -8,6 +8,7 @@ ghost use Rattle.cilk_words.specs.CommandLine.{texts_of};
 ghost use Rattle.cilk_program.specs.Ends.{Ends, opens_session, without_words};
 
 use crate::dispatch::run;
+use crate::streams::Streams;
 use crate::texts::Texts;
 use cilk_commands::{Failure, Status};
 use std::alloc::Global;
@@ -30,27 +31,26 @@ pub fn exit_code<H: Threads + Wait + Sync, T: Texts, O: Write, E: Write>(
     alloc: Global,
     words: io::Result<Vec<String>>,
     texts: &T,
-    out: &mut O,
-    err: &mut E,
+    streams: &mut Streams<O, E>,
 ) -> u8
     ensures { (status : Status) × ((result ≡ code_of status)
         × MatchResult words
         (λ list. Ends (texts_of list.items) (T.held texts.now) (T.entered texts.now) status
-        (O.contents out.old) (O.contents out.new) (E.contents err.old) (E.contents err.new))
+        (O.contents streams.old.output) (O.contents streams.new.output) (E.contents streams.old.errors) (E.contents streams.new.errors))
         (λ error. status ≡ without_words (error_kind error))
-        × (is_answer status ≡ true → err.new ≡ err.old)
+        × (is_answer status ≡ true → streams.new.errors ≡ streams.old.errors)
         × (MatchResult words (λ list. opens_session (texts_of list.items) ≡ false) (λ error. Unit {0})
-        → is_answer status ≡ false → status ≢ Status.CannotWrite → out.new ≡ out.old)
-        × (status ≡ Status.Refused → out.new ≡ out.old)) }
+        → is_answer status ≡ false → status ≢ Status.CannotWrite → streams.new.output ≡ streams.old.output)
+        × (status ≡ Status.Refused → streams.new.output ≡ streams.old.output)) }
 {
     let status = match words {
-        Ok(words) => run(rt, alloc, words.as_slice(), texts, out, err),
-        Err(error) => refuse(&error, err),
+        Ok(words) => run(rt, alloc, words.as_slice(), texts, streams),
+        Err(error) => refuse(&error, &mut streams.errors),
     };
     status.code()
 }
 
-// WritesFailure why there are no words: memory has run out, or one is not UTF-8.
+// Tells why there are no words: memory has run out, or one is not UTF-8.
 fn refuse<E: Write>(error: &io::Error, err: &mut E) -> Status
     ensures { result ≡ without_words (error_kind error.now) }
 {

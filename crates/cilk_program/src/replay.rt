@@ -4,7 +4,7 @@ ghost use Rattle.std.specs.Prelude.{◌≡◌, ◌≢◌, true, false, ℕ, List
 ghost use Rattle.cilk_commands.specs.Front.{Gains, GainsFront};
 ghost use Rattle.cilk_commands.specs.Held.{Held};
 ghost use Rattle.cilk_commands.specs.Status.{is_answer};
-ghost use Rattle.cilk_program.specs.GivingUp.{GivesUp};
+ghost use Rattle.cilk_program.specs.GivingUp.{FollowsProgram, GivesUp};
 ghost use Rattle.cilk_program.specs.Taped.{Declines};
 ghost use Rattle.cilk_program.specs.Telling.{status_of};
 ghost use Rattle.cilk_program.specs.Replaying.{IsReplayed, Replays, ReplaysFront};
@@ -12,6 +12,7 @@ ghost use Rattle.cilk_program.specs.Replaying.{IsReplayed, Replays, ReplaysFront
 use crate::closing::{Closing, closing_of};
 use crate::failure::RecordFailure;
 use crate::file_names::FileNames;
+use crate::streams::Streams;
 use crate::taped::{Taped, tape_in};
 use cilk_commands::{Status, read_text, write_answer};
 use cilk_debug::play;
@@ -19,7 +20,7 @@ use std::alloc::Global;
 use std::io::{Read, Write};
 
 /// Makes the choices of a recorded schedule again, from the start of the program that the reader holds, and writes how the
-/// program stands behind the last one to `out`, as `main returned 9`, or else the line that says why not to `err`. There
+/// program stands behind the last one to the output, as `main returned 9`, or else the line that says why not to the errors. There
 /// is no reader of the schedule where it cannot be opened, which is told once the program can be run. The answer is made
 /// whole before any of it is written. A line that cannot be written is lost.
 pub fn replay_text<R: Read, L: Read + Drop, O: Write, E: Write>(
@@ -27,32 +28,31 @@ pub fn replay_text<R: Read, L: Read + Drop, O: Write, E: Write>(
     names: &FileNames<'_>,
     reader: &mut R,
     log: Option<L>,
-    out: &mut O,
-    err: &mut E,
+    streams: &mut Streams<O, E>,
 ) -> Status
     ensures done { (held : Option (List ℕ)) → IfSome log (λ log. L.remaining log ≡ held)
-        → is_answer result ≡ true → Replays result (R.remaining reader.old) held (O.contents out.old) (O.contents out.new) }
+        → is_answer result ≡ true → Replays result (R.remaining reader.old) held (O.contents streams.old.output) (O.contents streams.new.output) }
     ensures usage { result ≢ Status.Usage }
 
     // Where there is no answer.
     ensures told { (held : Option (List ℕ)) → IfSome log (λ log. L.remaining log ≡ held)
         → is_answer result ≡ false → GivesUp Declines false names.now.program.now names.now.log.now result
-        (R.remaining reader.old) held (E.contents err.old) (E.contents err.new) }
+        (R.remaining reader.old) held (E.contents streams.old.errors) (E.contents streams.new.errors) }
     ensures begun { (held : Option (List ℕ)) → IfSome log (λ log. L.remaining log ≡ held)
-        → result ≡ Status.CannotWrite → ReplaysFront (R.remaining reader.old) held (O.contents out.old) (O.contents out.new) }
+        → result ≡ Status.CannotWrite → ReplaysFront (R.remaining reader.old) held (O.contents streams.old.output) (O.contents streams.new.output) }
 
     // What stays as it was.
-    ensures quiet { is_answer result ≡ true → err.new ≡ err.old }
-    ensures kept { is_answer result ≡ false → result ≢ Status.CannotWrite → out.new ≡ out.old }
+    ensures quiet { is_answer result ≡ true → streams.new.errors ≡ streams.old.errors }
+    ensures kept { is_answer result ≡ false → result ≢ Status.CannotWrite → streams.new.output ≡ streams.old.output }
 {
     let bytes = match read_text(alloc, reader) {
         Ok(bytes) => bytes,
-        Err(failure) => return RecordFailure::Program(failure).report(names, err),
+        Err(failure) => return RecordFailure::Program(failure).report(names, &mut streams.errors),
     };
     let text = bytes.as_slice();
-    match replay(alloc, text, log, out) {
+    match replay(alloc, text, log, &mut streams.output) {
         Ok(status) => status,
-        Err(why) => why.explain(alloc, names, false, text, err),
+        Err(why) => why.explain(alloc, names, false, text, &mut streams.errors),
     }
 }
 
@@ -68,6 +68,7 @@ fn replay<L: Read + Drop, W: Write>(
     ensures answer { IfOk result (λ status. is_answer status ≡ true) }
     ensures declined { (held : Option (List ℕ)) → IfSome log (λ log. L.remaining log ≡ held)
         → IfErr result (λ why. status_of why ≡ Status.Refused → Held held (λ bytes. Declines text.now bytes why)) }
+    ensures follows { IfErr result (FollowsProgram text.now) }
     ensures begun { (held : Option (List ℕ)) → IfSome log (λ log. L.remaining log ≡ held)
         → IfErr result (λ why. status_of why ≡ Status.CannotWrite → (status : Status)
         × GainsFront (λ answer. Held held (λ bytes. IsReplayed status text.now bytes answer))
@@ -96,6 +97,7 @@ fn replayed<L: Read + Drop>(
     ensures answer { IfOk result (λ closing. is_answer closing.status ≡ true) }
     ensures declined { (held : Option (List ℕ)) → IfSome log (λ log. L.remaining log ≡ held)
         → IfErr result (λ why. status_of why ≡ Status.Refused → Held held (λ bytes. Declines text.now bytes why)) }
+    ensures follows { IfErr result (FollowsProgram text.now) }
     ensures reads { IfErr result (λ why. status_of why ≢ Status.CannotWrite) }
 {
     let Taped { program, log } = match tape_in(alloc, text, log) {

@@ -1,6 +1,6 @@
 //! The subcommand `run`: a run by workers, its log, and how it ends.
 
-ghost use Rattle.std.specs.Prelude.{◌≡◌, ◌≢◌, ℕ, List, [], length, true, false, None, IfOk, IfErr, OnOk, OnErr};
+ghost use Rattle.std.specs.Prelude.{◌≡◌, ◌≢◌, ℕ, List, [], length, true, false, None, IfOk, IfErr, OnOk, OnErr, option_map};
 ghost use Rattle.std.specs.Io.KnownBytes.{Appends};
 ghost use Rattle.cilk_run.specs.choices.Words.{end_of};
 ghost use Rattle.cilk_debug.specs.log.Text.{log_text};
@@ -8,15 +8,16 @@ ghost use Rattle.cilk_debug.specs.log.Words.{log_of};
 ghost use Rattle.cilk_run.specs.model.End as model;
 ghost use Rattle.cilk_commands.specs.Loading.{IsReady};
 ghost use Rattle.cilk_commands.specs.Status.{is_answer};
-ghost use Rattle.cilk_program.specs.GivingUp.{GivesUpRun, IsOfRun, NoProgram};
+ghost use Rattle.cilk_program.specs.GivingUp.{FollowsProgram, GivesUpRun, IsOfRun, NoProgram};
 ghost use Rattle.cilk_program.specs.Running.{IsRun, Runs, RunsFront, Stores, StoresFront, status_at};
+ghost use Rattle.cilk_program.specs.Task.{log_name};
 ghost use Rattle.cilk_program.specs.Telling.{status_of};
 
 use crate::closing::{Closing, closing_of_run};
 use crate::failure::RecordFailure;
-use crate::file_names::FileNames;
-use crate::manner::Manner;
+use crate::run_task::RunTask;
 use crate::store::LogStore;
+use crate::streams::Streams;
 use cilk_commands::{Failure, Loaded, Status, read_text, ready_of, write_answer};
 use cilk_debug::write_log;
 use cilk_run::{Open, Run, RunFault, run};
@@ -26,44 +27,45 @@ use std::sync::Wait;
 use std::thread::Threads;
 
 /// Runs the program that the reader holds. The log of the run goes to the store, where one is wanted, and then how the run
-/// ended to `out`, as `main returned 9`; or else the line that says why not goes to `err`, and behind it, with
-/// `manner.explain`, more of a fault in the program. Both texts are made whole before the first of them is written. A line
+/// ended to the output, as `main returned 9`; or else the line that says why not goes to the errors, and behind it, with
+/// `task.explain`, more of a fault in the program. Both texts are made whole before the first of them is written. A line
 /// that cannot be written is lost.
 pub fn run_text<H: Threads + Wait + Sync, R: Read, S: LogStore, O: Write, E: Write>(
     rt: &H,
     alloc: Global,
-    names: &FileNames<'_>,
-    manner: &Manner,
+    task: &RunTask<'_>,
     reader: &mut R,
     store: &mut S,
-    out: &mut O,
-    err: &mut E,
+    streams: &mut Streams<O, E>,
 ) -> Status
-    ensures done { is_answer result ≡ true → Runs manner.now.workers manner.now.limit result (R.remaining reader.old)
-        (S.stored store.old) (S.stored store.new) (O.contents out.old) (O.contents out.new) }
+    ensures done { is_answer result ≡ true → Runs task.now.workers task.now.limit result (R.remaining reader.old)
+        (S.stored store.old) (S.stored store.new) (O.contents streams.old.output) (O.contents streams.new.output) }
     ensures usage { result ≢ Status.Usage }
 
     // Where there is no answer.
     ensures told { is_answer result ≡ false
-        → GivesUpRun manner.now.workers (S.wanted store.old) manner.now.explain names.now.program.now names.now.log.now result
-        (R.remaining reader.old) (E.contents err.old) (E.contents err.new) }
-    ensures begun { result ≡ Status.CannotWrite → RunsFront manner.now.workers manner.now.limit (R.remaining reader.old)
-        (S.stored store.old) (S.stored store.new) (O.contents out.old) (O.contents out.new) }
+        → GivesUpRun task.now.workers (S.wanted store.old) task.now.explain task.now.program.now (log_name (option_map (λ it. it.now) task.now.log)) result
+        (R.remaining reader.old) (E.contents streams.old.errors) (E.contents streams.new.errors) }
+    ensures begun { result ≡ Status.CannotWrite → RunsFront task.now.workers task.now.limit (R.remaining reader.old)
+        (S.stored store.old) (S.stored store.new) (O.contents streams.old.output) (O.contents streams.new.output) }
 
     // What stays as it was.
-    ensures quiet { is_answer result ≡ true → err.new ≡ err.old }
-    ensures kept { is_answer result ≡ false → result ≢ Status.CannotWrite → out.new ≡ out.old }
+    ensures quiet { is_answer result ≡ true → streams.new.errors ≡ streams.old.errors }
+    ensures kept { is_answer result ≡ false → result ≢ Status.CannotWrite → streams.new.output ≡ streams.old.output }
     ensures unopened { is_answer result ≡ false → result ≢ Status.CannotWrite
         → result ≢ Status.CannotRecord → store.new ≡ store.old }
 {
+    let names = task.names();
     let bytes = match read_text(alloc, reader) {
         Ok(bytes) => bytes,
-        Err(failure) => return RecordFailure::Program(failure).report(names, err),
+        Err(failure) => {
+            return RecordFailure::Program(failure).report(&names, &mut streams.errors);
+        }
     };
     let text = bytes.as_slice();
-    match run_stored(rt, alloc, manner, text, store, out) {
+    match run_stored(rt, alloc, task, text, store, &mut streams.output) {
         Ok(status) => status,
-        Err(why) => why.explain(alloc, names, manner.explain, text, err),
+        Err(why) => why.explain(alloc, &names, task.explain, text, &mut streams.errors),
     }
 }
 
@@ -71,18 +73,19 @@ pub fn run_text<H: Threads + Wait + Sync, R: Read, S: LogStore, O: Write, E: Wri
 fn run_stored<H: Threads + Wait + Sync, S: LogStore, W: Write>(
     rt: &H,
     alloc: Global,
-    manner: &Manner,
+    task: &RunTask<'_>,
     text: &[u8],
     store: &mut S,
     out: &mut W,
 ) -> Result<Status, RecordFailure>
-    ensures ok { IfOk result (λ status. Stores (IsRun manner.now.workers manner.now.limit status text.now)
+    ensures ok { IfOk result (λ status. Stores (IsRun task.now.workers task.now.limit status text.now)
         (S.stored store.old) (S.stored store.new) (W.contents out.old) (W.contents out.new)) }
     ensures answer { IfOk result (λ status. is_answer status ≡ true) }
     ensures declined { IfErr result (λ why. status_of why ≡ Status.Refused → NoProgram text.now [] why) }
-    ensures of_run { IfErr result (IsOfRun manner.now.workers (S.wanted store.old)) }
+    ensures follows { IfErr result (FollowsProgram text.now) }
+    ensures of_run { IfErr result (IsOfRun task.now.workers (S.wanted store.old)) }
     ensures begun { IfErr result (λ why. status_of why ≡ Status.CannotWrite → (status : Status)
-        × StoresFront (IsRun manner.now.workers manner.now.limit status text.now)
+        × StoresFront (IsRun task.now.workers task.now.limit status text.now)
         (S.stored store.old) (S.stored store.new) (W.contents out.old) (W.contents out.new)) }
     ensures kept { IfErr result (λ why. status_of why ≢ Status.CannotWrite → out.new ≡ out.old) }
     ensures unopened { IfErr result (λ why. status_of why ≢ Status.CannotWrite
@@ -96,7 +99,7 @@ fn run_stored<H: Threads + Wait + Sync, S: LogStore, W: Write>(
         drop(program);
         return Err(RecordFailure::CannotStore);
     }
-    let texts = match texts_of(rt, alloc, manner, program, store.is_wanted()) {
+    let texts = match texts_of(rt, alloc, task, program, store.is_wanted()) {
         Ok(texts) => texts,
         Err(why) => return Err(why),
     };
@@ -140,18 +143,18 @@ struct RunAnswer {
 fn texts_of<H: Threads + Wait + Sync>(
     rt: &H,
     alloc: Global,
-    manner: &Manner,
+    task: &RunTask<'_>,
     program: Loaded,
     is_logged: bool,
 ) -> Result<RunAnswer, RecordFailure>
     ensures ok { IfOk result (λ texts. (bytes : List ℕ) → IsReady bytes program → (log : List ℕ)
-        × IsRun manner.now.workers manner.now.limit texts.status bytes log texts.answer.items
+        × IsRun task.now.workers task.now.limit texts.status bytes log texts.answer.items
         × (is_logged ≡ true → texts.log.items ≡ log)) }
     ensures answer { IfOk result (λ texts. is_answer texts.status ≡ true) }
     ensures err { IfErr result (λ why. (status_of why ≢ Status.Refused) × (status_of why ≢ Status.CannotWrite)) }
-    ensures of_run { IfErr result (IsOfRun manner.now.workers is_logged) }
+    ensures of_run { IfErr result (IsOfRun task.now.workers is_logged) }
 {
-    let ended = match run(rt, alloc, program, manner.workers, manner.limit, &Open) {
+    let ended = match run(rt, alloc, program, task.workers, task.limit, &Open) {
         Ok(ended) => ended,
         Err(RunFault::Memory) => return Err(RecordFailure::Program(Failure::Memory)),
         Err(RunFault::Start | RunFault::Workers) => return Err(RecordFailure::CannotStart),

@@ -2,10 +2,12 @@
 
 ghost use Rattle.std.specs.Prelude.{◌≡◌, ◌≢◌, ℕ, List, Option, Ok, IfSome, IfOk, IfErr};
 ghost use Rattle.cilk_commands.specs.Held.{Held};
+ghost use Rattle.cilk_commands.specs.Loading.{IsReady};
 ghost use Rattle.cilk_commands.specs.declared.status.Status.TheVariants as ended;
 ghost use Rattle.cilk_debug.specs.log.Reading.{log_read};
 ghost use Rattle.cilk_debug.specs.log.Words.{log_of};
 ghost use Rattle.cilk_debug.specs.Tape.{tape_of};
+ghost use Rattle.cilk_program.specs.GivingUp.{FollowsProgram};
 ghost use Rattle.cilk_program.specs.Telling.{status_of};
 ghost use Rattle.cilk_program.specs.Taped.{Declines, IsTape, IsUnread};
 
@@ -32,8 +34,10 @@ pub(crate) fn tape_in<L: Read + Drop>(
     ensures ok { (held : Option (List ℕ)) → IfSome log (λ log. L.remaining log ≡ held)
         → IfOk result (λ taped. Held held (λ bytes.
         IsTape text.now bytes (tape_of taped.program taped.log.workers taped.log.choices))) }
+    ensures ready { IfOk result (λ taped. IsReady text.now taped.program) }
     ensures declined { (held : Option (List ℕ)) → IfSome log (λ log. L.remaining log ≡ held)
         → IfErr result (λ why. status_of why ≡ ended.Refused → Held held (λ bytes. Declines text.now bytes why)) }
+    ensures follows { IfErr result (FollowsProgram text.now) }
     ensures reads { IfErr result (λ why. status_of why ≢ ended.CannotWrite) }
 {
     match ready_of(alloc, text) {

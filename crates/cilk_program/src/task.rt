@@ -3,7 +3,7 @@
 ghost use Rattle.std.specs.Prelude.{◌≡◌, ◌≢◌, ◌⊎◌, true, false, is_some, option_map};
 ghost use Rattle.cilk_commands.specs.Status.{is_answer};
 ghost use Rattle.cilk_words.specs.CommandLine.{wanted_by};
-ghost use Rattle.cilk_program.specs.Debugging.{Debugs, DebugsFront};
+ghost use Rattle.cilk_program.specs.Debugging.{Debugs, DebugsFront, DebugsPart};
 ghost use Rattle.cilk_program.specs.GivingUp.{GivesUp, GivesUpRun};
 ghost use Rattle.cilk_program.specs.Replaying.{Replays, ReplaysFront};
 ghost use Rattle.cilk_program.specs.Taped.{Declines};
@@ -11,7 +11,7 @@ ghost use Rattle.cilk_program.specs.Task.{Does, Fails, Leaves, is_session};
 ghost use Rattle.cilk_program.specs.Task.{RunsFrontSomewhere, RunsSomewhere, log_name};
 
 use crate::texts::Texts;
-use crate::{FileNames, Manner, RecordFailure, debug_text, replay_text, run_text};
+use crate::{FileNames, RecordFailure, RunTask, Streams, debug_text, replay_text, run_text};
 use cilk_commands::{Failure, Status, check_text, print_text};
 use cilk_words::{Request, Task};
 use std::alloc::Global;
@@ -26,77 +26,86 @@ pub fn perform<H: Threads + Wait + Sync, T: Texts, R: Read, O: Write, E: Write>(
     request: &Request<'_>,
     texts: &T,
     reader: &mut R,
-    out: &mut O,
-    err: &mut E,
+    streams: &mut Streams<O, E>,
 ) -> Status
     ensures done { is_answer result ≡ true → Does (wanted_by request.now.task) result
         (R.remaining reader.old) (T.held texts.now) (T.entered texts.now)
-        (O.contents out.old) (O.contents out.new) }
+        (O.contents streams.old.output) (O.contents streams.new.output) }
     ensures told { is_answer result ≡ false → Fails (wanted_by request.now.task)
         request.now.explain request.now.name.now result
-        (R.remaining reader.old) (T.held texts.now) (E.contents err.old) (E.contents err.new) }
+        (R.remaining reader.old) (T.held texts.now) (E.contents streams.old.errors) (E.contents streams.new.errors) }
     ensures begun { is_answer result ≡ false → Leaves (wanted_by request.now.task) result
         (R.remaining reader.old) (T.held texts.now) (T.entered texts.now)
-        (O.contents out.old) (O.contents out.new) }
+        (O.contents streams.old.output) (O.contents streams.new.output) }
     ensures usage { result ≢ Status.Usage }
 
-    ensures quiet { is_answer result ≡ true → err.new ≡ err.old }
+    ensures quiet { is_answer result ≡ true → streams.new.errors ≡ streams.old.errors }
     ensures kept { is_session (wanted_by request.now.task) ≡ false
-        → is_answer result ≡ false → result ≢ Status.CannotWrite → out.new ≡ out.old }
-    ensures unanswered { result ≡ Status.Refused → out.new ≡ out.old }
+        → is_answer result ≡ false → result ≢ Status.CannotWrite → streams.new.output ≡ streams.old.output }
+    ensures unanswered { result ≡ Status.Refused → streams.new.output ≡ streams.old.output }
 {
     let Request { name, explain, .. } = *request;
     match request.task {
-        Task::Print => print_text(alloc, name, explain, reader, out, err),
-        Task::Check => check_text(alloc, name, explain, reader, out, err),
+        Task::Print => print_text(
+            alloc,
+            name,
+            explain,
+            reader,
+            &mut streams.output,
+            &mut streams.errors,
+        ),
+        Task::Check => check_text(
+            alloc,
+            name,
+            explain,
+            reader,
+            &mut streams.output,
+            &mut streams.errors,
+        ),
         Task::Run {
             workers,
             limit,
             log,
         } => {
-            let manner = Manner {
+            let task = RunTask {
+                program: name,
+                log,
                 explain,
                 workers,
                 limit,
             };
-            run_named(rt, alloc, name, log, &manner, texts, reader, out, err)
+            run_named(rt, alloc, &task, texts, reader, streams)
         }
-        Task::Replay { log } => replay_named(alloc, name, log, texts, reader, out, err),
-        Task::Debug { log } => debug_named(alloc, name, log, texts, reader, out, err),
+        Task::Replay { log } => replay_named(alloc, name, log, texts, reader, streams),
+        Task::Debug { log } => debug_named(alloc, name, log, texts, reader, streams),
     }
 }
 
-// Runs the program that the reader holds, which has this name, with a log of that name, if there is one.
+// Runs the program that the reader holds, with a log where one is wanted.
 fn run_named<H: Threads + Wait + Sync, T: Texts, R: Read, O: Write, E: Write>(
     rt: &H,
     alloc: Global,
-    name: &str,
-    log: Option<&str>,
-    manner: &Manner,
+    task: &RunTask<'_>,
     texts: &T,
     reader: &mut R,
-    out: &mut O,
-    err: &mut E,
+    streams: &mut Streams<O, E>,
 ) -> Status
-    ensures done { is_answer result ≡ true → RunsSomewhere manner.now.workers manner.now.limit result
-        (R.remaining reader.old) (O.contents out.old) (O.contents out.new) }
+    ensures done { is_answer result ≡ true → RunsSomewhere task.now.workers task.now.limit result
+        (R.remaining reader.old) (O.contents streams.old.output) (O.contents streams.new.output) }
     ensures told { is_answer result ≡ false
-        → GivesUpRun manner.now.workers (is_some log.entry) manner.now.explain name.now (log_name (option_map (λ it. it.now) log.entry)) result
-        (R.remaining reader.old) (E.contents err.old) (E.contents err.new) }
-    ensures begun { result ≡ Status.CannotWrite → RunsFrontSomewhere manner.now.workers manner.now.limit
-        (R.remaining reader.old) (O.contents out.old) (O.contents out.new) }
+        → GivesUpRun task.now.workers (is_some task.now.log) task.now.explain task.now.program.now (log_name (option_map (λ it. it.now) task.now.log)) result
+        (R.remaining reader.old) (E.contents streams.old.errors) (E.contents streams.new.errors) }
+    ensures begun { result ≡ Status.CannotWrite → RunsFrontSomewhere task.now.workers task.now.limit
+        (R.remaining reader.old) (O.contents streams.old.output) (O.contents streams.new.output) }
     ensures usage { result ≢ Status.Usage }
-    ensures quiet { is_answer result ≡ true → err.new ≡ err.old }
-    ensures kept { is_answer result ≡ false → result ≢ Status.CannotWrite → out.new ≡ out.old }
+    ensures quiet { is_answer result ≡ true → streams.new.errors ≡ streams.old.errors }
+    ensures kept { is_answer result ≡ false → result ≢ Status.CannotWrite → streams.new.output ≡ streams.old.output }
 {
-    let names = FileNames {
-        program: name,
-        log: log.unwrap_or(""),
+    let Ok(mut store) = texts.log(alloc, task.program, task.log) else {
+        let failure = RecordFailure::Program(Failure::Memory);
+        return failure.report(&task.names(), &mut streams.errors);
     };
-    let Ok(mut store) = texts.log(alloc, name, log) else {
-        return RecordFailure::Program(Failure::Memory).report(&names, err);
-    };
-    run_text(rt, alloc, &names, manner, reader, &mut store, out, err)
+    run_text(rt, alloc, task, reader, &mut store, streams)
 }
 
 // Replays the log of this name, of the program that the reader holds.
@@ -106,22 +115,21 @@ fn replay_named<T: Texts, R: Read, O: Write, E: Write>(
     log: &str,
     texts: &T,
     reader: &mut R,
-    out: &mut O,
-    err: &mut E,
+    streams: &mut Streams<O, E>,
 ) -> Status
     ensures done { is_answer result ≡ true → Replays result (R.remaining reader.old)
-        (T.held texts.now log.now) (O.contents out.old) (O.contents out.new) }
+        (T.held texts.now log.now) (O.contents streams.old.output) (O.contents streams.new.output) }
     ensures told { is_answer result ≡ false
         → GivesUp Declines false name.now log.now result
-        (R.remaining reader.old) (T.held texts.now log.now) (E.contents err.old) (E.contents err.new) }
+        (R.remaining reader.old) (T.held texts.now log.now) (E.contents streams.old.errors) (E.contents streams.new.errors) }
     ensures begun { result ≡ Status.CannotWrite → ReplaysFront (R.remaining reader.old)
-        (T.held texts.now log.now) (O.contents out.old) (O.contents out.new) }
+        (T.held texts.now log.now) (O.contents streams.old.output) (O.contents streams.new.output) }
     ensures usage { result ≢ Status.Usage }
-    ensures quiet { is_answer result ≡ true → err.new ≡ err.old }
-    ensures kept { is_answer result ≡ false → result ≢ Status.CannotWrite → out.new ≡ out.old }
+    ensures quiet { is_answer result ≡ true → streams.new.errors ≡ streams.old.errors }
+    ensures kept { is_answer result ≡ false → result ≢ Status.CannotWrite → streams.new.output ≡ streams.old.output }
 {
     let names = FileNames { program: name, log };
-    replay_text(alloc, &names, reader, texts.open(log), out, err)
+    replay_text(alloc, &names, reader, texts.open(log), streams)
 }
 
 // Debugs the log of this name, of the program that the reader holds.
@@ -131,21 +139,22 @@ fn debug_named<T: Texts, R: Read, O: Write, E: Write>(
     log: &str,
     texts: &T,
     reader: &mut R,
-    out: &mut O,
-    err: &mut E,
+    streams: &mut Streams<O, E>,
 ) -> Status
     ensures done { result ≡ Status.Done → Debugs (R.remaining reader.old)
-        (T.held texts.now log.now) (T.entered texts.now) (O.contents out.old) (O.contents out.new) }
+        (T.held texts.now log.now) (T.entered texts.now) (O.contents streams.old.output) (O.contents streams.new.output) }
     ensures told { is_answer result ≡ false
         → GivesUp Declines false name.now log.now result
-        (R.remaining reader.old) (T.held texts.now log.now) (E.contents err.old) (E.contents err.new) }
-    ensures begun { is_answer result ≡ false → result ≢ Status.CannotWrite → (out.new ≡ out.old)
-        ⊎ DebugsFront (R.remaining reader.old) (T.held texts.now log.now) (T.entered texts.now)
-        (O.contents out.old) (O.contents out.new) }
+        (R.remaining reader.old) (T.held texts.now log.now) (E.contents streams.old.errors) (E.contents streams.new.errors) }
+    ensures begun { result ≡ Status.CannotWrite → DebugsFront (R.remaining reader.old)
+        (T.held texts.now log.now) (T.entered texts.now) (O.contents streams.old.output) (O.contents streams.new.output) }
+    ensures part { is_answer result ≡ false → result ≢ Status.CannotWrite → (streams.new.output ≡ streams.old.output)
+        ⊎ DebugsPart (R.remaining reader.old) (T.held texts.now log.now) (T.entered texts.now)
+        (O.contents streams.old.output) (O.contents streams.new.output) }
     ensures usage { result ≢ Status.Usage }
     ensures only { is_answer result ≡ true → result ≡ Status.Done }
-    ensures quiet { is_answer result ≡ true → err.new ≡ err.old }
-    ensures kept { result ≡ Status.Refused → out.new ≡ out.old }
+    ensures quiet { is_answer result ≡ true → streams.new.errors ≡ streams.old.errors }
+    ensures kept { result ≡ Status.Refused → streams.new.output ≡ streams.old.output }
 {
     let names = FileNames { program: name, log };
     let mut commands = texts.commands();
@@ -155,7 +164,6 @@ fn debug_named<T: Texts, R: Read, O: Write, E: Write>(
         reader,
         texts.open(log),
         &mut commands,
-        out,
-        err,
+        streams,
     )
 }

@@ -116,8 +116,21 @@ impl Locked {
         ensures refused { IfErr result (IsUnsettled self.old.machine proposal.worker proposal.look) }
         ensures unchanged { OnErr result (self.new ≡ self.old) }
     {
+        self.settle(&proposal)
+    }
+
+    // The same, where the proposal stays the caller's.
+    fn settle(&mut self, proposal: &Proposal) -> Result<Event, Refusal>
+        ensures free { OnOk result (look_refused self.old.machine proposal.now.worker ≡ None) }
+        ensures seen { OnOk result (look_at self.old.machine proposal.now.worker ≡ Some proposal.now.look) }
+        ensures made { IfOk result
+            (λ e. Makes self.old.machine self.new.machine (record { worker = proposal.now.worker; act = choices.step }) (event_of e)) }
+        ensures history { OnOk result (self.new.history ≡ self.old.history ++ record { worker = proposal.now.worker; act = Act.Step } ∷ []) }
+        ensures refused { IfErr result (IsUnsettled self.old.machine proposal.now.worker proposal.now.look) }
+        ensures unchanged { OnErr result (self.new ≡ self.old) }
+    {
         if self.history.reserve(1).is_err() {
-            return Err(self.want_of(&proposal));
+            return Err(self.want_of(proposal));
         }
         let worker = proposal.worker();
         let event = self

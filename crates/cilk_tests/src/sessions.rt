@@ -7,6 +7,7 @@ use std::alloc::Global;
 use std::io;
 use std::io::{ErrorKind, Read, Write};
 use std::process::Abort;
+use std::sync::atomic::{AtomicU64, Ordering};
 
 const PROGRAM: &str = "cilk int main(void) { int x = 2; return x * 21; }";
 
@@ -172,6 +173,82 @@ fn each_read_fails_once(rt: HostRuntime) {
         assert_eq!(rt; debugger.position(), stands[lines]);
         assert_eq!(rt; newlines_in(&out, out.len()), 2 * lines);
     }
+}
+
+#[test]
+fn nothing_is_asked_for_behind_quit(rt: HostRuntime) {
+    let mut debugger = debugger(&rt, rt.alloc());
+    // The call behind the last byte of `quit` fails.
+    let mut reader = Broken {
+        left: "step\nquit\nstep\n".as_bytes(),
+        calls: 0,
+        fails_at: 11,
+    };
+    let mut out = Vec::new(rt.alloc());
+    let ended = debugger.session(&mut reader, &mut out);
+    assert_eq!(rt; ended, Ok(()));
+    assert_eq!(rt; reader.calls, 10);
+    assert_eq!(rt; debugger.position(), 1);
+}
+
+// Gives the lines of `WALK`, one at each call, and counts the calls before which not every line that was given has its
+// answer of two lines.
+#[derive(Drop)]
+struct Asking<'a> {
+    left: &'a [u8],
+    lines: u64,
+    answered: &'a AtomicU64,
+    late: u64,
+}
+
+impl Read for Asking<'_> {
+    fn read(&mut self, buf: &mut [u8]) -> io::Result<usize> {
+        if self.answered.load(Ordering::SeqCst) != self.lines.saturating_mul(2) {
+            self.late = self.late.saturating_add(1);
+        }
+        self.lines = self.lines.saturating_add(1);
+        let count = buf.len().min(5);
+        self.left.read(&mut buf[..count])
+    }
+}
+
+// Takes all, and tells how many newlines were flushed.
+#[derive(Drop)]
+struct Answering<'a> {
+    held: u64,
+    answered: &'a AtomicU64,
+}
+
+impl Write for Answering<'_> {
+    fn write(&mut self, buf: &[u8]) -> io::Result<usize> {
+        self.held = self.held.saturating_add(newlines_in(buf, buf.len()) as u64);
+        Ok(buf.len())
+    }
+
+    fn flush(&mut self) -> io::Result<()> {
+        self.answered.store(self.held, Ordering::SeqCst);
+        Ok(())
+    }
+}
+
+#[test]
+fn each_answer_is_flushed_before_the_next_line_is_asked_for(rt: HostRuntime) {
+    let mut debugger = debugger(&rt, rt.alloc());
+    let answered = AtomicU64::new(0);
+    let mut reader = Asking {
+        left: WALK.as_bytes(),
+        lines: 0,
+        answered: &answered,
+        late: 0,
+    };
+    let mut writer = Answering {
+        held: 0,
+        answered: &answered,
+    };
+    let ended = debugger.session(&mut reader, &mut writer);
+    assert_eq!(rt; ended, Ok(()));
+    assert_eq!(rt; reader.late, 0);
+    assert_eq!(rt; answered.load(Ordering::SeqCst), 8);
 }
 
 // Takes `room` bytes, one at each call, and then fails.

@@ -1,7 +1,7 @@
 //! The canonical lines of statements and blocks.
 
 ghost use Rattle.cilk_tree_syntax.specs.StmtView.{if_of};
-ghost use Rattle.cilk_tree_syntax.specs.Tree.{loop, nested, repeat, while, inlet_at};
+ghost use Rattle.cilk_tree_syntax.specs.Tree.{nested, repeat, while, inlet_at};
 ghost use Rattle.cilk_tree.specs.Appends.{Appends};
 ghost use Rattle.cilk_tree.specs.Lines.{closed, deeper, ended, text_of};
 ghost use Rattle.cilk_tree.specs.MoveText.{decl_text, locking_text, move_text, print_text, return_text, spawn_text};
@@ -38,7 +38,8 @@ fn put_stmt(alloc: Global, out: &mut String, indent: &str, stmt: &Stmt) -> Resul
         StmtNode::While(test, body) => put_while(alloc, out, indent, test, body),
         StmtNode::Do(body, test) => put_do(alloc, out, indent, body, test),
         StmtNode::For(first, test, advance, body) => {
-            put_for(alloc, out, indent, first, test, advance, body)
+            put_for_line(out, indent, first, test, advance)?;
+            put_body(alloc, out, indent, body)
         }
         StmtNode::Nested(inside) => put_nested(alloc, out, indent, inside),
     }
@@ -170,22 +171,6 @@ fn put_do(
     put_line(out, indent, "do {")?;
     put_block(alloc, out, indent, body)?;
     put_until_line(out, indent, test)
-}
-
-#[cycle(put_stmt)]
-fn put_for(
-    alloc: Global,
-    out: &mut String,
-    indent: &str,
-    first: &Option<Move>,
-    test: &Expr,
-    advance: &Option<Move>,
-    body: &Block,
-) -> Result<(), Memory>
-    ensures { Appends result out.old out.new (text_of indent.now (stmt_lines (loop first.now test.now advance.now body.now))) }
-{
-    put_for_line(out, indent, first, test, advance)?;
-    put_body(alloc, out, indent, body)
 }
 
 #[cycle(put_stmt)]

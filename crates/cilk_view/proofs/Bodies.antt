@@ -4,7 +4,7 @@ use Rattle.std.proofs.Common.{Some, None, option_map}
 use Rattle.std.specs.Prelude.{codes, decimal, flat_map, option_and_then}
 use Rattle.std.proofs.lemmas.List.{reverse-reverse, reverse-append, map-append}
 use Rattle.cilk_machine_agree.specs.syntax.Tree.{Program}
-use Rattle.cilk_load.specs.check.Fault.{WellFormed}
+use Rattle.cilk_machine_agree.specs.scopes.WellFormed.{WellFormed}
 use Rattle.cilk_machine_agree.specs.eval.declared.area.Area.{Area}
 use Rattle.cilk_machine_agree.specs.eval.declared.area.Area.TheVariants.{Own}
 use Rattle.cilk_load.specs.labelled.Labelled.{Numbered, Variable}

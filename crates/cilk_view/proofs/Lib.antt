@@ -7,4 +7,5 @@ pub mod Told
 pub mod Orders
 pub mod Trees
 pub mod Places
+pub use Rattle.cilk_load.proofs.Fronts
 pub use Rattle.cilk_machine_agree.proofs.placed_laws

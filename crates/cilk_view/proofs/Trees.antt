@@ -1,5 +1,5 @@
 -- The lines of the instances ever made are what the definition says.
-use Rattle.std.proofs.Common.{◌≡◌, append-nil, drop, ℕ, zero, suc, ◌+◌, ◌<◌, ◌≤◌, Bool, false, cond, List, [], ◌∷◌, ◌++◌, map, length, refl, sym, ap}
+use Rattle.std.proofs.Common.{◌≡◌, ℕ, suc, ◌+◌, ◌<◌, Bool, false, cond, List, [], ◌∷◌, ◌++◌, map, length, refl, sym, ap}
 use Rattle.std.proofs.Common.{◌∙◌, subst, arith, All, count_by, sum_by, slice_index_or}
 use Rattle.std.specs.Global.{Vec}
 use Rattle.std.specs.List.{range_with_len}
@@ -11,11 +11,7 @@ use Rattle.std.proofs.lemmas.List.Sorted.{sum_by-IsPermutation}
 use Rattle.std.proofs.lemmas.List.Sums.{sum_by-cons}
 use Rattle.std.proofs.lemmas.List.Elements.{All-push}
 use Rattle.std.proofs.lemmas.List.{map-append}
-use Rattle.cilk_machine_agree.specs.syntax.Tree.{Program}
 use Rattle.cilk_machine_agree.specs.model.Path.{Path, same_path}
-use Rattle.cilk_machine_agree.specs.model.Places.{WorkerOf}
-use Rattle.cilk_machine_agree.specs.frame.Frames.{Frame}
-use Rattle.cilk_view.specs.Trees.{lines_by}
 use Rattle.cilk_machine_agree.specs.spawn.Nodes.{Node, path_at}
 use Rattle.cilk_machine_agree.proofs.spawn_laws.Lists.{range_more}
 use Rattle.cilk_machine_agree.specs.model.ViewTrees.{in_order}
@@ -75,15 +71,3 @@ sorted_are xs ys same sorted =
     one_list (paths_in ys) (in_order (paths_in xs)) (up_from (paths_in ys) (ascends ys sorted)) (up_in_order (paths_in xs))
     (λ p. count_paths p ys ∙ sum_by-IsPermutation (λ (one : Vec ℕ × ℕ). once (same_path p one.0.items)) xs ys same ∙ sym (count_paths p xs)
     ∙ sym (count_in_order p (paths_in xs)))
-
-drop_past : {A : Type 0} (xs : List A) (n : ℕ) → length xs ≤ n → drop n xs ≡ []
-drop_past [] zero h = refl
-drop_past [] (suc n) h = refl
-drop_past (x ∷ xs) zero h = absurd (omega (arith, h))
-drop_past (x ∷ xs) (suc n) h = drop_past xs n (omega (arith, h))
-
--- the text is whole behind the last instance
-pub ended_by : (p : Program) (ns : List Node) (places : List (WorkerOf Frame)) (made : List (Vec ℕ × ℕ)) (n : ℕ) (now first : List ℕ) → length made ≤ n
-    → now ++ lines_by p ns places (drop n made) ≡ first ++ lines_by p ns places made → first ≡ [] → now ≡ lines_by p ns places made
-ended_by p ns places made n now first past is empty =
-    sym (append-nil now) ∙ ap (λ xs. now ++ lines_by p ns places xs) (sym (drop_past made n past)) ∙ is ∙ ap (λ xs. xs ++ lines_by p ns places made) empty

@@ -7,4 +7,5 @@ pub mod Finding
 pub mod Shows
 pub mod Trees
 pub mod Sorting
+pub use Rattle.cilk_load.specs.Front
 pub use Rattle.cilk_machine_agree.specs.model

@@ -6,25 +6,12 @@ ghost use Rattle.cilk_machine_agree.specs.model.Path.{path_text};
 ghost use Rattle.cilk_machine_agree.specs.spawn.Nodes.{path_at};
 
 use cilk_load::Memory;
-use cilk_machine_agree::{Id, Tree};
+use cilk_machine_agree::{Id, Path, Tree};
 
 pub(crate) fn put(out: &mut String, text: &str) -> Result<(), Memory>
     ensures { Appends result out.old out.new text.now }
 {
     out.push_str(text)?;
-    Ok(())
-}
-
-/// The path with these numbers.
-pub(crate) fn put_path(out: &mut String, path: &[u32]) -> Result<(), Memory>
-    ensures { Appends result out.old out.new (path_text path.now) }
-{
-    if path.is_empty() {
-        return put(out, "/");
-    }
-    for number in path {
-        write!(out, "/{number}")?;
-    }
     Ok(())
 }
 
@@ -34,5 +21,5 @@ pub(crate) fn put_name(out: &mut String, tree: &Tree, id: Id) -> Result<(), Memo
     ensures { Appends result out.old out.new (path_text (path_at tree.now.nodes id)) }
 {
     let path = tree.path_of(id)?;
-    put_path(out, path.as_slice())
+    Path::put_text(out, path.as_slice())
 }

@@ -1,6 +1,6 @@
 //! The view `tree`: a line for every instance that was ever made.
 
-ghost use Rattle.std.specs.Prelude.{◌≡◌, ◌<◌, ◌++◌, length, codes, decimal, true, IfOk, string_bytes};
+ghost use Rattle.std.specs.Prelude.{◌≡◌, ◌<◌, ◌++◌, length, codes, decimal, true, All, IfOk, string_bytes};
 ghost use Rattle.cilk_load.specs.canonical.Appends.{Appends};
 ghost use Rattle.cilk_load.specs.labelled.Bodies.{label};
 ghost use Rattle.cilk_machine_agree.specs.model.Run.{Position};
@@ -11,15 +11,15 @@ ghost use Rattle.cilk_machine_agree.specs.model.ViewTrees.{tree_text, waiting_te
 ghost use Rattle.cilk_view.specs.Turns.{line_number};
 ghost use Rattle.cilk_view.specs.Finding.{frame_live};
 ghost use Rattle.cilk_view.specs.Shows.{ShowsAt, Shows};
-ghost use Rattle.cilk_view.specs.Sorting.{AreMade};
-ghost use Rattle.cilk_view.specs.Trees.{procedure_name, is_of, is_among, holder_by, place_by, live_by, state_by, line_by};
+ghost use Rattle.cilk_view.specs.Sorting.{IsMade, AreMade};
+ghost use Rattle.cilk_view.specs.Trees.{procedure_name, is_of, is_among, holder_by, place_by, live_by, state_by, line_by, lines_by};
 
 use crate::finding::{frame_live, frame_queued};
-use crate::put::{put, put_path};
+use crate::put::put;
 use crate::shown::Shown;
 use crate::turns::line_number;
 use cilk_load::Memory;
-use cilk_machine_agree::{Fate, Frame, Hands, Id, Tree};
+use cilk_machine_agree::{Fate, Frame, Hands, Id, Path, Tree};
 use std::alloc::Global;
 
 /// A line for each instance ever made, in the order of their paths.
@@ -30,10 +30,20 @@ pub(crate) fn tree_text(alloc: Global, shown: &Shown) -> Result<String, Memory>
     let mut made = made_paths(alloc, shown.tree)?;
     made.sort()?;
     let mut out = String::new(alloc);
-    for (path, number) in made.as_slice() {
-        put_line(&mut out, shown, path.as_slice(), Id::new(*number))?;
-    }
+    put_lines(&mut out, shown, made.as_slice())?;
     Ok(out)
+}
+
+// A line for each of these instances, of which each goes by its path and its number.
+fn put_lines(out: &mut String, shown: &Shown, made: &[(Vec<u32>, usize)]) -> Result<(), Memory>
+    requires shows { Shows shown.now }
+    requires made { All (IsMade shown.now.tree.now.nodes) made.now }
+    ensures { Appends result out.old out.new (lines_by shown.now.loaded.now shown.now.tree.now.nodes shown.now.hands.now made.now) }
+{
+    for (path, number) in made {
+        put_line(out, shown, path.as_slice(), Id::new(*number))?;
+    }
+    Ok(())
 }
 
 // The path of each instance and its number.
@@ -53,7 +63,7 @@ fn put_line(out: &mut String, shown: &Shown, path: &[u32], id: Id) -> Result<(),
     requires there { id < length shown.now.tree.now.nodes }
     ensures { Appends result out.old out.new (line_by shown.now.loaded.now shown.now.tree.now.nodes shown.now.hands.now id path.now) }
 {
-    put_path(out, path)?;
+    Path::put_text(out, path)?;
     put(out, " ")?;
     put_state(out, shown, id)?;
     put(out, "\n")

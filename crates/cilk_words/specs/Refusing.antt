@@ -55,5 +55,6 @@ abbrev pub IsNoRequest : List Text → NoRequest → Type 0
 IsNoRequest words (refusal.Help text) = (asked words ≡ None) × (asks_for_help words ≡ true)
 IsNoRequest words (refusal.Version text) = (asked words ≡ None) × (asks_for_version words ≡ true)
 IsNoRequest words (refusal.Usage text) = (asked words ≡ None) × (asks_to_show words ≡ false)
-IsNoRequest words (refusal.Dash where_it_is) = (option_and_then dash_of (wished words) ≡ Some where_it_is) × ((asked words ≡ None) × (asks_to_show words ≡ false))
+IsNoRequest words (refusal.Dash where_it_is) =
+    (option_and_then dash_of (wished words) ≡ Some where_it_is) × ((asked words ≡ None) × (asks_to_show words ≡ false))
 IsNoRequest words refusal.Memory = Unit {0}

@@ -1,7 +1,7 @@
 //! Schedules of programs with inlets, `abort`, `SYNCHED`, locks and `printf`, which are known by
 //! hand (Cilk 5.4 manual, `inlet`, `abort`, `SYNCHED`, `Cilk_lock`).
 
-use super::script::{comes_out, machine, play};
+use super::script::{Row, comes_out, machine, play};
 
 const LOOKING: &str = "int done; cilk int look(int v) { done = done + 1; return v; }
 cilk int main(void) { int best = 0; inlet void take(int v) { best = v; abort; }
@@ -50,7 +50,14 @@ fn the_first_that_is_found_aborts_the_others(rt: HostRuntime) {
         play(&rt, rt.alloc(), &mut machine, script);
         assert_eq!(rt; machine.global("done", 0), Some(done));
         let (outcome, closing) = outcome;
-        comes_out(&rt, rt.alloc(), text, 2, script, outcome, closing);
+        let row = Row {
+            text,
+            workers: 2,
+            script,
+            outcome,
+            closing,
+        };
+        comes_out(&rt, rt.alloc(), &row);
     }
 }
 
@@ -163,7 +170,14 @@ const ROWS: &[(&str, u8, &str, &str, &str)] = &[
 
 #[test]
 fn schedules_come_out(rt: HostRuntime) {
-    for (text, workers, script, outcome, closing) in ROWS {
-        comes_out(&rt, rt.alloc(), text, *workers, script, outcome, closing);
+    for &(text, workers, script, outcome, closing) in ROWS {
+        let row = Row {
+            text,
+            workers,
+            script,
+            outcome,
+            closing,
+        };
+        comes_out(&rt, rt.alloc(), &row);
     }
 }

@@ -1,7 +1,7 @@
 //! Schedules that are known by hand: arithmetic, spawns and refusals.
 
 use super::program;
-use super::script::{closes, comes_out, machine, play};
+use super::script::{Row, closes, comes_out, machine, play};
 use cilk_frame::Id;
 use cilk_log::Act;
 use cilk_run::{Choice, Did, Machine, MachineFault, Refusal};
@@ -96,8 +96,15 @@ const ROWS: &[(&str, u8, &str, &str, &str)] = &[
 
 #[test]
 fn schedules_come_out(rt: HostRuntime) {
-    for (text, workers, script, outcome, closing) in ROWS {
-        comes_out(&rt, rt.alloc(), text, *workers, script, outcome, closing);
+    for &(text, workers, script, outcome, closing) in ROWS {
+        let row = Row {
+            text,
+            workers,
+            script,
+            outcome,
+            closing,
+        };
+        comes_out(&rt, rt.alloc(), &row);
     }
 }
 

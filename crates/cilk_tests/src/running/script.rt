@@ -108,26 +108,28 @@ fn outcome_word(rt: &impl Abort, alloc: Global, outcome: &Outcome) -> String {
     }
 }
 
-// Makes the choices of a script from the start of the program of a text, and asserts what comes of
-// each, the outcome, `stuck` for a program that is stuck, and the closing text.
-pub fn comes_out(
-    rt: &impl Abort,
-    alloc: Global,
-    text: &str,
-    workers: u8,
-    script: &str,
-    outcome: &str,
-    closing: &str,
-) {
-    let mut machine = machine(rt, alloc, text, workers);
-    play(rt, alloc, &mut machine, script);
+// A program, a script of choices of so many workers, the outcome, `stuck` for a program that is stuck, and the closing text.
+#[derive(Drop)]
+pub struct Row<'a> {
+    pub text: &'a str,
+    pub workers: u8,
+    pub script: &'a str,
+    pub outcome: &'a str,
+    pub closing: &'a str,
+}
+
+// Makes the choices of the script from the start of the program, and asserts what comes of each, the outcome, and the
+// closing text.
+pub fn comes_out(rt: &impl Abort, alloc: Global, row: &Row<'_>) {
+    let mut machine = machine(rt, alloc, row.text, row.workers);
+    play(rt, alloc, &mut machine, row.script);
     let told = if machine.is_stuck() {
         String::from_str(alloc, "stuck").expect(rt, "memory")
     } else {
         outcome_word(rt, alloc, machine.outcome())
     };
-    assert_eq!(rt; told.as_str(), outcome);
-    closes(rt, alloc, &machine, closing);
+    assert_eq!(rt; told.as_str(), row.outcome);
+    closes(rt, alloc, &machine, row.closing);
 }
 
 // Asserts the closing text of a machine: what it printed, and how it ended.

@@ -1,6 +1,6 @@
 use Rattle.std.proofs.Common.{inr, sym}
-use Rattle.cilk_check_names.specs.Names as names
-use Rattle.cilk_check_forms.specs.Forms as forms
+use Rattle.cilk_check_forms.specs.scopes.Names as names
+use Rattle.cilk_check_forms.specs.scopes.Forms as forms
 use Rattle.cilk_check.proofs.Both.{both_first}
 use Rattle.cilk_check.proofs.checked.check.Goals as goal
 

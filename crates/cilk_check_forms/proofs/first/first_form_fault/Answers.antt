@@ -1,5 +1,5 @@
 use Rattle.cilk_check_scopes.proofs.Told.{none_is_told, first_is_told}
-use Rattle.cilk_check_forms.specs.Forms.{Faulty}
+use Rattle.cilk_check_scopes.specs.Forms.{Faulty}
 use Rattle.cilk_check_forms.specs.Finds.{forms_faults}
 use Rattle.cilk_check_forms.proofs.Sound.{forms_sound}
 use Rattle.cilk_check_forms.proofs.Complete.{forms_complete}

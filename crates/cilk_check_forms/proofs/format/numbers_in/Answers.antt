@@ -1,5 +1,5 @@
 use Rattle.std.proofs.Common.{ap, ◌∙◌}
-use Rattle.cilk_check_forms.specs.Format.{numbers_in}
+use Rattle.cilk_check_scopes.specs.Format.{numbers_in}
 use Rattle.cilk_check_forms.proofs.Formats.{counted_end, counted_other}
 use Rattle.cilk_check_forms.proofs.format.numbers_in.Goals as goal
 

@@ -1,7 +1,7 @@
 use Rattle.std.proofs.Common.{[], ◌∷◌, ap, ◌∙◌}
 use Rattle.std.specs.List.{flat_map}
 use Rattle.cilk_check_scopes.specs.First.{first_among}
-use Rattle.cilk_check_names.specs.Uses.{use_as, place_uses}
+use Rattle.cilk_check_scopes.specs.Uses.{use_as, place_uses}
 use Rattle.cilk_check_names.specs.Finds.{use_faults}
 use Rattle.cilk_check_names.proofs.UseFaults.{one_use}
 use Rattle.cilk_check_names.proofs.moves.at_place.Goals as goal

@@ -1,4 +1,4 @@
-use Rattle.cilk_check_names.specs.Reserved.{c_keywords}
+use Rattle.cilk_check_scopes.specs.Reserved.{c_keywords}
 use Rattle.std.proofs.Common.{drop}
 use Rattle.cilk_check_names.proofs.Spelled.{IsNone, is_one_of_none}
 use Rattle.cilk_check_names.proofs.reserved.is_keyword_of_c.Goals as goal

@@ -1,4 +1,4 @@
-use Rattle.cilk_check_names.specs.Reserved.{library_names}
+use Rattle.cilk_check_scopes.specs.Reserved.{library_names}
 use Rattle.cilk_check_names.proofs.Spelled.{is_one_of_none}
 use Rattle.cilk_check_names.proofs.reserved.is_library_name.Goals as goal
 

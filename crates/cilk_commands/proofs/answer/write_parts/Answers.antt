@@ -1,5 +1,5 @@
 use Rattle.std.proofs.Common.{ℕ, List, [], Bor}
-use Rattle.cilk_commands.proofs.Fronts.{front_of_parts, on_err}
+use Rattle.cilk_load.proofs.Fronts.{front_of_parts, on_err}
 use Rattle.cilk_commands.proofs.answer.write_parts.Goals as goal
 
 pub returns-in_err-write_whole-clause-front : goal.returns-in_err-write_whole-clause-front

@@ -1,5 +1,5 @@
 use Rattle.std.proofs.Common.{◌≡◌, [], rules, drop_of_length-le}
-use Rattle.cilk_commands.proofs.Fronts.{wrote_more, wrote_kept, wrote_left, wrote_all}
+use Rattle.cilk_load.proofs.Fronts.{wrote_more, wrote_kept, wrote_left, wrote_all}
 use Rattle.cilk_commands.proofs.answer.write_whole.Goals.{in-Ok, in-Err}
 use Rattle.cilk_commands.proofs.answer.write_whole.Goals as goal
 

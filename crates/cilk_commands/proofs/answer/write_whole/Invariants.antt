@@ -1,4 +1,4 @@
-use Rattle.cilk_commands.proofs.Fronts.{Wrote}
+use Rattle.cilk_load.proofs.Fronts.{Wrote}
 use Rattle.cilk_commands.proofs.answer.write_whole.Given as goal
 
 abbrev pub invariant-loop : goal.invariant-loop

@@ -1,5 +1,5 @@
 use Rattle.std.proofs.Common.{length}
-use Rattle.cilk_debug_console.proofs.Written.{Wrote}
+use Rattle.cilk_view.proofs.Fronts.{Wrote}
 use Rattle.cilk_debug_console.proofs.sending.write_whole.Given as goal
 
 abbrev pub invariant-loop-rest : goal.invariant-loop-rest

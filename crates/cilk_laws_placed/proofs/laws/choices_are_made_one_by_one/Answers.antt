@@ -1,4 +1,4 @@
-use Rattle.cilk_laws_placed.proofs.Runs.{after-push}
+use Rattle.cilk_model.proofs.Runs.{after-push}
 use Rattle.cilk_laws_placed.proofs.laws.choices_are_made_one_by_one.Goals as goal
 
 pub returns : goal.returns

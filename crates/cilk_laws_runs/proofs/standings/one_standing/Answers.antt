@@ -1,4 +1,4 @@
-use Rattle.cilk_laws_runs.proofs.Standings.{one-standing}
+use Rattle.cilk_laws_runs.proofs.OneStanding.{one-standing}
 use Rattle.cilk_laws_runs.proofs.standings.one_standing.Goals as goal
 
 pub returns : goal.returns

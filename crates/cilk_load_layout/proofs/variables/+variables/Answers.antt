@@ -6,7 +6,7 @@ use Rattle.cilk_load_nodes.specs.eval.declared.area.Area.TheVariants.{Own}
 use Rattle.cilk_load_nodes.specs.labelled.Label.{stmt_variables, stmts_variables, locals_variables, block_variables}
 use Rattle.cilk_load_nodes.specs.Slots.{cells_of}
 use Rattle.cilk_load_nodes.specs.Bodies.{vars_from}
-use Rattle.cilk_load_layout.proofs.Cells.{joined, ok_same, cells_of-append}
+use Rattle.cilk_load_layout.proofs.Cells.{joined, ok_same, ok_behind, cells_of-append}
 use Rattle.cilk_load_layout.proofs.variables.+variables.Goals as goal
 
 pub put_block_variables-returns-clause-vars : goal.put_block_variables-returns-clause-vars
@@ -20,6 +20,27 @@ put_block_variables-returns-clause-vars t c =
     (joined Own c.args.cells c.in_ok-cells.cells c.args.vars.now.items c.put_locals.new.vars.items _ own inner c.in_ok-cells.ensures.vars
     c.in_ok-cells.ensures.after refl
     ∙ ap (λ vs. c.args.vars.now.items ++ vars_from Own c.args.cells vs) all)
+
+pub put_block_variables-returns-clause-after : goal.put_block_variables-returns-clause-after
+put_block_variables-returns-clause-after t c =
+    let own = locals_variables (locals_of c.deref.result.now) in
+    let inner = stmts_variables (stmts_of c.deref-2.result.now) in
+    let all : own ++ inner ≡ block_variables c.args.block.now =
+    (λ i. locals_variables (locals_of (c.deref.ensures.value i)) ++ stmts_variables (stmts_of (c.deref-2.ensures.value i))) ∙ ap block_variables c.block.view_is
+    in
+    ok_behind c.put_stmts.result c.args.cells c.in_ok-cells.cells own inner _ c.put_stmts.ensures.after c.in_ok-cells.ensures.after all
+
+pub put_stmt-returns-in_ok-cells-in-If-default-default-Some-clause-after :
+    goal.put_stmt-returns-in_ok-cells-in-If-default-default-Some-clause-after
+put_stmt-returns-in_ok-cells-in-If-default-default-Some-clause-after t c =
+    let arm = c.in-If-default-default-Some in
+    let own = block_variables arm.body in
+    let inner = block_variables arm.other in
+    let all : own ++ inner ≡ stmt_variables c.args.stmt.now = search rules in
+    let two = c.put_block_variables-in-If-default-default-Some-2 in
+    let cells = c.in_ok-cells-in-If-default-default-Some in
+    let last = rw arm.field-2-is at two.ensures.after in
+    ok_behind two.result c.args.cells cells.cells own inner _ last cells.ensures.after all
 
 pub put_stmt-returns-in_ok-cells-in-If-default-default-Some-clause-vars :
     goal.put_stmt-returns-in_ok-cells-in-If-default-default-Some-clause-vars

@@ -19,7 +19,7 @@ returns-in-Take-clause-done c =
     by-arm (c.in-Take.is ∙ (λ j. plan.Take c.in-Take.child c.in-Take.n c.in-Take.reached (sym z j))) (c.carry_take.ensures.carried (option_copied c.args.body))
 
 pub returns-in-Enter-clause-done : goal.returns-in-Enter-clause-done
-returns-in-Enter-clause-done c = ok-by c.carry_enter.result c.carry_enter.ensures.done (λ d h. by-arm c.in-Enter.is (h c.in-Enter.inlet))
+returns-in-Enter-clause-done c = ok-by c.carry_enter.result c.carry_enter.ensures.done (λ d h. by-arm c.in-Enter.is h)
 
 pub returns-in-Write-clause-done : goal.returns-in-Write-clause-done
 returns-in-Write-clause-done c =
@@ -28,7 +28,7 @@ returns-in-Write-clause-done c =
     (c.carry_write.ensures.carried c.args.choice (option_copied c.args.body))
 
 pub returns-in-Call-clause-done : goal.returns-in-Call-clause-done
-returns-in-Call-clause-done c = ok-by c.carry_call.result c.carry_call.ensures.done (λ d h. by-arm c.in-Call.is (h c.args.choice c.in-Call.callee))
+returns-in-Call-clause-done c = ok-by c.carry_call.result c.carry_call.ensures.done (λ d h. by-arm c.in-Call.is (h c.args.choice))
 
 pub returns-in-Answer-clause-done : goal.returns-in-Answer-clause-done
 returns-in-Answer-clause-done c =

@@ -9,3 +9,7 @@ returns-clause-depth c = refl
 pub returns-clause-limit : goal.returns-clause-limit
 unfolding digits
 returns-clause-limit c = refl
+
+pub returns-clause-arguments : goal.returns-clause-arguments
+unfolding digits
+returns-clause-arguments c = refl

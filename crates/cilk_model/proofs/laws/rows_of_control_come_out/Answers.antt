@@ -21,3 +21,15 @@ returns-clause-call c = refl
 pub returns-clause-prints : goal.returns-clause-prints
 unfolding digits
 returns-clause-prints c = refl
+
+pub returns-clause-turns : goal.returns-clause-turns
+unfolding digits
+returns-clause-turns c = refl
+
+pub returns-clause-turns_on : goal.returns-clause-turns_on
+unfolding digits
+returns-clause-turns_on c = refl
+
+pub returns-clause-hides : goal.returns-clause-hides
+unfolding digits
+returns-clause-hides c = refl

@@ -17,3 +17,7 @@ returns-clause-taken c = refl
 pub returns-clause-overflow : goal.returns-clause-overflow
 unfolding digits
 returns-clause-overflow c = refl
+
+pub returns-clause-old_value_first : goal.returns-clause-old_value_first
+unfolding digits
+returns-clause-old_value_first c = refl

@@ -13,3 +13,11 @@ returns-clause-both c = refl
 pub returns-clause-woken : goal.returns-clause-woken
 unfolding digits
 returns-clause-woken c = refl
+
+pub returns-clause-others_last : goal.returns-clause-others_last
+unfolding digits
+returns-clause-others_last c = refl
+
+pub returns-clause-array : goal.returns-clause-array
+unfolding digits
+returns-clause-array c = refl

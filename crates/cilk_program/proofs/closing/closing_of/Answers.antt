@@ -1,10 +1,8 @@
-use Rattle.std.proofs.Common.{ap, ◌∙◌}
-use Rattle.cilk_run.specs.model.End.{ending}
-use Rattle.cilk_program.specs.Running.{status_at}
+use Rattle.cilk_run.specs.choices.Words.{end_of}
+use Rattle.cilk_program.proofs.Ran.{closes_by}
 use Rattle.cilk_program.proofs.closing.closing_of.Goals as goal
 
-pub returns-clause-closes : goal.returns-clause-closes
-returns-clause-closes c = λ at there. record {
-  tells = c.status_at.ensures.at ∙ ap status_at (c.in-Ok.ensures at there);
-  is = c.in-Ok-ending.ensures ∙ (λ i. ending (c.output.ensures at there i) (c.in-Ok.ensures at there i) (c.choices.ensures.value i));
-}
+pub returns-in-Ok-clause-closes : goal.returns-in-Ok-clause-closes
+returns-in-Ok-clause-closes c =
+    closes_by c.closing_by.result c.args.machine.now c.output.result.now (end_of c.in-Ok.end) c.choices.result c.output.ensures c.in-Ok.ensures
+    c.choices.ensures.value c.closing_by.ensures.status c.closing_by.ensures.text

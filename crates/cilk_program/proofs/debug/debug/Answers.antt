@@ -5,7 +5,9 @@ use Rattle.cilk_program.specs.Debugging.{broken_off}
 use Rattle.cilk_program.specs.Taped.{Declines}
 use Rattle.cilk_program.specs.Telling.{status_of}
 use Rattle.cilk_program.specs.declared.failure.RecordFailure.{RecordFailure}
-use Rattle.cilk_program.proofs.Debugged.{opens, playable_of, broken_not_refused, declines_held_of, answered, broken}
+use Rattle.cilk_program.proofs.Debugged.{opens, playable_of, broken_not_refused, broken_by_writer, undebugged_reads}
+use Rattle.cilk_program.proofs.Debugged.{declines_held_of, answered, broken, broken_writing}
+use Rattle.cilk_program.proofs.Whole.{follows_of}
 use Rattle.std.proofs.Common.{inl, refl}
 use Rattle.cilk_program.proofs.debug.debug.Goals as goal
 
@@ -23,8 +25,8 @@ returns-in-Ok-session-clause-ok g c = λ held is.
     answered held c.args.text.now t c.in-Ok-new.debugger _ _ _ (c.in-Ok.ensures.ok held is)
     (opens c.in-Ok-new.debugger t made.tape made.start made.marks) (playable_of c.in-Ok-new.debugger t made.tape made.whole) _ c.in-Ok-session.ensures.done
 
-pub returns-in-Err-session-clause-begun : goal.returns-in-Err-session-clause-begun
-returns-in-Err-session-clause-begun g c = λ held is other.
+pub returns-in-Err-session-clause-part : goal.returns-in-Err-session-clause-part
+returns-in-Err-session-clause-part g c = λ held is other.
     let t = tape_of c.in-Ok.taped.program c.in-Ok.taped.log.workers c.in-Ok.taped.log.choices in
     let made = c.in-Ok-new.ensures in
     inr (broken held c.args.text.now t c.in-Ok-new.debugger _ _ _ (c.in-Ok.ensures.ok held is)
@@ -42,14 +44,38 @@ returns-in-Err-session-clause-declined g c = λ held is refused.
 pub returns-in-Err-session-clause-kept : goal.returns-in-Err-session-clause-kept
 returns-in-Err-session-clause-kept g c = λ refused. absurd (broken_not_refused c.in-Err-session.fault (ap status_of (sym c.broken_off.ensures) ∙ refused))
 
-pub returns-in-Err-clause-begun : goal.returns-in-Err-clause-begun
-returns-in-Err-clause-begun g c = λ held is other. inl refl
+pub returns-in-Err-clause-part : goal.returns-in-Err-clause-part
+returns-in-Err-clause-part g c = λ held is other. inl refl
 
 pub returns-in-Err-clause-kept : goal.returns-in-Err-clause-kept
 returns-in-Err-clause-kept g c = λ refused. refl
 
-pub returns-in-Err-new-clause-begun : goal.returns-in-Err-new-clause-begun
-returns-in-Err-new-clause-begun g c = λ held is other. inl refl
+pub returns-in-Err-new-clause-part : goal.returns-in-Err-new-clause-part
+returns-in-Err-new-clause-part g c = λ held is other. inl refl
 
 pub returns-in-Err-new-clause-kept : goal.returns-in-Err-new-clause-kept
 returns-in-Err-new-clause-kept g c = λ refused. refl
+
+pub returns-in-Err-clause-follows : goal.returns-in-Err-clause-follows
+returns-in-Err-clause-follows g c = c.in-Err.ensures.follows
+
+pub returns-in-Err-new-clause-follows : goal.returns-in-Err-new-clause-follows
+returns-in-Err-new-clause-follows g c = follows_of c.args.text.now c.in-Ok.taped.program c.undebugged.result c.in-Ok.ensures.ready
+
+pub returns-in-Err-session-clause-follows : goal.returns-in-Err-session-clause-follows
+returns-in-Err-session-clause-follows g c = follows_of c.args.text.now c.in-Ok.taped.program c.broken_off.result c.in-Ok.ensures.ready
+
+pub returns-in-Err-clause-begun : goal.returns-in-Err-clause-begun
+returns-in-Err-clause-begun g c = λ held is failed. absurd (c.in-Err.ensures.reads failed)
+
+pub returns-in-Err-new-clause-begun : goal.returns-in-Err-new-clause-begun
+returns-in-Err-new-clause-begun g c = λ held is failed.
+    absurd (undebugged_reads c.in-Err-new.fault (ap status_of (sym c.undebugged.ensures) ∙ failed))
+
+pub returns-in-Err-session-clause-begun : goal.returns-in-Err-session-clause-begun
+returns-in-Err-session-clause-begun g c = λ held is failed.
+    let t = tape_of c.in-Ok.taped.program c.in-Ok.taped.log.workers c.in-Ok.taped.log.choices in
+    let made = c.in-Ok-new.ensures in
+    broken_writing held c.args.text.now t c.in-Ok-new.debugger _ _ _ (c.in-Ok.ensures.ok held is)
+    (opens c.in-Ok-new.debugger t made.tape made.start made.marks) (playable_of c.in-Ok-new.debugger t made.tape made.whole) _ _
+    c.in-Err-session.fault c.in-Err-session.ensures.fault (broken_by_writer c.in-Err-session.fault (ap status_of (sym c.broken_off.ensures) ∙ failed))

@@ -2,7 +2,7 @@ use Rattle.std.proofs.Common.{subst, sym, ◌∙◌, false}
 use Rattle.cilk_commands.specs.Held.{IsReadOf}
 use Rattle.cilk_program.specs.Taped.{Declines}
 use Rattle.cilk_program.proofs.Whole.{declines_held, gave_up, not_read}
-use Rattle.cilk_program.proofs.Debugged.{debugs_whole, debugs_left}
+use Rattle.cilk_program.proofs.Debugged.{debugs_whole, debugs_front, debugs_left}
 use Rattle.std.proofs.Common.{ap}
 use Rattle.cilk_commands.specs.Status.{is_answer}
 use Rattle.cilk_program.specs.declared.failure.RecordFailure.TheVariants as why
@@ -29,14 +29,24 @@ returns-clause-told g c = λ held is none.
     c.as_slice-text.result.now c.in-Err-debug.why read
     (λ refused. declines_held (g.R.Read.remaining c.args.reader.now) held c.as_slice-text.result.now c.in-Err-debug.why read
     (c.in-Err-debug.ensures.declined held is refused))
-    c.explain.ensures.status c.explain.ensures.told
+    c.in-Err-debug.ensures.follows c.explain.ensures.status c.explain.ensures.told
 
 pub returns-clause-begun : goal.returns-clause-begun
-returns-clause-begun g c = λ held is none other.
+returns-clause-begun g c = λ held is failed.
+    let read : IsReadOf (g.R.Read.remaining c.args.reader.now) c.as_slice-text.result.now = subst
+    (λ t. IsReadOf (g.R.Read.remaining c.args.reader.now) t) (sym c.as_slice-text.ensures.value) c.in-Ok.ensures.ok in
+    debugs_front (g.R.Read.remaining c.args.reader.now) held c.as_slice-text.result.now _ _ read _
+    (c.in-Err-debug.ensures.begun held is (sym c.explain.ensures.status ∙ failed))
+
+pub returns-in-Err-clause-begun : goal.returns-in-Err-clause-begun
+returns-in-Err-clause-begun g c = λ held is failed. absurd (c.in-Err.ensures.reads (sym c.report.ensures.status ∙ failed))
+
+pub returns-clause-part : goal.returns-clause-part
+returns-clause-part g c = λ held is none other.
     let read : IsReadOf (g.R.Read.remaining c.args.reader.now) c.as_slice-text.result.now = subst
     (λ t. IsReadOf (g.R.Read.remaining c.args.reader.now) t) (sym c.as_slice-text.ensures.value) c.in-Ok.ensures.ok in
     debugs_left (g.R.Read.remaining c.args.reader.now) held c.as_slice-text.result.now _ _ read _ _
-    (c.in-Err-debug.ensures.begun held is (λ bad. other (c.explain.ensures.status ∙ bad)))
+    (c.in-Err-debug.ensures.part held is (λ bad. other (c.explain.ensures.status ∙ bad)))
 
 pub returns-in-Err-clause-done : goal.returns-in-Err-clause-done
 returns-in-Err-clause-done g c = λ held is done. not_told c.report.result (why.Program c.in-Err.failure) c.report.ensures.status (ap is_answer done)

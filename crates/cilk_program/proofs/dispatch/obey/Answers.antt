@@ -8,7 +8,7 @@ pub returns-in-None-clause-told : goal.returns-in-None-clause-told
 returns-in-None-clause-told g c =
     let request = c.args.request.now in
     let held = g.T.Texts.held c.args.texts.now in
-    let old = g.E.Write.contents c.args.err.now in
+    let old = g.E.Write.contents c.args.streams.now.errors in
     let new = g.E.Write.contents c.report.new.err in
     λ none. unread (wanted_by request.task) request.explain request.name.now c.report.result (held request.name.now) held old new CannotRead (λ bad. cc)
     c.report.ensures.status c.report.ensures.told

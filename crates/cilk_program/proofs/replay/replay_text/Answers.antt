@@ -30,7 +30,7 @@ returns-clause-told g c = λ held is none.
     c.as_slice-text.result.now c.in-Err-replay.why read
     (λ refused. declines_held (g.R.Read.remaining c.args.reader.now) held c.as_slice-text.result.now c.in-Err-replay.why read
     (c.in-Err-replay.ensures.declined held is refused))
-    c.explain.ensures.status c.explain.ensures.told
+    c.in-Err-replay.ensures.follows c.explain.ensures.status c.explain.ensures.told
 
 pub returns-clause-begun : goal.returns-clause-begun
 returns-clause-begun g c = λ held is failed.

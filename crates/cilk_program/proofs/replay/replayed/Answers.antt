@@ -37,6 +37,12 @@ returns-in-Ok-closing_of-clause-ok g c = λ held is.
 pub returns-in-Err-clause-declined : goal.returns-in-Err-clause-declined
 returns-in-Err-clause-declined g c = λ held is refused. c.in-Err.ensures.declined held is refused
 
+pub returns-in-Err-clause-follows : goal.returns-in-Err-clause-follows
+returns-in-Err-clause-follows g c = c.in-Err.ensures.follows
+
+pub returns-in-Err-play-clause-follows : goal.returns-in-Err-play-clause-follows
+returns-in-Err-play-clause-follows g c = (c.in-Ok.taped.program, c.in-Ok.ensures.ready)
+
 pub returns-in-Err-clause-reads : goal.returns-in-Err-clause-reads
 returns-in-Err-clause-reads g c = c.in-Err.ensures.reads
 

@@ -1,4 +1,4 @@
-use Rattle.cilk_program.proofs.Whole.{any_held, unread_declines}
+use Rattle.cilk_program.proofs.Whole.{any_held, follows_of, unread_declines}
 use Rattle.cilk_program.proofs.Told.{unready_reads}
 use Rattle.cilk_program.proofs.taped.tape_in.Goals as goal
 
@@ -25,6 +25,24 @@ returns-in-Err-schedule_of-clause-ok g c = λ held is. tt
 
 pub returns-in-Err-schedule_of-clause-reads : goal.returns-in-Err-schedule_of-clause-reads
 returns-in-Err-schedule_of-clause-reads g c = c.in-Err-schedule_of.ensures.reads
+
+pub returns-in-Err-clause-ready : goal.returns-in-Err-clause-ready
+returns-in-Err-clause-ready g c = tt
+
+pub returns-in-Err-clause-follows : goal.returns-in-Err-clause-follows
+returns-in-Err-clause-follows g c = tt
+
+pub returns-in-Err-schedule_of-clause-ready : goal.returns-in-Err-schedule_of-clause-ready
+returns-in-Err-schedule_of-clause-ready g c = tt
+
+pub returns-in-Err-schedule_of-clause-follows : goal.returns-in-Err-schedule_of-clause-follows
+returns-in-Err-schedule_of-clause-follows g c = follows_of c.args.text.now c.in-Ok.program c.in-Err-schedule_of.why c.in-Ok.ensures.ok
+
+pub returns-in-Ok-schedule_of-clause-ready : goal.returns-in-Ok-schedule_of-clause-ready
+returns-in-Ok-schedule_of-clause-ready g c = c.in-Ok.ensures.ok
+
+pub returns-in-Ok-schedule_of-clause-follows : goal.returns-in-Ok-schedule_of-clause-follows
+returns-in-Ok-schedule_of-clause-follows g c = tt
 
 pub returns-in-Ok-schedule_of-clause-declined : goal.returns-in-Ok-schedule_of-clause-declined
 returns-in-Ok-schedule_of-clause-declined g c = λ held is. tt

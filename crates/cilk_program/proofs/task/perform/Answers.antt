@@ -30,7 +30,10 @@ returns-in-Debug-clause-told g c = rw c.in-Debug.is c.debug_named.ensures.told
 
 pub returns-in-Debug-clause-begun : goal.returns-in-Debug-clause-begun
 returns-in-Debug-clause-begun g c =
-    rw c.in-Debug.is (λ none other. elim (c.debug_named.ensures.begun none other) [ inl same ↦ inl (ap g.O.Write.contents same) | inr front ↦ inr front ])
+    rw c.in-Debug.is (λ none. (
+      c.debug_named.ensures.begun,
+      λ other. elim (c.debug_named.ensures.part none other) [ inl same ↦ inl (ap g.O.Write.contents same) | inr part ↦ inr part ],
+    ))
 
 pub returns-in-Run-clause-done : goal.returns-in-Run-clause-done
 returns-in-Run-clause-done g c = rw c.in-Run.is c.run_named.ensures.done

@@ -21,9 +21,6 @@ decreases-put_while l = 5 * block_size l.body.now + 2
 abbrev pub decreases-put_do : goal.decreases-put_do
 decreases-put_do l = 5 * block_size l.body.now + 2
 
-abbrev pub decreases-put_for : goal.decreases-put_for
-decreases-put_for l = 5 * block_size l.body.now + 2
-
 abbrev pub decreases-put_nested : goal.decreases-put_nested
 decreases-put_nested l = 5 * block_size l.inside.now + 2
 

@@ -1,4 +1,4 @@
-use Rattle.cilk_commands.proofs.Fronts.{front_either}
+use Rattle.cilk_load.proofs.Fronts.{front_either}
 use Rattle.cilk_commands.proofs.failure.Failure.report_with.Goals as goal
 
 pub returns-clause-told : goal.returns-clause-told

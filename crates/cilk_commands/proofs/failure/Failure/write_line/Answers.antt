@@ -1,6 +1,6 @@
 use Rattle.std.proofs.Common.{ap, sym}
 use Rattle.cilk_commands.specs.Telling.{failure_line}
-use Rattle.cilk_commands.proofs.Fronts.{ok_same, front_same}
+use Rattle.cilk_load.proofs.Fronts.{ok_same, front_same}
 use Rattle.cilk_commands.proofs.failure.Failure.write_line.Goals as goal
 
 pub returns-in-NotUtf8-clause-front : goal.returns-in-NotUtf8-clause-front

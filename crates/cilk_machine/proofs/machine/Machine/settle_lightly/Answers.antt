@@ -1,5 +1,6 @@
 use Rattle.cilk_machine_choices.specs.Words.{event_of}
+use Rattle.cilk_machine.proofs.Leading.{told-as}
 use Rattle.cilk_machine.proofs.machine.Machine.settle_lightly.Goals as goal
 
 pub returns-clause-made : goal.returns-clause-made
-returns-clause-made c = c.step_lightly-did.ensures.event (event_of c.in-Ok.event) c.in-Ok.ensures.event
+returns-clause-made c = told-as _ _ _ _ (event_of c.in-Ok.event) c.step_lightly-did.ensures c.in-Ok.ensures.event

@@ -1,0 +1,26 @@
+use Rattle.std.proofs.Common.{◌≡◌, ◌+◌, ◌++◌, List, ◌∷◌, drop, sym, ap, ◌∙◌, arith, append_assoc}
+use Rattle.std.proofs.lemmas.List.{at_drop_more}
+use Rattle.cilk_tree_syntax.specs.Tree as tree
+use Rattle.cilk_load_nodes.specs.labelled.Count.{count_item, count_items}
+use Rattle.cilk_load_layout.specs.Tables.{item_tables, items_tables}
+use Rattle.cilk_load_layout.proofs.building.bodies_of.Goals as goal
+
+pub loop-item-preserved : goal.loop-item-preserved
+loop-item-preserved c =
+    let before = c.loop-item.bodies.items in
+    let at = c.loop-item.at in
+    let item = c.item-item.result in
+    let rest = drop (c.loop-item.item-index + 1) c.args.items.now in
+    let more : drop c.loop-item.item-index c.args.items.now ≡ item ∷ rest =
+    at_drop_more (λ (xs : List tree.Item). xs) c.args.items.now c.loop-item.item-index item c.loop-item-test.true
+    ∙ ap (λ (x : tree.Item). x ∷ rest) (sym c.item-item.is)
+    in
+    record {
+      bodies =
+          (λ i. c.in_ok-put_item.ensures i ++ items_tables (at + c.actions_of_item-at.ensures i) rest)
+          ∙ append_assoc before (item_tables at item) (items_tables (at + count_item item) rest)
+          ∙ ap (λ (xs : List tree.Item). before ++ items_tables at xs) (sym more)
+          ∙ c.loop-item.invariant.bodies;
+      at = omega (arith, c.actions_of_item-at.ensures, c.loop-item.invariant.at, ap count_items more);
+      some = omega (arith, c.loop-item.invariant.some);
+    }

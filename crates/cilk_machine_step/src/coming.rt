@@ -1,0 +1,54 @@
+//! What comes next for an instance.
+
+ghost use Rattle.std.specs.Prelude.{◌≡◌, ◌<◌, length};
+ghost use Rattle.cilk_machine_plan.specs.Sights.{id_of};
+ghost use Rattle.cilk_machine_plan.specs.Made.{planned};
+ghost use Rattle.cilk_machine_step.specs.Scenes.{sight_of};
+ghost use Rattle.cilk_machine_step.specs.Looks.{code_in};
+ghost use Rattle.cilk_machine_step.specs.Comings.{plan_for, code_for, ActsHead};
+
+use crate::act::at_boundary;
+use crate::scene::Scene;
+use cilk_load::Node;
+use cilk_machine_plan::Delivery;
+
+/// What an instance does next.
+#[derive(Clone, Copy)]
+pub(crate) enum Coming<'a> {
+    /// It was aborted: it waits for its children, and then ends.
+    End,
+    /// Nothing, since it has no head.
+    Nothing,
+    /// It takes a delivery.
+    Delivery(&'a Delivery),
+    /// It acts its head, a node of this number.
+    Act(u32, &'a Node),
+}
+
+/// An aborted instance ends. At a boundary the delivery that waits longest comes before the head (Cilk 5.4 manual, `inlet`, `abort`).
+#[inline(always)]
+pub(crate) fn comes_next<'a>(scene: &Scene<'a>) -> Coming<'a>
+    requires { id_of (sight_of scene.now) < length (sight_of scene.now).nodes }
+    ensures plan { plan_for (sight_of scene.now) result ≡ planned (sight_of scene.now) }
+    ensures code { code_for result ≡ code_in (sight_of scene.now) }
+    ensures head { ActsHead (sight_of scene.now) result }
+{
+    let id = scene.frame.id();
+    if scene.tree.is_aborted(id) {
+        return Coming::End;
+    }
+    let n = scene.frame.node(scene.frame.depth() - 1);
+    match scene.loaded.statement(n) {
+        None => Coming::Nothing,
+        Some(node) => {
+            if at_boundary(scene, node) {
+                match scene.tree.first_delivery(id) {
+                    None => Coming::Act(n, node),
+                    Some(delivery) => Coming::Delivery(delivery),
+                }
+            } else {
+                Coming::Act(n, node)
+            }
+        }
+    }
+}

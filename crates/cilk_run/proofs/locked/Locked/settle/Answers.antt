@@ -1,0 +1,15 @@
+use Rattle.std.proofs.Common.{sym, subst, ap, ◌∙◌, ◌++◌, ◌∷◌, []}
+use Rattle.cilk_log.specs.choices.Words.{event_of}
+use Rattle.cilk_log.specs.choices.declared.act.Act.TheVariants.{Step}
+use Rattle.cilk_log.specs.choices.declared.choice.Choice.{Choice}
+use Rattle.cilk_run.specs.Histories.{IsLedBy}
+use Rattle.cilk_run.proofs.Ran.{led-on}
+use Rattle.cilk_run.proofs.locked.Locked.settle.Goals as goal
+
+pub invariant_of-self-2 : goal.invariant_of-self-2
+invariant_of-self-2 c =
+    let choice : Choice = record { worker = c.worker-worker.result; act = Step } in
+    let items = c.push_reserved.ensures.items ∙ ap (λ xs. xs ++ choice ∷ []) c.reserve.ensures.items in
+    subst (λ xs. IsLedBy c.settle.new.self xs) (sym items)
+    (led-on c.self.inside.history.items c.self.inside.machine c.settle.new.self choice (event_of c.in_ok-event.event)
+    c.in_ok-event.ensures.made c.self.invariant)
