@@ -71,7 +71,8 @@ pub fn rows_of_deliveries_come_out()
     ensures early { closing_of doubling 2 (s 1 ∷ s 1 ∷ s 1 ∷ p 1 ∷ steps 5 1) ≡ Some (codes "main returned 24\n") }
     ensures late { closing_of doubling 2 (s 1 ∷ s 1 ∷ t 2 1 ∷ s 2 ∷ s 1 ∷ steps 4 2) ≡ Some (codes "main returned 9\n") }
     ensures taken { fate_after doubling (s 1 ∷ s 1 ∷ t 2 1 ∷ s 2 ∷ s 1 ∷ steps 2 2) (1 ∷ []) ≡ Some (fate.was_delivered 7) }
-    ensures old_value_first { closing_of taking_away 1 (s 1 ∷ s 1 ∷ s 1 ∷ s 1 ∷ s 1 ∷ s 1 ∷ p 1 ∷ steps 3 1) ≡ Some (codes "main returned 11\n") }
+    ensures old_value_first { closing_of taking_away 1 (s 1 ∷ s 1 ∷ s 1 ∷ s 1 ∷ s 1 ∷ s 1 ∷ p 1 ∷ steps 3 1)
+        ≡ Some (codes "main returned 11\n") }
     ensures overflow { closing_of passing 1 (s 1 ∷ s 1 ∷ s 1 ∷ p 1 ∷ s 1 ∷ []) ≡ Some (codes "trapped Overflow in / at 4, line 6\n") }
 {}
 
