@@ -24,10 +24,11 @@ demo: cilk
 test: ways must_not_compile
 	tools/gate
 
-# Counts the ways down through crates.txt, of which there may be few, and looks up what the pages name (docs/GATE.md).
+# Counts the ways down through crates.txt, looks up what the pages name, and tells what is not as the house wants its files (docs/GATE.md).
 ways:
 	tools/ways
 	tools/pages
+	tools/house
 
 # Tells what was dear in the last proofs: functions, and crates.
 costs:

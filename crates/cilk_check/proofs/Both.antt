@@ -1,5 +1,5 @@
 -- The first of the faults of two kinds.
-use Rattle.std.proofs.Common.{◌≡◌, [], ◌∷◌, Option, Some, None, ◌⊎◌, inl, inr, refl, subst, IfSome, IfNone}
+use Rattle.std.proofs.Common.{◌≡◌, [], ◌∷◌, Option, Some, None, ◌⊎◌, inl, inr, refl, sym, subst, IfSome, IfNone}
 use Rattle.cilk_check_forms.specs.scopes.declared.fault.CheckFault.{CheckFault}
 use Rattle.cilk_check_forms.specs.scopes.Fault.{NoLater, IsFirst}
 use Rattle.cilk_check_forms.specs.scopes.First.{first_among}
@@ -50,9 +50,14 @@ module _ (N M : CheckFault → Type 0) where
         ];
       }
 
-  pub both_first : (n m : Option CheckFault) (r : CheckFault) → IfNone n ((f : CheckFault) → ¬ N f) → IfSome n (IsFirst N)
+  both_first : (n m : Option CheckFault) (r : CheckFault) → IfNone n ((f : CheckFault) → ¬ N f) → IfSome n (IsFirst N)
       → IfNone m ((f : CheckFault) → ¬ M f) → IfSome m (IsFirst M) → earlier n m ≡ Some r → IsFirst Either r
   both_first None None r a x b y e = cc
   both_first (Some g) None r a x b y e = let same : g ≡ r = cc in names_alone g r x b same
   both_first None (Some k) r a x b y e = let same : k ≡ r = cc in forms_alone k r y a same
   both_first (Some g) (Some k) r a x b y e = of_both g k r x y e
+
+  pub both_told : (n m o : Option CheckFault) → IfNone n ((f : CheckFault) → ¬ N f) → IfSome n (IsFirst N) → IfNone m ((f : CheckFault) → ¬ M f)
+      → IfSome m (IsFirst M) → o ≡ earlier n m → IfSome o (IsFirst Either)
+  both_told n m None a x b y e = tt
+  both_told n m (Some r) a x b y e = both_first n m r a x b y (sym e)

@@ -1,11 +1,11 @@
 //! The check of a program, and the tree of one that passed it.
 
-ghost use Rattle.std.specs.Prelude.{◌≡◌, ◌⊎◌, IsOk, IfOk, IfErr};
-ghost use Rattle.cilk_check_forms.specs.scopes.declared.fault.CheckFault.TheVariants.{Memory};
+ghost use Rattle.std.specs.Prelude.{◌≡◌, ◌⊎◌, IsOk, IfOk, IfErr, IfNone, IfSome};
+ghost use Rattle.cilk_check_forms.specs.scopes.declared.fault.CheckFault.TheVariants as fault;
 ghost use Rattle.cilk_check_forms.specs.scopes.WellFormed.{WellFormed, IsFirstFault};
 
 use crate::earlier::earlier_of;
-use cilk_check_forms::{CheckFault, Program, first_form_fault};
+use cilk_check_forms::{CheckFault, Memory, Program, first_form_fault};
 use cilk_check_names::first_name_fault;
 use std::alloc::Global;
 use std::marker::Model;
@@ -46,20 +46,26 @@ impl Checked {
     }
 }
 
+// The first fault of a program, of its names and its forms.
+fn first_fault(alloc: Global, program: &Program) -> Result<Option<CheckFault>, Memory>
+    ensures none { IfOk result (λ found. IfNone found (WellFormed program.now)) }
+    ensures first { IfOk result (λ found. IfSome found (IsFirstFault program.now)) }
+{
+    let named = first_name_fault(alloc, program)?;
+    let formed = first_form_fault(alloc, program)?;
+    Ok(earlier_of(named, formed))
+}
+
 /// Checks a program. The error is the first fault: the one with the least place, and at that place with the least
 /// number; or memory has run out.
 pub fn check(alloc: Global, program: Program) -> Result<Checked, CheckFault>
     ensures accepted { IsOk result → WellFormed program }
     ensures value { IfOk result (λ checked. checked ≡ program) }
-    ensures fault { IfErr result (λ f. (f ≡ Memory) ⊎ IsFirstFault program f) }
+    ensures fault { IfErr result (λ f. (f ≡ fault.Memory) ⊎ IsFirstFault program f) }
 {
-    let named = match first_name_fault(alloc, &program) {
-        Ok(found) => found,
-        Err(_) => return Err(CheckFault::Memory),
-    };
-    let formed = first_form_fault(&program);
-    match earlier_of(named, formed) {
-        None => Ok(Checked { program }),
-        Some(fault) => Err(fault),
+    match first_fault(alloc, &program) {
+        Ok(None) => Ok(Checked { program }),
+        Ok(Some(fault)) => Err(fault),
+        Err(_) => Err(CheckFault::Memory),
     }
 }

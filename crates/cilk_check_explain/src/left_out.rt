@@ -1,71 +1,128 @@
-//! What C and Cilk 5.4 have, and the language has not.
+//! What C, Cilk 5.4 and later dialects of Cilk have, and the language has not; and what it has in its place.
 
+use crate::front::ends_sentence;
 use crate::say::{say, say_quoted};
 use crate::source::Source;
 use cilk_check_scopes::Memory;
-use cilk_lex::{Mark, TokenKind};
+use cilk_lex::TokenKind;
 
-/// A word of Cilk 5.4 that is left out (Cilk 5.4 manual, keywords).
-fn is_of_cilk(word: &str) -> bool {
+const CHARACTER: &str =
+    " is C, but this language leaves it out, except in the parameters `int argc, char *argv[]` of `main`: a character is \
+    the `int` that is its number, and texts stand in `printf` only";
+
+const FLOATING: &str =
+    " is C, but this language leaves it out: its only numbers are whole, and of the type `int`";
+
+const WHOLE: &str =
+    " is C, but this language leaves it out: its only type of numbers is `int`, from -2147483648 to 2147483647";
+
+const CONSTANT: &str =
+    " is C, but this language leaves it out: a declaration does without it, and a variable of the top level that nothing \
+    assigns keeps its value";
+
+const STATIC: &str =
+    " is C, but this language leaves it out: a variable of the top level keeps its value between calls";
+
+const BARE: &str = " is C, but this language leaves it out: a declaration does without it";
+
+const STRUCTURE: &str =
+    " is C, but this language leaves it out: variables and arrays of `int` take its place, one for each member";
+
+const NAMED: &str =
+    " is C, but this language leaves it out: variables of the top level take its place, as `int red = 0, green = 1;`";
+
+const TYPE: &str = " is C, but this language leaves it out: its only type is `int`";
+
+const JUMP: &str =
+    " is C, but this language leaves it out: loops take its place, with `break` and `continue`";
+
+const SIZE: &str =
+    " is C, but this language leaves it out: it counts no bytes, and an array has the length that its declaration says";
+
+const SHARED: &str =
+    " is Cilk 5.4, but this language leaves it out: variables of the top level are shared without it";
+
+const PRIVATE: &str =
+    " is Cilk 5.4, but this language leaves it out: variables of a body belong to one instance without it";
+
+const WORKER: &str =
+    " is Cilk 5.4, but this language leaves it out: a program does not know which worker runs it";
+
+const ROOM: &str =
+    " is Cilk 5.4, but this language leaves it out: an array is declared, with a number as its length";
+
+const FENCE: &str =
+    " is Cilk 5.4, but this language leaves it out: what a step writes is there for each step behind it";
+
+const SPAWN: &str = " is of later dialects of Cilk: Cilk 5.4 has `spawn` in its place";
+
+const SYNC: &str = " is of later dialects of Cilk: Cilk 5.4 has `sync` in its place";
+
+const LOOP: &str =
+    " is of later dialects of Cilk: Cilk 5.4 has a `for` in its place whose body spawns, and a `sync` behind it";
+
+const SCOPE: &str =
+    " is of later dialects of Cilk: Cilk 5.4 has a procedure in its place, which syncs before it returns";
+
+// A word of C for types and what they are made of (C 1990, 6.1.1).
+fn of_types(word: &str) -> Option<&'static str> {
     match word {
-        "private" | "shared" | "Self" | "Cilk_alloca" | "Cilk_fence" => true,
-        _ => false,
+        "char" => Some(CHARACTER),
+        "float" | "double" => Some(FLOATING),
+        "long" | "short" | "signed" | "unsigned" => Some(WHOLE),
+        "struct" | "union" => Some(STRUCTURE),
+        "enum" => Some(NAMED),
+        "typedef" => Some(TYPE),
+        _ => None,
     }
 }
 
-/// A word of C that is left out (C 1990, 6.1.1).
-fn is_of_c(word: &str) -> bool {
+// Another word of C.
+fn of_c(word: &str) -> Option<&'static str> {
     match word {
-        "auto"
-        | "case"
-        | "char"
-        | "const"
-        | "default"
-        | "double"
-        | "enum"
-        | "extern"
-        | "float"
-        | "goto"
-        | "long"
-        | "register"
-        | "short"
-        | "signed"
-        | "sizeof"
-        | "static"
-        | "struct"
-        | "switch"
-        | "typedef"
-        | "union"
-        | "unsigned"
-        | "volatile" => true,
-        _ => false,
+        "const" => Some(CONSTANT),
+        "static" => Some(STATIC),
+        "auto" | "extern" | "register" | "volatile" => Some(BARE),
+        "goto" => Some(JUMP),
+        "sizeof" => Some(SIZE),
+        _ => None,
     }
 }
 
-pub(crate) fn is_left_out(word: &str) -> bool {
-    is_of_c(word) || is_of_cilk(word)
+// A word of Cilk 5.4 (Cilk 5.4 manual, keywords).
+fn of_cilk(word: &str) -> Option<&'static str> {
+    match word {
+        "shared" => Some(SHARED),
+        "private" => Some(PRIVATE),
+        "Self" => Some(WORKER),
+        "Cilk_alloca" => Some(ROOM),
+        "Cilk_fence" => Some(FENCE),
+        _ => None,
+    }
+}
+
+// A word of Cilk Plus or OpenCilk, which is a name here.
+fn of_dialects(word: &str) -> Option<&'static str> {
+    match word {
+        "cilk_spawn" | "_Cilk_spawn" => Some(SPAWN),
+        "cilk_sync" | "_Cilk_sync" => Some(SYNC),
+        "cilk_for" | "_Cilk_for" => Some(LOOP),
+        "cilk_scope" => Some(SCOPE),
+        _ => None,
+    }
+}
+
+/// What is said behind a word that is left out. None of another word.
+pub(crate) fn left_out(word: &str) -> Option<&'static str> {
+    of_types(word)
+        .or(of_c(word))
+        .or(of_cilk(word))
+        .or(of_dialects(word))
 }
 
 pub(crate) fn say_left_out(out: &mut String, word: &str) -> Result<(), Memory> {
     say_quoted(out, word)?;
-    if word == "char" {
-        return say(
-            out,
-            " is C, but this language leaves it out, except in the parameters `int argc, char *argv[]` of `main`",
-        );
-    }
-    if is_of_cilk(word) {
-        return say(out, " is Cilk 5.4, but this language leaves it out");
-    }
-    say(out, " is C, but this language leaves it out")
-}
-
-// Whether nothing before this token belongs to what stands behind it.
-fn ends_sentence(kind: TokenKind) -> bool {
-    matches!(
-        kind,
-        TokenKind::Mark(Mark::Semicolon | Mark::OpenBrace | Mark::CloseBrace)
-    )
+    say(out, left_out(word).unwrap_or(""))
 }
 
 /// The last word that is left out, in the statement or declaration that a place stands in, up to that place.
@@ -75,9 +132,11 @@ pub(crate) fn left_out_word<'a>(source: Source<'a>, at: u32) -> Option<&'a str> 
         if token.start > at {
             return found;
         }
-        let word = source.cut(*token);
-        if is_left_out(word) {
-            found = Some(word);
+        if matches!(token.kind, TokenKind::Name) {
+            let word = source.cut(*token);
+            if left_out(word).is_some() {
+                found = Some(word);
+            }
         } else if token.start < at && ends_sentence(token.kind) {
             found = None;
         }

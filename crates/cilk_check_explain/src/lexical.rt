@@ -1,7 +1,8 @@
 //! Texts that have no tokens: L1 to L7.
 
+use crate::directive::say_directive;
 use crate::lines::behind_newline;
-use crate::say::{say, say_quoted};
+use crate::say::{say, say_number, say_quoted};
 use cilk_check_scopes::Memory;
 use cilk_lex::LexFault;
 
@@ -9,7 +10,11 @@ const COMMENT: &str =
     "This line has `//`: this language leaves out the comments that begin so, and has those between `/*` and `*/`";
 
 const CHARACTER: &str =
-    "A `'` begins a character constant of C, but this language leaves those out";
+    "A `'` begins a character constant of C, but this language leaves those out: the number of the character takes its \
+    place, as 10 for a newline";
+
+const CHARACTER_IS: &str =
+    " is a character constant of C, but this language leaves those out: its place is taken by the number ";
 
 const POINT: &str =
     "A `.` is of C's structures and floating numbers, which this language leaves out";
@@ -17,6 +22,9 @@ const POINT: &str =
 const BLANK: &str =
     "A text literal has the printable characters of ASCII only: a tab in it is written `\\t`, and other blanks than spaces \
     have no place in it";
+
+const QUOTE: &str =
+    "This quote is not of ASCII: a text literal of `printf` begins and ends with `\"`";
 
 const OTHER: &str =
     "This character may stand in a comment only, since a text literal has the printable ones of ASCII";
@@ -33,6 +41,7 @@ pub(crate) fn say_lex(out: &mut String, text: &str, fault: LexFault) -> Result<(
     match fault {
         LexFault::BadByte(at) => say_bad_byte(out, text, at),
         LexFault::BadNumber(at) => say_bad_number(out, text, at),
+        LexFault::BadDirective(at) => say_directive(out, text, at),
         _ => say(out, words(fault)),
     }
 }
@@ -52,30 +61,42 @@ fn words(fault: LexFault) -> &'static str {
         LexFault::TooLong => "The text is longer than the 1048576 bytes that a program may have",
         LexFault::OpenComment(_) => "The comment that begins here is not closed: `*/` is missing",
         LexFault::OpenText(_) =>
-            "The text literal that begins here has no closing quote on its line",
+            "The text literal that begins here has no closing quote on its line: a newline in it is written `\\n`",
         LexFault::BadEscape(_) => {
             "In a text literal a backslash stands before `n`, `t`, a backslash or a quote only: this language leaves out the \
             other escapes of C"
         }
-        LexFault::BadDirective(_) => {
-            "A `#` may only begin a line that includes `cilk.h`, `cilk-lib.h`, `cilk-lib.cilkh`, `stdio.h` or `stdlib.h` and \
-            has nothing else, not even a comment: this language leaves out the other directives of C"
-        }
-        LexFault::BadByte(_) | LexFault::BadNumber(_) | LexFault::Memory => "Memory has run out",
+        LexFault::BadByte(_)
+        | LexFault::BadNumber(_)
+        | LexFault::BadDirective(_)
+        | LexFault::Memory => "Memory has run out",
     }
 }
 
 fn say_bad_byte(out: &mut String, text: &str, at: u32) -> Result<(), Memory> {
     let (_, behind) = text.split_at(text.floor_char_boundary(at as usize));
     match behind.chars().next() {
-        Some('\'') => say(out, CHARACTER),
+        Some('\'') => say_character(out, behind),
         Some('.') => say(out, POINT),
         Some('\t' | '\x0b' | '\x0c' | '\r') => say(out, BLANK),
+        Some('\u{2018}' | '\u{2019}' | '\u{201c}' | '\u{201d}') => say(out, QUOTE),
         Some(' '..='~') => {
             say_quoted(out, behind.get(..1).unwrap_or(""))?;
             say(out, " begins no token of this language")
         }
         _ => say(out, OTHER),
+    }
+}
+
+// A character constant of one printable character is told with its number.
+fn say_character(out: &mut String, behind: &str) -> Result<(), Memory> {
+    match behind.as_bytes() {
+        [_, code @ 32..=126, b'\'', ..] => {
+            say_quoted(out, behind.get(..3).unwrap_or(""))?;
+            say(out, CHARACTER_IS)?;
+            say_number(out, *code as usize)
+        }
+        _ => say(out, CHARACTER),
     }
 }
 
@@ -91,7 +112,7 @@ fn say_bad_number(out: &mut String, text: &str, at: u32) -> Result<(), Memory> {
     if number.contains('.') {
         return say(
             out,
-            " is a floating number of C, but this language leaves those out",
+            " is a floating number of C, but this language leaves those out: its only numbers are whole",
         );
     }
     say(out, NUMBER)

@@ -1,20 +1,36 @@
 //! What is told to people of a fault in a program's text.
 #![tactic(auto)]
 
+mod actions;
+mod braces;
 mod check;
+mod choosing;
+mod conversions;
+mod declarations;
 mod declared;
-mod grammar;
+mod directive;
+mod front;
+mod labels;
 mod left_out;
 mod lexical;
 mod lines;
 mod meant;
+mod missing;
+mod operators;
+mod reason;
 mod say;
 mod search;
 mod site;
 mod source;
+mod spawns;
+mod statements;
 mod telling;
 mod told;
+mod too_deep;
+mod unexpected;
+mod unknown;
 
+pub use actions::action_place;
 pub use cilk_lex::{TEXT_LIMIT, line_col};
 pub use lines::place_lines;
 pub use telling::sentence;

@@ -20,8 +20,8 @@ pub(crate) fn behind_newline(front: &str) -> &str
     }
 }
 
-// What stands before the first newline.
-fn before_newline(rest: &str) -> &str
+/// What stands before the first newline.
+pub(crate) fn before_newline(rest: &str) -> &str
     ensures { result.now ≡ before_first is_newline rest.now }
 {
     match rest.split_once('\n') {

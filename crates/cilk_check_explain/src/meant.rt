@@ -1,8 +1,22 @@
 //! Names that mean something else than is needed: C1, C3, C4 and C5.
 
+use crate::reason::Reason;
 use crate::say::{say, say_number, say_quoted};
 use crate::site::Site;
+use crate::spawns::is_assigning;
 use cilk_check_scopes::{DeclarationKind, Memory};
+
+const SPAWNED: &str = ": a procedure is started by `spawn`, as in `spawn $(..);`";
+
+const SPAWNED_FOR_VALUE: &str =
+    ": a procedure is started by `spawn`, as in `x = spawn $(..);`, and its value is there behind a `sync;`";
+
+const CALLED: &str =
+    ": a C function is called without `spawn`, and a procedure has `cilk` before its result";
+
+const ELEMENTS: &str = ": the elements of an array are used, as `$[0]`, and not the array itself";
+
+const CALL_FOR_VALUE: &str = ": the value of a function is had by a call, as in `x = $(..);`";
 
 // The name at a place, and the line of its declaration.
 fn say_name(out: &mut String, site: Site<'_, '_>) -> Result<(), Memory> {
@@ -58,6 +72,22 @@ fn is_of_command_line(site: Site<'_, '_>) -> bool {
     }
 }
 
+// What is to be written in place of a name that is of another kind than is needed.
+fn advice(site: Site<'_, '_>, kind: DeclarationKind) -> &'static str {
+    let index = site.source.index_of(site.at);
+    let is_called = site.source.word(index.saturating_add(1)) == "(";
+    let before = site.source.word(index.saturating_sub(1));
+    match kind {
+        DeclarationKind::Function(_, _) if before == "spawn" => CALLED,
+        DeclarationKind::Function(_, _) if !is_called => CALL_FOR_VALUE,
+        DeclarationKind::Procedure(_, _) if before == "spawn" => "",
+        DeclarationKind::Procedure(_, _) if is_called && !is_assigning(before) => SPAWNED,
+        DeclarationKind::Procedure(_, _) => SPAWNED_FOR_VALUE,
+        DeclarationKind::Array(_) if !is_called => ELEMENTS,
+        _ => "",
+    }
+}
+
 /// C3.
 pub(crate) fn say_kind(out: &mut String, site: Site<'_, '_>) -> Result<(), Memory> {
     say_name(out, site)?;
@@ -67,7 +97,11 @@ pub(crate) fn say_kind(out: &mut String, site: Site<'_, '_>) -> Result<(), Memor
     }
     say(out, ", but ")?;
     say(out, needed(site))?;
-    say(out, " is needed here")
+    say(out, " is needed here")?;
+    match site.meaning() {
+        Some(declared) => Reason::named(advice(site, declared.kind), site.word()).say(out),
+        None => Ok(()),
+    }
 }
 
 /// C4.

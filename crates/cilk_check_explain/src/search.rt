@@ -7,12 +7,13 @@ use cilk_check_scopes::{
     Program, Shape, Stmt, StmtNode, Word,
 };
 
-/// A name, and where it stands.
+/// A name, and where it stands; and whether a declaration is sought that is not visible from there too.
 #[derive(Clone, Copy)]
 struct Sought<'a> {
     source: Source<'a>,
     name: &'a str,
     at: u32,
+    is_anywhere: bool,
 }
 
 impl<'a> Sought<'a> {
@@ -26,10 +27,14 @@ impl<'a> Sought<'a> {
         braces: usize,
     ) -> Option<Declared> {
         let at = word.at();
-        if at < self.at && word.as_str() == self.name && self.source.is_open(at, self.at, braces) {
+        if word.as_str() == self.name && self.is_seen(at, braces) {
             return Some(Declared { at, kind });
         }
         found
+    }
+
+    fn is_seen(self, at: u32, braces: usize) -> bool {
+        self.is_anywhere || (at < self.at && self.source.is_open(at, self.at, braces))
     }
 
     fn among(self, parameters: &[Word], found: Option<Declared>) -> Option<Declared> {
@@ -80,6 +85,7 @@ fn in_stmt(sought: Sought<'_>, stmt: &Stmt, found: Option<Declared>) -> Option<D
         | StmtNode::While(_, body)
         | StmtNode::Do(body, _)
         | StmtNode::For(_, _, _, body)
+        | StmtNode::Switch(_, body)
         | StmtNode::Nested(body) => in_block(sought, body, found),
         StmtNode::If(_, body, Some(other)) => {
             let found = in_block(sought, body, found);
@@ -152,18 +158,48 @@ pub(crate) fn has_command_line(program: &Program) -> bool {
     false
 }
 
-/// What the name at a place means (C 1990, 6.1.2.1).
-pub(crate) fn meaning(program: &Program, source: Source<'_>, at: u32) -> Option<Declared> {
-    let name = source.word_at(at);
-    let sought = Sought { source, name, at };
+fn in_bodies(program: &Program, sought: Sought<'_>) -> Option<Declared> {
     let mut found = None;
     for item in &program.items {
         if let ItemNode::Procedure(procedure) = &item.node {
             found = in_procedure(sought, procedure, found);
         }
     }
-    match found {
-        Some(_) => found,
-        None => declared_in_file(program, name),
+    found
+}
+
+/// What the name at a place means (C 1990, 6.1.2.1).
+pub(crate) fn meaning(program: &Program, source: Source<'_>, at: u32) -> Option<Declared> {
+    let name = source.word_at(at);
+    let sought = Sought {
+        source,
+        name,
+        at,
+        is_anywhere: false,
+    };
+    in_bodies(program, sought).or(declared_in_file(program, name))
+}
+
+/// A declaration of the name at a place that need not be visible from there.
+pub(crate) fn elsewhere(program: &Program, source: Source<'_>, at: u32) -> Option<Declared> {
+    let sought = Sought {
+        source,
+        name: source.word_at(at),
+        at,
+        is_anywhere: true,
+    };
+    in_bodies(program, sought)
+}
+
+/// The definition that a place stands in, behind its name.
+pub(crate) fn procedure_around(program: &Program, at: u32) -> Option<&Proc> {
+    let mut found = None;
+    for item in &program.items {
+        if let ItemNode::Procedure(procedure) = &item.node {
+            if procedure.name.at() < at {
+                found = Some(procedure);
+            }
+        }
     }
+    found
 }

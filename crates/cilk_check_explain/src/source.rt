@@ -35,6 +35,27 @@ impl<'a> Source<'a> {
         }
     }
 
+    /// What the token with this index is.
+    pub(crate) fn kind(self, index: usize) -> Option<TokenKind> {
+        match self.tokens.get(index) {
+            Some(token) => Some(token.kind),
+            None => None,
+        }
+    }
+
+    /// The place of the token with this index, or the end of the text.
+    pub(crate) fn place_of(self, index: usize) -> u32 {
+        match self.tokens.get(index) {
+            Some(token) => token.start,
+            None => u32::try_from(self.text.len()).unwrap_or(u32::MAX),
+        }
+    }
+
+    /// The line of that.
+    pub(crate) fn line_of(self, index: usize) -> usize {
+        self.line(self.place_of(index))
+    }
+
     /// How the token at a place is spelled.
     pub(crate) fn word_at(self, at: u32) -> &'a str {
         self.word(self.index_of(at))

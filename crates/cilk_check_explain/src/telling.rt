@@ -3,12 +3,13 @@
 ghost use Rattle.std.specs.Prelude.{◌≡◌, ◌++◌, ℕ, List, IfOk, codes, string_bytes};
 
 use crate::check::say_check;
-use crate::grammar::{say_too_deep, say_unexpected};
 use crate::lexical::say_lex;
 use crate::say::say;
 use crate::site::Site;
 use crate::source::Source;
 use crate::told::Told;
+use crate::too_deep::say_too_deep;
+use crate::unexpected::say_unexpected;
 use cilk_check_scopes::Memory;
 use cilk_lex::{LexFault, Token, tokens};
 use std::alloc::{AllocError, Global};
@@ -32,7 +33,7 @@ fn say_fault(alloc: Global, out: &mut String, text: &str, fault: Told<'_>) -> Re
     };
     match fault {
         Told::Lex(fault) => say_lex(out, text, fault),
-        Told::Unexpected(at) => say_unexpected(out, source, at),
+        Told::Unexpected(at) => say_unexpected(alloc, out, source, at),
         Told::TooDeep(at) => say_too_deep(out, source, at),
         Told::Check(fault, program) => {
             let at = fault.place();

@@ -3,7 +3,7 @@ use Rattle.std.proofs.Common.{◌≡◌, ◌++◌, refl, ap, ◌∙◌}
 use Rattle.std.specs.List.{flat_map}
 use Rattle.std.proofs.lemmas.List.Concat.{flat_map-append}
 use Rattle.cilk_check_scopes.specs.syntax.Tree as tree
-use Rattle.cilk_check_scopes.specs.Parts.{Around, local, statement, inner, looped, after_local, after_locals, in_inlet, block_parts, locals_parts}
+use Rattle.cilk_check_scopes.specs.Parts.{Around, local, statement, inner, looped, switched, after_local, after_locals, in_inlet, block_parts, locals_parts}
 use Rattle.cilk_check_scopes.specs.Parts.{within_local, stmts_parts, within_stmt}
 use Rattle.cilk_check_forms.specs.Finds.{standing_faults, part_faults, block_faults, locals_faults, inside_local, stmts_faults, inside_stmt}
 
@@ -44,5 +44,6 @@ mutual
   stmt_is a (tree.while test body) = block_is (looped a) body
   stmt_is a (tree.repeat body test) = block_is (looped a) body
   stmt_is a (tree.loop first test advance body) = block_is (looped a) body
+  stmt_is a (tree.switch test body) = block_is (switched a) body
   stmt_is a (tree.nested inside) = block_is (inner a) inside
   stmt_is a other = refl

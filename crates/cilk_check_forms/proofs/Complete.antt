@@ -23,14 +23,16 @@ use Rattle.cilk_check_scopes.proofs.Held.{Has-fault_if}
 use Rattle.cilk_check_scopes.proofs.Splits.{is_declared}
 use Rattle.cilk_check_scopes.specs.Cells.{max_cells, max_global_cells, is_length}
 use Rattle.cilk_check_scopes.specs.Format.{numbers_in}
-use Rattle.cilk_check_scopes.specs.Forms.{synched_in, own_word, words_of_children, leaves_at, returned_by, has_form, is_procedure, IsMain, Faulty}
-use Rattle.cilk_check_scopes.specs.Forms.{in_function, inlet_in_no_procedure, inlet_in_inner_block, in_inlet, abort_outside, no_loop, no_main}
-use Rattle.cilk_check_scopes.specs.Forms.{return_form, format, array_length, limit, global_limit}
+use Rattle.cilk_check_scopes.specs.Forms.{synched_in, own_word, words_of_children, returned_by, has_form, is_procedure, labels_of, IsMain, Faulty}
+use Rattle.cilk_check_scopes.specs.Forms.{in_function, inlet_in_no_procedure, inlet_in_inner_block, in_inlet, abort_outside, break_outside, continue_outside}
+use Rattle.cilk_check_scopes.specs.Forms.{no_main}
+use Rattle.cilk_check_scopes.specs.Forms.{return_form, format, array_length, limit, global_limit, same_label}
 use Rattle.cilk_check_forms.specs.Finds.{word_faults, words_faults, expr_faults, exprs_faults, is_inlet, is_count, kind_faults, length_faults}
 use Rattle.cilk_check_forms.specs.Finds.{passing, stmt_faults, part_faults, standing_faults, block_faults, procedure_faults, item_faults, starts}
 use Rattle.cilk_check_forms.specs.Finds.{forms_faults}
 use Rattle.cilk_check_forms.proofs.Blocks.{block_is}
 use Rattle.cilk_check_forms.proofs.Passing.{passing_has}
+use Rattle.cilk_check_forms.proofs.Repeated.{repeated_has}
 use Rattle.cilk_check_forms.proofs.Mains.{started}
 
 pub not_false : (b : Bool) → b ≡ false → not b ≡ true
@@ -108,15 +110,6 @@ stmt_has : (p : tree.Program) (a : Around) (s : tree.Stmt) (f : CheckFault)
     → Contains (parts_of p) (record { around = a; part = statement s }) → Has (stmt_faults a.within s) f → Has (forms_faults p) f
 unfolding part_faults
 stmt_has p a s f stands h = part_has p a (statement s) f stands (Has-append_left (stmt_faults a.within s) _ f h)
-
-leaving_has : (a : Around) (s : tree.Stmt) (at : ℕ) → a.within.in_loop ≡ false → Has (leaves_at s) at → Has (stmt_faults a.within s) (NoLoop at)
-leaving_has a (tree.break_at n) at e (inl is) =
-    subst (λ k. Has (stmt_faults a.within (tree.break_at n)) (NoLoop k)) is (Has-fault_if (not a.within.in_loop) (NoLoop n) (not_false _ e))
-leaving_has a (tree.break_at n) at e (inr h) = absurd h
-leaving_has a (tree.continue_at n) at e (inl is) =
-    subst (λ k. Has (stmt_faults a.within (tree.continue_at n)) (NoLoop k)) is (Has-fault_if (not a.within.in_loop) (NoLoop n) (not_false _ e))
-leaving_has a (tree.continue_at n) at e (inr h) = absurd h
-leaving_has a other at e h = absurd h
 
 -- an array's length is listed where it is declared
 length_has : (at n : ℕ) (kind : DeclarationKind) → kind ≡ Array n → is_length n ≡ false → Has (kind_faults at kind) (Limit at)
@@ -247,8 +240,10 @@ forms_complete p f (in_inlet a part at stands e w) =
     part_has p a part (InInlet at) stands (word_has a part at _ (Has-from_Contains _ _ w) (subst (λ o. Has (word_faults o at) (InInlet at)) (sym e) (inl refl)))
 forms_complete p f (abort_outside a at stands n) =
     stmt_has p a _ _ stands (Has-fault_if (not (is_inlet a.within.owner)) (AbortOutside at) (not_false _ (is_no_inlet a.within.owner n)))
-forms_complete p f (no_loop a s at stands e w) =
-    stmt_has p a s _ stands (leaving_has a s at e (Has-from_Contains _ _ w))
+forms_complete p f (break_outside a at stands e) =
+    stmt_has p a _ _ stands (Has-fault_if (not a.within.in_loop_or_switch) (NoLoop at) (not_false _ e))
+forms_complete p f (continue_outside a at stands e) =
+    stmt_has p a _ _ stands (Has-fault_if (not a.within.in_loop) (NoLoop at) (not_false _ e))
 forms_complete p f (no_main none) = main_has p none
 forms_complete p f (return_form a at value stands e) =
     stmt_has p a _ _ stands (Has-fault_if (not (has_form (returned_by a.within.owner) value)) (ReturnForm at) (not_false _ e))
@@ -261,3 +256,5 @@ forms_complete p f (global_limit before after d order passes) =
     Has-append_right (flat_map length_faults (file_declares p.items)) _ _
     (Has-append_left (passing max_global_cells (file_declares p.items)) _ _
     (subst (λ ds. Has (passing max_global_cells ds) (Limit d.name.place)) (sym order) (passing_has max_global_cells before d after passes)))
+forms_complete p f (same_label a test body i k first second stands at_i at_k before same) =
+    stmt_has p a _ _ stands (repeated_has (labels_of body) i k first second at_i at_k before same)

@@ -1,5 +1,5 @@
 -- Each listed fault is a fault of the program.
-use Rattle.std.proofs.Common.{◌≡◌, ◌≢◌, ℕ, Bool, true, false, not, Option, Some, None, List, [], ◌∷◌, ◌++◌, length, map, inl, inr, refl, sym, subst, ◌∙◌}
+use Rattle.std.proofs.Common.{◌≡◌, ◌≢◌, ℕ, Bool, true, false, not, Option, Some, None, List, [], ◌++◌, length, map, inl, inr, refl, sym, subst, ◌∙◌}
 use Rattle.std.specs.List.{Contains, flat_map, list_any}
 use Rattle.std.proofs.lemmas.Bool.{false≢true}
 use Rattle.std.proofs.lemmas.Bool.Decides.{Decides-eqb}
@@ -22,12 +22,14 @@ use Rattle.cilk_check_scopes.proofs.Held.{Has-fault_if_cases}
 use Rattle.cilk_check_scopes.proofs.Splits.{declared_behind}
 use Rattle.cilk_check_scopes.specs.Cells.{max_cells, max_global_cells, is_length}
 use Rattle.cilk_check_scopes.specs.Format.{numbers_in}
-use Rattle.cilk_check_scopes.specs.Forms.{synched_in, own_word, words_of_children, returned_by, has_form, is_procedure, Faulty, in_function}
-use Rattle.cilk_check_scopes.specs.Forms.{inlet_in_no_procedure, inlet_in_inner_block, in_inlet, abort_outside, no_loop, no_main, return_form, format}
-use Rattle.cilk_check_scopes.specs.Forms.{array_length, limit, global_limit}
+use Rattle.cilk_check_scopes.specs.Forms.{synched_in, own_word, words_of_children, returned_by, has_form, is_procedure, labels_of, Faulty, in_function}
+use Rattle.cilk_check_scopes.specs.Forms.{inlet_in_no_procedure, inlet_in_inner_block, in_inlet, abort_outside, break_outside, continue_outside, no_main}
+use Rattle.cilk_check_scopes.specs.Forms.{return_form}
+use Rattle.cilk_check_scopes.specs.Forms.{format, array_length, limit, global_limit, same_label}
 use Rattle.cilk_check_forms.specs.Finds.{word_faults, words_faults, expr_faults, exprs_faults, is_inlet, is_count, kind_faults, length_faults}
 use Rattle.cilk_check_forms.specs.Finds.{passing, stmt_faults, part_faults, standing_faults, procedure_faults, item_faults, starts, forms_faults}
 use Rattle.cilk_check_forms.proofs.Blocks.{block_is}
+use Rattle.cilk_check_forms.proofs.Repeated.{repeated}
 use Rattle.cilk_check_forms.proofs.Mains.{starts_where}
 use Rattle.cilk_check_forms.proofs.Passing.{passing_found}
 
@@ -76,17 +78,20 @@ stmt_sound p a (tree.abort_at at) f stands h =
     let c = Has-fault_if_cases (not (is_inlet a.within.owner)) _ f h in
     subst (Faulty p) c.1 (abort_outside a at stands (no_inlet a.within.owner (not_true _ c.0)))
 stmt_sound p a (tree.break_at at) f stands h =
-    let c = Has-fault_if_cases (not a.within.in_loop) _ f h in
-    subst (Faulty p) c.1 (no_loop a _ at stands (not_true _ c.0) (Contains-from_Has (at ∷ []) at (inl refl)))
+    let c = Has-fault_if_cases (not a.within.in_loop_or_switch) _ f h in
+    subst (Faulty p) c.1 (break_outside a at stands (not_true _ c.0))
 stmt_sound p a (tree.continue_at at) f stands h =
     let c = Has-fault_if_cases (not a.within.in_loop) _ f h in
-    subst (Faulty p) c.1 (no_loop a _ at stands (not_true _ c.0) (Contains-from_Has (at ∷ []) at (inl refl)))
+    subst (Faulty p) c.1 (continue_outside a at stands (not_true _ c.0))
 stmt_sound p a (tree.return_at at value) f stands h =
     let c = Has-fault_if_cases (not (has_form (returned_by a.within.owner) value)) _ f h in
     subst (Faulty p) c.1 (return_form a at value stands (not_true _ c.0))
 stmt_sound p a (tree.print text arguments) f stands h =
     let c = Has-fault_if_cases (not (is_count (length arguments) (numbers_in text.bytes))) _ f h in
     subst (Faulty p) c.1 (format a text arguments stands (other_count _ _ (not_true _ c.0)))
+stmt_sound p a (tree.switch test body) f stands h =
+    let r = repeated (labels_of body) f h in
+    subst (Faulty p) r.is (same_label a test body r.i r.k r.first r.second stands r.first_at r.second_at r.before r.same)
 stmt_sound p a other f stands h = absurd h
 
 -- a declaration of a part is one of the program

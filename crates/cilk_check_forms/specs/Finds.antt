@@ -1,12 +1,15 @@
 -- The faults in the forms of a program as a list, part by part.
-use Rattle.std.specs.Prelude.{ℕ, List, [], ◌∷◌, ◌++◌, Bool, true, false, not, length, ◌-◌, ◌&&◌, ◌==◌, nat_le, if◌then◌else◌, codes, Option, Some}
+use Rattle.std.specs.Prelude.{ℕ, ℤ, List, [], ◌∷◌, ◌++◌, Bool, true, false, not, length, ◌-◌, ◌&&◌, ◌==◌, nat_le, if◌then◌else◌, codes, Option, Some}
 use Rattle.std.specs.Prelude.{None, flat_map, map, bytes_eq}
 use Rattle.std.specs.List.{list_any}
+use Rattle.std.specs.Option.{option_cmp}
+use Rattle.std.specs.Ordering.{is_eq, int_cmp}
 use Rattle.cilk_check_scopes.specs.syntax.declared.return_type.ReturnType.{ReturnType}
 use Rattle.cilk_check_scopes.specs.syntax.declared.return_type.ReturnType.TheVariants.{Int, Void}
 use Rattle.cilk_check_scopes.specs.syntax.Tree as tree
 use Rattle.cilk_check_scopes.specs.declared.fault.CheckFault.{CheckFault}
 use Rattle.cilk_check_scopes.specs.declared.fault.CheckFault.TheVariants.{NotInProcedure, InInlet, AbortOutside, NoLoop, NoMain, ReturnForm, Format, Limit}
+use Rattle.cilk_check_scopes.specs.declared.fault.CheckFault.TheVariants.{Label}
 use Rattle.cilk_check_scopes.specs.declared.declaration_kind.DeclarationKind.{DeclarationKind}
 use Rattle.cilk_check_scopes.specs.declared.declaration_kind.DeclarationKind.TheVariants.{Array}
 use Rattle.cilk_check_scopes.specs.declared.owner.Owner.{Owner}
@@ -14,12 +17,12 @@ use Rattle.cilk_check_scopes.specs.declared.owner.Owner.TheVariants as owner
 use Rattle.cilk_check_scopes.specs.declared.within.Within.{Within}
 use Rattle.cilk_check_scopes.specs.First.{fault_if}
 use Rattle.cilk_check_scopes.specs.Scopes.{Declared, parameter, kind_of_shape, file_declares, parameters_declare}
-use Rattle.cilk_check_scopes.specs.Within.{whole_body, inner_block, loop_block}
+use Rattle.cilk_check_scopes.specs.Within.{whole_body, inner_block, loop_block, switch_block}
 use Rattle.cilk_check_scopes.specs.Parts.{Part, local, statement, PartInContext, owner_of, stmt_exprs, local_exprs}
 use Rattle.cilk_check_scopes.specs.Declarations.{block_variables}
 use Rattle.cilk_check_scopes.specs.Cells.{cells_of, max_cells, max_global_cells, is_length}
 use Rattle.cilk_check_scopes.specs.Format.{numbers_in}
-use Rattle.cilk_check_scopes.specs.Forms.{synched_in, own_word, returned_by, has_form, is_procedure, are_of_main}
+use Rattle.cilk_check_scopes.specs.Forms.{synched_in, own_word, returned_by, has_form, is_procedure, labels_of, are_of_main}
 
 -- of the word `spawn`, `sync` or `SYNCHED` at this place in a body
 abbrev pub word_faults : Owner → ℕ → List CheckFault
@@ -64,14 +67,28 @@ passing left [] = []
 passing left (d ∷ ds) =
     if nat_le (cells_of d.kind) left then passing (left - cells_of d.kind) ds else Limit d.name.place ∷ []
 
+-- whether two labels say the same: one value, or both of them `default`
+abbrev pub same_value : Option ℤ → Option ℤ → Bool
+same_value v w = is_eq (option_cmp int_cmp v w)
+
+-- of labels that stand one after another, where a test tells what those before them say
+abbrev pub labels_faults : (Option ℤ → Bool) → List tree.Label → List CheckFault
+labels_faults said [] = []
+labels_faults said (l ∷ ls) = fault_if (said l.value) (Label l.at) ++ labels_faults (λ v. if same_value l.value v then true else said v) ls
+
+-- what no label says
+abbrev pub nothing_said : Option ℤ → Bool
+nothing_said v = false
+
 -- of a statement itself, but for the words in it
 abbrev pub stmt_faults : Within → tree.Stmt → List CheckFault
 stmt_faults w (tree.abort_at at) = fault_if (not (is_inlet w.owner)) (AbortOutside at)
-stmt_faults w (tree.break_at at) = fault_if (not w.in_loop) (NoLoop at)
+stmt_faults w (tree.break_at at) = fault_if (not w.in_loop_or_switch) (NoLoop at)
 stmt_faults w (tree.continue_at at) = fault_if (not w.in_loop) (NoLoop at)
 stmt_faults w (tree.return_at at value) = fault_if (not (has_form (returned_by w.owner) value)) (ReturnForm at)
 stmt_faults w (tree.print text arguments) =
     fault_if (not (is_count (length arguments) (numbers_in text.bytes))) (Format text.place)
+stmt_faults w (tree.switch test body) = labels_faults nothing_said (labels_of body)
 stmt_faults w other = []
 
 -- of a part itself
@@ -109,6 +126,7 @@ abbrev mutual
   inside_stmt w (tree.while test body) = block_faults (loop_block w) body
   inside_stmt w (tree.repeat body test) = block_faults (loop_block w) body
   inside_stmt w (tree.loop first test advance body) = block_faults (loop_block w) body
+  inside_stmt w (tree.switch test body) = block_faults (switch_block w) body
   inside_stmt w (tree.nested inside) = block_faults (inner_block w) inside
   inside_stmt w other = []
 

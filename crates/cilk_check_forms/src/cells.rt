@@ -99,9 +99,10 @@ fn behind_stmt(stmt: &Stmt, room: Room) -> Room
                 Some(other) => behind_block(other, room),
             }
         }
-        StmtNode::While(_, body) | StmtNode::Do(body, _) | StmtNode::For(_, _, _, body) => {
-            behind_block(body, room)
-        }
+        StmtNode::While(_, body)
+        | StmtNode::Do(body, _)
+        | StmtNode::For(_, _, _, body)
+        | StmtNode::Switch(_, body) => behind_block(body, room),
         StmtNode::Nested(inside) => behind_block(inside, room),
         StmtNode::Move(_)
         | StmtNode::Spawn(_, _, _, _)
@@ -112,7 +113,8 @@ fn behind_stmt(stmt: &Stmt, room: Room) -> Room
         | StmtNode::Abort(_)
         | StmtNode::Break(_)
         | StmtNode::Continue(_)
-        | StmtNode::Return(_, _) => room,
+        | StmtNode::Return(_, _)
+        | StmtNode::Labelled(_) => room,
     }
 }
 

@@ -1,6 +1,6 @@
 //! The first fault in the forms of a program.
 
-ghost use Rattle.std.specs.Prelude.{◌≡◌, None, flat_map};
+ghost use Rattle.std.specs.Prelude.{◌≡◌, None, flat_map, IfOk};
 ghost use Rattle.std.specs.List.{list_any};
 ghost use Rattle.cilk_check_scopes.specs.First.{first_among};
 ghost use Rattle.cilk_check_scopes.specs.Scopes.{file_declares, item_declares};
@@ -15,21 +15,22 @@ use crate::local::{MAX_CELLS, is_length};
 use crate::space::Room;
 use crate::walk::in_block;
 use cilk_check_scopes::{
-    CheckFault, GlobalShape, Item, ItemNode, Owner, Parameters, Proc, Program, ReturnType, Within,
-    first_if,
+    CheckFault, GlobalShape, Item, ItemNode, Memory, Owner, Parameters, Proc, Program, ReturnType,
+    Within, first_if,
 };
+use std::alloc::Global;
 
 const MAX_GLOBAL_CELLS: u32 = 1_048_576;
 
 #[tactic(auto, using(crate::proofs::Walks::walks))]
-pub(crate) fn first_listed(program: &Program) -> Option<CheckFault>
-    ensures { result ≡ first_among None (forms_faults program.now) }
+pub(crate) fn first_listed(alloc: Global, program: &Program) -> Result<Option<CheckFault>, Memory>
+    ensures { IfOk result (λ f. f ≡ first_among None (forms_faults program.now)) }
 {
     let items = program.items.as_slice();
     let found = at_lengths(items, None);
     let found = at_cells(items, found);
-    let found = in_items(items, found);
-    first_if(found, !starts(items), CheckFault::NoMain(program.length))
+    let found = in_items(alloc, items, found)?;
+    Ok(first_if(found, !starts(items), CheckFault::NoMain(program.length)))
 }
 
 #[tactic(auto, using(crate::proofs::Walks::walks))]
@@ -72,28 +73,40 @@ fn at_cells(items: &[Item], found: Option<CheckFault>) -> Option<CheckFault>
 }
 
 #[tactic(auto, using(crate::proofs::Walks::walks))]
-fn in_items(items: &[Item], found: Option<CheckFault>) -> Option<CheckFault>
-    ensures { result ≡ first_among found (flat_map item_faults items.now) }
+fn in_items(
+    alloc: Global,
+    items: &[Item],
+    found: Option<CheckFault>,
+) -> Result<Option<CheckFault>, Memory>
+    ensures { IfOk result (λ f. f ≡ first_among found (flat_map item_faults items.now)) }
 {
     let mut found = found;
     for item in items {
-        found = in_item(item, found);
+        found = in_item(alloc, item, found)?;
     }
-    found
+    Ok(found)
 }
 
-fn in_item(item: &Item, found: Option<CheckFault>) -> Option<CheckFault>
-    ensures { result ≡ first_among found (item_faults item.now) }
+fn in_item(
+    alloc: Global,
+    item: &Item,
+    found: Option<CheckFault>,
+) -> Result<Option<CheckFault>, Memory>
+    ensures { IfOk result (λ f. f ≡ first_among found (item_faults item.now)) }
 {
     match &item.node {
-        ItemNode::Procedure(definition) => in_procedure(definition, found),
-        ItemNode::Global(_) | ItemNode::Lock(_) | ItemNode::Prototype(_) => found,
+        ItemNode::Procedure(definition) => in_procedure(alloc, definition, found),
+        ItemNode::Global(_) | ItemNode::Lock(_) | ItemNode::Prototype(_) => Ok(found),
     }
 }
 
 #[tactic(auto, using(crate::proofs::Walks::walks), unfolding(crate::specs::Finds::procedure_faults))]
-fn in_procedure(definition: &Proc, found: Option<CheckFault>) -> Option<CheckFault>
-    ensures { result ≡ first_among found (procedure_faults definition.now) }
+fn in_procedure(
+    alloc: Global,
+    definition: &Proc,
+    found: Option<CheckFault>,
+) -> Result<Option<CheckFault>, Memory>
+    ensures { IfOk result (λ f. f ≡ first_among found (procedure_faults definition.now)) }
 {
     let room = Room {
         left: Some(MAX_CELLS),
@@ -102,7 +115,8 @@ fn in_procedure(definition: &Proc, found: Option<CheckFault>) -> Option<CheckFau
     let room = behind_parameters(&definition.parameters, room);
     let found = behind_block(&definition.body, room).found;
     let within = Within::whole_body(owner_of(definition.is_cilk, definition.returns));
-    in_block(within, &definition.body, found)
+    let found = in_block(alloc, within, &definition.body, found)?;
+    Ok(found)
 }
 
 fn owner_of(is_cilk: bool, returns: ReturnType) -> Owner

@@ -1,87 +1,117 @@
 //! The first fault in the forms of a body. Each function takes the first fault that was found so far, and answers the
 //! first of it and of those in its own part.
 
-ghost use Rattle.std.specs.Prelude.{◌≡◌, ◌++◌};
+ghost use Rattle.std.specs.Prelude.{◌≡◌, ◌++◌, IfOk};
 ghost use Rattle.cilk_check_scopes.specs.syntax.Tree as tree;
 ghost use Rattle.cilk_check_scopes.specs.syntax.Tree.{locals_of, stmts_of};
 ghost use Rattle.cilk_check_scopes.specs.First.{first_among};
+ghost use Rattle.cilk_check_scopes.specs.Forms.{labels_of};
 ghost use Rattle.cilk_check_scopes.specs.Parts as parts;
 ghost use Rattle.cilk_check_forms.specs.Finds.{part_faults, block_faults, locals_faults, inside_local, stmts_faults, inside_stmt};
+ghost use Rattle.cilk_check_forms.specs.Finds.{labels_faults, nothing_said, expr_faults};
 
 use crate::children::{at_word, in_expr, in_move};
+use crate::labels::at_labels;
 use crate::local::{at_decl, at_inlet};
 use crate::statement::{at_header, at_print, at_return, at_spawn, is_inlet};
 use cilk_check_scopes::{
-    Block, CheckFault, Local, LocalNode, Owner, Stmt, StmtNode, Within, first_if,
+    Block, CheckFault, Expr, Local, LocalNode, Memory, Owner, Stmt, StmtNode, Within, first_if,
 };
+use std::alloc::Global;
 
 #[cycle(in_block)]
 #[tactic(auto, using(crate::proofs::Walks::walks))]
 pub(crate) fn in_block(
+    alloc: Global,
     within: Within,
     block: &Block,
     found: Option<CheckFault>,
-) -> Option<CheckFault>
-    ensures { result ≡ first_among found (block_faults within block.now) }
+) -> Result<Option<CheckFault>, Memory>
+    ensures { IfOk result (λ f. f ≡ first_among found (block_faults within block.now)) }
 {
-    let found = in_locals(within, &block.locals, found);
-    in_stmts(within, &block.stmts, found)
+    let found = in_locals(alloc, within, &block.locals, found)?;
+    in_stmts(alloc, within, &block.stmts, found)
 }
 
 #[cycle(in_block)]
 #[tactic(auto, using(crate::proofs::Walks::walks))]
-fn in_locals(within: Within, locals: &[Local], found: Option<CheckFault>) -> Option<CheckFault>
-    ensures { result ≡ first_among found (locals_faults within (locals_of locals.now)) }
+fn in_locals(
+    alloc: Global,
+    within: Within,
+    locals: &[Local],
+    found: Option<CheckFault>,
+) -> Result<Option<CheckFault>, Memory>
+    ensures { IfOk result (λ f. f ≡ first_among found (locals_faults within (locals_of locals.now))) }
 {
     let mut found = found;
     for local in locals {
         found = at_local(within, local, found);
-        found = inside_local(local, found);
+        found = inside_local(alloc, local, found)?;
     }
-    found
+    Ok(found)
 }
 
 #[cycle(in_block)]
 #[tactic(auto, using(crate::proofs::Walks::walks))]
-fn inside_local(local: &Local, found: Option<CheckFault>) -> Option<CheckFault>
-    ensures { result ≡ first_among found (inside_local local.now) }
+fn inside_local(
+    alloc: Global,
+    local: &Local,
+    found: Option<CheckFault>,
+) -> Result<Option<CheckFault>, Memory>
+    ensures { IfOk result (λ f. f ≡ first_among found (inside_local local.now)) }
 {
     match &local.node {
-        LocalNode::Decl(_) => found,
-        LocalNode::Inlet(inlet) => in_block(Within::whole_body(Owner::Inlet), &inlet.body, found),
+        LocalNode::Decl(_) => Ok(found),
+        LocalNode::Inlet(inlet) => in_block(
+            alloc,
+            Within::whole_body(Owner::Inlet),
+            &inlet.body,
+            found,
+        ),
     }
 }
 
 #[cycle(in_block)]
 #[tactic(auto, using(crate::proofs::Walks::walks))]
-fn in_stmts(within: Within, stmts: &[Stmt], found: Option<CheckFault>) -> Option<CheckFault>
-    ensures { result ≡ first_among found (stmts_faults within (stmts_of stmts.now)) }
+fn in_stmts(
+    alloc: Global,
+    within: Within,
+    stmts: &[Stmt],
+    found: Option<CheckFault>,
+) -> Result<Option<CheckFault>, Memory>
+    ensures { IfOk result (λ f. f ≡ first_among found (stmts_faults within (stmts_of stmts.now))) }
 {
     let mut found = found;
     for stmt in stmts {
-        found = at_stmt(within, stmt, found);
-        found = inside_stmt(within, stmt, found);
+        found = at_stmt(alloc, within, stmt, found)?;
+        found = inside_stmt(alloc, within, stmt, found)?;
     }
-    found
+    Ok(found)
 }
 
 #[cycle(in_block)]
 #[tactic(auto, using(crate::proofs::Walks::walks))]
-fn inside_stmt(within: Within, stmt: &Stmt, found: Option<CheckFault>) -> Option<CheckFault>
-    ensures { result ≡ first_among found (inside_stmt within stmt.now) }
+fn inside_stmt(
+    alloc: Global,
+    within: Within,
+    stmt: &Stmt,
+    found: Option<CheckFault>,
+) -> Result<Option<CheckFault>, Memory>
+    ensures { IfOk result (λ f. f ≡ first_among found (inside_stmt within stmt.now)) }
 {
     match &stmt.node {
         StmtNode::If(_, body, other) => {
-            let found = in_block(within.inner_block(), body, found);
+            let found = in_block(alloc, within.inner_block(), body, found)?;
             match other {
-                None => found,
-                Some(other) => in_block(within.inner_block(), other, found),
+                None => Ok(found),
+                Some(other) => in_block(alloc, within.inner_block(), other, found),
             }
         }
         StmtNode::While(_, body) | StmtNode::Do(body, _) | StmtNode::For(_, _, _, body) => {
-            in_block(within.loop_block(), body, found)
+            in_block(alloc, within.loop_block(), body, found)
         }
-        StmtNode::Nested(inside) => in_block(within.inner_block(), inside, found),
+        StmtNode::Switch(_, body) => in_block(alloc, within.switch_block(), body, found),
+        StmtNode::Nested(inside) => in_block(alloc, within.inner_block(), inside, found),
         StmtNode::Move(_)
         | StmtNode::Spawn(_, _, _, _)
         | StmtNode::Print(_, _)
@@ -91,7 +121,8 @@ fn inside_stmt(within: Within, stmt: &Stmt, found: Option<CheckFault>) -> Option
         | StmtNode::Abort(_)
         | StmtNode::Break(_)
         | StmtNode::Continue(_)
-        | StmtNode::Return(_, _) => found,
+        | StmtNode::Return(_, _)
+        | StmtNode::Labelled(_) => Ok(found),
     }
 }
 
@@ -108,24 +139,45 @@ fn at_local(within: Within, local: &Local, found: Option<CheckFault>) -> Option<
 
 // A statement itself, without the blocks inside it.
 #[tactic(auto, using(crate::proofs::Walks::walks), unfolding(crate::specs::Finds::part_faults))]
-fn at_stmt(within: Within, stmt: &Stmt, found: Option<CheckFault>) -> Option<CheckFault>
-    ensures { result ≡ first_among found (part_faults within (parts.statement stmt.now)) }
+fn at_stmt(
+    alloc: Global,
+    within: Within,
+    stmt: &Stmt,
+    found: Option<CheckFault>,
+) -> Result<Option<CheckFault>, Memory>
+    ensures { IfOk result (λ f. f ≡ first_among found (part_faults within (parts.statement stmt.now))) }
 {
     let owner = within.owner;
-    match &stmt.node {
+    Ok(match &stmt.node {
         StmtNode::Move(what) => in_move(owner, what, found),
         StmtNode::Spawn(at, taker, _, arguments) => at_spawn(owner, *at, taker, arguments, found),
         StmtNode::Print(format, arguments) => at_print(owner, format, arguments, found),
         StmtNode::Sync(at) => at_word(owner, *at, found),
         StmtNode::Abort(at) => first_if(found, !is_inlet(owner), CheckFault::AbortOutside(*at)),
-        StmtNode::Break(at) | StmtNode::Continue(at) => {
-            first_if(found, !within.in_loop, CheckFault::NoLoop(*at))
-        }
+        StmtNode::Break(at) => first_if(found, !within.in_loop_or_switch, CheckFault::NoLoop(*at)),
+        StmtNode::Continue(at) => first_if(found, !within.in_loop, CheckFault::NoLoop(*at)),
         StmtNode::Return(at, value) => at_return(owner, *at, value, found),
         StmtNode::If(test, _, _) | StmtNode::While(test, _) | StmtNode::Do(_, test) => {
             in_expr(owner, test, found)
         }
         StmtNode::For(first, test, advance, _) => at_header(owner, first, test, advance, found),
-        StmtNode::Locking(_, _) | StmtNode::Null | StmtNode::Nested(_) => found,
-    }
+        StmtNode::Switch(test, body) => at_switch(alloc, owner, test, body, found)?,
+        StmtNode::Locking(_, _) | StmtNode::Null | StmtNode::Labelled(_) | StmtNode::Nested(_) =>
+            found,
+    })
+}
+
+// The labels of a `switch`, and its test.
+#[tactic(auto, using(crate::proofs::Walks::walks))]
+fn at_switch(
+    alloc: Global,
+    owner: Owner,
+    test: &Expr,
+    body: &Block,
+    found: Option<CheckFault>,
+) -> Result<Option<CheckFault>, Memory>
+    ensures { IfOk result (λ f. f ≡ first_among found (labels_faults nothing_said (labels_of body.now) ++ expr_faults owner test.now)) }
+{
+    let found = at_labels(alloc, &body.stmts, found)?;
+    Ok(in_expr(owner, test, found))
 }

@@ -5,7 +5,8 @@ use Rattle.std.proofs.lemmas.List.Concat.{flat_map-append}
 use Rattle.cilk_check_scopes.specs.syntax.Tree as tree
 use Rattle.cilk_check_scopes.specs.declared.fault.CheckFault.{CheckFault}
 use Rattle.cilk_check_scopes.specs.Scopes.{Scopes, declare, parameter, local_declares}
-use Rattle.cilk_check_scopes.specs.Parts.{Around, Part, PartInContext, local, statement, inner, looped, after_local, after_locals, in_inlet, block_parts}
+use Rattle.cilk_check_scopes.specs.Parts.{Around, Part, PartInContext, local, statement, inner, looped, switched, after_local, after_locals, in_inlet}
+use Rattle.cilk_check_scopes.specs.Parts.{block_parts}
 use Rattle.cilk_check_scopes.specs.Parts.{locals_parts, within_local, stmts_parts, within_stmt}
 use Rattle.cilk_check_names.specs.Finds.{part_faults, scope_faults, behind_locals, block_faults, locals_faults, inside_local, stmts_faults, inside_stmt}
 
@@ -66,5 +67,6 @@ mutual
   stmt_is a (tree.while test body) = block_is (looped a) body
   stmt_is a (tree.repeat body test) = block_is (looped a) body
   stmt_is a (tree.loop first test advance body) = block_is (looped a) body
+  stmt_is a (tree.switch test body) = block_is (switched a) body
   stmt_is a (tree.nested inside) = block_is (inner a) inside
   stmt_is a other = refl

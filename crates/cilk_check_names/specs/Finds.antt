@@ -168,6 +168,7 @@ abbrev mutual
   inside_stmt scopes (tree.while test body) = block_faults (enter scopes) body
   inside_stmt scopes (tree.repeat body test) = block_faults (enter scopes) body
   inside_stmt scopes (tree.loop first test advance body) = block_faults (enter scopes) body
+  inside_stmt scopes (tree.switch test body) = block_faults (enter scopes) body
   inside_stmt scopes (tree.nested inside) = block_faults (enter scopes) inside
   inside_stmt scopes other = []
 

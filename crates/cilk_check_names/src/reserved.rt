@@ -16,10 +16,8 @@ fn is_keyword_of_c(name: &str) -> bool
 {
     match name {
         "auto"
-        | "case"
         | "char"
         | "const"
-        | "default"
         | "double"
         | "enum"
         | "extern"
@@ -32,7 +30,6 @@ fn is_keyword_of_c(name: &str) -> bool
         | "sizeof"
         | "static"
         | "struct"
-        | "switch"
         | "typedef"
         | "union"
         | "unsigned"

@@ -52,6 +52,8 @@ fn at_own_names(names: &SymbolTable, stmt: &Stmt, found: Option<CheckFault>) -> 
         | StmtNode::If(_, _, _)
         | StmtNode::While(_, _)
         | StmtNode::Do(_, _)
+        | StmtNode::Switch(_, _)
+        | StmtNode::Labelled(_)
         | StmtNode::Nested(_) => found,
     }
 }
@@ -65,9 +67,10 @@ fn in_own_exprs(names: &SymbolTable, stmt: &Stmt, found: Option<CheckFault>) -> 
         StmtNode::Spawn(_, taker, _, arguments) => in_spawn(names, taker, arguments, found),
         StmtNode::Print(_, arguments) => in_exprs(names, arguments, found),
         StmtNode::Return(_, value) => in_value(names, value, found),
-        StmtNode::If(test, _, _) | StmtNode::While(test, _) | StmtNode::Do(_, test) => {
-            in_expr(names, test, found)
-        }
+        StmtNode::If(test, _, _)
+        | StmtNode::While(test, _)
+        | StmtNode::Do(_, test)
+        | StmtNode::Switch(test, _) => in_expr(names, test, found),
         StmtNode::For(first, test, advance, _) => in_header(names, first, test, advance, found),
         StmtNode::Locking(_, _)
         | StmtNode::Null
@@ -75,6 +78,7 @@ fn in_own_exprs(names: &SymbolTable, stmt: &Stmt, found: Option<CheckFault>) -> 
         | StmtNode::Abort(_)
         | StmtNode::Break(_)
         | StmtNode::Continue(_)
+        | StmtNode::Labelled(_)
         | StmtNode::Nested(_) => found,
     }
 }

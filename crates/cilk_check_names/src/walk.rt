@@ -214,9 +214,10 @@ fn inside_stmt<'a>(
                 Some(other) => in_inner_block(names, other, found),
             }
         }
-        StmtNode::While(_, body) | StmtNode::Do(body, _) | StmtNode::For(_, _, _, body) => {
-            in_inner_block(names, body, found)
-        }
+        StmtNode::While(_, body)
+        | StmtNode::Do(body, _)
+        | StmtNode::For(_, _, _, body)
+        | StmtNode::Switch(_, body) => in_inner_block(names, body, found),
         StmtNode::Nested(inside) => in_inner_block(names, inside, found),
         StmtNode::Move(_)
         | StmtNode::Spawn(_, _, _, _)
@@ -227,7 +228,8 @@ fn inside_stmt<'a>(
         | StmtNode::Abort(_)
         | StmtNode::Break(_)
         | StmtNode::Continue(_)
-        | StmtNode::Return(_, _) => Ok(found),
+        | StmtNode::Return(_, _)
+        | StmtNode::Labelled(_) => Ok(found),
     }
 }
 

@@ -4,3 +4,4 @@ pub mod Firsts
 pub mod Steps
 pub mod Splits
 pub mod Told
+pub use Rattle.cilk_tree_syntax.proofs as syntax_laws

@@ -55,6 +55,7 @@ abbrev mutual
   stmt_variables (tree.while test body) = block_variables body
   stmt_variables (tree.repeat body test) = block_variables body
   stmt_variables (tree.loop first test advance body) = block_variables body
+  stmt_variables (tree.switch test body) = block_variables body
   stmt_variables (tree.nested inside) = block_variables inside
   stmt_variables other = []
 

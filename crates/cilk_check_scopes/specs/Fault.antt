@@ -3,7 +3,7 @@ use Rattle.std.specs.Prelude.{◌≡◌, ℕ, ◌≤◌}
 use Rattle.cilk_check_scopes.specs.declared.fault.CheckFault.{CheckFault}
 use Rattle.cilk_check_scopes.specs.declared.fault.CheckFault.TheVariants.{Twice, Unknown, WrongKind, ArgumentCount, VoidValue, NotInProcedure}
 use Rattle.cilk_check_scopes.specs.declared.fault.CheckFault.TheVariants.{InletNeedsSpawn, InInlet, AbortOutside, NoLoop, Prototype, NoMain}
-use Rattle.cilk_check_scopes.specs.declared.fault.CheckFault.TheVariants.{ReturnForm, Format, Limit, Reserved, Memory}
+use Rattle.cilk_check_scopes.specs.declared.fault.CheckFault.TheVariants.{ReturnForm, Format, Limit, Reserved, Label, Memory}
 
 -- in bytes from the beginning of the text
 abbrev pub place_of : CheckFault → ℕ
@@ -23,6 +23,7 @@ place_of (ReturnForm at) = at
 place_of (Format at) = at
 place_of (Limit at) = at
 place_of (Reserved at) = at
+place_of (Label at) = at
 place_of Memory = 0
 
 -- the number of its code
@@ -43,6 +44,7 @@ number_of (ReturnForm at) = 13
 number_of (Format at) = 14
 number_of (Limit at) = 15
 number_of (Reserved at) = 16
+number_of (Label at) = 17
 number_of Memory = 0
 
 -- f stands before g, or at one place with it and has no greater number

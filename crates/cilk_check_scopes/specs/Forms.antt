@@ -1,12 +1,13 @@
 -- What the forms of a program must not be, and what room it must not take.
 use Rattle.std.specs.Prelude.{◌≡◌, ◌≢◌, ℕ, Bool, true, false, IsTrue, IsFalse, ◌≤◌, ◌<◌, List, [], ◌∷◌, ◌++◌, flat_map, length, codes, Contains}
-use Rattle.std.specs.Prelude.{Option, Some, is_some, is_none}
+use Rattle.std.specs.Prelude.{Option, Some, is_some, is_none, slice_get}
 use Rattle.cilk_tree_syntax.specs.declared.return_type.ReturnType.{ReturnType}
 use Rattle.cilk_tree_syntax.specs.declared.return_type.ReturnType.TheVariants.{Int, Void}
 use Rattle.cilk_tree_syntax.specs.Tree.{Word}
 use Rattle.cilk_tree_syntax.specs.Tree as tree
 use Rattle.cilk_check_scopes.specs.declared.fault.CheckFault.{CheckFault}
 use Rattle.cilk_check_scopes.specs.declared.fault.CheckFault.TheVariants.{NotInProcedure, InInlet, AbortOutside, NoLoop, NoMain, ReturnForm, Format, Limit}
+use Rattle.cilk_check_scopes.specs.declared.fault.CheckFault.TheVariants.{Label}
 use Rattle.cilk_check_scopes.specs.declared.owner.Owner.{Owner}
 use Rattle.cilk_check_scopes.specs.declared.owner.Owner.TheVariants as owner
 use Rattle.cilk_check_scopes.specs.declared.declaration_kind.DeclarationKind.TheVariants.{Array}
@@ -36,12 +37,6 @@ own_word other = []
 abbrev pub words_of_children : Part → List ℕ
 words_of_children part = own_word part ++ flat_map synched_in (part_exprs part)
 
--- the place of the word, if a statement is a `break` or a `continue` (C 1990, 6.6.6.2, 6.6.6.3)
-abbrev pub leaves_at : tree.Stmt → List ℕ
-leaves_at (tree.break_at at) = at ∷ []
-leaves_at (tree.continue_at at) = at ∷ []
-leaves_at other = []
-
 -- what a body returns: an inlet nothing
 abbrev pub returned_by : Owner → ReturnType
 returned_by (owner.Function returns) = returns
@@ -58,6 +53,19 @@ abbrev pub is_procedure : Owner → Bool
 is_procedure (owner.Function returns) = false
 is_procedure (owner.Procedure returns) = true
 is_procedure owner.Inlet = false
+
+-- the label, if a statement is one
+abbrev pub own_label : tree.Stmt → List tree.Label
+own_label (tree.labelled label) = label ∷ []
+own_label other = []
+
+abbrev pub stmts_labels : tree.Stmts → List tree.Label
+stmts_labels tree.none = []
+stmts_labels (tree.also first others) = own_label first ++ stmts_labels others
+
+-- the labels that stand directly in the block of a `switch`, in the order of the text (C 1990, 6.6.4.2)
+abbrev pub labels_of : tree.Block → List tree.Label
+labels_of (tree.block _ stmts) = stmts_labels stmts
 
 -- no parameters, or those of the form that is told of the command line (C 1990, 5.1.2.2.1)
 abbrev pub are_of_main : tree.Parameters → Bool
@@ -95,9 +103,12 @@ pub data Faulty (p : tree.Program) : CheckFault → Type 0 where
   -- `abort` in no inlet (Cilk 5.4 manual, `abort`)
   abort_outside : (a : Around) (at : ℕ) → Contains (parts_of p) (record { around = a; part = statement (tree.abort_at at) })
       → a.within.owner ≢ owner.Inlet → Faulty p (AbortOutside at)
-  -- `break` or `continue` in no loop of its body (C 1990, 6.6.6.2, 6.6.6.3)
-  no_loop : (a : Around) (s : tree.Stmt) (at : ℕ) → Contains (parts_of p) (record { around = a; part = statement s })
-      → IsFalse a.within.in_loop → Contains (leaves_at s) at → Faulty p (NoLoop at)
+  -- `break` in no loop or `switch` of its body (C 1990, 6.6.6.3)
+  break_outside : (a : Around) (at : ℕ) → Contains (parts_of p) (record { around = a; part = statement (tree.break_at at) })
+      → IsFalse a.within.in_loop_or_switch → Faulty p (NoLoop at)
+  -- `continue` in no loop of its body (C 1990, 6.6.6.2)
+  continue_outside : (a : Around) (at : ℕ) → Contains (parts_of p) (record { around = a; part = statement (tree.continue_at at) })
+      → IsFalse a.within.in_loop → Faulty p (NoLoop at)
   -- no procedure of the program is one to start with
   no_main : ((f : tree.Proc) → Contains p.items (tree.procedure f) → ¬ IsMain f) → Faulty p (NoMain p.length)
   -- a `return` with a value in a `void` body, or without one in an `int` body (C 1990, 6.6.6.4)
@@ -117,3 +128,8 @@ pub data Faulty (p : tree.Program) : CheckFault → Type 0 where
   -- the one that passes the cells of the top level
   global_limit : (before after : List Declared) (d : Declared) → file_declares p.items ≡ before ++ d ∷ after
       → Passes max_global_cells before d → Faulty p (Limit d.name.place)
+  -- a label that says what one before it says in the same `switch`: the same value, or both of them `default` (C 1990, 6.6.4.2)
+  same_label : (a : Around) (test : tree.Expr) (body : tree.Block) (i k : ℕ) (first second : tree.Label)
+      → Contains (parts_of p) (record { around = a; part = statement (tree.switch test body) })
+      → slice_get (labels_of body) i ≡ Some first → slice_get (labels_of body) k ≡ Some second → i < k
+      → first.value ≡ second.value → Faulty p (Label second.at)

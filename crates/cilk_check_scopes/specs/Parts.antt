@@ -6,7 +6,7 @@ use Rattle.cilk_tree_syntax.specs.Tree as tree
 use Rattle.cilk_check_scopes.specs.declared.owner.Owner.{Owner}
 use Rattle.cilk_check_scopes.specs.declared.owner.Owner.TheVariants.{Function, Procedure, Inlet}
 use Rattle.cilk_check_scopes.specs.declared.within.Within.{Within}
-use Rattle.cilk_check_scopes.specs.Within.{whole_body, inner_block, loop_block}
+use Rattle.cilk_check_scopes.specs.Within.{whole_body, inner_block, loop_block, switch_block}
 use Rattle.cilk_check_scopes.specs.Scopes.{Declared, Scopes, declare, enter, declare_all, parameter, parameters_declare, local_declares, file_scopes}
 
 -- what is visible at a part, and where in a body it stands
@@ -33,6 +33,10 @@ inner a = record { scopes = enter a.scopes; within = inner_block a.within }
 -- of the block of a loop (C 1990, 6.6.5)
 abbrev pub looped : Around → Around
 looped a = record { scopes = enter a.scopes; within = loop_block a.within }
+
+-- of the block of a `switch` (C 1990, 6.6.4.2)
+abbrev pub switched : Around → Around
+switched a = record { scopes = enter a.scopes; within = switch_block a.within }
 
 -- of what stands behind a declaration: a name is visible from its declarator on
 abbrev pub after_local : Around → tree.Local → Around
@@ -77,6 +81,7 @@ abbrev mutual
   within_stmt a (tree.while test body) = block_parts (looped a) body
   within_stmt a (tree.repeat body test) = block_parts (looped a) body
   within_stmt a (tree.loop first test advance body) = block_parts (looped a) body
+  within_stmt a (tree.switch test body) = block_parts (switched a) body
   within_stmt a (tree.nested inside) = block_parts (inner a) inside
   within_stmt a other = []
 
@@ -128,6 +133,7 @@ stmt_exprs (tree.either test body other) = test ∷ []
 stmt_exprs (tree.while test body) = test ∷ []
 stmt_exprs (tree.repeat body test) = test ∷ []
 stmt_exprs (tree.loop first test advance body) = moves_exprs first ++ test ∷ moves_exprs advance
+stmt_exprs (tree.switch test body) = test ∷ []
 stmt_exprs other = []
 
 abbrev pub shape_exprs : tree.Shape → List tree.Expr

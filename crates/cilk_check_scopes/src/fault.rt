@@ -1,4 +1,4 @@
-//! The faults of the check, C1 to C16, with the place and the number of each.
+//! The faults of the check, C1 to C17, with the place and the number of each.
 
 ghost use Rattle.std.specs.Prelude.{◌≡◌};
 ghost use Rattle.cilk_check_scopes.specs.declared.fault.CheckFault.TheVariants.{Memory};
@@ -38,7 +38,7 @@ pub enum CheckFault {
     /// `abort` outside an inlet; the place is the word's.
     #[error("C9 AbortOutside")]
     AbortOutside(u32),
-    /// `break` or `continue` in no loop of its body; the place is the word's.
+    /// `break` in no loop or `switch` of its body, or `continue` in no loop of it; the place is the word's.
     #[error("C10 NoLoop")]
     NoLoop(u32),
     /// Nothing defines what a prototype declares; the place is the prototype's name.
@@ -61,6 +61,9 @@ pub enum CheckFault {
     /// A reserved name is declared or used.
     #[error("C16 Reserved")]
     Reserved(u32),
+    /// A `switch` has a second label with one value, or a second `default`; the place is the word's.
+    #[error("C17 Label")]
+    Label(u32),
     /// Memory has run out.
     #[error("out of memory")]
     Memory,
@@ -89,7 +92,8 @@ impl CheckFault {
             | CheckFault::ReturnForm(at)
             | CheckFault::Format(at)
             | CheckFault::Limit(at)
-            | CheckFault::Reserved(at) => *at,
+            | CheckFault::Reserved(at)
+            | CheckFault::Label(at) => *at,
             CheckFault::Memory => 0,
         }
     }
@@ -115,6 +119,7 @@ impl CheckFault {
             CheckFault::Format(_) => 14,
             CheckFault::Limit(_) => 15,
             CheckFault::Reserved(_) => 16,
+            CheckFault::Label(_) => 17,
             CheckFault::Memory => 0,
         }
     }

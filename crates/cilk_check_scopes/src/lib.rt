@@ -10,9 +10,9 @@ mod role;
 mod within;
 
 pub use cilk_tree_syntax::{
-    BinOp, Block, Decl, Expr, ExprNode, GlobalShape, Inlet, Item, ItemNode, LexFault, Literal,
-    Local, LocalNode, LockAction, Memory, Move, MoveNode, Parameters, Place, Proc, Program,
-    Prototype, ReturnType, Shape, Stmt, StmtNode, Taker, Target, Word,
+    BinOp, Block, Decl, Expr, ExprNode, Global, GlobalShape, Inlet, Item, ItemNode, Label,
+    LexFault, Literal, Local, LocalNode, LockAction, Memory, Move, MoveNode, Parameters, Place,
+    Proc, Program, Prototype, ReturnType, Shape, Stmt, StmtNode, Taker, Target, UnOp, Word,
 };
 pub use declaration_kind::DeclarationKind;
 pub use fault::CheckFault;

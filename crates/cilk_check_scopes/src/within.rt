@@ -1,7 +1,7 @@
-//! What surrounds a part of a program: whose body, and whether a loop or an inner block of it.
+//! What surrounds a part of a program: whose body, and whether a loop, a `switch` or an inner block of it.
 
 ghost use Rattle.std.specs.Prelude.{◌≡◌};
-ghost use Rattle.cilk_check_scopes.specs.Within.{whole_body, inner_block, loop_block};
+ghost use Rattle.cilk_check_scopes.specs.Within.{whole_body, inner_block, loop_block, switch_block};
 
 use crate::owner::Owner;
 
@@ -11,6 +11,8 @@ pub struct Within {
     pub owner: Owner,
     /// In a loop of that body.
     pub in_loop: bool,
+    /// In a loop or a `switch` of that body.
+    pub in_loop_or_switch: bool,
     /// Directly in the outermost block of that body.
     pub outermost: bool,
 }
@@ -23,6 +25,7 @@ impl Within {
         Within {
             owner,
             in_loop: false,
+            in_loop_or_switch: false,
             outermost: true,
         }
     }
@@ -44,6 +47,19 @@ impl Within {
         Within {
             owner: self.owner,
             in_loop: true,
+            in_loop_or_switch: true,
+            outermost: false,
+        }
+    }
+
+    /// In the block of a `switch` (C 1990, 6.6.4.2).
+    pub fn switch_block(self) -> Within
+        ensures { result ≡ switch_block self }
+    {
+        Within {
+            owner: self.owner,
+            in_loop: self.in_loop,
+            in_loop_or_switch: true,
             outermost: false,
         }
     }

@@ -12,7 +12,7 @@ pub use Rattle.cilk_check.specs.syntax.Tree
 pub use Rattle.cilk_check_explain.specs.Lines
 pub use Rattle.cilk_check_explain.specs.lex
 pub use Rattle.cilk_load.specs.Front
-pub use Rattle.cilk_load.specs.canonical.ProgramText
+pub use Rattle.cilk_load.specs.syntax.ProgramText
 pub use Rattle.cilk_load.specs.labelled
 pub use Rattle.cilk_load.specs.labelled.Count
 pub use Rattle.cilk_parse.specs.Text

@@ -52,6 +52,7 @@ check_words (check.ReturnForm at) = codes "C13 ReturnForm"
 check_words (check.Format at) = codes "C14 Format"
 check_words (check.Limit at) = codes "C15 Limit"
 check_words (check.Reserved at) = codes "C16 Reserved"
+check_words (check.Label at) = codes "C17 Label"
 check_words check.Memory = codes "out of memory"
 
 abbrev pub words_of : Fault → List ℕ

@@ -87,6 +87,7 @@ fn check_words(fault: &CheckFault) -> &'static str
         CheckFault::Format(_) => "C14 Format",
         CheckFault::Limit(_) => "C15 Limit",
         CheckFault::Reserved(_) => "C16 Reserved",
+        CheckFault::Label(_) => "C17 Label",
         CheckFault::Memory => "out of memory",
     }
 }

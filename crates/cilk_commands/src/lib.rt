@@ -24,6 +24,6 @@ pub use fault::Fault;
 pub use loading::ready_of;
 pub use print::print_text;
 pub use program::program_of;
-pub use source::{read_all, read_text};
+pub use source::{RECORD_LIMIT, read_record, read_text};
 pub use status::Status;
 pub use telling::tell_of;

@@ -1,3 +1,4 @@
+mod Naming
 pub mod Ranges
 pub mod Seen
 pub mod Sound

@@ -3,10 +3,11 @@ use Rattle.std.specs.Prelude.{◌≡◌, ◌<◌, ◌≤◌, ◌⊎◌, ℕ, len
 use Rattle.cilk_machine.specs.labelled.Count.{count_program}
 use Rattle.cilk_debug.specs.Debugging.{Debugging}
 use Rattle.cilk_debug.specs.declared.fault.DebugFault.{DebugFault}
-use Rattle.cilk_debug.specs.declared.fault.DebugFault.TheVariants.{Workers, BadChoice, AtEnd, AtStart, NoStatement, OutOfRange, Memory}
+use Rattle.cilk_debug.specs.declared.fault.DebugFault.TheVariants.{OtherProgram, Workers, BadChoice, AtEnd, AtStart, NoStatement, OutOfRange, Memory}
 
 -- forwards: all choices were made, or else memory ran out
 abbrev pub StaysBehind : Debugging → DebugFault → Type 0
+StaysBehind d OtherProgram = ⊥
 StaysBehind d Workers = ⊥
 StaysBehind d (BadChoice k refusal) = ⊥
 StaysBehind d AtEnd = d.position ≡ length d.tape.choices
@@ -17,6 +18,7 @@ StaysBehind d Memory = d.position < length d.tape.choices
 
 -- backwards: none was made
 abbrev pub StaysAhead : Debugging → DebugFault → Type 0
+StaysAhead d OtherProgram = ⊥
 StaysAhead d Workers = ⊥
 StaysAhead d (BadChoice k refusal) = ⊥
 StaysAhead d AtEnd = ⊥
@@ -27,6 +29,7 @@ StaysAhead d Memory = 0 < d.position
 
 -- to position k: there are fewer choices
 abbrev pub StaysFrom : Debugging → ℕ → DebugFault → Type 0
+StaysFrom d k OtherProgram = ⊥
 StaysFrom d k Workers = ⊥
 StaysFrom d k (BadChoice j refusal) = ⊥
 StaysFrom d k AtEnd = ⊥
@@ -37,6 +40,7 @@ StaysFrom d k Memory = k ≤ length d.tape.choices
 
 -- n is no action of the program
 abbrev pub HasNo : Debugging → ℕ → DebugFault → Type 0
+HasNo d n OtherProgram = ⊥
 HasNo d n Workers = ⊥
 HasNo d n (BadChoice k refusal) = ⊥
 HasNo d n AtEnd = ⊥

@@ -1,12 +1,14 @@
 -- Why choices cannot be made again.
-use Rattle.std.specs.Prelude.{◌≡◌, ℕ, suc, ⊤, false, Some}
+use Rattle.std.specs.Prelude.{◌≡◌, ℕ, suc, ⊤, List, Option, Some, true, false}
+use Rattle.cilk_debug_console.specs.syntax.ProgramText.{program_text}
+use Rattle.cilk_debug_console.specs.log.Naming.{is_of}
 use Rattle.cilk_debug_console.specs.model.Choice.{Refusal}
 use Rattle.cilk_debug_console.specs.model.Run.{is_crew}
 use Rattle.cilk_debug_console.specs.choices.declared.refusal.Refusal as code
 use Rattle.cilk_debug_console.specs.choices.Words.{reason_of}
 use Rattle.cilk_debug.specs.Tape.{Tape, IsBad}
 use Rattle.cilk_debug.specs.declared.replay_fault.ReplayFault.{ReplayFault}
-use Rattle.cilk_debug.specs.declared.replay_fault.ReplayFault.TheVariants.{Workers, BadChoice, Memory}
+use Rattle.cilk_debug.specs.declared.replay_fault.ReplayFault.TheVariants.{OtherProgram, Workers, BadChoice, Memory}
 
 -- the choice of number k, counted from 1, is the first that is not possible, and this is why
 pub record IsFirst (t : Tape) (k : ℕ) (refusal : code.Refusal) : Type 0 where
@@ -18,6 +20,14 @@ pub record IsFirst (t : Tape) (k : ℕ) (refusal : code.Refusal) : Type 0 where
 
 -- memory may always run out
 abbrev pub IsFaultOf : Tape → ReplayFault → Type 0
+IsFaultOf t OtherProgram = ⊥
 IsFaultOf t Workers = is_crew t.workers ≡ false
 IsFaultOf t (BadChoice k refusal) = IsFirst t k refusal
 IsFaultOf t Memory = ⊤
+
+-- of a schedule which may name its program: it is of another, or else that holds
+abbrev pub IsNamedFaultOf : Option (List ℕ) → Tape → ReplayFault → Type 0
+IsNamedFaultOf named t OtherProgram = is_of named (program_text t.program) ≡ false
+IsNamedFaultOf named t Workers = (is_of named (program_text t.program) ≡ true) × (is_crew t.workers ≡ false)
+IsNamedFaultOf named t (BadChoice k refusal) = (is_of named (program_text t.program) ≡ true) × IsFirst t k refusal
+IsNamedFaultOf named t Memory = ⊤

@@ -1,17 +1,20 @@
 //! A recorded schedule with a position in it: moves to other positions, breakpoints, and views from there.
 
-ghost use Rattle.std.specs.Prelude.{◌≡◌, ◌≤◌, ◌<◌, ◌+◌, ℕ, ◌-◌, IfOk, IfErr, OnOk, OnErr, IfSome, length, replicate, slice_set, true, false, Err};
+ghost use Rattle.std.specs.Prelude.{◌≡◌, ◌≤◌, ◌<◌, ◌+◌, ℕ, ◌-◌, IfOk, IfErr, OnOk, OnErr, IfSome, length, replicate, slice_set, true, false, None, Err};
 ghost use Rattle.std.specs.Prelude.{◌++◌, string_bytes, List};
 ghost use Rattle.cilk_machine.specs.labelled.Count.{count_program};
+ghost use Rattle.cilk_debug_console.specs.syntax.ProgramText.{program_text};
+ghost use Rattle.cilk_debug_console.specs.log.Naming.{is_of};
 ghost use Rattle.cilk_debug_console.specs.model.Run.{is_crew};
 ghost use Rattle.cilk_debug.specs.Tape.{tape_of, IsAt, IsPlayable};
-ghost use Rattle.cilk_debug.specs.Faults.{IsFaultOf};
+ghost use Rattle.cilk_debug.specs.Faults.{IsFaultOf, IsNamedFaultOf};
 ghost use Rattle.cilk_debug.specs.Moves.{StaysBehind, StaysAhead, StaysFrom, HasNo};
 ghost use Rattle.cilk_debug_console.specs.view.Words.{what_of};
 ghost use Rattle.cilk_debug.specs.Seeing.{seen_at, line_behind};
 ghost use Rattle.cilk_debug.specs.Seeking.{forward_position, is_any_ahead, back_position, is_any_behind, last_among};
 
 use crate::fault::DebugFault;
+use crate::playing::is_other;
 use crate::position::put_position;
 use crate::seeking::{last_met, run_on};
 use crate::{ReplayFault, is_crew, make_again, play};
@@ -79,9 +82,34 @@ impl Debugger {
         self.log.choices.len() as u64
     }
 
-    /// Before any choice of a recorded schedule, all of which are possible. The number of workers is
-    /// looked at before any memory is asked for.
+    /// Before any choice of a recorded schedule of the program, all of which are possible. Whether it is of another program is looked at
+    /// first, and then the number of workers: before any memory is asked for, where the schedule tells no program.
     pub fn new(alloc: Global, program: Loaded, log: Log) -> Result<Debugger, DebugFault>
+        ensures own { IfOk result (λ _. is_of log.program (program_text program) ≡ true) }
+        ensures tape { IfOk result (λ d. d.tape ≡ tape_of program log.workers log.choices) }
+        ensures start { IfOk result (λ d. d.position ≡ 0) }
+        ensures marks { IfOk result (λ d. d.marks ≡ replicate (count_program program) false) }
+        ensures whole { IfOk result (λ d. IsPlayable d.tape) }
+        ensures told { IfErr result (IsNamedFaultOf log.program (tape_of program log.workers log.choices)) }
+        ensures crew { log.program ≡ None → is_crew log.workers ≡ false → result ≡ Err DebugFault.Workers }
+    {
+        match is_other(&program, &log) {
+            Err(_) => {
+                drop(program);
+                drop(log);
+                Err(DebugFault::Memory)
+            }
+            Ok(true) => {
+                drop(program);
+                drop(log);
+                Err(DebugFault::OtherProgram)
+            }
+            Ok(false) => Debugger::begin(alloc, program, log),
+        }
+    }
+
+    // The same, where it is of no other program.
+    fn begin(alloc: Global, program: Loaded, log: Log) -> Result<Debugger, DebugFault>
         ensures tape { IfOk result (λ d. d.tape ≡ tape_of program log.workers log.choices) }
         ensures start { IfOk result (λ d. d.position ≡ 0) }
         ensures marks { IfOk result (λ d. d.marks ≡ replicate (count_program program) false) }
@@ -347,6 +375,7 @@ fn played(alloc: Global, program: &Loaded, log: &Log, count: usize) -> Result<Ma
         Err(_) => Err(DebugFault::Memory),
         Ok(copy) => match play(alloc, copy, log.workers, log.choices.as_slice(), count) {
             Ok(machine) => Ok(machine),
+            Err(ReplayFault::OtherProgram) => Err(DebugFault::OtherProgram),
             Err(ReplayFault::Workers) => Err(DebugFault::Workers),
             Err(ReplayFault::BadChoice(k, why)) => Err(DebugFault::BadChoice(k, why)),
             Err(ReplayFault::Memory) => Err(DebugFault::Memory),

@@ -6,6 +6,9 @@ use thiserror::Error;
 /// Why a debugger does not do what it is told.
 #[derive(Debug, Drop, Error)]
 pub enum DebugFault {
+    /// The schedule tells that it is of another program.
+    #[error("G5 OtherProgram")]
+    OtherProgram,
     /// The number of workers is not one of 1 to 64.
     #[error("B0 Workers")]
     Workers,

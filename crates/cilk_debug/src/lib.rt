@@ -18,5 +18,5 @@ pub use cilk_machine::{ViewFault, What};
 pub use debugger::Debugger;
 pub use ending::SessionFault;
 pub use fault::DebugFault;
-pub use playing::{is_crew, make_again, play};
+pub use playing::{is_crew, make_again, play, play_all};
 pub use replay_fault::ReplayFault;

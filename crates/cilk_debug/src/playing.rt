@@ -1,17 +1,21 @@
 //! The first choices of a schedule, made again from the start of a program.
 
-ghost use Rattle.std.specs.Prelude.{List, ◌≡◌, ◌≤◌, ◌<◌, ◌-◌, ◌^◌, ℕ, suc, false, IfOk, IfErr, OnOk, OnErr, length, Some, Err, slice_get, map, option_copied};
+ghost use Rattle.std.specs.Prelude.{List, ◌≡◌, ◌≤◌, ◌<◌, ◌-◌, ◌^◌, ℕ, suc, not, true, false, IfOk, IfErr, OnOk, OnErr, length, Some, None, Ok, Err};
+ghost use Rattle.std.specs.Prelude.{slice_get, map};
+ghost use Rattle.std.specs.Prelude.{option_copied};
+ghost use Rattle.cilk_debug_console.specs.syntax.ProgramText.{program_text};
+ghost use Rattle.cilk_debug_console.specs.log.Naming.{is_of};
 ghost use Rattle.cilk_debug_console.specs.model.Choice as model;
 ghost use Rattle.cilk_debug_console.specs.model.Run.{is_crew};
 ghost use Rattle.cilk_debug_console.specs.choices.Words.{choice_of, reason_of};
 ghost use Rattle.cilk_machine.specs.spawn.Nodes.{path_at};
 ghost use Rattle.cilk_machine.specs.carries.Words.{event_by};
 ghost use Rattle.cilk_debug.specs.Tape.{Tape, tape_of, did_at, IsAt, IsBad};
-ghost use Rattle.cilk_debug.specs.ReplayFaults.{IsFaultOf};
+ghost use Rattle.cilk_debug.specs.ReplayFaults.{IsFaultOf, IsNamedFaultOf};
 
 use crate::replay_fault::ReplayFault;
-use cilk_debug_console::Loaded;
-use cilk_machine::{Choice, Did, Machine, MachineFault, Refusal};
+use cilk_debug_console::{Loaded, Log};
+use cilk_machine::{Choice, Did, Machine, MachineFault, Memory, Refusal};
 use std::alloc::Global;
 
 /// Whether a program may have so many workers: 1 to 64.
@@ -19,6 +23,43 @@ pub fn is_crew(workers: u8) -> bool
     ensures { result ≡ is_crew workers }
 {
     1 <= workers && workers <= 64
+}
+
+/// Whether a recorded schedule tells that it is of another program than this. One that tells none is looked at without memory.
+pub(crate) fn is_other(program: &Loaded, log: &Log) -> Result<bool, Memory>
+    ensures other { IfOk result (λ other. other ≡ not (is_of log.now.program (program_text program.now))) }
+    ensures unnamed { log.now.program ≡ None → result ≡ Ok false }
+{
+    if log.program.is_none() {
+        return Ok(false);
+    }
+    match program.text() {
+        Err(memory) => Err(memory),
+        Ok(text) => Ok(!log.is_of(text.as_str())),
+    }
+}
+
+/// The program after all choices of a recorded schedule. That this is of another program is told first, and then what `play` tells.
+pub fn play_all(alloc: Global, program: Loaded, log: &Log) -> Result<Machine, ReplayFault>
+    ensures stands { IfOk result (IsAt (tape_of program log.now.workers log.now.choices) (length log.now.choices)) }
+    ensures own { IfOk result (λ _. is_of log.now.program (program_text program) ≡ true) }
+    ensures told { IfErr result (IsNamedFaultOf log.now.program (tape_of program log.now.workers log.now.choices)) }
+    ensures crew { log.now.program ≡ None → is_crew log.now.workers ≡ false → result ≡ Err ReplayFault.Workers }
+{
+    match is_other(&program, log) {
+        Err(_) => {
+            drop(program);
+            Err(ReplayFault::Memory)
+        }
+        Ok(true) => {
+            drop(program);
+            Err(ReplayFault::OtherProgram)
+        }
+        Ok(false) => {
+            let choices = log.choices.as_slice();
+            play(alloc, program, log.workers, choices, choices.len())
+        }
+    }
 }
 
 /// The program after the first `count` of these choices. The number of workers is looked at before

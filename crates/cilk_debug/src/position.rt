@@ -1,6 +1,6 @@
 //! The line that tells where a program stands.
 
-ghost use Rattle.cilk_debug_console.specs.canonical.Appends.{Appends};
+ghost use Rattle.cilk_debug_console.specs.syntax.Appends.{Appends};
 ghost use Rattle.cilk_machine.specs.labelled.Bodies.{label};
 ghost use Rattle.cilk_debug_console.specs.choices.Words.{outcome_of};
 ghost use Rattle.cilk_debug_console.specs.model.Workers.{outcome_text, position_text};

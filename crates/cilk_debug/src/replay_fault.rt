@@ -1,4 +1,4 @@
-//! What is wrong with a schedule that cannot be replayed: its workers or its first bad choice; or want of memory.
+//! What is wrong with a schedule that cannot be replayed: its program, its workers or its first bad choice; or want of memory.
 
 use cilk_machine::Refusal;
 use thiserror::Error;
@@ -6,6 +6,9 @@ use thiserror::Error;
 /// Why choices cannot be made again.
 #[derive(Debug, Drop, Error)]
 pub enum ReplayFault {
+    /// The schedule tells that it is of another program.
+    #[error("G5 OtherProgram")]
+    OtherProgram,
     /// The number of workers is not one of 1 to 64.
     #[error("B0 Workers")]
     Workers,

@@ -7,7 +7,7 @@ pub mod OneByOne
 pub mod Parts
 pub mod Rows
 pub use Rattle.cilk_log.specs as log
-pub use Rattle.cilk_log.specs.canonical
+pub use Rattle.cilk_log.specs.syntax
 pub use Rattle.cilk_log.specs.choices
 pub use Rattle.cilk_view.specs as view
 pub use Rattle.cilk_view.specs.Front

@@ -57,6 +57,8 @@ mutual
   stmt-zero (tree.while value body) = block-zero body
   stmt-zero (tree.repeat body value) = block-zero body
   stmt-zero (tree.loop first value advance body) = block-zero body
+  stmt-zero (tree.switch value body) = block-zero body
+  stmt-zero (tree.labelled label) = tt
   stmt-zero (tree.nested inside) = block-zero inside
 
   stmts-zero : (ss : tree.Stmts) → AllZero (stmts_variables ss)
@@ -192,6 +194,8 @@ mutual
   open-head (labelled.repeat body test) items without h = open-heads body (plain_round test body ∷ items) (plain_round test body ∷ items) refl
   open-head (labelled.loop None test advance body) items without h = refl
   open-head (labelled.loop (Some first) test advance body) items without h = refl
+  open-head (labelled.select test body) items without h = refl
+  open-head (labelled.at_label value) items without h = h
   open-head (labelled.nested inside) items without h = open-heads inside items without h
 
   open-heads : (ss : labelled.Stmts) (items without : Items) → HasHead without → HasHead (open_stmts ss items without)

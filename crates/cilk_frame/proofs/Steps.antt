@@ -1,5 +1,5 @@
 -- What each call makes of a frame that stands for an instance.
-use Rattle.std.proofs.Common.{◌≡◌, ℕ, suc, ℤ, Bool, true, false, not, ◌&&◌, List, [], ◌∷◌, length, map, reverse, Option, Some, None, refl, sym, ap}
+use Rattle.std.proofs.Common.{◌≡◌, ℕ, suc, ℤ, pos, Bool, true, false, not, ◌&&◌, List, [], ◌∷◌, length, map, reverse, Option, Some, None, refl, sym, ap}
 use Rattle.std.proofs.Common.{◌∙◌, subst, arith}
 use Rattle.std.specs.Prelude.{slice_index_or, nat_lt}
 use Rattle.std.proofs.lemmas.Bool.{lt-ltb}
@@ -44,7 +44,7 @@ pub flag-stands : (program : Labelled) (f : Frame) (i : Instance) (b : Bool) →
     → StandsFor program (with_boundary b f) (record i { spawned = b })
 flag-stands program f i b s = record { activations = s.activations; inside = s.inside; flag = refl }
 
-pub jump-stands : (program : Labelled) (f : Frame) (i : Instance) (answer : Bool) (n : ℕ) → StandsFor program f i
+pub jump-stands : (program : Labelled) (f : Frame) (i : Instance) (answer : ℤ) (n : ℕ) → StandsFor program f i
     → number_of (opened (next answer i.top.items)) ≡ Some n
     → StandsFor program (jumped n f) (record i { top = record i.top { items = opened (next answer i.top.items) } })
 jump-stands program f i answer n s e =
@@ -71,7 +71,7 @@ alone-is program f i s = ap (nat_lt 1) (depth-is program f i s) ∙ by_below i.b
     by_below (m ∷ ms) = lt-ltb 1 (suc (suc (length ms))) (omega arith)
 
 -- an action that leaves the values of its body
-pub goes_on-stands : (program : Labelled) (f : Frame) (i : Instance) (answer : Bool) (n : ℕ) → StandsFor program f i
+pub goes_on-stands : (program : Labelled) (f : Frame) (i : Instance) (answer : ℤ) (n : ℕ) → StandsFor program f i
     → number_of (opened (next answer i.top.items)) ≡ Some n
     → StandsFor program (with_boundary (f.boundary && nat_lt 1 (depth f)) (jumped n f)) (gone_on answer i)
 goes_on-stands program f i answer n s e =
@@ -82,11 +82,11 @@ goes_on-stands program f i answer n s e =
 -- one that writes to a cell, once it went on
 pub assign-stands : (program : Labelled) (f : Frame) (i : Instance) (d : Declaration) (k : ℕ) (z : ℤ) (m : ℕ) → StandsFor program f i
     → HasCell program i.top.body d k
-    → number_of (opened (next true i.top.items)) ≡ Some m
+    → number_of (opened (next (pos 1) i.top.items)) ≡ Some m
     → StandsFor program (frame_put (slot_of program i.top.body d) k z (with_boundary (f.boundary && nat_lt 1 (depth f)) (jumped m f)))
-    (put (record { place = d; index = k }) z (gone_on true i))
+    (put (record { place = d; index = k }) z (gone_on (pos 1) i))
 assign-stands program f i d k z m s there e =
-    put-stands program _ (gone_on true i) d k z (goes_on-stands program f i true m s e) there
+    put-stands program _ (gone_on (pos 1) i) d k z (goes_on-stands program f i (pos 1) m s e) there
 
 pub call-stands : (p : Program) (f : Frame) (i : Instance) (b : ℕ) (arguments : List ℤ) (w : Option Await) (r : Option Reached) → StandsFor (label p) f i
     → Takes (body_of p b) arguments

@@ -45,6 +45,10 @@ with_cell i slot z f =
 abbrev pub put_top : ℕ → ℤ → Frame → Frame
 put_top slot z f = with_cell (top_place f) slot z f
 
+-- the same in the activation below the top
+abbrev pub put_below : ℕ → ℤ → Frame → Frame
+put_below slot z f = with_cell (depth f - 2) slot z f
+
 -- the top activation goes on with action n
 abbrev pub jumped : ℕ → Frame → Frame
 jumped n f = with_activation (top_place f) (record (top_of f) { node = n }) f
@@ -55,6 +59,10 @@ with_boundary b f = record f { boundary = b }
 -- the same, as an action is acted: one of the procedure's own clears the flag
 abbrev pub gone_to : ℕ → Frame → Frame
 gone_to n f = with_boundary (f.boundary && nat_lt 1 (depth f)) (jumped n f)
+
+-- the top activation stood at action n, and this was the flag
+abbrev pub stood : ℕ → Bool → Frame → Frame
+stood n b f = with_boundary b (jumped n f)
 
 -- another activation goes on
 abbrev pub entered : Activation → Frame → Frame

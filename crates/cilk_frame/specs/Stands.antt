@@ -1,5 +1,5 @@
 -- The instance that a frame stands for.
-use Rattle.std.specs.Prelude.{◌≡◌, ℕ, ◌<◌, false, Bool, ⊤, List, [], ◌∷◌, map, length, reverse, Option, Some, None}
+use Rattle.std.specs.Prelude.{◌≡◌, ℕ, ◌<◌, ℤ, false, ⊤, List, [], ◌∷◌, map, length, reverse, Option, Some, None}
 use Rattle.cilk_load_nodes.specs.labelled.Term.{Term}
 use Rattle.cilk_load_nodes.specs.eval.declared.slot.Slot.{Slot}
 use Rattle.cilk_load_nodes.specs.labelled.Labelled.{Labelled}
@@ -44,7 +44,7 @@ AwaitsSame program (Some w) (Some r) (b ∷ bodies) = AwaitsAt program b w r
 -- the node is the number of their head, and the cells are the values of the body's declarations
 pub record Activates (program : Labelled) (a : Activation) (m : model.Activation) : Type 0 where
   pub is_there : m.body < length program.bodies
-  pub answers : List Bool
+  pub answers : List ℤ
   pub reached_by : m.items ≡ reached (body_at program m.body) answers
   pub node_is : number_of m.items ≡ Some a.node
   pub cells_are : a.cells ≡ flat m.values

@@ -8,7 +8,7 @@ use cilk_load_nodes::{Body, Memory};
 use std::alloc::Global;
 use std::marker::Model;
 
-/// A body that is being run.
+/// A body that is being run. One that was left may be entered again.
 #[derive(Drop)]
 pub struct Activation {
     node: u32,
@@ -25,7 +25,7 @@ impl Model for Activation {
 }
 
 impl Activation {
-    pub fn start(
+    pub(crate) fn start(
         alloc: Global,
         body: &Body,
         arguments: &[i32],
@@ -44,32 +44,44 @@ impl Activation {
         })
     }
 
-    pub fn node(&self) -> u32
+    /// An equal one.
+    pub(crate) fn copy(&self) -> Result<Activation, Memory>
+        ensures { IfOk result (λ a. a ≡ self.now) }
+    {
+        let alloc = *self.cells.allocator();
+        Ok(Activation {
+            node: self.node,
+            cells: Vec::from_slice(alloc, self.cells.as_slice())?,
+            awaits: self.awaits,
+        })
+    }
+
+    pub(crate) fn node(&self) -> u32
         ensures { result ≡ self.now.node }
     {
         self.node
     }
 
-    pub fn cells(&self) -> &[i32]
+    pub(crate) fn cells(&self) -> &[i32]
         ensures { result.now ≡ self.now.cells }
     {
         self.cells.as_slice()
     }
 
-    pub fn awaits(&self) -> Option<Await>
+    pub(crate) fn awaits(&self) -> Option<Await>
         ensures { result ≡ self.now.awaits }
     {
         self.awaits
     }
 
-    pub fn set_cell(&mut self, slot: u32, value: i32)
+    pub(crate) fn set_cell(&mut self, slot: u32, value: i32)
         requires { slot < length self.old.cells }
         ensures { self.new ≡ record self.old { cells = slice_set self.old.cells slot value } }
     {
         self.cells[slot as usize] = value;
     }
 
-    pub fn jump(&mut self, n: u32)
+    pub(crate) fn jump(&mut self, n: u32)
         ensures { self.new ≡ record self.old { node = n } }
     {
         self.node = n;
@@ -85,4 +97,15 @@ fn cells_of(alloc: Global, count: usize, arguments: &[i32]) -> Result<Vec<i32>, 
         cells.push(0)?;
     }
     Ok(cells)
+}
+
+/// As many activations, each equal.
+pub(crate) fn copies(activations: &[Activation], alloc: Global) -> Result<Vec<Activation>, Memory>
+    ensures { IfOk result (λ made. made.items ≡ activations.now) }
+{
+    let mut made = Vec::with_capacity(alloc, activations.len())?;
+    for activation in activations {
+        made.push(activation.copy()?)?;
+    }
+    Ok(made)
 }

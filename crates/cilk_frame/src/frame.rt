@@ -1,12 +1,13 @@
 //! The frame of an instance: its activations, of which the top one goes on, and its boundary flag.
 
-ghost use Rattle.std.specs.Prelude.{◌≡◌, ◌<◌, ◌≤◌, ◌∷◌, [], false, length, None, Some, OnErr, OnOk, IfOk};
-ghost use Rattle.cilk_frame.specs.Frames.{depth, activation_at, top_of, with_cell, jumped, with_boundary, gone_to, entered, left};
+ghost use Rattle.std.specs.Prelude.{◌≡◌, ◌<◌, ◌≤◌, ◌∷◌, [], false, length, None, Some, OnErr, OnOk, IfOk, IfErr};
+ghost use Rattle.cilk_frame.specs.Frames.{depth, activation_at, top_of, with_cell, jumped, with_boundary, gone_to, stood, entered, left};
 ghost use Rattle.cilk_frame.specs.Starts.{activation_of};
 
-use crate::activation::Activation;
+use crate::activation::{Activation, copies};
 use crate::awaited::Await;
 use crate::id::Id;
+use crate::image::FrameImage;
 use cilk_load_nodes::{Body, Memory};
 use std::alloc::Global;
 use std::marker::Model;
@@ -15,9 +16,9 @@ use std::marker::Model;
 /// one of an instance: it cannot be copied.
 #[derive(Drop)]
 pub struct Frame {
-    id: Id,
-    activations: Vec<Activation>,
-    boundary: bool,
+    pub(crate) id: Id,
+    pub(crate) activations: Vec<Activation>,
+    pub(crate) boundary: bool,
 }
 
 impl Model for Frame {
@@ -176,5 +177,65 @@ impl Frame {
             activations: _,
             boundary: _,
         } = self;
+    }
+
+    /// The top activation stood at action n, and this was the flag: what `jump` and `set_boundary` changed is put back.
+    pub fn stand(&mut self, n: u32, boundary: bool)
+        ensures { self.new ≡ stood n boundary self.old }
+    {
+        self.jump(n);
+        self.set_boundary(boundary);
+    }
+
+    /// The top activation is left, and answered as a whole.
+    pub fn withdraw(&mut self) -> Activation
+        requires { 1 < depth self.old }
+        ensures value { result ≡ top_of self.old }
+        ensures frame { self.new ≡ left self.old }
+    {
+        match self.activations.pop() {
+            None => unreachable!(),
+            Some(activation) => activation,
+        }
+    }
+
+    /// An activation that was left goes on again. Where memory has run out, it comes back, and nothing has changed.
+    pub fn enter_again(&mut self, activation: Box<Activation>) -> Result<(), Box<Activation>>
+        requires room { depth self.old < 256 }
+        ensures ok { OnOk result (self.new ≡ entered activation.value self.old) }
+        ensures err { OnErr result (self.new ≡ self.old) }
+        ensures back { IfErr result (λ a. a.value ≡ activation.value) }
+    {
+        match self.activations.reserve(1) {
+            Err(_) => Err(activation),
+            Ok(()) => {
+                self.activations.push_reserved(Box::into_inner(activation));
+                Ok(())
+            }
+        }
+    }
+
+    /// What it is now, as plain data.
+    pub fn image(&self) -> Result<FrameImage, Memory>
+        ensures { IfOk result (λ image. image ≡ self.now) }
+    {
+        let alloc = *self.activations.allocator();
+        Ok(FrameImage {
+            id: self.id,
+            activations: copies(self.activations.as_slice(), alloc)?,
+            boundary: self.boundary,
+        })
+    }
+
+    /// A frame as that was.
+    pub fn restore(image: &FrameImage) -> Result<Frame, Memory>
+        ensures { IfOk result (λ frame. frame ≡ image.now) }
+    {
+        let alloc = *image.activations.allocator();
+        Ok(Frame {
+            id: image.id,
+            activations: copies(image.activations.as_slice(), alloc)?,
+            boundary: image.boundary,
+        })
     }
 }

@@ -1,7 +1,7 @@
 //! Laws about the instances that frames stand for. The functions do nothing: their contracts are
 //! what is proved.
 
-ghost use Rattle.std.specs.Prelude.{◌≡◌, ◌<◌, ◌+◌, ◌&&◌, ◌∷◌, ℕ, ℤ, Bool, not, true, false, List, Option, Some, length, map, nat_lt};
+ghost use Rattle.std.specs.Prelude.{◌≡◌, ◌<◌, ◌+◌, ◌&&◌, ◌∷◌, ℕ, ℤ, pos, Bool, not, false, List, Option, Some, length, map, nat_lt};
 ghost use Rattle.cilk_load_nodes.specs.syntax.Tree.{Program};
 ghost use Rattle.cilk_load_nodes.specs.labelled.Term.{Term, rename};
 ghost use Rattle.cilk_load_nodes.specs.labelled.Value.{value_of};
@@ -70,14 +70,14 @@ pub fn a_write_stands()
 /// next head, and the flag cleared where the procedure's own activation acted. An assignment writes
 /// besides.
 pub fn an_action_stands()
-    ensures goes_on { (program : Labelled) (f : Frame) (i : Instance) (answer : Bool) (n : ℕ)
+    ensures goes_on { (program : Labelled) (f : Frame) (i : Instance) (answer : ℤ) (n : ℕ)
         → StandsFor program f i → number_of (opened (next answer i.top.items)) ≡ Some n
         → StandsFor program (with_boundary (f.boundary && nat_lt 1 (depth f)) (jumped n f)) (gone_on answer i) }
     ensures assigns { (program : Labelled) (f : Frame) (i : Instance) (d : Declaration) (k : ℕ) (z : ℤ) (next_number : ℕ)
         → StandsFor program f i → HasCell program i.top.body d k
-        → number_of (opened (next true i.top.items)) ≡ Some next_number
+        → number_of (opened (next (pos 1) i.top.items)) ≡ Some next_number
         → StandsFor program (frame_put (slot_of program i.top.body d) k z (with_boundary (f.boundary && nat_lt 1 (depth f)) (jumped next_number f)))
-        (put (record { place = d; index = k }) z (gone_on true i)) }
+        (put (record { place = d; index = k }) z (gone_on (pos 1) i)) }
     ensures alone { (program : Labelled) (f : Frame) (i : Instance)
         → StandsFor program f i → nat_lt 1 (depth f) ≡ not (is_empty i.below) }
     ensures flag { (program : Labelled) (f : Frame) (i : Instance) (b : Bool)

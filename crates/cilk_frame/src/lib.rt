@@ -20,14 +20,26 @@
 //!     frame.depth()
 //! }
 //! ```
+//!
+//! An image of a frame is plain data. It is no second frame, so the compiler refuses this function:
+//!
+//! ```compile_fail unknown-method
+//! use cilk_frame::FrameImage;
+//!
+//! pub fn image_goes_on(image: &mut FrameImage) {
+//!     image.go_on(1);
+//! }
+//! ```
 #![tactic(auto)]
 
 mod activation;
 mod awaited;
 mod frame;
 mod id;
+mod image;
 mod laws;
 
+pub use activation::Activation;
 pub use awaited::Await;
 pub use cilk_load_nodes::{
     Action, Area, BinOp, Body, Code, LockAction, Memory, Slot, SlotPlace, Slots, Taker, Target,
@@ -35,4 +47,5 @@ pub use cilk_load_nodes::{
 };
 pub use frame::Frame;
 pub use id::Id;
+pub use image::FrameImage;
 pub use laws::{a_call_stands, a_start_stands, a_write_stands, an_action_stands, values_are_seen};

@@ -1,28 +1,28 @@
 -- Where an instance does not step, the written rule allows it no step.
-use Rattle.std.proofs.Common.{◌≡◌, ◌≢◌, ℕ, ◌+◌, ℤ, Bool, true, false, not, ◌&&◌, ◌||◌, List, [], ◌∷◌, ◌++◌, length, nat_lt, nat_le, Option, Some}
+use Rattle.std.proofs.Common.{◌≡◌, ℕ, ◌+◌, ℤ, Bool, true, false, not, ◌&&◌, ◌||◌, List, [], ◌∷◌, ◌++◌, length, nat_lt, nat_le, Option, Some}
 use Rattle.std.proofs.Common.{None, Result, Ok, Err, refl, sym, ap, subst, ◌∙◌, if◌then◌else◌}
 use Rattle.std.proofs.lemmas.Bool.{cond_both, and_parts, and_from, or_left, or_right}
 use Rattle.cilk_model.specs.labelled.declared.trap.Trap.{Trap}
-use Rattle.cilk_model.specs.labelled.Labelled.{Labelled, Action, Numbered}
+use Rattle.cilk_model.specs.labelled.Labelled.{Labelled, Action}
 use Rattle.cilk_model.specs.labelled.Items.{head_of}
-use Rattle.cilk_model.specs.Values.{Reached, read_at, combined}
+use Rattle.cilk_model.specs.Values.{Reached}
 use Rattle.cilk_model.specs.Effect.{Effect, writes, answers, enters, gives, starts, writes_out, turns, marks, effect_of}
 use Rattle.cilk_model.specs.Path.{Path, child_path}
 use Rattle.cilk_model.specs.Instance.{Activation, Receiver, place, through, Delivery, Instance}
-use Rattle.cilk_model.specs.State.{TrapKind, depth, instances, output, State, instance_at, has_live_child, is_empty, is_synched, store_of, lock_at}
+use Rattle.cilk_model.specs.State.{TrapKind, depth, instances, output, State, instance_at, has_live_child, is_empty, is_synched, lock_at}
 use Rattle.cilk_model.specs.Event as event
 use Rattle.cilk_model.specs.Event.{Event}
 use Rattle.cilk_model.specs.Change.{after_abort, after_call, after_start, after_print, leaves, is_sync, leaves_function, waits_here, head_waits}
-use Rattle.cilk_model.specs.Change.{at_boundary, ends_thread, holds_lock, Turn, turned, refused, blocked, turn_by}
+use Rattle.cilk_model.specs.Change.{at_boundary, Turn, turned, refused, blocked, turn_by}
 use Rattle.cilk_model.specs.Written as written
 use Rattle.cilk_model.specs.Written.{Leaves, Waits, AtBoundary, Free}
 use Rattle.cilk_model.specs.Fails as fails
 use Rattle.cilk_model.specs.Fails.{here, MayLeave, HasNoValue, Fails}
 use Rattle.cilk_model.specs.Rule as rule
 use Rattle.cilk_model.specs.Rule.{Bare, Acts, Steps, Allows}
-use Rattle.cilk_model.specs.Pick.{Step, waits, parks, goes_on, ends, spawns, if_room, step_by_combined, step_by_answer, step_by_leaving, step_by_turn}
-use Rattle.cilk_model.specs.Pick.{step_by_effect, step_by_head, step_by_place, step_by_receiver, step_at_boundary, step_of_aborted, step_of_instance}
-use Rattle.cilk_model.specs.Pick.{step_of_live, step_of}
+use Rattle.cilk_model.specs.Pick.{parks, goes_on, ends, spawns, if_room, step_by_combined, step_by_answer, step_by_leaving, step_by_turn}
+use Rattle.cilk_model.specs.Pick.{step_by_effect, step_by_head, step_by_place, step_by_receiver, step_at_boundary, step_of_aborted}
+use Rattle.cilk_model.specs.Pick.{step_of_live}
 use Rattle.cilk_laws_allowed.specs.Forced.{Stays, AbortedParent, EachWaitIsForced}
 use Rattle.cilk_laws_allowed.proofs.Locks.{holds_seen}
 use Rattle.cilk_laws_allowed.proofs.Forms.{FitsTurn, FitsEffect, Fits, held_at, thread_ends, acts_fit}
@@ -140,7 +140,7 @@ module _ (program : Labelled) (s : State) (p : Path) (i : Instance) where
   effect_steps : (n : ℕ) (t : State) (r : Result Effect Trap) → FitsEffect program s p i n t r → Stays (step_by_effect program s p i n r) → ⊥
   effect_steps n t (Err trap) fit stays = absurd stays
   effect_steps n t (Ok (writes cell z)) fit stays = absurd stays
-  effect_steps n t (Ok (answers answer)) fit stays = absurd stays
+  effect_steps n t (Ok (answers z)) fit stays = absurd stays
   effect_steps n t (Ok (enters awaits callee zs)) fit stays =
       room_goes n depth (nat_lt (length i.below) 255) (after_call program s p i awaits callee zs) (event.acted p n) stays
   effect_steps n t (Ok (gives z)) fit stays = leaving_steps n z stays

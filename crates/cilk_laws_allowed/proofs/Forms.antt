@@ -1,5 +1,5 @@
 -- What each action that the written rule allows comes to: one form for each head.
-use Rattle.std.proofs.Common.{◌≡◌, ◌≢◌, ℕ, ◌+◌, ◌≤◌, nat_lt, nat_le, ◌⊎◌, inl, inr, ℤ, Bool, true, false, not, ◌&&◌, ◌||◌, List, [], ◌∷◌, ◌++◌}
+use Rattle.std.proofs.Common.{◌≡◌, ◌≢◌, ℕ, ◌+◌, ◌≤◌, nat_lt, nat_le, ◌⊎◌, inl, inr, ℤ, pos, Bool, true, false, not, ◌&&◌, ◌||◌, List, [], ◌∷◌, ◌++◌}
 use Rattle.std.proofs.Common.{length, Option, Some, None, Result, Ok, Err, refl, sym, ap, subst, ◌∙◌, if◌then◌else◌}
 use Rattle.std.specs.Prelude.{option_map, slice_get}
 use Rattle.std.proofs.lemmas.Bool.{lt-ltb, le-ltb, le-leb, lt-leb, and_left, and_right, and_from, or_from}
@@ -9,7 +9,6 @@ use Rattle.cilk_model.specs.syntax.declared.return_type.ReturnType.{ReturnType}
 use Rattle.cilk_model.specs.scopes.declared.owner.Owner.{Owner}
 use Rattle.cilk_model.specs.scopes.declared.owner.Owner.TheVariants.{Function, Procedure, Inlet}
 use Rattle.cilk_model.specs.labelled.declared.trap.Trap.{Trap}
-use Rattle.cilk_model.specs.labelled.Arithmetic.{is_zero}
 use Rattle.cilk_model.specs.labelled.Term.{Term}
 use Rattle.cilk_model.specs.labelled.Value.{Environment, value_of, values_of, ◌>>=◌}
 use Rattle.cilk_model.specs.labelled.Labelled.{Labelled, Declaration, Into, Taker, nothing, into, through, Action, assign, call, spawn, print, tests, sync}
@@ -59,13 +58,13 @@ module _ (program : Labelled) (s : State) (p : Path) (i : Instance) where
 
   -- what is printed, and what is made of a lock
   pub record Prints (bytes : List ℕ) (t : State) : Type 0 where
-    pub goes_on : GoesOn program s p i t true
+    pub goes_on : GoesOn program s p i t (pos 1)
     pub still : t ≡ record s { output = s.output ++ bytes; instances = t.instances }
 
   pub record LocksTo (k : ℕ) (now : state.Lock) (t : State) : Type 0 where
     pub is : slice_get t.locks k ≡ option_map (λ _. now) (slice_get s.locks k)
     pub others : (j : ℕ) → j ≢ k → slice_get t.locks j ≡ slice_get s.locks j
-    pub goes_on : GoesOn program s p i t true
+    pub goes_on : GoesOn program s p i t (pos 1)
     pub still : t ≡ record s { locks = t.locks; instances = t.instances }
 
   abbrev pub FitsRoom : ℕ → TrapKind → Type 0 → State → Bool → Type 0
@@ -95,7 +94,7 @@ module _ (program : Labelled) (s : State) (p : Path) (i : Instance) where
   abbrev pub FitsEffect : ℕ → State → Result Effect Trap → Type 0
   FitsEffect n t (Err trap) = Traps program s p i t n (of_value trap)
   FitsEffect n t (Ok (writes cell z)) = PutsOn program s p i t cell z
-  FitsEffect n t (Ok (answers answer)) = GoesBy program s p i t answer
+  FitsEffect n t (Ok (answers z)) = GoesBy program s p i t z
   FitsEffect n t (Ok (enters awaits callee zs)) = FitsRoom n depth (Enters program s p i t callee zs awaits) t (nat_lt (length i.below) 255)
   FitsEffect n t (Ok (gives z)) = FitsLeaving n t z i.below (leaves_function program i)
   FitsEffect n t (Ok (starts receiver callee zs)) =
@@ -252,7 +251,7 @@ module _ (program : Labelled) (s : State) (p : Path) (i : Instance) where
   no_value_effect n act trap (fails.of_spawn_argument taker callee es reached none is are) = no_argument n callee es taker reached trap is are
   no_value_effect n act trap (fails.of_inlet_argument taker callee es reached zs none is are others) = no_other n callee es taker zs trap are others
   no_value_effect n act trap (fails.of_print_argument format es are) = ap (λ (r : Result (List ℤ) Trap). r >>= λ zs. Ok (writes_out (printed format zs))) are
-  no_value_effect n act trap (fails.of_test e is) = ap (λ (r : Result ℤ Trap). r >>= λ z. Ok (answers (not (is_zero z)))) is
+  no_value_effect n act trap (fails.of_test e is) = ap (λ (r : Result ℤ Trap). r >>= λ z. Ok (answers z)) is
   no_value_effect n act trap (fails.of_result e leave is) = ap (λ (r : Result ℤ Trap). r >>= λ z. Ok (gives z)) is
 
   no_value_unheld : (act : Action) (trap : Trap) → HasNoValue program s p i trap act → held_at act ≡ false
@@ -335,7 +334,7 @@ module _ (program : Labelled) (s : State) (p : Path) (i : Instance) where
   pass_unheld (fails.in_procedure alone whole) = none_seen s p whole.lockless
   pass_unheld (fails.elsewhere above none) = none_seen s p none
 
-  bare_fit : (n : ℕ) (act : Action) (t : State) → Bare program s p i t act → GoesBy program s p i t true → Fits n t (held_at act) (effect_of env n act)
+  bare_fit : (n : ℕ) (act : Action) (t : State) → Bare program s p i t act → GoesBy program s p i t (pos 1) → Fits n t (held_at act) (effect_of env n act)
   bare_fit n act t rule.null_is h = h
   bare_fit n act t rule.break_is h = h
   bare_fit n act t rule.continue_is h = h
@@ -345,7 +344,7 @@ module _ (program : Labelled) (s : State) (p : Path) (i : Instance) where
       fits_by n (assign what e) t false (Ok (writes reached.cell y)) refl (assign_effect n what e reached z (Ok y) is value comes) h
   acts_fit n act t (rule.goes_by a bare h) = bare_fit n a t bare h
   acts_fit n act t (rule.answers_test e z is h) =
-      fits_by n (tests e) t false (Ok (answers (not (is_zero z)))) refl (ap (λ (r : Result ℤ Trap). r >>= λ x. Ok (answers (not (is_zero x)))) is) h
+      fits_by n (tests e) t false (Ok (answers z)) refl (ap (λ (r : Result ℤ Trap). r >>= λ x. Ok (answers x)) is) h
   acts_fit n act t (rule.calls what callee es reached zs is are h) =
       fits_by n (call what callee es) t false (Ok (enters reached callee zs)) refl (call_effect n what callee es reached (Ok zs) is are)
       (room_of n depth _ t _ (lt-ltb (length i.below) 255 h.room) h)
@@ -359,7 +358,7 @@ module _ (program : Labelled) (s : State) (p : Path) (i : Instance) where
       fits_by n (spawn taker callee es) t false (Ok (starts receiver callee zs)) (none_seen s p none)
       (starts_effect n callee es taker reached zs ys receiver is are others receives)
       (room_of n instances _ t _ (and_from _ _ (lt-ltb (length s.instances) 65536 h.few) (lt-ltb i.children 4294967295 h.few_children)) h)
-  acts_fit n act t (rule.passes pass h) = fits_by n sync t false (Ok (answers true)) (pass_unheld pass) refl h
+  acts_fit n act t (rule.passes pass h) = fits_by n sync t false (Ok (answers (pos 1))) (pass_unheld pass) refl h
   acts_fit n act t (rule.marks h) = h
   acts_fit n act t (rule.locks what k h) =
       subst (FitsTurn n k t) (sym (ap (turn_by p what) h.was ∙ turn_is t what h.before h.after h.turns))

@@ -1,11 +1,11 @@
 -- Rows of the rule: the actions behind which the same activation goes on.
-use Rattle.std.proofs.Common.{◌≡◌, ℕ, ◌+◌, nat_le, ℤ, Bool, true, false, not, ◌&&◌, List, [], ◌∷◌, length, Result, Ok, Err, refl, sym, ap, ◌∙◌, if◌then◌else◌}
+use Rattle.std.proofs.Common.{◌≡◌, ℕ, ◌+◌, nat_le, ℤ, pos, Bool, true, false, not, ◌&&◌, List, [], ◌∷◌, length, Result, Ok, Err, refl, sym, ap, ◌∙◌}
+use Rattle.std.proofs.Common.{if◌then◌else◌}
 use Rattle.std.specs.Prelude.{option_map}
 use Rattle.std.proofs.lemmas.Bool.{leb-true, leb-false}
 use Rattle.cilk_model.specs.syntax.declared.lock_action.LockAction.{LockAction}
 use Rattle.cilk_model.specs.syntax.declared.lock_action.LockAction.TheVariants.{Init, Lock, Unlock}
 use Rattle.cilk_model.specs.labelled.declared.trap.Trap.{Trap}
-use Rattle.cilk_model.specs.labelled.Arithmetic.{is_zero}
 use Rattle.cilk_model.specs.labelled.Term.{Term}
 use Rattle.cilk_model.specs.labelled.Value.{Environment, value_of, values_of, ◌>>=◌}
 use Rattle.cilk_model.specs.labelled.Labelled.{Labelled, Declaration, Into, Action, assign, print, locking, tests, sync, abort}
@@ -36,18 +36,18 @@ module _ (program : Labelled) (s : State) (p : Path) (i : Instance) (stands : St
   env = here program s p i
 
   -- nothing but the place in the body is changed
-  pub bare_rule : (act : Action) → Heads i n act → Bare program s p i (after_going s p i true) act
-      → Ruled program s p (goes_on (after_going s p i true) (event.acted p n))
+  pub bare_rule : (act : Action) → Heads i n act → Bare program s p i (after_going s p i (pos 1)) act
+      → Ruled program s p (goes_on (after_going s p i (pos 1)) (event.acted p n))
   bare_rule act head bare =
-      acts_on program s p i stands n act head _ (one_changed program s p i stands (gone_on true i) refl)
-      (rule.goes_by act bare (goes_by program s p i stands true)) refl
+      acts_on program s p i stands n act head _ (one_changed program s p i stands (gone_on (pos 1) i) refl)
+      (rule.goes_by act bare (goes_by program s p i stands (pos 1))) refl
 
   tests_by : (e : Term Declaration) → Heads i n (tests e) → (r : Result ℤ Trap) → value_of env e ≡ r
-      → Ruled program s p (step_by_effect program s p i n (r >>= λ z. Ok (answers (not (is_zero z)))))
+      → Ruled program s p (step_by_effect program s p i n (r >>= λ z. Ok (answers z)))
   tests_by e head (Err trap) is = failed program s p i stands n (tests e) head (of_value trap) (fails.has_no_value (tests e) trap (fails.of_test e is))
   tests_by e head (Ok z) is =
-      acts_on program s p i stands n (tests e) head _ (one_changed program s p i stands (gone_on (not (is_zero z)) i) refl)
-      (rule.answers_test e z is (goes_by program s p i stands (not (is_zero z)))) refl
+      acts_on program s p i stands n (tests e) head _ (one_changed program s p i stands (gone_on z i) refl)
+      (rule.answers_test e z is (goes_by program s p i stands z)) refl
 
   pub tests_rule : (e : Term Declaration) → Heads i n (tests e) → Ruled program s p (step_by_effect program s p i n (effect_of env n (tests e)))
   tests_rule e head = tests_by e head (value_of env e) refl
@@ -62,11 +62,11 @@ module _ (program : Labelled) (s : State) (p : Path) (i : Instance) (stands : St
         (fails.has_no_value (assign what e) trap (fails.of_operator what e reached z is value comes))
     assign_by reached is z value (Ok y) comes =
         acts_on program s p i stands n (assign what e) head (after_write s p i reached.cell y)
-        (one_changed program s p i stands (put reached.cell y (gone_on true i)) refl)
+        (one_changed program s p i stands (put reached.cell y (gone_on (pos 1) i)) refl)
         (rule.assigns what e reached z y is value comes (record {
           flag = i.spawned && not (is_empty i.below);
           flags = flags program s p i stands _;
-          puts = puts program s p i stands (gone_on true i) reached.cell y;
+          puts = puts program s p i stands (gone_on (pos 1) i) reached.cell y;
         })) refl
 
     value_by : (reached : Reached) → reached_at env what ≡ Ok reached → (r : Result ℤ Trap) → value_of env e ≡ r
@@ -92,8 +92,8 @@ module _ (program : Labelled) (s : State) (p : Path) (i : Instance) (stands : St
     room_by : (zs : List ℤ) → values_of env es ≡ Ok zs → (b : Bool) → nat_le (length s.output + length (printed format zs)) 1048576 ≡ b
         → Ruled program s p (if_room s p n output b (goes_on (after_print s p i (printed format zs)) (event.acted p n)))
     room_by zs are true few =
-        acts_on program s p i stands n (print format es) head _ (one_changed program s p i stands (gone_on true i) refl)
-        (rule.prints format es zs are (leb-true _ _ few) (going program s p i stands true _ refl) refl) refl
+        acts_on program s p i stands n (print format es) head _ (one_changed program s p i stands (gone_on (pos 1) i) refl)
+        (rule.prints format es zs are (leb-true _ _ few) (going program s p i stands (pos 1) _ refl) refl) refl
     room_by zs are false many =
         failed program s p i stands n (print format es) head output (fails.too_long format es zs are (leb-false _ _ many))
 
@@ -112,7 +112,7 @@ module _ (program : Labelled) (s : State) (p : Path) (i : Instance) (stands : St
         → Turns program s p i (after_lock s p i k after) what before after → lock_at s k ≡ before
         → Ruled program s p (goes_on (after_lock s p i k after) (event.acted p n))
     turned_rule what head before after turning was =
-        acts_on program s p i stands n (locking what k) head _ (one_changed program s p i stands (gone_on true i) refl)
+        acts_on program s p i stands n (locking what k) head _ (one_changed program s p i stands (gone_on (pos 1) i) refl)
         (rule.locks what k (record {
           before = before;
           after = after;
@@ -120,7 +120,7 @@ module _ (program : Labelled) (s : State) (p : Path) (i : Instance) (stands : St
           was = was;
           is = get_set_same s.locks k after;
           others = λ j other. get_set_other s.locks k j after other;
-          goes_on = going program s p i stands true _ refl;
+          goes_on = going program s p i stands (pos 1) _ refl;
           still = refl;
         })) refl
 
@@ -161,28 +161,28 @@ module _ (program : Labelled) (s : State) (p : Path) (i : Instance) (stands : St
   may_pass unheld (a ∷ below) e goes = fails.elsewhere (λ f. let both : a ∷ below ≡ [] = sym e ∙ f in cc) (holds_none s p unheld)
 
   pub sync_rule : Heads i n sync → holds_lock s p ≡ false → ((is_empty i.below && true) && not (is_synched s p i)) ≡ false
-      → Ruled program s p (goes_on (after_going s p i true) (event.acted p n))
+      → Ruled program s p (goes_on (after_going s p i (pos 1)) (event.acted p n))
   sync_rule head unheld goes =
-      acts_on program s p i stands n sync head _ (one_changed program s p i stands (gone_on true i) refl)
-      (rule.passes (may_pass unheld i.below refl goes) (goes_by program s p i stands true)) refl
+      acts_on program s p i stands n sync head _ (one_changed program s p i stands (gone_on (pos 1) i) refl)
+      (rule.passes (may_pass unheld i.below refl goes) (goes_by program s p i stands (pos 1))) refl
 
   -- `abort`
   marks_row : Marks program s p i (after_marks s p i)
   marks_row = record {
     flag = i.spawned && not (is_empty i.below);
     flags = flags program s p i stands _;
-    at_p = at-marked_beside p p (changed p (λ _. gone_on true i) s.instances) (not_below p) ∙ at_p program s p i stands (λ _. gone_on true i);
+    at_p = at-marked_beside p p (changed p (λ _. gone_on (pos 1) i) s.instances) (not_below p) ∙ at_p program s p i stands (λ _. gone_on (pos 1) i);
     below = λ q below.
-        at-marked_below p q (changed p (λ _. gone_on true i) s.instances) below
-        ∙ ap (option_map marked) (at_other program s p i stands (λ _. gone_on true i) q
+        at-marked_below p q (changed p (λ _. gone_on (pos 1) i) s.instances) below
+        ∙ ap (option_map marked) (at_other program s p i stands (λ _. gone_on (pos 1) i) q
         (λ e. let both : true ≡ false = sym below ∙ ap (is_below p) e ∙ not_below p in cc));
     elsewhere = λ q other beside.
-        at-marked_beside p q (changed p (λ _. gone_on true i) s.instances) beside ∙ at_other program s p i stands (λ _. gone_on true i) q other;
+        at-marked_beside p q (changed p (λ _. gone_on (pos 1) i) s.instances) beside ∙ at_other program s p i stands (λ _. gone_on (pos 1) i) q other;
     still = refl;
   }
 
   pub abort_rule : Heads i n abort → Ruled program s p (goes_on (after_marks s p i) (event.acted p n))
   abort_rule head =
       acts_on program s p i stands n abort head (after_marks s p i)
-      (marked_alike p s.instances (changed p (λ _. gone_on true i) s.instances) (one_changed program s p i stands (gone_on true i) refl))
+      (marked_alike p s.instances (changed p (λ _. gone_on (pos 1) i) s.instances) (one_changed program s p i stands (gone_on (pos 1) i) refl))
       (rule.marks marks_row) refl

@@ -92,16 +92,16 @@ module _ (program : Labelled) (s : State) (p : Path) (i : Instance) (stands : St
   pub flags : (t : State) → Flags program s p i t (i.spawned && not (is_empty i.below))
   flags t = record { cleared = flag_cleared i.spawned i.below; left = flag_left i.spawned i.below }
 
-  pub going : (answer : Bool) (t : State) → t.instances ≡ changed p (λ _. gone_on answer i) s.instances → GoesOn program s p i t answer
-  going answer t is = record {
+  pub going : (z : ℤ) (t : State) → t.instances ≡ changed p (λ _. gone_on z i) s.instances → GoesOn program s p i t z
+  going z t is = record {
     flag = i.spawned && not (is_empty i.below);
     flags = flags t;
-    at_p = ap (λ entries. instance_at entries p) is ∙ at_p (λ _. gone_on answer i);
-    elsewhere = λ q other. ap (λ entries. instance_at entries q) is ∙ at_other (λ _. gone_on answer i) q other;
+    at_p = ap (λ entries. instance_at entries p) is ∙ at_p (λ _. gone_on z i);
+    elsewhere = λ q other. ap (λ entries. instance_at entries q) is ∙ at_other (λ _. gone_on z i) q other;
   }
 
-  pub goes_by : (answer : Bool) → GoesBy program s p i (record s { instances = changed p (λ _. gone_on answer i) s.instances }) answer
-  goes_by answer = record { goes_on = going answer _ refl; still = refl }
+  pub goes_by : (z : ℤ) → GoesBy program s p i (record s { instances = changed p (λ _. gone_on z i) s.instances }) z
+  goes_by z = record { goes_on = going z _ refl; still = refl }
 
   pub puts : (j : Instance) (cell : Cell) (z : ℤ) → Puts program s p i (with_put s p j cell z) j cell z
   puts j cell z = record {

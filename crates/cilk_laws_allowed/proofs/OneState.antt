@@ -1,5 +1,5 @@
 -- The written rule leaves one state.
-use Rattle.std.proofs.Common.{◌≡◌, ◌≢◌, ℕ, ◌+◌, ◌⊎◌, inl, inr, ℤ, Bool, true, false, ◌&&◌, List, [], ◌∷◌, length, nat_lt, nat_le, Option, Some, None}
+use Rattle.std.proofs.Common.{◌≡◌, ◌≢◌, ℕ, ◌+◌, ◌⊎◌, inl, inr, ℤ, pos, Bool, true, false, ◌&&◌, List, [], ◌∷◌, length, nat_lt, nat_le, Option, Some, None}
 use Rattle.std.proofs.Common.{Result, Ok, Err, refl, sym, ap, ap₂, subst, ◌∙◌}
 use Rattle.std.specs.Prelude.{slice_get, slice_index_or}
 use Rattle.cilk_model.specs.labelled.declared.trap.Trap.{Trap}
@@ -69,13 +69,13 @@ module _ (program : Labelled) (s : State) (p : Path) (i : Instance) (t u : State
   one_flag : (a b : Bool) → Flags program s p i t a → Flags program s p i u b → a ≡ b
   one_flag a b g h = elim (empty_decided i.below) [ inl e ↦ g.cleared e ∙ sym (h.cleared e) | inr ne ↦ g.left ne ∙ sym (h.left ne) ]
 
-  goes_at : (answer : Bool) → GoesOn program s p i t answer → GoesOn program s p i u answer → (q : Path) → AlikeAt t u q
-  goes_at answer g h = here_or_not
-      (equal (g.at_p ∙ ap (λ b. Some (past program s p i t answer b)) (one_flag g.flag h.flag g.flags h.flags) ∙ sym h.at_p))
+  goes_at : (z : ℤ) → GoesOn program s p i t z → GoesOn program s p i u z → (q : Path) → AlikeAt t u q
+  goes_at z g h = here_or_not
+      (equal (g.at_p ∙ ap (λ b. Some (past program s p i t z b)) (one_flag g.flag h.flag g.flags h.flags) ∙ sym h.at_p))
       (λ q ne. g.elsewhere q ne ∙ sym (h.elsewhere q ne))
 
-  goes_alike : (answer : Bool) → GoesBy program s p i t answer → GoesBy program s p i u answer → Alike t u
-  goes_alike answer g h = still_alike (goes_at answer g.goes_on h.goes_on) g.still h.still
+  goes_alike : (z : ℤ) → GoesBy program s p i t z → GoesBy program s p i u z → Alike t u
+  goes_alike z g h = still_alike (goes_at z g.goes_on h.goes_on) g.still h.still
 
   puts_alike : (j : Instance) (cell : Cell) (z : ℤ) → Puts program s p i t j cell z → Puts program s p i u j cell z → Alike t u
   puts_alike j cell z g h =
@@ -92,15 +92,15 @@ module _ (program : Labelled) (s : State) (p : Path) (i : Instance) (t u : State
 
   puts_on_alike : (cell : Cell) (z : ℤ) → PutsOn program s p i t cell z → PutsOn program s p i u cell z → Alike t u
   puts_on_alike cell z g h =
-      puts_alike (past program s p i t true g.flag) cell z g.puts
-      (subst (λ b. Puts program s p i u (past program s p i u true b) cell z) (sym (one_flag g.flag h.flag g.flags h.flags)) h.puts)
+      puts_alike (past program s p i t (pos 1) g.flag) cell z g.puts
+      (subst (λ b. Puts program s p i u (past program s p i u (pos 1) b) cell z) (sym (one_flag g.flag h.flag g.flags h.flags)) h.puts)
 
   enters_alike : (callee : ℕ) (zs : List ℤ) (awaits : Option Reached) → Enters program s p i t callee zs awaits
       → Enters program s p i u callee zs awaits → Alike t u
   enters_alike callee zs awaits g h = still_alike
-      (here_or_not (equal (g.at_p ∙ ap (λ b. Some (record (past program s p i t true b) {
+      (here_or_not (equal (g.at_p ∙ ap (λ b. Some (record (past program s p i t (pos 1) b) {
         top = entered program callee zs awaits;
-        below = record i.top { items = opened (next true i.top.items) } ∷ i.below;
+        below = record i.top { items = opened (next (pos 1) i.top.items) } ∷ i.below;
       })) (one_flag g.flag h.flag g.flags h.flags) ∙ sym h.at_p)) (λ q ne. g.elsewhere q ne ∙ sym (h.elsewhere q ne)))
       g.still h.still
 
@@ -156,13 +156,13 @@ module _ (program : Labelled) (s : State) (p : Path) (i : Instance) (t u : State
 
   marks_alike : Marks program s p i t → Marks program s p i u → Alike t u
   marks_alike g h = still_alike
-      (here_or_not (equal (g.at_p ∙ ap (λ b. Some (past program s p i t true b)) (one_flag g.flag h.flag g.flags h.flags) ∙ sym h.at_p))
+      (here_or_not (equal (g.at_p ∙ ap (λ b. Some (past program s p i t (pos 1) b)) (one_flag g.flag h.flag g.flags h.flags) ∙ sym h.at_p))
       (λ q ne. below_or_not g h q ne (is_below p q) refl))
       g.still h.still
 
   prints_alike : (bytes : List ℕ) → Prints program s p i bytes t → Prints program s p i bytes u → Alike t u
   prints_alike bytes g h = record {
-    at = goes_at true g.goes_on h.goes_on;
+    at = goes_at (pos 1) g.goes_on h.goes_on;
     globals = λ n k. ap (λ (x : State). held_in x.globals n k) g.still ∙ sym (ap (λ (x : State). held_in x.globals n k) h.still);
     locks = λ k. ap (λ (x : State). slice_get x.locks k) g.still ∙ sym (ap (λ (x : State). slice_get x.locks k) h.still);
     output = ap (λ (x : State). x.output) g.still ∙ sym (ap (λ (x : State). x.output) h.still);
@@ -171,7 +171,7 @@ module _ (program : Labelled) (s : State) (p : Path) (i : Instance) (t u : State
 
   locks_alike : (k : ℕ) (now : Lock) → LocksTo program s p i k now t → LocksTo program s p i k now u → Alike t u
   locks_alike k now g h = record {
-    at = goes_at true g.goes_on h.goes_on;
+    at = goes_at (pos 1) g.goes_on h.goes_on;
     globals = λ n k. ap (λ (x : State). held_in x.globals n k) g.still ∙ sym (ap (λ (x : State). held_in x.globals n k) h.still);
     locks = λ j. elim (number_decided j k) [
       | inl e ↦ subst (λ x. slice_get t.locks x ≡ slice_get u.locks x) (sym e) (g.is ∙ sym h.is)
@@ -211,7 +211,7 @@ module _ (program : Labelled) (s : State) (p : Path) (i : Instance) (t u : State
   effect_alike : (n : ℕ) (r : Result Effect Trap) → FitsEffect program s p i n t r → FitsEffect program s p i n u r → Alike t u
   effect_alike n (Err trap) g h = traps_alike n (of_value trap) g h
   effect_alike n (Ok (writes cell z)) g h = puts_on_alike cell z g h
-  effect_alike n (Ok (answers answer)) g h = goes_alike answer g h
+  effect_alike n (Ok (answers z)) g h = goes_alike z g h
   effect_alike n (Ok (enters awaits callee zs)) g h = room_alike n depth _ _ (nat_lt (length i.below) 255) g h (enters_alike callee zs awaits)
   effect_alike n (Ok (gives z)) g h = leaving_alike n z i.below (leaves_function program i) g h
   effect_alike n (Ok (starts receiver callee zs)) g h =

@@ -1,5 +1,5 @@
 -- Rows of the rule: a C function or a child starts.
-use Rattle.std.proofs.Common.{◌≡◌, ℕ, ◌+◌, ◌≤◌, nat_lt, ◌⊎◌, inl, inr, ℤ, Bool, true, false, ◌&&◌, List, [], ◌∷◌, ◌++◌, length, Option, Some, None}
+use Rattle.std.proofs.Common.{◌≡◌, ℕ, ◌+◌, ◌≤◌, nat_lt, ◌⊎◌, inl, inr, ℤ, pos, Bool, true, false, ◌&&◌, List, [], ◌∷◌, ◌++◌, length, Option, Some, None}
 use Rattle.std.proofs.Common.{Result, Ok, Err, refl, sym, ap, ◌∙◌, if◌then◌else◌}
 use Rattle.std.proofs.lemmas.Bool.{and_parts, ltb-true, ltb-false}
 use Rattle.cilk_model.specs.labelled.declared.trap.Trap.{Trap}
@@ -44,8 +44,8 @@ module _ (program : Labelled) (s : State) (p : Path) (i : Instance) (stands : St
       room = ltb-true (length i.below) 255 room;
       flag = _;
       flags = flags program s p i stands _;
-      at_p = at_p program s p i stands (λ _. above (entered program callee zs awaits) (gone_on true i));
-      elsewhere = at_other program s p i stands (λ _. above (entered program callee zs awaits) (gone_on true i));
+      at_p = at_p program s p i stands (λ _. above (entered program callee zs awaits) (gone_on (pos 1) i));
+      elsewhere = at_other program s p i stands (λ _. above (entered program callee zs awaits) (gone_on (pos 1) i));
       still = refl;
     }
 
@@ -54,7 +54,7 @@ module _ (program : Labelled) (s : State) (p : Path) (i : Instance) (stands : St
         → Ruled program s p (if_room s p n depth b (goes_on (after_call program s p i awaits callee zs) (event.acted p n)))
     depth_by awaits is zs are true room =
         acts_on program s p i stands n (call what callee es) head (after_call program s p i awaits callee zs)
-        (one_changed program s p i stands (above (entered program callee zs awaits) (gone_on true i)) refl)
+        (one_changed program s p i stands (above (entered program callee zs awaits) (gone_on (pos 1) i)) refl)
         (rule.calls what callee es awaits zs is are (enters_row zs awaits room)) refl
     depth_by awaits is zs are false none =
         failed program s p i stands n (call what callee es) head depth (fails.too_deep what callee es awaits zs is are (ltb-false (length i.below) 255 none))
@@ -78,7 +78,7 @@ module _ (program : Labelled) (s : State) (p : Path) (i : Instance) (stands : St
 
   -- a child
   abbrev parent : Instance
-  parent = record (gone_on true i) { spawned = true; children = i.children + 1 }
+  parent = record (gone_on (pos 1) i) { spawned = true; children = i.children + 1 }
 
   abbrev child : ℕ → List ℤ → Option Receiver → Instance
   child callee zs receiver = record (started program callee zs) { aborted = i.aborted; receiver = receiver }

@@ -1,5 +1,5 @@
 -- What each step keeps of an instance holds of each live instance at every position.
-use Rattle.std.proofs.Common.{◌≡◌, ℕ, ℤ, ◌^◌, ◌+◌, ◌-◌, ◌<◌, Bool, true, false, not, cond, List, [], ◌∷◌, ◌++◌, map, length, Option, Some, None, refl}
+use Rattle.std.proofs.Common.{◌≡◌, ℕ, ℤ, pos, ◌^◌, ◌+◌, ◌-◌, ◌<◌, Bool, true, false, not, cond, List, [], ◌∷◌, ◌++◌, map, length, Option, Some, None, refl}
 use Rattle.std.proofs.Common.{sym, subst, if◌then◌else◌, arith}
 use Rattle.cilk_model.specs.labelled.Labelled.{Labelled, Numbered}
 use Rattle.cilk_model.specs.labelled.Items.{head_of}
@@ -19,8 +19,8 @@ use Rattle.cilk_laws_placed.proofs.Rows.{Heads, Row, headless, locked, parked, s
 use Rattle.cilk_laws_placed.proofs.Rows.{printing, turning, marking, returning, placing, taking, aborting, step_row}
 
 pub record Keeps (program : Labelled) (Holds : Path → Instance → Type 0) : Type 0 where
-  pub on : (p : Path) (i : Instance) (head : Numbered) (answer : Bool) → head_of i.top.items ≡ Some head → leaves head.act ≡ false
-      → Holds p i → Holds p (gone_on answer i)
+  pub on : (p : Path) (i : Instance) (head : Numbered) (z : ℤ) → head_of i.top.items ≡ Some head → leaves head.act ≡ false
+      → Holds p i → Holds p (gone_on z i)
   pub filled : (p : Path) (i : Instance) (cell : Cell) (z : ℤ) → Holds p i → Holds p (put cell z i)
   pub entered : (p : Path) (i : Instance) (b : ℕ) (zs : List ℤ) (awaits : Option Reached) → length i.below < 255 → Holds p i
       → Holds p (above (instance.entered program b zs awaits) i)
@@ -100,30 +100,30 @@ module _ (program : Labelled) (Holds : Path → Instance → Type 0) (keeps : Ke
     replaced : (j : Instance) → Holds p j → Each (changed p (λ _. j) s.instances)
     replaced j h = changed_each p (λ _. j) s.instances (λ x k. h) all
 
-    gone : (head : Numbered) (answer : Bool) → Heads i head → Holds p (gone_on answer i)
-    gone head answer heads = keeps.on p i head answer heads.first heads.stays here
+    gone : (head : Numbered) (z : ℤ) → Heads i head → Holds p (gone_on z i)
+    gone head z heads = keeps.on p i head z heads.first heads.stays here
 
     row_each : {taken : Step} → Row program s p i taken → Each (state_after s taken).instances
     row_each (headless first) = all
     row_each (locked head first lock) = all
     row_each (parked some) = all
     row_each (stopping n kind) = all
-    row_each (going head answer heads) = replaced (gone_on answer i) (gone head answer heads)
+    row_each (going head z heads) = replaced (gone_on z i) (gone head z heads)
     row_each (writing head cell z heads) =
-        replaced (put cell z (gone_on true i)) (keeps.filled p (gone_on true i) cell z (gone head true heads))
+        replaced (put cell z (gone_on (pos 1) i)) (keeps.filled p (gone_on (pos 1) i) cell z (gone head (pos 1) heads))
     row_each (calling head awaits callee zs heads room) =
-        replaced (above (instance.entered program callee zs awaits) (gone_on true i))
-        (keeps.entered p (gone_on true i) callee zs awaits room (gone head true heads))
+        replaced (above (instance.entered program callee zs awaits) (gone_on (pos 1) i))
+        (keeps.entered p (gone_on (pos 1) i) callee zs awaits room (gone head (pos 1) heads))
     row_each (leaving n) = replaced (resumed i) (keeps.left p i here)
     row_each (answering n cell z) = replaced (put cell z (resumed i)) (keeps.filled p (resumed i) cell z (keeps.left p i here))
     row_each (spawning head receiver callee zs heads few room) =
-        let parent : Instance = record (gone_on true i) { spawned = true; children = i.children + 1 } in
-        push_each (changed p (λ _. parent) s.instances) _ (replaced parent (keeps.counted p (gone_on true i) room (gone head true heads)))
+        let parent : Instance = record (gone_on (pos 1) i) { spawned = true; children = i.children + 1 } in
+        push_each (changed p (λ _. parent) s.instances) _ (replaced parent (keeps.counted p (gone_on (pos 1) i) room (gone head (pos 1) heads)))
         (keeps.born p (i.children + 1) callee zs i.aborted receiver)
-    row_each (printing head bytes heads room) = replaced (gone_on true i) (gone head true heads)
-    row_each (turning head what k now heads turn) = replaced (gone_on true i) (gone head true heads)
+    row_each (printing head bytes heads room) = replaced (gone_on (pos 1) i) (gone head (pos 1) heads)
+    row_each (turning head what k now heads turn) = replaced (gone_on (pos 1) i) (gone head (pos 1) heads)
     row_each (marking head heads) =
-        marked_each p (changed p (λ _. gone_on true i) s.instances) (replaced (gone_on true i) (gone head true heads))
+        marked_each p (changed p (λ _. gone_on (pos 1) i) s.instances) (replaced (gone_on (pos 1) i) (gone head (pos 1) heads))
     row_each (returning n z none lockless unmarked) = return_each s p i z (parent_of p) all
     row_each (placing oldest others cell z n takes) =
         let j : Instance = record i { waiting = others } in

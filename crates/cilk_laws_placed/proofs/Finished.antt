@@ -98,7 +98,7 @@ module _ (program : Labelled) (s : State) (p : Path) (i : Instance) (live : inst
   row_empty (locked head first lock) lives = λ z e q. still z e
   row_empty (parked some) lives = λ z e q. still z e
   row_empty (stopping n kind) lives = λ z e q. cc
-  row_empty (going head answer heads) lives = λ z e q. still z e
+  row_empty (going head z heads) lives = λ z e q. still z e
   row_empty (writing head cell z heads) lives = λ v e q. still v e
   row_empty (calling head awaits callee zs heads room) lives = λ z e q. still z e
   row_empty (leaving n) lives = λ z e q. still z e

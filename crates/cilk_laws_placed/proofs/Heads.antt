@@ -37,7 +37,7 @@ caller_goes_on i (caller ∷ below) h rest = (rest.0, rest.1)
 
 keeps_heads : (program : Labelled) → breaks_fit program ≡ true → Keeps program (λ p. Headed)
 keeps_heads program fits = record {
-  on = λ p i head answer first stays h. (next_goes_on answer i.top.items head h.0 first stays, h.1);
+  on = λ p i head z first stays h. (next_goes_on z i.top.items head h.0 first stays, h.1);
   filled = λ p i cell z h. (h.0, lowest_goes_on _ i.below h.1);
   entered = λ p i b zs awaits room h. (start_goes_on (body_at program b) (body_of program.bodies b fits), (h.0, h.1));
   left = λ p i h. caller_goes_on i i.below h h.1;

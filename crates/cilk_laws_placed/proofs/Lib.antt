@@ -29,4 +29,3 @@ pub mod Ended
 pub mod Born
 pub mod Fates
 pub use Rattle.cilk_model.proofs as model_laws
-pub use Rattle.cilk_model.proofs.canonical_laws

@@ -37,7 +37,7 @@ filled_within i cell z h =
 
 keeps_within : (program : Labelled) → Keeps program (λ p. Within)
 keeps_within program = record {
-  on = λ p i head answer first stays h. h;
+  on = λ p i head z first stays h. h;
   filled = λ p. filled_within;
   entered = λ p i b zs awaits room h. (omega arith, h.1);
   left = λ p i h. caller_within i i.below h h.0;
@@ -73,7 +73,7 @@ row_prints (headless first) few = few
 row_prints (locked head first lock) few = few
 row_prints (parked some) few = few
 row_prints (stopping n kind) few = few
-row_prints (going head answer heads) few = few
+row_prints (going head z heads) few = few
 row_prints (writing head cell z heads) few = few
 row_prints (calling head awaits callee zs heads room) few = few
 row_prints (leaving n) few = few

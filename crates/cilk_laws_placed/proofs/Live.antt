@@ -1,5 +1,5 @@
 -- Which instances live after a step.
-use Rattle.std.proofs.Common.{◌≡◌, ℕ, ℤ, ◌+◌, ◌<◌, ◌≤◌, Bool, true, false, not, ◌&&◌, ◌||◌, cond, List, [], ◌∷◌, ◌++◌, map, length, length-append}
+use Rattle.std.proofs.Common.{◌≡◌, ℕ, ℤ, pos, ◌+◌, ◌<◌, ◌≤◌, Bool, true, false, not, ◌&&◌, ◌||◌, cond, List, [], ◌∷◌, ◌++◌, map, length, length-append}
 use Rattle.std.proofs.Common.{Option, Some, None, refl, sym, ap, ◌∙◌, if◌then◌else◌, arith}
 use Rattle.std.specs.Prelude.{option_map}
 use Rattle.std.proofs.lemmas.List.Sums.{length-filter, count_by-le-length}
@@ -175,17 +175,17 @@ module _ (program : Labelled) (s : State) (p : Path) (i : Instance) (live : inst
   row_lives (locked head first lock) = tt
   row_lives (parked some) = tt
   row_lives (stopping n kind) = alike s.instances
-  row_lives (going head answer heads) = replaced (gone_on answer i) refl
-  row_lives (writing head cell z heads) = replaced (put cell z (gone_on true i)) refl
-  row_lives (calling head awaits callee zs heads room) = replaced (above (entered program callee zs awaits) (gone_on true i)) refl
+  row_lives (going head z heads) = replaced (gone_on z i) refl
+  row_lives (writing head cell z heads) = replaced (put cell z (gone_on (pos 1) i)) refl
+  row_lives (calling head awaits callee zs heads room) = replaced (above (entered program callee zs awaits) (gone_on (pos 1) i)) refl
   row_lives (leaving n) = replaced (resumed i) (children-resumed i i.below)
   row_lives (answering n cell z) = replaced (put cell z (resumed i)) (children-resumed i i.below)
   row_lives (spawning head receiver callee zs heads few room) = birth_more s p i _ _ live refl few
-  row_lives (printing head bytes heads room) = replaced (gone_on true i) refl
-  row_lives (turning head what k now heads turn) = replaced (gone_on true i) refl
+  row_lives (printing head bytes heads room) = replaced (gone_on (pos 1) i) refl
+  row_lives (turning head what k now heads turn) = replaced (gone_on (pos 1) i) refl
   row_lives (marking head heads) =
-      alike_both s.instances (changed p (λ _. gone_on true i) s.instances) _ (replaced (gone_on true i) refl)
-      (marks_alike p (changed p (λ _. gone_on true i) s.instances))
+      alike_both s.instances (changed p (λ _. gone_on (pos 1) i) s.instances) _ (replaced (gone_on (pos 1) i) refl)
+      (marks_alike p (changed p (λ _. gone_on (pos 1) i) s.instances))
   row_lives (returning n z none lockless unmarked) = return_lives z (parent_of p)
   row_lives (placing oldest others cell z n takes) = replaced (put cell z (record i { waiting = others })) refl
   row_lives (taking oldest others inlet zs n takes) = replaced (above (entered program inlet zs None) (record i { waiting = others })) refl
@@ -211,7 +211,7 @@ row_waited (headless first) = tt
 row_waited (locked head first lock) = tt
 row_waited (parked some) = some
 row_waited (stopping n kind) = tt
-row_waited (going head answer heads) = tt
+row_waited (going head z heads) = tt
 row_waited (writing head cell z heads) = tt
 row_waited (calling head awaits callee zs heads room) = tt
 row_waited (leaving n) = tt

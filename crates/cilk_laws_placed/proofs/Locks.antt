@@ -111,7 +111,7 @@ module _ (program : Labelled) (s : State) (p : Path) (i : Instance) (live : inst
   row_holders (locked head first lock) lives = kept
   row_holders (parked some) lives = kept
   row_holders (stopping n kind) lives = kept
-  row_holders (going head answer heads) lives = λ k q h. lives.live q ∙ kept k q h
+  row_holders (going head z heads) lives = λ k q h. lives.live q ∙ kept k q h
   row_holders (writing head cell z heads) lives = λ k q h. lives.live q ∙ kept k q h
   row_holders (calling head awaits callee zs heads room) lives = λ k q h. lives.live q ∙ kept k q h
   row_holders (leaving n) lives = λ k q h. lives.live q ∙ kept k q h

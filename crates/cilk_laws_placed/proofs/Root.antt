@@ -36,7 +36,7 @@ not_marked p q below e =
 
 keeps_unmarked : (program : Labelled) → Keeps program Unmarked
 keeps_unmarked program = record {
-  on = λ p i head answer first stays h. h;
+  on = λ p i head z first stays h. h;
   filled = λ p i cell z h. h;
   entered = λ p i b zs awaits room h. h;
   left = λ p i h e. marks-caller i i.below ∙ h e;
@@ -70,7 +70,7 @@ row_ends h (headless first) = tt
 row_ends h (locked head first lock) = tt
 row_ends h (parked some) = tt
 row_ends h (stopping n kind) = tt
-row_ends h (going head answer heads) = tt
+row_ends h (going head z heads) = tt
 row_ends h (writing head cell z heads) = tt
 row_ends h (calling head awaits callee zs heads room) = tt
 row_ends h (leaving n) = tt

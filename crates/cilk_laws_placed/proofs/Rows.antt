@@ -91,7 +91,7 @@ pub data Row (program : Labelled) (s : State) (p : Path) (i : Instance) : Step �
   locked : (head : Numbered) → head_of i.top.items ≡ Some head → WaitsFor s p head.act → Row program s p i waits
   parked : has_live_child s.instances p ≡ true → Row program s p i parks
   stopping : (n : ℕ) (kind : TrapKind) → Row program s p i (traps s p n kind)
-  going : (head : Numbered) (answer : Bool) → Heads i head → Row program s p i (goes_on (after_going s p i answer) (event.acted p head.number))
+  going : (head : Numbered) (z : ℤ) → Heads i head → Row program s p i (goes_on (after_going s p i z) (event.acted p head.number))
   writing : (head : Numbered) (cell : Cell) (z : ℤ) → Heads i head → Row program s p i (goes_on (after_write s p i cell z) (event.acted p head.number))
   calling : (head : Numbered) (awaits : Option Reached) (callee : ℕ) (zs : List ℤ) → Heads i head → length i.below < 255
       → Row program s p i (goes_on (after_call program s p i awaits callee zs) (event.acted p head.number))
@@ -211,7 +211,7 @@ module _ (program : Labelled) (s : State) (p : Path) (i : Instance) where
       → (r : Result Effect Trap) → TellsLeaving head.act r → Row program s p i (step_by_effect program s p i head.number r)
   effect_row head unmarked first lockless ready (Err trap) tells = stopping head.number _
   effect_row head unmarked first lockless ready (Ok (writes cell z)) tells = writing head cell z (record { first = first; stays = tells })
-  effect_row head unmarked first lockless ready (Ok (answers answer)) tells = going head answer (record { first = first; stays = tells })
+  effect_row head unmarked first lockless ready (Ok (answers z)) tells = going head z (record { first = first; stays = tells })
   effect_row head unmarked first lockless ready (Ok (enters awaits callee zs)) tells =
       room_row head.number _ (nat_lt (length i.below) 255) _
       (λ room. calling head awaits callee zs (record { first = first; stays = tells }) (ltb-true (length i.below) 255 room))

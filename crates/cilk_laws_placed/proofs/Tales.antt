@@ -1,5 +1,5 @@
 -- What each step tells, and what it does to the deliveries that wait.
-use Rattle.std.proofs.Common.{◌≡◌, ℕ, ℤ, Bool, true, false, List, [], ◌∷◌, ◌++◌, Option, Some, None, refl, sym, ap, ◌∙◌}
+use Rattle.std.proofs.Common.{◌≡◌, ℕ, ℤ, pos, Bool, true, false, List, [], ◌∷◌, ◌++◌, Option, Some, None, refl, sym, ap, ◌∙◌}
 use Rattle.std.specs.Prelude.{option_map}
 use Rattle.cilk_model.specs.labelled.Labelled.{Labelled}
 use Rattle.cilk_model.specs.Path.{Path, same_path, parent_of}
@@ -112,17 +112,17 @@ module _ (program : Labelled) (s : State) (p : Path) (i : Instance) (live : inst
   row_tale (locked head first lock) = rests
   row_tale (parked some) = parks_it
   row_tale (stopping n kind) = acts _ _ (trapped_plain kind p n) (λ q. refl)
-  row_tale (going head answer heads) = acts _ _ (acted_plain p head.number) (still (gone_on answer i) refl)
-  row_tale (writing head cell z heads) = acts _ _ (acted_plain p head.number) (still (put cell z (gone_on true i)) refl)
+  row_tale (going head z heads) = acts _ _ (acted_plain p head.number) (still (gone_on z i) refl)
+  row_tale (writing head cell z heads) = acts _ _ (acted_plain p head.number) (still (put cell z (gone_on (pos 1) i)) refl)
   row_tale (calling head awaits callee zs heads room) =
-      acts _ _ (acted_plain p head.number) (still (above (entered program callee zs awaits) (gone_on true i)) refl)
+      acts _ _ (acted_plain p head.number) (still (above (entered program callee zs awaits) (gone_on (pos 1) i)) refl)
   row_tale (leaving n) = acts _ _ (acted_plain p n) (still (resumed i) (waits-caller i i.below))
   row_tale (answering n cell z) = acts _ _ (acted_plain p n) (still (put cell z (resumed i)) (waits-caller i i.below))
   row_tale (spawning head receiver callee zs heads few room) = starts _ _ head.number (born _ _ refl refl _)
-  row_tale (printing head bytes heads room) = acts _ _ (acted_plain p head.number) (still (gone_on true i) refl)
-  row_tale (turning head what k now heads turn) = acts _ _ (acted_plain p head.number) (still (gone_on true i) refl)
+  row_tale (printing head bytes heads room) = acts _ _ (acted_plain p head.number) (still (gone_on (pos 1) i) refl)
+  row_tale (turning head what k now heads turn) = acts _ _ (acted_plain p head.number) (still (gone_on (pos 1) i) refl)
   row_tale (marking head heads) =
-      acts _ _ (acted_plain p head.number) (λ q. still-marked p (changed p (λ _. gone_on true i) s.instances) q ∙ still (gone_on true i) refl q)
+      acts _ _ (acted_plain p head.number) (λ q. still-marked p (changed p (λ _. gone_on (pos 1) i) s.instances) q ∙ still (gone_on (pos 1) i) refl q)
   row_tale (returning n z none lockless unmarked) = brings _ n (brought z (parent_of p) refl)
   row_tale (placing oldest others cell z n taking_it) =
       takes _ _ n (taken oldest others taking_it.waits (put cell z (record i { waiting = others })) refl)

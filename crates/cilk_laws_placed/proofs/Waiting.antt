@@ -125,7 +125,7 @@ waiting_row {p = p} {i = i} (locked head first lock) live holders some e = recor
 }
 waiting_row (parked some_child) live holders some e = cc
 waiting_row (stopping n kind) live holders some e = cc
-waiting_row (going head answer heads) live holders some e = cc
+waiting_row (going head z heads) live holders some e = cc
 waiting_row (writing head cell z heads) live holders some e = cc
 waiting_row (calling head awaits callee zs heads room) live holders some e = cc
 waiting_row (leaving n) live holders some e = cc

@@ -45,8 +45,8 @@ OneWorkerHasOneLeaf = (program : Labelled) (choices : List Choice) (at : Positio
     → (p q : Path) → is_live at.standing.state.instances p ≡ true → has_live_child at.standing.state.instances p ≡ false
     → is_live at.standing.state.instances q ≡ true → has_live_child at.standing.state.instances q ≡ false → p ≡ q
 
--- after every list of possible choices of a program whose `break`s and `continue`s stand
--- in loops, each live instance has an action to go on with, and so has each of its activations that wait for the one above: the closing
+-- after every list of possible choices of a program whose `continue`s stand in loops, and whose `break`s in loops or
+-- `switch`es, each live instance has an action to go on with, and so has each of its activations that wait for the one above: the closing
 -- brace of a body comes last
 abbrev pub EachHasHead : Type 0
 EachHasHead = (program : Labelled) → breaks_fit program ≡ true → (n : ℕ) (choices : List Choice) (at : Position) → after program n choices ≡ Some at
@@ -71,8 +71,8 @@ SomeChoiceIsPossible = (program : Labelled) (n : ℕ) (choices : List Choice) (a
     → ((w : ℕ) → refusal_of program at.standing (record { worker = w; act = step }) ≢ Some waiting)
     → (choice : Choice) × (refusal_of program at.standing choice ≡ None)
 
--- after every list of possible choices of a program whose `break`s and `continue`s stand
--- in loops, it is stuck only where each worker with a full hand waits for a lock
+-- after every list of possible choices of a program whose `continue`s stand in loops, and whose `break`s in loops or
+-- `switch`es, it is stuck only where each worker with a full hand waits for a lock
 abbrev pub StuckOnLocks : Type 0
 StuckOnLocks = (program : Labelled) → breaks_fit program ≡ true → (n : ℕ) (choices : List Choice) (at : Position) → after program n choices ≡ Some at
     → is_stuck program at.standing ≡ true → AllWait at.standing

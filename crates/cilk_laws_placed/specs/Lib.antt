@@ -5,7 +5,6 @@ pub mod Locks
 pub mod Laws
 pub mod FateLaws
 pub use Rattle.cilk_model.specs as model
-pub use Rattle.cilk_model.specs.canonical
 pub use Rattle.cilk_model.specs.labelled
 pub use Rattle.cilk_model.specs.scopes
 pub use Rattle.cilk_model.specs.syntax

@@ -31,8 +31,8 @@ pub fn one_worker_has_one_leaf()
     ensures { OneWorkerHasOneLeaf }
 {}
 
-/// After every list of possible choices of a program whose `break`s and `continue`s stand in loops,
-/// each activation of each live instance has an action to go on with.
+/// After every list of possible choices of a program whose `continue`s stand in loops, and whose `break`s in
+/// loops or `switch`es, each activation of each live instance has an action to go on with.
 pub fn each_instance_has_a_head()
     ensures { EachHasHead }
 {}
@@ -54,8 +54,8 @@ pub fn each_holder_of_a_lock_lives()
     ensures { EachHolderLives }
 {}
 
-/// A program whose `break`s and `continue`s stand in loops is stuck only where each worker with a full
-/// hand waits for a lock that another live instance holds.
+/// A program whose `continue`s stand in loops, and whose `break`s in loops or `switch`es, is stuck only where each
+/// worker with a full hand waits for a lock that another live instance holds.
 pub fn a_program_is_stuck_on_locks_alone()
     ensures { StuckOnLocks }
 {}

@@ -16,10 +16,10 @@ use Rattle.cilk_parse_grammar.specs.Grammar.{rule_of, Tail, declares, defines, f
 use Rattle.cilk_parse_grammar.specs.Spelling.{first_of, said, IsOne, leaf_says, call, SpellsValue, SpellsNest, SpellsProgram}
 use Rattle.cilk_parse_grammar.proofs.Nests.{says}
 use Rattle.cilk_laws_printing.proofs.Can as can
-use Rattle.cilk_laws_printing.proofs.Can.{IsAssigned, Each, Where}
+use Rattle.cilk_laws_printing.proofs.Can.{IsAssigned, Each, Where, each_can, some_can, can_append, can_joined}
 use Rattle.cilk_laws_printing.proofs.Made as made
 use Rattle.cilk_laws_printing.proofs.Made.{EachMade, no_more, one_more, each_split}
-use Rattle.cilk_laws_printing.proofs.Given.{AtLeastOne, Given, g_done, g_skip, g_then, g_either, g_nearest, g_by, g_use, g_many, g_before, g_between}
+use Rattle.cilk_laws_printing.proofs.Given.{Given, g_done, g_skip, g_then, g_either, g_nearest, g_by, g_use, g_many, g_before, g_between}
 use Rattle.cilk_laws_printing.proofs.Given.{g_behind_commas, g_commas, g_word, g_name, g_number, g_literal, g_header, g_expr, g_value, g_statement}
 use Rattle.cilk_laws_printing.proofs.Given.{g_unbraced, g_inlet}
 
@@ -80,24 +80,6 @@ module _ (good : Lexeme → Type 0) (one : good (number 1)) where
       let k = each_split us (t ∷ (vs ++ u ∷ ws)) (subst Good w g) in
       let j = each_split vs (u ∷ ws) (each_split (t ∷ []) (vs ++ u ∷ ws) k.1).1 in
       (expr_can k.0 c, expr_can j.0 a, expr_can (each_split (u ∷ []) ws j.1).1 b)
-
-  -- ---- lists
-
-  each_can : {A : Type 0} {R : A → Type 0} (xs : List A) → EachMade R xs → Each R xs
-  each_can xs no_more = tt
-  each_can xs (one_more {xs = ys} h t) = (h, each_can ys t)
-
-  some_can : {A : Type 0} (R : A → Type 0) (xs : List A) → AtLeastOne R xs → Each R xs
-  some_can R [] h = elim h [ ]
-  some_can R (x ∷ xs) h = (h.0, each_can xs h.1)
-
-  can_append : {A : Type 0} (R : A → Type 0) (xs ys : List A) → Each R xs → Each R ys → Each R (xs ++ ys)
-  can_append R [] ys h k = k
-  can_append R (x ∷ xs) ys h k = (h.0, can_append R xs ys h.1 k)
-
-  can_joined : {A : Type 0} (R : A → Type 0) (xss : List (List A)) → EachMade (λ xs. Each R xs) xss → Each R (joined xss)
-  can_joined R xss no_more = tt
-  can_joined R xss (one_more {x = xs} {xs = yss} h t) = can_append R xs (joined yss) h (can_joined R yss t)
 
   -- ---- moves
 
@@ -187,9 +169,12 @@ module _ (good : Lexeme → Type 0) (one : good (number 1)) where
   declared_can [] h = tt
   declared_can (d ∷ ds) h = (h.0, declared_can ds h.1)
 
+  declaration_can : Given G grammar.declaration CanLocalsList
+  declaration_can = g_skip (g_before (g_then (g_commas declarator_can) (λ ds h. g_done (declared_can ds (some_can (can.CanDecl good) ds h)))))
+
   local_can : Given G grammar.local CanLocalsList
   local_can =
-      g_either (g_skip (g_before (g_then (g_commas declarator_can) (λ ds h. g_done (declared_can ds (some_can (can.CanDecl good) ds h))))))
+      g_either declaration_can
       (g_then g_inlet (λ x h. g_done (h, tt)))
 
   locals_can : (xs : List tree.Local) → CanLocalsList xs → can.CanLocals good (locals_of xs)
@@ -221,6 +206,32 @@ module _ (good : Lexeme → Type 0) (one : good (number 1)) where
   loop_test_can : Given G grammar.loop_test (λ e. can.CanExpr good e)
   loop_test_can = g_either g_expr (g_done one)
 
+  negative_can : (n : ℕ) → good (number n) → can.CanInteger good (neg_ℤ (pos n))
+  negative_can zero h = h
+  negative_can (suc n) h = h
+
+  integer_can : Given G grammar.integer (λ z. can.CanInteger good z)
+  integer_can = g_either (g_skip (g_then g_number (λ n h. g_done (negative_can n h)))) (g_then g_number (λ n h. g_done h))
+
+  label_can : Given G grammar.label CanStmt
+  label_can = g_before (g_either (g_then g_word (λ at u. g_then integer_can (λ z h. g_done h))) (g_then g_word (λ at u. g_done tt)))
+
+  labelled_can : Given G grammar.labelled (λ ss. Each CanStmt ss)
+  labelled_can = g_then (g_many label_can) (λ xs h. g_then g_statement (λ s k. g_done (can_append CanStmt xs (s ∷ []) (each_can xs h) (k, tt))))
+
+  each_stmts_can : (ss : List tree.Stmt) → Each CanStmt ss → can.CanStmts good (stmts_of ss)
+  each_stmts_can [] h = tt
+  each_stmts_can (s ∷ ss) h = (h.0, each_stmts_can ss h.1)
+
+  cases_can : Given G grammar.cases CanBlock
+  cases_can =
+      g_between
+      (g_then (g_many declaration_can) (λ xss h. g_then (g_many labelled_can)
+      (λ sss g. g_done (locals_can (joined xss) (can_joined (can.CanLocal good) xss h), each_stmts_can (joined sss) (can_joined CanStmt sss g)))))
+
+  switching_can : Given G grammar.switching CanStmt
+  switching_can = g_skip (g_then test_can (λ e he. g_then cases_can (λ b hb. g_done (he, hb))))
+
   no_block_can : Given G grammar.no_block_rule CanStmt
   no_block_can =
       g_either named_can (g_either (g_before (g_then adjusted_can (λ m h. g_done h)))
@@ -231,10 +242,12 @@ module _ (good : Lexeme → Type 0) (one : good (number 1)) where
       (g_either (g_skip (g_then test_can (λ e he. g_then body_can (λ b hb. g_nearest (g_skip (g_then body_can (λ o ho. g_done (he, hb, ho)))) (he, hb)))))
       (g_either (g_skip (g_then test_can (λ e he. g_then body_can (λ b hb. g_done (he, hb)))))
       (g_either (g_skip (g_then body_can (λ b hb. g_skip (g_before (g_then test_can (λ e he. g_done (hb, he)))))))
+      (g_either
       (g_skip
       (g_skip
       (g_then (g_before part_can) (λ m hm. g_then (g_before loop_test_can)
-      (λ e he. g_then (g_before part_can) (λ a ha. g_then body_can (λ b hb. g_done (hm, he, ha, hb)))))))))))))))))))))
+      (λ e he. g_then (g_before part_can) (λ a ha. g_then body_can (λ b hb. g_done (hm, he, ha, hb))))))))
+      switching_can))))))))))))))
 
   parameters_can : Given G grammar.parameters (λ xs. can.CanWords good xs)
   parameters_can =
@@ -299,15 +312,8 @@ module _ (good : Lexeme → Type 0) (one : good (number 1)) where
   headed_can : (c : Bool) (r : ReturnType) (cs : List ℕ) (q : Rule Means Tail) → Given G q CanTail → Given G (grammar.headed c r cs q) CanItems
   headed_can c r cs q g = g_then g_name (λ x hx. g_then g (λ t ht. g_done (function_can c r t x hx ht, tt)))
 
-  negative_can : (n : ℕ) → good (number n) → can.CanInteger good (neg_ℤ (pos n))
-  negative_can zero h = h
-  negative_can (suc n) h = h
-
   shape_can : Given G grammar.global_shape (λ s. can.CanGlobalShape good s)
   shape_can = g_either (g_skip (g_then integer_can (λ z h. g_done h))) (g_either (g_then (g_between g_number) (λ n h. g_done h)) (g_done tt))
-    where
-      integer_can : Given G grammar.integer (λ z. can.CanInteger good z)
-      integer_can = g_either (g_skip (g_then g_number (λ n h. g_done (negative_can n h)))) (g_then g_number (λ n h. g_done h))
 
   abbrev CanGlobal : tree.Global → Type 0
   CanGlobal g = can.CanWord good g.name × can.CanGlobalShape good g.shape

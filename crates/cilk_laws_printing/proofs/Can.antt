@@ -1,10 +1,13 @@
 -- Trees of which each name, number and text literal is a good lexeme, whatever is good, and of which C has each assignment.
-use Rattle.std.specs.Prelude.{suc, ℤ, pos, negsuc, List, [], ◌∷◌, Option, Some, None}
+use Rattle.std.specs.Prelude.{suc, ℤ, pos, negsuc, List, [], ◌∷◌, ◌++◌, Option, Some, None}
 use Rattle.cilk_check.specs.lexeme.Lexeme.{Lexeme, name, number, literal}
 use Rattle.cilk_check.specs.syntax.declared.operator.BinOp.{BinOp}
 use Rattle.cilk_check.specs.syntax.declared.operator.BinOp.TheVariants as ops
 use Rattle.cilk_check.specs.syntax.Tree as tree
 use Rattle.cilk_check.specs.syntax.Tree.{Word, Expr}
+use Rattle.cilk_parse_grammar.specs.Forms.{joined}
+use Rattle.cilk_laws_printing.proofs.Made.{EachMade, no_more, one_more}
+use Rattle.cilk_laws_printing.proofs.Given.{AtLeastOne}
 
 -- C has `=`, and this operator with `=` behind it (C 1990, 6.3.16)
 abbrev pub IsAssigned : Option BinOp → Type 0
@@ -76,6 +79,11 @@ module _ (good : Lexeme → Type 0) where
   abbrev pub CanDecl : tree.Decl → Type 0
   CanDecl d = CanWord d.name × CanShape d.shape
 
+  -- a number and its sign, which is a mark of its own
+  abbrev pub CanInteger : ℤ → Type 0
+  CanInteger (pos n) = good (number n)
+  CanInteger (negsuc n) = good (number (suc n))
+
   abbrev mutual
     pub CanStmt : tree.Stmt → Type 0
     CanStmt (tree.move m) = CanMove m
@@ -88,6 +96,8 @@ module _ (good : Lexeme → Type 0) where
     CanStmt (tree.while e b) = CanExpr e × CanBlock b
     CanStmt (tree.repeat b e) = CanBlock b × CanExpr e
     CanStmt (tree.loop first e advance b) = Where (λ m. CanMove m) first × CanExpr e × Where (λ m. CanMove m) advance × CanBlock b
+    CanStmt (tree.switch e b) = CanExpr e × CanBlock b
+    CanStmt (tree.labelled l) = Where (λ z. CanInteger z) l.value
     CanStmt (tree.nested b) = CanBlock b
     CanStmt s = Unit {0}
 
@@ -110,11 +120,6 @@ module _ (good : Lexeme → Type 0) where
   CanParameters (tree.ints xs) = CanWords xs
   CanParameters (tree.command_line count strings) = CanWord count × CanWord strings
 
-  -- a number and its sign, which is a mark of its own
-  abbrev pub CanInteger : ℤ → Type 0
-  CanInteger (pos n) = good (number n)
-  CanInteger (negsuc n) = good (number (suc n))
-
   abbrev pub CanGlobalShape : tree.GlobalShape → Type 0
   CanGlobalShape (tree.global_variable value) = Where (λ z. CanInteger z) value
   CanGlobalShape (tree.global_array n) = good (number n)
@@ -127,3 +132,21 @@ module _ (good : Lexeme → Type 0) where
 
   abbrev pub CanItems : List tree.Item → Type 0
   CanItems is = Each (λ i. CanItem i) is
+
+-- ---- lists
+
+pub each_can : {A : Type 0} {R : A → Type 0} (xs : List A) → EachMade R xs → Each R xs
+each_can xs no_more = tt
+each_can xs (one_more {xs = ys} h t) = (h, each_can ys t)
+
+pub some_can : {A : Type 0} (R : A → Type 0) (xs : List A) → AtLeastOne R xs → Each R xs
+some_can R [] h = elim h [ ]
+some_can R (x ∷ xs) h = (h.0, each_can xs h.1)
+
+pub can_append : {A : Type 0} (R : A → Type 0) (xs ys : List A) → Each R xs → Each R ys → Each R (xs ++ ys)
+can_append R [] ys h k = k
+can_append R (x ∷ xs) ys h k = (h.0, can_append R xs ys h.1 k)
+
+pub can_joined : {A : Type 0} (R : A → Type 0) (xss : List (List A)) → EachMade (λ xs. Each R xs) xss → Each R (joined xss)
+can_joined R xss no_more = tt
+can_joined R xss (one_more {x = xs} {xs = yss} h t) = can_append R xs (joined yss) h (can_joined R yss t)

@@ -12,7 +12,7 @@ use Rattle.cilk_check.specs.syntax.declared.un_op.UnOp.{UnOp}
 use Rattle.cilk_check.specs.syntax.declared.un_op.UnOp.TheVariants as signs
 use Rattle.cilk_check.specs.syntax.OperatorMark.{mark_of, sign_of}
 use Rattle.cilk_check.specs.syntax.Tree as tree
-use Rattle.cilk_tree.specs.ExprText.{expr_text, operand_text}
+use Rattle.cilk_tree.specs.syntax.ExprText.{expr_text, operand_text}
 use Rattle.cilk_laws_printing.specs.ExprLexemes.{operator_mark, sign_mark, expr_lexemes, operand_lexemes}
 use Rattle.cilk_laws_printing.specs.CanWrite.{CanWriteExpr}
 use Rattle.cilk_laws_printing.proofs.Spaced.{space_writes, spaced_mark, parentheses_write, brackets_write}

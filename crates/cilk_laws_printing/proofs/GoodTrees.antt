@@ -1,12 +1,12 @@
 -- What the tokens of a text spell can be written.
-use Rattle.std.proofs.Common.{◌≡◌, ℕ, ◌≤◌, true, List, [], ◌∷◌, Option, Some, None, pos, negsuc, refl, All, arith}
+use Rattle.std.proofs.Common.{◌≡◌, ℕ, ◌≤◌, true, List, [], ◌∷◌, Option, Some, None, ℤ, pos, negsuc, refl, All, arith}
 use Rattle.cilk_check.specs.lexeme.Good.{IsGoodLexeme}
 use Rattle.cilk_check.specs.lexeme.Lexeme.{Lexeme, Piece}
 use Rattle.cilk_check.specs.syntax.declared.operator.BinOp.{BinOp}
 use Rattle.cilk_check.specs.syntax.declared.operator.BinOp.TheVariants as ops
 use Rattle.cilk_check.specs.syntax.Tree as tree
 use Rattle.cilk_check.specs.syntax.Bare.{bare_program}
-use Rattle.cilk_tree.specs.ProgramText.{program_text}
+use Rattle.cilk_tree.specs.syntax.ProgramText.{program_text}
 use Rattle.cilk_check.specs.lexeme.Lexing.{Lexes}
 use Rattle.cilk_parse_grammar.proofs.lexeme_laws.Sayable.{good_pieces}
 use Rattle.cilk_laws_printing.proofs.Programs.{program_made}
@@ -19,7 +19,7 @@ use Rattle.cilk_laws_printing.proofs.Able.{program_able}
 use Rattle.cilk_laws_printing.specs.CanWrite.{CanWriteExpr, CanWriteExprs, CanWriteValue, CanAssign, CanWritePlace, CanWriteTarget, CanWriteReceiver}
 use Rattle.cilk_laws_printing.specs.CanWrite.{CanWriteMove}
 use Rattle.cilk_laws_printing.specs.CanWrite.{CanWritePart, CanWriteTaker, CanWriteShape, CanWriteWords, CanWriteStmt, CanWriteStmts, CanWriteLocal}
-use Rattle.cilk_laws_printing.specs.CanWrite.{CanWriteLocals, CanWriteBlock}
+use Rattle.cilk_laws_printing.specs.CanWrite.{CanWriteInteger, CanWriteLocals, CanWriteBlock}
 use Rattle.cilk_laws_printing.specs.CanWrite.{CanWriteParameters, CanWriteGlobalShape, CanWriteItem, CanWriteItems, CanWrite}
 
 abbrev good : Lexeme → Type 0
@@ -88,6 +88,11 @@ shape : (s : tree.Shape) → can.CanShape good s → CanWriteShape s
 shape (tree.variable v) h = value v h
 shape (tree.array n) h = h
 
+integer : (z : Option ℤ) → Where (λ n. can.CanInteger good n) z → CanWriteInteger z
+integer None h = tt
+integer (Some (pos n)) h = h
+integer (Some (negsuc n)) h = h
+
 mutual
   stmt : (s : tree.Stmt) → can.CanStmt good s → CanWriteStmt s
   stmt (tree.move m) h = move m h
@@ -105,6 +110,8 @@ mutual
   stmt (tree.while e b) h = (expr e h.0, block b h.1)
   stmt (tree.repeat b e) h = (block b h.0, expr e h.1)
   stmt (tree.loop m e a b) h = (part m h.0, expr e h.1, part a h.2, block b h.3)
+  stmt (tree.switch e b) h = (expr e h.0, block b h.1)
+  stmt (tree.labelled l) h = integer l.value h
   stmt (tree.nested b) h = block b h
 
   stmts : (ss : tree.Stmts) → can.CanStmts good ss → CanWriteStmts ss
@@ -127,9 +134,7 @@ parameters (tree.ints xs) h = words xs h
 parameters (tree.command_line c s) h = h
 
 global_shape : (s : tree.GlobalShape) → can.CanGlobalShape good s → CanWriteGlobalShape s
-global_shape (tree.global_variable None) h = tt
-global_shape (tree.global_variable (Some (pos n))) h = h
-global_shape (tree.global_variable (Some (negsuc n))) h = h
+global_shape (tree.global_variable z) h = integer z h
 global_shape (tree.global_array n) h = h
 
 item : (i : tree.Item) → can.CanItem good i → CanWriteItem i

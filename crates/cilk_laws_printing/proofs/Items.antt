@@ -1,39 +1,31 @@
 -- The lines of what stands at the top level write their lexemes.
-use Rattle.std.proofs.Common.{◌≡◌, ◌≤◌, ℕ, zero, suc, ℤ, pos, negsuc, unsigned_abs, Bool, true, false, List, [], ◌∷◌, ◌++◌, decimal, Some, None, refl}
+use Rattle.std.proofs.Common.{◌≡◌, ℕ, zero, suc, Bool, true, false, List, [], ◌∷◌, ◌++◌, Some, None, refl}
 use Rattle.std.proofs.Common.{ap, ◌∙◌, codes}
-use Rattle.std.specs.Fmt.{signed_decimal}
 use Rattle.cilk_check.specs.lexeme.declared.keyword.Keyword.TheVariants as key
 use Rattle.cilk_check.specs.lexeme.declared.mark.Mark.TheVariants as sign
 use Rattle.cilk_check.specs.lexeme.Lexeme.{Lexeme, word, name, mark}
 use Rattle.cilk_check.specs.lexeme.Sight.{named, word_in, all_words}
-use Rattle.cilk_check.specs.lexeme.Spelling.{IsName, int_max}
+use Rattle.cilk_check.specs.lexeme.Spelling.{IsName}
 use Rattle.cilk_parse_grammar.proofs.lexeme_laws.Decimals.{decimal_number}
-use Rattle.cilk_parse_grammar.proofs.lexeme_laws.Longest.{no_mark_on, number_begins}
+use Rattle.cilk_parse_grammar.proofs.lexeme_laws.Longest.{no_mark_on}
 use Rattle.cilk_check.specs.syntax.declared.return_type.ReturnType.{ReturnType}
 use Rattle.cilk_check.specs.syntax.declared.return_type.ReturnType.TheVariants as returns
 use Rattle.cilk_check.specs.syntax.ReturnWord.{word_of}
 use Rattle.cilk_check.specs.syntax.Tree as tree
-use Rattle.cilk_tree.specs.ProgramText.{global_shape_text, head_text, next_types_text, types_text, parameters_text, item_lines, items_lines}
+use Rattle.cilk_tree.specs.syntax.ProgramText.{global_shape_text, head_text, next_types_text, types_text, parameters_text, item_lines, items_lines}
 use Rattle.cilk_laws_printing.specs.ExprLexemes.{each}
 use Rattle.cilk_laws_printing.specs.ProgramLexemes.{returns_word, head_lexemes, next_types_lexemes, types_lexemes, parameters_lexemes}
-use Rattle.cilk_laws_printing.specs.ProgramLexemes.{integer_lexemes, global_shape_lexemes, item_lexemes}
+use Rattle.cilk_laws_printing.specs.ProgramLexemes.{global_shape_lexemes, item_lexemes}
 use Rattle.cilk_laws_printing.specs.CanWrite.{CanWriteParameters, CanWriteGlobalShape, CanWriteItem, CanWriteItems}
 use Rattle.cilk_laws_printing.proofs.Exprs.{name_on}
 use Rattle.cilk_laws_printing.proofs.Lines.{LinesWrite, no_lines, first_line, same_lines, ended_line, more_lines, closed_lines}
-use Rattle.cilk_laws_printing.proofs.Simple.{names_write}
+use Rattle.cilk_laws_printing.proofs.Simple.{names_write, integer_writes}
 use Rattle.cilk_laws_printing.proofs.Spaced.{space_writes, word_space, mark_space, spaced_mark, then_brace, brackets_write}
 use Rattle.cilk_laws_printing.proofs.Stmts.{to_brace, inner, opened, block_writes}
 use Rattle.cilk_laws_printing.proofs.Writes.{Ends, Writes, WritesAlone, weaken, nothing_writes, alone_then, both_alone, ended_then, ended_alone}
 use Rattle.cilk_laws_printing.proofs.Writes.{sure_mark, mark_then, word_writes, name_writes, number_writes, fixed_name}
 
 -- ---- variables and arrays
-
--- a minus stands directly before the digits
-integer_writes : (n : ℤ) → unsigned_abs n ≤ int_max → Writes (signed_decimal n) (integer_lexemes n)
-integer_writes (pos n) h = number_writes (decimal_number n h)
-integer_writes (negsuc n) h =
-    let digits = decimal_number (suc n) h in
-    mark_then sign.Minus (λ rest. no_mark_on (decimal (suc n)) rest (number_begins digits)) (number_writes digits)
 
 shape_ends : (s : tree.GlobalShape) → Ends (global_shape_text s)
 shape_ends (tree.global_variable None) = tt

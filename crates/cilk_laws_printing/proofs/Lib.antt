@@ -14,6 +14,7 @@ pub mod Built
 pub mod Given
 pub mod ReadMoves
 pub mod ReadSimple
+pub mod Labelled
 pub mod ReadStmts
 pub mod Nested
 pub mod Tails
@@ -24,4 +25,9 @@ pub mod Able
 pub mod GoodTrees
 pub mod Plain
 pub mod Printed
+pub mod Says
+pub mod SaysParts
+pub mod Downward
+pub mod Numbers
+pub mod OnLines
 pub use Rattle.cilk_tree.proofs as canonical_laws

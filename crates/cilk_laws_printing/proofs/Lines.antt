@@ -3,7 +3,7 @@ use Rattle.std.proofs.Common.{◌≡◌, ℕ, List, [], ◌∷◌, ◌++◌, ref
 use Rattle.std.proofs.lemmas.List.{append-nil}
 use Rattle.cilk_check.specs.lexeme.declared.mark.Mark.TheVariants as sign
 use Rattle.cilk_check.specs.lexeme.Lexeme.{Lexeme, mark}
-use Rattle.cilk_tree.specs.Lines.{text_of, deeper, closed, ended}
+use Rattle.cilk_tree.specs.syntax.Lines.{text_of, deeper, closed, ended}
 use Rattle.cilk_tree.proofs.Lines.{text_of-append, text_of-deeper}
 use Rattle.cilk_laws_printing.specs.StmtLexemes as written
 use Rattle.cilk_laws_printing.proofs.Spaced.{newline_writes, indent_writes}

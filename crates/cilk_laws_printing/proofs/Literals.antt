@@ -10,7 +10,7 @@ use Rattle.cilk_check.specs.lexeme.Lexeme.{literal}
 use Rattle.cilk_check.specs.lexeme.Spelling.{Says, says_nothing, says_byte, says_escape}
 use Rattle.cilk_parse_grammar.proofs.lexeme_laws.Runs.{both}
 use Rattle.cilk_check.specs.syntax.Tree.{Literal}
-use Rattle.cilk_tree.specs.MoveText.{escape, escapes, literal_text}
+use Rattle.cilk_tree.specs.syntax.MoveText.{escape, escapes, literal_text}
 use Rattle.cilk_laws_printing.proofs.Writes.{WritesAlone, text_writes}
 
 plain_is : (b : ℕ) → is_sayable b ≡ true → (b == 10) ≡ false → (b == 9) ≡ false → (b == 92) ≡ false → (b == 34) ≡ false → is_plain b ≡ true

@@ -10,7 +10,7 @@ use Rattle.cilk_check.specs.syntax.declared.adjustment.Adjustment.TheVariants as
 use Rattle.cilk_check.specs.syntax.declared.operator.BinOp.{BinOp}
 use Rattle.cilk_check.specs.syntax.OperatorMark.{mark_of}
 use Rattle.cilk_check.specs.syntax.Tree as tree
-use Rattle.cilk_tree.specs.MoveText.{next_exprs_text, exprs_text, call_text, index_text, place_text, op_text, target_text, move_text}
+use Rattle.cilk_tree.specs.syntax.MoveText.{next_exprs_text, exprs_text, call_text, index_text, place_text, op_text, target_text, move_text}
 use Rattle.cilk_laws_printing.specs.StmtLexemes.{next_exprs_lexemes, exprs_lexemes, call_lexemes, index_lexemes, assign_mark, into_lexemes, move_lexemes}
 use Rattle.cilk_laws_printing.specs.CanWrite.{CanWriteExprs, CanWriteValue, CanAssign, CanWritePlace, CanWriteTarget, CanWriteMove}
 use Rattle.cilk_laws_printing.proofs.Exprs.{expr_writes}

@@ -9,7 +9,7 @@ use Rattle.cilk_check.specs.syntax.Tree as tree
 use Rattle.cilk_check.specs.syntax.Tree.{Word}
 use Rattle.cilk_check.specs.scopes.declared.fault.CheckFault.TheVariants.{Reserved}
 use Rattle.cilk_check.specs.scopes.Scopes.{Scopes, parameters_declare, file_scopes}
-use Rattle.cilk_check.specs.scopes.Parts.{Around, PartInContext, statement, inner, looped, after_local, after_locals, in_body, in_inlet, owner_of}
+use Rattle.cilk_check.specs.scopes.Parts.{Around, PartInContext, statement, inner, looped, switched, after_local, after_locals, in_body, in_inlet, owner_of}
 use Rattle.cilk_check.specs.scopes.Parts.{block_parts, locals_parts, within_local, stmts_parts, within_stmt, item_parts, parts_of}
 use Rattle.cilk_check.proofs.scopes_laws.Elements.{Has, Contains-from_Has, Has-append_left, Has-append_right, Has-flat_map}
 use Rattle.cilk_check.specs.scopes.Reserved.{IsReserved}
@@ -105,6 +105,7 @@ mutual
   plain_stmt a (tree.while test body) own free = plain_block (looped a) body free
   plain_stmt a (tree.repeat body test) own free = plain_block (looped a) body free
   plain_stmt a (tree.loop first test advance body) own free = plain_block (looped a) body free
+  plain_stmt a (tree.switch test body) own free = plain_block (switched a) body free
   plain_stmt a (tree.nested inside) own free = plain_block (inner a) inside free
   plain_stmt a other own free = tt
 

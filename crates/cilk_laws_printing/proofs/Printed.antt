@@ -3,7 +3,7 @@ use Rattle.std.proofs.Common.{◌≡◌, ℕ, List, length, refl, arith}
 use Rattle.cilk_check.specs.lexeme.Lexeme.{Piece}
 use Rattle.cilk_check.specs.syntax.Tree as tree
 use Rattle.cilk_check.specs.syntax.Bare.{bare_program}
-use Rattle.cilk_tree.specs.ProgramText.{program_text}
+use Rattle.cilk_tree.specs.syntax.ProgramText.{program_text}
 use Rattle.cilk_tree.proofs.BareText.{program_text_same}
 use Rattle.cilk_parse_grammar.specs.Expressions.{operator_limit, parenthesis_limit}
 use Rattle.cilk_parse_grammar.specs.Spelling.{SpellsProgram, nesting_limit}

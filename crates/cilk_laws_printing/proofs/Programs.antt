@@ -6,8 +6,8 @@ use Rattle.cilk_check.specs.lexeme.declared.header.Header.TheVariants as head
 use Rattle.cilk_check.specs.lexeme.Lexeme.{Lexeme, inclusion}
 use Rattle.cilk_parse_grammar.proofs.lexeme_laws.Made.{Made, nothing_made, include_made}
 use Rattle.cilk_check.specs.syntax.Tree as tree
-use Rattle.cilk_tree.specs.Lines.{text_of}
-use Rattle.cilk_tree.specs.ProgramText.{header_line, items_lines, program_text}
+use Rattle.cilk_tree.specs.syntax.Lines.{text_of}
+use Rattle.cilk_tree.specs.syntax.ProgramText.{header_line, items_lines, program_text}
 use Rattle.cilk_tree.proofs.Lines.{text_of-append}
 use Rattle.cilk_laws_printing.specs.ExprLexemes.{each}
 use Rattle.cilk_laws_printing.specs.ProgramLexemes.{item_lexemes, program_lexemes}

@@ -1,5 +1,5 @@
 -- The canonical lexemes of what stands at the top level spell it again.
-use Rattle.std.proofs.Common.{◌≡◌, ℕ, zero, suc, ◌≤◌, Bool, true, false, List, [], ◌∷◌, ◌++◌, map, Option, ℤ, pos, neg_ℤ, refl, ap}
+use Rattle.std.proofs.Common.{◌≡◌, ℕ, ◌≤◌, Bool, true, false, List, [], ◌∷◌, ◌++◌, map, Option, refl, ap}
 use Rattle.cilk_check.specs.lexeme.Lexeme.{word, mark, inclusion}
 use Rattle.cilk_check.specs.lexeme.declared.header.Header.{Header}
 use Rattle.cilk_check.specs.lexeme.declared.keyword.Keyword.TheVariants as key
@@ -17,7 +17,7 @@ use Rattle.cilk_parse_grammar.specs.Grammar as grammar
 use Rattle.cilk_parse_grammar.specs.Grammar.{Tail, declares, defines, function}
 use Rattle.cilk_laws_printing.specs.Plain.{PlainItem, PlainItems}
 use Rattle.cilk_laws_printing.specs.ExprLexemes.{each}
-use Rattle.cilk_laws_printing.specs.ProgramLexemes.{head_lexemes, integer_lexemes, global_shape_lexemes, item_lexemes}
+use Rattle.cilk_laws_printing.specs.ProgramLexemes.{head_lexemes, global_shape_lexemes, item_lexemes}
 use Rattle.cilk_laws_printing.proofs.Made as made
 use Rattle.cilk_laws_printing.proofs.Made.{EachMade}
 use Rattle.cilk_laws_printing.proofs.Built.{Setting, Spells, Written, Built, written, b_of, b_done, b_skip, b_then, b_last, b_only, b_left, b_right}
@@ -25,6 +25,7 @@ use Rattle.cilk_laws_printing.proofs.Built.{b_before, b_name, b_number, b_header
 use Rattle.cilk_laws_printing.proofs.Given.{good, GoodName, Given, g_done, g_skip, g_then, g_either, g_many, g_before, g_between, g_behind_commas}
 use Rattle.cilk_laws_printing.proofs.Given.{g_commas, g_name, g_number, g_header}
 use Rattle.cilk_laws_printing.proofs.ReadMoves.{setting, at_least_few}
+use Rattle.cilk_laws_printing.proofs.ReadSimple as simple
 use Rattle.cilk_laws_printing.proofs.ReadStmts.{each_joined}
 use Rattle.cilk_laws_printing.proofs.Tails as tails
 use Rattle.cilk_laws_printing.proofs.Tails.{tail_lexemes, bare_tail, PlainTail}
@@ -84,18 +85,6 @@ module _ (l d : ℕ) (le : l ≤ d) (n : ℕ) where
 
   -- ---- variables, arrays and locks
 
-  abbrev IntegerAgain : ℤ → Type 0
-  IntegerAgain z = (k : Option ℕ) → Written S grammar.integer k (integer_lexemes z) z
-
-  negative_again : (m : ℕ) → IntegerAgain (neg_ℤ (pos m))
-  negative_again zero k = written (b_right (b_last (b_number 0))) refl refl
-  negative_again (suc m) k = written (b_left (b_skip (mark sign.Minus) refl (b_last (b_number (suc m))))) refl refl
-
-  integer_given : Given (good l d n) grammar.integer IntegerAgain
-  integer_given =
-      g_either (g_skip (g_then g_number (λ m u. g_done (negative_again m))))
-      (g_then g_number (λ m u. g_done (λ k. written (b_right (b_last (b_number m))) refl refl)))
-
   abbrev ShapeAgain : tree.GlobalShape → Type 0
   ShapeAgain s = (k : Option ℕ) → Written S grammar.global_shape k (global_shape_lexemes s) s
 
@@ -103,7 +92,7 @@ module _ (l d : ℕ) (le : l ≤ d) (n : ℕ) where
   shape_given =
       g_either
       (g_skip
-      (g_then integer_given (λ z h. g_done (λ k. written (b_left (b_skip (mark sign.Assign) refl (b_last (b_of (h k))))) refl refl))))
+      (g_then (simple.integer_given l d le n) (λ z h. g_done (λ k. written (b_left (b_skip (mark sign.Assign) refl (b_last (b_of (h k))))) refl refl))))
       (g_either
       (g_then (g_between g_number)
       (λ m u. g_done

@@ -8,6 +8,7 @@ use Rattle.cilk_check.specs.syntax.declared.adjustment.Adjustment.{Adjustment}
 use Rattle.cilk_check.specs.syntax.declared.operator.BinOp.{BinOp}
 use Rattle.cilk_check.specs.syntax.Bare.{bare_word, bare_expr, bare_value, bare_move}
 use Rattle.cilk_parse.specs.rules.Rule.{skip}
+use Rattle.cilk_parse_grammar.specs.Classes.{a_mark}
 use Rattle.cilk_parse_grammar.specs.Expressions.{operators}
 use Rattle.cilk_parse_grammar.proofs.ClassFacts.{names_are}
 use Rattle.cilk_parse_grammar.specs.Parts.{Value, computed, called, assigned}
@@ -38,8 +39,8 @@ module _ (l d : ℕ) (le : l ≤ d) where
 pub next_spelled : (S : Setting) (es : List Expr) (k : Option ℕ) → Few S.limit es
     → Spells S (behind_commas expression) k (next_exprs_lexemes es) (map bare_expr es)
 next_spelled S es k h =
-    each_before S (skip 22 expression) (λ e. mark sign.Comma ∷ expr_lexemes e) bare_expr (λ e. operators e ≤ S.limit)
-    (λ e j i. (b_skip {S = S} {c = 22} {p = expression} {k = j} (mark sign.Comma) refl (b_expr e i)).it) es k h
+    each_before S (skip (a_mark sign.Comma) expression) (λ e. mark sign.Comma ∷ expr_lexemes e) bare_expr (λ e. operators e ≤ S.limit)
+    (λ e j i. (b_skip {S = S} {c = a_mark sign.Comma} {p = expression} {k = j} (mark sign.Comma) refl (b_expr e i)).it) es k h
 
 abbrev pub b_next : {S : Setting} {k : Option ℕ} (es : List Expr) → Few S.limit es → Built S (behind_commas expression) k
 b_next {S = S} {k = k} es h = record { ls = next_exprs_lexemes es; means = map bare_expr es; it = next_spelled S es k h }

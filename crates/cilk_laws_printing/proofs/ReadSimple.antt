@@ -1,5 +1,5 @@
 -- The canonical lexemes of a simple statement spell it again.
-use Rattle.std.proofs.Common.{◌≡◌, ℕ, ◌≤◌, true, List, [], ◌∷◌, codes, Option, Some, None, refl, sym, subst}
+use Rattle.std.proofs.Common.{◌≡◌, ℕ, zero, suc, ℤ, pos, neg_ℤ, ◌≤◌, true, List, [], ◌∷◌, codes, Option, Some, None, refl, sym, subst}
 use Rattle.cilk_check.specs.lexeme.Lexeme.{word, name, mark}
 use Rattle.cilk_check.specs.lexeme.declared.keyword.Keyword.{Keyword}
 use Rattle.cilk_check.specs.lexeme.declared.keyword.Keyword.TheVariants as key
@@ -11,19 +11,19 @@ use Rattle.cilk_check.specs.syntax.Tree as tree
 use Rattle.cilk_check.specs.syntax.Tree.{Word, Expr}
 use Rattle.cilk_check.specs.syntax.Bare.{bare_value, bare_stmt}
 use Rattle.cilk_parse.specs.rules.Rule.{Rule, either, and_then, is}
-use Rattle.cilk_parse_grammar.specs.Classes.{name_class}
+use Rattle.cilk_parse_grammar.specs.Classes.{a_mark, name_class}
 use Rattle.cilk_parse_grammar.proofs.ClassFacts.{names_are}
 use Rattle.cilk_parse_grammar.specs.Parts.{Value, computed, called, assigned, Means}
 use Rattle.cilk_parse_grammar.specs.Forms.{expression, optional}
 use Rattle.cilk_parse_grammar.specs.Grammar as grammar
 use Rattle.cilk_laws_printing.specs.Plain.{IsPlain, PlainStmt}
-use Rattle.cilk_laws_printing.specs.StmtLexemes.{ended, value_lexemes, stmt_lexemes}
+use Rattle.cilk_laws_printing.specs.StmtLexemes.{ended, value_lexemes, integer_lexemes, stmt_lexemes}
 use Rattle.cilk_laws_printing.proofs.Made as made
 use Rattle.cilk_laws_printing.proofs.Made.{EachMade}
 use Rattle.cilk_laws_printing.proofs.Built.{Setting, Written, Built, written, b_of, b_done, b_skip, b_then, b_last, b_left, b_right, b_before, b_name}
-use Rattle.cilk_laws_printing.proofs.Built.{b_word, b_literal, b_expr}
+use Rattle.cilk_laws_printing.proofs.Built.{b_word, b_number, b_literal, b_expr}
 use Rattle.cilk_laws_printing.proofs.Given.{good, no_else, Few, GoodValue, Given, g_done, g_skip, g_then, g_either, g_use, g_before, g_between}
-use Rattle.cilk_laws_printing.proofs.Given.{g_behind_commas, g_commas, g_word, g_name, g_literal, g_expr, g_value}
+use Rattle.cilk_laws_printing.proofs.Given.{g_behind_commas, g_commas, g_word, g_name, g_number, g_literal, g_expr, g_value}
 use Rattle.cilk_laws_printing.proofs.ReadMoves as moves
 use Rattle.cilk_laws_printing.proofs.ReadMoves.{setting, b_next, b_exprs, b_arguments, at_least_few, FewIndex, b_index}
 
@@ -42,7 +42,7 @@ module _ (l d : ℕ) (le : l ≤ d) (n : ℕ) where
   -- ---- what begins with a name
 
   abbrev b_named : {k : Option ℕ} (x : Word) → IsPlain x
-      → Built S (either grammar.called (and_then grammar.index grammar.written)) (Some 21) → Built S grammar.named k
+      → Built S (either grammar.called (and_then grammar.index grammar.written)) (Some (a_mark sign.Semicolon)) → Built S grammar.named k
   b_named x h b = b_before (mark sign.Semicolon) refl (b_then b (b_name x h))
 
   -- what makes a spawn of the taker
@@ -166,3 +166,28 @@ module _ (l d : ℕ) (le : l ≤ d) (n : ℕ) where
     where
       option_given : Given (good l d n) (optional expression) (FewIndex l)
       option_given = g_either (g_then g_expr (λ e he. g_done he)) (g_done tt)
+
+  -- ---- labels
+
+  abbrev pub IntegerAgain : ℤ → Type 0
+  IntegerAgain z = (k : Option ℕ) → Written S grammar.integer k (integer_lexemes z) z
+
+  negative_again : (m : ℕ) → IntegerAgain (neg_ℤ (pos m))
+  negative_again zero k = written (b_right (b_last (b_number 0))) refl refl
+  negative_again (suc m) k = written (b_left (b_skip (mark sign.Minus) refl (b_last (b_number (suc m))))) refl refl
+
+  pub integer_given : Given (good l d n) grammar.integer IntegerAgain
+  integer_given =
+      g_either (g_skip (g_then g_number (λ m u. g_done (negative_again m))))
+      (g_then g_number (λ m u. g_done (λ k. written (b_right (b_last (b_number m))) refl refl)))
+
+  abbrev pub LabelAgain : tree.Stmt → Type 0
+  LabelAgain s = (k : Option ℕ) → Written S grammar.label k (stmt_lexemes s) (bare_stmt s)
+
+  pub label_given : Given (good l d n) grammar.label LabelAgain
+  label_given =
+      g_before
+      (g_either
+      (g_then g_word (λ at u. g_then integer_given
+      (λ z h. g_done (λ k. written (b_before (mark sign.Colon) refl (b_left (b_then (b_last (b_of (h _))) (b_word key.Case)))) refl refl))))
+      (g_then g_word (λ at u. g_done (λ k. written (b_before (mark sign.Colon) refl (b_right (b_last (b_word key.Default)))) refl refl))))

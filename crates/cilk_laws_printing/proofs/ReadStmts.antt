@@ -1,28 +1,32 @@
 -- The canonical lexemes of a statement and of a block spell them again.
 use Rattle.std.proofs.Common.{◌≡◌, ℕ, ◌≤◌, true, false, List, [], ◌∷◌, ◌++◌, map, Option, Some, None, refl, sym, ap, subst, ◌∙◌, inl, inr}
+use Rattle.std.proofs.lemmas.List.{map-append}
 use Rattle.cilk_check.specs.lexeme.Lexeme.{Lexeme, Piece, word, name, mark}
 use Rattle.cilk_check.specs.lexeme.declared.keyword.Keyword.TheVariants as key
 use Rattle.cilk_check.specs.lexeme.declared.mark.Mark.TheVariants as sign
 use Rattle.cilk_check.specs.syntax.Tree as tree
 use Rattle.cilk_check.specs.syntax.Tree.{Word, Expr, stmts_of, locals_of}
-use Rattle.cilk_check.specs.syntax.Bare.{bare_word, bare_part, bare_stmt, bare_stmts, bare_decl, bare_local, bare_locals, bare_block}
+use Rattle.cilk_check.specs.syntax.Bare.{bare_word, bare_part, bare_stmt, bare_decl, bare_local, bare_locals, bare_block}
 use Rattle.cilk_parse.specs.rules.Rule as rule
 use Rattle.cilk_parse.specs.rules.Rule.{Rule, skip, either, next, has, EachBefore}
+use Rattle.cilk_parse_grammar.proofs.rules_laws.Begun as begun
 use Rattle.cilk_parse_grammar.proofs.rules_laws.Begun.{Begun, with_token, with_nothing}
 use Rattle.cilk_parse_grammar.proofs.rules_laws.Tokens.{apart_has, next_append}
-use Rattle.cilk_parse_grammar.specs.Classes.{cls, a_word}
+use Rattle.cilk_parse_grammar.specs.Classes.{cls, a_word, a_mark}
 use Rattle.cilk_parse_grammar.specs.Expressions.{operators}
 use Rattle.cilk_parse_grammar.proofs.ClassFacts.{names_are}
 use Rattle.cilk_parse_grammar.specs.Parts.{a_statement, an_inlet, Means}
 use Rattle.cilk_parse_grammar.specs.Forms as forms
 use Rattle.cilk_parse_grammar.specs.Forms.{joined, optional}
 use Rattle.cilk_parse_grammar.specs.Grammar as grammar
-use Rattle.cilk_parse_grammar.specs.Spelling.{begins, SpellsNest}
-use Rattle.cilk_parse_grammar.proofs.Nests.{nest_begins}
+use Rattle.cilk_parse_grammar.specs.Spelling.{begins, first_of, SpellsNest}
+use Rattle.cilk_parse_grammar.proofs.Nests.{says, begin_at, nest_begins}
 use Rattle.cilk_laws_printing.specs.Plain.{PlainStmts, PlainLocal, PlainLocals, PlainBlock}
-use Rattle.cilk_laws_printing.specs.ExprLexemes.{in_parentheses}
-use Rattle.cilk_laws_printing.specs.StmtLexemes.{next_names_lexemes, names_lexemes, part_lexemes, decl_lexemes, stmt_lexemes, stmts_lexemes}
+use Rattle.cilk_laws_printing.specs.ExprLexemes.{each, in_parentheses}
+use Rattle.cilk_laws_printing.specs.StmtLexemes.{next_names_lexemes, names_lexemes, part_lexemes, decl_lexemes, stmt_lexemes}
+use Rattle.cilk_laws_printing.specs.StmtLexemes.{stmts_lexemes}
 use Rattle.cilk_laws_printing.specs.StmtLexemes.{local_lexemes, locals_lexemes, block_lexemes}
+use Rattle.cilk_laws_printing.proofs.Labelled.{bare_stmts_of, group_lexemes, labelled_lexemes, plain_append, each_group, bare_groups}
 use Rattle.cilk_laws_printing.proofs.ReadExprs.{all_at0, at0-append}
 use Rattle.cilk_laws_printing.proofs.Made as made
 use Rattle.cilk_laws_printing.proofs.Made.{EachMade}
@@ -48,17 +52,14 @@ bare_locals_of : (xs : List tree.Local) → locals_of (joined (map (λ x. bare_l
 bare_locals_of [] = refl
 bare_locals_of (x ∷ xs) = ap (tree.and_local (bare_local x)) (bare_locals_of xs)
 
-bare_stmts_of : (ss : List tree.Stmt) → stmts_of (map bare_stmt ss) ≡ bare_stmts (stmts_of ss)
-bare_stmts_of [] = refl
-bare_stmts_of (s ∷ ss) = ap (tree.also (bare_stmt s)) (bare_stmts_of ss)
-
 -- ---- parameters
 
 next_names_spelled : (S : Setting) (xs : List Word) (k : Option ℕ)
     → Spells S (forms.behind_commas (forms.word key.Int grammar.name)) k (next_names_lexemes xs) (map bare_word xs)
 next_names_spelled S xs k =
-    each_before S (skip 22 (skip 0 grammar.name)) (λ x. mark sign.Comma ∷ word key.Int ∷ name x.text ∷ []) bare_word (λ x. Unit {0})
-    (λ x j u. (b_skip {S = S} {c = 22} {p = skip 0 grammar.name} {k = j} (mark sign.Comma) refl
+    each_before S (skip (a_mark sign.Comma) (skip (a_word key.Int) grammar.name)) (λ x. mark sign.Comma ∷ word key.Int ∷ name x.text ∷ []) bare_word
+    (λ x. Unit {0})
+    (λ x j u. (b_skip {S = S} {c = a_mark sign.Comma} {p = skip (a_word key.Int) grammar.name} {k = j} (mark sign.Comma) refl
     (b_skip (word key.Int) refl (b_name x (names_are x.text)))).it) xs k (all xs)
   where
     all : (xs : List Word) → EachMade (λ x. Unit {0}) xs
@@ -118,18 +119,29 @@ module _ (l d : ℕ) (le : l ≤ d) (n : ℕ) where
   abbrev GoodLocal : tree.Local → Type 0
   GoodLocal x = PlainLocal x → (k : Option ℕ) → Written S grammar.local k (local_lexemes x) (bare_local x ∷ [])
 
-  declared_again : (ds : List tree.Decl) → EachMade GoodDecl ds → EachMade GoodLocal (map tree.declared ds)
+  -- what is declared alone
+  abbrev DeclaredAgain : tree.Local → Type 0
+  DeclaredAgain x = (k : Option ℕ) → Written S grammar.declaration k (local_lexemes x) (bare_local x ∷ [])
+
+  declared_again : (ds : List tree.Decl) → EachMade GoodDecl ds → EachMade DeclaredAgain (map tree.declared ds)
   declared_again ds made.no_more = made.no_more
   declared_again ds (made.one_more {x = e} {xs = es} h t) = made.one_more
-      (λ pl k. written (b_left (b_skip (word key.Int) refl (b_before (mark sign.Semicolon) refl (b_last (b_only (b_of (h _))))))) refl refl)
+      (λ k. written (b_skip (word key.Int) refl (b_before (mark sign.Semicolon) refl (b_last (b_only (b_of (h _)))))) refl refl)
       (declared_again es t)
+
+  declaration_given : Given (good l d n) grammar.declaration (λ xs. EachMade DeclaredAgain xs)
+  declaration_given = g_skip (g_before (g_then (g_commas declarator_given) (λ ds h. g_done (declared_again ds (at_least_few ds h)))))
+
+  as_locals : (xs : List tree.Local) → EachMade DeclaredAgain xs → EachMade GoodLocal xs
+  as_locals xs made.no_more = made.no_more
+  as_locals xs (made.one_more {xs = ys} h t) = made.one_more (λ pl k. written (b_left (b_of (h k))) refl refl) (as_locals ys t)
 
   inlet_again : (x : tree.Local) → Again l d n an_inlet x → GoodLocal x
   inlet_again x h pl k = written (b_right (b_last (record { ls = local_lexemes x; means = bare_local x; it = h pl k }))) refl refl
 
   local_given : Given (good l d n) grammar.local (λ xs. EachMade GoodLocal xs)
   local_given =
-      g_either (g_skip (g_before (g_then (g_commas declarator_given) (λ ds h. g_done (declared_again ds (at_least_few ds h))))))
+      g_either (g_use declaration_given as_locals)
       (g_then g_inlet (λ x h. g_done (made.one_more (inlet_again x h) made.no_more)))
 
   -- ---- blocks
@@ -242,6 +254,90 @@ module _ (l d : ℕ) (le : l ≤ d) (n : ℕ) where
       (b_before (mark sign.CloseParenthesis) refl (b_of (ha _)))) (b_before (mark sign.Semicolon) refl (b_left (b_expr e he))))
       (b_before (mark sign.Semicolon) refl (b_of (hf _)))))) refl refl)))))))
 
+  -- ---- `switch`
+
+  declarations_spelled : (xs : List tree.Local) → EachMade DeclaredAgain xs → (k : Option ℕ)
+      → Spells S grammar.declarations k (locals_lexemes (locals_of xs)) (map (λ x. bare_local x ∷ []) xs)
+  declarations_spelled xs made.no_more k = rule.no_more refl refl
+  declarations_spelled xs (made.one_more {x = y} {xs = ys} h t) k =
+      rule.one_more (h _).it (declarations_spelled ys t k) (at0-append (local_lexemes y) (locals_lexemes (locals_of ys))) refl
+
+  -- a statement behind its labels
+  abbrev LabelledAgain : List tree.Stmt → Type 0
+  LabelledAgain ss = PlainStmts (stmts_of ss) → (k : Option ℕ) → no_else k → Written S grammar.labelled k (group_lexemes ss) (map bare_stmt ss)
+
+  labelled_again : (xs : List tree.Stmt) (s : tree.Stmt) → EachMade (simple.LabelAgain l d le n) xs → Again l d n a_statement s
+      → LabelledAgain (xs ++ s ∷ [])
+  labelled_again xs s hx hs pl k ne = written (b_then (b_last last) (labels _)) (labelled_lexemes xs s) (sym (map-append bare_stmt xs (s ∷ [])))
+    where
+      last : Built S forms.statement k
+      last = record { ls = stmt_lexemes s; means = bare_stmt s; it = hs (plain_append xs (s ∷ []) pl).1.0 k ne }
+
+      labels : (j : Option ℕ) → Built S grammar.labels j
+      labels j = record {
+        ls = each stmt_lexemes xs;
+        means = map bare_stmt xs;
+        it = each_before S grammar.label stmt_lexemes bare_stmt (simple.LabelAgain l d le n) (λ x i h. (h i).it) xs j hx;
+      }
+
+  labelled_given : Given (good l d n) grammar.labelled LabelledAgain
+  labelled_given = g_then (g_many (simple.label_given l d le n)) (λ xs h. g_then g_statement (λ s hs. g_done (labelled_again xs s h hs)))
+
+  -- no label begins with `else` either
+  labelled_no_else : (k : Option ℕ) (us : List Piece) (xss : List (List tree.Stmt)) → rule.Spelled cls first_of (says l d n) grammar.all_labelled k us xss
+      → no_else k → no_else (next cls us k)
+  labelled_no_else k us xss (rule.no_more e w) h = ap (λ (v : List Piece). has (a_word key.Else ∷ []) (next cls v k)) e ∙ h
+  labelled_no_else k us xss (rule.one_more {us = vs} {vs = ws} {x = x} r s e w) h =
+      ap (λ (v : List Piece). has (a_word key.Else ∷ []) (next cls v k)) e
+      ∙ ap (λ j. has (a_word key.Else ∷ []) j) (next_append cls vs ws k)
+      ∙ by (begun.begun cls first_of (says l d n) grammar.labelled (next cls ws k) vs x (begin_at l d n) r)
+    where
+      by : Begun cls (rule.first first_of grammar.labelled) false vs → no_else (next cls vs (next cls ws k))
+      by (with_token lt f) =
+          apart_has (a_word key.Else ∷ []) (rule.first first_of grammar.labelled) (next cls vs (next cls ws k)) refl (f (next cls ws k))
+      by (with_nothing f i) = absurd cc
+
+  all_labelled_spelled : (sss : List (List tree.Stmt)) → EachMade LabelledAgain sss → PlainStmts (stmts_of (joined sss)) → (k : Option ℕ) → no_else k
+      → Spells S grammar.all_labelled k (each group_lexemes sss) (map (map bare_stmt) sss)
+  all_labelled_spelled sss made.no_more pl k ne = rule.no_more refl refl
+  all_labelled_spelled sss (made.one_more {x = g} {xs = gs} h r) pl k ne =
+      let p = plain_append g (joined gs) pl in
+      let rest = all_labelled_spelled gs r p.1 k ne in
+      rule.one_more (h p.0 (next cls (all_at0 (each group_lexemes gs)) k) (labelled_no_else k _ _ rest ne)).it rest
+      (at0-append (group_lexemes g) (each group_lexemes gs)) refl
+
+  abbrev CasesAgain : tree.Block → Type 0
+  CasesAgain b = PlainBlock b → (k : Option ℕ) → Written S grammar.cases k (block_lexemes b) (bare_block b)
+
+  cases_again : (xs : List tree.Local) (sss : List (List tree.Stmt)) → EachMade DeclaredAgain xs → EachMade LabelledAgain sss
+      → CasesAgain (tree.block (locals_of xs) (stmts_of (joined sss)))
+  cases_again xs sss hx hs pl k =
+      written (b_skip (mark sign.OpenBrace) refl (b_before (mark sign.CloseBrace) refl (b_then (b_last (groups _ refl)) (locals _)))) refl
+      (λ i. tree.block (bare_locals_of xs i) (bare_groups sss i))
+    where
+      groups : (k : Option ℕ) → no_else k → Built S grammar.all_labelled k
+      groups k ne = record {
+        ls = group_lexemes (joined sss);
+        means = map (map bare_stmt) sss;
+        it = subst (λ ls. Spells S grammar.all_labelled k ls (map (map bare_stmt) sss)) (each_group sss) (all_labelled_spelled sss hs pl.1 k ne);
+      }
+
+      locals : (k : Option ℕ) → Built S grammar.declarations k
+      locals k = record { ls = locals_lexemes (locals_of xs); means = map (λ x. bare_local x ∷ []) xs; it = declarations_spelled xs hx k }
+
+  cases_given : Given (good l d n) grammar.cases CasesAgain
+  cases_given =
+      g_between
+      (g_then (g_many declaration_given) (λ xss h. g_then (g_many labelled_given)
+      (λ sss g. g_done (cases_again (joined xss) sss (each_joined xss h) g))))
+
+  switching_given : Given (good l d n) grammar.switching (By grammar.switching)
+  switching_given =
+      g_skip
+      (g_then test_given
+      (λ e he. g_then cases_given
+      (λ b hb. g_done (λ pl k ne. written (b_skip (word key.Switch) refl (b_then (b_last (b_of (hb pl k))) (b_test e he))) refl refl))))
+
   -- ---- all statements
 
   first_of_two : {r p q : Rule Means tree.Stmt} → Given (good l d n) r (By p) → Given (good l d n) r (By (either p q))
@@ -265,7 +361,7 @@ module _ (l d : ℕ) (le : l ≤ d) (n : ℕ) where
       (two (g_skip (g_done (λ pl k ne. written (b_skip (mark sign.Semicolon) refl b_done) refl refl)))
       (two (simple.alone_given l d le n _ _ (λ at. refl) (λ at. refl)) (two (simple.alone_given l d le n _ _ (λ at. refl) (λ at. refl))
       (two (simple.alone_given l d le n _ _ (λ at. refl) (λ at. refl)) (two (simple.alone_given l d le n _ _ (λ at. refl) (λ at. refl))
-      (two (simple.returning_given l d le n) (two conditional_given (two looping_given (two repeating_given for_loop_given)))))))))))))))
+      (two (simple.returning_given l d le n) (two conditional_given (two looping_given (two repeating_given (two for_loop_given switching_given))))))))))))))))
 
   pub statement_given : Given (good l d n) grammar.statement_rule (By grammar.statement_rule)
   statement_given =

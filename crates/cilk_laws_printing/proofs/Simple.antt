@@ -1,28 +1,31 @@
 -- The texts of statements and declarations that stand on one line write their lexemes.
-use Rattle.std.proofs.Common.{ℕ, List, [], ◌∷◌, ◌++◌, Option, Some, None, refl, sym, ap, append_assoc, codes}
+use Rattle.std.proofs.Common.{ℕ, suc, ℤ, pos, negsuc, unsigned_abs, ◌≤◌, List, [], ◌∷◌, ◌++◌, decimal, Option, Some, None, refl, sym, ap, append_assoc, codes}
+use Rattle.std.specs.Fmt.{signed_decimal}
 use Rattle.std.proofs.lemmas.List.{append-nil}
 use Rattle.cilk_check.specs.lexeme.declared.keyword.Keyword.TheVariants as key
 use Rattle.cilk_check.specs.lexeme.declared.mark.Mark.TheVariants as sign
 use Rattle.cilk_check.specs.lexeme.Lexeme.{Lexeme, word, name, mark, literal}
 use Rattle.cilk_check.specs.lexeme.Sight.{named, word_in, all_words}
-use Rattle.cilk_check.specs.lexeme.Spelling.{IsName}
+use Rattle.cilk_check.specs.lexeme.Spelling.{IsName, int_max}
 use Rattle.cilk_parse_grammar.proofs.lexeme_laws.Decimals.{decimal_number}
+use Rattle.cilk_parse_grammar.proofs.lexeme_laws.Longest.{no_mark_on, number_begins}
 use Rattle.cilk_check.specs.syntax.declared.lock_action.LockAction.{LockAction}
 use Rattle.cilk_check.specs.syntax.declared.lock_action.LockAction.TheVariants as locks
 use Rattle.cilk_check.specs.syntax.LockWord.{lock_word}
 use Rattle.cilk_check.specs.syntax.Tree as tree
-use Rattle.cilk_tree.specs.MoveText.{call_text, spawn_text, print_text, locking_text, return_text, shape_text, decl_text}
-use Rattle.cilk_tree.specs.StmtLines.{part_text, next_names_text, names_text}
+use Rattle.cilk_tree.specs.syntax.MoveText.{call_text, spawn_text, print_text, locking_text, return_text, shape_text, decl_text}
+use Rattle.cilk_tree.specs.syntax.StmtLines.{part_text, next_names_text, names_text, label_text}
 use Rattle.cilk_laws_printing.specs.ExprLexemes.{in_parentheses}
 use Rattle.cilk_laws_printing.specs.StmtLexemes.{next_exprs_lexemes, child_lexemes, spawn_lexemes, part_lexemes, value_lexemes, shape_lexemes}
-use Rattle.cilk_laws_printing.specs.StmtLexemes.{decl_lexemes, next_names_lexemes, names_lexemes}
+use Rattle.cilk_laws_printing.specs.StmtLexemes.{decl_lexemes, next_names_lexemes, names_lexemes, integer_lexemes, label_lexemes}
 use Rattle.cilk_laws_printing.specs.CanWrite.{CanWriteExprs, CanWriteValue, CanWriteStmt, CanWritePart, CanWriteTaker, CanWriteShape, CanWriteWords}
+use Rattle.cilk_laws_printing.specs.CanWrite.{CanWriteInteger}
 use Rattle.cilk_laws_printing.proofs.Exprs.{expr_writes}
 use Rattle.cilk_laws_printing.proofs.Literals.{literal_writes}
 use Rattle.cilk_laws_printing.proofs.Moves.{next_exprs_write, call_writes, into_writes, move_writes}
 use Rattle.cilk_laws_printing.proofs.Spaced.{word_space, mark_space, spaced_mark, parentheses_write, brackets_write}
 use Rattle.cilk_laws_printing.proofs.Writes.{Ends, Writes, WritesAlone, weaken, nothing_writes, same_alone, alone_then, both_alone, ended_then}
-use Rattle.cilk_laws_printing.proofs.Writes.{ended_alone, sure_mark, word_writes, name_writes, number_writes, fixed_name}
+use Rattle.cilk_laws_printing.proofs.Writes.{ended_alone, sure_mark, mark_then, word_writes, name_writes, number_writes, fixed_name}
 
 pub part_writes : (p : Option tree.Move) → CanWritePart p → Writes (part_text p) (part_lexemes p)
 part_writes None h = weaken nothing_writes
@@ -111,3 +114,16 @@ next_names_write (x ∷ xs) h =
 pub names_write : (xs : List tree.Word) → CanWriteWords xs → Writes (names_text xs) (names_lexemes xs)
 names_write [] h = word_writes key.Void
 names_write (x ∷ xs) h = alone_then (word_space key.Int) (ended_then (name_writes h.0) (next_names_end xs) (next_names_write xs h.1))
+
+-- ---- labels
+
+-- a minus stands directly before the digits
+pub integer_writes : (n : ℤ) → unsigned_abs n ≤ int_max → Writes (signed_decimal n) (integer_lexemes n)
+integer_writes (pos n) h = number_writes (decimal_number n h)
+integer_writes (negsuc n) h =
+    let digits = decimal_number (suc n) h in
+    mark_then sign.Minus (λ rest. no_mark_on (decimal (suc n)) rest (number_begins digits)) (number_writes digits)
+
+pub label_writes : (v : Option ℤ) → CanWriteInteger v → WritesAlone (label_text v ++ codes ":") (label_lexemes v)
+label_writes None h = ended_alone (word_writes key.Default) (λ rest. refl) (sure_mark sign.Colon refl)
+label_writes (Some z) h = both_alone (word_space key.Case) (ended_alone (integer_writes z h) (λ rest. refl) (sure_mark sign.Colon refl))

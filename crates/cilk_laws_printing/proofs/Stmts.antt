@@ -1,12 +1,13 @@
 -- The lines of statements and blocks write their lexemes.
-use Rattle.std.proofs.Common.{◌≡◌, List, [], ◌∷◌, ◌++◌, Option, refl, codes, append_assoc, ap}
+use Rattle.std.proofs.Common.{◌≡◌, ℕ, Bool, true, false, List, [], ◌∷◌, ◌++◌, Option, refl, codes, append_assoc, ap}
 use Rattle.cilk_check.specs.lexeme.declared.keyword.Keyword.{Keyword}
 use Rattle.cilk_check.specs.lexeme.declared.keyword.Keyword.TheVariants as key
 use Rattle.cilk_check.specs.lexeme.declared.mark.Mark.TheVariants as sign
 use Rattle.cilk_check.specs.lexeme.Lexeme.{Lexeme, word, name, mark}
 use Rattle.cilk_check.specs.lexeme.Spelling.{spelling, IsName}
 use Rattle.cilk_check.specs.syntax.Tree as tree
-use Rattle.cilk_tree.specs.StmtLines.{test_line, until_line, for_line, inlet_line, stmt_lines, stmts_lines, local_lines, locals_lines, block_lines}
+use Rattle.cilk_tree.specs.syntax.StmtLines.{test_line, until_line, for_line, inlet_line, stmt_lines, stmts_lines, local_lines, locals_lines, block_lines}
+use Rattle.cilk_tree.specs.syntax.StmtLines.{is_label, set_in, cases_lines, switch_lines}
 use Rattle.cilk_laws_printing.specs.ExprLexemes.{in_parentheses, expr_lexemes}
 use Rattle.cilk_laws_printing.specs.StmtLexemes.{ended, part_lexemes, names_lexemes, stmt_lexemes, stmts_lexemes, local_lexemes, locals_lexemes, block_lexemes}
 use Rattle.cilk_laws_printing.specs.CanWrite.{CanWriteExpr, CanWritePart, CanWriteWords, CanWriteStmt, CanWriteStmts, CanWriteLocal, CanWriteLocals}
@@ -15,6 +16,7 @@ use Rattle.cilk_laws_printing.proofs.Exprs.{expr_writes}
 use Rattle.cilk_laws_printing.proofs.Lines.{LinesWrite, no_lines, first_line, same_lines, one_line, ended_line, more_lines, deeper_lines, closed_lines}
 use Rattle.cilk_laws_printing.proofs.Moves.{move_writes}
 use Rattle.cilk_laws_printing.proofs.Simple.{part_writes, spawn_writes, print_writes, locking_writes, return_writes, decl_writes, names_write}
+use Rattle.cilk_laws_printing.proofs.Simple.{label_writes}
 use Rattle.cilk_laws_printing.proofs.Spaced.{space_writes, word_space, mark_space, then_brace}
 use Rattle.cilk_laws_printing.proofs.Writes.{WritesAlone, weaken, nothing_writes, same_alone, both_alone, ended_alone, sure_mark, word_writes, name_writes}
 
@@ -86,6 +88,11 @@ looped fs es ls (tree.block xs ss) = simp append_assoc
 
 -- ---- statements
 
+-- the lines of a label, or of another statement one level in
+set_in_lines : (b : Bool) {lines : List (List ℕ)} {ls : List Lexeme} → LinesWrite lines ls → LinesWrite (set_in b lines) ls
+set_in_lines true w = w
+set_in_lines false w = deeper_lines w
+
 mutual
   pub stmt_writes : (s : tree.Stmt) → CanWriteStmt s → LinesWrite (stmt_lines s) (stmt_lexemes s)
   stmt_writes (tree.move m) h = ended_line (move_writes m h)
@@ -115,6 +122,10 @@ mutual
       (ap (λ (l : List Lexeme). word key.For ∷ mark sign.OpenParenthesis ∷ l)
       (looped (part_lexemes first) (expr_lexemes e) (part_lexemes advance) b))
       (first_line (for_writes first e advance h.0 h.1 h.2) (closed_lines (block_writes b h.3)))
+  stmt_writes (tree.switch e b) h =
+      same_lines (ap (λ (l : List Lexeme). word key.Switch ∷ mark sign.OpenParenthesis ∷ l) (opened (expr_lexemes e) b))
+      (first_line (test_writes key.Switch e h.0) (more_lines (switch_writes b h.1) (one_line (sure_mark sign.CloseBrace refl))))
+  stmt_writes (tree.labelled l) h = one_line (label_writes l.value h)
   stmt_writes (tree.nested (tree.block xs ss)) h = first_line (sure_mark sign.OpenBrace refl) (closed_lines (block_writes (tree.block xs ss) h))
 
   pub stmts_write : (ss : tree.Stmts) → CanWriteStmts ss → LinesWrite (stmts_lines ss) (stmts_lexemes ss)
@@ -134,3 +145,11 @@ mutual
   -- the lines between the braces
   pub block_writes : (b : tree.Block) → CanWriteBlock b → LinesWrite (block_lines b) (inner b)
   block_writes (tree.block xs ss) h = more_lines (locals_write xs h.0) (stmts_write ss h.1)
+
+  -- the statements in the block of a `switch`
+  pub cases_write : (ss : tree.Stmts) → CanWriteStmts ss → LinesWrite (cases_lines ss) (stmts_lexemes ss)
+  cases_write tree.none h = no_lines
+  cases_write (tree.also s ss) h = more_lines (set_in_lines (is_label s) (stmt_writes s h.0)) (cases_write ss h.1)
+
+  pub switch_writes : (b : tree.Block) → CanWriteBlock b → LinesWrite (switch_lines b) (inner b)
+  switch_writes (tree.block xs ss) h = more_lines (deeper_lines (locals_write xs h.0)) (cases_write ss h.1)

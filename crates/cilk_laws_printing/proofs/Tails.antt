@@ -8,6 +8,7 @@ use Rattle.cilk_check.specs.syntax.Tree.{Word}
 use Rattle.cilk_check.specs.syntax.Bare.{bare_word, bare_parameters, bare_block}
 use Rattle.cilk_parse.specs.rules.Rule as rule
 use Rattle.cilk_parse.specs.rules.Rule.{Rule, skip, either, and_then, done, next}
+use Rattle.cilk_parse_grammar.specs.Classes.{a_word, a_mark}
 use Rattle.cilk_parse_grammar.proofs.ClassFacts.{names_are}
 use Rattle.cilk_parse_grammar.specs.Parts.{Means}
 use Rattle.cilk_parse_grammar.specs.Forms as forms
@@ -55,7 +56,8 @@ unfolding nones
 nones_spelled S zero k = rule.no_more refl refl
 nones_spelled S (suc n) k =
     rule.one_more {us = all_at0 (mark sign.Comma ∷ word key.Int ∷ [])} {x = None}
-    (b_skip {S = S} {c = 22} {p = skip 0 (optional grammar.name)} (mark sign.Comma) refl (b_skip (word key.Int) refl (b_right b_done))).it
+    (b_skip {S = S} {c = a_mark sign.Comma} {p = skip (a_word key.Int) (optional grammar.name)} (mark sign.Comma) refl
+    (b_skip (word key.Int) refl (b_right b_done))).it
     (nones_spelled S n k) refl refl
 
 abbrev somes : List Word → List (Option Word)
@@ -64,8 +66,9 @@ somes xs = map (λ x. Some (bare_word x)) xs
 somes_spelled : (S : Setting) (xs : List Word) (k : Option ℕ)
     → Spells S (behind_commas (forms.word key.Int (optional grammar.name))) k (next_names_lexemes xs) (somes xs)
 somes_spelled S xs k =
-    each_before S (skip 22 (skip 0 (optional grammar.name))) (λ x. mark sign.Comma ∷ word key.Int ∷ name x.text ∷ []) (λ x. Some (bare_word x)) (λ x. Unit {0})
-    (λ x j u. (b_skip {S = S} {c = 22} {p = skip 0 (optional grammar.name)} {k = j} (mark sign.Comma) refl
+    each_before S (skip (a_mark sign.Comma) (skip (a_word key.Int) (optional grammar.name))) (λ x. mark sign.Comma ∷ word key.Int ∷ name x.text ∷ [])
+    (λ x. Some (bare_word x)) (λ x. Unit {0})
+    (λ x j u. (b_skip {S = S} {c = a_mark sign.Comma} {p = skip (a_word key.Int) (optional grammar.name)} {k = j} (mark sign.Comma) refl
     (b_skip (word key.Int) refl (b_left (b_last (b_name x (names_are x.text)))))).it) xs k (all xs)
   where
     all : (xs : List Word) → EachMade (λ x. Unit {0}) xs
@@ -84,13 +87,13 @@ abbrev b_kinds_none : {S : Setting} {k : Option ℕ} (n : ℕ) → Built S gramm
 b_kinds_none {S = S} {k = k} n =
     b_then
     (b_then (b_skip (mark sign.CloseParenthesis) refl b_done)
-    (record { ls = next_types_lexemes n; means = nones n; it = nones_spelled S n (Some 18) })) (b_right b_done)
+    (record { ls = next_types_lexemes n; means = nones n; it = nones_spelled S n (Some (a_mark sign.CloseParenthesis)) })) (b_right b_done)
 
 abbrev b_kinds_some : {S : Setting} {k : Option ℕ} (x : Word) (xs : List Word) → Built S grammar.kinds k
 b_kinds_some {S = S} {k = k} x xs =
     b_then
     (b_then (b_skip (mark sign.CloseParenthesis) refl b_done)
-    (record { ls = next_names_lexemes xs; means = somes xs; it = somes_spelled S xs (Some 18) }))
+    (record { ls = next_names_lexemes xs; means = somes xs; it = somes_spelled S xs (Some (a_mark sign.CloseParenthesis)) }))
     (b_left (b_last (b_name x (names_are x.text))))
 
 module _ (l d : ℕ) (le : l ≤ d) (n : ℕ) where

@@ -1,6 +1,6 @@
 -- Trees that can be written: each name is one (C 1990, 6.1.2), each number an int (C 1990, 6.1.3.2), each text literal holds what one can say
 -- (C 1990, 6.1.4), and each operator before a `=` is one that C writes there (C 1990, 6.3.16).
-use Rattle.std.specs.Prelude.{◌≡◌, ◌≤◌, unsigned_abs, List, [], ◌∷◌, ◌++◌, codes, IsTrue, Option, Some, None}
+use Rattle.std.specs.Prelude.{◌≡◌, ◌≤◌, ℤ, unsigned_abs, List, [], ◌∷◌, ◌++◌, codes, IsTrue, Option, Some, None}
 use Rattle.std.specs.List.{list_all}
 use Rattle.cilk_check.specs.lexeme.Good.{is_sayable}
 use Rattle.cilk_check.specs.lexeme.Spelling.{IsName, int_max, mark_spelling}
@@ -63,6 +63,10 @@ abbrev pub CanWriteWords : List tree.Word → Type 0
 CanWriteWords [] = Unit {0}
 CanWriteWords (x ∷ xs) = IsName x.text × CanWriteWords xs
 
+abbrev pub CanWriteInteger : Option ℤ → Type 0
+CanWriteInteger None = Unit {0}
+CanWriteInteger (Some z) = unsigned_abs z ≤ int_max
+
 abbrev mutual
   pub CanWriteStmt : tree.Stmt → Type 0
   CanWriteStmt (tree.move m) = CanWriteMove m
@@ -80,6 +84,8 @@ abbrev mutual
   CanWriteStmt (tree.while e b) = CanWriteExpr e × CanWriteBlock b
   CanWriteStmt (tree.repeat b e) = CanWriteBlock b × CanWriteExpr e
   CanWriteStmt (tree.loop first e advance b) = CanWritePart first × CanWriteExpr e × CanWritePart advance × CanWriteBlock b
+  CanWriteStmt (tree.switch e b) = CanWriteExpr e × CanWriteBlock b
+  CanWriteStmt (tree.labelled l) = CanWriteInteger l.value
   CanWriteStmt (tree.nested b) = CanWriteBlock b
 
   pub CanWriteStmts : tree.Stmts → Type 0
@@ -102,8 +108,7 @@ CanWriteParameters (tree.ints xs) = CanWriteWords xs
 CanWriteParameters (tree.command_line count strings) = IsName count.text × IsName strings.text
 
 abbrev pub CanWriteGlobalShape : tree.GlobalShape → Type 0
-CanWriteGlobalShape (tree.global_variable None) = Unit {0}
-CanWriteGlobalShape (tree.global_variable (Some z)) = unsigned_abs z ≤ int_max
+CanWriteGlobalShape (tree.global_variable value) = CanWriteInteger value
 CanWriteGlobalShape (tree.global_array length) = length ≤ int_max
 
 abbrev pub CanWriteItem : tree.Item → Type 0

@@ -3,5 +3,7 @@ pub mod StmtLexemes
 pub mod ProgramLexemes
 pub mod CanWrite
 pub mod Plain
+pub mod Said
+pub mod Actions
 pub use Rattle.cilk_parse_grammar.specs.Spelling
-pub use Rattle.cilk_tree.specs as canonical
+pub use Rattle.cilk_tree.specs.syntax

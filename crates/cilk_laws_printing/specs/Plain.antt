@@ -22,6 +22,7 @@ abbrev mutual
   PlainStmt (tree.while e b) = PlainBlock b
   PlainStmt (tree.repeat b e) = PlainBlock b
   PlainStmt (tree.loop first e advance b) = PlainBlock b
+  PlainStmt (tree.switch e b) = PlainBlock b
   PlainStmt (tree.nested b) = PlainBlock b
   PlainStmt s = Unit {0}
 

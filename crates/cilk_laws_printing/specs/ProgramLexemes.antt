@@ -1,5 +1,5 @@
 -- The lexemes of the canonical text of a program (C 1990, 6.7; Cilk 5.4 manual).
-use Rattle.std.specs.Prelude.{ℕ, zero, suc, ℤ, pos, negsuc, Bool, true, false, List, [], ◌∷◌, ◌++◌, codes, Some, None}
+use Rattle.std.specs.Prelude.{ℕ, zero, suc, Bool, true, false, List, [], ◌∷◌, ◌++◌, codes, Some, None}
 use Rattle.cilk_check.specs.lexeme.Lexeme.{Lexeme, word, name, number, mark, inclusion}
 use Rattle.cilk_check.specs.lexeme.declared.keyword.Keyword.{Keyword}
 use Rattle.cilk_check.specs.lexeme.declared.keyword.Keyword.TheVariants as key
@@ -9,7 +9,7 @@ use Rattle.cilk_check.specs.syntax.declared.return_type.ReturnType.TheVariants a
 use Rattle.cilk_check.specs.syntax.Tree as tree
 use Rattle.cilk_check.specs.syntax.Tree.{Word}
 use Rattle.cilk_laws_printing.specs.ExprLexemes.{each, in_parentheses, in_brackets}
-use Rattle.cilk_laws_printing.specs.StmtLexemes.{ended, names_lexemes, block_lexemes}
+use Rattle.cilk_laws_printing.specs.StmtLexemes.{ended, names_lexemes, integer_lexemes, block_lexemes}
 
 abbrev pub returns_word : ReturnType → Keyword
 returns_word returns.Int = key.Int
@@ -36,10 +36,6 @@ parameters_lexemes (tree.ints xs) = names_lexemes xs
 parameters_lexemes (tree.command_line count strings) =
     word key.Int ∷ name count.text ∷ mark sign.Comma ∷ name (codes "char") ∷ mark sign.Star ∷ name strings.text ∷ mark sign.OpenBracket
     ∷ mark sign.CloseBracket ∷ []
-
-abbrev pub integer_lexemes : ℤ → List Lexeme
-integer_lexemes (pos n) = number n ∷ []
-integer_lexemes (negsuc n) = mark sign.Minus ∷ number (suc n) ∷ []
 
 abbrev pub global_shape_lexemes : tree.GlobalShape → List Lexeme
 global_shape_lexemes (tree.global_variable None) = []

@@ -1,5 +1,5 @@
 -- The lexemes of the canonical text of statements and blocks (C 1990, 6.6; Cilk 5.4 manual).
-use Rattle.std.specs.Prelude.{List, [], ◌∷◌, ◌++◌, codes, Option, Some, None}
+use Rattle.std.specs.Prelude.{suc, ℤ, pos, negsuc, List, [], ◌∷◌, ◌++◌, codes, Option, Some, None}
 use Rattle.cilk_check.specs.lexeme.Lexeme.{Lexeme, word, name, number, mark, literal}
 use Rattle.cilk_check.specs.lexeme.declared.keyword.Keyword.TheVariants as key
 use Rattle.cilk_check.specs.lexeme.declared.mark.Mark.{Mark}
@@ -101,6 +101,15 @@ abbrev pub names_lexemes : List Word → List Lexeme
 names_lexemes [] = word key.Void ∷ []
 names_lexemes (x ∷ xs) = word key.Int ∷ name x.text ∷ next_names_lexemes xs
 
+abbrev pub integer_lexemes : ℤ → List Lexeme
+integer_lexemes (pos n) = number n ∷ []
+integer_lexemes (negsuc n) = mark sign.Minus ∷ number (suc n) ∷ []
+
+-- what a label compares with, or none for `default` (C 1990, 6.6.1)
+abbrev pub label_lexemes : Option ℤ → List Lexeme
+label_lexemes None = word key.Default ∷ mark sign.Colon ∷ []
+label_lexemes (Some z) = word key.Case ∷ (integer_lexemes z ++ mark sign.Colon ∷ [])
+
 abbrev mutual
   pub stmt_lexemes : tree.Stmt → List Lexeme
   stmt_lexemes (tree.move m) = ended (move_lexemes m)
@@ -120,6 +129,8 @@ abbrev mutual
   stmt_lexemes (tree.loop first e advance b) =
       word key.For ∷ mark sign.OpenParenthesis
       ∷ (ended (part_lexemes first) ++ (ended (expr_lexemes e) ++ ((part_lexemes advance ++ mark sign.CloseParenthesis ∷ []) ++ block_lexemes b)))
+  stmt_lexemes (tree.switch e b) = word key.Switch ∷ (in_parentheses (expr_lexemes e) ++ block_lexemes b)
+  stmt_lexemes (tree.labelled l) = label_lexemes l.value
   stmt_lexemes (tree.nested b) = block_lexemes b
 
   pub stmts_lexemes : tree.Stmts → List Lexeme

@@ -2,7 +2,7 @@
 //! are the laws.
 
 ghost use Rattle.std.specs.Prelude.{◌≡◌, ℕ, List};
-ghost use Rattle.cilk_tree.specs.ProgramText.{program_text};
+ghost use Rattle.cilk_tree.specs.syntax.ProgramText.{program_text};
 ghost use Rattle.cilk_check.specs.syntax.Tree as tree;
 ghost use Rattle.cilk_check.specs.syntax.Bare.{bare_program};
 ghost use Rattle.cilk_parse.specs.Text.{Spells};

@@ -2,7 +2,7 @@
 
 ghost use Rattle.std.specs.Prelude.{◌≡◌, ℕ, ◌≤◌, true, List, All};
 ghost use Rattle.cilk_check.specs.lexeme.Lexeme.{Piece};
-ghost use Rattle.cilk_tree.specs.ProgramText.{program_text};
+ghost use Rattle.cilk_tree.specs.syntax.ProgramText.{program_text};
 ghost use Rattle.cilk_check.specs.lexeme.Good.{IsGoodLexeme};
 ghost use Rattle.cilk_check.specs.lexeme.Lexing.{Lexes};
 ghost use Rattle.cilk_check.specs.syntax.Tree as tree;

@@ -1,7 +1,7 @@
 //! What holds of every program. This function does nothing: its contract is the law.
 
 ghost use Rattle.std.specs.Prelude.{◌≡◌, ℕ, true, List, map};
-ghost use Rattle.cilk_tree.specs.ProgramText.{program_text};
+ghost use Rattle.cilk_tree.specs.syntax.ProgramText.{program_text};
 ghost use Rattle.cilk_check.specs.lexeme.Lexeme.{Piece};
 ghost use Rattle.cilk_check.specs.lexeme.Lexing.{Lexes};
 ghost use Rattle.cilk_laws_printing.specs.CanWrite.{CanWrite};

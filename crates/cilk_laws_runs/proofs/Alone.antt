@@ -1,8 +1,9 @@
 -- While an inlet runs, each step of its instance is its own.
-use Rattle.std.proofs.Common.{◌≡◌, ℤ, Bool, true, false, not, ◌&&◌, ◌||◌, List, [], ◌∷◌, ◌++◌, Option, Some, None, ◌⊎◌, inl, inr, refl, sym, ap}
+use Rattle.std.proofs.Common.{◌≡◌, ℤ, pos, Bool, true, false, not, ◌&&◌, ◌||◌, List, [], ◌∷◌, ◌++◌, Option, Some, None, ◌⊎◌, inl, inr, refl, sym, ap}
 use Rattle.std.proofs.Common.{subst, ◌∙◌, if◌then◌else◌}
 use Rattle.std.specs.Prelude.{option_map}
-use Rattle.cilk_laws_allowed.specs.labelled.Labelled.{Labelled}
+use Rattle.std.proofs.lemmas.Bool.{and_parts}
+use Rattle.cilk_laws_allowed.specs.labelled.Labelled.{Labelled, Numbered}
 use Rattle.cilk_laws_allowed.specs.labelled.Items.{head_of}
 use Rattle.cilk_laws_allowed.specs.model.Values.{Values, Cell}
 use Rattle.cilk_laws_allowed.specs.model.Path.{Path, same_path, parent_of, is_below}
@@ -10,6 +11,7 @@ use Rattle.cilk_laws_allowed.specs.model.Instance.{Activation, Delivery, Instanc
 use Rattle.cilk_laws_allowed.specs.model.State.{Entry, Instances, State, instance_at, changed, without, is_empty}
 use Rattle.cilk_laws_allowed.specs.model.Change.{gone_on, put, on_lowest, above, resumed_to, resumed, head_waits, at_boundary, deliveries}
 use Rattle.cilk_laws_allowed.specs.model.Change.{with_deliveries, after_return_to, after_marks}
+use Rattle.cilk_laws_allowed.specs.model.Event.{acted}
 use Rattle.cilk_laws_allowed.specs.model.Pick.{Step, step_of_live, step_of_instance}
 use Rattle.cilk_laws_allowed.specs.model.Choice.{Choice}
 use Rattle.cilk_laws_allowed.specs.model.Run.{Standing, Position, waits_now, step_refusal, act_refusal, refusal_of, next_of, next_by, next_by_hand}
@@ -22,9 +24,9 @@ use Rattle.cilk_laws_runs.specs.Calls.{owner_of_body, is_inlet}
 use Rattle.cilk_laws_runs.specs.Inlets.{runs_inlet, in_inlet, lowest, IsStep, StandsStill, GoesOn, Alone, acts, traps, parks, ends, Unmoved}
 use Rattle.cilk_laws_runs.specs.ChildLaws.{InletsRunAlone, OthersLeaveIt}
 use Rattle.cilk_laws_runs.proofs.Runs.{Stepped, Rested, what_happens, led}
-use Rattle.cilk_laws_runs.proofs.Ways.{Way, resting, parking, ending, stopping, going, writing, entering, quitting, answering, returning, starting}
+use Rattle.cilk_laws_runs.proofs.Ways.{Acting, Way, resting, parking, ending, stopping, going, writing, entering, quitting, answering, returning, starting}
 use Rattle.cilk_laws_runs.proofs.Ways.{printing, turning, aborts, placing, letting_in, way_of}
-use Rattle.cilk_laws_runs.proofs.Suited.{Suited, head_suits, spawned_by, each_suits}
+use Rattle.cilk_laws_runs.proofs.Suited.{Suited, head_suits, of_inlet, spawned_by, each_suits}
 
 -- above the procedure's own activation
 inlet_above : (program : Labelled) (a : Activation) (below : List Activation) → runs_inlet program a below ≡ true → is_empty below ≡ false
@@ -73,10 +75,10 @@ module _ (program : Labelled) (i : Instance) (inside : in_inlet program i ≡ tr
   up : is_empty i.below ≡ false
   up = inlet_above program i.top i.below inside
 
-  gone_onward : (answer : Bool) → Onward program i (gone_on answer i)
-  gone_onward answer = record {
+  gone_onward : (z : ℤ) → Onward program i (gone_on z i)
+  gone_onward z = record {
     still = record { items = lowest_top i.top _ i.below (inr up); spawned = and_above i.spawned (is_empty i.below) up; children = refl; waiting = refl };
-    runs = inl (runs_top program i.top (gone_on answer i).top i.below refl ∙ inside);
+    runs = inl (runs_top program i.top (gone_on z i).top i.below refl ∙ inside);
   }
 
   put_onward : (cell : Cell) (z : ℤ) (j : Instance) → Onward program i j → Onward program i (put cell z j)
@@ -94,9 +96,9 @@ module _ (program : Labelled) (i : Instance) (inside : in_inlet program i ≡ tr
       by (inl e) = inl (runs_lowest program _ _ j.below ∙ runs_top program j.top _ j.below refl ∙ e)
       by (inr e) = inr (ap (on_lowest _) e)
 
-  above_onward : (a : Activation) → Onward program i (above a (gone_on true i))
+  above_onward : (a : Activation) → Onward program i (above a (gone_on (pos 1) i))
   above_onward a =
-      let on = gone_onward true in
+      let on = gone_onward (pos 1) in
       record {
         still = record {
           items = lowest_top i.top _ i.below (inr up);
@@ -104,7 +106,7 @@ module _ (program : Labelled) (i : Instance) (inside : in_inlet program i ≡ tr
           children = refl;
           waiting = refl;
         };
-        runs = inl (runs_above program a (gone_on true i).top i.below up ∙ runs_top program i.top (gone_on true i).top i.below refl ∙ inside);
+        runs = inl (runs_above program a (gone_on (pos 1) i).top i.below up ∙ runs_top program i.top (gone_on (pos 1) i).top i.below refl ∙ inside);
       }
 
   resumed_onward : (below : List Activation) → i.below ≡ below → Onward program i (resumed_to i below)
@@ -132,10 +134,10 @@ module _ (program : Labelled) (i : Instance) (inside : in_inlet program i ≡ tr
 
     marks : GoesOn program p i (after_marks s p i).instances
     marks =
-        let on = gone_onward true in
+        let on = gone_onward (pos 1) in
         record {
-          later = gone_on true i;
-          lives = at-marked_beside p p (changed p (λ _. gone_on true i) s.instances) (not_below p) ∙ replaced (gone_on true i);
+          later = gone_on (pos 1) i;
+          lives = at-marked_beside p p (changed p (λ _. gone_on (pos 1) i) s.instances) (not_below p) ∙ replaced (gone_on (pos 1) i);
           still = on.still;
           runs = on.runs;
         }
@@ -143,12 +145,13 @@ module _ (program : Labelled) (i : Instance) (inside : in_inlet program i ≡ tr
     not_alone : {A : Type 0} → is_empty i.below ≡ true → A
     not_alone e = let both : true ≡ false = sym e ∙ up in cc
 
-    first_true : (a b : Bool) → (a && b) ≡ true → a ≡ true
-    first_true true b h = refl
-    first_true false b h = cc
-
     no_boundary : {A : Type 0} → at_boundary i ≡ true → A
-    no_boundary e = not_alone (first_true (is_empty i.below) (i.spawned || head_waits i (head_of i.top.items)) e)
+    no_boundary e = not_alone (and_parts (is_empty i.below) (i.spawned || head_waits i (head_of i.top.items)) e).0
+
+    moves_on : Suited program i → (head : Numbered) → Acting s p i head → (after : Instances) → GoesOn program p i after
+        → Alone program (acted p head.number) p i after
+    moves_on suited head acting after on =
+        acts head.number head.act acting.unmarked acting.first (of_inlet program i.top i.below suited.stack inside) refl on
 
     alone_by : Suited program i → (taken : Step) → Way program s p i taken → waits_now taken ≡ None
         → Alone program (event_of_step taken) p i (state_after s taken).instances
@@ -157,21 +160,21 @@ module _ (program : Labelled) (i : Instance) (inside : in_inlet program i ≡ tr
     alone_by suited _ (parking (inr alone)) free = not_alone alone
     alone_by suited _ (ending aborted) free = ends aborted refl
     alone_by suited _ (stopping n kind unmarked) free = traps kind n unmarked refl
-    alone_by suited _ (going head answer acting sort) free = acts head.number acting.unmarked refl (goes (gone_on answer i) (gone_onward answer))
+    alone_by suited _ (going head z acting sort) free = moves_on suited head acting _ (goes (gone_on z i) (gone_onward z))
     alone_by suited _ (writing head cell z acting sort) free =
-        acts head.number acting.unmarked refl (goes (put cell z (gone_on true i)) (put_onward cell z (gone_on true i) (gone_onward true)))
+        moves_on suited head acting _ (goes (put cell z (gone_on (pos 1) i)) (put_onward cell z (gone_on (pos 1) i) (gone_onward (pos 1))))
     alone_by suited _ (entering head awaits callee zs acting sort) free =
-        acts head.number acting.unmarked refl
-        (goes (above (entered program callee zs awaits) (gone_on true i)) (above_onward (entered program callee zs awaits)))
-    alone_by suited _ (quitting head acting sort higher) free = acts head.number acting.unmarked refl (goes (resumed i) (resumed_onward i.below refl))
+        moves_on suited head acting _
+        (goes (above (entered program callee zs awaits) (gone_on (pos 1) i)) (above_onward (entered program callee zs awaits)))
+    alone_by suited _ (quitting head acting sort higher) free = moves_on suited head acting _ (goes (resumed i) (resumed_onward i.below refl))
     alone_by suited _ (answering head cell z acting sort higher) free =
-        acts head.number acting.unmarked refl (goes (put cell z (resumed i)) (put_onward cell z (resumed i) (resumed_onward i.below refl)))
+        moves_on suited head acting _ (goes (put cell z (resumed i)) (put_onward cell z (resumed i) (resumed_onward i.below refl)))
     alone_by suited _ (returning head z acting sort alone) free = not_alone alone
     alone_by suited _ (starting head receiver callee zs acting written) free =
         not_alone (spawned_by program (is_empty i.below) head.act written.taker written.is (head_suits program i.top i.below head suited.stack acting.first)).0
-    alone_by suited _ (printing head bytes acting sort) free = acts head.number acting.unmarked refl (goes (gone_on true i) (gone_onward true))
-    alone_by suited _ (turning head k now acting sort) free = acts head.number acting.unmarked refl (goes (gone_on true i) (gone_onward true))
-    alone_by suited _ (aborts head acting sort) free = acts head.number acting.unmarked refl marks
+    alone_by suited _ (printing head bytes acting sort) free = moves_on suited head acting _ (goes (gone_on (pos 1) i) (gone_onward (pos 1)))
+    alone_by suited _ (turning head k now acting sort) free = moves_on suited head acting _ (goes (gone_on (pos 1) i) (gone_onward (pos 1)))
+    alone_by suited _ (aborts head acting sort) free = moves_on suited head acting _ marks
     alone_by suited _ (placing oldest others cell z n taking) free = no_boundary taking.boundary
     alone_by suited _ (letting_in oldest others inlet ys zs n taking is) free = no_boundary taking.boundary
 
@@ -206,9 +209,6 @@ inlets_run_alone program suits n choices choice at next leads p i is inside =
     subst (λ (x : Position). Alone program (event_of program at.standing choice) p i x.standing.state.instances) (sym went.result)
     (subst (λ (x : State). Alone program (event_of program at.standing choice) p i x.instances) (sym (step_leads program at.standing choice p i is))
     (subst (λ e. Alone program e p i (state_after s (step_of_instance program s p i)).instances) (sym (step_event program at.standing choice p i is)) alone))
-
-some_is : {A : Type 0} (x y : A) → Some x ≡ Some y → x ≡ y
-some_is x y e = cc
 
 -- the step of another
 module _ (program : Labelled) (s : State) (q : Path) (k : Instance) (there : instance_at s.instances q ≡ Some k) (p : Path) (i : Instance)
@@ -254,32 +254,32 @@ module _ (program : Labelled) (s : State) (q : Path) (k : Instance) (there : ins
   marks_it : Unmoved i p (after_marks s q k).instances
   marks_it = by (is_below q p) refl
     where
-      before : instance_at (changed q (λ _. gone_on true k) s.instances) p ≡ Some i
-      before = at-changed_other q p (λ _. gone_on true k) s.instances other ∙ here
+      before : instance_at (changed q (λ _. gone_on (pos 1) k) s.instances) p ≡ Some i
+      before = at-changed_other q p (λ _. gone_on (pos 1) k) s.instances other ∙ here
 
       by : (b : Bool) → is_below q p ≡ b → Unmoved i p (after_marks s q k).instances
       by true e = record {
         later = marked i;
-        lives = at-marked_below q p (changed q (λ _. gone_on true k) s.instances) e ∙ ap (option_map marked) before;
+        lives = at-marked_below q p (changed q (λ _. gone_on (pos 1) k) s.instances) e ∙ ap (option_map marked) before;
         top = refl;
         below = refl;
       }
-      by false e = as_it_was (after_marks s q k).instances (at-marked_beside q p (changed q (λ _. gone_on true k) s.instances) e ∙ before)
+      by false e = as_it_was (after_marks s q k).instances (at-marked_beside q p (changed q (λ _. gone_on (pos 1) k) s.instances) e ∙ before)
 
   left_by : {taken : Step} → Way program s q k taken → Unmoved i p (state_after s taken).instances
   left_by (resting unmarked) = as_it_was s.instances here
   left_by (parking why) = as_it_was s.instances here
   left_by (ending aborted) = without_it
   left_by (stopping n kind unmarked) = as_it_was s.instances here
-  left_by (going head answer acting sort) = beside (gone_on answer k)
-  left_by (writing head cell z acting sort) = beside (put cell z (gone_on true k))
-  left_by (entering head awaits callee zs acting sort) = beside (above (entered program callee zs awaits) (gone_on true k))
+  left_by (going head z acting sort) = beside (gone_on z k)
+  left_by (writing head cell z acting sort) = beside (put cell z (gone_on (pos 1) k))
+  left_by (entering head awaits callee zs acting sort) = beside (above (entered program callee zs awaits) (gone_on (pos 1) k))
   left_by (quitting head acting sort higher) = beside (resumed k)
   left_by (answering head cell z acting sort higher) = beside (put cell z (resumed k))
   left_by (returning head z acting sort alone) = returned_by z (parent_of q)
   left_by (starting head receiver callee zs acting written) = pushed _ _
-  left_by (printing head bytes acting sort) = beside (gone_on true k)
-  left_by (turning head l now acting sort) = beside (gone_on true k)
+  left_by (printing head bytes acting sort) = beside (gone_on (pos 1) k)
+  left_by (turning head l now acting sort) = beside (gone_on (pos 1) k)
   left_by (aborts head acting sort) = marks_it
   left_by (placing oldest others cell z n taking) = beside (put cell z (record k { waiting = others }))
   left_by (letting_in oldest others inlet ys zs n taking is) = beside (above (entered program inlet zs None) (record k { waiting = others }))

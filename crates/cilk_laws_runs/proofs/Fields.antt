@@ -1,5 +1,5 @@
 -- What stays of each live instance over a step: what takes its value, its mark.
-use Rattle.std.proofs.Common.{◌≡◌, ℤ, ◌+◌, Bool, true, false, not, ◌&&◌, List, [], ◌∷◌, ◌++◌, Option, Some, None, is_some, refl, sym, ap, ◌∙◌}
+use Rattle.std.proofs.Common.{◌≡◌, ℤ, pos, ◌+◌, Bool, true, false, not, ◌&&◌, List, [], ◌∷◌, ◌++◌, Option, Some, None, is_some, refl, sym, ap, ◌∙◌}
 use Rattle.std.proofs.Common.{if◌then◌else◌, ◌⊎◌, inl, inr}
 use Rattle.std.specs.Prelude.{option_map}
 use Rattle.cilk_laws_allowed.specs.labelled.Labelled.{Labelled, Numbered}
@@ -26,12 +26,12 @@ Kept f entries after = (q : Path) → is_live entries q ≡ true → is_live aft
 
 -- no change of one instance but a mark changes f
 pub record Fixed {A : Type 0} (f : Instance → A) : Type 0 where
-  pub gone : (answer : Bool) (i : Instance) → f (gone_on answer i) ≡ f i
+  pub gone : (z : ℤ) (i : Instance) → f (gone_on z i) ≡ f i
   pub filled : (cell : Cell) (z : ℤ) (i : Instance) → f (put cell z i) ≡ f i
   pub entered : (a : Activation) (i : Instance) → f (above a i) ≡ f i
   pub left : (i : Instance) → f (resumed i) ≡ f i
   pub parted : (ds : List Delivery) (i : Instance) → f (record i { waiting = ds }) ≡ f i
-  pub counted : (i : Instance) → f (record (gone_on true i) { spawned = true; children = i.children + 1 }) ≡ f i
+  pub counted : (i : Instance) → f (record (gone_on (pos 1) i) { spawned = true; children = i.children + 1 }) ≡ f i
 
 -- an `abort` is acted
 pub record AbortStep (s : State) (p : Path) (i : Instance) (step : Step) : Type 0 where
@@ -108,18 +108,19 @@ module _ {A : Type 0} (f : Instance → A) where
     way_kept (parking why) = inl (λ q live still. refl)
     way_kept (ending marked) = inl (without_kept p s.instances)
     way_kept (stopping n kind unmarked) = inl (λ q live still. refl)
-    way_kept (going head answer acting sort) = inl (replaced (gone_on answer i) (fixed.gone answer i))
-    way_kept (writing head cell z acting sort) = inl (replaced (put cell z (gone_on true i)) (fixed.filled cell z (gone_on true i) ∙ fixed.gone true i))
+    way_kept (going head z acting sort) = inl (replaced (gone_on z i) (fixed.gone z i))
+    way_kept (writing head cell z acting sort) =
+        inl (replaced (put cell z (gone_on (pos 1) i)) (fixed.filled cell z (gone_on (pos 1) i) ∙ fixed.gone (pos 1) i))
     way_kept (entering head awaits callee zs acting sort) =
         inl
-        (replaced (above (entered program callee zs awaits) (gone_on true i))
-        (fixed.entered (entered program callee zs awaits) (gone_on true i) ∙ fixed.gone true i))
+        (replaced (above (entered program callee zs awaits) (gone_on (pos 1) i))
+        (fixed.entered (entered program callee zs awaits) (gone_on (pos 1) i) ∙ fixed.gone (pos 1) i))
     way_kept (quitting head acting sort up) = inl (replaced (resumed i) (fixed.left i))
     way_kept (answering head cell z acting sort up) = inl (replaced (put cell z (resumed i)) (fixed.filled cell z (resumed i) ∙ fixed.left i))
     way_kept (returning head z acting sort alone) = inl (returned_kept z (parent_of p))
     way_kept (starting head receiver callee zs acting written) = inl (started_kept _ _ (fixed.counted i))
-    way_kept (printing head bytes acting sort) = inl (replaced (gone_on true i) (fixed.gone true i))
-    way_kept (turning head k now acting sort) = inl (replaced (gone_on true i) (fixed.gone true i))
+    way_kept (printing head bytes acting sort) = inl (replaced (gone_on (pos 1) i) (fixed.gone (pos 1) i))
+    way_kept (turning head k now acting sort) = inl (replaced (gone_on (pos 1) i) (fixed.gone (pos 1) i))
     way_kept (aborts head acting sort) = inr (record { head = head; acting = acting; sort = sort; did = refl; leads = refl })
     way_kept (placing oldest others cell z n taking) =
         let j : Instance = record i { waiting = others } in
@@ -138,7 +139,7 @@ resumed_receiver i (caller ∷ below) = refl
 
 pub fixed_mark : Fixed (λ (i : Instance). i.aborted)
 fixed_mark = record {
-  gone = λ answer i. refl;
+  gone = λ z i. refl;
   filled = λ cell z i. refl;
   entered = λ a i. refl;
   left = λ i. resumed_mark i i.below;
@@ -148,7 +149,7 @@ fixed_mark = record {
 
 pub fixed_receiver : Fixed (λ (i : Instance). i.receiver)
 fixed_receiver = record {
-  gone = λ answer i. refl;
+  gone = λ z i. refl;
   filled = λ cell z i. refl;
   entered = λ a i. refl;
   left = λ i. resumed_receiver i i.below;

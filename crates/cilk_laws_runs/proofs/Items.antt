@@ -1,14 +1,15 @@
 -- What holds of each action of a body holds of each action that remains of it.
-use Rattle.std.proofs.Common.{◌≡◌, ℕ, zero, suc, Bool, true, false, ◌&&◌, List, [], ◌∷◌, Option, Some, None, refl, sym, ap, ◌∙◌}
+use Rattle.std.proofs.Common.{◌≡◌, ℕ, zero, suc, ℤ, Bool, true, false, ◌&&◌, List, [], ◌∷◌, Option, Some, None, refl, sym, ap, ◌∙◌}
 use Rattle.std.specs.Prelude.{slice_index_or}
 use Rattle.std.specs.List.{list_all}
 use Rattle.std.proofs.lemmas.Bool.{and_parts}
 use Rattle.cilk_laws_allowed.specs.labelled.Labelled.{Labelled, Body, Action, assign, call, spawn, print, locking, null, break_off, go_round, tests}
 use Rattle.cilk_laws_allowed.specs.labelled.Labelled.{sync, abort, return_with, return_nothing, close, Numbered, Stmt, action, choose, while, repeat}
-use Rattle.cilk_laws_allowed.specs.labelled.Labelled.{loop, nested, Stmts, none, also}
-use Rattle.cilk_laws_allowed.specs.labelled.Items.{Round, Item, piece, at_test, at_advance, Items, pieces, plain_round, open_first, open_stmt}
-use Rattle.cilk_laws_allowed.specs.labelled.Items.{open_stmts, opened, head_of_stmt, head_of, past_mark, from_mark, after_action, next_mark, next}
-use Rattle.cilk_laws_allowed.specs.labelled.Items.{start_items}
+use Rattle.cilk_laws_allowed.specs.labelled.Labelled.{loop, select, at_label, nested, Stmts, none, also}
+use Rattle.cilk_laws_allowed.specs.labelled.Items.{Round, Item, piece, at_test, at_advance, at_end, Items, pieces, plain_round, open_first}
+use Rattle.cilk_laws_allowed.specs.labelled.Items.{open_stmt, open_stmts, opened, head_of_stmt, head_of, past_mark, from_mark, after_action}
+use Rattle.cilk_laws_allowed.specs.labelled.Items.{next_mark, is_label, behind_by, behind_label, first_there, chosen, selected, holds}
+use Rattle.cilk_laws_allowed.specs.labelled.Items.{after_choice, after_test, next, start_items}
 use Rattle.cilk_laws_allowed.specs.labelled.Bodies.{is_procedure}
 use Rattle.cilk_laws_allowed.specs.model.Instance.{no_body, body_at}
 use Rattle.cilk_laws_runs.specs.Calls.{action_suits, part_suits, taker_suits, stmt_suits, stmts_suit, body_suits, calls_suit}
@@ -24,6 +25,8 @@ abbrev mutual
   HoldsStmt P (while test body) = (P test.act ≡ true) × HoldsStmts P body
   HoldsStmt P (repeat body test) = (P test.act ≡ true) × HoldsStmts P body
   HoldsStmt P (loop first test advance body) = HoldsPart P first × (P test.act ≡ true) × HoldsPart P advance × HoldsStmts P body
+  HoldsStmt P (select test body) = (P test.act ≡ true) × HoldsStmts P body
+  HoldsStmt P (at_label value) = Unit {0}
   HoldsStmt P (nested inside) = HoldsStmts P inside
 
   pub HoldsStmts : (Action → Bool) → Stmts → Type 0
@@ -37,6 +40,7 @@ abbrev HoldsItem : (Action → Bool) → Item → Type 0
 HoldsItem P (piece stmt) = HoldsStmt P stmt
 HoldsItem P (at_test round) = HoldsRound P round
 HoldsItem P (at_advance advance round) = (P advance.act ≡ true) × HoldsRound P round
+HoldsItem P at_end = Unit {0}
 
 abbrev pub HoldsItems : (Action → Bool) → Items → Type 0
 HoldsItems P [] = Unit {0}
@@ -61,6 +65,8 @@ module _ (P : Action → Bool) where
         let mark : HoldsItems P (plain_round test body ∷ items) = ((h.0, tt, h.1), k) in
         open_stmts_hold body (plain_round test body ∷ items) (plain_round test body ∷ items) h.1 mark mark
     open_stmt_holds (loop first test advance body) items without h k l = first_hold first _ h.0 ((h.1, h.2, h.3), k)
+    open_stmt_holds (select test body) items without h k l = (h, k)
+    open_stmt_holds (at_label value) items without h k l = l
     open_stmt_holds (nested inside) items without h k l = open_stmts_hold inside items without h k l
 
     open_stmts_hold : (stmts : Stmts) (items without : Items) → HoldsStmts P stmts → HoldsItems P items → HoldsItems P without
@@ -75,18 +81,21 @@ module _ (P : Action → Bool) where
   opened_holds (piece stmt ∷ items) h = open_stmt_holds stmt items (opened items) h.0 h.1 (opened_holds items h.1)
   opened_holds (at_test round ∷ items) h = h
   opened_holds (at_advance advance round ∷ items) h = h
+  opened_holds (at_end ∷ items) h = opened_holds items h.1
 
   past_holds : (items : Items) → HoldsItems P items → HoldsItems P (past_mark items)
   past_holds [] h = tt
   past_holds (piece stmt ∷ items) h = past_holds items h.1
   past_holds (at_test round ∷ items) h = h.1
   past_holds (at_advance advance round ∷ items) h = h.1
+  past_holds (at_end ∷ items) h = h.1
 
   from_holds : (items : Items) → HoldsItems P items → HoldsItems P (from_mark items)
   from_holds [] h = tt
   from_holds (piece stmt ∷ items) h = from_holds items h.1
   from_holds (at_test round ∷ items) h = h
   from_holds (at_advance advance round ∷ items) h = h
+  from_holds (at_end ∷ items) h = from_holds items h.1
 
   after_holds : (act : Action) (items : Items) → HoldsItems P items → HoldsItems P (after_action act items)
   after_holds break_off items h = past_holds items h
@@ -108,19 +117,51 @@ module _ (P : Action → Bool) where
   mark_holds round None h k = k
   mark_holds round (Some advance) h k = (h, k)
 
-  pub next_holds : (answer : Bool) (items : Items) → HoldsItems P items → HoldsItems P (next answer items)
-  next_holds answer [] h = tt
-  next_holds answer (piece (action what) ∷ items) h = after_holds what.act items h.1
-  next_holds true (piece (choose test body other) ∷ items) h = pieces_hold body items h.0.1 h.1
-  next_holds false (piece (choose test body other) ∷ items) h = pieces_hold other items h.0.2 h.1
-  next_holds answer (piece (while test body) ∷ items) h = h.1
-  next_holds answer (piece (repeat body test) ∷ items) h = h.1
-  next_holds answer (piece (loop first test advance body) ∷ items) h = h.1
-  next_holds answer (piece (nested inside) ∷ items) h = h.1
-  next_holds true (at_test round ∷ items) h =
-      pieces_hold round.body _ h.0.2 (mark_holds round round.advance h.0.1 h.0, h.1)
-  next_holds false (at_test round ∷ items) h = h.1
-  next_holds answer (at_advance advance round ∷ items) h = (h.0.1, h.1)
+  choice_holds : (b : Bool) (body other : Stmts) (items : Items) → HoldsStmts P body → HoldsStmts P other → HoldsItems P items
+      → HoldsItems P (after_choice b body other items)
+  choice_holds true body other items h k l = pieces_hold body items h l
+  choice_holds false body other items h k l = pieces_hold other items k l
+
+  test_holds : (b : Bool) (round : Round) (items : Items) → HoldsRound P round → HoldsItems P items → HoldsItems P (after_test b round items)
+  test_holds true round items h k = pieces_hold round.body _ h.2 (mark_holds round round.advance h.1 h, k)
+  test_holds false round items h k = k
+
+  -- the statements that a label leads to
+  abbrev HoldsSome : Option Stmts → Type 0
+  HoldsSome None = Unit {0}
+  HoldsSome (Some stmts) = HoldsStmts P stmts
+
+  behind_holds : (value : Option ℤ) (stmts : Stmts) → HoldsStmts P stmts → HoldsSome (behind_label value stmts)
+  behind_holds value none h = tt
+  behind_holds value (also first others) h = by (is_label value first) h.1 (behind_holds value others h.1)
+    where
+      by : (b : Bool) → HoldsStmts P others → HoldsSome (behind_label value others) → HoldsSome (behind_by b others (behind_label value others))
+      by true own later = own
+      by false own later = later
+
+  either_holds : (first other : Option Stmts) → HoldsSome first → HoldsSome other → HoldsSome (first_there first other)
+  either_holds None other h k = k
+  either_holds (Some stmts) other h k = h
+
+  selected_holds : (stmts : Option Stmts) (items : Items) → HoldsSome stmts → HoldsItems P items → HoldsItems P (selected stmts items)
+  selected_holds None items h k = k
+  selected_holds (Some stmts) items h k = pieces_hold stmts (at_end ∷ items) h (tt, k)
+
+  pub next_holds : (z : ℤ) (items : Items) → HoldsItems P items → HoldsItems P (next z items)
+  next_holds z [] h = tt
+  next_holds z (piece (action what) ∷ items) h = after_holds what.act items h.1
+  next_holds z (piece (choose test body other) ∷ items) h = choice_holds (holds z) body other items h.0.1 h.0.2 h.1
+  next_holds z (piece (while test body) ∷ items) h = h.1
+  next_holds z (piece (repeat body test) ∷ items) h = h.1
+  next_holds z (piece (loop first test advance body) ∷ items) h = h.1
+  next_holds z (piece (select test body) ∷ items) h =
+      selected_holds (chosen z body) items
+      (either_holds (behind_label (Some z) body) (behind_label None body) (behind_holds (Some z) body h.0.1) (behind_holds None body h.0.1)) h.1
+  next_holds z (piece (at_label value) ∷ items) h = h.1
+  next_holds z (piece (nested inside) ∷ items) h = h.1
+  next_holds z (at_test round ∷ items) h = test_holds (holds z) round items h.0 h.1
+  next_holds z (at_advance advance round ∷ items) h = (h.0.1, h.1)
+  next_holds z (at_end ∷ items) h = h.1
 
   stmt_head : (stmt : Stmt) (head : Numbered) → HoldsStmt P stmt → head_of_stmt stmt ≡ Some head → P head.act ≡ true
   stmt_head (action what) head h e = let is : what ≡ head = cc in ap (λ (x : Numbered). P x.act) (sym is) ∙ h
@@ -128,6 +169,8 @@ module _ (P : Action → Bool) where
   stmt_head (while test body) head h e = cc
   stmt_head (repeat body test) head h e = cc
   stmt_head (loop first test advance body) head h e = cc
+  stmt_head (select test body) head h e = let is : test ≡ head = cc in ap (λ (x : Numbered). P x.act) (sym is) ∙ h.0
+  stmt_head (at_label value) head h e = cc
   stmt_head (nested inside) head h e = cc
 
   pub head_holds : (items : Items) (head : Numbered) → HoldsItems P items → head_of items ≡ Some head → P head.act ≡ true
@@ -135,6 +178,7 @@ module _ (P : Action → Bool) where
   head_holds (piece stmt ∷ items) head h e = stmt_head stmt head h.0 e
   head_holds (at_test round ∷ items) head h e = let is : round.test ≡ head = cc in ap (λ (x : Numbered). P x.act) (sym is) ∙ h.0.0
   head_holds (at_advance advance round ∷ items) head h e = let is : advance ≡ head = cc in ap (λ (x : Numbered). P x.act) (sym is) ∙ h.0.0
+  head_holds (at_end ∷ items) head h e = cc
 
   pub start_holds : (body : Body) → P close ≡ true → HoldsStmts P body.stmts → HoldsItems P (opened (start_items body))
   start_holds body h k = opened_holds (start_items body) (pieces_hold body.stmts _ k (h, tt))
@@ -162,6 +206,9 @@ module _ (program : Labelled) (own : Bool) where
         let more = and_parts (action_suits program own test.act) (part_suits program own advance && stmts_suit program own body) parts.1 in
         let last = and_parts (part_suits program own advance) (stmts_suit program own body) more.1 in
         (part_of first parts.0, more.0, part_of advance last.0, stmts_of body last.1)
+    stmt_of (select test body) h =
+        let parts = and_parts (action_suits program own test.act) (stmts_suit program own body) h in (parts.0, stmts_of body parts.1)
+    stmt_of (at_label value) h = tt
     stmt_of (nested inside) h = stmts_of inside h
 
     pub stmts_of : (stmts : Stmts) → stmts_suit program own stmts ≡ true → HoldsStmts (action_suits program own) stmts
@@ -212,6 +259,8 @@ module _ (P Q : Action → Bool) (weaker : (act : Action) → P act ≡ true →
     stmt_weaker (repeat body test) h = (weaker test.act h.0, stmts_weaker body h.1)
     stmt_weaker (loop first test advance body) h =
         (part_weaker first h.0, weaker test.act h.1, part_weaker advance h.2, stmts_weaker body h.3)
+    stmt_weaker (select test body) h = (weaker test.act h.0, stmts_weaker body h.1)
+    stmt_weaker (at_label value) h = tt
     stmt_weaker (nested inside) h = stmts_weaker inside h
 
     stmts_weaker : (stmts : Stmts) → HoldsStmts P stmts → HoldsStmts Q stmts
@@ -226,3 +275,4 @@ module _ (P Q : Action → Bool) (weaker : (act : Action) → P act ≡ true →
   items_weaker (piece stmt ∷ items) h = (stmt_weaker stmt h.0, items_weaker items h.1)
   items_weaker (at_test round ∷ items) h = (round_weaker round h.0, items_weaker items h.1)
   items_weaker (at_advance advance round ∷ items) h = ((weaker advance.act h.0.0, round_weaker round h.0.1), items_weaker items h.1)
+  items_weaker (at_end ∷ items) h = (tt, items_weaker items h.1)

@@ -3,8 +3,8 @@ use Rattle.std.proofs.Common.{◌≡◌, ℕ, ◌+◌, Bool, true, false, ◌&&�
 use Rattle.std.proofs.lemmas.Bool.{and_from}
 use Rattle.cilk_check.specs.syntax.Tree as tree
 use Rattle.cilk_check.specs.scopes.declared.within.Within.{Within}
-use Rattle.cilk_check.specs.scopes.Parts.{Around, local, statement, PartInContext, inner, looped, after_local, after_locals, block_parts, locals_parts}
-use Rattle.cilk_check.specs.scopes.Parts.{within_local, stmts_parts, within_stmt}
+use Rattle.cilk_check.specs.scopes.Parts.{Around, local, statement, PartInContext, inner, looped, switched, after_local, after_locals, block_parts}
+use Rattle.cilk_check.specs.scopes.Parts.{locals_parts, within_local, stmts_parts, within_stmt}
 use Rattle.cilk_laws_allowed.specs.labelled.Labelled.{Labelled, Stmts}
 use Rattle.cilk_laws_allowed.specs.labelled.Names.{Names, with_local, local_count, entered}
 use Rattle.cilk_laws_allowed.specs.labelled.Label.{locals_variables, names_behind, label_move, label_taker, label_part, label_initialiser}
@@ -114,6 +114,9 @@ module _ (program : Labelled) where
         (and_from (part_suits program (is_procedure a.within.owner) (label_part names _ advance)) _
         (moves_suit (is_procedure a.within.owner) a names _ advance agree here.1)
         (inner_block_suits (looped a) (entered names) _ n body refl (agree_entered program names a.scopes agree) h))
+    label_stmt_suits a names at n (tree.switch value body) agree here h =
+        inner_block_suits (switched a) (entered names) (at + 1) n body refl (agree_entered program names a.scopes agree) h
+    label_stmt_suits a names at n (tree.labelled label) agree here h = refl
     label_stmt_suits a names at n (tree.nested inside) agree here h =
         inner_block_suits (inner a) (entered names) at n inside refl (agree_entered program names a.scopes agree) h
 

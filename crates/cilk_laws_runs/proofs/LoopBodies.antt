@@ -1,5 +1,5 @@
 -- The bodies of a text without faults, after they are labelled.
-use Rattle.std.proofs.Common.{◌≡◌, ℕ, ◌+◌, Bool, true, false, ◌&&◌, List, [], ◌∷◌, ◌++◌, refl, ◌∙◌, arith}
+use Rattle.std.proofs.Common.{◌≡◌, ℕ, ◌+◌, Bool, true, false, ◌&&◌, List, [], ◌∷◌, ◌++◌, refl, ◌∙◌}
 use Rattle.std.specs.List.{list_all, Contains, flat_map}
 use Rattle.std.proofs.lemmas.Bool.{and_from}
 use Rattle.std.proofs.lemmas.List.Folds.{list_all-append}
@@ -8,7 +8,7 @@ use Rattle.cilk_check.specs.scopes.declared.fault.CheckFault.TheVariants.{NoLoop
 use Rattle.cilk_check.specs.scopes.Scopes.{Scopes, parameters_declare, file_scopes}
 use Rattle.cilk_check.specs.scopes.Parts.{Around, Part, local, statement, after_local, after_locals, in_body, in_inlet, block_parts, locals_parts}
 use Rattle.cilk_check.specs.scopes.Parts.{within_local, stmts_parts, owner_of, item_parts, parts_of}
-use Rattle.cilk_check.specs.scopes.Forms.{Faulty, no_loop}
+use Rattle.cilk_check.specs.scopes.Forms.{Faulty, break_outside, continue_outside}
 use Rattle.cilk_laws_allowed.specs.labelled.Names.{Names, with_local}
 use Rattle.cilk_laws_allowed.specs.labelled.Label.{label_block}
 use Rattle.cilk_laws_allowed.specs.labelled.Bodies.{inlet_bodies, block_locals, body_count, item_bodies, items_bodies, file_names}
@@ -30,7 +30,7 @@ inlets_fit a names at n (tree.and_local (tree.inlet_at place name parameters bod
     (inlets_fit (after_local a l) (with_local names n l) _ _ ls (back (within_local a l) (locals_parts (after_local a l) ls) rest))
 
 block_fits : (a : Around) (names others : Names) (at n k m : ℕ) (b : tree.Block) → Stand (block_parts a b)
-    → (stmts_fit a.within.in_loop (label_block names at n b) && list_all body_fits (inlet_bodies others k m (block_locals b))) ≡ true
+    → (stmts_fit a.within.in_loop_or_switch a.within.in_loop (label_block names at n b) && list_all body_fits (inlet_bodies others k m (block_locals b))) ≡ true
 block_fits a names others at n k m (tree.block locals stmts) h =
     and_from _ _ (label_block_fits a names at n (tree.block locals stmts) h)
     (inlets_fit a others k m locals (front (locals_parts a locals) (stmts_parts (after_locals a locals) stmts) h))
@@ -57,7 +57,7 @@ in_loop_by true h = refl
 in_loop_by false h = absurd (h refl)
 
 module _ (p : tree.Program) (right : (at : ℕ) → ¬ Faulty p (NoLoop at)) where
-  statement_stands : (a : Around) (s : tree.Stmt) → Contains (parts_of p) (record { around = a; part = statement s }) → stands a.within.in_loop s ≡ true
+  statement_stands : (a : Around) (s : tree.Stmt) → Contains (parts_of p) (record { around = a; part = statement s }) → stands a.within s ≡ true
   statement_stands a (tree.move what) c = refl
   statement_stands a (tree.spawn_at place taker callee arguments) c = refl
   statement_stands a (tree.print format arguments) c = refl
@@ -66,18 +66,20 @@ module _ (p : tree.Program) (right : (at : ℕ) → ¬ Faulty p (NoLoop at)) whe
   statement_stands a (tree.sync_at place) c = refl
   statement_stands a (tree.abort_at place) c = refl
   statement_stands a (tree.break_at place) c =
-      in_loop_by a.within.in_loop (λ outside. right place (no_loop a (tree.break_at place) place c outside (0, omega arith, refl)))
+      in_loop_by a.within.in_loop_or_switch (λ outside. right place (break_outside a place c outside))
   statement_stands a (tree.continue_at place) c =
-      in_loop_by a.within.in_loop (λ outside. right place (no_loop a (tree.continue_at place) place c outside (0, omega arith, refl)))
+      in_loop_by a.within.in_loop (λ outside. right place (continue_outside a place c outside))
   statement_stands a (tree.return_at place value) c = refl
   statement_stands a (tree.when value body) c = refl
   statement_stands a (tree.either value body other) c = refl
   statement_stands a (tree.while value body) c = refl
   statement_stands a (tree.repeat body value) c = refl
   statement_stands a (tree.loop begin value advance body) c = refl
+  statement_stands a (tree.switch value body) c = refl
+  statement_stands a (tree.labelled label) c = refl
   statement_stands a (tree.nested inside) c = refl
 
-  stands_by : (a : Around) (part : Part) → Contains (parts_of p) (record { around = a; part = part }) → part_stands a.within.in_loop part ≡ true
+  stands_by : (a : Around) (part : Part) → Contains (parts_of p) (record { around = a; part = part }) → part_stands a.within part ≡ true
   stands_by a (local what) c = refl
   stands_by a (statement s) c = statement_stands a s c
 

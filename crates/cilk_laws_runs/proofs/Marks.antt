@@ -1,5 +1,5 @@
 -- What an `abort` does, and what it leaves.
-use Rattle.std.proofs.Common.{◌≡◌, ℕ, ℤ, true, false, List, Option, Some, None, ◌⊎◌, inl, inr, is_some, refl, sym, ap, subst, ◌∙◌}
+use Rattle.std.proofs.Common.{◌≡◌, ℕ, ℤ, pos, true, false, List, Option, Some, None, ◌⊎◌, inl, inr, is_some, refl, sym, ap, subst, ◌∙◌}
 use Rattle.std.specs.Prelude.{option_map}
 use Rattle.cilk_laws_allowed.specs.labelled.Labelled.{Labelled, Numbered, Action, abort}
 use Rattle.cilk_laws_allowed.specs.labelled.Items.{head_of}
@@ -34,7 +34,7 @@ no_marks act sort is other h = absurd (other (sym is ∙ h))
 
 pub acted_by : (program : Labelled) (s : State) (p : Path) (i : Instance) (q : Path) (k : ℕ) (step : Step) → Way program s p i step
     → event_of_step step ≡ acted q k → Acted s p i step q
-acted_by program s p i q k _ (going head answer acting sort) h =
+acted_by program s p i q k _ (going head z acting sort) h =
     record { same = cc; head = head; acting = acting; marks = no_marks head.act plain sort (λ e. cc) }
 acted_by program s p i q k _ (writing head cell z acting sort) h =
     record { same = cc; head = head; acting = acting; marks = no_marks head.act plain sort (λ e. cc) }
@@ -76,7 +76,7 @@ returns_by program s p i q k _ (resting unmarked) h = cc
 returns_by program s p i q k _ (parking why) h = cc
 returns_by program s p i q k _ (ending is_marked) h = cc
 returns_by program s p i q k _ (stopping n kind unmarked) h = cc
-returns_by program s p i q k _ (going head answer acting sort) h = cc
+returns_by program s p i q k _ (going head z acting sort) h = cc
 returns_by program s p i q k _ (writing head cell z acting sort) h = cc
 returns_by program s p i q k _ (entering head awaits callee zs acting sort) h = cc
 returns_by program s p i q k _ (quitting head acting sort above) h = cc
@@ -129,7 +129,7 @@ marks_to program n choices choice at next leads p acts =
 
 module _ (s : State) (p : Path) (i : Instance) (lives : instance_at s.instances p ≡ Some i) where
   abbrev going_on : Instances
-  going_on = changed p (λ _. gone_on true i) s.instances
+  going_on = changed p (λ _. gone_on (pos 1) i) s.instances
 
   marked_of : (o : Option Instance) → is_some o ≡ true → option_map (λ (x : Instance). x.aborted) (option_map marked o) ≡ Some true
   marked_of None h = cc
@@ -138,15 +138,15 @@ module _ (s : State) (p : Path) (i : Instance) (lives : instance_at s.instances 
   pub marks_below : (q : Path) → is_below p q ≡ true → is_live s.instances q ≡ true → mark_at (after_marks s p i).instances q ≡ Some true
   marks_below q below live =
       ap (option_map (λ (x : Instance). x.aborted)) (at-marked_below p q going_on below)
-      ∙ marked_of (instance_at going_on q) (live-changed p (λ _. gone_on true i) s.instances q ∙ live)
+      ∙ marked_of (instance_at going_on q) (live-changed p (λ _. gone_on (pos 1) i) s.instances q ∙ live)
 
   pub spares : (q : Path) → is_below p q ≡ false → mark_at (after_marks s p i).instances q ≡ mark_at s.instances q
   spares q beside =
       ap (option_map (λ (x : Instance). x.aborted)) (at-marked_beside p q going_on beside)
-      ∙ field-replaced (λ (x : Instance). x.aborted) p i (gone_on true i) s.instances lives refl q
+      ∙ field-replaced (λ (x : Instance). x.aborted) p i (gone_on (pos 1) i) s.instances lives refl q
 
   pub keeps_waiting : (q : Path) → deliveries_at (after_marks s p i).instances q ≡ deliveries_at s.instances q
-  keeps_waiting q = still-marked p going_on q ∙ still-replaced p i (gone_on true i) s.instances lives refl q
+  keeps_waiting q = still-marked p going_on q ∙ still-replaced p i (gone_on (pos 1) i) s.instances lives refl q
 
 pub abort_marks : AbortMarks
 abort_marks program n choices choice at next leads p acts q below live =

@@ -188,6 +188,8 @@ module _ (p : tree.Program) (right : WellFormed p) where
   stmt_right a (tree.either value body other) c = tt
   stmt_right a (tree.while value body) c = tt
   stmt_right a (tree.repeat body value) c = tt
+  stmt_right a (tree.switch value body) c = tt
+  stmt_right a (tree.labelled label) c = tt
   stmt_right a (tree.nested inside) c = tt
 
   forms_same : (o : Owner) → forms.is_procedure o ≡ is_procedure o

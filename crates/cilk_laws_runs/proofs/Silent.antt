@@ -1,5 +1,5 @@
 -- Who is marked after a choice, and that the marked give no value.
-use Rattle.std.proofs.Common.{◌≡◌, ◌≢◌, ℕ, suc, ◌+◌, Bool, true, false, not, ◌&&◌, ◌||◌, List, [], ◌∷◌, ◌++◌, length, Option, Some, None, ◌⊎◌, inl}
+use Rattle.std.proofs.Common.{◌≡◌, ◌≢◌, pos, ℕ, suc, ◌+◌, Bool, true, false, not, ◌&&◌, ◌||◌, List, [], ◌∷◌, ◌++◌, length, Option, Some, None, ◌⊎◌, inl}
 use Rattle.std.proofs.Common.{inr, is_some, refl, sym, ap, subst, ◌∙◌, if◌then◌else◌}
 use Rattle.std.specs.Prelude.{option_map}
 use Rattle.std.specs.List.{list_all}
@@ -60,13 +60,13 @@ module _ (program : Labelled) (s : State) (p : Path) (i : Instance) where
   born_unmarked c k _ (starting head receiver callee zs acting written) h fresh =
       let is : child_path p (i.children + 1) ≡ c = cc in
       subst (λ x. mark_at (after_start program s p i receiver callee zs).instances x ≡ Some false) is
-      (new_mark (child_path p (i.children + 1)) (record (gone_on true i) { spawned = true; children = i.children + 1 })
+      (new_mark (child_path p (i.children + 1)) (record (gone_on (pos 1) i) { spawned = true; children = i.children + 1 })
       (record (started program callee zs) { aborted = i.aborted; receiver = receiver }) (ap (is_live s.instances) is ∙ fresh) acting.unmarked)
   born_unmarked c k _ (resting unmarked) h fresh = cc
   born_unmarked c k _ (parking why) h fresh = cc
   born_unmarked c k _ (ending is_marked) h fresh = cc
   born_unmarked c k _ (stopping n kind unmarked) h fresh = cc
-  born_unmarked c k _ (going head answer acting sort) h fresh = cc
+  born_unmarked c k _ (going head z acting sort) h fresh = cc
   born_unmarked c k _ (writing head cell z acting sort) h fresh = cc
   born_unmarked c k _ (entering head awaits callee zs acting sort) h fresh = cc
   born_unmarked c k _ (quitting head acting sort above) h fresh = cc
@@ -92,7 +92,7 @@ module _ (program : Labelled) (s : State) (p : Path) (i : Instance) where
   spawn_unmarked c t did step (parking why) h fresh = cc
   spawn_unmarked c t did step (ending is_marked) h fresh = cc
   spawn_unmarked c t did step (stopping n kind unmarked) h fresh = cc
-  spawn_unmarked c t did step (going head answer acting sort) h fresh = cc
+  spawn_unmarked c t did step (going head z acting sort) h fresh = cc
   spawn_unmarked c t did step (writing head cell z acting sort) h fresh = cc
   spawn_unmarked c t did step (entering head awaits callee zs acting sort) h fresh = cc
   spawn_unmarked c t did step (quitting head acting sort above) h fresh = cc

@@ -1,7 +1,9 @@
 -- Where calls and spawns suit, what runs above a procedure's own activation never spawns, and what takes a child's value is an inlet.
-use Rattle.std.proofs.Common.{◌≡◌, ℕ, ℤ, ◌+◌, Bool, true, false, not, ◌&&◌, List, [], ◌∷◌, ◌++◌, Option, Some, None, ◌⊎◌, inl, inr, is_some, refl}
+use Rattle.std.proofs.Common.{◌≡◌, ℕ, ℤ, pos, ◌+◌, Bool, true, false, not, List, [], ◌∷◌, ◌++◌, Option, Some, None, ◌⊎◌, inl, inr, is_some, refl}
 use Rattle.std.proofs.Common.{sym, ap, subst, ◌∙◌, if◌then◌else◌}
 use Rattle.std.specs.Prelude.{option_map}
+use Rattle.std.proofs.lemmas.Bool.{and_parts, not-true}
+use Rattle.std.proofs.lemmas.Option.{same_Some}
 use Rattle.cilk_check.specs.scopes.declared.owner.Owner.{Owner}
 use Rattle.cilk_check.specs.scopes.declared.owner.Owner.TheVariants.{Function, Procedure, Inlet}
 use Rattle.cilk_laws_allowed.specs.labelled.Labelled as labelled
@@ -19,16 +21,22 @@ use Rattle.cilk_laws_allowed.specs.model.Run.{Standing, Position, next_of, state
 use Rattle.cilk_laws_placed.proofs.Entries.{same-is, at-changed_same, at-changed_other, at-without_other, live-without, either_of, at-push}
 use Rattle.cilk_laws_allowed.proofs.Lookups.{marked, at-marked_below, at-marked_beside}
 use Rattle.cilk_laws_runs.specs.Calls.{owner_of_body, is_inlet, taker_suits, action_suits, calls_suit}
+use Rattle.cilk_laws_runs.specs.Inlets.{runs_inlet, IsOfInlet}
 use Rattle.cilk_laws_runs.proofs.Runs.{Stepped, Rested, what_happens, each_position}
 use Rattle.cilk_laws_runs.proofs.Effects.{calling, spawning, sort_of, Fits, Spawns}
 use Rattle.cilk_laws_runs.proofs.Items.{HoldsItems, opened_holds, next_holds, head_holds, body_holds, freer, items_weaker}
 use Rattle.cilk_laws_runs.proofs.Ways.{Acting, Taking, Way, resting, parking, ending, stopping, going, writing, entering, quitting, answering}
 use Rattle.cilk_laws_runs.proofs.Ways.{returning, starting, printing, turning, aborts, placing, letting_in, way_of}
 
+-- right above the procedure's own activation any other body's may stand, and above that only a C function's
+abbrev pub MayStand : Labelled → Activation → List Activation → Type 0
+MayStand program a [] = Unit {0}
+MayStand program a (c ∷ below) = is_function (owner_of_body program a.body) ≡ true
+
 -- the activations from the one that goes on down to the procedure's own
 abbrev pub Stack : Labelled → Activation → List Activation → Type 0
 Stack program a [] = HoldsItems (action_suits program true) a.items
-Stack program a (b ∷ below) = HoldsItems (action_suits program false) a.items × Stack program b below
+Stack program a (b ∷ below) = HoldsItems (action_suits program false) a.items × MayStand program a below × Stack program b below
 
 abbrev pub Receives : Labelled → Option Receiver → Type 0
 Receives program (Some (through b ys n)) = is_inlet (owner_of_body program b) ≡ true
@@ -49,18 +57,44 @@ pub head_suits : (program : Labelled) (a : Activation) (below : List Activation)
 head_suits program a [] head h e = head_holds (action_suits program true) a.items head h e
 head_suits program a (b ∷ below) head h e = head_holds (action_suits program false) a.items head h.0 e
 
+same_body : (program : Labelled) (a c : Activation) (below : List Activation) → c.body ≡ a.body → MayStand program a below → MayStand program c below
+same_body program a c [] e h = tt
+same_body program a c (d ∷ below) e h = ap (λ b. is_function (owner_of_body program b)) e ∙ h
+
+function_stands : (program : Labelled) (a : Activation) (below : List Activation) → is_function (owner_of_body program a.body) ≡ true
+    → MayStand program a below
+function_stands program a [] h = tt
+function_stands program a (c ∷ below) h = h
+
+lowest_stands : (program : Labelled) (a : Activation) (below : List Activation) → is_empty below ≡ true → MayStand program a below
+lowest_stands program a [] h = tt
+lowest_stands program a (c ∷ below) h = cc
+
+still_stands : (program : Labelled) (a : Activation) (f : Values → Values) (below : List Activation) → MayStand program a below
+    → MayStand program a (on_lowest f below)
+still_stands program a f [] h = h
+still_stands program a f (b ∷ []) h = h
+still_stands program a f (b ∷ c ∷ below) h = h
+
 -- the one that goes on has other items or values
-stack_top : (program : Labelled) (a c : Activation) (below : List Activation)
+stack_top : (program : Labelled) (a c : Activation) (below : List Activation) → c.body ≡ a.body
     → ((own : Bool) → HoldsItems (action_suits program own) a.items → HoldsItems (action_suits program own) c.items)
     → Stack program a below → Stack program c below
-stack_top program a c [] h k = h true k
-stack_top program a c (b ∷ below) h k = (h false k.0, k.1)
+stack_top program a c [] e h k = h true k
+stack_top program a c (b ∷ below) e h k = (h false k.0, same_body program a c below e k.1, k.2)
 
 lowest_stack : (program : Labelled) (a : Activation) (f : Values → Values) (below : List Activation) → Stack program a below
     → Stack program a (on_lowest f below)
 lowest_stack program a f [] h = h
 lowest_stack program a f (b ∷ []) h = h
-lowest_stack program a f (b ∷ c ∷ below) h = (h.0, lowest_stack program b f (c ∷ below) h.1)
+lowest_stack program a f (b ∷ c ∷ below) h = (h.0, still_stands program a f (c ∷ below) h.1, lowest_stack program b f (c ∷ below) h.2)
+
+-- where the activation right above the lowest is an inlet's, the one that goes on is that or a C function's
+pub of_inlet : (program : Labelled) (a : Activation) (below : List Activation) → Stack program a below → runs_inlet program a below ≡ true
+    → IsOfInlet program a below
+of_inlet program a [] h inside = cc
+of_inlet program a (b ∷ []) h inside = inside
+of_inlet program a (b ∷ c ∷ below) h inside = h.1
 
 all_more : (program : Labelled) (ds new : List Delivery) → AllReceive program ds → AllReceive program new → AllReceive program (ds ++ new)
 all_more program [] new h k = k
@@ -114,9 +148,6 @@ fits_receives program (labelled.through inlet others) None f h = absurd f
 fits_receives program (labelled.through inlet others) (Some (place r n)) f h = absurd f
 fits_receives program (labelled.through inlet others) (Some (through b ys n)) f h = ap (λ x. is_inlet (owner_of_body program x)) f ∙ h
 
-some_is : {A : Type 0} (x y : A) → Some x ≡ Some y → x ≡ y
-some_is x y e = cc
-
 -- each instance that is found
 abbrev pub Each : Labelled → Instances → Type 0
 Each program entries = (q : Path) (j : Instance) → instance_at entries q ≡ Some j → Suited program j
@@ -126,7 +157,7 @@ module _ (program : Labelled) where
       → ((x : Instance) → o ≡ Some x → Suited program x)
       → option_map g o ≡ Some j → Suited program j
   mapped_by g None j h k e = cc
-  mapped_by g (Some x) j h k e = subst (Suited program) (some_is (g x) j e) (h x (k x refl))
+  mapped_by g (Some x) j h k e = subst (Suited program) (same_Some (g x) j e) (h x (k x refl))
 
   changed_each : (r : Path) (g : Instance → Instance) (entries : Instances) → ((x : Instance) → Suited program x → Suited program (g x))
       → Each program entries → Each program (changed r g entries)
@@ -138,18 +169,15 @@ module _ (program : Labelled) where
           (sym (at-changed_same r g entries) ∙ ap (instance_at (changed r g entries)) (sym (same-is q r same)) ∙ e)
       by false other = all q j (sym (at-changed_other r q g entries other) ∙ e)
 
-  gone_by : (a l : Bool) → (not a && l) ≡ true → a ≡ false
-  gone_by true l h = cc
-  gone_by false l h = refl
-
   without_each : (p : Path) (entries : Instances) → Each program entries → Each program (without p entries)
   without_each p entries all q j e =
-      all q j (sym (at-without_other p q entries (gone_by (same_path q p) (is_live entries q) (sym (live-without p entries q) ∙ ap is_some e))) ∙ e)
+      let both = and_parts (not (same_path q p)) (is_live entries q) (sym (live-without p entries q) ∙ ap is_some e) in
+      all q j (sym (at-without_other p q entries (not-true (same_path q p) both.0)) ∙ e)
 
   pushed_by : (o : Option Instance) (b : Bool) (x j : Instance) → Suited program x → ((y : Instance) → o ≡ Some y → Suited program y)
       → either_of o (if b then Some x else None) ≡ Some j → Suited program j
   pushed_by (Some y) b x j h k e = k j e
-  pushed_by None true x j h k e = subst (Suited program) (some_is x j e) h
+  pushed_by None true x j h k e = subst (Suited program) (same_Some x j e) h
   pushed_by None false x j h k e = cc
 
   pushed_each : (entries : Instances) (e : Entry) → Each program entries → Suited program e.instance → Each program (entries ++ e ∷ [])
@@ -186,19 +214,19 @@ module _ (program : Labelled) where
       waiting = tt;
     }
 
-    gone_suits : (answer : Bool) (i : Instance) → Suited program i → Suited program (gone_on answer i)
-    gone_suits answer i h = record {
+    gone_suits : (z : ℤ) (i : Instance) → Suited program i → Suited program (gone_on z i)
+    gone_suits z i h = record {
       stack =
-          stack_top program i.top _ i.below
-          (λ own k. opened_holds (action_suits program own) (next answer i.top.items)
-          (next_holds (action_suits program own) answer i.top.items k)) h.stack;
+          stack_top program i.top _ i.below refl
+          (λ own k. opened_holds (action_suits program own) (next z i.top.items)
+          (next_holds (action_suits program own) z i.top.items k)) h.stack;
       receiver = h.receiver;
       waiting = h.waiting;
     }
 
     put_suits : (cell : Cell) (z : ℤ) (i : Instance) → Suited program i → Suited program (put cell z i)
     put_suits cell z i h = record {
-      stack = lowest_stack program _ _ i.below (stack_top program i.top _ i.below (λ own k. k) h.stack);
+      stack = lowest_stack program _ _ i.below (stack_top program i.top _ i.below refl (λ own k. k) h.stack);
       receiver = h.receiver;
       waiting = h.waiting;
     }
@@ -206,7 +234,7 @@ module _ (program : Labelled) where
     resumed_suits : (i : Instance) (below : List Activation) → i.below ≡ below → Suited program i → Suited program (resumed_to i below)
     resumed_suits i [] e h = h
     resumed_suits i (b ∷ below) e h = record {
-      stack = (subst (Stack program i.top) e h.stack).1;
+      stack = (subst (Stack program i.top) e h.stack).2;
       receiver = h.receiver;
       waiting = h.waiting;
     }
@@ -228,36 +256,40 @@ module _ (program : Labelled) where
       marked_each : Each program (after_marks s p i).instances
       marked_each q j e = by (is_below p q) refl
         where
-          going_each : Each program (changed p (λ _. gone_on true i) s.instances)
-          going_each = replaced (gone_on true i) (gone_suits true i own)
+          going_each : Each program (changed p (λ _. gone_on (pos 1) i) s.instances)
+          going_each = replaced (gone_on (pos 1) i) (gone_suits (pos 1) i own)
 
           by : (b : Bool) → is_below p q ≡ b → Suited program j
           by true below =
-              mapped_by marked (instance_at (changed p (λ _. gone_on true i) s.instances) q) j
+              mapped_by marked (instance_at (changed p (λ _. gone_on (pos 1) i) s.instances) q) j
               (λ x k. record { stack = k.stack; receiver = k.receiver; waiting = k.waiting })
-              (λ x f. going_each q x f) (sym (at-marked_below p q (changed p (λ _. gone_on true i) s.instances) below) ∙ e)
-          by false beside = going_each q j (sym (at-marked_beside p q (changed p (λ _. gone_on true i) s.instances) beside) ∙ e)
+              (λ x f. going_each q x f) (sym (at-marked_below p q (changed p (λ _. gone_on (pos 1) i) s.instances) below) ∙ e)
+          by false beside = going_each q j (sym (at-marked_beside p q (changed p (λ _. gone_on (pos 1) i) s.instances) beside) ∙ e)
 
       call_each : (head : Numbered) (awaits : Option Reached) (callee : ℕ) (zs : List ℤ) → Acting s p i head → sort_of head.act ≡ calling callee
-          → Each program (changed p (λ _. above (entered program callee zs awaits) (gone_on true i)) s.instances)
+          → Each program (changed p (λ _. above (entered program callee zs awaits) (gone_on (pos 1) i)) s.instances)
       call_each head awaits callee zs acting sort =
-          let on = gone_suits true i own in
+          let on = gone_suits (pos 1) i own in
           let function = called_by program (is_empty i.below) head.act callee sort (head_here head acting) in
-          replaced (above (entered program callee zs awaits) (gone_on true i)) (record {
-            stack = (entered_suits callee zs awaits (no_procedure_by (owner_of_body program callee) function), on.stack);
+          replaced (above (entered program callee zs awaits) (gone_on (pos 1) i)) (record {
+            stack = (
+              entered_suits callee zs awaits (no_procedure_by (owner_of_body program callee) function),
+              function_stands program (entered program callee zs awaits) i.below function,
+              on.stack,
+            );
             receiver = on.receiver;
             waiting = on.waiting;
           })
 
       start_each : (head : Numbered) (receiver : Option Receiver) (callee : ℕ) (zs : List ℤ) → Acting s p i head → Spawns head.act receiver
-          → Each program (changed p (λ _. record (gone_on true i) { spawned = true; children = i.children + 1 }) s.instances
+          → Each program (changed p (λ _. record (gone_on (pos 1) i) { spawned = true; children = i.children + 1 }) s.instances
           ++ record { path = child_path p (i.children + 1); instance = record (started program callee zs) { aborted = i.aborted; receiver = receiver } } ∷ [])
       start_each head receiver callee zs acting written =
-          let on = gone_suits true i own in
+          let on = gone_suits (pos 1) i own in
           let taker = spawned_by program (is_empty i.below) head.act written.taker written.is (head_here head acting) in
-          pushed_each (changed p (λ _. record (gone_on true i) { spawned = true; children = i.children + 1 }) s.instances)
+          pushed_each (changed p (λ _. record (gone_on (pos 1) i) { spawned = true; children = i.children + 1 }) s.instances)
           (record { path = child_path p (i.children + 1); instance = record (started program callee zs) { aborted = i.aborted; receiver = receiver } })
-          (replaced (record (gone_on true i) { spawned = true; children = i.children + 1 })
+          (replaced (record (gone_on (pos 1) i) { spawned = true; children = i.children + 1 })
           (record { stack = on.stack; receiver = on.receiver; waiting = on.waiting }))
           (started_suits callee zs i.aborted receiver (fits_receives program written.taker receiver written.fits taker.1))
 
@@ -273,7 +305,11 @@ module _ (program : Labelled) where
       inlet_each oldest others inlet ys zs n taking is =
           let on = waiting_suits i oldest others taking.waits own in
           replaced (above (entered program inlet zs None) (record i { waiting = others })) (record {
-            stack = (entered_suits inlet zs None (no_procedure_in (owner_of_body program inlet) (let_in oldest others inlet ys zs n taking is)), on.stack);
+            stack = (
+              entered_suits inlet zs None (no_procedure_in (owner_of_body program inlet) (let_in oldest others inlet ys zs n taking is)),
+              lowest_stands program (entered program inlet zs None) i.below (and_parts (is_empty i.below) _ taking.boundary).0,
+              on.stack,
+            );
             receiver = on.receiver;
             waiting = on.waiting;
           })
@@ -283,15 +319,15 @@ module _ (program : Labelled) where
       way_each (parking why) = all
       way_each (ending is_marked) = without_each p s.instances all
       way_each (stopping n kind unmarked) = all
-      way_each (going head answer acting sort) = replaced (gone_on answer i) (gone_suits answer i own)
-      way_each (writing head cell z acting sort) = replaced (put cell z (gone_on true i)) (put_suits cell z (gone_on true i) (gone_suits true i own))
+      way_each (going head z acting sort) = replaced (gone_on z i) (gone_suits z i own)
+      way_each (writing head cell z acting sort) = replaced (put cell z (gone_on (pos 1) i)) (put_suits cell z (gone_on (pos 1) i) (gone_suits (pos 1) i own))
       way_each (entering head awaits callee zs acting sort) = call_each head awaits callee zs acting sort
       way_each (quitting head acting sort up) = replaced (resumed i) (resumed_suits i i.below refl own)
       way_each (answering head cell z acting sort up) = replaced (put cell z (resumed i)) (put_suits cell z (resumed i) (resumed_suits i i.below refl own))
       way_each (returning head z acting sort alone) = return_each s p i z (parent_of p) own all
       way_each (starting head receiver callee zs acting written) = start_each head receiver callee zs acting written
-      way_each (printing head bytes acting sort) = replaced (gone_on true i) (gone_suits true i own)
-      way_each (turning head k now acting sort) = replaced (gone_on true i) (gone_suits true i own)
+      way_each (printing head bytes acting sort) = replaced (gone_on (pos 1) i) (gone_suits (pos 1) i own)
+      way_each (turning head k now acting sort) = replaced (gone_on (pos 1) i) (gone_suits (pos 1) i own)
       way_each (aborts head acting sort) = marked_each
       way_each (placing oldest others cell z n taking) =
           replaced (put cell z (record i { waiting = others }))
@@ -306,7 +342,7 @@ module _ (program : Labelled) where
     next_each at choice all (inr rested) = subst (λ (x : State). Each program x.instances) (sym rested.leads) all
 
     root_by : (b : Bool) (i j : Instance) → Suited program i → (if b then Some i else None) ≡ Some j → Suited program j
-    root_by true i j h e = subst (Suited program) (some_is i j e) h
+    root_by true i j h e = subst (Suited program) (same_Some i j e) h
     root_by false i j h e = cc
 
     pub each_suits : (n : ℕ) (choices : List Choice) (at : Position) → after program n choices ≡ Some at → Each program at.standing.state.instances

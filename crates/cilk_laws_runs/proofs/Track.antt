@@ -1,5 +1,5 @@
 -- What becomes of a child, by what took its value where it lived.
-use Rattle.std.proofs.Common.{◌≡◌, ℕ, suc, ℤ, Bool, true, false, not, ◌&&◌, ◌||◌, List, [], ◌∷◌, ◌++◌, length, Option, Some, None, ◌⊎◌, inl, inr}
+use Rattle.std.proofs.Common.{◌≡◌, ℕ, suc, ℤ, pos, Bool, true, false, not, ◌&&◌, ◌||◌, List, [], ◌∷◌, ◌++◌, length, Option, Some, None, ◌⊎◌, inl, inr}
 use Rattle.std.proofs.Common.{is_some, refl, sym, ap, subst, ◌∙◌, if◌then◌else◌}
 use Rattle.std.specs.Prelude.{option_map}
 use Rattle.std.specs.List.{list_any}
@@ -86,14 +86,14 @@ receiver_kept : (s : State) (p : Path) (i : Instance) → instance_at s.instance
     → field receiver_of (after_marks s p i).instances q ≡ field receiver_of s.instances q
 receiver_kept s p i here q = by (is_below p q) refl
   where
-    going : field receiver_of (changed p (λ _. gone_on true i) s.instances) q ≡ field receiver_of s.instances q
-    going = field-replaced receiver_of p i (gone_on true i) s.instances here refl q
+    going : field receiver_of (changed p (λ _. gone_on (pos 1) i) s.instances) q ≡ field receiver_of s.instances q
+    going = field-replaced receiver_of p i (gone_on (pos 1) i) s.instances here refl q
 
     by : (b : Bool) → is_below p q ≡ b → field receiver_of (after_marks s p i).instances q ≡ field receiver_of s.instances q
     by true e =
-        ap (option_map receiver_of) (at-marked_below p q (changed p (λ _. gone_on true i) s.instances) e)
-        ∙ marked_same (instance_at (changed p (λ _. gone_on true i) s.instances) q) ∙ going
-    by false e = ap (option_map receiver_of) (at-marked_beside p q (changed p (λ _. gone_on true i) s.instances) e) ∙ going
+        ap (option_map receiver_of) (at-marked_below p q (changed p (λ _. gone_on (pos 1) i) s.instances) e)
+        ∙ marked_same (instance_at (changed p (λ _. gone_on (pos 1) i) s.instances) q) ∙ going
+    by false e = ap (option_map receiver_of) (at-marked_beside p q (changed p (λ _. gone_on (pos 1) i) s.instances) e) ∙ going
 
 -- no delivery of c
 lacks_has : (c : Path) (ds : List Delivery) → Lacks c ds → has c ds ≡ false

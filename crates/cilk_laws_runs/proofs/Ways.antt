@@ -39,8 +39,8 @@ pub data Way (program : Labelled) (s : State) (p : Path) (i : Instance) : Step �
   parking : (i.aborted ≡ true) ⊎ (is_empty i.below ≡ true) → Way program s p i parks
   ending : i.aborted ≡ true → Way program s p i (ends (after_abort s p) (event.ended p))
   stopping : (n : ℕ) (kind : TrapKind) → i.aborted ≡ false → Way program s p i (traps s p n kind)
-  going : (head : Numbered) (answer : Bool) → Acting s p i head → sort_of head.act ≡ plain
-      → Way program s p i (goes_on (after_going s p i answer) (event.acted p head.number))
+  going : (head : Numbered) (z : ℤ) → Acting s p i head → sort_of head.act ≡ plain
+      → Way program s p i (goes_on (after_going s p i z) (event.acted p head.number))
   writing : (head : Numbered) (cell : Cell) (z : ℤ) → Acting s p i head → sort_of head.act ≡ plain
       → Way program s p i (goes_on (after_write s p i cell z) (event.acted p head.number))
   entering : (head : Numbered) (awaits : Option Reached) (callee : ℕ) (zs : List ℤ) → Acting s p i head → sort_of head.act ≡ calling callee
@@ -116,7 +116,7 @@ module _ (program : Labelled) (s : State) (p : Path) (i : Instance) where
   effect_way : (head : Numbered) → Acting s p i head → (r : Result Effect Trap) → Tells head.act r → W (step_by_effect program s p i head.number r)
   effect_way head acting (Err trap) tells = stopping head.number _ acting.unmarked
   effect_way head acting (Ok (writes cell z)) tells = writing head cell z acting tells
-  effect_way head acting (Ok (answers answer)) tells = going head answer acting tells
+  effect_way head acting (Ok (answers z)) tells = going head z acting tells
   effect_way head acting (Ok (enters awaits callee zs)) tells =
       room_way head.number _ (nat_lt (length i.below) 255) _ acting.unmarked (entering head awaits callee zs acting tells)
   effect_way head acting (Ok (gives z)) tells = leaving_way head z acting tells

@@ -5,7 +5,7 @@ use Rattle.std.specs.List.{list_all}
 use Rattle.cilk_check.specs.scopes.declared.owner.Owner.{Owner}
 use Rattle.cilk_check.specs.scopes.declared.owner.Owner.TheVariants.{Function, Procedure, Inlet}
 use Rattle.cilk_laws_allowed.specs.labelled.Labelled.{Taker, through, Action, call, spawn, sync, Numbered, Stmt, action, choose, while, repeat, loop}
-use Rattle.cilk_laws_allowed.specs.labelled.Labelled.{nested, Stmts, none, also, Body, Labelled}
+use Rattle.cilk_laws_allowed.specs.labelled.Labelled.{select, at_label, nested, Stmts, none, also, Body, Labelled}
 use Rattle.cilk_laws_allowed.specs.labelled.Bodies.{is_procedure}
 use Rattle.cilk_laws_allowed.specs.model.Instance.{body_at}
 use Rattle.cilk_laws_allowed.specs.model.Change.{is_function}
@@ -43,6 +43,8 @@ abbrev mutual
   stmt_suits program own (repeat body test) = action_suits program own test.act && stmts_suit program own body
   stmt_suits program own (loop first test advance body) =
       part_suits program own first && (action_suits program own test.act && (part_suits program own advance && stmts_suit program own body))
+  stmt_suits program own (select test body) = action_suits program own test.act && stmts_suit program own body
+  stmt_suits program own (at_label value) = true
   stmt_suits program own (nested inside) = stmts_suit program own inside
 
   pub stmts_suit : Labelled → Bool → Stmts → Bool

@@ -1,9 +1,11 @@
 -- While an inlet runs: what its instance does until the inlet is left (Cilk 5.4 manual, `inlet`).
 use Rattle.std.specs.Prelude.{◌≡◌, ◌⊎◌, ℕ, Bool, true, false, List, [], ◌∷◌, Some}
-use Rattle.cilk_laws_allowed.specs.labelled.Labelled.{Labelled}
+use Rattle.cilk_laws_allowed.specs.labelled.Labelled.{Labelled, Action}
 use Rattle.cilk_laws_allowed.specs.model.Path.{Path}
 use Rattle.cilk_laws_allowed.specs.model.Instance.{Activation, Instance}
 use Rattle.cilk_laws_allowed.specs.model.State.{TrapKind, Instances, instance_at}
+use Rattle.cilk_laws_allowed.specs.model.Change.{is_function}
+use Rattle.cilk_laws_allowed.specs.model.Written.{Heads}
 use Rattle.cilk_laws_allowed.specs.model.Event.{Event, acted, ended, trapped, moved}
 use Rattle.cilk_laws_allowed.specs.model.Scheduler.{hand_of}
 use Rattle.cilk_laws_allowed.specs.model.Choice.{Choice, step}
@@ -18,6 +20,12 @@ runs_inlet program a (b ∷ c ∷ below) = runs_inlet program b (c ∷ below)
 
 abbrev pub in_inlet : Labelled → Instance → Bool
 in_inlet program i = runs_inlet program i.top i.below
+
+-- of such a stack, the activation that goes on is the inlet's own, or that of a C function
+abbrev pub IsOfInlet : Labelled → Activation → List Activation → Type 0
+IsOfInlet program a [] = ⊥
+IsOfInlet program a (b ∷ []) = is_inlet (owner_of_body program a.body) ≡ true
+IsOfInlet program a (b ∷ c ∷ below) = is_function (owner_of_body program a.body) ≡ true
 
 -- the procedure's own activation
 abbrev pub lowest : Activation → List Activation → Activation
@@ -46,8 +54,9 @@ pub record GoesOn (program : Labelled) (p : Path) (i : Instance) (after : Instan
 
 -- what a step of an instance in an inlet may be
 pub data Alone (program : Labelled) (did : Event) (p : Path) (i : Instance) (after : Instances) : Type 0 where
-  -- of the inlet, or of a C function called from it
-  acts : (n : ℕ) → i.aborted ≡ false → did ≡ acted p n → GoesOn program p i after → Alone program did p i after
+  -- of the inlet, or of a C function called from it: the action is the head of the one that goes on
+  acts : (n : ℕ) (act : Action) → i.aborted ≡ false → Heads i n act → IsOfInlet program i.top i.below → did ≡ acted p n → GoesOn program p i after
+      → Alone program did p i after
   traps : (kind : TrapKind) (n : ℕ) → i.aborted ≡ false → did ≡ trapped kind p n → Alone program did p i after
   -- once it is aborted
   parks : i.aborted ≡ true → did ≡ moved → Alone program did p i after

@@ -2,8 +2,8 @@
 
 ghost use Rattle.cilk_laws_runs.specs.HeadLaws.{BreaksStandInLoops, EachHasHead, StuckOnLocks};
 
-/// In a program whose forms have no fault, each `break` and `continue` stands in a loop of its body,
-/// after it is labelled too.
+/// In a program whose forms have no fault, each `continue` stands in a loop of its body, and each `break` in a
+/// loop or a `switch`, after it is labelled too.
 pub fn breaks_stand_in_loops()
     ensures { BreaksStandInLoops }
 {}

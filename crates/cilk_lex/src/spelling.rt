@@ -37,6 +37,9 @@ pub(crate) fn keyword_of(word: &str) -> Option<Keyword>
         "abort" => Some(Keyword::Abort),
         "SYNCHED" => Some(Keyword::Synched),
         "Cilk_lockvar" => Some(Keyword::CilkLockvar),
+        "switch" => Some(Keyword::Switch),
+        "case" => Some(Keyword::Case),
+        "default" => Some(Keyword::Default),
         _ => None,
     }
 }

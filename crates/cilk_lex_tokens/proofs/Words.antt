@@ -33,6 +33,9 @@ word_form key.Inlet = refl
 word_form key.Abort = refl
 word_form key.Synched = refl
 word_form key.CilkLockvar = refl
+word_form key.Switch = refl
+word_form key.Case = refl
+word_form key.Default = refl
 
 pub named_word : (k : Keyword) → named (spelling k) ≡ word k
 unfolding named word_in all_words
@@ -53,6 +56,9 @@ named_word key.Inlet = refl
 named_word key.Abort = refl
 named_word key.Synched = refl
 named_word key.CilkLockvar = refl
+named_word key.Switch = refl
+named_word key.Case = refl
+named_word key.Default = refl
 
 -- what is found among some words
 abbrev Told : List Keyword → List ℕ → Type 0

@@ -28,7 +28,7 @@ pub data Sight : Type 0 where
 unfoldable pub all_words : List Keyword
 all_words =
     key.Int ∷ key.Void ∷ key.If ∷ key.Else ∷ key.While ∷ key.Do ∷ key.For ∷ key.Break ∷ key.Continue ∷ key.Return ∷ key.Cilk ∷ key.Spawn
-    ∷ key.Sync ∷ key.Inlet ∷ key.Abort ∷ key.Synched ∷ key.CilkLockvar ∷ []
+    ∷ key.Sync ∷ key.Inlet ∷ key.Abort ∷ key.Synched ∷ key.CilkLockvar ∷ key.Switch ∷ key.Case ∷ key.Default ∷ []
 
 unfoldable pub word_in : List Keyword → List ℕ → Lexeme
 word_in [] w = name w

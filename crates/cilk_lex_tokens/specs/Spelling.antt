@@ -32,6 +32,9 @@ spelling key.Inlet = codes "inlet"
 spelling key.Abort = codes "abort"
 spelling key.Synched = codes "SYNCHED"
 spelling key.CilkLockvar = codes "Cilk_lockvar"
+spelling key.Switch = codes "switch"
+spelling key.Case = codes "case"
+spelling key.Default = codes "default"
 
 -- the marks (C 1990, 6.1.5 and 6.1.6)
 abbrev pub mark_spelling : Mark → List ℕ

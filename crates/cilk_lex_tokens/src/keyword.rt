@@ -20,4 +20,7 @@ pub enum Keyword {
     Abort,
     Synched,
     CilkLockvar,
+    Switch,
+    Case,
+    Default,
 }

@@ -23,7 +23,7 @@ use Rattle.cilk_load_numbering.specs.nodes.Plain.{PlainBlock, OuterLocals, Outer
 use Rattle.cilk_load_numbering.proofs.nodes_laws.Texts.{shape_rows, named_place, body_of_inlet, locals_rows, body_rows}
 use Rattle.cilk_load_numbering.specs.resolve.Scope as scope
 use Rattle.cilk_load_numbering.specs.resolve.Scope.{Scope, declared}
-use Rattle.cilk_load_numbering.specs.layout.Firsts.{first_if, locals_first}
+use Rattle.cilk_load_numbering.specs.resolve.Firsts.{first_if, locals_first}
 use Rattle.cilk_load_numbering.specs.Pass.{known_var, known_number, onward, shape_nodes, stmts_nodes, block_nodes}
 use Rattle.cilk_load_numbering.specs.Outer.{vars_at, body_exits, words_scope, parameters_scope, inlet_nodes, outer_nodes, outer_scope, body_nodes}
 use Rattle.cilk_load.proofs.Found.{Agree, agree-declared, agree-inlet}
@@ -98,7 +98,7 @@ module _ (program : Labelled) where
       → shape_nodes b s name shape next ++ rest ≡ filter_map row_node (shape_rows names b at (named_place name) shape others items ++ rows)
   shape-rows b names s agree at name (tree.variable None) others items next rest rows e f = f
   shape-rows b names s agree at name (tree.variable (Some value)) others items next rest rows e f =
-      λ i. record { action = initialiser-is (slot_of program b) names s agree name value i; next = e i; other = e i; body = b } ∷ f i
+      λ i. record { action = initialiser-is (slot_of program b) names s agree name value i; next = e i; other = e i; cases = []; body = b } ∷ f i
   shape-rows b names s agree at name (tree.array n) others items next rest rows e f = f
 
   -- the procedure around each of the next inlets is that of body b

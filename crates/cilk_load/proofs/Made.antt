@@ -15,12 +15,12 @@ use Rattle.cilk_load_numbering.specs.nodes.declared.body.Body as table
 use Rattle.cilk_load_numbering.specs.nodes.declared.var.Var.{Var}
 use Rattle.cilk_load_numbering.specs.nodes.Bodies.{body_table, vars_from, lock_variable, globals_of, locks_of}
 use Rattle.cilk_load_numbering.proofs.nodes_laws.Inner.{well_formed-plain}
-use Rattle.cilk_load_numbering.specs.layout.Tables.{inlet_tables, item_tables, items_tables}
+use Rattle.cilk_load_layout.specs.Tables.{inlet_tables, item_tables, items_tables}
 use Rattle.cilk_load_numbering.specs.Outer.{items_nodes, globals_count, locks_count, bodies_count}
 use Rattle.cilk_load_numbering.specs.Outer.{file_scope}
-use Rattle.cilk_load_numbering.specs.layout.Tables.{starts_here}
+use Rattle.cilk_load_layout.specs.Tables.{starts_here}
 use Rattle.cilk_load.specs.Tables.{Tabled}
-use Rattle.cilk_load_numbering.proofs.layout_laws.Tables.{length-vars}
+use Rattle.cilk_load_layout.proofs.Tables.{length-vars}
 use Rattle.cilk_load.proofs.Programs.{items-tables-are, program-nodes, none-at-0, nodes-at}
 
 length-globals : (items : List tree.Item) → length (flat_map item_globals items) ≡ globals_count items

@@ -25,7 +25,7 @@ use Rattle.cilk_load_numbering.specs.model.Instance.{body_at, no_body}
 use Rattle.cilk_load_numbering.specs.nodes.declared.node.Node.{Node}
 use Rattle.cilk_load_numbering.specs.nodes.Slots.{slot_of, is_inlet, procedure_around}
 use Rattle.cilk_load_numbering.specs.nodes.Actions.{slotted}
-use Rattle.cilk_load_numbering.specs.nodes.Table.{number_of, number_after, closing_items, Row, node_of}
+use Rattle.cilk_load_numbering.specs.nodes.Table.{number_of, number_else, cases_of, closing_items, Row, node_of}
 use Rattle.cilk_load_numbering.specs.nodes.Bodies.{body_table, globals_of}
 use Rattle.cilk_load_numbering.specs.nodes.Plain.{PlainLocals, PlainBlock, OuterLocals, OuterBlock, PlainItem, PlainItems}
 use Rattle.cilk_load_numbering.proofs.nodes_laws.Inner.{well_formed-plain}
@@ -34,8 +34,8 @@ use Rattle.cilk_load_numbering.proofs.nodes_laws.Texts.{item_rows, items_rows, R
 use Rattle.cilk_load_numbering.proofs.nodes_laws.Heads.{rows_of, text_of, text-spans, row-number, among-is, among-none, text-place, numbered, one-row}
 use Rattle.cilk_load_numbering.specs.resolve.Scope as scope
 use Rattle.cilk_load_numbering.specs.resolve.Scope.{Scope, outward_named}
-use Rattle.cilk_load_numbering.specs.layout.Firsts.{locals_first}
-use Rattle.cilk_load_numbering.specs.layout.Tables.{body_first, table_of, inlet_tables, item_tables, items_tables}
+use Rattle.cilk_load_numbering.specs.resolve.Firsts.{locals_first}
+use Rattle.cilk_load_layout.specs.Tables.{body_first, table_of, inlet_tables, item_tables, items_tables}
 use Rattle.cilk_load_numbering.specs.Outer.{vars_at, parameters_scope, item_nodes, items_nodes}
 use Rattle.cilk_load_numbering.specs.Outer.{file_named, file_scope}
 use Rattle.cilk_load.proofs.Found.{known_of, same_name, Agree}
@@ -156,7 +156,13 @@ head-node : (program : Labelled) (r : Row) (n : ℕ) → number_of r.items ≡ S
 head-node program r n e = by_head (head_of r.items) e
   where
     made : Numbered → Node
-    made h = record { action = slotted (slot_of program r.body) h.act; next = number_after true r.items; other = number_after false r.items; body = r.body }
+    made h = record {
+      action = slotted (slot_of program r.body) h.act;
+      next = number_else (pos 1) r.items;
+      other = number_else (pos 0) r.items;
+      cases = cases_of r.items;
+      body = r.body;
+    }
 
     by_head : (o : Option Numbered) → option_map (λ (h : Numbered). h.number) o ≡ Some n → (node : Node) × (option_map made o ≡ Some node)
     by_head None e = cc

@@ -14,8 +14,8 @@ use Rattle.cilk_load_numbering.specs.labelled.Label.{locals_variables}
 use Rattle.cilk_load_numbering.specs.nodes.Table.{number_of}
 use Rattle.cilk_load_numbering.specs.nodes.Plain.{PlainLocals, PlainStmt, PlainStmts, PlainBlock}
 use Rattle.cilk_load_numbering.proofs.nodes_laws.Opens.{opened-pieces}
-use Rattle.cilk_load_numbering.specs.layout.Firsts.{first_if, block_first, locals_first}
-use Rattle.cilk_load_numbering.proofs.layout_laws.Begins.{first_if-some}
+use Rattle.cilk_load_numbering.specs.resolve.Firsts.{first_if, block_first, locals_first}
+use Rattle.cilk_load_numbering.proofs.resolve_laws.Begins.{first_if-some}
 
 positive : (n : ℕ) → nat_eq n 0 ≡ false → 0 < n
 positive n e = elim (cases_eq n 0) [ inl z ↦ absurd (false≢true (sym e ∙ (Decides-eqb n 0).1 z)) | inr z ↦ above n z ]
@@ -103,6 +103,9 @@ mutual
       ap (λ k. Some k) here ∙ sym (first_if-some (0 + (1 + (count_option advance + count_block body))) at (number_of without) (omega arith))
   stmt-first names at n (tree.loop (Some what) value advance body) items without plain =
       sym (first_if-some (1 + (1 + (count_option advance + count_block body))) at (number_of without) (omega arith))
+  stmt-first names at n (tree.switch value body) items without plain =
+      sym (first_if-some (1 + count_block body) at (number_of without) (omega arith))
+  stmt-first names at n (tree.labelled label) items without plain = refl
   stmt-first names at n (tree.nested inside) items without plain = block-first (entered names) at n inside items without plain
 
   pub block-first : (names : Names) (at n : ℕ) (b : tree.Block) (items without : Items) → PlainBlock b

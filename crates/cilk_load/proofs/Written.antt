@@ -6,7 +6,8 @@ use Rattle.cilk_check.specs.syntax.Tree as tree
 use Rattle.cilk_check.specs.syntax.Tree.{Word}
 use Rattle.cilk_load_numbering.specs.eval.declared.slot.Slot.{Slot}
 use Rattle.cilk_load_numbering.specs.labelled.Labelled.{Declaration, local, Numbered, Stmts}
-use Rattle.cilk_load_numbering.specs.labelled.Items.{Round, piece, at_test, at_advance, Items, pieces, opened, past_mark, from_mark}
+use Rattle.cilk_load_numbering.specs.labelled.Items.{Round, piece, at_test, at_advance, at_end, Items, pieces, opened, past_mark, from_mark, behind_label}
+use Rattle.cilk_load_numbering.specs.labelled.Items.{selected}
 use Rattle.cilk_load_numbering.specs.labelled.Names.{Names, with_local, entered}
 use Rattle.cilk_load_numbering.specs.labelled.Count.{count_option, count_shape, count_stmt, count_stmts, count_locals, count_block}
 use Rattle.cilk_load_numbering.specs.labelled.Label.{numbered, single, label_move, label_part, label_test, label_initialiser, label_locals}
@@ -17,17 +18,18 @@ use Rattle.cilk_load_numbering.specs.nodes.declared.action.Action.TheVariants.{P
 use Rattle.cilk_load_numbering.specs.nodes.declared.node.Node.{Node}
 use Rattle.cilk_load_numbering.specs.nodes.declared.var.Var.{Var}
 use Rattle.cilk_load_numbering.specs.nodes.Actions.{slotted}
-use Rattle.cilk_load_numbering.specs.nodes.Table.{number_of, node_over, first_lists, advance_lists, round_of, stmt_lists, stmts_lists}
+use Rattle.cilk_load_numbering.specs.nodes.Table.{number_of, label_cases, node_over, first_lists, advance_lists, round_of, stmt_lists, stmts_lists}
 use Rattle.cilk_load_numbering.specs.nodes.Plain.{PlainLocals, PlainStmt, PlainStmts, PlainBlock}
 use Rattle.cilk_load_numbering.proofs.nodes_laws.Opens.{past-pieces, from-pieces}
 use Rattle.cilk_load_numbering.specs.declared.exits.Exits.{Exits}
 use Rattle.cilk_load_numbering.specs.resolve.Scope.{Scope, declared}
 use Rattle.cilk_load_numbering.specs.resolve.Acts.{move_in, code_in}
-use Rattle.cilk_load_numbering.specs.layout.Firsts.{first_if, locals_first}
-use Rattle.cilk_load_numbering.specs.Pass.{var_slot, known_var, node, onward, exits_to, part_nodes, shape_nodes, locals_scope}
+use Rattle.cilk_load_numbering.specs.resolve.Firsts.{first_if, locals_first}
+use Rattle.cilk_load_numbering.specs.Pass.{var_slot, known_var, node, switch_test, onward, exits_to, part_nodes, shape_nodes, locals_scope}
 use Rattle.cilk_load_numbering.specs.Pass.{locals_nodes, stmt_nodes, stmts_nodes, block_nodes}
 use Rattle.cilk_load.proofs.Found.{Agree, agree-declared, agree-entered}
 use Rattle.cilk_load.proofs.Actions.{number-is, code-is, codes-are, move-is, spawn-is, return-is, initialiser-is}
+use Rattle.cilk_load.proofs.Labels.{block-cases, block-default}
 use Rattle.cilk_load.proofs.Starts.{block-pieces, stmts-pieces, locals-pieces}
 
 -- where these items lead, by numbers
@@ -51,8 +53,8 @@ module _ (slots : Declaration → Slot) (b : ℕ) (vars : List Var) (lie : (n : 
   both m n xs ys e f = (λ i. e i ++ f i) ∙ sym (over-append xs ys)
 
   one : (act same : action.Action) (next other : Option ℕ) (next' other' : Option ℕ) → act ≡ same → next ≡ next' → other ≡ other'
-      → node b act next other ≡ record { action = same; next = next'; other = other'; body = b }
-  one act same next other next' other' e f g = λ i. record { action = e i; next = f i; other = g i; body = b }
+      → node b act next other ≡ record { action = same; next = next'; other = other'; cases = []; body = b }
+  one act same next other next' other' e f g = λ i. record { action = e i; next = f i; other = g i; cases = []; body = b }
 
   agree-local : (names : Names) (s : Scope) (n : ℕ) (d : tree.Decl) → Agree slots names s
       → Agree slots (with_local names n (tree.declared d)) (declared s (known_var vars n d.name))
@@ -112,6 +114,24 @@ module _ (slots : Declaration → Slot) (b : ℕ) (vars : List Var) (lie : (n : 
   test-act : (names : Names) (s : Scope) → Agree slots names s → (value : tree.Expr) (at : ℕ)
       → Test (code_in s value) ≡ slotted slots (label_test names at value).act
   test-act names s agree value at = ap (λ t. Test t) (code-is slots names s agree value)
+
+  switch-node : (names : Names) (s : Scope) → Agree slots names s → (value : tree.Expr) (at n : ℕ) (body : tree.Block) (items : Items) → PlainBlock body
+      → switch_test b s value (at + 1) body (number_of (opened items)) ≡ record {
+        action = slotted slots (label_test names at value).act;
+        next = number_of (opened (selected (behind_label None (label_block (entered names) (at + 1) n body)) items));
+        other = number_of (opened (selected (behind_label None (label_block (entered names) (at + 1) n body)) items));
+        cases = label_cases (label_block (entered names) (at + 1) n body) (at_end ∷ items);
+        body = b;
+      }
+  switch-node names s agree value at n (tree.block ls ss) items plain =
+      let leads = block-default (entered names) (at + 1) n ls ss items plain in
+      λ i. record {
+        action = test-act names s agree value at i;
+        next = leads i;
+        other = leads i;
+        cases = block-cases (entered names) (at + 1) n ls ss items plain i;
+        body = b;
+      }
 
   mutual
     pub stmt-nodes : (names : Names) (s : Scope) → Agree slots names s → (at n : ℕ) (x : tree.Stmt) (items : Items) → PlainStmt x
@@ -180,6 +200,10 @@ module _ (slots : Declaration → Slot) (b : ℕ) (vars : List Var) (lie : (n : 
         (λ i. node b (test-act names s agree value test i) (sym (block-pieces (entered names) within n body mark plain) i) (number_of (opened items))
         ∷ (one _ _ (Some test) (Some test) _ _ (move-is slots names s agree what) refl refl i
         ∷ block-nodes (entered names) s (agree-entered slots names s agree) within n body mark plain i))
+    stmt-nodes names s agree at n (tree.switch value body) items plain =
+        λ i. switch-node names s agree value at n body items plain i
+        ∷ block-nodes (entered names) s (agree-entered slots names s agree) (at + 1) n body (at_end ∷ items) plain i
+    stmt-nodes names s agree at n (tree.labelled label) items plain = refl
     stmt-nodes names s agree at n (tree.nested inside) items plain =
         block-nodes (entered names) s (agree-entered slots names s agree) at n inside items plain
 

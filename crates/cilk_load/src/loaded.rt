@@ -2,7 +2,7 @@
 
 ghost use Rattle.std.specs.Prelude.{◌≡◌, ◌≤◌, ◌↔◌, IsSome, IfOk, Some, option_copied, string_bytes};
 ghost use Rattle.std.specs.Arc.{arc_value};
-ghost use Rattle.cilk_load_numbering.specs.canonical.ProgramText.{program_text};
+ghost use Rattle.cilk_load_numbering.specs.syntax.ProgramText.{program_text};
 ghost use Rattle.cilk_check.specs.scopes.WellFormed.{WellFormed};
 ghost use Rattle.cilk_load_numbering.specs.labelled.Bodies.{label};
 ghost use Rattle.cilk_load_numbering.specs.labelled.Count.{count_program};
@@ -11,7 +11,8 @@ ghost use Rattle.cilk_load_numbering.specs.nodes.Table.{node_of};
 ghost use Rattle.cilk_load_numbering.specs.nodes.Bodies.{body_of, globals_of, locks_of};
 
 use crate::tables::Tables;
-use cilk_load_numbering::{Body, Memory, Node, Program, Var, canonical};
+use cilk_load_numbering::{Body, Memory, Node, Program, Var};
+use cilk_tree::canonical;
 use std::marker::Model;
 use std::sync::Arc;
 

@@ -7,10 +7,8 @@ use crate::fault::LoadFault;
 use crate::loaded::Loaded;
 use crate::tables::Tables;
 use cilk_check::Checked;
-use cilk_load_numbering::{
-    MAX_ACTIONS, NoRoom, Program, action_lines, bodies_of, count_items, globals_of, locks_of,
-    nodes_of, place_of_main,
-};
+use cilk_load_layout::{action_lines, bodies_of, globals_of, locks_of, place_of_main};
+use cilk_load_numbering::{MAX_ACTIONS, NoRoom, Program, count_items, nodes_of};
 use std::alloc::Global;
 use std::sync::Arc;
 

@@ -1,8 +1,8 @@
 -- Variables one list behind the other.
 use Rattle.std.proofs.Common.{◌≡◌, ℕ, ◌+◌, List, [], ◌∷◌, ◌++◌, Result}
 use Rattle.std.proofs.Common.{sym, ap, ◌∙◌, arith, append_assoc}
-use Rattle.std.specs.Prelude.{IfOk, OnOk}
-use Rattle.std.proofs.lemmas.Result.{IfOk-weaker, on_ok_weaker}
+use Rattle.std.specs.Prelude.{IfOk}
+use Rattle.std.proofs.lemmas.Result.{IfOk-weaker}
 use Rattle.cilk_load_nodes.specs.eval.declared.area.Area.{Area}
 use Rattle.cilk_load_nodes.specs.labelled.Labelled.{Variable}
 use Rattle.cilk_load_nodes.specs.Slots.{size_of, cells_of}
@@ -35,10 +35,6 @@ joined area at cells before middle after vs ws e f g =
     ∙ (λ i. e i ++ vars_from area (f i) ws)
     ∙ append_assoc before (vars_from area at vs) (vars_from area (at + cells_of vs) ws)
     ∙ ap (λ rest. before ++ rest) (sym (vars_from-append area at vs ws))
-
--- where a call may fail
-pub ok_same : {A E X : Type 0} (r : Result A E) (xs ys zs : X) → OnOk r (xs ≡ ys) → ys ≡ zs → OnOk r (xs ≡ zs)
-ok_same r xs ys zs h e = on_ok_weaker r (λ (k : xs ≡ ys). k ∙ e) h
 
 -- the place behind one stretch of variables and another
 pub ok_behind : {E : Type 0} (r : Result ℕ E) (at cells : ℕ) (vs ws all : List Variable) → IfOk r (λ after. after ≡ cells + cells_of ws)

@@ -1,5 +1,5 @@
 pub mod Cells
-pub mod Begins
+pub mod Switches
 pub mod Tables
 pub use Rattle.cilk_load_nodes.proofs as nodes_laws
 pub use Rattle.cilk_load_nodes.proofs.scopes_laws

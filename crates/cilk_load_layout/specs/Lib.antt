@@ -1,7 +1,5 @@
-pub mod Firsts
 pub mod Tables
 pub use Rattle.cilk_load_nodes.specs as nodes
-pub use Rattle.cilk_load_nodes.specs.canonical
 pub use Rattle.cilk_load_nodes.specs.eval
 pub use Rattle.cilk_load_nodes.specs.labelled
 pub use Rattle.cilk_load_nodes.specs.model

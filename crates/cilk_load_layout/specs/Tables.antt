@@ -13,7 +13,7 @@ use Rattle.cilk_load_nodes.specs.labelled.Bodies.{one_cell, parameter_variables,
 use Rattle.cilk_load_nodes.specs.declared.body.Body.{Body}
 use Rattle.cilk_load_nodes.specs.Slots.{cells_of}
 use Rattle.cilk_load_nodes.specs.Bodies.{vars_from}
-use Rattle.cilk_load_layout.specs.Firsts.{first_if, locals_first}
+use Rattle.cilk_load_names.specs.Firsts.{first_if, locals_first}
 
 -- the number of the first action of a body
 abbrev pub body_first : ℕ → tree.Block → Option ℕ

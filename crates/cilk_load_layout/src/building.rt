@@ -10,12 +10,11 @@ ghost use Rattle.cilk_load_nodes.specs.labelled.Bodies.{one_cell, parameter_vari
 ghost use Rattle.cilk_load_layout.specs.Tables.{body_first, table_of, inlet_tables, item_tables, items_tables};
 ghost use Rattle.cilk_load_layout.specs.Tables.{starts_here};
 
-use crate::counts::{
-    actions_in, actions_of_item, actions_of_locals, actions_of_stmts, count_shape,
-};
-use crate::firsts::{first_if, locals_first};
-use crate::room::NoRoom;
 use crate::variables::{copied, put_block_variables, put_parameters, put_words};
+use cilk_load_names::{
+    NoRoom, actions_in, actions_of_item, actions_of_locals, actions_of_stmts, count_shape,
+    first_if, locals_first,
+};
 use cilk_load_nodes::{Body, Owner, Vars};
 use cilk_tree_syntax::{Block, Item, ItemNode, Local, LocalNode, Proc, Word};
 use std::alloc::Global;

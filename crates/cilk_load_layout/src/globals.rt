@@ -7,8 +7,8 @@ ghost use Rattle.cilk_load_nodes.specs.labelled.Bodies.{item_globals, item_locks
 ghost use Rattle.cilk_load_nodes.specs.Slots.{cells_of};
 ghost use Rattle.cilk_load_nodes.specs.Bodies.{vars_from, lock_variable};
 
-use crate::room::NoRoom;
 use crate::variables::put_variable;
+use cilk_load_names::NoRoom;
 use cilk_load_nodes::{Area, Slot, Var};
 use cilk_tree_syntax as tree;
 use cilk_tree_syntax::{GlobalShape, Item, ItemNode};

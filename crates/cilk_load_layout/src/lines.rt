@@ -3,15 +3,15 @@
 ghost use Rattle.std.specs.Prelude.{◌≡◌, ◌+◌, [], ◌∷◌, ◌++◌, IfOk, OnOk, length, vec_len};
 ghost use Rattle.cilk_tree_syntax.specs.Tree.{stmts_of, locals_of};
 ghost use Rattle.cilk_tree_syntax.specs.MoveView.{shape_of};
-ghost use Rattle.cilk_load_nodes.specs.canonical.StmtLines.{stmt_lines, stmts_lines, local_lines, locals_lines, block_lines};
-ghost use Rattle.cilk_load_nodes.specs.canonical.ProgramText.{item_lines, items_lines};
+ghost use Rattle.cilk_load_nodes.specs.syntax.StmtLines.{stmt_lines, stmts_lines, local_lines, locals_lines, block_lines};
+ghost use Rattle.cilk_load_nodes.specs.syntax.ProgramText.{item_lines, items_lines};
 ghost use Rattle.cilk_load_nodes.specs.labelled.Count.{count_option, count_shape, count_stmt, count_stmts, count_local};
 ghost use Rattle.cilk_load_nodes.specs.labelled.Count.{count_locals, count_block, count_item, count_items, count_program};
 ghost use Rattle.cilk_load_nodes.specs.labelled.Lines.{option_lines, shape_lines, stmt_action_lines, stmts_action_lines, local_action_lines};
 ghost use Rattle.cilk_load_nodes.specs.labelled.Lines.{locals_action_lines};
 ghost use Rattle.cilk_load_nodes.specs.labelled.Lines.{block_action_lines, item_action_lines, items_action_lines, action_lines};
 
-use crate::room::NoRoom;
+use cilk_load_names::NoRoom;
 use cilk_tree_syntax::{
     Block, Item, ItemNode, Local, LocalNode, Move, Program, Shape, Stmt, StmtNode,
 };
@@ -192,6 +192,11 @@ fn put_stmt(lines: &mut Vec<u32>, line: u32, stmt: &Stmt) -> Result<u32, NoRoom>
             put_part(lines, line, advance)?;
             put_inside(lines, line, body)
         }
+        StmtNode::Switch(_, body) => {
+            lines.push(line)?;
+            put_inside(lines, line, body)
+        }
+        StmtNode::Labelled(_) => next_line(line),
         StmtNode::Nested(inside) => put_inside(lines, line, inside),
         _ => put_one(lines, line),
     }

@@ -10,7 +10,7 @@ ghost use Rattle.cilk_load_nodes.specs.labelled.Bodies.{one_cell, parameter_vari
 ghost use Rattle.cilk_load_nodes.specs.Slots.{cells_of};
 ghost use Rattle.cilk_load_nodes.specs.Bodies.{vars_from};
 
-use crate::room::NoRoom;
+use cilk_load_names::NoRoom;
 use cilk_load_nodes::{Area, Name, Slot, Var};
 use cilk_tree_syntax::{Block, Local, LocalNode, Parameters, Shape, Stmt, StmtNode, Word};
 use std::alloc::Global;
@@ -175,6 +175,7 @@ fn put_stmt(alloc: Global, vars: &mut Vec<Var>, cells: u32, stmt: &Stmt) -> Resu
         StmtNode::While(_, body) => put_block_variables(alloc, vars, cells, body),
         StmtNode::Do(body, _) => put_block_variables(alloc, vars, cells, body),
         StmtNode::For(_, _, _, body) => put_block_variables(alloc, vars, cells, body),
+        StmtNode::Switch(_, body) => put_block_variables(alloc, vars, cells, body),
         StmtNode::Nested(inside) => put_block_variables(alloc, vars, cells, inside),
         _ => Ok(cells),
     }

@@ -85,6 +85,8 @@ pub fn action_in(alloc: Global, names: &SymbolTable, stmt: &Stmt) -> Result<Opti
         StmtNode::While(_, _) => Ok(None),
         StmtNode::Do(_, _) => Ok(None),
         StmtNode::For(_, _, _, _) => Ok(None),
+        StmtNode::Switch(_, _) => Ok(None),
+        StmtNode::Labelled(_) => Ok(None),
         StmtNode::Nested(_) => Ok(None),
     }
 }

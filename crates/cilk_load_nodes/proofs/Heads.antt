@@ -1,30 +1,29 @@
 -- Each list that a body reaches stands in the text at its head's number.
-use Rattle.std.proofs.Common.{◌≡◌, ℕ, zero, suc, ◌+◌, ◌<◌, ◌≤◌, Bool, true, false, cond, List, [], ◌∷◌, ◌++◌, length, map, Option, Some, None}
-use Rattle.std.proofs.Common.{option_map, inl, inr, refl, sym, ap, subst, ◌∙◌, arith, unwrap_or, nat_eq}
+use Rattle.std.proofs.Common.{◌≡◌, ℕ, zero, suc, ◌+◌, ◌<◌, ◌≤◌, ℤ, Bool, true, false, cond, List, [], ◌∷◌, length, map, Option, Some, None}
+use Rattle.std.proofs.Common.{inl, inr, refl, sym, ap, subst, ◌∙◌, arith, unwrap_or}
 use Rattle.std.specs.Prelude.{⊤, slice_get, slice_index_or}
 use Rattle.std.proofs.lemmas.Bool.{false≢true}
 use Rattle.std.proofs.lemmas.Bool.Decides.{Decides-eqb}
 use Rattle.cilk_check_scopes.specs.syntax.Tree as tree
 use Rattle.cilk_check_scopes.proofs.Elements.{Has, Has-append_left, Has-append_right}
 use Rattle.cilk_check_scopes.specs.WellFormed.{WellFormed}
-use Rattle.cilk_model.specs.labelled.Labelled.{Body, Labelled, Numbered, Stmt, action, choose, while, repeat, loop, nested, Stmts, none, also}
-use Rattle.cilk_model.specs.labelled.Items.{Items, pieces, plain_round, open_stmt, open_stmts, opened, head_of, reached}
+use Rattle.cilk_model.specs.labelled.Labelled.{Body, Labelled, Stmt, action, choose, while, repeat, loop, select, at_label, nested, Stmts, none, also}
+use Rattle.cilk_model.specs.labelled.Items.{Items, pieces, plain_round, open_stmt, open_stmts, reached}
 use Rattle.cilk_model.specs.labelled.Bodies.{label, file_names}
-use Rattle.cilk_model.specs.labelled.Count.{count_items, count_program}
+use Rattle.cilk_model.specs.labelled.Count.{count_program}
 use Rattle.cilk_model.specs.Instance.{body_at, no_body}
 use Rattle.cilk_load_nodes.specs.declared.body.Body as table
 use Rattle.cilk_load_nodes.specs.declared.node.Node.{Node}
-use Rattle.cilk_load_nodes.specs.Slots.{slot_of}
-use Rattle.cilk_load_nodes.specs.Actions.{slotted}
-use Rattle.cilk_load_nodes.specs.Table.{number_of, number_after, successor, node_at, closing_items, body_lists, Row, row, rows_from, has_number}
+use Rattle.cilk_load_nodes.specs.Table.{number_of, successor, node_at, closing_items, body_lists, Row, row, rows_from, has_number}
 use Rattle.cilk_load_nodes.specs.Table.{node_among, node_of}
 use Rattle.cilk_load_nodes.specs.Bodies.{body_table, body_of}
 use Rattle.cilk_load_nodes.specs.Laws.{Reached, items_at}
 use Rattle.cilk_load_nodes.proofs.Inner.{well_formed-plain}
-use Rattle.cilk_load_nodes.proofs.Members.{At, at-from-has, has-from-at, has-map}
+use Rattle.cilk_load_nodes.proofs.Members.{At, at-from-has, has-map}
 use Rattle.cilk_load_nodes.proofs.Opens.{opened-pieces}
 use Rattle.cilk_load_nodes.proofs.Kept.{Kept, reached-kept}
-use Rattle.cilk_load_nodes.proofs.Texts.{RowsSpan, items_rows, items-span, items-to-text, items-from-text}
+use Rattle.cilk_load_nodes.proofs.Successors.{successor-of}
+use Rattle.cilk_load_nodes.proofs.Texts.{RowsSpan, items_rows, items-span, items-to-text}
 
 -- all rows of a program, by bodies and in the order of the text
 abbrev pub rows_of : tree.Program → List Row
@@ -83,6 +82,8 @@ mutual
   open-some (repeat body test) items without h = opens-some body (plain_round test body ∷ items) (plain_round test body ∷ items) tt
   open-some (loop None test advance body) items without h = tt
   open-some (loop (Some first) test advance body) items without h = tt
+  open-some (select test body) items without h = tt
+  open-some (at_label value) items without h = h
   open-some (nested inside) items without h = opens-some inside items without h
 
   opens-some : (ss : Stmts) (items without : Items) → NonEmpty without → NonEmpty (open_stmts ss items without)
@@ -123,18 +124,6 @@ among-none program n (s ∷ rows) missing = by_test (has_number n (number_of s.i
         → cond b (node_at program s.body s.items) (node_among program n rows) ≡ None
     by_test true t later = absurd (missing s (inl refl) (has_number-same n (number_of s.items) t))
     by_test false t later = later
-
-successor-of : (program : Labelled) (b : ℕ) (items : Items) (node : Node) → node_at program b items ≡ Some node → (answer : Bool)
-    → successor node answer ≡ number_after answer items
-successor-of program b items node e answer = by_head (head_of items) e answer
-  where
-    made : Numbered → Node
-    made h = record { action = slotted (slot_of program b) h.act; next = number_after true items; other = number_after false items; body = b }
-
-    by_head : (o : Option Numbered) → option_map made o ≡ Some node → (answer : Bool) → successor node answer ≡ number_after answer items
-    by_head None e answer = cc
-    by_head (Some h) e true = let same : made h ≡ node = cc in ap (λ (m : Node). m.next) (sym same)
-    by_head (Some h) e false = let same : made h ≡ node = cc in ap (λ (m : Node). m.other) (sym same)
 
 get-table : (bodies : List Body) (b : ℕ) (t : table.Body) → slice_get (map body_table bodies) b ≡ Some t → (b < length bodies)
     × (body_table (slice_index_or bodies b no_body) ≡ t)
@@ -177,14 +166,14 @@ module _ (p : tree.Program) (ok : WellFormed p) where
       let e : 0 + b ≡ b = omega arith in
       subst (λ c. Has (rows_of p) (row c x)) e (in-table 0 (label p).bodies b x below h)
 
-  pub found-row : (b : ℕ) (answers : List Bool) (n : ℕ) → Reached p b answers n → Has (rows_of p) (row b (items_at p b answers))
+  pub found-row : (b : ℕ) (answers : List ℤ) (n : ℕ) → Reached p b answers n → Has (rows_of p) (row b (items_at p b answers))
   found-row b answers n h = by_cases (reached-kept (body_at (label p) b) answers)
     where
       by_cases : Kept (body_at (label p) b) (items_at p b answers) → Has (rows_of p) (row b (items_at p b answers))
       by_cases (inl empty) = let missing : number_of (items_at p b answers) ≡ None = ap number_of empty in let there = h.number in cc
       by_cases (inr k) = kept-row b (items_at p b answers) h.is_there k
 
-  pub no-head : (b : ℕ) (answers : List Bool) → b < length (label p).bodies → number_of (items_at p b answers) ≡ None → items_at p b answers ≡ []
+  pub no-head : (b : ℕ) (answers : List ℤ) → b < length (label p).bodies → number_of (items_at p b answers) ≡ None → items_at p b answers ≡ []
   no-head b answers below e = by_cases (reached-kept (body_at (label p) b) answers)
     where
       by_cases : Kept (body_at (label p) b) (items_at p b answers) → items_at p b answers ≡ []
@@ -200,7 +189,7 @@ module _ (p : tree.Program) (ok : WellFormed p) where
           let r : Has (rows_of p) (row b (items_at p b [])) = kept-row b (items_at p b []) below k
           in (1 + (text-place (row b (items_at p b [])) r).place, numbered (row b (items_at p b [])) r)
 
-pub heads-tell : (p : tree.Program) (b c : ℕ) (answers others : List Bool) (n : ℕ) → WellFormed p → Reached p b answers n
+pub heads-tell : (p : tree.Program) (b c : ℕ) (answers others : List ℤ) (n : ℕ) → WellFormed p → Reached p b answers n
     → Reached p c others n → (b ≡ c) × (items_at p b answers ≡ items_at p c others)
 heads-tell p b c answers others n ok h g =
     let one : row b (items_at p b answers)
@@ -208,28 +197,28 @@ heads-tell p b c answers others n ok h g =
     in
     (ap (λ (r : Row). r.body) one, ap (λ (r : Row). r.items) one)
 
-pub no-head-tells : (p : tree.Program) (b : ℕ) (answers : List Bool) → WellFormed p → b < length (label p).bodies
+pub no-head-tells : (p : tree.Program) (b : ℕ) (answers : List ℤ) → WellFormed p → b < length (label p).bodies
     → number_of (items_at p b answers) ≡ None → items_at p b answers ≡ []
 no-head-tells p b answers ok below e = no-head p ok b answers below e
 
-pub numbers-within : (p : tree.Program) (b : ℕ) (answers : List Bool) (n : ℕ) → WellFormed p → Reached p b answers n → (1 ≤ n) × (n ≤ count_program p)
+pub numbers-within : (p : tree.Program) (b : ℕ) (answers : List ℤ) (n : ℕ) → WellFormed p → Reached p b answers n → (1 ≤ n) × (n ≤ count_program p)
 numbers-within p b answers n ok h =
     let r = found-row p ok b answers n h in
     let some : Some n ≡ Some (1 + (text-place p ok (row b (items_at p b answers)) r).place) = sym h.number ∙ numbered p ok (row b (items_at p b answers)) r in
     let is : n ≡ 1 + (text-place p ok (row b (items_at p b answers)) r).place = cc in
     (omega (arith, is), omega (arith, is, below-count p ok (row b (items_at p b answers)) r))
 
-pub nodes-stand : (p : tree.Program) (b : ℕ) (answers : List Bool) (n : ℕ) → WellFormed p → Reached p b answers n
+pub nodes-stand : (p : tree.Program) (b : ℕ) (answers : List ℤ) (n : ℕ) → WellFormed p → Reached p b answers n
     → node_of p n ≡ node_at (label p) b (items_at p b answers)
 nodes-stand p b answers n ok h =
     among-is (label p) n (row b (items_at p b answers)) (rows_of p)
     (λ s k e. one-row p ok s (row b (items_at p b answers)) k (found-row p ok b answers n h) (e ∙ sym h.number))
     (found-row p ok b answers n h) h.number
 
-pub successors-stand : (p : tree.Program) (b : ℕ) (answers : List Bool) (n : ℕ) (node : Node) → WellFormed p → Reached p b answers n
-    → node_of p n ≡ Some node → (answer : Bool) → successor node answer ≡ number_of (items_at p b (answer ∷ answers))
-successors-stand p b answers n node ok h e answer =
-    successor-of (label p) b (items_at p b answers) node (sym (nodes-stand p b answers n ok h) ∙ e) answer
+pub successors-stand : (p : tree.Program) (b : ℕ) (answers : List ℤ) (n : ℕ) (node : Node) → WellFormed p → Reached p b answers n
+    → node_of p n ≡ Some node → (z : ℤ) → successor node z ≡ number_of (items_at p b (z ∷ answers))
+successors-stand p b answers n node ok h e z =
+    successor-of (label p) b (items_at p b answers) node (sym (nodes-stand p b answers n ok h) ∙ e) z
 
 pub entries-stand : (p : tree.Program) (b : ℕ) (t : table.Body) → WellFormed p → body_of p b ≡ Some t → Reached p b [] t.entry
 entries-stand p b t ok e =

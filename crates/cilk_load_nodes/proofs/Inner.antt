@@ -1,11 +1,10 @@
 -- In a well-formed program inlets stand at the heads of procedures alone.
-use Rattle.std.proofs.Common.{◌≡◌, ℕ, Bool, true, false, not, List, [], ◌∷◌, ◌++◌, inl, inr, refl, ap, ◌∙◌, sym}
-use Rattle.std.specs.Prelude.{IsFalse}
+use Rattle.std.proofs.Common.{◌≡◌, ℕ, false, List, [], ◌∷◌, ◌++◌, inl, inr, refl, ap}
 use Rattle.cilk_check_scopes.specs.syntax.Tree as tree
 use Rattle.cilk_check_scopes.specs.declared.owner.Owner.TheVariants.{Inlet}
-use Rattle.cilk_check_scopes.specs.Parts.{Around, PartInContext, local, statement, inner, looped, after_local, after_locals, in_inlet, in_body, owner_of}
+use Rattle.cilk_check_scopes.specs.Parts.{Around, PartInContext, local, inner, looped, switched, after_local, after_locals, in_inlet}
 use Rattle.cilk_check_scopes.specs.Parts.{block_parts, locals_parts, within_local, stmts_parts, within_stmt, item_parts, parts_of}
-use Rattle.cilk_check_scopes.specs.Scopes.{Scopes, file_scopes, parameters_declare}
+use Rattle.cilk_check_scopes.specs.Scopes.{file_scopes}
 use Rattle.cilk_check_scopes.proofs.Elements.{Has, Contains-from_Has, Has-append_left, Has-append_right, Has-flat_map}
 use Rattle.cilk_check_scopes.specs.Forms as forms
 use Rattle.cilk_check_scopes.specs.WellFormed.{WellFormed}
@@ -79,6 +78,8 @@ module _ (p : tree.Program) (ok : WellFormed p) where
     plain-stmt a (tree.while test body) h = plain-block (looped a) body refl h
     plain-stmt a (tree.repeat body test) h = plain-block (looped a) body refl h
     plain-stmt a (tree.loop first test advance body) h = plain-block (looped a) body refl h
+    plain-stmt a (tree.switch test body) h = plain-block (switched a) body refl h
+    plain-stmt a (tree.labelled label) h = tt
     plain-stmt a (tree.nested inside) h = plain-block (inner a) inside refl h
 
   plain-inlet : (a : Around) (b : tree.Block) → a.within.owner ≡ Inlet → Stand (block_parts a b) → PlainBlock b

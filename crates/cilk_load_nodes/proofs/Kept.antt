@@ -1,5 +1,5 @@
 -- Each list that a body reaches is one of its lists, or nothing remains.
-use Rattle.std.proofs.Common.{◌≡◌, ◌⊎◌, Bool, List, [], ◌∷◌, inl, inr, refl, sym, subst}
+use Rattle.std.proofs.Common.{◌≡◌, ◌⊎◌, ℤ, List, [], ◌∷◌, inl, inr, refl, sym, subst}
 use Rattle.cilk_check_scopes.proofs.Elements.{Has}
 use Rattle.cilk_model.specs.labelled.Labelled.{Body}
 use Rattle.cilk_model.specs.labelled.Items.{Items, opened, next, reached}
@@ -35,12 +35,12 @@ module _ (body : Body) where
   next-kept : Each (Next (Kept body) (inl refl)) (body_lists body)
   next-kept =
       each-append (Next (Kept body) (inl refl)) (stmts_lists body.stmts (closing_items body.closing)) (closing_items body.closing ∷ [])
-      (stmts-closed (Kept body) (inl refl) body.stmts (closing_items body.closing) front close-good) (λ t. inl refl, tt)
+      (stmts-closed (Kept body) (inl refl) body.stmts (closing_items body.closing) front close-good) (λ z. inl refl, tt)
 
-  pub reached-kept : (answers : List Bool) → Kept body (reached body answers)
+  pub reached-kept : (answers : List ℤ) → Kept body (reached body answers)
   reached-kept [] = (pieces-good (Kept body) (inl refl) body.stmts (closing_items body.closing) front close-good).now
-  reached-kept (t ∷ ts) = after (reached body ts) (reached-kept ts)
+  reached-kept (z ∷ zs) = after (reached body zs) (reached-kept zs)
     where
-      after : (l : Items) → Kept body l → Kept body (opened (next t l))
-      after l (inl e) = subst (λ x. Kept body (opened (next t x))) (sym e) (inl refl)
-      after l (inr h) = each-get (Next (Kept body) (inl refl)) (body_lists body) l next-kept h t
+      after : (l : Items) → Kept body l → Kept body (opened (next z l))
+      after l (inl e) = subst (λ x. Kept body (opened (next z x))) (sym e) (inl refl)
+      after l (inr h) = each-get (Next (Kept body) (inl refl)) (body_lists body) l next-kept h z

@@ -5,6 +5,7 @@ pub mod Members
 pub mod Kept
 pub mod Spans
 pub mod Texts
+pub mod Successors
 pub mod Heads
 pub mod Crosses
 pub use Rattle.cilk_check_scopes.proofs as scopes_laws

@@ -1,7 +1,7 @@
 -- The elements of a list, and where they stand.
-use Rattle.std.proofs.Common.{◌≡◌, ◌⊎◌, ℕ, zero, suc, List, [], ◌∷◌, ◌++◌, map, Some, inl, inr, refl, ap, subst}
+use Rattle.std.proofs.Common.{◌≡◌, ℕ, zero, suc, List, [], ◌∷◌, map, Some, inl, inr, ap}
 use Rattle.std.specs.Prelude.{slice_get}
-use Rattle.cilk_check_scopes.proofs.Elements.{Has, Has-append_left, Has-append_right, Has-append_cases}
+use Rattle.cilk_check_scopes.proofs.Elements.{Has}
 
 -- x is the element at some place
 pub record At {X : Type 0} (xs : List X) (x : X) : Type 0 where
@@ -22,8 +22,3 @@ pub has-map : {X Y : Type 0} (f : X → Y) (xs : List X) (x : X) → Has xs x �
 has-map f [] x h = absurd h
 has-map f (y ∷ ys) x (inl e) = inl (ap f e)
 has-map f (y ∷ ys) x (inr h) = inr (has-map f ys x h)
-
--- an element of one of two lists
-pub has-both : {X : Type 0} (xs ys : List X) (x : X) → Has xs x ⊎ Has ys x → Has (xs ++ ys) x
-has-both xs ys x (inl h) = Has-append_left xs ys x h
-has-both xs ys x (inr h) = Has-append_right xs ys x h

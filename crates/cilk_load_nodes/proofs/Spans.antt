@@ -1,13 +1,13 @@
 -- The heads of the lists of statements without inlets have the numbers of their actions, one after another.
 use Rattle.std.proofs.Common.{◌≡◌, ℕ, ◌+◌, List, [], ◌∷◌, ◌++◌, length, Option, Some, None, refl, sym, subst, arith}
 use Rattle.cilk_check_scopes.specs.syntax.Tree as tree
-use Rattle.cilk_model.specs.labelled.Labelled.{Numbered, Stmts, none}
-use Rattle.cilk_model.specs.labelled.Items.{Round, at_test, at_advance, Items, pieces, plain_round, next_mark}
+use Rattle.cilk_model.specs.labelled.Labelled.{Numbered, Stmts}
+use Rattle.cilk_model.specs.labelled.Items.{Round, at_test, at_end, Items, pieces, plain_round, next_mark}
 use Rattle.cilk_model.specs.labelled.Names.{Names, with_local, entered}
 use Rattle.cilk_model.specs.labelled.Count.{count_option, count_shape, count_stmt, count_stmts, count_locals, count_block}
 use Rattle.cilk_model.specs.labelled.Label.{label_part, label_test, label_initialiser, label_locals, label_stmt, label_stmts, label_block}
 use Rattle.cilk_model.specs.labelled.Label.{names_behind, stmt_variables, block_variables, locals_variables}
-use Rattle.cilk_load_nodes.specs.Table.{number_of, first_lists, advance_lists, round_of, stmt_lists, stmts_lists, closing_items}
+use Rattle.cilk_load_nodes.specs.Table.{number_of, first_lists, advance_lists, round_of, stmt_lists, stmts_lists}
 use Rattle.cilk_load_nodes.specs.Plain.{PlainLocals, PlainStmt, PlainStmts, PlainBlock}
 
 -- the heads' numbers go up by one, from the first to before the last
@@ -104,6 +104,11 @@ mutual
       let others : List Items = advance_lists last round items ++ stmts_lists inside mark in
       spans-append at test _ (first_lists (label_part names at first) round items) ((at_test round ∷ items) ∷ others)
       (first-spans names at first round items) (refl, spans-at behind (test + 1) _ others e rest)
+  stmt-spans names at n (tree.switch value body) items plain =
+      let inside : Stmts = label_block (entered names) (at + 1) n body in
+      let mark : Items = at_end ∷ items in
+      (refl, spans-end (at + 1) _ _ (stmts_lists inside mark) (omega arith) (block-spans (entered names) (at + 1) n body mark plain))
+  stmt-spans names at n (tree.labelled label) items plain = omega arith
   stmt-spans names at n (tree.nested inside) items plain = block-spans (entered names) at n inside items plain
 
   pub block-spans : (names : Names) (at n : ℕ) (b : tree.Block) (items : Items) → PlainBlock b

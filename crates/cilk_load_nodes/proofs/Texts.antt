@@ -1,5 +1,5 @@
 -- The lists of all bodies in the order of the text: those of an inlet stand between the initialisers of its procedure.
-use Rattle.std.proofs.Common.{◌≡◌, ◌⊎◌, ℕ, suc, ◌+◌, ◌<◌, List, [], ◌∷◌, ◌++◌, length, map, Some, None, inl, inr, refl, sym, ap, subst, ◌∙◌, arith}
+use Rattle.std.proofs.Common.{◌≡◌, ◌⊎◌, ℕ, suc, ◌+◌, List, [], ◌∷◌, ◌++◌, length, map, Some, None, inl, inr, refl, sym, ap, subst, ◌∙◌, arith}
 use Rattle.std.proofs.Common.{pos, append_assoc}
 use Rattle.cilk_check_scopes.specs.syntax.Tree as tree
 use Rattle.cilk_check_scopes.specs.syntax.Tree.{Word}
@@ -7,16 +7,15 @@ use Rattle.cilk_check_scopes.specs.declared.owner.Owner.{Owner}
 use Rattle.cilk_check_scopes.specs.declared.owner.Owner.TheVariants.{Inlet}
 use Rattle.cilk_check_scopes.specs.Parts.{owner_of}
 use Rattle.cilk_check_scopes.proofs.Elements.{Has, Has-append_left, Has-append_right, Has-append_cases}
-use Rattle.cilk_model.specs.labelled.Labelled.{Stmts, Variable, Body, Numbered}
+use Rattle.cilk_model.specs.labelled.Labelled.{Stmts, Variable, Body}
 use Rattle.cilk_model.specs.labelled.Items.{Items, piece, pieces}
-use Rattle.cilk_model.specs.labelled.Names.{Names, with_local, with_words, local_count, in_inlet}
-use Rattle.cilk_model.specs.labelled.Count.{count_shape, count_local, count_locals, count_stmts, count_block, count_item, count_items}
+use Rattle.cilk_model.specs.labelled.Names.{Names, with_local, with_words, in_inlet}
+use Rattle.cilk_model.specs.labelled.Count.{count_shape, count_locals, count_stmts, count_block, count_item, count_items}
 use Rattle.cilk_model.specs.labelled.Label.{single, label_move, label_initialiser, label_locals, label_stmts, label_block, names_behind, locals_variables}
-use Rattle.cilk_model.specs.labelled.Bodies.{one_cell, parameter_variables, label_body, inlet_body, inlet_bodies, block_locals, procedure_names}
-use Rattle.cilk_model.specs.labelled.Bodies.{procedure_bodies, inlet_count, body_count, item_bodies, items_bodies}
+use Rattle.cilk_model.specs.labelled.Bodies.{one_cell, parameter_variables, label_body, inlet_bodies, block_locals, procedure_names}
+use Rattle.cilk_model.specs.labelled.Bodies.{inlet_count, body_count, item_bodies, items_bodies}
 use Rattle.cilk_load_nodes.specs.Table.{number_of, stmts_lists, closing_items, body_lists, Row, row, rows_from}
-use Rattle.cilk_load_nodes.specs.Plain.{PlainStmts, PlainBlock, OuterLocals, OuterBlock, PlainItem, PlainItems}
-use Rattle.cilk_load_nodes.proofs.Members.{has-both}
+use Rattle.cilk_load_nodes.specs.Plain.{PlainBlock, OuterLocals, OuterBlock, PlainItem, PlainItems}
 use Rattle.cilk_load_nodes.proofs.Spans.{Spans, spans-append, spans-end, spans-at, block-spans, stmts-spans}
 
 -- the row of an initialiser, before what follows

@@ -1,5 +1,5 @@
 -- Actions with slots in place of declarations.
-use Rattle.std.specs.Prelude.{Option, Some, None, map, option_map}
+use Rattle.std.specs.Prelude.{Some, None, map, option_map}
 use Rattle.cilk_model.specs.labelled.Term.{rename}
 use Rattle.cilk_eval.specs.declared.slot.Slot.{Slot}
 use Rattle.cilk_model.specs.labelled.Labelled.{Declaration}

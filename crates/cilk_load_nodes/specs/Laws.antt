@@ -1,5 +1,5 @@
 -- What a node stands for: the list of items that it is the head of.
-use Rattle.std.specs.Prelude.{◌≡◌, ℕ, ◌<◌, ◌≤◌, Bool, List, [], ◌∷◌, length, Some, None}
+use Rattle.std.specs.Prelude.{◌≡◌, ℕ, ◌<◌, ◌≤◌, ℤ, List, [], ◌∷◌, length, Some, None}
 use Rattle.cilk_check_scopes.specs.syntax.Tree.{Program}
 use Rattle.cilk_check_scopes.specs.WellFormed.{WellFormed}
 use Rattle.cilk_model.specs.labelled.Bodies.{label}
@@ -11,39 +11,39 @@ use Rattle.cilk_load_nodes.specs.declared.node.Node.{Node}
 use Rattle.cilk_load_nodes.specs.Table.{number_of, node_at, node_of, successor}
 use Rattle.cilk_load_nodes.specs.Bodies.{body_table, body_of}
 
--- body b of the program is reached with these items after tests with these answers, and action n is in front of them
-pub record Reached (p : Program) (b : ℕ) (answers : List Bool) (n : ℕ) : Type 0 where
+-- body b of the program is reached with these items after tests with these values, and action n is in front of them
+pub record Reached (p : Program) (b : ℕ) (answers : List ℤ) (n : ℕ) : Type 0 where
   pub is_there : b < length (label p).bodies
   pub number : number_of (reached (body_at (label p) b) answers) ≡ Some n
 
-abbrev pub items_at : Program → ℕ → List Bool → Items
+abbrev pub items_at : Program → ℕ → List ℤ → Items
 items_at p b answers = reached (body_at (label p) b) answers
 
 -- lists with one head are one list, of one body
 abbrev pub HeadsTellLists : Type 0
-HeadsTellLists = (p : Program) (b c : ℕ) (answers others : List Bool) (n : ℕ) → WellFormed p
+HeadsTellLists = (p : Program) (b c : ℕ) (answers others : List ℤ) (n : ℕ) → WellFormed p
     → Reached p b answers n → Reached p c others n → (b ≡ c) × (items_at p b answers ≡ items_at p c others)
 
 -- a list without a head is empty
 abbrev pub NoHeadTellsEnd : Type 0
-NoHeadTellsEnd = (p : Program) (b : ℕ) (answers : List Bool) → WellFormed p → b < length (label p).bodies
+NoHeadTellsEnd = (p : Program) (b : ℕ) (answers : List ℤ) → WellFormed p → b < length (label p).bodies
     → number_of (items_at p b answers) ≡ None → items_at p b answers ≡ []
 
 -- the numbers of the actions go from 1 on
 abbrev pub NumbersAreWithin : Type 0
-NumbersAreWithin = (p : Program) (b : ℕ) (answers : List Bool) (n : ℕ) → WellFormed p
+NumbersAreWithin = (p : Program) (b : ℕ) (answers : List ℤ) (n : ℕ) → WellFormed p
     → Reached p b answers n → (1 ≤ n) × (n ≤ count_program p)
 
 -- the node at the number of a list is that of its head
 abbrev pub NodesStandForLists : Type 0
-NodesStandForLists = (p : Program) (b : ℕ) (answers : List Bool) (n : ℕ) → WellFormed p
+NodesStandForLists = (p : Program) (b : ℕ) (answers : List ℤ) (n : ℕ) → WellFormed p
     → Reached p b answers n → node_of p n ≡ node_at (label p) b (items_at p b answers)
 
--- its successors are the heads of the lists that come next, for each answer
+-- its successors are the heads of the lists that come next, for each value of a test
 abbrev pub SuccessorsStandForNext : Type 0
-SuccessorsStandForNext = (p : Program) (b : ℕ) (answers : List Bool) (n : ℕ) (node : Node) → WellFormed p
+SuccessorsStandForNext = (p : Program) (b : ℕ) (answers : List ℤ) (n : ℕ) (node : Node) → WellFormed p
     → Reached p b answers n → node_of p n ≡ Some node
-    → (answer : Bool) → successor node answer ≡ number_of (items_at p b (answer ∷ answers))
+    → (z : ℤ) → successor node z ≡ number_of (items_at p b (z ∷ answers))
 
 -- a body begins with the first of its lists
 abbrev pub EntriesStandForStarts : Type 0

@@ -9,5 +9,4 @@ pub use Rattle.cilk_check_scopes.specs as scopes
 pub use Rattle.cilk_check_scopes.specs.syntax
 pub use Rattle.cilk_eval.specs as eval
 pub use Rattle.cilk_model.specs as model
-pub use Rattle.cilk_model.specs.canonical
 pub use Rattle.cilk_model.specs.labelled

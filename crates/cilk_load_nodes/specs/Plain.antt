@@ -1,7 +1,7 @@
 -- Programs whose inlets stand at the heads of functions and procedures alone, and not in inner blocks or in inlets.
 use Rattle.std.specs.Prelude.{⊤, List, [], ◌∷◌}
-use Rattle.cilk_check_scopes.specs.syntax.Tree.{Stmt, when, either, while, repeat, loop, nested, Stmts, none, also, Local, declared, inlet_at, Locals}
-use Rattle.cilk_check_scopes.specs.syntax.Tree.{no_locals, and_local, Block, block, Item, procedure, Program}
+use Rattle.cilk_check_scopes.specs.syntax.Tree.{Stmt, when, either, while, repeat, loop, switch, nested, Stmts, none, also, declared, inlet_at}
+use Rattle.cilk_check_scopes.specs.syntax.Tree.{Locals, no_locals, and_local, Block, block, Item, procedure}
 
 -- none of these declarations is an inlet
 abbrev pub PlainLocals : Locals → Type 0
@@ -17,6 +17,7 @@ abbrev mutual
   PlainStmt (while test body) = PlainBlock body
   PlainStmt (repeat body test) = PlainBlock body
   PlainStmt (loop first test advance body) = PlainBlock body
+  PlainStmt (switch test body) = PlainBlock body
   PlainStmt (nested inside) = PlainBlock inside
   PlainStmt other = ⊤
 

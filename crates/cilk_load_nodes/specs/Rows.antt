@@ -1,5 +1,5 @@
 -- Worked programs: what comes behind each action, and where variables lie.
-use Rattle.std.specs.Prelude.{ℕ, List, [], ◌∷◌, map, option_map, Option, Some, None, codes}
+use Rattle.std.specs.Prelude.{ℕ, ℤ, List, [], ◌∷◌, map, option_map, Option, Some, None, codes}
 use Rattle.cilk_check_scopes.specs.lexeme.declared.header.Header.TheVariants.{Cilk}
 use Rattle.cilk_check_scopes.specs.syntax.declared.adjustment.Adjustment.TheVariants.{Increment}
 use Rattle.cilk_check_scopes.specs.syntax.declared.operator.BinOp.TheVariants.{Less, Subtract}
@@ -7,7 +7,7 @@ use Rattle.cilk_check_scopes.specs.syntax.Tree as tree
 use Rattle.cilk_check_scopes.specs.syntax.Tree.{Expr, number, named, element, binary, Place, declared, Program}
 use Rattle.cilk_model.specs.labelled.Rows.{word, whole, procedure, into}
 use Rattle.cilk_load_nodes.specs.declared.node.Node.{Node}
-use Rattle.cilk_load_nodes.specs.Table.{node_of}
+use Rattle.cilk_load_nodes.specs.Table.{node_of, successor}
 
 abbrev variable : List ℕ → Expr
 variable text = named (word text)
@@ -38,6 +38,10 @@ nexts p ns = map (λ n. option_map (λ (node : Node). node.next) (node_of p n)) 
 
 abbrev pub others : Program → List ℕ → List (Option (Option ℕ))
 others p ns = map (λ n. option_map (λ (node : Node). node.other) (node_of p n)) ns
+
+-- what comes behind a test by these values
+abbrev pub leads : Program → ℕ → List ℤ → List (Option (Option ℕ))
+leads p n zs = map (λ z. option_map (λ (node : Node). successor node z) (node_of p n)) zs
 
 abbrev pub bodies : Program → List ℕ → List (Option ℕ)
 bodies p ns = map (λ n. option_map (λ (node : Node). node.body) (node_of p n)) ns

@@ -1,11 +1,15 @@
 -- The table of nodes: what each action does, and the numbers of those that come next.
-use Rattle.std.specs.Prelude.{ℕ, suc, Bool, true, false, nat_eq, if◌then◌else◌, List, [], ◌∷◌, ◌++◌, Option, Some, None, map, option_map}
+use Rattle.std.specs.Prelude.{ℕ, suc, ℤ, pos, Bool, false, nat_eq, if◌then◌else◌, List, [], ◌∷◌, ◌++◌, Option, Some, None, map, option_map}
+use Rattle.std.specs.List.{find}
+use Rattle.std.specs.Ordering.{int_eq}
 use Rattle.cilk_check_scopes.specs.syntax.Tree as tree
 use Rattle.cilk_eval.specs.declared.slot.Slot.{Slot}
-use Rattle.cilk_model.specs.labelled.Labelled.{Declaration, close, Numbered, Stmt, action, choose, while, repeat, loop, nested, Stmts, none, also}
-use Rattle.cilk_model.specs.labelled.Labelled.{Body, Labelled}
-use Rattle.cilk_model.specs.labelled.Items.{Round, piece, at_test, at_advance, Items, pieces, plain_round, opened, head_of, next_mark, next}
+use Rattle.cilk_model.specs.labelled.Labelled.{Declaration, close, Numbered, Stmt, action, choose, while, repeat, loop, select, at_label, nested, Stmts}
+use Rattle.cilk_model.specs.labelled.Labelled.{none, also, Body, Labelled}
+use Rattle.cilk_model.specs.labelled.Items.{Round, piece, at_test, at_advance, at_end, Items, pieces, plain_round, opened, head_of, next_mark, next}
+use Rattle.cilk_model.specs.labelled.Items.{holds, behind_label, selected}
 use Rattle.cilk_model.specs.labelled.Bodies.{label}
+use Rattle.cilk_load_nodes.specs.declared.case.Case.{Case}
 use Rattle.cilk_load_nodes.specs.declared.node.Node.{Node}
 use Rattle.cilk_load_nodes.specs.Slots.{slot_of}
 use Rattle.cilk_load_nodes.specs.Actions.{slotted}
@@ -14,21 +18,53 @@ use Rattle.cilk_load_nodes.specs.Actions.{slotted}
 abbrev pub number_of : Items → Option ℕ
 number_of items = option_map (λ (h : Numbered). h.number) (head_of items)
 
--- what comes next where a test has this answer
-abbrev pub successor : Node → Bool → Option ℕ
-successor node true = node.next
-successor node false = node.other
+-- the first case of this value
+abbrev pub case_of : ℤ → List Case → Option Case
+case_of z cases = find (λ (c : Case). int_eq z c.value) cases
+
+abbrev pub successor_by : Node → ℤ → Option Case → Option ℕ
+successor_by node z (Some c) = c.to
+successor_by node z None = if holds z then node.next else node.other
+
+-- what comes next where a test has this value (C 1990, 6.6.4, 6.6.5)
+abbrev pub successor : Node → ℤ → Option ℕ
+successor node z = successor_by node z (case_of z node.cases)
 
 -- the number of what comes next
-abbrev pub number_after : Bool → Items → Option ℕ
-number_after answer items = number_of (opened (next answer items))
+abbrev pub number_after : ℤ → Items → Option ℕ
+number_after z items = number_of (opened (next z items))
+
+-- the number of what comes next by a value that no `case` has
+abbrev pub number_else : ℤ → Items → Option ℕ
+number_else z (piece (select test body) ∷ items) = number_of (opened (selected (behind_label None body) items))
+number_else z items = number_after z items
+
+-- a statement of the body of a `switch`, in front of these items, and the cases behind it
+abbrev pub with_case : Stmt → Items → List Case → List Case
+with_case (at_label (Some z)) items cases = record { value = z; to = number_of (opened items) } ∷ cases
+with_case other items cases = cases
+
+-- the cases of a `switch` whose body stands before these items
+abbrev pub label_cases : Stmts → Items → List Case
+label_cases none items = []
+label_cases (also first others) items = with_case first (pieces others items) (label_cases others items)
+
+-- those of the action in front of an opened list
+abbrev pub cases_of : Items → List Case
+cases_of (piece (select test body) ∷ items) = label_cases body (at_end ∷ items)
+cases_of items = []
 
 -- the node of the action in front of an opened list of body b, with these slots
 abbrev pub node_over : (Declaration → Slot) → ℕ → Items → Option Node
 node_over slots b items =
     option_map
-    (λ (h : Numbered). record { action = slotted slots h.act; next = number_after true items; other = number_after false items; body = b })
-    (head_of items)
+    (λ (h : Numbered). record {
+      action = slotted slots h.act;
+      next = number_else (pos 1) items;
+      other = number_else (pos 0) items;
+      cases = cases_of items;
+      body = b;
+    }) (head_of items)
 
 abbrev pub node_at : Labelled → ℕ → Items → Option Node
 node_at program b items = node_over (slot_of program b) b items
@@ -59,6 +95,8 @@ abbrev mutual
       ++ (at_test (round_of test advance body) ∷ items)
       ∷ (advance_lists advance (round_of test advance body) items
       ++ stmts_lists body (next_mark (round_of test advance body) advance ∷ items))
+  stmt_lists (select test body) items = (piece (select test body) ∷ items) ∷ stmts_lists body (at_end ∷ items)
+  stmt_lists (at_label value) items = []
   stmt_lists (nested inside) items = stmts_lists inside items
 
   pub stmts_lists : Stmts → Items → List Items

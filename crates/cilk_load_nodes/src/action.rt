@@ -24,7 +24,7 @@ pub enum Action {
     Null,
     Break,
     Continue,
-    /// The test of `if`, `while`, `do` or `for`.
+    /// The test of `if`, `switch`, `while`, `do` or `for`.
     Test(Code),
     Sync,
     Abort,

@@ -3,6 +3,8 @@
 
 mod action;
 mod body;
+mod case;
+mod cases;
 mod codes;
 mod laws;
 mod name;
@@ -16,11 +18,14 @@ mod vars;
 
 pub use action::Action;
 pub use body::Body;
+pub use case::Case;
+pub use cases::Cases;
 pub use cilk_check_scopes::{BinOp, LockAction, Owner};
 pub use cilk_eval::{Area, Code, CodeNode, Memory, Slot, Slots, Trap, apply, eval};
-pub use cilk_model::canonical;
 pub use codes::Codes;
-pub use laws::{bodies_have_tables, nodes_stand_for_lists, rows_are_nodes};
+pub use laws::{
+    bodies_have_tables, nodes_stand_for_lists, rows_are_nodes, rows_of_switches_are_nodes,
+};
 pub use name::Name;
 pub use node::Node;
 pub use slot_place::SlotPlace;

@@ -1,20 +1,20 @@
 -- What the pass appends for the parts of a body makes up what it appends for the body.
 use Rattle.std.proofs.Common.{◌≡◌, ℕ, suc, ◌+◌, List, [], ◌∷◌, ◌++◌, ◌-◌, length, take, drop, Option, Some, None, ap, ◌∙◌, arith, append_assoc, length-drop}
 use Rattle.std.proofs.lemmas.List.{take_all}
-use Rattle.cilk_load_layout.specs.syntax.Tree as tree
-use Rattle.cilk_load_layout.specs.syntax.Tree.{Word, locals_of, stmts_of}
-use Rattle.cilk_load_layout.specs.labelled.Count.{count_option, count_shape, count_stmt, count_stmts, count_local, count_locals, count_block}
-use Rattle.cilk_load_layout.specs.labelled.Label.{stmt_variables, local_variables, locals_variables, block_variables}
-use Rattle.cilk_load_layout.specs.nodes.declared.action.Action.TheVariants.{Close, Test}
-use Rattle.cilk_load_layout.specs.nodes.declared.node.Node.{Node}
-use Rattle.cilk_load_layout.specs.nodes.declared.var.Var.{Var}
-use Rattle.cilk_load_layout.specs.nodes.declared.body.Body.{Body}
-use Rattle.cilk_load_layout.specs.nodes.Plain.{PlainLocals, OuterLocals}
+use Rattle.cilk_load_names.specs.syntax.Tree as tree
+use Rattle.cilk_load_names.specs.syntax.Tree.{Word, locals_of, stmts_of}
+use Rattle.cilk_load_names.specs.labelled.Count.{count_option, count_shape, count_stmt, count_stmts, count_local, count_locals, count_block}
+use Rattle.cilk_load_names.specs.labelled.Label.{stmt_variables, local_variables, locals_variables, block_variables}
+use Rattle.cilk_load_names.specs.nodes.declared.action.Action.TheVariants.{Close, Test}
+use Rattle.cilk_load_names.specs.nodes.declared.node.Node.{Node}
+use Rattle.cilk_load_names.specs.nodes.declared.var.Var.{Var}
+use Rattle.cilk_load_names.specs.nodes.declared.body.Body.{Body}
+use Rattle.cilk_load_names.specs.nodes.Plain.{PlainLocals, OuterLocals}
 use Rattle.cilk_load_numbering.specs.declared.exits.Exits.{Exits}
 use Rattle.cilk_load_names.specs.Scope.{Scope, declared}
 use Rattle.cilk_load_names.specs.Acts.{code_in}
-use Rattle.cilk_load_layout.specs.Firsts.{first_if, block_first, locals_first}
-use Rattle.cilk_load_numbering.specs.Pass.{known_var, known_number, node, onward, exits_to, in_loop, part_nodes, again_at}
+use Rattle.cilk_load_names.specs.Firsts.{first_if, block_first, locals_first}
+use Rattle.cilk_load_numbering.specs.Pass.{known_var, known_number, node, switch_test, onward, exits_to, in_switch, in_loop, part_nodes, again_at}
 use Rattle.cilk_load_numbering.specs.Pass.{inside_at, shape_nodes, locals_scope, locals_nodes, stmt_nodes, stmts_nodes, block_nodes}
 use Rattle.cilk_load_numbering.specs.Outer.{vars_at, body_exits, inlet_nodes, outer_nodes, outer_scope, body_nodes}
 
@@ -95,6 +95,18 @@ tested b vars s t size size' n value body first entry other inner before middle 
     ea
     ∙ (λ i. (em ∙ ap (λ o. before ++ node b (Test (code_in s value)) o other ∷ []) ef) i ++ block_nodes b vars (et i) (place i) n body inner)
     ∙ append_assoc before (node b (Test (code_in s value)) entry other ∷ []) (block_nodes b vars s (size + 1 + 1) n body inner)
+
+-- a `switch`
+pub switch-written : (b : ℕ) (vars : List Var) (s t : Scope) (size size' n : ℕ) (value : tree.Expr) (body : tree.Block) (ex inner : Exits)
+    (before middle after : List Node)
+    → inner ≡ in_switch ex → middle ≡ before ++ switch_test b s value (size + 2) body ex.next ∷ [] → size' ≡ size + 1 → t ≡ s
+    → after ≡ middle ++ block_nodes b vars t (size' + 1) n body inner → after ≡ before ++ stmt_nodes b vars s (size + 1) n (tree.switch value body) ex
+switch-written b vars s t size size' n value body ex inner before middle after ei em es et ea =
+    let place : size' + 1 ≡ size + 1 + 1 = omega (arith, es) in
+    let here : size + 2 ≡ size + 1 + 1 = omega arith in
+    ea
+    ∙ (λ i. (em ∙ ap (λ k. before ++ switch_test b s value k body ex.next ∷ []) here) i ++ block_nodes b vars (et i) (place i) n body (ei i))
+    ∙ append_assoc before (switch_test b s value (size + 1 + 1) body ex.next ∷ []) (block_nodes b vars s (size + 1 + 1) n body (in_switch ex))
 
 -- a `while`
 pub while-written : (b : ℕ) (vars : List Var) (s t : Scope) (size size' n here : ℕ) (value : tree.Expr) (body : tree.Block) (first : Option ℕ)

@@ -1,18 +1,19 @@
 -- The nodes part by part, as one pass over the tree writes them: `at` is the number of the next action, b the body's number, and n that of its next variable.
-use Rattle.std.specs.Prelude.{ℕ, zero, suc, ◌+◌, List, [], ◌∷◌, ◌++◌, Option, Some, None, length}
-use Rattle.cilk_load_layout.specs.syntax.Tree as tree
-use Rattle.cilk_load_layout.specs.syntax.Tree.{Word}
-use Rattle.cilk_load_layout.specs.eval.declared.slot.Slot.{Slot}
-use Rattle.cilk_load_layout.specs.labelled.Count.{count_option, count_shape, count_stmt, count_stmts, count_locals, count_block}
-use Rattle.cilk_load_layout.specs.labelled.Label.{stmt_variables, locals_variables, block_variables}
-use Rattle.cilk_load_layout.specs.nodes.declared.action.Action.{Action}
-use Rattle.cilk_load_layout.specs.nodes.declared.action.Action.TheVariants.{Print, Locking, Null, Break, Continue, Test, Sync, Abort}
-use Rattle.cilk_load_layout.specs.nodes.declared.node.Node.{Node}
-use Rattle.cilk_load_layout.specs.nodes.declared.var.Var.{Var}
-use Rattle.cilk_load_layout.specs.nodes.Slots.{nowhere}
+use Rattle.std.specs.Prelude.{ℕ, ℤ, zero, suc, ◌+◌, List, [], ◌∷◌, ◌++◌, Option, Some, None, length, Bool, false, is_none, if◌then◌else◌}
+use Rattle.cilk_load_names.specs.syntax.Tree as tree
+use Rattle.cilk_load_names.specs.syntax.Tree.{Word}
+use Rattle.cilk_load_names.specs.eval.declared.slot.Slot.{Slot}
+use Rattle.cilk_load_names.specs.labelled.Count.{count_option, count_shape, count_stmt, count_stmts, count_locals, count_block}
+use Rattle.cilk_load_names.specs.labelled.Label.{stmt_variables, locals_variables, block_variables}
+use Rattle.cilk_load_names.specs.nodes.declared.action.Action.{Action}
+use Rattle.cilk_load_names.specs.nodes.declared.action.Action.TheVariants.{Print, Locking, Null, Break, Continue, Test, Sync, Abort}
+use Rattle.cilk_load_names.specs.nodes.declared.case.Case.{Case}
+use Rattle.cilk_load_names.specs.nodes.declared.node.Node.{Node}
+use Rattle.cilk_load_names.specs.nodes.declared.var.Var.{Var}
+use Rattle.cilk_load_names.specs.nodes.Slots.{nowhere}
 use Rattle.cilk_load_numbering.specs.declared.exits.Exits.{Exits}
 use Rattle.cilk_load_names.specs.Scope.{Named, Scope, declared}
-use Rattle.cilk_load_layout.specs.Firsts.{first_if, block_first, locals_first}
+use Rattle.cilk_load_names.specs.Firsts.{first_if, block_first, locals_first}
 use Rattle.cilk_load_names.specs.Acts.{code_in, codes_in, number_in, move_in, spawn_in, return_in, initialiser_in}
 
 -- the slot of variable n of these
@@ -29,7 +30,11 @@ abbrev pub known_number : ℕ → Word → Named
 known_number n word = record { name = word.text; known = record { slot = nowhere; number = n } }
 
 abbrev pub node : ℕ → Action → Option ℕ → Option ℕ → Node
-node b act next other = record { action = act; next = next; other = other; body = b }
+node b act next other = record { action = act; next = next; other = other; cases = []; body = b }
+
+-- of a `switch`, which goes on there where no case has the value (C 1990, 6.6.4.2)
+abbrev pub switch_node : ℕ → Action → List Case → Option ℕ → Node
+switch_node b act cases next = record { action = act; next = next; other = next; cases = cases; body = b }
 
 -- of an action behind which one list comes
 abbrev pub onward : ℕ → Action → Option ℕ → Node
@@ -38,9 +43,46 @@ onward b act next = node b act next next
 abbrev pub exits_to : Option ℕ → Exits → Exits
 exits_to next ex = record { next = next; past = ex.past; again = ex.again }
 
+-- in the body of a `switch`: a `break` leads to what comes behind it (C 1990, 6.6.6.3)
+abbrev pub in_switch : Exits → Exits
+in_switch ex = record { next = ex.next; past = ex.next; again = ex.again }
+
 -- in the body of a loop with this mark
 abbrev pub in_loop : ℕ → Option ℕ → Exits
 in_loop mark next = record { next = Some mark; past = next; again = Some mark }
+
+-- the case that a statement is, if it is a label with a value, behind which this action comes
+abbrev pub value_case : Option ℤ → Option ℕ → List Case
+value_case None to = []
+value_case (Some z) to = record { value = z; to = to } ∷ []
+
+-- the value of a `case`, if a statement is one
+abbrev pub value_in : tree.Stmt → Option ℤ
+value_in (tree.labelled label) = label.value
+value_in other = None
+
+abbrev pub is_default : tree.Stmt → Bool
+is_default (tree.labelled label) = is_none label.value
+is_default other = false
+
+-- the cases among the statements of a `switch`, the next action being `at`
+abbrev pub cases_in : ℕ → tree.Stmts → Option ℕ → List Case
+cases_in at tree.none next = []
+cases_in at (tree.also first others) next =
+    value_case (value_in first) (first_if (count_stmts others) (at + count_stmt first) next) ++ cases_in (at + count_stmt first) others next
+
+-- where the `default` among these statements leads, or else what comes behind the `switch`
+abbrev pub default_in : ℕ → tree.Stmts → Option ℕ → Option ℕ
+default_in at tree.none next = next
+default_in at (tree.also first others) next =
+    if is_default first
+    then first_if (count_stmts others) (at + count_stmt first) next
+    else default_in (at + count_stmt first) others next
+
+-- the node of the test of a `switch` with this body, whose first action is `at`
+abbrev pub switch_test : ℕ → Scope → tree.Expr → ℕ → tree.Block → Option ℕ → Node
+switch_test b s value at (tree.block locals stmts) next =
+    switch_node b (Test (code_in s value)) (cases_in (at + count_locals locals) stmts next) (default_in (at + count_locals locals) stmts next)
 
 -- the first part or the advance of a `for`, behind which its test comes
 abbrev pub part_nodes : ℕ → Scope → Option tree.Move → ℕ → List Node
@@ -115,6 +157,9 @@ abbrev mutual
       ++ node b (Test (code_in s value)) (block_first (inside_at at first advance) body (Some (again_at at first advance))) ex.next
       ∷ (part_nodes b s advance (at + count_option first)
       ++ block_nodes b vars s (inside_at at first advance) n body (in_loop (again_at at first advance) ex.next))
+  stmt_nodes b vars s at n (tree.switch value body) ex =
+      switch_test b s value (at + 1) body ex.next ∷ block_nodes b vars s (at + 1) n body (in_switch ex)
+  stmt_nodes b vars s at n (tree.labelled label) ex = []
   stmt_nodes b vars s at n (tree.nested inside) ex = block_nodes b vars s at n inside ex
 
   pub stmts_nodes : ℕ → List Var → Scope → ℕ → ℕ → tree.Stmts → Exits → List Node

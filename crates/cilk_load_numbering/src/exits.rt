@@ -1,7 +1,7 @@
 //! With which actions an instance goes on behind a statement, behind the loop around it, or in its next round.
 
 ghost use Rattle.std.specs.Prelude.{◌≡◌};
-ghost use Rattle.cilk_load_numbering.specs.Pass.{exits_to, in_loop};
+ghost use Rattle.cilk_load_numbering.specs.Pass.{exits_to, in_loop, in_switch};
 
 /// The numbers of what comes behind a statement, behind the innermost loop around it, and in that loop's next round.
 #[derive(Clone, Copy)]
@@ -18,6 +18,17 @@ pub(crate) fn exits_to(next: Option<u32>, exits: Exits) -> Exits
     Exits {
         next,
         past: exits.past,
+        again: exits.again,
+    }
+}
+
+/// In the body of a `switch`.
+pub(crate) fn in_switch(exits: Exits) -> Exits
+    ensures { result ≡ in_switch exits }
+{
+    Exits {
+        next: exits.next,
+        past: exits.next,
         again: exits.again,
     }
 }

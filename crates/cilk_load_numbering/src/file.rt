@@ -1,13 +1,12 @@
 //! What the names of the top level stand for.
 
 ghost use Rattle.std.specs.Prelude.{◌≡◌, ◌+◌, ◌++◌, IfOk, OnOk, length};
-ghost use Rattle.cilk_load_layout.specs.labelled.Bodies.{item_globals, item_locks, body_count};
+ghost use Rattle.cilk_load_names.specs.labelled.Bodies.{item_globals, item_locks, body_count};
 ghost use Rattle.cilk_load_numbering.specs.Outer.{globals_count, locks_count, bodies_count, item_named, file_named};
 
 use crate::numbering::known_var;
 use crate::outer::{bodies_behind, known_number};
-use cilk_load_layout::{Body, Item, ItemNode, NoRoom, Var};
-use cilk_load_names::SymbolTable;
+use cilk_load_names::{Body, Item, ItemNode, NoRoom, SymbolTable, Var};
 
 // How many variables, locks and bodies of the top level come before an item.
 #[derive(Clone, Copy)]

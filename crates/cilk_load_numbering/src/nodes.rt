@@ -1,13 +1,13 @@
 //! The nodes of a program.
 
 ghost use Rattle.std.specs.Prelude.{◌≡◌, ◌≤◌, IfOk, length, vec_len};
-ghost use Rattle.cilk_load_layout.specs.labelled.Count.{count_program};
-ghost use Rattle.cilk_load_layout.specs.nodes.Plain.{PlainItems};
+ghost use Rattle.cilk_load_names.specs.labelled.Count.{count_program};
+ghost use Rattle.cilk_load_names.specs.nodes.Plain.{PlainItems};
 ghost use Rattle.cilk_load_numbering.specs.Outer.{globals_count, locks_count, bodies_count, items_nodes, file_scope};
 
 use crate::file::declare_file;
 use crate::pass::Pass;
-use cilk_load_layout::{Body, NoRoom, Node, Program, Var};
+use cilk_load_names::{Body, NoRoom, Node, Program, Var};
 use std::alloc::Global;
 
 /// The nodes of the actions of a program, in the order of the text, over the tables of its variables, locks and bodies.

@@ -2,26 +2,25 @@
 //! number of the body's next variable, and leaves the names as they were.
 
 ghost use Rattle.std.specs.Prelude.{◌≡◌, ◌+◌, ◌≤◌, ◌∷◌, ◌++◌, IfOk, OnOk, length, vec_len};
-ghost use Rattle.cilk_load_layout.specs.syntax.Tree as tree;
-ghost use Rattle.cilk_load_layout.specs.syntax.Tree.{stmts_of, locals_of};
-ghost use Rattle.cilk_load_layout.specs.labelled.Count.{count_shape, count_stmt, count_stmts, count_locals, count_block};
-ghost use Rattle.cilk_load_layout.specs.labelled.Label.{stmt_variables, stmts_variables, locals_variables, block_variables};
-ghost use Rattle.cilk_load_layout.specs.nodes.Plain.{PlainLocals, PlainStmt, PlainStmts, PlainBlock};
-ghost use Rattle.cilk_load_layout.specs.nodes.declared.action.Action.TheVariants.{Test};
+ghost use Rattle.cilk_load_names.specs.syntax.Tree as tree;
+ghost use Rattle.cilk_load_names.specs.syntax.Tree.{stmts_of, locals_of};
+ghost use Rattle.cilk_load_names.specs.labelled.Count.{count_shape, count_stmt, count_stmts, count_locals, count_block};
+ghost use Rattle.cilk_load_names.specs.labelled.Label.{stmt_variables, stmts_variables, locals_variables, block_variables};
+ghost use Rattle.cilk_load_names.specs.nodes.Plain.{PlainLocals, PlainStmt, PlainStmts, PlainBlock};
+ghost use Rattle.cilk_load_names.specs.nodes.declared.action.Action.TheVariants.{Test};
 ghost use Rattle.cilk_load_names.specs.Acts.{code_in};
 ghost use Rattle.cilk_load_names.specs.Scope.{declared};
-ghost use Rattle.cilk_load_layout.specs.Firsts.{block_first, locals_first};
+ghost use Rattle.cilk_load_names.specs.Firsts.{block_first, locals_first};
 ghost use Rattle.cilk_load_numbering.specs.Pass.{var_slot, known_var, node, shape_nodes};
 ghost use Rattle.cilk_load_numbering.specs.Pass.{locals_scope, locals_nodes, stmt_nodes, stmts_nodes, block_nodes};
 
-use crate::exits::{Exits, exits_to, in_loop};
+use crate::exits::{Exits, exits_to, in_loop, in_switch};
 use crate::pass::{Pass, Site};
-use cilk_load_layout::{
-    Block, Decl, Expr, Local, LocalNode, Move, NoRoom, Shape, Stmt, StmtNode, Var, actions,
-    actions_in, actions_of_locals, actions_of_stmts, block_first, count_part, first_if,
-    locals_first,
+use cilk_load_names::{
+    Binding, Block, Decl, Expr, Local, LocalNode, Move, NoRoom, Shape, Stmt, StmtNode, Var,
+    actions, actions_in, actions_of_locals, actions_of_stmts, block_first, count_part, first_if,
+    initialiser_in, locals_first, nowhere,
 };
-use cilk_load_names::{Binding, initialiser_in, nowhere};
 
 // What stands in the parentheses of a `for`.
 #[derive(Clone, Copy)]
@@ -174,6 +173,7 @@ impl<'a> Pass<'a> {
                 };
                 self.put_for(site, n, rounds, body, exits)
             }
+            StmtNode::Switch(test, body) => self.put_switch(site, n, body, test, exits),
             StmtNode::Nested(inside) => self.put_block(site, n, inside, exits),
             _ => self.put_single(site.body, n, stmt, exits),
         }
@@ -202,6 +202,27 @@ impl<'a> Pass<'a> {
         let first = block_first(body, self.at() + 1, exits.next);
         self.put_test(site.body, test, first, other)?;
         self.put_block(site, n, body, exits)
+    }
+
+    #[cycle(put)]
+    fn put_switch(
+        &mut self,
+        site: Site,
+        n: u32,
+        body: &'a Block,
+        test: &'a Expr,
+        exits: Exits,
+    ) -> Result<u32, NoRoom>
+        requires room { vec_len self.old.nodes + count_stmt (tree.switch test.now body.now) ≤ 65534 }
+        requires plain { PlainBlock body.now }
+        ensures nodes { OnOk result (self.new.nodes.items ≡ self.old.nodes.items
+            ++ stmt_nodes site.entry.body site.entry.vars.now self.old.names (vec_len self.old.nodes + 1) n (tree.switch test.now body.now) exits) }
+        ensures len { OnOk result (vec_len self.new.nodes ≡ vec_len self.old.nodes + count_stmt (tree.switch test.now body.now)) }
+        ensures names { OnOk result (self.new.names ≡ self.old.names) }
+        ensures after { IfOk result (λ m. m ≡ n + length (block_variables body.now)) }
+    {
+        self.put_switch_test(site.body, test, body, exits.next)?;
+        self.put_block(site, n, body, in_switch(exits))
     }
 
     #[cycle(put)]

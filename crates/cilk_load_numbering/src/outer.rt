@@ -1,15 +1,15 @@
 //! The nodes of whole bodies: of functions and procedures, and of the inlets in them.
 
 ghost use Rattle.std.specs.Prelude.{◌≡◌, ◌+◌, ◌≤◌, ◌<◌, ◌^◌, [], ◌∷◌, ◌++◌, IfOk, OnOk, length, vec_len};
-ghost use Rattle.cilk_load_layout.specs.syntax.Tree as tree;
-ghost use Rattle.cilk_load_layout.specs.syntax.Tree.{stmts_of, locals_of};
-ghost use Rattle.cilk_load_layout.specs.syntax.ProgramView.{parameters_of};
-ghost use Rattle.cilk_load_layout.specs.labelled.Count.{count_block, count_locals, count_item, count_items};
-ghost use Rattle.cilk_load_layout.specs.labelled.Label.{locals_variables};
-ghost use Rattle.cilk_load_layout.specs.labelled.Bodies.{parameter_variables, inlet_count, body_count};
-ghost use Rattle.cilk_load_layout.specs.nodes.Plain.{PlainBlock, OuterLocals, OuterBlock, PlainItem, PlainItems};
-ghost use Rattle.cilk_load_layout.specs.scopes.Scopes.{parameters_declare};
-ghost use Rattle.cilk_load_layout.specs.nodes.Slots.{nowhere};
+ghost use Rattle.cilk_load_names.specs.syntax.Tree as tree;
+ghost use Rattle.cilk_load_names.specs.syntax.Tree.{stmts_of, locals_of};
+ghost use Rattle.cilk_load_names.specs.syntax.ProgramView.{parameters_of};
+ghost use Rattle.cilk_load_names.specs.labelled.Count.{count_block, count_locals, count_item, count_items};
+ghost use Rattle.cilk_load_names.specs.labelled.Label.{locals_variables};
+ghost use Rattle.cilk_load_names.specs.labelled.Bodies.{parameter_variables, inlet_count, body_count};
+ghost use Rattle.cilk_load_names.specs.nodes.Plain.{PlainBlock, OuterLocals, OuterBlock, PlainItem, PlainItems};
+ghost use Rattle.cilk_load_names.specs.scopes.Scopes.{parameters_declare};
+ghost use Rattle.cilk_load_names.specs.nodes.Slots.{nowhere};
 ghost use Rattle.cilk_load_names.specs.Scope.{declared};
 ghost use Rattle.cilk_load_numbering.specs.Pass.{known_number};
 ghost use Rattle.cilk_load_numbering.specs.Outer.{vars_at, body_exits, words_scope, parameters_scope};
@@ -18,11 +18,11 @@ ghost use Rattle.cilk_load_numbering.specs.Outer.{inlet_nodes, outer_nodes, oute
 use crate::exits::Exits;
 use crate::numbering::known_var;
 use crate::pass::{Pass, Site};
-use cilk_load_layout::{
-    Action, Block, Body, Inlet, Item, ItemNode, Local, LocalNode, NoRoom, Parameters, Proc, Var,
-    Word, actions_in, actions_of_locals, actions_of_stmts, first_if,
+use cilk_load_names::{
+    Action, Binding, Block, Body, Inlet, Item, ItemNode, Local, LocalNode, NoRoom, Parameters,
+    Proc, SymbolTable, Var, Word, actions_in, actions_of_locals, actions_of_stmts, first_if,
+    nowhere,
 };
-use cilk_load_names::{Binding, SymbolTable, nowhere};
 
 /// What stands for a lock or a body.
 pub(crate) fn known_number(number: u32) -> Binding

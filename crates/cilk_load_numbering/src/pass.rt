@@ -2,8 +2,7 @@
 
 ghost use Rattle.std.specs.Prelude.{◌≡◌, ◌+◌, ◌≤◌, [], vec_len};
 
-use cilk_load_layout::{Node, Var};
-use cilk_load_names::SymbolTable;
+use cilk_load_names::{Node, SymbolTable, Var};
 use std::alloc::Global;
 
 /// The nodes that are written, and the names that are visible.

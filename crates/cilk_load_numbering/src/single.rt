@@ -1,15 +1,18 @@
 //! The nodes of single actions.
 
-ghost use Rattle.std.specs.Prelude.{◌≡◌, ◌+◌, ◌∷◌, [], ◌++◌, IfOk, OnOk, vec_len};
-ghost use Rattle.cilk_load_layout.specs.labelled.Count.{count_option};
-ghost use Rattle.cilk_load_layout.specs.nodes.declared.action.Action.TheVariants.{Test};
+ghost use Rattle.std.specs.Prelude.{◌≡◌, ◌+◌, ◌≤◌, ◌∷◌, [], ◌++◌, IfOk, OnOk, vec_len};
+ghost use Rattle.cilk_load_names.specs.labelled.Count.{count_option, count_block};
+ghost use Rattle.cilk_load_names.specs.nodes.declared.action.Action.TheVariants.{Test};
 ghost use Rattle.cilk_load_names.specs.Acts.{code_in, action_in};
-ghost use Rattle.cilk_load_numbering.specs.Pass.{node, onward, part_nodes, behind, single_nodes};
+ghost use Rattle.cilk_load_numbering.specs.Pass.{node, switch_test, onward, part_nodes, behind, single_nodes};
 
 use crate::exits::Exits;
+use crate::labels::{cases_in, default_in};
 use crate::pass::Pass;
-use cilk_load_layout::{Action, Expr, Move, NoRoom, Node, Stmt, StmtNode};
-use cilk_load_names::{action_in, code_in, move_in};
+use cilk_load_names::{
+    Action, Block, Cases, Expr, Move, NoRoom, Node, Stmt, StmtNode, action_in, actions_of_locals,
+    code_in, move_in,
+};
 
 impl<'a> Pass<'a> {
     /// The first part or the advance of a `for`, if there is one.
@@ -50,6 +53,35 @@ impl<'a> Pass<'a> {
             action,
             next,
             other,
+            cases: Cases::new(Vec::new(self.alloc)),
+            body,
+        })?;
+        Ok(())
+    }
+
+    /// The test of a `switch` with this body, behind which `next` comes.
+    pub(crate) fn put_switch_test(
+        &mut self,
+        body: u32,
+        test: &Expr,
+        inside: &Block,
+        next: Option<u32>,
+    ) -> Result<(), NoRoom>
+        requires { vec_len self.old.nodes + (1 + count_block inside.now) ≤ 65534 }
+        ensures nodes { OnOk result (self.new.nodes.items
+            ≡ self.old.nodes.items ++ switch_test body self.old.names test.now (vec_len self.old.nodes + 2) inside.now next ∷ []) }
+        ensures len { OnOk result (vec_len self.new.nodes ≡ vec_len self.old.nodes + 1) }
+        ensures names { OnOk result (self.new.names ≡ self.old.names) }
+    {
+        let at = self.at() + 1 + actions_of_locals(&inside.locals);
+        let to = default_in(at, &inside.stmts, next);
+        let action = Action::Test(code_in(self.alloc, &self.names, test)?);
+        let cases = cases_in(self.alloc, at, &inside.stmts, next)?;
+        self.nodes.push(Node {
+            action,
+            next: to,
+            other: to,
+            cases,
             body,
         })?;
         Ok(())
@@ -93,6 +125,7 @@ impl<'a> Pass<'a> {
             action,
             next,
             other: next,
+            cases: Cases::new(Vec::new(self.alloc)),
             body,
         })?;
         Ok(())

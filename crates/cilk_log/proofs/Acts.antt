@@ -8,13 +8,14 @@ use Rattle.std.specs.Str.{all_ascii_digits}
 use Rattle.std.proofs.lemmas.List.{take_at, drop_at, take-append-drop}
 use Rattle.std.proofs.lemmas.Slice.Eq.{bytes_eq-Decides}
 use Rattle.cilk_machine_choices.specs.model.Choice.{Act, step, pop, steal, Choice}
-use Rattle.cilk_log.specs.Text.{act_text, choice_text, ActFits, ChoiceFits, end_text, workers_text}
+use Rattle.cilk_log.specs.Choices.{act_text, choice_text, ActFits, ChoiceFits}
+use Rattle.cilk_log.specs.Text.{end_text, workers_text}
 use Rattle.cilk_log.specs.Reading.{number_in, behind, number_told, workers_in, count_in, steal_in, act_in, choice_by, choice_in}
 use Rattle.cilk_log.proofs.Decimals.{both, decimal_digits, number_written, number_spelled}
 
 -- ---- written
 
-digits_run : (ds rest : List ℕ) → all_ascii_digits ds ≡ true → prefix_len is_ascii_digit (ds ++ 32 ∷ rest) ≡ length ds
+pub digits_run : (ds rest : List ℕ) → all_ascii_digits ds ≡ true → prefix_len is_ascii_digit (ds ++ 32 ∷ rest) ≡ length ds
 digits_run [] rest e = refl
 digits_run (b ∷ ds) rest e =
     let p = both (is_ascii_digit b) (all_ascii_digits ds) e in
@@ -62,7 +63,7 @@ end_is_no_choice n = refl
 
 -- ---- told
 
-behind_told : (front text rest : List ℕ) → behind front text ≡ Some rest → text ≡ front ++ rest
+pub behind_told : (front text rest : List ℕ) → behind front text ≡ Some rest → text ≡ front ++ rest
 behind_told front text rest e = at (bytes_eq (take (length front) text) front) refl e
   where
     at : (c : Bool) → bytes_eq (take (length front) text) front ≡ c → cond c (Some (drop (length front) text)) None ≡ Some rest → text ≡ front ++ rest
@@ -72,11 +73,11 @@ behind_told front text rest e = at (bytes_eq (take (length front) text) front) r
         let others : drop (length front) text ≡ rest = cc in
         sym (take-append-drop (length front) text) ∙ ap (λ t. t ++ drop (length front) text) same ∙ ap (λ t. front ++ t) others
 
-record Tells (most : ℕ) (front text : List ℕ) (n : ℕ) : Type 0 where
-  spelling : text ≡ front ++ decimal n
-  small : n ≤ most
+pub record Tells (most : ℕ) (front text : List ℕ) (n : ℕ) : Type 0 where
+  pub spelling : text ≡ front ++ decimal n
+  pub small : n ≤ most
 
-number_behind : (most : ℕ) (front text : List ℕ) (n : ℕ) → most < 2 ^ 64 → number_told most (behind front text) ≡ Some n → Tells most front text n
+pub number_behind : (most : ℕ) (front text : List ℕ) (n : ℕ) → most < 2 ^ 64 → number_told most (behind front text) ≡ Some n → Tells most front text n
 number_behind most front text n h e = at (behind front text) refl e
   where
     at : (o : Option (List ℕ)) → behind front text ≡ o → number_told most o ≡ Some n → Tells most front text n

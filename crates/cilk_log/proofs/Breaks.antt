@@ -1,5 +1,5 @@
 -- A text is its lines, each with its newline.
-use Rattle.std.proofs.Common.{◌≡◌, ℕ, ◌^◌, ◌<◌, Bool, true, false, cond, not, List, [], ◌∷◌, ◌++◌, map, length, flat_map, decimal, refl, ap, ◌∙◌}
+use Rattle.std.proofs.Common.{◌≡◌, ℕ, ◌^◌, ◌<◌, Bool, true, false, cond, not, List, [], ◌∷◌, ◌++◌, flat_map, decimal, refl, ap, ◌∙◌}
 use Rattle.std.proofs.Common.{append_assoc, eqb-true, arith}
 use Rattle.std.specs.Prelude.{◌==◌}
 use Rattle.std.specs.Char.{is_ascii_digit}
@@ -9,7 +9,8 @@ use Rattle.std.proofs.lemmas.List.{length-append}
 use Rattle.std.proofs.lemmas.List.Folds.{list_all-append}
 use Rattle.std.proofs.lemmas.Bool.Decides.{nat_tests}
 use Rattle.cilk_machine_choices.specs.model.Choice.{Act, step, pop, steal, Choice}
-use Rattle.cilk_log.specs.Text.{Log, LogFits, ActFits, ChoiceFits, act_text, choice_text, end_text, log_lines, with_newline}
+use Rattle.cilk_log.specs.Choices.{ActFits, ChoiceFits, act_text, choice_text}
+use Rattle.cilk_log.specs.Text.{with_newline}
 use Rattle.cilk_log.specs.Reading.{Lines, lines_of, behind_byte, TellsFirst}
 use Rattle.cilk_log.proofs.Acts.{choice_written}
 use Rattle.cilk_log.proofs.Decimals.{both, and_true, decimal_digits}
@@ -29,7 +30,7 @@ lines_line (b ∷ line) more p =
 abbrev pub IsPlain : List ℕ → Type 0
 IsPlain line = list_all (λ b. not (b == 10)) line ≡ true
 
-lines_flat : (ls : List (List ℕ)) → AllByRecursion IsPlain ls → lines_of (flat_map with_newline ls) ≡ record { whole = ls; rest = [] }
+pub lines_flat : (ls : List (List ℕ)) → AllByRecursion IsPlain ls → lines_of (flat_map with_newline ls) ≡ record { whole = ls; rest = [] }
 lines_flat [] p = refl
 lines_flat (line ∷ ls) p =
     let one : with_newline line ++ flat_map with_newline ls ≡ line ++ 10 ∷ flat_map with_newline ls = append_assoc line (10 ∷ []) (flat_map with_newline ls) in
@@ -48,7 +49,7 @@ pub text_of_lines : (bs : List ℕ) → bs ≡ flat_map with_newline (lines_of b
 text_of_lines [] = refl
 text_of_lines (b ∷ bs) = byte_text b bs (lines_of bs).whole (lines_of bs).rest (b == 10) refl (text_of_lines bs)
 
--- ---- the lines of a recorded schedule
+-- ---- the line of a choice
 
 digit_is_plain : (b : ℕ) → is_ascii_digit b ≡ true → not (b == 10) ≡ true
 digit_is_plain b h = grind (arith, nat_tests)
@@ -59,7 +60,7 @@ digits_are_plain (b ∷ ds) e =
     let p = both (is_ascii_digit b) (all_ascii_digits ds) e in
     and_true (not (b == 10)) _ (digit_is_plain b p.0) (digits_are_plain ds p.1)
 
-decimal_is_plain : (n : ℕ) → n < 2 ^ 64 → list_all (λ b. not (b == 10)) (decimal n) ≡ true
+pub decimal_is_plain : (n : ℕ) → n < 2 ^ 64 → list_all (λ b. not (b == 10)) (decimal n) ≡ true
 decimal_is_plain n h = digits_are_plain (decimal n) (decimal_digits n h)
 
 act_is_plain : (act : Act) → ActFits act → list_all (λ b. not (b == 10)) (act_text act) ≡ true
@@ -67,26 +68,10 @@ act_is_plain step f = refl
 act_is_plain pop f = refl
 act_is_plain (steal victim) f = decimal_is_plain victim (omega arith)
 
-choice_is_plain : (choice : Choice) → ChoiceFits choice → list_all (λ b. not (b == 10)) (choice_text choice) ≡ true
+pub choice_is_plain : (choice : Choice) → ChoiceFits choice → list_all (λ b. not (b == 10)) (choice_text choice) ≡ true
 choice_is_plain choice f =
     list_all-append (λ b. not (b == 10)) (decimal choice.worker) (act_text choice.act)
     ∙ and_true _ _ (decimal_is_plain choice.worker (omega (arith, f.worker))) (act_is_plain choice.act f.act)
-
-choices_are_plain : (choices : List Choice) (line : List ℕ) → AllByRecursion ChoiceFits choices → list_all (λ b. not (b == 10)) line ≡ true
-    → AllByRecursion IsPlain (map choice_text choices ++ line ∷ [])
-choices_are_plain [] line f e = (e, tt)
-choices_are_plain (choice ∷ choices) line f e = (choice_is_plain choice f.0, choices_are_plain choices line f.1 e)
-
-pub lines_written : (log : Log) → LogFits log → lines_of (flat_map with_newline (log_lines log)) ≡ record { whole = log_lines log; rest = [] }
-lines_written log f =
-    lines_flat (log_lines log) (
-      refl,
-      (
-        decimal_is_plain log.workers (omega (arith, f.workers)),
-        choices_are_plain log.choices (end_text (length log.choices)) f.choices
-            (decimal_is_plain (length log.choices) f.count),
-      ),
-    )
 
 -- ---- a choice in front of a text
 

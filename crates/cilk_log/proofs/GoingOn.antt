@@ -6,9 +6,10 @@ use Rattle.cilk_log.specs.Reading.{Lines, lines_of, behind_byte, Fault, truncate
 
 -- behind these choices
 abbrev pub goes_on : List Choice → Lines → Result (List Choice) Fault
-goes_on choices lines = ended (choices ++ (told_in lines.whole).choices) (told_in lines.whole).others lines.rest
+goes_on choices lines =
+    ended (length (choices ++ (told_in lines.whole).choices) + 3) (choices ++ (told_in lines.whole).choices) (told_in lines.whole).others lines.rest
 
-append_nil : {A : Type 0} (l : List A) → l ++ [] ≡ l
+pub append_nil : {A : Type 0} (l : List A) → l ++ [] ≡ l
 append_nil [] = refl
 append_nil (x ∷ l) = ap (λ r. x ∷ r) (append_nil l)
 
@@ -35,7 +36,7 @@ more_behind : (number : ℕ) (bs : List ℕ) (choices : List Choice) → false �
 more_behind number [] choices h = absurd cc
 more_behind number (b ∷ bs) choices h = at_byte number b choices (lines_of bs).whole (lines_of bs).rest (b == 10)
 
-pub counted_more : (line : List ℕ) (told count : ℕ) (behind : List ℕ) (choices : List Choice) → Some told ≡ count_in line → told ≡ count
+pub counted_more : (line : List ℕ) (told count number : ℕ) (behind : List ℕ) (choices : List Choice) → Some told ≡ count_in line → told ≡ count
     → false ≡ (length behind == 0) → length choices ≡ count
-    → counted (count_in line) (count + 3) (lines_of behind).whole (lines_of behind).rest choices ≡ Err (wrong_line (count + 3 + 1))
-counted_more line told count behind choices e t h l = rw (← e, t, l, eq-eqb count count refl) (more_behind (count + 3) behind choices h)
+    → counted (count_in line) number (lines_of behind).whole (lines_of behind).rest choices ≡ Err (wrong_line (number + 1))
+counted_more line told count number behind choices e t h l = rw (← e, t, l, eq-eqb count count refl) (more_behind number behind choices h)

@@ -1,6 +1,9 @@
+pub mod Choices
+pub mod Stretches
+pub mod Naming
 pub mod Text
 pub mod Reading
 pub mod Words
 pub mod Rows
 pub use Rattle.cilk_machine_choices.specs as choices
-pub use Rattle.cilk_machine_choices.specs.canonical
+pub use Rattle.cilk_machine_choices.specs.syntax

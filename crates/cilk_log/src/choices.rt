@@ -1,6 +1,6 @@
 //! Lists of choices, to which one more is put behind the others.
 
-ghost use Rattle.std.specs.Prelude.{◌≡◌, [], ◌∷◌, ◌++◌, length, slice_get, OnOk, OnErr};
+ghost use Rattle.std.specs.Prelude.{◌≡◌, ◌+◌, ◌^◌, ◌<◌, [], ◌∷◌, ◌++◌, length, replicate, slice_get, OnOk, OnErr};
 
 use cilk_machine_choices::{Choice, Memory};
 use std::alloc::Global;
@@ -65,6 +65,16 @@ impl Choices {
         ensures kept { OnErr result (self.new ≡ self.old) }
     {
         self.choices.push(choice)?;
+        Ok(())
+    }
+    /// So many more of one choice, behind the others. Where memory runs out, they stay as they were.
+    pub(crate) fn fill(&mut self, choice: Choice, times: usize) -> Result<(), Memory>
+        requires { length self.old + times < 2 ^ 63 }
+        ensures filled { OnOk result (self.new ≡ self.old ++ replicate times choice) }
+        ensures kept { OnErr result (self.new ≡ self.old) }
+    {
+        let count = self.len() + times;
+        self.choices.resize(count, choice)?;
         Ok(())
     }
 }

@@ -1,8 +1,9 @@
-//! The faults for which bytes are not read as a recorded schedule.
+//! The faults for which bytes are not read as a recorded schedule, or one has no text.
 
 use thiserror::Error;
 
-/// Why bytes are not the text of a recorded schedule: what is wrong first, from the top, or want of memory.
+/// Why bytes are not the text of a recorded schedule: what is wrong first, from the top, or want of memory. A schedule has no text where it is
+/// too long, or memory runs out.
 #[derive(Clone, Copy, Debug, PartialEq, Eq, Error)]
 pub enum LogFault {
     /// The first line names no version that is known.
@@ -17,6 +18,9 @@ pub enum LogFault {
     /// The last line tells another number of choices than there are.
     #[error("G4 Count")]
     Count,
+    /// There are more choices than a text of version 2 tells: 10,000,000.
+    #[error("G6 TooMany")]
+    TooMany,
     /// Memory has run out.
     #[error("out of memory")]
     Memory,

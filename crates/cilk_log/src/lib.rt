@@ -2,18 +2,23 @@
 #![tactic(auto)]
 
 mod choices;
+mod digest;
 mod fault;
 mod laws;
 mod line;
 mod log;
 mod number;
 mod reading;
+mod reading_stretches;
+mod stretch;
 mod writing;
+mod writing_stretches;
 
 pub use choices::Choices;
 pub use cilk_machine_choices::{Act, Choice, Memory, Path, Trap};
+pub use digest::program_of;
 pub use fault::LogFault;
-pub use laws::one_text_each;
+pub use laws::{one_list_of_stretches, one_text_each};
 pub use log::Log;
 pub use number::number_in;
 pub use reading::read_log;

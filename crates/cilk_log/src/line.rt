@@ -5,9 +5,15 @@ ghost use Rattle.std.specs.Char.{is_ascii_digit};
 ghost use Rattle.std.specs.List.{prefix_len};
 ghost use Rattle.cilk_machine_choices.specs.Words.{choice_of, act_of};
 ghost use Rattle.cilk_log.specs.Reading.{lines_of, workers_in, count_in, steal_in, act_in, choice_in, TellsFirst};
+ghost use Rattle.cilk_log.specs.Reading.{times_in, steps_in, stretch_in};
+ghost use Rattle.cilk_log.specs.Words.{stretch_of};
 
 use crate::number::{number_in, worker_in};
+use crate::stretch::Stretch;
 use cilk_machine_choices::{Act, Choice};
+
+/// A text of version 2 tells no more choices.
+pub(crate) const MOST_CHOICES: u64 = 10_000_000;
 
 /// The first line without its newline, and what stands behind that newline, if there is one.
 pub(crate) fn split_line(text: &[u8]) -> Option<(&[u8], &[u8])>
@@ -86,6 +92,48 @@ pub(crate) fn choice_in(line: &[u8]) -> Option<Choice>
         Some(worker) => match act_in(act) {
             None => None,
             Some(act) => Some(Choice { worker, act }),
+        },
+    }
+}
+
+/// The choice or the several steps that a line of version 2 tells.
+pub(crate) fn stretch_in(line: &[u8]) -> Option<Stretch>
+    ensures { option_map stretch_of result ≡ stretch_in line.now }
+{
+    match choice_in(line) {
+        Some(choice) => Some(Stretch { choice, times: 1 }),
+        None => steps_in(line),
+    }
+}
+
+fn steps_in(line: &[u8]) -> Option<Stretch>
+    ensures { option_map stretch_of result ≡ steps_in line.now }
+{
+    let (number, steps) = line.split_at(digits_end(line));
+    match worker_in(number) {
+        None => None,
+        Some(worker) => match times_in(steps) {
+            None => None,
+            Some(times) => {
+                let act = Act::Step;
+                Some(Stretch {
+                    choice: Choice { worker, act },
+                    times,
+                })
+            }
+        },
+    }
+}
+
+// One step is told without a number.
+fn times_in(text: &[u8]) -> Option<u64>
+    ensures { result ≡ times_in text.now }
+{
+    match text.strip_prefix(b" step ") {
+        None => None,
+        Some(number) => match number_in(number, MOST_CHOICES) {
+            None => None,
+            Some(times) => (times >= 2).then_some(times),
         },
     }
 }

@@ -1,5 +1,5 @@
 -- What an action shows of the one instance.
-use Rattle.std.proofs.Common.{◌≡◌, ◌+◌, ℕ, ℤ, Bool, true, false, ◌++◌, length, Some, refl, sym, ap, ◌∙◌, subst, slice_set}
+use Rattle.std.proofs.Common.{pos, ◌≡◌, ◌+◌, ℕ, ℤ, true, false, ◌++◌, length, Some, refl, sym, ap, ◌∙◌, subst, slice_set}
 use Rattle.cilk_sched.specs.eval.declared.area.Area.{Area}
 use Rattle.cilk_sched.specs.eval.declared.area.Area.TheVariants.{Own, Outer, Global}
 use Rattle.cilk_sched.specs.eval.declared.slot.Slot.{Slot}
@@ -124,7 +124,7 @@ module _ (t : Turn) where
       }
 
   -- the frame that goes on stands for the instance past its head
-  pub gone : (answer : Bool) (to : ℕ) → IsNext t answer to → StandsFor (label p) (gone_to to t.frame) (gone_on answer i)
+  pub gone : (answer : ℤ) (to : ℕ) → IsNext t answer to → StandsFor (label p) (gone_to to t.frame) (gone_on answer i)
   gone answer to next = goes_on-stands (label p) t.frame i answer to (holds t).stands next
 
 pub going-agrees : GoingAgrees
@@ -134,9 +134,9 @@ going-agrees t answer to next =
 
 pub writes-agree : WritesAgree
 writes-agree t slot index cell z to same next =
-    let i = gone_on true (instance_of t) in
+    let i = gone_on (pos 1) (instance_of t) in
     acts t _ _ _ _ (put-id slot.area (slot.offset + index) z (gone_to to t.frame))
-    (same-put (label t.program) (gone_to to t.frame) i slot index cell z (gone t true to next) same)
+    (same-put (label t.program) (gone_to to t.frame) i slot index cell z (gone t (pos 1) to next) same)
     (record { lowest = put-lowest cell z i; children = refl; aborted = refl; waiting = refl; receiver = refl })
     (outside-put t (instance_of t).top.body slot index cell z _ same) refl
 
@@ -149,7 +149,7 @@ by_owner Inlet h = cc
 pub calls-agree : CallsAgree
 calls-agree t callee to arguments w r next takes awaits function =
     acts t _ _ _ _ refl
-    (call-stands t.program (gone_to to t.frame) (gone_on true (instance_of t)) callee arguments w r (gone t true to next) takes awaits
+    (call-stands t.program (gone_to to t.frame) (gone_on (pos 1) (instance_of t)) callee arguments w r (gone t (pos 1) to next) takes awaits
     (by_owner (body_at (label t.program) callee).owner function).0
     (λ inlet. let clash : true ≡ false = sym inlet ∙ (by_owner (body_at (label t.program) callee).owner function).1 in cc))
     (record { lowest = refl; children = refl; aborted = refl; waiting = refl; receiver = refl }) (outside-same t _) refl
@@ -181,7 +181,7 @@ answers-agree t caller below slot index cell z is same =
 pub prints-agree : PrintsAgree
 prints-agree t bytes to next =
     let o = t.agrees.outside in
-    acts t _ _ _ _ refl (gone t true to next) (record { lowest = refl; children = refl; aborted = refl; waiting = refl; receiver = refl })
+    acts t _ _ _ _ refl (gone t (pos 1) to next) (record { lowest = refl; children = refl; aborted = refl; waiting = refl; receiver = refl })
     (record {
       cells = o.cells;
       sizes = o.sizes;
@@ -196,7 +196,7 @@ pub locks-agree : LocksAgree
 locks-agree t l to now next within =
     let o = t.agrees.outside in
     let up = path_at t.machine.nodes in
-    acts t _ _ _ _ refl (gone t true to next) (record { lowest = refl; children = refl; aborted = refl; waiting = refl; receiver = refl })
+    acts t _ _ _ _ refl (gone t (pos 1) to next) (record { lowest = refl; children = refl; aborted = refl; waiting = refl; receiver = refl })
     (record {
       cells = o.cells;
       sizes = o.sizes;
@@ -223,4 +223,4 @@ traps-agree t n kind =
     }
 
 pub aborts-agree : AbortsAgree
-aborts-agree t to next = marks-agree t.program _ _ _ (going-agrees t true to next) t.frame.id (inside t)
+aborts-agree t to next = marks-agree t.program _ _ _ (going-agrees t (pos 1) to next) t.frame.id (inside t)

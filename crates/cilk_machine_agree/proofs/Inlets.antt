@@ -1,5 +1,5 @@
 -- What an instance takes from its children: a value in a cell, or an inlet; and a child that it spawns.
-use Rattle.std.proofs.Common.{◌≡◌, ◌+◌, ℕ, true, List, [], ◌∷◌, ◌++◌, drop, length, None, refl, sym, ap, ◌∙◌, subst, arith}
+use Rattle.std.proofs.Common.{pos, ◌≡◌, ◌+◌, ℕ, true, List, [], ◌∷◌, ◌++◌, drop, length, None, refl, sym, ap, ◌∙◌, subst, arith}
 use Rattle.std.proofs.lemmas.List.Elements.{All-drop}
 use Rattle.cilk_laws_placed.specs.labelled.Labelled.{Labelled}
 use Rattle.cilk_laws_placed.specs.labelled.Bodies.{label, is_procedure}
@@ -83,10 +83,10 @@ pub starts-agree : StartsAgree
 starts-agree t callee arguments receiver r to next takes outermost receives =
     let i = instance_of t in
     let h = told t in
-    let parent : Instance = record (gone_on true i) { spawned = true; children = i.children + 1 } in
+    let parent : Instance = record (gone_on (pos 1) i) { spawned = true; children = i.children + 1 } in
     let child : Instance = record (model.started (label t.program) callee arguments) { aborted = i.aborted; receiver = r } in
     let s = after_start (label t.program) t.at.state (path_of t) i r callee arguments in
-    let on = gone t true to next in
+    let on = gone t (pos 1) to next in
     let start = start-stands t.program (length t.machine.nodes) callee arguments takes outermost in
     subst (λ k. Agrees t.program (after_birth t (past_spawn to t.frame) (started t.program (length t.machine.nodes) callee arguments) receiver callee)
     (instead (instead t.who t.frame.id parent) (length t.machine.nodes) child)

@@ -1,5 +1,5 @@
 -- The actions that an instance takes by itself, a spawn and an `abort`: each keeps agreement.
-use Rattle.std.specs.Prelude.{◌≡◌, ◌+◌, ℕ, ℤ, Bool, true, false, List, ◌∷◌, ◌++◌, drop, length, Option, Some, None, slice_set}
+use Rattle.std.specs.Prelude.{pos, ◌≡◌, ◌+◌, ℕ, ℤ, true, false, List, ◌∷◌, ◌++◌, drop, length, Option, Some, None, slice_set}
 use Rattle.cilk_sched.specs.eval.declared.slot.Slot.{Slot}
 use Rattle.cilk_laws_placed.specs.labelled.Bodies.{label}
 use Rattle.cilk_laws_placed.specs.labelled.Items.{opened, next}
@@ -32,8 +32,8 @@ use Rattle.cilk_machine_agree.specs.Agrees.{Agrees, instead}
 use Rattle.cilk_machine_agree.specs.Laws.{Turn, path_of, node_of, instance_of, Becomes, Goes, after_birth}
 use Rattle.cilk_machine_agree.specs.Marks.{marked_if}
 
--- where a test has this answer, that action comes next
-abbrev pub IsNext : Turn → Bool → ℕ → Type 0
+-- where a test has this value, that action comes next
+abbrev pub IsNext : Turn → ℤ → ℕ → Type 0
 IsNext t answer to = number_of (opened (next answer (instance_of t).top.items)) ≡ Some to
 
 -- the cells of the top level, with z in one of them if the slot lies there
@@ -42,24 +42,24 @@ with_global t slot index z = record t.machine.outside { cells = globals_put slot
 
 -- it goes on, and no value is changed
 abbrev pub GoingAgrees : Type 0
-GoingAgrees = (t : Turn) (answer : Bool) (to : ℕ) → IsNext t answer to
+GoingAgrees = (t : Turn) (answer : ℤ) (to : ℕ) → IsNext t answer to
     → Goes t (gone_to to t.frame) (gone_on answer (instance_of t)) t.machine.outside (after_going t.at.state (path_of t) (instance_of t) answer)
 
 -- it writes any cell that it sees, and goes on
 abbrev pub WritesAgree : Type 0
 WritesAgree = (t : Turn) (slot : Slot) (index : ℕ) (cell : Cell) (z : ℤ) (to : ℕ)
-    → SameCell (label t.program) (instance_of t).top.body slot index cell → IsNext t true to
-    → Goes t (frame_put slot index z (gone_to to t.frame)) (put cell z (gone_on true (instance_of t))) (with_global t slot index z)
+    → SameCell (label t.program) (instance_of t).top.body slot index cell → IsNext t (pos 1) to
+    → Goes t (frame_put slot index z (gone_to to t.frame)) (put cell z (gone_on (pos 1) (instance_of t))) (with_global t slot index z)
     (after_write t.at.state (path_of t) (instance_of t) cell z)
 
 -- it calls a C function, whose activation stands above its own, and itself at what follows
 abbrev pub CallsAgree : Type 0
-CallsAgree = (t : Turn) (callee to : ℕ) (arguments : List ℤ) (w : Option Await) (r : Option Reached) → IsNext t true to
+CallsAgree = (t : Turn) (callee to : ℕ) (arguments : List ℤ) (w : Option Await) (r : Option Reached) → IsNext t (pos 1) to
     → Takes (body_of t.program callee) arguments
     → AwaitsSame (label t.program) w r (bodies_of ((instance_of t).top ∷ (instance_of t).below))
     → is_function (body_at (label t.program) callee).owner ≡ true
     → Goes t (frames.entered (first_activation t.program callee arguments w) (gone_to to t.frame))
-    (above (entered (label t.program) callee arguments r) (gone_on true (instance_of t))) t.machine.outside
+    (above (entered (label t.program) callee arguments r) (gone_on (pos 1) (instance_of t))) t.machine.outside
     (after_call (label t.program) t.at.state (path_of t) (instance_of t) r callee arguments)
 
 -- a C function whose value nothing awaits is left, or an inlet
@@ -97,14 +97,14 @@ InletsAgree = (t : Turn) (inlet : ℕ) (arguments : List ℤ) (oldest : model.De
 
 -- it prints
 abbrev pub PrintsAgree : Type 0
-PrintsAgree = (t : Turn) (bytes : List ℕ) (to : ℕ) → IsNext t true to
-    → Goes t (gone_to to t.frame) (gone_on true (instance_of t)) (record t.machine.outside { output = t.machine.outside.output ++ bytes })
+PrintsAgree = (t : Turn) (bytes : List ℕ) (to : ℕ) → IsNext t (pos 1) to
+    → Goes t (gone_to to t.frame) (gone_on (pos 1) (instance_of t)) (record t.machine.outside { output = t.machine.outside.output ++ bytes })
     (after_print t.at.state (path_of t) (instance_of t) bytes)
 
 -- it turns lock l
 abbrev pub LocksAgree : Type 0
-LocksAgree = (t : Turn) (l to : ℕ) (now : Lock) → IsNext t true to → LockWithin (length t.machine.nodes) now
-    → Goes t (gone_to to t.frame) (gone_on true (instance_of t)) (record t.machine.outside { locks = slice_set t.machine.outside.locks l now })
+LocksAgree = (t : Turn) (l to : ℕ) (now : Lock) → IsNext t (pos 1) to → LockWithin (length t.machine.nodes) now
+    → Goes t (gone_to to t.frame) (gone_on (pos 1) (instance_of t)) (record t.machine.outside { locks = slice_set t.machine.outside.locks l now })
     (after_lock t.at.state (path_of t) (instance_of t) l (lock_by (path_at t.machine.nodes) now))
 
 -- it is trapped: the outcome alone is changed
@@ -119,12 +119,12 @@ past_spawn n f = with_boundary true (jumped n f)
 
 -- it spawns a child
 abbrev pub StartsAgree : Type 0
-StartsAgree = (t : Turn) (callee : ℕ) (arguments : List ℤ) (receiver : Receiver) (r : Option model.Receiver) (to : ℕ) → IsNext t true to
+StartsAgree = (t : Turn) (callee : ℕ) (arguments : List ℤ) (receiver : Receiver) (r : Option model.Receiver) (to : ℕ) → IsNext t (pos 1) to
     → Takes (body_of t.program callee) arguments
     → is_inlet (body_at (label t.program) callee).owner ≡ false
     → Receives (label t.program) (node_of t).procedure receiver r
     → Agrees t.program (after_birth t (past_spawn to t.frame) (started t.program (length t.machine.nodes) callee arguments) receiver callee)
-    (instead (instead t.who t.frame.id (record (gone_on true (instance_of t)) { spawned = true; children = (instance_of t).children + 1 }))
+    (instead (instead t.who t.frame.id (record (gone_on (pos 1) (instance_of t)) { spawned = true; children = (instance_of t).children + 1 }))
     (length t.machine.nodes)
     (record (model.started (label t.program) callee arguments) { aborted = (instance_of t).aborted; receiver = r }))
     (record {
@@ -134,10 +134,10 @@ StartsAgree = (t : Turn) (callee : ℕ) (arguments : List ℤ) (receiver : Recei
 
 -- it goes on, and its live descendants are marked
 abbrev pub AbortsAgree : Type 0
-AbortsAgree = (t : Turn) (to : ℕ) → IsNext t true to
+AbortsAgree = (t : Turn) (to : ℕ) → IsNext t (pos 1) to
     → Agrees t.program (record t.machine {
       nodes = marked_below t.machine.nodes t.frame.id;
       places = with_hand t.machine.places t.worker (Some (gone_to to t.frame));
     })
-    (λ i. marked_if (descends t.machine.nodes t.frame.id i) (instead t.who t.frame.id (gone_on true (instance_of t)) i))
+    (λ i. marked_if (descends t.machine.nodes t.frame.id i) (instead t.who t.frame.id (gone_on (pos 1) (instance_of t)) i))
     (record t.at { state = after_marks t.at.state (path_of t) (instance_of t) })

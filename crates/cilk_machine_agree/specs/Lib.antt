@@ -10,7 +10,6 @@ pub mod Between
 pub mod Fated
 pub mod FateLaws
 pub use Rattle.cilk_laws_placed.specs as placed
-pub use Rattle.cilk_laws_placed.specs.canonical
 pub use Rattle.cilk_laws_placed.specs.labelled
 pub use Rattle.cilk_laws_placed.specs.scopes
 pub use Rattle.cilk_laws_placed.specs.syntax

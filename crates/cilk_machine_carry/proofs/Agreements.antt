@@ -1,5 +1,5 @@
 -- A plan that is carried out leads where the step of its instance leads.
-use Rattle.std.proofs.Common.{◌≡◌, ◌≢◌, ◌+◌, ◌<◌, ℕ, ℤ, true, List, length, Option, Some, None, refl, sym, ap, ◌∙◌, subst}
+use Rattle.std.proofs.Common.{pos, ◌≡◌, ◌≢◌, ◌+◌, ◌<◌, ℕ, ℤ, true, List, length, Option, Some, None, refl, sym, ap, ◌∙◌, subst}
 use Rattle.cilk_machine_plan.specs.labelled.Bodies.{label}
 use Rattle.cilk_machine_plan.specs.model.Path.{child_path}
 use Rattle.cilk_machine_plan.specs.model.Instance as model
@@ -138,7 +138,7 @@ module _ (choice : ℕ) (t : Turn) (body : Option Body) where
 
   leads-write : (n : ℕ) (reached : code.Reached) (z : ℤ) (to : ℕ) → Writes t n reached z to → Leads choice t body (plan.Write n reached z to)
   leads-write n reached z to h =
-      goes choice t _ n (after_write t.at.state (path_of t) i h.at.cell z) (instead t.who k (put h.at.cell z (gone_on true i))) h.step
+      goes choice t _ n (after_write t.at.state (path_of t) i h.at.cell z) (instead t.who k (put h.at.cell z (gone_on (pos 1) i))) h.step
       (same-all t.machine.nodes)
       (writes-agree t reached.slot reached.index h.at.cell z to h.at.same h.next)
 
@@ -177,19 +177,19 @@ module _ (choice : ℕ) (t : Turn) (body : Option Body) where
 
   leads-print : (n : ℕ) (bytes : List ℕ) (to : ℕ) → Prints t n bytes to → Leads choice t body (plan.Print n bytes to)
   leads-print n bytes to h =
-      goes choice t _ n (after_print t.at.state (path_of t) i bytes) (instead t.who k (gone_on true i)) h.step (same-all t.machine.nodes)
+      goes choice t _ n (after_print t.at.state (path_of t) i bytes) (instead t.who k (gone_on (pos 1) i)) h.step (same-all t.machine.nodes)
       (prints-agree t bytes to h.next)
 
   leads-turn : (n lock : ℕ) (now : Lock) (to : ℕ) → Turns t n lock now to → Leads choice t body (plan.Turn n lock now to)
   leads-turn n lock now to h =
       goes choice t _ n (after_lock t.at.state (path_of t) i lock (lock_by (path_at t.machine.nodes) now))
-      (instead t.who k (gone_on true i)) h.step (same-all t.machine.nodes)
+      (instead t.who k (gone_on (pos 1) i)) h.step (same-all t.machine.nodes)
       (locks-agree t lock to now h.next h.within)
 
   leads-abort : (n to : ℕ) → Aborts t n to → Leads choice t body (plan.Abort n to)
   leads-abort n to h =
       goes choice t _ n (after_marks t.at.state (path_of t) i)
-      (λ j. marked_if (descends t.machine.nodes k j) (instead t.who k (gone_on true i) j)) h.step (marked-same t.machine.nodes k)
+      (λ j. marked_if (descends t.machine.nodes k j) (instead t.who k (gone_on (pos 1) i) j)) h.step (marked-same t.machine.nodes k)
       (aborts-agree t to h.next)
 
 module _ (choice : ℕ) (t : Turn) where
@@ -226,7 +226,7 @@ module _ (choice : ℕ) (t : Turn) where
   leads-call n awaits callee arguments to h =
       let i = instance_of t in
       goes choice t _ n (after_call (label t.program) t.at.state (path_of t) i h.awaited callee arguments)
-      (instead t.who t.frame.id (above (entered (label t.program) callee arguments h.awaited) (gone_on true i))) h.step (same-all t.machine.nodes)
+      (instead t.who t.frame.id (above (entered (label t.program) callee arguments h.awaited) (gone_on (pos 1) i))) h.step (same-all t.machine.nodes)
       (calls-agree t callee to arguments awaits h.awaited h.next h.takes h.same (ap is_function h.function))
 
   leads-spawn : (n : ℕ) (receiver : Receiver) (callee : ℕ) (arguments : List ℤ) (to : ℕ) → Spawns t n receiver callee arguments to
@@ -236,7 +236,7 @@ module _ (choice : ℕ) (t : Turn) where
       let child = child_path (path_of t) (i.children + 1) in
       leads choice t _ (did.Spawned (length t.machine.nodes) n)
       (spawns child (after_start (label t.program) t.at.state (path_of t) i h.taken callee arguments) (event.spawned child n))
-      (instead (instead t.who t.frame.id (record (gone_on true i) { spawned = true; children = i.children + 1 })) (length t.machine.nodes)
+      (instead (instead t.who t.frame.id (record (gone_on (pos 1) i) { spawned = true; children = i.children + 1 })) (length t.machine.nodes)
       (record (model.started (label t.program) callee arguments) { aborted = i.aborted; receiver = h.taken }))
       h.step refl (ap (λ c. event.spawned c n) (child-path callee receiver))
       (spawn-followed t choice callee n receiver child (child-path callee receiver) h.named)

@@ -100,7 +100,7 @@ module _ (choice : ℕ) (t : Turn) (few : CellsAreFew (label t.program)) (body :
       record { takes = subst (λ b. Takes b arguments) (sym starts) h.takes; depth = h.depth }
   needs (plan.Go n to) goes starts h = tt
   needs (plan.Write n reached z to) goes starts h =
-      fits-here (gone_to to t.frame) (gone_on true (instance_of t)) (gone t true to h.next) reached.slot reached.index h.at.cell h.at.same
+      fits-here (gone_to to t.frame) (gone_on (pos 1) (instance_of t)) (gone t (pos 1) to h.next) reached.slot reached.index h.at.cell h.at.same
   needs (plan.Call n awaits callee arguments to) goes starts h =
       record { takes = subst (λ b. Takes b arguments) (sym starts) h.takes; depth = h.depth }
   needs (plan.Leave n) goes starts h = deeper h.caller

@@ -1,3 +1,3 @@
 pub mod Words
-pub use Rattle.cilk_spawn.specs.canonical
+pub use Rattle.cilk_spawn.specs.syntax
 pub use Rattle.cilk_spawn.specs.model

@@ -1,7 +1,7 @@
 //! How a trap is told: by its kind, and by the path of its instance.
 
 ghost use Rattle.std.specs.Prelude.{◌≡◌};
-ghost use Rattle.cilk_spawn.specs.canonical.Appends.{Appends};
+ghost use Rattle.cilk_spawn.specs.syntax.Appends.{Appends};
 ghost use Rattle.cilk_spawn.specs.model.End.{kind_text, trap_text};
 ghost use Rattle.cilk_spawn.specs.Kinds.{kind_of};
 ghost use Rattle.cilk_machine_choices.specs.Words.{trapped_text};

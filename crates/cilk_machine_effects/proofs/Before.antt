@@ -1,5 +1,5 @@
 -- What the instance of a frame has before it.
-use Rattle.std.proofs.Common.{◌≡◌, ℕ, ◌<◌, ℤ, Bool, true, false, List, ◌∷◌, length, Option, Some, None, IsSome, refl, sym, ap, ◌∙◌, subst}
+use Rattle.std.proofs.Common.{pos, ◌≡◌, ℕ, ◌<◌, ℤ, List, ◌∷◌, length, Option, Some, None, IsSome, refl, sym, ap, ◌∙◌, subst}
 use Rattle.std.specs.Prelude.{option_map}
 use Rattle.cilk_check.specs.syntax.Tree.{Program}
 use Rattle.cilk_check.specs.scopes.WellFormed.{WellFormed}
@@ -11,7 +11,7 @@ use Rattle.cilk_machine_effects.specs.Heads.{GoesOn}
 use Rattle.cilk_frame.specs.nodes.Slots.{slot_of}
 use Rattle.cilk_frame.specs.nodes.Actions.{slotted}
 use Rattle.cilk_frame.specs.nodes.declared.node.Node.{Node}
-use Rattle.cilk_frame.specs.nodes.Table.{number_of, number_after, node_of}
+use Rattle.cilk_frame.specs.nodes.Table.{number_of, number_after, node_of, number_else, cases_of}
 use Rattle.cilk_frame.specs.nodes.Bodies.{body_of}
 use Rattle.cilk_frame.specs.nodes.Laws.{items_at}
 use Rattle.cilk_frame.proofs.nodes_laws.Heads.{nodes-stand, bodies-have}
@@ -40,7 +40,7 @@ has_number None h = h
 has_number (Some head) h = refl
 
 -- an instance whose top is reached so
-module _ (p : Program) (well : WellFormed p) (b : ℕ) (there : b < length (label p).bodies) (answers : List Bool) (n : ℕ)
+module _ (p : Program) (well : WellFormed p) (b : ℕ) (there : b < length (label p).bodies) (answers : List ℤ) (n : ℕ)
     (is_number : number_of (items_at p b answers) ≡ Some n) where
   record AtList (items : Items) : Type 0 where
     head : Numbered
@@ -48,18 +48,25 @@ module _ (p : Program) (well : WellFormed p) (b : ℕ) (there : b < length (labe
     number : head.number ≡ n
     node : node_of p n ≡ Some (record {
       action = slotted (slot_of (label p) b) head.act;
-      next = number_after true items;
-      other = number_after false items;
+      next = number_else (pos 1) items;
+      other = number_else (pos 0) items;
+      cases = cases_of items;
       body = b;
     })
     known : KnownAct (label p) b head.act
-    goes_on : GoesOn head.act → (answer : Bool) → IsSome (number_after answer items)
+    goes_on : GoesOn head.act → (answer : ℤ) → IsSome (number_after answer items)
 
   at_list : AtList (items_at p b answers)
   at_list =
       let items : Items = items_at p b answers in
       let node_by : Numbered → Node =
-      λ x. record { action = slotted (slot_of (label p) b) x.act; next = number_after true items; other = number_after false items; body = b }
+      λ x. record {
+        action = slotted (slot_of (label p) b) x.act;
+        next = number_else (pos 1) items;
+        other = number_else (pos 0) items;
+        cases = cases_of items;
+        body = b;
+      }
       in
       let h = has_head items n is_number in
       record {

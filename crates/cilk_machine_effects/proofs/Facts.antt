@@ -23,7 +23,7 @@ use Rattle.cilk_check.proofs.rules_of_names_laws.Decided.{reserved-Decides, not_
 use Rattle.cilk_check.specs.scopes.Format.{numbers_in}
 use Rattle.cilk_check.specs.scopes.Cells.{is_length}
 use Rattle.cilk_check.specs.scopes.Forms as forms
-use Rattle.cilk_check.specs.scopes.Forms.{words_of_children, leaves_at, returned_by, has_form}
+use Rattle.cilk_check.specs.scopes.Forms.{words_of_children, returned_by, has_form}
 use Rattle.cilk_frame.specs.labelled.Bodies.{is_procedure}
 use Rattle.cilk_check.specs.scopes.WellFormed.{WellFormed}
 
@@ -129,10 +129,13 @@ module _ (p : tree.Program) (well : WellFormed p) where
       by_owner owner.Inlet h = refl
 
   -- where `break` and `continue` stand
-  pub leaves_a_loop : (a : Around) (s : tree.Stmt) (at : ℕ) → Has (parts_of p) (record { around = a; part = statement s }) → Has (leaves_at s) at
+  pub break_in_one : (a : Around) (at : ℕ) → Has (parts_of p) (record { around = a; part = statement (tree.break_at at) }) → IsTrue a.within.in_loop_or_switch
+  break_in_one a at there =
+      holds a.within.in_loop_or_switch (λ e. well _ (inr (forms.break_outside a at (Contains-from_Has _ _ there) e)))
+
+  pub continue_in_a_loop : (a : Around) (at : ℕ) → Has (parts_of p) (record { around = a; part = statement (tree.continue_at at) })
       → IsTrue a.within.in_loop
-  leaves_a_loop a s at there h =
-      holds a.within.in_loop (λ e. well _ (inr (forms.no_loop a s at (Contains-from_Has _ _ there) e (Contains-from_Has _ _ h))))
+  continue_in_a_loop a at there = holds a.within.in_loop (λ e. well _ (inr (forms.continue_outside a at (Contains-from_Has _ _ there) e)))
 
   pub returns_so : (a : Around) (at : ℕ) (value : Option tree.Expr) → Has (parts_of p) (record { around = a; part = statement (tree.return_at at value) })
       → IsTrue (has_form (returned_by a.within.owner) value)

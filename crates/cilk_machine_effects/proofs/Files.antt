@@ -18,7 +18,7 @@ use Rattle.cilk_frame.specs.labelled.Label.{locals_variables, stmts_variables, b
 use Rattle.cilk_frame.specs.labelled.Bodies.{is_procedure, one_cell, parameter_variables, label_body, inlet_bodies, block_locals, procedure_names}
 use Rattle.cilk_frame.specs.labelled.Bodies.{inlet_count, body_count, item_bodies, items_bodies, file_names, bodies_of}
 use Rattle.cilk_frame.specs.model.Instance.{body_at, no_body}
-use Rattle.cilk_machine_effects.specs.Heads.{EachOf}
+use Rattle.cilk_machine_effects.specs.Heads.{in_nothing, EachOf}
 use Rattle.cilk_machine_effects.specs.Known as known
 use Rattle.cilk_machine_effects.proofs.Lists.{get_is, StandAt, stand_all, stand_left, stand_right, stand_behind, stand_first, stand_others}
 use Rattle.cilk_machine_effects.proofs.Meant.{FitNames, parameters_fit}
@@ -59,7 +59,7 @@ module _ (p : tree.Program) (well : WellFormed p) (program : Labelled) where
   definition_known : (b : ℕ) (names : Names) (at : ℕ) (o : Owner) (name : Word) (variables : List Variable) (body : tree.Block)
       → StandAt program.bodies b (label_body names at o name variables body ∷ inlet_bodies names at (length variables) (block_locals body))
       → names.bodies ≡ suc b → (StandAt (body_at program b).variables 0 variables → FitNames program b b names)
-      → AllIn p (block_parts (around o names false true) body)
+      → AllIn p (block_parts (around o names in_nothing true) body)
       → (c : ℕ) → b ≤ c → c < suc (b + inlet_count (block_locals body)) → KnownBody program c
   definition_known b names at o name variables (tree.block locals stmts) stand next fits parts c low high =
       let is = get_is program.bodies b _ no_body (stand_first program.bodies b _ _ stand) in
@@ -79,8 +79,8 @@ module _ (p : tree.Program) (well : WellFormed p) (program : Labelled) where
         between = λ k more less. absurd (omega (arith, next, more, less));
       }
       in
-      let a : Around = around o names false true in
-      let heads : Heads p well program b b o owner_is (home p well program b o owner_is) false true names at (length variables) locals =
+      let a : Around = around o names in_nothing true in
+      let heads : Heads p well program b b o owner_is (home p well program b o owner_is) in_nothing true names at (length variables) locals =
       record {
         fit = fit;
         variables = stand_left (body_at program b).variables (length variables) (locals_variables locals) (stmts_variables stmts) own;
@@ -94,8 +94,8 @@ module _ (p : tree.Program) (well : WellFormed p) (program : Labelled) where
         | inr least ↦
             let same : b ≡ c = omega (arith, low, least) in
             let at_home : IsTrue (is_procedure o) → b ≡ b = home p well program b o owner_is in
-            subst (KnownBody program) same (subst (λ (x : Body). EachOf (May program b) false x.stmts) (sym is)
-            (block_known p well program b b o owner_is at_home false true names at (length variables) body fit own parts (λ e outermost. inlets)))
+            subst (KnownBody program) same (subst (λ (x : Body). EachOf (May program b) in_nothing x.stmts) (sym is)
+            (block_known p well program b b o owner_is at_home in_nothing true names at (length variables) body fit own parts (λ e outermost. inlets)))
       ]
     where
       no_more : (k : ℕ) → 0 + k ≡ k

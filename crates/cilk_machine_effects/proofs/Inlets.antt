@@ -18,7 +18,7 @@ use Rattle.cilk_frame.specs.labelled.Count.{count_local}
 use Rattle.cilk_frame.specs.labelled.Label.{block_variables}
 use Rattle.cilk_frame.specs.labelled.Bodies.{is_procedure, one_cell, inlet_count}
 use Rattle.cilk_frame.specs.model.Instance.{body_at}
-use Rattle.cilk_machine_effects.specs.Heads.{EachOf}
+use Rattle.cilk_machine_effects.specs.Heads.{in_nothing, EachOf}
 use Rattle.cilk_machine_effects.specs.Known.{owner_of}
 use Rattle.cilk_machine_effects.proofs.Lists.{StandAt, stand_all, stand_left, stand_right}
 use Rattle.cilk_machine_effects.proofs.Meant.{words_fit, outward_fits, visible}
@@ -28,7 +28,7 @@ use Rattle.cilk_machine_effects.proofs.Walk.{block_known}
 
 -- each action in body b is known
 abbrev pub KnownBody : Labelled → ℕ → Type 0
-KnownBody program b = EachOf (May program b) false (body_at program b).stmts
+KnownBody program b = EachOf (May program b) in_nothing (body_at program b).stmts
 
 pub words_scopes : (names : Names) (n : ℕ) (words : List Word) → (with_words names n words).scopes ≡ declare_all names.scopes (map parameter words)
 words_scopes names n [] = refl
@@ -40,7 +40,7 @@ parameters_scopes names (tree.command_line count strings) = refl
 
 -- what surrounds the parts of a whole body
 pub around_body : (o : Owner) (names : Names) (scopes : Scopes) → names.scopes ≡ scopes
-    → record { scopes = scopes; within = whole_body o } ≡ around o names false true
+    → record { scopes = scopes; within = whole_body o } ≡ around o names in_nothing true
 around_body o names scopes e = ap (λ s. record { scopes = s; within = whole_body o }) (sym e)
 
 pub body_stands : (program : Labelled) (b : ℕ) (before behind : List Variable) → (body_at program b).variables ≡ before ++ behind
@@ -53,11 +53,11 @@ module _ (p : tree.Program) (well : WellFormed p) (program : Labelled) (b : ℕ)
   home e = refl
 
   inlet_known : (names : Names) (at n place : ℕ) (name : Word) (parameters : List Word) (body : tree.Block) (others : tree.Locals)
-      → Heads p well program b b o owner_is home false true names at n (tree.and_local (tree.inlet_at place name parameters body) others)
+      → Heads p well program b b o owner_is home in_nothing true names at n (tree.and_local (tree.inlet_at place name parameters body) others)
       → KnownBody program names.bodies
   inlet_known names at n place name parameters body others heads =
       let definition : tree.Local = tree.inlet_at place name parameters body in
-      let next = next_inlet p well program b b o owner_is home false true names at n place name parameters body others heads in
+      let next = next_inlet p well program b b o owner_is home in_nothing true names at n place name parameters body others heads in
       let c : ℕ = names.bodies in
       let inside : Names = with_local names n definition in
       let names' : Names = with_words (in_inlet inside) 0 parameters in
@@ -67,7 +67,7 @@ module _ (p : tree.Program) (well : WellFormed p) (program : Labelled) (b : ℕ)
       let stand = body_stands program c variables (block_variables body) has in
       let outer =
       outward_fits program b c (ap is_procedure owner_is ∙ next.may) owner_c next.stands_in (visible inside.scopes) inside.means
-      (local_fits p well program b b o owner_is home false true names at n definition others heads) in
+      (local_fits p well program b b o owner_is home in_nothing true names at n definition others heads) in
       let fit =
       words_fit program c b (in_inlet inside) 0 parameters (pos 0) outer (stand_left (body_at program c).variables 0 variables (block_variables body) stand) in
       let stand_own =
@@ -76,25 +76,25 @@ module _ (p : tree.Program) (well : WellFormed p) (program : Labelled) (b : ℕ)
       let parts =
       subst (λ a. AllIn p (block_parts a body))
       (around_body owner.Inlet names' (declare_all (in_inlet inside).scopes (map parameter parameters)) (words_scopes (in_inlet inside) 0 parameters))
-      (λ s h. heads.parts s (inr (Has-append_left (within_local (around o names false true) definition) _ s h))) in
-      subst (λ (x : Body). EachOf (May program c) false x.stmts) (sym next.is)
-      (block_known p well program c b owner.Inlet owner_c (λ e. cc) false true names' at (length variables) body fit stand_own parts (λ e outermost. cc))
+      (λ s h. heads.parts s (inr (Has-append_left (within_local (around o names in_nothing true) definition) _ s h))) in
+      subst (λ (x : Body). EachOf (May program c) in_nothing x.stmts) (sym next.is)
+      (block_known p well program c b owner.Inlet owner_c (λ e. cc) in_nothing true names' at (length variables) body fit stand_own parts (λ e outermost. cc))
     where
       no_more : (k : ℕ) → 0 + k ≡ k
       no_more k = omega arith
 
-  pub inlets_known : (names : Names) (at n : ℕ) (locals : tree.Locals) → Heads p well program b b o owner_is home false true names at n locals
+  pub inlets_known : (names : Names) (at n : ℕ) (locals : tree.Locals) → Heads p well program b b o owner_is home in_nothing true names at n locals
       → (c : ℕ) → names.bodies ≤ c → c < names.bodies + inlet_count locals → KnownBody program c
   inlets_known names at n tree.no_locals heads c low high = absurd (omega (arith, low, high))
   inlets_known names at n (tree.and_local (tree.declared d) others) heads c low high =
       inlets_known (with_local names n (tree.declared d)) (at + count_local (tree.declared d)) (n + local_count (tree.declared d)) others
-      (step p well program b b o owner_is home false true names at n (tree.declared d) others heads) c low high
+      (step p well program b b o owner_is home in_nothing true names at n (tree.declared d) others heads) c low high
   inlets_known names at n (tree.and_local (tree.inlet_at place name parameters body) others) heads c low high =
       let definition : tree.Local = tree.inlet_at place name parameters body in
       elim (cases_lt names.bodies c) [
         | inl more ↦
             inlets_known (with_local names n definition) (at + count_local definition) (n + local_count definition) others
-            (step p well program b b o owner_is home false true names at n definition others heads) c (omega (arith, more)) (omega (arith, high))
+            (step p well program b b o owner_is home in_nothing true names at n definition others heads) c (omega (arith, more)) (omega (arith, high))
         | inr least ↦
             let same : names.bodies ≡ c = omega (arith, low, least) in
             subst (KnownBody program) same (inlet_known names at n place name parameters body others heads)

@@ -1,5 +1,5 @@
 -- Each action of a well-formed program is known.
-use Rattle.std.proofs.Common.{◌≡◌, ℕ, ◌<◌, Bool, true, false, ◌&&◌, List, [], ◌∷◌, length, Some, IsSome, IsNone, codes, slice_get, bytes_eq, refl}
+use Rattle.std.proofs.Common.{ℤ, ◌≡◌, ℕ, ◌<◌, Bool, true, false, ◌&&◌, List, [], ◌∷◌, length, Some, IsSome, IsNone, codes, slice_get, bytes_eq, refl}
 use Rattle.std.proofs.Common.{sym, subst, append-nil}
 use Rattle.std.proofs.lemmas.Slice.Eq.{bytes_eq-Decides}
 use Rattle.cilk_check.specs.syntax.Tree as tree
@@ -9,7 +9,7 @@ use Rattle.cilk_frame.specs.labelled.Labelled.{Labelled, Body, Numbered, Action}
 use Rattle.cilk_frame.specs.labelled.Items.{head_of, reached}
 use Rattle.cilk_frame.specs.labelled.Bodies.{label, bodies_of, file_names, is_start, is_procedure}
 use Rattle.cilk_frame.specs.model.Instance.{body_at}
-use Rattle.cilk_machine_effects.specs.Heads.{MayStand, EachOf, LeavesInLoops, GoesOn}
+use Rattle.cilk_machine_effects.specs.Heads.{Inside, in_nothing, in_a_loop, MayStand, EachOf, LeavesInLoops, GoesOn}
 use Rattle.cilk_machine_effects.proofs.Items.{reached_each, head_each, each_map}
 use Rattle.cilk_machine_effects.proofs.Heads.{in_any, starts, goes_on, ends}
 use Rattle.cilk_machine_effects.specs.Known.{KnownAct}
@@ -39,19 +39,19 @@ module _ (p : tree.Program) (well : WellFormed p) where
   body_known : (b : ℕ) → b < length (label p).bodies → KnownBody (label p) b
   body_known b there = bodies_known p well (label p) names_fit refl b there
 
-more : (program : Labelled) (b : ℕ) (l : Bool) (act : Action) → May program b l act → May program b true act
+more : (program : Labelled) (b : ℕ) (l : Inside) (act : Action) → May program b l act → May program b in_a_loop act
 more program b l act h = (h.0, in_any l act h.1)
 
 pub actions : (p : tree.Program) (b : ℕ) → WellFormed p → b < length (label p).bodies
-    → EachOf (λ in_loop act. KnownAct (label p) b act) false (body_at (label p) b).stmts
+    → EachOf (λ i act. KnownAct (label p) b act) in_nothing (body_at (label p) b).stmts
 actions p b well there =
-    each_map (May (label p) b) (λ in_loop act. KnownAct (label p) b act) (λ l act h. h.0) false (body_at (label p) b).stmts (body_known p well b there)
+    each_map (May (label p) b) (λ i act. KnownAct (label p) b act) (λ l act h. h.0) in_nothing (body_at (label p) b).stmts (body_known p well b there)
 
 pub leaves : (p : tree.Program) (b : ℕ) → WellFormed p → b < length (label p).bodies → LeavesInLoops (body_at (label p) b)
 leaves p b well there =
-    each_map (May (label p) b) MayStand (λ l act h. h.1) false (body_at (label p) b).stmts (body_known p well b there)
+    each_map (May (label p) b) MayStand (λ l act h. h.1) in_nothing (body_at (label p) b).stmts (body_known p well b there)
 
-pub heads : (p : tree.Program) (b : ℕ) (answers : List Bool) (head : Numbered) → WellFormed p → b < length (label p).bodies
+pub heads : (p : tree.Program) (b : ℕ) (answers : List ℤ) (head : Numbered) → WellFormed p → b < length (label p).bodies
     → head_of (reached (body_at (label p) b) answers) ≡ Some head → KnownAct (label p) b head.act
 heads p b answers head well there first =
     let each = reached_each (May (label p) b) (more (label p) b) (body_at (label p) b) answers (tt, tt) (body_known p well b there) in
@@ -61,12 +61,12 @@ heads p b answers head well there first =
 pub begins : (p : tree.Program) (b : ℕ) → WellFormed p → b < length (label p).bodies → IsSome (head_of (reached (body_at (label p) b) []))
 begins p b well there = starts (body_at (label p) b) (leaves p b well there)
 
-pub follows : (p : tree.Program) (b : ℕ) (answers : List Bool) (answer : Bool) (head : Numbered) → WellFormed p → b < length (label p).bodies
+pub follows : (p : tree.Program) (b : ℕ) (answers : List ℤ) (answer : ℤ) (head : Numbered) → WellFormed p → b < length (label p).bodies
     → head_of (reached (body_at (label p) b) answers) ≡ Some head → GoesOn head.act
     → IsSome (head_of (reached (body_at (label p) b) (answer ∷ answers)))
 follows p b answers answer head well there first on =
     goes_on (body_at (label p) b) answers answer head (leaves p b well there) first on
 
-pub empties : (p : tree.Program) (b : ℕ) (answers : List Bool) → WellFormed p → b < length (label p).bodies
+pub empties : (p : tree.Program) (b : ℕ) (answers : List ℤ) → WellFormed p → b < length (label p).bodies
     → IsNone (head_of (reached (body_at (label p) b) answers)) → reached (body_at (label p) b) answers ≡ []
 empties p b answers well there missing = ends (body_at (label p) b) answers (leaves p b well there) missing

@@ -18,7 +18,7 @@ use Rattle.cilk_frame.specs.labelled.Count.{count_local}
 use Rattle.cilk_frame.specs.labelled.Label.{local_variables, locals_variables, label_initialiser, label_locals, names_behind}
 use Rattle.cilk_frame.specs.labelled.Bodies.{is_procedure, one_cell, label_body, inlet_bodies}
 use Rattle.cilk_frame.specs.model.Instance.{body_at, no_body}
-use Rattle.cilk_machine_effects.specs.Heads.{MayStand, EachOf}
+use Rattle.cilk_machine_effects.specs.Heads.{Inside, MayStand, EachOf}
 use Rattle.cilk_frame.specs.Cells.{no_variable}
 use Rattle.cilk_frame.specs.Reads.{IsVariable}
 use Rattle.cilk_machine_effects.specs.Known.{owner_of, StandsIn, KnownAct}
@@ -28,8 +28,8 @@ use Rattle.cilk_machine_effects.proofs.Meant.{FitNames, MeansKind, newest_means}
 use Rattle.cilk_machine_effects.proofs.Parts.{around, part_at, decl_exprs_known}
 
 -- an action is known in body b, and stands where it may
-abbrev pub May : Labelled → ℕ → Bool → Action → Type 0
-May program b in_loop act = KnownAct program b act × MayStand in_loop act
+abbrev pub May : Labelled → ℕ → Inside → Action → Type 0
+May program b i act = KnownAct program b act × MayStand i act
 
 -- all of these are parts of the program
 abbrev pub AllIn : tree.Program → List PartInContext → Type 0
@@ -50,13 +50,13 @@ module _ (p : tree.Program) (well : WellFormed p) (program : Labelled) (b h : �
     pub between : (k : ℕ) → h < k → k < names.bodies → owner_of program k ≡ owner.Inlet
 
   -- these declarations stand at the head of a block, where n variables come before them
-  pub record Heads (l m : Bool) (names : Names) (at n : ℕ) (locals : tree.Locals) : Type 0 where
+  pub record Heads (l : Inside) (m : Bool) (names : Names) (at n : ℕ) (locals : tree.Locals) : Type 0 where
     pub fit : FitNames program b h names
     pub variables : StandAt (body_at program b).variables n (locals_variables locals)
     pub parts : AllIn p (locals_parts (around o names l m) locals)
     pub inlets : IsTrue (is_procedure o) → IsTrue m → InletsStand names at n locals
 
-  variable_means : (names : Names) (l m : Bool) (n : ℕ) (name : Word) (shape : tree.Shape)
+  variable_means : (names : Names) (l : Inside) (m : Bool) (n : ℕ) (name : Word) (shape : tree.Shape)
       → Has (parts_of p) (part_at o names l m (local (tree.declared (record { name = name; shape = shape }))))
       → StandAt (body_at program b).variables n (local_variables (tree.declared (record { name = name; shape = shape })))
       → MeansKind program b h name.text (labelled.local n) (kind_of_shape shape)
@@ -76,7 +76,7 @@ module _ (p : tree.Program) (well : WellFormed p) (program : Labelled) (b h : �
         (map (one_cell (pos 0)) parameters) body
     pub stands_in : StandsIn program names.bodies h
 
-  pub next_inlet : (l m : Bool) (names : Names) (at n place : ℕ) (name : Word) (parameters : List Word) (body : tree.Block) (others : tree.Locals)
+  pub next_inlet : (l : Inside) (m : Bool) (names : Names) (at n place : ℕ) (name : Word) (parameters : List Word) (body : tree.Block) (others : tree.Locals)
       → Heads l m names at n (tree.and_local (tree.inlet_at place name parameters body) others) → IsNext names at n place name parameters body
   next_inlet l m names at n place name parameters body others heads =
       let definition : tree.Local = tree.inlet_at place name parameters body in
@@ -105,7 +105,8 @@ module _ (p : tree.Program) (well : WellFormed p) (program : Labelled) (b h : �
       by_place k inlets low is (inl below) = inlets.between k low below
       by_place k inlets low is (inr same) = ap (owner_of program) same ∙ is
 
-  pub local_fits : (l m : Bool) (names : Names) (at n : ℕ) (first : tree.Local) (others : tree.Locals) → Heads l m names at n (tree.and_local first others)
+  pub local_fits : (l : Inside) (m : Bool) (names : Names) (at n : ℕ) (first : tree.Local) (others : tree.Locals)
+      → Heads l m names at n (tree.and_local first others)
       → FitNames program b h (with_local names n first)
   local_fits l m names at n (tree.declared d) others heads = (
     variable_means names l m n d.name d.shape (heads.parts _ (inl refl))
@@ -143,7 +144,8 @@ module _ (p : tree.Program) (well : WellFormed p) (program : Labelled) (b h : �
     between = λ k low high. elim (cases_lt k names.bodies) [ inl below ↦ inlets.between k low below | inr least ↦ new k least high ];
   }
 
-  new_inlets : (l m : Bool) (names : Names) (at n : ℕ) (first : tree.Local) (others : tree.Locals) → Heads l m names at n (tree.and_local first others)
+  new_inlets : (l : Inside) (m : Bool) (names : Names) (at n : ℕ) (first : tree.Local) (others : tree.Locals)
+      → Heads l m names at n (tree.and_local first others)
       → (k : ℕ) → names.bodies ≤ k → k < (with_local names n first).bodies → owner_of program k ≡ owner.Inlet
   new_inlets l m names at n (tree.declared d) others heads k low high = absurd (omega (arith, low, high))
   new_inlets l m names at n (tree.inlet_at place name parameters body) others heads k low high =
@@ -151,11 +153,12 @@ module _ (p : tree.Program) (well : WellFormed p) (program : Labelled) (b h : �
       ap (owner_of program) same ∙ ap (λ (x : Body). x.owner) (next_inlet l m names at n place name parameters body others heads).is
 
   -- behind the first of them
-  around_is : (l m : Bool) (names : Names) (n : ℕ) (first : tree.Local) → after_local (around o names l m) first ≡ around o (with_local names n first) l m
+  around_is : (l : Inside) (m : Bool) (names : Names) (n : ℕ) (first : tree.Local)
+      → after_local (around o names l m) first ≡ around o (with_local names n first) l m
   around_is l m names n (tree.declared d) = refl
   around_is l m names n (tree.inlet_at place name parameters body) = refl
 
-  pub step : (l m : Bool) (names : Names) (at n : ℕ) (first : tree.Local) (others : tree.Locals) → Heads l m names at n (tree.and_local first others)
+  pub step : (l : Inside) (m : Bool) (names : Names) (at n : ℕ) (first : tree.Local) (others : tree.Locals) → Heads l m names at n (tree.and_local first others)
       → Heads l m (with_local names n first) (at + count_local first) (n + local_count first) others
   step l m names at n first others heads = record {
     fit = local_fits l m names at n first others heads;
@@ -167,20 +170,20 @@ module _ (p : tree.Program) (well : WellFormed p) (program : Labelled) (b h : �
   }
 
   -- behind all of them
-  pub behind_fits : (l m : Bool) (names : Names) (at n : ℕ) (locals : tree.Locals) → Heads l m names at n locals
+  pub behind_fits : (l : Inside) (m : Bool) (names : Names) (at n : ℕ) (locals : tree.Locals) → Heads l m names at n locals
       → FitNames program b h (names_behind names n locals)
   behind_fits l m names at n tree.no_locals heads = heads.fit
   behind_fits l m names at n (tree.and_local first others) heads =
       behind_fits l m (with_local names n first) (at + count_local first) (n + local_count first) others (step l m names at n first others heads)
 
-  pub behind_is : (l m : Bool) (names : Names) (n : ℕ) (locals : tree.Locals)
+  pub behind_is : (l : Inside) (m : Bool) (names : Names) (n : ℕ) (locals : tree.Locals)
       → after_locals (around o names l m) locals ≡ around o (names_behind names n locals) l m
   behind_is l m names n tree.no_locals = refl
   behind_is l m names n (tree.and_local first others) =
       ap (λ a. after_locals a others) (around_is l m names n first) ∙ behind_is l m (with_local names n first) (n + local_count first) others
 
   -- an initialiser is known, and writes to the variable that is declared
-  initialiser_known : (names : Names) (l m : Bool) (at n : ℕ) (name : Word) (shape : tree.Shape) (rest : Stmts)
+  initialiser_known : (names : Names) (l : Inside) (m : Bool) (at n : ℕ) (name : Word) (shape : tree.Shape) (rest : Stmts)
       → Has (parts_of p) (part_at o names l m (local (tree.declared (record { name = name; shape = shape }))))
       → FitNames program b h (with_local names n (tree.declared (record { name = name; shape = shape })))
       → EachOf (May program b) l rest
@@ -193,7 +196,8 @@ module _ (p : tree.Program) (well : WellFormed p) (program : Labelled) (b h : �
       (((subst (IsVariable program b) (sym means) fit.0, decl_exprs_known p well program b h o owner_is names n l m d there fit value (inl refl)), tt), known)
   initialiser_known names l m at n name (tree.array k) rest there fit known = known
 
-  pub locals_known : (l m : Bool) (names : Names) (at n : ℕ) (locals : tree.Locals) (rest : Stmts) → Heads l m names at n locals → EachOf (May program b) l rest
+  pub locals_known : (l : Inside) (m : Bool) (names : Names) (at n : ℕ) (locals : tree.Locals) (rest : Stmts) → Heads l m names at n locals
+      → EachOf (May program b) l rest
       → EachOf (May program b) l (label_locals names at n locals rest)
   locals_known l m names at n tree.no_locals rest heads known = known
   locals_known l m names at n (tree.and_local (tree.declared d) others) rest heads known =

@@ -6,7 +6,7 @@ use Rattle.cilk_check.specs.syntax.declared.return_type.ReturnType.{ReturnType}
 use Rattle.cilk_check.specs.syntax.Tree.{Word}
 use Rattle.cilk_check.specs.syntax.Tree as tree
 use Rattle.cilk_check.specs.scopes.Scopes.{Declared, parameter, local_declares, kind_of_body, kind_of_global, item_declares, file_declares}
-use Rattle.cilk_check.specs.scopes.Parts.{Around, local, inner, looped, after_local, after_locals, block_parts, locals_parts, within_local}
+use Rattle.cilk_check.specs.scopes.Parts.{Around, local, inner, looped, switched, after_local, after_locals, block_parts, locals_parts, within_local}
 use Rattle.cilk_check.specs.scopes.Parts.{stmts_parts, within_stmt, parts_of}
 use Rattle.cilk_check.specs.scopes.Declarations as declarations
 use Rattle.cilk_check.specs.scopes.Declarations.{activations_of}
@@ -153,6 +153,7 @@ module _ (p : tree.Program) (well : WellFormed p) where
     stmt_room a (tree.while test body) all = block_room (looped a) body all
     stmt_room a (tree.repeat body test) all = block_room (looped a) body all
     stmt_room a (tree.loop first test advance body) all = block_room (looped a) body all
+    stmt_room a (tree.switch test body) all = block_room (switched a) body all
     stmt_room a (tree.nested inside) all = block_room (inner a) inside all
     stmt_room a other all = no_room
 

@@ -252,7 +252,7 @@ module _ (program : Labelled) (b : ℕ) (cells : Cells) (store : Store) (s : See
   print-same n format (Err trap) = refl
 
   test-same : (n : ℕ) (value : Result ℤ Trap)
-      → (value >>= λ z. Ok (Answers (not (is_zero z)))) ≡ slotted_result slot n (value >>= λ z. Ok (effect.answers (not (is_zero z))))
+      → (value >>= λ z. Ok (Answers z)) ≡ slotted_result slot n (value >>= λ z. Ok (effect.answers z))
   test-same n (Ok z) = refl
   test-same n (Err trap) = refl
 
@@ -273,7 +273,7 @@ module _ (program : Labelled) (b : ℕ) (cells : Cells) (store : Store) (s : See
   effect-same n break_off h = refl
   effect-same n go_round h = refl
   effect-same n (tests e) value =
-      ap (λ r. r >>= λ z. Ok (Answers (not (is_zero z)))) (value-same program b cells store e s value) ∙ test-same n (value_of env e)
+      ap (λ r. r >>= λ z. Ok (Answers z)) (value-same program b cells store e s value) ∙ test-same n (value_of env e)
   effect-same n sync h = refl
   effect-same n abort h = refl
   effect-same n (return_with e) (int, value) =
@@ -343,7 +343,7 @@ module _ (program : Labelled) (b : ℕ) (cells : Cells) (store : Store) (s : See
   effect-good n null h = tt
   effect-good n break_off h = tt
   effect-good n go_round h = tt
-  effect-good n (tests e) h = value-good (value_of env e) (λ z. effect.answers (not (is_zero z))) (λ z. tt)
+  effect-good n (tests e) h = value-good (value_of env e) (λ z. effect.answers z) (λ z. tt)
   effect-good n sync h = tt
   effect-good n abort h = tt
   effect-good n (return_with e) h = value-good (value_of env e) (λ z. effect.gives z) (λ z. tt)

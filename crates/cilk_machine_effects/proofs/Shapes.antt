@@ -85,7 +85,7 @@ pub record Printed (x : Effect) : Type 0 where
   pub is : x ≡ writes_out bytes
 
 pub record Answered (x : Effect) : Type 0 where
-  pub answer : Bool
+  pub answer : ℤ
   pub is : x ≡ answers answer
 
 pub record Given (x : Effect) : Type 0 where
@@ -173,12 +173,12 @@ shape env n (spawn taker callee es) x h = spawn-shape env n taker callee es x h
 shape env n (print format es) x h =
     let v = values-then (values_of env es) (λ zs. writes_out (printed format zs)) x h in record { bytes = printed format v.0; is = v.1 }
 shape env n (locking what lock) x h = cc
-shape env n null x h = record { answer = true; is = cc }
-shape env n break_off x h = record { answer = true; is = cc }
-shape env n go_round x h = record { answer = true; is = cc }
+shape env n null x h = record { answer = pos 1; is = cc }
+shape env n break_off x h = record { answer = pos 1; is = cc }
+shape env n go_round x h = record { answer = pos 1; is = cc }
 shape env n (tests e) x h =
-    let v = value-then (value_of env e) (λ z. answers (not (is_zero z))) x h in record { answer = not (is_zero v.0); is = v.1 }
-shape env n sync x h = record { answer = true; is = cc }
+    let v = value-then (value_of env e) (λ z. answers z) x h in record { answer = v.0; is = v.1 }
+shape env n sync x h = record { answer = pos 1; is = cc }
 shape env n abort x h = cc
 shape env n (return_with e) x h = let v = value-then (value_of env e) (λ z. gives z) x h in record { value = v.0; is = v.1 }
 shape env n return_nothing x h = record { value = pos 0; is = cc }

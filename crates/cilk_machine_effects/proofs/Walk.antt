@@ -20,24 +20,24 @@ use Rattle.cilk_frame.specs.labelled.Label.{locals_variables, stmt_variables, st
 use Rattle.cilk_frame.specs.labelled.Label.{label_stmt, label_stmts, label_block, names_behind}
 use Rattle.cilk_frame.specs.labelled.Bodies.{is_procedure, block_locals}
 use Rattle.cilk_frame.specs.model.Instance.{body_at}
-use Rattle.cilk_machine_effects.specs.Heads.{MayStand, IfThere, EachOfStmt, EachOf}
+use Rattle.cilk_machine_effects.specs.Heads.{Inside, in_a_loop, in_a_switch, MayStand, IfThere, EachOfStmt, EachOf}
 use Rattle.cilk_frame.specs.Reads.{IsKnown}
 use Rattle.cilk_machine_effects.specs.Known.{owner_of}
 use Rattle.cilk_machine_effects.proofs.Lists.{StandAt, stand_left, stand_right}
-use Rattle.cilk_machine_effects.proofs.Facts.{abort_in_inlet, leaves_a_loop, returns_so, format_counts}
+use Rattle.cilk_machine_effects.proofs.Facts.{abort_in_inlet, break_in_one, continue_in_a_loop, returns_so, format_counts}
 use Rattle.cilk_machine_effects.proofs.Meant.{FitNames, use_serves}
 use Rattle.cilk_machine_effects.proofs.Exprs.{SoundUses, KnownExprs, exprs_known, move_known, spawn_known}
 use Rattle.cilk_machine_effects.proofs.Parts.{around, part_at, may_have_children, stmt_sound, stmt_exprs_known}
 use Rattle.cilk_machine_effects.proofs.Locals.{May, AllIn, in_left, in_right, InletsStand, Heads, behind_fits, behind_is, locals_known}
 
-move_may : (names : Names) (l : Bool) (what : tree.Move) → MayStand l (label_move names what)
+move_may : (names : Names) (l : Inside) (what : tree.Move) → MayStand l (label_move names what)
 move_may names l (tree.assign target value) = tt
 move_may names l (tree.adjust place by) = tt
 move_may names l (tree.call target callee arguments) = tt
 
 module _ (p : tree.Program) (well : WellFormed p) (program : Labelled) (b h : ℕ) (o : Owner) (owner_is : owner_of program b ≡ o)
     (home : IsTrue (is_procedure o) → h ≡ b) where
-  return_known : (names : Names) (l : Bool) (value : Option tree.Expr) (r : ReturnType) → returned_by o ≡ r → IsTrue (has_form r value)
+  return_known : (names : Names) (l : Inside) (value : Option tree.Expr) (r : ReturnType) → returned_by o ≡ r → IsTrue (has_form r value)
       → ((e : tree.Expr) → Has (option_to_list value) e → IsKnown program b (label_expr names e))
       → May program b l (label_return names value)
   return_known names l None returns.Int is form known = cc
@@ -45,14 +45,14 @@ module _ (p : tree.Program) (well : WellFormed p) (program : Labelled) (b h : �
   return_known names l (Some value) returns.Int is form known = ((ap returned_by owner_is ∙ is, known value (inl refl)), tt)
   return_known names l (Some value) returns.Void is form known = cc
 
-  part_known : (names : Names) (l : Bool) (at : ℕ) (fit : FitNames program b h names) (part : Option tree.Move)
+  part_known : (names : Names) (l : Inside) (at : ℕ) (fit : FitNames program b h names) (part : Option tree.Move)
       → SoundUses program b h names fit (moves_uses names.scopes part) → KnownExprs program b h names fit (moves_exprs part)
       → IfThere (May program b) l (label_part names at part)
   part_known names l at fit None s k = tt
   part_known names l at fit (Some what) s k = (move_known program b h names fit what s k, move_may names l what)
 
   mutual
-    stmt_known : (l m : Bool) (names : Names) (at n : ℕ) (s : tree.Stmt) → FitNames program b h names
+    stmt_known : (l : Inside) (m : Bool) (names : Names) (at n : ℕ) (s : tree.Stmt) → FitNames program b h names
         → StandAt (body_at program b).variables n (stmt_variables s)
         → Has (parts_of p) (part_at o names l m (statement s)) → AllIn p (within_stmt (around o names l m) s)
         → EachOfStmt (May program b) l (label_stmt names at n s)
@@ -85,9 +85,9 @@ module _ (p : tree.Program) (well : WellFormed p) (program : Labelled) (b h : �
     stmt_known l m names at n (tree.abort_at place) fit stand there inside =
         (owner_is ∙ abort_in_inlet p well (around o names l m) place there, tt)
     stmt_known l m names at n (tree.break_at place) fit stand there inside =
-        (tt, leaves_a_loop p well (around o names l m) (tree.break_at place) place there (inl refl))
+        (tt, break_in_one p well (around o names l m) place there)
     stmt_known l m names at n (tree.continue_at place) fit stand there inside =
-        (tt, leaves_a_loop p well (around o names l m) (tree.continue_at place) place there (inl refl))
+        (tt, continue_in_a_loop p well (around o names l m) place there)
     stmt_known l m names at n (tree.return_at place value) fit stand there inside =
         return_known names l value (returned_by o) refl (returns_so p well (around o names l m) place value there)
         (stmt_exprs_known p well program b h o owner_is names l m (tree.return_at place value) there fit)
@@ -107,10 +107,10 @@ module _ (p : tree.Program) (well : WellFormed p) (program : Labelled) (b h : �
         )
     stmt_known l m names at n (tree.while value body) fit stand there inside =
         let known = stmt_exprs_known p well program b h o owner_is names l m (tree.while value body) there fit in
-        ((known value (inl refl), tt), block_known true false (entered names) (at + 1) n body fit stand inside (λ e none. cc))
+        ((known value (inl refl), tt), block_known in_a_loop false (entered names) (at + 1) n body fit stand inside (λ e none. cc))
     stmt_known l m names at n (tree.repeat body value) fit stand there inside =
         let known = stmt_exprs_known p well program b h o owner_is names l m (tree.repeat body value) there fit in
-        ((known value (inl refl), tt), block_known true false (entered names) at n body fit stand inside (λ e none. cc))
+        ((known value (inl refl), tt), block_known in_a_loop false (entered names) at n body fit stand inside (λ e none. cc))
     stmt_known l m names at n (tree.loop first value advance body) fit stand there inside =
         let s : tree.Stmt = tree.loop first value advance body in
         let known = stmt_exprs_known p well program b h o owner_is names l m s there fit in
@@ -121,12 +121,16 @@ module _ (p : tree.Program) (well : WellFormed p) (program : Labelled) (b h : �
           part_known names l (at + (count_option first + 1)) fit advance
               (λ u has. sound u (Has-append_right (moves_uses names.scopes first) (moves_uses names.scopes advance) u has))
               (λ e has. known e (Has-append_right (moves_exprs first) (value ∷ moves_exprs advance) e (inr has))),
-          block_known true false (entered names) (at + (count_option first + (1 + count_option advance))) n body fit stand inside (λ e none. cc),
+          block_known in_a_loop false (entered names) (at + (count_option first + (1 + count_option advance))) n body fit stand inside (λ e none. cc),
         )
+    stmt_known l m names at n (tree.switch value body) fit stand there inside =
+        let known = stmt_exprs_known p well program b h o owner_is names l m (tree.switch value body) there fit in
+        ((known value (inl refl), tt), block_known (in_a_switch l) false (entered names) (at + 1) n body fit stand inside (λ e none. cc))
+    stmt_known l m names at n (tree.labelled label) fit stand there inside = tt
     stmt_known l m names at n (tree.nested body) fit stand there inside =
         block_known l false (entered names) at n body fit stand inside (λ e none. cc)
 
-    stmts_known : (l m : Bool) (names : Names) (at n : ℕ) (ss : tree.Stmts) → FitNames program b h names
+    stmts_known : (l : Inside) (m : Bool) (names : Names) (at n : ℕ) (ss : tree.Stmts) → FitNames program b h names
         → StandAt (body_at program b).variables n (stmts_variables ss)
         → AllIn p (stmts_parts (around o names l m) ss) → EachOf (May program b) l (label_stmts names at n ss)
     stmts_known l m names at n tree.none fit stand all = tt
@@ -140,7 +144,7 @@ module _ (p : tree.Program) (well : WellFormed p) (program : Labelled) (b h : �
               (in_right p (within_stmt a first) (stmts_parts a others) behind),
         )
 
-    pub block_known : (l m : Bool) (names : Names) (at n : ℕ) (body : tree.Block) → FitNames program b h names
+    pub block_known : (l : Inside) (m : Bool) (names : Names) (at n : ℕ) (body : tree.Block) → FitNames program b h names
         → StandAt (body_at program b).variables n (block_variables body)
         → AllIn p (block_parts (around o names l m) body)
         → (IsTrue (is_procedure o) → IsTrue m → InletsStand p well program b h o owner_is home names at n (block_locals body))

@@ -1,5 +1,5 @@
 -- What an instance has before it, and the node that stands for it.
-use Rattle.std.specs.Prelude.{◌≡◌, ℕ, Bool, true, false, IsSome, Some}
+use Rattle.std.specs.Prelude.{ℤ, pos, ◌≡◌, ℕ, IsSome, Some}
 use Rattle.cilk_check.specs.syntax.Tree.{Program}
 use Rattle.cilk_frame.specs.labelled.Labelled.{Numbered}
 use Rattle.cilk_frame.specs.labelled.Items.{head_of}
@@ -8,7 +8,7 @@ use Rattle.cilk_frame.specs.model.Instance.{Instance}
 use Rattle.cilk_machine_effects.specs.Heads.{GoesOn}
 use Rattle.cilk_frame.specs.nodes.Slots.{slot_of}
 use Rattle.cilk_frame.specs.nodes.Actions.{slotted}
-use Rattle.cilk_frame.specs.nodes.Table.{number_after, node_of}
+use Rattle.cilk_frame.specs.nodes.Table.{number_after, number_else, cases_of, node_of}
 use Rattle.cilk_machine_effects.specs.Known.{KnownAct}
 
 -- the action before an instance of p, where action n comes next: its node, what it uses, and that another one comes behind it unless it leaves the body
@@ -18,9 +18,10 @@ pub record Before (p : Program) (n : ℕ) (i : Instance) : Type 0 where
   pub number : head.number ≡ n
   pub node : node_of p n ≡ Some (record {
     action = slotted (slot_of (label p) i.top.body) head.act;
-    next = number_after true i.top.items;
-    other = number_after false i.top.items;
+    next = number_else (pos 1) i.top.items;
+    other = number_else (pos 0) i.top.items;
+    cases = cases_of i.top.items;
     body = i.top.body;
   })
   pub known : KnownAct (label p) i.top.body head.act
-  pub goes_on : GoesOn head.act → (answer : Bool) → IsSome (number_after answer i.top.items)
+  pub goes_on : GoesOn head.act → (answer : ℤ) → IsSome (number_after answer i.top.items)

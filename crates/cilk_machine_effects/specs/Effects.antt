@@ -1,5 +1,5 @@
 -- What an action comes to over slots.
-use Rattle.std.specs.Prelude.{ℕ, ℤ, pos, negsuc, Bool, true, not, nat_lt, if◌then◌else◌, List, Option, Some, None, Result, Ok, Err}
+use Rattle.std.specs.Prelude.{ℕ, ℤ, pos, negsuc, true, not, nat_lt, if◌then◌else◌, List, Option, Some, None, Result, Ok, Err}
 use Rattle.cilk_frame.specs.labelled.declared.trap.Trap.{Trap}
 use Rattle.cilk_frame.specs.labelled.declared.trap.Trap.TheVariants.{Index}
 use Rattle.cilk_frame.specs.labelled.Arithmetic.{is_zero}
@@ -68,11 +68,11 @@ effect_in cells n (Call target callee codes) =
 effect_in cells n (Spawn taker callee codes) = started cells n taker callee codes
 effect_in cells n (Print format codes) = values_of (environment cells) codes >>= λ zs. Ok (Prints (printed format zs))
 effect_in cells n (Locking what lock) = Ok (Turns what lock)
-effect_in cells n Null = Ok (Answers true)
-effect_in cells n Break = Ok (Answers true)
-effect_in cells n Continue = Ok (Answers true)
-effect_in cells n (Test code) = value_of (environment cells) code >>= λ z. Ok (Answers (not (is_zero z)))
-effect_in cells n Sync = Ok (Answers true)
+effect_in cells n Null = Ok (Answers (pos 1))
+effect_in cells n Break = Ok (Answers (pos 1))
+effect_in cells n Continue = Ok (Answers (pos 1))
+effect_in cells n (Test code) = value_of (environment cells) code >>= λ z. Ok (Answers z)
+effect_in cells n Sync = Ok (Answers (pos 1))
 effect_in cells n Abort = Ok Marks
 effect_in cells n (Return code) = value_of (environment cells) code >>= λ z. Ok (Gives z)
 effect_in cells n ReturnNothing = Ok (Gives (pos 0))

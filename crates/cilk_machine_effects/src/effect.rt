@@ -10,8 +10,8 @@ use cilk_spawn::{Arguments, Receiver};
 pub enum Effect {
     /// A cell takes a value.
     Writes(Reached, i32),
-    /// What comes next is reached, with this answer of a test.
-    Answers(bool),
+    /// What comes next is reached, with this value of a test.
+    Answers(i32),
     /// A C function is to start: what awaits its value, the number of its body, and its arguments.
     Enters(Option<Await>, u32, Arguments),
     /// The body is left with a value.

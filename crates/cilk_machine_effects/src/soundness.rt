@@ -1,12 +1,12 @@
 //! What holds of the bodies of well-formed programs. The functions do nothing: their contracts are the laws.
 
-ghost use Rattle.std.specs.Prelude.{◌≡◌, ◌<◌, ◌∷◌, [], ℕ, ℤ, Bool, false, List, length, IsSome, IsNone, Some, Ok};
+ghost use Rattle.std.specs.Prelude.{◌≡◌, ◌<◌, ◌∷◌, [], ℕ, ℤ, false, List, length, IsSome, IsNone, Some, Ok};
 ghost use Rattle.cilk_check.specs.syntax.Tree.{Program};
 ghost use Rattle.cilk_check.specs.scopes.WellFormed.{WellFormed};
 ghost use Rattle.cilk_frame.specs.labelled.Labelled.{Numbered, Labelled, Into, Body};
 ghost use Rattle.cilk_frame.specs.labelled.Items.{head_of, reached};
 ghost use Rattle.cilk_frame.specs.labelled.Bodies.{label};
-ghost use Rattle.cilk_machine_effects.specs.Heads.{EachOf, LeavesInLoops, GoesOn};
+ghost use Rattle.cilk_machine_effects.specs.Heads.{in_nothing, EachOf, LeavesInLoops, GoesOn};
 ghost use Rattle.cilk_frame.specs.model.Instance.{body_at, Instance};
 ghost use Rattle.cilk_check.specs.scopes.Cells.{max_cells, max_global_cells};
 ghost use Rattle.cilk_frame.specs.eval.Slots.{Cells};
@@ -25,8 +25,8 @@ ghost use Rattle.cilk_machine_effects.specs.Room.{HasRoom, ParametersFirst, Star
 /// What each action in a body uses is there, and so it is with the head of each list that is reached in it.
 pub fn actions_are_known()
     ensures actions { (p : Program) (b : ℕ) → WellFormed p → b < length (label p).bodies
-        → EachOf (λ in_loop act. KnownAct (label p) b act) false (body_at (label p) b).stmts }
-    ensures heads { (p : Program) (b : ℕ) (answers : List Bool) (head : Numbered) → WellFormed p → b < length (label p).bodies
+        → EachOf (λ i act. KnownAct (label p) b act) in_nothing (body_at (label p) b).stmts }
+    ensures heads { (p : Program) (b : ℕ) (answers : List ℤ) (head : Numbered) → WellFormed p → b < length (label p).bodies
         → head_of (reached (body_at (label p) b) answers) ≡ Some head → KnownAct (label p) b head.act }
 {}
 
@@ -51,10 +51,10 @@ pub fn reached_cells_are_there()
 pub fn bodies_go_on()
     ensures leaves { (p : Program) (b : ℕ) → WellFormed p → b < length (label p).bodies → LeavesInLoops (body_at (label p) b) }
     ensures begins { (p : Program) (b : ℕ) → WellFormed p → b < length (label p).bodies → IsSome (head_of (reached (body_at (label p) b) [])) }
-    ensures follows { (p : Program) (b : ℕ) (answers : List Bool) (answer : Bool) (head : Numbered) → WellFormed p → b < length (label p).bodies
+    ensures follows { (p : Program) (b : ℕ) (answers : List ℤ) (answer : ℤ) (head : Numbered) → WellFormed p → b < length (label p).bodies
         → head_of (reached (body_at (label p) b) answers) ≡ Some head → GoesOn head.act
         → IsSome (head_of (reached (body_at (label p) b) (answer ∷ answers))) }
-    ensures empties { (p : Program) (b : ℕ) (answers : List Bool) → WellFormed p → b < length (label p).bodies
+    ensures empties { (p : Program) (b : ℕ) (answers : List ℤ) → WellFormed p → b < length (label p).bodies
         → IsNone (head_of (reached (body_at (label p) b) answers)) → reached (body_at (label p) b) answers ≡ [] }
 {}
 
@@ -71,7 +71,7 @@ pub fn bodies_have_room()
 /// not leave the body another one comes, whatever a test answers; and a list without a head is empty.
 pub fn heads_are_there()
     ensures starts { (body : Body) → LeavesInLoops body → IsSome (head_of (reached body [])) }
-    ensures goes_on { (body : Body) (answers : List Bool) (answer : Bool) (head : Numbered) → LeavesInLoops body
+    ensures goes_on { (body : Body) (answers : List ℤ) (answer : ℤ) (head : Numbered) → LeavesInLoops body
         → head_of (reached body answers) ≡ Some head → GoesOn head.act → IsSome (head_of (reached body (answer ∷ answers))) }
-    ensures ends { (body : Body) (answers : List Bool) → LeavesInLoops body → IsNone (head_of (reached body answers)) → reached body answers ≡ [] }
+    ensures ends { (body : Body) (answers : List ℤ) → LeavesInLoops body → IsNone (head_of (reached body answers)) → reached body answers ≡ [] }
 {}

@@ -1,5 +1,5 @@
 -- The head is acted: the plan by its effect is the step by that effect.
-use Rattle.std.proofs.Common.{◌≡◌, ℕ, suc, ◌+◌, ◌≤◌, ℤ, Bool, true, false, nat_lt, nat_le, List, ◌∷◌, map, length, Option, Some, None, Ok, refl, sym}
+use Rattle.std.proofs.Common.{pos, ◌≡◌, ℕ, suc, ◌+◌, ◌≤◌, ℤ, Bool, true, false, nat_lt, nat_le, List, ◌∷◌, map, length, Option, Some, None, Ok, refl, sym}
 use Rattle.std.proofs.Common.{ap, ◌∙◌, subst, arith}
 use borrow.Author.Tests.{ltb-true}
 use Rattle.std.proofs.lemmas.Bool.{lt-ltb, ltb-false}
@@ -78,7 +78,7 @@ pub record Acting (t : Turn) (b m : ℕ) (act : Action) (node : Node) : Type 0 w
   pub there : node_of t.program m ≡ Some node
   pub action : node.action ≡ slotted (slot_of (label t.program) b) act
   pub node_body : node.body ≡ b
-  pub goes : GoesOn act → (answer : Bool) → IsNext t answer (next_of node answer)
+  pub goes : GoesOn act → (answer : ℤ) → IsNext t answer (next_of node answer)
 
 module _ (t : Turn) (asked : Asked t) (b m : ℕ) where
   abbrev program : Labelled
@@ -117,7 +117,7 @@ module _ (t : Turn) (asked : Asked t) (b m : ℕ) where
           };
         };
     step = step;
-    next = a.goes goes true;
+    next = a.goes goes (pos 1);
   })
 
   pub answers-plan : (act : Action) (node : Node) → Acting t b m act node → GoesOn act → (x : effect.Effect) → shapes.Answered x → Planned node x
@@ -135,7 +135,7 @@ module _ (t : Turn) (asked : Asked t) (b m : ℕ) where
           ≡ room = ap (λ out. nat_le (length out + length w.bytes) 1048576) (sym t.agrees.outside.output) ∙ e in
           subst
           (λ r. IsPlan t (made.if_room r Rattle.cilk_machine_agree.specs.spawn.declared.trap_kind.TrapKind.TheVariants.Output m
-          (Rattle.cilk_machine_plan.specs.declared.plan.Plan.TheVariants.Print m w.bytes (next_of node true)))) (sym same)
+          (Rattle.cilk_machine_plan.specs.declared.plan.Plan.TheVariants.Print m w.bytes (next_of node (pos 1))))) (sym same)
           (by_case room step)
         where
           by_case : (room : Bool)
@@ -143,12 +143,12 @@ module _ (t : Turn) (asked : Asked t) (b m : ℕ) where
               ≡ if_room s (path_of t) m state.output room (goes_on (change.after_print s (path_of t) i w.bytes) (acted (path_of t) m))
               → IsPlan t
               (made.if_room room Rattle.cilk_machine_agree.specs.spawn.declared.trap_kind.TrapKind.TheVariants.Output m
-              (Rattle.cilk_machine_plan.specs.declared.plan.Plan.TheVariants.Print m w.bytes (next_of node true)))
-          by_case true step = record { step = step; next = a.goes goes true }
+              (Rattle.cilk_machine_plan.specs.declared.plan.Plan.TheVariants.Print m w.bytes (next_of node (pos 1))))
+          by_case true step = record { step = step; next = a.goes goes (pos 1) }
           by_case false step = step
 
   pub marks-plan : (act : Action) (node : Node) → Acting t b m act node → GoesOn act → (x : effect.Effect) → x ≡ effect.marks → Planned node x
-  marks-plan act node a goes x e = subst (Planned node) (sym e) (λ step there. record { step = step; next = a.goes goes true })
+  marks-plan act node a goes x e = subst (Planned node) (sym e) (λ step there. record { step = step; next = a.goes goes (pos 1) })
 
   pub turns-plan : (act : Action) (node : Node) → Acting t b m act node → GoesOn act → (what : LockAction) (lock : ℕ) (x : effect.Effect)
       → x ≡ effect.turns what lock → Planned node x
@@ -160,8 +160,8 @@ module _ (t : Turn) (asked : Asked t) (b m : ℕ) where
       by_turn : (turn : LockTurn) → ((now : Lock) → turn ≡ turned now → LockWithin (length t.machine.nodes) now)
           → step_in t
           ≡ step_by_turn s (path_of t) i m lock (turn_named (Rattle.cilk_machine_agree.specs.spawn.Nodes.path_at t.machine.nodes) turn)
-          → IsPlan t (turned_to m (next_of node true) lock turn)
-      by_turn (turned now) within step = record { step = step; within = within now refl; next = a.goes goes true }
+          → IsPlan t (turned_to m (next_of node (pos 1)) lock turn)
+      by_turn (turned now) within step = record { step = step; within = within now refl; next = a.goes goes (pos 1) }
       by_turn refused within step = step
       by_turn blocked within step = step
 
@@ -203,7 +203,7 @@ module _ (t : Turn) (asked : Asked t) (b m : ℕ) where
           → IsPlan t
           (made.if_room room Rattle.cilk_machine_agree.specs.spawn.declared.trap_kind.TrapKind.TheVariants.Depth m
           (Rattle.cilk_machine_plan.specs.declared.plan.Plan.TheVariants.Call m (slotted_await m w.awaits) callee w.values
-          (next_of node true)))
+          (next_of node (pos 1))))
       by_case true e step there = record {
         awaited = w.awaits;
         same = awaits-same what callee es node a w.awaits w.awaits_is there;
@@ -212,7 +212,7 @@ module _ (t : Turn) (asked : Asked t) (b m : ℕ) where
         function = a.known.1.owner;
         depth = let below = ltb-true (length i.below) 255 e in let d = depth-is program t.frame i stands in omega arith;
         step = step;
-        next = a.goes tt true;
+        next = a.goes tt (pos 1);
       }
       by_case false e step there = step
 
@@ -227,7 +227,7 @@ module _ (t : Turn) (asked : Asked t) (b m : ℕ) where
           subst
           (λ r. IsPlan t (made.if_room r Rattle.cilk_machine_agree.specs.spawn.declared.trap_kind.TrapKind.TheVariants.Depth m
           (Rattle.cilk_machine_plan.specs.declared.plan.Plan.TheVariants.Call m (slotted_await m w.awaits) callee w.values
-          (next_of node true)))) (sym same)
+          (next_of node (pos 1))))) (sym same)
           (by_case room e
           (step
           ∙ ap (λ r. if_room s (path_of t) m state.depth r

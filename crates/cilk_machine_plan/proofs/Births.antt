@@ -1,5 +1,5 @@
 -- A spawn, and bodies that are left: the plan is the step.
-use Rattle.std.proofs.Common.{◌≡◌, ℕ, zero, suc, ◌+◌, ◌-◌, ◌^◌, Bool, true, false, ◌&&◌, nat_lt, List, [], ◌∷◌, map, length, Option, Ok, refl, sym}
+use Rattle.std.proofs.Common.{pos, ◌≡◌, ℕ, zero, suc, ◌+◌, ◌-◌, ◌^◌, Bool, true, false, ◌&&◌, nat_lt, List, [], ◌∷◌, map, length, Option, Ok, refl, sym}
 use Rattle.std.proofs.Common.{ap, ◌∙◌, subst, arith, if◌then◌else◌}
 use Rattle.std.specs.Prelude.{IsTrue}
 use borrow.Author.Tests.{ltb-true}
@@ -135,7 +135,7 @@ module _ (t : Turn) (asked : Asked t) (b m : ℕ) where
           (spawned (child_path (path_of t) (i.children + 1)) m)
 
       then_plan : Rattle.cilk_machine_plan.specs.declared.plan.Plan.Plan
-      then_plan = plan.Spawn m (slotted_receiver slots w.receiver) callee w.values (next_of node true)
+      then_plan = plan.Spawn m (slotted_receiver slots w.receiver) callee w.values (next_of node (pos 1))
 
       model_room : Bool
       model_room = nat_lt (length s.instances) 65536 && nat_lt i.children (2 ^ 32 - 1)
@@ -160,7 +160,7 @@ module _ (t : Turn) (asked : Asked t) (b m : ℕ) where
             named = callee-named t.program m node _ callee _ a.there a.action;
             room = omega (arith, children, few);
             step = step;
-            next = a.goes tt true;
+            next = a.goes tt (pos 1);
           }
       by_case false e step there = step
 

@@ -1,5 +1,5 @@
 -- The node of a spawn names the procedure that the program's spawn of its number names.
-use Rattle.std.proofs.Common.{◌≡◌, ℕ, suc, ◌+◌, Bool, true, false, nat_eq, List, [], ◌∷◌, ◌++◌, map, length, Option, Some, None, option_map, refl}
+use Rattle.std.proofs.Common.{pos, ◌≡◌, ℕ, suc, ◌+◌, Bool, true, false, nat_eq, List, [], ◌∷◌, ◌++◌, map, length, Option, Some, None, option_map, refl}
 use Rattle.std.proofs.Common.{sym, ap, ◌∙◌, subst, if◌then◌else◌, eqb-true}
 use Rattle.std.specs.Prelude.{⊤, ◌==◌}
 use Rattle.std.specs.Option.{option_or}
@@ -10,8 +10,9 @@ use Rattle.cilk_machine_agree.specs.labelled.Term.{Term}
 use Rattle.cilk_machine_agree.specs.eval.declared.slot.Slot.{Slot}
 use Rattle.cilk_machine_agree.specs.labelled.Labelled.{Declaration, Action, assign, call, spawn, print, locking, null, break_off, go_round, tests}
 use Rattle.cilk_machine_agree.specs.labelled.Labelled.{sync, abort, return_with, return_nothing, close}
-use Rattle.cilk_machine_agree.specs.labelled.Labelled.{Numbered, Stmt, action, choose, while, repeat, loop, nested, Stmts, none, also, Body, Labelled}
-use Rattle.cilk_machine_agree.specs.labelled.Items.{Items, pieces, plain_round, head_of, next_mark}
+use Rattle.cilk_machine_agree.specs.labelled.Labelled.{Numbered, Stmt, action, choose, while, repeat, loop, select, at_label, nested, Stmts, none, also, Body}
+use Rattle.cilk_machine_agree.specs.labelled.Labelled.{Labelled}
+use Rattle.cilk_machine_agree.specs.labelled.Items.{Items, pieces, plain_round, at_end, head_of, next_mark}
 use Rattle.cilk_machine_agree.specs.labelled.Names.{Names, with_words, with_local, local_count, entered, in_inlet}
 use Rattle.cilk_machine_agree.specs.labelled.Count.{count_option, count_stmt, count_local, count_locals, count_block, count_item}
 use Rattle.cilk_machine_agree.specs.labelled.Label.{label_part, label_initialiser, label_local, label_locals, label_stmt, label_stmts, label_block}
@@ -24,7 +25,8 @@ use Rattle.cilk_machine_agree.specs.nodes.declared.taker.Taker.{Taker}
 use Rattle.cilk_machine_agree.specs.nodes.declared.action.Action.TheVariants.{Spawn}
 use Rattle.cilk_machine_agree.specs.nodes.Actions.{slotted}
 use Rattle.cilk_machine_agree.specs.nodes.Slots.{slot_of}
-use Rattle.cilk_machine_agree.specs.nodes.Table.{number_of, has_number, node_over, node_at, first_lists, advance_lists, round_of, stmt_lists}
+use Rattle.cilk_machine_agree.specs.nodes.Table.{number_of, number_else, cases_of, has_number, node_over, node_at, first_lists, advance_lists, round_of}
+use Rattle.cilk_machine_agree.specs.nodes.Table.{stmt_lists}
 use Rattle.cilk_machine_agree.specs.nodes.Table.{stmts_lists, closing_items, body_lists, Row, row, rows_from, node_among}
 
 -- what spawn n starts, if it stands in front
@@ -71,6 +73,8 @@ abbrev mutual
   Plain (while test body) = Quiet test × Plains body
   Plain (repeat body test) = Quiet test × Plains body
   Plain (loop first test advance body) = QuietPart first × Quiet test × QuietPart advance × Plains body
+  Plain (select test body) = Quiet test × Plains body
+  Plain (at_label value) = ⊤
   Plain (nested inside) = Plains inside
 
   Plains : Stmts → Type 0
@@ -115,6 +119,9 @@ module _ (n : ℕ) where
         (head-quiet n test q)
         ∙ advance-found advance advance test body items (stmts_lists body (next_mark (round_of test advance body) advance ∷ items)) a
         ∙ stmts-found body _ b
+    stmt-found (select test body) items (q, b) =
+        ap (λ x. option_or x (found n (stmts_lists body (at_end ∷ items)))) (head-quiet n test q) ∙ stmts-found body (at_end ∷ items) b
+    stmt-found (at_label value) items p = refl
     stmt-found (nested inside) items p = stmts-found inside items p
 
     stmts-found : (stmts : Stmts) (items : Items) → Plains stmts → found n (stmts_lists stmts items) ≡ callee_among n stmts
@@ -180,20 +187,18 @@ module _ (n : ℕ) where
         let is_node : option_map
         (λ (x : Numbered). record {
           action = slotted (slot_of program b) x.act;
-          next =
-              Rattle.cilk_machine_agree.specs.nodes.Table.number_after true items;
-          other =
-              Rattle.cilk_machine_agree.specs.nodes.Table.number_after false items;
+          next = number_else (pos 1) items;
+          other = number_else (pos 0) items;
+          cases = cases_of items;
           body = b;
         }) (Some h) ≡ Some node =
         ap
         (option_map
         (λ (x : Numbered). record {
           action = slotted (slot_of program b) x.act;
-          next =
-              Rattle.cilk_machine_agree.specs.nodes.Table.number_after true items;
-          other =
-              Rattle.cilk_machine_agree.specs.nodes.Table.number_after false items;
+          next = number_else (pos 1) items;
+          other = number_else (pos 0) items;
+          cases = cases_of items;
           body = b;
         })) (sym e) ∙ is in
         let act_is : slotted (slot_of program b) h.act ≡ node.action = cc in
@@ -280,6 +285,8 @@ mutual
     part-quiet names (at + (count_option first + 1)) advance,
     block-plain (entered names) (at + (count_option first + (1 + count_option advance))) n body,
   )
+  stmt-plain names at n (tree.switch value body) = (refl, block-plain (entered names) (at + 1) n body)
+  stmt-plain names at n (tree.labelled label) = tt
   stmt-plain names at n (tree.nested inside) = block-plain (entered names) at n inside
 
   stmts-plain : (names : Names) (at n : ℕ) (ss : tree.Stmts) → Plains (label_stmts names at n ss)

@@ -1,5 +1,5 @@
 -- The head of the instance in a worker's hand, as nodes and items tell it.
-use Rattle.std.proofs.Common.{◌≡◌, ℕ, ◌<◌, Bool, true, false, List, ◌∷◌, length, Option, Some, None, refl, sym, ap, ◌∙◌, subst}
+use Rattle.std.proofs.Common.{ℤ, pos, ◌≡◌, ℕ, ◌<◌, true, List, ◌∷◌, length, Option, Some, None, refl, sym, ap, ◌∙◌, subst}
 use Rattle.std.specs.Prelude.{is_some, IsSome, unwrap_or, option_map}
 use Rattle.cilk_machine_agree.specs.scopes.WellFormed.{WellFormed}
 use Rattle.cilk_machine_agree.specs.syntax.Tree.{Program}
@@ -11,9 +11,10 @@ use Rattle.cilk_machine_agree.specs.model.Instance.{Instance, body_at}
 use Rattle.cilk_machine_agree.specs.nodes.declared.node.Node.{Node}
 use Rattle.cilk_machine_agree.specs.nodes.Actions.{slotted}
 use Rattle.cilk_machine_agree.specs.nodes.Slots.{slot_of}
-use Rattle.cilk_machine_agree.specs.nodes.Table.{number_of, number_after, node_over, node_of, successor}
+use Rattle.cilk_machine_agree.specs.nodes.Table.{number_of, number_else, cases_of, node_at, node_of, successor}
 use Rattle.cilk_machine_agree.specs.nodes.Laws.{Reached}
 use Rattle.cilk_machine_agree.proofs.nodes_laws.Heads.{nodes-stand}
+use Rattle.cilk_machine_agree.proofs.nodes_laws.Successors.{successor-of}
 use Rattle.cilk_machine_agree.specs.frame.Frames.{top_of}
 use Rattle.cilk_machine_agree.specs.frame.Stands.{StandsFor}
 use Rattle.cilk_machine_agree.proofs.frame_laws.Tops.{Stands, top-stands}
@@ -45,9 +46,9 @@ head-by items n (Some x) e h =
 -- what is known of the heads of a well-formed program
 pub record Sound (p : Program) : Type 0 where
   pub well : WellFormed p
-  pub heads : (b : ℕ) (answers : List Bool) (head : Numbered) → b < length (label p).bodies
+  pub heads : (b : ℕ) (answers : List ℤ) (head : Numbered) → b < length (label p).bodies
       → head_of (reached (body_at (label p) b) answers) ≡ Some head → KnownAct (label p) b head.act
-  pub follows : (b : ℕ) (answers : List Bool) (answer : Bool) (head : Numbered) → b < length (label p).bodies
+  pub follows : (b : ℕ) (answers : List ℤ) (answer : ℤ) (head : Numbered) → b < length (label p).bodies
       → head_of (reached (body_at (label p) b) answers) ≡ Some head → GoesOn head.act
       → IsSome (head_of (reached (body_at (label p) b) (answer ∷ answers)))
 
@@ -81,36 +82,42 @@ module _ (t : Turn) (sound : Sound t.program) where
 
   -- the node of the head
   abbrev pub own_node : Node
-  own_node = record { action = slotted (slot_of program b) head.act; next = number_after true items; other = number_after false items; body = b }
+  own_node = record {
+    action = slotted (slot_of program b) head.act;
+    next = number_else (pos 1) items;
+    other = number_else (pos 0) items;
+    cases = cases_of items;
+    body = b;
+  }
+
+  node-here : node_at program b items ≡ Some own_node
+  node-here =
+      ap
+      (option_map
+      (λ (h : Numbered). record {
+        action = slotted (slot_of program b) h.act;
+        next = number_else (pos 1) items;
+        other = number_else (pos 0) items;
+        cases = cases_of items;
+        body = b;
+      })) head-of.is
 
   pub node-is : node_of t.program head.number ≡ Some own_node
   node-is =
       let at : Reached t.program b top.acts.answers head.number =
       record { is_there = there; number = ap number_of (sym top.acts.reached_by) ∙ top.acts.node_is ∙ ap Some (sym head-of.number) } in
       nodes-stand t.program b top.acts.answers head.number sound.well at
-      ∙ ap (λ xs. Rattle.cilk_machine_agree.specs.nodes.Table.node_at program b xs) (sym top.acts.reached_by)
-      ∙ ap
-      (option_map
-      (λ (h : Numbered). record {
-        action = slotted (slot_of program b) h.act;
-        next = number_after true items;
-        other = number_after false
-            items;
-        body = b;
-      })) head-of.is
+      ∙ ap (λ xs. node_at program b xs) (sym top.acts.reached_by)
+      ∙ node-here
 
   pub known : KnownAct program b head.act
   known = sound.heads b top.acts.answers head there (ap head_of (sym top.acts.reached_by) ∙ head-of.is)
 
   -- behind a head that does not leave its body another one comes
-  pub next-is : GoesOn head.act → (answer : Bool) → IsNext t answer (next_of own_node answer)
-  next-is goes answer =
+  pub next-is : GoesOn head.act → (z : ℤ) → IsNext t z (next_of own_node z)
+  next-is goes z =
       let at : head_of (reached (body_at program b) top.acts.answers) ≡ Some head = ap head_of (sym top.acts.reached_by) ∙ head-of.is in
-      let some : IsSome (head_of (opened (next answer items))) =
-      subst (λ xs. IsSome (head_of (opened (next answer xs)))) (sym top.acts.reached_by) (sound.follows b top.acts.answers answer head there at goes) in
-      by_answer answer (number-there (head_of (opened (next answer items))) some)
-    where
-      by_answer : (answer : Bool) → number_of (opened (next answer items)) ≡ Some (unwrap_or (number_of (opened (next answer items))) 0)
-          → IsNext t answer (next_of own_node answer)
-      by_answer true h = h
-      by_answer false h = h
+      let some : IsSome (head_of (opened (next z items))) =
+      subst (λ xs. IsSome (head_of (opened (next z xs)))) (sym top.acts.reached_by) (sound.follows b top.acts.answers z head there at goes) in
+      number-there (head_of (opened (next z items))) some
+      ∙ ap (λ o. Some (unwrap_or o 0)) (sym (successor-of program b items own_node node-here z))

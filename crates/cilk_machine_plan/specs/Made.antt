@@ -1,5 +1,5 @@
 -- The plan of a step, as the code makes it.
-use Rattle.std.specs.Prelude.{ℕ, ◌+◌, ◌-◌, ◌^◌, ℤ, Bool, true, false, not, ◌&&◌, ◌||◌, nat_lt, nat_le, if◌then◌else◌, List, [], ◌∷◌, length, Option}
+use Rattle.std.specs.Prelude.{pos, ℕ, ◌+◌, ◌-◌, ◌^◌, ℤ, Bool, true, false, not, ◌&&◌, ◌||◌, nat_lt, nat_le, if◌then◌else◌, List, [], ◌∷◌, length, Option}
 use Rattle.std.specs.Prelude.{Some, None, Result, Ok, Err, unwrap_or}
 use Rattle.cilk_machine_agree.specs.labelled.declared.trap.Trap.{Trap}
 use Rattle.cilk_machine_agree.specs.eval.Slots.{slot_cell}
@@ -40,7 +40,7 @@ if_room true why n made = made
 if_room false why n made = traps why n
 
 -- the action that comes next
-abbrev pub next_of : action.Node → Bool → ℕ
+abbrev pub next_of : action.Node → ℤ → ℕ
 next_of node answer = unwrap_or (successor node answer) 0
 
 -- a cell takes what comes of its old value and this one
@@ -128,17 +128,17 @@ has_room g = nat_lt (length (live_ids g.nodes)) 65536 && nat_lt (own_node g).chi
 
 abbrev pub by_effect : StepInput → ℕ → action.Node → Result Effect Trap → Plan
 by_effect g n node (Err trap) = traps (kind.Value trap) n
-by_effect g n node (Ok (Writes reached z)) = plan.Write n reached z (next_of node true)
+by_effect g n node (Ok (Writes reached z)) = plan.Write n reached z (next_of node (pos 1))
 by_effect g n node (Ok (Answers answer)) = plan.Go n (next_of node answer)
 by_effect g n node (Ok (Enters awaits callee zs)) =
-    if_room (nat_lt (depth g.frame) 256) kind.Depth n (plan.Call n awaits callee zs (next_of node true))
+    if_room (nat_lt (depth g.frame) 256) kind.Depth n (plan.Call n awaits callee zs (next_of node (pos 1)))
 by_effect g n node (Ok (Gives z)) = given g n node z
 by_effect g n node (Ok (Starts taken callee zs)) =
-    if_room (has_room g) kind.Instances n (plan.Spawn n taken callee zs (next_of node true))
+    if_room (has_room g) kind.Instances n (plan.Spawn n taken callee zs (next_of node (pos 1)))
 by_effect g n node (Ok (Prints bytes)) =
-    if_room (nat_le (g.printed + length bytes) 1048576) kind.Output n (plan.Print n bytes (next_of node true))
-by_effect g n node (Ok (Turns what lock)) = turned_to n (next_of node true) lock (turn_among g.locks (id_of g) what lock)
-by_effect g n node (Ok Marks) = plan.Abort n (next_of node true)
+    if_room (nat_le (g.printed + length bytes) 1048576) kind.Output n (plan.Print n bytes (next_of node (pos 1)))
+by_effect g n node (Ok (Turns what lock)) = turned_to n (next_of node (pos 1)) lock (turn_among g.locks (id_of g) what lock)
+by_effect g n node (Ok Marks) = plan.Abort n (next_of node (pos 1))
 
 abbrev pub leaves : Action → Bool
 leaves (Assign target value) = false

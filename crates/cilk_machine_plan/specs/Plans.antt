@@ -1,5 +1,5 @@
 -- What a plan says of the step of an instance that the definition of runs takes.
-use Rattle.std.specs.Prelude.{◌≡◌, ◌<◌, ◌+◌, ◌^◌, ℕ, ℤ, Bool, true, false, List, ◌∷◌, length, Option, Some}
+use Rattle.std.specs.Prelude.{pos, ◌≡◌, ◌<◌, ◌+◌, ◌^◌, ℕ, ℤ, false, List, ◌∷◌, length, Option, Some}
 use Rattle.cilk_machine_agree.specs.labelled.Bodies.{label}
 use Rattle.cilk_machine_agree.specs.model.Path.{child_path}
 use Rattle.cilk_machine_agree.specs.model.Values.{Cell, Reached}
@@ -84,14 +84,14 @@ pub record Enters (t : Turn) (child n inlet : ℕ) (arguments : List ℤ) : Type
       ≡ goes_on (after_inlet (label t.program) t.at.state (path_of t) (instance_of t) first.others inlet arguments) (delivered first.oldest.child n)
 
 pub record Goes (t : Turn) (n to : ℕ) : Type 0 where
-  pub answer : Bool
+  pub answer : ℤ
   pub step : step_in t ≡ acts t (after_going t.at.state (path_of t) (instance_of t) answer) n
   pub next : IsNext t answer to
 
 pub record Writes (t : Turn) (n : ℕ) (reached : code.Reached) (z : ℤ) (to : ℕ) : Type 0 where
   pub at : At t (instance_of t).top.body reached
   pub step : step_in t ≡ acts t (after_write t.at.state (path_of t) (instance_of t) at.cell z) n
-  pub next : IsNext t true to
+  pub next : IsNext t (pos 1) to
 
 pub record Calls (t : Turn) (n : ℕ) (awaits : Option Await) (callee : ℕ) (arguments : List ℤ) (to : ℕ) : Type 0 where
   pub awaited : Option Reached
@@ -101,7 +101,7 @@ pub record Calls (t : Turn) (n : ℕ) (awaits : Option Await) (callee : ℕ) (ar
   pub function : (body_at (label t.program) callee).owner ≡ Function returns
   pub depth : depth t.frame < 256
   pub step : step_in t ≡ acts t (after_call (label t.program) t.at.state (path_of t) (instance_of t) awaited callee arguments) n
-  pub next : IsNext t true to
+  pub next : IsNext t (pos 1) to
 
 -- the activation below the one that is left
 pub record Caller (t : Turn) : Type 0 where
@@ -134,21 +134,21 @@ pub record Spawns (t : Turn) (n : ℕ) (receiver : Receiver) (callee : ℕ) (arg
       ≡ spawns (child_path (path_of t) ((instance_of t).children + 1))
       (after_start (label t.program) t.at.state (path_of t) (instance_of t) taken callee arguments)
       (spawned (child_path (path_of t) ((instance_of t).children + 1)) n)
-  pub next : IsNext t true to
+  pub next : IsNext t (pos 1) to
 
 pub record Prints (t : Turn) (n : ℕ) (bytes : List ℕ) (to : ℕ) : Type 0 where
   pub step : step_in t ≡ acts t (after_print t.at.state (path_of t) (instance_of t) bytes) n
-  pub next : IsNext t true to
+  pub next : IsNext t (pos 1) to
 
 pub record Turns (t : Turn) (n lock : ℕ) (now : Lock) (to : ℕ) : Type 0 where
   pub step : step_in t
       ≡ acts t (after_lock t.at.state (path_of t) (instance_of t) lock (lock_by (path_at t.machine.nodes) now)) n
   pub within : LockWithin (length t.machine.nodes) now
-  pub next : IsNext t true to
+  pub next : IsNext t (pos 1) to
 
 pub record Aborts (t : Turn) (n to : ℕ) : Type 0 where
   pub step : step_in t ≡ acts t (after_marks t.at.state (path_of t) (instance_of t)) n
-  pub next : IsNext t true to
+  pub next : IsNext t (pos 1) to
 
 abbrev pub IsPlan : Turn → Plan → Type 0
 IsPlan t plan.TheVariants.Wait = step_in t ≡ waits

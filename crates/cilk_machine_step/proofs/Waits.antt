@@ -1,5 +1,5 @@
 -- No effect but that of a call of a lock makes an instance wait.
-use Rattle.std.proofs.Common.{◌≡◌, ℕ, ℤ, Bool, true, false, not, ◌&&◌, ◌||◌, List, Option, Some, None, Result, Ok, Err, refl, ◌∙◌, if◌then◌else◌}
+use Rattle.std.proofs.Common.{pos, ◌≡◌, ℕ, ℤ, Bool, true, false, not, ◌&&◌, ◌||◌, List, Option, Some, None, Result, Ok, Err, refl, ◌∙◌, if◌then◌else◌}
 use Rattle.cilk_load.specs.labelled.declared.trap.Trap.{Trap}
 use Rattle.cilk_load.specs.labelled.Value.{value_of, values_of, ◌>>=◌}
 use Rattle.cilk_load.specs.labelled.Arithmetic.{is_zero}
@@ -96,11 +96,11 @@ effect-waits : (g : StepInput) (n : ℕ) (node : Node) (r : Result Effect Trap) 
 effect-waits g n node (Err trap) = refl
 effect-waits g n node (Ok (Writes reached z)) = refl
 effect-waits g n node (Ok (Answers answer)) = refl
-effect-waits g n node (Ok (Enters awaits callee zs)) = room-goes _ kind.Depth n (plan.Call n awaits callee zs (next_of node true)) refl
+effect-waits g n node (Ok (Enters awaits callee zs)) = room-goes _ kind.Depth n (plan.Call n awaits callee zs (next_of node (pos 1))) refl
 effect-waits g n node (Ok (Gives z)) = given-goes g n node z
-effect-waits g n node (Ok (Starts taken callee zs)) = room-goes _ kind.Instances n (plan.Spawn n taken callee zs (next_of node true)) refl
-effect-waits g n node (Ok (Prints bytes)) = room-goes _ kind.Output n (plan.Print n bytes (next_of node true)) refl
-effect-waits g n node (Ok (Turns what lock)) = turned-waits n (next_of node true) lock (turn_among g.locks (id_of g) what lock)
+effect-waits g n node (Ok (Starts taken callee zs)) = room-goes _ kind.Instances n (plan.Spawn n taken callee zs (next_of node (pos 1))) refl
+effect-waits g n node (Ok (Prints bytes)) = room-goes _ kind.Output n (plan.Print n bytes (next_of node (pos 1))) refl
+effect-waits g n node (Ok (Turns what lock)) = turned-waits n (next_of node (pos 1)) lock (turn_among g.locks (id_of g) what lock)
 effect-waits g n node (Ok Marks) = refl
 
 then-goes : {A : Type 0} (g : StepInput) (r : Result A Trap) (f : A → Result Effect Trap) → ((a : A) → is_stopped g (f a) ≡ false)
@@ -141,7 +141,7 @@ action-waits g cells n (Locking what lock) = refl
 action-waits g cells n Null = refl
 action-waits g cells n Break = refl
 action-waits g cells n Continue = refl
-action-waits g cells n (Test code) = then-goes g (value_of (environment cells) code) (λ z. Ok (Answers (not (is_zero z)))) (λ z. refl)
+action-waits g cells n (Test code) = then-goes g (value_of (environment cells) code) (λ z. Ok (Answers z)) (λ z. refl)
 action-waits g cells n Sync = refl
 action-waits g cells n Abort = refl
 action-waits g cells n (Return code) = then-goes g (value_of (environment cells) code) (λ z. Ok (Gives z)) (λ z. refl)

@@ -81,7 +81,7 @@ look_of peek = record { path = peek.path; n = peek.n; code = peek.code; values =
 abbrev pub effect_by : Cells → Action → Result ℤ Trap → Result Effect Trap
 effect_by cells (Assign target code) r =
     r >>= λ z. combined target.op (slot_cell cells target.place.slot 0) z >>= λ y. Ok (Writes (record { slot = target.place.slot; index = 0 }) y)
-effect_by cells act r = r >>= λ z. Ok (Answers (not (is_zero z)))
+effect_by cells act r = r >>= λ z. Ok (Answers z)
 
 -- the expression that an action evaluates, if it is such a one
 abbrev pub code_at : Program → ℕ → Option (Term Slot)

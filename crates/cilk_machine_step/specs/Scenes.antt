@@ -1,5 +1,5 @@
 -- What a scene shows.
-use Rattle.std.specs.Prelude.{◌≡◌, Bool, true, false, Some}
+use Rattle.std.specs.Prelude.{◌≡◌, Bool, true, false, length, Some}
 use Rattle.cilk_eval.specs.Slots.{sizes_of}
 use Rattle.cilk_machine_plan.specs.nodes.declared.action.Action.{Action}
 use Rattle.cilk_machine_plan.specs.nodes.declared.action.Action.TheVariants.{Assign, Call, Spawn, Print, Locking, Null, Break, Continue, Test, Sync}
@@ -18,9 +18,9 @@ use Rattle.cilk_machine_step.specs.declared.scene.Scene.{Scene}
 abbrev pub sight_of : Scene → StepInput
 sight_of scene = record {
   program = scene.loaded.now;
-  globals = scene.globals.now;
-  locks = scene.locks.now;
-  printed = scene.printed;
+  globals = scene.globals.now.items;
+  locks = scene.locks.now.items;
+  printed = length scene.output.now.items;
   nodes = scene.tree.now.nodes;
   frame = scene.frame.now;
 }

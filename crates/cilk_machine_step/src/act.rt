@@ -80,7 +80,7 @@ fn by_effect(scene: &Scene, n: u32, node: &Node, effect: Effect) -> Plan
     requires { id_of (sight_of scene.now) < length (sight_of scene.now).nodes }
     ensures { result ≡ by_effect (sight_of scene.now) n node.now (Ok effect) }
 {
-    let to = next_of(node, true);
+    let to = next_of(node, 1);
     match effect {
         Effect::Writes(reached, value) => Plan::Write {
             n,
@@ -158,7 +158,7 @@ fn spawned(
 fn printed(scene: &Scene, n: u32, bytes: Bytes, to: u32) -> Plan
     ensures { result ≡ if_room (nat_le ((sight_of scene.now).printed + length bytes) 1048576) TrapKind.Output n (Plan.Print n bytes to) }
 {
-    if fits_output(scene.printed, bytes.as_slice()) {
+    if fits_output(scene.output.len(), bytes.as_slice()) {
         Plan::Print { n, bytes, to }
     } else {
         trap(TrapKind::Output, n)
@@ -171,12 +171,12 @@ fn trap(kind: TrapKind, n: u32) -> Plan
     Plan::Trap { kind, n }
 }
 
-/// The action that comes next, where a test has this answer.
-pub(crate) fn next_of(node: &Node, answer: bool) -> u32
-    ensures { result ≡ next_of node.now answer }
+/// The action that comes next, where a test has this value.
+#[inline(always)]
+pub(crate) fn next_of(node: &Node, value: i32) -> u32
+    ensures { result ≡ next_of node.now value }
 {
-    let next = if answer { node.next } else { node.other };
-    next.unwrap_or(0)
+    node.successor(value).unwrap_or(0)
 }
 
 // Whether there may be one more child: few enough instances live, and the parent has spawned few enough.
@@ -199,7 +199,7 @@ fn turned(scene: &Scene, n: u32, what: LockAction, lock: u32, to: u32) -> Plan
     ensures { result ≡ turned_to n to lock (turn_among (sight_of scene.now).locks (id_of (sight_of scene.now)) what lock) }
 {
     let id = scene.frame.id();
-    let now = lock_at(scene.locks, lock);
+    let now = lock_at(scene.locks.as_slice(), lock);
     match what {
         LockAction::Init => match now {
             Lock::Unset | Lock::Free => turns(n, lock, Lock::Free, to),

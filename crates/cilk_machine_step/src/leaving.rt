@@ -89,7 +89,7 @@ fn lent_to_caller<'a>(scene: &Scene<'a>) -> Slots<'a>
     Slots {
         own: scene.frame.cells(scene.frame.depth() - 2),
         outer: scene.frame.cells(0),
-        globals: scene.globals,
+        globals: scene.globals.as_slice(),
         synched: scene.tree.is_synched(scene.frame.id()),
     }
 }

@@ -47,19 +47,19 @@ fn act_lightly(scene: &Scene, n: u32, node: &Node) -> Option<Light>
                 n,
                 reached: written.reached,
                 value: written.value,
-                to: next_of(node, true),
+                to: next_of(node, 1),
             }),
         },
         Action::Test(code) => match eval(&slots, code) {
             Err(_) => None,
             Ok(value) => Some(Light::Go {
                 n,
-                to: next_of(node, value != 0),
+                to: next_of(node, value),
             }),
         },
         Action::Null | Action::Break | Action::Continue => Some(Light::Go {
             n,
-            to: next_of(node, true),
+            to: next_of(node, 1),
         }),
         action if leaves(action) => leave_lightly(scene, &slots, n, node),
         _ => None,

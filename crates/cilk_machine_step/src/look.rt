@@ -134,13 +134,13 @@ fn by_value(scene: &Scene, n: u32, node: &Node, value: Result<i32, Trap>) -> Res
                         n,
                         reached: Reached { slot, index: 0 },
                         value,
-                        to: next_of(node, true),
+                        to: next_of(node, 1),
                     }),
                 }
             }
             _ => Ok(Light::Go {
                 n,
-                to: next_of(node, value != 0),
+                to: next_of(node, value),
             }),
         },
     }

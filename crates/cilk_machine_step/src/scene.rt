@@ -15,10 +15,10 @@ use cilk_machine_plan::{Frame, Id, Lock, Tree};
 #[derive(Clone, Copy)]
 pub struct Scene<'a> {
     pub loaded: &'a Loaded,
-    pub globals: &'a [i32],
-    pub locks: &'a [Lock],
-    /// How many bytes were printed.
-    pub printed: usize,
+    pub globals: &'a Vec<i32>,
+    pub locks: &'a Vec<Lock>,
+    /// What was printed.
+    pub output: &'a Vec<u8>,
     pub tree: &'a Tree,
     pub frame: &'a Frame,
 }
@@ -33,7 +33,7 @@ impl<'a> Scene<'a> {
         Slots {
             own: self.frame.cells(self.frame.depth() - 1),
             outer: self.frame.cells(0),
-            globals: self.globals,
+            globals: self.globals.as_slice(),
             synched: self.tree.is_synched(self.frame.id()),
         }
     }

@@ -40,7 +40,7 @@ fn wants_held_lock(scene: &Scene, node: &Node) -> bool
     ensures { result ≡ wants_held_lock (sight_of scene.now) node.now.action }
 {
     match &node.action {
-        Action::Locking(LockAction::Lock, lock) => match lock_at(scene.locks, *lock) {
+        Action::Locking(LockAction::Lock, lock) => match lock_at(scene.locks.as_slice(), *lock) {
             Lock::Held(by) => by != scene.frame.id(),
             Lock::Unset | Lock::Free => false,
         },

@@ -1,3 +1,2 @@
 pub mod Runs
 pub mod Printing
-pub use Rattle.cilk_model_labels.proofs.canonical_laws

@@ -1,5 +1,5 @@
 -- What one step of an instance does to the state.
-use Rattle.std.specs.Prelude.{ℕ, ◌+◌, ℤ, Bool, true, false, not, ◌&&◌, ◌||◌, if◌then◌else◌, List, [], ◌∷◌, ◌++◌, map, Option, Some, None}
+use Rattle.std.specs.Prelude.{ℕ, ◌+◌, ℤ, pos, Bool, true, false, not, ◌&&◌, ◌||◌, if◌then◌else◌, List, [], ◌∷◌, ◌++◌, map, Option, Some, None}
 use Rattle.std.specs.Prelude.{slice_index_or, slice_set}
 use Rattle.std.specs.List.{list_any}
 use Rattle.cilk_model_labels.specs.syntax.declared.lock_action.LockAction.{LockAction}
@@ -66,10 +66,10 @@ holds_lock s p = list_any (is_held_by p) s.locks
 abbrev pub stopped : State → Path → ℕ → TrapKind → State
 stopped s p n kind = record s { outcome = trapped kind p n }
 
--- the instance past its head, where a test gave this answer; an action of the procedure's own takes the mark of a spawn away
-abbrev pub gone_on : Bool → Instance → Instance
-gone_on answer i = record i {
-  top = record i.top { items = opened (next answer i.top.items) };
+-- the instance past its head, where a test had this value; an action of the procedure's own takes the mark of a spawn away
+abbrev pub gone_on : ℤ → Instance → Instance
+gone_on value i = record i {
+  top = record i.top { items = opened (next value i.top.items) };
   spawned = i.spawned && not (is_empty i.below);
 }
 
@@ -110,18 +110,19 @@ abbrev pub with_put : State → Path → Instance → Cell → ℤ → State
 with_put s p i cell z =
     record (with_instance s p (put cell z i)) { globals = globals_with cell.place cell.index z s.globals }
 
-abbrev pub after_going : State → Path → Instance → Bool → State
-after_going s p i answer = with_instance s p (gone_on answer i)
+-- an action that is no test goes on as by 1
+abbrev pub after_going : State → Path → Instance → ℤ → State
+after_going s p i value = with_instance s p (gone_on value i)
 
 abbrev pub after_write : State → Path → Instance → Cell → ℤ → State
-after_write s p i cell z = with_put s p (gone_on true i) cell z
+after_write s p i cell z = with_put s p (gone_on (pos 1) i) cell z
 
 -- a C function above the caller, which stands at what follows its call (C 1990, 6.3.2.2)
 abbrev pub above : Activation → Instance → Instance
 above a i = record i { top = a; below = i.top ∷ i.below }
 
 abbrev pub after_call : Labelled → State → Path → Instance → Option Reached → ℕ → List ℤ → State
-after_call program s p i awaits callee zs = with_instance s p (above (entered program callee zs awaits) (gone_on true i))
+after_call program s p i awaits callee zs = with_instance s p (above (entered program callee zs awaits) (gone_on (pos 1) i))
 
 abbrev pub resumed_to : Instance → List Activation → Instance
 resumed_to i [] = i
@@ -140,7 +141,7 @@ after_answer s p i cell z = with_put s p (resumed i) cell z
 -- the child is the youngest of the live instances: one of an aborted instance is aborted from its birth (Cilk 5.4 manual, `spawn`, `abort`)
 abbrev pub after_start : Labelled → State → Path → Instance → Option Receiver → ℕ → List ℤ → State
 after_start program s p i receiver callee zs = record s {
-  instances = changed p (λ _. record (gone_on true i) { spawned = true; children = i.children + 1 }) s.instances
+  instances = changed p (λ _. record (gone_on (pos 1) i) { spawned = true; children = i.children + 1 }) s.instances
       ++ record {
         path = child_path p (i.children + 1);
         instance = record (started program callee zs) { aborted = i.aborted; receiver = receiver };
@@ -148,7 +149,7 @@ after_start program s p i receiver callee zs = record s {
 }
 
 abbrev pub after_print : State → Path → Instance → List ℕ → State
-after_print s p i bytes = record (with_instance s p (gone_on true i)) { output = s.output ++ bytes }
+after_print s p i bytes = record (with_instance s p (gone_on (pos 1) i)) { output = s.output ++ bytes }
 
 -- what a call of a lock makes of it: it is turned, or that is not allowed, or it has to wait (Cilk 5.4 manual, locks)
 pub data Turn : Type 0 where
@@ -171,14 +172,14 @@ abbrev pub turn_of : State → Path → LockAction → ℕ → Turn
 turn_of s p what k = turn_by p what (lock_at s k)
 
 abbrev pub after_lock : State → Path → Instance → ℕ → Lock → State
-after_lock s p i k now = record (with_instance s p (gone_on true i)) { locks = slice_set s.locks k now }
+after_lock s p i k now = record (with_instance s p (gone_on (pos 1) i)) { locks = slice_set s.locks k now }
 
 -- each live descendant of p is marked (Cilk 5.4 manual, `abort`)
 abbrev pub mark : Path → Entry → Entry
 mark p e = if is_below p e.path then record e { instance = record e.instance { aborted = true } } else e
 
 abbrev pub after_marks : State → Path → Instance → State
-after_marks s p i = record s { instances = map (mark p) (changed p (λ _. gone_on true i) s.instances) }
+after_marks s p i = record s { instances = map (mark p) (changed p (λ _. gone_on (pos 1) i) s.instances) }
 
 -- a child's value waits for the parent where something takes it; an aborted child delivers nothing
 abbrev pub deliveries : Path → ℤ → Option Receiver → Bool → List Delivery

@@ -1,8 +1,7 @@
 -- What an action comes to, once its expressions have their values, or the first trap from the left.
-use Rattle.std.specs.Prelude.{ℕ, ℤ, pos, Bool, true, not, List, Option, Some, None, Result, Ok}
+use Rattle.std.specs.Prelude.{ℕ, ℤ, pos, List, Option, Some, None, Result, Ok}
 use Rattle.cilk_model_labels.specs.syntax.declared.lock_action.LockAction.{LockAction}
 use Rattle.cilk_model_labels.specs.declared.trap.Trap.{Trap}
-use Rattle.cilk_model_labels.specs.Arithmetic.{is_zero}
 use Rattle.cilk_model_labels.specs.Term.{Term}
 use Rattle.cilk_model_labels.specs.Value.{Environment, value_of, values_of, ◌>>=◌}
 use Rattle.cilk_model_labels.specs.Labelled.{Declaration, Taker, nothing, into, through, Action, assign, call, spawn, print, locking, null, break_off}
@@ -15,8 +14,8 @@ use Rattle.cilk_model.specs.Printing.{printed}
 pub data Effect : Type 0 where
   -- a cell takes a value
   writes : (cell : Cell) (value : ℤ) → Effect
-  -- what comes next is reached, with this answer of a test
-  answers : (answer : Bool) → Effect
+  -- what comes next is reached, where a test has this value
+  answers : (value : ℤ) → Effect
   -- a C function is to start
   enters : (awaits : Option Reached) (callee : ℕ) (arguments : List ℤ) → Effect
   -- the body is left with a value
@@ -47,12 +46,12 @@ effect_of env n (spawn taker callee es) = start_of env n taker callee es
 -- C 1990, 7.9.6.3
 effect_of env n (print format es) = values_of env es >>= λ zs. Ok (writes_out (printed format zs))
 effect_of env n (locking what lock) = Ok (turns what lock)
-effect_of env n null = Ok (answers true)
-effect_of env n break_off = Ok (answers true)
-effect_of env n go_round = Ok (answers true)
--- C 1990, 6.6.4.1, 6.6.5
-effect_of env n (tests e) = value_of env e >>= λ z. Ok (answers (not (is_zero z)))
-effect_of env n sync = Ok (answers true)
+effect_of env n null = Ok (answers (pos 1))
+effect_of env n break_off = Ok (answers (pos 1))
+effect_of env n go_round = Ok (answers (pos 1))
+-- C 1990, 6.6.4, 6.6.5
+effect_of env n (tests e) = value_of env e >>= λ z. Ok (answers z)
+effect_of env n sync = Ok (answers (pos 1))
 effect_of env n abort = Ok marks
 -- C 1990, 6.6.6.4: where C leaves the value open, it is 0
 effect_of env n (return_with e) = value_of env e >>= λ z. Ok (gives z)

@@ -30,6 +30,5 @@ pub mod Listing
 pub mod Views
 pub mod ViewRows
 pub use Rattle.cilk_model_labels.specs as labelled
-pub use Rattle.cilk_model_labels.specs.canonical
 pub use Rattle.cilk_model_labels.specs.scopes
 pub use Rattle.cilk_model_labels.specs.syntax

@@ -1,7 +1,7 @@
 -- The canonical text with the numbers of its lines and actions.
 use Rattle.std.specs.Prelude.{ℕ, suc, ◌-◌, ◌==◌, if◌then◌else◌, List, [], ◌∷◌, ◌++◌, length, replicate, codes, decimal, Option, Some, None}
 use Rattle.cilk_model_labels.specs.syntax.Tree.{Program}
-use Rattle.cilk_model_labels.specs.canonical.ProgramText.{program_text}
+use Rattle.cilk_model_labels.specs.syntax.ProgramText.{program_text}
 use Rattle.cilk_model_labels.specs.Lines.{action_lines}
 
 -- a byte in front of the first line

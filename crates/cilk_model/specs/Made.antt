@@ -1,7 +1,8 @@
 -- Which paths were ever made, and the procedure of each, as the events tell it.
 use Rattle.std.specs.Prelude.{ℕ, ◌==◌, if◌then◌else◌, List, [], ◌∷◌, flat_map, Option, Some, None, option_and_then}
 use Rattle.std.specs.Option.{option_or}
-use Rattle.cilk_model_labels.specs.Labelled.{Action, spawn, Stmt, action, choose, while, repeat, loop, nested, Stmts, none, also, Body, Labelled}
+use Rattle.cilk_model_labels.specs.Labelled.{Action, spawn, Stmt, action, choose, while, repeat, loop, select, at_label, nested, Stmts, none, also}
+use Rattle.cilk_model_labels.specs.Labelled.{Body, Labelled}
 use Rattle.cilk_model.specs.Path.{Path, same_path}
 use Rattle.cilk_model.specs.Event.{Event, spawned}
 
@@ -17,6 +18,8 @@ abbrev mutual
   callee_in n (while test body) = callee_among n body
   callee_in n (repeat body test) = callee_among n body
   callee_in n (loop first test advance body) = callee_among n body
+  callee_in n (select test body) = callee_among n body
+  callee_in n (at_label value) = None
   callee_in n (nested inside) = callee_among n inside
 
   pub callee_among : ℕ → Stmts → Option ℕ

@@ -62,7 +62,7 @@ step_by_turn s p i n k (turned now) = goes_on (after_lock s p i k now) (event.ac
 abbrev pub step_by_effect : Labelled → State → Path → Instance → ℕ → Result Effect Trap → Step
 step_by_effect program s p i n (Err trap) = traps s p n (of_value trap)
 step_by_effect program s p i n (Ok (writes cell z)) = goes_on (after_write s p i cell z) (event.acted p n)
-step_by_effect program s p i n (Ok (answers answer)) = goes_on (after_going s p i answer) (event.acted p n)
+step_by_effect program s p i n (Ok (answers value)) = goes_on (after_going s p i value) (event.acted p n)
 step_by_effect program s p i n (Ok (enters awaits callee zs)) =
     if_room s p n depth (nat_lt (length i.below) 255) (goes_on (after_call program s p i awaits callee zs) (event.acted p n))
 step_by_effect program s p i n (Ok (gives z)) = step_by_leaving program s p i n z

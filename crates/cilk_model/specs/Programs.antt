@@ -1,5 +1,5 @@
 -- More worked programs: places that take a child's value, control, arrays, arguments, calls, marks that reach grandchildren.
-use Rattle.std.specs.Prelude.{ℕ, false, List, [], ◌∷◌, Option, Some, None, codes}
+use Rattle.std.specs.Prelude.{ℕ, ℤ, pos, negsuc, false, List, [], ◌∷◌, Option, Some, None, codes}
 use Rattle.cilk_model_labels.specs.syntax.declared.operator.BinOp.{BinOp}
 use Rattle.cilk_model_labels.specs.syntax.declared.operator.BinOp.TheVariants.{Add, Subtract, Multiply, Divide, ShiftLeft, Less, Greater, Equal}
 use Rattle.cilk_model_labels.specs.syntax.declared.un_op.UnOp.TheVariants.{Minus}
@@ -126,6 +126,34 @@ turning = program (procedure Int (codes "main") [] (int (codes "i") None ∷ int
     ∷ tree.while (number 1) (inside (tree.loop None (number 1) None (inside (raises (codes "n") ∷ tree.break_at 0 ∷ []))
     ∷ tree.either (binary Greater (name (codes "n")) (number 9)) (inside (tree.break_at 0 ∷ [])) (inside (changes (codes "n") Add (number 5) ∷ [])) ∷ []))
     ∷ returns (name (codes "n")) ∷ []) ∷ [])
+
+-- a label of a `case`, and that of `default`
+abbrev pub case_label : ℤ → Stmt
+case_label z = tree.labelled (record { at = 0; value = Some z })
+
+abbrev pub default_label : Stmt
+default_label = tree.labelled (record { at = 0; value = None })
+
+-- cilk int main(void) { int i; int s = 0; for (i = 0; i < 4; i++)
+-- switch (i) { case 0: s += 1; break; case 2: s += 10; default: s += 100; case -1: ; } return s; }
+abbrev pub switching : Program
+switching = program (procedure Int (codes "main") [] (int (codes "i") None ∷ int (codes "s") (Some (number 0)) ∷ [])
+    (tree.loop (Some (tree.assign (target (codes "i")) (number 0))) (binary Less (name (codes "i")) (number 4))
+    (Some (tree.adjust (record { name = word (codes "i"); index = None }) Increment))
+    (inside (tree.switch (name (codes "i")) (inside (case_label (pos 0) ∷ changes (codes "s") Add (number 1) ∷ tree.break_at 0
+    ∷ case_label (pos 2) ∷ changes (codes "s") Add (number 10) ∷ default_label ∷ changes (codes "s") Add (number 100)
+    ∷ case_label (negsuc 0) ∷ tree.null ∷ [])) ∷ []))
+    ∷ returns (name (codes "s")) ∷ []) ∷ [])
+
+-- cilk int main(void) { int i; while (i < 3) { switch (i) { int j = 1 / 0; case 1: i += 4; continue; default: i++; } i += 0; }
+-- switch (1 / 0) { } return i; }: an initialiser of the block is never reached, and a test may trap
+abbrev pub switching_on : Program
+switching_on = program (procedure Int (codes "main") [] (int (codes "i") None ∷ [])
+    (tree.while (binary Less (name (codes "i")) (number 3))
+    (inside (tree.switch (name (codes "i")) (block (tree.locals_of (int (codes "j") (Some (binary Divide (number 1) (number 0))) ∷ []))
+    (stmts_of (case_label (pos 1) ∷ changes (codes "i") Add (number 4) ∷ tree.continue_at 0 ∷ default_label ∷ raises (codes "i") ∷ [])))
+    ∷ changes (codes "i") Add (number 0) ∷ []))
+    ∷ tree.switch (binary Divide (number 1) (number 0)) (inside []) ∷ returns (name (codes "i")) ∷ []) ∷ [])
 
 -- an array of a body
 abbrev pub row : List ℕ → ℕ → Local

@@ -1,7 +1,6 @@
 -- The written rule: what one step of an instance may do to the state, said of what stands at each path, in each cell and at each lock.
-use Rattle.std.specs.Prelude.{◌≡◌, ◌≢◌, ℕ, ◌+◌, ◌<◌, ◌≤◌, ℤ, pos, Bool, true, false, not, ◌⊎◌, List, [], ◌∷◌, ◌++◌, length, Option, Some, None}
+use Rattle.std.specs.Prelude.{◌≡◌, ◌≢◌, ℕ, ◌+◌, ◌<◌, ◌≤◌, ℤ, pos, Bool, true, false, ◌⊎◌, List, [], ◌∷◌, ◌++◌, length, Option, Some, None}
 use Rattle.std.specs.Prelude.{option_map, Ok, Err, slice_get}
-use Rattle.std.specs.Ordering.{int_eq}
 use Rattle.cilk_model_labels.specs.syntax.declared.lock_action.LockAction.{LockAction}
 use Rattle.cilk_model_labels.specs.syntax.declared.lock_action.LockAction.TheVariants.{Init, Lock, Unlock}
 use Rattle.cilk_model_labels.specs.declared.trap.Trap.{Trap}
@@ -31,15 +30,15 @@ module _ (program : Labelled) (s : State) (p : Path) (i : Instance) (t : State) 
     pub cleared : i.below ≡ [] → flag ≡ false
     pub left : i.below ≢ [] → flag ≡ i.spawned
 
-  -- the instance past its head, whose test, if it is one, gave this answer
-  abbrev pub past : Bool → Bool → Instance
-  past answer flag = record i { top = record i.top { items = opened (next answer i.top.items) }; spawned = flag }
+  -- the instance past its head, which, if it is a test, has this value; any other action goes on as by 1
+  abbrev pub past : ℤ → Bool → Instance
+  past value flag = record i { top = record i.top { items = opened (next value i.top.items) }; spawned = flag }
 
   -- p goes on past its head, and no value is changed
-  pub record GoesOn (answer : Bool) : Type 0 where
+  pub record GoesOn (value : ℤ) : Type 0 where
     pub flag : Bool
     pub flags : Flags flag
-    pub at_p : instance_at t.instances p ≡ Some (past answer flag)
+    pub at_p : instance_at t.instances p ≡ Some (past value flag)
     pub elsewhere : Elsewhere
 
   -- p is j now, but that z stands in the cell, which j's top activation sees
@@ -56,16 +55,16 @@ module _ (program : Labelled) (s : State) (p : Path) (i : Instance) (t : State) 
   pub record PutsOn (cell : Cell) (z : ℤ) : Type 0 where
     pub flag : Bool
     pub flags : Flags flag
-    pub puts : Puts (past true flag) cell z
+    pub puts : Puts (past (pos 1) flag) cell z
 
   -- a C function starts; its caller stands at what follows the call (C 1990, 6.3.2.2)
   pub record Enters (callee : ℕ) (arguments : List ℤ) (awaits : Option Reached) : Type 0 where
     pub room : length i.below < 255
     pub flag : Bool
     pub flags : Flags flag
-    pub at_p : instance_at t.instances p ≡ Some (record (past true flag) {
+    pub at_p : instance_at t.instances p ≡ Some (record (past (pos 1) flag) {
       top = entered program callee arguments awaits;
-      below = record i.top { items = opened (next true i.top.items) } ∷ i.below;
+      below = record i.top { items = opened (next (pos 1) i.top.items) } ∷ i.below;
     })
     pub elsewhere : Elsewhere
     pub still : t ≡ record s { instances = t.instances }
@@ -87,7 +86,7 @@ module _ (program : Labelled) (s : State) (p : Path) (i : Instance) (t : State) 
   pub record Births (callee : ℕ) (arguments : List ℤ) (receiver : Option Receiver) : Type 0 where
     pub few : length s.instances < 65536
     pub few_children : i.children < 4294967295
-    pub at_p : instance_at t.instances p ≡ Some (record (past true true) { children = i.children + 1 })
+    pub at_p : instance_at t.instances p ≡ Some (record (past (pos 1) true) { children = i.children + 1 })
     pub at_child : instance_at t.instances (child_path p (i.children + 1))
         ≡ Some (record (started program callee arguments) { aborted = i.aborted; receiver = receiver })
     pub elsewhere : (q : Path) → q ≢ p → q ≢ child_path p (i.children + 1) → instance_at t.instances q ≡ instance_at s.instances q
@@ -118,7 +117,7 @@ module _ (program : Labelled) (s : State) (p : Path) (i : Instance) (t : State) 
   pub record Marks : Type 0 where
     pub flag : Bool
     pub flags : Flags flag
-    pub at_p : instance_at t.instances p ≡ Some (past true flag)
+    pub at_p : instance_at t.instances p ≡ Some (past (pos 1) flag)
     pub below : (q : Path) → is_below p q ≡ true
         → instance_at t.instances q ≡ option_map {T = Instance} (λ j. record j { aborted = true }) (instance_at s.instances q)
     pub elsewhere : (q : Path) → q ≢ p → is_below p q ≡ false → instance_at t.instances q ≡ instance_at s.instances q
@@ -138,7 +137,7 @@ module _ (program : Labelled) (s : State) (p : Path) (i : Instance) (t : State) 
     pub was : lock_at s k ≡ before
     pub is : slice_get t.locks k ≡ option_map (λ _. after) (slice_get s.locks k)
     pub others : (j : ℕ) → j ≢ k → slice_get t.locks j ≡ slice_get s.locks j
-    pub goes_on : GoesOn true
+    pub goes_on : GoesOn (pos 1)
     pub still : t ≡ record s { locks = t.locks; instances = t.instances }
 
   -- a trap changes the outcome alone
@@ -146,8 +145,8 @@ module _ (program : Labelled) (s : State) (p : Path) (i : Instance) (t : State) 
   Traps n kind = t ≡ record s { outcome = trapped kind p n }
 
   -- nothing but p's own place in its body is changed
-  pub record GoesBy (answer : Bool) : Type 0 where
-    pub goes_on : GoesOn answer
+  pub record GoesBy (value : ℤ) : Type 0 where
+    pub goes_on : GoesOn value
     pub still : t ≡ record s { instances = t.instances }
 
   -- the actions that change nothing else (C 1990, 6.6.3, 6.6.6.2, 6.6.6.3)
@@ -162,9 +161,9 @@ module _ (program : Labelled) (s : State) (p : Path) (i : Instance) (t : State) 
     assigns : (what : Into) (e : Term Declaration) (reached : Reached) (z y : ℤ)
         → reached_at (here program s p i) what ≡ Ok reached → value_of (here program s p i) e ≡ Ok z
         → combined reached.op (read_at (store_of s p i) reached.cell) z ≡ Ok y → PutsOn reached.cell y → Acts n (assign what e)
-    goes_by : (act : Action) → Bare act → GoesBy true → Acts n act
-    -- C 1990, 6.6.4.1, 6.6.5
-    answers_test : (e : Term Declaration) (z : ℤ) → value_of (here program s p i) e ≡ Ok z → GoesBy (not (int_eq z (pos 0))) → Acts n (tests e)
+    goes_by : (act : Action) → Bare act → GoesBy (pos 1) → Acts n act
+    -- C 1990, 6.6.4, 6.6.5
+    answers_test : (e : Term Declaration) (z : ℤ) → value_of (here program s p i) e ≡ Ok z → GoesBy z → Acts n (tests e)
     calls : (what : Option Into) (callee : ℕ) (es : List (Term Declaration)) (reached : Option Reached) (zs : List ℤ)
         → reached_if (here program s p i) what ≡ Ok reached → values_of (here program s p i) es ≡ Ok zs
         → Enters callee zs reached → Acts n (call what callee es)
@@ -178,11 +177,11 @@ module _ (program : Labelled) (s : State) (p : Path) (i : Instance) (t : State) 
         → HoldsNone s p → reached_if (here program s p i) (taker_place taker) ≡ Ok reached
         → values_of (here program s p i) es ≡ Ok zs → values_of (here program s p i) (others_of taker) ≡ Ok ys
         → Receives n taker reached ys receiver → Births callee zs receiver → Acts n (spawn taker callee es)
-    passes : MayPass program s p i → GoesBy true → Acts n sync
+    passes : MayPass program s p i → GoesBy (pos 1) → Acts n sync
     marks : Marks → Acts n abort
     locks : (what : LockAction) (k : ℕ) → Locks what k → Acts n (locking what k)
     prints : (format : List ℕ) (es : List (Term Declaration)) (zs : List ℤ) → values_of (here program s p i) es ≡ Ok zs
-        → length s.output + length (printed format zs) ≤ 1048576 → GoesOn true
+        → length s.output + length (printed format zs) ≤ 1048576 → GoesOn (pos 1)
         → t ≡ record s { output = s.output ++ printed format zs; instances = t.instances } → Acts n (print format es)
     traps : (act : Action) (kind : TrapKind) → Fails program s p i act kind → Traps n kind → Acts n act
 

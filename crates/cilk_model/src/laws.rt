@@ -10,6 +10,7 @@ ghost use Rattle.cilk_model.specs.Fate as fate;
 ghost use Rattle.cilk_model.specs.Trees.{counting, first_of_two, adding, holding, asking, asking_late, crossing, summing};
 ghost use Rattle.cilk_model.specs.Programs.{doubling, passing, descending, filling, overrunning, reading_late, rounding, marking, printing};
 ghost use Rattle.cilk_model.specs.Programs.{locks_twice, locks_unset, taking_away, from_the_left, others_last, turning, hiding, putting};
+ghost use Rattle.cilk_model.specs.Programs.{switching, switching_on};
 ghost use Rattle.cilk_model.specs.Rows.{s, p, t, steps, outcome_of, closing_of, refusal_then, fate_after, front, stops, both, woken, marks};
 
 /// Small programs in one thread, and two children that count at once.
@@ -86,6 +87,12 @@ pub fn rows_of_control_come_out()
     ensures turns_on { closing_of turning 1 (steps 28 1) ≡ Some (codes "limit after 28 choices\n") }
     ensures hides { closing_of hiding 1 (steps 6 1) ≡ Some (codes "main returned 750\n") }
     ensures prints { closing_of printing 1 (steps 2 1) ≡ Some (codes "-2147483648%\t0\nmain returned 0\n") }
+{}
+
+/// `switch`es in loops: fall-through, `default`, `break`, `continue`, an initialiser that is never reached, and a test that traps.
+pub fn rows_of_switches_come_out()
+    ensures labels { closing_of switching 1 (steps 25 1) ≡ Some (codes "main returned 311\n") }
+    ensures jumps { closing_of switching_on 1 (steps 10 1) ≡ Some (codes "trapped ZeroDivide in / at 8, line 14\n") }
 {}
 
 /// An `abort` marks grandchildren too; what is marked ends after its children.

@@ -1,2 +1,1 @@
-pub use Rattle.cilk_tree.proofs as canonical_laws
-pub use Rattle.cilk_tree.proofs.syntax_laws
+pub use Rattle.cilk_check_scopes.proofs.syntax_laws

@@ -1,7 +1,7 @@
 -- How many actions a program has.
 use Rattle.std.specs.Prelude.{ℕ, ◌+◌, List, [], ◌∷◌, Option, Some, None}
-use Rattle.cilk_check_scopes.specs.syntax.Tree.{Shape, variable, array, Stmt, when, either, while, repeat, loop, nested, Stmts, none, also}
-use Rattle.cilk_check_scopes.specs.syntax.Tree.{Local, declared, inlet_at, Locals, no_locals, and_local, Block, block, Item, global, lock, prototype}
+use Rattle.cilk_check_scopes.specs.syntax.Tree.{Shape, variable, array, Stmt, when, either, while, repeat, loop, switch, labelled, nested, Stmts, none}
+use Rattle.cilk_check_scopes.specs.syntax.Tree.{also, Local, declared, inlet_at, Locals, no_locals, and_local, Block, block, Item, global, lock, prototype}
 use Rattle.cilk_check_scopes.specs.syntax.Tree.{procedure, Program}
 
 -- 1 of what is there
@@ -15,13 +15,16 @@ count_shape (variable value) = count_option value
 count_shape (array length) = 0
 
 abbrev mutual
-  -- every statement is an action but a block; of an `if` or a loop its test is, and of a `for` its first part and its advance too
+  -- every statement is an action but a block and a label; of an `if`, a `switch` or a loop its test is, and of a `for` its first part and
+  -- its advance too
   pub count_stmt : Stmt → ℕ
   count_stmt (when test body) = 1 + count_block body
   count_stmt (either test body other) = 1 + (count_block body + count_block other)
   count_stmt (while test body) = 1 + count_block body
   count_stmt (repeat body test) = count_block body + 1
   count_stmt (loop first test advance body) = count_option first + (1 + (count_option advance + count_block body))
+  count_stmt (switch test body) = 1 + count_block body
+  count_stmt (labelled label) = 0
   count_stmt (nested inside) = count_block inside
   count_stmt other = 1
 

@@ -5,7 +5,7 @@ use Rattle.cilk_check_scopes.specs.syntax.Adjustments.{operator_of}
 use Rattle.cilk_model_labels.specs.Term as term
 use Rattle.cilk_model_labels.specs.Labelled.{Variable, Taker, nothing, into, through, Action, assign, call, spawn, print, locking, null, break_off}
 use Rattle.cilk_model_labels.specs.Labelled.{go_round, tests, sync, abort, return_with, return_nothing}
-use Rattle.cilk_model_labels.specs.Labelled.{Numbered, Stmt, action, choose, while, repeat, loop, nested, Stmts, none, also}
+use Rattle.cilk_model_labels.specs.Labelled.{Numbered, Stmt, action, choose, while, repeat, loop, select, at_label, nested, Stmts, none, also}
 use Rattle.cilk_model_labels.specs.Names.{Names, with_local, local_count, entered, meaning_of, number_of, label_expr, label_place, label_target}
 use Rattle.cilk_model_labels.specs.Count.{count_option, count_stmt, count_local, count_locals, count_block}
 
@@ -29,6 +29,7 @@ abbrev mutual
   stmt_variables (tree.while test body) = block_variables body
   stmt_variables (tree.repeat body test) = block_variables body
   stmt_variables (tree.loop first test advance body) = block_variables body
+  stmt_variables (tree.switch test body) = block_variables body
   stmt_variables (tree.nested inside) = block_variables inside
   stmt_variables other = []
 
@@ -115,6 +116,8 @@ abbrev mutual
       loop (label_part names at first) (label_test names (at + count_option first) value)
       (label_part names (at + (count_option first + 1)) advance)
       (label_block (entered names) (at + (count_option first + (1 + count_option advance))) n body)
+  label_stmt names at n (tree.switch value body) = select (label_test names at value) (label_block (entered names) (at + 1) n body)
+  label_stmt names at n (tree.labelled label) = at_label label.value
   label_stmt names at n (tree.nested inside) = nested (label_block (entered names) at n inside)
 
   pub label_stmts : Names → ℕ → ℕ → tree.Stmts → Stmts

@@ -55,7 +55,7 @@ pub data Action : Type 0 where
   -- C 1990, 6.6.6.3, 6.6.6.2
   break_off : Action
   go_round : Action
-  -- of `if`, `while`, `do` and `for` (C 1990, 6.6.4.1, 6.6.5)
+  -- of `if`, `switch`, `while`, `do` and `for` (C 1990, 6.6.4, 6.6.5)
   tests : (value : Term Declaration) → Action
   -- Cilk 5.4 manual, `sync`, `abort`
   sync : Action
@@ -80,6 +80,10 @@ mutual
     while : (test : Numbered) (body : Stmts) → Stmt
     repeat : (body : Stmts) (test : Numbered) → Stmt
     loop : (first : Option Numbered) (test : Numbered) (advance : Option Numbered) (body : Stmts) → Stmt
+    -- a `switch`, in whose body labels stand (C 1990, 6.6.4.2)
+    select : (test : Numbered) (body : Stmts) → Stmt
+    -- a label of what follows it: the value of a `case`, or none for `default` (C 1990, 6.6.1)
+    at_label : (value : Option ℤ) → Stmt
     nested : (inside : Stmts) → Stmt
 
   -- statements in order

@@ -11,4 +11,3 @@ pub mod Bodies
 pub mod Rows
 pub use Rattle.cilk_check_scopes.specs as scopes
 pub use Rattle.cilk_check_scopes.specs.syntax
-pub use Rattle.cilk_tree.specs as canonical

@@ -1,10 +1,10 @@
 -- On which line of the canonical text each action stands, the first line being line 1.
 use Rattle.std.specs.Prelude.{ℕ, ◌+◌, List, [], ◌∷◌, ◌++◌, length, Option, Some, None}
-use Rattle.cilk_check_scopes.specs.syntax.Tree.{Shape, variable, array, Stmt, when, either, while, repeat, loop, nested, Stmts, none, also}
-use Rattle.cilk_check_scopes.specs.syntax.Tree.{Local, declared, inlet_at, Locals, no_locals, and_local, Block, block, Item, global, lock, prototype}
+use Rattle.cilk_check_scopes.specs.syntax.Tree.{Shape, variable, array, Stmt, when, either, while, repeat, loop, switch, labelled, nested, Stmts, none}
+use Rattle.cilk_check_scopes.specs.syntax.Tree.{also, Local, declared, inlet_at, Locals, no_locals, and_local, Block, block, Item, global, lock, prototype}
 use Rattle.cilk_check_scopes.specs.syntax.Tree.{procedure, Program}
-use Rattle.cilk_tree.specs.StmtLines.{stmt_lines, local_lines, locals_lines, block_lines}
-use Rattle.cilk_tree.specs.ProgramText.{item_lines}
+use Rattle.cilk_check_scopes.specs.syntax.StmtLines.{stmt_lines, local_lines, locals_lines, block_lines}
+use Rattle.cilk_check_scopes.specs.syntax.ProgramText.{item_lines}
 
 -- the line, of what is there
 abbrev pub option_lines : {A : Type 0} → ℕ → Option A → List ℕ
@@ -29,6 +29,8 @@ abbrev mutual
   -- the first part, the test and the advance stand on one line
   stmt_action_lines at (loop first test advance body) =
       option_lines at first ++ (at ∷ (option_lines at advance ++ block_action_lines (at + 1) body))
+  stmt_action_lines at (switch test body) = at ∷ block_action_lines (at + 1) body
+  stmt_action_lines at (labelled label) = []
   stmt_action_lines at (nested inside) = block_action_lines (at + 1) inside
   stmt_action_lines at other = at ∷ []
 

@@ -5,8 +5,8 @@
 mod laws;
 mod trap;
 
-pub use cilk_tree::{
-    BinOp, Global, GlobalShape, Item, ItemNode, Memory, Program, UnOp, Word, canonical,
+pub use cilk_check_scopes::{
+    BinOp, Global, GlobalShape, Item, ItemNode, Memory, Program, UnOp, Word,
 };
-pub use laws::rows_are_labelled;
+pub use laws::{rows_are_labelled, switches_are_labelled, switches_go_on};
 pub use trap::Trap;

@@ -6,33 +6,14 @@ ghost use Rattle.cilk_parse_grammar.specs.syntax.Tree as tree;
 ghost use Rattle.cilk_parse_grammar.specs.syntax.ProgramView.{global_shape_of};
 ghost use Rattle.cilk_parse_rules.specs.ReadsAs.{ReadsAs, onto};
 ghost use Rattle.cilk_parse_grammar.specs.Forms.{mark, behind_commas};
-ghost use Rattle.cilk_parse_grammar.specs.Grammar.{integer, global_shape, global};
+ghost use Rattle.cilk_parse_grammar.specs.Grammar.{global_shape, global};
 ghost use Rattle.cilk_parse_grammar.specs.Spelling.{nesting_limit};
 ghost use Rattle.cilk_parse_statements.specs.Limits.{read_in};
 
 use cilk_parse_grammar::{Cursor, Global, GlobalShape, Item, ItemNode, Mark};
 use cilk_parse_rules::ReadError;
-use cilk_parse_statements::{array_length, name, number};
+use cilk_parse_statements::{array_length, integer, name};
 use std::alloc;
-
-// A number, and the sign before it, if there is one (C 1990, 6.4). No token is a number that is no `int`.
-#[tactic(auto, unfolding(cilk_parse_grammar::specs::Spelling::read_at))]
-fn integer(cursor: &mut Cursor) -> Result<i32, ReadError>
-    ensures { ReadsAs (λ z. (z, cursor.new.pieces)) result (read_in nesting_limit integer cursor.old.pieces) }
-{
-    let negative = cursor.is_mark(Mark::Minus);
-    if negative {
-        cursor.mark(Mark::Minus)?;
-    }
-    let value = number(cursor)?;
-    if value > i32::MAX as u32 {
-        return Err(ReadError::Memory);
-    }
-    if negative {
-        return Ok(-(value as i32));
-    }
-    Ok(value as i32)
-}
 
 /// Behind the name of a variable or array of the top level (C 1990, 6.5.4.2, 6.5.7, 6.7.2).
 #[tactic(auto, unfolding(cilk_parse_grammar::specs::Spelling::read_at))]

@@ -26,7 +26,8 @@ use Rattle.cilk_parse_grammar.proofs.Tables.{found_class}
 unfoldable pub all_words : List Keyword
 all_words =
     words.Int ∷ words.Void ∷ words.If ∷ words.Else ∷ words.While ∷ words.Do ∷ words.For ∷ words.Break ∷ words.Continue ∷ words.Return
-    ∷ words.Cilk ∷ words.Spawn ∷ words.Sync ∷ words.Inlet ∷ words.Abort ∷ words.Synched ∷ words.CilkLockvar ∷ []
+    ∷ words.Cilk ∷ words.Spawn ∷ words.Sync ∷ words.Inlet ∷ words.Abort ∷ words.Synched ∷ words.CilkLockvar ∷ words.Switch
+    ∷ words.Case ∷ words.Default ∷ []
 
 unfoldable pub all_marks : List Mark
 all_marks =
@@ -41,9 +42,9 @@ all_marks =
 -- the kind of the tokens of a class
 unfoldable pub back : ℕ → TokenKind
 back c =
-    if nat_lt c 17 then kind.Word (get_or all_words c words.Int) else (
-    if nat_lt c 60 then kind.Mark (get_or all_marks (c - 17) marks.Comma) else (
-    if nat_lt c 67 then kind.Name else (if c == 67 then kind.Number 0 else (if c == 68 then kind.Text else kind.Include headers.Cilk))))
+    if nat_lt c 20 then kind.Word (get_or all_words c words.Int) else (
+    if nat_lt c 63 then kind.Mark (get_or all_marks (c - 20) marks.Comma) else (
+    if nat_lt c 70 then kind.Name else (if c == 70 then kind.Number 0 else (if c == 71 then kind.Text else kind.Include headers.Cilk))))
 
 -- a kind, without what the classes do not tell
 unfoldable pub plain : TokenKind → TokenKind
@@ -70,6 +71,9 @@ word_again words.Inlet = refl
 word_again words.Abort = refl
 word_again words.Synched = refl
 word_again words.CilkLockvar = refl
+word_again words.Switch = refl
+word_again words.Case = refl
+word_again words.Default = refl
 
 mark_again : (m : Mark) → back (a_mark m) ≡ kind.Mark m
 unfolding back all_marks

@@ -1,5 +1,5 @@
 -- What the rules of items make of parts that are the same but for places is the same but for places.
-use Rattle.std.proofs.Common.{◌≡◌, ℕ, suc, List, [], ◌∷◌, map, length, Bool, false, Option, Some, None, pos, neg_ℤ, refl, sym, ap, ◌∙◌}
+use Rattle.std.proofs.Common.{◌≡◌, ℕ, suc, List, [], ◌∷◌, map, length, Bool, false, Option, Some, None, refl, sym, ap, ◌∙◌}
 use Rattle.std.proofs.lemmas.List.{length-map}
 use Rattle.cilk_tree_syntax.specs.lexeme.declared.header.Header.{Header}
 use Rattle.cilk_tree_syntax.specs.declared.return_type.ReturnType.{ReturnType}
@@ -14,7 +14,7 @@ use Rattle.cilk_parse_grammar.specs.Grammar.{Tail, declares, defines, function, 
 use Rattle.cilk_tree_syntax.specs.Bare.{bare_word, bare_block, bare_parameters, bare_global, bare_item}
 use Rattle.cilk_parse_grammar.proofs.Kept.{Kept, k_done, k_skip, k_then, k_either, k_by, k_use, k_many, k_name, k_number, k_header, k_before}
 use Rattle.cilk_parse_grammar.proofs.Kept.{k_between, k_behind_commas, k_commas}
-use Rattle.cilk_parse_grammar.proofs.KeepsStmts.{OfName, same_joined, block_kept}
+use Rattle.cilk_parse_grammar.proofs.KeepsStmts.{OfName, same_joined, block_kept, integer_kept}
 
 -- ---- what stands behind the name of a function
 
@@ -140,9 +140,6 @@ cilk_item_kept =
 
 void_item_kept : Kept grammar.void_item SameItems
 void_item_kept = k_skip (headed_kept _ _ _ _ tail_kept)
-
-integer_kept : Kept grammar.integer (λ x y. x ≡ y)
-integer_kept = k_either (k_skip (k_then k_number (λ m n h. k_done (λ i. neg_ℤ (pos (h i)))))) (k_then k_number (λ m n h. k_done (λ i. pos (h i))))
 
 global_shape_kept : Kept grammar.global_shape (λ x y. x ≡ y)
 global_shape_kept =

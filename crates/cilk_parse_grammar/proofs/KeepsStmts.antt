@@ -1,5 +1,5 @@
 -- What the rules of statements make of parts that are the same but for places is the same but for places.
-use Rattle.std.proofs.Common.{◌≡◌, ℕ, List, [], ◌∷◌, ◌++◌, map, Some, None, refl, sym, ap, ◌∙◌}
+use Rattle.std.proofs.Common.{◌≡◌, ℕ, List, [], ◌∷◌, ◌++◌, map, Some, None, pos, neg_ℤ, refl, sym, ap, ◌∙◌}
 use Rattle.std.proofs.lemmas.List.{map-append}
 use Rattle.cilk_tree_syntax.specs.lexeme.declared.keyword.Keyword.{Keyword}
 use Rattle.cilk_tree_syntax.specs.declared.lock_action.LockAction.{LockAction}
@@ -121,12 +121,16 @@ locals_kept = k_many {f = map bare_local} local_kept
 statements_kept : Kept grammar.statements (λ xs ys. map bare_stmt xs ≡ map bare_stmt ys)
 statements_kept = k_many {f = bare_stmt} k_statement
 
-pub block_kept : Kept grammar.block (λ b c. bare_block b ≡ bare_block c)
-block_kept = k_between (k_then locals_kept (λ xs ys h. k_then statements_kept (λ ss ts g. k_done (
+same_block : (xs ys : List (List tree.Local)) (ss ts : List tree.Stmt) → map (map bare_local) xs ≡ map (map bare_local) ys → map bare_stmt ss ≡ map bare_stmt ts
+    → bare_block (tree.block (locals_of (joined xs)) (stmts_of ss)) ≡ bare_block (tree.block (locals_of (joined ys)) (stmts_of ts))
+same_block xs ys ss ts h g =
     let same : bare_locals (locals_of (joined xs)) ≡ bare_locals (locals_of (joined ys)) = bare_locals_of (joined xs)
     ∙ ap locals_of (same_joined bare_local xs ys h) ∙ sym (bare_locals_of (joined ys)) in
     let same' : bare_stmts (stmts_of ss) ≡ bare_stmts (stmts_of ts) = bare_stmts_of ss ∙ ap stmts_of g ∙ sym (bare_stmts_of ts) in
-    λ i. tree.block (same i) (same' i)))))
+    λ i. tree.block (same i) (same' i)
+
+pub block_kept : Kept grammar.block (λ b c. bare_block b ≡ bare_block c)
+block_kept = k_between (k_then locals_kept (λ xs ys h. k_then statements_kept (λ ss ts g. k_done (same_block xs ys ss ts h g))))
 
 body_kept : Kept grammar.body (λ b c. bare_block b ≡ bare_block c)
 body_kept = k_either block_kept (k_then k_unbraced (λ s t h. k_done (λ i. tree.block tree.no_locals (tree.also (h i) tree.none))))
@@ -160,12 +164,38 @@ for_loop_kept =
     k_skip (k_skip (k_then (k_before option_move_kept) (λ m n h. k_then (k_before loop_test_kept) (λ e f g. k_then (k_before option_move_kept) (λ a b r.
     k_then body_kept (λ c d q. k_done (λ i. tree.loop (h i) (g i) (r i) (q i))))))))
 
+-- ---- `switch`
+
+pub integer_kept : Kept grammar.integer (λ x y. x ≡ y)
+integer_kept = k_either (k_skip (k_then k_number (λ m n h. k_done (λ i. neg_ℤ (pos (h i)))))) (k_then k_number (λ m n h. k_done (λ i. pos (h i))))
+
+label_kept : Kept grammar.label SameStmt
+label_kept =
+    k_before
+    (k_either (k_then k_word (λ a b u. k_then integer_kept (λ y z h. k_done (λ i. grammar.label_at 0 (Some (h i))))))
+    (k_then k_word (λ a b u. k_done refl)))
+
+labelled_kept : Kept grammar.labelled (λ xs ys. map bare_stmt xs ≡ map bare_stmt ys)
+labelled_kept =
+    k_then (k_many {f = bare_stmt} label_kept)
+    (λ xs ys h. k_then k_statement
+    (λ s t g. k_done (map-append bare_stmt xs (s ∷ []) ∙ (λ i. h i ++ g i ∷ []) ∙ sym (map-append bare_stmt ys (t ∷ [])))))
+
+cases_kept : Kept grammar.cases (λ b c. bare_block b ≡ bare_block c)
+cases_kept =
+    k_between
+    (k_then (k_many {f = map bare_local} declaration_kept) (λ xs ys h. k_then (k_many {f = map bare_stmt} labelled_kept)
+    (λ ss ts g. k_done (same_block xs ys (joined ss) (joined ts) h (same_joined bare_stmt ss ts g)))))
+
+switching_kept : Kept grammar.switching SameStmt
+switching_kept = k_skip (k_then test_kept (λ e f h. k_then cases_kept (λ b c g. k_done (λ i. tree.switch (h i) (g i)))))
+
 pub no_block_kept : Kept grammar.no_block_rule SameStmt
 no_block_kept =
     k_either named_kept (k_either adjusting_kept (k_either printing_kept (k_either locking_kept (k_either spawning_kept (k_either (k_skip (k_done refl))
     (k_either (alone_kept _ _ (λ a b. refl)) (k_either (alone_kept _ _ (λ a b. refl))
     (k_either (alone_kept _ _ (λ a b. refl)) (k_either (alone_kept _ _ (λ a b. refl))
-    (k_either returning_kept (k_either conditional_kept (k_either looping_kept (k_either repeating_kept for_loop_kept)))))))))))))
+    (k_either returning_kept (k_either conditional_kept (k_either looping_kept (k_either repeating_kept (k_either for_loop_kept switching_kept))))))))))))))
 
 pub statement_kept : Kept grammar.statement_rule SameStmt
 statement_kept = k_either (k_then block_kept (λ b c h. k_done (λ i. tree.nested (h i)))) no_block_kept

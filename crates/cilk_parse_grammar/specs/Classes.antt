@@ -27,74 +27,77 @@ a_word words.Inlet = 13
 a_word words.Abort = 14
 a_word words.Synched = 15
 a_word words.CilkLockvar = 16
+a_word words.Switch = 17
+a_word words.Case = 18
+a_word words.Default = 19
 
 -- a mark
 abbrev pub a_mark : Mark → ℕ
-a_mark marks.OpenParenthesis = 17
-a_mark marks.CloseParenthesis = 18
-a_mark marks.OpenBrace = 19
-a_mark marks.CloseBrace = 20
-a_mark marks.Semicolon = 21
-a_mark marks.Comma = 22
-a_mark marks.Assign = 23
-a_mark marks.Plus = 24
-a_mark marks.Minus = 25
-a_mark marks.Star = 26
-a_mark marks.OpenBracket = 27
-a_mark marks.CloseBracket = 28
-a_mark marks.Question = 29
-a_mark marks.Colon = 30
-a_mark marks.Slash = 31
-a_mark marks.Percent = 32
-a_mark marks.Ampersand = 33
-a_mark marks.Bar = 34
-a_mark marks.Caret = 35
-a_mark marks.Tilde = 36
-a_mark marks.Exclamation = 37
-a_mark marks.Less = 38
-a_mark marks.Greater = 39
-a_mark marks.ShiftLeft = 40
-a_mark marks.ShiftRight = 41
-a_mark marks.LessOrEqual = 42
-a_mark marks.GreaterOrEqual = 43
-a_mark marks.Equal = 44
-a_mark marks.NotEqual = 45
-a_mark marks.And = 46
-a_mark marks.Or = 47
-a_mark marks.Increment = 48
-a_mark marks.Decrement = 49
-a_mark marks.AddAssign = 50
-a_mark marks.SubtractAssign = 51
-a_mark marks.MultiplyAssign = 52
-a_mark marks.DivideAssign = 53
-a_mark marks.RemainderAssign = 54
-a_mark marks.ShiftLeftAssign = 55
-a_mark marks.ShiftRightAssign = 56
-a_mark marks.BitAndAssign = 57
-a_mark marks.BitXorAssign = 58
-a_mark marks.BitOrAssign = 59
+a_mark marks.OpenParenthesis = 20
+a_mark marks.CloseParenthesis = 21
+a_mark marks.OpenBrace = 22
+a_mark marks.CloseBrace = 23
+a_mark marks.Semicolon = 24
+a_mark marks.Comma = 25
+a_mark marks.Assign = 26
+a_mark marks.Plus = 27
+a_mark marks.Minus = 28
+a_mark marks.Star = 29
+a_mark marks.OpenBracket = 30
+a_mark marks.CloseBracket = 31
+a_mark marks.Question = 32
+a_mark marks.Colon = 33
+a_mark marks.Slash = 34
+a_mark marks.Percent = 35
+a_mark marks.Ampersand = 36
+a_mark marks.Bar = 37
+a_mark marks.Caret = 38
+a_mark marks.Tilde = 39
+a_mark marks.Exclamation = 40
+a_mark marks.Less = 41
+a_mark marks.Greater = 42
+a_mark marks.ShiftLeft = 43
+a_mark marks.ShiftRight = 44
+a_mark marks.LessOrEqual = 45
+a_mark marks.GreaterOrEqual = 46
+a_mark marks.Equal = 47
+a_mark marks.NotEqual = 48
+a_mark marks.And = 49
+a_mark marks.Or = 50
+a_mark marks.Increment = 51
+a_mark marks.Decrement = 52
+a_mark marks.AddAssign = 53
+a_mark marks.SubtractAssign = 54
+a_mark marks.MultiplyAssign = 55
+a_mark marks.DivideAssign = 56
+a_mark marks.RemainderAssign = 57
+a_mark marks.ShiftLeftAssign = 58
+a_mark marks.ShiftRightAssign = 59
+a_mark marks.BitAndAssign = 60
+a_mark marks.BitXorAssign = 61
+a_mark marks.BitOrAssign = 62
 
 -- the names that a rule tells from others, and one for all others
 abbrev pub the_main : ℕ
-the_main = 60
+the_main = 63
 
 abbrev pub the_char : ℕ
-the_char = 61
+the_char = 64
 
 abbrev pub the_printf : ℕ
-the_printf = 62
+the_printf = 65
 
 abbrev pub the_lock_init : ℕ
-the_lock_init = 63
+the_lock_init = 66
 
 abbrev pub the_lock : ℕ
-the_lock = 64
+the_lock = 67
 
 abbrev pub the_unlock : ℕ
-the_unlock = 65
+the_unlock = 68
 
 abbrev pub other_name : ℕ
-other_name = 66
+other_name = 69
 
 -- a name, by its text
 abbrev pub name_class : List ℕ → ℕ
@@ -106,13 +109,13 @@ name_class text =
     if bytes_eq text (codes "Cilk_lock") then the_lock else (if bytes_eq text (codes "Cilk_unlock") then the_unlock else other_name)))))
 
 abbrev pub a_number : ℕ
-a_number = 67
+a_number = 70
 
 abbrev pub a_literal : ℕ
-a_literal = 68
+a_literal = 71
 
 abbrev pub an_inclusion : ℕ
-an_inclusion = 69
+an_inclusion = 72
 
 abbrev pub class_of : Lexeme → ℕ
 class_of (word k) = a_word k

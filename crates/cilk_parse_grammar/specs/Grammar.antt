@@ -1,7 +1,7 @@
 -- The grammar of the language as a table of rules. In the comments {x} is any number of x, [x] is x or nothing, and marks
 -- and words stand in quotes. Numbers in parentheses are clauses of C 1990, and words there are entries of the Cilk 5.4
 -- manual. A rule that is factored says first what it stands behind.
-use Rattle.std.specs.Prelude.{ℕ, suc, List, [], ◌∷◌, length, map, Bool, true, false, Option, Some, None, ℤ, pos, neg_ℤ}
+use Rattle.std.specs.Prelude.{ℕ, suc, List, [], ◌∷◌, ◌++◌, length, map, Bool, true, false, Option, Some, None, ℤ, pos, neg_ℤ}
 use Rattle.cilk_tree_syntax.specs.lexeme.declared.header.Header.{Header}
 use Rattle.cilk_tree_syntax.specs.lexeme.declared.keyword.Keyword.{Keyword}
 use Rattle.cilk_tree_syntax.specs.lexeme.declared.keyword.Keyword.TheVariants as key
@@ -194,6 +194,40 @@ for_loop =
     (and_then (ended loop_test) (and_then (before sign.CloseParenthesis (optional move))
     (and_then body (done (λ b advance e first. tree.loop first e advance b)))))))
 
+-- ["-"] Number (6.4)
+abbrev pub integer : Rule Means ℤ
+integer = either (mark sign.Minus (and_then number (done (λ n. neg_ℤ (pos n))))) (and_then number (done (λ n. pos n)))
+
+abbrev pub label_at : ℕ → Option ℤ → tree.Stmt
+label_at at value = tree.labelled (record { at = at; value = value })
+
+-- Label = "case" ["-"] Number ":" | "default" ":" (6.6.1)
+abbrev pub label : Rule Means tree.Stmt
+label = before sign.Colon (
+    either (and_then (keyword_place key.Case) (and_then integer (done (λ z at. label_at at (Some z)))))
+    (and_then (keyword_place key.Default) (done (λ at. label_at at None))))
+
+abbrev pub labels : Rule Means (List tree.Stmt)
+labels = many label
+
+-- {Label} Stmt (6.6.1)
+abbrev pub labelled : Rule Means (List tree.Stmt)
+labelled = and_then labels (and_then statement (done (λ s ls. ls ++ s ∷ [])))
+
+abbrev pub declarations : Rule Means (List (List tree.Local))
+declarations = many declaration
+
+abbrev pub all_labelled : Rule Means (List (List tree.Stmt))
+all_labelled = many labelled
+
+-- "{" {Decl} {{Label} Stmt} "}" (6.6.4.2)
+abbrev pub cases : Rule Means tree.Block
+cases = in_braces (and_then declarations (and_then all_labelled (done (λ sss ls. tree.block (locals_of (joined ls)) (stmts_of (joined sss))))))
+
+-- "switch" "(" Expr ")" and that block (6.6.4.2)
+abbrev pub switching : Rule Means tree.Stmt
+switching = word key.Switch (and_then test (and_then cases (done (λ b e. tree.switch e b))))
+
 -- Stmt, but for Block (6.6): besides those above ";" (6.6.3), "sync" ";" (`sync`), "abort" ";" (`abort`), "break" ";" (6.6.6.3),
 -- "continue" ";" (6.6.6.2)
 abbrev pub no_block_rule : Rule Means tree.Stmt
@@ -204,7 +238,7 @@ no_block_rule =
     either (alone key.Abort (λ at. tree.abort_at at)) (
     either (alone key.Break (λ at. tree.break_at at)) (
     either (alone key.Continue (λ at. tree.continue_at at)) (
-    either returning (either conditional (either looping (either repeating for_loop)))))))))))))
+    either returning (either conditional (either looping (either repeating (either for_loop switching))))))))))))))
 
 -- Stmt (6.6)
 abbrev pub statement_rule : Rule Means tree.Stmt
@@ -331,10 +365,6 @@ cilk_item = word key.Cilk (
 -- "void" Name and what stands behind it (6.7.1)
 abbrev pub void_item : Rule Means (List tree.Item)
 void_item = word key.Void (headed false returns.Void names tail)
-
--- ["-"] Number (6.4)
-abbrev pub integer : Rule Means ℤ
-integer = either (mark sign.Minus (and_then number (done (λ n. neg_ℤ (pos n))))) (and_then number (done (λ n. pos n)))
 
 -- behind the name of a GName = Name ["=" ["-"] Number] | Name "[" Number "]" (6.5.4.2, 6.5.7, 6.7.2)
 abbrev pub global_shape : Rule Means tree.GlobalShape

@@ -31,7 +31,7 @@ abbrev pub begins_no_block : List ℕ
 begins_no_block =
     the_main ∷ the_char ∷ other_name ∷ a_mark sign.Increment ∷ a_mark sign.Decrement ∷ the_printf ∷ the_lock_init ∷ the_lock ∷ the_unlock
     ∷ a_word key.Spawn ∷ a_mark sign.Semicolon ∷ a_word key.Sync ∷ a_word key.Abort ∷ a_word key.Break ∷ a_word key.Continue
-    ∷ a_word key.Return ∷ a_word key.If ∷ a_word key.While ∷ a_word key.Do ∷ a_word key.For ∷ []
+    ∷ a_word key.Return ∷ a_word key.If ∷ a_word key.While ∷ a_word key.Do ∷ a_word key.For ∷ a_word key.Switch ∷ []
 
 abbrev pub begins : Nest → List ℕ
 begins a_statement = a_mark sign.OpenBrace ∷ begins_no_block

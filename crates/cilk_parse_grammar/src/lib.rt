@@ -21,8 +21,9 @@ mod reading;
 
 pub use cilk_tree_syntax::{
     Adjustment, BinOp, Block, Decl, Expr, ExprNode, Global, GlobalShape, Header, Inlet, Item,
-    ItemNode, Keyword, Literal, Local, LocalNode, LockAction, Mark, Move, MoveNode, Parameters,
-    Place, Proc, Program, Prototype, ReturnType, Shape, Stmt, StmtNode, Taker, Target, Word,
+    ItemNode, Keyword, Label, Literal, Local, LocalNode, LockAction, Mark, Move, MoveNode,
+    Parameters, Place, Proc, Program, Prototype, ReturnType, Shape, Stmt, StmtNode, Taker, Target,
+    Word,
 };
 pub use cursor::Cursor;
 pub use name_class::NameClass;

@@ -5,10 +5,10 @@ use Rattle.cilk_parse_grammar.specs.syntax.Tree as tree
 use Rattle.cilk_parse_rules.specs.Rule.{Rule, done, either}
 use Rattle.cilk_parse_grammar.specs.Parts.{Means}
 use Rattle.cilk_parse_grammar.specs.Forms.{mark}
-use Rattle.cilk_parse_grammar.specs.Grammar.{alone, returning, conditional, looping, repeating, for_loop}
+use Rattle.cilk_parse_grammar.specs.Grammar.{alone, returning, conditional, looping, repeating, for_loop, switching}
 
 abbrev pub compounds : Rule Means tree.Stmt
-compounds = either conditional (either looping (either repeating for_loop))
+compounds = either conditional (either looping (either repeating (either for_loop switching)))
 
 abbrev pub by_words : Rule Means tree.Stmt
 by_words =

@@ -3,7 +3,7 @@
 ghost use Rattle.std.specs.Prelude.{◌≡◌};
 ghost use Rattle.cilk_parse_rules.specs.Rule.{first, has, class_at};
 ghost use Rattle.cilk_parse_grammar.specs.Classes.{cls};
-ghost use Rattle.cilk_parse_grammar.specs.Grammar.{local};
+ghost use Rattle.cilk_parse_grammar.specs.Grammar.{label, labelled, local};
 ghost use Rattle.cilk_parse_grammar.specs.Parts.{a_statement, no_block};
 ghost use Rattle.cilk_parse_grammar.specs.Spelling.{begins, first_of};
 ghost use Rattle.cilk_parse_statements.specs.Starts.{other_starts};
@@ -28,6 +28,7 @@ fn begins_otherwise(cursor: &Cursor) -> bool
         || cursor.is_keyword(Keyword::While)
         || cursor.is_keyword(Keyword::Do)
         || cursor.is_keyword(Keyword::For)
+        || cursor.is_keyword(Keyword::Switch)
 }
 
 /// Whether a statement that is no block begins with the next token.
@@ -50,4 +51,20 @@ pub fn begins_local(cursor: &Cursor) -> bool
     ensures { result ≡ has (first first_of local) (class_at cls cursor.now.pieces) }
 {
     cursor.is_keyword(Keyword::Int) || cursor.is_keyword(Keyword::Inlet)
+}
+
+/// Whether a label begins with the next token (C 1990, 6.6.1).
+pub fn begins_label(cursor: &Cursor) -> bool
+    ensures { result ≡ has (first first_of label) (class_at cls cursor.now.pieces) }
+{
+    cursor.is_keyword(Keyword::Case) || cursor.is_keyword(Keyword::Default)
+}
+
+/// Whether a statement of the block of a `switch`, or a label before it, begins with the next token.
+pub fn begins_labelled(cursor: &Cursor) -> bool
+    ensures { result ≡ has (first first_of labelled) (class_at cls cursor.now.pieces) }
+{
+    cursor.is_keyword(Keyword::Case)
+        || cursor.is_keyword(Keyword::Default)
+        || begins_statement(cursor)
 }

@@ -3,10 +3,10 @@
 ghost use Rattle.std.specs.Prelude.{◌≡◌, map, MatchResult};
 ghost use Rattle.cilk_parse_grammar.specs.lexeme.declared.mark.Mark.TheVariants.{Comma};
 ghost use Rattle.cilk_parse_grammar.specs.syntax.Tree as tree;
-ghost use Rattle.cilk_parse_rules.specs.ReadsAs.{ReadsAs, onto};
+ghost use Rattle.cilk_parse_rules.specs.ReadsAs.{Fails, ReadsAs, onto};
 ghost use Rattle.cilk_parse_grammar.specs.Forms.{mark, number, commas, behind_commas, in_brackets};
-ghost use Rattle.cilk_parse_grammar.specs.Grammar.{declarator, declaration};
-ghost use Rattle.cilk_parse_statements.specs.Limits.{read_by};
+ghost use Rattle.cilk_parse_grammar.specs.Grammar.{declarator, declaration, declarations};
+ghost use Rattle.cilk_parse_statements.specs.Limits.{read_by, Joins};
 
 use crate::token::{name, number};
 use cilk_parse_grammar::{Cursor, Decl, Keyword, Local, LocalNode, Mark, Shape, expression};
@@ -99,4 +99,18 @@ pub fn declaration(cursor: &mut Cursor) -> Result<Vec<Local>, ReadError>
     let all = declarators(cursor)?;
     cursor.mark(Mark::Semicolon)?;
     declared(cursor.alloc(), all)
+}
+
+/// Declarations, as many as there are.
+pub fn declarations(cursor: &mut Cursor) -> Result<Vec<Local>, ReadError>
+    ensures { MatchResult result
+        (λ v. Joins (read_by declarations cursor.old.pieces) v.items cursor.new.pieces)
+        (λ e. Fails e (read_by declarations cursor.old.pieces)) }
+{
+    let mut locals = Vec::new(cursor.alloc());
+    'each: while cursor.is_keyword(Keyword::Int) {
+        let mut next = declaration(cursor)?;
+        locals.append(&mut next)?;
+    }
+    Ok(locals)
 }

@@ -4,13 +4,15 @@ ghost use Rattle.std.specs.Prelude.{◌≡◌, MatchResult};
 ghost use Rattle.cilk_parse_rules.specs.ReadsAs.{ReadsAs, Fails};
 ghost use Rattle.cilk_parse_grammar.specs.Expressions.{operator_limit, parenthesis_limit};
 ghost use Rattle.cilk_parse_grammar.specs.Grammar.{local, locals, statements, block, body, conditional, looping, repeating, for_loop, no_block_rule};
+ghost use Rattle.cilk_parse_grammar.specs.Grammar.{labelled, all_labelled, cases, switching};
 ghost use Rattle.cilk_parse_grammar.specs.Parts.{a_statement, no_block, an_inlet};
 ghost use Rattle.cilk_parse_grammar.specs.Spelling.{nest_at};
 ghost use Rattle.cilk_parse_statements.specs.Limits.{read_in, Joins};
 ghost use Rattle.cilk_parse_statements.specs.Chains.{compounds, by_words};
 
-use crate::begins::{begins_local, begins_statement, begins_unbraced};
-use crate::declaration::declaration;
+use crate::begins::{begins_labelled, begins_local, begins_statement, begins_unbraced};
+use crate::declaration::{declaration, declarations};
+use crate::label::labels;
 use crate::loop_header::{loop_test, move_before, test};
 use crate::named::named;
 use crate::parameters::parameters;
@@ -110,6 +112,76 @@ fn for_loop(cursor: &mut Cursor, depth: u32) -> Result<Stmt, ReadError>
     })
 }
 
+// A statement of the block of a `switch`, and its labels before it (C 1990, 6.6.1).
+#[cycle(statement)]
+#[tactic(auto, unfolding(cilk_parse_grammar::specs::Spelling::read_at))]
+fn labelled(cursor: &mut Cursor, depth: u32) -> Result<Vec<Stmt>, ReadError>
+    ensures { ReadsAs (λ v. (v.items, cursor.new.pieces)) result (read_in depth labelled cursor.old.pieces) }
+{
+    let mut stmts = labels(cursor)?;
+    let last = match statement(cursor, depth) {
+        Ok(last) => last,
+        Err(e) => {
+            drop(stmts);
+            return Err(e);
+        }
+    };
+    stmts.push(last)?;
+    Ok(stmts)
+}
+
+// All of them.
+#[cycle(statement)]
+fn all_labelled(cursor: &mut Cursor, depth: u32) -> Result<Vec<Stmt>, ReadError>
+    ensures { MatchResult result
+        (λ v. Joins (read_in depth all_labelled cursor.old.pieces) v.items cursor.new.pieces)
+        (λ e. Fails e (read_in depth all_labelled cursor.old.pieces)) }
+{
+    let mut stmts = Vec::new(cursor.alloc());
+    'each: while begins_labelled(cursor) {
+        let mut next = labelled(cursor, depth)?;
+        stmts.append(&mut next)?;
+    }
+    Ok(stmts)
+}
+
+// The block of a `switch` (C 1990, 6.6.4.2).
+#[cycle(statement)]
+#[tactic(auto, unfolding(cilk_parse_grammar::specs::Spelling::read_at))]
+fn cases(cursor: &mut Cursor, depth: u32) -> Result<Block, ReadError>
+    ensures { ReadsAs (λ b. (b, cursor.new.pieces)) result (read_in depth cases cursor.old.pieces) }
+{
+    cursor.mark(Mark::OpenBrace)?;
+    let locals = declarations(cursor)?;
+    let stmts = match all_labelled(cursor, depth) {
+        Ok(stmts) => stmts,
+        Err(e) => {
+            drop(locals);
+            return Err(e);
+        }
+    };
+    if let Err(e) = cursor.mark(Mark::CloseBrace) {
+        drop(locals);
+        drop(stmts);
+        return Err(e);
+    }
+    Ok(Block { locals, stmts })
+}
+
+// `switch` (C 1990, 6.6.4.2).
+#[cycle(statement)]
+#[tactic(auto, unfolding(cilk_parse_grammar::specs::Spelling::read_at))]
+fn switching(cursor: &mut Cursor, depth: u32) -> Result<Stmt, ReadError>
+    ensures { ReadsAs (λ s. (s, cursor.new.pieces)) result (read_in depth switching cursor.old.pieces) }
+{
+    cursor.keyword(Keyword::Switch)?;
+    let test = test(cursor)?;
+    let body = cases(cursor, depth)?;
+    Ok(Stmt {
+        node: StmtNode::Switch(test, body),
+    })
+}
+
 // A statement that has others in it, and is no block.
 #[cycle(statement)]
 #[tactic(auto, unfolding(cilk_parse_grammar::specs::Spelling::read_at))]
@@ -125,7 +197,10 @@ fn compound(cursor: &mut Cursor, depth: u32) -> Result<Stmt, ReadError>
     if cursor.is_keyword(Keyword::Do) {
         return repeating(cursor, depth);
     }
-    for_loop(cursor, depth)
+    if cursor.is_keyword(Keyword::For) {
+        return for_loop(cursor, depth);
+    }
+    switching(cursor, depth)
 }
 
 // A statement that begins with a word, but for `spawn`, or is empty (C 1990, 6.6.3).

@@ -1,13 +1,15 @@
 -- What a session of a debugger wrote, over what readers held.
 use Rattle.std.proofs.Common.{◌≡◌, ◌∙◌, ◌⊎◌, inl, inr, ◌++◌, ℕ, List, [], Option, Some, None, refl, sym, ap, subst, append-nil, append_assoc}
-use Rattle.std.specs.Prelude.{◌≢◌, false, replicate}
+use Rattle.std.specs.Prelude.{◌≢◌, true, false, replicate}
 use Rattle.std.specs.Io.KnownBytes.{Consumes}
 use Rattle.cilk_commands.specs.labelled.Count.{count_program}
+use Rattle.cilk_commands.specs.ProgramText.{program_text}
+use Rattle.cilk_debug.specs.log.Naming.{is_of}
 use Rattle.cilk_debug.specs.Tape.{Tape, IsPlayable}
 use Rattle.cilk_debug.specs.Debugging.{Debugging}
 use Rattle.cilk_debug.specs.Session.{Session, session}
 use Rattle.cilk_debug.specs.Ending.{Answers, Breaks}
-use Rattle.cilk_debug.specs.Faults.{IsFaultOf}
+use Rattle.cilk_debug.specs.Faults.{IsNamedFaultOf}
 use Rattle.cilk_debug.specs.declared.fault.DebugFault.{DebugFault}
 use Rattle.cilk_debug.specs.declared.fault.DebugFault.TheVariants as debug
 use Rattle.cilk_debug.specs.declared.ending.SessionFault.{SessionFault}
@@ -18,7 +20,7 @@ use Rattle.cilk_commands.specs.Held.{Held, IsReadOf}
 use Rattle.cilk_commands.proofs.WholeText.{gains_whole, gains_front_whole}
 use Rattle.cilk_commands.specs.declared.status.Status.TheVariants as status
 use Rattle.cilk_program.specs.Debugging.{IsSession, IsPart, GainsOf, GainsFrontOf, Debugs, DebugsFront, DebugsPart, opened, undebugged, broken_off}
-use Rattle.cilk_program.specs.Taped.{IsTape, Declines}
+use Rattle.cilk_program.specs.Taped.{IsTape, IsOwnTape, Declines}
 use Rattle.cilk_program.specs.Telling.{status_of}
 
 pub opens : (d : Debugging) (t : Tape) → d.tape ≡ t → d.position ≡ 0 → d.marks ≡ replicate (count_program t.program) false → d ≡ opened t
@@ -35,6 +37,7 @@ broken_not_refused Memory bad = cc
 
 -- it is the output that failed where the writer of the answers did, and there alone
 pub undebugged_reads : (fault : DebugFault) → status_of (undebugged fault) ≢ status.CannotWrite
+undebugged_reads debug.OtherProgram bad = cc
 undebugged_reads debug.Workers bad = cc
 undebugged_reads (debug.BadChoice k refusal) bad = cc
 undebugged_reads debug.AtEnd bad = cc
@@ -49,23 +52,30 @@ broken_by_writer Write failed = refl
 broken_by_writer Memory failed = cc
 
 -- why there is no debugger
-pub declines_of : (text bytes : List ℕ) (t : Tape) (fault : DebugFault) → IsTape text bytes t → IsFaultOf t fault
+pub declines_of : (text bytes : List ℕ) (named : Option (List ℕ)) (t : Tape) (fault : DebugFault) → IsTape text bytes named t → IsNamedFaultOf named t fault
     → status_of (undebugged fault) ≡ status.Refused → Declines text bytes (undebugged fault)
-declines_of text bytes t debug.Workers is told refused = record { tape = t; is = is; told = told }
-declines_of text bytes t (debug.BadChoice k refusal) is told refused = record { tape = t; is = is; told = told }
-declines_of text bytes t debug.AtEnd is told refused = absurd told
-declines_of text bytes t debug.AtStart is told refused = absurd told
-declines_of text bytes t debug.NoStatement is told refused = absurd told
-declines_of text bytes t debug.OutOfRange is told refused = absurd told
-declines_of text bytes t debug.Memory is told refused = cc
+declines_of text bytes named t debug.OtherProgram is told refused = record { named = named; tape = t; is = is; told = told }
+declines_of text bytes named t debug.Workers is told refused = record { named = named; tape = t; is = is; told = told }
+declines_of text bytes named t (debug.BadChoice k refusal) is told refused = record { named = named; tape = t; is = is; told = told }
+declines_of text bytes named t debug.AtEnd is told refused = absurd told
+declines_of text bytes named t debug.AtStart is told refused = absurd told
+declines_of text bytes named t debug.NoStatement is told refused = absurd told
+declines_of text bytes named t debug.OutOfRange is told refused = absurd told
+declines_of text bytes named t debug.Memory is told refused = cc
 
-pub declines_held_of : (held : Option (List ℕ)) (text : List ℕ) (t : Tape) (fault : DebugFault) → Held held (λ bytes. IsTape text bytes t) → IsFaultOf t fault
+pub declines_held_of : (held : Option (List ℕ)) (text : List ℕ) (named : Option (List ℕ)) (t : Tape) (fault : DebugFault)
+    → Held held (λ bytes. IsTape text bytes named t) → IsNamedFaultOf named t fault
     → status_of (undebugged fault) ≡ status.Refused → Held held (λ bytes. Declines text bytes (undebugged fault))
-declines_held_of held text t fault is told refused =
-    record { bytes = is.bytes; held = is.held; are = declines_of text is.bytes t fault is.are told refused }
+declines_held_of held text named t fault is told refused =
+    record { bytes = is.bytes; held = is.held; are = declines_of text is.bytes named t fault is.are told refused }
+
+-- a schedule that names no other program
+pub own_held : (held : Option (List ℕ)) (text : List ℕ) (named : Option (List ℕ)) (t : Tape) → Held held (λ bytes. IsTape text bytes named t)
+    → is_of named (program_text t.program) ≡ true → Held held (λ bytes. IsOwnTape text bytes t)
+own_held held text named t is own = record { bytes = is.bytes; held = is.held; are = record { named = named; is = is.are; own = own } }
 
 module _ (held : Option (List ℕ)) (text : List ℕ) (t : Tape) (d after : Debugging) (old new : Option (List ℕ))
-    (is : Held held (λ bytes. IsTape text bytes t)) (opening : d ≡ opened t) (whole : IsPlayable t) where
+    (is : Held held (λ bytes. IsOwnTape text bytes t)) (opening : d ≡ opened t) (whole : IsPlayable t) where
   pub answered : (known : Option (List ℕ)) → ((all : List ℕ) → known ≡ Some all → Answers d after all None old new)
       → GainsOf (λ lines answers. Held held (λ bytes. IsSession text bytes lines answers)) known old new
   answered None answers = tt
@@ -157,21 +167,21 @@ module _ (known held : Option (List ℕ)) (text : List ℕ) (old new : Option (L
   debugs_whole None gained = tt
   debugs_whole (Some lines) gained =
       gains_whole known text old new (λ of answers. Held held (λ (bytes : List ℕ). IsSession of bytes lines answers))
-      (λ answers all. all.are.is_tape.ready.is.text.short) read gained
+      (λ answers all. all.are.is_tape.is.ready.is.text.short) read gained
 
   pub debugs_part : (commands : Option (List ℕ)) → GainsOf (λ lines answers. Held held (λ bytes. IsPart text bytes lines answers)) commands old new
       → DebugsPart known held commands old new
   debugs_part None gained = tt
   debugs_part (Some lines) gained =
       gains_whole known text old new (λ of answers. Held held (λ (bytes : List ℕ). IsPart of bytes lines answers))
-      (λ answers all. all.are.is_tape.ready.is.text.short) read gained
+      (λ answers all. all.are.is_tape.is.ready.is.text.short) read gained
 
   pub debugs_front : (commands : Option (List ℕ)) → GainsFrontOf (λ lines answers. Held held (λ bytes. IsPart text bytes lines answers)) commands old new
       → DebugsFront known held commands old new
   debugs_front None gained = tt
   debugs_front (Some lines) gained =
       gains_front_whole known text old new (λ of answers. Held held (λ (bytes : List ℕ). IsPart of bytes lines answers))
-      (λ answers all. all.are.is_tape.ready.is.text.short) read gained
+      (λ answers all. all.are.is_tape.is.ready.is.text.short) read gained
 
   pub debugs_left : (Same : Type 0) (commands : Option (List ℕ)) → Same
       ⊎ GainsOf (λ lines answers. Held held (λ bytes. IsPart text bytes lines answers)) commands old new

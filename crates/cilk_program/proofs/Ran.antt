@@ -21,12 +21,12 @@ use Rattle.cilk_program.specs.Running.{IsRun, status_at}
 use Rattle.cilk_program.specs.declared.closing.Closing.{Closing}
 use Rattle.cilk_program.specs.declared.running.RunAnswer.{RunAnswer}
 use Rattle.cilk_program.specs.Replaying.{ClosesAt, IsReplayed}
-use Rattle.cilk_program.specs.Taped.{IsTape}
+use Rattle.cilk_program.specs.Taped.{IsOwnTape}
 
 -- the closing text of a run, and its log
 pub ran : (workers limit : ℕ) (bytes text : List ℕ) (p : Program) (r : Run) → IsReady bytes p → Runs.IsRun p workers limit r
     → text ≡ end.ending r.output (end_of r.end) (length r.log.choices)
-    → IsRun workers limit (status_at (end_of r.end)) bytes (log_text (record { workers = r.log.workers; choices = map choice_of r.log.choices })) text
+    → IsRun workers limit (status_at (end_of r.end)) bytes (log_text (log_of r.log)) text
 ran workers limit bytes text p r ready l is =
     let count : length r.log.choices ≡ length (map choice_of r.log.choices) = sym (length-map r.log.choices choice_of) in
     record {
@@ -39,7 +39,7 @@ ran workers limit bytes text p r ready l is =
       whole = λ e. sym count ∙ l.whole e;
       tells = ap status_at l.end;
       is = is ∙ (λ i. end.ending (l.output i) (l.end i) (count i));
-      recorded = ap (λ n. log_text (record { workers = n; choices = map choice_of r.log.choices })) l.workers;
+      recorded = λ i. log_text (record { program = l.program i; workers = l.workers i; choices = map choice_of r.log.choices });
     }
 
 -- the texts that are made of a run
@@ -67,7 +67,7 @@ closes_by (Ok c) m output ended n printed ends counted status text = λ at there
 closes_by (Err e) m output ended n printed ends counted status text = tt
 
 -- the closing text of a replay
-pub replayed : (status : Status) (text bytes answer : List ℕ) (t : Tape) (n : ℕ) (m : Situation) → IsTape text bytes t → n ≡ length t.choices → IsAt t n m
+pub replayed : (status : Status) (text bytes answer : List ℕ) (t : Tape) (n : ℕ) (m : Situation) → IsOwnTape text bytes t → n ≡ length t.choices → IsAt t n m
     → ((at : Standing) → StandsAt m at → ClosesAt m at status answer) → IsReplayed status text bytes answer
 replayed status text bytes answer t n m is_tape count a closes =
     let there : StandsAt m a.at.standing = record { choices = take n t.choices; events = a.at.events; led = a.led } in
@@ -83,9 +83,8 @@ replayed status text bytes answer t n m is_tape count a closes =
     }
 
 -- where all of the choices were made again
-pub all_replayed : (status : Status) (text bytes answer : List ℕ) (p : Program) (workers : ℕ) (made read : List code.Choice) (m : Situation) → read ≡ made
-    → IsTape text bytes (tape_of p workers made) → IsAt (tape_of p workers read) (length read) m
+pub all_replayed : (status : Status) (text bytes answer : List ℕ) (p : Program) (workers : ℕ) (made : List code.Choice) (m : Situation)
+    → IsOwnTape text bytes (tape_of p workers made) → IsAt (tape_of p workers made) (length made) m
     → ((at : Standing) → StandsAt m at → ClosesAt m at status answer) → IsReplayed status text bytes answer
-all_replayed status text bytes answer p workers made read m same is_tape a closes =
-    replayed status text bytes answer (tape_of p workers made) (length made) m is_tape (sym (length-map made choice_of))
-    (subst (λ (cs : List code.Choice). IsAt (tape_of p workers cs) (length cs) m) same a) closes
+all_replayed status text bytes answer p workers made m is_tape a closes =
+    replayed status text bytes answer (tape_of p workers made) (length made) m is_tape (sym (length-map made choice_of)) a closes

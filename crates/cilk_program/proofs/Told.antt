@@ -26,7 +26,9 @@ no_answer (why.Log log.Version) = refl
 no_answer (why.Log (log.Line number)) = refl
 no_answer (why.Log log.Truncated) = refl
 no_answer (why.Log log.Count) = refl
+no_answer (why.Log log.TooMany) = refl
 no_answer (why.Log log.Memory) = refl
+no_answer (why.Replay replay.OtherProgram) = refl
 no_answer (why.Replay replay.Workers) = refl
 no_answer (why.Replay (replay.BadChoice number refusal)) = refl
 no_answer (why.Replay replay.Memory) = refl
@@ -47,7 +49,9 @@ no_usage (why.Log log.Version) bad = cc
 no_usage (why.Log (log.Line number)) bad = cc
 no_usage (why.Log log.Truncated) bad = cc
 no_usage (why.Log log.Count) bad = cc
+no_usage (why.Log log.TooMany) bad = cc
 no_usage (why.Log log.Memory) bad = cc
+no_usage (why.Replay replay.OtherProgram) bad = cc
 no_usage (why.Replay replay.Workers) bad = cc
 no_usage (why.Replay (replay.BadChoice number refusal)) bad = cc
 no_usage (why.Replay replay.Memory) bad = cc
@@ -82,6 +86,7 @@ unready_reads text failure.CannotRead is bad = cc
 unready_reads text failure.CannotWrite is bad = is.reason
 
 pub replay_reads : (fault : ReplayFault) → status_of (why.Replay fault) ≢ status.CannotWrite
+replay_reads replay.OtherProgram bad = cc
 replay_reads replay.Workers bad = cc
 replay_reads (replay.BadChoice number refusal) bad = cc
 replay_reads replay.Memory bad = cc

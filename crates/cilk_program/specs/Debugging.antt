@@ -12,7 +12,7 @@ use Rattle.cilk_debug.specs.declared.replay_fault.ReplayFault.TheVariants as rep
 use Rattle.cilk_commands.specs.Front.{Gains, GainsFront}
 use Rattle.cilk_commands.specs.Held.{Held}
 use Rattle.cilk_commands.specs.declared.failure.Failure.TheVariants as failure
-use Rattle.cilk_program.specs.Taped.{IsTape}
+use Rattle.cilk_program.specs.Taped.{IsOwnTape}
 use Rattle.cilk_program.specs.declared.failure.RecordFailure.{RecordFailure}
 use Rattle.cilk_program.specs.declared.failure.RecordFailure.TheVariants as why
 
@@ -23,7 +23,7 @@ opened t = record { tape = t; position = 0; marks = replicate (count_program t.p
 -- a recorded schedule of the program that the bytes of a text are, and these are the answers to the commands, none of which is at fault
 pub record IsSession (text bytes commands answers : List ℕ) : Type 0 where
   pub tape : Tape
-  pub is_tape : IsTape text bytes tape
+  pub is_tape : IsOwnTape text bytes tape
   pub whole : IsPlayable tape
   pub left : Debugging
   pub answered : session (opened tape) commands ≡ record { replies = answers; left = left; fault = None }
@@ -31,7 +31,7 @@ pub record IsSession (text bytes commands answers : List ℕ) : Type 0 where
 -- the same, and these are the answers to what stands in front of the commands, it may be all of them
 pub record IsPart (text bytes commands answers : List ℕ) : Type 0 where
   pub tape : Tape
-  pub is_tape : IsTape text bytes tape
+  pub is_tape : IsOwnTape text bytes tape
   pub whole : IsPlayable tape
   pub lines : List ℕ
   pub rest : List ℕ
@@ -61,6 +61,7 @@ DebugsFront program log commands old new =
 
 -- what is told where there is no debugger: want of memory, or what is wrong with the schedule
 abbrev pub undebugged : DebugFault → RecordFailure
+undebugged debug.OtherProgram = why.Replay replay.OtherProgram
 undebugged debug.Workers = why.Replay replay.Workers
 undebugged (debug.BadChoice k refusal) = why.Replay (replay.BadChoice k refusal)
 undebugged debug.AtEnd = why.Program failure.Memory

@@ -9,7 +9,7 @@ use Rattle.cilk_commands.specs.Front.{Gains, GainsFront}
 use Rattle.cilk_commands.specs.Held.{Held}
 use Rattle.cilk_commands.specs.declared.status.Status.{Status}
 use Rattle.cilk_program.specs.Running.{status_at}
-use Rattle.cilk_program.specs.Taped.{IsTape}
+use Rattle.cilk_program.specs.Taped.{IsOwnTape}
 
 -- the closing text of a machine and the status that tells how it stands, where it stands there
 pub record ClosesAt (m : Situation) (at : Standing) (status : Status) (answer : List ℕ) : Type 0 where
@@ -19,7 +19,7 @@ pub record ClosesAt (m : Situation) (at : Standing) (status : Status) (answer : 
 -- the closing text of where all choices of a recorded schedule lead the program that the bytes of a text are; the status tells how it stands there
 pub record IsReplayed (status : Status) (text bytes answer : List ℕ) : Type 0 where
   pub tape : Tape
-  pub is_tape : IsTape text bytes tape
+  pub is_tape : IsOwnTape text bytes tape
   pub at : Position
   pub led : position_at tape (length tape.choices) ≡ Some at
   pub tells : status ≡ status_at (model.end_now (label tape.program) at.standing)

@@ -6,6 +6,8 @@ use Rattle.cilk_commands.specs.labelled.Bodies.{label}
 use Rattle.cilk_run.specs.model.Choice.{Choice}
 use Rattle.cilk_run.specs.model.End as model
 use Rattle.cilk_run.specs.model.Run.{Position, after}
+use Rattle.cilk_commands.specs.ProgramText.{program_text}
+use Rattle.cilk_debug.specs.log.Naming.{digest_of}
 use Rattle.cilk_debug.specs.log.Text.{log_text}
 use Rattle.cilk_commands.specs.Front.{AppendsFront}
 use Rattle.cilk_commands.specs.Held.{Held}
@@ -32,7 +34,7 @@ pub record IsRun (workers limit : ℕ) (status : Status) (bytes log text : List 
   pub whole : model.end_now (label program) at.standing ≡ model.limit → length choices ≡ limit
   pub tells : status ≡ status_at (model.end_now (label program) at.standing)
   pub is : text ≡ model.ending at.standing.state.output (model.end_now (label program) at.standing) (length choices)
-  pub recorded : log ≡ log_text (record { workers = workers; choices = choices })
+  pub recorded : log ≡ log_text (record { program = Some (digest_of (program_text program)); workers = workers; choices = choices })
 
 -- a store has gained a log, and a writer an answer, which are so
 pub record Stores (Are : List ℕ → List ℕ → Type 0) (stored_old stored_new old new : Option (List ℕ)) : Type 0 where

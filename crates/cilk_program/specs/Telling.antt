@@ -31,12 +31,14 @@ log_line name log.Version = name ++ codes ": G1 Version\n"
 log_line name (log.Line number) = name ++ (codes ": G2 Line " ++ (decimal number ++ codes "\n"))
 log_line name log.Truncated = name ++ codes ": G3 Truncated\n"
 log_line name log.Count = name ++ codes ": G4 Count\n"
+log_line name log.TooMany = name ++ codes ": G6 TooMany\n"
 log_line name log.Memory = line_of_program name failure.Memory
 
 abbrev pub choice_line : List ℕ → List ℕ → List ℕ → List ℕ
 choice_line name number code = name ++ (codes ": B1 BadChoice " ++ (number ++ (codes " " ++ (code ++ codes "\n"))))
 
 abbrev pub replay_line : List ℕ → ReplayFault → List ℕ
+replay_line name replay.OtherProgram = name ++ codes ": G5 OtherProgram\n"
 replay_line name replay.Workers = name ++ codes ": B0 Workers\n"
 replay_line name (replay.BadChoice number why) = choice_line name (decimal number) (code_of why)
 replay_line name replay.Memory = line_of_program name failure.Memory
@@ -58,9 +60,11 @@ log_status log.Version = status.Refused
 log_status (log.Line number) = status.Refused
 log_status log.Truncated = status.Refused
 log_status log.Count = status.Refused
+log_status log.TooMany = status.Refused
 log_status log.Memory = status.Memory
 
 abbrev pub replay_status : ReplayFault → Status
+replay_status replay.OtherProgram = status.Refused
 replay_status replay.Workers = status.Refused
 replay_status (replay.BadChoice number why) = status.Refused
 replay_status replay.Memory = status.Memory

@@ -111,6 +111,7 @@ fn undebugged(fault: DebugFault) -> RecordFailure
     ensures { result ≡ undebugged fault }
 {
     match fault {
+        DebugFault::OtherProgram => RecordFailure::Replay(ReplayFault::OtherProgram),
         DebugFault::Workers => RecordFailure::Replay(ReplayFault::Workers),
         DebugFault::BadChoice(number, refusal) => {
             RecordFailure::Replay(ReplayFault::BadChoice(number, refusal))

@@ -121,6 +121,7 @@ fn tell_log<W: Write>(fault: &LogFault, name: &str, err: &mut W) -> io::Result<(
         }
         LogFault::Truncated => write_parts(err, &[name, ": G3 Truncated\n"]),
         LogFault::Count => write_parts(err, &[name, ": G4 Count\n"]),
+        LogFault::TooMany => write_parts(err, &[name, ": G6 TooMany\n"]),
         LogFault::Memory => Failure::Memory.write_line(name, err),
     }
 }
@@ -130,6 +131,7 @@ fn tell_replay<W: Write>(fault: &ReplayFault, name: &str, err: &mut W) -> io::Re
     ensures front { OnErr result (AppendsFront (W.contents err.old) (W.contents err.new) (replay_line name.now fault.now)) }
 {
     match fault {
+        ReplayFault::OtherProgram => write_parts(err, &[name, ": G5 OtherProgram\n"]),
         ReplayFault::Workers => write_parts(err, &[name, ": B0 Workers\n"]),
         ReplayFault::BadChoice(number, refusal) => {
             let mut digits = Buffer::new();

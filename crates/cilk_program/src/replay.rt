@@ -15,7 +15,7 @@ use crate::file_names::FileNames;
 use crate::streams::Streams;
 use crate::taped::{Taped, tape_in};
 use cilk_commands::{Status, read_text, write_answer};
-use cilk_debug::play;
+use cilk_debug::play_all;
 use std::alloc::Global;
 use std::io::{Read, Write};
 
@@ -104,8 +104,7 @@ fn replayed<L: Read + Drop>(
         Ok(taped) => taped,
         Err(why) => return Err(why),
     };
-    let choices = log.choices.as_slice();
-    let machine = match play(alloc, program, log.workers, choices, choices.len()) {
+    let machine = match play_all(alloc, program, &log) {
         Ok(machine) => machine,
         Err(fault) => return Err(RecordFailure::Replay(fault)),
     };

@@ -190,6 +190,7 @@ fn texts_at(alloc: Global, run: &Run, is_logged: bool) -> Result<RunAnswer, Reco
             log,
             answer: text,
         }),
+        // The words of the command line ask for no more choices than a log tells, so it is memory that is wanting.
         Err(_) => {
             drop(text);
             Err(RecordFailure::Program(Failure::Memory))

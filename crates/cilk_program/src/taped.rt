@@ -12,7 +12,7 @@ ghost use Rattle.cilk_program.specs.Telling.{status_of};
 ghost use Rattle.cilk_program.specs.Taped.{Declines, IsTape, IsUnread};
 
 use crate::failure::RecordFailure;
-use cilk_commands::{Failure, Loaded, read_all, ready_of};
+use cilk_commands::{Failure, Loaded, read_record, ready_of};
 use cilk_debug::{Log, read_log};
 use std::alloc::Global;
 use std::io::Read;
@@ -33,7 +33,7 @@ pub(crate) fn tape_in<L: Read + Drop>(
 ) -> Result<Taped, RecordFailure>
     ensures ok { (held : Option (List ℕ)) → IfSome log (λ log. L.remaining log ≡ held)
         → IfOk result (λ taped. Held held (λ bytes.
-        IsTape text.now bytes (tape_of taped.program taped.log.workers taped.log.choices))) }
+        IsTape text.now bytes taped.log.program (tape_of taped.program taped.log.workers taped.log.choices))) }
     ensures ready { IfOk result (λ taped. IsReady text.now taped.program) }
     ensures declined { (held : Option (List ℕ)) → IfSome log (λ log. L.remaining log ≡ held)
         → IfErr result (λ why. status_of why ≡ ended.Refused → Held held (λ bytes. Declines text.now bytes why)) }
@@ -67,7 +67,7 @@ fn read_schedule<L: Read>(alloc: Global, reader: &mut L) -> Result<Log, RecordFa
     ensures declined { IfErr result (λ why. Held (L.remaining reader.old) (λ bytes. IsUnread bytes why)) }
     ensures reads { IfErr result (λ why. status_of why ≢ ended.CannotWrite) }
 {
-    let bytes = match read_all(alloc, reader) {
+    let bytes = match read_record(alloc, reader) {
         Ok(bytes) => bytes,
         Err(Failure::Memory) => return Err(RecordFailure::Program(Failure::Memory)),
         Err(_) => return Err(RecordFailure::CannotRead),

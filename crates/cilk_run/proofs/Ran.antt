@@ -8,7 +8,9 @@ use Rattle.cilk_machine.specs.model.State.{Outcome, running, finished, trapped}
 use Rattle.cilk_machine.specs.model.Event.{Event}
 use Rattle.cilk_machine.specs.model.Run.{Standing, after, next_of}
 use Rattle.cilk_machine.specs.model.End as model
+use Rattle.cilk_log.specs.syntax.ProgramText.{program_text}
 use Rattle.cilk_log.specs.choices.Words.{choice_of, end_of}
+use Rattle.cilk_log.specs.Naming.{digest_of}
 use Rattle.cilk_log.specs.choices.declared.choice.Choice as code
 use Rattle.cilk_log.specs.choices.declared.end.End.{End}
 use Rattle.cilk_machine.specs.Situation.{Situation, workers_of}
@@ -52,16 +54,17 @@ ends-stuck limit m seen made b same l within told is =
 
 pub ran : (p : Program) (n limit : ℕ) (m seen : Situation) (made : List code.Choice) (r : Run) → seen ≡ m → m.program ≡ p → workers_of m ≡ n
     → IsLedBy m made → Stops limit m
-    → r.log.workers ≡ n → r.log.choices ≡ made → IsCounted n r.turns made
+    → r.log.program ≡ Some (digest_of (program_text p)) → r.log.workers ≡ n → r.log.choices ≡ made → IsCounted n r.turns made
     → ((at : Standing) → StandsAt seen at → r.output ≡ at.state.output)
     → ((at : Standing) → StandsAt seen at → end_of r.end ≡ model.end_now (label seen.program) at)
     → IsRun p n limit r
-ran p n limit m seen made r same program crew l stops workers choices counted output end =
+ran p n limit m seen made r same program crew l stops named workers choices counted output end =
     let there = subst (λ (s : Situation). StandsAt s l.at) (sym same) (stands m made l) in
     let count = led-counted m made l in
     let now : model.end_now (label m.program) l.at ≡ model.end_now (label p) l.at = ap (λ (q : Program). model.end_now (label q) l.at) program in
     let ended = subst (λ (s : Situation). end_of r.end ≡ model.end_now (label s.program) l.at) same (end l.at there) in
     record {
+      program = named;
       workers = workers;
       at = record { standing = l.at; events = l.events };
       led = (λ i. after (label (sym program i)) (sym crew i) (map choice_of (choices i))) ∙ l.led.led;

@@ -4,7 +4,9 @@ use Rattle.cilk_machine.specs.syntax.Tree.{Program}
 use Rattle.cilk_machine.specs.labelled.Bodies.{label}
 use Rattle.cilk_machine.specs.model.End as model
 use Rattle.cilk_machine.specs.model.Run.{Standing, Position, after}
+use Rattle.cilk_log.specs.syntax.ProgramText.{program_text}
 use Rattle.cilk_log.specs.choices.Words.{choice_of, end_of}
+use Rattle.cilk_log.specs.Naming.{digest_of}
 use Rattle.cilk_machine.specs.Situation.{Situation}
 use Rattle.cilk_machine.specs.Stands.{StandsAt}
 use Rattle.cilk_run.specs.Histories.{IsCounted}
@@ -16,8 +18,9 @@ pub record Stops (limit : ℕ) (m : Situation) : Type 0 where
   pub whole : (at : Standing) → StandsAt m at → model.end_now (label m.program) at ≡ model.limit → m.choices ≡ limit
 
 -- a run of a program with n workers and at most so many choices: those of its log are possible one after another from the start of the
--- program; it stands behind them as is told, and has printed what is told; and they are counted by worker
+-- program, which the log names; it stands behind them as is told, and has printed what is told; and they are counted by worker
 pub record IsRun (p : Program) (n limit : ℕ) (r : Run) : Type 0 where
+  pub program : r.log.program ≡ Some (digest_of (program_text p))
   pub workers : r.log.workers ≡ n
   pub at : Position
   pub led : after (label p) n (map choice_of r.log.choices) ≡ Some at

@@ -9,7 +9,7 @@ use cilk_machine::End;
 pub struct Run {
     /// How the program stands at the end.
     pub end: End,
-    /// The choices, in the order in which the workers had the lock.
+    /// The choices, in the order in which the workers had the lock; it names the program.
     pub log: Log,
     /// What the program printed.
     pub output: Output,

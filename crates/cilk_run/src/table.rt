@@ -2,7 +2,9 @@
 
 ghost use Rattle.std.specs.Prelude.{ℕ, ◌+◌, ◌≡◌, ◌≢◌, ◌<◌, ◌≤◌, ◌⊎◌, [], ◌∷◌, ◌++◌, length, slice_index, slice_set, ◌-◌, ◌^◌, true, Some, IfOk, IfErr};
 ghost use Rattle.std.specs.Prelude.{OnOk, OnErr};
+ghost use Rattle.cilk_log.specs.syntax.ProgramText.{program_text};
 ghost use Rattle.cilk_log.specs.choices.Words.{choice_of, reason_of};
+ghost use Rattle.cilk_log.specs.Naming.{digest_of};
 ghost use Rattle.cilk_machine.specs.Situation.{workers_of};
 ghost use Rattle.cilk_machine.specs.Made.{IsRefused};
 ghost use Rattle.cilk_machine.specs.eval.Known.{known};
@@ -17,8 +19,8 @@ use crate::lists::{Output, Turns};
 use crate::locked::Locked;
 use crate::outcome::{Run, RunFault};
 use crate::post::{Begun, Turn};
-use cilk_log::Log;
-use cilk_machine::{Act, Choice, Known, Listed, Outcome, Refusal, Trap};
+use cilk_log::{Log, program_of};
+use cilk_machine::{Act, Choice, Known, Listed, Loaded, Memory, Outcome, Refusal, Trap};
 use std::alloc::Global;
 use std::marker::{Brand, Model, PhantomData};
 
@@ -49,6 +51,8 @@ impl Setting for Brand {
 #[derive(Drop)]
 pub struct Table<J: Setting> {
     locked: Locked,
+    /// The digest of the program's canonical text.
+    program: [u8; 32],
     workers: u8,
     limit: u32,
     turns: Vec<u64>,
@@ -63,6 +67,8 @@ impl<J: Setting> Model for Table<J> {
     ghost use Rattle.std.specs.Prelude.{◌≡◌, ◌≤◌, length};
     ghost use Rattle.cilk_machine.specs.Situation.{workers_of};
     ghost use Rattle.cilk_run.specs.Histories.{Posted, IsCounted};
+    ghost use Rattle.cilk_log.specs.syntax.ProgramText.{program_text};
+    ghost use Rattle.cilk_log.specs.Naming.{digest_of};
     ghost use Rattle.cilk_machine.specs.syntax.ProgramCoding.{coded_Program};
     ghost use Rattle.std.specs.Coded.{codes};
 
@@ -74,11 +80,12 @@ impl<J: Setting> Model for Table<J> {
 
     ghost invariant = { λ t. (t.locked.machine.program ≡ J.program)
         × (workers_of t.locked.machine ≡ J.workers) × (t.workers ≡ J.workers) × (t.limit ≡ J.limit)
-        × (length t.locked.history ≤ J.limit) × IsCounted J.workers t.turns.items t.locked.history };
+        × (length t.locked.history ≤ J.limit) × IsCounted J.workers t.turns.items t.locked.history
+        × (t.program ≡ digest_of (program_text J.program)) };
 }
 
 impl<J: Setting> Table<J> {
-    /// A machine before any choice, for a run of so many workers that make at most `limit` choices.
+    /// A machine before any choice, for a run of so many workers that make at most `limit` choices. What names the program is taken here.
     pub fn new(alloc: Global, locked: Locked, workers: u8, limit: u32) -> Result<Table<J>, RunFault>
         requires program { locked.machine.program ≡ J.program }
         requires crew { workers_of locked.machine ≡ J.workers }
@@ -87,11 +94,15 @@ impl<J: Setting> Table<J> {
         requires none { locked.history ≡ [] }
         ensures err { IfErr result (λ e. e ≡ RunFault.Memory) }
     {
+        let Ok(program) = name_of(locked.machine().loaded()) else {
+            return Err(RunFault::Memory);
+        };
         let Ok(turns) = vec![in alloc; 0u64; usize::from(workers)] else {
             return Err(RunFault::Memory);
         };
         Ok(Table {
             locked,
+            program,
             workers,
             limit,
             turns,
@@ -335,11 +346,13 @@ impl<J: Setting> Table<J> {
         };
         let Table {
             locked,
+            program,
             workers,
             turns,
             ..
         } = self;
         let log = Log {
+            program: Some(program),
             workers,
             choices: locked.into_choices(),
         };
@@ -349,6 +362,16 @@ impl<J: Setting> Table<J> {
             output: Output::new(bytes),
             turns: Turns::new(turns),
         })
+    }
+}
+
+// The digest of the program's canonical text.
+fn name_of(program: &Loaded) -> Result<[u8; 32], Memory>
+    ensures { IfOk result (λ digest. digest ≡ digest_of (program_text program.now)) }
+{
+    match program.text() {
+        Err(memory) => Err(memory),
+        Ok(text) => Ok(program_of(text.as_str())),
     }
 }
 

@@ -1,13 +1,14 @@
 //! The hands and deques of all workers, by the numbers of the workers.
 
-ghost use Rattle.std.specs.Prelude.{◌≡◌, ◌<◌, ◌++◌, ◌∷◌, [], Some, None, length, replicate, option_map, slice_get, IfOk, IfErr, IfSome, OnErr, OnOk};
+ghost use Rattle.std.specs.Prelude.{◌≡◌, ◌<◌, ◌-◌, ◌++◌, ◌∷◌, [], Some, None, length, replicate, option_map, slice_get, IfOk, IfErr, IfSome, OnErr, OnOk};
 ghost use Rattle.std.specs.Option.{option_copied};
 ghost use Rattle.cilk_frame.specs.model.Places.{no_place, IsWorker, hand_of, deque_of, with_hand, with_deque, top_of, below_top, bottom_of, above_bottom};
 ghost use Rattle.cilk_frame.specs.Frames as frames;
-ghost use Rattle.cilk_frame.specs.Frames.{gone_to, left, with_cell, put_top};
+ghost use Rattle.cilk_frame.specs.Frames.{gone_to, stood, entered, left, with_cell, put_top, put_below};
 
+use crate::hands_image::HandsImage;
 use crate::worker::Worker;
-use cilk_frame::{Frame, Memory};
+use cilk_frame::{Activation, Frame, Memory};
 use std::alloc::Global;
 use std::marker::Model;
 
@@ -131,6 +132,90 @@ impl Hands {
     {
         let place = &mut self.places[victim as usize - 1];
         place.steal_top()
+    }
+
+    /// Puts a value into a cell of the activation below the top one, of the frame in the worker's hand.
+    pub fn set_cell_below(&mut self, worker: u8, slot: u32, value: i32)
+        requires worker { IsWorker self.old worker }
+        requires cell { IfSome (hand_of self.old worker)
+            (λ f. (1 < frames.depth f) × (slot < length (frames.activation_at f (frames.depth f - 2)).cells)) }
+        ensures { self.new ≡ with_hand self.old worker (option_map (put_below slot value) (hand_of self.old worker)) }
+    {
+        let place = &mut self.places[worker as usize - 1];
+        place.set_cell_below(slot, value);
+    }
+
+    /// The instance in the worker's hand stood at action n, with this flag.
+    pub fn stand(&mut self, worker: u8, n: u32, boundary: bool)
+        requires { IsWorker self.old worker }
+        ensures { self.new ≡ with_hand self.old worker (option_map (stood n boundary) (hand_of self.old worker)) }
+    {
+        let place = &mut self.places[worker as usize - 1];
+        place.stand(n, boundary);
+    }
+
+    /// The top activation of the frame in the worker's hand is left, and answered as a whole.
+    pub fn withdraw(&mut self, worker: u8) -> Option<Activation>
+        requires worker { IsWorker self.old worker }
+        requires inside { IfSome (hand_of self.old worker) (λ f. 1 < frames.depth f) }
+        ensures value { result ≡ option_map frames.top_of (hand_of self.old worker) }
+        ensures rest { self.new ≡ with_hand self.old worker (option_map left (hand_of self.old worker)) }
+    {
+        let place = &mut self.places[worker as usize - 1];
+        place.withdraw()
+    }
+
+    /// An activation that was left goes on again, in the worker's hand. Where memory has run out, it
+    /// comes back, and nothing has changed.
+    pub fn enter_again(
+        &mut self,
+        worker: u8,
+        activation: Box<Activation>,
+    ) -> Result<(), Box<Activation>>
+        requires worker { IsWorker self.old worker }
+        requires room { IfSome (hand_of self.old worker) (λ f. frames.depth f < 256) }
+        ensures ok { OnOk result (self.new ≡ with_hand self.old worker (option_map (entered activation.value) (hand_of self.old worker))) }
+        ensures err { OnErr result (self.new ≡ self.old) }
+        ensures back { IfErr result (λ a. a.value ≡ activation.value) }
+    {
+        let place = &mut self.places[worker as usize - 1];
+        place.enter_again(activation)
+    }
+
+    /// Puts a frame above the others of the victim's deque. Where memory has run out, the frame
+    /// comes back, and nothing has changed.
+    pub fn push_top(&mut self, victim: u8, frame: Frame) -> Result<(), Frame>
+        requires { IsWorker self.old victim }
+        ensures ok { OnOk result (self.new ≡ with_deque self.old victim (frame ∷ deque_of self.old victim)) }
+        ensures err { OnErr result (self.new ≡ self.old) }
+        ensures back { IfErr result (λ f. f ≡ frame) }
+    {
+        let place = &mut self.places[victim as usize - 1];
+        place.push_top(frame)
+    }
+
+    /// What they are now, as plain data.
+    pub fn image(&self) -> Result<HandsImage, Memory>
+        ensures { IfOk result (λ image. image ≡ self.now) }
+    {
+        let alloc = *self.places.allocator();
+        let mut places = Vec::with_capacity(alloc, self.places.len())?;
+        for place in &self.places {
+            places.push(place.image(alloc)?)?;
+        }
+        Ok(HandsImage { places })
+    }
+
+    /// Hands as those were.
+    pub fn restore(image: &HandsImage) -> Result<Hands, Memory>
+        ensures { IfOk result (λ hands. hands ≡ image.now) }
+    {
+        let alloc = *image.places.allocator();
+        let mut made = Vec::with_capacity(alloc, image.places.len())?;
+        for place in &image.places {
+            made.push(Worker::restore(alloc, place)?)?;
+        }
+        Ok(Hands { places: made })
     }
 
     /// The frame in the worker's hand. None where the hand is empty.

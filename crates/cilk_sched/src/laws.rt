@@ -96,3 +96,23 @@ pub fn names_are_read()
     ensures elsewhere { (name other : Frame → Path) (places : List (WorkerOf Frame)) → AllHeld (λ f. name f ≡ other f) places
         → named name places ≡ named other places }
 {}
+
+/// Each move is undone by another one.
+pub fn moves_come_back()
+    ensures gives { (places : List (WorkerOf Frame)) (w : ℕ) (f : Frame) → IsWorker places w → hand_of places w ≡ None
+        → with_hand (with_hand places w (Some f)) w None ≡ places }
+    ensures takes { (places : List (WorkerOf Frame)) (w : ℕ) → IsWorker places w
+        → with_hand (with_hand places w None) w (hand_of places w) ≡ places }
+    ensures changes { (places : List (WorkerOf Frame)) (w : ℕ) (f g : Frame) (back : Frame → Frame) → IsWorker places w
+        → hand_of places w ≡ Some f → back g ≡ f
+        → with_hand (with_hand places w (Some g)) w (option_map back (hand_of (with_hand places w (Some g)) w)) ≡ places }
+    ensures pushes { (places : List (WorkerOf Frame)) (w : ℕ) (f : Frame) → IsWorker places w
+        → (let now : List (WorkerOf Frame) = with_deque places w (deque_of places w ++ f ∷ []) in
+        (bottom_of (deque_of now w) ≡ Some f) × (with_deque now w (above_bottom (deque_of now w)) ≡ places)) }
+    ensures pops { (places : List (WorkerOf Frame)) (w : ℕ) (f : Frame) → IsWorker places w → bottom_of (deque_of places w) ≡ Some f
+        → (let now : List (WorkerOf Frame) = with_deque places w (above_bottom (deque_of places w)) in
+        with_deque now w (deque_of now w ++ f ∷ []) ≡ places) }
+    ensures steals { (places : List (WorkerOf Frame)) (v : ℕ) (f : Frame) → IsWorker places v → top_of (deque_of places v) ≡ Some f
+        → (let now : List (WorkerOf Frame) = with_deque places v (below_top (deque_of places v)) in
+        with_deque now v (f ∷ deque_of now v) ≡ places) }
+{}

@@ -50,12 +50,15 @@
 #![tactic(auto)]
 
 mod hands;
+mod hands_image;
 mod laws;
 mod worker;
+mod worker_image;
 
-pub use cilk_frame::{Area, Body, Memory, Var};
+pub use cilk_frame::{Activation, Area, Body, Memory, Var};
 pub use hands::Hands;
+pub use hands_image::HandsImage;
 pub use laws::{
-    each_frame_is_counted, moves_are_counted, names_are_read, names_go_along,
+    each_frame_is_counted, moves_are_counted, moves_come_back, names_are_read, names_go_along,
     others_keep_their_places,
 };

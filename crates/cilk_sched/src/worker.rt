@@ -1,12 +1,13 @@
 //! The hand and the deque of one worker.
 
-ghost use Rattle.std.specs.Prelude.{◌≡◌, ◌<◌, ◌++◌, ◌∷◌, [], Some, None, length, option_map, slice_get, IfErr, IfSome, OnErr, OnOk};
+ghost use Rattle.std.specs.Prelude.{◌≡◌, ◌<◌, ◌-◌, ◌++◌, ◌∷◌, [], Some, None, length, option_map, slice_get, IfErr, IfOk, IfSome, OnErr, OnOk};
 ghost use Rattle.std.specs.Option.{option_copied};
 ghost use Rattle.cilk_frame.specs.model.Places.{no_place, top_of, below_top, bottom_of, above_bottom};
 ghost use Rattle.cilk_frame.specs.Frames as frames;
-ghost use Rattle.cilk_frame.specs.Frames.{gone_to, left, with_cell, put_top};
+ghost use Rattle.cilk_frame.specs.Frames.{gone_to, stood, entered, left, with_cell, put_top, put_below};
 
-use cilk_frame::Frame;
+use crate::worker_image::{WorkerImage, deque_image, deque_restored, hand_image, hand_restored};
+use cilk_frame::{Activation, Frame, Memory};
 use std::alloc::Global;
 use std::collections::VecDeque;
 use std::marker::Model;
@@ -136,5 +137,80 @@ impl Worker {
         ensures rest { self.new ≡ record self.old { deque = below_top self.old.deque } }
     {
         self.deque.pop_front()
+    }
+
+    /// Puts a value into a cell of the activation below the one that goes on.
+    pub fn set_cell_below(&mut self, slot: u32, value: i32)
+        requires { IfSome self.old.hand (λ f. (1 < frames.depth f) × (slot < length (frames.activation_at f (frames.depth f - 2)).cells)) }
+        ensures { self.new ≡ record self.old { hand = option_map (put_below slot value) self.old.hand } }
+    {
+        match &mut self.hand {
+            None => {}
+            Some(frame) => {
+                let below = frame.depth() - 2;
+                frame.set_cell(below, slot, value);
+            }
+        }
+    }
+
+    /// The instance in the hand stood at action n, with this flag.
+    pub fn stand(&mut self, n: u32, boundary: bool)
+        ensures { self.new ≡ record self.old { hand = option_map (stood n boundary) self.old.hand } }
+    {
+        match &mut self.hand {
+            None => {}
+            Some(frame) => frame.stand(n, boundary),
+        }
+    }
+
+    /// The body above the others, in the hand, is left, and answered as a whole.
+    pub fn withdraw(&mut self) -> Option<Activation>
+        requires { IfSome self.old.hand (λ f. 1 < frames.depth f) }
+        ensures value { result ≡ option_map frames.top_of self.old.hand }
+        ensures rest { self.new ≡ record self.old { hand = option_map left self.old.hand } }
+    {
+        match &mut self.hand {
+            None => None,
+            Some(frame) => Some(frame.withdraw()),
+        }
+    }
+
+    /// A body that was left goes on again, in the hand.
+    pub fn enter_again(&mut self, activation: Box<Activation>) -> Result<(), Box<Activation>>
+        requires { IfSome self.old.hand (λ f. frames.depth f < 256) }
+        ensures ok { OnOk result (self.new ≡ record self.old { hand = option_map (entered activation.value) self.old.hand }) }
+        ensures err { OnErr result (self.new ≡ self.old) }
+        ensures back { IfErr result (λ a. a.value ≡ activation.value) }
+    {
+        match &mut self.hand {
+            None => Ok(()),
+            Some(frame) => frame.enter_again(activation),
+        }
+    }
+
+    pub fn push_top(&mut self, frame: Frame) -> Result<(), Frame>
+        ensures ok { OnOk result (self.new ≡ record self.old { deque = frame ∷ self.old.deque }) }
+        ensures err { OnErr result (self.new ≡ self.old) }
+        ensures back { IfErr result (λ f. f ≡ frame) }
+    {
+        self.deque.push_front(frame).map_err(|failed| failed.value)
+    }
+
+    /// What it has now, as plain data.
+    pub fn image(&self, alloc: Global) -> Result<WorkerImage, Memory>
+        ensures { IfOk result (λ image. image ≡ self.now) }
+    {
+        let hand = hand_image(&self.hand)?;
+        let deque = deque_image(alloc, &self.deque)?;
+        Ok(WorkerImage { hand, deque })
+    }
+
+    /// A worker who has what that one had.
+    pub fn restore(alloc: Global, image: &WorkerImage) -> Result<Worker, Memory>
+        ensures { IfOk result (λ worker. worker ≡ image.now) }
+    {
+        let hand = hand_restored(&image.hand)?;
+        let deque = deque_restored(alloc, image.deque.as_slice())?;
+        Ok(Worker { hand, deque })
     }
 }

@@ -20,3 +20,9 @@ pub mod Born
 pub mod Taking
 pub mod Seeks
 pub mod Takes
+pub mod Revives
+pub mod Dropped
+pub mod Unborn
+pub mod Undone
+pub mod InPlace
+pub mod Copies

@@ -2,5 +2,10 @@ pub mod Nodes
 pub mod Family
 pub mod Records
 pub mod Kinds
-pub use Rattle.cilk_frame.specs.canonical
+pub mod Remains
+pub mod Revived
+pub mod Dropped
+pub mod Undone
+pub mod Copied
+pub use Rattle.cilk_frame.specs.syntax
 pub use Rattle.cilk_frame.specs.model

@@ -22,6 +22,7 @@
 #![tactic(auto)]
 
 mod arguments;
+mod birth;
 mod delivery;
 mod ending;
 mod fate;
@@ -29,10 +30,14 @@ mod laws;
 mod leaving;
 mod life;
 mod path;
+mod putting;
 mod receiver;
 mod record;
+mod remains;
+mod taken;
 mod trap_kind;
 mod tree;
+mod tree_image;
 
 pub use arguments::Arguments;
 pub use cilk_frame::{Frame, Id, Memory, Trap};
@@ -44,5 +49,8 @@ pub use laws::{
 };
 pub use path::Path;
 pub use receiver::Receiver;
+pub use remains::Remains;
+pub use taken::Taken;
 pub use trap_kind::TrapKind;
 pub use tree::Tree;
+pub use tree_image::TreeImage;

@@ -4,18 +4,24 @@ ghost use Rattle.std.specs.Prelude.{ℕ, ◌≡◌, ◌<◌, ◌==◌, ◌&&◌,
 ghost use Rattle.std.specs.Prelude.{option_copied, slice_get};
 ghost use Rattle.cilk_spawn.specs.Nodes.{is_live, is_number, fate_at, after_taking};
 ghost use Rattle.cilk_spawn.specs.declared.receiver.Receiver.TheVariants.{Nothing};
+ghost use Rattle.cilk_spawn.specs.Remains.{remains_of};
 ghost use Rattle.cilk_spawn.specs.Records.{node_of, node_at_start, child_of, live_index, SameBeside, HasRoom, NoneBetween};
 
+use crate::birth::Birth;
 use crate::delivery::Delivery;
 use crate::ending::Ending;
 use crate::fate::Fate;
 use crate::life::{Life, Live};
 use crate::receiver::Receiver;
+use crate::remains::Remains;
 use cilk_frame::{Frame, Id, Memory};
 use std::alloc::Global;
 use std::collections::{BTreeMap, VecDeque};
 use std::mem::{replace, size_of};
 use std::ops::Bound;
+
+mod copying;
+mod undoing;
 
 /// What is kept of each instance ever made.
 #[derive(Drop)]
@@ -34,16 +40,8 @@ const _: () = prove!(size_of::<Record>() <= 48);
 
 impl Record {
     /// An instance at its start.
-    pub fn start(
-        alloc: Global,
-        parent: Option<Id>,
-        ordinal: u32,
-        procedure: u32,
-        aborted: bool,
-        receiver: Receiver,
-        place: usize,
-    ) -> Result<Record, Memory>
-        ensures node { IfOk result (λ r. node_of r ≡ node_at_start parent ordinal procedure aborted receiver) }
+    pub fn start(alloc: Global, birth: Birth, place: usize) -> Result<Record, Memory>
+        ensures node { IfOk result (λ r. node_of r ≡ node_at_start birth.parent birth.ordinal birth.procedure birth.aborted birth.receiver) }
         ensures children { IfOk result (λ r. (k : ℕ) → child_of r.life k ≡ None) }
         ensures place { IfOk result (λ r. live_index r.life ≡ place) }
     {
@@ -51,18 +49,18 @@ impl Record {
             alloc,
             Live {
                 living: BTreeMap::new(alloc),
-                receiver,
+                receiver: birth.receiver,
                 waiting: VecDeque::new(alloc),
                 parked: None,
                 place,
             },
         )?;
         Ok(Record {
-            parent,
-            ordinal,
-            procedure,
+            parent: birth.parent,
+            ordinal: birth.ordinal,
+            procedure: birth.procedure,
             children: 0,
-            aborted,
+            aborted: birth.aborted,
             life: Life::Live(live),
         })
     }
@@ -132,15 +130,22 @@ impl Record {
         }
     }
 
-    /// It lives no more, from this choice on.
-    pub fn end(&mut self, ending: Ending, choice: u64)
+    /// It lives no more, from this choice on. Answers what was kept of it, if it lived.
+    pub fn retire(&mut self, ending: Ending, choice: u64) -> Option<Remains>
+        requires childless { (k : ℕ) → child_of self.old.life k ≡ None }
+        requires free { (node_of self.old).parked ≡ None }
         ensures node { node_of self.new ≡ record (node_of self.old) { fate = fate_at ending choice; receiver = Nothing; waiting = []; parked = None } }
         ensures children { (k : ℕ) → child_of self.new.life k ≡ None }
+        ensures remains { is_live (node_of self.old) ≡ true → result ≡ Some (remains_of (node_of self.old).receiver (node_of self.old).waiting) }
     {
-        self.life = match ending {
+        let life = match ending {
             Ending::Returned => Life::Returned,
             Ending::Aborted => Life::Aborted(choice),
         };
+        match replace(&mut self.life, life) {
+            Life::Live(live) => Some(Remains { live }),
+            _ => None,
+        }
     }
 
     /// Its value is taken at this choice. One that lives keeps its fate.

@@ -4,7 +4,9 @@ ghost use Rattle.std.specs.Prelude.{ℕ, ◌≡◌, ◌<◌, ◌+◌, ◌^◌, l
 ghost use Rattle.std.specs.Prelude.{option_copied, slice_get};
 ghost use Rattle.cilk_spawn.specs.Nodes.{node_at, is_live, live_ids, has_live_child, is_synched, takes_value, root_alone, with_child, delivered};
 ghost use Rattle.cilk_spawn.specs.Nodes.{taken, fate_at, ended, with_parked, marked_below, path_at, IsTree};
+ghost use Rattle.cilk_spawn.specs.Remains.{remains_of};
 
+use crate::birth::Birth;
 use crate::delivery::Delivery;
 use crate::ending::Ending;
 use crate::fate::Fate;
@@ -12,9 +14,13 @@ use crate::leaving::{leave_parent, settle};
 use crate::path::Path;
 use crate::receiver::Receiver;
 use crate::record::Record;
+use crate::remains::Remains;
 use cilk_frame::{Frame, Id, Memory};
 use std::alloc::Global;
 use std::marker::Model;
+
+mod imaging;
+mod undoing;
 
 /// Every instance ever made. An id is the next number from 0 on, and it is never given again.
 #[derive(Drop)]
@@ -40,8 +46,15 @@ impl Tree {
     pub fn new(alloc: Global, procedure: u32) -> Result<Tree, Memory>
         ensures { IfOk result (λ tree. tree ≡ record { nodes = root_alone procedure; living = 0 ∷ [] }) }
     {
+        let root = Birth {
+            parent: None,
+            ordinal: 0,
+            procedure,
+            aborted: false,
+            receiver: Receiver::Nothing,
+        };
         let mut records = Vec::new(alloc);
-        records.push(Record::start(alloc, None, 0, procedure, false, Receiver::Nothing, 0)?)?;
+        records.push(Record::start(alloc, root, 0)?)?;
         let mut living = Vec::new(alloc);
         living.push(Id::new(0))?;
         Ok(Tree { records, living })
@@ -79,15 +92,14 @@ impl Tree {
         let place = self.living.len();
         self.records.reserve(1)?;
         self.living.reserve(1)?;
-        let child = Record::start(
-            alloc,
-            Some(parent),
+        let birth = Birth {
+            parent: Some(parent),
             ordinal,
             procedure,
             aborted,
             receiver,
-            place,
-        )?;
+        };
+        let child = Record::start(alloc, birth, place)?;
         self.records[spawner].adopt(ordinal, id)?;
         self.records.push_reserved(child);
         self.living.push_reserved(id);
@@ -177,12 +189,24 @@ impl Tree {
         requires parked { (node_at self.old.nodes id).parked ≡ None }
         ensures { self.new.nodes ≡ ended self.old.nodes id (fate_at ending choice) }
     {
+        let _remains = self.retire(id, ending, choice);
+    }
+
+    /// The same. Answers what was kept of it, so that it may live again.
+    pub fn retire(&mut self, id: Id, ending: Ending, choice: u64) -> Option<Remains>
+        requires live { is_live (node_at self.old.nodes id) ≡ true }
+        requires children { has_live_child self.old.nodes id ≡ false }
+        requires parked { (node_at self.old.nodes id).parked ≡ None }
+        ensures nodes { self.new.nodes ≡ ended self.old.nodes id (fate_at ending choice) }
+        ensures remains { result ≡ Some (remains_of (node_at self.old.nodes id).receiver (node_at self.old.nodes id).waiting) }
+    {
         let number = id.number();
         let place = self.records[number].place();
         leave_parent(&mut self.records, number);
-        self.records[number].end(ending, choice);
+        let remains = self.records[number].retire(ending, choice);
         self.living.swap_remove(place);
         settle(&mut self.records, self.living.as_slice(), place);
+        remains
     }
 
     /// Keeps the frame of a live instance, until it is taken out.

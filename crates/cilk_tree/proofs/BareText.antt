@@ -5,20 +5,21 @@ use Rattle.cilk_tree_syntax.specs.Adjustments.{adjustment_mark}
 use Rattle.cilk_tree_syntax.specs.Tree.{Word, Literal, Expr, number, named, element, synched, binary, unary, choose, Place, Target, Move, assign}
 use Rattle.cilk_tree_syntax.specs.Tree.{adjust, call, Taker, nothing, into, through, Shape, variable, array, Decl}
 use Rattle.cilk_tree_syntax.specs.Tree.{Stmt, move, spawn_at, print, locking, null, sync_at, abort_at, break_at, continue_at, return_at, when, either}
-use Rattle.cilk_tree_syntax.specs.Tree.{while, repeat, loop, nested, Stmts, none, also, Local, declared, inlet_at, Locals, no_locals, and_local}
+use Rattle.cilk_tree_syntax.specs.Tree.{while, repeat, loop, switch, labelled, nested, Stmts, none, also, Local, declared, inlet_at, Locals, no_locals}
+use Rattle.cilk_tree_syntax.specs.Tree.{and_local}
 use Rattle.cilk_tree_syntax.specs.Tree.{Block, block}
 use Rattle.cilk_tree_syntax.specs.Tree.{Parameters, ints, command_line, Proc, Item, global, lock, prototype, procedure, Program}
 use Rattle.cilk_tree_syntax.specs.Bare.{bare_word, bare_expr, bare_value, bare_exprs, bare_place, bare_target, bare_receiver, bare_move, bare_part}
 use Rattle.cilk_tree_syntax.specs.Bare.{bare_taker, bare_shape, bare_decl, bare_words, bare_literal, bare_stmt, bare_stmts, bare_local, bare_locals}
 use Rattle.cilk_tree_syntax.specs.Bare.{bare_block}
 use Rattle.cilk_tree_syntax.specs.Bare.{bare_parameters, bare_item, bare_program, bare_proc}
-use Rattle.cilk_tree.specs.Lines.{text_of, deeper, closed, ended}
-use Rattle.cilk_tree.specs.ExprText.{stands_alone, as_operand, expr_text}
-use Rattle.cilk_tree.specs.MoveText.{next_exprs_text, exprs_text, call_text, index_text, place_text, op_text, target_text, receiver_text, move_text}
-use Rattle.cilk_tree.specs.MoveText.{before_text, behind_text, spawn_text, literal_text, print_text, return_text, shape_text, decl_text}
-use Rattle.cilk_tree.specs.StmtLines.{test_line, until_line, part_text, for_line, next_names_text, names_text, inlet_line, stmt_lines, stmts_lines}
-use Rattle.cilk_tree.specs.StmtLines.{local_lines, locals_lines, block_lines}
-use Rattle.cilk_tree.specs.ProgramText.{header_line, head_text, parameters_text, opening_line, item_lines, items_lines, program_text}
+use Rattle.cilk_tree_syntax.specs.Lines.{text_of, deeper, closed, ended}
+use Rattle.cilk_tree_syntax.specs.ExprText.{stands_alone, as_operand, expr_text}
+use Rattle.cilk_tree_syntax.specs.MoveText.{next_exprs_text, exprs_text, call_text, index_text, place_text, op_text, target_text, receiver_text, move_text}
+use Rattle.cilk_tree_syntax.specs.MoveText.{before_text, behind_text, spawn_text, literal_text, print_text, return_text, shape_text, decl_text}
+use Rattle.cilk_tree_syntax.specs.StmtLines.{test_line, until_line, part_text, for_line, next_names_text, names_text, inlet_line, stmt_lines, stmts_lines}
+use Rattle.cilk_tree_syntax.specs.StmtLines.{is_label, set_in, local_lines, locals_lines, block_lines, cases_lines, switch_lines}
+use Rattle.cilk_tree_syntax.specs.ProgramText.{header_line, head_text, parameters_text, opening_line, item_lines, items_lines, program_text}
 
 stands_alone-bare : (e : Expr) → stands_alone (bare_expr e) ≡ stands_alone e
 stands_alone-bare (number n) = refl
@@ -129,6 +130,26 @@ until_line-bare test = λ i. codes "} while (" ++ (expr_text-bare test i ++ code
 inlet_line-bare : (name : Word) (parameters : List Word) → inlet_line (bare_word name) (bare_words parameters) ≡ inlet_line name parameters
 inlet_line-bare name parameters = λ i. codes "inlet void " ++ (name.text ++ (codes "(" ++ (names_text-bare parameters i ++ codes ") {")))
 
+is_label-bare : (s : Stmt) → is_label (bare_stmt s) ≡ is_label s
+is_label-bare (move what) = refl
+is_label-bare (spawn_at at taker callee arguments) = refl
+is_label-bare (print format arguments) = refl
+is_label-bare (locking action name) = refl
+is_label-bare null = refl
+is_label-bare (sync_at at) = refl
+is_label-bare (abort_at at) = refl
+is_label-bare (break_at at) = refl
+is_label-bare (continue_at at) = refl
+is_label-bare (return_at at value) = refl
+is_label-bare (when test body) = refl
+is_label-bare (either test body other) = refl
+is_label-bare (while test body) = refl
+is_label-bare (repeat body test) = refl
+is_label-bare (loop first test advance body) = refl
+is_label-bare (switch test body) = refl
+is_label-bare (labelled label) = refl
+is_label-bare (nested inside) = refl
+
 mutual
   pub stmt_lines-bare : (s : Stmt) → stmt_lines (bare_stmt s) ≡ stmt_lines s
   stmt_lines-bare (move what) = λ i. ended (move_text-bare what i)
@@ -147,6 +168,8 @@ mutual
   stmt_lines-bare (while test body) = λ i. test_line-bare (codes "while") test i ∷ closed (block_lines-bare body i)
   stmt_lines-bare (repeat body test) = λ i. codes "do {" ∷ (deeper (block_lines-bare body i) ++ until_line-bare test i ∷ [])
   stmt_lines-bare (loop first test advance body) = λ i. for_line-bare first test advance i ∷ closed (block_lines-bare body i)
+  stmt_lines-bare (switch test body) = λ i. test_line-bare (codes "switch") test i ∷ (switch_lines-bare body i ++ codes "}" ∷ [])
+  stmt_lines-bare (labelled label) = refl
   stmt_lines-bare (nested inside) = λ i. codes "{" ∷ closed (block_lines-bare inside i)
 
   pub stmts_lines-bare : (ss : Stmts) → stmts_lines (bare_stmts ss) ≡ stmts_lines ss
@@ -163,6 +186,13 @@ mutual
 
   pub block_lines-bare : (b : Block) → block_lines (bare_block b) ≡ block_lines b
   block_lines-bare (block locals stmts) = λ i. locals_lines-bare locals i ++ stmts_lines-bare stmts i
+
+  pub cases_lines-bare : (ss : Stmts) → cases_lines (bare_stmts ss) ≡ cases_lines ss
+  cases_lines-bare none = refl
+  cases_lines-bare (also first others) = λ i. set_in (is_label-bare first i) (stmt_lines-bare first i) ++ cases_lines-bare others i
+
+  pub switch_lines-bare : (b : Block) → switch_lines (bare_block b) ≡ switch_lines b
+  switch_lines-bare (block locals stmts) = λ i. deeper (locals_lines-bare locals i) ++ cases_lines-bare stmts i
 
 parameters_text-bare : (ps : Parameters) → parameters_text (bare_parameters ps) ≡ parameters_text ps
 parameters_text-bare (ints names) = names_text-bare names

@@ -3,7 +3,7 @@ use Rattle.std.proofs.Common.{◌≡◌, ◌≢◌, ℕ, suc, ◌<◌, List, [],
 use Rattle.std.proofs.lemmas.Bool.Decides.{nat_tests}
 use Rattle.std.specs.Char.{encode_utf8}
 use Rattle.std.proofs.lemmas.Str.{inside_one}
-use Rattle.cilk_tree.specs.MoveText.{escape, escapes}
+use Rattle.cilk_tree_syntax.specs.MoveText.{escape, escapes}
 
 pub escapes-append : (xs ys : List ℕ) → escapes (xs ++ ys) ≡ escapes xs ++ escapes ys
 escapes-append [] ys = refl

@@ -2,9 +2,9 @@
 
 ghost use Rattle.std.specs.Prelude.{◌≡◌};
 ghost use Rattle.cilk_tree_syntax.specs.Tree.{binary, choose, element, unary};
-ghost use Rattle.cilk_tree.specs.Appends.{Appends};
-ghost use Rattle.cilk_tree.specs.ExprText.{expr_text, operand_text, stands_alone};
-ghost use Rattle.cilk_tree.specs.MoveText.{exprs_text, next_exprs_text};
+ghost use Rattle.cilk_tree_syntax.specs.Appends.{Appends};
+ghost use Rattle.cilk_tree_syntax.specs.ExprText.{expr_text, operand_text, stands_alone};
+ghost use Rattle.cilk_tree_syntax.specs.MoveText.{exprs_text, next_exprs_text};
 
 use crate::put::{put, put_number};
 use cilk_tree_syntax::{BinOp, Expr, ExprNode, Memory, UnOp, Word};

@@ -1,14 +1,17 @@
 //! The canonical lines that open and close bodies.
 
-ghost use Rattle.std.specs.Prelude.{◌∷◌, []};
-ghost use Rattle.cilk_tree.specs.Appends.{Appends};
-ghost use Rattle.cilk_tree.specs.Lines.{text_of};
-ghost use Rattle.cilk_tree.specs.StmtLines.{for_line, inlet_line, names_text, next_names_text, part_text, test_line, until_line};
+ghost use Rattle.std.specs.Prelude.{◌∷◌, [], ◌++◌, codes};
+ghost use Rattle.std.specs.Fmt.{signed_decimal};
+ghost use Rattle.cilk_tree_syntax.specs.Appends.{Appends};
+ghost use Rattle.cilk_tree_syntax.specs.Lines.{text_of};
+ghost use Rattle.cilk_tree_syntax.specs.StmtLines.{for_line, inlet_line, label_line, label_text, names_text, next_names_text, part_text, test_line};
+ghost use Rattle.cilk_tree_syntax.specs.StmtLines.{until_line};
 
 use crate::expr::put_expr;
 use crate::line::put_move;
 use crate::put::put;
-use cilk_tree_syntax::{Expr, Memory, Move, Word};
+use cilk_tree_syntax::{Expr, Label, Memory, Move, Word};
+use itoa::Buffer;
 
 pub(crate) fn put_line(out: &mut String, indent: &str, line: &str) -> Result<(), Memory>
     ensures { Appends result out.old out.new (text_of indent.now (line.now ∷ [])) }
@@ -18,7 +21,7 @@ pub(crate) fn put_line(out: &mut String, indent: &str, line: &str) -> Result<(),
     put(out, "\n")
 }
 
-// The line that opens the body of an `if` or a `while`, whose word is given.
+// The line that opens the body of an `if`, a `while` or a `switch`, whose word is given.
 pub(crate) fn put_test_line(
     out: &mut String,
     indent: &str,
@@ -72,6 +75,32 @@ fn put_part(out: &mut String, part: &Option<Move>) -> Result<(), Memory>
         None => Ok(()),
         Some(what) => put_move(out, what),
     }
+}
+
+// The line of a label.
+pub(crate) fn put_label_line(out: &mut String, indent: &str, label: Label) -> Result<(), Memory>
+    ensures { Appends result out.old out.new (text_of indent.now (label_line label ∷ [])) }
+{
+    put(out, indent)?;
+    put_label(out, label.value)?;
+    put(out, ":\n")
+}
+
+fn put_label(out: &mut String, value: Option<i32>) -> Result<(), Memory>
+    ensures { Appends result out.old out.new (label_text value) }
+{
+    match value {
+        None => put(out, "default"),
+        Some(value) => put_case_text(out, value),
+    }
+}
+
+fn put_case_text(out: &mut String, value: i32) -> Result<(), Memory>
+    ensures { Appends result out.old out.new (codes "case " ++ signed_decimal value) }
+{
+    let mut buffer = Buffer::new();
+    put(out, "case ")?;
+    put(out, buffer.format(value))
 }
 
 // The line that opens the body of an inlet.

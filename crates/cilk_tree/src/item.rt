@@ -4,10 +4,10 @@ ghost use Rattle.std.specs.Prelude.{◌≡◌, ◌++◌, ◌∷◌, [], codes, I
 ghost use Rattle.std.specs.Fmt.{signed_decimal};
 ghost use Rattle.cilk_tree_syntax.specs.ProgramView.{global_shape_of, parameters_of};
 ghost use Rattle.cilk_tree_syntax.specs.Tree.{command_line, global, lock, prototype, procedure};
-ghost use Rattle.cilk_tree.specs.Appends.{Appends};
-ghost use Rattle.cilk_tree.specs.Lines.{text_of};
-ghost use Rattle.cilk_tree.specs.ProgramText.{cilk_text, global_shape_text, head_text, header_line, header_name};
-ghost use Rattle.cilk_tree.specs.ProgramText.{item_lines, next_types_text, opening_line, parameters_text, program_text, types_text};
+ghost use Rattle.cilk_tree_syntax.specs.Appends.{Appends};
+ghost use Rattle.cilk_tree_syntax.specs.Lines.{text_of};
+ghost use Rattle.cilk_tree_syntax.specs.ProgramText.{cilk_text, global_shape_text, head_text, header_line, header_name};
+ghost use Rattle.cilk_tree_syntax.specs.ProgramText.{item_lines, next_types_text, opening_line, parameters_text, program_text, types_text};
 
 use crate::head::put_names;
 use crate::line::put_length;

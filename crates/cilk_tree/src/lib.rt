@@ -13,7 +13,7 @@ mod stmt;
 pub use alike::Same;
 pub use cilk_tree_syntax::{
     Adjustment, BinOp, Block, Decl, Expr, ExprNode, Global, GlobalShape, Inlet, Item, ItemNode,
-    Literal, Local, LocalNode, LockAction, Memory, Move, MoveNode, Parameters, Place, Proc,
+    Label, Literal, Local, LocalNode, LockAction, Memory, Move, MoveNode, Parameters, Place, Proc,
     Program, Prototype, ReturnType, Shape, Stmt, StmtNode, Taker, Target, UnOp, Word,
 };
 pub use item::canonical;

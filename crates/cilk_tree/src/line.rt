@@ -1,9 +1,9 @@
 //! The canonical text of what stands on one line of a body.
 
 ghost use Rattle.cilk_tree_syntax.specs.MoveView.{shape_of, taker_of};
-ghost use Rattle.cilk_tree.specs.Appends.{Appends};
-ghost use Rattle.cilk_tree.specs.MoveText.{before_text, behind_text, call_text, decl_text, index_text, length_text, locking_text, move_text};
-ghost use Rattle.cilk_tree.specs.MoveText.{op_text, place_text, print_text, receiver_text, return_text, shape_text, spawn_text, target_text};
+ghost use Rattle.cilk_tree_syntax.specs.Appends.{Appends};
+ghost use Rattle.cilk_tree_syntax.specs.MoveText.{before_text, behind_text, call_text, decl_text, index_text, length_text, locking_text, move_text};
+ghost use Rattle.cilk_tree_syntax.specs.MoveText.{op_text, place_text, print_text, receiver_text, return_text, shape_text, spawn_text, target_text};
 
 use crate::expr::{put_expr, put_exprs, put_next_exprs};
 use crate::literal::put_literal;

@@ -1,8 +1,8 @@
 //! The canonical text of text literals.
 
 ghost use Rattle.std.specs.Char.{encode_utf8};
-ghost use Rattle.cilk_tree.specs.Appends.{Appends};
-ghost use Rattle.cilk_tree.specs.MoveText.{escapes, literal_text};
+ghost use Rattle.cilk_tree_syntax.specs.Appends.{Appends};
+ghost use Rattle.cilk_tree_syntax.specs.MoveText.{escapes, literal_text};
 
 use crate::put::put;
 use cilk_tree_syntax::{Literal, Memory};

@@ -1,7 +1,7 @@
 //! The smallest parts of the printer.
 
 ghost use Rattle.std.specs.Prelude.{decimal};
-ghost use Rattle.cilk_tree.specs.Appends.{Appends};
+ghost use Rattle.cilk_tree_syntax.specs.Appends.{Appends};
 
 use cilk_tree_syntax::Memory;
 use itoa::Buffer;

@@ -1,14 +1,17 @@
 //! The canonical lines of statements and blocks.
 
+ghost use Rattle.std.specs.Prelude.{◌≡◌, ◌++◌, codes, if◌then◌else◌, IfOk, string_bytes};
 ghost use Rattle.cilk_tree_syntax.specs.StmtView.{if_of};
-ghost use Rattle.cilk_tree_syntax.specs.Tree.{nested, repeat, while, inlet_at};
-ghost use Rattle.cilk_tree.specs.Appends.{Appends};
-ghost use Rattle.cilk_tree.specs.Lines.{closed, deeper, ended, text_of};
-ghost use Rattle.cilk_tree.specs.MoveText.{decl_text, locking_text, move_text, print_text, return_text, spawn_text};
-ghost use Rattle.cilk_tree.specs.StmtLines.{block_lines, else_lines, local_lines, stmt_lines};
+ghost use Rattle.cilk_tree_syntax.specs.Tree.{nested, repeat, switch, while, inlet_at};
+ghost use Rattle.cilk_tree_syntax.specs.Appends.{Appends};
+ghost use Rattle.cilk_tree_syntax.specs.Lines.{closed, deeper, ended, text_of};
+ghost use Rattle.cilk_tree_syntax.specs.MoveText.{decl_text, locking_text, move_text, print_text, return_text, spawn_text};
+ghost use Rattle.cilk_tree_syntax.specs.StmtLines.{block_lines, else_lines, is_label, local_lines, stmt_lines, switch_lines};
 ghost use Rattle.cilk_tree_syntax.specs.MoveView.{taker_of};
 
-use crate::head::{put_for_line, put_inlet_line, put_line, put_test_line, put_until_line};
+use crate::head::{
+    put_for_line, put_inlet_line, put_label_line, put_line, put_test_line, put_until_line,
+};
 use crate::line::{put_decl, put_locking, put_move, put_print, put_return, put_spawn};
 use crate::put::put;
 use cilk_tree_syntax::{
@@ -41,6 +44,8 @@ fn put_stmt(alloc: Global, out: &mut String, indent: &str, stmt: &Stmt) -> Resul
             put_for_line(out, indent, first, test, advance)?;
             put_body(alloc, out, indent, body)
         }
+        StmtNode::Switch(test, body) => put_switch(alloc, out, indent, test, body),
+        StmtNode::Labelled(label) => put_label_line(out, indent, *label),
         StmtNode::Nested(inside) => put_nested(alloc, out, indent, inside),
     }
 }
@@ -174,6 +179,21 @@ fn put_do(
 }
 
 #[cycle(put_stmt)]
+fn put_switch(
+    alloc: Global,
+    out: &mut String,
+    indent: &str,
+    test: &Expr,
+    body: &Block,
+) -> Result<(), Memory>
+    ensures { Appends result out.old out.new (text_of indent.now (stmt_lines (switch test.now body.now))) }
+{
+    put_test_line(out, indent, "switch", test)?;
+    put_cases(alloc, out, indent, body)?;
+    put_line(out, indent, "}")
+}
+
+#[cycle(put_stmt)]
 fn put_nested(alloc: Global, out: &mut String, indent: &str, inside: &Block) -> Result<(), Memory>
     ensures { Appends result out.old out.new (text_of indent.now (stmt_lines (nested inside.now))) }
 {
@@ -222,13 +242,21 @@ pub(crate) fn put_body(
     put_line(out, indent, "}")
 }
 
+// The indent of one level more.
+fn indent_in(alloc: Global, indent: &str) -> Result<String, Memory>
+    ensures { IfOk result (λ s. string_bytes s ≡ indent.now ++ codes "    ") }
+{
+    let mut inner = String::from_str(alloc, indent)?;
+    put(&mut inner, "    ")?;
+    Ok(inner)
+}
+
 // The lines of a block, one level deeper than `indent`.
 #[cycle(put_stmt)]
 fn put_block(alloc: Global, out: &mut String, indent: &str, block: &Block) -> Result<(), Memory>
     ensures { Appends result out.old out.new (text_of indent.now (deeper (block_lines block.now))) }
 {
-    let mut inner = String::from_str(alloc, indent)?;
-    put(&mut inner, "    ")?;
+    let inner = indent_in(alloc, indent)?;
     for local in &block.locals {
         put_local(alloc, out, inner.as_str(), local)?;
     }
@@ -236,4 +264,43 @@ fn put_block(alloc: Global, out: &mut String, indent: &str, block: &Block) -> Re
         put_stmt(alloc, out, inner.as_str(), stmt)?;
     }
     Ok(())
+}
+
+// The lines of the block of a `switch`: the labels at the level of `indent`, and all else one level deeper.
+#[cycle(put_stmt)]
+fn put_cases(alloc: Global, out: &mut String, indent: &str, block: &Block) -> Result<(), Memory>
+    ensures { Appends result out.old out.new (text_of indent.now (switch_lines block.now)) }
+{
+    let inner = indent_in(alloc, indent)?;
+    for local in &block.locals {
+        put_local(alloc, out, inner.as_str(), local)?;
+    }
+    for stmt in &block.stmts {
+        put_case(alloc, out, indent, inner.as_str(), stmt)?;
+    }
+    Ok(())
+}
+
+// A label behind one indent, or another statement behind the other.
+#[cycle(put_stmt)]
+fn put_case(
+    alloc: Global,
+    out: &mut String,
+    indent: &str,
+    inner: &str,
+    stmt: &Stmt,
+) -> Result<(), Memory>
+    ensures { Appends result out.old out.new
+        (text_of (if is_label stmt.now then indent.now else inner.now) (stmt_lines stmt.now)) }
+{
+    if is_label(stmt) {
+        return put_stmt(alloc, out, indent, stmt);
+    }
+    put_stmt(alloc, out, inner, stmt)
+}
+
+fn is_label(stmt: &Stmt) -> bool
+    ensures { result ≡ is_label stmt.now }
+{
+    matches!(&stmt.node, StmtNode::Labelled(_))
 }

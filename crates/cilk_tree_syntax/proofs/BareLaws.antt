@@ -3,7 +3,8 @@ use Rattle.std.proofs.Common.{◌≡◌, List, [], ◌∷◌, Option, Some, None
 use Rattle.cilk_tree_syntax.specs.Tree.{Word, Expr, number, named, element, synched, binary, unary, choose, Place, Target, Move, assign, adjust, call}
 use Rattle.cilk_tree_syntax.specs.Tree.{Taker, nothing, into, through, Shape, variable, array, Decl}
 use Rattle.cilk_tree_syntax.specs.Tree.{Stmt, move, spawn_at, print, locking, null, sync_at, abort_at, break_at, continue_at, return_at, when, either}
-use Rattle.cilk_tree_syntax.specs.Tree.{while, repeat, loop, nested, Stmts, none, also, Local, declared, inlet_at, Locals, no_locals, and_local}
+use Rattle.cilk_tree_syntax.specs.Tree.{while, repeat, loop, switch, labelled, nested, Stmts, none, also, Local, declared, inlet_at, Locals, no_locals}
+use Rattle.cilk_tree_syntax.specs.Tree.{and_local}
 use Rattle.cilk_tree_syntax.specs.Tree.{Block, block}
 use Rattle.cilk_tree_syntax.specs.Tree.{Parameters, ints, command_line, Proc, Item, global, lock, prototype, procedure, Program}
 use Rattle.cilk_tree_syntax.specs.Bare.{bare_word, bare_expr, bare_value, bare_exprs, bare_place, bare_target, bare_move, bare_part, bare_taker}
@@ -82,6 +83,8 @@ mutual
   bare_stmt-bare (repeat body test) = λ i. repeat (bare_block-bare body i) (bare_expr-bare test i)
   bare_stmt-bare (loop first test advance body) =
       λ i. loop (bare_part-twice first i) (bare_expr-bare test i) (bare_part-twice advance i) (bare_block-bare body i)
+  bare_stmt-bare (switch test body) = λ i. switch (bare_expr-bare test i) (bare_block-bare body i)
+  bare_stmt-bare (labelled label) = refl
   bare_stmt-bare (nested inside) = λ i. nested (bare_block-bare inside i)
 
   pub bare_stmts-bare : (ss : Stmts) → bare_stmts (bare_stmts ss) ≡ bare_stmts ss

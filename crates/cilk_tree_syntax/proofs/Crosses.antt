@@ -8,6 +8,7 @@ use Rattle.cilk_tree_syntax.specs.contracts.program.Program as program
 use Rattle.cilk_tree_syntax.proofs.block.Block.TheLaws.TheKnot as knot
 use Rattle.cilk_tree_syntax.proofs.expr.Expr.TheLaws.TheKnot as expr
 use Rattle.cilk_tree_syntax.proofs.global.Global.TheSendSync as global
+use Rattle.cilk_tree_syntax.proofs.label.Label.TheSendSync as label
 use Rattle.cilk_tree_syntax.proofs.literal.Literal.TheSendSync as literal
 use Rattle.cilk_tree_syntax.proofs.lock_action.LockAction.TheSendSync as lock_action
 use Rattle.cilk_tree_syntax.proofs.operator.BinOp.TheSendSync as bin_op
@@ -22,6 +23,7 @@ ruleset leaves_send = (
   crosses,
   sendable,
   word.the_send,
+  label.the_send,
   literal.the_send,
   lock_action.the_send,
   lock_action.the_field_send,
@@ -48,12 +50,14 @@ block_send =
     option.the_send
     (search leaves_send depth 40 fits 3000)
     (search leaves_send depth 40 fits 3000)
+    (search leaves_send depth 40 fits 3000)
 
 ruleset leaves_sync = (
   expr.crosses,
   crosses,
   sendable,
   word.the_sync,
+  label.the_sync,
   literal.the_sync,
   lock_action.the_sync,
   lock_action.the_field_sync,
@@ -78,6 +82,7 @@ block_sync =
     (search leaves_sync depth 40 fits 3000)
     (search leaves_sync depth 40 fits 3000)
     option.the_sync
+    (search leaves_sync depth 40 fits 3000)
     (search leaves_sync depth 40 fits 3000)
     (search leaves_sync depth 40 fits 3000)
 

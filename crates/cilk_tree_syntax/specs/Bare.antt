@@ -1,9 +1,10 @@
 -- Trees with their places, and a program's length, left aside: set to 0. Two trees say the same where their bare ones are equal.
 use Rattle.std.specs.Prelude.{List, map, Option, option_map}
 use Rattle.cilk_tree_syntax.specs.Tree.{Word, Literal, Expr, number, named, element, synched, binary, unary, choose, Place, Target, Move, assign}
-use Rattle.cilk_tree_syntax.specs.Tree.{adjust, call, Taker, nothing, into, through, Shape, variable, array, Decl}
+use Rattle.cilk_tree_syntax.specs.Tree.{adjust, call, Taker, nothing, into, through, Shape, variable, array, Decl, Label}
 use Rattle.cilk_tree_syntax.specs.Tree.{Stmt, move, spawn_at, print, locking, null, sync_at, abort_at, break_at, continue_at, return_at, when, either}
-use Rattle.cilk_tree_syntax.specs.Tree.{while, repeat, loop, nested, Stmts, none, also, Local, declared, inlet_at, Locals, no_locals, and_local}
+use Rattle.cilk_tree_syntax.specs.Tree.{while, repeat, loop, switch, labelled, nested, Stmts, none, also, Local, declared, inlet_at, Locals, no_locals}
+use Rattle.cilk_tree_syntax.specs.Tree.{and_local}
 use Rattle.cilk_tree_syntax.specs.Tree.{Block, block}
 use Rattle.cilk_tree_syntax.specs.Tree.{Parameters, ints, command_line, Proc, Prototype, Global, Item, global, lock, prototype, procedure, Program}
 
@@ -57,6 +58,9 @@ bare_shape (array length) = array length
 abbrev pub bare_decl : Decl → Decl
 bare_decl d = record { name = bare_word d.name; shape = bare_shape d.shape }
 
+abbrev pub bare_label : Label → Label
+bare_label l = record { at = 0; value = l.value }
+
 abbrev pub bare_words : List Word → List Word
 bare_words words = map bare_word words
 
@@ -77,6 +81,8 @@ abbrev mutual
   bare_stmt (while test body) = while (bare_expr test) (bare_block body)
   bare_stmt (repeat body test) = repeat (bare_block body) (bare_expr test)
   bare_stmt (loop first test advance body) = loop (bare_part first) (bare_expr test) (bare_part advance) (bare_block body)
+  bare_stmt (switch test body) = switch (bare_expr test) (bare_block body)
+  bare_stmt (labelled label) = labelled (bare_label label)
   bare_stmt (nested inside) = nested (bare_block inside)
 
   pub bare_stmts : Stmts → Stmts

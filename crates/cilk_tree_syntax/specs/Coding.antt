@@ -3,7 +3,7 @@ use Rattle.std.specs.Prelude.{◌≡◌, refl, ℕ, zero, suc, ℤ, pos, negsuc,
 use Rattle.std.specs.Coded.{Coded}
 use Rattle.std.proofs.Common.{sym, ap, ◌∙◌}
 use base.Stored.{Gv, gnil, gnum, gcons}
-use Rattle.cilk_tree_syntax.specs.Tree.{Word, Literal}
+use Rattle.cilk_tree_syntax.specs.Tree.{Word, Literal, Label}
 
 -- a type whose values `to` stores and `from` gives back
 abbrev pub coded_back : {A : Type 0} (to : A → Gv) (from : Gv → A) → ((x : A) → from (to x) ≡ x) → Coded A
@@ -78,6 +78,16 @@ literal_from _ = record { bytes = []; place = 0 }
 
 pub literal_back : (l : Literal) → literal_from (literal_to l) ≡ l
 literal_back l = λ i. record { bytes = text_back l.bytes i; place = l.place }
+
+abbrev pub label_to : Label → Gv
+label_to l = gcons (gnum l.at) (option_to integer_to integer_from integer_back l.value)
+
+abbrev pub label_from : Gv → Label
+label_from (gcons (gnum at) value) = record { at = at; value = option_from integer_to integer_from integer_back value }
+label_from _ = record { at = 0; value = None }
+
+pub label_back : (l : Label) → label_from (label_to l) ≡ l
+label_back l = λ i. record { at = l.at; value = option_back integer_to integer_from integer_back l.value i }
 
 abbrev pub bool_to : Bool → Gv
 bool_to false = gnum 0

@@ -20,4 +20,10 @@ pub mod ReturnWord
 pub mod Adjustments
 pub mod LockWord
 pub mod Bare
+pub mod Lines
+pub mod Appends
+pub mod ExprText
+pub mod MoveText
+pub mod StmtLines
+pub mod ProgramText
 pub use Rattle.cilk_lex_tokens.specs as lexeme

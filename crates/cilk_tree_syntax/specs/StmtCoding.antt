@@ -3,11 +3,13 @@ use Rattle.std.specs.Prelude.{◌≡◌, refl, zero, suc}
 use Rattle.std.specs.Coded.{Coded}
 use base.Stored.{Gv, gnil, gnum, gcons}
 use Rattle.cilk_tree_syntax.specs.Tree.{Stmt, move, spawn_at, print, locking, null, sync_at, abort_at, break_at, continue_at, return_at, when, either}
-use Rattle.cilk_tree_syntax.specs.Tree.{while, repeat, loop, nested, Stmts, none, also, Local, declared, inlet_at, Locals, no_locals, and_local}
+use Rattle.cilk_tree_syntax.specs.Tree.{while, repeat, loop, switch, labelled, nested, Stmts, none, also, Local, declared, inlet_at, Locals, no_locals}
+use Rattle.cilk_tree_syntax.specs.Tree.{and_local}
 use Rattle.cilk_tree_syntax.specs.Tree.{Block, block}
 use Rattle.cilk_tree_syntax.specs.Coding.{coded_back, word_to, word_from, word_back, literal_to, literal_from, literal_back, list_to, list_from}
 use Rattle.cilk_tree_syntax.specs.Coding.{list_back, option_to, option_from, option_back}
 use Rattle.cilk_tree_syntax.specs.ChoiceCoding.{lock_to, lock_from, lock_back}
+use Rattle.cilk_tree_syntax.specs.Coding.{label_to, label_from, label_back}
 use Rattle.cilk_tree_syntax.specs.ExprCoding.{expr_to, expr_from, expr_back}
 use Rattle.cilk_tree_syntax.specs.MoveCoding.{move_to, move_from, move_back, taker_to, taker_from, taker_back, decl_to, decl_from, decl_back}
 
@@ -32,7 +34,9 @@ abbrev mutual
       gcons (gnum 14)
       (gcons (option_to move_to move_from move_back first)
       (gcons (expr_to test) (gcons (option_to move_to move_from move_back advance) (block_to body))))
-  stmt_to (nested inside) = gcons (gnum 15) (block_to inside)
+  stmt_to (switch test body) = gcons (gnum 15) (gcons (expr_to test) (block_to body))
+  stmt_to (labelled label) = gcons (gnum 16) (label_to label)
+  stmt_to (nested inside) = gcons (gnum 17) (block_to inside)
 
   pub stmts_to : Stmts → Gv
   stmts_to none = gnil
@@ -77,7 +81,13 @@ abbrev mutual
       (gcons (gnum (suc (suc (suc (suc (suc (suc (suc (suc (suc (suc (suc (suc (suc (suc zero)))))))))))))))
       (gcons first (gcons test (gcons advance body)))) =
       loop (option_from move_to move_from move_back first) (expr_from test) (option_from move_to move_from move_back advance) (block_from body)
-  stmt_from (gcons (gnum (suc (suc (suc (suc (suc (suc (suc (suc (suc (suc (suc (suc (suc (suc (suc _)))))))))))))))) inside) =
+  stmt_from
+      (gcons (gnum (suc (suc (suc (suc (suc (suc (suc (suc (suc (suc (suc (suc (suc (suc (suc zero))))))))))))))))
+      (gcons test body)) =
+      switch (expr_from test) (block_from body)
+  stmt_from (gcons (gnum (suc (suc (suc (suc (suc (suc (suc (suc (suc (suc (suc (suc (suc (suc (suc (suc zero))))))))))))))))) label) =
+      labelled (label_from label)
+  stmt_from (gcons (gnum (suc (suc (suc (suc (suc (suc (suc (suc (suc (suc (suc (suc (suc (suc (suc (suc (suc _)))))))))))))))))) inside) =
       nested (block_from inside)
   stmt_from _ = null
 
@@ -118,6 +128,8 @@ mutual
   stmt_back (repeat body test) = λ i. repeat (block_back body i) (expr_back test i)
   stmt_back (loop first test advance body) =
       λ i. loop (option_back move_to move_from move_back first i) (expr_back test i) (option_back move_to move_from move_back advance i) (block_back body i)
+  stmt_back (switch test body) = λ i. switch (expr_back test i) (block_back body i)
+  stmt_back (labelled label) = λ i. labelled (label_back label i)
   stmt_back (nested inside) = λ i. nested (block_back inside i)
 
   pub stmts_back : (xs : Stmts) → stmts_from (stmts_to xs) ≡ xs

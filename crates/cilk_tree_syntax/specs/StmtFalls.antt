@@ -9,7 +9,7 @@ use Rattle.cilk_tree_syntax.specs.declared.local.LocalNode.{LocalNode}
 use Rattle.cilk_tree_syntax.specs.declared.local.LocalNode.TheVariants as node
 use Rattle.cilk_tree_syntax.specs.declared.stmt.StmtNode.{StmtNode}
 use Rattle.cilk_tree_syntax.specs.declared.stmt.StmtNode.TheVariants.{Move, Spawn, Print, Locking, Null, Sync, Abort, Break, Continue, Return, If}
-use Rattle.cilk_tree_syntax.specs.declared.stmt.StmtNode.TheVariants.{While, Do, For, Nested}
+use Rattle.cilk_tree_syntax.specs.declared.stmt.StmtNode.TheVariants.{While, Do, For, Switch, Labelled, Nested}
 use Rattle.cilk_tree_syntax.specs.declared.block.Block.TheDeep.{deep-StmtNode, deep-LocalNode}
 
 pub deep_le-stmt_size : (n : StmtNode) → max (deep-StmtNode n) 0 ≤ stmt_size (stmt_of n)
@@ -28,6 +28,8 @@ deep_le-stmt_size (If test body (Some other)) = omega arith
 deep_le-stmt_size (While test body) = omega arith
 deep_le-stmt_size (Do body test) = omega arith
 deep_le-stmt_size (For first test advance body) = omega arith
+deep_le-stmt_size (Switch test body) = omega arith
+deep_le-stmt_size (Labelled label) = omega arith
 deep_le-stmt_size (Nested inside) = omega arith
 
 pub deep_le-local_size : (n : LocalNode) → max (deep-LocalNode n) 0 ≤ local_size (local_of n)

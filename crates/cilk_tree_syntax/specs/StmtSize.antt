@@ -1,7 +1,8 @@
 -- A number that is larger for a statement, for what is declared in a block, and for a block than for its parts.
 use Rattle.std.specs.Prelude.{ℕ, ◌+◌}
 use Rattle.cilk_tree_syntax.specs.Tree.{Stmt, move, spawn_at, print, locking, null, sync_at, abort_at, break_at, continue_at, return_at, when, either}
-use Rattle.cilk_tree_syntax.specs.Tree.{while, repeat, loop, nested, Stmts, none, also, Local, declared, inlet_at, Locals, no_locals, and_local}
+use Rattle.cilk_tree_syntax.specs.Tree.{while, repeat, loop, switch, labelled, nested, Stmts, none, also, Local, declared, inlet_at, Locals, no_locals}
+use Rattle.cilk_tree_syntax.specs.Tree.{and_local}
 use Rattle.cilk_tree_syntax.specs.Tree.{Block, block}
 
 abbrev mutual
@@ -21,6 +22,8 @@ abbrev mutual
   stmt_size (while test body) = block_size body + 1
   stmt_size (repeat body test) = block_size body + 1
   stmt_size (loop first test advance body) = block_size body + 1
+  stmt_size (switch test body) = block_size body + 1
+  stmt_size (labelled label) = 0
   stmt_size (nested inside) = block_size inside + 1
 
   pub stmts_size : Stmts → ℕ

@@ -6,7 +6,7 @@ use Rattle.cilk_tree_syntax.specs.declared.local.LocalNode.{LocalNode}
 use Rattle.cilk_tree_syntax.specs.declared.local.LocalNode.TheVariants as node
 use Rattle.cilk_tree_syntax.specs.declared.stmt.StmtNode.{StmtNode}
 use Rattle.cilk_tree_syntax.specs.declared.stmt.StmtNode.TheVariants.{Move, Spawn, Print, Locking, Null, Sync, Abort, Break, Continue, Return, If}
-use Rattle.cilk_tree_syntax.specs.declared.stmt.StmtNode.TheVariants.{While, Do, For, Nested}
+use Rattle.cilk_tree_syntax.specs.declared.stmt.StmtNode.TheVariants.{While, Do, For, Switch, Labelled, Nested}
 
 abbrev pub if_of : tree.Expr → tree.Block → Option tree.Block → tree.Stmt
 if_of test body None = tree.when test body
@@ -27,6 +27,8 @@ stmt_of (If test body other) = if_of test body other
 stmt_of (While test body) = tree.while test body
 stmt_of (Do body test) = tree.repeat body test
 stmt_of (For first test advance body) = tree.loop first test advance body
+stmt_of (Switch test body) = tree.switch test body
+stmt_of (Labelled label) = tree.labelled label
 stmt_of (Nested inside) = tree.nested inside
 
 abbrev pub local_of : LocalNode → tree.Local

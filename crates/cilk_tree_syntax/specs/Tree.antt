@@ -66,6 +66,11 @@ pub record Decl : Type 0 where
   pub name : Word
   pub shape : Shape
 
+-- a label of a `switch`: the value of a `case`, or none for `default`, and the place of that word (C 1990, 6.6.1)
+pub record Label : Type 0 where
+  pub at : ℕ
+  pub value : Option ℤ
+
 mutual
   -- a statement (C 1990, 6.6; Cilk 5.4 manual). A number `at` is the place of its word.
   pub data Stmt : Type 0 where
@@ -90,6 +95,10 @@ mutual
     repeat : (body : Block) (test : Expr) → Stmt
     -- `for`: what comes first, the test, and what each round ends with (C 1990, 6.6.5.3)
     loop : (first : Option Move) (test : Expr) (advance : Option Move) (body : Block) → Stmt
+    -- `switch`, in whose body labels stand between the statements (C 1990, 6.6.4.2)
+    switch : (test : Expr) (body : Block) → Stmt
+    -- a label of what follows it in the body of a `switch` (C 1990, 6.6.1)
+    labelled : (label : Label) → Stmt
     -- a block that is no body of another statement
     nested : (inside : Block) → Stmt
 

@@ -2,6 +2,7 @@
 
 use crate::block::Block;
 use crate::expr::Expr;
+use crate::label::Label;
 use crate::literal::Literal;
 use crate::lock_action::LockAction;
 use crate::moves::Move;
@@ -37,6 +38,10 @@ pub enum StmtNode {
     Do(Block, Expr),
     /// What comes first, the test, what each round ends with, and the body (C 1990, 6.6.5.3).
     For(Option<Move>, Expr, Option<Move>, Block),
+    /// The test, and the body, in which labels stand between the statements (C 1990, 6.6.4.2).
+    Switch(Expr, Block),
+    /// A label of what follows it in the body of a `switch`.
+    Labelled(Label),
     /// A block that is no body of another statement.
     Nested(Block),
 }

@@ -1,5 +1,5 @@
 -- What the activations of a frame tell is what those of its instance say.
-use Rattle.std.proofs.Common.{◌≡◌, ℕ, true, false, ◌+◌, ◌++◌, List, [], ◌∷◌, drop, map, reverse, length, refl, sym, ap, ◌∙◌, append_assoc, Option}
+use Rattle.std.proofs.Common.{pos, ◌≡◌, ℕ, ◌+◌, ◌++◌, List, [], ◌∷◌, drop, map, reverse, length, refl, sym, ap, ◌∙◌, append_assoc, Option}
 use Rattle.std.proofs.Common.{Some, None, option_map}
 use Rattle.std.specs.Prelude.{codes, decimal, flat_map, option_and_then}
 use Rattle.std.proofs.lemmas.List.{reverse-reverse, reverse-append, map-append}
@@ -16,7 +16,7 @@ use Rattle.cilk_machine_agree.specs.model.Instance.{Instance, body_at}
 use Rattle.cilk_machine_agree.specs.nodes.declared.node.Node.{Node}
 use Rattle.cilk_machine_agree.specs.nodes.Slots.{size_of, flat, slot_of}
 use Rattle.cilk_machine_agree.specs.nodes.Actions.{slotted}
-use Rattle.cilk_machine_agree.specs.nodes.Table.{number_of, number_after, node_at, node_of}
+use Rattle.cilk_machine_agree.specs.nodes.Table.{number_of, number_else, cases_of, node_at, node_of}
 use Rattle.cilk_machine_agree.specs.nodes.Bodies.{vars_from, body_table, body_of}
 use Rattle.cilk_machine_agree.specs.nodes.Laws.{Reached, items_at}
 use Rattle.cilk_machine_agree.proofs.nodes_laws.Heads.{nodes-stand, bodies-have}
@@ -53,8 +53,9 @@ body_by_head p b items n o some is = ap (option_and_then (λ (node : Node). body
         → option_and_then (λ (node : Node). body_of p node.body)
         (option_map (λ (x : Numbered). record {
           action = slotted (slot_of (label p) b) x.act;
-          next = number_after true items;
-          other = number_after false items;
+          next = number_else (pos 1) items;
+          other = number_else (pos 0) items;
+          cases = cases_of items;
           body = b;
         }) h) ≡ body_of p b
     by_head_of None e = cc

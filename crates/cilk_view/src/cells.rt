@@ -1,7 +1,7 @@
 //! Variables and what their cells hold.
 
 ghost use Rattle.std.specs.Prelude.{◌≡◌, ◌++◌, codes, take, drop};
-ghost use Rattle.cilk_load.specs.canonical.Appends.{Appends};
+ghost use Rattle.cilk_load.specs.syntax.Appends.{Appends};
 ghost use Rattle.cilk_machine_agree.specs.model.Texts.{length_text, values_text};
 
 use crate::put::put;

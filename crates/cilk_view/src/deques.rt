@@ -1,7 +1,7 @@
 //! The view `deques`: what each worker has in its hand and in its deque.
 
 ghost use Rattle.std.specs.Prelude.{◌≡◌, ◌<◌, length, map, option_map, slice_get, decimal, codes};
-ghost use Rattle.cilk_load.specs.canonical.Appends.{Appends};
+ghost use Rattle.cilk_load.specs.syntax.Appends.{Appends};
 ghost use Rattle.cilk_machine_agree.specs.model.Places.{IsWorker, worker_at, hand_of, deque_of};
 ghost use Rattle.cilk_machine_agree.specs.Agrees.{name_in};
 ghost use Rattle.cilk_machine_agree.specs.model.Workers.{hand_text, paths_text};

@@ -1,7 +1,7 @@
 //! The view `frame`: the activations of an instance, with their variables.
 
 ghost use Rattle.std.specs.Prelude.{◌≡◌, ◌++◌, ◌<◌, codes, decimal, option_copied};
-ghost use Rattle.cilk_load.specs.canonical.Appends.{Appends};
+ghost use Rattle.cilk_load.specs.syntax.Appends.{Appends};
 ghost use Rattle.cilk_machine_agree.specs.frame.Frames.{depth, activation_at};
 ghost use Rattle.cilk_view.specs.Turns.{line_number};
 ghost use Rattle.cilk_view.specs.Frames.{body_with, vars_text, body_text, activation_by, frame_by};

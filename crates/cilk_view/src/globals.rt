@@ -1,7 +1,7 @@
 //! The variables and locks of the top level.
 
 ghost use Rattle.std.specs.Prelude.{◌≡◌, ◌++◌, ◌∷◌, ◌<◌, List, length, All, take, drop, codes, IfOk, string_bytes};
-ghost use Rattle.cilk_load.specs.canonical.Appends.{Appends};
+ghost use Rattle.cilk_load.specs.syntax.Appends.{Appends};
 ghost use Rattle.cilk_machine_agree.specs.syntax.Tree as trees;
 ghost use Rattle.cilk_load.specs.labelled.Bodies.{shaped_variable};
 ghost use Rattle.cilk_machine_agree.specs.spawn.Nodes.{path_at};

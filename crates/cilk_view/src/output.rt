@@ -1,6 +1,6 @@
 //! The view `output`: what the program printed.
 
-ghost use Rattle.cilk_load.specs.canonical.Appends.{Appends};
+ghost use Rattle.cilk_load.specs.syntax.Appends.{Appends};
 ghost use Rattle.cilk_machine_agree.specs.model.Views.{output_text};
 
 use crate::put::put;

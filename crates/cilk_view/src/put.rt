@@ -1,7 +1,7 @@
 //! The smallest parts of a view.
 
 ghost use Rattle.std.specs.Prelude.{◌<◌, length};
-ghost use Rattle.cilk_load.specs.canonical.Appends.{Appends};
+ghost use Rattle.cilk_load.specs.syntax.Appends.{Appends};
 ghost use Rattle.cilk_machine_agree.specs.model.Path.{path_text};
 ghost use Rattle.cilk_machine_agree.specs.spawn.Nodes.{path_at};
 

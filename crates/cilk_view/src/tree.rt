@@ -1,7 +1,7 @@
 //! The view `tree`: a line for every instance that was ever made.
 
 ghost use Rattle.std.specs.Prelude.{◌≡◌, ◌<◌, ◌++◌, length, codes, decimal, true, All, IfOk, string_bytes};
-ghost use Rattle.cilk_load.specs.canonical.Appends.{Appends};
+ghost use Rattle.cilk_load.specs.syntax.Appends.{Appends};
 ghost use Rattle.cilk_load.specs.labelled.Bodies.{label};
 ghost use Rattle.cilk_machine_agree.specs.model.Run.{Position};
 ghost use Rattle.cilk_machine_agree.specs.model.Places.{IsWorker, worker_at, deque_of};

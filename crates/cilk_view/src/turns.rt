@@ -1,7 +1,7 @@
 //! Where each worker goes on.
 
 ghost use Rattle.std.specs.Prelude.{◌≡◌, length, decimal, codes};
-ghost use Rattle.cilk_load.specs.canonical.Appends.{Appends};
+ghost use Rattle.cilk_load.specs.syntax.Appends.{Appends};
 ghost use Rattle.cilk_machine_agree.specs.model.Places.{IsWorker, worker_at};
 ghost use Rattle.cilk_view.specs.Turns.{by_worker, AllMade, turn_line, line_number};
 

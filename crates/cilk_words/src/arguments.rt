@@ -1,6 +1,6 @@
 //! The command line as `clap` is told it: subcommands, arguments, options, and the words of help.
 
-ghost use Rattle.std.specs.Prelude.{◌≡◌, IfOk, IsOkAnd, false};
+ghost use Rattle.std.specs.Prelude.{◌≡◌, IfOk, IsOkAnd, codes, false};
 ghost use Rattle.clap.specs.Words.{AddsArg, AddsSubcommand, FailsBy, app_of, fault_of, rule_of, subcommand_of, subcommand_rows_of};
 ghost use Rattle.cilk_words.specs.CommandLine.{bare, command_line, limit_rule, number_rule, on_explained, on_log, on_run, on_text, texts_of, workers_rule};
 
@@ -45,6 +45,30 @@ Exit status:
   6  memory has run out
   7  a file cannot be read or written, or the input or the output failed";
 
+// What the help of a session ends with.
+const COMMANDS: &str = "\
+The commands of a session, one a line:
+  step        makes the next choice
+  back        takes the last choice back
+  go K        goes to the position behind the first K choices
+  next        goes on, behind the next choice that takes an action with a breakpoint
+  prev        goes back, behind the last such choice before here
+  break N     sets a breakpoint at action N
+  clear N     takes it away
+  where       shows the position, and where each worker goes on
+  tree        shows every instance that was made, and what became of it
+  frame PATH  shows the variables of an instance by its path, as /2/1; main is /
+  globals     shows the variables and the locks of the top level
+  deques      shows the hand and the deque of each worker
+  output      shows what was printed
+  list        shows the text, with the numbers of its lines and actions
+  quit        ends the session";
+
+// What is said of the program's text where it may stand on standard input, and where it may not.
+const INPUT: &str = "The program's text, or - for standard input";
+
+const TEXT: &str = "The program's text";
+
 /// Which subcommand the words name, and with what.
 pub fn parse<'a>(alloc: Global, words: &'a [String]) -> Result<ArgMatches<'a>, Error>
     ensures kinds { FailsBy (fault_of command_line (texts_of words.now)) result }
@@ -59,23 +83,24 @@ pub fn parse<'a>(alloc: Global, words: &'a [String]) -> Result<ArgMatches<'a>, E
 pub fn command<'a>(alloc: Global) -> Result<Command<'a>, AllocError>
     ensures { IfOk result (λ c. app_of c ≡ command_line) }
 {
-    let print = on_explained(alloc, "print", "Prints the canonical text of a program");
+    let print = on_explained(
+        alloc,
+        "print",
+        "Prints the canonical text of a program",
+        INPUT,
+    );
     let printing = with(bare(alloc), print)?;
-    let check = on_explained(alloc, "check", "Says whether a program may be run");
+    let check = on_explained(alloc, "check", "Says whether a program may be run", INPUT);
     let checking = with(printing, check)?;
     let running = with(checking, on_run(alloc))?;
     let replay = on_log(
         alloc,
         "replay",
         "Makes the choices of a log again, and tells how they end",
+        INPUT,
     );
     let replaying = with(running, replay)?;
-    let debug = on_log(
-        alloc,
-        "debug",
-        "Answers commands on a log, read from standard input",
-    );
-    with(replaying, debug)
+    with(replaying, on_session(alloc))
 }
 
 // The program, without its subcommands.
@@ -104,31 +129,46 @@ fn with<'a>(
 }
 
 // A subcommand on one program's text, of whose faults more may be said.
-fn on_explained<'a>(alloc: Global, name: &'a str, about: &'a str) -> Result<Command<'a>, AllocError>
+fn on_explained<'a>(
+    alloc: Global,
+    name: &'a str,
+    about: &'a str,
+    help: &'a str,
+) -> Result<Command<'a>, AllocError>
     ensures { IfOk result (λ c. app_of c ≡ on_explained name.now) }
 {
     let explain = Arg::new(alloc, EXPLAIN)
         .long(EXPLAIN)
         .action(ArgAction::SetTrue)
         .help("Says more of a fault in the program");
-    on_text(
-        alloc,
-        name,
-        about,
-        "The program's text, or - for standard input",
-    )?
-    .arg(explain)
+    on_text(alloc, name, about, help)?.arg(explain)
+}
+
+// A session, whose help names its commands.
+fn on_session<'a>(alloc: Global) -> Result<Command<'a>, AllocError>
+    ensures { IfOk result (λ c. app_of c ≡ on_log (codes "debug")) }
+{
+    let about = "Answers commands on a log, read from standard input";
+    match on_log(alloc, "debug", about, TEXT) {
+        Ok(command) => Ok(command.after_help(COMMANDS)),
+        Err(e) => Err(e),
+    }
 }
 
 // A subcommand on one program's text and a log.
-fn on_log<'a>(alloc: Global, name: &'a str, about: &'a str) -> Result<Command<'a>, AllocError>
+fn on_log<'a>(
+    alloc: Global,
+    name: &'a str,
+    about: &'a str,
+    help: &'a str,
+) -> Result<Command<'a>, AllocError>
     ensures { IfOk result (λ c. app_of c ≡ on_log name.now) }
 {
     let log = Arg::new(alloc, LOG)
         .required(true)
         .action(ArgAction::Set)
         .help("The log of a run, a file");
-    on_text(alloc, name, about, "The program's text")?.arg(log)
+    on_text(alloc, name, about, help)?.arg(log)
 }
 
 fn on_text<'a>(
@@ -149,7 +189,7 @@ fn on_text<'a>(
 fn on_run<'a>(alloc: Global) -> Result<Command<'a>, AllocError>
     ensures { IfOk result (λ c. app_of c ≡ on_run) }
 {
-    let explained = on_explained(alloc, "run", "Runs a program, and tells how it ends");
+    let explained = on_explained(alloc, "run", "Runs a program, and tells how it ends", INPUT);
     let crewed = taking(explained, workers(alloc));
     let limited = taking(crewed, limit(alloc));
     let log = Arg::new(alloc, WRITTEN)

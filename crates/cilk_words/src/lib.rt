@@ -6,6 +6,7 @@
 mod arguments;
 mod asking;
 mod dash;
+mod plain;
 mod refusal;
 mod request;
 

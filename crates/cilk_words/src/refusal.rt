@@ -1,6 +1,7 @@
 //! What is told where the words ask for no task: help, the version, or what is wrong.
 
 use crate::dash::Dash;
+use crate::plain::plain;
 use clap::Error;
 use clap::error::ErrorKind;
 use std::alloc::Global;
@@ -37,7 +38,10 @@ impl NoRequest {
         match error.kind() {
             ErrorKind::DisplayHelp => NoRequest::Help(text),
             ErrorKind::DisplayVersion => NoRequest::Version(text),
-            _ => NoRequest::Usage(text),
+            _ => match plain(alloc, text.as_str()) {
+                Ok(words) => NoRequest::Usage(words),
+                Err(_) => NoRequest::Memory,
+            },
         }
     }
 }

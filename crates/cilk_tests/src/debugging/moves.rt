@@ -25,6 +25,12 @@ fn first_choice_that_is_not_possible(rt: HostRuntime) {
             "cilklog 1\nworkers 1\n1 step\n1 step\nend 2\n",
             "B1 BadChoice 2 M1 Over",
         ),
+        (
+            "cilklog 2\nworkers 255\n\
+             program ba7816bf8f01cfea414140de5dae2223b00361a396177a9cb410ff61f20015ad\n\
+             1 pop\nend 1\n",
+            "G5 OtherProgram",
+        ),
     ] {
         match opened(&rt, rt.alloc(), SHORT, recorded) {
             Ok(_) => assert_eq!(rt; recorded, wanted),

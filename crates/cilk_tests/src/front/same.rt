@@ -19,6 +19,7 @@ cilk int f(){x=spawn f();} and cilk int f(){  x=  spawn f();}
 cilk void f() { ; spawn f(); sync; } and cilk void f() { ;  spawn f ( ) ; sync ; }
 int f(void){if(x)return 010;return a[1];} and int f(){if (x) { return 8; } /* nothing */ return a[(1)];}
 void f(){for(;;)printf(\"a\\n\");} and void f ( void ) { for ( ; 1 ; ) { printf(\"a\\n\") ; } }
+void f(int a){switch(a){int b;case 010:default:a=1;case - 0:;}} and void f(int a) { switch (a) { int b; case 8: default: a = 1; case 0: ; } }
 cilk int f(int n){inlet void g(int r){abort;} g(spawn f(n-1));sync;} and cilk int f(int n) { inlet void g(int r) { abort; } g(spawn f(n - 1)); sync; }";
 
 const OTHER: &str =
@@ -43,6 +44,11 @@ int a[2]; and int a[3];
 void f(){if(x)y=1;} and void f(){if(x)y=1;else y=1;}
 void f(){while(x)y=1;} and void f(){do y=1; while(x);}
 void f(){break;} and void f(){continue;}
+void f(){switch(x){case 1:;}} and void f(){switch(x){case -1:;}}
+void f(){switch(x){case 0:;}} and void f(){switch(x){default:;}}
+void f(){switch(x){case 1:;}} and void f(){switch(x){;}}
+void f(){switch(x){;}} and void f(){switch(y){;}}
+void f(){switch(x){;}} and void f(){while(x){;}}
 void f(){printf(\"a\");} and void f(){printf(\"b\");}
 void f(){Cilk_lock(x);} and void f(){Cilk_unlock(x);}
 cilk void f(){inlet void g(){} } and cilk void f(){inlet void h(){} }

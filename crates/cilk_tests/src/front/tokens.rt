@@ -85,6 +85,9 @@ inlet => Word(Inlet)@0:inlet
 abort => Word(Abort)@0:abort
 SYNCHED => Word(Synched)@0:SYNCHED
 Cilk_lockvar => Word(CilkLockvar)@0:Cilk_lockvar
+switch => Word(Switch)@0:switch
+case => Word(Case)@0:case
+default => Word(Default)@0:default
 <<= => Mark(ShiftLeftAssign)@0:<<=
 >>= => Mark(ShiftRightAssign)@0:>>=
 += => Mark(AddAssign)@0:+=

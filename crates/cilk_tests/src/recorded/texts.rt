@@ -1,10 +1,18 @@
 //! What recorded schedules are written as, and what bytes are read as.
 
-use cilk_log::{Act, Choice, Choices, Log, LogFault, one_text_each, read_log, write_log};
+use cilk_log::{
+    Act, Choice, Choices, Log, LogFault, one_list_of_stretches, one_text_each, program_of,
+    read_log, write_log,
+};
 use std::alloc::Global;
 use std::process::Abort;
 
 const RECORDED: &str = "cilklog 1\nworkers 2\n1 step\n2 steal 1\n2 step\n1 step\n1 pop\nend 5\n";
+
+// The digits are those of the example of FIPS 180-4.
+const NAMED: &str = "cilklog 2\nworkers 2\n\
+    program ba7816bf8f01cfea414140de5dae2223b00361a396177a9cb410ff61f20015ad\n\
+    1 step\n2 steal 1\n2 step\n1 step 4\nend 7\n";
 
 fn written(rt: &impl Abort, alloc: Global, log: &Log) -> Vec<u8> {
     write_log(alloc, log).expect(rt, "memory")
@@ -23,6 +31,7 @@ fn choices_are_written_line_by_line(rt: HostRuntime) {
         choices.push(Choice { worker, act }).expect(&rt, "memory");
     }
     let log = Log {
+        program: None,
         workers: 2,
         choices,
     };
@@ -31,9 +40,36 @@ fn choices_are_written_line_by_line(rt: HostRuntime) {
 }
 
 #[test]
+fn steps_of_one_worker_are_written_in_one_line(rt: HostRuntime) {
+    let mut choices = Choices::new(rt.alloc());
+    for (worker, act) in [
+        (1, Act::Step),
+        (2, Act::Steal(1)),
+        (2, Act::Step),
+        (1, Act::Step),
+        (1, Act::Step),
+        (1, Act::Step),
+        (1, Act::Step),
+    ] {
+        choices.push(Choice { worker, act }).expect(&rt, "memory");
+    }
+    let log = Log {
+        program: Some(program_of("abc")),
+        workers: 2,
+        choices,
+    };
+    let text = written(&rt, rt.alloc(), &log);
+    assert_eq!(rt; text.as_slice(), NAMED.as_bytes());
+    assert!(rt; log.is_of("abc"));
+    assert!(rt; !log.is_of("abc\n"));
+    one_list_of_stretches();
+}
+
+#[test]
 fn what_is_read_is_written_again(rt: HostRuntime) {
     for text in [
         RECORDED,
+        NAMED,
         "cilklog 1\nworkers 1\n1 pop\nend 1\n",
         "cilklog 1\nworkers 1\n0 step\nend 1\n",
         "cilklog 1\nworkers 1\n1 steal 1\nend 1\n",
@@ -63,6 +99,9 @@ fn first_fault_from_the_top(rt: HostRuntime) {
             "cilklog 1\nworkers 1\n1 step\n1 step\n1 step\n1 step\n1 step\nend 4\n",
             "G4 Count",
         ),
+        ("cilklog 2\n", "G3 Truncated"),
+        ("cilklog 2\nworkers 2\n1 step\nend 1\n", "G2 Line 3"),
+        ("cilklog 1\nworkers 2\n1 step 2\nend 2\n", "G2 Line 3"),
     ] {
         let told = match read_log(rt.alloc(), text.as_bytes()) {
             Err(fault) => format!(in rt.alloc(); "{fault}").expect(&rt, "memory"),
@@ -96,13 +135,14 @@ fn has_an_answer(rt: &impl Abort, alloc: Global, bytes: &[u8]) -> bool {
 
 #[test]
 fn every_broken_text_has_an_answer(rt: HostRuntime) {
-    let text = RECORDED.as_bytes();
-    for end in 0..text.len() {
-        for byte in [0, 34, 255] {
-            let mut broken = Vec::from_slice(rt.alloc(), text).expect(&rt, "memory");
-            broken[end] = byte;
-            assert!(rt; has_an_answer(&rt, rt.alloc(), &broken));
+    for text in [RECORDED.as_bytes(), NAMED.as_bytes()] {
+        for end in 0..text.len() {
+            for byte in [0, 34, 255] {
+                let mut broken = Vec::from_slice(rt.alloc(), text).expect(&rt, "memory");
+                broken[end] = byte;
+                assert!(rt; has_an_answer(&rt, rt.alloc(), &broken));
+            }
+            assert!(rt; has_an_answer(&rt, rt.alloc(), &text[..end]));
         }
-        assert!(rt; has_an_answer(&rt, rt.alloc(), &text[..end]));
     }
 }

@@ -1,7 +1,7 @@
 //! What stands on one line of a body.
 
 use crate::alike::Same;
-use cilk_tree_syntax::{Decl, Move, MoveNode, Place, Shape, Taker, Target};
+use cilk_tree_syntax::{Decl, Label, Move, MoveNode, Place, Shape, Taker, Target};
 
 impl Same for Place {
     ghost use Rattle.cilk_tree_syntax.specs.Tree as tree;
@@ -96,5 +96,18 @@ impl Same for Decl {
 
     fn same(&self, other: &Decl) -> bool {
         self.name.same(&other.name) && self.shape.same(&other.shape)
+    }
+}
+
+impl Same for Label {
+    ghost use Rattle.cilk_tree_syntax.specs.Tree as tree;
+    ghost use Rattle.cilk_tree_syntax.specs.Bare.{bare_label};
+
+    ghost Meaning = { tree.Label };
+
+    ghost meaning = { bare_label };
+
+    fn same(&self, other: &Label) -> bool {
+        self.value == other.value
     }
 }

@@ -34,6 +34,8 @@ impl Same for Stmt {
             (StmtNode::For(i, a, x, s), StmtNode::For(j, b, y, t)) => {
                 i.same(j) && a.same(b) && x.same(y) && s.same(t)
             }
+            (StmtNode::Switch(a, s), StmtNode::Switch(b, t)) => a.same(b) && s.same(t),
+            (StmtNode::Labelled(l), StmtNode::Labelled(m)) => l.same(m),
             (StmtNode::Nested(s), StmtNode::Nested(t)) => s.same(t),
             _ => false,
         }

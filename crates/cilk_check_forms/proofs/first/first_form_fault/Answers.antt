@@ -8,9 +8,9 @@ use Rattle.cilk_check_forms.proofs.first.first_form_fault.Goals as goal
 pub returns-clause-none : goal.returns-clause-none
 returns-clause-none c =
     let p = c.args.program.now in
-    none_is_told (Faulty p) (forms_faults p) (forms_complete p) c.first_listed.result c.first_listed.ensures
+    none_is_told (Faulty p) (forms_faults p) (forms_complete p) c.in_ok-found.found c.in_ok-found.ensures
 
 pub returns-clause-first : goal.returns-clause-first
 returns-clause-first c =
     let p = c.args.program.now in
-    first_is_told (Faulty p) (forms_faults p) (forms_complete p) c.first_listed.result c.first_listed.ensures (forms_sound p)
+    first_is_told (Faulty p) (forms_faults p) (forms_complete p) c.in_ok-found.found c.in_ok-found.ensures (forms_sound p)

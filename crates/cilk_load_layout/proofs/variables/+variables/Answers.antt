@@ -6,7 +6,8 @@ use Rattle.cilk_load_nodes.specs.eval.declared.area.Area.TheVariants.{Own}
 use Rattle.cilk_load_nodes.specs.labelled.Label.{stmt_variables, stmts_variables, locals_variables, block_variables}
 use Rattle.cilk_load_nodes.specs.Slots.{cells_of}
 use Rattle.cilk_load_nodes.specs.Bodies.{vars_from}
-use Rattle.cilk_load_layout.proofs.Cells.{joined, ok_same, ok_behind, cells_of-append}
+use Rattle.cilk_load_layout.proofs.Cells.{joined, ok_behind, cells_of-append}
+use Rattle.cilk_load_names.proofs.Results.{ok_same}
 use Rattle.cilk_load_layout.proofs.variables.+variables.Goals as goal
 
 pub put_block_variables-returns-clause-vars : goal.put_block_variables-returns-clause-vars

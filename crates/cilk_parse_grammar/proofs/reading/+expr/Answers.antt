@@ -2,6 +2,8 @@ use Rattle.std.proofs.Common.{◌≡◌, ◌+◌, Some, arith, sym, ap, ◌∙�
 use Rattle.std.proofs.lemmas.Result.{err_from_is_err_and}
 use Rattle.cilk_parse_grammar.proofs.Loop.{none_from, operand_fails, operand_read, infix_low, ends_here, stops_here, full_here, choice_here}
 use Rattle.cilk_parse_grammar.proofs.Loop.{operator_fails, operator_goes, subscript_open}
+use Rattle.cilk_tree_syntax.specs.lexeme.declared.mark.Mark.TheVariants.{OpenBracket}
+use Rattle.cilk_parse_grammar.specs.Classes.{a_mark}
 use Rattle.cilk_parse_grammar.specs.declared.operator.Infix.{Infix}
 use Rattle.cilk_parse_grammar.specs.declared.operator.Infix.TheVariants.{Two, Choice}
 use Rattle.cilk_parse_grammar.specs.Front.{ParserState, infix_at}
@@ -93,7 +95,7 @@ expr-returns-in_default-next t c =
 pub named-subscripted-requires : goal.named-subscripted-requires
 named-subscripted-requires t c = (
   omega (arith, name_shorter _ _ c.in_ok-name.ensures.gives),
-  class_some 27 c.name.new.self.pieces
+  class_some (a_mark OpenBracket) c.name.new.self.pieces
       (sym c.is_mark.ensures ∙ c.if-is_mark.true),
 )
 

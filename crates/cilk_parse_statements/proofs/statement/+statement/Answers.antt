@@ -2,7 +2,7 @@ use Rattle.std.proofs.Common.{[], ◌∷◌, ◌++◌, sym, refl, ap, ◌∙◌,
 use Rattle.std.proofs.lemmas.Result.{err_from_is_err_and}
 use Rattle.cilk_parse_rules.proofs.Loops.{onto_nothing}
 use Rattle.cilk_parse_grammar.specs.Forms.{statement}
-use Rattle.cilk_parse_grammar.specs.Grammar.{local}
+use Rattle.cilk_parse_grammar.specs.Grammar.{labelled, local}
 use Rattle.cilk_parse_grammar.specs.Spelling.{read_at}
 use Rattle.cilk_parse_statements.proofs.Joined.{joined_last, unbraced_is, statement_is}
 use Rattle.cilk_parse_statements.proofs.Loops.{one_shorter, loop_ends, loop_fails, loop_goes}
@@ -66,5 +66,32 @@ pub locals-returns : goal.locals-returns
 locals-returns t c = record {
   parts = c.each.invariant.0;
   reads = loop_ends c.args.depth local refl c.each.invariant.0 _ _ (sym c.begins_local.ensures ∙ c.each-test.false) c.each.invariant.2;
+  together = c.each.invariant.1;
+}
+
+pub all_labelled-each-init : goal.all_labelled-each-init
+all_labelled-each-init t c = ([], sym c.new-stmts.ensures.items, onto_nothing _)
+
+pub all_labelled-returns-in_err-next : goal.all_labelled-returns-in_err-next
+all_labelled-returns-in_err-next t c =
+    let p = err_from_is_err_and c.from_residual.result c.from_residual.ensures.1 in
+    rw (p.1, p.2)
+    (loop_fails c.args.depth labelled refl c.each.invariant.0 _ _ _ (sym c.begins_labelled.ensures ∙ c.each-test.true) c.each.invariant.2
+    c.in_err-next.ensures)
+
+pub all_labelled-each-smaller : goal.all_labelled-each-smaller
+all_labelled-each-smaller t c = one_shorter c.args.depth labelled refl _ _ c.in_ok-next.ensures
+
+pub all_labelled-each-preserved : goal.all_labelled-each-preserved
+all_labelled-each-preserved t c = (
+  c.each.invariant.0 ++ c.in_ok-next.next.items ∷ [],
+  joined_last c.each.invariant.0 c.in_ok-next.next.items ∙ ap (λ l. l ++ c.in_ok-next.next.items) c.each.invariant.1 ∙ sym c.in_ok-append.ensures.items,
+  loop_goes c.args.depth labelled refl c.each.invariant.0 _ _ _ _ (sym c.begins_labelled.ensures ∙ c.each-test.true) c.each.invariant.2 c.in_ok-next.ensures,
+)
+
+pub all_labelled-returns : goal.all_labelled-returns
+all_labelled-returns t c = record {
+  parts = c.each.invariant.0;
+  reads = loop_ends c.args.depth labelled refl c.each.invariant.0 _ _ (sym c.begins_labelled.ensures ∙ c.each-test.false) c.each.invariant.2;
   together = c.each.invariant.1;
 }

@@ -2,7 +2,7 @@ use Rattle.std.proofs.Common.{◌≡◌, ◌+◌, ◌*◌, length, List}
 use Rattle.cilk_parse_grammar.specs.syntax.Tree as tree
 use Rattle.cilk_parse_rules.specs.ReadsAs.{onto}
 use Rattle.cilk_parse_grammar.specs.Forms.{joined}
-use Rattle.cilk_parse_grammar.specs.Grammar.{locals, statements}
+use Rattle.cilk_parse_grammar.specs.Grammar.{all_labelled, locals, statements}
 use Rattle.cilk_parse_statements.specs.Limits.{read_in}
 use Rattle.cilk_parse_statements.proofs.statement.+statement.Given as goal
 
@@ -42,6 +42,18 @@ decreases-repeating l = 9 * l.depth + 5
 abbrev pub decreases-for_loop : goal.decreases-for_loop
 decreases-for_loop l = 9 * l.depth + 5
 
+abbrev pub decreases-labelled : goal.decreases-labelled
+decreases-labelled l = 9 * l.depth + 1
+
+abbrev pub decreases-all_labelled : goal.decreases-all_labelled
+decreases-all_labelled l = 9 * l.depth + 2
+
+abbrev pub decreases-cases : goal.decreases-cases
+decreases-cases l = 9 * l.depth + 3
+
+abbrev pub decreases-switching : goal.decreases-switching
+decreases-switching l = 9 * l.depth + 5
+
 abbrev pub decreases-compound : goal.decreases-compound
 decreases-compound l = 9 * l.depth + 6
 
@@ -65,3 +77,12 @@ invariant-locals-each l =
 
 abbrev pub decreases-locals-each : goal.decreases-locals-each
 decreases-locals-each l = length l.cursor.pieces
+
+-- the statements and labels that were read, together
+abbrev pub invariant-all_labelled-each : goal.invariant-all_labelled-each
+invariant-all_labelled-each l =
+    (read : List (List tree.Stmt)) × (joined read ≡ l.stmts.items)
+    × (onto read (read_in l.depth all_labelled l.cursor.pieces) ≡ read_in l.depth all_labelled l.fn.cursor.pieces)
+
+abbrev pub decreases-all_labelled-each : goal.decreases-all_labelled-each
+decreases-all_labelled-each l = length l.cursor.pieces

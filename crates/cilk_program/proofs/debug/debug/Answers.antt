@@ -6,7 +6,7 @@ use Rattle.cilk_program.specs.Taped.{Declines}
 use Rattle.cilk_program.specs.Telling.{status_of}
 use Rattle.cilk_program.specs.declared.failure.RecordFailure.{RecordFailure}
 use Rattle.cilk_program.proofs.Debugged.{opens, playable_of, broken_not_refused, broken_by_writer, undebugged_reads}
-use Rattle.cilk_program.proofs.Debugged.{declines_held_of, answered, broken, broken_writing}
+use Rattle.cilk_program.proofs.Debugged.{declines_held_of, own_held, answered, broken, broken_writing}
 use Rattle.cilk_program.proofs.Whole.{follows_of}
 use Rattle.std.proofs.Common.{inl, refl}
 use Rattle.cilk_program.proofs.debug.debug.Goals as goal
@@ -15,21 +15,23 @@ pub returns-in-Err-new-clause-declined : goal.returns-in-Err-new-clause-declined
 returns-in-Err-new-clause-declined g c = λ held is refused.
     let t = tape_of c.in-Ok.taped.program c.in-Ok.taped.log.workers c.in-Ok.taped.log.choices in
     subst (λ (why : RecordFailure). Held held (λ bytes. Declines c.args.text.now bytes why)) (sym c.undebugged.ensures)
-    (declines_held_of held c.args.text.now t c.in-Err-new.fault (c.in-Ok.ensures.ok held is) c.in-Err-new.ensures.told
+    (declines_held_of held c.args.text.now c.in-Ok.taped.log.program t c.in-Err-new.fault (c.in-Ok.ensures.ok held is) c.in-Err-new.ensures.told
     (ap status_of (sym c.undebugged.ensures) ∙ refused))
 
 pub returns-in-Ok-session-clause-ok : goal.returns-in-Ok-session-clause-ok
 returns-in-Ok-session-clause-ok g c = λ held is.
     let t = tape_of c.in-Ok.taped.program c.in-Ok.taped.log.workers c.in-Ok.taped.log.choices in
     let made = c.in-Ok-new.ensures in
-    answered held c.args.text.now t c.in-Ok-new.debugger _ _ _ (c.in-Ok.ensures.ok held is)
+    answered held c.args.text.now t c.in-Ok-new.debugger _ _ _
+    (own_held held c.args.text.now c.in-Ok.taped.log.program t (c.in-Ok.ensures.ok held is) made.own)
     (opens c.in-Ok-new.debugger t made.tape made.start made.marks) (playable_of c.in-Ok-new.debugger t made.tape made.whole) _ c.in-Ok-session.ensures.done
 
 pub returns-in-Err-session-clause-part : goal.returns-in-Err-session-clause-part
 returns-in-Err-session-clause-part g c = λ held is other.
     let t = tape_of c.in-Ok.taped.program c.in-Ok.taped.log.workers c.in-Ok.taped.log.choices in
     let made = c.in-Ok-new.ensures in
-    inr (broken held c.args.text.now t c.in-Ok-new.debugger _ _ _ (c.in-Ok.ensures.ok held is)
+    inr (broken held c.args.text.now t c.in-Ok-new.debugger _ _ _
+    (own_held held c.args.text.now c.in-Ok.taped.log.program t (c.in-Ok.ensures.ok held is) made.own)
     (opens c.in-Ok-new.debugger t made.tape made.start made.marks) (playable_of c.in-Ok-new.debugger t made.tape made.whole) _ _
     c.in-Err-session.fault c.in-Err-session.ensures.fault
     (λ is_write. other (ap status_of (c.broken_off.ensures ∙ ap broken_off is_write))))
@@ -76,6 +78,7 @@ pub returns-in-Err-session-clause-begun : goal.returns-in-Err-session-clause-beg
 returns-in-Err-session-clause-begun g c = λ held is failed.
     let t = tape_of c.in-Ok.taped.program c.in-Ok.taped.log.workers c.in-Ok.taped.log.choices in
     let made = c.in-Ok-new.ensures in
-    broken_writing held c.args.text.now t c.in-Ok-new.debugger _ _ _ (c.in-Ok.ensures.ok held is)
+    broken_writing held c.args.text.now t c.in-Ok-new.debugger _ _ _
+    (own_held held c.args.text.now c.in-Ok.taped.log.program t (c.in-Ok.ensures.ok held is) made.own)
     (opens c.in-Ok-new.debugger t made.tape made.start made.marks) (playable_of c.in-Ok-new.debugger t made.tape made.whole) _ _
     c.in-Err-session.fault c.in-Err-session.ensures.fault (broken_by_writer c.in-Err-session.fault (ap status_of (sym c.broken_off.ensures) ∙ failed))

@@ -17,3 +17,9 @@ returns-in-Count-clause-ok g c = ok_same _ _ _ _ _ (ap (log_line c.args.name.now
 
 pub returns-in-Count-clause-front : goal.returns-in-Count-clause-front
 returns-in-Count-clause-front g c = front_same _ _ _ _ _ (ap (log_line c.args.name.now) (sym c.in-Count.is)) c.write_parts-in-Count.ensures.front
+
+pub returns-in-TooMany-clause-ok : goal.returns-in-TooMany-clause-ok
+returns-in-TooMany-clause-ok g c = ok_same _ _ _ _ _ (ap (log_line c.args.name.now) (sym c.in-TooMany.is)) c.write_parts-in-TooMany.ensures.ok
+
+pub returns-in-TooMany-clause-front : goal.returns-in-TooMany-clause-front
+returns-in-TooMany-clause-front g c = front_same _ _ _ _ _ (ap (log_line c.args.name.now) (sym c.in-TooMany.is)) c.write_parts-in-TooMany.ensures.front

@@ -20,7 +20,7 @@ returns-in-Ok-replay-clause-done g c = λ held is answered.
     (λ t. IsReadOf (g.R.Read.remaining c.args.reader.now) t) (sym c.as_slice-text.ensures.value) c.in-Ok.ensures.ok in
     gains_whole (g.R.Read.remaining c.args.reader.now) c.as_slice-text.result.now _ _
     (λ text answer. Held held (λ (bytes : List ℕ). IsReplayed c.in-Ok-replay.status text bytes answer))
-    (λ answer all. all.are.is_tape.ready.is.text.short) read (c.in-Ok-replay.ensures.ok held is)
+    (λ answer all. all.are.is_tape.is.ready.is.text.short) read (c.in-Ok-replay.ensures.ok held is)
 
 pub returns-clause-told : goal.returns-clause-told
 returns-clause-told g c = λ held is none.
@@ -40,7 +40,7 @@ returns-clause-begun g c = λ held is failed.
       begun.0,
       gains_front_whole (g.R.Read.remaining c.args.reader.now) c.as_slice-text.result.now _ _
           (λ text answer. Held held (λ (bytes : List ℕ). IsReplayed begun.0 text bytes answer))
-          (λ answer all. all.are.is_tape.ready.is.text.short) read begun.1,
+          (λ answer all. all.are.is_tape.is.ready.is.text.short) read begun.1,
     )
 
 pub returns-in-Err-clause-done : goal.returns-in-Err-clause-done

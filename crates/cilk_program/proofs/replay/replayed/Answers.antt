@@ -1,25 +1,19 @@
-use Rattle.std.proofs.Common.{subst, List}
-use Rattle.cilk_run.specs.choices.declared.choice.Choice as code
 use Rattle.cilk_debug.specs.Tape.{tape_of}
-use Rattle.cilk_debug.specs.ReplayFaults.{IsFaultOf}
 use Rattle.cilk_program.proofs.Ran.{all_replayed}
 use Rattle.cilk_program.proofs.Told.{replay_reads}
 use Rattle.cilk_program.proofs.replay.replayed.Goals as goal
 
-pub returns-in-Err-play-clause-declined : goal.returns-in-Err-play-clause-declined
-returns-in-Err-play-clause-declined g c = λ held is refused.
+pub returns-in-Err-play_all-clause-declined : goal.returns-in-Err-play_all-clause-declined
+returns-in-Err-play_all-clause-declined g c = λ held is refused.
     let read = c.in-Ok.ensures.ok held is in
     record {
       bytes = read.bytes;
       held = read.held;
       are = record {
+        named = c.in-Ok.taped.log.program;
         tape = tape_of c.in-Ok.taped.program c.in-Ok.taped.log.workers c.in-Ok.taped.log.choices;
         is = read.are;
-        told =
-            subst
-            (λ (choices : List code.Choice). IsFaultOf (tape_of c.in-Ok.taped.program c.in-Ok.taped.log.workers choices) c.in-Err-play.fault)
-            c.as_slice-choices.ensures
-            c.in-Err-play.ensures.told;
+        told = c.in-Err-play_all.ensures.told;
       };
     }
 
@@ -30,8 +24,9 @@ returns-in-Ok-closing_of-clause-ok g c = λ held is.
       bytes = read.bytes;
       held = read.held;
       are = all_replayed c.in-Ok-closing_of.closing.status c.args.text.now read.bytes c.in-Ok-closing_of.closing.text.items c.in-Ok.taped.program
-          c.in-Ok.taped.log.workers c.in-Ok.taped.log.choices c.as_slice-choices.result.now c.in-Ok-play.machine c.as_slice-choices.ensures read.are
-          c.in-Ok-play.ensures.stands c.in-Ok-closing_of.ensures.closes;
+          c.in-Ok.taped.log.workers c.in-Ok.taped.log.choices c.in-Ok-play_all.machine
+          (record { named = c.in-Ok.taped.log.program; is = read.are; own = c.in-Ok-play_all.ensures.own })
+          c.in-Ok-play_all.ensures.stands c.in-Ok-closing_of.ensures.closes;
     }
 
 pub returns-in-Err-clause-declined : goal.returns-in-Err-clause-declined
@@ -40,14 +35,14 @@ returns-in-Err-clause-declined g c = λ held is refused. c.in-Err.ensures.declin
 pub returns-in-Err-clause-follows : goal.returns-in-Err-clause-follows
 returns-in-Err-clause-follows g c = c.in-Err.ensures.follows
 
-pub returns-in-Err-play-clause-follows : goal.returns-in-Err-play-clause-follows
-returns-in-Err-play-clause-follows g c = (c.in-Ok.taped.program, c.in-Ok.ensures.ready)
+pub returns-in-Err-play_all-clause-follows : goal.returns-in-Err-play_all-clause-follows
+returns-in-Err-play_all-clause-follows g c = (c.in-Ok.taped.program, c.in-Ok.ensures.ready)
 
 pub returns-in-Err-clause-reads : goal.returns-in-Err-clause-reads
 returns-in-Err-clause-reads g c = c.in-Err.ensures.reads
 
-pub returns-in-Err-play-clause-reads : goal.returns-in-Err-play-clause-reads
-returns-in-Err-play-clause-reads g c = replay_reads c.in-Err-play.fault
+pub returns-in-Err-play_all-clause-reads : goal.returns-in-Err-play_all-clause-reads
+returns-in-Err-play_all-clause-reads g c = replay_reads c.in-Err-play_all.fault
 
 pub returns-in-Ok-closing_of-clause-answer : goal.returns-in-Ok-closing_of-clause-answer
 returns-in-Ok-closing_of-clause-answer g c = c.in-Ok-closing_of.ensures.answer

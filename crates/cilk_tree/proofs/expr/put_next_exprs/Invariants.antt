@@ -1,5 +1,5 @@
 use Rattle.std.proofs.Common.{◌≡◌, ◌++◌, string_bytes, drop}
-use Rattle.cilk_tree.specs.MoveText.{next_exprs_text}
+use Rattle.cilk_tree_syntax.specs.MoveText.{next_exprs_text}
 use Rattle.cilk_tree.proofs.expr.put_next_exprs.Given as goal
 
 abbrev pub invariant-loop-expr : goal.invariant-loop-expr

@@ -1,5 +1,5 @@
 use Rattle.std.proofs.Common.{◌≡◌, ◌++◌, string_bytes, drop}
-use Rattle.cilk_tree.specs.StmtLines.{next_names_text}
+use Rattle.cilk_tree_syntax.specs.StmtLines.{next_names_text}
 use Rattle.cilk_tree.proofs.head.put_next_names.Given as goal
 
 abbrev pub invariant-loop-name : goal.invariant-loop-name

@@ -1,7 +1,7 @@
 use Rattle.std.proofs.Common.{◌≡◌, ◌++◌, [], map, string_bytes, sym, ap, ◌∙◌, append-nil}
 use Rattle.std.proofs.lemmas.List.{at_drop_all}
-use Rattle.cilk_tree.specs.Lines.{text_of}
-use Rattle.cilk_tree.specs.ProgramText.{header_line, items_lines, program_text}
+use Rattle.cilk_tree_syntax.specs.Lines.{text_of}
+use Rattle.cilk_tree_syntax.specs.ProgramText.{header_line, items_lines, program_text}
 use Rattle.cilk_tree.proofs.Lines.{items_round, two_parts}
 use Rattle.cilk_tree.proofs.item.canonical.Goals as goal
 

@@ -1,6 +1,6 @@
 use Rattle.std.proofs.Common.{◌≡◌, ◌++◌, [], string_bytes, drop}
-use Rattle.cilk_tree.specs.Lines.{text_of}
-use Rattle.cilk_tree.specs.ProgramText.{items_lines}
+use Rattle.cilk_tree_syntax.specs.Lines.{text_of}
+use Rattle.cilk_tree_syntax.specs.ProgramText.{items_lines}
 use Rattle.cilk_tree.proofs.item.canonical.Given as goal
 
 abbrev pub invariant-loop-item : goal.invariant-loop-item

@@ -1,6 +1,6 @@
 use Rattle.std.proofs.Common.{◌≡◌, ◌++◌, [], map, string_bytes, drop}
-use Rattle.cilk_tree.specs.Lines.{text_of}
-use Rattle.cilk_tree.specs.ProgramText.{header_line}
+use Rattle.cilk_tree_syntax.specs.Lines.{text_of}
+use Rattle.cilk_tree_syntax.specs.ProgramText.{header_line}
 use Rattle.cilk_tree.proofs.item.put_headers.Given as goal
 
 abbrev pub invariant-loop-header : goal.invariant-loop-header

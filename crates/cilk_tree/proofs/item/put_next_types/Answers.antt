@@ -1,5 +1,5 @@
 use Rattle.std.proofs.Common.{◌≡◌, ℕ, zero, suc, ◌+◌, ◌-◌, ◌<◌, ◌++◌, codes, sym, ap, ◌∙◌, refl, arith, append_assoc, append-nil}
-use Rattle.cilk_tree.specs.ProgramText.{next_types_text}
+use Rattle.cilk_tree_syntax.specs.ProgramText.{next_types_text}
 use Rattle.cilk_tree.proofs.item.put_next_types.Goals as goal
 
 -- one type more

@@ -1,5 +1,5 @@
 use Rattle.std.proofs.Common.{◌≡◌, ◌++◌, ◌-◌, string_bytes}
-use Rattle.cilk_tree.specs.ProgramText.{next_types_text}
+use Rattle.cilk_tree_syntax.specs.ProgramText.{next_types_text}
 use Rattle.cilk_tree.proofs.item.put_next_types.Given as goal
 
 abbrev pub invariant-loop : goal.invariant-loop

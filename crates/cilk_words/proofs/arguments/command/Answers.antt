@@ -28,4 +28,4 @@ returns c =
     let run = has with_check on_run _ c.on_run.result _ check c.on_run.ensures refl c.in_ok-running.ensures in
     let replay = has with_run (on_log (codes "replay")) _ c.on_log-replay.result _ run c.on_log-replay.ensures refl c.in_ok-replaying.ensures in
     IfOk-weaker c.with-5.result _ _
-    (λ whole adds. has with_replay (on_log (codes "debug")) _ c.on_log-debug.result whole replay c.on_log-debug.ensures refl adds) c.with-5.ensures
+    (λ whole adds. has with_replay (on_log (codes "debug")) _ c.on_session.result whole replay c.on_session.ensures refl adds) c.with-5.ensures

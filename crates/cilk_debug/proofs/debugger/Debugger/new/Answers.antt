@@ -1,16 +1,11 @@
-use Rattle.std.proofs.Common.{sym, ◌∙◌}
-use Rattle.std.proofs.lemmas.List.{length-map}
-use Rattle.cilk_debug_console.specs.choices.Words.{choice_of}
 use Rattle.cilk_debug.specs.Tape.{tape_of}
-use Rattle.cilk_debug.proofs.Sound.{sound_first, playable_by}
+use Rattle.cilk_debug.proofs.Naming.{own_by, ok_always, debug_told}
 use Rattle.cilk_debug.proofs.debugger.Debugger.new.Goals as goal
 
-pub invariant_of-result : goal.invariant_of-result
-invariant_of-result c =
-    sound_first c.args.program c.args.log.workers c.args.log.choices c.len.result c.in-Ok.field-0 c.in-Ok-played.machine c.in-Ok-no_marks.marks.items
-    c.len.ensures c.in-Ok.ensures.stands c.in-Ok-played.ensures.stands c.in-Ok-no_marks.ensures.marks
+pub returns-in-Ok-false-clause-own : goal.returns-in-Ok-false-clause-own
+returns-in-Ok-false-clause-own c = ok_always c.begin.result (own_by _ _ c.in-Ok-false.field-0-test c.in-Ok-false.ensures.other)
 
-pub returns-clause-whole : goal.returns-clause-whole
-returns-clause-whole c =
-    playable_by (tape_of c.args.program c.args.log.workers c.args.log.choices) c.len.result c.in-Ok.field-0
-    (c.len.ensures ∙ sym (length-map c.args.log.choices choice_of)) c.in-Ok.ensures.stands
+pub returns-in-Ok-false-clause-told : goal.returns-in-Ok-false-clause-told
+returns-in-Ok-false-clause-told c =
+    debug_told c.args.log.program (tape_of c.args.program c.args.log.workers c.args.log.choices)
+    (own_by _ _ c.in-Ok-false.field-0-test c.in-Ok-false.ensures.other) c.begin.result c.begin.ensures.told

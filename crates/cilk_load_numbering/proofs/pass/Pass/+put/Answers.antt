@@ -1,16 +1,16 @@
 use Rattle.std.proofs.Common.{◌≡◌, ◌+◌, ◌-◌, ◌++◌, List, length, drop, vec_len, rules, refl, sym, ap, subst, ◌∙◌, arith, length-append}
 use Rattle.std.proofs.lemmas.List.{at_drop_more}
-use Rattle.cilk_load_layout.specs.syntax.Tree as tree
-use Rattle.cilk_load_layout.specs.syntax.Tree.{locals_of, stmts_of}
-use Rattle.cilk_load_layout.specs.labelled.Count.{count_stmts}
-use Rattle.cilk_load_layout.specs.labelled.Label.{stmt_variables, stmts_variables}
-use Rattle.cilk_load_layout.specs.nodes.Plain.{PlainStmts, PlainBlock}
+use Rattle.cilk_load_names.specs.syntax.Tree as tree
+use Rattle.cilk_load_names.specs.syntax.Tree.{locals_of, stmts_of}
+use Rattle.cilk_load_names.specs.labelled.Count.{count_stmts}
+use Rattle.cilk_load_names.specs.labelled.Label.{stmt_variables, stmts_variables}
+use Rattle.cilk_load_names.specs.nodes.Plain.{PlainStmts, PlainBlock}
 use Rattle.cilk_load_names.specs.Scope.{Scope}
-use Rattle.cilk_load_layout.specs.Firsts.{block_first}
+use Rattle.cilk_load_names.specs.Firsts.{block_first}
 use Rattle.cilk_load_numbering.specs.Pass.{block_nodes, stmts_nodes}
-use Rattle.cilk_load_layout.proofs.Cells.{ok_same}
+use Rattle.cilk_load_names.proofs.Results.{ok_same}
 use Rattle.cilk_load_numbering.proofs.Scopes.{Adds, adds-locals, forgotten}
-use Rattle.cilk_load_numbering.proofs.Parts.{block-written, tested, while-written, do-written, for-written, either-written, stmts-turn}
+use Rattle.cilk_load_numbering.proofs.Parts.{block-written, tested, switch-written, while-written, do-written, for-written, either-written, stmts-turn}
 use Rattle.cilk_load_numbering.proofs.pass.Pass.+put.Goals as goal
 
 pub put_block-forget-requires : goal.put_block-forget-requires
@@ -62,6 +62,22 @@ pub put_when-returns-clause-names : goal.put_when-returns-clause-names
 put_when-returns-clause-names t c =
     ok_same c.put_block.result c.put_block.new.self.names c.put_test.new.self.names c.args.self.now.names c.put_block.ensures.names
     c.in_ok-put_test.ensures.names
+
+pub put_switch-returns-clause-nodes : goal.put_switch-returns-clause-nodes
+put_switch-returns-clause-nodes t c =
+    let site = c.args.site in
+    ok_same c.put_block.result c.put_block.new.self.nodes.items
+    (c.put_switch_test.new.self.nodes.items ++ block_nodes site.body site.vars.now c.put_switch_test.new.self.names
+    (vec_len c.put_switch_test.new.self.nodes + 1) c.args.n c.args.body.now c.in_switch.result) _ c.put_block.ensures.nodes
+    (switch-written site.body site.vars.now c.args.self.now.names c.put_switch_test.new.self.names (vec_len c.args.self.now.nodes)
+    (vec_len c.put_switch_test.new.self.nodes) c.args.n c.args.test.now c.args.body.now c.args.exits c.in_switch.result
+    c.args.self.now.nodes.items c.put_switch_test.new.self.nodes.items _ c.in_switch.ensures
+    c.in_ok-put_switch_test.ensures.nodes c.in_ok-put_switch_test.ensures.len c.in_ok-put_switch_test.ensures.names refl)
+
+pub put_switch-returns-clause-names : goal.put_switch-returns-clause-names
+put_switch-returns-clause-names t c =
+    ok_same c.put_block.result c.put_block.new.self.names c.put_switch_test.new.self.names c.args.self.now.names c.put_block.ensures.names
+    c.in_ok-put_switch_test.ensures.names
 
 pub put_while-returns-clause-nodes : goal.put_while-returns-clause-nodes
 put_while-returns-clause-nodes t c =

@@ -1,8 +1,8 @@
 use Rattle.std.proofs.Common.{◌≡◌, ◌+◌, ◌++◌, drop, length, vec_len}
-use Rattle.cilk_load_layout.specs.syntax.Tree.{stmts_of}
-use Rattle.cilk_load_layout.specs.labelled.Count.{count_stmts}
-use Rattle.cilk_load_layout.specs.labelled.Label.{stmts_variables}
-use Rattle.cilk_load_layout.specs.nodes.Plain.{PlainStmts}
+use Rattle.cilk_load_names.specs.syntax.Tree.{stmts_of}
+use Rattle.cilk_load_names.specs.labelled.Count.{count_stmts}
+use Rattle.cilk_load_names.specs.labelled.Label.{stmts_variables}
+use Rattle.cilk_load_names.specs.nodes.Plain.{PlainStmts}
 use Rattle.cilk_load_numbering.specs.Pass.{stmts_nodes}
 use Rattle.cilk_load_numbering.proofs.pass.Pass.+put.Given as goal
 

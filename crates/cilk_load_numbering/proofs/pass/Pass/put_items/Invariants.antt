@@ -1,6 +1,6 @@
 use Rattle.std.proofs.Common.{◌≡◌, ◌+◌, ◌++◌, drop, vec_len}
-use Rattle.cilk_load_layout.specs.labelled.Count.{count_items}
-use Rattle.cilk_load_layout.specs.nodes.Plain.{PlainItems}
+use Rattle.cilk_load_names.specs.labelled.Count.{count_items}
+use Rattle.cilk_load_names.specs.nodes.Plain.{PlainItems}
 use Rattle.cilk_load_numbering.specs.Outer.{items_nodes}
 use Rattle.cilk_load_numbering.proofs.pass.Pass.put_items.Given as goal
 

@@ -1,11 +1,11 @@
 use Rattle.std.proofs.Common.{◌≡◌, ◌+◌, ◌++◌, length, drop, vec_len, sym, ap, subst, ◌∙◌, arith, length-append}
 use Rattle.std.proofs.lemmas.List.{at_drop_more}
-use Rattle.cilk_load_layout.specs.syntax.Tree as tree
-use Rattle.cilk_load_layout.specs.syntax.Tree.{Word, locals_of}
-use Rattle.cilk_load_layout.specs.syntax.StmtView.{local_of}
-use Rattle.cilk_load_layout.specs.labelled.Count.{count_locals}
-use Rattle.cilk_load_layout.specs.labelled.Label.{local_variables, locals_variables}
-use Rattle.cilk_load_layout.specs.nodes.Plain.{OuterLocals}
+use Rattle.cilk_load_names.specs.syntax.Tree as tree
+use Rattle.cilk_load_names.specs.syntax.Tree.{Word, locals_of}
+use Rattle.cilk_load_names.specs.syntax.StmtView.{local_of}
+use Rattle.cilk_load_names.specs.labelled.Count.{count_locals}
+use Rattle.cilk_load_names.specs.labelled.Label.{local_variables, locals_variables}
+use Rattle.cilk_load_names.specs.nodes.Plain.{OuterLocals}
 use Rattle.cilk_load_numbering.specs.Outer.{vars_at, outer_scope, outer_nodes}
 use Rattle.cilk_load_numbering.proofs.Parts.{from-place, OuterTurn, outer-decl-turn, outer-inlet-turn, outer-later}
 use Rattle.cilk_load_numbering.proofs.pass.Pass.put_outer_locals.Goals as goal

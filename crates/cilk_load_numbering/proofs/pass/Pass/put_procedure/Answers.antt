@@ -1,5 +1,5 @@
 use Rattle.std.proofs.Common.{length, sym, ap, subst, ◌∙◌, arith, length-append}
-use Rattle.cilk_load_layout.specs.syntax.ProgramView.{parameters_of}
+use Rattle.cilk_load_names.specs.syntax.ProgramView.{parameters_of}
 use Rattle.cilk_load_names.specs.Scope.{Scope, left_of}
 use Rattle.cilk_load_numbering.specs.Outer.{parameters_scope}
 use Rattle.cilk_load_numbering.proofs.Scopes.{Adds, adds-parameters, around, left-entered}

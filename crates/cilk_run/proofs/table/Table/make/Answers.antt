@@ -38,4 +38,5 @@ invariant_of-self-2 g c =
       subst (λ h. IsCounted g.J.Setting.workers c.count.new.turns.items h) (sym grown)
           (subst (λ xs. IsCounted g.J.Setting.workers xs (old ++ choice ∷ [])) (sym c.count.ensures)
           (counted-more g.J.Setting.workers ts old choice i (slice_index ts i + 1) known.5 within by refl)),
+      known.6,
     )

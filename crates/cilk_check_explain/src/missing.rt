@@ -1,0 +1,96 @@
+//! Marks that are missing: with them the text goes on.
+
+use crate::braces::margin_of;
+use crate::front::Front;
+use cilk_check_scopes::Memory;
+use cilk_lex::{Mark, TokenKind};
+use cilk_parse::{ReadFault, read};
+use std::alloc::{AllocError, Global};
+
+// Up to where a text is read: the place of its fault, or its length.
+fn reach(alloc: Global, text: &str) -> Result<usize, Memory> {
+    match read(alloc, text) {
+        Ok(program) => {
+            drop(program);
+            Ok(text.len())
+        }
+        Err(ReadFault::Unexpected(at) | ReadFault::TooDeep(at)) => Ok(at as usize),
+        Err(ReadFault::Lex(_)) => Ok(0),
+        Err(ReadFault::Memory) => Err(Memory::from(AllocError)),
+    }
+}
+
+// The text with a mark more at a place, between spaces.
+fn with_mark(alloc: Global, text: &str, at: u32, mark: &str) -> Result<String, Memory> {
+    let (before, behind) = text.split_at(text.floor_char_boundary(at as usize));
+    let mut whole = String::new(alloc);
+    whole.push_str(before)?;
+    whole.push_str(" ")?;
+    whole.push_str(mark)?;
+    whole.push_str(" ")?;
+    whole.push_str(behind)?;
+    Ok(whole)
+}
+
+// The place of the token behind this one, or of this one where it is the last.
+fn wanted_reach(front: Front<'_>) -> u32 {
+    let tokens = front.source.tokens;
+    match tokens.get(front.index.saturating_add(1)) {
+        Some(token) => token.start,
+        None => front.source.place_of(front.index),
+    }
+}
+
+// Whether the text goes on through the token, and the one behind it, where this mark stands before it.
+fn goes_on_with(alloc: Global, front: Front<'_>, mark: &str) -> Result<bool, Memory> {
+    let at = front.source.place_of(front.index);
+    let mended = with_mark(alloc, front.source.text, at, mark)?;
+    let reached = reach(alloc, mended.as_str())?;
+    let wanted = (wanted_reach(front) as usize).saturating_add(mark.len());
+    Ok(reached > wanted.saturating_add(2))
+}
+
+// Whether a statement may end behind this token.
+fn may_end(kind: TokenKind) -> bool {
+    matches!(
+        kind,
+        TokenKind::Name
+            | TokenKind::Number(_)
+            | TokenKind::Text
+            | TokenKind::Word(_)
+            | TokenKind::Mark(
+                Mark::CloseParenthesis | Mark::CloseBracket | Mark::Increment | Mark::Decrement
+            )
+    )
+}
+
+// The marks that may be missing before the token, the likeliest first.
+fn marks(front: Front<'_>) -> [&'static str; 3] {
+    match front.opener() {
+        Some(opener) if opener.word() == "[" => ["]", "];", ""],
+        Some(_) => [")", ");", ","],
+        None if front.is_in_body() || front.word_before(1) != ")" => [";", "", ""],
+        None if opens_body(front) => ["{", ";", ""],
+        None => [";", "{", ""],
+    }
+}
+
+// Whether the token stands on the line of a head, or on one of a wider margin.
+fn opens_body(front: Front<'_>) -> bool {
+    let head = margin_of(front.source, front.begin());
+    !front.begins_line() || margin_of(front.source, front.index).len() > head.len()
+}
+
+/// The mark that is missing before the token. None where none is known with which the text goes on.
+pub(crate) fn missing(alloc: Global, front: Front<'_>) -> Result<Option<&'static str>, Memory> {
+    match front.kind_before(1) {
+        Some(kind) if may_end(kind) => {}
+        _ => return Ok(None),
+    }
+    for mark in marks(front) {
+        if !mark.is_empty() && goes_on_with(alloc, front, mark)? {
+            return Ok(Some(mark));
+        }
+    }
+    Ok(None)
+}

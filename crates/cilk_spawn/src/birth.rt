@@ -1,0 +1,14 @@
+//! What an instance is born with.
+
+use crate::receiver::Receiver;
+use cilk_frame::Id;
+
+/// What is settled of an instance before it does anything.
+#[derive(Drop)]
+pub struct Birth {
+    pub parent: Option<Id>,
+    pub ordinal: u32,
+    pub procedure: u32,
+    pub aborted: bool,
+    pub receiver: Receiver,
+}

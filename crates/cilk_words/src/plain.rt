@@ -1,0 +1,49 @@
+//! What is wrong with the words of a command line, told in plain words.
+
+use std::alloc::{AllocError, Global};
+
+// The front of a line that advises to make a file's name of an option.
+const ADVICE: &str = "  tip: to pass '";
+
+const OPTIONS: &str =
+    "  tip: an option stands behind its subcommand: --explain behind print, check and run, and --limit, --log and --workers behind run";
+
+// What stands before the reason why a word is not the number of an option, and what is told in place of it.
+const WORKERS: &str = "for '--workers <N>': ";
+
+const SOME_WORKERS: &str = "for '--workers <N>': it is a number from 1 to 64";
+
+const LIMIT: &str = "for '--limit <K>': ";
+
+const SOME_LIMIT: &str = "for '--limit <K>': it is a number from 1 to 10,000,000";
+
+/// The text of an error, with plain words for what a number may be, and for where options stand.
+pub(crate) fn plain(alloc: Global, text: &str) -> Result<String, AllocError> {
+    let mut out = String::new(alloc);
+    let mut is_first = true;
+    for line in text.split('\n') {
+        if !is_first {
+            out.push_str("\n")?;
+        }
+        is_first = false;
+        push_plain(&mut out, line)?;
+    }
+    Ok(out)
+}
+
+fn push_plain(out: &mut String, line: &str) -> Result<(), AllocError> {
+    if line.starts_with(ADVICE) {
+        return out.push_str(OPTIONS);
+    }
+    if let Some((before, _)) = line.split_once(WORKERS) {
+        out.push_str(before)?;
+        return out.push_str(SOME_WORKERS);
+    }
+    match line.split_once(LIMIT) {
+        Some((before, _)) => {
+            out.push_str(before)?;
+            out.push_str(SOME_LIMIT)
+        }
+        None => out.push_str(line),
+    }
+}
