@@ -44,9 +44,12 @@ pub fn rows_are_nodes()
 
 /// What comes behind the actions of `switch`es: by each value, and behind the statements of their bodies.
 pub fn rows_of_switches_are_nodes()
-    ensures leads { leads switched_program 5 (pos 0 ∷ pos 1 ∷ pos 2 ∷ negsuc 0 ∷ []) ≡ Some (Some 6) ∷ Some (Some 9) ∷ Some (Some 8) ∷ Some (Some 10) ∷ [] }
-    ensures behind { nexts switched_program (6 ∷ 7 ∷ 8 ∷ 9 ∷ 10 ∷ []) ≡ Some (Some 7) ∷ Some (Some 4) ∷ Some (Some 9) ∷ Some (Some 10) ∷ Some (Some 4) ∷ [] }
-    ensures in_loop { leads choosing_program 2 (pos 2 ∷ pos 3 ∷ pos 5 ∷ pos 7 ∷ []) ≡ Some (Some 5) ∷ Some (Some 6) ∷ Some (Some 4) ∷ Some (Some 4) ∷ [] }
+    ensures leads { leads switched_program 5 (pos 0 ∷ pos 1 ∷ pos 2 ∷ negsuc 0 ∷ [])
+        ≡ Some (Some 6) ∷ Some (Some 9) ∷ Some (Some 8) ∷ Some (Some 10) ∷ [] }
+    ensures behind { nexts switched_program (6 ∷ 7 ∷ 8 ∷ 9 ∷ 10 ∷ [])
+        ≡ Some (Some 7) ∷ Some (Some 4) ∷ Some (Some 9) ∷ Some (Some 10) ∷ Some (Some 4) ∷ [] }
+    ensures in_loop { leads choosing_program 2 (pos 2 ∷ pos 3 ∷ pos 5 ∷ pos 7 ∷ [])
+        ≡ Some (Some 5) ∷ Some (Some 6) ∷ Some (Some 4) ∷ Some (Some 4) ∷ [] }
     ensures jumps { nexts choosing_program (3 ∷ 4 ∷ 5 ∷ 6 ∷ []) ≡ Some (Some 4) ∷ Some (Some 5) ∷ Some (Some 1) ∷ Some (Some 7) ∷ [] }
     ensures no_default { leads choosing_program 8 (pos 0 ∷ pos 1 ∷ pos 4 ∷ []) ≡ Some (Some 9) ∷ Some (Some 12) ∷ Some (Some 11) ∷ [] }
     ensures inner { leads choosing_program 9 (pos 1 ∷ pos 4 ∷ []) ≡ Some (Some 10) ∷ Some (Some 11) ∷ [] }

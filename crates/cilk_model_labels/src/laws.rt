@@ -31,8 +31,10 @@ pub fn switches_go_on()
         ≡ Some 1 ∷ Some 2 ∷ Some 3 ∷ Some 5 ∷ Some 6 ∷ Some 7 ∷ Some 4 ∷ Some 3 ∷ [] }
     ensures falls_through { walk_by (bodies_of switched_program) (pos 1 ∷ pos 1 ∷ pos 1 ∷ pos 2 ∷ pos 1 ∷ pos 1 ∷ pos 1 ∷ [])
         ≡ Some 1 ∷ Some 2 ∷ Some 3 ∷ Some 5 ∷ Some 8 ∷ Some 9 ∷ Some 10 ∷ Some 4 ∷ [] }
-    ensures by_default { walk_by (bodies_of switched_program) (pos 1 ∷ pos 1 ∷ pos 1 ∷ pos 1 ∷ []) ≡ Some 1 ∷ Some 2 ∷ Some 3 ∷ Some 5 ∷ Some 9 ∷ [] }
-    ensures negative { walk_by (bodies_of switched_program) (pos 1 ∷ pos 1 ∷ pos 1 ∷ negsuc 0 ∷ []) ≡ Some 1 ∷ Some 2 ∷ Some 3 ∷ Some 5 ∷ Some 10 ∷ [] }
+    ensures by_default { walk_by (bodies_of switched_program) (pos 1 ∷ pos 1 ∷ pos 1 ∷ pos 1 ∷ [])
+        ≡ Some 1 ∷ Some 2 ∷ Some 3 ∷ Some 5 ∷ Some 9 ∷ [] }
+    ensures negative { walk_by (bodies_of switched_program) (pos 1 ∷ pos 1 ∷ pos 1 ∷ negsuc 0 ∷ [])
+        ≡ Some 1 ∷ Some 2 ∷ Some 3 ∷ Some 5 ∷ Some 10 ∷ [] }
     ensures breaks_off { walk_by (bodies_of choosing_program) (pos 1 ∷ pos 3 ∷ pos 1 ∷ pos 1 ∷ [])
         ≡ Some 1 ∷ Some 2 ∷ Some 6 ∷ Some 7 ∷ Some 1 ∷ [] }
     ensures goes_round { walk_by (bodies_of choosing_program) (pos 1 ∷ pos 2 ∷ pos 1 ∷ []) ≡ Some 1 ∷ Some 2 ∷ Some 5 ∷ Some 1 ∷ [] }

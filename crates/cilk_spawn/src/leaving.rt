@@ -36,7 +36,8 @@ pub fn settle(records: &mut Vec<Record>, living: &[Id], place: usize)
 /// The parent of an instance, if it has one, has it again among its live children. Where memory has run out, nothing has changed.
 pub fn rejoin_parent(records: &mut Vec<Record>, child: Id) -> Result<(), Memory>
     requires there { child < length records.old.items }
-    requires parent { (q : ℕ) → (node_at (nodes_of records.old.items) child).parent ≡ Some q → is_live (node_at (nodes_of records.old.items) q) ≡ true }
+    requires parent { (q : ℕ) → (node_at (nodes_of records.old.items) child).parent ≡ Some q
+        → is_live (node_at (nodes_of records.old.items) q) ≡ true }
     ensures ok { OnOk result (Regained records.old.items records.new.items child) }
     ensures same { OnErr result (nodes_of records.new.items ≡ nodes_of records.old.items) }
     ensures beside { OnErr result (Alike records.old.items records.new.items) }
