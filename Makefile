@@ -2,7 +2,7 @@
 
 sources := $(shell find crates \( -name out -o -name must-fail \) -prune -o -type f -print)
 
-.PHONY: help demo libraries test ways programs must_not_compile costs wrong-bodies edge budget bench clean
+.PHONY: help demo libraries test ways programs fuzz sweep memory must_not_compile costs wrong-bodies edge budget bench clean
 
 # Proves what ./cilk is made of, and builds it.
 cilk: crates.txt HANDLES $(sources)
@@ -40,6 +40,18 @@ programs: cilk
 	tools/examples ./cilk
 	tools/threads ./cilk
 	tools/broken_off ./cilk
+
+# Tries ./cilk for SECONDS (600) on inputs made by chance, from SEED (1) and by JOBS processes (one a processor); found/ gets what breaks a law (docs/GATE.md).
+fuzz: cilk
+	tools/fuzz ./cilk --seconds $(or $(SECONDS),600) --seed $(or $(SEED),1) $(if $(JOBS),--jobs $(JOBS))
+
+# Refuses ./cilk each growth of memory in turn, and each read and write, over programs/ and all subcommands (docs/GATE.md).
+sweep: cilk
+	tools/sweep ./cilk
+
+# Runs ./cilk in 3 to 40 MB of memory: the right answer comes, or that there is no memory (docs/GATE.md).
+memory: cilk
+	tools/memory ./cilk
 
 # Tries the examples that the compiler must refuse.
 must_not_compile:

@@ -3,7 +3,7 @@
 ghost use Rattle.std.specs.Prelude.{None, is_some};
 ghost use Rattle.cilk.specs.Source.{IsSource};
 
-use crate::writing::write_whole;
+use crate::writing::replace_file;
 use cilk_program::{LogStore, Texts};
 use either::Either;
 use std::alloc::{AllocError, Global};
@@ -44,7 +44,7 @@ impl<'r> Texts for Host<'r> {
         self.rt.reader()
     }
 
-    fn log(
+    fn log_store(
         &self,
         alloc: Global,
         program: &str,
@@ -92,7 +92,7 @@ impl<'r> LogStore for LogFile<'r> {
 
     fn store(&mut self, text: &[u8]) -> io::Result<()> {
         match &self.path {
-            Some(path) => write_whole(self.rt, self.alloc, path.as_str(), text),
+            Some(path) => replace_file(self.rt, self.alloc, path.as_str(), text),
             None => Ok(()),
         }
     }

@@ -7,25 +7,27 @@
 #![tactic(auto)]
 
 mod host;
-mod streams;
+mod seats;
 mod writing;
 
 use cilk_program::{Streams, exit_code};
 use host::Host;
+use seats::seat;
 use std::process::ExitCode;
 use std::sync::Wait;
 use std::thread::Threads;
 use std::{env, io};
-use streams::seat;
 
 fn main(rt: HostRuntime) -> ExitCode {
+    // Where a standard stream is closed, something else takes its number, up to the end.
     let seats = [seat(&rt), seat(&rt), seat(&rt)];
     let code = code(&rt, &rt);
     drop(seats);
     ExitCode::from(code)
 }
 
-// The number to exit with. Workers are started with the handle.
+// The number to exit with. Both arguments are the runtime: as `handle` it starts workers' threads and waits for them, which is all that a run may ask
+// of it, and as `rt` it opens files and streams.
 fn code<H: Threads + Wait + Sync>(handle: &H, rt: &HostRuntime) -> u8 {
     let words = words(rt);
     let texts = Host { rt };

@@ -10,7 +10,7 @@ const NAMES: u32 = 1000;
 
 /// Writes a text to what has this name. A file there, if there is one, stays as it was until another with the whole text
 /// takes its place. A device, a pipe, or what a link leads to is written to where it stands.
-pub fn write_whole(rt: &HostRuntime, alloc: Global, path: &str, text: &[u8]) -> io::Result<()> {
+pub fn replace_file(rt: &HostRuntime, alloc: Global, path: &str, text: &[u8]) -> io::Result<()> {
     if !is_replaced(rt, path)? {
         return write_to(File::create(rt, path)?, text);
     }

@@ -48,7 +48,7 @@ impl<'a> Walk<'a> {
     // Counts an action that begins at a token.
     fn act(&mut self, index: usize) {
         if self.left == 1 {
-            self.found = Some(self.source.place_of(index));
+            self.found = Some(self.source.place_at(index));
         }
         self.left = self.left.saturating_sub(1);
     }

@@ -17,7 +17,7 @@ struct Slanted {
 
 // What stands on its line before a token.
 fn line_front<'a>(source: Source<'a>, index: usize) -> &'a str {
-    let at = source.place_of(index) as usize;
+    let at = source.place_at(index) as usize;
     let (before, _) = source.text.split_at(source.text.floor_char_boundary(at));
     behind_newline(before)
 }

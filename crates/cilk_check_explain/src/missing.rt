@@ -37,13 +37,13 @@ fn wanted_reach(front: Front<'_>) -> u32 {
     let tokens = front.source.tokens;
     match tokens.get(front.index.saturating_add(1)) {
         Some(token) => token.start,
-        None => front.source.place_of(front.index),
+        None => front.source.place_at(front.index),
     }
 }
 
 // Whether the text goes on through the token, and the one behind it, where this mark stands before it.
 fn goes_on_with(alloc: Global, front: Front<'_>, mark: &str) -> Result<bool, Memory> {
-    let at = front.source.place_of(front.index);
+    let at = front.source.place_at(front.index);
     let mended = with_mark(alloc, front.source.text, at, mark)?;
     let reached = reach(alloc, mended.as_str())?;
     let wanted = (wanted_reach(front) as usize).saturating_add(mark.len());

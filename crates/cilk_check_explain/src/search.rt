@@ -109,7 +109,7 @@ fn in_procedure(sought: Sought<'_>, procedure: &Proc, found: Option<Declared>) -
 fn kind_of_procedure(procedure: &Proc) -> DeclarationKind {
     let count = match &procedure.parameters {
         Parameters::Ints(names) => names.len(),
-        Parameters::CommandLine(_, _) => 2,
+        Parameters::CommandLine(_, _) => 1,
     };
     if procedure.is_cilk {
         DeclarationKind::Procedure(procedure.returns, count)

@@ -44,7 +44,7 @@ impl<'a> Source<'a> {
     }
 
     /// The place of the token with this index, or the end of the text.
-    pub(crate) fn place_of(self, index: usize) -> u32 {
+    pub(crate) fn place_at(self, index: usize) -> u32 {
         match self.tokens.get(index) {
             Some(token) => token.start,
             None => u32::try_from(self.text.len()).unwrap_or(u32::MAX),
@@ -53,7 +53,7 @@ impl<'a> Source<'a> {
 
     /// The line of that.
     pub(crate) fn line_of(self, index: usize) -> usize {
-        self.line(self.place_of(index))
+        self.line(self.place_at(index))
     }
 
     /// How the token at a place is spelled.

@@ -2,6 +2,7 @@
 use Rattle.std.specs.Prelude.{◌≡◌, ℕ, Bool, true, List, [], ◌++◌, ◌⊎◌, Option, codes, decimal, IsCharBoundary, IsUtf8}
 use Rattle.cilk_check.specs.lexeme.declared.fault.LexFault.{LexFault}
 use Rattle.cilk_check.specs.lexeme.declared.fault.LexFault.TheVariants as lex
+use Rattle.cilk_check.specs.lexeme.Place.{line_of, column_of}
 use Rattle.cilk_parse.specs.declared.fault.ReadFault.{ReadFault}
 use Rattle.cilk_parse.specs.declared.fault.ReadFault.TheVariants as read
 use Rattle.cilk_check.specs.scopes.declared.fault.CheckFault.{CheckFault}
@@ -78,6 +79,17 @@ pub record IsTold (text : List ℕ) (at : ℕ) (told : List ℕ) : Type 0 where
   pub words : List ℕ
   pub is : told ≡ lines ++ (words ++ codes ".\n")
   pub marked : IsUtf8 text → IsCharBoundary text at → lines ≡ place_lines text at
+
+-- where an action stands in the text of this name: its place with its number, as a fault has its place, the line of the place, and a mark below the place
+abbrev pub lines_at_action : List ℕ → List ℕ → ℕ → ℕ → List ℕ
+lines_at_action name text at number =
+    fault_line name (decimal (line_of text at)) (decimal (column_of text at)) (codes "action " ++ decimal number) ++ place_lines text at
+
+-- that of some place at which a character begins
+pub record IsActionTold (name text : List ℕ) (number : ℕ) (told : List ℕ) : Type 0 where
+  pub at : ℕ
+  pub begins : IsCharBoundary text at
+  pub is : told ≡ lines_at_action name text at number
 
 -- what is told behind the line of a failure with the text: nothing where it is not asked for, or where memory runs out, or of what has no place
 abbrev pub IsExplanation : Bool → List ℕ → Failure → List ℕ → Type 0

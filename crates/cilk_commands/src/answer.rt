@@ -33,8 +33,8 @@ pub fn write_parts<W: Write>(out: &mut W, parts: &[&str]) -> io::Result<()>
     Ok(())
 }
 
-/// What `write_all` does. That promises nothing of what was written where it fails.
-pub(crate) fn write_whole<W: Write>(out: &mut W, bytes: &[u8]) -> io::Result<()>
+/// Writes these bytes, as `write_all` does, which promises nothing of what was written where it fails.
+pub fn write_whole<W: Write>(out: &mut W, bytes: &[u8]) -> io::Result<()>
     ensures ok { OnOk result (Appends (W.contents out.old) (W.contents out.new) bytes.now) }
     ensures front { OnErr result (AppendsFront (W.contents out.old) (W.contents out.new) bytes.now) }
 {

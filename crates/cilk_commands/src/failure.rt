@@ -15,7 +15,7 @@ use std::io::Write;
 /// Why a subcommand has no answer.
 #[derive(Clone, Copy, Debug, PartialEq, Eq)]
 pub enum Failure {
-    /// The reader failed before the text was read.
+    /// The text cannot be opened, or its reader failed before it was read; or a log has more bytes than one may have.
     CannotRead,
     /// A fault of the text, and the place of its first byte: line and column count from 1, the
     /// column in bytes.

@@ -16,14 +16,14 @@ mod source;
 mod status;
 mod telling;
 
-pub use answer::{write_answer, write_parts};
+pub use answer::{write_answer, write_parts, write_whole};
 pub use check::check_text;
 pub use cilk_load::Loaded;
 pub use failure::Failure;
 pub use fault::Fault;
 pub use loading::ready_of;
 pub use print::print_text;
-pub use program::program_of;
+pub use program::checked_program;
 pub use source::{RECORD_LIMIT, read_record, read_text};
 pub use status::Status;
-pub use telling::tell_of;
+pub use telling::{action_told, tell_of};

@@ -15,7 +15,7 @@ use std::alloc::Global;
 
 /// The program that the bytes of a text are. What is wrong is told in this order: the length of the text, that it is not
 /// UTF-8, its tokens and its grammar, and the rules that no grammar says.
-pub fn program_of(alloc: Global, bytes: &[u8]) -> Result<Checked, Failure>
+pub fn checked_program(alloc: Global, bytes: &[u8]) -> Result<Checked, Failure>
     ensures ok { IfOk result (IsProgram bytes.now) }
     ensures err { IfErr result (Explains bytes.now) }
     ensures every_program { (p : tree.Program) → IsProgram bytes.now p

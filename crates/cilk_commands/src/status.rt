@@ -19,7 +19,7 @@ pub enum Status {
     Limit,
     /// Memory has run out.
     Memory,
-    /// A file or the input failed, so that there is no text.
+    /// A file or the input failed, so that there is no text; or the commands of a session cannot be read any further.
     CannotRead,
     /// The output failed, so that a part of the answer may be written.
     CannotWrite,

@@ -1,14 +1,14 @@
-//! What is told of a failure.
+//! What is told of a failure, and where an action stands.
 
-ghost use Rattle.std.specs.Prelude.{◌≡◌, ◌++◌, ℕ, List, IfOk, codes, string_bytes};
+ghost use Rattle.std.specs.Prelude.{◌≡◌, ◌≤◌, ◌++◌, ℕ, List, IfOk, IfSome, codes, length, string_bytes, IsCharBoundary};
 ghost use Rattle.cilk_commands.specs.Place.{place_of};
 ghost use Rattle.cilk_commands.specs.Status.{status_of};
-ghost use Rattle.cilk_commands.specs.Telling.{IsExplanation, IsTold, WritesFailure};
+ghost use Rattle.cilk_commands.specs.Telling.{IsActionTold, IsExplanation, IsTold, WritesFailure, lines_at_action};
 
 use crate::failure::Failure;
 use crate::fault::Fault;
 use crate::status::Status;
-use cilk_check_explain::{Told, place_lines, sentence};
+use cilk_check_explain::{TEXT_LIMIT, Told, action_place, line_col, place_lines, sentence};
 use cilk_load::Memory;
 use cilk_parse::{ReadFault, read};
 use std::alloc::{AllocError, Global};
@@ -73,4 +73,42 @@ fn said(alloc: Global, text: &str, fault: &Fault) -> Result<String, Memory>
             Err(_) => Err(Memory::from(AllocError)),
         },
     }
+}
+
+/// Where the action of this number stands in the text of this name: a line with its place, the line of the text, and a caret
+/// under the place. None where it is not found. That it is the action's place is in no clause: cases see it.
+pub fn action_told(
+    alloc: Global,
+    name: &str,
+    text: &[u8],
+    number: u32,
+) -> Result<Option<String>, Memory>
+    ensures { IfOk result (λ told. IfSome told (λ s. IsActionTold name.now text.now number (string_bytes s))) }
+{
+    let Ok(text) = str::from_utf8(text) else {
+        return Ok(None);
+    };
+    if text.len() > TEXT_LIMIT {
+        return Ok(None);
+    }
+    let Some(at) = action_place(alloc, text, number)? else {
+        return Ok(None);
+    };
+    if !text.is_char_boundary(at as usize) {
+        return Ok(None);
+    }
+    let told = place_told(alloc, name, text, at, number)?;
+    Ok(Some(told))
+}
+
+fn place_told(alloc: Global, name: &str, text: &str, at: u32, number: u32) -> Result<String, Memory>
+    requires short { length text.now ≤ TEXT_LIMIT }
+    requires begins { IsCharBoundary text.now at }
+    ensures { IfOk result (λ s. string_bytes s ≡ lines_at_action name.now text.now at number) }
+{
+    let (line, column) = line_col(text, at);
+    let mut told = format!(in alloc; "{name}:{line}:{column}: action {number}\n")?;
+    let lines = place_lines(alloc, text, at)?;
+    told.push_str(lines.as_str())?;
+    Ok(told)
 }

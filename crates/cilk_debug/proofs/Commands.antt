@@ -13,10 +13,10 @@ use Rattle.cilk_debug_console.specs.OneByOne.{OneByOne}
 use Rattle.cilk_debug.specs.Debugging.{Debugging}
 use Rattle.cilk_debug.specs.Obeying.{obeyed}
 use Rattle.cilk_debug.specs.Session.{ends_it, answering, heard_all, session_behind, session}
-use Rattle.cilk_debug.specs.Ending.{Answers, IsFirst, RanShort, Unwritten, Breaks}
+use Rattle.cilk_debug.specs.Ending.{Answers, AsksFirst, RanShort, Unwritten, Breaks}
 use Rattle.cilk_debug.specs.Replies.{Answered}
-use Rattle.cilk_debug.specs.declared.ending.SessionFault.{SessionFault}
-use Rattle.cilk_debug.specs.declared.ending.SessionFault.TheVariants.{Read, Write, Memory}
+use Rattle.cilk_debug.specs.declared.session_fault.SessionFault.{SessionFault}
+use Rattle.cilk_debug.specs.declared.session_fault.SessionFault.TheVariants.{Read, Write, Memory}
 use Rattle.cilk_debug.proofs.Sessions.{Going, so_far, finished, goes_on, stops, twice, one_command, left}
 
 first_room : (k : ℕ) → k < most_lines → 0 < most_lines
@@ -84,7 +84,7 @@ module _ (law : OneByOne) (d0 d : Debugging) (all : List ℕ) (k : ℕ) (ahead o
             begun = front_behind old new now g.replies (obeyed d c).reply g.written begun;
           }
 
-      first_line : (rest : List ℕ) → IsFirst ((t.line ++ 10 ∷ []) ++ rest) c
+      first_line : (rest : List ℕ) → AsksFirst ((t.line ++ 10 ∷ []) ++ rest) c
       first_line rest =
           let there : IsLine 0 t.line = record { plain = t.is.plain; short = t.is.short; room = first_room k t.is.room } in
           record {
@@ -153,7 +153,7 @@ module _ (law : OneByOne) (d0 d : Debugging) (all : List ℕ) (k : ℕ) (ahead o
         begun = front_behind old new now g.replies (obeyed d c).reply g.written begun;
       }
 
-      first_last : IsFirst t.line c
+      first_last : AsksFirst t.line c
       first_last =
           let there : IsLine 0 t.line = record { plain = t.is.plain; short = t.is.short; room = first_room k t.is.room } in
           record { others = []; is = ap (λ (a : Asked). a.commands) (law.last 0 t.line there t.some) ∙ ap (λ (x : Command). x ∷ []) (sym t.asks) }

@@ -13,8 +13,8 @@ use Rattle.cilk_debug.specs.Debugging.{Debugging}
 use Rattle.cilk_debug.specs.Session.{ends_it}
 use Rattle.cilk_debug.specs.Ending.{Answers, Breaks}
 use Rattle.cilk_debug.specs.Replies.{Answered, fault_of}
-use Rattle.cilk_debug.specs.declared.ending.SessionFault.{SessionFault}
-use Rattle.cilk_debug.specs.declared.ending.SessionFault.TheVariants.{Memory}
+use Rattle.cilk_debug.specs.declared.session_fault.SessionFault.{SessionFault}
+use Rattle.cilk_debug.specs.declared.session_fault.SessionFault.TheVariants.{Memory}
 use Rattle.cilk_debug.proofs.Sessions.{Going, started, cut, too_long, too_many, short_reading}
 use Rattle.cilk_debug.proofs.Commands.{at_line, fails_line, at_last, fails_last}
 

@@ -19,7 +19,7 @@ ok_always (Ok a) p = p
 ok_always (Err e) p = tt
 
 module _ (named : Option (List ℕ)) (t : Tape) (own : is_of named (program_text t.program) ≡ true) where
-  debug_fault : (why : DebugFault) → debug.IsFaultOf t why → debug.IsNamedFaultOf named t why
+  debug_fault : (why : DebugFault) → debug.IsDebugFaultOf t why → debug.IsNamedDebugFaultOf named t why
   debug_fault fault.OtherProgram told = absurd told
   debug_fault fault.Workers told = (own, told)
   debug_fault (fault.BadChoice k refusal) told = (own, told)
@@ -29,7 +29,7 @@ module _ (named : Option (List ℕ)) (t : Tape) (own : is_of named (program_text
   debug_fault fault.OutOfRange told = absurd told
   debug_fault fault.Memory told = tt
 
-  pub debug_told : {A : Type 0} (r : Result A DebugFault) → IfErr r (debug.IsFaultOf t) → IfErr r (debug.IsNamedFaultOf named t)
+  pub debug_told : {A : Type 0} (r : Result A DebugFault) → IfErr r (debug.IsDebugFaultOf t) → IfErr r (debug.IsNamedDebugFaultOf named t)
   debug_told (Ok a) told = tt
   debug_told (Err why) told = debug_fault why told
 

@@ -16,7 +16,7 @@ use Rattle.cilk_machine.specs.Stands.{StandsAt}
 use Rattle.cilk_debug.specs.Tape.{Tape, IsAt}
 use Rattle.cilk_debug.proofs.Again.{led_in}
 use Rattle.cilk_debug.specs.Debugging.{Debugging}
-use Rattle.cilk_debug.specs.Seeing.{seen_behind, line_of, line_behind}
+use Rattle.cilk_debug.specs.Seeing.{seen_behind, position_line, line_behind}
 
 -- only the view of where it stands begins with a line of its own
 pub no_line : (p : Program) (at : Position) (m : ℕ) (what : code.What) → what ≢ Where → first_line p at m (what_of what) ≡ []
@@ -64,7 +64,7 @@ module _ (t : Tape) (m : Situation) (h : IsAt t m.choices m) where
       ∙ ap (λ (line : List ℕ). Some (line ++ text)) (no_line t.program h.at (length t.choices) what not)
 
   led_line : line_behind t m.choices ≡ first_line t.program h.at (length t.choices) where_it_stands
-  led_line = ap (line_of t) (led_in t m.choices m h)
+  led_line = ap (position_line t) (led_in t m.choices m h)
 
   pub line_here : (outcome : state.Outcome) (made all : ℕ) → outcome ≡ h.at.standing.state.outcome → made ≡ m.choices → all ≡ length t.choices
       → position_text (label t.program) outcome made all ≡ line_behind t m.choices

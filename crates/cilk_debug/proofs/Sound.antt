@@ -18,7 +18,7 @@ use Rattle.cilk_debug.specs.declared.fault.DebugFault.TheVariants.{Workers, BadC
 use Rattle.cilk_debug.specs.Debugging.{IsSound}
 use Rattle.cilk_debug.specs.Seeking.{Stopped}
 use Rattle.cilk_debug.proofs.Stops.{stands_there}
-use Rattle.cilk_debug.specs.Faults.{IsFaultOf}
+use Rattle.cilk_debug.specs.Faults.{IsDebugFaultOf}
 
 crew_by : (program : Labelled) (n : ℕ) (main : Option ℕ) (choices : List Choice) (at : Position) → is_crew n ≡ false
     → after_main program n main choices ≡ Some at → ⊥

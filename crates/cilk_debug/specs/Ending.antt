@@ -9,8 +9,8 @@ use Rattle.cilk_debug_console.specs.declared.fault.InputFault.TheVariants.{Devic
 use Rattle.cilk_debug.specs.Debugging.{Debugging}
 use Rattle.cilk_debug.specs.Obeying.{obeyed}
 use Rattle.cilk_debug.specs.Session.{session}
-use Rattle.cilk_debug.specs.declared.ending.SessionFault.{SessionFault}
-use Rattle.cilk_debug.specs.declared.ending.SessionFault.TheVariants.{Read, Write, Memory}
+use Rattle.cilk_debug.specs.declared.session_fault.SessionFault.{SessionFault}
+use Rattle.cilk_debug.specs.declared.session_fault.SessionFault.TheVariants.{Read, Write, Memory}
 
 -- a writer has gained the answers of the session over these bytes, and the debugger is the one that it leaves
 pub record Answers (before after : Debugging) (bytes : List ℕ) (fault : Option Fault) (old new : Option (List ℕ)) : Type 0 where
@@ -32,7 +32,7 @@ pub record CutOff (before after : Debugging) (all : List ℕ) (left old new : Op
   pub answers : Answers before after lines None old new
 
 -- the first thing that some bytes ask
-pub record IsFirst (bytes : List ℕ) (command : Command) : Type 0 where
+pub record AsksFirst (bytes : List ℕ) (command : Command) : Type 0 where
   pub others : List Command
   pub is : (asked_in bytes).commands ≡ command ∷ others
 
@@ -44,7 +44,7 @@ pub record RanShort (before after : Debugging) (all : List ℕ) (old new : Optio
   pub split : all ≡ lines ++ rest
   pub there : Debugging
   pub answers : Answers before there lines None old new
-  pub stands : (after ≡ there) ⊎ ((command : Command) × (IsFirst rest command × (after ≡ (obeyed there command).left)))
+  pub stands : (after ≡ there) ⊎ ((command : Command) × (AsksFirst rest command × (after ≡ (obeyed there command).left)))
 
 -- it stands where the commands of these bytes left it, and of the answers to them the first bytes were written
 pub record Unwritten (before after : Debugging) (all : List ℕ) (old new : Option (List ℕ)) : Type 0 where

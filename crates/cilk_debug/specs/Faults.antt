@@ -9,23 +9,23 @@ use Rattle.cilk_debug.specs.declared.fault.DebugFault.{DebugFault}
 use Rattle.cilk_debug.specs.declared.fault.DebugFault.TheVariants.{OtherProgram, Workers, BadChoice, AtEnd, AtStart, NoStatement, OutOfRange, Memory}
 
 -- the workers are too many or none, or else a choice is the first that is not possible; memory may always run out
-abbrev pub IsFaultOf : Tape → DebugFault → Type 0
-IsFaultOf t OtherProgram = ⊥
-IsFaultOf t Workers = is_crew t.workers ≡ false
-IsFaultOf t (BadChoice k refusal) = IsFirst t k refusal
-IsFaultOf t AtEnd = ⊥
-IsFaultOf t AtStart = ⊥
-IsFaultOf t NoStatement = ⊥
-IsFaultOf t OutOfRange = ⊥
-IsFaultOf t Memory = ⊤
+abbrev pub IsDebugFaultOf : Tape → DebugFault → Type 0
+IsDebugFaultOf t OtherProgram = ⊥
+IsDebugFaultOf t Workers = is_crew t.workers ≡ false
+IsDebugFaultOf t (BadChoice k refusal) = IsFirst t k refusal
+IsDebugFaultOf t AtEnd = ⊥
+IsDebugFaultOf t AtStart = ⊥
+IsDebugFaultOf t NoStatement = ⊥
+IsDebugFaultOf t OutOfRange = ⊥
+IsDebugFaultOf t Memory = ⊤
 
 -- of a schedule which may name its program: it is of another, or else that holds
-abbrev pub IsNamedFaultOf : Option (List ℕ) → Tape → DebugFault → Type 0
-IsNamedFaultOf named t OtherProgram = is_of named (program_text t.program) ≡ false
-IsNamedFaultOf named t Workers = (is_of named (program_text t.program) ≡ true) × (is_crew t.workers ≡ false)
-IsNamedFaultOf named t (BadChoice k refusal) = (is_of named (program_text t.program) ≡ true) × IsFirst t k refusal
-IsNamedFaultOf named t AtEnd = ⊥
-IsNamedFaultOf named t AtStart = ⊥
-IsNamedFaultOf named t NoStatement = ⊥
-IsNamedFaultOf named t OutOfRange = ⊥
-IsNamedFaultOf named t Memory = ⊤
+abbrev pub IsNamedDebugFaultOf : Option (List ℕ) → Tape → DebugFault → Type 0
+IsNamedDebugFaultOf named t OtherProgram = is_of named (program_text t.program) ≡ false
+IsNamedDebugFaultOf named t Workers = (is_of named (program_text t.program) ≡ true) × (is_crew t.workers ≡ false)
+IsNamedDebugFaultOf named t (BadChoice k refusal) = (is_of named (program_text t.program) ≡ true) × IsFirst t k refusal
+IsNamedDebugFaultOf named t AtEnd = ⊥
+IsNamedDebugFaultOf named t AtStart = ⊥
+IsNamedDebugFaultOf named t NoStatement = ⊥
+IsNamedDebugFaultOf named t OutOfRange = ⊥
+IsNamedDebugFaultOf named t Memory = ⊤

@@ -6,26 +6,26 @@ use Rattle.cilk_debug.specs.declared.fault.DebugFault.{DebugFault}
 use Rattle.cilk_debug.specs.declared.fault.DebugFault.TheVariants.{OtherProgram, Workers, BadChoice, AtEnd, AtStart, NoStatement, OutOfRange, Memory}
 
 -- forwards: all choices were made, or else memory ran out
-abbrev pub StaysBehind : Debugging → DebugFault → Type 0
-StaysBehind d OtherProgram = ⊥
-StaysBehind d Workers = ⊥
-StaysBehind d (BadChoice k refusal) = ⊥
-StaysBehind d AtEnd = d.position ≡ length d.tape.choices
-StaysBehind d AtStart = ⊥
-StaysBehind d NoStatement = ⊥
-StaysBehind d OutOfRange = ⊥
-StaysBehind d Memory = d.position < length d.tape.choices
+abbrev pub StaysGoingOn : Debugging → DebugFault → Type 0
+StaysGoingOn d OtherProgram = ⊥
+StaysGoingOn d Workers = ⊥
+StaysGoingOn d (BadChoice k refusal) = ⊥
+StaysGoingOn d AtEnd = d.position ≡ length d.tape.choices
+StaysGoingOn d AtStart = ⊥
+StaysGoingOn d NoStatement = ⊥
+StaysGoingOn d OutOfRange = ⊥
+StaysGoingOn d Memory = d.position < length d.tape.choices
 
 -- backwards: none was made
-abbrev pub StaysAhead : Debugging → DebugFault → Type 0
-StaysAhead d OtherProgram = ⊥
-StaysAhead d Workers = ⊥
-StaysAhead d (BadChoice k refusal) = ⊥
-StaysAhead d AtEnd = ⊥
-StaysAhead d AtStart = d.position ≡ 0
-StaysAhead d NoStatement = ⊥
-StaysAhead d OutOfRange = ⊥
-StaysAhead d Memory = 0 < d.position
+abbrev pub StaysGoingBack : Debugging → DebugFault → Type 0
+StaysGoingBack d OtherProgram = ⊥
+StaysGoingBack d Workers = ⊥
+StaysGoingBack d (BadChoice k refusal) = ⊥
+StaysGoingBack d AtEnd = ⊥
+StaysGoingBack d AtStart = d.position ≡ 0
+StaysGoingBack d NoStatement = ⊥
+StaysGoingBack d OutOfRange = ⊥
+StaysGoingBack d Memory = 0 < d.position
 
 -- to position k: there are fewer choices
 abbrev pub StaysFrom : Debugging → ℕ → DebugFault → Type 0

@@ -9,8 +9,8 @@ use Rattle.cilk_debug.specs.Debugging.{Debugging}
 use Rattle.cilk_debug.specs.Obeying.{obeyed}
 use Rattle.cilk_debug.specs.declared.reply.Reply.{Reply}
 use Rattle.cilk_debug.specs.declared.reply.Reply.TheVariants as reply
-use Rattle.cilk_debug.specs.declared.ending.SessionFault.{SessionFault}
-use Rattle.cilk_debug.specs.declared.ending.SessionFault.TheVariants.{Read, Write, Memory}
+use Rattle.cilk_debug.specs.declared.session_fault.SessionFault.{SessionFault}
+use Rattle.cilk_debug.specs.declared.session_fault.SessionFault.TheVariants.{Read, Write, Memory}
 
 abbrev pub reply_text : Reply → List ℕ
 reply_text (reply.Text text) = string_bytes text

@@ -15,9 +15,9 @@ abbrev pub seen_at : Debugging → What → Option (List ℕ)
 seen_at d what = seen_behind d.tape d.position what
 
 -- the line on the position
-abbrev pub line_of : Tape → Option Position → List ℕ
-line_of t None = []
-line_of t (Some at) = first_line t.program at (length t.choices) where_it_stands
+abbrev pub position_line : Tape → Option Position → List ℕ
+position_line t None = []
+position_line t (Some at) = first_line t.program at (length t.choices) where_it_stands
 
 abbrev pub line_behind : Tape → ℕ → List ℕ
-line_behind t k = line_of t (position_at t k)
+line_behind t k = position_line t (position_at t k)

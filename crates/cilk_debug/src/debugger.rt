@@ -7,17 +7,17 @@ ghost use Rattle.cilk_debug_console.specs.syntax.ProgramText.{program_text};
 ghost use Rattle.cilk_debug_console.specs.log.Naming.{is_of};
 ghost use Rattle.cilk_debug_console.specs.model.Run.{is_crew};
 ghost use Rattle.cilk_debug.specs.Tape.{tape_of, IsAt, IsPlayable};
-ghost use Rattle.cilk_debug.specs.Faults.{IsFaultOf, IsNamedFaultOf};
-ghost use Rattle.cilk_debug.specs.Moves.{StaysBehind, StaysAhead, StaysFrom, HasNo};
+ghost use Rattle.cilk_debug.specs.Faults.{IsDebugFaultOf, IsNamedDebugFaultOf};
+ghost use Rattle.cilk_debug.specs.Moves.{StaysGoingOn, StaysGoingBack, StaysFrom, HasNo};
 ghost use Rattle.cilk_debug_console.specs.view.Words.{what_of};
 ghost use Rattle.cilk_debug.specs.Seeing.{seen_at, line_behind};
 ghost use Rattle.cilk_debug.specs.Seeking.{forward_position, is_any_ahead, back_position, is_any_behind, last_among};
 
 use crate::fault::DebugFault;
-use crate::playing::is_other;
+use crate::playing::{is_crew, is_other, make_again, play};
 use crate::position::put_position;
-use crate::seeking::{last_met, run_on};
-use crate::{ReplayFault, is_crew, make_again, play};
+use crate::replay_fault::ReplayFault;
+use crate::seeking::{go_to_break, last_met};
 use cilk_debug_console::{Loaded, Log};
 use cilk_machine::{Machine, Memory, ViewFault, What};
 use std::alloc::Global;
@@ -90,7 +90,7 @@ impl Debugger {
         ensures start { IfOk result (λ d. d.position ≡ 0) }
         ensures marks { IfOk result (λ d. d.marks ≡ replicate (count_program program) false) }
         ensures whole { IfOk result (λ d. IsPlayable d.tape) }
-        ensures told { IfErr result (IsNamedFaultOf log.program (tape_of program log.workers log.choices)) }
+        ensures told { IfErr result (IsNamedDebugFaultOf log.program (tape_of program log.workers log.choices)) }
         ensures crew { log.program ≡ None → is_crew log.workers ≡ false → result ≡ Err DebugFault.Workers }
     {
         match is_other(&program, &log) {
@@ -114,19 +114,20 @@ impl Debugger {
         ensures start { IfOk result (λ d. d.position ≡ 0) }
         ensures marks { IfOk result (λ d. d.marks ≡ replicate (count_program program) false) }
         ensures whole { IfOk result (λ d. IsPlayable d.tape) }
-        ensures told { IfErr result (IsFaultOf (tape_of program log.workers log.choices)) }
+        ensures told { IfErr result (IsDebugFaultOf (tape_of program log.workers log.choices)) }
         ensures crew { is_crew log.workers ≡ false → result ≡ Err DebugFault.Workers }
     {
         if !is_crew(log.workers) {
             return Err(DebugFault::Workers);
         }
-        match played(alloc, &program, &log, log.choices.len()) {
+        // All choices are made once, to see that each is possible; the debugger then stands before the first, with a machine of its own.
+        match machine_behind(alloc, &program, &log, log.choices.len()) {
             Err(fault) => {
                 drop(program);
                 drop(log);
                 Err(fault)
             }
-            Ok(_) => match played(alloc, &program, &log, 0) {
+            Ok(_) => match machine_behind(alloc, &program, &log, 0) {
                 Err(fault) => {
                     drop(program);
                     drop(log);
@@ -155,7 +156,7 @@ impl Debugger {
     pub fn step(&mut self) -> Result<(), DebugFault>
         ensures moved { OnOk result (self.new ≡ record self.old { position = self.old.position + 1 }) }
         ensures within { OnOk result (self.old.position < length self.old.tape.choices) }
-        ensures told { IfErr result (StaysBehind self.old) }
+        ensures told { IfErr result (StaysGoingOn self.old) }
         ensures same { OnErr result (self.new ≡ self.old) }
     {
         let at = self.machine.choices() as usize;
@@ -173,7 +174,7 @@ impl Debugger {
     pub fn back(&mut self) -> Result<(), DebugFault>
         ensures moved { OnOk result (self.new ≡ record self.old { position = self.old.position - 1 }) }
         ensures within { OnOk result (0 < self.old.position) }
-        ensures told { IfErr result (StaysAhead self.old) }
+        ensures told { IfErr result (StaysGoingBack self.old) }
         ensures same { OnErr result (self.new ≡ self.old) }
     {
         let at = self.machine.choices() as usize;
@@ -196,23 +197,23 @@ impl Debugger {
         self.stand_at(k as usize)
     }
 
-    /// To the next position behind a choice that does something where a breakpoint is set, or behind
-    /// all choices; whether there is one. Each choice is made at most once.
+    /// To the next position behind a choice that does something where a breakpoint is set, or behind all choices; whether there is one.
     pub fn forward_to_break(&mut self) -> Result<bool, DebugFault>
         ensures moved { OnOk result (self.new ≡ record self.old { position = forward_position self.old }) }
         ensures found { IfOk result (λ found. found ≡ is_any_ahead self.old) }
         ensures within { OnOk result (self.old.position < length self.old.tape.choices) }
-        ensures told { IfErr result (StaysBehind self.old) }
+        ensures told { IfErr result (StaysGoingOn self.old) }
         ensures same { OnErr result (self.new ≡ self.old) }
     {
         let at = self.machine.choices() as usize;
         if self.log.choices.len() <= at {
             return Err(DebugFault::AtEnd);
         }
+        // From the start again, and not from where it stands, so that the old machine stays where memory runs out.
         match self.machine_at(at) {
             Err(fault) => Err(fault),
             Ok(machine) => {
-                match run_on(machine, self.log.choices.as_slice(), self.marks.as_slice()) {
+                match go_to_break(machine, self.log.choices.as_slice(), self.marks.as_slice()) {
                     Err(fault) => Err(fault),
                     Ok((machine, found)) => {
                         self.machine = machine;
@@ -229,14 +230,14 @@ impl Debugger {
         ensures moved { OnOk result (self.new ≡ record self.old { position = back_position self.old }) }
         ensures found { IfOk result (λ found. found ≡ is_any_behind self.old) }
         ensures within { OnOk result (0 < self.old.position) }
-        ensures told { IfErr result (StaysAhead self.old) }
+        ensures told { IfErr result (StaysGoingBack self.old) }
         ensures same { OnErr result (self.new ≡ self.old) }
     {
         let at = self.machine.choices() as usize;
         if at == 0 {
             return Err(DebugFault::AtStart);
         }
-        match self.last_stop(at - 1) {
+        match self.last_among(at - 1) {
             Err(fault) => Err(fault),
             Ok(None) => match self.stand_at(0) {
                 Err(fault) => Err(fault),
@@ -249,9 +250,8 @@ impl Debugger {
         }
     }
 
-    // The number, counted from 1, of the last of the first `count` choices that does something where a
-    // breakpoint is set.
-    fn last_stop(&self, count: usize) -> Result<Option<usize>, DebugFault>
+    // The number, counted from 1, of the last of the first `count` choices that does something where a breakpoint is set.
+    fn last_among(&self, count: usize) -> Result<Option<usize>, DebugFault>
         requires { count ≤ length self.now.tape.choices }
         ensures last { IfOk result (λ last. last ≡ last_among self.now.tape self.now.marks count) }
         ensures within { IfOk result (λ last. IfSome last (λ k. k ≤ count)) }
@@ -317,8 +317,7 @@ impl Debugger {
         Ok(())
     }
 
-    /// The text of a view of where the program stands. There is none of the frame of what does not
-    /// live, and then, and only then, is `NoInstance` answered.
+    /// The text of a view of where the program stands. Of the frame of what does not live there is none: `NoInstance` then, and only then.
     pub fn view(&self, what: &What) -> Result<String, ViewFault>
         ensures text { IfOk result (λ text. seen_at self.now (what_of what.now) ≡ Some (string_bytes text)) }
         ensures fault { result ≡ Err ViewFault.NoInstance → seen_at self.now (what_of what.now) ≡ None }
@@ -358,18 +357,23 @@ impl Debugger {
         ensures stands { IfOk result (IsAt self.now.tape k) }
         ensures memory { IfErr result (λ why. why ≡ DebugFault.Memory) }
     {
-        match played(self.alloc, &self.program, &self.log, k) {
+        match machine_behind(self.alloc, &self.program, &self.log, k) {
             Ok(machine) => Ok(machine),
             Err(_) => Err(DebugFault::Memory),
         }
     }
 }
 
-// The program after the first `count` choices.
-fn played(alloc: Global, program: &Loaded, log: &Log, count: usize) -> Result<Machine, DebugFault>
+// A machine of a copy of the program, behind the first `count` choices of the log.
+fn machine_behind(
+    alloc: Global,
+    program: &Loaded,
+    log: &Log,
+    count: usize,
+) -> Result<Machine, DebugFault>
     requires { count ≤ length log.now.choices }
     ensures stands { IfOk result (IsAt (tape_of program.now log.now.workers log.now.choices) count) }
-    ensures told { IfErr result (IsFaultOf (tape_of program.now log.now.workers log.now.choices)) }
+    ensures told { IfErr result (IsDebugFaultOf (tape_of program.now log.now.workers log.now.choices)) }
 {
     match program.copy() {
         Err(_) => Err(DebugFault::Memory),

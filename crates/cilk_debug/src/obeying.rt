@@ -9,9 +9,9 @@ ghost use Rattle.cilk_debug.specs.Seeing.{seen_at};
 ghost use Rattle.cilk_debug.specs.Replies.{reply_text, Obeys};
 
 use crate::debugger::Debugger;
-use crate::ending::SessionFault;
 use crate::fault::DebugFault;
 use crate::reply::Reply;
+use crate::session_fault::SessionFault;
 use cilk_debug_console::Command;
 use cilk_machine::{ViewFault, What};
 
@@ -28,7 +28,8 @@ impl Debugger {
             Command::Previous => self.obey_previous(),
             Command::Break(n) => self.obey_break(*n),
             Command::Clear(n) => self.obey_clear(*n),
-            Command::View(what) => self.show(what),
+            Command::View(what) => self.reply_with_view(what),
+            // `quit` comes here only as a last line without a newline, behind which the session ends anyway.
             Command::Quit | Command::Nothing => Ok(Reply::Nothing),
             Command::Unknown => Ok(Reply::Unknown),
         }
@@ -38,7 +39,7 @@ impl Debugger {
         ensures { Obeys self.old self.new asked.step result }
     {
         match self.step() {
-            Ok(()) => self.show(&What::Where),
+            Ok(()) => self.reply_with_view(&What::Where),
             Err(DebugFault::AtEnd) => Ok(Reply::AtEnd),
             Err(DebugFault::Memory) => Err(SessionFault::Memory),
             Err(_) => unreachable!(),
@@ -49,7 +50,7 @@ impl Debugger {
         ensures { Obeys self.old self.new asked.back result }
     {
         match self.back() {
-            Ok(()) => self.show(&What::Where),
+            Ok(()) => self.reply_with_view(&What::Where),
             Err(DebugFault::AtStart) => Ok(Reply::AtStart),
             Err(DebugFault::Memory) => Err(SessionFault::Memory),
             Err(_) => unreachable!(),
@@ -60,7 +61,7 @@ impl Debugger {
         ensures { Obeys self.old self.new (asked.go k) result }
     {
         match self.go(k) {
-            Ok(()) => self.show(&What::Where),
+            Ok(()) => self.reply_with_view(&What::Where),
             Err(DebugFault::OutOfRange) => Ok(Reply::OutOfRange),
             Err(DebugFault::Memory) => Err(SessionFault::Memory),
             Err(_) => unreachable!(),
@@ -71,7 +72,7 @@ impl Debugger {
         ensures { Obeys self.old self.new asked.next result }
     {
         match self.forward_to_break() {
-            Ok(_) => self.show(&What::Where),
+            Ok(_) => self.reply_with_view(&What::Where),
             Err(DebugFault::AtEnd) => Ok(Reply::AtEnd),
             Err(DebugFault::Memory) => Err(SessionFault::Memory),
             Err(_) => unreachable!(),
@@ -82,7 +83,7 @@ impl Debugger {
         ensures { Obeys self.old self.new asked.previous result }
     {
         match self.back_to_break() {
-            Ok(_) => self.show(&What::Where),
+            Ok(_) => self.reply_with_view(&What::Where),
             Err(DebugFault::AtStart) => Ok(Reply::AtStart),
             Err(DebugFault::Memory) => Err(SessionFault::Memory),
             Err(_) => unreachable!(),
@@ -109,7 +110,8 @@ impl Debugger {
         }
     }
 
-    fn show(&self, what: &What) -> Result<Reply, SessionFault>
+    // The text of a view as a reply, or that no live instance has the path.
+    fn reply_with_view(&self, what: &What) -> Result<Reply, SessionFault>
         ensures text { IfOk result (λ reply. reply_text reply ≡ shown_text (seen_at self.now (what_of what.now))) }
         ensures none { seen_at self.now (what_of what.now) ≡ None → result ≡ Ok Reply.NoInstance }
         ensures memory { IfErr result (λ why. why ≡ SessionFault.Memory) }

@@ -76,17 +76,18 @@ pub fn play(
     ensures told { IfErr result (IsFaultOf (tape_of program workers choices.now)) }
     ensures crew { is_crew workers ≡ false → result ≡ Err ReplayFault.Workers }
 {
+    // `Machine::new` tests this too. Here it stands for the clause `crew`: those of `opened` do not say which fault is told.
     if !is_crew(workers) {
         return Err(ReplayFault::Workers);
     }
     match opened(alloc, program, workers) {
         Err(fault) => Err(fault),
-        Ok(machine) => played(machine, choices, count),
+        Ok(machine) => make_first(machine, choices, count),
     }
 }
 
-// No choice was made yet.
-fn played(machine: Machine, choices: &[Choice], count: usize) -> Result<Machine, ReplayFault>
+// The machine, on which no choice was made yet, behind the first `count` of these.
+fn make_first(machine: Machine, choices: &[Choice], count: usize) -> Result<Machine, ReplayFault>
     requires room { count ≤ length choices.now }
     requires none { machine.choices ≡ 0 }
     ensures stands { IfOk result (λ m. (t : Tape) → t.choices ≡ map choice_of choices.now → IsAt t 0 machine → IsAt t count m) }

@@ -8,7 +8,7 @@ ghost use Rattle.cilk_debug_console.specs.model.Workers.{outcome_text, position_
 use cilk_debug_console::Loaded;
 use cilk_machine::{Memory, Outcome, put_trapped};
 
-/// So many of all choices were made, and the program stands so.
+/// The line `position 8 of 12: running`: so many of all choices were made, and the program stands so.
 pub(crate) fn put_position(
     out: &mut String,
     program: &Loaded,

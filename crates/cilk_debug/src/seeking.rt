@@ -7,13 +7,12 @@ ghost use Rattle.cilk_debug.specs.Breaks.{stops};
 ghost use Rattle.cilk_debug.specs.Seeking.{Stopped, last_among};
 
 use crate::fault::DebugFault;
-use crate::make_again;
+use crate::playing::make_again;
 use crate::stopping::stops;
 use cilk_machine::{Choice, Machine};
 
-// The choice of this number, counted from 0, is made again; whether a breakpoint is set where it did
-// something.
-fn met(
+// Makes the choice of this number again, counted from 0, and tells whether it did something where a breakpoint is set.
+fn make_and_test(
     machine: &mut Machine,
     choices: &[Choice],
     marks: &[bool],
@@ -33,9 +32,8 @@ fn met(
     }
 }
 
-/// Behind the next choice that does something where a breakpoint is set, or behind all; whether there
-/// is one.
-pub(crate) fn run_on(
+/// Makes choices until one does something where a breakpoint is set, or until all are made. Gives the machine there, and whether it was a breakpoint.
+pub(crate) fn go_to_break(
     machine: Machine,
     choices: &[Choice],
     marks: &[bool],
@@ -49,7 +47,7 @@ pub(crate) fn run_on(
     let mut machine = machine;
     let from = machine.choices() as usize;
     for made in from..choices.len() {
-        match met(&mut machine, choices, marks, made) {
+        match make_and_test(&mut machine, choices, marks, made) {
             Err(fault) => return Err(fault),
             Ok(true) => return Ok((machine, true)),
             Ok(false) => {}
@@ -76,7 +74,7 @@ pub(crate) fn last_met(
     let mut machine = machine;
     let mut last = None;
     for made in 0..count {
-        match met(&mut machine, choices, marks, made) {
+        match make_and_test(&mut machine, choices, marks, made) {
             Err(fault) => return Err(fault),
             Ok(is_met) => last = later(last, is_met, made),
         }

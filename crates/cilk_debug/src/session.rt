@@ -7,8 +7,8 @@ ghost use Rattle.cilk_debug.specs.Ending.{Answers, Breaks};
 ghost use Rattle.cilk_debug.specs.Replies.{fault_of, Answered};
 
 use crate::debugger::Debugger;
-use crate::ending::SessionFault;
-use cilk_debug_console::{Command, LineFault, Lines, Next, lines_come_one_by_one, send};
+use crate::session_fault::SessionFault;
+use cilk_debug_console::{Command, LineFault, Lines, NextLine, lines_come_one_by_one, send};
 use std::io::{Read, Write};
 
 impl Debugger {
@@ -34,9 +34,9 @@ impl Debugger {
         'lines: loop {
             match lines.next(reader) {
                 Err(fault) => return Err(ended_by(fault)),
-                Ok(Next::End) => return Ok(()),
-                Ok(Next::Last(command)) => return self.answer(command, writer),
-                Ok(Next::Line(command)) => {
+                Ok(NextLine::End) => return Ok(()),
+                Ok(NextLine::Last(command)) => return self.answer(command, writer),
+                Ok(NextLine::Line(command)) => {
                     if ends_it(&command) {
                         return Ok(());
                     }
@@ -49,7 +49,7 @@ impl Debugger {
         }
     }
 
-    // Obeys one command.
+    // Obeys one command, and writes and flushes its answer.
     fn answer<W: Write>(&mut self, command: Command, writer: &mut W) -> Result<(), SessionFault>
         ensures { Answered self.old self.new (asked_of command) (W.contents writer.old) (W.contents writer.new) result }
     {

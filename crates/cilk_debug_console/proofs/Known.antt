@@ -13,8 +13,8 @@ use Rattle.cilk_debug_console.specs.Input.{longest, most_lines}
 use Rattle.cilk_debug_console.specs.Taking.{ahead, Reading, IsPlain, TakesNext, IsLong, IsTooMany}
 use Rattle.cilk_debug_console.specs.Parts.{EndsLine, UsesAll, IsOver, FailsAt, FailsIn, LineAsks}
 use Rattle.std.specs.Prelude.{Result, Ok, Err, IfOk}
-use Rattle.cilk_debug_console.specs.declared.next.Next.{Next}
-use Rattle.cilk_debug_console.specs.declared.next.Next.TheVariants.{Line, Last, End}
+use Rattle.cilk_debug_console.specs.declared.next.NextLine.{NextLine}
+use Rattle.cilk_debug_console.specs.declared.next.NextLine.TheVariants.{Line, Last, End}
 use Rattle.cilk_debug_console.specs.declared.fault.InputFault.TheVariants.{Device, LineTooLong, TooManyLines}
 use Rattle.cilk_debug_console.specs.declared.fault.LineFault.{LineFault}
 use Rattle.cilk_debug_console.specs.declared.fault.LineFault.TheVariants.{Read, Memory}
@@ -154,7 +154,7 @@ kept_before a b c bs kept taken = Consumes-trans a b c [] bs (Consumes-kept a a 
 
 -- a line behind k others, of which the first bytes were brought in hand
 module _ (at now : Reading) (before mid left : Option (List ℕ)) (kept : Keeps (ahead at.unread before) mid) (room : at.taken < most_lines) where
-  pub gives_line : (r : Result Next LineFault) (line : List ℕ) (has : Bool) → IfOk r (LineAsks line has) → now.taken ≡ suc at.taken
+  pub gives_line : (r : Result NextLine LineFault) (line : List ℕ) (has : Bool) → IfOk r (LineAsks line has) → now.taken ≡ suc at.taken
       → IsPlain line → length line ≤ longest
       → (has ≡ false → 0 < length line) → (has ≡ true → Consumes mid (ahead now.unread left) (line ++ 10 ∷ []))
       → (has ≡ false → Consumes mid (ahead now.unread left) line) → (has ≡ false → IsAtEnd (ahead now.unread left)) → IfOk r (TakesNext at now before left)

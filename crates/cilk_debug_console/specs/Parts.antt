@@ -4,8 +4,8 @@ use Rattle.std.specs.Str.Lines.{strip_carriage_return}
 use Rattle.cilk_debug_console.specs.Words.{asked_of}
 use Rattle.cilk_debug_console.specs.Asking.{command_in}
 use Rattle.cilk_debug_console.specs.Input.{longest}
-use Rattle.cilk_debug_console.specs.declared.next.Next.{Next}
-use Rattle.cilk_debug_console.specs.declared.next.Next.TheVariants.{Line, Last, End}
+use Rattle.cilk_debug_console.specs.declared.next.NextLine.{NextLine}
+use Rattle.cilk_debug_console.specs.declared.next.NextLine.TheVariants.{Line, Last, End}
 use Rattle.cilk_debug_console.specs.Taking.{IsPlain, IsCut, IsLong}
 use Rattle.cilk_debug_console.specs.declared.fault.InputFault.TheVariants.{Device, LineTooLong, TooManyLines}
 use Rattle.cilk_debug_console.specs.declared.fault.LineFault.{LineFault}
@@ -52,7 +52,7 @@ FailsIn old left (Read TooManyLines) = ⊥
 FailsIn old left Memory = ⊤
 
 -- what a line asks, by whether a newline follows it
-abbrev pub LineAsks : List ℕ → Bool → Next → Type 0
+abbrev pub LineAsks : List ℕ → Bool → NextLine → Type 0
 LineAsks line true (Line command) = asked_of command ≡ command_in (strip_carriage_return line)
 LineAsks line true (Last command) = ⊥
 LineAsks line true End = ⊥

@@ -7,8 +7,8 @@ use Rattle.cilk_debug_console.specs.Command.{Command}
 use Rattle.cilk_debug_console.specs.Words.{asked_of}
 use Rattle.cilk_debug_console.specs.Asking.{command_in}
 use Rattle.cilk_debug_console.specs.Input.{longest, most_lines}
-use Rattle.cilk_debug_console.specs.declared.next.Next.{Next}
-use Rattle.cilk_debug_console.specs.declared.next.Next.TheVariants.{Line, Last, End}
+use Rattle.cilk_debug_console.specs.declared.next.NextLine.{NextLine}
+use Rattle.cilk_debug_console.specs.declared.next.NextLine.TheVariants.{Line, Last, End}
 use Rattle.cilk_debug_console.specs.declared.fault.InputFault.TheVariants.{Device, LineTooLong, TooManyLines}
 use Rattle.cilk_debug_console.specs.declared.fault.LineFault.{LineFault}
 use Rattle.cilk_debug_console.specs.declared.fault.LineFault.TheVariants.{Read, Memory}
@@ -48,7 +48,7 @@ pub record TakesLast (k : ℕ) (old new : Option (List ℕ)) (asked : Command) :
   pub taken : Consumes old new line
   pub end : IsAtEnd new
 
-abbrev pub TakesNext : Reading → Reading → Option (List ℕ) → Option (List ℕ) → Next → Type 0
+abbrev pub TakesNext : Reading → Reading → Option (List ℕ) → Option (List ℕ) → NextLine → Type 0
 TakesNext old new before left (Line command) =
     TakesLine old.taken (ahead old.unread before) (ahead new.unread left) (asked_of command) × (new.taken ≡ suc old.taken)
 TakesNext old new before left (Last command) = TakesLast old.taken (ahead old.unread before) (ahead new.unread left) (asked_of command)

@@ -13,6 +13,7 @@ use cilk_log::{Memory, Path, number_in};
 use cilk_view::What;
 use std::alloc::Global;
 
+// A number has at most nine digits.
 const GREATEST: u64 = 999_999_999;
 
 /// The command that a line is, without its newline.

@@ -61,7 +61,7 @@ impl Chunk {
         self.start += count;
     }
 
-    /// Whether no byte is left, which only the reader can tell where all were used.
+    /// Whether no byte is left. Where all were used, the reader is asked for the next chunk: nothing else reads it.
     pub(crate) fn is_at_end<R: Read>(&mut self, reader: &mut R) -> Result<bool, LineFault>
         ensures end { IfOk result (λ over. over ≡ true → IsAtEnd (ahead self.new (R.remaining reader.new))) }
         ensures none { IfOk result (λ over. over ≡ true → self.new ≡ []) }

@@ -1,4 +1,4 @@
-//! What is asked of a debugger, line by line: the lines of an input, and the command that each one is.
+//! What is asked of a debugger, line by line: the lines of an input, and the command that each one is; and how an answer is written.
 #![tactic(auto)]
 
 mod asking;
@@ -18,5 +18,5 @@ pub use command::Command;
 pub use fault::{InputFault, LineFault, WriteFault};
 pub use laws::lines_come_one_by_one;
 pub use lines::Lines;
-pub use next::Next;
+pub use next::NextLine;
 pub use sending::send;

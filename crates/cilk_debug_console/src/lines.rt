@@ -8,7 +8,7 @@ ghost use Rattle.cilk_debug_console.specs.Parts.{LineAsks};
 use crate::asking::command_of;
 use crate::chunk::Chunk;
 use crate::fault::{InputFault, LineFault};
-use crate::next::Next;
+use crate::next::NextLine;
 use crate::taking::take_line;
 use std::alloc::Global;
 use std::io::Read;
@@ -49,12 +49,12 @@ impl Lines {
     }
 
     /// What the next line asks. No byte behind it is read that does not come in the same chunk.
-    pub fn next<R: Read>(&mut self, reader: &mut R) -> Result<Next, LineFault>
+    pub fn next<R: Read>(&mut self, reader: &mut R) -> Result<NextLine, LineFault>
         ensures ok { IfOk result (TakesNext self.old self.new (R.remaining reader.old) (R.remaining reader.new)) }
         ensures err { IfErr result (Fails self.old (R.remaining reader.old) (R.remaining reader.new)) }
     {
         if self.chunk.is_at_end(reader)? {
-            return Ok(Next::End);
+            return Ok(NextLine::End);
         }
         if MOST_LINES <= self.taken {
             return Err(LineFault::Read(InputFault::TooManyLines));
@@ -62,23 +62,23 @@ impl Lines {
         self.taken += 1;
         self.line.clear();
         let has_newline = take_line(&mut self.chunk, &mut self.line, reader)?;
-        told(self.alloc, self.line.as_slice(), has_newline)
+        next_of(self.alloc, self.line.as_slice(), has_newline)
     }
 }
 
-// What a line asks, by whether a newline follows it.
-fn told(alloc: Global, line: &[u8], has_newline: bool) -> Result<Next, LineFault>
+// What a line asks, by whether a newline follows it; only before one is a byte 13 at the line's end dropped.
+fn next_of(alloc: Global, line: &[u8], has_newline: bool) -> Result<NextLine, LineFault>
     ensures ok { IfOk result (LineAsks line.now has_newline) }
     ensures memory { IfErr result (λ why. why ≡ LineFault.Memory) }
 {
     if has_newline {
         match command_of(alloc, without_return(line)) {
-            Ok(command) => Ok(Next::Line(command)),
+            Ok(command) => Ok(NextLine::Line(command)),
             Err(_) => Err(LineFault::Memory),
         }
     } else {
         match command_of(alloc, line) {
-            Ok(command) => Ok(Next::Last(command)),
+            Ok(command) => Ok(NextLine::Last(command)),
             Err(_) => Err(LineFault::Memory),
         }
     }

@@ -4,7 +4,7 @@ use crate::command::Command;
 
 /// What stands next in an input.
 #[derive(Debug, Drop)]
-pub enum Next {
+pub enum NextLine {
     /// A line with its newline asks this.
     Line(Command),
     /// The last line, which has no newline, asks this.

@@ -15,15 +15,16 @@ pub fn send<W: Write>(writer: &mut W, answer: &[u8]) -> Result<(), WriteFault>
     if answer.is_empty() {
         return Ok(());
     }
-    write_whole(writer, answer)?;
+    write_once(writer, answer)?;
     match writer.flush() {
         Err(_) => Err(WriteFault),
         Ok(()) => Ok(()),
     }
 }
 
-// What `write_all` does, but for a writer that was interrupted: that is not tried again.
-fn write_whole<W: Write>(writer: &mut W, answer: &[u8]) -> Result<(), WriteFault>
+// What `write_all` does, but for a writer that was interrupted: that is not tried again, nor is a reader that was. So each call of `write` takes a
+// byte, or is the last.
+fn write_once<W: Write>(writer: &mut W, answer: &[u8]) -> Result<(), WriteFault>
     ensures ok { OnOk result (Appends (W.contents writer.old) (W.contents writer.new) answer.now) }
     ensures front { OnErr result (AppendsFront (W.contents writer.old) (W.contents writer.new) answer.now) }
 {

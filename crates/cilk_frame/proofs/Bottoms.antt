@@ -1,6 +1,6 @@
 -- A deque and its bottom, whatever stands in it.
 use Rattle.std.proofs.Common.{◌≡◌, ◌<◌, ◌↔◌, ◌++◌, ◌∷◌, [], List, length, Option, Some, None, IsSome, option_to_list, append-nil, refl, ap, sym, ◌∙◌, arith}
-use Rattle.cilk_load_nodes.specs.model.Places.{bottom_of, above_bottom}
+use Rattle.cilk_load_nodes.specs.model.Hands.{bottom_of, above_bottom}
 
 pub bottom_of-push : {A : Type 0} (deque : List A) (f : A) → bottom_of (deque ++ f ∷ []) ≡ Some f
 bottom_of-push [] f = refl

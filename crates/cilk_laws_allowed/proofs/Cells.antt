@@ -1,12 +1,13 @@
 -- What a write leaves in each cell.
-use Rattle.std.proofs.Common.{◌≡◌, ◌≢◌, ℕ, zero, suc, ℤ, Bool, List, [], ◌∷◌, map, refl, sym, ap, subst, slice_set}
+use Rattle.std.proofs.Common.{◌≡◌, ◌≢◌, ℕ, zero, suc, ℤ, Bool, List, [], ◌∷◌, refl, sym, ap, subst, slice_set}
 use Rattle.std.specs.Prelude.{option_map, slice_get, slice_index_or}
-use Rattle.cilk_model.specs.labelled.Labelled.{Declaration, local, outer, global, of_lock, of_body, unknown}
-use Rattle.cilk_model.specs.Values.{Values, Store, Cell}
-use Rattle.cilk_model.specs.Instance.{Activation, outer_values}
-use Rattle.cilk_model.specs.Change.{with_value, own_with, outer_with, globals_with, on_lowest}
-use Rattle.cilk_model.specs.Written as written
-use Rattle.cilk_model.specs.Written.{content, Writes, Holding}
+use Rattle.cilk_laws_placed.specs.labelled.Labelled.{Declaration, local, outer, global, of_lock, of_body, unknown}
+use Rattle.cilk_laws_placed.specs.model.Values.{Values, Store}
+use Rattle.cilk_laws_placed.specs.model.Instance.{Activation, outer_values}
+use Rattle.cilk_laws_placed.specs.model.Change.{with_value, own_with, outer_with, globals_with, on_lowest}
+use Rattle.cilk_laws_placed.specs.model.Written as written
+use Rattle.cilk_laws_placed.specs.model.Written.{content, Writes, Holding}
+use Rattle.cilk_laws_allowed.proofs.Decided.{at}
 
 pub get_set_same : {A : Type 0} (xs : List A) (k : ℕ) (z : A) → slice_get (slice_set xs k z) k ≡ option_map (λ _. z) (slice_get xs k)
 get_set_same [] k z = refl
@@ -19,11 +20,6 @@ get_set_other (x ∷ xs) zero zero z h = absurd (h refl)
 get_set_other (x ∷ xs) zero (suc j) z h = refl
 get_set_other (x ∷ xs) (suc k) zero z h = refl
 get_set_other (x ∷ xs) (suc k) (suc j) z h = get_set_other xs k j z (λ e. h (ap suc e))
-
-pub get_map : {A B : Type 0} (f : A → B) (xs : List A) (k : ℕ) → slice_get (map f xs) k ≡ option_map f (slice_get xs k)
-get_map f [] k = refl
-get_map f (x ∷ xs) zero = refl
-get_map f (x ∷ xs) (suc k) = get_map f xs k
 
 cell_same : (values : Values) (n k : ℕ) (z : ℤ)
     → slice_get (slice_index_or (with_value n k z values) n []) k ≡ option_map (λ _. z) (slice_get (slice_index_or values n []) k)
@@ -38,9 +34,6 @@ cell_other (c ∷ values) zero k zero j z h = get_set_other c k j z (h refl)
 cell_other (c ∷ values) zero k (suc m) j z h = refl
 cell_other (c ∷ values) (suc n) k zero j z h = refl
 cell_other (c ∷ values) (suc n) k (suc m) j z h = cell_other values n k m j z (λ e f. h (ap suc e) f)
-
-abbrev at : Declaration → ℕ → Cell
-at d k = record { place = d; index = k }
 
 abbrev store : Values → Values → Values → Bool → Store
 store own beyond globals synched = record { own = own; outer = beyond; globals = globals; synched = synched }

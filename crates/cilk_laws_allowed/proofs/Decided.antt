@@ -1,10 +1,10 @@
 -- Numbers, cells, paths and lists are the same or not.
 use Rattle.std.proofs.Common.{◌≡◌, ℕ, zero, suc, ◌⊎◌, inl, inr, Bool, true, false, List, [], ◌∷◌, refl, sym, ap, ap₂, ◌∙◌, Option, Some, None}
-use Rattle.cilk_model.specs.labelled.Labelled.{Declaration, local, outer, global, of_lock, of_body, unknown}
-use Rattle.cilk_model.specs.Values.{Cell}
-use Rattle.cilk_model.specs.Path.{Path, same_path}
-use Rattle.cilk_model.specs.State.{Lock, unset, free, held}
-use Rattle.cilk_laws_allowed.proofs.Lookups.{same-is, same-self}
+use Rattle.cilk_laws_placed.specs.labelled.Labelled.{Declaration, local, outer, global, of_lock, of_body, unknown}
+use Rattle.cilk_laws_placed.specs.model.Values.{Cell}
+use Rattle.cilk_laws_placed.specs.model.Path.{Path, same_path}
+use Rattle.cilk_laws_placed.specs.model.State.{Lock, unset, free, held}
+use Rattle.cilk_laws_placed.proofs.Entries.{same-is, same-self}
 
 abbrev pub Decided : Type 0 → Type 0
 Decided A = A ⊎ (A → ⊥)

@@ -1,48 +1,37 @@
 -- Where an instance does not step, the written rule allows it no step.
 use Rattle.std.proofs.Common.{◌≡◌, ℕ, ◌+◌, ℤ, Bool, true, false, not, ◌&&◌, ◌||◌, List, [], ◌∷◌, ◌++◌, length, nat_lt, nat_le, Option, Some}
 use Rattle.std.proofs.Common.{None, Result, Ok, Err, refl, sym, ap, subst, ◌∙◌, if◌then◌else◌}
-use Rattle.std.proofs.lemmas.Bool.{cond_both, and_parts, and_from, or_left, or_right}
-use Rattle.cilk_model.specs.labelled.declared.trap.Trap.{Trap}
-use Rattle.cilk_model.specs.labelled.Labelled.{Labelled, Action}
-use Rattle.cilk_model.specs.labelled.Items.{head_of}
-use Rattle.cilk_model.specs.Values.{Reached}
-use Rattle.cilk_model.specs.Effect.{Effect, writes, answers, enters, gives, starts, writes_out, turns, marks, effect_of}
-use Rattle.cilk_model.specs.Path.{Path, child_path}
-use Rattle.cilk_model.specs.Instance.{Activation, Receiver, place, through, Delivery, Instance}
-use Rattle.cilk_model.specs.State.{TrapKind, depth, instances, output, State, instance_at, has_live_child, is_empty, is_synched, lock_at}
-use Rattle.cilk_model.specs.Event as event
-use Rattle.cilk_model.specs.Event.{Event}
-use Rattle.cilk_model.specs.Change.{after_abort, after_call, after_start, after_print, leaves, is_sync, leaves_function, waits_here, head_waits}
-use Rattle.cilk_model.specs.Change.{at_boundary, Turn, turned, refused, blocked, turn_by}
-use Rattle.cilk_model.specs.Written as written
-use Rattle.cilk_model.specs.Written.{Leaves, Waits, AtBoundary, Free}
-use Rattle.cilk_model.specs.Fails as fails
-use Rattle.cilk_model.specs.Fails.{here, MayLeave, HasNoValue, Fails}
-use Rattle.cilk_model.specs.Rule as rule
-use Rattle.cilk_model.specs.Rule.{Bare, Acts, Steps, Allows}
-use Rattle.cilk_model.specs.Pick.{parks, goes_on, ends, spawns, if_room, step_by_combined, step_by_answer, step_by_leaving, step_by_turn}
-use Rattle.cilk_model.specs.Pick.{step_by_effect, step_by_head, step_by_place, step_by_receiver, step_at_boundary, step_of_aborted}
-use Rattle.cilk_model.specs.Pick.{step_of_live}
+use Rattle.std.proofs.lemmas.Bool.{cond_both, and_parts, and_from}
+use Rattle.cilk_laws_placed.specs.labelled.declared.trap.Trap.{Trap}
+use Rattle.cilk_laws_placed.specs.labelled.Labelled.{Labelled, Action}
+use Rattle.cilk_laws_placed.specs.labelled.Items.{head_of}
+use Rattle.cilk_laws_placed.specs.model.Values.{Reached}
+use Rattle.cilk_laws_placed.specs.model.Effect.{Effect, writes, answers, enters, gives, starts, writes_out, turns_lock, marks, effect_of}
+use Rattle.cilk_laws_placed.specs.model.Path.{Path, child_path}
+use Rattle.cilk_laws_placed.specs.model.Instance.{Activation, Receiver, place, through, Delivery, Instance}
+use Rattle.cilk_laws_placed.specs.model.State.{TrapKind, depth, instances, output, State, instance_at, has_live_child, is_empty, is_synched, lock_at}
+use Rattle.cilk_laws_placed.specs.model.Event as event
+use Rattle.cilk_laws_placed.specs.model.Event.{Event}
+use Rattle.cilk_laws_placed.specs.model.Change.{after_abort, after_call, after_start, after_print, leaves, is_sync, leaves_function, waits_here}
+use Rattle.cilk_laws_placed.specs.model.Change.{at_boundary, LockTurn, lock_turned, refused, blocked, lock_turn_by}
+use Rattle.cilk_laws_placed.specs.model.Written.{AtBoundary, Free}
+use Rattle.cilk_laws_placed.specs.model.Fails as fails
+use Rattle.cilk_laws_placed.specs.model.Fails.{here, MayLeave, HasNoValue, Fails}
+use Rattle.cilk_laws_placed.specs.model.Rule as rule
+use Rattle.cilk_laws_placed.specs.model.Rule.{Bare, Acts, Steps}
+use Rattle.cilk_laws_placed.specs.model.Pick.{parks, goes_on, ends, spawns, if_room, step_by_combined, step_by_answer, step_by_leaving, step_by_lock_turn}
+use Rattle.cilk_laws_placed.specs.model.Pick.{step_by_effect, step_by_head, step_by_place, step_by_receiver, step_at_boundary, step_of_aborted}
+use Rattle.cilk_laws_placed.specs.model.Pick.{step_of_live}
 use Rattle.cilk_laws_allowed.specs.Forced.{Stays, AbortedParent, EachWaitIsForced}
 use Rattle.cilk_laws_allowed.proofs.Locks.{holds_seen}
-use Rattle.cilk_laws_allowed.proofs.Forms.{FitsTurn, FitsEffect, Fits, held_at, thread_ends, acts_fit}
+use Rattle.cilk_laws_allowed.proofs.Forms.{FitsLockTurn, FitsEffect, Fits, held_at, thread_ends, acts_fit}
+use Rattle.cilk_laws_allowed.proofs.Boundaries.{bounds}
 
 none_there : {A : Type 0} (xs ys : List A) (x : A) → [] ≡ xs ++ x ∷ ys → ⊥
 none_there [] ys x e = cc
 none_there (y ∷ xs) ys x e = cc
 
-can_wait : (act : Action) → Waits act → (is_sync act || leaves act) ≡ true
-can_wait act written.for_sync = refl
-can_wait act (written.to_leave a (written.by_value e)) = refl
-can_wait act (written.to_leave a written.by_no_value) = refl
-can_wait act (written.to_leave a written.by_brace) = refl
-
 module _ (program : Labelled) (s : State) (p : Path) (i : Instance) where
-  bounds : AtBoundary i → at_boundary i ≡ true
-  bounds (written.after_spawn alone spawned) = and_from _ _ (ap is_empty alone) (or_left _ _ spawned)
-  bounds (written.before_wait alone n act head waiting) =
-      and_from _ _ (ap is_empty alone) (or_right i.spawned _ (ap (head_waits i) head ∙ and_from _ _ (ap is_empty alone) (can_wait act waiting)))
-
   -- what waits for the children acts only where it need not
   leave_free : i.below ≡ [] → MayLeave program s p i → Free s p i
   leave_free alone (fails.of_procedure e whole) = whole
@@ -132,10 +121,11 @@ module _ (program : Labelled) (s : State) (p : Path) (i : Instance) where
   leaving_steps n z = cond_both (is_empty i.below) _ _ (λ step. Stays step → ⊥) (λ _ stays. absurd stays)
       (λ _. cond_both (leaves_function program i) _ _ (λ step. Stays step → ⊥) (λ _. answer_steps n i.top.awaits z) (λ _ stays. absurd stays))
 
-  turn_steps : (n k : ℕ) (t : State) (turn : Turn) → FitsTurn program s p i n k t turn → Stays (step_by_turn s p i n k turn) → ⊥
-  turn_steps n k t (turned now) fit stays = absurd stays
-  turn_steps n k t refused fit stays = absurd stays
-  turn_steps n k t blocked fit stays = absurd fit
+  lock_turn_steps : (n k : ℕ) (t : State) (lock_turn : LockTurn) → FitsLockTurn program s p i n k t lock_turn
+      → Stays (step_by_lock_turn s p i n k lock_turn) → ⊥
+  lock_turn_steps n k t (lock_turned now) fit stays = absurd stays
+  lock_turn_steps n k t refused fit stays = absurd stays
+  lock_turn_steps n k t blocked fit stays = absurd fit
 
   effect_steps : (n : ℕ) (t : State) (r : Result Effect Trap) → FitsEffect program s p i n t r → Stays (step_by_effect program s p i n r) → ⊥
   effect_steps n t (Err trap) fit stays = absurd stays
@@ -149,7 +139,7 @@ module _ (program : Labelled) (s : State) (p : Path) (i : Instance) where
       (after_start program s p i receiver callee zs) (event.spawned (child_path p (i.children + 1)) n) stays
   effect_steps n t (Ok (writes_out bytes)) fit stays =
       room_goes n output (nat_le (length s.output + length bytes) 1048576) (after_print s p i bytes) (event.acted p n) stays
-  effect_steps n t (Ok (turns what k)) fit stays = turn_steps n k t (turn_by p what (lock_at s k)) fit stays
+  effect_steps n t (Ok (turns_lock what k)) fit stays = lock_turn_steps n k t (lock_turn_by p what (lock_at s k)) fit stays
   effect_steps n t (Ok marks) fit stays = absurd stays
 
   unheld_fit : (n : ℕ) (act : Action) (t : State) → held_at program s p i act ≡ false
@@ -186,7 +176,7 @@ module _ (program : Labelled) (s : State) (p : Path) (i : Instance) where
     free_steps : Steps program s p i t
         → Stays (if at_boundary i then step_at_boundary program s p i i.waiting else step_by_head program s p i (head_of i.top.items)) → ⊥
     free_steps step = cond_both (at_boundary i) _ _ (λ taken. Stays taken → ⊥) (λ _. boundary_steps step i.waiting refl)
-        (λ within. only_head step (λ boundary. let both : true ≡ false = sym (bounds boundary) ∙ within in cc))
+        (λ within. only_head step (λ boundary. let both : true ≡ false = sym (bounds i boundary) ∙ within in cc))
 
   aborted_steps : instance_at s.instances p ≡ Some i → i.aborted ≡ true → (b : Bool) → has_live_child s.instances p ≡ b
       → Stays (if b then parks else ends (after_abort s p) (event.ended p)) → AbortedParent s p

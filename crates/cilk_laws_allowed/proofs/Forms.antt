@@ -2,33 +2,34 @@
 use Rattle.std.proofs.Common.{◌≡◌, ◌≢◌, ℕ, ◌+◌, ◌≤◌, nat_lt, nat_le, ◌⊎◌, inl, inr, ℤ, pos, Bool, true, false, not, ◌&&◌, ◌||◌, List, [], ◌∷◌, ◌++◌}
 use Rattle.std.proofs.Common.{length, Option, Some, None, Result, Ok, Err, refl, sym, ap, subst, ◌∙◌, if◌then◌else◌}
 use Rattle.std.specs.Prelude.{option_map, slice_get}
-use Rattle.std.proofs.lemmas.Bool.{lt-ltb, le-ltb, le-leb, lt-leb, and_left, and_right, and_from, or_from}
-use Rattle.cilk_model.specs.syntax.declared.lock_action.LockAction.{LockAction}
-use Rattle.cilk_model.specs.syntax.declared.lock_action.LockAction.TheVariants.{Init, Lock, Unlock}
-use Rattle.cilk_model.specs.syntax.declared.return_type.ReturnType.{ReturnType}
-use Rattle.cilk_model.specs.scopes.declared.owner.Owner.{Owner}
-use Rattle.cilk_model.specs.scopes.declared.owner.Owner.TheVariants.{Function, Procedure, Inlet}
-use Rattle.cilk_model.specs.labelled.declared.trap.Trap.{Trap}
-use Rattle.cilk_model.specs.labelled.Term.{Term}
-use Rattle.cilk_model.specs.labelled.Value.{Environment, value_of, values_of, ◌>>=◌}
-use Rattle.cilk_model.specs.labelled.Labelled.{Labelled, Declaration, Into, Taker, nothing, into, through, Action, assign, call, spawn, print, tests, sync}
-use Rattle.cilk_model.specs.Values.{Cell, Reached, read_at, reached_at, reached_if, combined}
-use Rattle.cilk_model.specs.Effect.{Effect, writes, answers, enters, gives, starts, writes_out, turns, marks, start_of, effect_of}
-use Rattle.cilk_model.specs.Path.{Path, same_path}
-use Rattle.cilk_model.specs.Instance.{Activation, Receiver, place, through, Delivery, Instance, owner_at}
-use Rattle.cilk_model.specs.State as state
-use Rattle.cilk_model.specs.State.{TrapKind, of_value, lock, held_lock, depth, instances, output, State, unset, free, held, is_empty, store_of, lock_at}
-use Rattle.cilk_model.specs.Change.{is_function, leaves_function, ends_thread, holds_lock, Turn, turned, refused, blocked, turn_by}
-use Rattle.cilk_model.specs.Printing.{printed}
-use Rattle.cilk_model.specs.Written as written
-use Rattle.cilk_model.specs.Written.{HoldsNone, Leaves, LeavesWith, Receives, taker_place, others_of}
-use Rattle.cilk_model.specs.Fails as fails
-use Rattle.cilk_model.specs.Fails.{here, InFunction, InInlet, MayLeave, MayPass, EndsThread, HasNoValue, MayNot, Fails}
-use Rattle.cilk_model.specs.Rule as rule
-use Rattle.cilk_model.specs.Rule.{GoesOn, GoesBy, Puts, PutsOn, Enters, Resumes, Answers, Births, RootEnds, ChildEnds, Marks, Turns, Traps, Bare}
-use Rattle.cilk_model.specs.Rule.{Acts, Starts, Takes}
-use Rattle.cilk_laws_allowed.proofs.Lookups.{then_is, same-is, same-self}
+use Rattle.std.proofs.lemmas.Bool.{lt-ltb, le-ltb, le-leb, lt-leb, and_left, and_right, and_from, or_from, or_right, cond-true}
+use Rattle.cilk_laws_placed.specs.syntax.declared.lock_action.LockAction.{LockAction}
+use Rattle.cilk_laws_placed.specs.syntax.declared.lock_action.LockAction.TheVariants.{Init, Lock, Unlock}
+use Rattle.cilk_laws_placed.specs.labelled.declared.trap.Trap.{Trap}
+use Rattle.cilk_laws_placed.specs.labelled.Term.{Term}
+use Rattle.cilk_laws_placed.specs.labelled.Value.{Environment, value_of, values_of, ◌>>=◌}
+use Rattle.cilk_laws_placed.specs.labelled.Labelled.{Labelled, Declaration, Into, Taker, nothing, into, through, Action, assign, call, spawn, print}
+use Rattle.cilk_laws_placed.specs.labelled.Labelled.{tests, sync}
+use Rattle.cilk_laws_placed.specs.model.Values.{Cell, Reached, read_at, reached_at, reached_if, combined}
+use Rattle.cilk_laws_placed.specs.model.Effect.{Effect, writes, answers, enters, gives, starts, writes_out, turns_lock, marks, start_of, effect_of}
+use Rattle.cilk_laws_placed.specs.model.Path.{Path, same_path}
+use Rattle.cilk_laws_placed.specs.model.Instance.{Activation, Receiver, place, through, Delivery, Instance, owner_at}
+use Rattle.cilk_laws_placed.specs.model.State as state
+use Rattle.cilk_laws_placed.specs.model.State.{TrapKind, of_value, lock, held_lock, depth, instances, output, State, unset, free, held, is_empty}
+use Rattle.cilk_laws_placed.specs.model.State.{store_of, lock_at}
+use Rattle.cilk_laws_placed.specs.model.Change.{is_function, leaves_function, ends_thread, holds_lock, LockTurn, lock_turned, refused, blocked, lock_turn_by}
+use Rattle.cilk_laws_placed.specs.model.Printing.{printed}
+use Rattle.cilk_laws_placed.specs.model.Written as written
+use Rattle.cilk_laws_placed.specs.model.Written.{Leaves, LeavesWith, Receives, taker_place, others_of}
+use Rattle.cilk_laws_placed.specs.model.Fails as fails
+use Rattle.cilk_laws_placed.specs.model.Fails.{here, InFunction, InInlet, MayLeave, MayPass, EndsThread, HasNoValue, MayNot, Fails}
+use Rattle.cilk_laws_placed.specs.model.Rule as rule
+use Rattle.cilk_laws_placed.specs.model.Rule.{GoesOn, GoesBy, Puts, PutsOn, Enters, Resumes, Answers, Births, RootEnds, ChildEnds}
+use Rattle.cilk_laws_placed.specs.model.Rule.{Marks, TurnsLock, Traps, Bare}
+use Rattle.cilk_laws_placed.specs.model.Rule.{Acts, Starts, Takes}
+use Rattle.cilk_laws_placed.proofs.Entries.{same-is, same-self}
 use Rattle.cilk_laws_allowed.proofs.Locks.{holds_seen, none_seen}
+use Rattle.cilk_laws_allowed.proofs.Ground.{not_empty, no_function}
 
 -- what is left of a place that was reached, and of what may be missing
 some_reached : (r : Result Reached Trap) (reached : Reached) → (r >>= λ x. Ok (Some x)) ≡ Ok (Some reached) → r ≡ Ok reached
@@ -42,15 +43,6 @@ no_reached (Err other) trap e = cc
 is_one : (r : Result Reached Trap) (o : Option Reached) → (r >>= λ x. Ok (Some x)) ≡ Ok o → (reached : Reached) × (r ≡ Ok reached)
 is_one (Ok x) o e = (x, refl)
 is_one (Err trap) o e = cc
-
-empty_by : (below : List Activation) → below ≢ [] → is_empty below ≡ false
-empty_by [] h = absurd (h refl)
-empty_by (a ∷ below) h = refl
-
-no_function_by : (owner : Owner) → ((r : ReturnType) → owner ≢ Function r) → is_function owner ≡ false
-no_function_by (Function returns) h = absurd (h returns refl)
-no_function_by (Procedure returns) h = refl
-no_function_by Inlet h = refl
 
 module _ (program : Labelled) (s : State) (p : Path) (i : Instance) where
   abbrev env : Environment Declaration
@@ -71,10 +63,10 @@ module _ (program : Labelled) (s : State) (p : Path) (i : Instance) where
   FitsRoom n kind A t true = A
   FitsRoom n kind A t false = Traps program s p i t n kind
 
-  abbrev pub FitsTurn : ℕ → ℕ → State → Turn → Type 0
-  FitsTurn n k t (turned now) = LocksTo k now t
-  FitsTurn n k t refused = Traps program s p i t n lock
-  FitsTurn n k t blocked = ⊥
+  abbrev pub FitsLockTurn : ℕ → ℕ → State → LockTurn → Type 0
+  FitsLockTurn n k t (lock_turned now) = LocksTo k now t
+  FitsLockTurn n k t refused = Traps program s p i t n lock
+  FitsLockTurn n k t blocked = ⊥
 
   abbrev pub FitsCombined : ℕ → State → Instance → Cell → Result ℤ Trap → Type 0
   FitsCombined n t j cell (Ok y) = Puts program s p i t j cell y
@@ -100,7 +92,7 @@ module _ (program : Labelled) (s : State) (p : Path) (i : Instance) where
   FitsEffect n t (Ok (starts receiver callee zs)) =
       FitsRoom n instances (Births program s p i t callee zs receiver) t (nat_lt (length s.instances) 65536 && nat_lt i.children 4294967295)
   FitsEffect n t (Ok (writes_out bytes)) = FitsRoom n output (Prints bytes t) t (nat_le (length s.output + length bytes) 1048576)
-  FitsEffect n t (Ok (turns what k)) = FitsTurn n k t (turn_by p what (lock_at s k))
+  FitsEffect n t (Ok (turns_lock what k)) = FitsLockTurn n k t (lock_turn_by p what (lock_at s k))
   FitsEffect n t (Ok marks) = Marks program s p i t
 
   -- a lock is held where a thread ends, or the action comes to this
@@ -120,7 +112,7 @@ module _ (program : Labelled) (s : State) (p : Path) (i : Instance) where
   leave_unheld (fails.of_procedure alone whole) = and_right _ _ (none_seen s p whole.lockless)
   leave_unheld (fails.of_inlet inside none) = and_right _ _ (none_seen s p none)
   leave_unheld (fails.of_function inside) =
-      and_left _ _ (or_from _ _ (empty_by i.below inside.above) (ap (λ owner. not (is_function owner)) inside.function))
+      and_left _ _ (or_from _ _ (not_empty i.below inside.above) (ap (λ owner. not (is_function owner)) inside.function))
 
   given_unheld : (act : Action) (z : ℤ) → LeavesWith env act z → MayLeave program s p i → held_at act ≡ false
   given_unheld act z (written.gives_value e y is) leave = leave_unheld leave
@@ -146,7 +138,7 @@ module _ (program : Labelled) (s : State) (p : Path) (i : Instance) where
       → Resumes program s p i t caller below → FitsLeaving n t z i.below (leaves_function program i)
   above_inlet n t z caller below inside is h =
       subst (λ xs. FitsLeaving n t z xs (leaves_function program i)) (sym is)
-      (subst (FitsLeaving n t z (caller ∷ below)) (sym (no_function_by (owner_at program i) inside.no_function)) h)
+      (subst (FitsLeaving n t z (caller ∷ below)) (sym (no_function (owner_at program i) inside.no_function)) h)
 
   answers_fit : (n : ℕ) (t : State) (z : ℤ) (caller : Activation) (below : List Activation) (awaits : Option Reached)
       → Answers program s p i t caller below z awaits → FitsAnswer n t z caller below awaits
@@ -273,39 +265,36 @@ module _ (program : Labelled) (s : State) (p : Path) (i : Instance) where
   leave_ends act written.by_no_value h = h
   leave_ends act written.by_brace h = h
 
-  or_second : (a b : Bool) → b ≡ true → (a || b) ≡ true
-  or_second true b h = refl
-  or_second false b h = h
-
   pub thread_ends : (act : Action) → EndsThread program s p i act → ends_thread program i act ≡ true
   thread_ends act fails.at_sync = refl
   thread_ends act (fails.at_procedure_end a leaving alone) =
       leave_ends a leaving (ap (λ xs. is_empty xs || not (is_function (owner_at program i))) alone)
   thread_ends act (fails.at_inlet_end a leaving inside) =
-      leave_ends a leaving (or_second (is_empty i.below) _ (ap not (no_function_by (owner_at program i) inside.no_function)))
+      leave_ends a leaving (or_right (is_empty i.below) _ (ap not (no_function (owner_at program i) inside.no_function)))
   thread_ends act (fails.at_spawn taker callee es) = refl
 
   -- locks
-  other_refused : (before : state.Lock) → before ≢ held p → turn_by p Unlock before ≡ refused
+  other_refused : (before : state.Lock) → before ≢ held p → lock_turn_by p Unlock before ≡ refused
   other_refused unset h = refl
   other_refused free h = refl
   other_refused (held q) h = other_by q (same_path q p) refl (λ e. h (ap held e))
     where
-      other_by : (q : Path) (b : Bool) → same_path q p ≡ b → q ≢ p → (if b then turned free else refused) ≡ refused
+      other_by : (q : Path) (b : Bool) → same_path q p ≡ b → q ≢ p → (if b then lock_turned free else refused) ≡ refused
       other_by q true e h = absurd (h (same-is q p e))
       other_by q false e h = refl
 
-  may_not_turn : (k : ℕ) (what : LockAction) → MayNot program s p i k what → turn_by p what (lock_at s k) ≡ refused
-  may_not_turn k what (fails.init_held q e) = ap (turn_by p Init) e
-  may_not_turn k what (fails.lock_unset e) = ap (turn_by p Lock) e
-  may_not_turn k what (fails.lock_own e) = ap (turn_by p Lock) e ∙ then_is (same_path p p) refused blocked (same-self p)
-  may_not_turn k what (fails.unlock_other h) = other_refused (lock_at s k) h
+  may_not_turn_lock : (k : ℕ) (what : LockAction) → MayNot program s p i k what → lock_turn_by p what (lock_at s k) ≡ refused
+  may_not_turn_lock k what (fails.init_held q e) = ap (lock_turn_by p Init) e
+  may_not_turn_lock k what (fails.lock_unset e) = ap (lock_turn_by p Lock) e
+  may_not_turn_lock k what (fails.lock_own e) = ap (lock_turn_by p Lock) e ∙ cond-true (same_path p p) refused blocked (same-self p)
+  may_not_turn_lock k what (fails.unlock_other h) = other_refused (lock_at s k) h
 
-  turn_is : (t : State) (what : LockAction) (before after : state.Lock) → Turns program s p i t what before after → turn_by p what before ≡ turned after
-  turn_is t what before after rule.inits_unset = refl
-  turn_is t what before after rule.inits_free = refl
-  turn_is t what before after rule.takes_free = refl
-  turn_is t what before after rule.lets_go = then_is (same_path p p) (turned free) refused (same-self p)
+  lock_turn_is : (t : State) (what : LockAction) (before after : state.Lock)
+      → TurnsLock program s p i t what before after → lock_turn_by p what before ≡ lock_turned after
+  lock_turn_is t what before after rule.inits_unset = refl
+  lock_turn_is t what before after rule.inits_free = refl
+  lock_turn_is t what before after rule.takes_free = refl
+  lock_turn_is t what before after rule.lets_go = cond-true (same_path p p) (lock_turned free) refused (same-self p)
 
   -- traps
   fails_fit : (n : ℕ) (act : Action) (kind : TrapKind) (t : State) → Fails program s p i act kind → Traps program s p i t n kind
@@ -313,7 +302,7 @@ module _ (program : Labelled) (s : State) (p : Path) (i : Instance) where
   fails_fit n act kind t (fails.has_no_value a trap h) trapped = fits_by n a t false (Err trap) (no_value_unheld a trap h) (no_value_effect n a trap h) trapped
   fails_fit n act kind t (fails.holds_lock a ending holding) trapped =
       fits_by n a t true (effect_of env n a) (and_from _ _ (thread_ends a ending) (holds_seen s p holding)) refl trapped
-  fails_fit n act kind t (fails.may_not what k h) trapped = subst (FitsTurn n k t) (sym (may_not_turn k what h)) trapped
+  fails_fit n act kind t (fails.may_not what k h) trapped = subst (FitsLockTurn n k t) (sym (may_not_turn_lock k what h)) trapped
   fails_fit n act kind t (fails.too_deep what callee es reached zs is are deep) trapped =
       fits_by n (call what callee es) t false (Ok (enters reached callee zs)) refl (call_effect n what callee es reached (Ok zs) is are)
       (no_room_of n depth _ t _ (le-ltb (length i.below) 255 deep) trapped)
@@ -361,7 +350,7 @@ module _ (program : Labelled) (s : State) (p : Path) (i : Instance) where
   acts_fit n act t (rule.passes pass h) = fits_by n sync t false (Ok (answers (pos 1))) (pass_unheld pass) refl h
   acts_fit n act t (rule.marks h) = h
   acts_fit n act t (rule.locks what k h) =
-      subst (FitsTurn n k t) (sym (ap (turn_by p what) h.was ∙ turn_is t what h.before h.after h.turns))
+      subst (FitsLockTurn n k t) (sym (ap (lock_turn_by p what) h.was ∙ lock_turn_is t what h.before h.after h.turns_lock))
       (record { is = h.is; others = h.others; goes_on = h.goes_on; still = h.still })
   acts_fit n act t (rule.prints format es zs are few h still) =
       fits_by n (print format es) t false (Ok (writes_out (printed format zs))) refl

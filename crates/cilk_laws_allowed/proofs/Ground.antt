@@ -1,25 +1,28 @@
 -- What every row of the rule is proved with.
-use Rattle.std.proofs.Common.{◌≡◌, ◌≢◌, ℕ, ℤ, Bool, true, false, not, ◌&&◌, List, [], ◌∷◌, Some, refl, sym, ap, ◌∙◌}
+use Rattle.std.proofs.Common.{◌≡◌, ◌≢◌, ℕ, ℤ, Bool, true, false, not, ◌&&◌, List, [], ◌∷◌, Some, refl, ap, ◌∙◌}
 use Rattle.std.specs.Prelude.{option_map}
-use Rattle.std.proofs.lemmas.Bool.{and_parts}
-use Rattle.cilk_model.specs.labelled.Labelled.{Labelled, Action}
-use Rattle.cilk_model.specs.Values.{Cell}
-use Rattle.cilk_model.specs.Path.{Path}
-use Rattle.cilk_model.specs.Instance.{Activation, Instance, outer_values}
-use Rattle.cilk_model.specs.State.{TrapKind, State, PathsAreApart, running, instance_at, changed, has_live_child, is_empty, is_synched}
-use Rattle.cilk_model.specs.Event as event
-use Rattle.cilk_model.specs.Event.{Event}
-use Rattle.cilk_model.specs.Change.{gone_on, holds_lock, own_with, outer_with, on_lowest, put, with_put, stopped}
-use Rattle.cilk_model.specs.Written.{Heads, Free}
-use Rattle.cilk_model.specs.Fails.{Fails}
-use Rattle.cilk_model.specs.Rule as rule
-use Rattle.cilk_model.specs.Rule.{Flags, GoesOn, GoesBy, Puts, PutsOn, Acts, Steps}
-use Rattle.cilk_model.specs.Pick as pick
-use Rattle.cilk_model.specs.Pick.{Step, waits, parks, goes_on, ends, spawns}
+use Rattle.std.proofs.lemmas.Bool.{and_parts, false_from_ne_true, not-true}
+use Rattle.cilk_laws_placed.specs.syntax.declared.return_type.ReturnType.{ReturnType}
+use Rattle.cilk_laws_placed.specs.scopes.declared.owner.Owner.{Owner}
+use Rattle.cilk_laws_placed.specs.scopes.declared.owner.Owner.TheVariants.{Function, Procedure, Inlet}
+use Rattle.cilk_laws_placed.specs.labelled.Labelled.{Labelled, Action}
+use Rattle.cilk_laws_placed.specs.model.Values.{Cell}
+use Rattle.cilk_laws_placed.specs.model.Path.{Path}
+use Rattle.cilk_laws_placed.specs.model.Instance.{Activation, Instance, outer_values}
+use Rattle.cilk_laws_placed.specs.model.State.{TrapKind, State, PathsAreApart, running, instance_at, changed, has_live_child, is_empty, is_synched}
+use Rattle.cilk_laws_placed.specs.model.Event as event
+use Rattle.cilk_laws_placed.specs.model.Event.{Event}
+use Rattle.cilk_laws_placed.specs.model.Change.{is_function, gone_on, holds_lock, own_with, outer_with, on_lowest, put, with_put, stopped}
+use Rattle.cilk_laws_placed.specs.model.Written.{Heads, Free}
+use Rattle.cilk_laws_placed.specs.model.Fails.{Fails}
+use Rattle.cilk_laws_placed.specs.model.Rule as rule
+use Rattle.cilk_laws_placed.specs.model.Rule.{Flags, GoesOn, GoesBy, Puts, Acts, Steps}
+use Rattle.cilk_laws_placed.specs.model.Pick as pick
+use Rattle.cilk_laws_placed.specs.model.Pick.{Step, waits, parks, goes_on, ends, spawns}
 use Rattle.cilk_laws_allowed.specs.Told.{told_by_action, told, AllowsAs}
-use Rattle.cilk_laws_allowed.proofs.Lookups.{apart, at-changed_same, at-changed_other}
-use Rattle.cilk_laws_allowed.proofs.Live.{Alike, Fewer, More, alike, changed_alike}
-use Rattle.cilk_laws_allowed.proofs.Family.{Family}
+use Rattle.cilk_laws_placed.specs.Family.{ChildrenAreCounted}
+use Rattle.cilk_laws_placed.proofs.Entries.{at-changed_same, at-changed_other}
+use Rattle.cilk_laws_allowed.proofs.Lookups.{apart}
 use Rattle.cilk_laws_allowed.proofs.Cells.{writes_at, holding_at}
 use Rattle.cilk_laws_allowed.proofs.Locks.{holds_none}
 
@@ -28,15 +31,15 @@ pub record Stands (program : Labelled) (s : State) (p : Path) (i : Instance) : T
   pub runs : s.outcome ≡ running
   pub apart : PathsAreApart s.instances
   pub live : instance_at s.instances p ≡ Some i
-  pub family : Family s.instances
+  pub family : ChildrenAreCounted s.instances
 
 -- what is to be shown of a step
 abbrev pub Ruled : Labelled → State → Path → Step → Type 0
 Ruled program s p waits = Unit {0}
 Ruled program s p parks = Unit {0}
-Ruled program s p (goes_on t did) = AllowsAs program s p t did × (did ≢ event.moved) × Alike s.instances t.instances
-Ruled program s p (ends t did) = AllowsAs program s p t did × (did ≢ event.moved) × Fewer p s.instances t.instances × (has_live_child s.instances p ≡ false)
-Ruled program s p (spawns child t did) = AllowsAs program s p t did × (did ≢ event.moved) × More p child s.instances t.instances
+Ruled program s p (goes_on t did) = AllowsAs program s p t did × (did ≢ event.moved)
+Ruled program s p (ends t did) = AllowsAs program s p t did × (did ≢ event.moved)
+Ruled program s p (spawns child t did) = AllowsAs program s p t did × (did ≢ event.moved)
 
 -- the mark of a spawn
 flag_cleared : (b : Bool) (below : List Activation) → below ≡ [] → (b && not (is_empty below)) ≡ false
@@ -53,41 +56,32 @@ pub empty_is : {A : Type 0} (xs : List A) → is_empty xs ≡ true → xs ≡ []
 empty_is [] h = refl
 empty_is (x ∷ xs) h = cc
 
-pub is_no : (b : Bool) → not b ≡ true → b ≡ false
-is_no true h = cc
-is_no false h = refl
+pub not_empty : {A : Type 0} (xs : List A) → xs ≢ [] → is_empty xs ≡ false
+not_empty xs some = false_from_ne_true (is_empty xs) (λ h. some (empty_is xs h))
 
-pub is_so : (b : Bool) → not b ≡ false → b ≡ true
-is_so true h = refl
-is_so false h = cc
+pub no_function : (owner : Owner) → ((r : ReturnType) → owner ≢ Function r) → is_function owner ≡ false
+no_function (Function returns) h = absurd (h returns refl)
+no_function (Procedure returns) h = refl
+no_function Inlet h = refl
 
 module _ (program : Labelled) (s : State) (p : Path) (i : Instance) (stands : Stands program s p i) where
   pub stepped : (t : State) (did : Event) (step : Steps program s p i t) → told program s p i t step ≡ did → AllowsAs program s p t did
   stepped t did step tells =
       record { allows = record { runs = stands.runs; apart = stands.apart; instance = i; live = stands.live; step = step }; tells = tells }
 
-  pub acts_on : (n : ℕ) (act : Action) → Heads i n act → (t : State) → Alike s.instances t.instances → (acts : Acts program s p i t n act)
+  pub acts_on : (n : ℕ) (act : Action) → Heads i n act → (t : State) → (acts : Acts program s p i t n act)
       → told_by_action program s p i t n act acts ≡ event.acted p n → Ruled program s p (goes_on t (event.acted p n))
-  acts_on n act head t same acts tells = (stepped t (event.acted p n) (rule.acts n act head acts) tells, λ h. cc, same)
+  acts_on n act head t acts tells = (stepped t (event.acted p n) (rule.acts n act head acts) tells, λ h. cc)
 
   pub failed : (n : ℕ) (act : Action) → Heads i n act → (kind : TrapKind) → Fails program s p i act kind → Ruled program s p (pick.traps s p n kind)
   failed n act head kind fails =
-      (stepped (stopped s p n kind) (event.trapped kind p n) (rule.acts n act head (rule.traps act kind fails refl)) refl, λ h. cc, alike s.instances)
+      (stepped (stopped s p n kind) (event.trapped kind p n) (rule.acts n act head (rule.traps act kind fails refl)) refl, λ h. cc)
 
   pub at_p : (f : Instance → Instance) → instance_at (changed p f s.instances) p ≡ Some (f i)
   at_p f = at-changed_same p f s.instances ∙ ap (option_map f) stands.live
 
   pub at_other : (f : Instance → Instance) (q : Path) → q ≢ p → instance_at (changed p f s.instances) q ≡ instance_at s.instances q
   at_other f q other = at-changed_other p q f s.instances (apart p q other)
-
-  as_many : (j : Instance) → j.children ≡ i.children → (x : Instance) → instance_at s.instances p ≡ Some x → j.children ≡ x.children
-  as_many j h x e =
-      let same : Some i ≡ Some x = sym stands.live ∙ e in
-      let is : i ≡ x = cc in
-      h ∙ ap (λ (y : Instance). y.children) is
-
-  pub one_changed : (j : Instance) → j.children ≡ i.children → Alike s.instances (changed p (λ _. j) s.instances)
-  one_changed j h = changed_alike p (λ _. j) s.instances (as_many j h)
 
   pub flags : (t : State) → Flags program s p i t (i.spawned && not (is_empty i.below))
   flags t = record { cleared = flag_cleared i.spawned i.below; left = flag_left i.spawned i.below }
@@ -118,4 +112,4 @@ module _ (program : Labelled) (s : State) (p : Path) (i : Instance) (stands : St
   pub free_of : holds_lock s p ≡ false → is_synched s p i ≡ true → Free s p i
   free_of unheld synched =
       let parts = and_parts (not (has_live_child s.instances p)) (is_empty i.waiting) synched in
-      record { childless = is_no (has_live_child s.instances p) parts.0; delivered = empty_is i.waiting parts.1; lockless = holds_none s p unheld }
+      record { childless = not-true (has_live_child s.instances p) parts.0; delivered = empty_is i.waiting parts.1; lockless = holds_none s p unheld }

@@ -2,38 +2,33 @@
 use Rattle.std.proofs.Common.{◌≡◌, ◌≢◌, ℕ, ℤ, pos, Bool, true, false, not, ◌&&◌, ◌||◌, ◌⊎◌, inl, inr, List, [], ◌∷◌, Option, Some, None, is_some}
 use Rattle.std.proofs.Common.{Result, Ok, Err, refl, sym, ap, subst, ◌∙◌}
 use Rattle.std.specs.Prelude.{option_map}
-use Rattle.cilk_model.specs.syntax.declared.return_type.ReturnType.{ReturnType}
-use Rattle.cilk_model.specs.scopes.declared.owner.Owner.{Owner}
-use Rattle.cilk_model.specs.scopes.declared.owner.Owner.TheVariants.{Function, Procedure, Inlet}
-use Rattle.cilk_model.specs.labelled.declared.trap.Trap.{Trap}
-use Rattle.cilk_model.specs.labelled.Term.{Term}
-use Rattle.cilk_model.specs.labelled.Value.{Environment, value_of, ◌>>=◌}
-use Rattle.cilk_model.specs.labelled.Labelled.{Labelled, Declaration, Action, return_with, return_nothing, close}
-use Rattle.cilk_model.specs.Values.{Reached, Cell, read_at, combined}
-use Rattle.cilk_model.specs.Effect.{gives, effect_of}
-use Rattle.cilk_model.specs.Path.{Path, child_path, parent_of}
-use Rattle.cilk_model.specs.Instance.{Activation, Receiver, Instance, owner_at}
-use Rattle.cilk_model.specs.State.{of_value, State, instance_at, is_live, without, is_empty, is_synched, store_of}
-use Rattle.cilk_model.specs.Event as event
-use Rattle.cilk_model.specs.Change.{is_function, leaves_function, holds_lock, put, resumed_to, resumed, after_leaving, after_answer, deliveries}
-use Rattle.cilk_model.specs.Change.{with_deliveries, after_return_to, after_return}
-use Rattle.cilk_model.specs.Written as written
-use Rattle.cilk_model.specs.Written.{HoldsNone, Free, LeavesWith, Heads, Delivers}
-use Rattle.cilk_model.specs.Fails as fails
-use Rattle.cilk_model.specs.Fails.{here, InFunction, InInlet, MayLeave}
-use Rattle.cilk_model.specs.Rule as rule
-use Rattle.cilk_model.specs.Rule.{Puts, Resumes, RootEnds, ChildEnds}
-use Rattle.cilk_model.specs.Pick.{goes_on, ends, step_by_combined, step_by_answer, step_by_leaving, step_by_effect}
-use Rattle.cilk_laws_allowed.proofs.Lookups.{otherwise, then_is, apart, at-changed_same, at-changed_other, at-without_other, none_there}
+use Rattle.std.proofs.lemmas.Bool.{cond-true, cond-false, not-false}
+use Rattle.cilk_laws_placed.specs.scopes.declared.owner.Owner.{Owner}
+use Rattle.cilk_laws_placed.specs.scopes.declared.owner.Owner.TheVariants.{Function, Procedure, Inlet}
+use Rattle.cilk_laws_placed.specs.labelled.declared.trap.Trap.{Trap}
+use Rattle.cilk_laws_placed.specs.labelled.Term.{Term}
+use Rattle.cilk_laws_placed.specs.labelled.Value.{Environment, value_of, ◌>>=◌}
+use Rattle.cilk_laws_placed.specs.labelled.Labelled.{Labelled, Declaration, Action, return_with, return_nothing, close}
+use Rattle.cilk_laws_placed.specs.model.Values.{Reached, Cell, read_at, combined}
+use Rattle.cilk_laws_placed.specs.model.Effect.{gives, effect_of}
+use Rattle.cilk_laws_placed.specs.model.Path.{Path, child_path, parent_of}
+use Rattle.cilk_laws_placed.specs.model.Instance.{Activation, Receiver, Instance, owner_at}
+use Rattle.cilk_laws_placed.specs.model.State.{of_value, State, is_live, without, is_empty, is_synched, store_of}
+use Rattle.cilk_laws_placed.specs.model.Event as event
+use Rattle.cilk_laws_placed.specs.model.Change.{is_function, leaves_function, holds_lock, resumed_to, resumed, after_leaving, after_answer, deliveries}
+use Rattle.cilk_laws_placed.specs.model.Change.{with_deliveries, after_return_to, after_return}
+use Rattle.cilk_laws_placed.specs.model.Written as written
+use Rattle.cilk_laws_placed.specs.model.Written.{HoldsNone, Free, LeavesWith, Heads, Delivers}
+use Rattle.cilk_laws_placed.specs.model.Fails as fails
+use Rattle.cilk_laws_placed.specs.model.Fails.{here, InFunction, InInlet, MayLeave}
+use Rattle.cilk_laws_placed.specs.model.Rule as rule
+use Rattle.cilk_laws_placed.specs.model.Rule.{Puts, Resumes, RootEnds, ChildEnds}
+use Rattle.cilk_laws_placed.specs.model.Pick.{goes_on, ends, step_by_combined, step_by_answer, step_by_leaving, step_by_effect}
+use Rattle.cilk_laws_placed.proofs.Entries.{at-changed_same, at-changed_other, at-without_other}
+use Rattle.cilk_laws_allowed.proofs.Lookups.{apart, none_there}
 use Rattle.cilk_laws_allowed.proofs.Paths.{not_own, Origin, origin}
-use Rattle.cilk_laws_allowed.proofs.Live.{Fewer, without_fewer, changed_fewer}
-use Rattle.cilk_laws_allowed.proofs.Family.{some_counted}
 use Rattle.cilk_laws_allowed.proofs.Locks.{holds_none}
-use Rattle.cilk_laws_allowed.proofs.Ground.{Stands, Ruled, is_so, stepped, acts_on, failed, at_p, at_other, one_changed, puts, free_of}
-
-resumed_children : (i : Instance) (below : List Activation) → (resumed_to i below).children ≡ i.children
-resumed_children i [] = refl
-resumed_children i (caller ∷ below) = refl
+use Rattle.cilk_laws_allowed.proofs.Ground.{Stands, Ruled, not_empty, no_function, stepped, acts_on, failed, at_p, at_other, puts, free_of}
 
 module _ (program : Labelled) (s : State) (p : Path) (i : Instance) (stands : Stands program s p i) (n : ℕ) where
   abbrev env : Environment Declaration
@@ -43,7 +38,7 @@ module _ (program : Labelled) (s : State) (p : Path) (i : Instance) (stands : St
   free_to_leave : (below : List Activation) → i.below ≡ below → (owner : Owner) → owner_at program i ≡ owner
       → ((is_empty below || not (is_function owner)) && holds_lock s p) ≡ false → ((is_empty below && true) && not (is_synched s p i)) ≡ false
       → MayLeave program s p i
-  free_to_leave [] e owner is unheld goes = fails.of_procedure e (free_of program s p i stands unheld (is_so (is_synched s p i) goes))
+  free_to_leave [] e owner is unheld goes = fails.of_procedure e (free_of program s p i stands unheld (not-false (is_synched s p i) goes))
   free_to_leave (a ∷ below) e (Function returns) is unheld goes =
       fails.of_function (record { returns = returns; above = λ f. let both : a ∷ below ≡ [] = sym e ∙ f in cc; function = is })
   free_to_leave (a ∷ below) e (Procedure returns) is unheld goes = fails.of_inlet
@@ -69,8 +64,7 @@ module _ (program : Labelled) (s : State) (p : Path) (i : Instance) (stands : St
 
   child_ends : (z : ℤ) (q : Path) (k : ℕ) → p ≡ child_path q k → ChildEnds program s p i (after_return_to (Some q) s p i z) z
   child_ends z q k child =
-      let counts = stands.family q k (ap (is_live s.instances) (sym child) ∙ ap is_some stands.live) in
-      let found = some_counted (instance_at s.instances q) counts.number counts.there in
+      let counted = stands.family q k (ap (is_live s.instances) (sym child) ∙ ap is_some stands.live) in
       let new = deliveries p z i.receiver i.aborted in
       let f : Instance → Instance = with_deliveries new in
       let below : q ≢ p = λ e. not_own q k (e ∙ child) in
@@ -80,18 +74,14 @@ module _ (program : Labelled) (s : State) (p : Path) (i : Instance) (stands : St
         k = k;
         child = child;
         gone = at-changed_other q p f (without p s.instances) (apart q p above) ∙ none_there p s.instances;
-        parent = found.0;
-        lives = found.1.0;
+        parent = counted.parent;
+        lives = counted.lives;
         delivered = new;
         delivers = delivers z i.receiver i.aborted refl refl;
-        at_parent = at-changed_same q f (without p s.instances) ∙ ap (option_map f) (at-without_other p q s.instances (apart p q below) ∙ found.1.0);
+        at_parent = at-changed_same q f (without p s.instances) ∙ ap (option_map f) (at-without_other p q s.instances (apart p q below) ∙ counted.lives);
         elsewhere = λ r other others. at-changed_other q r f (without p s.instances) (apart q r others) ∙ at-without_other p r s.instances (apart p r other);
         still = refl;
       }
-
-  return_lives : (z : ℤ) (o : Option Path) → Fewer p s.instances (after_return_to o s p i z).instances
-  return_lives z None = without_fewer p s.instances
-  return_lives z (Some q) = changed_fewer p s.instances (without p s.instances) q _ (λ x. refl) (without_fewer p s.instances)
 
   ends_by : (z : ℤ) (o : Option Path) → Origin p o → RootEnds program s p i (after_return_to o s p i z) z
       ⊎ ChildEnds program s p i (after_return_to o s p i z) z
@@ -104,8 +94,6 @@ module _ (program : Labelled) (s : State) (p : Path) (i : Instance) (stands : St
     stepped program s p i stands (after_return s p i z) (event.returned p n)
         (rule.acts n act head (rule.leaves_procedure act z alone whole given (ends_by z (parent_of p) (origin p)))) refl,
     λ h. cc,
-    return_lives z (parent_of p),
-    whole.childless,
   )
 
   -- the activation below goes on
@@ -127,7 +115,6 @@ module _ (program : Labelled) (s : State) (p : Path) (i : Instance) (stands : St
         → Ruled program s p (step_by_combined s p i n reached.cell r)
     combined_rule act z head given inside reached awaits (Ok y) comes =
         acts_on program s p i stands n act head (after_answer s p i reached.cell y)
-        (one_changed program s p i stands (put reached.cell y (resumed i)) (resumed_children i i.below))
         (rule.leaves_function act z caller below inside given is
         (subst (rule.Answers program s p i (after_answer s p i reached.cell y) caller below z) (sym awaits)
         (rule.to_place reached y
@@ -141,7 +128,7 @@ module _ (program : Labelled) (s : State) (p : Path) (i : Instance) (stands : St
     answer_rule : (act : Action) (z : ℤ) → Heads i n act → LeavesWith env act z → InFunction program s p i
         → (awaits : Option Reached) → i.top.awaits ≡ awaits → Ruled program s p (step_by_answer s p i n awaits z)
     answer_rule act z head given inside None awaits =
-        acts_on program s p i stands n act head (after_leaving s p i) (one_changed program s p i stands (resumed i) (resumed_children i i.below))
+        acts_on program s p i stands n act head (after_leaving s p i)
         (rule.leaves_function act z caller below inside given is
         (subst (rule.Answers program s p i (after_leaving s p i) caller below z) (sym awaits) (rule.to_nothing resumes))) refl
     answer_rule act z head given inside (Some reached) awaits =
@@ -150,19 +137,10 @@ module _ (program : Labelled) (s : State) (p : Path) (i : Instance) (stands : St
     inlet_rule : (act : Action) (z : ℤ) → Heads i n act → LeavesWith env act z → InInlet program s p i → HoldsNone s p
         → Ruled program s p (goes_on (after_leaving s p i) (event.acted p n))
     inlet_rule act z head given inside unheld =
-        acts_on program s p i stands n act head (after_leaving s p i) (one_changed program s p i stands (resumed i) (resumed_children i i.below))
+        acts_on program s p i stands n act head (after_leaving s p i)
         (rule.leaves_inlet act z caller below inside unheld given is resumes) refl
 
   -- which of the three it is
-  empty_by : (below : List Activation) → below ≢ [] → is_empty below ≡ false
-  empty_by [] h = absurd (h refl)
-  empty_by (a ∷ below) h = refl
-
-  no_function_by : (owner : Owner) → ((r : ReturnType) → owner ≢ Function r) → is_function owner ≡ false
-  no_function_by (Function returns) h = absurd (h returns refl)
-  no_function_by (Procedure returns) h = refl
-  no_function_by Inlet h = refl
-
   above_some : (P : Type 0) → (xs : List Activation) → i.below ≡ xs → i.below ≢ []
       → ((caller : Activation) (below : List Activation) → i.below ≡ caller ∷ below → P) → P
   above_some P [] e h f = absurd (h e)
@@ -171,14 +149,14 @@ module _ (program : Labelled) (s : State) (p : Path) (i : Instance) (stands : St
   pub leaving_rule : (act : Action) (z : ℤ) → Heads i n act → LeavesWith env act z → MayLeave program s p i
       → Ruled program s p (step_by_leaving program s p i n z)
   leaving_rule act z head given (fails.of_procedure alone whole) =
-      subst (Ruled program s p) (sym (then_is (is_empty i.below) _ _ (ap is_empty alone))) (procedure_rule act z head given alone whole)
+      subst (Ruled program s p) (sym (cond-true (is_empty i.below) _ _ (ap is_empty alone))) (procedure_rule act z head given alone whole)
   leaving_rule act z head given (fails.of_inlet inside unheld) =
-      subst (Ruled program s p) (sym (otherwise (is_empty i.below) _ _ (empty_by i.below inside.above)
-      ∙ otherwise (leaves_function program i) _ _ (no_function_by (owner_at program i) inside.no_function)))
+      subst (Ruled program s p) (sym (cond-false (is_empty i.below) _ _ (not_empty i.below inside.above)
+      ∙ cond-false (leaves_function program i) _ _ (no_function (owner_at program i) inside.no_function)))
       (above_some _ i.below refl inside.above (λ caller below is. inlet_rule caller below is act z head given inside unheld))
   leaving_rule act z head given (fails.of_function inside) =
-      subst (Ruled program s p) (sym (otherwise (is_empty i.below) _ _ (empty_by i.below inside.above)
-      ∙ then_is (leaves_function program i) _ _ (ap is_function inside.function)))
+      subst (Ruled program s p) (sym (cond-false (is_empty i.below) _ _ (not_empty i.below inside.above)
+      ∙ cond-true (leaves_function program i) _ _ (ap is_function inside.function)))
       (above_some _ i.below refl inside.above (λ caller below is. answer_rule caller below is act z head given inside i.top.awaits refl))
 
   return_by : (e : Term Declaration) → Heads i n (return_with e) → MayLeave program s p i → (r : Result ℤ Trap) → value_of env e ≡ r

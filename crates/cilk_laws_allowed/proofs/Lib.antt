@@ -1,10 +1,9 @@
 pub mod Lookups
 pub mod Paths
-pub mod Live
-pub mod Family
 pub mod Cells
 pub mod Locks
 pub mod Ground
+pub mod Boundaries
 pub mod Going
 pub mod Leaving
 pub mod Starting

@@ -2,11 +2,12 @@
 use Rattle.std.proofs.Common.{◌≡◌, ◌≢◌, ℕ, zero, suc, Bool, true, false, ◌||◌, List, [], ◌∷◌, Option, Some, None, refl, sym, ap, ◌∙◌, if◌then◌else◌}
 use Rattle.std.specs.Prelude.{option_map, slice_get}
 use Rattle.std.specs.List.{list_any}
-use Rattle.cilk_model.specs.Path.{Path, same_path}
-use Rattle.cilk_model.specs.State.{Lock, unset, free, held, State}
-use Rattle.cilk_model.specs.Change.{is_held_by, holds_lock, released}
-use Rattle.cilk_model.specs.Written.{Lets, Holds, HoldsNone}
-use Rattle.cilk_laws_allowed.proofs.Lookups.{same-is, same-self}
+use Rattle.std.proofs.lemmas.Bool.{false_from_ne_true, or_left, or_parts, or_right, true≢false}
+use Rattle.cilk_laws_placed.specs.model.Path.{Path, same_path}
+use Rattle.cilk_laws_placed.specs.model.State.{Lock, unset, free, held, State}
+use Rattle.cilk_laws_placed.specs.model.Change.{is_held_by, holds_lock, released}
+use Rattle.cilk_laws_placed.specs.model.Written.{Lets, Holds, HoldsNone}
+use Rattle.cilk_laws_placed.proofs.Entries.{same-is, same-self}
 
 pub held-is : (p : Path) (lock : Lock) → is_held_by p lock ≡ true → lock ≡ held p
 held-is p unset h = cc
@@ -25,20 +26,12 @@ one_held p (lock ∷ locks) h = one_held_by p lock locks (is_held_by p lock) ref
 pub holds : (s : State) (p : Path) → holds_lock s p ≡ true → Holds s p
 holds s p h = let found = one_held p s.locks h in record { lock = found.0; held = found.1 }
 
-not_first : (a b : Bool) → (a || b) ≡ false → a ≡ true → ⊥
-not_first true b h e = cc
-not_first false b h e = cc
-
-not_second : (a b : Bool) → (a || b) ≡ false → b ≡ false
-not_second true b h = cc
-not_second false b h = h
-
 none_held : (p : Path) (locks : List Lock) → list_any (is_held_by p) locks ≡ false → (k : ℕ) → slice_get locks k ≢ Some (held p)
 none_held p [] h k = λ e. cc
 none_held p (lock ∷ locks) h zero = λ e.
     let is : lock ≡ held p = cc in
-    not_first (is_held_by p lock) (list_any (is_held_by p) locks) h (ap (is_held_by p) is ∙ same-self p)
-none_held p (lock ∷ locks) h (suc k) = none_held p locks (not_second (is_held_by p lock) (list_any (is_held_by p) locks) h) k
+    true≢false (sym (ap (is_held_by p) is ∙ same-self p) ∙ (or_parts _ _ h).0)
+none_held p (lock ∷ locks) h (suc k) = none_held p locks (or_parts _ _ h).1 k
 
 pub holds_none : (s : State) (p : Path) → holds_lock s p ≡ false → HoldsNone s p
 holds_none s p h = none_held p s.locks h
@@ -48,22 +41,14 @@ seen_held : (p : Path) (locks : List Lock) (k : ℕ) → slice_get locks k ≡ S
 seen_held p [] k e = cc
 seen_held p (lock ∷ locks) zero e =
     let is : lock ≡ held p = cc in
-    ap (λ b. b || list_any (is_held_by p) locks) (ap (is_held_by p) is ∙ same-self p)
-seen_held p (lock ∷ locks) (suc k) e = ap (λ b. is_held_by p lock || b) (seen_held p locks k e) ∙ or_true (is_held_by p lock)
-  where
-    or_true : (b : Bool) → (b || true) ≡ true
-    or_true true = refl
-    or_true false = refl
+    or_left _ _ (ap (is_held_by p) is ∙ same-self p)
+seen_held p (lock ∷ locks) (suc k) e = or_right (is_held_by p lock) _ (seen_held p locks k e)
 
 pub holds_seen : (s : State) (p : Path) → Holds s p → holds_lock s p ≡ true
 holds_seen s p h = seen_held p s.locks h.lock h.held
 
-none_seen_by : (s : State) (p : Path) → HoldsNone s p → (b : Bool) → holds_lock s p ≡ b → b ≡ false
-none_seen_by s p none true e = let one = holds s p e in absurd (none one.lock one.held)
-none_seen_by s p none false e = refl
-
 pub none_seen : (s : State) (p : Path) → HoldsNone s p → holds_lock s p ≡ false
-none_seen s p none = none_seen_by s p none (holds_lock s p) refl
+none_seen s p none = false_from_ne_true (holds_lock s p) (λ e. let one = holds s p e in none one.lock one.held)
 
 -- what an end lets go
 lets_if : (p q : Path) (b : Bool) → same_path q p ≡ b → Lets p (Some (held q)) (Some (if b then free else held q))

@@ -2,23 +2,25 @@
 use Rattle.std.proofs.Common.{◌≡◌, ◌≢◌, ℕ, ◌+◌, ◌⊎◌, inl, inr, ℤ, pos, Bool, true, false, ◌&&◌, List, [], ◌∷◌, length, nat_lt, nat_le, Option, Some, None}
 use Rattle.std.proofs.Common.{Result, Ok, Err, refl, sym, ap, ap₂, subst, ◌∙◌}
 use Rattle.std.specs.Prelude.{slice_get, slice_index_or}
-use Rattle.cilk_model.specs.labelled.declared.trap.Trap.{Trap}
-use Rattle.cilk_model.specs.labelled.Labelled.{Labelled, global}
-use Rattle.cilk_model.specs.Values.{Values, Store, Cell, Reached}
-use Rattle.cilk_model.specs.Effect.{Effect, writes, answers, enters, gives, starts, writes_out, turns, marks, effect_of}
-use Rattle.cilk_model.specs.Path.{Path, child_path, parent_of, is_below}
-use Rattle.cilk_model.specs.labelled.Items.{opened, next}
-use Rattle.cilk_model.specs.Instance.{Activation, Receiver, place, through, Delivery, Instance, entered}
-use Rattle.cilk_model.specs.State.{TrapKind, of_value, held_lock, depth, instances, output, Lock, State, instance_at, lock_at}
-use Rattle.cilk_model.specs.Change.{leaves_function, with_deliveries, deliveries, Turn, turned, refused, blocked, turn_by}
-use Rattle.cilk_model.specs.Written as written
-use Rattle.cilk_model.specs.Written.{content, Writes, Holding, Delivers, Lets}
-use Rattle.cilk_model.specs.Fails.{here}
-use Rattle.cilk_model.specs.Rule.{Flags, past, GoesOn, GoesBy, Puts, PutsOn, Enters, Resumes, Births, RootEnds, ChildEnds, Marks, Traps, Starts, Ends}
+use Rattle.cilk_laws_placed.specs.labelled.declared.trap.Trap.{Trap}
+use Rattle.cilk_laws_placed.specs.labelled.Labelled.{Labelled, global}
+use Rattle.cilk_laws_placed.specs.model.Values.{Values, Store, Cell, Reached}
+use Rattle.cilk_laws_placed.specs.model.Effect.{Effect, writes, answers, enters, gives, starts, writes_out, turns_lock, marks, effect_of}
+use Rattle.cilk_laws_placed.specs.model.Path.{Path, child_path, parent_of, is_below}
+use Rattle.cilk_laws_placed.specs.labelled.Items.{opened, next}
+use Rattle.cilk_laws_placed.specs.model.Instance.{Activation, Receiver, place, through, Delivery, Instance, entered}
+use Rattle.cilk_laws_placed.specs.model.State.{TrapKind, of_value, held_lock, depth, instances, output, Lock, State, instance_at, lock_at}
+use Rattle.cilk_laws_placed.specs.model.Change.{leaves_function, with_deliveries, deliveries, LockTurn, lock_turned, refused, blocked, lock_turn_by}
+use Rattle.cilk_laws_placed.specs.model.Written as written
+use Rattle.cilk_laws_placed.specs.model.Written.{content, Writes, Delivers, Lets}
+use Rattle.cilk_laws_placed.specs.model.Fails.{here}
+use Rattle.cilk_laws_placed.specs.model.Rule.{Flags, past, GoesOn, GoesBy, Puts, PutsOn, Enters, Resumes, Births, RootEnds, ChildEnds, Marks, Traps}
+use Rattle.cilk_laws_placed.specs.model.Rule.{Starts, Ends}
 use Rattle.cilk_laws_allowed.specs.OneState.{AlikeAt, equal, by_cells, Alike, RuleLeavesOneState}
-use Rattle.cilk_laws_allowed.proofs.Paths.{parent-child, same-parent}
+use Rattle.cilk_laws_placed.proofs.Family.{parent-child}
+use Rattle.cilk_laws_allowed.proofs.Paths.{same-parent}
 use Rattle.cilk_laws_allowed.proofs.Decided.{at, number_decided, cell_decided, path_decided, lock_decided, empty_decided}
-use Rattle.cilk_laws_allowed.proofs.Forms.{Prints, LocksTo, FitsRoom, FitsTurn, FitsCombined, FitsAnswer, FitsLeaving, FitsEffect, Fits, Taken}
+use Rattle.cilk_laws_allowed.proofs.Forms.{Prints, LocksTo, FitsRoom, FitsLockTurn, FitsCombined, FitsAnswer, FitsLeaving, FitsEffect, Fits, Taken}
 use Rattle.cilk_laws_allowed.proofs.Forms.{held_at, acts_fit, takes_fit}
 
 -- what stands in each cell after one write
@@ -187,10 +189,10 @@ module _ (program : Labelled) (s : State) (p : Path) (i : Instance) (t u : State
   room_alike n kind A B true g h same = same g h
   room_alike n kind A B false g h same = traps_alike n kind g h
 
-  turn_alike : (n k : ℕ) (turn : Turn) → FitsTurn program s p i n k t turn → FitsTurn program s p i n k u turn → Alike t u
-  turn_alike n k (turned now) g h = locks_alike k now g h
-  turn_alike n k refused g h = traps_alike n _ g h
-  turn_alike n k blocked g h = absurd g
+  lock_turn_alike : (n k : ℕ) (lock_turn : LockTurn) → FitsLockTurn program s p i n k t lock_turn → FitsLockTurn program s p i n k u lock_turn → Alike t u
+  lock_turn_alike n k (lock_turned now) g h = locks_alike k now g h
+  lock_turn_alike n k refused g h = traps_alike n _ g h
+  lock_turn_alike n k blocked g h = absurd g
 
   combined_alike : (n : ℕ) (j : Instance) (cell : Cell) (r : Result ℤ Trap) → FitsCombined program s p i n t j cell r
       → FitsCombined program s p i n u j cell r → Alike t u
@@ -217,7 +219,7 @@ module _ (program : Labelled) (s : State) (p : Path) (i : Instance) (t u : State
   effect_alike n (Ok (starts receiver callee zs)) g h =
       room_alike n instances _ _ (nat_lt (length s.instances) 65536 && nat_lt i.children 4294967295) g h (births_alike callee zs receiver)
   effect_alike n (Ok (writes_out bytes)) g h = room_alike n output _ _ (nat_le (length s.output + length bytes) 1048576) g h (prints_alike bytes)
-  effect_alike n (Ok (turns what k)) g h = turn_alike n k (turn_by p what (lock_at s k)) g h
+  effect_alike n (Ok (turns_lock what k)) g h = lock_turn_alike n k (lock_turn_by p what (lock_at s k)) g h
   effect_alike n (Ok marks) g h = marks_alike g h
 
   one_form : (n : ℕ) (b : Bool) (r : Result Effect Trap) → Fits program s p i n t b r → Fits program s p i n u b r → Alike t u

@@ -1,40 +1,40 @@
 -- Each step that is taken is one that the written rule allows.
-use Rattle.std.proofs.Common.{◌≡◌, ℕ, ℤ, true, false, not, ◌&&◌, ◌||◌, inl, inr, List, [], ◌∷◌, Option, Some, None, Result, Ok, Err, refl, sym, subst, ◌∙◌}
+use Rattle.std.proofs.Common.{◌≡◌, ℕ, ℤ, true, false, not, ◌&&◌, ◌||◌, List, [], ◌∷◌, Option, Some, None, Result, Ok, Err, refl, sym, subst, ◌∙◌}
 use Rattle.std.specs.Prelude.{slice_get}
-use Rattle.std.proofs.lemmas.Bool.{cond_both, and_parts, or_cases}
-use Rattle.cilk_model.specs.scopes.declared.owner.Owner.{Owner}
-use Rattle.cilk_model.specs.scopes.declared.owner.Owner.TheVariants.{Function, Procedure, Inlet}
-use Rattle.cilk_model.specs.labelled.declared.trap.Trap.{Trap}
-use Rattle.cilk_model.specs.labelled.Labelled.{Labelled, Action, assign, call, spawn, print, locking, null, break_off, go_round, tests, sync, abort}
-use Rattle.cilk_model.specs.labelled.Labelled.{return_with, return_nothing, close, Numbered}
-use Rattle.cilk_model.specs.labelled.Items.{head_of}
-use Rattle.cilk_model.specs.Values.{Reached, read_at, combined}
-use Rattle.cilk_model.specs.Effect.{effect_of}
-use Rattle.cilk_model.specs.Path.{Path}
-use Rattle.cilk_model.specs.Instance.{Receiver, place, through, Delivery, Activation, Instance, entered, owner_at}
-use Rattle.cilk_model.specs.State.{of_value, held_lock, State, running, instance_at, has_live_child, is_empty, is_synched, store_of}
-use Rattle.cilk_model.specs.Event as event
-use Rattle.cilk_model.specs.Change.{is_function, waits_here, head_waits, at_boundary, ends_thread, holds_lock, above, put, after_place, after_inlet}
-use Rattle.cilk_model.specs.Change.{released, after_abort}
-use Rattle.cilk_model.specs.Written as written
-use Rattle.cilk_model.specs.Written.{Leaves, Waits, Heads, AtBoundary, Lets}
-use Rattle.cilk_model.specs.Fails as fails
-use Rattle.cilk_model.specs.Fails.{here, EndsThread}
-use Rattle.cilk_model.specs.Rule as rule
-use Rattle.cilk_model.specs.Rule.{Ends, Starts}
-use Rattle.cilk_model.specs.Pick as pick
-use Rattle.cilk_model.specs.Pick.{Step, waits, parks, goes_on, ends, spawns, step_by_effect, step_by_head, step_by_place, step_by_receiver}
-use Rattle.cilk_model.specs.Pick.{step_at_boundary, step_of_aborted, step_of_instance, step_of_live, step_of}
+use Rattle.std.proofs.lemmas.Bool.{cond_both, and_parts}
+use Rattle.std.proofs.lemmas.Option.{slice_get-map}
+use Rattle.cilk_laws_placed.specs.scopes.declared.owner.Owner.{Owner}
+use Rattle.cilk_laws_placed.specs.scopes.declared.owner.Owner.TheVariants.{Function, Procedure, Inlet}
+use Rattle.cilk_laws_placed.specs.labelled.declared.trap.Trap.{Trap}
+use Rattle.cilk_laws_placed.specs.labelled.Labelled.{Labelled, Action, assign, call, spawn, print, locking, null, break_off, go_round, tests, sync, abort}
+use Rattle.cilk_laws_placed.specs.labelled.Labelled.{return_with, return_nothing, close, Numbered}
+use Rattle.cilk_laws_placed.specs.labelled.Items.{head_of}
+use Rattle.cilk_laws_placed.specs.model.Values.{Reached, read_at, combined}
+use Rattle.cilk_laws_placed.specs.model.Effect.{effect_of}
+use Rattle.cilk_laws_placed.specs.model.Path.{Path}
+use Rattle.cilk_laws_placed.specs.model.Instance.{Receiver, place, through, Delivery, Activation, Instance, entered, owner_at}
+use Rattle.cilk_laws_placed.specs.model.State.{of_value, held_lock, State, running, instance_at, has_live_child, is_empty, is_synched, store_of}
+use Rattle.cilk_laws_placed.specs.model.Event as event
+use Rattle.cilk_laws_placed.specs.model.Change.{is_function, waits_here, at_boundary, ends_thread, holds_lock, above, after_place, after_inlet}
+use Rattle.cilk_laws_placed.specs.model.Change.{released, after_abort}
+use Rattle.cilk_laws_placed.specs.model.Written as written
+use Rattle.cilk_laws_placed.specs.model.Written.{Leaves, Heads, AtBoundary, Lets}
+use Rattle.cilk_laws_placed.specs.model.Fails as fails
+use Rattle.cilk_laws_placed.specs.model.Fails.{here, EndsThread}
+use Rattle.cilk_laws_placed.specs.model.Rule as rule
+use Rattle.cilk_laws_placed.specs.model.Rule.{Ends}
+use Rattle.cilk_laws_placed.specs.model.Pick as pick
+use Rattle.cilk_laws_placed.specs.model.Pick.{Step, waits, parks, goes_on, ends, spawns, step_by_effect, step_by_head, step_by_place, step_by_receiver}
+use Rattle.cilk_laws_placed.specs.model.Pick.{step_at_boundary, step_of_aborted, step_of_instance, step_of_live, step_of}
+use Rattle.cilk_laws_placed.proofs.Entries.{at-without_other}
 use Rattle.cilk_laws_allowed.specs.Order.{InOrder, AllowedStep, EachPickIsAllowed}
-use Rattle.cilk_laws_allowed.proofs.Lookups.{apart, at-without_other, none_there}
-use Rattle.cilk_laws_allowed.proofs.Live.{alike, without_fewer}
-use Rattle.cilk_laws_allowed.proofs.Family.{family_of}
-use Rattle.cilk_laws_allowed.proofs.Cells.{get_map}
+use Rattle.cilk_laws_allowed.proofs.Lookups.{apart, none_there}
 use Rattle.cilk_laws_allowed.proofs.Locks.{holds, holds_none, lets}
-use Rattle.cilk_laws_allowed.proofs.Ground.{Stands, Ruled, empty_is, stepped, failed, at_p, at_other, one_changed, puts}
+use Rattle.cilk_laws_allowed.proofs.Ground.{Stands, Ruled, stepped, failed, at_p, at_other, puts}
 use Rattle.cilk_laws_allowed.proofs.Going.{bare_rule, tests_rule, assign_rule, print_rule, lock_rule, sync_rule, abort_rule}
 use Rattle.cilk_laws_allowed.proofs.Leaving.{return_rule, nothing_rule, brace_rule}
 use Rattle.cilk_laws_allowed.proofs.Starting.{call_rule, spawn_rule}
+use Rattle.cilk_laws_allowed.proofs.Boundaries.{boundary_of}
 
 module _ (program : Labelled) (s : State) (p : Path) (i : Instance) (stands : Stands program s p i) where
   -- a lock is held where a thread ends
@@ -92,36 +92,6 @@ module _ (program : Labelled) (s : State) (p : Path) (i : Instance) (stands : St
       cond_both (ends_thread program i head.act && holds_lock s p) _ _ (Ruled program s p) (held_rule head.number head.act e)
       (λ unheld. cond_both (waits_here i head.act && not (is_synched s p i)) _ _ (Ruled program s p) (λ _. tt) (action_rule head.number head.act e unheld))
 
-  -- boundaries
-  waits_by : (act : Action) → waits_here i act ≡ true → Waits act
-  waits_by (assign what e) h = let parts = and_parts (is_empty i.below) false h in cc
-  waits_by (call what callee es) h = let parts = and_parts (is_empty i.below) false h in cc
-  waits_by (spawn taker callee es) h = let parts = and_parts (is_empty i.below) false h in cc
-  waits_by (print format es) h = let parts = and_parts (is_empty i.below) false h in cc
-  waits_by (locking what k) h = let parts = and_parts (is_empty i.below) false h in cc
-  waits_by null h = let parts = and_parts (is_empty i.below) false h in cc
-  waits_by break_off h = let parts = and_parts (is_empty i.below) false h in cc
-  waits_by go_round h = let parts = and_parts (is_empty i.below) false h in cc
-  waits_by (tests e) h = let parts = and_parts (is_empty i.below) false h in cc
-  waits_by sync h = written.for_sync
-  waits_by abort h = let parts = and_parts (is_empty i.below) false h in cc
-  waits_by (return_with e) h = written.to_leave (return_with e) (written.by_value e)
-  waits_by return_nothing h = written.to_leave return_nothing written.by_no_value
-  waits_by close h = written.to_leave close written.by_brace
-
-  boundary_head : i.below ≡ [] → (o : Option Numbered) → head_of i.top.items ≡ o → head_waits i o ≡ true → AtBoundary i
-  boundary_head alone None e h = cc
-  boundary_head alone (Some head) e h = written.before_wait alone head.number head.act e (waits_by head.act h)
-
-  boundary_of : at_boundary i ≡ true → AtBoundary i
-  boundary_of h =
-      let parts = and_parts (is_empty i.below) (i.spawned || head_waits i (head_of i.top.items)) h in
-      let alone = empty_is i.below parts.0 in
-      elim (or_cases i.spawned (head_waits i (head_of i.top.items)) parts.1) [
-        | inl spawned ↦ written.after_spawn alone spawned
-        | inr waiting ↦ boundary_head alone (head_of i.top.items) refl waiting
-      ]
-
   -- a delivery is taken
   module _ (boundary : AtBoundary i) (c : Path) (z : ℤ) (others : List Delivery) where
     place_rule : (reached : Reached) (n : ℕ) → i.waiting ≡ record { child = c; value = z; receiver = place reached n } ∷ others
@@ -130,14 +100,12 @@ module _ (program : Labelled) (s : State) (p : Path) (i : Instance) (stands : St
       stepped program s p i stands _ (event.trapped (of_value trap) p n)
           (rule.takes boundary [] (record { child = c; value = z; receiver = place reached n }) others waiting (rule.place_traps reached n trap is refl)) refl,
       λ h. cc,
-      alike s.instances,
     )
     place_rule reached n waiting (Ok y) is = (
       stepped program s p i stands (after_place s p i others reached.cell y) (event.delivered c n)
           (rule.takes boundary [] (record { child = c; value = z; receiver = place reached n }) others waiting
           (rule.by_place reached n y is (puts program s p i stands (record i { waiting = others }) reached.cell y))) refl,
       λ h. cc,
-      one_changed program s p i stands (put reached.cell y (record i { waiting = others })) refl,
     )
 
     receiver_rule : (receiver : Receiver) → i.waiting ≡ record { child = c; value = z; receiver = receiver } ∷ others
@@ -151,12 +119,11 @@ module _ (program : Labelled) (s : State) (p : Path) (i : Instance) (stands : St
               (record { at_p = at_p program s p i stands (λ _. j); elsewhere = at_other program s p i stands (λ _. j); still = refl })))
               refl,
           λ h. cc,
-          one_changed program s p i stands j refl,
         )
 
   boundary_rule : at_boundary i ≡ true → (ds : List Delivery) → i.waiting ≡ ds → Ruled program s p (step_at_boundary program s p i ds)
   boundary_rule boundary [] e = head_rule (head_of i.top.items) refl
-  boundary_rule boundary (oldest ∷ others) e = receiver_rule (boundary_of boundary) oldest.child oldest.value others oldest.receiver e
+  boundary_rule boundary (oldest ∷ others) e = receiver_rule (boundary_of i boundary) oldest.child oldest.value others oldest.receiver e
 
   -- an aborted instance
   ends_row : i.aborted ≡ true → has_live_child s.instances p ≡ false → Ends program s p i (after_abort s p)
@@ -165,7 +132,7 @@ module _ (program : Labelled) (s : State) (p : Path) (i : Instance) (stands : St
     childless = childless;
     gone = none_there p s.instances;
     elsewhere = λ q other. at-without_other p q s.instances (apart p q other);
-    locks = λ k. subst (Lets p (slice_get s.locks k)) (sym (get_map (released p) s.locks k)) (lets p (slice_get s.locks k));
+    locks = λ k. subst (Lets p (slice_get s.locks k)) (sym (slice_get-map (released p) s.locks k)) (lets p (slice_get s.locks k));
     still = refl;
   }
 
@@ -174,8 +141,6 @@ module _ (program : Labelled) (s : State) (p : Path) (i : Instance) (stands : St
       (λ childless. (
         stepped program s p i stands (after_abort s p) (event.ended p) (rule.ends (ends_row aborted childless)) refl,
         λ h. cc,
-        without_fewer p s.instances,
-        childless,
       ))
 
   instance_rule : Ruled program s p (step_of_instance program s p i)
@@ -187,7 +152,7 @@ live_rule : (program : Labelled) (s : State) (p : Path) → s.outcome ≡ runnin
     → Ruled program s p (step_of_live program s p o)
 live_rule program s p runs order None live = tt
 live_rule program s p runs order (Some i) live =
-    instance_rule program s p i (record { runs = runs; apart = order.apart; live = live; family = family_of s order })
+    instance_rule program s p i (record { runs = runs; apart = order.apart; live = live; family = order.family })
 
 pub step_rule : (program : Labelled) (s : State) (p : Path) → s.outcome ≡ running → InOrder s → Ruled program s p (step_of program s p)
 step_rule program s p runs order = live_rule program s p runs order (instance_at s.instances p) refl

@@ -1,36 +1,40 @@
 -- Rows of the rule: a C function or a child starts.
-use Rattle.std.proofs.Common.{◌≡◌, ℕ, ◌+◌, ◌≤◌, nat_lt, ◌⊎◌, inl, inr, ℤ, pos, Bool, true, false, ◌&&◌, List, [], ◌∷◌, ◌++◌, length, Option, Some, None}
-use Rattle.std.proofs.Common.{Result, Ok, Err, refl, sym, ap, ◌∙◌, if◌then◌else◌}
-use Rattle.std.proofs.lemmas.Bool.{and_parts, ltb-true, ltb-false}
-use Rattle.cilk_model.specs.labelled.declared.trap.Trap.{Trap}
-use Rattle.cilk_model.specs.labelled.Term.{Term}
-use Rattle.cilk_model.specs.labelled.Value.{Environment, values_of, ◌>>=◌}
-use Rattle.cilk_model.specs.labelled.Labelled.{Labelled, Declaration, Into, Taker, nothing, into, through, call, spawn}
-use Rattle.cilk_model.specs.Values.{Reached, reached_at, reached_if}
-use Rattle.cilk_model.specs.Effect.{enters, starts, start_of, effect_of}
-use Rattle.cilk_model.specs.Path.{Path, same_path, child_path}
-use Rattle.cilk_model.specs.Instance as instance
-use Rattle.cilk_model.specs.Instance.{Receiver, place, Instance, entered, started}
-use Rattle.cilk_model.specs.State.{Entry, of_value, depth, instances, State, instance_at, is_live, change, changed}
-use Rattle.cilk_model.specs.Event as event
-use Rattle.cilk_model.specs.Change.{gone_on, above, after_call, after_start}
-use Rattle.cilk_model.specs.Written as written
-use Rattle.cilk_model.specs.Written.{HoldsNone, Heads, Receives, taker_place, others_of}
-use Rattle.cilk_model.specs.Fails as fails
-use Rattle.cilk_model.specs.Fails.{here}
-use Rattle.cilk_model.specs.Rule as rule
-use Rattle.cilk_model.specs.Rule.{Enters, Births}
-use Rattle.cilk_model.specs.Pick.{goes_on, spawns, if_room, step_by_effect}
-use Rattle.cilk_laws_allowed.proofs.Lookups.{otherwise, then_is, same-self, apart, live-mapped, change-path, none_of_live, either_of, either_none, at-push}
-use Rattle.cilk_laws_allowed.proofs.Live.{More, birth_more}
-use Rattle.cilk_laws_allowed.proofs.Family.{fresh}
-use Rattle.cilk_laws_allowed.proofs.Ground.{Stands, Ruled, stepped, acts_on, failed, at_p, at_other, one_changed, flags}
+use Rattle.std.proofs.Common.{◌≡◌, ℕ, ◌+◌, ◌≤◌, nat_lt, ◌⊎◌, inl, inr, ℤ, pos, Bool, true, false, ◌&&◌, List, [], length, Option, Some, None}
+use Rattle.std.proofs.Common.{Result, Ok, Err, refl, sym, ap, ◌∙◌, if◌then◌else◌, arith}
+use Rattle.std.proofs.lemmas.Bool.{and_parts, cond-true, cond-false, false_from_ne_true, ltb-true, ltb-false}
+use Rattle.std.proofs.lemmas.Option.{same_Some}
+use Rattle.cilk_laws_placed.specs.labelled.declared.trap.Trap.{Trap}
+use Rattle.cilk_laws_placed.specs.labelled.Term.{Term}
+use Rattle.cilk_laws_placed.specs.labelled.Value.{Environment, values_of, ◌>>=◌}
+use Rattle.cilk_laws_placed.specs.labelled.Labelled.{Labelled, Declaration, Into, Taker, nothing, into, through, call, spawn}
+use Rattle.cilk_laws_placed.specs.model.Values.{Reached, reached_at, reached_if}
+use Rattle.cilk_laws_placed.specs.model.Effect.{enters, starts, start_of, effect_of}
+use Rattle.cilk_laws_placed.specs.model.Path.{Path, same_path, child_path}
+use Rattle.cilk_laws_placed.specs.model.Instance as instance
+use Rattle.cilk_laws_placed.specs.model.Instance.{Receiver, place, Instance, entered, started}
+use Rattle.cilk_laws_placed.specs.model.State.{Entry, of_value, depth, instances, State, instance_at, is_live, changed}
+use Rattle.cilk_laws_placed.specs.model.Event as event
+use Rattle.cilk_laws_placed.specs.model.Change.{gone_on, above, after_call, after_start}
+use Rattle.cilk_laws_placed.specs.model.Written as written
+use Rattle.cilk_laws_placed.specs.model.Written.{HoldsNone, Heads, Receives, taker_place, others_of}
+use Rattle.cilk_laws_placed.specs.model.Fails as fails
+use Rattle.cilk_laws_placed.specs.model.Fails.{here}
+use Rattle.cilk_laws_placed.specs.model.Rule as rule
+use Rattle.cilk_laws_placed.specs.model.Rule.{Enters, Births}
+use Rattle.cilk_laws_placed.specs.model.Pick.{goes_on, spawns, if_room, step_by_effect}
+use Rattle.cilk_laws_placed.proofs.Entries.{same-self, live-changed, either_of, at-push}
+use Rattle.cilk_laws_allowed.proofs.Lookups.{apart, none_of_live}
+use Rattle.cilk_laws_allowed.proofs.Ground.{Stands, Ruled, stepped, acts_on, failed, at_p, at_other, flags}
 
 -- whether there is room
 few_or_not : (m n : ℕ) (a b : Bool) → nat_lt m 65536 ≡ a → nat_lt n 4294967295 ≡ b → (a && b) ≡ false → (65536 ≤ m) ⊎ (4294967295 ≤ n)
 few_or_not m n false b e f h = inl (ltb-false m 65536 e)
 few_or_not m n true false e f h = inr (ltb-false n 4294967295 f)
 few_or_not m n true true e f h = cc
+
+either_none : (o : Option Instance) → either_of o None ≡ o
+either_none None = refl
+either_none (Some x) = refl
 
 module _ (program : Labelled) (s : State) (p : Path) (i : Instance) (stands : Stands program s p i) (n : ℕ) where
   abbrev env : Environment Declaration
@@ -54,7 +58,6 @@ module _ (program : Labelled) (s : State) (p : Path) (i : Instance) (stands : St
         → Ruled program s p (if_room s p n depth b (goes_on (after_call program s p i awaits callee zs) (event.acted p n)))
     depth_by awaits is zs are true room =
         acts_on program s p i stands n (call what callee es) head (after_call program s p i awaits callee zs)
-        (one_changed program s p i stands (above (entered program callee zs awaits) (gone_on (pos 1) i)) refl)
         (rule.calls what callee es awaits zs is are (enters_row zs awaits room)) refl
     depth_by awaits is zs are false none =
         failed program s p i stands n (call what callee es) head depth (fails.too_deep what callee es awaits zs is are (ltb-false (length i.below) 255 none))
@@ -83,9 +86,14 @@ module _ (program : Labelled) (s : State) (p : Path) (i : Instance) (stands : St
   abbrev child : ℕ → List ℤ → Option Receiver → Instance
   child callee zs receiver = record (started program callee zs) { aborted = i.aborted; receiver = receiver }
 
-  more : (callee : ℕ) (zs : List ℤ) (receiver : Option Receiver)
-      → More p (child_path p (i.children + 1)) s.instances (after_start program s p i receiver callee zs).instances
-  more callee zs receiver = birth_more p s.instances i parent (child callee zs receiver) stands.live refl
+  -- it was not there before
+  fresh : is_live s.instances (child_path p (i.children + 1)) ≡ false
+  fresh = false_from_ne_true (is_live s.instances (child_path p (i.children + 1))) (λ live.
+      let counted = stands.family p (i.children + 1) live in
+      let is : i ≡ counted.parent = same_Some i counted.parent (sym stands.live ∙ counted.lives) in
+      let as_many : i.children ≡ counted.parent.children = ap (λ (x : Instance). x.children) is in
+      let within = counted.within in
+      omega arith)
 
   births : (callee : ℕ) (zs : List ℤ) (receiver : Option Receiver) → (nat_lt (length s.instances) 65536 && nat_lt i.children 4294967295) ≡ true
       → Births program s p i (after_start program s p i receiver callee zs) callee zs receiver
@@ -94,18 +102,17 @@ module _ (program : Labelled) (s : State) (p : Path) (i : Instance) (stands : St
       let c = child_path p (i.children + 1) in
       let born : Entry = record { path = c; instance = child callee zs receiver } in
       let parts = and_parts (nat_lt (length s.instances) 65536) (nat_lt i.children 4294967295) room in
-      let new : is_live s.instances c ≡ false = fresh p c s.instances (parents ++ born ∷ []) stands.family (more callee zs receiver) in
       let before : instance_at parents c ≡ None =
-      none_of_live (instance_at parents c) (live-mapped (change p (λ _. parent)) (change-path p (λ _. parent)) s.instances c ∙ new) in
+      none_of_live (instance_at parents c) (live-changed p (λ _. parent) s.instances c ∙ fresh) in
       record {
         few = ltb-true (length s.instances) 65536 parts.0;
         few_children = ltb-true i.children 4294967295 parts.1;
         at_p = at-push parents born p ∙ ap (λ o. either_of o (if same_path c p then Some born.instance else None)) (at_p program s p i stands (λ _. parent));
         at_child = at-push parents born c ∙ ap (λ o. either_of o (if same_path c c then Some born.instance else None)) before
-            ∙ then_is (same_path c c) (Some born.instance) None (same-self c);
+            ∙ cond-true (same_path c c) (Some born.instance) None (same-self c);
         elsewhere = λ q other others.
             at-push parents born q
-            ∙ ap (either_of (instance_at parents q)) (otherwise (same_path c q) (Some born.instance) None (apart q c (λ e. others (sym e))))
+            ∙ ap (either_of (instance_at parents q)) (cond-false (same_path c q) (Some born.instance) None (apart q c (λ e. others (sym e))))
             ∙ either_none (instance_at parents q) ∙ at_other program s p i stands (λ _. parent) q other;
         still = refl;
       }
@@ -121,7 +128,6 @@ module _ (program : Labelled) (s : State) (p : Path) (i : Instance) (stands : St
           (rule.acts n (spawn taker callee es) head (rule.spawns taker callee es reached zs ys receiver unheld is are others receives
           (births callee zs receiver room))) refl,
       λ h. cc,
-      more callee zs receiver,
     )
     room_by reached zs ys receiver is are others receives false none =
         failed program s p i stands n (spawn taker callee es) head instances

@@ -1,11 +1,11 @@
 -- Where an instance does not step, the written rule allows it no step.
 use Rattle.std.specs.Prelude.{◌≡◌, true, Some, ⊤}
-use Rattle.cilk_model.specs.labelled.Labelled.{Labelled}
-use Rattle.cilk_model.specs.Path.{Path}
-use Rattle.cilk_model.specs.Instance.{Instance}
-use Rattle.cilk_model.specs.State.{State, instance_at, has_live_child}
-use Rattle.cilk_model.specs.Rule.{Allows}
-use Rattle.cilk_model.specs.Pick.{Step, waits, parks, goes_on, ends, spawns, step_of}
+use Rattle.cilk_laws_placed.specs.labelled.Labelled.{Labelled}
+use Rattle.cilk_laws_placed.specs.model.Path.{Path}
+use Rattle.cilk_laws_placed.specs.model.Instance.{Instance}
+use Rattle.cilk_laws_placed.specs.model.State.{State, instance_at, has_live_child}
+use Rattle.cilk_laws_placed.specs.model.Rule.{Allows}
+use Rattle.cilk_laws_placed.specs.model.Pick.{Step, waits, parks, goes_on, ends, spawns, step_of}
 
 -- nothing is changed
 abbrev pub Stays : Step → Type 0

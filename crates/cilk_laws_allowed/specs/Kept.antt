@@ -1,12 +1,12 @@
 -- Each choice keeps the written rule.
 use Rattle.std.specs.Prelude.{◌≡◌, ◌≢◌, ℕ, List, [], ◌∷◌, ◌++◌, Option, Some, None}
-use Rattle.cilk_model.specs.labelled.Labelled.{Labelled}
-use Rattle.cilk_model.specs.Path.{Path}
-use Rattle.cilk_model.specs.State.{State}
-use Rattle.cilk_model.specs.Event.{Event, moved}
-use Rattle.cilk_model.specs.Scheduler.{hand_of}
-use Rattle.cilk_model.specs.Choice.{Choice}
-use Rattle.cilk_model.specs.Run.{Position, after}
+use Rattle.cilk_laws_placed.specs.labelled.Labelled.{Labelled}
+use Rattle.cilk_laws_placed.specs.model.Path.{Path}
+use Rattle.cilk_laws_placed.specs.model.State.{State}
+use Rattle.cilk_laws_placed.specs.model.Event.{Event, moved}
+use Rattle.cilk_laws_placed.specs.model.Scheduler.{hand_of}
+use Rattle.cilk_laws_placed.specs.model.Choice.{Choice}
+use Rattle.cilk_laws_placed.specs.model.Run.{Position, after}
 use Rattle.cilk_laws_allowed.specs.Told.{AllowsAs}
 
 -- s allows t by a step of the instance in a hand, which is told by this event

@@ -4,6 +4,6 @@ pub mod Kept
 pub mod Forced
 pub mod OneState
 pub mod Synched
-pub use Rattle.cilk_model.specs as model
-pub use Rattle.cilk_model.specs.labelled
-pub use Rattle.cilk_model.specs.scopes
+pub use Rattle.cilk_laws_placed.specs.model
+pub use Rattle.cilk_laws_placed.specs.labelled
+pub use Rattle.cilk_laws_placed.specs.scopes

@@ -1,12 +1,12 @@
 -- The written rule leaves one state for each head, delivery and aborted end, as far as look-ups tell.
 use Rattle.std.specs.Prelude.{◌≡◌, ℕ, List, [], Some, slice_get, slice_index_or}
-use Rattle.cilk_model.specs.labelled.Labelled.{Labelled, Action}
-use Rattle.cilk_model.specs.Values.{Values, Cell}
-use Rattle.cilk_model.specs.Path.{Path}
-use Rattle.cilk_model.specs.Instance.{Activation, Delivery, Instance}
-use Rattle.cilk_model.specs.State.{State, instance_at, store_of}
-use Rattle.cilk_model.specs.Written.{content, Holding}
-use Rattle.cilk_model.specs.Rule.{Acts, Takes, Ends}
+use Rattle.cilk_laws_placed.specs.labelled.Labelled.{Labelled, Action}
+use Rattle.cilk_laws_placed.specs.model.Values.{Values, Cell}
+use Rattle.cilk_laws_placed.specs.model.Path.{Path}
+use Rattle.cilk_laws_placed.specs.model.Instance.{Activation, Delivery, Instance}
+use Rattle.cilk_laws_placed.specs.model.State.{State, instance_at, store_of}
+use Rattle.cilk_laws_placed.specs.model.Written.{content, Holding}
+use Rattle.cilk_laws_placed.specs.model.Rule.{Acts, Takes, Ends}
 
 -- what stands at q is the same in both states; the values that its top activation sees are so cell by cell
 pub data AlikeAt (t u : State) (q : Path) : Type 0 where

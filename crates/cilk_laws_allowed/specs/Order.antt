@@ -1,11 +1,11 @@
 -- The written rule allows each step that is taken from a state that is in order, and each state that choices reach is.
 use Rattle.std.specs.Prelude.{◌≡◌, ℕ, true, ⊤, List, Some}
-use Rattle.cilk_model.specs.labelled.Labelled.{Labelled}
-use Rattle.cilk_model.specs.Path.{Path, child_path}
-use Rattle.cilk_model.specs.State.{State, PathsAreApart, Counted, running, is_live}
-use Rattle.cilk_model.specs.Pick.{Step, waits, parks, goes_on, ends, spawns, step_of}
-use Rattle.cilk_model.specs.Choice.{Choice}
-use Rattle.cilk_model.specs.Run.{Position, after}
+use Rattle.cilk_laws_placed.specs.labelled.Labelled.{Labelled}
+use Rattle.cilk_laws_placed.specs.model.Path.{Path, child_path}
+use Rattle.cilk_laws_placed.specs.model.State.{State, PathsAreApart, Counted, running, is_live}
+use Rattle.cilk_laws_placed.specs.model.Pick.{Step, waits, parks, goes_on, ends, spawns, step_of}
+use Rattle.cilk_laws_placed.specs.model.Choice.{Choice}
+use Rattle.cilk_laws_placed.specs.model.Run.{Position, after}
 use Rattle.cilk_laws_allowed.specs.Told.{AllowsAs}
 
 pub record InOrder (s : State) : Type 0 where

@@ -1,8 +1,8 @@
 -- What `SYNCHED` tells, and what a `sync` waits for, said of the paths of children.
 use Rattle.std.specs.Prelude.{◌≡◌, ℕ, true, false, []}
-use Rattle.cilk_model.specs.Path.{Path, child_path}
-use Rattle.cilk_model.specs.Instance.{Instance}
-use Rattle.cilk_model.specs.State.{State, is_live, is_synched}
+use Rattle.cilk_laws_placed.specs.model.Path.{Path, child_path}
+use Rattle.cilk_laws_placed.specs.model.Instance.{Instance}
+use Rattle.cilk_laws_placed.specs.model.State.{State, is_live, is_synched}
 
 -- no child of p lives, and no delivery waits
 pub record NothingToWaitFor (s : State) (p : Path) (i : Instance) : Type 0 where

@@ -1,13 +1,13 @@
 -- The event that a step of the written rule is told by.
 use Rattle.std.specs.Prelude.{◌≡◌, ℕ, ◌+◌, ℤ, List, ◌++◌}
-use Rattle.cilk_model.specs.labelled.Labelled.{Labelled, Action}
-use Rattle.cilk_model.specs.Path.{Path, child_path}
-use Rattle.cilk_model.specs.Instance.{Receiver, Delivery, Instance}
-use Rattle.cilk_model.specs.State.{of_value, State}
-use Rattle.cilk_model.specs.Event as event
-use Rattle.cilk_model.specs.Event.{Event}
-use Rattle.cilk_model.specs.Rule as rule
-use Rattle.cilk_model.specs.Rule.{Acts, Takes, Steps, Allows}
+use Rattle.cilk_laws_placed.specs.labelled.Labelled.{Labelled, Action}
+use Rattle.cilk_laws_placed.specs.model.Path.{Path, child_path}
+use Rattle.cilk_laws_placed.specs.model.Instance.{Receiver, Delivery, Instance}
+use Rattle.cilk_laws_placed.specs.model.State.{of_value, State}
+use Rattle.cilk_laws_placed.specs.model.Event as event
+use Rattle.cilk_laws_placed.specs.model.Event.{Event}
+use Rattle.cilk_laws_placed.specs.model.Rule as rule
+use Rattle.cilk_laws_placed.specs.model.Rule.{Acts, Takes, Steps, Allows}
 
 module _ (program : Labelled) (s : State) (p : Path) (i : Instance) (t : State) where
   -- the number is that of the head

@@ -11,7 +11,7 @@ use Rattle.cilk_model.specs.Scheduler.{Worker, Scheduler, no_place, hand_of, deq
 use Rattle.cilk_model.specs.Scheduler.{with_empty_hand, after_step}
 use Rattle.cilk_model.specs.Choice.{Act, step, pop, steal, Choice}
 use Rattle.cilk_model.specs.Run.{Standing, Position, next_by_hand, next_by, after}
-use Rattle.cilk_laws_placed.specs.Places.{worker_paths}
+use Rattle.cilk_laws_placed.specs.Hands.{worker_paths}
 use Rattle.cilk_laws_placed.specs.Laws.{OneWorkerHasOneLeaf}
 use Rattle.cilk_model.proofs.Runs.{at_each}
 use Rattle.cilk_laws_placed.proofs.Leaves.{each_leaf_is_busy}

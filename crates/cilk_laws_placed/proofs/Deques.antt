@@ -14,12 +14,12 @@ use Rattle.cilk_model.specs.Scheduler.{Worker, no_place, worker_at, hand_of, deq
 use Rattle.cilk_model.specs.Scheduler.{above_bottom, can_go_on, woken, with_empty_hand}
 use Rattle.cilk_model.specs.Choice.{Act, step, pop, steal}
 use Rattle.cilk_model.specs.Run.{Standing, is_worker, act_refusal, stepped, next_by_hand, next_by, opening}
-use Rattle.cilk_laws_placed.specs.Places.{Descends, in_hand, worker_paths}
+use Rattle.cilk_laws_placed.specs.Hands.{Descends, in_hand, worker_paths}
 use Rattle.cilk_laws_placed.proofs.Stuck.{within}
 use Rattle.cilk_laws_placed.proofs.Entries.{same-sym}
 use Rattle.cilk_laws_placed.proofs.Live.{Lives, step_lives}
 use Rattle.cilk_laws_placed.proofs.Family.{is-child}
-use Rattle.cilk_laws_placed.proofs.Places.{once, Once, seat, seated, beside, apart, free_pop, steal_free}
+use Rattle.cilk_laws_placed.proofs.Hands.{once, Once, seat, seated, beside, apart, free_pop, steal_free}
 
 -- the parts of a line
 front_descends : (ps qs : List Path) → Descends (ps ++ qs) → Descends ps

@@ -16,7 +16,7 @@ use Rattle.cilk_model.specs.Run.{Standing, Position, state_after, next_by_hand, 
 use Rattle.cilk_laws_placed.proofs.Entries.{same-is}
 use Rattle.cilk_model.proofs.Runs.{at_each}
 use Rattle.cilk_laws_placed.proofs.Rows.{Heads, Row, headless, locked, parked, stopping, going, writing, calling, leaving, answering, spawning}
-use Rattle.cilk_laws_placed.proofs.Rows.{printing, turning, marking, returning, placing, taking, aborting, step_row}
+use Rattle.cilk_laws_placed.proofs.Rows.{printing, turning_lock, marking, returning, placing, taking, aborting, step_row}
 
 pub record Keeps (program : Labelled) (Holds : Path → Instance → Type 0) : Type 0 where
   pub on : (p : Path) (i : Instance) (head : Numbered) (z : ℤ) → head_of i.top.items ≡ Some head → leaves head.act ≡ false
@@ -121,7 +121,7 @@ module _ (program : Labelled) (Holds : Path → Instance → Type 0) (keeps : Ke
         push_each (changed p (λ _. parent) s.instances) _ (replaced parent (keeps.counted p (gone_on (pos 1) i) room (gone head (pos 1) heads)))
         (keeps.born p (i.children + 1) callee zs i.aborted receiver)
     row_each (printing head bytes heads room) = replaced (gone_on (pos 1) i) (gone head (pos 1) heads)
-    row_each (turning head what k now heads turn) = replaced (gone_on (pos 1) i) (gone head (pos 1) heads)
+    row_each (turning_lock head what k now heads becomes) = replaced (gone_on (pos 1) i) (gone head (pos 1) heads)
     row_each (marking head heads) =
         marked_each p (changed p (λ _. gone_on (pos 1) i) s.instances) (replaced (gone_on (pos 1) i) (gone head (pos 1) heads))
     row_each (returning n z none lockless unmarked) = return_each s p i z (parent_of p) all

@@ -13,7 +13,7 @@ use Rattle.cilk_laws_placed.proofs.Events.{told}
 use Rattle.cilk_laws_placed.proofs.Waits.{waits_at}
 use Rattle.cilk_laws_placed.proofs.Tales.{Brought}
 use Rattle.cilk_laws_placed.proofs.Sound.{Sound, sound_but, lacks_living, sound_brought}
-use Rattle.cilk_laws_placed.proofs.Told.{Told, Turns, stays_alive, was_alive}
+use Rattle.cilk_laws_placed.proofs.Told.{Told, FateBecomes, stays_alive, was_alive}
 
 both_parts : (a l : Bool) → (not a && l) ≡ true → (a ≡ false) × (l ≡ true)
 both_parts true l h = cc
@@ -28,7 +28,7 @@ waits_live None ds h = cc
 waits_live (Some i) ds h = refl
 
 module _ (events after : List Event) (entries later : Instances) (p : Path) (fate : Fate) (dead : fate ≡ lives → ⊥)
-    (here : is_live entries p ≡ true) (h : Told events entries) (turns : Turns p events after fate) (fewer : Fewer p entries later) where
+    (here : is_live entries p ≡ true) (h : Told events entries) (becomes : FateBecomes p events after fate) (fewer : Fewer p entries later) where
   was_live : (x : Path) → is_live later x ≡ true → (same_path x p ≡ false) × (is_live entries x ≡ true)
   was_live x live = both_parts (same_path x p) (is_live entries x) (sym (fewer.live x) ∙ live)
 
@@ -44,16 +44,16 @@ module _ (events after : List Event) (entries later : Instances) (p : Path) (fat
   -- what is told of all but the deliveries
   ended_told : ((q : Path) (ds : List Delivery) → waits_at later q ≡ Some ds → Sound after q ds) → Told after later
   ended_told waits = record {
-    made = λ x live. turns.made x ∙ h.made x (was_live x live).1;
-    alive = λ x live. let was = was_live x live in turns.beside x (same-sym p x ∙ was.0) ∙ h.alive x was.1;
+    made = λ x live. becomes.made x ∙ h.made x (was_live x live).1;
+    alive = λ x live. let was = was_live x live in becomes.beside x (same-sym p x ∙ was.0) ∙ h.alive x was.1;
     living = λ x made alive.
-        let was = was_alive p events after fate turns x dead alive in
-        fewer.live x ∙ live_still (same_path x p) (is_live entries x) (same-sym x p ∙ was.0) (h.living x (sym (turns.made x) ∙ made) was.1);
+        let was = was_alive p events after fate becomes x dead alive in
+        fewer.live x ∙ live_still (same_path x p) (is_live entries x) (same-sym x p ∙ was.0) (h.living x (sym (becomes.made x) ∙ made) was.1);
     unmade = λ x none.
-        let before = sym (turns.made x) ∙ none in
-        stays_alive p events after fate turns x (not_ended x before) (h.unmade x before);
-    counted = λ x j n made there. counted_by x j n (sym (turns.made (child_path x j)) ∙ made) there;
-    parents = λ x j made. turns.made x ∙ h.parents x j (sym (turns.made (child_path x j)) ∙ made);
+        let before = sym (becomes.made x) ∙ none in
+        stays_alive p events after fate becomes x (not_ended x before) (h.unmade x before);
+    counted = λ x j n made there. counted_by x j n (sym (becomes.made (child_path x j)) ∙ made) there;
+    parents = λ x j made. becomes.made x ∙ h.parents x j (sym (becomes.made (child_path x j)) ∙ made);
     waits = waits;
   }
 
@@ -61,7 +61,7 @@ module _ (events after : List Event) (entries later : Instances) (p : Path) (fat
   old_sound : (q : Path) (ds : List Delivery) → waits_at entries q ≡ Some ds → Sound after q ds
   old_sound q ds there =
       let old = h.waits q ds there in
-      sound_but events after p q ds turns.beside (lacks_living events p q ds (h.alive p here) old) old
+      sound_but events after p q ds becomes.beside (lacks_living events p q ds (h.alive p here) old) old
 
   away : (q : Path) (ds : List Delivery) → waits_at later q ≡ Some ds → same_path q p ≡ false
   away q ds there = (was_live q (waits_live (instance_at later q) ds there)).0

@@ -21,7 +21,7 @@ use Rattle.cilk_laws_placed.proofs.Family.{not_root}
 use Rattle.cilk_laws_placed.specs.FateLaws.{EachChoiceIsAnEvent, TheLivingLive, Moves, stays, returns, is_delivered, is_aborted, FatesMoveOn}
 use Rattle.cilk_laws_placed.proofs.Events.{told, moved_plain, IsPlain, told-plain, made-unborn, fate-made, HasFate, has_fate}
 use Rattle.cilk_laws_placed.proofs.Tales.{Tale, rests, parks_it, acts, takes, starts, brings, leaves, row_tale}
-use Rattle.cilk_laws_placed.proofs.Told.{Told, plain_told, Turns, delivered_turns, returned_turns, ended_turns, was_returned, taken_told}
+use Rattle.cilk_laws_placed.proofs.Told.{Told, plain_told, FateBecomes, delivered_fate, returned_fate, ended_fate, was_returned, taken_told}
 use Rattle.cilk_laws_placed.proofs.Sound.{Sound}
 use Rattle.cilk_laws_placed.proofs.Ended.{left_told, brought_told}
 use Rattle.cilk_laws_placed.proofs.Born.{same, same_made, or_left, born_told}
@@ -36,13 +36,13 @@ step_told events s p live rests alive h = still_told events s.instances h
 step_told events s p live parks_it alive h = still_told events s.instances h
 step_told events s p live (acts t did plain still) alive h = plain_told events did s.instances t.instances plain h alive still
 step_told events s p live (takes t c n taking) alive h =
-    taken_told events (events ++ delivered c n ∷ []) s.instances t.instances p c (suc (length events)) h (delivered_turns c n events) alive taking
+    taken_told events (events ++ delivered c n ∷ []) s.instances t.instances p c (suc (length events)) h (delivered_fate c n events) alive taking
 step_told events s p live (starts t c n started) alive h = born_told events s.instances t.instances p c n h alive started
 step_told events s p live (brings t n brought) alive h =
-    let turns = returned_turns p n events in
-    brought_told events (events ++ returned p n ∷ []) s.instances t.instances p has_returned (λ e. cc) live h turns alive brought turns.now
+    let becomes = returned_fate p n events in
+    brought_told events (events ++ returned p n ∷ []) s.instances t.instances p has_returned (λ e. cc) live h becomes alive brought becomes.now
 step_told events s p live (leaves t beside) alive h =
-    left_told events (events ++ ended p ∷ []) s.instances t.instances p (was_aborted (suc (length events))) (λ e. cc) live h (ended_turns p events) alive beside
+    left_told events (events ++ ended p ∷ []) s.instances t.instances p (was_aborted (suc (length events))) (λ e. cc) live h (ended_fate p events) alive beside
 
 -- what one more choice does to the fate of x
 abbrev MovesAt : ℕ → Fate → List Event → Path → Type 0
@@ -56,14 +56,14 @@ plain_moves : (events : List Event) (e : Event) (k : ℕ) (x : Path) (fate : Fat
 plain_moves events e k x fate plain has =
     stays_at events (events ++ e ∷ []) k x fate has (told-plain events e plain x) (λ made. made-unborn events e x (plain.birth x) ∙ made)
 
-turned_by : (events after : List Event) (c : Path) (new : Fate) (k : ℕ) → Turns c events after new → Moves k (told events c) new
+fate_moved_by : (events after : List Event) (c : Path) (new : Fate) (k : ℕ) → FateBecomes c events after new → Moves k (told events c) new
     → (x : Path) (fate : Fate) (b : Bool) → same_path c x ≡ b → HasFate events x fate → MovesAt k fate after x
-turned_by events after c new k turns moves x fate true e has =
+fate_moved_by events after c new k becomes moves x fate true e has =
     let is = same-is c x e in
     let was : told events c ≡ fate = ap (told events) is ∙ has.is in
-    (new, fate-made after x (turns.made x ∙ has.made) ∙ ap Some (ap (told after) (sym is) ∙ turns.now), subst (λ f. Moves k f new) was moves)
-turned_by events after c new k turns moves x fate false e has =
-    stays_at events after k x fate has (turns.beside x e) (λ made. turns.made x ∙ made)
+    (new, fate-made after x (becomes.made x ∙ has.made) ∙ ap Some (ap (told after) (sym is) ∙ becomes.now), subst (λ f. Moves k f new) was moves)
+fate_moved_by events after c new k becomes moves x fate false e has =
+    stays_at events after k x fate has (becomes.beside x e) (λ made. becomes.made x ∙ made)
 
 step_moves : (events : List Event) (s : State) (p : Path) {taken : Step} → is_live s.instances p ≡ true → Tale s p taken → Lives s p taken
     → Told events s.instances → (x : Path) (fate : Fate) → HasFate events x fate
@@ -72,18 +72,18 @@ step_moves events s p live rests alive h x fate has = plain_moves events moved (
 step_moves events s p live parks_it alive h x fate has = plain_moves events moved (suc (length events)) x fate moved_plain has
 step_moves events s p live (acts t did plain still) alive h x fate has = plain_moves events did (suc (length events)) x fate plain has
 step_moves events s p live (takes t c n taking) alive h x fate has =
-    let turns = delivered_turns c n events in
-    let was = was_returned events (events ++ delivered c n ∷ []) s.instances t.instances p c (suc (length events)) h turns alive taking in
-    turned_by events (events ++ delivered c n ∷ []) c (was_delivered (suc (length events))) (suc (length events)) turns
+    let becomes = delivered_fate c n events in
+    let was = was_returned events (events ++ delivered c n ∷ []) s.instances t.instances p c (suc (length events)) h becomes alive taking in
+    fate_moved_by events (events ++ delivered c n ∷ []) c (was_delivered (suc (length events))) (suc (length events)) becomes
     (subst (λ f. Moves (suc (length events)) f (was_delivered (suc (length events)))) (sym was) is_delivered) x fate (same_path c x) refl has
 step_moves events s p live (starts t c n started) alive h x fate has =
     stays_at events (events ++ spawned c n ∷ []) (suc (length events)) x fate has (same events s.instances t.instances p c n h alive started x)
     (λ made. same_made events s.instances t.instances p c n h alive started x ∙ or_left (was_made events x) (same_path c x) made)
 step_moves events s p live (brings t n brought) alive h x fate has =
-    turned_by events (events ++ returned p n ∷ []) p has_returned (suc (length events)) (returned_turns p n events)
+    fate_moved_by events (events ++ returned p n ∷ []) p has_returned (suc (length events)) (returned_fate p n events)
     (subst (λ f. Moves (suc (length events)) f has_returned) (sym (h.alive p live)) returns) x fate (same_path p x) refl has
 step_moves events s p live (leaves t beside) alive h x fate has =
-    turned_by events (events ++ ended p ∷ []) p (was_aborted (suc (length events))) (suc (length events)) (ended_turns p events)
+    fate_moved_by events (events ++ ended p ∷ []) p (was_aborted (suc (length events))) (suc (length events)) (ended_fate p events)
     (subst (λ f. Moves (suc (length events)) f (was_aborted (suc (length events)))) (sym (h.alive p live)) is_aborted) x fate (same_path p x) refl has
 
 -- both, of one choice

@@ -8,10 +8,10 @@ use Rattle.cilk_model.specs.Path.{Path, is_that}
 use Rattle.cilk_model.specs.State.{PathsAreApart, Entry, Instances, is_live, has_live_child}
 use Rattle.cilk_model.specs.Scheduler.{Worker, no_place, bottom_of}
 use Rattle.cilk_model.specs.Run.{Standing}
-use Rattle.cilk_laws_placed.specs.Places.{worker_paths, EachInItsPlace}
+use Rattle.cilk_laws_placed.specs.Hands.{worker_paths, EachInItsPlace}
 use Rattle.cilk_laws_placed.specs.Laws.{NoMoreLeavesThanWorkers}
 use Rattle.cilk_laws_placed.proofs.Entries.{same-self}
-use Rattle.cilk_laws_placed.proofs.Places.{once}
+use Rattle.cilk_laws_placed.proofs.Hands.{once}
 use Rattle.cilk_laws_placed.proofs.Parked.{in_front, behind}
 use Rattle.cilk_laws_placed.proofs.Kept.{always}
 use Rattle.cilk_laws_placed.proofs.Leaves.{leaf_is_busy}

@@ -11,12 +11,12 @@ use Rattle.cilk_model.specs.Pick.{Step, step_of_live}
 use Rattle.cilk_model.specs.Scheduler.{hand_of}
 use Rattle.cilk_model.specs.Choice.{Act, step, pop, steal, Choice}
 use Rattle.cilk_model.specs.Run.{Standing, Position, state_after, next_by_hand, next_by, after}
-use Rattle.cilk_laws_placed.specs.Places.{EachInItsPlace}
+use Rattle.cilk_laws_placed.specs.Hands.{EachInItsPlace}
 use Rattle.cilk_laws_placed.specs.Laws.{FinishedIsEmpty}
 use Rattle.cilk_model.proofs.Runs.{at_each}
 use Rattle.cilk_laws_placed.proofs.Possible.{possible}
 use Rattle.cilk_laws_placed.proofs.Rows.{Row, headless, locked, parked, stopping, going, writing, calling, leaving, answering, spawning, printing}
-use Rattle.cilk_laws_placed.proofs.Rows.{turning, marking, returning, placing, taking, aborting, step_row}
+use Rattle.cilk_laws_placed.proofs.Rows.{turning_lock, marking, returning, placing, taking, aborting, step_row}
 use Rattle.cilk_laws_placed.proofs.Live.{Lives, row_lives}
 use Rattle.cilk_laws_placed.proofs.Family.{Family, is-child, child_seen, counted_live, family_of}
 use Rattle.cilk_laws_placed.proofs.Parked.{in_front}
@@ -105,7 +105,7 @@ module _ (program : Labelled) (s : State) (p : Path) (i : Instance) (live : inst
   row_empty (answering n cell z) lives = λ v e q. still v e
   row_empty (spawning head receiver callee zs heads few room) lives = λ z e q. still z e
   row_empty (printing head bytes heads room) lives = λ z e q. still z e
-  row_empty (turning head what k now heads turn) lives = λ z e q. still z e
+  row_empty (turning_lock head what k now heads becomes) lives = λ z e q. still z e
   row_empty (marking head heads) lives = λ z e q. still z e
   row_empty (returning n z none lockless unmarked) lives = returned_empty z (parent_of p) refl none lives.live
   row_empty (placing oldest others cell z n takes) lives = λ v e q. still v e

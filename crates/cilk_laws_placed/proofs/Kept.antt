@@ -10,13 +10,13 @@ use Rattle.cilk_model.specs.State.{is_live, opening_state}
 use Rattle.cilk_model.specs.Scheduler.{no_place, hand_of}
 use Rattle.cilk_model.specs.Choice.{Choice}
 use Rattle.cilk_model.specs.Run.{Standing, Position, refusal_of, next_of, opening, is_crew, after}
-use Rattle.cilk_laws_placed.specs.Places.{times_held, EachInItsPlace}
+use Rattle.cilk_laws_placed.specs.Hands.{times_held, EachInItsPlace}
 use Rattle.cilk_laws_placed.specs.Laws.{PlacesAreKept}
 use Rattle.cilk_laws_placed.proofs.Entries.{same-sym, times-cons}
 use Rattle.cilk_model.proofs.Runs.{at_each}
 use Rattle.cilk_laws_placed.proofs.Possible.{possible}
 use Rattle.cilk_laws_placed.proofs.Family.{root_family, counted, family_of}
-use Rattle.cilk_laws_placed.proofs.Places.{once, held, given, Placed, keeps_places}
+use Rattle.cilk_laws_placed.proofs.Hands.{once, held, given, Placed, keeps_places}
 use Rattle.cilk_laws_placed.proofs.Deques.{act_lines, opening_lines}
 use Rattle.cilk_laws_placed.proofs.Parked.{act_have, none_parked}
 

@@ -8,12 +8,12 @@ use Rattle.cilk_model.specs.Path.{Path, same_path, is_that, is_child}
 use Rattle.cilk_model.specs.State.{is_live, has_live_child}
 use Rattle.cilk_model.specs.Scheduler.{Worker, no_place, worker_at, hand_of, bottom_of}
 use Rattle.cilk_model.specs.Run.{Standing, is_worker}
-use Rattle.cilk_laws_placed.specs.Places.{times_held, EachInItsPlace, Descends, in_hand, worker_paths}
+use Rattle.cilk_laws_placed.specs.Hands.{times_held, EachInItsPlace, Descends, in_hand, worker_paths}
 use Rattle.cilk_laws_placed.specs.Laws.{EachLeafIsBusy}
 use Rattle.cilk_laws_placed.proofs.Stuck.{within}
 use Rattle.cilk_laws_placed.proofs.Entries.{same-is, same-self}
 use Rattle.cilk_laws_placed.proofs.Family.{child_seen}
-use Rattle.cilk_laws_placed.proofs.Places.{once, held, seat}
+use Rattle.cilk_laws_placed.proofs.Hands.{once, held, seat}
 use Rattle.cilk_laws_placed.proofs.Kept.{always}
 
 -- a worker's place in which a path stands

@@ -4,7 +4,7 @@ pub mod Entries
 pub mod Rows
 pub mod Live
 pub mod Family
-pub mod Places
+pub mod Hands
 pub mod Deques
 pub mod Parked
 pub mod Kept

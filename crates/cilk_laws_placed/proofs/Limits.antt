@@ -13,7 +13,7 @@ use Rattle.cilk_model.specs.Run.{Standing, Position, state_after, next_by_hand, 
 use Rattle.cilk_laws_placed.specs.Laws.{LimitsAreKept}
 use Rattle.cilk_model.proofs.Runs.{at_each}
 use Rattle.cilk_laws_placed.proofs.Rows.{Row, headless, locked, parked, stopping, going, writing, calling, leaving, answering, spawning, printing}
-use Rattle.cilk_laws_placed.proofs.Rows.{turning, marking, returning, placing, taking, aborting, step_row}
+use Rattle.cilk_laws_placed.proofs.Rows.{turning_lock, marking, returning, placing, taking, aborting, step_row}
 use Rattle.cilk_laws_placed.proofs.Live.{Lives, step_lives}
 use Rattle.cilk_laws_placed.proofs.Each.{Keeps, held_at}
 
@@ -80,7 +80,7 @@ row_prints (leaving n) few = few
 row_prints (answering n cell z) few = few
 row_prints (spawning head receiver callee zs heads some room) few = few
 row_prints {s = s} (printing head bytes heads room) few = let size = length-append s.output bytes in omega arith
-row_prints (turning head what k now heads turn) few = few
+row_prints (turning_lock head what k now heads becomes) few = few
 row_prints (marking head heads) few = few
 row_prints {s = s} {p = p} {i = i} (returning n z none lockless unmarked) few = return_prints s p i z (parent_of p) few
 row_prints (placing oldest others cell z n takes) few = few

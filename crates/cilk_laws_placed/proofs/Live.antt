@@ -14,7 +14,7 @@ use Rattle.cilk_laws_placed.proofs.Entries.{times, live-cons, times-cons, live-c
 use Rattle.cilk_laws_placed.proofs.Entries.{children-changed, at-changed_same, at-changed_other, at-without_other, either_of, at-push, live-push}
 use Rattle.cilk_laws_placed.proofs.Entries.{times-push, live_some}
 use Rattle.cilk_laws_placed.proofs.Rows.{Row, headless, locked, parked, stopping, going, writing, calling, leaving, answering, spawning, printing}
-use Rattle.cilk_laws_placed.proofs.Rows.{turning, marking, returning, placing, taking, aborting, step_row}
+use Rattle.cilk_laws_placed.proofs.Rows.{turning_lock, marking, returning, placing, taking, aborting, step_row}
 
 -- the same paths live, with as many children
 pub record Alike (entries after : Instances) : Type 0 where
@@ -182,7 +182,7 @@ module _ (program : Labelled) (s : State) (p : Path) (i : Instance) (live : inst
   row_lives (answering n cell z) = replaced (put cell z (resumed i)) (children-resumed i i.below)
   row_lives (spawning head receiver callee zs heads few room) = birth_more s p i _ _ live refl few
   row_lives (printing head bytes heads room) = replaced (gone_on (pos 1) i) refl
-  row_lives (turning head what k now heads turn) = replaced (gone_on (pos 1) i) refl
+  row_lives (turning_lock head what k now heads becomes) = replaced (gone_on (pos 1) i) refl
   row_lives (marking head heads) =
       alike_both s.instances (changed p (λ _. gone_on (pos 1) i) s.instances) _ (replaced (gone_on (pos 1) i) refl)
       (marks_alike p (changed p (λ _. gone_on (pos 1) i) s.instances))
@@ -218,7 +218,7 @@ row_waited (leaving n) = tt
 row_waited (answering n cell z) = tt
 row_waited (spawning head receiver callee zs heads few room) = tt
 row_waited (printing head bytes heads room) = tt
-row_waited (turning head what k now heads turn) = tt
+row_waited (turning_lock head what k now heads becomes) = tt
 row_waited (marking head heads) = tt
 row_waited (returning n z none lockless unmarked) = none
 row_waited (placing oldest others cell z n takes) = tt

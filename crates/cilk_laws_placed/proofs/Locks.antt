@@ -10,7 +10,7 @@ use Rattle.cilk_model.specs.labelled.Labelled.{Labelled}
 use Rattle.cilk_model.specs.Path.{Path, same_path, parent_of}
 use Rattle.cilk_model.specs.Instance.{Instance}
 use Rattle.cilk_model.specs.State.{Lock, unset, free, held, State, instance_at, is_live, lock_at}
-use Rattle.cilk_model.specs.Change.{turned, refused, blocked, turn_by, is_held_by, released, after_return_to}
+use Rattle.cilk_model.specs.Change.{lock_turned, refused, blocked, lock_turn_by, is_held_by, released, after_return_to}
 use Rattle.cilk_model.specs.Pick.{Step, step_of_live}
 use Rattle.cilk_model.specs.Scheduler.{hand_of}
 use Rattle.cilk_model.specs.Choice.{Act, step, pop, steal}
@@ -19,7 +19,7 @@ use Rattle.cilk_laws_placed.specs.Locks.{HoldersLive, EachHolderLives}
 use Rattle.cilk_laws_placed.proofs.Entries.{same-is, same-self}
 use Rattle.cilk_model.proofs.Runs.{at_each}
 use Rattle.cilk_laws_placed.proofs.Rows.{Row, headless, locked, parked, stopping, going, writing, calling, leaving, answering, spawning, printing}
-use Rattle.cilk_laws_placed.proofs.Rows.{turning, marking, returning, placing, taking, aborting, step_row}
+use Rattle.cilk_laws_placed.proofs.Rows.{turning_lock, marking, returning, placing, taking, aborting, step_row}
 use Rattle.cilk_laws_placed.proofs.Live.{Lives, row_lives}
 
 -- what stands at place k
@@ -33,22 +33,22 @@ set_by (lock ∷ locks) zero now (suc k) = inr refl
 set_by (lock ∷ locks) (suc j) now zero = inr refl
 set_by (lock ∷ locks) (suc j) now (suc k) = set_by locks j now k
 
-turned_by : (p q : Path) (what : LockAction) (lock : Lock) → turn_by p what lock ≡ turned (held q) → q ≡ p
-turned_by p q Init unset h = cc
-turned_by p q Init free h = cc
-turned_by p q Init (held r) h = cc
-turned_by p q action.Lock unset h = cc
-turned_by p q action.Lock free h = cc
-turned_by p q action.Lock (held r) h = absurd (by (same_path r p) h)
+lock_turned_by : (p q : Path) (what : LockAction) (lock : Lock) → lock_turn_by p what lock ≡ lock_turned (held q) → q ≡ p
+lock_turned_by p q Init unset h = cc
+lock_turned_by p q Init free h = cc
+lock_turned_by p q Init (held r) h = cc
+lock_turned_by p q action.Lock unset h = cc
+lock_turned_by p q action.Lock free h = cc
+lock_turned_by p q action.Lock (held r) h = absurd (by (same_path r p) h)
   where
-    by : (b : Bool) → (if b then refused else blocked) ≡ turned (held q) → ⊥
+    by : (b : Bool) → (if b then refused else blocked) ≡ lock_turned (held q) → ⊥
     by true h = cc
     by false h = cc
-turned_by p q Unlock unset h = cc
-turned_by p q Unlock free h = cc
-turned_by p q Unlock (held r) h = absurd (by (same_path r p) h)
+lock_turned_by p q Unlock unset h = cc
+lock_turned_by p q Unlock free h = cc
+lock_turned_by p q Unlock (held r) h = absurd (by (same_path r p) h)
   where
-    by : (b : Bool) → (if b then turned free else refused) ≡ turned (held q) → ⊥
+    by : (b : Bool) → (if b then lock_turned free else refused) ≡ lock_turned (held q) → ⊥
     by true h = cc
     by false h = cc
 
@@ -95,14 +95,14 @@ live_too true l h = refl
 live_too false l h = h
 
 module _ (program : Labelled) (s : State) (p : Path) (i : Instance) (live : instance_at s.instances p ≡ Some i) (kept : HoldersLive s) where
-  turned_live : (j : ℕ) (what : LockAction) (now : Lock) → turn_by p what (lock_at s j) ≡ turned now → (k : ℕ) (q : Path)
+  lock_turned_live : (j : ℕ) (what : LockAction) (now : Lock) → lock_turn_by p what (lock_at s j) ≡ lock_turned now → (k : ℕ) (q : Path)
       → at_place (slice_set s.locks j now) k ≡ held q
       → is_live s.instances q ≡ true
-  turned_live j what now turn k q h =
+  lock_turned_live j what now becomes k q h =
       elim (set_by s.locks j now k) [
         | inl is ↦
             let new : now ≡ held q = sym is ∙ h in
-            ap (is_live s.instances) (turned_by p q what (lock_at s j) (turn ∙ ap turned new)) ∙ ap is_some live
+            ap (is_live s.instances) (lock_turned_by p q what (lock_at s j) (becomes ∙ ap lock_turned new)) ∙ ap is_some live
         | inr old ↦ kept k q (sym old ∙ h)
       ]
 
@@ -118,7 +118,7 @@ module _ (program : Labelled) (s : State) (p : Path) (i : Instance) (live : inst
   row_holders (answering n cell z) lives = λ k q h. lives.live q ∙ kept k q h
   row_holders (spawning head receiver callee zs heads few room) lives = λ k q h. lives.live q ∙ live_too _ (is_live s.instances q) (kept k q h)
   row_holders (printing head bytes heads room) lives = λ k q h. lives.live q ∙ kept k q h
-  row_holders (turning head what j now heads turn) lives = λ k q h. lives.live q ∙ turned_live j what now turn k q h
+  row_holders (turning_lock head what j now heads becomes) lives = λ k q h. lives.live q ∙ lock_turned_live j what now becomes k q h
   row_holders (marking head heads) lives = λ k q h. lives.live q ∙ kept k q h
   row_holders (returning n z none lockless unmarked) lives = λ k q h.
       let before : lock_at s k ≡ held q = sym (ap (λ locks. at_place locks k) (return_locks s p i z (parent_of p))) ∙ h in

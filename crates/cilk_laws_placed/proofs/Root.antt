@@ -13,7 +13,7 @@ use Rattle.cilk_laws_placed.proofs.Entries.{same-is}
 use Rattle.cilk_model.proofs.Runs.{at_each}
 use Rattle.cilk_laws_placed.proofs.Possible.{possible}
 use Rattle.cilk_laws_placed.proofs.Rows.{Row, headless, locked, parked, stopping, going, writing, calling, leaving, answering, spawning, printing}
-use Rattle.cilk_laws_placed.proofs.Rows.{turning, marking, returning, placing, taking, aborting, step_row}
+use Rattle.cilk_laws_placed.proofs.Rows.{turning_lock, marking, returning, placing, taking, aborting, step_row}
 use Rattle.cilk_laws_placed.proofs.Live.{Lives, step_lives}
 use Rattle.cilk_laws_placed.proofs.Family.{not_root}
 use Rattle.cilk_laws_placed.proofs.Each.{Keeps, Each, found, act_each}
@@ -77,7 +77,7 @@ row_ends h (leaving n) = tt
 row_ends h (answering n cell z) = tt
 row_ends h (spawning head receiver callee zs heads few room) = tt
 row_ends h (printing head bytes heads room) = tt
-row_ends h (turning head what k now heads turn) = tt
+row_ends h (turning_lock head what k now heads becomes) = tt
 row_ends h (marking head heads) = tt
 row_ends {s = s} {p = p} {i = i} h (returning n z none lockless unmarked) = return_child s p i z (parent_of p) refl
 row_ends h (placing oldest others cell z n takes) = tt

@@ -12,23 +12,23 @@ use Rattle.cilk_model.specs.labelled.Labelled.{Labelled, Numbered, Declaration, 
 use Rattle.cilk_model.specs.labelled.Labelled.{locking, null, break_off, go_round, tests, sync, abort, return_with, return_nothing, close}
 use Rattle.cilk_model.specs.labelled.Items.{head_of}
 use Rattle.cilk_model.specs.Values.{Cell, Reached, environment, read_at, reached_at, reached_if, combined}
-use Rattle.cilk_model.specs.Effect.{Effect, writes, answers, enters, gives, starts, writes_out, turns, marks, start_of, effect_of}
+use Rattle.cilk_model.specs.Effect.{Effect, writes, answers, enters, gives, starts, writes_out, turns_lock, marks, start_of, effect_of}
 use Rattle.cilk_model.specs.Path.{Path, same_path, child_path}
 use Rattle.cilk_model.specs.Instance as instance
 use Rattle.cilk_model.specs.Instance.{Receiver, place, Delivery, Instance}
 use Rattle.cilk_model.specs.State.{TrapKind, Lock, unset, free, held, State, has_live_child, is_synched, store_of, is_empty, lock_at}
-use Rattle.cilk_model.specs.Change.{Turn, turned, refused, blocked, turn_by, turn_of, leaves, is_sync, waits_here, head_waits, at_boundary}
+use Rattle.cilk_model.specs.Change.{LockTurn, lock_turned, refused, blocked, lock_turn_by, lock_turn_of, leaves, is_sync, waits_here, head_waits, at_boundary}
 use Rattle.cilk_model.specs.Change.{ends_thread, holds_lock, leaves_function, resumed, after_write, after_going, after_call, after_leaving}
 use Rattle.cilk_model.specs.Change.{after_answer, after_start, after_print, after_lock, after_marks, after_return, after_place, after_inlet}
 use Rattle.cilk_model.specs.Change.{after_abort}
 use Rattle.cilk_model.specs.Event as event
 use Rattle.cilk_model.specs.Pick.{Step, waits, parks, goes_on, ends, spawns, traps, if_room, step_by_combined, step_by_answer, step_by_leaving}
-use Rattle.cilk_model.specs.Pick.{step_by_turn, step_by_effect, step_by_head, step_by_place, step_by_receiver, step_at_boundary, step_of_instance}
+use Rattle.cilk_model.specs.Pick.{step_by_lock_turn, step_by_effect, step_by_head, step_by_place, step_by_receiver, step_at_boundary, step_of_instance}
 
 -- what an effect tells of its action
 abbrev TellsLeaving : Action → Result Effect Trap → Type 0
 TellsLeaving act (Ok (gives z)) = leaves act ≡ true
-TellsLeaving act (Ok (turns what k)) = act ≡ locking what k
+TellsLeaving act (Ok (turns_lock what k)) = act ≡ locking what k
 TellsLeaving act (Ok other) = leaves act ≡ false
 TellsLeaving act (Err trap) = Unit {0}
 
@@ -104,7 +104,7 @@ pub data Row (program : Labelled) (s : State) (p : Path) (i : Instance) : Step �
       (event.spawned (child_path p (i.children + 1)) head.number))
   printing : (head : Numbered) (bytes : List ℕ) → Heads i head → length s.output + length bytes ≤ 1048576
       → Row program s p i (goes_on (after_print s p i bytes) (event.acted p head.number))
-  turning : (head : Numbered) (what : LockAction) (k : ℕ) (now : Lock) → Heads i head → turn_of s p what k ≡ turned now
+  turning_lock : (head : Numbered) (what : LockAction) (k : ℕ) (now : Lock) → Heads i head → lock_turn_of s p what k ≡ lock_turned now
       → Row program s p i (goes_on (after_lock s p i k now) (event.acted p head.number))
   marking : (head : Numbered) → Heads i head → Row program s p i (goes_on (after_marks s p i) (event.acted p head.number))
   returning : (n : ℕ) (z : ℤ) → has_live_child s.instances p ≡ false → holds_lock s p ≡ false → i.aborted ≡ false
@@ -115,7 +115,7 @@ pub data Row (program : Labelled) (s : State) (p : Path) (i : Instance) : Step �
       → Row program s p i (goes_on (after_inlet program s p i others inlet zs) (event.delivered oldest.child n))
   aborting : i.aborted ≡ true → has_live_child s.instances p ≡ false → Row program s p i (ends (after_abort s p) (event.ended p))
 
-blocked_by : (s : State) (p : Path) (k : ℕ) (what : LockAction) (lock : Lock) → lock_at s k ≡ lock → turn_by p what lock ≡ blocked
+blocked_by : (s : State) (p : Path) (k : ℕ) (what : LockAction) (lock : Lock) → lock_at s k ≡ lock → lock_turn_by p what lock ≡ blocked
     → WaitsFor s p (locking what k)
 blocked_by s p k Init unset e h = cc
 blocked_by s p k Init free e h = cc
@@ -124,7 +124,7 @@ blocked_by s p k Unlock unset e h = cc
 blocked_by s p k Unlock free e h = cc
 blocked_by s p k Unlock (held q) e h = absurd (by (same_path q p) h)
   where
-    by : (b : Bool) → (if b then turned free else refused) ≡ blocked → ⊥
+    by : (b : Bool) → (if b then lock_turned free else refused) ≡ blocked → ⊥
     by true h = cc
     by false h = cc
 blocked_by s p k action.Lock unset e h = cc
@@ -197,14 +197,14 @@ module _ (program : Labelled) (s : State) (p : Path) (i : Instance) where
   leaving_row n z unmarked none = cond_both (is_empty i.below) _ _ (Row program s p i) (λ alone. let idle = none alone in returning n z idle.0 idle.1 unmarked)
       (λ _. cond_both (leaves_function program i) _ _ (Row program s p i) (λ _. answer_row n i.top.awaits z) (λ _. leaving n))
 
-  turn_row : (head : Numbered) (what : LockAction) (k : ℕ) → head_of i.top.items ≡ Some head → head.act ≡ locking what k → (turn : Turn)
-      → turn_of s p what k ≡ turn
-      → Row program s p i (step_by_turn s p i head.number k turn)
-  turn_row head what k first is blocked e =
+  lock_turn_row : (head : Numbered) (what : LockAction) (k : ℕ) → head_of i.top.items ≡ Some head → head.act ≡ locking what k → (lock_turn : LockTurn)
+      → lock_turn_of s p what k ≡ lock_turn
+      → Row program s p i (step_by_lock_turn s p i head.number k lock_turn)
+  lock_turn_row head what k first is blocked e =
       locked head first (subst (WaitsFor s p) (sym is) (blocked_by s p k what (lock_at s k) refl e))
-  turn_row head what k first is refused e = stopping head.number _
-  turn_row head what k first is (turned now) e =
-      turning head what k now (record { first = first; stays = ap leaves is }) e
+  lock_turn_row head what k first is refused e = stopping head.number _
+  lock_turn_row head what k first is (lock_turned now) e =
+      turning_lock head what k now (record { first = first; stays = ap leaves is }) e
 
   effect_row : (head : Numbered) → i.aborted ≡ false → head_of i.top.items ≡ Some head
       → (ends_thread program i head.act && holds_lock s p) ≡ false → (waits_here i head.act && not (is_synched s p i)) ≡ false
@@ -229,7 +229,7 @@ module _ (program : Labelled) (s : State) (p : Path) (i : Instance) where
   effect_row head unmarked first lockless ready (Ok (writes_out bytes)) tells =
       room_row head.number _ (nat_le (length s.output + length bytes) 1048576) _
       (λ room. printing head bytes (record { first = first; stays = tells }) (leb-true (length s.output + length bytes) 1048576 room))
-  effect_row head unmarked first lockless ready (Ok (turns what k)) tells = turn_row head what k first tells (turn_of s p what k) refl
+  effect_row head unmarked first lockless ready (Ok (turns_lock what k)) tells = lock_turn_row head what k first tells (lock_turn_of s p what k) refl
   effect_row head unmarked first lockless ready (Ok marks) tells = marking head (record { first = first; stays = tells })
 
   head_row : (o : Option Numbered) → i.aborted ≡ false → head_of i.top.items ≡ o → (head_waits i o ≡ true → is_empty i.waiting ≡ true)

@@ -10,7 +10,7 @@ use Rattle.cilk_model.specs.Event.{Event, spawned, delivered, returned, ended}
 use Rattle.cilk_model.specs.Pick.{Step, waits, parks, goes_on, ends, spawns}
 use Rattle.cilk_laws_placed.proofs.Entries.{same-self, live-changed}
 use Rattle.cilk_laws_placed.proofs.Rows.{Row, headless, locked, parked, stopping, going, writing, calling, leaving, answering, spawning, printing}
-use Rattle.cilk_laws_placed.proofs.Rows.{turning, marking, returning, placing, taking, aborting}
+use Rattle.cilk_laws_placed.proofs.Rows.{turning_lock, marking, returning, placing, taking, aborting}
 use Rattle.cilk_laws_placed.proofs.Events.{IsPlain, acted_plain, trapped_plain}
 use Rattle.cilk_laws_placed.proofs.Waits.{waits_at, at-replaced, beside-changed, beside-without, still-replaced, at-brought, still-marked}
 use Rattle.cilk_laws_placed.proofs.Waits.{still-pushed, at-pushed}
@@ -120,7 +120,7 @@ module _ (program : Labelled) (s : State) (p : Path) (i : Instance) (live : inst
   row_tale (answering n cell z) = acts _ _ (acted_plain p n) (still (put cell z (resumed i)) (waits-caller i i.below))
   row_tale (spawning head receiver callee zs heads few room) = starts _ _ head.number (born _ _ refl refl _)
   row_tale (printing head bytes heads room) = acts _ _ (acted_plain p head.number) (still (gone_on (pos 1) i) refl)
-  row_tale (turning head what k now heads turn) = acts _ _ (acted_plain p head.number) (still (gone_on (pos 1) i) refl)
+  row_tale (turning_lock head what k now heads becomes) = acts _ _ (acted_plain p head.number) (still (gone_on (pos 1) i) refl)
   row_tale (marking head heads) =
       acts _ _ (acted_plain p head.number) (λ q. still-marked p (changed p (λ _. gone_on (pos 1) i) s.instances) q ∙ still (gone_on (pos 1) i) refl q)
   row_tale (returning n z none lockless unmarked) = brings _ n (brought z (parent_of p) refl)

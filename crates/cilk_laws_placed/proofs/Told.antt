@@ -41,7 +41,7 @@ plain_told events e entries after plain h alike still = record {
     same_made x = made-unborn events e x (plain.birth x)
 
 -- the fate of c alone is another
-pub record Turns (c : Path) (events after : List Event) (fate : Fate) : Type 0 where
+pub record FateBecomes (c : Path) (events after : List Event) (fate : Fate) : Type 0 where
   pub now : told after c ≡ fate
   pub beside : (x : Path) → same_path c x ≡ false → told after x ≡ told events x
   pub made : (x : Path) → was_made after x ≡ was_made events x
@@ -60,22 +60,22 @@ passed c x fate other e = by (same_path c x) e
     by true h = cc
     by false h = refl
 
-pub delivered_turns : (c : Path) (n : ℕ) (events : List Event) → Turns c events (events ++ delivered c n ∷ []) (was_delivered (suc (length events)))
-delivered_turns c n events = record {
+pub delivered_fate : (c : Path) (n : ℕ) (events : List Event) → FateBecomes c events (events ++ delivered c n ∷ []) (was_delivered (suc (length events)))
+delivered_fate c n events = record {
   now = told-push c events (delivered c n) ∙ chosen c c _ _ (same-self c);
   beside = λ x other. told-push x events (delivered c n) ∙ passed c x _ _ other;
   made = λ x. made-unborn events (delivered c n) x refl;
 }
 
-pub returned_turns : (c : Path) (n : ℕ) (events : List Event) → Turns c events (events ++ returned c n ∷ []) has_returned
-returned_turns c n events = record {
+pub returned_fate : (c : Path) (n : ℕ) (events : List Event) → FateBecomes c events (events ++ returned c n ∷ []) has_returned
+returned_fate c n events = record {
   now = told-push c events (returned c n) ∙ chosen c c _ _ (same-self c);
   beside = λ x other. told-push x events (returned c n) ∙ passed c x _ _ other;
   made = λ x. made-unborn events (returned c n) x refl;
 }
 
-pub ended_turns : (c : Path) (events : List Event) → Turns c events (events ++ ended c ∷ []) (was_aborted (suc (length events)))
-ended_turns c events = record {
+pub ended_fate : (c : Path) (events : List Event) → FateBecomes c events (events ++ ended c ∷ []) (was_aborted (suc (length events)))
+ended_fate c events = record {
   now = told-push c events (ended c) ∙ chosen c c _ _ (same-self c);
   beside = λ x other. told-push x events (ended c) ∙ passed c x _ _ other;
   made = λ x. made-unborn events (ended c) x refl;
@@ -85,24 +85,24 @@ some_same : {A : Type 0} (x y : A) → Some x ≡ Some y → x ≡ y
 some_same x y e = cc
 
 -- whether x is c, or its fate stays
-module _ (c : Path) (events after : List Event) (fate : Fate) (turns : Turns c events after fate) where
+module _ (c : Path) (events after : List Event) (fate : Fate) (becomes : FateBecomes c events after fate) where
   alive_by : (x : Path) (b : Bool) → same_path c x ≡ b → (b ≡ true → ⊥) → told events x ≡ lives → told after x ≡ lives
   alive_by x true e other alive = absurd (other refl)
-  alive_by x false e other alive = turns.beside x e ∙ alive
+  alive_by x false e other alive = becomes.beside x e ∙ alive
 
   pub stays_alive : (x : Path) → (same_path c x ≡ true → ⊥) → told events x ≡ lives → told after x ≡ lives
   stays_alive x other alive = alive_by x (same_path c x) refl other alive
 
   living_by : (x : Path) (b : Bool) → same_path c x ≡ b → (fate ≡ lives → ⊥) → told after x ≡ lives → (b ≡ false) × (told events x ≡ lives)
-  living_by x true e dead alive = absurd (dead (sym turns.now ∙ ap (told after) (same-is c x e) ∙ alive))
-  living_by x false e dead alive = (refl, sym (turns.beside x e) ∙ alive)
+  living_by x true e dead alive = absurd (dead (sym becomes.now ∙ ap (told after) (same-is c x e) ∙ alive))
+  living_by x false e dead alive = (refl, sym (becomes.beside x e) ∙ alive)
 
   pub was_alive : (x : Path) → (fate ≡ lives → ⊥) → told after x ≡ lives → (same_path c x ≡ false) × (told events x ≡ lives)
   was_alive x dead alive = living_by x (same_path c x) refl dead alive
 
 -- after a delivery is taken
 module _ (events after : List Event) (entries later : Instances) (p c : Path) (k : ℕ) (h : Told events entries)
-    (turns : Turns c events after (was_delivered k)) (alike : Alike entries later) (taken : Taken p c entries later) where
+    (becomes : FateBecomes c events after (was_delivered k)) (alike : Alike entries later) (taken : Taken p c entries later) where
   before : Sound events p (taken.oldest ∷ taken.others)
   before = h.waits p (taken.oldest ∷ taken.others) taken.before
 
@@ -122,18 +122,18 @@ module _ (events after : List Event) (entries later : Instances) (p c : Path) (k
   waits_by q ds true e there =
       let same = same-is q p e in
       let is : taken.others ≡ ds = some_same taken.others ds (sym taken.now ∙ ap (waits_at later) (sym same) ∙ there) in
-      subst (λ x. Sound after x ds) (sym same) (subst (Sound after p) is (sound_but events after c p taken.others turns.beside lacks_others before.3))
+      subst (λ x. Sound after x ds) (sym same) (subst (Sound after p) is (sound_but events after c p taken.others becomes.beside lacks_others before.3))
   waits_by q ds false e there =
       let old = h.waits q ds (sym (taken.beside q e) ∙ there) in
-      sound_but events after c q ds turns.beside (lacks_foreign events c p q ds parent e old) old
+      sound_but events after c q ds becomes.beside (lacks_foreign events c p q ds parent e old) old
 
   pub taken_told : Told after later
   taken_told = record {
-    made = λ x live. turns.made x ∙ h.made x (sym (alike.live x) ∙ live);
-    alive = λ x live. let alive = h.alive x (sym (alike.live x) ∙ live) in stays_alive c events after _ turns x (not_alive x alive) alive;
-    living = λ x made alive. alike.live x ∙ h.living x (sym (turns.made x) ∙ made) (was_alive c events after _ turns x (λ e. cc) alive).1;
-    unmade = λ x none. let alive = h.unmade x (sym (turns.made x) ∙ none) in stays_alive c events after _ turns x (not_alive x alive) alive;
-    counted = λ x j n made there. h.counted x j n (sym (turns.made (child_path x j)) ∙ made) (sym (alike.children x) ∙ there);
-    parents = λ x j made. turns.made x ∙ h.parents x j (sym (turns.made (child_path x j)) ∙ made);
+    made = λ x live. becomes.made x ∙ h.made x (sym (alike.live x) ∙ live);
+    alive = λ x live. let alive = h.alive x (sym (alike.live x) ∙ live) in stays_alive c events after _ becomes x (not_alive x alive) alive;
+    living = λ x made alive. alike.live x ∙ h.living x (sym (becomes.made x) ∙ made) (was_alive c events after _ becomes x (λ e. cc) alive).1;
+    unmade = λ x none. let alive = h.unmade x (sym (becomes.made x) ∙ none) in stays_alive c events after _ becomes x (not_alive x alive) alive;
+    counted = λ x j n made there. h.counted x j n (sym (becomes.made (child_path x j)) ∙ made) (sym (alike.children x) ∙ there);
+    parents = λ x j made. becomes.made x ∙ h.parents x j (sym (becomes.made (child_path x j)) ∙ made);
     waits = λ q ds there. waits_by q ds (same_path q p) refl there;
   }

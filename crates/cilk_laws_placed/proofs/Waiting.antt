@@ -11,12 +11,12 @@ use Rattle.cilk_model.specs.Pick.{Step, waits, parks, goes_on, ends, spawns, ste
 use Rattle.cilk_model.specs.Scheduler.{Worker, worker_at, hand_of, deque_of, bottom_of}
 use Rattle.cilk_model.specs.Choice.{Act, step, pop, Refusal, over, no_worker, busy, deque_empty, waiting}
 use Rattle.cilk_model.specs.Run.{Standing, is_running, is_worker, waits_now, step_refusal, pop_refusal, act_refusal, refusal_of}
-use Rattle.cilk_laws_placed.specs.Places.{in_hand, worker_paths, EachInItsPlace}
+use Rattle.cilk_laws_placed.specs.Hands.{in_hand, worker_paths, EachInItsPlace}
 use Rattle.cilk_laws_placed.specs.Locks.{HoldersLive, WaitsForLock}
 use Rattle.cilk_laws_placed.specs.Laws.{SomeChoiceIsPossible, StuckOnLocks}
 use Rattle.cilk_laws_placed.proofs.Entries.{same-self}
 use Rattle.cilk_laws_placed.proofs.Rows.{Row, headless, locked, parked, stopping, going, writing, calling, leaving, answering, spawning, printing}
-use Rattle.cilk_laws_placed.proofs.Rows.{turning, marking, returning, placing, taking, aborting, step_row}
+use Rattle.cilk_laws_placed.proofs.Rows.{turning_lock, marking, returning, placing, taking, aborting, step_row}
 use Rattle.cilk_laws_placed.proofs.Stuck.{stuck_exactly}
 use Rattle.cilk_laws_placed.proofs.Kept.{always}
 use Rattle.cilk_laws_placed.proofs.Leaves.{leaf_is_busy, in_hand_lives}
@@ -132,7 +132,7 @@ waiting_row (leaving n) live holders some e = cc
 waiting_row (answering n cell z) live holders some e = cc
 waiting_row (spawning head receiver callee zs heads few room) live holders some e = cc
 waiting_row (printing head bytes heads room) live holders some e = cc
-waiting_row (turning head what k now heads turn) live holders some e = cc
+waiting_row (turning_lock head what k now heads becomes) live holders some e = cc
 waiting_row (marking head heads) live holders some e = cc
 waiting_row (returning n z none lockless unmarked) live holders some e = cc
 waiting_row (placing oldest others cell z n takes) live holders some e = cc

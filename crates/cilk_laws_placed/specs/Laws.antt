@@ -11,7 +11,7 @@ use Rattle.cilk_model.specs.Run.{Standing, Position, is_crew, refusal_of, next_o
 use Rattle.cilk_model.specs.End.{is_stuck}
 use Rattle.cilk_laws_placed.specs.Loops.{breaks_fit}
 use Rattle.cilk_laws_placed.specs.Locks.{AllWait}
-use Rattle.cilk_laws_placed.specs.Places.{worker_paths, EachInItsPlace}
+use Rattle.cilk_laws_placed.specs.Hands.{worker_paths, EachInItsPlace}
 
 -- a list of choices is possible where its front is, and then its last
 abbrev pub OneByOne : Type 0

@@ -1,5 +1,5 @@
 pub mod Family
-pub mod Places
+pub mod Hands
 pub mod Loops
 pub mod Locks
 pub mod Laws

@@ -265,16 +265,16 @@ module _ (good : Lexeme → Type 0) (one : good (number 1)) where
   CanTail (declares m) = Unit {0}
   CanTail (defines parameters b) = can.CanParameters good parameters × CanBlock b
 
-  abbrev CanKinds : List (Option Word) → Type 0
-  CanKinds xs = Each (λ k. Where (λ x. can.CanWord good x) k) xs
+  abbrev CanParameterList : List (Option Word) → Type 0
+  CanParameterList xs = Each (λ k. Where (λ x. can.CanWord good x) k) xs
 
   option_name_can : Given G (optional grammar.name) (λ k. Where (λ x. can.CanWord good x) k)
   option_name_can = g_either (g_then g_name (λ x h. g_done h)) (g_done tt)
 
-  kinds_can : Given G grammar.kinds CanKinds
-  kinds_can = g_then option_name_can (λ x hx. g_then (g_behind_commas (g_skip option_name_can)) (λ xs h. g_skip (g_done (hx, each_can xs h))))
+  parameter_list_can : Given G grammar.parameter_list CanParameterList
+  parameter_list_can = g_then option_name_can (λ x hx. g_then (g_behind_commas (g_skip option_name_can)) (λ xs h. g_skip (g_done (hx, each_can xs h))))
 
-  named_of_can : (xs : List (Option Word)) → CanKinds xs → can.CanWords good (named_of xs)
+  named_of_can : (xs : List (Option Word)) → CanParameterList xs → can.CanWords good (named_of xs)
   named_of_can [] h = tt
   named_of_can (None ∷ xs) h = named_of_can xs h.1
   named_of_can (Some x ∷ xs) h = (h.0, named_of_can xs h.1)
@@ -288,7 +288,7 @@ module _ (good : Lexeme → Type 0) (one : good (number 1)) where
   tail_can : Given G grammar.tail CanTail
   tail_can =
       tail_by_can
-      (g_by kinds_can (λ xs h e. g_either (g_skip (g_done tt)) (g_then block_can (λ b hb. g_done (named_of_can xs h, hb))))
+      (g_by parameter_list_can (λ xs h e. g_either (g_skip (g_done tt)) (g_then block_can (λ b hb. g_done (named_of_can xs h, hb))))
       (λ xs h e. g_skip (g_done tt)))
 
   strings_can : Given G grammar.strings (λ x. can.CanWord good x)
@@ -298,9 +298,9 @@ module _ (good : Lexeme → Type 0) (one : good (number 1)) where
   main_tail_can = tail_by_can (g_either
       (g_then g_name (λ x hx. g_either (g_skip (g_either (g_skip (g_done tt)) (g_then block_can (λ b hb. g_done ((hx, tt), hb)))))
       (g_skip (g_either (g_skip (g_then (g_before strings_can) (λ s hs. g_then block_can (λ b hb. g_done ((hx, hs), hb)))))
-      (g_skip (g_by kinds_can (λ xs h e. g_either (g_skip (g_done tt)) (g_then block_can (λ b hb. g_done ((hx, named_of_can xs h), hb))))
+      (g_skip (g_by parameter_list_can (λ xs h e. g_either (g_skip (g_done tt)) (g_then block_can (λ b hb. g_done ((hx, named_of_can xs h), hb))))
       (λ xs h e. g_skip (g_done tt))))))))
-      (g_either (g_skip (g_skip (g_done tt))) (g_skip (g_skip (g_then kinds_can (λ xs h. g_skip (g_done tt)))))))
+      (g_either (g_skip (g_skip (g_done tt))) (g_skip (g_skip (g_then parameter_list_can (λ xs h. g_skip (g_done tt)))))))
 
   function_can : (c : Bool) (r : ReturnType) (t : Tail) (x : Word) → can.CanWord good x → CanTail t → can.CanItem good (function c r t x)
   function_can c r (declares m) x h k = h

@@ -83,14 +83,14 @@ named_somes : (xs : List Word) → named_of (somes xs) ≡ map bare_word xs
 named_somes [] = refl
 named_somes (x ∷ xs) = ap (λ l. bare_word x ∷ l) (named_somes xs)
 
-abbrev b_kinds_none : {S : Setting} {k : Option ℕ} (n : ℕ) → Built S grammar.kinds k
-b_kinds_none {S = S} {k = k} n =
+abbrev b_parameter_list_none : {S : Setting} {k : Option ℕ} (n : ℕ) → Built S grammar.parameter_list k
+b_parameter_list_none {S = S} {k = k} n =
     b_then
     (b_then (b_skip (mark sign.CloseParenthesis) refl b_done)
     (record { ls = next_types_lexemes n; means = nones n; it = nones_spelled S n (Some (a_mark sign.CloseParenthesis)) })) (b_right b_done)
 
-abbrev b_kinds_some : {S : Setting} {k : Option ℕ} (x : Word) (xs : List Word) → Built S grammar.kinds k
-b_kinds_some {S = S} {k = k} x xs =
+abbrev b_parameter_list_some : {S : Setting} {k : Option ℕ} (x : Word) (xs : List Word) → Built S grammar.parameter_list k
+b_parameter_list_some {S = S} {k = k} x xs =
     b_then
     (b_then (b_skip (mark sign.CloseParenthesis) refl b_done)
     (record { ls = next_names_lexemes xs; means = somes xs; it = somes_spelled S xs (Some (a_mark sign.CloseParenthesis)) }))
@@ -120,8 +120,8 @@ module _ (l d : ℕ) (le : l ≤ d) (n : ℕ) where
   block_given : Given (good l d n) grammar.block BlockAgain
   block_given = stmts.block_given l d le n
 
-  kinds_given : Given (good l d n) grammar.kinds (λ xs. Unit {0})
-  kinds_given = record { it = stmts.any l d le n grammar.kinds }
+  parameter_list_given : Given (good l d n) grammar.parameter_list (λ xs. Unit {0})
+  parameter_list_given = record { it = stmts.any l d le n grammar.parameter_list }
 
   strings_given : Given (good l d n) grammar.strings (λ x. Unit {0})
   strings_given = record { it = stmts.any l d le n grammar.strings }
@@ -133,7 +133,7 @@ module _ (l d : ℕ) (le : l ≤ d) (n : ℕ) where
   tail_given =
       g_skip
       (g_either empty_given (g_either (g_skip empty_given)
-      (g_skip (g_by kinds_given (λ xs u e. g_either (g_skip (g_done tt)) (g_then block_given (λ b hb. g_done hb)))
+      (g_skip (g_by parameter_list_given (λ xs u e. g_either (g_skip (g_done tt)) (g_then block_given (λ b hb. g_done hb)))
       (λ xs u e. g_skip (g_done tt))))))
 
   main_empty : Given (good l d n) grammar.empty_tail GoodMain
@@ -143,8 +143,8 @@ module _ (l d : ℕ) (le : l ≤ d) (n : ℕ) where
   main_given = g_skip (g_either main_empty (g_either (g_skip main_empty) (g_skip (g_either
       (g_then g_name (λ x hx. g_either (g_skip (g_either (g_skip (g_done tt)) (g_then block_given (λ b hb. g_done hb))))
       (g_skip (g_either (g_skip (g_then (g_before strings_given) (λ s u. g_then block_given (λ b hb. g_done hb))))
-      (g_skip (g_by kinds_given (λ xs u e. g_either (g_skip (g_done tt)) (g_then block_given (λ b hb. g_done hb))) (λ xs u e. g_skip (g_done tt))))))))
-      (g_either (g_skip (g_skip (g_done tt))) (g_skip (g_skip (g_then kinds_given (λ xs u. g_skip (g_done tt))))))))))
+      (g_skip (g_by parameter_list_given (λ xs u e. g_either (g_skip (g_done tt)) (g_then block_given (λ b hb. g_done hb))) (λ xs u e. g_skip (g_done tt))))))))
+      (g_either (g_skip (g_skip (g_done tt))) (g_skip (g_skip (g_then parameter_list_given (λ xs u. g_skip (g_done tt))))))))))
 
   -- ---- and is spelled again
 
@@ -164,11 +164,11 @@ module _ (l d : ℕ) (le : l ≤ d) (n : ℕ) where
   pub tail_again : (t : Tail) → GoodTail t → TailBy grammar.tail t
   tail_again (declares zero) h pl k = declares_nothing
   tail_again (declares (suc m)) h pl k =
-      written (b_ints (b_by_false (b_skip (mark sign.Semicolon) refl b_done) (b_kinds_none m) refl)) refl
+      written (b_ints (b_by_false (b_skip (mark sign.Semicolon) refl b_done) (b_parameter_list_none m) refl)) refl
       (ap (λ i. declares (suc i)) (nones_length m))
   tail_again (defines (tree.ints []) b) h pl k = defines_nothing b h pl
   tail_again (defines (tree.ints (x ∷ xs)) b) h pl k =
-      written (b_ints (b_by_true (b_right (b_last (b_of (h pl k)))) (b_kinds_some x xs) (somes_named xs))) refl
+      written (b_ints (b_by_true (b_right (b_last (b_of (h pl k)))) (b_parameter_list_some x xs) (somes_named xs))) refl
       (ap (λ l. defines (tree.ints (bare_word x ∷ l)) (bare_block b)) (named_somes xs))
   tail_again (defines (tree.command_line c s) b) h pl k = elim h [ ]
 
@@ -181,7 +181,7 @@ module _ (l d : ℕ) (le : l ≤ d) (n : ℕ) where
       (b_ints
       (b_right
       (b_right
-      (b_skip (mark sign.Comma) refl (b_skip (word key.Int) refl (b_then (b_skip (mark sign.Semicolon) refl b_done) (b_kinds_none m)))))))
+      (b_skip (mark sign.Comma) refl (b_skip (word key.Int) refl (b_then (b_skip (mark sign.Semicolon) refl b_done) (b_parameter_list_none m)))))))
       refl (ap (λ i. declares (suc (suc i))) (nones_length m))
   main_again (defines (tree.ints []) b) h pl k = defines_nothing b h pl
   main_again (defines (tree.ints (x ∷ [])) b) h pl k =
@@ -196,7 +196,7 @@ module _ (l d : ℕ) (le : l ≤ d) (n : ℕ) where
       (b_then
       (b_right
       (b_skip (mark sign.Comma) refl
-      (b_right (b_skip (word key.Int) refl (b_by_true (b_right (b_last (b_of (h pl k)))) (b_kinds_some y ys) (somes_named ys))))))
+      (b_right (b_skip (word key.Int) refl (b_by_true (b_right (b_last (b_of (h pl k)))) (b_parameter_list_some y ys) (somes_named ys))))))
       (b_name x (names_are x.text))))) refl
       (ap (λ l. defines (tree.ints (bare_word x ∷ bare_word y ∷ l)) (bare_block b)) (named_somes ys))
   main_again (defines (tree.command_line c s) b) h pl k =

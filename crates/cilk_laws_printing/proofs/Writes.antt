@@ -1,5 +1,6 @@
 -- Texts that write some lexemes, whatever stands before them and behind.
 use Rattle.std.proofs.Common.{◌≡◌, ℕ, Bool, true, false, ◌||◌, List, [], ◌∷◌, ◌++◌, Some, None, refl, subst, append_assoc, codes}
+use Rattle.std.proofs.lemmas.Bool.{or_parts}
 use Rattle.cilk_check.specs.lexeme.declared.keyword.Keyword.{Keyword}
 use Rattle.cilk_check.specs.lexeme.declared.mark.Mark.{Mark}
 use Rattle.cilk_check.specs.lexeme.Byte.{is_blank, continues_number}
@@ -21,17 +22,13 @@ goes_on b = continues_number b || continues_mark b
 abbrev pub Ends : List ℕ → Type 0
 Ends text = EndsBefore goes_on text
 
-none_of : (a b : Bool) → (a || b) ≡ false → (a ≡ false) × (b ≡ false)
-none_of true b e = absurd cc
-none_of false b e = (refl, e)
-
 ends_number : (rest : List ℕ) → Ends rest → Stops rest
 ends_number [] e = tt
-ends_number (b ∷ bs) e = (none_of (continues_number b) (continues_mark b) e).0
+ends_number (b ∷ bs) e = (or_parts (continues_number b) (continues_mark b) e).0
 
 ends_mark : (rest : List ℕ) → Ends rest → EndsBefore continues_mark rest
 ends_mark [] e = tt
-ends_mark (b ∷ bs) e = (none_of (continues_number b) (continues_mark b) e).1
+ends_mark (b ∷ bs) e = (or_parts (continues_number b) (continues_mark b) e).1
 
 ends_on : (t rest : List ℕ) → Ends t → Ends rest → Ends (t ++ rest)
 ends_on [] rest e f = f

@@ -16,17 +16,19 @@ use Rattle.cilk_laws_allowed.specs.model.Pick.{Step, step_of_live, step_of_insta
 use Rattle.cilk_laws_allowed.specs.model.Choice.{Choice}
 use Rattle.cilk_laws_allowed.specs.model.Run.{Standing, Position, waits_now, step_refusal, act_refusal, refusal_of, next_of, next_by, next_by_hand}
 use Rattle.cilk_laws_allowed.specs.model.Run.{event_of, event_by, event_by_hand, event_of_step, state_after}
+use Rattle.cilk_laws_allowed.specs.model.ViewTrees.{lowest}
 use Rattle.cilk_laws_placed.proofs.Entries.{same-is, at-changed_same, at-changed_other, at-without_other, either_of, at-push}
 use Rattle.cilk_laws_placed.proofs.Possible.{possible}
 use Rattle.cilk_laws_allowed.proofs.Lookups.{marked, at-marked_below, at-marked_beside}
 use Rattle.cilk_laws_allowed.proofs.Paths.{not_below}
-use Rattle.cilk_laws_runs.specs.Calls.{owner_of_body, is_inlet}
-use Rattle.cilk_laws_runs.specs.Inlets.{runs_inlet, in_inlet, lowest, IsStep, StandsStill, GoesOn, Alone, acts, traps, parks, ends, Unmoved}
+use Rattle.cilk_laws_runs.specs.Inlets.{runs_inlet, in_inlet, IsStep, StandsStill, GoesOn, Alone, acts, traps, parks, ends, Unmoved}
 use Rattle.cilk_laws_runs.specs.ChildLaws.{InletsRunAlone, OthersLeaveIt}
 use Rattle.cilk_laws_runs.proofs.Runs.{Stepped, Rested, what_happens, led}
 use Rattle.cilk_laws_runs.proofs.Ways.{Acting, Way, resting, parking, ending, stopping, going, writing, entering, quitting, answering, returning, starting}
-use Rattle.cilk_laws_runs.proofs.Ways.{printing, turning, aborts, placing, letting_in, way_of}
+use Rattle.cilk_laws_runs.proofs.Ways.{printing, turning_lock, aborts, placing, letting_in, way_of}
 use Rattle.cilk_laws_runs.proofs.Suited.{Suited, head_suits, of_inlet, spawned_by, each_suits}
+use Rattle.cilk_check_forms.specs.Finds.{is_inlet}
+use Rattle.cilk_machine.specs.carries.effects.Known.{owner_of}
 
 -- above the procedure's own activation
 inlet_above : (program : Labelled) (a : Activation) (below : List Activation) → runs_inlet program a below ≡ true → is_empty below ≡ false
@@ -35,7 +37,7 @@ inlet_above program a (b ∷ below) h = refl
 
 runs_top : (program : Labelled) (a c : Activation) (below : List Activation) → c.body ≡ a.body → runs_inlet program c below ≡ runs_inlet program a below
 runs_top program a c [] e = refl
-runs_top program a c (b ∷ []) e = ap (λ x. is_inlet (owner_of_body program x)) e
+runs_top program a c (b ∷ []) e = ap (λ x. is_inlet (owner_of program x)) e
 runs_top program a c (b ∷ d ∷ below) e = refl
 
 runs_lowest : (program : Labelled) (a : Activation) (f : Values → Values) (below : List Activation)
@@ -173,7 +175,7 @@ module _ (program : Labelled) (i : Instance) (inside : in_inlet program i ≡ tr
     alone_by suited _ (starting head receiver callee zs acting written) free =
         not_alone (spawned_by program (is_empty i.below) head.act written.taker written.is (head_suits program i.top i.below head suited.stack acting.first)).0
     alone_by suited _ (printing head bytes acting sort) free = moves_on suited head acting _ (goes (gone_on (pos 1) i) (gone_onward (pos 1)))
-    alone_by suited _ (turning head k now acting sort) free = moves_on suited head acting _ (goes (gone_on (pos 1) i) (gone_onward (pos 1)))
+    alone_by suited _ (turning_lock head k now acting sort) free = moves_on suited head acting _ (goes (gone_on (pos 1) i) (gone_onward (pos 1)))
     alone_by suited _ (aborts head acting sort) free = moves_on suited head acting _ marks
     alone_by suited _ (placing oldest others cell z n taking) free = no_boundary taking.boundary
     alone_by suited _ (letting_in oldest others inlet ys zs n taking is) free = no_boundary taking.boundary
@@ -279,7 +281,7 @@ module _ (program : Labelled) (s : State) (q : Path) (k : Instance) (there : ins
   left_by (returning head z acting sort alone) = returned_by z (parent_of q)
   left_by (starting head receiver callee zs acting written) = pushed _ _
   left_by (printing head bytes acting sort) = beside (gone_on (pos 1) k)
-  left_by (turning head l now acting sort) = beside (gone_on (pos 1) k)
+  left_by (turning_lock head l now acting sort) = beside (gone_on (pos 1) k)
   left_by (aborts head acting sort) = marks_it
   left_by (placing oldest others cell z n taking) = beside (put cell z (record k { waiting = others }))
   left_by (letting_in oldest others inlet ys zs n taking is) = beside (above (entered program inlet zs None) (record k { waiting = others }))

@@ -4,6 +4,7 @@ use Rattle.std.specs.Prelude.{slice_index_or}
 use Rattle.std.specs.List.{list_all, flat_map}
 use Rattle.std.proofs.lemmas.Bool.{and_from}
 use Rattle.std.proofs.lemmas.List.Folds.{list_all-append}
+use Rattle.std.proofs.lemmas.List.{append-nil, append_assoc}
 use Rattle.cilk_check.specs.syntax.declared.return_type.ReturnType.{ReturnType}
 use Rattle.cilk_check.specs.syntax.Tree as tree
 use Rattle.cilk_check.specs.scopes.Scopes.{Scopes, enter, kind_of_global, kind_of_body, parameter_count, local_declares, parameters_declare}
@@ -12,22 +13,22 @@ use Rattle.cilk_check.specs.scopes.Parts.{Around, local, after_local, after_loca
 use Rattle.cilk_check.specs.scopes.Parts.{stmts_parts, owner_of, item_parts}
 use Rattle.cilk_laws_allowed.specs.labelled.Labelled.{Labelled, of_body, Body}
 use Rattle.cilk_laws_allowed.specs.labelled.Names as naming
-use Rattle.cilk_laws_allowed.specs.labelled.Names.{Names, with_words, with_parameters, with_local, local_count, entered}
+use Rattle.cilk_laws_allowed.specs.labelled.Names.{Names, with_words, with_local, local_count, entered}
 use Rattle.cilk_laws_allowed.specs.labelled.Label.{names_behind, label_block}
 use Rattle.cilk_laws_allowed.specs.labelled.Count.{count_local, count_item}
 use Rattle.cilk_laws_allowed.specs.labelled.Bodies.{is_procedure, parameter_variables, label_body, inlet_bodies, block_locals, procedure_names}
-use Rattle.cilk_laws_allowed.specs.labelled.Bodies.{inlet_count, body_count, item_bodies, items_bodies, file_means, file_names, label}
+use Rattle.cilk_laws_allowed.specs.labelled.Bodies.{body_count, item_bodies, items_bodies, file_means, file_names, label}
 use Rattle.cilk_laws_allowed.specs.model.Instance.{no_body}
 use Rattle.cilk_laws_allowed.specs.model.Change.{is_function}
-use Rattle.cilk_laws_runs.specs.Calls.{owner_of_body, is_inlet, stmts_suit, body_suits}
+use Rattle.cilk_laws_runs.specs.Calls.{stmts_suit, body_suits}
 use Rattle.cilk_laws_runs.specs.CallLaws.{CallsSuit}
 use Rattle.cilk_laws_runs.proofs.Right.{Right, front, back, others, all_right}
 use Rattle.cilk_laws_runs.proofs.Named.{KindFits, Aligned, Agree, agree_name, agree_entered, agree_words, agree_parameters, agree_inlet, agree_declared}
 use Rattle.cilk_laws_runs.proofs.Labels.{block_suits, inner_block_suits}
-
-append-assoc : (xs ys zs : List Body) → (xs ++ ys) ++ zs ≡ xs ++ (ys ++ zs)
-append-assoc [] ys zs = refl
-append-assoc (x ∷ xs) ys zs = ap (λ us. x ∷ us) (append-assoc xs ys zs)
+use Rattle.cilk_load.proofs.Bodies.{parameters-bodies}
+use Rattle.cilk_machine.proofs.nodes_laws.Texts.{length-item}
+use Rattle.cilk_machine.specs.carries.effects.Known.{owner_of as owner_of_body}
+use Rattle.cilk_check_forms.specs.Finds.{is_inlet}
 
 -- the body behind others
 behind : (before : List Body) (b : Body) (after : List Body) → slice_index_or (before ++ b ∷ after) (length before) no_body ≡ b
@@ -38,25 +39,6 @@ body_is : (program : Labelled) (before : List Body) (b : Body) (after : List Bod
     → slice_index_or program.bodies k no_body ≡ b
 body_is program before b after k e size =
     ap (λ bs. slice_index_or bs k no_body) e ∙ ap (λ n. slice_index_or (before ++ b ∷ after) n no_body) (sym size) ∙ behind before b after
-
-words_bodies : (words : List tree.Word) (names : Names) (n : ℕ) → (with_words names n words).bodies ≡ names.bodies
-words_bodies [] names n = refl
-words_bodies (word ∷ words) names n = words_bodies words _ (suc n)
-
-parameters_bodies : (names : Names) (parameters : tree.Parameters) → (with_parameters names parameters).bodies ≡ names.bodies
-parameters_bodies names (tree.ints words) = words_bodies words names 0
-parameters_bodies names (tree.command_line count strings) = words_bodies (count ∷ []) names 0
-
-length-inlets : (ls : tree.Locals) (names : Names) (at n : ℕ) → length (inlet_bodies names at n ls) ≡ inlet_count ls
-length-inlets tree.no_locals names at n = refl
-length-inlets (tree.and_local (tree.declared d) ls) names at n = length-inlets ls _ _ _
-length-inlets (tree.and_local (tree.inlet_at place name parameters body) ls) names at n = ap suc (length-inlets ls _ _ _)
-
-length-item : (names : Names) (at : ℕ) (item : tree.Item) → length (item_bodies names at item) ≡ body_count item
-length-item names at (tree.global g) = refl
-length-item names at (tree.lock name) = refl
-length-item names at (tree.prototype q) = refl
-length-item names at (tree.procedure p) = ap suc (length-inlets (block_locals p.body) _ at _)
 
 module _ (program : Labelled) where
   -- what the declarations at the head of an outermost block mean, and the bodies of its inlets
@@ -85,7 +67,7 @@ module _ (program : Labelled) where
       (let named = agree_name program names a.scopes (of_body names.bodies) (local_declares l) owned agree
       in record { same = named.same; aligned = named.aligned }) in
       let rest = inside (after_local a l) names1 (at + count_local l) (n + local_count l) ls (before ++ own ∷ []) after
-      (e ∙ sym (append-assoc before (own ∷ []) (more ++ after))) (let sum = length-append before (own ∷ []) in omega (arith, size)) agree1
+      (e ∙ sym (append_assoc before (own ∷ []) (more ++ after))) (let sum = length-append before (own ∷ []) in omega (arith, size)) agree1
       (back (within_local a l) (locals_parts (after_local a l) ls) parts) in
       record {
         agree = rest.agree;
@@ -117,10 +99,10 @@ module _ (program : Labelled) where
       let n : Names = procedure_names behind_it f in
       let many : ℕ = length (parameter_variables f.parameters) in
       let own : Body = label_body n at (owner_of f.is_cilk f.returns) f.name (parameter_variables f.parameters) f.body in
-      let bodies : n.bodies ≡ suc names.bodies = parameters_bodies (entered behind_it) f.parameters in
+      let bodies : n.bodies ≡ suc names.bodies = parameters-bodies (entered behind_it) f.parameters in
       let agrees : Agree program behind_it file = record { same = agree.same; aligned = agree.aligned } in
       outermost_suits (in_body file (owner_of f.is_cilk f.returns) (parameters_declare f.parameters)) n at many f.body (before ++ own ∷ []) after
-      (e ∙ sym (append-assoc before (own ∷ []) (inlet_bodies n at many (block_locals f.body) ++ after)))
+      (e ∙ sym (append_assoc before (own ∷ []) (inlet_bodies n at many (block_locals f.body) ++ after)))
       (let sum = length-append before (own ∷ []) in omega (arith, size, bodies, sum))
       (agree_parameters program (entered behind_it) (enter file) f.parameters (agree_entered program behind_it file agrees)) h
 
@@ -150,7 +132,7 @@ module _ (program : Labelled) where
       list_all-append (body_suits program) (item_bodies names at item) after
       ∙ and_from (list_all (body_suits program) (item_bodies names at item)) (list_all (body_suits program) after)
       (item_suits file names at item before after e size agree (front (item_parts file item) (flat_map (item_parts file) items) h))
-      (items_suit file items next (at + count_item item) (before ++ item_bodies names at item) (e ∙ sym (append-assoc before (item_bodies names at item) after))
+      (items_suit file items next (at + count_item item) (before ++ item_bodies names at item) (e ∙ sym (append_assoc before (item_bodies names at item) after))
       (further names at item before after names.bodies size) (record { same = agree.same; aligned = agree.aligned })
       (back (item_parts file item) (flat_map (item_parts file) items) h))
 
@@ -182,18 +164,14 @@ module _ (program : Labelled) where
         procedure_fits f.is_cilk f.returns (parameter_count f.parameters) b
             (ap (λ (x : Body). x.owner) (body_is program before own (inlets ++ after) b e size)),
         file_aligned items next (at + count_item item) g l (b + body_count item) (before ++ item_bodies names at item)
-            (e ∙ sym (append-assoc before (item_bodies names at item) after))
+            (e ∙ sym (append_assoc before (item_bodies names at item) after))
             (further names at item before after b size),
       )
-
-append-none : {A : Type 0} (xs : List A) → xs ++ [] ≡ xs
-append-none [] = refl
-append-none (x ∷ xs) = ap (λ ys. x ∷ ys) (append-none xs)
 
 pub calls_suit : CallsSuit
 calls_suit p right =
     let program = label p in
     let aligned = file_aligned program p.items (file_names p.items) 1 0 0 0 [] refl refl in
     items_suit program (file_scopes p.items) p.items (file_names p.items) 1 [] refl refl
-    (record { same = refl; aligned = subst (λ ds. Aligned program ds (file_means 0 0 0 p.items)) (sym (append-none (file_declares p.items))) aligned })
+    (record { same = refl; aligned = subst (λ ds. Aligned program ds (file_means 0 0 0 p.items)) (sym (append-nil (file_declares p.items))) aligned })
     (all_right p right)

@@ -39,20 +39,20 @@ pub record Spawns (act : Action) (receiver : Option Receiver) : Type 0 where
   pub is : sort_of act ≡ spawning taker
   pub fits : Fits taker receiver
 
-abbrev pub Tells : Action → Result Effect Trap → Type 0
-Tells act (Ok (gives z)) = sort_of act ≡ leaving
-Tells act (Ok (enters awaits callee zs)) = sort_of act ≡ calling callee
-Tells act (Ok (starts receiver callee zs)) = Spawns act receiver
-Tells act (Ok marks) = sort_of act ≡ marking
-Tells act (Ok other) = sort_of act ≡ plain
-Tells act (Err trap) = Unit {0}
+abbrev pub TellsSort : Action → Result Effect Trap → Type 0
+TellsSort act (Ok (gives z)) = sort_of act ≡ leaving
+TellsSort act (Ok (enters awaits callee zs)) = sort_of act ≡ calling callee
+TellsSort act (Ok (starts receiver callee zs)) = Spawns act receiver
+TellsSort act (Ok marks) = sort_of act ≡ marking
+TellsSort act (Ok other) = sort_of act ≡ plain
+TellsSort act (Err trap) = Unit {0}
 
-told_after : {A : Type 0} (act : Action) (r : Result A Trap) (f : A → Result Effect Trap) → ((x : A) → Tells act (f x)) → Tells act (r >>= f)
+told_after : {A : Type 0} (act : Action) (r : Result A Trap) (f : A → Result Effect Trap) → ((x : A) → TellsSort act (f x)) → TellsSort act (r >>= f)
 told_after act (Ok x) f h = h x
 told_after act (Err trap) f h = tt
 
 start_told : (env : Environment Declaration) (n : ℕ) (taker : Taker) (callee : ℕ) (es : List (Term Declaration))
-    → Tells (spawn taker callee es) (start_of env n taker callee es)
+    → TellsSort (spawn taker callee es) (start_of env n taker callee es)
 start_told env n nothing callee es =
     told_after (spawn nothing callee es) (values_of env es) _ (λ zs. record { taker = nothing; is = refl; fits = tt })
 start_told env n (into what) callee es =
@@ -62,7 +62,7 @@ start_told env n (through inlet others) callee es =
     let act = spawn (through inlet others) callee es in
     told_after act (values_of env es) _ (λ zs. told_after act (values_of env others) _ (λ ys. record { taker = through inlet others; is = refl; fits = refl }))
 
-pub told : (env : Environment Declaration) (n : ℕ) (act : Action) → Tells act (effect_of env n act)
+pub told : (env : Environment Declaration) (n : ℕ) (act : Action) → TellsSort act (effect_of env n act)
 told env n (assign what e) =
     let act = assign what e in
     told_after act (reached_at env what) _

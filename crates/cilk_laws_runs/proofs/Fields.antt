@@ -14,7 +14,7 @@ use Rattle.cilk_laws_allowed.specs.model.Run.{state_after, event_of_step}
 use Rattle.cilk_laws_placed.proofs.Entries.{same-is, at-changed_same, at-changed_other, at-without_other, live-changed, live-without, either_of, at-push}
 use Rattle.cilk_laws_runs.proofs.Effects.{marking, sort_of}
 use Rattle.cilk_laws_runs.proofs.Ways.{Acting, Way, resting, parking, ending, stopping, going, writing, entering, quitting, answering, returning}
-use Rattle.cilk_laws_runs.proofs.Ways.{starting, printing, turning, aborts, placing, letting_in}
+use Rattle.cilk_laws_runs.proofs.Ways.{starting, printing, turning_lock, aborts, placing, letting_in}
 
 -- f of the live instance at a path
 abbrev pub field : {A : Type 0} → (Instance → A) → Instances → Path → Option A
@@ -120,7 +120,7 @@ module _ {A : Type 0} (f : Instance → A) where
     way_kept (returning head z acting sort alone) = inl (returned_kept z (parent_of p))
     way_kept (starting head receiver callee zs acting written) = inl (started_kept _ _ (fixed.counted i))
     way_kept (printing head bytes acting sort) = inl (replaced (gone_on (pos 1) i) (fixed.gone (pos 1) i))
-    way_kept (turning head k now acting sort) = inl (replaced (gone_on (pos 1) i) (fixed.gone (pos 1) i))
+    way_kept (turning_lock head k now acting sort) = inl (replaced (gone_on (pos 1) i) (fixed.gone (pos 1) i))
     way_kept (aborts head acting sort) = inr (record { head = head; acting = acting; sort = sort; did = refl; leads = refl })
     way_kept (placing oldest others cell z n taking) =
         let j : Instance = record i { waiting = others } in

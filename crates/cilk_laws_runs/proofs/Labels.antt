@@ -14,11 +14,7 @@ use Rattle.cilk_laws_allowed.specs.labelled.Bodies.{is_procedure}
 use Rattle.cilk_laws_runs.specs.Calls.{taker_suits, action_suits, part_suits, stmt_suits, stmts_suit}
 use Rattle.cilk_laws_runs.proofs.Right.{MoveRight, MovesRight, TakerRight, StmtRight, Right, front, back, first, others}
 use Rattle.cilk_laws_runs.proofs.Named.{Agree, called_fits, fed_fits, agree_entered, agree_declared}
-
--- declarations change nothing that surrounds
-still_within : (a : Around) (locals : tree.Locals) → (after_locals a locals).within ≡ a.within
-still_within a tree.no_locals = refl
-still_within a (tree.and_local l ls) = still_within (after_local a l) ls
+use Rattle.cilk_laws_runs.proofs.Loops.{still_within}
 
 module _ (program : Labelled) where
   initialiser_suits : (own : Bool) (names : Names) (at : ℕ) (place : tree.Place) (shape : tree.Shape) (stmts : Stmts) → stmts_suit program own stmts ≡ true

@@ -1,5 +1,7 @@
 -- Each path that was made lived after some first of the choices.
 use Rattle.std.proofs.Common.{◌≡◌, ℕ, suc, Bool, true, false, ◌||◌, List, [], ◌∷◌, ◌++◌, length, Some, None, refl, sym, ap, ◌∙◌}
+use Rattle.std.proofs.lemmas.Bool.{or_right}
+use Rattle.std.proofs.lemmas.List.{append-nil, append_assoc}
 use Rattle.cilk_laws_allowed.specs.labelled.Labelled.{Labelled}
 use Rattle.cilk_laws_allowed.specs.model.Path.{Path}
 use Rattle.cilk_laws_allowed.specs.model.Event.{Event, acted, spawned, delivered, returned, ended, trapped, moved}
@@ -10,14 +12,14 @@ use Rattle.cilk_laws_placed.proofs.Events.{told, told-push, made-push}
 use Rattle.cilk_laws_placed.proofs.Fates.{told_at}
 use Rattle.cilk_laws_runs.specs.Moments.{Lived}
 use Rattle.cilk_laws_runs.specs.ChildLaws.{TheMadeHaveLived}
-use Rattle.cilk_laws_runs.proofs.Runs.{append-none, append-assoc, possible_after, each_position}
+use Rattle.cilk_laws_runs.proofs.Runs.{possible_after, each_position}
 
 longer : (program : Labelled) (n : ℕ) (choices : List Choice) (c : Choice) (p : Path) → Lived program n choices p → Lived program n (choices ++ c ∷ []) p
 longer program n choices c p lived = record {
   front = lived.front;
   rest = lived.rest ++ c ∷ [];
   early = lived.early;
-  parts = ap (λ cs. cs ++ c ∷ []) lived.parts ∙ append-assoc lived.front lived.rest (c ∷ []);
+  parts = ap (λ cs. cs ++ c ∷ []) lived.parts ∙ append_assoc lived.front lived.rest (c ∷ []);
   there = lived.there;
   live = lived.live;
 }
@@ -32,10 +34,6 @@ born_same k p (ended q) fate h = cc
 born_same k p (trapped kind q n) fate h = cc
 born_same k p moved fate h = cc
 
-or_true : (a b : Bool) → b ≡ true → (a || b) ≡ true
-or_true true b e = refl
-or_true false b e = e
-
 newly : (program : Labelled) (n : ℕ) (choices : List Choice) (c : Choice) (at : Position) → after program n choices ≡ Some at
     → refusal_of program at.standing c ≡ None
     → (p : Path) → was_made at.events p ≡ false → is_birth p (event_of program at.standing c) ≡ true → Lived program n (choices ++ c ∷ []) p
@@ -43,14 +41,14 @@ newly program n choices c at known free p unmade born =
     let e = event_of program at.standing c in
     let there = possible_after program n choices c at known free in
     let told_now = told_at program n (choices ++ c ∷ []) (position_after program at c) there in
-    let made : was_made (at.events ++ e ∷ []) p ≡ true = made-push p at.events e ∙ or_true (was_made at.events p) (is_birth p e) born in
+    let made : was_made (at.events ++ e ∷ []) p ≡ true = made-push p at.events e ∙ or_right (was_made at.events p) (is_birth p e) born in
     let fate : told (at.events ++ e ∷ []) p ≡ lives =
     told-push p at.events e ∙ born_same (suc (length at.events)) p e (told at.events p) born ∙ (told_at program n choices at known).unmade p unmade in
     record {
       front = choices ++ c ∷ [];
       rest = [];
       early = position_after program at c;
-      parts = sym (append-none (choices ++ c ∷ []));
+      parts = sym (append-nil (choices ++ c ∷ []));
       there = there;
       live = told_now.living p made fate;
     }

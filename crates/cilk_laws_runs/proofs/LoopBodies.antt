@@ -1,7 +1,7 @@
 -- The bodies of a text without faults, after they are labelled.
-use Rattle.std.proofs.Common.{◌≡◌, ℕ, ◌+◌, Bool, true, false, ◌&&◌, List, [], ◌∷◌, ◌++◌, refl, ◌∙◌}
+use Rattle.std.proofs.Common.{◌≡◌, ℕ, ◌+◌, true, ◌&&◌, List, [], ◌∷◌, ◌++◌, refl, ◌∙◌}
 use Rattle.std.specs.List.{list_all, Contains, flat_map}
-use Rattle.std.proofs.lemmas.Bool.{and_from}
+use Rattle.std.proofs.lemmas.Bool.{and_from, true_from_ne_false}
 use Rattle.std.proofs.lemmas.List.Folds.{list_all-append}
 use Rattle.cilk_check.specs.syntax.Tree as tree
 use Rattle.cilk_check.specs.scopes.declared.fault.CheckFault.TheVariants.{NoLoop}
@@ -52,10 +52,6 @@ items_fit file names at (item ∷ items) h =
     (items_fit file (record names { bodies = names.bodies + body_count item }) (at + count_item item) items
     (back (item_parts file item) (flat_map (item_parts file) items) h))
 
-in_loop_by : (b : Bool) → (b ≡ false → ⊥) → b ≡ true
-in_loop_by true h = refl
-in_loop_by false h = absurd (h refl)
-
 module _ (p : tree.Program) (right : (at : ℕ) → ¬ Faulty p (NoLoop at)) where
   statement_stands : (a : Around) (s : tree.Stmt) → Contains (parts_of p) (record { around = a; part = statement s }) → stands a.within s ≡ true
   statement_stands a (tree.move what) c = refl
@@ -66,9 +62,9 @@ module _ (p : tree.Program) (right : (at : ℕ) → ¬ Faulty p (NoLoop at)) whe
   statement_stands a (tree.sync_at place) c = refl
   statement_stands a (tree.abort_at place) c = refl
   statement_stands a (tree.break_at place) c =
-      in_loop_by a.within.in_loop_or_switch (λ outside. right place (break_outside a place c outside))
+      true_from_ne_false a.within.in_loop_or_switch (λ outside. right place (break_outside a place c outside))
   statement_stands a (tree.continue_at place) c =
-      in_loop_by a.within.in_loop (λ outside. right place (continue_outside a place c outside))
+      true_from_ne_false a.within.in_loop (λ outside. right place (continue_outside a place c outside))
   statement_stands a (tree.return_at place value) c = refl
   statement_stands a (tree.when value body) c = refl
   statement_stands a (tree.either value body other) c = refl

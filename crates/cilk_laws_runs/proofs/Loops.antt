@@ -45,7 +45,7 @@ pub others : (x : PartInContext) (xs : List PartInContext) → Stand (x ∷ xs) 
 others x xs h = back (x ∷ []) xs h
 
 -- declarations change nothing that surrounds
-still_within : (a : Around) (locals : tree.Locals) → (after_locals a locals).within ≡ a.within
+pub still_within : (a : Around) (locals : tree.Locals) → (after_locals a locals).within ≡ a.within
 still_within a tree.no_locals = refl
 still_within a (tree.and_local l ls) = still_within (after_local a l) ls
 

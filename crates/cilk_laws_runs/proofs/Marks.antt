@@ -1,5 +1,6 @@
 -- What an `abort` does, and what it leaves.
 use Rattle.std.proofs.Common.{◌≡◌, ℕ, ℤ, pos, true, false, List, Option, Some, None, ◌⊎◌, inl, inr, is_some, refl, sym, ap, subst, ◌∙◌}
+use Rattle.std.proofs.lemmas.Option.{same_Some}
 use Rattle.std.specs.Prelude.{option_map}
 use Rattle.cilk_laws_allowed.specs.labelled.Labelled.{Labelled, Numbered, Action, abort}
 use Rattle.cilk_laws_allowed.specs.labelled.Items.{head_of}
@@ -20,7 +21,7 @@ use Rattle.cilk_laws_runs.proofs.Runs.{Stepped, Rested, what_happens, led}
 use Rattle.cilk_laws_runs.proofs.Effects.{Sort, plain, calling, marking, leaving, sort_of}
 use Rattle.cilk_laws_runs.proofs.Fields.{field-replaced}
 use Rattle.cilk_laws_runs.proofs.Ways.{Acting, Way, resting, parking, ending, stopping, going, writing, entering, quitting, answering, returning}
-use Rattle.cilk_laws_runs.proofs.Ways.{starting, printing, turning, aborts, placing, letting_in, way_of}
+use Rattle.cilk_laws_runs.proofs.Ways.{starting, printing, turning_lock, aborts, placing, letting_in, way_of}
 
 -- a step whose event is that an action was acted
 pub record Acted (s : State) (p : Path) (i : Instance) (step : Step) (q : Path) : Type 0 where
@@ -46,7 +47,7 @@ acted_by program s p i q k _ (answering head cell z acting sort above) h =
     record { same = cc; head = head; acting = acting; marks = no_marks head.act leaving sort (λ e. cc) }
 acted_by program s p i q k _ (printing head bytes acting sort) h =
     record { same = cc; head = head; acting = acting; marks = no_marks head.act plain sort (λ e. cc) }
-acted_by program s p i q k _ (turning head l now acting sort) h =
+acted_by program s p i q k _ (turning_lock head l now acting sort) h =
     record { same = cc; head = head; acting = acting; marks = no_marks head.act plain sort (λ e. cc) }
 acted_by program s p i q k _ (aborts head acting sort) h = record { same = cc; head = head; acting = acting; marks = λ e. refl }
 acted_by program s p i q k _ (resting unmarked) h = cc
@@ -83,7 +84,7 @@ returns_by program s p i q k _ (quitting head acting sort above) h = cc
 returns_by program s p i q k _ (answering head cell z acting sort above) h = cc
 returns_by program s p i q k _ (starting head receiver callee zs acting written) h = cc
 returns_by program s p i q k _ (printing head bytes acting sort) h = cc
-returns_by program s p i q k _ (turning head l now acting sort) h = cc
+returns_by program s p i q k _ (turning_lock head l now acting sort) h = cc
 returns_by program s p i q k _ (aborts head acting sort) h = cc
 returns_by program s p i q k _ (placing oldest others cell z n taking) h = cc
 returns_by program s p i q k _ (letting_in oldest others inlet ys zs n taking is) h = cc
@@ -92,9 +93,6 @@ returns_by program s p i q k _ (letting_in oldest others inlet ys zs n taking is
 pub record Stood (program : Labelled) (at : Standing) (choice : Choice) (p : Path) (i : Instance) (head : Numbered) : Type 0 where
   pub acting : Acting at.state p i head
   pub marks : sort_of head.act ≡ marking → (next_of program at choice).state ≡ after_marks at.state p i
-
-some_is : {A : Type 0} (x y : A) → Some x ≡ Some y → x ≡ y
-some_is x y e = cc
 
 stood_at : (program : Labelled) (at : Standing) (choice : Choice) (p q : Path) (i j : Instance) (head first : Numbered) → p ≡ q → i ≡ j → head ≡ first
     → Stood program at choice p i head → Stood program at choice q j first
@@ -109,8 +107,8 @@ stepped_stood program at choice p act acts (inl stepped) =
     let j = stepped.instance in
     let is = acted_by program at.state q j p acts.head.number (step_of_instance program at.state q j) (way_of program at.state q j)
     (sym stepped.did ∙ acts.did) in
-    let same : j ≡ acts.instance = some_is j acts.instance (sym stepped.lives ∙ ap (instance_at at.state.instances) is.same ∙ acts.lives) in
-    let heads : is.head ≡ acts.head = some_is is.head acts.head (sym is.acting.first ∙ ap (λ (x : Instance). head_of x.top.items) same ∙ acts.first) in
+    let same : j ≡ acts.instance = same_Some j acts.instance (sym stepped.lives ∙ ap (instance_at at.state.instances) is.same ∙ acts.lives) in
+    let heads : is.head ≡ acts.head = same_Some is.head acts.head (sym is.acting.first ∙ ap (λ (x : Instance). head_of x.top.items) same ∙ acts.first) in
     stood_at program at choice q p j acts.instance is.head acts.head is.same same heads
     (record { acting = is.acting; marks = λ e. stepped.leads ∙ is.marks e })
 stepped_stood program at choice p act acts (inr rested) = let none : moved ≡ acted p acts.head.number = sym rested.did ∙ acts.did in cc

@@ -1,9 +1,8 @@
 -- The numbers of bodies that names mean fit what the names are declared as.
-use Rattle.std.proofs.Common.{◌≡◌, ℕ, suc, ◌+◌, ◌<◌, ◌≤◌, nat_lt, Bool, true, false, not, cond, List, [], ◌∷◌, ◌++◌, map, length, Some, None, ◌⊎◌}
-use Rattle.std.proofs.Common.{inl, inr, refl, sym, ap, subst, ◌∙◌, arith}
-use Rattle.std.specs.Prelude.{bytes_eq, slice_index_or, position, find}
-use Rattle.std.specs.List.{prefix_len}
-use Rattle.std.proofs.lemmas.Bool.{lt-ltb, le-ltb, cases_lt}
+use Rattle.std.proofs.Common.{◌≡◌, ℕ, suc, Bool, true, false, cond, List, [], ◌∷◌, ◌++◌, map, Some}
+use Rattle.std.proofs.Common.{refl, sym, ap, subst}
+use Rattle.std.specs.Prelude.{bytes_eq, position, find}
+use Rattle.std.proofs.lemmas.Option.{same_Some}
 use Rattle.cilk_check.specs.syntax.Tree.{Word}
 use Rattle.cilk_check.specs.syntax.Tree as tree
 use Rattle.cilk_check.specs.scopes.declared.declaration_kind.DeclarationKind.{DeclarationKind}
@@ -13,13 +12,15 @@ use Rattle.cilk_laws_allowed.specs.labelled.Labelled.{Labelled, Declaration, loc
 use Rattle.cilk_laws_allowed.specs.labelled.Names.{Names, meaning_at, meaning_of, number_of, with_name, with_words, with_parameters, with_local}
 use Rattle.cilk_laws_allowed.specs.labelled.Names.{entered, outward, in_inlet}
 use Rattle.cilk_laws_allowed.specs.model.Change.{is_function}
-use Rattle.cilk_laws_runs.specs.Calls.{owner_of_body, is_inlet}
 use Rattle.cilk_laws_runs.proofs.Right.{is_function_kind, is_inlet_kind, Finds}
+use Rattle.cilk_load.proofs.Found.{meaning-first}
+use Rattle.cilk_check_forms.specs.Finds.{is_inlet}
+use Rattle.cilk_machine.specs.carries.effects.Known.{owner_of}
 
 -- body b is whose the kind says
 abbrev pub KindFits : Labelled → DeclarationKind → ℕ → Type 0
-KindFits program (kind.Function returns n) b = is_function (owner_of_body program b) ≡ true
-KindFits program (kind.Inlet n) b = is_inlet (owner_of_body program b) ≡ true
+KindFits program (kind.Function returns n) b = is_function (owner_of program b) ≡ true
+KindFits program (kind.Inlet n) b = is_inlet (owner_of program b) ≡ true
 KindFits program other b = Unit {0}
 
 abbrev pub Aligned : Labelled → List Declared → List Declaration → Type 0
@@ -31,39 +32,6 @@ pub record Agree (program : Labelled) (names : Names) (scopes : Scopes) : Type 0
   pub same : names.scopes ≡ scopes
   pub aligned : Aligned program (scopes.innermost ++ scopes.outer) names.means
 
-shift : (m n : ℕ) (d : Declaration) (means : List Declaration)
-    → meaning_at (d ∷ means) (cond (nat_lt (1 + m) (suc n)) (Some (1 + m)) None) ≡ meaning_at means (cond (nat_lt m n) (Some m) None)
-shift m n d means = by_cases (cases_lt m n)
-  where
-    e : 1 + m ≡ suc m
-    e = omega arith
-
-    by_cases : (m < n) ⊎ (n ≤ m) → meaning_at (d ∷ means) (cond (nat_lt (1 + m) (suc n)) (Some (1 + m)) None) ≡ meaning_at means
-        (cond (nat_lt m n) (Some m) None)
-    by_cases (inl h) =
-        ap (λ (b : Bool). meaning_at (d ∷ means) (cond b (Some (1 + m)) None)) (lt-ltb (1 + m) (suc n) (omega (arith, h)))
-        ∙ ap (λ k. slice_index_or (d ∷ means) k unknown) e
-        ∙ sym (ap (λ (b : Bool). meaning_at means (cond b (Some m) None)) (lt-ltb m n h))
-    by_cases (inr h) =
-        ap (λ (b : Bool). meaning_at (d ∷ means) (cond b (Some (1 + m)) None)) (le-ltb (1 + m) (suc n) (omega (arith, h)))
-        ∙ sym (ap (λ (b : Bool). meaning_at means (cond b (Some m) None)) (le-ltb m n h))
-
--- the first of some declarations, or one of the others
-meaning-first : (t : Declared → Bool) (x : Declared) (xs : List Declared) (d : Declaration) (means : List Declaration)
-    → meaning_at (d ∷ means) (position t (x ∷ xs)) ≡ cond (t x) d (meaning_at means (position t xs))
-meaning-first t x xs d means = by_test (t x)
-  where
-    m : ℕ
-    m = prefix_len (λ y. not (t y)) xs
-
-    by_test : (b : Bool) → meaning_at (d ∷ means) (cond (nat_lt (cond (not b) (1 + m) 0) (suc (length xs))) (Some (cond (not b) (1 + m) 0)) None) ≡ cond
-        b d (meaning_at means (position t xs))
-    by_test true = ap (λ (b : Bool). meaning_at (d ∷ means) (cond b (Some 0) None)) (lt-ltb 0 (suc (length xs)) (omega arith))
-    by_test false = shift m (length xs) d means
-
-some_is : {A : Type 0} (x y : A) → Some x ≡ Some y → x ≡ y
-some_is x y e = cc
-
 found_fits : (program : Labelled) (t : Declared → Bool) (ds : List Declared) (means : List Declaration) (d : Declared)
     → Aligned program ds means → find t ds ≡ Some d
     → KindFits program d.kind (number_of (meaning_at means (position t ds)))
@@ -74,7 +42,7 @@ found_fits program t (x ∷ ds) (m ∷ means) d h e =
   where
     by : (b : Bool) → (find t ds ≡ Some d → KindFits program d.kind (number_of (meaning_at means (position t ds)))) → cond b (Some x) (find t ds) ≡ Some d
         → KindFits program d.kind (number_of (cond b m (meaning_at means (position t ds))))
-    by true rest k = subst (λ (y : Declared). KindFits program y.kind (number_of m)) (some_is x d k) h.0
+    by true rest k = subst (λ (y : Declared). KindFits program y.kind (number_of m)) (same_Some x d k) h.0
     by false rest k = rest k
 
 pub name_fits : (program : Labelled) (names : Names) (scopes : Scopes) (name : Word) (d : Declared) → Agree program names scopes
@@ -87,7 +55,7 @@ name_fits program names scopes name d agree e =
     (found_fits program (λ x. bytes_eq x.name.text name.text) (scopes.innermost ++ scopes.outer) names.means d agree.aligned e)
 
 function_fits : (program : Labelled) (k : DeclarationKind) (b : ℕ) → is_function_kind k ≡ true → KindFits program k b
-    → is_function (owner_of_body program b) ≡ true
+    → is_function (owner_of program b) ≡ true
 function_fits program (kind.Function returns n) b h f = f
 function_fits program (kind.Inlet n) b h f = cc
 function_fits program kind.Variable b h f = cc
@@ -96,7 +64,7 @@ function_fits program kind.Lock b h f = cc
 function_fits program kind.Strings b h f = cc
 function_fits program (kind.Procedure returns n) b h f = cc
 
-inlet_fits : (program : Labelled) (k : DeclarationKind) (b : ℕ) → is_inlet_kind k ≡ true → KindFits program k b → is_inlet (owner_of_body program b) ≡ true
+inlet_fits : (program : Labelled) (k : DeclarationKind) (b : ℕ) → is_inlet_kind k ≡ true → KindFits program k b → is_inlet (owner_of program b) ≡ true
 inlet_fits program (kind.Inlet n) b h f = f
 inlet_fits program (kind.Function returns n) b h f = cc
 inlet_fits program kind.Variable b h f = cc
@@ -106,12 +74,12 @@ inlet_fits program kind.Strings b h f = cc
 inlet_fits program (kind.Procedure returns n) b h f = cc
 
 pub called_fits : (program : Labelled) (names : Names) (scopes : Scopes) (name : Word) → Agree program names scopes → Finds scopes name is_function_kind
-    → is_function (owner_of_body program (number_of (meaning_of names name))) ≡ true
+    → is_function (owner_of program (number_of (meaning_of names name))) ≡ true
 called_fits program names scopes name agree found =
     function_fits program found.what.kind _ found.fits (name_fits program names scopes name found.what agree found.is)
 
 pub fed_fits : (program : Labelled) (names : Names) (scopes : Scopes) (name : Word) → Agree program names scopes → Finds scopes name is_inlet_kind
-    → is_inlet (owner_of_body program (number_of (meaning_of names name))) ≡ true
+    → is_inlet (owner_of program (number_of (meaning_of names name))) ≡ true
 fed_fits program names scopes name agree found =
     inlet_fits program found.what.kind _ found.fits (name_fits program names scopes name found.what agree found.is)
 

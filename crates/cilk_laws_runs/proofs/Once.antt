@@ -2,6 +2,7 @@
 use Rattle.std.proofs.Common.{◌≡◌, ℕ, suc, ◌+◌, ◌≤◌, Bool, true, false, ◌||◌, cond, List, [], ◌∷◌, ◌++◌, length, Some, ◌⊎◌, inl, inr, is_some, refl}
 use Rattle.std.proofs.Common.{sym, ap, subst, ◌∙◌, if◌then◌else◌, arith, count_by}
 use Rattle.std.proofs.lemmas.List.Sums.{sum_by_push}
+use Rattle.std.proofs.lemmas.Bool.{or_right}
 use Rattle.cilk_laws_allowed.specs.labelled.Labelled.{Labelled}
 use Rattle.cilk_laws_allowed.specs.model.Path.{Path, same_path}
 use Rattle.cilk_laws_allowed.specs.model.State.{State, is_live}
@@ -16,7 +17,7 @@ use Rattle.cilk_laws_placed.proofs.Live.{Lives, row_lives}
 use Rattle.cilk_laws_placed.proofs.Family.{not_root}
 use Rattle.cilk_laws_placed.proofs.Events.{told, told-push, made-push, IsPlain}
 use Rattle.cilk_laws_placed.proofs.Tales.{Tale, rests, parks_it, acts, takes, starts, brings, leaves, row_tale}
-use Rattle.cilk_laws_placed.proofs.Told.{Told, delivered_turns, was_returned}
+use Rattle.cilk_laws_placed.proofs.Told.{Told, delivered_fate, was_returned}
 use Rattle.cilk_laws_placed.proofs.Born.{fresh}
 use Rattle.cilk_laws_placed.proofs.Fates.{told_at}
 use Rattle.cilk_laws_runs.specs.Moments.{is_delivery}
@@ -59,7 +60,7 @@ step_finds events s p live rests alive h = tt
 step_finds events s p live parks_it alive h = tt
 step_finds events s p live (acts t did plain still) alive h = plain_finds events did plain
 step_finds events s p live (takes t c n taking) alive h =
-    was_returned events (events ++ delivered c n ∷ []) s.instances t.instances p c (suc (length events)) h (delivered_turns c n events) alive taking
+    was_returned events (events ++ delivered c n ∷ []) s.instances t.instances p c (suc (length events)) h (delivered_fate c n events) alive taking
 step_finds events s p live (starts t c n started) alive h =
     (fresh events s.instances t.instances p c n h alive started, λ e. not_root p (alive.number + 1) (sym e ∙ alive.child))
 step_finds events s p live (brings t n brought) alive h = h.alive p live
@@ -152,24 +153,20 @@ once_by true made = omega arith
 once_by false true = omega arith
 once_by false false = omega arith
 
+pub or_false : (b : Bool) → (b || false) ≡ b
+or_false true = refl
+or_false false = refl
+
 same_births : (events : List Event) (p : Path) (e : Event) → is_birth p e ≡ false → Births events p → Births (events ++ e ∷ []) p
 same_births events p e none h =
     sum_by_push (λ x. cond (is_birth p x) 1 0) events e ∙ ap (λ b. count_by (is_birth p) events + cond b 1 0) none
     ∙ subst (λ m. count_by (is_birth p) events + 0 ≡ births_of (same_path p []) m)
     (sym (made-push p events e ∙ ap (λ b. was_made events p || b) none ∙ or_false (was_made events p)))
     (omega (arith, h))
-  where
-    or_false : (b : Bool) → (b || false) ≡ b
-    or_false true = refl
-    or_false false = refl
 
 new_birth : (events : List Event) (p : Path) (k : ℕ) → was_made events p ≡ false → (p ≡ [] → ⊥) → Births events p → Births (events ++ spawned p k ∷ []) p
 new_birth events p k unmade child h = root_by (same_path p []) refl
   where
-    or_true : (a b : Bool) → b ≡ true → (a || b) ≡ true
-    or_true true b e = refl
-    or_true false b e = e
-
     root_by : (b : Bool) → same_path p [] ≡ b → Births (events ++ spawned p k ∷ []) p
     root_by true e = absurd (child (same-is p [] e))
     root_by false e =
@@ -177,7 +174,7 @@ new_birth events p k unmade child h = root_by (same_path p []) refl
         let pushed : count_by (is_birth p) (events ++ spawned p k ∷ []) ≡ count_by (is_birth p) events + 1 =
         sum_by_push (λ x. cond (is_birth p x) 1 0) events (spawned p k) ∙ ap (λ b. count_by (is_birth p) events + cond b 1 0) (same-self p) in
         let made : was_made (events ++ spawned p k ∷ []) p ≡ true = made-push p events (spawned p k)
-        ∙ or_true (was_made events p) (same_path p p) (same-self p) in
+        ∙ or_right (was_made events p) (same_path p p) (same-self p) in
         let after : births_of (same_path p []) (was_made (events ++ spawned p k ∷ []) p) ≡ 1 =
         ap (λ b. births_of b (was_made (events ++ spawned p k ∷ []) p)) e ∙ ap (births_of false) made in
         omega (arith, before, pushed, after)

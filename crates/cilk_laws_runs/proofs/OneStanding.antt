@@ -10,10 +10,10 @@ use Rattle.cilk_laws_allowed.specs.model.Path.{Path, same_path}
 use Rattle.cilk_laws_allowed.specs.model.Instance.{Instance}
 use Rattle.cilk_laws_allowed.specs.model.State as state
 use Rattle.cilk_laws_allowed.specs.model.State.{Instances}
-use Rattle.cilk_laws_allowed.specs.model.Places.{WorkerOf}
+use Rattle.cilk_laws_allowed.specs.model.Hands.{WorkerOf}
 use Rattle.cilk_laws_allowed.specs.model.Scheduler.{Worker}
 use Rattle.cilk_laws_allowed.specs.model.Run.{Standing}
-use Rattle.cilk_laws_placed.specs.Places.{times_held, EachInItsPlace}
+use Rattle.cilk_laws_placed.specs.Hands.{times_held, EachInItsPlace}
 use Rattle.cilk_laws_placed.proofs.Entries.{same-is}
 use Rattle.cilk_laws_placed.proofs.Kept.{places_are_kept}
 use Rattle.cilk_machine.specs.frame.Frames.{Frame}

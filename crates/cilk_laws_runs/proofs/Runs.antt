@@ -1,6 +1,7 @@
 -- What holds at one position, and is kept by each choice that is possible, holds at each later one.
 use Rattle.std.proofs.Common.{◌≡◌, ℕ, Bool, true, false, List, [], ◌∷◌, ◌++◌, Option, Some, None, ◌⊎◌, inl, inr, is_none, refl, sym, ap, subst, ◌∙◌}
 use Rattle.std.proofs.Common.{if◌then◌else◌}
+use Rattle.std.proofs.lemmas.List.{append-nil, append_assoc}
 use Rattle.cilk_laws_allowed.specs.labelled.Labelled.{Labelled}
 use Rattle.cilk_laws_allowed.specs.model.Path.{Path}
 use Rattle.cilk_laws_allowed.specs.model.Instance.{Instance}
@@ -13,14 +14,6 @@ use Rattle.cilk_laws_allowed.specs.model.Run.{Standing, Position, refusal_of, ne
 use Rattle.cilk_laws_allowed.specs.model.Run.{event_of_step, state_after, after_from, opening, is_crew, after_main, after, position_after, one_more}
 use Rattle.cilk_laws_placed.proofs.model_laws.Runs.{after-push, Went, went}
 use Rattle.cilk_laws_runs.specs.ChildLaws.{Leads}
-
-pub append-none : {A : Type 0} (xs : List A) → xs ++ [] ≡ xs
-append-none [] = refl
-append-none (x ∷ xs) = ap (λ ys. x ∷ ys) (append-none xs)
-
-pub append-assoc : {A : Type 0} (xs ys zs : List A) → (xs ++ ys) ++ zs ≡ xs ++ (ys ++ zs)
-append-assoc [] ys zs = refl
-append-assoc (x ∷ xs) ys zs = ap (λ us. x ∷ us) (append-assoc xs ys zs)
 
 -- the rest of a list of choices, from where its front led
 abbrev pub rest_from : Labelled → Option Position → List Choice → Option Position
@@ -79,10 +72,10 @@ module _ (program : Labelled) (n : ℕ) (Holds : List Choice → Position → Ty
       → after_from program at.standing at.events rest ≡ Some end → Holds (done ++ rest) end
   each_rest done [] at end known holds h =
       let e : at ≡ end = cc in
-      subst (λ cs. Holds cs end) (sym (append-none done)) (subst (Holds done) e holds)
+      subst (λ cs. Holds cs end) (sym (append-nil done)) (subst (Holds done) e holds)
   each_rest done (c ∷ rest) at end known holds h =
       rest_by done c rest at end (refusal_of program at.standing c) refl
-      (λ free k. subst (λ cs. Holds cs end) (append-assoc done (c ∷ []) rest)
+      (λ free k. subst (λ cs. Holds cs end) (append_assoc done (c ∷ []) rest)
       (each_rest (done ++ c ∷ []) rest (position_after program at c) end (possible_after program n done c at known free)
       (keeps done c at known free holds) k)) h
 

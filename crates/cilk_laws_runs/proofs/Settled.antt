@@ -1,17 +1,20 @@
 -- As an instance passes a `sync` or returns, its children are settled.
-use Rattle.std.proofs.Common.{◌≡◌, ℕ, Bool, true, false, ◌&&◌, ◌||◌, List, [], Option, Some, None, ◌⊎◌, inl, inr, is_some, refl, sym, ap, subst, ◌∙◌}
+use Rattle.std.proofs.Common.{◌≡◌, ℕ, true, false, ◌&&◌, ◌||◌, List, [], Option, Some, None, ◌⊎◌, inl, inr, is_some, refl, sym, ap, subst, ◌∙◌}
+use Rattle.std.proofs.lemmas.Bool.{and_from, or_right}
 use Rattle.std.specs.Prelude.{option_map}
 use Rattle.cilk_laws_allowed.specs.labelled.Labelled.{Labelled, Numbered, Action, call, spawn, sync, abort, return_with, return_nothing, close}
 use Rattle.cilk_laws_allowed.specs.model.Path.{Path, child_path}
 use Rattle.cilk_laws_allowed.specs.model.Instance.{Receiver, Instance}
-use Rattle.cilk_laws_allowed.specs.model.State.{Instances, State, instance_at, is_live, has_live_child, is_empty}
+use Rattle.cilk_laws_allowed.specs.model.State.{State, instance_at, is_live, has_live_child, is_empty}
 use Rattle.cilk_laws_allowed.specs.model.Change.{leaves, is_sync, waits_here}
 use Rattle.cilk_laws_allowed.specs.model.Event.{Event, returned, moved}
 use Rattle.cilk_laws_allowed.specs.model.Fate.{Fate, lives, has_returned, was_delivered, was_aborted}
 use Rattle.cilk_laws_allowed.specs.model.Pick.{step_of_instance}
 use Rattle.cilk_laws_allowed.specs.model.Choice.{Choice}
 use Rattle.cilk_laws_allowed.specs.model.Run.{Standing, event_of, after}
-use Rattle.cilk_laws_placed.proofs.Family.{parent-child, is-child, child_seen}
+use Rattle.cilk_laws_allowed.proofs.Ground.{empty_is}
+use Rattle.cilk_laws_allowed.proofs.Synched.{unseen}
+use Rattle.cilk_laws_placed.proofs.Family.{parent-child}
 use Rattle.cilk_laws_placed.proofs.Events.{told, fate-made}
 use Rattle.cilk_laws_placed.proofs.Told.{Told}
 use Rattle.cilk_laws_placed.proofs.Fates.{told_at}
@@ -20,7 +23,6 @@ use Rattle.cilk_laws_runs.specs.ChildLaws.{ChildrenAreSettled}
 use Rattle.cilk_laws_runs.proofs.Runs.{Stepped, Rested, what_happens, each_later}
 use Rattle.cilk_laws_runs.proofs.Effects.{leaving, sort_of}
 use Rattle.cilk_laws_runs.proofs.Ways.{Acting, way_of}
-use Rattle.cilk_laws_runs.proofs.Taken.{none_below}
 use Rattle.cilk_laws_runs.proofs.Marks.{returns_by, stood}
 use Rattle.cilk_laws_runs.proofs.Track.{has, Track, keeps_track, first_track}
 
@@ -40,15 +42,10 @@ leaves_by (spawn taker callee es) h = cc
 leaves_by abort h = cc
 leaves_by other h = cc
 
-waits_if : (a b c : Bool) → a ≡ true → c ≡ true → (a && (b || c)) ≡ true
-waits_if true true c e f = refl
-waits_if true false c e f = f
-waits_if false b c e f = cc
-
 waitless : (s : State) (p : Path) (i : Instance) (head : Numbered) → instance_at s.instances p ≡ Some i → Acting s p i head
     → waits_here i head.act ≡ true → Waitless s p
 waitless s p i head here acting waits =
-    record { instance = i; lives = here; quiet = none_below i.waiting (acting.quiet waits); childless = acting.childless waits }
+    record { instance = i; lives = here; quiet = empty_is i.waiting (acting.quiet waits); childless = acting.childless waits }
 
 returned_waitless : (program : Labelled) (at : Standing) (choice : Choice) (p : Path) (k : ℕ) → event_of program at choice ≡ returned p k
     → Stepped program at choice ⊎ Rested program at choice → Waitless at.state p
@@ -58,7 +55,7 @@ returned_waitless program at choice p k h (inl stepped) =
     let is = returns_by program at.state q i p k (step_of_instance program at.state q i) (way_of program at.state q i) (sym stepped.did ∙ h) in
     subst (Waitless at.state) is.same
     (waitless at.state q i is.head stepped.lives is.acting
-    (waits_if (is_empty i.below) (is_sync is.head.act) (leaves is.head.act) is.alone (leaves_by is.head.act is.sort)))
+    (and_from _ _ is.alone (or_right (is_sync is.head.act) _ (leaves_by is.head.act is.sort))))
 returned_waitless program at choice p k h (inr rested) = let none : moved ≡ returned p k = sym rested.did ∙ h in cc
 
 settling : (program : Labelled) (at : Standing) (choice : Choice) (p : Path) → Settles program at choice p → Waitless at.state p
@@ -67,11 +64,6 @@ settling program at choice p (passes acts alone) =
     waitless at.state p i acts.head acts.lives (stood program at choice p sync acts).acting
     (ap (λ (x : Action). is_empty i.below && (is_sync x || leaves x)) acts.is ∙ ap (λ bs. is_empty bs && true) alone)
 settling program at choice p (returns k h) = returned_waitless program at choice p k h (what_happens program at choice)
-
--- what lives is seen
-unseen : (entries : Instances) (p : Path) (k : ℕ) → has_live_child entries p ≡ false → (b : Bool) → is_live entries (child_path p k) ≡ b → b ≡ false
-unseen entries p k none true e = let both : true ≡ false = sym (child_seen p (child_path p k) entries (is-child p k) e) ∙ none in cc
-unseen entries p k none false e = refl
 
 unreceived : (o : Option Receiver) → false ≡ is_some o → EndsBy o has_returned
 unreceived None h = untaken
@@ -98,7 +90,7 @@ children_are_settled program n choices choice at next leads p settles k made =
     let c = child_path p k in
     let free = settling program at.standing choice p settles in
     let h = told_at program n choices at leads.before in
-    let gone = unseen s.instances p k free.childless (is_live s.instances c) refl in
+    let gone = unseen p k s.instances free.childless in
     record {
       gone = gone;
       fate = told at.events c;

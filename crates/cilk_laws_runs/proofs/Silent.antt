@@ -3,7 +3,8 @@ use Rattle.std.proofs.Common.{◌≡◌, ◌≢◌, pos, ℕ, suc, ◌+◌, Bool
 use Rattle.std.proofs.Common.{inr, is_some, refl, sym, ap, subst, ◌∙◌, if◌then◌else◌}
 use Rattle.std.specs.Prelude.{option_map}
 use Rattle.std.specs.List.{list_all}
-use Rattle.std.proofs.lemmas.Bool.{and_parts}
+use Rattle.std.proofs.lemmas.Bool.{and_parts, cond-false, false_from_ne_true, true≢false}
+use Rattle.std.proofs.lemmas.List.{append-nil, append_assoc}
 use Rattle.cilk_laws_allowed.specs.labelled.Labelled.{Labelled, Action, call, spawn, abort, return_with, return_nothing, close}
 use Rattle.cilk_laws_allowed.specs.model.Path.{Path, same_path, child_path, is_below}
 use Rattle.cilk_laws_allowed.specs.model.Instance.{Instance, started}
@@ -22,19 +23,16 @@ use Rattle.cilk_laws_placed.proofs.Told.{Told}
 use Rattle.cilk_laws_placed.proofs.Fates.{told_at}
 use Rattle.cilk_laws_runs.specs.Moments.{mark_at, gives_value}
 use Rattle.cilk_laws_runs.specs.ChildLaws.{TheNewAreUnmarked, MarkedBy, OnlyAnAbortMarks, Further, TheMarkedAreSilent}
-use Rattle.cilk_laws_runs.proofs.Runs.{append-none, append-assoc, Stepped, Rested, what_happens, led, possible_after, each_later}
+use Rattle.cilk_laws_runs.proofs.Runs.{Stepped, Rested, what_happens, led, possible_after, each_later}
 use Rattle.cilk_laws_runs.proofs.Effects.{marking, sort_of}
 use Rattle.cilk_laws_runs.proofs.Ways.{Way, resting, parking, ending, stopping, going, writing, entering, quitting, answering, returning, starting}
-use Rattle.cilk_laws_runs.proofs.Ways.{printing, turning, aborts, placing, letting_in, way_of}
+use Rattle.cilk_laws_runs.proofs.Ways.{printing, turning_lock, aborts, placing, letting_in, way_of}
 use Rattle.cilk_laws_runs.proofs.Fields.{Kept, AbortStep, fixed_mark, way_kept}
 use Rattle.cilk_laws_runs.proofs.Marks.{returns_by, marks_below, spares}
 use Rattle.cilk_laws_runs.proofs.Once.{Finds, finds}
 
 abbrev mark_of : Instance → Bool
 mark_of i = i.aborted
-
-some_is : {A : Type 0} (x y : A) → Some x ≡ Some y → x ≡ y
-some_is x y e = cc
 
 -- one that is marked lives
 pub marked_live : (o : Option Instance) (b : Bool) → option_map mark_of o ≡ Some b → is_some o ≡ true
@@ -73,7 +71,7 @@ module _ (program : Labelled) (s : State) (p : Path) (i : Instance) where
   born_unmarked c k _ (answering head cell z acting sort above) h fresh = cc
   born_unmarked c k _ (returning head z acting sort alone) h fresh = cc
   born_unmarked c k _ (printing head bytes acting sort) h fresh = cc
-  born_unmarked c k _ (turning head l now acting sort) h fresh = cc
+  born_unmarked c k _ (turning_lock head l now acting sort) h fresh = cc
   born_unmarked c k _ (aborts head acting sort) h fresh = cc
   born_unmarked c k _ (placing oldest others cell z n taking) h fresh = cc
   born_unmarked c k _ (letting_in oldest others inlet ys zs n taking is) h fresh = cc
@@ -99,18 +97,14 @@ module _ (program : Labelled) (s : State) (p : Path) (i : Instance) where
   spawn_unmarked c t did step (answering head cell z acting sort above) h fresh = cc
   spawn_unmarked c t did step (returning head z acting sort alone) h fresh = cc
   spawn_unmarked c t did step (printing head bytes acting sort) h fresh = cc
-  spawn_unmarked c t did step (turning head l now acting sort) h fresh = cc
+  spawn_unmarked c t did step (turning_lock head l now acting sort) h fresh = cc
   spawn_unmarked c t did step (aborts head acting sort) h fresh = cc
   spawn_unmarked c t did step (placing oldest others cell z n taking) h fresh = cc
   spawn_unmarked c t did step (letting_in oldest others inlet ys zs n taking is) h fresh = cc
 
-not_live_by : (b : Bool) (live : Bool) → (live ≡ true → b ≡ true) → b ≡ false → live ≡ false
-not_live_by b true h e = let both : true ≡ false = sym (h refl) ∙ e in cc
-not_live_by b false h e = refl
-
 -- what was not made does not live
 pub fresh_of : (events : List Event) (entries : Instances) (c : Path) → Told events entries → was_made events c ≡ false → is_live entries c ≡ false
-fresh_of events entries c h unmade = not_live_by (was_made events c) (is_live entries c) (h.made c) unmade
+fresh_of events entries c h unmade = false_from_ne_true (is_live entries c) (λ live. true≢false (sym (h.made c live) ∙ unmade))
 
 new_by : (program : Labelled) (n : ℕ) (choices : List Choice) (choice : Choice) (at : Position) → after program n choices ≡ Some at
     → (c : Path) (k : ℕ) → event_of program at.standing choice ≡ spawned c k
@@ -137,10 +131,6 @@ is_abort (return_with e) h = cc
 is_abort return_nothing h = cc
 is_abort close h = cc
 is_abort other h = cc
-
-second : (a b : Bool) → (a && b) ≡ true → b ≡ true
-second true b h = h
-second false b h = cc
 
 -- a step of p, and what stands at q afterwards
 module _ (program : Labelled) (s : State) (p : Path) (i : Instance) (here : instance_at s.instances p ≡ Some i) (q : Path) where
@@ -188,10 +178,8 @@ module _ (program : Labelled) (s : State) (p : Path) (i : Instance) (here : inst
       unborn parks w l none m = let both : true ≡ false = sym (marked_live (instance_at s.instances q) true m) ∙ none in cc
       unborn (goes_on t did) w l none m = let both : true ≡ false = sym (marked_live (instance_at t.instances q) true m) ∙ l.live q ∙ none in cc
       unborn (ends t did) w l none m =
-          let both : true
-          ≡ false = sym
-          (second (not (same_path q p)) (is_live s.instances q) (sym (l.live q) ∙ marked_live (instance_at t.instances q) true m))
-          ∙ none in cc
+          true≢false
+          (sym (and_parts (not (same_path q p)) (is_live s.instances q) (sym (l.live q) ∙ marked_live (instance_at t.instances q) true m)).1 ∙ none)
       unborn (spawns c t did) w l none m = child_by (same_path c q) refl
         where
           child_by : (b : Bool) → same_path c q ≡ b → ⊥
@@ -271,16 +259,12 @@ pub data Struck (events : List Event) (entries : Instances) (q : Path) : Type 0 
   alive : was_made events q ≡ true → told events q ≡ lives → mark_at entries q ≡ Some true → Struck events entries q
   dead : was_made events q ≡ true → (k : ℕ) → told events q ≡ was_aborted k → Struck events entries q
 
-kept_fate : (b : Bool) (x y : Fate) → b ≡ false → (if b then x else y) ≡ y
-kept_fate true x y e = cc
-kept_fate false x y e = refl
-
 -- what gives no value of q leaves its fate, or ends it
 fate_quiet : (k : ℕ) (q : Path) (e : Event) (fate : Fate) → gives_value q e ≡ false → (fate_by k q e fate ≡ fate) ⊎ (fate_by k q e fate ≡ was_aborted k)
 fate_quiet k q (acted x n) fate h = inl refl
 fate_quiet k q (spawned x n) fate h = inl refl
-fate_quiet k q (delivered x n) fate h = inl (kept_fate (same_path x q) _ _ h)
-fate_quiet k q (returned x n) fate h = inl (kept_fate (same_path x q) _ _ h)
+fate_quiet k q (delivered x n) fate h = inl (cond-false (same_path x q) _ _ h)
+fate_quiet k q (returned x n) fate h = inl (cond-false (same_path x q) _ _ h)
 fate_quiet k q (ended x) fate h = by (same_path x q)
   where
     by : (b : Bool) → ((if b then was_aborted k else fate) ≡ fate) ⊎ ((if b then was_aborted k else fate) ≡ was_aborted k)
@@ -353,7 +337,7 @@ all_push f (x ∷ events) e h k =
 pub further : (before after : List Event) (f : Event → Bool) (e : Event) → f e ≡ true → Further before after f → Further before (after ++ e ∷ []) f
 further before after f e h k = record {
   new = k.new ++ e ∷ [];
-  is = ap (λ es. es ++ e ∷ []) k.is ∙ append-assoc before k.new (e ∷ []);
+  is = ap (λ es. es ++ e ∷ []) k.is ∙ append_assoc before k.new (e ∷ []);
   each = all_push f k.new e k.each h;
 }
 
@@ -368,5 +352,5 @@ the_marked_are_silent program n front rest early late before later p is =
       further early.events x.events f (event_of program x.standing c) (ap not (quiet program n cs c x there p h.0)) h.1,
     ))
     front rest early late before
-    (alive (told_early.made p live) (told_early.alive p live) is, record { new = []; is = sym (append-none early.events); each = refl })
+    (alive (told_early.made p live) (told_early.alive p live) is, record { new = []; is = sym (append-nil early.events); each = refl })
     later).1

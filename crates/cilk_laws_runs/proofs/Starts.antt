@@ -2,6 +2,7 @@
 use Rattle.std.proofs.Common.{◌≡◌, ℕ, ℤ, true, ◌||◌, List, [], ◌∷◌, Some, None, ◌⊎◌, inl, inr, sym, ap, subst, ◌∙◌, if◌then◌else◌}
 use Rattle.std.specs.Prelude.{option_map}
 use Rattle.std.proofs.lemmas.Bool.{and_parts}
+use Rattle.std.proofs.lemmas.Option.{same_Some}
 use Rattle.cilk_laws_allowed.specs.labelled.Labelled.{Labelled}
 use Rattle.cilk_laws_allowed.specs.labelled.Items.{head_of}
 use Rattle.cilk_laws_allowed.specs.model.Path.{Path, parent_of}
@@ -12,19 +13,19 @@ use Rattle.cilk_laws_allowed.specs.model.Event.{delivered, moved}
 use Rattle.cilk_laws_allowed.specs.model.Pick.{step_by_receiver, step_at_boundary, step_by_head, step_of_aborted, step_of_instance}
 use Rattle.cilk_laws_allowed.specs.model.Choice.{Choice}
 use Rattle.cilk_laws_allowed.specs.model.Run.{Position, next_of, event_of, state_after, after}
+use Rattle.cilk_laws_allowed.proofs.Ground.{empty_is}
 use Rattle.cilk_laws_placed.proofs.Entries.{at-changed_same}
 use Rattle.cilk_laws_placed.proofs.Fates.{told_at}
 use Rattle.cilk_laws_placed.proofs.Sound.{Sound}
-use Rattle.cilk_laws_runs.specs.Calls.{owner_of_body, is_inlet, action_suits, calls_suit}
+use Rattle.cilk_laws_runs.specs.Calls.{action_suits, calls_suit}
 use Rattle.cilk_laws_runs.specs.Inlets.{in_inlet, HasStarted}
 use Rattle.cilk_laws_runs.specs.ChildLaws.{IsTaken, EachInletStarts, OnlyProceduresSync}
 use Rattle.cilk_laws_runs.proofs.Runs.{Stepped, Rested, what_happens, led}
 use Rattle.cilk_laws_runs.proofs.Ways.{Taking, way_of}
-use Rattle.cilk_laws_runs.proofs.Taken.{none_below, takes_by}
+use Rattle.cilk_laws_runs.proofs.Taken.{takes_by}
 use Rattle.cilk_laws_runs.proofs.Suited.{head_suits, let_in, each_suits}
-
-some_is : {A : Type 0} (x y : A) → Some x ≡ Some y → x ≡ y
-some_is x y e = cc
+use Rattle.cilk_check_forms.specs.Finds.{is_inlet}
+use Rattle.cilk_machine.specs.carries.effects.Known.{owner_of}
 
 first_is : {A : Type 0} (x y : A) (xs ys : List A) → x ∷ xs ≡ y ∷ ys → x ≡ y
 first_is x y xs ys e = cc
@@ -44,10 +45,10 @@ inlet_step program s p i oldest others inlet m ys taking is =
 
 has_started : (program : Labelled) (s : State) (p : Path) (i : Instance) → instance_at s.instances p ≡ Some i
     → (others : List Delivery) (inlet : ℕ) (zs : List ℤ) → at_boundary i ≡ true
-    → is_inlet (owner_of_body program inlet) ≡ true → HasStarted program p i (after_inlet program s p i others inlet zs).instances
+    → is_inlet (owner_of program inlet) ≡ true → HasStarted program p i (after_inlet program s p i others inlet zs).instances
 has_started program s p i here others inlet zs boundary is =
     let later : Instance = above (entered program inlet zs None) (record i { waiting = others }) in
-    let alone = none_below i.below (and_parts (is_empty i.below) (i.spawned || head_waits i (head_of i.top.items)) boundary).0 in
+    let alone = empty_is i.below (and_parts (is_empty i.below) (i.spawned || head_waits i (head_of i.top.items)) boundary).0 in
     let below : later.below ≡ i.top ∷ [] = ap (λ bs. i.top ∷ bs) alone in
     record {
       later = later;
@@ -70,8 +71,8 @@ stepped_starts program suits n choices choice at known c k h taken inlet m ys is
     let takes = takes_by program s p i c k (step_of_instance program s p i) (way_of program s p i) (sym stepped.did ∙ h) in
     let waits = (told_at program n choices at known).waits p i.waiting (ap (option_map (λ (x : Instance). x.waiting)) stepped.lives) in
     let sound : Sound at.events p (takes.oldest ∷ takes.others) = subst (Sound at.events p) takes.taking.waits waits in
-    let parent : p ≡ taken.parent = some_is p taken.parent (sym sound.0 ∙ ap parent_of takes.brings ∙ taken.is_parent) in
-    let same : i ≡ taken.instance = some_is i taken.instance (sym stepped.lives ∙ ap (instance_at s.instances) parent ∙ taken.lives) in
+    let parent : p ≡ taken.parent = same_Some p taken.parent (sym sound.0 ∙ ap parent_of takes.brings ∙ taken.is_parent) in
+    let same : i ≡ taken.instance = same_Some i taken.instance (sym stepped.lives ∙ ap (instance_at s.instances) parent ∙ taken.lives) in
     let first : takes.oldest ≡ taken.delivery =
     first_is takes.oldest taken.delivery takes.others taken.others (sym takes.taking.waits ∙ ap (λ (x : Instance). x.waiting) same ∙ taken.first) in
     let receives : takes.oldest.receiver ≡ through inlet ys m = ap (λ (d : Delivery). d.receiver) first ∙ is in
@@ -93,5 +94,5 @@ pub only_procedures_sync : OnlyProceduresSync
 only_procedures_sync program suits n choices choice at known p acts =
     let i = acts.instance in
     let suited = each_suits program suits n choices at known p i acts.lives in
-    none_below i.below
+    empty_is i.below
     (ap (action_suits program (is_empty i.below)) (sym acts.is) ∙ head_suits program i.top i.below acts.head suited.stack acts.first)

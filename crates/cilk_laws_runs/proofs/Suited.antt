@@ -20,18 +20,20 @@ use Rattle.cilk_laws_allowed.specs.model.Choice.{Choice}
 use Rattle.cilk_laws_allowed.specs.model.Run.{Standing, Position, next_of, state_after, after}
 use Rattle.cilk_laws_placed.proofs.Entries.{same-is, at-changed_same, at-changed_other, at-without_other, live-without, either_of, at-push}
 use Rattle.cilk_laws_allowed.proofs.Lookups.{marked, at-marked_below, at-marked_beside}
-use Rattle.cilk_laws_runs.specs.Calls.{owner_of_body, is_inlet, taker_suits, action_suits, calls_suit}
+use Rattle.cilk_laws_runs.specs.Calls.{taker_suits, action_suits, calls_suit}
 use Rattle.cilk_laws_runs.specs.Inlets.{runs_inlet, IsOfInlet}
 use Rattle.cilk_laws_runs.proofs.Runs.{Stepped, Rested, what_happens, each_position}
 use Rattle.cilk_laws_runs.proofs.Effects.{calling, spawning, sort_of, Fits, Spawns}
 use Rattle.cilk_laws_runs.proofs.Items.{HoldsItems, opened_holds, next_holds, head_holds, body_holds, freer, items_weaker}
 use Rattle.cilk_laws_runs.proofs.Ways.{Acting, Taking, Way, resting, parking, ending, stopping, going, writing, entering, quitting, answering}
-use Rattle.cilk_laws_runs.proofs.Ways.{returning, starting, printing, turning, aborts, placing, letting_in, way_of}
+use Rattle.cilk_laws_runs.proofs.Ways.{returning, starting, printing, turning_lock, aborts, placing, letting_in, way_of}
+use Rattle.cilk_check_forms.specs.Finds.{is_inlet}
+use Rattle.cilk_machine.specs.carries.effects.Known.{owner_of}
 
 -- right above the procedure's own activation any other body's may stand, and above that only a C function's
 abbrev pub MayStand : Labelled → Activation → List Activation → Type 0
 MayStand program a [] = Unit {0}
-MayStand program a (c ∷ below) = is_function (owner_of_body program a.body) ≡ true
+MayStand program a (c ∷ below) = is_function (owner_of program a.body) ≡ true
 
 -- the activations from the one that goes on down to the procedure's own
 abbrev pub Stack : Labelled → Activation → List Activation → Type 0
@@ -39,7 +41,7 @@ Stack program a [] = HoldsItems (action_suits program true) a.items
 Stack program a (b ∷ below) = HoldsItems (action_suits program false) a.items × MayStand program a below × Stack program b below
 
 abbrev pub Receives : Labelled → Option Receiver → Type 0
-Receives program (Some (through b ys n)) = is_inlet (owner_of_body program b) ≡ true
+Receives program (Some (through b ys n)) = is_inlet (owner_of program b) ≡ true
 Receives program other = Unit {0}
 
 abbrev pub AllReceive : Labelled → List Delivery → Type 0
@@ -59,9 +61,9 @@ head_suits program a (b ∷ below) head h e = head_holds (action_suits program f
 
 same_body : (program : Labelled) (a c : Activation) (below : List Activation) → c.body ≡ a.body → MayStand program a below → MayStand program c below
 same_body program a c [] e h = tt
-same_body program a c (d ∷ below) e h = ap (λ b. is_function (owner_of_body program b)) e ∙ h
+same_body program a c (d ∷ below) e h = ap (λ b. is_function (owner_of program b)) e ∙ h
 
-function_stands : (program : Labelled) (a : Activation) (below : List Activation) → is_function (owner_of_body program a.body) ≡ true
+function_stands : (program : Labelled) (a : Activation) (below : List Activation) → is_function (owner_of program a.body) ≡ true
     → MayStand program a below
 function_stands program a [] h = tt
 function_stands program a (c ∷ below) h = h
@@ -116,8 +118,8 @@ no_procedure_in (Procedure returns) h = cc
 no_procedure_in Inlet h = refl
 
 called_by : (program : Labelled) (own : Bool) (act : Action) (callee : ℕ) → sort_of act ≡ calling callee
-    → action_suits program own act ≡ true → is_function (owner_of_body program callee) ≡ true
-called_by program own (call what b es) callee e h = let is : b ≡ callee = cc in ap (λ x. is_function (owner_of_body program x)) (sym is) ∙ h
+    → action_suits program own act ≡ true → is_function (owner_of program callee) ≡ true
+called_by program own (call what b es) callee e h = let is : b ≡ callee = cc in ap (λ x. is_function (owner_of program x)) (sym is) ∙ h
 called_by program own (spawn taker b es) callee e h = cc
 called_by program own abort callee e h = cc
 called_by program own (return_with v) callee e h = cc
@@ -146,7 +148,7 @@ fits_receives program (into what) (Some (place r n)) f h = tt
 fits_receives program (into what) (Some (through b ys n)) f h = absurd f
 fits_receives program (labelled.through inlet others) None f h = absurd f
 fits_receives program (labelled.through inlet others) (Some (place r n)) f h = absurd f
-fits_receives program (labelled.through inlet others) (Some (through b ys n)) f h = ap (λ x. is_inlet (owner_of_body program x)) f ∙ h
+fits_receives program (labelled.through inlet others) (Some (through b ys n)) f h = ap (λ x. is_inlet (owner_of program x)) f ∙ h
 
 -- each instance that is found
 abbrev pub Each : Labelled → Instances → Type 0
@@ -199,7 +201,7 @@ module _ (program : Labelled) where
 
   module _ (suits : calls_suit program ≡ true) where
     -- a body is entered above another
-    entered_suits : (b : ℕ) (zs : List ℤ) (awaits : Option Reached) → is_procedure (owner_of_body program b) ≡ false
+    entered_suits : (b : ℕ) (zs : List ℤ) (awaits : Option Reached) → is_procedure (owner_of program b) ≡ false
         → HoldsItems (action_suits program false) (entered program b zs awaits).items
     entered_suits b zs awaits e = body_holds program suits b false e
 
@@ -207,9 +209,9 @@ module _ (program : Labelled) where
         → Suited program (record (started program b zs) { aborted = aborted; receiver = receiver })
     started_suits b zs aborted receiver h = record {
       stack =
-          items_weaker (action_suits program (is_procedure (owner_of_body program b))) (action_suits program true)
-          (freer program (is_procedure (owner_of_body program b))) _
-          (body_holds program suits b (is_procedure (owner_of_body program b)) refl);
+          items_weaker (action_suits program (is_procedure (owner_of program b))) (action_suits program true)
+          (freer program (is_procedure (owner_of program b))) _
+          (body_holds program suits b (is_procedure (owner_of program b)) refl);
       receiver = h;
       waiting = tt;
     }
@@ -273,7 +275,7 @@ module _ (program : Labelled) where
           let function = called_by program (is_empty i.below) head.act callee sort (head_here head acting) in
           replaced (above (entered program callee zs awaits) (gone_on (pos 1) i)) (record {
             stack = (
-              entered_suits callee zs awaits (no_procedure_by (owner_of_body program callee) function),
+              entered_suits callee zs awaits (no_procedure_by (owner_of program callee) function),
               function_stands program (entered program callee zs awaits) i.below function,
               on.stack,
             );
@@ -295,7 +297,7 @@ module _ (program : Labelled) where
 
       pub let_in : (oldest : Delivery) (others : List Delivery) (inlet : ℕ) (ys zs : List ℤ) (n : ℕ) → Taking i oldest others
           → oldest.receiver ≡ through inlet ys n
-          → is_inlet (owner_of_body program inlet) ≡ true
+          → is_inlet (owner_of program inlet) ≡ true
       let_in oldest others inlet ys zs n taking is =
           subst (λ x. Receives program (Some x)) is (subst (AllReceive program) taking.waits own.waiting).0
 
@@ -306,7 +308,7 @@ module _ (program : Labelled) where
           let on = waiting_suits i oldest others taking.waits own in
           replaced (above (entered program inlet zs None) (record i { waiting = others })) (record {
             stack = (
-              entered_suits inlet zs None (no_procedure_in (owner_of_body program inlet) (let_in oldest others inlet ys zs n taking is)),
+              entered_suits inlet zs None (no_procedure_in (owner_of program inlet) (let_in oldest others inlet ys zs n taking is)),
               lowest_stands program (entered program inlet zs None) i.below (and_parts (is_empty i.below) _ taking.boundary).0,
               on.stack,
             );
@@ -327,7 +329,7 @@ module _ (program : Labelled) where
       way_each (returning head z acting sort alone) = return_each s p i z (parent_of p) own all
       way_each (starting head receiver callee zs acting written) = start_each head receiver callee zs acting written
       way_each (printing head bytes acting sort) = replaced (gone_on (pos 1) i) (gone_suits (pos 1) i own)
-      way_each (turning head k now acting sort) = replaced (gone_on (pos 1) i) (gone_suits (pos 1) i own)
+      way_each (turning_lock head k now acting sort) = replaced (gone_on (pos 1) i) (gone_suits (pos 1) i own)
       way_each (aborts head acting sort) = marked_each
       way_each (placing oldest others cell z n taking) =
           replaced (put cell z (record i { waiting = others }))

@@ -1,9 +1,11 @@
 -- What becomes of a child, by what took its value where it lived.
-use Rattle.std.proofs.Common.{◌≡◌, ℕ, suc, ℤ, pos, Bool, true, false, not, ◌&&◌, ◌||◌, List, [], ◌∷◌, ◌++◌, length, Option, Some, None, ◌⊎◌, inl, inr}
+use Rattle.std.proofs.Common.{◌≡◌, ℕ, suc, ℤ, pos, Bool, true, false, not, ◌||◌, List, [], ◌∷◌, ◌++◌, length, Option, Some, None, ◌⊎◌, inl, inr}
 use Rattle.std.proofs.Common.{is_some, refl, sym, ap, subst, ◌∙◌, if◌then◌else◌}
 use Rattle.std.specs.Prelude.{option_map}
 use Rattle.std.specs.List.{list_any}
 use Rattle.std.proofs.lemmas.List.Folds.{list_any-append}
+use Rattle.std.proofs.lemmas.Option.{same_Some}
+use Rattle.std.proofs.lemmas.Bool.{and_parts, cond-true, cond-false, not-true}
 use Rattle.cilk_laws_allowed.specs.labelled.Labelled.{Labelled}
 use Rattle.cilk_laws_allowed.specs.model.Path.{Path, same_path, parent_of, is_below}
 use Rattle.cilk_laws_allowed.specs.model.Instance.{Receiver, Delivery, Instance}
@@ -23,7 +25,7 @@ use Rattle.cilk_laws_placed.proofs.Events.{told, told-push, told-plain}
 use Rattle.cilk_laws_placed.proofs.Waits.{waits_at, beside-without, at-brought}
 use Rattle.cilk_laws_placed.proofs.Tales.{IsOf, Brought, Tale, rests, parks_it, acts, takes, starts, brings, leaves, row_tale}
 use Rattle.cilk_laws_placed.proofs.Sound.{Lacks, Sound, lacks_living}
-use Rattle.cilk_laws_placed.proofs.Told.{Told, delivered_turns, was_returned}
+use Rattle.cilk_laws_placed.proofs.Told.{Told, delivered_fate, was_returned}
 use Rattle.cilk_laws_placed.proofs.Ended.{waits_live}
 use Rattle.cilk_laws_placed.proofs.Born.{fresh}
 use Rattle.cilk_laws_placed.proofs.Fates.{told_at}
@@ -32,6 +34,7 @@ use Rattle.cilk_laws_runs.proofs.Ways.{Way, way_of}
 use Rattle.cilk_laws_runs.proofs.Fields.{field, field-replaced, Kept, AbortStep, fixed_receiver, way_kept}
 use Rattle.cilk_laws_runs.proofs.Marks.{Returns, returns_by}
 use Rattle.cilk_laws_runs.proofs.Silent.{made_still}
+use Rattle.cilk_laws_runs.proofs.Once.{or_false}
 
 abbrev receiver_of : Instance → Option Receiver
 receiver_of i = i.receiver
@@ -46,14 +49,6 @@ pub record Track (c : Path) (receiver : Option Receiver) (events : List Event) (
   pub alive : told events c ≡ lives → field receiver_of entries c ≡ Some receiver
   pub waits : told events c ≡ has_returned → (q : Path) (ds : List Delivery) → parent_of c ≡ Some q → waits_at entries q ≡ Some ds → has c ds ≡ is_some receiver
   pub taken : (k : ℕ) → told events c ≡ was_delivered k → is_some receiver ≡ true
-
-chosen : (b : Bool) (x y : Fate) → b ≡ true → (if b then x else y) ≡ x
-chosen true x y e = refl
-chosen false x y e = cc
-
-passed : (b : Bool) (x y : Fate) → b ≡ false → (if b then x else y) ≡ y
-passed true x y e = cc
-passed false x y e = refl
 
 -- what lives after an event lived before
 lived_before : (k : ℕ) (c : Path) (e : Event) (fate : Fate) → fate_by k c e fate ≡ lives → fate ≡ lives
@@ -113,21 +108,10 @@ own_has p z (Some receiver) false h = ap (λ b. b || false) (same-self p)
 has-append : (c : Path) (ds new : List Delivery) → has c (ds ++ new) ≡ (has c ds || has c new)
 has-append c ds new = list_any-append (λ d. same_path d.child c) ds new
 
-or_false : (b : Bool) → (b || false) ≡ b
-or_false true = refl
-or_false false = refl
-
-some_is : {A : Type 0} (x y : A) → Some x ≡ Some y → x ≡ y
-some_is x y e = cc
-
 appended : (o : Option (List Delivery)) (new ds : List Delivery) → option_map (λ xs. xs ++ new) o ≡ Some ds → (old : List Delivery)
     × (o ≡ Some old) × (old ++ new ≡ ds)
 appended None new ds h = cc
 appended (Some old) new ds h = (old, refl, cc)
-
-first_false : (a b : Bool) → (not a && b) ≡ true → a ≡ false
-first_false true b h = cc
-first_false false b h = refl
 
 parent_made : (events : List Event) (entries : Instances) (c q : Path) → Told events entries → was_made events c ≡ true
     → parent_of c ≡ Some q → was_made events q ≡ true
@@ -165,31 +149,33 @@ module _ (program : Labelled) (s : State) (p : Path) (i : Instance) (here : inst
       by true e =
           let is = same-is x c e in
           let was = was_returned events (events ++ delivered x n ∷ []) s.instances t.instances p x (suc (length events)) h
-          (delivered_turns x n events) alive taking in
+          (delivered_fate x n events) alive taking in
           let sound : Sound events p (taking.oldest ∷ taking.others) = h.waits p (taking.oldest ∷ taking.others) taking.before in
           let first : same_path taking.oldest.child c ≡ true = ap (λ y. same_path y c) (taking.child ∙ is) ∙ same-self c in
           sym
           (track.waits (ap (told events) (sym is) ∙ was) p (taking.oldest ∷ taking.others)
           (ap parent_of (sym is ∙ sym taking.child) ∙ sound.0) taking.before)
           ∙ ap (λ b. b || has c taking.others) first
-      by false e = track.taken k (sym (told-push c events (delivered x n) ∙ passed (same_path x c) _ _ e) ∙ fate)
+      by false e = track.taken k (sym (told-push c events (delivered x n) ∙ cond-false (same_path x c) _ _ e) ∙ fate)
   taken_next step live (starts t x n started) alive k fate = track.taken k (sym (told-push c events (spawned x n)) ∙ fate)
   taken_next step live (brings t n brought) alive k fate = by (same_path p c) refl
     where
       by : (b : Bool) → same_path p c ≡ b → is_some receiver ≡ true
-      by true e = let both : has_returned ≡ was_delivered k = sym (told-push c events (returned p n) ∙ chosen (same_path p c) _ _ e) ∙ fate in cc
-      by false e = track.taken k (sym (told-push c events (returned p n) ∙ passed (same_path p c) _ _ e) ∙ fate)
+      by true e = let both : has_returned ≡ was_delivered k = sym (told-push c events (returned p n) ∙ cond-true (same_path p c) _ _ e) ∙ fate in cc
+      by false e = track.taken k (sym (told-push c events (returned p n) ∙ cond-false (same_path p c) _ _ e) ∙ fate)
   taken_next step live (leaves t beside) alive k fate = by (same_path p c) refl
     where
       by : (b : Bool) → same_path p c ≡ b → is_some receiver ≡ true
       by true e =
-          let both : was_aborted (suc (length events)) ≡ was_delivered k = sym (told-push c events (ended p) ∙ chosen (same_path p c) _ _ e)
+          let both : was_aborted (suc (length events)) ≡ was_delivered k = sym (told-push c events (ended p) ∙ cond-true (same_path p c) _ _ e)
           ∙ fate in cc
-      by false e = track.taken k (sym (told-push c events (ended p) ∙ passed (same_path p c) _ _ e) ∙ fate)
+      by false e = track.taken k (sym (told-push c events (ended p) ∙ cond-false (same_path p c) _ _ e) ∙ fate)
 
   -- nothing waits at what ended
   away : (t : State) → Fewer p s.instances t.instances → (q : Path) (ds : List Delivery) → waits_at t.instances q ≡ Some ds → same_path q p ≡ false
-  away t fewer q ds there = first_false (same_path q p) (is_live s.instances q) (sym (fewer.live q) ∙ waits_live (instance_at t.instances q) ds there)
+  away t fewer q ds there =
+      let lives = sym (fewer.live q) ∙ waits_live (instance_at t.instances q) ds there in
+      not-true (same_path q p) (and_parts (not (same_path q p)) (is_live s.instances q) lives).0
 
   -- what c brings as it returns
   own_waits : (t : State) (n : ℕ) → same_path p c ≡ true → Fewer p s.instances t.instances → Returns s p i (ends t (returned p n)) p
@@ -207,7 +193,7 @@ module _ (program : Labelled) (s : State) (p : Path) (i : Instance) (here : inst
       let fate : told events c ≡ lives = ap (told events) (sym at) ∙ h.alive p live_p in
       let old : has c parts.0 ≡ false = lacks_has c parts.0 (lacks_living events c q parts.0 fate (h.waits q parts.0 parts.1)) in
       let takes_it : receiver ≡ i.receiver =
-      some_is receiver i.receiver (sym (track.alive fate) ∙ ap (field receiver_of s.instances) (sym at) ∙ ap (option_map receiver_of) here) in
+      same_Some receiver i.receiver (sym (track.alive fate) ∙ ap (field receiver_of s.instances) (sym at) ∙ ap (option_map receiver_of) here) in
       ap (has c) (sym parts.2) ∙ has-append c parts.0 new ∙ ap (λ b. b || has c new) old
       ∙ ap (λ x. has x new) (sym at) ∙ own_has p is.value i.receiver i.aborted is.acting.unmarked ∙ ap is_some (sym takes_it)
 
@@ -235,7 +221,7 @@ module _ (program : Labelled) (s : State) (p : Path) (i : Instance) (here : inst
         where
           same_by : (b : Bool) → same_path q r ≡ b → has c ds ≡ is_some receiver
           same_by true f = with_it (e ∙ ap (λ x. Some x) (sym (same-is q r f)))
-          same_by false f = beside_it (λ x g. ap (same_path q) (some_is x r (sym g ∙ e)) ∙ f)
+          same_by false f = beside_it (λ x g. ap (same_path q) (same_Some x r (sym g ∙ e)) ∙ f)
 
   waits_next : (step : Step) → Tale s p step → Lives s p step → Way program s p i step
       → told (events ++ event_of_step step ∷ []) c ≡ has_returned → (q : Path) (ds : List Delivery)
@@ -248,7 +234,7 @@ module _ (program : Labelled) (s : State) (p : Path) (i : Instance) (here : inst
     where
       at_p : told events c ≡ has_returned → same_path x c ≡ false → q ≡ p → has c ds ≡ is_some receiver
       at_p before other is =
-          let rest : taking.others ≡ ds = some_is taking.others ds (sym taking.now ∙ ap (waits_at t.instances) (sym is) ∙ there) in
+          let rest : taking.others ≡ ds = same_Some taking.others ds (sym taking.now ∙ ap (waits_at t.instances) (sym is) ∙ there) in
           let first : same_path taking.oldest.child c ≡ false = ap (λ y. same_path y c) taking.child ∙ other in
           ap (has c) (sym rest) ∙ ap (λ b. b || has c taking.others) (sym first)
           ∙ track.waits before p (taking.oldest ∷ taking.others) (parent ∙ ap (λ y. Some y) is) taking.before
@@ -259,8 +245,9 @@ module _ (program : Labelled) (s : State) (p : Path) (i : Instance) (here : inst
 
       by : (b : Bool) → same_path x c ≡ b → has c ds ≡ is_some receiver
       by true e =
-          let both : was_delivered (suc (length events)) ≡ has_returned = sym (told-push c events (delivered x n) ∙ chosen (same_path x c) _ _ e) ∙ fate in cc
-      by false e = at_by (sym (told-push c events (delivered x n) ∙ passed (same_path x c) _ _ e) ∙ fate) e (same_path q p) refl
+          let both : was_delivered (suc (length events))
+          ≡ has_returned = sym (told-push c events (delivered x n) ∙ cond-true (same_path x c) _ _ e) ∙ fate in cc
+      by false e = at_by (sym (told-push c events (delivered x n) ∙ cond-false (same_path x c) _ _ e) ∙ fate) e (same_path q p) refl
   waits_next step (starts t x n started) alive way fate q ds parent there = by (same_path x q) refl
     where
       by : (b : Bool) → same_path x q ≡ b → has c ds ≡ is_some receiver
@@ -273,13 +260,15 @@ module _ (program : Labelled) (s : State) (p : Path) (i : Instance) (here : inst
     where
       by : (b : Bool) → same_path p c ≡ b → has c ds ≡ is_some receiver
       by true e = own_waits t n e alive (returns_by program s p i p n (ends t (returned p n)) way refl) q ds parent there
-      by false e = other_waits t n e (sym (told-push c events (returned p n) ∙ passed (same_path p c) _ _ e) ∙ fate) alive brought q ds parent there
+      by false e = other_waits t n e (sym (told-push c events (returned p n) ∙ cond-false (same_path p c) _ _ e) ∙ fate) alive brought q ds parent there
   waits_next step (leaves t beside) alive way fate q ds parent there = by (same_path p c) refl
     where
       by : (b : Bool) → same_path p c ≡ b → has c ds ≡ is_some receiver
-      by true e = let both : was_aborted (suc (length events)) ≡ has_returned = sym (told-push c events (ended p) ∙ chosen (same_path p c) _ _ e) ∙ fate in cc
+      by true e =
+          let both : was_aborted (suc (length events)) ≡ has_returned = sym (told-push c events (ended p) ∙ cond-true (same_path p c) _ _ e)
+          ∙ fate in cc
       by false e =
-          track.waits (sym (told-push c events (ended p) ∙ passed (same_path p c) _ _ e) ∙ fate) q ds parent
+          track.waits (sym (told-push c events (ended p) ∙ cond-false (same_path p c) _ _ e) ∙ fate) q ds parent
           (sym (beside q (away t alive q ds there)) ∙ there)
 
   pub step_track : Told (events ++ event_of_step (step_of_instance program s p i) ∷ []) (state_after s (step_of_instance program s p i)).instances

@@ -1,5 +1,7 @@
 -- One that is marked takes no value of a child.
 use Rattle.std.proofs.Common.{◌≡◌, ℕ, Bool, true, false, not, List, [], ◌∷◌, Some, ◌⊎◌, inl, inr, is_some, refl, sym, ap, subst, ◌∙◌}
+use Rattle.std.proofs.lemmas.List.{append-nil}
+use Rattle.std.proofs.lemmas.Option.{same_Some}
 use Rattle.std.specs.Prelude.{option_map}
 use Rattle.cilk_laws_allowed.specs.labelled.Labelled.{Labelled}
 use Rattle.cilk_laws_allowed.specs.model.Path.{Path, parent_of}
@@ -15,13 +17,10 @@ use Rattle.cilk_laws_placed.proofs.Fates.{told_at}
 use Rattle.cilk_laws_placed.proofs.Sound.{Sound}
 use Rattle.cilk_laws_runs.specs.Moments.{is_delivery}
 use Rattle.cilk_laws_runs.specs.ChildLaws.{Further, TheMarkedTakeNothing}
-use Rattle.cilk_laws_runs.proofs.Runs.{append-none, Stepped, Rested, what_happens, each_later}
+use Rattle.cilk_laws_runs.proofs.Runs.{Stepped, Rested, what_happens, each_later}
 use Rattle.cilk_laws_runs.proofs.Ways.{way_of}
 use Rattle.cilk_laws_runs.proofs.Taken.{takes_by}
 use Rattle.cilk_laws_runs.proofs.Silent.{marked_live, Struck, alive, dead, struck_next, further}
-
-some_is : {A : Type 0} (x y : A) → Some x ≡ Some y → x ≡ y
-some_is x y e = cc
 
 module _ (program : Labelled) (n : ℕ) (choices : List Choice) (choice : Choice) (at : Position) (known : after program n choices ≡ Some at)
     (p c : Path) (parent : parent_of c ≡ Some p) (struck : Struck at.events at.standing.state.instances p) where
@@ -41,7 +40,7 @@ module _ (program : Labelled) (n : ℕ) (choices : List Choice) (choice : Choice
       let takes = takes_by program s q i c k (step_of_instance program s q i) (way_of program s q i) (sym stepped.did ∙ h) in
       let waits = (told_at program n choices at known).waits q i.waiting (ap (option_map (λ (x : Instance). x.waiting)) stepped.lives) in
       let sound : Sound at.events q (takes.oldest ∷ takes.others) = subst (Sound at.events q) takes.taking.waits waits in
-      let same : q ≡ p = some_is q p (sym sound.0 ∙ ap parent_of takes.brings ∙ parent) in
+      let same : q ≡ p = same_Some q p (sym sound.0 ∙ ap parent_of takes.brings ∙ parent) in
       unmarked_not i (ap (instance_at s.instances) (sym same) ∙ stepped.lives) takes.taking.unmarked struck
 
   nothing_by : (e : Event) → event_of program at.standing choice ≡ e → (b : Bool) → is_delivery c e ≡ b → b ≡ false
@@ -68,5 +67,5 @@ the_marked_take_nothing program n front rest early late before later p is c pare
       further early.events x.events f (event_of program x.standing d) (ap not (nothing_taken program n cs d x there p c parent h.0)) h.1,
     ))
     front rest early late before
-    (alive (told_early.made p live) (told_early.alive p live) is, record { new = []; is = sym (append-none early.events); each = refl })
+    (alive (told_early.made p live) (told_early.alive p live) is, record { new = []; is = sym (append-nil early.events); each = refl })
     later).1

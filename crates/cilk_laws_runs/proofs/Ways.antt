@@ -1,25 +1,25 @@
 -- Each way in which a live instance may take a step, with all that is known there.
 use Rattle.std.proofs.Common.{◌≡◌, ℕ, ℤ, ◌^◌, ◌+◌, ◌-◌, nat_lt, nat_le, Bool, true, false, not, ◌&&◌, ◌||◌, List, [], ◌∷◌, length, Option, Some, None}
 use Rattle.std.proofs.Common.{Result, Ok, Err, ◌⊎◌, inl, inr, refl, sym, ap, ◌∙◌}
-use Rattle.std.proofs.lemmas.Bool.{cond_both, and_parts}
+use Rattle.std.proofs.lemmas.Bool.{cond_both, and_parts, not-false, not-true}
 use Rattle.cilk_laws_allowed.specs.labelled.declared.trap.Trap.{Trap}
 use Rattle.cilk_laws_allowed.specs.labelled.Labelled.{Labelled, Numbered}
 use Rattle.cilk_laws_allowed.specs.labelled.Items.{head_of}
 use Rattle.cilk_laws_allowed.specs.model.Values.{Cell, Reached, environment, read_at, combined}
-use Rattle.cilk_laws_allowed.specs.model.Effect.{Effect, writes, answers, enters, gives, starts, writes_out, turns, marks}
+use Rattle.cilk_laws_allowed.specs.model.Effect.{Effect, writes, answers, enters, gives, starts, writes_out, turns_lock, marks}
 use Rattle.cilk_laws_allowed.specs.model.Path.{Path, child_path}
 use Rattle.cilk_laws_allowed.specs.model.Instance as instance
 use Rattle.cilk_laws_allowed.specs.model.Instance.{Receiver, place, Delivery, Instance}
 use Rattle.cilk_laws_allowed.specs.model.State.{TrapKind, Lock, State, has_live_child, is_synched, store_of, is_empty}
-use Rattle.cilk_laws_allowed.specs.model.Change.{Turn, turned, refused, blocked, turn_of, leaves, is_sync, waits_here, head_waits, at_boundary}
+use Rattle.cilk_laws_allowed.specs.model.Change.{LockTurn, lock_turned, refused, blocked, lock_turn_of, leaves, is_sync, waits_here, head_waits, at_boundary}
 use Rattle.cilk_laws_allowed.specs.model.Change.{ends_thread, holds_lock, leaves_function, resumed, after_write, after_going, after_call}
 use Rattle.cilk_laws_allowed.specs.model.Change.{after_leaving, after_answer, after_start, after_print, after_lock, after_marks, after_return}
 use Rattle.cilk_laws_allowed.specs.model.Change.{after_place, after_inlet, after_abort}
 use Rattle.cilk_laws_allowed.specs.model.Event as event
 use Rattle.cilk_laws_allowed.specs.model.Pick.{Step, waits, parks, goes_on, ends, spawns, traps, if_room, step_by_combined, step_by_answer}
-use Rattle.cilk_laws_allowed.specs.model.Pick.{step_by_leaving, step_by_turn, step_by_effect, step_by_head, step_by_place, step_by_receiver}
+use Rattle.cilk_laws_allowed.specs.model.Pick.{step_by_leaving, step_by_lock_turn, step_by_effect, step_by_head, step_by_place, step_by_receiver}
 use Rattle.cilk_laws_allowed.specs.model.Pick.{step_at_boundary, step_of_instance}
-use Rattle.cilk_laws_runs.proofs.Effects.{plain, calling, marking, leaving, sort_of, Spawns, Tells, told}
+use Rattle.cilk_laws_runs.proofs.Effects.{plain, calling, marking, leaving, sort_of, Spawns, TellsSort, told}
 
 -- an instance that is not marked acts its head; where the head waits for the children, none lives and nothing waits
 pub record Acting (s : State) (p : Path) (i : Instance) (head : Numbered) : Type 0 where
@@ -57,7 +57,7 @@ pub data Way (program : Labelled) (s : State) (p : Path) (i : Instance) : Step �
       (event.spawned (child_path p (i.children + 1)) head.number))
   printing : (head : Numbered) (bytes : List ℕ) → Acting s p i head → sort_of head.act ≡ plain
       → Way program s p i (goes_on (after_print s p i bytes) (event.acted p head.number))
-  turning : (head : Numbered) (k : ℕ) (now : Lock) → Acting s p i head → sort_of head.act ≡ plain
+  turning_lock : (head : Numbered) (k : ℕ) (now : Lock) → Acting s p i head → sort_of head.act ≡ plain
       → Way program s p i (goes_on (after_lock s p i k now) (event.acted p head.number))
   aborts : (head : Numbered) → Acting s p i head → sort_of head.act ≡ marking → Way program s p i (goes_on (after_marks s p i) (event.acted p head.number))
   placing : (oldest : Delivery) (others : List Delivery) (cell : Cell) (z : ℤ) (n : ℕ) → Taking i oldest others
@@ -66,17 +66,9 @@ pub data Way (program : Labelled) (s : State) (p : Path) (i : Instance) : Step �
       → oldest.receiver ≡ instance.through inlet ys n
       → Way program s p i (goes_on (after_inlet program s p i others inlet zs) (event.delivered oldest.child n))
 
-childless_by : (h e : Bool) → (not h && e) ≡ true → h ≡ false
-childless_by true e h = cc
-childless_by false e h = refl
-
-not_false : (d : Bool) → not d ≡ false → d ≡ true
-not_false true h = refl
-not_false false h = cc
-
 -- what does not wait, though it is to wait, has nothing to wait for
 ready_by : (w d : Bool) → (w && not d) ≡ false → w ≡ true → d ≡ true
-ready_by true d h e = not_false d h
+ready_by true d h e = not-false d h
 ready_by false d h e = cc
 
 -- what waits here waits at a boundary
@@ -108,12 +100,13 @@ module _ (program : Labelled) (s : State) (p : Path) (i : Instance) where
   leaving_way head z acting sort = cond_both (is_empty i.below) _ _ W (λ alone. returning head z acting sort alone)
       (λ above. cond_both (leaves_function program i) _ _ W (λ _. answer_way head i.top.awaits z acting sort above) (λ _. quitting head acting sort above))
 
-  turn_way : (head : Numbered) (k : ℕ) (turn : Turn) → Acting s p i head → sort_of head.act ≡ plain → W (step_by_turn s p i head.number k turn)
-  turn_way head k blocked acting sort = resting acting.unmarked
-  turn_way head k refused acting sort = stopping head.number _ acting.unmarked
-  turn_way head k (turned now) acting sort = turning head k now acting sort
+  lock_turn_way : (head : Numbered) (k : ℕ) (lock_turn : LockTurn) → Acting s p i head → sort_of head.act ≡ plain
+      → W (step_by_lock_turn s p i head.number k lock_turn)
+  lock_turn_way head k blocked acting sort = resting acting.unmarked
+  lock_turn_way head k refused acting sort = stopping head.number _ acting.unmarked
+  lock_turn_way head k (lock_turned now) acting sort = turning_lock head k now acting sort
 
-  effect_way : (head : Numbered) → Acting s p i head → (r : Result Effect Trap) → Tells head.act r → W (step_by_effect program s p i head.number r)
+  effect_way : (head : Numbered) → Acting s p i head → (r : Result Effect Trap) → TellsSort head.act r → W (step_by_effect program s p i head.number r)
   effect_way head acting (Err trap) tells = stopping head.number _ acting.unmarked
   effect_way head acting (Ok (writes cell z)) tells = writing head cell z acting tells
   effect_way head acting (Ok (answers z)) tells = going head z acting tells
@@ -125,7 +118,7 @@ module _ (program : Labelled) (s : State) (p : Path) (i : Instance) where
       (starting head receiver callee zs acting tells)
   effect_way head acting (Ok (writes_out bytes)) tells =
       room_way head.number _ (nat_le (length s.output + length bytes) 1048576) _ acting.unmarked (printing head bytes acting tells)
-  effect_way head acting (Ok (turns what k)) tells = turn_way head k (turn_of s p what k) acting tells
+  effect_way head acting (Ok (turns_lock what k)) tells = lock_turn_way head k (lock_turn_of s p what k) acting tells
   effect_way head acting (Ok marks) tells = aborts head acting tells
 
   head_way : (o : Option Numbered) → i.aborted ≡ false → head_of i.top.items ≡ o → (head_waits i o ≡ true → is_empty i.waiting ≡ true)
@@ -141,7 +134,9 @@ module _ (program : Labelled) (s : State) (p : Path) (i : Instance) where
         unmarked = unmarked;
         first = first;
         quiet = quiet;
-        childless = λ here. childless_by (has_live_child s.instances p) (is_empty i.waiting) (ready_by (waits_here i head.act) (is_synched s p i) ready here);
+        childless = λ here.
+            let synched = ready_by (waits_here i head.act) (is_synched s p i) ready here in
+            not-true (has_live_child s.instances p) (and_parts (not (has_live_child s.instances p)) (is_empty i.waiting) synched).0;
       }) _ (told (environment (store_of s p i)) head.number head.act)))
 
   place_way : (oldest : Delivery) (others : List Delivery) (reached : Reached) (n : ℕ) (r : Result ℤ Trap) → Taking i oldest others

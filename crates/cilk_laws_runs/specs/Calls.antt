@@ -1,31 +1,21 @@
 -- What each body may call and spawn: only a procedure spawns and waits; what is called is a C function, and what takes a child's value an
 -- inlet (Cilk 5.4 manual, `cilk`, `inlet`).
-use Rattle.std.specs.Prelude.{ℕ, Bool, true, false, ◌&&◌, Option, Some, None}
+use Rattle.std.specs.Prelude.{Bool, true, ◌&&◌, Option, Some, None}
 use Rattle.std.specs.List.{list_all}
-use Rattle.cilk_check.specs.scopes.declared.owner.Owner.{Owner}
-use Rattle.cilk_check.specs.scopes.declared.owner.Owner.TheVariants.{Function, Procedure, Inlet}
 use Rattle.cilk_laws_allowed.specs.labelled.Labelled.{Taker, through, Action, call, spawn, sync, Numbered, Stmt, action, choose, while, repeat, loop}
 use Rattle.cilk_laws_allowed.specs.labelled.Labelled.{select, at_label, nested, Stmts, none, also, Body, Labelled}
 use Rattle.cilk_laws_allowed.specs.labelled.Bodies.{is_procedure}
-use Rattle.cilk_laws_allowed.specs.model.Instance.{body_at}
 use Rattle.cilk_laws_allowed.specs.model.Change.{is_function}
-
--- whose body this is, by its place among the bodies
-abbrev pub owner_of_body : Labelled → ℕ → Owner
-owner_of_body program b = (body_at program b).owner
-
-abbrev pub is_inlet : Owner → Bool
-is_inlet (Function returns) = false
-is_inlet (Procedure returns) = false
-is_inlet Inlet = true
+use Rattle.cilk_check_forms.specs.Finds.{is_inlet}
+use Rattle.cilk_machine.specs.carries.effects.Known.{owner_of}
 
 abbrev pub taker_suits : Labelled → Taker → Bool
-taker_suits program (through inlet others) = is_inlet (owner_of_body program inlet)
+taker_suits program (through inlet others) = is_inlet (owner_of program inlet)
 taker_suits program other = true
 
 -- in a procedure's own body, or in another
 abbrev pub action_suits : Labelled → Bool → Action → Bool
-action_suits program own (call what callee es) = is_function (owner_of_body program callee)
+action_suits program own (call what callee es) = is_function (owner_of program callee)
 action_suits program own (spawn taker callee es) = own && taker_suits program taker
 action_suits program own sync = own
 action_suits program own other = true

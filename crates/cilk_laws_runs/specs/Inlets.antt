@@ -10,12 +10,14 @@ use Rattle.cilk_laws_allowed.specs.model.Event.{Event, acted, ended, trapped, mo
 use Rattle.cilk_laws_allowed.specs.model.Scheduler.{hand_of}
 use Rattle.cilk_laws_allowed.specs.model.Choice.{Choice, step}
 use Rattle.cilk_laws_allowed.specs.model.Run.{Standing}
-use Rattle.cilk_laws_runs.specs.Calls.{owner_of_body, is_inlet}
+use Rattle.cilk_laws_allowed.specs.model.ViewTrees.{lowest}
+use Rattle.cilk_check_forms.specs.Finds.{is_inlet}
+use Rattle.cilk_machine.specs.carries.effects.Known.{owner_of}
 
 -- whether the activation right above the lowest, which is the procedure's, is an inlet's: above it are C functions that it called
 abbrev pub runs_inlet : Labelled → Activation → List Activation → Bool
 runs_inlet program a [] = false
-runs_inlet program a (b ∷ []) = is_inlet (owner_of_body program a.body)
+runs_inlet program a (b ∷ []) = is_inlet (owner_of program a.body)
 runs_inlet program a (b ∷ c ∷ below) = runs_inlet program b (c ∷ below)
 
 abbrev pub in_inlet : Labelled → Instance → Bool
@@ -24,13 +26,8 @@ in_inlet program i = runs_inlet program i.top i.below
 -- of such a stack, the activation that goes on is the inlet's own, or that of a C function
 abbrev pub IsOfInlet : Labelled → Activation → List Activation → Type 0
 IsOfInlet program a [] = ⊥
-IsOfInlet program a (b ∷ []) = is_inlet (owner_of_body program a.body) ≡ true
-IsOfInlet program a (b ∷ c ∷ below) = is_function (owner_of_body program a.body) ≡ true
-
--- the procedure's own activation
-abbrev pub lowest : Activation → List Activation → Activation
-lowest a [] = a
-lowest a (b ∷ below) = lowest b below
+IsOfInlet program a (b ∷ []) = is_inlet (owner_of program a.body) ≡ true
+IsOfInlet program a (b ∷ c ∷ below) = is_function (owner_of program a.body) ≡ true
 
 -- the choice is a step of p, which stands there as i
 pub record IsStep (at : Standing) (choice : Choice) (p : Path) (i : Instance) : Type 0 where

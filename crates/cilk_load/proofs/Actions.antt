@@ -21,10 +21,10 @@ use Rattle.cilk_load.proofs.Found.{Agree}
 
 module _ (slots : Declaration → Slot) (names : Names) (s : Scope) (agree : Agree slots names s) where
   pub slot-is : (name : Word) → slot_in s name ≡ slots (meaning_of names name)
-  slot-is name = ap (λ k. k.slot) (agree.known name.text)
+  slot-is name = ap (λ k. k.slot) (agree.bindings name.text)
 
   pub number-is : (name : Word) → number_in s name ≡ number_of (meaning_of names name)
-  number-is name = ap (λ k. k.number) (agree.known name.text)
+  number-is name = ap (λ k. k.number) (agree.bindings name.text)
 
   pub code-is : (e : tree.Expr) → code_in s e ≡ rename slots (label_expr names e)
   code-is (tree.number n) = refl

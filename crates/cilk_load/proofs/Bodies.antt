@@ -24,13 +24,13 @@ use Rattle.cilk_load_numbering.proofs.nodes_laws.Texts.{shape_rows, named_place,
 use Rattle.cilk_load_numbering.specs.resolve.Scope as scope
 use Rattle.cilk_load_numbering.specs.resolve.Scope.{Scope, declared}
 use Rattle.cilk_load_numbering.specs.resolve.Firsts.{first_if, locals_first}
-use Rattle.cilk_load_numbering.specs.Pass.{known_var, known_number, onward, shape_nodes, stmts_nodes, block_nodes}
+use Rattle.cilk_load_numbering.specs.Pass.{bound_var, bound_number, onward, shape_nodes, stmts_nodes, block_nodes}
 use Rattle.cilk_load_numbering.specs.Outer.{vars_at, body_exits, words_scope, parameters_scope, inlet_nodes, outer_nodes, outer_scope, body_nodes}
 use Rattle.cilk_load.proofs.Found.{Agree, agree-declared, agree-inlet}
 use Rattle.cilk_load.proofs.Actions.{initialiser-is}
 use Rattle.cilk_load.proofs.Starts.{stmts-pieces, locals-pieces}
 use Rattle.cilk_load.proofs.Written.{block-nodes, stmts-nodes}
-use Rattle.cilk_load.proofs.SlotLaws.{slots-lie, outer-known}
+use Rattle.cilk_load.proofs.SlotLaws.{slots-lie, outer-binding}
 
 length-cells : (words : List Word) → length words ≡ length (map (one_cell (pos 0)) words)
 length-cells [] = refl
@@ -48,30 +48,30 @@ module _ (program : Labelled) where
   of-rows b [] = refl
   of-rows b (x ∷ xs) = ap (cons_option (node_at program b x)) (of-rows b xs)
 
-  var-known : (b n m : ℕ) (word : Word) → n ≡ m → (known_var (vars_at tables b) m word).known ≡ record { slot = slot_of program b (local n); number = n }
-  var-known b n m word e =
+  var-binding : (b n m : ℕ) (word : Word) → n ≡ m → (bound_var (vars_at tables b) m word).binding ≡ record { slot = slot_of program b (local n); number = n }
+  var-binding b n m word e =
       λ i. record { slot = (slots-lie program b m ∙ ap (λ k. slot_of program b (local k)) (sym e)) i; number = sym e i }
 
   agree-words : (b : ℕ) (names : Names) (s : Scope) (n m : ℕ) (words : List Word) → n ≡ m → Agree (slot_of program b) names s
       → Agree (slot_of program b) (with_words names n words) (words_scope (vars_at tables b) m words s)
   agree-words b names s n m [] e agree = agree
   agree-words b names s n m (word ∷ words) e agree =
-      agree-words b (with_name names (local n) (parameter word)) (declared s (known_var (vars_at tables b) m word)) (suc n) (m + 1) words (omega arith)
-      (agree-declared (slot_of program b) names s (local n) (parameter word) (known_var (vars_at tables b) m word) refl (var-known b n m word e) agree)
+      agree-words b (with_name names (local n) (parameter word)) (declared s (bound_var (vars_at tables b) m word)) (suc n) (m + 1) words (omega arith)
+      (agree-declared (slot_of program b) names s (local n) (parameter word) (bound_var (vars_at tables b) m word) refl (var-binding b n m word e) agree)
 
   agree-decl : (b : ℕ) (names : Names) (s : Scope) (n : ℕ) (d : tree.Decl) → Agree (slot_of program b) names s
-      → Agree (slot_of program b) (with_local names n (tree.declared d)) (declared s (known_var (vars_at tables b) n d.name))
+      → Agree (slot_of program b) (with_local names n (tree.declared d)) (declared s (bound_var (vars_at tables b) n d.name))
   agree-decl b names s n d agree =
-      agree-declared (slot_of program b) names s (local n) (local_declares (tree.declared d)) (known_var (vars_at tables b) n d.name) refl
-      (var-known b n n d.name refl) agree
+      agree-declared (slot_of program b) names s (local n) (local_declares (tree.declared d)) (bound_var (vars_at tables b) n d.name) refl
+      (var-binding b n n d.name refl) agree
 
   agree-inlet-name : (b : ℕ) (names : Names) (s : Scope) (n k at : ℕ) (name : Word) (parameters : List Word) (body : tree.Block) → names.bodies ≡ k
       → Agree (slot_of program b) names s
-      → Agree (slot_of program b) (with_local names n (tree.inlet_at at name parameters body)) (declared s (known_number k name))
+      → Agree (slot_of program b) (with_local names n (tree.inlet_at at name parameters body)) (declared s (bound_number k name))
   agree-inlet-name b names s n k at name parameters body e agree =
       let more = agree-declared (slot_of program b) names s (of_body names.bodies) (local_declares (tree.inlet_at at name parameters body))
-      (known_number k name) refl (λ i. record { slot = slot_of program b (of_body names.bodies); number = sym e i }) agree in
-      record { known = more.known }
+      (bound_number k name) refl (λ i. record { slot = slot_of program b (of_body names.bodies); number = sym e i }) agree in
+      record { bindings = more.bindings }
 
   -- an inlet, where its name is visible
   inlet-nodes : (b k : ℕ) (names : Names) (s : Scope) → procedure_around program b ≡ b → procedure_around program k ≡ b
@@ -82,7 +82,7 @@ module _ (program : Labelled) where
       let closing : ℕ = at + count_block body in
       let inside : Names = with_words (in_inlet names) 0 parameters in
       let within : Scope = words_scope vars 0 parameters (scope.entered s) in
-      let entered-agree = agree-inlet (slot_of program b) (slot_of program k) names s (outer-known program b k own around) agree in
+      let entered-agree = agree-inlet (slot_of program b) (slot_of program k) names s (outer-binding program b k own around) agree in
       let inner : Agree (slot_of program k) inside within = agree-words k (in_inlet names) (scope.entered s) 0 0 parameters refl entered-agree in
       (λ i. block_nodes k vars within at (length-cells parameters i) body (body_exits closing) ++ onward k Close None ∷ [])
       ∙ ap (λ l. l ++ onward k Close None ∷ [])
@@ -112,7 +112,7 @@ module _ (program : Labelled) where
   outer-rows b k names s own nb agree at n tree.no_locals others items next rest plain around e f = f ∙ of-rows b (stmts_lists others items)
   outer-rows b k names s own nb agree at n (tree.and_local (tree.declared d) ls) others items next rest plain around e f =
       let inner : Names = with_local names n (tree.declared d) in
-      let within : Scope = declared s (known_var (vars_at tables b) n d.name) in
+      let within : Scope = declared s (bound_var (vars_at tables b) n d.name) in
       let behind : ℕ = at + count_shape d.shape in
       let inside = agree-decl b names s n d agree in
       let middle : List Node = outer_nodes tables b k within behind (n + 1) ls next in
@@ -123,7 +123,7 @@ module _ (program : Labelled) where
       (outer-rows b k inner within own nb inside behind (n + 1) ls others items next rest plain around e f)
   outer-rows b k names s own nb agree at n (tree.and_local (tree.inlet_at place name parameters body) ls) others items next rest plain around e f =
       let inner : Names = with_local names n (tree.inlet_at place name parameters body) in
-      let within : Scope = declared s (known_number k name) in
+      let within : Scope = declared s (bound_number k name) in
       let behind : ℕ = at + (count_block body + 1) in
       let inside = agree-inlet-name b names s n k place name parameters body nb agree in
       let none : n ≡ n + 0 = omega arith in
@@ -145,12 +145,12 @@ module _ (program : Labelled) where
       → Agree (slot_of program b) (names_behind names n ls) (outer_scope (vars_at tables b) k n ls s)
   agree-outer b k names s n tree.no_locals nb agree = agree
   agree-outer b k names s n (tree.and_local (tree.declared d) ls) nb agree =
-      agree-outer b k (with_local names n (tree.declared d)) (declared s (known_var (vars_at tables b) n d.name)) (n + 1) ls nb (agree-decl b names s n d agree)
+      agree-outer b k (with_local names n (tree.declared d)) (declared s (bound_var (vars_at tables b) n d.name)) (n + 1) ls nb (agree-decl b names s n d agree)
   agree-outer b k names s n (tree.and_local (tree.inlet_at place name parameters body) ls) nb agree =
       let none : n + 0 ≡ n = omega arith in
       subst (λ m. Agree (slot_of program b) (names_behind (with_local names n (tree.inlet_at place name parameters body)) (n + 0) ls)
-      (outer_scope (vars_at tables b) (suc k) m ls (declared s (known_number k name)))) none
-      (agree-outer b (suc k) (with_local names n (tree.inlet_at place name parameters body)) (declared s (known_number k name)) (n + 0) ls (ap suc nb)
+      (outer_scope (vars_at tables b) (suc k) m ls (declared s (bound_number k name)))) none
+      (agree-outer b (suc k) (with_local names n (tree.inlet_at place name parameters body)) (declared s (bound_number k name)) (n + 0) ls (ap suc nb)
       (agree-inlet-name b names s n k place name parameters body nb agree))
 
   abbrev pub AroundBlock : ℕ → tree.Block → Type 0
@@ -182,8 +182,8 @@ module _ (program : Labelled) where
       → Agree (slot_of program b) (with_parameters names parameters) (parameters_scope (vars_at tables b) parameters s)
   agree-parameters b names s (tree.ints words) agree = agree-words b names s 0 0 words refl agree
   agree-parameters b names s (tree.command_line count strings) agree =
-      agree-declared (slot_of program b) (with_words names 0 (count ∷ [])) (declared s (known_var (vars_at tables b) 0 count)) unknown _
-      (record { name = strings.text; known = scope.unknown_name }) refl refl
+      agree-declared (slot_of program b) (with_words names 0 (count ∷ [])) (declared s (bound_var (vars_at tables b) 0 count)) unknown _
+      (record { name = strings.text; binding = scope.unknown_name }) refl refl
       (agree-words b names s 0 0 (count ∷ []) refl agree)
 
 words-bodies : (names : Names) (n : ℕ) (words : List Word) → (with_words names n words).bodies ≡ names.bodies

@@ -11,11 +11,11 @@ use Rattle.cilk_load_numbering.specs.eval.declared.slot.Slot.{Slot}
 use Rattle.cilk_load_numbering.specs.labelled.Labelled.{Declaration, unknown}
 use Rattle.cilk_load_numbering.specs.labelled.Names as label
 use Rattle.cilk_load_numbering.specs.labelled.Names.{Names, meaning_at, number_of, with_name}
-use Rattle.cilk_load_numbering.specs.resolve.declared.known.Binding.{Binding}
+use Rattle.cilk_load_numbering.specs.resolve.declared.binding.Binding.{Binding}
 use Rattle.cilk_load_numbering.specs.resolve.Scope.{Named, Scope, found, visible, outward_area, outward, outward_named, declared, entered}
 
-abbrev pub known_of : (Declaration → Slot) → Declaration → Binding
-known_of slots d = record { slot = slots d; number = number_of d }
+abbrev pub binding_of : (Declaration → Slot) → Declaration → Binding
+binding_of slots d = record { slot = slots d; number = number_of d }
 
 abbrev pub same_name : List ℕ → Declared → Bool
 same_name name d = bytes_eq d.name.text name
@@ -25,7 +25,7 @@ meaning_in names name = meaning_at names.means (position (same_name name) (names
 
 -- each name stands for what it means
 pub record Agree (slots : Declaration → Slot) (names : Names) (s : Scope) : Type 0 where
-  pub known : (name : List ℕ) → found (visible s) name ≡ known_of slots (meaning_in names name)
+  pub bindings : (name : List ℕ) → found (visible s) name ≡ binding_of slots (meaning_in names name)
 
 shift : (m n : ℕ) (d : Declaration) (means : List Declaration)
     → meaning_at (d ∷ means) (cond (nat_lt (1 + m) (suc n)) (Some (1 + m)) None) ≡ meaning_at means (cond (nat_lt m n) (Some m) None)
@@ -62,15 +62,15 @@ meaning-first t x xs d means = by_test (t x)
 
 -- behind one more declaration on both sides
 pub agree-declared : (slots : Declaration → Slot) (names : Names) (s : Scope) (d : Declaration) (what : Declared) (e : Named) → e.name ≡ what.name.text
-    → e.known ≡ known_of slots d → Agree slots names s → Agree slots (with_name names d what) (declared s e)
+    → e.binding ≡ binding_of slots d → Agree slots names s → Agree slots (with_name names d what) (declared s e)
 agree-declared slots names s d what e same stands agree = record {
-  known = λ name.
-      (λ i. cond (bytes_eq (same i) name) (stands i) (agree.known name i))
-      ∙ choice (bytes_eq what.name.text name) (known_of slots d) (meaning_in names name)
-      ∙ ap (known_of slots) (sym (meaning-first (same_name name) what (names.scopes.innermost ++ names.scopes.outer) d names.means));
+  bindings = λ name.
+      (λ i. cond (bytes_eq (same i) name) (stands i) (agree.bindings name i))
+      ∙ choice (bytes_eq what.name.text name) (binding_of slots d) (meaning_in names name)
+      ∙ ap (binding_of slots) (sym (meaning-first (same_name name) what (names.scopes.innermost ++ names.scopes.outer) d names.means));
 }
   where
-    choice : (b : Bool) (k : Binding) (m : Declaration) → cond b (known_of slots d) (known_of slots m) ≡ known_of slots (cond b d m)
+    choice : (b : Bool) (k : Binding) (m : Declaration) → cond b (binding_of slots d) (binding_of slots m) ≡ binding_of slots (cond b d m)
     choice true k m = refl
     choice false k m = refl
 
@@ -87,10 +87,10 @@ once : (xs : List Named) → map outward_named xs ≡ map outward_named (map out
 once [] = refl
 once (x ∷ xs) = λ i. record {
   name = x.name;
-  known = record {
-    slot = record { area = sym (outward-twice x.known.slot.area) i; offset = x.known.slot.offset; length = x.known.slot.length };
+  binding = record {
+    slot = record { area = sym (outward-twice x.binding.slot.area) i; offset = x.binding.slot.offset; length = x.binding.slot.length };
     number
-        = x.known.number;
+        = x.binding.number;
   };
 } ∷ once xs i
 
@@ -104,7 +104,7 @@ visible-entered s =
 pub found-outward : (es : List Named) (name : List ℕ) → found (map outward_named es) name ≡ outward (found es name)
 found-outward [] name = refl
 found-outward (e ∷ es) name =
-    ap (λ k. cond (bytes_eq e.name name) (outward e.known) k) (found-outward es name) ∙ choice (bytes_eq e.name name) e.known (found es name)
+    ap (λ k. cond (bytes_eq e.name name) (outward e.binding) k) (found-outward es name) ∙ choice (bytes_eq e.name name) e.binding (found es name)
   where
     choice : (b : Bool) (k l : Binding) → cond b (outward k) (outward l) ≡ outward (cond b k l)
     choice true k l = refl
@@ -121,17 +121,17 @@ outward-meaning means (Some k) = outward-means means k
 
 -- in an inlet, where slots stand for the outer activation
 pub agree-inlet : (slots inner : Declaration → Slot) (names : Names) (s : Scope)
-    → ((d : Declaration) → outward (known_of slots d) ≡ known_of inner (label.outward d)) → Agree slots names s
+    → ((d : Declaration) → outward (binding_of slots d) ≡ binding_of inner (label.outward d)) → Agree slots names s
     → Agree inner (label.in_inlet names) (entered s)
 agree-inlet slots inner names s outer agree = record {
-  known = λ name.
+  bindings = λ name.
       ap (λ es. found es name) (visible-entered s)
       ∙ found-outward (visible s) name
-      ∙ ap outward (agree.known name)
+      ∙ ap outward (agree.bindings name)
       ∙ outer (meaning_in names name)
-      ∙ ap (known_of inner) (sym (outward-meaning names.means (position (same_name name) (names.scopes.innermost ++ names.scopes.outer))));
+      ∙ ap (binding_of inner) (sym (outward-meaning names.means (position (same_name name) (names.scopes.innermost ++ names.scopes.outer))));
 }
 
 -- a scope that is entered in an activation says the same
 pub agree-entered : (slots : Declaration → Slot) (names : Names) (s : Scope) → Agree slots names s → Agree slots (label.entered names) s
-agree-entered slots names s agree = record { known = agree.known }
+agree-entered slots names s agree = record { bindings = agree.bindings }

@@ -38,9 +38,9 @@ use Rattle.cilk_load_numbering.specs.resolve.Firsts.{locals_first}
 use Rattle.cilk_load_layout.specs.Tables.{body_first, table_of, inlet_tables, item_tables, items_tables}
 use Rattle.cilk_load_numbering.specs.Outer.{vars_at, parameters_scope, item_nodes, items_nodes}
 use Rattle.cilk_load_numbering.specs.Outer.{file_named, file_scope}
-use Rattle.cilk_load.proofs.Found.{known_of, same_name, Agree}
+use Rattle.cilk_load.proofs.Found.{binding_of, same_name, Agree}
 use Rattle.cilk_load.proofs.Starts.{stmts-pieces, locals-pieces}
-use Rattle.cilk_load.proofs.SlotLaws.{own-around, inlets-around, inlet-owners, file-known}
+use Rattle.cilk_load.proofs.SlotLaws.{own-around, inlets-around, inlet-owners, file-binding}
 use Rattle.cilk_load.proofs.Bodies.{tables, row_node, AroundBlock, body-rows, agree-parameters, parameters-bodies}
 
 -- the bodies of a program from body b on are these
@@ -121,7 +121,7 @@ module _ (program : Labelled) where
 
       named : Agree (slot_of program b) inner within
       named = agree-parameters program b (label.entered (record names { bodies = suc names.bodies })) (scope.entered file) p.parameters
-          (record { known = (agree b).known })
+          (record { bindings = (agree b).bindings })
 
   pub items-nodes : (names : Names) (b : ℕ) (file : Scope) → names.bodies ≡ b → FileAgrees names file → (at : ℕ) (xs : List tree.Item) → PlainItems xs
       → Located program b (items_bodies names at xs) → items_nodes (tables program) b file at xs ≡ filter_map (row_node program) (items_rows names b at xs)
@@ -130,18 +130,18 @@ module _ (program : Labelled) where
       let others : Names = record names { bodies = names.bodies + body_count x } in
       let rest : List Body = items_bodies others (at + count_item x) xs in
       (λ i. item-nodes names b file nb agree at x plain.0 (located-front program b (item_bodies names at x) rest located) i
-      ++ items-nodes others (b + body_count x) file (ap (λ k. k + body_count x) nb) (λ c. record { known = (agree c).known }) (at + count_item x) xs
+      ++ items-nodes others (b + body_count x) file (ap (λ k. k + body_count x) nb) (λ c. record { bindings = (agree c).bindings }) (at + count_item x) xs
       plain.1 (located-back program b (body_count x) (item_bodies names at x) rest (length-item names at x) located) i)
       ∙ sym (filter_map-append (row_node program) (item_rows names b at x) (items_rows others (b + body_count x) (at + count_item x) xs))
 
 -- the names of the file
 file-agrees : (p : tree.Program) → FileAgrees (label p) (file_names p.items) (file_scope (globals_of p) p.items)
 file-agrees p b = record {
-  known = λ name.
+  bindings = λ name.
       ap (λ es. scope.found (map outward_named es) name)
       (append-nil (file_named (globals_of p) 0 0 0 p.items ++ []) ∙ append-nil (file_named (globals_of p) 0 0 0 p.items))
-      ∙ file-known (label p) b 0 0 0 0 0 0 p.items name refl refl refl
-      ∙ ap (λ ds. known_of (slot_of (label p) b) (meaning_at (file_means 0 0 0 p.items) (position (same_name name) ds)))
+      ∙ file-binding (label p) b 0 0 0 0 0 0 p.items name refl refl refl
+      ∙ ap (λ ds. binding_of (slot_of (label p) b) (meaning_at (file_means 0 0 0 p.items) (position (same_name name) ds)))
       (sym (append-nil (file_declares p.items)));
 }
 

@@ -21,11 +21,11 @@ use Rattle.cilk_load_numbering.specs.model.Instance.{body_at, no_body}
 use Rattle.cilk_load_numbering.specs.nodes.declared.var.Var.{Var}
 use Rattle.cilk_load_numbering.specs.nodes.Slots.{size_of, slot_from, slot_of, is_inlet, procedure_around}
 use Rattle.cilk_load_numbering.specs.nodes.Bodies.{vars_from, body_table}
-use Rattle.cilk_load_numbering.specs.resolve.declared.known.Binding.{Binding}
+use Rattle.cilk_load_numbering.specs.resolve.declared.binding.Binding.{Binding}
 use Rattle.cilk_load_numbering.specs.resolve.Scope.{Named, found, outward_area, outward, outward_named}
-use Rattle.cilk_load_numbering.specs.Pass.{var_slot, known_var, known_number}
+use Rattle.cilk_load_numbering.specs.Pass.{var_slot, bound_var, bound_number}
 use Rattle.cilk_load_numbering.specs.Outer.{vars_at, file_named}
-use Rattle.cilk_load.proofs.Found.{known_of, same_name, meaning-first}
+use Rattle.cilk_load.proofs.Found.{binding_of, same_name, meaning-first}
 
 -- the slots of a table of variables
 pub var-slot-is : (area : Area) (at : ℕ) (vs : List Variable) (n : ℕ) → var_slot (vars_from area at vs) n ≡ slot_from area at vs n
@@ -55,17 +55,17 @@ numbered : (n : ℕ) (s t : Slot) → outward_slot s ≡ t → outward (record {
 numbered n s t e = λ i. record { slot = e i; number = n }
 
 -- in an inlet whose body is k, what stands in the activation of body b stands in the outer one
-pub outer-known : (program : Labelled) (b k : ℕ) → procedure_around program b ≡ b → procedure_around program k ≡ b → (d : Declaration)
-    → outward (known_of (slot_of program b) d) ≡ known_of (slot_of program k) (label.outward d)
-outer-known program b k own around (local n) =
+pub outer-binding : (program : Labelled) (b k : ℕ) → procedure_around program b ≡ b → procedure_around program k ≡ b → (d : Declaration)
+    → outward (binding_of (slot_of program b) d) ≡ binding_of (slot_of program k) (label.outward d)
+outer-binding program b k own around (local n) =
     numbered n _ _ (moved Own 0 (body_at program b).variables n ∙ ap (λ c. slot_from Outer 0 (body_at program c).variables n) (sym around))
-outer-known program b k own around (outer n) =
+outer-binding program b k own around (outer n) =
     numbered n _ _ (moved Outer 0 (body_at program (procedure_around program b)).variables n
     ∙ ap (λ c. slot_from Outer 0 (body_at program c).variables n) (own ∙ sym around))
-outer-known program b k own around (global n) = numbered n _ _ (moved Global 0 program.globals n)
-outer-known program b k own around (of_lock n) = refl
-outer-known program b k own around (of_body n) = refl
-outer-known program b k own around unknown = refl
+outer-binding program b k own around (global n) = numbered n _ _ (moved Global 0 program.globals n)
+outer-binding program b k own around (of_lock n) = refl
+outer-binding program b k own around (of_body n) = refl
+outer-binding program b k own around unknown = refl
 
 -- a body that is none of an inlet has no other around it
 pub own-around : (program : Labelled) (b : ℕ) → is_inlet (body_at program b).owner ≡ false → procedure_around program b ≡ b
@@ -100,38 +100,39 @@ module _ (program : Labelled) (b : ℕ) where
   abbrev stood : List Named → List ℕ → Binding
   stood es name = found (map outward_named es) name
 
-  choice : (t : Bool) (d m : Declaration) → cond t (known_of (slot_of program b) d) (known_of (slot_of program b) m) ≡ known_of (slot_of program b) (cond t d m)
+  choice : (t : Bool) (d m : Declaration) → cond t (binding_of (slot_of program b) d) (binding_of (slot_of program b) m)
+      ≡ binding_of (slot_of program b) (cond t d m)
   choice true d m = refl
   choice false d m = refl
 
   file-more : (name : List ℕ) (e : Named) (what : Declared) (d : Declaration) (es : List Named) (ds : List Declared) (means : List Declaration)
-      → e.name ≡ what.name.text → outward e.known ≡ known_of (slot_of program b) d
-      → stood es name ≡ known_of (slot_of program b) (meaning_at means (position (same_name name) ds))
-      → stood (e ∷ es) name ≡ known_of (slot_of program b) (meaning_at (d ∷ means) (position (same_name name) (what ∷ ds)))
+      → e.name ≡ what.name.text → outward e.binding ≡ binding_of (slot_of program b) d
+      → stood es name ≡ binding_of (slot_of program b) (meaning_at means (position (same_name name) ds))
+      → stood (e ∷ es) name ≡ binding_of (slot_of program b) (meaning_at (d ∷ means) (position (same_name name) (what ∷ ds)))
   file-more name e what d es ds means same stands others =
       (λ i. cond (bytes_eq (same i) name) (stands i) (others i))
       ∙ choice (same_name name what) d (meaning_at means (position (same_name name) ds))
-      ∙ ap (known_of (slot_of program b)) (sym (meaning-first (same_name name) what ds d means))
+      ∙ ap (binding_of (slot_of program b)) (sym (meaning-first (same_name name) what ds d means))
 
-  pub file-known : (g l k g' l' k' : ℕ) (items : List tree.Item) (name : List ℕ) → g ≡ g' → l ≡ l' → k ≡ k'
-      → stood (file_named globals g' l' k' items) name ≡ known_of (slot_of program b)
+  pub file-binding : (g l k g' l' k' : ℕ) (items : List tree.Item) (name : List ℕ) → g ≡ g' → l ≡ l' → k ≡ k'
+      → stood (file_named globals g' l' k' items) name ≡ binding_of (slot_of program b)
       (meaning_at (file_means g l k items) (position (same_name name) (file_declares items)))
-  file-known g l k g' l' k' [] name eg el ek = refl
-  file-known g l k g' l' k' (tree.global what ∷ items) name eg el ek =
+  file-binding g l k g' l' k' [] name eg el ek = refl
+  file-binding g l k g' l' k' (tree.global what ∷ items) name eg el ek =
       let slot : outward_slot (var_slot globals g') ≡ slot_from Global 0 program.globals g =
       ap outward_slot (var-slot-is Global 0 program.globals g') ∙ moved Global 0 program.globals g' ∙ ap (slot_from Global 0 program.globals) (sym eg)
       in
-      file-more name (known_var globals g' what.name) (record { name = what.name; kind = kind_of_global what.shape }) (global g) _ _ _ refl
+      file-more name (bound_var globals g' what.name) (record { name = what.name; kind = kind_of_global what.shape }) (global g) _ _ _ refl
       (λ i. record { slot = slot i; number = sym eg i })
-      (file-known (suc g) l k (g' + 1) (l' + 0) (k' + 0) items name (omega arith) (omega arith) (omega arith))
-  file-known g l k g' l' k' (tree.lock word ∷ items) name eg el ek =
-      file-more name (known_number l' word) (record { name = word; kind = Lock }) (of_lock l) _ _ _ refl
+      (file-binding (suc g) l k (g' + 1) (l' + 0) (k' + 0) items name (omega arith) (omega arith) (omega arith))
+  file-binding g l k g' l' k' (tree.lock word ∷ items) name eg el ek =
+      file-more name (bound_number l' word) (record { name = word; kind = Lock }) (of_lock l) _ _ _ refl
       (λ i. record { slot = slot_of program b (of_lock l); number = sym el i })
-      (file-known g (suc l) k (g' + 0) (l' + 1) (k' + 0) items name (omega arith) (omega arith) (omega arith))
-  file-known g l k g' l' k' (tree.prototype q ∷ items) name eg el ek =
-      file-known g l k (g' + 0) (l' + 0) (k' + 0) items name (omega arith) (omega arith) (omega arith)
-  file-known g l k g' l' k' (tree.procedure p ∷ items) name eg el ek =
-      file-more name (known_number k' p.name) (record { name = p.name; kind = kind_of_body p.is_cilk p.returns (parameter_count p.parameters) })
+      (file-binding g (suc l) k (g' + 0) (l' + 1) (k' + 0) items name (omega arith) (omega arith) (omega arith))
+  file-binding g l k g' l' k' (tree.prototype q ∷ items) name eg el ek =
+      file-binding g l k (g' + 0) (l' + 0) (k' + 0) items name (omega arith) (omega arith) (omega arith)
+  file-binding g l k g' l' k' (tree.procedure p ∷ items) name eg el ek =
+      file-more name (bound_number k' p.name) (record { name = p.name; kind = kind_of_body p.is_cilk p.returns (parameter_count p.parameters) })
       (of_body k) _ _ _ refl (λ i. record { slot = slot_of program b (of_body k); number = sym ek i })
-      (file-known g l (k + body_count (tree.procedure p)) (g' + 0) (l' + 0) (k' + body_count (tree.procedure p)) items name (omega arith) (omega arith)
+      (file-binding g l (k + body_count (tree.procedure p)) (g' + 0) (l' + 0) (k' + body_count (tree.procedure p)) items name (omega arith) (omega arith)
       (omega (arith, ek)))

@@ -25,7 +25,7 @@ use Rattle.cilk_load_numbering.specs.declared.exits.Exits.{Exits}
 use Rattle.cilk_load_numbering.specs.resolve.Scope.{Scope, declared}
 use Rattle.cilk_load_numbering.specs.resolve.Acts.{move_in, code_in}
 use Rattle.cilk_load_numbering.specs.resolve.Firsts.{first_if, locals_first}
-use Rattle.cilk_load_numbering.specs.Pass.{var_slot, known_var, node, switch_test, onward, exits_to, part_nodes, shape_nodes, locals_scope}
+use Rattle.cilk_load_numbering.specs.Pass.{var_slot, bound_var, node, switch_test, onward, exits_to, part_nodes, shape_nodes, locals_scope}
 use Rattle.cilk_load_numbering.specs.Pass.{locals_nodes, stmt_nodes, stmts_nodes, block_nodes}
 use Rattle.cilk_load.proofs.Found.{Agree, agree-declared, agree-entered}
 use Rattle.cilk_load.proofs.Actions.{number-is, code-is, codes-are, move-is, spawn-is, return-is, initialiser-is}
@@ -57,15 +57,15 @@ module _ (slots : Declaration → Slot) (b : ℕ) (vars : List Var) (lie : (n : 
   one act same next other next' other' e f g = λ i. record { action = e i; next = f i; other = g i; cases = []; body = b }
 
   agree-local : (names : Names) (s : Scope) (n : ℕ) (d : tree.Decl) → Agree slots names s
-      → Agree slots (with_local names n (tree.declared d)) (declared s (known_var vars n d.name))
+      → Agree slots (with_local names n (tree.declared d)) (declared s (bound_var vars n d.name))
   agree-local names s n d agree =
-      agree-declared slots names s (local n) _ (known_var vars n d.name) refl (λ i. record { slot = lie n i; number = n }) agree
+      agree-declared slots names s (local n) _ (bound_var vars n d.name) refl (λ i. record { slot = lie n i; number = n }) agree
 
   pub agree-locals : (names : Names) (s : Scope) (n : ℕ) (ls : tree.Locals) → PlainLocals ls → Agree slots names s
       → Agree slots (names_behind names n ls) (locals_scope vars n ls s)
   agree-locals names s n tree.no_locals plain agree = agree
   agree-locals names s n (tree.and_local (tree.declared d) rest) plain agree =
-      agree-locals (with_local names n (tree.declared d)) (declared s (known_var vars n d.name)) (n + 1) rest plain (agree-local names s n d agree)
+      agree-locals (with_local names n (tree.declared d)) (declared s (bound_var vars n d.name)) (n + 1) rest plain (agree-local names s n d agree)
   agree-locals names s n (tree.and_local (tree.inlet_at place name parameters body) rest) plain agree = absurd plain
 
   -- an initialiser, and what is behind it
@@ -85,7 +85,7 @@ module _ (slots : Declaration → Slot) (b : ℕ) (vars : List Var) (lie : (n : 
   locals-nodes names s agree at n tree.no_locals others items next rest plain e f = f
   locals-nodes names s agree at n (tree.and_local (tree.declared d) ls) others items next rest plain e f =
       let inner : Names = with_local names n (tree.declared d) in
-      let scope : Scope = declared s (known_var vars n d.name) in
+      let scope : Scope = declared s (bound_var vars n d.name) in
       let behind : ℕ = at + count_shape d.shape in
       let first : List Node = shape_nodes b scope d.name d.shape (locals_first behind ls next) in
       let middle : List Node = locals_nodes b vars scope behind (n + 1) ls next in

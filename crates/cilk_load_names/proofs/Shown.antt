@@ -13,7 +13,7 @@ use Rattle.std.proofs.lemmas.Slice.Eq.{bytes_eq-Decides}
 use Rattle.std.proofs.Math.ListN.{drop_of_length-le}
 use Rattle.std.proofs.Math.Seq.{drop-append_seam, take-append_seam}
 use denote.Ref.{Bor}
-use Rattle.cilk_load_names.specs.declared.known.Binding.{Binding}
+use Rattle.cilk_load_names.specs.declared.binding.Binding.{Binding}
 use Rattle.cilk_load_names.specs.Scope.{Named, found, visible, outward, outward_named, unknown_name, entered, left_of}
 use Rattle.cilk_load_names.specs.declared.entry.Entry.{Entry}
 use Rattle.cilk_load_names.specs.declared.nearest.Nearest.{Nearest}
@@ -35,8 +35,8 @@ told_if mark None = unknown_name
 told_if mark (Some n) = told mark n
 
 outer_cases : (mark : ℕ) (b : Bool) (e : Entry) (n : ℕ) (o : Option Nearest) (k : Binding) → n < mark → told_if mark o ≡ k
-    → told_if mark (cond b (Some (record { known = e.known; at = n })) o) ≡ cond b (outward e.known) k
-outer_cases mark true e n o k h same = ap (λ (b : Bool). cond b (outward e.known) e.known) (lt-ltb n mark h)
+    → told_if mark (cond b (Some (record { binding = e.binding; at = n })) o) ≡ cond b (outward e.binding) k
+outer_cases mark true e n o k h same = ap (λ (b : Bool). cond b (outward e.binding) e.binding) (lt-ltb n mark h)
 outer_cases mark false e n o k h same = same
 
 -- the first entries stand around the innermost body
@@ -47,8 +47,8 @@ told_outer mark (e ∷ es) name h =
     outer_cases mark (bytes_eq e.name.now.text name) e (length es) _ _ (omega arith) (told_outer mark es name (omega arith))
 
 inner_cases : (mark : ℕ) (b : Bool) (e : Entry) (n : ℕ) (o : Option Nearest) (k : Binding) → mark ≤ n → told_if mark o ≡ k
-    → told_if mark (cond b (Some (record { known = e.known; at = n })) o) ≡ cond b e.known k
-inner_cases mark true e n o k h same = ap (λ (b : Bool). cond b (outward e.known) e.known) (le-ltb n mark h)
+    → told_if mark (cond b (Some (record { binding = e.binding; at = n })) o) ≡ cond b e.binding k
+inner_cases mark true e n o k h same = ap (λ (b : Bool). cond b (outward e.binding) e.binding) (le-ltb n mark h)
 inner_cases mark false e n o k h same = same
 
 told_among : (mark : ℕ) (rs ts : List Entry) (name : List ℕ) → length ts ≡ mark
@@ -77,17 +77,17 @@ UpdatesText bs m n w = UpdatesBy (λ x y. slice_cmp nat_cmp x.now y.now) (λ k. 
 
 found_more : (m n : BTreeMap (Bor (List ℕ)) Nearest) (es : List Entry) (e : Entry)
     → ((name : List ℕ) → get_by (λ k. slice_cmp nat_cmp name k.now) m ≡ newest (reverse es) name)
-    → UpdatesText e.name.now.text m n (Some (record { known = e.known; at = length es })) → (name : List ℕ)
+    → UpdatesText e.name.now.text m n (Some (record { binding = e.binding; at = length es })) → (name : List ℕ)
     → get_by (λ k. slice_cmp nat_cmp name k.now) n ≡ newest (reverse (es ++ e ∷ [])) name
 found_more m n es e found u name =
     btree_map_updates_str e.name.now.text m n _ u name
-    ∙ ap (λ o. cond (bytes_eq e.name.now.text name) (Some (record { known = e.known; at = length es })) o) (found name)
-    ∙ ap (λ k. cond (bytes_eq e.name.now.text name) (Some (record { known = e.known; at = k })) (newest (reverse es) name)) (sym (length-reverse es))
+    ∙ ap (λ o. cond (bytes_eq e.name.now.text name) (Some (record { binding = e.binding; at = length es })) o) (found name)
+    ∙ ap (λ k. cond (bytes_eq e.name.now.text name) (Some (record { binding = e.binding; at = k })) (newest (reverse es) name)) (sym (length-reverse es))
     ∙ ap (λ xs. newest xs name) (sym (reverse_more es e))
 
 pub pushed : (m n : BTreeMap (Bor (List ℕ)) Nearest) (es : List Entry) (mark : ℕ) (e : Entry) → IsTable m es mark
     → e.hidden ≡ newest (reverse es) e.name.now.text
-    → UpdatesText e.name.now.text m n (Some (record { known = e.known; at = length es })) → IsTable n (es ++ e ∷ []) mark
+    → UpdatesText e.name.now.text m n (Some (record { binding = e.binding; at = length es })) → IsTable n (es ++ e ∷ []) mark
 pushed m n es mark e t h u = record {
   within = grind (arith, length-append, t.within);
   found = found_more m n es e t.found u;
@@ -96,10 +96,10 @@ pushed m n es mark e t h u = record {
 
 pub pushed_at : (m n : BTreeMap (Bor (List ℕ)) Nearest) (es : List Entry) (mark : ℕ) (e : Entry) (bs : List ℕ) (at : ℕ) → IsTable m es mark
     → bs ≡ e.name.now.text → at ≡ length es → e.hidden ≡ newest (reverse es) e.name.now.text
-    → UpdatesText bs m n (Some (record { known = e.known; at = at })) → IsTable n (es ++ e ∷ []) mark
+    → UpdatesText bs m n (Some (record { binding = e.binding; at = at })) → IsTable n (es ++ e ∷ []) mark
 pushed_at m n es mark e bs at t same place h u =
-    pushed m n es mark e t h (subst (λ x. UpdatesText x m n (Some (record { known = e.known; at = length es }))) same
-    (subst (λ x. UpdatesText bs m n (Some (record { known = e.known; at = x }))) place u))
+    pushed m n es mark e t h (subst (λ x. UpdatesText x m n (Some (record { binding = e.binding; at = length es }))) same
+    (subst (λ x. UpdatesText bs m n (Some (record { binding = e.binding; at = x }))) place u))
 
 -- a new scope begins behind all entries
 pub opens : (mark n : ℕ) (es : List Entry) → n ≡ length es → scope_of n es ≡ entered (scope_of mark es)
@@ -110,7 +110,7 @@ opens mark n es h =
 
 -- the newest entry is taken away, and what it hides is found again
 found_less : (b : Bool) (e : Entry) (fs : List Entry) (n : ℕ) (name : List ℕ) → bytes_eq e.name.now.text name ≡ b → e.hidden ≡ newest fs e.name.now.text
-    → cond b e.hidden (cond b (Some (record { known = e.known; at = n })) (newest fs name)) ≡ newest fs name
+    → cond b e.hidden (cond b (Some (record { binding = e.binding; at = n })) (newest fs name)) ≡ newest fs name
 found_less true e fs n name eq h = h ∙ ap (newest fs) ((bytes_eq-Decides e.name.now.text name).0 eq)
 found_less false e fs n name eq h = refl
 

@@ -13,7 +13,7 @@ use Rattle.cilk_load_nodes.specs.declared.taker.Taker.TheVariants.{Nothing, Into
 use Rattle.cilk_load_nodes.specs.declared.action.Action.{Action}
 use Rattle.cilk_load_nodes.specs.declared.action.Action.TheVariants.{Assign, Call, Spawn, Return, ReturnNothing, Print, Locking, Null, Break}
 use Rattle.cilk_load_nodes.specs.declared.action.Action.TheVariants.{Continue, Sync, Abort}
-use Rattle.cilk_load_names.specs.declared.known.Binding.{Binding}
+use Rattle.cilk_load_names.specs.declared.binding.Binding.{Binding}
 use Rattle.cilk_load_names.specs.Scope.{Scope, found, visible}
 
 abbrev pub known_in : Scope → Word → Binding

@@ -3,11 +3,11 @@ use Rattle.std.specs.Prelude.{ℕ, ◌-◌, List, [], ◌∷◌, ◌++◌, map, 
 use Rattle.cilk_load_nodes.specs.eval.declared.area.Area.{Area}
 use Rattle.cilk_load_nodes.specs.eval.declared.area.Area.TheVariants.{Own, Outer, Global}
 use Rattle.cilk_load_nodes.specs.Slots.{nowhere}
-use Rattle.cilk_load_names.specs.declared.known.Binding.{Binding}
+use Rattle.cilk_load_names.specs.declared.binding.Binding.{Binding}
 
 pub record Named : Type 0 where
   pub name : List ℕ
-  pub known : Binding
+  pub binding : Binding
 
 -- the declarations of the innermost body and those around it, the nearest first
 pub record Scope : Type 0 where
@@ -20,7 +20,7 @@ unknown_name = record { slot = nowhere; number = 0 }
 -- the nearest declaration of a name
 abbrev pub found : List Named → List ℕ → Binding
 found [] name = unknown_name
-found (e ∷ es) name = if bytes_eq e.name name then e.known else found es name
+found (e ∷ es) name = if bytes_eq e.name name then e.binding else found es name
 
 -- what stands in an activation is in the outer one for an inlet in it (Cilk 5.4 manual, `inlet`)
 abbrev pub outward_area : Area → Area
@@ -32,7 +32,7 @@ abbrev pub outward : Binding → Binding
 outward k = record { slot = record { area = outward_area k.slot.area; offset = k.slot.offset; length = k.slot.length }; number = k.number }
 
 abbrev pub outward_named : Named → Named
-outward_named e = record { name = e.name; known = outward e.known }
+outward_named e = record { name = e.name; binding = outward e.binding }
 
 abbrev pub visible : Scope → List Named
 visible s = s.innermost ++ map outward_named s.outer

@@ -5,12 +5,12 @@ use Rattle.std.specs.Cmp.Lexicographic.{slice_cmp}
 use Rattle.std.specs.Ordering.{nat_cmp}
 use denote.Ref.{Bor}
 use Rattle.cilk_load_names.specs.declared.entry.Entry.{Entry}
-use Rattle.cilk_load_names.specs.declared.known.Binding.{Binding}
+use Rattle.cilk_load_names.specs.declared.binding.Binding.{Binding}
 use Rattle.cilk_load_names.specs.declared.nearest.Nearest.{Nearest}
 use Rattle.cilk_load_names.specs.Scope.{Named, Scope, outward}
 
 abbrev pub entry_named : Entry → Named
-entry_named e = record { name = e.name.now.text; known = e.known }
+entry_named e = record { name = e.name.now.text; binding = e.binding }
 
 -- what some entries declare, the newest first
 abbrev pub shown : List Entry → List Named
@@ -24,7 +24,7 @@ scope_of mark es = record { innermost = shown (drop mark es); outer = shown (tak
 abbrev pub newest : List Entry → List ℕ → Option Nearest
 newest [] name = None
 newest (e ∷ es) name =
-    if bytes_eq e.name.now.text name then Some (record { known = e.known; at = length es }) else newest es name
+    if bytes_eq e.name.now.text name then Some (record { binding = e.binding; at = length es }) else newest es name
 
 -- each entry knows what it hides
 abbrev pub Hides : List Entry → Type 0
@@ -39,4 +39,4 @@ pub record IsTable (nearest : BTreeMap (Bor (List ℕ)) Nearest) (es : List Entr
 
 -- what a declaration stands for in the innermost body
 abbrev pub told : ℕ → Nearest → Binding
-told mark n = if nat_lt n.at mark then outward n.known else n.known
+told mark n = if nat_lt n.at mark then outward n.binding else n.binding

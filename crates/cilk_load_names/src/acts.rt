@@ -20,7 +20,7 @@ fn taker_in(alloc: Global, names: &SymbolTable, taker: &tree::Taker) -> Result<T
         tree::Taker::Nothing => Ok(Taker::Nothing),
         tree::Taker::Into(target) => Ok(Taker::Into(target_in(alloc, names, target)?)),
         tree::Taker::Through(inlet, others) => Ok(Taker::Through(
-            names.known(inlet.as_str()).number,
+            names.binding(inlet.as_str()).number,
             codes_in(alloc, names, others)?,
         )),
     }
@@ -36,7 +36,7 @@ fn spawn_in(
     ensures { IfOk result (λ action. action ≡ spawn_in names.now (taker_of taker.now) callee.now arguments.now) }
 {
     let taker = taker_in(alloc, names, taker)?;
-    let callee = names.known(callee.as_str()).number;
+    let callee = names.binding(callee.as_str()).number;
     Ok(Action::Spawn(taker, callee, codes_in(alloc, names, arguments)?))
 }
 
@@ -94,7 +94,7 @@ pub fn action_in(alloc: Global, names: &SymbolTable, stmt: &Stmt) -> Result<Opti
 fn locking_in(names: &SymbolTable, what: LockAction, name: &Word) -> Action
     ensures { result ≡ Locking what (number_in names.now name.now) }
 {
-    Action::Locking(what, names.known(name.as_str()).number)
+    Action::Locking(what, names.binding(name.as_str()).number)
 }
 
 /// An initialiser of the variable of this name.
@@ -109,7 +109,7 @@ pub fn initialiser_in(
     let target = Target {
         op: None,
         place: SlotPlace {
-            slot: names.known(name.as_str()).slot,
+            slot: names.binding(name.as_str()).slot,
             subscript: None,
         },
     };

@@ -15,9 +15,9 @@ pub fn code_in(alloc: Global, names: &SymbolTable, expr: &Expr) -> Result<Code, 
 {
     let node = match &expr.node {
         ExprNode::Number(number) => CodeNode::Number(*number),
-        ExprNode::Name(name) => CodeNode::Variable(names.known(name.as_str()).slot),
+        ExprNode::Name(name) => CodeNode::Variable(names.binding(name.as_str()).slot),
         ExprNode::Element(name, index) => CodeNode::Element(
-            names.known(name.as_str()).slot,
+            names.binding(name.as_str()).slot,
             boxed_code_in(alloc, names, index)?,
         ),
         ExprNode::Synched(_) => CodeNode::Synched,

@@ -1,6 +1,6 @@
 //! The visible declarations in the table by which names become slots, with what each of them hides.
 
-use crate::known::Binding;
+use crate::binding::Binding;
 use crate::nearest::Nearest;
 use cilk_tree_syntax::Word;
 
@@ -8,7 +8,7 @@ use cilk_tree_syntax::Word;
 #[derive(Clone, Copy)]
 pub(crate) struct Entry<'a> {
     pub(crate) name: &'a Word,
-    pub(crate) known: Binding,
+    pub(crate) binding: Binding,
     /// The nearest declaration of the name before this one.
     pub(crate) hidden: Option<Nearest>,
 }

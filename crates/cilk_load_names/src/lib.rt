@@ -3,17 +3,18 @@
 #![tactic(auto)]
 
 mod acts;
+mod binding;
 mod code;
 mod counts;
 mod entry;
 mod firsts;
-mod known;
 mod moves;
 mod nearest;
 mod room;
 mod symbol_table;
 
 pub use acts::{action_in, initialiser_in};
+pub use binding::Binding;
 pub use cilk_load_nodes::{
     Action, Body, Case, Cases, Codes, Name, Node, Owner, SlotPlace, Slots, Taker, Target, Text,
     Trap, Var, Vars, eval,
@@ -28,7 +29,6 @@ pub use counts::{
     count_items, count_part, count_shape,
 };
 pub use firsts::{block_first, first_if, locals_first};
-pub use known::Binding;
 pub use moves::move_in;
 pub use room::NoRoom;
 pub use symbol_table::{SymbolTable, nowhere};

@@ -16,7 +16,7 @@ fn place_in(alloc: Global, names: &SymbolTable, place: &tree::Place) -> Result<S
 {
     let subscript = option_code_in(alloc, names, &place.index)?;
     Ok(SlotPlace {
-        slot: names.known(place.name.as_str()).slot,
+        slot: names.binding(place.name.as_str()).slot,
         subscript,
     })
 }
@@ -88,7 +88,7 @@ fn call_in(
     ensures { IfOk result (λ action. action ≡ move_in names.now (tree.call target.now callee.now arguments.now)) }
 {
     let target = option_target_in(alloc, names, target)?;
-    let callee = names.known(callee.as_str()).number;
+    let callee = names.binding(callee.as_str()).number;
     Ok(Action::Call(target, callee, codes_in(alloc, names, arguments)?))
 }
 

@@ -5,8 +5,8 @@ ghost use Rattle.cilk_load_nodes.specs.Slots.{nowhere};
 ghost use Rattle.cilk_load_names.specs.Scope.{found, visible, outward_area, outward, entered, declared, left_of, unknown_name};
 ghost use Rattle.cilk_load_names.specs.Shown.{told};
 
+use crate::binding::Binding;
 use crate::entry::Entry;
-use crate::known::Binding;
 use crate::nearest::Nearest;
 use cilk_load_nodes::{Area, Slot};
 use cilk_tree_syntax::{Memory, Word};
@@ -47,7 +47,7 @@ impl<'a> SymbolTable<'a> {
     }
 
     /// What a name stands for. In a program that passed the check no other name is used.
-    pub fn known(&self, name: &str) -> Binding
+    pub fn binding(&self, name: &str) -> Binding
         ensures { result ≡ found (visible self.now) name.now }
     {
         match self.nearest.get(name) {
@@ -57,17 +57,17 @@ impl<'a> SymbolTable<'a> {
     }
 
     /// One more declaration in the innermost body.
-    pub fn declare(&mut self, name: &'a Word, known: Binding) -> Result<(), Memory>
-        ensures { OnOk result (self.new ≡ declared self.old (record { name = name.now.text; known = known })) }
+    pub fn declare(&mut self, name: &'a Word, binding: Binding) -> Result<(), Memory>
+        ensures { OnOk result (self.new ≡ declared self.old (record { name = name.now.text; binding = binding })) }
     {
         let at = self.entries.len();
         let hidden = self.nearest.get(name.as_str()).copied();
         self.entries.push(Entry {
             name,
-            known,
+            binding,
             hidden,
         })?;
-        match self.nearest.insert(name.as_str(), Nearest { known, at }) {
+        match self.nearest.insert(name.as_str(), Nearest { binding, at }) {
             Ok(_) => Ok(()),
             Err(failed) => {
                 self.entries.pop();
@@ -142,23 +142,23 @@ fn told(innermost: usize, nearest: Nearest) -> Binding
     ensures { result ≡ told innermost nearest }
 {
     if nearest.at < innermost {
-        outward(nearest.known)
+        outward(nearest.binding)
     } else {
-        nearest.known
+        nearest.binding
     }
 }
 
-fn outward(known: Binding) -> Binding
-    ensures { result ≡ outward known }
+fn outward(binding: Binding) -> Binding
+    ensures { result ≡ outward binding }
 {
     let slot = Slot {
-        area: outward_area(known.slot.area),
-        offset: known.slot.offset,
-        length: known.slot.length,
+        area: outward_area(binding.slot.area),
+        offset: binding.slot.offset,
+        length: binding.slot.length,
     };
     Binding {
         slot,
-        number: known.number,
+        number: binding.number,
     }
 }
 

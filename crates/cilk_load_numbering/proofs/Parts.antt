@@ -14,7 +14,7 @@ use Rattle.cilk_load_numbering.specs.declared.exits.Exits.{Exits}
 use Rattle.cilk_load_names.specs.Scope.{Scope, declared}
 use Rattle.cilk_load_names.specs.Acts.{code_in}
 use Rattle.cilk_load_names.specs.Firsts.{first_if, block_first, locals_first}
-use Rattle.cilk_load_numbering.specs.Pass.{known_var, known_number, node, switch_test, onward, exits_to, in_switch, in_loop, part_nodes, again_at}
+use Rattle.cilk_load_numbering.specs.Pass.{bound_var, bound_number, node, switch_test, onward, exits_to, in_switch, in_loop, part_nodes, again_at}
 use Rattle.cilk_load_numbering.specs.Pass.{inside_at, shape_nodes, locals_scope, locals_nodes, stmt_nodes, stmts_nodes, block_nodes}
 use Rattle.cilk_load_numbering.specs.Outer.{vars_at, body_exits, inlet_nodes, outer_nodes, outer_scope, body_nodes}
 
@@ -199,12 +199,12 @@ either-written b vars s t size size1 n m here count value body other x second ex
     ∙ ap (λ (y : tree.Stmt). before ++ stmt_nodes b vars s at n y ex) view
 
 -- the first of some statements
-pub stmts-turn : (b : ℕ) (vars : List Var) (s t : Scope) (size size' n m here count left : ℕ) (x : tree.Stmt) (xs : tree.Stmts) (next : Option ℕ)
+pub stmts-first : (b : ℕ) (vars : List Var) (s t : Scope) (size size' n m here count left : ℕ) (x : tree.Stmt) (xs : tree.Stmts) (next : Option ℕ)
     (ex inner : Exits) (before after : List Node)
     → here ≡ size + 1 → count ≡ count_stmt x → left ≡ count_stmts xs → next ≡ first_if left (here + count) ex.next → inner ≡ exits_to next ex
     → after ≡ before ++ stmt_nodes b vars s (size + 1) n x inner → size' ≡ size + count_stmt x → t ≡ s → m ≡ n + length (stmt_variables x)
     → after ++ stmts_nodes b vars t (size' + 1) m xs ex ≡ before ++ stmts_nodes b vars s (size + 1) n (tree.also x xs) ex
-stmts-turn b vars s t size size' n m here count left x xs next ex inner before after el ec ef ex1 ei ea es et en =
+stmts-first b vars s t size size' n m here count left x xs next ex inner before after el ec ef ex1 ei ea es et en =
     let at : ℕ = size + 1 in
     let behind : here + count ≡ at + count_stmt x = omega (arith, el, ec) in
     let place : size' + 1 ≡ at + count_stmt x = omega (arith, es) in
@@ -219,21 +219,21 @@ pub from-place : (k : ℕ) (xs : List tree.Local) → take (length xs - k) (drop
 from-place k xs = take_all (length xs - k) (drop k xs) (omega (arith, length-drop k xs))
 
 -- the first of some declarations
-pub record Turn (b : ℕ) (vars : List Var) (next : Option ℕ) (before after : List Node) (s t : Scope) (size size' n m : ℕ) (l : tree.Local)
+pub record PutsFirst (b : ℕ) (vars : List Var) (next : Option ℕ) (before after : List Node) (s t : Scope) (size size' n m : ℕ) (l : tree.Local)
     (others : tree.Locals) : Type 0 where
   pub nodes : after ++ locals_nodes b vars t (size' + 1) m others next ≡ before ++ locals_nodes b vars s (size + 1) n (tree.and_local l others) next
   pub len : size' ≡ size + count_local l
   pub names : locals_scope vars m others t ≡ locals_scope vars n (tree.and_local l others) s
   pub variables : m ≡ n + length (local_variables l)
 
-pub decl-turn : (b : ℕ) (vars : List Var) (next : Option ℕ) (before after : List Node) (s t : Scope) (size size' n m : ℕ) (l : tree.Local)
+pub decl-first : (b : ℕ) (vars : List Var) (next : Option ℕ) (before after : List Node) (s t : Scope) (size size' n m : ℕ) (l : tree.Local)
     (others behind : tree.Locals) (d : tree.Decl)
     → tree.declared d ≡ l → behind ≡ others
-    → after ≡ before ++ shape_nodes b (declared s (known_var vars n d.name)) d.name d.shape (locals_first (size + 1 + count_shape d.shape) behind next)
-    → size' ≡ size + count_shape d.shape → t ≡ declared s (known_var vars n d.name) → m ≡ n + 1 → Turn b vars next before after s t size size' n m l others
-decl-turn b vars next before after s t size size' n m l others behind d view eo ea es et en =
+    → after ≡ before ++ shape_nodes b (declared s (bound_var vars n d.name)) d.name d.shape (locals_first (size + 1 + count_shape d.shape) behind next)
+    → size' ≡ size + count_shape d.shape → t ≡ declared s (bound_var vars n d.name) → m ≡ n + 1 → PutsFirst b vars next before after s t size size' n m l others
+decl-first b vars next before after s t size size' n m l others behind d view eo ea es et en =
     let at : ℕ = size + 1 in
-    let within : Scope = declared s (known_var vars n d.name) in
+    let within : Scope = declared s (bound_var vars n d.name) in
     let place : size' + 1 ≡ at + count_shape d.shape = omega (arith, es) in
     record {
       nodes =
@@ -252,27 +252,27 @@ plain-later (tree.declared d) ls plain = plain
 plain-later (tree.inlet_at place name parameters body) ls plain = absurd plain
 
 -- and in the outermost block
-pub record OuterTurn (bodies : List Body) (b : ℕ) (next : Option ℕ) (before after : List Node) (s t : Scope) (size size' k k' n m : ℕ) (l : tree.Local)
+pub record OuterPutsFirst (bodies : List Body) (b : ℕ) (next : Option ℕ) (before after : List Node) (s t : Scope) (size size' k k' n m : ℕ) (l : tree.Local)
     (others : tree.Locals) : Type 0 where
   pub nodes : after ++ outer_nodes bodies b k' t (size' + 1) m others next ≡ before ++ outer_nodes bodies b k s (size + 1) n (tree.and_local l others) next
   pub len : size' ≡ size + count_local l
   pub names : outer_scope (vars_at bodies b) k' m others t ≡ outer_scope (vars_at bodies b) k n (tree.and_local l others) s
   pub variables : m ≡ n + length (local_variables l)
 
-pub outer-decl-turn : (bodies : List Body) (b : ℕ) (vars : List Var) (next : Option ℕ) (before after : List Node) (s t : Scope) (size size' k k' n m : ℕ)
+pub outer-decl-first : (bodies : List Body) (b : ℕ) (vars : List Var) (next : Option ℕ) (before after : List Node) (s t : Scope) (size size' k k' n m : ℕ)
     (l : tree.Local) (others behind : tree.Locals) (d : tree.Decl)
     → tree.declared d ≡ l → behind ≡ others → vars ≡ vars_at bodies b
-    → after ≡ before ++ shape_nodes b (declared s (known_var vars n d.name)) d.name d.shape (locals_first (size + 1 + count_shape d.shape) behind next)
-    → size' ≡ size + count_shape d.shape → t ≡ declared s (known_var vars n d.name) → k' ≡ k → m ≡ n + 1
-    → OuterTurn bodies b next before after s t size size' k k' n m l others
-outer-decl-turn bodies b vars next before after s t size size' k k' n m l others behind d view eo ev ea es et ek en =
+    → after ≡ before ++ shape_nodes b (declared s (bound_var vars n d.name)) d.name d.shape (locals_first (size + 1 + count_shape d.shape) behind next)
+    → size' ≡ size + count_shape d.shape → t ≡ declared s (bound_var vars n d.name) → k' ≡ k → m ≡ n + 1
+    → OuterPutsFirst bodies b next before after s t size size' k k' n m l others
+outer-decl-first bodies b vars next before after s t size size' k k' n m l others behind d view eo ev ea es et ek en =
     let at : ℕ = size + 1 in
-    let within : Scope = declared s (known_var (vars_at bodies b) n d.name) in
-    let scope : t ≡ within = et ∙ ap (λ vs. declared s (known_var vs n d.name)) ev in
+    let within : Scope = declared s (bound_var (vars_at bodies b) n d.name) in
+    let scope : t ≡ within = et ∙ ap (λ vs. declared s (bound_var vs n d.name)) ev in
     let place : size' + 1 ≡ at + count_shape d.shape = omega (arith, es) in
     record {
       nodes =
-          (λ i. (ea ∙ (λ j. before ++ shape_nodes b (declared s (known_var (ev j) n d.name)) d.name d.shape
+          (λ i. (ea ∙ (λ j. before ++ shape_nodes b (declared s (bound_var (ev j) n d.name)) d.name d.shape
           (locals_first (at + count_shape d.shape) (eo j) next))) i ++ outer_nodes bodies b (ek i) (scope i) (place i) (en i) others next)
           ∙ append_assoc before (shape_nodes b within d.name d.shape (locals_first (at + count_shape d.shape) others next))
           (outer_nodes bodies b k within (at + count_shape d.shape) (n + 1) others next)
@@ -283,14 +283,14 @@ outer-decl-turn bodies b vars next before after s t size size' k k' n m l others
       variables = en ∙ ap (λ (x : tree.Local). n + length (local_variables x)) view;
     }
 
-pub outer-inlet-turn : (bodies : List Body) (b : ℕ) (next : Option ℕ) (before after : List Node) (s t : Scope) (size size' k k' n m place : ℕ)
+pub outer-inlet-first : (bodies : List Body) (b : ℕ) (next : Option ℕ) (before after : List Node) (s t : Scope) (size size' k k' n m place : ℕ)
     (l : tree.Local) (others : tree.Locals) (name : Word) (parameters : List Word) (body : tree.Block)
-    → tree.inlet_at place name parameters body ≡ l → after ≡ before ++ inlet_nodes bodies k (declared s (known_number k name)) (size + 1) parameters body
-    → size' ≡ size + (count_block body + 1) → t ≡ declared s (known_number k name) → k' ≡ k + 1 → m ≡ n
-    → OuterTurn bodies b next before after s t size size' k k' n m l others
-outer-inlet-turn bodies b next before after s t size size' k k' n m place l others name parameters body view ea es et ek en =
+    → tree.inlet_at place name parameters body ≡ l → after ≡ before ++ inlet_nodes bodies k (declared s (bound_number k name)) (size + 1) parameters body
+    → size' ≡ size + (count_block body + 1) → t ≡ declared s (bound_number k name) → k' ≡ k + 1 → m ≡ n
+    → OuterPutsFirst bodies b next before after s t size size' k k' n m l others
+outer-inlet-first bodies b next before after s t size size' k k' n m place l others name parameters body view ea es et ek en =
     let at : ℕ = size + 1 in
-    let within : Scope = declared s (known_number k name) in
+    let within : Scope = declared s (bound_number k name) in
     let more : k' ≡ suc k = omega (arith, ek) in
     let behind : size' + 1 ≡ at + (count_block body + 1) = omega (arith, es) in
     let none : m ≡ n + 0 = omega (arith, en) in

@@ -8,7 +8,7 @@ use Rattle.cilk_load_names.specs.nodes.Plain.{PlainLocals}
 use Rattle.cilk_load_names.specs.scopes.Scopes.{parameter, parameters_declare}
 use Rattle.cilk_load_names.specs.Scope.{Named, Scope, declared, entered, left_of, unknown_name}
 use Rattle.cilk_load_names.proofs.Shown.{drop-next}
-use Rattle.cilk_load_numbering.specs.Pass.{known_var, known_number, locals_scope}
+use Rattle.cilk_load_numbering.specs.Pass.{bound_var, bound_number, locals_scope}
 use Rattle.cilk_load_numbering.specs.Outer.{words_scope, parameters_scope, outer_scope}
 
 -- the scope t has k declarations more than s
@@ -30,7 +30,7 @@ adds-more k e s t a = record {
 pub adds-words : (vars : List Var) (n : ℕ) (words : List Word) (s : Scope) → Adds (length words) s (words_scope vars n words s)
 adds-words vars n [] s = adds-none s
 adds-words vars n (word ∷ words) s =
-    adds-more (length words) (known_var vars n word) s _ (adds-words vars (n + 1) words (declared s (known_var vars n word)))
+    adds-more (length words) (bound_var vars n word) s _ (adds-words vars (n + 1) words (declared s (bound_var vars n word)))
 
 pub adds-parameters : (vars : List Var) (parameters : tree.Parameters) (s : Scope)
     → Adds (length (parameters_declare parameters)) s (parameters_scope vars parameters s)
@@ -40,22 +40,22 @@ adds-parameters vars (tree.ints words) s = subst (λ k. Adds k s (words_scope va
     counted [] = refl
     counted (x ∷ xs) = ap suc (counted xs)
 adds-parameters vars (tree.command_line count strings) s =
-    adds-more 1 (known_var vars 0 count) s _
-    (adds-more 0 (record { name = strings.text; known = unknown_name }) (declared s (known_var vars 0 count)) _ (adds-none _))
+    adds-more 1 (bound_var vars 0 count) s _
+    (adds-more 0 (record { name = strings.text; binding = unknown_name }) (declared s (bound_var vars 0 count)) _ (adds-none _))
 
 pub adds-locals : (vars : List Var) (n : ℕ) (ls : List tree.Local) (s : Scope) → PlainLocals (locals_of ls)
     → Adds (length ls) s (locals_scope vars n (locals_of ls) s)
 adds-locals vars n [] s plain = adds-none s
 adds-locals vars n (tree.declared d ∷ ls) s plain =
-    adds-more (length ls) (known_var vars n d.name) s _ (adds-locals vars (n + 1) ls (declared s (known_var vars n d.name)) plain)
+    adds-more (length ls) (bound_var vars n d.name) s _ (adds-locals vars (n + 1) ls (declared s (bound_var vars n d.name)) plain)
 adds-locals vars n (tree.inlet_at place name parameters body ∷ ls) s plain = absurd plain
 
 pub adds-outer : (vars : List Var) (k n : ℕ) (ls : List tree.Local) (s : Scope) → Adds (length ls) s (outer_scope vars k n (locals_of ls) s)
 adds-outer vars k n [] s = adds-none s
 adds-outer vars k n (tree.declared d ∷ ls) s =
-    adds-more (length ls) (known_var vars n d.name) s _ (adds-outer vars k (n + 1) ls (declared s (known_var vars n d.name)))
+    adds-more (length ls) (bound_var vars n d.name) s _ (adds-outer vars k (n + 1) ls (declared s (bound_var vars n d.name)))
 adds-outer vars k n (tree.inlet_at place name parameters body ∷ ls) s =
-    adds-more (length ls) (known_number k name) s _ (adds-outer vars (suc k) n ls (declared s (known_number k name)))
+    adds-more (length ls) (bound_number k name) s _ (adds-outer vars (suc k) n ls (declared s (bound_number k name)))
 
 -- what was declared is forgotten
 pub forgotten : (k : ℕ) (s t : Scope) → Adds k s t → record { innermost = drop k t.innermost; outer = t.outer } ≡ s

@@ -12,7 +12,7 @@ use Rattle.cilk_load_names.specs.nodes.declared.body.Body.{Body}
 use Rattle.cilk_load_numbering.specs.declared.exits.Exits.{Exits}
 use Rattle.cilk_load_names.specs.Scope.{Named, Scope, declared, entered, unknown_name}
 use Rattle.cilk_load_names.specs.Firsts.{first_if, locals_first}
-use Rattle.cilk_load_numbering.specs.Pass.{known_var, known_number, onward, shape_nodes, stmts_nodes, block_nodes}
+use Rattle.cilk_load_numbering.specs.Pass.{bound_var, bound_number, onward, shape_nodes, stmts_nodes, block_nodes}
 
 -- the variables of body b in the table of the bodies
 abbrev pub vars_in : Option Body → List Var
@@ -28,12 +28,12 @@ body_exits closing = record { next = Some closing; past = None; again = None }
 
 abbrev pub words_scope : List Var → ℕ → List Word → Scope → Scope
 words_scope vars n [] s = s
-words_scope vars n (word ∷ words) s = words_scope vars (n + 1) words (declared s (known_var vars n word))
+words_scope vars n (word ∷ words) s = words_scope vars (n + 1) words (declared s (bound_var vars n word))
 
 abbrev pub parameters_scope : List Var → tree.Parameters → Scope → Scope
 parameters_scope vars (tree.ints words) s = words_scope vars 0 words s
 parameters_scope vars (tree.command_line count strings) s =
-    declared (declared s (known_var vars 0 count)) (record { name = strings.text; known = unknown_name })
+    declared (declared s (bound_var vars 0 count)) (record { name = strings.text; binding = unknown_name })
 
 -- of an inlet, whose body is body k, where its name is visible
 abbrev pub inlet_nodes : List Body → ℕ → Scope → ℕ → List Word → tree.Block → List Node
@@ -45,17 +45,17 @@ inlet_nodes bodies k s at parameters body =
 abbrev pub outer_nodes : List Body → ℕ → ℕ → Scope → ℕ → ℕ → tree.Locals → Option ℕ → List Node
 outer_nodes bodies b k s at n tree.no_locals next = []
 outer_nodes bodies b k s at n (tree.and_local (tree.declared d) others) next =
-    shape_nodes b (declared s (known_var (vars_at bodies b) n d.name)) d.name d.shape (locals_first (at + count_shape d.shape) others next)
-    ++ outer_nodes bodies b k (declared s (known_var (vars_at bodies b) n d.name)) (at + count_shape d.shape) (n + 1) others next
+    shape_nodes b (declared s (bound_var (vars_at bodies b) n d.name)) d.name d.shape (locals_first (at + count_shape d.shape) others next)
+    ++ outer_nodes bodies b k (declared s (bound_var (vars_at bodies b) n d.name)) (at + count_shape d.shape) (n + 1) others next
 outer_nodes bodies b k s at n (tree.and_local (tree.inlet_at place name parameters body) others) next =
-    inlet_nodes bodies k (declared s (known_number k name)) at parameters body
-    ++ outer_nodes bodies b (suc k) (declared s (known_number k name)) (at + (count_block body + 1)) n others next
+    inlet_nodes bodies k (declared s (bound_number k name)) at parameters body
+    ++ outer_nodes bodies b (suc k) (declared s (bound_number k name)) (at + (count_block body + 1)) n others next
 
 abbrev pub outer_scope : List Var → ℕ → ℕ → tree.Locals → Scope → Scope
 outer_scope vars k n tree.no_locals s = s
-outer_scope vars k n (tree.and_local (tree.declared d) others) s = outer_scope vars k (n + 1) others (declared s (known_var vars n d.name))
+outer_scope vars k n (tree.and_local (tree.declared d) others) s = outer_scope vars k (n + 1) others (declared s (bound_var vars n d.name))
 outer_scope vars k n (tree.and_local (tree.inlet_at place name parameters body) others) s =
-    outer_scope vars (suc k) n others (declared s (known_number k name))
+    outer_scope vars (suc k) n others (declared s (bound_number k name))
 
 -- a body of which n variables are parameters
 abbrev pub body_nodes : List Body → ℕ → Scope → ℕ → ℕ → tree.Block → List Node
@@ -92,10 +92,10 @@ bodies_count (first ∷ others) = body_count first + bodies_count others
 
 -- what an item of the top level declares, behind g variables, l locks and b bodies
 abbrev pub item_named : List Var → ℕ → ℕ → ℕ → tree.Item → List Named
-item_named globals g l b (tree.global what) = known_var globals g what.name ∷ []
-item_named globals g l b (tree.lock name) = known_number l name ∷ []
+item_named globals g l b (tree.global what) = bound_var globals g what.name ∷ []
+item_named globals g l b (tree.lock name) = bound_number l name ∷ []
 item_named globals g l b (tree.prototype q) = []
-item_named globals g l b (tree.procedure p) = known_number b p.name ∷ []
+item_named globals g l b (tree.procedure p) = bound_number b p.name ∷ []
 
 abbrev pub file_named : List Var → ℕ → ℕ → ℕ → List tree.Item → List Named
 file_named globals g l b [] = []

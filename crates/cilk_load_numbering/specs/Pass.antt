@@ -22,12 +22,12 @@ var_slot [] n = nowhere
 var_slot (v ∷ vars) zero = v.slot
 var_slot (v ∷ vars) (suc n) = var_slot vars n
 
-abbrev pub known_var : List Var → ℕ → Word → Named
-known_var vars n word = record { name = word.text; known = record { slot = var_slot vars n; number = n } }
+abbrev pub bound_var : List Var → ℕ → Word → Named
+bound_var vars n word = record { name = word.text; binding = record { slot = var_slot vars n; number = n } }
 
 -- a lock or a body
-abbrev pub known_number : ℕ → Word → Named
-known_number n word = record { name = word.text; known = record { slot = nowhere; number = n } }
+abbrev pub bound_number : ℕ → Word → Named
+bound_number n word = record { name = word.text; binding = record { slot = nowhere; number = n } }
 
 abbrev pub node : ℕ → Action → Option ℕ → Option ℕ → Node
 node b act next other = record { action = act; next = next; other = other; cases = []; body = b }
@@ -107,14 +107,14 @@ shape_nodes b s name (tree.array n) next = []
 -- behind declarations without inlets
 abbrev pub locals_scope : List Var → ℕ → tree.Locals → Scope → Scope
 locals_scope vars n tree.no_locals s = s
-locals_scope vars n (tree.and_local (tree.declared d) others) s = locals_scope vars (n + 1) others (declared s (known_var vars n d.name))
+locals_scope vars n (tree.and_local (tree.declared d) others) s = locals_scope vars (n + 1) others (declared s (bound_var vars n d.name))
 locals_scope vars n (tree.and_local (tree.inlet_at place name parameters body) others) s = locals_scope vars n others s
 
 abbrev pub locals_nodes : ℕ → List Var → Scope → ℕ → ℕ → tree.Locals → Option ℕ → List Node
 locals_nodes b vars s at n tree.no_locals next = []
 locals_nodes b vars s at n (tree.and_local (tree.declared d) others) next =
-    shape_nodes b (declared s (known_var vars n d.name)) d.name d.shape (locals_first (at + count_shape d.shape) others next)
-    ++ locals_nodes b vars (declared s (known_var vars n d.name)) (at + count_shape d.shape) (n + 1) others next
+    shape_nodes b (declared s (bound_var vars n d.name)) d.name d.shape (locals_first (at + count_shape d.shape) others next)
+    ++ locals_nodes b vars (declared s (bound_var vars n d.name)) (at + count_shape d.shape) (n + 1) others next
 locals_nodes b vars s at n (tree.and_local (tree.inlet_at place name parameters body) others) next = locals_nodes b vars s at n others next
 
 -- where a statement that is one action leads

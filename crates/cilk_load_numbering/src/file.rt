@@ -4,8 +4,8 @@ ghost use Rattle.std.specs.Prelude.{◌≡◌, ◌+◌, ◌++◌, IfOk, OnOk, le
 ghost use Rattle.cilk_load_names.specs.labelled.Bodies.{item_globals, item_locks, body_count};
 ghost use Rattle.cilk_load_numbering.specs.Outer.{globals_count, locks_count, bodies_count, item_named, file_named};
 
-use crate::numbering::known_var;
-use crate::outer::{bodies_behind, known_number};
+use crate::numbering::bound_var;
+use crate::outer::{bodies_behind, bound_number};
 use cilk_load_names::{Body, Item, ItemNode, NoRoom, SymbolTable, Var};
 
 // How many variables, locks and bodies of the top level come before an item.
@@ -92,16 +92,16 @@ fn declare_item<'a>(
     let before = before_item(behind, item)?;
     match &item.node {
         ItemNode::Global(definition) => {
-            names.declare(&definition.name, known_var(globals, before.globals))?;
+            names.declare(&definition.name, bound_var(globals, before.globals))?;
             Ok(before)
         }
         ItemNode::Lock(name) => {
-            names.declare(name, known_number(before.locks))?;
+            names.declare(name, bound_number(before.locks))?;
             Ok(before)
         }
         ItemNode::Prototype(_) => Ok(before),
         ItemNode::Procedure(definition) => {
-            names.declare(&definition.name, known_number(before.bodies))?;
+            names.declare(&definition.name, bound_number(before.bodies))?;
             Ok(before)
         }
     }

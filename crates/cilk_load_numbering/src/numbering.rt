@@ -11,7 +11,7 @@ ghost use Rattle.cilk_load_names.specs.nodes.declared.action.Action.TheVariants.
 ghost use Rattle.cilk_load_names.specs.Acts.{code_in};
 ghost use Rattle.cilk_load_names.specs.Scope.{declared};
 ghost use Rattle.cilk_load_names.specs.Firsts.{block_first, locals_first};
-ghost use Rattle.cilk_load_numbering.specs.Pass.{var_slot, known_var, node, shape_nodes};
+ghost use Rattle.cilk_load_numbering.specs.Pass.{var_slot, bound_var, node, shape_nodes};
 ghost use Rattle.cilk_load_numbering.specs.Pass.{locals_scope, locals_nodes, stmt_nodes, stmts_nodes, block_nodes};
 
 use crate::exits::{Exits, exits_to, in_loop, in_switch};
@@ -96,13 +96,13 @@ impl<'a> Pass<'a> {
     ) -> Result<u32, NoRoom>
         requires { vec_len self.old.nodes + (count_shape decl.now.shape + count_locals (locals_of others.now)) ≤ 65534 }
         ensures nodes { OnOk result (self.new.nodes.items ≡ self.old.nodes.items
-            ++ shape_nodes site.entry.body (declared self.old.names (known_var site.entry.vars.now n decl.now.name)) decl.now.name decl.now.shape
+            ++ shape_nodes site.entry.body (declared self.old.names (bound_var site.entry.vars.now n decl.now.name)) decl.now.name decl.now.shape
             (locals_first (vec_len self.old.nodes + 1 + count_shape decl.now.shape) (locals_of others.now) next)) }
         ensures len { OnOk result (vec_len self.new.nodes ≡ vec_len self.old.nodes + count_shape decl.now.shape) }
-        ensures names { OnOk result (self.new.names ≡ declared self.old.names (known_var site.entry.vars.now n decl.now.name)) }
+        ensures names { OnOk result (self.new.names ≡ declared self.old.names (bound_var site.entry.vars.now n decl.now.name)) }
         ensures after { IfOk result (λ m. m ≡ n + 1) }
     {
-        self.names.declare(&decl.name, known_var(site.vars, n))?;
+        self.names.declare(&decl.name, bound_var(site.vars, n))?;
         match &decl.shape {
             Shape::Variable(Some(value)) => {
                 let next = locals_first(others, self.at() + 1, next);
@@ -304,7 +304,7 @@ impl<'a> Pass<'a> {
 }
 
 /// What the name of variable n stands for.
-pub(crate) fn known_var(vars: &[Var], n: u32) -> Binding
+pub(crate) fn bound_var(vars: &[Var], n: u32) -> Binding
     ensures { result ≡ record { slot = var_slot vars.now n; number = n } }
 {
     let slot = match vars.get(n as usize) {

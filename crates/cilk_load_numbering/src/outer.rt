@@ -11,12 +11,12 @@ ghost use Rattle.cilk_load_names.specs.nodes.Plain.{PlainBlock, OuterLocals, Out
 ghost use Rattle.cilk_load_names.specs.scopes.Scopes.{parameters_declare};
 ghost use Rattle.cilk_load_names.specs.nodes.Slots.{nowhere};
 ghost use Rattle.cilk_load_names.specs.Scope.{declared};
-ghost use Rattle.cilk_load_numbering.specs.Pass.{known_number};
+ghost use Rattle.cilk_load_numbering.specs.Pass.{bound_number};
 ghost use Rattle.cilk_load_numbering.specs.Outer.{vars_at, body_exits, words_scope, parameters_scope};
 ghost use Rattle.cilk_load_numbering.specs.Outer.{inlet_nodes, outer_nodes, outer_scope, body_nodes, item_nodes, items_nodes};
 
 use crate::exits::Exits;
-use crate::numbering::known_var;
+use crate::numbering::bound_var;
 use crate::pass::{Pass, Site};
 use cilk_load_names::{
     Action, Binding, Block, Body, Inlet, Item, ItemNode, Local, LocalNode, NoRoom, Parameters,
@@ -25,7 +25,7 @@ use cilk_load_names::{
 };
 
 /// What stands for a lock or a body.
-pub(crate) fn known_number(number: u32) -> Binding
+pub(crate) fn bound_number(number: u32) -> Binding
     ensures { result ≡ record { slot = nowhere; number = number } }
 {
     Binding {
@@ -65,7 +65,7 @@ fn put_words<'a>(
 {
     let mut n = n;
     for word in words {
-        names.declare(word, known_var(vars, n))?;
+        names.declare(word, bound_var(vars, n))?;
         n = n.checked_add(1).ok_or(NoRoom::TooLarge)?;
     }
     Ok(n)
@@ -83,8 +83,8 @@ fn put_parameters<'a>(
     match parameters {
         Parameters::Ints(words) => put_words(names, vars, 0, words),
         Parameters::CommandLine(count, strings) => {
-            names.declare(count, known_var(vars, 0))?;
-            names.declare(strings, known_number(0))?;
+            names.declare(count, bound_var(vars, 0))?;
+            names.declare(strings, bound_number(0))?;
             Ok(1)
         }
     }
@@ -125,13 +125,13 @@ impl<'a> Pass<'a> {
         requires room { vec_len self.old.nodes + count_block inlet.now.body ≤ 65534 }
         requires plain { PlainBlock inlet.now.body }
         ensures nodes { OnOk result (self.new.nodes.items ≡ self.old.nodes.items
-            ++ inlet_nodes bodies.now k (declared self.old.names (known_number k inlet.now.name)) (vec_len self.old.nodes + 1)
+            ++ inlet_nodes bodies.now k (declared self.old.names (bound_number k inlet.now.name)) (vec_len self.old.nodes + 1)
             inlet.now.parameters.items inlet.now.body) }
         ensures len { OnOk result (vec_len self.new.nodes ≡ vec_len self.old.nodes + (count_block inlet.now.body + 1)) }
-        ensures names { OnOk result (self.new.names ≡ declared self.old.names (known_number k inlet.now.name)) }
+        ensures names { OnOk result (self.new.names ≡ declared self.old.names (bound_number k inlet.now.name)) }
         ensures after { IfOk result (λ after. after ≡ k + 1) }
     {
-        self.names.declare(&inlet.name, known_number(k))?;
+        self.names.declare(&inlet.name, bound_number(k))?;
         self.put_inlet(bodies, k, &inlet.parameters, &inlet.body)?;
         k.checked_add(1).ok_or(NoRoom::TooLarge)
     }

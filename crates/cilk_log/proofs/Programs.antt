@@ -23,7 +23,7 @@ program_written digest f = digest_written digest f.0 f.1
 
 -- ---- told
 
-pub record Names (line digest : List ℕ) : Type 0 where
+pub record NamesProgram (line digest : List ℕ) : Type 0 where
   pub text : line ≡ digest_text digest
   pub fits : ProgramFits (Some digest)
 
@@ -40,10 +40,10 @@ digest_at text digest (Ok bytes) d h = at (bytes_eq (encode_lower bytes) text) r
         let told = decode_of-ok text bytes (sym (decode_sized-twice text 32 len) ∙ d) in
         rw (← same) (sym ((bytes_eq-Decides (encode_lower bytes) text).0 e), (omega (arith, told.2, len), told.3))
 
-pub program_told : (line digest : List ℕ) → program_in line ≡ Some digest → Names line digest
+pub program_told : (line digest : List ℕ) → program_in line ≡ Some digest → NamesProgram line digest
 program_told line digest e = at (behind (codes "program ") line) refl e
   where
-    at : (o : Option (List ℕ)) → behind (codes "program ") line ≡ o → digest_told o ≡ Some digest → Names line digest
+    at : (o : Option (List ℕ)) → behind (codes "program ") line ≡ o → digest_told o ≡ Some digest → NamesProgram line digest
     at None f g = absurd cc
     at (Some text) f g =
         let d = digest_at text digest (decode_sized text 32) refl g in

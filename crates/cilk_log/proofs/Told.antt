@@ -15,7 +15,7 @@ use Rattle.cilk_log.proofs.Acts.{choice_told, workers_told}
 use Rattle.cilk_log.proofs.Breaks.{text_of_lines}
 use Rattle.cilk_log.proofs.Ended.{ended_told}
 use Rattle.cilk_log.proofs.GoingOn.{append_nil}
-use Rattle.cilk_log.proofs.Programs.{Names, program_told}
+use Rattle.cilk_log.proofs.Programs.{NamesProgram, program_told}
 use Rattle.cilk_log.proofs.ToldStretched.{stretches_told}
 
 record Leads (lines : List (List ℕ)) (told : Told) : Type 0 where
@@ -77,7 +77,7 @@ few_of : (digest : List ℕ) (n : ℕ) → n ≤ most_choices → is_past_most (
 few_of digest n m = grind (arith, nat_tests)
 
 with_stretches : (first second third : List ℕ) (lines : List (List ℕ)) (rest : List ℕ) (log : Log) (n : ℕ) (digest : List ℕ) → first ≡ first_line_2
-    → (second ≡ workers_text n) × (n < 256) → Names third digest → (r : Result (List Choice) Fault) → stretches_read lines rest ≡ r
+    → (second ≡ workers_text n) × (n < 256) → NamesProgram third digest → (r : Result (List Choice) Fault) → stretches_read lines rest ≡ r
     → with_head (Some digest) n r ≡ Ok log → Says (first ∷ second ∷ third ∷ lines) rest log
 with_stretches first second third lines rest log n digest f w p (Err fault) e o = absurd cc
 with_stretches first second third lines rest log n digest f w p (Ok all) e o =

@@ -8,7 +8,7 @@ use Rattle.cilk_machine_choices.specs.model.Event as event
 use Rattle.cilk_machine_choices.specs.model.Event.{Event}
 use Rattle.cilk_machine_choices.specs.model.Instance.{Instance}
 use Rattle.cilk_machine_choices.specs.model.Run.{Standing, after, one_more, position_after, next_of, event_of}
-use Rattle.cilk_machine_choices.specs.model.Places.{popped_by, stolen_by}
+use Rattle.cilk_machine_choices.specs.model.Hands.{popped_by, stolen_by}
 use Rattle.cilk_machine_carry.proofs.placed_laws.model_laws.Runs.{after-push}
 use Rattle.cilk_machine_carry.proofs.placed_laws.Crew.{crew_stays}
 use Rattle.cilk_machine_carry.proofs.placed_laws.Fates.{the_living_live, each_choice_is_an_event}

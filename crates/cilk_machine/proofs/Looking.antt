@@ -5,21 +5,21 @@ use Rattle.std.specs.Prelude.{IfOk, IfErr, IfSome, OnOk, option_and_then}
 use Rattle.cilk_machine_carry.specs.frame.Frames.{Frame}
 use Rattle.cilk_machine_carry.specs.plans.declared.light.Light.{Light}
 use Rattle.cilk_machine_carry.specs.plans.declared.plan.Plan.{Plan}
-use Rattle.cilk_machine_carry.specs.plans.Sights.{StepInput, cells_in}
+use Rattle.cilk_machine_carry.specs.plans.StepInput.{StepInput, cells_in}
 use Rattle.cilk_machine_carry.specs.plans.Words.{plan_of}
-use Rattle.cilk_machine_choices.specs.model.Places.{hand_of}
+use Rattle.cilk_machine_choices.specs.model.Hands.{hand_of}
 use Rattle.cilk_machine_choices.specs.declared.act.Act.TheVariants.{Step}
 use Rattle.cilk_machine_choices.specs.declared.refusal.Refusal.TheVariants.{Over, NoWorker}
 use Rattle.cilk_machine_carry.specs.eval.Known.{known_of}
 use Rattle.cilk_machine_carry.specs.eval.declared.known.Known.{Known}
 use Rattle.cilk_machine_carry.specs.eval.declared.slot.Slot.{Slot}
 use Rattle.cilk_machine_carry.specs.labelled.Term.{Term}
-use Rattle.cilk_machine_step.specs.Looks as sights
-use Rattle.cilk_machine_step.specs.Looks.{code_in}
+use Rattle.cilk_machine_step.specs.Peeks as peeks
+use Rattle.cilk_machine_step.specs.Peeks.{code_in}
 use Rattle.cilk_machine_step.specs.Scenes.{is_wait}
-use Rattle.cilk_machine.specs.Situation.{Situation, workers_of, sight_at}
+use Rattle.cilk_machine.specs.Situation.{Situation, workers_of, input_at}
 use Rattle.cilk_machine.specs.Refused.{runs, is_worker_of, is_full, planned_by, planned_in, waits_by, step_refused, act_refused, refused_by}
-use Rattle.cilk_machine.specs.Looking.{look_by, plan_by}
+use Rattle.cilk_machine.specs.Looking.{peek_by, plan_by}
 use Rattle.cilk_machine.proofs.Lightly.{goes}
 
 -- a plan by a value never waits
@@ -48,14 +48,14 @@ on_ok (Ok a) f p = f p
 on_ok (Err e) f p = tt
 
 taken_by : (g : StepInput) (o : Option (Term Slot)) (listed : Term Slot) (values : List Known) → values ≡ known_of (cells_in g) listed
-    → IfSome (option_map (sights.look_by g) o) (λ look. listed ≡ look.code → values ≡ look.values)
+    → IfSome (option_map (peeks.peek_by g) o) (λ peek. listed ≡ peek.code → values ≡ peek.values)
 taken_by g None listed values is = tt
 taken_by g (Some code) listed values is = λ same. is ∙ ap (known_of (cells_in g)) same
 
 -- what is taken down of an expression is what is seen of it
 pub taken-down : {A E : Type 0} (r : Result A E) (m : Situation) (f : Frame) (g : StepInput) (o : Option Frame) (listed : Term Slot) (values : List Known)
-    → g ≡ sight_at m f → Some f ≡ o → OnOk r (values ≡ known_of (cells_in g) listed)
-    → OnOk r (IfSome (option_and_then (look_by m) o) (λ look. listed ≡ look.code → values ≡ look.values))
+    → g ≡ input_at m f → Some f ≡ o → OnOk r (values ≡ known_of (cells_in g) listed)
+    → OnOk r (IfSome (option_and_then (peek_by m) o) (λ peek. listed ≡ peek.code → values ≡ peek.values))
 taken-down r m f g o listed values here in_hand = on_ok r (λ is.
-    subst (λ (x : Option Frame). IfSome (option_and_then (look_by m) x) (λ look. listed ≡ look.code → values ≡ look.values)) in_hand
-    (taken_by (sight_at m f) (code_in (sight_at m f)) listed values (is ∙ ap (λ (x : StepInput). known_of (cells_in x) listed) here)))
+    subst (λ (x : Option Frame). IfSome (option_and_then (peek_by m) x) (λ peek. listed ≡ peek.code → values ≡ peek.values)) in_hand
+    (taken_by (input_at m f) (code_in (input_at m f)) listed values (is ∙ ap (λ (x : StepInput). known_of (cells_in x) listed) here)))

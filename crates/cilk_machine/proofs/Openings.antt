@@ -14,7 +14,7 @@ use Rattle.cilk_machine_carry.specs.labelled.Bodies.{label}
 use Rattle.cilk_machine_choices.specs.model.Values.{initial_values}
 use Rattle.cilk_machine_choices.specs.model.Instance as model
 use Rattle.cilk_machine_choices.specs.model.Instance.{Instance, no_body, body_at, with_arguments}
-use Rattle.cilk_machine_choices.specs.model.Places.{WorkerOf, no_place, with_hand}
+use Rattle.cilk_machine_choices.specs.model.Hands.{WorkerOf, no_place, with_hand}
 use Rattle.cilk_machine_choices.specs.model.Run.{Standing, is_crew, opening, after, after_main}
 use Rattle.cilk_machine_carry.specs.nodes.declared.body.Body.{Body}
 use Rattle.cilk_machine_carry.specs.nodes.Slots.{size_of, flat, is_inlet}

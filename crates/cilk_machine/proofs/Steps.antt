@@ -9,7 +9,7 @@ use Rattle.cilk_machine_choices.specs.model.Event.{Event}
 use Rattle.cilk_machine_choices.specs.model.Path.{Path}
 use Rattle.cilk_machine_choices.specs.model.State as state
 use Rattle.cilk_machine_choices.specs.model.Run.{Standing, next_by_hand, event_by_hand, step_refusal}
-use Rattle.cilk_machine_choices.specs.model.Places.{IsWorker, hand_of}
+use Rattle.cilk_machine_choices.specs.model.Hands.{IsWorker, hand_of}
 use Rattle.cilk_machine_carry.specs.nodes.declared.body.Body.{Body}
 use Rattle.cilk_machine_carry.proofs.effects_laws.Room.{variables, globals}
 use Rattle.cilk_machine_carry.specs.frame.Frames.{Frame}
@@ -17,12 +17,12 @@ use Rattle.cilk_machine_carry.specs.spawn.Nodes.{Node, path_at}
 use Rattle.cilk_machine_carry.specs.agree.Outside as outside
 use Rattle.cilk_machine_carry.specs.agree.Agrees.{Agrees, name_in}
 use Rattle.cilk_machine_carry.specs.agree.Fated.{Follows}
-use Rattle.cilk_machine_carry.specs.agree.Laws.{Turn}
+use Rattle.cilk_machine_carry.specs.agree.Laws.{InHand}
 use Rattle.cilk_machine_carry.specs.plans.declared.plan.Plan.{Plan}
 use Rattle.cilk_machine_carry.specs.plans.declared.plan.Plan.TheVariants as plan
 use Rattle.cilk_machine_carry.specs.plans.Made.{planned}
 use Rattle.cilk_machine_carry.specs.plans.Plans.{step_in, IsPlan}
-use Rattle.cilk_machine_carry.specs.plans.Sights.{StepInput}
+use Rattle.cilk_machine_carry.specs.plans.StepInput.{StepInput}
 use Rattle.cilk_machine_carry.specs.declared.did.Did.{Did}
 use Rattle.cilk_machine_carry.specs.declared.did.Done.{Done}
 use Rattle.cilk_machine_carry.specs.declared.parts.Parts.{Parts}
@@ -34,12 +34,12 @@ use Rattle.cilk_machine_step.proofs.Fits.{head-fits}
 use Rattle.cilk_machine_choices.specs.declared.act.Act.TheVariants.{Step}
 use Rattle.cilk_machine_choices.specs.declared.outcome.Outcome.{Outcome}
 use Rattle.cilk_machine_choices.specs.Words.{outcome_of}
-use Rattle.cilk_machine.specs.Situation.{Situation, sight_at, outcome_at}
+use Rattle.cilk_machine.specs.Situation.{Situation, input_at, outcome_at}
 use Rattle.cilk_machine.specs.Stands.{Led, IsSound}
 use Rattle.cilk_machine.specs.Refused.{planned_by, planned_in, refused_by}
 use Rattle.cilk_machine.specs.Made.{Makes, Does}
 use Rattle.cilk_machine.specs.Told.{event_in, HasPaths, started_number, body_numbered, body_started, trapped_path, outcome_with, trapper_of, IsTrapPath}
-use Rattle.cilk_machine.proofs.Refusals.{turn-of, plan-in, hand-is}
+use Rattle.cilk_machine.proofs.Refusals.{in-hand-of, plan-in, hand-is}
 use Rattle.cilk_machine.proofs.Told.{event-told, paths-there, trapped-there, outcome-told, outcome-at}
 use Rattle.cilk_machine.proofs.Leading.{moved_to, Next, makes, free-is}
 use Rattle.cilk_machine.proofs.Free.{Frees, frees, Steps, step-free, free-old}
@@ -65,7 +65,7 @@ starts-it p (plan.Answer n reached z) = tt
 starts-it p (plan.Return n z) = tt
 starts-it p (plan.Spawn n receiver callee arguments to) = refl
 starts-it p (plan.Print n bytes to) = tt
-starts-it p (plan.Turn n lock now to) = tt
+starts-it p (plan.TurnLock n lock now to) = tt
 starts-it p (plan.Abort n to) = tt
 
 abbrev pub stepping : ℕ → model.Choice
@@ -82,22 +82,22 @@ module _ (m : Situation) (w : ℕ) (sound : IsSound m) (free : refused_by m (rec
   abbrev f : Frame
   f = it.frame
 
-  abbrev turn : (choices : List model.Choice) (events : List Event) (at : Standing) → Led m choices events at → Turn
-  turn choices events at h = turn-of m choices events at h w f known.worker it.held
+  abbrev in-hand : (choices : List model.Choice) (events : List Event) (at : Standing) → Led m choices events at → InHand
+  in-hand choices events at h = in-hand-of m choices events at h w f known.worker it.held
 
-  pub plan-here : planned_in m w ≡ planned (sight_at m f)
+  pub plan-here : planned_in m w ≡ planned (input_at m f)
   plan-here = ap (planned_by m) it.held
 
   -- the plan is that of the step
   is-plan : (x : Plan) → x ≡ planned_in m w → (choices : List model.Choice) (events : List Event) (at : Standing)
-      (h : Led m choices events at) → IsPlan (turn choices events at h) x
+      (h : Led m choices events at) → IsPlan (in-hand choices events at h) x
   is-plan x is choices events at h =
-      subst (IsPlan (turn choices events at h)) (sym (is ∙ plan-here)) (plan-in m sound.well_formed choices events at h w f known.worker it.held)
+      subst (IsPlan (in-hand choices events at h)) (sym (is ∙ plan-here)) (plan-in m sound.well_formed choices events at h w f known.worker it.held)
 
   pub paths : (x : Plan) → x ≡ planned_in m w → HasPaths m.machine.nodes f.id x
   paths x is =
       let s = sound.stands in
-      paths-there (turn s.choices s.events sound.at s.led) x (is-plan x is s.choices s.events sound.at s.led)
+      paths-there (in-hand s.choices s.events sound.at s.led) x (is-plan x is s.choices s.events sound.at s.led)
 
   -- what the choice does is what its step does
   hand-here : (choices : List model.Choice) (events : List Event) (at : Standing) (h : Led m choices events at)
@@ -107,13 +107,13 @@ module _ (m : Situation) (w : ℕ) (sound : IsSound m) (free : refused_by m (rec
 
   pub does : (x : Plan) → x ≡ planned_in m w → Does m (stepping w) (event_in m.machine.nodes f.id x)
   does x is at s =
-      event-told (turn s.choices s.events at s.led) x (is-plan x is s.choices s.events at s.led)
+      event-told (in-hand s.choices s.events at s.led) x (is-plan x is s.choices s.events at s.led)
       ∙ ap (event_by_hand (label m.program) at.state) (sym (hand-here s.choices s.events at s.led))
 
   module _ (parts : Parts) (is_parts : m.machine ≡ machine_of parts outside.running) (body : Option Body) (x : Plan)
       (is : x ≡ planned_in m w) (starts : body ≡ body_started m.program x) where
     planned_there : (choices : List model.Choice) (events : List Event) (at : Standing) (h : Led m choices events at)
-        → Planned parts w body x (turn choices events at h)
+        → Planned parts w body x (in-hand choices events at h)
     planned_there choices events at h = record {
       machine = is_parts;
       worker = refl;
@@ -126,7 +126,7 @@ module _ (m : Situation) (w : ℕ) (sound : IsSound m) (free : refused_by m (rec
         let s = sound.stands in
         record {
           goes = λ e. it.goes (sym (is ∙ plan-here) ∙ e);
-          turn = turn s.choices s.events sound.at s.led;
+          in_hand = in-hand s.choices s.events sound.at s.led;
           planned = planned_there s.choices s.events sound.at s.led;
           few = few-cells m.program sound.well_formed;
         }
@@ -137,7 +137,7 @@ module _ (m : Situation) (w : ℕ) (sound : IsSound m) (free : refused_by m (rec
         → Next m (machine_of now (carries.outcome_of done.outcome)) (outcome_with path done.outcome) (stepping w)
         (event_by (path_at m.machine.nodes) (path_at now.tree.nodes) done.did) at
     next-there now done path named carried choices events at h =
-        let t = turn choices events at h in
+        let t = in-hand choices events at h in
         let s = carried t (planned_there choices events at h) in
         let hand = hand-here choices events at h in
         let runs : at.state.outcome ≡ state.running = sym h.outcome ∙ ap outcome_of known.runs_on in
@@ -203,10 +203,10 @@ module _ (m : Situation) (w : ℕ) (sound : IsSound m) (free : refused_by m (rec
 
 -- the step of the instance in a hand can be planned
 pub fits-here : (m : Situation) → IsSound m → (w : ℕ) → IsWorker m.machine.places w → (f : Frame) → Some f ≡ hand_of m.machine.places w
-    → (g : StepInput) → g ≡ sight_at m f → HeadFits g
+    → (g : StepInput) → g ≡ input_at m f → HeadFits g
 fits-here m sound w worker f looked g is =
     let s = sound.stands in
-    subst HeadFits (sym is) (head-fits (turn-of m s.choices s.events sound.at s.led w f worker (sym looked)) sound.well_formed)
+    subst HeadFits (sym is) (head-fits (in-hand-of m s.choices s.events sound.at s.led w f worker (sym looked)) sound.well_formed)
 
 -- what a machine is to carry out, and the path of the instance where that is a trap
 pub record Carrying (m : Situation) (w : ℕ) (x : Plan) (path : Path) : Type 0 where

@@ -5,7 +5,7 @@ use Rattle.cilk_machine_carry.specs.frame.Frames.{Frame}
 use Rattle.cilk_machine_carry.specs.agree.Outside as outside
 use Rattle.cilk_machine_carry.specs.agree.Agrees.{MachineParts}
 use Rattle.cilk_machine_carry.specs.spawn.Kinds.{kind_of}
-use Rattle.cilk_machine_carry.specs.plans.Sights.{StepInput}
+use Rattle.cilk_machine_carry.specs.plans.StepInput.{StepInput}
 use Rattle.cilk_machine_choices.specs.declared.outcome.Outcome.{Outcome}
 use Rattle.cilk_machine_choices.specs.declared.outcome.Outcome.TheVariants.{Running, Finished, Trapped}
 
@@ -26,8 +26,8 @@ outcome_at id (Finished value) = outside.finished value
 outcome_at id (Trapped kind path n) = outside.trapped (kind_of kind) id n
 
 -- what a step of the instance of a frame looks at
-abbrev pub sight_at : Situation → Frame → StepInput
-sight_at m f = record {
+abbrev pub input_at : Situation → Frame → StepInput
+input_at m f = record {
   program = m.program;
   globals = m.machine.outside.cells;
   locks = m.machine.outside.locks;

@@ -12,7 +12,7 @@ use Rattle.cilk_model.specs.Values.{Cell}
 use Rattle.cilk_model.specs.Instance.{Instance, body_at}
 use Rattle.cilk_model.specs.State.{State, Instances, changed}
 use Rattle.cilk_model.specs.Change.{is_function, put, gone_on, outer_with, globals_with, resumed_to, with_instance, with_put}
-use Rattle.cilk_model.specs.Places.{with_hand}
+use Rattle.cilk_model.specs.Hands.{with_hand}
 use Rattle.cilk_sched.specs.nodes.Slots.{is_inlet, slot_of}
 use Rattle.cilk_sched.specs.frame.Frames.{Frame, gone_to, left}
 use Rattle.cilk_sched.specs.frame.Cells.{SameCell, put_in, frame_put, globals_put}
@@ -23,7 +23,7 @@ use Rattle.cilk_spawn.specs.Nodes.{path_at}
 use Rattle.cilk_machine_agree.specs.Outside.{Outside, SameOutside, lock_by}
 use Rattle.cilk_machine_agree.specs.Alike.{NodeStandsFor, SameDeliveries, Receives, procedure_in, taker_of, lowest_body}
 use Rattle.cilk_machine_agree.specs.Agrees.{Agrees, instead}
-use Rattle.cilk_machine_agree.specs.Laws.{Turn, path_of, node_of, instance_of, Goes}
+use Rattle.cilk_machine_agree.specs.Laws.{InHand, path_of, node_of, instance_of, Goes}
 use Rattle.cilk_machine_agree.specs.Actions.{IsNext, with_global, GoingAgrees, WritesAgree, CallsAgree, LeavesAgree, AnswersAgree, PrintsAgree}
 use Rattle.cilk_machine_agree.specs.Actions.{LocksAgree, TrapsAgree, AbortsAgree}
 use Rattle.cilk_machine_agree.proofs.Sets.{links-all, set-same}
@@ -60,7 +60,7 @@ pub record Rest (i a : Instance) : Type 0 where
   pub waiting : a.waiting ≡ i.waiting
   pub receiver : a.receiver ≡ i.receiver
 
-module _ (t : Turn) where
+module _ (t : InHand) where
   abbrev p : Program
   p = t.program
 

@@ -4,7 +4,7 @@ use Rattle.std.specs.Prelude.{option_map}
 use Rattle.cilk_laws_placed.specs.labelled.Bodies.{label}
 use Rattle.cilk_model.specs.Instance.{Instance}
 use Rattle.cilk_model.specs.State.{State}
-use Rattle.cilk_model.specs.Places.{with_hand, named}
+use Rattle.cilk_model.specs.Hands.{with_hand, named}
 use Rattle.cilk_model.specs.Scheduler as sched
 use Rattle.cilk_sched.specs.frame.Frames.{Frame}
 use Rattle.cilk_sched.specs.frame.Stands.{StandsFor}
@@ -14,7 +14,7 @@ use Rattle.cilk_sched.specs.Count.{AllHeld}
 use Rattle.cilk_sched.proofs.Names.{named-with_hand, hand_of-named}
 use Rattle.cilk_machine_agree.specs.Outside.{Outside}
 use Rattle.cilk_machine_agree.specs.Agrees.{Held, instead, name_in}
-use Rattle.cilk_machine_agree.specs.Laws.{Turn, Becomes, Local}
+use Rattle.cilk_machine_agree.specs.Laws.{InHand, Becomes, Local}
 use Rattle.cilk_machine_agree.proofs.Sets.{sets, instead-here}
 use Rattle.cilk_machine_agree.proofs.Change.{change}
 use Rattle.cilk_machine_agree.proofs.Frames.{hand-over, held-with_hand, hand-kept-by}
@@ -23,7 +23,7 @@ use Rattle.cilk_machine_agree.proofs.Alone.{holds, inside, free, others-stand}
 not-some : (o : Option Frame) (g : Frame) → o ≡ None → o ≡ Some g → ⊥
 not-some o g none some = let e : None ≡ Some g = sym none ∙ some in cc
 
-module _ (t : Turn) where
+module _ (t : InHand) where
   abbrev ns : List Node
   ns = t.machine.nodes
 

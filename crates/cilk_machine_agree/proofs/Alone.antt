@@ -5,8 +5,8 @@ use Rattle.cilk_laws_placed.specs.labelled.Bodies.{label}
 use Rattle.cilk_model.specs.Path.{Path, same_path, is_that}
 use Rattle.cilk_model.specs.Instance.{Instance}
 use Rattle.cilk_model.specs.State as state
-use Rattle.cilk_model.specs.Places.{WorkerOf, hand_of, with_hand}
-use Rattle.cilk_laws_placed.specs.Places.{times_held}
+use Rattle.cilk_model.specs.Hands.{WorkerOf, hand_of, with_hand}
+use Rattle.cilk_laws_placed.specs.Hands.{times_held}
 use Rattle.cilk_laws_placed.proofs.Entries.{same-self}
 use Rattle.cilk_sched.specs.frame.Frames.{Frame}
 use Rattle.cilk_sched.specs.frame.Stands.{StandsFor}
@@ -17,7 +17,7 @@ use Rattle.cilk_sched.specs.Count.{once, count_where, AllHeld, IsCounted}
 use Rattle.cilk_sched.proofs.Count.{count-take, each-counted, AllHeld-weaker}
 use Rattle.cilk_sched.proofs.Names.{named-held}
 use Rattle.cilk_machine_agree.specs.Agrees.{Held, name_in, instead}
-use Rattle.cilk_machine_agree.specs.Laws.{Turn, path_of}
+use Rattle.cilk_machine_agree.specs.Laws.{InHand, path_of}
 use Rattle.cilk_machine_agree.proofs.Sets.{instead-there}
 use Rattle.cilk_machine_agree.proofs.Frames.{held-at, held-with_hand, held-both}
 
@@ -47,7 +47,7 @@ unparked (Some f) h = cc
 none_of : (n : ℕ) → n ≡ 0 → 0 < n → ⊥
 none_of n z h = omega (arith, z, h)
 
-module _ (t : Turn) where
+module _ (t : InHand) where
   abbrev ns : List Node
   ns = t.machine.nodes
 

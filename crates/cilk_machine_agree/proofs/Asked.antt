@@ -19,14 +19,14 @@ use Rattle.cilk_spawn.proofs.Trees.{child_there}
 use Rattle.cilk_sched.proofs.Names.{named-length, hand_of-named, deque_of-named}
 use Rattle.cilk_machine_agree.specs.Alike.{SameDelivery, SameDeliveries}
 use Rattle.cilk_machine_agree.specs.Agrees.{entry_of, name_in}
-use Rattle.cilk_machine_agree.specs.Laws.{Turn, path_of, node_of, instance_of}
+use Rattle.cilk_machine_agree.specs.Laws.{InHand, path_of, node_of, instance_of}
 use Rattle.cilk_machine_agree.specs.Asked.{AskedOf, OldestIsTold, NoneIsTold, PlacedOf}
 use Rattle.cilk_machine_agree.proofs.Alone.{holds, inside, free}
 use Rattle.cilk_machine_agree.proofs.Found.{found, child-is, same-empty, empty-is}
-use Rattle.cilk_machine_agree.proofs.Locks.{holds-same, turn-same, turned-within}
+use Rattle.cilk_machine_agree.proofs.Locks.{holds-same, lock-turn-same, lock-turned-within}
 use Rattle.cilk_machine_agree.proofs.Actions.{told}
 
-module _ (t : Turn) where
+module _ (t : InHand) where
   child-same : state.has_live_child t.at.state.instances (path_of t) ≡ has_live_child t.machine.nodes t.frame.id
   child-same =
       ap (λ es. state.has_live_child es (path_of t)) t.agrees.instances ∙ child-is t.machine.nodes t.who t.frame.id t.agrees.tree (inside t)
@@ -66,10 +66,10 @@ asked t =
       childless = child-same t;
       synched = synched-same t;
       holds = ap (list_any (change.is_held_by (path_of t))) o.locks ∙ holds-same ns tree k (inside t) t.machine.outside.locks o.holders;
-      turn = λ what l.
-          ap (λ ls. change.turn_by (path_of t) what (slice_index_or ls l state.unset)) o.locks
-          ∙ turn-same ns tree k (inside t) what t.machine.outside.locks l o.holders;
-      turned_within = λ what l now e. turned-within ns tree k (inside t) what t.machine.outside.locks l now e;
+      lock_turn = λ what l.
+          ap (λ ls. change.lock_turn_by (path_of t) what (slice_index_or ls l state.unset)) o.locks
+          ∙ lock-turn-same ns tree k (inside t) what t.machine.outside.locks l o.holders;
+      lock_turned_within = λ what l now e. lock-turned-within ns tree k (inside t) what t.machine.outside.locks l now e;
       count = ap length t.agrees.instances ∙ length-map (live_ids ns) (entry_of ns t.who);
     }
 

@@ -3,7 +3,7 @@ use Rattle.std.proofs.Common.{◌≡◌, ◌<◌, ◌≤◌, ◌-◌, ◌&&◌, 
 use Rattle.std.proofs.Common.{◌∙◌, subst, slice_set, get_or-set_same, get_or-set_other, if◌then◌else◌}
 use Rattle.std.specs.List.{list_any}
 use Rattle.cilk_model.specs.Path.{is_child}
-use Rattle.cilk_model.specs.Places.{IsWorker, hand_of, deque_of, with_hand}
+use Rattle.cilk_model.specs.Hands.{IsWorker, hand_of, deque_of, with_hand}
 use Rattle.cilk_spawn.specs.declared.fate.Fate.TheVariants.{Aborted}
 use Rattle.cilk_spawn.specs.declared.receiver.Receiver.TheVariants.{Nothing}
 use Rattle.cilk_spawn.specs.Nodes.{Node, IsTree, no_node, node_at, is_live, has_live_child, takes_value, delivery_of, delivered, delivered_to}
@@ -12,7 +12,7 @@ use Rattle.cilk_spawn.proofs.Trees.{live_there}
 use Rattle.cilk_spawn.proofs.Children.{parent_other, tree_delivered, path_delivered, ids_delivered}
 use Rattle.cilk_spawn.proofs.Alive.{live_child_by}
 use Rattle.cilk_sched.proofs.Seats.{deque-kept, workers-of-hand}
-use Rattle.cilk_machine_agree.specs.Laws.{Turn, sent}
+use Rattle.cilk_machine_agree.specs.Laws.{InHand, sent}
 use Rattle.cilk_machine_agree.specs.Between.{HandsAreFilled, HandsAreRestored, HandsAreHandedOn, CanEnd, SendersCanEnd, ParentsOutlive}
 use Rattle.cilk_machine_agree.proofs.Frames.{hand-over, given-back, set_again, seat-over}
 use Rattle.cilk_machine_agree.proofs.Alone.{holds, inside, free}
@@ -62,7 +62,7 @@ either-one : {A : Type 0} (P : A → Type 0) (b : Bool) (x y : A) → P x → P 
 either-one P true x y h k = h
 either-one P false x y h k = k
 
-module _ (t : Turn) (z : ℤ) (childless : has_live_child t.machine.nodes t.frame.id ≡ false) where
+module _ (t : InHand) (z : ℤ) (childless : has_live_child t.machine.nodes t.frame.id ≡ false) where
   abbrev ns : List Node
   ns = t.machine.nodes
 

@@ -12,9 +12,9 @@ use Rattle.cilk_model.specs.Instance as model
 use Rattle.cilk_model.specs.Instance.{Instance}
 use Rattle.cilk_model.specs.State as state
 use Rattle.cilk_model.specs.State.{State, changed}
-use Rattle.cilk_model.specs.Places.{WorkerOf, deque_of, with_hand, with_deque, pushed_by, named}
+use Rattle.cilk_model.specs.Hands.{WorkerOf, deque_of, with_hand, with_deque, pushed_by, named}
 use Rattle.cilk_model.specs.Scheduler as sched
-use Rattle.cilk_laws_placed.specs.Places.{times_held}
+use Rattle.cilk_laws_placed.specs.Hands.{times_held}
 use Rattle.cilk_laws_placed.proofs.Entries.{live-cons}
 use Rattle.cilk_sched.specs.frame.Frames.{Frame}
 use Rattle.cilk_sched.specs.frame.Stands.{StandsFor}
@@ -35,7 +35,7 @@ use Rattle.cilk_machine_agree.specs.declared.lock.Lock.TheVariants as lock
 use Rattle.cilk_machine_agree.specs.Outside.{Outside, Outcome, lock_by, outcome_by, LockWithin, OutcomeWithin, SameOutside}
 use Rattle.cilk_machine_agree.specs.Alike.{NodeStandsFor, SameDeliveries, Receives, procedure_in, taker_of}
 use Rattle.cilk_machine_agree.specs.Agrees.{Held, Parked, Agrees, instead, entry_of, instances_of, name_in}
-use Rattle.cilk_machine_agree.specs.Laws.{Turn, path_of, Becomes, Birth, after_birth}
+use Rattle.cilk_machine_agree.specs.Laws.{InHand, path_of, Becomes, Birth, after_birth}
 use Rattle.cilk_machine_agree.proofs.Sets.{Sets, sets, instead-here, instead-there}
 use Rattle.cilk_machine_agree.proofs.Frames.{held-at, held-placed}
 use Rattle.cilk_machine_agree.proofs.Alone.{holds, inside, others-stand}
@@ -103,7 +103,7 @@ taker-same : (procedures now : ℕ → ℕ) (o : Option ℕ) → ((q : ℕ) → 
 taker-same procedures now None same = refl
 taker-same procedures now (Some q) same = sym (same q refl)
 
-module _ (t : Turn) (f g : Frame) (receiver : Receiver) (callee : ℕ) (a c : Instance) (s : State) (b : Birth t f g receiver callee a c s) where
+module _ (t : InHand) (f g : Frame) (receiver : Receiver) (callee : ℕ) (a c : Instance) (s : State) (b : Birth t f g receiver callee a c s) where
   abbrev p : Program
   p = t.program
 

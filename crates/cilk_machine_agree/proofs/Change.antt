@@ -9,7 +9,7 @@ use Rattle.cilk_model.specs.Run.{Standing}
 use Rattle.cilk_sched.specs.frame.Frames.{Frame}
 use Rattle.cilk_spawn.specs.Nodes.{Node, node_at, is_live, path_at}
 use Rattle.cilk_spawn.proofs.Lists.{decide}
-use Rattle.cilk_model.specs.Places.{WorkerOf, named}
+use Rattle.cilk_model.specs.Hands.{WorkerOf, named}
 use Rattle.cilk_sched.specs.Count.{AllHeld}
 use Rattle.cilk_sched.proofs.Count.{AllHeld-weaker}
 use Rattle.cilk_machine_agree.specs.Outside.{Outside, SameOutside}

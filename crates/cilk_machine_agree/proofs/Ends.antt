@@ -8,7 +8,7 @@ use Rattle.cilk_laws_placed.specs.labelled.Bodies.{label}
 use Rattle.cilk_model.specs.Path.{Path, same_path}
 use Rattle.cilk_model.specs.Instance.{Instance}
 use Rattle.cilk_model.specs.State.{Instances, State, changed, without}
-use Rattle.cilk_model.specs.Places.{with_hand, named}
+use Rattle.cilk_model.specs.Hands.{with_hand, named}
 use Rattle.cilk_model.specs.Scheduler as sched
 use Rattle.cilk_model.specs.Run.{Standing}
 use Rattle.cilk_sched.specs.frame.Frames.{Frame}

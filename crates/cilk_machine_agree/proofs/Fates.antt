@@ -2,7 +2,7 @@
 use Rattle.std.proofs.Common.{◌≡◌, ◌<◌, ℕ, List, refl, sym, ap, ◌∙◌, subst, arith, inl, inr, length, map, is_some}
 use Rattle.cilk_model.specs.Path.{Path}
 use Rattle.cilk_model.specs.Instance.{Instance}
-use Rattle.cilk_model.specs.Places.{named}
+use Rattle.cilk_model.specs.Hands.{named}
 use Rattle.cilk_model.specs.Run.{Standing}
 use Rattle.cilk_laws_placed.specs.labelled.Bodies.{label}
 use Rattle.cilk_laws_placed.specs.syntax.Tree.{Program}

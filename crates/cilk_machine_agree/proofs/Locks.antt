@@ -16,7 +16,7 @@ use Rattle.cilk_spawn.proofs.Paths.{same_here, other_there}
 use Rattle.cilk_machine_agree.specs.declared.lock.Lock.{Lock}
 use Rattle.cilk_machine_agree.specs.declared.lock.Lock.TheVariants.{Unset, Free, Held}
 use Rattle.cilk_machine_agree.specs.Outside.{lock_by, LockWithin}
-use Rattle.cilk_machine_agree.specs.Locks.{turned, refused, blocked, turn_at, turn_among, turn_named, is_held_by}
+use Rattle.cilk_machine_agree.specs.Locks.{lock_turned, refused, blocked, lock_turn_at, lock_turn_among, lock_turn_named, is_held_by}
 
 pub set_map : {A B : Type 0} (f : A → B) (xs : List A) (l : ℕ) (x : A) → slice_set (map f xs) l (f x) ≡ map f (slice_set xs l x)
 set_map f [] l x = refl
@@ -41,24 +41,24 @@ lock-within n (y ∷ xs) zero h = All-head (LockWithin n) y xs h
 lock-within n (y ∷ xs) (suc l) h = lock-within n xs l (All-tail (LockWithin n) y xs h)
 
 -- one that k may take, or let go
-taken-or-not : (up : ℕ → Path) (a b : Bool) → a ≡ b → (if b then change.refused else change.blocked) ≡ turn_named up (if a then refused else blocked)
+taken-or-not : (up : ℕ → Path) (a b : Bool) → a ≡ b → (if b then change.refused else change.blocked) ≡ lock_turn_named up (if a then refused else blocked)
 taken-or-not up true true e = refl
 taken-or-not up false false e = refl
 taken-or-not up true false e = cc
 taken-or-not up false true e = cc
 
 freed-or-not : (up : ℕ → Path) (a b : Bool) → a ≡ b
-    → (if b then change.turned state.free else change.refused) ≡ turn_named up (if a then turned Free else refused)
+    → (if b then change.lock_turned state.free else change.refused) ≡ lock_turn_named up (if a then lock_turned Free else refused)
 freed-or-not up true true e = refl
 freed-or-not up false false e = refl
 freed-or-not up true false e = cc
 freed-or-not up false true e = cc
 
-freed-within : (n : ℕ) (b : Bool) (now : Lock) → (if b then turned Free else refused) ≡ turned now → LockWithin n now
+freed-within : (n : ℕ) (b : Bool) (now : Lock) → (if b then lock_turned Free else refused) ≡ lock_turned now → LockWithin n now
 freed-within n true now e = let is : Free ≡ now = cc in subst (LockWithin n) is tt
 freed-within n false now e = cc
 
-not-taken : (b : Bool) (now : Lock) → (if b then refused else blocked) ≡ turned now → ⊥
+not-taken : (b : Bool) (now : Lock) → (if b then refused else blocked) ≡ lock_turned now → ⊥
 not-taken true now e = cc
 not-taken false now e = cc
 
@@ -84,32 +84,34 @@ module _ (ns : List Node) (t : IsTree ns) (k : ℕ) (there : k < length ns) wher
   holds-same (x ∷ xs) h =
       λ j. held-same x (All-head (LockWithin (length ns)) x xs h) j || holds-same xs (All-tail (LockWithin (length ns)) x xs h) j
 
-  turn-at : (what : LockAction) (x : Lock) → LockWithin (length ns) x → change.turn_by (up k) what (lock_by up x) ≡ turn_named up (turn_at k what x)
-  turn-at Init Unset h = refl
-  turn-at Init Free h = refl
-  turn-at Init (Held i) h = refl
-  turn-at action.Lock Unset h = refl
-  turn-at action.Lock Free h = refl
-  turn-at action.Lock (Held i) h = taken-or-not up (nat_eq i k) (same_path (up i) (up k)) (same-holder i h)
-  turn-at Unlock Unset h = refl
-  turn-at Unlock Free h = refl
-  turn-at Unlock (Held i) h = freed-or-not up (nat_eq i k) (same_path (up i) (up k)) (same-holder i h)
+  lock-turn-at : (what : LockAction) (x : Lock) → LockWithin (length ns) x
+      → change.lock_turn_by (up k) what (lock_by up x) ≡ lock_turn_named up (lock_turn_at k what x)
+  lock-turn-at Init Unset h = refl
+  lock-turn-at Init Free h = refl
+  lock-turn-at Init (Held i) h = refl
+  lock-turn-at action.Lock Unset h = refl
+  lock-turn-at action.Lock Free h = refl
+  lock-turn-at action.Lock (Held i) h = taken-or-not up (nat_eq i k) (same_path (up i) (up k)) (same-holder i h)
+  lock-turn-at Unlock Unset h = refl
+  lock-turn-at Unlock Free h = refl
+  lock-turn-at Unlock (Held i) h = freed-or-not up (nat_eq i k) (same_path (up i) (up k)) (same-holder i h)
 
-  pub turn-same : (what : LockAction) (xs : List Lock) (l : ℕ) → All (LockWithin (length ns)) xs
-      → change.turn_by (up k) what (slice_index_or (map (lock_by up) xs) l state.unset) ≡ turn_named up (turn_among xs k what l)
-  turn-same what xs l h = ap (change.turn_by (up k) what) (get_map (lock_by up) xs l Unset)
-      ∙ turn-at what (slice_index_or xs l Unset) (lock-within (length ns) xs l h)
+  pub lock-turn-same : (what : LockAction) (xs : List Lock) (l : ℕ) → All (LockWithin (length ns)) xs
+      → change.lock_turn_by (up k) what (slice_index_or (map (lock_by up) xs) l state.unset) ≡ lock_turn_named up (lock_turn_among xs k what l)
+  lock-turn-same what xs l h = ap (change.lock_turn_by (up k) what) (get_map (lock_by up) xs l Unset)
+      ∙ lock-turn-at what (slice_index_or xs l Unset) (lock-within (length ns) xs l h)
 
-  turned-at : (what : LockAction) (x now : Lock) → turn_at k what x ≡ turned now → LockWithin (length ns) now
-  turned-at Init Unset now e = let is : Free ≡ now = cc in subst (LockWithin (length ns)) is tt
-  turned-at Init Free now e = let is : Free ≡ now = cc in subst (LockWithin (length ns)) is tt
-  turned-at Init (Held i) now e = cc
-  turned-at action.Lock Unset now e = cc
-  turned-at action.Lock Free now e = let is : Held k ≡ now = cc in subst (LockWithin (length ns)) is there
-  turned-at action.Lock (Held i) now e = absurd (not-taken (nat_eq i k) now e)
-  turned-at Unlock Unset now e = cc
-  turned-at Unlock Free now e = cc
-  turned-at Unlock (Held i) now e = freed-within (length ns) (nat_eq i k) now e
+  lock-turned-at : (what : LockAction) (x now : Lock) → lock_turn_at k what x ≡ lock_turned now → LockWithin (length ns) now
+  lock-turned-at Init Unset now e = let is : Free ≡ now = cc in subst (LockWithin (length ns)) is tt
+  lock-turned-at Init Free now e = let is : Free ≡ now = cc in subst (LockWithin (length ns)) is tt
+  lock-turned-at Init (Held i) now e = cc
+  lock-turned-at action.Lock Unset now e = cc
+  lock-turned-at action.Lock Free now e = let is : Held k ≡ now = cc in subst (LockWithin (length ns)) is there
+  lock-turned-at action.Lock (Held i) now e = absurd (not-taken (nat_eq i k) now e)
+  lock-turned-at Unlock Unset now e = cc
+  lock-turned-at Unlock Free now e = cc
+  lock-turned-at Unlock (Held i) now e = freed-within (length ns) (nat_eq i k) now e
 
-  pub turned-within : (what : LockAction) (xs : List Lock) (l : ℕ) (now : Lock) → turn_among xs k what l ≡ turned now → LockWithin (length ns) now
-  turned-within what xs l now e = turned-at what (slice_index_or xs l Unset) now e
+  pub lock-turned-within : (what : LockAction) (xs : List Lock) (l : ℕ) (now : Lock)
+      → lock_turn_among xs k what l ≡ lock_turned now → LockWithin (length ns) now
+  lock-turned-within what xs l now e = lock-turned-at what (slice_index_or xs l Unset) now e

@@ -6,7 +6,7 @@ use Rattle.cilk_model.specs.Path.{Path}
 use Rattle.cilk_model.specs.Instance.{Instance}
 use Rattle.cilk_model.specs.State.{Entry, State}
 use Rattle.cilk_model.specs.Change.{mark}
-use Rattle.cilk_model.specs.Places.{named}
+use Rattle.cilk_model.specs.Hands.{named}
 use Rattle.cilk_model.specs.Run.{Standing}
 use Rattle.cilk_sched.specs.frame.Frames.{Frame}
 use Rattle.cilk_sched.specs.frame.Stands.{StandsFor}

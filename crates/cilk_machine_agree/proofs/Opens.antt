@@ -10,7 +10,7 @@ use Rattle.cilk_model.specs.Path.{Path}
 use Rattle.cilk_model.specs.Values.{initial_values}
 use Rattle.cilk_model.specs.Instance as model
 use Rattle.cilk_model.specs.State as state
-use Rattle.cilk_model.specs.Places.{no_place}
+use Rattle.cilk_model.specs.Hands.{no_place}
 use Rattle.cilk_model.specs.Scheduler as sched
 use Rattle.cilk_model.specs.Run as run
 use Rattle.cilk_sched.specs.nodes.Slots.{size_of}

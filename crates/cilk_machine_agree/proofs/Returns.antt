@@ -25,7 +25,7 @@ use Rattle.cilk_machine_agree.specs.declared.lock.Lock.{Lock}
 use Rattle.cilk_machine_agree.specs.declared.lock.Lock.TheVariants.{Unset, Free, Held}
 use Rattle.cilk_machine_agree.specs.Outside.{SameOutside, LockWithin, lock_by}
 use Rattle.cilk_machine_agree.specs.Agrees.{MachineParts, Agrees}
-use Rattle.cilk_machine_agree.specs.Laws.{Turn, path_of, sent, woken, without_frame, outside_after, who_after, released, freed, ReturnsAgree, EndsAgree}
+use Rattle.cilk_machine_agree.specs.Laws.{InHand, path_of, sent, woken, without_frame, outside_after, who_after, released, freed, ReturnsAgree, EndsAgree}
 use Rattle.cilk_machine_agree.proofs.Alone.{holds, inside, free, others}
 use Rattle.cilk_machine_agree.proofs.Ends.{end-agrees, lives-after, path-after}
 use Rattle.cilk_machine_agree.proofs.Wakes.{woken-agrees}
@@ -35,7 +35,7 @@ either-way : {A : Type 0} (b : Bool) (x : A) → (if b then x else x) ≡ x
 either-way true x = refl
 either-way false x = refl
 
-module _ (t : Turn) where
+module _ (t : InHand) where
   abbrev p : Program
   p = t.program
 

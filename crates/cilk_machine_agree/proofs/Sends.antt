@@ -25,7 +25,7 @@ use Rattle.cilk_spawn.proofs.Grown.{ended_linked}
 use Rattle.cilk_spawn.proofs.Returns.{returns_either_way}
 use Rattle.cilk_machine_agree.specs.Alike.{NodeStandsFor, SameDeliveries, Receives, procedure_in, taker_of}
 use Rattle.cilk_machine_agree.specs.Agrees.{Agrees, instead}
-use Rattle.cilk_machine_agree.specs.Laws.{Turn, path_of, sent, without_frame}
+use Rattle.cilk_machine_agree.specs.Laws.{InHand, path_of, sent, without_frame}
 use Rattle.cilk_machine_agree.proofs.Sets.{Sets, sets, keeps-all}
 use Rattle.cilk_machine_agree.proofs.Alone.{holds, inside, free, others}
 use Rattle.cilk_machine_agree.proofs.Ends.{outside-of, end-agrees, still-agrees, path-after, other-after}
@@ -59,7 +59,7 @@ new-delivery program up q b k z (takers.Call n args) (Some x) false false is h e
 new-delivery program up q b k z (takers.Call n args) (Some x) true false is h e = cc
 new-delivery program up q b k z (takers.Call n args) (Some x) false true is h e = cc
 
-module _ (t : Turn) (r : ℕ) (parent : (node_at t.machine.nodes t.frame.id).parent ≡ Some r) (z : ℤ)
+module _ (t : InHand) (r : ℕ) (parent : (node_at t.machine.nodes t.frame.id).parent ≡ Some r) (z : ℤ)
     (childless : has_live_child t.machine.nodes t.frame.id ≡ false) where
   abbrev p : Program
   p = t.program

@@ -6,7 +6,7 @@ use Rattle.cilk_laws_placed.specs.labelled.Bodies.{label}
 use Rattle.cilk_model.specs.Path.{Path, same_path}
 use Rattle.cilk_model.specs.Instance.{Instance}
 use Rattle.cilk_model.specs.State.{Entry, changed}
-use Rattle.cilk_model.specs.Places.{WorkerOf, deque_of, with_hand, popped_by, stolen_by, named}
+use Rattle.cilk_model.specs.Hands.{WorkerOf, deque_of, with_hand, popped_by, stolen_by, named}
 use Rattle.cilk_model.specs.Scheduler as sched
 use Rattle.cilk_model.specs.Run.{Standing}
 use Rattle.cilk_sched.specs.frame.Frames.{Frame}

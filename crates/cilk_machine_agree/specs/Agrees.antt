@@ -5,7 +5,7 @@ use Rattle.cilk_laws_placed.specs.labelled.Bodies.{label}
 use Rattle.cilk_model.specs.Path.{Path}
 use Rattle.cilk_model.specs.Instance.{Instance, started}
 use Rattle.cilk_model.specs.State.{Entry, Instances, instance_at}
-use Rattle.cilk_model.specs.Places.{WorkerOf, named}
+use Rattle.cilk_model.specs.Hands.{WorkerOf, named}
 use Rattle.cilk_model.specs.Run.{Standing}
 use Rattle.cilk_sched.specs.frame.Frames.{Frame}
 use Rattle.cilk_sched.specs.frame.Stands.{StandsFor}

@@ -9,7 +9,7 @@ use Rattle.cilk_model.specs.Instance.{Instance}
 use Rattle.cilk_model.specs.State as state
 use Rattle.cilk_model.specs.State.{instance_at, store_of}
 use Rattle.cilk_model.specs.Change as change
-use Rattle.cilk_model.specs.Places.{hand_of, deque_of}
+use Rattle.cilk_model.specs.Hands.{hand_of, deque_of}
 use Rattle.cilk_model.specs.Scheduler as sched
 use Rattle.cilk_model.specs.Run.{Standing}
 use Rattle.cilk_sched.specs.frame.Reads.{Seen, lent}
@@ -18,13 +18,13 @@ use Rattle.cilk_spawn.specs.declared.delivery.Delivery.{Delivery}
 use Rattle.cilk_spawn.specs.Nodes.{node_at, is_live, has_live_child, is_synched, live_ids, path_at}
 use Rattle.cilk_machine_agree.specs.declared.lock.Lock.{Lock}
 use Rattle.cilk_machine_agree.specs.Outside.{LockWithin}
-use Rattle.cilk_machine_agree.specs.Locks.{turned, turn_among, turn_named, is_held_by}
+use Rattle.cilk_machine_agree.specs.Locks.{lock_turned, lock_turn_among, lock_turn_named, is_held_by}
 use Rattle.cilk_machine_agree.specs.Alike.{NodeStandsFor, SameDelivery, procedure_in}
 use Rattle.cilk_machine_agree.specs.Agrees.{MachineParts, Agrees, name_in}
-use Rattle.cilk_machine_agree.specs.Laws.{Turn, path_of, node_of, instance_of}
+use Rattle.cilk_machine_agree.specs.Laws.{InHand, path_of, node_of, instance_of}
 
 -- of the instance in the hand
-pub record Asked (t : Turn) : Type 0 where
+pub record Asked (t : InHand) : Type 0 where
   -- it lives, is parked nowhere, and is the one that stands at its path
   pub live : is_live (node_of t) ≡ true
   pub free : (node_of t).parked ≡ None
@@ -40,18 +40,18 @@ pub record Asked (t : Turn) : Type 0 where
   pub synched : state.is_synched t.at.state (path_of t) (instance_of t) ≡ is_synched t.machine.nodes t.frame.id
   -- whether it holds a lock, and what a lock would become
   pub holds : change.holds_lock t.at.state (path_of t) ≡ list_any (is_held_by t.frame.id) t.machine.outside.locks
-  pub turn : (what : LockAction) (l : ℕ) → change.turn_of t.at.state (path_of t) what l
-      ≡ turn_named (path_at t.machine.nodes) (turn_among t.machine.outside.locks t.frame.id what l)
-  pub turned_within : (what : LockAction) (l : ℕ) (now : Lock) → turn_among t.machine.outside.locks t.frame.id what l ≡ turned now
+  pub lock_turn : (what : LockAction) (l : ℕ) → change.lock_turn_of t.at.state (path_of t) what l
+      ≡ lock_turn_named (path_at t.machine.nodes) (lock_turn_among t.machine.outside.locks t.frame.id what l)
+  pub lock_turned_within : (what : LockAction) (l : ℕ) (now : Lock) → lock_turn_among t.machine.outside.locks t.frame.id what l ≡ lock_turned now
       → LockWithin (length t.machine.nodes) now
   -- how many live
   pub count : length t.at.state.instances ≡ length (live_ids t.machine.nodes)
 
 abbrev pub AskedOf : Type 0
-AskedOf = (t : Turn) → Asked t
+AskedOf = (t : InHand) → Asked t
 
 -- the delivery that has waited longest, where the node has d in front of others
-pub record Oldest (t : Turn) (d : Delivery) : Type 0 where
+pub record Oldest (t : InHand) (d : Delivery) : Type 0 where
   pub within : d.child < length t.machine.nodes
   pub first : model.Delivery
   pub others : List model.Delivery
@@ -59,10 +59,10 @@ pub record Oldest (t : Turn) (d : Delivery) : Type 0 where
   pub same : SameDelivery (label t.program) (path_at t.machine.nodes) (node_of t).procedure d first
 
 abbrev pub OldestIsTold : Type 0
-OldestIsTold = (t : Turn) (d : Delivery) (ds : List Delivery) → (node_of t).waiting ≡ d ∷ ds → Oldest t d
+OldestIsTold = (t : InHand) (d : Delivery) (ds : List Delivery) → (node_of t).waiting ≡ d ∷ ds → Oldest t d
 
 abbrev pub NoneIsTold : Type 0
-NoneIsTold = (t : Turn) → (node_of t).waiting ≡ [] → (instance_of t).waiting ≡ []
+NoneIsTold = (t : InHand) → (node_of t).waiting ≡ [] → (instance_of t).waiting ≡ []
 
 -- what a choice asks of the standing: who the workers are, what each has, and which instance stands where
 pub record Placed (m : MachineParts) (who : ℕ → Instance) (at : Standing) : Type 0 where

@@ -1,10 +1,10 @@
 -- The machine between the halves of a step: the frame has left the hand, a value was sent, an instance has ended.
 use Rattle.std.specs.Prelude.{◌≡◌, ℕ, ℤ, true, false, List, [], ◌∷◌, ◌++◌, Some, None}
-use Rattle.cilk_model.specs.Places.{WorkerOf, IsWorker, hand_of, deque_of, with_hand, with_deque, pushed_by}
+use Rattle.cilk_model.specs.Hands.{WorkerOf, IsWorker, hand_of, deque_of, with_hand, with_deque, pushed_by}
 use Rattle.cilk_sched.specs.frame.Frames.{Frame}
 use Rattle.cilk_spawn.specs.declared.fate.Fate.TheVariants.{Returned, Aborted}
 use Rattle.cilk_spawn.specs.Nodes.{Node, node_at, is_live, has_live_child, ended}
-use Rattle.cilk_machine_agree.specs.Laws.{Turn, node_of, sent}
+use Rattle.cilk_machine_agree.specs.Laws.{InHand, node_of, sent}
 
 -- the hand is emptied, and takes a frame
 abbrev pub HandsAreFilled : Type 0
@@ -22,17 +22,17 @@ HandsAreHandedOn = (places : List (WorkerOf Frame)) (w : ℕ) (f g : Frame) → 
     → with_hand (with_deque (with_hand places w None) w (deque_of (with_hand places w None) w ++ f ∷ [])) w (Some g) ≡ pushed_by places w f g
 
 -- an instance without a live child can end once its value is sent
-pub record CanEnd (t : Turn) (ns : List Node) : Type 0 where
+pub record CanEnd (t : InHand) (ns : List Node) : Type 0 where
   pub live : is_live (node_at ns t.frame.id) ≡ true
   pub childless : has_live_child ns t.frame.id ≡ false
   pub free : (node_at ns t.frame.id).parked ≡ None
   pub parent : (node_at ns t.frame.id).parent ≡ (node_of t).parent
 
 abbrev pub SendersCanEnd : Type 0
-SendersCanEnd = (t : Turn) (z : ℤ) → has_live_child t.machine.nodes t.frame.id ≡ false → CanEnd t (sent t.machine.nodes t.frame.id z)
+SendersCanEnd = (t : InHand) (z : ℤ) → has_live_child t.machine.nodes t.frame.id ≡ false → CanEnd t (sent t.machine.nodes t.frame.id z)
 
 -- its parent outlives it
 abbrev pub ParentsOutlive : Type 0
-ParentsOutlive = (t : Turn) (z : ℤ) (choice r : ℕ) → (node_of t).parent ≡ Some r → has_live_child t.machine.nodes t.frame.id ≡ false
+ParentsOutlive = (t : InHand) (z : ℤ) (choice r : ℕ) → (node_of t).parent ≡ Some r → has_live_child t.machine.nodes t.frame.id ≡ false
     → (is_live (node_at (ended (sent t.machine.nodes t.frame.id z) t.frame.id Returned) r) ≡ true)
     × (is_live (node_at (ended t.machine.nodes t.frame.id (Aborted choice)) r) ≡ true)

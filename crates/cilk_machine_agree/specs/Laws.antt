@@ -11,10 +11,10 @@ use Rattle.cilk_model.specs.State.{State, changed, is_empty}
 use Rattle.cilk_model.specs.Change.{deliveries, with_deliveries, after_return, after_abort}
 use Rattle.cilk_model.specs.Event.{Event}
 use Rattle.cilk_model.specs.Pick.{ends}
-use Rattle.cilk_model.specs.Places.{IsWorker, no_place, hand_of, with_hand, popped_by, stolen_by, pushed_by}
+use Rattle.cilk_model.specs.Hands.{IsWorker, no_place, hand_of, with_hand, popped_by, stolen_by, pushed_by}
 use Rattle.cilk_model.specs.Scheduler as sched
 use Rattle.cilk_model.specs.Run.{Standing, opening, stepped}
-use Rattle.cilk_laws_placed.specs.Places.{EachInItsPlace}
+use Rattle.cilk_laws_placed.specs.Hands.{EachInItsPlace}
 use Rattle.cilk_sched.specs.nodes.Slots.{flat}
 use Rattle.cilk_sched.specs.frame.Frames.{Frame}
 use Rattle.cilk_sched.specs.frame.Stands.{StandsFor}
@@ -67,7 +67,7 @@ StealsAgree = (p : Program) (m : MachineParts) (who : ℕ → Instance) (at : St
     → Agrees p (record m { places = stolen_by m.places w v }) who (record at { scheduler = sched.stolen at.scheduler w v })
 
 -- a worker has in its hand this frame
-pub record Turn : Type 0 where
+pub record InHand : Type 0 where
   pub program : Program
   pub machine : MachineParts
   pub who : ℕ → Instance
@@ -79,17 +79,17 @@ pub record Turn : Type 0 where
   pub is_worker : IsWorker machine.places worker
   pub hand : hand_of machine.places worker ≡ Some frame
 
-abbrev pub path_of : Turn → Path
+abbrev pub path_of : InHand → Path
 path_of t = path_at t.machine.nodes t.frame.id
 
-abbrev pub node_of : Turn → Node
+abbrev pub node_of : InHand → Node
 node_of t = node_at t.machine.nodes t.frame.id
 
-abbrev pub instance_of : Turn → Instance
+abbrev pub instance_of : InHand → Instance
 instance_of t = t.who t.frame.id
 
 -- all that an action has to show of the instance in the hand: frame, node and instance become f, n and a, and what is outside becomes o
-pub record Local (t : Turn) (f : Frame) (n : Node) (a : Instance) (o : Outside) (s : State) : Type 0 where
+pub record Local (t : InHand) (f : Frame) (n : Node) (a : Instance) (o : Outside) (s : State) : Type 0 where
   pub own : f.id ≡ t.frame.id
   pub stands : StandsFor (label t.program) f a
   pub links : SameLinks (node_of t) n
@@ -100,24 +100,24 @@ pub record Local (t : Turn) (f : Frame) (n : Node) (a : Instance) (o : Outside) 
   pub instances : s.instances ≡ changed (path_of t) (λ _. a) t.at.state.instances
 
 -- frame, node, instance and what is outside become these
-abbrev pub Becomes : Turn → Frame → Node → Instance → Outside → State → Type 0
+abbrev pub Becomes : InHand → Frame → Node → Instance → Outside → State → Type 0
 Becomes t f n a o s =
     Agrees t.program (record t.machine { outside = o; nodes = slice_set t.machine.nodes t.frame.id n; places = with_hand t.machine.places t.worker (Some f) })
     (instead t.who t.frame.id a) (record t.at { state = s })
 
 -- the same, where the node stays as it is
-abbrev pub Goes : Turn → Frame → Instance → Outside → State → Type 0
+abbrev pub Goes : InHand → Frame → Instance → Outside → State → Type 0
 Goes t f a o s =
     Agrees t.program (record t.machine { outside = o; places = with_hand t.machine.places t.worker (Some f) }) (instead t.who t.frame.id a)
     (record t.at { state = s })
 
 -- whatever it does by itself: an assignment, a call, a return from a call or an inlet, a delivery that it takes, a lock, a line of output
 abbrev pub LocalAgrees : Type 0
-LocalAgrees = (t : Turn) (f : Frame) (n : Node) (a : Instance) (o : Outside) (s : State) → Local t f n a o s → Becomes t f n a o s
+LocalAgrees = (t : InHand) (f : Frame) (n : Node) (a : Instance) (o : Outside) (s : State) → Local t f n a o s → Becomes t f n a o s
 
 -- it waits for its children
 abbrev pub WaitingAgrees : Type 0
-WaitingAgrees = (t : Turn)
+WaitingAgrees = (t : InHand)
     → Agrees t.program (record t.machine {
       nodes = with_parked t.machine.nodes t.frame.id (Some t.frame);
       places = with_hand t.machine.places t.worker None;
@@ -125,7 +125,7 @@ WaitingAgrees = (t : Turn)
     (record t.at { scheduler = sched.parked_from t.at.scheduler t.worker (path_of t) })
 
 -- all that a spawn has to show: the parent becomes a, behind frame f, and g is the frame of the child c
-pub record Birth (t : Turn) (f g : Frame) (receiver : Receiver) (callee : ℕ) (a c : Instance) (s : State) : Type 0 where
+pub record Birth (t : InHand) (f g : Frame) (receiver : Receiver) (callee : ℕ) (a c : Instance) (s : State) : Type 0 where
   pub own : f.id ≡ t.frame.id
   pub stands : StandsFor (label t.program) f a
   pub tells : NodeStandsFor (label t.program) (path_at t.machine.nodes) (procedure_in t.machine.nodes)
@@ -140,14 +140,14 @@ pub record Birth (t : Turn) (f g : Frame) (receiver : Receiver) (callee : ℕ) (
       ≡ changed (path_of t) (λ _. a) t.at.state.instances ++ record { path = child_path (path_of t) ((node_of t).children + 1); instance = c } ∷ []
 
 -- the parent goes to the bottom of the deque, and the child to the hand
-abbrev pub after_birth : Turn → Frame → Frame → Receiver → ℕ → MachineParts
+abbrev pub after_birth : InHand → Frame → Frame → Receiver → ℕ → MachineParts
 after_birth t f g receiver callee = record t.machine {
   nodes = with_child t.machine.nodes t.frame.id callee receiver;
   places = pushed_by t.machine.places t.worker f g;
 }
 
 abbrev pub SpawnsAgree : Type 0
-SpawnsAgree = (t : Turn) (f g : Frame) (receiver : Receiver) (callee : ℕ) (a c : Instance) (s : State) → Birth t f g receiver callee a c s
+SpawnsAgree = (t : InHand) (f g : Frame) (receiver : Receiver) (callee : ℕ) (a c : Instance) (s : State) → Birth t f g receiver callee a c s
     → Agrees t.program (after_birth t f g receiver callee) (instead (instead t.who t.frame.id a) (length t.machine.nodes) c)
     (record { state = s; scheduler = sched.pushed t.at.scheduler t.worker (path_of t) (child_path (path_of t) ((node_of t).children + 1)) })
 
@@ -176,25 +176,25 @@ woken m w None = m
 woken m w (Some r) = woken_by m w r (node_at m.nodes r).parked (can_go_on m.nodes r)
 
 -- the frame in the hand is spent, and its instance is no more
-abbrev pub without_frame : Turn → Outside → List Node → Fate → MachineParts
+abbrev pub without_frame : InHand → Outside → List Node → Fate → MachineParts
 without_frame t o ns fate = record t.machine { outside = o; nodes = ended ns t.frame.id fate; places = with_hand t.machine.places t.worker None }
 
 -- the root's value is the program's
-abbrev pub outside_after : Turn → ℤ → Option ℕ → Outside
+abbrev pub outside_after : InHand → ℤ → Option ℕ → Outside
 outside_after t z None = record t.machine.outside { outcome = outside.finished z }
 outside_after t z (Some r) = t.machine.outside
 
 -- it returns z, and its parent may go on
-abbrev pub after_returning : Turn → ℤ → MachineParts
+abbrev pub after_returning : InHand → ℤ → MachineParts
 after_returning t z =
     woken (without_frame t (outside_after t z (node_of t).parent) (sent t.machine.nodes t.frame.id z) Returned) t.worker (node_of t).parent
 
-abbrev pub who_after : Turn → ℤ → Option ℕ → ℕ → Instance
+abbrev pub who_after : InHand → ℤ → Option ℕ → ℕ → Instance
 who_after t z None = t.who
 who_after t z (Some r) = instead t.who r (with_deliveries (deliveries (path_of t) z (instance_of t).receiver (instance_of t).aborted) (t.who r))
 
 abbrev pub ReturnsAgree : Type 0
-ReturnsAgree = (t : Turn) (z : ℤ) (did : Event) → has_live_child t.machine.nodes t.frame.id ≡ false
+ReturnsAgree = (t : InHand) (z : ℤ) (did : Event) → has_live_child t.machine.nodes t.frame.id ≡ false
     → Agrees t.program (after_returning t z) (who_after t z (node_of t).parent)
     (stepped t.at t.worker (path_of t) (ends (after_return t.at.state (path_of t) (instance_of t) z) did))
 
@@ -204,10 +204,10 @@ released k Unset = Unset
 released k Free = Free
 released k (Held i) = if nat_eq i k then Free else Held i
 
-abbrev pub freed : Turn → Outside
+abbrev pub freed : InHand → Outside
 freed t = record t.machine.outside { locks = map (released t.frame.id) t.machine.outside.locks }
 
 abbrev pub EndsAgree : Type 0
-EndsAgree = (t : Turn) (choice : ℕ) (did : Event) → has_live_child t.machine.nodes t.frame.id ≡ false
+EndsAgree = (t : InHand) (choice : ℕ) (did : Event) → has_live_child t.machine.nodes t.frame.id ≡ false
     → Agrees t.program (woken (without_frame t (freed t) t.machine.nodes (Aborted choice)) t.worker (node_of t).parent) t.who
     (stepped t.at t.worker (path_of t) (ends (after_abort t.at.state (path_of t)) did))

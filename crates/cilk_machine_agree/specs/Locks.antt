@@ -10,29 +10,29 @@ use Rattle.cilk_machine_agree.specs.declared.lock.Lock.TheVariants.{Unset, Free,
 use Rattle.cilk_machine_agree.specs.Outside.{lock_by}
 
 pub data LockTurn : Type 0 where
-  turned : (now : Lock) → LockTurn
+  lock_turned : (now : Lock) → LockTurn
   refused : LockTurn
   blocked : LockTurn
 
-abbrev pub turn_at : ℕ → LockAction → Lock → LockTurn
-turn_at k Init Unset = turned Free
-turn_at k Init Free = turned Free
-turn_at k Init (Held i) = refused
-turn_at k action.Lock Unset = refused
-turn_at k action.Lock Free = turned (Held k)
-turn_at k action.Lock (Held i) = if nat_eq i k then refused else blocked
-turn_at k Unlock Unset = refused
-turn_at k Unlock Free = refused
-turn_at k Unlock (Held i) = if nat_eq i k then turned Free else refused
+abbrev pub lock_turn_at : ℕ → LockAction → Lock → LockTurn
+lock_turn_at k Init Unset = lock_turned Free
+lock_turn_at k Init Free = lock_turned Free
+lock_turn_at k Init (Held i) = refused
+lock_turn_at k action.Lock Unset = refused
+lock_turn_at k action.Lock Free = lock_turned (Held k)
+lock_turn_at k action.Lock (Held i) = if nat_eq i k then refused else blocked
+lock_turn_at k Unlock Unset = refused
+lock_turn_at k Unlock Free = refused
+lock_turn_at k Unlock (Held i) = if nat_eq i k then lock_turned Free else refused
 
 -- lock l, for the instance k
-abbrev pub turn_among : List Lock → ℕ → LockAction → ℕ → LockTurn
-turn_among locks k what l = turn_at k what (slice_index_or locks l Unset)
+abbrev pub lock_turn_among : List Lock → ℕ → LockAction → ℕ → LockTurn
+lock_turn_among locks k what l = lock_turn_at k what (slice_index_or locks l Unset)
 
-abbrev pub turn_named : (ℕ → Path) → LockTurn → change.Turn
-turn_named up (turned now) = change.turned (lock_by up now)
-turn_named up refused = change.refused
-turn_named up blocked = change.blocked
+abbrev pub lock_turn_named : (ℕ → Path) → LockTurn → change.LockTurn
+lock_turn_named up (lock_turned now) = change.lock_turned (lock_by up now)
+lock_turn_named up refused = change.refused
+lock_turn_named up blocked = change.blocked
 
 -- whether instance k holds it
 abbrev pub is_held_by : ℕ → Lock → Bool

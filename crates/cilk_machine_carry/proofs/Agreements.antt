@@ -9,7 +9,7 @@ use Rattle.cilk_machine_plan.specs.model.Event.{Event}
 use Rattle.cilk_machine_plan.specs.model.Change.{is_function, put, above, resumed, gone_on, stopped, after_write, after_going, after_call}
 use Rattle.cilk_machine_plan.specs.model.Change.{after_leaving, after_answer, after_start, after_print, after_lock, after_marks, after_place}
 use Rattle.cilk_machine_plan.specs.model.Change.{after_inlet, after_return, after_abort}
-use Rattle.cilk_machine_plan.specs.model.Places.{with_hand}
+use Rattle.cilk_machine_plan.specs.model.Hands.{with_hand}
 use Rattle.cilk_machine_plan.specs.model.Pick.{Step, parks, goes_on, ends, spawns}
 use Rattle.cilk_machine_plan.specs.model.Run.{waits_now, stepped, event_of_step}
 use Rattle.cilk_machine_plan.specs.nodes.declared.body.Body.{Body}
@@ -28,7 +28,7 @@ use Rattle.cilk_machine_plan.specs.agree.Outside.{lock_by}
 use Rattle.cilk_machine_plan.specs.agree.Fated.{fate_after, Births, Follows}
 use Rattle.cilk_machine_plan.specs.agree.Marks.{marked_if}
 use Rattle.cilk_machine_plan.specs.agree.Agrees.{MachineParts, Agrees, instead}
-use Rattle.cilk_machine_plan.specs.agree.Laws.{Turn, path_of, node_of, instance_of, sent, freed, without_frame, outside_after, who_after}
+use Rattle.cilk_machine_plan.specs.agree.Laws.{InHand, path_of, node_of, instance_of, sent, freed, without_frame, outside_after, who_after}
 use Rattle.cilk_machine_plan.proofs.agree_laws.Frames.{given-back}
 use Rattle.cilk_machine_plan.proofs.agree_laws.Alone.{holds, inside}
 use Rattle.cilk_machine_plan.proofs.agree_laws.Waits.{waiting-agrees}
@@ -41,7 +41,7 @@ use Rattle.cilk_machine_plan.specs.declared.plan.Plan.{Plan}
 use Rattle.cilk_machine_plan.specs.declared.plan.Plan.TheVariants as plan
 use Rattle.cilk_machine_plan.specs.spawn.Kinds.{kind_of}
 use Rattle.cilk_machine_plan.specs.Plans.{IsPlan, step_in, acts, Ends, TakesOldest, Enters, Goes, Writes, Calls, Leaves, Answers, Returns, Spawns}
-use Rattle.cilk_machine_plan.specs.Plans.{Prints, Turns, Aborts}
+use Rattle.cilk_machine_plan.specs.Plans.{Prints, TurnsLock, Aborts}
 use Rattle.cilk_machine_carry.specs.declared.did.Did.{Did}
 use Rattle.cilk_machine_carry.specs.declared.did.Did.TheVariants as did
 use Rattle.cilk_machine_carry.specs.Words.{event_by}
@@ -52,7 +52,7 @@ use Rattle.cilk_machine_carry.proofs.Followed.{Same, at_one, same-all, parked-sa
 use Rattle.cilk_machine_carry.proofs.Taken.{first-there, taken-agrees, taken-followed}
 
 -- the step, by its name
-leads : (choice : ℕ) (t : Turn) (m : MachineParts) (told_of : Did) (step : Step) (who : ℕ → Instance) → step_in t ≡ step → waits_now step ≡ None
+leads : (choice : ℕ) (t : InHand) (m : MachineParts) (told_of : Did) (step : Step) (who : ℕ → Instance) → step_in t ≡ step → waits_now step ≡ None
     → event_by (path_at t.machine.nodes) (path_at m.nodes) told_of ≡ event_of_step step
     → Follows (label t.program) choice t.machine.nodes m.nodes (event_of_step step)
     → Agrees t.program m who (stepped t.at t.worker (path_of t) step) → Stepped choice t m told_of
@@ -64,24 +64,24 @@ leads choice t m told_of step who is free event follows agrees = record {
   follows = subst (λ s. Follows (label t.program) choice t.machine.nodes m.nodes (event_of_step s)) (sym is) follows;
 }
 
--- what the plan leads to, from the machine of a turn
-abbrev Leads : ℕ → Turn → Option Body → Plan → Type 0
+-- what the plan leads to, from the machine where the frame is in the hand
+abbrev Leads : ℕ → InHand → Option Body → Plan → Type 0
 Leads choice t body x = Stepped choice t (after_plan choice t.machine t.worker t.frame body x) (did_of (length t.machine.nodes) t.frame x)
 
 -- no fate is changed, and no instance is made
-still : (choice : ℕ) (t : Turn) (ms : List Node) (did : Event) → Same t.machine.nodes ms → Births (label t.program) t.machine.nodes ms did
+still : (choice : ℕ) (t : InHand) (ms : List Node) (did : Event) → Same t.machine.nodes ms → Births (label t.program) t.machine.nodes ms did
     → ((i : ℕ) → i < length t.machine.nodes → (fate : Fate) → fate ≡ fate_after choice (path_at t.machine.nodes i) did fate)
     → Follows (label t.program) choice t.machine.nodes ms did
 still choice t ms did h births told = followed (label t.program) choice t.machine.nodes t.agrees.tree (λ i fate. fate) ms did h births told
 
 -- an action, where the machine becomes m
-goes : (choice : ℕ) (t : Turn) (m : MachineParts) (n : ℕ) (s : _) (who : ℕ → Instance) → step_in t ≡ acts t s n → Same t.machine.nodes m.nodes
+goes : (choice : ℕ) (t : InHand) (m : MachineParts) (n : ℕ) (s : _) (who : ℕ → Instance) → step_in t ≡ acts t s n → Same t.machine.nodes m.nodes
     → Agrees t.program m who (record t.at { state = s }) → Stepped choice t m (did.Acted t.frame.id n)
 goes choice t m n s who is same agrees =
     leads choice t m (did.Acted t.frame.id n) (acts t s n) who is refl refl
     (still choice t m.nodes (event.acted (path_of t) n) same same.size (λ i lt fate. refl)) agrees
 
-module _ (choice : ℕ) (t : Turn) (body : Option Body) where
+module _ (choice : ℕ) (t : InHand) (body : Option Body) where
   abbrev k : ℕ
   k = t.frame.id
 
@@ -180,8 +180,8 @@ module _ (choice : ℕ) (t : Turn) (body : Option Body) where
       goes choice t _ n (after_print t.at.state (path_of t) i bytes) (instead t.who k (gone_on (pos 1) i)) h.step (same-all t.machine.nodes)
       (prints-agree t bytes to h.next)
 
-  leads-turn : (n lock : ℕ) (now : Lock) (to : ℕ) → Turns t n lock now to → Leads choice t body (plan.Turn n lock now to)
-  leads-turn n lock now to h =
+  leads-lock-turn : (n lock : ℕ) (now : Lock) (to : ℕ) → TurnsLock t n lock now to → Leads choice t body (plan.TurnLock n lock now to)
+  leads-lock-turn n lock now to h =
       goes choice t _ n (after_lock t.at.state (path_of t) i lock (lock_by (path_at t.machine.nodes) now))
       (instead t.who k (gone_on (pos 1) i)) h.step (same-all t.machine.nodes)
       (locks-agree t lock to now h.next h.within)
@@ -192,7 +192,7 @@ module _ (choice : ℕ) (t : Turn) (body : Option Body) where
       (λ j. marked_if (descends t.machine.nodes k j) (instead t.who k (gone_on (pos 1) i) j)) h.step (marked-same t.machine.nodes k)
       (aborts-agree t to h.next)
 
-module _ (choice : ℕ) (t : Turn) where
+module _ (choice : ℕ) (t : InHand) where
   -- a new child goes by the next path of its parent
   child-path : (callee : ℕ) (receiver : Receiver)
       → path_at (with_child t.machine.nodes t.frame.id callee receiver) (length t.machine.nodes) ≡ child_path (path_of t) ((instance_of t).children + 1)
@@ -243,11 +243,11 @@ module _ (choice : ℕ) (t : Turn) where
       (starts-agree t callee arguments receiver h.taken to h.next h.takes h.procedure h.same)
 
 -- the body by its own name
-named : (choice : ℕ) (t : Turn) (body other : Option Body) (x : Plan) → body ≡ other → Leads choice t other x → Leads choice t body x
+named : (choice : ℕ) (t : InHand) (body other : Option Body) (x : Plan) → body ≡ other → Leads choice t other x → Leads choice t body x
 named choice t body other x is h = subst (λ b. Leads choice t b x) (sym is) h
 
 -- whatever the plan is
-pub leads-by : (choice : ℕ) (t : Turn) (body : Option Body) (x : Plan) → x ≢ plan.Wait → Starts t.program body x → IsPlan t x → Leads choice t body x
+pub leads-by : (choice : ℕ) (t : InHand) (body : Option Body) (x : Plan) → x ≢ plan.Wait → Starts t.program body x → IsPlan t x → Leads choice t body x
 leads-by choice t body plan.Wait moves starts h = absurd (moves refl)
 leads-by choice t body plan.Park moves starts h = leads-park choice t body h
 leads-by choice t body plan.End moves starts h = leads-end choice t body h
@@ -265,5 +265,5 @@ leads-by choice t body (plan.Return n z) moves starts h = leads-return choice t 
 leads-by choice t body (plan.Spawn n receiver callee arguments to) moves starts h =
     named choice t body (body_of t.program callee) (plan.Spawn n receiver callee arguments to) starts (leads-spawn choice t n receiver callee arguments to h)
 leads-by choice t body (plan.Print n bytes to) moves starts h = leads-print choice t body n bytes to h
-leads-by choice t body (plan.Turn n lock now to) moves starts h = leads-turn choice t body n lock now to h
+leads-by choice t body (plan.TurnLock n lock now to) moves starts h = leads-lock-turn choice t body n lock now to h
 leads-by choice t body (plan.Abort n to) moves starts h = leads-abort choice t body n to h

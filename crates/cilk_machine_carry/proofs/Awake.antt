@@ -1,7 +1,7 @@
 -- A parked parent that can go on comes to the hand, and a hand that was emptied takes a frame.
 use Rattle.std.proofs.Common.{◌≡◌, ◌≢◌, ℕ, length, Bool, true, false, List, Option, Some, None, refl, sym, ◌∙◌, slice_set, if◌then◌else◌}
 use Rattle.std.proofs.lemmas.List.{set-get_or}
-use Rattle.cilk_machine_plan.specs.model.Places.{WorkerOf, IsWorker, with_hand}
+use Rattle.cilk_machine_plan.specs.model.Hands.{WorkerOf, IsWorker, with_hand}
 use Rattle.cilk_machine_plan.specs.nodes.declared.body.Body.{Body}
 use Rattle.cilk_machine_plan.specs.frame.Frames.{Frame}
 use Rattle.cilk_machine_plan.specs.spawn.Nodes.{Node, no_node, node_at, with_child, with_parked}
@@ -79,5 +79,5 @@ module _ (m : MachineParts) (w : ℕ) (worker : IsWorker m.places w) where
     places = hands-handed_on m.places w (past_spawn to f) (started_as body (length m.nodes) arguments) worker j;
   }
   after-emptied choice f body (plan.Print n bytes to) goes = filled _ _ _
-  after-emptied choice f body (plan.Turn n lock now to) goes = filled _ _ _
+  after-emptied choice f body (plan.TurnLock n lock now to) goes = filled _ _ _
   after-emptied choice f body (plan.Abort n to) goes = filled _ _ _

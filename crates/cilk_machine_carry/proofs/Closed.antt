@@ -1,6 +1,6 @@
 -- The frame of an instance that is no more is spent.
 use Rattle.std.proofs.Common.{◌≡◌, ℕ, ℤ, List, map, Option, Some, None, refl, sym, ap, ◌∙◌}
-use Rattle.cilk_machine_plan.specs.model.Places.{hand_of, with_hand}
+use Rattle.cilk_machine_plan.specs.model.Hands.{hand_of, with_hand}
 use Rattle.cilk_machine_plan.specs.nodes.declared.body.Body.{Body}
 use Rattle.cilk_machine_plan.specs.frame.Frames.{Frame}
 use Rattle.cilk_machine_plan.specs.spawn.declared.fate.Fate.TheVariants as fate

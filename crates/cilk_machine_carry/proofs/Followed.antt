@@ -21,7 +21,7 @@ use Rattle.cilk_machine_plan.proofs.spawn_laws.Grown.{grown, grown_parent, grown
 use Rattle.cilk_machine_plan.proofs.spawn_laws.Marks.{marked_node, marked_length, marked_linked}
 use Rattle.cilk_machine_plan.proofs.spawn_laws.Paths.{number_is_path}
 use Rattle.cilk_machine_plan.specs.agree.Fated.{fate_after, Births, Follows}
-use Rattle.cilk_machine_plan.specs.agree.Laws.{Turn, sent, can_go_on}
+use Rattle.cilk_machine_plan.specs.agree.Laws.{InHand, sent, can_go_on}
 use Rattle.cilk_machine_plan.proofs.agree_laws.Alone.{inside}
 use Rattle.cilk_machine_carry.specs.Carried.{nodes_awake}
 
@@ -164,7 +164,7 @@ module _ (program : Labelled) (choice : ℕ) (ns : List Node) (tree : IsTree ns)
       ap (λ b. if b then g fate else fate) (number_is_path ns k i tree there lt ∙ ap (λ q. same_path q (path_at ns i)) is)
 
 -- a spawn
-module _ (t : Turn) (choice callee n : ℕ) (receiver : Receiver) where
+module _ (t : InHand) (choice callee n : ℕ) (receiver : Receiver) where
   abbrev old : List Node
   old = t.machine.nodes
 

@@ -1,6 +1,6 @@
 -- The frame in a hand is changed where it is.
 use Rattle.std.proofs.Common.{◌≡◌, ℕ, List, Some, sym, ap, ◌∙◌}
-use Rattle.cilk_machine_plan.specs.model.Places.{WorkerOf, IsWorker, hand_of, with_hand}
+use Rattle.cilk_machine_plan.specs.model.Hands.{WorkerOf, IsWorker, hand_of, with_hand}
 use Rattle.cilk_machine_plan.specs.frame.Frames.{Frame}
 use Rattle.cilk_machine_plan.proofs.sched_laws.Seats.{hand-same}
 use Rattle.cilk_machine_plan.proofs.agree_laws.Frames.{hand-over, given-back}

@@ -20,7 +20,7 @@ use Rattle.cilk_machine_plan.specs.frame.Reads.{lent, seen_by}
 use Rattle.cilk_machine_plan.specs.frame.Stands.{StandsFor}
 use Rattle.cilk_machine_plan.proofs.frame_laws.Values.{cell-there}
 use Rattle.cilk_machine_plan.proofs.frame_laws.Steps.{lent-seen, alone-is, return-stands}
-use Rattle.cilk_machine_plan.specs.agree.Laws.{Turn, instance_of}
+use Rattle.cilk_machine_plan.specs.agree.Laws.{InHand, instance_of}
 use Rattle.cilk_machine_plan.proofs.agree_laws.Alone.{holds, free}
 use Rattle.cilk_machine_plan.proofs.agree_laws.Actions.{gone}
 use Rattle.cilk_machine_plan.proofs.agree_laws.Between.{senders-can-end, parents-outlive}
@@ -75,7 +75,7 @@ fits program few f i globals cells stands are sizes slot index cell same =
           cell.place cell.index same.there;
     })))
 
-module _ (choice : ℕ) (t : Turn) (few : CellsAreFew (label t.program)) (body : Option code.Body) where
+module _ (choice : ℕ) (t : InHand) (few : CellsAreFew (label t.program)) (body : Option code.Body) where
   acting : Acting t.machine.nodes t.frame.id
   acting = record { live = (holds t).live; free = free t }
 
@@ -120,7 +120,7 @@ module _ (choice : ℕ) (t : Turn) (few : CellsAreFew (label t.program)) (body :
   needs (plan.Spawn n receiver callee arguments to) goes starts h =
       record { takes = subst (λ b. Takes b arguments) (sym starts) h.takes; room = h.room }
   needs (plan.Print n bytes to) goes starts h = tt
-  needs (plan.Turn n lock now to) goes starts h = tt
+  needs (plan.TurnLock n lock now to) goes starts h = tt
   needs (plan.Abort n to) goes starts h = tt
 
   pub ready : (x : Plan) → x ≢ plan.Wait → Starts t.program body x → IsPlan t x → Ready choice t.machine.nodes t.machine.outside.cells t.frame body x

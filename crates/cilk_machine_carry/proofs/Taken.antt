@@ -11,7 +11,7 @@ use Rattle.cilk_machine_plan.specs.spawn.Nodes.{node_at, after_taking, value_tak
 use Rattle.cilk_machine_plan.specs.agree.Alike.{SameDeliveries}
 use Rattle.cilk_machine_plan.specs.agree.Agrees.{MachineParts, Agrees}
 use Rattle.cilk_machine_plan.specs.agree.Fated.{Follows}
-use Rattle.cilk_machine_plan.specs.agree.Laws.{Turn, node_of, instance_of}
+use Rattle.cilk_machine_plan.specs.agree.Laws.{InHand, node_of, instance_of}
 use Rattle.cilk_machine_plan.proofs.spawn_laws.Taking.{still_lives}
 use Rattle.cilk_machine_plan.proofs.agree_laws.Alone.{inside}
 use Rattle.cilk_machine_plan.proofs.agree_laws.Actions.{told}
@@ -20,13 +20,13 @@ use Rattle.cilk_machine_plan.proofs.agree_laws.Fates.{fates-agree}
 use Rattle.cilk_machine_carry.proofs.Followed.{at_one, taken-one, followed, by-path}
 
 -- the node's oldest delivery
-pub record First (t : Turn) (oldest : model.Delivery) : Type 0 where
+pub record First (t : InHand) (oldest : model.Delivery) : Type 0 where
   pub delivery : Delivery
   pub is : slice_get (node_of t).waiting 0 ≡ Some delivery
   pub within : delivery.child < length t.machine.nodes
   pub child : path_at t.machine.nodes delivery.child ≡ oldest.child
 
-module _ (t : Turn) (oldest : model.Delivery) (others : List model.Delivery) (waits : (instance_of t).waiting ≡ oldest ∷ others) where
+module _ (t : InHand) (oldest : model.Delivery) (others : List model.Delivery) (waits : (instance_of t).waiting ≡ oldest ∷ others) where
   first-by : (ds : List Delivery) → (node_of t).waiting ≡ ds
       → SameDeliveries (label t.program) (path_at t.machine.nodes) (node_of t).procedure ds (oldest ∷ others) → First t oldest
   first-by [] is h = absurd h
@@ -51,7 +51,7 @@ taken-agrees p m k choice who at d within is h =
     (subst (λ l. d.child < l) (sym (length-set m.nodes k (record (node_at m.nodes k) { waiting = drop 1 (node_at m.nodes k).waiting }))) within)
     (still_lives choice (node_at fewer d.child).fate))
 
-pub taken-followed : (t : Turn) (choice n : ℕ) (oldest : model.Delivery) → First t oldest
+pub taken-followed : (t : InHand) (choice n : ℕ) (oldest : model.Delivery) → First t oldest
     → Follows (label t.program) choice t.machine.nodes (taken t.machine.nodes t.frame.id choice) (event.delivered oldest.child n)
 taken-followed t choice n oldest first =
     let ns = t.machine.nodes in

@@ -2,7 +2,7 @@
 use Rattle.std.proofs.Common.{◌≡◌, ℕ, zero, suc, ◌-◌, Bool, List, [], ◌∷◌, ◌++◌, length, Option, Some, refl, ap, ◌∙◌, slice_set}
 use Rattle.std.specs.Prelude.{slice_index_or}
 use Rattle.std.proofs.lemmas.List.{length-set}
-use Rattle.cilk_machine_plan.specs.model.Places.{WorkerOf, IsWorker, hand_of, deque_of, with_deque, bottom_of, above_bottom}
+use Rattle.cilk_machine_plan.specs.model.Hands.{WorkerOf, IsWorker, hand_of, deque_of, with_deque, bottom_of, above_bottom}
 use Rattle.cilk_machine_plan.specs.frame.Frames.{Activation, Frame, no_activation, depth, activation_at, top_of, jumped, with_boundary}
 use Rattle.cilk_machine_plan.proofs.frame_laws.Bottoms.{bottom_of-push, above_bottom-push}
 use Rattle.cilk_machine_plan.proofs.sched_laws.Seats.{deque-same, hand-kept}

@@ -1,6 +1,6 @@
 -- What a machine becomes as a plan is carried out.
 use Rattle.std.specs.Prelude.{◌≡◌, ℕ, ℤ, false, List, [], ◌∷◌, ◌++◌, length, map, Option, Some, None, slice_set, if◌then◌else◌}
-use Rattle.cilk_machine_plan.specs.model.Places.{WorkerOf, with_hand, pushed_by}
+use Rattle.cilk_machine_plan.specs.model.Hands.{WorkerOf, with_hand, pushed_by}
 use Rattle.cilk_machine_plan.specs.nodes.declared.body.Body.{Body}
 use Rattle.cilk_machine_plan.specs.frame.Frames as frames
 use Rattle.cilk_machine_plan.specs.frame.Frames.{Frame, gone_to, left}
@@ -96,7 +96,7 @@ after_plan choice m w f body (plan.Spawn n receiver callee arguments to) = recor
 }
 after_plan choice m w f body (plan.Print n bytes to) =
     with_frame (record m { outside = record m.outside { output = m.outside.output ++ bytes } }) w (gone_to to f)
-after_plan choice m w f body (plan.Turn n lock now to) =
+after_plan choice m w f body (plan.TurnLock n lock now to) =
     with_frame (record m { outside = record m.outside { locks = slice_set m.outside.locks lock now } }) w (gone_to to f)
 after_plan choice m w f body (plan.Abort n to) = with_frame (record m { nodes = marked_below m.nodes f.id }) w (gone_to to f)
 
@@ -116,7 +116,7 @@ did_of count f (plan.Answer n reached z) = did.Acted f.id n
 did_of count f (plan.Return n z) = did.Returned f.id n
 did_of count f (plan.Spawn n receiver callee arguments to) = did.Spawned count n
 did_of count f (plan.Print n bytes to) = did.Acted f.id n
-did_of count f (plan.Turn n lock now to) = did.Acted f.id n
+did_of count f (plan.TurnLock n lock now to) = did.Acted f.id n
 did_of count f (plan.Abort n to) = did.Acted f.id n
 
 -- one machine became another, as the plan says

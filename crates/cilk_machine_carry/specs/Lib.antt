@@ -2,6 +2,7 @@ pub mod Words
 pub mod Carried
 pub mod Ready
 pub mod Carries
+pub mod Spends
 pub use Rattle.cilk_machine_plan.specs as plans
 pub use Rattle.cilk_machine_plan.specs.agree
 pub use Rattle.cilk_machine_plan.specs.check
@@ -9,6 +10,7 @@ pub use Rattle.cilk_machine_plan.specs.effects
 pub use Rattle.cilk_machine_plan.specs.eval
 pub use Rattle.cilk_machine_plan.specs.frame
 pub use Rattle.cilk_machine_plan.specs.labelled
+pub use Rattle.cilk_machine_plan.specs.model
 pub use Rattle.cilk_machine_plan.specs.nodes
 pub use Rattle.cilk_machine_plan.specs.placed
 pub use Rattle.cilk_machine_plan.specs.sched

@@ -1,6 +1,6 @@
 -- What has to be there for a plan to be carried out.
 use Rattle.std.specs.Prelude.{◌≡◌, ◌<◌, ◌+◌, ◌^◌, ℕ, ℤ, ⊤, true, false, List, [], length, Option, Some, None}
-use Rattle.cilk_machine_plan.specs.model.Places.{WorkerOf, hand_of}
+use Rattle.cilk_machine_plan.specs.model.Hands.{WorkerOf, hand_of}
 use Rattle.cilk_machine_plan.specs.eval.declared.slot.Slot.{Slot}
 use Rattle.cilk_machine_plan.specs.eval.Slots.{area_cells}
 use Rattle.cilk_machine_plan.specs.nodes.declared.body.Body.{Body}
@@ -68,7 +68,7 @@ Needs choice ns cells f body (plan.Answer n reached z) = (1 < depth f) × Fits r
 Needs choice ns cells f body (plan.Return n z) = CanEnd (sent ns f.id z) f.id (node_at ns f.id).parent fate.Returned
 Needs choice ns cells f body (plan.Spawn n receiver callee arguments to) = CanSpawn ns f.id body arguments
 Needs choice ns cells f body (plan.Print n bytes to) = ⊤
-Needs choice ns cells f body (plan.Turn n lock now to) = ⊤
+Needs choice ns cells f body (plan.TurnLock n lock now to) = ⊤
 Needs choice ns cells f body (plan.Abort n to) = ⊤
 
 pub record Ready (choice : ℕ) (ns : List Node) (cells : List ℤ) (f : Frame) (body : Option Body) (plan : Plan) : Type 0 where

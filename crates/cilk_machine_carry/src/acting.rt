@@ -1,7 +1,7 @@
 //! An action is acted, and its frame is in the hand again.
 
 ghost use Rattle.std.specs.Prelude.{◌≡◌, ℕ, true, Option, None, Some, IfErr, IfOk, OnErr};
-ghost use Rattle.cilk_machine_plan.specs.model.Places.{IsWorker, hand_of, with_hand};
+ghost use Rattle.cilk_machine_plan.specs.model.Hands.{IsWorker, hand_of, with_hand};
 ghost use Rattle.cilk_machine_plan.specs.nodes.declared.body.Body.{Body};
 ghost use Rattle.cilk_machine_plan.specs.spawn.Nodes.{node_at, is_live};
 ghost use Rattle.cilk_machine_plan.specs.agree.Outside as outside;

@@ -1,20 +1,21 @@
 //! A plan is carried out.
 
-ghost use Rattle.std.specs.Prelude.{◌≡◌, None, IfErr, IfOk, OnErr};
+ghost use Rattle.std.specs.Prelude.{◌≡◌, None, IfErr, IfOk, OnErr, OnOk};
 ghost use Rattle.std.specs.Option.{option_copied};
-ghost use Rattle.cilk_machine_plan.specs.model.Places.{IsWorker, hand_of};
+ghost use Rattle.cilk_machine_plan.specs.model.Hands.{IsWorker, hand_of};
 ghost use Rattle.cilk_machine_plan.specs.agree.Outside as outside;
 ghost use Rattle.cilk_machine_carry.specs.Words.{machine_of, outcome_of};
 ghost use Rattle.cilk_machine_carry.specs.Ready.{Ready};
 ghost use Rattle.cilk_machine_carry.specs.Carried.{Carried};
-ghost use Rattle.cilk_machine_carry.specs.Carries.{CanCarry, Carries};
+ghost use Rattle.cilk_machine_carry.specs.Carries.{CanCarry, Carries, Becomes};
+ghost use Rattle.cilk_machine_carry.specs.Spends.{Spends, SpendsIn};
 
 use crate::acting::{acted, carry_abort, carry_print, carry_trap};
 use crate::did::{Did, Done, NoMemory};
 use crate::entering::{carry_call, carry_enter, go_on, leave};
 use crate::given::{Passage, Sender, Start, Writing};
 use crate::parts::Parts;
-use crate::releasing::carry_turn;
+use crate::releasing::carry_lock_turn;
 use crate::returning::{carry_end, carry_return};
 use crate::starting::carry_spawn;
 use crate::writing::{carry_answer, carry_take, carry_write};
@@ -29,8 +30,10 @@ pub fn carry_out(
     choice: u64,
     parts: &mut Parts,
 ) -> Result<Done, NoMemory>
-    requires turn { CanCarry parts.old worker (option_copied body) plan }
+    requires can_carry { CanCarry parts.old worker (option_copied body) plan }
     ensures done { IfOk result (λ done. Carries choice parts.old worker (option_copied body.entry) plan parts.new done) }
+    ensures becomes { IfOk result (λ done. Becomes choice parts.old worker (option_copied body.entry) plan parts.new done) }
+    ensures spent { OnOk result (SpendsIn parts.old worker plan parts.new.spent) }
     ensures same { OnErr result (machine_of parts.new outside.running ≡ machine_of parts.old outside.running) }
     ensures living { OnErr result (parts.new.tree.living ≡ parts.old.tree.living) }
 {
@@ -60,6 +63,7 @@ fn carry(
     requires ready { Ready choice parts.old.tree.nodes parts.old.globals.items frame (option_copied body) plan }
     ensures done { IfOk result (λ done. Carried choice (machine_of parts.old outside.running) worker frame (option_copied body.entry) plan
         (machine_of parts.new (outcome_of done.outcome)) done.did) }
+    ensures spent { OnOk result (Spends parts.old.tree.nodes frame plan parts.new.spent) }
     ensures back { IfErr result (λ f. f ≡ frame) }
     ensures same { OnErr result (machine_of parts.new outside.running ≡ machine_of parts.old outside.running) }
     ensures living { OnErr result (parts.new.tree.living ≡ parts.old.tree.living) }
@@ -118,7 +122,10 @@ fn carry(
             };
             carry_call(worker, frame, Passage { n, to }, awaits, start, parts)
         }
-        Plan::Leave { n } => Ok(acted(worker, leave(frame), n, &mut parts.hands)),
+        Plan::Leave { n } => {
+            let frame = leave(frame, &mut parts.spent);
+            Ok(acted(worker, frame, n, &mut parts.hands))
+        }
         Plan::Answer { n, reached, value } => {
             let writing = Writing { reached, value };
             Ok(carry_answer(worker, frame, n, writing, parts))
@@ -139,7 +146,7 @@ fn carry(
             carry_spawn(worker, frame, Passage { n, to }, receiver, start, parts)
         }
         Plan::Print { n, bytes, to } => carry_print(worker, frame, Passage { n, to }, bytes, parts),
-        Plan::Turn { n, lock, now, to } => Ok(carry_turn(
+        Plan::TurnLock { n, lock, now, to } => Ok(carry_lock_turn(
             worker,
             frame,
             Passage { n, to },

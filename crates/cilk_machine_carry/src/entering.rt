@@ -2,7 +2,7 @@
 
 ghost use Rattle.std.specs.Prelude.{◌≡◌, ◌<◌, ℕ, true, None, IfErr, IfOk, OnErr};
 ghost use Rattle.std.specs.Option.{option_copied};
-ghost use Rattle.cilk_machine_plan.specs.model.Places.{IsWorker, hand_of};
+ghost use Rattle.cilk_machine_plan.specs.model.Hands.{IsWorker, hand_of};
 ghost use Rattle.cilk_machine_plan.specs.frame.Frames as frames;
 ghost use Rattle.cilk_machine_plan.specs.frame.Frames.{depth, jumped, with_boundary, gone_to, left};
 ghost use Rattle.cilk_machine_plan.specs.frame.Begins.{Takes, starts_with};
@@ -12,11 +12,13 @@ ghost use Rattle.cilk_machine_plan.specs.declared.plan.Plan.TheVariants as plans
 ghost use Rattle.cilk_machine_carry.specs.Words.{machine_of, outcome_of};
 ghost use Rattle.cilk_machine_carry.specs.Ready.{CanEnter};
 ghost use Rattle.cilk_machine_carry.specs.Carried.{Carried};
+ghost use Rattle.cilk_machine_carry.specs.Spends.{LeavesTop};
 
 use crate::acting::acted;
 use crate::did::{Did, Done};
 use crate::given::{Passage, Sender, Start};
 use crate::parts::Parts;
+use crate::spent::Spent;
 use cilk_machine_plan::{Await, Body, Frame};
 
 /// An action of the procedure's own clears the flag.
@@ -35,12 +37,14 @@ pub(crate) fn resumed(mut frame: Frame, n: u32, boundary: bool) -> Frame
     frame
 }
 
-/// The body above is left.
-pub(crate) fn leave(mut frame: Frame) -> Frame
+/// The body above is left, and its activation is handed out.
+pub(crate) fn leave(mut frame: Frame, spent: &mut Spent) -> Frame
     requires { 1 < depth frame }
-    ensures { result ≡ left frame }
+    ensures frame { result ≡ left frame }
+    ensures spent { LeavesTop frame spent.new }
 {
-    let _awaited = frame.leave();
+    let activation = frame.withdraw();
+    *spent = Spent::Activation(Some(activation));
     frame
 }
 

@@ -10,10 +10,10 @@ pub(crate) struct Passage {
 }
 
 /// A cell takes a value.
-#[derive(Clone, Copy)]
-pub(crate) struct Writing {
-    pub(crate) reached: Reached,
-    pub(crate) value: i32,
+#[derive(Clone, Copy, Debug, PartialEq, Eq)]
+pub struct Writing {
+    pub reached: Reached,
+    pub value: i32,
 }
 
 /// The child whose value is taken, and the number of its spawn.

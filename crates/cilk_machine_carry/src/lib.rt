@@ -11,11 +11,17 @@ mod lightly;
 mod parts;
 mod releasing;
 mod returning;
+mod spent;
 mod starting;
 mod writing;
 
 pub use carry::carry_out;
-pub use cilk_machine_plan::{Body, Fate, Frame, Hands, Id, Lock, Program, Tree, Var};
+pub use cilk_machine_plan::{
+    Area, Body, Fate, Frame, Hands, Id, Lock, Program, Reached, Tree, Var,
+};
 pub use did::{Did, Done, NoMemory, Outcome};
-pub use lightly::carry_lightly;
+pub use given::Writing;
+pub use lightly::{carry_lightly, write_cell};
 pub use parts::Parts;
+pub use releasing::turn_lock;
+pub use spent::Spent;

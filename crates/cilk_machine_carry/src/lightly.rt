@@ -1,24 +1,29 @@
 //! A light plan is carried out: the frame stays in the hand, and is changed there.
 
 ghost use Rattle.std.specs.Prelude.{◌≡◌, Some, None};
-ghost use Rattle.cilk_machine_plan.specs.model.Places.{IsWorker, hand_of, with_hand};
+ghost use Rattle.cilk_machine_plan.specs.model.Hands.{IsWorker, hand_of, with_hand};
 ghost use Rattle.cilk_machine_plan.specs.frame.Cells.{frame_put, globals_put};
 ghost use Rattle.cilk_machine_plan.specs.agree.Outside as outside;
 ghost use Rattle.cilk_machine_plan.specs.Words.{plan_of};
 ghost use Rattle.cilk_machine_carry.specs.Words.{machine_of};
 ghost use Rattle.cilk_machine_carry.specs.Ready.{Fits, Ready, frame_in};
 ghost use Rattle.cilk_machine_carry.specs.Carried.{Carried};
-ghost use Rattle.cilk_machine_carry.specs.Carries.{CanCarry, Carries};
+ghost use Rattle.cilk_machine_carry.specs.Carries.{CanCarry, Carries, Becomes};
+ghost use Rattle.cilk_machine_carry.specs.Spends.{Spends, SpendsIn};
 
 use crate::did::{Did, Outcome};
+use crate::given::Writing;
 use crate::parts::Parts;
-use cilk_machine_plan::{Area, Hands, Id, Light, Reached};
+use crate::spent::Spent;
+use cilk_machine_plan::{Area, Hands, Id, Light};
 
 /// Carries out the light plan of the frame in the worker's hand, at this choice. It takes no memory, and the program runs on.
 #[inline(always)]
 pub fn carry_lightly(worker: u8, light: Light, choice: u64, parts: &mut Parts) -> Did
     requires { CanCarry parts.old worker None (plan_of light) }
-    ensures { Carries choice parts.old worker None (plan_of light) parts.new (record { outcome = Outcome.Running; did = result }) }
+    ensures done { Carries choice parts.old worker None (plan_of light) parts.new (record { outcome = Outcome.Running; did = result }) }
+    ensures becomes { Becomes choice parts.old worker None (plan_of light) parts.new (record { outcome = Outcome.Running; did = result }) }
+    ensures spent { SpendsIn parts.old worker (plan_of light) parts.new.spent }
 {
     match parts.hands.hand(worker) {
         None => unreachable!(),
@@ -36,8 +41,9 @@ fn carry_light(worker: u8, id: Id, light: Light, choice: u64, parts: &mut Parts)
     requires held { hand_of parts.old.hands worker ≡ Some (frame_in parts.old.hands worker) }
     requires id { id ≡ (frame_in parts.old.hands worker).id }
     requires ready { Ready choice parts.old.tree.nodes parts.old.globals.items (frame_in parts.old.hands worker) None (plan_of light) }
-    ensures { Carried choice (machine_of parts.old outside.running) worker (frame_in parts.old.hands worker) None (plan_of light)
+    ensures carried { Carried choice (machine_of parts.old outside.running) worker (frame_in parts.old.hands worker) None (plan_of light)
         (machine_of parts.new outside.running) result }
+    ensures spent { Spends parts.old.tree.nodes (frame_in parts.old.hands worker) (plan_of light) parts.new.spent }
 {
     match light {
         Light::Take {
@@ -46,7 +52,8 @@ fn carry_light(worker: u8, id: Id, light: Light, choice: u64, parts: &mut Parts)
             reached,
             value,
         } => {
-            write(worker, reached, value, &mut parts.globals, &mut parts.hands);
+            let writing = Writing { reached, value };
+            write_cell(worker, writing, &mut parts.globals, &mut parts.hands);
             let _taken = parts.tree.take_delivery(id, choice);
             Did::Delivered(child, n)
         }
@@ -61,30 +68,34 @@ fn carry_light(worker: u8, id: Id, light: Light, choice: u64, parts: &mut Parts)
             to,
         } => {
             parts.hands.go_on(worker, to);
-            write(worker, reached, value, &mut parts.globals, &mut parts.hands);
+            let writing = Writing { reached, value };
+            write_cell(worker, writing, &mut parts.globals, &mut parts.hands);
             Did::Acted(id, n)
         }
         Light::Leave { n } => {
-            parts.hands.leave(worker);
+            parts.spent = Spent::Activation(parts.hands.withdraw(worker));
             Did::Acted(id, n)
         }
         Light::Answer { n, reached, value } => {
-            parts.hands.leave(worker);
-            write(worker, reached, value, &mut parts.globals, &mut parts.hands);
+            parts.spent = Spent::Activation(parts.hands.withdraw(worker));
+            let writing = Writing { reached, value };
+            write_cell(worker, writing, &mut parts.globals, &mut parts.hands);
             Did::Acted(id, n)
         }
     }
 }
 
-// Writes a cell of the top activation of the frame in the hand, of its procedure's own, or of the top level.
+/// Writes a cell of the top activation of the frame in the hand, of its procedure's own, or of the top level.
 #[inline(always)]
-fn write(worker: u8, reached: Reached, value: i32, globals: &mut Vec<i32>, hands: &mut Hands)
+pub fn write_cell(worker: u8, writing: Writing, globals: &mut Vec<i32>, hands: &mut Hands)
     requires worker { IsWorker hands.old worker }
     requires held { hand_of hands.old worker ≡ Some (frame_in hands.old worker) }
-    requires fits { Fits reached.slot reached.index (frame_in hands.old worker) globals.old.items }
-    ensures hands { hands.new ≡ with_hand hands.old worker (Some (frame_put reached.slot reached.index value (frame_in hands.old worker))) }
-    ensures globals { globals.new.items ≡ globals_put reached.slot reached.index value globals.old.items }
+    requires fits { Fits writing.reached.slot writing.reached.index (frame_in hands.old worker) globals.old.items }
+    ensures hands { hands.new ≡ with_hand hands.old worker
+        (Some (frame_put writing.reached.slot writing.reached.index writing.value (frame_in hands.old worker))) }
+    ensures globals { globals.new.items ≡ globals_put writing.reached.slot writing.reached.index writing.value globals.old.items }
 {
+    let Writing { reached, value } = writing;
     let cell = reached.slot.offset + reached.index;
     match reached.slot.area {
         Area::Own => hands.set_top_cell(worker, cell, value),

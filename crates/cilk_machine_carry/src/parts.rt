@@ -1,5 +1,6 @@
 //! What a step may change of a machine: cells, locks, output, the tree of instances, and the hands and deques.
 
+use crate::spent::Spent;
 use cilk_machine_plan::{Hands, Lock, Tree};
 
 /// What a step may change.
@@ -12,4 +13,6 @@ pub struct Parts {
     pub output: Vec<u8>,
     pub tree: Tree,
     pub hands: Hands,
+    /// What the last step moved out of these.
+    pub spent: Spent,
 }

@@ -1,7 +1,7 @@
 //! How locks change: taken and set free by a step, and let go of by an instance that was aborted.
 
 ghost use Rattle.std.specs.Prelude.{◌≡◌, ℕ, Option, None, map, slice_set};
-ghost use Rattle.cilk_machine_plan.specs.model.Places.{IsWorker, hand_of};
+ghost use Rattle.cilk_machine_plan.specs.model.Hands.{IsWorker, hand_of};
 ghost use Rattle.cilk_machine_plan.specs.nodes.declared.body.Body.{Body};
 ghost use Rattle.cilk_machine_plan.specs.agree.Laws.{released};
 ghost use Rattle.cilk_machine_plan.specs.agree.Outside as outside;
@@ -35,8 +35,8 @@ fn released(lock: Lock, id: Id) -> Lock
     }
 }
 
-// A lock becomes this.
-fn turn(locks: &mut Vec<Lock>, lock: u32, now: Lock)
+/// A lock becomes this.
+pub fn turn_lock(locks: &mut Vec<Lock>, lock: u32, now: Lock)
     ensures { locks.new.items ≡ slice_set locks.old.items lock now }
 {
     let place = lock as usize;
@@ -46,7 +46,7 @@ fn turn(locks: &mut Vec<Lock>, lock: u32, now: Lock)
 }
 
 /// A lock is taken, set or freed.
-pub(crate) fn carry_turn(
+pub(crate) fn carry_lock_turn(
     worker: u8,
     frame: Frame,
     passage: Passage,
@@ -57,9 +57,9 @@ pub(crate) fn carry_turn(
     requires worker { IsWorker parts.old.hands worker }
     requires empty { hand_of parts.old.hands worker ≡ None }
     ensures { (choice : ℕ) (body : Option Body) → Carried choice (machine_of parts.old outside.running) worker frame body
-        (plans.Turn passage.n lock now passage.to) (machine_of parts.new (outcome_of result.outcome)) result.did }
+        (plans.TurnLock passage.n lock now passage.to) (machine_of parts.new (outcome_of result.outcome)) result.did }
 {
-    turn(&mut parts.locks, lock, now);
+    turn_lock(&mut parts.locks, lock, now);
     acted(
         worker,
         go_on(frame, passage.to),

@@ -1,7 +1,7 @@
 //! An instance is no more.
 
 ghost use Rattle.std.specs.Prelude.{◌≡◌, true, false, Option, None, Some, ℕ, IfErr, IfOk, OnErr, OnOk};
-ghost use Rattle.cilk_machine_plan.specs.model.Places.{IsWorker, hand_of};
+ghost use Rattle.cilk_machine_plan.specs.model.Hands.{IsWorker, hand_of};
 ghost use Rattle.cilk_machine_plan.specs.nodes.declared.body.Body.{Body};
 ghost use Rattle.cilk_machine_plan.specs.spawn.declared.fate.Fate.TheVariants as fates;
 ghost use Rattle.cilk_machine_plan.specs.spawn.Nodes.{node_at, is_live, has_live_child, fate_at, ended};
@@ -11,11 +11,13 @@ ghost use Rattle.cilk_machine_plan.specs.declared.plan.Plan.TheVariants as plans
 ghost use Rattle.cilk_machine_carry.specs.Words.{machine_of, outcome_of};
 ghost use Rattle.cilk_machine_carry.specs.Carried.{Carried, nodes_awake, places_awake, awake_in, value_outcome};
 ghost use Rattle.cilk_machine_carry.specs.Ready.{CanEnd};
+ghost use Rattle.cilk_machine_carry.specs.Spends.{EndsIn};
 
 use crate::did::{Did, Done, Outcome};
 use crate::given::End;
 use crate::parts::Parts;
 use crate::releasing::release;
+use crate::spent::Spent;
 use cilk_machine_plan::{Ending, Frame, Hands, Id, Memory, Receiver, Tree};
 
 /// An instance that was aborted is no more, and its locks are free.
@@ -23,8 +25,9 @@ pub(crate) fn carry_end(worker: u8, frame: Frame, choice: u64, parts: &mut Parts
     requires worker { IsWorker parts.old.hands worker }
     requires empty { hand_of parts.old.hands worker ≡ None }
     requires end { CanEnd parts.old.tree.nodes frame.id (node_at parts.old.tree.nodes frame.id).parent (fates.Aborted choice) }
-    ensures { (body : Option Body) → Carried choice (machine_of parts.old outside.running) worker frame body
+    ensures carried { (body : Option Body) → Carried choice (machine_of parts.old outside.running) worker frame body
         plans.End (machine_of parts.new (outcome_of result.outcome)) result.did }
+    ensures spent { EndsIn parts.old.tree.nodes frame parts.new.spent }
 {
     let id = frame.id();
     let parent = parts.tree.parent(id);
@@ -33,7 +36,7 @@ pub(crate) fn carry_end(worker: u8, frame: Frame, choice: u64, parts: &mut Parts
         ending: Ending::Aborted,
         choice,
     };
-    end(
+    parts.spent = end(
         worker,
         frame,
         parent,
@@ -59,12 +62,13 @@ pub(crate) fn carry_return(
     requires end { CanEnd (sent parts.old.tree.nodes frame.id value) frame.id (node_at parts.old.tree.nodes frame.id).parent fates.Returned }
     ensures done { IfOk result (λ done. (body : Option Body) → Carried choice (machine_of parts.old outside.running) worker frame body
         (plans.Return n value) (machine_of parts.new (outcome_of done.outcome)) done.did) }
+    ensures spent { OnOk result (EndsIn (sent parts.old.tree.nodes frame.id value) frame parts.new.spent) }
     ensures back { IfErr result (λ f. f ≡ frame) }
     ensures same { OnErr result (machine_of parts.new outside.running ≡ machine_of parts.old outside.running) }
     ensures living { OnErr result (parts.new.tree.living ≡ parts.old.tree.living) }
 {
     let id = frame.id();
-    let outcome = give_value(
+    let (outcome, spent) = give_value(
         worker,
         frame,
         value,
@@ -72,6 +76,7 @@ pub(crate) fn carry_return(
         &mut parts.tree,
         &mut parts.hands,
     )?;
+    parts.spent = spent;
     Ok(Done {
         outcome,
         did: Did::Returned(id, n),
@@ -88,12 +93,13 @@ fn give_value(
     choice: u64,
     tree: &mut Tree,
     hands: &mut Hands,
-) -> Result<Outcome, Frame>
+) -> Result<(Outcome, Spent), Frame>
     requires worker { IsWorker hands.old worker }
     requires empty { hand_of hands.old worker ≡ None }
     requires live { is_live (node_at tree.old.nodes frame.id) ≡ true }
     requires end { CanEnd (sent tree.old.nodes frame.id value) frame.id (node_at tree.old.nodes frame.id).parent fates.Returned }
-    ensures outcome { IfOk result (λ outcome. outcome ≡ value_outcome value (node_at tree.old.nodes frame.id).parent) }
+    ensures outcome { IfOk result (λ given. given.0 ≡ value_outcome value (node_at tree.old.nodes frame.id).parent) }
+    ensures spent { IfOk result (λ given. EndsIn (sent tree.old.nodes frame.id value) frame given.1) }
     ensures tree { OnOk result (tree.new.nodes
         ≡ nodes_awake (ended (sent tree.old.nodes frame.id value) frame.id fates.Returned) (node_at tree.old.nodes frame.id).parent) }
     ensures hands { OnOk result (hands.new
@@ -112,27 +118,35 @@ fn give_value(
         ending: Ending::Returned,
         choice,
     };
-    end(worker, frame, parent, returned, tree, hands);
+    let spent = end(worker, frame, parent, returned, tree, hands);
     if parent.is_none() {
-        Ok(Outcome::Finished(value))
+        Ok((Outcome::Finished(value), spent))
     } else {
-        Ok(Outcome::Running)
+        Ok((Outcome::Running, spent))
     }
 }
 
-// The instance of a frame ends, and a parked parent that can go on comes to the worker's hand.
-fn end(worker: u8, frame: Frame, parent: Option<Id>, end: End, tree: &mut Tree, hands: &mut Hands)
+// The instance of a frame ends, and a parked parent that can go on comes to the worker's hand. Answers what is left of the instance.
+fn end(
+    worker: u8,
+    frame: Frame,
+    parent: Option<Id>,
+    end: End,
+    tree: &mut Tree,
+    hands: &mut Hands,
+) -> Spent
     requires worker { IsWorker hands.old worker }
     requires empty { hand_of hands.old worker ≡ None }
     requires end { CanEnd tree.old.nodes frame.id parent (fate_at end.ending end.choice) }
     ensures tree { tree.new.nodes ≡ nodes_awake (ended tree.old.nodes frame.id (fate_at end.ending end.choice)) parent }
     ensures hands { hands.new ≡ places_awake hands.old worker (awake_in (ended tree.old.nodes frame.id (fate_at end.ending end.choice)) parent) }
+    ensures spent { EndsIn tree.old.nodes frame result }
 {
-    tree.end(frame.id(), end.ending, end.choice);
-    frame.finish();
+    let remains = tree.retire(frame.id(), end.ending, end.choice);
     if let Some(parent) = parent {
         wake(worker, parent, tree, hands);
     }
+    Spent::Instance(frame, remains)
 }
 
 // The value waits for the parent, if anything takes it; an aborted child delivers nothing.

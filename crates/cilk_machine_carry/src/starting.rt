@@ -2,7 +2,7 @@
 
 ghost use Rattle.std.specs.Prelude.{◌≡◌, ◌+◌, ◌<◌, ◌^◌, ◌∷◌, [], ℕ, length, true, None, IfErr, IfOk, IfSome, OnErr, OnOk};
 ghost use Rattle.std.specs.Option.{option_copied};
-ghost use Rattle.cilk_machine_plan.specs.model.Places.{IsWorker, hand_of, pushed_by};
+ghost use Rattle.cilk_machine_plan.specs.model.Hands.{IsWorker, hand_of, pushed_by};
 ghost use Rattle.cilk_machine_plan.specs.frame.Frames as frames;
 ghost use Rattle.cilk_machine_plan.specs.spawn.Nodes.{node_at, is_live, with_child};
 ghost use Rattle.cilk_machine_plan.specs.frame.Begins.{Takes};

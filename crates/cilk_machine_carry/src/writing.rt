@@ -1,7 +1,7 @@
 //! A cell is written.
 
 ghost use Rattle.std.specs.Prelude.{◌≡◌, ◌<◌, ℕ, true, Option, None};
-ghost use Rattle.cilk_machine_plan.specs.model.Places.{IsWorker, hand_of};
+ghost use Rattle.cilk_machine_plan.specs.model.Hands.{IsWorker, hand_of};
 ghost use Rattle.cilk_machine_plan.specs.nodes.declared.body.Body.{Body};
 ghost use Rattle.cilk_machine_plan.specs.frame.Frames.{depth, gone_to, left};
 ghost use Rattle.cilk_machine_plan.specs.frame.Cells.{frame_put, globals_put};
@@ -11,6 +11,7 @@ ghost use Rattle.cilk_machine_plan.specs.declared.plan.Plan.TheVariants as plans
 ghost use Rattle.cilk_machine_carry.specs.Words.{machine_of, outcome_of};
 ghost use Rattle.cilk_machine_carry.specs.Ready.{Fits};
 ghost use Rattle.cilk_machine_carry.specs.Carried.{Carried};
+ghost use Rattle.cilk_machine_carry.specs.Spends.{LeavesTop};
 
 use crate::acting::acted;
 use crate::did::{Did, Done, Outcome};
@@ -74,10 +75,12 @@ pub(crate) fn carry_answer(
     requires empty { hand_of parts.old.hands worker ≡ None }
     requires inside { 1 < depth frame }
     requires fits { Fits writing.reached.slot writing.reached.index (left frame) parts.old.globals.items }
-    ensures { (choice : ℕ) (body : Option Body) → Carried choice (machine_of parts.old outside.running) worker frame body
+    ensures carried { (choice : ℕ) (body : Option Body) → Carried choice (machine_of parts.old outside.running) worker frame body
         (plans.Answer n writing.reached writing.value) (machine_of parts.new (outcome_of result.outcome)) result.did }
+    ensures spent { LeavesTop frame parts.new.spent }
 {
-    let frame = write(&mut parts.globals, leave(frame), writing);
+    let frame = leave(frame, &mut parts.spent);
+    let frame = write(&mut parts.globals, frame, writing);
     acted(worker, frame, n, &mut parts.hands)
 }
 

@@ -29,7 +29,7 @@ use Rattle.cilk_frame.specs.Reads.{IsVariable, IsArray, IsKnown, Seen}
 use Rattle.cilk_frame.proofs.SlotLaws.{cells-size}
 use Rattle.cilk_frame.proofs.Values.{array-inside, array-declared, array-same, declared-within, cell-same, value-same, slots-within}
 use Rattle.cilk_machine_effects.specs.declared.effect.Effect.{Effect}
-use Rattle.cilk_machine_effects.specs.declared.effect.Effect.TheVariants.{Writes, Answers, Enters, Gives, Starts, Prints, Turns, Marks}
+use Rattle.cilk_machine_effects.specs.declared.effect.Effect.TheVariants.{Writes, Answers, Enters, Gives, Starts, Prints, TurnsLock, Marks}
 use Rattle.cilk_spawn.specs.declared.receiver.Receiver as receiver
 use Rattle.cilk_machine_effects.specs.Fits.{FitsPlace, FitsTarget, FitsTaker, FitsAct}
 use Rattle.cilk_machine_effects.specs.Effects.{element_index, index_of, assigned, awaited, started, effect_in}

@@ -13,7 +13,7 @@ use Rattle.cilk_frame.specs.labelled.Labelled.{close}
 use Rattle.cilk_frame.specs.model.Values.{Cell, Reached, element_cell, cell_at, reached_at, reached_if, combined}
 use Rattle.cilk_frame.specs.model.Instance as model
 use Rattle.cilk_frame.specs.model.Effect as effect
-use Rattle.cilk_frame.specs.model.Effect.{Effect, writes, answers, enters, gives, starts, writes_out, turns, marks, effect_of, start_of}
+use Rattle.cilk_frame.specs.model.Effect.{Effect, writes, answers, enters, gives, starts, writes_out, turns_lock, marks, effect_of, start_of}
 use Rattle.cilk_frame.specs.model.Printing.{printed}
 
 -- what a target names
@@ -97,7 +97,7 @@ ShapeOf env n (assign what e) x = Written x
 ShapeOf env n (call what callee es) x = Entered env what callee es x
 ShapeOf env n (spawn taker callee es) x = Started env n taker callee es x
 ShapeOf env n (print format es) x = Printed x
-ShapeOf env n (locking what lock) x = x ≡ turns what lock
+ShapeOf env n (locking what lock) x = x ≡ turns_lock what lock
 ShapeOf env n null x = Answered x
 ShapeOf env n break_off x = Answered x
 ShapeOf env n go_round x = Answered x

@@ -20,7 +20,7 @@ use Rattle.cilk_frame.specs.declared.awaited.Await.{Await}
 use Rattle.cilk_spawn.specs.declared.receiver.Receiver as receiver
 use Rattle.cilk_spawn.specs.declared.receiver.Receiver.{Receiver}
 use Rattle.cilk_machine_effects.specs.declared.effect.Effect.{Effect}
-use Rattle.cilk_machine_effects.specs.declared.effect.Effect.TheVariants.{Writes, Answers, Enters, Gives, Starts, Prints, Turns, Marks}
+use Rattle.cilk_machine_effects.specs.declared.effect.Effect.TheVariants.{Writes, Answers, Enters, Gives, Starts, Prints, TurnsLock, Marks}
 use Rattle.cilk_machine_effects.specs.declared.written.Written.{Written}
 
 -- element k of an array of this length (C 1990, 6.3.2.1)
@@ -67,7 +67,7 @@ effect_in cells n (Call target callee codes) =
     awaited cells n target >>= λ w. values_of (environment cells) codes >>= λ zs. Ok (Enters w callee zs)
 effect_in cells n (Spawn taker callee codes) = started cells n taker callee codes
 effect_in cells n (Print format codes) = values_of (environment cells) codes >>= λ zs. Ok (Prints (printed format zs))
-effect_in cells n (Locking what lock) = Ok (Turns what lock)
+effect_in cells n (Locking what lock) = Ok (TurnsLock what lock)
 effect_in cells n Null = Ok (Answers (pos 1))
 effect_in cells n Break = Ok (Answers (pos 1))
 effect_in cells n Continue = Ok (Answers (pos 1))

@@ -11,7 +11,7 @@ use Rattle.cilk_spawn.specs.declared.receiver.Receiver.{Receiver}
 use Rattle.cilk_spawn.specs.declared.receiver.Receiver.TheVariants.{Nothing, Place, Call}
 use Rattle.cilk_frame.specs.Cells.{HasCell}
 use Rattle.cilk_machine_effects.specs.declared.effect.Effect.{Effect}
-use Rattle.cilk_machine_effects.specs.declared.effect.Effect.TheVariants.{Writes, Answers, Enters, Gives, Starts, Prints, Turns, Marks}
+use Rattle.cilk_machine_effects.specs.declared.effect.Effect.TheVariants.{Writes, Answers, Enters, Gives, Starts, Prints, TurnsLock, Marks}
 
 -- what awaits the value of call n: the cell was reached, and its place stands in the action
 abbrev pub slotted_await : ℕ → Option Reached → Option Await
@@ -30,7 +30,7 @@ slotted_effect slots n (effect.enters awaits callee zs) = Enters (slotted_await 
 slotted_effect slots n (effect.gives z) = Gives z
 slotted_effect slots n (effect.starts receiver callee zs) = Starts (slotted_receiver slots receiver) callee zs
 slotted_effect slots n (effect.writes_out bytes) = Prints bytes
-slotted_effect slots n (effect.turns what lock) = Turns what lock
+slotted_effect slots n (effect.turns_lock what lock) = TurnsLock what lock
 slotted_effect slots n effect.marks = Marks
 
 abbrev pub slotted_result : (Declaration → Slot) → ℕ → Result effect.Effect Trap → Result Effect Trap
@@ -57,5 +57,5 @@ ReachesCells program b (effect.enters awaits callee zs) = AwaitedCell program b 
 ReachesCells program b (effect.gives z) = ⊤
 ReachesCells program b (effect.starts receiver callee zs) = TakenCell program b receiver
 ReachesCells program b (effect.writes_out bytes) = ⊤
-ReachesCells program b (effect.turns what lock) = ⊤
+ReachesCells program b (effect.turns_lock what lock) = ⊤
 ReachesCells program b effect.marks = ⊤

@@ -21,7 +21,7 @@ pub enum Effect {
     /// Bytes are printed.
     Prints(Bytes),
     /// One of the three calls of a lock, and the lock's number.
-    Turns(LockAction, u32),
+    TurnsLock(LockAction, u32),
     /// The children are to be aborted.
     Marks,
 }

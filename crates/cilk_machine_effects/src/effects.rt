@@ -50,7 +50,7 @@ pub fn effect_of(
             Err(trap) => Err(trap),
             Ok(values) => Ok(Effect::Prints(printed(alloc, format.as_str(), values.as_slice())?)),
         },
-        Action::Locking(what, lock) => Ok(Effect::Turns(*what, *lock)),
+        Action::Locking(what, lock) => Ok(Effect::TurnsLock(*what, *lock)),
         Action::Null | Action::Break | Action::Continue | Action::Sync => Ok(Effect::Answers(1)),
         Action::Test(code) => eval(slots, code).map(Effect::Answers),
         Action::Abort => Ok(Effect::Marks),

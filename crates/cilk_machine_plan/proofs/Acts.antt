@@ -20,7 +20,7 @@ use Rattle.cilk_machine_agree.specs.model.Effect.{effect_of}
 use Rattle.cilk_machine_agree.specs.model.Change as change
 use Rattle.cilk_machine_agree.specs.model.Change.{after_call}
 use Rattle.cilk_machine_agree.specs.model.Event.{acted}
-use Rattle.cilk_machine_agree.specs.model.Pick.{goes_on, if_room, step_by_effect, step_by_turn}
+use Rattle.cilk_machine_agree.specs.model.Pick.{goes_on, if_room, step_by_effect, step_by_lock_turn}
 use Rattle.cilk_machine_agree.specs.nodes.declared.node.Node.{Node}
 use Rattle.cilk_machine_agree.specs.nodes.Actions.{slotted_place, slotted_target, slotted}
 use Rattle.cilk_machine_agree.specs.nodes.Slots.{slot_of}
@@ -39,15 +39,15 @@ use Rattle.cilk_machine_effects.proofs.Shapes.{named_by, IsOf, ShapeOf, Awaits, 
 use Rattle.cilk_machine_effects.proofs.Shapes as shapes
 use Rattle.cilk_machine_agree.specs.spawn.Nodes.{node_at, is_synched, has_live_child, live_ids}
 use Rattle.cilk_machine_agree.specs.declared.lock.Lock.{Lock}
-use Rattle.cilk_machine_agree.specs.Locks.{LockTurn, turned, refused, blocked, turn_among, turn_named}
+use Rattle.cilk_machine_agree.specs.Locks.{LockTurn, lock_turned, refused, blocked, lock_turn_among, lock_turn_named}
 use Rattle.cilk_machine_agree.specs.Outside.{LockWithin}
-use Rattle.cilk_machine_agree.specs.Laws.{Turn, path_of, instance_of}
+use Rattle.cilk_machine_agree.specs.Laws.{InHand, path_of, instance_of}
 use Rattle.cilk_machine_agree.specs.Actions.{IsNext}
 use Rattle.cilk_machine_agree.specs.Asked.{Asked}
 use Rattle.cilk_machine_plan.specs.Made as made
-use Rattle.cilk_machine_plan.specs.Made.{next_of, by_effect, has_room, turned_to}
-use Rattle.cilk_machine_plan.specs.Plans.{sight_in, step_in, IsPlan}
-use Rattle.cilk_machine_plan.specs.Sights.{StepInput}
+use Rattle.cilk_machine_plan.specs.Made.{next_of, by_effect, has_room, lock_turned_to}
+use Rattle.cilk_machine_plan.specs.Plans.{input_in, step_in, IsPlan}
+use Rattle.cilk_machine_plan.specs.StepInput.{StepInput}
 
 -- the name of a place over slots
 pub slot-named : (slots : Declaration → Rattle.cilk_machine_agree.specs.eval.declared.slot.Slot.Slot)
@@ -72,7 +72,7 @@ depth-room n k e = by_test (nat_lt k 255) refl
     by_test false h = let above = ltb-false k 255 h in not-below n 256 (omega (arith, e, above)) ∙ sym h
 
 -- the facts of an instance whose head this action is, under number m
-pub record Acting (t : Turn) (b m : ℕ) (act : Action) (node : Node) : Type 0 where
+pub record Acting (t : InHand) (b m : ℕ) (act : Action) (node : Node) : Type 0 where
   pub body : b ≡ (instance_of t).top.body
   pub known : KnownAct (label t.program) b act
   pub there : node_of t.program m ≡ Some node
@@ -80,12 +80,12 @@ pub record Acting (t : Turn) (b m : ℕ) (act : Action) (node : Node) : Type 0 w
   pub node_body : node.body ≡ b
   pub goes : GoesOn act → (answer : ℤ) → IsNext t answer (next_of node answer)
 
-module _ (t : Turn) (asked : Asked t) (b m : ℕ) where
+module _ (t : InHand) (asked : Asked t) (b m : ℕ) where
   abbrev program : Labelled
   program = label t.program
 
   abbrev g : StepInput
-  g = sight_in t
+  g = input_in t
 
   abbrev i : Instance
   i = instance_of t
@@ -150,20 +150,20 @@ module _ (t : Turn) (asked : Asked t) (b m : ℕ) where
   pub marks-plan : (act : Action) (node : Node) → Acting t b m act node → GoesOn act → (x : effect.Effect) → x ≡ effect.marks → Planned node x
   marks-plan act node a goes x e = subst (Planned node) (sym e) (λ step there. record { step = step; next = a.goes goes (pos 1) })
 
-  pub turns-plan : (act : Action) (node : Node) → Acting t b m act node → GoesOn act → (what : LockAction) (lock : ℕ) (x : effect.Effect)
-      → x ≡ effect.turns what lock → Planned node x
-  turns-plan act node a goes what lock x e =
+  pub turns-lock-plan : (act : Action) (node : Node) → Acting t b m act node → GoesOn act → (what : LockAction) (lock : ℕ) (x : effect.Effect)
+      → x ≡ effect.turns_lock what lock → Planned node x
+  turns-lock-plan act node a goes what lock x e =
       subst (Planned node) (sym e)
-      (λ step there. by_turn (turn_among g.locks t.frame.id what lock) (asked.turned_within what lock)
-      (step ∙ ap (step_by_turn s (path_of t) i m lock) (asked.turn what lock)))
+      (λ step there. by_lock_turn (lock_turn_among g.locks t.frame.id what lock) (asked.lock_turned_within what lock)
+      (step ∙ ap (step_by_lock_turn s (path_of t) i m lock) (asked.lock_turn what lock)))
     where
-      by_turn : (turn : LockTurn) → ((now : Lock) → turn ≡ turned now → LockWithin (length t.machine.nodes) now)
+      by_lock_turn : (lock_turn : LockTurn) → ((now : Lock) → lock_turn ≡ lock_turned now → LockWithin (length t.machine.nodes) now)
           → step_in t
-          ≡ step_by_turn s (path_of t) i m lock (turn_named (Rattle.cilk_machine_agree.specs.spawn.Nodes.path_at t.machine.nodes) turn)
-          → IsPlan t (turned_to m (next_of node (pos 1)) lock turn)
-      by_turn (turned now) within step = record { step = step; within = within now refl; next = a.goes goes (pos 1) }
-      by_turn refused within step = step
-      by_turn blocked within step = step
+          ≡ step_by_lock_turn s (path_of t) i m lock (lock_turn_named (Rattle.cilk_machine_agree.specs.spawn.Nodes.path_at t.machine.nodes) lock_turn)
+          → IsPlan t (lock_turned_to m (next_of node (pos 1)) lock lock_turn)
+      by_lock_turn (lock_turned now) within step = record { step = step; within = within now refl; next = a.goes goes (pos 1) }
+      by_lock_turn refused within step = step
+      by_lock_turn blocked within step = step
 
   -- a call, whose place was reached
   awaits-same : (what : Option Into) (callee : ℕ) (es : List (Term Declaration)) (node : Node) → Acting t b m (call what callee es) node

@@ -29,7 +29,7 @@ use Rattle.cilk_machine_effects.specs.Slotted.{TakenCell, ReachesCells, slotted_
 use Rattle.cilk_machine_effects.proofs.Shapes as shapes
 use Rattle.cilk_machine_effects.proofs.Shapes.{values-count}
 use Rattle.cilk_machine_agree.specs.Alike.{Receives}
-use Rattle.cilk_machine_agree.specs.Laws.{Turn, path_of, node_of, instance_of}
+use Rattle.cilk_machine_agree.specs.Laws.{InHand, path_of, node_of, instance_of}
 use Rattle.cilk_machine_agree.specs.Asked.{Asked}
 use Rattle.cilk_machine_agree.proofs.Alone.{holds}
 use Rattle.cilk_machine_agree.proofs.Actions.{told}
@@ -37,7 +37,7 @@ use Rattle.cilk_machine_agree.specs.spawn.declared.trap_kind.TrapKind.TheVariant
 use Rattle.cilk_machine_plan.specs.declared.plan.Plan.TheVariants as plan
 use Rattle.cilk_machine_plan.specs.Made as made
 use Rattle.cilk_machine_plan.specs.Made.{next_of, by_effect, has_room}
-use Rattle.cilk_machine_plan.specs.Plans.{sight_in, step_in, IsPlan}
+use Rattle.cilk_machine_plan.specs.Plans.{input_in, step_in, IsPlan}
 use Rattle.cilk_machine_plan.proofs.Callees.{callee-named}
 use Rattle.cilk_machine_plan.proofs.Acts.{Acting, takes-from}
 
@@ -68,7 +68,7 @@ around-at program (suc b) h s = by_place (nat_lt h (suc b)) refl (around-at prog
         let procedure : IsTrue (is_procedure (body_at program (suc b)).owner) = subst (λ k. IsTrue (is_procedure (body_at program k).owner)) same s.owner in
         ap (λ x. if x then procedure_around program b else suc b) (no_inlet (body_at program (suc b)).owner procedure) ∙ sym same
 
-module _ (t : Turn) (asked : Asked t) (b m : ℕ) where
+module _ (t : InHand) (asked : Asked t) (b m : ℕ) where
   abbrev program : Labelled
   program = label t.program
 
@@ -122,11 +122,11 @@ module _ (t : Turn) (asked : Asked t) (b m : ℕ) where
   pub spawns-plan : (taker : Taker) (callee : ℕ) (es : List (Term Declaration)) (node : Node) → Acting t b m (spawn taker callee es) node
       → (x : effect.Effect) → shapes.Started env m taker callee es x
       → step_in t ≡ step_by_effect program s (path_of t) i m (Ok x) → ReachesCells program b x
-      → IsPlan t (by_effect (sight_in t) m node (Ok (slotted_effect slots m x)))
+      → IsPlan t (by_effect (input_in t) m node (Ok (slotted_effect slots m x)))
   spawns-plan taker callee es node a x w =
       subst
       (λ y. step_in t ≡ step_by_effect program s (path_of t) i m (Ok y) → ReachesCells program b y
-      → IsPlan t (by_effect (sight_in t) m node (Ok (slotted_effect slots m y)))) (sym w.is)
+      → IsPlan t (by_effect (input_in t) m node (Ok (slotted_effect slots m y)))) (sym w.is)
       (λ step there. by_room _ refl step there)
     where
       after : Step
@@ -165,8 +165,8 @@ module _ (t : Turn) (asked : Asked t) (b m : ℕ) where
       by_case false e step there = step
 
       by_room : (room : Bool) → model_room ≡ room → step_in t ≡ if_room s (path_of t) m state.instances model_room after → TakenCell program b w.receiver
-          → IsPlan t (made.if_room (has_room (sight_in t)) kind.Instances m then_plan)
+          → IsPlan t (made.if_room (has_room (input_in t)) kind.Instances m then_plan)
       by_room room e step there =
-          let same : has_room (sight_in t) ≡ room = (λ j. nat_lt (sym asked.count j) 65536 && nat_lt ((told t).children j) (2 ^ 32 - 1)) ∙ e in
+          let same : has_room (input_in t) ≡ room = (λ j. nat_lt (sym asked.count j) 65536 && nat_lt ((told t).children j) (2 ^ 32 - 1)) ∙ e in
           subst (λ r. IsPlan t (made.if_room r kind.Instances m then_plan)) (sym same)
           (by_case room e (step ∙ ap (λ r. if_room s (path_of t) m state.instances r after) e) there)

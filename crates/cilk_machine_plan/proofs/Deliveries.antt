@@ -19,23 +19,23 @@ use Rattle.cilk_machine_agree.specs.spawn.declared.receiver.Receiver.{Receiver}
 use Rattle.cilk_machine_agree.specs.spawn.declared.receiver.Receiver.TheVariants.{Nothing, Place, Call}
 use Rattle.cilk_machine_agree.specs.spawn.Nodes.{path_at}
 use Rattle.cilk_machine_agree.specs.Alike.{Receives, SameDelivery}
-use Rattle.cilk_machine_agree.specs.Laws.{Turn, path_of, node_of, instance_of}
+use Rattle.cilk_machine_agree.specs.Laws.{InHand, path_of, node_of, instance_of}
 use Rattle.cilk_machine_agree.specs.Asked.{Asked}
 use Rattle.cilk_machine_agree.proofs.Alone.{holds}
 use Rattle.cilk_machine_agree.proofs.Actions.{told}
 use Rattle.cilk_machine_plan.specs.declared.plan.Plan.TheVariants as plan
 use Rattle.cilk_machine_plan.specs.Made.{taken_by, takes_by, inlet_of_node, inlet_of_action}
-use Rattle.cilk_machine_plan.specs.Plans.{sight_in, step_in, IsPlan, Oldest}
-use Rattle.cilk_machine_plan.specs.Sights.{StepInput, cells_in}
+use Rattle.cilk_machine_plan.specs.Plans.{input_in, step_in, IsPlan, Oldest}
+use Rattle.cilk_machine_plan.specs.StepInput.{StepInput, cells_in}
 use Rattle.cilk_machine_plan.proofs.Acts.{takes-from}
-use Rattle.cilk_machine_plan.proofs.Gifts.{sight-seen}
+use Rattle.cilk_machine_plan.proofs.Gifts.{input-seen}
 
-module _ (t : Turn) (asked : Asked t) where
+module _ (t : InHand) (asked : Asked t) where
   abbrev program : Labelled
   program = label t.program
 
   abbrev g : StepInput
-  g = sight_in t
+  g = input_in t
 
   abbrev i : Instance
   i = instance_of t
@@ -61,7 +61,7 @@ module _ (t : Turn) (asked : Asked t) where
       (combined r.op (cell_of (store_of s (path_of t) i) r.cell.place r.cell.index) z)
       → IsPlan t (takes_by n (combined r.op (slot_cell (cells_in g) slot index) z) (λ y. plan.Take child n (record { slot = slot; index = index }) y))
   place-plan child first slot index r same n z step =
-      let seen = sight-seen t asked t.frame i stands refl refl in
+      let seen = input-seen t asked t.frame i stands refl refl in
       let cell : slot_cell (cells_in g) slot index ≡ cell_of (store_of s (path_of t) i) r.cell.place r.cell.index =
       (λ j. slot_cell (cells_in g) (same.slot_is j) (same.index_is j))
       ∙ cell-same program i.top.body (cells_in g) (store_of s (path_of t) i) seen r.cell.place r.cell.index same.there in

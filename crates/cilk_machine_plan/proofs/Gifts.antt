@@ -28,15 +28,15 @@ use Rattle.cilk_machine_agree.proofs.frame_laws.Tops.{depth-is}
 use Rattle.cilk_machine_agree.proofs.frame_laws.Steps.{awaits-same, return-stands, lent-seen}
 use Rattle.cilk_machine_agree.proofs.frame_laws.Values.{cell-same}
 use Rattle.cilk_machine_agree.specs.spawn.Nodes.{has_live_child, is_synched}
-use Rattle.cilk_machine_agree.specs.Laws.{Turn, path_of, instance_of}
+use Rattle.cilk_machine_agree.specs.Laws.{InHand, path_of, instance_of}
 use Rattle.cilk_machine_agree.specs.Asked.{Asked}
 use Rattle.cilk_machine_agree.proofs.Alone.{holds}
 use Rattle.cilk_machine_plan.specs.declared.plan.Plan.TheVariants as plan
 use Rattle.cilk_machine_plan.specs.Made.{given, answered, answered_at, takes_by, target_of_node, is_function_body}
-use Rattle.cilk_machine_plan.specs.Plans.{sight_in, step_in, IsPlan}
-use Rattle.cilk_machine_plan.specs.Sights.{StepInput, cells_by, is_outer}
+use Rattle.cilk_machine_plan.specs.Plans.{input_in, step_in, IsPlan}
+use Rattle.cilk_machine_plan.specs.StepInput.{StepInput, cells_by, is_outer}
 
-pub outer-is : (t : Turn) → is_outer (sight_in t) ≡ is_empty (instance_of t).below
+pub outer-is : (t : InHand) → is_outer (input_in t) ≡ is_empty (instance_of t).below
 outer-is t = ap (λ d. d == 1) (depth-is (label t.program) t.frame (instance_of t) ((holds t).stands)) ∙ by_below (instance_of t).below
   where
     by_below : (ms : List model.Activation) → (suc (length ms) == 1) ≡ is_empty ms
@@ -44,10 +44,10 @@ outer-is t = ap (λ d. d == 1) (depth-is (label t.program) t.frame (instance_of 
     by_below (m ∷ ms) = ne_eqb (suc (suc (length ms))) 1 (λ h. omega (arith, h))
 
 -- cells that hold what a body sees
-pub sight-seen : (t : Turn) (asked : Asked t) (f : Rattle.cilk_machine_agree.specs.frame.Frames.Frame) (i : Instance)
+pub input-seen : (t : InHand) (asked : Asked t) (f : Rattle.cilk_machine_agree.specs.frame.Frames.Frame) (i : Instance)
     → StandsFor (label t.program) f i → f.id ≡ t.frame.id → i.waiting ≡ (instance_of t).waiting
-    → Seen (label t.program) i.top.body (cells_by (sight_in t) f) (store_of t.at.state (path_of t) i)
-sight-seen t asked f i s own waiting =
+    → Seen (label t.program) i.top.body (cells_by (input_in t) f) (store_of t.at.state (path_of t) i)
+input-seen t asked f i s own waiting =
     let o = t.agrees.outside in
     let same : is_synched t.machine.nodes f.id ≡ state.is_synched t.at.state (path_of t) i =
     ap (is_synched t.machine.nodes) own ∙ sym asked.synched
@@ -60,12 +60,12 @@ sight-seen t asked f i s own waiting =
     (Rattle.cilk_machine_agree.specs.nodes.Slots.flat t.at.state.globals) y) (store_of t.at.state (path_of t) i)) (sym same)
     (lent-seen (label t.program) f i t.at.state.globals (state.is_synched t.at.state (path_of t) i) s o.sizes))
 
-module _ (t : Turn) (asked : Asked t) (m : ℕ) where
+module _ (t : InHand) (asked : Asked t) (m : ℕ) where
   abbrev program : Labelled
   program = label t.program
 
   abbrev g : StepInput
-  g = sight_in t
+  g = input_in t
 
   abbrev i : Instance
   i = instance_of t
@@ -84,7 +84,7 @@ module _ (t : Turn) (asked : Asked t) (m : ℕ) where
       ap target_of_node a.there ∙ ap Rattle.cilk_machine_plan.specs.Made.target_of_action a.calls in
       let back : StandsFor program (left t.frame) (record i { top = caller; below = below }) = return-stands program t.frame i caller below stands is in
       let resumed-is : resumed i ≡ record i { top = caller; below = below } = ap (Rattle.cilk_machine_agree.specs.model.Change.resumed_to i) is in
-      let seen = sight-seen t asked (left t.frame) (record i { top = caller; below = below }) back refl refl in
+      let seen = input-seen t asked (left t.frame) (record i { top = caller; below = below }) back refl refl in
       let cell : slot_cell (cells_by g (left t.frame)) a.target.place.slot w.index ≡ cell_of (store_of s (path_of t) (resumed i)) r.cell.place r.cell.index =
       (λ j. slot_cell (cells_by g (left t.frame)) (a.same.slot_is j) (a.same.index_is j))
       ∙ cell-same program caller.body (cells_by g (left t.frame)) (store_of s (path_of t) (record i { top = caller; below = below })) seen

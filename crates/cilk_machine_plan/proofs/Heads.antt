@@ -19,12 +19,12 @@ use Rattle.cilk_machine_agree.specs.frame.Frames.{top_of}
 use Rattle.cilk_machine_agree.specs.frame.Stands.{StandsFor}
 use Rattle.cilk_machine_agree.proofs.frame_laws.Tops.{Stands, top-stands}
 use Rattle.cilk_machine_effects.specs.Known.{KnownAct}
-use Rattle.cilk_machine_agree.specs.Laws.{Turn, instance_of}
+use Rattle.cilk_machine_agree.specs.Laws.{InHand, instance_of}
 use Rattle.cilk_machine_agree.specs.Actions.{IsNext}
 use Rattle.cilk_machine_agree.proofs.Alone.{holds}
 use Rattle.cilk_machine_plan.specs.Made.{next_of}
-use Rattle.cilk_machine_plan.specs.Plans.{sight_in}
-use Rattle.cilk_machine_plan.specs.Sights.{head_number}
+use Rattle.cilk_machine_plan.specs.Plans.{input_in}
+use Rattle.cilk_machine_plan.specs.StepInput.{head_number}
 
 number-there : (o : Option Numbered) → is_some o ≡ true
     → option_map (λ (h : Numbered). h.number) o ≡ Some (unwrap_or (option_map (λ (h : Numbered). h.number) o) 0)
@@ -52,7 +52,7 @@ pub record Sound (p : Program) : Type 0 where
       → head_of (reached (body_at (label p) b) answers) ≡ Some head → GoesOn head.act
       → IsSome (head_of (reached (body_at (label p) b) (answer ∷ answers)))
 
-module _ (t : Turn) (sound : Sound t.program) where
+module _ (t : InHand) (sound : Sound t.program) where
   abbrev program : Labelled
   program = label t.program
 
@@ -74,7 +74,7 @@ module _ (t : Turn) (sound : Sound t.program) where
   pub there : b < length program.bodies
   there = top.acts.is_there
 
-  pub head-of : HeadOf items (head_number (sight_in t))
+  pub head-of : HeadOf items (head_number (input_in t))
   head-of = head-by items _ (head_of items) refl top.acts.node_is
 
   abbrev pub head : Numbered

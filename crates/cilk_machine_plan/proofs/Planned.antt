@@ -33,7 +33,7 @@ use Rattle.cilk_machine_effects.proofs.Shapes as shapes
 use Rattle.cilk_machine_agree.specs.spawn.declared.delivery.Delivery.{Delivery}
 use Rattle.cilk_machine_agree.specs.spawn.Nodes.{has_live_child, is_synched, path_at}
 use Rattle.cilk_machine_agree.specs.Alike.{SameDeliveries}
-use Rattle.cilk_machine_agree.specs.Laws.{Turn, path_of, node_of, instance_of}
+use Rattle.cilk_machine_agree.specs.Laws.{InHand, path_of, node_of, instance_of}
 use Rattle.cilk_machine_agree.specs.Asked.{Asked}
 use Rattle.cilk_machine_agree.proofs.Actions.{told}
 use Rattle.cilk_machine_agree.proofs.Asked.{oldest-told}
@@ -42,12 +42,12 @@ use Rattle.cilk_machine_agree.specs.spawn.declared.trap_kind.TrapKind.TheVariant
 use Rattle.cilk_machine_plan.specs.declared.plan.Plan.TheVariants as plan
 use Rattle.cilk_machine_plan.specs.Made as made
 use Rattle.cilk_machine_plan.specs.Made.{by_effect, planned, by_head, by_node, by_deliveries, acted, is_function_body}
-use Rattle.cilk_machine_plan.specs.Plans.{sight_in, step_in, IsPlan}
-use Rattle.cilk_machine_plan.specs.Sights.{StepInput, cells_in, holds_lock, is_outer, head_number}
+use Rattle.cilk_machine_plan.specs.Plans.{input_in, step_in, IsPlan}
+use Rattle.cilk_machine_plan.specs.StepInput.{StepInput, cells_in, holds_lock, is_outer, head_number}
 use Rattle.cilk_machine_plan.proofs.Heads.{Sound, there, head-of, head, own_node, node-is, known, next-is}
-use Rattle.cilk_machine_plan.proofs.Acts.{Acting, writes-plan, answers-plan, prints-plan, marks-plan, turns-plan, calls-plan}
+use Rattle.cilk_machine_plan.proofs.Acts.{Acting, writes-plan, answers-plan, prints-plan, marks-plan, turns-lock-plan, calls-plan}
 use Rattle.cilk_machine_plan.proofs.Births.{spawns-plan}
-use Rattle.cilk_machine_plan.proofs.Gifts.{outer-is, sight-seen, given-plan}
+use Rattle.cilk_machine_plan.proofs.Gifts.{outer-is, input-seen, given-plan}
 use Rattle.cilk_machine_plan.proofs.Deliveries.{delivery-plan}
 
 -- what an action is does not depend on how its variables are named
@@ -107,12 +107,12 @@ waits-none true false true false h o l = cc
 waits-none true false false false h o l = cc
 waits-none false syncs leaves false h o l = cc
 
-module _ (t : Turn) (sound : Sound t.program) (asked : Asked t) where
+module _ (t : InHand) (sound : Sound t.program) (asked : Asked t) where
   abbrev program : Labelled
   program = label t.program
 
   abbrev g : StepInput
-  g = sight_in t
+  g = input_in t
 
   abbrev i : Instance
   i = instance_of t
@@ -162,7 +162,7 @@ module _ (t : Turn) (sound : Sound t.program) (asked : Asked t) where
   effect-plan (call what callee es) a free x w reaches step = calls-plan t asked b m what callee es node a x w step reaches
   effect-plan (spawn taker callee es) a free x w reaches step = spawns-plan t asked b m taker callee es node a x w step reaches
   effect-plan (print format es) a free x w reaches step = prints-plan t asked b m (print format es) node a tt x w step reaches
-  effect-plan (locking what lock) a free x w reaches step = turns-plan t asked b m (locking what lock) node a tt what lock x w step reaches
+  effect-plan (locking what lock) a free x w reaches step = turns-lock-plan t asked b m (locking what lock) node a tt what lock x w step reaches
   effect-plan null a free x w reaches step = answers-plan t asked b m null node a tt x w step reaches
   effect-plan break_off a free x w reaches step = answers-plan t asked b m break_off node a tt x w step reaches
   effect-plan go_round a free x w reaches step = answers-plan t asked b m go_round node a tt x w step reaches
@@ -196,11 +196,11 @@ module _ (t : Turn) (sound : Sound t.program) (asked : Asked t) where
   result-plan (Err trap) e free step = step
   result-plan (Ok x) e free step =
       effect-plan act acting free x (shape env m act x e)
-      (effect-reaches program b (cells_in g) (store_of s (path_of t) i) (sight-seen t asked t.frame i (holds t).stands refl refl) m act x
+      (effect-reaches program b (cells_in g) (store_of s (path_of t) i) (input-seen t asked t.frame i (holds t).stands refl refl) m act x
       (known t sound) e) step
 
   same-effect : effect_in (cells_in g) m node.action ≡ slotted_result slots m (effect_of env m act)
-  same-effect = effect-same program b (cells_in g) (store_of s (path_of t) i) (sight-seen t asked t.frame i (holds t).stands refl refl) m act (known t sound)
+  same-effect = effect-same program b (cells_in g) (store_of s (path_of t) i) (input-seen t asked t.frame i (holds t).stands refl refl) m act (known t sound)
 
   waits-same : made.waits_here g node ≡ change.waits_here i act
   waits-same = λ j. outer j && (sync-same slots act j || leaves-same slots act j)

@@ -1,5 +1,5 @@
 pub mod Words
-pub mod Sights
+pub mod StepInput
 pub mod Made
 pub mod Plans
 pub use Rattle.cilk_machine_agree.specs as agree

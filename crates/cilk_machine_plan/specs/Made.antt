@@ -22,14 +22,14 @@ use Rattle.cilk_machine_agree.specs.spawn.declared.receiver.Receiver as receiver
 use Rattle.cilk_machine_agree.specs.spawn.declared.receiver.Receiver.{Receiver}
 use Rattle.cilk_machine_agree.specs.spawn.Nodes.{is_synched, has_live_child, live_ids}
 use Rattle.cilk_machine_effects.specs.declared.effect.Effect.{Effect}
-use Rattle.cilk_machine_effects.specs.declared.effect.Effect.TheVariants.{Writes, Answers, Enters, Gives, Starts, Prints, Turns, Marks}
+use Rattle.cilk_machine_effects.specs.declared.effect.Effect.TheVariants.{Writes, Answers, Enters, Gives, Starts, Prints, TurnsLock, Marks}
 use Rattle.cilk_machine_effects.specs.Effects.{effect_in}
-use Rattle.cilk_machine_agree.specs.Locks.{LockTurn, turned, refused, blocked, turn_among}
+use Rattle.cilk_machine_agree.specs.Locks.{LockTurn, lock_turned, refused, blocked, lock_turn_among}
 use Rattle.cilk_machine_agree.specs.spawn.declared.trap_kind.TrapKind.{TrapKind}
 use Rattle.cilk_machine_agree.specs.spawn.declared.trap_kind.TrapKind.TheVariants as kind
 use Rattle.cilk_machine_plan.specs.declared.plan.Plan.{Plan}
 use Rattle.cilk_machine_plan.specs.declared.plan.Plan.TheVariants as plan
-use Rattle.cilk_machine_plan.specs.Sights.{StepInput, id_of, own_node, head_number, cells_by, cells_in, holds_lock, is_outer}
+use Rattle.cilk_machine_plan.specs.StepInput.{StepInput, id_of, own_node, head_number, cells_by, cells_in, holds_lock, is_outer}
 
 abbrev pub traps : TrapKind → ℕ → Plan
 traps why n = plan.Trap why n
@@ -117,10 +117,10 @@ given g n node z =
     else (if is_function_body (body_of g.program node.body) then answered g n z (top_of g.frame).awaits
     else plan.Leave n)
 
-abbrev pub turned_to : ℕ → ℕ → ℕ → LockTurn → Plan
-turned_to n to lock (turned now) = plan.Turn n lock now to
-turned_to n to lock refused = traps kind.Lock n
-turned_to n to lock blocked = plan.Wait
+abbrev pub lock_turned_to : ℕ → ℕ → ℕ → LockTurn → Plan
+lock_turned_to n to lock (lock_turned now) = plan.TurnLock n lock now to
+lock_turned_to n to lock refused = traps kind.Lock n
+lock_turned_to n to lock blocked = plan.Wait
 
 -- one more child may start
 abbrev pub has_room : StepInput → Bool
@@ -137,7 +137,7 @@ by_effect g n node (Ok (Starts taken callee zs)) =
     if_room (has_room g) kind.Instances n (plan.Spawn n taken callee zs (next_of node (pos 1)))
 by_effect g n node (Ok (Prints bytes)) =
     if_room (nat_le (g.printed + length bytes) 1048576) kind.Output n (plan.Print n bytes (next_of node (pos 1)))
-by_effect g n node (Ok (Turns what lock)) = turned_to n (next_of node (pos 1)) lock (turn_among g.locks (id_of g) what lock)
+by_effect g n node (Ok (TurnsLock what lock)) = lock_turned_to n (next_of node (pos 1)) lock (lock_turn_among g.locks (id_of g) what lock)
 by_effect g n node (Ok Marks) = plan.Abort n (next_of node (pos 1))
 
 abbrev pub leaves : Action → Bool

@@ -82,7 +82,7 @@ pub enum Plan {
         to: u32,
     },
     /// The lock becomes this.
-    Turn {
+    TurnLock {
         n: u32,
         lock: u32,
         now: Lock,

@@ -10,27 +10,27 @@ use Rattle.cilk_machine_plan.specs.nodes.Table.{node_of}
 use Rattle.cilk_machine_plan.proofs.spawn_laws.Trees.{live_there}
 use Rattle.cilk_machine_plan.specs.effects.Fits.{FitsAct}
 use Rattle.cilk_machine_plan.proofs.effects_laws.Same.{act-fits}
-use Rattle.cilk_machine_plan.specs.agree.Laws.{Turn, path_of, instance_of}
+use Rattle.cilk_machine_plan.specs.agree.Laws.{InHand, path_of, instance_of}
 use Rattle.cilk_machine_plan.proofs.agree_laws.Asked.{asked}
-use Rattle.cilk_machine_plan.specs.Plans.{sight_in}
-use Rattle.cilk_machine_plan.specs.Sights.{id_of, cells_in}
+use Rattle.cilk_machine_plan.specs.Plans.{input_in}
+use Rattle.cilk_machine_plan.specs.StepInput.{id_of, cells_in}
 use Rattle.cilk_machine_plan.proofs.Heads.{Sound, head-of, head, own_node, node-is, known}
 use Rattle.cilk_machine_step.specs.Scenes.{HeadFits}
 
-pub there-is : (t : Turn) → id_of (sight_in t) < length (sight_in t).nodes
+pub there-is : (t : InHand) → id_of (input_in t) < length (input_in t).nodes
 there-is t = live_there t.machine.nodes t.frame.id (asked t).live
 
 same-some : (x y : Node) → Some x ≡ Some y → x ≡ y
 same-some x y e = cc
 
-fits-by : (t : Turn) → Sound t.program → HeadFits (sight_in t)
+fits-by : (t : InHand) → Sound t.program → HeadFits (input_in t)
 fits-by t sound node is =
     let same : own_node t sound ≡ node = same-some (own_node t sound) node (sym (node-is t sound) ∙ ap (node_of t.program) (head-of t sound).number ∙ is) in
-    subst (λ (x : Node). FitsAct (sizes_of (cells_in (sight_in t))) x.action) same
-    (act-fits (label t.program) (instance_of t).top.body (cells_in (sight_in t)) (store_of t.at.state (path_of t) (instance_of t)) (asked t).seen
+    subst (λ (x : Node). FitsAct (sizes_of (cells_in (input_in t))) x.action) same
+    (act-fits (label t.program) (instance_of t).top.body (cells_in (input_in t)) (store_of t.at.state (path_of t) (instance_of t)) (asked t).seen
     (head t sound).act (known t sound))
 
-pub head-fits : (t : Turn) → WellFormed t.program → HeadFits (sight_in t)
+pub head-fits : (t : InHand) → WellFormed t.program → HeadFits (input_in t)
 head-fits t well =
     fits-by t (record {
       well = well;

@@ -5,7 +5,7 @@ use Rattle.cilk_machine_plan.specs.nodes.Bodies.{body_of}
 use Rattle.cilk_machine_plan.specs.frame.Frames.{top_of}
 use Rattle.cilk_machine_plan.specs.declared.plan.Plan.TheVariants as plan
 use Rattle.cilk_machine_plan.specs.Made.{given, answered, is_function_body}
-use Rattle.cilk_machine_plan.specs.Sights.{StepInput, is_outer}
+use Rattle.cilk_machine_plan.specs.StepInput.{StepInput, is_outer}
 
 -- a procedure whose own activation is not on top has another one above it
 pub inner-by : (d : ℕ) → (d == 1) ≡ false → 0 < d → 1 < d

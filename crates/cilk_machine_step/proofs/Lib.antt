@@ -2,5 +2,5 @@ pub mod Waits
 pub mod Ways
 pub mod Left
 pub mod Fits
-pub mod Looks
+pub mod Peeks
 pub use Rattle.cilk_load.proofs as load_laws

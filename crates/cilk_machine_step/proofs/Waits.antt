@@ -23,16 +23,16 @@ use Rattle.cilk_machine_plan.specs.spawn.declared.receiver.Receiver as receiver
 use Rattle.cilk_machine_plan.specs.spawn.declared.receiver.Receiver.{Receiver}
 use Rattle.cilk_machine_plan.specs.spawn.Nodes.{is_synched, has_live_child}
 use Rattle.cilk_machine_plan.specs.effects.declared.effect.Effect.{Effect}
-use Rattle.cilk_machine_plan.specs.effects.declared.effect.Effect.TheVariants.{Writes, Answers, Enters, Gives, Starts, Prints, Turns, Marks}
+use Rattle.cilk_machine_plan.specs.effects.declared.effect.Effect.TheVariants.{Writes, Answers, Enters, Gives, Starts, Prints, TurnsLock, Marks}
 use Rattle.cilk_machine_plan.specs.effects.Effects.{index_of, awaited, effect_in}
-use Rattle.cilk_machine_plan.specs.agree.Locks.{LockTurn, turned, refused, blocked, turn_among}
+use Rattle.cilk_machine_plan.specs.agree.Locks.{LockTurn, lock_turned, refused, blocked, lock_turn_among}
 use Rattle.cilk_machine_plan.specs.spawn.declared.trap_kind.TrapKind.{TrapKind}
 use Rattle.cilk_machine_plan.specs.spawn.declared.trap_kind.TrapKind.TheVariants as kind
 use Rattle.cilk_machine_plan.specs.declared.plan.Plan.{Plan}
 use Rattle.cilk_machine_plan.specs.declared.plan.Plan.TheVariants as plan
-use Rattle.cilk_machine_plan.specs.Made.{traps, if_room, takes_by, next_of, target_of_node, answered_at, answered, is_function_body, given, turned_to}
+use Rattle.cilk_machine_plan.specs.Made.{traps, if_room, takes_by, next_of, target_of_node, answered_at, answered, is_function_body, given, lock_turned_to}
 use Rattle.cilk_machine_plan.specs.Made.{by_effect, is_sync, is_spawn, leaves, acted, aborted, taken_by}
-use Rattle.cilk_machine_plan.specs.Sights.{StepInput, id_of, cells_by, cells_in, holds_lock, is_outer}
+use Rattle.cilk_machine_plan.specs.StepInput.{StepInput, id_of, cells_by, cells_in, holds_lock, is_outer}
 use Rattle.cilk_machine_step.specs.Scenes.{is_wait, takes_nothing, is_blocked, wants_held_lock}
 
 if-goes : (b : Bool) (x y : Plan) → is_wait x ≡ false → is_wait y ≡ false → is_wait (if b then x else y) ≡ false
@@ -64,10 +64,10 @@ given-goes g n node z =
     (if-goes (is_function_body (body_of g.program node.body)) (answered g n z (top_of g.frame).awaits) (plan.Leave n)
     (answered-goes g n z (top_of g.frame).awaits) refl)
 
-turned-waits : (n to lock : ℕ) (turn : LockTurn) → is_wait (turned_to n to lock turn) ≡ is_blocked turn
-turned-waits n to lock (turned now) = refl
-turned-waits n to lock refused = refl
-turned-waits n to lock blocked = refl
+lock-turned-waits : (n to lock : ℕ) (lock_turn : LockTurn) → is_wait (lock_turned_to n to lock lock_turn) ≡ is_blocked lock_turn
+lock-turned-waits n to lock (lock_turned now) = refl
+lock-turned-waits n to lock refused = refl
+lock-turned-waits n to lock blocked = refl
 
 -- an instance that was aborted never waits for a lock
 pub aborted-goes : (g : StepInput) → is_wait (aborted g) ≡ false
@@ -89,7 +89,7 @@ is_stopped g (Ok (Enters awaits callee zs)) = false
 is_stopped g (Ok (Gives z)) = false
 is_stopped g (Ok (Starts taken callee zs)) = false
 is_stopped g (Ok (Prints bytes)) = false
-is_stopped g (Ok (Turns what lock)) = is_blocked (turn_among g.locks (id_of g) what lock)
+is_stopped g (Ok (TurnsLock what lock)) = is_blocked (lock_turn_among g.locks (id_of g) what lock)
 is_stopped g (Ok Marks) = false
 
 effect-waits : (g : StepInput) (n : ℕ) (node : Node) (r : Result Effect Trap) → is_wait (by_effect g n node r) ≡ is_stopped g r
@@ -100,7 +100,7 @@ effect-waits g n node (Ok (Enters awaits callee zs)) = room-goes _ kind.Depth n 
 effect-waits g n node (Ok (Gives z)) = given-goes g n node z
 effect-waits g n node (Ok (Starts taken callee zs)) = room-goes _ kind.Instances n (plan.Spawn n taken callee zs (next_of node (pos 1))) refl
 effect-waits g n node (Ok (Prints bytes)) = room-goes _ kind.Output n (plan.Print n bytes (next_of node (pos 1))) refl
-effect-waits g n node (Ok (Turns what lock)) = turned-waits n (next_of node (pos 1)) lock (turn_among g.locks (id_of g) what lock)
+effect-waits g n node (Ok (TurnsLock what lock)) = lock-turned-waits n (next_of node (pos 1)) lock (lock_turn_among g.locks (id_of g) what lock)
 effect-waits g n node (Ok Marks) = refl
 
 then-goes : {A : Type 0} (g : StepInput) (r : Result A Trap) (f : A → Result Effect Trap) → ((a : A) → is_stopped g (f a) ≡ false)

@@ -14,7 +14,7 @@ use Rattle.cilk_machine_plan.specs.spawn.declared.trap_kind.TrapKind.TheVariants
 use Rattle.cilk_machine_plan.specs.declared.plan.Plan.TheVariants as plan
 use Rattle.cilk_machine_plan.specs.Made.{traps, waits_here, ends_thread, leaves, is_sync, is_spawn, is_function_body, given, by_effect, planned}
 use Rattle.cilk_machine_plan.specs.Made.{aborted, by_head, by_deliveries, acted, at_boundary}
-use Rattle.cilk_machine_plan.specs.Sights.{StepInput, id_of, own_node, head_number, cells_in, holds_lock, is_outer}
+use Rattle.cilk_machine_plan.specs.StepInput.{StepInput, id_of, own_node, head_number, cells_in, holds_lock, is_outer}
 
 -- an action that may be acted comes to its effect
 pub acts_by : (g : StepInput) (n : ℕ) (node : Node) (r : Result Effect Trap) → (ends_thread g node && holds_lock g) ≡ false

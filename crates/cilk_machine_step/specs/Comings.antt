@@ -6,11 +6,11 @@ use Rattle.cilk_eval.specs.declared.slot.Slot.{Slot}
 use Rattle.cilk_machine_plan.specs.nodes.Table.{node_of}
 use Rattle.cilk_machine_plan.specs.declared.plan.Plan.{Plan}
 use Rattle.cilk_machine_plan.specs.declared.plan.Plan.TheVariants as plan
-use Rattle.cilk_machine_plan.specs.Sights.{StepInput, head_number}
+use Rattle.cilk_machine_plan.specs.StepInput.{StepInput, head_number}
 use Rattle.cilk_machine_plan.specs.Made.{aborted, taken_by, acted}
 use Rattle.cilk_machine_step.specs.declared.coming.Coming.{Coming}
 use Rattle.cilk_machine_step.specs.declared.coming.Coming.TheVariants.{End, Nothing, Delivery, Act}
-use Rattle.cilk_machine_step.specs.Looks.{code_of}
+use Rattle.cilk_machine_step.specs.Peeks.{code_of}
 
 -- the plan of the step then
 abbrev pub plan_for : StepInput → Coming → Plan

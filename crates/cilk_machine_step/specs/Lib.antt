@@ -1,5 +1,5 @@
 pub mod Scenes
-pub mod Looks
+pub mod Peeks
 pub mod Comings
 pub use Rattle.cilk_eval.specs as eval
 pub use Rattle.cilk_load.specs.labelled

@@ -9,14 +9,14 @@ use Rattle.cilk_machine_plan.specs.nodes.Table.{node_of}
 use Rattle.cilk_machine_plan.specs.spawn.declared.receiver.Receiver as receiver
 use Rattle.cilk_machine_plan.specs.spawn.declared.receiver.Receiver.{Receiver}
 use Rattle.cilk_machine_plan.specs.effects.Fits.{FitsAct}
-use Rattle.cilk_machine_plan.specs.agree.Locks.{LockTurn, turned, refused, blocked, turn_among}
+use Rattle.cilk_machine_plan.specs.agree.Locks.{LockTurn, lock_turned, refused, blocked, lock_turn_among}
 use Rattle.cilk_machine_plan.specs.declared.plan.Plan.{Plan}
 use Rattle.cilk_machine_plan.specs.declared.plan.Plan.TheVariants as plan
-use Rattle.cilk_machine_plan.specs.Sights.{StepInput, id_of, head_number, cells_in}
+use Rattle.cilk_machine_plan.specs.StepInput.{StepInput, id_of, head_number, cells_in}
 use Rattle.cilk_machine_step.specs.declared.scene.Scene.{Scene}
 
-abbrev pub sight_of : Scene → StepInput
-sight_of scene = record {
+abbrev pub input_of : Scene → StepInput
+input_of scene = record {
   program = scene.loaded.now;
   globals = scene.globals.now.items;
   locks = scene.locks.now.items;
@@ -44,7 +44,7 @@ is_wait (plan.Answer n reached z) = false
 is_wait (plan.Return n z) = false
 is_wait (plan.Spawn n receiver callee arguments to) = false
 is_wait (plan.Print n bytes to) = false
-is_wait (plan.Turn n lock now to) = false
+is_wait (plan.TurnLock n lock now to) = false
 is_wait (plan.Abort n to) = false
 
 abbrev pub takes_nothing : Receiver → Bool
@@ -53,7 +53,7 @@ takes_nothing (receiver.TheVariants.Place op slot index n) = false
 takes_nothing (receiver.TheVariants.Call n others) = false
 
 abbrev pub is_blocked : LockTurn → Bool
-is_blocked (turned now) = false
+is_blocked (lock_turned now) = false
 is_blocked refused = false
 is_blocked blocked = true
 
@@ -63,7 +63,7 @@ wants_held_lock g (Assign target value) = false
 wants_held_lock g (Call target callee arguments) = false
 wants_held_lock g (Spawn taker callee arguments) = false
 wants_held_lock g (Print format arguments) = false
-wants_held_lock g (Locking what lock) = is_blocked (turn_among g.locks (id_of g) what lock)
+wants_held_lock g (Locking what lock) = is_blocked (lock_turn_among g.locks (id_of g) what lock)
 wants_held_lock g Null = false
 wants_held_lock g Break = false
 wants_held_lock g Continue = false

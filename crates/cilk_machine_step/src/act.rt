@@ -5,10 +5,10 @@ ghost use Rattle.cilk_eval.specs.Slots.{sizes_of};
 ghost use Rattle.cilk_machine_plan.specs.frame.Frames.{depth};
 ghost use Rattle.cilk_machine_plan.specs.spawn.Nodes.{is_synched};
 ghost use Rattle.cilk_machine_plan.specs.effects.Fits.{FitsAct};
-ghost use Rattle.cilk_machine_plan.specs.agree.Locks.{turn_among};
-ghost use Rattle.cilk_machine_plan.specs.Sights.{id_of, cells_in, holds_lock};
-ghost use Rattle.cilk_machine_step.specs.Scenes.{sight_of};
-ghost use Rattle.cilk_machine_plan.specs.Made.{leaves, if_room, next_of, has_room, at_boundary, waits_here, ends_thread, acted, by_effect, turned_to};
+ghost use Rattle.cilk_machine_plan.specs.agree.Locks.{lock_turn_among};
+ghost use Rattle.cilk_machine_plan.specs.StepInput.{id_of, cells_in, holds_lock};
+ghost use Rattle.cilk_machine_step.specs.Scenes.{input_of};
+ghost use Rattle.cilk_machine_plan.specs.Made.{leaves, if_room, next_of, has_room, at_boundary, waits_here, ends_thread, acted, by_effect, lock_turned_to};
 
 use crate::leaving::{given, is_function_body};
 use crate::scene::Scene;
@@ -26,9 +26,9 @@ const MOST_BYTES: usize = 1_048_576;
 /// The instance acts the node of its top activation, whose number is n.
 #[tactic(auto, using(crate::proofs::Ways::acts_by))]
 pub(crate) fn act(alloc: Global, scene: &Scene, n: u32, node: &Node) -> Result<Plan, Memory>
-    requires there { id_of (sight_of scene.now) < length (sight_of scene.now).nodes }
-    requires fits { FitsAct (sizes_of (cells_in (sight_of scene.now))) node.now.action }
-    ensures { IfOk result (λ plan. plan ≡ acted (sight_of scene.now) n node.now) }
+    requires there { id_of (input_of scene.now) < length (input_of scene.now).nodes }
+    requires fits { FitsAct (sizes_of (cells_in (input_of scene.now))) node.now.action }
+    ensures { IfOk result (λ plan. plan ≡ acted (input_of scene.now) n node.now) }
 {
     if ends_with_lock(scene, node) {
         return Ok(trap(TrapKind::HeldLock, n));
@@ -42,22 +42,22 @@ pub(crate) fn act(alloc: Global, scene: &Scene, n: u32, node: &Node) -> Result<P
 
 // Whether a Cilk thread or an inlet ends there, and holds a lock.
 fn ends_with_lock(scene: &Scene, node: &Node) -> bool
-    ensures { result ≡ ends_thread (sight_of scene.now) node.now && holds_lock (sight_of scene.now) }
+    ensures { result ≡ ends_thread (input_of scene.now) node.now && holds_lock (input_of scene.now) }
 {
     ends_thread(scene, node) && scene.holds_lock()
 }
 
 // Whether the procedure waits for its children there, and has something to wait for.
 fn parks_here(scene: &Scene, node: &Node) -> bool
-    requires { id_of (sight_of scene.now) < length (sight_of scene.now).nodes }
-    ensures { result ≡ waits_here (sight_of scene.now) node.now && not (is_synched (sight_of scene.now).nodes (id_of (sight_of scene.now))) }
+    requires { id_of (input_of scene.now) < length (input_of scene.now).nodes }
+    ensures { result ≡ waits_here (input_of scene.now) node.now && not (is_synched (input_of scene.now).nodes (id_of (input_of scene.now))) }
 {
     waits_here(scene, node) && !scene.tree.is_synched(scene.frame.id())
 }
 
 /// Whether the procedure is between two of its threads, where an inlet may run (Cilk 5.4 manual, `inlet`).
 pub(crate) fn at_boundary(scene: &Scene, node: &Node) -> bool
-    ensures { result ≡ at_boundary (sight_of scene.now) node.now }
+    ensures { result ≡ at_boundary (input_of scene.now) node.now }
 {
     scene.is_outer()
         && (scene.frame.at_boundary()
@@ -67,8 +67,8 @@ pub(crate) fn at_boundary(scene: &Scene, node: &Node) -> bool
 
 // What the effect of an action comes to, if it has one.
 fn by_outcome(scene: &Scene, n: u32, node: &Node, outcome: Result<Effect, Trap>) -> Plan
-    requires { id_of (sight_of scene.now) < length (sight_of scene.now).nodes }
-    ensures { result ≡ by_effect (sight_of scene.now) n node.now outcome }
+    requires { id_of (input_of scene.now) < length (input_of scene.now).nodes }
+    ensures { result ≡ by_effect (input_of scene.now) n node.now outcome }
 {
     match outcome {
         Err(why) => trap(TrapKind::Value(why), n),
@@ -77,8 +77,8 @@ fn by_outcome(scene: &Scene, n: u32, node: &Node, outcome: Result<Effect, Trap>)
 }
 
 fn by_effect(scene: &Scene, n: u32, node: &Node, effect: Effect) -> Plan
-    requires { id_of (sight_of scene.now) < length (sight_of scene.now).nodes }
-    ensures { result ≡ by_effect (sight_of scene.now) n node.now (Ok effect) }
+    requires { id_of (input_of scene.now) < length (input_of scene.now).nodes }
+    ensures { result ≡ by_effect (input_of scene.now) n node.now (Ok effect) }
 {
     let to = next_of(node, 1);
     match effect {
@@ -100,7 +100,7 @@ fn by_effect(scene: &Scene, n: u32, node: &Node, effect: Effect) -> Plan
             spawned(scene, n, receiver, callee, arguments, to)
         }
         Effect::Prints(bytes) => printed(scene, n, bytes, to),
-        Effect::Turns(what, lock) => turned(scene, n, what, lock, to),
+        Effect::TurnsLock(what, lock) => lock_turned(scene, n, what, lock, to),
         Effect::Marks => Plan::Abort { n, to },
     }
 }
@@ -114,7 +114,7 @@ fn called(
     arguments: Arguments,
     to: u32,
 ) -> Plan
-    ensures { result ≡ if_room (nat_lt (depth (sight_of scene.now).frame) 256) TrapKind.Depth n (Plan.Call n awaits callee arguments to) }
+    ensures { result ≡ if_room (nat_lt (depth (input_of scene.now).frame) 256) TrapKind.Depth n (Plan.Call n awaits callee arguments to) }
 {
     if scene.frame.depth() < Frame::DEPTH {
         Plan::Call {
@@ -138,8 +138,8 @@ fn spawned(
     arguments: Arguments,
     to: u32,
 ) -> Plan
-    requires { id_of (sight_of scene.now) < length (sight_of scene.now).nodes }
-    ensures { result ≡ if_room (has_room (sight_of scene.now)) TrapKind.Instances n (Plan.Spawn n receiver callee arguments to) }
+    requires { id_of (input_of scene.now) < length (input_of scene.now).nodes }
+    ensures { result ≡ if_room (has_room (input_of scene.now)) TrapKind.Instances n (Plan.Spawn n receiver callee arguments to) }
 {
     if has_room(scene) {
         Plan::Spawn {
@@ -156,7 +156,7 @@ fn spawned(
 
 // Bytes are printed, if so many still may be.
 fn printed(scene: &Scene, n: u32, bytes: Bytes, to: u32) -> Plan
-    ensures { result ≡ if_room (nat_le ((sight_of scene.now).printed + length bytes) 1048576) TrapKind.Output n (Plan.Print n bytes to) }
+    ensures { result ≡ if_room (nat_le ((input_of scene.now).printed + length bytes) 1048576) TrapKind.Output n (Plan.Print n bytes to) }
 {
     if fits_output(scene.output.len(), bytes.as_slice()) {
         Plan::Print { n, bytes, to }
@@ -181,8 +181,8 @@ pub(crate) fn next_of(node: &Node, value: i32) -> u32
 
 // Whether there may be one more child: few enough instances live, and the parent has spawned few enough.
 fn has_room(scene: &Scene) -> bool
-    requires { id_of (sight_of scene.now) < length (sight_of scene.now).nodes }
-    ensures { result ≡ has_room (sight_of scene.now) }
+    requires { id_of (input_of scene.now) < length (input_of scene.now).nodes }
+    ensures { result ≡ has_room (input_of scene.now) }
 {
     scene.tree.live() < MOST_INSTANCES && scene.tree.children(scene.frame.id()) < u32::MAX
 }
@@ -195,19 +195,19 @@ fn fits_output(printed: usize, bytes: &[u8]) -> bool
 }
 
 // A lock is turned, or that is not allowed, or it has to wait (Cilk 5.4 manual, locks).
-fn turned(scene: &Scene, n: u32, what: LockAction, lock: u32, to: u32) -> Plan
-    ensures { result ≡ turned_to n to lock (turn_among (sight_of scene.now).locks (id_of (sight_of scene.now)) what lock) }
+fn lock_turned(scene: &Scene, n: u32, what: LockAction, lock: u32, to: u32) -> Plan
+    ensures { result ≡ lock_turned_to n to lock (lock_turn_among (input_of scene.now).locks (id_of (input_of scene.now)) what lock) }
 {
     let id = scene.frame.id();
     let now = lock_at(scene.locks.as_slice(), lock);
     match what {
         LockAction::Init => match now {
-            Lock::Unset | Lock::Free => turns(n, lock, Lock::Free, to),
+            Lock::Unset | Lock::Free => turn_lock(n, lock, Lock::Free, to),
             Lock::Held(_) => trap(TrapKind::Lock, n),
         },
         LockAction::Lock => match now {
             Lock::Unset => trap(TrapKind::Lock, n),
-            Lock::Free => turns(n, lock, Lock::Held(id), to),
+            Lock::Free => turn_lock(n, lock, Lock::Held(id), to),
             Lock::Held(by) => {
                 if by == id {
                     trap(TrapKind::Lock, n)
@@ -220,7 +220,7 @@ fn turned(scene: &Scene, n: u32, what: LockAction, lock: u32, to: u32) -> Plan
             Lock::Unset | Lock::Free => trap(TrapKind::Lock, n),
             Lock::Held(by) => {
                 if by == id {
-                    turns(n, lock, Lock::Free, to)
+                    turn_lock(n, lock, Lock::Free, to)
                 } else {
                     trap(TrapKind::Lock, n)
                 }
@@ -229,10 +229,10 @@ fn turned(scene: &Scene, n: u32, what: LockAction, lock: u32, to: u32) -> Plan
     }
 }
 
-fn turns(n: u32, lock: u32, now: Lock, to: u32) -> Plan
-    ensures { result ≡ Plan.Turn n lock now to }
+fn turn_lock(n: u32, lock: u32, now: Lock, to: u32) -> Plan
+    ensures { result ≡ Plan.TurnLock n lock now to }
 {
-    Plan::Turn { n, lock, now, to }
+    Plan::TurnLock { n, lock, now, to }
 }
 
 pub(crate) fn lock_at(locks: &[Lock], lock: u32) -> Lock
@@ -256,14 +256,14 @@ pub(crate) fn leaves(action: &Action) -> bool
 
 // Whether the procedure waits for its children there (Cilk 5.4 manual, `sync`, `return`).
 fn waits_here(scene: &Scene, node: &Node) -> bool
-    ensures { result ≡ waits_here (sight_of scene.now) node.now }
+    ensures { result ≡ waits_here (input_of scene.now) node.now }
 {
     scene.is_outer() && (matches!(node.action, Action::Sync) || leaves(&node.action))
 }
 
 /// Whether a Cilk thread or an inlet ends there.
 pub(crate) fn ends_thread(scene: &Scene, node: &Node) -> bool
-    ensures { result ≡ ends_thread (sight_of scene.now) node.now }
+    ensures { result ≡ ends_thread (input_of scene.now) node.now }
 {
     match &node.action {
         Action::Sync | Action::Spawn(..) => true,

@@ -1,10 +1,10 @@
 //! What comes next for an instance.
 
 ghost use Rattle.std.specs.Prelude.{◌≡◌, ◌<◌, length};
-ghost use Rattle.cilk_machine_plan.specs.Sights.{id_of};
+ghost use Rattle.cilk_machine_plan.specs.StepInput.{id_of};
 ghost use Rattle.cilk_machine_plan.specs.Made.{planned};
-ghost use Rattle.cilk_machine_step.specs.Scenes.{sight_of};
-ghost use Rattle.cilk_machine_step.specs.Looks.{code_in};
+ghost use Rattle.cilk_machine_step.specs.Scenes.{input_of};
+ghost use Rattle.cilk_machine_step.specs.Peeks.{code_in};
 ghost use Rattle.cilk_machine_step.specs.Comings.{plan_for, code_for, ActsHead};
 
 use crate::act::at_boundary;
@@ -28,10 +28,10 @@ pub(crate) enum Coming<'a> {
 /// An aborted instance ends. At a boundary the delivery that waits longest comes before the head (Cilk 5.4 manual, `inlet`, `abort`).
 #[inline(always)]
 pub(crate) fn comes_next<'a>(scene: &Scene<'a>) -> Coming<'a>
-    requires { id_of (sight_of scene.now) < length (sight_of scene.now).nodes }
-    ensures plan { plan_for (sight_of scene.now) result ≡ planned (sight_of scene.now) }
-    ensures code { code_for result ≡ code_in (sight_of scene.now) }
-    ensures head { ActsHead (sight_of scene.now) result }
+    requires { id_of (input_of scene.now) < length (input_of scene.now).nodes }
+    ensures plan { plan_for (input_of scene.now) result ≡ planned (input_of scene.now) }
+    ensures code { code_for result ≡ code_in (input_of scene.now) }
+    ensures head { ActsHead (input_of scene.now) result }
 {
     let id = scene.frame.id();
     if scene.tree.is_aborted(id) {

@@ -2,8 +2,8 @@
 
 ghost use Rattle.std.specs.Prelude.{◌≡◌, ◌<◌, ◌∷◌, length, IfOk};
 ghost use Rattle.cilk_machine_plan.specs.nodes.Table.{node_of};
-ghost use Rattle.cilk_machine_plan.specs.Sights.{id_of};
-ghost use Rattle.cilk_machine_step.specs.Scenes.{sight_of};
+ghost use Rattle.cilk_machine_plan.specs.StepInput.{id_of};
+ghost use Rattle.cilk_machine_step.specs.Scenes.{input_of};
 ghost use Rattle.cilk_machine_plan.specs.Made.{taken_by, inlet_of_taker, inlet_of_action, inlet_of_node};
 
 use crate::scene::Scene;
@@ -13,8 +13,8 @@ use std::alloc::Global;
 
 /// A delivery is taken: its place is read now, or its inlet starts (Cilk 5.4 manual, `spawn`, `inlet`).
 pub(crate) fn taken(alloc: Global, scene: &Scene, delivery: &Delivery) -> Result<Plan, Memory>
-    requires { id_of (sight_of scene.now) < length (sight_of scene.now).nodes }
-    ensures { IfOk result (λ plan. plan ≡ taken_by (sight_of scene.now) delivery.now.child delivery.now.value delivery.now.receiver) }
+    requires { id_of (input_of scene.now) < length (input_of scene.now).nodes }
+    ensures { IfOk result (λ plan. plan ≡ taken_by (input_of scene.now) delivery.now.child delivery.now.value delivery.now.receiver) }
 {
     match &delivery.receiver {
         Receiver::Nothing => Ok(Plan::Wait),

@@ -5,8 +5,8 @@ ghost use Rattle.cilk_eval.specs.Slots.{cells_of};
 ghost use Rattle.cilk_machine_plan.specs.nodes.Table.{node_of};
 ghost use Rattle.cilk_machine_plan.specs.nodes.Bodies.{body_of};
 ghost use Rattle.cilk_machine_plan.specs.frame.Frames.{depth, top_of, left};
-ghost use Rattle.cilk_machine_plan.specs.Sights.{id_of, cells_by};
-ghost use Rattle.cilk_machine_step.specs.Scenes.{sight_of};
+ghost use Rattle.cilk_machine_plan.specs.StepInput.{id_of, cells_by};
+ghost use Rattle.cilk_machine_step.specs.Scenes.{input_of};
 ghost use Rattle.cilk_machine_plan.specs.Made.{given, answered, answered_at, target_of_node, is_function_body};
 
 use crate::scene::Scene;
@@ -15,8 +15,8 @@ use cilk_machine_plan::{Await, Plan, Reached, TrapKind, combined, held};
 
 /// A body is left with a value: that of the procedure, of a C function, of an inlet (C 1990, 6.6.6.4).
 pub(crate) fn given(scene: &Scene, n: u32, node: &Node, value: i32) -> Plan
-    requires { id_of (sight_of scene.now) < length (sight_of scene.now).nodes }
-    ensures { result ≡ given (sight_of scene.now) n node.now value }
+    requires { id_of (input_of scene.now) < length (input_of scene.now).nodes }
+    ensures { result ≡ given (input_of scene.now) n node.now value }
 {
     if scene.is_outer() {
         Plan::Return { n, value }
@@ -39,9 +39,9 @@ pub(crate) fn is_function_body(loaded: &Loaded, body: u32) -> bool
 
 // A C function is left: the place of its call, if it has one, is read now.
 fn answered(scene: &Scene, n: u32, value: i32) -> Plan
-    requires there { id_of (sight_of scene.now) < length (sight_of scene.now).nodes }
-    requires inner { 1 < depth (sight_of scene.now).frame }
-    ensures { result ≡ answered (sight_of scene.now) n value (top_of (sight_of scene.now).frame).awaits }
+    requires there { id_of (input_of scene.now) < length (input_of scene.now).nodes }
+    requires inner { 1 < depth (input_of scene.now).frame }
+    ensures { result ≡ answered (input_of scene.now) n value (top_of (input_of scene.now).frame).awaits }
 {
     match scene.frame.awaits() {
         None => Plan::Leave { n },
@@ -50,9 +50,9 @@ fn answered(scene: &Scene, n: u32, value: i32) -> Plan
 }
 
 fn answered_at(scene: &Scene, n: u32, value: i32, awaits: Await) -> Plan
-    requires there { id_of (sight_of scene.now) < length (sight_of scene.now).nodes }
-    requires inner { 1 < depth (sight_of scene.now).frame }
-    ensures { result ≡ answered_at (sight_of scene.now) n value awaits.index (target_of_node (node_of (sight_of scene.now).program awaits.n)) }
+    requires there { id_of (input_of scene.now) < length (input_of scene.now).nodes }
+    requires inner { 1 < depth (input_of scene.now).frame }
+    ensures { result ≡ answered_at (input_of scene.now) n value awaits.index (target_of_node (node_of (input_of scene.now).program awaits.n)) }
 {
     match scene.loaded.statement(awaits.n) {
         None => Plan::Leave { n },
@@ -82,9 +82,9 @@ fn answered_at(scene: &Scene, n: u32, value: i32, awaits: Await) -> Plan
 
 // The cells that the activation below the top one sees.
 fn lent_to_caller<'a>(scene: &Scene<'a>) -> Slots<'a>
-    requires there { id_of (sight_of scene.now) < length (sight_of scene.now).nodes }
-    requires inner { 1 < depth (sight_of scene.now).frame }
-    ensures { cells_of result ≡ cells_by (sight_of scene.now) (left (sight_of scene.now).frame) }
+    requires there { id_of (input_of scene.now) < length (input_of scene.now).nodes }
+    requires inner { 1 < depth (input_of scene.now).frame }
+    ensures { cells_of result ≡ cells_by (input_of scene.now) (left (input_of scene.now).frame) }
 {
     Slots {
         own: scene.frame.cells(scene.frame.depth() - 2),

@@ -5,10 +5,10 @@ ghost use Rattle.cilk_eval.specs.Slots.{sizes_of, cells_of};
 ghost use Rattle.cilk_machine_plan.specs.effects.Effects.{effect_in};
 ghost use Rattle.cilk_machine_plan.specs.effects.declared.effect.Effect.TheVariants.{Gives};
 ghost use Rattle.cilk_machine_plan.specs.effects.Fits.{FitsAct};
-ghost use Rattle.cilk_machine_plan.specs.Sights.{id_of, cells_in};
+ghost use Rattle.cilk_machine_plan.specs.StepInput.{id_of, cells_in};
 ghost use Rattle.cilk_machine_plan.specs.Made.{acted, ends_thread, given, leaves, taken_by, planned};
 ghost use Rattle.cilk_machine_plan.specs.Words.{plan_of};
-ghost use Rattle.cilk_machine_step.specs.Scenes.{sight_of, HeadFits};
+ghost use Rattle.cilk_machine_step.specs.Scenes.{input_of, HeadFits};
 
 use crate::act::{ends_thread, leaves, next_of};
 use crate::coming::{Coming, comes_next};
@@ -21,9 +21,9 @@ use cilk_machine_plan::{Delivery, Light, Plan, Reached, Receiver, assigned, comb
 /// jump, the end of a C function, or a value that is taken into a place. None tells nothing.
 #[inline(always)]
 pub fn plan_lightly(scene: &Scene) -> Option<Light>
-    requires there { id_of (sight_of scene.now) < length (sight_of scene.now).nodes }
-    requires fits { HeadFits (sight_of scene.now) }
-    ensures { IfSome result (λ light. plan_of light ≡ planned (sight_of scene.now)) }
+    requires there { id_of (input_of scene.now) < length (input_of scene.now).nodes }
+    requires fits { HeadFits (input_of scene.now) }
+    ensures { IfSome result (λ light. plan_of light ≡ planned (input_of scene.now)) }
 {
     match comes_next(scene) {
         Coming::End | Coming::Nothing => None,
@@ -35,9 +35,9 @@ pub fn plan_lightly(scene: &Scene) -> Option<Light>
 // The instance acts the node of its top activation, whose number is n.
 #[inline(always)]
 fn act_lightly(scene: &Scene, n: u32, node: &Node) -> Option<Light>
-    requires there { id_of (sight_of scene.now) < length (sight_of scene.now).nodes }
-    requires fits { FitsAct (sizes_of (cells_in (sight_of scene.now))) node.now.action }
-    ensures { IfSome result (λ light. plan_of light ≡ acted (sight_of scene.now) n node.now) }
+    requires there { id_of (input_of scene.now) < length (input_of scene.now).nodes }
+    requires fits { FitsAct (sizes_of (cells_in (input_of scene.now))) node.now.action }
+    ensures { IfSome result (λ light. plan_of light ≡ acted (input_of scene.now) n node.now) }
 {
     let slots = scene.lent();
     match &node.action {
@@ -70,11 +70,11 @@ fn act_lightly(scene: &Scene, n: u32, node: &Node) -> Option<Light>
 #[tactic(auto, using(crate::proofs::Ways::leaves_by))]
 #[inline(always)]
 fn leave_lightly(scene: &Scene, slots: &Slots, n: u32, node: &Node) -> Option<Light>
-    requires there { id_of (sight_of scene.now) < length (sight_of scene.now).nodes }
-    requires fits { FitsAct (sizes_of (cells_in (sight_of scene.now))) node.now.action }
-    requires slots { cells_of slots.now ≡ cells_in (sight_of scene.now) }
+    requires there { id_of (input_of scene.now) < length (input_of scene.now).nodes }
+    requires fits { FitsAct (sizes_of (cells_in (input_of scene.now))) node.now.action }
+    requires slots { cells_of slots.now ≡ cells_in (input_of scene.now) }
     requires leaves { leaves node.now.action ≡ true }
-    ensures { IfSome result (λ light. plan_of light ≡ acted (sight_of scene.now) n node.now) }
+    ensures { IfSome result (λ light. plan_of light ≡ acted (input_of scene.now) n node.now) }
 {
     if ends(*scene, node) {
         return None;
@@ -90,7 +90,7 @@ fn leave_lightly(scene: &Scene, slots: &Slots, n: u32, node: &Node) -> Option<Li
 // Whether a thread ends there.
 #[inline(never)]
 fn ends(scene: Scene, node: &Node) -> bool
-    ensures { result ≡ ends_thread (sight_of scene.entry) node.now }
+    ensures { result ≡ ends_thread (input_of scene.entry) node.now }
 {
     ends_thread(&scene, node)
 }
@@ -98,8 +98,8 @@ fn ends(scene: Scene, node: &Node) -> bool
 // A body is left with a value.
 #[inline(never)]
 fn left(scene: Scene, n: u32, node: &Node, value: i32) -> Plan
-    requires { id_of (sight_of scene) < length (sight_of scene).nodes }
-    ensures { result ≡ given (sight_of scene.entry) n node.now value }
+    requires { id_of (input_of scene) < length (input_of scene).nodes }
+    ensures { result ≡ given (input_of scene.entry) n node.now value }
 {
     given(&scene, n, node, value)
 }
@@ -131,9 +131,9 @@ fn lightened(plan: Plan) -> Option<Light>
 // The delivery is taken, if a place takes it.
 #[inline(always)]
 fn take_lightly(scene: &Scene, delivery: &Delivery) -> Option<Light>
-    requires { id_of (sight_of scene.now) < length (sight_of scene.now).nodes }
+    requires { id_of (input_of scene.now) < length (input_of scene.now).nodes }
     ensures { IfSome result (λ light.
-        plan_of light ≡ taken_by (sight_of scene.now) delivery.now.child delivery.now.value delivery.now.receiver) }
+        plan_of light ≡ taken_by (input_of scene.now) delivery.now.child delivery.now.value delivery.now.receiver) }
 {
     match &delivery.receiver {
         Receiver::Place {

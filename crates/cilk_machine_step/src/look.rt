@@ -3,11 +3,11 @@
 ghost use Rattle.std.specs.Prelude.{◌≡◌, ◌<◌, length, option_map, false, Some, Ok, Decides, IfOk, IfErr, IfSome, OnOk};
 ghost use Rattle.cilk_eval.specs.Slots.{sizes_of, SlotsLieWithin};
 ghost use Rattle.cilk_eval.specs.Known.{known_of};
-ghost use Rattle.cilk_machine_plan.specs.Sights.{id_of, head_number, cells_in};
+ghost use Rattle.cilk_machine_plan.specs.StepInput.{id_of, head_number, cells_in};
 ghost use Rattle.cilk_machine_plan.specs.Made.{by_effect, planned};
 ghost use Rattle.cilk_machine_plan.specs.Words.{plan_of};
-ghost use Rattle.cilk_machine_step.specs.Scenes.{sight_of, HeadFits, is_wait};
-ghost use Rattle.cilk_machine_step.specs.Looks.{code_of, plain, is_element, code_in, look_in, look_of, effect_by, code_at, noted, IsSeenAs};
+ghost use Rattle.cilk_machine_step.specs.Scenes.{input_of, HeadFits, is_wait};
+ghost use Rattle.cilk_machine_step.specs.Peeks.{code_of, plain, is_element, code_in, peek_in, peek_of, effect_by, code_at, taken_down, IsSeenAs};
 
 use crate::act::next_of;
 use crate::coming::{Coming, comes_next};
@@ -21,9 +21,9 @@ use std::alloc::Global;
 /// What the step of the instance of a frame evaluates, where it assigns to a variable that is no element, or tests, and neither an element nor
 /// `SYNCHED` stands in the expression.
 pub fn look_ahead(alloc: Global, scene: &Scene) -> Result<Option<Peek>, Memory>
-    requires there { id_of (sight_of scene.now) < length (sight_of scene.now).nodes }
-    requires fits { HeadFits (sight_of scene.now) }
-    ensures { IfOk result (λ peek. option_map look_of peek ≡ look_in (sight_of scene.now)) }
+    requires there { id_of (input_of scene.now) < length (input_of scene.now).nodes }
+    requires fits { HeadFits (input_of scene.now) }
+    ensures { IfOk result (λ peek. option_map peek_of peek ≡ peek_in (input_of scene.now)) }
 {
     match code_ahead(scene) {
         None => Ok(None),
@@ -43,9 +43,9 @@ pub fn look_ahead(alloc: Global, scene: &Scene) -> Result<Option<Peek>, Memory>
 
 /// The number of the action of which one sees something who looks ahead.
 pub fn number_ahead(scene: &Scene) -> Option<u32>
-    requires there { id_of (sight_of scene.now) < length (sight_of scene.now).nodes }
-    requires fits { HeadFits (sight_of scene.now) }
-    ensures { result ≡ option_map (λ look. look.n) (look_in (sight_of scene.now)) }
+    requires there { id_of (input_of scene.now) < length (input_of scene.now).nodes }
+    requires fits { HeadFits (input_of scene.now) }
+    ensures { result ≡ option_map (λ peek. peek.n) (peek_in (input_of scene.now)) }
 {
     match code_ahead(scene) {
         None => None,
@@ -63,18 +63,18 @@ pub fn code_numbered(loaded: &Loaded, n: u32) -> Option<&Code>
 
 /// Takes what the variables of an expression hold for the instance.
 pub fn take_down(scene: &Scene, listed: &Listed, values: &mut Vec<Known>) -> Result<(), Memory>
-    requires { id_of (sight_of scene.now) < length (sight_of scene.now).nodes }
-    ensures { OnOk result (values.new.items ≡ known_of (cells_in (sight_of scene.now)) listed.now) }
+    requires { id_of (input_of scene.now) < length (input_of scene.now).nodes }
+    ensures { OnOk result (values.new.items ≡ known_of (cells_in (input_of scene.now)) listed.now) }
 {
     listed.hold(&scene.lent(), values)
 }
 
 /// Whether one sees this who looks now: that the action has this number and evaluates this expression, of whose variables this is known.
 pub fn is_still_seen(scene: &Scene, n: u32, listed: &Listed, values: &[Known]) -> bool
-    requires there { id_of (sight_of scene.now) < length (sight_of scene.now).nodes }
-    requires fits { HeadFits (sight_of scene.now) }
-    requires code { code_at (sight_of scene.now).program n ≡ Some listed.now }
-    ensures { Decides result (look_in (sight_of scene.now) ≡ Some (noted (sight_of scene.now) n listed.now values.now)) }
+    requires there { id_of (input_of scene.now) < length (input_of scene.now).nodes }
+    requires fits { HeadFits (input_of scene.now) }
+    requires code { code_at (input_of scene.now).program n ≡ Some listed.now }
+    ensures { Decides result (peek_in (input_of scene.now) ≡ Some (taken_down (input_of scene.now) n listed.now values.now)) }
 {
     match number_ahead(scene) {
         None => false,
@@ -84,10 +84,10 @@ pub fn is_still_seen(scene: &Scene, n: u32, listed: &Listed, values: &[Known]) -
 
 /// The plan of the step of which one sees that, whose expression has this value: a light one, or else another.
 pub fn plan_by_value(scene: &Scene, n: u32, value: Result<i32, Trap>) -> Result<Light, Plan>
-    requires there { id_of (sight_of scene.now) < length (sight_of scene.now).nodes }
-    requires seen { IsSeenAs (sight_of scene.now) n value }
-    ensures light { IfOk result (λ light. plan_of light ≡ planned (sight_of scene.now)) }
-    ensures other { IfErr result (λ plan. plan ≡ planned (sight_of scene.now)) }
+    requires there { id_of (input_of scene.now) < length (input_of scene.now).nodes }
+    requires seen { IsSeenAs (input_of scene.now) n value }
+    ensures light { IfOk result (λ light. plan_of light ≡ planned (input_of scene.now)) }
+    ensures other { IfErr result (λ plan. plan ≡ planned (input_of scene.now)) }
     ensures goes { IfErr result (λ plan. is_wait plan ≡ false) }
 {
     match scene.loaded.statement(n) {
@@ -98,9 +98,9 @@ pub fn plan_by_value(scene: &Scene, n: u32, value: Result<i32, Trap>) -> Result<
 
 /// Whether one sees the same who looks now.
 pub fn is_seen(scene: &Scene, peek: &Peek) -> bool
-    requires there { id_of (sight_of scene.now) < length (sight_of scene.now).nodes }
-    requires fits { HeadFits (sight_of scene.now) }
-    ensures { Decides result (look_in (sight_of scene.now) ≡ Some (look_of peek.now)) }
+    requires there { id_of (input_of scene.now) < length (input_of scene.now).nodes }
+    requires fits { HeadFits (input_of scene.now) }
+    ensures { Decides result (peek_in (input_of scene.now) ≡ Some (peek_of peek.now)) }
 {
     match code_ahead(scene) {
         None => false,
@@ -114,13 +114,13 @@ pub fn is_seen(scene: &Scene, peek: &Peek) -> bool
 }
 
 // The plan by the value of the expression that the action evaluates.
-#[tactic(auto, using(crate::proofs::Looks::no_effect))]
+#[tactic(auto, using(crate::proofs::Peeks::no_effect))]
 fn by_value(scene: &Scene, n: u32, node: &Node, value: Result<i32, Trap>) -> Result<Light, Plan>
-    requires { id_of (sight_of scene.now) < length (sight_of scene.now).nodes }
+    requires { id_of (input_of scene.now) < length (input_of scene.now).nodes }
     ensures light { IfOk result (λ light. plan_of light
-        ≡ by_effect (sight_of scene.now) n node.now (effect_by (cells_in (sight_of scene.now)) node.now.action value)) }
+        ≡ by_effect (input_of scene.now) n node.now (effect_by (cells_in (input_of scene.now)) node.now.action value)) }
     ensures other { IfErr result (λ plan. plan
-        ≡ by_effect (sight_of scene.now) n node.now (effect_by (cells_in (sight_of scene.now)) node.now.action value)) }
+        ≡ by_effect (input_of scene.now) n node.now (effect_by (cells_in (input_of scene.now)) node.now.action value)) }
     ensures goes { IfErr result (λ plan. is_wait plan ≡ false) }
 {
     match value {
@@ -156,17 +156,17 @@ fn trapped(trap: Trap, n: u32) -> Plan
 }
 
 fn head_number(scene: &Scene) -> u32
-    ensures { result ≡ head_number (sight_of scene.now) }
+    ensures { result ≡ head_number (input_of scene.now) }
 {
     scene.frame.node(scene.frame.depth() - 1)
 }
 
 // The expression that the step evaluates, where it is one whose value can be told beforehand.
 fn code_ahead<'a>(scene: &Scene<'a>) -> Option<&'a Code>
-    requires there { id_of (sight_of scene.now) < length (sight_of scene.now).nodes }
-    requires fits { HeadFits (sight_of scene.now) }
-    ensures value { option_map (λ code. code.now) result ≡ code_in (sight_of scene.now) }
-    ensures fits { IfSome result (λ code. SlotsLieWithin (sizes_of (cells_in (sight_of scene.now))) code.now) }
+    requires there { id_of (input_of scene.now) < length (input_of scene.now).nodes }
+    requires fits { HeadFits (input_of scene.now) }
+    ensures value { option_map (λ code. code.now) result ≡ code_in (input_of scene.now) }
+    ensures fits { IfSome result (λ code. SlotsLieWithin (sizes_of (cells_in (input_of scene.now))) code.now) }
 {
     match comes_next(scene) {
         Coming::End | Coming::Nothing | Coming::Delivery(_) => None,

@@ -1,9 +1,9 @@
 //! The step that an instance takes.
 
 ghost use Rattle.std.specs.Prelude.{◌≡◌, ◌<◌, length, IfOk};
-ghost use Rattle.cilk_machine_plan.specs.Sights.{id_of};
+ghost use Rattle.cilk_machine_plan.specs.StepInput.{id_of};
 ghost use Rattle.cilk_machine_plan.specs.Made.{aborted, planned};
-ghost use Rattle.cilk_machine_step.specs.Scenes.{sight_of, HeadFits};
+ghost use Rattle.cilk_machine_step.specs.Scenes.{input_of, HeadFits};
 
 use crate::act::act;
 use crate::coming::{Coming, comes_next};
@@ -15,9 +15,9 @@ use std::alloc::Global;
 
 /// The step of the instance of a frame.
 pub fn plan_step(alloc: Global, scene: &Scene) -> Result<Plan, Memory>
-    requires there { id_of (sight_of scene.now) < length (sight_of scene.now).nodes }
-    requires fits { HeadFits (sight_of scene.now) }
-    ensures { IfOk result (λ plan. plan ≡ planned (sight_of scene.now)) }
+    requires there { id_of (input_of scene.now) < length (input_of scene.now).nodes }
+    requires fits { HeadFits (input_of scene.now) }
+    ensures { IfOk result (λ plan. plan ≡ planned (input_of scene.now)) }
 {
     match comes_next(scene) {
         Coming::End => Ok(ended(scene)),
@@ -29,8 +29,8 @@ pub fn plan_step(alloc: Global, scene: &Scene) -> Result<Plan, Memory>
 
 // An aborted instance waits for its children, and then ends.
 fn ended(scene: &Scene) -> Plan
-    requires { id_of (sight_of scene.now) < length (sight_of scene.now).nodes }
-    ensures { result ≡ aborted (sight_of scene.now) }
+    requires { id_of (input_of scene.now) < length (input_of scene.now).nodes }
+    ensures { result ≡ aborted (input_of scene.now) }
 {
     if scene.tree.has_live_child(scene.frame.id()) {
         Plan::Park

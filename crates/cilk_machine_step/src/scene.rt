@@ -4,8 +4,8 @@ ghost use Rattle.std.specs.Prelude.{◌≡◌, ◌<◌, length};
 ghost use Rattle.cilk_eval.specs.Slots as slots;
 ghost use Rattle.cilk_machine_plan.specs.frame.Frames.{depth};
 ghost use Rattle.cilk_machine_plan.specs.agree.Locks.{is_held_by};
-ghost use Rattle.cilk_machine_plan.specs.Sights.{id_of, cells_in, holds_lock, is_outer};
-ghost use Rattle.cilk_machine_step.specs.Scenes.{sight_of};
+ghost use Rattle.cilk_machine_plan.specs.StepInput.{id_of, cells_in, holds_lock, is_outer};
+ghost use Rattle.cilk_machine_step.specs.Scenes.{input_of};
 
 use cilk_load::{Loaded, Slots};
 use cilk_machine_plan::{Frame, Id, Lock, Tree};
@@ -27,8 +27,8 @@ impl<'a> Scene<'a> {
     /// The cells that the top activation sees.
     #[inline(always)]
     pub fn lent(&self) -> Slots<'a>
-        requires { id_of (sight_of self.now) < length (sight_of self.now).nodes }
-        ensures { slots.cells_of result ≡ cells_in (sight_of self.now) }
+        requires { id_of (input_of self.now) < length (input_of self.now).nodes }
+        ensures { slots.cells_of result ≡ cells_in (input_of self.now) }
     {
         Slots {
             own: self.frame.cells(self.frame.depth() - 1),
@@ -40,7 +40,7 @@ impl<'a> Scene<'a> {
 
     /// Whether the instance holds a lock.
     pub fn holds_lock(&self) -> bool
-        ensures { result ≡ holds_lock (sight_of self.now) }
+        ensures { result ≡ holds_lock (input_of self.now) }
     {
         let id = self.frame.id();
         self.locks.iter().any(|lock| is_held_by(id, *lock))
@@ -48,8 +48,8 @@ impl<'a> Scene<'a> {
 
     /// Whether the procedure's own activation is on top.
     pub fn is_outer(&self) -> bool
-        ensures value { result ≡ is_outer (sight_of self.now) }
-        ensures some { 0 < depth (sight_of self.now).frame }
+        ensures value { result ≡ is_outer (input_of self.now) }
+        ensures some { 0 < depth (input_of self.now).frame }
     {
         self.frame.depth() == 1
     }

@@ -1,9 +1,9 @@
 //! Whether an instance has to wait for another one.
 
 ghost use Rattle.std.specs.Prelude.{◌≡◌, ◌<◌, length};
-ghost use Rattle.cilk_machine_plan.specs.Sights.{id_of};
+ghost use Rattle.cilk_machine_plan.specs.StepInput.{id_of};
 ghost use Rattle.cilk_machine_plan.specs.Made.{planned};
-ghost use Rattle.cilk_machine_step.specs.Scenes.{sight_of, is_wait, takes_nothing, wants_held_lock};
+ghost use Rattle.cilk_machine_step.specs.Scenes.{input_of, is_wait, takes_nothing, wants_held_lock};
 
 use crate::act::lock_at;
 use crate::coming::{Coming, comes_next};
@@ -14,8 +14,8 @@ use cilk_machine_plan::{Lock, Receiver};
 /// Whether the instance of a frame cannot step now, told without memory: another one holds the lock that it wants
 /// (Cilk 5.4 manual, locks).
 pub fn has_to_wait(scene: &Scene) -> bool
-    requires { id_of (sight_of scene.now) < length (sight_of scene.now).nodes }
-    ensures { result ≡ is_wait (planned (sight_of scene.now)) }
+    requires { id_of (input_of scene.now) < length (input_of scene.now).nodes }
+    ensures { result ≡ is_wait (planned (input_of scene.now)) }
 {
     match comes_next(scene) {
         Coming::End => false,
@@ -37,7 +37,7 @@ fn takes_nothing(receiver: &Receiver) -> bool
 
 // Whether an action is to take a lock that another instance holds.
 fn wants_held_lock(scene: &Scene, node: &Node) -> bool
-    ensures { result ≡ wants_held_lock (sight_of scene.now) node.now.action }
+    ensures { result ≡ wants_held_lock (input_of scene.now) node.now.action }
 {
     match &node.action {
         Action::Locking(LockAction::Lock, lock) => match lock_at(scene.locks.as_slice(), *lock) {

@@ -152,24 +152,24 @@ abbrev pub after_print : State → Path → Instance → List ℕ → State
 after_print s p i bytes = record (with_instance s p (gone_on (pos 1) i)) { output = s.output ++ bytes }
 
 -- what a call of a lock makes of it: it is turned, or that is not allowed, or it has to wait (Cilk 5.4 manual, locks)
-pub data Turn : Type 0 where
-  turned : (now : Lock) → Turn
-  refused : Turn
-  blocked : Turn
+pub data LockTurn : Type 0 where
+  lock_turned : (now : Lock) → LockTurn
+  refused : LockTurn
+  blocked : LockTurn
 
-abbrev pub turn_by : Path → LockAction → Lock → Turn
-turn_by p Init unset = turned free
-turn_by p Init free = turned free
-turn_by p Init (held q) = refused
-turn_by p action.Lock unset = refused
-turn_by p action.Lock free = turned (held p)
-turn_by p action.Lock (held q) = if same_path q p then refused else blocked
-turn_by p Unlock unset = refused
-turn_by p Unlock free = refused
-turn_by p Unlock (held q) = if same_path q p then turned free else refused
+abbrev pub lock_turn_by : Path → LockAction → Lock → LockTurn
+lock_turn_by p Init unset = lock_turned free
+lock_turn_by p Init free = lock_turned free
+lock_turn_by p Init (held q) = refused
+lock_turn_by p action.Lock unset = refused
+lock_turn_by p action.Lock free = lock_turned (held p)
+lock_turn_by p action.Lock (held q) = if same_path q p then refused else blocked
+lock_turn_by p Unlock unset = refused
+lock_turn_by p Unlock free = refused
+lock_turn_by p Unlock (held q) = if same_path q p then lock_turned free else refused
 
-abbrev pub turn_of : State → Path → LockAction → ℕ → Turn
-turn_of s p what k = turn_by p what (lock_at s k)
+abbrev pub lock_turn_of : State → Path → LockAction → ℕ → LockTurn
+lock_turn_of s p what k = lock_turn_by p what (lock_at s k)
 
 abbrev pub after_lock : State → Path → Instance → ℕ → Lock → State
 after_lock s p i k now = record (with_instance s p (gone_on (pos 1) i)) { locks = slice_set s.locks k now }

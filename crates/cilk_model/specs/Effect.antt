@@ -23,7 +23,7 @@ pub data Effect : Type 0 where
   -- a child is to start
   starts : (receiver : Option Receiver) (callee : ℕ) (arguments : List ℤ) → Effect
   writes_out : (bytes : List ℕ) → Effect
-  turns : (what : LockAction) (lock : ℕ) → Effect
+  turns_lock : (what : LockAction) (lock : ℕ) → Effect
   marks : Effect
 
 -- the place that takes a child's value, what takes it once its place is reached, and what an inlet is given (Cilk 5.4 manual, `spawn`, `inlet`)
@@ -45,7 +45,7 @@ effect_of env n (call what callee es) =
 effect_of env n (spawn taker callee es) = start_of env n taker callee es
 -- C 1990, 7.9.6.3
 effect_of env n (print format es) = values_of env es >>= λ zs. Ok (writes_out (printed format zs))
-effect_of env n (locking what lock) = Ok (turns what lock)
+effect_of env n (locking what lock) = Ok (turns_lock what lock)
 effect_of env n null = Ok (answers (pos 1))
 effect_of env n break_off = Ok (answers (pos 1))
 effect_of env n go_round = Ok (answers (pos 1))

@@ -10,7 +10,7 @@ pub mod Rule
 pub mod Effect
 pub mod Change
 pub mod Pick
-pub mod Places
+pub mod Hands
 pub mod Scheduler
 pub mod Choice
 pub mod Run

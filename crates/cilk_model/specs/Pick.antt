@@ -5,12 +5,12 @@ use Rattle.cilk_model_labels.specs.declared.trap.Trap.{Trap}
 use Rattle.cilk_model_labels.specs.Labelled.{Labelled, Numbered}
 use Rattle.cilk_model_labels.specs.Items.{head_of}
 use Rattle.cilk_model.specs.Values.{Cell, Reached, environment, read_at, combined}
-use Rattle.cilk_model.specs.Effect.{Effect, writes, answers, enters, gives, starts, writes_out, turns, marks, effect_of}
+use Rattle.cilk_model.specs.Effect.{Effect, writes, answers, enters, gives, starts, writes_out, turns_lock, marks, effect_of}
 use Rattle.cilk_model.specs.Path.{Path, child_path}
 use Rattle.cilk_model.specs.Instance.{Receiver, place, through, Delivery, Instance}
 use Rattle.cilk_model.specs.State.{TrapKind, of_value, lock, held_lock, depth, instances, output, State, instance_at, has_live_child, is_synched}
 use Rattle.cilk_model.specs.State.{store_of, is_empty}
-use Rattle.cilk_model.specs.Change.{Turn, turned, refused, blocked, turn_of, at_boundary, ends_thread, waits_here, holds_lock, leaves_function}
+use Rattle.cilk_model.specs.Change.{LockTurn, lock_turned, refused, blocked, lock_turn_of, at_boundary, ends_thread, waits_here, holds_lock, leaves_function}
 use Rattle.cilk_model.specs.Change.{stopped, after_write, after_going, after_call, after_leaving, after_answer, after_start, after_print, after_lock}
 use Rattle.cilk_model.specs.Change.{after_marks, after_return, after_place, after_inlet, after_abort, resumed}
 use Rattle.cilk_model.specs.Event as event
@@ -53,10 +53,10 @@ step_by_leaving program s p i n z =
     else (if leaves_function program i then step_by_answer s p i n i.top.awaits z
     else goes_on (after_leaving s p i) (event.acted p n))
 
-abbrev pub step_by_turn : State → Path → Instance → ℕ → ℕ → Turn → Step
-step_by_turn s p i n k blocked = waits
-step_by_turn s p i n k refused = traps s p n lock
-step_by_turn s p i n k (turned now) = goes_on (after_lock s p i k now) (event.acted p n)
+abbrev pub step_by_lock_turn : State → Path → Instance → ℕ → ℕ → LockTurn → Step
+step_by_lock_turn s p i n k blocked = waits
+step_by_lock_turn s p i n k refused = traps s p n lock
+step_by_lock_turn s p i n k (lock_turned now) = goes_on (after_lock s p i k now) (event.acted p n)
 
 -- action n came to this; 256 activations, 65,536 live instances, 4,294,967,295 children of one and 1,048,576 bytes of output are the most
 abbrev pub step_by_effect : Labelled → State → Path → Instance → ℕ → Result Effect Trap → Step
@@ -71,7 +71,7 @@ step_by_effect program s p i n (Ok (starts receiver callee zs)) =
     (spawns (child_path p (i.children + 1)) (after_start program s p i receiver callee zs) (event.spawned (child_path p (i.children + 1)) n))
 step_by_effect program s p i n (Ok (writes_out bytes)) =
     if_room s p n output (nat_le (length s.output + length bytes) 1048576) (goes_on (after_print s p i bytes) (event.acted p n))
-step_by_effect program s p i n (Ok (turns what k)) = step_by_turn s p i n k (turn_of s p what k)
+step_by_effect program s p i n (Ok (turns_lock what k)) = step_by_lock_turn s p i n k (lock_turn_of s p what k)
 step_by_effect program s p i n (Ok marks) = goes_on (after_marks s p i) (event.acted p n)
 
 -- a lock may not be held where a thread ends; the procedure may have to wait for its children (Cilk 5.4 manual, `sync`, locks)

@@ -124,16 +124,16 @@ module _ (program : Labelled) (s : State) (p : Path) (i : Instance) (t : State) 
     pub still : t ≡ record s { instances = t.instances }
 
   -- what a call of a lock makes of it (Cilk 5.4 manual, locks)
-  pub data Turns : LockAction → state.Lock → state.Lock → Type 0 where
-    inits_unset : Turns Init unset free
-    inits_free : Turns Init free free
-    takes_free : Turns Lock free (held p)
-    lets_go : Turns Unlock (held p) free
+  pub data TurnsLock : LockAction → state.Lock → state.Lock → Type 0 where
+    inits_unset : TurnsLock Init unset free
+    inits_free : TurnsLock Init free free
+    takes_free : TurnsLock Lock free (held p)
+    lets_go : TurnsLock Unlock (held p) free
 
   pub record Locks (what : LockAction) (k : ℕ) : Type 0 where
     pub before : state.Lock
     pub after : state.Lock
-    pub turns : Turns what before after
+    pub turns_lock : TurnsLock what before after
     pub was : lock_at s k ≡ before
     pub is : slice_get t.locks k ≡ option_map (λ _. after) (slice_get s.locks k)
     pub others : (j : ℕ) → j ≢ k → slice_get t.locks j ≡ slice_get s.locks j

@@ -1,12 +1,12 @@
 -- Where the instances are: each worker has at most one in its hand, and a deque of others (Cilk 5.4 manual, work stealing).
 use Rattle.std.specs.Prelude.{ℕ, Bool, false, not, ◌&&◌, ◌||◌, if◌then◌else◌, List, [], Option, Some, None, replicate}
-use Rattle.cilk_model.specs.Places.{WorkerOf, popped_by, stolen_by, pushed_by}
+use Rattle.cilk_model.specs.Hands.{WorkerOf, popped_by, stolen_by, pushed_by}
 use Rattle.cilk_model.specs.Path.{Path, same_path, parent_of}
 use Rattle.cilk_model.specs.Instance.{Instance}
 use Rattle.cilk_model.specs.State.{Instances, instance_at, has_live_child}
 use Rattle.cilk_model.specs.State.{is_empty}
 use Rattle.cilk_model.specs.Pick.{Step, waits, parks, goes_on, ends, spawns}
-pub use Rattle.cilk_model.specs.Places.{no_place, worker_at, hand_of, deque_of, with_hand, with_deque, top_of, below_top, bottom_of, above_bottom}
+pub use Rattle.cilk_model.specs.Hands.{no_place, worker_at, hand_of, deque_of, with_hand, with_deque, top_of, below_top, bottom_of, above_bottom}
 
 -- what one worker has of the instances
 abbrev pub Worker : Type 0

@@ -7,7 +7,7 @@ use Rattle.cilk_model.specs.Run.{Position}
 use Rattle.cilk_model.specs.What.{What, tree, frame, globals, deques, output, where_it_stands, list}
 use Rattle.cilk_model.specs.Frames.{frame_text}
 use Rattle.cilk_model.specs.Globals.{globals_text}
-use Rattle.cilk_model.specs.Workers.{deques_text, turns_text, position_text}
+use Rattle.cilk_model.specs.Workers.{deques_text, where_text, position_text}
 use Rattle.cilk_model.specs.ViewTrees.{tree_text}
 use Rattle.cilk_model.specs.Listing.{list_text}
 
@@ -22,7 +22,7 @@ shown p at (frame path) = option_map (frame_text (label p)) (instance_at at.stan
 shown p at globals = Some (globals_text p.items at.standing.state.globals at.standing.state.locks)
 shown p at deques = Some (deques_text 1 at.standing.scheduler.places)
 shown p at output = Some (output_text at.standing.state.output)
-shown p at where_it_stands = Some (turns_text (label p) at.standing.state.instances 1 at.standing.scheduler.places)
+shown p at where_it_stands = Some (where_text (label p) at.standing.state.instances 1 at.standing.scheduler.places)
 shown p at list = Some (list_text p)
 
 -- the line on the position among m choices

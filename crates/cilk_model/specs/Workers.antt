@@ -30,16 +30,16 @@ abbrev pub line_of_instance : Labelled → Option Instance → ℕ
 line_of_instance program None = 0
 line_of_instance program (Some i) = line_at program i.top.items
 
-abbrev pub turn_text : Labelled → Instances → Option Path → List ℕ
-turn_text program instances None = codes " idle"
-turn_text program instances (Some p) =
+abbrev pub where_path_text : Labelled → Instances → Option Path → List ℕ
+where_path_text program instances None = codes " idle"
+where_path_text program instances (Some p) =
     codes " at " ++ (path_text p ++ (codes " line " ++ decimal (line_of_instance program (instance_at instances p))))
 
 -- a line for each worker, the first of whom is w: the instance in the hand, and its line
-abbrev pub turns_text : Labelled → Instances → ℕ → List Worker → List ℕ
-turns_text program instances w [] = []
-turns_text program instances w (at ∷ places) =
-    codes "worker " ++ (decimal w ++ (turn_text program instances at.hand ++ (codes "\n" ++ turns_text program instances (suc w) places)))
+abbrev pub where_text : Labelled → Instances → ℕ → List Worker → List ℕ
+where_text program instances w [] = []
+where_text program instances w (at ∷ places) =
+    codes "worker " ++ (decimal w ++ (where_path_text program instances at.hand ++ (codes "\n" ++ where_text program instances (suc w) places)))
 
 -- how the program stands
 abbrev pub outcome_text : Labelled → Outcome → List ℕ

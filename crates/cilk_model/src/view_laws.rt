@@ -43,7 +43,7 @@ pub fn rows_of_places_come_out()
         ≡ Some (codes "/ main deque 2 line 18\n/1 f deque 1 line 7\n/1/1 g hand 1 line 2\n/2 q hand 2 line 10\n") }
     ensures deep { view_after marking 2 (s 1 ∷ s 1 ∷ []) 2 what.deques ≡ Some (codes "1: hand /1/1 deque / /1\n2: hand - deque\n") }
     ensures stolen { view_after marking 2 (s 1 ∷ s 1 ∷ t 2 1 ∷ []) 3 what.deques ≡ Some (codes "1: hand /1/1 deque /1\n2: hand / deque\n") }
-    ensures turns { view_after marking 2 (s 1 ∷ s 1 ∷ []) 2 what.where_it_stands
+    ensures where_lines { view_after marking 2 (s 1 ∷ s 1 ∷ []) 2 what.where_it_stands
         ≡ Some (codes "position 2 of 2: running\nworker 1 at /1/1 line 2\nworker 2 idle\n") }
 {}
 

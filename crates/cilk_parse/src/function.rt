@@ -7,7 +7,7 @@ ghost use Rattle.cilk_parse_grammar.specs.Spelling.{nesting_limit};
 ghost use Rattle.cilk_parse_statements.specs.Limits.{read_in};
 ghost use Rattle.cilk_parse.specs.Views.{tail_of};
 
-use crate::kinds::{all_named, kinds, named_of};
+use crate::parameter_list::{all_named, named_of, parameter_list};
 use crate::tail::Tail;
 use cilk_parse_grammar::{Cursor, Keyword, Mark, Parameters};
 use cilk_parse_rules::ReadError;
@@ -21,14 +21,14 @@ pub const NESTING_LIMIT: u32 = 201;
 fn int_tail(cursor: &mut Cursor) -> Result<Tail, ReadError>
     ensures { ReadsAs (λ t. (tail_of t, cursor.new.pieces)) result (read_in nesting_limit int_tail cursor.old.pieces) }
 {
-    let kinds = kinds(cursor)?;
-    if all_named(&kinds) && !cursor.is_mark(Mark::Semicolon) {
+    let parameters = parameter_list(cursor)?;
+    if all_named(&parameters) && !cursor.is_mark(Mark::Semicolon) {
         let body = block(cursor, NESTING_LIMIT)?;
-        let names = named_of(cursor.alloc(), kinds)?;
+        let names = named_of(cursor.alloc(), parameters)?;
         return Ok(Tail::Defines(Parameters::Ints(names), body));
     }
     cursor.mark(Mark::Semicolon)?;
-    Tail::declaring(kinds.len())
+    Tail::declaring(parameters.len())
 }
 
 /// Behind the parameters of a function that has none: its body, if it is defined.

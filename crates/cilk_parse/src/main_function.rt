@@ -8,8 +8,8 @@ ghost use Rattle.cilk_parse_statements.specs.Limits.{read_in};
 ghost use Rattle.cilk_parse.specs.Views.{tail_of, main_tail_of};
 
 use crate::function::{NESTING_LIMIT, empty_tail};
-use crate::kinds::{all_named, kinds};
 use crate::main_tail::MainTail;
+use crate::parameter_list::{all_named, parameter_list};
 use crate::tail::Tail;
 use cilk_parse_grammar::{Cursor, Keyword, Mark, NameClass, Word};
 use cilk_parse_rules::ReadError;
@@ -51,13 +51,13 @@ fn command_line(cursor: &mut Cursor) -> Result<MainTail, ReadError>
 fn others(cursor: &mut Cursor) -> Result<MainTail, ReadError>
     ensures { ReadsAs (λ t. (main_tail_of t, cursor.new.pieces)) result (read_in nesting_limit main_others cursor.old.pieces) }
 {
-    let kinds = kinds(cursor)?;
-    if all_named(&kinds) && !cursor.is_mark(Mark::Semicolon) {
+    let parameters = parameter_list(cursor)?;
+    if all_named(&parameters) && !cursor.is_mark(Mark::Semicolon) {
         let body = block(cursor, NESTING_LIMIT)?;
-        return Ok(MainTail::Defines(kinds, body));
+        return Ok(MainTail::Defines(parameters, body));
     }
     cursor.mark(Mark::Semicolon)?;
-    Ok(MainTail::Declares(kinds))
+    Ok(MainTail::Declares(parameters))
 }
 
 // Behind the only parameter: the body, if there is one.
@@ -104,9 +104,9 @@ fn nameless(cursor: &mut Cursor) -> Result<Tail, ReadError>
     }
     cursor.mark(Mark::Comma)?;
     cursor.keyword(Keyword::Int)?;
-    let kinds = kinds(cursor)?;
+    let parameters = parameter_list(cursor)?;
     cursor.mark(Mark::Semicolon)?;
-    Tail::declaring(kinds.len() + 1)
+    Tail::declaring(parameters.len() + 1)
 }
 
 // Behind the first `int`.

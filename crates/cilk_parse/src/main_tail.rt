@@ -3,7 +3,7 @@
 ghost use Rattle.std.specs.Prelude.{◌≡◌, MatchResult};
 ghost use Rattle.cilk_parse.specs.Views.{tail_of, main_tail_of};
 
-use crate::kinds::named_of;
+use crate::parameter_list::named_of;
 use crate::tail::Tail;
 use cilk_parse_grammar::{Block, Parameters, Word};
 use cilk_parse_rules::ReadError;

@@ -36,47 +36,49 @@ same_function c r t u x y h g = bare_function c r t x ∙ (λ i. function c r (h
 
 -- ---- parameters, with names or without
 
-bare_kind : Option Word → Option Word
-bare_kind None = None
-bare_kind (Some x) = Some (bare_word x)
+bare_parameter : Option Word → Option Word
+bare_parameter None = None
+bare_parameter (Some x) = Some (bare_word x)
 
-abbrev SameKinds : List (Option Word) → List (Option Word) → Type 0
-SameKinds xs ys = map bare_kind xs ≡ map bare_kind ys
+abbrev SameParameterList : List (Option Word) → List (Option Word) → Type 0
+SameParameterList xs ys = map bare_parameter xs ≡ map bare_parameter ys
 
-same_length : (xs ys : List (Option Word)) → SameKinds xs ys → length xs ≡ length ys
-same_length xs ys h = sym (length-map xs bare_kind) ∙ ap length h ∙ length-map ys bare_kind
+same_length : (xs ys : List (Option Word)) → SameParameterList xs ys → length xs ≡ length ys
+same_length xs ys h = sym (length-map xs bare_parameter) ∙ ap length h ∙ length-map ys bare_parameter
 
-bare_all_named : (xs : List (Option Word)) → all_named (map bare_kind xs) ≡ all_named xs
-unfolding bare_kind
+bare_all_named : (xs : List (Option Word)) → all_named (map bare_parameter xs) ≡ all_named xs
+unfolding bare_parameter
 bare_all_named [] = refl
 bare_all_named (None ∷ xs) = refl
 bare_all_named (Some x ∷ xs) = bare_all_named xs
 
-bare_named_of : (xs : List (Option Word)) → map bare_word (named_of xs) ≡ named_of (map bare_kind xs)
-unfolding bare_kind
+bare_named_of : (xs : List (Option Word)) → map bare_word (named_of xs) ≡ named_of (map bare_parameter xs)
+unfolding bare_parameter
 bare_named_of [] = refl
 bare_named_of (None ∷ xs) = bare_named_of xs
 bare_named_of (Some x ∷ xs) = ap (λ l. bare_word x ∷ l) (bare_named_of xs)
 
-same_named : (xs ys : List (Option Word)) → SameKinds xs ys → map bare_word (named_of xs) ≡ map bare_word (named_of ys)
+same_named : (xs ys : List (Option Word)) → SameParameterList xs ys → map bare_word (named_of xs) ≡ map bare_word (named_of ys)
 same_named xs ys h = bare_named_of xs ∙ ap named_of h ∙ sym (bare_named_of ys)
 
-option_name_kept : Kept (optional grammar.name) (λ x y. bare_kind x ≡ bare_kind y)
-unfolding bare_kind
+option_name_kept : Kept (optional grammar.name) (λ x y. bare_parameter x ≡ bare_parameter y)
+unfolding bare_parameter
 option_name_kept = k_either (k_then k_name (λ x y h. k_done (λ i. Some (h i)))) (k_done refl)
 
-kinds_kept : Kept grammar.kinds SameKinds
-kinds_kept = k_then option_name_kept (λ x y h. k_then (k_behind_commas bare_kind (k_skip option_name_kept)) (λ xs ys g. k_skip (k_done (λ i. h i ∷ g i))))
+parameter_list_kept : Kept grammar.parameter_list SameParameterList
+parameter_list_kept =
+    k_then option_name_kept
+    (λ x y h. k_then (k_behind_commas bare_parameter (k_skip option_name_kept)) (λ xs ys g. k_skip (k_done (λ i. h i ∷ g i))))
 
-pub named_steady : Kept grammar.kinds (λ xs ys. all_named xs ≡ all_named ys)
-named_steady = k_use kinds_kept (λ xs ys h. sym (bare_all_named xs) ∙ ap all_named h ∙ bare_all_named ys)
+pub named_steady : Kept grammar.parameter_list (λ xs ys. all_named xs ≡ all_named ys)
+named_steady = k_use parameter_list_kept (λ xs ys h. sym (bare_all_named xs) ∙ ap all_named h ∙ bare_all_named ys)
 
 -- ---- functions
 
 int_tail_kept : Kept grammar.int_tail SameTail
 unfolding bare_tail
 int_tail_kept =
-    k_by kinds_kept
+    k_by parameter_list_kept
     (λ xs ys h. k_either (k_skip (k_done (ap declares (same_length xs ys h))))
     (k_then block_kept (λ b c g. k_done (λ i. defines (tree.ints (same_named xs ys h i)) (g i)))))
     (λ xs ys h. k_skip (k_done (ap declares (same_length xs ys h))))
@@ -100,7 +102,7 @@ OfFirst f g = OfName bare_tail f g
 main_others_kept : Kept grammar.main_others OfFirst
 unfolding bare_tail
 main_others_kept =
-    k_by kinds_kept
+    k_by parameter_list_kept
     (λ xs ys h. k_either (k_skip (k_done (λ x y f. ap (λ n. declares (suc n)) (same_length xs ys h))))
     (k_then block_kept (λ b c g. k_done (λ x y f i. defines (tree.ints (f i ∷ same_named xs ys h i)) (g i)))))
     (λ xs ys h. k_skip (k_done (λ x y f. ap (λ n. declares (suc n)) (same_length xs ys h))))
@@ -119,7 +121,7 @@ main_nameless_kept : Kept grammar.main_nameless SameTail
 unfolding bare_tail
 main_nameless_kept =
     k_either (k_skip (k_skip (k_done refl)))
-    (k_skip (k_skip (k_then kinds_kept (λ xs ys h. k_skip (k_done (ap (λ n. declares (suc n)) (same_length xs ys h)))))))
+    (k_skip (k_skip (k_then parameter_list_kept (λ xs ys h. k_skip (k_done (ap (λ n. declares (suc n)) (same_length xs ys h)))))))
 
 main_tail_kept : Kept grammar.main_tail SameTail
 main_tail_kept = tail_by_kept (k_either (k_then k_name (λ x y h. k_use main_named_kept (λ f g r. r x y h))) main_nameless_kept)

@@ -43,10 +43,11 @@ pub call_steady : Steady call
 call_steady = steady_plain call refl
 
 int_tail_steady : Steady grammar.int_tail
-int_tail_steady = (steady_plain grammar.kinds refl, steady_plain grammar.ints_named refl, steady_plain grammar.ints_declared refl, named_steady.it)
+int_tail_steady = (steady_plain grammar.parameter_list refl, steady_plain grammar.ints_named refl, steady_plain grammar.ints_declared refl, named_steady.it)
 
 main_others_steady : Steady grammar.main_others
-main_others_steady = (steady_plain grammar.kinds refl, steady_plain grammar.main_defined refl, steady_plain grammar.main_declared refl, named_steady.it)
+main_others_steady =
+    (steady_plain grammar.parameter_list refl, steady_plain grammar.main_defined refl, steady_plain grammar.main_declared refl, named_steady.it)
 
 tail_by_steady : (r : Rule Means grammar.Tail) → Steady r → Steady (grammar.tail_by r)
 tail_by_steady r s = (steady_plain grammar.empty_tail refl, (steady_plain grammar.empty_tail refl, s))

@@ -1,6 +1,5 @@
--- The grammar of the language as a table of rules. In the comments {x} is any number of x, [x] is x or nothing, and marks
--- and words stand in quotes. Numbers in parentheses are clauses of C 1990, and words there are entries of the Cilk 5.4
--- manual. A rule that is factored says first what it stands behind.
+-- The grammar of the language as a table of rules. In the comments {x} is any number of x, [x] is x or nothing, and marks and words stand in quotes. Numbers in
+-- parentheses are clauses of C 1990, and words there are entries of the Cilk 5.4 manual. A rule that is factored says first what it stands behind.
 use Rattle.std.specs.Prelude.{ℕ, suc, List, [], ◌∷◌, ◌++◌, length, map, Bool, true, false, Option, Some, None, ℤ, pos, neg_ℤ}
 use Rattle.cilk_tree_syntax.specs.lexeme.declared.header.Header.{Header}
 use Rattle.cilk_tree_syntax.specs.lexeme.declared.keyword.Keyword.{Keyword}
@@ -282,8 +281,8 @@ named_of (None ∷ xs) = named_of xs
 named_of (Some x ∷ xs) = x ∷ named_of xs
 
 -- behind "(" "int": [Name] {"," "int" [Name]} ")" (6.5.4.3)
-abbrev pub kinds : Rule Means (List (Option Word))
-kinds = and_then (optional name) (and_then (behind_commas (word key.Int (optional name))) (mark sign.CloseParenthesis (done (λ xs x. x ∷ xs))))
+abbrev pub parameter_list : Rule Means (List (Option Word))
+parameter_list = and_then (optional name) (and_then (behind_commas (word key.Int (optional name))) (mark sign.CloseParenthesis (done (λ xs x. x ∷ xs))))
 
 -- ";" behind parameters (6.5.4.3)
 abbrev pub ints_declared : Rule Means (List (Option Word) → Tail)
@@ -295,7 +294,7 @@ ints_named = either ints_declared (and_then block (done (λ b xs. defines (tree.
 
 -- behind "(" "int": [Name] {"," "int" [Name]} ")" ";" | Name {"," "int" Name} ")" Block
 abbrev pub int_tail : Rule Means Tail
-int_tail = by_value all_named kinds ints_named ints_declared
+int_tail = by_value all_named parameter_list ints_named ints_declared
 
 -- behind "(" or "(" "void": ")" ";" | ")" Block (6.5.4.3, 6.7.1)
 abbrev pub empty_tail : Rule Means Tail
@@ -327,7 +326,7 @@ main_defined = either main_declared (and_then block (done (λ b xs x. defines (t
 
 -- behind "(" "int" Name "," "int" of `main`: [Name] {"," "int" [Name]} ")" ";" | Name {"," "int" Name} ")" Block
 abbrev pub main_others : Rule Means (Word → Tail)
-main_others = by_value all_named kinds main_defined main_declared
+main_others = by_value all_named parameter_list main_defined main_declared
 
 -- behind "(" "int" Name of `main`: ")" ";" | ")" Block
 abbrev pub main_alone : Rule Means (Word → Tail)
@@ -342,7 +341,7 @@ main_named = either main_alone (mark sign.Comma (either command_line_tail (word 
 abbrev pub main_nameless : Rule Means Tail
 main_nameless =
     either (mark sign.CloseParenthesis (mark sign.Semicolon (done (declares 1))))
-    (mark sign.Comma (word key.Int (and_then kinds (mark sign.Semicolon (done (λ xs. declares (suc (length xs))))))))
+    (mark sign.Comma (word key.Int (and_then parameter_list (mark sign.Semicolon (done (λ xs. declares (suc (length xs))))))))
 
 -- behind "(" "int" of `main`
 abbrev pub main_ints : Rule Means Tail

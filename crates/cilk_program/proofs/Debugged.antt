@@ -9,11 +9,11 @@ use Rattle.cilk_debug.specs.Tape.{Tape, IsPlayable}
 use Rattle.cilk_debug.specs.Debugging.{Debugging}
 use Rattle.cilk_debug.specs.Session.{Session, session}
 use Rattle.cilk_debug.specs.Ending.{Answers, Breaks}
-use Rattle.cilk_debug.specs.Faults.{IsNamedFaultOf}
+use Rattle.cilk_debug.specs.Faults.{IsNamedDebugFaultOf}
 use Rattle.cilk_debug.specs.declared.fault.DebugFault.{DebugFault}
 use Rattle.cilk_debug.specs.declared.fault.DebugFault.TheVariants as debug
-use Rattle.cilk_debug.specs.declared.ending.SessionFault.{SessionFault}
-use Rattle.cilk_debug.specs.declared.ending.SessionFault.TheVariants.{Read, Write, Memory}
+use Rattle.cilk_debug.specs.declared.session_fault.SessionFault.{SessionFault}
+use Rattle.cilk_debug.specs.declared.session_fault.SessionFault.TheVariants.{Read, Write, Memory}
 use Rattle.cilk_debug.specs.console.declared.fault.InputFault.TheVariants.{Device, LineTooLong, TooManyLines}
 use Rattle.cilk_commands.specs.Front.{Gains, GainsFront}
 use Rattle.cilk_commands.specs.Held.{Held, IsReadOf}
@@ -52,8 +52,8 @@ broken_by_writer Write failed = refl
 broken_by_writer Memory failed = cc
 
 -- why there is no debugger
-pub declines_of : (text bytes : List ℕ) (named : Option (List ℕ)) (t : Tape) (fault : DebugFault) → IsTape text bytes named t → IsNamedFaultOf named t fault
-    → status_of (undebugged fault) ≡ status.Refused → Declines text bytes (undebugged fault)
+pub declines_of : (text bytes : List ℕ) (named : Option (List ℕ)) (t : Tape) (fault : DebugFault) → IsTape text bytes named t
+    → IsNamedDebugFaultOf named t fault → status_of (undebugged fault) ≡ status.Refused → Declines text bytes (undebugged fault)
 declines_of text bytes named t debug.OtherProgram is told refused = record { named = named; tape = t; is = is; told = told }
 declines_of text bytes named t debug.Workers is told refused = record { named = named; tape = t; is = is; told = told }
 declines_of text bytes named t (debug.BadChoice k refusal) is told refused = record { named = named; tape = t; is = is; told = told }
@@ -64,7 +64,7 @@ declines_of text bytes named t debug.OutOfRange is told refused = absurd told
 declines_of text bytes named t debug.Memory is told refused = cc
 
 pub declines_held_of : (held : Option (List ℕ)) (text : List ℕ) (named : Option (List ℕ)) (t : Tape) (fault : DebugFault)
-    → Held held (λ bytes. IsTape text bytes named t) → IsNamedFaultOf named t fault
+    → Held held (λ bytes. IsTape text bytes named t) → IsNamedDebugFaultOf named t fault
     → status_of (undebugged fault) ≡ status.Refused → Held held (λ bytes. Declines text bytes (undebugged fault))
 declines_held_of held text named t fault is told refused =
     record { bytes = is.bytes; held = is.held; are = declines_of text is.bytes named t fault is.are told refused }

@@ -78,9 +78,9 @@ unread checked explain name status known held old new found other is told = noth
 unread (run workers limit log) explain name status known held old new found other is told =
     no_run workers _ explain name (log_name log) status known old new found other is told
 unread (replayed log) explain name status known held old new found other is told =
-    no_program Declines false name log status known (held log) old new found other is told
+    no_program Declines explain name log status known (held log) old new found other is told
 unread (debugged log) explain name status known held old new found other is told =
-    no_program Declines false name log status known (held log) old new found other is told
+    no_program Declines explain name log status known (held log) old new found other is told
 
 -- nothing was written
 pub leaves_nothing : (wanted : Wanted) (status : Status) (known : Option (List ℕ)) (held : List ℕ → Option (List ℕ)) (entered old new : Option (List ℕ))
@@ -119,6 +119,7 @@ nothing_done words held entered status old new err_old err_new none not_refused 
   done = if_none (asked words) _ none;
   told = if_none (asked words) _ none;
   begun = if_none (asked words) _ none;
+  explained = if_none (asked words) _ none;
   reads = λ which. absurd (elim which [ inl is ↦ not_refused is | inr is ↦ not_unread is ]);
   usage = λ is. (none, usage is);
   help = λ none answer. help answer;
@@ -165,6 +166,7 @@ refused_words words held entered refusal.Memory status old new err_old err_new t
           memory_of request.wanted request.explain request.name (held request.name) held err_old err_new (memory refl));
       begun = for_each (asked words) _ (λ request none. leaves_nothing request.wanted ended.Memory (held request.name) held entered old new
           (λ bad. cc) (kept (is_memory_no_answer status is_memory) (λ bad. let worse : ended.Memory ≡ ended.CannotWrite = sym is_memory ∙ bad in cc)));
+      explained = for_each (asked words) _ (λ request told. let bad : false ≡ true = told in cc);
       reads = λ which none. elim which [ inl bad ↦ cc | inr bad ↦ cc ];
       usage = λ bad. cc;
       help = λ none answer. let bad : false ≡ true = answer in cc;

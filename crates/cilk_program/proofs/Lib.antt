@@ -1,4 +1,8 @@
+mod ChoiceLines
+mod ChoiceStands
 mod Ended
+mod Fronts
+mod Said
 pub mod Whole
 pub mod Ran
 mod Debugged

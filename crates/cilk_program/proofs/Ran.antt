@@ -1,5 +1,5 @@
 -- The texts of a machine that is not moved any more.
-use Rattle.std.proofs.Common.{◌≡◌, ◌≤◌, ℕ, Bool, true, false, refl, List, length, map, take, sym, ap, ◌∙◌, subst}
+use Rattle.std.proofs.Common.{◌≡◌, ◌≤◌, ℕ, Bool, true, List, length, map, take, sym, ap, ◌∙◌, subst}
 use Rattle.std.specs.Prelude.{Result, Ok, Err, IfOk}
 use Rattle.std.proofs.lemmas.List.{length-map}
 use Rattle.cilk_commands.specs.syntax.Tree.{Program}
@@ -7,7 +7,7 @@ use Rattle.cilk_commands.specs.labelled.Bodies.{label}
 use Rattle.cilk_run.specs.model.Run.{Standing, after}
 use Rattle.cilk_run.specs.model.End as end
 use Rattle.cilk_run.specs.Runs as Runs
-use Rattle.cilk_run.specs.declared.outcome.Run.{Run}
+use Rattle.cilk_run.specs.declared.run_result.Run.{Run}
 use Rattle.cilk_run.specs.choices.Words.{choice_of, end_of}
 use Rattle.cilk_run.specs.choices.declared.choice.Choice as code
 use Rattle.cilk_run.specs.machine.Situation.{Situation}
@@ -19,7 +19,7 @@ use Rattle.cilk_commands.specs.Loading.{IsReady}
 use Rattle.cilk_commands.specs.declared.status.Status.{Status}
 use Rattle.cilk_program.specs.Running.{IsRun, status_at}
 use Rattle.cilk_program.specs.declared.closing.Closing.{Closing}
-use Rattle.cilk_program.specs.declared.running.RunAnswer.{RunAnswer}
+use Rattle.cilk_program.specs.declared.run.RunAnswer.{RunAnswer}
 use Rattle.cilk_program.specs.Replaying.{ClosesAt, IsReplayed}
 use Rattle.cilk_program.specs.Taped.{IsOwnTape}
 

@@ -1,6 +1,5 @@
 -- What is said of the bytes that were read of texts is said of the texts.
-use Rattle.std.proofs.Common.{◌≡◌, ◌≤◌, ◌∙◌, ◌++◌, ℕ, Bool, List, [], length, Option, Some, None, refl, subst, sym}
-use Rattle.std.specs.Io.KnownBytes.{Appends}
+use Rattle.std.proofs.Common.{◌≡◌, ◌≤◌, ◌∙◌, ℕ, Bool, List, [], length, Option, Some, None, refl, subst, sym}
 use Rattle.std.specs.Prelude.{◌≢◌}
 use Rattle.cilk_commands.specs.syntax.Tree.{Program}
 use Rattle.cilk_commands.specs.lex.declared.reading.TheConstants.{TEXT_LIMIT}
@@ -12,12 +11,14 @@ use Rattle.cilk_commands.specs.declared.failure.Failure.TheVariants as failure
 use Rattle.cilk_commands.specs.declared.status.Status.{Status}
 use Rattle.cilk_commands.specs.declared.status.Status.TheVariants as status
 use Rattle.cilk_commands.proofs.WholeText.{some_read, reason_held, unexplained, whole_held}
-use Rattle.cilk_program.specs.GivingUp.{FollowsProgram, GivesUp, GivesUpRun, IsBehind, IsOfRun, IsToldBehind, NoProgram, TellsWith}
+use Rattle.cilk_program.specs.GivingUp.{FollowsProgram, GivesUp, GivesUpRun, IsBehind, IsBehindLog, IsOfRun, IsToldBehind, NoProgram, TellsWith}
 use Rattle.cilk_program.specs.Running.{Stores, StoresFront}
+use Rattle.cilk_program.specs.Saying.{IsSaid}
 use Rattle.cilk_program.specs.Taped.{Declines, IsUnread}
 use Rattle.cilk_program.specs.Telling.{status_of}
 use Rattle.cilk_program.specs.declared.failure.RecordFailure.{RecordFailure}
 use Rattle.cilk_program.specs.declared.failure.RecordFailure.TheVariants as why
+use Rattle.cilk_program.proofs.Said.{behind_log, unsaid}
 
 -- ---- what was stored and written
 
@@ -133,17 +134,17 @@ follows_held known text why.CannotStart read there = ready_held known text read 
 follows_held known text why.Commands read there = ready_held known text read there
 follows_held known text why.Answers read there = ready_held known text read there
 
-told_behind : (explain : Bool) (known : Option (List ℕ)) (text : List ℕ) (found : RecordFailure) (behind : List ℕ) → IsReadOf known text
+told_behind : (explain : Bool) (known log : Option (List ℕ)) (text : List ℕ) (found : RecordFailure) (behind : List ℕ) → IsReadOf known text
     → IsBehind explain text found behind
-    → IsToldBehind explain known found behind
-told_behind explain known text (why.Program found) behind read is = record { text = text; read = read; is = is }
-told_behind explain known text why.CannotRead behind read is = is
-told_behind explain known text (why.Log fault) behind read is = is
-told_behind explain known text (why.Replay fault) behind read is = is
-told_behind explain known text why.CannotStore behind read is = is
-told_behind explain known text why.CannotStart behind read is = is
-told_behind explain known text why.Commands behind read is = is
-told_behind explain known text why.Answers behind read is = is
+    → IsToldBehind explain known log found behind
+told_behind explain known log text (why.Program found) behind read is = record { text = text; read = read; is = is }
+told_behind explain known log text why.CannotRead behind read is = is
+told_behind explain known log text (why.Log fault) behind read is = is
+told_behind explain known log text (why.Replay fault) behind read is = unsaid explain log (why.Replay fault) behind is
+told_behind explain known log text why.CannotStore behind read is = is
+told_behind explain known log text why.CannotStart behind read is = is
+told_behind explain known log text why.Commands behind read is = is
+told_behind explain known log text why.Answers behind read is = is
 
 module _ (Reason : List ℕ → List ℕ → RecordFailure → Type 0) (explain : Bool) (program_name log_name : List ℕ) (ended : Status)
     (known log old new : Option (List ℕ)) where
@@ -158,7 +159,23 @@ module _ (Reason : List ℕ → List ℕ → RecordFailure → Type 0) (explain 
     declined = λ refused. reason (sym is ∙ refused);
     follows = follows_held known text found read follows;
     behind = told.0;
-    explained = told_behind explain known text found told.0 read told.1.0;
+    explained = told_behind explain known log text found told.0 read told.1.0;
+    told = told.1.1;
+  }
+
+  -- and of a log, with what was noted of it
+  pub log_gave_up : (text note : List ℕ) (found : RecordFailure) → IsReadOf known text
+      → (status_of found ≡ status.Refused → Held known (λ t. Held log (λ bytes. Reason t bytes found))) → FollowsProgram text found → ended ≡ status_of found
+      → IsSaid explain log found note
+      → (behind : List ℕ) × (IsBehindLog explain text note found behind × TellsWith program_name log_name found behind old new)
+      → GivesUp Reason explain program_name log_name ended known log old new
+  log_gave_up text note found read reason follows is said told = record {
+    why = found;
+    status_is = is;
+    declined = λ refused. reason (sym is ∙ refused);
+    follows = follows_held known text found read follows;
+    behind = told.0;
+    explained = behind_log explain known log text note found told.0 read said told.1.0;
     told = told.1.1;
   }
 

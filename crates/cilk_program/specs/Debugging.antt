@@ -6,8 +6,8 @@ use Rattle.cilk_debug.specs.Debugging.{Debugging}
 use Rattle.cilk_debug.specs.Session.{session}
 use Rattle.cilk_debug.specs.declared.fault.DebugFault.{DebugFault}
 use Rattle.cilk_debug.specs.declared.fault.DebugFault.TheVariants as debug
-use Rattle.cilk_debug.specs.declared.ending.SessionFault.{SessionFault}
-use Rattle.cilk_debug.specs.declared.ending.SessionFault.TheVariants as ending
+use Rattle.cilk_debug.specs.declared.session_fault.SessionFault.{SessionFault}
+use Rattle.cilk_debug.specs.declared.session_fault.SessionFault.TheVariants as ending
 use Rattle.cilk_debug.specs.declared.replay_fault.ReplayFault.TheVariants as replay
 use Rattle.cilk_commands.specs.Front.{Gains, GainsFront}
 use Rattle.cilk_commands.specs.Held.{Held}

@@ -11,6 +11,7 @@ use Rattle.cilk_words.specs.CommandLine.{Asked, asked}
 use Rattle.cilk_words.specs.Refusing.{asks_for_help, asks_for_version, asks_to_show}
 use Rattle.cilk_words.specs.declared.refusal.NoRequest.{NoRequest}
 use Rattle.cilk_words.specs.declared.refusal.NoRequest.TheVariants as refusal
+use Rattle.cilk_program.specs.Saying.{ExplainsTrap, tells_trap}
 use Rattle.cilk_program.specs.Task.{Does, Fails, Leaves, is_session}
 
 -- what is to be shown was written whole, or the writer failed
@@ -38,6 +39,14 @@ opens_any (Some request) = is_session request.wanted
 abbrev pub opens_session : List (List ℕ) → Bool
 opens_session words = opens_any (asked words)
 
+-- they ask for more to be told, and the program was trapped
+abbrev pub explains_any : Option Asked → Status → Bool
+explains_any None status = false
+explains_any (Some request) status = tells_trap request.explain status
+
+abbrev pub explains_trap : List (List ℕ) → Status → Bool
+explains_trap words status = explains_any (asked words) status
+
 -- what the status tells of the words, of the bytes of the texts that names stand for and of those that are entered, and of what two
 -- writers gained
 pub record Ends (words : List (List ℕ)) (held : List ℕ → Option (List ℕ)) (entered : Option (List ℕ)) (status : Status)
@@ -46,6 +55,8 @@ pub record Ends (words : List (List ℕ)) (held : List ℕ → Option (List ℕ)
   pub told : IfSome (asked words) (λ request. is_answer status ≡ false
       → Fails request.wanted request.explain request.name status (held request.name) held err_old err_new)
   pub begun : IfSome (asked words) (λ request. is_answer status ≡ false → Leaves request.wanted status (held request.name) held entered old new)
+  pub explained : IfSome (asked words) (λ request. tells_trap request.explain status ≡ true
+      → ExplainsTrap request.name (held request.name) old new err_old err_new)
   pub reads : (status ≡ ended.Refused) ⊎ (status ≡ ended.CannotRead) → asked words ≢ None
   pub usage : status ≡ ended.Usage → (asked words ≡ None) × (asks_to_show words ≡ false)
   pub help : asked words ≡ None → is_answer status ≡ true → (status ≡ ended.Done) × ((asks_for_help words ≡ true) ⊎ (asks_for_version words ≡ true))

@@ -7,6 +7,7 @@ use Rattle.cilk_commands.specs.Telling.{Explained, IsExplanation}
 use Rattle.cilk_commands.specs.syntax.Tree.{Program}
 use Rattle.cilk_commands.specs.declared.status.Status.{Status}
 use Rattle.cilk_commands.specs.declared.status.Status.TheVariants as status
+use Rattle.cilk_program.specs.Saying.{IsSaid}
 use Rattle.cilk_program.specs.Telling.{failure_line, status_of}
 use Rattle.cilk_program.specs.declared.failure.RecordFailure.{RecordFailure}
 use Rattle.cilk_program.specs.declared.failure.RecordFailure.TheVariants as why
@@ -20,10 +21,15 @@ abbrev pub IsBehind : Bool → List ℕ → RecordFailure → List ℕ → Type 
 IsBehind explain text (why.Program found) behind = IsExplanation explain text found behind
 IsBehind explain text found behind = behind ≡ []
 
--- the same, of a text that a reader held
-abbrev pub IsToldBehind : Bool → Option (List ℕ) → RecordFailure → List ℕ → Type 0
-IsToldBehind explain known (why.Program found) behind = Explained explain known found behind
-IsToldBehind explain known found behind = behind ≡ []
+-- of a failure about a log: with the text of the program what explains it, and else what is noted
+abbrev pub IsBehindLog : Bool → List ℕ → List ℕ → RecordFailure → List ℕ → Type 0
+IsBehindLog explain text note (why.Program found) behind = IsExplanation explain text found behind
+IsBehindLog explain text note found behind = behind ≡ note
+
+-- of texts that readers held: of a failure with the program what explains it, and of a choice that is not possible what is told of it
+abbrev pub IsToldBehind : Bool → Option (List ℕ) → Option (List ℕ) → RecordFailure → List ℕ → Type 0
+IsToldBehind explain program log (why.Program found) behind = Explained explain program found behind
+IsToldBehind explain program log found behind = IsSaid explain log found behind
 
 -- why the bytes of a text are no program that may be run
 abbrev pub NoProgram : List ℕ → List ℕ → RecordFailure → Type 0
@@ -43,7 +49,7 @@ pub record GivesUp (Reason : List ℕ → List ℕ → RecordFailure → Type 0)
   pub declined : ended ≡ status.Refused → Held program (λ text. Held log (λ bytes. Reason text bytes why))
   pub follows : Held program (λ text. FollowsProgram text why)
   pub behind : List ℕ
-  pub explained : IsToldBehind explain program why behind
+  pub explained : IsToldBehind explain program log why behind
   pub told : TellsWith program_name log_name why behind old new
 
 -- what may keep so many workers from a run, with a log that is wanted or without one: an only worker is not started

@@ -1,4 +1,8 @@
+pub mod ChoiceLines
+pub mod ChoiceRows
 pub mod Ends
+pub mod Meanings
+pub mod Saying
 pub mod Task
 pub mod Telling
 pub mod GivingUp

@@ -60,5 +60,5 @@ abbrev pub Fails : Wanted → Bool → List ℕ → Status → Option (List ℕ)
 Fails printed explain name status known held old new = GivesUp Unready explain name status known old new
 Fails checked explain name status known held old new = GivesUp Unready explain name status known old new
 Fails (run workers limit log) explain name status known held old new = GivesUpRun workers (is_some log) explain name (log_name log) status known old new
-Fails (replayed log) explain name status known held old new = GivesUpOfLog Declines false name log status known (held log) old new
-Fails (debugged log) explain name status known held old new = GivesUpOfLog Declines false name log status known (held log) old new
+Fails (replayed log) explain name status known held old new = GivesUpOfLog Declines explain name log status known (held log) old new
+Fails (debugged log) explain name status known held old new = GivesUpOfLog Declines explain name log status known (held log) old new

@@ -1,30 +1,36 @@
 //! The subcommand `debug`: a session over a recorded schedule.
 
-ghost use Rattle.std.specs.Prelude.{◌≡◌, ◌≢◌, ◌⊎◌, true, false, ℕ, List, Option, IfSome, IfOk, IfErr};
+ghost use Rattle.std.specs.Prelude.{◌≡◌, ◌≢◌, ◌⊎◌, true, false, ℕ, List, [], Option, IfSome, IfOk, IfErr, string_bytes};
 ghost use Rattle.cilk_commands.specs.Held.{Held};
 ghost use Rattle.cilk_commands.specs.Status.{is_answer};
+ghost use Rattle.cilk_debug.specs.ReplayFaults.{IsNamedFaultOf};
+ghost use Rattle.cilk_debug.specs.Tape.{tape_of};
+ghost use Rattle.cilk_debug.specs.log.Words.{log_of};
 ghost use Rattle.cilk_program.specs.GivingUp.{FollowsProgram, GivesUp};
 ghost use Rattle.cilk_program.specs.Taped.{Declines};
 ghost use Rattle.cilk_program.specs.Telling.{status_of};
 ghost use Rattle.cilk_program.specs.Debugging.{Debugs, DebugsFront, DebugsPart, GainsFrontOf, GainsOf};
 ghost use Rattle.cilk_program.specs.Debugging.{IsSession, IsPart, undebugged, broken_off};
+ghost use Rattle.cilk_program.specs.Saying.{IsFaultTold, IsSaid};
 
 use crate::failure::RecordFailure;
-use crate::file_names::FileNames;
+use crate::log_task::LogTask;
+use crate::note::Note;
 use crate::streams::Streams;
 use crate::taped::{Taped, tape_in};
-use cilk_commands::{Failure, Status, read_text};
-use cilk_debug::{DebugFault, Debugger, ReplayFault, SessionFault};
+use cilk_commands::{Failure, Loaded, Status, read_text};
+use cilk_debug::{DebugFault, Debugger, Log, ReplayFault, SessionFault, play_all};
 use std::alloc::Global;
 use std::io::{Read, Write};
 
 /// Answers the commands that a reader holds to the output, with a debugger of a recorded schedule and the program that
 /// another reader holds, until they end, or else writes the line that says why not to the errors. There is no reader of the
 /// schedule where it cannot be opened, which is told once the program can be run. What was answered before a session
-/// broke off stays written. A line that cannot be written is lost.
+/// broke off stays written. With `task.explain` more goes to the errors: of a fault in the program, and of a choice that is not
+/// possible. A line that cannot be written is lost.
 pub fn debug_text<R: Read, L: Read + Drop, C: Read, O: Write, E: Write>(
     alloc: Global,
-    names: &FileNames<'_>,
+    task: &LogTask<'_>,
     reader: &mut R,
     log: Option<L>,
     commands: &mut C,
@@ -38,7 +44,7 @@ pub fn debug_text<R: Read, L: Read + Drop, C: Read, O: Write, E: Write>(
 
     // Where the commands did not all have their answers.
     ensures told { (held : Option (List ℕ)) → IfSome log (λ log. L.remaining log ≡ held)
-        → is_answer result ≡ false → GivesUp Declines false names.now.program.now names.now.log.now result
+        → is_answer result ≡ false → GivesUp Declines task.now.explain task.now.names.program.now task.now.names.log.now result
         (R.remaining reader.old) held (E.contents streams.old.errors) (E.contents streams.new.errors) }
     ensures begun { (held : Option (List ℕ)) → IfSome log (λ log. L.remaining log ≡ held)
         → result ≡ Status.CannotWrite → DebugsFront (R.remaining reader.old) held (C.remaining commands.old)
@@ -54,28 +60,36 @@ pub fn debug_text<R: Read, L: Read + Drop, C: Read, O: Write, E: Write>(
 {
     let bytes = match read_text(alloc, reader) {
         Ok(bytes) => bytes,
-        Err(failure) => return RecordFailure::Program(failure).report(names, &mut streams.errors),
+        Err(failure) => {
+            return RecordFailure::Program(failure).report(&task.names, &mut streams.errors);
+        }
     };
     let text = bytes.as_slice();
-    match debug(alloc, text, log, commands, &mut streams.output) {
+    let mut note = Note::new(alloc, task.explain);
+    match debug(alloc, text, log, commands, &mut note, &mut streams.output) {
         Ok(()) => Status::Done,
-        Err(why) => why.explain(alloc, names, false, text, &mut streams.errors),
+        Err(why) => why.explain_log(alloc, task, text, note.text.as_str(), &mut streams.errors),
     }
 }
 
+// What is told of a choice that is not possible is noted.
 fn debug<L: Read + Drop, C: Read, W: Write>(
     alloc: Global,
     text: &[u8],
     log: Option<L>,
     commands: &mut C,
+    note: &mut Note,
     out: &mut W,
 ) -> Result<(), RecordFailure>
+    requires { string_bytes note.old.text ≡ [] }
     ensures ok { (held : Option (List ℕ)) → IfSome log (λ log. L.remaining log ≡ held)
         → IfOk result (λ done. GainsOf (λ lines answers. Held held (λ bytes. IsSession text.now bytes lines answers))
         (C.remaining commands.old) (W.contents out.old) (W.contents out.new)) }
     ensures declined { (held : Option (List ℕ)) → IfSome log (λ log. L.remaining log ≡ held)
         → IfErr result (λ why. status_of why ≡ Status.Refused → Held held (λ bytes. Declines text.now bytes why)) }
     ensures follows { IfErr result (FollowsProgram text.now) }
+    ensures said { (held : Option (List ℕ)) → IfSome log (λ log. L.remaining log ≡ held)
+        → IfErr result (λ why. IsSaid note.old.is_wanted held why (string_bytes note.new.text)) }
     ensures begun { (held : Option (List ℕ)) → IfSome log (λ log. L.remaining log ≡ held)
         → IfErr result (λ why. status_of why ≡ Status.CannotWrite
         → GainsFrontOf (λ lines answers. Held held (λ bytes. IsPart text.now bytes lines answers))
@@ -90,6 +104,14 @@ fn debug<L: Read + Drop, C: Read, W: Write>(
         Ok(taped) => taped,
         Err(why) => return Err(why),
     };
+    match tried(alloc, &program, &log, note) {
+        Ok(()) => {}
+        Err(fault) => {
+            drop(program);
+            drop(log);
+            return Err(RecordFailure::Replay(fault));
+        }
+    }
     let mut debugger = match Debugger::new(alloc, program, log) {
         Ok(debugger) => debugger,
         Err(fault) => return Err(undebugged(fault)),
@@ -102,6 +124,28 @@ fn debug<L: Read + Drop, C: Read, W: Write>(
         Err(fault) => {
             drop(debugger);
             Err(broken_off(fault))
+        }
+    }
+}
+
+// Where more is asked for, the choices are made once before the debugger takes the log, so that the line of one that is not possible can be told.
+fn tried(alloc: Global, program: &Loaded, log: &Log, note: &mut Note) -> Result<(), ReplayFault>
+    requires { string_bytes note.old.text ≡ [] }
+    ensures told { IfErr result (IsNamedFaultOf log.now.program (tape_of program.now log.now.workers log.now.choices)) }
+    ensures said { IfErr result (λ fault. IsFaultTold note.old.is_wanted (log_of log.now) fault (string_bytes note.new.text)) }
+    ensures silent { IfOk result (λ _. string_bytes note.new.text ≡ []) }
+{
+    if !note.is_wanted {
+        return Ok(());
+    }
+    let Ok(copy) = program.copy() else {
+        return Err(ReplayFault::Memory);
+    };
+    match play_all(alloc, copy, log) {
+        Ok(_) => Ok(()),
+        Err(fault) => {
+            note.take_down(alloc, log, &fault);
+            Err(fault)
         }
     }
 }

@@ -4,7 +4,8 @@ ghost use Rattle.std.specs.Prelude.{◌≡◌, ◌≢◌, [], true, false};
 ghost use Rattle.cilk_commands.specs.Telling.{WritesFailure};
 ghost use Rattle.cilk_commands.specs.Status.{is_answer};
 ghost use Rattle.cilk_words.specs.CommandLine.{texts_of, wanted_by};
-ghost use Rattle.cilk_program.specs.Ends.{Ends, IsShown, Shows, opens_session};
+ghost use Rattle.cilk_program.specs.Ends.{Ends, IsShown, Shows, explains_trap, opens_session};
+ghost use Rattle.cilk_program.specs.Saying.{ExplainsTrap, tells_trap};
 ghost use Rattle.cilk_program.specs.Task.{Does, Fails, Leaves, is_session};
 
 use crate::streams::Streams;
@@ -17,8 +18,8 @@ use std::io::Write;
 use std::sync::Wait;
 use std::thread::Threads;
 
-/// Does what the words ask for, the first of which is the program's own name.
-pub fn run<H: Threads + Wait + Sync, T: Texts, O: Write, E: Write>(
+/// Does what the words ask for, the first of which is the program's own name: a task; or help, the version or what is wrong with them is written.
+pub fn dispatch<H: Threads + Wait + Sync, T: Texts, O: Write, E: Write>(
     rt: &H,
     alloc: Global,
     words: &[String],
@@ -27,18 +28,19 @@ pub fn run<H: Threads + Wait + Sync, T: Texts, O: Write, E: Write>(
 ) -> Status
     ensures ends { Ends (texts_of words.now) (T.held texts.now) (T.entered texts.now) result
         (O.contents streams.old.output) (O.contents streams.new.output) (E.contents streams.old.errors) (E.contents streams.new.errors) }
-    ensures quiet { is_answer result ≡ true → streams.new.errors ≡ streams.old.errors }
+    ensures quiet { is_answer result ≡ true → explains_trap (texts_of words.now) result ≡ false → streams.new.errors ≡ streams.old.errors }
     ensures kept { opens_session (texts_of words.now) ≡ false
         → is_answer result ≡ false → result ≢ Status.CannotWrite → streams.new.output ≡ streams.old.output }
     ensures unanswered { result ≡ Status.Refused → streams.new.output ≡ streams.old.output }
 {
     match request_in(alloc, words) {
-        Ok(request) => obey(rt, alloc, &request, texts, streams),
+        Ok(request) => open_and_perform(rt, alloc, &request, texts, streams),
         Err(refusal) => tell(&refusal, streams),
     }
 }
 
-fn obey<H: Threads + Wait + Sync, T: Texts, O: Write, E: Write>(
+// Opens the text of the program, and does with it what is asked for.
+fn open_and_perform<H: Threads + Wait + Sync, T: Texts, O: Write, E: Write>(
     rt: &H,
     alloc: Global,
     request: &Request<'_>,
@@ -56,7 +58,10 @@ fn obey<H: Threads + Wait + Sync, T: Texts, O: Write, E: Write>(
         (T.held texts.now request.now.name.now) (T.held texts.now) (T.entered texts.now)
         (O.contents streams.old.output) (O.contents streams.new.output) }
     ensures usage { result ≢ Status.Usage }
-    ensures quiet { is_answer result ≡ true → streams.new.errors ≡ streams.old.errors }
+    ensures explained { tells_trap request.now.explain result ≡ true → ExplainsTrap request.now.name.now
+        (T.held texts.now request.now.name.now) (O.contents streams.old.output) (O.contents streams.new.output)
+        (E.contents streams.old.errors) (E.contents streams.new.errors) }
+    ensures quiet { is_answer result ≡ true → tells_trap request.now.explain result ≡ false → streams.new.errors ≡ streams.old.errors }
     ensures kept { is_session (wanted_by request.now.task) ≡ false
         → is_answer result ≡ false → result ≢ Status.CannotWrite → streams.new.output ≡ streams.old.output }
     ensures unanswered { result ≡ Status.Refused → streams.new.output ≡ streams.old.output }
@@ -67,7 +72,7 @@ fn obey<H: Threads + Wait + Sync, T: Texts, O: Write, E: Write>(
     }
 }
 
-// Help and the version go to the output, and what is wrong with the words elsewhere.
+// Help and the version go to the output, and what is wrong with the words to the errors.
 fn tell<O: Write, E: Write>(refusal: &NoRequest, streams: &mut Streams<O, E>) -> Status
     ensures shows { Shows refusal.now result (O.contents streams.old.output) (O.contents streams.new.output) }
     ensures memory { refusal.now ≡ NoRequest.Memory

@@ -5,9 +5,9 @@ ghost use Rattle.std.specs.IoError.{error_kind};
 ghost use Rattle.cilk_commands.specs.declared.status.Status.{Status};
 ghost use Rattle.cilk_commands.specs.Status.{code_of, is_answer};
 ghost use Rattle.cilk_words.specs.CommandLine.{texts_of};
-ghost use Rattle.cilk_program.specs.Ends.{Ends, opens_session, without_words};
+ghost use Rattle.cilk_program.specs.Ends.{Ends, explains_trap, opens_session, without_words};
 
-use crate::dispatch::run;
+use crate::dispatch::dispatch;
 use crate::streams::Streams;
 use crate::texts::Texts;
 use cilk_commands::{Failure, Status};
@@ -38,13 +38,14 @@ pub fn exit_code<H: Threads + Wait + Sync, T: Texts, O: Write, E: Write>(
         (λ list. Ends (texts_of list.items) (T.held texts.now) (T.entered texts.now) status
         (O.contents streams.old.output) (O.contents streams.new.output) (E.contents streams.old.errors) (E.contents streams.new.errors))
         (λ error. status ≡ without_words (error_kind error))
-        × (is_answer status ≡ true → streams.new.errors ≡ streams.old.errors)
+        × (MatchResult words (λ list. explains_trap (texts_of list.items) status ≡ false) (λ error. Unit {0})
+        → is_answer status ≡ true → streams.new.errors ≡ streams.old.errors)
         × (MatchResult words (λ list. opens_session (texts_of list.items) ≡ false) (λ error. Unit {0})
         → is_answer status ≡ false → status ≢ Status.CannotWrite → streams.new.output ≡ streams.old.output)
         × (status ≡ Status.Refused → streams.new.output ≡ streams.old.output)) }
 {
     let status = match words {
-        Ok(words) => run(rt, alloc, words.as_slice(), texts, streams),
+        Ok(words) => dispatch(rt, alloc, words.as_slice(), texts, streams),
         Err(error) => refuse(&error, &mut streams.errors),
     };
     status.code()

@@ -6,7 +6,8 @@ ghost use Rattle.cilk_commands.specs.Front.{AppendsFront};
 ghost use Rattle.cilk_program.specs.Telling.{choice_line, code_of, log_line, replay_line};
 
 use crate::file_names::FileNames;
-use cilk_commands::{Failure, Status, tell_of, write_parts};
+use crate::log_task::LogTask;
+use cilk_commands::{Failure, Status, tell_of, write_parts, write_whole};
 use cilk_debug::{LogFault, ReplayFault};
 use cilk_run::Refusal;
 use itoa::Buffer;
@@ -19,13 +20,13 @@ use std::io::Write;
 pub enum RecordFailure {
     /// There is no program, or memory has run out, or the output failed.
     Program(Failure),
-    /// The reader of the recorded schedule failed before its text was read.
+    /// The recorded schedule cannot be opened, its reader failed, or it has more bytes than one may have.
     CannotRead,
     /// The bytes are no text of a recorded schedule.
     Log(LogFault),
     /// The choices cannot be made again.
     Replay(ReplayFault),
-    /// The store failed, so a part of the recorded schedule may be kept.
+    /// The log would go to the file that the program's text came from, and nothing is kept; or the store failed, and a part of the log may be kept.
     CannotStore,
     /// A worker cannot be started.
     CannotStart,
@@ -37,7 +38,7 @@ pub enum RecordFailure {
 
 impl RecordFailure {
     ghost use Rattle.cilk_program.specs.Telling.{failure_line, status_of};
-    ghost use Rattle.cilk_program.specs.GivingUp.{IsBehind, TellsWith};
+    ghost use Rattle.cilk_program.specs.GivingUp.{IsBehind, IsBehindLog, TellsWith};
 
     /// The status that tells of it.
     pub fn status(&self) -> Status
@@ -63,12 +64,21 @@ impl RecordFailure {
         ensures told { TellsWith names.now.program.now names.now.log.now self.now []
             (W.contents err.old) (W.contents err.new) }
     {
-        let _ = self.tell(names, err);
+        self.report_with(names, "", err)
+    }
+
+    // Writes the same line, and then what is told behind it, and returns the status.
+    fn report_with<W: Write>(&self, names: &FileNames<'_>, behind: &str, err: &mut W) -> Status
+        ensures status { result ≡ status_of self.now }
+        ensures told { TellsWith names.now.program.now names.now.log.now self.now behind.now
+            (W.contents err.old) (W.contents err.new) }
+    {
+        let _ = self.tell_all(names, behind, err);
         self.status()
     }
 
-    /// The same, and behind it, with `explain`, more of a fault in the program, which has these bytes.
-    pub(crate) fn explain<W: Write>(
+    /// Does as `report`; behind the line stands, where `explain` is set, more of a fault in the program, which has these bytes.
+    pub(crate) fn report_explained<W: Write>(
         &self,
         alloc: Global,
         names: &FileNames<'_>,
@@ -86,6 +96,38 @@ impl RecordFailure {
             }
             _ => self.report(names, err),
         }
+    }
+
+    /// The same of a failure about a log, and behind it, of a failure that is none of the program's, what is to be told of it.
+    pub(crate) fn explain_log<W: Write>(
+        &self,
+        alloc: Global,
+        task: &LogTask<'_>,
+        text: &[u8],
+        note: &str,
+        err: &mut W,
+    ) -> Status
+        ensures status { result ≡ status_of self.now }
+        ensures told { (behind : List ℕ) × (IsBehindLog task.now.explain text.now note.now self.now behind
+            × TellsWith task.now.names.program.now task.now.names.log.now self.now behind (W.contents err.old) (W.contents err.new)) }
+    {
+        match self {
+            RecordFailure::Program(failure) => {
+                tell_of(alloc, task.names.program, task.explain, text, failure, err)
+            }
+            _ => self.report_with(&task.names, note, err),
+        }
+    }
+
+    #[tactic(auto, using(crate::proofs::Fronts::all_behind, crate::proofs::Fronts::front_before, crate::proofs::Fronts::front_behind))]
+    fn tell_all<W: Write>(&self, names: &FileNames<'_>, behind: &str, err: &mut W) -> io::Result<()>
+        ensures ok { OnOk result (Appends (W.contents err.old) (W.contents err.new)
+            (failure_line names.now.program.now names.now.log.now self.now ++ behind.now)) }
+        ensures front { OnErr result (AppendsFront (W.contents err.old) (W.contents err.new)
+            (failure_line names.now.program.now names.now.log.now self.now ++ behind.now)) }
+    {
+        self.tell(names, err)?;
+        write_whole(err, behind.as_bytes())
     }
 
     fn tell<W: Write>(&self, names: &FileNames<'_>, err: &mut W) -> io::Result<()>

@@ -2,28 +2,34 @@
 //! streams. `cilk` only says which these are.
 #![tactic(auto)]
 
+mod choice_line;
 mod closing;
 mod debug;
 mod dispatch;
 mod exit;
 mod failure;
 mod file_names;
+mod log_task;
+mod meaning;
+mod note;
 mod replay;
+mod run;
 mod run_task;
-mod running;
 mod store;
 mod streams;
 mod taped;
 mod task;
 mod texts;
+mod trapped;
 
 pub use debug::debug_text;
 pub use exit::exit_code;
 pub use failure::RecordFailure;
 pub use file_names::FileNames;
+pub use log_task::LogTask;
 pub use replay::replay_text;
+pub use run::run_text;
 pub use run_task::RunTask;
-pub use running::run_text;
 pub use store::LogStore;
 pub use streams::Streams;
 pub use texts::Texts;

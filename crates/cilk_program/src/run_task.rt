@@ -1,4 +1,4 @@
-//! What is asked of a run: the names of its texts, its workers and its limit, and whether faults are explained.
+//! What is asked of a run: the names of its texts, its workers and its limit, and whether faults and traps are explained.
 
 ghost use Rattle.std.specs.Prelude.{◌≡◌, option_map};
 ghost use Rattle.cilk_program.specs.Task.{log_name};
@@ -12,7 +12,7 @@ pub struct RunTask<'a> {
     pub program: &'a str,
     /// The name of the text that the log goes to, where one is wanted.
     pub log: Option<&'a str>,
-    /// Whether more is told of a fault in the program.
+    /// Whether more is told of a fault in the program, and of a trap.
     pub explain: bool,
     /// The number of workers, 1 to 64.
     pub workers: u8,

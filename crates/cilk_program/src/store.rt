@@ -19,7 +19,7 @@ pub trait LogStore {
         ensures value { result ≡ wanted self.now }
         ensures none { result ≡ false → stored self.now ≡ None };
 
-    /// Whether it is another place than the one that the program's text came from, if it is any.
+    /// Whether the log would go elsewhere than to the file that the program's text came from; so it is, too, where no log is kept.
     fn is_apart(&self) -> bool
         ensures { wanted self.now ≡ false → result ≡ true };
 

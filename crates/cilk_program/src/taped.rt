@@ -49,6 +49,7 @@ pub(crate) fn tape_in<L: Read + Drop>(
     }
 }
 
+// The recorded schedule that the reader holds, if it could be opened.
 fn schedule_of<L: Read + Drop>(alloc: Global, log: Option<L>) -> Result<Log, RecordFailure>
     ensures ok { (held : Option (List ℕ)) → IfSome log (λ log. L.remaining log ≡ held)
         → IfOk result (λ log. Held held (λ bytes. log_read bytes ≡ Ok (log_of log))) }
@@ -62,6 +63,7 @@ fn schedule_of<L: Read + Drop>(alloc: Global, log: Option<L>) -> Result<Log, Rec
     read_schedule(alloc, &mut log)
 }
 
+// The same, of a reader that was opened. All bytes that it holds have to be the text of a schedule.
 fn read_schedule<L: Read>(alloc: Global, reader: &mut L) -> Result<Log, RecordFailure>
     ensures ok { IfOk result (λ log. Held (L.remaining reader.old) (λ bytes. log_read bytes ≡ Ok (log_of log))) }
     ensures declined { IfErr result (λ why. Held (L.remaining reader.old) (λ bytes. IsUnread bytes why)) }

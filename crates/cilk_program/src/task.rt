@@ -6,12 +6,15 @@ ghost use Rattle.cilk_words.specs.CommandLine.{wanted_by};
 ghost use Rattle.cilk_program.specs.Debugging.{Debugs, DebugsFront, DebugsPart};
 ghost use Rattle.cilk_program.specs.GivingUp.{GivesUp, GivesUpRun};
 ghost use Rattle.cilk_program.specs.Replaying.{Replays, ReplaysFront};
+ghost use Rattle.cilk_program.specs.Saying.{ExplainsTrap, tells_trap};
 ghost use Rattle.cilk_program.specs.Taped.{Declines};
 ghost use Rattle.cilk_program.specs.Task.{Does, Fails, Leaves, is_session};
 ghost use Rattle.cilk_program.specs.Task.{RunsFrontSomewhere, RunsSomewhere, log_name};
 
 use crate::texts::Texts;
-use crate::{FileNames, RecordFailure, RunTask, Streams, debug_text, replay_text, run_text};
+use crate::{
+    FileNames, LogTask, RecordFailure, RunTask, Streams, debug_text, replay_text, run_text,
+};
 use cilk_commands::{Failure, Status, check_text, print_text};
 use cilk_words::{Request, Task};
 use std::alloc::Global;
@@ -38,8 +41,10 @@ pub fn perform<H: Threads + Wait + Sync, T: Texts, R: Read, O: Write, E: Write>(
         (R.remaining reader.old) (T.held texts.now) (T.entered texts.now)
         (O.contents streams.old.output) (O.contents streams.new.output) }
     ensures usage { result ≢ Status.Usage }
+    ensures explained { tells_trap request.now.explain result ≡ true → ExplainsTrap request.now.name.now (R.remaining reader.old)
+        (O.contents streams.old.output) (O.contents streams.new.output) (E.contents streams.old.errors) (E.contents streams.new.errors) }
 
-    ensures quiet { is_answer result ≡ true → streams.new.errors ≡ streams.old.errors }
+    ensures quiet { is_answer result ≡ true → tells_trap request.now.explain result ≡ false → streams.new.errors ≡ streams.old.errors }
     ensures kept { is_session (wanted_by request.now.task) ≡ false
         → is_answer result ≡ false → result ≢ Status.CannotWrite → streams.new.output ≡ streams.old.output }
     ensures unanswered { result ≡ Status.Refused → streams.new.output ≡ streams.old.output }
@@ -76,8 +81,16 @@ pub fn perform<H: Threads + Wait + Sync, T: Texts, R: Read, O: Write, E: Write>(
             };
             run_named(rt, alloc, &task, texts, reader, streams)
         }
-        Task::Replay { log } => replay_named(alloc, name, log, texts, reader, streams),
-        Task::Debug { log } => debug_named(alloc, name, log, texts, reader, streams),
+        Task::Replay { log } => {
+            let names = FileNames { program: name, log };
+            let task = LogTask { names, explain };
+            replay_named(alloc, &task, texts, reader, streams)
+        }
+        Task::Debug { log } => {
+            let names = FileNames { program: name, log };
+            let task = LogTask { names, explain };
+            debug_named(alloc, &task, texts, reader, streams)
+        }
     }
 }
 
@@ -98,72 +111,66 @@ fn run_named<H: Threads + Wait + Sync, T: Texts, R: Read, O: Write, E: Write>(
     ensures begun { result ≡ Status.CannotWrite → RunsFrontSomewhere task.now.workers task.now.limit
         (R.remaining reader.old) (O.contents streams.old.output) (O.contents streams.new.output) }
     ensures usage { result ≢ Status.Usage }
-    ensures quiet { is_answer result ≡ true → streams.new.errors ≡ streams.old.errors }
+    ensures explained { tells_trap task.now.explain result ≡ true → ExplainsTrap task.now.program.now (R.remaining reader.old)
+        (O.contents streams.old.output) (O.contents streams.new.output) (E.contents streams.old.errors) (E.contents streams.new.errors) }
+    ensures quiet { is_answer result ≡ true → tells_trap task.now.explain result ≡ false → streams.new.errors ≡ streams.old.errors }
     ensures kept { is_answer result ≡ false → result ≢ Status.CannotWrite → streams.new.output ≡ streams.old.output }
 {
-    let Ok(mut store) = texts.log(alloc, task.program, task.log) else {
+    let Ok(mut store) = texts.log_store(alloc, task.program, task.log) else {
         let failure = RecordFailure::Program(Failure::Memory);
         return failure.report(&task.names(), &mut streams.errors);
     };
     run_text(rt, alloc, task, reader, &mut store, streams)
 }
 
-// Replays the log of this name, of the program that the reader holds.
+// Replays a log, of the program that the reader holds.
 fn replay_named<T: Texts, R: Read, O: Write, E: Write>(
     alloc: Global,
-    name: &str,
-    log: &str,
+    task: &LogTask<'_>,
     texts: &T,
     reader: &mut R,
     streams: &mut Streams<O, E>,
 ) -> Status
     ensures done { is_answer result ≡ true → Replays result (R.remaining reader.old)
-        (T.held texts.now log.now) (O.contents streams.old.output) (O.contents streams.new.output) }
+        (T.held texts.now task.now.names.log.now) (O.contents streams.old.output) (O.contents streams.new.output) }
     ensures told { is_answer result ≡ false
-        → GivesUp Declines false name.now log.now result
-        (R.remaining reader.old) (T.held texts.now log.now) (E.contents streams.old.errors) (E.contents streams.new.errors) }
+        → GivesUp Declines task.now.explain task.now.names.program.now task.now.names.log.now result
+        (R.remaining reader.old) (T.held texts.now task.now.names.log.now) (E.contents streams.old.errors) (E.contents streams.new.errors) }
     ensures begun { result ≡ Status.CannotWrite → ReplaysFront (R.remaining reader.old)
-        (T.held texts.now log.now) (O.contents streams.old.output) (O.contents streams.new.output) }
+        (T.held texts.now task.now.names.log.now) (O.contents streams.old.output) (O.contents streams.new.output) }
     ensures usage { result ≢ Status.Usage }
-    ensures quiet { is_answer result ≡ true → streams.new.errors ≡ streams.old.errors }
+    ensures explained { tells_trap task.now.explain result ≡ true → ExplainsTrap task.now.names.program.now (R.remaining reader.old)
+        (O.contents streams.old.output) (O.contents streams.new.output) (E.contents streams.old.errors) (E.contents streams.new.errors) }
+    ensures quiet { is_answer result ≡ true → tells_trap task.now.explain result ≡ false → streams.new.errors ≡ streams.old.errors }
     ensures kept { is_answer result ≡ false → result ≢ Status.CannotWrite → streams.new.output ≡ streams.old.output }
 {
-    let names = FileNames { program: name, log };
-    replay_text(alloc, &names, reader, texts.open(log), streams)
+    replay_text(alloc, task, reader, texts.open(task.names.log), streams)
 }
 
-// Debugs the log of this name, of the program that the reader holds.
+// Debugs a log, of the program that the reader holds.
 fn debug_named<T: Texts, R: Read, O: Write, E: Write>(
     alloc: Global,
-    name: &str,
-    log: &str,
+    task: &LogTask<'_>,
     texts: &T,
     reader: &mut R,
     streams: &mut Streams<O, E>,
 ) -> Status
     ensures done { result ≡ Status.Done → Debugs (R.remaining reader.old)
-        (T.held texts.now log.now) (T.entered texts.now) (O.contents streams.old.output) (O.contents streams.new.output) }
+        (T.held texts.now task.now.names.log.now) (T.entered texts.now) (O.contents streams.old.output) (O.contents streams.new.output) }
     ensures told { is_answer result ≡ false
-        → GivesUp Declines false name.now log.now result
-        (R.remaining reader.old) (T.held texts.now log.now) (E.contents streams.old.errors) (E.contents streams.new.errors) }
+        → GivesUp Declines task.now.explain task.now.names.program.now task.now.names.log.now result
+        (R.remaining reader.old) (T.held texts.now task.now.names.log.now) (E.contents streams.old.errors) (E.contents streams.new.errors) }
     ensures begun { result ≡ Status.CannotWrite → DebugsFront (R.remaining reader.old)
-        (T.held texts.now log.now) (T.entered texts.now) (O.contents streams.old.output) (O.contents streams.new.output) }
+        (T.held texts.now task.now.names.log.now) (T.entered texts.now) (O.contents streams.old.output) (O.contents streams.new.output) }
     ensures part { is_answer result ≡ false → result ≢ Status.CannotWrite → (streams.new.output ≡ streams.old.output)
-        ⊎ DebugsPart (R.remaining reader.old) (T.held texts.now log.now) (T.entered texts.now)
+        ⊎ DebugsPart (R.remaining reader.old) (T.held texts.now task.now.names.log.now) (T.entered texts.now)
         (O.contents streams.old.output) (O.contents streams.new.output) }
     ensures usage { result ≢ Status.Usage }
     ensures only { is_answer result ≡ true → result ≡ Status.Done }
     ensures quiet { is_answer result ≡ true → streams.new.errors ≡ streams.old.errors }
     ensures kept { result ≡ Status.Refused → streams.new.output ≡ streams.old.output }
 {
-    let names = FileNames { program: name, log };
     let mut commands = texts.commands();
-    debug_text(
-        alloc,
-        &names,
-        reader,
-        texts.open(log),
-        &mut commands,
-        streams,
-    )
+    let log = texts.open(task.names.log);
+    debug_text(alloc, task, reader, log, &mut commands, streams)
 }

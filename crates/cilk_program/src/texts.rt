@@ -28,9 +28,10 @@ pub trait Texts {
     fn commands(&self) -> Self::Commands
         ensures { Self.Commands.remaining result ≡ entered self.now };
 
-    /// Where the log of this name is written, if there is one, of a run of the program whose text has that name. Nothing is
-    /// created before the text of the log is there.
-    fn log(
+    /// The store for the log of a run: `program` is the name of the program's text, and `name` that of the log. Where no log is wanted there is a
+    /// store too, which says so, so that a run with a log and one without are one function. Whether both names lead to one file is looked at here,
+    /// and told by `is_apart`. Nothing is created before `store` is called.
+    fn log_store(
         &self,
         alloc: Global,
         program: &str,

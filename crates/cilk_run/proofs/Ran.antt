@@ -18,7 +18,7 @@ use Rattle.cilk_machine.specs.Made.{Makes}
 use Rattle.cilk_machine.specs.Stands.{Led, StandsAt, Opens}
 use Rattle.cilk_run.specs.Histories.{IsLedBy, IsCounted}
 use Rattle.cilk_run.specs.Runs.{Stops, IsRun}
-use Rattle.cilk_run.specs.declared.outcome.Run.{Run}
+use Rattle.cilk_run.specs.declared.run_result.Run.{Run}
 
 pub led-on : (made : List code.Choice) (m n : Situation) (choice : code.Choice) (did : Event) → Makes m n (choice_of choice) did
     → IsLedBy m made → IsLedBy n (made ++ choice ∷ [])

@@ -8,7 +8,7 @@ use Rattle.cilk_machine.specs.Situation.{Situation}
 use Rattle.cilk_machine.specs.Stands.{Led}
 
 -- a machine and a list of choices
-pub record Held : Type 0 where
+pub record Recorded : Type 0 where
   pub machine : Situation
   pub history : List Choice
 

@@ -10,7 +10,7 @@ use Rattle.cilk_log.specs.Naming.{digest_of}
 use Rattle.cilk_machine.specs.Situation.{Situation}
 use Rattle.cilk_machine.specs.Stands.{StandsAt}
 use Rattle.cilk_run.specs.Histories.{IsCounted}
-use Rattle.cilk_run.specs.declared.outcome.Run.{Run}
+use Rattle.cilk_run.specs.declared.run_result.Run.{Run}
 
 -- there is nothing left to do: no more choices were made than the limit, and as many where one would still be possible
 pub record Stops (limit : ℕ) (m : Situation) : Type 0 where

@@ -1,7 +1,7 @@
 -- What a turn does.
 use Rattle.std.specs.Prelude.{◌≡◌, ◌⊎◌, ◌||◌, ◌+◌, ℕ, Bool, true, List, [], ◌∷◌, ◌++◌, Option, Some, slice_get}
 use Rattle.cilk_log.specs.choices.declared.act.Act.{Act}
-use Rattle.cilk_machine.specs.step.Looks.{code_at}
+use Rattle.cilk_machine.specs.step.Peeks.{code_at}
 use Rattle.cilk_machine.specs.eval.declared.slot.Slot.{Slot}
 use Rattle.cilk_machine.specs.labelled.Term.{Term}
 use Rattle.cilk_machine.specs.syntax.Tree.{Program}
@@ -9,8 +9,8 @@ use Rattle.cilk_run.specs.Histories.{Posted}
 use Rattle.cilk_run.specs.Runs.{Stops}
 use Rattle.cilk_run.specs.declared.post.Begun.{Begun}
 use Rattle.cilk_run.specs.declared.post.Begun.TheVariants.{Over, Seen}
-use Rattle.cilk_run.specs.declared.post.Turn.{Turn}
-use Rattle.cilk_run.specs.declared.post.Turn.TheVariants.{Made, Idle, Stop}
+use Rattle.cilk_run.specs.declared.post.TurnEnd.{TurnEnd}
+use Rattle.cilk_run.specs.declared.post.TurnEnd.TheVariants.{Made, Idle, Stop}
 
 -- all are to end for a reason that is not the machine's
 abbrev pub is_broken : Posted → Bool
@@ -21,7 +21,7 @@ abbrev pub IsOver : ℕ → Posted → Type 0
 IsOver limit t = (is_broken t ≡ true) ⊎ Stops limit t.machine
 
 -- what a turn of worker w did, by how the worker goes on
-abbrev pub IsTurn : ℕ → ℕ → Posted → Turn → Posted → Type 0
+abbrev pub IsTurn : ℕ → ℕ → Posted → TurnEnd → Posted → Type 0
 -- a choice of its own is the last one now
 IsTurn limit w old Made new = (act : Act) × (new.history ≡ old.history ++ record { worker = w; act = act } ∷ [])
 -- nothing was changed

@@ -1,7 +1,7 @@
 //! The expressions that the workers of a run evaluate without the lock.
 
 ghost use Rattle.std.specs.Prelude.{◌≡◌, ◌<◌, length, IfOk, IfSome, Some};
-ghost use Rattle.cilk_machine.specs.step.Looks.{code_at};
+ghost use Rattle.cilk_machine.specs.step.Peeks.{code_at};
 ghost use Rattle.cilk_run.specs.Turning.{IsListed};
 
 use crate::table::Setting;

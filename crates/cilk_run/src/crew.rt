@@ -7,8 +7,8 @@ ghost use Rattle.cilk_run.specs.Runs.{IsRun};
 use crate::ahead::Ahead;
 use crate::gate::Gate;
 use crate::locked::Locked;
-use crate::outcome::{Run, RunFault};
-use crate::post::{Post, Turn};
+use crate::post::{Post, TurnEnd};
+use crate::run_result::{Run, RunFault};
 use crate::shared::Shared;
 use crate::table::{Setting, Table};
 use cilk_machine::{Loaded, MachineFault};
@@ -41,7 +41,8 @@ pub fn run<R: Threads + Wait + Sync, G: Gate + Sync>(
     }
 }
 
-// The same, of a machine before any choice.
+// The same, of a machine before any choice. It names the run: `run_as` is proved for every `J`, and the proof of this call picks the one that has the
+// program of `locked`, these workers and this limit (`proofs/crew/run_on/Invariants.antt`).
 fn run_on<R: Threads + Wait + Sync, G: Gate + Sync>(
     rt: &R,
     alloc: Global,
@@ -70,6 +71,7 @@ const NAP: u32 = 50;
 
 const LONGEST_NAP: u32 = 40;
 
+// The same, of the run that `J` names. Table, mutex and `Ahead` are of one `J`, so that who gets the lock finds this run's program, workers and limit.
 fn run_as<J: Setting + Send + Sync, R: Threads + Wait + Sync, G: Gate + Sync>(
     rt: &R,
     alloc: Global,
@@ -146,15 +148,15 @@ fn work<T: Post, R: Wait, G: Gate>(
     for _ in rt.forever() {
         gate.before(worker, turn);
         match post.turn(rt, worker, &mut values) {
-            Turn::Stop => {
+            TurnEnd::Stop => {
                 bell.notify_all();
                 return;
             }
-            Turn::Idle => {
+            TurnEnd::Idle => {
                 in_vain = in_vain.saturating_add(1);
                 rest(rt, bell, in_vain);
             }
-            Turn::Made => {
+            TurnEnd::Made => {
                 turn = turn.wrapping_add(1);
                 in_vain = 0;
             }
@@ -182,15 +184,16 @@ fn work_alone<J: Setting, R: Wait, G: Gate>(rt: &R, table: Table<J>, gate: &G) -
     for _ in rt.forever() {
         gate.before(1, turn);
         match table.take_turn(1) {
-            Turn::Stop => break,
-            Turn::Idle => {}
-            Turn::Made => turn = turn.wrapping_add(1),
+            TurnEnd::Stop => break,
+            TurnEnd::Idle => {}
+            TurnEnd::Made => turn = turn.wrapping_add(1),
         }
     }
     table
 }
 
-/// Goes on in the caller's thread, for each worker in turn, where the run is not over yet; then gives it.
+/// Gives the run, once it is over, or tells that memory ran out. One of the two is so behind all workers' last turns, but no clause says that of threads:
+/// else it would go on here, in the caller's thread, for each worker in turn.
 fn finish<J: Setting, R: Wait>(
     rt: &R,
     alloc: Global,
@@ -208,7 +211,6 @@ fn finish<J: Setting, R: Wait>(
         if table.has_ended() {
             return table.into_run(alloc);
         }
-        // It never comes to this: a worker ends only where the run is over.
         for before in 0..workers {
             table.take_turn(before + 1);
         }

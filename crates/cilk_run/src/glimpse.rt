@@ -1,7 +1,7 @@
-//! What a worker sees of its step.
+//! What a worker sees of its step. The workers of `run` do without (`Table::begin_turn`).
 
 ghost use Rattle.std.specs.Prelude.{◌≡◌};
-ghost use Rattle.cilk_machine.specs.step.Looks.{look_of};
+ghost use Rattle.cilk_machine.specs.step.Peeks.{peek_of};
 
 use cilk_machine::Peek;
 use std::marker::Model;
@@ -14,22 +14,22 @@ pub struct Glimpse {
 }
 
 impl Model for Glimpse {
-    ghost use Rattle.cilk_machine.specs.step.Looks.{look_of};
+    ghost use Rattle.cilk_machine.specs.step.Peeks.{peek_of};
     ghost use Rattle.cilk_machine.specs.eval.Coding.{coded_Term};
-    ghost use Rattle.cilk_run.specs.Glimpses.{Glanced};
+    ghost use Rattle.cilk_run.specs.Glimpses as seen;
     ghost use Rattle.std.specs.Coded.{codes};
 
-    ghost Value = { Glanced };
+    ghost Value = { seen.Glimpse };
 
     ghost coded = { Prim.hlevel (codes, coded_Term) };
 
-    ghost view = { λ g. record { worker = g.worker; look = look_of g.peek } };
+    ghost view = { λ g. record { worker = g.worker; peek = peek_of g.peek } };
 }
 
 impl Glimpse {
     pub(crate) fn new(worker: u8, peek: Peek) -> Glimpse
         ensures worker { result.worker ≡ worker }
-        ensures look { result.look ≡ look_of peek }
+        ensures peek { result.peek ≡ peek_of peek }
     {
         Glimpse { worker, peek }
     }

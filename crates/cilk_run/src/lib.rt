@@ -8,9 +8,9 @@ mod gate;
 mod glimpse;
 mod lists;
 mod locked;
-mod outcome;
 mod post;
 mod proposal;
+mod run_result;
 mod shared;
 mod table;
 
@@ -20,7 +20,7 @@ pub use cilk_machine::{
 pub use crew::run;
 pub use gate::{Gate, Open};
 pub use glimpse::Glimpse;
-pub use lists::{Output, Turns};
+pub use lists::{ChoiceCounts, Output};
 pub use locked::Locked;
-pub use outcome::{Run, RunFault};
 pub use proposal::{Proposal, propose};
+pub use run_result::{Run, RunFault};

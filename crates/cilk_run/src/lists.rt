@@ -6,11 +6,11 @@ use std::marker::Model;
 
 /// The numbers of choices that the workers made, from worker 1 on.
 #[derive(Debug, Drop)]
-pub struct Turns {
+pub struct ChoiceCounts {
     counts: Vec<u64>,
 }
 
-impl Model for Turns {
+impl Model for ChoiceCounts {
     ghost use Rattle.std.specs.Prelude.{ℕ, List};
 
     ghost Value = { List ℕ };
@@ -18,11 +18,11 @@ impl Model for Turns {
     ghost view = { λ t. t.counts.items };
 }
 
-impl Turns {
-    pub(crate) fn new(counts: Vec<u64>) -> Turns
+impl ChoiceCounts {
+    pub(crate) fn new(counts: Vec<u64>) -> ChoiceCounts
         ensures { result ≡ counts.items }
     {
-        Turns { counts }
+        ChoiceCounts { counts }
     }
 
     pub fn as_slice(&self) -> &[u64]

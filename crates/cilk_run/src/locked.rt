@@ -3,11 +3,11 @@
 ghost use Rattle.std.specs.Prelude.{◌≡◌, ◌<◌, ◌⊎◌, ◌↔◌, [], ◌∷◌, ◌++◌, None, Some, option_map, Err, IfOk, IfErr, IfSome, OnOk, OnErr};
 ghost use Rattle.cilk_machine.specs.model.Choice as choices;
 ghost use Rattle.cilk_log.specs.choices.Words.{choice_of, event_of, reason_of};
-ghost use Rattle.cilk_machine.specs.Looking.{look_refused, look_at, noted_at, IsUnseen, IsUnsettled};
+ghost use Rattle.cilk_machine.specs.Looking.{look_refused, peek_at, taken_down_at, IsUnseen, IsUnsettled};
 ghost use Rattle.cilk_machine.specs.Situation.{workers_of};
 ghost use Rattle.cilk_machine.specs.eval.Known.{known};
 ghost use Rattle.cilk_machine.specs.labelled.Value.{value_of};
-ghost use Rattle.cilk_machine.specs.step.Looks.{code_at};
+ghost use Rattle.cilk_machine.specs.step.Peeks.{code_at};
 ghost use Rattle.cilk_machine.specs.Made.{Makes, MakesBy, IsRefused};
 ghost use Rattle.cilk_machine.specs.Stands.{Opens};
 ghost use Rattle.cilk_run.specs.Histories.{IsLedBy};
@@ -21,8 +21,8 @@ use cilk_machine::{
 use std::alloc::Global;
 use std::marker::Model;
 
-/// A machine, and the choices that led to it from where its program starts. One who has it alone may make choices; workers share it under a
-/// lock.
+/// A machine, and the choices that led to it from where its program starts. It has no lock itself: in a run by several workers
+/// it lies in the `Table`, which a mutex holds. One who has it alone may make choices.
 #[derive(Drop)]
 pub struct Locked {
     machine: Machine,
@@ -30,11 +30,11 @@ pub struct Locked {
 }
 
 impl Model for Locked {
-    ghost use Rattle.cilk_run.specs.Histories.{Held, IsLedBy};
+    ghost use Rattle.cilk_run.specs.Histories.{Recorded, IsLedBy};
     ghost use Rattle.cilk_machine.specs.syntax.ProgramCoding.{coded_Program};
     ghost use Rattle.std.specs.Coded.{codes};
 
-    ghost Value = { Held };
+    ghost Value = { Recorded };
 
     ghost coded = { Prim.hlevel (codes, coded_Program) };
 
@@ -95,7 +95,7 @@ impl Locked {
     /// stands in the expression. It is refused as a step is, but for one that has to wait.
     pub fn glimpse(&self, worker: u8) -> Result<Option<Glimpse>, Refusal>
         ensures free { OnOk result (look_refused self.now.machine worker ≡ None) }
-        ensures looks { IfOk result (λ o. option_map (λ g. g.look) o ≡ look_at self.now.machine worker) }
+        ensures looks { IfOk result (λ o. option_map (λ g. g.peek) o ≡ peek_at self.now.machine worker) }
         ensures worker { IfOk result (λ o. IfSome o (λ g. g.worker ≡ worker)) }
         ensures refused { IfErr result (IsUnseen self.now.machine worker) }
     {
@@ -110,10 +110,10 @@ impl Locked {
     /// else by now, it is refused as stale. A refusal changes nothing.
     pub fn commit(&mut self, proposal: Proposal) -> Result<Event, Refusal>
         ensures free { OnOk result (look_refused self.old.machine proposal.worker ≡ None) }
-        ensures seen { OnOk result (look_at self.old.machine proposal.worker ≡ Some proposal.look) }
+        ensures seen { OnOk result (peek_at self.old.machine proposal.worker ≡ Some proposal.peek) }
         ensures made { IfOk result (λ e. Makes self.old.machine self.new.machine (record { worker = proposal.worker; act = choices.step }) (event_of e)) }
         ensures history { OnOk result (self.new.history ≡ self.old.history ++ record { worker = proposal.worker; act = Act.Step } ∷ []) }
-        ensures refused { IfErr result (IsUnsettled self.old.machine proposal.worker proposal.look) }
+        ensures refused { IfErr result (IsUnsettled self.old.machine proposal.worker proposal.peek) }
         ensures unchanged { OnErr result (self.new ≡ self.old) }
     {
         self.settle(&proposal)
@@ -122,11 +122,11 @@ impl Locked {
     // The same, where the proposal stays the caller's.
     fn settle(&mut self, proposal: &Proposal) -> Result<Event, Refusal>
         ensures free { OnOk result (look_refused self.old.machine proposal.now.worker ≡ None) }
-        ensures seen { OnOk result (look_at self.old.machine proposal.now.worker ≡ Some proposal.now.look) }
+        ensures seen { OnOk result (peek_at self.old.machine proposal.now.worker ≡ Some proposal.now.peek) }
         ensures made { IfOk result
             (λ e. Makes self.old.machine self.new.machine (record { worker = proposal.now.worker; act = choices.step }) (event_of e)) }
         ensures history { OnOk result (self.new.history ≡ self.old.history ++ record { worker = proposal.now.worker; act = Act.Step } ∷ []) }
-        ensures refused { IfErr result (IsUnsettled self.old.machine proposal.now.worker proposal.now.look) }
+        ensures refused { IfErr result (IsUnsettled self.old.machine proposal.now.worker proposal.now.peek) }
         ensures unchanged { OnErr result (self.new ≡ self.old) }
     {
         if self.history.reserve(1).is_err() {
@@ -145,7 +145,7 @@ impl Locked {
 
     /// The same by what was taken down of the step, with the value of the expression of action n over that. An instance that something befell is
     /// told by its number.
-    pub(crate) fn settle_noted(
+    pub(crate) fn settle_taken_down(
         &mut self,
         worker: u8,
         n: u32,
@@ -155,27 +155,29 @@ impl Locked {
     ) -> Result<Did, Refusal>
         requires code { code_at self.old.machine.program n ≡ Some listed.now }
         requires value { value ≡ value_of (known values.now) listed.now }
-        ensures seen { OnOk result (look_at self.old.machine worker ≡ Some (noted_at self.old.machine worker n listed.now values.now)) }
+        ensures seen { OnOk result (peek_at self.old.machine worker ≡ Some (taken_down_at self.old.machine worker n listed.now values.now)) }
         ensures made { IfOk result (λ did. MakesBy self.old.machine self.new.machine (record { worker = worker; act = choices.step }) did) }
         ensures history { OnOk result (self.new.history ≡ self.old.history ++ record { worker = worker; act = Act.Step } ∷ []) }
-        ensures refused { IfErr result (IsUnsettled self.old.machine worker (noted_at self.old.machine worker n listed.now values.now)) }
+        ensures refused { IfErr result (IsUnsettled self.old.machine worker (taken_down_at self.old.machine worker n listed.now values.now)) }
         ensures unchanged { OnErr result (self.new ≡ self.old) }
     {
         if self.history.reserve(1).is_err() {
-            return Err(self.want_of_noted(worker, n, listed, values));
+            return Err(self.want_of_taken_down(worker, n, listed, values));
         }
-        let did = self.machine.settle_noted(worker, n, listed, values, value)?;
+        let did = self
+            .machine
+            .settle_taken_down(worker, n, listed, values, value)?;
         let act = Act::Step;
         self.history.push_reserved(Choice { worker, act });
         Ok(did)
     }
 
     // Why a step is not made by what was taken down of it where the history cannot grow.
-    fn want_of_noted(&self, worker: u8, n: u32, listed: &Listed, values: &[Known]) -> Refusal
+    fn want_of_taken_down(&self, worker: u8, n: u32, listed: &Listed, values: &[Known]) -> Refusal
         requires { code_at self.now.machine.program n ≡ Some listed.now }
-        ensures { IsUnsettled self.now.machine worker (noted_at self.now.machine worker n listed.now values.now) result }
+        ensures { IsUnsettled self.now.machine worker (taken_down_at self.now.machine worker n listed.now values.now) result }
     {
-        match self.machine.noted_refusal(worker, n, listed, values) {
+        match self.machine.taken_down_refusal(worker, n, listed, values) {
             None => Refusal::Memory,
             Some(refusal) => refusal,
         }
@@ -183,7 +185,7 @@ impl Locked {
 
     // Why a step is not made by what was seen of it where the history cannot grow.
     fn want_of(&self, proposal: &Proposal) -> Refusal
-        ensures { IsUnsettled self.now.machine proposal.now.worker proposal.now.look result }
+        ensures { IsUnsettled self.now.machine proposal.now.worker proposal.now.peek result }
     {
         match self
             .machine

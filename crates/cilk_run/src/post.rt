@@ -6,7 +6,7 @@ use std::sync::Wait;
 /// What workers take turns at, one at a time.
 pub trait Post {
     /// A worker takes a turn. `values` is memory of its own that is used again: what is in it before and behind a turn means nothing.
-    fn turn<R: Wait>(&self, rt: &R, worker: u8, values: &mut Vec<Known>) -> Turn;
+    fn turn<R: Wait>(&self, rt: &R, worker: u8, values: &mut Vec<Known>) -> TurnEnd;
 
     /// From now on each turn is the last of its worker.
     fn stop<R: Wait>(&self, rt: &R);
@@ -16,14 +16,14 @@ pub trait Post {
 #[derive(Clone, Copy, PartialEq, Eq, Debug)]
 pub enum Begun {
     /// To its end.
-    Over(Turn),
+    Over(TurnEnd),
     /// It sees something of its step, which is of the action of this number, and evaluates that while others have their turns.
     Seen(u32),
 }
 
 /// How a worker goes on behind its turn.
 #[derive(Clone, Copy, PartialEq, Eq, Debug)]
-pub enum Turn {
+pub enum TurnEnd {
     /// A choice was made.
     Made,
     /// None was possible for this worker, as things stand.

@@ -1,9 +1,9 @@
-//! The value of what a worker saw of its step.
+//! The value of what a worker saw of its step. The workers of `run` do without (`Table::begin_turn`).
 
 ghost use Rattle.std.specs.Prelude.{◌≡◌};
 ghost use Rattle.cilk_machine.specs.eval.Known.{known};
 ghost use Rattle.cilk_machine.specs.labelled.Value.{value_of};
-ghost use Rattle.cilk_machine.specs.step.Looks.{look_of};
+ghost use Rattle.cilk_machine.specs.step.Peeks.{peek_of};
 
 use crate::glimpse::Glimpse;
 use cilk_machine::{Peek, Trap};
@@ -22,7 +22,7 @@ impl Model for Proposal {
     ghost use Rattle.cilk_machine.specs.eval.Coding.{coded_Term};
     ghost use Rattle.cilk_machine.specs.eval.Known.{known};
     ghost use Rattle.cilk_machine.specs.labelled.Value.{value_of};
-    ghost use Rattle.cilk_machine.specs.step.Looks.{look_of};
+    ghost use Rattle.cilk_machine.specs.step.Peeks.{peek_of};
     ghost use Rattle.cilk_run.specs.Glimpses.{Proposed};
     ghost use Rattle.std.specs.Coded.{codes};
 
@@ -30,7 +30,7 @@ impl Model for Proposal {
 
     ghost coded = { Prim.hlevel (codes, coded_Term) };
 
-    ghost view = { λ p. record { worker = p.worker; look = look_of p.peek; value = p.value } };
+    ghost view = { λ p. record { worker = p.worker; peek = peek_of p.peek; value = p.value } };
 
     ghost invariant = { λ p. p.value ≡ value_of (known p.peek.values.items) p.peek.code };
 }
@@ -38,8 +38,8 @@ impl Model for Proposal {
 /// Evaluates what was seen. It takes no memory, and needs no lock.
 pub fn propose(glimpse: Glimpse) -> Proposal
     ensures worker { result.worker ≡ glimpse.worker }
-    ensures look { result.look ≡ glimpse.look }
-    ensures value { result.value ≡ value_of (known glimpse.look.values) glimpse.look.code }
+    ensures peek { result.peek ≡ glimpse.peek }
+    ensures value { result.value ≡ value_of (known glimpse.peek.values) glimpse.peek.code }
 {
     let Glimpse { worker, peek } = glimpse;
     let value = peek.value();
@@ -58,13 +58,13 @@ impl Proposal {
     }
 
     pub(crate) fn peek(&self) -> &Peek
-        ensures look { look_of result.now ≡ self.now.look }
+        ensures peek { peek_of result.now ≡ self.now.peek }
     {
         &self.peek
     }
 
     pub(crate) fn value(&self) -> Result<i32, Trap>
-        ensures { result ≡ value_of (known self.now.look.values) self.now.look.code }
+        ensures { result ≡ value_of (known self.now.peek.values) self.now.peek.code }
     {
         self.value
     }

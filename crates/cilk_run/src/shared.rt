@@ -3,7 +3,7 @@
 ghost use Rattle.std.specs.Prelude.{◌≡◌};
 
 use crate::ahead::Ahead;
-use crate::post::{Begun, Post, Turn};
+use crate::post::{Begun, Post, TurnEnd};
 use crate::table::{Setting, Table};
 use cilk_machine::Known;
 use std::sync::{Mutex, Wait};
@@ -17,7 +17,7 @@ pub struct Shared<J: Setting> {
 
 impl<J: Setting> Post for Shared<J> {
     #[inline(always)]
-    fn turn<R: Wait>(&self, rt: &R, worker: u8, values: &mut Vec<Known>) -> Turn {
+    fn turn<R: Wait>(&self, rt: &R, worker: u8, values: &mut Vec<Known>) -> TurnEnd {
         let begun = self
             .lock
             .lock(rt)
@@ -35,7 +35,7 @@ impl<J: Setting> Post for Shared<J> {
 
 impl<J: Setting> Shared<J> {
     // The rest of a turn whose worker saw this of action n, on which its step depends.
-    fn evaluate<R: Wait>(&self, rt: &R, worker: u8, n: u32, values: &[Known]) -> Turn {
+    fn evaluate<R: Wait>(&self, rt: &R, worker: u8, n: u32, values: &[Known]) -> TurnEnd {
         match self.ahead.of(n) {
             // No clause says that there is one, so it is asked again.
             None => self.lock.lock(rt).take_turn(worker),

@@ -9,16 +9,16 @@ ghost use Rattle.cilk_machine.specs.Situation.{workers_of};
 ghost use Rattle.cilk_machine.specs.Made.{IsRefused};
 ghost use Rattle.cilk_machine.specs.eval.Known.{known};
 ghost use Rattle.cilk_machine.specs.labelled.Value.{value_of};
-ghost use Rattle.cilk_machine.specs.step.Looks.{code_at};
+ghost use Rattle.cilk_machine.specs.step.Peeks.{code_at};
 ghost use Rattle.cilk_run.specs.Histories.{IsCounted};
 ghost use Rattle.cilk_run.specs.Runs.{IsRun, Stops};
 ghost use Rattle.cilk_run.specs.Turning.{IsTurn, IsBegun, IsOver, is_broken};
 
 use crate::ahead::Ahead;
-use crate::lists::{Output, Turns};
+use crate::lists::{ChoiceCounts, Output};
 use crate::locked::Locked;
-use crate::outcome::{Run, RunFault};
-use crate::post::{Begun, Turn};
+use crate::post::{Begun, TurnEnd};
+use crate::run_result::{Run, RunFault};
 use cilk_log::{Log, program_of};
 use cilk_machine::{Act, Choice, Known, Listed, Loaded, Memory, Outcome, Refusal, Trap};
 use std::alloc::Global;
@@ -37,6 +37,7 @@ pub trait Setting {
     ghost limit: { ℕ };
 }
 
+// What a call that passes `Brand` has in place of a run until its proof picks one, as that of `run_on` does: these values are of no run.
 impl Setting for Brand {
     ghost use Rattle.std.specs.Prelude.{[]};
 
@@ -47,12 +48,13 @@ impl Setting for Brand {
     ghost limit = { 0 };
 }
 
-/// The machine with its history, the number of choices that each worker made, and why all are to end, if they are.
+/// What the workers of a run take turns at, under a mutex where there are several: the machine with its history (`Locked`), the number of choices that
+/// each made, and why all are to end, if they are. It is none of the tables of a program.
 #[derive(Drop)]
 pub struct Table<J: Setting> {
     locked: Locked,
     /// The digest of the program's canonical text.
-    program: [u8; 32],
+    digest: [u8; 32],
     workers: u8,
     limit: u32,
     turns: Vec<u64>,
@@ -81,11 +83,11 @@ impl<J: Setting> Model for Table<J> {
     ghost invariant = { λ t. (t.locked.machine.program ≡ J.program)
         × (workers_of t.locked.machine ≡ J.workers) × (t.workers ≡ J.workers) × (t.limit ≡ J.limit)
         × (length t.locked.history ≤ J.limit) × IsCounted J.workers t.turns.items t.locked.history
-        × (t.program ≡ digest_of (program_text J.program)) };
+        × (t.digest ≡ digest_of (program_text J.program)) };
 }
 
 impl<J: Setting> Table<J> {
-    /// A machine before any choice, for a run of so many workers that make at most `limit` choices. What names the program is taken here.
+    /// A machine before any choice, for a run of so many workers that make at most `limit` choices. The program's digest is made here, once.
     pub fn new(alloc: Global, locked: Locked, workers: u8, limit: u32) -> Result<Table<J>, RunFault>
         requires program { locked.machine.program ≡ J.program }
         requires crew { workers_of locked.machine ≡ J.workers }
@@ -94,7 +96,7 @@ impl<J: Setting> Table<J> {
         requires none { locked.history ≡ [] }
         ensures err { IfErr result (λ e. e ≡ RunFault.Memory) }
     {
-        let Ok(program) = name_of(locked.machine().loaded()) else {
+        let Ok(digest) = digest_of_program(locked.machine().loaded()) else {
             return Err(RunFault::Memory);
         };
         let Ok(turns) = vec![in alloc; 0u64; usize::from(workers)] else {
@@ -102,7 +104,7 @@ impl<J: Setting> Table<J> {
         };
         Ok(Table {
             locked,
-            program,
+            digest,
             workers,
             limit,
             turns,
@@ -115,23 +117,24 @@ impl<J: Setting> Table<J> {
     /// What a worker does in a turn: a step of what is in its hand, or else it takes from its own deque, or else from that of the first worker
     /// behind it, in a circle, whose deque is not empty. Nothing where the run is over.
     #[inline(always)]
-    pub fn take_turn(&mut self, worker: u8) -> Turn
+    pub fn take_turn(&mut self, worker: u8) -> TurnEnd
         ensures turn { IsTurn J.limit worker self.old result self.new }
-        ensures broken { is_broken self.old ≡ true → result ≡ Turn.Stop }
-        ensures limit { J.limit ≤ length self.old.history → result ≡ Turn.Stop }
+        ensures broken { is_broken self.old ≡ true → result ≡ TurnEnd.Stop }
+        ensures limit { J.limit ≤ length self.old.history → result ≡ TurnEnd.Stop }
     {
         if self.is_over() {
-            return Turn::Stop;
+            return TurnEnd::Stop;
         }
-        match self.make(worker, Act::Step) {
-            Ok(()) => Turn::Made,
+        match self.advance(worker, Act::Step) {
+            Ok(()) => TurnEnd::Made,
             Err(Refusal::HandEmpty) => self.take_up(worker),
             Err(refusal) => self.stay(refusal),
         }
     }
 
-    /// The same of one who lets others have the lock meanwhile: where the worker's step evaluates one of these expressions, by number from 1 on,
-    /// nothing is done yet but to take down what its variables hold.
+    /// The first half of a turn of a worker that leaves the lock in between. `lists` has for each action, from 1 on, the expression that may be evaluated
+    /// without the lock, where there is one. Where the worker's step evaluates such a one, it is not made: `values` has then what its variables hold, and
+    /// the number of the action is told. Else this is a whole turn.
     #[inline(always)]
     pub fn begin_turn(
         &mut self,
@@ -153,9 +156,9 @@ impl<J: Setting> Table<J> {
         ensures { IsBegun J.limit worker self.old result self.new }
     {
         if self.is_over() {
-            return Begun::Over(Turn::Stop);
+            return Begun::Over(TurnEnd::Stop);
         }
-        match self.locked.machine().note(worker, lists, values) {
+        match self.locked.machine().take_down(worker, lists, values) {
             Ok(Some(n)) => Begun::Seen(n),
             Ok(None) => Begun::Over(self.take_turn(worker)),
             Err(_) => Begun::Over(self.stay(Refusal::Memory)),
@@ -171,18 +174,18 @@ impl<J: Setting> Table<J> {
         listed: &Listed,
         values: &[Known],
         value: Result<i32, Trap>,
-    ) -> Turn
+    ) -> TurnEnd
         requires code { code_at J.program n ≡ Some listed.now }
         requires value { value ≡ value_of (known values.now) listed.now }
         ensures turn { IsTurn J.limit worker self.old result self.new }
-        ensures broken { is_broken self.old ≡ true → result ≡ Turn.Stop }
-        ensures limit { J.limit ≤ length self.old.history → result ≡ Turn.Stop }
+        ensures broken { is_broken self.old ≡ true → result ≡ TurnEnd.Stop }
+        ensures limit { J.limit ≤ length self.old.history → result ≡ TurnEnd.Stop }
     {
         if self.is_over() {
-            return Turn::Stop;
+            return TurnEnd::Stop;
         }
-        match self.settle(worker, n, listed, values, value) {
-            Ok(()) => Turn::Made,
+        match self.settle_taken_down(worker, n, listed, values, value) {
+            Ok(()) => TurnEnd::Made,
             Err(Refusal::Memory) => self.stay(Refusal::Memory),
             Err(_) => self.take_turn(worker),
         }
@@ -210,33 +213,33 @@ impl<J: Setting> Table<J> {
 
     // A turn with an empty hand.
     #[inline(never)]
-    fn take_up(&mut self, worker: u8) -> Turn
+    fn take_up(&mut self, worker: u8) -> TurnEnd
         requires { length self.old.history < J.limit }
         ensures { IsTurn J.limit worker self.old result self.new }
     {
-        match self.make(worker, Act::Pop) {
-            Ok(()) => Turn::Made,
+        match self.advance(worker, Act::Pop) {
+            Ok(()) => TurnEnd::Made,
             Err(Refusal::DequeEmpty) => self.steal(worker),
             Err(refusal) => self.stay(refusal),
         }
     }
 
     // A turn with nothing in the hand and the deque.
-    fn steal(&mut self, worker: u8) -> Turn
+    fn steal(&mut self, worker: u8) -> TurnEnd
         requires { length self.old.history < J.limit }
         ensures { IsTurn J.limit worker self.old result self.new }
     {
         let (from, workers) = (worker, self.workers);
         for before in from..workers {
-            match self.make(worker, Act::Steal(before + 1)) {
-                Ok(()) => return Turn::Made,
+            match self.advance(worker, Act::Steal(before + 1)) {
+                Ok(()) => return TurnEnd::Made,
                 Err(Refusal::DequeEmpty) => {}
                 Err(refusal) => return self.stay(refusal),
             }
         }
         for victim in 1..from {
-            match self.make(worker, Act::Steal(victim)) {
-                Ok(()) => return Turn::Made,
+            match self.advance(worker, Act::Steal(victim)) {
+                Ok(()) => return TurnEnd::Made,
                 Err(Refusal::DequeEmpty) => {}
                 Err(refusal) => return self.stay(refusal),
             }
@@ -246,23 +249,24 @@ impl<J: Setting> Table<J> {
 
     // A turn in which the last thing that was tried was refused so.
     #[inline(never)]
-    fn stay(&mut self, refusal: Refusal) -> Turn
+    fn stay(&mut self, refusal: Refusal) -> TurnEnd
         ensures turn { (w : ℕ) → IsTurn J.limit w self.old result self.new }
-        ensures made { result ≢ Turn.Made }
+        ensures made { result ≢ TurnEnd.Made }
     {
         if matches!(refusal, Refusal::Memory) {
             self.is_short = true;
-            return Turn::Stop;
+            return TurnEnd::Stop;
         }
         if self.locked.machine().is_stuck() {
-            return Turn::Stop;
+            return TurnEnd::Stop;
         }
-        Turn::Idle
+        TurnEnd::Idle
     }
 
-    // Makes a choice, and counts it.
+    // Makes a choice, and counts it. A worker that the run does not have is refused here, though the machine would refuse it too: `count` has to know
+    // that `turns` has an entry for it. The workers of a run are 1 to `workers`, so it never comes to that.
     #[inline(always)]
-    fn make(&mut self, worker: u8, act: Act) -> Result<(), Refusal>
+    fn advance(&mut self, worker: u8, act: Act) -> Result<(), Refusal>
         requires { length self.old.history < J.limit }
         ensures history { OnOk result (self.new.history ≡ self.old.history ++ record { worker = worker; act = act } ∷ []) }
         ensures flags { (self.new.short ≡ self.old.short) × (self.new.stopped ≡ self.old.stopped) }
@@ -276,8 +280,8 @@ impl<J: Setting> Table<J> {
         Ok(())
     }
 
-    // Makes the choice of a step by what was taken down of it, and counts it.
-    fn settle(
+    // Makes the choice of a step by what was taken down of it, and counts it. Of workers as above.
+    fn settle_taken_down(
         &mut self,
         worker: u8,
         n: u32,
@@ -295,7 +299,8 @@ impl<J: Setting> Table<J> {
         if worker == 0 || worker > self.workers {
             return Err(Refusal::NoWorker);
         }
-        self.locked.settle_noted(worker, n, listed, values, value)?;
+        self.locked
+            .settle_taken_down(worker, n, listed, values, value)?;
         count(&mut self.turns, worker);
         Ok(())
     }
@@ -346,13 +351,13 @@ impl<J: Setting> Table<J> {
         };
         let Table {
             locked,
-            program,
+            digest,
             workers,
             turns,
             ..
         } = self;
         let log = Log {
-            program: Some(program),
+            program: Some(digest),
             workers,
             choices: locked.into_choices(),
         };
@@ -360,13 +365,13 @@ impl<J: Setting> Table<J> {
             end,
             log,
             output: Output::new(bytes),
-            turns: Turns::new(turns),
+            turns: ChoiceCounts::new(turns),
         })
     }
 }
 
 // The digest of the program's canonical text.
-fn name_of(program: &Loaded) -> Result<[u8; 32], Memory>
+fn digest_of_program(program: &Loaded) -> Result<[u8; 32], Memory>
     ensures { IfOk result (λ digest. digest ≡ digest_of (program_text program.now)) }
 {
     match program.text() {

@@ -3,7 +3,7 @@ use Rattle.std.proofs.Common.{◌≡◌, ℕ, ◌-◌, List, [], ◌∷◌, ◌+
 use Rattle.std.specs.Prelude.{slice_index_or}
 use Rattle.std.proofs.lemmas.List.{set-set, set-get_or}
 use Rattle.cilk_frame.specs.Frames.{Frame}
-use Rattle.cilk_frame.specs.model.Places.{WorkerOf, no_place, IsWorker, hand_of, deque_of, with_hand, with_deque, top_of, below_top, bottom_of, above_bottom}
+use Rattle.cilk_frame.specs.model.Hands.{WorkerOf, no_place, IsWorker, hand_of, deque_of, with_hand, with_deque, top_of, below_top, bottom_of, above_bottom}
 use Rattle.cilk_frame.proofs.Bottoms.{bottom_of-push, above_bottom-push}
 use Rattle.cilk_sched.proofs.Seats.{hand-same, deque-same, hand-kept, deque-kept}
 

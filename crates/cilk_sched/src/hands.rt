@@ -2,7 +2,7 @@
 
 ghost use Rattle.std.specs.Prelude.{◌≡◌, ◌<◌, ◌-◌, ◌++◌, ◌∷◌, [], Some, None, length, replicate, option_map, slice_get, IfOk, IfErr, IfSome, OnErr, OnOk};
 ghost use Rattle.std.specs.Option.{option_copied};
-ghost use Rattle.cilk_frame.specs.model.Places.{no_place, IsWorker, hand_of, deque_of, with_hand, with_deque, top_of, below_top, bottom_of, above_bottom};
+ghost use Rattle.cilk_frame.specs.model.Hands.{no_place, IsWorker, hand_of, deque_of, with_hand, with_deque, top_of, below_top, bottom_of, above_bottom};
 ghost use Rattle.cilk_frame.specs.Frames as frames;
 ghost use Rattle.cilk_frame.specs.Frames.{gone_to, stood, entered, left, with_cell, put_top, put_below};
 
@@ -22,7 +22,7 @@ pub struct Hands {
 
 impl Model for Hands {
     ghost use Rattle.std.specs.Prelude.{List};
-    ghost use Rattle.cilk_frame.specs.model.Places as seen;
+    ghost use Rattle.cilk_frame.specs.model.Hands as seen;
     ghost use Rattle.cilk_frame.specs.Frames.{Frame};
 
     ghost Value = { List (seen.WorkerOf Frame) };

@@ -11,7 +11,7 @@ pub struct HandsImage {
 
 impl Model for HandsImage {
     ghost use Rattle.std.specs.Prelude.{List};
-    ghost use Rattle.cilk_frame.specs.model.Places as seen;
+    ghost use Rattle.cilk_frame.specs.model.Hands as seen;
     ghost use Rattle.cilk_frame.specs.Frames.{Frame};
 
     ghost Value = { List (seen.WorkerOf Frame) };

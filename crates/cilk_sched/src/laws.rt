@@ -5,8 +5,8 @@ ghost use Rattle.std.specs.Prelude.{◌≡◌, ◌≢◌, ◌+◌, ◌++◌, ◌
 ghost use Rattle.cilk_frame.specs.model.Path.{Path, same_path};
 ghost use Rattle.cilk_frame.specs.model.Scheduler as model;
 ghost use Rattle.cilk_frame.specs.Frames.{Frame};
-ghost use Rattle.cilk_frame.specs.model.Places.{WorkerOf, no_place, IsWorker, worker_at, hand_of, deque_of, with_hand, with_deque, top_of, below_top};
-ghost use Rattle.cilk_frame.specs.model.Places.{bottom_of, above_bottom, named};
+ghost use Rattle.cilk_frame.specs.model.Hands.{WorkerOf, no_place, IsWorker, worker_at, hand_of, deque_of, with_hand, with_deque, top_of, below_top};
+ghost use Rattle.cilk_frame.specs.model.Hands.{bottom_of, above_bottom, named};
 ghost use Rattle.cilk_sched.specs.Count.{once, count_where, AllHeld, IsCounted};
 
 /// A worker has what it was given, and all others keep what they have.

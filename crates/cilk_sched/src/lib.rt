@@ -6,7 +6,7 @@
 //! `clone`; the other two use a frame that is with a worker already.
 //!
 //! ```compile_fail unknown-method
-//! ghost use Rattle.cilk_frame.specs.model.Places.{IsWorker};
+//! ghost use Rattle.cilk_frame.specs.model.Hands.{IsWorker};
 //!
 //! use cilk_frame::Frame;
 //! use cilk_sched::Hands;
@@ -20,7 +20,7 @@
 //!
 //! ```compile_fail borrow-e0382
 //! ghost use Rattle.std.specs.Prelude.{◌≡◌, None};
-//! ghost use Rattle.cilk_frame.specs.model.Places.{IsWorker, hand_of};
+//! ghost use Rattle.cilk_frame.specs.model.Hands.{IsWorker, hand_of};
 //!
 //! use cilk_frame::Frame;
 //! use cilk_sched::Hands;
@@ -35,7 +35,7 @@
 //! ```
 //!
 //! ```compile_fail borrow-e0382
-//! ghost use Rattle.cilk_frame.specs.model.Places.{IsWorker};
+//! ghost use Rattle.cilk_frame.specs.model.Hands.{IsWorker};
 //!
 //! use cilk_frame::Frame;
 //! use cilk_sched::Hands;

@@ -2,7 +2,7 @@
 
 ghost use Rattle.std.specs.Prelude.{◌≡◌, ◌<◌, ◌-◌, ◌++◌, ◌∷◌, [], Some, None, length, option_map, slice_get, IfErr, IfOk, IfSome, OnErr, OnOk};
 ghost use Rattle.std.specs.Option.{option_copied};
-ghost use Rattle.cilk_frame.specs.model.Places.{no_place, top_of, below_top, bottom_of, above_bottom};
+ghost use Rattle.cilk_frame.specs.model.Hands.{no_place, top_of, below_top, bottom_of, above_bottom};
 ghost use Rattle.cilk_frame.specs.Frames as frames;
 ghost use Rattle.cilk_frame.specs.Frames.{gone_to, stood, entered, left, with_cell, put_top, put_below};
 
@@ -20,7 +20,7 @@ pub struct Worker {
 }
 
 impl Model for Worker {
-    ghost use Rattle.cilk_frame.specs.model.Places as seen;
+    ghost use Rattle.cilk_frame.specs.model.Hands as seen;
     ghost use Rattle.cilk_frame.specs.Frames.{Frame};
 
     ghost Value = { seen.WorkerOf Frame };

@@ -15,7 +15,7 @@ pub(crate) struct WorkerImage {
 }
 
 impl Model for WorkerImage {
-    ghost use Rattle.cilk_frame.specs.model.Places as seen;
+    ghost use Rattle.cilk_frame.specs.model.Hands as seen;
     ghost use Rattle.cilk_frame.specs.Frames.{Frame};
 
     ghost Value = { seen.WorkerOf Frame };

@@ -2,7 +2,7 @@
 use Rattle.std.proofs.Common.{◌≡◌, ◌<◌, ◌++◌, ◌∷◌, [], ℕ, suc, List, true, Option, Some, None, length, refl, sym, ap, ◌∙◌, subst, arith, inl, inr}
 use Rattle.std.proofs.Common.{slice_set}
 use Rattle.std.proofs.Common.{All, length-set}
-use Rattle.cilk_frame.specs.model.Places.{bottom_of, above_bottom}
+use Rattle.cilk_frame.specs.model.Hands.{bottom_of, above_bottom}
 use Rattle.cilk_spawn.specs.declared.delivery.Delivery.{Delivery}
 use Rattle.cilk_spawn.specs.declared.fate.Fate.{Fate}
 use Rattle.cilk_spawn.specs.declared.record.Record.{Record}

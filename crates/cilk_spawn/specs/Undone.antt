@@ -1,6 +1,6 @@
 -- What a tree was before a value was sent or taken, and before instances were marked.
 use Rattle.std.specs.Prelude.{ℕ, false, List, [], ◌∷◌, Option, None, Some, slice_set}
-use Rattle.cilk_frame.specs.model.Places.{bottom_of, above_bottom}
+use Rattle.cilk_frame.specs.model.Hands.{bottom_of, above_bottom}
 use Rattle.cilk_spawn.specs.declared.delivery.Delivery.{Delivery}
 use Rattle.cilk_spawn.specs.declared.fate.Fate.{Fate}
 use Rattle.cilk_spawn.specs.declared.receiver.Receiver.{Receiver}

@@ -1,7 +1,7 @@
 //! Writes to single records that put back what the calls of a tree changed.
 
 ghost use Rattle.std.specs.Prelude.{◌≡◌, ◌<◌, ◌∷◌, true, length, slice_set, All, OnOk};
-ghost use Rattle.cilk_frame.specs.model.Places.{bottom_of, above_bottom};
+ghost use Rattle.cilk_frame.specs.model.Hands.{bottom_of, above_bottom};
 ghost use Rattle.cilk_spawn.specs.Nodes.{node_at, is_live, lives, with_waiting, with_fate};
 ghost use Rattle.cilk_spawn.specs.Records.{nodes_of, record_at, Alike, HasRoom};
 ghost use Rattle.cilk_spawn.specs.Undone.{waits_again, with_receiver, unmarked};

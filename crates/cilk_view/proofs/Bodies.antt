@@ -24,7 +24,7 @@ use Rattle.cilk_machine_agree.specs.frame.Frames.{Activation, Frame}
 use Rattle.cilk_machine_agree.specs.frame.Stands.{Activates, AllActivate, StandsFor}
 use Rattle.cilk_machine_agree.specs.model.Texts.{length_text, values_text, line_at}
 use Rattle.cilk_machine_agree.specs.model.Frames.{variables_text, activation_text, frame_text}
-use Rattle.cilk_view.specs.Turns.{line_number}
+use Rattle.cilk_view.specs.WhereLines.{line_number}
 use Rattle.cilk_view.specs.Frames.{body_with, vars_text, body_text, activation_by, frame_by}
 use Rattle.cilk_view.proofs.Links.{take_front, drop_front, by_head}
 

@@ -11,9 +11,9 @@ use Rattle.cilk_load.specs.labelled.Bodies.{label}
 use Rattle.cilk_machine_agree.specs.model.Path.{Path, same_path, is_that}
 use Rattle.cilk_machine_agree.specs.model.Instance.{Instance}
 use Rattle.cilk_machine_agree.specs.model.State.{is_live, instance_at}
-use Rattle.cilk_machine_agree.specs.model.Places.{WorkerOf, named}
+use Rattle.cilk_machine_agree.specs.model.Hands.{WorkerOf, named}
 use Rattle.cilk_machine_agree.specs.model.Run.{Standing}
-use Rattle.cilk_machine_agree.specs.placed.Places.{times_held, EachInItsPlace}
+use Rattle.cilk_machine_agree.specs.placed.Hands.{times_held, EachInItsPlace}
 use Rattle.cilk_machine_agree.proofs.placed_laws.Entries.{same-is}
 use Rattle.cilk_machine_agree.specs.frame.Frames.{Frame}
 use Rattle.cilk_machine_agree.specs.frame.Stands.{StandsFor}

@@ -6,6 +6,6 @@ pub mod Bodies
 pub mod Told
 pub mod Orders
 pub mod Trees
-pub mod Places
+pub mod TreeLines
 pub use Rattle.cilk_load.proofs.Fronts
 pub use Rattle.cilk_machine_agree.proofs.placed_laws

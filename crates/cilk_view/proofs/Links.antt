@@ -5,7 +5,7 @@ use Rattle.cilk_machine_agree.specs.syntax.Tree as tree
 use Rattle.cilk_load.specs.labelled.Bodies.{item_globals}
 use Rattle.cilk_machine_agree.specs.model.Path.{Path}
 use Rattle.cilk_machine_agree.specs.model.Values.{Values}
-use Rattle.cilk_machine_agree.specs.model.Places.{WorkerOf, named}
+use Rattle.cilk_machine_agree.specs.model.Hands.{WorkerOf, named}
 use Rattle.cilk_machine_agree.specs.nodes.Slots.{size_of, flat}
 use Rattle.cilk_machine_agree.specs.frame.Frames.{Frame}
 use Rattle.cilk_machine_agree.specs.spawn.Nodes.{Node}
@@ -14,7 +14,7 @@ use Rattle.cilk_machine_agree.specs.Outside.{lock_by}
 use Rattle.cilk_machine_agree.specs.Agrees.{name_in}
 use Rattle.cilk_machine_agree.specs.model.Globals.{globals_text}
 use Rattle.cilk_machine_agree.specs.model.Workers.{deques_text}
-use Rattle.cilk_view.specs.Turns.{by_worker, deque_line}
+use Rattle.cilk_view.specs.WhereLines.{by_worker, deque_line}
 use Rattle.cilk_view.specs.Globals.{width, globals_by}
 use Rattle.std.proofs.lemmas.List.Elements.{All-head, All-tail}
 use Rattle.std.proofs.Common.{◌∙◌, sym}
@@ -36,8 +36,8 @@ use Rattle.cilk_machine_agree.specs.sched.Count.{AllAt, AllHeld}
 use Rattle.cilk_machine_agree.specs.Agrees.{MachineParts, Held, Agrees}
 use Rattle.cilk_machine_agree.proofs.Found.{found}
 use Rattle.cilk_machine_agree.specs.model.Texts.{line_at}
-use Rattle.cilk_machine_agree.specs.model.Workers.{line_of_instance, turn_text, turns_text}
-use Rattle.cilk_view.specs.Turns.{turn_by, turn_line}
+use Rattle.cilk_machine_agree.specs.model.Workers.{line_of_instance, where_path_text, where_text}
+use Rattle.cilk_view.specs.WhereLines.{where_frame_text, where_line}
 
 pub deques_are : (ns : List Node) (w : ℕ) (places : List (WorkerOf Frame)) → by_worker (deque_line ns) w places ≡ deques_text w (named (name_in ns) places)
 deques_are ns w [] = refl
@@ -80,23 +80,24 @@ pub line_is : (program : Labelled) (f : Frame) (i : Instance) → StandsFor prog
 line_is program f i stands = by_head program (head_of i.top.items) (top_of f).node (top-stands program f i stands).acts.node_is
 
 module _ (p : Program) (m : MachineParts) (who : ℕ → Instance) (at : Standing) (agrees : Agrees p m who at) where
-  turn_is : (hand : Option Frame) → IfSome hand (Held p m.nodes who)
-      → turn_by p m.nodes hand ≡ turn_text (label p) at.state.instances (option_map (name_in m.nodes) hand)
-  turn_is None held = refl
-  turn_is (Some f) held =
+  where_frame_is : (hand : Option Frame) → IfSome hand (Held p m.nodes who)
+      → where_frame_text p m.nodes hand ≡ where_path_text (label p) at.state.instances (option_map (name_in m.nodes) hand)
+  where_frame_is None held = refl
+  where_frame_is (Some f) held =
       let there : instance_at at.state.instances (path_at m.nodes f.id) ≡ Some (who f.id) =
       ap (λ es. instance_at es (path_at m.nodes f.id)) agrees.instances ∙ found m.nodes who f.id agrees.tree held.live
       in
       ap (λ k. codes " at " ++ (path_text (path_at m.nodes f.id) ++ (codes " line " ++ decimal k)))
       (sym (ap (line_of_instance (label p)) there ∙ line_is (label p) f (who f.id) held.stands))
 
-  pub turns_are : (w : ℕ) (places : List (WorkerOf Frame)) → AllHeld (Held p m.nodes who) places
-      → by_worker (turn_line p m.nodes) w places ≡ turns_text (label p) at.state.instances w (named (name_in m.nodes) places)
-  turns_are w [] held = refl
-  turns_are w (x ∷ places) held =
-      let here = turn_is x.hand (All-head (AllAt (Held p m.nodes who)) x places held).0 in
-      let rest = turns_are (suc w) places (All-tail (AllAt (Held p m.nodes who)) x places held) in
-      ap (λ xs. xs ++ by_worker (turn_line p m.nodes) (suc w) places)
+  pub where_lines_are : (w : ℕ) (places : List (WorkerOf Frame)) → AllHeld (Held p m.nodes who) places
+      → by_worker (where_line p m.nodes) w places ≡ where_text (label p) at.state.instances w (named (name_in m.nodes) places)
+  where_lines_are w [] held = refl
+  where_lines_are w (x ∷ places) held =
+      let here = where_frame_is x.hand (All-head (AllAt (Held p m.nodes who)) x places held).0 in
+      let rest = where_lines_are (suc w) places (All-tail (AllAt (Held p m.nodes who)) x places held) in
+      ap (λ xs. xs ++ by_worker (where_line p m.nodes) (suc w) places)
       (ap (λ t. codes "worker " ++ (decimal w ++ (t ++ codes "\n"))) here)
-      ∙ ap (λ xs. (codes "worker " ++ (decimal w ++ (turn_text (label p) at.state.instances (option_map (name_in m.nodes) x.hand) ++ codes "\n"))) ++ xs) rest
+      ∙ ap (λ xs. (codes "worker " ++ (decimal w ++ (where_path_text (label p) at.state.instances (option_map (name_in m.nodes) x.hand)
+      ++ codes "\n"))) ++ xs) rest
       ∙ simp append_assoc

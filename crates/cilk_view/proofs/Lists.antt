@@ -5,7 +5,7 @@ use Rattle.cilk_machine_agree.specs.frame.Frames.{Frame}
 use Rattle.cilk_machine_agree.specs.spawn.Nodes.{Node}
 use Rattle.cilk_machine_agree.specs.Agrees.{name_in}
 use Rattle.cilk_machine_agree.specs.model.Workers.{paths_text}
-use Rattle.cilk_view.specs.Turns.{queued_text}
+use Rattle.cilk_view.specs.WhereLines.{queued_text}
 
 pub next_queued : (ns : List Node) (deque : List Frame) (i : ℕ) → i < length deque
     → paths_text (map (name_in ns) (drop i deque)) ≡ queued_text ns (slice_get deque i) ++ paths_text (map (name_in ns) (drop (suc i) deque))

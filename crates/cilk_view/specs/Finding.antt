@@ -1,7 +1,7 @@
 -- The frame of an instance.
 use Rattle.std.specs.Prelude.{ℕ, nat_eq, List, [], ◌∷◌, Option, Some, None, if◌then◌else◌}
 use Rattle.std.specs.Option.{option_or}
-use Rattle.cilk_machine_agree.specs.model.Places.{WorkerOf}
+use Rattle.cilk_machine_agree.specs.model.Hands.{WorkerOf}
 use Rattle.cilk_machine_agree.specs.frame.Frames.{Frame}
 use Rattle.cilk_machine_agree.specs.spawn.Nodes.{Node, node_at}
 

@@ -8,7 +8,7 @@ use Rattle.cilk_machine_agree.specs.nodes.Table.{node_of}
 use Rattle.cilk_machine_agree.specs.nodes.Bodies.{body_of}
 use Rattle.cilk_machine_agree.specs.frame.Frames.{Activation, Frame}
 use Rattle.cilk_machine_agree.specs.model.Texts.{length_text, values_text}
-use Rattle.cilk_view.specs.Turns.{line_number}
+use Rattle.cilk_view.specs.WhereLines.{line_number}
 
 -- the body that action n stands in
 abbrev pub body_with : Program → ℕ → Option Body

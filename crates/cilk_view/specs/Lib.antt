@@ -1,4 +1,4 @@
-pub mod Turns
+pub mod WhereLines
 pub mod Frames
 pub mod Globals
 pub mod Listing

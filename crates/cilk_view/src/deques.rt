@@ -2,10 +2,10 @@
 
 ghost use Rattle.std.specs.Prelude.{◌≡◌, ◌<◌, length, map, option_map, slice_get, decimal, codes};
 ghost use Rattle.cilk_load.specs.syntax.Appends.{Appends};
-ghost use Rattle.cilk_machine_agree.specs.model.Places.{IsWorker, worker_at, hand_of, deque_of};
+ghost use Rattle.cilk_machine_agree.specs.model.Hands.{IsWorker, worker_at, hand_of, deque_of};
 ghost use Rattle.cilk_machine_agree.specs.Agrees.{name_in};
 ghost use Rattle.cilk_machine_agree.specs.model.Workers.{hand_text, paths_text};
-ghost use Rattle.cilk_view.specs.Turns.{by_worker, AllMade, deque_line, queued_text};
+ghost use Rattle.cilk_view.specs.WhereLines.{by_worker, AllMade, deque_line, queued_text};
 
 use crate::put::{put, put_name};
 use cilk_load::Memory;

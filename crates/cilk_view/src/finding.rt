@@ -1,7 +1,7 @@
 //! Where the frame of an instance is found: in a hand, in a deque, or parked.
 
 ghost use Rattle.std.specs.Prelude.{◌≡◌, ℕ, true, length, Some, IfSome, option_copied};
-ghost use Rattle.cilk_machine_agree.specs.model.Places.{IsWorker, worker_at, deque_of};
+ghost use Rattle.cilk_machine_agree.specs.model.Hands.{IsWorker, worker_at, deque_of};
 ghost use Rattle.cilk_machine_agree.specs.spawn.Nodes.{node_at, is_live, path_at};
 ghost use Rattle.cilk_view.specs.Finding.{frame_among, frame_at, frame_held, frame_live};
 

@@ -3,12 +3,12 @@
 ghost use Rattle.std.specs.Prelude.{◌≡◌, ◌++◌, ◌<◌, codes, decimal, option_copied};
 ghost use Rattle.cilk_load.specs.syntax.Appends.{Appends};
 ghost use Rattle.cilk_machine_agree.specs.frame.Frames.{depth, activation_at};
-ghost use Rattle.cilk_view.specs.Turns.{line_number};
+ghost use Rattle.cilk_view.specs.WhereLines.{line_number};
 ghost use Rattle.cilk_view.specs.Frames.{body_with, vars_text, body_text, activation_by, frame_by};
 
 use crate::cells::{first_cells, other_cells, put_variable};
 use crate::put::put;
-use crate::turns::line_number;
+use crate::where_lines::line_number;
 use cilk_load::{Body, Loaded, Memory, Var};
 use cilk_machine_agree::Frame;
 

@@ -14,8 +14,8 @@ mod showing;
 mod shown;
 mod texts;
 mod tree;
-mod turns;
 mod what;
+mod where_lines;
 
 pub use cilk_load::Loaded;
 pub use fault::ViewFault;

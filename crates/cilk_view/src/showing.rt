@@ -10,7 +10,7 @@ ghost use Rattle.cilk_view.specs.Shows.{ShowsAt, Shows};
 use crate::fault::ViewFault;
 use crate::finding::{find_live, frame_live};
 use crate::shown::Shown;
-use crate::texts::{deques_text, frame_text, globals_text, list_text, output_text, turns_text};
+use crate::texts::{deques_text, frame_text, globals_text, list_text, output_text, where_text};
 use crate::tree::tree_text;
 use crate::what::What;
 use cilk_load::Memory;
@@ -34,7 +34,7 @@ pub fn show(alloc: Global, parts: &Shown, what: &What) -> Result<String, ViewFau
         What::Globals => told(globals_text(alloc, parts)),
         What::Deques => told(deques_text(alloc, parts)),
         What::Output => told(output_text(alloc, parts.output)),
-        What::Where => told(turns_text(alloc, parts)),
+        What::Where => told(where_text(alloc, parts)),
         What::List => told(list_text(alloc, parts.loaded)),
     }
 }

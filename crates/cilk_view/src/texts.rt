@@ -4,7 +4,7 @@ ghost use Rattle.std.specs.Prelude.{◌≡◌, IfOk, OnOk, string_bytes};
 ghost use Rattle.cilk_machine_agree.specs.model.Run.{Position};
 ghost use Rattle.cilk_load.specs.labelled.Bodies.{label};
 ghost use Rattle.cilk_machine_agree.specs.model.Globals.{globals_text};
-ghost use Rattle.cilk_machine_agree.specs.model.Workers.{deques_text, turns_text};
+ghost use Rattle.cilk_machine_agree.specs.model.Workers.{deques_text, where_text};
 ghost use Rattle.cilk_machine_agree.specs.model.Views.{output_text};
 ghost use Rattle.cilk_machine_agree.specs.model.Listing.{list_text};
 ghost use Rattle.cilk_view.specs.Shows.{ShowsAt, Shows};
@@ -16,7 +16,7 @@ use crate::globals::put_globals;
 use crate::listing::put_list;
 use crate::output::put_output;
 use crate::shown::Shown;
-use crate::turns::put_turns;
+use crate::where_lines::put_where_lines;
 use cilk_load::{Loaded, Memory};
 use cilk_machine_agree::Frame;
 use std::alloc::{AllocError, Global};
@@ -65,13 +65,14 @@ pub(crate) fn output_text(alloc: Global, output: &[u8]) -> Result<String, Memory
     }
 }
 
-pub(crate) fn turns_text(alloc: Global, shown: &Shown) -> Result<String, Memory>
+/// The text of `where`, without its line on the position.
+pub(crate) fn where_text(alloc: Global, shown: &Shown) -> Result<String, Memory>
     requires { Shows shown.now }
     ensures { IfOk result (λ text. (at : Position) → ShowsAt shown.now at
-        → string_bytes text ≡ turns_text (label shown.now.loaded.now) at.standing.state.instances 1 at.standing.scheduler.places) }
+        → string_bytes text ≡ where_text (label shown.now.loaded.now) at.standing.state.instances 1 at.standing.scheduler.places) }
 {
     let mut out = String::new(alloc);
-    put_turns(
+    put_where_lines(
         &mut out,
         shown.loaded,
         shown.tree,

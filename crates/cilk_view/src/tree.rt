@@ -4,11 +4,11 @@ ghost use Rattle.std.specs.Prelude.{◌≡◌, ◌<◌, ◌++◌, length, codes,
 ghost use Rattle.cilk_load.specs.syntax.Appends.{Appends};
 ghost use Rattle.cilk_load.specs.labelled.Bodies.{label};
 ghost use Rattle.cilk_machine_agree.specs.model.Run.{Position};
-ghost use Rattle.cilk_machine_agree.specs.model.Places.{IsWorker, worker_at, deque_of};
+ghost use Rattle.cilk_machine_agree.specs.model.Hands.{IsWorker, worker_at, deque_of};
 ghost use Rattle.cilk_machine_agree.specs.frame.Frames.{top_of};
 ghost use Rattle.cilk_machine_agree.specs.spawn.Nodes.{node_at, is_live};
 ghost use Rattle.cilk_machine_agree.specs.model.ViewTrees.{tree_text, waiting_text, aborted_text};
-ghost use Rattle.cilk_view.specs.Turns.{line_number};
+ghost use Rattle.cilk_view.specs.WhereLines.{line_number};
 ghost use Rattle.cilk_view.specs.Finding.{frame_live};
 ghost use Rattle.cilk_view.specs.Shows.{ShowsAt, Shows};
 ghost use Rattle.cilk_view.specs.Sorting.{IsMade, AreMade};
@@ -17,7 +17,7 @@ ghost use Rattle.cilk_view.specs.Trees.{procedure_name, is_of, is_among, holder_
 use crate::finding::{frame_live, frame_queued};
 use crate::put::put;
 use crate::shown::Shown;
-use crate::turns::line_number;
+use crate::where_lines::line_number;
 use cilk_load::Memory;
 use cilk_machine_agree::{Fate, Frame, Hands, Id, Path, Tree};
 use std::alloc::Global;

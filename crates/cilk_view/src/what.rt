@@ -2,7 +2,7 @@
 
 use cilk_machine_agree::Path;
 
-/// What may be asked of a program that runs.
+/// A view of a program that runs, named by the command of a session that asks for it.
 #[derive(Debug, Drop)]
 pub enum What {
     /// Each instance ever made.

@@ -131,9 +131,13 @@ wants_a_log : fault_of command_line (codes "cilk" ∷ codes "replay" ∷ codes "
 unfolding clap_on_literals
 wants_a_log = refl
 
-explains_no_replay : fault_of command_line (codes "cilk" ∷ codes "replay" ∷ codes "a" ∷ codes "g" ∷ codes "--explain" ∷ []) ≡ kind.UnknownArgument ∷ []
+explains_replay : asked (codes "cilk" ∷ codes "replay" ∷ codes "a" ∷ codes "g" ∷ codes "--explain" ∷ []) ≡ Some (at_length (replayed (codes "g")) (codes "a"))
 unfolding clap_on_literals
-explains_no_replay = refl
+explains_replay = refl
+
+explains_debug : asked (codes "cilk" ∷ codes "debug" ∷ codes "--explain" ∷ codes "a" ∷ codes "g" ∷ []) ≡ Some (at_length (debugged (codes "g")) (codes "a"))
+unfolding clap_on_literals
+explains_debug = refl
 
 -- a log is no dash, nor is a program where commands are read
 writes_no_dash : option_and_then dash_of (wished (codes "cilk" ∷ codes "run" ∷ codes "a" ∷ codes "--log" ∷ codes "-" ∷ [])) ≡ Some dash.Log

@@ -49,7 +49,7 @@ workers_rule = number_rule (codes "workers") (Signed (pos 1) (pos 64)) (codes "1
 abbrev pub written_rule : Rule
 written_rule = record (new_rule (codes "log")) { long = Some (codes "log"); value_names = 1; action = Some Set }
 
--- the flag by which more is said of a fault
+-- the flag by which more is said of what is wrong
 abbrev pub explain_rule : Rule
 explain_rule = record (new_rule (codes "explain")) { long = Some (codes "explain"); action = Some SetTrue }
 
@@ -57,13 +57,13 @@ explain_rule = record (new_rule (codes "explain")) { long = Some (codes "explain
 abbrev pub on_text : Text → App
 on_text name = with_rule (new_app name) file_rule
 
--- one of whose faults more may be said
+-- one that may say more of what is wrong
 abbrev pub on_explained : Text → App
 on_explained name = with_rule (on_text name) explain_rule
 
--- one on a text and a log
+-- one on a text and a log, which may say more too
 abbrev pub on_log : Text → App
-on_log name = with_rule (on_text name) log_rule
+on_log name = with_rule (on_explained name) log_rule
 
 -- a run, of which a log may be written
 abbrev pub on_run : App
@@ -114,7 +114,7 @@ abbrev pub is_set : Option Text → Bool
 is_set None = false
 is_set (Some word) = bytes_eq word (codes "true")
 
--- what is wanted, the name of the text that it is for, and whether more is to be said of a fault in that text
+-- what is wanted, the name of the text that it is for, and whether more is to be said of what is wrong
 pub record Asked : Type 0 where
   pub wanted : Wanted
   pub name : Text

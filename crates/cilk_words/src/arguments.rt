@@ -20,7 +20,7 @@ pub const LIMIT: &str = "limit";
 /// The name of the argument that names the log to be written of a run.
 pub const WRITTEN: &str = "log";
 
-/// The name of the flag by which more is said of a fault.
+/// The name of the flag by which more is said of what is wrong.
 pub const EXPLAIN: &str = "explain";
 
 /// The name of the argument that says how many workers a run has.
@@ -128,7 +128,7 @@ fn with<'a>(
     }
 }
 
-// A subcommand on one program's text, of whose faults more may be said.
+// A subcommand on one program's text, which may say more of what is wrong.
 fn on_explained<'a>(
     alloc: Global,
     name: &'a str,
@@ -140,7 +140,7 @@ fn on_explained<'a>(
     let explain = Arg::new(alloc, EXPLAIN)
         .long(EXPLAIN)
         .action(ArgAction::SetTrue)
-        .help("Says more of a fault in the program");
+        .help("Says in more words what is wrong, and where");
     on_text(alloc, name, about, help)?.arg(explain)
 }
 
@@ -168,7 +168,7 @@ fn on_log<'a>(
         .required(true)
         .action(ArgAction::Set)
         .help("The log of a run, a file");
-    on_text(alloc, name, about, help)?.arg(log)
+    on_explained(alloc, name, about, help)?.arg(log)
 }
 
 fn on_text<'a>(

@@ -10,7 +10,7 @@ const STANDARD: &str = "-";
 
 const PROGRAM: &str = "error: `-` cannot stand for F here: the commands are read from standard input
 
-Usage: cilk debug <F> <G>
+Usage: cilk debug [OPTIONS] <F> <G>
 
 For more information, try '--help'.
 ";

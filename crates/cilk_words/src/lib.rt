@@ -4,13 +4,13 @@
 #![tactic(auto)]
 
 mod arguments;
-mod asking;
 mod dash;
 mod plain;
 mod refusal;
 mod request;
+mod requesting;
 
-pub use asking::request_in;
 pub use dash::Dash;
 pub use refusal::NoRequest;
 pub use request::{Request, Task};
+pub use requesting::request_in;

@@ -6,7 +6,7 @@ use std::alloc::{AllocError, Global};
 const ADVICE: &str = "  tip: to pass '";
 
 const OPTIONS: &str =
-    "  tip: an option stands behind its subcommand: --explain behind print, check and run, and --limit, --log and --workers behind run";
+    "  tip: an option stands behind its subcommand: --explain behind each, and --limit, --log and --workers behind run";
 
 // What stands before the reason why a word is not the number of an option, and what is told in place of it.
 const WORKERS: &str = "for '--workers <N>': ";

@@ -6,7 +6,7 @@ use clap::Error;
 use clap::error::ErrorKind;
 use std::alloc::Global;
 
-/// Why there is no program to do something with.
+/// Why the words ask for no task, with what is told instead.
 #[derive(Debug, Drop)]
 pub enum NoRequest {
     /// Help is asked for, which is this text.

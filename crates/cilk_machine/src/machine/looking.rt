@@ -3,15 +3,16 @@
 ghost use Rattle.std.specs.Prelude.{◌≡◌, ◌≢◌, ◌<◌, ◌-◌, ◌^◌, ◌⊎◌, Decides, true, Some, None, option_map, OnErr, OnOk, IfOk, IfErr, IfSome, IfNone};
 ghost use Rattle.std.specs.Prelude.{IsSome, slice_get};
 ghost use Rattle.cilk_machine_choices.specs.model.Choice as choices;
-ghost use Rattle.cilk_machine_choices.specs.model.Places.{IsWorker};
+ghost use Rattle.cilk_machine_choices.specs.model.Hands.{IsWorker};
 ghost use Rattle.cilk_machine_choices.specs.Words.{reason_of, event_of};
 ghost use Rattle.cilk_machine_carry.specs.eval.Known.{known};
 ghost use Rattle.cilk_machine_carry.specs.labelled.Value.{value_of};
-ghost use Rattle.cilk_machine_step.specs.Looks.{code_at, look_of};
+ghost use Rattle.cilk_machine_step.specs.Peeks.{code_at, peek_of};
 ghost use Rattle.cilk_machine.specs.Situation.{workers_of};
 ghost use Rattle.cilk_machine.specs.Refused.{runs, is_worker_of, is_full, refused_by, planned_in};
 ghost use Rattle.cilk_machine.specs.Made.{Makes, MakesBy, IsRefused};
-ghost use Rattle.cilk_machine.specs.Looking.{look_refused, look_at, IsUnseen, IsUnsettled, IsStale, IsNoted, IsSeenAt, noted_at, number_ahead, plan_by};
+ghost use Rattle.cilk_machine.specs.Looking.{look_refused, peek_at, IsUnseen, IsUnsettled, IsStale};
+ghost use Rattle.cilk_machine.specs.Looking.{IsTakenDown, IsSeenAt, taken_down_at, number_ahead, plan_by};
 ghost use Rattle.cilk_machine_carry.specs.plans.Words.{plan_of};
 
 use super::Machine;
@@ -28,7 +29,7 @@ impl Machine {
     /// `SYNCHED` stands in the expression. It is refused as a step is, but for one that has to wait, of which there is nothing to see.
     pub fn peek(&self, worker: u8) -> Result<Option<Peek>, Refusal>
         ensures free { OnOk result (look_refused self.now worker ≡ None) }
-        ensures looks { IfOk result (λ peek. option_map look_of peek ≡ look_at self.now worker) }
+        ensures looks { IfOk result (λ peek. option_map peek_of peek ≡ peek_at self.now worker) }
         ensures refused { IfErr result (IsUnseen self.now worker) }
     {
         match self.look_refusal(worker) {
@@ -41,7 +42,7 @@ impl Machine {
     fn look(&self, worker: u8) -> Result<Option<Peek>, Refusal>
         requires worker { IsWorker self.now.machine.places worker }
         requires full { is_full self.now.machine.places worker ≡ true }
-        ensures looks { IfOk result (λ peek. option_map look_of peek ≡ look_at self.now worker) }
+        ensures looks { IfOk result (λ peek. option_map peek_of peek ≡ peek_at self.now worker) }
         ensures memory { IfErr result (λ r. r ≡ Refusal.Memory) }
     {
         match self.parts.hands.hand(worker) {
@@ -64,9 +65,9 @@ impl Machine {
         requires room { self.old.choices < 2 ^ 64 - 1 }
         requires value { value ≡ value_of (known peek.now.values.items) peek.now.code }
         ensures free { OnOk result (look_refused self.old worker ≡ None) }
-        ensures seen { OnOk result (look_at self.old worker ≡ Some (look_of peek.now)) }
+        ensures seen { OnOk result (peek_at self.old worker ≡ Some (peek_of peek.now)) }
         ensures made { IfOk result (λ e. Makes self.old self.new (record { worker = worker; act = choices.step }) (event_of e)) }
-        ensures refused { IfErr result (IsUnsettled self.old worker (look_of peek.now)) }
+        ensures refused { IfErr result (IsUnsettled self.old worker (peek_of peek.now)) }
         ensures unchanged { OnErr result (self.new ≡ self.old) }
     {
         if let Some(refusal) = self.look_refusal(worker) {
@@ -83,20 +84,20 @@ impl Machine {
 
     /// Takes down what the worker sees of its step, if the expression of the action is among these, by number from 1 on: what the variables hold.
     /// It tells the number. None where it sees nothing, or where there is no such expression.
-    pub fn note(
+    pub fn take_down(
         &self,
         worker: u8,
         lists: &[Option<Listed>],
         values: &mut Vec<Known>,
     ) -> Result<Option<u32>, Memory>
-        ensures { IfOk result (λ o. IfSome o (λ n. IsNoted self.now worker n lists.now values.new.items)) }
+        ensures { IfOk result (λ o. IfSome o (λ n. IsTakenDown self.now worker n lists.now values.new.items)) }
     {
         match self.number_ahead(worker) {
             None => Ok(None),
             Some(n) => match listed_at(lists, n) {
                 None => Ok(None),
                 Some(listed) => {
-                    self.take_down(worker, listed, values)?;
+                    self.take_down_by(worker, listed, values)?;
                     Ok(Some(n))
                 }
             },
@@ -105,7 +106,7 @@ impl Machine {
 
     /// Makes the choice of the worker's step by the number of its action and what was taken down, with the value of the expression over that. Where
     /// one sees something else by now, it is refused as stale. A refusal changes nothing.
-    pub fn settle_noted(
+    pub fn settle_taken_down(
         &mut self,
         worker: u8,
         n: u32,
@@ -117,12 +118,12 @@ impl Machine {
         requires code { code_at self.old.program n ≡ Some listed.now }
         requires value { value ≡ value_of (known values.now) listed.now }
         ensures free { OnOk result (look_refused self.old worker ≡ None) }
-        ensures seen { OnOk result (look_at self.old worker ≡ Some (noted_at self.old worker n listed.now values.now)) }
+        ensures seen { OnOk result (peek_at self.old worker ≡ Some (taken_down_at self.old worker n listed.now values.now)) }
         ensures made { IfOk result (λ did. MakesBy self.old self.new (record { worker = worker; act = choices.step }) did) }
-        ensures refused { IfErr result (IsUnsettled self.old worker (noted_at self.old worker n listed.now values.now)) }
+        ensures refused { IfErr result (IsUnsettled self.old worker (taken_down_at self.old worker n listed.now values.now)) }
         ensures unchanged { OnErr result (self.new ≡ self.old) }
     {
-        if let Some(refusal) = self.noted_refusal(worker, n, listed, values) {
+        if let Some(refusal) = self.taken_down_refusal(worker, n, listed, values) {
             return Err(refusal);
         }
         match self.plan_seen(worker, n, value) {
@@ -136,7 +137,7 @@ impl Machine {
 
     /// Why the worker's step is not taken by what was taken down: the first reason that applies, want of memory left out. None where one still sees
     /// the same.
-    pub fn noted_refusal(
+    pub fn taken_down_refusal(
         &self,
         worker: u8,
         n: u32,
@@ -145,14 +146,14 @@ impl Machine {
     ) -> Option<Refusal>
         requires { code_at self.now.program n ≡ Some listed.now }
         ensures free { IfNone result (look_refused self.now worker ≡ None) }
-        ensures seen { IfNone result (look_at self.now worker ≡ Some (noted_at self.now worker n listed.now values.now)) }
+        ensures seen { IfNone result (peek_at self.now worker ≡ Some (taken_down_at self.now worker n listed.now values.now)) }
         ensures refused { IfSome result (λ r. (look_refused self.now worker ≡ Some r)
-            ⊎ IsStale self.now worker (noted_at self.now worker n listed.now values.now) r) }
+            ⊎ IsStale self.now worker (taken_down_at self.now worker n listed.now values.now) r) }
     {
         match self.look_refusal(worker) {
             Some(refusal) => Some(refusal),
             None => {
-                if self.still_noted(worker, n, listed, values) {
+                if self.still_taken_down(worker, n, listed, values) {
                     None
                 } else {
                     Some(Refusal::Stale)
@@ -175,7 +176,7 @@ impl Machine {
     fn number_in_hand(&self, worker: u8) -> Option<u32>
         requires worker { IsWorker self.now.machine.places worker }
         requires full { is_full self.now.machine.places worker ≡ true }
-        ensures { result ≡ option_map (λ look. look.n) (look_at self.now worker) }
+        ensures { result ≡ option_map (λ peek. peek.n) (peek_at self.now worker) }
     {
         match self.parts.hands.hand(worker) {
             None => unreachable!(),
@@ -184,9 +185,14 @@ impl Machine {
     }
 
     // Takes what the variables of an expression hold for a worker that sees something of its step.
-    fn take_down(&self, worker: u8, listed: &Listed, values: &mut Vec<Known>) -> Result<(), Memory>
+    fn take_down_by(
+        &self,
+        worker: u8,
+        listed: &Listed,
+        values: &mut Vec<Known>,
+    ) -> Result<(), Memory>
         requires { IsSome (number_ahead self.now worker) }
-        ensures { OnOk result (IfSome (look_at self.now worker) (λ look. listed.now ≡ look.code → values.new.items ≡ look.values)) }
+        ensures { OnOk result (IfSome (peek_at self.now worker) (λ peek. listed.now ≡ peek.code → values.new.items ≡ peek.values)) }
     {
         match self.parts.hands.hand(worker) {
             None => unreachable!(),
@@ -195,11 +201,11 @@ impl Machine {
     }
 
     // Whether the worker, which has a frame in its hand, sees now what was taken down.
-    fn still_noted(&self, worker: u8, n: u32, listed: &Listed, values: &[Known]) -> bool
+    fn still_taken_down(&self, worker: u8, n: u32, listed: &Listed, values: &[Known]) -> bool
         requires worker { IsWorker self.now.machine.places worker }
         requires full { is_full self.now.machine.places worker ≡ true }
         requires code { code_at self.now.program n ≡ Some listed.now }
-        ensures { Decides result (look_at self.now worker ≡ Some (noted_at self.now worker n listed.now values.now)) }
+        ensures { Decides result (peek_at self.now worker ≡ Some (taken_down_at self.now worker n listed.now values.now)) }
     {
         match self.parts.hands.hand(worker) {
             None => unreachable!(),
@@ -211,8 +217,8 @@ impl Machine {
     /// sees the same.
     pub fn settle_refusal(&self, worker: u8, peek: &Peek) -> Option<Refusal>
         ensures free { IfNone result (look_refused self.now worker ≡ None) }
-        ensures seen { IfNone result (look_at self.now worker ≡ Some (look_of peek.now)) }
-        ensures refused { IfSome result (λ r. (look_refused self.now worker ≡ Some r) ⊎ IsStale self.now worker (look_of peek.now) r) }
+        ensures seen { IfNone result (peek_at self.now worker ≡ Some (peek_of peek.now)) }
+        ensures refused { IfSome result (λ r. (look_refused self.now worker ≡ Some r) ⊎ IsStale self.now worker (peek_of peek.now) r) }
     {
         match self.look_refusal(worker) {
             Some(refusal) => Some(refusal),
@@ -230,7 +236,7 @@ impl Machine {
     fn still_sees(&self, worker: u8, peek: &Peek) -> bool
         requires worker { IsWorker self.now.machine.places worker }
         requires full { is_full self.now.machine.places worker ≡ true }
-        ensures { Decides result (look_at self.now worker ≡ Some (look_of peek.now)) }
+        ensures { Decides result (peek_at self.now worker ≡ Some (peek_of peek.now)) }
     {
         match self.parts.hands.hand(worker) {
             None => unreachable!(),

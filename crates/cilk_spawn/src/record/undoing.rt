@@ -1,7 +1,7 @@
 //! What the calls of the tree changed in a record is put back.
 
 ghost use Rattle.std.specs.Prelude.{ℕ, ◌≡◌, ◌==◌, ◌∷◌, None, Some, true, cond, OnErr, OnOk};
-ghost use Rattle.cilk_frame.specs.model.Places.{bottom_of, above_bottom};
+ghost use Rattle.cilk_frame.specs.model.Hands.{bottom_of, above_bottom};
 ghost use Rattle.cilk_spawn.specs.Nodes.{is_live, lives};
 ghost use Rattle.cilk_spawn.specs.Dropped.{fewer};
 ghost use Rattle.cilk_spawn.specs.Revived.{alive};

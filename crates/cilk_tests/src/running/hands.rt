@@ -1,7 +1,7 @@
 //! Frames that go from hand to hand.
 
 ghost use Rattle.std.specs.Prelude.{◌≡◌, length};
-ghost use Rattle.cilk_model.specs.Places.{IsWorker};
+ghost use Rattle.cilk_model.specs.Hands.{IsWorker};
 
 use super::program;
 use cilk_frame::{Frame, Id};

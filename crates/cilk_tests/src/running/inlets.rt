@@ -1,7 +1,7 @@
 //! Schedules of programs with inlets, `abort`, `SYNCHED`, locks and `printf`, which are known by
 //! hand (Cilk 5.4 manual, `inlet`, `abort`, `SYNCHED`, `Cilk_lock`).
 
-use super::script::{Row, comes_out, machine, play};
+use super::script::{Row, comes_out, machine, play, rows_come_out};
 
 const LOOKING: &str = "int done; cilk int look(int v) { done = done + 1; return v; }
 cilk int main(void) { int best = 0; inlet void take(int v) { best = v; abort; }
@@ -170,14 +170,5 @@ const ROWS: &[(&str, u8, &str, &str, &str)] = &[
 
 #[test]
 fn schedules_come_out(rt: HostRuntime) {
-    for &(text, workers, script, outcome, closing) in ROWS {
-        let row = Row {
-            text,
-            workers,
-            script,
-            outcome,
-            closing,
-        };
-        comes_out(&rt, rt.alloc(), &row);
-    }
+    rows_come_out(&rt, rt.alloc(), ROWS);
 }

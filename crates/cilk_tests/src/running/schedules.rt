@@ -1,7 +1,7 @@
 //! Schedules that are known by hand: arithmetic, spawns and refusals.
 
 use super::program;
-use super::script::{Row, closes, comes_out, machine, play};
+use super::script::{closes, machine, play, rows_come_out};
 use cilk_frame::Id;
 use cilk_log::Act;
 use cilk_run::{Choice, Did, Machine, MachineFault, Refusal};
@@ -96,16 +96,7 @@ const ROWS: &[(&str, u8, &str, &str, &str)] = &[
 
 #[test]
 fn schedules_come_out(rt: HostRuntime) {
-    for &(text, workers, script, outcome, closing) in ROWS {
-        let row = Row {
-            text,
-            workers,
-            script,
-            outcome,
-            closing,
-        };
-        comes_out(&rt, rt.alloc(), &row);
-    }
+    rows_come_out(&rt, rt.alloc(), ROWS);
 }
 
 // What is refused moves no frame. Each is where it was: the next step of worker 1 is the root's.

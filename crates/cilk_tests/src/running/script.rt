@@ -132,6 +132,20 @@ pub fn comes_out(rt: &impl Abort, alloc: Global, row: &Row<'_>) {
     closes(rt, alloc, &machine, row.closing);
 }
 
+// Asserts the same of each: a program, its workers, a script, the outcome, and the closing text.
+pub fn rows_come_out(rt: &impl Abort, alloc: Global, rows: &[(&str, u8, &str, &str, &str)]) {
+    for &(text, workers, script, outcome, closing) in rows {
+        let row = Row {
+            text,
+            workers,
+            script,
+            outcome,
+            closing,
+        };
+        comes_out(rt, alloc, &row);
+    }
+}
+
 // Asserts the closing text of a machine: what it printed, and how it ended.
 pub fn closes(rt: &impl Abort, alloc: Global, machine: &Machine, wanted: &str) {
     let end = machine.end_now().expect(rt, "memory");

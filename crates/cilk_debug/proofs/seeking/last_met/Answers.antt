@@ -12,7 +12,7 @@ loop-made-preserved c = (
   c.later-last.ensures.within,
   λ t same h.
       let kept = c.loop-made.invariant.2 t same h in (
-        subst (λ (k : ℕ). IsAt t k c.met.new.machine) (next c.loop-made.made) (c.in-Ok.ensures.next t same kept.0),
+        subst (λ (k : ℕ). IsAt t k c.make_and_test.new.machine) (next c.loop-made.made) (c.in-Ok.ensures.next t same kept.0),
         c.later-last.ensures.value
             ∙ last_again t c.args.marks.now c.loop-made.made c.in-Ok.is_met c.loop-made.last (c.in-Ok.ensures.stops t same kept.0) kept.1,
       ),

@@ -1,5 +1,5 @@
 use Rattle.std.proofs.Common.{List, length, replicate, Some, ap, ◌∙◌}
-use Rattle.cilk_machine_choices.specs.model.Places.{with_hand}
+use Rattle.cilk_machine_choices.specs.model.Hands.{with_hand}
 use Rattle.cilk_machine_carry.specs.nodes.declared.var.Var.{Var}
 use Rattle.cilk_machine_carry.specs.spawn.Family.{Family}
 use Rattle.cilk_machine_carry.specs.agree.declared.lock.Lock.TheVariants.{Unset}

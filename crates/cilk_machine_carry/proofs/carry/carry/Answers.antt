@@ -8,7 +8,7 @@ use Rattle.cilk_machine_carry.proofs.Arms.{by-arm, ok-by}
 use Rattle.cilk_machine_carry.proofs.carry.carry.Goals as goal
 
 pub returns-in-End-clause-done : goal.returns-in-End-clause-done
-returns-in-End-clause-done c = by-arm c.in-End.is (c.carry_end.ensures (option_copied c.args.body))
+returns-in-End-clause-done c = by-arm c.in-End.is (c.carry_end.ensures.carried (option_copied c.args.body))
 
 pub returns-in-Trap-clause-done : goal.returns-in-Trap-clause-done
 returns-in-Trap-clause-done c = by-arm c.in-Trap.is (c.carry_trap.ensures c.args.choice (option_copied c.args.body))
@@ -33,7 +33,8 @@ returns-in-Call-clause-done c = ok-by c.carry_call.result c.carry_call.ensures.d
 pub returns-in-Answer-clause-done : goal.returns-in-Answer-clause-done
 returns-in-Answer-clause-done c =
     let z : to_z w32 (of_z w32 c.in-Answer.value) ≡ c.in-Answer.value = grind (arith, to_z-of_z) in
-    by-arm (c.in-Answer.is ∙ (λ j. plan.Answer c.in-Answer.n c.in-Answer.reached (sym z j))) (c.carry_answer.ensures c.args.choice (option_copied c.args.body))
+    by-arm (c.in-Answer.is ∙ (λ j. plan.Answer c.in-Answer.n c.in-Answer.reached (sym z j)))
+    (c.carry_answer.ensures.carried c.args.choice (option_copied c.args.body))
 
 pub returns-in-Return-clause-done : goal.returns-in-Return-clause-done
 returns-in-Return-clause-done c =
@@ -48,8 +49,8 @@ pub returns-in-Print-clause-done : goal.returns-in-Print-clause-done
 returns-in-Print-clause-done c =
     ok-by c.carry_print.result c.carry_print.ensures.done (λ d h. by-arm c.in-Print.is (h c.args.choice (option_copied c.args.body)))
 
-pub returns-in-Turn-clause-done : goal.returns-in-Turn-clause-done
-returns-in-Turn-clause-done c = by-arm c.in-Turn.is (c.carry_turn.ensures c.args.choice (option_copied c.args.body))
+pub returns-in-TurnLock-clause-done : goal.returns-in-TurnLock-clause-done
+returns-in-TurnLock-clause-done c = by-arm c.in-TurnLock.is (c.carry_lock_turn.ensures c.args.choice (option_copied c.args.body))
 
 pub returns-in-Abort-clause-done : goal.returns-in-Abort-clause-done
 returns-in-Abort-clause-done c = by-arm c.in-Abort.is (c.carry_abort.ensures c.args.choice (option_copied c.args.body))

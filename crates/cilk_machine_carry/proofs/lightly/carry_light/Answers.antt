@@ -2,7 +2,7 @@ use Rattle.std.proofs.Common.{◌≡◌, option_map, sym, ap, ◌∙◌, arith}
 use Rattle.std.proofs.lemmas.Int.{to_z-of_z}
 use mir.Val.{of_z, to_z}
 use mir.Syntax.{w32}
-use Rattle.cilk_machine_plan.specs.model.Places.{with_hand}
+use Rattle.cilk_machine_plan.specs.model.Hands.{with_hand}
 use Rattle.cilk_machine_plan.specs.frame.Frames.{gone_to, left}
 use Rattle.cilk_machine_plan.specs.frame.Cells.{frame_put}
 use Rattle.cilk_machine_plan.specs.agree.Outside as outside
@@ -15,8 +15,8 @@ use Rattle.cilk_machine_carry.proofs.Arms.{by-arm}
 use Rattle.cilk_machine_carry.proofs.Held.{written}
 use Rattle.cilk_machine_carry.proofs.lightly.carry_light.Goals as goal
 
-pub returns-in-Write : goal.returns-in-Write
-returns-in-Write c =
+pub returns-in-Write-clause-carried : goal.returns-in-Write-clause-carried
+returns-in-Write-clause-carried c =
     let m = machine_of c.args.parts.now outside.running in
     let w = c.args.worker in
     let f = frame_in m.places w in
@@ -25,23 +25,23 @@ returns-in-Write c =
     let z : to_z w32 (of_z w32 c.in-Write.value) ≡ c.in-Write.value = grind (arith, to_z-of_z) in
     let gone = c.go_on-in-Write.ensures ∙ ap (λ o. with_hand m.places w (option_map (gone_to to) o)) c.requires.held in
     let hands = written m.places w c.requires.worker (gone_to to f) (frame_put at.slot at.index (to_z w32 (of_z w32 c.in-Write.value)))
-    c.go_on-in-Write.new.self c.write-in-Write.new.hands gone c.write-in-Write.ensures.hands in
+    c.go_on-in-Write.new.self c.write_cell-in-Write.new.hands gone c.write_cell-in-Write.ensures.hands in
     by-arm (ap plan_of c.in-Write.is ∙ (λ j. plan.Write c.in-Write.n at (sym z j) to)) (record {
-      machine = λ j. record { outside = record m.outside { cells = c.write-in-Write.ensures.globals j }; nodes = m.nodes; places = hands j };
+      machine = λ j. record { outside = record m.outside { cells = c.write_cell-in-Write.ensures.globals j }; nodes = m.nodes; places = hands j };
       did = ap (λ k. did.Acted k c.in-Write.n) c.requires.id;
     })
 
-pub returns-in-Answer : goal.returns-in-Answer
-returns-in-Answer c =
+pub returns-in-Answer-clause-carried : goal.returns-in-Answer-clause-carried
+returns-in-Answer-clause-carried c =
     let m = machine_of c.args.parts.now outside.running in
     let w = c.args.worker in
     let f = frame_in m.places w in
     let at = c.in-Answer.reached in
     let z : to_z w32 (of_z w32 c.in-Answer.value) ≡ c.in-Answer.value = grind (arith, to_z-of_z) in
-    let gone = c.leave-in-Answer.ensures ∙ ap (λ o. with_hand m.places w (option_map left o)) c.requires.held in
+    let gone = c.withdraw-in-Answer.ensures.rest ∙ ap (λ o. with_hand m.places w (option_map left o)) c.requires.held in
     let hands = written m.places w c.requires.worker (left f) (frame_put at.slot at.index (to_z w32 (of_z w32 c.in-Answer.value)))
-    c.leave-in-Answer.new.self c.write-in-Answer.new.hands gone c.write-in-Answer.ensures.hands in
+    c.withdraw-in-Answer.new.self c.write_cell-in-Answer.new.hands gone c.write_cell-in-Answer.ensures.hands in
     by-arm (ap plan_of c.in-Answer.is ∙ (λ j. plan.Answer c.in-Answer.n at (sym z j))) (record {
-      machine = λ j. record { outside = record m.outside { cells = c.write-in-Answer.ensures.globals j }; nodes = m.nodes; places = hands j };
+      machine = λ j. record { outside = record m.outside { cells = c.write_cell-in-Answer.ensures.globals j }; nodes = m.nodes; places = hands j };
       did = ap (λ k. did.Acted k c.in-Answer.n) c.requires.id;
     })

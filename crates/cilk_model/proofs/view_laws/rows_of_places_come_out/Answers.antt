@@ -26,6 +26,6 @@ pub returns-clause-stolen : goal.returns-clause-stolen
 unfolding digits
 returns-clause-stolen c = refl
 
-pub returns-clause-turns : goal.returns-clause-turns
+pub returns-clause-where_lines : goal.returns-clause-where_lines
 unfolding digits
-returns-clause-turns c = refl
+returns-clause-where_lines c = refl

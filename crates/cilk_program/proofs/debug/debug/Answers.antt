@@ -8,6 +8,9 @@ use Rattle.cilk_program.specs.declared.failure.RecordFailure.{RecordFailure}
 use Rattle.cilk_program.proofs.Debugged.{opens, playable_of, broken_not_refused, broken_by_writer, undebugged_reads}
 use Rattle.cilk_program.proofs.Debugged.{declines_held_of, own_held, answered, broken, broken_writing}
 use Rattle.cilk_program.proofs.Whole.{follows_of}
+use Rattle.cilk_program.proofs.Said.{fault_said, unsaid}
+use Rattle.cilk_program.proofs.Told.{replay_reads}
+use Rattle.cilk_debug.specs.log.Words.{log_of}
 use Rattle.std.proofs.Common.{inl, refl}
 use Rattle.cilk_program.proofs.debug.debug.Goals as goal
 
@@ -82,3 +85,48 @@ returns-in-Err-session-clause-begun g c = λ held is failed.
     (own_held held c.args.text.now c.in-Ok.taped.log.program t (c.in-Ok.ensures.ok held is) made.own)
     (opens c.in-Ok-new.debugger t made.tape made.start made.marks) (playable_of c.in-Ok-new.debugger t made.tape made.whole) _ _
     c.in-Err-session.fault c.in-Err-session.ensures.fault (broken_by_writer c.in-Err-session.fault (ap status_of (sym c.broken_off.ensures) ∙ failed))
+
+-- ---- with a choice that was found not to be possible before
+
+pub returns-in-Err-tried-clause-declined : goal.returns-in-Err-tried-clause-declined
+returns-in-Err-tried-clause-declined g c = λ held is refused.
+    let read = c.in-Ok.ensures.ok held is in
+    record {
+      bytes = read.bytes;
+      held = read.held;
+      are = record {
+        named = c.in-Ok.taped.log.program;
+        tape = tape_of c.in-Ok.taped.program c.in-Ok.taped.log.workers c.in-Ok.taped.log.choices;
+        is = read.are;
+        told = c.in-Err-tried.ensures.told;
+      };
+    }
+
+pub returns-in-Err-tried-clause-follows : goal.returns-in-Err-tried-clause-follows
+returns-in-Err-tried-clause-follows g c = (c.in-Ok.taped.program, c.in-Ok.ensures.ready)
+
+pub returns-in-Err-tried-clause-begun : goal.returns-in-Err-tried-clause-begun
+returns-in-Err-tried-clause-begun g c = λ held is failed. absurd (replay_reads c.in-Err-tried.fault failed)
+
+pub returns-in-Err-tried-clause-part : goal.returns-in-Err-tried-clause-part
+returns-in-Err-tried-clause-part g c = λ held is other. inl refl
+
+pub returns-in-Err-tried-clause-kept : goal.returns-in-Err-tried-clause-kept
+returns-in-Err-tried-clause-kept g c = λ refused. refl
+
+-- ---- what was noted
+
+pub returns-in-Err-clause-said : goal.returns-in-Err-clause-said
+returns-in-Err-clause-said g c = λ held is. unsaid c.args.note.now.is_wanted held c.in-Err.why _ c.requires
+
+pub returns-in-Err-tried-clause-said : goal.returns-in-Err-tried-clause-said
+returns-in-Err-tried-clause-said g c = λ held is.
+    let read = c.in-Ok.ensures.ok held is in
+    fault_said c.args.note.now.is_wanted held (log_of c.in-Ok.taped.log) c.in-Err-tried.fault _
+    (record { bytes = read.bytes; held = read.held; are = read.are.read }) c.in-Err-tried.ensures.said
+
+pub returns-in-Err-new-clause-said : goal.returns-in-Err-new-clause-said
+returns-in-Err-new-clause-said g c = λ held is. unsaid c.args.note.now.is_wanted held c.undebugged.result _ c.in-Ok-tried.ensures.silent
+
+pub returns-in-Err-session-clause-said : goal.returns-in-Err-session-clause-said
+returns-in-Err-session-clause-said g c = λ held is. unsaid c.args.note.now.is_wanted held c.broken_off.result _ c.in-Ok-tried.ensures.silent

@@ -1,6 +1,9 @@
 use Rattle.std.proofs.Common.{subst, sym, ℕ, List}
 use Rattle.cilk_commands.specs.Held.{Held}
 use Rattle.cilk_program.specs.Replaying.{IsReplayed}
+use Rattle.cilk_program.specs.Saying.{IsTrapOf}
+use Rattle.cilk_program.specs.declared.failure.RecordFailure.TheVariants as why
+use Rattle.cilk_program.proofs.Said.{unsaid}
 use Rattle.cilk_program.proofs.replay.replay.Goals as goal
 
 pub returns-in-Ok-write_answer-clause-ok : goal.returns-in-Ok-write_answer-clause-ok
@@ -23,3 +26,13 @@ returns-clause-begun g c = λ held is failed. (
     begun = c.in-Err-write_answer.ensures.front;
   },
 )
+
+pub returns-clause-said : goal.returns-clause-said
+returns-clause-said g c = λ held is. unsaid c.args.note.now.is_wanted held (why.Program c.in-Err-write_answer.failure) _ c.in-Ok.ensures.silent
+
+pub returns-in-Ok-write_answer-clause-trap : goal.returns-in-Ok-write_answer-clause-trap
+returns-in-Ok-write_answer-clause-trap g c = record {
+  answer = c.as_slice.result.now;
+  is = subst (λ (answer : List ℕ). IsTrapOf answer c.in-Ok.closing.trap) (sym c.as_slice.ensures.value) c.in-Ok.ensures.trap;
+  written = c.in-Ok-write_answer.ensures.ok;
+}

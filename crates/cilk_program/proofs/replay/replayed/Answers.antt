@@ -1,4 +1,7 @@
 use Rattle.cilk_debug.specs.Tape.{tape_of}
+use Rattle.cilk_debug.specs.log.Words.{log_of}
+use Rattle.cilk_program.specs.declared.failure.RecordFailure.TheVariants as why
+use Rattle.cilk_program.proofs.Said.{fault_said, unsaid}
 use Rattle.cilk_program.proofs.Ran.{all_replayed}
 use Rattle.cilk_program.proofs.Told.{replay_reads}
 use Rattle.cilk_program.proofs.replay.replayed.Goals as goal
@@ -46,3 +49,15 @@ returns-in-Err-play_all-clause-reads g c = replay_reads c.in-Err-play_all.fault
 
 pub returns-in-Ok-closing_of-clause-answer : goal.returns-in-Ok-closing_of-clause-answer
 returns-in-Ok-closing_of-clause-answer g c = c.in-Ok-closing_of.ensures.answer
+
+pub returns-in-Err-clause-said : goal.returns-in-Err-clause-said
+returns-in-Err-clause-said g c = λ held is. unsaid c.args.note.now.is_wanted held c.in-Err.why _ c.requires
+
+pub returns-in-Err-play_all-clause-said : goal.returns-in-Err-play_all-clause-said
+returns-in-Err-play_all-clause-said g c = λ held is.
+    let read = c.in-Ok.ensures.ok held is in
+    fault_said c.args.note.now.is_wanted held (log_of c.in-Ok.taped.log) c.in-Err-play_all.fault _
+    (record { bytes = read.bytes; held = read.held; are = read.are.read }) c.take_down.ensures
+
+pub returns-clause-said : goal.returns-clause-said
+returns-clause-said g c = λ held is. unsaid c.args.note.now.is_wanted held (why.Program c.in-Err-closing_of.failure) _ c.requires

@@ -1,4 +1,5 @@
 use Rattle.std.proofs.Common.{ap, inl, inr}
+use Rattle.cilk_program.proofs.Said.{no_trap}
 use Rattle.cilk_program.proofs.task.perform.Goals as goal
 
 pub returns-in-Print-clause-done : goal.returns-in-Print-clause-done
@@ -49,3 +50,12 @@ returns-in-Replay-clause-told g c = rw c.in-Replay.is c.replay_named.ensures.tol
 
 pub returns-in-Replay-clause-begun : goal.returns-in-Replay-clause-begun
 returns-in-Replay-clause-begun g c = rw c.in-Replay.is (λ none. c.replay_named.ensures.begun)
+
+pub returns-in-Print-clause-explained : goal.returns-in-Print-clause-explained
+returns-in-Print-clause-explained g c = λ told. no_trap c.args.request.now.explain c.print_text.result c.print_text.ensures.only told
+
+pub returns-in-Check-clause-explained : goal.returns-in-Check-clause-explained
+returns-in-Check-clause-explained g c = λ told. no_trap c.args.request.now.explain c.check_text.result c.check_text.ensures.only told
+
+pub returns-in-Debug-clause-explained : goal.returns-in-Debug-clause-explained
+returns-in-Debug-clause-explained g c = λ told. no_trap c.args.request.now.explain c.debug_named.result c.debug_named.ensures.only told

@@ -3,6 +3,7 @@ use Rattle.cilk_commands.specs.declared.failure.Failure.TheVariants.{Memory}
 use Rattle.cilk_program.specs.GivingUp.{GivesUpRun}
 use Rattle.cilk_program.specs.Task.{log_name}
 use Rattle.cilk_program.proofs.Ended.{no_run}
+use Rattle.cilk_program.proofs.Said.{failure_no_trap}
 use Rattle.cilk_program.proofs.task.run_named.Goals as goal
 
 pub returns-in_default-clause-told : goal.returns-in_default-clause-told
@@ -18,3 +19,6 @@ returns-clause-told g c = λ none.
     (log_name (option_map (λ it. it.now) task.log)) c.run_text.result (g.R.Read.remaining c.args.reader.now) (g.E.Write.contents c.args.streams.now.errors)
     (g.E.Write.contents c.run_text.new.streams.errors) = c.run_text.ensures.told none in
     rw (← c.in-Ok.ensures) told
+
+pub returns-in_default-clause-explained : goal.returns-in_default-clause-explained
+returns-in_default-clause-explained g c = λ told. failure_no_trap c.args.task.now.explain c.report.result Memory c.report.ensures.status told

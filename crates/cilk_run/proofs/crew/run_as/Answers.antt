@@ -5,8 +5,8 @@ use Rattle.std.proofs.option.Option.TheSendSync as option
 use Rattle.cilk_machine.proofs.nodes_laws.eval_laws.code.Code.TheLaws.TheKnot as code
 use Rattle.cilk_machine.proofs.nodes_laws.syntax_laws.operator.BinOp.TheSendSync as bin_op
 use Rattle.cilk_machine.proofs.nodes_laws.syntax_laws.un_op.UnOp.TheSendSync as un_op
-use Rattle.cilk_run.specs.declared.outcome.RunFault.{RunFault}
-use Rattle.cilk_run.specs.declared.outcome.RunFault.TheVariants.{Workers, Memory}
+use Rattle.cilk_run.specs.declared.run_result.RunFault.{RunFault}
+use Rattle.cilk_run.specs.declared.run_result.RunFault.TheVariants.{Workers, Memory}
 use Rattle.cilk_run.proofs.Crosses.{locked_send}
 use Rattle.cilk_run.proofs.crew.run_as.Goals as goal
 

@@ -1,6 +1,6 @@
 use Rattle.std.proofs.Common.{Some, None, refl}
 use Rattle.std.proofs.Common.{sym}
-use Rattle.cilk_frame.specs.model.Places.{hand_of}
+use Rattle.cilk_frame.specs.model.Hands.{hand_of}
 use Rattle.cilk_sched.proofs.Back.{hand-back, changes-back, pushes-back, pops-back, steals-back}
 use Rattle.cilk_sched.proofs.laws.moves_come_back.Goals as goal
 

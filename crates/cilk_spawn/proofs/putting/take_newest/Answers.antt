@@ -1,5 +1,5 @@
 use Rattle.std.proofs.Common.{refl, sym, ap, ◌∙◌}
-use Rattle.cilk_frame.specs.model.Places.{bottom_of, above_bottom}
+use Rattle.cilk_frame.specs.model.Hands.{bottom_of, above_bottom}
 use Rattle.cilk_spawn.specs.Nodes.{Node, node_at}
 use Rattle.cilk_spawn.specs.Records.{nodes_of}
 use Rattle.cilk_spawn.proofs.Records.{alike_self, alike_set, at_is, changed_is}

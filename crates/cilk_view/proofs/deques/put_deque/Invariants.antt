@@ -1,5 +1,5 @@
 use Rattle.std.proofs.Common.{◌≡◌, ◌++◌, string_bytes, drop, map}
-use Rattle.cilk_machine_agree.specs.model.Places.{deque_of}
+use Rattle.cilk_machine_agree.specs.model.Hands.{deque_of}
 use Rattle.cilk_machine_agree.specs.Agrees.{name_in}
 use Rattle.cilk_machine_agree.specs.model.Workers.{paths_text}
 use Rattle.cilk_view.proofs.deques.put_deque.Given as goal

@@ -1,5 +1,5 @@
 use Rattle.std.proofs.Common.{◌≡◌, ◌++◌, ◌+◌, string_bytes, drop}
-use Rattle.cilk_view.specs.Turns.{by_worker, deque_line}
+use Rattle.cilk_view.specs.WhereLines.{by_worker, deque_line}
 use Rattle.cilk_view.proofs.deques.put_deques.Given as goal
 
 abbrev pub invariant-loop-before : goal.invariant-loop-before

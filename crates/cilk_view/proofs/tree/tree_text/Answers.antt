@@ -7,7 +7,7 @@ use Rattle.cilk_view.specs.Shows.{machine_of}
 use Rattle.cilk_view.specs.Sorting.{IsMade}
 use Rattle.cilk_view.specs.Trees.{lines_by}
 use Rattle.cilk_view.proofs.Trees.{sorted_are}
-use Rattle.cilk_view.proofs.Places.{lines_are}
+use Rattle.cilk_view.proofs.TreeLines.{lines_are}
 use Rattle.cilk_view.proofs.tree.tree_text.Goals as goal
 
 pub put_lines-requires-clause-made : goal.put_lines-requires-clause-made

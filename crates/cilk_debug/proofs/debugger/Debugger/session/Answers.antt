@@ -2,7 +2,7 @@ use Rattle.std.proofs.Common.{sym, ◌∙◌, subst}
 use Rattle.cilk_debug_console.specs.Words.{asked_of}
 use Rattle.cilk_debug_console.specs.Taking.{ahead}
 use Rattle.cilk_debug.specs.Ending.{Breaks}
-use Rattle.cilk_debug.specs.declared.ending.SessionFault.{SessionFault}
+use Rattle.cilk_debug.specs.declared.session_fault.SessionFault.{SessionFault}
 use Rattle.cilk_debug.proofs.Sessions.{at_end}
 use Rattle.cilk_debug.proofs.Commands.{at_quit}
 use Rattle.cilk_debug.proofs.Ends.{begins, no_memory, ended, last_done, last_fails, line_fails, line_done}

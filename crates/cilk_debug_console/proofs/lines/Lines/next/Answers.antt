@@ -16,13 +16,13 @@ pub returns-clause-ok : goal.returns-clause-ok
 returns-clause-ok g c =
     let taken = c.in_ok-has_newline.ensures in
     subst
-    (λ (at : Reading). IfOk c.told.result (TakesNext at (record { unread = c.take_line.new.chunk; taken = c.self.inside.taken + 1 })
+    (λ (at : Reading). IfOk c.next_of.result (TakesNext at (record { unread = c.take_line.new.chunk; taken = c.self.inside.taken + 1 })
     (g.R.Read.remaining c.args.reader.now) (g.R.Read.remaining c.take_line.new.reader)))
     c.self.view_is
     (gives_line (record { unread = c.self.inside.chunk; taken = c.self.inside.taken })
     (record { unread = c.take_line.new.chunk; taken = c.self.inside.taken + 1 }) (g.R.Read.remaining c.args.reader.now)
     (ahead c.is_at_end.new.self (g.R.Read.remaining c.is_at_end.new.reader)) (g.R.Read.remaining c.take_line.new.reader) c.in_ok-is_at_end.ensures.kept
-    c.if-self-ge-MOST_LINES.false c.told.result c.take_line.new.line.items c.in_ok-has_newline.has_newline
-    (subst (λ (l : List ℕ). IfOk c.told.result (LineAsks l c.in_ok-has_newline.has_newline)) c.as_slice.ensures.value c.told.ensures.ok)
+    c.if-self-ge-MOST_LINES.false c.next_of.result c.take_line.new.line.items c.in_ok-has_newline.has_newline
+    (subst (λ (l : List ℕ). IfOk c.next_of.result (LineAsks l c.in_ok-has_newline.has_newline)) c.as_slice.ensures.value c.next_of.ensures.ok)
     (add-one c.self.inside.taken)
     taken.plain taken.short taken.some taken.whole taken.last taken.end)

@@ -10,7 +10,7 @@ use Rattle.cilk_load_names.specs.Firsts.{block_first}
 use Rattle.cilk_load_numbering.specs.Pass.{block_nodes, stmts_nodes}
 use Rattle.cilk_load_names.proofs.Results.{ok_same}
 use Rattle.cilk_load_numbering.proofs.Scopes.{Adds, adds-locals, forgotten}
-use Rattle.cilk_load_numbering.proofs.Parts.{block-written, tested, switch-written, while-written, do-written, for-written, either-written, stmts-turn}
+use Rattle.cilk_load_numbering.proofs.Parts.{block-written, tested, switch-written, while-written, do-written, for-written, either-written, stmts-first}
 use Rattle.cilk_load_numbering.proofs.pass.Pass.+put.Goals as goal
 
 pub put_block-forget-requires : goal.put_block-forget-requires
@@ -158,7 +158,7 @@ put_stmts-loop-stmt-preserved t c =
     (arith, c.loop-stmt.invariant.left, c.actions-count.ensures, ap count_stmts more) in
     record {
       nodes =
-          stmts-turn c.args.site.body c.args.site.vars.now c.loop-stmt.self.names c.put_stmt.new.self.names (vec_len c.loop-stmt.self.nodes)
+          stmts-first c.args.site.body c.args.site.vars.now c.loop-stmt.self.names c.put_stmt.new.self.names (vec_len c.loop-stmt.self.nodes)
           (vec_len c.put_stmt.new.self.nodes) c.loop-stmt.n c.in_ok-n.n c.at.result c.actions-count.result (c.loop-stmt.left - c.actions-count.result)
           item rest c.first_if-next.result c.args.exits c.exits_to.result c.loop-stmt.self.nodes.items c.put_stmt.new.self.nodes.items
           c.at.ensures c.actions-count.ensures left c.first_if-next.ensures c.exits_to.ensures c.in_ok-n.ensures.nodes c.in_ok-n.ensures.len

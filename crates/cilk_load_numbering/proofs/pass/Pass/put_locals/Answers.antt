@@ -7,7 +7,7 @@ use Rattle.cilk_load_names.specs.labelled.Count.{count_locals}
 use Rattle.cilk_load_names.specs.labelled.Label.{local_variables, locals_variables}
 use Rattle.cilk_load_names.specs.nodes.Plain.{PlainLocals}
 use Rattle.cilk_load_numbering.specs.Pass.{locals_scope, locals_nodes}
-use Rattle.cilk_load_numbering.proofs.Parts.{from-place, Turn, decl-turn, plain-later}
+use Rattle.cilk_load_numbering.proofs.Parts.{from-place, PutsFirst, decl-first, plain-later}
 use Rattle.cilk_load_numbering.proofs.pass.Pass.put_locals.Goals as goal
 use Rattle.cilk_load_numbering.proofs.pass.Pass.put_locals.Goals.{in-Decl+in_ok-n-in-Decl, in-Inlet}
 
@@ -20,15 +20,15 @@ more c =
 plain : (c : goal.Joined-local) → PlainLocals (tree.and_local c.index-locals-i.result (locals_of (drop (c.loop-i.i + 1) c.args.locals.now)))
 plain c = subst PlainLocals (more c) c.loop-i.invariant.plain
 
-turn : (c : goal.Joined-local)
-    → Turn c.args.site.body c.args.site.vars.now c.args.next c.loop-i.self.nodes.items c.match-local.self.nodes.items c.loop-i.self.names
+puts-first : (c : goal.Joined-local)
+    → PutsFirst c.args.site.body c.args.site.vars.now c.args.next c.loop-i.self.nodes.items c.match-local.self.nodes.items c.loop-i.self.names
     c.match-local.self.names
     (vec_len c.loop-i.self.nodes) (vec_len c.match-local.self.nodes) c.loop-i.n c.match-local.n c.index-locals-i.result
     (locals_of (drop (c.loop-i.i + 1) c.args.locals.now))
-turn c =
+puts-first c =
     elim c.match-local.branch [
       | in-Decl+in_ok-n-in-Decl w ↦
-          decl-turn c.args.site.body c.args.site.vars.now c.args.next c.loop-i.self.nodes.items c.match-local.self.nodes.items
+          decl-first c.args.site.body c.args.site.vars.now c.args.next c.loop-i.self.nodes.items c.match-local.self.nodes.items
           c.loop-i.self.names c.match-local.self.names
           (vec_len c.loop-i.self.nodes) (vec_len c.match-local.self.nodes) c.loop-i.n c.match-local.n c.index-locals-i.result
           (locals_of (drop (c.loop-i.i + 1) c.args.locals.now)) _ w.in-Decl.decl
@@ -42,7 +42,7 @@ turn c =
 
 pub loop-i-preserved : goal.loop-i-preserved
 loop-i-preserved c =
-    let t = turn c in
+    let t = puts-first c in
     let rest = locals_of (drop (c.loop-i.i + 1) c.args.locals.now) in
     record {
       nodes = t.nodes ∙ ap (λ (ls : tree.Locals). c.loop-i.self.nodes.items

@@ -7,7 +7,7 @@ use Rattle.cilk_load_names.specs.labelled.Count.{count_locals}
 use Rattle.cilk_load_names.specs.labelled.Label.{local_variables, locals_variables}
 use Rattle.cilk_load_names.specs.nodes.Plain.{OuterLocals}
 use Rattle.cilk_load_numbering.specs.Outer.{vars_at, outer_scope, outer_nodes}
-use Rattle.cilk_load_numbering.proofs.Parts.{from-place, OuterTurn, outer-decl-turn, outer-inlet-turn, outer-later}
+use Rattle.cilk_load_numbering.proofs.Parts.{from-place, OuterPutsFirst, outer-decl-first, outer-inlet-first, outer-later}
 use Rattle.cilk_load_numbering.proofs.pass.Pass.put_outer_locals.Goals as goal
 use Rattle.cilk_load_numbering.proofs.pass.Pass.put_outer_locals.Goals.{in-Decl+in_ok-n-in-Decl, in-Inlet+in_ok-k-in-Inlet}
 
@@ -20,14 +20,15 @@ more c =
 plain : (c : goal.Joined-local) → OuterLocals (tree.and_local c.index-locals-i.result (locals_of (drop (c.loop-i.i + 1) c.args.locals.now)))
 plain c = subst OuterLocals (more c) c.loop-i.invariant.plain
 
-turn : (c : goal.Joined-local)
-    → OuterTurn c.args.bodies.now c.args.b c.args.next c.loop-i.self.nodes.items c.match-local.self.nodes.items c.loop-i.self.names c.match-local.self.names
+puts-first : (c : goal.Joined-local)
+    → OuterPutsFirst c.args.bodies.now c.args.b c.args.next c.loop-i.self.nodes.items c.match-local.self.nodes.items
+    c.loop-i.self.names c.match-local.self.names
     (vec_len c.loop-i.self.nodes) (vec_len c.match-local.self.nodes) c.loop-i.k c.match-local.k c.loop-i.n c.match-local.n c.index-locals-i.result
     (locals_of (drop (c.loop-i.i + 1) c.args.locals.now))
-turn c =
+puts-first c =
     elim c.match-local.branch [
       | in-Decl+in_ok-n-in-Decl w ↦
-          outer-decl-turn c.args.bodies.now c.args.b c.vars_at.result.now c.args.next c.loop-i.self.nodes.items
+          outer-decl-first c.args.bodies.now c.args.b c.vars_at.result.now c.args.next c.loop-i.self.nodes.items
           c.match-local.self.nodes.items c.loop-i.self.names
           c.match-local.self.names (vec_len c.loop-i.self.nodes) (vec_len c.match-local.self.nodes) c.loop-i.k c.match-local.k c.loop-i.n c.match-local.n
           c.index-locals-i.result (locals_of (drop (c.loop-i.i + 1) c.args.locals.now)) _ w.in-Decl.decl
@@ -37,7 +38,7 @@ turn c =
           (ap (λ (p : _). p.names) w.self-is ∙ w.in_ok-n-in-Decl.ensures.names) w.k-is (w.n-is ∙ w.in_ok-n-in-Decl.ensures.after)
       | in-Inlet+in_ok-k-in-Inlet w ↦
           let inlet = w.in-Inlet.inlet in
-          outer-inlet-turn c.args.bodies.now c.args.b c.args.next c.loop-i.self.nodes.items c.match-local.self.nodes.items
+          outer-inlet-first c.args.bodies.now c.args.b c.args.next c.loop-i.self.nodes.items c.match-local.self.nodes.items
           c.loop-i.self.names c.match-local.self.names
           (vec_len c.loop-i.self.nodes) (vec_len c.match-local.self.nodes) c.loop-i.k c.match-local.k c.loop-i.n c.match-local.n inlet.at
           c.index-locals-i.result (locals_of (drop (c.loop-i.i + 1) c.args.locals.now)) inlet.name inlet.parameters.items inlet.body
@@ -49,7 +50,7 @@ turn c =
 
 pub loop-i-preserved : goal.loop-i-preserved
 loop-i-preserved c =
-    let t = turn c in
+    let t = puts-first c in
     let rest = locals_of (drop (c.loop-i.i + 1) c.args.locals.now) in
     record {
       nodes = t.nodes ∙ ap (λ (ls : tree.Locals). c.loop-i.self.nodes.items

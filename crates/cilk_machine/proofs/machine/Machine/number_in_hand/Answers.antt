@@ -1,6 +1,6 @@
 use Rattle.std.proofs.Common.{ap, ◌∙◌, subst}
-use Rattle.cilk_machine_choices.specs.model.Places.{hand_of}
-use Rattle.cilk_machine_step.specs.Scenes.{sight_of}
+use Rattle.cilk_machine_choices.specs.model.Hands.{hand_of}
+use Rattle.cilk_machine_step.specs.Scenes.{input_of}
 use Rattle.cilk_machine.specs.Situation.{Situation}
 use Rattle.cilk_machine.specs.Stands.{IsSound}
 use Rattle.cilk_machine.proofs.Steps.{fits-here}
@@ -9,4 +9,4 @@ use Rattle.cilk_machine.proofs.machine.Machine.number_in_hand.Goals as goal
 pub number_ahead-requires-clause-fits : goal.number_ahead-requires-clause-fits
 number_ahead-requires-clause-fits c =
     fits-here c.args.self.now (subst IsSound c.self.view_is c.self.invariant.0) c.args.worker c.requires.worker c.in-Some.frame.now
-    (c.in-Some.ensures ∙ ap (λ (x : Situation). hand_of x.machine.places c.args.worker) c.self.view_is) (sight_of c.scene.result) c.scene.ensures
+    (c.in-Some.ensures ∙ ap (λ (x : Situation). hand_of x.machine.places c.args.worker) c.self.view_is) (input_of c.scene.result) c.scene.ensures

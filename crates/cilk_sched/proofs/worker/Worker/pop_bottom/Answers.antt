@@ -1,7 +1,7 @@
 use Rattle.std.proofs.Common.{◌<◌, ◌↔◌, ◌∙◌, List, length, IsSome, ap, arith}
 use Rattle.std.proofs.lemmas.Grind.{common_steps}
 use Rattle.cilk_frame.specs.Frames.{Frame}
-use Rattle.cilk_frame.specs.model.Places.{WorkerOf, bottom_of, above_bottom}
+use Rattle.cilk_frame.specs.model.Hands.{WorkerOf, bottom_of, above_bottom}
 use Rattle.cilk_frame.proofs.Bottoms.{popped}
 use Rattle.cilk_sched.proofs.worker.Worker.pop_bottom.Goals as goal
 

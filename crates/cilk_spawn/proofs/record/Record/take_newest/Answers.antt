@@ -1,6 +1,6 @@
 use Rattle.std.proofs.Common.{◌≡◌, ◌<◌, ◌↔◌, ◌∙◌, length, IsSome, sym, ap, arith}
 use Rattle.std.proofs.lemmas.Grind.{common_steps}
-use Rattle.cilk_frame.specs.model.Places.{bottom_of, above_bottom}
+use Rattle.cilk_frame.specs.model.Hands.{bottom_of, above_bottom}
 use Rattle.cilk_frame.proofs.Bottoms.{popped}
 use Rattle.cilk_spawn.specs.declared.fate.Fate.TheVariants as fates
 use Rattle.cilk_spawn.specs.declared.life.Live.{Live}

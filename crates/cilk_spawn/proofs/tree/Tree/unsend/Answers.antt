@@ -1,5 +1,5 @@
 use Rattle.std.proofs.Common.{List, Some, sym, ap, ◌∙◌}
-use Rattle.cilk_frame.specs.model.Places.{above_bottom}
+use Rattle.cilk_frame.specs.model.Hands.{above_bottom}
 use Rattle.cilk_spawn.specs.Nodes.{Node, node_at, with_waiting}
 use Rattle.cilk_spawn.specs.Records.{nodes_of}
 use Rattle.cilk_spawn.specs.Undone.{given_back}

@@ -1,0 +1,21 @@
+//! What the last choice changed is put back.
+#![tactic(auto)]
+
+mod acting;
+mod carrying;
+mod ending;
+mod filling;
+mod laws;
+mod listing;
+mod moving;
+mod notes;
+mod noting;
+mod reading;
+mod taking;
+mod undo;
+mod undoing;
+
+pub use carrying::{carry_lightly_noted, carry_out_noted};
+pub use laws::{moves_are_undone, plans_are_undone, plans_can_be_undone};
+pub use undo::{Ended, Gone, Stood, Undo};
+pub use undoing::take_back;

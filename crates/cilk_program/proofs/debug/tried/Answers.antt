@@ -1,0 +1,7 @@
+use Rattle.cilk_debug.specs.declared.replay_fault.ReplayFault.TheVariants as replay
+use Rattle.cilk_debug.specs.log.Words.{log_of}
+use Rattle.cilk_program.proofs.Said.{untold}
+use Rattle.cilk_program.proofs.debug.tried.Goals as goal
+
+pub returns-in_default-clause-said : goal.returns-in_default-clause-said
+returns-in_default-clause-said c = untold c.args.note.now.is_wanted (log_of c.args.log.now) replay.Memory _ c.requires

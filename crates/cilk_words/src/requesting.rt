@@ -1,0 +1,84 @@
+//! From the words of the command line to a request, or to why there is none.
+
+ghost use Rattle.std.specs.Prelude.{◌≡◌, IfErr, IfOk, Some, codes, option_map};
+ghost use Rattle.clap.specs.Words.{first_of, found_of, one_of, rows_of, subcommand_rows_of};
+ghost use Rattle.cilk_words.specs.CommandLine.{asked, asked_by, is_set, request_of_any, run_of};
+ghost use Rattle.cilk_words.specs.CommandLine.{texts_of, wanted_by, wanted_of};
+ghost use Rattle.cilk_words.specs.Refusing.{IsNoRequest};
+
+use crate::arguments::{EXPLAIN, FILE, LIMIT, LOG, WORKERS, WRITTEN, parse};
+use crate::dash::Dash;
+use crate::refusal::NoRequest;
+use crate::request::{Request, Task};
+use clap::ArgMatches;
+use std::alloc::Global;
+
+/// What the words of a command line ask for, the first of which is the program's own name.
+pub fn request_in<'a>(alloc: Global, words: &'a [String]) -> Result<Request<'a>, NoRequest>
+    ensures request { IfOk result (λ r. asked (texts_of words.now) ≡ Some (asked_by r)) }
+    ensures refusal { IfErr result (IsNoRequest (texts_of words.now)) }
+{
+    let matches = match parse(alloc, words) {
+        Ok(matches) => matches,
+        Err(error) => return Err(NoRequest::of_error(alloc, &error)),
+    };
+    let Some(request) = requested(&matches) else {
+        // `clap` lets no words through without a subcommand that it was told of, and that one's text; were it to, they would ask for nothing.
+        return Err(NoRequest::Usage(String::new(alloc)));
+    };
+    match Dash::in_request(&request) {
+        Some(dash) => Err(NoRequest::Dash(dash)),
+        None => Ok(request),
+    }
+}
+
+fn requested<'a>(matches: &ArgMatches<'a>) -> Option<Request<'a>>
+    ensures { option_map asked_by result ≡ request_of_any (subcommand_rows_of matches.now) }
+{
+    let (name, found) = matches.subcommand()?;
+    let task = task_named(name, found)?;
+    let name = found.get_str(FILE)?;
+    let explain = explained(found);
+    Some(Request {
+        task,
+        name,
+        explain,
+    })
+}
+
+fn task_named<'a>(name: &str, found: &ArgMatches<'a>) -> Option<Task<'a>>
+    ensures { option_map wanted_by result ≡ wanted_of name.now (rows_of (found_of found.now)) }
+{
+    match name {
+        "print" => Some(Task::Print),
+        "check" => Some(Task::Check),
+        "run" => run_in(found),
+        "replay" => Some(Task::Replay {
+            log: found.get_str(LOG)?,
+        }),
+        "debug" => Some(Task::Debug {
+            log: found.get_str(LOG)?,
+        }),
+        _ => None,
+    }
+}
+
+fn run_in<'a>(found: &ArgMatches<'a>) -> Option<Task<'a>>
+    ensures { option_map wanted_by result ≡ run_of (one_of (codes "workers") (rows_of (found_of found.now)))
+        (one_of (codes "limit") (rows_of (found_of found.now))) (first_of (codes "log") (rows_of (found_of found.now))) }
+{
+    let workers = found.get_one(WORKERS)?;
+    let limit = found.get_one(LIMIT)?;
+    Some(Task::Run {
+        workers,
+        limit,
+        log: found.get_str(WRITTEN),
+    })
+}
+
+// Whether the flag is given. `get_flag` says nothing of a text that is no `bool`.
+fn explained(found: &ArgMatches<'_>) -> bool
+    ensures { result ≡ is_set (one_of (codes "explain") (rows_of (found_of found.now))) }
+{
+    found.get_one(EXPLAIN).unwrap_or(false)
+}
