@@ -34,12 +34,13 @@ ways:
 costs:
 	tools/costs
 
-# Tries ./cilk on the cases of programs/, on the examples of the pages, on runs by several workers, and on runs that are broken off.
+# Tries ./cilk on the cases of programs/, on the examples of the pages, on runs by several workers, on runs that are broken off, and backwards.
 programs: cilk
 	tools/programs ./cilk
 	tools/examples ./cilk
 	tools/threads ./cilk
 	tools/broken_off ./cilk
+	tools/backwards ./cilk
 
 # Tries ./cilk for SECONDS (600) on inputs made by chance, from SEED (1) and by JOBS processes (one a processor); found/ gets what breaks a law (docs/GATE.md).
 fuzz: cilk

@@ -53,13 +53,11 @@ impl<'r> Texts for Host<'r> {
         match name {
             None => Ok(LogFile {
                 rt: self.rt,
-                alloc,
                 path: None,
                 is_program: false,
             }),
             Some(name) => Ok(LogFile {
                 rt: self.rt,
-                alloc,
                 path: Some(String::from_str(alloc, name)?),
                 is_program: is_same_file(self.rt, program, name),
             }),
@@ -67,11 +65,10 @@ impl<'r> Texts for Host<'r> {
     }
 }
 
-/// The file that a log is written to, if there is one. It is created when the text of the log is there.
+/// The file that a log is written to, if there is one. It is created when the text of the log is there, and writing it takes no memory.
 #[derive(Drop)]
 pub struct LogFile<'r> {
     rt: &'r HostRuntime,
-    alloc: Global,
     path: Option<String>,
     /// The path leads to the file that the program came from.
     is_program: bool,
@@ -92,7 +89,7 @@ impl<'r> LogStore for LogFile<'r> {
 
     fn store(&mut self, text: &[u8]) -> io::Result<()> {
         match &self.path {
-            Some(path) => replace_file(self.rt, self.alloc, path.as_str(), text),
+            Some(path) => replace_file(self.rt, path.as_str(), text),
             None => Ok(()),
         }
     }

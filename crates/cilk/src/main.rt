@@ -6,6 +6,7 @@
 //! all of these.
 #![tactic(auto)]
 
+mod beside;
 mod host;
 mod seats;
 mod writing;

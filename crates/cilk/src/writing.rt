@@ -1,6 +1,6 @@
 //! Files that are written whole or not at all.
 
-use std::alloc::Global;
+use crate::beside::name_beside;
 use std::fs::{File, OpenOptions};
 use std::io::{ErrorKind, Write};
 use std::{fs, io};
@@ -9,16 +9,13 @@ use std::{fs, io};
 const NAMES: u32 = 1000;
 
 /// Writes a text to what has this name. A file there, if there is one, stays as it was until another with the whole text
-/// takes its place. A device, a pipe, or what a link leads to is written to where it stands.
-pub fn replace_file(rt: &HostRuntime, alloc: Global, path: &str, text: &[u8]) -> io::Result<()> {
+/// takes its place. A device, a pipe, or what a link leads to is written to where it stands. Nothing of it takes memory.
+pub fn replace_file(rt: &HostRuntime, path: &str, text: &[u8]) -> io::Result<()> {
     if !is_replaced(rt, path)? {
         return write_to(File::create(rt, path)?, text);
     }
     for number in 0..NAMES {
-        let beside = match path.rsplit_once('/') {
-            Some((folder, _)) => format!(in alloc; "{folder}/.cilk-log-{number}")?,
-            None => format!(in alloc; ".cilk-log-{number}")?,
-        };
+        let beside = name_beside(path, number)?;
         match File::create_new(rt, beside.as_str()) {
             Ok(file) => return replace(rt, path, beside.as_str(), file, text),
             Err(error) if error.kind() == ErrorKind::AlreadyExists => {}

@@ -8,7 +8,7 @@ use Rattle.cilk_debug_console.specs.model.Choice as model
 use Rattle.cilk_debug_console.specs.model.Choice.{Choice, Refusal}
 use Rattle.cilk_debug_console.specs.model.Event.{Event}
 use Rattle.cilk_debug_console.specs.model.Run.{Position, after, refusal_of, next_of, event_of, one_more}
-use Rattle.cilk_debug_console.proofs.placed_laws.model_laws.Runs.{after-push}
+use Rattle.cilk_debug_console.proofs.runs_laws.model_laws.Runs.{after-push}
 use Rattle.cilk_machine.specs.spawn.Nodes.{path_at}
 use Rattle.cilk_machine.specs.carries.declared.did.Did.{Did}
 use Rattle.cilk_machine.specs.carries.Words.{event_by}

@@ -4,7 +4,7 @@ use Rattle.cilk_machine.specs.syntax.Tree.{Program}
 use Rattle.cilk_machine.specs.labelled.Bodies.{label}
 use Rattle.cilk_debug_console.specs.model.State as state
 use Rattle.cilk_debug_console.specs.model.Run.{Standing, Position}
-use Rattle.cilk_debug_console.proofs.placed_laws.Fates.{each_choice_is_an_event}
+use Rattle.cilk_debug_console.proofs.runs_laws.Fates.{each_choice_is_an_event}
 use Rattle.cilk_debug_console.specs.model.What.{What, where_it_stands}
 use Rattle.cilk_debug_console.specs.model.Workers.{position_text}
 use Rattle.cilk_debug_console.specs.model.Views.{shown, first_line, view}

@@ -3,24 +3,24 @@ use Rattle.std.proofs.Common.{◌≡◌, ℤ, pos, Bool, true, false, not, ◌&&
 use Rattle.std.proofs.Common.{subst, ◌∙◌, if◌then◌else◌}
 use Rattle.std.specs.Prelude.{option_map}
 use Rattle.std.proofs.lemmas.Bool.{and_parts}
-use Rattle.cilk_laws_allowed.specs.labelled.Labelled.{Labelled, Numbered}
-use Rattle.cilk_laws_allowed.specs.labelled.Items.{head_of}
-use Rattle.cilk_laws_allowed.specs.model.Values.{Values, Cell}
-use Rattle.cilk_laws_allowed.specs.model.Path.{Path, same_path, parent_of, is_below}
-use Rattle.cilk_laws_allowed.specs.model.Instance.{Activation, Delivery, Instance, entered}
-use Rattle.cilk_laws_allowed.specs.model.State.{Entry, Instances, State, instance_at, changed, without, is_empty}
-use Rattle.cilk_laws_allowed.specs.model.Change.{gone_on, put, on_lowest, above, resumed_to, resumed, head_waits, at_boundary, deliveries}
-use Rattle.cilk_laws_allowed.specs.model.Change.{with_deliveries, after_return_to, after_marks}
-use Rattle.cilk_laws_allowed.specs.model.Event.{acted}
-use Rattle.cilk_laws_allowed.specs.model.Pick.{Step, step_of_live, step_of_instance}
-use Rattle.cilk_laws_allowed.specs.model.Choice.{Choice}
-use Rattle.cilk_laws_allowed.specs.model.Run.{Standing, Position, waits_now, step_refusal, act_refusal, refusal_of, next_of, next_by, next_by_hand}
-use Rattle.cilk_laws_allowed.specs.model.Run.{event_of, event_by, event_by_hand, event_of_step, state_after}
-use Rattle.cilk_laws_allowed.specs.model.ViewTrees.{lowest}
-use Rattle.cilk_laws_placed.proofs.Entries.{same-is, at-changed_same, at-changed_other, at-without_other, either_of, at-push}
-use Rattle.cilk_laws_placed.proofs.Possible.{possible}
-use Rattle.cilk_laws_allowed.proofs.Lookups.{marked, at-marked_below, at-marked_beside}
-use Rattle.cilk_laws_allowed.proofs.Paths.{not_below}
+use Rattle.cilk_laws_model.specs.labelled.Labelled.{Labelled, Numbered}
+use Rattle.cilk_laws_model.specs.labelled.Items.{head_of}
+use Rattle.cilk_laws_model.specs.model.Values.{Values, Cell}
+use Rattle.cilk_laws_model.specs.model.Path.{Path, same_path, parent_of, is_below}
+use Rattle.cilk_laws_model.specs.model.Instance.{Activation, Delivery, Instance, entered}
+use Rattle.cilk_laws_model.specs.model.State.{Entry, Instances, State, instance_at, changed, without, is_empty}
+use Rattle.cilk_laws_model.specs.model.Change.{gone_on, put, on_lowest, above, resumed_to, resumed, head_waits, at_boundary, deliveries}
+use Rattle.cilk_laws_model.specs.model.Change.{with_deliveries, after_return_to, after_marks}
+use Rattle.cilk_laws_model.specs.model.Event.{acted}
+use Rattle.cilk_laws_model.specs.model.Pick.{Step, step_of_live, step_of_instance}
+use Rattle.cilk_laws_model.specs.model.Choice.{Choice}
+use Rattle.cilk_laws_model.specs.model.Run.{Standing, Position, waits_now, step_refusal, act_refusal, refusal_of, next_of, next_by, next_by_hand}
+use Rattle.cilk_laws_model.specs.model.Run.{event_of, event_by, event_by_hand, event_of_step, state_after}
+use Rattle.cilk_laws_model.specs.model.ViewTrees.{lowest}
+use Rattle.cilk_laws_model.proofs.Entries.{same-is, at-changed_same, at-changed_other, at-without_other, either_of, at-push}
+use Rattle.cilk_laws_model.proofs.Possible.{possible}
+use Rattle.cilk_laws_model.proofs.Lookups.{marked, at-marked_below, at-marked_beside}
+use Rattle.cilk_laws_model.proofs.Paths.{not_below}
 use Rattle.cilk_laws_runs.specs.Inlets.{runs_inlet, in_inlet, IsStep, StandsStill, GoesOn, Alone, acts, traps, parks, ends, Unmoved}
 use Rattle.cilk_laws_runs.specs.ChildLaws.{InletsRunAlone, OthersLeaveIt}
 use Rattle.cilk_laws_runs.proofs.Runs.{Stepped, Rested, what_happens, led}

@@ -11,15 +11,15 @@ use Rattle.cilk_check.specs.scopes.Scopes.{Scopes, enter, kind_of_global, kind_o
 use Rattle.cilk_check.specs.scopes.Scopes.{file_declares, file_scopes}
 use Rattle.cilk_check.specs.scopes.Parts.{Around, local, after_local, after_locals, in_body, in_inlet, block_parts, locals_parts, within_local}
 use Rattle.cilk_check.specs.scopes.Parts.{stmts_parts, owner_of, item_parts}
-use Rattle.cilk_laws_allowed.specs.labelled.Labelled.{Labelled, of_body, Body}
-use Rattle.cilk_laws_allowed.specs.labelled.Names as naming
-use Rattle.cilk_laws_allowed.specs.labelled.Names.{Names, with_words, with_local, local_count, entered}
-use Rattle.cilk_laws_allowed.specs.labelled.Label.{names_behind, label_block}
-use Rattle.cilk_laws_allowed.specs.labelled.Count.{count_local, count_item}
-use Rattle.cilk_laws_allowed.specs.labelled.Bodies.{is_procedure, parameter_variables, label_body, inlet_bodies, block_locals, procedure_names}
-use Rattle.cilk_laws_allowed.specs.labelled.Bodies.{body_count, item_bodies, items_bodies, file_means, file_names, label}
-use Rattle.cilk_laws_allowed.specs.model.Instance.{no_body}
-use Rattle.cilk_laws_allowed.specs.model.Change.{is_function}
+use Rattle.cilk_laws_model.specs.labelled.Labelled.{Labelled, of_body, Body}
+use Rattle.cilk_laws_model.specs.labelled.Names as naming
+use Rattle.cilk_laws_model.specs.labelled.Names.{Names, with_words, with_local, local_count, entered}
+use Rattle.cilk_laws_model.specs.labelled.Label.{names_behind, label_block}
+use Rattle.cilk_laws_model.specs.labelled.Count.{count_local, count_item}
+use Rattle.cilk_laws_model.specs.labelled.Bodies.{is_procedure, parameter_variables, label_body, inlet_bodies, block_locals, procedure_names}
+use Rattle.cilk_laws_model.specs.labelled.Bodies.{body_count, item_bodies, items_bodies, file_means, file_names, label}
+use Rattle.cilk_laws_model.specs.model.Instance.{no_body}
+use Rattle.cilk_laws_model.specs.model.Change.{is_function}
 use Rattle.cilk_laws_runs.specs.Calls.{stmts_suit, body_suits}
 use Rattle.cilk_laws_runs.specs.CallLaws.{CallsSuit}
 use Rattle.cilk_laws_runs.proofs.Right.{Right, front, back, others, all_right}

@@ -1,5 +1,5 @@
 -- What holds of runs where calls and spawns suit holds of those of well-formed programs.
-use Rattle.cilk_laws_allowed.specs.labelled.Bodies.{label}
+use Rattle.cilk_laws_model.specs.labelled.Bodies.{label}
 use Rattle.cilk_laws_runs.proofs.Alone as alone
 use Rattle.cilk_laws_runs.specs.Moments.{passes}
 use Rattle.cilk_laws_runs.proofs.Starts as starts

@@ -3,8 +3,8 @@ use Rattle.std.proofs.Common.{◌≡◌, ℕ, zero, suc, ◌+◌, ◌<◌, ℤ, 
 use Rattle.cilk_machine.specs.eval.declared.area.Area.{Area}
 use Rattle.cilk_machine.specs.eval.declared.area.Area.TheVariants.{Own, Outer, Global}
 use Rattle.cilk_machine.specs.eval.declared.slot.Slot.{Slot}
-use Rattle.cilk_laws_allowed.specs.labelled.Labelled.{Declaration, local, outer, global, of_lock, of_body, unknown, Variable, Labelled}
-use Rattle.cilk_laws_allowed.specs.model.Values.{Values, Cell}
+use Rattle.cilk_laws_model.specs.labelled.Labelled.{Declaration, local, outer, global, of_lock, of_body, unknown, Variable, Labelled}
+use Rattle.cilk_laws_model.specs.model.Values.{Values, Cell}
 use Rattle.cilk_machine.specs.nodes.Slots.{size_of, flat, slot_from, slot_of}
 use Rattle.cilk_machine.specs.frame.Cells.{own_variables, outer_variables, HasCell, SameCell}
 use Rattle.cilk_machine.proofs.frame_laws.SlotLaws.{slot-area, slot-offset}

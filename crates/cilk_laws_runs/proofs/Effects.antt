@@ -1,14 +1,14 @@
 -- What an effect tells of its action.
 use Rattle.std.proofs.Common.{◌≡◌, ℕ, List, Option, Some, Result, Ok, Err, refl}
-use Rattle.cilk_laws_allowed.specs.labelled.declared.trap.Trap.{Trap}
-use Rattle.cilk_laws_allowed.specs.labelled.Term.{Term}
-use Rattle.cilk_laws_allowed.specs.labelled.Value.{Environment, value_of, values_of, ◌>>=◌}
-use Rattle.cilk_laws_allowed.specs.labelled.Labelled.{Declaration, Taker, nothing, into, through, Action, assign, call, spawn, print, locking, null}
-use Rattle.cilk_laws_allowed.specs.labelled.Labelled.{break_off, go_round, tests, sync, abort, return_with, return_nothing, close}
-use Rattle.cilk_laws_allowed.specs.model.Values.{combined, reached_at, reached_if}
-use Rattle.cilk_laws_allowed.specs.model.Effect.{Effect, enters, gives, starts, marks, start_of, effect_of}
-use Rattle.cilk_laws_allowed.specs.model.Instance as instance
-use Rattle.cilk_laws_allowed.specs.model.Instance.{Receiver, place}
+use Rattle.cilk_laws_model.specs.labelled.declared.trap.Trap.{Trap}
+use Rattle.cilk_laws_model.specs.labelled.Term.{Term}
+use Rattle.cilk_laws_model.specs.labelled.Value.{Environment, value_of, values_of, ◌>>=◌}
+use Rattle.cilk_laws_model.specs.labelled.Labelled.{Declaration, Taker, nothing, into, through, Action, assign, call, spawn, print, locking, null}
+use Rattle.cilk_laws_model.specs.labelled.Labelled.{break_off, go_round, tests, sync, abort, return_with, return_nothing, close}
+use Rattle.cilk_laws_model.specs.model.Values.{combined, reached_at, reached_if}
+use Rattle.cilk_laws_model.specs.model.Effect.{Effect, enters, gives, starts, marks, start_of, effect_of}
+use Rattle.cilk_laws_model.specs.model.Instance as instance
+use Rattle.cilk_laws_model.specs.model.Instance.{Receiver, place}
 
 -- what an action may come to, beside a trap
 pub data Sort : Type 0 where

@@ -2,16 +2,16 @@
 use Rattle.std.proofs.Common.{◌≡◌, ℤ, pos, ◌+◌, Bool, true, false, not, ◌&&◌, List, [], ◌∷◌, ◌++◌, Option, Some, None, is_some, refl, sym, ap, ◌∙◌}
 use Rattle.std.proofs.Common.{if◌then◌else◌, ◌⊎◌, inl, inr}
 use Rattle.std.specs.Prelude.{option_map}
-use Rattle.cilk_laws_allowed.specs.labelled.Labelled.{Labelled, Numbered}
-use Rattle.cilk_laws_allowed.specs.model.Values.{Cell}
-use Rattle.cilk_laws_allowed.specs.model.Path.{Path, same_path, parent_of}
-use Rattle.cilk_laws_allowed.specs.model.Instance.{Activation, Delivery, Instance, entered}
-use Rattle.cilk_laws_allowed.specs.model.State.{Entry, Instances, State, instance_at, is_live, changed, without}
-use Rattle.cilk_laws_allowed.specs.model.Change.{gone_on, put, above, resumed_to, resumed, with_deliveries, deliveries, after_return_to, after_marks}
-use Rattle.cilk_laws_allowed.specs.model.Event.{acted}
-use Rattle.cilk_laws_allowed.specs.model.Pick.{Step}
-use Rattle.cilk_laws_allowed.specs.model.Run.{state_after, event_of_step}
-use Rattle.cilk_laws_placed.proofs.Entries.{same-is, at-changed_same, at-changed_other, at-without_other, live-changed, live-without, either_of, at-push}
+use Rattle.cilk_laws_model.specs.labelled.Labelled.{Labelled, Numbered}
+use Rattle.cilk_laws_model.specs.model.Values.{Cell}
+use Rattle.cilk_laws_model.specs.model.Path.{Path, same_path, parent_of}
+use Rattle.cilk_laws_model.specs.model.Instance.{Activation, Delivery, Instance, entered}
+use Rattle.cilk_laws_model.specs.model.State.{Entry, Instances, State, instance_at, is_live, changed, without}
+use Rattle.cilk_laws_model.specs.model.Change.{gone_on, put, above, resumed_to, resumed, with_deliveries, deliveries, after_return_to, after_marks}
+use Rattle.cilk_laws_model.specs.model.Event.{acted}
+use Rattle.cilk_laws_model.specs.model.Pick.{Step}
+use Rattle.cilk_laws_model.specs.model.Run.{state_after, event_of_step}
+use Rattle.cilk_laws_model.proofs.Entries.{same-is, at-changed_same, at-changed_other, at-without_other, live-changed, live-without, either_of, at-push}
 use Rattle.cilk_laws_runs.proofs.Effects.{marking, sort_of}
 use Rattle.cilk_laws_runs.proofs.Ways.{Acting, Way, resting, parking, ending, stopping, going, writing, entering, quitting, answering, returning}
 use Rattle.cilk_laws_runs.proofs.Ways.{starting, printing, turning_lock, aborts, placing, letting_in}

@@ -5,12 +5,12 @@ use Rattle.cilk_check.specs.syntax.Tree.{Program}
 use Rattle.cilk_check.specs.syntax.declared.operator.BinOp.{BinOp}
 use Rattle.cilk_check.specs.scopes.WellFormed.{WellFormed}
 use Rattle.cilk_machine.specs.eval.declared.slot.Slot.{Slot}
-use Rattle.cilk_laws_allowed.specs.labelled.Labelled.{Labelled}
-use Rattle.cilk_laws_allowed.specs.labelled.Bodies.{label}
-use Rattle.cilk_laws_allowed.specs.model.Path.{Path}
-use Rattle.cilk_laws_allowed.specs.model.Values.{Reached}
-use Rattle.cilk_laws_allowed.specs.model.Instance as model
-use Rattle.cilk_laws_allowed.specs.model.Instance.{Instance, body_at}
+use Rattle.cilk_laws_model.specs.labelled.Labelled.{Labelled}
+use Rattle.cilk_laws_model.specs.labelled.Bodies.{label}
+use Rattle.cilk_laws_model.specs.model.Path.{Path}
+use Rattle.cilk_laws_model.specs.model.Values.{Reached}
+use Rattle.cilk_laws_model.specs.model.Instance as model
+use Rattle.cilk_laws_model.specs.model.Instance.{Instance, body_at}
 use Rattle.cilk_machine.specs.nodes.declared.action.Action.TheVariants.{Call, Spawn}
 use Rattle.cilk_machine.specs.nodes.declared.node.Node as action
 use Rattle.cilk_machine.specs.nodes.declared.taker.Taker.TheVariants.{Through}

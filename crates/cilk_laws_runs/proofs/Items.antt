@@ -3,15 +3,15 @@ use Rattle.std.proofs.Common.{◌≡◌, ℕ, zero, suc, ℤ, Bool, true, false,
 use Rattle.std.specs.Prelude.{slice_index_or}
 use Rattle.std.specs.List.{list_all}
 use Rattle.std.proofs.lemmas.Bool.{and_parts}
-use Rattle.cilk_laws_allowed.specs.labelled.Labelled.{Labelled, Body, Action, assign, call, spawn, print, locking, null, break_off, go_round, tests}
-use Rattle.cilk_laws_allowed.specs.labelled.Labelled.{sync, abort, return_with, return_nothing, close, Numbered, Stmt, action, choose, while, repeat}
-use Rattle.cilk_laws_allowed.specs.labelled.Labelled.{loop, select, at_label, nested, Stmts, none, also}
-use Rattle.cilk_laws_allowed.specs.labelled.Items.{Round, Item, piece, at_test, at_advance, at_end, Items, pieces, plain_round, open_first}
-use Rattle.cilk_laws_allowed.specs.labelled.Items.{open_stmt, open_stmts, opened, head_of_stmt, head_of, past_mark, from_mark, after_action}
-use Rattle.cilk_laws_allowed.specs.labelled.Items.{next_mark, is_label, behind_by, behind_label, first_there, chosen, selected, holds}
-use Rattle.cilk_laws_allowed.specs.labelled.Items.{after_choice, after_test, next, start_items}
-use Rattle.cilk_laws_allowed.specs.labelled.Bodies.{is_procedure}
-use Rattle.cilk_laws_allowed.specs.model.Instance.{no_body, body_at}
+use Rattle.cilk_laws_model.specs.labelled.Labelled.{Labelled, Body, Action, assign, call, spawn, print, locking, null, break_off, go_round, tests}
+use Rattle.cilk_laws_model.specs.labelled.Labelled.{sync, abort, return_with, return_nothing, close, Numbered, Stmt, action, choose, while, repeat}
+use Rattle.cilk_laws_model.specs.labelled.Labelled.{loop, select, at_label, nested, Stmts, none, also}
+use Rattle.cilk_laws_model.specs.labelled.Items.{Round, Item, piece, at_test, at_advance, at_end, Items, pieces, plain_round, open_first}
+use Rattle.cilk_laws_model.specs.labelled.Items.{open_stmt, open_stmts, opened, head_of_stmt, head_of, past_mark, from_mark, after_action}
+use Rattle.cilk_laws_model.specs.labelled.Items.{next_mark, is_label, behind_by, behind_label, first_there, chosen, selected, holds}
+use Rattle.cilk_laws_model.specs.labelled.Items.{after_choice, after_test, next, start_items}
+use Rattle.cilk_laws_model.specs.labelled.Bodies.{is_procedure}
+use Rattle.cilk_laws_model.specs.model.Instance.{no_body, body_at}
 use Rattle.cilk_laws_runs.specs.Calls.{action_suits, part_suits, taker_suits, stmt_suits, stmts_suit, body_suits, calls_suit}
 
 abbrev HoldsPart : (Action → Bool) → Option Numbered → Type 0

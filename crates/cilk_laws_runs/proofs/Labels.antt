@@ -5,12 +5,12 @@ use Rattle.cilk_check.specs.syntax.Tree as tree
 use Rattle.cilk_check.specs.scopes.declared.within.Within.{Within}
 use Rattle.cilk_check.specs.scopes.Parts.{Around, local, statement, PartInContext, inner, looped, switched, after_local, after_locals, block_parts}
 use Rattle.cilk_check.specs.scopes.Parts.{locals_parts, within_local, stmts_parts, within_stmt}
-use Rattle.cilk_laws_allowed.specs.labelled.Labelled.{Labelled, Stmts}
-use Rattle.cilk_laws_allowed.specs.labelled.Names.{Names, with_local, local_count, entered}
-use Rattle.cilk_laws_allowed.specs.labelled.Label.{locals_variables, names_behind, label_move, label_taker, label_part, label_initialiser}
-use Rattle.cilk_laws_allowed.specs.labelled.Label.{label_local, label_locals, label_stmt, label_stmts, label_block}
-use Rattle.cilk_laws_allowed.specs.labelled.Count.{count_local, count_locals}
-use Rattle.cilk_laws_allowed.specs.labelled.Bodies.{is_procedure}
+use Rattle.cilk_laws_model.specs.labelled.Labelled.{Labelled, Stmts}
+use Rattle.cilk_laws_model.specs.labelled.Names.{Names, with_local, local_count, entered}
+use Rattle.cilk_laws_model.specs.labelled.Label.{locals_variables, names_behind, label_move, label_taker, label_part, label_initialiser}
+use Rattle.cilk_laws_model.specs.labelled.Label.{label_local, label_locals, label_stmt, label_stmts, label_block}
+use Rattle.cilk_laws_model.specs.labelled.Count.{count_local, count_locals}
+use Rattle.cilk_laws_model.specs.labelled.Bodies.{is_procedure}
 use Rattle.cilk_laws_runs.specs.Calls.{taker_suits, action_suits, part_suits, stmt_suits, stmts_suit}
 use Rattle.cilk_laws_runs.proofs.Right.{MoveRight, MovesRight, TakerRight, StmtRight, Right, front, back, first, others}
 use Rattle.cilk_laws_runs.proofs.Named.{Agree, called_fits, fed_fits, agree_entered, agree_declared}

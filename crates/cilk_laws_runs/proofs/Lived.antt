@@ -2,14 +2,14 @@
 use Rattle.std.proofs.Common.{◌≡◌, ℕ, suc, Bool, true, false, ◌||◌, List, [], ◌∷◌, ◌++◌, length, Some, None, refl, sym, ap, ◌∙◌}
 use Rattle.std.proofs.lemmas.Bool.{or_right}
 use Rattle.std.proofs.lemmas.List.{append-nil, append_assoc}
-use Rattle.cilk_laws_allowed.specs.labelled.Labelled.{Labelled}
-use Rattle.cilk_laws_allowed.specs.model.Path.{Path}
-use Rattle.cilk_laws_allowed.specs.model.Event.{Event, acted, spawned, delivered, returned, ended, trapped, moved}
-use Rattle.cilk_laws_allowed.specs.model.Fate.{Fate, lives, fate_by, is_birth, was_made}
-use Rattle.cilk_laws_allowed.specs.model.Choice.{Choice}
-use Rattle.cilk_laws_allowed.specs.model.Run.{Position, refusal_of, event_of, opening, after, position_after}
-use Rattle.cilk_laws_placed.proofs.Events.{told, told-push, made-push}
-use Rattle.cilk_laws_placed.proofs.Fates.{told_at}
+use Rattle.cilk_laws_model.specs.labelled.Labelled.{Labelled}
+use Rattle.cilk_laws_model.specs.model.Path.{Path}
+use Rattle.cilk_laws_model.specs.model.Event.{Event, acted, spawned, delivered, returned, ended, trapped, moved}
+use Rattle.cilk_laws_model.specs.model.Fate.{Fate, lives, fate_by, is_birth, was_made}
+use Rattle.cilk_laws_model.specs.model.Choice.{Choice}
+use Rattle.cilk_laws_model.specs.model.Run.{Position, refusal_of, event_of, opening, after, position_after}
+use Rattle.cilk_laws_model.proofs.Events.{told, told-push, made-push}
+use Rattle.cilk_laws_model.proofs.Fates.{told_at}
 use Rattle.cilk_laws_runs.specs.Moments.{Lived}
 use Rattle.cilk_laws_runs.specs.ChildLaws.{TheMadeHaveLived}
 use Rattle.cilk_laws_runs.proofs.Runs.{possible_after, each_position}

@@ -9,11 +9,11 @@ use Rattle.cilk_check.specs.scopes.Scopes.{Scopes, parameters_declare, file_scop
 use Rattle.cilk_check.specs.scopes.Parts.{Around, Part, local, statement, after_local, after_locals, in_body, in_inlet, block_parts, locals_parts}
 use Rattle.cilk_check.specs.scopes.Parts.{within_local, stmts_parts, owner_of, item_parts, parts_of}
 use Rattle.cilk_check.specs.scopes.Forms.{Faulty, break_outside, continue_outside}
-use Rattle.cilk_laws_allowed.specs.labelled.Names.{Names, with_local}
-use Rattle.cilk_laws_allowed.specs.labelled.Label.{label_block}
-use Rattle.cilk_laws_allowed.specs.labelled.Bodies.{inlet_bodies, block_locals, body_count, item_bodies, items_bodies, file_names}
-use Rattle.cilk_laws_allowed.specs.labelled.Count.{count_item}
-use Rattle.cilk_laws_placed.specs.Loops.{stmts_fit, body_fits}
+use Rattle.cilk_laws_model.specs.labelled.Names.{Names, with_local}
+use Rattle.cilk_laws_model.specs.labelled.Label.{label_block}
+use Rattle.cilk_laws_model.specs.labelled.Bodies.{inlet_bodies, block_locals, body_count, item_bodies, items_bodies, file_names}
+use Rattle.cilk_laws_model.specs.labelled.Count.{count_item}
+use Rattle.cilk_laws_model.specs.Loops.{stmts_fit, body_fits}
 use Rattle.cilk_laws_runs.specs.HeadLaws.{BreaksStandInLoops}
 use Rattle.cilk_laws_runs.proofs.Loops.{stands, part_stands, Stand, front, back, others, label_block_fits}
 

@@ -7,12 +7,12 @@ use Rattle.cilk_check.specs.syntax.Tree as tree
 use Rattle.cilk_check.specs.scopes.declared.within.Within.{Within}
 use Rattle.cilk_check.specs.scopes.Parts.{Around, Part, local, statement, PartInContext, inner, looped, switched, after_local, after_locals}
 use Rattle.cilk_check.specs.scopes.Parts.{block_parts, locals_parts, stmts_parts, within_stmt}
-use Rattle.cilk_laws_allowed.specs.labelled.Labelled.{Stmts}
-use Rattle.cilk_laws_allowed.specs.labelled.Names.{Names, with_local, local_count, entered}
-use Rattle.cilk_laws_allowed.specs.labelled.Label.{locals_variables, names_behind, label_initialiser, label_local, label_locals, label_stmt}
-use Rattle.cilk_laws_allowed.specs.labelled.Label.{label_stmts, label_block}
-use Rattle.cilk_laws_allowed.specs.labelled.Count.{count_local, count_locals}
-use Rattle.cilk_laws_placed.specs.Loops.{stmt_fits, stmts_fit}
+use Rattle.cilk_laws_model.specs.labelled.Labelled.{Stmts}
+use Rattle.cilk_laws_model.specs.labelled.Names.{Names, with_local, local_count, entered}
+use Rattle.cilk_laws_model.specs.labelled.Label.{locals_variables, names_behind, label_initialiser, label_local, label_locals, label_stmt}
+use Rattle.cilk_laws_model.specs.labelled.Label.{label_stmts, label_block}
+use Rattle.cilk_laws_model.specs.labelled.Count.{count_local, count_locals}
+use Rattle.cilk_laws_model.specs.Loops.{stmt_fits, stmts_fit}
 
 -- a `break` stands in a loop or a `switch`, and a `continue` in a loop
 abbrev pub stands : Within → tree.Stmt → Bool

@@ -2,19 +2,19 @@
 use Rattle.std.proofs.Common.{◌≡◌, ℕ, ℤ, pos, true, false, List, Option, Some, None, ◌⊎◌, inl, inr, is_some, refl, sym, ap, subst, ◌∙◌}
 use Rattle.std.proofs.lemmas.Option.{same_Some}
 use Rattle.std.specs.Prelude.{option_map}
-use Rattle.cilk_laws_allowed.specs.labelled.Labelled.{Labelled, Numbered, Action, abort}
-use Rattle.cilk_laws_allowed.specs.labelled.Items.{head_of}
-use Rattle.cilk_laws_allowed.specs.model.Path.{Path, is_below}
-use Rattle.cilk_laws_allowed.specs.model.Instance.{Instance}
-use Rattle.cilk_laws_allowed.specs.model.State.{Instances, State, instance_at, is_live, changed, is_empty}
-use Rattle.cilk_laws_allowed.specs.model.Change.{gone_on, after_marks, after_return}
-use Rattle.cilk_laws_allowed.specs.model.Event.{acted, returned, moved}
-use Rattle.cilk_laws_allowed.specs.model.Pick.{Step, step_of_instance}
-use Rattle.cilk_laws_allowed.specs.model.Choice.{Choice}
-use Rattle.cilk_laws_allowed.specs.model.Run.{Standing, Position, next_of, event_of_step, state_after}
-use Rattle.cilk_laws_placed.proofs.Entries.{live-changed}
-use Rattle.cilk_laws_allowed.proofs.Lookups.{marked, at-marked_below, at-marked_beside}
-use Rattle.cilk_laws_placed.proofs.Waits.{still-replaced, still-marked}
+use Rattle.cilk_laws_model.specs.labelled.Labelled.{Labelled, Numbered, Action, abort}
+use Rattle.cilk_laws_model.specs.labelled.Items.{head_of}
+use Rattle.cilk_laws_model.specs.model.Path.{Path, is_below}
+use Rattle.cilk_laws_model.specs.model.Instance.{Instance}
+use Rattle.cilk_laws_model.specs.model.State.{Instances, State, instance_at, is_live, changed, is_empty}
+use Rattle.cilk_laws_model.specs.model.Change.{gone_on, after_marks, after_return}
+use Rattle.cilk_laws_model.specs.model.Event.{acted, returned, moved}
+use Rattle.cilk_laws_model.specs.model.Pick.{Step, step_of_instance}
+use Rattle.cilk_laws_model.specs.model.Choice.{Choice}
+use Rattle.cilk_laws_model.specs.model.Run.{Standing, Position, next_of, event_of_step, state_after}
+use Rattle.cilk_laws_model.proofs.Entries.{live-changed}
+use Rattle.cilk_laws_model.proofs.Lookups.{marked, at-marked_below, at-marked_beside}
+use Rattle.cilk_laws_model.proofs.Waits.{still-replaced, still-marked}
 use Rattle.cilk_laws_runs.specs.Moments.{mark_at, deliveries_at, Acts}
 use Rattle.cilk_laws_runs.specs.ChildLaws.{Leads, AbortMarks, AbortSparesOthers, AbortKeepsDeliveries}
 use Rattle.cilk_laws_runs.proofs.Runs.{Stepped, Rested, what_happens, led}

@@ -8,10 +8,10 @@ use Rattle.cilk_check.specs.syntax.Tree as tree
 use Rattle.cilk_check.specs.scopes.declared.declaration_kind.DeclarationKind.{DeclarationKind}
 use Rattle.cilk_check.specs.scopes.declared.declaration_kind.DeclarationKind.TheVariants as kind
 use Rattle.cilk_check.specs.scopes.Scopes.{Declared, Scopes, declare, enter, declare_all, parameter, parameters_declare, kind_of_shape, local_declares, meaning}
-use Rattle.cilk_laws_allowed.specs.labelled.Labelled.{Labelled, Declaration, local, outer, global, of_lock, of_body, unknown}
-use Rattle.cilk_laws_allowed.specs.labelled.Names.{Names, meaning_at, meaning_of, number_of, with_name, with_words, with_parameters, with_local}
-use Rattle.cilk_laws_allowed.specs.labelled.Names.{entered, outward, in_inlet}
-use Rattle.cilk_laws_allowed.specs.model.Change.{is_function}
+use Rattle.cilk_laws_model.specs.labelled.Labelled.{Labelled, Declaration, local, outer, global, of_lock, of_body, unknown}
+use Rattle.cilk_laws_model.specs.labelled.Names.{Names, meaning_at, meaning_of, number_of, with_name, with_words, with_parameters, with_local}
+use Rattle.cilk_laws_model.specs.labelled.Names.{entered, outward, in_inlet}
+use Rattle.cilk_laws_model.specs.model.Change.{is_function}
 use Rattle.cilk_laws_runs.proofs.Right.{is_function_kind, is_inlet_kind, Finds}
 use Rattle.cilk_load.proofs.Found.{meaning-first}
 use Rattle.cilk_check_forms.specs.Finds.{is_inlet}

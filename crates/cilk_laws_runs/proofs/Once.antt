@@ -3,23 +3,23 @@ use Rattle.std.proofs.Common.{◌≡◌, ℕ, suc, ◌+◌, ◌≤◌, Bool, tru
 use Rattle.std.proofs.Common.{sym, ap, subst, ◌∙◌, if◌then◌else◌, arith, count_by}
 use Rattle.std.proofs.lemmas.List.Sums.{sum_by_push}
 use Rattle.std.proofs.lemmas.Bool.{or_right}
-use Rattle.cilk_laws_allowed.specs.labelled.Labelled.{Labelled}
-use Rattle.cilk_laws_allowed.specs.model.Path.{Path, same_path}
-use Rattle.cilk_laws_allowed.specs.model.State.{State, is_live}
-use Rattle.cilk_laws_allowed.specs.model.Event.{Event, acted, spawned, delivered, returned, ended, trapped, moved}
-use Rattle.cilk_laws_allowed.specs.model.Fate.{Fate, lives, has_returned, was_delivered, was_aborted, fate_by, is_birth, was_made}
-use Rattle.cilk_laws_allowed.specs.model.Pick.{Step}
-use Rattle.cilk_laws_allowed.specs.model.Choice.{Choice}
-use Rattle.cilk_laws_allowed.specs.model.Run.{Position, event_of, event_of_step, after}
-use Rattle.cilk_laws_placed.proofs.Entries.{same-is, same-self}
-use Rattle.cilk_laws_placed.proofs.Rows.{step_row}
-use Rattle.cilk_laws_placed.proofs.Live.{Lives, row_lives}
-use Rattle.cilk_laws_placed.proofs.Family.{not_root}
-use Rattle.cilk_laws_placed.proofs.Events.{told, told-push, made-push, IsPlain}
-use Rattle.cilk_laws_placed.proofs.Tales.{Tale, rests, parks_it, acts, takes, starts, brings, leaves, row_tale}
-use Rattle.cilk_laws_placed.proofs.Told.{Told, delivered_fate, was_returned}
-use Rattle.cilk_laws_placed.proofs.Born.{fresh}
-use Rattle.cilk_laws_placed.proofs.Fates.{told_at}
+use Rattle.cilk_laws_model.specs.labelled.Labelled.{Labelled}
+use Rattle.cilk_laws_model.specs.model.Path.{Path, same_path}
+use Rattle.cilk_laws_model.specs.model.State.{State, is_live}
+use Rattle.cilk_laws_model.specs.model.Event.{Event, acted, spawned, delivered, returned, ended, trapped, moved}
+use Rattle.cilk_laws_model.specs.model.Fate.{Fate, lives, has_returned, was_delivered, was_aborted, fate_by, is_birth, was_made}
+use Rattle.cilk_laws_model.specs.model.Pick.{Step}
+use Rattle.cilk_laws_model.specs.model.Choice.{Choice}
+use Rattle.cilk_laws_model.specs.model.Run.{Position, event_of, event_of_step, after}
+use Rattle.cilk_laws_model.proofs.Entries.{same-is, same-self}
+use Rattle.cilk_laws_model.proofs.Rows.{step_row}
+use Rattle.cilk_laws_model.proofs.Live.{Lives, row_lives}
+use Rattle.cilk_laws_model.proofs.Family.{not_root}
+use Rattle.cilk_laws_model.proofs.Events.{told, told-push, made-push, IsPlain}
+use Rattle.cilk_laws_model.proofs.Tales.{Tale, rests, parks_it, acts, takes, starts, brings, leaves, row_tale}
+use Rattle.cilk_laws_model.proofs.Told.{Told, delivered_fate, was_returned}
+use Rattle.cilk_laws_model.proofs.Born.{fresh}
+use Rattle.cilk_laws_model.proofs.Fates.{told_at}
 use Rattle.cilk_laws_runs.specs.Moments.{is_delivery}
 use Rattle.cilk_laws_runs.specs.ChildLaws.{TheMadeAreSpawnedOnce, DeliveredOnce}
 use Rattle.cilk_laws_runs.proofs.Runs.{each_position, Stepped, Rested, what_happens}

@@ -5,17 +5,17 @@ use Rattle.std.proofs.lemmas.List.Sums.{sum_by-cons}
 use Rattle.std.proofs.lemmas.List.Elements.{All-head, All-tail}
 use Rattle.cilk_check.specs.syntax.Tree.{Program}
 use Rattle.cilk_check.specs.scopes.WellFormed.{WellFormed}
-use Rattle.cilk_laws_allowed.specs.labelled.Bodies.{label}
-use Rattle.cilk_laws_allowed.specs.model.Path.{Path, same_path}
-use Rattle.cilk_laws_allowed.specs.model.Instance.{Instance}
-use Rattle.cilk_laws_allowed.specs.model.State as state
-use Rattle.cilk_laws_allowed.specs.model.State.{Instances}
-use Rattle.cilk_laws_allowed.specs.model.Hands.{WorkerOf}
-use Rattle.cilk_laws_allowed.specs.model.Scheduler.{Worker}
-use Rattle.cilk_laws_allowed.specs.model.Run.{Standing}
-use Rattle.cilk_laws_placed.specs.Hands.{times_held, EachInItsPlace}
-use Rattle.cilk_laws_placed.proofs.Entries.{same-is}
-use Rattle.cilk_laws_placed.proofs.Kept.{places_are_kept}
+use Rattle.cilk_laws_model.specs.labelled.Bodies.{label}
+use Rattle.cilk_laws_model.specs.model.Path.{Path, same_path}
+use Rattle.cilk_laws_model.specs.model.Instance.{Instance}
+use Rattle.cilk_laws_model.specs.model.State as state
+use Rattle.cilk_laws_model.specs.model.State.{Instances}
+use Rattle.cilk_laws_model.specs.model.Hands.{WorkerOf}
+use Rattle.cilk_laws_model.specs.model.Scheduler.{Worker}
+use Rattle.cilk_laws_model.specs.model.Run.{Standing}
+use Rattle.cilk_laws_model.specs.Hands.{times_held, EachInItsPlace}
+use Rattle.cilk_laws_model.proofs.Entries.{same-is}
+use Rattle.cilk_laws_model.proofs.Kept.{places_are_kept}
 use Rattle.cilk_machine.specs.frame.Frames.{Frame}
 use Rattle.cilk_machine.specs.frame.Stands.{StandsFor}
 use Rattle.cilk_machine.specs.spawn.Nodes.{Node, node_at, is_live, path_at}

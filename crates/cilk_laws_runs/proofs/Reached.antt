@@ -1,8 +1,8 @@
 -- What follows for every run of such a text.
 use Rattle.cilk_check.specs.scopes.declared.fault.CheckFault.TheVariants.{NoLoop}
-use Rattle.cilk_laws_allowed.specs.labelled.Bodies.{label}
-use Rattle.cilk_laws_placed.proofs.Heads as heads
-use Rattle.cilk_laws_placed.proofs.Waiting as waiting
+use Rattle.cilk_laws_model.specs.labelled.Bodies.{label}
+use Rattle.cilk_laws_model.proofs.Heads as heads
+use Rattle.cilk_laws_model.proofs.Waiting as waiting
 use Rattle.cilk_laws_runs.specs.HeadLaws.{EachHasHead, StuckOnLocks}
 use Rattle.cilk_laws_runs.proofs.LoopBodies.{breaks_stand_in_loops}
 

@@ -18,7 +18,7 @@ use Rattle.cilk_check.specs.scopes.Names.{fits, Means}
 use Rattle.cilk_check.specs.scopes.Reserved.{IsReserved}
 use Rattle.cilk_check.specs.scopes.Forms as forms
 use Rattle.cilk_check.specs.scopes.Forms.{synched_in, own_word, words_of_children}
-use Rattle.cilk_laws_allowed.specs.labelled.Bodies.{is_procedure}
+use Rattle.cilk_laws_model.specs.labelled.Bodies.{is_procedure}
 use Rattle.cilk_check.specs.scopes.WellFormed.{WellFormed}
 
 abbrev pub is_function_kind : DeclarationKind → Bool

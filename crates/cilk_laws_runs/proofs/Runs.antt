@@ -2,17 +2,17 @@
 use Rattle.std.proofs.Common.{◌≡◌, ℕ, Bool, true, false, List, [], ◌∷◌, ◌++◌, Option, Some, None, ◌⊎◌, inl, inr, is_none, refl, sym, ap, subst, ◌∙◌}
 use Rattle.std.proofs.Common.{if◌then◌else◌}
 use Rattle.std.proofs.lemmas.List.{append-nil, append_assoc}
-use Rattle.cilk_laws_allowed.specs.labelled.Labelled.{Labelled}
-use Rattle.cilk_laws_allowed.specs.model.Path.{Path}
-use Rattle.cilk_laws_allowed.specs.model.Instance.{Instance}
-use Rattle.cilk_laws_allowed.specs.model.State.{instance_at}
-use Rattle.cilk_laws_allowed.specs.model.Event.{Event, moved}
-use Rattle.cilk_laws_allowed.specs.model.Pick.{step_of_live, step_of_instance}
-use Rattle.cilk_laws_allowed.specs.model.Scheduler.{hand_of}
-use Rattle.cilk_laws_allowed.specs.model.Choice.{Act, step, pop, steal, Choice, Refusal}
-use Rattle.cilk_laws_allowed.specs.model.Run.{Standing, Position, refusal_of, next_of, next_by, next_by_hand, event_of, event_by, event_by_hand}
-use Rattle.cilk_laws_allowed.specs.model.Run.{event_of_step, state_after, after_from, opening, is_crew, after_main, after, position_after, one_more}
-use Rattle.cilk_laws_placed.proofs.model_laws.Runs.{after-push, Went, went}
+use Rattle.cilk_laws_model.specs.labelled.Labelled.{Labelled}
+use Rattle.cilk_laws_model.specs.model.Path.{Path}
+use Rattle.cilk_laws_model.specs.model.Instance.{Instance}
+use Rattle.cilk_laws_model.specs.model.State.{instance_at}
+use Rattle.cilk_laws_model.specs.model.Event.{Event, moved}
+use Rattle.cilk_laws_model.specs.model.Pick.{step_of_live, step_of_instance}
+use Rattle.cilk_laws_model.specs.model.Scheduler.{hand_of}
+use Rattle.cilk_laws_model.specs.model.Choice.{Act, step, pop, steal, Choice, Refusal}
+use Rattle.cilk_laws_model.specs.model.Run.{Standing, Position, refusal_of, next_of, next_by, next_by_hand, event_of, event_by, event_by_hand}
+use Rattle.cilk_laws_model.specs.model.Run.{event_of_step, state_after, after_from, opening, is_crew, after_main, after, position_after, one_more}
+use Rattle.cilk_laws_model.proofs.model_laws.Runs.{after-push, Went, went}
 use Rattle.cilk_laws_runs.specs.ChildLaws.{Leads}
 
 -- the rest of a list of choices, from where its front led

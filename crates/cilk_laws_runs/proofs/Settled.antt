@@ -2,22 +2,22 @@
 use Rattle.std.proofs.Common.{◌≡◌, ℕ, true, false, ◌&&◌, ◌||◌, List, [], Option, Some, None, ◌⊎◌, inl, inr, is_some, refl, sym, ap, subst, ◌∙◌}
 use Rattle.std.proofs.lemmas.Bool.{and_from, or_right}
 use Rattle.std.specs.Prelude.{option_map}
-use Rattle.cilk_laws_allowed.specs.labelled.Labelled.{Labelled, Numbered, Action, call, spawn, sync, abort, return_with, return_nothing, close}
-use Rattle.cilk_laws_allowed.specs.model.Path.{Path, child_path}
-use Rattle.cilk_laws_allowed.specs.model.Instance.{Receiver, Instance}
-use Rattle.cilk_laws_allowed.specs.model.State.{State, instance_at, is_live, has_live_child, is_empty}
-use Rattle.cilk_laws_allowed.specs.model.Change.{leaves, is_sync, waits_here}
-use Rattle.cilk_laws_allowed.specs.model.Event.{Event, returned, moved}
-use Rattle.cilk_laws_allowed.specs.model.Fate.{Fate, lives, has_returned, was_delivered, was_aborted}
-use Rattle.cilk_laws_allowed.specs.model.Pick.{step_of_instance}
-use Rattle.cilk_laws_allowed.specs.model.Choice.{Choice}
-use Rattle.cilk_laws_allowed.specs.model.Run.{Standing, event_of, after}
-use Rattle.cilk_laws_allowed.proofs.Ground.{empty_is}
-use Rattle.cilk_laws_allowed.proofs.Synched.{unseen}
-use Rattle.cilk_laws_placed.proofs.Family.{parent-child}
-use Rattle.cilk_laws_placed.proofs.Events.{told, fate-made}
-use Rattle.cilk_laws_placed.proofs.Told.{Told}
-use Rattle.cilk_laws_placed.proofs.Fates.{told_at}
+use Rattle.cilk_laws_model.specs.labelled.Labelled.{Labelled, Numbered, Action, call, spawn, sync, abort, return_with, return_nothing, close}
+use Rattle.cilk_laws_model.specs.model.Path.{Path, child_path}
+use Rattle.cilk_laws_model.specs.model.Instance.{Receiver, Instance}
+use Rattle.cilk_laws_model.specs.model.State.{State, instance_at, is_live, has_live_child, is_empty}
+use Rattle.cilk_laws_model.specs.model.Change.{leaves, is_sync, waits_here}
+use Rattle.cilk_laws_model.specs.model.Event.{Event, returned, moved}
+use Rattle.cilk_laws_model.specs.model.Fate.{Fate, lives, has_returned, was_delivered, was_aborted}
+use Rattle.cilk_laws_model.specs.model.Pick.{step_of_instance}
+use Rattle.cilk_laws_model.specs.model.Choice.{Choice}
+use Rattle.cilk_laws_model.specs.model.Run.{Standing, event_of, after}
+use Rattle.cilk_laws_model.proofs.Ground.{empty_is}
+use Rattle.cilk_laws_model.proofs.Synched.{unseen}
+use Rattle.cilk_laws_model.proofs.Family.{parent-child}
+use Rattle.cilk_laws_model.proofs.Events.{told, fate-made}
+use Rattle.cilk_laws_model.proofs.Told.{Told}
+use Rattle.cilk_laws_model.proofs.Fates.{told_at}
 use Rattle.cilk_laws_runs.specs.Moments.{Settles, passes, returns, EndsBy, taken, untaken, stopped}
 use Rattle.cilk_laws_runs.specs.ChildLaws.{ChildrenAreSettled}
 use Rattle.cilk_laws_runs.proofs.Runs.{Stepped, Rested, what_happens, each_later}

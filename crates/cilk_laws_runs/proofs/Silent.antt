@@ -5,22 +5,22 @@ use Rattle.std.specs.Prelude.{option_map}
 use Rattle.std.specs.List.{list_all}
 use Rattle.std.proofs.lemmas.Bool.{and_parts, cond-false, false_from_ne_true, true≢false}
 use Rattle.std.proofs.lemmas.List.{append-nil, append_assoc}
-use Rattle.cilk_laws_allowed.specs.labelled.Labelled.{Labelled, Action, call, spawn, abort, return_with, return_nothing, close}
-use Rattle.cilk_laws_allowed.specs.model.Path.{Path, same_path, child_path, is_below}
-use Rattle.cilk_laws_allowed.specs.model.Instance.{Instance, started}
-use Rattle.cilk_laws_allowed.specs.model.State.{Instances, State, instance_at, is_live, changed}
-use Rattle.cilk_laws_allowed.specs.model.Change.{gone_on, after_marks, after_start}
-use Rattle.cilk_laws_allowed.specs.model.Event.{Event, acted, spawned, delivered, returned, ended, trapped, moved}
-use Rattle.cilk_laws_allowed.specs.model.Fate.{Fate, lives, has_returned, was_aborted, fate_by, is_birth, was_made}
-use Rattle.cilk_laws_allowed.specs.model.Pick.{Step, waits, parks, goes_on, ends, spawns, step_of_instance}
-use Rattle.cilk_laws_allowed.specs.model.Choice.{Choice}
-use Rattle.cilk_laws_allowed.specs.model.Run.{Standing, Position, refusal_of, next_of, event_of, event_of_step, state_after, after, position_after}
-use Rattle.cilk_laws_placed.proofs.Entries.{same-is, same-self, live-changed, either_of, at-push}
-use Rattle.cilk_laws_placed.proofs.Rows.{step_row}
-use Rattle.cilk_laws_placed.proofs.Live.{Lives, row_lives}
-use Rattle.cilk_laws_placed.proofs.Events.{told, told-push, made-push}
-use Rattle.cilk_laws_placed.proofs.Told.{Told}
-use Rattle.cilk_laws_placed.proofs.Fates.{told_at}
+use Rattle.cilk_laws_model.specs.labelled.Labelled.{Labelled, Action, call, spawn, abort, return_with, return_nothing, close}
+use Rattle.cilk_laws_model.specs.model.Path.{Path, same_path, child_path, is_below}
+use Rattle.cilk_laws_model.specs.model.Instance.{Instance, started}
+use Rattle.cilk_laws_model.specs.model.State.{Instances, State, instance_at, is_live, changed}
+use Rattle.cilk_laws_model.specs.model.Change.{gone_on, after_marks, after_start}
+use Rattle.cilk_laws_model.specs.model.Event.{Event, acted, spawned, delivered, returned, ended, trapped, moved}
+use Rattle.cilk_laws_model.specs.model.Fate.{Fate, lives, has_returned, was_aborted, fate_by, is_birth, was_made}
+use Rattle.cilk_laws_model.specs.model.Pick.{Step, waits, parks, goes_on, ends, spawns, step_of_instance}
+use Rattle.cilk_laws_model.specs.model.Choice.{Choice}
+use Rattle.cilk_laws_model.specs.model.Run.{Standing, Position, refusal_of, next_of, event_of, event_of_step, state_after, after, position_after}
+use Rattle.cilk_laws_model.proofs.Entries.{same-is, same-self, live-changed, either_of, at-push}
+use Rattle.cilk_laws_model.proofs.Rows.{step_row}
+use Rattle.cilk_laws_model.proofs.Live.{Lives, row_lives}
+use Rattle.cilk_laws_model.proofs.Events.{told, told-push, made-push}
+use Rattle.cilk_laws_model.proofs.Told.{Told}
+use Rattle.cilk_laws_model.proofs.Fates.{told_at}
 use Rattle.cilk_laws_runs.specs.Moments.{mark_at, gives_value}
 use Rattle.cilk_laws_runs.specs.ChildLaws.{TheNewAreUnmarked, MarkedBy, OnlyAnAbortMarks, Further, TheMarkedAreSilent}
 use Rattle.cilk_laws_runs.proofs.Runs.{Stepped, Rested, what_happens, led, possible_after, each_later}

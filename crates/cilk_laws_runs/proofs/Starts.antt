@@ -3,20 +3,20 @@ use Rattle.std.proofs.Common.{◌≡◌, ℕ, ℤ, true, ◌||◌, List, [], ◌
 use Rattle.std.specs.Prelude.{option_map}
 use Rattle.std.proofs.lemmas.Bool.{and_parts}
 use Rattle.std.proofs.lemmas.Option.{same_Some}
-use Rattle.cilk_laws_allowed.specs.labelled.Labelled.{Labelled}
-use Rattle.cilk_laws_allowed.specs.labelled.Items.{head_of}
-use Rattle.cilk_laws_allowed.specs.model.Path.{Path, parent_of}
-use Rattle.cilk_laws_allowed.specs.model.Instance.{through, Delivery, Instance, entered}
-use Rattle.cilk_laws_allowed.specs.model.State.{State, instance_at, is_empty}
-use Rattle.cilk_laws_allowed.specs.model.Change.{above, head_waits, at_boundary, after_inlet}
-use Rattle.cilk_laws_allowed.specs.model.Event.{delivered, moved}
-use Rattle.cilk_laws_allowed.specs.model.Pick.{step_by_receiver, step_at_boundary, step_by_head, step_of_aborted, step_of_instance}
-use Rattle.cilk_laws_allowed.specs.model.Choice.{Choice}
-use Rattle.cilk_laws_allowed.specs.model.Run.{Position, next_of, event_of, state_after, after}
-use Rattle.cilk_laws_allowed.proofs.Ground.{empty_is}
-use Rattle.cilk_laws_placed.proofs.Entries.{at-changed_same}
-use Rattle.cilk_laws_placed.proofs.Fates.{told_at}
-use Rattle.cilk_laws_placed.proofs.Sound.{Sound}
+use Rattle.cilk_laws_model.specs.labelled.Labelled.{Labelled}
+use Rattle.cilk_laws_model.specs.labelled.Items.{head_of}
+use Rattle.cilk_laws_model.specs.model.Path.{Path, parent_of}
+use Rattle.cilk_laws_model.specs.model.Instance.{through, Delivery, Instance, entered}
+use Rattle.cilk_laws_model.specs.model.State.{State, instance_at, is_empty}
+use Rattle.cilk_laws_model.specs.model.Change.{above, head_waits, at_boundary, after_inlet}
+use Rattle.cilk_laws_model.specs.model.Event.{delivered, moved}
+use Rattle.cilk_laws_model.specs.model.Pick.{step_by_receiver, step_at_boundary, step_by_head, step_of_aborted, step_of_instance}
+use Rattle.cilk_laws_model.specs.model.Choice.{Choice}
+use Rattle.cilk_laws_model.specs.model.Run.{Position, next_of, event_of, state_after, after}
+use Rattle.cilk_laws_model.proofs.Ground.{empty_is}
+use Rattle.cilk_laws_model.proofs.Entries.{at-changed_same}
+use Rattle.cilk_laws_model.proofs.Fates.{told_at}
+use Rattle.cilk_laws_model.proofs.Sound.{Sound}
 use Rattle.cilk_laws_runs.specs.Calls.{action_suits, calls_suit}
 use Rattle.cilk_laws_runs.specs.Inlets.{in_inlet, HasStarted}
 use Rattle.cilk_laws_runs.specs.ChildLaws.{IsTaken, EachInletStarts, OnlyProceduresSync}

@@ -6,20 +6,20 @@ use Rattle.std.proofs.lemmas.Bool.{and_parts, not-true}
 use Rattle.std.proofs.lemmas.Option.{same_Some}
 use Rattle.cilk_check.specs.scopes.declared.owner.Owner.{Owner}
 use Rattle.cilk_check.specs.scopes.declared.owner.Owner.TheVariants.{Function, Procedure, Inlet}
-use Rattle.cilk_laws_allowed.specs.labelled.Labelled as labelled
-use Rattle.cilk_laws_allowed.specs.labelled.Labelled.{Labelled, Numbered, Taker, nothing, into, Action, call, spawn, abort, return_with, return_nothing, close}
-use Rattle.cilk_laws_allowed.specs.labelled.Items.{head_of, next}
-use Rattle.cilk_laws_allowed.specs.labelled.Bodies.{is_procedure}
-use Rattle.cilk_laws_allowed.specs.model.Values.{Values, Cell, Reached}
-use Rattle.cilk_laws_allowed.specs.model.Path.{Path, same_path, child_path, parent_of, is_below}
-use Rattle.cilk_laws_allowed.specs.model.Instance.{Activation, Receiver, place, through, Delivery, Instance, entered, started}
-use Rattle.cilk_laws_allowed.specs.model.State.{Entry, Instances, State, instance_at, is_live, changed, without, is_empty}
-use Rattle.cilk_laws_allowed.specs.model.Change.{is_function, gone_on, put, on_lowest, above, resumed_to, resumed, deliveries, after_return_to, after_marks}
-use Rattle.cilk_laws_allowed.specs.model.Pick.{Step}
-use Rattle.cilk_laws_allowed.specs.model.Choice.{Choice}
-use Rattle.cilk_laws_allowed.specs.model.Run.{Standing, Position, next_of, state_after, after}
-use Rattle.cilk_laws_placed.proofs.Entries.{same-is, at-changed_same, at-changed_other, at-without_other, live-without, either_of, at-push}
-use Rattle.cilk_laws_allowed.proofs.Lookups.{marked, at-marked_below, at-marked_beside}
+use Rattle.cilk_laws_model.specs.labelled.Labelled as labelled
+use Rattle.cilk_laws_model.specs.labelled.Labelled.{Labelled, Numbered, Taker, nothing, into, Action, call, spawn, abort, return_with, return_nothing, close}
+use Rattle.cilk_laws_model.specs.labelled.Items.{head_of, next}
+use Rattle.cilk_laws_model.specs.labelled.Bodies.{is_procedure}
+use Rattle.cilk_laws_model.specs.model.Values.{Values, Cell, Reached}
+use Rattle.cilk_laws_model.specs.model.Path.{Path, same_path, child_path, parent_of, is_below}
+use Rattle.cilk_laws_model.specs.model.Instance.{Activation, Receiver, place, through, Delivery, Instance, entered, started}
+use Rattle.cilk_laws_model.specs.model.State.{Entry, Instances, State, instance_at, is_live, changed, without, is_empty}
+use Rattle.cilk_laws_model.specs.model.Change.{is_function, gone_on, put, on_lowest, above, resumed_to, resumed, deliveries, after_return_to, after_marks}
+use Rattle.cilk_laws_model.specs.model.Pick.{Step}
+use Rattle.cilk_laws_model.specs.model.Choice.{Choice}
+use Rattle.cilk_laws_model.specs.model.Run.{Standing, Position, next_of, state_after, after}
+use Rattle.cilk_laws_model.proofs.Entries.{same-is, at-changed_same, at-changed_other, at-without_other, live-without, either_of, at-push}
+use Rattle.cilk_laws_model.proofs.Lookups.{marked, at-marked_below, at-marked_beside}
 use Rattle.cilk_laws_runs.specs.Calls.{taker_suits, action_suits, calls_suit}
 use Rattle.cilk_laws_runs.specs.Inlets.{runs_inlet, IsOfInlet}
 use Rattle.cilk_laws_runs.proofs.Runs.{Stepped, Rested, what_happens, each_position}

@@ -1,17 +1,17 @@
 -- A delivery is taken at a boundary, where it waits first.
 use Rattle.std.proofs.Common.{◌≡◌, ℕ, List, ◌∷◌, Option, Some, ◌⊎◌, inl, inr, sym, ap, subst, ◌∙◌}
 use Rattle.std.specs.Prelude.{option_map}
-use Rattle.cilk_laws_allowed.specs.labelled.Labelled.{Labelled}
-use Rattle.cilk_laws_allowed.specs.model.Path.{Path, parent_of}
-use Rattle.cilk_laws_allowed.specs.model.Instance.{Delivery, Instance}
-use Rattle.cilk_laws_allowed.specs.model.State.{State}
-use Rattle.cilk_laws_allowed.specs.model.Event.{moved, delivered}
-use Rattle.cilk_laws_allowed.specs.model.Pick.{Step, step_of_instance}
-use Rattle.cilk_laws_allowed.specs.model.Choice.{Choice}
-use Rattle.cilk_laws_allowed.specs.model.Run.{Position, event_of, event_of_step, after}
-use Rattle.cilk_laws_allowed.proofs.Boundaries.{boundary_of}
-use Rattle.cilk_laws_placed.proofs.Fates.{told_at}
-use Rattle.cilk_laws_placed.proofs.Sound.{Sound}
+use Rattle.cilk_laws_model.specs.labelled.Labelled.{Labelled}
+use Rattle.cilk_laws_model.specs.model.Path.{Path, parent_of}
+use Rattle.cilk_laws_model.specs.model.Instance.{Delivery, Instance}
+use Rattle.cilk_laws_model.specs.model.State.{State}
+use Rattle.cilk_laws_model.specs.model.Event.{moved, delivered}
+use Rattle.cilk_laws_model.specs.model.Pick.{Step, step_of_instance}
+use Rattle.cilk_laws_model.specs.model.Choice.{Choice}
+use Rattle.cilk_laws_model.specs.model.Run.{Position, event_of, event_of_step, after}
+use Rattle.cilk_laws_model.proofs.Boundaries.{boundary_of}
+use Rattle.cilk_laws_model.proofs.Fates.{told_at}
+use Rattle.cilk_laws_model.proofs.Sound.{Sound}
 use Rattle.cilk_laws_runs.specs.ChildLaws.{IsTaken, TakenAtBoundaries}
 use Rattle.cilk_laws_runs.proofs.Runs.{Stepped, Rested, what_happens}
 use Rattle.cilk_laws_runs.proofs.Ways.{Taking, Way, resting, parking, ending, stopping, going, writing, entering, quitting, answering, returning}

@@ -6,29 +6,29 @@ use Rattle.std.specs.List.{list_any}
 use Rattle.std.proofs.lemmas.List.Folds.{list_any-append}
 use Rattle.std.proofs.lemmas.Option.{same_Some}
 use Rattle.std.proofs.lemmas.Bool.{and_parts, cond-true, cond-false, not-true}
-use Rattle.cilk_laws_allowed.specs.labelled.Labelled.{Labelled}
-use Rattle.cilk_laws_allowed.specs.model.Path.{Path, same_path, parent_of, is_below}
-use Rattle.cilk_laws_allowed.specs.model.Instance.{Receiver, Delivery, Instance}
-use Rattle.cilk_laws_allowed.specs.model.State.{Instances, State, instance_at, is_live, changed, without}
-use Rattle.cilk_laws_allowed.specs.model.Change.{gone_on, deliveries, after_return_to, after_marks}
-use Rattle.cilk_laws_allowed.specs.model.Event.{Event, acted, spawned, delivered, returned, ended, trapped, moved}
-use Rattle.cilk_laws_allowed.specs.model.Fate.{Fate, lives, has_returned, was_delivered, was_aborted, fate_by, was_made}
-use Rattle.cilk_laws_allowed.specs.model.Pick.{Step, ends, step_of_instance}
-use Rattle.cilk_laws_allowed.specs.model.Choice.{Choice}
-use Rattle.cilk_laws_allowed.specs.model.Run.{Position, refusal_of, next_of, event_of, event_of_step, state_after, after, position_after}
-use Rattle.cilk_laws_placed.proofs.Entries.{same-is, same-self, same-sym}
-use Rattle.cilk_laws_placed.proofs.Rows.{step_row}
-use Rattle.cilk_laws_placed.proofs.Live.{Fewer, Lives, row_lives}
-use Rattle.cilk_laws_allowed.proofs.Lookups.{marked, at-marked_below, at-marked_beside}
-use Rattle.cilk_laws_allowed.proofs.Paths.{Origin, origin}
-use Rattle.cilk_laws_placed.proofs.Events.{told, told-push, told-plain}
-use Rattle.cilk_laws_placed.proofs.Waits.{waits_at, beside-without, at-brought}
-use Rattle.cilk_laws_placed.proofs.Tales.{IsOf, Brought, Tale, rests, parks_it, acts, takes, starts, brings, leaves, row_tale}
-use Rattle.cilk_laws_placed.proofs.Sound.{Lacks, Sound, lacks_living}
-use Rattle.cilk_laws_placed.proofs.Told.{Told, delivered_fate, was_returned}
-use Rattle.cilk_laws_placed.proofs.Ended.{waits_live}
-use Rattle.cilk_laws_placed.proofs.Born.{fresh}
-use Rattle.cilk_laws_placed.proofs.Fates.{told_at}
+use Rattle.cilk_laws_model.specs.labelled.Labelled.{Labelled}
+use Rattle.cilk_laws_model.specs.model.Path.{Path, same_path, parent_of, is_below}
+use Rattle.cilk_laws_model.specs.model.Instance.{Receiver, Delivery, Instance}
+use Rattle.cilk_laws_model.specs.model.State.{Instances, State, instance_at, is_live, changed, without}
+use Rattle.cilk_laws_model.specs.model.Change.{gone_on, deliveries, after_return_to, after_marks}
+use Rattle.cilk_laws_model.specs.model.Event.{Event, acted, spawned, delivered, returned, ended, trapped, moved}
+use Rattle.cilk_laws_model.specs.model.Fate.{Fate, lives, has_returned, was_delivered, was_aborted, fate_by, was_made}
+use Rattle.cilk_laws_model.specs.model.Pick.{Step, ends, step_of_instance}
+use Rattle.cilk_laws_model.specs.model.Choice.{Choice}
+use Rattle.cilk_laws_model.specs.model.Run.{Position, refusal_of, next_of, event_of, event_of_step, state_after, after, position_after}
+use Rattle.cilk_laws_model.proofs.Entries.{same-is, same-self, same-sym}
+use Rattle.cilk_laws_model.proofs.Rows.{step_row}
+use Rattle.cilk_laws_model.proofs.Live.{Fewer, Lives, row_lives}
+use Rattle.cilk_laws_model.proofs.Lookups.{marked, at-marked_below, at-marked_beside}
+use Rattle.cilk_laws_model.proofs.Paths.{Origin, origin}
+use Rattle.cilk_laws_model.proofs.Events.{told, told-push, told-plain}
+use Rattle.cilk_laws_model.proofs.Waits.{waits_at, beside-without, at-brought}
+use Rattle.cilk_laws_model.proofs.Tales.{IsOf, Brought, Tale, rests, parks_it, acts, takes, starts, brings, leaves, row_tale}
+use Rattle.cilk_laws_model.proofs.Sound.{Lacks, Sound, lacks_living}
+use Rattle.cilk_laws_model.proofs.Told.{Told, delivered_fate, was_returned}
+use Rattle.cilk_laws_model.proofs.Ended.{waits_live}
+use Rattle.cilk_laws_model.proofs.Born.{fresh}
+use Rattle.cilk_laws_model.proofs.Fates.{told_at}
 use Rattle.cilk_laws_runs.proofs.Runs.{Stepped, Rested, what_happens, possible_after}
 use Rattle.cilk_laws_runs.proofs.Ways.{Way, way_of}
 use Rattle.cilk_laws_runs.proofs.Fields.{field, field-replaced, Kept, AbortStep, fixed_receiver, way_kept}

@@ -3,18 +3,18 @@ use Rattle.std.proofs.Common.{◌≡◌, ℕ, Bool, true, false, not, List, [], 
 use Rattle.std.proofs.lemmas.List.{append-nil}
 use Rattle.std.proofs.lemmas.Option.{same_Some}
 use Rattle.std.specs.Prelude.{option_map}
-use Rattle.cilk_laws_allowed.specs.labelled.Labelled.{Labelled}
-use Rattle.cilk_laws_allowed.specs.model.Path.{Path, parent_of}
-use Rattle.cilk_laws_allowed.specs.model.Instance.{Instance}
-use Rattle.cilk_laws_allowed.specs.model.State.{instance_at}
-use Rattle.cilk_laws_allowed.specs.model.Event.{Event, acted, spawned, delivered, returned, ended, trapped, moved}
-use Rattle.cilk_laws_allowed.specs.model.Fate.{lives, was_aborted}
-use Rattle.cilk_laws_allowed.specs.model.Pick.{step_of_instance}
-use Rattle.cilk_laws_allowed.specs.model.Choice.{Choice}
-use Rattle.cilk_laws_allowed.specs.model.Run.{Position, event_of, after}
-use Rattle.cilk_laws_placed.proofs.Entries.{same-is}
-use Rattle.cilk_laws_placed.proofs.Fates.{told_at}
-use Rattle.cilk_laws_placed.proofs.Sound.{Sound}
+use Rattle.cilk_laws_model.specs.labelled.Labelled.{Labelled}
+use Rattle.cilk_laws_model.specs.model.Path.{Path, parent_of}
+use Rattle.cilk_laws_model.specs.model.Instance.{Instance}
+use Rattle.cilk_laws_model.specs.model.State.{instance_at}
+use Rattle.cilk_laws_model.specs.model.Event.{Event, acted, spawned, delivered, returned, ended, trapped, moved}
+use Rattle.cilk_laws_model.specs.model.Fate.{lives, was_aborted}
+use Rattle.cilk_laws_model.specs.model.Pick.{step_of_instance}
+use Rattle.cilk_laws_model.specs.model.Choice.{Choice}
+use Rattle.cilk_laws_model.specs.model.Run.{Position, event_of, after}
+use Rattle.cilk_laws_model.proofs.Entries.{same-is}
+use Rattle.cilk_laws_model.proofs.Fates.{told_at}
+use Rattle.cilk_laws_model.proofs.Sound.{Sound}
 use Rattle.cilk_laws_runs.specs.Moments.{is_delivery}
 use Rattle.cilk_laws_runs.specs.ChildLaws.{Further, TheMarkedTakeNothing}
 use Rattle.cilk_laws_runs.proofs.Runs.{Stepped, Rested, what_happens, each_later}

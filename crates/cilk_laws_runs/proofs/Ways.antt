@@ -2,23 +2,23 @@
 use Rattle.std.proofs.Common.{◌≡◌, ℕ, ℤ, ◌^◌, ◌+◌, ◌-◌, nat_lt, nat_le, Bool, true, false, not, ◌&&◌, ◌||◌, List, [], ◌∷◌, length, Option, Some, None}
 use Rattle.std.proofs.Common.{Result, Ok, Err, ◌⊎◌, inl, inr, refl, sym, ap, ◌∙◌}
 use Rattle.std.proofs.lemmas.Bool.{cond_both, and_parts, not-false, not-true}
-use Rattle.cilk_laws_allowed.specs.labelled.declared.trap.Trap.{Trap}
-use Rattle.cilk_laws_allowed.specs.labelled.Labelled.{Labelled, Numbered}
-use Rattle.cilk_laws_allowed.specs.labelled.Items.{head_of}
-use Rattle.cilk_laws_allowed.specs.model.Values.{Cell, Reached, environment, read_at, combined}
-use Rattle.cilk_laws_allowed.specs.model.Effect.{Effect, writes, answers, enters, gives, starts, writes_out, turns_lock, marks}
-use Rattle.cilk_laws_allowed.specs.model.Path.{Path, child_path}
-use Rattle.cilk_laws_allowed.specs.model.Instance as instance
-use Rattle.cilk_laws_allowed.specs.model.Instance.{Receiver, place, Delivery, Instance}
-use Rattle.cilk_laws_allowed.specs.model.State.{TrapKind, Lock, State, has_live_child, is_synched, store_of, is_empty}
-use Rattle.cilk_laws_allowed.specs.model.Change.{LockTurn, lock_turned, refused, blocked, lock_turn_of, leaves, is_sync, waits_here, head_waits, at_boundary}
-use Rattle.cilk_laws_allowed.specs.model.Change.{ends_thread, holds_lock, leaves_function, resumed, after_write, after_going, after_call}
-use Rattle.cilk_laws_allowed.specs.model.Change.{after_leaving, after_answer, after_start, after_print, after_lock, after_marks, after_return}
-use Rattle.cilk_laws_allowed.specs.model.Change.{after_place, after_inlet, after_abort}
-use Rattle.cilk_laws_allowed.specs.model.Event as event
-use Rattle.cilk_laws_allowed.specs.model.Pick.{Step, waits, parks, goes_on, ends, spawns, traps, if_room, step_by_combined, step_by_answer}
-use Rattle.cilk_laws_allowed.specs.model.Pick.{step_by_leaving, step_by_lock_turn, step_by_effect, step_by_head, step_by_place, step_by_receiver}
-use Rattle.cilk_laws_allowed.specs.model.Pick.{step_at_boundary, step_of_instance}
+use Rattle.cilk_laws_model.specs.labelled.declared.trap.Trap.{Trap}
+use Rattle.cilk_laws_model.specs.labelled.Labelled.{Labelled, Numbered}
+use Rattle.cilk_laws_model.specs.labelled.Items.{head_of}
+use Rattle.cilk_laws_model.specs.model.Values.{Cell, Reached, environment, read_at, combined}
+use Rattle.cilk_laws_model.specs.model.Effect.{Effect, writes, answers, enters, gives, starts, writes_out, turns_lock, marks}
+use Rattle.cilk_laws_model.specs.model.Path.{Path, child_path}
+use Rattle.cilk_laws_model.specs.model.Instance as instance
+use Rattle.cilk_laws_model.specs.model.Instance.{Receiver, place, Delivery, Instance}
+use Rattle.cilk_laws_model.specs.model.State.{TrapKind, Lock, State, has_live_child, is_synched, store_of, is_empty}
+use Rattle.cilk_laws_model.specs.model.Change.{LockTurn, lock_turned, refused, blocked, lock_turn_of, leaves, is_sync, waits_here, head_waits, at_boundary}
+use Rattle.cilk_laws_model.specs.model.Change.{ends_thread, holds_lock, leaves_function, resumed, after_write, after_going, after_call}
+use Rattle.cilk_laws_model.specs.model.Change.{after_leaving, after_answer, after_start, after_print, after_lock, after_marks, after_return}
+use Rattle.cilk_laws_model.specs.model.Change.{after_place, after_inlet, after_abort}
+use Rattle.cilk_laws_model.specs.model.Event as event
+use Rattle.cilk_laws_model.specs.model.Pick.{Step, waits, parks, goes_on, ends, spawns, traps, if_room, step_by_combined, step_by_answer}
+use Rattle.cilk_laws_model.specs.model.Pick.{step_by_leaving, step_by_lock_turn, step_by_effect, step_by_head, step_by_place, step_by_receiver}
+use Rattle.cilk_laws_model.specs.model.Pick.{step_at_boundary, step_of_instance}
 use Rattle.cilk_laws_runs.proofs.Effects.{plain, calling, marking, leaving, sort_of, Spawns, TellsSort, told}
 
 -- an instance that is not marked acts its head; where the head waits for the children, none lives and nothing waits

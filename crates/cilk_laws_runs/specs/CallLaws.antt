@@ -2,14 +2,14 @@
 use Rattle.std.specs.Prelude.{◌≡◌, ℕ, ℤ, true, List, [], Some}
 use Rattle.cilk_check.specs.syntax.Tree.{Program}
 use Rattle.cilk_check.specs.scopes.WellFormed.{WellFormed}
-use Rattle.cilk_laws_allowed.specs.labelled.Labelled.{sync}
-use Rattle.cilk_laws_allowed.specs.labelled.Bodies.{label}
-use Rattle.cilk_laws_allowed.specs.model.Path.{Path, child_path}
-use Rattle.cilk_laws_allowed.specs.model.Instance.{through, Instance}
-use Rattle.cilk_laws_allowed.specs.model.Event.{delivered}
-use Rattle.cilk_laws_allowed.specs.model.Fate.{was_made}
-use Rattle.cilk_laws_allowed.specs.model.Choice.{Choice}
-use Rattle.cilk_laws_allowed.specs.model.Run.{Position, event_of, after}
+use Rattle.cilk_laws_model.specs.labelled.Labelled.{sync}
+use Rattle.cilk_laws_model.specs.labelled.Bodies.{label}
+use Rattle.cilk_laws_model.specs.model.Path.{Path, child_path}
+use Rattle.cilk_laws_model.specs.model.Instance.{through, Instance}
+use Rattle.cilk_laws_model.specs.model.Event.{delivered}
+use Rattle.cilk_laws_model.specs.model.Fate.{was_made}
+use Rattle.cilk_laws_model.specs.model.Choice.{Choice}
+use Rattle.cilk_laws_model.specs.model.Run.{Position, event_of, after}
 use Rattle.cilk_laws_runs.specs.Moments.{Acts, Settled}
 use Rattle.cilk_laws_runs.specs.Calls as calls
 use Rattle.cilk_laws_runs.specs.Inlets.{in_inlet, IsStep, Alone, HasStarted}

@@ -2,10 +2,10 @@
 -- inlet (Cilk 5.4 manual, `cilk`, `inlet`).
 use Rattle.std.specs.Prelude.{Bool, true, ◌&&◌, Option, Some, None}
 use Rattle.std.specs.List.{list_all}
-use Rattle.cilk_laws_allowed.specs.labelled.Labelled.{Taker, through, Action, call, spawn, sync, Numbered, Stmt, action, choose, while, repeat, loop}
-use Rattle.cilk_laws_allowed.specs.labelled.Labelled.{select, at_label, nested, Stmts, none, also, Body, Labelled}
-use Rattle.cilk_laws_allowed.specs.labelled.Bodies.{is_procedure}
-use Rattle.cilk_laws_allowed.specs.model.Change.{is_function}
+use Rattle.cilk_laws_model.specs.labelled.Labelled.{Taker, through, Action, call, spawn, sync, Numbered, Stmt, action, choose, while, repeat, loop}
+use Rattle.cilk_laws_model.specs.labelled.Labelled.{select, at_label, nested, Stmts, none, also, Body, Labelled}
+use Rattle.cilk_laws_model.specs.labelled.Bodies.{is_procedure}
+use Rattle.cilk_laws_model.specs.model.Change.{is_function}
 use Rattle.cilk_check_forms.specs.Finds.{is_inlet}
 use Rattle.cilk_machine.specs.carries.effects.Known.{owner_of}
 

@@ -1,15 +1,15 @@
 -- What holds of an instance and its children, over every list of possible choices.
 use Rattle.std.specs.Prelude.{◌≡◌, ◌≢◌, ◌≤◌, ℕ, ℤ, Bool, true, false, not, List, [], ◌∷◌, ◌++◌, Some, count_by}
 use Rattle.std.specs.List.{list_all}
-use Rattle.cilk_laws_allowed.specs.labelled.Labelled.{Labelled, sync, abort}
-use Rattle.cilk_laws_allowed.specs.model.Path.{Path, child_path, parent_of, is_below}
-use Rattle.cilk_laws_allowed.specs.model.Instance.{through, Delivery, Instance}
-use Rattle.cilk_laws_allowed.specs.model.State.{instance_at, is_live}
-use Rattle.cilk_laws_allowed.specs.model.Event.{Event, spawned, delivered}
-use Rattle.cilk_laws_allowed.specs.model.Fate.{is_birth, was_made}
-use Rattle.cilk_laws_allowed.specs.model.Written.{AtBoundary}
-use Rattle.cilk_laws_allowed.specs.model.Choice.{Choice}
-use Rattle.cilk_laws_allowed.specs.model.Run.{Standing, Position, event_of, after}
+use Rattle.cilk_laws_model.specs.labelled.Labelled.{Labelled, sync, abort}
+use Rattle.cilk_laws_model.specs.model.Path.{Path, child_path, parent_of, is_below}
+use Rattle.cilk_laws_model.specs.model.Instance.{through, Delivery, Instance}
+use Rattle.cilk_laws_model.specs.model.State.{instance_at, is_live}
+use Rattle.cilk_laws_model.specs.model.Event.{Event, spawned, delivered}
+use Rattle.cilk_laws_model.specs.model.Fate.{is_birth, was_made}
+use Rattle.cilk_laws_model.specs.model.Written.{AtBoundary}
+use Rattle.cilk_laws_model.specs.model.Choice.{Choice}
+use Rattle.cilk_laws_model.specs.model.Run.{Standing, Position, event_of, after}
 use Rattle.cilk_laws_runs.specs.Moments.{mark_at, deliveries_at, Acts, Settles, Settled, Lived, is_delivery, gives_value}
 use Rattle.cilk_laws_runs.specs.Calls.{calls_suit}
 use Rattle.cilk_laws_runs.specs.Inlets.{in_inlet, IsStep, Alone, Unmoved, HasStarted}

@@ -4,16 +4,16 @@ use Rattle.cilk_check.specs.syntax.Tree.{Program}
 use Rattle.cilk_check.specs.scopes.declared.fault.CheckFault.{CheckFault}
 use Rattle.cilk_check.specs.scopes.declared.fault.CheckFault.TheVariants.{NoLoop}
 use Rattle.cilk_check.specs.scopes.Forms.{Faulty}
-use Rattle.cilk_laws_allowed.specs.labelled.Bodies.{label}
-use Rattle.cilk_laws_allowed.specs.labelled.Items.{head_of}
-use Rattle.cilk_laws_allowed.specs.model.Path.{Path}
-use Rattle.cilk_laws_allowed.specs.model.Instance.{Activation, Instance}
-use Rattle.cilk_laws_allowed.specs.model.State.{instance_at}
-use Rattle.cilk_laws_allowed.specs.model.Choice.{Choice}
-use Rattle.cilk_laws_allowed.specs.model.Run.{Position, after}
-use Rattle.cilk_laws_allowed.specs.model.End.{is_stuck}
-use Rattle.cilk_laws_placed.specs.Loops.{breaks_fit}
-use Rattle.cilk_laws_placed.specs.Locks.{AllWait}
+use Rattle.cilk_laws_model.specs.labelled.Bodies.{label}
+use Rattle.cilk_laws_model.specs.labelled.Items.{head_of}
+use Rattle.cilk_laws_model.specs.model.Path.{Path}
+use Rattle.cilk_laws_model.specs.model.Instance.{Activation, Instance}
+use Rattle.cilk_laws_model.specs.model.State.{instance_at}
+use Rattle.cilk_laws_model.specs.model.Choice.{Choice}
+use Rattle.cilk_laws_model.specs.model.Run.{Position, after}
+use Rattle.cilk_laws_model.specs.model.End.{is_stuck}
+use Rattle.cilk_laws_model.specs.Loops.{breaks_fit}
+use Rattle.cilk_laws_model.specs.Locks.{AllWait}
 
 -- nothing is wrong with the forms of the text
 abbrev pub FormsAreRight : Program → Type 0

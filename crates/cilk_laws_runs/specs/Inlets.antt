@@ -1,16 +1,16 @@
 -- While an inlet runs: what its instance does until the inlet is left (Cilk 5.4 manual, `inlet`).
 use Rattle.std.specs.Prelude.{◌≡◌, ◌⊎◌, ℕ, Bool, true, false, List, [], ◌∷◌, Some}
-use Rattle.cilk_laws_allowed.specs.labelled.Labelled.{Labelled, Action}
-use Rattle.cilk_laws_allowed.specs.model.Path.{Path}
-use Rattle.cilk_laws_allowed.specs.model.Instance.{Activation, Instance}
-use Rattle.cilk_laws_allowed.specs.model.State.{TrapKind, Instances, instance_at}
-use Rattle.cilk_laws_allowed.specs.model.Change.{is_function}
-use Rattle.cilk_laws_allowed.specs.model.Written.{Heads}
-use Rattle.cilk_laws_allowed.specs.model.Event.{Event, acted, ended, trapped, moved}
-use Rattle.cilk_laws_allowed.specs.model.Scheduler.{hand_of}
-use Rattle.cilk_laws_allowed.specs.model.Choice.{Choice, step}
-use Rattle.cilk_laws_allowed.specs.model.Run.{Standing}
-use Rattle.cilk_laws_allowed.specs.model.ViewTrees.{lowest}
+use Rattle.cilk_laws_model.specs.labelled.Labelled.{Labelled, Action}
+use Rattle.cilk_laws_model.specs.model.Path.{Path}
+use Rattle.cilk_laws_model.specs.model.Instance.{Activation, Instance}
+use Rattle.cilk_laws_model.specs.model.State.{TrapKind, Instances, instance_at}
+use Rattle.cilk_laws_model.specs.model.Change.{is_function}
+use Rattle.cilk_laws_model.specs.model.Written.{Heads}
+use Rattle.cilk_laws_model.specs.model.Event.{Event, acted, ended, trapped, moved}
+use Rattle.cilk_laws_model.specs.model.Scheduler.{hand_of}
+use Rattle.cilk_laws_model.specs.model.Choice.{Choice, step}
+use Rattle.cilk_laws_model.specs.model.Run.{Standing}
+use Rattle.cilk_laws_model.specs.model.ViewTrees.{lowest}
 use Rattle.cilk_check_forms.specs.Finds.{is_inlet}
 use Rattle.cilk_machine.specs.carries.effects.Known.{owner_of}
 

@@ -4,5 +4,5 @@ pub mod Calls
 pub mod Inlets
 pub mod ChildLaws
 pub mod CallLaws
-pub use Rattle.cilk_laws_allowed.specs.labelled
-pub use Rattle.cilk_laws_allowed.specs.model
+pub use Rattle.cilk_laws_model.specs.labelled
+pub use Rattle.cilk_laws_model.specs.model

@@ -1,14 +1,14 @@
 -- What one choice does, and what is told of an instance.
 use Rattle.std.specs.Prelude.{◌≡◌, ℕ, Bool, true, false, List, [], ◌++◌, Option, Some, None, option_map}
-use Rattle.cilk_laws_allowed.specs.labelled.Labelled.{Labelled, Numbered, Action, sync}
-use Rattle.cilk_laws_allowed.specs.labelled.Items.{head_of}
-use Rattle.cilk_laws_allowed.specs.model.Path.{Path, same_path}
-use Rattle.cilk_laws_allowed.specs.model.Instance.{Receiver, Delivery, Instance}
-use Rattle.cilk_laws_allowed.specs.model.State.{Instances, instance_at, is_live}
-use Rattle.cilk_laws_allowed.specs.model.Event.{Event, acted, delivered, returned}
-use Rattle.cilk_laws_allowed.specs.model.Fate.{Fate, has_returned, was_delivered, was_aborted, fate_of}
-use Rattle.cilk_laws_allowed.specs.model.Choice.{Choice}
-use Rattle.cilk_laws_allowed.specs.model.Run.{Standing, Position, event_of, after}
+use Rattle.cilk_laws_model.specs.labelled.Labelled.{Labelled, Numbered, Action, sync}
+use Rattle.cilk_laws_model.specs.labelled.Items.{head_of}
+use Rattle.cilk_laws_model.specs.model.Path.{Path, same_path}
+use Rattle.cilk_laws_model.specs.model.Instance.{Receiver, Delivery, Instance}
+use Rattle.cilk_laws_model.specs.model.State.{Instances, instance_at, is_live}
+use Rattle.cilk_laws_model.specs.model.Event.{Event, acted, delivered, returned}
+use Rattle.cilk_laws_model.specs.model.Fate.{Fate, has_returned, was_delivered, was_aborted, fate_of}
+use Rattle.cilk_laws_model.specs.model.Choice.{Choice}
+use Rattle.cilk_laws_model.specs.model.Run.{Standing, Position, event_of, after}
 
 -- whether the live instance at a path is marked, and which deliveries wait for it
 abbrev pub mark_at : Instances → Path → Option Bool

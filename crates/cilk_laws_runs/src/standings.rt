@@ -2,7 +2,7 @@
 
 ghost use Rattle.std.specs.Prelude.{◌≡◌};
 ghost use Rattle.cilk_check.specs.scopes.WellFormed.{WellFormed};
-ghost use Rattle.cilk_laws_allowed.specs.model.Run.{Standing};
+ghost use Rattle.cilk_laws_model.specs.model.Run.{Standing};
 ghost use Rattle.cilk_machine.specs.Situation.{Situation};
 ghost use Rattle.cilk_machine.specs.Stands.{StandsAt};
 

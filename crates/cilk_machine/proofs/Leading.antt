@@ -1,30 +1,30 @@
 -- A choice that is made leads on with every list of choices.
 use Rattle.std.proofs.Common.{◌≡◌, ℕ, suc, ◌+◌, ◌≤◌, List, [], ◌∷◌, ◌++◌, length, Option, Some, None, is_none, is_some, refl, sym, ap, ◌∙◌, subst}
 use Rattle.std.proofs.Common.{length-append, arith, if◌then◌else◌}
-use Rattle.cilk_machine_carry.specs.agree.scopes.WellFormed.{WellFormed}
-use Rattle.cilk_machine_carry.specs.labelled.Bodies.{label}
+use Rattle.cilk_machine_undo.specs.agree.scopes.WellFormed.{WellFormed}
+use Rattle.cilk_machine_undo.specs.labelled.Bodies.{label}
 use Rattle.cilk_machine_choices.specs.model.Choice as model
 use Rattle.cilk_machine_choices.specs.model.Event as event
 use Rattle.cilk_machine_choices.specs.model.Event.{Event}
 use Rattle.cilk_machine_choices.specs.model.Instance.{Instance}
 use Rattle.cilk_machine_choices.specs.model.Run.{Standing, after, one_more, position_after, next_of, event_of}
 use Rattle.cilk_machine_choices.specs.model.Hands.{popped_by, stolen_by}
-use Rattle.cilk_machine_carry.proofs.placed_laws.model_laws.Runs.{after-push}
-use Rattle.cilk_machine_carry.proofs.placed_laws.Crew.{crew_stays}
-use Rattle.cilk_machine_carry.proofs.placed_laws.Fates.{the_living_live, each_choice_is_an_event}
-use Rattle.cilk_machine_carry.specs.agree.FateLaws.{LivingAreTold}
-use Rattle.cilk_machine_carry.proofs.agree_laws.Kept.{fates-are-kept}
-use Rattle.cilk_machine_carry.specs.spawn.Nodes.{path_at}
-use Rattle.cilk_machine_carry.specs.agree.Agrees.{MachineParts, Agrees, read_off}
-use Rattle.cilk_machine_carry.specs.agree.Fated.{Follows, Fated}
-use Rattle.cilk_machine_carry.proofs.agree_laws.Asked.{placed}
-use Rattle.cilk_machine_carry.proofs.agree_laws.Found.{read-agrees}
-use Rattle.cilk_machine_carry.proofs.agree_laws.Waits.{pop, steal}
+use Rattle.cilk_machine_undo.proofs.runs_laws.model_laws.Runs.{after-push}
+use Rattle.cilk_machine_undo.proofs.runs_laws.Crew.{crew_stays}
+use Rattle.cilk_machine_undo.proofs.runs_laws.Fates.{the_living_live, each_choice_is_an_event}
+use Rattle.cilk_machine_undo.specs.agree.FateLaws.{LivingAreTold}
+use Rattle.cilk_machine_undo.proofs.agree_laws.Kept.{fates-are-kept}
+use Rattle.cilk_machine_undo.specs.spawn.Nodes.{path_at}
+use Rattle.cilk_machine_undo.specs.agree.Agrees.{MachineParts, Agrees, read_off}
+use Rattle.cilk_machine_undo.specs.agree.Fated.{Follows, Fated}
+use Rattle.cilk_machine_undo.proofs.agree_laws.Asked.{placed}
+use Rattle.cilk_machine_undo.proofs.agree_laws.Found.{read-agrees}
+use Rattle.cilk_machine_undo.proofs.agree_laws.Waits.{pop, steal}
 use Rattle.cilk_machine_choices.specs.declared.choice.Choice.{Choice}
 use Rattle.cilk_machine_choices.specs.declared.act.Act.TheVariants.{Pop, Steal}
 use Rattle.cilk_machine_choices.specs.declared.outcome.Outcome.{Outcome}
 use Rattle.cilk_machine_choices.specs.Words.{choice_of, outcome_of}
-use Rattle.cilk_machine.specs.Situation.{Situation, workers_of}
+use Rattle.cilk_machine.specs.Situation.{Situation, workers_of, past_behind}
 use Rattle.cilk_machine.specs.Stands.{Led, IsSound}
 use Rattle.cilk_machine.specs.Refused.{refused_by}
 use Rattle.cilk_machine.specs.Made.{refused, Leads, Makes, Does}
@@ -32,7 +32,14 @@ use Rattle.cilk_machine.proofs.Refusals.{reason_by, refusal-is}
 
 -- the machine after a choice
 abbrev pub moved_to : Situation → MachineParts → Outcome → Situation
-moved_to m now outcome = record { program = m.program; machine = now; outcome = outcome; choices = m.choices + 1 }
+moved_to m now outcome = record {
+  program = m.program;
+  machine = now;
+  outcome = outcome;
+  choices = m.choices + 1;
+  keeps = m.keeps;
+  past = past_behind m;
+}
 
 -- what is to be shown of the next standing
 pub record Next (m : Situation) (now : MachineParts) (outcome : Outcome) (choice : model.Choice) (did : Event) (at : Standing) : Type 0 where
@@ -111,6 +118,8 @@ module _ (m : Situation) (now : MachineParts) (outcome : Outcome) (choice : mode
         program = refl;
         workers = crew;
         choices = refl;
+        keeps = refl;
+        past = refl;
         leads = λ choices events at h. leads_on crew choices events at h (goes choices events at h);
       }
 
@@ -133,6 +142,8 @@ told-as m n choice did other made does = record {
   program = made.program;
   workers = made.workers;
   choices = made.choices;
+  keeps = made.keeps;
+  past = made.past;
   leads = λ choices events at h.
       let leads = made.leads choices events at h in
       let same : did ≡ other = leads.event ∙ sym (does at (record { choices = choices; events = events; led = h })) in

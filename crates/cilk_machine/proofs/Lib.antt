@@ -14,10 +14,15 @@ pub mod Openings
 pub mod Shown
 pub mod Fates
 pub mod Crosses
-pub use Rattle.cilk_machine_carry.proofs.agree_laws
-pub use Rattle.cilk_machine_carry.proofs.frame_laws
-pub use Rattle.cilk_machine_carry.proofs.nodes_laws
-pub use Rattle.cilk_machine_carry.proofs.placed_laws
-pub use Rattle.cilk_machine_carry.proofs.sched_laws
-pub use Rattle.cilk_machine_carry.proofs.spawn_laws
+pub mod Rooms
+pub mod Kept
+pub mod Moved
+pub mod Back
+pub mod Again
+pub use Rattle.cilk_machine_undo.proofs.agree_laws
+pub use Rattle.cilk_machine_undo.proofs.frame_laws
+pub use Rattle.cilk_machine_undo.proofs.nodes_laws
+pub use Rattle.cilk_machine_undo.proofs.runs_laws
+pub use Rattle.cilk_machine_undo.proofs.sched_laws
+pub use Rattle.cilk_machine_undo.proofs.spawn_laws
 pub use Rattle.cilk_machine_choices.proofs as choices_laws

@@ -1,19 +1,19 @@
 -- Steps that were looked at beforehand.
-use Rattle.std.proofs.Common.{◌≡◌, ℕ, Bool, true, false, not, List, Option, Some, None, is_some, option_map, Result, Ok, Err, refl, sym, ap, ◌∙◌}
+use Rattle.std.proofs.Common.{◌≡◌, ℕ, Bool, true, false, not, List, Option, Some, None, is_some, option_map, Result, Ok, Err, sym, ap, ◌∙◌}
 use Rattle.std.proofs.Common.{subst, if◌then◌else◌}
 use Rattle.std.specs.Prelude.{IfOk, IfErr, IfSome, OnOk, option_and_then}
-use Rattle.cilk_machine_carry.specs.frame.Frames.{Frame}
-use Rattle.cilk_machine_carry.specs.plans.declared.light.Light.{Light}
-use Rattle.cilk_machine_carry.specs.plans.declared.plan.Plan.{Plan}
-use Rattle.cilk_machine_carry.specs.plans.StepInput.{StepInput, cells_in}
-use Rattle.cilk_machine_carry.specs.plans.Words.{plan_of}
+use Rattle.cilk_machine_undo.specs.frame.Frames.{Frame}
+use Rattle.cilk_machine_undo.specs.plans.declared.light.Light.{Light}
+use Rattle.cilk_machine_undo.specs.plans.declared.plan.Plan.{Plan}
+use Rattle.cilk_machine_undo.specs.plans.StepInput.{StepInput, cells_in}
+use Rattle.cilk_machine_undo.specs.plans.Words.{plan_of}
 use Rattle.cilk_machine_choices.specs.model.Hands.{hand_of}
 use Rattle.cilk_machine_choices.specs.declared.act.Act.TheVariants.{Step}
 use Rattle.cilk_machine_choices.specs.declared.refusal.Refusal.TheVariants.{Over, NoWorker}
-use Rattle.cilk_machine_carry.specs.eval.Known.{known_of}
-use Rattle.cilk_machine_carry.specs.eval.declared.known.Known.{Known}
-use Rattle.cilk_machine_carry.specs.eval.declared.slot.Slot.{Slot}
-use Rattle.cilk_machine_carry.specs.labelled.Term.{Term}
+use Rattle.cilk_machine_undo.specs.eval.Known.{known_of}
+use Rattle.cilk_machine_undo.specs.eval.declared.known.Known.{Known}
+use Rattle.cilk_machine_undo.specs.eval.declared.slot.Slot.{Slot}
+use Rattle.cilk_machine_undo.specs.labelled.Term.{Term}
 use Rattle.cilk_machine_step.specs.Peeks as peeks
 use Rattle.cilk_machine_step.specs.Peeks.{code_in}
 use Rattle.cilk_machine_step.specs.Scenes.{is_wait}

@@ -4,45 +4,48 @@ use Rattle.std.proofs.Common.{replicate, Option, Some, None, refl, sym, ap, ◌�
 use Rattle.std.specs.Prelude.{max, slice_get, slice_index_or}
 use Rattle.std.proofs.lemmas.Bool.{le-leb}
 use Rattle.std.proofs.lemmas.List.{length-replicate, length-map}
-use Rattle.cilk_machine_carry.specs.syntax.Tree.{Program}
-use Rattle.cilk_machine_carry.specs.agree.scopes.WellFormed.{WellFormed}
-use Rattle.cilk_machine_carry.specs.eval.declared.area.Area.{Area}
-use Rattle.cilk_machine_carry.specs.eval.declared.area.Area.TheVariants.{Global}
-use Rattle.cilk_machine_carry.specs.labelled.Labelled.{Variable}
-use Rattle.cilk_machine_carry.specs.labelled.Labelled as labelled
-use Rattle.cilk_machine_carry.specs.labelled.Bodies.{label}
+use Rattle.cilk_machine_undo.specs.syntax.Tree.{Program}
+use Rattle.cilk_machine_undo.specs.agree.scopes.WellFormed.{WellFormed}
+use Rattle.cilk_machine_undo.specs.eval.declared.area.Area.{Area}
+use Rattle.cilk_machine_undo.specs.eval.declared.area.Area.TheVariants.{Global}
+use Rattle.cilk_machine_undo.specs.labelled.Labelled.{Variable}
+use Rattle.cilk_machine_undo.specs.labelled.Labelled as labelled
+use Rattle.cilk_machine_undo.specs.labelled.Bodies.{label}
 use Rattle.cilk_machine_choices.specs.model.Values.{initial_values}
 use Rattle.cilk_machine_choices.specs.model.Instance as model
 use Rattle.cilk_machine_choices.specs.model.Instance.{Instance, no_body, body_at, with_arguments}
 use Rattle.cilk_machine_choices.specs.model.Hands.{WorkerOf, no_place, with_hand}
 use Rattle.cilk_machine_choices.specs.model.Run.{Standing, is_crew, opening, after, after_main}
-use Rattle.cilk_machine_carry.specs.nodes.declared.body.Body.{Body}
-use Rattle.cilk_machine_carry.specs.nodes.Slots.{size_of, flat, is_inlet}
-use Rattle.cilk_machine_carry.specs.nodes.Bodies.{body_table, body_of, vars_from, globals_of, lock_variable, locks_of}
-use Rattle.cilk_machine_carry.specs.frame.Frames.{Frame}
-use Rattle.cilk_machine_carry.specs.frame.Starts.{activation_of}
-use Rattle.cilk_machine_carry.specs.frame.Stands.{StandsFor}
-use Rattle.cilk_machine_carry.specs.frame.Begins.{Takes, starts_with, started}
-use Rattle.cilk_machine_carry.proofs.frame_laws.Steps.{start-stands}
-use Rattle.cilk_machine_carry.specs.effects.Room.{IsTold, StartsWith}
-use Rattle.cilk_machine_carry.proofs.effects_laws.Room.{parameters_first}
-use Rattle.cilk_machine_carry.proofs.effects_laws.Start.{main_starts}
-use Rattle.cilk_machine_carry.specs.spawn.Nodes.{root_alone}
-use Rattle.cilk_machine_carry.proofs.sched_laws.Seats.{workers-of-hand}
-use Rattle.cilk_machine_carry.specs.agree.declared.lock.Lock.TheVariants.{Unset}
-use Rattle.cilk_machine_carry.specs.agree.Outside as outside
-use Rattle.cilk_machine_carry.specs.agree.Fated.{Fated}
-use Rattle.cilk_machine_carry.proofs.agree_laws.Kept.{roots-are-fated}
-use Rattle.cilk_machine_carry.specs.agree.Agrees.{Agrees, read_off}
-use Rattle.cilk_machine_carry.specs.agree.Laws.{opening_machine}
-use Rattle.cilk_machine_carry.proofs.agree_laws.Opens.{opening-agrees}
-use Rattle.cilk_machine_carry.proofs.agree_laws.Found.{read-agrees}
-use Rattle.cilk_machine_carry.specs.declared.parts.Parts.{Parts}
-use Rattle.cilk_machine_carry.specs.Words.{machine_of}
+use Rattle.cilk_machine_undo.specs.nodes.declared.body.Body.{Body}
+use Rattle.cilk_machine_undo.specs.nodes.Slots.{size_of, flat, is_inlet}
+use Rattle.cilk_machine_undo.specs.nodes.Bodies.{body_table, body_of, vars_from, lock_variable, locks_of}
+use Rattle.cilk_machine_undo.specs.frame.Frames.{Frame}
+use Rattle.cilk_machine_undo.specs.frame.Starts.{activation_of}
+use Rattle.cilk_machine_undo.specs.frame.Stands.{StandsFor}
+use Rattle.cilk_machine_undo.specs.frame.Begins.{Takes, starts_with, started}
+use Rattle.cilk_machine_undo.proofs.frame_laws.Steps.{start-stands}
+use Rattle.cilk_machine_undo.specs.effects.Room.{IsTold, StartsWith}
+use Rattle.cilk_machine_undo.proofs.effects_laws.Room.{parameters_first}
+use Rattle.cilk_machine_undo.proofs.effects_laws.Start.{main_starts}
+use Rattle.cilk_machine_undo.proofs.sched_laws.Seats.{workers-of-hand}
+use Rattle.cilk_machine_undo.specs.agree.declared.lock.Lock.TheVariants.{Unset}
+use Rattle.cilk_machine_undo.specs.agree.Outside as outside
+use Rattle.cilk_machine_undo.specs.agree.Fated.{Fated}
+use Rattle.cilk_machine_undo.proofs.agree_laws.Kept.{roots-are-fated}
+use Rattle.cilk_machine_undo.specs.agree.Agrees.{Agrees, read_off}
+use Rattle.cilk_machine_undo.specs.agree.Laws.{opening_machine}
+use Rattle.cilk_machine_undo.proofs.agree_laws.Opens.{opening-agrees}
+use Rattle.cilk_machine_undo.proofs.agree_laws.Found.{read-agrees}
+use Rattle.cilk_machine_undo.specs.carries.declared.parts.Parts.{Parts}
+use Rattle.cilk_machine_undo.specs.carries.Words.{machine_of}
 use Rattle.cilk_machine_choices.specs.declared.outcome.Outcome.TheVariants.{Running}
-use Rattle.cilk_machine.specs.Situation.{Situation}
+use Rattle.cilk_machine_undo.specs.Undo.{Undo}
+use Rattle.cilk_machine.specs.Situation.{Before, Situation}
+use Rattle.cilk_machine.specs.Pasts.{pasts, running_at}
+use Rattle.cilk_machine.specs.Kept.{AllKept, IsWhole}
 use Rattle.cilk_machine.specs.Stands.{Led, IsSound}
 use Rattle.cilk_machine.specs.Opening.{cells_of, Begins, First, StartsMain}
+use Rattle.cilk_machine.proofs.Rooms.{few-idle}
 
 -- the cells of the table of variables are those of the definition
 first_cells : (area : Area) (at : ℕ) (variables : List Variable) → cells_of (vars_from area at variables) ≡ flat (initial_values variables)
@@ -158,11 +161,18 @@ crew_is n low high = λ i. le-leb 1 n low i && le-leb n 64 high i
 crew-of : (n : ℕ) (places : List (WorkerOf Frame)) (f : Frame) → places ≡ with_hand (replicate n no_place) 1 (Some f) → length places ≡ n
 crew-of n places f h = ap length h ∙ workers-of-hand (replicate n no_place) 1 (Some f) ∙ length-replicate n no_place
 
-abbrev pub before_any : Program → Parts → Situation
-before_any p parts = record { program = p; machine = machine_of parts outside.running; outcome = Running; choices = 0 }
+abbrev pub before_any : Program → Parts → Bool → List Before → Situation
+before_any p parts keeps past = record {
+  program = p;
+  machine = machine_of parts outside.running;
+  outcome = Running;
+  choices = 0;
+  keeps = keeps;
+  past = past;
+}
 
-module _ (p : Program) (n b : ℕ) (f : Frame) (parts : Parts) (low : 1 ≤ n) (high : n ≤ 64) (main : (label p).main ≡ Some b) (starts : StartsMain p f)
-    (first : First p n b f parts) where
+module _ (p : Program) (n b : ℕ) (f : Frame) (parts : Parts) (keeps : Bool) (past : List Before) (low : 1 ≤ n) (high : n ≤ 64)
+    (main : (label p).main ≡ Some b) (starts : StartsMain p f) (first : First p n b f parts) where
   abbrev at : Standing
   at = opening (label p) b n
 
@@ -186,7 +196,7 @@ module _ (p : Program) (n b : ℕ) (f : Frame) (parts : Parts) (low : 1 ≤ n) (
       read-agrees p (machine_of parts outside.running) (λ i. model.started (label p) b []) at
       (subst (λ x. Agrees p x (λ i. model.started (label p) b []) at) (sym machine-is) (opening-agrees p b n f starts.own stands))
 
-  opened-led : Led (before_any p parts) [] [] at
+  opened-led : Led (before_any p parts keeps past) [] [] at
   opened-led = record {
     led =
         ap (λ k. after (label p) k []) (crew-of n parts.hands f first.hands)
@@ -198,7 +208,7 @@ module _ (p : Program) (n b : ℕ) (f : Frame) (parts : Parts) (low : 1 ≤ n) (
     fated = subst (λ ns. Fated (label p) ns []) (sym first.nodes) (roots-are-fated (label p) b main);
   }
 
-  opened-sound : WellFormed p → IsSound (before_any p parts)
+  opened-sound : WellFormed p → IsSound (before_any p parts keeps past)
   opened-sound well =
       let crew = crew-of n parts.hands f first.hands in
       record {
@@ -210,12 +220,33 @@ module _ (p : Program) (n b : ℕ) (f : Frame) (parts : Parts) (low : 1 ≤ n) (
       }
 
 -- where all parts are those of the beginning
-module _ (p : Program) (n : ℕ) (parts : Parts) (low : 1 ≤ n) (high : n ≤ 64) (begins : Begins p n parts) where
-  pub begun-led : (at : Standing) × Led (before_any p parts) [] [] at
-  begun-led = (opening (label p) begins.main n, opened-led p n begins.main begins.frame parts low high begins.is_main begins.starts begins.first)
+module _ (p : Program) (n : ℕ) (parts : Parts) (keeps : Bool) (past : List Before) (low : 1 ≤ n) (high : n ≤ 64) (begins : Begins p n parts) where
+  pub begun-led : (at : Standing) × Led (before_any p parts keeps past) [] [] at
+  begun-led = (
+    opening (label p) begins.main n,
+    opened-led p n begins.main begins.frame parts keeps past low high begins.is_main begins.starts begins.first,
+  )
 
-  pub begun-sound : WellFormed p → IsSound (before_any p parts)
-  begun-sound = opened-sound p n begins.main begins.frame parts low high begins.is_main begins.starts begins.first
+  pub begun-sound : WellFormed p → IsSound (before_any p parts keeps past)
+  begun-sound = opened-sound p n begins.main begins.frame parts keeps past low high begins.is_main begins.starts begins.first
 
   pub begun-crew : n ≡ length parts.hands
   begun-crew = sym (crew-of n parts.hands begins.frame begins.first.hands)
+
+-- and there are no records
+pub begun-whole : (p : Program) (n : ℕ) (parts : Parts) (trapper : ℕ) (keeps : Bool) (us : List Undo) (count capacity : ℕ) → 1 ≤ n → n ≤ 64
+    → Begins p n parts → WellFormed p → us ≡ [] → count ≡ 0 → (keeps ≡ true → 64 ≤ capacity)
+    → IsWhole p parts trapper Running 0 keeps us n count capacity
+begun-whole p n parts trapper keeps us count capacity low high begins well none counted room =
+    let past = pasts us (running_at parts 0) in
+    let crew = begun-crew p n parts keeps past low high begins in
+    record {
+      sound = begun-sound p n parts keeps past low high begins well;
+      crew = crew;
+      all = subst (λ vs. AllKept p vs (running_at parts 0)) (sym none) tt;
+      none = λ e. none;
+      room = λ e.
+          let few = few-idle parts.hands in
+          let wide = room e in
+          omega (arith, few, wide, crew, high, counted);
+    }

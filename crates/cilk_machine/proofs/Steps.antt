@@ -1,40 +1,41 @@
 -- The step of the instance in a worker's hand, carried out.
-use Rattle.std.proofs.Common.{◌≡◌, ℕ, ◌+◌, Option, Some, None, refl, sym, ap, ◌∙◌, subst, arith}
+use Rattle.std.proofs.Common.{◌≡◌, ℕ, ◌+◌, Bool, Option, Some, None, refl, sym, ap, ◌∙◌, subst, arith}
 use Rattle.std.specs.Prelude.{List, option_map}
-use Rattle.cilk_machine_carry.specs.syntax.Tree.{Program}
-use Rattle.cilk_machine_carry.specs.agree.scopes.WellFormed.{WellFormed}
-use Rattle.cilk_machine_carry.specs.labelled.Bodies.{label}
+use Rattle.cilk_machine_undo.specs.syntax.Tree.{Program}
+use Rattle.cilk_machine_undo.specs.agree.scopes.WellFormed.{WellFormed}
+use Rattle.cilk_machine_undo.specs.labelled.Bodies.{label}
 use Rattle.cilk_machine_choices.specs.model.Choice as model
 use Rattle.cilk_machine_choices.specs.model.Event.{Event}
 use Rattle.cilk_machine_choices.specs.model.Path.{Path}
 use Rattle.cilk_machine_choices.specs.model.State as state
 use Rattle.cilk_machine_choices.specs.model.Run.{Standing, next_by_hand, event_by_hand, step_refusal}
 use Rattle.cilk_machine_choices.specs.model.Hands.{IsWorker, hand_of}
-use Rattle.cilk_machine_carry.specs.nodes.declared.body.Body.{Body}
-use Rattle.cilk_machine_carry.proofs.effects_laws.Room.{variables, globals}
-use Rattle.cilk_machine_carry.specs.frame.Frames.{Frame}
-use Rattle.cilk_machine_carry.specs.spawn.Nodes.{Node, path_at}
-use Rattle.cilk_machine_carry.specs.agree.Outside as outside
-use Rattle.cilk_machine_carry.specs.agree.Agrees.{Agrees, name_in}
-use Rattle.cilk_machine_carry.specs.agree.Fated.{Follows}
-use Rattle.cilk_machine_carry.specs.agree.Laws.{InHand}
-use Rattle.cilk_machine_carry.specs.plans.declared.plan.Plan.{Plan}
-use Rattle.cilk_machine_carry.specs.plans.declared.plan.Plan.TheVariants as plan
-use Rattle.cilk_machine_carry.specs.plans.Made.{planned}
-use Rattle.cilk_machine_carry.specs.plans.Plans.{step_in, IsPlan}
-use Rattle.cilk_machine_carry.specs.plans.StepInput.{StepInput}
-use Rattle.cilk_machine_carry.specs.declared.did.Did.{Did}
-use Rattle.cilk_machine_carry.specs.declared.did.Done.{Done}
-use Rattle.cilk_machine_carry.specs.declared.parts.Parts.{Parts}
-use Rattle.cilk_machine_carry.specs.Words as carries
-use Rattle.cilk_machine_carry.specs.Words.{machine_of, event_by}
-use Rattle.cilk_machine_carry.specs.Carries.{CellsAreFew, Starts, Planned, CanCarry, Carries}
+use Rattle.cilk_machine_undo.specs.nodes.declared.body.Body.{Body}
+use Rattle.cilk_machine_undo.proofs.effects_laws.Room.{variables, globals}
+use Rattle.cilk_machine_undo.specs.frame.Frames.{Frame}
+use Rattle.cilk_machine_undo.specs.spawn.Nodes.{Node, path_at}
+use Rattle.cilk_machine_undo.specs.agree.Outside as outside
+use Rattle.cilk_machine_undo.specs.agree.Agrees.{Agrees, name_in}
+use Rattle.cilk_machine_undo.specs.agree.Fated.{Follows}
+use Rattle.cilk_machine_undo.specs.agree.Laws.{InHand}
+use Rattle.cilk_machine_undo.specs.plans.declared.plan.Plan.{Plan}
+use Rattle.cilk_machine_undo.specs.plans.declared.plan.Plan.TheVariants as plan
+use Rattle.cilk_machine_undo.specs.plans.Made.{planned}
+use Rattle.cilk_machine_undo.specs.plans.Plans.{step_in, IsPlan}
+use Rattle.cilk_machine_undo.specs.plans.StepInput.{StepInput}
+use Rattle.cilk_machine_undo.specs.carries.declared.did.Did.{Did}
+use Rattle.cilk_machine_undo.specs.carries.declared.did.Done.{Done}
+use Rattle.cilk_machine_undo.specs.carries.declared.parts.Parts.{Parts}
+use Rattle.cilk_machine_undo.specs.carries.Words as carries
+use Rattle.cilk_machine_undo.specs.carries.Words.{machine_of, event_by}
+use Rattle.cilk_machine_undo.specs.carries.Carries.{CellsAreFew, Starts, Planned, CanCarry, Carries}
 use Rattle.cilk_machine_step.specs.Scenes.{HeadFits}
 use Rattle.cilk_machine_step.proofs.Fits.{head-fits}
 use Rattle.cilk_machine_choices.specs.declared.act.Act.TheVariants.{Step}
 use Rattle.cilk_machine_choices.specs.declared.outcome.Outcome.{Outcome}
+use Rattle.cilk_machine_choices.specs.declared.outcome.Outcome.TheVariants.{Running}
 use Rattle.cilk_machine_choices.specs.Words.{outcome_of}
-use Rattle.cilk_machine.specs.Situation.{Situation, input_at, outcome_at}
+use Rattle.cilk_machine.specs.Situation.{Before, Situation, input_at, outcome_at}
 use Rattle.cilk_machine.specs.Stands.{Led, IsSound}
 use Rattle.cilk_machine.specs.Refused.{planned_by, planned_in, refused_by}
 use Rattle.cilk_machine.specs.Made.{Makes, Does}
@@ -225,10 +226,20 @@ carrying m now w x path is sound free planned trap = record {
   trap = subst (λ (y : Situation). IsTrapPath y w x path) (sym is) trap;
 }
 
+pub carrying-runs : (m : Situation) (w : ℕ) (x : Plan) (path : Path) → Carrying m w x path → m.outcome ≡ Running
+carrying-runs m w x path c = let known = frees m (record { worker = w; act = Step }) c.free in known.runs_on
+
 -- from the parts of a machine
-module _ (program : Program) (parts : Parts) (trapper : ℕ) (outcome : Outcome) (choices : ℕ) where
+module _ (program : Program) (parts : Parts) (trapper : ℕ) (outcome : Outcome) (choices : ℕ) (keeps : Bool) (past : List Before) where
   abbrev pub whole : Situation
-  whole = record { program = program; machine = machine_of parts (outcome_at trapper outcome); outcome = outcome; choices = choices }
+  whole = record {
+    program = program;
+    machine = machine_of parts (outcome_at trapper outcome);
+    outcome = outcome;
+    choices = choices;
+    keeps = keeps;
+    past = past;
+  }
 
   module _ (w : ℕ) (x : Plan) (path : Path) (c : Carrying whole w x path) (body : Option Body) (number : Option ℕ)
       (body_is : body ≡ body_numbered program number) (number_is : number ≡ started_number x) where

@@ -1,21 +1,21 @@
 -- Looking ahead at a step, and taking it by the value of what was seen.
 use Rattle.std.specs.Prelude.{◌≡◌, ◌≢◌, ◌⊎◌, ◌-◌, ℕ, ℤ, not, if◌then◌else◌, List, [], slice_get, Option, Some, None, is_some, option_map}
 use Rattle.std.specs.Prelude.{option_and_then, Result, Ok, Err}
-use Rattle.cilk_machine_carry.specs.frame.Frames.{Frame}
-use Rattle.cilk_machine_carry.specs.plans.declared.light.Light.{Light}
-use Rattle.cilk_machine_carry.specs.plans.declared.plan.Plan.{Plan}
-use Rattle.cilk_machine_carry.specs.plans.Words.{plan_of}
-use Rattle.cilk_machine_carry.specs.spawn.Nodes.{path_at}
+use Rattle.cilk_machine_undo.specs.frame.Frames.{Frame}
+use Rattle.cilk_machine_undo.specs.plans.declared.light.Light.{Light}
+use Rattle.cilk_machine_undo.specs.plans.declared.plan.Plan.{Plan}
+use Rattle.cilk_machine_undo.specs.plans.Words.{plan_of}
+use Rattle.cilk_machine_undo.specs.spawn.Nodes.{path_at}
 use Rattle.cilk_machine_choices.specs.model.Path.{Path}
 use Rattle.cilk_machine_choices.specs.model.Hands.{hand_of}
 use Rattle.cilk_machine_choices.specs.declared.refusal.Refusal.{Refusal}
 use Rattle.cilk_machine_choices.specs.declared.refusal.Refusal.TheVariants.{Over, NoWorker, HandEmpty, Memory, Stale}
-use Rattle.cilk_machine_carry.specs.eval.Known.{known}
-use Rattle.cilk_machine_carry.specs.eval.declared.known.Known.{Known}
-use Rattle.cilk_machine_carry.specs.eval.declared.slot.Slot.{Slot}
-use Rattle.cilk_machine_carry.specs.labelled.declared.trap.Trap.{Trap}
-use Rattle.cilk_machine_carry.specs.labelled.Term.{Term}
-use Rattle.cilk_machine_carry.specs.labelled.Value.{value_of}
+use Rattle.cilk_machine_undo.specs.eval.Known.{known}
+use Rattle.cilk_machine_undo.specs.eval.declared.known.Known.{Known}
+use Rattle.cilk_machine_undo.specs.eval.declared.slot.Slot.{Slot}
+use Rattle.cilk_machine_undo.specs.labelled.declared.trap.Trap.{Trap}
+use Rattle.cilk_machine_undo.specs.labelled.Term.{Term}
+use Rattle.cilk_machine_undo.specs.labelled.Value.{value_of}
 use Rattle.cilk_machine_step.specs.Peeks.{Peek, peek_in}
 use Rattle.cilk_machine.specs.Situation.{Situation, workers_of, input_at}
 use Rattle.cilk_machine.specs.Refused.{runs, is_worker_of, is_full}

@@ -1,13 +1,13 @@
 //! What a machine is made of, and what it tells between two choices: its outcome, output, variables, fates and end.
 
-ghost use Rattle.std.specs.Prelude.{◌≡◌, ◌<◌, ◌≤◌, ◌⊎◌, ◌↔◌, List, option_map, IfOk};
-ghost use Rattle.cilk_machine_carry.specs.labelled.Bodies.{label};
+ghost use Rattle.std.specs.Prelude.{◌≡◌, ◌<◌, ◌≤◌, ◌⊎◌, ◌↔◌, true, false, List, [], option_map, IfOk};
+ghost use Rattle.cilk_machine_undo.specs.labelled.Bodies.{label};
 ghost use Rattle.cilk_machine_choices.specs.model.Choice as choices;
 ghost use Rattle.cilk_machine_choices.specs.model.End as model;
 ghost use Rattle.cilk_machine_choices.specs.model.Event as events;
 ghost use Rattle.cilk_machine_choices.specs.model.Fate.{fate_of};
 ghost use Rattle.cilk_machine_choices.specs.model.Run.{Standing};
-ghost use Rattle.cilk_machine_carry.specs.agree.Fated.{fate_named};
+ghost use Rattle.cilk_machine_undo.specs.agree.Fated.{fate_named};
 ghost use Rattle.cilk_machine_choices.specs.Words.{end_of, outcome_of};
 ghost use Rattle.cilk_view.specs.Shows.{machine_of};
 ghost use Rattle.cilk_machine.specs.Situation.{workers_of};
@@ -16,12 +16,14 @@ ghost use Rattle.cilk_machine.specs.Globals.{global_of};
 
 mod looking;
 mod making;
+mod undoing;
 
+use crate::keeping::no_records;
 use crate::opening::first_parts;
 use crate::reading::cell_of;
-use cilk_machine_carry::{Fate, Id, Parts, Program};
 use cilk_machine_choices::{End, MachineFault, Memory, Outcome};
 use cilk_machine_step::Loaded;
+use cilk_machine_undo::{Fate, Id, Parts, Program, Undo};
 use cilk_view::Shown;
 use std::alloc::Global;
 use std::marker::Model;
@@ -36,6 +38,10 @@ pub struct Machine {
     /// The instance that was trapped, which contracts alone read.
     trapper: Id,
     choices: u64,
+    /// Whether a record is kept of each choice.
+    keeps: bool,
+    /// The records, in the order of their choices.
+    records: Vec<Undo>,
 }
 
 // To drop it elsewhere is to call this, and its fields' drops are proved here alone.
@@ -49,28 +55,28 @@ impl Drop for Machine {
             outcome: _outcome,
             trapper: _,
             choices: _,
+            keeps: _,
+            records: _records,
         } = self;
     }
 }
 
 impl Model for Machine {
-    ghost use Rattle.std.specs.Prelude.{◌≡◌, length};
-    ghost use Rattle.cilk_machine_carry.specs.Words.{machine_of};
-    ghost use Rattle.cilk_machine.specs.Situation.{Situation, outcome_at};
-    ghost use Rattle.cilk_machine.specs.Stands.{IsSound};
-    ghost use Rattle.cilk_machine_carry.specs.syntax.ProgramCoding.{coded_Program};
+    ghost use Rattle.std.specs.Prelude.{vec_len, vec_capacity};
+    ghost use Rattle.cilk_machine.specs.Situation.{Situation};
+    ghost use Rattle.cilk_machine.specs.Pasts.{kept_of, situation_of};
+    ghost use Rattle.cilk_machine.specs.Kept.{IsWhole};
+    ghost use Rattle.cilk_machine_undo.specs.syntax.ProgramCoding.{coded_Program};
     ghost use Rattle.std.specs.Coded.{codes};
 
     ghost Value = { Situation };
 
     ghost coded = { Prim.hlevel (codes, coded_Program) };
 
-    ghost view = { λ m.
-        record { program = m.loaded; machine = machine_of m.parts (outcome_at m.trapper m.outcome); outcome = m.outcome; choices = m.choices } };
+    ghost view = { λ m. situation_of m.loaded m.parts m.trapper m.outcome m.choices m.keeps (kept_of m.records.items) };
 
     ghost invariant = { λ m.
-        IsSound (record { program = m.loaded; machine = machine_of m.parts (outcome_at m.trapper m.outcome); outcome = m.outcome; choices = m.choices })
-        × (m.workers ≡ length m.parts.hands) };
+        IsWhole m.loaded m.parts m.trapper m.outcome m.choices m.keeps (kept_of m.records.items) m.workers (vec_len m.records) (vec_capacity m.records) };
 }
 
 impl Machine {
@@ -81,29 +87,71 @@ impl Machine {
         ensures crew { IfOk result (λ m. workers_of m ≡ workers) }
         ensures choices { IfOk result (λ m. m.choices ≡ 0) }
         ensures opening { IfOk result Opens }
+        ensures keeps { IfOk result (λ m. m.keeps ≡ false) }
+        ensures past { IfOk result (λ m. m.past ≡ []) }
+    {
+        Machine::begun(alloc, loaded, workers, false)
+    }
+
+    /// The same, and from then on a record is kept of each choice, by which `undo` takes it back.
+    pub fn with_undo(alloc: Global, loaded: Loaded, workers: u8) -> Result<Machine, MachineFault>
+        ensures workers { (result ≡ Err MachineFault.Workers) ↔ ((workers ≡ 0) ⊎ (64 < workers)) }
+        ensures program { IfOk result (λ m. m.program ≡ loaded) }
+        ensures crew { IfOk result (λ m. workers_of m ≡ workers) }
+        ensures choices { IfOk result (λ m. m.choices ≡ 0) }
+        ensures opening { IfOk result Opens }
+        ensures keeps { IfOk result (λ m. m.keeps ≡ true) }
+        ensures past { IfOk result (λ m. m.past ≡ []) }
+    {
+        Machine::begun(alloc, loaded, workers, true)
+    }
+
+    fn begun(
+        alloc: Global,
+        loaded: Loaded,
+        workers: u8,
+        keeps: bool,
+    ) -> Result<Machine, MachineFault>
+        ensures workers { (result ≡ Err MachineFault.Workers) ↔ ((workers ≡ 0) ⊎ (64 < workers)) }
+        ensures program { IfOk result (λ m. m.program ≡ loaded) }
+        ensures crew { IfOk result (λ m. workers_of m ≡ workers) }
+        ensures choices { IfOk result (λ m. m.choices ≡ 0) }
+        ensures opening { IfOk result Opens }
+        ensures keeps { IfOk result (λ m. m.keeps ≡ keeps) }
+        ensures past { IfOk result (λ m. m.past ≡ []) }
     {
         if workers == 0 || 64 < workers {
             return Err(MachineFault::Workers);
         }
-        match Machine::opened(alloc, loaded, workers) {
+        match Machine::opened(alloc, loaded, workers, keeps) {
             Err(memory) => Err(MachineFault::Memory(memory)),
             Ok(machine) => Ok(machine),
         }
     }
 
-    fn opened(alloc: Global, loaded: Loaded, workers: u8) -> Result<Machine, Memory>
+    fn opened(alloc: Global, loaded: Loaded, workers: u8, keeps: bool) -> Result<Machine, Memory>
         requires some { 1 ≤ workers }
         requires limit { workers ≤ 64 }
         ensures program { IfOk result (λ m. m.program ≡ loaded) }
         ensures crew { IfOk result (λ m. workers_of m ≡ workers) }
         ensures choices { IfOk result (λ m. m.choices ≡ 0) }
         ensures opening { IfOk result Opens }
+        ensures keeps { IfOk result (λ m. m.keeps ≡ keeps) }
+        ensures past { IfOk result (λ m. m.past ≡ []) }
     {
         // Brings its clauses into the proof.
         let _program = loaded.program();
+        let records = match no_records(alloc, keeps) {
+            Ok(records) => records,
+            Err(memory) => {
+                drop(loaded);
+                return Err(memory);
+            }
+        };
         let parts = match first_parts(alloc, &loaded, workers) {
             Ok(parts) => parts,
             Err(memory) => {
+                drop(records);
                 drop(loaded);
                 return Err(memory);
             }
@@ -116,6 +164,8 @@ impl Machine {
             outcome: Outcome::Running,
             trapper: Id::new(0),
             choices: 0,
+            keeps,
+            records,
         })
     }
 

@@ -3,11 +3,11 @@ use Rattle.std.proofs.Common.{pos, ◌≡◌, ◌+◌, ℕ, ℤ, true, false, �
 use Rattle.cilk_sched.specs.eval.declared.area.Area.{Area}
 use Rattle.cilk_sched.specs.eval.declared.area.Area.TheVariants.{Own, Outer, Global}
 use Rattle.cilk_sched.specs.eval.declared.slot.Slot.{Slot}
-use Rattle.cilk_laws_placed.specs.syntax.Tree.{Program}
-use Rattle.cilk_laws_placed.specs.scopes.declared.owner.Owner.{Owner}
-use Rattle.cilk_laws_placed.specs.scopes.declared.owner.Owner.TheVariants.{Function, Procedure, Inlet}
-use Rattle.cilk_laws_placed.specs.labelled.Labelled.{Labelled}
-use Rattle.cilk_laws_placed.specs.labelled.Bodies.{label, is_procedure}
+use Rattle.cilk_laws_model.specs.syntax.Tree.{Program}
+use Rattle.cilk_laws_model.specs.scopes.declared.owner.Owner.{Owner}
+use Rattle.cilk_laws_model.specs.scopes.declared.owner.Owner.TheVariants.{Function, Procedure, Inlet}
+use Rattle.cilk_laws_model.specs.labelled.Labelled.{Labelled}
+use Rattle.cilk_laws_model.specs.labelled.Bodies.{label, is_procedure}
 use Rattle.cilk_model.specs.Values.{Cell}
 use Rattle.cilk_model.specs.Instance.{Instance, body_at}
 use Rattle.cilk_model.specs.State.{State, Instances, changed}

@@ -1,7 +1,7 @@
 -- What an instance does by itself.
 use Rattle.std.proofs.Common.{◌≡◌, ℕ, List, Option, Some, None, is_some, sym, ap, ◌∙◌, subst, inl, inr, slice_set}
 use Rattle.std.specs.Prelude.{option_map}
-use Rattle.cilk_laws_placed.specs.labelled.Bodies.{label}
+use Rattle.cilk_laws_model.specs.labelled.Bodies.{label}
 use Rattle.cilk_model.specs.Instance.{Instance}
 use Rattle.cilk_model.specs.State.{State}
 use Rattle.cilk_model.specs.Hands.{with_hand, named}

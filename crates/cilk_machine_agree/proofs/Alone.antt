@@ -1,13 +1,13 @@
 -- What is known of the instance whose frame is in a worker's hand: no other frame is its own.
 use Rattle.std.proofs.Common.{◌≡◌, ◌≢◌, ℕ, ◌+◌, ◌<◌, Bool, true, false, cond, List, length, Option, Some, None, is_some, refl, sym, ap, ◌∙◌, subst, arith}
 use Rattle.std.specs.Prelude.{IfSome, sum_by, count_by}
-use Rattle.cilk_laws_placed.specs.labelled.Bodies.{label}
+use Rattle.cilk_laws_model.specs.labelled.Bodies.{label}
 use Rattle.cilk_model.specs.Path.{Path, same_path, is_that}
 use Rattle.cilk_model.specs.Instance.{Instance}
 use Rattle.cilk_model.specs.State as state
 use Rattle.cilk_model.specs.Hands.{WorkerOf, hand_of, with_hand}
-use Rattle.cilk_laws_placed.specs.Hands.{times_held}
-use Rattle.cilk_laws_placed.proofs.Entries.{same-self}
+use Rattle.cilk_laws_model.specs.Hands.{times_held}
+use Rattle.cilk_laws_model.proofs.Entries.{same-self}
 use Rattle.cilk_sched.specs.frame.Frames.{Frame}
 use Rattle.cilk_sched.specs.frame.Stands.{StandsFor}
 use Rattle.cilk_spawn.specs.Nodes.{Node, node_at, path_at}

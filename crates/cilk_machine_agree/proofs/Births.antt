@@ -4,9 +4,9 @@ use Rattle.std.proofs.Common.{is_some, refl, sym, ap, ◌∙◌, subst, arith, i
 use Rattle.std.specs.Prelude.{sum_by}
 use Rattle.std.proofs.lemmas.List.{map-append}
 use Rattle.std.proofs.lemmas.List.Elements.{All-head, All-tail, All-push, All-weaker}
-use Rattle.cilk_laws_placed.specs.syntax.Tree.{Program}
-use Rattle.cilk_laws_placed.specs.labelled.Labelled.{Labelled}
-use Rattle.cilk_laws_placed.specs.labelled.Bodies.{label}
+use Rattle.cilk_laws_model.specs.syntax.Tree.{Program}
+use Rattle.cilk_laws_model.specs.labelled.Labelled.{Labelled}
+use Rattle.cilk_laws_model.specs.labelled.Bodies.{label}
 use Rattle.cilk_model.specs.Path.{Path, same_path, child_path}
 use Rattle.cilk_model.specs.Instance as model
 use Rattle.cilk_model.specs.Instance.{Instance}
@@ -14,8 +14,8 @@ use Rattle.cilk_model.specs.State as state
 use Rattle.cilk_model.specs.State.{State, changed}
 use Rattle.cilk_model.specs.Hands.{WorkerOf, deque_of, with_hand, with_deque, pushed_by, named}
 use Rattle.cilk_model.specs.Scheduler as sched
-use Rattle.cilk_laws_placed.specs.Hands.{times_held}
-use Rattle.cilk_laws_placed.proofs.Entries.{live-cons}
+use Rattle.cilk_laws_model.specs.Hands.{times_held}
+use Rattle.cilk_laws_model.proofs.Entries.{live-cons}
 use Rattle.cilk_sched.specs.frame.Frames.{Frame}
 use Rattle.cilk_sched.specs.frame.Stands.{StandsFor}
 use Rattle.cilk_spawn.specs.declared.delivery.Delivery.{Delivery}

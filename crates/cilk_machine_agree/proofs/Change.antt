@@ -1,7 +1,7 @@
 -- One instance is changed, with its node: whatever changes keeps agreement where it does so for that one.
 use Rattle.std.proofs.Common.{◌≡◌, ◌≢◌, ◌<◌, ℕ, true, List, length, Some, is_some, refl, sym, ap, ◌∙◌, subst, inl, inr}
-use Rattle.cilk_laws_placed.specs.syntax.Tree.{Program}
-use Rattle.cilk_laws_placed.specs.labelled.Bodies.{label}
+use Rattle.cilk_laws_model.specs.syntax.Tree.{Program}
+use Rattle.cilk_laws_model.specs.labelled.Bodies.{label}
 use Rattle.cilk_model.specs.Path.{Path}
 use Rattle.cilk_model.specs.Instance.{Instance}
 use Rattle.cilk_model.specs.State.{changed}

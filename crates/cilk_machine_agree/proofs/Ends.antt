@@ -2,9 +2,9 @@
 use Rattle.std.proofs.Common.{◌≡◌, ◌≢◌, ◌<◌, ℕ, Bool, true, false, not, ◌&&◌, nat_eq, cond, List, [], ◌∷◌, map, length, length-set, Some, None}
 use Rattle.std.proofs.Common.{is_some, refl, sym, ap, ◌∙◌, subst, arith, inl, inr, slice_set}
 use Rattle.std.specs.List.{filter, range_with_len}
-use Rattle.cilk_laws_placed.specs.syntax.Tree.{Program}
-use Rattle.cilk_laws_placed.specs.labelled.Labelled.{Labelled}
-use Rattle.cilk_laws_placed.specs.labelled.Bodies.{label}
+use Rattle.cilk_laws_model.specs.syntax.Tree.{Program}
+use Rattle.cilk_laws_model.specs.labelled.Labelled.{Labelled}
+use Rattle.cilk_laws_model.specs.labelled.Bodies.{label}
 use Rattle.cilk_model.specs.Path.{Path, same_path}
 use Rattle.cilk_model.specs.Instance.{Instance}
 use Rattle.cilk_model.specs.State.{Instances, State, changed, without}

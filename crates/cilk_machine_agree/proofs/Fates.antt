@@ -4,8 +4,8 @@ use Rattle.cilk_model.specs.Path.{Path}
 use Rattle.cilk_model.specs.Instance.{Instance}
 use Rattle.cilk_model.specs.Hands.{named}
 use Rattle.cilk_model.specs.Run.{Standing}
-use Rattle.cilk_laws_placed.specs.labelled.Bodies.{label}
-use Rattle.cilk_laws_placed.specs.syntax.Tree.{Program}
+use Rattle.cilk_laws_model.specs.labelled.Bodies.{label}
+use Rattle.cilk_laws_model.specs.syntax.Tree.{Program}
 use Rattle.cilk_spawn.specs.declared.fate.Fate.{Fate}
 use Rattle.cilk_spawn.specs.Nodes.{Node, no_node, node_at, is_live, lives, with_fate, path_at}
 use Rattle.cilk_spawn.proofs.Lists.{at_set}

@@ -1,8 +1,8 @@
 -- What an instance takes from its children: a value in a cell, or an inlet; and a child that it spawns.
 use Rattle.std.proofs.Common.{pos, ◌≡◌, ◌+◌, ℕ, true, List, [], ◌∷◌, ◌++◌, drop, length, None, refl, sym, ap, ◌∙◌, subst, arith}
 use Rattle.std.proofs.lemmas.List.Elements.{All-drop}
-use Rattle.cilk_laws_placed.specs.labelled.Labelled.{Labelled}
-use Rattle.cilk_laws_placed.specs.labelled.Bodies.{label, is_procedure}
+use Rattle.cilk_laws_model.specs.labelled.Labelled.{Labelled}
+use Rattle.cilk_laws_model.specs.labelled.Bodies.{label, is_procedure}
 use Rattle.cilk_model.specs.Path.{Path, child_path}
 use Rattle.cilk_model.specs.Instance as model
 use Rattle.cilk_model.specs.Instance.{Instance}

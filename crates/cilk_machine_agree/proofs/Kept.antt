@@ -3,13 +3,13 @@ use Rattle.std.proofs.Common.{◌≡◌, ◌<◌, ◌+◌, ℕ, zero, suc, Bool,
 use Rattle.std.proofs.Common.{arith, inl, inr, if◌then◌else◌}
 use Rattle.std.specs.List.{range_with_len}
 use Rattle.std.proofs.lemmas.List.{map-append}
-use Rattle.cilk_laws_placed.specs.labelled.Labelled.{Labelled}
+use Rattle.cilk_laws_model.specs.labelled.Labelled.{Labelled}
 use Rattle.cilk_model.specs.Path.{Path, same_path}
 use Rattle.cilk_model.specs.Event.{Event, acted, spawned, delivered, returned, ended, trapped, moved}
 use Rattle.cilk_model.specs.Fate as model
 use Rattle.cilk_model.specs.Fate.{fate_by, is_birth, was_made, fate_of}
-use Rattle.cilk_laws_placed.proofs.Events.{told-push, made-push, fate-made, has_fate}
-use Rattle.cilk_laws_placed.proofs.Born.{or_left}
+use Rattle.cilk_laws_model.proofs.Events.{told-push, made-push, fate-made, has_fate}
+use Rattle.cilk_laws_model.proofs.Born.{or_left}
 use Rattle.cilk_model.specs.Made.{born, made, procedure_of}
 use Rattle.cilk_spawn.specs.declared.fate.Fate.{Fate}
 use Rattle.cilk_spawn.specs.declared.fate.Fate.TheVariants.{Live, Returned, Delivered, Aborted}

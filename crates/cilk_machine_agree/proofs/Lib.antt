@@ -21,7 +21,7 @@ pub mod Between
 pub mod Made
 pub mod Kept
 pub mod One
-pub use Rattle.cilk_laws_placed.proofs as placed_laws
+pub use Rattle.cilk_laws_model.proofs as runs_laws
 pub use Rattle.cilk_sched.proofs as sched_laws
 pub use Rattle.cilk_sched.proofs.frame_laws
 pub use Rattle.cilk_sched.proofs.nodes_laws

@@ -3,9 +3,9 @@ use Rattle.std.proofs.Common.{◌≡◌, ◌<◌, ℕ, zero, suc, Bool, true, fa
 use Rattle.std.proofs.Common.{inr, slice_index_or, slice_set, All, if◌then◌else◌}
 use Rattle.std.specs.List.{list_any}
 use Rattle.std.proofs.lemmas.List.Elements.{All-head, All-tail, All-cons}
-use Rattle.cilk_laws_placed.specs.syntax.declared.lock_action.LockAction.{LockAction}
-use Rattle.cilk_laws_placed.specs.syntax.declared.lock_action.LockAction.TheVariants.{Init, Unlock}
-use Rattle.cilk_laws_placed.specs.syntax.declared.lock_action.LockAction.TheVariants as action
+use Rattle.cilk_laws_model.specs.syntax.declared.lock_action.LockAction.{LockAction}
+use Rattle.cilk_laws_model.specs.syntax.declared.lock_action.LockAction.TheVariants.{Init, Unlock}
+use Rattle.cilk_laws_model.specs.syntax.declared.lock_action.LockAction.TheVariants as action
 use Rattle.cilk_model.specs.Path.{Path, same_path}
 use Rattle.cilk_model.specs.State as state
 use Rattle.cilk_model.specs.Change as change

@@ -4,11 +4,11 @@ use Rattle.std.proofs.Common.{◌∙◌, arith, if◌then◌else◌}
 use Rattle.std.specs.Prelude.{flat_map, option_and_then}
 use Rattle.std.specs.Option.{option_or}
 use Rattle.std.specs.List.{list_any, range_with_len}
-use Rattle.cilk_laws_placed.specs.labelled.Labelled.{Labelled}
+use Rattle.cilk_laws_model.specs.labelled.Labelled.{Labelled}
 use Rattle.cilk_model.specs.Path.{Path, same_path}
 use Rattle.cilk_model.specs.Event.{Event, acted, spawned, delivered, returned, ended, trapped, moved}
 use Rattle.cilk_model.specs.Fate.{is_birth, was_made}
-use Rattle.cilk_laws_placed.proofs.Entries.{same-is, same-self}
+use Rattle.cilk_laws_model.proofs.Entries.{same-is, same-self}
 use Rattle.cilk_model.specs.Made.{callee_of, spawn_by, spawn_of, procedure_of, born, made}
 use Rattle.cilk_spawn.specs.Nodes.{Node, path_at}
 use Rattle.cilk_spawn.proofs.Alive.{any_map}

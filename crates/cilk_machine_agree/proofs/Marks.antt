@@ -1,7 +1,7 @@
 -- An `abort` marks the live descendants of an instance, by path and by id.
 use Rattle.std.proofs.Common.{◌≡◌, ◌<◌, ℕ, Bool, true, false, ◌&&◌, ◌||◌, List, map, length, is_some, refl, sym, ap, ◌∙◌, subst, if◌then◌else◌}
-use Rattle.cilk_laws_placed.specs.syntax.Tree.{Program}
-use Rattle.cilk_laws_placed.specs.labelled.Bodies.{label}
+use Rattle.cilk_laws_model.specs.syntax.Tree.{Program}
+use Rattle.cilk_laws_model.specs.labelled.Bodies.{label}
 use Rattle.cilk_model.specs.Path.{Path}
 use Rattle.cilk_model.specs.Instance.{Instance}
 use Rattle.cilk_model.specs.State.{Entry, State}

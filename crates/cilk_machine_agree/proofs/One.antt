@@ -1,6 +1,6 @@
 -- A node tells the fate of its path, whatever the events were.
 use Rattle.std.proofs.Common.{◌≡◌, ◌<◌, ℕ, Bool, true, false, List, length, Some, None, refl, sym, ap, ◌∙◌, if◌then◌else◌}
-use Rattle.cilk_laws_placed.specs.labelled.Labelled.{Labelled}
+use Rattle.cilk_laws_model.specs.labelled.Labelled.{Labelled}
 use Rattle.cilk_model.specs.Path.{Path}
 use Rattle.cilk_model.specs.Event.{Event}
 use Rattle.cilk_model.specs.Fate.{lives, fate_from, was_made, fate_of}

@@ -1,14 +1,14 @@
 -- The actions that an instance takes by itself, a spawn and an `abort`: each keeps agreement.
 use Rattle.std.specs.Prelude.{pos, ◌≡◌, ◌+◌, ℕ, ℤ, true, false, List, ◌∷◌, ◌++◌, drop, length, Option, Some, None, slice_set}
 use Rattle.cilk_sched.specs.eval.declared.slot.Slot.{Slot}
-use Rattle.cilk_laws_placed.specs.labelled.Bodies.{label}
-use Rattle.cilk_laws_placed.specs.labelled.Items.{opened, next}
+use Rattle.cilk_laws_model.specs.labelled.Bodies.{label}
+use Rattle.cilk_laws_model.specs.labelled.Items.{opened, next}
 use Rattle.cilk_model.specs.Path.{child_path}
 use Rattle.cilk_model.specs.Values.{Cell, Reached}
 use Rattle.cilk_model.specs.Instance as model
 use Rattle.cilk_model.specs.Instance.{Activation, Instance, body_at, entered}
 use Rattle.cilk_model.specs.State.{TrapKind}
-use Rattle.cilk_laws_placed.specs.scopes.declared.owner.Owner.TheVariants.{Inlet}
+use Rattle.cilk_laws_model.specs.scopes.declared.owner.Owner.TheVariants.{Inlet}
 use Rattle.cilk_model.specs.Change.{is_function, put, above, resumed, gone_on, stopped, after_write, after_going, after_call, after_leaving}
 use Rattle.cilk_model.specs.Change.{after_answer, after_start, after_print, after_lock, after_marks, after_place, after_inlet}
 use Rattle.cilk_model.specs.Hands.{with_hand}

@@ -1,7 +1,7 @@
 -- When the machine stands as the definitions say: each id goes by its path, and each frame and node stand for the instance of their id.
 use Rattle.std.specs.Prelude.{◌≡◌, ◌<◌, ℕ, true, nat_eq, List, [], length, map, Option, Some, None, is_some, if◌then◌else◌}
-use Rattle.cilk_laws_placed.specs.syntax.Tree.{Program}
-use Rattle.cilk_laws_placed.specs.labelled.Bodies.{label}
+use Rattle.cilk_laws_model.specs.syntax.Tree.{Program}
+use Rattle.cilk_laws_model.specs.labelled.Bodies.{label}
 use Rattle.cilk_model.specs.Path.{Path}
 use Rattle.cilk_model.specs.Instance.{Instance, started}
 use Rattle.cilk_model.specs.State.{Entry, Instances, instance_at}

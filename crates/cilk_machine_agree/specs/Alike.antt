@@ -1,12 +1,12 @@
 -- When a node of the tree tells of an instance what the definitions tell of it.
 use Rattle.std.specs.Prelude.{◌≡◌, ◌<◌, ◌≤◌, ℕ, suc, ℤ, ⊤, List, [], ◌∷◌, Option, Some, None, length}
-use Rattle.cilk_laws_placed.specs.labelled.Term.{Term}
+use Rattle.cilk_laws_model.specs.labelled.Term.{Term}
 use Rattle.cilk_sched.specs.eval.declared.slot.Slot.{Slot}
-use Rattle.cilk_laws_placed.specs.labelled.Labelled.{Labelled}
+use Rattle.cilk_laws_model.specs.labelled.Labelled.{Labelled}
 use Rattle.cilk_model.specs.Path.{Path}
 use Rattle.cilk_model.specs.Instance as model
 use Rattle.cilk_model.specs.Instance.{Instance, body_at}
-use Rattle.cilk_laws_placed.specs.scopes.declared.owner.Owner.TheVariants.{Inlet}
+use Rattle.cilk_laws_model.specs.scopes.declared.owner.Owner.TheVariants.{Inlet}
 use Rattle.cilk_sched.specs.nodes.Slots.{procedure_around}
 use Rattle.cilk_sched.specs.nodes.declared.taker.Taker.TheVariants.{Through}
 use Rattle.cilk_sched.specs.nodes.declared.action.Action.TheVariants.{Spawn}

@@ -1,9 +1,9 @@
 -- What a step asks of the standing, and what the machine tells of it.
 use Rattle.std.specs.Prelude.{◌≡◌, ◌<◌, ℕ, true, List, [], ◌∷◌, map, length, Some, None, option_map}
 use Rattle.std.specs.List.{list_any}
-use Rattle.cilk_laws_placed.specs.syntax.declared.lock_action.LockAction.{LockAction}
-use Rattle.cilk_laws_placed.specs.syntax.Tree.{Program}
-use Rattle.cilk_laws_placed.specs.labelled.Bodies.{label}
+use Rattle.cilk_laws_model.specs.syntax.declared.lock_action.LockAction.{LockAction}
+use Rattle.cilk_laws_model.specs.syntax.Tree.{Program}
+use Rattle.cilk_laws_model.specs.labelled.Bodies.{label}
 use Rattle.cilk_model.specs.Instance as model
 use Rattle.cilk_model.specs.Instance.{Instance}
 use Rattle.cilk_model.specs.State as state

@@ -1,7 +1,7 @@
 -- What became of the instances: each node keeps what the events tell.
 use Rattle.std.specs.Prelude.{◌≡◌, ◌<◌, ℕ, suc, if◌then◌else◌, List, length, map, Some}
 use Rattle.std.specs.List.{range_with_len}
-use Rattle.cilk_laws_placed.specs.labelled.Labelled.{Labelled}
+use Rattle.cilk_laws_model.specs.labelled.Labelled.{Labelled}
 use Rattle.cilk_model.specs.Path.{Path, same_path}
 use Rattle.cilk_model.specs.Event.{Event, spawned, delivered, returned, ended}
 use Rattle.cilk_model.specs.Fate as model

@@ -1,8 +1,8 @@
 -- What keeps agreement.
 use Rattle.std.specs.Prelude.{◌≡◌, ◌<◌, ◌+◌, ℕ, ℤ, Bool, true, false, not, ◌&&◌, ◌||◌, nat_eq, List, [], ◌∷◌, ◌++◌, length, map, Option, Some, None}
 use Rattle.std.specs.Prelude.{replicate, slice_set, if◌then◌else◌}
-use Rattle.cilk_laws_placed.specs.syntax.Tree.{Program}
-use Rattle.cilk_laws_placed.specs.labelled.Bodies.{label}
+use Rattle.cilk_laws_model.specs.syntax.Tree.{Program}
+use Rattle.cilk_laws_model.specs.labelled.Bodies.{label}
 use Rattle.cilk_model.specs.Path.{Path, child_path}
 use Rattle.cilk_model.specs.Values.{initial_values}
 use Rattle.cilk_model.specs.Instance as model
@@ -14,7 +14,7 @@ use Rattle.cilk_model.specs.Pick.{ends}
 use Rattle.cilk_model.specs.Hands.{IsWorker, no_place, hand_of, with_hand, popped_by, stolen_by, pushed_by}
 use Rattle.cilk_model.specs.Scheduler as sched
 use Rattle.cilk_model.specs.Run.{Standing, opening, stepped}
-use Rattle.cilk_laws_placed.specs.Hands.{EachInItsPlace}
+use Rattle.cilk_laws_model.specs.Hands.{EachInItsPlace}
 use Rattle.cilk_sched.specs.nodes.Slots.{flat}
 use Rattle.cilk_sched.specs.frame.Frames.{Frame}
 use Rattle.cilk_sched.specs.frame.Stands.{StandsFor}

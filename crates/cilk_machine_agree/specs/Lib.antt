@@ -9,10 +9,10 @@ pub mod Asked
 pub mod Between
 pub mod Fated
 pub mod FateLaws
-pub use Rattle.cilk_laws_placed.specs as placed
-pub use Rattle.cilk_laws_placed.specs.labelled
-pub use Rattle.cilk_laws_placed.specs.scopes
-pub use Rattle.cilk_laws_placed.specs.syntax
+pub use Rattle.cilk_laws_model.specs as runs
+pub use Rattle.cilk_laws_model.specs.labelled
+pub use Rattle.cilk_laws_model.specs.scopes
+pub use Rattle.cilk_laws_model.specs.syntax
 pub use Rattle.cilk_model.specs as model
 pub use Rattle.cilk_sched.specs as sched
 pub use Rattle.cilk_sched.specs.eval

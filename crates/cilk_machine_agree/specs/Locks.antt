@@ -1,8 +1,8 @@
 -- What a call of a lock makes of it, where its holder goes by its id (Cilk 5.4 manual, locks).
 use Rattle.std.specs.Prelude.{ℕ, Bool, false, nat_eq, List, if◌then◌else◌, slice_index_or}
-use Rattle.cilk_laws_placed.specs.syntax.declared.lock_action.LockAction.{LockAction}
-use Rattle.cilk_laws_placed.specs.syntax.declared.lock_action.LockAction.TheVariants.{Init, Unlock}
-use Rattle.cilk_laws_placed.specs.syntax.declared.lock_action.LockAction.TheVariants as action
+use Rattle.cilk_laws_model.specs.syntax.declared.lock_action.LockAction.{LockAction}
+use Rattle.cilk_laws_model.specs.syntax.declared.lock_action.LockAction.TheVariants.{Init, Unlock}
+use Rattle.cilk_laws_model.specs.syntax.declared.lock_action.LockAction.TheVariants as action
 use Rattle.cilk_model.specs.Path.{Path}
 use Rattle.cilk_model.specs.Change as change
 use Rattle.cilk_machine_agree.specs.declared.lock.Lock.{Lock}

@@ -1,6 +1,6 @@
 -- What the program has outside its instances: the machine names an instance by its id, and the definitions by its path.
 use Rattle.std.specs.Prelude.{◌≡◌, ◌<◌, ℕ, ℤ, ⊤, List, All, length, map}
-use Rattle.cilk_laws_placed.specs.labelled.Labelled.{Labelled}
+use Rattle.cilk_laws_model.specs.labelled.Labelled.{Labelled}
 use Rattle.cilk_model.specs.Path.{Path}
 use Rattle.cilk_model.specs.State as state
 use Rattle.cilk_model.specs.State.{TrapKind, State}

@@ -5,7 +5,7 @@
 mod laws;
 mod lock;
 
-pub use cilk_laws_placed::{Global, GlobalShape, Item, ItemNode, Program, Word};
+pub use cilk_laws_model::{Global, GlobalShape, Item, ItemNode, Program, Word};
 pub use cilk_sched::{Area, Body, Hands, Var};
 pub use cilk_spawn::{Delivery, Ending, Fate, Frame, Id, Path, TrapKind, Tree};
 pub use laws::{

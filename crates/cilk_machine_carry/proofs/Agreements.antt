@@ -49,7 +49,7 @@ use Rattle.cilk_machine_carry.specs.Carried.{outside_given, after_plan, did_of}
 use Rattle.cilk_machine_carry.specs.Carries.{Starts, Stepped}
 use Rattle.cilk_machine_carry.proofs.Awake.{woken-is}
 use Rattle.cilk_machine_carry.proofs.Followed.{Same, at_one, same-all, parked-same, marked-same, sent-same, ended-awake, followed, by-path, spawn-followed}
-use Rattle.cilk_machine_carry.proofs.Taken.{first-there, taken-agrees, taken-followed}
+use Rattle.cilk_machine_carry.proofs.Takes.{first-there, taken-agrees, taken-followed}
 
 -- the step, by its name
 leads : (choice : ℕ) (t : InHand) (m : MachineParts) (told_of : Did) (step : Step) (who : ℕ → Instance) → step_in t ≡ step → waits_now step ≡ None

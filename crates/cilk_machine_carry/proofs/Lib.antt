@@ -4,16 +4,16 @@ pub mod Closed
 pub mod Arms
 pub mod Awake
 pub mod Followed
-pub mod Taken
+pub mod Takes
 pub mod Agreements
 pub mod Readies
 pub mod Whole
-pub mod Held
+pub mod Holds
 pub use Rattle.cilk_machine_plan.proofs as plans_laws
 pub use Rattle.cilk_machine_plan.proofs.agree_laws
 pub use Rattle.cilk_machine_plan.proofs.effects_laws
 pub use Rattle.cilk_machine_plan.proofs.frame_laws
 pub use Rattle.cilk_machine_plan.proofs.nodes_laws
-pub use Rattle.cilk_machine_plan.proofs.placed_laws
+pub use Rattle.cilk_machine_plan.proofs.runs_laws
 pub use Rattle.cilk_machine_plan.proofs.sched_laws
 pub use Rattle.cilk_machine_plan.proofs.spawn_laws

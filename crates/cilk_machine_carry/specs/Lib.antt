@@ -12,7 +12,7 @@ pub use Rattle.cilk_machine_plan.specs.frame
 pub use Rattle.cilk_machine_plan.specs.labelled
 pub use Rattle.cilk_machine_plan.specs.model
 pub use Rattle.cilk_machine_plan.specs.nodes
-pub use Rattle.cilk_machine_plan.specs.placed
+pub use Rattle.cilk_machine_plan.specs.runs
 pub use Rattle.cilk_machine_plan.specs.sched
 pub use Rattle.cilk_machine_plan.specs.spawn
 pub use Rattle.cilk_machine_plan.specs.syntax

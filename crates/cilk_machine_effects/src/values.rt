@@ -13,6 +13,7 @@ use cilk_spawn::{Arguments, Memory};
 use std::alloc::Global;
 
 /// What a cell holds, or 0 where its area has no such cell.
+#[inline(always)]
 pub fn held(slots: &Slots, slot: Slot, index: u32) -> i32
     ensures { result ≡ slot_cell (cells_of slots.now) slot index }
 {
@@ -28,6 +29,7 @@ pub fn held(slots: &Slots, slot: Slot, index: u32) -> i32
 }
 
 /// What an assignment makes of the old value and the new one (C 1990, 6.3.16; Cilk 5.4 manual, `spawn`).
+#[inline(always)]
 pub fn combined(op: Option<BinOp>, old: i32, value: i32) -> Result<i32, Trap>
     ensures { result ≡ model.combined op old value }
 {

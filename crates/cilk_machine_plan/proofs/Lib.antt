@@ -8,7 +8,7 @@ mod Callees
 pub use Rattle.cilk_machine_agree.proofs as agree_laws
 pub use Rattle.cilk_machine_agree.proofs.frame_laws
 pub use Rattle.cilk_machine_agree.proofs.nodes_laws
-pub use Rattle.cilk_machine_agree.proofs.placed_laws
+pub use Rattle.cilk_machine_agree.proofs.runs_laws
 pub use Rattle.cilk_machine_agree.proofs.sched_laws
 pub use Rattle.cilk_machine_agree.proofs.spawn_laws
 pub use Rattle.cilk_machine_effects.proofs as effects_laws

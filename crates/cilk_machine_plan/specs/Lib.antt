@@ -8,7 +8,7 @@ pub use Rattle.cilk_machine_agree.specs.frame
 pub use Rattle.cilk_machine_agree.specs.labelled
 pub use Rattle.cilk_machine_agree.specs.model
 pub use Rattle.cilk_machine_agree.specs.nodes
-pub use Rattle.cilk_machine_agree.specs.placed
+pub use Rattle.cilk_machine_agree.specs.runs
 pub use Rattle.cilk_machine_agree.specs.sched
 pub use Rattle.cilk_machine_agree.specs.spawn
 pub use Rattle.cilk_machine_agree.specs.syntax

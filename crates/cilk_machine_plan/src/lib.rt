@@ -9,7 +9,8 @@ pub use cilk_machine_agree::{
     Area, Body, Delivery, Ending, Fate, Frame, Hands, Id, Lock, Path, Program, TrapKind, Tree, Var,
 };
 pub use cilk_machine_effects::{
-    Arguments, Await, Bytes, Effect, Memory, Reached, Receiver, assigned, combined, effect_of, held,
+    Arguments, Await, Bytes, Effect, Memory, Reached, Receiver, Slots, assigned, combined,
+    effect_of, held,
 };
 pub use laws::plans_are_steps;
 pub use light::Light;

@@ -48,7 +48,7 @@ use Rattle.cilk_machine_undo.specs.Records.{took_of, taken_of, is_new, marked_by
 use Rattle.cilk_machine_carry.specs.Spends.{remains_in}
 use Rattle.cilk_machine_undo.specs.Able.{FrameAllows, TreeAllows, CanUntake, CanUnmark, CanActBack, CanUnbear, CanPark, CanUnsend, CanRevive}
 use Rattle.cilk_machine_undo.specs.Laws.{PlansCanBeUndone, PopsCanBeUndone, StealsCanBeUndone}
-use Rattle.cilk_machine_undo.proofs.Hands.{there-after, hand-awake}
+use Rattle.cilk_machine_undo.proofs.HandsBack.{there-after, hand-awake}
 use Rattle.cilk_machine_undo.proofs.Trees as trees
 
 -- a write leaves as many cells as there were

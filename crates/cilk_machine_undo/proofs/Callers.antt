@@ -8,7 +8,7 @@ use Rattle.cilk_machine_carry.specs.plans.declared.plan.Plan.TheVariants as plan
 use Rattle.cilk_machine_carry.specs.declared.parts.Parts.{Parts}
 use Rattle.cilk_machine_carry.specs.Ready.{Needs, frame_in}
 use Rattle.cilk_machine_carry.specs.Carries.{CanCarry}
-use Rattle.cilk_machine_carry.proofs.Held.{there}
+use Rattle.cilk_machine_carry.proofs.Holds.{there}
 use Rattle.cilk_machine_carry.proofs.Whole.{hand-there, ready-there}
 use Rattle.cilk_machine_undo.specs.Notes.{HasCaller}
 

@@ -6,7 +6,7 @@ use Rattle.cilk_machine_carry.specs.model.Hands.{WorkerOf, IsWorker, hand_of, de
 use Rattle.cilk_machine_carry.proofs.sched_laws.Seats.{hand-same, deque-kept, others-of-hand, others-of-deque, workers-of-hand}
 use Rattle.cilk_machine_carry.proofs.sched_laws.Back.{hand-back}
 use Rattle.cilk_machine_carry.proofs.agree_laws.Frames.{hand-over, seat-over, set_again}
-use Rattle.cilk_machine_undo.proofs.Hands.{there-after}
+use Rattle.cilk_machine_undo.proofs.HandsBack.{there-after}
 
 module _ (places : List (WorkerOf Frame)) (w : ℕ) (worker : IsWorker places w) where
   pub then-mapped : (g : Frame) (h : Frame → Frame) (now later : List (WorkerOf Frame)) → now ≡ with_hand places w (Some g)

@@ -1,7 +1,7 @@
 pub mod Back
 pub mod Frames
 pub mod Outside
-pub mod Hands
+pub mod HandsBack
 pub mod Trees
 pub mod Plans
 pub mod Able
@@ -11,4 +11,15 @@ pub mod Callers
 pub mod Listed
 pub mod Noted
 pub mod Undoes
-pub use Rattle.cilk_machine_carry.proofs as carry_laws
+pub mod Growth
+pub mod Cut
+pub mod Within
+pub use Rattle.cilk_machine_carry.proofs as carries_laws
+pub use Rattle.cilk_machine_carry.proofs.agree_laws
+pub use Rattle.cilk_machine_carry.proofs.effects_laws
+pub use Rattle.cilk_machine_carry.proofs.frame_laws
+pub use Rattle.cilk_machine_carry.proofs.nodes_laws
+pub use Rattle.cilk_machine_carry.proofs.plans_laws
+pub use Rattle.cilk_machine_carry.proofs.runs_laws
+pub use Rattle.cilk_machine_carry.proofs.sched_laws
+pub use Rattle.cilk_machine_carry.proofs.spawn_laws

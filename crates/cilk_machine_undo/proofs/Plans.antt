@@ -31,7 +31,7 @@ use Rattle.cilk_machine_undo.specs.Laws.{PlansAreUndone, PopsAreUndone, StealsAr
 use Rattle.cilk_machine_undo.proofs.Frames.{jump-back, put-back, wrote-back, call-back, leave-back}
 use Rattle.cilk_machine_undo.proofs.Outside.{same-back, cell-back, lock-back, printed-back, released-back}
 use Rattle.cilk_machine_carry.proofs.sched_laws.Back.{hand-back, changes-back}
-use Rattle.cilk_machine_undo.proofs.Hands.{hand-awake, awake-back, pushed-back, popped-back, stolen-back}
+use Rattle.cilk_machine_undo.proofs.HandsBack.{hand-awake, awake-back, pushed-back, popped-back, stolen-back}
 use Rattle.cilk_machine_undo.proofs.Trees as trees
 
 machine-by : (m : MachineParts) (o : Outside) (ns : List Node) (places : List (WorkerOf Frame)) → o ≡ m.outside → ns ≡ m.nodes → places ≡ m.places

@@ -75,7 +75,7 @@ parked-back ns k o free =
 pub parked-there : (ns : List Node) (k : ℕ) (o : Option Frame) → k < length ns → (node_at (with_parked ns k o) k).parked ≡ o
 parked-there ns k o h = ap (λ (n : Node). n.parked) (get_or-set_same ns k (record (node_at ns k) { parked = o }) no_node h)
 
-live-fate : (fate : Fate) → lives fate ≡ true → fate ≡ Live
+pub live-fate : (fate : Fate) → lives fate ≡ true → fate ≡ Live
 live-fate Live e = refl
 live-fate Returned e = cc
 live-fate (Delivered choice) e = cc

@@ -6,4 +6,19 @@ pub mod Able
 pub mod Laws
 pub mod Words
 pub mod Notes
-pub use Rattle.cilk_machine_carry.specs as carry
+pub mod Growth
+pub mod GrowthLaws
+pub mod GrowthRows
+pub use Rattle.cilk_machine_carry.specs as carries
+pub use Rattle.cilk_machine_carry.specs.agree
+pub use Rattle.cilk_machine_carry.specs.check
+pub use Rattle.cilk_machine_carry.specs.effects
+pub use Rattle.cilk_machine_carry.specs.eval
+pub use Rattle.cilk_machine_carry.specs.frame
+pub use Rattle.cilk_machine_carry.specs.labelled
+pub use Rattle.cilk_machine_carry.specs.nodes
+pub use Rattle.cilk_machine_carry.specs.plans
+pub use Rattle.cilk_machine_carry.specs.runs
+pub use Rattle.cilk_machine_carry.specs.sched
+pub use Rattle.cilk_machine_carry.specs.spawn
+pub use Rattle.cilk_machine_carry.specs.syntax

@@ -12,9 +12,8 @@ use crate::noting::{note, note_lightly};
 use crate::reading::depth_in_hand;
 use crate::undo::Undo;
 use cilk_machine_carry::{
-    Body, Did, Done, NoMemory, Outcome, Parts, Spent, carry_lightly, carry_out,
+    Body, Did, Done, Light, NoMemory, Outcome, Parts, Plan, Spent, carry_lightly, carry_out,
 };
-use cilk_machine_plan::{Light, Plan};
 use std::mem;
 
 /// Carries out the light plan as `carry_lightly` does, and answers the record of the step. Where memory has run out, nothing has

@@ -4,8 +4,7 @@ ghost use Rattle.std.specs.Prelude.{◌≡◌};
 ghost use Rattle.cilk_machine_undo.specs.Words.{undo_by, undo_with, activation_with, ended_with};
 
 use crate::undo::{Ended, Undo};
-use cilk_machine_carry::Spent;
-use cilk_sched::Activation;
+use cilk_machine_carry::{Activation, Spent};
 
 /// The record of a step, with what the step moved out of the machine.
 pub(crate) fn fill(undo: Undo, spent: Spent) -> Undo

@@ -5,6 +5,7 @@ mod acting;
 mod carrying;
 mod ending;
 mod filling;
+mod growth_laws;
 mod laws;
 mod listing;
 mod moving;
@@ -16,6 +17,13 @@ mod undo;
 mod undoing;
 
 pub use carrying::{carry_lightly_noted, carry_out_noted};
+pub use cilk_machine_carry::{
+    Body, Did, Done, Fate, Frame, Hands, Id, Lock, NoMemory, Outcome, Parts, Program, Spent, Tree,
+    Var, carry_lightly, carry_out,
+};
+pub use growth_laws::{
+    ended_are_cut, fates_are_within, moves_grow, plans_grow, values_are_taken_once,
+};
 pub use laws::{moves_are_undone, plans_are_undone, plans_can_be_undone};
 pub use undo::{Ended, Gone, Stood, Undo};
 pub use undoing::take_back;

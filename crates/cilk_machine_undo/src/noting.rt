@@ -13,8 +13,7 @@ use crate::notes::{
     note_print, note_return, note_spawn, note_take, note_turn, note_write,
 };
 use crate::undo::Undo;
-use cilk_machine_carry::{NoMemory, Parts};
-use cilk_machine_plan::{Light, Plan};
+use cilk_machine_carry::{Light, NoMemory, Parts, Plan};
 
 /// The record of the step of a light plan.
 pub(crate) fn note_lightly(worker: u8, light: &Light, parts: &Parts) -> Result<Undo, NoMemory>

@@ -11,9 +11,9 @@ ghost use Rattle.cilk_machine_undo.specs.Records.{taken_of, is_sent};
 ghost use Rattle.cilk_machine_undo.specs.Words.{family_by};
 
 use crate::undo::Stood;
-use cilk_machine_carry::{Frame, Hands, Id, Lock, NoMemory, Reached, Tree};
-use cilk_machine_effects::{Slots, held};
-use cilk_spawn::{Receiver, Taken};
+use cilk_machine_carry::{
+    Frame, Hands, Id, Lock, NoMemory, Reached, Receiver, Slots, Taken, Tree, held,
+};
 
 /// How many activations the frame in the worker's hand has.
 pub(crate) fn depth_in_hand(worker: u8, hands: &Hands) -> u32

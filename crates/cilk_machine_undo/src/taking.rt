@@ -11,9 +11,9 @@ ghost use Rattle.cilk_machine_undo.specs.Undo.{family_before};
 ghost use Rattle.cilk_machine_undo.specs.Able.{TreeAllows, CanActBack, CanTakeBack, WritesBelow};
 ghost use Rattle.cilk_machine_undo.specs.Words.{cell_by, took_by, family_by, closed_by, answered_by, machine_in, IsTakenBack};
 
-use cilk_machine_carry::{Area, Hands, NoMemory, Parts, Tree, Writing, write_cell};
-use cilk_sched::Activation;
-use cilk_spawn::Taken;
+use cilk_machine_carry::{
+    Activation, Area, Hands, NoMemory, Parts, Taken, Tree, Writing, write_cell,
+};
 use std::alloc::Global;
 
 /// The delivery waits again, and a cell holds what it held. Where memory has run out, nothing has changed.

@@ -3,7 +3,7 @@
 use cilk_machine::Known;
 use std::sync::Wait;
 
-/// What workers take turns at, one at a time.
+/// What workers take turns at, one at a time. It is a trait, so that threads are proved without what their workers share.
 pub trait Post {
     /// A worker takes a turn. `values` is memory of its own that is used again: what is in it before and behind a turn means nothing.
     fn turn<R: Wait>(&self, rt: &R, worker: u8, values: &mut Vec<Known>) -> TurnEnd;

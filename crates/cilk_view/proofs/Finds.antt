@@ -13,8 +13,8 @@ use Rattle.cilk_machine_agree.specs.model.Instance.{Instance}
 use Rattle.cilk_machine_agree.specs.model.State.{is_live, instance_at}
 use Rattle.cilk_machine_agree.specs.model.Hands.{WorkerOf, named}
 use Rattle.cilk_machine_agree.specs.model.Run.{Standing}
-use Rattle.cilk_machine_agree.specs.placed.Hands.{times_held, EachInItsPlace}
-use Rattle.cilk_machine_agree.proofs.placed_laws.Entries.{same-is}
+use Rattle.cilk_machine_agree.specs.runs.Hands.{times_held, EachInItsPlace}
+use Rattle.cilk_machine_agree.proofs.runs_laws.Entries.{same-is}
 use Rattle.cilk_machine_agree.specs.frame.Frames.{Frame}
 use Rattle.cilk_machine_agree.specs.frame.Stands.{StandsFor}
 use Rattle.cilk_machine_agree.specs.spawn.Nodes as nodes

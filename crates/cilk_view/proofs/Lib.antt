@@ -8,4 +8,4 @@ pub mod Orders
 pub mod Trees
 pub mod TreeLines
 pub use Rattle.cilk_load.proofs.Fronts
-pub use Rattle.cilk_machine_agree.proofs.placed_laws
+pub use Rattle.cilk_machine_agree.proofs.runs_laws

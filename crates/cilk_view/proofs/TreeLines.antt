@@ -14,7 +14,7 @@ use Rattle.cilk_machine_agree.specs.model.Instance.{Instance, body_at, no_body}
 use Rattle.cilk_machine_agree.specs.model.State.{instance_at}
 use Rattle.cilk_machine_agree.specs.model.Hands.{WorkerOf, named}
 use Rattle.cilk_machine_agree.specs.model.Run.{Position}
-use Rattle.cilk_machine_agree.specs.placed.Hands.{EachInItsPlace}
+use Rattle.cilk_machine_agree.specs.runs.Hands.{EachInItsPlace}
 use Rattle.cilk_machine_agree.specs.nodes.Bodies.{body_table}
 use Rattle.cilk_machine_agree.specs.frame.Frames.{Frame, top_of}
 use Rattle.cilk_machine_agree.specs.frame.Stands.{lowest_of, bodies_of}

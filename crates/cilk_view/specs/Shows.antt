@@ -3,7 +3,7 @@ use Rattle.std.specs.Prelude.{◌≡◌, ℕ, length}
 use Rattle.cilk_machine_agree.specs.model.Instance.{Instance}
 use Rattle.cilk_machine_agree.specs.model.Run.{Position}
 use Rattle.cilk_load.specs.labelled.Bodies.{label}
-use Rattle.cilk_machine_agree.specs.placed.Hands.{EachInItsPlace}
+use Rattle.cilk_machine_agree.specs.runs.Hands.{EachInItsPlace}
 use Rattle.cilk_machine_agree.specs.Outside.{Outcome}
 use Rattle.cilk_machine_agree.specs.Agrees.{MachineParts, Agrees}
 use Rattle.cilk_machine_agree.specs.Fated.{Fated}

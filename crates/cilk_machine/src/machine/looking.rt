@@ -5,24 +5,24 @@ ghost use Rattle.std.specs.Prelude.{IsSome, slice_get};
 ghost use Rattle.cilk_machine_choices.specs.model.Choice as choices;
 ghost use Rattle.cilk_machine_choices.specs.model.Hands.{IsWorker};
 ghost use Rattle.cilk_machine_choices.specs.Words.{reason_of, event_of};
-ghost use Rattle.cilk_machine_carry.specs.eval.Known.{known};
-ghost use Rattle.cilk_machine_carry.specs.labelled.Value.{value_of};
+ghost use Rattle.cilk_machine_undo.specs.eval.Known.{known};
+ghost use Rattle.cilk_machine_undo.specs.labelled.Value.{value_of};
 ghost use Rattle.cilk_machine_step.specs.Peeks.{code_at, peek_of};
 ghost use Rattle.cilk_machine.specs.Situation.{workers_of};
 ghost use Rattle.cilk_machine.specs.Refused.{runs, is_worker_of, is_full, refused_by, planned_in};
 ghost use Rattle.cilk_machine.specs.Made.{Makes, MakesBy, IsRefused};
 ghost use Rattle.cilk_machine.specs.Looking.{look_refused, peek_at, IsUnseen, IsUnsettled, IsStale};
 ghost use Rattle.cilk_machine.specs.Looking.{IsTakenDown, IsSeenAt, taken_down_at, number_ahead, plan_by};
-ghost use Rattle.cilk_machine_carry.specs.plans.Words.{plan_of};
+ghost use Rattle.cilk_machine_undo.specs.plans.Words.{plan_of};
 
 use super::Machine;
 use crate::refusing::is_worker;
-use cilk_machine_carry::Did;
 use cilk_machine_choices::{Act, Event, Memory, Outcome, Refusal};
 use cilk_machine_step::{
     Known, Light, Listed, Peek, Plan, Trap, is_seen, is_still_seen, look_ahead, number_ahead,
     plan_by_value, take_down,
 };
+use cilk_machine_undo::Did;
 
 impl Machine {
     /// What the next step of a worker evaluates, where it assigns to a variable that is no element, or tests, and neither an element nor
@@ -127,7 +127,10 @@ impl Machine {
             return Err(refusal);
         }
         match self.plan_seen(worker, n, value) {
-            Ok(light) => Ok(self.step_lightly(worker, light)),
+            Ok(light) => match self.step_lightly(worker, light) {
+                Err(_) => Err(Refusal::Memory),
+                Ok(did) => Ok(did),
+            },
             Err(plan) => match self.step(worker, plan) {
                 Err(_) => Err(Refusal::Memory),
                 Ok(did) => Ok(did),
@@ -272,10 +275,13 @@ impl Machine {
         let plan = plan_of(*light);
         match self.event(worker, &plan) {
             Err(_) => Err(Refusal::Memory),
-            Ok(event) => {
-                let _did = self.step_lightly(worker, *light);
-                Ok(event)
-            }
+            Ok(event) => match self.step_lightly(worker, *light) {
+                Err(_) => {
+                    drop(event);
+                    Err(Refusal::Memory)
+                }
+                Ok(_) => Ok(event),
+            },
         }
     }
 

@@ -1,8 +1,8 @@
 use Rattle.std.proofs.Common.{List, length, replicate, Some, ap, ◌∙◌}
 use Rattle.cilk_machine_choices.specs.model.Hands.{with_hand}
-use Rattle.cilk_machine_carry.specs.nodes.declared.var.Var.{Var}
-use Rattle.cilk_machine_carry.specs.spawn.Family.{Family}
-use Rattle.cilk_machine_carry.specs.agree.declared.lock.Lock.TheVariants.{Unset}
+use Rattle.cilk_machine_undo.specs.nodes.declared.var.Var.{Var}
+use Rattle.cilk_machine_undo.specs.spawn.Family.{Family}
+use Rattle.cilk_machine_undo.specs.agree.declared.lock.Lock.TheVariants.{Unset}
 use Rattle.cilk_machine.specs.Opening.{cells_of}
 use Rattle.cilk_machine.proofs.opening.first_parts.Goals as goal
 

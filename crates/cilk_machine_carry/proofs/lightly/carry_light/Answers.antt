@@ -12,7 +12,7 @@ use Rattle.cilk_machine_carry.specs.declared.did.Did.TheVariants as did
 use Rattle.cilk_machine_carry.specs.Words.{machine_of}
 use Rattle.cilk_machine_carry.specs.Ready.{frame_in}
 use Rattle.cilk_machine_carry.proofs.Arms.{by-arm}
-use Rattle.cilk_machine_carry.proofs.Held.{written}
+use Rattle.cilk_machine_carry.proofs.Holds.{written}
 use Rattle.cilk_machine_carry.proofs.lightly.carry_light.Goals as goal
 
 pub returns-in-Write-clause-carried : goal.returns-in-Write-clause-carried

@@ -3,7 +3,7 @@ use Rattle.cilk_machine_carry.specs.plans.Words.{plan_of}
 use Rattle.cilk_machine_carry.specs.declared.did.Outcome.TheVariants.{Running}
 use Rattle.cilk_machine_carry.specs.Ready.{frame_in}
 use Rattle.cilk_machine_carry.specs.Spends.{Spends}
-use Rattle.cilk_machine_carry.proofs.Held.{there}
+use Rattle.cilk_machine_carry.proofs.Holds.{there}
 use Rattle.cilk_machine_carry.proofs.Whole.{hand-there}
 use Rattle.cilk_machine_undo.specs.Words.{undo_with}
 use Rattle.cilk_machine_undo.proofs.Callers.{caller-there}

@@ -1,7 +1,7 @@
 use Rattle.std.proofs.Common.{option_copied, ap, sym, ◌∙◌, subst}
 use Rattle.cilk_machine_carry.specs.Ready.{frame_in}
 use Rattle.cilk_machine_carry.specs.Spends.{Spends}
-use Rattle.cilk_machine_carry.proofs.Held.{there}
+use Rattle.cilk_machine_carry.proofs.Holds.{there}
 use Rattle.cilk_machine_carry.proofs.Whole.{hand-there}
 use Rattle.cilk_machine_undo.specs.Words.{undo_with}
 use Rattle.cilk_machine_undo.proofs.Callers.{caller-there}

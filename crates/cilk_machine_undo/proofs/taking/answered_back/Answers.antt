@@ -8,7 +8,7 @@ use Rattle.cilk_machine_undo.specs.Frames as change
 use Rattle.cilk_machine_undo.specs.Able.{CanTakeBack, WritesBelow}
 use Rattle.cilk_machine_undo.specs.Undo.{undone}
 use Rattle.cilk_machine_undo.specs.Words.{answered_by, machine_in}
-use Rattle.cilk_machine_undo.proofs.Hands.{there-after}
+use Rattle.cilk_machine_undo.proofs.HandsBack.{there-after}
 use Rattle.cilk_machine_undo.proofs.HandsTaken.{as-mapped}
 use Rattle.cilk_machine_undo.proofs.taking.answered_back.Goals as goal
 

@@ -11,7 +11,7 @@ use Rattle.cilk_machine.proofs.machine.Machine.look.Goals as goal
 
 pub look_ahead-requires-clause-fits : goal.look_ahead-requires-clause-fits
 look_ahead-requires-clause-fits c =
-    fits-here c.args.self.now (subst IsSound c.self.view_is c.self.invariant.0) c.args.worker c.requires.worker c.in-Some.frame.now
+    fits-here c.args.self.now (subst IsSound c.self.view_is c.self.invariant.sound) c.args.worker c.requires.worker c.in-Some.frame.now
     (c.in-Some.ensures ∙ ap (λ (x : Situation). hand_of x.machine.places c.args.worker) c.self.view_is) (input_of c.scene.result) c.scene.ensures
 
 pub returns-in-Ok-clause-looks : goal.returns-in-Ok-clause-looks

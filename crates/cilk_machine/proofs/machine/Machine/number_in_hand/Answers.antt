@@ -8,5 +8,5 @@ use Rattle.cilk_machine.proofs.machine.Machine.number_in_hand.Goals as goal
 
 pub number_ahead-requires-clause-fits : goal.number_ahead-requires-clause-fits
 number_ahead-requires-clause-fits c =
-    fits-here c.args.self.now (subst IsSound c.self.view_is c.self.invariant.0) c.args.worker c.requires.worker c.in-Some.frame.now
+    fits-here c.args.self.now (subst IsSound c.self.view_is c.self.invariant.sound) c.args.worker c.requires.worker c.in-Some.frame.now
     (c.in-Some.ensures ∙ ap (λ (x : Situation). hand_of x.machine.places c.args.worker) c.self.view_is) (input_of c.scene.result) c.scene.ensures

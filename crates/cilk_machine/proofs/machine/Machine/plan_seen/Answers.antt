@@ -1,7 +1,7 @@
 use Rattle.std.proofs.Common.{ap, ◌∙◌}
 use Rattle.std.specs.Prelude.{option_and_then}
 use Rattle.cilk_machine_choices.specs.model.Hands.{hand_of}
-use Rattle.cilk_machine_carry.specs.plans.Made.{planned}
+use Rattle.cilk_machine_undo.specs.plans.Made.{planned}
 use Rattle.cilk_machine_step.specs.Scenes.{input_of}
 use Rattle.cilk_machine_step.specs.Peeks.{peek_in}
 use Rattle.cilk_machine.specs.Situation.{Situation}

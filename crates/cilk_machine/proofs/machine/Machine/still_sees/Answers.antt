@@ -11,7 +11,7 @@ use Rattle.cilk_machine.proofs.machine.Machine.still_sees.Goals as goal
 
 pub is_seen-requires-clause-fits : goal.is_seen-requires-clause-fits
 is_seen-requires-clause-fits c =
-    fits-here c.args.self.now (subst IsSound c.self.view_is c.self.invariant.0) c.args.worker c.requires.worker c.in-Some.frame.now
+    fits-here c.args.self.now (subst IsSound c.self.view_is c.self.invariant.sound) c.args.worker c.requires.worker c.in-Some.frame.now
     (c.in-Some.ensures ∙ ap (λ (x : Situation). hand_of x.machine.places c.args.worker) c.self.view_is) (input_of c.scene.result) c.scene.ensures
 
 pub returns : goal.returns

@@ -8,5 +8,5 @@ use Rattle.cilk_machine.proofs.machine.Machine.still_taken_down.Goals as goal
 
 pub is_still_seen-requires-clause-fits : goal.is_still_seen-requires-clause-fits
 is_still_seen-requires-clause-fits c =
-    fits-here c.args.self.now (subst IsSound c.self.view_is c.self.invariant.0) c.args.worker c.requires.worker c.in-Some.frame.now
+    fits-here c.args.self.now (subst IsSound c.self.view_is c.self.invariant.sound) c.args.worker c.requires.worker c.in-Some.frame.now
     (c.in-Some.ensures ∙ ap (λ (x : Situation). hand_of x.machine.places c.args.worker) c.self.view_is) (input_of c.scene.result) c.scene.ensures

@@ -1,5 +1,0 @@
-use Rattle.cilk_laws_allowed.proofs.Kept.{each_in_order}
-use Rattle.cilk_laws_allowed.proofs.laws.each_state_is_in_order.Goals as goal
-
-pub returns : goal.returns
-returns c = each_in_order

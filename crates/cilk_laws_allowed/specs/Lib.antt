@@ -1,9 +1,0 @@
-pub mod Told
-pub mod Order
-pub mod Kept
-pub mod Forced
-pub mod OneState
-pub mod Synched
-pub use Rattle.cilk_laws_placed.specs.model
-pub use Rattle.cilk_laws_placed.specs.labelled
-pub use Rattle.cilk_laws_placed.specs.scopes

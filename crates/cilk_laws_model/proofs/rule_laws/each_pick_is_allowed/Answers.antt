@@ -1,0 +1,5 @@
+use Rattle.cilk_laws_model.proofs.Rules.{each_pick_is_allowed}
+use Rattle.cilk_laws_model.proofs.rule_laws.each_pick_is_allowed.Goals as goal
+
+pub returns : goal.returns
+returns c = each_pick_is_allowed

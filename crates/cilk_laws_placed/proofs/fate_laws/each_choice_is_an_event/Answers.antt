@@ -1,5 +1,0 @@
-use Rattle.cilk_laws_placed.proofs.Fates.{each_choice_is_an_event}
-use Rattle.cilk_laws_placed.proofs.fate_laws.each_choice_is_an_event.Goals as goal
-
-pub returns : goal.returns
-returns c = each_choice_is_an_event

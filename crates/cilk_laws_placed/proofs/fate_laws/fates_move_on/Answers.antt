@@ -1,5 +1,0 @@
-use Rattle.cilk_laws_placed.proofs.Fates.{fates_move_on}
-use Rattle.cilk_laws_placed.proofs.fate_laws.fates_move_on.Goals as goal
-
-pub returns : goal.returns
-returns c = fates_move_on

@@ -1,5 +1,0 @@
-use Rattle.cilk_laws_placed.proofs.Limits.{limits_are_kept}
-use Rattle.cilk_laws_placed.proofs.laws.limits_are_kept.Goals as goal
-
-pub returns : goal.returns
-returns c = limits_are_kept

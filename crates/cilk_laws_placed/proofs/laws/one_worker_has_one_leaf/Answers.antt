@@ -1,5 +1,0 @@
-use Rattle.cilk_laws_placed.proofs.Crew.{one_worker_has_one_leaf}
-use Rattle.cilk_laws_placed.proofs.laws.one_worker_has_one_leaf.Goals as goal
-
-pub returns : goal.returns
-returns c = one_worker_has_one_leaf
