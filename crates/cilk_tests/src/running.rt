@@ -12,6 +12,7 @@ mod instances;
 mod schedules;
 mod script;
 mod streams;
+mod undone;
 mod workers;
 
 use cilk_commands::ready_of;
