@@ -8,3 +8,8 @@ mod Commands
 mod Ends
 pub mod Again
 pub mod Whole
+pub mod Found
+pub mod Onward
+pub mod Tracks
+pub mod Restores
+pub use Rattle.cilk_machine.proofs as machine_laws

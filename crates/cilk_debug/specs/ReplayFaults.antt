@@ -1,8 +1,9 @@
 -- Why choices cannot be made again.
 use Rattle.std.specs.Prelude.{◌≡◌, ℕ, suc, ⊤, List, Option, Some, true, false}
+use Rattle.cilk_machine.specs.syntax.Tree.{Program}
 use Rattle.cilk_debug_console.specs.syntax.ProgramText.{program_text}
 use Rattle.cilk_debug_console.specs.log.Naming.{is_of}
-use Rattle.cilk_debug_console.specs.model.Choice.{Refusal}
+use Rattle.cilk_debug_console.specs.model.Choice.{Choice, Refusal}
 use Rattle.cilk_debug_console.specs.model.Run.{is_crew}
 use Rattle.cilk_debug_console.specs.choices.declared.refusal.Refusal as code
 use Rattle.cilk_debug_console.specs.choices.Words.{reason_of}
@@ -24,6 +25,10 @@ IsFaultOf t OtherProgram = ⊥
 IsFaultOf t Workers = is_crew t.workers ≡ false
 IsFaultOf t (BadChoice k refusal) = IsFirst t k refusal
 IsFaultOf t Memory = ⊤
+
+-- whatever the choices are
+abbrev pub IsFaultOfAll : Program → ℕ → ReplayFault → Type 0
+IsFaultOfAll program workers why = (choices : List Choice) → IsFaultOf (record { program = program; workers = workers; choices = choices }) why
 
 -- of a schedule which may name its program: it is of another, or else that holds
 abbrev pub IsNamedFaultOf : Option (List ℕ) → Tape → ReplayFault → Type 0

@@ -3,7 +3,10 @@
 
 mod debugger;
 mod fault;
+mod finding;
+mod going;
 mod obeying;
+mod player;
 mod playing;
 mod position;
 mod replay_fault;
@@ -12,11 +15,12 @@ mod seeking;
 mod session;
 mod session_fault;
 mod stopping;
+mod track;
 
 pub use cilk_debug_console::{Choices, InputFault, Log, LogFault, read_log, write_log};
-pub use cilk_machine::{ViewFault, What};
+pub use cilk_machine::{Act, Choice, Did, Id, Loaded, Machine, Memory, ViewFault, What};
 pub use debugger::Debugger;
 pub use fault::DebugFault;
-pub use playing::{is_crew, make_again, play, play_all};
+pub use playing::{is_crew, is_other, make_again, play, play_all};
 pub use replay_fault::ReplayFault;
 pub use session_fault::SessionFault;

@@ -10,6 +10,9 @@ ghost use Rattle.cilk_debug_console.specs.model.Run.{is_crew};
 ghost use Rattle.cilk_debug_console.specs.choices.Words.{choice_of, reason_of};
 ghost use Rattle.cilk_machine.specs.spawn.Nodes.{path_at};
 ghost use Rattle.cilk_machine.specs.carries.Words.{event_by};
+ghost use Rattle.cilk_machine.specs.Checkpoints.{IsEarlier};
+ghost use Rattle.cilk_machine.specs.Situation.{Situation};
+ghost use Rattle.cilk_debug.specs.Going.{Goes};
 ghost use Rattle.cilk_debug.specs.Tape.{Tape, tape_of, did_at, IsAt, IsBad};
 ghost use Rattle.cilk_debug.specs.ReplayFaults.{IsFaultOf, IsNamedFaultOf};
 
@@ -26,7 +29,7 @@ pub fn is_crew(workers: u8) -> bool
 }
 
 /// Whether a recorded schedule tells that it is of another program than this. One that tells none is looked at without memory.
-pub(crate) fn is_other(program: &Loaded, log: &Log) -> Result<bool, Memory>
+pub fn is_other(program: &Loaded, log: &Log) -> Result<bool, Memory>
     ensures other { IfOk result (λ other. other ≡ not (is_of log.now.program (program_text program.now))) }
     ensures unnamed { log.now.program ≡ None → result ≡ Ok false }
 {
@@ -104,7 +107,7 @@ fn make_first(machine: Machine, choices: &[Choice], count: usize) -> Result<Mach
 }
 
 /// The program before any choice.
-fn opened(alloc: Global, program: Loaded, workers: u8) -> Result<Machine, ReplayFault>
+pub(crate) fn opened(alloc: Global, program: Loaded, workers: u8) -> Result<Machine, ReplayFault>
     ensures none { IfOk result (λ m. m.choices ≡ 0) }
     ensures stands { IfOk result (λ m. (choices : List model.Choice) → IsAt (record { program = program; workers = workers; choices = choices }) 0 m) }
     ensures told { IfErr result (λ why. (choices : List model.Choice) → IsFaultOf (record { program = program; workers = workers; choices = choices }) why) }
@@ -129,6 +132,8 @@ pub fn make_again(
     ensures made { OnOk result (machine.new.choices ≡ suc made) }
     ensures did { IfOk result (λ did. (t : Tape) → t.choices ≡ map choice_of choices.now → IsAt t made machine.old
         → did_at t made ≡ Some (event_by (path_at machine.old.machine.nodes) (path_at machine.new.machine.nodes) did)) }
+    ensures goes { OnOk result ((t : Tape) → t.choices ≡ map choice_of choices.now → Goes t machine.old → Goes t machine.new) }
+    ensures tells { OnOk result ((m : Situation) → IsEarlier m machine.old → IsEarlier m machine.new) }
     ensures told { IfErr result (λ why. (t : Tape) → t.choices ≡ map choice_of choices.now → IsAt t made machine.old → IsFaultOf t why) }
     ensures unchanged { OnErr result (machine.new ≡ machine.old) }
 {

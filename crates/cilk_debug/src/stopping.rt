@@ -1,9 +1,10 @@
 //! Whether a move stops at a choice: the breakpoints, and the action that a choice acted.
 
-ghost use Rattle.std.specs.Prelude.{◌≡◌, ℕ};
+ghost use Rattle.std.specs.Prelude.{◌≡◌, ℕ, Some};
 ghost use Rattle.cilk_debug_console.specs.model.Path.{Path};
 ghost use Rattle.cilk_machine.specs.carries.Words.{event_by};
 ghost use Rattle.cilk_debug.specs.Breaks.{number_of, is_set, stops_at};
+ghost use Rattle.cilk_debug.specs.Tracks.{action_of};
 
 use cilk_machine::Did;
 
@@ -19,7 +20,15 @@ fn number_of(did: Did) -> Option<u32>
     }
 }
 
-fn is_set(marks: &[bool], n: u32) -> bool
+/// The number of the action that was taken, and 0 where none was.
+pub(crate) fn action_of(did: Did) -> u32
+    ensures { (up : ℕ → Path) (now : ℕ → Path) → result ≡ action_of (Some (event_by up now did)) }
+{
+    number_of(did).unwrap_or(0)
+}
+
+/// Whether a breakpoint is set at an action.
+pub(crate) fn is_set(marks: &[bool], n: u32) -> bool
     ensures { result ≡ is_set marks.now n }
 {
     match n.checked_sub(1) {

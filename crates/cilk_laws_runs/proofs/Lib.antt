@@ -22,6 +22,4 @@ pub mod Named
 pub mod Labels
 pub mod CallBodies
 pub mod CallRuns
-pub mod Cells
-pub mod Instances
 pub mod OneStanding

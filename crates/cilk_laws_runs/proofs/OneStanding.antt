@@ -1,8 +1,6 @@
 -- A machine stands at one standing: each live instance has a frame, with a worker or parked.
-use Rattle.std.proofs.Common.{◌≡◌, ◌<◌, ℕ, ◌+◌, Bool, true, false, cond, List, [], ◌∷◌, length, Option, Some, None, is_some, refl, sym, ap, ◌∙◌, subst, arith}
-use Rattle.std.specs.Prelude.{All, IfSome, sum_by, count_by}
-use Rattle.std.proofs.lemmas.List.Sums.{sum_by-cons}
-use Rattle.std.proofs.lemmas.List.Elements.{All-head, All-tail}
+use Rattle.std.proofs.Common.{◌≡◌, ◌<◌, ℕ, ◌+◌, true, false, cond, List, length, Option, Some, None, is_some, refl, sym, ap, ◌∙◌, subst}
+use Rattle.std.specs.Prelude.{sum_by}
 use Rattle.cilk_check.specs.syntax.Tree.{Program}
 use Rattle.cilk_check.specs.scopes.WellFormed.{WellFormed}
 use Rattle.cilk_laws_model.specs.labelled.Bodies.{label}
@@ -10,7 +8,6 @@ use Rattle.cilk_laws_model.specs.model.Path.{Path, same_path}
 use Rattle.cilk_laws_model.specs.model.Instance.{Instance}
 use Rattle.cilk_laws_model.specs.model.State as state
 use Rattle.cilk_laws_model.specs.model.State.{Instances}
-use Rattle.cilk_laws_model.specs.model.Hands.{WorkerOf}
 use Rattle.cilk_laws_model.specs.model.Scheduler.{Worker}
 use Rattle.cilk_laws_model.specs.model.Run.{Standing}
 use Rattle.cilk_laws_model.specs.Hands.{times_held, EachInItsPlace}
@@ -22,7 +19,7 @@ use Rattle.cilk_machine.specs.spawn.Nodes.{Node, node_at, is_live, path_at}
 use Rattle.cilk_machine.proofs.spawn_laws.Lists.{map_those}
 use Rattle.cilk_machine.proofs.spawn_laws.Trees.{live_there, names}
 use Rattle.cilk_machine.specs.sched.Count as hands
-use Rattle.cilk_machine.specs.sched.Count.{once, count_where, AllAt, AllHeld}
+use Rattle.cilk_machine.specs.sched.Count.{count_where}
 use Rattle.cilk_machine.proofs.sched_laws.Names.{named-held}
 use Rattle.cilk_machine.specs.agree.Alike.{procedure_in}
 use Rattle.cilk_machine.specs.agree.Agrees.{MachineParts, Agrees, Held, entry_of, name_in, read_off}
@@ -31,51 +28,10 @@ use Rattle.cilk_machine.proofs.agree_laws.Found.{found}
 use Rattle.cilk_machine.proofs.agree_laws.Frames.{held-both}
 use Rattle.cilk_machine.specs.Situation.{Situation, workers_of}
 use Rattle.cilk_machine.specs.Stands.{StandsAt}
-use Rattle.cilk_laws_runs.proofs.Cells.{one-values}
-use Rattle.cilk_laws_runs.proofs.Instances.{one-instance}
-
--- where some frame of a worker passes a test
-module _ (P : Frame → Type 0) (test : Frame → Bool) where
-  record Passes : Type 0 where
-    frame : Frame
-    passes : test frame ≡ true
-    holds : P frame
-
-  by_test : (f : Frame) (b : Bool) → test f ≡ b → P f → (n : ℕ) → 0 < cond b 1 0 + n → (0 < n → Passes) → Passes
-  by_test f true is here n some rest = record { frame = f; passes = is; holds = here }
-  by_test f false is here n some rest = rest (omega (arith, some))
-
-  in-hand : (hand : Option Frame) → IfSome hand P → (n : ℕ) → 0 < once test hand + n → (0 < n → Passes) → Passes
-  in-hand None here n some rest = rest (omega (arith, some))
-  in-hand (Some f) here n some rest = by_test f (test f) refl here n some rest
-
-  in-deque : (deque : List Frame) → All P deque → (n : ℕ) → 0 < count_by test deque + n → (0 < n → Passes) → Passes
-  in-deque [] all n some rest = rest (omega (arith, some))
-  in-deque (f ∷ deque) all n some rest =
-      by_test f (test f) refl (All-head P f deque all) (count_by test deque + n)
-      (omega (arith, some, sum_by-cons (λ (g : Frame). cond (test g) 1 0) f deque))
-      (λ more. in-deque deque (All-tail P f deque all) n more rest)
-
-  in-places : (places : List (WorkerOf Frame)) → AllHeld P places → 0 < count_where test places → Passes
-  in-places [] all some = absurd (omega (arith, some))
-  in-places (at ∷ places) all some =
-      let here = All-head (AllAt P) at places all in
-      in-hand at.hand here.0 (count_by test at.deque + count_where test places)
-      (omega (arith, some, sum_by-cons (hands.times_held test) at places))
-      (λ more. in-deque at.deque here.1 (count_where test places) more (in-places places (All-tail (AllAt P) at places all)))
-
--- one that lives and is not parked is in a place
-some_placed : (n : ℕ) (parked live : Bool) → n + cond parked 1 0 ≡ cond live 1 0 → live ≡ true → parked ≡ false → 0 < n
-some_placed n true live e lives free = cc
-some_placed n false true e lives free = omega (arith, e)
-some_placed n false false e lives free = cc
-
--- so many places leave one mark
-same_mark : (n : ℕ) (x y : Bool) → n + cond x 1 0 ≡ n + cond y 1 0 → x ≡ y
-same_mark n true true e = refl
-same_mark n true false e = absurd (omega (arith, e))
-same_mark n false true e = absurd (omega (arith, e))
-same_mark n false false e = refl
+use Rattle.cilk_machine_same.proofs.Cells.{one-values}
+use Rattle.cilk_machine_same.proofs.Instances.{one-instance}
+use Rattle.cilk_machine_same.proofs.explore_laws.Standings.{one_mark}
+use Rattle.cilk_machine_same.proofs.Passing.{Passes, in-places, some_placed}
 
 module _ (p : Program) (well : WellFormed p) (m : MachineParts) (who other : ℕ → Instance) (a b : Standing) (h : Agrees p m who a) (k : Agrees p m other b)
     (placed : EachInItsPlace a) (beside : EachInItsPlace b) where
@@ -132,7 +88,7 @@ module _ (p : Program) (well : WellFormed p) (m : MachineParts) (who other : ℕ
   -- an instance that lives is in one place, so that whether it is parked is told by the places
   one-parked : (q : Path) → a.scheduler.parked q ≡ b.scheduler.parked q
   one-parked q =
-      same_mark (sum_by (times_held q) a.scheduler.places) (a.scheduler.parked q) (b.scheduler.parked q)
+      one_mark (sum_by (times_held q) a.scheduler.places) (a.scheduler.parked q) (b.scheduler.parked q)
       (placed.once q ∙ ap (λ (es : Instances). cond (state.is_live es q) 1 0) one-instances ∙ sym (beside.once q)
       ∙ ap (λ (places : List Worker). sum_by (times_held q) places + cond (b.scheduler.parked q) 1 0) (sym one-places))
 

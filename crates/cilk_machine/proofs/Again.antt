@@ -21,7 +21,7 @@ outcome-by (Finished z) h = cc
 outcome-by (Trapped kind path n) h = cc
 
 -- it was possible, so the program ran
-ran : (m n : Situation) (choice : Choice) (did : Event) (at : Standing) → StandsAt m at → Makes m n choice did → m.outcome ≡ Running
+pub ran : (m n : Situation) (choice : Choice) (did : Event) (at : Standing) → StandsAt m at → Makes m n choice did → m.outcome ≡ Running
 ran m n choice did at s made =
     let leads = made.leads s.choices s.events at s.led in
     let other : Option Refusal =

@@ -20,6 +20,9 @@ use Rattle.cilk_machine_undo.specs.agree.Fated.{Follows, Fated}
 use Rattle.cilk_machine_undo.proofs.agree_laws.Asked.{placed}
 use Rattle.cilk_machine_undo.proofs.agree_laws.Found.{read-agrees}
 use Rattle.cilk_machine_undo.proofs.agree_laws.Waits.{pop, steal}
+use Rattle.cilk_machine_undo.specs.Growth.{MachineGrows}
+use Rattle.cilk_machine_undo.proofs.Growth.{pops-grow, steals-grow}
+use Rattle.cilk_machine_undo.proofs.Printed.{prints-none}
 use Rattle.cilk_machine_choices.specs.declared.choice.Choice.{Choice}
 use Rattle.cilk_machine_choices.specs.declared.act.Act.TheVariants.{Pop, Steal}
 use Rattle.cilk_machine_choices.specs.declared.outcome.Outcome.{Outcome}
@@ -57,7 +60,7 @@ Goes m now outcome choice did =
 
 module _ (m : Situation) (now : MachineParts) (outcome : Outcome) (choice : model.Choice) (did : Event) where
   -- one choice more was made from the start
-  after-one : (choices : List model.Choice) (events : List Event) (at : Standing) → Led m choices events at → Next m now outcome choice did at
+  pub after-one : (choices : List model.Choice) (events : List Event) (at : Standing) → Led m choices events at → Next m now outcome choice did at
       → after (label m.program) (workers_of m) (choices ++ choice ∷ [])
       ≡ Some (record { standing = next_of (label m.program) at choice; events = events ++ did ∷ [] })
   after-one choices events at h n =
@@ -88,9 +91,9 @@ module _ (m : Situation) (now : MachineParts) (outcome : Outcome) (choice : mode
       (after-one choices events at h n) (path_at now.nodes i)).1
       (ap is_some (known.found i live))
 
-  fated_on : (choices : List model.Choice) (events : List Event) (at : Standing) → Led m choices events at → Next m now outcome choice did at
+  pub fated-on : (choices : List model.Choice) (events : List Event) (at : Standing) → Led m choices events at → Next m now outcome choice did at
       → Fated (label m.program) now.nodes (events ++ did ∷ [])
-  fated_on choices events at h n =
+  fated-on choices events at h n =
       let many = each_choice_is_an_event (label m.program) (workers_of m) choices (record { standing = at; events = events }) h.led in
       let number : m.choices + 1 ≡ suc (length events) = (let c = h.counted in omega (arith, many, c)) in
       fates-are-kept (label m.program) m.machine.nodes now.nodes events did n.agrees.tree h.fated
@@ -106,12 +109,12 @@ module _ (m : Situation) (now : MachineParts) (outcome : Outcome) (choice : mode
       counted = length-append choices (choice ∷ []) ∙ ap (λ k. k + 1) h.counted;
       outcome = n.outcome_is;
       agrees = read-agrees m.program now n.who (next_of (label m.program) at choice) n.agrees;
-      fated = fated_on choices events at h n;
+      fated = fated-on choices events at h n;
     };
   }
 
-  pub makes : IsSound m → Goes m now outcome choice did → Makes m (moved_to m now outcome) choice did
-  makes sound goes =
+  pub makes : IsSound m → Goes m now outcome choice did → MachineGrows (m.choices + 1) m.machine now → Makes m (moved_to m now outcome) choice did
+  makes sound goes grows =
       let old = sound.stands in
       let crew = same_crew old.choices old.events sound.at old.led (goes old.choices old.events sound.at old.led) in
       record {
@@ -121,6 +124,7 @@ module _ (m : Situation) (now : MachineParts) (outcome : Outcome) (choice : mode
         keeps = refl;
         past = refl;
         leads = λ choices events at h. leads_on crew choices events at h (goes choices events at h);
+        grows = grows;
       }
 
   -- a machine after a choice is sound again
@@ -148,6 +152,7 @@ told-as m n choice did other made does = record {
       let leads = made.leads choices events at h in
       let same : did ≡ other = leads.event ∙ sym (does at (record { choices = choices; events = events; led = h })) in
       subst (λ (e : Event). Leads m n choice e choices events at) same leads;
+  grows = made.grows;
 }
 
 pub free-is : (m : Situation) → WellFormed m.program → (choice : Choice) → refused_by m choice ≡ None
@@ -170,7 +175,7 @@ makes-pop m sound w free =
       who = read_off m.program m.machine at;
       agrees = pop m.program m.machine (read_off m.program m.machine at) at h.agrees w;
       follows = moved-follows m;
-    })
+    }) (record { nodes = pops-grow (m.choices + 1) m.machine w; output = prints-none m.machine.outside.output })
 
 pub makes-steal : (m : Situation) → IsSound m → (w v : ℕ) → refused_by m (record { worker = w; act = Steal v }) ≡ None
     → Makes m (moved_to m (record m.machine { places = stolen_by m.machine.places w v }) m.outcome) (record { worker = w; act = model.steal v }) event.moved
@@ -183,4 +188,4 @@ makes-steal m sound w v free =
       who = read_off m.program m.machine at;
       agrees = steal m.program m.machine (read_off m.program m.machine at) at h.agrees w v;
       follows = moved-follows m;
-    })
+    }) (record { nodes = steals-grow (m.choices + 1) m.machine w v; output = prints-none m.machine.outside.output })

@@ -19,6 +19,7 @@ pub mod Kept
 pub mod Moved
 pub mod Back
 pub mod Again
+pub mod Unseen
 pub use Rattle.cilk_machine_undo.proofs.agree_laws
 pub use Rattle.cilk_machine_undo.proofs.frame_laws
 pub use Rattle.cilk_machine_undo.proofs.nodes_laws
@@ -26,3 +27,4 @@ pub use Rattle.cilk_machine_undo.proofs.runs_laws
 pub use Rattle.cilk_machine_undo.proofs.sched_laws
 pub use Rattle.cilk_machine_undo.proofs.spawn_laws
 pub use Rattle.cilk_machine_choices.proofs as choices_laws
+pub mod Checkpoints

@@ -1,5 +1,5 @@
 -- The step of the instance in a worker's hand, carried out.
-use Rattle.std.proofs.Common.{◌≡◌, ℕ, ◌+◌, Bool, Option, Some, None, refl, sym, ap, ◌∙◌, subst, arith}
+use Rattle.std.proofs.Common.{◌≡◌, ℕ, suc, ◌+◌, ◌++◌, ◌∷◌, [], length, Bool, Option, Some, None, refl, sym, ap, ◌∙◌, subst, arith}
 use Rattle.std.specs.Prelude.{List, option_map}
 use Rattle.cilk_machine_undo.specs.syntax.Tree.{Program}
 use Rattle.cilk_machine_undo.specs.agree.scopes.WellFormed.{WellFormed}
@@ -13,10 +13,10 @@ use Rattle.cilk_machine_choices.specs.model.Hands.{IsWorker, hand_of}
 use Rattle.cilk_machine_undo.specs.nodes.declared.body.Body.{Body}
 use Rattle.cilk_machine_undo.proofs.effects_laws.Room.{variables, globals}
 use Rattle.cilk_machine_undo.specs.frame.Frames.{Frame}
-use Rattle.cilk_machine_undo.specs.spawn.Nodes.{Node, path_at}
+use Rattle.cilk_machine_undo.specs.spawn.Nodes.{Node, path_at, IsTree}
 use Rattle.cilk_machine_undo.specs.agree.Outside as outside
-use Rattle.cilk_machine_undo.specs.agree.Agrees.{Agrees, name_in}
-use Rattle.cilk_machine_undo.specs.agree.Fated.{Follows}
+use Rattle.cilk_machine_undo.specs.agree.Agrees.{MachineParts, Agrees, name_in}
+use Rattle.cilk_machine_undo.specs.agree.Fated.{Follows, Fated}
 use Rattle.cilk_machine_undo.specs.agree.Laws.{InHand}
 use Rattle.cilk_machine_undo.specs.plans.declared.plan.Plan.{Plan}
 use Rattle.cilk_machine_undo.specs.plans.declared.plan.Plan.TheVariants as plan
@@ -28,21 +28,28 @@ use Rattle.cilk_machine_undo.specs.carries.declared.did.Done.{Done}
 use Rattle.cilk_machine_undo.specs.carries.declared.parts.Parts.{Parts}
 use Rattle.cilk_machine_undo.specs.carries.Words as carries
 use Rattle.cilk_machine_undo.specs.carries.Words.{machine_of, event_by}
-use Rattle.cilk_machine_undo.specs.carries.Carries.{CellsAreFew, Starts, Planned, CanCarry, Carries}
+use Rattle.cilk_machine_undo.specs.carries.Carried.{after_plan}
+use Rattle.cilk_machine_undo.specs.carries.Carries.{Becomes, CellsAreFew, Starts, Planned, CanCarry, Carries}
+use Rattle.cilk_machine_undo.specs.carries.Ready.{Ready}
+use Rattle.cilk_machine_undo.specs.Growth.{MachineGrows}
+use Rattle.cilk_machine_undo.proofs.carries_laws.Whole.{ready-there}
+use Rattle.cilk_machine_undo.proofs.Growth.{plan-grows}
+use Rattle.cilk_machine_undo.proofs.Printed.{plan-prints}
+use Rattle.cilk_machine_undo.proofs.Within.{taken-once}
 use Rattle.cilk_machine_step.specs.Scenes.{HeadFits}
 use Rattle.cilk_machine_step.proofs.Fits.{head-fits}
 use Rattle.cilk_machine_choices.specs.declared.act.Act.TheVariants.{Step}
 use Rattle.cilk_machine_choices.specs.declared.outcome.Outcome.{Outcome}
 use Rattle.cilk_machine_choices.specs.declared.outcome.Outcome.TheVariants.{Running}
 use Rattle.cilk_machine_choices.specs.Words.{outcome_of}
-use Rattle.cilk_machine.specs.Situation.{Before, Situation, input_at, outcome_at}
+use Rattle.cilk_machine.specs.Situation.{Before, Situation, input_at, outcome_at, workers_of}
 use Rattle.cilk_machine.specs.Stands.{Led, IsSound}
 use Rattle.cilk_machine.specs.Refused.{planned_by, planned_in, refused_by}
 use Rattle.cilk_machine.specs.Made.{Makes, Does}
 use Rattle.cilk_machine.specs.Told.{event_in, HasPaths, started_number, body_numbered, body_started, trapped_path, outcome_with, trapper_of, IsTrapPath}
 use Rattle.cilk_machine.proofs.Refusals.{in-hand-of, plan-in, hand-is}
 use Rattle.cilk_machine.proofs.Told.{event-told, paths-there, trapped-there, outcome-told, outcome-at}
-use Rattle.cilk_machine.proofs.Leading.{moved_to, Next, makes, free-is}
+use Rattle.cilk_machine.proofs.Leading.{moved_to, Next, makes, after-one, fated-on, free-is}
 use Rattle.cilk_machine.proofs.Free.{Frees, frees, Steps, step-free, free-old}
 
 few-cells : (p : Program) → WellFormed p → CellsAreFew (label p)
@@ -159,18 +166,46 @@ module _ (m : Situation) (w : ℕ) (sound : IsSound m) (free : refused_by m (rec
           follows = subst (Follows (label m.program) (m.choices + 1) m.machine.nodes now.tree.nodes) (sym s.event) s.follows;
         }
 
+    -- what had ended and what was printed are as they were
+    step-grows : (now : Parts) (done : Done) (path : Path) → path ≡ trapped_path m.machine.nodes f.id x → Carries (m.choices + 1) parts w body x now done
+        → Becomes (m.choices + 1) parts w body x now done → MachineGrows (m.choices + 1) m.machine (machine_of now (carries.outcome_of done.outcome))
+    step-grows now done path named carried becomes =
+        let s = sound.stands in
+        let old : MachineParts = machine_of parts outside.running in
+        let new = machine_of now (carries.outcome_of done.outcome) in
+        let did = event_by (path_at m.machine.nodes) (path_at now.tree.nodes) done.did in
+        let next = next-there now done path named carried s.choices s.events sound.at s.led in
+        let held : hand_of parts.hands w ≡ Some f = ap (λ (y : MachineParts). hand_of y.places w) (sym is_parts) ∙ it.held in
+        let tree = subst (λ (y : MachineParts). IsTree y.nodes) is_parts s.led.agrees.tree in
+        let ready = ready-there (m.choices + 1) parts w body x can-carry f held in
+        let number : m.choices + 1 ≡ suc (length s.choices) = (let counted = s.led.counted in omega (arith, counted)) in
+        let later : new ≡ after_plan (m.choices + 1) old w f body x = (becomes f held).machine in
+        let fated = fated-on m new (outcome_with path done.outcome) (stepping w) did s.choices s.events sound.at s.led next in
+        let once = taken-once (label m.program) (workers_of m) s.choices (stepping w) _ _ s.led.led
+        (after-one m new (outcome_with path done.outcome) (stepping w) did s.choices s.events sound.at s.led next) old w f body x tree
+        (subst (λ n. Ready n parts.tree.nodes parts.globals.items f body x) number ready)
+        (subst (λ (y : MachineParts). Fated (label m.program) y.nodes s.events) is_parts s.led.fated)
+        (subst (λ n. Fated (label m.program) (after_plan n old w f body x).nodes (s.events ++ did ∷ [])) number
+        (subst (λ (y : MachineParts). Fated (label m.program) y.nodes (s.events ++ did ∷ [])) later fated)) in
+        subst (λ (y : MachineParts). MachineGrows (m.choices + 1) y new) (sym is_parts)
+        (subst (MachineGrows (m.choices + 1) old) (sym later) (record {
+          nodes = plan-grows (m.choices + 1) old w f body x tree ready once;
+          output = plan-prints (m.choices + 1) old w f body x;
+        }))
+
     pub step-made : (now : Parts) (done : Done) (path : Path) → path ≡ trapped_path m.machine.nodes f.id x → Carries (m.choices + 1) parts w body x now done
+        → Becomes (m.choices + 1) parts w body x now done
         → Makes m
         (moved_to m (machine_of now (outcome_at (trapper_of done.outcome) (outcome_with path done.outcome)))
         (outcome_with path done.outcome)) (stepping w)
         (event_by (path_at m.machine.nodes) (path_at now.tree.nodes) done.did)
-    step-made now done path named carried =
+    step-made now done path named carried becomes =
         subst
         (λ o. Makes m (moved_to m (machine_of now o) (outcome_with path done.outcome)) (stepping w)
         (event_by (path_at m.machine.nodes) (path_at now.tree.nodes) done.did))
         (sym (outcome-at path done.outcome))
         (makes m (machine_of now (carries.outcome_of done.outcome)) (outcome_with path done.outcome) (stepping w) _ sound
-        (next-there now done path named carried))
+        (next-there now done path named carried) (step-grows now done path named carried becomes))
 
 -- the same of a frame that was looked at
 one_frame : (f g : Frame) (o : Option Frame) → Some f ≡ o → o ≡ Some g → g ≡ f
@@ -255,17 +290,19 @@ module _ (program : Program) (parts : Parts) (trapper : ℕ) (outcome : Outcome)
     whole-carries = can-carry whole w c.sound c.free parts parts_are body x c.planned starts_is
 
     pub whole-made : (now : Parts) (done : Done) (came : ℕ) (stands : Outcome) → Carries (choices + 1) parts w body x now done
+        → Becomes (choices + 1) parts w body x now done
         → came ≡ trapper_of done.outcome → stands ≡ outcome_with path done.outcome
         → Makes whole (moved_to whole (machine_of now (outcome_at came stands)) stands) (stepping w)
         (event_by (path_at parts.tree.nodes) (path_at now.tree.nodes) done.did)
-    whole-made now done came stands carried came_is stands_is =
+    whole-made now done came stands carried becomes came_is stands_is =
         let s = it whole w c.sound c.free in
         subst
         (λ i. Makes whole (moved_to whole (machine_of now (outcome_at i stands)) stands) (stepping w)
         (event_by (path_at parts.tree.nodes) (path_at now.tree.nodes) done.did)) (sym came_is)
         (subst (λ o. Makes whole (moved_to whole (machine_of now (outcome_at (trapper_of done.outcome) o)) o) (stepping w)
         (event_by (path_at parts.tree.nodes) (path_at now.tree.nodes) done.did)) (sym stands_is)
-        (step-made whole w c.sound c.free parts parts_are body x c.planned starts_is now done path (c.trap s.frame s.held) carried))
+        (step-made whole w c.sound c.free parts parts_are body x c.planned starts_is now done path (c.trap s.frame s.held) carried
+        becomes))
 
 -- a machine by another name
 pub made-old : (m old n : Situation) (w : ℕ) (ns : List Node) (did : Did) → m ≡ old

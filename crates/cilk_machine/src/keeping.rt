@@ -3,7 +3,7 @@
 ghost use Rattle.std.specs.Prelude.{◌≡◌, ◌<◌, ◌≤◌, ◌+◌, ◌∷◌, [], true, None, vec_len, vec_capacity, IfNone, IfOk, IfSome, OnErr, OnOk};
 ghost use Rattle.std.specs.Option.{option_copied};
 ghost use Rattle.cilk_machine_undo.specs.plans.Words.{plan_of};
-ghost use Rattle.cilk_machine_undo.specs.carries.Carries.{CanCarry, Carries};
+ghost use Rattle.cilk_machine_undo.specs.carries.Carries.{Becomes, CanCarry, Carries};
 ghost use Rattle.cilk_machine_undo.specs.Undo.{popped, stolen};
 ghost use Rattle.cilk_machine_undo.specs.Words.{undo_by, machine_in};
 ghost use Rattle.cilk_machine.specs.Situation.{kept_by};
@@ -33,6 +33,19 @@ pub(crate) fn no_records(alloc: Global, keeps: bool) -> Result<Vec<Undo>, Memory
     }
 }
 
+/// Makes room for one record of each worker, if any are to be kept.
+pub(crate) fn make_room(keeps: bool, records: &mut Vec<Undo>) -> Result<(), Memory>
+    ensures room { OnOk result (keeps ≡ true → vec_len records.new + 64 ≤ vec_capacity records.new) }
+    ensures kept { kept_of records.new.items ≡ kept_of records.old.items }
+    ensures count { vec_len records.new ≡ vec_len records.old }
+    ensures capacity { vec_capacity records.old ≤ vec_capacity records.new }
+{
+    if keeps {
+        records.reserve(WORKERS)?;
+    }
+    Ok(())
+}
+
 /// Carries out a light plan as `carry_lightly` does, and keeps the record of the step. There is room then for one more of each worker.
 /// Where memory has run out, nothing has changed.
 pub(crate) fn carry_lightly_kept(
@@ -44,6 +57,7 @@ pub(crate) fn carry_lightly_kept(
 ) -> Result<Did, NoMemory>
     requires { CanCarry parts.old worker None (plan_of light) }
     ensures done { IfOk result (λ did. Carries choice parts.old worker None (plan_of light) parts.new (record { outcome = Outcome.Running; did = did })) }
+    ensures becomes { IfOk result (λ did. Becomes choice parts.old worker None (plan_of light) parts.new (record { outcome = Outcome.Running; did = did })) }
     ensures adds { OnOk result (Adds parts.old parts.new (kept_of records.old.items) (kept_of records.new.items)) }
     ensures room { OnOk result (vec_len records.new + 64 ≤ vec_capacity records.new) }
     ensures same { OnErr result (machine_in parts.new ≡ machine_in parts.old) }
@@ -74,6 +88,7 @@ pub(crate) fn carry_out_kept(
 ) -> Result<Done, NoMemory>
     requires { CanCarry parts.old worker (option_copied body) plan }
     ensures done { IfOk result (λ done. Carries choice parts.old worker (option_copied body.entry) plan parts.new done) }
+    ensures becomes { IfOk result (λ done. Becomes choice parts.old worker (option_copied body.entry) plan parts.new done) }
     ensures adds { OnOk result (Adds parts.old parts.new (kept_of records.old.items) (kept_of records.new.items)) }
     ensures room { OnOk result (vec_len records.new + 64 ≤ vec_capacity records.new) }
     ensures same { OnErr result (machine_in parts.new ≡ machine_in parts.old) }

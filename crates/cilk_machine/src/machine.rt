@@ -8,15 +8,19 @@ ghost use Rattle.cilk_machine_choices.specs.model.Event as events;
 ghost use Rattle.cilk_machine_choices.specs.model.Fate.{fate_of};
 ghost use Rattle.cilk_machine_choices.specs.model.Run.{Standing};
 ghost use Rattle.cilk_machine_undo.specs.agree.Fated.{fate_named};
+ghost use Rattle.cilk_machine_undo.specs.spawn.Nodes.{node_at};
 ghost use Rattle.cilk_machine_choices.specs.Words.{end_of, outcome_of};
 ghost use Rattle.cilk_view.specs.Shows.{machine_of};
 ghost use Rattle.cilk_machine.specs.Situation.{workers_of};
 ghost use Rattle.cilk_machine.specs.Stands.{Led, StandsAt, Opens};
 ghost use Rattle.cilk_machine.specs.Globals.{global_of};
 
+mod imaging;
 mod looking;
 mod making;
+mod returning;
 mod undoing;
+mod unseen;
 
 use crate::keeping::no_records;
 use crate::opening::first_parts;
@@ -249,6 +253,17 @@ impl Machine {
         match self.parts.tree.find(path) {
             None => None,
             Some(id) => Some(self.parts.tree.fate(id)),
+        }
+    }
+
+    /// Who spawned the instance of this id. The root has no parent, and neither has an id that no instance has.
+    pub fn parent(&self, id: Id) -> Option<Id>
+        ensures { result ≡ (node_at self.now.machine.nodes id).parent }
+    {
+        if id.number() < self.parts.tree.next_id().number() {
+            self.parts.tree.parent(id)
+        } else {
+            None
         }
     }
 

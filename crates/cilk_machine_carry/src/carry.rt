@@ -23,6 +23,7 @@ use cilk_machine_plan::{Body, Frame, Plan};
 
 /// Carries out the plan of the frame in the worker's hand, at this choice. The body is the one of the procedure, the
 /// C function or the inlet that the plan starts. Where memory has run out, nothing has changed.
+#[inline(always)]
 pub fn carry_out(
     worker: u8,
     plan: Plan,

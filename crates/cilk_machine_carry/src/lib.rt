@@ -17,11 +17,11 @@ mod writing;
 
 pub use carry::carry_out;
 pub use cilk_machine_plan::{
-    Area, Body, Fate, Frame, Hands, Id, Light, Lock, Plan, Program, Reached, Receiver, Slots, Tree,
-    Var, held,
+    Area, Body, Fate, Frame, Hands, Id, Light, Lock, Memory, Plan, Program, Reached, Receiver,
+    Slots, Tree, Var, held,
 };
-pub use cilk_sched::Activation;
-pub use cilk_spawn::{Remains, Taken};
+pub use cilk_sched::{Activation, HandsImage};
+pub use cilk_spawn::{LivingImage, Remains, Taken, TreeImage};
 pub use did::{Did, Done, NoMemory, Outcome};
 pub use given::Writing;
 pub use lightly::{carry_lightly, write_cell};

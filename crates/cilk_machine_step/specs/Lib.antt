@@ -1,5 +1,7 @@
 pub mod Scenes
 pub mod Peeks
 pub mod Comings
+pub mod Private
+pub mod Owned
 pub use Rattle.cilk_eval.specs as eval
 pub use Rattle.cilk_load.specs.labelled

@@ -10,6 +10,7 @@ mod light;
 mod look;
 mod peek;
 mod plan;
+mod privacy;
 mod scene;
 mod waiting;
 
@@ -23,5 +24,6 @@ pub use look::{
 };
 pub use peek::Peek;
 pub use plan::plan_step;
+pub use privacy::is_private;
 pub use scene::Scene;
 pub use waiting::has_to_wait;

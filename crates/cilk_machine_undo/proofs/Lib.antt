@@ -23,3 +23,5 @@ pub use Rattle.cilk_machine_carry.proofs.plans_laws
 pub use Rattle.cilk_machine_carry.proofs.runs_laws
 pub use Rattle.cilk_machine_carry.proofs.sched_laws
 pub use Rattle.cilk_machine_carry.proofs.spawn_laws
+pub mod Printed
+pub mod Moments

@@ -1,20 +1,16 @@
 -- What only grows: births never change, and of an instance that has ended nothing changes any more but its fate. So its node at an earlier choice is
 -- read off a later tree, by cutting its fate.
-use Rattle.std.specs.Prelude.{◌≡◌, ◌<◌, ◌≤◌, ℕ, true, false, ⊤, List, length, nat_lt, if◌then◌else◌, Some, slice_get}
+use Rattle.std.specs.Prelude.{◌≡◌, ◌<◌, ◌≤◌, ◌++◌, ℕ, true, false, ⊤, List, length, Some, slice_get}
 use Rattle.cilk_machine_carry.specs.runs.FateLaws.{Moves}
+use Rattle.cilk_machine_carry.specs.agree.Agrees.{MachineParts}
 use Rattle.cilk_machine_carry.specs.agree.Fated.{fate_named}
+pub use Rattle.cilk_machine_carry.specs.spawn.Cut.{SameBirth, cut, cut_node, IsCut}
 use Rattle.cilk_machine_carry.specs.spawn.declared.delivery.Delivery.{Delivery}
 use Rattle.cilk_machine_carry.specs.spawn.declared.fate.Fate.{Fate}
 use Rattle.cilk_machine_carry.specs.spawn.declared.fate.Fate.TheVariants.{Live, Returned, Delivered, Aborted}
 use Rattle.cilk_machine_carry.specs.spawn.Nodes.{Node, node_at, is_live}
 use Rattle.cilk_machine_carry.specs.plans.declared.plan.Plan.{Plan}
 use Rattle.cilk_machine_carry.specs.plans.declared.plan.Plan.TheVariants as plan
-
--- of the same parent, as the same child of it, and of the same procedure
-pub record SameBirth (old new : Node) : Type 0 where
-  pub parent : new.parent ≡ old.parent
-  pub ordinal : new.ordinal ≡ old.ordinal
-  pub procedure : new.procedure ≡ old.procedure
 
 -- what choice n may do to the node of an instance
 pub record NodeGrows (n : ℕ) (old new : Node) : Type 0 where
@@ -30,21 +26,15 @@ pub record Grows (n : ℕ) (old new : List Node) : Type 0 where
   -- whoever was born at this choice lives
   pub born : (i : ℕ) → length old ≤ i → i < length new → is_live (node_at new i) ≡ true
 
--- what was told of a fate behind choice c, where this is told of it later: who was delivered afterwards had returned
-abbrev pub cut : ℕ → Fate → Fate
-cut c Live = Live
-cut c Returned = Returned
-cut c (Delivered d) = if nat_lt c d then Returned else Delivered d
-cut c (Aborted d) = Aborted d
+-- what was printed stays in front of what is printed afterwards
+pub record Prints (old new : List ℕ) : Type 0 where
+  pub more : List ℕ
+  pub is : new ≡ old ++ more
 
-abbrev pub cut_node : ℕ → Node → Node
-cut_node c n = record n { fate = cut c n.fate }
-
--- what had ended in the tree behind choice c is told by a later one
-pub record IsCut (c : ℕ) (old last : List Node) : Type 0 where
-  pub size : length old ≤ length last
-  pub births : (i : ℕ) → i < length old → SameBirth (node_at old i) (node_at last i)
-  pub ended : (i : ℕ) → i < length old → is_live (node_at old i) ≡ false → node_at old i ≡ cut_node c (node_at last i)
+-- what choice n may do to what only grows in a machine
+pub record MachineGrows (n : ℕ) (m now : MachineParts) : Type 0 where
+  pub nodes : Grows n m.nodes now.nodes
+  pub output : Prints m.outside.output now.outside.output
 
 -- a fate tells of no choice behind choice c
 abbrev pub IsWithin : ℕ → Fate → Type 0

@@ -13,7 +13,7 @@ use Rattle.cilk_machine_carry.specs.agree.Fated.{Fated}
 use Rattle.cilk_machine_carry.specs.plans.declared.plan.Plan.{Plan}
 use Rattle.cilk_machine_carry.specs.Ready.{Ready}
 use Rattle.cilk_machine_carry.specs.Carried.{after_plan}
-use Rattle.cilk_machine_undo.specs.Growth.{Grows, IsCut, AreWithin, TakesOnce}
+use Rattle.cilk_machine_undo.specs.Growth.{Grows, IsCut, Prints, AreWithin, TakesOnce}
 
 -- whatever plan is carried out
 abbrev pub PlansGrow : Type 0
@@ -26,6 +26,11 @@ PopsGrow = (choice : ℕ) (m : MachineParts) (w : ℕ) → Grows choice m.nodes 
 
 abbrev pub StealsGrow : Type 0
 StealsGrow = (choice : ℕ) (m : MachineParts) (w v : ℕ) → Grows choice m.nodes (record m { places = stolen_by m.places w v }).nodes
+
+-- what was printed stays
+abbrev pub PlansPrint : Type 0
+PlansPrint = (choice : ℕ) (m : MachineParts) (w : ℕ) (f : Frame) (body : Option Body) (x : Plan)
+    → Prints m.outside.output (after_plan choice m w f body x).outside.output
 
 -- a tree tells of itself what has ended
 abbrev pub TreesAreCut : Type 0

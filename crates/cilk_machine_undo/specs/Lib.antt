@@ -9,6 +9,8 @@ pub mod Notes
 pub mod Growth
 pub mod GrowthLaws
 pub mod GrowthRows
+pub mod Moment
+pub mod MomentLaws
 pub use Rattle.cilk_machine_carry.specs as carries
 pub use Rattle.cilk_machine_carry.specs.agree
 pub use Rattle.cilk_machine_carry.specs.check

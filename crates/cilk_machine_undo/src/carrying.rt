@@ -3,7 +3,7 @@
 ghost use Rattle.std.specs.Prelude.{◌≡◌, true, Some, None, IfOk, OnErr, OnOk};
 ghost use Rattle.std.specs.Option.{option_copied};
 ghost use Rattle.cilk_machine_carry.specs.plans.Words.{plan_of};
-ghost use Rattle.cilk_machine_carry.specs.Carries.{CanCarry, Carries};
+ghost use Rattle.cilk_machine_carry.specs.Carries.{Becomes, CanCarry, Carries};
 ghost use Rattle.cilk_machine_undo.specs.Notes.{Undoes};
 ghost use Rattle.cilk_machine_undo.specs.Words.{undo_by, machine_in};
 
@@ -26,6 +26,7 @@ pub fn carry_lightly_noted(
 ) -> Result<(Did, Undo), NoMemory>
     requires { CanCarry parts.old worker None (plan_of light) }
     ensures done { IfOk result (λ r. Carries choice parts.old worker None (plan_of light) parts.new (record { outcome = Outcome.Running; did = r.0 })) }
+    ensures becomes { IfOk result (λ r. Becomes choice parts.old worker None (plan_of light) parts.new (record { outcome = Outcome.Running; did = r.0 })) }
     ensures undoes { IfOk result (λ r. Undoes (undo_by r.1) parts.old parts.new) }
     ensures same { OnErr result (machine_in parts.new ≡ machine_in parts.old) }
     ensures living { OnErr result (parts.new.tree.living ≡ parts.old.tree.living) }
@@ -52,6 +53,7 @@ pub fn carry_out_noted(
 ) -> Result<(Done, Undo), NoMemory>
     requires { CanCarry parts.old worker (option_copied body) plan }
     ensures done { IfOk result (λ r. Carries choice parts.old worker (option_copied body.entry) plan parts.new r.0) }
+    ensures becomes { IfOk result (λ r. Becomes choice parts.old worker (option_copied body.entry) plan parts.new r.0) }
     ensures undoes { IfOk result (λ r. Undoes (undo_by r.1) parts.old parts.new) }
     ensures same { OnErr result (machine_in parts.new ≡ machine_in parts.old) }
     ensures living { OnErr result (parts.new.tree.living ≡ parts.old.tree.living) }

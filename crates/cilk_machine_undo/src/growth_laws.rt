@@ -1,11 +1,16 @@
 //! Laws of what only grows. The functions do nothing: their contracts are what is proved.
 
 ghost use Rattle.cilk_machine_undo.specs.GrowthLaws.{CutsGoOn, FatedAreWithin, FatesStayWithin, LastTreesTell, PlansGrow, PopsGrow, StealsGrow, TreesAreCut};
-ghost use Rattle.cilk_machine_undo.specs.GrowthLaws.{ValuesAreTakenOnce};
+ghost use Rattle.cilk_machine_undo.specs.GrowthLaws.{PlansPrint, ValuesAreTakenOnce};
 
 /// Whatever plan is carried out, births stay, fates move as they may, and of an instance that has ended nothing else changes.
 pub fn plans_grow()
     ensures { PlansGrow }
+{}
+
+/// What was printed stays in front of what is printed.
+pub fn plans_print()
+    ensures { PlansPrint }
 {}
 
 /// So it is where a frame is popped or stolen.

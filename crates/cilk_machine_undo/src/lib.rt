@@ -8,9 +8,12 @@ mod filling;
 mod growth_laws;
 mod laws;
 mod listing;
+mod moment;
+mod moment_laws;
 mod moving;
 mod notes;
 mod noting;
+mod parts_image;
 mod reading;
 mod taking;
 mod undo;
@@ -22,8 +25,11 @@ pub use cilk_machine_carry::{
     Var, carry_lightly, carry_out,
 };
 pub use growth_laws::{
-    ended_are_cut, fates_are_within, moves_grow, plans_grow, values_are_taken_once,
+    ended_are_cut, fates_are_within, moves_grow, plans_grow, plans_print, values_are_taken_once,
 };
 pub use laws::{moves_are_undone, plans_are_undone, plans_can_be_undone};
+pub use moment::Moment;
+pub use moment_laws::moments_are_told;
+pub use parts_image::PartsImage;
 pub use undo::{Ended, Gone, Stood, Undo};
 pub use undoing::take_back;

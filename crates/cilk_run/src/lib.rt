@@ -4,6 +4,7 @@
 
 mod ahead;
 mod crew;
+mod ended;
 mod gate;
 mod glimpse;
 mod lists;

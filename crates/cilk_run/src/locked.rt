@@ -77,7 +77,7 @@ impl Locked {
 
     /// The same, where an instance that something befell is told by its number.
     #[inline(always)]
-    pub(crate) fn advance(&mut self, choice: Choice) -> Result<Did, Refusal>
+    pub fn advance(&mut self, choice: Choice) -> Result<Did, Refusal>
         ensures made { IfOk result (λ did. MakesBy self.old.machine self.new.machine (choice_of choice) did) }
         ensures history { OnOk result (self.new.history ≡ self.old.history ++ choice ∷ []) }
         ensures refused { IfErr result (λ r. IsRefused self.old.machine (choice_of choice) (reason_of r)) }

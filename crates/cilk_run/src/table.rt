@@ -371,7 +371,7 @@ impl<J: Setting> Table<J> {
 }
 
 // The digest of the program's canonical text.
-fn digest_of_program(program: &Loaded) -> Result<[u8; 32], Memory>
+pub(crate) fn digest_of_program(program: &Loaded) -> Result<[u8; 32], Memory>
     ensures { IfOk result (λ digest. digest ≡ digest_of (program_text program.now)) }
 {
     match program.text() {
@@ -382,7 +382,7 @@ fn digest_of_program(program: &Loaded) -> Result<[u8; 32], Memory>
 
 // Counts a choice of a worker.
 #[inline(always)]
-fn count(turns: &mut Vec<u64>, worker: u8)
+pub(crate) fn count(turns: &mut Vec<u64>, worker: u8)
     requires worker { 0 < worker }
     requires there { worker - 1 < length turns.old.items }
     requires room { slice_index turns.old.items (worker - 1) < 2 ^ 64 - 1 }

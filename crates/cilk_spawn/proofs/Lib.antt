@@ -26,3 +26,4 @@ pub mod Unborn
 pub mod Undone
 pub mod InPlace
 pub mod Copies
+pub mod Living

@@ -7,5 +7,8 @@ pub mod Revived
 pub mod Dropped
 pub mod Undone
 pub mod Copied
+pub mod Cut
+pub mod Living
+pub mod LivingRecords
 pub use Rattle.cilk_frame.specs.syntax
 pub use Rattle.cilk_frame.specs.model

@@ -29,6 +29,7 @@ mod fate;
 mod laws;
 mod leaving;
 mod life;
+mod living_image;
 mod path;
 mod putting;
 mod receiver;
@@ -47,6 +48,7 @@ pub use fate::Fate;
 pub use laws::{
     a_return_ends_and_sends, ids_change, paths_are_names, paths_stay, trees_stay_trees,
 };
+pub use living_image::LivingImage;
 pub use path::Path;
 pub use receiver::Receiver;
 pub use remains::Remains;

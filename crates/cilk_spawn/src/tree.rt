@@ -20,6 +20,7 @@ use std::alloc::Global;
 use std::marker::Model;
 
 mod imaging;
+mod keeping;
 mod undoing;
 
 /// Every instance ever made. An id is the next number from 0 on, and it is never given again.
@@ -68,8 +69,7 @@ impl Tree {
         Id::new(self.records.len())
     }
 
-    /// A live parent spawns a child, which is marked where the parent is, and answers its id
-    /// (Cilk 5.4 manual, `spawn`).
+    /// A live parent spawns a child, which is marked where the parent is, and answers its id (Cilk 5.4 manual, `spawn`).
     pub fn add_child(
         &mut self,
         parent: Id,

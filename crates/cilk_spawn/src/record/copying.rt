@@ -2,6 +2,7 @@
 
 ghost use Rattle.std.specs.Prelude.{◌≡◌, IfOk};
 ghost use Rattle.cilk_spawn.specs.Copied.{Copied, SameLife, SameLive};
+ghost use Rattle.cilk_spawn.specs.LivingRecords.{cut_life, cut_record};
 
 use super::Record;
 use crate::delivery::Delivery;
@@ -23,6 +24,32 @@ impl Record {
             aborted: self.aborted,
             life: life_copy(alloc, &self.life)?,
         })
+    }
+
+    /// What was kept behind a choice, if it had ended then. Of one that lived then this tells nothing.
+    pub fn cut(&self, choice: u64) -> Record
+        ensures { result ≡ cut_record choice self.now }
+    {
+        Record {
+            parent: self.parent,
+            ordinal: self.ordinal,
+            procedure: self.procedure,
+            children: self.children,
+            aborted: self.aborted,
+            life: life_before(choice, &self.life),
+        }
+    }
+}
+
+fn life_before(choice: u64, life: &Life) -> Life
+    ensures { result ≡ cut_life choice life.now }
+{
+    match life {
+        Life::Live(_) => Life::Returned,
+        Life::Returned => Life::Returned,
+        Life::Delivered(taken) if choice < *taken => Life::Returned,
+        Life::Delivered(taken) => Life::Delivered(*taken),
+        Life::Aborted(ended) => Life::Aborted(*ended),
     }
 }
 

@@ -35,7 +35,8 @@ invariant_of-self-in-Ok c =
     let made = whole-made x.loaded x.parts x.trapper x.outcome x.choices x.keeps past c.args.worker c.args.plan c.args.path has
     (option_copied c.body_numbered-body.result) c.started_number.result c.body_numbered-body.ensures c.started_number.ensures
     c.carry_out_kept.new.parts c.in-Ok.done
-    c.trapper_of-self-inside.result c.outcome_with.result c.in-Ok.ensures.done c.trapper_of-self-inside.ensures c.outcome_with.ensures in
+    c.trapper_of-self-inside.result c.outcome_with.result c.in-Ok.ensures.done c.in-Ok.ensures.becomes c.trapper_of-self-inside.ensures
+    c.outcome_with.ensures in
     let runs = carrying-runs _ _ _ _ has in
     let keeps = ap (λ (m : Situation). m.keeps) c.self.view_is ∙ c.requires.keeps in
     one-whole c.self.invariant c.carry_out_kept.new.parts c.trapper_of-self-inside.result c.outcome_with.result runs (stepping c.args.worker) _ made keeps
@@ -51,7 +52,8 @@ returns-in-Ok-clause-made c =
     let made = whole-made x.loaded x.parts x.trapper x.outcome x.choices x.keeps past c.args.worker c.args.plan c.args.path has
     (option_copied c.body_numbered-body.result) c.started_number.result c.body_numbered-body.ensures c.started_number.ensures
     c.carry_out_kept.new.parts c.in-Ok.done
-    c.trapper_of-self-inside.result c.outcome_with.result c.in-Ok.ensures.done c.trapper_of-self-inside.ensures c.outcome_with.ensures in
+    c.trapper_of-self-inside.result c.outcome_with.result c.in-Ok.ensures.done c.in-Ok.ensures.becomes c.trapper_of-self-inside.ensures
+    c.outcome_with.ensures in
     let runs = carrying-runs _ _ _ _ has in
     let keeps = ap (λ (m : Situation). m.keeps) c.self.view_is ∙ c.requires.keeps in
     made-old _ c.args.self.now _ c.args.worker c.carry_out_kept.new.parts.tree.nodes c.in-Ok.done.did c.self.view_is

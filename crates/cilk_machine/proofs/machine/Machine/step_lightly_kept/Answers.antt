@@ -29,7 +29,7 @@ invariant_of-self-in-Ok c =
     let x = c.self.inside in
     let has = light-carrying _ c.args.self.now c.args.worker c.args.light c.self.view_is c.self.invariant.sound c.requires.light in
     let made = light-made x.loaded x.parts x.trapper x.outcome x.choices x.keeps (pasts (kept_of x.records.items) (running_at x.parts x.choices))
-    c.args.worker c.args.light has c.carry_lightly_kept.new.parts c.in-Ok.did c.in-Ok.ensures.done in
+    c.args.worker c.args.light has c.carry_lightly_kept.new.parts c.in-Ok.did c.in-Ok.ensures.done c.in-Ok.ensures.becomes in
     let runs = carrying-runs _ _ _ _ has in
     let keeps = ap (λ (m : Situation). m.keeps) c.self.view_is ∙ c.requires.keeps in
     one-whole c.self.invariant c.carry_lightly_kept.new.parts x.trapper x.outcome runs (stepping c.args.worker) _ made keeps
@@ -41,7 +41,7 @@ returns-in-Ok-clause-made c =
     let x = c.self.inside in
     let has = light-carrying _ c.args.self.now c.args.worker c.args.light c.self.view_is c.self.invariant.sound c.requires.light in
     let made = light-made x.loaded x.parts x.trapper x.outcome x.choices x.keeps (pasts (kept_of x.records.items) (running_at x.parts x.choices))
-    c.args.worker c.args.light has c.carry_lightly_kept.new.parts c.in-Ok.did c.in-Ok.ensures.done in
+    c.args.worker c.args.light has c.carry_lightly_kept.new.parts c.in-Ok.did c.in-Ok.ensures.done c.in-Ok.ensures.becomes in
     let runs = carrying-runs _ _ _ _ has in
     let keeps = ap (λ (m : Situation). m.keeps) c.self.view_is ∙ c.requires.keeps in
     made-old _ c.args.self.now _ c.args.worker c.carry_lightly_kept.new.parts.tree.nodes c.in-Ok.did c.self.view_is

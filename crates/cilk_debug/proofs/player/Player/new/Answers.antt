@@ -1,0 +1,16 @@
+use Rattle.std.proofs.Common.{map, sym, subst}
+use Rattle.std.proofs.lemmas.List.{length-map}
+use Rattle.cilk_debug_console.specs.choices.Words.{choice_of}
+use Rattle.cilk_debug.specs.Tape.{tape_of}
+use Rattle.cilk_debug.specs.Tracks.{IsTrack}
+use Rattle.cilk_debug.proofs.player.Player.new.Goals as goal
+
+pub invariant_of-result : goal.invariant_of-result
+invariant_of-result c =
+    let choices = c.args.log.choices in
+    let track = c.in-Ok.track in
+    let t = tape_of c.args.program c.args.log.workers choices in
+    record {
+      goes = c.in-Ok-with_records.ensures.goes (map choice_of choices);
+      track = subst (λ n. IsTrack t n track.last track.checkpoints.items track.actions.items) (sym (length-map choices choice_of)) c.in-Ok.ensures.track;
+    }

@@ -1,0 +1,25 @@
+-- A machine that goes on and back among the choices of a tape, with a record of each choice since it was put somewhere.
+use Rattle.std.specs.Prelude.{◌≡◌, ◌≤◌, ◌∷◌, ℕ, ⊤, true, List, [], length}
+use Rattle.cilk_machine.specs.syntax.Tree.{Program}
+use Rattle.cilk_debug_console.specs.model.Choice.{Choice}
+use Rattle.cilk_machine.specs.Situation.{Before, Situation}
+use Rattle.cilk_machine.specs.Kept.{situation_at}
+use Rattle.cilk_debug.specs.Tape.{Tape, IsAt}
+
+-- the machine was there before a choice of the tape
+abbrev pub WasAt : Tape → Before → Type 0
+WasAt t b = IsAt t b.choices (situation_at t.program b)
+
+abbrev pub AreThere : Tape → List Before → Type 0
+AreThere t [] = ⊤
+AreThere t (b ∷ bs) = WasAt t b × AreThere t bs
+
+pub record Goes (t : Tape) (m : Situation) : Type 0 where
+  pub within : m.choices ≤ length t.choices
+  pub stands : IsAt t m.choices m
+  pub keeps : m.keeps ≡ true
+  pub past : AreThere t m.past
+
+-- a machine of a program, whatever the choices are
+abbrev pub GoesAll : Program → ℕ → Situation → Type 0
+GoesAll program workers m = (choices : List Choice) → Goes (record { program = program; workers = workers; choices = choices }) m

@@ -1,0 +1,4 @@
+mod Natures
+mod Once
+pub mod Tops
+pub mod Pushes

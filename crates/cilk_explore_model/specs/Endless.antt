@@ -1,0 +1,47 @@
+-- Standings from which no list of choices ends the program: what a search that has looked at all it found may mark.
+use Rattle.std.specs.Prelude.{◌≡◌, ◌≤◌, ℕ, Bool, true, false, List, [], ◌∷◌, ◌++◌, length, Some, slice_get}
+use Rattle.cilk_laws_model.specs.labelled.Labelled.{Labelled}
+use Rattle.cilk_laws_model.specs.model.Choice.{Choice}
+use Rattle.cilk_laws_model.specs.model.Run.{Standing, Position, after_from, after}
+use Rattle.cilk_explore_model.specs.Ending.{IsOver}
+use Rattle.cilk_explore_model.specs.Same.{Same}
+use Rattle.cilk_explore_model.specs.Search.{Known, Search, IsSearch}
+
+-- some possible choices lead on to where none is possible
+pub record CanEnd (program : Labelled) (at : Standing) : Type 0 where
+  pub choices : List Choice
+  pub to : Position
+  pub leads : after_from program at [] choices ≡ Some to
+  pub over : IsOver program to.standing
+
+-- a log without a mark leads to the same
+pub record Unmarked (program : Labelled) (n : ℕ) (logs : List (List Choice)) (marks : ℕ → Bool) (at : Standing) : Type 0 where
+  pub number : ℕ
+  pub log : List Choice
+  pub found : slice_get logs number ≡ Some log
+  pub none : marks number ≡ false
+  pub to : Position
+  pub leads : after program n log ≡ Some to
+  pub same : Same to.standing at
+
+-- those logs are marked behind which the program can end
+pub record AreMarked (program : Labelled) (n : ℕ) (logs : List (List Choice)) (marks : ℕ → Bool) : Type 0 where
+  pub ends : (k : ℕ) (log : List Choice) (at : Position) → slice_get logs k ≡ Some log → after program n log ≡ Some at → marks k ≡ true
+      → CanEnd program at.standing
+  pub over : (k : ℕ) (log : List Choice) (at : Position) → slice_get logs k ≡ Some log → after program n log ≡ Some at → IsOver program at.standing
+      → marks k ≡ true
+  -- and where there is no mark each choice leads to none
+  pub closed : (k : ℕ) (log : List Choice) (choice : Choice) (at : Position) → slice_get logs k ≡ Some log → marks k ≡ false
+      → after program n (log ++ choice ∷ []) ≡ Some at → Unmarked program n logs marks at.standing
+
+-- the marks tell rightly: where there is none the program never ends, and each standing from which it never ends has a log without one
+pub record MarksTellRightly (program : Labelled) (n : ℕ) (search : Search) (marks : ℕ → Bool) : Type 0 where
+  pub sound : (k : ℕ) (log : List Choice) (at : Position) → slice_get search.logs k ≡ Some log → after program n log ≡ Some at → marks k ≡ false
+      → ¬ CanEnd program at.standing
+  pub whole : (choices : List Choice) (at : Position) → after program n choices ≡ Some at → ¬ CanEnd program at.standing
+      → (known : Known program n search.logs at.standing (length choices)) × (marks known.number ≡ false)
+
+-- of a search that has looked at all it found
+abbrev pub TheEndlessAreUnmarked : Type 0
+TheEndlessAreUnmarked = (program : Labelled) (n : ℕ) (search : Search) (marks : ℕ → Bool) → IsSearch program n search → length search.logs ≤ search.looked
+    → AreMarked program n search.logs marks → MarksTellRightly program n search marks

@@ -1,0 +1,13 @@
+//! What it is to look at all that a program may do: when two standings have one future, how a run ends, and what a search for the endings has
+//! found; and the laws on which it rests. Definitions and laws alone.
+#![tactic(auto)]
+
+mod laws;
+mod rows;
+
+pub use cilk_laws_model::{Global, GlobalShape, Item, ItemNode, Program, Word};
+pub use laws::{
+    each_standing_is_known, over_where_no_choice_is_possible, sameness_is_kept,
+    searches_tell_rightly, the_endless_are_unmarked, the_same_end_alike, the_same_go_on_alike,
+};
+pub use rows::{rows_of_a_race_come_out, rows_of_locks_come_out, rows_of_sameness_come_out};

@@ -1,0 +1,13 @@
+pub mod Ids
+pub mod Lefts
+pub mod Fields
+pub mod Bounds
+pub mod Doings
+pub mod Known
+pub mod Stilled
+pub mod Followed
+pub mod Totals
+pub mod Counting
+pub mod Births
+pub mod Gauges
+pub mod Lines

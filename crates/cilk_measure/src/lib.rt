@@ -1,0 +1,16 @@
+//! The numbers that are told of a run: its choices are made again, and what they do is kept by instance and by worker.
+#![tactic(auto)]
+
+mod cell;
+mod counts;
+mod gauge;
+mod measure;
+mod measuring;
+mod motion;
+mod seat;
+mod tally;
+mod telling;
+
+pub use measure::Measure;
+pub use measuring::{Measured, measure_all};
+pub use telling::put_measure;

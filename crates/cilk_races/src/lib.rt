@@ -1,0 +1,4 @@
+//! The races of a run, defined on its events.
+#![tactic(auto)]
+
+pub mod laws;

@@ -1,0 +1,5 @@
+pub mod Among
+pub mod Turns
+pub mod Halting
+pub mod Going
+mod Rows
