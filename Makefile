@@ -74,6 +74,7 @@ budget:
 bench: cilk
 	tools/bench ./cilk
 	tools/bench_runs ./cilk
+	tools/bench_back ./cilk
 	tools/bench_workers ./cilk
 	tools/bench_logs ./cilk
 

@@ -1,5 +1,5 @@
 -- What is looked for among the actions that were noted is what is looked for among the choices.
-use Rattle.std.proofs.Common.{◌≡◌, ◌<◌, ◌≤◌, ℕ, zero, suc, ◌+◌, ◌-◌, Bool, false, List, Option, Some, None, option_map}
+use Rattle.std.proofs.Common.{◌≡◌, ◌<◌, ◌≤◌, ℕ, zero, suc, ◌+◌, ◌-◌, Bool, List, Option, Some, None, option_map}
 use Rattle.std.proofs.Common.{length, refl, ap, ◌∙◌, arith, if◌then◌else◌}
 use Rattle.std.proofs.Common.{unwrap_or, slice_index_or}
 use Rattle.std.specs.List.{find, range_with_len}

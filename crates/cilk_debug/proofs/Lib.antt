@@ -1,8 +1,7 @@
 mod Naming
 pub mod Ranges
+mod Rows
 pub mod Seen
-pub mod Sound
-pub mod Stops
 mod Sessions
 mod Commands
 mod Ends
@@ -11,5 +10,6 @@ pub mod Whole
 pub mod Found
 pub mod Onward
 pub mod Tracks
+pub mod Ways
 pub mod Restores
 pub use Rattle.cilk_machine.proofs as machine_laws

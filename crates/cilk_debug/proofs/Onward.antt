@@ -1,10 +1,10 @@
 -- A machine with records goes on among the choices of a tape, and back.
-use Rattle.std.proofs.Common.{◌≡◌, ◌≤◌, ◌+◌, ◌∷◌, [], ℕ, suc, Bool, true, false, List, take, length, Some, refl, sym, ap, ◌∙◌, subst, slice_get, arith}
+use Rattle.std.proofs.Common.{◌≡◌, ◌≤◌, ◌∷◌, [], ℕ, Bool, true, false, take, length, Some, refl, sym, ap, ◌∙◌, subst, slice_get, arith}
 use Rattle.std.proofs.lemmas.Option.{slice_get_within}
 use Rattle.cilk_debug_console.specs.model.Choice.{Choice}
 use Rattle.cilk_debug_console.specs.model.Event.{Event}
 use Rattle.cilk_machine.specs.choices.declared.outcome.Outcome.TheVariants.{Running}
-use Rattle.cilk_machine.specs.Situation.{Before, Situation, before_of, kept_by}
+use Rattle.cilk_machine.specs.Situation.{Situation, before_of, kept_by}
 use Rattle.cilk_machine.specs.Stands.{Led}
 use Rattle.cilk_machine.specs.Made.{Makes, TakesBack}
 use Rattle.cilk_machine.specs.Kept.{situation_at}

@@ -1,7 +1,6 @@
 -- What is looked for, up and down.
-use Rattle.std.proofs.Common.{◌≡◌, ◌<◌, ℕ, suc, ◌+◌, ◌-◌, Bool, true, false, Some, None, ap, ◌∙◌, arith, if◌then◌else◌}
+use Rattle.std.proofs.Common.{◌≡◌, ◌<◌, ℕ, suc, ◌+◌, ◌-◌, Bool, false, Some, ap, ◌∙◌, arith, if◌then◌else◌}
 use Rattle.std.specs.List.{find, range_with_len}
-use Rattle.cilk_debug.specs.Breaks.{down_from}
 
 by_head : (f : ℕ → Bool) (a n : ℕ) (b : Bool) → f a ≡ b → find f (range_with_len a (suc n)) ≡ (if b then Some a else find f (range_with_len (a + 1) n))
 by_head f a n b e = ap (λ (c : Bool). if c then Some a else find f (range_with_len (a + 1) n)) e
@@ -13,17 +12,3 @@ left_of a n within = omega arith
 pub passes : (f : ℕ → Bool) (a n : ℕ) → f a ≡ false → a < n → find f (range_with_len a (n - a)) ≡ find f (range_with_len (a + 1) (n - (a + 1)))
 passes f a n e within =
     ap (λ k. find f (range_with_len a k)) (left_of a n within) ∙ by_head f a (n - (a + 1)) false e
-
-pub halts : (f : ℕ → Bool) (a n : ℕ) → f a ≡ true → a < n → find f (range_with_len a (n - a)) ≡ Some a
-halts f a n e within =
-    ap (λ k. find f (range_with_len a k)) (left_of a n within) ∙ by_head f a (n - (a + 1)) true e
-
-pub none_left : (f : ℕ → Bool) (n : ℕ) → find f (range_with_len n (n - n)) ≡ None
-none_left f n = ap (λ k. find f (range_with_len n k)) nothing
-  where
-    nothing : n - n ≡ 0
-    nothing = omega arith
-
--- down from below the next number
-pub one_more_down : (f : ℕ → Bool) (a : ℕ) (b : Bool) → f a ≡ b → find f (down_from (suc a)) ≡ (if b then Some a else find f (down_from a))
-one_more_down f a b e = ap (λ (c : Bool). if c then Some a else find f (down_from a)) e

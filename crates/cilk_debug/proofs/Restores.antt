@@ -1,6 +1,6 @@
 -- A machine is put where a checkpoint was kept, and what a player then is.
-use Rattle.std.proofs.Common.{◌≡◌, ◌<◌, ◌≤◌, ◌+◌, ◌*◌, ◌/◌, [], ℕ, Bool, true, List, length, Some, Result, Ok, Err, OnOk, OnErr, sym, ap, ◌∙◌, subst, arith}
-use Rattle.std.proofs.Common.{slice_get, slice_index_or}
+use Rattle.std.proofs.Common.{◌≡◌, ◌<◌, ◌≤◌, ◌*◌, [], ℕ, true, List, length, Some, sym, ap, ◌∙◌, subst, arith}
+use Rattle.std.proofs.Common.{slice_index_or}
 use Rattle.std.proofs.lemmas.Option.{slice_get-get_or}
 use Rattle.cilk_machine.specs.syntax.Tree.{Program}
 use Rattle.cilk_debug_console.specs.model.Choice.{Choice}
@@ -8,7 +8,6 @@ use Rattle.cilk_machine.specs.Situation.{Situation, workers_of}
 use Rattle.cilk_machine.specs.Stands.{Opens}
 use Rattle.cilk_machine.specs.Checkpoints.{Checkpoint, IsCheckpointOf, IsEarlier, WasThere, without_past}
 use Rattle.cilk_debug.specs.Going.{AreThere, Goes}
-use Rattle.cilk_debug.specs.Playing.{Playing}
 use Rattle.cilk_debug.specs.Tape.{Tape, IsAt}
 use Rattle.cilk_debug.specs.Tracks.{IsKeptAt, IsTrack}
 use Rattle.cilk_debug.proofs.Again.{at_start}
@@ -40,14 +39,8 @@ module _ (t : Tape) (k : ℕ) (last m n : Situation) (x : Checkpoint) (h : IsKep
   pub put-at : PutBack x last m n → n.choices ≡ k
   put-at back = ap (λ (s : Situation). s.choices) (is-back back) ∙ h.stands.choices
 
-  pub still-goes : {A E : Type 0} (r : Result A E) → OnOk r (PutBack x last m n) → OnErr r (n ≡ m) → Goes t n
-  still-goes (Ok a) back same = put-goes back
-  still-goes (Err e) back same = subst (Goes t) (sym same) g
-
--- what contracts see then
-pub placed : (seen now : Playing) (n k : ℕ) → seen ≡ now → n ≡ k
-    → (let p : Playing = record { tape = seen.tape; place = n } in let q : Playing = record { tape = now.tape; place = k } in p ≡ q)
-placed seen now n k is count = λ i. record { tape = (is i).tape; place = count i }
+  pub put-none : PutBack x last m n → length n.past ≡ 0
+  put-none back = ap (λ (s : Situation). length s.past) (is-back back)
 
 -- a machine with records before any choice
 pub goes-first : (m : Situation) (program : Program) (workers : ℕ) → m.program ≡ program → workers_of m ≡ workers → m.choices ≡ 0 → Opens m

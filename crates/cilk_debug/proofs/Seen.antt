@@ -1,5 +1,5 @@
 -- What is seen where a machine stands.
-use Rattle.std.proofs.Common.{◌≡◌, ◌≢◌, ℕ, Bool, List, [], ◌++◌, take, length, Option, Some, None, option_map, option_and_then, refl, ap, ◌∙◌, sym, subst}
+use Rattle.std.proofs.Common.{◌≡◌, ◌≢◌, ℕ, List, [], ◌++◌, take, length, Option, Some, None, option_map, option_and_then, refl, ap, ◌∙◌, sym, subst}
 use Rattle.cilk_machine.specs.syntax.Tree.{Program}
 use Rattle.cilk_machine.specs.labelled.Bodies.{label}
 use Rattle.cilk_debug_console.specs.model.State as state
@@ -32,58 +32,56 @@ none_before : {A B : Type 0} (f : A → B) (o : Option A) → option_map f o ≡
 none_before f None none = refl
 none_before f (Some x) none = cc
 
-module _ (t : Tape) (m : Situation) (h : IsAt t m.choices m) where
+module _ (t : Tape) (k : ℕ) (m : Situation) (h : IsAt t k m) where
   pub stands : StandsAt m h.at.standing
-  stands = record { choices = take m.choices t.choices; events = h.at.events; led = h.led }
+  stands = record { choices = take k t.choices; events = h.at.events; led = h.led }
 
-  as_many : length h.at.events ≡ m.choices
-  as_many = each_choice_is_an_event (label m.program) (workers_of m) (take m.choices t.choices) h.at h.led.led ∙ h.led.counted
+  as_many : length h.at.events ≡ k
+  as_many = each_choice_is_an_event (label m.program) (workers_of m) (take k t.choices) h.at h.led.led ∙ h.led.counted ∙ h.choices
 
-  seen_by : (what : What) → seen_behind t m.choices what ≡ view t.program h.at (length t.choices) what
-  seen_by what = ap (option_and_then (λ (at : Position). view t.program at (length t.choices) what)) (led_in t m.choices m h)
+  seen_by : (what : What) → seen_behind t k what ≡ view t.program h.at (length t.choices) what
+  seen_by what = ap (option_and_then (λ (at : Position). view t.program at (length t.choices) what)) (led_in t k m h)
 
   shown_by : (what : What) (o : Option (List ℕ)) → shown m.program h.at what ≡ o
-      → seen_behind t m.choices what ≡ option_map (λ (text : List ℕ). first_line t.program h.at (length t.choices) what ++ text) o
+      → seen_behind t k what ≡ option_map (λ (text : List ℕ). first_line t.program h.at (length t.choices) what ++ text) o
   shown_by what o e =
       seen_by what ∙ ap (option_map (λ (text : List ℕ). first_line t.program h.at (length t.choices) what ++ text))
       (subst (λ (p : Program). shown p h.at what ≡ o) h.program e)
 
-  pub nothing : (what : code.What) → shown m.program h.at (what_of what) ≡ None → seen_behind t m.choices (what_of what) ≡ None
+  pub nothing : (what : code.What) → shown m.program h.at (what_of what) ≡ None → seen_behind t k (what_of what) ≡ None
   nothing what e = shown_by (what_of what) None e
 
-  pub gone : (what : code.What) → seen_behind t m.choices (what_of what) ≡ None → shown m.program h.at (what_of what) ≡ None
+  pub gone : (what : code.What) → seen_behind t k (what_of what) ≡ None → shown m.program h.at (what_of what) ≡ None
   gone what e =
       let asked = what_of what in
       let o = shown m.program h.at asked in
       none_before (λ (text : List ℕ). first_line t.program h.at (length t.choices) asked ++ text) o (sym (shown_by asked o refl) ∙ e)
 
   pub plain : (what : code.What) (text : List ℕ) → what ≢ Where → shown m.program h.at (what_of what) ≡ Some text
-      → seen_behind t m.choices (what_of what) ≡ Some text
+      → seen_behind t k (what_of what) ≡ Some text
   plain what text not e =
       shown_by (what_of what) (Some text) e
       ∙ ap (λ (line : List ℕ). Some (line ++ text)) (no_line t.program h.at (length t.choices) what not)
 
-  led_line : line_behind t m.choices ≡ first_line t.program h.at (length t.choices) where_it_stands
-  led_line = ap (position_line t) (led_in t m.choices m h)
+  led_line : line_behind t k ≡ first_line t.program h.at (length t.choices) where_it_stands
+  led_line = ap (position_line t) (led_in t k m h)
 
-  pub line_here : (outcome : state.Outcome) (made all : ℕ) → outcome ≡ h.at.standing.state.outcome → made ≡ m.choices → all ≡ length t.choices
-      → position_text (label t.program) outcome made all ≡ line_behind t m.choices
+  pub line_here : (outcome : state.Outcome) (made all : ℕ) → outcome ≡ h.at.standing.state.outcome → made ≡ k → all ≡ length t.choices
+      → position_text (label t.program) outcome made all ≡ line_behind t k
   line_here outcome made all stands made_is all_is =
       ap (λ (o : state.Outcome). position_text (label t.program) o made all) stands
-      ∙ ap (λ (k : ℕ). position_text (label t.program) h.at.standing.state.outcome k all) (made_is ∙ sym as_many)
+      ∙ ap (λ (n : ℕ). position_text (label t.program) h.at.standing.state.outcome n all) (made_is ∙ sym as_many)
       ∙ ap (position_text (label t.program) h.at.standing.state.outcome (length h.at.events)) all_is
       ∙ sym led_line
 
 -- the same as a debugger tells it
-pub line_seen : (d : Debugging) (t : Tape) (m : Situation) (marks : List Bool)
-    → d ≡ record { tape = t; position = m.choices; marks = marks } → (h : IsAt t m.choices m)
+pub line_seen : (d : Debugging) (program : Program) (m : Situation) → program ≡ d.tape.program → IsAt d.tape d.position m
     → (outcome : state.Outcome) (made all : ℕ) → ((at : Standing) → StandsAt m at → outcome ≡ at.state.outcome) → made ≡ d.position
     → all ≡ length d.tape.choices
-    → position_text (label t.program) outcome made all ≡ line_behind d.tape d.position
-line_seen d t m marks is h outcome made all stood made_is all_is =
-    line_here t m h outcome made all (stood h.at.standing (stands t m h)) (made_is ∙ ap (λ (e : Debugging). e.position) is)
-    (all_is ∙ ap (λ (e : Debugging). length e.tape.choices) is)
-    ∙ sym (ap (λ (e : Debugging). line_behind e.tape e.position) is)
+    → position_text (label program) outcome made all ≡ line_behind d.tape d.position
+line_seen d program m is h outcome made all stood made_is all_is =
+    ap (λ (p : Program). position_text (label p) outcome made all) is
+    ∙ line_here d.tape d.position m h outcome made all (stood h.at.standing (stands d.tape d.position m h)) made_is all_is
 
 pub put_behind : (wanted text : List ℕ) {empty before after line : List ℕ} → empty ≡ [] → before ≡ empty ++ line → after ≡ before ++ text → line ≡ wanted
     → after ≡ wanted ++ text

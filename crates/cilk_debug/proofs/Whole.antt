@@ -38,8 +38,8 @@ refused_none program choice at end None why e is h = cc
 refused_none program choice at end (Some r) why e is h = cc
 
 -- so none is bad
-pub none_is_bad : (t : Tape) → IsPlayable t → (k : ℕ) (why : Refusal) → IsBad t k why → ⊥
-none_is_bad t whole k why bad =
+pub no-bad : (t : Tape) → IsPlayable t → (k : ℕ) (why : Refusal) → IsBad t k why → ⊥
+no-bad t whole k why bad =
     let later = leads_at t whole (suc k) (slice_get_within t.choices k bad.choice bad.is) in
     refused_none (label t.program) bad.choice bad.at later.at (refusal_of (label t.program) bad.at.standing bad.choice) why refl bad.refused
     (sym (step_down t k bad.choice bad.is ∙ ap (one_more (label t.program) bad.choice) bad.led) ∙ later.led)

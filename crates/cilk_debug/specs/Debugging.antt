@@ -1,8 +1,7 @@
 -- What contracts see of a debugger.
 use Rattle.std.specs.Prelude.{◌≡◌, ◌≤◌, ℕ, Bool, List, length}
 use Rattle.cilk_machine.specs.labelled.Count.{count_program}
-use Rattle.cilk_machine.specs.Situation.{Situation}
-use Rattle.cilk_debug.specs.Tape.{Tape, IsPlayable, IsAt}
+use Rattle.cilk_debug.specs.Tape.{Tape, IsPlayable}
 
 pub record Debugging : Type 0 where
   -- what is replayed
@@ -12,9 +11,8 @@ pub record Debugging : Type 0 where
   -- for each action whether a breakpoint is set there
   pub marks : List Bool
 
--- what is always true of a debugger, whose machine is given
-pub record IsSound (t : Tape) (m : Situation) (marks : List Bool) : Type 0 where
+-- what is always true of a debugger that stands there
+pub record IsSound (t : Tape) (position : ℕ) (marks : List Bool) : Type 0 where
   pub whole : IsPlayable t
-  pub within : m.choices ≤ length t.choices
-  pub stands : IsAt t m.choices m
+  pub within : position ≤ length t.choices
   pub marked : length marks ≡ count_program t.program

@@ -1,5 +1,5 @@
 -- A machine that goes on and back among the choices of a tape, with a record of each choice since it was put somewhere.
-use Rattle.std.specs.Prelude.{◌≡◌, ◌≤◌, ◌∷◌, ℕ, ⊤, true, List, [], length}
+use Rattle.std.specs.Prelude.{◌≡◌, ◌≤◌, ◌∷◌, ℕ, ⊤, true, suc, List, [], length}
 use Rattle.cilk_machine.specs.syntax.Tree.{Program}
 use Rattle.cilk_debug_console.specs.model.Choice.{Choice}
 use Rattle.cilk_machine.specs.Situation.{Before, Situation}
@@ -23,3 +23,8 @@ pub record Goes (t : Tape) (m : Situation) : Type 0 where
 -- a machine of a program, whatever the choices are
 abbrev pub GoesAll : Program → ℕ → Situation → Type 0
 GoesAll program workers m = (choices : List Choice) → Goes (record { program = program; workers = workers; choices = choices }) m
+
+-- records go on being kept, one more where they are
+pub record KeepsOneMore (m n : Situation) : Type 0 where
+  pub keeps : n.keeps ≡ m.keeps
+  pub more : m.keeps ≡ true → length n.past ≡ suc (length m.past)

@@ -13,6 +13,7 @@ pub mod Seeking
 pub mod Session
 pub mod Tape
 pub mod Tracks
+pub mod Working
 pub mod ReplayFaults
 pub use Rattle.cilk_debug_console.specs as console
 pub use Rattle.cilk_debug_console.specs.log

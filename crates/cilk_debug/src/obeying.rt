@@ -18,7 +18,7 @@ use cilk_machine::{ViewFault, What};
 impl Debugger {
     /// Does what is asked. Where memory runs out for the answer, it is done all the same.
     pub(crate) fn obey(&mut self, command: &Command) -> Result<Reply, SessionFault>
-        ensures { Obeys self.old self.new (asked_of command.now) result }
+        ensures { Obeys self.old.shown self.new.shown (asked_of command.now) result }
     {
         match command {
             Command::Step => self.obey_step(),
@@ -36,7 +36,7 @@ impl Debugger {
     }
 
     fn obey_step(&mut self) -> Result<Reply, SessionFault>
-        ensures { Obeys self.old self.new asked.step result }
+        ensures { Obeys self.old.shown self.new.shown asked.step result }
     {
         match self.step() {
             Ok(()) => self.reply_with_view(&What::Where),
@@ -47,7 +47,7 @@ impl Debugger {
     }
 
     fn obey_back(&mut self) -> Result<Reply, SessionFault>
-        ensures { Obeys self.old self.new asked.back result }
+        ensures { Obeys self.old.shown self.new.shown asked.back result }
     {
         match self.back() {
             Ok(()) => self.reply_with_view(&What::Where),
@@ -58,7 +58,7 @@ impl Debugger {
     }
 
     fn obey_go(&mut self, k: u64) -> Result<Reply, SessionFault>
-        ensures { Obeys self.old self.new (asked.go k) result }
+        ensures { Obeys self.old.shown self.new.shown (asked.go k) result }
     {
         match self.go(k) {
             Ok(()) => self.reply_with_view(&What::Where),
@@ -69,7 +69,7 @@ impl Debugger {
     }
 
     fn obey_next(&mut self) -> Result<Reply, SessionFault>
-        ensures { Obeys self.old self.new asked.next result }
+        ensures { Obeys self.old.shown self.new.shown asked.next result }
     {
         match self.forward_to_break() {
             Ok(_) => self.reply_with_view(&What::Where),
@@ -80,7 +80,7 @@ impl Debugger {
     }
 
     fn obey_previous(&mut self) -> Result<Reply, SessionFault>
-        ensures { Obeys self.old self.new asked.previous result }
+        ensures { Obeys self.old.shown self.new.shown asked.previous result }
     {
         match self.back_to_break() {
             Ok(_) => self.reply_with_view(&What::Where),
@@ -91,7 +91,7 @@ impl Debugger {
     }
 
     fn obey_break(&mut self, n: u32) -> Result<Reply, SessionFault>
-        ensures { Obeys self.old self.new (asked.set n) result }
+        ensures { Obeys self.old.shown self.new.shown (asked.set n) result }
     {
         match self.set_break(n) {
             Ok(()) => Ok(Reply::Done),
@@ -101,7 +101,7 @@ impl Debugger {
     }
 
     fn obey_clear(&mut self, n: u32) -> Result<Reply, SessionFault>
-        ensures { Obeys self.old self.new (asked.clear n) result }
+        ensures { Obeys self.old.shown self.new.shown (asked.clear n) result }
     {
         match self.clear_break(n) {
             Ok(()) => Ok(Reply::Done),
@@ -112,8 +112,8 @@ impl Debugger {
 
     // The text of a view as a reply, or that no live instance has the path.
     fn reply_with_view(&self, what: &What) -> Result<Reply, SessionFault>
-        ensures text { IfOk result (λ reply. reply_text reply ≡ shown_text (seen_at self.now (what_of what.now))) }
-        ensures none { seen_at self.now (what_of what.now) ≡ None → result ≡ Ok Reply.NoInstance }
+        ensures text { IfOk result (λ reply. reply_text reply ≡ shown_text (seen_at self.now.shown (what_of what.now))) }
+        ensures none { seen_at self.now.shown (what_of what.now) ≡ None → result ≡ Ok Reply.NoInstance }
         ensures memory { IfErr result (λ why. why ≡ SessionFault.Memory) }
     {
         match self.view(what) {

@@ -1,6 +1,6 @@
 //! A recorded schedule, all choices of which were made once, with a machine that stands somewhere among them.
 
-ghost use Rattle.std.specs.Prelude.{◌≡◌, ◌≤◌, ◌*◌, IfErr, IfOk, Ok, OnErr, OnOk, length, true, false, Err};
+ghost use Rattle.std.specs.Prelude.{◌≡◌, ◌≤◌, IfErr, IfOk, IfSome, [], length, false, Err};
 ghost use Rattle.cilk_debug_console.specs.model.Run.{is_crew};
 ghost use Rattle.cilk_debug.specs.Breaks.{last_stop, next_stop};
 ghost use Rattle.cilk_debug.specs.Faults.{IsDebugFaultOf};
@@ -9,12 +9,13 @@ ghost use Rattle.cilk_debug.specs.ReplayFaults.{IsFaultOf};
 ghost use Rattle.cilk_debug.specs.Tape.{Tape, tape_of, IsAt, IsPlayable};
 ghost use Rattle.cilk_debug.specs.Tracks.{IsTrack};
 
+mod standing;
+
 use crate::fault::DebugFault;
 use crate::finding::{last_met, next_met};
-use crate::going::{go_back, go_on};
 use crate::playing::is_crew;
 use crate::replay_fault::ReplayFault;
-use crate::track::{EACH, Track, first_track, follow_all};
+use crate::track::{Track, first_track, follow_all};
 use cilk_debug_console::{Loaded, Log};
 use cilk_machine::{Machine, MachineFault, Memory};
 use std::alloc::{AllocError, Global};
@@ -22,10 +23,11 @@ use std::marker::Model;
 
 /// A program and its schedule, with a machine behind some of its choices.
 pub(crate) struct Player {
-    alloc: Global,
     program: Loaded,
     log: Log,
     machine: Machine,
+    /// Another machine of the same schedule. A move that may fail half the way is made on one of the two, and the other has not moved then.
+    spare: Machine,
     track: Track,
 }
 
@@ -33,16 +35,17 @@ pub(crate) struct Player {
 impl Drop for Player {
     fn drop(self) {
         let Player {
-            alloc: _,
             program: _program,
             log: _log,
             machine: _machine,
+            spare: _spare,
             track: _track,
         } = self;
     }
 }
 
 impl Model for Player {
+    ghost use Rattle.std.specs.Prelude.{length};
     ghost use Rattle.cilk_debug.specs.Tape.{tape_of};
     ghost use Rattle.cilk_debug.specs.Playing.{Playing, IsPlayer};
     ghost use Rattle.cilk_machine.specs.syntax.ProgramCoding.{coded_Program};
@@ -52,10 +55,11 @@ impl Model for Player {
 
     ghost coded = { Prim.hlevel (codes, coded_Program) };
 
-    ghost view = { λ p. record { tape = tape_of p.program p.log.workers p.log.choices; place = p.machine.choices } };
+    ghost view = { λ p.
+        record { tape = tape_of p.program p.log.workers p.log.choices; place = p.machine.choices; kept = length p.machine.past } };
 
     ghost invariant = { λ p.
-        IsPlayer (tape_of p.program p.log.workers p.log.choices) p.machine p.track.last p.track.checkpoints.items p.track.actions.items };
+        IsPlayer (tape_of p.program p.log.workers p.log.choices) p.machine p.spare p.track.last p.track.checkpoints.items p.track.actions.items };
 }
 
 impl Player {
@@ -63,6 +67,7 @@ impl Player {
     pub fn new(alloc: Global, program: Loaded, log: Log) -> Result<Player, DebugFault>
         ensures tape { IfOk result (λ p. p.tape ≡ tape_of program log.workers log.choices) }
         ensures start { IfOk result (λ p. p.place ≡ 0) }
+        ensures none { IfOk result (λ p. p.kept ≡ 0) }
         ensures whole { IfOk result (λ p. IsPlayable p.tape) }
         ensures told { IfErr result (IsDebugFaultOf (tape_of program log.workers log.choices)) }
         ensures crew { is_crew log.workers ≡ false → result ≡ Err DebugFault.Workers }
@@ -76,18 +81,18 @@ impl Player {
                 drop(log);
                 Err(fault)
             }
-            Ok(track) => match with_records(alloc, &program, log.workers) {
+            Ok(track) => match machines(alloc, &program, log.workers) {
                 Err(_) => {
                     drop(program);
                     drop(log);
                     drop(track);
                     Err(DebugFault::Memory)
                 }
-                Ok(machine) => Ok(Player {
-                    alloc,
+                Ok((machine, spare)) => Ok(Player {
                     program,
                     log,
                     machine,
+                    spare,
                     track,
                 }),
             },
@@ -123,61 +128,11 @@ impl Player {
         &self.machine
     }
 
-    /// Makes the choices up to this many.
-    pub fn go_on(&mut self, to: usize) -> Result<(), Memory>
-        requires ahead { self.old.place ≤ to }
-        requires within { to ≤ length self.old.tape.choices }
-        ensures there { OnOk result (self.new ≡ record self.old { place = to }) }
-        ensures tape { self.new.tape ≡ self.old.tape }
-    {
-        go_on(&mut self.machine, self.log.choices.as_slice(), to)
-    }
-
-    /// Takes choices back until this many are made. False where a record is missing.
-    pub fn go_back(&mut self, to: usize) -> Result<bool, Memory>
-        requires { to ≤ self.old.place }
-        ensures there { result ≡ Ok true → self.new ≡ record self.old { place = to } }
-        ensures tape { self.new.tape ≡ self.old.tape }
-    {
-        go_back(&mut self.machine, to)
-    }
-
-    /// Stands where the checkpoint of this number was kept, counted from 0.
-    pub fn restore(&mut self, number: usize) -> Result<(), Memory>
-        requires { 1000 * number ≤ length self.old.tape.choices }
-        ensures there { OnOk result (self.new ≡ record self.old { place = 1000 * number }) }
-        ensures same { OnErr result (self.new ≡ self.old) }
-    {
-        match self.track.checkpoints.get(number) {
-            None => unreachable!(),
-            Some(checkpoint) => self.machine.return_to(checkpoint, &self.track.last),
-        }
-    }
-
-    /// Another machine, behind the first k choices.
-    pub fn apart(&self, k: usize) -> Result<Machine, Memory>
-        requires { k ≤ length self.now.tape.choices }
-        ensures { IfOk result (IsAt self.now.tape k) }
-    {
-        match with_records(self.alloc, &self.program, self.log.workers) {
-            Err(memory) => Err(memory),
-            Ok(mut machine) => match self.track.checkpoints.get(k / EACH) {
-                None => unreachable!(),
-                Some(checkpoint) => match machine.return_to(checkpoint, &self.track.last) {
-                    Err(memory) => Err(memory),
-                    Ok(()) => match go_on(&mut machine, self.log.choices.as_slice(), k) {
-                        Err(memory) => Err(memory),
-                        Ok(()) => Ok(machine),
-                    },
-                },
-            },
-        }
-    }
-
     /// The position behind the next choice from here on that does something where a breakpoint is set.
     pub fn next_stop(&self, marks: &[bool], from: usize) -> Option<usize>
         requires { from ≤ length self.now.tape.choices }
-        ensures { result ≡ next_stop self.now.tape marks.now from }
+        ensures stop { result ≡ next_stop self.now.tape marks.now from }
+        ensures within { IfSome result (λ k. k ≤ length self.now.tape.choices) }
     {
         next_met(self.track.actions.as_slice(), marks, from)
     }
@@ -185,7 +140,8 @@ impl Player {
     /// The last position before this one behind such a choice.
     pub fn last_stop(&self, marks: &[bool], from: usize) -> Option<usize>
         requires { from ≤ length self.now.tape.choices }
-        ensures { result ≡ last_stop self.now.tape marks.now from }
+        ensures stop { result ≡ last_stop self.now.tape marks.now from }
+        ensures within { IfSome result (λ k. k ≤ length self.now.tape.choices) }
     {
         last_met(self.track.actions.as_slice(), marks, from.saturating_sub(1))
     }
@@ -209,10 +165,30 @@ fn tracked(alloc: Global, program: &Loaded, log: &Log) -> Result<Track, DebugFau
     }
 }
 
+// Two machines of the program before any choice, which keep records.
+fn machines(alloc: Global, program: &Loaded, workers: u8) -> Result<(Machine, Machine), Memory>
+    ensures goes { IfOk result (λ both. GoesAll program.now workers (both.0)) }
+    ensures spare { IfOk result (λ both. GoesAll program.now workers (both.1)) }
+    ensures start { IfOk result (λ both. (both.0).choices ≡ 0) }
+    ensures none { IfOk result (λ both. (both.0).past ≡ []) }
+{
+    match with_records(alloc, program, workers) {
+        Err(memory) => Err(memory),
+        Ok(machine) => match with_records(alloc, program, workers) {
+            Err(memory) => {
+                drop(machine);
+                Err(memory)
+            }
+            Ok(spare) => Ok((machine, spare)),
+        },
+    }
+}
+
 // A machine of a copy of the program before any choice, which keeps records.
 fn with_records(alloc: Global, program: &Loaded, workers: u8) -> Result<Machine, Memory>
     ensures goes { IfOk result (GoesAll program.now workers) }
-    ensures none { IfOk result (λ m. m.choices ≡ 0) }
+    ensures start { IfOk result (λ m. m.choices ≡ 0) }
+    ensures none { IfOk result (λ m. m.past ≡ []) }
 {
     match program.copy() {
         Err(memory) => Err(memory),

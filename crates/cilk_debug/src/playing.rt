@@ -12,7 +12,7 @@ ghost use Rattle.cilk_machine.specs.spawn.Nodes.{path_at};
 ghost use Rattle.cilk_machine.specs.carries.Words.{event_by};
 ghost use Rattle.cilk_machine.specs.Checkpoints.{IsEarlier};
 ghost use Rattle.cilk_machine.specs.Situation.{Situation};
-ghost use Rattle.cilk_debug.specs.Going.{Goes};
+ghost use Rattle.cilk_debug.specs.Going.{Goes, KeepsOneMore};
 ghost use Rattle.cilk_debug.specs.Tape.{Tape, tape_of, did_at, IsAt, IsBad};
 ghost use Rattle.cilk_debug.specs.ReplayFaults.{IsFaultOf, IsNamedFaultOf};
 
@@ -134,6 +134,7 @@ pub fn make_again(
         → did_at t made ≡ Some (event_by (path_at machine.old.machine.nodes) (path_at machine.new.machine.nodes) did)) }
     ensures goes { OnOk result ((t : Tape) → t.choices ≡ map choice_of choices.now → Goes t machine.old → Goes t machine.new) }
     ensures tells { OnOk result ((m : Situation) → IsEarlier m machine.old → IsEarlier m machine.new) }
+    ensures kept { OnOk result (KeepsOneMore machine.old machine.new) }
     ensures told { IfErr result (λ why. (t : Tape) → t.choices ≡ map choice_of choices.now → IsAt t made machine.old → IsFaultOf t why) }
     ensures unchanged { OnErr result (machine.new ≡ machine.old) }
 {

@@ -21,9 +21,9 @@ impl Debugger {
         writer: &mut W,
     ) -> Result<(), SessionFault>
         ensures done { OnOk result ((all : List ℕ) → R.remaining reader.old ≡ Some all
-            → Answers self.old self.new all None (W.contents writer.old) (W.contents writer.new)) }
+            → Answers self.old.shown self.new.shown all None (W.contents writer.old) (W.contents writer.new)) }
         ensures fault { IfErr result (λ why. (all : List ℕ) → R.remaining reader.old ≡ Some all
-            → Breaks self.old self.new all (R.remaining reader.new) (W.contents writer.old) (W.contents writer.new) why) }
+            → Breaks self.old.shown self.new.shown all (R.remaining reader.new) (W.contents writer.old) (W.contents writer.new) why) }
     {
         // A law, whose clauses the proof of the loop cites.
         lines_come_one_by_one();
@@ -51,7 +51,7 @@ impl Debugger {
 
     // Obeys one command, and writes and flushes its answer.
     fn answer<W: Write>(&mut self, command: Command, writer: &mut W) -> Result<(), SessionFault>
-        ensures { Answered self.old self.new (asked_of command) (W.contents writer.old) (W.contents writer.new) result }
+        ensures { Answered self.old.shown self.new.shown (asked_of command) (W.contents writer.old) (W.contents writer.new) result }
     {
         match self.obey(&command) {
             Err(fault) => Err(fault),

@@ -3,7 +3,7 @@
 ghost use Rattle.std.specs.Prelude.{◌≡◌, ℕ, Some};
 ghost use Rattle.cilk_debug_console.specs.model.Path.{Path};
 ghost use Rattle.cilk_machine.specs.carries.Words.{event_by};
-ghost use Rattle.cilk_debug.specs.Breaks.{number_of, is_set, stops_at};
+ghost use Rattle.cilk_debug.specs.Breaks.{number_of, is_set};
 ghost use Rattle.cilk_debug.specs.Tracks.{action_of};
 
 use cilk_machine::Did;
@@ -37,15 +37,5 @@ pub(crate) fn is_set(marks: &[bool], n: u32) -> bool
             None => false,
             Some(mark) => *mark,
         },
-    }
-}
-
-/// Whether a breakpoint is set where this was done.
-pub(crate) fn stops(marks: &[bool], did: Did) -> bool
-    ensures { (up : ℕ → Path) (now : ℕ → Path) → result ≡ stops_at marks.now (number_of (event_by up now did)) }
-{
-    match number_of(did) {
-        None => false,
-        Some(n) => is_set(marks, n),
     }
 }

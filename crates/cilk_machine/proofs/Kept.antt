@@ -1,5 +1,5 @@
 -- A record is kept of each choice, and what is kept of earlier ones changes nothing of where a machine stands.
-use Rattle.std.proofs.Common.{◌≡◌, ◌≤◌, ◌+◌, ◌-◌, ◌++◌, ◌∷◌, [], ℕ, Bool, true, false, List, Option, Some, None, length, map, take, refl, sym}
+use Rattle.std.proofs.Common.{◌≡◌, ◌≤◌, ◌+◌, ◌-◌, ◌++◌, ◌∷◌, [], ℕ, Bool, true, false, List, Option, Some, None, length, map, take, suc, refl, sym}
 use Rattle.std.proofs.Common.{ap, ◌∙◌, subst, arith, append-nil, option_to_list}
 use Rattle.std.specs.Prelude.{IfSome, IfNone, MatchOption}
 use Rattle.std.proofs.lemmas.List.{reverse-append}
@@ -229,3 +229,7 @@ module _ {p : Program} {parts : Parts} {trapper : ℕ} {outcome : Outcome} {choi
     none = λ e. is;
     room = λ e. (let before = inv.room e in omega (arith, before, fewer, wider));
   }
+
+pub length-pasts : (us : List Undo) (b : Before) → length (pasts us b) ≡ length us
+length-pasts [] b = refl
+length-pasts (u ∷ us) b = ap suc (length-pasts us (before_by u b))

@@ -3,6 +3,7 @@
 mod breaks;
 mod moves;
 mod views;
+mod work;
 
 use cilk_commands::ready_of;
 use cilk_debug::{DebugFault, Debugger};

@@ -1,6 +1,6 @@
 //! Steps of which a record is kept, and choices that are taken back.
 
-ghost use Rattle.std.specs.Prelude.{◌≡◌, ◌<◌, ◌-◌, ◌^◌, true, false, [], None, IfOk, IfErr, OnErr};
+ghost use Rattle.std.specs.Prelude.{◌≡◌, ◌<◌, ◌-◌, ◌^◌, true, false, [], length, None, IfOk, IfErr, OnErr};
 ghost use Rattle.cilk_machine_choices.specs.model.Choice as choices;
 ghost use Rattle.cilk_machine.specs.Refused.{refused_by, planned_in, IsLight};
 ghost use Rattle.cilk_machine.specs.Made.{MakesBy, TakesBack};
@@ -36,6 +36,13 @@ impl Machine {
                 }
             },
         }
+    }
+
+    /// How many choices can be taken back.
+    pub fn records(&self) -> usize
+        ensures { result ≡ length self.now.past }
+    {
+        self.records.as_slice().len()
     }
 
     /// Drops the records. Nothing else changes: records go on being kept, if they were.

@@ -25,17 +25,18 @@ pub returns-in-Ok-session-clause-ok : goal.returns-in-Ok-session-clause-ok
 returns-in-Ok-session-clause-ok g c = λ held is.
     let t = tape_of c.in-Ok.taped.program c.in-Ok.taped.log.workers c.in-Ok.taped.log.choices in
     let made = c.in-Ok-new.ensures in
-    answered held c.args.text.now t c.in-Ok-new.debugger _ _ _
+    answered held c.args.text.now t c.in-Ok-new.debugger.shown _ _ _
     (own_held held c.args.text.now c.in-Ok.taped.log.program t (c.in-Ok.ensures.ok held is) made.own)
-    (opens c.in-Ok-new.debugger t made.tape made.start made.marks) (playable_of c.in-Ok-new.debugger t made.tape made.whole) _ c.in-Ok-session.ensures.done
+    (opens c.in-Ok-new.debugger.shown t made.tape made.start made.marks)
+    (playable_of c.in-Ok-new.debugger.shown t made.tape made.whole) _ c.in-Ok-session.ensures.done
 
 pub returns-in-Err-session-clause-part : goal.returns-in-Err-session-clause-part
 returns-in-Err-session-clause-part g c = λ held is other.
     let t = tape_of c.in-Ok.taped.program c.in-Ok.taped.log.workers c.in-Ok.taped.log.choices in
     let made = c.in-Ok-new.ensures in
-    inr (broken held c.args.text.now t c.in-Ok-new.debugger _ _ _
+    inr (broken held c.args.text.now t c.in-Ok-new.debugger.shown _ _ _
     (own_held held c.args.text.now c.in-Ok.taped.log.program t (c.in-Ok.ensures.ok held is) made.own)
-    (opens c.in-Ok-new.debugger t made.tape made.start made.marks) (playable_of c.in-Ok-new.debugger t made.tape made.whole) _ _
+    (opens c.in-Ok-new.debugger.shown t made.tape made.start made.marks) (playable_of c.in-Ok-new.debugger.shown t made.tape made.whole) _ _
     c.in-Err-session.fault c.in-Err-session.ensures.fault
     (λ is_write. other (ap status_of (c.broken_off.ensures ∙ ap broken_off is_write))))
 
@@ -81,9 +82,9 @@ pub returns-in-Err-session-clause-begun : goal.returns-in-Err-session-clause-beg
 returns-in-Err-session-clause-begun g c = λ held is failed.
     let t = tape_of c.in-Ok.taped.program c.in-Ok.taped.log.workers c.in-Ok.taped.log.choices in
     let made = c.in-Ok-new.ensures in
-    broken_writing held c.args.text.now t c.in-Ok-new.debugger _ _ _
+    broken_writing held c.args.text.now t c.in-Ok-new.debugger.shown _ _ _
     (own_held held c.args.text.now c.in-Ok.taped.log.program t (c.in-Ok.ensures.ok held is) made.own)
-    (opens c.in-Ok-new.debugger t made.tape made.start made.marks) (playable_of c.in-Ok-new.debugger t made.tape made.whole) _ _
+    (opens c.in-Ok-new.debugger.shown t made.tape made.start made.marks) (playable_of c.in-Ok-new.debugger.shown t made.tape made.whole) _ _
     c.in-Err-session.fault c.in-Err-session.ensures.fault (broken_by_writer c.in-Err-session.fault (ap status_of (sym c.broken_off.ensures) ∙ failed))
 
 -- ---- with a choice that was found not to be possible before

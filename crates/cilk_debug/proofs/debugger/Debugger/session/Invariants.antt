@@ -6,7 +6,7 @@ use Rattle.cilk_debug.proofs.debugger.Debugger.session.Given as goal
 
 abbrev pub invariant-lines : goal.invariant-lines
 invariant-lines g l = (all : List ℕ) → g.R.Read.remaining l.fn.reader ≡ Some all
-    → Going l.fn.self l.self all l.lines.taken (ahead l.lines.unread (g.R.Read.remaining l.reader)) (g.W.Write.contents l.fn.writer)
+    → Going l.fn.self.shown l.self.shown all l.lines.taken (ahead l.lines.unread (g.R.Read.remaining l.reader)) (g.W.Write.contents l.fn.writer)
     (g.W.Write.contents l.writer)
 
 abbrev pub decreases-lines : goal.decreases-lines

@@ -11,6 +11,7 @@ invariant_of-result c =
     let track = c.in-Ok.track in
     let t = tape_of c.args.program c.args.log.workers choices in
     record {
-      goes = c.in-Ok-with_records.ensures.goes (map choice_of choices);
+      goes = c.in-Ok-machines.ensures.goes (map choice_of choices);
+      spare = c.in-Ok-machines.ensures.spare (map choice_of choices);
       track = subst (λ n. IsTrack t n track.last track.checkpoints.items track.actions.items) (sym (length-map choices choice_of)) c.in-Ok.ensures.track;
     }
