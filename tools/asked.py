@@ -88,6 +88,8 @@ def asked_of(binary, name, limit, folder, workers=4, recorded=None):
     run = ["run", f"{name}.cilk", "--limit", str(limit)]
     forms = [(["check", f"{name}.cilk"], b""), (["check", "-"], text), (["print", f"{name}.cilk"], b""), (run, b""), ([*run, "--log", "written"], b"")]
     forms += [([*run, "--workers", str(workers)], b"")] * (workers > 1) + [(["replay", f"{name}.cilk", log], b""), (["debug", f"{name}.cilk", log], session)]
+    seeded = [*run, "--workers", "2", "--seed", "7"]
+    forms += [(seeded, b""), ([*seeded, "--runs", "3"], b""), (["measure", f"{name}.cilk"], b""), (["measure", f"{name}.cilk", log], b"")]
     made = []
     for words, given in forms:
         fronts = {b""}

@@ -6,4 +6,5 @@ pub mod Words
 pub mod Kept
 pub mod Gauged
 pub mod Held
+pub use Rattle.cilk_debug.specs as debug
 pub use Rattle.cilk_events.specs as events

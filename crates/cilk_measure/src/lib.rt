@@ -11,6 +11,10 @@ mod seat;
 mod tally;
 mod telling;
 
+pub use cilk_debug::{
+    Choices, DebugFault, Debugger, Log, LogFault, Memory, ReplayFault, SessionFault, play,
+    play_all, read_log, write_log,
+};
 pub use measure::Measure;
 pub use measuring::{Measured, measure_all};
 pub use telling::put_measure;

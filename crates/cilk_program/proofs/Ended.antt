@@ -15,7 +15,7 @@ use Rattle.cilk_program.proofs.Whole.{any_held}
 use Rattle.cilk_program.specs.Taped.{Declines}
 use Rattle.cilk_program.specs.declared.failure.RecordFailure.{RecordFailure}
 use Rattle.cilk_program.specs.declared.failure.RecordFailure.TheVariants as why
-use Rattle.cilk_words.specs.CommandLine.{Asked, Wanted, printed, checked, run, replayed, debugged, asked}
+use Rattle.cilk_words.specs.CommandLine.{Asked, Wanted, printed, checked, run, replayed, measured, debugged, asked}
 use Rattle.cilk_words.specs.Refusing.{IsNoRequest, asks_for_help, asks_for_version, asks_to_show}
 use Rattle.cilk_words.specs.declared.refusal.NoRequest.{NoRequest}
 use Rattle.cilk_words.specs.declared.refusal.NoRequest.TheVariants as refusal
@@ -75,9 +75,13 @@ pub unread : (wanted : Wanted) (explain : Bool) (name : List ℕ) (status : Stat
     → Fails wanted explain name status known held old new
 unread printed explain name status known held old new found other is told = nothing_read Unready explain name status known old new found other is told
 unread checked explain name status known held old new found other is told = nothing_read Unready explain name status known old new found other is told
-unread (run workers limit log) explain name status known held old new found other is told =
+unread (run workers limit log seed runs) explain name status known held old new found other is told =
     no_run workers _ explain name (log_name log) status known old new found other is told
 unread (replayed log) explain name status known held old new found other is told =
+    no_program Declines explain name log status known (held log) old new found other is told
+unread (measured None) explain name status known held old new found other is told =
+    nothing_read Unready explain name status known old new found other is told
+unread (measured (Some log)) explain name status known held old new found other is told =
     no_program Declines explain name log status known (held log) old new found other is told
 unread (debugged log) explain name status known held old new found other is told =
     no_program Declines explain name log status known (held log) old new found other is told
@@ -87,8 +91,9 @@ pub leaves_nothing : (wanted : Wanted) (status : Status) (known : Option (List �
     → status ≢ ended.CannotWrite → new ≡ old → Leaves wanted status known held entered old new
 leaves_nothing printed status known held entered old new other same = λ bad. absurd (other bad)
 leaves_nothing checked status known held entered old new other same = λ bad. absurd (other bad)
-leaves_nothing (run workers limit log) status known held entered old new other same = λ bad. absurd (other bad)
+leaves_nothing (run workers limit log seed runs) status known held entered old new other same = λ bad. absurd (other bad)
 leaves_nothing (replayed log) status known held entered old new other same = λ bad. absurd (other bad)
+leaves_nothing (measured log) status known held entered old new other same = λ bad. absurd (other bad)
 leaves_nothing (debugged log) status known held entered old new other same = (λ bad. absurd (other bad), λ not. inl same)
 
 -- memory that ran out before a text was opened: the line has no name
@@ -154,7 +159,7 @@ refused_words words held entered (refusal.Usage text) status old new err_old err
     (nothing_done words held entered ended.Usage old new err_old err_new tells.0 (λ bad. cc) (λ bad. cc) (λ same. tells.1)
     (λ answer. let bad : false ≡ true = answer in cc)
     (λ no_help no_version. inl refl))
-refused_words words held entered (refusal.Dash dash) status old new err_old err_new tells is_usage memory kept =
+refused_words words held entered (refusal.Clash clash) status old new err_old err_new tells is_usage memory kept =
     subst (λ s. Ends words held entered s old new err_old err_new) (sym is_usage)
     (nothing_done words held entered ended.Usage old new err_old err_new tells.1.0 (λ bad. cc) (λ bad. cc) (λ same. tells.1.1)
     (λ answer. let bad : false ≡ true = answer in cc)

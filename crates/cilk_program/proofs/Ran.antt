@@ -1,33 +1,54 @@
 -- The texts of a machine that is not moved any more.
 use Rattle.std.proofs.Common.{◌≡◌, ◌≤◌, ℕ, Bool, true, List, length, map, take, sym, ap, ◌∙◌, subst}
-use Rattle.std.specs.Prelude.{Result, Ok, Err, IfOk}
+use Rattle.std.specs.Prelude.{Option, Some, None, Result, Ok, Err, IfOk, IfSome}
 use Rattle.std.proofs.lemmas.List.{length-map}
+use Rattle.std.proofs.Math.Seq.{take-length}
 use Rattle.cilk_commands.specs.syntax.Tree.{Program}
 use Rattle.cilk_commands.specs.labelled.Bodies.{label}
-use Rattle.cilk_run.specs.model.Run.{Standing, after}
-use Rattle.cilk_run.specs.model.End as end
-use Rattle.cilk_run.specs.Runs as Runs
-use Rattle.cilk_run.specs.declared.run_result.Run.{Run}
-use Rattle.cilk_run.specs.choices.Words.{choice_of, end_of}
-use Rattle.cilk_run.specs.choices.declared.choice.Choice as code
-use Rattle.cilk_run.specs.machine.Situation.{Situation}
-use Rattle.cilk_run.specs.machine.Stands.{StandsAt}
-use Rattle.cilk_debug.specs.log.Text.{log_text}
-use Rattle.cilk_debug.specs.log.Words.{log_of}
-use Rattle.cilk_debug.specs.Tape.{Tape, tape_of, IsAt}
+use Rattle.cilk_seed.specs.model.Run.{Standing, after}
+use Rattle.cilk_seed.specs.model.End as end
+use Rattle.cilk_seed.specs.run.Runs as Runs
+use Rattle.cilk_seed.specs.run.declared.run_result.Run.{Run}
+use Rattle.cilk_seed.specs.choices.Words.{choice_of, end_of}
+use Rattle.cilk_seed.specs.choices.declared.choice.Choice as code
+use Rattle.cilk_seed.specs.machine.Situation.{Situation}
+use Rattle.cilk_seed.specs.machine.Stands.{StandsAt}
+use Rattle.cilk_seed.specs.Drawn.{drawn}
+use Rattle.cilk_measure.specs.debug.log.Text.{log_text}
+use Rattle.cilk_measure.specs.debug.log.Words.{log_of}
+use Rattle.cilk_measure.specs.debug.Tape.{Tape, tape_of, IsAt}
 use Rattle.cilk_commands.specs.Loading.{IsReady}
 use Rattle.cilk_commands.specs.declared.status.Status.{Status}
 use Rattle.cilk_program.specs.Running.{IsRun, status_at}
 use Rattle.cilk_program.specs.declared.closing.Closing.{Closing}
 use Rattle.cilk_program.specs.declared.run.RunAnswer.{RunAnswer}
 use Rattle.cilk_program.specs.Replaying.{ClosesAt, IsReplayed}
+use Rattle.cilk_program.specs.Measuring.{IsMeasured, IsMeasuredRun, measured_limit}
 use Rattle.cilk_program.specs.Taped.{IsOwnTape}
 
+-- the choices are those of the seed, if there is one
+abbrev pub IsNamed : Option ℕ → Program → ℕ → ℕ → Run → Type 0
+IsNamed seed p workers limit r = IfSome seed (λ s. map choice_of r.log.choices ≡ drawn (label p) workers s limit)
+
+-- without a seed there is nothing to say of the choices, and else what was said of its number
+pub unnamed : {E : Type 0} (seed : Option ℕ) (p : Program) (workers limit : ℕ) (result : Result Run E) → seed ≡ None
+    → IfOk result (λ r. IsNamed seed p workers limit r)
+unnamed None p workers limit (Ok r) none = tt
+unnamed (Some s) p workers limit (Ok r) none = cc
+unnamed seed p workers limit (Err e) none = tt
+
+pub named_by : {E : Type 0} (seed : Option ℕ) (s at : ℕ) (p : Program) (workers limit : ℕ) (result : Result Run E) → seed ≡ Some s → at ≡ s
+    → IfOk result (λ r. map choice_of r.log.choices ≡ drawn (label p) workers at limit) → IfOk result (λ r. IsNamed seed p workers limit r)
+named_by seed s at p workers limit (Ok r) given same are =
+    subst (λ (o : Option ℕ). IsNamed o p workers limit r) (sym given)
+    (subst (λ n. map choice_of r.log.choices ≡ drawn (label p) workers n limit) same are)
+named_by seed s at p workers limit (Err e) given same are = tt
+
 -- the closing text of a run, and its log
-pub ran : (workers limit : ℕ) (bytes text : List ℕ) (p : Program) (r : Run) → IsReady bytes p → Runs.IsRun p workers limit r
-    → text ≡ end.ending r.output (end_of r.end) (length r.log.choices)
-    → IsRun workers limit (status_at (end_of r.end)) bytes (log_text (log_of r.log)) text
-ran workers limit bytes text p r ready l is =
+pub ran : (workers limit : ℕ) (seed : Option ℕ) (bytes text : List ℕ) (p : Program) (r : Run) → IsReady bytes p → Runs.IsRun p workers limit r
+    → IsNamed seed p workers limit r → text ≡ end.ending r.output (end_of r.end) (length r.log.choices)
+    → IsRun workers limit seed (status_at (end_of r.end)) bytes (log_text (log_of r.log)) text
+ran workers limit seed bytes text p r ready l named is =
     let count : length r.log.choices ≡ length (map choice_of r.log.choices) = sym (length-map r.log.choices choice_of) in
     record {
       program = p;
@@ -36,6 +57,7 @@ ran workers limit bytes text p r ready l is =
       at = l.at;
       led = l.led;
       within = subst (λ n. n ≤ limit) count l.within;
+      named = named;
       whole = λ e. sym count ∙ l.whole e;
       tells = ap status_at l.end;
       is = is ∙ (λ i. end.ending (l.output i) (l.end i) (count i));
@@ -43,17 +65,19 @@ ran workers limit bytes text p r ready l is =
     }
 
 -- the texts that are made of a run
-pub told_of : {E : Type 0} (workers limit : ℕ) (p : Program) (r : Run) (is_logged : Bool) (texts : Result RunAnswer E) → Runs.IsRun p workers limit r
+pub told_of : {E : Type 0} (workers limit : ℕ) (seed : Option ℕ) (p : Program) (r : Run) (is_logged : Bool) (texts : Result RunAnswer E)
+    → Runs.IsRun p workers limit r → IsNamed seed p workers limit r
     → IfOk texts (λ t. t.status ≡ status_at (end_of r.end)) → IfOk texts (λ t. t.answer.items ≡ end.ending r.output (end_of r.end) (length r.log.choices))
     → (is_logged ≡ true → IfOk texts (λ t. t.log.items ≡ log_text (log_of r.log)))
     → IfOk texts (λ t. (bytes : List ℕ) → IsReady bytes p
-    → (log : List ℕ) × IsRun workers limit t.status bytes log t.answer.items × (is_logged ≡ true → t.log.items ≡ log))
-told_of workers limit p r is_logged (Ok t) l status text log = λ bytes ready. (
+    → (log : List ℕ) × IsRun workers limit seed t.status bytes log t.answer.items × (is_logged ≡ true → t.log.items ≡ log))
+told_of workers limit seed p r is_logged (Ok t) l named status text log = λ bytes ready. (
   log_text (log_of r.log),
-  subst (λ s. IsRun workers limit s bytes (log_text (log_of r.log)) t.answer.items) (sym status) (ran workers limit bytes t.answer.items p r ready l text),
+  subst (λ s. IsRun workers limit seed s bytes (log_text (log_of r.log)) t.answer.items) (sym status)
+      (ran workers limit seed bytes t.answer.items p r ready l named text),
   log,
 )
-told_of workers limit p r is_logged (Err e) l status text log = tt
+told_of workers limit seed p r is_logged (Err e) l named status text log = tt
 
 -- the closing text that is made of what a machine tells
 pub closes_by : {E : Type 0} (closing : Result Closing E) (m : Situation) (output : List ℕ) (ended : end.End) (n : ℕ)
@@ -88,3 +112,22 @@ pub all_replayed : (status : Status) (text bytes answer : List ℕ) (p : Program
     → ((at : Standing) → StandsAt m at → ClosesAt m at status answer) → IsReplayed status text bytes answer
 all_replayed status text bytes answer p workers made m is_tape a closes =
     replayed status text bytes answer (tape_of p workers made) (length made) m is_tape (sym (length-map made choice_of)) a closes
+
+-- ---- numbers
+
+-- those of a run by one worker
+pub alone_is : (p : Program) (r : Run) (answer text : List ℕ) → Runs.IsRun p 1 measured_limit r
+    → IsMeasured (tape_of p r.log.workers r.log.choices) answer → IsReady text p → IsMeasuredRun text answer
+alone_is p r answer text l are ready =
+    let choices = map choice_of r.log.choices in
+    let count : length r.log.choices ≡ length choices = sym (length-map r.log.choices choice_of) in
+    record {
+      tape = tape_of p r.log.workers r.log.choices;
+      ready = ready;
+      alone = l.workers;
+      at = l.at;
+      led = (λ i. after (label p) (l.workers i) (take-length choices i)) ∙ l.led;
+      within = subst (λ n. n ≤ measured_limit) count l.within;
+      whole = λ e. sym count ∙ l.whole e;
+      is = are;
+    }

@@ -23,7 +23,7 @@ abbrev pub Shows : NoRequest → Status → Option (List ℕ) → Option (List �
 Shows (refusal.Help text) status old new = IsShown (string_bytes text) status old new
 Shows (refusal.Version text) status old new = IsShown (string_bytes text) status old new
 Shows (refusal.Usage text) status old new = status ≡ ended.Usage
-Shows (refusal.Dash dash) status old new = status ≡ ended.Usage
+Shows (refusal.Clash clash) status old new = status ≡ ended.Usage
 Shows refusal.Memory status old new = status ≡ ended.Memory
 
 -- how it ends where there are no words, since they cannot be had

@@ -9,4 +9,6 @@ pub mod GivingUp
 pub mod Taped
 pub mod Running
 pub mod Replaying
+pub mod Tallying
+pub mod Measuring
 pub mod Debugging

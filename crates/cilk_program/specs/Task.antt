@@ -8,29 +8,57 @@ use Rattle.cilk_commands.specs.declared.status.Status.{Status}
 use Rattle.cilk_commands.specs.declared.status.Status.TheVariants.{CannotWrite, Done}
 use Rattle.cilk_program.specs.Debugging.{Debugs, DebugsFront, DebugsPart}
 use Rattle.cilk_program.specs.GivingUp.{GivesUpRun, GivesUp as GivesUpOfLog}
+use Rattle.cilk_program.specs.Measuring.{MeasuresLog, MeasuresLogFront, MeasuresRun, MeasuresRunFront}
 use Rattle.cilk_program.specs.Replaying.{Replays, ReplaysFront}
 use Rattle.cilk_program.specs.Running.{Runs, RunsFront}
+use Rattle.cilk_program.specs.Tallying.{Tallies, TalliesFront}
 use Rattle.cilk_program.specs.Taped.{Declines}
-use Rattle.cilk_words.specs.CommandLine.{Wanted, printed, checked, run, replayed, debugged}
+use Rattle.cilk_words.specs.CommandLine.{Wanted, printed, checked, run, replayed, measured, debugged}
 
 -- commands are to be answered
 abbrev pub is_session : Wanted → Bool
 is_session printed = false
 is_session checked = false
-is_session (run workers limit log) = false
+is_session (run workers limit log seed runs) = false
 is_session (replayed log) = false
+is_session (measured log) = false
 is_session (debugged log) = true
 
 -- a run, with some store for its log, whose bytes may be known
-pub record RunsSomewhere (workers limit : ℕ) (status : Status) (known old new : Option (List ℕ)) : Type 0 where
+pub record RunsSomewhere (workers limit : ℕ) (seed : Option ℕ) (status : Status) (known old new : Option (List ℕ)) : Type 0 where
   pub stored_old : Option (List ℕ)
   pub stored_new : Option (List ℕ)
-  pub is : Runs workers limit status known stored_old stored_new old new
+  pub is : Runs workers limit seed status known stored_old stored_new old new
 
-pub record RunsFrontSomewhere (workers limit : ℕ) (known old new : Option (List ℕ)) : Type 0 where
+pub record RunsFrontSomewhere (workers limit : ℕ) (seed : Option ℕ) (known old new : Option (List ℕ)) : Type 0 where
   pub stored_old : Option (List ℕ)
   pub stored_new : Option (List ℕ)
-  pub is : RunsFront workers limit known stored_old stored_new old new
+  pub is : RunsFront workers limit seed known stored_old stored_new old new
+
+-- of several seeds it is a tally
+abbrev pub RunsAsAsked : ℕ → ℕ → Option ℕ → Option ℕ → Status → Option (List ℕ) → Option (List ℕ) → Option (List ℕ) → Type 0
+RunsAsAsked workers limit seed None status known old new = RunsSomewhere workers limit seed status known old new
+RunsAsAsked workers limit None (Some runs) status known old new = RunsSomewhere workers limit None status known old new
+RunsAsAsked workers limit (Some seed) (Some runs) status known old new = (status ≡ Done) × Tallies workers limit seed runs known old new
+
+abbrev pub RunsFrontAsAsked : ℕ → ℕ → Option ℕ → Option ℕ → Option (List ℕ) → Option (List ℕ) → Option (List ℕ) → Type 0
+RunsFrontAsAsked workers limit seed None known old new = RunsFrontSomewhere workers limit seed known old new
+RunsFrontAsAsked workers limit None (Some runs) known old new = RunsFrontSomewhere workers limit None known old new
+RunsFrontAsAsked workers limit (Some seed) (Some runs) known old new = TalliesFront workers limit seed runs known old new
+
+-- the numbers of a log, or of a run by one worker
+abbrev pub MeasuresAsAsked : Option (List ℕ) → Option (List ℕ) → (List ℕ → Option (List ℕ)) → Option (List ℕ) → Option (List ℕ) → Type 0
+MeasuresAsAsked None known held old new = MeasuresRun known old new
+MeasuresAsAsked (Some log) known held old new = MeasuresLog known (held log) old new
+
+abbrev pub MeasuresFrontAsAsked : Option (List ℕ) → Option (List ℕ) → (List ℕ → Option (List ℕ)) → Option (List ℕ) → Option (List ℕ) → Type 0
+MeasuresFrontAsAsked None known held old new = MeasuresRunFront known old new
+MeasuresFrontAsAsked (Some log) known held old new = MeasuresLogFront known (held log) old new
+
+abbrev pub FailsToMeasure : Option (List ℕ) → Bool → List ℕ → Status → Option (List ℕ) → (List ℕ → Option (List ℕ)) → Option (List ℕ) → Option (List ℕ)
+    → Type 0
+FailsToMeasure None explain name status known held old new = GivesUp Unready explain name status known old new
+FailsToMeasure (Some log) explain name status known held old new = GivesUpOfLog Declines explain name log status known (held log) old new
 
 -- the name by which a log is told of, where there is one
 abbrev pub log_name : Option (List ℕ) → List ℕ
@@ -42,16 +70,19 @@ log_name (Some name) = name
 abbrev pub Does : Wanted → Status → Option (List ℕ) → (List ℕ → Option (List ℕ)) → Option (List ℕ) → Option (List ℕ) → Option (List ℕ) → Type 0
 Does printed status known held entered old new = (status ≡ Done) × Prints known old new
 Does checked status known held entered old new = (status ≡ Done) × Passes known old new
-Does (run workers limit log) status known held entered old new = RunsSomewhere workers limit status known old new
+Does (run workers limit log seed runs) status known held entered old new = RunsAsAsked workers limit seed runs status known old new
 Does (replayed log) status known held entered old new = Replays status known (held log) old new
+Does (measured log) status known held entered old new = (status ≡ Done) × MeasuresAsAsked log known held old new
 Does (debugged log) status known held entered old new = (status ≡ Done) × Debugs known (held log) entered old new
 
 -- or it has failed, and has gained at most the first bytes of that; of a session that breaks off otherwise whole answers
 abbrev pub Leaves : Wanted → Status → Option (List ℕ) → (List ℕ → Option (List ℕ)) → Option (List ℕ) → Option (List ℕ) → Option (List ℕ) → Type 0
 Leaves printed status known held entered old new = status ≡ CannotWrite → PrintsFront known old new
 Leaves checked status known held entered old new = status ≡ CannotWrite → PassesFront known old new
-Leaves (run workers limit log) status known held entered old new = status ≡ CannotWrite → RunsFrontSomewhere workers limit known old new
+Leaves (run workers limit log seed runs) status known held entered old new =
+    status ≡ CannotWrite → RunsFrontAsAsked workers limit seed runs known old new
 Leaves (replayed log) status known held entered old new = status ≡ CannotWrite → ReplaysFront known (held log) old new
+Leaves (measured log) status known held entered old new = status ≡ CannotWrite → MeasuresFrontAsAsked log known held old new
 Leaves (debugged log) status known held entered old new =
     (status ≡ CannotWrite → DebugsFront known (held log) entered old new) × (status ≢ CannotWrite → (new ≡ old) ⊎ DebugsPart known (held log) entered old new)
 
@@ -59,6 +90,8 @@ Leaves (debugged log) status known held entered old new =
 abbrev pub Fails : Wanted → Bool → List ℕ → Status → Option (List ℕ) → (List ℕ → Option (List ℕ)) → Option (List ℕ) → Option (List ℕ) → Type 0
 Fails printed explain name status known held old new = GivesUp Unready explain name status known old new
 Fails checked explain name status known held old new = GivesUp Unready explain name status known old new
-Fails (run workers limit log) explain name status known held old new = GivesUpRun workers (is_some log) explain name (log_name log) status known old new
+Fails (run workers limit log seed runs) explain name status known held old new =
+    GivesUpRun workers (is_some log) explain name (log_name log) status known old new
 Fails (replayed log) explain name status known held old new = GivesUpOfLog Declines explain name log status known (held log) old new
+Fails (measured log) explain name status known held old new = FailsToMeasure log explain name status known held old new
 Fails (debugged log) explain name status known held old new = GivesUpOfLog Declines explain name log status known (held log) old new

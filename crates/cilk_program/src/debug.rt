@@ -3,9 +3,9 @@
 ghost use Rattle.std.specs.Prelude.{◌≡◌, ◌≢◌, ◌⊎◌, true, false, ℕ, List, [], Option, IfSome, IfOk, IfErr, string_bytes};
 ghost use Rattle.cilk_commands.specs.Held.{Held};
 ghost use Rattle.cilk_commands.specs.Status.{is_answer};
-ghost use Rattle.cilk_debug.specs.ReplayFaults.{IsNamedFaultOf};
-ghost use Rattle.cilk_debug.specs.Tape.{tape_of};
-ghost use Rattle.cilk_debug.specs.log.Words.{log_of};
+ghost use Rattle.cilk_measure.specs.debug.ReplayFaults.{IsNamedFaultOf};
+ghost use Rattle.cilk_measure.specs.debug.Tape.{tape_of};
+ghost use Rattle.cilk_measure.specs.debug.log.Words.{log_of};
 ghost use Rattle.cilk_program.specs.GivingUp.{FollowsProgram, GivesUp};
 ghost use Rattle.cilk_program.specs.Taped.{Declines};
 ghost use Rattle.cilk_program.specs.Telling.{status_of};
@@ -19,7 +19,7 @@ use crate::note::Note;
 use crate::streams::Streams;
 use crate::taped::{Taped, tape_in};
 use cilk_commands::{Failure, Loaded, Status, read_text};
-use cilk_debug::{DebugFault, Debugger, Log, ReplayFault, SessionFault, play_all};
+use cilk_measure::{DebugFault, Debugger, Log, ReplayFault, SessionFault, play_all};
 use std::alloc::Global;
 use std::io::{Read, Write};
 

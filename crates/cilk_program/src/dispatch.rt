@@ -86,8 +86,8 @@ fn tell<O: Write, E: Write>(refusal: &NoRequest, streams: &mut Streams<O, E>) ->
             let _ = streams.errors.write_all(text.as_bytes());
             Status::Usage
         }
-        NoRequest::Dash(dash) => {
-            let _ = streams.errors.write_all(dash.text().as_bytes());
+        NoRequest::Clash(clash) => {
+            let _ = streams.errors.write_all(clash.text().as_bytes());
             Status::Usage
         }
         NoRequest::Memory => Failure::Memory.report("", &mut streams.errors),

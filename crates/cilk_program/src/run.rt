@@ -1,11 +1,13 @@
-//! The subcommand `run`: a run by workers, its log, and how it ends.
+//! The subcommand `run`: a run by workers or by a seed, its log, and how it ends.
 
-ghost use Rattle.std.specs.Prelude.{◌≡◌, ◌≢◌, ℕ, List, [], length, true, false, None, IfOk, IfErr, OnOk, OnErr, option_map};
+ghost use Rattle.std.specs.Prelude.{◌≡◌, ◌≢◌, ◌<◌, ◌⊎◌, ◌↔◌, ℕ, List, [], length, map, true, false, None, Err, IfOk, IfErr, IfSome, OnOk, OnErr, option_map};
 ghost use Rattle.std.specs.Io.KnownBytes.{Appends};
-ghost use Rattle.cilk_run.specs.choices.Words.{end_of};
-ghost use Rattle.cilk_debug.specs.log.Text.{log_text};
-ghost use Rattle.cilk_debug.specs.log.Words.{log_of};
-ghost use Rattle.cilk_run.specs.model.End as model;
+ghost use Rattle.cilk_commands.specs.labelled.Bodies.{label};
+ghost use Rattle.cilk_seed.specs.run.Runs.{IsRun as IsRunOf};
+ghost use Rattle.cilk_seed.specs.choices.Words.{choice_of, end_of};
+ghost use Rattle.cilk_measure.specs.debug.log.Text.{log_text};
+ghost use Rattle.cilk_measure.specs.debug.log.Words.{log_of};
+ghost use Rattle.cilk_seed.specs.model.End as model;
 ghost use Rattle.cilk_commands.specs.Loading.{IsReady};
 ghost use Rattle.cilk_commands.specs.Status.{is_answer};
 ghost use Rattle.cilk_program.specs.GivingUp.{FollowsProgram, GivesUpRun, IsOfRun, NoProgram};
@@ -14,6 +16,7 @@ ghost use Rattle.cilk_commands.specs.Front.{Gains};
 ghost use Rattle.cilk_program.specs.Saying.{ExplainsTrap, IsTrapOf, tells_trap};
 ghost use Rattle.cilk_program.specs.Task.{log_name};
 ghost use Rattle.cilk_program.specs.Telling.{status_of};
+ghost use Rattle.cilk_seed.specs.Drawn.{drawn};
 
 use crate::closing::{Closing, closing_of_run};
 use crate::failure::RecordFailure;
@@ -22,8 +25,8 @@ use crate::store::LogStore;
 use crate::streams::Streams;
 use crate::trapped::{Ended, Trapped};
 use cilk_commands::{Failure, Loaded, Status, read_text, ready_of, write_answer};
-use cilk_debug::write_log;
-use cilk_run::{Open, Run, RunFault, run};
+use cilk_measure::write_log;
+use cilk_seed::{Open, Run, RunFault, play, run};
 use std::alloc::Global;
 use std::io::{Read, Write};
 use std::sync::Wait;
@@ -41,7 +44,7 @@ pub fn run_text<H: Threads + Wait + Sync, R: Read, S: LogStore, O: Write, E: Wri
     store: &mut S,
     streams: &mut Streams<O, E>,
 ) -> Status
-    ensures done { is_answer result ≡ true → Runs task.now.workers task.now.limit result (R.remaining reader.old)
+    ensures done { is_answer result ≡ true → Runs task.now.workers task.now.limit task.now.seed result (R.remaining reader.old)
         (S.stored store.old) (S.stored store.new) (O.contents streams.old.output) (O.contents streams.new.output) }
     ensures usage { result ≢ Status.Usage }
 
@@ -49,7 +52,7 @@ pub fn run_text<H: Threads + Wait + Sync, R: Read, S: LogStore, O: Write, E: Wri
     ensures told { is_answer result ≡ false
         → GivesUpRun task.now.workers (S.wanted store.old) task.now.explain task.now.program.now (log_name (option_map (λ it. it.now) task.now.log)) result
         (R.remaining reader.old) (E.contents streams.old.errors) (E.contents streams.new.errors) }
-    ensures begun { result ≡ Status.CannotWrite → RunsFront task.now.workers task.now.limit (R.remaining reader.old)
+    ensures begun { result ≡ Status.CannotWrite → RunsFront task.now.workers task.now.limit task.now.seed (R.remaining reader.old)
         (S.stored store.old) (S.stored store.new) (O.contents streams.old.output) (O.contents streams.new.output) }
 
     // Behind an answer.
@@ -89,7 +92,7 @@ fn run_stored<H: Threads + Wait + Sync, S: LogStore, W: Write>(
     store: &mut S,
     out: &mut W,
 ) -> Result<Ended, RecordFailure>
-    ensures ok { IfOk result (λ ended. Stores (IsRun task.now.workers task.now.limit ended.status text.now)
+    ensures ok { IfOk result (λ ended. Stores (IsRun task.now.workers task.now.limit task.now.seed ended.status text.now)
         (S.stored store.old) (S.stored store.new) (W.contents out.old) (W.contents out.new)) }
     ensures answer { IfOk result (λ ended. is_answer ended.status ≡ true) }
     ensures trap { IfOk result (λ ended. Gains (λ answer. IsTrapOf answer ended.trap) (W.contents out.old) (W.contents out.new)) }
@@ -97,7 +100,7 @@ fn run_stored<H: Threads + Wait + Sync, S: LogStore, W: Write>(
     ensures follows { IfErr result (FollowsProgram text.now) }
     ensures of_run { IfErr result (IsOfRun task.now.workers (S.wanted store.old)) }
     ensures begun { IfErr result (λ why. status_of why ≡ Status.CannotWrite → (status : Status)
-        × StoresFront (IsRun task.now.workers task.now.limit status text.now)
+        × StoresFront (IsRun task.now.workers task.now.limit task.now.seed status text.now)
         (S.stored store.old) (S.stored store.new) (W.contents out.old) (W.contents out.new)) }
     ensures kept { IfErr result (λ why. status_of why ≢ Status.CannotWrite → out.new ≡ out.old) }
     ensures unopened { IfErr result (λ why. status_of why ≢ Status.CannotWrite
@@ -166,14 +169,14 @@ fn run_answered<H: Threads + Wait + Sync>(
     is_logged: bool,
 ) -> Result<RunAnswer, RecordFailure>
     ensures ok { IfOk result (λ texts. (bytes : List ℕ) → IsReady bytes program → (log : List ℕ)
-        × IsRun task.now.workers task.now.limit texts.status bytes log texts.answer.items
+        × IsRun task.now.workers task.now.limit task.now.seed texts.status bytes log texts.answer.items
         × (is_logged ≡ true → texts.log.items ≡ log)) }
     ensures answer { IfOk result (λ texts. is_answer texts.status ≡ true) }
     ensures trap { IfOk result (λ texts. IsTrapOf texts.answer.items texts.trap) }
     ensures err { IfErr result (λ why. (status_of why ≢ Status.Refused) × (status_of why ≢ Status.CannotWrite)) }
     ensures of_run { IfErr result (IsOfRun task.now.workers is_logged) }
 {
-    let ended = match run(rt, alloc, program, task.workers, task.limit, &Open) {
+    let ended = match made(rt, alloc, program, task) {
         Ok(ended) => ended,
         Err(RunFault::Memory) => return Err(RecordFailure::Program(Failure::Memory)),
         Err(RunFault::Start | RunFault::Workers) => return Err(RecordFailure::CannotStart),
@@ -181,6 +184,25 @@ fn run_answered<H: Threads + Wait + Sync>(
     let texts = answer_of(alloc, &ended, is_logged);
     drop(ended);
     texts
+}
+
+// The run of the workers, or, with a seed, the one that it names.
+fn made<H: Threads + Wait + Sync>(
+    rt: &H,
+    alloc: Global,
+    program: Loaded,
+    task: &RunTask<'_>,
+) -> Result<Run, RunFault>
+    ensures ok { IfOk result (λ r. IsRunOf program task.now.workers task.now.limit r) }
+    ensures named { IfOk result (λ r. IfSome task.now.seed
+        (λ s. map choice_of r.log.choices ≡ drawn (label program) task.now.workers s task.now.limit)) }
+    ensures workers { (result ≡ Err RunFault.Workers) ↔ ((task.now.workers ≡ 0) ⊎ (64 < task.now.workers)) }
+    ensures alone { task.now.workers ≡ 1 → result ≢ Err RunFault.Start }
+{
+    match task.seed {
+        None => run(rt, alloc, program, task.workers, task.limit, &Open),
+        Some(seed) => play(alloc, program, task.workers, u64::from(seed), task.limit),
+    }
 }
 
 // What is to be written of a run that was made.

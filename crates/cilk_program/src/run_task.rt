@@ -1,4 +1,4 @@
-//! What is asked of a run: the names of its texts, its workers and its limit, and whether faults and traps are explained.
+//! What is asked of a run: the names of its texts, its workers, its limit and its seed, and whether faults and traps are explained.
 
 ghost use Rattle.std.specs.Prelude.{◌≡◌, option_map};
 ghost use Rattle.cilk_program.specs.Task.{log_name};
@@ -18,6 +18,10 @@ pub struct RunTask<'a> {
     pub workers: u8,
     /// They make at most so many choices.
     pub limit: u32,
+    /// The seed that names the schedule, if one does: then no thread is started.
+    pub seed: Option<u32>,
+    /// How many runs are to be made, by that seed and the ones behind it, where a tally of them is wanted.
+    pub runs: Option<u32>,
 }
 
 impl<'a> RunTask<'a> {

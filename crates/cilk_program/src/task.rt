@@ -8,12 +8,13 @@ ghost use Rattle.cilk_program.specs.GivingUp.{GivesUp, GivesUpRun};
 ghost use Rattle.cilk_program.specs.Replaying.{Replays, ReplaysFront};
 ghost use Rattle.cilk_program.specs.Saying.{ExplainsTrap, tells_trap};
 ghost use Rattle.cilk_program.specs.Taped.{Declines};
-ghost use Rattle.cilk_program.specs.Task.{Does, Fails, Leaves, is_session};
-ghost use Rattle.cilk_program.specs.Task.{RunsFrontSomewhere, RunsSomewhere, log_name};
+ghost use Rattle.cilk_program.specs.Task.{Does, Fails, FailsToMeasure, Leaves, MeasuresAsAsked, MeasuresFrontAsAsked, is_session};
+ghost use Rattle.cilk_program.specs.Task.{RunsAsAsked, RunsFrontAsAsked, RunsFrontSomewhere, RunsSomewhere, log_name};
 
 use crate::texts::Texts;
 use crate::{
-    FileNames, LogTask, RecordFailure, RunTask, Streams, debug_text, replay_text, run_text,
+    FileNames, LogTask, RecordFailure, RunTask, Streams, debug_text, measure_log_text,
+    measure_text, replay_text, run_text, tally_text,
 };
 use cilk_commands::{Failure, Status, check_text, print_text};
 use cilk_words::{Request, Task};
@@ -71,6 +72,8 @@ pub fn perform<H: Threads + Wait + Sync, T: Texts, R: Read, O: Write, E: Write>(
             workers,
             limit,
             log,
+            seed,
+            runs,
         } => {
             let task = RunTask {
                 program: name,
@@ -78,19 +81,53 @@ pub fn perform<H: Threads + Wait + Sync, T: Texts, R: Read, O: Write, E: Write>(
                 explain,
                 workers,
                 limit,
+                seed,
+                runs,
             };
-            run_named(rt, alloc, &task, texts, reader, streams)
+            run_as_asked(rt, alloc, &task, texts, reader, streams)
         }
         Task::Replay { log } => {
             let names = FileNames { program: name, log };
             let task = LogTask { names, explain };
             replay_named(alloc, &task, texts, reader, streams)
         }
+        Task::Measure { log } => measure_as_asked(alloc, request, log, texts, reader, streams),
         Task::Debug { log } => {
             let names = FileNames { program: name, log };
             let task = LogTask { names, explain };
             debug_named(alloc, &task, texts, reader, streams)
         }
+    }
+}
+
+// Runs the program that the reader holds, or makes so many runs of it, by its seed and the ones behind it.
+fn run_as_asked<H: Threads + Wait + Sync, T: Texts, R: Read, O: Write, E: Write>(
+    rt: &H,
+    alloc: Global,
+    task: &RunTask<'_>,
+    texts: &T,
+    reader: &mut R,
+    streams: &mut Streams<O, E>,
+) -> Status
+    ensures done { is_answer result ≡ true → RunsAsAsked task.now.workers task.now.limit task.now.seed task.now.runs result
+        (R.remaining reader.old) (O.contents streams.old.output) (O.contents streams.new.output) }
+    ensures told { is_answer result ≡ false
+        → GivesUpRun task.now.workers (is_some task.now.log) task.now.explain task.now.program.now (log_name (option_map (λ it. it.now) task.now.log)) result
+        (R.remaining reader.old) (E.contents streams.old.errors) (E.contents streams.new.errors) }
+    ensures begun { result ≡ Status.CannotWrite → RunsFrontAsAsked task.now.workers task.now.limit task.now.seed task.now.runs
+        (R.remaining reader.old) (O.contents streams.old.output) (O.contents streams.new.output) }
+    ensures usage { result ≢ Status.Usage }
+    ensures explained { tells_trap task.now.explain result ≡ true → ExplainsTrap task.now.program.now (R.remaining reader.old)
+        (O.contents streams.old.output) (O.contents streams.new.output) (E.contents streams.old.errors) (E.contents streams.new.errors) }
+    ensures quiet { is_answer result ≡ true → tells_trap task.now.explain result ≡ false → streams.new.errors ≡ streams.old.errors }
+    ensures kept { is_answer result ≡ false → result ≢ Status.CannotWrite → streams.new.output ≡ streams.old.output }
+{
+    match task.runs {
+        None => run_named(rt, alloc, task, texts, reader, streams),
+        Some(runs) => match task.seed {
+            None => run_named(rt, alloc, task, texts, reader, streams),
+            Some(seed) => tally_text(alloc, task, seed, runs, reader, streams),
+        },
     }
 }
 
@@ -103,12 +140,12 @@ fn run_named<H: Threads + Wait + Sync, T: Texts, R: Read, O: Write, E: Write>(
     reader: &mut R,
     streams: &mut Streams<O, E>,
 ) -> Status
-    ensures done { is_answer result ≡ true → RunsSomewhere task.now.workers task.now.limit result
+    ensures done { is_answer result ≡ true → RunsSomewhere task.now.workers task.now.limit task.now.seed result
         (R.remaining reader.old) (O.contents streams.old.output) (O.contents streams.new.output) }
     ensures told { is_answer result ≡ false
         → GivesUpRun task.now.workers (is_some task.now.log) task.now.explain task.now.program.now (log_name (option_map (λ it. it.now) task.now.log)) result
         (R.remaining reader.old) (E.contents streams.old.errors) (E.contents streams.new.errors) }
-    ensures begun { result ≡ Status.CannotWrite → RunsFrontSomewhere task.now.workers task.now.limit
+    ensures begun { result ≡ Status.CannotWrite → RunsFrontSomewhere task.now.workers task.now.limit task.now.seed
         (R.remaining reader.old) (O.contents streams.old.output) (O.contents streams.new.output) }
     ensures usage { result ≢ Status.Usage }
     ensures explained { tells_trap task.now.explain result ≡ true → ExplainsTrap task.now.program.now (R.remaining reader.old)
@@ -145,6 +182,42 @@ fn replay_named<T: Texts, R: Read, O: Write, E: Write>(
     ensures kept { is_answer result ≡ false → result ≢ Status.CannotWrite → streams.new.output ≡ streams.old.output }
 {
     replay_text(alloc, task, reader, texts.open(task.names.log), streams)
+}
+
+// Tells the numbers of a run of the program that the reader holds: of a log, where one is named, or else of one by one worker.
+fn measure_as_asked<T: Texts, R: Read, O: Write, E: Write>(
+    alloc: Global,
+    request: &Request<'_>,
+    log: Option<&str>,
+    texts: &T,
+    reader: &mut R,
+    streams: &mut Streams<O, E>,
+) -> Status
+    ensures done { is_answer result ≡ true → MeasuresAsAsked (option_map (λ it. it.now) log.entry) (R.remaining reader.old) (T.held texts.now)
+        (O.contents streams.old.output) (O.contents streams.new.output) }
+    ensures only { is_answer result ≡ true → result ≡ Status.Done }
+    ensures told { is_answer result ≡ false → FailsToMeasure (option_map (λ it. it.now) log.entry) request.now.explain request.now.name.now result
+        (R.remaining reader.old) (T.held texts.now) (E.contents streams.old.errors) (E.contents streams.new.errors) }
+    ensures begun { result ≡ Status.CannotWrite → MeasuresFrontAsAsked (option_map (λ it. it.now) log.entry) (R.remaining reader.old) (T.held texts.now)
+        (O.contents streams.old.output) (O.contents streams.new.output) }
+    ensures usage { result ≢ Status.Usage }
+    ensures quiet { is_answer result ≡ true → streams.new.errors ≡ streams.old.errors }
+    ensures kept { is_answer result ≡ false → result ≢ Status.CannotWrite → streams.new.output ≡ streams.old.output }
+{
+    match log {
+        None => measure_text(alloc, request.name, request.explain, reader, streams),
+        Some(log) => {
+            let names = FileNames {
+                program: request.name,
+                log,
+            };
+            let task = LogTask {
+                names,
+                explain: request.explain,
+            };
+            measure_log_text(alloc, &task, reader, texts.open(log), streams)
+        }
+    }
 }
 
 // Debugs a log, of the program that the reader holds.

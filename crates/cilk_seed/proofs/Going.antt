@@ -11,9 +11,8 @@ use Rattle.cilk_run.specs.declared.run_result.Run.{Run}
 use Rattle.cilk_run.specs.model.Choice as model_choice
 use Rattle.cilk_run.specs.labelled.Bodies.{label}
 use Rattle.cilk_run.specs.labelled.Labelled.{Labelled}
-use Rattle.cilk_run.specs.machine.Situation.{Situation, workers_of}
+use Rattle.cilk_run.specs.machine.Situation.{workers_of}
 use Rattle.cilk_run.specs.machine.Stands.{Led, StandsAt, Opens}
-use Rattle.cilk_run.specs.model.End as model
 use Rattle.cilk_run.specs.model.Run.{Standing, Position, is_crew, opening, after, after_main, next_of}
 use Rattle.cilk_run.specs.syntax.Tree.{Program}
 use Rattle.cilk_seed.specs.Drawn.{Turn, turn_of, drawn_by, drawn_from, drawn_in, drawn}

@@ -1,17 +1,16 @@
 -- Where no worker may do anything, the program has ended or is stuck.
 use Rattle.std.proofs.Common.{◌≡◌, ℕ, zero, suc, Bool, true, false, not, ◌&&◌, ◌||◌, List, [], ◌∷◌, ◌++◌, length, map, Option, Some, None, cond, refl, sym, ap}
-use Rattle.std.proofs.Common.{◌∙◌, subst, if◌then◌else◌}
+use Rattle.std.proofs.Common.{◌∙◌, if◌then◌else◌}
 use Rattle.std.specs.Prelude.{is_some, is_none, filter}
 use Rattle.std.specs.List.{list_all}
 use Rattle.std.proofs.lemmas.List.Elements.{filter-append}
 use Rattle.std.proofs.lemmas.List.Folds.{list_all-append, list_all-map}
 use Rattle.cilk_machine.proofs.agree_laws.Asked.{placed}
-use Rattle.cilk_run.specs.labelled.Bodies.{label}
 use Rattle.cilk_run.specs.labelled.Labelled.{Labelled}
 use Rattle.cilk_run.specs.machine.Situation.{Situation, workers_of}
 use Rattle.cilk_run.specs.machine.Stands.{StandsAt}
 use Rattle.cilk_run.specs.machine.agree.Agrees.{read_off}
-use Rattle.cilk_run.specs.model.Choice.{Act, step, pop, steal, Choice}
+use Rattle.cilk_run.specs.model.Choice.{step, pop, steal, Choice}
 use Rattle.cilk_run.specs.model.End as model
 use Rattle.cilk_run.specs.model.End.{numbers, choices_of, choices_below, end_by, end_now}
 use Rattle.cilk_run.specs.model.State.{Outcome, running, finished, trapped, is_empty}

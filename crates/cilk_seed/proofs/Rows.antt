@@ -1,5 +1,5 @@
 -- Worked rows: numbers of the generator, and the first choices that seeds name.
-use Rattle.std.proofs.Common.{◌≡◌, List, [], ◌∷◌, refl}
+use Rattle.std.proofs.Common.{◌≡◌, [], ◌∷◌, refl}
 use Rattle.cilk_run.specs.labelled.Bodies.{label}
 use Rattle.cilk_run.specs.model.Rows.{s, p, t, steps}
 use Rattle.cilk_run.specs.model.Trees.{counting, asking_late, crossing, summing}

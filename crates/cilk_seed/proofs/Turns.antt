@@ -1,16 +1,14 @@
 -- Whose turn it is, and what that worker does.
-use Rattle.std.proofs.Common.{◌≡◌, ◌≢◌, ℕ, Bool, true, false, List, [], ◌∷◌, length, Option, Some, None, refl, sym, ap, ◌∙◌, subst, if◌then◌else◌}
+use Rattle.std.proofs.Common.{◌≡◌, ℕ, List, [], ◌∷◌, Option, Some, None, refl, sym, ap, ◌∙◌, subst}
 use Rattle.std.specs.Prelude.{option_map}
 use Rattle.cilk_run.specs.choices.declared.choice.Choice as code
 use Rattle.cilk_run.specs.labelled.Bodies.{label}
 use Rattle.cilk_run.specs.labelled.Labelled.{Labelled}
 use Rattle.cilk_run.specs.machine.Situation.{Situation}
 use Rattle.cilk_run.specs.machine.Stands.{StandsAt}
-use Rattle.cilk_run.specs.model.Choice.{step, pop, steal}
 use Rattle.cilk_run.specs.model.Run.{Standing}
-use Rattle.cilk_run.specs.step.Private.{is_private}
 use Rattle.cilk_seed.specs.Drawing.{Draws, turn_with}
-use Rattle.cilk_seed.specs.Drawn.{Turn, can, victims, one_of, state_behind, turn, turn_of_worker, turn_among, turn_of, movers}
+use Rattle.cilk_seed.specs.Drawn.{Turn, one_of, state_behind, turn_of_worker, turn_among, movers}
 
 module _ (program : Labelled) (n : ℕ) (at : Standing) where
   among_some : (found : List ℕ) (s : ℕ) (t : Turn) → (found ≡ [] → ⊥) → turn_of_worker program n at (state_behind found s) (one_of found s) ≡ t

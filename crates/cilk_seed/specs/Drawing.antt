@@ -1,5 +1,5 @@
 -- What the code has of a schedule that is being drawn.
-use Rattle.std.specs.Prelude.{◌≡◌, ◌-◌, ◌++◌, ℕ, List, [], ◌∷◌, length, map, Option, Some}
+use Rattle.std.specs.Prelude.{◌≡◌, ◌-◌, ◌++◌, ℕ, List, [], ◌∷◌, length, map, Some}
 use Rattle.cilk_run.specs.Histories.{Recorded}
 use Rattle.cilk_run.specs.choices.Words.{choice_of}
 use Rattle.cilk_run.specs.choices.declared.choice.Choice as code

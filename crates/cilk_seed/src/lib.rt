@@ -4,8 +4,13 @@
 mod choosing;
 mod draws;
 mod generator;
+mod outcome;
 mod playing;
+mod row;
+mod tallying;
+mod telling;
 
-pub use cilk_run::{Loaded, Run, RunFault};
+pub use cilk_run::{Act, Choice, End, Loaded, Machine, Open, Refusal, Run, RunFault, ending, run};
 pub use generator::SplitMix;
 pub use playing::play;
+pub use tallying::tally_of_seeds;

@@ -10,8 +10,8 @@ use Rattle.clap.specs.declared.error.kind.ErrorKind.{ErrorKind}
 use Rattle.clap.specs.declared.error.kind.ErrorKind.TheVariants.{OutOfMemory}
 use Rattle.cilk_words.specs.declared.refusal.NoRequest.{NoRequest}
 use Rattle.cilk_words.specs.declared.refusal.NoRequest.TheVariants as refusal
-use Rattle.cilk_words.specs.declared.dash.Dash.{Dash}
-use Rattle.cilk_words.specs.CommandLine.{Asked, asked, command_line, dash_of, request_of_any, unless_fault, wished}
+use Rattle.cilk_words.specs.declared.clash.Clash.{Clash}
+use Rattle.cilk_words.specs.CommandLine.{Asked, asked, command_line, clash_of, request_of_any, unless_fault, wished}
 use Rattle.cilk_words.specs.Refusing.{IsNoRequest, TellsOf, are_shown, is_help, is_shown, is_version}
 
 nothing_asked : (kinds : Kinds) (sub : Option (Text × List Row)) (k : ErrorKind) → IsAmong k kinds → unless_fault kinds sub ≡ None
@@ -42,7 +42,7 @@ asks_nothing words none = rw none refl
 -- an error of one of the kinds that the words lead to tells of the words
 pub told : (words : List Text) (k : ErrorKind) (r : NoRequest) → (k ≡ OutOfMemory) ⊎ IsAmong k (fault_of command_line words) → TellsOf k r → IsNoRequest words r
 told words k refusal.Memory why tells = tt
-told words k (refusal.Dash d) why tells = absurd tells
+told words k (refusal.Clash which) why tells = absurd tells
 told words k (refusal.Help text) (inl memory) tells = cc
 told words k (refusal.Help text) (inr among) tells =
     (asks_nothing words (nothing_asked _ (subcommand_of command_line words) k among), any_is is_help k _ among (ap is_help tells))
@@ -55,7 +55,7 @@ told words k (refusal.Usage text) (inr among) tells =
 
 -- ---- words without a fault
 
--- they ask for what was found, unless it has a dash
-pub asks : (words : List Text) (a : Asked) → fault_of command_line words ≡ [] → Some a ≡ request_of_any (subcommand_of command_line words) → dash_of a ≡ None
+-- they ask for what was found, unless its words do not go together
+pub asks : (words : List Text) (a : Asked) → fault_of command_line words ≡ [] → Some a ≡ request_of_any (subcommand_of command_line words) → clash_of a ≡ None
     → asked words ≡ Some a
-asks words a no_fault found no_dash = rw (no_fault, ← found, no_dash) refl
+asks words a no_fault found no_clash = rw (no_fault, ← found, no_clash) refl

@@ -12,7 +12,7 @@ use Rattle.clap.specs.declared.parser.matches.ArgMatches.TheViews.{out-ArgMatche
 use Rattle.clap.specs.declared.parser.matches.Found.{Found}
 use Rattle.clap.proofs.ValueTestLemmas.{Accepts-accepts, accepts-Accepts}
 use Rattle.clap.proofs.WalkLemmas.{first_value-rows, one_text-rows}
-use Rattle.cilk_words.specs.CommandLine.{Wanted, run, replayed, debugged, is_set, number_to, request_for, request_of_any, run_of, wanted_of}
+use Rattle.cilk_words.specs.CommandLine.{Wanted, run, replayed, measured, debugged, is_set, number_to, request_for, request_of_any, run_of, wanted_of, word_of}
 
 -- ---- the subcommand that was met
 
@@ -88,17 +88,27 @@ pub no_limit : (f : Found) → ((t : Text) → one_text f (codes "limit") ≡ So
     → option_and_then (number_to (2 ^ 32 - 1)) (one_of (codes "limit") (rows_of f)) ≡ None
 no_limit f fails = rw (← one_text-rows f (codes "limit")) (unread (2 ^ 32) (2 ^ 32 - 1) refl (omega arith) (one_text f (codes "limit")) fails)
 
+-- the same of a number that may be left out
+pub word_read : (f : Found) (name : Text) (n : ℕ) → (one_text f name ≡ None → Some n ≡ None)
+    → ((t : Text) → one_text f name ≡ Some t → ReadsBelow (2 ^ 32) t × (n ≡ digits_value 10 (without_leading_plus t)))
+    → word_of (one_of name (rows_of f)) ≡ Some n
+word_read f name n none value = rw (← one_text-rows f name) (reads (2 ^ 32) (2 ^ 32 - 1) refl (omega arith) (one_text f name) n none value)
+
+pub no_word : (f : Found) (name : Text) → ((t : Text) → one_text f name ≡ Some t → ReadsBelow (2 ^ 32) t → ⊥) → word_of (one_of name (rows_of f)) ≡ None
+no_word f name fails = rw (← one_text-rows f name) (unread (2 ^ 32) (2 ^ 32 - 1) refl (omega arith) (one_text f name) fails)
+
 -- the run of these numbers
-pub run_given : (workers limit log : Option Text) (n k : ℕ) → option_and_then (number_to (2 ^ 8 - 1)) workers ≡ Some n
-    → option_and_then (number_to (2 ^ 32 - 1)) limit ≡ Some k → run_of workers limit log ≡ Some (run n k log)
-run_given workers limit log n k crew within = rw (crew, within) refl
+pub run_given : (workers limit log seed runs : Option Text) (n k : ℕ) → option_and_then (number_to (2 ^ 8 - 1)) workers ≡ Some n
+    → option_and_then (number_to (2 ^ 32 - 1)) limit ≡ Some k → run_of workers limit log seed runs ≡ Some (run n k log (word_of seed) (word_of runs))
+run_given workers limit log seed runs n k crew within = rw (crew, within) refl
 
-pub no_crew : (workers limit log : Option Text) → option_and_then (number_to (2 ^ 8 - 1)) workers ≡ None → run_of workers limit log ≡ None
-no_crew workers limit log none = rw (none) refl
+pub no_crew : (workers limit log seed runs : Option Text) → option_and_then (number_to (2 ^ 8 - 1)) workers ≡ None
+    → run_of workers limit log seed runs ≡ None
+no_crew workers limit log seed runs none = rw (none) refl
 
-pub no_end : (workers limit log : Option Text) (n : ℕ) → option_and_then (number_to (2 ^ 8 - 1)) workers ≡ Some n
-    → option_and_then (number_to (2 ^ 32 - 1)) limit ≡ None → run_of workers limit log ≡ None
-no_end workers limit log n crew none = rw (crew, none) refl
+pub no_end : (workers limit log seed runs : Option Text) (n : ℕ) → option_and_then (number_to (2 ^ 8 - 1)) workers ≡ Some n
+    → option_and_then (number_to (2 ^ 32 - 1)) limit ≡ None → run_of workers limit log seed runs ≡ None
+no_end workers limit log seed runs n crew none = rw (crew, none) refl
 
 pub log_found : (f : Found) (log : Option Text) → log ≡ first_value f (codes "log") → log ≡ first_of (codes "log") (rows_of f)
 log_found f log is = rw (← first_value-rows f (codes "log")) is
@@ -108,6 +118,9 @@ log_found f log is = rw (← first_value-rows f (codes "log")) is
 -- a replay of the log that was named, or none
 pub replay_given : (f : Found) (log : Option Text) → log ≡ first_value f (codes "G") → wanted_of (codes "replay") (rows_of f) ≡ option_map replayed log
 replay_given f log log_is = rw (← first_value-rows f (codes "G"), ← log_is) refl
+
+pub measure_given : (f : Found) (log : Option Text) → log ≡ first_value f (codes "G") → wanted_of (codes "measure") (rows_of f) ≡ Some (measured log)
+measure_given f log log_is = rw (← first_value-rows f (codes "G"), ← log_is) refl
 
 pub debug_given : (f : Found) (log : Option Text) → log ≡ first_value f (codes "G") → wanted_of (codes "debug") (rows_of f) ≡ option_map debugged log
 debug_given f log log_is = rw (← first_value-rows f (codes "G"), ← log_is) refl

@@ -4,8 +4,8 @@ use Rattle.std.specs.Prelude.{option_and_then}
 use Rattle.clap.specs.Words.{Text, fault_of}
 use Rattle.clap.proofs.OnLiterals.{clap_on_literals}
 use Rattle.clap.specs.declared.error.kind.ErrorKind.TheVariants as kind
-use Rattle.cilk_words.specs.declared.dash.Dash.TheVariants as dash
-use Rattle.cilk_words.specs.CommandLine.{Asked, Wanted, printed, checked, run, replayed, debugged, asked, command_line, dash_of, wished}
+use Rattle.cilk_words.specs.declared.clash.Clash.TheVariants as clash
+use Rattle.cilk_words.specs.CommandLine.{Asked, Wanted, printed, checked, run, replayed, measured, debugged, asked, command_line, clash_of, wished}
 use Rattle.cilk_words.specs.Refusing.{asks_for_help, asks_to_show}
 
 -- what is asked for without the flag, and with it
@@ -23,11 +23,11 @@ checks : asked (codes "cilk" ∷ codes "check" ∷ codes "-" ∷ []) ≡ Some (b
 unfolding clap_on_literals
 checks = refl
 
-runs : asked (codes "cilk" ∷ codes "run" ∷ codes "a" ∷ []) ≡ Some (briefly (run 1 1000000 None) (codes "a"))
+runs : asked (codes "cilk" ∷ codes "run" ∷ codes "a" ∷ []) ≡ Some (briefly (run 1 1000000 None None None) (codes "a"))
 unfolding clap_on_literals
 runs = refl
 
-runs_limited : asked (codes "cilk" ∷ codes "run" ∷ codes "a" ∷ codes "--limit" ∷ codes "5" ∷ []) ≡ Some (briefly (run 1 5 None) (codes "a"))
+runs_limited : asked (codes "cilk" ∷ codes "run" ∷ codes "a" ∷ codes "--limit" ∷ codes "5" ∷ []) ≡ Some (briefly (run 1 5 None None None) (codes "a"))
 unfolding clap_on_literals
 runs_limited = refl
 
@@ -40,7 +40,7 @@ unfolding clap_on_literals
 explains_check = refl
 
 explains_run : asked (codes "cilk" ∷ codes "run" ∷ codes "a" ∷ codes "--explain" ∷ codes "--limit" ∷ codes "5" ∷ [])
-    ≡ Some (at_length (run 1 5 None) (codes "a"))
+    ≡ Some (at_length (run 1 5 None None None) (codes "a"))
 unfolding clap_on_literals
 explains_run = refl
 
@@ -98,16 +98,17 @@ is_no_subcommand = refl
 
 -- ---- logs
 
-writes_a_log : asked (codes "cilk" ∷ codes "run" ∷ codes "a" ∷ codes "--log" ∷ codes "g" ∷ []) ≡ Some (briefly (run 1 1000000 (Some (codes "g"))) (codes "a"))
+writes_a_log : asked (codes "cilk" ∷ codes "run" ∷ codes "a" ∷ codes "--log" ∷ codes "g" ∷ [])
+    ≡ Some (briefly (run 1 1000000 (Some (codes "g")) None None) (codes "a"))
 unfolding clap_on_literals
 writes_a_log = refl
 
-has_one_worker : asked (codes "cilk" ∷ codes "run" ∷ codes "--workers" ∷ codes "1" ∷ codes "-" ∷ []) ≡ Some (briefly (run 1 1000000 None) (codes "-"))
+has_one_worker : asked (codes "cilk" ∷ codes "run" ∷ codes "--workers" ∷ codes "1" ∷ codes "-" ∷ []) ≡ Some (briefly (run 1 1000000 None None None) (codes "-"))
 unfolding clap_on_literals
 has_one_worker = refl
 
 has_four_workers : asked (codes "cilk" ∷ codes "run" ∷ codes "a" ∷ codes "--workers" ∷ codes "4" ∷ codes "--limit" ∷ codes "5" ∷ [])
-    ≡ Some (briefly (run 4 5 None) (codes "a"))
+    ≡ Some (briefly (run 4 5 None None None) (codes "a"))
 unfolding clap_on_literals
 has_four_workers = refl
 
@@ -140,18 +141,68 @@ unfolding clap_on_literals
 explains_debug = refl
 
 -- a log is no dash, nor is a program where commands are read
-writes_no_dash : option_and_then dash_of (wished (codes "cilk" ∷ codes "run" ∷ codes "a" ∷ codes "--log" ∷ codes "-" ∷ [])) ≡ Some dash.Log
+writes_no_dash : option_and_then clash_of (wished (codes "cilk" ∷ codes "run" ∷ codes "a" ∷ codes "--log" ∷ codes "-" ∷ [])) ≡ Some clash.DashAsLog
 unfolding clap_on_literals
 writes_no_dash = refl
 
-replays_no_dash : option_and_then dash_of (wished (codes "cilk" ∷ codes "replay" ∷ codes "-" ∷ codes "-" ∷ [])) ≡ Some dash.Log
+replays_no_dash : option_and_then clash_of (wished (codes "cilk" ∷ codes "replay" ∷ codes "-" ∷ codes "-" ∷ [])) ≡ Some clash.DashAsLog
 unfolding clap_on_literals
 replays_no_dash = refl
 
-debugs_no_dash : option_and_then dash_of (wished (codes "cilk" ∷ codes "debug" ∷ codes "-" ∷ codes "g" ∷ [])) ≡ Some dash.Program
+debugs_no_dash : option_and_then clash_of (wished (codes "cilk" ∷ codes "debug" ∷ codes "-" ∷ codes "g" ∷ [])) ≡ Some clash.DashAsProgram
 unfolding clap_on_literals
 debugs_no_dash = refl
 
 asks_nothing_with_a_dash : asked (codes "cilk" ∷ codes "debug" ∷ codes "a" ∷ codes "-" ∷ []) ≡ None
 unfolding clap_on_literals
 asks_nothing_with_a_dash = refl
+
+-- ---- seeds, and the numbers of a run
+
+by_a_seed : asked (codes "cilk" ∷ codes "run" ∷ codes "a" ∷ codes "--workers" ∷ codes "2" ∷ codes "--seed" ∷ codes "12" ∷ [])
+    ≡ Some (briefly (run 2 1000000 None (Some 12) None) (codes "a"))
+unfolding clap_on_literals
+by_a_seed = refl
+
+by_a_seed_with_a_log : asked (codes "cilk" ∷ codes "run" ∷ codes "--seed" ∷ codes "4294967295" ∷ codes "--log" ∷ codes "g" ∷ codes "a" ∷ [])
+    ≡ Some (briefly (run 1 1000000 (Some (codes "g")) (Some 4294967295) None) (codes "a"))
+unfolding clap_on_literals
+by_a_seed_with_a_log = refl
+
+has_a_word_for_a_seed : fault_of command_line
+    (codes "cilk" ∷ codes "run" ∷ codes "--seed" ∷ codes "4294967296" ∷ codes "a" ∷ []) ≡ kind.ValueValidation ∷ []
+unfolding clap_on_literals
+has_a_word_for_a_seed = refl
+
+tallies : asked (codes "cilk" ∷ codes "run" ∷ codes "a" ∷ codes "--seed" ∷ codes "1" ∷ codes "--runs" ∷ codes "1000" ∷ [])
+    ≡ Some (briefly (run 1 1000000 None (Some 1) (Some 1000)) (codes "a"))
+unfolding clap_on_literals
+tallies = refl
+
+has_at_most_a_million_runs : fault_of command_line
+    (codes "cilk" ∷ codes "run" ∷ codes "a" ∷ codes "--seed" ∷ codes "1" ∷ codes "--runs" ∷ codes "1000001" ∷ []) ≡ kind.ValueValidation ∷ []
+unfolding clap_on_literals
+has_at_most_a_million_runs = refl
+
+has_a_first_seed : option_and_then clash_of (wished (codes "cilk" ∷ codes "run" ∷ codes "a" ∷ codes "--runs" ∷ codes "5" ∷ [])) ≡ Some clash.NoSeed
+unfolding clap_on_literals
+has_a_first_seed = refl
+
+tallies_no_log : option_and_then clash_of
+    (wished (codes "cilk" ∷ codes "run" ∷ codes "a" ∷ codes "--seed" ∷ codes "1" ∷ codes "--runs" ∷ codes "5" ∷ codes "--log" ∷ codes "g" ∷ []))
+    ≡ Some clash.LogOfRuns
+unfolding clap_on_literals
+tallies_no_log = refl
+
+measures_a_run : asked (codes "cilk" ∷ codes "measure" ∷ codes "-" ∷ []) ≡ Some (briefly (measured None) (codes "-"))
+unfolding clap_on_literals
+measures_a_run = refl
+
+measures_a_log : asked (codes "cilk" ∷ codes "measure" ∷ codes "a" ∷ codes "g" ∷ codes "--explain" ∷ [])
+    ≡ Some (at_length (measured (Some (codes "g"))) (codes "a"))
+unfolding clap_on_literals
+measures_a_log = refl
+
+measures_no_dash : option_and_then clash_of (wished (codes "cilk" ∷ codes "measure" ∷ codes "a" ∷ codes "-" ∷ [])) ≡ Some clash.DashAsLog
+unfolding clap_on_literals
+measures_no_dash = refl

@@ -12,8 +12,8 @@ use Rattle.clap.specs.Words.{App, Row, Rule, Text, fault_of, first_of, new_app, 
 use Rattle.clap.specs.declared.builder.action.ArgAction.TheVariants.{Set, SetTrue}
 use Rattle.clap.specs.declared.builder.value_parser.ValueParser.{ValueParser}
 use Rattle.clap.specs.declared.builder.value_parser.ValueParser.TheVariants.{Signed}
-use Rattle.cilk_words.specs.declared.dash.Dash.{Dash}
-use Rattle.cilk_words.specs.declared.dash.Dash.TheVariants as dash
+use Rattle.cilk_words.specs.declared.clash.Clash.{Clash}
+use Rattle.cilk_words.specs.declared.clash.Clash.TheVariants as clash
 use Rattle.cilk_words.specs.declared.request.Request.{Request}
 use Rattle.cilk_words.specs.declared.request.Task.{Task}
 use Rattle.cilk_words.specs.declared.request.Task.TheVariants as task
@@ -29,13 +29,12 @@ abbrev pub log_rule : Rule
 log_rule = record (new_rule (codes "G")) { required = true; action = Some Set }
 
 -- an option that takes a number, by this parser
+abbrev pub option_rule : Text → ValueParser → Rule
+option_rule name parser = record (new_rule name) { long = Some name; value_names = 1; parser = Some parser }
+
+-- and says one where it is left out
 abbrev pub number_rule : Text → ValueParser → Text → Rule
-number_rule name parser default = record (new_rule name) {
-  long = Some name;
-  value_names = 1;
-  parser = Some parser;
-  defaults = default ∷ [];
-}
+number_rule name parser default = record (option_rule name parser) { defaults = default ∷ [] }
 
 -- the option that says how many choices a run may make
 abbrev pub limit_rule : Rule
@@ -44,6 +43,14 @@ limit_rule = number_rule (codes "limit") (Signed (pos 1) (pos 10000000)) (codes 
 -- the option that says how many workers a run has
 abbrev pub workers_rule : Rule
 workers_rule = number_rule (codes "workers") (Signed (pos 1) (pos 64)) (codes "1")
+
+-- the option that names the schedule of a run
+abbrev pub seed_rule : Rule
+seed_rule = option_rule (codes "seed") (Signed (pos 0) (pos 4294967295))
+
+-- the option that says how many runs a tally is of
+abbrev pub runs_rule : Rule
+runs_rule = option_rule (codes "runs") (Signed (pos 1) (pos 1000000))
 
 -- the option that names the log to be written of a run
 abbrev pub written_rule : Rule
@@ -65,9 +72,18 @@ on_explained name = with_rule (on_text name) explain_rule
 abbrev pub on_log : Text → App
 on_log name = with_rule (on_explained name) log_rule
 
+-- one on a text and a log, which may be left out
+abbrev pub measured_rule : Rule
+measured_rule = record (new_rule (codes "G")) { action = Some Set }
+
+abbrev pub on_measure : App
+on_measure = with_rule (on_explained (codes "measure")) measured_rule
+
 -- a run, of which a log may be written
 abbrev pub on_run : App
-on_run = with_rule (with_rule (with_rule (on_explained (codes "run")) workers_rule) limit_rule) written_rule
+on_run =
+    let limited = with_rule (with_rule (on_explained (codes "run")) workers_rule) limit_rule in
+    with_rule (with_rule (with_rule limited seed_rule) runs_rule) written_rule
 
 -- the program, which wants one of its subcommands
 abbrev pub bare : App
@@ -78,7 +94,7 @@ abbrev pub command_line : App
 command_line =
     let front = with_subcommand (with_subcommand bare (on_explained (codes "print")).top) (on_explained (codes "check")).top in
     let running = with_subcommand front on_run.top in
-    with_subcommand (with_subcommand running (on_log (codes "replay")).top) (on_log (codes "debug")).top
+    with_subcommand (with_subcommand (with_subcommand running (on_log (codes "replay")).top) on_measure.top) (on_log (codes "debug")).top
 
 -- ---- what is wished
 
@@ -86,28 +102,39 @@ command_line =
 pub data Wanted : Type 0 where
   printed : Wanted
   checked : Wanted
-  -- run with so many workers for at most so many choices, with a log of this name or none
-  run : (workers limit : ℕ) (log : Option Text) → Wanted
+  -- run with so many workers for at most so many choices, with a log of this name or none, and by a seed or none; so many times, where that is said
+  run : (workers limit : ℕ) (log : Option Text) (seed runs : Option ℕ) → Wanted
   replayed : (log : Text) → Wanted
+  measured : (log : Option Text) → Wanted
   debugged : (log : Text) → Wanted
 
 -- the number that a word says in decimal, where it is at most so great
 abbrev pub number_to : ℕ → Text → Option ℕ
 number_to most word = if is_unsigned_in 0 most word then Some (digits_value 10 (without_leading_plus word)) else None
 
+-- a word of 32 bits, where there is such a word
+abbrev pub word_of : Option Text → Option ℕ
+word_of = option_and_then (number_to (2 ^ 32 - 1))
+
 -- a run with as many workers and for as many choices as two words say
-abbrev pub run_of : Option Text → Option Text → Option Text → Option Wanted
-run_of workers limit log =
-    option_and_then (λ n. option_map (λ k. run n k log) (option_and_then (number_to (2 ^ 32 - 1)) limit)) (option_and_then (number_to (2 ^ 8 - 1)) workers)
+abbrev pub run_of : Option Text → Option Text → Option Text → Option Text → Option Text → Option Wanted
+run_of workers limit log seed runs =
+    option_and_then (λ n. option_map (λ k. run n k log (word_of seed) (word_of runs)) (word_of limit)) (option_and_then (number_to (2 ^ 8 - 1)) workers)
+
+-- the same, by what was given to a subcommand
+abbrev pub run_in : List Row → Option Wanted
+run_in rows =
+    run_of (one_of (codes "workers") rows) (one_of (codes "limit") rows) (first_of (codes "log") rows) (one_of (codes "seed") rows) (one_of (codes "runs") rows)
 
 -- what a subcommand of this name wants, with what was given to it
 abbrev pub wanted_of : Text → List Row → Option Wanted
 wanted_of name rows =
     if bytes_eq name (codes "print") then Some printed
     else (if bytes_eq name (codes "check") then Some checked
-    else (if bytes_eq name (codes "run") then run_of (one_of (codes "workers") rows) (one_of (codes "limit") rows) (first_of (codes "log") rows)
+    else (if bytes_eq name (codes "run") then run_in rows
     else (if bytes_eq name (codes "replay") then option_map replayed (first_of (codes "G") rows)
-    else (if bytes_eq name (codes "debug") then option_map debugged (first_of (codes "G") rows) else None))))
+    else (if bytes_eq name (codes "measure") then Some (measured (first_of (codes "G") rows))
+    else (if bytes_eq name (codes "debug") then option_map debugged (first_of (codes "G") rows) else None)))))
 
 -- a flag is given, by the text that stands for it
 abbrev pub is_set : Option Text → Bool
@@ -124,8 +151,9 @@ pub record Asked : Type 0 where
 abbrev pub wanted_by : Task → Wanted
 wanted_by task.Print = printed
 wanted_by task.Check = checked
-wanted_by (task.Run workers limit log) = run workers limit (option_map (λ name. name.now) log)
+wanted_by (task.Run workers limit log seed runs) = run workers limit (option_map (λ name. name.now) log) seed runs
 wanted_by (task.Replay log) = replayed log.now
+wanted_by (task.Measure log) = measured (option_map (λ name. name.now) log)
 wanted_by (task.Debug log) = debugged log.now
 
 -- what a request asks for
@@ -154,34 +182,45 @@ unless_fault (k ∷ ks) sub = None
 abbrev pub texts_of : List (String Global) → List Text
 texts_of = map string_bytes
 
--- what the words ask for, dashes aside
+-- what the words ask for, whether they go together or not
 abbrev pub wished : List Text → Option Asked
 wished words = unless_fault (fault_of command_line words) (subcommand_of command_line words)
 
--- ---- a dash that does not stand for standard input
+-- ---- words that do not go together
 
 abbrev pub is_dash : Text → Bool
 is_dash name = bytes_eq name (codes "-")
 
--- as a log
-abbrev pub log_dash : Text → Option Dash
-log_dash log = if is_dash log then Some dash.Log else None
+-- a log is a file
+abbrev pub log_clash : Text → Option Clash
+log_clash log = if is_dash log then Some clash.DashAsLog else None
+
+-- several runs have a first seed, and no log
+abbrev pub runs_clash : (has_log has_seed : Bool) → Option Clash
+runs_clash has_log false = Some clash.NoSeed
+runs_clash true true = Some clash.LogOfRuns
+runs_clash false true = None
+
+abbrev pub run_clash : Option Text → Option ℕ → Option ℕ → Option Clash
+run_clash log seed None = option_and_then log_clash log
+run_clash log seed (Some runs) = runs_clash (is_some log) (is_some seed)
 
 -- no log is a dash, and a program is none where commands are read from standard input
-abbrev pub dash_in : Wanted → Text → Option Dash
-dash_in printed name = None
-dash_in checked name = None
-dash_in (run workers limit log) name = option_and_then log_dash log
-dash_in (replayed log) name = log_dash log
-dash_in (debugged log) name = if is_dash name then Some dash.Program else log_dash log
+abbrev pub clash_in : Wanted → Text → Option Clash
+clash_in printed name = None
+clash_in checked name = None
+clash_in (run workers limit log seed runs) name = run_clash log seed runs
+clash_in (replayed log) name = log_clash log
+clash_in (measured log) name = option_and_then log_clash log
+clash_in (debugged log) name = if is_dash name then Some clash.DashAsProgram else log_clash log
 
-abbrev pub dash_of : Asked → Option Dash
-dash_of a = dash_in a.wanted a.name
+abbrev pub clash_of : Asked → Option Clash
+clash_of a = clash_in a.wanted a.name
 
--- what is asked for, unless there is such a dash
-abbrev pub without_dash : Asked → Option Asked
-without_dash a = if is_some (dash_of a) then None else Some a
+-- what is asked for, unless its words do not go together
+abbrev pub without_clash : Asked → Option Asked
+without_clash a = if is_some (clash_of a) then None else Some a
 
 -- what the words ask for
 abbrev pub asked : List Text → Option Asked
-asked words = option_and_then without_dash (wished words)
+asked words = option_and_then without_clash (wished words)

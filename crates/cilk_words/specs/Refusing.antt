@@ -5,7 +5,7 @@ use Rattle.clap.specs.Kinds.{Kinds}
 use Rattle.clap.specs.Words.{Text, fault_of}
 use Rattle.clap.specs.declared.error.kind.ErrorKind.{ErrorKind}
 use Rattle.clap.specs.declared.error.kind.ErrorKind.TheVariants as kind
-use Rattle.cilk_words.specs.CommandLine.{asked, command_line, dash_of, wished}
+use Rattle.cilk_words.specs.CommandLine.{asked, command_line, clash_of, wished}
 use Rattle.cilk_words.specs.declared.refusal.NoRequest.{NoRequest}
 use Rattle.cilk_words.specs.declared.refusal.NoRequest.TheVariants as refusal
 
@@ -47,7 +47,7 @@ abbrev pub TellsOf : ErrorKind → NoRequest → Type 0
 TellsOf k (refusal.Help text) = k ≡ kind.DisplayHelp
 TellsOf k (refusal.Version text) = k ≡ kind.DisplayVersion
 TellsOf k (refusal.Usage text) = (is_shown k ≡ false) × (k ≢ kind.OutOfMemory)
-TellsOf k (refusal.Dash where_it_is) = ⊥
+TellsOf k (refusal.Clash which) = ⊥
 TellsOf k refusal.Memory = Unit {0}
 
 -- what is told of words that ask for nothing to be done, unless memory runs out
@@ -55,6 +55,6 @@ abbrev pub IsNoRequest : List Text → NoRequest → Type 0
 IsNoRequest words (refusal.Help text) = (asked words ≡ None) × (asks_for_help words ≡ true)
 IsNoRequest words (refusal.Version text) = (asked words ≡ None) × (asks_for_version words ≡ true)
 IsNoRequest words (refusal.Usage text) = (asked words ≡ None) × (asks_to_show words ≡ false)
-IsNoRequest words (refusal.Dash where_it_is) =
-    (option_and_then dash_of (wished words) ≡ Some where_it_is) × ((asked words ≡ None) × (asks_to_show words ≡ false))
+IsNoRequest words (refusal.Clash which) =
+    (option_and_then clash_of (wished words) ≡ Some which) × ((asked words ≡ None) × (asks_to_show words ≡ false))
 IsNoRequest words refusal.Memory = Unit {0}

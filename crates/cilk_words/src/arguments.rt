@@ -2,7 +2,8 @@
 
 ghost use Rattle.std.specs.Prelude.{◌≡◌, IfOk, IsOkAnd, codes, false};
 ghost use Rattle.clap.specs.Words.{AddsArg, AddsSubcommand, FailsBy, app_of, fault_of, rule_of, subcommand_of, subcommand_rows_of};
-ghost use Rattle.cilk_words.specs.CommandLine.{bare, command_line, limit_rule, number_rule, on_explained, on_log, on_run, on_text, texts_of, workers_rule};
+ghost use Rattle.cilk_words.specs.CommandLine.{bare, command_line, limit_rule, number_rule, on_explained, on_log, on_measure, on_run, on_text};
+ghost use Rattle.cilk_words.specs.CommandLine.{option_rule, runs_rule, seed_rule, texts_of, workers_rule};
 
 use clap::builder::ValueParser;
 use clap::{Arg, ArgAction, ArgMatches, Command, Error, value_parser};
@@ -20,6 +21,12 @@ pub const LIMIT: &str = "limit";
 /// The name of the argument that names the log to be written of a run.
 pub const WRITTEN: &str = "log";
 
+/// The name of the argument that names the schedule of a run.
+pub const SEED: &str = "seed";
+
+/// The name of the argument that says how many runs a tally is of.
+pub const RUNS: &str = "runs";
+
 /// The name of the flag by which more is said of what is wrong.
 pub const EXPLAIN: &str = "explain";
 
@@ -33,6 +40,9 @@ const STATUSES: &str = "\
 A run:
   run F --limit K    makes at most K choices, from 1 to 10,000,000 [default: 1,000,000]
   run F --log G      writes its log to the file G
+  run F --seed S     has the schedule that S names, from 0 to 4,294,967,295, and starts no thread
+  run F --seed S --runs R
+                     tells which ends R runs have, 1 to 1,000,000, by S and the seeds behind it
   run F --workers N  has N workers, from 1 to 64 [default: 1]
 
 Exit status:
@@ -100,7 +110,8 @@ pub fn command<'a>(alloc: Global) -> Result<Command<'a>, AllocError>
         INPUT,
     );
     let replaying = with(running, replay)?;
-    with(replaying, on_session(alloc))
+    let measuring = with(replaying, on_measure(alloc))?;
+    with(measuring, on_session(alloc))
 }
 
 // The program, without its subcommands.
@@ -142,6 +153,17 @@ fn on_explained<'a>(
         .action(ArgAction::SetTrue)
         .help("Says in more words what is wrong, and where");
     on_text(alloc, name, about, help)?.arg(explain)
+}
+
+// A subcommand on one program's text, and on a log where one is named.
+fn on_measure<'a>(alloc: Global) -> Result<Command<'a>, AllocError>
+    ensures { IfOk result (λ c. app_of c ≡ on_measure) }
+{
+    let log = Arg::new(alloc, LOG)
+        .action(ArgAction::Set)
+        .help("The log of a run, a file [default: a run by one worker]");
+    let about = "Tells the work and the span of a run, and other numbers of it";
+    on_explained(alloc, "measure", about, INPUT)?.arg(log)
 }
 
 // A session, whose help names its commands.
@@ -192,12 +214,14 @@ fn on_run<'a>(alloc: Global) -> Result<Command<'a>, AllocError>
     let explained = on_explained(alloc, "run", "Runs a program, and tells how it ends", INPUT);
     let crewed = taking(explained, workers(alloc));
     let limited = taking(crewed, limit(alloc));
+    let seeded = taking(limited, seed(alloc));
+    let tallied = taking(seeded, runs(alloc));
     let log = Arg::new(alloc, WRITTEN)
         .long(WRITTEN)
         .value_name("G")
         .action(ArgAction::Set)
         .help("The file to which the log of the run is written");
-    taking(limited, log)
+    taking(tallied, log)
 }
 
 // A command with one argument more.
@@ -233,7 +257,29 @@ fn limit<'a>(alloc: Global) -> Arg<'a>
     )
 }
 
-// An option that takes a number, by a parser of numbers.
+// The option that names the schedule of a run.
+fn seed<'a>(alloc: Global) -> Arg<'a>
+    ensures rule { rule_of result ≡ seed_rule }
+    ensures local { result.global ≡ false }
+{
+    let any = value_parser!(u32);
+    option(alloc, SEED, "S", any).help(
+        "The run has the schedule that S names, from 0 to 4,294,967,295",
+    )
+}
+
+// The option that says how many runs a tally is of.
+fn runs<'a>(alloc: Global) -> Arg<'a>
+    ensures rule { rule_of result ≡ runs_rule }
+    ensures local { result.global ≡ false }
+{
+    let many = value_parser!(u32).range(1..=1_000_000);
+    option(alloc, RUNS, "R", many).help(
+        "Tells which ends R runs have, 1 to 1,000,000, by S and the seeds behind it",
+    )
+}
+
+// An option that takes a number, by a parser of numbers, and says one where it is left out.
 fn number<'a>(
     alloc: Global,
     name: &'a str,
@@ -244,9 +290,16 @@ fn number<'a>(
     ensures rule { rule_of result ≡ number_rule name.now parser.entry default.now }
     ensures local { result.global ≡ false }
 {
+    option(alloc, name, value, parser).default_value(default)
+}
+
+// The same, which may be left out.
+fn option<'a>(alloc: Global, name: &'a str, value: &'a str, parser: ValueParser<'a>) -> Arg<'a>
+    ensures rule { rule_of result ≡ option_rule name.now parser.entry }
+    ensures local { result.global ≡ false }
+{
     Arg::new(alloc, name)
         .long(name)
         .value_name(value)
         .value_parser(parser)
-        .default_value(default)
 }

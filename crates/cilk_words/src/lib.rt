@@ -4,13 +4,13 @@
 #![tactic(auto)]
 
 mod arguments;
-mod dash;
+mod clash;
 mod plain;
 mod refusal;
 mod request;
 mod requesting;
 
-pub use dash::Dash;
+pub use clash::Clash;
 pub use refusal::NoRequest;
 pub use request::{Request, Task};
 pub use requesting::request_in;

@@ -6,16 +6,18 @@ use std::alloc::{AllocError, Global};
 const ADVICE: &str = "  tip: to pass '";
 
 const OPTIONS: &str =
-    "  tip: an option stands behind its subcommand: --explain behind each, and --limit, --log and --workers behind run";
+    "  tip: an option stands behind its subcommand: --explain behind each, and --limit, --log, --runs, --seed and --workers behind run";
 
-// What stands before the reason why a word is not the number of an option, and what is told in place of it.
-const WORKERS: &str = "for '--workers <N>': ";
-
-const SOME_WORKERS: &str = "for '--workers <N>': it is a number from 1 to 64";
-
-const LIMIT: &str = "for '--limit <K>': ";
-
-const SOME_LIMIT: &str = "for '--limit <K>': it is a number from 1 to 10,000,000";
+// What stands before the reason why a word is not the number of an option, and what is told behind it in place of that reason.
+const NUMBERS: [(&str, &str); 4] = [
+    ("for '--workers <N>': ", "it is a number from 1 to 64"),
+    ("for '--limit <K>': ", "it is a number from 1 to 10,000,000"),
+    (
+        "for '--seed <S>': ",
+        "it is a number from 0 to 4,294,967,295",
+    ),
+    ("for '--runs <R>': ", "it is a number from 1 to 1,000,000"),
+];
 
 /// The text of an error, with plain words for what a number may be, and for where options stand.
 pub(crate) fn plain(alloc: Global, text: &str) -> Result<String, AllocError> {
@@ -35,15 +37,12 @@ fn push_plain(out: &mut String, line: &str) -> Result<(), AllocError> {
     if line.starts_with(ADVICE) {
         return out.push_str(OPTIONS);
     }
-    if let Some((before, _)) = line.split_once(WORKERS) {
-        out.push_str(before)?;
-        return out.push_str(SOME_WORKERS);
-    }
-    match line.split_once(LIMIT) {
-        Some((before, _)) => {
+    for (front, told) in NUMBERS {
+        if let Some((before, _)) = line.split_once(front) {
             out.push_str(before)?;
-            out.push_str(SOME_LIMIT)
+            out.push_str(front)?;
+            return out.push_str(told);
         }
-        None => out.push_str(line),
     }
+    out.push_str(line)
 }

@@ -1,6 +1,6 @@
 //! What is told where the words ask for no task: help, the version, or what is wrong.
 
-use crate::dash::Dash;
+use crate::clash::Clash;
 use crate::plain::plain;
 use clap::Error;
 use clap::error::ErrorKind;
@@ -15,8 +15,8 @@ pub enum NoRequest {
     Version(String),
     /// The words are wrong, as this text says.
     Usage(String),
-    /// A dash stands where a file is to be named.
-    Dash(Dash),
+    /// Words do not go together.
+    Clash(Clash),
     /// Memory has run out.
     Memory,
 }

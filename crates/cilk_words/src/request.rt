@@ -7,15 +7,22 @@ pub enum Task<'a> {
     Print,
     /// To say whether it may be run.
     Check,
-    /// To run it with so many workers, for at most so many choices, and to write its log to the file of this name.
+    /// To run it with so many workers, for at most so many choices, and to write its log to the file of this name. With a seed the schedule is the one that
+    /// it names; with so many runs they are those of this seed and the ones behind it, and a tally of them is told.
     Run {
         workers: u8,
         limit: u32,
         log: Option<&'a str>,
+        seed: Option<u32>,
+        runs: Option<u32>,
     },
     /// To make the choices of the log of this name again.
     Replay {
         log: &'a str,
+    },
+    /// To tell the numbers of the run of the log of this name, or, where none is named, of a run by one worker.
+    Measure {
+        log: Option<&'a str>,
     },
     /// To answer commands on the log of this name.
     Debug {

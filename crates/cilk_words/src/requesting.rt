@@ -1,13 +1,13 @@
 //! From the words of the command line to a request, or to why there is none.
 
 ghost use Rattle.std.specs.Prelude.{◌≡◌, IfErr, IfOk, Some, codes, option_map};
-ghost use Rattle.clap.specs.Words.{first_of, found_of, one_of, rows_of, subcommand_rows_of};
-ghost use Rattle.cilk_words.specs.CommandLine.{asked, asked_by, is_set, request_of_any, run_of};
-ghost use Rattle.cilk_words.specs.CommandLine.{texts_of, wanted_by, wanted_of};
+ghost use Rattle.clap.specs.Words.{found_of, one_of, rows_of, subcommand_rows_of};
+ghost use Rattle.cilk_words.specs.CommandLine.{asked, asked_by, is_set, request_of_any, run_in};
+ghost use Rattle.cilk_words.specs.CommandLine.{texts_of, wanted_by, wanted_of, word_of};
 ghost use Rattle.cilk_words.specs.Refusing.{IsNoRequest};
 
-use crate::arguments::{EXPLAIN, FILE, LIMIT, LOG, WORKERS, WRITTEN, parse};
-use crate::dash::Dash;
+use crate::arguments::{EXPLAIN, FILE, LIMIT, LOG, RUNS, SEED, WORKERS, WRITTEN, parse};
+use crate::clash::Clash;
 use crate::refusal::NoRequest;
 use crate::request::{Request, Task};
 use clap::ArgMatches;
@@ -26,8 +26,8 @@ pub fn request_in<'a>(alloc: Global, words: &'a [String]) -> Result<Request<'a>,
         // `clap` lets no words through without a subcommand that it was told of, and that one's text; were it to, they would ask for nothing.
         return Err(NoRequest::Usage(String::new(alloc)));
     };
-    match Dash::in_request(&request) {
-        Some(dash) => Err(NoRequest::Dash(dash)),
+    match Clash::in_request(&request) {
+        Some(clash) => Err(NoRequest::Clash(clash)),
         None => Ok(request),
     }
 }
@@ -56,6 +56,9 @@ fn task_named<'a>(name: &str, found: &ArgMatches<'a>) -> Option<Task<'a>>
         "replay" => Some(Task::Replay {
             log: found.get_str(LOG)?,
         }),
+        "measure" => Some(Task::Measure {
+            log: found.get_str(LOG),
+        }),
         "debug" => Some(Task::Debug {
             log: found.get_str(LOG)?,
         }),
@@ -64,8 +67,7 @@ fn task_named<'a>(name: &str, found: &ArgMatches<'a>) -> Option<Task<'a>>
 }
 
 fn run_in<'a>(found: &ArgMatches<'a>) -> Option<Task<'a>>
-    ensures { option_map wanted_by result ≡ run_of (one_of (codes "workers") (rows_of (found_of found.now)))
-        (one_of (codes "limit") (rows_of (found_of found.now))) (first_of (codes "log") (rows_of (found_of found.now))) }
+    ensures { option_map wanted_by result ≡ run_in (rows_of (found_of found.now)) }
 {
     let workers = found.get_one(WORKERS)?;
     let limit = found.get_one(LIMIT)?;
@@ -73,7 +75,19 @@ fn run_in<'a>(found: &ArgMatches<'a>) -> Option<Task<'a>>
         workers,
         limit,
         log: found.get_str(WRITTEN),
+        seed: word_in(found, SEED),
+        runs: word_in(found, RUNS),
     })
+}
+
+// The number of an option that may be left out.
+fn word_in(found: &ArgMatches<'_>, name: &str) -> Option<u32>
+    ensures { result ≡ word_of (one_of name.now (rows_of (found_of found.now))) }
+{
+    match found.get_one(name) {
+        Some(number) => Some(number),
+        None => None,
+    }
 }
 
 // Whether the flag is given. `get_flag` says nothing of a text that is no `bool`.

@@ -1,6 +1,6 @@
 use Rattle.std.proofs.Common.{subst, sym, ap, ◌∙◌, inr}
 use Rattle.cilk_commands.specs.Held.{Held}
-use Rattle.cilk_debug.specs.Tape.{tape_of}
+use Rattle.cilk_measure.specs.debug.Tape.{tape_of}
 use Rattle.cilk_program.specs.Debugging.{broken_off}
 use Rattle.cilk_program.specs.Taped.{Declines}
 use Rattle.cilk_program.specs.Telling.{status_of}
@@ -10,7 +10,7 @@ use Rattle.cilk_program.proofs.Debugged.{declines_held_of, own_held, answered, b
 use Rattle.cilk_program.proofs.Whole.{follows_of}
 use Rattle.cilk_program.proofs.Said.{fault_said, unsaid}
 use Rattle.cilk_program.proofs.Told.{replay_reads}
-use Rattle.cilk_debug.specs.log.Words.{log_of}
+use Rattle.cilk_measure.specs.debug.log.Words.{log_of}
 use Rattle.std.proofs.Common.{inl, refl}
 use Rattle.cilk_program.proofs.debug.debug.Goals as goal
 

@@ -1,5 +1,5 @@
-use Rattle.cilk_debug.specs.declared.replay_fault.ReplayFault.TheVariants as replay
-use Rattle.cilk_debug.specs.log.Words.{log_of}
+use Rattle.cilk_measure.specs.debug.declared.replay_fault.ReplayFault.TheVariants as replay
+use Rattle.cilk_measure.specs.debug.log.Words.{log_of}
 use Rattle.cilk_program.proofs.Said.{untold}
 use Rattle.cilk_program.proofs.debug.tried.Goals as goal
 

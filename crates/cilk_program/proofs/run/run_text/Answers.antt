@@ -21,7 +21,7 @@ returns-in-Ok-run_stored-clause-done g c = λ answered.
     let read : IsReadOf (g.R.Read.remaining c.args.reader.now) c.as_slice-text.result.now = subst
     (λ t. IsReadOf (g.R.Read.remaining c.args.reader.now) t) (sym c.as_slice-text.ensures.value) c.in-Ok.ensures.ok in
     stores_whole (g.R.Read.remaining c.args.reader.now) c.as_slice-text.result.now _ _ _ _
-    (IsRun c.args.task.now.workers c.args.task.now.limit c.in-Ok-run_stored.ended.status)
+    (IsRun c.args.task.now.workers c.args.task.now.limit c.args.task.now.seed c.in-Ok-run_stored.ended.status)
     (λ log answer is. is.ready.is.text.short) read c.in-Ok-run_stored.ensures.ok
 
 pub returns-clause-told : goal.returns-clause-told
@@ -44,7 +44,7 @@ returns-clause-begun g c = λ failed.
     let begun = c.in-Err-run_stored.ensures.begun (sym c.report_explained.ensures.status ∙ failed) in (
       begun.0,
       stores_front_whole (g.R.Read.remaining c.args.reader.now) c.as_slice-text.result.now _ _ _ _
-          (IsRun c.args.task.now.workers c.args.task.now.limit begun.0)
+          (IsRun c.args.task.now.workers c.args.task.now.limit c.args.task.now.seed begun.0)
           (λ log answer is. is.ready.is.text.short) read begun.1,
     )
 

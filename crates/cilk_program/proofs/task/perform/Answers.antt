@@ -37,10 +37,10 @@ returns-in-Debug-clause-begun g c =
     ))
 
 pub returns-in-Run-clause-done : goal.returns-in-Run-clause-done
-returns-in-Run-clause-done g c = rw c.in-Run.is c.run_named.ensures.done
+returns-in-Run-clause-done g c = rw c.in-Run.is c.run_as_asked.ensures.done
 
 pub returns-in-Run-clause-begun : goal.returns-in-Run-clause-begun
-returns-in-Run-clause-begun g c = rw c.in-Run.is (λ none. c.run_named.ensures.begun)
+returns-in-Run-clause-begun g c = rw c.in-Run.is (λ none. c.run_as_asked.ensures.begun)
 
 pub returns-in-Replay-clause-done : goal.returns-in-Replay-clause-done
 returns-in-Replay-clause-done g c = rw c.in-Replay.is c.replay_named.ensures.done
@@ -59,3 +59,16 @@ returns-in-Check-clause-explained g c = λ told. no_trap c.args.request.now.expl
 
 pub returns-in-Debug-clause-explained : goal.returns-in-Debug-clause-explained
 returns-in-Debug-clause-explained g c = λ told. no_trap c.args.request.now.explain c.debug_named.result c.debug_named.ensures.only told
+
+pub returns-in-Measure-clause-done : goal.returns-in-Measure-clause-done
+returns-in-Measure-clause-done g c =
+    rw c.in-Measure.is (λ answered. (c.measure_as_asked.ensures.only answered, c.measure_as_asked.ensures.done answered))
+
+pub returns-in-Measure-clause-told : goal.returns-in-Measure-clause-told
+returns-in-Measure-clause-told g c = rw c.in-Measure.is c.measure_as_asked.ensures.told
+
+pub returns-in-Measure-clause-begun : goal.returns-in-Measure-clause-begun
+returns-in-Measure-clause-begun g c = rw c.in-Measure.is (λ none. c.measure_as_asked.ensures.begun)
+
+pub returns-in-Measure-clause-explained : goal.returns-in-Measure-clause-explained
+returns-in-Measure-clause-explained g c = λ told. no_trap c.args.request.now.explain c.measure_as_asked.result c.measure_as_asked.ensures.only told

@@ -1,11 +1,11 @@
 use Rattle.std.proofs.Common.{codes, refl}
 use Rattle.std.proofs.lemmas.Result.{IfOk-weaker}
 use Rattle.clap.specs.Simple.{App, with_subcommand}
-use Rattle.cilk_words.specs.CommandLine.{bare, on_explained, on_log, on_run}
+use Rattle.cilk_words.specs.CommandLine.{bare, on_explained, on_log, on_measure, on_run}
 use Rattle.cilk_words.proofs.Built.{has}
 use Rattle.cilk_words.proofs.arguments.command.Goals as goal
 
--- the command line with its first subcommand, with two, with three, with four
+-- the command line with its first subcommand, with two, with three, with four, with five
 with_print : App
 with_print = with_subcommand bare (on_explained (codes "print")).top
 
@@ -18,8 +18,11 @@ with_run = with_subcommand with_check on_run.top
 with_replay : App
 with_replay = with_subcommand with_run (on_log (codes "replay")).top
 
+with_measure : App
+with_measure = with_subcommand with_replay on_measure.top
+
 pub returns : goal.returns
-unfolding with_print with_check with_run with_replay
+unfolding with_print with_check with_run with_replay with_measure
 returns c =
     let print = has bare (on_explained (codes "print")) c.bare.result c.on_explained-print.result _ c.bare.ensures
     c.on_explained-print.ensures refl c.in_ok-printing.ensures in
@@ -27,5 +30,6 @@ returns c =
     c.in_ok-checking.ensures in
     let run = has with_check on_run _ c.on_run.result _ check c.on_run.ensures refl c.in_ok-running.ensures in
     let replay = has with_run (on_log (codes "replay")) _ c.on_log-replay.result _ run c.on_log-replay.ensures refl c.in_ok-replaying.ensures in
-    IfOk-weaker c.with-5.result _ _
-    (λ whole adds. has with_replay (on_log (codes "debug")) _ c.on_session.result whole replay c.on_session.ensures refl adds) c.with-5.ensures
+    let measure = has with_replay on_measure _ c.on_measure.result _ replay c.on_measure.ensures refl c.in_ok-measuring.ensures in
+    IfOk-weaker c.with-6.result _ _
+    (λ whole adds. has with_measure (on_log (codes "debug")) _ c.on_session.result whole measure c.on_session.ensures refl adds) c.with-6.ensures

@@ -1,16 +1,12 @@
-use Rattle.std.proofs.Common.{[], ◌∷◌, Some, ap}
+use Rattle.std.proofs.Common.{[], ◌∷◌, ap}
 use Rattle.clap.specs.Walk.{Rule, Text}
-use Rattle.clap.specs.declared.builder.value_parser.ValueParser.{ValueParser}
 use Rattle.cilk_words.proofs.arguments.number.Goals as goal
 
-abbrev with_number : Text → ValueParser → Text → Rule → Rule
-with_number name parser default r = record r { long = Some name; value_names = 1; parser = Some parser; defaults = default ∷ [] }
+abbrev with_default : Text → Rule → Rule
+with_default default r = record r { defaults = default ∷ [] }
 
 pub returns-clause-rule : goal.returns-clause-rule
-returns-clause-rule c =
-    let given = c.value_parser.ensures.given in
-    rw (c.default_value.ensures, c.value_parser.ensures.others, given.1, given.2, c.value_name.ensures, c.long.ensures)
-    (ap (with_number c.args.name.now c.args.parser c.args.default.now) c.new.ensures.rule)
+returns-clause-rule c = rw (c.default_value.ensures) (ap (with_default c.args.default.now) c.option.ensures.rule)
 
 pub returns-clause-local : goal.returns-clause-local
-returns-clause-local c = rw (c.default_value.ensures, c.value_parser.ensures.others, c.value_name.ensures, c.long.ensures) c.new.ensures.optional.1
+returns-clause-local c = rw (c.default_value.ensures) c.option.ensures.local

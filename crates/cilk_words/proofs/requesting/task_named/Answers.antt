@@ -1,7 +1,7 @@
 use Rattle.std.proofs.Common.{ap, option_map, sym, None, Some}
 use Rattle.clap.specs.Words.{found_of}
 use Rattle.cilk_words.specs.CommandLine.{wanted_by}
-use Rattle.cilk_words.proofs.Requests.{debug_given, replay_given}
+use Rattle.cilk_words.proofs.Requests.{debug_given, measure_given, replay_given}
 use Rattle.cilk_words.proofs.requesting.task_named.Goals as goal
 
 pub returns-in-run : goal.returns-in-run
@@ -25,3 +25,8 @@ pub returns-in_ok-get_str-in-debug : goal.returns-in_ok-get_str-in-debug
 returns-in_ok-get_str-in-debug c =
     let given = c.in_ok-get_str-in-debug in
     rw (c.in-debug.is) (sym (debug_given (found_of c.args.found.now) (Some given.field-0.now) given.ensures))
+
+pub returns-in-measure : goal.returns-in-measure
+returns-in-measure c =
+    let log = option_map (λ name. name.now) c.get_str-in-measure.result in
+    rw (c.in-measure.is) (sym (measure_given (found_of c.args.found.now) log c.get_str-in-measure.ensures))
