@@ -70,3 +70,10 @@ fn same_programs_and_others(rt: HostRuntime) {
         }
     }
 }
+
+#[test]
+fn the_empty_text_is_a_program_of_nothing(rt: HostRuntime) {
+    let empty = program(&rt, rt.alloc(), "");
+    assert!(rt; empty.headers.is_empty());
+    assert!(rt; empty.items.is_empty());
+}

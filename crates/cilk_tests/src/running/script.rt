@@ -60,7 +60,7 @@ fn number(rt: &impl Abort, digits: &str) -> u8 {
     digits.parse::<u8>().expect(rt, "a number")
 }
 
-fn event_word(rt: &impl Abort, alloc: Global, event: &Event) -> String {
+pub fn event_word(rt: &impl Abort, alloc: Global, event: &Event) -> String {
     match event {
         Event::Acted { path, n } => word(rt, alloc, "a", *n, path),
         Event::Spawned { child, n } => word(rt, alloc, "s", *n, child),

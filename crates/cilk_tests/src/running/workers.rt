@@ -48,6 +48,8 @@ struct Holding<'a> {
     left: AtomicU64,
     held: AtomicU64,
     failures: AtomicU64,
+    // After so many looks a worker goes on, which is a failure.
+    looks: u64,
 }
 
 impl<'a> Holding<'a> {
@@ -59,11 +61,12 @@ impl<'a> Holding<'a> {
             left: AtomicU64::new(0),
             held: AtomicU64::new(0),
             failures: AtomicU64::new(0),
+            looks: LOOKS,
         }
     }
 
     fn wait(&self, until: u64) {
-        for _ in 0..LOOKS {
+        for _ in 0..self.looks {
             if self.came.load(Ordering::SeqCst) & until == until {
                 return;
             }
@@ -148,6 +151,21 @@ fn two_workers_take_turns(rt: HostRuntime) {
         assert_eq!(rt; run.log.choices.as_slice(), wanted.as_slice());
         assert_eq!(rt; run.turns.as_slice(), [5, 2].as_slice());
     }
+}
+
+// One thread waits for turns to which only another could come.
+#[test]
+fn one_thread_fails_at_its_first_hold(rt: HostRuntime) {
+    let holds = [Hold {
+        before: turn(1, 2),
+        until: turn(2, 3),
+    }];
+    let mut gate = Holding::new(&holds, (turn(2, 2), turn(2, 3)));
+    gate.looks = 1000;
+    gate.before(1, 1);
+    assert_eq!(rt; gate.failures.load(Ordering::SeqCst), 0);
+    gate.before(1, 2);
+    assert_eq!(rt; gate.failures.load(Ordering::SeqCst), 1);
 }
 
 #[test]
