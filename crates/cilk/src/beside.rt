@@ -1,7 +1,8 @@
-//! The name of a file that is written beside another, until it takes the other's place.
+//! The names of files: of one that is written beside another, until it takes the other's place, and of one in a folder.
 
 ghost use Rattle.std.specs.Prelude.{◌≡◌, ◌++◌, IfOk, codes, decimal};
 ghost use Rattle.cilk.specs.Beside.{name_beside};
+ghost use Rattle.cilk_program.specs.Exploring.{log_at};
 
 use arrayvec::ArrayString;
 use std::fmt::Write;
@@ -19,6 +20,17 @@ pub fn name_beside(path: &str, number: u32) -> io::Result<ArrayString<LONGEST>>
     match path.rsplit_once('/') {
         Some(parts) => name_in(parts.0, "/", number),
         None => name_in("", "", number),
+    }
+}
+
+/// The name of the log with this number in a folder. It takes no memory.
+pub fn name_within(folder: &str, number: u64) -> io::Result<ArrayString<LONGEST>>
+    ensures { IfOk result (λ name. name.bytes ≡ log_at folder.now number) }
+{
+    let mut name = ArrayString::new();
+    match write!(name, "{folder}/{number}.log") {
+        Ok(()) => Ok(name),
+        Err(_) => Err(io::Error::from(ErrorKind::InvalidFilename)),
     }
 }
 

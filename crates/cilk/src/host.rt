@@ -3,11 +3,13 @@
 ghost use Rattle.std.specs.Prelude.{None, is_some};
 ghost use Rattle.cilk.specs.Source.{IsSource};
 
+use crate::beside::name_within;
 use crate::writing::replace_file;
-use cilk_program::{LogStore, Texts};
+use cilk_program::{LogFolder, LogStore, Texts};
 use either::Either;
 use std::alloc::{AllocError, Global};
 use std::fs::File;
+use std::io::ErrorKind;
 use std::os::unix::fs::MetadataExt;
 use std::{fs, io};
 
@@ -25,6 +27,8 @@ impl<'r> Texts for Host<'r> {
     type Commands = Stdin;
 
     type Store = LogFile<'r>;
+
+    type Folder = LogFiles<'r>;
 
     ghost held = { λ host name. None };
 
@@ -63,6 +67,23 @@ impl<'r> Texts for Host<'r> {
             }),
         }
     }
+
+    fn log_folder(
+        &self,
+        alloc: Global,
+        program: &str,
+        name: Option<&str>,
+    ) -> Result<LogFiles<'r>, AllocError> {
+        let path = match name {
+            None => None,
+            Some(name) => Some(String::from_str(alloc, name)?),
+        };
+        Ok(LogFiles {
+            rt: self.rt,
+            path,
+            program: String::from_str(alloc, program)?,
+        })
+    }
 }
 
 /// The file that a log is written to, if there is one. It is created when the text of the log is there, and writing it takes no memory.
@@ -92,6 +113,36 @@ impl<'r> LogStore for LogFile<'r> {
             Some(path) => replace_file(self.rt, path.as_str(), text),
             None => Ok(()),
         }
+    }
+}
+
+/// The files of a folder that logs are written to, if there is one. Each is created when its text is there.
+#[derive(Drop)]
+pub struct LogFiles<'r> {
+    rt: &'r HostRuntime,
+    path: Option<String>,
+    /// The name of the program's text.
+    program: String,
+}
+
+impl<'r> LogFolder for LogFiles<'r> {
+    ghost wanted = { λ files. is_some files.path };
+
+    ghost stored = { λ files number. None };
+
+    fn is_wanted(&self) -> bool {
+        self.path.is_some()
+    }
+
+    fn store(&mut self, number: u64, text: &[u8]) -> io::Result<()> {
+        let Some(folder) = &self.path else {
+            return Ok(());
+        };
+        let path = name_within(folder.as_str(), number)?;
+        if is_same_file(self.rt, self.program.as_str(), path.as_str()) {
+            return Err(io::Error::from(ErrorKind::AlreadyExists));
+        }
+        replace_file(self.rt, path.as_str(), text)
     }
 }
 

@@ -6,7 +6,7 @@ use Rattle.std.proofs.lemmas.Str.Pattern.{NoCharPasses-char}
 use Rattle.std.specs.List.{after_last, suffix_len}
 use Rattle.std.specs.Str.{NoCharPasses}
 use Rattle.std.specs.Str.Pattern.{RFindsChar}
-use Rattle.cilk_check_scopes.specs.lexeme.Place.{is_newline}
+use Rattle.cilk_check_scopes.specs.lexeme.LineColumn.{is_newline}
 
 differs : (b : ℕ) → b ≢ 10 → not (is_newline b) ≡ true
 differs b h = grind (arith, h)

@@ -2,7 +2,7 @@
 use Rattle.std.specs.Prelude.{ℕ, List, [], ◌∷◌, ◌++◌, take, drop, flat_map, codes, Bool, ◌==◌, if◌then◌else◌}
 use Rattle.std.specs.List.{after_last, before_first}
 use Rattle.std.specs.Int.{is_in_range}
-use Rattle.cilk_check_scopes.specs.lexeme.Place.{is_newline}
+use Rattle.cilk_check_scopes.specs.lexeme.LineColumn.{is_newline}
 
 -- what stands on its line before a place
 abbrev pub line_front : List ℕ → ℕ → List ℕ

@@ -78,13 +78,13 @@ pub(crate) fn say_open_brace(
     brace: Front<'_>,
 ) -> Result<(), Memory> {
     say(out, "the `{` in line ")?;
-    say_number(out, brace.source.line_of(brace.index))?;
+    say_number(out, brace.source.line_of_token(brace.index))?;
     say(out, " is never closed")?;
     let Some(pair) = first_slanted(alloc, front)? else {
         return Ok(());
     };
     say(out, ", since the `}` in line ")?;
-    say_number(out, front.source.line_of(pair.closes))?;
+    say_number(out, front.source.line_of_token(pair.closes))?;
     say(out, " closes the one in line ")?;
-    say_number(out, front.source.line_of(pair.opens))
+    say_number(out, front.source.line_of_token(pair.opens))
 }

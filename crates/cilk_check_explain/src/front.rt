@@ -57,7 +57,7 @@ impl<'a> Front<'a> {
 
     /// The line of the token before it.
     pub(crate) fn line_before(self) -> usize {
-        self.source.line_of(self.index.saturating_sub(1))
+        self.source.line_of_token(self.index.saturating_sub(1))
     }
 
     /// Which token begins the statement or the declaration that it is of.
@@ -158,7 +158,7 @@ impl<'a> Front<'a> {
 
     /// Whether it is the first token of its line.
     pub(crate) fn begins_line(self) -> bool {
-        self.index == 0 || self.line_before() < self.source.line_of(self.index)
+        self.index == 0 || self.line_before() < self.source.line_of_token(self.index)
     }
 }
 

@@ -1,7 +1,7 @@
 //! The line of a place.
 
 ghost use Rattle.std.specs.Prelude.{◌≡◌, IfOk, string_bytes, flat_map, IsCharBoundary};
-ghost use Rattle.cilk_check_scopes.specs.lexeme.Place.{is_newline};
+ghost use Rattle.cilk_check_scopes.specs.lexeme.LineColumn.{is_newline};
 ghost use Rattle.std.specs.List.{after_last, before_first};
 ghost use Rattle.cilk_check_explain.specs.Lines.{blank_for, place_lines};
 ghost use Rattle.cilk_check_explain.specs.Said.{Says};

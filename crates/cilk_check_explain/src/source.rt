@@ -52,7 +52,7 @@ impl<'a> Source<'a> {
     }
 
     /// The line of that.
-    pub(crate) fn line_of(self, index: usize) -> usize {
+    pub(crate) fn line_of_token(self, index: usize) -> usize {
         self.line(self.place_at(index))
     }
 

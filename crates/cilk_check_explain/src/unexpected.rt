@@ -155,7 +155,7 @@ fn say_nested(
 ) -> Result<(), Memory> {
     let end = front.at(front.source.tokens.len());
     if end.open_brace().is_none() {
-        let line = brace.source.line_of(brace.index);
+        let line = brace.source.line_of_token(brace.index);
         return Reason::lined(NESTED, line).say(out);
     }
     say(out, " cannot stand in a body: ")?;

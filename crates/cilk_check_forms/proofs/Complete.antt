@@ -1,6 +1,7 @@
 -- Each fault of the program is listed.
 use Rattle.std.proofs.Common.{◌≡◌, ◌≢◌, ℕ, Bool, true, false, not, nat_eq, Option, Some, None, List, [], ◌∷◌, ◌++◌, length, map, ◌⊎◌, inl, inr, refl}
 use Rattle.std.proofs.Common.{sym, ap, subst, ◌∙◌}
+use Rattle.std.proofs.lemmas.Bool.{not_from_false}
 use Rattle.std.specs.List.{Contains, flat_map, list_any}
 use Rattle.std.proofs.lemmas.Bool.Decides.{Decides-eqb}
 use Rattle.cilk_check_scopes.specs.syntax.Tree.{Word}
@@ -34,10 +35,6 @@ use Rattle.cilk_check_forms.proofs.Blocks.{block_is}
 use Rattle.cilk_check_forms.proofs.Passing.{passing_has}
 use Rattle.cilk_check_forms.proofs.Repeated.{repeated_has}
 use Rattle.cilk_check_forms.proofs.Mains.{started}
-
-pub not_false : (b : Bool) → b ≡ false → not b ≡ true
-not_false true e = cc
-not_false false e = refl
 
 is_no_inlet : (o : Owner) → o ≢ owner.Inlet → is_inlet o ≡ false
 is_no_inlet owner.Inlet n = absurd (n refl)
@@ -114,7 +111,7 @@ stmt_has p a s f stands h = part_has p a (statement s) f stands (Has-append_left
 -- an array's length is listed where it is declared
 length_has : (at n : ℕ) (kind : DeclarationKind) → kind ≡ Array n → is_length n ≡ false → Has (kind_faults at kind) (Limit at)
 length_has at n kind e l =
-    subst (λ k. Has (kind_faults at k) (Limit at)) (sym e) (Has-fault_if (not (is_length n)) (Limit at) (not_false _ l))
+    subst (λ k. Has (kind_faults at k) (Limit at)) (sym e) (Has-fault_if (not (is_length n)) (Limit at) (not_from_false _ l))
 
 no_array : (names : List Word) (d : Declared) (n : ℕ) → Has (map parameter names) d → d.kind ≢ Array n
 no_array [] d n h e = h
@@ -210,19 +207,19 @@ unfolding part_faults
 inlet_has p a at name parameters body stands (inl e) =
     part_has p a _ _ stands
     (Has-append_left (fault_if (not (is_procedure a.within.owner)) (NotInProcedure at)) _ _
-    (Has-fault_if (not (is_procedure a.within.owner)) (NotInProcedure at) (not_false _ e)))
+    (Has-fault_if (not (is_procedure a.within.owner)) (NotInProcedure at) (not_from_false _ e)))
 inlet_has p a at name parameters body stands (inr e) =
     part_has p a _ _ stands
     (Has-append_right (fault_if (not (is_procedure a.within.owner)) (NotInProcedure at)) _ _
     (Has-append_left (fault_if (not a.within.outermost) (NotInProcedure at)) _ _
-    (Has-fault_if (not a.within.outermost) (NotInProcedure at) (not_false _ e))))
+    (Has-fault_if (not a.within.outermost) (NotInProcedure at) (not_from_false _ e))))
 
 main_has : (p : tree.Program) → ((f : tree.Proc) → Contains p.items (tree.procedure f) → ¬ IsMain f) → Has (forms_faults p) (NoMain p.length)
 main_has p none =
     Has-append_right (flat_map length_faults (file_declares p.items)) _ _
     (Has-append_right (passing max_global_cells (file_declares p.items)) _ _ (Has-append_right
     (flat_map item_faults p.items) _ _
-    (Has-fault_if (not (list_any starts p.items)) (NoMain p.length) (not_false _ (no_start (list_any starts p.items) refl)))))
+    (Has-fault_if (not (list_any starts p.items)) (NoMain p.length) (not_from_false _ (no_start (list_any starts p.items) refl)))))
   where
     no_start : (b : Bool) → list_any starts p.items ≡ b → list_any starts p.items ≡ false
     no_start true e = let s = started p.items e in absurd (none s.definition (Contains-from_Has _ _ s.there) s.is_main)
@@ -239,16 +236,16 @@ forms_complete p f (inlet_in_inner_block a at name parameters body stands e) =
 forms_complete p f (in_inlet a part at stands e w) =
     part_has p a part (InInlet at) stands (word_has a part at _ (Has-from_Contains _ _ w) (subst (λ o. Has (word_faults o at) (InInlet at)) (sym e) (inl refl)))
 forms_complete p f (abort_outside a at stands n) =
-    stmt_has p a _ _ stands (Has-fault_if (not (is_inlet a.within.owner)) (AbortOutside at) (not_false _ (is_no_inlet a.within.owner n)))
+    stmt_has p a _ _ stands (Has-fault_if (not (is_inlet a.within.owner)) (AbortOutside at) (not_from_false _ (is_no_inlet a.within.owner n)))
 forms_complete p f (break_outside a at stands e) =
-    stmt_has p a _ _ stands (Has-fault_if (not a.within.in_loop_or_switch) (NoLoop at) (not_false _ e))
+    stmt_has p a _ _ stands (Has-fault_if (not a.within.in_loop_or_switch) (NoLoop at) (not_from_false _ e))
 forms_complete p f (continue_outside a at stands e) =
-    stmt_has p a _ _ stands (Has-fault_if (not a.within.in_loop) (NoLoop at) (not_false _ e))
+    stmt_has p a _ _ stands (Has-fault_if (not a.within.in_loop) (NoLoop at) (not_from_false _ e))
 forms_complete p f (no_main none) = main_has p none
 forms_complete p f (return_form a at value stands e) =
-    stmt_has p a _ _ stands (Has-fault_if (not (has_form (returned_by a.within.owner) value)) (ReturnForm at) (not_false _ e))
+    stmt_has p a _ _ stands (Has-fault_if (not (has_form (returned_by a.within.owner) value)) (ReturnForm at) (not_from_false _ e))
 forms_complete p f (format a text arguments stands n) =
-    stmt_has p a _ _ stands (Has-fault_if (not (is_count (length arguments) (numbers_in text.bytes))) (Format text.place) (not_false _ (no_count _ _ n)))
+    stmt_has p a _ _ stands (Has-fault_if (not (is_count (length arguments) (numbers_in text.bytes))) (Format text.place) (not_from_false _ (no_count _ _ n)))
 forms_complete p f (array_length d n there e l) = array_has p d n (Has-from_Contains _ _ there) e l
 forms_complete p f (limit before after d there passes) =
     passed_has p _ _ (Has-from_Contains _ _ there) (passing_has max_cells before d after passes)

@@ -1,5 +1,6 @@
 -- Which definitions are of the procedure to start with.
-use Rattle.std.proofs.Common.{◌≡◌, Bool, true, false, ◌&&◌, ◌||◌, List, [], ◌∷◌, codes, Decides, inl, inr, refl, ap, ◌∙◌}
+use Rattle.std.proofs.Common.{◌≡◌, Bool, true, false, ◌||◌, List, [], ◌∷◌, codes, Decides, inl, inr, refl, ap, ◌∙◌}
+use Rattle.std.proofs.lemmas.Bool.{and_parts, or_right}
 use Rattle.std.specs.List.{list_any}
 use Rattle.std.specs.Str.{bytes_eq}
 use Rattle.std.proofs.lemmas.Slice.Eq.{bytes_eq-Decides}
@@ -10,11 +11,6 @@ use Rattle.cilk_check_scopes.proofs.Elements.{Has}
 use Rattle.cilk_check_scopes.specs.Forms.{IsMain}
 use Rattle.cilk_check_forms.specs.Finds.{is_int, is_main, starts}
 
-and_true : (a b : Bool) → (a && b) ≡ true → (a ≡ true) × (b ≡ true)
-and_true true true e = (refl, refl)
-and_true true false e = cc
-and_true false b e = cc
-
 int_is : (r : ReturnType) → is_int r ≡ true → r ≡ returns.Int
 int_is returns.Int e = refl
 int_is returns.Void e = cc
@@ -22,9 +18,9 @@ int_is returns.Void e = cc
 main-Decides : (f : tree.Proc) → Decides (is_main f) (IsMain f)
 main-Decides f = (
   λ e.
-      let a = and_true f.is_cilk _ e in
-      let b = and_true (is_int f.returns) _ a.1 in
-      let c = and_true (bytes_eq f.name.text (codes "main")) _ b.1 in
+      let a = and_parts f.is_cilk _ e in
+      let b = and_parts (is_int f.returns) _ a.1 in
+      let c = and_parts (bytes_eq f.name.text (codes "main")) _ b.1 in
       record { is_cilk = a.0; returns = int_is f.returns b.0; named = (bytes_eq-Decides f.name.text (codes "main")).0 c.0; parameters = c.1 },
   λ h. rw (h.is_cilk, ap is_int h.returns, (bytes_eq-Decides f.name.text (codes "main")).1 h.named, h.parameters) refl,
 )
@@ -49,10 +45,6 @@ started_cases x items false e later h = behind x items (later h)
 pub started : (items : List tree.Item) → list_any starts items ≡ true → Started items
 started [] e = cc
 started (x ∷ items) e = started_cases x items (starts x) refl (started items) e
-
-or_right : (a b : Bool) → b ≡ true → (a || b) ≡ true
-or_right true b e = refl
-or_right false b e = e
 
 pub starts_where : (items : List tree.Item) (f : tree.Proc) → Has items (tree.procedure f) → IsMain f → list_any starts items ≡ true
 starts_where [] f h m = absurd h

@@ -1,7 +1,7 @@
 -- Each listed fault is a fault of the program.
-use Rattle.std.proofs.Common.{◌≡◌, ◌≢◌, ℕ, Bool, true, false, not, Option, Some, None, List, [], ◌++◌, length, map, inl, inr, refl, sym, subst, ◌∙◌}
+use Rattle.std.proofs.Common.{◌≡◌, ◌≢◌, ℕ, false, not, Option, Some, None, List, [], ◌++◌, length, map, inl, inr, refl, sym, subst, ◌∙◌}
 use Rattle.std.specs.List.{Contains, flat_map, list_any}
-use Rattle.std.proofs.lemmas.Bool.{false≢true}
+use Rattle.std.proofs.lemmas.Bool.{false≢true, not-true}
 use Rattle.std.proofs.lemmas.Bool.Decides.{Decides-eqb}
 use Rattle.cilk_check_scopes.specs.syntax.Tree.{Word}
 use Rattle.cilk_check_scopes.specs.syntax.Tree as tree
@@ -32,10 +32,6 @@ use Rattle.cilk_check_forms.proofs.Blocks.{block_is}
 use Rattle.cilk_check_forms.proofs.Repeated.{repeated}
 use Rattle.cilk_check_forms.proofs.Mains.{starts_where}
 use Rattle.cilk_check_forms.proofs.Passing.{passing_found}
-
-pub not_true : (b : Bool) → not b ≡ true → b ≡ false
-not_true true e = cc
-not_true false e = refl
 
 no_inlet : (o : Owner) → is_inlet o ≡ false → o ≢ owner.Inlet
 no_inlet owner.Inlet e is = cc
@@ -76,19 +72,19 @@ stmt_sound : (p : tree.Program) (a : Around) (s : tree.Stmt) (f : CheckFault)
     → Contains (parts_of p) (record { around = a; part = statement s }) → Has (stmt_faults a.within s) f → Faulty p f
 stmt_sound p a (tree.abort_at at) f stands h =
     let c = Has-fault_if_cases (not (is_inlet a.within.owner)) _ f h in
-    subst (Faulty p) c.1 (abort_outside a at stands (no_inlet a.within.owner (not_true _ c.0)))
+    subst (Faulty p) c.1 (abort_outside a at stands (no_inlet a.within.owner (not-true _ c.0)))
 stmt_sound p a (tree.break_at at) f stands h =
     let c = Has-fault_if_cases (not a.within.in_loop_or_switch) _ f h in
-    subst (Faulty p) c.1 (break_outside a at stands (not_true _ c.0))
+    subst (Faulty p) c.1 (break_outside a at stands (not-true _ c.0))
 stmt_sound p a (tree.continue_at at) f stands h =
     let c = Has-fault_if_cases (not a.within.in_loop) _ f h in
-    subst (Faulty p) c.1 (continue_outside a at stands (not_true _ c.0))
+    subst (Faulty p) c.1 (continue_outside a at stands (not-true _ c.0))
 stmt_sound p a (tree.return_at at value) f stands h =
     let c = Has-fault_if_cases (not (has_form (returned_by a.within.owner) value)) _ f h in
-    subst (Faulty p) c.1 (return_form a at value stands (not_true _ c.0))
+    subst (Faulty p) c.1 (return_form a at value stands (not-true _ c.0))
 stmt_sound p a (tree.print text arguments) f stands h =
     let c = Has-fault_if_cases (not (is_count (length arguments) (numbers_in text.bytes))) _ f h in
-    subst (Faulty p) c.1 (format a text arguments stands (other_count _ _ (not_true _ c.0)))
+    subst (Faulty p) c.1 (format a text arguments stands (other_count _ _ (not-true _ c.0)))
 stmt_sound p a (tree.switch test body) f stands h =
     let r = repeated (labels_of body) f h in
     subst (Faulty p) r.is (same_label a test body r.i r.k r.first r.second stands r.first_at r.second_at r.before r.same)
@@ -106,7 +102,7 @@ length_sound : (p : tree.Program) (d : Declaring) (kind : DeclarationKind) (f : 
     → Has (kind_faults d.declared.name.place kind) f → Faulty p f
 length_sound p d (Array n) f there e h =
     let c = Has-fault_if_cases (not (is_length n)) _ f h in
-    subst (Faulty p) c.1 (array_length d n there e (not_true _ c.0))
+    subst (Faulty p) c.1 (array_length d n there e (not-true _ c.0))
 length_sound p d other f there e h = absurd h
 
 passed_sound : (p : tree.Program) (ds : List Declared) (f : CheckFault) → Contains (activations_of p) ds → Has (passing max_cells ds) f → Faulty p f
@@ -146,12 +142,12 @@ part_sound p a (local (tree.inlet_at at name parameters body)) f stands h =
     elim (Has-append_cases (fault_if (not (is_procedure a.within.owner)) (NotInProcedure at)) _ f h) [
       | inl k ↦
           let c = Has-fault_if_cases (not (is_procedure a.within.owner)) _ f k in
-          subst (Faulty p) c.1 (inlet_in_no_procedure a at name parameters body stands (not_true _ c.0))
+          subst (Faulty p) c.1 (inlet_in_no_procedure a at name parameters body stands (not-true _ c.0))
       | inr k ↦
           elim (Has-append_cases (fault_if (not a.within.outermost) (NotInProcedure at)) _ f k) [
             | inl m ↦
                 let c = Has-fault_if_cases (not a.within.outermost) _ f m in
-                subst (Faulty p) c.1 (inlet_in_inner_block a at name parameters body stands (not_true _ c.0))
+                subst (Faulty p) c.1 (inlet_in_inner_block a at name parameters body stands (not-true _ c.0))
             | inr m ↦ passed_sound p _ f (inlet_activation p a at name parameters body stands) m
           ]
     ]
@@ -200,7 +196,7 @@ forms_sound p f h =
                       let c = Has-fault_if_cases (not (list_any starts p.items)) _ f n in
                       subst (Faulty p) c.1
                       (no_main (λ g there is_main. false≢true
-                      (sym (not_true _ c.0) ∙ starts_where p.items g (Has-from_Contains _ _ there) is_main)))
+                      (sym (not-true _ c.0) ∙ starts_where p.items g (Has-from_Contains _ _ there) is_main)))
                 ]
           ]
     ]

@@ -1,5 +1,6 @@
 -- Each fault of the program is listed.
 use Rattle.std.proofs.Common.{◌≡◌, Bool, true, false, not, ◌&&◌, is_some, [], Option, Some, None, codes, inl, inr, refl, sym, ap, subst}
+use Rattle.std.proofs.lemmas.Bool.{and_from, not_from_false}
 use Rattle.std.specs.List.{Contains, flat_map, list_any}
 use Rattle.std.specs.Option.{option_map}
 use Rattle.std.specs.Str.{bytes_eq}
@@ -17,15 +18,15 @@ use Rattle.cilk_check_scopes.proofs.Elements.{Has-flat_map, Has-flat_map_cases}
 use Rattle.cilk_check_scopes.proofs.Held.{Has-fault_if}
 use Rattle.cilk_check_scopes.specs.Reserved.{IsReserved}
 use Rattle.cilk_check_scopes.specs.Uses.{Use, part_uses, uses_of}
-use Rattle.cilk_check_scopes.specs.Names.{fits, arguments_of, parameters_of, returned_by, is_for_value, Means, Defines, Faulty, twice, unknown}
-use Rattle.cilk_check_scopes.specs.Names.{wrong_kind, main_spawned, argument_count, void_value, inlet_called, undefined, reserved_declared}
-use Rattle.cilk_check_scopes.specs.Names.{reserved_used, reserved_prototype}
+use Rattle.cilk_check_scopes.specs.NameFaults.{fits, arguments_of, parameters_of, returned_by, is_for_value, Means, Defines, Faulty, twice, unknown}
+use Rattle.cilk_check_scopes.specs.NameFaults.{wrong_kind, main_spawned, argument_count, void_value, inlet_called, undefined, reserved_declared}
+use Rattle.cilk_check_scopes.specs.NameFaults.{reserved_used, reserved_prototype}
 use Rattle.cilk_check_names.specs.Finds.{is_reserved, differ, is_void, is_spawned, is_called, is_inlet, meant_faults, visible_faults, use_faults}
 use Rattle.cilk_check_names.specs.Finds.{declaring_faults, defines, prototype_faults, scope_faults, block_faults, procedure_faults, item_faults}
 use Rattle.cilk_check_names.specs.Finds.{names_faults}
 use Rattle.cilk_check_names.proofs.Blocks.{block_is, whole_faults, standing_faults}
 use Rattle.cilk_check_names.proofs.Told.{declares_has, uses_has}
-use Rattle.cilk_check_names.proofs.Decided.{reserved-Decides, false_from, not_false, both, differ_to, defined_there}
+use Rattle.cilk_check_names.proofs.Decided.{reserved-Decides, false_from, differ_to, defined_there}
 
 -- ---- where the faults of a program stand
 
@@ -112,7 +113,7 @@ module _ (u : Use) (d : Declared) where
   kind_has : fits u.role d.kind ≡ false → Has (meant_faults u.name u.role d.kind) (WrongKind u.name.place)
   unfolding meant_faults
   kind_has e =
-      Has-append_left (fault_if (not (fits u.role d.kind)) (WrongKind u.name.place)) _ _ (Has-fault_if (not (fits u.role d.kind)) _ (not_false _ e))
+      Has-append_left (fault_if (not (fits u.role d.kind)) (WrongKind u.name.place)) _ _ (Has-fault_if (not (fits u.role d.kind)) _ (not_from_false _ e))
 
   main_has : (is_spawned u.role && bytes_eq u.name.text (codes "main")) ≡ true → Has (meant_faults u.name u.role d.kind) (WrongKind u.name.place)
   unfolding meant_faults
@@ -182,17 +183,17 @@ names_complete p f (twice d there e) = declaring_has p d _ (Has-from_Contains _ 
 names_complete p f (unknown u there free none) = use_has p u _ there (unknown_has u free none)
 names_complete p f (wrong_kind u d m e) = means_has p u d _ m (kind_has u d e)
 names_complete p f (main_spawned u d n b m r is_main) =
-    means_has p u d _ m (main_has u d (both (is_spawned u.role) _ (ap is_spawned r) ((bytes_eq-Decides u.name.text (codes "main")).1 is_main)))
+    means_has p u d _ m (main_has u d (and_from (is_spawned u.role) _ (ap is_spawned r) ((bytes_eq-Decides u.name.text (codes "main")).1 is_main)))
 names_complete p f (argument_count u d x y m e g n) =
     means_has p u d _ m (count_has u d (differ_to (arguments_of u.role) (parameters_of d.kind) x y e g n))
 names_complete p f (void_value u d m e g) =
-    means_has p u d _ m (value_has u d (both (is_for_value u.role) _ e (ap is_void g)))
+    means_has p u d _ m (value_has u d (and_from (is_for_value u.role) _ e (ap is_void g)))
 names_complete p f (inlet_called u d n w b m r k) =
-    means_has p u d _ m (inlet_has u d (both (is_called u.role) _ (ap is_called r) (ap is_inlet k)))
+    means_has p u d _ m (inlet_has u d (and_from (is_called u.role) _ (ap is_called r) (ap is_inlet k)))
 names_complete p f (undefined q there none) =
     prototype_has p q _ there
     (Has-append_left (fault_if (not (list_any (defines q) p.items)) (Prototype q.name.place)) _ _
-    (Has-fault_if (not (list_any (defines q) p.items)) _ (not_false _ (undefined_is p q none (list_any (defines q) p.items) refl))))
+    (Has-fault_if (not (list_any (defines q) p.items)) _ (not_from_false _ (undefined_is p q none (list_any (defines q) p.items) refl))))
 names_complete p f (reserved_declared d there r) =
     declaring_has p d _ (Has-from_Contains _ _ there) (declared_reserved_has d r)
 names_complete p f (reserved_used u there r) = use_has p u _ there (reserved_has u r)

@@ -1,9 +1,9 @@
 -- What the tests of names decide.
-use Rattle.std.proofs.Common.{◌≡◌, ◌≢◌, ℕ, Bool, true, false, not, ◌&&◌, ◌||◌, nat_eq, List, [], ◌∷◌, ◌++◌, length, Option, Some, None, Decides, inl}
+use Rattle.std.proofs.Common.{◌≡◌, ◌≢◌, ℕ, Bool, true, false, ◌||◌, nat_eq, List, [], ◌∷◌, ◌++◌, length, Option, Some, None, Decides, inl}
 use Rattle.std.proofs.Common.{inr, refl, sym, ap, ◌∙◌}
 use Rattle.std.specs.List.{list_any}
 use Rattle.std.specs.Str.{bytes_eq}
-use Rattle.std.proofs.lemmas.Bool.{false≢true}
+use Rattle.std.proofs.lemmas.Bool.{false≢true, and_from, and_parts, not-true, not_from_false, or_right}
 use Rattle.std.proofs.lemmas.Bool.Decides.{Decides-like, Decides-or, Decides-eqb}
 use Rattle.std.proofs.lemmas.Slice.Eq.{bytes_eq-Decides}
 use Rattle.cilk_check_scopes.specs.syntax.declared.return_type.ReturnType.{ReturnType}
@@ -16,7 +16,7 @@ use Rattle.cilk_check_scopes.proofs.Elements.{Has, Has-from_Contains, Contains-f
 use Rattle.cilk_check_scopes.specs.declared.role.Role.{Role}
 use Rattle.cilk_check_scopes.specs.declared.role.Role.TheVariants as role
 use Rattle.cilk_check_scopes.specs.Reserved.{c_keywords, library_names, IsReserved}
-use Rattle.cilk_check_scopes.specs.Names.{Defines}
+use Rattle.cilk_check_scopes.specs.NameFaults.{Defines}
 use Rattle.cilk_check_names.specs.Finds.{is_one_of, is_reserved, differ, is_void, is_spawned, is_called, is_inlet, has_count, same_bool, same_return, defines}
 
 element-Decides : (names : List (List ℕ)) (text : List ℕ) → Decides (is_one_of names text) (Has names text)
@@ -36,21 +36,6 @@ false_from false d n = refl
 pub not_from : {P : Type 0} (b : Bool) → Decides b P → b ≡ false → ¬ P
 not_from b d e p = false≢true (sym e ∙ d.1 p)
 
-pub and_true : (a b : Bool) → (a && b) ≡ true → (a ≡ true) × (b ≡ true)
-and_true true true e = (refl, refl)
-and_true true false e = cc
-and_true false b e = cc
-
-pub both : (a b : Bool) → a ≡ true → b ≡ true → (a && b) ≡ true
-both a b e f = rw (e, f) refl
-
-pub not_true : (b : Bool) → not b ≡ true → b ≡ false
-not_true true e = cc
-not_true false e = refl
-
-pub not_false : (b : Bool) → b ≡ false → not b ≡ true
-not_false b e = rw e refl
-
 -- two numbers that are there and differ
 pub record Differ (a b : Option ℕ) : Type 0 where
   pub given : ℕ
@@ -63,10 +48,10 @@ pub differ_from : (a b : Option ℕ) → differ a b ≡ true → Differ a b
 differ_from None b e = cc
 differ_from (Some x) None e = cc
 differ_from (Some x) (Some y) e =
-    record { given = x; wanted = y; is_given = refl; is_wanted = refl; differ = not_from (nat_eq x y) (Decides-eqb x y) (not_true _ e) }
+    record { given = x; wanted = y; is_given = refl; is_wanted = refl; differ = not_from (nat_eq x y) (Decides-eqb x y) (not-true _ e) }
 
 pub differ_to : (a b : Option ℕ) (x y : ℕ) → a ≡ Some x → b ≡ Some y → x ≢ y → differ a b ≡ true
-differ_to a b x y e f n = ap (λ o. differ o b) e ∙ ap (differ (Some x)) f ∙ not_false _ (false_from (nat_eq x y) (Decides-eqb x y) n)
+differ_to a b x y e f n = ap (λ o. differ o b) e ∙ ap (differ (Some x)) f ∙ not_from_false _ (false_from (nat_eq x y) (Decides-eqb x y) n)
 
 pub void_from : (o : Option ReturnType) → is_void o ≡ true → o ≡ Some returns.Void
 void_from None e = cc
@@ -126,9 +111,9 @@ count_from (tree.command_line count strings) n e = cc
 
 pub defined_from : (f : tree.Proc) (q : tree.Prototype) → defines q (tree.procedure f) ≡ true → Defines f q
 defined_from f q e =
-    let a = and_true (bytes_eq f.name.text q.name.text) _ e in
-    let b = and_true (same_bool f.is_cilk q.is_cilk) _ a.1 in
-    let c = and_true (same_return f.returns q.returns) _ b.1 in
+    let a = and_parts (bytes_eq f.name.text q.name.text) _ e in
+    let b = and_parts (same_bool f.is_cilk q.is_cilk) _ a.1 in
+    let c = and_parts (same_return f.returns q.returns) _ b.1 in
     record {
       name = (bytes_eq-Decides f.name.text q.name.text).0 a.0;
       is_cilk = bool_same f.is_cilk q.is_cilk b.0;
@@ -139,8 +124,8 @@ defined_from f q e =
 
 pub defined_to : (f : tree.Proc) (q : tree.Prototype) → Defines f q → defines q (tree.procedure f) ≡ true
 defined_to f q d =
-    both (bytes_eq f.name.text q.name.text) _ ((bytes_eq-Decides f.name.text q.name.text).1 d.name) (both (same_bool f.is_cilk q.is_cilk) _ (ap
-    (λ b. same_bool b q.is_cilk) d.is_cilk ∙ same_bool_self q.is_cilk) (both (same_return f.returns q.returns) _ (ap
+    and_from (bytes_eq f.name.text q.name.text) _ ((bytes_eq-Decides f.name.text q.name.text).1 d.name) (and_from (same_bool f.is_cilk q.is_cilk) _ (ap
+    (λ b. same_bool b q.is_cilk) d.is_cilk ∙ same_bool_self q.is_cilk) (and_from (same_return f.returns q.returns) _ (ap
     (λ r. same_return r q.returns) d.returns ∙ same_return_self q.returns) (ap (λ ps. has_count ps q.count) d.parameters.1 ∙ (Decides-eqb
     (length d.parameters.0) q.count).1 d.parameters.2)))
 
@@ -164,10 +149,6 @@ defined_cases q x items false e later h = behind q x items (later h)
 pub defined_there : (q : tree.Prototype) (items : List tree.Item) → list_any (defines q) items ≡ true → Defined q items
 defined_there q [] e = cc
 defined_there q (x ∷ items) e = defined_cases q x items (defines q x) refl (defined_there q items) e
-
-or_right : (a b : Bool) → b ≡ true → (a || b) ≡ true
-or_right true b e = refl
-or_right false b e = e
 
 pub defined_where : (q : tree.Prototype) (items : List tree.Item) (f : tree.Proc) → Has items (tree.procedure f) → Defines f q
     → list_any (defines q) items ≡ true

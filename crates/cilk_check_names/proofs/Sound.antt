@@ -3,7 +3,7 @@ use Rattle.std.proofs.Common.{◌≡◌, Bool, true, false, not, cond, ◌&&◌,
 use Rattle.std.specs.List.{Contains, flat_map, list_any}
 use Rattle.std.specs.Option.{option_map}
 use Rattle.std.specs.Str.{bytes_eq}
-use Rattle.std.proofs.lemmas.Bool.{false≢true}
+use Rattle.std.proofs.lemmas.Bool.{false≢true, and_parts, not-true}
 use Rattle.std.proofs.lemmas.Slice.Eq.{bytes_eq-Decides}
 use Rattle.cilk_check_scopes.specs.syntax.Tree as tree
 use Rattle.cilk_check_scopes.specs.declared.fault.CheckFault.{CheckFault}
@@ -16,14 +16,14 @@ use Rattle.cilk_check_scopes.proofs.Elements.{Has, Has-from_Contains, Contains-f
 use Rattle.cilk_check_scopes.proofs.Elements.{Has-flat_map, Has-flat_map_cases}
 use Rattle.cilk_check_scopes.proofs.Held.{Has-fault_if_cases}
 use Rattle.cilk_check_scopes.specs.Uses.{Use, part_uses, uses_of}
-use Rattle.cilk_check_scopes.specs.Names.{fits, arguments_of, parameters_of, returned_by, is_for_value, Means, Faulty, twice, unknown, wrong_kind}
-use Rattle.cilk_check_scopes.specs.Names.{main_spawned, argument_count, void_value, inlet_called, undefined, reserved_declared, reserved_used}
-use Rattle.cilk_check_scopes.specs.Names.{reserved_prototype}
+use Rattle.cilk_check_scopes.specs.NameFaults.{fits, arguments_of, parameters_of, returned_by, is_for_value, Means, Faulty, twice, unknown, wrong_kind}
+use Rattle.cilk_check_scopes.specs.NameFaults.{main_spawned, argument_count, void_value, inlet_called, undefined, reserved_declared, reserved_used}
+use Rattle.cilk_check_scopes.specs.NameFaults.{reserved_prototype}
 use Rattle.cilk_check_names.specs.Finds.{is_reserved, differ, is_void, is_spawned, is_called, is_inlet, meant_faults, visible_faults, use_faults}
 use Rattle.cilk_check_names.specs.Finds.{declaring_faults, defines, prototype_faults, scope_faults, procedure_faults, item_faults, names_faults}
 use Rattle.cilk_check_names.proofs.Blocks.{block_is, standing_faults}
 use Rattle.cilk_check_names.proofs.Told.{ToldBy, declares, uses, part_told}
-use Rattle.cilk_check_names.proofs.Decided.{reserved-Decides, not_from, and_true, not_true, differ_from, void_from, spawned_from, called_from}
+use Rattle.cilk_check_names.proofs.Decided.{reserved-Decides, not_from, differ_from, void_from, spawned_from, called_from}
 use Rattle.cilk_check_names.proofs.Decided.{inlet_from, defined_where}
 
 declaring_sound : (p : tree.Program) (d : Declaring) (f : CheckFault) → Has (declarings_of p) d → Has (declaring_faults d) f → Faulty p f
@@ -44,12 +44,12 @@ meant_sound p u d f m h =
     elim (Has-append_cases (fault_if (not (fits u.role d.kind)) (WrongKind u.name.place)) _ f h) [
       | inl k ↦
           let c = Has-fault_if_cases (not (fits u.role d.kind)) _ f k in
-          subst (Faulty p) c.1 (wrong_kind u d m (not_true _ c.0))
+          subst (Faulty p) c.1 (wrong_kind u d m (not-true _ c.0))
       | inr k ↦
           elim (Has-append_cases (fault_if (is_spawned u.role && bytes_eq u.name.text (codes "main")) (WrongKind u.name.place)) _ f k) [
             | inl n ↦
                 let c = Has-fault_if_cases (is_spawned u.role && bytes_eq u.name.text (codes "main")) _ f n in
-                let a = and_true (is_spawned u.role) _ c.0 in
+                let a = and_parts (is_spawned u.role) _ c.0 in
                 let s = spawned_from u.role a.0 in
                 subst (Faulty p) c.1 (main_spawned u d s.0 s.1 m s.2 ((bytes_eq-Decides u.name.text (codes "main")).0 a.1))
             | inr n ↦
@@ -62,11 +62,11 @@ meant_sound p u d f m h =
                       elim (Has-append_cases (fault_if (is_for_value u.role && is_void (returned_by d.kind)) (VoidValue u.name.place)) _ f x) [
                         | inl y ↦
                             let c = Has-fault_if_cases (is_for_value u.role && is_void (returned_by d.kind)) _ f y in
-                            let a = and_true (is_for_value u.role) _ c.0 in
+                            let a = and_parts (is_for_value u.role) _ c.0 in
                             subst (Faulty p) c.1 (void_value u d m a.0 (void_from (returned_by d.kind) a.1))
                         | inr y ↦
                             let c = Has-fault_if_cases (is_called u.role && is_inlet d.kind) _ f y in
-                            let a = and_true (is_called u.role) _ c.0 in
+                            let a = and_parts (is_called u.role) _ c.0 in
                             let r = called_from u.role a.0 in
                             let i = inlet_from d.kind a.1 in
                             subst (Faulty p) c.1 (inlet_called u d r.0 i.0 r.1 m r.2 i.1)
@@ -132,7 +132,7 @@ prototype_sound p (tree.prototype q) f there h =
           let c = Has-fault_if_cases (not (list_any (defines q) p.items)) _ f k in
           subst (Faulty p) c.1
           (undefined q (Contains-from_Has _ _ there) (λ g has d. false≢true
-          (sym (not_true _ c.0) ∙ defined_where q p.items g (Has-from_Contains _ _ has) d)))
+          (sym (not-true _ c.0) ∙ defined_where q p.items g (Has-from_Contains _ _ has) d)))
       | inr k ↦
           let c = Has-fault_if_cases (is_reserved q.name.text) _ f k in
           subst (Faulty p) c.1 (reserved_prototype q (Contains-from_Has _ _ there) ((reserved-Decides q.name).0 c.0))

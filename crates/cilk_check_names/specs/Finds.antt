@@ -20,7 +20,7 @@ use Rattle.cilk_check_scopes.specs.Reserved.{c_keywords, library_names}
 use Rattle.cilk_check_scopes.specs.declared.role.Role.{Role}
 use Rattle.cilk_check_scopes.specs.declared.role.Role.TheVariants as role
 use Rattle.cilk_check_scopes.specs.Uses.{Use, expr_uses, stmt_uses}
-use Rattle.cilk_check_scopes.specs.Names.{fits, arguments_of, parameters_of, returned_by, is_for_value}
+use Rattle.cilk_check_scopes.specs.NameFaults.{fits, arguments_of, parameters_of, returned_by, is_for_value}
 
 -- whether a text is one of these names
 abbrev pub is_one_of : List (List ℕ) → List ℕ → Bool

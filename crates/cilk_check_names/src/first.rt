@@ -3,7 +3,7 @@
 ghost use Rattle.std.specs.Prelude.{IfOk, IfSome, IfNone};
 ghost use Rattle.cilk_check_scopes.specs.declared.fault.CheckFault.{CheckFault};
 ghost use Rattle.cilk_check_scopes.specs.Fault.{IsFirst};
-ghost use Rattle.cilk_check_scopes.specs.Names.{Faulty};
+ghost use Rattle.cilk_check_scopes.specs.NameFaults.{Faulty};
 
 use crate::top::first_listed;
 use cilk_check_scopes::{CheckFault, Memory, Program};

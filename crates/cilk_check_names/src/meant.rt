@@ -2,7 +2,7 @@
 
 ghost use Rattle.std.specs.Prelude.{◌≡◌};
 ghost use Rattle.cilk_check_scopes.specs.First.{first_among};
-ghost use Rattle.cilk_check_scopes.specs.Names.{fits, arguments_of, parameters_of, returned_by, is_for_value};
+ghost use Rattle.cilk_check_scopes.specs.NameFaults.{fits, arguments_of, parameters_of, returned_by, is_for_value};
 ghost use Rattle.cilk_check_names.specs.Finds.{differ, is_void, is_spawned, is_called, is_inlet, meant_faults};
 
 use cilk_check_scopes::{CheckFault, DeclarationKind, ReturnType, Role, Word, first_if};

@@ -9,7 +9,7 @@ pub mod Format
 pub mod Forms
 pub mod Reserved
 pub mod Uses
-pub mod Names
+pub mod NameFaults
 pub mod WellFormed
 pub use Rattle.cilk_tree_syntax.specs as syntax
 pub use Rattle.cilk_tree_syntax.specs.lexeme

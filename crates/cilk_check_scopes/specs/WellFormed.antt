@@ -3,7 +3,7 @@ use Rattle.std.specs.Prelude.{◌⊎◌}
 use Rattle.cilk_tree_syntax.specs.Tree as tree
 use Rattle.cilk_check_scopes.specs.declared.fault.CheckFault.{CheckFault}
 use Rattle.cilk_check_scopes.specs.Fault.{IsFirst}
-use Rattle.cilk_check_scopes.specs.Names as names
+use Rattle.cilk_check_scopes.specs.NameFaults as names
 use Rattle.cilk_check_scopes.specs.Forms as forms
 
 -- what is wrong in a program, and at which place: with its names, or with its forms

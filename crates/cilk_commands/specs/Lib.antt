@@ -1,5 +1,5 @@
 pub mod Held
-pub mod Place
+pub mod FaultPlace
 pub mod Program
 pub mod Loading
 pub mod Printing

@@ -1,13 +1,13 @@
 -- Which program the bytes of a text are, and why they are none.
 use Rattle.std.specs.Prelude.{ℕ, List, length, ◌≡◌, ◌≢◌, ◌≤◌, ◌<◌, ◌⊎◌, IsUtf8}
 use Rattle.cilk_check.specs.lexeme.declared.fault.LexFault.TheVariants as lex
-use Rattle.cilk_check.specs.lexeme.Place.{line_of, column_of}
+use Rattle.cilk_check.specs.lexeme.LineColumn.{line_in, column_in}
 use Rattle.cilk_check_explain.specs.lex.declared.reading.TheConstants.{TEXT_LIMIT}
 use Rattle.cilk_check.specs.syntax.Tree.{Program}
 use Rattle.cilk_parse.specs.declared.fault.ReadFault.{ReadFault}
 use Rattle.cilk_parse.specs.declared.fault.ReadFault.TheVariants as read
 use Rattle.cilk_parse.specs.Text.{Spells, HasFault}
-use Rattle.cilk_parse.specs.Place.{place_of as read_place}
+use Rattle.cilk_parse.specs.FaultPlace.{place_of as read_place}
 use Rattle.cilk_check.specs.scopes.declared.fault.CheckFault.{CheckFault}
 use Rattle.cilk_check.specs.scopes.Fault.{place_of as check_place}
 use Rattle.cilk_check.specs.scopes.WellFormed.{WellFormed, IsFirstFault}
@@ -39,16 +39,16 @@ pub record IsNoProgram (bytes : List ℕ) (fault : ReadFault) (line column : ℕ
   pub utf8 : IsUtf8 bytes
   pub refused : HasFault bytes fault
   pub not_memory : fault ≢ read.Memory
-  pub line_is : line ≡ line_of bytes (read_place fault)
-  pub column_is : column ≡ column_of bytes (read_place fault)
+  pub line_is : line ≡ line_in bytes (read_place fault)
+  pub column_is : column ≡ column_in bytes (read_place fault)
 
 -- a text whose program breaks a rule, with its first fault and the line and column of its place
 pub record IsIllFormed (bytes : List ℕ) (fault : CheckFault) (line column : ℕ) : Type 0 where
   pub program : Program
   pub text : IsText bytes program
   pub first : IsFirstFault program fault
-  pub line_is : line ≡ line_of bytes (check_place fault)
-  pub column_is : column ≡ column_of bytes (check_place fault)
+  pub line_is : line ≡ line_in bytes (check_place fault)
+  pub column_is : column ≡ column_in bytes (check_place fault)
 
 -- why the bytes are no program of the language: memory may always run out
 abbrev pub IsReason : List ℕ → Failure → Type 0

@@ -18,6 +18,7 @@ code_of status.CannotRead = 7
 code_of status.CannotWrite = 7
 code_of status.CannotRecord = 7
 code_of status.CannotStart = 7
+code_of status.Several = 8
 
 -- a text that is no program that may be run is refused; any other failure has its own status
 abbrev pub status_of : Failure → Status
@@ -34,6 +35,7 @@ is_answer status.Done = true
 is_answer status.Trapped = true
 is_answer status.Stuck = true
 is_answer status.Limit = true
+is_answer status.Several = true
 is_answer status.Refused = false
 is_answer status.Usage = false
 is_answer status.Memory = false

@@ -2,7 +2,7 @@
 use Rattle.std.specs.Prelude.{◌≡◌, ℕ, Bool, true, List, [], ◌++◌, ◌⊎◌, Option, codes, decimal, IsCharBoundary, IsUtf8}
 use Rattle.cilk_check.specs.lexeme.declared.fault.LexFault.{LexFault}
 use Rattle.cilk_check.specs.lexeme.declared.fault.LexFault.TheVariants as lex
-use Rattle.cilk_check.specs.lexeme.Place.{line_of, column_of}
+use Rattle.cilk_check.specs.lexeme.LineColumn.{line_in, column_in}
 use Rattle.cilk_parse.specs.declared.fault.ReadFault.{ReadFault}
 use Rattle.cilk_parse.specs.declared.fault.ReadFault.TheVariants as read
 use Rattle.cilk_check.specs.scopes.declared.fault.CheckFault.{CheckFault}
@@ -16,7 +16,7 @@ use Rattle.cilk_commands.specs.declared.status.Status.TheVariants as status
 use Rattle.cilk_check_explain.specs.Lines.{place_lines}
 use Rattle.cilk_load.specs.Front.{AppendsFront}
 use Rattle.cilk_commands.specs.Held.{Held, IsReadOf}
-use Rattle.cilk_commands.specs.Place.{place_of}
+use Rattle.cilk_commands.specs.FaultPlace.{place_of}
 use Rattle.cilk_commands.specs.Status.{status_of}
 
 -- the code and the word of a fault
@@ -83,7 +83,7 @@ pub record IsTold (text : List ℕ) (at : ℕ) (told : List ℕ) : Type 0 where
 -- where an action stands in the text of this name: its place with its number, as a fault has its place, the line of the place, and a mark below the place
 abbrev pub lines_at_action : List ℕ → List ℕ → ℕ → ℕ → List ℕ
 lines_at_action name text at number =
-    fault_line name (decimal (line_of text at)) (decimal (column_of text at)) (codes "action " ++ decimal number) ++ place_lines text at
+    fault_line name (decimal (line_in text at)) (decimal (column_in text at)) (codes "action " ++ decimal number) ++ place_lines text at
 
 -- that of some place at which a character begins
 pub record IsActionTold (name text : List ℕ) (number : ℕ) (told : List ℕ) : Type 0 where

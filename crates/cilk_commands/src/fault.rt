@@ -1,7 +1,7 @@
 //! The faults of reading and of the check in one type, with the place and the written words of each.
 
 ghost use Rattle.std.specs.Prelude.{◌≡◌};
-ghost use Rattle.cilk_commands.specs.Place.{place_of};
+ghost use Rattle.cilk_commands.specs.FaultPlace.{place_of};
 ghost use Rattle.cilk_commands.specs.Telling.{check_words, lex_words, read_words, words_of};
 
 use cilk_check::{CheckFault, LexFault};

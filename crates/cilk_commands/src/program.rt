@@ -1,10 +1,10 @@
 //! From the bytes of a text to a checked program, or to the first of what is wrong, with its line and column.
 
 ghost use Rattle.std.specs.Prelude.{◌≡◌, ◌≤◌, ◌<◌, ◌↔◌, length, IfOk, IfErr, IsErrOf, IsUtf8, MatchResult};
-ghost use Rattle.cilk_check.specs.lexeme.Place.{line_of, column_of};
+ghost use Rattle.cilk_check.specs.lexeme.LineColumn.{line_in, column_in};
 ghost use Rattle.cilk_check.specs.syntax.Tree as tree;
 ghost use Rattle.cilk_commands.specs.Program.{Explains, IsProgram};
-ghost use Rattle.cilk_commands.specs.Place.{place_of};
+ghost use Rattle.cilk_commands.specs.FaultPlace.{place_of};
 
 use crate::failure::Failure;
 use crate::fault::Fault;
@@ -52,7 +52,7 @@ pub fn checked_program(alloc: Global, bytes: &[u8]) -> Result<Checked, Failure>
 fn fault_in(text: &str, fault: Fault) -> Failure
     requires short { length text.now ≤ TEXT_LIMIT }
     ensures { let at = place_of fault in
-        result ≡ Failure.Fault fault (line_of text.now at) (column_of text.now at) }
+        result ≡ Failure.Fault fault (line_in text.now at) (column_in text.now at) }
 {
     let (line, column) = line_col(text, fault.place());
     Failure::Fault {

@@ -15,7 +15,7 @@ pub enum Status {
     Trapped,
     /// The program has not ended, and no choice is possible.
     Stuck,
-    /// The program has made all the choices that it might, and has not ended.
+    /// The program has made all the choices that it might, and has not ended; or not all of its standings were looked at.
     Limit,
     /// Memory has run out.
     Memory,
@@ -27,6 +27,8 @@ pub enum Status {
     CannotRecord,
     /// A worker cannot be started.
     CannotStart,
+    /// The program has several outcomes, whatever they are.
+    Several,
 }
 
 impl Status {
@@ -46,6 +48,7 @@ impl Status {
             Status::Memory => 6,
             Status::CannotRead | Status::CannotWrite | Status::CannotRecord | Status::CannotStart =>
                 7,
+            Status::Several => 8,
         }
     }
 }

@@ -1,7 +1,7 @@
 //! What is told of a failure, and where an action stands.
 
 ghost use Rattle.std.specs.Prelude.{◌≡◌, ◌≤◌, ◌++◌, ℕ, List, IfOk, IfSome, codes, length, string_bytes, IsCharBoundary};
-ghost use Rattle.cilk_commands.specs.Place.{place_of};
+ghost use Rattle.cilk_commands.specs.FaultPlace.{place_of};
 ghost use Rattle.cilk_commands.specs.Status.{status_of};
 ghost use Rattle.cilk_commands.specs.Telling.{IsActionTold, IsExplanation, IsTold, WritesFailure, lines_at_action};
 

@@ -1,6 +1,7 @@
 -- The value of a plain expression is that over what is known of its variables.
 use Rattle.std.proofs.Common.{◌≡◌, ◌<◌, zero, suc, drop, ◌⊎◌, inl, inr, ◌&&◌, ◌==◌, Bool, true, false, ℕ, ℤ, List, [], ◌∷◌, ◌++◌, map, refl, sym, ap}
 use Rattle.std.proofs.Common.{◌∙◌, arith, cond}
+use Rattle.std.proofs.lemmas.Bool.{and_parts, and_from}
 use Rattle.std.specs.Prelude.{Decides, Option, Some, None, length, option_and_then}
 use Rattle.std.specs.Ordering.{int_eq}
 use Rattle.std.proofs.lemmas.List.{map-append}
@@ -34,17 +35,6 @@ own-area Own = refl
 own-area Outer = refl
 own-area Global = refl
 
-left_of : (a b : Bool) → (a && b) ≡ true → a ≡ true
-left_of true b is = refl
-left_of false b is = is
-
-right_of : (a b : Bool) → (a && b) ≡ true → b ≡ true
-right_of true b is = is
-right_of false b is = cc
-
-and_is : (a b : Bool) → a ≡ true → b ≡ true → (a && b) ≡ true
-and_is a b left right = rw (left, right) refl
-
 same-number : (m n : ℕ) → (m == n) ≡ true → m ≡ n
 same-number m n is = grind (arith, nat_tests)
 
@@ -53,16 +43,16 @@ own-number n = grind (arith, nat_tests)
 
 pub same-slot : (a b : Slot) → is_slot a b ≡ true → a ≡ b
 same-slot a b is =
-    let front = left_of (is_area a.area b.area && (a.offset == b.offset)) (a.length == b.length) is in
-    let area = same-area a.area b.area (left_of (is_area a.area b.area) (a.offset == b.offset) front) in
-    let offset = same-number a.offset b.offset (right_of (is_area a.area b.area) (a.offset == b.offset) front) in
-    let length = same-number a.length b.length (right_of (is_area a.area b.area && (a.offset == b.offset)) (a.length == b.length) is) in
+    let front = (and_parts (is_area a.area b.area && (a.offset == b.offset)) (a.length == b.length) is).0 in
+    let area = same-area a.area b.area (and_parts (is_area a.area b.area) (a.offset == b.offset) front).0 in
+    let offset = same-number a.offset b.offset (and_parts (is_area a.area b.area) (a.offset == b.offset) front).1 in
+    let length = same-number a.length b.length (and_parts (is_area a.area b.area && (a.offset == b.offset)) (a.length == b.length) is).1 in
     λ i. record { area = area i; offset = offset i; length = length i }
 
 pub own-slot : (a : Slot) → is_slot a a ≡ true
 own-slot a =
-    and_is (is_area a.area a.area && (a.offset == a.offset)) (a.length == a.length)
-    (and_is (is_area a.area a.area) (a.offset == a.offset) (own-area a.area) (own-number a.offset)) (own-number a.length)
+    and_from (is_area a.area a.area && (a.offset == a.offset)) (a.length == a.length)
+    (and_from (is_area a.area a.area) (a.offset == a.offset) (own-area a.area) (own-number a.offset)) (own-number a.length)
 
 -- ---- what is known of a variable
 
@@ -103,17 +93,17 @@ module _ (cells : Cells) where
     reads-known synched plain there = cc
     reads-known (unary op t) plain there = reads-known t plain there
     reads-known (binary op a b) plain there = (
-      reads-known a (left_of (is_plain a) (is_plain b) plain) (λ p has. there p (has-left (variables_of a) (variables_of b) p has)),
-      reads-known b (right_of (is_plain a) (is_plain b) plain) (λ p has. there p (has-right (variables_of a) (variables_of b) p has)),
+      reads-known a (and_parts (is_plain a) (is_plain b) plain).0 (λ p has. there p (has-left (variables_of a) (variables_of b) p has)),
+      reads-known b (and_parts (is_plain a) (is_plain b) plain).1 (λ p has. there p (has-right (variables_of a) (variables_of b) p has)),
     )
     reads-known (choose t a b) plain there =
-        let others = right_of (is_plain t) (is_plain a && is_plain b) plain in
+        let others = (and_parts (is_plain t) (is_plain a && is_plain b) plain).1 in
         let behind : (p : Slot) → Has (variables_of a ++ variables_of b) p → known_value ks p ≡ slot_cell cells p 0 =
         λ p has. there p (has-right (variables_of t) (variables_of a ++ variables_of b) p has) in (
-          reads-known t (left_of (is_plain t) (is_plain a && is_plain b) plain)
+          reads-known t (and_parts (is_plain t) (is_plain a && is_plain b) plain).0
               (λ p has. there p (has-left (variables_of t) (variables_of a ++ variables_of b) p has)),
-          reads-known a (left_of (is_plain a) (is_plain b) others) (λ p has. behind p (has-left (variables_of a) (variables_of b) p has)),
-          reads-known b (right_of (is_plain a) (is_plain b) others) (λ p has. behind p (has-right (variables_of a) (variables_of b) p has)),
+          reads-known a (and_parts (is_plain a) (is_plain b) others).0 (λ p has. behind p (has-left (variables_of a) (variables_of b) p has)),
+          reads-known b (and_parts (is_plain a) (is_plain b) others).1 (λ p has. behind p (has-right (variables_of a) (variables_of b) p has)),
         )
 
   pub plain-value : (t : Term Slot) → is_plain t ≡ true → value_of (known (known_of cells t)) t ≡ value_of (environment cells) t
@@ -140,12 +130,12 @@ behind_two cells ss ts values =
 
 same-known : (a b : Known) → is_known a b ≡ true → a ≡ b
 same-known a b is =
-    let slot = same-slot a.slot b.slot (left_of (is_slot a.slot b.slot) (int_eq a.value b.value) is) in
-    let value = (Decides-int_eq a.value b.value).0 (right_of (is_slot a.slot b.slot) (int_eq a.value b.value) is) in
+    let slot = same-slot a.slot b.slot (and_parts (is_slot a.slot b.slot) (int_eq a.value b.value) is).0 in
+    let value = (Decides-int_eq a.value b.value).0 (and_parts (is_slot a.slot b.slot) (int_eq a.value b.value) is).1 in
     λ i. record { slot = slot i; value = value i }
 
 own-known : (a : Known) → is_known a a ≡ true
-own-known a = and_is (is_slot a.slot a.slot) (int_eq a.value a.value) (own-slot a.slot) ((Decides-int_eq a.value a.value).1 refl)
+own-known a = and_from (is_slot a.slot a.slot) (int_eq a.value a.value) (own-slot a.slot) ((Decides-int_eq a.value a.value).1 refl)
 
 nothing-behind : (rest : List Known) → Some rest ≡ Some [] → rest ≡ []
 nothing-behind rest is = cc

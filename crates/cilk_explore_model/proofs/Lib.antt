@@ -1,5 +1,5 @@
 pub mod Sizes
-pub mod Places
+pub mod AtPaths
 pub mod Steps
 pub mod Standings
 pub mod Over

@@ -19,7 +19,7 @@ use Rattle.cilk_explore_model.specs.Ending.{Ending, ending_at}
 use Rattle.cilk_explore_model.specs.Same.{SameState, Same}
 use Rattle.cilk_explore_model.specs.Laws.{GoesAlike, SamenessIsKept, TheSameEndAlike}
 use Rattle.cilk_explore_model.proofs.Sizes.{as_many}
-use Rattle.cilk_explore_model.proofs.Places.{SameAt, lives_same, children_same}
+use Rattle.cilk_explore_model.proofs.AtPaths.{SameAt, lives_same, children_same}
 use Rattle.cilk_explore_model.proofs.Steps.{SameStep, both_wait, both_park, both_go_on, both_end, both_spawn, beside, step_same}
 
 pub same_again : (a : Standing) → Same a a

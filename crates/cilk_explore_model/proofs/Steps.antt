@@ -18,7 +18,7 @@ use Rattle.cilk_laws_model.specs.model.Pick.{Step, waits, parks, goes_on, ends, 
 use Rattle.cilk_laws_model.specs.model.Pick.{step_by_lock_turn, step_by_effect, step_by_head, step_by_place, step_by_receiver, step_at_boundary}
 use Rattle.cilk_laws_model.specs.model.Pick.{step_of_aborted, step_of_instance, step_of_live, step_of}
 use Rattle.cilk_explore_model.specs.Same.{SameState}
-use Rattle.cilk_explore_model.proofs.Places.{SameAt, changed_same, without_same, marked_same, push_same, children_same}
+use Rattle.cilk_explore_model.proofs.AtPaths.{SameAt, changed_same, without_same, marked_same, push_same, children_same}
 
 pub data SameStep : Step → Step → Type 0 where
   both_wait : SameStep waits waits

@@ -1,9 +1,10 @@
 //! The activations of a frame: where an open body goes on, its cells, and what awaits its value.
 
-ghost use Rattle.std.specs.Prelude.{◌≡◌, ◌<◌, length, slice_set, IfOk};
+ghost use Rattle.std.specs.Prelude.{◌≡◌, ◌<◌, length, slice_set, Decides, IfOk};
 ghost use Rattle.cilk_frame.specs.Starts.{first_cells};
 
 use crate::awaited::Await;
+use crate::mixer::Mixer;
 use cilk_load_nodes::{Body, Memory};
 use std::alloc::Global;
 use std::marker::Model;
@@ -56,6 +57,31 @@ impl Activation {
         })
     }
 
+    /// Whether the other is equal.
+    pub(crate) fn same(&self, other: &Activation) -> bool
+        ensures { Decides result (self.now ≡ other.now) }
+    {
+        if self.node != other.node {
+            return false;
+        }
+        if !is_same_await(self.awaits, other.awaits) {
+            return false;
+        }
+        self.cells.as_slice() == other.cells.as_slice()
+    }
+
+    /// It enters a number that tells states apart.
+    pub(crate) fn mix(&self, mixer: &mut Mixer) {
+        mixer.put(self.node as u64);
+        for cell in &self.cells {
+            mixer.put_signed(*cell);
+        }
+        match self.awaits {
+            None => mixer.put(0),
+            Some(awaited) => mixer.put(1 + awaited.n as u64),
+        }
+    }
+
     pub(crate) fn node(&self) -> u32
         ensures { result ≡ self.now.node }
     {
@@ -88,6 +114,16 @@ impl Activation {
     }
 }
 
+fn is_same_await(awaits: Option<Await>, other: Option<Await>) -> bool
+    ensures { Decides result (awaits ≡ other) }
+{
+    match (awaits, other) {
+        (None, None) => true,
+        (Some(one), Some(another)) => one.n == another.n && one.index == another.index,
+        _ => false,
+    }
+}
+
 fn cells_of(alloc: Global, count: usize, arguments: &[i32]) -> Result<Vec<i32>, Memory>
     ensures { IfOk result (λ cells. cells.items ≡ first_cells count arguments.now) }
 {
@@ -108,4 +144,20 @@ pub(crate) fn copies(activations: &[Activation], alloc: Global) -> Result<Vec<Ac
         made.push(activation.copy()?)?;
     }
     Ok(made)
+}
+
+/// Whether there are as many, each equal.
+pub(crate) fn are_same(activations: &[Activation], others: &[Activation]) -> bool
+    ensures { Decides result (activations.now ≡ others.now) }
+{
+    if activations.len() != others.len() {
+        return false;
+    }
+    for i in 0..activations.len() {
+        let activation = &activations[i];
+        if !activation.same(&others[i]) {
+            return false;
+        }
+    }
+    true
 }

@@ -1,13 +1,15 @@
 //! The frame of an instance: its activations, of which the top one goes on, and its boundary flag.
 
-ghost use Rattle.std.specs.Prelude.{◌≡◌, ◌<◌, ◌≤◌, ◌∷◌, [], false, length, None, Some, OnErr, OnOk, IfOk, IfErr};
+ghost use Rattle.std.specs.Prelude.{◌≡◌, ◌<◌, ◌≤◌, ◌∷◌, [], false, length, None, Some, Decides, OnErr, OnOk, IfOk, IfErr};
 ghost use Rattle.cilk_frame.specs.Frames.{depth, activation_at, top_of, with_cell, jumped, with_boundary, gone_to, stood, entered, left};
 ghost use Rattle.cilk_frame.specs.Starts.{activation_of};
+ghost use Rattle.cilk_frame.specs.Alike.{SameFrame};
 
-use crate::activation::{Activation, copies};
+use crate::activation::{Activation, are_same, copies};
 use crate::awaited::Await;
 use crate::id::Id;
 use crate::image::FrameImage;
+use crate::mixer::Mixer;
 use cilk_load_nodes::{Body, Memory};
 use std::alloc::Global;
 use std::marker::Model;
@@ -93,6 +95,22 @@ impl Frame {
     {
         let activation = &self.activations[i as usize];
         activation.cells()
+    }
+
+    /// Whether the other goes on as this one does, whosever they are.
+    pub fn goes_on_as(&self, other: &Frame) -> bool
+        ensures { Decides result (SameFrame self.now other.now) }
+    {
+        self.boundary == other.boundary
+            && are_same(self.activations.as_slice(), other.activations.as_slice())
+    }
+
+    /// Where it goes on enters a number that tells states apart, but not whose it is.
+    pub fn mix(&self, mixer: &mut Mixer) {
+        mixer.put(self.boundary as u64);
+        for activation in &self.activations {
+            activation.mix(mixer);
+        }
     }
 
     /// What awaits the value of the top activation.

@@ -38,6 +38,7 @@ mod frame;
 mod id;
 mod image;
 mod laws;
+mod mixer;
 
 pub use activation::Activation;
 pub use awaited::Await;
@@ -49,3 +50,4 @@ pub use frame::Frame;
 pub use id::Id;
 pub use image::FrameImage;
 pub use laws::{a_call_stands, a_start_stands, a_write_stands, an_action_stands, values_are_seen};
+pub use mixer::Mixer;

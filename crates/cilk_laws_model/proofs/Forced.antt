@@ -17,8 +17,8 @@ use Rattle.cilk_model.specs.Change.{at_boundary, LockTurn, lock_turned, refused,
 use Rattle.cilk_model.specs.Written.{AtBoundary, Free}
 use Rattle.cilk_model.specs.Fails as fails
 use Rattle.cilk_model.specs.Fails.{here, MayLeave, HasNoValue, Fails}
-use Rattle.cilk_model.specs.Rule as rule
-use Rattle.cilk_model.specs.Rule.{Bare, Acts, Steps}
+use Rattle.cilk_model.specs.WrittenRule as rule
+use Rattle.cilk_model.specs.WrittenRule.{Bare, Acts, Steps}
 use Rattle.cilk_model.specs.Pick.{parks, goes_on, ends, spawns, if_room, step_by_combined, step_by_answer, step_by_leaving, step_by_lock_turn}
 use Rattle.cilk_model.specs.Pick.{step_by_effect, step_by_head, step_by_place, step_by_receiver, step_at_boundary, step_of_aborted}
 use Rattle.cilk_model.specs.Pick.{step_of_live}

@@ -23,10 +23,10 @@ use Rattle.cilk_model.specs.Written as written
 use Rattle.cilk_model.specs.Written.{Leaves, LeavesWith, Receives, taker_place, others_of}
 use Rattle.cilk_model.specs.Fails as fails
 use Rattle.cilk_model.specs.Fails.{here, InFunction, InInlet, MayLeave, MayPass, EndsThread, HasNoValue, MayNot, Fails}
-use Rattle.cilk_model.specs.Rule as rule
-use Rattle.cilk_model.specs.Rule.{GoesOn, GoesBy, Puts, PutsOn, Enters, Resumes, Answers, Births, RootEnds, ChildEnds}
-use Rattle.cilk_model.specs.Rule.{Marks, TurnsLock, Traps, Bare}
-use Rattle.cilk_model.specs.Rule.{Acts, Starts, Takes}
+use Rattle.cilk_model.specs.WrittenRule as rule
+use Rattle.cilk_model.specs.WrittenRule.{GoesOn, GoesBy, Puts, PutsOn, Enters, Resumes, Answers, Births, RootEnds, ChildEnds}
+use Rattle.cilk_model.specs.WrittenRule.{Marks, TurnsLock, Traps, Bare}
+use Rattle.cilk_model.specs.WrittenRule.{Acts, Starts, Takes}
 use Rattle.cilk_laws_model.proofs.Entries.{same-is, same-self}
 use Rattle.cilk_laws_model.proofs.LockForms.{holds_seen, none_seen}
 use Rattle.cilk_laws_model.proofs.Ground.{not_empty, no_function}

@@ -22,8 +22,8 @@ use Rattle.cilk_model.specs.Printing.{printed}
 use Rattle.cilk_model.specs.Written.{Heads}
 use Rattle.cilk_model.specs.Fails as fails
 use Rattle.cilk_model.specs.Fails.{here, MayPass}
-use Rattle.cilk_model.specs.Rule as rule
-use Rattle.cilk_model.specs.Rule.{Bare, TurnsLock, Marks}
+use Rattle.cilk_model.specs.WrittenRule as rule
+use Rattle.cilk_model.specs.WrittenRule.{Bare, TurnsLock, Marks}
 use Rattle.cilk_model.specs.Pick.{goes_on, if_room, step_by_effect, step_by_lock_turn}
 use Rattle.cilk_laws_model.proofs.Entries.{same-is, same-self}
 use Rattle.cilk_laws_model.proofs.Lookups.{marked, at-marked_below, at-marked_beside}

@@ -15,8 +15,8 @@ use Rattle.cilk_model.specs.Event.{Event}
 use Rattle.cilk_model.specs.Change.{is_function, gone_on, holds_lock, own_with, outer_with, on_lowest, put, with_put, stopped}
 use Rattle.cilk_model.specs.Written.{Heads, Free}
 use Rattle.cilk_model.specs.Fails.{Fails}
-use Rattle.cilk_model.specs.Rule as rule
-use Rattle.cilk_model.specs.Rule.{Flags, GoesOn, GoesBy, Puts, Acts, Steps}
+use Rattle.cilk_model.specs.WrittenRule as rule
+use Rattle.cilk_model.specs.WrittenRule.{Flags, GoesOn, GoesBy, Puts, Acts, Steps}
 use Rattle.cilk_model.specs.Pick as pick
 use Rattle.cilk_model.specs.Pick.{Step, waits, parks, goes_on, ends, spawns}
 use Rattle.cilk_laws_model.specs.Told.{told_by_action, told, AllowsAs}

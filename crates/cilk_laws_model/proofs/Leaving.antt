@@ -21,8 +21,8 @@ use Rattle.cilk_model.specs.Written as written
 use Rattle.cilk_model.specs.Written.{HoldsNone, Free, LeavesWith, Heads, Delivers}
 use Rattle.cilk_model.specs.Fails as fails
 use Rattle.cilk_model.specs.Fails.{here, InFunction, InInlet, MayLeave}
-use Rattle.cilk_model.specs.Rule as rule
-use Rattle.cilk_model.specs.Rule.{Puts, Resumes, RootEnds, ChildEnds}
+use Rattle.cilk_model.specs.WrittenRule as rule
+use Rattle.cilk_model.specs.WrittenRule.{Puts, Resumes, RootEnds, ChildEnds}
 use Rattle.cilk_model.specs.Pick.{goes_on, ends, step_by_combined, step_by_answer, step_by_leaving, step_by_effect}
 use Rattle.cilk_laws_model.proofs.Entries.{at-changed_same, at-changed_other, at-without_other}
 use Rattle.cilk_laws_model.proofs.Lookups.{apart, none_there}

@@ -14,8 +14,8 @@ use Rattle.cilk_model.specs.Change.{leaves_function, with_deliveries, deliveries
 use Rattle.cilk_model.specs.Written as written
 use Rattle.cilk_model.specs.Written.{content, Writes, Delivers, Lets}
 use Rattle.cilk_model.specs.Fails.{here}
-use Rattle.cilk_model.specs.Rule.{Flags, past, GoesOn, GoesBy, Puts, PutsOn, Enters, Resumes, Births, RootEnds, ChildEnds, Marks, Traps}
-use Rattle.cilk_model.specs.Rule.{Starts, Ends}
+use Rattle.cilk_model.specs.WrittenRule.{Flags, past, GoesOn, GoesBy, Puts, PutsOn, Enters, Resumes, Births, RootEnds, ChildEnds, Marks, Traps}
+use Rattle.cilk_model.specs.WrittenRule.{Starts, Ends}
 use Rattle.cilk_laws_model.specs.OneState.{AlikeAt, equal, by_cells, Alike, RuleLeavesOneState}
 use Rattle.cilk_laws_model.proofs.Family.{parent-child}
 use Rattle.cilk_laws_model.proofs.Paths.{same-parent}

@@ -21,8 +21,8 @@ use Rattle.cilk_model.specs.Written as written
 use Rattle.cilk_model.specs.Written.{Leaves, Heads, AtBoundary, Lets}
 use Rattle.cilk_model.specs.Fails as fails
 use Rattle.cilk_model.specs.Fails.{here, EndsThread}
-use Rattle.cilk_model.specs.Rule as rule
-use Rattle.cilk_model.specs.Rule.{Ends}
+use Rattle.cilk_model.specs.WrittenRule as rule
+use Rattle.cilk_model.specs.WrittenRule.{Ends}
 use Rattle.cilk_model.specs.Pick as pick
 use Rattle.cilk_model.specs.Pick.{Step, waits, parks, goes_on, ends, spawns, step_by_effect, step_by_head, step_by_place, step_by_receiver}
 use Rattle.cilk_model.specs.Pick.{step_at_boundary, step_of_aborted, step_of_instance, step_of_live, step_of}

@@ -19,8 +19,8 @@ use Rattle.cilk_model.specs.Written as written
 use Rattle.cilk_model.specs.Written.{HoldsNone, Heads, Receives, taker_place, others_of}
 use Rattle.cilk_model.specs.Fails as fails
 use Rattle.cilk_model.specs.Fails.{here}
-use Rattle.cilk_model.specs.Rule as rule
-use Rattle.cilk_model.specs.Rule.{Enters, Births}
+use Rattle.cilk_model.specs.WrittenRule as rule
+use Rattle.cilk_model.specs.WrittenRule.{Enters, Births}
 use Rattle.cilk_model.specs.Pick.{goes_on, spawns, if_room, step_by_effect}
 use Rattle.cilk_laws_model.proofs.Entries.{same-self, live-changed, either_of, at-push}
 use Rattle.cilk_laws_model.proofs.Lookups.{apart, none_of_live}

@@ -4,7 +4,7 @@ use Rattle.cilk_model.specs.labelled.Labelled.{Labelled}
 use Rattle.cilk_model.specs.Path.{Path}
 use Rattle.cilk_model.specs.Instance.{Instance}
 use Rattle.cilk_model.specs.State.{State, instance_at, has_live_child}
-use Rattle.cilk_model.specs.Rule.{Allows}
+use Rattle.cilk_model.specs.WrittenRule.{Allows}
 use Rattle.cilk_model.specs.Pick.{Step, waits, parks, goes_on, ends, spawns, step_of}
 
 -- nothing is changed

@@ -6,7 +6,7 @@ use Rattle.cilk_model.specs.Path.{Path}
 use Rattle.cilk_model.specs.Instance.{Activation, Delivery, Instance}
 use Rattle.cilk_model.specs.State.{State, instance_at, store_of}
 use Rattle.cilk_model.specs.Written.{content, Holding}
-use Rattle.cilk_model.specs.Rule.{Acts, Takes, Ends}
+use Rattle.cilk_model.specs.WrittenRule.{Acts, Takes, Ends}
 
 -- what stands at q is the same in both states; the values that its top activation sees are so cell by cell
 pub data AlikeAt (t u : State) (q : Path) : Type 0 where

@@ -6,8 +6,8 @@ use Rattle.cilk_model.specs.Instance.{Receiver, Delivery, Instance}
 use Rattle.cilk_model.specs.State.{of_value, State}
 use Rattle.cilk_model.specs.Event as event
 use Rattle.cilk_model.specs.Event.{Event}
-use Rattle.cilk_model.specs.Rule as rule
-use Rattle.cilk_model.specs.Rule.{Acts, Takes, Steps, Allows}
+use Rattle.cilk_model.specs.WrittenRule as rule
+use Rattle.cilk_model.specs.WrittenRule.{Acts, Takes, Steps, Allows}
 
 module _ (program : Labelled) (s : State) (p : Path) (i : Instance) (t : State) where
   -- the number is that of the head

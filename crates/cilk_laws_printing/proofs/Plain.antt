@@ -14,7 +14,7 @@ use Rattle.cilk_check.specs.scopes.Parts.{block_parts, locals_parts, within_loca
 use Rattle.cilk_check.proofs.scopes_laws.Elements.{Has, Contains-from_Has, Has-append_left, Has-append_right, Has-flat_map}
 use Rattle.cilk_check.specs.scopes.Reserved.{IsReserved}
 use Rattle.cilk_check.specs.scopes.Uses.{Use, part_uses, uses_of}
-use Rattle.cilk_check.specs.scopes.Names.{reserved_used}
+use Rattle.cilk_check.specs.scopes.NameFaults.{reserved_used}
 use Rattle.cilk_check.specs.rules_of_names.Finds.{is_reserved}
 use Rattle.cilk_check.proofs.rules_of_names_laws.Decided.{reserved-Decides}
 use Rattle.cilk_check.specs.scopes.WellFormed.{WellFormed}

@@ -20,7 +20,7 @@ use Rattle.cilk_machine.proofs.spawn_laws.Lists.{map_those}
 use Rattle.cilk_machine.proofs.spawn_laws.Trees.{live_there, names}
 use Rattle.cilk_machine.specs.sched.Count as hands
 use Rattle.cilk_machine.specs.sched.Count.{count_where}
-use Rattle.cilk_machine.proofs.sched_laws.Names.{named-held}
+use Rattle.cilk_machine.proofs.sched_laws.PathNames.{named-held}
 use Rattle.cilk_machine.specs.agree.Alike.{procedure_in}
 use Rattle.cilk_machine.specs.agree.Agrees.{MachineParts, Agrees, Held, entry_of, name_in, read_off}
 use Rattle.cilk_machine.proofs.agree_laws.Alone.{times-same}

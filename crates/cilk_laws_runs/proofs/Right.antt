@@ -13,8 +13,8 @@ use Rattle.cilk_check.specs.scopes.Parts.{Around, Part, local, statement, PartIn
 use Rattle.cilk_check.proofs.scopes_laws.Elements.{Has, Contains-from_Has, Has-append_left, Has-append_right, Has-flat_map}
 use Rattle.cilk_check.specs.scopes.declared.role.Role.TheVariants as role
 use Rattle.cilk_check.specs.scopes.Uses.{Use, use_as, expr_uses, target_uses, move_uses, moves_uses, taker_uses, own_uses, part_uses, uses_of}
-use Rattle.cilk_check.specs.scopes.Names as names
-use Rattle.cilk_check.specs.scopes.Names.{fits, Means}
+use Rattle.cilk_check.specs.scopes.NameFaults as names
+use Rattle.cilk_check.specs.scopes.NameFaults.{fits, Means}
 use Rattle.cilk_check.specs.scopes.Reserved.{IsReserved}
 use Rattle.cilk_check.specs.scopes.Forms as forms
 use Rattle.cilk_check.specs.scopes.Forms.{synched_in, own_word, words_of_children}

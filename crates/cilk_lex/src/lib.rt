@@ -6,11 +6,11 @@ mod found;
 mod front;
 mod inclusion;
 pub mod laws;
+mod line_column;
 mod literal;
-mod place;
 mod reading;
 mod spelling;
 
 pub use cilk_lex_tokens::{Header, Keyword, LexFault, Mark, Token, TokenKind};
-pub use place::line_col;
+pub use line_column::line_col;
 pub use reading::{TEXT_LIMIT, tokens};

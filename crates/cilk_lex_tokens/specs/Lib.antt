@@ -2,6 +2,6 @@ pub mod Byte
 pub mod Good
 pub mod Lexeme
 pub mod Lexing
-pub mod Place
+pub mod LineColumn
 pub mod Sight
 pub mod Spelling

@@ -73,14 +73,14 @@ behind_told front text rest e = at (bytes_eq (take (length front) text) front) r
         let others : drop (length front) text ≡ rest = cc in
         sym (take-append-drop (length front) text) ∙ ap (λ t. t ++ drop (length front) text) same ∙ ap (λ t. front ++ t) others
 
-pub record Tells (most : ℕ) (front text : List ℕ) (n : ℕ) : Type 0 where
+pub record TellsNumber (most : ℕ) (front text : List ℕ) (n : ℕ) : Type 0 where
   pub spelling : text ≡ front ++ decimal n
   pub small : n ≤ most
 
-pub number_behind : (most : ℕ) (front text : List ℕ) (n : ℕ) → most < 2 ^ 64 → number_told most (behind front text) ≡ Some n → Tells most front text n
+pub number_behind : (most : ℕ) (front text : List ℕ) (n : ℕ) → most < 2 ^ 64 → number_told most (behind front text) ≡ Some n → TellsNumber most front text n
 number_behind most front text n h e = at (behind front text) refl e
   where
-    at : (o : Option (List ℕ)) → behind front text ≡ o → number_told most o ≡ Some n → Tells most front text n
+    at : (o : Option (List ℕ)) → behind front text ≡ o → number_told most o ≡ Some n → TellsNumber most front text n
     at None f g = absurd cc
     at (Some digits) f g =
         let s = number_spelled most digits n h g in

@@ -20,6 +20,7 @@ pub mod Moved
 pub mod Back
 pub mod Again
 pub mod Unseen
+pub mod Compares
 pub use Rattle.cilk_machine_undo.proofs.agree_laws
 pub use Rattle.cilk_machine_undo.proofs.frame_laws
 pub use Rattle.cilk_machine_undo.proofs.nodes_laws

@@ -11,7 +11,7 @@ use Rattle.cilk_sched.specs.frame.Stands.{StandsFor}
 use Rattle.cilk_spawn.specs.Nodes.{Node, node_at, is_live, path_at}
 use Rattle.cilk_spawn.proofs.Lists.{decide}
 use Rattle.cilk_sched.specs.Count.{AllHeld}
-use Rattle.cilk_sched.proofs.Names.{named-with_hand, hand_of-named}
+use Rattle.cilk_sched.proofs.PathNames.{named-with_hand, hand_of-named}
 use Rattle.cilk_machine_agree.specs.Outside.{Outside}
 use Rattle.cilk_machine_agree.specs.Agrees.{Held, instead, name_in}
 use Rattle.cilk_machine_agree.specs.Laws.{InHand, Becomes, Local}

@@ -15,7 +15,7 @@ use Rattle.cilk_spawn.proofs.Trees.{live_there}
 use Rattle.cilk_sched.specs.Count as hands
 use Rattle.cilk_sched.specs.Count.{once, count_where, AllHeld, IsCounted}
 use Rattle.cilk_sched.proofs.Count.{count-take, each-counted, AllHeld-weaker}
-use Rattle.cilk_sched.proofs.Names.{named-held}
+use Rattle.cilk_sched.proofs.PathNames.{named-held}
 use Rattle.cilk_machine_agree.specs.Agrees.{Held, name_in, instead}
 use Rattle.cilk_machine_agree.specs.Laws.{InHand, path_of}
 use Rattle.cilk_machine_agree.proofs.Sets.{instead-there}

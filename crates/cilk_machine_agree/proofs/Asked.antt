@@ -16,7 +16,7 @@ use Rattle.cilk_sched.proofs.frame_laws.Steps.{lent-seen}
 use Rattle.cilk_spawn.specs.declared.delivery.Delivery.{Delivery}
 use Rattle.cilk_spawn.specs.Nodes.{IsFrom, AreFrom, has_live_child, is_synched, live_ids, path_at}
 use Rattle.cilk_spawn.proofs.Trees.{child_there}
-use Rattle.cilk_sched.proofs.Names.{named-length, hand_of-named, deque_of-named}
+use Rattle.cilk_sched.proofs.PathNames.{named-length, hand_of-named, deque_of-named}
 use Rattle.cilk_machine_agree.specs.Alike.{SameDelivery, SameDeliveries}
 use Rattle.cilk_machine_agree.specs.Agrees.{entry_of, name_in}
 use Rattle.cilk_machine_agree.specs.Laws.{InHand, path_of, node_of, instance_of}

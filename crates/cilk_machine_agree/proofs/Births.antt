@@ -27,7 +27,7 @@ use Rattle.cilk_spawn.proofs.Grown.{Grown, grown, grows, grown_length, grown_oth
 use Rattle.cilk_spawn.proofs.Paths.{other_there}
 use Rattle.cilk_sched.specs.Count.{AllHeld}
 use Rattle.cilk_sched.proofs.Count.{AllHeld-weaker}
-use Rattle.cilk_sched.proofs.Names.{named-with_hand, named-push, named-agrees}
+use Rattle.cilk_sched.proofs.PathNames.{named-with_hand, named-push, named-agrees}
 use Rattle.cilk_sched.proofs.Seats.{deque-kept}
 use Rattle.cilk_machine_agree.specs.Outside as outside
 use Rattle.cilk_machine_agree.specs.declared.lock.Lock.{Lock}

@@ -21,7 +21,7 @@ use Rattle.cilk_spawn.proofs.Grown.{same_number, other_number, both_and, ids_end
 use Rattle.cilk_spawn.proofs.Paths.{same_here, other_there}
 use Rattle.cilk_sched.specs.Count.{AllHeld}
 use Rattle.cilk_sched.proofs.Count.{AllHeld-weaker}
-use Rattle.cilk_sched.proofs.Names.{named-with_hand}
+use Rattle.cilk_sched.proofs.PathNames.{named-with_hand}
 use Rattle.cilk_machine_agree.specs.Outside.{Outside, SameOutside}
 use Rattle.cilk_machine_agree.specs.Alike.{NodeStandsFor, procedure_in}
 use Rattle.cilk_machine_agree.specs.Agrees.{MachineParts, Held, Agrees, instead, entry_of, instances_of, name_in}

@@ -19,7 +19,7 @@ use Rattle.cilk_sched.specs.frame.Stands.{StandsFor}
 use Rattle.cilk_spawn.specs.Nodes.{Node, node_at, is_live, root_alone, path_at}
 use Rattle.cilk_spawn.proofs.Grown.{tree_root}
 use Rattle.cilk_sched.specs.Count.{AllAt, AllHeld}
-use Rattle.cilk_sched.proofs.Names.{named-with_hand, named-none}
+use Rattle.cilk_sched.proofs.PathNames.{named-with_hand, named-none}
 use Rattle.cilk_machine_agree.specs.declared.lock.Lock.TheVariants.{Unset}
 use Rattle.cilk_machine_agree.specs.Outside.{lock_by, LockWithin}
 use Rattle.cilk_machine_agree.specs.Alike.{NodeStandsFor, procedure_in}

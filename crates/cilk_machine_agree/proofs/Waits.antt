@@ -15,7 +15,7 @@ use Rattle.cilk_spawn.specs.Nodes.{Node, node_at, path_at}
 use Rattle.cilk_spawn.proofs.Lists.{decide}
 use Rattle.cilk_spawn.proofs.Paths.{same_here, other_there}
 use Rattle.cilk_sched.specs.Count.{AllHeld}
-use Rattle.cilk_sched.proofs.Names.{named-with_hand, named-popped, named-stolen}
+use Rattle.cilk_sched.proofs.PathNames.{named-with_hand, named-popped, named-stolen}
 use Rattle.cilk_machine_agree.specs.Agrees.{MachineParts, Held, Agrees, instead, name_in}
 use Rattle.cilk_machine_agree.specs.Laws.{WaitingAgrees}
 use Rattle.cilk_machine_agree.proofs.Sets.{sets, instead-here, instead-there}

@@ -21,7 +21,7 @@ pub use cilk_machine_plan::{
     Slots, Tree, Var, held,
 };
 pub use cilk_sched::{Activation, HandsImage};
-pub use cilk_spawn::{LivingImage, Remains, Taken, TreeImage};
+pub use cilk_spawn::{LivingImage, Mixer, Remains, Taken, TreeImage};
 pub use did::{Did, Done, NoMemory, Outcome};
 pub use given::Writing;
 pub use lightly::{carry_lightly, write_cell};

@@ -16,8 +16,8 @@ use Rattle.cilk_check.proofs.scopes_laws.Elements.{Has, Contains-from_Has, Has-a
 use Rattle.cilk_check.proofs.scopes_laws.Splits.{declared_behind}
 use Rattle.cilk_check.specs.scopes.declared.role.Role.TheVariants as role
 use Rattle.cilk_check.specs.scopes.Uses.{Use, part_uses, uses_of}
-use Rattle.cilk_check.specs.scopes.Names as names
-use Rattle.cilk_check.specs.scopes.Names.{fits, arguments_of, parameters_of, is_for_value, Means}
+use Rattle.cilk_check.specs.scopes.NameFaults as names
+use Rattle.cilk_check.specs.scopes.NameFaults.{fits, arguments_of, parameters_of, is_for_value, Means}
 use Rattle.cilk_check.specs.rules_of_names.Finds.{is_reserved}
 use Rattle.cilk_check.proofs.rules_of_names_laws.Decided.{reserved-Decides, not_from}
 use Rattle.cilk_check.specs.scopes.Format.{numbers_in}

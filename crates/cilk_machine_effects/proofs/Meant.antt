@@ -14,8 +14,8 @@ use Rattle.cilk_check.specs.scopes.declared.declaration_kind.DeclarationKind.The
 use Rattle.cilk_check.specs.scopes.Scopes.{Declared, Scopes, parameter}
 use Rattle.cilk_check.specs.scopes.declared.role.Role.{Role}
 use Rattle.cilk_check.specs.scopes.declared.role.Role.TheVariants as role
-use Rattle.cilk_check.specs.scopes.Names as rules
-use Rattle.cilk_check.specs.scopes.Names.{fits, parameters_of}
+use Rattle.cilk_check.specs.scopes.NameFaults as rules
+use Rattle.cilk_check.specs.scopes.NameFaults.{fits, parameters_of}
 use Rattle.cilk_check.specs.scopes.Uses.{use_as}
 use Rattle.cilk_frame.specs.labelled.Labelled.{Declaration, local, outer, global, of_lock, of_body, unknown, Labelled}
 use Rattle.cilk_frame.specs.labelled.Names.{Names, meaning_at, meaning_of, number_of, with_name, with_words, with_parameters, outward}

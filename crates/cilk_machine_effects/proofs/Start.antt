@@ -12,7 +12,7 @@ use Rattle.cilk_check.specs.scopes.Scopes.{Declared, declared_in, parameter_coun
 use Rattle.cilk_check.specs.scopes.Parts.{owner_of}
 use Rattle.cilk_check.specs.scopes.Declarations.{Declaring, declaring, declarings_of}
 use Rattle.cilk_check.proofs.scopes_laws.Elements.{Has, Has-append_left, Has-append_right, Has-flat_map, Has-from_Contains, Contains-from_Has}
-use Rattle.cilk_check.specs.scopes.Names as names
+use Rattle.cilk_check.specs.scopes.NameFaults as names
 use Rattle.cilk_check.specs.scopes.Forms as forms
 use Rattle.cilk_check.specs.scopes.Forms.{IsMain, are_of_main}
 use Rattle.cilk_check.specs.rules_of_forms.Finds.{starts}

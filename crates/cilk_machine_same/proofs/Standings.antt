@@ -26,13 +26,13 @@ use Rattle.cilk_machine_agree.proofs.spawn_laws.Lists.{those_pass}
 use Rattle.cilk_machine_agree.proofs.spawn_laws.Trees.{live_there, names}
 use Rattle.cilk_machine_agree.specs.sched.Count as hands
 use Rattle.cilk_machine_agree.specs.sched.Count.{count_where, AllAt, AllHeld}
-use Rattle.cilk_machine_agree.proofs.sched_laws.Names.{named-held}
+use Rattle.cilk_machine_agree.proofs.sched_laws.PathNames.{named-held}
 use Rattle.cilk_machine_agree.specs.Alike.{Receives, SameDeliveries, taker_of, procedure_in, NodeStandsFor}
 use Rattle.cilk_machine_agree.specs.Agrees.{MachineParts, Agrees, Held, entry_of, instances_of, name_in}
 use Rattle.cilk_machine_agree.proofs.Alone.{times-same}
 use Rattle.cilk_machine_agree.proofs.Found.{found}
 use Rattle.cilk_explore_model.specs.Same.{Same}
-use Rattle.cilk_machine_same.specs.Alike.{SameFrame, SameWaiting, SameNode, SameHeld, SameHand, SameDeque, SamePlaces, SameParked, SameParts}
+use Rattle.cilk_machine_same.specs.Alike.{SameFrame, SameWaiting, SameNode, SameHeld, SameHand, SameDeque, SamePlaces, SameParked, SameParts, taker_in}
 use Rattle.cilk_machine_same.specs.Laws.{SamePartsStandAtTheSame}
 use Rattle.cilk_machine_same.proofs.Cells.{one-values}
 use Rattle.cilk_machine_same.proofs.Instances.{one-instance}
@@ -63,6 +63,11 @@ frame_here program f g i same h = record {
   flag = same.boundary ∙ h.flag;
 }
 
+-- the parent's procedure
+taker-is : (ns : List Node) (o : Option ℕ) → taker_of (procedure_in ns) o ≡ taker_in ns o
+taker-is ns None = refl
+taker-is ns (Some p) = refl
+
 node_here : (program : Labelled) (ns ms : List Node) (i j : ℕ) (a : Instance) → SameNode ns ms i j
     → NodeStandsFor program (path_at ms) (procedure_in ms) (node_at ms j) a → NodeStandsFor program (path_at ns) (procedure_in ns) (node_at ns i) a
 node_here program ns ms i j a same h = record {
@@ -73,7 +78,8 @@ node_here program ns ms i j a same h = record {
       waiting_here program ns ms (node_at ns i).procedure (node_at ns i).waiting (node_at ms j).waiting a.waiting same.waiting
       (subst (λ b. SameDeliveries program (path_at ms) b (node_at ms j).waiting a.waiting) (sym same.procedure) h.waiting);
   receiver =
-      subst (λ b. Receives program b (node_at ns i).receiver a.receiver) (sym same.taker)
+      subst (λ b. Receives program b (node_at ns i).receiver a.receiver)
+      (taker-is ms (node_at ms j).parent ∙ sym same.taker ∙ sym (taker-is ns (node_at ns i).parent))
       (subst (λ (r : Receiver). Receives program (taker_of (procedure_in ms) (node_at ms j).parent) r a.receiver) (sym same.receiver) h.receiver);
 }
 
@@ -179,7 +185,7 @@ module _ (p : Program) (well : WellFormed p) (m n : MachineParts) (who other : �
 
   at_live : (q : Path) → LivesAt ns q → instance_at a.state.instances q ≡ instance_at b.state.instances q
   at_live q l =
-      let partner = same.here l.id l.live in
+      let partner = same.tree.here l.id l.live in
       let j = partner.0 in
       let alike = partner.1 in
       ap (λ (es : Instances). instance_at es q) h.instances
@@ -191,8 +197,8 @@ module _ (p : Program) (well : WellFormed p) (m n : MachineParts) (who other : �
   there_here : (q : Path) → state.is_live b.state.instances q ≡ true → LivesAt ns q
   there_here q live =
       let l = lives_at ms other q (sym (ap (λ (es : Instances). state.is_live es q) k.instances) ∙ live) in
-      let partner = same.there l.id l.live in
-      record { id = partner.0; live = partner.1; path = partner.2 ∙ l.path }
+      let other_one = same.tree.there l.id l.live in
+      record { id = other_one.partner; live = other_one.live; path = other_one.path ∙ l.path }
 
   at_by : (q : Path) (x y : Bool) → state.is_live a.state.instances q ≡ x → state.is_live b.state.instances q ≡ y
       → instance_at a.state.instances q ≡ instance_at b.state.instances q

@@ -21,8 +21,8 @@ mod undoing;
 
 pub use carrying::{carry_lightly_noted, carry_out_noted};
 pub use cilk_machine_carry::{
-    Body, Did, Done, Fate, Frame, Hands, Id, Lock, NoMemory, Outcome, Parts, Program, Spent, Tree,
-    Var, carry_lightly, carry_out,
+    Body, Did, Done, Fate, Frame, Hands, Id, Lock, Mixer, NoMemory, Outcome, Parts, Program, Spent,
+    Tree, Var, carry_lightly, carry_out,
 };
 pub use growth_laws::{
     ended_are_cut, fates_are_within, moves_grow, plans_grow, plans_print, values_are_taken_once,

@@ -33,16 +33,21 @@ pub(crate) fn motion_of(machine: &Machine, cells: &[Cell], did: &Did) -> Option<
 {
     match *did {
         Did::Moved => None,
-        Did::Acted(id, n) => Some(acted(machine.loaded(), cells, place_of(cells, id), n)),
+        Did::Acted(id, n) => Some(acted(machine.loaded(), cells, place_among(cells, id), n)),
         Did::Spawned(_, _) => Some(born(cells, parent_of(machine, cells))),
-        Did::Delivered(id, n) => Some(delivered(machine.loaded(), cells, place_of(cells, id), n)),
-        Did::Returned(id, _) | Did::Ended(id) => Some(ended(cells, place_of(cells, id))),
-        Did::Trapped(_, id, _) => Some(trapped(cells, place_of(cells, id))),
+        Did::Delivered(id, n) => Some(delivered(
+            machine.loaded(),
+            cells,
+            place_among(cells, id),
+            n,
+        )),
+        Did::Returned(id, _) | Did::Ended(id) => Some(ended(cells, place_among(cells, id))),
+        Did::Trapped(_, id, _) => Some(trapped(cells, place_among(cells, id))),
     }
 }
 
 // The place of an id. What was not born goes by the path of the root.
-fn place_of(cells: &[Cell], id: Id) -> usize
+fn place_among(cells: &[Cell], id: Id) -> usize
     ensures { result ≡ place_among (length cells.now) id }
 {
     if id.number() < cells.len() {

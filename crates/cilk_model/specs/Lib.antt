@@ -6,7 +6,7 @@ pub mod Event
 pub mod Printing
 pub mod Written
 pub mod Fails
-pub mod Rule
+pub mod WrittenRule
 pub mod Effect
 pub mod Change
 pub mod Pick

@@ -1,3 +1,3 @@
-pub mod Names
+pub mod NamesButMain
 pub mod Programs
-pub mod Places
+pub mod FaultPlaces

@@ -1,5 +1,5 @@
 pub mod Views
-pub mod Place
+pub mod FaultPlace
 pub mod Text
 pub use Rattle.cilk_lex.specs.Reading
 pub use Rattle.cilk_parse_grammar.specs as grammar

@@ -1,7 +1,7 @@
 //! The faults for which a text spells no program, with the place of each.
 
 ghost use Rattle.std.specs.Prelude.{◌≡◌};
-ghost use Rattle.cilk_parse.specs.Place.{place_of};
+ghost use Rattle.cilk_parse.specs.FaultPlace.{place_of};
 
 use cilk_lex::LexFault;
 use thiserror::Error;

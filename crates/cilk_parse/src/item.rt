@@ -33,7 +33,7 @@ fn main_name(cursor: &mut Cursor) -> Result<Word, ReadError>
 }
 
 // A name that is not `main`.
-#[tactic(auto, using(crate::proofs::Names::not_main, crate::proofs::Names::but_main))]
+#[tactic(auto, using(crate::proofs::NamesButMain::not_main, crate::proofs::NamesButMain::but_main))]
 fn name_but_main(cursor: &mut Cursor) -> Result<Word, ReadError>
     ensures { ReadsAs (λ w. (w, cursor.new.pieces)) result (leaf_at (the_name names_but_main) cursor.old.pieces) }
 {

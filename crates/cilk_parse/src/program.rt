@@ -10,7 +10,7 @@ ghost use Rattle.cilk_parse_rules.specs.ReadsAs.{Fails};
 ghost use Rattle.cilk_parse_grammar.specs.Expressions.{operator_limit, parenthesis_limit};
 ghost use Rattle.cilk_parse_grammar.specs.Fault.{place_left};
 ghost use Rattle.cilk_parse_grammar.specs.Spelling.{nesting_limit, program_of};
-ghost use Rattle.cilk_parse.specs.Place.{place_of};
+ghost use Rattle.cilk_parse.specs.FaultPlace.{place_of};
 ghost use Rattle.cilk_parse.specs.Text.{Spells, ReadingStops, told_of, HasFault, HasLexFault};
 
 use crate::fault::ReadFault;

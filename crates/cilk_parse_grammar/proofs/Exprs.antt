@@ -1,11 +1,11 @@
 -- The laws of expressions, as those of a part of rules.
 use Rattle.std.proofs.Common.{◌≡◌, ℕ, ◌≤◌, true, false, List, [], ◌∷◌, ◌++◌, Option, Ok, refl, ◌∙◌, arith}
+use Rattle.std.proofs.lemmas.Bool.{or_right}
 use Rattle.cilk_tree_syntax.specs.lexeme.Lexeme.{Piece, name}
 use Rattle.cilk_tree_syntax.specs.lexeme.declared.keyword.Keyword.TheVariants as words
 use Rattle.cilk_tree_syntax.specs.lexeme.declared.mark.Mark.TheVariants as marks
 use Rattle.cilk_tree_syntax.specs.Tree as tree
 use Rattle.cilk_parse_rules.specs.Rule.{has, class_at}
-use Rattle.cilk_parse_rules.proofs.Tools.{or_right}
 use Rattle.cilk_parse_rules.proofs.Tokens.{has_append}
 use Rattle.cilk_parse_rules.proofs.Sound.{Took}
 use Rattle.cilk_parse_rules.proofs.Local.{Local}

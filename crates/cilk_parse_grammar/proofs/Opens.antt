@@ -1,6 +1,6 @@
 -- An expression begins with the next token, told by its kind and by its class.
 use Rattle.std.proofs.Common.{◌≡◌, ℕ, ◌==◌, ◌&&◌, Bool, true, false, List, [], ◌∷◌, Option, Some, None, is_some, refl, sym, ap, ◌∙◌, inl, inr}
-use Rattle.std.proofs.lemmas.Bool.{eqb-true, or_cases}
+use Rattle.std.proofs.lemmas.Bool.{eqb-true, or_cases, and_parts}
 use Rattle.cilk_tree_syntax.specs.lexeme.Lexeme.{Lexeme, Piece, word, name, number, mark, literal, inclusion}
 use Rattle.cilk_tree_syntax.specs.lexeme.declared.keyword.Keyword.TheVariants as words
 use Rattle.cilk_tree_syntax.specs.lexeme.declared.mark.Mark.{Mark}
@@ -9,7 +9,6 @@ use Rattle.cilk_tree_syntax.specs.lexeme.declared.token.TokenKind.{TokenKind}
 use Rattle.cilk_tree_syntax.specs.lexeme.declared.token.TokenKind.TheVariants as kind
 use Rattle.cilk_tree_syntax.specs.declared.un_op.UnOp.{UnOp}
 use Rattle.cilk_parse_rules.specs.Rule.{has, class_at}
-use Rattle.cilk_parse_rules.proofs.Tools.{both_true}
 use Rattle.cilk_parse_grammar.specs.Classes.{a_mark, class_of, cls}
 use Rattle.cilk_parse_grammar.specs.Operators.{sign_of}
 use Rattle.cilk_parse_grammar.specs.Expressions.{begins_expr}
@@ -24,9 +23,9 @@ each f (c ∷ cs) = f c && each f cs
 
 has_each : (f : ℕ → Bool) (cs : List ℕ) (c : ℕ) → each f cs ≡ true → has cs (Some c) ≡ true → f c ≡ true
 has_each f [] c h e = absurd cc
-has_each f (d ∷ []) c h e = ap f (sym (eqb-true d c e)) ∙ (both_true (f d) true h).0
+has_each f (d ∷ []) c h e = ap f (sym (eqb-true d c e)) ∙ (and_parts (f d) true h).0
 has_each f (d ∷ g ∷ cs) c h e =
-    let k = both_true (f d) (each f (g ∷ cs)) h in
+    let k = and_parts (f d) (each f (g ∷ cs)) h in
     elim (or_cases (d == c) (has (g ∷ cs) (Some c)) e) [
       | inl i ↦ ap f (sym (eqb-true d c i)) ∙ k.0
       | inr i ↦ has_each f (g ∷ cs) c k.1 i

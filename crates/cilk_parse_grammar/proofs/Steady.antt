@@ -1,8 +1,8 @@
 -- The tests by which rules go on give the same on what is the same but for places.
 use Rattle.std.proofs.Common.{◌≡◌, ◌&&◌, Bool, true, false, refl}
+use Rattle.std.proofs.lemmas.Bool.{and_parts}
 use Rattle.cilk_parse_rules.specs.Rule.{Rule, done, skip, part, and_then, either, many, nearest, by_value}
 use Rattle.cilk_parse_rules.specs.Alike as alike
-use Rattle.cilk_parse_rules.proofs.Tools.{both_true}
 use Rattle.cilk_parse_grammar.specs.Parts.{Means, Nest, a_statement, no_block, an_inlet}
 use Rattle.cilk_parse_grammar.specs.Grammar as grammar
 use Rattle.cilk_parse_grammar.specs.Grammar.{rule_of, program}
@@ -28,8 +28,8 @@ steady_plain : {A : Type 0} (r : Rule Means A) → plain r ≡ true → Steady r
 steady_plain (done a) e = tt
 steady_plain (skip c p) e = steady_plain p e
 steady_plain (part p) e = tt
-steady_plain (and_then p q) e = let b = both_true (plain p) (plain q) e in (steady_plain p b.0, steady_plain q b.1)
-steady_plain (either p q) e = let b = both_true (plain p) (plain q) e in (steady_plain p b.0, steady_plain q b.1)
+steady_plain (and_then p q) e = let b = and_parts (plain p) (plain q) e in (steady_plain p b.0, steady_plain q b.1)
+steady_plain (either p q) e = let b = and_parts (plain p) (plain q) e in (steady_plain p b.0, steady_plain q b.1)
 steady_plain (many p) e = steady_plain p e
 steady_plain (nearest p a) e = steady_plain p e
 steady_plain (by_value v p q r) e = absurd cc

@@ -1,6 +1,7 @@
 -- The laws of what an assignment writes: by two tokens it is a call or an expression.
 use Rattle.std.proofs.Common.{◌≡◌, ℕ, ◌≤◌, Bool, true, false, List, [], ◌∷◌, ◌++◌, length, Option, Some, Ok, refl, sym, ap, subst, ◌∙◌, inl, inr}
 use Rattle.std.proofs.Common.{arith, length-append}
+use Rattle.std.proofs.lemmas.Bool.{and_parts, or_parts}
 use Rattle.cilk_tree_syntax.specs.lexeme.Lexeme.{Lexeme, Piece, word, name, number, mark, literal, inclusion}
 use Rattle.cilk_tree_syntax.specs.lexeme.declared.keyword.Keyword.{Keyword}
 use Rattle.cilk_tree_syntax.specs.lexeme.declared.keyword.Keyword.TheVariants as words
@@ -9,7 +10,7 @@ use Rattle.cilk_tree_syntax.specs.lexeme.declared.mark.Mark.TheVariants as sign
 use Rattle.cilk_tree_syntax.specs.Tree as tree
 use Rattle.cilk_parse_rules.specs.Rule as rule
 use Rattle.cilk_parse_rules.specs.Rule.{◌>>=◌, Rule, Read, has, is, behind, class_at, and_then, done}
-use Rattle.cilk_parse_rules.proofs.Tools.{bind_ok, ok_is, chosen, both_true, or_false}
+use Rattle.cilk_parse_rules.proofs.Tools.{bind_ok, ok_is, chosen}
 use Rattle.cilk_parse_rules.proofs.Tokens.{apart_has}
 use Rattle.cilk_parse_rules.proofs.Begun as begun
 use Rattle.cilk_parse_rules.proofs.Begun.{Begun, with_token, with_nothing, wider}
@@ -97,7 +98,7 @@ module _ (l d : ℕ) where
   no_call us e rest s h = by us (begins_call (us ++ rest)) refl s (expr_begins l d us e s)
     where
       stops : (is (a_mark sign.OpenParenthesis) (class_at cls rest) ≡ false) × (has goes_on_expr (class_at cls rest) ≡ false)
-      stops = or_false (is (a_mark sign.OpenParenthesis) (class_at cls rest)) (has goes_on_expr (class_at cls rest)) h
+      stops = or_parts (is (a_mark sign.OpenParenthesis) (class_at cls rest)) (has goes_on_expr (class_at cls rest)) h
 
       by : (us : List Piece) (b : Bool) → begins_call (us ++ rest) ≡ b → SpellsWhole l d us e → Begun cls begins_expr false us
           → begins_call (us ++ rest) ≡ false
@@ -105,10 +106,10 @@ module _ (l d : ℕ) where
       by [] true c s (with_token lt f) = absurd (omega (arith, lt))
       by [] true c s (with_nothing f i) = absurd cc
       by (t ∷ []) true c s g =
-          let k = both_true (has names (Some (cls t))) (is (a_mark sign.OpenParenthesis) (class_at cls rest)) c
+          let k = and_parts (has names (Some (cls t))) (is (a_mark sign.OpenParenthesis) (class_at cls rest)) c
           in absurd (let f : true ≡ false = sym k.1 ∙ stops.0 in cc)
       by (t ∷ u ∷ us) true c s g =
-          let k = both_true (has names (Some (cls t))) (is (a_mark sign.OpenParenthesis) (Some (cls u))) c in
+          let k = and_parts (has names (Some (cls t))) (is (a_mark sign.OpenParenthesis) (Some (cls u))) c in
           let x = is_name t.lexeme k.0 in
           let alone = expr_again l d (t ∷ []) _ (u ∷ (us ++ rest)) (name_alone l d t x.0 x.1)
           (apart_has goes_on_expr (a_mark sign.OpenParenthesis ∷ []) (Some (cls u)) refl k.1) in
@@ -123,7 +124,7 @@ module _ (l d : ℕ) where
       → has (more_of a_value) (class_at cls rest) ≡ false → value_at l d (us ++ rest) ≡ Ok (x, rest)
   unfolding value_at
   value_again us x rest (inl s) h =
-      let stops = or_false (is (a_mark sign.OpenParenthesis) (class_at cls rest)) (has goes_on_expr (class_at cls rest)) h in
+      let stops = or_parts (is (a_mark sign.OpenParenthesis) (class_at cls rest)) (has goes_on_expr (class_at cls rest)) h in
       rw (no_call us s.expr rest s.spelled h, expr_again l d us s.expr rest s.spelled stops.1, s.meaning) refl
   value_again us x rest (inr s) h =
       let opens = begins_so cls (rule.first first_of call_behind) false s.back rest

@@ -1,12 +1,13 @@
 -- The laws of a whole expression, as a rule asks them of its parts.
 use Rattle.std.proofs.Common.{◌≡◌, ℕ, zero, suc, ◌≤◌, List, [], ◌∷◌, ◌++◌, length, true, false, Option, Some, None, Ok, refl, sym, ap, subst, ◌∙◌, arith}
+use Rattle.std.proofs.lemmas.Bool.{or_right, or_left}
 use Rattle.cilk_tree_syntax.specs.lexeme.Lexeme.{Lexeme, Piece, name}
 use Rattle.cilk_tree_syntax.specs.lexeme.declared.keyword.Keyword.TheVariants as words
 use Rattle.cilk_tree_syntax.specs.lexeme.declared.mark.Mark.TheVariants as marks
 use Rattle.cilk_tree_syntax.specs.declared.un_op.UnOp.{UnOp}
 use Rattle.cilk_tree_syntax.specs.Tree as tree
 use Rattle.cilk_parse_rules.specs.Rule.{has, class_at}
-use Rattle.cilk_parse_rules.proofs.Tools.{bind_ok, ok_is, or_left, or_right}
+use Rattle.cilk_parse_rules.proofs.Tools.{bind_ok, ok_is}
 use Rattle.cilk_parse_rules.proofs.Tokens.{has_append}
 use Rattle.cilk_parse_rules.proofs.Begun.{Begun, with_token, with_nothing}
 use Rattle.cilk_parse_rules.proofs.Sound as sound

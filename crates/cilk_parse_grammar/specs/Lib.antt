@@ -4,7 +4,7 @@ pub mod Expressions
 pub mod Front
 pub mod Reading
 pub mod Within
-pub mod Names
+pub mod NameClasses
 pub mod Begins
 pub mod Parts
 pub mod Forms

@@ -7,7 +7,7 @@ ghost use Rattle.cilk_parse_rules.specs.Rule.{behind, has, is, class_at, token_a
 ghost use Rattle.cilk_parse_grammar.specs.Classes.{a_word, a_mark, cls};
 ghost use Rattle.cilk_parse_grammar.specs.Front.{kind_at, place_at, infix_at, name_at, number_at, header_at, literal_at};
 ghost use Rattle.cilk_parse_grammar.specs.Expressions.{begins_expr};
-ghost use Rattle.cilk_parse_grammar.specs.Names.{name_class_at};
+ghost use Rattle.cilk_parse_grammar.specs.NameClasses.{name_class_at};
 ghost use Rattle.cilk_parse_grammar.specs.Within.{IsWithin};
 
 use crate::literal::said;

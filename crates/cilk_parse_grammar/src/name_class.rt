@@ -2,7 +2,7 @@
 
 ghost use Rattle.std.specs.Prelude.{◌≡◌, Some};
 ghost use Rattle.cilk_parse_grammar.specs.Classes.{name_class};
-ghost use Rattle.cilk_parse_grammar.specs.Names.{named_class};
+ghost use Rattle.cilk_parse_grammar.specs.NameClasses.{named_class};
 
 /// What a name is to a rule: one with a meaning of its own, or another.
 #[derive(Clone, Copy, Debug, PartialEq, Eq)]

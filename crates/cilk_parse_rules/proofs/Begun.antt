@@ -1,9 +1,9 @@
 -- With which tokens what a rule says begins.
 use Rattle.std.proofs.Common.{◌≡◌, ℕ, ◌<◌, ◌||◌, ◌&&◌, Bool, true, false, if◌then◌else◌, List, [], ◌∷◌, ◌++◌, length, Option, refl, sym, ap, subst}
 use Rattle.std.proofs.Common.{◌∙◌, inl, inr, arith, length-append}
+use Rattle.std.proofs.lemmas.Bool.{or_right, or_left}
 use Rattle.cilk_parse_rules.specs.Rule as rule
 use Rattle.cilk_parse_rules.specs.Rule.{has, Rule, done, skip, part, and_then, either, many, nearest, by_value, nullable, next, EachBefore, no_more, one_more}
-use Rattle.cilk_parse_rules.proofs.Tools.{or_left, or_right}
 use Rattle.cilk_parse_rules.proofs.Tokens.{has_append, next_append}
 
 module _ {P : Type 0} (cls : P → ℕ) where

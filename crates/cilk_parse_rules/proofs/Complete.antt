@@ -1,10 +1,10 @@
 -- What a rule says is read again, in front of anything that is not read as more of it.
 use Rattle.std.proofs.Common.{◌≡◌, ℕ, zero, suc, ◌<◌, ◌||◌, not, Bool, true, false, if◌then◌else◌, List, ◌++◌, length, Option, Ok, refl, sym, ap}
 use Rattle.std.proofs.Common.{subst, ◌∙◌, inl, inr, append_assoc, arith, length-append}
+use Rattle.std.proofs.lemmas.Bool.{and_parts, or_parts, not-true}
 use Rattle.cilk_parse_rules.specs.Rule as rule
 use Rattle.cilk_parse_rules.specs.Rule.{◌>>=◌, has, apart, class_at, token_at, Rule, done, skip, part, and_then, either, many, nearest, by_value}
 use Rattle.cilk_parse_rules.specs.Rule.{nullable, next, EachBefore, no_more, one_more, Both, Read, many_in, many_of}
-use Rattle.cilk_parse_rules.proofs.Tools.{both_true, or_false, not_true}
 use Rattle.cilk_parse_rules.proofs.Tokens.{has_append, apart_has, token_here, next_is}
 use Rattle.cilk_parse_rules.proofs.Begun as begun
 use Rattle.cilk_parse_rules.proofs.Begun.{Begun, with_token, with_nothing, begun_first, begun_second}
@@ -17,11 +17,11 @@ module _ {P : Type 0} (cls : P → ℕ) where
       apart_has cs ds (class_at cls (ws ++ rest)) a (ap (λ (k : Option ℕ). has ds k) (sym (next_is cls ws rest)) ∙ h (class_at cls rest))
   stops cs ds es true ws rest (with_nothing w i) a e =
       ap (λ (l : List P). has cs (class_at cls (l ++ rest))) w
-      ∙ (or_false (has es (class_at cls rest)) (has cs (class_at cls rest)) (sym (has_append es cs (class_at cls rest)) ∙ e)).1
+      ∙ (or_parts (has es (class_at cls rest)) (has cs (class_at cls rest)) (sym (has_append es cs (class_at cls rest)) ∙ e)).1
   stops cs ds es false ws rest (with_nothing w i) a e = absurd cc
 
   last_stops : (cs es : List ℕ) (n : Bool) (k : Option ℕ) → has (if n then es ++ cs else es) k ≡ false → has es k ≡ false
-  last_stops cs es true k e = (or_false (has es k) (has cs k) (sym (has_append es cs k) ∙ e)).0
+  last_stops cs es true k e = (or_parts (has es k) (has cs k) (sym (has_append es cs k) ∙ e)).0
   last_stops cs es false k e = e
 
   -- the tokens begin so
@@ -107,10 +107,10 @@ module _ {P : Type 0} (cls : P → ℕ) where
     choice_first : (n : Bool) (cs ds es : List ℕ) (k : Option ℕ) → has (if n then cs ++ (ds ++ es) else ds ++ es) k ≡ false
         → (has ds k ≡ false) × (has es k ≡ false) × (n ≡ true → has cs k ≡ false)
     choice_first true cs ds es k e =
-        let a = or_false (has cs k) (has (ds ++ es) k) (sym (has_append cs (ds ++ es) k) ∙ e) in
-        let b = or_false (has ds k) (has es k) (sym (has_append ds es k) ∙ a.1) in
+        let a = or_parts (has cs k) (has (ds ++ es) k) (sym (has_append cs (ds ++ es) k) ∙ e) in
+        let b = or_parts (has ds k) (has es k) (sym (has_append ds es k) ∙ a.1) in
         (b.0, b.1, λ h. a.0)
-    choice_first false cs ds es k e = let b = or_false (has ds k) (has es k) (sym (has_append ds es k) ∙ e) in (b.0, b.1, λ h. absurd cc)
+    choice_first false cs ds es k e = let b = or_parts (has ds k) (has es k) (sym (has_append ds es k) ∙ e) in (b.0, b.1, λ h. absurd cc)
 
     pub complete : {A : Type 0} (r : Rule Means A) (us : List P) (x : A) (rest : List P) → PartsBegin → PartsComplete → fine r ≡ true
         → Says r (class_at cls rest) us x → has (more r) (class_at cls rest) ≡ false → reads r (us ++ rest) ≡ Ok (x, rest)
@@ -121,8 +121,8 @@ module _ {P : Type 0} (cls : P → ℕ) where
         ∙ ap (λ r. r >>= λ v. reads p v) (token_here cls t s.token (s.rest ++ rest) s.is) ∙ complete p s.rest x rest b c f s.spelled e
     complete (part p) us x rest b c f s e = c p us x rest s e
     complete (and_then p q) us x rest b c f s e =
-        let g = both_true (fine p) _ f in
-        let h = both_true (fine q) _ g.1 in
+        let g = and_parts (fine p) _ f in
+        let h = and_parts (fine q) _ g.1 in
         let one = complete p s.front s.means (s.back ++ rest) b c g.0
         (subst (λ (k : Option ℕ). Says p k s.front s.means) (next_is cls s.back rest) s.spelled_front)
         (stops (more p) (first q) (more q) (nullable q) s.back rest (begun_by q (class_at cls rest) s.back s.makes b s.spelled_back) h.1 e) in
@@ -131,40 +131,40 @@ module _ {P : Type 0} (cls : P → ℕ) where
         ∙ ap (λ r. r >>= λ v. reads q v.1 >>= λ w. Ok (w.0 v.0, w.1)) one ∙ ap (λ r. r >>= λ w. Ok (w.0 s.means, w.1)) two
         ∙ ap (λ y. Ok (y, rest)) (sym s.meaning)
     complete (either p q) us x rest b c f (inl s) e =
-        let g = both_true (fine p) _ f in
-        let h = both_true (fine q) _ g.1 in
-        let i = both_true (not (nullable p)) _ h.1 in
-        let k = begins_so (first p) (nullable p) us rest (begun_by p (class_at cls rest) us x b s) (not_true (nullable p) i.0) in
+        let g = and_parts (fine p) _ f in
+        let h = and_parts (fine q) _ g.1 in
+        let i = and_parts (not (nullable p)) _ h.1 in
+        let k = begins_so (first p) (nullable p) us rest (begun_by p (class_at cls rest) us x b s) (not-true (nullable p) i.0) in
         chosen_first (first p) _ _ (us ++ rest) _ k.1
         (complete p us x rest b c g.0 s (choice_first (nullable q) (first p) (more p) (more q) (class_at cls rest) e).0)
     complete (either p q) us x rest b c f (inr s) e =
-        let g = both_true (fine p) _ f in
-        let h = both_true (fine q) _ g.1 in
-        let i = both_true (not (nullable p)) _ h.1 in
+        let g = and_parts (fine p) _ f in
+        let h = and_parts (fine q) _ g.1 in
+        let i = and_parts (not (nullable p)) _ h.1 in
         let w = choice_first (nullable q) (first p) (more p) (more q) (class_at cls rest) e in
         chosen_second (first p) _ _ (us ++ rest) _
         (begins_not (first p) (first q) (nullable q) us rest (begun_by q (class_at cls rest) us x b s) i.1 w.2)
         (complete q us x rest b c h.0 s w.1)
     complete (many p) us x rest b c f s e =
-        let g = both_true (fine p) _ f in
-        let h = both_true (not (nullable p)) _ g.1 in
-        let w = or_false (has (first p) (class_at cls rest)) (has (more p) (class_at cls rest)) (sym (has_append (first p) (more p) (class_at cls rest)) ∙ e) in
+        let g = and_parts (fine p) _ f in
+        let h = and_parts (not (nullable p)) _ g.1 in
+        let w = or_parts (has (first p) (class_at cls rest)) (has (more p) (class_at cls rest)) (sym (has_append (first p) (more p) (class_at cls rest)) ∙ e) in
         many_again (λ k vs y. Says p k vs y) (first p) (more p) (λ vs. reads p vs)
-        (λ k vs y t. subst (λ (n : Bool). Begun cls (first p) n vs) (not_true (nullable p) h.0) (begun_by p k vs y b t))
+        (λ k vs y t. subst (λ (n : Bool). Begun cls (first p) n vs) (not-true (nullable p) h.0) (begun_by p k vs y b t))
         (λ vs y more_rest t m. complete p vs y more_rest b c g.0 t m) h.1
         (suc (length (us ++ rest))) us x rest s (omega (arith, length-append us rest)) w.0 w.1
     complete (nearest p a) us x rest b c f (inl s) e =
-        let g = both_true (fine p) _ f in
-        let k = begins_so (first p) (nullable p) us rest (begun_by p (class_at cls rest) us x b s) (not_true (nullable p) g.1) in
+        let g = and_parts (fine p) _ f in
+        let k = begins_so (first p) (nullable p) us rest (begun_by p (class_at cls rest) us x b s) (not-true (nullable p) g.1) in
         chosen_first (first p) _ _ (us ++ rest) _ k.1 (complete p us x rest b c g.0 s e)
     complete (nearest p a) us x rest b c f (inr s) e =
         ap (λ (l : List P). reads (nearest p a) (l ++ rest)) s.0 ∙ chosen_second (first p) _ _ rest _ s.2 (ap (λ y. Ok (y, rest)) (sym s.1))
     complete (by_value f p q r) us x rest b c g s e =
-        let h = both_true (fine p) _ g in
-        let i = both_true (fine q) _ h.1 in
-        let j = both_true (fine r) _ i.1 in
+        let h = and_parts (fine p) _ g in
+        let i = and_parts (fine q) _ h.1 in
+        let j = and_parts (fine r) _ i.1 in
         let m : has (more q ++ more r) (class_at cls rest) ≡ false = last_stops (more p) (more q ++ more r) (nullable q || nullable r) (class_at cls rest) e in
-        let w = or_false (has (more q) (class_at cls rest)) (has (more r) (class_at cls rest)) (sym (has_append (more q) (more r) (class_at cls rest)) ∙ m) in
+        let w = or_parts (has (more q) (class_at cls rest)) (has (more r) (class_at cls rest)) (sym (has_append (more q) (more r) (class_at cls rest)) ∙ m) in
         let begins : Begun cls (first q ++ first r) (nullable q || nullable r) s.back = elim s.spelled_back [
           | inl t ↦ begun_first cls (first q) (first r) (nullable q) (nullable r) s.back (begun_by q (class_at cls rest) s.back s.makes b t.1)
           | inr t ↦ begun_second cls (first q) (first r) (nullable q) (nullable r) s.back (begun_by r (class_at cls rest) s.back s.makes b t.1)

@@ -1,8 +1,8 @@
 -- What reading by a rule meets depends on the tokens through the next one alone.
 use Rattle.std.proofs.Common.{◌≡◌, ℕ, not, Bool, true, false, if◌then◌else◌, List, length, Option, Ok, refl, sym, ap, arith, length-append}
+use Rattle.std.proofs.lemmas.Bool.{and_parts, not-true}
 use Rattle.cilk_parse_rules.specs.Rule as rule
 use Rattle.cilk_parse_rules.specs.Rule.{◌>>=◌, has, class_at, behind, Rule, done, skip, part, and_then, either, many, nearest, by_value, nullable, Read}
-use Rattle.cilk_parse_rules.proofs.Tools.{both_true, not_true}
 use Rattle.cilk_parse_rules.proofs.Begun as begun
 use Rattle.cilk_parse_rules.proofs.Sound as sound
 use Rattle.cilk_parse_rules.proofs.Complete.{begins_so}
@@ -43,31 +43,31 @@ module _ {P : Type 0} (cls : P → ℕ) {Part : Type 0} {Means : Part → Type 0
     local (skip c p) ts f = local_token same cls c ts (λ us. reads p us) (λ us. reads' p us) (local p (behind ts) f)
     local (part p) ts f = l p ts
     local (and_then p q) ts f =
-        let g = both_true (fine p) _ f in
-        let i = both_true (fine q) _ g.1 in
+        let g = and_parts (fine p) _ f in
+        let i = and_parts (fine q) _ g.1 in
         local_bind same ts (reads p ts) (λ us. reads' p us) (λ x. reads q x.1 >>= λ f. Ok (f.0 x.0, f.1))
         (λ x. reads' q x.1 >>= λ f. Ok (f.0 x.0, f.1)) (local p ts g.0)
         (λ x e. local_bind same x.1 (reads q x.1) (λ us. reads' q us) (λ f. Ok (f.0 x.0, f.1)) (λ f. Ok (f.0 x.0, f.1)) (local q x.1 i.0)
         (λ f e. ok_here (f.0 x.0) f.1 _ (λ us s. refl)))
     local (either p q) ts f =
-        let g = both_true (fine p) _ f in
-        let i = both_true (fine q) _ g.1 in
+        let g = and_parts (fine p) _ f in
+        let i = and_parts (fine q) _ g.1 in
         local_choice same (wants p) ts _ (reads p ts) (reads q ts) (λ us. reads' p us) (λ us. reads' q us) (heads p ts) refl
         (λ e. local p ts g.0) (λ e. local q ts i.0)
     local (many p) ts f =
-        let g = both_true (fine p) _ f in
-        let i = both_true (not (nullable p)) _ g.1 in
-        let n = not_true _ i.0 in
+        let g = and_parts (fine p) _ f in
+        let i = and_parts (not (nullable p)) _ g.1 in
+        let n = not-true _ i.0 in
         local_many same (wants p) (heads p) (λ us. reads p us) (λ us. reads' p us) (shorter says parts p b h n)
         (shorter says' parts' p b' h' n) (λ us. local p us g.0) ts
     local (nearest p a) ts f =
-        let g = both_true (fine p) _ f in
+        let g = and_parts (fine p) _ f in
         local_choice same (wants p) ts _ (reads p ts) (Ok (a, ts)) (λ us. reads' p us) (λ us. Ok (a, us)) (heads p ts) refl
         (λ e. local p ts g.0) (λ e. ok_here a ts _ (λ us s. refl))
     local (by_value v p q r) ts f =
-        let g = both_true (fine p) _ f in
-        let i = both_true (fine q) _ g.1 in
-        let j = both_true (fine r) _ i.1 in
+        let g = and_parts (fine p) _ f in
+        let i = and_parts (fine q) _ g.1 in
+        let j = and_parts (fine r) _ i.1 in
         local_bind same ts (reads p ts) (λ us. reads' p us) (λ x. (if v x.0 then reads q x.1 else reads r x.1) >>= λ f. Ok (f.0 x.0, f.1))
         (λ x. (if v x.0 then reads' q x.1 else reads' r x.1) >>= λ f. Ok (f.0 x.0, f.1)) (local p ts g.0)
         (λ x e. local_bind same x.1 (if v x.0 then reads q x.1 else reads r x.1) (λ us. if v x.0 then reads' q us else reads' r us)

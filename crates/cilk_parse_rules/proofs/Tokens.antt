@@ -1,9 +1,9 @@
 -- Tokens, and lists of their classes.
 use Rattle.std.proofs.Common.{◌≡◌, ℕ, ◌==◌, ◌||◌, not, Bool, true, false, List, [], ◌∷◌, ◌++◌, Option, Some, None, Result, Ok, refl, sym, ap, ◌∙◌, eq-eqb}
-use Rattle.std.proofs.lemmas.Bool.{eqb-true}
+use Rattle.std.proofs.lemmas.Bool.{eqb-true, and_parts, or_right, or_left, not-true}
 use Rattle.cilk_parse_rules.specs.declared.fault.Fault.{Fault}
 use Rattle.cilk_parse_rules.specs.Rule.{is, has, among, apart, behind, wanted, class_at, next, token_at}
-use Rattle.cilk_parse_rules.proofs.Tools.{both_true, or_left, or_right, or_nothing, or_assoc, not_true}
+use Rattle.cilk_parse_rules.proofs.Tools.{or_nothing, or_assoc}
 
 -- ---- lists of classes
 
@@ -33,11 +33,11 @@ among_by c (d ∷ ds) k e h = first (is d k) refl (λ f. among_by c ds k e f)
 pub apart_has : (cs ds : List ℕ) (k : Option ℕ) → apart cs ds ≡ true → has ds k ≡ true → has cs k ≡ false
 apart_has [] ds k e h = refl
 apart_has (c ∷ cs) ds k e h =
-    let parts = both_true (not (among c ds)) (apart cs ds) e in
+    let parts = and_parts (not (among c ds)) (apart cs ds) e in
     has_one c cs k ∙ first (is c k) refl parts.0 (apart_has cs ds k parts.1 h)
   where
     first : (b : Bool) → is c k ≡ b → not (among c ds) ≡ true → has cs k ≡ false → (is c k || has cs k) ≡ false
-    first true f n again = let both : true ≡ false = sym (among_by c ds k f h) ∙ not_true (among c ds) n in absurd cc
+    first true f n again = let both : true ≡ false = sym (among_by c ds k f h) ∙ not-true (among c ds) n in absurd cc
     first false f n again = ap (λ b. b || has cs k) f ∙ again
 
 -- ---- the next token

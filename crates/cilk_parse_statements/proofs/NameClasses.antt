@@ -9,8 +9,8 @@ use Rattle.cilk_parse_grammar.specs.declared.name_class.NameClass.TheVariants as
 use Rattle.cilk_parse_grammar.specs.contracts.name_class.NameClassPartialEq.TheImpl.{eq-value}
 use Rattle.cilk_parse_rules.specs.Rule.{is}
 use Rattle.cilk_parse_grammar.specs.Operators.{found}
-use Rattle.cilk_parse_grammar.specs.Names.{name_classes, named_class, named_in}
-use Rattle.cilk_parse_statements.specs.Names.{number_of}
+use Rattle.cilk_parse_grammar.specs.NameClasses.{name_classes, named_class, named_in}
+use Rattle.cilk_parse_statements.specs.ClassNumbers.{number_of}
 
 -- the row of a table that is found is of the class that was looked for
 abbrev Numbered : {A : Type 0} → (A → ℕ) → List (ℕ × A) → Type 0

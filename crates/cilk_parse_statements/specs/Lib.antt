@@ -1,5 +1,5 @@
 pub mod Limits
-pub mod Names
+pub mod ClassNumbers
 pub mod Views
 pub mod Chains
 pub mod Starts

@@ -5,7 +5,7 @@ ghost use Rattle.cilk_parse_rules.specs.ReadsAs.{ReadsAs};
 ghost use Rattle.cilk_parse_rules.specs.Rule.{has, is, class_at};
 ghost use Rattle.cilk_parse_grammar.specs.Classes.{cls, names, the_lock_init, the_lock, the_unlock};
 ghost use Rattle.cilk_parse_grammar.specs.Grammar.{plain_names};
-ghost use Rattle.cilk_parse_statements.specs.Names.{number_of};
+ghost use Rattle.cilk_parse_statements.specs.ClassNumbers.{number_of};
 ghost use Rattle.cilk_parse_grammar.specs.Forms.{name_of, keyword_place, number};
 ghost use Rattle.cilk_parse_grammar.specs.Parts.{token, the_word, the_name, the_number, the_literal, the_header};
 ghost use Rattle.cilk_parse_grammar.specs.Spelling.{leaf_at};

@@ -15,7 +15,7 @@ use Rattle.cilk_program.proofs.Whole.{any_held}
 use Rattle.cilk_program.specs.Taped.{Declines}
 use Rattle.cilk_program.specs.declared.failure.RecordFailure.{RecordFailure}
 use Rattle.cilk_program.specs.declared.failure.RecordFailure.TheVariants as why
-use Rattle.cilk_words.specs.CommandLine.{Asked, Wanted, printed, checked, run, replayed, measured, debugged, asked}
+use Rattle.cilk_words.specs.CommandLine.{Asked, Wanted, printed, checked, run, explored, replayed, measured, debugged, asked}
 use Rattle.cilk_words.specs.Refusing.{IsNoRequest, asks_for_help, asks_for_version, asks_to_show}
 use Rattle.cilk_words.specs.declared.refusal.NoRequest.{NoRequest}
 use Rattle.cilk_words.specs.declared.refusal.NoRequest.TheVariants as refusal
@@ -77,6 +77,8 @@ unread printed explain name status known held old new found other is told = noth
 unread checked explain name status known held old new found other is told = nothing_read Unready explain name status known old new found other is told
 unread (run workers limit log seed runs) explain name status known held old new found other is told =
     no_run workers _ explain name (log_name log) status known old new found other is told
+unread (explored workers limit logs) explain name status known held old new found other is told =
+    inl (nothing_read Unready explain name status known old new found other is told)
 unread (replayed log) explain name status known held old new found other is told =
     no_program Declines explain name log status known (held log) old new found other is told
 unread (measured None) explain name status known held old new found other is told =
@@ -92,6 +94,7 @@ pub leaves_nothing : (wanted : Wanted) (status : Status) (known : Option (List �
 leaves_nothing printed status known held entered old new other same = λ bad. absurd (other bad)
 leaves_nothing checked status known held entered old new other same = λ bad. absurd (other bad)
 leaves_nothing (run workers limit log seed runs) status known held entered old new other same = λ bad. absurd (other bad)
+leaves_nothing (explored workers limit logs) status known held entered old new other same = λ bad. absurd (other bad)
 leaves_nothing (replayed log) status known held entered old new other same = λ bad. absurd (other bad)
 leaves_nothing (measured log) status known held entered old new other same = λ bad. absurd (other bad)
 leaves_nothing (debugged log) status known held entered old new other same = (λ bad. absurd (other bad), λ not. inl same)

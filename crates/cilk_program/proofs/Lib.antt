@@ -6,4 +6,5 @@ mod Said
 pub mod Whole
 pub mod Ran
 mod Debugged
+mod Explored
 mod Told

@@ -11,7 +11,7 @@ use Rattle.cilk_measure.specs.debug.log.Reading.{log_read}
 use Rattle.cilk_measure.specs.debug.log.Text.{Log}
 use Rattle.cilk_measure.specs.debug.declared.replay_fault.ReplayFault.{ReplayFault}
 use Rattle.cilk_measure.specs.debug.declared.replay_fault.ReplayFault.TheVariants as replay
-use Rattle.std.specs.Prelude.{Ok, codes}
+use Rattle.std.specs.Prelude.{◌≢◌, Ok, codes}
 use Rattle.cilk_commands.specs.Front.{AppendsFront, Gains}
 use Rattle.cilk_commands.specs.Held.{Held, IsReadOf}
 use Rattle.cilk_commands.specs.Status.{is_answer, status_of}
@@ -108,6 +108,7 @@ trap_is_answer explain status.CannotRead told = cc
 trap_is_answer explain status.CannotWrite told = cc
 trap_is_answer explain status.CannotRecord told = cc
 trap_is_answer explain status.CannotStart told = cc
+trap_is_answer explain status.Several told = cc
 
 -- where the only answer is that all is done, no trap is told
 pub no_trap : {P : Type 0} (explain : Bool) (ended : Status) → (is_answer ended ≡ true → ended ≡ status.Done) → tells_trap explain ended ≡ true → P
@@ -115,6 +116,20 @@ no_trap explain ended only told =
     let done : ended ≡ status.Done = only (trap_is_answer explain ended told) in
     let bad : false ≡ true = sym (ap (tells_trap explain) done) ∙ told in
     cc
+
+pub never_trapped : {P : Type 0} (explain : Bool) (ended : Status) → ended ≢ status.Trapped → tells_trap explain ended ≡ true → P
+never_trapped explain status.Done other told = cc
+never_trapped explain status.Refused other told = cc
+never_trapped explain status.Usage other told = cc
+never_trapped explain status.Trapped other told = absurd (other refl)
+never_trapped explain status.Stuck other told = cc
+never_trapped explain status.Limit other told = cc
+never_trapped explain status.Memory other told = cc
+never_trapped explain status.CannotRead other told = cc
+never_trapped explain status.CannotWrite other told = cc
+never_trapped explain status.CannotRecord other told = cc
+never_trapped explain status.CannotStart other told = cc
+never_trapped explain status.Several other told = cc
 
 pub nothing_told : (answer name text : List ℕ) (known : Option (List ℕ)) → TellsTrap answer name text known known
 nothing_told answer name text known =

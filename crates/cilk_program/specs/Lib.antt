@@ -12,3 +12,5 @@ pub mod Replaying
 pub mod Tallying
 pub mod Measuring
 pub mod Debugging
+pub mod Exploring
+pub mod Unexplored

@@ -7,19 +7,21 @@ use Rattle.cilk_commands.specs.Telling.{GivesUp}
 use Rattle.cilk_commands.specs.declared.status.Status.{Status}
 use Rattle.cilk_commands.specs.declared.status.Status.TheVariants.{CannotWrite, Done}
 use Rattle.cilk_program.specs.Debugging.{Debugs, DebugsFront, DebugsPart}
+use Rattle.cilk_program.specs.Exploring.{Explores, ExploresFront, GivesUpExploring}
 use Rattle.cilk_program.specs.GivingUp.{GivesUpRun, GivesUp as GivesUpOfLog}
 use Rattle.cilk_program.specs.Measuring.{MeasuresLog, MeasuresLogFront, MeasuresRun, MeasuresRunFront}
 use Rattle.cilk_program.specs.Replaying.{Replays, ReplaysFront}
 use Rattle.cilk_program.specs.Running.{Runs, RunsFront}
 use Rattle.cilk_program.specs.Tallying.{Tallies, TalliesFront}
 use Rattle.cilk_program.specs.Taped.{Declines}
-use Rattle.cilk_words.specs.CommandLine.{Wanted, printed, checked, run, replayed, measured, debugged}
+use Rattle.cilk_words.specs.CommandLine.{Wanted, printed, checked, run, explored, replayed, measured, debugged}
 
 -- commands are to be answered
 abbrev pub is_session : Wanted → Bool
 is_session printed = false
 is_session checked = false
 is_session (run workers limit log seed runs) = false
+is_session (explored workers limit logs) = false
 is_session (replayed log) = false
 is_session (measured log) = false
 is_session (debugged log) = true
@@ -46,6 +48,16 @@ RunsFrontAsAsked workers limit seed None known old new = RunsFrontSomewhere work
 RunsFrontAsAsked workers limit None (Some runs) known old new = RunsFrontSomewhere workers limit None known old new
 RunsFrontAsAsked workers limit (Some seed) (Some runs) known old new = TalliesFront workers limit seed runs known old new
 
+-- an exploration, with some folder for its logs, whose bytes may be known
+pub record ExploresSomewhere (workers limit : ℕ) (wanted : Bool) (status : Status) (known old new : Option (List ℕ)) : Type 0 where
+  pub stored : ℕ → Option (List ℕ)
+  pub is : Explores workers limit wanted status stored known old new
+
+pub record ExploresFrontSomewhere (workers limit : ℕ) (wanted : Bool) (known old new : Option (List ℕ)) : Type 0 where
+  pub status : Status
+  pub stored : ℕ → Option (List ℕ)
+  pub is : ExploresFront workers limit wanted status stored known old new
+
 -- the numbers of a log, or of a run by one worker
 abbrev pub MeasuresAsAsked : Option (List ℕ) → Option (List ℕ) → (List ℕ → Option (List ℕ)) → Option (List ℕ) → Option (List ℕ) → Type 0
 MeasuresAsAsked None known held old new = MeasuresRun known old new
@@ -71,6 +83,7 @@ abbrev pub Does : Wanted → Status → Option (List ℕ) → (List ℕ → Opti
 Does printed status known held entered old new = (status ≡ Done) × Prints known old new
 Does checked status known held entered old new = (status ≡ Done) × Passes known old new
 Does (run workers limit log seed runs) status known held entered old new = RunsAsAsked workers limit seed runs status known old new
+Does (explored workers limit logs) status known held entered old new = ExploresSomewhere workers limit (is_some logs) status known old new
 Does (replayed log) status known held entered old new = Replays status known (held log) old new
 Does (measured log) status known held entered old new = (status ≡ Done) × MeasuresAsAsked log known held old new
 Does (debugged log) status known held entered old new = (status ≡ Done) × Debugs known (held log) entered old new
@@ -81,6 +94,8 @@ Leaves printed status known held entered old new = status ≡ CannotWrite → Pr
 Leaves checked status known held entered old new = status ≡ CannotWrite → PassesFront known old new
 Leaves (run workers limit log seed runs) status known held entered old new =
     status ≡ CannotWrite → RunsFrontAsAsked workers limit seed runs known old new
+Leaves (explored workers limit logs) status known held entered old new =
+    status ≡ CannotWrite → ExploresFrontSomewhere workers limit (is_some logs) known old new
 Leaves (replayed log) status known held entered old new = status ≡ CannotWrite → ReplaysFront known (held log) old new
 Leaves (measured log) status known held entered old new = status ≡ CannotWrite → MeasuresFrontAsAsked log known held old new
 Leaves (debugged log) status known held entered old new =
@@ -92,6 +107,8 @@ Fails printed explain name status known held old new = GivesUp Unready explain n
 Fails checked explain name status known held old new = GivesUp Unready explain name status known old new
 Fails (run workers limit log seed runs) explain name status known held old new =
     GivesUpRun workers (is_some log) explain name (log_name log) status known old new
+Fails (explored workers limit logs) explain name status known held old new =
+    GivesUpExploring (is_some logs) explain name (log_name logs) status known old new
 Fails (replayed log) explain name status known held old new = GivesUpOfLog Declines explain name log status known (held log) old new
 Fails (measured log) explain name status known held old new = FailsToMeasure log explain name status known held old new
 Fails (debugged log) explain name status known held old new = GivesUpOfLog Declines explain name log status known (held log) old new

@@ -1,20 +1,22 @@
-//! From a task to the subcommand that does it, with the texts that it reads and the log that it writes.
+//! From a task to the subcommand that does it, with the texts that it reads and the logs that it writes.
 
 ghost use Rattle.std.specs.Prelude.{◌≡◌, ◌≢◌, ◌⊎◌, true, false, is_some, option_map};
 ghost use Rattle.cilk_commands.specs.Status.{is_answer};
 ghost use Rattle.cilk_words.specs.CommandLine.{wanted_by};
 ghost use Rattle.cilk_program.specs.Debugging.{Debugs, DebugsFront, DebugsPart};
+ghost use Rattle.cilk_program.specs.Exploring.{GivesUpExploring};
 ghost use Rattle.cilk_program.specs.GivingUp.{GivesUp, GivesUpRun};
 ghost use Rattle.cilk_program.specs.Replaying.{Replays, ReplaysFront};
 ghost use Rattle.cilk_program.specs.Saying.{ExplainsTrap, tells_trap};
 ghost use Rattle.cilk_program.specs.Taped.{Declines};
 ghost use Rattle.cilk_program.specs.Task.{Does, Fails, FailsToMeasure, Leaves, MeasuresAsAsked, MeasuresFrontAsAsked, is_session};
+ghost use Rattle.cilk_program.specs.Task.{ExploresFrontSomewhere, ExploresSomewhere};
 ghost use Rattle.cilk_program.specs.Task.{RunsAsAsked, RunsFrontAsAsked, RunsFrontSomewhere, RunsSomewhere, log_name};
 
 use crate::texts::Texts;
 use crate::{
-    FileNames, LogTask, RecordFailure, RunTask, Streams, debug_text, measure_log_text,
-    measure_text, replay_text, run_text, tally_text,
+    ExploreTask, FileNames, LogTask, RecordFailure, RunTask, Streams, debug_text, explore_text,
+    measure_log_text, measure_text, replay_text, run_text, tally_text,
 };
 use cilk_commands::{Failure, Status, check_text, print_text};
 use cilk_words::{Request, Task};
@@ -85,6 +87,20 @@ pub fn perform<H: Threads + Wait + Sync, T: Texts, R: Read, O: Write, E: Write>(
                 runs,
             };
             run_as_asked(rt, alloc, &task, texts, reader, streams)
+        }
+        Task::Explore {
+            workers,
+            limit,
+            logs,
+        } => {
+            let task = ExploreTask {
+                program: name,
+                logs,
+                explain,
+                workers,
+                limit,
+            };
+            explore_named(alloc, &task, texts, reader, streams)
         }
         Task::Replay { log } => {
             let names = FileNames { program: name, log };
@@ -158,6 +174,32 @@ fn run_named<H: Threads + Wait + Sync, T: Texts, R: Read, O: Write, E: Write>(
         return failure.report(&task.names(), &mut streams.errors);
     };
     run_text(rt, alloc, task, reader, &mut store, streams)
+}
+
+// Explores the program that the reader holds, with logs where they are wanted.
+fn explore_named<T: Texts, R: Read, O: Write, E: Write>(
+    alloc: Global,
+    task: &ExploreTask<'_>,
+    texts: &T,
+    reader: &mut R,
+    streams: &mut Streams<O, E>,
+) -> Status
+    ensures done { is_answer result ≡ true → ExploresSomewhere task.now.workers task.now.limit (is_some task.now.logs) result
+        (R.remaining reader.old) (O.contents streams.old.output) (O.contents streams.new.output) }
+    ensures untrapped { result ≢ Status.Trapped }
+    ensures told { is_answer result ≡ false
+        → GivesUpExploring (is_some task.now.logs) task.now.explain task.now.program.now (log_name (option_map (λ it. it.now) task.now.logs)) result
+        (R.remaining reader.old) (E.contents streams.old.errors) (E.contents streams.new.errors) }
+    ensures begun { result ≡ Status.CannotWrite → ExploresFrontSomewhere task.now.workers task.now.limit (is_some task.now.logs)
+        (R.remaining reader.old) (O.contents streams.old.output) (O.contents streams.new.output) }
+    ensures usage { result ≢ Status.Usage }
+    ensures quiet { is_answer result ≡ true → streams.new.errors ≡ streams.old.errors }
+    ensures kept { is_answer result ≡ false → result ≢ Status.CannotWrite → streams.new.output ≡ streams.old.output }
+{
+    let Ok(mut folder) = texts.log_folder(alloc, task.program, task.logs) else {
+        return Failure::Memory.report(task.program, &mut streams.errors);
+    };
+    explore_text(alloc, task, reader, &mut folder, streams)
 }
 
 // Replays a log, of the program that the reader holds.

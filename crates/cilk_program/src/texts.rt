@@ -1,8 +1,8 @@
-//! What the program needs of the system: texts by their names, the commands of a session, and a store for a log.
+//! What the program needs of the system: texts by their names, the commands of a session, a store for a log, and a folder for logs.
 
 ghost use Rattle.std.specs.Prelude.{◌≡◌, ℕ, IfOk, IfSome, List, Option, is_some};
 
-use crate::LogStore;
+use crate::{LogFolder, LogStore};
 use std::alloc::{AllocError, Global};
 use std::io::Read;
 
@@ -13,6 +13,8 @@ pub trait Texts {
     type Commands: Read + Drop;
 
     type Store: LogStore + Drop;
+
+    type Folder: LogFolder + Drop;
 
     // The bytes of the text of a name, where they are known.
     ghost held: { Self → List ℕ → Option (List ℕ) };
@@ -38,4 +40,14 @@ pub trait Texts {
         name: Option<&str>,
     ) -> Result<Self::Store, AllocError>
         ensures { IfOk result (λ store. Self.Store.wanted store ≡ is_some name.entry) };
+
+    /// The folder of this name, for the logs of an exploration of the program whose text has that name. Where no logs are wanted there is one too, which
+    /// says so. No log takes the place of the program: that one is then not written. Nothing is created before `store` is called.
+    fn log_folder(
+        &self,
+        alloc: Global,
+        program: &str,
+        name: Option<&str>,
+    ) -> Result<Self::Folder, AllocError>
+        ensures { IfOk result (λ folder. Self.Folder.wanted folder ≡ is_some name.entry) };
 }

@@ -1,6 +1,6 @@
 pub mod Seats
 pub mod Count
-pub mod Names
+pub mod PathNames
 pub mod Back
 pub use Rattle.cilk_frame.proofs as frame_laws
 pub use Rattle.cilk_frame.proofs.nodes_laws

@@ -5,7 +5,7 @@ use Rattle.std.specs.Prelude.{is_some, is_none, filter}
 use Rattle.std.specs.List.{list_all}
 use Rattle.std.proofs.lemmas.List.Elements.{filter-append}
 use Rattle.std.proofs.lemmas.List.Folds.{list_all-append, list_all-map}
-use Rattle.cilk_machine.proofs.agree_laws.Asked.{placed}
+use Rattle.cilk_machine_agree.proofs.Asked.{placed}
 use Rattle.cilk_run.specs.labelled.Labelled.{Labelled}
 use Rattle.cilk_run.specs.machine.Situation.{Situation, workers_of}
 use Rattle.cilk_run.specs.machine.Stands.{StandsAt}

@@ -7,7 +7,7 @@ ghost use Rattle.cilk_seed.specs.Tallied.{end_words, outcome_of};
 ghost use Rattle.cilk_seed.specs.Tallying.{outcome_by};
 
 use crate::playing::play;
-use cilk_machine::{Memory, put_trapped};
+use cilk_machine_choices::{Memory, put_trapped};
 use cilk_run::{End, Loaded, Run, RunFault};
 use std::alloc::Global;
 

@@ -27,3 +27,4 @@ pub mod Undone
 pub mod InPlace
 pub mod Copies
 pub mod Living
+pub mod Compared

@@ -1,4 +1,5 @@
 pub mod Nodes
+pub mod Alike
 pub mod Family
 pub mod Records
 pub mod Kinds

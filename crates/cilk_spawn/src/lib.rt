@@ -41,7 +41,7 @@ mod tree;
 mod tree_image;
 
 pub use arguments::Arguments;
-pub use cilk_frame::{Frame, Id, Memory, Trap};
+pub use cilk_frame::{Frame, Id, Memory, Mixer, Trap};
 pub use delivery::Delivery;
 pub use ending::Ending;
 pub use fate::Fate;

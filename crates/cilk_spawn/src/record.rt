@@ -20,6 +20,7 @@ use std::collections::{BTreeMap, VecDeque};
 use std::mem::{replace, size_of};
 use std::ops::Bound;
 
+mod comparing;
 mod copying;
 mod undoing;
 

@@ -19,6 +19,7 @@ use cilk_frame::{Frame, Id, Memory};
 use std::alloc::Global;
 use std::marker::Model;
 
+mod comparing;
 mod imaging;
 mod keeping;
 mod undoing;
@@ -243,7 +244,7 @@ impl Tree {
         Ok(Path::new(numbers))
     }
 
-    /// The instance with this path, whether it lives or not.
+    /// The instance with this path, whether it lives or not. One pass finds one that does not, as a child was made after its parent.
     pub fn find(&self, path: &[u32]) -> Option<Id>
         ensures found { IfSome result (λ id. (id < length self.now.nodes) × (path_at self.now.nodes id ≡ path.now)) }
         ensures all { (id : ℕ) → id < length self.now.nodes → path_at self.now.nodes id ≡ path.now → result ≡ Some id }
@@ -254,7 +255,6 @@ impl Tree {
         }
     }
 
-    // A child was made after its parent.
     fn find_made(&self, path: &[u32]) -> Option<Id>
         ensures found { IfSome result (λ id. (id < length self.now.nodes) × (path_at self.now.nodes id ≡ path.now)) }
         ensures all { (id : ℕ) → id < length self.now.nodes → path_at self.now.nodes id ≡ path.now → result ≡ Some id }

@@ -12,7 +12,8 @@ use Rattle.clap.specs.declared.parser.matches.ArgMatches.TheViews.{out-ArgMatche
 use Rattle.clap.specs.declared.parser.matches.Found.{Found}
 use Rattle.clap.proofs.ValueTestLemmas.{Accepts-accepts, accepts-Accepts}
 use Rattle.clap.proofs.WalkLemmas.{first_value-rows, one_text-rows}
-use Rattle.cilk_words.specs.CommandLine.{Wanted, run, replayed, measured, debugged, is_set, number_to, request_for, request_of_any, run_of, wanted_of, word_of}
+use Rattle.cilk_words.specs.CommandLine.{Wanted, run, explored, replayed, measured, debugged, is_set, number_to, request_for, request_of_any}
+use Rattle.cilk_words.specs.CommandLine.{explore_of, run_of, wanted_of, word_of}
 
 -- ---- the subcommand that was met
 
@@ -112,6 +113,22 @@ no_end workers limit log seed runs n crew none = rw (crew, none) refl
 
 pub log_found : (f : Found) (log : Option Text) → log ≡ first_value f (codes "log") → log ≡ first_of (codes "log") (rows_of f)
 log_found f log is = rw (← first_value-rows f (codes "log")) is
+
+-- ---- an exploration
+
+pub explore_given : (workers limit logs : Option Text) (n k : ℕ) → option_and_then (number_to (2 ^ 8 - 1)) workers ≡ Some n
+    → option_and_then (number_to (2 ^ 32 - 1)) limit ≡ Some k → explore_of workers limit logs ≡ Some (explored n k logs)
+explore_given workers limit logs n k crew within = rw (crew, within) refl
+
+pub explored_by_none : (workers limit logs : Option Text) → option_and_then (number_to (2 ^ 8 - 1)) workers ≡ None → explore_of workers limit logs ≡ None
+explored_by_none workers limit logs none = rw (none) refl
+
+pub explored_without_end : (workers limit logs : Option Text) (n : ℕ) → option_and_then (number_to (2 ^ 8 - 1)) workers ≡ Some n
+    → option_and_then (number_to (2 ^ 32 - 1)) limit ≡ None → explore_of workers limit logs ≡ None
+explored_without_end workers limit logs n crew none = rw (crew, none) refl
+
+pub logs_found : (f : Found) (logs : Option Text) → logs ≡ first_value f (codes "logs") → logs ≡ first_of (codes "logs") (rows_of f)
+logs_found f logs is = rw (← first_value-rows f (codes "logs")) is
 
 -- ---- the log of a replay
 

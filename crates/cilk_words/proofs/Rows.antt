@@ -5,7 +5,7 @@ use Rattle.clap.specs.Words.{Text, fault_of}
 use Rattle.clap.proofs.OnLiterals.{clap_on_literals}
 use Rattle.clap.specs.declared.error.kind.ErrorKind.TheVariants as kind
 use Rattle.cilk_words.specs.declared.clash.Clash.TheVariants as clash
-use Rattle.cilk_words.specs.CommandLine.{Asked, Wanted, printed, checked, run, replayed, measured, debugged, asked, command_line, clash_of, wished}
+use Rattle.cilk_words.specs.CommandLine.{Asked, Wanted, printed, checked, run, explored, replayed, measured, debugged, asked, command_line, clash_of, wished}
 use Rattle.cilk_words.specs.Refusing.{asks_for_help, asks_to_show}
 
 -- what is asked for without the flag, and with it
@@ -206,3 +206,31 @@ measures_a_log = refl
 measures_no_dash : option_and_then clash_of (wished (codes "cilk" ∷ codes "measure" ∷ codes "a" ∷ codes "-" ∷ [])) ≡ Some clash.DashAsLog
 unfolding clap_on_literals
 measures_no_dash = refl
+
+-- ---- explorations
+
+explores : asked (codes "cilk" ∷ codes "explore" ∷ codes "a" ∷ []) ≡ Some (briefly (explored 2 1000000 None) (codes "a"))
+unfolding clap_on_literals
+explores = refl
+
+explores_by_one : asked (codes "cilk" ∷ codes "explore" ∷ codes "-" ∷ codes "--workers" ∷ codes "1" ∷ codes "--limit" ∷ codes "50" ∷ [])
+    ≡ Some (briefly (explored 1 50 None) (codes "-"))
+unfolding clap_on_literals
+explores_by_one = refl
+
+explores_with_logs : asked (codes "cilk" ∷ codes "explore" ∷ codes "--logs" ∷ codes "d" ∷ codes "a" ∷ codes "--explain" ∷ [])
+    ≡ Some (at_length (explored 2 1000000 (Some (codes "d"))) (codes "a"))
+unfolding clap_on_literals
+explores_with_logs = refl
+
+explores_by_at_most_64 : fault_of command_line (codes "cilk" ∷ codes "explore" ∷ codes "--workers" ∷ codes "65" ∷ codes "a" ∷ []) ≡ kind.ValueValidation ∷ []
+unfolding clap_on_literals
+explores_by_at_most_64 = refl
+
+keeps_a_standing : fault_of command_line (codes "cilk" ∷ codes "explore" ∷ codes "--limit" ∷ codes "0" ∷ codes "a" ∷ []) ≡ kind.ValueValidation ∷ []
+unfolding clap_on_literals
+keeps_a_standing = refl
+
+explores_no_log : fault_of command_line (codes "cilk" ∷ codes "explore" ∷ codes "a" ∷ codes "--log" ∷ codes "g" ∷ []) ≡ kind.UnknownArgument ∷ []
+unfolding clap_on_literals
+explores_no_log = refl

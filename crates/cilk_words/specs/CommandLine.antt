@@ -52,6 +52,14 @@ seed_rule = option_rule (codes "seed") (Signed (pos 0) (pos 4294967295))
 abbrev pub runs_rule : Rule
 runs_rule = option_rule (codes "runs") (Signed (pos 1) (pos 1000000))
 
+-- the option that says how many workers an exploration is of: with two there are schedules to choose among
+abbrev pub crew_rule : Rule
+crew_rule = number_rule (codes "workers") (Signed (pos 1) (pos 64)) (codes "2")
+
+-- the option that names the folder to which the logs of an exploration are written
+abbrev pub logs_rule : Rule
+logs_rule = record (new_rule (codes "logs")) { long = Some (codes "logs"); value_names = 1; action = Some Set }
+
 -- the option that names the log to be written of a run
 abbrev pub written_rule : Rule
 written_rule = record (new_rule (codes "log")) { long = Some (codes "log"); value_names = 1; action = Some Set }
@@ -85,6 +93,10 @@ on_run =
     let limited = with_rule (with_rule (on_explained (codes "run")) workers_rule) limit_rule in
     with_rule (with_rule (with_rule limited seed_rule) runs_rule) written_rule
 
+-- an exploration, whose limit is one of standings
+abbrev pub on_explore : App
+on_explore = with_rule (with_rule (with_rule (on_explained (codes "explore")) crew_rule) limit_rule) logs_rule
+
 -- the program, which wants one of its subcommands
 abbrev pub bare : App
 bare = on_top (λ s. record s { subcommand_required = true; arg_required_else_help = true; has_version = true }) (new_app (codes "cilk"))
@@ -93,8 +105,8 @@ bare = on_top (λ s. record s { subcommand_required = true; arg_required_else_he
 abbrev pub command_line : App
 command_line =
     let front = with_subcommand (with_subcommand bare (on_explained (codes "print")).top) (on_explained (codes "check")).top in
-    let running = with_subcommand front on_run.top in
-    with_subcommand (with_subcommand (with_subcommand running (on_log (codes "replay")).top) on_measure.top) (on_log (codes "debug")).top
+    let exploring = with_subcommand (with_subcommand front on_run.top) on_explore.top in
+    with_subcommand (with_subcommand (with_subcommand exploring (on_log (codes "replay")).top) on_measure.top) (on_log (codes "debug")).top
 
 -- ---- what is wished
 
@@ -104,6 +116,8 @@ pub data Wanted : Type 0 where
   checked : Wanted
   -- run with so many workers for at most so many choices, with a log of this name or none, and by a seed or none; so many times, where that is said
   run : (workers limit : ℕ) (log : Option Text) (seed runs : Option ℕ) → Wanted
+  -- all outcomes told that so many workers come to, of at most so many standings, with their logs in a folder of this name or none
+  explored : (workers limit : ℕ) (logs : Option Text) → Wanted
   replayed : (log : Text) → Wanted
   measured : (log : Option Text) → Wanted
   debugged : (log : Text) → Wanted
@@ -126,15 +140,23 @@ abbrev pub run_in : List Row → Option Wanted
 run_in rows =
     run_of (one_of (codes "workers") rows) (one_of (codes "limit") rows) (first_of (codes "log") rows) (one_of (codes "seed") rows) (one_of (codes "runs") rows)
 
+-- an exploration by as many workers and of as many standings as two words say
+abbrev pub explore_of : Option Text → Option Text → Option Text → Option Wanted
+explore_of workers limit logs = option_and_then (λ n. option_map (λ k. explored n k logs) (word_of limit)) (option_and_then (number_to (2 ^ 8 - 1)) workers)
+
+abbrev pub explore_in : List Row → Option Wanted
+explore_in rows = explore_of (one_of (codes "workers") rows) (one_of (codes "limit") rows) (first_of (codes "logs") rows)
+
 -- what a subcommand of this name wants, with what was given to it
 abbrev pub wanted_of : Text → List Row → Option Wanted
 wanted_of name rows =
     if bytes_eq name (codes "print") then Some printed
     else (if bytes_eq name (codes "check") then Some checked
     else (if bytes_eq name (codes "run") then run_in rows
+    else (if bytes_eq name (codes "explore") then explore_in rows
     else (if bytes_eq name (codes "replay") then option_map replayed (first_of (codes "G") rows)
     else (if bytes_eq name (codes "measure") then Some (measured (first_of (codes "G") rows))
-    else (if bytes_eq name (codes "debug") then option_map debugged (first_of (codes "G") rows) else None)))))
+    else (if bytes_eq name (codes "debug") then option_map debugged (first_of (codes "G") rows) else None))))))
 
 -- a flag is given, by the text that stands for it
 abbrev pub is_set : Option Text → Bool
@@ -152,6 +174,7 @@ abbrev pub wanted_by : Task → Wanted
 wanted_by task.Print = printed
 wanted_by task.Check = checked
 wanted_by (task.Run workers limit log seed runs) = run workers limit (option_map (λ name. name.now) log) seed runs
+wanted_by (task.Explore workers limit logs) = explored workers limit (option_map (λ name. name.now) logs)
 wanted_by (task.Replay log) = replayed log.now
 wanted_by (task.Measure log) = measured (option_map (λ name. name.now) log)
 wanted_by (task.Debug log) = debugged log.now
@@ -210,6 +233,7 @@ abbrev pub clash_in : Wanted → Text → Option Clash
 clash_in printed name = None
 clash_in checked name = None
 clash_in (run workers limit log seed runs) name = run_clash log seed runs
+clash_in (explored workers limit logs) name = None
 clash_in (replayed log) name = log_clash log
 clash_in (measured log) name = option_and_then log_clash log
 clash_in (debugged log) name = if is_dash name then Some clash.DashAsProgram else log_clash log

@@ -2,8 +2,8 @@
 
 ghost use Rattle.std.specs.Prelude.{◌≡◌, IfOk, IsOkAnd, codes, false};
 ghost use Rattle.clap.specs.Words.{AddsArg, AddsSubcommand, FailsBy, app_of, fault_of, rule_of, subcommand_of, subcommand_rows_of};
-ghost use Rattle.cilk_words.specs.CommandLine.{bare, command_line, limit_rule, number_rule, on_explained, on_log, on_measure, on_run, on_text};
-ghost use Rattle.cilk_words.specs.CommandLine.{option_rule, runs_rule, seed_rule, texts_of, workers_rule};
+ghost use Rattle.cilk_words.specs.CommandLine.{bare, command_line, crew_rule, limit_rule, number_rule, on_explained, on_explore, on_log, on_measure};
+ghost use Rattle.cilk_words.specs.CommandLine.{on_run, on_text, option_rule, runs_rule, seed_rule, texts_of, workers_rule};
 
 use clap::builder::ValueParser;
 use clap::{Arg, ArgAction, ArgMatches, Command, Error, value_parser};
@@ -15,11 +15,14 @@ pub const FILE: &str = "F";
 /// The name of the argument that names a log.
 pub const LOG: &str = "G";
 
-/// The name of the argument that says how many choices a run may make.
+/// The name of the argument that says how many choices a run may make, or how many standings an exploration keeps.
 pub const LIMIT: &str = "limit";
 
 /// The name of the argument that names the log to be written of a run.
 pub const WRITTEN: &str = "log";
+
+/// The name of the argument that names the folder to which the logs of an exploration are written.
+pub const LOGS: &str = "logs";
 
 /// The name of the argument that names the schedule of a run.
 pub const SEED: &str = "seed";
@@ -30,7 +33,7 @@ pub const RUNS: &str = "runs";
 /// The name of the flag by which more is said of what is wrong.
 pub const EXPLAIN: &str = "explain";
 
-/// The name of the argument that says how many workers a run has.
+/// The name of the argument that says how many workers a run has, or an exploration is of.
 pub const WORKERS: &str = "workers";
 
 const VERSION: &str = "0.1.0";
@@ -45,15 +48,21 @@ A run:
                      tells which ends R runs have, 1 to 1,000,000, by S and the seeds behind it
   run F --workers N  has N workers, from 1 to 64 [default: 1]
 
+An exploration:
+  explore F --limit K    keeps at most K standings, from 1 to 10,000,000 [default: 1,000,000]
+  explore F --logs D     writes a log of each outcome to the folder D, as D/1.log
+  explore F --workers N  is of N workers, from 1 to 64 [default: 2]
+
 Exit status:
   0  done
   1  the program or the log is refused
   2  the command line is wrong
   3  the run ended with a trap
   4  the run is stuck
-  5  the run met its limit of choices
+  5  the run met its limit of choices, or the exploration its limit of standings
   6  memory has run out
-  7  a file cannot be read or written, or the input or the output failed";
+  7  a file cannot be read or written, or the input or the output failed
+  8  the exploration found several outcomes";
 
 // What the help of a session ends with.
 const COMMANDS: &str = "\
@@ -103,13 +112,14 @@ pub fn command<'a>(alloc: Global) -> Result<Command<'a>, AllocError>
     let check = on_explained(alloc, "check", "Says whether a program may be run", INPUT);
     let checking = with(printing, check)?;
     let running = with(checking, on_run(alloc))?;
+    let exploring = with(running, on_explore(alloc))?;
     let replay = on_log(
         alloc,
         "replay",
         "Makes the choices of a log again, and tells how they end",
         INPUT,
     );
-    let replaying = with(running, replay)?;
+    let replaying = with(exploring, replay)?;
     let measuring = with(replaying, on_measure(alloc))?;
     with(measuring, on_session(alloc))
 }
@@ -224,6 +234,21 @@ fn on_run<'a>(alloc: Global) -> Result<Command<'a>, AllocError>
     taking(tallied, log)
 }
 
+fn on_explore<'a>(alloc: Global) -> Result<Command<'a>, AllocError>
+    ensures { IfOk result (λ c. app_of c ≡ on_explore) }
+{
+    let about = "Tells all outcomes of a program, whatever schedule its workers take";
+    let explained = on_explained(alloc, "explore", about, INPUT);
+    let crewed = taking(explained, crew(alloc));
+    let limited = taking(crewed, standings(alloc));
+    let logs = Arg::new(alloc, LOGS)
+        .long(LOGS)
+        .value_name("D")
+        .action(ArgAction::Set)
+        .help("The folder to which a log of each outcome is written, as D/1.log");
+    taking(limited, logs)
+}
+
 // A command with one argument more.
 fn taking<'a>(
     command: Result<Command<'a>, AllocError>,
@@ -254,6 +279,28 @@ fn limit<'a>(alloc: Global) -> Arg<'a>
     let choices = value_parser!(u32).range(1..=10_000_000);
     number(alloc, LIMIT, "K", choices, "1000000").help(
         "At most so many choices are made, from 1 to 10,000,000",
+    )
+}
+
+// The option that says how many workers an exploration is of.
+fn crew<'a>(alloc: Global) -> Arg<'a>
+    ensures rule { rule_of result ≡ crew_rule }
+    ensures local { result.global ≡ false }
+{
+    let many = value_parser!(u8).range(1..=64);
+    number(alloc, WORKERS, "N", many, "2").help(
+        "How many workers the outcomes are of, from 1 to 64",
+    )
+}
+
+// The option that says how many standings an exploration keeps.
+fn standings<'a>(alloc: Global) -> Arg<'a>
+    ensures rule { rule_of result ≡ limit_rule }
+    ensures local { result.global ≡ false }
+{
+    let most = value_parser!(u32).range(1..=10_000_000);
+    number(alloc, LIMIT, "K", most, "1000000").help(
+        "At most so many standings are kept, from 1 to 10,000,000",
     )
 }
 

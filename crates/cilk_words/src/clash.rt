@@ -61,7 +61,7 @@ impl Clash {
         ensures { result ≡ clash_of (asked_by request.now) }
     {
         match request.task {
-            Task::Print | Task::Check => None,
+            Task::Print | Task::Check | Task::Explore { .. } => None,
             Task::Run {
                 log,
                 seed,

@@ -6,7 +6,9 @@ use std::alloc::{AllocError, Global};
 const ADVICE: &str = "  tip: to pass '";
 
 const OPTIONS: &str =
-    "  tip: an option stands behind its subcommand: --explain behind each, and --limit, --log, --runs, --seed and --workers behind run";
+    "  tip: an option stands behind its subcommand: --explain behind each, --limit, --log, --runs, --seed and --workers behind run";
+
+const MORE_OPTIONS: &str = ", and --limit, --logs and --workers behind explore";
 
 // What stands before the reason why a word is not the number of an option, and what is told behind it in place of that reason.
 const NUMBERS: [(&str, &str); 4] = [
@@ -35,7 +37,8 @@ pub(crate) fn plain(alloc: Global, text: &str) -> Result<String, AllocError> {
 
 fn push_plain(out: &mut String, line: &str) -> Result<(), AllocError> {
     if line.starts_with(ADVICE) {
-        return out.push_str(OPTIONS);
+        out.push_str(OPTIONS)?;
+        return out.push_str(MORE_OPTIONS);
     }
     for (front, told) in NUMBERS {
         if let Some((before, _)) = line.split_once(front) {

@@ -16,6 +16,13 @@ pub enum Task<'a> {
         seed: Option<u32>,
         runs: Option<u32>,
     },
+    /// To tell each outcome to which so many workers can come, by a search that keeps at most so many standings, and to write a log of each to the
+    /// folder of this name.
+    Explore {
+        workers: u8,
+        limit: u32,
+        logs: Option<&'a str>,
+    },
     /// To make the choices of the log of this name again.
     Replay {
         log: &'a str,

@@ -2,11 +2,11 @@
 
 ghost use Rattle.std.specs.Prelude.{◌≡◌, IfErr, IfOk, Some, codes, option_map};
 ghost use Rattle.clap.specs.Words.{found_of, one_of, rows_of, subcommand_rows_of};
-ghost use Rattle.cilk_words.specs.CommandLine.{asked, asked_by, is_set, request_of_any, run_in};
+ghost use Rattle.cilk_words.specs.CommandLine.{asked, asked_by, explore_in, is_set, request_of_any, run_in};
 ghost use Rattle.cilk_words.specs.CommandLine.{texts_of, wanted_by, wanted_of, word_of};
 ghost use Rattle.cilk_words.specs.Refusing.{IsNoRequest};
 
-use crate::arguments::{EXPLAIN, FILE, LIMIT, LOG, RUNS, SEED, WORKERS, WRITTEN, parse};
+use crate::arguments::{EXPLAIN, FILE, LIMIT, LOG, LOGS, RUNS, SEED, WORKERS, WRITTEN, parse};
 use crate::clash::Clash;
 use crate::refusal::NoRequest;
 use crate::request::{Request, Task};
@@ -53,6 +53,7 @@ fn task_named<'a>(name: &str, found: &ArgMatches<'a>) -> Option<Task<'a>>
         "print" => Some(Task::Print),
         "check" => Some(Task::Check),
         "run" => run_in(found),
+        "explore" => explore_in(found),
         "replay" => Some(Task::Replay {
             log: found.get_str(LOG)?,
         }),
@@ -77,6 +78,18 @@ fn run_in<'a>(found: &ArgMatches<'a>) -> Option<Task<'a>>
         log: found.get_str(WRITTEN),
         seed: word_in(found, SEED),
         runs: word_in(found, RUNS),
+    })
+}
+
+fn explore_in<'a>(found: &ArgMatches<'a>) -> Option<Task<'a>>
+    ensures { option_map wanted_by result ≡ explore_in (rows_of (found_of found.now)) }
+{
+    let workers: u8 = found.get_one(WORKERS)?;
+    let limit: u32 = found.get_one(LIMIT)?;
+    Some(Task::Explore {
+        workers,
+        limit,
+        logs: found.get_str(LOGS),
     })
 }
 

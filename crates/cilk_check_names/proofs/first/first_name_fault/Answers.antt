@@ -1,5 +1,5 @@
 use Rattle.cilk_check_scopes.proofs.Told.{none_is_told, first_is_told}
-use Rattle.cilk_check_scopes.specs.Names.{Faulty}
+use Rattle.cilk_check_scopes.specs.NameFaults.{Faulty}
 use Rattle.cilk_check_names.specs.Finds.{names_faults}
 use Rattle.cilk_check_names.proofs.Sound.{names_sound}
 use Rattle.cilk_check_names.proofs.Complete.{names_complete}

@@ -1,4 +1,4 @@
-use Rattle.cilk_parse.proofs.Places.{one_program}
+use Rattle.cilk_parse.proofs.FaultPlaces.{one_program}
 use Rattle.cilk_parse.proofs.laws.one_program_of_a_text.Goals as goal
 
 pub returns : goal.returns

@@ -1,5 +1,5 @@
 use Rattle.std.proofs.Common.{arith}
-use Rattle.cilk_parse.proofs.Places.{first_left}
+use Rattle.cilk_parse.proofs.FaultPlaces.{first_left}
 use Rattle.cilk_parse.proofs.program.place_left.Goals as goal
 
 pub returns-in-len1-up : goal.returns-in-len1-up

@@ -2,7 +2,7 @@ use Rattle.std.proofs.Common.{◌≤◌, length, inl, inr}
 use Rattle.std.proofs.lemmas.Bool.{cases_lt}
 use Rattle.cilk_lex.specs.lexeme.Lexing.{text_limit}
 use Rattle.cilk_lex.proofs.Within.{refused_within}
-use Rattle.cilk_parse.proofs.Places.{no_lex_fault, too_long_so}
+use Rattle.cilk_parse.proofs.FaultPlaces.{no_lex_fault, too_long_so}
 use Rattle.cilk_parse.proofs.program.read.Goals as goal
 
 pub returns-in-Err-clause-placed : goal.returns-in-Err-clause-placed

@@ -1,6 +1,6 @@
 use Rattle.std.proofs.Common.{ap, ◌∙◌}
 use Rattle.cilk_parse_rules.specs.declared.fault.ReadError.TheVariants as errors
-use Rattle.cilk_parse.proofs.Places.{unexpected_left, too_deep_left}
+use Rattle.cilk_parse.proofs.FaultPlaces.{unexpected_left, too_deep_left}
 use Rattle.cilk_parse.proofs.program.told.Goals as goal
 
 pub place_left-requires-clause-in_tokens : goal.place_left-requires-clause-in_tokens

@@ -1,5 +1,5 @@
 use Rattle.std.proofs.Common.{ap, inl, inr}
-use Rattle.cilk_program.proofs.Said.{no_trap}
+use Rattle.cilk_program.proofs.Said.{never_trapped, no_trap}
 use Rattle.cilk_program.proofs.task.perform.Goals as goal
 
 pub returns-in-Print-clause-done : goal.returns-in-Print-clause-done
@@ -41,6 +41,10 @@ returns-in-Run-clause-done g c = rw c.in-Run.is c.run_as_asked.ensures.done
 
 pub returns-in-Run-clause-begun : goal.returns-in-Run-clause-begun
 returns-in-Run-clause-begun g c = rw c.in-Run.is (λ none. c.run_as_asked.ensures.begun)
+
+pub returns-in-Explore-clause-explained : goal.returns-in-Explore-clause-explained
+returns-in-Explore-clause-explained g c = λ told.
+    never_trapped c.args.request.now.explain c.explore_named.result c.explore_named.ensures.untrapped told
 
 pub returns-in-Replay-clause-done : goal.returns-in-Replay-clause-done
 returns-in-Replay-clause-done g c = rw c.in-Replay.is c.replay_named.ensures.done

@@ -1,4 +1,4 @@
-use Rattle.cilk_machine.proofs.choices_laws.Newlines.{break-none, break-some}
+use Rattle.cilk_machine_choices.proofs.Newlines.{break-none, break-some}
 use Rattle.cilk_seed.proofs.telling.line_break.Goals as goal
 
 pub returns-in-Some-eq10 : goal.returns-in-Some-eq10

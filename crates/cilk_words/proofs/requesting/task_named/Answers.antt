@@ -7,6 +7,9 @@ use Rattle.cilk_words.proofs.requesting.task_named.Goals as goal
 pub returns-in-run : goal.returns-in-run
 returns-in-run c = rw (c.in-run.is) c.run_in.ensures
 
+pub returns-in-explore : goal.returns-in-explore
+returns-in-explore c = rw (c.in-explore.is) c.explore_in.ensures
+
 pub returns-in_err-get_str-in-replay : goal.returns-in_err-get_str-in-replay
 returns-in_err-get_str-in-replay c =
     rw (c.in-replay.is, replay_given (found_of c.args.found.now) None c.in_err-get_str-in-replay.ensures) (ap (option_map wanted_by) c.from_residual.ensures)

@@ -1,0 +1,125 @@
+-- What the parts of a search become while it looks at a log.
+use Rattle.std.proofs.Common.{◌≡◌, ◌≤◌, ◌+◌, inl, inr, ℕ, List, length, map, Some, refl}
+use Rattle.std.proofs.Common.{sym, ap, ◌∙◌}
+use Rattle.std.proofs.Common.{subst, arith, slice_get}
+use Rattle.cilk_machine.specs.labelled.Labelled.{Labelled}
+use Rattle.cilk_machine.specs.labelled.Bodies.{label}
+use Rattle.cilk_machine.specs.model.Choice.{Choice}
+use Rattle.cilk_explore_search.specs.explore.Search.{Told}
+use Rattle.cilk_explore.specs.declared.explorer.Explorer.{Explorer}
+use Rattle.cilk_explore.specs.Walks.{Walk}
+use Rattle.cilk_explore.specs.Telling.{told_by}
+use Rattle.cilk_explore_search.specs.Looking.{IsLooking, Extends, IsClosed, AreClosed, TellsOf}
+use Rattle.cilk_explore.specs.Exploring.{program_of, workers_of, IsPaired, IsBetween, AreFound, IsAt, KeepsBut, Grows}
+use Rattle.cilk_explore_search.proofs.Fronts.{get-front, get-cases}
+use Rattle.cilk_explore_search.proofs.Growing.{extends-none, extends-then, closed-more, looked-on, halted}
+
+-- logs that are longer by more of this length still lead somewhere
+pub found-more : (program : Labelled) (n depth : ℕ) (logs now : List (List Choice)) → AreFound program n depth logs → Extends program n depth logs now
+    → AreFound program n depth now
+found-more program n depth logs now found ext = record {
+  size = λ k log h.
+      elim (get-cases logs ext.more k log (sym (ap (λ (xs : List (List Choice)). slice_get xs k) ext.is) ∙ h)) [
+        | inl old ↦ found.size k log old
+        | inr new ↦ let size = (ext.each new.place log new.there).size in omega arith
+      ];
+  leads = λ k log h.
+      elim (get-cases logs ext.more k log (sym (ap (λ (xs : List (List Choice)). slice_get xs k) ext.is) ∙ h)) [
+        | inl old ↦ found.leads k log old
+        | inr new ↦ let one = ext.each new.place log new.there in (one.to, one.leads)
+      ];
+}
+
+-- one after the other
+pub grows-none : (depth : ℕ) (e : Explorer) → length e.store ≤ e.limit → KeepsBut depth e e
+grows-none depth e room = record {
+  walker = refl;
+  program = refl;
+  workers = refl;
+  told = refl;
+  limit = refl;
+  extends = extends-none (program_of e) (workers_of e) depth e.store;
+  room = room;
+}
+
+pub grows-then : (e f g : Explorer) → Grows e f → Grows f g → Grows e g
+grows-then e f g x y =
+    let other : Extends (program_of e) (workers_of e) (length e.walker.log + 1) f.store g.store =
+    subst (λ (walk : Walk). Extends (label walk.program) walk.workers (length walk.log + 1) f.store g.store) x.walker y.extends in
+    record {
+      walker = y.walker ∙ x.walker;
+      program = y.program ∙ x.program;
+      workers = y.workers ∙ x.workers;
+      told = y.told ∙ x.told;
+      limit = y.limit ∙ x.limit;
+      extends = extends-then (program_of e) (workers_of e) (length e.walker.log + 1) e.store f.store g.store x.extends other;
+      room = y.room;
+    }
+
+pub paired-on : (depth : ℕ) (e f : Explorer) → IsPaired e → KeepsBut depth e f → IsPaired f
+paired-on depth e f paired x = record {
+  program = x.program ∙ paired.program ∙ ap (λ (walk : Walk). walk.program) (sym x.walker);
+  workers = x.workers ∙ paired.workers ∙ ap (λ (walk : Walk). walk.workers) (sym x.walker);
+}
+
+pub at-on : (e f : Explorer) (number : ℕ) → IsAt e number → Grows e f → IsAt f number
+at-on e f number at x =
+    let found = found-more (program_of e) (workers_of e) (length e.walker.log + 1) e.store f.store at.found x.extends in
+    record {
+      paired = paired-on (length e.walker.log + 1) e f at.paired x;
+      there = ap (λ (xs : List (List Choice)). slice_get xs number) x.extends.is ∙ get-front e.store x.extends.more number e.walker.log at.there
+          ∙ ap (λ (walk : Walk). Some walk.log) (sym x.walker);
+      found = subst (λ (walk : Walk). AreFound (label walk.program) walk.workers (length walk.log + 1) f.store) (sym x.walker) found;
+      room = x.room;
+    }
+
+-- what was closed before is closed behind
+pub closed-on : (e f g : Explorer) (choice : Choice) → Grows e f → Grows f g → IsClosed (program_of e) (workers_of e) f.store e.walker.log choice
+    → IsClosed (program_of e) (workers_of e) g.store e.walker.log choice
+closed-on e f g choice x y closed =
+    closed-more (program_of e) (workers_of e) (length e.walker.log + 1) f.store g.store e.walker.log choice
+    (subst (λ (walk : Walk). Extends (label walk.program) walk.workers (length walk.log + 1) f.store g.store) x.walker y.extends) closed
+
+-- what is closed for one is closed for the one that it came from
+pub closed-for : (e f g : Explorer) (choice : Choice) → Grows e f → IsClosed (program_of f) (workers_of f) g.store f.walker.log choice
+    → IsClosed (program_of e) (workers_of e) g.store e.walker.log choice
+closed-for e f g choice x closed =
+    subst (λ (walk : Walk). IsClosed (label walk.program) walk.workers g.store walk.log choice) x.walker closed
+
+-- the log of this number is looked at, from e on: f stands there, g has told of it, and h has tried what is behind it
+module _ (f g h : Explorer) (number : ℕ) (at : IsAt f number) (between : IsBetween f number)
+    (tells : TellsOf (program_of f) (workers_of f) f.walker.log (map told_by f.told.items) (map told_by g.told.items)) (grows : Grows g h)
+    (walker : g.walker ≡ f.walker) (store : g.store ≡ f.store) where
+  ext : Extends (program_of f) (workers_of f) (length f.walker.log + 1) f.store h.store
+  ext = subst (λ (xs : List (List Choice)). Extends (program_of f) (workers_of f) (length f.walker.log + 1) xs h.store) store
+      (subst (λ (walk : Walk). Extends (label walk.program) walk.workers (length walk.log + 1) g.store h.store) walker grows.extends)
+
+  paired : IsPaired g → IsPaired h
+  paired p = paired-on (length g.walker.log + 1) g h p grows
+
+  same-walk : h.walker ≡ f.walker
+  same-walk = grows.walker ∙ walker
+
+  pub between-on : IsPaired g → AreClosed (program_of g) (workers_of g) h.store g.walker.log → IsBetween h (number + 1)
+  between-on p closed =
+      let shut : AreClosed (program_of f) (workers_of f) h.store f.walker.log =
+      subst (λ (walk : Walk). AreClosed (label walk.program) walk.workers h.store walk.log) walker closed in
+      let said : TellsOf (program_of f) (workers_of f) f.walker.log (map told_by f.told.items) (map told_by h.told.items) =
+      subst (λ (t : List Told). TellsOf (program_of f) (workers_of f) f.walker.log (map told_by f.told.items) t)
+      (ap (λ v. map told_by v.items) (sym grows.told)) tells in
+      record {
+        paired = paired p;
+        looking = subst (λ (walk : Walk). IsLooking (label walk.program) walk.workers h.store (number + 1) (map told_by h.told.items)) (sym same-walk)
+            (looked-on (program_of f) (workers_of f) f.store h.store number (map told_by f.told.items) (map told_by h.told.items) f.walker.log
+            between.looking at.there ext shut said);
+        room = grows.room;
+      }
+
+  pub between-halted : IsPaired g → g.told ≡ f.told → IsBetween h number
+  between-halted p told = record {
+    paired = paired p;
+    looking = subst (λ (walk : Walk). IsLooking (label walk.program) walk.workers h.store number (map told_by h.told.items)) (sym same-walk)
+        (subst (λ (t : List Told). IsLooking (program_of f) (workers_of f) h.store number t) (ap (λ v. map told_by v.items) (sym (grows.told ∙ told)))
+        (halted (program_of f) (workers_of f) f.store h.store number (map told_by f.told.items) f.walker.log between.looking at.there ext));
+    room = grows.room;
+  }

@@ -1,0 +1,23 @@
+//! The state of a search: two machines of the program, the logs that were found, and what is told.
+
+use crate::store::Store;
+use crate::told::Told;
+use crate::walker::Walker;
+use cilk_machine::Choice;
+use std::alloc::Global;
+
+/// A search for the endings of a program.
+#[derive(Drop)]
+pub(crate) struct Explorer {
+    pub alloc: Global,
+    /// It stands at the log that is looked at, or one choice behind it.
+    pub walker: Walker,
+    /// It goes to earlier logs, which are compared.
+    pub probe: Walker,
+    pub store: Store,
+    /// Room for a log that is read.
+    pub log: Vec<Choice>,
+    pub told: Vec<Told>,
+    /// How many logs are kept at most.
+    pub limit: usize,
+}

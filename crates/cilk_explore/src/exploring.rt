@@ -1,0 +1,139 @@
+//! The search itself: a shorter log before a longer one, until all that was found was looked at, or the limit is met.
+
+ghost use Rattle.std.specs.Prelude.{◌≡◌, ◌<◌, ◌≤◌, ◌⊎◌, ◌↔◌, ◌^◌, ℕ, true, false, length, Ok, Err, IfOk, OnOk};
+ghost use Rattle.cilk_explore.specs.Exploring.{IsBetween, IsExploration, GoesOn};
+
+use crate::exploration::Exploration;
+use crate::explorer::Explorer;
+use crate::looking::look_at;
+use crate::store::Store;
+use crate::walker::Walker;
+use cilk_machine::{Loaded, MachineFault, Memory};
+use std::alloc::Global;
+
+/// Tells each ending that the program has with so many workers, in the order in which they are found, each with a schedule than which none is
+/// shorter. It keeps no more than `limit` standings, which is at least 1; where that is met, not all may have been looked at.
+pub fn explore(
+    alloc: Global,
+    program: &Loaded,
+    workers: u8,
+    limit: u32,
+) -> Result<Exploration, MachineFault>
+    ensures workers { (result ≡ Err MachineFault.Workers) ↔ ((workers ≡ 0) ⊎ (64 < workers)) }
+    ensures found { IfOk result (IsExploration program.now workers limit) }
+{
+    if workers == 0 || 64 < workers {
+        return Err(MachineFault::Workers);
+    }
+    match explored(alloc, program, workers, limit) {
+        Err(memory) => Err(MachineFault::Memory(memory)),
+        Ok(exploration) => Ok(exploration),
+    }
+}
+
+fn explored(alloc: Global, program: &Loaded, workers: u8, limit: u32) -> Result<Exploration, Memory>
+    ensures { IfOk result (IsExploration program.now workers limit) }
+{
+    if limit == 0 {
+        return Ok(Exploration {
+            told: Vec::new(alloc),
+            whole: false,
+            standings: 0,
+        });
+    }
+    match begun(alloc, program, workers, limit) {
+        Err(memory) => Err(memory),
+        Ok(mut explorer) => match look_at_all(&mut explorer, workers) {
+            Err(memory) => {
+                drop(explorer);
+                Err(memory)
+            }
+            Ok(whole) => Ok(told_of(explorer, whole)),
+        },
+    }
+}
+
+// A search that has looked at nothing yet.
+fn begun(alloc: Global, program: &Loaded, workers: u8, limit: u32) -> Result<Explorer, Memory>
+    requires { 1 ≤ limit }
+    ensures between { IfOk result (λ e. IsBetween e 0) }
+    ensures program { IfOk result (λ e. e.walker.program ≡ program.now) }
+    ensures workers { IfOk result (λ e. e.walker.workers ≡ workers) }
+    ensures limit { IfOk result (λ e. e.limit ≡ limit) }
+{
+    let walker = match Walker::new(alloc, program, workers) {
+        Ok(walker) => walker,
+        Err(memory) => return Err(memory),
+    };
+    let probe = match Walker::new(alloc, program, workers) {
+        Ok(probe) => probe,
+        Err(memory) => {
+            drop(walker);
+            return Err(memory);
+        }
+    };
+    // Brings its clauses into the proof.
+    let _log = walker.log();
+    let store = match Store::new(alloc, walker.digest()) {
+        Ok(store) => store,
+        Err(memory) => {
+            drop(walker);
+            drop(probe);
+            return Err(memory);
+        }
+    };
+    Ok(Explorer {
+        alloc,
+        walker,
+        probe,
+        store,
+        log: Vec::new(alloc),
+        told: Vec::new(alloc),
+        limit: limit as usize,
+    })
+}
+
+// Looks at one log after another. Whether all that were found were looked at.
+fn look_at_all(explorer: &mut Explorer, workers: u8) -> Result<bool, Memory>
+    requires between { IsBetween explorer.old 0 }
+    requires crew { workers ≡ explorer.old.walker.workers }
+    ensures looked { OnOk result ((looked : ℕ) × IsBetween explorer.new looked) }
+    ensures all { result ≡ Ok true → (looked : ℕ) × IsBetween explorer.new looked × (length explorer.new.store ≤ looked) }
+    ensures met { result ≡ Ok false → explorer.new.limit ≤ length explorer.new.store }
+    ensures goes { OnOk result (GoesOn explorer.old explorer.new) }
+{
+    for looked in 0..explorer.limit {
+        if explorer.store.len() <= looked {
+            return Ok(true);
+        }
+        match look_at(explorer, looked, workers) {
+            Err(memory) => return Err(memory),
+            Ok(false) => return Ok(false),
+            Ok(true) => {}
+        }
+    }
+    Ok(true)
+}
+
+fn told_of(explorer: Explorer, whole: bool) -> Exploration
+    requires { length explorer.store < 2 ^ 32 }
+    ensures told { result.told ≡ explorer.told }
+    ensures whole { result.whole ≡ whole }
+    ensures standings { result.standings ≡ length explorer.store }
+{
+    let standings = explorer.store.len() as u32;
+    let Explorer {
+        alloc: _,
+        walker: _walker,
+        probe: _probe,
+        store: _store,
+        log: _log,
+        told,
+        limit: _,
+    } = explorer;
+    Exploration {
+        told,
+        whole,
+        standings,
+    }
+}

@@ -1,0 +1,18 @@
+//! All endings that a program has with so many workers, whatever schedule these take.
+#![tactic(auto)]
+
+mod comparing;
+mod exploration;
+mod explorer;
+mod exploring;
+mod looking;
+mod node;
+mod store;
+mod telling;
+mod told;
+mod walker;
+
+pub use cilk_machine::{Choice, End, Loaded, MachineFault};
+pub use exploration::Exploration;
+pub use exploring::explore;
+pub use told::Told;

@@ -1,0 +1,175 @@
+//! One log is looked at: what is told of it, and where each choice behind it leads.
+
+ghost use Rattle.std.specs.Prelude.{ℕ, ◌≡◌, ◌<◌, ◌≤◌, ◌+◌, true, false, length, Ok, OnOk};
+ghost use Rattle.cilk_machine.specs.labelled.Bodies.{label};
+ghost use Rattle.cilk_machine.specs.model.Choice as choices;
+ghost use Rattle.cilk_machine.specs.choices.Words.{choice_of};
+ghost use Rattle.cilk_explore_search.specs.Looking.{IsClosed, AreClosedBy, AreClosed};
+ghost use Rattle.cilk_explore.specs.Exploring.{IsAt, IsBehind, IsBetween, IsKnown, Grows, GoesOn, KeepsAs};
+
+use crate::comparing::is_known;
+use crate::explorer::Explorer;
+use crate::telling::tell;
+use cilk_machine::{Act, Choice, Memory};
+
+/// Looks at the log of this number. False where more is behind it than there is room for.
+pub(crate) fn look_at(explorer: &mut Explorer, number: usize, workers: u8) -> Result<bool, Memory>
+    requires between { IsBetween explorer.old number }
+    requires there { number < length explorer.old.store }
+    requires crew { workers ≡ explorer.old.walker.workers }
+    ensures looked { result ≡ Ok true → IsBetween explorer.new (number + 1) }
+    ensures stopped { result ≡ Ok false → IsBetween explorer.new number }
+    ensures full { result ≡ Ok false → explorer.new.limit ≤ length explorer.new.store }
+    ensures goes { OnOk result (GoesOn explorer.old explorer.new) }
+{
+    match go_there(explorer, number) {
+        Err(memory) => Err(memory),
+        Ok(()) => match tell(explorer.alloc, &explorer.walker, &mut explorer.told) {
+            Err(memory) => Err(memory),
+            Ok(true) => Ok(true),
+            Ok(false) => try_all(explorer, number, workers),
+        },
+    }
+}
+
+// Goes to where the log leads.
+fn go_there(explorer: &mut Explorer, number: usize) -> Result<(), Memory>
+    requires between { IsBetween explorer.old number }
+    requires there { number < length explorer.old.store }
+    ensures at { OnOk result (IsAt explorer.new number) }
+    ensures between { OnOk result (IsBetween explorer.new number) }
+    ensures goes { OnOk result (GoesOn explorer.old explorer.new) }
+{
+    match explorer.store.read(number, &mut explorer.log) {
+        Err(memory) => Err(memory),
+        Ok(()) => explorer.walker.go_to(explorer.log.as_slice()),
+    }
+}
+
+// Tries each choice behind the log.
+fn try_all(explorer: &mut Explorer, number: usize, workers: u8) -> Result<bool, Memory>
+    requires at { IsAt explorer.old number }
+    requires crew { workers ≡ explorer.old.walker.workers }
+    ensures grows { OnOk result (Grows explorer.old explorer.new) }
+    ensures closed { result ≡ Ok true
+        → AreClosed (label explorer.old.walker.program) explorer.old.walker.workers explorer.new.store explorer.old.walker.log }
+    ensures full { result ≡ Ok false → explorer.new.limit ≤ length explorer.new.store }
+{
+    for k in 0..workers {
+        match try_by(explorer, number, k + 1, workers) {
+            Err(memory) => return Err(memory),
+            Ok(false) => return Ok(false),
+            Ok(true) => {}
+        }
+    }
+    Ok(true)
+}
+
+// Tries each choice of a worker.
+fn try_by(explorer: &mut Explorer, number: usize, worker: u8, workers: u8) -> Result<bool, Memory>
+    requires at { IsAt explorer.old number }
+    requires crew { workers ≡ explorer.old.walker.workers }
+    ensures grows { OnOk result (Grows explorer.old explorer.new) }
+    ensures closed { result ≡ Ok true
+        → AreClosedBy (label explorer.old.walker.program) explorer.old.walker.workers explorer.new.store explorer.old.walker.log worker }
+    ensures full { result ≡ Ok false → explorer.new.limit ≤ length explorer.new.store }
+{
+    let step = Choice {
+        worker,
+        act: Act::Step,
+    };
+    let pop = Choice {
+        worker,
+        act: Act::Pop,
+    };
+    match try_choice(explorer, number, step) {
+        Err(memory) => Err(memory),
+        Ok(false) => Ok(false),
+        Ok(true) => match try_choice(explorer, number, pop) {
+            Err(memory) => Err(memory),
+            Ok(false) => Ok(false),
+            Ok(true) => try_steals(explorer, number, worker, workers),
+        },
+    }
+}
+
+// Tries each steal of a worker.
+fn try_steals(
+    explorer: &mut Explorer,
+    number: usize,
+    worker: u8,
+    workers: u8,
+) -> Result<bool, Memory>
+    requires at { IsAt explorer.old number }
+    requires crew { workers ≡ explorer.old.walker.workers }
+    ensures grows { OnOk result (Grows explorer.old explorer.new) }
+    ensures closed { result ≡ Ok true → (v : ℕ) → 1 ≤ v → v ≤ explorer.old.walker.workers
+        → IsClosed (label explorer.old.walker.program) explorer.old.walker.workers explorer.new.store explorer.old.walker.log
+        (record { worker = worker; act = choices.steal v }) }
+    ensures full { result ≡ Ok false → explorer.new.limit ≤ length explorer.new.store }
+{
+    for k in 0..workers {
+        let steal = Choice {
+            worker,
+            act: Act::Steal(k + 1),
+        };
+        match try_choice(explorer, number, steal) {
+            Err(memory) => return Err(memory),
+            Ok(false) => return Ok(false),
+            Ok(true) => {}
+        }
+    }
+    Ok(true)
+}
+
+// Makes a choice, if it is possible, keeps where it leads, if that is new, and takes it back. False where there is no room.
+fn try_choice(explorer: &mut Explorer, number: usize, choice: Choice) -> Result<bool, Memory>
+    requires { IsAt explorer.old number }
+    ensures grows { OnOk result (Grows explorer.old explorer.new) }
+    ensures closed { result ≡ Ok true
+        → IsClosed (label explorer.old.walker.program) explorer.old.walker.workers explorer.new.store explorer.old.walker.log (choice_of choice) }
+    ensures full { result ≡ Ok false → explorer.new.limit ≤ length explorer.new.store }
+{
+    match explorer.walker.make(choice) {
+        Err(memory) => Err(memory),
+        Ok(false) => Ok(true),
+        Ok(true) => match keep(explorer, number, choice) {
+            Err(memory) => Err(memory),
+            Ok(kept) => match explorer.walker.back() {
+                Err(memory) => Err(memory),
+                Ok(()) => Ok(kept),
+            },
+        },
+    }
+}
+
+// Keeps where the walker stands, which is one choice behind the log of this number, if that is new. False where there is no room.
+fn keep(explorer: &mut Explorer, number: usize, choice: Choice) -> Result<bool, Memory>
+    requires { IsBehind explorer.old number (choice_of choice) }
+    ensures keeps { OnOk result (KeepsAs explorer.old explorer.new) }
+    ensures known { result ≡ Ok true → IsKnown explorer.new }
+    ensures full { result ≡ Ok false → explorer.new.limit ≤ length explorer.new.store }
+{
+    // Brings its clauses into the proof.
+    let _log = explorer.walker.log();
+    let digest = explorer.walker.digest();
+    match is_known(
+        digest,
+        &explorer.walker,
+        &mut explorer.probe,
+        &explorer.store,
+        &mut explorer.log,
+    ) {
+        Err(memory) => Err(memory),
+        Ok(true) => Ok(true),
+        Ok(false) => {
+            if explorer.limit <= explorer.store.len() {
+                return Ok(false);
+            }
+            match explorer.store.push(number, choice, digest) {
+                Err(memory) => Err(memory),
+                Ok(()) => Ok(true),
+            }
+        }
+    }
+}

@@ -1,0 +1,130 @@
+//! The logs that a search has found, each kept as the choice that it has more than an earlier one.
+
+ghost use Rattle.std.specs.Prelude.{◌≡◌, ◌<◌, ◌++◌, ◌∷◌, [], length, map, Some, IfOk, IfSome, OnErr, OnOk, slice_get, slice_index_or};
+ghost use Rattle.cilk_machine.specs.choices.Words.{choice_of};
+
+use crate::node::Node;
+use cilk_machine::{Act, Choice, Memory};
+use std::alloc::{AllocError, Global};
+use std::collections::HashMap;
+use std::marker::Model;
+
+/// The logs, numbered from 0 in the order in which they were found. A table leads from the digest of a standing to the last node that has it.
+#[derive(Drop)]
+pub(crate) struct Store {
+    nodes: Vec<Node>,
+    latest: HashMap<u64, u32>,
+}
+
+impl Model for Store {
+    ghost use Rattle.std.specs.Prelude.{List};
+    ghost use Rattle.cilk_machine.specs.model.Choice as choices;
+
+    ghost Value = { List (List choices.Choice) };
+
+    ghost use Rattle.cilk_explore.specs.Logs.{logs_of, AreGrown};
+
+    ghost view = { λ s. logs_of s.nodes.items };
+
+    ghost invariant = { λ s. AreGrown s.nodes.items };
+}
+
+impl Store {
+    /// The log without choices alone, which leads to a standing of this digest.
+    pub fn new(alloc: Global, digest: u64) -> Result<Store, Memory>
+        ensures { IfOk result (λ s. s ≡ [] ∷ []) }
+    {
+        let mut nodes = Vec::new(alloc);
+        let mut latest = HashMap::new(alloc);
+        let first = Node {
+            parent: 0,
+            before: 0,
+            choice: Choice {
+                worker: 0,
+                act: Act::Step,
+            },
+        };
+        latest.insert(digest, 0)?;
+        nodes.push(first)?;
+        Ok(Store { nodes, latest })
+    }
+
+    /// How many there are.
+    pub fn len(&self) -> usize
+        ensures { result ≡ length self.now }
+    {
+        self.nodes.len()
+    }
+
+    /// Puts the log of this number in place of another.
+    pub fn read(&self, number: usize, log: &mut Vec<Choice>) -> Result<(), Memory>
+        requires { number < length self.now }
+        ensures { OnOk result (slice_get self.now number ≡ Some (map choice_of log.new.items)) }
+    {
+        log.clear();
+        let mut at = number;
+        while at != 0 {
+            let node = self.nodes[at];
+            log.push(node.choice)?;
+            at = node.parent as usize;
+        }
+        log.reverse();
+        Ok(())
+    }
+
+    /// One log more: that of this number, and a choice. It leads to a standing of this digest.
+    pub fn push(&mut self, parent: usize, choice: Choice, digest: u64) -> Result<(), Memory>
+        requires { parent < length self.old }
+        ensures more { OnOk result (self.new ≡ self.old ++ (slice_index_or self.old parent [] ++ choice_of choice ∷ []) ∷ []) }
+        ensures same { OnErr result (self.new ≡ self.old) }
+    {
+        let number = self.nodes.len();
+        if u32::MAX as usize <= number {
+            return Err(Memory::from(AllocError));
+        }
+        if self.nodes.reserve(1).is_err() {
+            return Err(Memory::from(AllocError));
+        }
+        let own = number as u32;
+        let before = self.latest.get(&digest).copied().unwrap_or(own);
+        if self.latest.insert(digest, own).is_err() {
+            return Err(Memory::from(AllocError));
+        }
+        self.nodes.push_reserved(Node {
+            parent: parent as u32,
+            before,
+            choice,
+        });
+        Ok(())
+    }
+
+    /// The last log that leads to a standing of this digest.
+    pub fn last_of(&self, digest: u64) -> Option<usize>
+        ensures { IfSome result (λ k. k < length self.now) }
+    {
+        match self.latest.get(&digest) {
+            None => None,
+            Some(number) => {
+                let last = *number as usize;
+                if last < self.nodes.len() {
+                    Some(last)
+                } else {
+                    None
+                }
+            }
+        }
+    }
+
+    /// The one before it of that digest.
+    pub fn before(&self, number: usize) -> Option<usize>
+        ensures there { IfSome result (λ k. k < length self.now) }
+        ensures less { IfSome result (λ k. k < number) }
+    {
+        if self.nodes.len() <= number {
+            return None;
+        }
+        let node = self.nodes[number];
+        let before = node.before as usize;
+        if before < number { Some(before) } else { None }
+    }
+}

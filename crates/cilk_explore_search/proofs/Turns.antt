@@ -1,0 +1,93 @@
+-- Which choices may be possible behind a log, and a search at its start.
+use Rattle.std.proofs.Common.{◌≡◌, ◌≤◌, ℕ, List, [], ◌∷◌, ◌++◌, length, Option, Some, None, refl, sym, ap, ◌∙◌}
+use Rattle.std.proofs.Common.{arith}
+use Rattle.cilk_explore_model.specs.labelled.Labelled.{Labelled}
+use Rattle.cilk_explore_model.specs.model.Choice.{step, pop, steal, Choice}
+use Rattle.cilk_explore_model.specs.model.Run.{Position, after, refusal_of, one_more, position_after}
+use Rattle.cilk_explore_model.proofs.runs_laws.model_laws.Runs.{after-push}
+use Rattle.cilk_explore_model.proofs.runs_laws.Crew.{crew_stays}
+use Rattle.cilk_explore_model.proofs.runs_laws.Hands.{steal_free}
+use Rattle.cilk_explore_model.proofs.runs_laws.Possible.{possible}
+use Rattle.cilk_explore_model.proofs.runs_laws.Stuck.{within}
+use Rattle.cilk_explore_model.specs.Ending.{IsOver}
+use Rattle.cilk_explore_model.proofs.Onward.{free_by}
+use Rattle.cilk_explore_search.specs.Looking.{IsLooking, IsClosed, AreClosedBy, AreClosed}
+use Rattle.cilk_explore_search.proofs.Fronts.{one-there}
+
+module _ (program : Labelled) (n : ℕ) (log : List Choice) where
+  -- where the last choice was made
+  pub record From (choice : Choice) : Type 0 where
+    pub before : Position
+    pub leads : after program n log ≡ Some before
+    pub free : refusal_of program before.standing choice ≡ None
+
+  from_by : (choice : Choice) (at : Position) (o : Option Position) → after program n log ≡ o → one_more program choice o ≡ Some at → From choice
+  from_by choice at None e h = cc
+  from_by choice at (Some x) e h =
+      record { before = x; leads = e; free = free_by (refusal_of program x.standing choice) (Some (position_after program x choice)) at h }
+
+  pub made-from : (choice : Choice) (at : Position) → after program n (log ++ choice ∷ []) ≡ Some at → From choice
+  made-from choice at h = from_by choice at (after program n log) refl (sym (after-push program n log choice) ∙ h)
+
+  -- only a worker makes a choice
+  pub worker-within : (choice : Choice) (at : Position) → after program n (log ++ choice ∷ []) ≡ Some at → (1 ≤ choice.worker) × (choice.worker ≤ n)
+  worker-within choice at h =
+      let from = made-from choice at h in
+      let crew = crew_stays program n log from.before from.leads in
+      let inside = within from.before.standing.scheduler.places choice.worker (possible program from.before.standing choice from.free).worker in
+      (inside.0, omega (arith, crew, inside.1))
+
+  -- and steals from one
+  pub victim-within : (w v : ℕ) (at : Position) → after program n (log ++ record { worker = w; act = steal v } ∷ []) ≡ Some at → (1 ≤ v) × (v ≤ n)
+  victim-within w v at h =
+      let choice : Choice = record { worker = w; act = steal v } in
+      let from = made-from choice at h in
+      let crew = crew_stays program n log from.before from.leads in
+      let act = (possible program from.before.standing choice from.free).act in
+      let inside = within from.before.standing.scheduler.places v (steal_free from.before.standing.scheduler.places w v act).victim in
+      (inside.0, omega (arith, crew, inside.1))
+
+  -- where none is possible all is closed
+  pub over-closed : (logs : List (List Choice)) → ((at : Position) → after program n log ≡ Some at → IsOver program at.standing)
+      → AreClosed program n logs log
+  over-closed logs over choice at h =
+      let from = made-from choice at h in
+      absurd (over from.before from.leads choice from.free)
+
+  pub closed-acts : (logs : List (List Choice)) (w : ℕ) → IsClosed program n logs log (record { worker = w; act = step })
+      → IsClosed program n logs log (record { worker = w; act = pop })
+      → ((v : ℕ) → 1 ≤ v → v ≤ n → IsClosed program n logs log (record { worker = w; act = steal v })) → AreClosedBy program n logs log w
+  closed-acts logs w steps pops steals step = steps
+  closed-acts logs w steps pops steals pop = pops
+  closed-acts logs w steps pops steals (steal v) = λ at h.
+      let inside = victim-within w v at h in
+      steals v inside.0 inside.1 at h
+
+  pub closed-all : (logs : List (List Choice)) → ((w : ℕ) → 1 ≤ w → w ≤ n → AreClosedBy program n logs log w) → AreClosed program n logs log
+  closed-all logs by choice at h =
+      let inside = worker-within choice at h in
+      by choice.worker inside.0 inside.1 choice.act at h
+
+-- the log without choices alone
+pub looks-first : (program : Labelled) (n : ℕ) (at : Position) → after program n [] ≡ Some at → IsLooking program n ([] ∷ []) 0 []
+looks-first program n at leads = record {
+  search = record {
+    first = refl;
+    leads = λ k log h. let one = one-there [] log k h in (at, ap (after program n) (sym one.1) ∙ leads);
+    in_order = λ j k short long le hj hk.
+        let one = one-there [] short j hj in
+        let other = one-there [] long k hk in
+        let size : length short ≡ 0 = ap length (sym one.1) in
+        omega arith;
+    closed = λ k log choice to lt h after. absurd (omega (arith, lt));
+  };
+  near = λ j log next hj hn.
+      let one = one-there [] log j hj in
+      let size : length log ≡ 0 = ap length (sym one.1) in
+      omega arith;
+  tells = record {
+    looked = λ j entry h. cc;
+    each = λ k log ending lt h leads. absurd (omega (arith, lt));
+    once = λ i j one other hi hj same. cc;
+  };
+}

@@ -1,0 +1,3 @@
+pub mod Looking
+pub mod Laws
+pub use Rattle.cilk_explore_model.specs as explore

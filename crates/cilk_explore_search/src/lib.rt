@@ -1,0 +1,6 @@
+//! How a search for all endings goes from one log to the next. Definitions and laws alone.
+#![tactic(auto)]
+
+mod laws;
+
+pub use laws::{a_search_begins, a_search_goes_on, a_search_is_halted, only_workers_choose};

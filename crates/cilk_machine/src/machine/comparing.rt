@@ -1,0 +1,102 @@
+//! Whether two machines stand at the same, and a number that tells apart where they stand.
+
+ghost use Rattle.std.specs.Prelude.{◌≡◌, true, map};
+ghost use Rattle.cilk_machine_undo.specs.agree.Outside.{lock_by};
+ghost use Rattle.cilk_machine_undo.specs.spawn.Nodes.{path_at};
+ghost use Rattle.cilk_machine_choices.specs.model.Run.{Standing};
+ghost use Rattle.cilk_machine_same.specs.Alike.{SameTree, SamePlaces};
+ghost use Rattle.cilk_machine_same.specs.explore.Same.{Same};
+ghost use Rattle.cilk_machine.specs.Stands.{StandsAt};
+
+use super::Machine;
+use crate::comparing::{
+    are_same_cells, are_same_hands, are_same_locks, is_same_outcome, is_same_output, mix_hands,
+    mix_locks, mix_outcome,
+};
+use cilk_machine_undo::Mixer;
+
+impl Machine {
+    /// Whether both stand at the same, as far as what follows can depend on it: fates, ids and how many choices were made do not matter. The other is
+    /// of the same program.
+    pub fn is_same(&self, other: &Machine) -> bool
+        requires { other.now.program ≡ self.now.program }
+        ensures { result ≡ true → (a b : Standing) → StandsAt self.now a → StandsAt other.now b → Same a b }
+    {
+        // Brings its clauses into the proof.
+        let _outcome = &self.outcome;
+        if !self.holds_the_same(other) {
+            return false;
+        }
+        self.lives_the_same(other)
+    }
+
+    // The cells, the output, the outcome and the locks.
+    fn holds_the_same(&self, other: &Machine) -> bool
+        ensures outcome { result ≡ true → self.now.outcome ≡ other.now.outcome }
+        ensures cells { result ≡ true → self.now.machine.outside.cells ≡ other.now.machine.outside.cells }
+        ensures output { result ≡ true → self.now.machine.outside.output ≡ other.now.machine.outside.output }
+        ensures locks { result ≡ true → map (lock_by (path_at self.now.machine.nodes)) self.now.machine.outside.locks
+            ≡ map (lock_by (path_at other.now.machine.nodes)) other.now.machine.outside.locks }
+    {
+        if !is_same_outcome(&self.outcome, &other.outcome) {
+            return false;
+        }
+        if !are_same_cells(
+            self.parts.globals.as_slice(),
+            other.parts.globals.as_slice(),
+        ) {
+            return false;
+        }
+        if !is_same_output(self.parts.output.as_slice(), other.parts.output.as_slice()) {
+            return false;
+        }
+        are_same_locks(
+            self.parts.locks.as_slice(),
+            &self.parts.tree,
+            other.parts.locks.as_slice(),
+            &other.parts.tree,
+        )
+    }
+
+    // The live instances, and what the workers have.
+    fn lives_the_same(&self, other: &Machine) -> bool
+        ensures tree { result ≡ true → SameTree self.now.machine.nodes other.now.machine.nodes }
+        ensures places { result ≡ true → SamePlaces self.now.machine.nodes other.now.machine.nodes self.now.machine.places other.now.machine.places }
+    {
+        if self.workers != other.workers {
+            return false;
+        }
+        if !self.parts.tree.is_same(&other.parts.tree) {
+            return false;
+        }
+        are_same_hands(
+            &self.parts.hands,
+            &self.parts.tree,
+            &other.parts.hands,
+            &other.parts.tree,
+            self.workers,
+        )
+    }
+
+    /// A number that is the same where machines stand at the same, and mostly another elsewhere. It promises nothing.
+    pub fn digest(&self) -> u64 {
+        let mut mixer = Mixer::new();
+        mix_outcome(&self.outcome, &mut mixer);
+        for cell in &self.parts.globals {
+            mixer.put_signed(*cell);
+        }
+        mixer.put(self.parts.output.len() as u64);
+        for byte in &self.parts.output {
+            mixer.put(*byte as u64);
+        }
+        mix_locks(self.parts.locks.as_slice(), &self.parts.tree, &mut mixer);
+        mix_hands(
+            &self.parts.hands,
+            &self.parts.tree,
+            self.workers,
+            &mut mixer,
+        );
+        self.parts.tree.mix(&mut mixer);
+        mixer.mixed()
+    }
+}

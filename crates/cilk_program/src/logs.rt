@@ -1,0 +1,103 @@
+//! The logs of an exploration: each is written as the one of a run is.
+
+ghost use Rattle.std.specs.Prelude.{◌≡◌, ◌≢◌, ℕ, Bool, true, map, Some, IfOk, IfErr, IfSome, OnOk};
+ghost use Rattle.cilk_commands.specs.ProgramText.{program_text};
+ghost use Rattle.cilk_commands.specs.syntax.Tree.{Program};
+ghost use Rattle.cilk_explore.specs.Telling.{told_by};
+ghost use Rattle.cilk_measure.specs.debug.log.Naming.{digest_of};
+ghost use Rattle.cilk_measure.specs.debug.log.Text.{log_text};
+ghost use Rattle.cilk_seed.specs.choices.Words.{choice_of};
+ghost use Rattle.cilk_program.specs.Exploring.{AreKept, logs_of, recorded, with_end};
+ghost use Rattle.cilk_program.specs.Unexplored.{IsOfLogs};
+
+use crate::folder::LogFolder;
+use crate::unexplored::Unexplored;
+use cilk_commands::{Failure, Loaded};
+use cilk_explore::{Choice, Told};
+use cilk_log::program_of;
+use cilk_measure::{Choices, Log, Memory, write_log};
+use std::alloc::{AllocError, Global};
+
+/// Keeps a log of each of these outcomes, by its number, where logs are wanted.
+pub(crate) fn keep_logs<F: LogFolder>(
+    alloc: Global,
+    program: &Loaded,
+    workers: u8,
+    told: &[Told],
+    folder: &mut F,
+) -> Result<(), Unexplored>
+    ensures kept { OnOk result (F.wanted folder.old ≡ true
+        → AreKept (logs_of program.now workers (map with_end (map told_by told.now))) (F.stored folder.new)) }
+    ensures err { IfErr result (IsOfLogs (F.wanted folder.old)) }
+{
+    if !folder.is_wanted() {
+        return Ok(());
+    }
+    let Ok(digest) = digest_of(program) else {
+        return Err(Unexplored::Program(Failure::Memory));
+    };
+    for k in 0..told.len() {
+        match keep_log(alloc, &digest, workers, &told[k], k as u64 + 1, folder) {
+            Ok(()) => {}
+            Err(why) => return Err(why),
+        }
+    }
+    Ok(())
+}
+
+fn digest_of(program: &Loaded) -> Result<[u8; 32], Memory>
+    ensures { IfOk result (λ digest. digest ≡ digest_of (program_text program.now)) }
+{
+    match program.text() {
+        Ok(text) => Ok(program_of(text.as_str())),
+        Err(memory) => Err(memory),
+    }
+}
+
+// Keeps the log of one.
+fn keep_log<F: LogFolder>(
+    alloc: Global,
+    digest: &[u8; 32],
+    workers: u8,
+    told: &Told,
+    number: u64,
+    folder: &mut F,
+) -> Result<(), Unexplored>
+    ensures kept { OnOk result ((program : Program) → digest.now ≡ digest_of (program_text program)
+        → IfSome (F.stored folder.new number) (λ bytes. bytes ≡ recorded program workers (told_by told.now).log)) }
+    ensures others { OnOk result ((k : ℕ) → k ≢ number → F.stored folder.new k ≡ F.stored folder.old k) }
+    ensures err { IfErr result (λ why. (wanted : Bool) → wanted ≡ true → IsOfLogs wanted why) }
+{
+    let Ok(text) = text_of_log(alloc, digest, workers, told.log.as_slice()) else {
+        return Err(Unexplored::Program(Failure::Memory));
+    };
+    match folder.store(number, text.as_slice()) {
+        Ok(()) => Ok(()),
+        Err(_) => Err(Unexplored::CannotKeep(number)),
+    }
+}
+
+// A log has fewer choices than standings were kept, and the words of the command line ask for no more of these than one tells, so it is memory that
+// is wanting where there is no text.
+fn text_of_log(
+    alloc: Global,
+    digest: &[u8; 32],
+    workers: u8,
+    choices: &[Choice],
+) -> Result<Vec<u8>, AllocError>
+    ensures { IfOk result (λ text. text.items
+        ≡ log_text (record { program = Some digest.now; workers = workers; choices = map choice_of choices.now })) }
+{
+    let copy = Vec::from_slice(alloc, choices)?;
+    let log = Log {
+        program: Some(*digest),
+        workers,
+        choices: Choices::of(copy),
+    };
+    let text = write_log(alloc, &log);
+    drop(log);
+    match text {
+        Ok(text) => Ok(text),
+        Err(_) => Err(AllocError),
+    }
+}

@@ -1,0 +1,101 @@
+//! How the outcomes of a program are told.
+
+ghost use Rattle.std.specs.Prelude.{◌≡◌, ◌++◌, IfOk, OnOk, length, map, string_bytes};
+ghost use Rattle.cilk_explore.specs.Telling.{told_by};
+ghost use Rattle.cilk_program.specs.Exploring.{ended_text, exploration_text, outcome_line, outcome_text, outcomes_text};
+ghost use Rattle.cilk_program.specs.Exploring.{plural, summary, whole_words, with_end};
+
+use cilk_explore::{Exploration, Told};
+use cilk_measure::Memory;
+use cilk_seed::ending;
+use std::alloc::{AllocError, Global};
+
+/// Each outcome, as a run with its log tells it, behind a line with its number; and at last how many there are, and whether all was looked at.
+pub(crate) fn text_of(
+    alloc: Global,
+    workers: u8,
+    exploration: &Exploration,
+) -> Result<Vec<u8>, Memory>
+    ensures { IfOk result (λ text. text.items
+        ≡ exploration_text workers exploration.now.whole (map with_end (map told_by exploration.now.told.items))) }
+{
+    let mut out = Vec::new(alloc);
+    match put_all(&mut out, workers, exploration) {
+        Ok(()) => Ok(out),
+        Err(memory) => {
+            drop(out);
+            Err(memory)
+        }
+    }
+}
+
+fn put_all(out: &mut Vec<u8>, workers: u8, exploration: &Exploration) -> Result<(), Memory>
+    ensures { OnOk result (out.new.items ≡ out.old.items
+        ++ exploration_text workers exploration.now.whole (map with_end (map told_by exploration.now.told.items))) }
+{
+    put_outcomes(out, exploration.told.as_slice())?;
+    let count = exploration.told.len() as u64;
+    let line = summary_of(*out.allocator(), exploration.whole, count, workers)?;
+    out.extend_from_slice(line.as_bytes())?;
+    Ok(())
+}
+
+fn put_outcomes(out: &mut Vec<u8>, told: &[Told]) -> Result<(), Memory>
+    ensures { OnOk result (out.new.items ≡ out.old.items ++ outcomes_text 1 (map with_end (map told_by told.now))) }
+{
+    for k in 0..told.len() {
+        put_outcome(out, k as u64 + 1, &told[k])?;
+    }
+    Ok(())
+}
+
+fn put_outcome(out: &mut Vec<u8>, number: u64, told: &Told) -> Result<(), Memory>
+    ensures { OnOk result (out.new.items ≡ out.old.items ++ outcome_text number (with_end (told_by told.now))) }
+{
+    let line = outcome_line(*out.allocator(), number, told.log.len() as u64)?;
+    out.extend_from_slice(line.as_bytes())?;
+    put_ending(out, told)
+}
+
+// What a run with that log tells.
+fn put_ending(out: &mut Vec<u8>, told: &Told) -> Result<(), Memory>
+    ensures { OnOk result (out.new.items ≡ out.old.items ++ ended_text (told_by told.now)) }
+{
+    let choices = told.log.len() as u64;
+    let text = ending(*out.allocator(), told.output.as_slice(), &told.end, choices)?;
+    out.extend_from_slice(text.as_slice())?;
+    Ok(())
+}
+
+fn outcome_line(alloc: Global, number: u64, choices: u64) -> Result<String, AllocError>
+    ensures { IfOk result (λ line. string_bytes line ≡ outcome_line number choices) }
+{
+    let behind = plural(choices);
+    format!(in alloc; "outcome {number}, {choices} choice{behind}\n")
+}
+
+fn summary_of(alloc: Global, is_whole: bool, count: u64, workers: u8) -> Result<String, AllocError>
+    ensures { IfOk result (λ line. string_bytes line ≡ summary is_whole count workers) }
+{
+    let front = whole_words(is_whole);
+    let behind = plural(count);
+    let last = plural(u64::from(workers));
+    format!(in alloc; "{front}{count} outcome{behind} of {workers} worker{last}\n")
+}
+
+fn whole_words(is_whole: bool) -> &'static str
+    ensures { result.now ≡ whole_words is_whole }
+{
+    if is_whole {
+        "all was looked at: "
+    } else {
+        "not all was looked at: "
+    }
+}
+
+// What stands behind a word of which there are so many.
+fn plural(count: u64) -> &'static str
+    ensures { result.now ≡ plural count }
+{
+    if count == 1 { "" } else { "s" }
+}

@@ -1,0 +1,33 @@
+use Rattle.std.proofs.Common.{◌∙◌, ap, codes, option_map, sym, Some}
+use Rattle.clap.specs.Words.{first_of, found_of, one_of, rows_of}
+use Rattle.cilk_words.specs.CommandLine.{explored, wanted_by}
+use Rattle.cilk_words.proofs.Requests.{explore_given, explored_by_none, explored_without_end, limit_read, logs_found, no_limit, no_workers, workers_read}
+use Rattle.cilk_words.proofs.requesting.explore_in.Goals as goal
+
+pub returns-in_err-workers : goal.returns-in_err-workers
+returns-in_err-workers c =
+    let f = found_of c.args.found.now in
+    let rows = rows_of f in
+    let none = no_workers f (λ t e. (c.in_err-workers.ensures.value t e).1.0) in
+    ap (option_map wanted_by) c.from_residual.ensures
+    ∙ sym (explored_by_none (one_of (codes "workers") rows) (one_of (codes "limit") rows) (first_of (codes "logs") rows) none)
+
+pub returns-in_err-limit : goal.returns-in_err-limit
+returns-in_err-limit c =
+    let f = found_of c.args.found.now in
+    let rows = rows_of f in
+    let crew = workers_read f c.in_ok-workers.workers c.in_ok-workers.ensures.none (λ t e. (c.in_ok-workers.ensures.value t e).0) in
+    let none = no_limit f (λ t e. (c.in_err-limit.ensures.value t e).1.0) in
+    ap (option_map wanted_by) c.from_residual-in_err-limit.ensures
+    ∙ sym (explored_without_end (one_of (codes "workers") rows) (one_of (codes "limit") rows) (first_of (codes "logs") rows) c.in_ok-workers.workers crew none)
+
+pub returns : goal.returns
+returns c =
+    let f = found_of c.args.found.now in
+    let rows = rows_of f in
+    let crew = workers_read f c.in_ok-workers.workers c.in_ok-workers.ensures.none (λ t e. (c.in_ok-workers.ensures.value t e).0) in
+    let within = limit_read f c.in_ok-limit.limit c.in_ok-limit.ensures.none (λ t e. (c.in_ok-limit.ensures.value t e).0) in
+    let logs = logs_found f (option_map (λ name. name.now) c.get_str.result) c.get_str.ensures in
+    (λ i. Some (explored c.in_ok-workers.workers c.in_ok-limit.limit (logs i)))
+    ∙ sym (explore_given (one_of (codes "workers") rows) (one_of (codes "limit") rows) (first_of (codes "logs") rows) c.in_ok-workers.workers
+    c.in_ok-limit.limit crew within)
