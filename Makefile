@@ -2,7 +2,7 @@
 
 sources := $(shell find crates \( -name out -o -name must-fail \) -prune -o -type f -print)
 
-.PHONY: help demo libraries test ways programs fuzz sweep memory must_not_compile costs wrong-bodies edge budget bench clean
+.PHONY: help demo libraries test ways programs second-way fuzz sweep memory must_not_compile costs wrong-bodies edge budget bench clean
 
 # Proves what ./cilk is made of, and builds it.
 cilk: crates.txt HANDLES $(sources)
@@ -42,6 +42,10 @@ programs: cilk
 	tools/broken_off ./cilk
 	tools/backwards ./cilk
 
+# Compares what ./cilk explore tells of the samples, or of programs in FOLDERS, and of WRITTEN (0) by chance, with lists of choices or seeds (docs/GATE.md).
+second-way: cilk
+	tools/second_way ./cilk $(if $(JOBS),--jobs $(JOBS)) $(if $(WRITTEN),--written $(WRITTEN)) $(FOLDERS)
+
 # Tries ./cilk for SECONDS (600) on inputs made by chance, from SEED (1) and by JOBS processes (one a processor); found/ gets what breaks a law (docs/GATE.md).
 fuzz: cilk
 	tools/fuzz ./cilk --seconds $(or $(SECONDS),600) --seed $(or $(SEED),1) $(if $(JOBS),--jobs $(JOBS))
@@ -70,13 +74,14 @@ edge: libraries
 budget:
 	tools/gate_budget
 
-# Measures ./cilk print beside gcc, ./cilk run and replay beside ocamldebug, logs beside sha256sum, and runs by several workers.
+# Measures ./cilk print beside gcc, run and replay beside ocamldebug, logs beside sha256sum, explore beside SPIN, and runs by several workers.
 bench: cilk
 	tools/bench ./cilk
 	tools/bench_runs ./cilk
 	tools/bench_back ./cilk
 	tools/bench_workers ./cilk
 	tools/bench_logs ./cilk
+	tools/bench_explore ./cilk
 
 # Removes the program and all that was proved.
 clean:

@@ -29,8 +29,8 @@ class Asked:
     fronts: set
 
     def is_shared(self):
-        """Whether several workers make it, so that its answer hangs on their turns."""
-        return "--workers" in self.words
+        """Whether several threads make it, so that its answer hangs on their turns. A seed names the turns."""
+        return "--workers" in self.words and "--seed" not in self.words
 
     def is_right(self, answer):
         if not self.is_shared():

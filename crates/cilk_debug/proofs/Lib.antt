@@ -1,10 +1,11 @@
-mod Naming
+pub mod Naming
 pub mod Ranges
 mod Rows
 pub mod Seen
 mod Sessions
 mod Commands
 mod Ends
+mod Sending
 pub mod Again
 pub mod Whole
 pub mod Found

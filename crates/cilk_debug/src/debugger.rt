@@ -8,18 +8,21 @@ ghost use Rattle.cilk_debug_console.specs.log.Naming.{is_of};
 ghost use Rattle.cilk_debug_console.specs.model.Run.{is_crew};
 ghost use Rattle.cilk_debug_console.specs.view.Words.{what_of};
 ghost use Rattle.cilk_debug.specs.Tape.{tape_of, IsPlayable};
-ghost use Rattle.cilk_debug.specs.Faults.{IsDebugFaultOf, IsNamedDebugFaultOf};
+ghost use Rattle.cilk_debug.specs.Faults.{IsNamedDebugFaultOf};
 ghost use Rattle.cilk_debug.specs.Moves.{StaysGoingOn, StaysGoingBack, StaysFrom, HasNo};
+ghost use Rattle.cilk_debug.specs.ReplayFaults.{IsFaultOf, IsNamedFaultOf};
 ghost use Rattle.cilk_debug.specs.Seeing.{seen_at, line_behind};
 ghost use Rattle.cilk_debug.specs.Seeking.{forward_position, is_any_ahead, back_position, is_any_behind};
 ghost use Rattle.cilk_debug.specs.Working.{gone_to, with_marks};
 
-use crate::fault::DebugFault;
+use crate::fault::{DebugFault, debug_fault};
 use crate::player::Player;
-use crate::playing::{is_crew, is_other};
+use crate::playing::{is_crew, refuse_other};
 use crate::position::put_position;
+use crate::replay_fault::ReplayFault;
+use crate::unplayable::Unplayable;
 use cilk_debug_console::{Loaded, Log};
-use cilk_machine::{Memory, ViewFault, What};
+use cilk_machine::{Memory, Telling, ViewFault, What};
 use std::alloc::Global;
 use std::marker::Model;
 
@@ -88,7 +91,71 @@ impl Debugger {
     }
 
     /// Before any choice of a recorded schedule of the program, all of which are possible. Whether it is of another program is looked at
-    /// first, and then the number of workers: before any memory is asked for, where the schedule tells no program.
+    /// first, and then the number of workers: before any memory is asked for, where the schedule tells no program. One that cannot be replayed
+    /// is handed back.
+    pub fn open(alloc: Global, program: Loaded, log: Log) -> Result<Debugger, Unplayable>
+        ensures own { IfOk result (λ _. is_of log.program (program_text program) ≡ true) }
+        ensures tape { IfOk result (λ d. d.shown.tape ≡ tape_of program log.workers log.choices) }
+        ensures start { IfOk result (λ d. d.shown.position ≡ 0) }
+        ensures none { IfOk result (λ d. d.kept ≡ 0) }
+        ensures idle { IfOk result (λ d. d.work ≡ 0) }
+        ensures marks { IfOk result (λ d. d.shown.marks ≡ replicate (count_program program) false) }
+        ensures whole { IfOk result (λ d. IsPlayable d.shown.tape) }
+        ensures told { IfErr result (λ it. IsNamedFaultOf log.program (tape_of program log.workers log.choices) it.fault) }
+        ensures back { IfErr result (λ it. it.log ≡ log) }
+        ensures crew { log.program ≡ None → is_crew log.workers ≡ false → result ≡ Err (record { log = log; fault = ReplayFault.Workers }) }
+    {
+        match refuse_other(&program, &log) {
+            Err(fault) => {
+                drop(program);
+                Err(Unplayable { log, fault })
+            }
+            Ok(()) => Debugger::begin(alloc, program, log),
+        }
+    }
+
+    // The same, where it is of no other program.
+    fn begin(alloc: Global, program: Loaded, log: Log) -> Result<Debugger, Unplayable>
+        ensures tape { IfOk result (λ d. d.shown.tape ≡ tape_of program log.workers log.choices) }
+        ensures start { IfOk result (λ d. d.shown.position ≡ 0) }
+        ensures none { IfOk result (λ d. d.kept ≡ 0) }
+        ensures idle { IfOk result (λ d. d.work ≡ 0) }
+        ensures marks { IfOk result (λ d. d.shown.marks ≡ replicate (count_program program) false) }
+        ensures whole { IfOk result (λ d. IsPlayable d.shown.tape) }
+        ensures told { IfErr result (λ it. IsFaultOf (tape_of program log.workers log.choices) it.fault) }
+        ensures back { IfErr result (λ it. it.log ≡ log) }
+        ensures crew { is_crew log.workers ≡ false → result ≡ Err (record { log = log; fault = ReplayFault.Workers }) }
+    {
+        if !is_crew(log.workers) {
+            return Err(Unplayable {
+                log,
+                fault: ReplayFault::Workers,
+            });
+        }
+        match no_marks(alloc, &program) {
+            Err(_) => {
+                drop(program);
+                Err(Unplayable {
+                    log,
+                    fault: ReplayFault::Memory,
+                })
+            }
+            Ok(marks) => match Player::new(alloc, program, log) {
+                Err(unplayable) => {
+                    drop(marks);
+                    Err(unplayable)
+                }
+                Ok(player) => Ok(Debugger {
+                    alloc,
+                    player,
+                    marks,
+                    work: 0,
+                }),
+            },
+        }
+    }
+
+    /// The same for who tells no more of a schedule than its fault.
     pub fn new(alloc: Global, program: Loaded, log: Log) -> Result<Debugger, DebugFault>
         ensures own { IfOk result (λ _. is_of log.program (program_text program) ≡ true) }
         ensures tape { IfOk result (λ d. d.shown.tape ≡ tape_of program log.workers log.choices) }
@@ -100,53 +167,13 @@ impl Debugger {
         ensures told { IfErr result (IsNamedDebugFaultOf log.program (tape_of program log.workers log.choices)) }
         ensures crew { log.program ≡ None → is_crew log.workers ≡ false → result ≡ Err DebugFault.Workers }
     {
-        match is_other(&program, &log) {
-            Err(_) => {
-                drop(program);
+        match Debugger::open(alloc, program, log) {
+            Ok(debugger) => Ok(debugger),
+            Err(unplayable) => {
+                let Unplayable { log, fault } = unplayable;
                 drop(log);
-                Err(DebugFault::Memory)
+                Err(debug_fault(fault))
             }
-            Ok(true) => {
-                drop(program);
-                drop(log);
-                Err(DebugFault::OtherProgram)
-            }
-            Ok(false) => Debugger::begin(alloc, program, log),
-        }
-    }
-
-    // The same, where it is of no other program.
-    fn begin(alloc: Global, program: Loaded, log: Log) -> Result<Debugger, DebugFault>
-        ensures tape { IfOk result (λ d. d.shown.tape ≡ tape_of program log.workers log.choices) }
-        ensures start { IfOk result (λ d. d.shown.position ≡ 0) }
-        ensures none { IfOk result (λ d. d.kept ≡ 0) }
-        ensures idle { IfOk result (λ d. d.work ≡ 0) }
-        ensures marks { IfOk result (λ d. d.shown.marks ≡ replicate (count_program program) false) }
-        ensures whole { IfOk result (λ d. IsPlayable d.shown.tape) }
-        ensures told { IfErr result (IsDebugFaultOf (tape_of program log.workers log.choices)) }
-        ensures crew { is_crew log.workers ≡ false → result ≡ Err DebugFault.Workers }
-    {
-        if !is_crew(log.workers) {
-            return Err(DebugFault::Workers);
-        }
-        match no_marks(alloc, &program) {
-            Err(fault) => {
-                drop(program);
-                drop(log);
-                Err(fault)
-            }
-            Ok(marks) => match Player::new(alloc, program, log) {
-                Err(fault) => {
-                    drop(marks);
-                    Err(fault)
-                }
-                Ok(player) => Ok(Debugger {
-                    alloc,
-                    player,
-                    marks,
-                    work: 0,
-                }),
-            },
         }
     }
 
@@ -309,6 +336,28 @@ impl Debugger {
         }
     }
 
+    /// The same text, told in portions. Those of `tree` and `deques` take memory by the number of instances ever made, and not by the length of
+    /// their paths.
+    pub(crate) fn view_told(&self, what: &What) -> Result<Telling, ViewFault>
+        ensures text { IfOk result (λ told. seen_at self.now.shown (what_of what.now) ≡ Some told) }
+        ensures fault { result ≡ Err ViewFault.NoInstance → seen_at self.now.shown (what_of what.now) ≡ None }
+        ensures none { seen_at self.now.shown (what_of what.now) ≡ None → result ≡ Err ViewFault.NoInstance }
+    {
+        match what {
+            What::Where => match self.view(what) {
+                Err(fault) => Err(fault),
+                Ok(text) => match Telling::whole(self.alloc, text) {
+                    Err(memory) => Err(ViewFault::Memory(memory)),
+                    Ok(told) => Ok(told),
+                },
+            },
+            _ => match self.player.machine().view_told(what) {
+                Err(fault) => Err(fault),
+                Ok(told) => Ok(told),
+            },
+        }
+    }
+
     // The text behind the line on the position.
     fn behind_position(&self, text: &str) -> Result<String, Memory>
         ensures { IfOk result (λ all. string_bytes all ≡ line_behind self.now.shown.tape self.now.shown.position ++ text.now) }
@@ -327,13 +376,10 @@ impl Debugger {
 }
 
 // No breakpoint is set.
-fn no_marks(alloc: Global, program: &Loaded) -> Result<Vec<bool>, DebugFault>
-    ensures marks { IfOk result (λ marks. marks.items ≡ replicate (count_program program.now) false) }
-    ensures memory { IfErr result (λ why. why ≡ DebugFault.Memory) }
+fn no_marks(alloc: Global, program: &Loaded) -> Result<Vec<bool>, Memory>
+    ensures { IfOk result (λ marks. marks.items ≡ replicate (count_program program.now) false) }
 {
     let mut marks = Vec::new(alloc);
-    match marks.resize(program.count() as usize, false) {
-        Err(_) => Err(DebugFault::Memory),
-        Ok(()) => Ok(marks),
-    }
+    marks.resize(program.count() as usize, false)?;
+    Ok(marks)
 }

@@ -1,5 +1,9 @@
 //! Why there is no debugger of a recorded schedule, or why one makes no move or sets no breakpoint.
 
+ghost use Rattle.std.specs.Prelude.{◌≡◌};
+ghost use Rattle.cilk_debug.specs.Faults.{debug_fault};
+
+use crate::replay_fault::ReplayFault;
 use cilk_machine::Refusal;
 use thiserror::Error;
 
@@ -30,4 +34,16 @@ pub enum DebugFault {
     /// Memory has run out.
     #[error("out of memory")]
     Memory,
+}
+
+/// Why there is no debugger of a schedule that cannot be replayed.
+pub(crate) fn debug_fault(fault: ReplayFault) -> DebugFault
+    ensures { result ≡ debug_fault fault }
+{
+    match fault {
+        ReplayFault::OtherProgram => DebugFault::OtherProgram,
+        ReplayFault::Workers => DebugFault::Workers,
+        ReplayFault::BadChoice(number, refusal) => DebugFault::BadChoice(number, refusal),
+        ReplayFault::Memory => DebugFault::Memory,
+    }
 }

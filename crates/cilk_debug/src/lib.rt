@@ -16,12 +16,14 @@ mod session;
 mod session_fault;
 mod stopping;
 mod track;
+mod unplayable;
 
 pub use cilk_debug_console::{Choices, InputFault, Log, LogFault, read_log, write_log};
 pub use cilk_machine::{Act, Choice, Did, Id, Loaded, Machine, Memory, ViewFault, What};
 pub use debugger::Debugger;
 pub use fault::DebugFault;
 pub use laws::none_is_bad;
-pub use playing::{is_crew, is_other, make_again, play, play_all};
+pub use playing::{is_crew, make_again, play, play_all, refuse_other};
 pub use replay_fault::ReplayFault;
 pub use session_fault::SessionFault;
+pub use unplayable::Unplayable;

@@ -116,8 +116,8 @@ impl Debugger {
         ensures none { seen_at self.now.shown (what_of what.now) ≡ None → result ≡ Ok Reply.NoInstance }
         ensures memory { IfErr result (λ why. why ≡ SessionFault.Memory) }
     {
-        match self.view(what) {
-            Ok(text) => Ok(Reply::Text(text)),
+        match self.view_told(what) {
+            Ok(telling) => Ok(Reply::Told(telling)),
             Err(ViewFault::NoInstance) => Ok(Reply::NoInstance),
             Err(ViewFault::Memory(_)) => Err(SessionFault::Memory),
         }

@@ -3,19 +3,18 @@
 ghost use Rattle.std.specs.Prelude.{◌≡◌, ◌≤◌, IfErr, IfOk, IfSome, [], length, false, Err};
 ghost use Rattle.cilk_debug_console.specs.model.Run.{is_crew};
 ghost use Rattle.cilk_debug.specs.Breaks.{last_stop, next_stop};
-ghost use Rattle.cilk_debug.specs.Faults.{IsDebugFaultOf};
 ghost use Rattle.cilk_debug.specs.Going.{GoesAll};
 ghost use Rattle.cilk_debug.specs.ReplayFaults.{IsFaultOf};
-ghost use Rattle.cilk_debug.specs.Tape.{Tape, tape_of, IsAt, IsPlayable};
+ghost use Rattle.cilk_debug.specs.Tape.{tape_of, IsAt, IsPlayable};
 ghost use Rattle.cilk_debug.specs.Tracks.{IsTrack};
 
 mod standing;
 
-use crate::fault::DebugFault;
 use crate::finding::{last_met, next_met};
 use crate::playing::is_crew;
 use crate::replay_fault::ReplayFault;
 use crate::track::{Track, first_track, follow_all};
+use crate::unplayable::Unplayable;
 use cilk_debug_console::{Loaded, Log};
 use cilk_machine::{Machine, MachineFault, Memory};
 use std::alloc::{AllocError, Global};
@@ -63,30 +62,36 @@ impl Model for Player {
 }
 
 impl Player {
-    /// Before any choice, once each of them was made. The number of workers is looked at before any memory is asked for.
-    pub fn new(alloc: Global, program: Loaded, log: Log) -> Result<Player, DebugFault>
+    /// Before any choice, once each of them was made. The number of workers is looked at before any memory is asked for. A log that cannot be
+    /// replayed is handed back.
+    pub fn new(alloc: Global, program: Loaded, log: Log) -> Result<Player, Unplayable>
         ensures tape { IfOk result (λ p. p.tape ≡ tape_of program log.workers log.choices) }
         ensures start { IfOk result (λ p. p.place ≡ 0) }
         ensures none { IfOk result (λ p. p.kept ≡ 0) }
         ensures whole { IfOk result (λ p. IsPlayable p.tape) }
-        ensures told { IfErr result (IsDebugFaultOf (tape_of program log.workers log.choices)) }
-        ensures crew { is_crew log.workers ≡ false → result ≡ Err DebugFault.Workers }
+        ensures told { IfErr result (λ it. IsFaultOf (tape_of program log.workers log.choices) it.fault) }
+        ensures back { IfErr result (λ it. it.log ≡ log) }
+        ensures crew { is_crew log.workers ≡ false → result ≡ Err (record { log = log; fault = ReplayFault.Workers }) }
     {
         if !is_crew(log.workers) {
-            return Err(DebugFault::Workers);
+            return Err(Unplayable {
+                log,
+                fault: ReplayFault::Workers,
+            });
         }
         match tracked(alloc, &program, &log) {
             Err(fault) => {
                 drop(program);
-                drop(log);
-                Err(fault)
+                Err(Unplayable { log, fault })
             }
             Ok(track) => match machines(alloc, &program, log.workers) {
                 Err(_) => {
                     drop(program);
-                    drop(log);
                     drop(track);
-                    Err(DebugFault::Memory)
+                    Err(Unplayable {
+                        log,
+                        fault: ReplayFault::Memory,
+                    })
                 }
                 Ok((machine, spare)) => Ok(Player {
                     program,
@@ -148,17 +153,17 @@ impl Player {
 }
 
 // All choices are made once.
-fn tracked(alloc: Global, program: &Loaded, log: &Log) -> Result<Track, DebugFault>
+fn tracked(alloc: Global, program: &Loaded, log: &Log) -> Result<Track, ReplayFault>
     ensures track { IfOk result (λ track. IsTrack (tape_of program.now log.now.workers log.now.choices) (length log.now.choices)
         track.last track.checkpoints.items track.actions.items) }
-    ensures told { IfErr result (IsDebugFaultOf (tape_of program.now log.now.workers log.now.choices)) }
+    ensures told { IfErr result (IsFaultOf (tape_of program.now log.now.workers log.now.choices)) }
 {
     match program.copy() {
-        Err(_) => Err(DebugFault::Memory),
+        Err(_) => Err(ReplayFault::Memory),
         Ok(copy) => match first_track(alloc, copy, log.workers, log.choices.len()) {
-            Err(fault) => Err(debug_fault(fault)),
+            Err(fault) => Err(fault),
             Ok(mut track) => match follow_all(&mut track, log.choices.as_slice()) {
-                Err(fault) => Err(debug_fault(fault)),
+                Err(fault) => Err(fault),
                 Ok(()) => Ok(track),
             },
         },
@@ -197,17 +202,5 @@ fn with_records(alloc: Global, program: &Loaded, workers: u8) -> Result<Machine,
             Err(MachineFault::Workers) => Err(Memory::from(AllocError)),
             Err(MachineFault::Memory(memory)) => Err(memory),
         },
-    }
-}
-
-// The same fault by the debugger's name.
-fn debug_fault(fault: ReplayFault) -> DebugFault
-    ensures { (t : Tape) → IsFaultOf t fault → IsDebugFaultOf t result }
-{
-    match fault {
-        ReplayFault::OtherProgram => DebugFault::OtherProgram,
-        ReplayFault::Workers => DebugFault::Workers,
-        ReplayFault::BadChoice(k, why) => DebugFault::BadChoice(k, why),
-        ReplayFault::Memory => DebugFault::Memory,
     }
 }

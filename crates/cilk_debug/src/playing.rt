@@ -1,6 +1,6 @@
 //! The first choices of a schedule, made again from the start of a program.
 
-ghost use Rattle.std.specs.Prelude.{List, ◌≡◌, ◌≤◌, ◌<◌, ◌-◌, ◌^◌, ℕ, suc, not, true, false, IfOk, IfErr, OnOk, OnErr, length, Some, None, Ok, Err};
+ghost use Rattle.std.specs.Prelude.{List, ◌≡◌, ◌≤◌, ◌<◌, ◌-◌, ◌^◌, ℕ, suc, true, false, IfOk, IfErr, OnOk, OnErr, length, Some, None, Ok, Err};
 ghost use Rattle.std.specs.Prelude.{slice_get, map};
 ghost use Rattle.std.specs.Prelude.{option_copied};
 ghost use Rattle.cilk_debug_console.specs.syntax.ProgramText.{program_text};
@@ -28,17 +28,25 @@ pub fn is_crew(workers: u8) -> bool
     1 <= workers && workers <= 64
 }
 
-/// Whether a recorded schedule tells that it is of another program than this. One that tells none is looked at without memory.
-pub fn is_other(program: &Loaded, log: &Log) -> Result<bool, Memory>
-    ensures other { IfOk result (λ other. other ≡ not (is_of log.now.program (program_text program.now))) }
-    ensures unnamed { log.now.program ≡ None → result ≡ Ok false }
+/// Refuses a recorded schedule that tells that it is of another program than this. One that tells none is looked at without memory.
+pub fn refuse_other(program: &Loaded, log: &Log) -> Result<(), ReplayFault>
+    ensures own { IfOk result (λ _. is_of log.now.program (program_text program.now) ≡ true) }
+    ensures told { IfErr result (λ why. (workers : ℕ) (choices : List model.Choice)
+        → IsNamedFaultOf log.now.program (record { program = program.now; workers = workers; choices = choices }) why) }
+    ensures unnamed { log.now.program ≡ None → result ≡ Ok tt }
 {
     if log.program.is_none() {
-        return Ok(false);
+        return Ok(());
     }
     match program.text() {
-        Err(memory) => Err(memory),
-        Ok(text) => Ok(!log.is_of(text.as_str())),
+        Err(_) => Err(ReplayFault::Memory),
+        Ok(text) => {
+            if log.is_of(text.as_str()) {
+                Ok(())
+            } else {
+                Err(ReplayFault::OtherProgram)
+            }
+        }
     }
 }
 
@@ -49,16 +57,12 @@ pub fn play_all(alloc: Global, program: Loaded, log: &Log) -> Result<Machine, Re
     ensures told { IfErr result (IsNamedFaultOf log.now.program (tape_of program log.now.workers log.now.choices)) }
     ensures crew { log.now.program ≡ None → is_crew log.now.workers ≡ false → result ≡ Err ReplayFault.Workers }
 {
-    match is_other(&program, log) {
-        Err(_) => {
+    match refuse_other(&program, log) {
+        Err(fault) => {
             drop(program);
-            Err(ReplayFault::Memory)
+            Err(fault)
         }
-        Ok(true) => {
-            drop(program);
-            Err(ReplayFault::OtherProgram)
-        }
-        Ok(false) => {
+        Ok(()) => {
             let choices = log.choices.as_slice();
             play(alloc, program, log.workers, choices, choices.len())
         }

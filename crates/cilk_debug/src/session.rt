@@ -8,7 +8,7 @@ ghost use Rattle.cilk_debug.specs.Replies.{fault_of, Answered};
 
 use crate::debugger::Debugger;
 use crate::session_fault::SessionFault;
-use cilk_debug_console::{Command, LineFault, Lines, NextLine, lines_come_one_by_one, send};
+use cilk_debug_console::{Command, LineFault, Lines, NextLine, lines_come_one_by_one};
 use std::io::{Read, Write};
 
 impl Debugger {
@@ -55,10 +55,7 @@ impl Debugger {
     {
         match self.obey(&command) {
             Err(fault) => Err(fault),
-            Ok(reply) => match send(writer, reply.as_bytes()) {
-                Err(_) => Err(SessionFault::Write),
-                Ok(()) => Ok(()),
-            },
+            Ok(mut reply) => reply.send_to(self.allocator(), writer),
         }
     }
 }

@@ -1,20 +1,16 @@
 -- The lines of bytes of which the first ones are no newline.
 use Rattle.std.proofs.Common.{◌≡◌, ℕ, suc, ◌<◌, ◌≤◌, true, false, not, Bool, cond, List, [], ◌∷◌, ◌++◌, length, None, refl, sym, ap, ◌∙◌, append-nil}
 use Rattle.std.proofs.Common.{arith, length-append}
-use Rattle.std.specs.Prelude.{◌==◌, ◌&&◌}
+use Rattle.std.specs.Prelude.{◌==◌}
 use Rattle.std.specs.List.{list_all}
 use Rattle.std.specs.Str.Lines.{strip_carriage_return}
-use Rattle.std.proofs.lemmas.Bool.{lt-ltb, le-ltb, le-leb, lt-leb}
+use Rattle.std.proofs.lemmas.Bool.{lt-ltb, le-ltb, le-leb, lt-leb, and_parts}
 use Rattle.std.proofs.lemmas.Bool.Decides.{nat_tests}
 use Rattle.cilk_log.specs.Reading.{Lines, lines_of, behind_byte}
 use Rattle.cilk_debug_console.specs.Asking.{command_in}
 use Rattle.cilk_debug_console.specs.Input.{longest, most_lines, line_too_long, too_many_lines, Asked, faulty, asking, within, asked_last}
 use Rattle.cilk_debug_console.specs.Input.{asked_by_lines, asked_behind}
 use Rattle.cilk_debug_console.specs.Taking.{IsPlain, IsLine}
-
-both : (a b : Bool) → (a && b) ≡ true → (a ≡ true) × (b ≡ true)
-both true b e = (refl, e)
-both false b e = absurd cc
 
 is_other : (b : ℕ) → not (b == 10) ≡ true → (b == 10) ≡ false
 is_other b h = grind (arith, nat_tests)
@@ -28,7 +24,7 @@ lines_onto : (front more : List ℕ) → IsPlain front → lines_of (front ++ mo
 unfolding onto
 lines_onto [] more p = refl
 lines_onto (b ∷ front) more p =
-    let q = both (not (b == 10)) (list_all (λ x. not (x == 10)) front) p in
+    let q = and_parts (not (b == 10)) (list_all (λ x. not (x == 10)) front) p in
     rw (is_other b q.0, lines_onto front more q.1) refl
 
 onto_line : (front line : List ℕ) (whole : List (List ℕ)) (rest : List ℕ)

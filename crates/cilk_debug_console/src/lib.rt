@@ -13,10 +13,10 @@ mod taking;
 
 pub use asking::command_of;
 pub use cilk_log::{Choices, Log, LogFault, Trap, read_log, write_log};
-pub use cilk_view::{Loaded, What};
+pub use cilk_view::{Loaded, Portion, Telling, What};
 pub use command::Command;
 pub use fault::{InputFault, LineFault, WriteFault};
 pub use laws::lines_come_one_by_one;
 pub use lines::Lines;
 pub use next::NextLine;
-pub use sending::send;
+pub use sending::{send, send_told};

@@ -5,6 +5,7 @@ ghost use Rattle.std.specs.Io.KnownBytes.{Appends};
 ghost use Rattle.cilk_view.specs.Front.{AppendsFront};
 
 use crate::fault::WriteFault;
+use cilk_view::{Portion, Telling};
 use std::io::Write;
 
 /// Writes a whole answer, and flushes it. Where there is none, nothing is flushed.
@@ -20,6 +21,32 @@ pub fn send<W: Write>(writer: &mut W, answer: &[u8]) -> Result<(), WriteFault>
         Err(_) => Err(WriteFault),
         Ok(()) => Ok(()),
     }
+}
+
+/// Writes a text in portions, and flushes it. It takes no memory: that of the text and of the portion was taken before. Where there is none, nothing
+/// is flushed.
+pub fn send_told<W: Write>(
+    writer: &mut W,
+    telling: &mut Telling,
+    portion: &mut Portion,
+) -> Result<(), WriteFault>
+    ensures ok { OnOk result (Appends (W.contents writer.old) (W.contents writer.new) telling.old) }
+    ensures front { OnErr result (AppendsFront (W.contents writer.old) (W.contents writer.new) telling.old) }
+{
+    telling.put_next(portion);
+    if portion.as_slice().is_empty() {
+        return Ok(());
+    }
+    while !portion.as_slice().is_empty() {
+        match write_once(writer, portion.as_slice()) {
+            Err(fault) => return Err(fault),
+            Ok(()) => telling.put_next(portion),
+        }
+    }
+    if writer.flush().is_err() {
+        return Err(WriteFault);
+    }
+    Ok(())
 }
 
 // What `write_all` does, but for a writer that was interrupted: that is not tried again, nor is a reader that was. So each call of `write` takes a

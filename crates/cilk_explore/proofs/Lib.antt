@@ -1,5 +1,10 @@
 pub mod Logs
 pub mod Strides
 pub mod Paces
+pub mod Knows
+pub mod Gathers
+pub mod LinkLists
+pub mod Marks
+pub mod Endless
 pub mod Ends
 pub mod Wholes

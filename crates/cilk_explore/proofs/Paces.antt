@@ -1,7 +1,5 @@
 -- What the parts of a search become while it looks at a log.
-use Rattle.std.proofs.Common.{◌≡◌, ◌≤◌, ◌+◌, inl, inr, ℕ, List, length, map, Some, refl}
-use Rattle.std.proofs.Common.{sym, ap, ◌∙◌}
-use Rattle.std.proofs.Common.{subst, arith, slice_get}
+use Rattle.std.proofs.Common.{◌≡◌, ◌≤◌, ◌+◌, inl, inr, ℕ, List, length, map, Some, refl, sym, ap, ◌∙◌, subst, arith, slice_get}
 use Rattle.cilk_machine.specs.labelled.Labelled.{Labelled}
 use Rattle.cilk_machine.specs.labelled.Bodies.{label}
 use Rattle.cilk_machine.specs.model.Choice.{Choice}
@@ -9,10 +7,10 @@ use Rattle.cilk_explore_search.specs.explore.Search.{Told}
 use Rattle.cilk_explore.specs.declared.explorer.Explorer.{Explorer}
 use Rattle.cilk_explore.specs.Walks.{Walk}
 use Rattle.cilk_explore.specs.Telling.{told_by}
-use Rattle.cilk_explore_search.specs.Looking.{IsLooking, Extends, IsClosed, AreClosed, TellsOf}
+use Rattle.cilk_explore_search.specs.Looking.{IsLooking, Extends, AreClosed, TellsOf}
 use Rattle.cilk_explore.specs.Exploring.{program_of, workers_of, IsPaired, IsBetween, AreFound, IsAt, KeepsBut, Grows}
 use Rattle.cilk_explore_search.proofs.Fronts.{get-front, get-cases}
-use Rattle.cilk_explore_search.proofs.Growing.{extends-none, extends-then, closed-more, looked-on, halted}
+use Rattle.cilk_explore_search.proofs.Growing.{extends-none, extends-then, looked-on, halted}
 
 -- logs that are longer by more of this length still lead somewhere
 pub found-more : (program : Labelled) (n depth : ℕ) (logs now : List (List Choice)) → AreFound program n depth logs → Extends program n depth logs now
@@ -72,19 +70,6 @@ at-on e f number at x =
       found = subst (λ (walk : Walk). AreFound (label walk.program) walk.workers (length walk.log + 1) f.store) (sym x.walker) found;
       room = x.room;
     }
-
--- what was closed before is closed behind
-pub closed-on : (e f g : Explorer) (choice : Choice) → Grows e f → Grows f g → IsClosed (program_of e) (workers_of e) f.store e.walker.log choice
-    → IsClosed (program_of e) (workers_of e) g.store e.walker.log choice
-closed-on e f g choice x y closed =
-    closed-more (program_of e) (workers_of e) (length e.walker.log + 1) f.store g.store e.walker.log choice
-    (subst (λ (walk : Walk). Extends (label walk.program) walk.workers (length walk.log + 1) f.store g.store) x.walker y.extends) closed
-
--- what is closed for one is closed for the one that it came from
-pub closed-for : (e f g : Explorer) (choice : Choice) → Grows e f → IsClosed (program_of f) (workers_of f) g.store f.walker.log choice
-    → IsClosed (program_of e) (workers_of e) g.store e.walker.log choice
-closed-for e f g choice x closed =
-    subst (λ (walk : Walk). IsClosed (label walk.program) walk.workers g.store walk.log choice) x.walker closed
 
 -- the log of this number is looked at, from e on: f stands there, g has told of it, and h has tried what is behind it
 module _ (f g h : Explorer) (number : ℕ) (at : IsAt f number) (between : IsBetween f number)

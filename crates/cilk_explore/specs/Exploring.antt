@@ -1,16 +1,19 @@
 -- What is always true of a search between two logs, and while it looks at one; and what an exploration tells of a program.
-use Rattle.std.specs.Prelude.{◌≡◌, ◌≤◌, ◌+◌, ℕ, true, false, List, [], ◌∷◌, ◌++◌, length, map, Some, slice_get}
+use Rattle.std.specs.Prelude.{◌≡◌, ◌≤◌, ◌+◌, ℕ, true, false, List, [], ◌∷◌, ◌++◌, length, map, Option, Some, None, IfSome, slice_get, option_map}
 use Rattle.cilk_machine.specs.syntax.Tree.{Program}
 use Rattle.cilk_machine.specs.labelled.Labelled.{Labelled}
 use Rattle.cilk_machine.specs.labelled.Bodies.{label}
 use Rattle.cilk_machine.specs.model.Choice.{Choice}
 use Rattle.cilk_machine.specs.model.Run.{Position, after}
+use Rattle.cilk_machine.specs.choices.Words.{choice_of}
+use Rattle.cilk_explore_search.specs.explore.Endless.{CanEnd}
 use Rattle.cilk_explore_search.specs.explore.Search.{Known, Once, Sound, Whole, First}
 use Rattle.cilk_explore.specs.declared.exploration.Exploration.{Exploration}
 use Rattle.cilk_explore.specs.declared.explorer.Explorer.{Explorer}
 use Rattle.cilk_explore.specs.Walks.{position_of}
 use Rattle.cilk_explore.specs.Telling.{told_by}
 use Rattle.cilk_explore_search.specs.Looking.{IsLooking, Extends}
+use Rattle.cilk_explore_search.specs.Linking.{IsLink, AreLinked}
 
 -- the program, and how many workers there are
 abbrev pub program_of : Explorer → Labelled
@@ -29,6 +32,18 @@ pub record IsBetween (e : Explorer) (looked : ℕ) : Type 0 where
   pub paired : IsPaired e
   pub looking : IsLooking (program_of e) (workers_of e) e.store looked (map told_by e.told.items)
   pub room : length e.store ≤ e.limit
+
+-- the logs that it has looked at have their links, and no other has any
+pub record HasLinks (e : Explorer) (looked : ℕ) : Type 0 where
+  pub past : AreLinked (program_of e) (workers_of e) e.store e.links.past looked
+  pub none : e.links.here ≡ []
+
+-- it has looked at all that it has found
+pub record IsThrough (e : Explorer) : Type 0 where
+  pub looked : ℕ
+  pub between : IsBetween e looked
+  pub links : HasLinks e looked
+  pub all : length e.store ≤ looked
 
 -- each log that was found leads somewhere, by no more choices than this
 pub record AreFound (program : Labelled) (n most : ℕ) (logs : List (List Choice)) : Type 0 where
@@ -51,9 +66,12 @@ pub record IsBehind (e : Explorer) (number : ℕ) (choice : Choice) : Type 0 whe
   pub found : AreFound (program_of e) (workers_of e) (length e.walker.log) e.store
   pub room : length e.store ≤ e.limit
 
--- where it stands is known
-abbrev pub IsKnown : Explorer → Type 0
-IsKnown e = (at : Position) → position_of e.walker ≡ Some at → Known (program_of e) (workers_of e) e.store at.standing (length e.walker.log)
+-- the log of this number leads to the same as where it stands
+pub record IsKnownBy (e : Explorer) (number : ℕ) : Type 0 where
+  pub at : Position
+  pub here : position_of e.walker ≡ Some at
+  pub known : Known (program_of e) (workers_of e) e.store at.standing (length e.walker.log)
+  pub is : known.number ≡ number
 
 -- it goes on with the same program and the same limit
 pub record GoesOn (e f : Explorer) : Type 0 where
@@ -77,12 +95,37 @@ KeepsAs e f = KeepsBut (length e.walker.log) e f
 abbrev pub Grows : Explorer → Explorer → Type 0
 Grows e f = KeepsBut (length e.walker.log + 1) e f
 
+-- links of the log at which it looks were put down, and no other links
+pub record Gathers (e f : Explorer) : Type 0 where
+  pub past : f.links.past ≡ e.links.past
+  pub more : List ℕ
+  pub is : f.links.here ≡ e.links.here ++ more
+  pub each : (place number : ℕ) → slice_get more place ≡ Some number → IsLink (program_of e) (workers_of e) f.store e.walker.log number
+
+-- whatever choices follow the log, the program goes on, and so it is behind no shorter one
+pub record NeverEnds (program : Labelled) (n : ℕ) (log : List Choice) : Type 0 where
+  pub at : Position
+  pub leads : after program n log ≡ Some at
+  pub never : ¬ CanEnd program at.standing
+  pub first : (choices : List Choice) (to : Position) → after program n choices ≡ Some to → ¬ CanEnd program to.standing → length log ≤ length choices
+
+-- behind each list of possible choices some choices end the program
+abbrev pub EachCanEnd : Labelled → ℕ → Type 0
+EachCanEnd program n = (choices : List Choice) (at : Position) → after program n choices ≡ Some at → CanEnd program at.standing
+
+-- the log that is told as one without an end
+abbrev pub endless_of : Exploration → Option (List Choice)
+endless_of e = option_map (λ log. map choice_of log.items) e.endless
+
 -- each ending that is told has a log of possible choices, and none in fewer choices, and is told once; where it is whole, these are all; and where it
--- is not, the limit was met
+-- is not, the limit was met. A log behind which the program never ends is told where it is whole, unless there is none, and not else
 pub record IsExploration (program : Program) (n limit : ℕ) (e : Exploration) : Type 0 where
   pub sound : Sound (label program) n (map told_by e.told.items)
   pub first : First (label program) n (map told_by e.told.items)
   pub whole : e.whole ≡ true → Whole (label program) n (map told_by e.told.items)
   pub once : Once (map told_by e.told.items)
+  pub endless : IfSome (endless_of e) (NeverEnds (label program) n)
+  pub only : e.whole ≡ false → e.endless ≡ None
+  pub none : e.whole ≡ true → e.endless ≡ None → EachCanEnd (label program) n
   pub within : e.standings ≤ limit
   pub met : e.whole ≡ false → limit ≤ e.standings

@@ -6,9 +6,8 @@ use Rattle.cilk_machine.specs.model.Run.{Position, after}
 use Rattle.cilk_explore_search.specs.explore.Same.{Same}
 use Rattle.cilk_explore.specs.Walks.{Walk, position_of}
 
--- some log that was found leads to the same as the walk
-pub record HasSame (walk : Walk) (logs : List (List Choice)) : Type 0 where
-  pub number : ℕ
+-- the log of this number leads to the same as the walk
+pub record LeadsToSame (walk : Walk) (logs : List (List Choice)) (number : ℕ) : Type 0 where
   pub log : List Choice
   pub found : slice_get logs number ≡ Some log
   pub same : (a b : Position) → after (label walk.program) walk.workers log ≡ Some a → position_of walk ≡ Some b → Same a.standing b.standing

@@ -1,23 +1,23 @@
 //! Whether a standing was found before.
 
-ghost use Rattle.std.specs.Prelude.{◌≡◌, ◌<◌, true, length, Ok};
-ghost use Rattle.cilk_explore.specs.Looking.{HasSame};
+ghost use Rattle.std.specs.Prelude.{◌≡◌, ◌<◌, true, length, Ok, IfOk, IfSome};
+ghost use Rattle.cilk_explore.specs.Looking.{LeadsToSame};
 
 use crate::store::Store;
 use crate::walker::Walker;
 use cilk_machine::{Choice, Memory};
 
-/// Whether some log that was found leads to the same as where the walker stands. Those of its digest are compared, by the probe.
-pub(crate) fn is_known(
+/// The number of a log that leads to the same as where the walker stands, if one was found. Those of its digest are compared, by the probe.
+pub(crate) fn known(
     digest: u64,
     walker: &Walker,
     probe: &mut Walker,
     store: &Store,
     log: &mut Vec<Choice>,
-) -> Result<bool, Memory>
+) -> Result<Option<usize>, Memory>
     requires program { probe.old.program ≡ walker.now.program }
     requires workers { probe.old.workers ≡ walker.now.workers }
-    ensures same { result ≡ Ok true → HasSame walker.now store.now }
+    ensures same { IfOk result (λ found. IfSome found (LeadsToSame walker.now store.now)) }
     ensures program { probe.new.program ≡ probe.old.program }
     ensures workers { probe.new.workers ≡ probe.old.workers }
 {
@@ -25,12 +25,12 @@ pub(crate) fn is_known(
     while let Some(number) = at {
         match leads_to_same(number, walker, probe, store, log) {
             Err(memory) => return Err(memory),
-            Ok(true) => return Ok(true),
+            Ok(true) => return Ok(Some(number)),
             Ok(false) => {}
         }
         at = store.before(number);
     }
-    Ok(false)
+    Ok(None)
 }
 
 // Whether the log of this number does.
@@ -44,7 +44,7 @@ fn leads_to_same(
     requires there { number < length store.now }
     requires program { probe.old.program ≡ walker.now.program }
     requires workers { probe.old.workers ≡ walker.now.workers }
-    ensures same { result ≡ Ok true → HasSame walker.now store.now }
+    ensures same { result ≡ Ok true → LeadsToSame walker.now store.now number }
     ensures program { probe.new.program ≡ probe.old.program }
     ensures workers { probe.new.workers ≡ probe.old.workers }
 {

@@ -1,6 +1,7 @@
 //! What an exploration tells.
 
 use crate::told::Told;
+use cilk_machine::Choice;
 
 /// The endings that were found, in the order in which they were.
 #[derive(Drop)]
@@ -8,6 +9,8 @@ pub struct Exploration {
     pub told: Vec<Told>,
     /// Whether all was looked at.
     pub whole: bool,
+    /// A log behind which the program never ends, whatever choices follow, if all was looked at and there is one.
+    pub endless: Option<Vec<Choice>>,
     /// How many logs were found, each of which leads to another standing, where no number was taken twice for want of room.
     pub standings: u32,
 }

@@ -1,5 +1,6 @@
 //! The state of a search: two machines of the program, the logs that were found, and what is told.
 
+use crate::links::Links;
 use crate::store::Store;
 use crate::told::Told;
 use crate::walker::Walker;
@@ -15,6 +16,8 @@ pub(crate) struct Explorer {
     /// It goes to earlier logs, which are compared.
     pub probe: Walker,
     pub store: Store,
+    /// Where the choices behind each log lead.
+    pub links: Links,
     /// Room for a log that is read.
     pub log: Vec<Choice>,
     pub told: Vec<Told>,

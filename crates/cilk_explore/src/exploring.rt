@@ -1,18 +1,21 @@
 //! The search itself: a shorter log before a longer one, until all that was found was looked at, or the limit is met.
 
 ghost use Rattle.std.specs.Prelude.{◌≡◌, ◌<◌, ◌≤◌, ◌⊎◌, ◌↔◌, ◌^◌, ℕ, true, false, length, Ok, Err, IfOk, OnOk};
-ghost use Rattle.cilk_explore.specs.Exploring.{IsBetween, IsExploration, GoesOn};
+ghost use Rattle.cilk_explore.specs.Exploring.{IsBetween, HasLinks, IsThrough, IsExploration, GoesOn};
 
 use crate::exploration::Exploration;
 use crate::explorer::Explorer;
+use crate::links::Links;
 use crate::looking::look_at;
 use crate::store::Store;
+use crate::unending::endless_log;
 use crate::walker::Walker;
-use cilk_machine::{Loaded, MachineFault, Memory};
+use cilk_machine::{Choice, Loaded, MachineFault, Memory};
 use std::alloc::Global;
 
 /// Tells each ending that the program has with so many workers, in the order in which they are found, each with a schedule than which none is
-/// shorter. It keeps no more than `limit` standings, which is at least 1; where that is met, not all may have been looked at.
+/// shorter; and, where all was looked at, a schedule behind which it never ends. It keeps no more than `limit` standings, which is at least 1; where that
+/// is met, not all may have been looked at.
 pub fn explore(
     alloc: Global,
     program: &Loaded,
@@ -38,6 +41,7 @@ fn explored(alloc: Global, program: &Loaded, workers: u8, limit: u32) -> Result<
         return Ok(Exploration {
             told: Vec::new(alloc),
             whole: false,
+            endless: None,
             standings: 0,
         });
     }
@@ -48,7 +52,13 @@ fn explored(alloc: Global, program: &Loaded, workers: u8, limit: u32) -> Result<
                 drop(explorer);
                 Err(memory)
             }
-            Ok(whole) => Ok(told_of(explorer, whole)),
+            Ok(whole) => match endless_log(&explorer, whole) {
+                Err(memory) => {
+                    drop(explorer);
+                    Err(memory)
+                }
+                Ok(endless) => Ok(told_of(explorer, whole, endless)),
+            },
         },
     }
 }
@@ -57,6 +67,7 @@ fn explored(alloc: Global, program: &Loaded, workers: u8, limit: u32) -> Result<
 fn begun(alloc: Global, program: &Loaded, workers: u8, limit: u32) -> Result<Explorer, Memory>
     requires { 1 ≤ limit }
     ensures between { IfOk result (λ e. IsBetween e 0) }
+    ensures links { IfOk result (λ e. HasLinks e 0) }
     ensures program { IfOk result (λ e. e.walker.program ≡ program.now) }
     ensures workers { IfOk result (λ e. e.walker.workers ≡ workers) }
     ensures limit { IfOk result (λ e. e.limit ≡ limit) }
@@ -87,6 +98,7 @@ fn begun(alloc: Global, program: &Loaded, workers: u8, limit: u32) -> Result<Exp
         walker,
         probe,
         store,
+        links: Links::new(alloc),
         log: Vec::new(alloc),
         told: Vec::new(alloc),
         limit: limit as usize,
@@ -96,9 +108,10 @@ fn begun(alloc: Global, program: &Loaded, workers: u8, limit: u32) -> Result<Exp
 // Looks at one log after another. Whether all that were found were looked at.
 fn look_at_all(explorer: &mut Explorer, workers: u8) -> Result<bool, Memory>
     requires between { IsBetween explorer.old 0 }
+    requires links { HasLinks explorer.old 0 }
     requires crew { workers ≡ explorer.old.walker.workers }
     ensures looked { OnOk result ((looked : ℕ) × IsBetween explorer.new looked) }
-    ensures all { result ≡ Ok true → (looked : ℕ) × IsBetween explorer.new looked × (length explorer.new.store ≤ looked) }
+    ensures all { result ≡ Ok true → IsThrough explorer.new }
     ensures met { result ≡ Ok false → explorer.new.limit ≤ length explorer.new.store }
     ensures goes { OnOk result (GoesOn explorer.old explorer.new) }
 {
@@ -115,10 +128,11 @@ fn look_at_all(explorer: &mut Explorer, workers: u8) -> Result<bool, Memory>
     Ok(true)
 }
 
-fn told_of(explorer: Explorer, whole: bool) -> Exploration
+fn told_of(explorer: Explorer, whole: bool, endless: Option<Vec<Choice>>) -> Exploration
     requires { length explorer.store < 2 ^ 32 }
     ensures told { result.told ≡ explorer.told }
     ensures whole { result.whole ≡ whole }
+    ensures endless { result.endless ≡ endless }
     ensures standings { result.standings ≡ length explorer.store }
 {
     let standings = explorer.store.len() as u32;
@@ -127,6 +141,7 @@ fn told_of(explorer: Explorer, whole: bool) -> Exploration
         walker: _walker,
         probe: _probe,
         store: _store,
+        links: _links,
         log: _log,
         told,
         limit: _,
@@ -134,6 +149,7 @@ fn told_of(explorer: Explorer, whole: bool) -> Exploration
     Exploration {
         told,
         whole,
+        endless,
         standings,
     }
 }

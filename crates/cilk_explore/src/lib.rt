@@ -5,11 +5,14 @@ mod comparing;
 mod exploration;
 mod explorer;
 mod exploring;
+mod links;
 mod looking;
+mod marking;
 mod node;
 mod store;
 mod telling;
 mod told;
+mod unending;
 mod walker;
 
 pub use cilk_machine::{Choice, End, Loaded, MachineFault};

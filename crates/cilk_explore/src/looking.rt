@@ -1,13 +1,13 @@
 //! One log is looked at: what is told of it, and where each choice behind it leads.
 
-ghost use Rattle.std.specs.Prelude.{ℕ, ◌≡◌, ◌<◌, ◌≤◌, ◌+◌, true, false, length, Ok, OnOk};
+ghost use Rattle.std.specs.Prelude.{ℕ, ◌≡◌, ◌≢◌, ◌<◌, ◌≤◌, ◌+◌, ◌++◌, ◌∷◌, [], true, false, length, Ok, Some, None, OnOk, IfOk, IfSome};
 ghost use Rattle.cilk_machine.specs.labelled.Bodies.{label};
 ghost use Rattle.cilk_machine.specs.model.Choice as choices;
 ghost use Rattle.cilk_machine.specs.choices.Words.{choice_of};
-ghost use Rattle.cilk_explore_search.specs.Looking.{IsClosed, AreClosedBy, AreClosed};
-ghost use Rattle.cilk_explore.specs.Exploring.{IsAt, IsBehind, IsBetween, IsKnown, Grows, GoesOn, KeepsAs};
+ghost use Rattle.cilk_explore_search.specs.Linking.{IsLinked, AreLinkedBy};
+ghost use Rattle.cilk_explore.specs.Exploring.{IsAt, IsBehind, IsBetween, HasLinks, IsKnownBy, Grows, Gathers, GoesOn, KeepsAs};
 
-use crate::comparing::is_known;
+use crate::comparing::known;
 use crate::explorer::Explorer;
 use crate::telling::tell;
 use cilk_machine::{Act, Choice, Memory};
@@ -15,9 +15,11 @@ use cilk_machine::{Act, Choice, Memory};
 /// Looks at the log of this number. False where more is behind it than there is room for.
 pub(crate) fn look_at(explorer: &mut Explorer, number: usize, workers: u8) -> Result<bool, Memory>
     requires between { IsBetween explorer.old number }
+    requires links { HasLinks explorer.old number }
     requires there { number < length explorer.old.store }
     requires crew { workers ≡ explorer.old.walker.workers }
     ensures looked { result ≡ Ok true → IsBetween explorer.new (number + 1) }
+    ensures links { result ≡ Ok true → HasLinks explorer.new (number + 1) }
     ensures stopped { result ≡ Ok false → IsBetween explorer.new number }
     ensures full { result ≡ Ok false → explorer.new.limit ≤ length explorer.new.store }
     ensures goes { OnOk result (GoesOn explorer.old explorer.new) }
@@ -26,18 +28,36 @@ pub(crate) fn look_at(explorer: &mut Explorer, number: usize, workers: u8) -> Re
         Err(memory) => Err(memory),
         Ok(()) => match tell(explorer.alloc, &explorer.walker, &mut explorer.told) {
             Err(memory) => Err(memory),
-            Ok(true) => Ok(true),
-            Ok(false) => try_all(explorer, number, workers),
+            Ok(true) => close(explorer),
+            Ok(false) => match try_all(explorer, number, workers) {
+                Err(memory) => Err(memory),
+                Ok(false) => Ok(false),
+                Ok(true) => close(explorer),
+            },
         },
+    }
+}
+
+// The log that is looked at has all its links.
+fn close(explorer: &mut Explorer) -> Result<bool, Memory>
+    ensures goes { result ≢ Ok false }
+    ensures rest { OnOk result (explorer.new ≡ record explorer.old { links = explorer.new.links }) }
+    ensures links { OnOk result (explorer.new.links ≡ record { past = explorer.old.links.past ++ explorer.old.links.here ∷ []; here = [] }) }
+{
+    match explorer.links.close() {
+        Err(memory) => Err(memory),
+        Ok(()) => Ok(true),
     }
 }
 
 // Goes to where the log leads.
 fn go_there(explorer: &mut Explorer, number: usize) -> Result<(), Memory>
     requires between { IsBetween explorer.old number }
+    requires links { HasLinks explorer.old number }
     requires there { number < length explorer.old.store }
     ensures at { OnOk result (IsAt explorer.new number) }
     ensures between { OnOk result (IsBetween explorer.new number) }
+    ensures links { OnOk result (HasLinks explorer.new number) }
     ensures goes { OnOk result (GoesOn explorer.old explorer.new) }
 {
     match explorer.store.read(number, &mut explorer.log) {
@@ -51,8 +71,9 @@ fn try_all(explorer: &mut Explorer, number: usize, workers: u8) -> Result<bool, 
     requires at { IsAt explorer.old number }
     requires crew { workers ≡ explorer.old.walker.workers }
     ensures grows { OnOk result (Grows explorer.old explorer.new) }
-    ensures closed { result ≡ Ok true
-        → AreClosed (label explorer.old.walker.program) explorer.old.walker.workers explorer.new.store explorer.old.walker.log }
+    ensures gathers { OnOk result (Gathers explorer.old explorer.new) }
+    ensures linked { result ≡ Ok true → (choice : choices.Choice)
+        → IsLinked (label explorer.old.walker.program) explorer.old.walker.workers explorer.new.store explorer.new.links.here explorer.old.walker.log choice }
     ensures full { result ≡ Ok false → explorer.new.limit ≤ length explorer.new.store }
 {
     for k in 0..workers {
@@ -70,8 +91,9 @@ fn try_by(explorer: &mut Explorer, number: usize, worker: u8, workers: u8) -> Re
     requires at { IsAt explorer.old number }
     requires crew { workers ≡ explorer.old.walker.workers }
     ensures grows { OnOk result (Grows explorer.old explorer.new) }
-    ensures closed { result ≡ Ok true
-        → AreClosedBy (label explorer.old.walker.program) explorer.old.walker.workers explorer.new.store explorer.old.walker.log worker }
+    ensures gathers { OnOk result (Gathers explorer.old explorer.new) }
+    ensures linked { result ≡ Ok true → AreLinkedBy (label explorer.old.walker.program) explorer.old.walker.workers explorer.new.store
+        explorer.new.links.here explorer.old.walker.log worker }
     ensures full { result ≡ Ok false → explorer.new.limit ≤ length explorer.new.store }
 {
     let step = Choice {
@@ -103,8 +125,9 @@ fn try_steals(
     requires at { IsAt explorer.old number }
     requires crew { workers ≡ explorer.old.walker.workers }
     ensures grows { OnOk result (Grows explorer.old explorer.new) }
-    ensures closed { result ≡ Ok true → (v : ℕ) → 1 ≤ v → v ≤ explorer.old.walker.workers
-        → IsClosed (label explorer.old.walker.program) explorer.old.walker.workers explorer.new.store explorer.old.walker.log
+    ensures gathers { OnOk result (Gathers explorer.old explorer.new) }
+    ensures linked { result ≡ Ok true → (v : ℕ) → 1 ≤ v → v ≤ explorer.old.walker.workers
+        → IsLinked (label explorer.old.walker.program) explorer.old.walker.workers explorer.new.store explorer.new.links.here explorer.old.walker.log
         (record { worker = worker; act = choices.steal v }) }
     ensures full { result ≡ Ok false → explorer.new.limit ≤ length explorer.new.store }
 {
@@ -122,12 +145,13 @@ fn try_steals(
     Ok(true)
 }
 
-// Makes a choice, if it is possible, keeps where it leads, if that is new, and takes it back. False where there is no room.
+// Makes a choice, if it is possible, keeps where it leads, if that is new, takes it back, and puts down the link. False where there is no room.
 fn try_choice(explorer: &mut Explorer, number: usize, choice: Choice) -> Result<bool, Memory>
     requires { IsAt explorer.old number }
     ensures grows { OnOk result (Grows explorer.old explorer.new) }
-    ensures closed { result ≡ Ok true
-        → IsClosed (label explorer.old.walker.program) explorer.old.walker.workers explorer.new.store explorer.old.walker.log (choice_of choice) }
+    ensures gathers { OnOk result (Gathers explorer.old explorer.new) }
+    ensures linked { result ≡ Ok true → IsLinked (label explorer.old.walker.program) explorer.old.walker.workers explorer.new.store explorer.new.links.here
+        explorer.old.walker.log (choice_of choice) }
     ensures full { result ≡ Ok false → explorer.new.limit ≤ length explorer.new.store }
 {
     match explorer.walker.make(choice) {
@@ -137,23 +161,41 @@ fn try_choice(explorer: &mut Explorer, number: usize, choice: Choice) -> Result<
             Err(memory) => Err(memory),
             Ok(kept) => match explorer.walker.back() {
                 Err(memory) => Err(memory),
-                Ok(()) => Ok(kept),
+                Ok(()) => link(explorer, kept),
             },
         },
     }
 }
 
-// Keeps where the walker stands, which is one choice behind the log of this number, if that is new. False where there is no room.
-fn keep(explorer: &mut Explorer, number: usize, choice: Choice) -> Result<bool, Memory>
+// Puts down that a choice led to the log of this number. False where it led to none that is kept.
+fn link(explorer: &mut Explorer, kept: Option<usize>) -> Result<bool, Memory>
+    ensures rest { OnOk result (explorer.new ≡ record explorer.old { links = explorer.new.links }) }
+    ensures more { result ≡ Ok true → (number : ℕ) × (kept ≡ Some number)
+        × (explorer.new.links ≡ record explorer.old.links { here = explorer.old.links.here ++ number ∷ [] }) }
+    ensures none { result ≡ Ok false → (kept ≡ None) × (explorer.new.links ≡ explorer.old.links) }
+{
+    match kept {
+        None => Ok(false),
+        Some(number) => match explorer.links.push(number) {
+            Err(memory) => Err(memory),
+            Ok(()) => Ok(true),
+        },
+    }
+}
+
+// Keeps where the walker stands, which is one choice behind the log of this number, if that is new, and tells which log leads there. None where there is
+// no room.
+fn keep(explorer: &mut Explorer, number: usize, choice: Choice) -> Result<Option<usize>, Memory>
     requires { IsBehind explorer.old number (choice_of choice) }
     ensures keeps { OnOk result (KeepsAs explorer.old explorer.new) }
-    ensures known { result ≡ Ok true → IsKnown explorer.new }
-    ensures full { result ≡ Ok false → explorer.new.limit ≤ length explorer.new.store }
+    ensures links { explorer.new.links ≡ explorer.old.links }
+    ensures known { IfOk result (λ kept. IfSome kept (IsKnownBy explorer.new)) }
+    ensures full { result ≡ Ok None → explorer.new.limit ≤ length explorer.new.store }
 {
     // Brings its clauses into the proof.
     let _log = explorer.walker.log();
     let digest = explorer.walker.digest();
-    match is_known(
+    match known(
         digest,
         &explorer.walker,
         &mut explorer.probe,
@@ -161,14 +203,15 @@ fn keep(explorer: &mut Explorer, number: usize, choice: Choice) -> Result<bool, 
         &mut explorer.log,
     ) {
         Err(memory) => Err(memory),
-        Ok(true) => Ok(true),
-        Ok(false) => {
-            if explorer.limit <= explorer.store.len() {
-                return Ok(false);
+        Ok(Some(found)) => Ok(Some(found)),
+        Ok(None) => {
+            let own = explorer.store.len();
+            if explorer.limit <= own {
+                return Ok(None);
             }
             match explorer.store.push(number, choice, digest) {
                 Err(memory) => Err(memory),
-                Ok(()) => Ok(true),
+                Ok(()) => Ok(Some(own)),
             }
         }
     }

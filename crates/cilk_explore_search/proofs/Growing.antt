@@ -1,5 +1,5 @@
 -- A search that has looked at one log more.
-use Rattle.std.proofs.Common.{◌≡◌, ◌≢◌, ◌<◌, ◌≤◌, ◌+◌, ◌⊎◌, inl, inr, ℕ, List, [], ◌∷◌, ◌++◌, length, Some, sym, ap, ◌∙◌}
+use Rattle.std.proofs.Common.{◌≡◌, ◌≢◌, ◌<◌, ◌≤◌, ◌+◌, ◌⊎◌, inl, inr, ℕ, List, [], ◌∷◌, ◌++◌, length, Some, refl, sym, ap, ◌∙◌}
 use Rattle.std.proofs.Common.{subst, arith, slice_get, append_assoc}
 use Rattle.std.proofs.lemmas.Bool.{cases_lt}
 use Rattle.std.proofs.lemmas.Option.{slice_get_within}
@@ -8,7 +8,7 @@ use Rattle.cilk_explore_model.specs.model.Choice.{Choice}
 use Rattle.cilk_explore_model.specs.model.Run.{Standing, Position, after}
 use Rattle.cilk_explore_model.specs.Ending.{Ending}
 use Rattle.cilk_explore_model.specs.Search.{Known, IsSearch, Told, LeadsTo, IsTold, Once}
-use Rattle.cilk_explore_search.specs.Looking.{search_of, IsLooking, IsFound, Extends, IsClosed, AreClosed, TellsMore, TellsOf}
+use Rattle.cilk_explore_search.specs.Looking.{search_of, IsLooking, IsFound, Extends, AreClosed, TellsMore, TellsOf}
 use Rattle.cilk_explore_search.proofs.Fronts.{get-front, Behind, get-cases, append-none, one-there, one-entry}
 
 module _ (program : Labelled) (n : ℕ) where
@@ -22,6 +22,20 @@ module _ (program : Labelled) (n : ℕ) where
     each = λ k log h. elim (get-cases x.more y.more k log h) [ inl one ↦ x.each k log one | inr other ↦ y.each other.place log other.there ];
   }
 
+  pub extends-one : (logs : List (List Choice)) (log : List Choice) (to : Position) → after program n log ≡ Some to
+      → Extends program n (length log) logs (logs ++ log ∷ [])
+  extends-one logs log to leads = record {
+    more = log ∷ [];
+    is = refl;
+    each = λ k other h.
+        let one = one-there log other k h in
+        record {
+          size = ap length (sym one.1);
+          to = to;
+          leads = ap (after program n) (sym one.1) ∙ leads;
+        };
+  }
+
   pub known-more : (depth : ℕ) (logs now : List (List Choice)) (at : Standing) (most : ℕ) → Extends program n depth logs now → Known program n logs at most
       → Known program n now at most
   known-more depth logs now at most ext k = record {
@@ -33,10 +47,6 @@ module _ (program : Labelled) (n : ℕ) where
     leads = k.leads;
     same = k.same;
   }
-
-  pub closed-more : (depth : ℕ) (logs now : List (List Choice)) (log : List Choice) (choice : Choice) → Extends program n depth logs now
-      → IsClosed program n logs log choice → IsClosed program n now log choice
-  closed-more depth logs now log choice ext closed at leads = known-more depth logs now at.standing (length log + 1) ext (closed at leads)
 
 -- more logs were found while one was looked at
 module _ (program : Labelled) (n : ℕ) (logs now : List (List Choice)) (looked : ℕ) (told : List Told) (log : List Choice)

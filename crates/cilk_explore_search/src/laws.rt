@@ -3,6 +3,7 @@
 ghost use Rattle.std.specs.Prelude.{ℕ, List};
 ghost use Rattle.cilk_explore_model.specs.labelled.Labelled.{Labelled};
 ghost use Rattle.cilk_explore_model.specs.model.Choice as choices;
+ghost use Rattle.cilk_explore_search.specs.Linking.{MarksAreByLinks};
 ghost use Rattle.cilk_explore_search.specs.Laws.{SearchBegins, SearchGoesOn, SearchIsHalted, OnlyWorkersChoose};
 
 /// A search that has found the log without choices alone is one, and has nothing to tell yet.
@@ -23,4 +24,9 @@ pub fn a_search_is_halted()
 /// Each choice behind a log leads to what is known, where each step, pop and steal of each worker does.
 pub fn only_workers_choose()
     ensures { (program : Labelled) (n : ℕ) (logs : List (List choices.Choice)) (log : List choices.Choice) → OnlyWorkersChoose program n logs log }
+{}
+
+/// Where all that was found was looked at, and each log has its links, marks by these tell behind which logs the program can end.
+pub fn marks_are_by_links()
+    ensures { MarksAreByLinks }
 {}

@@ -3,4 +3,6 @@
 
 mod laws;
 
-pub use laws::{a_search_begins, a_search_goes_on, a_search_is_halted, only_workers_choose};
+pub use laws::{
+    a_search_begins, a_search_goes_on, a_search_is_halted, marks_are_by_links, only_workers_choose,
+};

@@ -1,6 +1,8 @@
 -- What the events tell after a child was born.
 use Rattle.std.proofs.Common.{◌≡◌, ℕ, ◌+◌, ◌≤◌, Bool, true, false, ◌||◌, List, [], ◌∷◌, ◌++◌, length, length-append, Some, ◌⊎◌, inl, inr, refl, sym}
 use Rattle.std.proofs.Common.{ap, subst, ◌∙◌, arith}
+use Rattle.std.proofs.lemmas.Option.{same_Some}
+use Rattle.std.proofs.lemmas.Bool.{or_cases, or_left, or_right, or_parts}
 use Rattle.cilk_model.specs.Path.{Path, same_path, child_path, parent_of}
 use Rattle.cilk_model.specs.Instance.{Delivery}
 use Rattle.cilk_model.specs.State.{Instances, instance_at, is_live}
@@ -14,28 +16,6 @@ use Rattle.cilk_laws_model.proofs.Waits.{waits_at}
 use Rattle.cilk_laws_model.proofs.Tales.{Started}
 use Rattle.cilk_laws_model.proofs.Sound.{Sound, sound_same}
 use Rattle.cilk_laws_model.proofs.Told.{Told}
-
-either : (a b : Bool) → (a || b) ≡ true → (a ≡ true) ⊎ (b ≡ true)
-either true b h = inl refl
-either false b h = inr h
-
-pub or_left : (a b : Bool) → a ≡ true → (a || b) ≡ true
-or_left true b h = refl
-or_left false b h = cc
-
-or_right : (a b : Bool) → b ≡ true → (a || b) ≡ true
-or_right true b h = refl
-or_right false b h = h
-
-neither : (a b : Bool) → (a || b) ≡ false → a ≡ false
-neither true b h = cc
-neither false b h = refl
-
-some_path : (p q : Path) → Some p ≡ Some q → p ≡ q
-some_path p q e = cc
-
-some_number : (m n : ℕ) → Some m ≡ Some n → m ≡ n
-some_number m n e = cc
 
 module _ (events : List Event) (entries later : Instances) (p c : Path) (n : ℕ) (h : Told events entries) (more : More p c entries later)
     (started : Started c entries later) where
@@ -61,17 +41,17 @@ module _ (events : List Event) (entries later : Instances) (p c : Path) (n : ℕ
 
   parent : (q : Path) (k : ℕ) → same_path c (child_path q k) ≡ true → p ≡ q
   parent q k e =
-      some_path p q (sym (parent-child p (more.number + 1)) ∙ ap parent_of (sym more.child ∙ same-is c (child_path q k) e) ∙ parent-child q k)
+      same_Some p q (sym (parent-child p (more.number + 1)) ∙ ap parent_of (sym more.child ∙ same-is c (child_path q k) e) ∙ parent-child q k)
 
   new_live : (x : Path) → is_live later x ≡ true → (same_path c x ≡ true) ⊎ (is_live entries x ≡ true)
-  new_live x live = either (same_path c x) (is_live entries x) (sym (more.live x) ∙ live)
+  new_live x live = or_cases (same_path c x) (is_live entries x) (sym (more.live x) ∙ live)
 
   new_made : (x : Path) → was_made after x ≡ true → (was_made events x ≡ true) ⊎ (same_path c x ≡ true)
-  new_made x made = either (was_made events x) (same_path c x) (sym (same_made x) ∙ made)
+  new_made x made = or_cases (was_made events x) (same_path c x) (sym (same_made x) ∙ made)
 
   own_counted : (k : ℕ) (m : ℕ) → was_made after (child_path p k) ≡ true → children_at later p ≡ Some m → k ≤ m
   own_counted k m made there =
-      let size = some_number (more.number + 1) m (sym more.parent ∙ there) in
+      let size = same_Some (more.number + 1) m (sym more.parent ∙ there) in
       elim (new_made (child_path p k) made) [
         | inl old ↦ let within = h.counted p k more.number old more.before in omega arith
         | inr new ↦
@@ -112,15 +92,12 @@ module _ (events : List Event) (entries later : Instances) (p c : Path) (n : ℕ
 
   waits_by : (q : Path) (ds : List Delivery) (b : Bool) → same_path c q ≡ b → waits_at later q ≡ Some ds → Sound after q ds
   waits_by q ds true e there =
-      let none : [] ≡ ds = some_list [] ds (sym (started.now (unborn (is_live entries c) refl)) ∙ ap (waits_at later) (same-is c q e) ∙ there) in
+      let none : [] ≡ ds = same_Some [] ds (sym (started.now (unborn (is_live entries c) refl)) ∙ ap (waits_at later) (same-is c q e) ∙ there) in
       subst (Sound after q) none tt
     where
       unborn : (b : Bool) → is_live entries c ≡ b → b ≡ false
       unborn true live = let both : true ≡ false = sym (h.made c live) ∙ fresh in cc
       unborn false live = refl
-
-      some_list : (xs ys : List Delivery) → Some xs ≡ Some ys → xs ≡ ys
-      some_list xs ys k = cc
   waits_by q ds false e there = sound_same events after q ds same (h.waits q ds (sym (started.beside q e) ∙ there))
 
   made_by : (x : Path) → (same_path c x ≡ true) ⊎ (is_live entries x ≡ true) → (was_made events x || same_path c x) ≡ true
@@ -144,7 +121,7 @@ module _ (events : List Event) (entries later : Instances) (p c : Path) (n : ℕ
     made = λ x live. same_made x ∙ made_by x (new_live x live);
     alive = λ x live. same x ∙ alive_by x (new_live x live);
     living = λ x made alive. more.live x ∙ living_by x alive (new_made x made);
-    unmade = λ x none. same x ∙ h.unmade x (neither (was_made events x) (same_path c x) (sym (same_made x) ∙ none));
+    unmade = λ x none. same x ∙ h.unmade x (or_parts (was_made events x) (same_path c x) (sym (same_made x) ∙ none)).0;
     counted = λ q k m made there. counted_by q k m (same_path q p) refl made there;
     parents = λ q k made. same_made q ∙ or_left (was_made events q) (same_path c q) (parents_by q k (new_made (child_path q k) made));
     waits = λ q ds there. waits_by q ds (same_path c q) refl there;

@@ -1,5 +1,6 @@
 -- What the events tell after an instance has ended.
 use Rattle.std.proofs.Common.{◌≡◌, ℕ, ◌≤◌, Bool, true, false, not, ◌&&◌, List, ◌++◌, Option, Some, None, is_some, refl, sym, ap, subst, ◌∙◌}
+use Rattle.std.proofs.lemmas.Option.{same_Some}
 use Rattle.std.specs.Prelude.{option_map}
 use Rattle.cilk_model.specs.Path.{Path, same_path, child_path, parent_of}
 use Rattle.cilk_model.specs.Instance.{Delivery, Instance}
@@ -85,11 +86,8 @@ module _ (events after : List Event) (entries later : Instances) (p : Path) (fat
         subst (λ x. Sound after x ds) (sym is) (parent_by r ds (waits_at entries r) e refl (sym (brought.parent r e (away r ds at_r)) ∙ at_r))
     parent_waits q r ds false e other there =
         old_sound q ds
-        (sym (brought.beside q (away q ds there) (λ x f. let same : r ≡ x = some_same (sym e ∙ f) in ap (same_path q) (sym same) ∙ other))
+        (sym (brought.beside q (away q ds there) (λ x f. let same : r ≡ x = same_Some _ _ (sym e ∙ f) in ap (same_path q) (sym same) ∙ other))
         ∙ there)
-      where
-        some_same : {x y : Path} → Some x ≡ Some y → x ≡ y
-        some_same k = cc
 
     waits_by : (q : Path) (ds : List Delivery) (o : Option Path) → parent_of p ≡ o → waits_at later q ≡ Some ds → Sound after q ds
     waits_by q ds None e there =

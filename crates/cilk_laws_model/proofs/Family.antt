@@ -1,6 +1,8 @@
 -- The parent of a live child lives, and has counted it.
-use Rattle.std.proofs.Common.{◌≡◌, ℕ, ◌+◌, ◌≤◌, Bool, true, false, not, ◌&&◌, ◌||◌, [], ◌∷◌, Option, Some, None, is_some, refl, sym, ap, ◌∙◌}
+use Rattle.std.proofs.Common.{◌≡◌, ℕ, ◌+◌, ◌≤◌, Bool, true, false, not, ◌||◌, [], ◌∷◌, Option, Some, None, is_some, refl, sym, ap, ◌∙◌}
 use Rattle.std.proofs.Common.{if◌then◌else◌, arith}
+use Rattle.std.proofs.lemmas.Option.{same_Some}
+use Rattle.std.proofs.lemmas.Bool.{or_right, and_parts}
 use Rattle.std.specs.Prelude.{option_map}
 use Rattle.cilk_model.specs.Path.{Path, same_path, child_path, parent_of, is_that, is_child}
 use Rattle.cilk_model.specs.Instance.{Instance}
@@ -16,7 +18,7 @@ parent-child [] k = refl
 parent-child (a ∷ []) k = refl
 parent-child (a ∷ b ∷ p) k = ap (option_map (λ q. a ∷ q)) (parent-child (b ∷ p) k)
 
-same-parent : (p q : Path) (k j : ℕ) → child_path p k ≡ child_path q j → p ≡ q
+pub same-parent : (p q : Path) (k j : ℕ) → child_path p k ≡ child_path q j → p ≡ q
 same-parent p q k j e =
     let same : Some p ≡ Some q = sym (parent-child p k) ∙ ap parent_of e ∙ parent-child q j in
     cc
@@ -33,10 +35,6 @@ seen_by : (p c : Path) (e : Entry) (b rest live : Bool) → is_child p c ≡ tru
 seen_by p c e true rest live is same later h =
     ap (λ b. b || rest) (ap (is_child p) (same-is e.path c same) ∙ is)
 seen_by p c e false rest live is same later h = or_right (is_child p e.path) rest (later h)
-  where
-    or_right : (a b : Bool) → b ≡ true → (a || b) ≡ true
-    or_right true b e = refl
-    or_right false b e = e
 
 -- a live child is seen
 pub child_seen : (p c : Path) (entries : Instances) → is_child p c ≡ true → is_live entries c ≡ true → has_live_child entries p ≡ true
@@ -60,10 +58,6 @@ alike_family entries after family alike p k live =
     let c = family p k (sym (alike.live (child_path p k)) ∙ live) in
     record { number = c.number; there = alike.children p ∙ c.there; first = c.first; within = c.within }
 
-and_second : (a b : Bool) → (a && b) ≡ true → b ≡ true
-and_second true b h = h
-and_second false b h = cc
-
 fewer_by : (r : Path) (entries after : Instances) → Fewer r entries after → has_live_child entries r ≡ false → (p : Path) (k : ℕ)
     → is_live entries (child_path p k) ≡ true → Counts entries p k
     → (b : Bool) → same_path p r ≡ b → Counts after p k
@@ -76,11 +70,8 @@ fewer_by r entries after fewer childless p k live c false other =
 
 fewer_family : (r : Path) (entries after : Instances) → Family entries → Fewer r entries after → has_live_child entries r ≡ false → Family after
 fewer_family r entries after family fewer childless p k live =
-    let before = and_second (not (same_path (child_path p k) r)) (is_live entries (child_path p k)) (sym (fewer.live (child_path p k)) ∙ live) in
+    let before = (and_parts (not (same_path (child_path p k) r)) (is_live entries (child_path p k)) (sym (fewer.live (child_path p k)) ∙ live)).1 in
     fewer_by r entries after fewer childless p k before (family p k before) (same_path p r) refl
-
-some_number : (m n : ℕ) → Some m ≡ Some n → m ≡ n
-some_number m n e = cc
 
 pub counted_live : (o : Option Instance) (n : ℕ) → option_map (λ (i : Instance). i.children) o ≡ Some n → is_some o ≡ true
 counted_live None n h = cc
@@ -89,7 +80,7 @@ counted_live (Some i) n h = refl
 module _ (p c : Path) (entries after : Instances) (family : Family entries) (more : More p c entries after) where
   older_by : (q : Path) (k : ℕ) → Counts entries q k → (b : Bool) → same_path q p ≡ b → Counts after q k
   older_by q k old true same =
-      let number = some_number old.number more.number (sym old.there ∙ ap (children_at entries) (same-is q p same) ∙ more.before) in
+      let number = same_Some old.number more.number (sym old.there ∙ ap (children_at entries) (same-is q p same) ∙ more.before) in
       let first = old.first in
       let within = old.within in
       record { number = more.number + 1; there = ap (children_at after) (same-is q p same) ∙ more.parent; first = omega arith; within = omega arith }
@@ -117,7 +108,7 @@ module _ (p c : Path) (entries after : Instances) (family : Family entries) (mor
   fresh_by : (b : Bool) → is_live entries c ≡ b → b ≡ false
   fresh_by true live =
       let old = family p (more.number + 1) (ap (is_live entries) (sym more.child) ∙ live) in
-      let number = some_number old.number more.number (sym old.there ∙ more.before) in
+      let number = same_Some old.number more.number (sym old.there ∙ more.before) in
       let within = old.within in
       absurd (omega arith)
   fresh_by false live = refl

@@ -1,6 +1,7 @@
 -- What the events tell holds at each position, and fates move on.
 use Rattle.std.proofs.Common.{◌≡◌, ℕ, suc, ◌+◌, Bool, true, false, ◌||◌, List, [], ◌∷◌, ◌++◌, length, length-append, Option, Some, None, is_none}
 use Rattle.std.proofs.Common.{is_some, refl, sym, ap, subst, ◌∙◌, if◌then◌else◌, arith}
+use Rattle.std.proofs.lemmas.Bool.{or_left}
 use Rattle.std.specs.Prelude.{option_map}
 use Rattle.cilk_model.specs.labelled.Labelled.{Labelled}
 use Rattle.cilk_model.specs.Path.{Path, same_path, child_path}
@@ -24,7 +25,7 @@ use Rattle.cilk_laws_model.proofs.Tales.{Tale, rests, parks_it, acts, takes, sta
 use Rattle.cilk_laws_model.proofs.Told.{Told, plain_told, FateBecomes, delivered_fate, returned_fate, ended_fate, was_returned, taken_told}
 use Rattle.cilk_laws_model.proofs.Sound.{Sound}
 use Rattle.cilk_laws_model.proofs.Ended.{left_told, brought_told}
-use Rattle.cilk_laws_model.proofs.Born.{same, same_made, or_left, born_told}
+use Rattle.cilk_laws_model.proofs.Born.{same, same_made, born_told}
 
 still_told : (events : List Event) (entries : Instances) → Told events entries → Told (events ++ moved ∷ []) entries
 still_told events entries h = plain_told events moved entries entries moved_plain h (alike entries) (λ q. refl)

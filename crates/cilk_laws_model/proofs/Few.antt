@@ -1,6 +1,7 @@
 -- There are no more leaves than workers.
 use Rattle.std.proofs.Common.{◌≡◌, ℕ, zero, suc, ◌+◌, ◌-◌, ◌<◌, ◌≤◌, Bool, true, false, not, ◌||◌, List, [], ◌∷◌, length, Option, Some, None, refl}
 use Rattle.std.proofs.Common.{ap, ◌∙◌, arith, count_by}
+use Rattle.std.proofs.lemmas.Bool.{or_left, or_right, not-true}
 use Rattle.std.specs.Prelude.{slice_index_or}
 use Rattle.std.specs.List.{list_any}
 use Rattle.std.proofs.lemmas.List.Sums.{sum_by-cons}
@@ -75,14 +76,6 @@ counts_more f g (e ∷ entries) h =
     let rest = counts_more f g entries (λ p live. h p (behind e entries p live)) in
     omega arith
 
-or_left : (a b : Bool) → a ≡ true → (a || b) ≡ true
-or_left true b h = refl
-or_left false b h = cc
-
-or_right : (a b : Bool) → b ≡ true → (a || b) ≡ true
-or_right true b h = refl
-or_right false b h = h
-
 last_at : (p : Path) (places : List Worker) (k : ℕ) → k < length places → bottom_of (worker_paths (slice_index_or places k no_place)) ≡ Some p
     → is_last p places ≡ true
 last_at p [] k there h = absurd (omega arith)
@@ -90,14 +83,10 @@ last_at p (x ∷ places) zero there h = or_left (is_that p (bottom_of (worker_pa
 last_at p (x ∷ places) (suc k) there h =
     or_right (is_that p (bottom_of (worker_paths x))) _ (last_at p places k (omega arith) h)
 
-childless : (b : Bool) → not b ≡ true → b ≡ false
-childless true h = cc
-childless false h = refl
-
 leaf_is_last : (at : Standing) → EachInItsPlace at → (p : Path) → is_live at.state.instances p ≡ true
     → not (has_live_child at.state.instances p) ≡ true → is_last p at.scheduler.places ≡ true
 leaf_is_last at kept p live leaf =
-    let busy = leaf_is_busy at kept p live (childless (has_live_child at.state.instances p) leaf) in
+    let busy = leaf_is_busy at kept p live (not-true (has_live_child at.state.instances p) leaf) in
     last_at p at.scheduler.places (busy.0 - 1) busy.1 busy.3
 
 pub no_more_leaves : NoMoreLeavesThanWorkers

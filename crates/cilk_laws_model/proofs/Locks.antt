@@ -1,6 +1,7 @@
 -- A lock that is held is held by a live instance.
 use Rattle.std.proofs.Common.{◌≡◌, ℕ, zero, suc, ℤ, Bool, true, false, not, ◌&&◌, ◌||◌, List, [], ◌∷◌, map, length, replicate, Option, Some, None}
 use Rattle.std.proofs.Common.{◌⊎◌, inl, inr, refl, sym, ap, ◌∙◌, slice_set, if◌then◌else◌}
+use Rattle.std.proofs.lemmas.Bool.{or_right}
 use Rattle.std.specs.Prelude.{slice_index_or, is_some}
 use Rattle.std.specs.List.{list_any}
 use Rattle.cilk_model.specs.syntax.declared.lock_action.LockAction.{LockAction}
@@ -90,10 +91,6 @@ stays_live : (b l : Bool) → b ≡ false → l ≡ true → (not b && l) ≡ tr
 stays_live true l e h = cc
 stays_live false l e h = h
 
-live_too : (b l : Bool) → l ≡ true → (b || l) ≡ true
-live_too true l h = refl
-live_too false l h = h
-
 module _ (program : Labelled) (s : State) (p : Path) (i : Instance) (live : instance_at s.instances p ≡ Some i) (kept : HoldersLive s) where
   lock_turned_live : (j : ℕ) (what : LockAction) (now : Lock) → lock_turn_by p what (lock_at s j) ≡ lock_turned now → (k : ℕ) (q : Path)
       → at_place (slice_set s.locks j now) k ≡ held q
@@ -116,7 +113,7 @@ module _ (program : Labelled) (s : State) (p : Path) (i : Instance) (live : inst
   row_holders (calling head awaits callee zs heads room) lives = λ k q h. lives.live q ∙ kept k q h
   row_holders (leaving n) lives = λ k q h. lives.live q ∙ kept k q h
   row_holders (answering n cell z) lives = λ k q h. lives.live q ∙ kept k q h
-  row_holders (spawning head receiver callee zs heads few room) lives = λ k q h. lives.live q ∙ live_too _ (is_live s.instances q) (kept k q h)
+  row_holders (spawning head receiver callee zs heads few room) lives = λ k q h. lives.live q ∙ or_right _ (is_live s.instances q) (kept k q h)
   row_holders (printing head bytes heads room) lives = λ k q h. lives.live q ∙ kept k q h
   row_holders (turning_lock head what j now heads becomes) lives = λ k q h. lives.live q ∙ lock_turned_live j what now becomes k q h
   row_holders (marking head heads) lives = λ k q h. lives.live q ∙ kept k q h

@@ -17,8 +17,7 @@ use Rattle.cilk_model.specs.Fails.{here}
 use Rattle.cilk_model.specs.WrittenRule.{Flags, past, GoesOn, GoesBy, Puts, PutsOn, Enters, Resumes, Births, RootEnds, ChildEnds, Marks, Traps}
 use Rattle.cilk_model.specs.WrittenRule.{Starts, Ends}
 use Rattle.cilk_laws_model.specs.OneState.{AlikeAt, equal, by_cells, Alike, RuleLeavesOneState}
-use Rattle.cilk_laws_model.proofs.Family.{parent-child}
-use Rattle.cilk_laws_model.proofs.Paths.{same-parent}
+use Rattle.cilk_laws_model.proofs.Family.{parent-child, same-parent}
 use Rattle.cilk_laws_model.proofs.Decided.{at, number_decided, cell_decided, path_decided, lock_decided, empty_decided}
 use Rattle.cilk_laws_model.proofs.Forms.{Prints, LocksTo, FitsRoom, FitsLockTurn, FitsCombined, FitsAnswer, FitsLeaving, FitsEffect, Fits, Taken}
 use Rattle.cilk_laws_model.proofs.Forms.{held_at, acts_fit, takes_fit}

@@ -1,5 +1,6 @@
 -- Each instance that is parked has a live child.
 use Rattle.std.proofs.Common.{◌≡◌, ℕ, Bool, true, false, not, ◌&&◌, ◌||◌, [], ◌∷◌, Option, Some, None, refl, sym, ap, ◌∙◌, if◌then◌else◌}
+use Rattle.std.proofs.lemmas.Bool.{or_right, and_parts}
 use Rattle.cilk_model.specs.labelled.Labelled.{Labelled}
 use Rattle.cilk_model.specs.Path.{Path, same_path, parent_of, is_that, is_child}
 use Rattle.cilk_model.specs.State.{Entry, Instances, State, instance_at, is_live, has_live_child}
@@ -47,12 +48,8 @@ still_there p entries after stay h =
 alike_there : (p : Path) (entries after : Instances) → Alike entries after → has_live_child entries p ≡ true → has_live_child after p ≡ true
 alike_there p entries after alike = still_there p entries after (λ c is live. alike.live c ∙ live)
 
-or_left : (a b : Bool) → b ≡ true → (a || b) ≡ true
-or_left true b h = refl
-or_left false b h = h
-
 more_there : (p r c : Path) (entries after : Instances) → More r c entries after → has_live_child entries p ≡ true → has_live_child after p ≡ true
-more_there p r c entries after more = still_there p entries after (λ d is live. more.live d ∙ or_left (same_path c d) (is_live entries d) live)
+more_there p r c entries after more = still_there p entries after (λ d is live. more.live d ∙ or_right (same_path c d) (is_live entries d) live)
 
 differs_by : (p c r : Path) (b : Bool) → same_path c r ≡ b → is_child p c ≡ true → is_child p r ≡ false → b ≡ false
 differs_by p c r true same is other =
@@ -85,10 +82,6 @@ stuck_parent entries q h = by (has_live_child entries q) (can_take (instance_at 
     by true b h = refl
     by false b h = cc
 
-and_second : (a b : Bool) → (a && b) ≡ true → b ≡ true
-and_second true b h = h
-and_second false b h = cc
-
 -- where the parent q of an instance that ended is parked, it comes to the hand if it can go on
 woken_by : (entries : Instances) (sched : Scheduler) (w : ℕ) (q : Path) (a b : Bool) → sched.parked q ≡ a → can_go_on entries q ≡ b
     → ((r : Path) → same_path r q ≡ false → sched.parked r ≡ true → has_live_child entries r ≡ true) → (r : Path) (c : Bool) → same_path r q ≡ c
@@ -98,7 +91,7 @@ woken_by : (entries : Instances) (sched : Scheduler) (w : ℕ) (q : Path) (a b :
 woken_by entries sched w q true true e f others r true same h =
     let both : false ≡ true = sym (ap (λ x. not x && sched.parked r) same) ∙ h in cc
 woken_by entries sched w q true true e f others r false same h =
-    others r same (and_second (not (same_path r q)) (sched.parked r) h)
+    others r same (and_parts (not (same_path r q)) (sched.parked r) h).1
 woken_by entries sched w q true false e f others r true same h =
     ap (has_live_child entries) (same-is r q same) ∙ stuck_parent entries q f
 woken_by entries sched w q true false e f others r false same h = others r same h

@@ -1,18 +1,12 @@
 -- Parents, children and what is below a path.
-use Rattle.std.proofs.Common.{◌≡◌, ◌≢◌, ℕ, ◌==◌, false, [], ◌∷◌, Option, Some, None, refl, sym, ap, ◌∙◌}
+use Rattle.std.proofs.Common.{◌≡◌, ◌≢◌, ℕ, ◌==◌, false, [], ◌∷◌, Option, Some, None, refl, ap}
 use Rattle.std.specs.Prelude.{option_map}
 use Rattle.std.proofs.lemmas.Bool.{and_right}
 use Rattle.cilk_model.specs.Path.{Path, child_path, parent_of, is_below}
-use Rattle.cilk_laws_model.proofs.Family.{parent-child}
 
 pub not_own : (q : Path) (k : ℕ) → q ≡ child_path q k → ⊥
 not_own [] k e = cc
 not_own (a ∷ q) k e = not_own q k (cc)
-
-pub same-parent : (p q : Path) (k j : ℕ) → child_path p k ≡ child_path q j → p ≡ q
-same-parent p q k j e =
-    let same : Some p ≡ Some q = sym (parent-child p k) ∙ ap parent_of e ∙ parent-child q j in
-    cc
 
 -- the root has no parent, and every other path is a child's
 abbrev pub Origin : Path → Option Path → Type 0

@@ -1,7 +1,7 @@
 -- What a step of a live instance is: one row for each way to go on, with what is known there.
 use Rattle.std.proofs.Common.{◌≡◌, ℕ, ℤ, ◌^◌, ◌+◌, ◌-◌, ◌<◌, ◌≤◌, nat_lt, nat_le, Bool, true, false, not, ◌&&◌, ◌||◌, List, [], ◌∷◌, length, Option}
 use Rattle.std.proofs.Common.{Some, None, Result, Ok, Err, refl, sym, ap, subst, ◌∙◌, if◌then◌else◌}
-use Rattle.std.proofs.lemmas.Bool.{cond_both, and_parts, ltb-true, leb-true}
+use Rattle.std.proofs.lemmas.Bool.{cond_both, and_parts, ltb-true, leb-true, not-false}
 use Rattle.cilk_model.specs.syntax.declared.lock_action.LockAction.{LockAction}
 use Rattle.cilk_model.specs.syntax.declared.lock_action.LockAction.TheVariants.{Init, Unlock}
 use Rattle.cilk_model.specs.syntax.declared.lock_action.LockAction.TheVariants as action
@@ -144,14 +144,10 @@ child_by : (h e : Bool) → (not h && e) ≡ false → e ≡ true → h ≡ true
 child_by true e h f = refl
 child_by false e h f = let both : true ≡ false = sym f ∙ h in cc
 
-not_false : (d : Bool) → not d ≡ false → d ≡ true
-not_false true h = refl
-not_false false h = cc
-
 -- what does not wait, though it is to wait, has nothing to wait for
 synched_by : (a b c d : Bool) → ((a && (b || c)) && not d) ≡ false → a ≡ true → c ≡ true → d ≡ true
-synched_by true true true d h e f = not_false d h
-synched_by true false true d h e f = not_false d h
+synched_by true true true d h e f = not-false d h
+synched_by true false true d h e f = not-false d h
 synched_by true b false d h e f = cc
 synched_by false b c d h e f = cc
 
@@ -173,10 +169,6 @@ lockless_by false true c d e h k f g = k
 lockless_by false false true true e h k f g = k
 lockless_by false false true false e h k f g = cc
 lockless_by false false false d e h k f g = cc
-
-first_true : (a b : Bool) → (a && b) ≡ true → a ≡ true
-first_true true b h = refl
-first_true false b h = cc
 
 module _ (program : Labelled) (s : State) (p : Path) (i : Instance) where
   room_row : (n : ℕ) (kind : TrapKind) (b : Bool) (step : Step) → (b ≡ true → Row program s p i step) → Row program s p i (if_room s p n kind b step)
@@ -256,7 +248,7 @@ module _ (program : Labelled) (s : State) (p : Path) (i : Instance) where
   boundary_row : (ds : List Delivery) → i.aborted ≡ false → i.waiting ≡ ds → at_boundary i ≡ true → Row program s p i (step_at_boundary program s p i ds)
   boundary_row [] unmarked e boundary = head_row (head_of i.top.items) unmarked refl (λ _. ap is_empty e)
   boundary_row (oldest ∷ others) unmarked e boundary =
-      receiver_row oldest others oldest.receiver (record { waits = e; boundary = boundary; alone = first_true (is_empty i.below) _ boundary })
+      receiver_row oldest others oldest.receiver (record { waits = e; boundary = boundary; alone = (and_parts (is_empty i.below) _ boundary).0 })
 
   within_quiet : (o : Option Numbered) → (is_empty i.below && (i.spawned || head_waits i o)) ≡ false → head_waits i o ≡ true → is_empty i.waiting ≡ true
   within_quiet None within here = cc

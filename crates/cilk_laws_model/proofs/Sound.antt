@@ -1,5 +1,6 @@
 -- Each delivery that waits is of a child that has returned, and waits once.
 use Rattle.std.proofs.Common.{◌≡◌, Bool, true, false, List, [], ◌∷◌, ◌++◌, Some, refl, sym, ap, subst, ◌∙◌}
+use Rattle.std.proofs.lemmas.Option.{same_Some}
 use Rattle.cilk_model.specs.Path.{Path, same_path, parent_of}
 use Rattle.cilk_model.specs.Instance.{Delivery}
 use Rattle.cilk_model.specs.Event.{Event}
@@ -43,15 +44,12 @@ lacks_living events c q [] alive h = tt
 lacks_living events c q (d ∷ ds) alive h =
     (apart c d.child (λ e. let both : lives ≡ has_returned = sym alive ∙ ap (told events) e ∙ h.1 in cc), lacks_living events c q ds alive h.3)
 
-some_same : (p q : Path) → Some p ≡ Some q → p ≡ q
-some_same p q e = cc
-
 -- the child of another instance waits elsewhere
 pub lacks_foreign : (events : List Event) (c p q : Path) (ds : List Delivery) → parent_of c ≡ Some p → same_path q p ≡ false → Sound events q ds → Lacks c ds
 lacks_foreign events c p q [] parent other h = tt
 lacks_foreign events c p q (d ∷ ds) parent other h = (
   apart c d.child (λ e.
-      let same : p ≡ q = some_same p q (sym parent ∙ ap parent_of e ∙ h.0) in
+      let same : p ≡ q = same_Some p q (sym parent ∙ ap parent_of e ∙ h.0) in
       let both : true ≡ false = sym (same-self q) ∙ ap (same_path q) (sym same) ∙ other in
       cc),
   lacks_foreign events c p q ds parent other h.3,

@@ -1,5 +1,6 @@
 -- What each step tells, and what it does to the deliveries that wait.
 use Rattle.std.proofs.Common.{◌≡◌, ℕ, ℤ, pos, Bool, true, false, List, [], ◌∷◌, ◌++◌, Option, Some, None, refl, sym, ap, ◌∙◌}
+use Rattle.std.proofs.lemmas.Option.{same_Some}
 use Rattle.std.specs.Prelude.{option_map}
 use Rattle.cilk_model.specs.labelled.Labelled.{Labelled}
 use Rattle.cilk_model.specs.Path.{Path, same_path, parent_of}
@@ -89,14 +90,11 @@ module _ (program : Labelled) (s : State) (p : Path) (i : Instance) (live : inst
         new = new;
         is_own = brings_own p z i.receiver i.aborted;
         parent = λ x f other.
-            let same : r ≡ x = some_same (sym e ∙ f) in
+            let same : r ≡ x = same_Some _ _ (sym e ∙ f) in
             ap (λ y. waits_at (changed y (with_deliveries new) (without p s.instances)) x) same ∙ at-brought x new (without p s.instances)
             ∙ ap (option_map (λ ds. ds ++ new)) (beside-without p x s.instances other);
         beside = λ q other away. beside-changed r q (with_deliveries new) (without p s.instances) (away r e) ∙ beside-without p q s.instances other;
       }
-    where
-      some_same : {x y : Path} → Some x ≡ Some y → x ≡ y
-      some_same h = cc
 
   born : (parent child : Instance) → parent.waiting ≡ i.waiting → child.waiting ≡ [] → (c : Path)
       → Started c s.instances (changed p (λ _. parent) s.instances ++ record { path = c; instance = child } ∷ [])

@@ -1,5 +1,6 @@
 -- What the events tell of the instances, and what they tell after one more step.
 use Rattle.std.proofs.Common.{◌≡◌, ℕ, suc, ◌≤◌, Bool, true, false, List, [], ◌∷◌, ◌++◌, length, Some, refl, sym, ap, subst, ◌∙◌, if◌then◌else◌}
+use Rattle.std.proofs.lemmas.Option.{same_Some}
 use Rattle.cilk_model.specs.Path.{Path, same_path, child_path, parent_of}
 use Rattle.cilk_model.specs.Instance.{Delivery}
 use Rattle.cilk_model.specs.State.{Instances, is_live}
@@ -81,9 +82,6 @@ ended_fate c events = record {
   made = λ x. made-unborn events (ended c) x refl;
 }
 
-some_same : {A : Type 0} (x y : A) → Some x ≡ Some y → x ≡ y
-some_same x y e = cc
-
 -- whether x is c, or its fate stays
 module _ (c : Path) (events after : List Event) (fate : Fate) (becomes : FateBecomes c events after fate) where
   alive_by : (x : Path) (b : Bool) → same_path c x ≡ b → (b ≡ true → ⊥) → told events x ≡ lives → told after x ≡ lives
@@ -121,7 +119,7 @@ module _ (events after : List Event) (entries later : Instances) (p c : Path) (k
   waits_by : (q : Path) (ds : List Delivery) (b : Bool) → same_path q p ≡ b → waits_at later q ≡ Some ds → Sound after q ds
   waits_by q ds true e there =
       let same = same-is q p e in
-      let is : taken.others ≡ ds = some_same taken.others ds (sym taken.now ∙ ap (waits_at later) (sym same) ∙ there) in
+      let is : taken.others ≡ ds = same_Some taken.others ds (sym taken.now ∙ ap (waits_at later) (sym same) ∙ there) in
       subst (λ x. Sound after x ds) (sym same) (subst (Sound after p) is (sound_but events after c p taken.others becomes.beside lacks_others before.3))
   waits_by q ds false e there =
       let old = h.waits q ds (sym (taken.beside q e) ∙ there) in

@@ -4,8 +4,8 @@ use Rattle.cilk_check.specs.lexeme.declared.keyword.Keyword.TheVariants as key
 use Rattle.cilk_check.specs.lexeme.declared.mark.Mark.TheVariants as sign
 use Rattle.cilk_check.specs.lexeme.Lexeme.{Lexeme, mark}
 use Rattle.cilk_check.specs.lexeme.Spelling.{mark_spelling, IsName}
-use Rattle.cilk_parse_grammar.proofs.lexeme_laws.Decimals.{decimal_number}
-use Rattle.cilk_parse_grammar.proofs.lexeme_laws.Longest.{BeginsNoMark, no_mark_on, name_begins, number_begins}
+use Rattle.cilk_parse.proofs.lex_laws.Decimals.{decimal_number}
+use Rattle.cilk_parse.proofs.lex_laws.Longest.{BeginsNoMark, no_mark_on, name_begins, number_begins}
 use Rattle.cilk_check.specs.syntax.declared.operator.BinOp.{BinOp}
 use Rattle.cilk_check.specs.syntax.declared.operator.BinOp.TheVariants as ops
 use Rattle.cilk_check.specs.syntax.declared.un_op.UnOp.{UnOp}

@@ -8,7 +8,7 @@ use Rattle.cilk_check.specs.syntax.Tree as tree
 use Rattle.cilk_check.specs.syntax.Bare.{bare_program}
 use Rattle.cilk_tree.specs.syntax.ProgramText.{program_text}
 use Rattle.cilk_check.specs.lexeme.Lexing.{Lexes}
-use Rattle.cilk_parse_grammar.proofs.lexeme_laws.Sayable.{good_pieces}
+use Rattle.cilk_parse.proofs.lex_laws.Sayable.{good_pieces}
 use Rattle.cilk_laws_printing.proofs.Programs.{program_made}
 use Rattle.cilk_parse_grammar.specs.Spelling.{SpellsProgram}
 use Rattle.cilk_laws_printing.specs.Plain.{PlainItems}

@@ -4,10 +4,10 @@ use Rattle.std.proofs.Common.{ap, ◌∙◌, codes}
 use Rattle.cilk_check.specs.lexeme.declared.keyword.Keyword.TheVariants as key
 use Rattle.cilk_check.specs.lexeme.declared.mark.Mark.TheVariants as sign
 use Rattle.cilk_check.specs.lexeme.Lexeme.{Lexeme, word, name, mark}
-use Rattle.cilk_check.specs.lexeme.Sight.{named, word_in, all_words}
+use Rattle.cilk_parse.specs.Sight.{named, word_in, all_words}
 use Rattle.cilk_check.specs.lexeme.Spelling.{IsName}
-use Rattle.cilk_parse_grammar.proofs.lexeme_laws.Decimals.{decimal_number}
-use Rattle.cilk_parse_grammar.proofs.lexeme_laws.Longest.{no_mark_on}
+use Rattle.cilk_parse.proofs.lex_laws.Decimals.{decimal_number}
+use Rattle.cilk_parse.proofs.lex_laws.Longest.{no_mark_on}
 use Rattle.cilk_check.specs.syntax.declared.return_type.ReturnType.{ReturnType}
 use Rattle.cilk_check.specs.syntax.declared.return_type.ReturnType.TheVariants as returns
 use Rattle.cilk_check.specs.syntax.ReturnWord.{word_of}

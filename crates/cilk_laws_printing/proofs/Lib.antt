@@ -23,6 +23,7 @@ pub mod ReadPrograms
 pub mod Can
 pub mod Able
 pub mod GoodTrees
+pub mod BareLaws
 pub mod Plain
 pub mod Printed
 pub mod Says

@@ -2,13 +2,12 @@
 use Rattle.std.proofs.Common.{◌≡◌, ℕ, Bool, true, false, List, [], ◌∷◌, ◌++◌, refl, arith}
 use Rattle.std.specs.Prelude.{◌==◌}
 use Rattle.std.specs.List.{list_all}
-use Rattle.std.proofs.lemmas.Bool.{eqb-true}
+use Rattle.std.proofs.lemmas.Bool.{eqb-true, and_parts}
 use Rattle.std.proofs.lemmas.Bool.Decides.{nat_tests}
 use Rattle.cilk_check.specs.lexeme.Byte.{is_plain}
 use Rattle.cilk_check.specs.lexeme.Good.{is_sayable}
 use Rattle.cilk_check.specs.lexeme.Lexeme.{literal}
 use Rattle.cilk_check.specs.lexeme.Spelling.{Says, says_nothing, says_byte, says_escape}
-use Rattle.cilk_parse_grammar.proofs.lexeme_laws.Runs.{both}
 use Rattle.cilk_check.specs.syntax.Tree.{Literal}
 use Rattle.cilk_tree.specs.syntax.MoveText.{escape, escapes, literal_text}
 use Rattle.cilk_laws_printing.proofs.Writes.{WritesAlone, text_writes}
@@ -28,7 +27,7 @@ byte_says b {w} {s} h r = at (b == 10) refl (b == 9) refl (b == 92) refl (b == 3
 
 says_escapes : (bs : List ℕ) → list_all is_sayable bs ≡ true → Says (escapes bs) bs
 says_escapes [] h = says_nothing
-says_escapes (b ∷ bs) h = let p = both (is_sayable b) (list_all is_sayable bs) h in byte_says b p.0 (says_escapes bs p.1)
+says_escapes (b ∷ bs) h = let p = and_parts (is_sayable b) (list_all is_sayable bs) h in byte_says b p.0 (says_escapes bs p.1)
 
 pub literal_writes : (l : Literal) → list_all is_sayable l.bytes ≡ true → WritesAlone (literal_text l) (literal l.bytes ∷ [])
 literal_writes l h = text_writes (says_escapes l.bytes h)

@@ -5,7 +5,7 @@ use Rattle.cilk_check.specs.lexeme.declared.mark.Mark.{Mark}
 use Rattle.cilk_check.specs.lexeme.declared.mark.Mark.TheVariants as sign
 use Rattle.cilk_check.specs.lexeme.Lexeme.{Lexeme, name, mark}
 use Rattle.cilk_check.specs.lexeme.Spelling.{IsName, mark_spelling}
-use Rattle.cilk_parse_grammar.proofs.lexeme_laws.Made.{Stops}
+use Rattle.cilk_parse.proofs.lex_laws.Made.{Stops}
 use Rattle.cilk_check.specs.syntax.declared.adjustment.Adjustment.TheVariants as by
 use Rattle.cilk_check.specs.syntax.declared.operator.BinOp.{BinOp}
 use Rattle.cilk_check.specs.syntax.OperatorMark.{mark_of}

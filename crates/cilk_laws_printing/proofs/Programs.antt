@@ -4,7 +4,7 @@ use Rattle.std.proofs.lemmas.List.{append-nil}
 use Rattle.cilk_check.specs.lexeme.declared.header.Header.{Header}
 use Rattle.cilk_check.specs.lexeme.declared.header.Header.TheVariants as head
 use Rattle.cilk_check.specs.lexeme.Lexeme.{Lexeme, inclusion}
-use Rattle.cilk_parse_grammar.proofs.lexeme_laws.Made.{Made, nothing_made, include_made}
+use Rattle.cilk_parse.proofs.lex_laws.Made.{Made, nothing_made, include_made}
 use Rattle.cilk_check.specs.syntax.Tree as tree
 use Rattle.cilk_tree.specs.syntax.Lines.{text_of}
 use Rattle.cilk_tree.specs.syntax.ProgramText.{header_line, items_lines, program_text}

@@ -3,7 +3,7 @@ use Rattle.std.proofs.Common.{◌≡◌, ℕ, ◌≤◌, List, [], ◌∷◌, ma
 use Rattle.cilk_check.specs.lexeme.Lexeme.{Lexeme, Piece}
 use Rattle.cilk_check.specs.syntax.Tree as tree
 use Rattle.cilk_check.specs.syntax.Bare.{bare_item, bare_program}
-use Rattle.cilk_parse_grammar.proofs.syntax_laws.BareLaws.{bare_item-bare}
+use Rattle.cilk_laws_printing.proofs.BareLaws.{bare_item-bare}
 use Rattle.cilk_parse_grammar.specs.Classes.{cls}
 use Rattle.cilk_parse_grammar.specs.Grammar.{program}
 use Rattle.cilk_parse_grammar.specs.Spelling.{first_of, SpellsProgram}

@@ -5,10 +5,10 @@ use Rattle.std.proofs.lemmas.List.{append-nil}
 use Rattle.cilk_check.specs.lexeme.declared.keyword.Keyword.TheVariants as key
 use Rattle.cilk_check.specs.lexeme.declared.mark.Mark.TheVariants as sign
 use Rattle.cilk_check.specs.lexeme.Lexeme.{Lexeme, word, name, mark, literal}
-use Rattle.cilk_check.specs.lexeme.Sight.{named, word_in, all_words}
+use Rattle.cilk_parse.specs.Sight.{named, word_in, all_words}
 use Rattle.cilk_check.specs.lexeme.Spelling.{IsName, int_max}
-use Rattle.cilk_parse_grammar.proofs.lexeme_laws.Decimals.{decimal_number}
-use Rattle.cilk_parse_grammar.proofs.lexeme_laws.Longest.{no_mark_on, number_begins}
+use Rattle.cilk_parse.proofs.lex_laws.Decimals.{decimal_number}
+use Rattle.cilk_parse.proofs.lex_laws.Longest.{no_mark_on, number_begins}
 use Rattle.cilk_check.specs.syntax.declared.lock_action.LockAction.{LockAction}
 use Rattle.cilk_check.specs.syntax.declared.lock_action.LockAction.TheVariants as locks
 use Rattle.cilk_check.specs.syntax.LockWord.{lock_word}

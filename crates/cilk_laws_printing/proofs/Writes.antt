@@ -6,11 +6,11 @@ use Rattle.cilk_check.specs.lexeme.declared.mark.Mark.{Mark}
 use Rattle.cilk_check.specs.lexeme.Byte.{is_blank, continues_number}
 use Rattle.cilk_check.specs.lexeme.Lexeme.{Lexeme, word, name, number, mark, literal}
 use Rattle.cilk_check.specs.lexeme.Lexing.{EndsBefore, Front, fresh_behind, of_blank, of_word, of_name, of_number, of_mark}
-use Rattle.cilk_check.specs.lexeme.Sight.{named}
+use Rattle.cilk_parse.specs.Sight.{named}
 use Rattle.cilk_check.specs.lexeme.Spelling.{spelling, mark_spelling, has_name_form, IsName, IsNumber, Says}
-use Rattle.cilk_parse_grammar.proofs.lexeme_laws.Longest.{continues_mark, opens_mark, first_byte, longest_before, longest_alone}
-use Rattle.cilk_parse_grammar.proofs.lexeme_laws.Made.{Made, Stops, skip_made, take_made, name_stops, text_front}
-use Rattle.cilk_parse_grammar.proofs.lexeme_laws.Words.{named_front}
+use Rattle.cilk_parse.proofs.lex_laws.Longest.{continues_mark, opens_mark, first_byte, longest_before, longest_alone}
+use Rattle.cilk_parse.proofs.lex_laws.Made.{Made, Stops, skip_made, take_made, name_stops, text_front}
+use Rattle.cilk_parse.proofs.lex_laws.Words.{named_front}
 
 -- ---- what follows
 

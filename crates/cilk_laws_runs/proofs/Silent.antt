@@ -3,7 +3,7 @@ use Rattle.std.proofs.Common.{◌≡◌, ◌≢◌, pos, ℕ, suc, ◌+◌, Bool
 use Rattle.std.proofs.Common.{inr, is_some, refl, sym, ap, subst, ◌∙◌, if◌then◌else◌}
 use Rattle.std.specs.Prelude.{option_map}
 use Rattle.std.specs.List.{list_all}
-use Rattle.std.proofs.lemmas.Bool.{and_parts, cond-false, false_from_ne_true, true≢false}
+use Rattle.std.proofs.lemmas.Bool.{and_parts, cond-false, false_from_ne_true, or_cases, or_left, or_right, true≢false}
 use Rattle.std.proofs.lemmas.List.{append-nil, append_assoc}
 use Rattle.cilk_laws_model.specs.labelled.Labelled.{Labelled, Action, call, spawn, abort, return_with, return_nothing, close}
 use Rattle.cilk_laws_model.specs.model.Path.{Path, same_path, child_path, is_below}
@@ -45,6 +45,10 @@ pushed_mark (Some y) b x none same unmarked = cc
 pushed_mark None true x none same unmarked = ap Some unmarked
 pushed_mark None false x none same unmarked = cc
 
+abbrev makes : Path → Step → Bool
+makes c (spawns child t did) = same_path child c
+makes c other = false
+
 module _ (program : Labelled) (s : State) (p : Path) (i : Instance) where
   new_mark : (c : Path) (parent child : Instance) → is_live s.instances c ≡ false → child.aborted ≡ false
       → mark_at (changed p (λ _. parent) s.instances ++ record { path = c; instance = child } ∷ []) c ≡ Some false
@@ -53,54 +57,33 @@ module _ (program : Labelled) (s : State) (p : Path) (i : Instance) where
       ap (option_map mark_of) (at-push before (record { path = c; instance = child }) c)
       ∙ pushed_mark (instance_at before c) (same_path c c) child (live-changed p (λ _. parent) s.instances c ∙ fresh) (same-self c) unmarked
 
-  born_unmarked : (c : Path) (k : ℕ) (step : Step) → Way program s p i step → event_of_step step ≡ spawned c k
+  -- a child that is born, as the step says or as its event does
+  born_unmarked : (c : Path) (step : Step) → Way program s p i step → (makes c step || is_birth c (event_of_step step)) ≡ true
       → is_live s.instances c ≡ false → mark_at (state_after s step).instances c ≡ Some false
-  born_unmarked c k _ (starting head receiver callee zs acting written) h fresh =
-      let is : child_path p (i.children + 1) ≡ c = cc in
+  born_unmarked c _ (starting head receiver callee zs acting written) h fresh =
+      let child = child_path p (i.children + 1) in
+      let is : child ≡ c = same-is child c (elim (or_cases (same_path child c) (same_path child c) h) [
+        | inl e ↦ e
+        | inr e ↦ e
+      ]) in
       subst (λ x. mark_at (after_start program s p i receiver callee zs).instances x ≡ Some false) is
-      (new_mark (child_path p (i.children + 1)) (record (gone_on (pos 1) i) { spawned = true; children = i.children + 1 })
+      (new_mark child (record (gone_on (pos 1) i) { spawned = true; children = i.children + 1 })
       (record (started program callee zs) { aborted = i.aborted; receiver = receiver }) (ap (is_live s.instances) is ∙ fresh) acting.unmarked)
-  born_unmarked c k _ (resting unmarked) h fresh = cc
-  born_unmarked c k _ (parking why) h fresh = cc
-  born_unmarked c k _ (ending is_marked) h fresh = cc
-  born_unmarked c k _ (stopping n kind unmarked) h fresh = cc
-  born_unmarked c k _ (going head z acting sort) h fresh = cc
-  born_unmarked c k _ (writing head cell z acting sort) h fresh = cc
-  born_unmarked c k _ (entering head awaits callee zs acting sort) h fresh = cc
-  born_unmarked c k _ (quitting head acting sort above) h fresh = cc
-  born_unmarked c k _ (answering head cell z acting sort above) h fresh = cc
-  born_unmarked c k _ (returning head z acting sort alone) h fresh = cc
-  born_unmarked c k _ (printing head bytes acting sort) h fresh = cc
-  born_unmarked c k _ (turning_lock head l now acting sort) h fresh = cc
-  born_unmarked c k _ (aborts head acting sort) h fresh = cc
-  born_unmarked c k _ (placing oldest others cell z n taking) h fresh = cc
-  born_unmarked c k _ (letting_in oldest others inlet ys zs n taking is) h fresh = cc
-
-  spawn_unmarked : (c : Path) (t : State) (did : Event) (step : Step) → Way program s p i step → step ≡ spawns c t did
-      → is_live s.instances c ≡ false → mark_at t.instances c ≡ Some false
-  spawn_unmarked c t did step (starting head receiver callee zs acting written) h fresh =
-      let is : child_path p (i.children + 1) ≡ c = cc in
-      let leads : after_start program s p i receiver callee zs ≡ t = cc in
-      ap (λ (x : State). mark_at x.instances c) (sym leads)
-      ∙ born_unmarked c head.number
-      (spawns (child_path p (i.children + 1)) (after_start program s p i receiver callee zs)
-      (spawned (child_path p (i.children + 1)) head.number))
-      (starting head receiver callee zs acting written) (ap (λ x. spawned x head.number) is) fresh
-  spawn_unmarked c t did step (resting unmarked) h fresh = cc
-  spawn_unmarked c t did step (parking why) h fresh = cc
-  spawn_unmarked c t did step (ending is_marked) h fresh = cc
-  spawn_unmarked c t did step (stopping n kind unmarked) h fresh = cc
-  spawn_unmarked c t did step (going head z acting sort) h fresh = cc
-  spawn_unmarked c t did step (writing head cell z acting sort) h fresh = cc
-  spawn_unmarked c t did step (entering head awaits callee zs acting sort) h fresh = cc
-  spawn_unmarked c t did step (quitting head acting sort above) h fresh = cc
-  spawn_unmarked c t did step (answering head cell z acting sort above) h fresh = cc
-  spawn_unmarked c t did step (returning head z acting sort alone) h fresh = cc
-  spawn_unmarked c t did step (printing head bytes acting sort) h fresh = cc
-  spawn_unmarked c t did step (turning_lock head l now acting sort) h fresh = cc
-  spawn_unmarked c t did step (aborts head acting sort) h fresh = cc
-  spawn_unmarked c t did step (placing oldest others cell z n taking) h fresh = cc
-  spawn_unmarked c t did step (letting_in oldest others inlet ys zs n taking is) h fresh = cc
+  born_unmarked c _ (resting unmarked) h fresh = cc
+  born_unmarked c _ (parking why) h fresh = cc
+  born_unmarked c _ (ending is_marked) h fresh = cc
+  born_unmarked c _ (stopping n kind unmarked) h fresh = cc
+  born_unmarked c _ (going head z acting sort) h fresh = cc
+  born_unmarked c _ (writing head cell z acting sort) h fresh = cc
+  born_unmarked c _ (entering head awaits callee zs acting sort) h fresh = cc
+  born_unmarked c _ (quitting head acting sort above) h fresh = cc
+  born_unmarked c _ (answering head cell z acting sort above) h fresh = cc
+  born_unmarked c _ (returning head z acting sort alone) h fresh = cc
+  born_unmarked c _ (printing head bytes acting sort) h fresh = cc
+  born_unmarked c _ (turning_lock head l now acting sort) h fresh = cc
+  born_unmarked c _ (aborts head acting sort) h fresh = cc
+  born_unmarked c _ (placing oldest others cell z n taking) h fresh = cc
+  born_unmarked c _ (letting_in oldest others inlet ys zs n taking is) h fresh = cc
 
 -- what was not made does not live
 pub fresh_of : (events : List Event) (entries : Instances) (c : Path) → Told events entries → was_made events c ≡ false → is_live entries c ≡ false
@@ -113,9 +96,10 @@ new_by program n choices choice at known c k h (inl stepped) =
     let s = at.standing.state in
     let found : Finds at.events (spawned c k) = subst (Finds at.events) h (finds program n choices choice at known) in
     let fresh = fresh_of at.events s.instances c (told_at program n choices at known) found.0 in
+    let taken = step_of_instance program s stepped.path stepped.instance in
     ap (λ (t : State). mark_at t.instances c) stepped.leads
-    ∙ born_unmarked program s stepped.path stepped.instance c k (step_of_instance program s stepped.path stepped.instance)
-    (way_of program s stepped.path stepped.instance) (sym stepped.did ∙ h) fresh
+    ∙ born_unmarked program s stepped.path stepped.instance c taken (way_of program s stepped.path stepped.instance)
+    (or_right (makes c taken) _ (ap (is_birth c) (sym stepped.did ∙ h) ∙ same-self c)) fresh
 new_by program n choices choice at known c k h (inr rested) = let none : moved ≡ spawned c k = sym rested.did ∙ h in cc
 
 pub the_new_are_unmarked : TheNewAreUnmarked
@@ -185,7 +169,8 @@ module _ (program : Labelled) (s : State) (p : Path) (i : Instance) (here : inst
           child_by : (b : Bool) → same_path c q ≡ b → ⊥
           child_by true e =
               let now = ap (λ x. mark_at t.instances x) (same-is c q e) ∙ m in
-              let was = spawn_unmarked program s p i c t did (spawns c t did) w refl (ap (is_live s.instances) (same-is c q e) ∙ none) in
+              let was = born_unmarked program s p i c (spawns c t did) w (or_left (same_path c c) _ (same-self c))
+              (ap (is_live s.instances) (same-is c q e) ∙ none) in
               let both : Some true ≡ Some false = sym now ∙ was in
               cc
           child_by false e =

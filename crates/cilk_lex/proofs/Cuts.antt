@@ -8,9 +8,9 @@ use Rattle.std.proofs.lemmas.List.Sums.{prefix_len-le-length}
 use Rattle.std.proofs.lemmas.Str.{IsCharBoundary-after_ascii}
 use Rattle.cilk_lex_tokens.specs.Byte.{begins_name, continues_name, continues_number}
 use Rattle.cilk_lex_tokens.specs.Spelling.{has_name_form, has_number_form}
-use Rattle.cilk_lex_tokens.proofs.Forms.{IsPlain, EndsPlain, name_plain, number_plain}
-use Rattle.cilk_lex_tokens.proofs.Numbers.{number_form}
-use Rattle.cilk_lex_tokens.proofs.Words.{name_form}
+use Rattle.cilk_lex.proofs.Forms.{IsPlain, EndsPlain, name_plain, number_plain}
+use Rattle.cilk_lex.proofs.Numbers.{number_form}
+use Rattle.cilk_lex.proofs.Words.{name_form}
 
 -- behind an ASCII byte
 pub ends_cut : (t : List ℕ) (n : ℕ) → IsUtf8 t → n ≤ length t → EndsPlain (take n t) → IsCharBoundary t n

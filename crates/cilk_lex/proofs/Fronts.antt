@@ -14,14 +14,14 @@ use Rattle.cilk_lex_tokens.specs.declared.keyword.Keyword.{Keyword}
 use Rattle.cilk_lex_tokens.specs.declared.mark.Mark.{Mark}
 use Rattle.cilk_lex_tokens.specs.declared.token.TokenKind.TheVariants as kind
 use Rattle.cilk_lex_tokens.specs.Byte.{is_blank, begins_name, continues_name, continues_number}
-use Rattle.cilk_lex_tokens.specs.Sight.{Sight, found, amiss, name_sight, number_in, number_shown, number_sight, mark_in, mark_shown, mark_sight}
-use Rattle.cilk_lex_tokens.specs.Sight.{opens_comment, end_from, comment_shown, comment_sight, text_sight, include_sight, sight}
+use Rattle.cilk_lex.specs.Sight.{Sight, found, amiss, name_sight, number_in, number_shown, number_sight, mark_in, mark_shown, mark_sight}
+use Rattle.cilk_lex.specs.Sight.{opens_comment, end_from, comment_shown, comment_sight, text_sight, include_sight, sight}
 use Rattle.cilk_lex_tokens.specs.Spelling.{spelling, mark_spelling, NeverEnds}
-use Rattle.cilk_lex_tokens.proofs.Comments.{end_seen, end_at}
-use Rattle.cilk_lex_tokens.proofs.Forms.{IsPlain}
-use Rattle.cilk_lex_tokens.proofs.Marks.{mark_form, mark_is, no_mark_is, mark_or, MarkOr}
-use Rattle.cilk_lex_tokens.proofs.Seen.{comment_opened}
-use Rattle.cilk_lex_tokens.proofs.Words.{named_word, named_name}
+use Rattle.cilk_lex.proofs.Comments.{end_seen, end_at}
+use Rattle.cilk_lex.proofs.Forms.{IsPlain}
+use Rattle.cilk_lex.proofs.Marks.{mark_form, mark_is, no_mark_is, mark_or, MarkOr}
+use Rattle.cilk_lex.proofs.Seen.{comment_opened}
+use Rattle.cilk_lex.proofs.Words.{named_word, named_name}
 use Rattle.cilk_lex.specs.declared.found.Found.{Found}
 use Rattle.cilk_lex.specs.Front.{IsSeen, Finds}
 use Rattle.cilk_lex.proofs.Cuts.{plain_cut}

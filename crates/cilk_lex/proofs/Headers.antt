@@ -10,10 +10,10 @@ use Rattle.cilk_lex_tokens.specs.declared.fault.LexFault.TheVariants.{BadDirecti
 use Rattle.cilk_lex_tokens.specs.declared.header.Header.{Header}
 use Rattle.cilk_lex_tokens.specs.declared.token.TokenKind.TheVariants as kind
 use Rattle.cilk_lex_tokens.specs.Byte.{is_line_blank, continues_name, continues_header, opens_header}
-use Rattle.cilk_lex_tokens.specs.Sight.{amiss, ends_line, closes, closed_at, all_headers, header_among, header_at, behind_word, word_at, include_in}
-use Rattle.cilk_lex_tokens.specs.Sight.{include_shown, include_sight}
+use Rattle.cilk_lex.specs.Sight.{amiss, ends_line, closes, closed_at, all_headers, header_among, header_at, behind_word, word_at, include_in}
+use Rattle.cilk_lex.specs.Sight.{include_shown, include_sight}
 use Rattle.cilk_lex_tokens.specs.Spelling.{header_spelling, closing_of}
-use Rattle.cilk_lex_tokens.proofs.Headers.{header_again, no_header}
+use Rattle.cilk_lex.proofs.Inclusions.{header_again, no_header}
 use Rattle.cilk_lex.specs.Front.{IsSeen}
 
 -- ---- the header's name

@@ -1,10 +1,26 @@
+pub mod Comments
 pub mod Cuts
+pub mod Decimals
+pub mod Forms
 pub mod Fronts
 pub mod Headers
+pub mod Inclusions
+pub mod Longest
 pub mod Loop
 pub mod Loops
+pub mod Made
+pub mod Marks
+pub mod Numbers
+pub mod Quotes
 pub mod Refusals
+pub mod Runs
+pub mod Sayable
+pub mod Seen
+pub mod Sees
+pub mod Shows
 pub mod Texts
+pub mod Unique
 pub mod Values
 pub mod Within
+pub mod Words
 mod Halves

@@ -10,10 +10,10 @@ use Rattle.cilk_lex_tokens.specs.declared.token.TokenKind.{TokenKind}
 use Rattle.cilk_lex_tokens.specs.declared.token.Token.{Token}
 use Rattle.cilk_lex_tokens.specs.Lexeme.{Lexeme, lexeme_of, Piece, piece_of, pieces_of}
 use Rattle.cilk_lex_tokens.specs.Lexing.{Front, fresh_behind, Lexes, finished, skipped, taken, Faulty, here, later}
-use Rattle.cilk_lex_tokens.specs.Sight.{sight, amiss}
-use Rattle.cilk_lex_tokens.proofs.Forms.{front_ends, front_some, lexeme_plain}
-use Rattle.cilk_lex_tokens.proofs.Sees.{sees}
-use Rattle.cilk_lex_tokens.proofs.Shows.{Shows}
+use Rattle.cilk_lex.specs.Sight.{sight, amiss}
+use Rattle.cilk_lex.proofs.Forms.{front_ends, front_some, lexeme_plain}
+use Rattle.cilk_lex.proofs.Sees.{sees}
+use Rattle.cilk_lex.proofs.Shows.{Shows}
 use Rattle.cilk_lex.specs.declared.found.Found.{Found}
 use Rattle.cilk_lex.specs.Front.{IsSeen}
 use Rattle.cilk_lex.specs.Reading.{IsWithin}

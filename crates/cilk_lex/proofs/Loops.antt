@@ -7,7 +7,7 @@ use Rattle.std.proofs.lemmas.List.{drop_all}
 use Rattle.cilk_lex_tokens.specs.declared.fault.LexFault.TheVariants.{BadByte, BadEscape}
 use Rattle.cilk_lex_tokens.specs.Byte.{is_space, is_line_end, is_escape, is_printed}
 use Rattle.cilk_lex_tokens.specs.Lexing.{fresh_behind}
-use Rattle.cilk_lex_tokens.specs.Sight.{ends_line, quote_from, fault_from}
+use Rattle.cilk_lex.specs.Sight.{ends_line, quote_from, fault_from}
 
 module _ (t : List ℕ) (i : ℕ) (l : i < length t) where
   next : drop i t ≡ get_or t i 0 ∷ drop (i + 1) t

@@ -4,8 +4,8 @@ use Rattle.cilk_lex_tokens.specs.declared.fault.LexFault.{LexFault}
 use Rattle.cilk_lex_tokens.specs.declared.fault.LexFault.TheVariants.{OpenText}
 use Rattle.cilk_lex_tokens.specs.declared.token.TokenKind.TheVariants as kind
 use Rattle.cilk_lex_tokens.specs.Lexeme.{literal, body_says}
-use Rattle.cilk_lex_tokens.specs.Sight.{found, amiss, quote_from, fault_from, body_shown, text_shown, text_sight}
-use Rattle.cilk_lex_tokens.proofs.Texts.{Quoted, quoted}
+use Rattle.cilk_lex.specs.Sight.{found, amiss, quote_from, fault_from, body_shown, text_shown, text_sight}
+use Rattle.cilk_lex.proofs.Quotes.{Quoted, quoted}
 use Rattle.cilk_lex.specs.Front.{IsSeen}
 
 pub quote_within : (t : List ℕ) (n : ℕ) → Some n ≡ quote_from false 0 t → n < length t

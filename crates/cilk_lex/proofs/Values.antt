@@ -6,20 +6,19 @@ use Rattle.std.specs.Bool.{then_some}
 use Rattle.std.specs.List.{list_all}
 use Rattle.std.specs.Result.{result_ok}
 use Rattle.std.specs.Str.Parse.{ParsesUnsigned, digits_value, without_leading_plus}
-use Rattle.std.proofs.lemmas.Bool.{leb-true, eq-eqb, ne_eqb}
+use Rattle.std.proofs.lemmas.Bool.{leb-true, eq-eqb, ne_eqb, and_parts}
 use Rattle.std.proofs.lemmas.Bool.Decides.{nat_tests}
 use Rattle.cilk_lex_tokens.specs.Byte.{continues_number, is_x}
-use Rattle.cilk_lex_tokens.specs.Sight.{is_numeral, valued, number_in}
+use Rattle.cilk_lex.specs.Sight.{is_numeral, valued, number_in}
 use Rattle.cilk_lex_tokens.specs.Spelling.{int_max, has_number_form}
-use Rattle.cilk_lex_tokens.proofs.Numbers.{numeral_true, true_numeral, number_passes}
-use Rattle.cilk_lex_tokens.proofs.Runs.{both}
+use Rattle.cilk_lex.proofs.Numbers.{numeral_true, true_numeral, number_passes}
 
 no_plus_byte : (b : ℕ) → continues_number b ≡ true → eqb b 43 ≡ false
 no_plus_byte b h = grind (arith, nat_tests)
 
 no_plus : (ds : List ℕ) → list_all continues_number ds ≡ true → without_leading_plus ds ≡ ds
 no_plus [] h = refl
-no_plus (b ∷ bs) h = rw (no_plus_byte b (both (continues_number b) (list_all continues_number bs) h).0) refl
+no_plus (b ∷ bs) h = rw (no_plus_byte b (and_parts (continues_number b) (list_all continues_number bs) h).0) refl
 
 pub no_value : {E : Type 0} (radix : ℕ) (ds : List ℕ) (r : Result ℕ E) → list_all continues_number ds ≡ true → ParsesUnsigned 32 radix ds r
     → None ≡ result_ok r → valued radix ds ≡ None
@@ -30,7 +29,7 @@ no_value radix ds (Err x) h p e = at (is_numeral radix ds && nat_le (digits_valu
     at : (c : Bool) → (is_numeral radix ds && nat_le (digits_value radix ds) int_max) ≡ c → cond c (Some (digits_value radix ds)) None ≡ None
     at false e = refl
     at true e =
-        let q = both (is_numeral radix ds) _ e in
+        let q = and_parts (is_numeral radix ds) _ e in
         let n = true_numeral radix ds q.0 in
         let l = leb-true (digits_value radix ds) int_max q.1 in
         absurd ((rw (no_plus ds h) at p) (n, omega (arith, l)))

@@ -2,7 +2,7 @@
 use Rattle.std.specs.Prelude.{◌≡◌, List, ℕ, take, option_map, Result, MatchResult}
 use Rattle.cilk_lex_tokens.specs.declared.fault.LexFault.{LexFault}
 use Rattle.cilk_lex_tokens.specs.Lexeme.{lexeme_of}
-use Rattle.cilk_lex_tokens.specs.Sight.{Sight, found, amiss}
+use Rattle.cilk_lex.specs.Sight.{Sight, found, amiss}
 use Rattle.cilk_lex.specs.declared.found.Found.{Found}
 
 -- what was found is what is seen there: a token of these bytes, or a blank

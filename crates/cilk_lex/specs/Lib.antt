@@ -1,3 +1,4 @@
+pub mod Sight
 pub mod Front
 pub mod Reading
 pub mod Marks

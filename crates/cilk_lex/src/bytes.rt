@@ -4,7 +4,7 @@ ghost use Rattle.std.specs.Prelude.{◌≡◌, take, drop};
 ghost use Rattle.std.specs.List.{prefix_len};
 ghost use Rattle.cilk_lex_tokens.specs.Byte.{is_blank, is_space, is_line_blank, is_line_end, is_printed, is_escape};
 ghost use Rattle.cilk_lex_tokens.specs.Byte.{is_x, begins_name, continues_name, continues_number, continues_header, opens_header};
-ghost use Rattle.cilk_lex_tokens.specs.Sight.{ends_line};
+ghost use Rattle.cilk_lex.specs.Sight.{ends_line};
 
 pub(crate) fn is_blank(byte: u8) -> bool
     ensures { result ≡ is_blank byte }

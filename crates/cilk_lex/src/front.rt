@@ -5,7 +5,7 @@ ghost use Rattle.std.specs.Char.{is_ascii_digit};
 ghost use Rattle.cilk_lex_tokens.specs.declared.mark.Mark.{Mark};
 ghost use Rattle.cilk_lex_tokens.specs.Byte.{begins_name, is_space};
 ghost use Rattle.cilk_lex_tokens.specs.Lexing.{fresh_behind};
-ghost use Rattle.cilk_lex_tokens.specs.Sight.{sight, name_sight, number_sight, mark_in, mark_sight, comment_sight};
+ghost use Rattle.cilk_lex.specs.Sight.{sight, name_sight, number_sight, mark_in, mark_sight, comment_sight};
 ghost use Rattle.cilk_lex.specs.Front.{IsSeen, Finds};
 
 use crate::bytes::{begins_name, is_blank, is_space, name_end, number_end};

@@ -1,7 +1,7 @@
 //! Lines that include a header (C 1990, 6.8.2).
 
 ghost use Rattle.std.specs.Prelude.{◌≡◌, ℕ, ◌+◌, ◌<◌, ◌^◌, ◌++◌, List, length, codes};
-ghost use Rattle.cilk_lex_tokens.specs.Sight.{closes, header_at, include_in, include_sight};
+ghost use Rattle.cilk_lex.specs.Sight.{closes, header_at, include_in, include_sight};
 ghost use Rattle.cilk_lex_tokens.specs.Spelling.{closing_of};
 ghost use Rattle.cilk_lex.specs.Front.{Finds};
 

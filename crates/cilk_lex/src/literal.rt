@@ -1,7 +1,7 @@
 //! Text literals (C 1990, 6.1.4).
 
 ghost use Rattle.std.specs.Prelude.{◌≡◌, ℕ, ◌+◌, ◌<◌, ◌^◌, ◌++◌, List, false, length, codes};
-ghost use Rattle.cilk_lex_tokens.specs.Sight.{quote_from, fault_from, text_sight};
+ghost use Rattle.cilk_lex.specs.Sight.{quote_from, fault_from, text_sight};
 ghost use Rattle.cilk_lex.specs.Front.{Finds};
 
 use crate::bytes::{is_escape, is_printed};

@@ -7,7 +7,7 @@ ghost use Rattle.cilk_lex_tokens.specs.declared.keyword.Keyword.{Keyword};
 ghost use Rattle.cilk_lex_tokens.specs.declared.mark.Mark.{Mark};
 ghost use Rattle.cilk_lex_tokens.specs.declared.header.Header.{Header};
 ghost use Rattle.cilk_lex_tokens.specs.Spelling.{spelling, mark_spelling, header_spelling, has_number_form};
-ghost use Rattle.cilk_lex_tokens.specs.Sight.{valued, number_in};
+ghost use Rattle.cilk_lex.specs.Sight.{valued, number_in};
 ghost use Rattle.cilk_lex.specs.Marks.{is_byte};
 
 use crate::bytes::is_x;

@@ -3,5 +3,4 @@ pub mod Good
 pub mod Lexeme
 pub mod Lexing
 pub mod LineColumn
-pub mod Sight
 pub mod Spelling

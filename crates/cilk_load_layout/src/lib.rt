@@ -8,14 +8,11 @@ mod lines;
 mod variables;
 
 pub use building::{bodies_of, place_of_main};
-pub use cilk_load_names::{MAX_ACTIONS, NoRoom, count_items};
-pub use cilk_load_nodes::{
-    Action, Body, Case, Cases, Codes, Name, Node, Owner, SlotPlace, Slots, Taker, Target, Text,
-    Trap, Var, Vars, eval,
-};
-pub use cilk_tree_syntax::{
-    Block, Decl, Expr, Inlet, Item, ItemNode, Local, LocalNode, LockAction, Memory, Move,
-    Parameters, Proc, Program, Shape, Stmt, StmtNode, Word,
+pub use cilk_load_names::{
+    Action, Block, Body, Case, Cases, Codes, Decl, Expr, Inlet, Item, ItemNode, Local, LocalNode,
+    LockAction, MAX_ACTIONS, Memory, Move, Name, NoRoom, Node, Owner, Parameters, Proc, Program,
+    Shape, SlotPlace, Slots, Stmt, StmtNode, Taker, Target, Text, Trap, Var, Vars, Word,
+    count_items, eval,
 };
 pub use globals::{globals_of, locks_of};
 pub use lines::action_lines;

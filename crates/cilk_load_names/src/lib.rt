@@ -16,12 +16,12 @@ mod symbol_table;
 pub use acts::{action_in, initialiser_in};
 pub use binding::Binding;
 pub use cilk_load_nodes::{
-    Action, Body, Case, Cases, Codes, Name, Node, Owner, SlotPlace, Slots, Taker, Target, Text,
-    Trap, Var, Vars, eval,
+    Action, Area, Body, Case, Cases, Codes, Name, Node, Owner, Slot, SlotPlace, Slots, Taker,
+    Target, Text, Trap, Var, Vars, eval,
 };
 pub use cilk_tree_syntax::{
-    Block, Decl, Expr, Inlet, Item, ItemNode, Local, LocalNode, LockAction, Memory, Move,
-    Parameters, Proc, Program, Shape, Stmt, StmtNode, Word,
+    Block, Decl, Expr, Global, GlobalShape, Inlet, Item, ItemNode, Local, LocalNode, LockAction,
+    Memory, Move, Parameters, Proc, Program, Shape, Stmt, StmtNode, Word,
 };
 pub use code::code_in;
 pub use counts::{

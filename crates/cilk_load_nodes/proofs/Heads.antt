@@ -4,9 +4,9 @@ use Rattle.std.proofs.Common.{inl, inr, refl, sym, ap, subst, ◌∙◌, arith, 
 use Rattle.std.specs.Prelude.{⊤, slice_get, slice_index_or}
 use Rattle.std.proofs.lemmas.Bool.{false≢true}
 use Rattle.std.proofs.lemmas.Bool.Decides.{Decides-eqb}
-use Rattle.cilk_check_scopes.specs.syntax.Tree as tree
-use Rattle.cilk_check_scopes.proofs.Elements.{Has, Has-append_left, Has-append_right}
-use Rattle.cilk_check_scopes.specs.WellFormed.{WellFormed}
+use Rattle.cilk_model.specs.syntax.Tree as tree
+use Rattle.cilk_model.proofs.scopes_laws.Elements.{Has, Has-append_left, Has-append_right}
+use Rattle.cilk_model.specs.scopes.WellFormed.{WellFormed}
 use Rattle.cilk_model.specs.labelled.Labelled.{Body, Labelled, Stmt, action, choose, while, repeat, loop, select, at_label, nested, Stmts, none, also}
 use Rattle.cilk_model.specs.labelled.Items.{Items, pieces, plain_round, open_stmt, open_stmts, reached}
 use Rattle.cilk_model.specs.labelled.Bodies.{label, file_names}

@@ -1,14 +1,14 @@
 -- In a well-formed program inlets stand at the heads of procedures alone.
 use Rattle.std.proofs.Common.{◌≡◌, ℕ, false, List, [], ◌∷◌, ◌++◌, inl, inr, refl, ap}
-use Rattle.cilk_check_scopes.specs.syntax.Tree as tree
-use Rattle.cilk_check_scopes.specs.declared.owner.Owner.TheVariants.{Inlet}
-use Rattle.cilk_check_scopes.specs.Parts.{Around, PartInContext, local, inner, looped, switched, after_local, after_locals, in_inlet}
-use Rattle.cilk_check_scopes.specs.Parts.{block_parts, locals_parts, within_local, stmts_parts, within_stmt, item_parts, parts_of}
-use Rattle.cilk_check_scopes.specs.Scopes.{file_scopes}
-use Rattle.cilk_check_scopes.proofs.Elements.{Has, Contains-from_Has, Has-append_left, Has-append_right, Has-flat_map}
-use Rattle.cilk_check_scopes.specs.Forms as forms
-use Rattle.cilk_check_scopes.specs.WellFormed.{WellFormed}
-use Rattle.cilk_check_scopes.specs.declared.fault.CheckFault.TheVariants.{NotInProcedure}
+use Rattle.cilk_model.specs.syntax.Tree as tree
+use Rattle.cilk_model.specs.scopes.declared.owner.Owner.TheVariants.{Inlet}
+use Rattle.cilk_model.specs.scopes.Parts.{Around, PartInContext, local, inner, looped, switched, after_local, after_locals, in_inlet}
+use Rattle.cilk_model.specs.scopes.Parts.{block_parts, locals_parts, within_local, stmts_parts, within_stmt, item_parts, parts_of}
+use Rattle.cilk_model.specs.scopes.Scopes.{file_scopes}
+use Rattle.cilk_model.proofs.scopes_laws.Elements.{Has, Contains-from_Has, Has-append_left, Has-append_right, Has-flat_map}
+use Rattle.cilk_model.specs.scopes.Forms as forms
+use Rattle.cilk_model.specs.scopes.WellFormed.{WellFormed}
+use Rattle.cilk_model.specs.scopes.declared.fault.CheckFault.TheVariants.{NotInProcedure}
 use Rattle.cilk_load_nodes.specs.Plain.{PlainLocals, PlainStmt, PlainStmts, PlainBlock, OuterLocals, OuterBlock, PlainItem, PlainItems}
 
 module _ (p : tree.Program) (ok : WellFormed p) where

@@ -1,6 +1,6 @@
 -- Each list that a body reaches is one of its lists, or nothing remains.
 use Rattle.std.proofs.Common.{◌≡◌, ◌⊎◌, ℤ, List, [], ◌∷◌, inl, inr, refl, sym, subst}
-use Rattle.cilk_check_scopes.proofs.Elements.{Has}
+use Rattle.cilk_model.proofs.scopes_laws.Elements.{Has}
 use Rattle.cilk_model.specs.labelled.Labelled.{Body}
 use Rattle.cilk_model.specs.labelled.Items.{Items, opened, next, reached}
 use Rattle.cilk_load_nodes.specs.Table.{stmts_lists, closing_items, body_lists}

@@ -8,6 +8,6 @@ pub mod Texts
 pub mod Successors
 pub mod Heads
 pub mod Crosses
-pub use Rattle.cilk_check_scopes.proofs as scopes_laws
 pub use Rattle.cilk_eval.proofs as eval_laws
 pub use Rattle.cilk_eval.proofs.syntax_laws
+pub use Rattle.cilk_model.proofs.scopes_laws

@@ -1,7 +1,7 @@
 -- The elements of a list, and where they stand.
 use Rattle.std.proofs.Common.{◌≡◌, ℕ, zero, suc, List, [], ◌∷◌, map, Some, inl, inr, ap}
 use Rattle.std.specs.Prelude.{slice_get}
-use Rattle.cilk_check_scopes.proofs.Elements.{Has}
+use Rattle.cilk_model.proofs.scopes_laws.Elements.{Has}
 
 -- x is the element at some place
 pub record At {X : Type 0} (xs : List X) (x : X) : Type 0 where

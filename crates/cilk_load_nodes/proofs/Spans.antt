@@ -1,6 +1,6 @@
 -- The heads of the lists of statements without inlets have the numbers of their actions, one after another.
 use Rattle.std.proofs.Common.{◌≡◌, ℕ, ◌+◌, List, [], ◌∷◌, ◌++◌, length, Option, Some, None, refl, sym, subst, arith}
-use Rattle.cilk_check_scopes.specs.syntax.Tree as tree
+use Rattle.cilk_model.specs.syntax.Tree as tree
 use Rattle.cilk_model.specs.labelled.Labelled.{Numbered, Stmts}
 use Rattle.cilk_model.specs.labelled.Items.{Round, at_test, at_end, Items, pieces, plain_round, next_mark}
 use Rattle.cilk_model.specs.labelled.Names.{Names, with_local, entered}

@@ -1,12 +1,12 @@
 -- The lists of all bodies in the order of the text: those of an inlet stand between the initialisers of its procedure.
 use Rattle.std.proofs.Common.{◌≡◌, ◌⊎◌, ℕ, suc, ◌+◌, List, [], ◌∷◌, ◌++◌, length, map, Some, None, inl, inr, refl, sym, ap, subst, ◌∙◌, arith}
 use Rattle.std.proofs.Common.{pos, append_assoc}
-use Rattle.cilk_check_scopes.specs.syntax.Tree as tree
-use Rattle.cilk_check_scopes.specs.syntax.Tree.{Word}
-use Rattle.cilk_check_scopes.specs.declared.owner.Owner.{Owner}
-use Rattle.cilk_check_scopes.specs.declared.owner.Owner.TheVariants.{Inlet}
-use Rattle.cilk_check_scopes.specs.Parts.{owner_of}
-use Rattle.cilk_check_scopes.proofs.Elements.{Has, Has-append_left, Has-append_right, Has-append_cases}
+use Rattle.cilk_model.specs.syntax.Tree as tree
+use Rattle.cilk_model.specs.syntax.Tree.{Word}
+use Rattle.cilk_model.specs.scopes.declared.owner.Owner.{Owner}
+use Rattle.cilk_model.specs.scopes.declared.owner.Owner.TheVariants.{Inlet}
+use Rattle.cilk_model.specs.scopes.Parts.{owner_of}
+use Rattle.cilk_model.proofs.scopes_laws.Elements.{Has, Has-append_left, Has-append_right, Has-append_cases}
 use Rattle.cilk_model.specs.labelled.Labelled.{Stmts, Variable, Body}
 use Rattle.cilk_model.specs.labelled.Items.{Items, piece, pieces}
 use Rattle.cilk_model.specs.labelled.Names.{Names, with_local, with_words, in_inlet}

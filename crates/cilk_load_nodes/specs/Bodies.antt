@@ -1,6 +1,6 @@
 -- The tables of bodies and variables.
 use Rattle.std.specs.Prelude.{ℕ, ◌+◌, pos, List, [], ◌∷◌, Option, map, slice_get, unwrap_or}
-use Rattle.cilk_check_scopes.specs.syntax.Tree as tree
+use Rattle.cilk_model.specs.syntax.Tree as tree
 use Rattle.cilk_eval.specs.declared.area.Area.{Area}
 use Rattle.cilk_eval.specs.declared.area.Area.TheVariants.{Own, Global}
 use Rattle.cilk_model.specs.labelled.Labelled.{Variable}

@@ -1,7 +1,7 @@
 -- What a node stands for: the list of items that it is the head of.
 use Rattle.std.specs.Prelude.{◌≡◌, ℕ, ◌<◌, ◌≤◌, ℤ, List, [], ◌∷◌, length, Some, None}
-use Rattle.cilk_check_scopes.specs.syntax.Tree.{Program}
-use Rattle.cilk_check_scopes.specs.WellFormed.{WellFormed}
+use Rattle.cilk_model.specs.syntax.Tree.{Program}
+use Rattle.cilk_model.specs.scopes.WellFormed.{WellFormed}
 use Rattle.cilk_model.specs.labelled.Bodies.{label}
 use Rattle.cilk_model.specs.labelled.Count.{count_program}
 use Rattle.cilk_model.specs.labelled.Items.{Items, reached}

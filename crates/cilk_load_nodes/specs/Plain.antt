@@ -1,7 +1,7 @@
 -- Programs whose inlets stand at the heads of functions and procedures alone, and not in inner blocks or in inlets.
 use Rattle.std.specs.Prelude.{⊤, List, [], ◌∷◌}
-use Rattle.cilk_check_scopes.specs.syntax.Tree.{Stmt, when, either, while, repeat, loop, switch, nested, Stmts, none, also, declared, inlet_at}
-use Rattle.cilk_check_scopes.specs.syntax.Tree.{Locals, no_locals, and_local, Block, block, Item, procedure}
+use Rattle.cilk_model.specs.syntax.Tree.{Stmt, when, either, while, repeat, loop, switch, nested, Stmts, none, also, declared, inlet_at}
+use Rattle.cilk_model.specs.syntax.Tree.{Locals, no_locals, and_local, Block, block, Item, procedure}
 
 -- none of these declarations is an inlet
 abbrev pub PlainLocals : Locals → Type 0

@@ -1,10 +1,10 @@
 -- Worked programs: what comes behind each action, and where variables lie.
 use Rattle.std.specs.Prelude.{ℕ, ℤ, List, [], ◌∷◌, map, option_map, Option, Some, None, codes}
-use Rattle.cilk_check_scopes.specs.lexeme.declared.header.Header.TheVariants.{Cilk}
-use Rattle.cilk_check_scopes.specs.syntax.declared.adjustment.Adjustment.TheVariants.{Increment}
-use Rattle.cilk_check_scopes.specs.syntax.declared.operator.BinOp.TheVariants.{Less, Subtract}
-use Rattle.cilk_check_scopes.specs.syntax.Tree as tree
-use Rattle.cilk_check_scopes.specs.syntax.Tree.{Expr, number, named, element, binary, Place, declared, Program}
+use Rattle.cilk_model.specs.scopes.lexeme.declared.header.Header.TheVariants.{Cilk}
+use Rattle.cilk_model.specs.syntax.declared.adjustment.Adjustment.TheVariants.{Increment}
+use Rattle.cilk_model.specs.syntax.declared.operator.BinOp.TheVariants.{Less, Subtract}
+use Rattle.cilk_model.specs.syntax.Tree as tree
+use Rattle.cilk_model.specs.syntax.Tree.{Expr, number, named, element, binary, Place, declared, Program}
 use Rattle.cilk_model.specs.labelled.Rows.{word, whole, procedure, into}
 use Rattle.cilk_load_nodes.specs.declared.node.Node.{Node}
 use Rattle.cilk_load_nodes.specs.Table.{node_of, successor}

@@ -1,7 +1,7 @@
 -- Where variables lie: their cells stand one variable after another, in the order of the declarations.
 use Rattle.std.specs.Prelude.{ℕ, zero, suc, ◌+◌, ℤ, Bool, true, false, if◌then◌else◌, max, List, [], ◌∷◌, ◌++◌}
-use Rattle.cilk_check_scopes.specs.declared.owner.Owner.{Owner}
-use Rattle.cilk_check_scopes.specs.declared.owner.Owner.TheVariants.{Function, Procedure, Inlet}
+use Rattle.cilk_model.specs.scopes.declared.owner.Owner.{Owner}
+use Rattle.cilk_model.specs.scopes.declared.owner.Owner.TheVariants.{Function, Procedure, Inlet}
 use Rattle.cilk_eval.specs.declared.area.Area.{Area}
 use Rattle.cilk_eval.specs.declared.area.Area.TheVariants.{Own, Outer, Global}
 use Rattle.cilk_eval.specs.declared.slot.Slot.{Slot}

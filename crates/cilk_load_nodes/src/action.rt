@@ -4,8 +4,8 @@ use crate::codes::Codes;
 use crate::taker::Taker;
 use crate::target::Target;
 use crate::text::Text;
-use cilk_check_scopes::LockAction;
 use cilk_eval::Code;
+use cilk_model::LockAction;
 
 /// What an action does (C 1990, 6.6; Cilk 5.4 manual).
 #[derive(Drop)]

@@ -2,7 +2,7 @@
 
 use crate::name::Name;
 use crate::vars::Vars;
-use cilk_check_scopes::Owner;
+use cilk_model::Owner;
 
 /// The body of a C function, a Cilk procedure or an inlet (Cilk 5.4 manual, `cilk`, `inlet`).
 #[derive(Drop)]

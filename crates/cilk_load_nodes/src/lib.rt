@@ -20,8 +20,8 @@ pub use action::Action;
 pub use body::Body;
 pub use case::Case;
 pub use cases::Cases;
-pub use cilk_check_scopes::{BinOp, LockAction, Owner};
 pub use cilk_eval::{Area, Code, CodeNode, Memory, Slot, Slots, Trap, apply, eval};
+pub use cilk_model::{BinOp, LockAction, Owner};
 pub use codes::Codes;
 pub use laws::{
     bodies_have_tables, nodes_stand_for_lists, rows_are_nodes, rows_of_switches_are_nodes,

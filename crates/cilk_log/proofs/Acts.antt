@@ -1,6 +1,7 @@
 -- The line of a choice tells that choice, and no other line does.
 use Rattle.std.proofs.Common.{◌≡◌, ℕ, ◌^◌, ◌<◌, ◌≤◌, Bool, true, false, cond, List, [], ◌∷◌, ◌++◌, length, take, drop, Option, Some, None, option_map}
 use Rattle.std.proofs.Common.{decimal, refl, sym, ap, ◌∙◌, arith}
+use Rattle.std.proofs.lemmas.Bool.{and_parts}
 use Rattle.std.specs.Prelude.{bytes_eq, codes}
 use Rattle.std.specs.Char.{is_ascii_digit}
 use Rattle.std.specs.List.{prefix_len}
@@ -11,14 +12,14 @@ use Rattle.cilk_machine_choices.specs.model.Choice.{Act, step, pop, steal, Choic
 use Rattle.cilk_log.specs.Choices.{act_text, choice_text, ActFits, ChoiceFits}
 use Rattle.cilk_log.specs.Text.{end_text, workers_text}
 use Rattle.cilk_log.specs.Reading.{number_in, behind, number_told, workers_in, count_in, steal_in, act_in, choice_by, choice_in}
-use Rattle.cilk_log.proofs.Decimals.{both, decimal_digits, number_written, number_spelled}
+use Rattle.cilk_log.proofs.Decimals.{decimal_digits, number_written, number_spelled}
 
 -- ---- written
 
 pub digits_run : (ds rest : List ℕ) → all_ascii_digits ds ≡ true → prefix_len is_ascii_digit (ds ++ 32 ∷ rest) ≡ length ds
 digits_run [] rest e = refl
 digits_run (b ∷ ds) rest e =
-    let p = both (is_ascii_digit b) (all_ascii_digits ds) e in
+    let p = and_parts (is_ascii_digit b) (all_ascii_digits ds) e in
     rw (p.0, digits_run ds rest p.1) (omega arith)
 
 abbrev deed_text : Act → List ℕ

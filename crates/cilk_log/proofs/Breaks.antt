@@ -1,6 +1,7 @@
 -- A text is its lines, each with its newline.
 use Rattle.std.proofs.Common.{◌≡◌, ℕ, ◌^◌, ◌<◌, Bool, true, false, cond, not, List, [], ◌∷◌, ◌++◌, flat_map, decimal, refl, ap, ◌∙◌}
 use Rattle.std.proofs.Common.{append_assoc, eqb-true, arith}
+use Rattle.std.proofs.lemmas.Bool.{and_parts, and_from}
 use Rattle.std.specs.Prelude.{◌==◌}
 use Rattle.std.specs.Char.{is_ascii_digit}
 use Rattle.std.specs.Str.{all_ascii_digits}
@@ -13,7 +14,7 @@ use Rattle.cilk_log.specs.Choices.{ActFits, ChoiceFits, act_text, choice_text}
 use Rattle.cilk_log.specs.Text.{with_newline}
 use Rattle.cilk_log.specs.Reading.{Lines, lines_of, behind_byte, TellsFirst}
 use Rattle.cilk_log.proofs.Acts.{choice_written}
-use Rattle.cilk_log.proofs.Decimals.{both, and_true, decimal_digits}
+use Rattle.cilk_log.proofs.Decimals.{decimal_digits}
 use Rattle.cilk_log.proofs.Lines.{parted}
 
 -- ---- the text of lines
@@ -24,7 +25,7 @@ is_other b h = grind (arith, nat_tests)
 lines_line : (line more : List ℕ) → list_all (λ b. not (b == 10)) line ≡ true → lines_of (line ++ 10 ∷ more) ≡ parted line more
 lines_line [] more p = refl
 lines_line (b ∷ line) more p =
-    let q = both (not (b == 10)) (list_all (λ b. not (b == 10)) line) p in
+    let q = and_parts (not (b == 10)) (list_all (λ b. not (b == 10)) line) p in
     rw (is_other b q.0, lines_line line more q.1) refl
 
 abbrev pub IsPlain : List ℕ → Type 0
@@ -57,8 +58,8 @@ digit_is_plain b h = grind (arith, nat_tests)
 digits_are_plain : (ds : List ℕ) → all_ascii_digits ds ≡ true → list_all (λ b. not (b == 10)) ds ≡ true
 digits_are_plain [] e = refl
 digits_are_plain (b ∷ ds) e =
-    let p = both (is_ascii_digit b) (all_ascii_digits ds) e in
-    and_true (not (b == 10)) _ (digit_is_plain b p.0) (digits_are_plain ds p.1)
+    let p = and_parts (is_ascii_digit b) (all_ascii_digits ds) e in
+    and_from (not (b == 10)) _ (digit_is_plain b p.0) (digits_are_plain ds p.1)
 
 pub decimal_is_plain : (n : ℕ) → n < 2 ^ 64 → list_all (λ b. not (b == 10)) (decimal n) ≡ true
 decimal_is_plain n h = digits_are_plain (decimal n) (decimal_digits n h)
@@ -71,7 +72,7 @@ act_is_plain (steal victim) f = decimal_is_plain victim (omega arith)
 pub choice_is_plain : (choice : Choice) → ChoiceFits choice → list_all (λ b. not (b == 10)) (choice_text choice) ≡ true
 choice_is_plain choice f =
     list_all-append (λ b. not (b == 10)) (decimal choice.worker) (act_text choice.act)
-    ∙ and_true _ _ (decimal_is_plain choice.worker (omega (arith, f.worker))) (act_is_plain choice.act f.act)
+    ∙ and_from _ _ (decimal_is_plain choice.worker (omega (arith, f.worker))) (act_is_plain choice.act f.act)
 
 -- ---- a choice in front of a text
 

@@ -6,18 +6,11 @@ use Rattle.std.specs.Char.{is_ascii_digit}
 use Rattle.std.specs.Int.{is_in_range}
 use Rattle.std.specs.Str.{all_ascii_digits}
 use Rattle.std.specs.Str.Parse.{digits_value}
-use Rattle.std.proofs.lemmas.Bool.{leb-true, le-leb, cases_lt}
+use Rattle.std.proofs.lemmas.Bool.{leb-true, le-leb, cases_lt, and_parts, and_from}
 use Rattle.std.proofs.lemmas.Bool.Decides.{nat_tests}
 use Rattle.std.proofs.lemmas.Str.Parse.{IsNumeralModel, numerals_by_value, tells_all_ascii_digits}
 use Rattle.std.proofs.lemmas.Fmt.{decimal_digit, first_decimal, decimal_nonempty, digits_decimal, digits_value-decimal, decimal-digits_value}
 use Rattle.cilk_log.specs.Reading.{is_decimal, number_in}
-
-pub both : (a b : Bool) → (a && b) ≡ true → (a ≡ true) × (b ≡ true)
-both true b e = (refl, e)
-both false b e = absurd cc
-
-pub and_true : (a b : Bool) → a ≡ true → b ≡ true → (a && b) ≡ true
-and_true a b e f = rw (e, f) refl
 
 own : IsNumeralModel (λ ds. all_ascii_digits ds ≡ true) (digits_value 10)
 own = numerals_by_value _ tells_all_ascii_digits
@@ -38,21 +31,21 @@ above_zero b h e = grind (arith, nat_tests)
 
 form_of : (ds : List ℕ) → is_decimal ds ≡ true → HasForm ds
 form_of [] e = absurd cc
-form_of (b ∷ []) e = record { digits = and_true (is_ascii_digit b) true e refl; some = omega arith; zero_alone = λ z. refl }
+form_of (b ∷ []) e = record { digits = and_from (is_ascii_digit b) true e refl; some = omega arith; zero_alone = λ z. refl }
 form_of (b ∷ c ∷ bs) e =
-    let p = both (is_in_range 49 57 b) (all_ascii_digits (c ∷ bs)) e in
+    let p = and_parts (is_in_range 49 57 b) (all_ascii_digits (c ∷ bs)) e in
     record {
-      digits = and_true (is_ascii_digit b) _ (leading b p.0) p.1;
+      digits = and_from (is_ascii_digit b) _ (leading b p.0) p.1;
       some = omega arith;
       zero_alone = λ z. absurd (not_zero b p.0 z);
     }
 
 of_form : (ds : List ℕ) → HasForm ds → is_decimal ds ≡ true
 of_form [] f = absurd (omega (arith, f.some))
-of_form (b ∷ []) f = (both (is_ascii_digit b) true f.digits).0
+of_form (b ∷ []) f = (and_parts (is_ascii_digit b) true f.digits).0
 of_form (b ∷ c ∷ bs) f =
-    let p = both (is_ascii_digit b) (all_ascii_digits (c ∷ bs)) f.digits in
-    and_true (is_in_range 49 57 b) _ (above_zero b p.0 (λ z. let one : length (b ∷ c ∷ bs) ≡ 1 = f.zero_alone z in omega (arith, one))) p.1
+    let p = and_parts (is_ascii_digit b) (all_ascii_digits (c ∷ bs)) f.digits in
+    and_from (is_in_range 49 57 b) _ (above_zero b p.0 (λ z. let one : length (b ∷ c ∷ bs) ≡ 1 = f.zero_alone z in omega (arith, one))) p.1
 
 pub decimal_digits : (n : ℕ) → n < 2 ^ 64 → all_ascii_digits (decimal n) ≡ true
 decimal_digits n h = digits_decimal own n h
@@ -75,7 +68,7 @@ spelled_at : (most : ℕ) (text : List ℕ) (n : ℕ) → most < 2 ^ 64 → (c :
     → cond c (Some (digits_value 10 text)) None ≡ Some n → Spells most text n
 spelled_at most text n h false e f = absurd cc
 spelled_at most text n h true e f =
-    let p = both (is_decimal text) _ e in
+    let p = and_parts (is_decimal text) _ e in
     let form = form_of text p.0 in
     let small : digits_value 10 text ≤ most = leb-true (digits_value 10 text) most p.1 in
     let v : digits_value 10 text ≡ n = cc in

@@ -1,6 +1,7 @@
 -- The line of a digest tells that digest, and no other line does.
 use Rattle.std.proofs.Common.{◌≡◌, ℕ, zero, suc, ◌%◌, ◌/◌, Bool, true, false, cond, not, List, [], ◌∷◌, ◌++◌, length, get_or, Option, Some, None, Result, Ok}
 use Rattle.std.proofs.Common.{Err, refl, sym, ap, ◌∙◌, arith}
+use Rattle.std.proofs.lemmas.Bool.{and_parts, and_from}
 use Rattle.std.specs.Prelude.{◌==◌, bytes_eq, codes}
 use Rattle.std.specs.List.{list_all}
 use Rattle.std.proofs.lemmas.Slice.Eq.{bytes_eq-Decides}
@@ -10,7 +11,6 @@ use Rattle.hex.proofs.HexLemmas.{decode_sized-encode_lower, decode_sized-ok, dec
 use Rattle.cilk_log.specs.Text.{digest_text, ProgramFits}
 use Rattle.cilk_log.specs.Reading.{behind, digest_by, digest_in, digest_told, program_in}
 use Rattle.cilk_log.proofs.Acts.{behind_told}
-use Rattle.cilk_log.proofs.Decimals.{both, and_true}
 
 -- ---- written
 
@@ -53,14 +53,14 @@ program_told line digest e = at (behind (codes "program ") line) refl e
 
 plain_at : (t : List ℕ) (k : ℕ) → list_all (λ b. not (b == 10)) t ≡ true → not (get_or t k 0 == 10) ≡ true
 plain_at [] k h = refl
-plain_at (b ∷ t) zero h = (both (not (b == 10)) _ h).0
-plain_at (b ∷ t) (suc k) h = plain_at t k (both (not (b == 10)) _ h).1
+plain_at (b ∷ t) zero h = (and_parts (not (b == 10)) _ h).0
+plain_at (b ∷ t) (suc k) h = plain_at t k (and_parts (not (b == 10)) _ h).1
 
 digits_plain : (bytes : List ℕ) → list_all (λ b. not (b == 10)) (encode_lower bytes) ≡ true
 unfolding encode_with
 digits_plain [] = refl
 digits_plain (b ∷ bytes) =
-    and_true _ _ (plain_at lower_digits (b / 16) refl) (and_true _ _ (plain_at lower_digits (b % 16) refl) (digits_plain bytes))
+    and_from _ _ (plain_at lower_digits (b / 16) refl) (and_from _ _ (plain_at lower_digits (b % 16) refl) (digits_plain bytes))
 
 pub program_is_plain : (digest : List ℕ) → list_all (λ b. not (b == 10)) (digest_text digest) ≡ true
 program_is_plain digest = digits_plain digest

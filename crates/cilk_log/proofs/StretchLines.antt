@@ -4,7 +4,7 @@ use Rattle.std.proofs.Common.{refl, sym, ap, ◌∙◌, arith, eqb-true, append_
 use Rattle.std.specs.Prelude.{◌==◌, nat_le, codes}
 use Rattle.std.specs.Char.{is_ascii_digit}
 use Rattle.std.specs.List.{prefix_len, list_all}
-use Rattle.std.proofs.lemmas.Bool.{le-leb, leb-true}
+use Rattle.std.proofs.lemmas.Bool.{le-leb, leb-true, and_from}
 use Rattle.std.proofs.lemmas.Bool.Decides.{nat_tests}
 use Rattle.std.proofs.lemmas.List.{take_at, drop_at, take-append-drop}
 use Rattle.std.proofs.lemmas.List.Folds.{list_all-append}
@@ -15,7 +15,7 @@ use Rattle.cilk_log.specs.Text.{most_choices}
 use Rattle.cilk_log.specs.Reading.{number_in, number_told, behind, several, times_in, steps_by, steps_in, choice_in, stretch_by, stretch_in}
 use Rattle.cilk_log.proofs.Acts.{digits_run, choice_written, choice_told, number_behind}
 use Rattle.cilk_log.proofs.Breaks.{choice_is_plain, decimal_is_plain}
-use Rattle.cilk_log.proofs.Decimals.{and_true, decimal_digits, number_written, number_spelled}
+use Rattle.cilk_log.proofs.Decimals.{decimal_digits, number_written, number_spelled}
 use Rattle.cilk_log.proofs.Stretching.{is_once}
 
 -- ---- written
@@ -147,7 +147,7 @@ plain_by : (s : Stretch) → ChoiceFits s.choice → s.times < 2 ^ 64 → (b : B
 plain_by s f h true = choice_is_plain s.choice f
 plain_by s f h false =
     list_all-append (λ b. not (b == 10)) (choice_text s.choice) (codes " " ++ decimal s.times)
-    ∙ and_true _ _ (choice_is_plain s.choice f) (decimal_is_plain s.times h)
+    ∙ and_from _ _ (choice_is_plain s.choice f) (decimal_is_plain s.times h)
 
 pub stretch_is_plain : (s : Stretch) → ChoiceFits s.choice → s.times < 2 ^ 64 → list_all (λ b. not (b == 10)) (stretch_text s) ≡ true
 stretch_is_plain s f h = plain_by s f h (s.times == 1)

@@ -1,10 +1,10 @@
 -- Choices are told by one list of stretches.
 use Rattle.std.proofs.Common.{◌≡◌, ℕ, suc, ◌+◌, ◌≤◌, Bool, true, false, cond, not, List, [], ◌∷◌, ◌++◌, length, replicate, refl, sym, ap, ◌∙◌}
 use Rattle.std.proofs.Common.{subst, zero, arith, add-one, eqb-true, eq-eqb, length-append}
+use Rattle.std.proofs.lemmas.Bool.{and_parts}
 use Rattle.std.proofs.lemmas.List.{length-replicate}
 use Rattle.cilk_machine_choices.specs.model.Choice.{Act, step, pop, steal, Choice}
 use Rattle.cilk_log.specs.Stretches.{Stretch, once, choices_of, count_of, is_step, are_joined, is_apart, with_first, stretches_of, IsStretch, AreStretches}
-use Rattle.cilk_log.proofs.Decimals.{both}
 
 -- ---- steps of one worker
 
@@ -21,12 +21,12 @@ choice_at worker act = record { worker = worker; act = act }
 pub joined_same : (a b : Choice) → are_joined a b ≡ true → a ≡ b
 unfolding choice_at
 joined_same a b e =
-    let p = both (is_step a.act) _ e in
-    let q = both (is_step b.act) _ p.1 in
+    let p = and_parts (is_step a.act) _ e in
+    let q = and_parts (is_step b.act) _ p.1 in
     ap (λ w. choice_at w a.act) (eqb-true a.worker b.worker q.1) ∙ ap (choice_at b.worker) (same_acts a.act b.act p.0 q.0)
 
 pub joined_steps : (a b : Choice) → are_joined a b ≡ true → is_step a.act ≡ true
-joined_steps a b e = (both (is_step a.act) _ e).0
+joined_steps a b e = (and_parts (is_step a.act) _ e).0
 
 pub joined_itself : (a : Choice) → is_step a.act ≡ true → are_joined a a ≡ true
 joined_itself a e = rw (e, eq-eqb a.worker a.worker refl) refl

@@ -1,6 +1,7 @@
 -- A machine before any choice.
 use Rattle.std.proofs.Common.{◌≡◌, ℕ, zero, suc, ◌+◌, ◌<◌, ◌≤◌, ℤ, pos, Bool, true, false, ◌&&◌, ◌⊎◌, inl, inr, List, [], ◌∷◌, ◌++◌, map, length}
 use Rattle.std.proofs.Common.{replicate, Option, Some, None, refl, sym, ap, ◌∙◌, subst, arith, if◌then◌else◌}
+use Rattle.std.proofs.lemmas.Option.{same_Some}
 use Rattle.std.specs.Prelude.{max, slice_get, slice_index_or}
 use Rattle.std.proofs.lemmas.Bool.{le-leb}
 use Rattle.std.proofs.lemmas.List.{length-replicate, length-map}
@@ -74,9 +75,6 @@ table-parameters body [] b e = cc
 table-parameters body (x ∷ bodies) zero e = let same : body ≡ body_table x = cc in ap (λ (y : Body). y.params) same
 table-parameters body (x ∷ bodies) (suc b) e = table-parameters body bodies b e
 
-some_same : (m n : ℕ) → Some m ≡ Some n → m ≡ n
-some_same m n e = cc
-
 -- a parameter that holds 1 at first is told of 1
 told-one : (variables : List Variable) (v : Variable) → slice_get variables 0 ≡ Some v → v.length ≡ 0 → v.initial ≡ pos 1
     → with_arguments (pos 1 ∷ []) (initial_values variables) ≡ initial_values variables
@@ -98,7 +96,7 @@ module _ (p : Program) (well : WellFormed p) (b : ℕ) (main : (label p).main �
   known : StartsWith (label p) b
   known =
       let it = main_starts p well in
-      let same : it.0 ≡ b = some_same it.0 b (sym it.1.is_main ∙ main) in
+      let same : it.0 ≡ b = same_Some it.0 b (sym it.1.is_main ∙ main) in
       subst (StartsWith (label p)) same it.1
 
   no_inlet : is_inlet (body_at (label p) b).owner ≡ false
@@ -188,7 +186,7 @@ module _ (p : Program) (n b : ℕ) (f : Frame) (parts : Parts) (keeps : Bool) (p
 
   stands : StandsFor (label p) f (model.started (label p) b [])
   stands =
-      let same : starts.main ≡ b = some_same starts.main b (sym starts.is_main ∙ main) in
+      let same : starts.main ≡ b = same_Some starts.main b (sym starts.is_main ∙ main) in
       subst (λ (k : ℕ). StandsFor (label p) f (model.started (label p) k [])) same starts.stands
 
   agrees : Agrees p (machine_of parts outside.running) (read_off p (machine_of parts outside.running) at) at

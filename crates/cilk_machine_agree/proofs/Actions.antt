@@ -8,11 +8,11 @@ use Rattle.cilk_laws_model.specs.scopes.declared.owner.Owner.{Owner}
 use Rattle.cilk_laws_model.specs.scopes.declared.owner.Owner.TheVariants.{Function, Procedure, Inlet}
 use Rattle.cilk_laws_model.specs.labelled.Labelled.{Labelled}
 use Rattle.cilk_laws_model.specs.labelled.Bodies.{label, is_procedure}
-use Rattle.cilk_model.specs.Values.{Cell}
-use Rattle.cilk_model.specs.Instance.{Instance, body_at}
-use Rattle.cilk_model.specs.State.{State, Instances, changed}
-use Rattle.cilk_model.specs.Change.{is_function, put, gone_on, outer_with, globals_with, resumed_to, with_instance, with_put}
-use Rattle.cilk_model.specs.Hands.{with_hand}
+use Rattle.cilk_laws_model.specs.model.Values.{Cell}
+use Rattle.cilk_laws_model.specs.model.Instance.{Instance, body_at}
+use Rattle.cilk_laws_model.specs.model.State.{State, Instances, changed}
+use Rattle.cilk_laws_model.specs.model.Change.{is_function, put, gone_on, outer_with, globals_with, resumed_to, with_instance, with_put}
+use Rattle.cilk_laws_model.specs.model.Hands.{with_hand}
 use Rattle.cilk_sched.specs.nodes.Slots.{is_inlet, slot_of}
 use Rattle.cilk_sched.specs.frame.Frames.{Frame, gone_to, left}
 use Rattle.cilk_sched.specs.frame.Cells.{SameCell, put_in, frame_put, globals_put}

@@ -2,10 +2,10 @@
 use Rattle.std.proofs.Common.{◌≡◌, ℕ, List, Option, Some, None, is_some, sym, ap, ◌∙◌, subst, inl, inr, slice_set}
 use Rattle.std.specs.Prelude.{option_map}
 use Rattle.cilk_laws_model.specs.labelled.Bodies.{label}
-use Rattle.cilk_model.specs.Instance.{Instance}
-use Rattle.cilk_model.specs.State.{State}
-use Rattle.cilk_model.specs.Hands.{with_hand, named}
-use Rattle.cilk_model.specs.Scheduler as sched
+use Rattle.cilk_laws_model.specs.model.Instance.{Instance}
+use Rattle.cilk_laws_model.specs.model.State.{State}
+use Rattle.cilk_laws_model.specs.model.Hands.{with_hand, named}
+use Rattle.cilk_laws_model.specs.model.Scheduler as sched
 use Rattle.cilk_sched.specs.frame.Frames.{Frame}
 use Rattle.cilk_sched.specs.frame.Stands.{StandsFor}
 use Rattle.cilk_spawn.specs.Nodes.{Node, node_at, is_live, path_at}

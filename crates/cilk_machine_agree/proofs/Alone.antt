@@ -2,10 +2,10 @@
 use Rattle.std.proofs.Common.{◌≡◌, ◌≢◌, ℕ, ◌+◌, ◌<◌, Bool, true, false, cond, List, length, Option, Some, None, is_some, refl, sym, ap, ◌∙◌, subst, arith}
 use Rattle.std.specs.Prelude.{IfSome, sum_by, count_by}
 use Rattle.cilk_laws_model.specs.labelled.Bodies.{label}
-use Rattle.cilk_model.specs.Path.{Path, same_path, is_that}
-use Rattle.cilk_model.specs.Instance.{Instance}
-use Rattle.cilk_model.specs.State as state
-use Rattle.cilk_model.specs.Hands.{WorkerOf, hand_of, with_hand}
+use Rattle.cilk_laws_model.specs.model.Path.{Path, same_path, is_that}
+use Rattle.cilk_laws_model.specs.model.Instance.{Instance}
+use Rattle.cilk_laws_model.specs.model.State as state
+use Rattle.cilk_laws_model.specs.model.Hands.{WorkerOf, hand_of, with_hand}
 use Rattle.cilk_laws_model.specs.Hands.{times_held}
 use Rattle.cilk_laws_model.proofs.Entries.{same-self}
 use Rattle.cilk_sched.specs.frame.Frames.{Frame}

@@ -5,12 +5,12 @@ use Rattle.std.proofs.lemmas.List.{length-map}
 use Rattle.std.proofs.lemmas.List.Elements.{All-head}
 use Rattle.cilk_laws_model.specs.labelled.Labelled.{Labelled}
 use Rattle.cilk_laws_model.specs.labelled.Bodies.{label}
-use Rattle.cilk_model.specs.Path.{Path}
-use Rattle.cilk_model.specs.Instance as model
-use Rattle.cilk_model.specs.State as state
-use Rattle.cilk_model.specs.State.{store_of}
-use Rattle.cilk_model.specs.Change as change
-use Rattle.cilk_model.specs.Scheduler as sched
+use Rattle.cilk_laws_model.specs.model.Path.{Path}
+use Rattle.cilk_laws_model.specs.model.Instance as model
+use Rattle.cilk_laws_model.specs.model.State as state
+use Rattle.cilk_laws_model.specs.model.State.{store_of}
+use Rattle.cilk_laws_model.specs.model.Change as change
+use Rattle.cilk_laws_model.specs.model.Scheduler as sched
 use Rattle.cilk_sched.specs.frame.Reads.{Seen, lent, seen_by}
 use Rattle.cilk_sched.proofs.frame_laws.Steps.{lent-seen}
 use Rattle.cilk_spawn.specs.declared.delivery.Delivery.{Delivery}

@@ -2,8 +2,8 @@
 use Rattle.std.proofs.Common.{◌≡◌, ◌<◌, ◌≤◌, ◌-◌, ◌&&◌, not, ℕ, ℤ, Bool, true, false, List, [], ◌∷◌, ◌++◌, length, Option, Some, None, refl, sym, ap}
 use Rattle.std.proofs.Common.{◌∙◌, subst, slice_set, get_or-set_same, get_or-set_other, if◌then◌else◌}
 use Rattle.std.specs.List.{list_any}
-use Rattle.cilk_model.specs.Path.{is_child}
-use Rattle.cilk_model.specs.Hands.{IsWorker, hand_of, deque_of, with_hand}
+use Rattle.cilk_laws_model.specs.model.Path.{is_child}
+use Rattle.cilk_laws_model.specs.model.Hands.{IsWorker, hand_of, deque_of, with_hand}
 use Rattle.cilk_spawn.specs.declared.fate.Fate.TheVariants.{Aborted}
 use Rattle.cilk_spawn.specs.declared.receiver.Receiver.TheVariants.{Nothing}
 use Rattle.cilk_spawn.specs.Nodes.{Node, IsTree, no_node, node_at, is_live, has_live_child, takes_value, delivery_of, delivered, delivered_to}

@@ -7,13 +7,13 @@ use Rattle.std.proofs.lemmas.List.Elements.{All-head, All-tail, All-push, All-we
 use Rattle.cilk_laws_model.specs.syntax.Tree.{Program}
 use Rattle.cilk_laws_model.specs.labelled.Labelled.{Labelled}
 use Rattle.cilk_laws_model.specs.labelled.Bodies.{label}
-use Rattle.cilk_model.specs.Path.{Path, same_path, child_path}
-use Rattle.cilk_model.specs.Instance as model
-use Rattle.cilk_model.specs.Instance.{Instance}
-use Rattle.cilk_model.specs.State as state
-use Rattle.cilk_model.specs.State.{State, changed}
-use Rattle.cilk_model.specs.Hands.{WorkerOf, deque_of, with_hand, with_deque, pushed_by, named}
-use Rattle.cilk_model.specs.Scheduler as sched
+use Rattle.cilk_laws_model.specs.model.Path.{Path, same_path, child_path}
+use Rattle.cilk_laws_model.specs.model.Instance as model
+use Rattle.cilk_laws_model.specs.model.Instance.{Instance}
+use Rattle.cilk_laws_model.specs.model.State as state
+use Rattle.cilk_laws_model.specs.model.State.{State, changed}
+use Rattle.cilk_laws_model.specs.model.Hands.{WorkerOf, deque_of, with_hand, with_deque, pushed_by, named}
+use Rattle.cilk_laws_model.specs.model.Scheduler as sched
 use Rattle.cilk_laws_model.specs.Hands.{times_held}
 use Rattle.cilk_laws_model.proofs.Entries.{live-cons}
 use Rattle.cilk_sched.specs.frame.Frames.{Frame}

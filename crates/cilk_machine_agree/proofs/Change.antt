@@ -2,14 +2,14 @@
 use Rattle.std.proofs.Common.{◌≡◌, ◌≢◌, ◌<◌, ℕ, true, List, length, Some, is_some, refl, sym, ap, ◌∙◌, subst, inl, inr}
 use Rattle.cilk_laws_model.specs.syntax.Tree.{Program}
 use Rattle.cilk_laws_model.specs.labelled.Bodies.{label}
-use Rattle.cilk_model.specs.Path.{Path}
-use Rattle.cilk_model.specs.Instance.{Instance}
-use Rattle.cilk_model.specs.State.{changed}
-use Rattle.cilk_model.specs.Run.{Standing}
+use Rattle.cilk_laws_model.specs.model.Path.{Path}
+use Rattle.cilk_laws_model.specs.model.Instance.{Instance}
+use Rattle.cilk_laws_model.specs.model.State.{changed}
+use Rattle.cilk_laws_model.specs.model.Run.{Standing}
 use Rattle.cilk_sched.specs.frame.Frames.{Frame}
 use Rattle.cilk_spawn.specs.Nodes.{Node, node_at, is_live, path_at}
 use Rattle.cilk_spawn.proofs.Lists.{decide}
-use Rattle.cilk_model.specs.Hands.{WorkerOf, named}
+use Rattle.cilk_laws_model.specs.model.Hands.{WorkerOf, named}
 use Rattle.cilk_sched.specs.Count.{AllHeld}
 use Rattle.cilk_sched.proofs.Count.{AllHeld-weaker}
 use Rattle.cilk_machine_agree.specs.Outside.{Outside, SameOutside}

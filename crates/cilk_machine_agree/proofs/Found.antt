@@ -6,12 +6,12 @@ use Rattle.std.proofs.lemmas.List.Elements.{All-head, All-tail}
 use Rattle.cilk_laws_model.specs.syntax.Tree.{Program}
 use Rattle.cilk_laws_model.specs.labelled.Labelled.{Labelled}
 use Rattle.cilk_laws_model.specs.labelled.Bodies.{label}
-use Rattle.cilk_model.specs.Path.{Path, same_path, is_child}
-use Rattle.cilk_model.specs.Instance as model
-use Rattle.cilk_model.specs.Instance.{Instance}
-use Rattle.cilk_model.specs.State as state
-use Rattle.cilk_model.specs.State.{Entry, instance_at, is_empty}
-use Rattle.cilk_model.specs.Run.{Standing}
+use Rattle.cilk_laws_model.specs.model.Path.{Path, same_path, is_child}
+use Rattle.cilk_laws_model.specs.model.Instance as model
+use Rattle.cilk_laws_model.specs.model.Instance.{Instance}
+use Rattle.cilk_laws_model.specs.model.State as state
+use Rattle.cilk_laws_model.specs.model.State.{Entry, instance_at, is_empty}
+use Rattle.cilk_laws_model.specs.model.Run.{Standing}
 use Rattle.cilk_sched.specs.frame.Stands.{StandsFor}
 use Rattle.cilk_spawn.specs.declared.delivery.Delivery.{Delivery}
 use Rattle.cilk_spawn.specs.Nodes.{Node, IsTree, node_at, is_live, live_ids, has_live_child, path_at}

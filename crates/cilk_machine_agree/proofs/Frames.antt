@@ -2,11 +2,11 @@
 use Rattle.std.proofs.Common.{◌≡◌, ℕ, zero, suc, ◌-◌, List, [], ◌∷◌, Option, Some, None, refl, sym, subst, ◌∙◌}
 use Rattle.std.specs.Prelude.{IfSome, All, slice_index_or, slice_set}
 use Rattle.std.proofs.lemmas.List.Elements.{All-nil, All-cons, All-head, All-tail}
-use Rattle.cilk_model.specs.Path.{Path}
-use Rattle.cilk_model.specs.Scheduler as sched
+use Rattle.cilk_laws_model.specs.model.Path.{Path}
+use Rattle.cilk_laws_model.specs.model.Scheduler as sched
 use Rattle.cilk_sched.specs.frame.Frames.{Frame}
-use Rattle.cilk_model.specs.Hands.{WorkerOf, IsWorker, no_place, worker_at, hand_of, deque_of, with_hand, with_deque, bottom_of, above_bottom}
-use Rattle.cilk_model.specs.Hands.{top_of, below_top}
+use Rattle.cilk_laws_model.specs.model.Hands.{WorkerOf, IsWorker, no_place, worker_at, hand_of, deque_of, with_hand, with_deque, bottom_of, above_bottom}
+use Rattle.cilk_laws_model.specs.model.Hands.{top_of, below_top}
 use Rattle.cilk_sched.specs.Count.{AllAt, AllHeld}
 use Rattle.cilk_sched.proofs.Seats.{deque-kept, deque-same}
 

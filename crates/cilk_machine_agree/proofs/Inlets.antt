@@ -3,12 +3,12 @@ use Rattle.std.proofs.Common.{pos, ◌≡◌, ◌+◌, ℕ, true, List, [], ◌�
 use Rattle.std.proofs.lemmas.List.Elements.{All-drop}
 use Rattle.cilk_laws_model.specs.labelled.Labelled.{Labelled}
 use Rattle.cilk_laws_model.specs.labelled.Bodies.{label, is_procedure}
-use Rattle.cilk_model.specs.Path.{Path, child_path}
-use Rattle.cilk_model.specs.Instance as model
-use Rattle.cilk_model.specs.Instance.{Instance}
-use Rattle.cilk_model.specs.State.{changed}
-use Rattle.cilk_model.specs.Change.{gone_on, after_start}
-use Rattle.cilk_model.specs.Scheduler.{pushed}
+use Rattle.cilk_laws_model.specs.model.Path.{Path, child_path}
+use Rattle.cilk_laws_model.specs.model.Instance as model
+use Rattle.cilk_laws_model.specs.model.Instance.{Instance}
+use Rattle.cilk_laws_model.specs.model.State.{changed}
+use Rattle.cilk_laws_model.specs.model.Change.{gone_on, after_start}
+use Rattle.cilk_laws_model.specs.model.Scheduler.{pushed}
 use Rattle.cilk_sched.specs.frame.Begins.{started}
 use Rattle.cilk_sched.proofs.frame_laws.Steps.{call-stands, start-stands, rest-stands}
 use Rattle.cilk_spawn.specs.declared.delivery.Delivery.{Delivery}

@@ -1,16 +1,16 @@
 -- What follows an event is fated as the events with that one tell it.
 use Rattle.std.proofs.Common.{◌≡◌, ◌<◌, ◌+◌, ℕ, zero, suc, Bool, true, false, List, [], ◌∷◌, ◌++◌, map, length, Some, refl, sym, ap, ◌∙◌, subst}
 use Rattle.std.proofs.Common.{arith, inl, inr, if◌then◌else◌}
+use Rattle.std.proofs.lemmas.Bool.{or_left}
 use Rattle.std.specs.List.{range_with_len}
 use Rattle.std.proofs.lemmas.List.{map-append}
 use Rattle.cilk_laws_model.specs.labelled.Labelled.{Labelled}
-use Rattle.cilk_model.specs.Path.{Path, same_path}
-use Rattle.cilk_model.specs.Event.{Event, acted, spawned, delivered, returned, ended, trapped, moved}
-use Rattle.cilk_model.specs.Fate as model
-use Rattle.cilk_model.specs.Fate.{fate_by, is_birth, was_made, fate_of}
+use Rattle.cilk_laws_model.specs.model.Path.{Path, same_path}
+use Rattle.cilk_laws_model.specs.model.Event.{Event, acted, spawned, delivered, returned, ended, trapped, moved}
+use Rattle.cilk_laws_model.specs.model.Fate as model
+use Rattle.cilk_laws_model.specs.model.Fate.{fate_by, is_birth, was_made, fate_of}
 use Rattle.cilk_laws_model.proofs.Events.{told-push, made-push, fate-made, has_fate}
-use Rattle.cilk_laws_model.proofs.Born.{or_left}
-use Rattle.cilk_model.specs.Made.{born, made, procedure_of}
+use Rattle.cilk_laws_model.specs.model.Made.{born, made, procedure_of}
 use Rattle.cilk_spawn.specs.declared.fate.Fate.{Fate}
 use Rattle.cilk_spawn.specs.declared.fate.Fate.TheVariants.{Live, Returned, Delivered, Aborted}
 use Rattle.cilk_spawn.specs.Nodes.{Node, IsTree, node_at, is_live, lives, after_taking, root_alone, path_at}

@@ -6,9 +6,9 @@ use Rattle.std.proofs.lemmas.List.Elements.{All-head, All-tail, All-cons}
 use Rattle.cilk_laws_model.specs.syntax.declared.lock_action.LockAction.{LockAction}
 use Rattle.cilk_laws_model.specs.syntax.declared.lock_action.LockAction.TheVariants.{Init, Unlock}
 use Rattle.cilk_laws_model.specs.syntax.declared.lock_action.LockAction.TheVariants as action
-use Rattle.cilk_model.specs.Path.{Path, same_path}
-use Rattle.cilk_model.specs.State as state
-use Rattle.cilk_model.specs.Change as change
+use Rattle.cilk_laws_model.specs.model.Path.{Path, same_path}
+use Rattle.cilk_laws_model.specs.model.State as state
+use Rattle.cilk_laws_model.specs.model.Change as change
 use Rattle.cilk_spawn.specs.Nodes.{Node, IsTree, path_at}
 use Rattle.cilk_spawn.proofs.Lists.{decide}
 use Rattle.cilk_spawn.proofs.Grown.{same_number, other_number}

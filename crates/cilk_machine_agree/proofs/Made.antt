@@ -1,15 +1,16 @@
 -- The paths that the events make, and the procedures that they tell.
 use Rattle.std.proofs.Common.{◌≡◌, ◌<◌, ◌+◌, ℕ, zero, suc, Bool, true, false, ◌||◌, List, [], ◌∷◌, ◌++◌, length, Option, Some, None, refl, sym, ap}
 use Rattle.std.proofs.Common.{◌∙◌, arith, if◌then◌else◌}
+use Rattle.std.proofs.lemmas.Bool.{or_parts}
 use Rattle.std.specs.Prelude.{flat_map, option_and_then}
 use Rattle.std.specs.Option.{option_or}
 use Rattle.std.specs.List.{list_any, range_with_len}
 use Rattle.cilk_laws_model.specs.labelled.Labelled.{Labelled}
-use Rattle.cilk_model.specs.Path.{Path, same_path}
-use Rattle.cilk_model.specs.Event.{Event, acted, spawned, delivered, returned, ended, trapped, moved}
-use Rattle.cilk_model.specs.Fate.{is_birth, was_made}
+use Rattle.cilk_laws_model.specs.model.Path.{Path, same_path}
+use Rattle.cilk_laws_model.specs.model.Event.{Event, acted, spawned, delivered, returned, ended, trapped, moved}
+use Rattle.cilk_laws_model.specs.model.Fate.{is_birth, was_made}
 use Rattle.cilk_laws_model.proofs.Entries.{same-is, same-self}
-use Rattle.cilk_model.specs.Made.{callee_of, spawn_by, spawn_of, procedure_of, born, made}
+use Rattle.cilk_laws_model.specs.model.Made.{callee_of, spawn_by, spawn_of, procedure_of, born, made}
 use Rattle.cilk_spawn.specs.Nodes.{Node, path_at}
 use Rattle.cilk_spawn.proofs.Alive.{any_map}
 use Rattle.cilk_machine_agree.specs.Fated.{Fated}
@@ -118,14 +119,10 @@ spawn-none-by (ended q) p e = refl
 spawn-none-by (trapped kind q n) p e = refl
 spawn-none-by moved p e = refl
 
-neither : (a b : Bool) → (a || b) ≡ false → (a ≡ false) × (b ≡ false)
-neither true b e = cc
-neither false b e = (refl, e)
-
 spawn-none : (events : List Event) (p : Path) → list_any (is_birth p) events ≡ false → spawn_of events p ≡ None
 spawn-none [] p e = refl
 spawn-none (x ∷ events) p e =
-    let both = neither (is_birth p x) (list_any (is_birth p) events) e in
+    let both = or_parts (is_birth p x) (list_any (is_birth p) events) e in
     ap (λ o. option_or o (spawn_of events p)) (spawn-none-by x p both.0) ∙ spawn-none events p both.1
 
 -- what was told of a procedure stays told
@@ -144,7 +141,7 @@ pub procedure-born : (program : Labelled) (events : List Event) (p : Path) (n b 
     → procedure_of program (events ++ spawned p n ∷ []) p ≡ Some b
 procedure-born program events [] n b new h = cc
 procedure-born program events (k ∷ p) n b new h =
-    let before : spawn_of events (k ∷ p) ≡ None = spawn-none events (k ∷ p) (neither (same_path (k ∷ p) []) (list_any (is_birth (k ∷ p)) events) new).1 in
+    let before : spawn_of events (k ∷ p) ≡ None = spawn-none events (k ∷ p) (or_parts (same_path (k ∷ p) []) (list_any (is_birth (k ∷ p)) events) new).1 in
     ap (option_and_then (callee_of program))
     (spawn-push events (spawned (k ∷ p) n) (k ∷ p)
     ∙ ap (λ o. option_or o (spawn_by (k ∷ p) (spawned (k ∷ p) n))) before

@@ -2,12 +2,12 @@
 use Rattle.std.proofs.Common.{◌≡◌, ◌<◌, ℕ, Bool, true, false, ◌&&◌, ◌||◌, List, map, length, is_some, refl, sym, ap, ◌∙◌, subst, if◌then◌else◌}
 use Rattle.cilk_laws_model.specs.syntax.Tree.{Program}
 use Rattle.cilk_laws_model.specs.labelled.Bodies.{label}
-use Rattle.cilk_model.specs.Path.{Path}
-use Rattle.cilk_model.specs.Instance.{Instance}
-use Rattle.cilk_model.specs.State.{Entry, State}
-use Rattle.cilk_model.specs.Change.{mark}
-use Rattle.cilk_model.specs.Hands.{named}
-use Rattle.cilk_model.specs.Run.{Standing}
+use Rattle.cilk_laws_model.specs.model.Path.{Path}
+use Rattle.cilk_laws_model.specs.model.Instance.{Instance}
+use Rattle.cilk_laws_model.specs.model.State.{Entry, State}
+use Rattle.cilk_laws_model.specs.model.Change.{mark}
+use Rattle.cilk_laws_model.specs.model.Hands.{named}
+use Rattle.cilk_laws_model.specs.model.Run.{Standing}
 use Rattle.cilk_sched.specs.frame.Frames.{Frame}
 use Rattle.cilk_sched.specs.frame.Stands.{StandsFor}
 use Rattle.cilk_spawn.specs.Nodes.{Node, node_at, is_live, marked_below, descends, path_at}

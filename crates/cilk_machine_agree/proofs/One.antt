@@ -1,9 +1,9 @@
 -- A node tells the fate of its path, whatever the events were.
 use Rattle.std.proofs.Common.{◌≡◌, ◌<◌, ℕ, Bool, true, false, List, length, Some, None, refl, sym, ap, ◌∙◌, if◌then◌else◌}
 use Rattle.cilk_laws_model.specs.labelled.Labelled.{Labelled}
-use Rattle.cilk_model.specs.Path.{Path}
-use Rattle.cilk_model.specs.Event.{Event}
-use Rattle.cilk_model.specs.Fate.{lives, fate_from, was_made, fate_of}
+use Rattle.cilk_laws_model.specs.model.Path.{Path}
+use Rattle.cilk_laws_model.specs.model.Event.{Event}
+use Rattle.cilk_laws_model.specs.model.Fate.{lives, fate_from, was_made, fate_of}
 use Rattle.cilk_spawn.specs.Nodes.{Node, node_at, path_at}
 use Rattle.cilk_machine_agree.specs.Fated.{fate_named, Fated}
 use Rattle.cilk_machine_agree.specs.FateLaws.{FatesAreRead, FatesAreOne}

@@ -6,13 +6,13 @@ use Rattle.std.proofs.lemmas.List.Elements.{All-nil, All-cons, All-replicate}
 use Rattle.cilk_laws_model.specs.syntax.Tree.{Program}
 use Rattle.cilk_laws_model.specs.labelled.Labelled.{Variable}
 use Rattle.cilk_laws_model.specs.labelled.Bodies.{label}
-use Rattle.cilk_model.specs.Path.{Path}
-use Rattle.cilk_model.specs.Values.{initial_values}
-use Rattle.cilk_model.specs.Instance as model
-use Rattle.cilk_model.specs.State as state
-use Rattle.cilk_model.specs.Hands.{no_place}
-use Rattle.cilk_model.specs.Scheduler as sched
-use Rattle.cilk_model.specs.Run as run
+use Rattle.cilk_laws_model.specs.model.Path.{Path}
+use Rattle.cilk_laws_model.specs.model.Values.{initial_values}
+use Rattle.cilk_laws_model.specs.model.Instance as model
+use Rattle.cilk_laws_model.specs.model.State as state
+use Rattle.cilk_laws_model.specs.model.Hands.{no_place}
+use Rattle.cilk_laws_model.specs.model.Scheduler as sched
+use Rattle.cilk_laws_model.specs.model.Run as run
 use Rattle.cilk_sched.specs.nodes.Slots.{size_of}
 use Rattle.cilk_sched.specs.frame.Frames.{Frame}
 use Rattle.cilk_sched.specs.frame.Stands.{StandsFor}

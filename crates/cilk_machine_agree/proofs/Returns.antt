@@ -4,14 +4,14 @@ use Rattle.std.proofs.Common.{inr, All, if◌then◌else◌}
 use Rattle.std.proofs.lemmas.List.Elements.{All-head, All-tail, All-cons}
 use Rattle.cilk_laws_model.specs.syntax.Tree.{Program}
 use Rattle.cilk_laws_model.specs.labelled.Bodies.{label}
-use Rattle.cilk_model.specs.Path.{Path, parent_of}
-use Rattle.cilk_model.specs.Instance.{Instance}
-use Rattle.cilk_model.specs.State as state
-use Rattle.cilk_model.specs.State.{Instances, State}
-use Rattle.cilk_model.specs.Change as change
-use Rattle.cilk_model.specs.Change.{after_return_to, after_abort}
-use Rattle.cilk_model.specs.Scheduler as sched
-use Rattle.cilk_model.specs.Run.{Standing}
+use Rattle.cilk_laws_model.specs.model.Path.{Path, parent_of}
+use Rattle.cilk_laws_model.specs.model.Instance.{Instance}
+use Rattle.cilk_laws_model.specs.model.State as state
+use Rattle.cilk_laws_model.specs.model.State.{Instances, State}
+use Rattle.cilk_laws_model.specs.model.Change as change
+use Rattle.cilk_laws_model.specs.model.Change.{after_return_to, after_abort}
+use Rattle.cilk_laws_model.specs.model.Scheduler as sched
+use Rattle.cilk_laws_model.specs.model.Run.{Standing}
 use Rattle.cilk_laws_model.proofs.Family.{parent-child}
 use Rattle.cilk_spawn.specs.declared.fate.Fate.TheVariants.{Returned, Aborted}
 use Rattle.cilk_spawn.specs.Nodes.{Node, node_at, has_live_child, takes_value, delivery_of, delivered_to, path_at}

@@ -5,13 +5,13 @@ use Rattle.std.proofs.lemmas.List.Elements.{All-push}
 use Rattle.cilk_laws_model.specs.syntax.Tree.{Program}
 use Rattle.cilk_laws_model.specs.labelled.Labelled.{Labelled}
 use Rattle.cilk_laws_model.specs.labelled.Bodies.{label}
-use Rattle.cilk_model.specs.Path.{Path}
-use Rattle.cilk_model.specs.Instance as model
-use Rattle.cilk_model.specs.Instance.{Instance}
-use Rattle.cilk_model.specs.State.{State, changed, without}
-use Rattle.cilk_model.specs.Change.{deliveries, with_deliveries}
-use Rattle.cilk_model.specs.Scheduler as sched
-use Rattle.cilk_model.specs.Run.{Standing}
+use Rattle.cilk_laws_model.specs.model.Path.{Path}
+use Rattle.cilk_laws_model.specs.model.Instance as model
+use Rattle.cilk_laws_model.specs.model.Instance.{Instance}
+use Rattle.cilk_laws_model.specs.model.State.{State, changed, without}
+use Rattle.cilk_laws_model.specs.model.Change.{deliveries, with_deliveries}
+use Rattle.cilk_laws_model.specs.model.Scheduler as sched
+use Rattle.cilk_laws_model.specs.model.Run.{Standing}
 use Rattle.cilk_sched.specs.frame.Frames.{Frame}
 use Rattle.cilk_sched.specs.frame.Stands.{StandsFor}
 use Rattle.cilk_spawn.specs.declared.delivery.Delivery.{Delivery}

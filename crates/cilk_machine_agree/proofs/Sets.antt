@@ -2,9 +2,9 @@
 use Rattle.std.proofs.Common.{◌≡◌, ◌≢◌, ◌<◌, ℕ, zero, suc, true, false, List, [], ◌∷◌, map, length, length-set, refl, sym, ap, ◌∙◌, arith, inl, inr}
 use Rattle.std.proofs.Common.{slice_set, if◌then◌else◌}
 use Rattle.std.proofs.lemmas.Simd.{map-map}
-use Rattle.cilk_model.specs.Path.{Path, same_path}
-use Rattle.cilk_model.specs.Instance.{Instance}
-use Rattle.cilk_model.specs.State.{Entry, change, changed}
+use Rattle.cilk_laws_model.specs.model.Path.{Path, same_path}
+use Rattle.cilk_laws_model.specs.model.Instance.{Instance}
+use Rattle.cilk_laws_model.specs.model.State.{Entry, change, changed}
 use Rattle.cilk_spawn.specs.Nodes.{Node, IsTree, AreFrom, no_node, node_at, is_live, live_ids, marked_below, path_at}
 use Rattle.cilk_spawn.proofs.Lists.{decide, at_set, map_those}
 use Rattle.cilk_spawn.proofs.Trees.{Linked, SameLives, linked_set, lives_set, tree_set, ids_same, path_linked}

@@ -2,12 +2,12 @@
 use Rattle.std.proofs.Common.{◌≡◌, ℕ, Bool, true, false, not, ◌&&◌, ◌||◌, Option, Some, None, is_some, refl, sym, ap, ◌∙◌, subst, if◌then◌else◌}
 use Rattle.cilk_laws_model.specs.syntax.Tree.{Program}
 use Rattle.cilk_laws_model.specs.labelled.Bodies.{label}
-use Rattle.cilk_model.specs.Path.{same_path}
-use Rattle.cilk_model.specs.Instance.{Instance}
-use Rattle.cilk_model.specs.State as state
-use Rattle.cilk_model.specs.State.{instance_at, is_empty}
-use Rattle.cilk_model.specs.Scheduler as sched
-use Rattle.cilk_model.specs.Run.{Standing}
+use Rattle.cilk_laws_model.specs.model.Path.{same_path}
+use Rattle.cilk_laws_model.specs.model.Instance.{Instance}
+use Rattle.cilk_laws_model.specs.model.State as state
+use Rattle.cilk_laws_model.specs.model.State.{instance_at, is_empty}
+use Rattle.cilk_laws_model.specs.model.Scheduler as sched
+use Rattle.cilk_laws_model.specs.model.Run.{Standing}
 use Rattle.cilk_sched.specs.frame.Frames.{Frame}
 use Rattle.cilk_spawn.specs.Nodes.{node_at, is_live, has_live_child, path_at}
 use Rattle.cilk_spawn.proofs.Trees.{live_there}

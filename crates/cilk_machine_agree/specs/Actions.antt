@@ -3,16 +3,16 @@ use Rattle.std.specs.Prelude.{pos, ◌≡◌, ◌+◌, ℕ, ℤ, true, false, Li
 use Rattle.cilk_sched.specs.eval.declared.slot.Slot.{Slot}
 use Rattle.cilk_laws_model.specs.labelled.Bodies.{label}
 use Rattle.cilk_laws_model.specs.labelled.Items.{opened, next}
-use Rattle.cilk_model.specs.Path.{child_path}
-use Rattle.cilk_model.specs.Values.{Cell, Reached}
-use Rattle.cilk_model.specs.Instance as model
-use Rattle.cilk_model.specs.Instance.{Activation, Instance, body_at, entered}
-use Rattle.cilk_model.specs.State.{TrapKind}
+use Rattle.cilk_laws_model.specs.model.Path.{child_path}
+use Rattle.cilk_laws_model.specs.model.Values.{Cell, Reached}
+use Rattle.cilk_laws_model.specs.model.Instance as model
+use Rattle.cilk_laws_model.specs.model.Instance.{Activation, Instance, body_at, entered}
+use Rattle.cilk_laws_model.specs.model.State.{TrapKind}
 use Rattle.cilk_laws_model.specs.scopes.declared.owner.Owner.TheVariants.{Inlet}
-use Rattle.cilk_model.specs.Change.{is_function, put, above, resumed, gone_on, stopped, after_write, after_going, after_call, after_leaving}
-use Rattle.cilk_model.specs.Change.{after_answer, after_start, after_print, after_lock, after_marks, after_place, after_inlet}
-use Rattle.cilk_model.specs.Hands.{with_hand}
-use Rattle.cilk_model.specs.Scheduler.{pushed}
+use Rattle.cilk_laws_model.specs.model.Change.{is_function, put, above, resumed, gone_on, stopped, after_write, after_going, after_call, after_leaving}
+use Rattle.cilk_laws_model.specs.model.Change.{after_answer, after_start, after_print, after_lock, after_marks, after_place, after_inlet}
+use Rattle.cilk_laws_model.specs.model.Hands.{with_hand}
+use Rattle.cilk_laws_model.specs.model.Scheduler.{pushed}
 use Rattle.cilk_sched.specs.nodes.Slots.{is_inlet, procedure_around}
 use Rattle.cilk_sched.specs.nodes.Table.{number_of}
 use Rattle.cilk_sched.specs.nodes.Bodies.{body_of}

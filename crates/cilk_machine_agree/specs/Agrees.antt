@@ -2,11 +2,11 @@
 use Rattle.std.specs.Prelude.{◌≡◌, ◌<◌, ℕ, true, nat_eq, List, [], length, map, Option, Some, None, is_some, if◌then◌else◌}
 use Rattle.cilk_laws_model.specs.syntax.Tree.{Program}
 use Rattle.cilk_laws_model.specs.labelled.Bodies.{label}
-use Rattle.cilk_model.specs.Path.{Path}
-use Rattle.cilk_model.specs.Instance.{Instance, started}
-use Rattle.cilk_model.specs.State.{Entry, Instances, instance_at}
-use Rattle.cilk_model.specs.Hands.{WorkerOf, named}
-use Rattle.cilk_model.specs.Run.{Standing}
+use Rattle.cilk_laws_model.specs.model.Path.{Path}
+use Rattle.cilk_laws_model.specs.model.Instance.{Instance, started}
+use Rattle.cilk_laws_model.specs.model.State.{Entry, Instances, instance_at}
+use Rattle.cilk_laws_model.specs.model.Hands.{WorkerOf, named}
+use Rattle.cilk_laws_model.specs.model.Run.{Standing}
 use Rattle.cilk_sched.specs.frame.Frames.{Frame}
 use Rattle.cilk_sched.specs.frame.Stands.{StandsFor}
 use Rattle.cilk_spawn.specs.Nodes.{Node, IsTree, node_at, is_live, live_ids, path_at}

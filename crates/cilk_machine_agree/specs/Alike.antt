@@ -3,9 +3,9 @@ use Rattle.std.specs.Prelude.{◌≡◌, ◌<◌, ◌≤◌, ℕ, suc, ℤ, ⊤,
 use Rattle.cilk_laws_model.specs.labelled.Term.{Term}
 use Rattle.cilk_sched.specs.eval.declared.slot.Slot.{Slot}
 use Rattle.cilk_laws_model.specs.labelled.Labelled.{Labelled}
-use Rattle.cilk_model.specs.Path.{Path}
-use Rattle.cilk_model.specs.Instance as model
-use Rattle.cilk_model.specs.Instance.{Instance, body_at}
+use Rattle.cilk_laws_model.specs.model.Path.{Path}
+use Rattle.cilk_laws_model.specs.model.Instance as model
+use Rattle.cilk_laws_model.specs.model.Instance.{Instance, body_at}
 use Rattle.cilk_laws_model.specs.scopes.declared.owner.Owner.TheVariants.{Inlet}
 use Rattle.cilk_sched.specs.nodes.Slots.{procedure_around}
 use Rattle.cilk_sched.specs.nodes.declared.taker.Taker.TheVariants.{Through}

@@ -4,14 +4,14 @@ use Rattle.std.specs.List.{list_any}
 use Rattle.cilk_laws_model.specs.syntax.declared.lock_action.LockAction.{LockAction}
 use Rattle.cilk_laws_model.specs.syntax.Tree.{Program}
 use Rattle.cilk_laws_model.specs.labelled.Bodies.{label}
-use Rattle.cilk_model.specs.Instance as model
-use Rattle.cilk_model.specs.Instance.{Instance}
-use Rattle.cilk_model.specs.State as state
-use Rattle.cilk_model.specs.State.{instance_at, store_of}
-use Rattle.cilk_model.specs.Change as change
-use Rattle.cilk_model.specs.Hands.{hand_of, deque_of}
-use Rattle.cilk_model.specs.Scheduler as sched
-use Rattle.cilk_model.specs.Run.{Standing}
+use Rattle.cilk_laws_model.specs.model.Instance as model
+use Rattle.cilk_laws_model.specs.model.Instance.{Instance}
+use Rattle.cilk_laws_model.specs.model.State as state
+use Rattle.cilk_laws_model.specs.model.State.{instance_at, store_of}
+use Rattle.cilk_laws_model.specs.model.Change as change
+use Rattle.cilk_laws_model.specs.model.Hands.{hand_of, deque_of}
+use Rattle.cilk_laws_model.specs.model.Scheduler as sched
+use Rattle.cilk_laws_model.specs.model.Run.{Standing}
 use Rattle.cilk_sched.specs.frame.Reads.{Seen, lent}
 use Rattle.cilk_sched.specs.frame.Stands.{StandsFor}
 use Rattle.cilk_spawn.specs.declared.delivery.Delivery.{Delivery}

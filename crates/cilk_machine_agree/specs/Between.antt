@@ -1,6 +1,6 @@
 -- The machine between the halves of a step: the frame has left the hand, a value was sent, an instance has ended.
 use Rattle.std.specs.Prelude.{◌≡◌, ℕ, ℤ, true, false, List, [], ◌∷◌, ◌++◌, Some, None}
-use Rattle.cilk_model.specs.Hands.{WorkerOf, IsWorker, hand_of, deque_of, with_hand, with_deque, pushed_by}
+use Rattle.cilk_laws_model.specs.model.Hands.{WorkerOf, IsWorker, hand_of, deque_of, with_hand, with_deque, pushed_by}
 use Rattle.cilk_sched.specs.frame.Frames.{Frame}
 use Rattle.cilk_spawn.specs.declared.fate.Fate.TheVariants.{Returned, Aborted}
 use Rattle.cilk_spawn.specs.Nodes.{Node, node_at, is_live, has_live_child, ended}

@@ -1,9 +1,9 @@
 -- What the nodes of instances keep of the events.
 use Rattle.std.specs.Prelude.{◌≡◌, ◌<◌, ℕ, suc, true, List, [], ◌∷◌, ◌++◌, length, Some, None}
 use Rattle.cilk_laws_model.specs.labelled.Labelled.{Labelled}
-use Rattle.cilk_model.specs.Path.{Path}
-use Rattle.cilk_model.specs.Event.{Event}
-use Rattle.cilk_model.specs.Fate.{lives, fate_of}
+use Rattle.cilk_laws_model.specs.model.Path.{Path}
+use Rattle.cilk_laws_model.specs.model.Event.{Event}
+use Rattle.cilk_laws_model.specs.model.Fate.{lives, fate_of}
 use Rattle.cilk_spawn.specs.Nodes.{Node, IsTree, node_at, is_live, root_alone, path_at}
 use Rattle.cilk_machine_agree.specs.Fated.{fate_named, Fated, Follows}
 

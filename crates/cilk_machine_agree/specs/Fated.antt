@@ -2,11 +2,11 @@
 use Rattle.std.specs.Prelude.{◌≡◌, ◌<◌, ℕ, suc, if◌then◌else◌, List, length, map, Some}
 use Rattle.std.specs.List.{range_with_len}
 use Rattle.cilk_laws_model.specs.labelled.Labelled.{Labelled}
-use Rattle.cilk_model.specs.Path.{Path, same_path}
-use Rattle.cilk_model.specs.Event.{Event, spawned, delivered, returned, ended}
-use Rattle.cilk_model.specs.Fate as model
-use Rattle.cilk_model.specs.Fate.{lives, has_returned, was_delivered, was_aborted, fate_of}
-use Rattle.cilk_model.specs.Made.{callee_of, procedure_of, made}
+use Rattle.cilk_laws_model.specs.model.Path.{Path, same_path}
+use Rattle.cilk_laws_model.specs.model.Event.{Event, spawned, delivered, returned, ended}
+use Rattle.cilk_laws_model.specs.model.Fate as model
+use Rattle.cilk_laws_model.specs.model.Fate.{lives, has_returned, was_delivered, was_aborted, fate_of}
+use Rattle.cilk_laws_model.specs.model.Made.{callee_of, procedure_of, made}
 use Rattle.cilk_spawn.specs.declared.fate.Fate.{Fate}
 use Rattle.cilk_spawn.specs.declared.fate.Fate.TheVariants.{Live, Returned, Delivered, Aborted}
 use Rattle.cilk_spawn.specs.Nodes.{Node, node_at, is_live, after_taking, path_at}

@@ -3,17 +3,17 @@ use Rattle.std.specs.Prelude.{◌≡◌, ◌<◌, ◌+◌, ℕ, ℤ, Bool, true,
 use Rattle.std.specs.Prelude.{replicate, slice_set, if◌then◌else◌}
 use Rattle.cilk_laws_model.specs.syntax.Tree.{Program}
 use Rattle.cilk_laws_model.specs.labelled.Bodies.{label}
-use Rattle.cilk_model.specs.Path.{Path, child_path}
-use Rattle.cilk_model.specs.Values.{initial_values}
-use Rattle.cilk_model.specs.Instance as model
-use Rattle.cilk_model.specs.Instance.{Instance}
-use Rattle.cilk_model.specs.State.{State, changed, is_empty}
-use Rattle.cilk_model.specs.Change.{deliveries, with_deliveries, after_return, after_abort}
-use Rattle.cilk_model.specs.Event.{Event}
-use Rattle.cilk_model.specs.Pick.{ends}
-use Rattle.cilk_model.specs.Hands.{IsWorker, no_place, hand_of, with_hand, popped_by, stolen_by, pushed_by}
-use Rattle.cilk_model.specs.Scheduler as sched
-use Rattle.cilk_model.specs.Run.{Standing, opening, stepped}
+use Rattle.cilk_laws_model.specs.model.Path.{Path, child_path}
+use Rattle.cilk_laws_model.specs.model.Values.{initial_values}
+use Rattle.cilk_laws_model.specs.model.Instance as model
+use Rattle.cilk_laws_model.specs.model.Instance.{Instance}
+use Rattle.cilk_laws_model.specs.model.State.{State, changed, is_empty}
+use Rattle.cilk_laws_model.specs.model.Change.{deliveries, with_deliveries, after_return, after_abort}
+use Rattle.cilk_laws_model.specs.model.Event.{Event}
+use Rattle.cilk_laws_model.specs.model.Pick.{ends}
+use Rattle.cilk_laws_model.specs.model.Hands.{IsWorker, no_place, hand_of, with_hand, popped_by, stolen_by, pushed_by}
+use Rattle.cilk_laws_model.specs.model.Scheduler as sched
+use Rattle.cilk_laws_model.specs.model.Run.{Standing, opening, stepped}
 use Rattle.cilk_laws_model.specs.Hands.{EachInItsPlace}
 use Rattle.cilk_sched.specs.nodes.Slots.{flat}
 use Rattle.cilk_sched.specs.frame.Frames.{Frame}

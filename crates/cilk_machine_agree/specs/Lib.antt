@@ -13,7 +13,7 @@ pub use Rattle.cilk_laws_model.specs as runs
 pub use Rattle.cilk_laws_model.specs.labelled
 pub use Rattle.cilk_laws_model.specs.scopes
 pub use Rattle.cilk_laws_model.specs.syntax
-pub use Rattle.cilk_model.specs as model
+pub use Rattle.cilk_laws_model.specs.model
 pub use Rattle.cilk_sched.specs as sched
 pub use Rattle.cilk_sched.specs.eval
 pub use Rattle.cilk_sched.specs.frame

@@ -3,8 +3,8 @@ use Rattle.std.specs.Prelude.{ℕ, Bool, false, nat_eq, List, if◌then◌else�
 use Rattle.cilk_laws_model.specs.syntax.declared.lock_action.LockAction.{LockAction}
 use Rattle.cilk_laws_model.specs.syntax.declared.lock_action.LockAction.TheVariants.{Init, Unlock}
 use Rattle.cilk_laws_model.specs.syntax.declared.lock_action.LockAction.TheVariants as action
-use Rattle.cilk_model.specs.Path.{Path}
-use Rattle.cilk_model.specs.Change as change
+use Rattle.cilk_laws_model.specs.model.Path.{Path}
+use Rattle.cilk_laws_model.specs.model.Change as change
 use Rattle.cilk_machine_agree.specs.declared.lock.Lock.{Lock}
 use Rattle.cilk_machine_agree.specs.declared.lock.Lock.TheVariants.{Unset, Free, Held}
 use Rattle.cilk_machine_agree.specs.Outside.{lock_by}

@@ -1,9 +1,9 @@
 -- What an `abort` marks (Cilk 5.4 manual, `abort`).
 use Rattle.std.specs.Prelude.{Bool, true, map, if◌then◌else◌}
-use Rattle.cilk_model.specs.Path.{Path}
-use Rattle.cilk_model.specs.Instance.{Instance}
-use Rattle.cilk_model.specs.State.{State}
-use Rattle.cilk_model.specs.Change.{mark}
+use Rattle.cilk_laws_model.specs.model.Path.{Path}
+use Rattle.cilk_laws_model.specs.model.Instance.{Instance}
+use Rattle.cilk_laws_model.specs.model.State.{State}
+use Rattle.cilk_laws_model.specs.model.Change.{mark}
 
 abbrev pub marked_if : Bool → Instance → Instance
 marked_if b i = if b then record i { aborted = true } else i

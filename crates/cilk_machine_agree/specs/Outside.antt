@@ -1,9 +1,9 @@
 -- What the program has outside its instances: the machine names an instance by its id, and the definitions by its path.
 use Rattle.std.specs.Prelude.{◌≡◌, ◌<◌, ℕ, ℤ, ⊤, List, All, length, map}
 use Rattle.cilk_laws_model.specs.labelled.Labelled.{Labelled}
-use Rattle.cilk_model.specs.Path.{Path}
-use Rattle.cilk_model.specs.State as state
-use Rattle.cilk_model.specs.State.{TrapKind, State}
+use Rattle.cilk_laws_model.specs.model.Path.{Path}
+use Rattle.cilk_laws_model.specs.model.State as state
+use Rattle.cilk_laws_model.specs.model.State.{TrapKind, State}
 use Rattle.cilk_sched.specs.nodes.Slots.{size_of, flat}
 use Rattle.cilk_machine_agree.specs.declared.lock.Lock.{Lock}
 use Rattle.cilk_machine_agree.specs.declared.lock.Lock.TheVariants.{Unset, Free, Held}

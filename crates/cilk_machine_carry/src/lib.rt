@@ -17,11 +17,9 @@ mod writing;
 
 pub use carry::carry_out;
 pub use cilk_machine_plan::{
-    Area, Body, Fate, Frame, Hands, Id, Light, Lock, Memory, Plan, Program, Reached, Receiver,
-    Slots, Tree, Var, held,
+    Activation, Area, Body, Fate, Frame, Hands, HandsImage, Id, Light, LivingImage, Lock, Memory,
+    Mixer, Plan, Program, Reached, Receiver, Remains, Slots, Taken, Tree, TreeImage, Var, held,
 };
-pub use cilk_sched::{Activation, HandsImage};
-pub use cilk_spawn::{LivingImage, Mixer, Remains, Taken, TreeImage};
 pub use did::{Did, Done, NoMemory, Outcome};
 pub use given::Writing;
 pub use lightly::{carry_lightly, write_cell};

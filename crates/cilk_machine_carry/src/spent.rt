@@ -1,8 +1,6 @@
 //! What a step moves out of a machine, by which it can be put back.
 
-use cilk_machine_plan::Frame;
-use cilk_sched::Activation;
-use cilk_spawn::Remains;
+use cilk_machine_plan::{Activation, Frame, Remains};
 
 /// What the last step that moved something out of a machine moved out of it.
 #[derive(Drop)]

@@ -3,22 +3,22 @@ use Rattle.std.proofs.Common.{pos, ◌≡◌, ℕ, ◌<◌, ℤ, List, ◌∷◌
 use Rattle.std.specs.Prelude.{option_map}
 use Rattle.cilk_check.specs.syntax.Tree.{Program}
 use Rattle.cilk_check.specs.scopes.WellFormed.{WellFormed}
-use Rattle.cilk_frame.specs.labelled.Labelled.{Numbered}
-use Rattle.cilk_frame.specs.labelled.Items.{Items, head_of, reached}
-use Rattle.cilk_frame.specs.labelled.Bodies.{label}
-use Rattle.cilk_frame.specs.model.Instance.{Instance, body_at}
+use Rattle.cilk_spawn.specs.labelled.Labelled.{Numbered}
+use Rattle.cilk_spawn.specs.labelled.Items.{Items, head_of, reached}
+use Rattle.cilk_spawn.specs.labelled.Bodies.{label}
+use Rattle.cilk_spawn.specs.model.Instance.{Instance, body_at}
 use Rattle.cilk_machine_effects.specs.Heads.{GoesOn}
-use Rattle.cilk_frame.specs.nodes.Slots.{slot_of}
-use Rattle.cilk_frame.specs.nodes.Actions.{slotted}
-use Rattle.cilk_frame.specs.nodes.declared.node.Node.{Node}
-use Rattle.cilk_frame.specs.nodes.Table.{number_of, number_after, node_of, number_else, cases_of}
-use Rattle.cilk_frame.specs.nodes.Bodies.{body_of}
-use Rattle.cilk_frame.specs.nodes.Laws.{items_at}
-use Rattle.cilk_frame.proofs.nodes_laws.Heads.{nodes-stand, bodies-have}
-use Rattle.cilk_frame.specs.Frames.{Frame, top_of}
-use Rattle.cilk_frame.specs.Stands.{StandsFor}
-use Rattle.cilk_frame.specs.Begins.{Takes}
-use Rattle.cilk_frame.proofs.Tops.{top-stands}
+use Rattle.cilk_spawn.specs.nodes.Slots.{slot_of}
+use Rattle.cilk_spawn.specs.nodes.Actions.{slotted}
+use Rattle.cilk_spawn.specs.nodes.declared.node.Node.{Node}
+use Rattle.cilk_spawn.specs.nodes.Table.{number_of, number_after, node_of, number_else, cases_of}
+use Rattle.cilk_spawn.specs.nodes.Bodies.{body_of}
+use Rattle.cilk_spawn.specs.nodes.Laws.{items_at}
+use Rattle.cilk_spawn.proofs.frame_laws.nodes_laws.Heads.{nodes-stand, bodies-have}
+use Rattle.cilk_spawn.specs.frame.Frames.{Frame, top_of}
+use Rattle.cilk_spawn.specs.frame.Stands.{StandsFor}
+use Rattle.cilk_spawn.specs.frame.Begins.{Takes}
+use Rattle.cilk_spawn.proofs.frame_laws.Tops.{top-stands}
 use Rattle.cilk_machine_effects.specs.Known.{KnownAct}
 use Rattle.cilk_machine_effects.specs.Before.{Before}
 use Rattle.cilk_machine_effects.proofs.Known.{heads, follows}

@@ -10,13 +10,13 @@ use Rattle.cilk_check.specs.scopes.Parts.{place_exprs, target_exprs, move_exprs,
 use Rattle.cilk_check.proofs.scopes_laws.Elements.{Has, Has-append_left, Has-append_right}
 use Rattle.cilk_check.specs.scopes.declared.role.Role.TheVariants as role
 use Rattle.cilk_check.specs.scopes.Uses.{Use, use_as, expr_uses, place_role, place_uses, target_uses, move_uses, taker_uses, takes_value}
-use Rattle.cilk_frame.specs.labelled.Labelled as labelled
-use Rattle.cilk_frame.specs.labelled.Labelled.{Labelled}
-use Rattle.cilk_frame.specs.labelled.Names.{Names, meaning_of, number_of, label_expr, label_index, label_place, label_target}
-use Rattle.cilk_frame.specs.labelled.Label.{label_move, label_taker}
-use Rattle.cilk_frame.specs.labelled.Bodies.{is_procedure}
+use Rattle.cilk_spawn.specs.labelled.Labelled as labelled
+use Rattle.cilk_spawn.specs.labelled.Labelled.{Labelled}
+use Rattle.cilk_spawn.specs.labelled.Names.{Names, meaning_of, number_of, label_expr, label_index, label_place, label_target}
+use Rattle.cilk_spawn.specs.labelled.Label.{label_move, label_taker}
+use Rattle.cilk_spawn.specs.labelled.Bodies.{is_procedure}
 use Rattle.cilk_machine_effects.specs.Known as known
-use Rattle.cilk_frame.specs.Reads.{IsKnown}
+use Rattle.cilk_spawn.specs.frame.Reads.{IsKnown}
 use Rattle.cilk_machine_effects.specs.Known.{owner_of, KnownTarget, KnownPlace, Calls, Spawns, KnownTaker, KnownAct}
 use Rattle.cilk_machine_effects.proofs.Facts.{Sound}
 use Rattle.cilk_machine_effects.proofs.Meant.{FitNames, use_serves}

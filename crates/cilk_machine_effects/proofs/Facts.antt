@@ -1,6 +1,7 @@
 -- What the rules say of the parts of a well-formed program.
 use Rattle.std.proofs.Common.{◌≡◌, ◌≢◌, ℕ, ◌<◌, ◌≤◌, Bool, true, false, IsTrue, ◌&&◌, nat_eq, nat_le, List, [], flat_map, length, Option, Some, None}
 use Rattle.std.proofs.Common.{is_some, codes, inl, inr, refl, sym, ap, ◌∙◌, arith}
+use Rattle.std.proofs.lemmas.Bool.{true_from_ne_false}
 use Rattle.std.specs.List.{Contains}
 use Rattle.std.proofs.lemmas.Bool.Decides.{Decides-eqb, nat_tests}
 use Rattle.cilk_check.specs.syntax.declared.return_type.ReturnType.TheVariants as returns
@@ -24,7 +25,7 @@ use Rattle.cilk_check.specs.scopes.Format.{numbers_in}
 use Rattle.cilk_check.specs.scopes.Cells.{is_length}
 use Rattle.cilk_check.specs.scopes.Forms as forms
 use Rattle.cilk_check.specs.scopes.Forms.{words_of_children, returned_by, has_form}
-use Rattle.cilk_frame.specs.labelled.Bodies.{is_procedure}
+use Rattle.cilk_spawn.specs.labelled.Bodies.{is_procedure}
 use Rattle.cilk_check.specs.scopes.WellFormed.{WellFormed}
 
 -- what a use means, and that it is one of these
@@ -37,12 +38,8 @@ pub record Sound (used : Use) : Type 0 where
   pub not_main : (n : ℕ) (b : Bool) → used.role ≡ role.Spawned n b → used.name.text ≢ codes "main"
   pub no_inlet : (n k : ℕ) (b : Bool) → used.role ≡ role.Called n b → means.kind ≢ kind.Inlet k
 
-holds : (b : Bool) → (b ≡ false → ⊥) → b ≡ true
-holds true h = refl
-holds false h = absurd (h refl)
-
 same_number : (m n : ℕ) → ¬ (m ≢ n) → m ≡ n
-same_number m n h = (Decides-eqb m n).0 (holds (nat_eq m n) (λ e. h (not_from (nat_eq m n) (Decides-eqb m n) e)))
+same_number m n h = (Decides-eqb m n).0 (true_from_ne_false (nat_eq m n) (λ e. h (not_from (nat_eq m n) (Decides-eqb m n) e)))
 
 same_count : (o : Option ℕ) (n : ℕ) → ¬ (o ≢ Some n) → o ≡ Some n
 same_count None n h = absurd (h (λ e. cc))
@@ -66,7 +63,7 @@ module _ (p : tree.Program) (well : WellFormed p) where
   use_of used d m = record {
     means = d;
     visible = m.visible;
-    fitting = holds (fits used.role d.kind) (λ e. well _ (inl (names.wrong_kind used d m e)));
+    fitting = true_from_ne_false (fits used.role d.kind) (λ e. well _ (inl (names.wrong_kind used d m e)));
     counts = λ given wanted g w. same_number given wanted (λ differ. well _ (inl (names.argument_count used d given wanted m g w differ)));
     gives = λ taken void. well _ (inl (names.void_value used d m taken void));
     not_main = λ n b r main. well _ (inl (names.main_spawned used d n b m r main));
@@ -114,9 +111,9 @@ module _ (p : tree.Program) (well : WellFormed p) where
       → IsTrue (is_procedure a.within.owner) × IsTrue a.within.outermost
   inlet_in_procedure a at name parameters body there =
       let stands = Contains-from_Has (parts_of p) _ there in (
-        sym (same_test a.within.owner) ∙ holds (forms.is_procedure a.within.owner)
+        sym (same_test a.within.owner) ∙ true_from_ne_false (forms.is_procedure a.within.owner)
             (λ e. well _ (inr (forms.inlet_in_no_procedure a at name parameters body stands e))),
-        holds a.within.outermost (λ e. well _ (inr (forms.inlet_in_inner_block a at name parameters body stands e))),
+        true_from_ne_false a.within.outermost (λ e. well _ (inr (forms.inlet_in_inner_block a at name parameters body stands e))),
       )
 
   -- where `abort` stands
@@ -131,16 +128,16 @@ module _ (p : tree.Program) (well : WellFormed p) where
   -- where `break` and `continue` stand
   pub break_in_one : (a : Around) (at : ℕ) → Has (parts_of p) (record { around = a; part = statement (tree.break_at at) }) → IsTrue a.within.in_loop_or_switch
   break_in_one a at there =
-      holds a.within.in_loop_or_switch (λ e. well _ (inr (forms.break_outside a at (Contains-from_Has _ _ there) e)))
+      true_from_ne_false a.within.in_loop_or_switch (λ e. well _ (inr (forms.break_outside a at (Contains-from_Has _ _ there) e)))
 
   pub continue_in_a_loop : (a : Around) (at : ℕ) → Has (parts_of p) (record { around = a; part = statement (tree.continue_at at) })
       → IsTrue a.within.in_loop
-  continue_in_a_loop a at there = holds a.within.in_loop (λ e. well _ (inr (forms.continue_outside a at (Contains-from_Has _ _ there) e)))
+  continue_in_a_loop a at there = true_from_ne_false a.within.in_loop (λ e. well _ (inr (forms.continue_outside a at (Contains-from_Has _ _ there) e)))
 
   pub returns_so : (a : Around) (at : ℕ) (value : Option tree.Expr) → Has (parts_of p) (record { around = a; part = statement (tree.return_at at value) })
       → IsTrue (has_form (returned_by a.within.owner) value)
   returns_so a at value there =
-      holds (has_form (returned_by a.within.owner) value) (λ e. well _ (inr (forms.return_form a at value (Contains-from_Has _ _ there) e)))
+      true_from_ne_false (has_form (returned_by a.within.owner) value) (λ e. well _ (inr (forms.return_form a at value (Contains-from_Has _ _ there) e)))
 
   pub format_counts : (a : Around) (text : tree.Literal) (arguments : List tree.Expr)
       → Has (parts_of p) (record { around = a; part = statement (tree.print text arguments) })
@@ -150,7 +147,7 @@ module _ (p : tree.Program) (well : WellFormed p) where
 
   array_has_length : (d : Declaring) (n : ℕ) → Has (declarings_of p) d → d.declared.kind ≡ kind.Array n → InRange n
   array_has_length d n there e =
-      in_range n (holds (is_length n) (λ no. well _ (inr (forms.array_length d n (Contains-from_Has _ _ there) e no))))
+      in_range n (true_from_ne_false (is_length n) (λ no. well _ (inr (forms.array_length d n (Contains-from_Has _ _ there) e no))))
 
   -- the lengths of arrays
   pub local_in_range : (a : Around) (name : Word) (n : ℕ)

@@ -10,14 +10,14 @@ use Rattle.cilk_check.specs.scopes.Scopes.{parameter, declare_all, enter, parame
 use Rattle.cilk_check.specs.scopes.Parts.{Around, owner_of, block_parts, locals_parts, stmts_parts, after_locals, item_parts}
 use Rattle.cilk_check.proofs.scopes_laws.Elements.{Has, Has-flat_map}
 use Rattle.cilk_check.specs.scopes.WellFormed.{WellFormed}
-use Rattle.cilk_frame.specs.labelled.Labelled as labelled
-use Rattle.cilk_frame.specs.labelled.Labelled.{Labelled, Body, Variable}
-use Rattle.cilk_frame.specs.labelled.Names.{Names, with_words, with_name, with_parameters, with_local, local_count, entered}
-use Rattle.cilk_frame.specs.labelled.Count.{count_local, count_item}
-use Rattle.cilk_frame.specs.labelled.Label.{locals_variables, stmts_variables, block_variables}
-use Rattle.cilk_frame.specs.labelled.Bodies.{is_procedure, one_cell, parameter_variables, label_body, inlet_bodies, block_locals, procedure_names}
-use Rattle.cilk_frame.specs.labelled.Bodies.{inlet_count, body_count, item_bodies, items_bodies, file_names, bodies_of}
-use Rattle.cilk_frame.specs.model.Instance.{body_at, no_body}
+use Rattle.cilk_spawn.specs.labelled.Labelled as labelled
+use Rattle.cilk_spawn.specs.labelled.Labelled.{Labelled, Body, Variable}
+use Rattle.cilk_spawn.specs.labelled.Names.{Names, with_words, with_name, with_parameters, with_local, local_count, entered}
+use Rattle.cilk_spawn.specs.labelled.Count.{count_local, count_item}
+use Rattle.cilk_spawn.specs.labelled.Label.{locals_variables, stmts_variables, block_variables}
+use Rattle.cilk_spawn.specs.labelled.Bodies.{is_procedure, one_cell, parameter_variables, label_body, inlet_bodies, block_locals, procedure_names}
+use Rattle.cilk_spawn.specs.labelled.Bodies.{inlet_count, body_count, item_bodies, items_bodies, file_names, bodies_of}
+use Rattle.cilk_spawn.specs.model.Instance.{body_at, no_body}
 use Rattle.cilk_machine_effects.specs.Heads.{in_nothing, EachOf}
 use Rattle.cilk_machine_effects.specs.Known as known
 use Rattle.cilk_machine_effects.proofs.Lists.{get_is, StandAt, stand_all, stand_left, stand_right, stand_behind, stand_first, stand_others}

@@ -11,13 +11,13 @@ use Rattle.cilk_check.specs.scopes.Within.{whole_body}
 use Rattle.cilk_check.specs.scopes.Parts.{block_parts, within_local}
 use Rattle.cilk_check.proofs.scopes_laws.Elements.{Has-append_left}
 use Rattle.cilk_check.specs.scopes.WellFormed.{WellFormed}
-use Rattle.cilk_frame.specs.labelled.Labelled as labelled
-use Rattle.cilk_frame.specs.labelled.Labelled.{Labelled, Body, Variable}
-use Rattle.cilk_frame.specs.labelled.Names.{Names, with_words, with_name, with_parameters, with_local, local_count, in_inlet}
-use Rattle.cilk_frame.specs.labelled.Count.{count_local}
-use Rattle.cilk_frame.specs.labelled.Label.{block_variables}
-use Rattle.cilk_frame.specs.labelled.Bodies.{is_procedure, one_cell, inlet_count}
-use Rattle.cilk_frame.specs.model.Instance.{body_at}
+use Rattle.cilk_spawn.specs.labelled.Labelled as labelled
+use Rattle.cilk_spawn.specs.labelled.Labelled.{Labelled, Body, Variable}
+use Rattle.cilk_spawn.specs.labelled.Names.{Names, with_words, with_name, with_parameters, with_local, local_count, in_inlet}
+use Rattle.cilk_spawn.specs.labelled.Count.{count_local}
+use Rattle.cilk_spawn.specs.labelled.Label.{block_variables}
+use Rattle.cilk_spawn.specs.labelled.Bodies.{is_procedure, one_cell, inlet_count}
+use Rattle.cilk_spawn.specs.model.Instance.{body_at}
 use Rattle.cilk_machine_effects.specs.Heads.{in_nothing, EachOf}
 use Rattle.cilk_machine_effects.specs.Known.{owner_of}
 use Rattle.cilk_machine_effects.proofs.Lists.{StandAt, stand_all, stand_left, stand_right}

@@ -1,14 +1,15 @@
 -- Each action of a well-formed program is known.
-use Rattle.std.proofs.Common.{ℤ, ◌≡◌, ℕ, ◌<◌, Bool, true, false, ◌&&◌, List, [], ◌∷◌, length, Some, IsSome, IsNone, codes, slice_get, bytes_eq, refl}
+use Rattle.std.proofs.Common.{ℤ, ◌≡◌, ℕ, ◌<◌, List, [], ◌∷◌, length, Some, IsSome, IsNone, codes, slice_get, bytes_eq, refl}
 use Rattle.std.proofs.Common.{sym, subst, append-nil}
+use Rattle.std.proofs.lemmas.Bool.{and_parts}
 use Rattle.std.proofs.lemmas.Slice.Eq.{bytes_eq-Decides}
 use Rattle.cilk_check.specs.syntax.Tree as tree
 use Rattle.cilk_check.specs.scopes.Scopes.{file_declares}
 use Rattle.cilk_check.specs.scopes.WellFormed.{WellFormed}
-use Rattle.cilk_frame.specs.labelled.Labelled.{Labelled, Body, Numbered, Action}
-use Rattle.cilk_frame.specs.labelled.Items.{head_of, reached}
-use Rattle.cilk_frame.specs.labelled.Bodies.{label, bodies_of, file_names, is_start, is_procedure}
-use Rattle.cilk_frame.specs.model.Instance.{body_at}
+use Rattle.cilk_spawn.specs.labelled.Labelled.{Labelled, Body, Numbered, Action}
+use Rattle.cilk_spawn.specs.labelled.Items.{head_of, reached}
+use Rattle.cilk_spawn.specs.labelled.Bodies.{label, bodies_of, file_names, is_start, is_procedure}
+use Rattle.cilk_spawn.specs.model.Instance.{body_at}
 use Rattle.cilk_machine_effects.specs.Heads.{Inside, in_nothing, in_a_loop, MayStand, EachOf, LeavesInLoops, GoesOn}
 use Rattle.cilk_machine_effects.proofs.Items.{reached_each, head_each, each_map}
 use Rattle.cilk_machine_effects.proofs.Heads.{in_any, starts, goes_on, ends}
@@ -21,15 +22,11 @@ use Rattle.cilk_machine_effects.proofs.Inlets.{KnownBody}
 use Rattle.cilk_machine_effects.proofs.Files.{bodies_known}
 use Rattle.cilk_machine_effects.proofs.Tops.{file_fits}
 
-right_true : (x y : Bool) → (x && y) ≡ true → y ≡ true
-right_true true y e = e
-right_true false y e = cc
-
 module _ (p : tree.Program) (well : WellFormed p) where
   pub main_named : (k : ℕ) (x : Body) → (label p).main ≡ Some k → slice_get (bodies_of p) k ≡ Some x → x.name ≡ codes "main"
   main_named k x e there =
       let passes = position_passes is_start (bodies_of p) k x e there in
-      (bytes_eq-Decides x.name (codes "main")).0 (right_true (is_procedure x.owner) (bytes_eq x.name (codes "main")) passes)
+      (bytes_eq-Decides x.name (codes "main")).0 (and_parts (is_procedure x.owner) (bytes_eq x.name (codes "main")) passes).1
 
   names_fit : (b h : ℕ) → FitNames (label p) b h (file_names p.items)
   names_fit b h = subst (λ ds. Fit (Fits (label p) b h) ds (file_names p.items).means) (sym (append-nil (file_declares p.items)))

@@ -23,4 +23,4 @@ pub mod Shapes
 pub use Rattle.cilk_check.proofs as check_laws
 pub use Rattle.cilk_check.proofs.rules_of_forms_laws
 pub use Rattle.cilk_check.proofs.rules_of_names_laws
-pub use Rattle.cilk_frame.proofs as frame_laws
+pub use Rattle.cilk_spawn.proofs.frame_laws

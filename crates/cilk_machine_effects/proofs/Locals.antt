@@ -11,16 +11,16 @@ use Rattle.cilk_check.specs.scopes.Scopes.{local_declares, kind_of_shape}
 use Rattle.cilk_check.specs.scopes.Parts.{local, PartInContext, parts_of, after_local, after_locals, locals_parts, within_local}
 use Rattle.cilk_check.proofs.scopes_laws.Elements.{Has, Has-append_left, Has-append_right}
 use Rattle.cilk_check.specs.scopes.WellFormed.{WellFormed}
-use Rattle.cilk_frame.specs.labelled.Labelled.{Labelled, Body, Variable, Action, Stmts}
-use Rattle.cilk_frame.specs.labelled.Labelled as labelled
-use Rattle.cilk_frame.specs.labelled.Names.{Names, with_words, with_local, local_count, in_inlet}
-use Rattle.cilk_frame.specs.labelled.Count.{count_local}
-use Rattle.cilk_frame.specs.labelled.Label.{local_variables, locals_variables, label_initialiser, label_locals, names_behind}
-use Rattle.cilk_frame.specs.labelled.Bodies.{is_procedure, one_cell, label_body, inlet_bodies}
-use Rattle.cilk_frame.specs.model.Instance.{body_at, no_body}
+use Rattle.cilk_spawn.specs.labelled.Labelled.{Labelled, Body, Variable, Action, Stmts}
+use Rattle.cilk_spawn.specs.labelled.Labelled as labelled
+use Rattle.cilk_spawn.specs.labelled.Names.{Names, with_words, with_local, local_count, in_inlet}
+use Rattle.cilk_spawn.specs.labelled.Count.{count_local}
+use Rattle.cilk_spawn.specs.labelled.Label.{local_variables, locals_variables, label_initialiser, label_locals, names_behind}
+use Rattle.cilk_spawn.specs.labelled.Bodies.{is_procedure, one_cell, label_body, inlet_bodies}
+use Rattle.cilk_spawn.specs.model.Instance.{body_at, no_body}
 use Rattle.cilk_machine_effects.specs.Heads.{Inside, MayStand, EachOf}
-use Rattle.cilk_frame.specs.Cells.{no_variable}
-use Rattle.cilk_frame.specs.Reads.{IsVariable}
+use Rattle.cilk_spawn.specs.frame.Cells.{no_variable}
+use Rattle.cilk_spawn.specs.frame.Reads.{IsVariable}
 use Rattle.cilk_machine_effects.specs.Known.{owner_of, StandsIn, KnownAct}
 use Rattle.cilk_machine_effects.proofs.Lists.{get_within, get_is, StandAt, stand_left, stand_behind, stand_first, stand_others}
 use Rattle.cilk_machine_effects.proofs.Facts.{local_in_range, inlet_in_procedure}

@@ -17,13 +17,13 @@ use Rattle.cilk_check.specs.scopes.declared.role.Role.TheVariants as role
 use Rattle.cilk_check.specs.scopes.NameFaults as rules
 use Rattle.cilk_check.specs.scopes.NameFaults.{fits, parameters_of}
 use Rattle.cilk_check.specs.scopes.Uses.{use_as}
-use Rattle.cilk_frame.specs.labelled.Labelled.{Declaration, local, outer, global, of_lock, of_body, unknown, Labelled}
-use Rattle.cilk_frame.specs.labelled.Names.{Names, meaning_at, meaning_of, number_of, with_name, with_words, with_parameters, outward}
-use Rattle.cilk_frame.specs.labelled.Bodies.{is_procedure, one_cell, parameter_variables}
-use Rattle.cilk_frame.specs.model.Instance.{body_at}
-use Rattle.cilk_frame.specs.nodes.Slots.{is_inlet, procedure_around}
-use Rattle.cilk_frame.specs.Cells.{variable_at, own_variables}
-use Rattle.cilk_frame.specs.Reads.{IsVariable, IsArray}
+use Rattle.cilk_spawn.specs.labelled.Labelled.{Declaration, local, outer, global, of_lock, of_body, unknown, Labelled}
+use Rattle.cilk_spawn.specs.labelled.Names.{Names, meaning_at, meaning_of, number_of, with_name, with_words, with_parameters, outward}
+use Rattle.cilk_spawn.specs.labelled.Bodies.{is_procedure, one_cell, parameter_variables}
+use Rattle.cilk_spawn.specs.model.Instance.{body_at}
+use Rattle.cilk_spawn.specs.nodes.Slots.{is_inlet, procedure_around}
+use Rattle.cilk_spawn.specs.frame.Cells.{variable_at, own_variables}
+use Rattle.cilk_spawn.specs.frame.Reads.{IsVariable, IsArray}
 use Rattle.cilk_machine_effects.specs.Known.{owner_of, StandsIn, Accepts, Calls, Spawns, Feeds}
 use Rattle.cilk_machine_effects.proofs.Lists.{get_within, found_at, found_passes, position_first, StandAt, stand_first, stand_others, Fit, fit_at, fit_map}
 use Rattle.cilk_machine_effects.proofs.Facts.{Sound}

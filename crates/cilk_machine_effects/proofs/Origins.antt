@@ -11,11 +11,11 @@ use Rattle.cilk_check.specs.scopes.Parts as standing
 use Rattle.cilk_check.specs.scopes.Declarations as declarations
 use Rattle.cilk_check.specs.scopes.Declarations.{item_activations, inlet_activations, activations_of}
 use Rattle.cilk_check.proofs.scopes_laws.Elements.{Has, Has-append_left, Has-append_right, Has-append_cases, Has-flat_map}
-use Rattle.cilk_frame.specs.labelled.Labelled.{Body, Variable}
-use Rattle.cilk_frame.specs.labelled.Names.{Names, with_words, with_local, local_count, in_inlet}
-use Rattle.cilk_frame.specs.labelled.Count.{count_local, count_item}
-use Rattle.cilk_frame.specs.labelled.Bodies.{one_cell, parameter_variables, label_body, inlet_bodies, block_locals, body_count, procedure_names}
-use Rattle.cilk_frame.specs.labelled.Bodies.{item_bodies, items_bodies, bodies_of, file_names}
+use Rattle.cilk_spawn.specs.labelled.Labelled.{Body, Variable}
+use Rattle.cilk_spawn.specs.labelled.Names.{Names, with_words, with_local, local_count, in_inlet}
+use Rattle.cilk_spawn.specs.labelled.Count.{count_local, count_item}
+use Rattle.cilk_spawn.specs.labelled.Bodies.{one_cell, parameter_variables, label_body, inlet_bodies, block_locals, body_count, procedure_names}
+use Rattle.cilk_spawn.specs.labelled.Bodies.{item_bodies, items_bodies, bodies_of, file_names}
 use Rattle.cilk_machine_effects.proofs.Locals.{AllIn}
 
 -- the parameters of a body

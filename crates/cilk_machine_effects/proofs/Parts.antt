@@ -7,9 +7,9 @@ use Rattle.cilk_check.proofs.scopes_laws.Elements.{Has, Has-append_left, Has-app
 use Rattle.cilk_check.specs.scopes.WellFormed.{WellFormed}
 use Rattle.cilk_check.specs.scopes.Uses.{Use, expr_uses, stmt_uses}
 use Rattle.cilk_check.specs.scopes.Forms.{own_word}
-use Rattle.cilk_frame.specs.labelled.Labelled.{Labelled}
-use Rattle.cilk_frame.specs.labelled.Names.{Names, with_local}
-use Rattle.cilk_frame.specs.labelled.Bodies.{is_procedure}
+use Rattle.cilk_spawn.specs.labelled.Labelled.{Labelled}
+use Rattle.cilk_spawn.specs.labelled.Names.{Names, with_local}
+use Rattle.cilk_spawn.specs.labelled.Bodies.{is_procedure}
 use Rattle.cilk_machine_effects.specs.Heads.{Inside}
 use Rattle.cilk_machine_effects.specs.Known.{owner_of}
 use Rattle.cilk_machine_effects.proofs.Facts.{Sound, part_sound, children_in_procedure}

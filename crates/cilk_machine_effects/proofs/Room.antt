@@ -16,11 +16,11 @@ use Rattle.cilk_check.specs.scopes.Cells as rules
 use Rattle.cilk_check.specs.scopes.Cells.{cells_of, max_cells, max_global_cells}
 use Rattle.cilk_check.specs.scopes.Forms as forms
 use Rattle.cilk_check.specs.scopes.Forms.{Passes}
-use Rattle.cilk_frame.specs.labelled.Labelled.{Variable, Body}
-use Rattle.cilk_frame.specs.labelled.Label.{local_variables, locals_variables, stmt_variables, stmts_variables, block_variables}
-use Rattle.cilk_frame.specs.labelled.Bodies.{one_cell, shaped_variable, item_globals, label, bodies_of}
-use Rattle.cilk_frame.specs.model.Instance.{body_at, no_body}
-use Rattle.cilk_frame.specs.nodes.Slots as slots
+use Rattle.cilk_spawn.specs.labelled.Labelled.{Variable, Body}
+use Rattle.cilk_spawn.specs.labelled.Label.{local_variables, locals_variables, stmt_variables, stmts_variables, block_variables}
+use Rattle.cilk_spawn.specs.labelled.Bodies.{one_cell, shaped_variable, item_globals, label, bodies_of}
+use Rattle.cilk_spawn.specs.model.Instance.{body_at, no_body}
+use Rattle.cilk_spawn.specs.nodes.Slots as slots
 use Rattle.cilk_machine_effects.specs.Room.{HasRoom, ParametersFirst}
 use Rattle.cilk_machine_effects.proofs.Lists.{get_there}
 use Rattle.cilk_machine_effects.proofs.Facts.{InRange, local_in_range, global_in_range}

@@ -6,28 +6,28 @@ use Rattle.std.specs.List.{All}
 use Rattle.std.proofs.lemmas.List.Elements.{All-head, All-tail, All-map, All-weaker}
 use borrow.Author.Tests.{ltb-true}
 use Rattle.cilk_check.specs.syntax.declared.operator.BinOp.{BinOp}
-use Rattle.cilk_frame.specs.labelled.declared.trap.Trap.{Trap}
-use Rattle.cilk_frame.specs.labelled.declared.trap.Trap.TheVariants.{Index}
-use Rattle.cilk_frame.specs.labelled.Arithmetic.{is_zero}
-use Rattle.cilk_frame.specs.labelled.Term.{Term, rename}
-use Rattle.cilk_frame.specs.labelled.Value.{Environment, value_of, values_of, ◌>>=◌}
-use Rattle.cilk_frame.specs.eval.declared.slot.Slot.{Slot}
-use Rattle.cilk_frame.specs.eval.Slots.{Cells, slot_cell, sizes_of, LiesWithin, SlotsLieWithin}
-use Rattle.cilk_frame.specs.eval.Slots as slots
-use Rattle.cilk_frame.specs.labelled.Labelled.{Declaration, local, outer, global, of_lock, of_body, unknown, Variable, Labelled, Target, variable}
-use Rattle.cilk_frame.specs.labelled.Labelled.{element, Into, Taker, nothing, into, through, Action, assign, call, spawn, print, locking, null}
-use Rattle.cilk_frame.specs.labelled.Labelled.{break_off, go_round, tests, sync, abort, return_with, return_nothing, close}
-use Rattle.cilk_frame.specs.model.Values.{Values, Store, Cell, Reached, cells_of, cell_of, environment, element_cell, cell_at, reached_at, reached_if, combined}
-use Rattle.cilk_frame.specs.model.Instance as model
-use Rattle.cilk_frame.specs.model.Effect as effect
-use Rattle.cilk_frame.specs.model.Effect.{effect_of, start_of}
-use Rattle.cilk_frame.specs.model.Printing.{printed}
-use Rattle.cilk_frame.specs.nodes.Slots.{size_of, slot_of}
-use Rattle.cilk_frame.specs.nodes.Actions.{slotted_place, slotted_target, slotted_taker, slotted}
-use Rattle.cilk_frame.specs.Cells.{own_variables, outer_variables, HasCell}
-use Rattle.cilk_frame.specs.Reads.{IsVariable, IsArray, IsKnown, Seen}
-use Rattle.cilk_frame.proofs.SlotLaws.{cells-size}
-use Rattle.cilk_frame.proofs.Values.{array-inside, array-declared, array-same, declared-within, cell-same, value-same, slots-within}
+use Rattle.cilk_spawn.specs.labelled.declared.trap.Trap.{Trap}
+use Rattle.cilk_spawn.specs.labelled.declared.trap.Trap.TheVariants.{Index}
+use Rattle.cilk_spawn.specs.labelled.Arithmetic.{is_zero}
+use Rattle.cilk_spawn.specs.labelled.Term.{Term, rename}
+use Rattle.cilk_spawn.specs.labelled.Value.{Environment, value_of, values_of, ◌>>=◌}
+use Rattle.cilk_spawn.specs.eval.declared.slot.Slot.{Slot}
+use Rattle.cilk_spawn.specs.eval.Slots.{Cells, slot_cell, sizes_of, LiesWithin, SlotsLieWithin}
+use Rattle.cilk_spawn.specs.eval.Slots as slots
+use Rattle.cilk_spawn.specs.labelled.Labelled.{Declaration, local, outer, global, of_lock, of_body, unknown, Variable, Labelled, Target, variable}
+use Rattle.cilk_spawn.specs.labelled.Labelled.{element, Into, Taker, nothing, into, through, Action, assign, call, spawn, print, locking, null}
+use Rattle.cilk_spawn.specs.labelled.Labelled.{break_off, go_round, tests, sync, abort, return_with, return_nothing, close}
+use Rattle.cilk_spawn.specs.model.Values.{Values, Store, Cell, Reached, cells_of, cell_of, environment, element_cell, cell_at, reached_at, reached_if, combined}
+use Rattle.cilk_spawn.specs.model.Instance as model
+use Rattle.cilk_spawn.specs.model.Effect as effect
+use Rattle.cilk_spawn.specs.model.Effect.{effect_of, start_of}
+use Rattle.cilk_spawn.specs.model.Printing.{printed}
+use Rattle.cilk_spawn.specs.nodes.Slots.{size_of, slot_of}
+use Rattle.cilk_spawn.specs.nodes.Actions.{slotted_place, slotted_target, slotted_taker, slotted}
+use Rattle.cilk_spawn.specs.frame.Cells.{own_variables, outer_variables, HasCell}
+use Rattle.cilk_spawn.specs.frame.Reads.{IsVariable, IsArray, IsKnown, Seen}
+use Rattle.cilk_spawn.proofs.frame_laws.SlotLaws.{cells-size}
+use Rattle.cilk_spawn.proofs.frame_laws.Values.{array-inside, array-declared, array-same, declared-within, cell-same, value-same, slots-within}
 use Rattle.cilk_machine_effects.specs.declared.effect.Effect.{Effect}
 use Rattle.cilk_machine_effects.specs.declared.effect.Effect.TheVariants.{Writes, Answers, Enters, Gives, Starts, Prints, TurnsLock, Marks}
 use Rattle.cilk_spawn.specs.declared.receiver.Receiver as receiver

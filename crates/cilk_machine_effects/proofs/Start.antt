@@ -1,8 +1,8 @@
 -- The procedure that a well-formed program starts with.
-use Rattle.std.proofs.Common.{◌≡◌, ℕ, ◌+◌, pos, Bool, true, false, cond, IsTrue, IsSome, ◌&&◌, ◌⊎◌, List, [], ◌∷◌, ◌++◌, length, find, Option, Some}
+use Rattle.std.proofs.Common.{◌≡◌, ℕ, ◌+◌, pos, Bool, true, false, cond, IsTrue, IsSome, ◌⊎◌, List, [], ◌∷◌, ◌++◌, length, find, Option, Some}
 use Rattle.std.proofs.Common.{is_some, codes, slice_get, bytes_eq, inl, inr, refl, sym, ap, subst, ◌∙◌}
 use Rattle.std.specs.List.{list_any}
-use Rattle.std.proofs.lemmas.Bool.{false≢true}
+use Rattle.std.proofs.lemmas.Bool.{false≢true, and_parts}
 use Rattle.std.proofs.lemmas.Slice.Eq.{bytes_eq-Decides}
 use Rattle.cilk_check.specs.syntax.declared.return_type.ReturnType.TheVariants.{Int}
 use Rattle.cilk_check.specs.syntax.Tree as tree
@@ -18,21 +18,17 @@ use Rattle.cilk_check.specs.scopes.Forms.{IsMain, are_of_main}
 use Rattle.cilk_check.specs.rules_of_forms.Finds.{starts}
 use Rattle.cilk_check.proofs.rules_of_forms_laws.Mains.{Started, started, starts_where}
 use Rattle.cilk_check.specs.scopes.WellFormed.{WellFormed}
-use Rattle.cilk_frame.specs.labelled.Labelled.{Body, Variable}
-use Rattle.cilk_frame.specs.labelled.Names.{Names}
-use Rattle.cilk_frame.specs.labelled.Count.{count_item}
-use Rattle.cilk_frame.specs.labelled.Label.{block_variables}
-use Rattle.cilk_frame.specs.labelled.Bodies.{one_cell, parameter_variables, body_count, item_bodies, items_bodies, bodies_of, file_names}
-use Rattle.cilk_frame.specs.labelled.Bodies.{is_procedure, is_start, label}
-use Rattle.cilk_frame.specs.model.Instance.{body_at, no_body}
+use Rattle.cilk_spawn.specs.labelled.Labelled.{Body, Variable}
+use Rattle.cilk_spawn.specs.labelled.Names.{Names}
+use Rattle.cilk_spawn.specs.labelled.Count.{count_item}
+use Rattle.cilk_spawn.specs.labelled.Label.{block_variables}
+use Rattle.cilk_spawn.specs.labelled.Bodies.{one_cell, parameter_variables, body_count, item_bodies, items_bodies, bodies_of, file_names}
+use Rattle.cilk_spawn.specs.labelled.Bodies.{is_procedure, is_start, label}
+use Rattle.cilk_spawn.specs.model.Instance.{body_at, no_body}
 use Rattle.cilk_machine_effects.specs.Room.{IsTold, StartsWith}
 use Rattle.cilk_machine_effects.proofs.Lists.{get_within, get_is, found_at, found_passes}
 use Rattle.cilk_machine_effects.proofs.Origins.{Source, inlet, definition, Origin, origin}
 use Rattle.cilk_machine_effects.proofs.Room.{get_has}
-
-and_true : (a b : Bool) → (a && b) ≡ true → (a ≡ true) × (b ≡ true)
-and_true true b e = (refl, e)
-and_true false b e = cc
 
 -- an element that passes a test is there, so one is found
 -- whether the first passes, or one of the others is found
@@ -174,7 +170,7 @@ module _ (p : tree.Program) (well : WellFormed p) where
 
   main_body : (x : Body) → Has (bodies_of p) x → is_start x ≡ true → MainBody x
   main_body x there passes =
-      let both = and_true (is_procedure x.owner) (bytes_eq x.name (codes "main")) passes in
+      let both = and_parts (is_procedure x.owner) (bytes_eq x.name (codes "main")) passes in
       let from = origin p x there in
       by_source x from from.source both.0 ((bytes_eq-Decides x.name (codes "main")).0 both.1)
 

@@ -13,15 +13,15 @@ use Rattle.cilk_check.specs.scopes.Uses.{moves_uses}
 use Rattle.cilk_check.specs.scopes.declared.role.Role.TheVariants as role
 use Rattle.cilk_check.specs.scopes.Format.{numbers_in}
 use Rattle.cilk_check.specs.scopes.Forms.{returned_by, has_form}
-use Rattle.cilk_frame.specs.labelled.Labelled.{Labelled}
-use Rattle.cilk_frame.specs.labelled.Names.{Names, entered, label_expr}
-use Rattle.cilk_frame.specs.labelled.Count.{count_option, count_stmt, count_locals, count_block}
-use Rattle.cilk_frame.specs.labelled.Label.{locals_variables, stmt_variables, stmts_variables, block_variables, label_move, label_return, label_part}
-use Rattle.cilk_frame.specs.labelled.Label.{label_stmt, label_stmts, label_block, names_behind}
-use Rattle.cilk_frame.specs.labelled.Bodies.{is_procedure, block_locals}
-use Rattle.cilk_frame.specs.model.Instance.{body_at}
+use Rattle.cilk_spawn.specs.labelled.Labelled.{Labelled}
+use Rattle.cilk_spawn.specs.labelled.Names.{Names, entered, label_expr}
+use Rattle.cilk_spawn.specs.labelled.Count.{count_option, count_stmt, count_locals, count_block}
+use Rattle.cilk_spawn.specs.labelled.Label.{locals_variables, stmt_variables, stmts_variables, block_variables, label_move, label_return, label_part}
+use Rattle.cilk_spawn.specs.labelled.Label.{label_stmt, label_stmts, label_block, names_behind}
+use Rattle.cilk_spawn.specs.labelled.Bodies.{is_procedure, block_locals}
+use Rattle.cilk_spawn.specs.model.Instance.{body_at}
 use Rattle.cilk_machine_effects.specs.Heads.{Inside, in_a_loop, in_a_switch, MayStand, IfThere, EachOfStmt, EachOf}
-use Rattle.cilk_frame.specs.Reads.{IsKnown}
+use Rattle.cilk_spawn.specs.frame.Reads.{IsKnown}
 use Rattle.cilk_machine_effects.specs.Known.{owner_of}
 use Rattle.cilk_machine_effects.proofs.Lists.{StandAt, stand_left, stand_right}
 use Rattle.cilk_machine_effects.proofs.Facts.{abort_in_inlet, break_in_one, continue_in_a_loop, returns_so, format_counts}

@@ -6,11 +6,11 @@ use Rattle.cilk_check.specs.scopes.declared.owner.Owner.{Owner}
 use Rattle.cilk_check.specs.scopes.declared.owner.Owner.TheVariants.{Function, Procedure, Inlet}
 use Rattle.cilk_check.specs.scopes.Format.{numbers_in}
 use Rattle.cilk_check.specs.scopes.Forms.{returned_by}
-use Rattle.cilk_frame.specs.labelled.Labelled.{Target, variable, element, Into, Taker, nothing, into, through, Action, assign, call, spawn, print}
-use Rattle.cilk_frame.specs.labelled.Labelled.{locking, null, break_off, go_round, tests, sync, abort, return_with, return_nothing, close, Labelled}
-use Rattle.cilk_frame.specs.labelled.Bodies.{is_procedure}
-use Rattle.cilk_frame.specs.model.Instance.{body_at}
-use Rattle.cilk_frame.specs.Reads.{IsVariable, IsArray, IsKnown}
+use Rattle.cilk_spawn.specs.labelled.Labelled.{Target, variable, element, Into, Taker, nothing, into, through, Action, assign, call, spawn, print}
+use Rattle.cilk_spawn.specs.labelled.Labelled.{locking, null, break_off, go_round, tests, sync, abort, return_with, return_nothing, close, Labelled}
+use Rattle.cilk_spawn.specs.labelled.Bodies.{is_procedure}
+use Rattle.cilk_spawn.specs.model.Instance.{body_at}
+use Rattle.cilk_spawn.specs.frame.Reads.{IsVariable, IsArray, IsKnown}
 
 -- the owner of body b
 abbrev pub owner_of : Labelled → ℕ → Owner

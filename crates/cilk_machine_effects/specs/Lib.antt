@@ -9,8 +9,8 @@ pub use Rattle.cilk_check.specs as check
 pub use Rattle.cilk_check.specs.rules_of_forms
 pub use Rattle.cilk_check.specs.rules_of_names
 pub use Rattle.cilk_check.specs.syntax
-pub use Rattle.cilk_frame.specs as frame
-pub use Rattle.cilk_frame.specs.eval
-pub use Rattle.cilk_frame.specs.labelled
-pub use Rattle.cilk_frame.specs.model
-pub use Rattle.cilk_frame.specs.nodes
+pub use Rattle.cilk_spawn.specs.frame
+pub use Rattle.cilk_spawn.specs.eval
+pub use Rattle.cilk_spawn.specs.labelled
+pub use Rattle.cilk_spawn.specs.model
+pub use Rattle.cilk_spawn.specs.nodes

@@ -1,15 +1,15 @@
 -- The effects of actions with slots in place of declarations, and the cells that they reach.
 use Rattle.std.specs.Prelude.{ℕ, ⊤, List, Option, Some, None, option_map, Result, Ok, Err}
-use Rattle.cilk_frame.specs.labelled.declared.trap.Trap.{Trap}
-use Rattle.cilk_frame.specs.eval.declared.slot.Slot.{Slot}
-use Rattle.cilk_frame.specs.labelled.Labelled.{Declaration, Labelled}
-use Rattle.cilk_frame.specs.model.Values.{Cell, Reached}
-use Rattle.cilk_frame.specs.model.Instance as model
-use Rattle.cilk_frame.specs.model.Effect as effect
-use Rattle.cilk_frame.specs.declared.awaited.Await.{Await}
+use Rattle.cilk_spawn.specs.labelled.declared.trap.Trap.{Trap}
+use Rattle.cilk_spawn.specs.eval.declared.slot.Slot.{Slot}
+use Rattle.cilk_spawn.specs.labelled.Labelled.{Declaration, Labelled}
+use Rattle.cilk_spawn.specs.model.Values.{Cell, Reached}
+use Rattle.cilk_spawn.specs.model.Instance as model
+use Rattle.cilk_spawn.specs.model.Effect as effect
+use Rattle.cilk_spawn.specs.frame.declared.awaited.Await.{Await}
 use Rattle.cilk_spawn.specs.declared.receiver.Receiver.{Receiver}
 use Rattle.cilk_spawn.specs.declared.receiver.Receiver.TheVariants.{Nothing, Place, Call}
-use Rattle.cilk_frame.specs.Cells.{HasCell}
+use Rattle.cilk_spawn.specs.frame.Cells.{HasCell}
 use Rattle.cilk_machine_effects.specs.declared.effect.Effect.{Effect}
 use Rattle.cilk_machine_effects.specs.declared.effect.Effect.TheVariants.{Writes, Answers, Enters, Gives, Starts, Prints, TurnsLock, Marks}
 

@@ -13,11 +13,10 @@ mod values;
 mod written;
 
 pub use bytes::Bytes;
-pub use cilk_frame::{
-    Action, Area, Await, BinOp, Code, LockAction, Slot, SlotPlace, Slots, Taker, Target, Trap,
-    apply, eval,
+pub use cilk_spawn::{
+    Action, Area, Arguments, Await, BinOp, Code, LockAction, Memory, Receiver, Slot, SlotPlace,
+    Slots, Taker, Target, Trap, apply, eval,
 };
-pub use cilk_spawn::{Arguments, Memory, Receiver};
 pub use effect::Effect;
 pub use effects::{assigned, effect_of};
 pub use laws::effects_are_seen;

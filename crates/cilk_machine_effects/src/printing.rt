@@ -1,7 +1,7 @@
 //! What `printf` writes.
 
 ghost use Rattle.std.specs.Prelude.{◌≡◌, ◌∷◌, ◌++◌, ℕ, List, IfOk};
-ghost use Rattle.cilk_frame.specs.model.Printing as model;
+ghost use Rattle.cilk_spawn.specs.model.Printing as model;
 
 use crate::bytes::Bytes;
 use cilk_spawn::Memory;

@@ -3,7 +3,7 @@ use Rattle.std.proofs.Common.{pos, ◌≡◌, ℕ, zero, suc, ◌+◌, ◌-◌, 
 use Rattle.std.proofs.Common.{ap, ◌∙◌, subst, arith, if◌then◌else◌}
 use Rattle.std.specs.Prelude.{IsTrue}
 use borrow.Author.Tests.{ltb-true}
-use Rattle.std.proofs.lemmas.Bool.{ltb-false}
+use Rattle.std.proofs.lemmas.Bool.{ltb-false, and_parts}
 use Rattle.std.proofs.lemmas.List.{length-map}
 use Rattle.cilk_machine_agree.specs.scopes.declared.owner.Owner.{Owner}
 use Rattle.cilk_machine_agree.specs.scopes.declared.owner.Owner.TheVariants.{Function, Procedure, Inlet}
@@ -140,15 +140,11 @@ module _ (t : InHand) (asked : Asked t) (b m : ℕ) where
       model_room : Bool
       model_room = nat_lt (length s.instances) 65536 && nat_lt i.children (2 ^ 32 - 1)
 
-      second : (x y : Bool) → (x && y) ≡ true → y ≡ true
-      second true y h = h
-      second false y h = cc
-
       by_case : (room : Bool) → model_room ≡ room → step_in t ≡ if_room s (path_of t) m state.instances room after
           → TakenCell program b w.receiver → IsPlan t (made.if_room room kind.Instances m then_plan)
       by_case true e step there =
           let children : (node_of t).children ≡ i.children = (told t).children in
-          let few = ltb-true i.children (2 ^ 32 - 1) (second (nat_lt (length s.instances) 65536) (nat_lt i.children (2 ^ 32 - 1)) e) in
+          let few = ltb-true i.children (2 ^ 32 - 1) (and_parts (nat_lt (length s.instances) 65536) (nat_lt i.children (2 ^ 32 - 1)) e).1 in
           let own : IsTrue (is_procedure (body_at program i.top.body).owner) = subst (λ c. IsTrue (is_procedure (body_at program c).owner)) a.body a.known.0 in
           record {
             taken = w.receiver;

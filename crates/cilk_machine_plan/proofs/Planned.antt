@@ -1,5 +1,6 @@
 -- The plan of a step is the step.
 use Rattle.std.proofs.Common.{◌≡◌, ℕ, ℤ, Bool, true, false, not, ◌&&◌, ◌||◌, List, [], ◌∷◌, Some, Result, Ok, Err, refl, sym, ap, ◌∙◌, subst, if◌then◌else◌}
+use Rattle.std.proofs.lemmas.Bool.{and_parts}
 use Rattle.cilk_machine_agree.specs.labelled.declared.trap.Trap.{Trap}
 use Rattle.cilk_machine_agree.specs.labelled.Value.{Environment}
 use Rattle.cilk_machine_agree.specs.eval.declared.slot.Slot.{Slot}
@@ -51,7 +52,7 @@ use Rattle.cilk_machine_plan.proofs.Gifts.{outer-is, input-seen, given-plan}
 use Rattle.cilk_machine_plan.proofs.Deliveries.{delivery-plan}
 
 -- what an action is does not depend on how its variables are named
-leaves-same : (slots : Declaration → Slot) (act : Action) → made.leaves (slotted slots act) ≡ change.leaves act
+pub leaves-same : (slots : Declaration → Slot) (act : Action) → made.leaves (slotted slots act) ≡ change.leaves act
 leaves-same slots (assign what e) = refl
 leaves-same slots (call what callee es) = refl
 leaves-same slots (spawn taker callee es) = refl
@@ -67,7 +68,7 @@ leaves-same slots (return_with e) = refl
 leaves-same slots return_nothing = refl
 leaves-same slots close = refl
 
-sync-same : (slots : Declaration → Slot) (act : Action) → made.is_sync (slotted slots act) ≡ change.is_sync act
+pub sync-same : (slots : Declaration → Slot) (act : Action) → made.is_sync (slotted slots act) ≡ change.is_sync act
 sync-same slots (assign what e) = refl
 sync-same slots (call what callee es) = refl
 sync-same slots (spawn taker callee es) = refl
@@ -280,14 +281,10 @@ module _ (t : InHand) (sound : Sound t.program) (asked : Asked t) where
       (head_of i.top.items)) → IsPlan t (by_node g m node)
   node-plan step = by_boundary (change.at_boundary i) refl
     where
-      first : (x y : Bool) → (x && y) ≡ true → x ≡ true
-      first true y h = refl
-      first false y h = h
-
       by_boundary : (boundary : Bool) → change.at_boundary i ≡ boundary → IsPlan t (by_node g m node)
       by_boundary true e =
           subst (λ x. IsPlan t (if x then by_deliveries g m node (node_of t).waiting else acted g m node)) (sym (boundary-same ∙ e))
-          (deliveries-plan (node_of t).waiting i.waiting refl refl (told t).waiting (empty-none i.below (first (is_empty i.below) _ e))
+          (deliveries-plan (node_of t).waiting i.waiting refl refl (told t).waiting (empty-none i.below (and_parts (is_empty i.below) _ e).0)
           (step ∙ ap (λ x. if x then step_at_boundary program s (path_of t) i i.waiting else step_by_head program s (path_of t) i (head_of i.top.items)) e))
       by_boundary false e =
           subst (λ x. IsPlan t (if x then by_deliveries g m node (node_of t).waiting else acted g m node)) (sym (boundary-same ∙ e))

@@ -6,7 +6,8 @@ mod light;
 mod plan;
 
 pub use cilk_machine_agree::{
-    Area, Body, Delivery, Ending, Fate, Frame, Hands, Id, Lock, Path, Program, TrapKind, Tree, Var,
+    Activation, Area, Body, Delivery, Ending, Fate, Frame, Hands, HandsImage, Id, LivingImage,
+    Lock, Mixer, Path, Program, Remains, Taken, TrapKind, Tree, TreeImage, Var,
 };
 pub use cilk_machine_effects::{
     Arguments, Await, Bytes, Effect, Memory, Reached, Receiver, Slots, assigned, combined,

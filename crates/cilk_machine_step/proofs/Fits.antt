@@ -1,5 +1,6 @@
 -- The step of an instance in a worker's hand can be planned.
-use Rattle.std.proofs.Common.{◌≡◌, ◌<◌, length, Some, sym, ap, ◌∙◌, subst}
+use Rattle.std.proofs.Common.{◌≡◌, ◌<◌, length, sym, ap, ◌∙◌, subst}
+use Rattle.std.proofs.lemmas.Option.{same_Some}
 use Rattle.cilk_load.specs.check.scopes.WellFormed.{WellFormed}
 use Rattle.cilk_machine_plan.proofs.effects_laws.Known.{heads, follows}
 use Rattle.cilk_eval.specs.Slots.{sizes_of}
@@ -20,12 +21,9 @@ use Rattle.cilk_machine_step.specs.Scenes.{HeadFits}
 pub there-is : (t : InHand) → id_of (input_in t) < length (input_in t).nodes
 there-is t = live_there t.machine.nodes t.frame.id (asked t).live
 
-same-some : (x y : Node) → Some x ≡ Some y → x ≡ y
-same-some x y e = cc
-
 fits-by : (t : InHand) → Sound t.program → HeadFits (input_in t)
 fits-by t sound node is =
-    let same : own_node t sound ≡ node = same-some (own_node t sound) node (sym (node-is t sound) ∙ ap (node_of t.program) (head-of t sound).number ∙ is) in
+    let same : own_node t sound ≡ node = same_Some (own_node t sound) node (sym (node-is t sound) ∙ ap (node_of t.program) (head-of t sound).number ∙ is) in
     subst (λ (x : Node). FitsAct (sizes_of (cells_in (input_in t))) x.action) same
     (act-fits (label t.program) (instance_of t).top.body (cells_in (input_in t)) (store_of t.at.state (path_of t) (instance_of t)) (asked t).seen
     (head t sound).act (known t sound))

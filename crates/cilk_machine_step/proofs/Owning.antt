@@ -39,7 +39,7 @@ use Rattle.cilk_machine_plan.specs.Plans.{input_in, step_in, IsPlan}
 use Rattle.cilk_machine_plan.specs.StepInput.{StepInput, id_of, head_number, cells_in}
 use Rattle.cilk_machine_plan.proofs.Gifts.{outer-is}
 use Rattle.cilk_machine_plan.proofs.Heads.{Sound, stands, head-of, head, own_node, node-is, known}
-use Rattle.cilk_machine_plan.proofs.Planned.{plan-is}
+use Rattle.cilk_machine_plan.proofs.Planned.{leaves-same, sync-same, plan-is}
 use Rattle.cilk_load.specs.labelled.declared.trap.Trap.{Trap}
 use Rattle.cilk_eval.specs.Slots.{slot_cell}
 use Rattle.cilk_machine_plan.specs.model.Values.{combined}
@@ -117,39 +117,6 @@ module _ (program : Labelled) (b : ℕ) where
   act-is return_nothing h = refl
   act-is close h = refl
 
--- what an action is does not depend on how its variables are named
-leaves-is : (name : Declaration → Slot) (act : Action) → made.leaves (slotted name act) ≡ change.leaves act
-leaves-is name (assign place value) = refl
-leaves-is name (call place callee arguments) = refl
-leaves-is name (spawn taker callee arguments) = refl
-leaves-is name (print format arguments) = refl
-leaves-is name (locking what lock) = refl
-leaves-is name null = refl
-leaves-is name break_off = refl
-leaves-is name go_round = refl
-leaves-is name (tests value) = refl
-leaves-is name sync = refl
-leaves-is name abort = refl
-leaves-is name (return_with value) = refl
-leaves-is name return_nothing = refl
-leaves-is name close = refl
-
-sync-is : (name : Declaration → Slot) (act : Action) → made.is_sync (slotted name act) ≡ change.is_sync act
-sync-is name (assign place value) = refl
-sync-is name (call place callee arguments) = refl
-sync-is name (spawn taker callee arguments) = refl
-sync-is name (print format arguments) = refl
-sync-is name (locking what lock) = refl
-sync-is name null = refl
-sync-is name break_off = refl
-sync-is name go_round = refl
-sync-is name (tests value) = refl
-sync-is name sync = refl
-sync-is name abort = refl
-sync-is name (return_with value) = refl
-sync-is name return_nothing = refl
-sync-is name close = refl
-
 -- a cell that a body sees is of a variable that is there
 cell-declared : (program : Labelled) (b : ℕ) (d : Declaration) (k : ℕ) → HasCell program b d k → IsVariable program b d
 cell-declared program b (local n) k (h, l) = h
@@ -211,7 +178,7 @@ module _ (t : InHand) (sound : Sound t.program) where
 
   boundary-is : made.at_boundary (input_in t) (own_node t sound) ≡ change.at_boundary i
   boundary-is =
-      (λ j. outer-is t j && ((stands t sound).flag j || (sync-is name act j || leaves-is name act j)))
+      (λ j. outer-is t j && ((stands t sound).flag j || (sync-same name act j || leaves-same name act j)))
       ∙ by_outer (is_empty i.below) (change.is_sync act || change.leaves act)
       ∙ ap (λ o. is_empty i.below && (i.spawned || change.head_waits i o)) (sym (head-of t sound).is)
     where
@@ -227,7 +194,7 @@ module _ (t : InHand) (sound : Sound t.program) where
   owned-is =
       ap (owned.owns_next (input_in t)) (ap (node_of t.program) (sym (head-of t sound).number) ∙ node-is t sound)
       ∙ (λ j. not (boundary-is j)
-      && (act-is (label t.program) i.top.body act (known t sound) j && (not (leaves-is name act j) || waiting-is j)))
+      && (act-is (label t.program) i.top.body act (known t sound) j && (not (leaves-same name act j) || waiting-is j)))
       ∙ ap (λ o. not (change.at_boundary i) && private.owns_head i o) (sym (head-of t sound).is)
 
   -- the step that a scene shows is private where that of the instance is

@@ -1,5 +1,6 @@
 -- A step whose expression is evaluated beforehand.
 use Rattle.std.proofs.Common.{◌≡◌, ℕ, ℤ, Bool, true, false, not, ◌&&◌, ◌||◌, Option, Some, None, Result, Ok, Err, refl, sym, ap, ◌∙◌, subst, if◌then◌else◌}
+use Rattle.std.proofs.lemmas.Option.{same_Some}
 use Rattle.std.specs.Prelude.{is_some, option_map, slice_get}
 use Rattle.cilk_load.specs.labelled.declared.trap.Trap.{Trap}
 use Rattle.cilk_load.specs.labelled.Term.{Term}
@@ -162,10 +163,7 @@ record Sees (g : StepInput) (peek : Peek) : Type 0 where
 
 sees_by : (g : StepInput) (peek : Peek) (o : Option (Term Slot)) → code_in g ≡ o → option_map (peek_by g) o ≡ Some peek → Sees g peek
 sees_by g peek None is h = cc
-sees_by g peek (Some code) is h = record { code = code; code_is = is; same = same_peek (peek_by g code) peek h }
-  where
-    same_peek : (a b : Peek) → Some a ≡ Some b → a ≡ b
-    same_peek a b e = cc
+sees_by g peek (Some code) is h = record { code = code; code_is = is; same = same_Some (peek_by g code) peek h }
 
 trap-effect : (cells : Cells) (act : Action) (trap : Trap) → effect_by cells act (Err trap) ≡ Err trap
 trap-effect cells (Assign target t) trap = refl
@@ -187,9 +185,6 @@ pub no_effect : (g : StepInput) (n : ℕ) (node : Node) (trap : Trap)
     → traps (kind.Value trap) n ≡ by_effect g n node (effect_by (cells_in g) node.action (Err trap))
 no_effect g n node trap = ap (by_effect g n node) (sym (trap-effect (cells_in g) node.action trap))
 
-same_node : (a b : Node) → Some a ≡ Some b → a ≡ b
-same_node a b e = cc
-
 -- who looked ahead, and has the value of what was seen
 module _ (g : StepInput) (peek : Peek) (seen : peek_in g ≡ Some peek) (r : Result ℤ Trap) (value : r ≡ value_of (known peek.values) peek.code) where
   s : Sees g peek
@@ -202,7 +197,7 @@ module _ (g : StepInput) (peek : Peek) (seen : peek_in g ≡ Some peek) (r : Res
       → by_effect g n node (effect_by (cells_in g) node.action r) ≡ planned g
   seen-plan n node at is =
       let same : (it g s.code s.code_is).node ≡ node
-      = same_node (it g s.code s.code_is).node node (sym (it g s.code s.code_is).is ∙ ap (node_of g.program) (sym at) ∙ sym is) in
+      = same_Some (it g s.code s.code_is).node node (sym (it g s.code s.code_is).is ∙ ap (node_of g.program) (sym at) ∙ sym is) in
       ap (λ (k : ℕ). by_effect g k node (effect_by (cells_in g) node.action r)) at
       ∙ ap (λ (x : Node). by_effect g (head_number g) x (effect_by (cells_in g) x.action r)) (sym same)
       ∙ sym (value-plan g s.code s.code_is r value_is)

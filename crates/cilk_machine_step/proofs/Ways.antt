@@ -1,5 +1,6 @@
 -- The ways of a step: what comes first decides.
 use Rattle.std.proofs.Common.{◌≡◌, ℕ, Bool, true, false, not, ◌&&◌, ◌||◌, ℤ, Ok, List, [], ◌∷◌, Option, Some, None, Result, refl, sym, ap, ◌∙◌, if◌then◌else◌}
+use Rattle.std.proofs.lemmas.Bool.{or_parts}
 use Rattle.std.specs.Prelude.{slice_get}
 use Rattle.cilk_machine_plan.specs.nodes.declared.node.Node.{Node}
 use Rattle.cilk_machine_plan.specs.nodes.Table.{node_of}
@@ -25,19 +26,11 @@ acts_by g n node r free ready is =
     ∙ ap (λ (b : Bool). if b then traps kind.HeldLock n
     else (if waits_here g node && not (is_synched g.nodes (id_of g)) then plan.Park else by_effect g n node (effect_in (cells_in g) n node.action))) (sym free)
 
-or-left : (a b : Bool) → (a || b) ≡ false → a ≡ false
-or-left true b h = cc
-or-left false b h = refl
-
-or-right : (a b : Bool) → (a || b) ≡ false → b ≡ false
-or-right true b h = cc
-or-right false b h = h
-
 no-thread : (sync spawn leaving outer inner : Bool) → leaving ≡ true → (sync || (spawn || (leaving && (outer || inner)))) ≡ false
     → (outer && (sync || leaving)) ≡ false
 no-thread sync spawn leaving outer inner goes h =
-    let ends = or-right spawn (leaving && (outer || inner)) (or-right sync (spawn || (leaving && (outer || inner))) h) in
-    let stays = or-left outer inner (ap (λ b. b && (outer || inner)) (sym goes) ∙ ends) in
+    let ends = (or_parts spawn (leaving && (outer || inner)) (or_parts sync (spawn || (leaving && (outer || inner))) h).1).1 in
+    let stays = (or_parts outer inner (ap (λ b. b && (outer || inner)) (sym goes) ∙ ends)).0 in
     ap (λ b. b && (sync || leaving)) stays
 
 -- a C function is left, and no thread ends there

@@ -4,9 +4,10 @@ use Rattle.std.proofs.Common.{is_some, is_none, refl, sym, ap, ◌∙◌, subst,
 use Rattle.std.proofs.lemmas.Bool.{cases_eq, eq-eqb, ne_eqb}
 use Rattle.cilk_events.proofs.Tops.{if_so}
 use Rattle.cilk_measure.specs.declared.cell.Cell.{Cell}
+use Rattle.cilk_measure.specs.declared.edge.Edge.TheVariants.{Taken, Joined}
 use Rattle.cilk_measure.specs.declared.motion.Motion.{Motion}
 use Rattle.cilk_measure.specs.Cells.{cell_at, no_cell}
-use Rattle.cilk_measure.specs.Tallies.{own_by, own_after, taken_after, joined_after, at_place, settled}
+use Rattle.cilk_measure.specs.Tallies.{own_by, own_after, raised, at_place, settled}
 use Rattle.cilk_measure.proofs.Ids.{hits}
 
 abbrev pub when : Bool → (Cell → Cell) → Cell → Cell
@@ -35,28 +36,28 @@ parent_at cells m = (cell_at cells m.place).parent
 
 abbrev pub settled_cell : Option ℕ → Motion → ℕ → ℕ → Cell → Cell
 settled_cell parent m rank i c =
-    when (hits parent i) (joined_after rank) (when (hits m.taking i) (taken_after rank) (when (hits (Some m.place) i) (own_after m rank) c))
+    when (hits parent i) (raised Joined rank) (when (hits m.taking i) (raised Taken rank) (when (hits (Some m.place) i) (own_after m rank) c))
 
 pub settled-length : (m : Motion) (rank : ℕ) (cells : List Cell) → length (settled m rank cells) ≡ length cells
 settled-length m rank cells =
     let one : List Cell = at_place (Some m.place) (own_after m rank) cells in
-    let two : List Cell = at_place m.taking (taken_after rank) one in
-    at_place-length (parent_at cells m) (joined_after rank) two ∙ at_place-length m.taking (taken_after rank) one
+    let two : List Cell = at_place m.taking (raised Taken rank) one in
+    at_place-length (parent_at cells m) (raised Joined rank) two ∙ at_place-length m.taking (raised Taken rank) one
     ∙ at_place-length (Some m.place) (own_after m rank) cells
 
 pub settled-at : (m : Motion) (rank : ℕ) (cells : List Cell) (i : ℕ) → i < length cells
     → cell_at (settled m rank cells) i ≡ settled_cell (parent_at cells m) m rank i (cell_at cells i)
 settled-at m rank cells i h =
     let one : List Cell = at_place (Some m.place) (own_after m rank) cells in
-    let two : List Cell = at_place m.taking (taken_after rank) one in
+    let two : List Cell = at_place m.taking (raised Taken rank) one in
     let first : length one ≡ length cells = at_place-length (Some m.place) (own_after m rank) cells in
-    let second : length two ≡ length one = at_place-length m.taking (taken_after rank) one in
+    let second : length two ≡ length one = at_place-length m.taking (raised Taken rank) one in
     let h1 : i < length one = omega (arith, first, h) in
     let h2 : i < length two = omega (arith, second, h1) in
-    at_place-at (parent_at cells m) (joined_after rank) two i h2
-    ∙ ap (when (hits (parent_at cells m) i) (joined_after rank))
-    (at_place-at m.taking (taken_after rank) one i h1
-    ∙ ap (when (hits m.taking i) (taken_after rank)) (at_place-at (Some m.place) (own_after m rank) cells i h))
+    at_place-at (parent_at cells m) (raised Joined rank) two i h2
+    ∙ ap (when (hits (parent_at cells m) i) (raised Joined rank))
+    (at_place-at m.taking (raised Taken rank) one i h1
+    ∙ ap (when (hits m.taking i) (raised Taken rank)) (at_place-at (Some m.place) (own_after m rank) cells i h))
 
 -- what each change makes of a cell
 record OfParent (b : Bool) (rank : ℕ) (old new : Cell) : Type 0 where
@@ -68,7 +69,7 @@ record OfParent (b : Bool) (rank : ℕ) (old new : Cell) : Type 0 where
   joined : new.joined ≡ max old.joined (if_so b rank)
   taken : new.taken ≡ old.taken
 
-of_parent : (b : Bool) (rank : ℕ) (c : Cell) → OfParent b rank c (when b (joined_after rank) c)
+of_parent : (b : Bool) (rank : ℕ) (c : Cell) → OfParent b rank c (when b (raised Joined rank) c)
 of_parent true rank c = record { parent = refl; depth = refl; above = refl; taking = refl; thread = refl; joined = refl; taken = refl }
 of_parent false rank c = record { parent = refl; depth = refl; above = refl; taking = refl; thread = refl; joined = omega arith; taken = refl }
 
@@ -81,7 +82,7 @@ record OfChild (b : Bool) (rank : ℕ) (old new : Cell) : Type 0 where
   joined : new.joined ≡ old.joined
   taken : new.taken ≡ max old.taken (if_so b rank)
 
-of_child : (b : Bool) (rank : ℕ) (c : Cell) → OfChild b rank c (when b (taken_after rank) c)
+of_child : (b : Bool) (rank : ℕ) (c : Cell) → OfChild b rank c (when b (raised Taken rank) c)
 of_child true rank c = record { parent = refl; depth = refl; above = refl; taking = refl; thread = refl; joined = refl; taken = refl }
 of_child false rank c = record { parent = refl; depth = refl; above = refl; taking = refl; thread = refl; joined = refl; taken = omega arith }
 
@@ -118,10 +119,10 @@ pub record Changed (a b t : Bool) (m : Motion) (rank : ℕ) (old new : Cell) : T
   pub taken : new.taken ≡ max old.taken (if_so b rank)
 
 pub changed : (a b t : Bool) (m : Motion) (rank : ℕ) (c : Cell)
-    → Changed a b t m rank c (when a (joined_after rank) (when b (taken_after rank) (when t (own_after m rank) c)))
+    → Changed a b t m rank c (when a (raised Joined rank) (when b (raised Taken rank) (when t (own_after m rank) c)))
 changed a b t m rank c =
     let c1 : Cell = when t (own_after m rank) c in
-    let c2 : Cell = when b (taken_after rank) c1 in
+    let c2 : Cell = when b (raised Taken rank) c1 in
     let own = of_own t m.taking m rank c in
     let child = of_child b rank c1 in
     let up = of_parent a rank c2 in

@@ -1,7 +1,7 @@
 -- One step more is kept.
 use Rattle.std.proofs.Common.{◌⊎◌, ◌≡◌, ◌<◌, ◌≤◌, ◌+◌, ◌-◌, ◌^◌, ℕ, suc, max, Bool, true, false, ◌&&◌, ◌||◌, nat_eq, if◌then◌else◌, List, [], ◌∷◌, ◌++◌}
 use Rattle.std.proofs.Common.{length, Option, Some, None, is_some, is_none, option_map, refl, sym, ap, ◌∙◌, subst, arith, inl, inr}
-use Rattle.std.proofs.lemmas.Bool.{cases_lt, eqb-true}
+use Rattle.std.proofs.lemmas.Bool.{cases_lt, eqb-true, or_right}
 use Rattle.std.proofs.lemmas.List.{get_or_append_left, get_or_push, length_push}
 use Rattle.cilk_debug.specs.machine.labelled.Labelled.{Labelled}
 use Rattle.cilk_debug.specs.machine.model.Path.{Path, same_path, parent_of, is_that, is_child}
@@ -280,12 +280,8 @@ module _ (program : Labelled) (events : List Event) (e : Event) (up now : ℕ �
     still-zero true n k e z = cc
     still-zero false n k e z = omega (arith, z)
 
-    or-last : (a b : Bool) → b ≡ true → (a || b) ≡ true
-    or-last true b e = refl
-    or-last false b e = e
-
     own-thread : is_of_thread c s ≡ true
-    own-thread = or-last _ (is_that c s.child) (ap (is_that c) bears ∙ same_self c c refl)
+    own-thread = or_right _ (is_that c s.child) (ap (is_that c) bears ∙ same_self c c refl)
 
     deeper : next (cell_at cells m.place).depth ≡ suc (cell_at cells m.place).depth
     deeper =

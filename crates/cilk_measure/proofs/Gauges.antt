@@ -1,6 +1,6 @@
 -- One choice more of a tape, with what is kept of it.
 use Rattle.std.proofs.Common.{◌≡◌, ◌<◌, ◌≤◌, ◌^◌, ℕ, suc, max, Bool, true, false, if◌then◌else◌, List, [], ◌∷◌, ◌++◌, map, take, length}
-use Rattle.std.proofs.Common.{Option, Some, None, unwrap_or, is_none, Result, Ok, Err, IfOk, not, refl, sym, ap, ◌∙◌, subst, arith, slice_get}
+use Rattle.std.proofs.Common.{Option, Some, None, unwrap_or, is_none, Result, Ok, Err, IfOk, refl, sym, ap, ◌∙◌, subst, arith, slice_get}
 use Rattle.std.specs.Prelude.{count_by}
 use Rattle.std.proofs.lemmas.Bool.{false_from_ne_true}
 use Rattle.std.proofs.lemmas.List.{length-map, take_all, length-take-le, nil_from_length}
@@ -358,11 +358,3 @@ measured t g at kept =
 pub if-ok : {A E : Type 0} (P Q : A → Type 0) → ((x : A) → P x → Q x) → (r : Result A E) → IfOk r P → IfOk r Q
 if-ok P Q f (Ok x) h = f x h
 if-ok P Q f (Err e) h = tt
-
-pub always : {A E : Type 0} {P : Type 0} (r : Result A E) → P → IfOk r (λ _. P)
-always (Ok x) p = p
-always (Err e) p = tt
-
-pub own-by : (a b : Bool) → a ≡ false → a ≡ not b → b ≡ true
-own-by a true e h = refl
-own-by a false e h = cc

@@ -5,6 +5,8 @@ use Rattle.cilk_debug.specs.machine.spawn.Nodes.{Node}
 use Rattle.cilk_debug.specs.machine.carries.declared.did.Did.{Did}
 use Rattle.cilk_debug.specs.machine.carries.declared.did.Did.TheVariants.{Returned, Ended}
 use Rattle.cilk_measure.specs.declared.cell.Cell.{Cell}
+use Rattle.cilk_measure.specs.declared.edge.Edge.{Edge}
+use Rattle.cilk_measure.specs.declared.edge.Edge.TheVariants.{Taken, Joined}
 use Rattle.cilk_measure.specs.declared.motion.Motion.{Motion}
 use Rattle.cilk_measure.specs.Cells.{cell_at, no_cell, next}
 use Rattle.cilk_measure.specs.Motions.{motion_of}
@@ -41,11 +43,10 @@ own_by (Some child) m rank c = record c { above = m.above; taking = m.inlet; joi
 abbrev pub own_after : Motion → ℕ → Cell → Cell
 own_after m rank c = own_by m.taking m rank c
 
-abbrev pub taken_after : ℕ → Cell → Cell
-taken_after rank c = record c { taken = max c.taken rank }
-
-abbrev pub joined_after : ℕ → Cell → Cell
-joined_after rank c = record c { joined = max c.joined rank }
+-- of another, whose value the step took, or which waits for the step
+abbrev pub raised : Edge → ℕ → Cell → Cell
+raised Taken rank c = record c { taken = max c.taken rank }
+raised Joined rank c = record c { joined = max c.joined rank }
 
 -- what is kept at a place is changed
 abbrev pub at_place : Option ℕ → (Cell → Cell) → List Cell → List Cell
@@ -55,8 +56,8 @@ at_place (Some i) f cells = slice_set cells i (f (cell_at cells i))
 -- of the instance, of the child whose value it takes, and of the parent, which waits for it
 abbrev pub settled : Motion → ℕ → List Cell → List Cell
 settled m rank cells =
-    at_place (cell_at cells m.place).parent (joined_after rank)
-    (at_place m.taking (taken_after rank) (at_place (Some m.place) (own_after m rank) cells))
+    at_place (cell_at cells m.place).parent (raised Joined rank)
+    (at_place m.taking (raised Taken rank) (at_place (Some m.place) (own_after m rank) cells))
 
 abbrev pub child_cell : ℕ → ℕ → ℕ → Cell
 child_cell parent depth rank = record no_cell { parent = Some parent; depth = next depth; thread = rank }

@@ -3,6 +3,7 @@
 
 mod cell;
 mod counts;
+mod edge;
 mod gauge;
 mod measure;
 mod measuring;
@@ -12,7 +13,7 @@ mod tally;
 mod telling;
 
 pub use cilk_debug::{
-    Choices, DebugFault, Debugger, Log, LogFault, Memory, ReplayFault, SessionFault, play,
+    Choices, Debugger, Log, LogFault, Memory, ReplayFault, SessionFault, Unplayable, play,
     play_all, read_log, write_log,
 };
 pub use measure::Measure;

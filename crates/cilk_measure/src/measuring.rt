@@ -13,7 +13,7 @@ ghost use Rattle.cilk_measure.specs.Words.{numbers_of};
 
 use crate::gauge::Gauge;
 use crate::measure::Measure;
-use cilk_debug::{Choice, Loaded, Log, Machine, ReplayFault, is_other, play};
+use cilk_debug::{Choice, Loaded, Log, Machine, ReplayFault, play, refuse_other};
 use std::alloc::Global;
 
 /// A program behind all choices of a recorded schedule, and the numbers that are told of them.
@@ -34,16 +34,12 @@ pub fn measure_all(alloc: Global, program: Loaded, log: &Log) -> Result<Measured
     ensures own { IfOk result (λ _. is_of log.now.program (program_text program) ≡ true) }
     ensures told { IfErr result (IsNamedFaultOf log.now.program (tape_of program log.now.workers log.now.choices)) }
 {
-    match is_other(&program, log) {
-        Err(_) => {
+    match refuse_other(&program, log) {
+        Err(fault) => {
             drop(program);
-            Err(ReplayFault::Memory)
+            Err(fault)
         }
-        Ok(true) => {
-            drop(program);
-            Err(ReplayFault::OtherProgram)
-        }
-        Ok(false) => measure_choices(alloc, program, log.workers, log.choices.as_slice()),
+        Ok(()) => measure_choices(alloc, program, log.workers, log.choices.as_slice()),
     }
 }
 

@@ -1,9 +1,10 @@
 //! What is kept of a run while its choices are made again: each instance ever made, and the greatest numbers so far.
 
 ghost use Rattle.std.specs.Prelude.{◌≡◌, max, length, IfOk, OnOk};
-ghost use Rattle.cilk_measure.specs.Tallies.{at_place, child_cell, counted, first, highest, joined_after, noted, own_after, settled, stepped, taken_after};
+ghost use Rattle.cilk_measure.specs.Tallies.{at_place, child_cell, counted, first, highest, noted, own_after, raised, settled, stepped};
 
 use crate::cell::{Cell, cell_at, next, put};
+use crate::edge::Edge;
 use crate::motion::{Motion, motion_of};
 use cilk_debug::{Did, Machine, Memory};
 use std::alloc::Global;
@@ -168,8 +169,8 @@ fn settle(cells: &mut Vec<Cell>, motion: &Motion, rank: u64)
 {
     let cell = cell_at(cells.as_slice(), motion.place);
     put(cells, motion.place, own_after(motion, rank, cell));
-    raise_taken(cells, motion.taking, rank);
-    raise_joined(cells, cell.parent, rank);
+    raise(cells, motion.taking, Edge::Taken, rank);
+    raise(cells, cell.parent, Edge::Joined, rank);
 }
 
 fn own_after(motion: &Motion, rank: u64, cell: Cell) -> Cell
@@ -191,40 +192,30 @@ fn own_after(motion: &Motion, rank: u64, cell: Cell) -> Cell
     }
 }
 
-fn raise_taken(cells: &mut Vec<Cell>, place: Option<usize>, rank: u64)
-    ensures { cells.new.items ≡ at_place place (taken_after rank) cells.old.items }
+// What is kept of another instance, if there is one, behind a step of this rank.
+fn raise(cells: &mut Vec<Cell>, place: Option<usize>, edge: Edge, rank: u64)
+    ensures { cells.new.items ≡ at_place place (raised edge rank) cells.old.items }
 {
     match place {
         None => {}
         Some(place) => {
             let cell = cell_at(cells.as_slice(), place);
-            put(
-                cells,
-                place,
-                Cell {
-                    taken: cell.taken.max(rank),
-                    ..cell
-                },
-            );
+            put(cells, place, raised(edge, rank, cell));
         }
     }
 }
 
-fn raise_joined(cells: &mut Vec<Cell>, place: Option<usize>, rank: u64)
-    ensures { cells.new.items ≡ at_place place (joined_after rank) cells.old.items }
+fn raised(edge: Edge, rank: u64, cell: Cell) -> Cell
+    ensures { result ≡ raised edge rank cell }
 {
-    match place {
-        None => {}
-        Some(place) => {
-            let cell = cell_at(cells.as_slice(), place);
-            put(
-                cells,
-                place,
-                Cell {
-                    joined: cell.joined.max(rank),
-                    ..cell
-                },
-            );
-        }
+    match edge {
+        Edge::Taken => Cell {
+            taken: cell.taken.max(rank),
+            ..cell
+        },
+        Edge::Joined => Cell {
+            joined: cell.joined.max(rank),
+            ..cell
+        },
     }
 }

@@ -1,2 +1,3 @@
 pub mod Runs
 pub mod Printing
+pub use Rattle.cilk_model_labels.proofs.scopes_laws

@@ -5,7 +5,9 @@
 mod laws;
 mod view_laws;
 
-pub use cilk_model_labels::{Global, GlobalShape, Item, ItemNode, Program, Word};
+pub use cilk_model_labels::{
+    BinOp, Global, GlobalShape, Item, ItemNode, LockAction, Owner, Program, Word,
+};
 pub use laws::{
     formats_are_printed, rows_of_calls_come_out, rows_of_control_come_out,
     rows_of_deliveries_come_out, rows_of_fates_come_out, rows_of_inlets_come_out,

@@ -1,1 +1,2 @@
+pub use Rattle.cilk_check_scopes.proofs as scopes_laws
 pub use Rattle.cilk_check_scopes.proofs.syntax_laws

@@ -6,7 +6,7 @@ mod laws;
 mod trap;
 
 pub use cilk_check_scopes::{
-    BinOp, Global, GlobalShape, Item, ItemNode, Memory, Program, UnOp, Word,
+    BinOp, Global, GlobalShape, Item, ItemNode, LockAction, Memory, Owner, Program, UnOp, Word,
 };
 pub use laws::{rows_are_labelled, switches_are_labelled, switches_go_on};
 pub use trap::Trap;

@@ -8,7 +8,7 @@ use Rattle.cilk_lex.specs.lexeme.declared.fault.LexFault.{LexFault}
 use Rattle.cilk_lex.specs.lexeme.declared.fault.LexFault.TheVariants as lex
 use Rattle.cilk_lex.specs.lexeme.declared.token.Token.{Token}
 use Rattle.cilk_lex.specs.lexeme.Lexing.{Lexes, text_limit}
-use Rattle.cilk_parse_grammar.proofs.lexeme_laws.Unique.{one_reading, never_both}
+use Rattle.cilk_lex.proofs.Unique.{one_reading, never_both}
 use Rattle.cilk_lex.specs.Reading.{IsWithin}
 use Rattle.cilk_parse_grammar.specs.syntax.Tree as tree
 use Rattle.cilk_parse_rules.specs.declared.fault.Fault.{Fault}

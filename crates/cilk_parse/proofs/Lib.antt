@@ -1,3 +1,4 @@
 pub mod NamesButMain
 pub mod Programs
 pub mod FaultPlaces
+pub use Rattle.cilk_lex.proofs as lex_laws

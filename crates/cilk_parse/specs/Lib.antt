@@ -2,6 +2,7 @@ pub mod Views
 pub mod FaultPlace
 pub mod Text
 pub use Rattle.cilk_lex.specs.Reading
+pub use Rattle.cilk_lex.specs.Sight
 pub use Rattle.cilk_parse_grammar.specs as grammar
 pub use Rattle.cilk_parse_grammar.specs.Fault
 pub use Rattle.cilk_parse_grammar.specs.Grammar

@@ -27,4 +27,3 @@ pub mod MovedNests
 pub mod Viable
 pub use Rattle.cilk_parse_rules.proofs as rules_laws
 pub use Rattle.cilk_tree_syntax.proofs as syntax_laws
-pub use Rattle.cilk_tree_syntax.proofs.lexeme_laws

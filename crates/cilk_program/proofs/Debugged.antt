@@ -9,9 +9,6 @@ use Rattle.cilk_measure.specs.debug.Tape.{Tape, IsPlayable}
 use Rattle.cilk_measure.specs.debug.Debugging.{Debugging}
 use Rattle.cilk_measure.specs.debug.Session.{Session, session}
 use Rattle.cilk_measure.specs.debug.Ending.{Answers, Breaks}
-use Rattle.cilk_measure.specs.debug.Faults.{IsNamedDebugFaultOf}
-use Rattle.cilk_measure.specs.debug.declared.fault.DebugFault.{DebugFault}
-use Rattle.cilk_measure.specs.debug.declared.fault.DebugFault.TheVariants as debug
 use Rattle.cilk_measure.specs.debug.declared.session_fault.SessionFault.{SessionFault}
 use Rattle.cilk_measure.specs.debug.declared.session_fault.SessionFault.TheVariants.{Read, Write, Memory}
 use Rattle.cilk_measure.specs.debug.console.declared.fault.InputFault.TheVariants.{Device, LineTooLong, TooManyLines}
@@ -19,8 +16,8 @@ use Rattle.cilk_commands.specs.Front.{Gains, GainsFront}
 use Rattle.cilk_commands.specs.Held.{Held, IsReadOf}
 use Rattle.cilk_commands.proofs.WholeText.{gains_whole, gains_front_whole}
 use Rattle.cilk_commands.specs.declared.status.Status.TheVariants as status
-use Rattle.cilk_program.specs.Debugging.{IsSession, IsPart, GainsOf, GainsFrontOf, Debugs, DebugsFront, DebugsPart, opened, undebugged, broken_off}
-use Rattle.cilk_program.specs.Taped.{IsTape, IsOwnTape, Declines}
+use Rattle.cilk_program.specs.Debugging.{IsSession, IsPart, GainsOf, GainsFrontOf, Debugs, DebugsFront, DebugsPart, opened, broken_off}
+use Rattle.cilk_program.specs.Taped.{IsTape, IsOwnTape}
 use Rattle.cilk_program.specs.Telling.{status_of}
 
 pub opens : (d : Debugging) (t : Tape) → d.tape ≡ t → d.position ≡ 0 → d.marks ≡ replicate (count_program t.program) false → d ≡ opened t
@@ -36,38 +33,10 @@ broken_not_refused Write bad = cc
 broken_not_refused Memory bad = cc
 
 -- it is the output that failed where the writer of the answers did, and there alone
-pub undebugged_reads : (fault : DebugFault) → status_of (undebugged fault) ≢ status.CannotWrite
-undebugged_reads debug.OtherProgram bad = cc
-undebugged_reads debug.Workers bad = cc
-undebugged_reads (debug.BadChoice k refusal) bad = cc
-undebugged_reads debug.AtEnd bad = cc
-undebugged_reads debug.AtStart bad = cc
-undebugged_reads debug.NoStatement bad = cc
-undebugged_reads debug.OutOfRange bad = cc
-undebugged_reads debug.Memory bad = cc
-
 pub broken_by_writer : (fault : SessionFault) → status_of (broken_off fault) ≡ status.CannotWrite → fault ≡ Write
 broken_by_writer (Read fault) failed = cc
 broken_by_writer Write failed = refl
 broken_by_writer Memory failed = cc
-
--- why there is no debugger
-pub declines_of : (text bytes : List ℕ) (named : Option (List ℕ)) (t : Tape) (fault : DebugFault) → IsTape text bytes named t
-    → IsNamedDebugFaultOf named t fault → status_of (undebugged fault) ≡ status.Refused → Declines text bytes (undebugged fault)
-declines_of text bytes named t debug.OtherProgram is told refused = record { named = named; tape = t; is = is; told = told }
-declines_of text bytes named t debug.Workers is told refused = record { named = named; tape = t; is = is; told = told }
-declines_of text bytes named t (debug.BadChoice k refusal) is told refused = record { named = named; tape = t; is = is; told = told }
-declines_of text bytes named t debug.AtEnd is told refused = absurd told
-declines_of text bytes named t debug.AtStart is told refused = absurd told
-declines_of text bytes named t debug.NoStatement is told refused = absurd told
-declines_of text bytes named t debug.OutOfRange is told refused = absurd told
-declines_of text bytes named t debug.Memory is told refused = cc
-
-pub declines_held_of : (held : Option (List ℕ)) (text : List ℕ) (named : Option (List ℕ)) (t : Tape) (fault : DebugFault)
-    → Held held (λ bytes. IsTape text bytes named t) → IsNamedDebugFaultOf named t fault
-    → status_of (undebugged fault) ≡ status.Refused → Held held (λ bytes. Declines text bytes (undebugged fault))
-declines_held_of held text named t fault is told refused =
-    record { bytes = is.bytes; held = is.held; are = declines_of text is.bytes named t fault is.are told refused }
 
 -- a schedule that names no other program
 pub own_held : (held : Option (List ℕ)) (text : List ℕ) (named : Option (List ℕ)) (t : Tape) → Held held (λ bytes. IsTape text bytes named t)

@@ -1,77 +1,69 @@
 -- The logs of an exploration, one after another, and what is written of it.
 use Rattle.std.proofs.Common.{◌≡◌, ◌<◌, ◌≤◌, ◌+◌, ◌∙◌, arith, inl, inr, refl, sym, ap, subst, ℕ, zero, suc, Bool, true, false, List, [], ◌∷◌, length}
-use Rattle.std.proofs.Common.{map, Option, Some, None, IfSome, option_map}
+use Rattle.std.proofs.Common.{Option, Some, IfSome, option_map}
 use Rattle.std.specs.Prelude.{◌≢◌, slice_get}
 use Rattle.std.proofs.Math.Nat.{eq-or-lt_of_le}
-use Rattle.std.proofs.lemmas.List.{length-map}
 use Rattle.std.proofs.lemmas.Option.{slice_get-map}
 use Rattle.cilk_commands.specs.Held.{Held, IsReadOf}
 use Rattle.cilk_commands.specs.Loading.{IsReady}
 use Rattle.cilk_commands.specs.lex.declared.reading.TheConstants.{TEXT_LIMIT}
 use Rattle.cilk_commands.specs.syntax.Tree.{Program}
-use Rattle.cilk_commands.specs.Status.{is_answer, status_of as status_of_program}
+use Rattle.cilk_commands.specs.Status.{is_answer}
 use Rattle.cilk_commands.specs.declared.failure.Failure.TheVariants as failure
 use Rattle.cilk_commands.specs.declared.status.Status.{Status}
 use Rattle.cilk_commands.specs.declared.status.Status.TheVariants as status
 use Rattle.cilk_commands.proofs.WholeText.{gives_up, whole_held}
 use Rattle.cilk_explore.specs.Exploring.{IsExploration}
-use Rattle.cilk_explore.specs.Telling.{told_by}
 use Rattle.cilk_explore.specs.declared.exploration.Exploration.{Exploration}
-use Rattle.cilk_explore.specs.declared.told.Told.{Told}
-use Rattle.cilk_program.specs.Exploring.{Outcome, with_end, exploration_text, log_in, status_by, recorded, logs_of}
+use Rattle.cilk_seed.specs.model.Choice.{Choice}
+use Rattle.cilk_program.specs.Exploring.{exploration_text, status_by, recorded, logs_of}
 use Rattle.cilk_program.specs.Exploring.{AreKept, GivesUpExploring, IsExplored, Keeps, KeepsFront}
-use Rattle.cilk_program.specs.Unexplored.{IsOfLogs, IsUnexplored, TellsUnexplored, status_of}
+use Rattle.cilk_program.specs.Outcomes.{Outcome, log_in, outcomes_by}
+use Rattle.cilk_program.specs.Unexplored.{IsUnexplored, TellsUnexplored, status_of}
 use Rattle.cilk_program.specs.declared.unexplored.Unexplored.{Unexplored}
 use Rattle.cilk_program.specs.declared.unexplored.Unexplored.TheVariants as why
 use Rattle.cilk_program.proofs.Told.{not_both}
 
--- what is told of these endings
-abbrev pub shown : List Told → List Outcome
-shown told = map with_end (map told_by told)
-
-shown-length : (told : List Told) → length (shown told) ≡ length told
-shown-length told = length-map (map told_by told) with_end ∙ length-map told told_by
-
 -- ---- the logs
 
 -- those of the first k outcomes are kept
-abbrev pub AreKeptTo : ℕ → Program → ℕ → List Told → (ℕ → Option (List ℕ)) → Type 0
-AreKeptTo k program workers told stored =
-    (j : ℕ) (text : List ℕ) → slice_get (logs_of program workers (shown told)) j ≡ Some text → j < k → IfSome (stored (j + 1)) (λ bytes. bytes ≡ text)
+abbrev pub AreKeptTo : ℕ → Program → ℕ → List Outcome → (ℕ → Option (List ℕ)) → Type 0
+AreKeptTo k program workers outcomes stored =
+    (j : ℕ) (text : List ℕ) → slice_get (logs_of program workers outcomes) j ≡ Some text → j < k → IfSome (stored (j + 1)) (λ bytes. bytes ≡ text)
 
 kept-as : (one other : List ℕ) (stored : Option (List ℕ)) → one ≡ other → IfSome stored (λ bytes. bytes ≡ one) → IfSome stored (λ bytes. bytes ≡ other)
 kept-as one other stored same kept = subst (λ text. IfSome stored (λ bytes. bytes ≡ text)) same kept
 
-log-there : (program : Program) (workers : ℕ) (told : List Told) (k : ℕ) (t : Told) (text : List ℕ) → slice_get told k ≡ Some t
-    → slice_get (logs_of program workers (shown told)) k ≡ Some text → recorded program workers (told_by t).log ≡ text
-log-there program workers told k t text there is =
-    let shown_there : slice_get (shown told) k ≡ Some (with_end (told_by t)) =
-    slice_get-map with_end (map told_by told) k ∙ ap (option_map with_end) (slice_get-map told_by told k ∙ ap (option_map told_by) there) in
-    let log_there : slice_get (logs_of program workers (shown told)) k ≡ Some (recorded program workers (told_by t).log) =
-    slice_get-map (λ (o : Outcome). recorded program workers (log_in o)) (shown told) k
-    ∙ ap (option_map (λ (o : Outcome). recorded program workers (log_in o))) shown_there in
-    let same : Some (recorded program workers (told_by t).log) ≡ Some text = sym log_there ∙ is in
+log-there : (program : Program) (workers : ℕ) (outcomes : List Outcome) (k : ℕ) (o : Outcome) (text : List ℕ) → slice_get outcomes k ≡ Some o
+    → slice_get (logs_of program workers outcomes) k ≡ Some text → recorded program workers (log_in o) ≡ text
+log-there program workers outcomes k o text there is =
+    let log_there : slice_get (logs_of program workers outcomes) k ≡ Some (recorded program workers (log_in o)) =
+    slice_get-map (λ (x : Outcome). recorded program workers (log_in x)) outcomes k
+    ∙ ap (option_map (λ (x : Outcome). recorded program workers (log_in x))) there in
+    let same : Some (recorded program workers (log_in o)) ≡ Some text = sym log_there ∙ is in
     cc
 
 -- one more is kept
-pub kept-next : (program : Program) (workers : ℕ) (told : List Told) (k : ℕ) (t : Told) (old new : ℕ → Option (List ℕ)) → slice_get told k ≡ Some t
-    → AreKeptTo k program workers told old → IfSome (new (k + 1)) (λ bytes. bytes ≡ recorded program workers (told_by t).log)
-    → ((j : ℕ) → j ≢ k + 1 → new j ≡ old j) → AreKeptTo (k + 1) program workers told new
-kept-next program workers told k t old new there kept last others = λ j text is within.
+pub kept-next : (program : Program) (workers : ℕ) (outcomes : List Outcome) (k : ℕ) (o : Outcome) (log : List Choice) (old new : ℕ → Option (List ℕ))
+    → slice_get outcomes k ≡ Some o → log ≡ log_in o → AreKeptTo k program workers outcomes old
+    → IfSome (new (k + 1)) (λ bytes. bytes ≡ recorded program workers log) → ((j : ℕ) → j ≢ k + 1 → new j ≡ old j)
+    → AreKeptTo (k + 1) program workers outcomes new
+kept-next program workers outcomes k o log old new there own kept last others = λ j text is within.
     elim (eq-or-lt_of_le {n = j} {m = k} (omega (arith, within))) [
       | inl same ↦ (
-          let here : slice_get (logs_of program workers (shown told)) k ≡ Some text =
-          ap (slice_get (logs_of program workers (shown told))) (sym same) ∙ is in
+          let here : slice_get (logs_of program workers outcomes) k ≡ Some text =
+          ap (slice_get (logs_of program workers outcomes)) (sym same) ∙ is in
           subst (λ i. IfSome (new (i + 1)) (λ bytes. bytes ≡ text)) (sym same)
-          (kept-as (recorded program workers (told_by t).log) text (new (k + 1)) (log-there program workers told k t text there here) last))
+          (kept-as (recorded program workers log) text (new (k + 1))
+          (ap (recorded program workers) own ∙ log-there program workers outcomes k o text there here) last))
       | inr less ↦ (
           let apart = others (j + 1) (λ bad. omega (arith, bad, less)) in
           subst (λ (o : Option (List ℕ)). IfSome o (λ bytes. bytes ≡ text)) (sym apart) (kept j text is less))
     ]
 
 -- none are
-pub kept-none : (program : Program) (workers : ℕ) (told : List Told) (stored : ℕ → Option (List ℕ)) → AreKeptTo 0 program workers told stored
-kept-none program workers told stored = λ j text is within. absurd (omega (arith, within))
+pub kept-none : (program : Program) (workers : ℕ) (outcomes : List Outcome) (stored : ℕ → Option (List ℕ)) → AreKeptTo 0 program workers outcomes stored
+kept-none program workers outcomes stored = λ j text is within. absurd (omega (arith, within))
 
 -- all are
 within-logs : (program : Program) (workers : ℕ) (os : List Outcome) (j : ℕ) (text : List ℕ) → slice_get (logs_of program workers os) j ≡ Some text
@@ -80,29 +72,23 @@ within-logs program workers [] j text is = cc
 within-logs program workers (o ∷ os) zero text is = omega arith
 within-logs program workers (o ∷ os) (suc j) text is = let less = within-logs program workers os j text is in omega (arith, less)
 
-pub kept-all : (program : Program) (workers : ℕ) (told : List Told) (k : ℕ) (stored : ℕ → Option (List ℕ)) → length told ≤ k
-    → AreKeptTo k program workers told stored → AreKept (logs_of program workers (shown told)) stored
-kept-all program workers told k stored all kept = λ j text is.
-    let within = within-logs program workers (shown told) j text is in
-    kept j text is (omega (arith, within, shown-length told, all))
+pub kept-all : (program : Program) (workers : ℕ) (outcomes : List Outcome) (k : ℕ) (stored : ℕ → Option (List ℕ)) → length outcomes ≤ k
+    → AreKeptTo k program workers outcomes stored → AreKept (logs_of program workers outcomes) stored
+kept-all program workers outcomes k stored all kept = λ j text is.
+    let within = within-logs program workers outcomes j text is in
+    kept j text is (omega (arith, within, all))
 
 -- ---- what is written
 
 pub explored-of : (workers limit : ℕ) (ended : Status) (bytes text : List ℕ) (program : Program) (e : Exploration) → IsReady bytes program
-    → IsExploration program workers limit e → ended ≡ status_by e.whole (length e.told.items)
-    → text ≡ exploration_text workers e.whole (shown e.told.items)
-    → IsExplored workers limit ended bytes text (logs_of program workers (shown e.told.items))
+    → IsExploration program workers limit e → ended ≡ status_by e.whole (length (outcomes_by e)) → text ≡ exploration_text workers e.whole (outcomes_by e)
+    → IsExplored workers limit ended bytes text (logs_of program workers (outcomes_by e))
 explored-of workers limit ended bytes text program e ready found tells is = record {
   program = program;
   ready = ready;
   exploration = e;
   found = found;
-  endless = None;
-  never = tt;
-  only = λ part. refl;
-  outcomes = shown e.told.items;
-  are = refl;
-  tells = tells ∙ ap (status_by e.whole) (sym (shown-length e.told.items));
+  tells = tells;
   is = is;
   kept = refl;
 }

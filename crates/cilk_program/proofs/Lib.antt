@@ -7,4 +7,5 @@ pub mod Whole
 pub mod Ran
 mod Debugged
 mod Explored
+mod Among
 mod Told

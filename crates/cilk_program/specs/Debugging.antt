@@ -4,11 +4,8 @@ use Rattle.cilk_commands.specs.labelled.Count.{count_program}
 use Rattle.cilk_measure.specs.debug.Tape.{Tape, IsPlayable}
 use Rattle.cilk_measure.specs.debug.Debugging.{Debugging}
 use Rattle.cilk_measure.specs.debug.Session.{session}
-use Rattle.cilk_measure.specs.debug.declared.fault.DebugFault.{DebugFault}
-use Rattle.cilk_measure.specs.debug.declared.fault.DebugFault.TheVariants as debug
 use Rattle.cilk_measure.specs.debug.declared.session_fault.SessionFault.{SessionFault}
 use Rattle.cilk_measure.specs.debug.declared.session_fault.SessionFault.TheVariants as ending
-use Rattle.cilk_measure.specs.debug.declared.replay_fault.ReplayFault.TheVariants as replay
 use Rattle.cilk_commands.specs.Front.{Gains, GainsFront}
 use Rattle.cilk_commands.specs.Held.{Held}
 use Rattle.cilk_commands.specs.declared.failure.Failure.TheVariants as failure
@@ -59,18 +56,7 @@ abbrev pub DebugsFront : Option (List ℕ) → Option (List ℕ) → Option (Lis
 DebugsFront program log commands old new =
     GainsFrontOf (λ lines answers. Held program (λ text. Held log (λ bytes. IsPart text bytes lines answers))) commands old new
 
--- what is told where there is no debugger: want of memory, or what is wrong with the schedule
-abbrev pub undebugged : DebugFault → RecordFailure
-undebugged debug.OtherProgram = why.Replay replay.OtherProgram
-undebugged debug.Workers = why.Replay replay.Workers
-undebugged (debug.BadChoice k refusal) = why.Replay (replay.BadChoice k refusal)
-undebugged debug.AtEnd = why.Program failure.Memory
-undebugged debug.AtStart = why.Program failure.Memory
-undebugged debug.NoStatement = why.Program failure.Memory
-undebugged debug.OutOfRange = why.Program failure.Memory
-undebugged debug.Memory = why.Program failure.Memory
-
--- and where a session broke off
+-- what is told where a session broke off
 abbrev pub broken_off : SessionFault → RecordFailure
 broken_off (ending.Read fault) = why.Commands
 broken_off ending.Write = why.Answers

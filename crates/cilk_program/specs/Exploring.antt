@@ -1,62 +1,25 @@
 -- What `explore` writes.
-use Rattle.std.specs.Prelude.{⊤, ◌≡◌, ◌⊎◌, ◌≤◌, ◌+◌, ◌==◌, nat_lt, if◌then◌else◌, ℕ, suc, Bool, true, false, List, [], ◌∷◌, ◌++◌, length, map, Option}
-use Rattle.std.specs.Prelude.{Some, None, IfSome, slice_get, codes, decimal}
+use Rattle.std.specs.Prelude.{◌≡◌, ◌⊎◌, ◌+◌, ◌==◌, nat_lt, if◌then◌else◌, ℕ, suc, Bool, true, false, List, [], ◌∷◌, ◌++◌, length, map, Option}
+use Rattle.std.specs.Prelude.{Some, IfSome, slice_get, codes, decimal}
 use Rattle.std.specs.Io.KnownBytes.{Appends}
 use Rattle.cilk_commands.specs.Front.{AppendsFront}
 use Rattle.cilk_commands.specs.Held.{Held}
 use Rattle.cilk_commands.specs.Loading.{IsReady, Unready}
 use Rattle.cilk_commands.specs.ProgramText.{program_text}
 use Rattle.cilk_commands.specs.Telling.{GivesUp}
-use Rattle.cilk_commands.specs.labelled.Bodies.{label}
-use Rattle.cilk_commands.specs.labelled.Labelled.{Labelled}
 use Rattle.cilk_commands.specs.syntax.Tree.{Program}
 use Rattle.cilk_commands.specs.declared.status.Status.{Status}
 use Rattle.cilk_commands.specs.declared.status.Status.TheVariants as status
 use Rattle.cilk_explore.specs.Exploring.{IsExploration}
-use Rattle.cilk_explore.specs.Telling.{told_by}
 use Rattle.cilk_explore.specs.declared.exploration.Exploration.{Exploration}
-use Rattle.cilk_explore.specs.searching.explore.Endless.{CanEnd}
 use Rattle.cilk_explore.specs.searching.explore.Search.{Told}
 use Rattle.cilk_measure.specs.debug.log.Naming.{digest_of}
 use Rattle.cilk_measure.specs.debug.log.Text.{log_text}
 use Rattle.cilk_seed.specs.model.Choice.{Choice}
 use Rattle.cilk_seed.specs.model.End.{ending}
-use Rattle.cilk_seed.specs.model.Run.{Position, after}
+use Rattle.cilk_program.specs.Outcomes.{Outcome, with_end, without_end, log_in, outcomes_by}
 
--- ---- the outcomes of a program
-
--- an ending with a log that leads to it, or a log behind which no choices end the program
-pub data Outcome : Type 0 where
-  with_end : (told : Told) → Outcome
-  without_end : (log : List Choice) → Outcome
-
-abbrev pub log_in : Outcome → List Choice
-log_in (with_end told) = told.log
-log_in (without_end log) = log
-
--- a log without an end stands behind the endings of fewer choices and before the others
-abbrev pub with_endless : List Choice → List Told → List Outcome
-with_endless log [] = without_end log ∷ []
-with_endless log (t ∷ told) =
-    if nat_lt (length t.log) (length log) then with_end t ∷ with_endless log told else without_end log ∷ map with_end (t ∷ told)
-
--- all that is told, in its order
-abbrev pub outcomes_of : List Told → Option (List Choice) → List Outcome
-outcomes_of told None = map with_end told
-outcomes_of told (Some log) = with_endless log told
-
--- whatever choices follow the log, the program goes on, and so it is behind no shorter one
-pub record NeverEnds (program : Labelled) (n : ℕ) (log : List Choice) : Type 0 where
-  pub at : Position
-  pub leads : after program n log ≡ Some at
-  pub never : ¬ CanEnd program at.standing
-  pub first : (choices : List Choice) (to : Position) → after program n choices ≡ Some to → ¬ CanEnd program to.standing → length log ≤ length choices
-
-abbrev pub IsEndless : Labelled → ℕ → Option (List Choice) → Type 0
-IsEndless program n None = ⊤
-IsEndless program n (Some log) = NeverEnds program n log
-
--- ---- how they are told
+-- ---- how the outcomes are told
 
 -- what stands behind a word of which there are so many
 abbrev pub plural : ℕ → List ℕ
@@ -117,15 +80,9 @@ pub record IsExplored (workers limit : ℕ) (ended : Status) (bytes text : List 
   pub ready : IsReady bytes program
   pub exploration : Exploration
   pub found : IsExploration program workers limit exploration
-  pub endless : Option (List Choice)
-  pub never : IsEndless (label program) workers endless
-  -- what has no end is known where all was looked at
-  pub only : exploration.whole ≡ false → endless ≡ None
-  pub outcomes : List Outcome
-  pub are : outcomes ≡ outcomes_of (map told_by exploration.told.items) endless
-  pub tells : ended ≡ status_by exploration.whole (length outcomes)
-  pub is : text ≡ exploration_text workers exploration.whole outcomes
-  pub kept : logs ≡ logs_of program workers outcomes
+  pub tells : ended ≡ status_by exploration.whole (length (outcomes_by exploration))
+  pub is : text ≡ exploration_text workers exploration.whole (outcomes_by exploration)
+  pub kept : logs ≡ logs_of program workers (outcomes_by exploration)
 
 -- the name of the log of this number in a folder
 abbrev pub log_at : List ℕ → ℕ → List ℕ

@@ -12,5 +12,6 @@ pub mod Replaying
 pub mod Tallying
 pub mod Measuring
 pub mod Debugging
+pub mod Outcomes
 pub mod Exploring
 pub mod Unexplored

@@ -3,23 +3,20 @@
 ghost use Rattle.std.specs.Prelude.{◌≡◌, ◌≢◌, ◌⊎◌, true, false, ℕ, List, [], Option, IfSome, IfOk, IfErr, string_bytes};
 ghost use Rattle.cilk_commands.specs.Held.{Held};
 ghost use Rattle.cilk_commands.specs.Status.{is_answer};
-ghost use Rattle.cilk_measure.specs.debug.ReplayFaults.{IsNamedFaultOf};
-ghost use Rattle.cilk_measure.specs.debug.Tape.{tape_of};
-ghost use Rattle.cilk_measure.specs.debug.log.Words.{log_of};
 ghost use Rattle.cilk_program.specs.GivingUp.{FollowsProgram, GivesUp};
 ghost use Rattle.cilk_program.specs.Taped.{Declines};
 ghost use Rattle.cilk_program.specs.Telling.{status_of};
 ghost use Rattle.cilk_program.specs.Debugging.{Debugs, DebugsFront, DebugsPart, GainsFrontOf, GainsOf};
-ghost use Rattle.cilk_program.specs.Debugging.{IsSession, IsPart, undebugged, broken_off};
-ghost use Rattle.cilk_program.specs.Saying.{IsFaultTold, IsSaid};
+ghost use Rattle.cilk_program.specs.Debugging.{IsSession, IsPart, broken_off};
+ghost use Rattle.cilk_program.specs.Saying.{IsSaid};
 
 use crate::failure::RecordFailure;
 use crate::log_task::LogTask;
 use crate::note::Note;
 use crate::streams::Streams;
 use crate::taped::{Taped, tape_in};
-use cilk_commands::{Failure, Loaded, Status, read_text};
-use cilk_measure::{DebugFault, Debugger, Log, ReplayFault, SessionFault, play_all};
+use cilk_commands::{Failure, Status, read_text};
+use cilk_measure::{Debugger, SessionFault, Unplayable};
 use std::alloc::Global;
 use std::io::{Read, Write};
 
@@ -104,17 +101,14 @@ fn debug<L: Read + Drop, C: Read, W: Write>(
         Ok(taped) => taped,
         Err(why) => return Err(why),
     };
-    match tried(alloc, &program, &log, note) {
-        Ok(()) => {}
-        Err(fault) => {
-            drop(program);
+    let mut debugger = match Debugger::open(alloc, program, log) {
+        Ok(debugger) => debugger,
+        Err(unplayable) => {
+            let Unplayable { log, fault } = unplayable;
+            note.take_down(alloc, &log, &fault);
             drop(log);
             return Err(RecordFailure::Replay(fault));
         }
-    }
-    let mut debugger = match Debugger::new(alloc, program, log) {
-        Ok(debugger) => debugger,
-        Err(fault) => return Err(undebugged(fault)),
     };
     match debugger.session(commands, out) {
         Ok(()) => {
@@ -125,42 +119,6 @@ fn debug<L: Read + Drop, C: Read, W: Write>(
             drop(debugger);
             Err(broken_off(fault))
         }
-    }
-}
-
-// Where more is asked for, the choices are made once before the debugger takes the log, so that the line of one that is not possible can be told.
-fn tried(alloc: Global, program: &Loaded, log: &Log, note: &mut Note) -> Result<(), ReplayFault>
-    requires { string_bytes note.old.text ≡ [] }
-    ensures told { IfErr result (IsNamedFaultOf log.now.program (tape_of program.now log.now.workers log.now.choices)) }
-    ensures said { IfErr result (λ fault. IsFaultTold note.old.is_wanted (log_of log.now) fault (string_bytes note.new.text)) }
-    ensures silent { IfOk result (λ _. string_bytes note.new.text ≡ []) }
-{
-    if !note.is_wanted {
-        return Ok(());
-    }
-    let Ok(copy) = program.copy() else {
-        return Err(ReplayFault::Memory);
-    };
-    match play_all(alloc, copy, log) {
-        Ok(_) => Ok(()),
-        Err(fault) => {
-            note.take_down(alloc, log, &fault);
-            Err(fault)
-        }
-    }
-}
-
-// Why there is no debugger.
-fn undebugged(fault: DebugFault) -> RecordFailure
-    ensures { result ≡ undebugged fault }
-{
-    match fault {
-        DebugFault::OtherProgram => RecordFailure::Replay(ReplayFault::OtherProgram),
-        DebugFault::Workers => RecordFailure::Replay(ReplayFault::Workers),
-        DebugFault::BadChoice(number, refusal) => {
-            RecordFailure::Replay(ReplayFault::BadChoice(number, refusal))
-        }
-        _ => RecordFailure::Program(Failure::Memory),
     }
 }
 

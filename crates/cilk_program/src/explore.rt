@@ -5,12 +5,14 @@ ghost use Rattle.cilk_commands.specs.Loading.{IsReady};
 ghost use Rattle.cilk_commands.specs.Status.{is_answer};
 ghost use Rattle.cilk_program.specs.Exploring.{AreKept, Explores, ExploresFront, GivesUpExploring, IsExplored, Keeps, KeepsFront};
 ghost use Rattle.cilk_program.specs.Exploring.{status_by};
+ghost use Rattle.cilk_program.specs.Outcomes.{outcomes_by};
 ghost use Rattle.cilk_program.specs.Task.{log_name};
 ghost use Rattle.cilk_program.specs.Unexplored.{IsOfLogs, IsUnexplored, status_of};
 
 use crate::explore_task::ExploreTask;
 use crate::folder::LogFolder;
 use crate::logs::keep_logs;
+use crate::outcome::outcome_count;
 use crate::outcomes::text_of;
 use crate::streams::Streams;
 use crate::unexplored::Unexplored;
@@ -19,9 +21,9 @@ use cilk_explore::{Exploration, explore};
 use std::alloc::Global;
 use std::io::{Read, Write};
 
-/// Tells each outcome that the program has which the reader holds: a log of each goes to the folder, where logs are wanted, and then all of them to the
-/// output; or else the line that says why not goes to the errors, and with `task.explain` more of a fault in the program. The answer is made whole
-/// before a log is written. A line that cannot be written is lost.
+/// Tells each outcome that the program has which the reader holds, and where all was looked at a schedule behind which it never ends, if there is one:
+/// a log of each goes to the folder, where logs are wanted, and then all of them to the output; or else the line that says why not goes to the errors,
+/// and with `task.explain` more of a fault in the program. The answer is made whole before a log is written. A line that cannot be written is lost.
 pub fn explore_text<R: Read, F: LogFolder, O: Write, E: Write>(
     alloc: Global,
     task: &ExploreTask<'_>,
@@ -120,13 +122,7 @@ fn answer_of<F: LogFolder>(
         drop(exploration);
         return Err(Unexplored::Program(Failure::Memory));
     };
-    let kept = keep_logs(
-        alloc,
-        program,
-        task.workers,
-        exploration.told.as_slice(),
-        folder,
-    );
+    let kept = keep_logs(alloc, program, task.workers, &exploration, folder);
     drop(exploration);
     match kept {
         Ok(()) => Ok(Answer { status, text }),
@@ -139,14 +135,14 @@ fn answer_of<F: LogFolder>(
 
 // The status that tells of an exploration.
 fn status_by(exploration: &Exploration) -> Status
-    ensures by { result ≡ status_by exploration.now.whole (length exploration.now.told.items) }
+    ensures by { result ≡ status_by exploration.now.whole (length (outcomes_by exploration.now)) }
     ensures answer { is_answer result ≡ true }
     ensures untrapped { result ≢ Status.Trapped }
 {
     if !exploration.whole {
         return Status::Limit;
     }
-    if exploration.told.len() > 1 {
+    if outcome_count(exploration) > 1 {
         Status::Several
     } else {
         Status::Done

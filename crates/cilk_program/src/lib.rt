@@ -17,6 +17,7 @@ mod logs;
 mod meaning;
 mod measure;
 mod note;
+mod outcome;
 mod outcomes;
 mod replay;
 mod run;

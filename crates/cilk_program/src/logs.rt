@@ -3,31 +3,32 @@
 ghost use Rattle.std.specs.Prelude.{◌≡◌, ◌≢◌, ℕ, Bool, true, map, Some, IfOk, IfErr, IfSome, OnOk};
 ghost use Rattle.cilk_commands.specs.ProgramText.{program_text};
 ghost use Rattle.cilk_commands.specs.syntax.Tree.{Program};
-ghost use Rattle.cilk_explore.specs.Telling.{told_by};
 ghost use Rattle.cilk_measure.specs.debug.log.Naming.{digest_of};
 ghost use Rattle.cilk_measure.specs.debug.log.Text.{log_text};
 ghost use Rattle.cilk_seed.specs.choices.Words.{choice_of};
-ghost use Rattle.cilk_program.specs.Exploring.{AreKept, logs_of, recorded, with_end};
+ghost use Rattle.cilk_program.specs.Exploring.{AreKept, logs_of, recorded};
+ghost use Rattle.cilk_program.specs.Outcomes.{outcomes_by};
 ghost use Rattle.cilk_program.specs.Unexplored.{IsOfLogs};
 
 use crate::folder::LogFolder;
+use crate::outcome::{endings_before, log_in, outcome_at, outcome_count};
 use crate::unexplored::Unexplored;
 use cilk_commands::{Failure, Loaded};
-use cilk_explore::{Choice, Told};
+use cilk_explore::{Choice, Exploration};
 use cilk_log::program_of;
 use cilk_measure::{Choices, Log, Memory, write_log};
 use std::alloc::{AllocError, Global};
 
-/// Keeps a log of each of these outcomes, by its number, where logs are wanted.
+/// Keeps a log of each outcome, by its number, where logs are wanted.
 pub(crate) fn keep_logs<F: LogFolder>(
     alloc: Global,
     program: &Loaded,
     workers: u8,
-    told: &[Told],
+    exploration: &Exploration,
     folder: &mut F,
 ) -> Result<(), Unexplored>
     ensures kept { OnOk result (F.wanted folder.old ≡ true
-        → AreKept (logs_of program.now workers (map with_end (map told_by told.now))) (F.stored folder.new)) }
+        → AreKept (logs_of program.now workers (outcomes_by exploration.now)) (F.stored folder.new)) }
     ensures err { IfErr result (IsOfLogs (F.wanted folder.old)) }
 {
     if !folder.is_wanted() {
@@ -36,8 +37,11 @@ pub(crate) fn keep_logs<F: LogFolder>(
     let Ok(digest) = digest_of(program) else {
         return Err(Unexplored::Program(Failure::Memory));
     };
-    for k in 0..told.len() {
-        match keep_log(alloc, &digest, workers, &told[k], k as u64 + 1, folder) {
+    let before = endings_before(exploration);
+    let count = outcome_count(exploration);
+    for k in 0..count {
+        let log = log_in(outcome_at(exploration, before, k));
+        match keep_log(alloc, &digest, workers, log, k as u64 + 1, folder) {
             Ok(()) => {}
             Err(why) => return Err(why),
         }
@@ -54,21 +58,21 @@ fn digest_of(program: &Loaded) -> Result<[u8; 32], Memory>
     }
 }
 
-// Keeps the log of one.
+// Keeps the log of these choices.
 fn keep_log<F: LogFolder>(
     alloc: Global,
     digest: &[u8; 32],
     workers: u8,
-    told: &Told,
+    choices: &[Choice],
     number: u64,
     folder: &mut F,
 ) -> Result<(), Unexplored>
     ensures kept { OnOk result ((program : Program) → digest.now ≡ digest_of (program_text program)
-        → IfSome (F.stored folder.new number) (λ bytes. bytes ≡ recorded program workers (told_by told.now).log)) }
+        → IfSome (F.stored folder.new number) (λ bytes. bytes ≡ recorded program workers (map choice_of choices.now))) }
     ensures others { OnOk result ((k : ℕ) → k ≢ number → F.stored folder.new k ≡ F.stored folder.old k) }
     ensures err { IfErr result (λ why. (wanted : Bool) → wanted ≡ true → IsOfLogs wanted why) }
 {
-    let Ok(text) = text_of_log(alloc, digest, workers, told.log.as_slice()) else {
+    let Ok(text) = text_of_log(alloc, digest, workers, choices) else {
         return Err(Unexplored::Program(Failure::Memory));
     };
     match folder.store(number, text.as_slice()) {

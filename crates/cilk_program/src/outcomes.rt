@@ -1,23 +1,25 @@
 //! How the outcomes of a program are told.
 
-ghost use Rattle.std.specs.Prelude.{◌≡◌, ◌++◌, IfOk, OnOk, length, map, string_bytes};
+ghost use Rattle.std.specs.Prelude.{◌≡◌, ◌++◌, IfOk, OnOk, string_bytes};
 ghost use Rattle.cilk_explore.specs.Telling.{told_by};
-ghost use Rattle.cilk_program.specs.Exploring.{ended_text, exploration_text, outcome_line, outcome_text, outcomes_text};
-ghost use Rattle.cilk_program.specs.Exploring.{plural, summary, whole_words, with_end};
+ghost use Rattle.cilk_program.specs.Exploring.{ended_text, endless_text, exploration_text, outcome_line, outcome_text, outcomes_text};
+ghost use Rattle.cilk_program.specs.Exploring.{plural, summary, whole_words};
+ghost use Rattle.cilk_program.specs.Outcomes.{outcome_by, outcomes_by};
 
+use crate::outcome::{Outcome, endings_before, log_in, outcome_at, outcome_count};
 use cilk_explore::{Exploration, Told};
 use cilk_measure::Memory;
 use cilk_seed::ending;
 use std::alloc::{AllocError, Global};
 
-/// Each outcome, as a run with its log tells it, behind a line with its number; and at last how many there are, and whether all was looked at.
+/// Each outcome, as a run with its log tells it, behind a line with its number, or that it has no end; and at last how many there are, and whether all was
+/// looked at.
 pub(crate) fn text_of(
     alloc: Global,
     workers: u8,
     exploration: &Exploration,
 ) -> Result<Vec<u8>, Memory>
-    ensures { IfOk result (λ text. text.items
-        ≡ exploration_text workers exploration.now.whole (map with_end (map told_by exploration.now.told.items))) }
+    ensures { IfOk result (λ text. text.items ≡ exploration_text workers exploration.now.whole (outcomes_by exploration.now)) }
 {
     let mut out = Vec::new(alloc);
     match put_all(&mut out, workers, exploration) {
@@ -30,31 +32,36 @@ pub(crate) fn text_of(
 }
 
 fn put_all(out: &mut Vec<u8>, workers: u8, exploration: &Exploration) -> Result<(), Memory>
-    ensures { OnOk result (out.new.items ≡ out.old.items
-        ++ exploration_text workers exploration.now.whole (map with_end (map told_by exploration.now.told.items))) }
+    ensures { OnOk result (out.new.items ≡ out.old.items ++ exploration_text workers exploration.now.whole (outcomes_by exploration.now)) }
 {
-    put_outcomes(out, exploration.told.as_slice())?;
-    let count = exploration.told.len() as u64;
+    put_outcomes(out, exploration)?;
+    let count = outcome_count(exploration) as u64;
     let line = summary_of(*out.allocator(), exploration.whole, count, workers)?;
     out.extend_from_slice(line.as_bytes())?;
     Ok(())
 }
 
-fn put_outcomes(out: &mut Vec<u8>, told: &[Told]) -> Result<(), Memory>
-    ensures { OnOk result (out.new.items ≡ out.old.items ++ outcomes_text 1 (map with_end (map told_by told.now))) }
+fn put_outcomes(out: &mut Vec<u8>, exploration: &Exploration) -> Result<(), Memory>
+    ensures { OnOk result (out.new.items ≡ out.old.items ++ outcomes_text 1 (outcomes_by exploration.now)) }
 {
-    for k in 0..told.len() {
-        put_outcome(out, k as u64 + 1, &told[k])?;
+    let before = endings_before(exploration);
+    let count = outcome_count(exploration);
+    for k in 0..count {
+        put_outcome(out, k as u64 + 1, outcome_at(exploration, before, k))?;
     }
     Ok(())
 }
 
-fn put_outcome(out: &mut Vec<u8>, number: u64, told: &Told) -> Result<(), Memory>
-    ensures { OnOk result (out.new.items ≡ out.old.items ++ outcome_text number (with_end (told_by told.now))) }
+fn put_outcome(out: &mut Vec<u8>, number: u64, outcome: Outcome<'_>) -> Result<(), Memory>
+    ensures { OnOk result (out.new.items ≡ out.old.items ++ outcome_text number (outcome_by outcome.entry)) }
 {
-    let line = outcome_line(*out.allocator(), number, told.log.len() as u64)?;
+    let choices = log_in(outcome).len() as u64;
+    let line = outcome_line(*out.allocator(), number, choices)?;
     out.extend_from_slice(line.as_bytes())?;
-    put_ending(out, told)
+    match outcome {
+        Outcome::Ended(told) => put_ending(out, told),
+        Outcome::Endless(_) => put_endless(out, choices),
+    }
 }
 
 // What a run with that log tells.
@@ -65,6 +72,22 @@ fn put_ending(out: &mut Vec<u8>, told: &Told) -> Result<(), Memory>
     let text = ending(*out.allocator(), told.output.as_slice(), &told.end, choices)?;
     out.extend_from_slice(text.as_slice())?;
     Ok(())
+}
+
+// That the program never ends behind so many choices.
+fn put_endless(out: &mut Vec<u8>, choices: u64) -> Result<(), Memory>
+    ensures { OnOk result (out.new.items ≡ out.old.items ++ endless_text choices) }
+{
+    let line = endless_line(*out.allocator(), choices)?;
+    out.extend_from_slice(line.as_bytes())?;
+    Ok(())
+}
+
+fn endless_line(alloc: Global, choices: u64) -> Result<String, AllocError>
+    ensures { IfOk result (λ line. string_bytes line ≡ endless_text choices) }
+{
+    let behind = plural(choices);
+    format!(in alloc; "no end after {choices} choice{behind}\n")
 }
 
 fn outcome_line(alloc: Global, number: u64, choices: u64) -> Result<String, AllocError>

@@ -1,6 +1,7 @@
 -- A tally of one run more.
 use Rattle.std.proofs.Common.{◌≡◌, ◌+◌, ◌≤◌, ◌∙◌, arith, refl, sym, subst, ap, ap₂, ℕ, zero, suc, Bool, true, false, not, ◌||◌, ◌&&◌, cond, List, []}
 use Rattle.std.proofs.Common.{◌∷◌, ◌++◌, length, map}
+use Rattle.std.proofs.lemmas.Bool.{and_parts}
 use Rattle.std.specs.Prelude.{⊤, if◌then◌else◌, filter, count_by}
 use Rattle.std.specs.List.{list_any, position_or_len}
 use Rattle.std.specs.Str.{bytes_eq}
@@ -14,13 +15,9 @@ use Rattle.cilk_seed.specs.Tallying.{AreAtMost, added, begun, has_row, new_row}
 
 -- ---- outcomes that are the same
 
-and_both : (a b : Bool) → (a && b) ≡ true → (a ≡ true) × (b ≡ true)
-and_both true b h = (refl, h)
-and_both false b h = cc
-
 same-is : (a b : Outcome) → same_outcome a b ≡ true → a ≡ b
 same-is a b h =
-    let both = and_both (bytes_eq a.printed b.printed) (bytes_eq a.ended b.ended) h in
+    let both = and_parts (bytes_eq a.printed b.printed) (bytes_eq a.ended b.ended) h in
     let printed : a.printed ≡ b.printed = (bytes_eq-Decides a.printed b.printed).0 both.0 in
     let ended : a.ended ≡ b.ended = (bytes_eq-Decides a.ended b.ended).0 both.1 in
     λ i. record { printed = printed i; ended = ended i }

@@ -1,11 +1,12 @@
 -- Where no worker may do anything, the program has ended or is stuck.
-use Rattle.std.proofs.Common.{◌≡◌, ℕ, zero, suc, Bool, true, false, not, ◌&&◌, ◌||◌, List, [], ◌∷◌, ◌++◌, length, map, Option, Some, None, cond, refl, sym, ap}
+use Rattle.std.proofs.Common.{◌≡◌, ℕ, zero, suc, Bool, true, false, not, ◌&&◌, List, [], ◌∷◌, ◌++◌, length, map, Option, Some, None, cond, refl, sym, ap}
 use Rattle.std.proofs.Common.{◌∙◌, if◌then◌else◌}
+use Rattle.std.proofs.lemmas.Bool.{or_parts}
 use Rattle.std.specs.Prelude.{is_some, is_none, filter}
 use Rattle.std.specs.List.{list_all}
 use Rattle.std.proofs.lemmas.List.Elements.{filter-append}
 use Rattle.std.proofs.lemmas.List.Folds.{list_all-append, list_all-map}
-use Rattle.cilk_machine_agree.proofs.Asked.{placed}
+use Rattle.cilk_run.proofs.machine_laws.agree_laws.Asked.{placed}
 use Rattle.cilk_run.specs.labelled.Labelled.{Labelled}
 use Rattle.cilk_run.specs.machine.Situation.{Situation, workers_of}
 use Rattle.cilk_run.specs.machine.Stands.{StandsAt}
@@ -21,10 +22,6 @@ use Rattle.cilk_seed.specs.Drawn.{can, can_move, movers, turn_among, turn_of, vi
 some_is : {A : Type 0} (o : Option A) → is_none o ≡ false → is_some o ≡ true
 some_is None h = cc
 some_is (Some a) h = refl
-
-or_false : (a b : Bool) → (a || b) ≡ false → (a ≡ false) × (b ≡ false)
-or_false true b h = cc
-or_false false b h = (refl, h)
 
 none_of : (xs : List ℕ) → not (is_empty xs) ≡ false → xs ≡ []
 none_of [] h = refl
@@ -50,8 +47,8 @@ module _ (program : Labelled) (n : ℕ) (at : Standing) where
 
   worker_refused : (w : ℕ) → can_move program n at w ≡ false → list_all told (choices_of w n) ≡ true
   worker_refused w h =
-      let a = or_false (can program at w step) _ h in
-      let b = or_false (can program at w pop) _ a.1 in
+      let a = or_parts (can program at w step) _ h in
+      let b = or_parts (can program at w pop) _ a.1 in
       let steals : list_all told (map (λ v. record { worker = w; act = steal v }) (numbers n)) ≡ true =
       list_all-map told (λ v. record { worker = w; act = steal v }) (numbers n)
       ∙ all_pass (λ v. can program at w (steal v)) (λ v. told (record { worker = w; act = steal v }))

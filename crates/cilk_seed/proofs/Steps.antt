@@ -7,10 +7,6 @@ use Rattle.cilk_seed.specs.Tallied.{Outcome, Row, same_outcome}
 use Rattle.cilk_seed.specs.Tallying.{AreAtMost, has_row, row_by, rows_by}
 use Rattle.cilk_seed.specs.declared.row.Row as code
 
-pub or-is-true : (a b : Bool) → b ≡ true → (a || b) ≡ true
-or-is-true true b h = refl
-or-is-true false b h = h
-
 pub or-is-first : (a b : Bool) → b ≡ false → (a || b) ≡ a
 or-is-first true b h = refl
 or-is-first false b h = h

@@ -28,3 +28,4 @@ pub mod InPlace
 pub mod Copies
 pub mod Living
 pub mod Compared
+pub use Rattle.cilk_frame.proofs as frame_laws

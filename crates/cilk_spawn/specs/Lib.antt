@@ -11,5 +11,9 @@ pub mod Copied
 pub mod Cut
 pub mod Living
 pub mod LivingRecords
-pub use Rattle.cilk_frame.specs.syntax
+pub use Rattle.cilk_frame.specs as frame
+pub use Rattle.cilk_frame.specs.eval
+pub use Rattle.cilk_frame.specs.labelled
 pub use Rattle.cilk_frame.specs.model
+pub use Rattle.cilk_frame.specs.nodes
+pub use Rattle.cilk_frame.specs.syntax

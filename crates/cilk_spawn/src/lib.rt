@@ -41,7 +41,10 @@ mod tree;
 mod tree_image;
 
 pub use arguments::Arguments;
-pub use cilk_frame::{Frame, Id, Memory, Mixer, Trap};
+pub use cilk_frame::{
+    Action, Area, Await, BinOp, Code, Frame, Id, LockAction, Memory, Mixer, Slot, SlotPlace, Slots,
+    Taker, Target, Trap, apply, eval,
+};
 pub use delivery::Delivery;
 pub use ending::Ending;
 pub use fate::Fate;

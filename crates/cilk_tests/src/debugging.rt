@@ -34,7 +34,7 @@ fn opened(
     Debugger::new(alloc, program, log)
 }
 
-fn debugger(rt: &impl Abort, alloc: Global, program: &str, recorded: &str) -> Debugger {
+pub(crate) fn debugger(rt: &impl Abort, alloc: Global, program: &str, recorded: &str) -> Debugger {
     opened(rt, alloc, program, recorded).expect(rt, "a debugger")
 }
 

@@ -1,5 +1,5 @@
-//! The tests of the crates together: programs are read from their texts, checked, loaded and run. They stand in one
-//! crate, since one that has tests is proved once more with them.
+//! The tests of the crates that read, print, record and debug. They stand in a crate of their own, since one that has tests is proved once more with them.
+//! Those of machines and runs stand in `cilk_tests_running`, so that both are proved side by side.
 #![tactic(auto)]
 
 #[cfg(test)]
@@ -8,7 +8,5 @@ mod debugging;
 mod front;
 #[cfg(test)]
 mod recorded;
-#[cfg(test)]
-mod running;
 #[cfg(test)]
 mod sessions;

@@ -1,8 +1,7 @@
 //! Sessions of a debugger over readers and writers that work, end, or fail.
 
-use crate::running::program;
+use crate::debugging;
 use cilk_debug::{Debugger, InputFault, SessionFault};
-use cilk_log::read_log;
 use std::alloc::Global;
 use std::io;
 use std::io::{ErrorKind, Read, Write};
@@ -33,8 +32,7 @@ const SECOND_ANSWERS: &str =
 const WALK: &str = "step\nstep\nback\nback\n";
 
 fn debugger(rt: &impl Abort, alloc: Global) -> Debugger {
-    let log = read_log(alloc, RECORDED.as_bytes()).expect(rt, "a recorded schedule");
-    Debugger::new(alloc, program(rt, alloc, PROGRAM), log).expect(rt, "a debugger")
+    debugging::debugger(rt, alloc, PROGRAM, RECORDED)
 }
 
 // What a session writes that ends well.

@@ -5,4 +5,3 @@ pub mod Written
 pub mod BareText
 pub mod Images
 pub use Rattle.cilk_tree_syntax.proofs as syntax_laws
-pub use Rattle.cilk_tree_syntax.proofs.lexeme_laws

@@ -7,5 +7,11 @@ pub mod Told
 pub mod Orders
 pub mod Trees
 pub mod TreeLines
+pub mod Ups
+pub mod Entries
+pub mod Rising
+pub mod Ahead
+pub mod Kins
+pub mod Tellings
 pub use Rattle.cilk_load.proofs.Fronts
 pub use Rattle.cilk_machine_agree.proofs.runs_laws

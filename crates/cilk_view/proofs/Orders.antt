@@ -28,7 +28,7 @@ before_is [] (l ∷ q) = refl
 before_is (k ∷ p) [] = refl
 before_is (k ∷ p) (l ∷ q) = ap (λ b. nat_lt k l || (k == l && b)) (before_is p q) ∙ by_first (nat_lt k l) (k == l) (slice_cmp nat_cmp p q)
 
-order : IsStrictWeakOrder before
+pub order : IsStrictWeakOrder before
 order = ranks_by nat_list_cmp_total (λ (p : Path). p)
 
 -- two paths of which neither is before the other are one
@@ -40,7 +40,7 @@ by_answer p q Greater e none other =
     let yes : before q p ≡ true = ap is_lt turned in
     cc
 
-one_path : (p q : Path) → before p q ≡ false → before q p ≡ false → p ≡ q
+pub one_path : (p q : Path) → before p q ≡ false → before q p ≡ false → p ≡ q
 one_path p q none other = by_answer p q (slice_cmp nat_cmp p q) refl none other
 
 -- none of these is before x
@@ -68,7 +68,7 @@ low_there : (x p : Path) (ys : List Path) → Low x ys → 0 < count_by (same_pa
 low_there x p [] low some = absurd (omega (arith, some))
 low_there x p (y ∷ ys) low some = low_by x p y ys (same_path p y) refl low some (λ more. low_there x p ys low.1 more)
 
-itself : (x : Path) → before x x ≡ false
+pub itself : (x : Path) → before x x ≡ false
 itself x = by_test (before x x) refl
   where
     by_test : (b : Bool) → before x x ≡ b → b ≡ false

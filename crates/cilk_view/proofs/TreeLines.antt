@@ -141,7 +141,7 @@ module _ (p : Program) (m : MachineParts) (who : ℕ → Instance) (at : Positio
   state_is id (Delivered k) there e = ended_is id (Delivered k) there e (ap (λ (f : Fate). nodes.lives f) e)
   state_is id (Aborted k) there e = ended_is id (Aborted k) there e (ap (λ (f : Fate). nodes.lives f) e)
 
-  line_told : (id : ℕ) → id < length m.nodes → line_by p m.nodes m.places id (path_at m.nodes id) ≡ path_line (label p) at (path_at m.nodes id)
+  pub line_told : (id : ℕ) → id < length m.nodes → line_by p m.nodes m.places id (path_at m.nodes id) ≡ path_line (label p) at (path_at m.nodes id)
   line_told id there =
       ap (λ text. path_text (path_at m.nodes id) ++ (codes " " ++ (text ++ codes "\n"))) (state_is id (node_at m.nodes id).fate there refl)
 

@@ -7,5 +7,9 @@ pub mod Finding
 pub mod Shows
 pub mod Trees
 pub mod Sorting
+pub mod Ups
+pub mod Entries
+pub mod Following
+pub mod Kin
 pub use Rattle.cilk_load.specs.Front
 pub use Rattle.cilk_machine_agree.specs.model

@@ -1,5 +1,6 @@
 -- A line for each instance ever made, as the nodes and the frames tell it.
-use Rattle.std.specs.Prelude.{ℕ, suc, nat_eq, Bool, false, is_some, List, [], ◌∷◌, ◌++◌, length, codes, decimal, flat_map, Option, Some, None, if◌then◌else◌}
+use Rattle.std.specs.Prelude.{◌≡◌, ◌<◌, ℕ, suc, nat_eq, Bool, false, is_some, List, []}
+use Rattle.std.specs.Prelude.{◌∷◌, ◌++◌, length, codes, decimal, flat_map, Option, Some, None, if◌then◌else◌}
 use Rattle.std.specs.Global.{Vec}
 use Rattle.cilk_machine_agree.specs.syntax.Tree.{Program}
 use Rattle.cilk_machine_agree.specs.model.Path.{Path, path_text}
@@ -9,7 +10,7 @@ use Rattle.cilk_machine_agree.specs.nodes.Bodies.{body_of}
 use Rattle.cilk_machine_agree.specs.frame.Frames.{Frame, top_of}
 use Rattle.cilk_machine_agree.specs.spawn.declared.fate.Fate.{Fate}
 use Rattle.cilk_machine_agree.specs.spawn.declared.fate.Fate.TheVariants.{Live, Returned, Delivered, Aborted}
-use Rattle.cilk_machine_agree.specs.spawn.Nodes.{Node, node_at}
+use Rattle.cilk_machine_agree.specs.spawn.Nodes.{Node, node_at, path_at}
 use Rattle.cilk_machine_agree.specs.model.ViewTrees.{waiting_text, aborted_text}
 use Rattle.cilk_view.specs.WhereLines.{line_number}
 use Rattle.cilk_view.specs.Finding.{frame_among, frame_live}
@@ -62,3 +63,7 @@ line_by p ns places id path = path_text path ++ (codes " " ++ (state_by p ns pla
 -- those of instances with their paths
 abbrev pub lines_by : Program → List Node → List (WorkerOf Frame) → List (Vec ℕ × ℕ) → List ℕ
 lines_by p ns places made = flat_map (λ one. line_by p ns places one.1 one.0.items) made
+
+-- f tells the line of each instance by its path
+abbrev pub TellsLines : Program → List Node → List (WorkerOf Frame) → (Path → List ℕ) → Type 0
+TellsLines p ns places f = (i : ℕ) → i < length ns → f (path_at ns i) ≡ line_by p ns places i (path_at ns i)

@@ -3,22 +3,35 @@
 
 mod cells;
 mod deques;
+mod deques_telling;
+mod entry;
 mod fault;
 mod finding;
+mod following;
 mod frames;
 mod globals;
+mod kin;
+mod link;
 mod listing;
 mod output;
+mod portion;
 mod put;
 mod showing;
 mod shown;
+mod spot;
+mod tell_view;
+mod telling;
 mod texts;
 mod tree;
+mod tree_telling;
 mod what;
 mod where_lines;
 
 pub use cilk_load::Loaded;
 pub use fault::ViewFault;
+pub use portion::Portion;
 pub use showing::show;
 pub use shown::Shown;
+pub use tell_view::tell;
+pub use telling::Telling;
 pub use what::What;

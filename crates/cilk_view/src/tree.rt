@@ -69,7 +69,8 @@ fn put_line(out: &mut String, shown: &Shown, path: &[u32], id: Id) -> Result<(),
     put(out, "\n")
 }
 
-fn put_state(out: &mut String, shown: &Shown, id: Id) -> Result<(), Memory>
+/// What stands in the line of an instance behind its path and a space.
+pub(crate) fn put_state(out: &mut String, shown: &Shown, id: Id) -> Result<(), Memory>
     requires shows { Shows shown.now }
     requires there { id < length shown.now.tree.now.nodes }
     ensures { Appends result out.old out.new

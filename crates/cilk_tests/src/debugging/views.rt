@@ -2,7 +2,7 @@
 
 use super::{ABORTED, LOOKING, debugger};
 use cilk_debug::{Debugger, ViewFault, What};
-use cilk_spawn::Path;
+use cilk_log::Path;
 use std::alloc::Global;
 use std::process::Abort;
 

@@ -2,7 +2,7 @@
 
 use super::{debugger, told};
 use cilk_debug::{Debugger, What};
-use cilk_spawn::Path;
+use cilk_log::Path;
 use std::alloc::Global;
 use std::process::Abort;
 

@@ -2,13 +2,13 @@
 
 ghost use Rattle.std.specs.Prelude.{◌≡◌};
 ghost use Rattle.cilk_eval.specs.View.{term_of};
-ghost use Rattle.cilk_model_labels.specs.Term as term;
+ghost use Rattle.cilk_debug.specs.machine.labelled.Term as term;
 
 use cilk_eval::{
     Area, Code, CodeNode, Slot, Slots, Trap, apply, eval, quotients_are_rounded, unary,
     value_is_of_what_is_read,
 };
-use cilk_tree_syntax::{BinOp, UnOp};
+use cilk_tree::{BinOp, UnOp};
 use std::alloc::Global;
 use std::process::Abort;
 

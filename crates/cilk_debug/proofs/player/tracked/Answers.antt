@@ -9,19 +9,17 @@ use Rattle.cilk_debug.proofs.player.tracked.Goals as goal
 pub returns-in-Err-first_track-clause-told : goal.returns-in-Err-first_track-clause-told
 returns-in-Err-first_track-clause-told c =
     let choices = c.args.log.now.choices in
-    c.debug_fault.ensures (tape_of c.args.program.now c.args.log.now.workers choices)
-    (subst (λ (p : Program). IsFaultOf (tape_of p c.args.log.now.workers choices) c.in-Err-first_track.fault) c.in-Ok.ensures
-    (c.in-Err-first_track.ensures.told (map choice_of choices)))
+    subst (λ (p : Program). IsFaultOf (tape_of p c.args.log.now.workers choices) c.in-Err-first_track.fault) c.in-Ok.ensures
+    (c.in-Err-first_track.ensures.told (map choice_of choices))
 
 pub returns-in-Err-follow_all-clause-told : goal.returns-in-Err-follow_all-clause-told
 returns-in-Err-follow_all-clause-told c =
     let choices = c.args.log.now.choices in
     let track = c.in-Ok-first_track.track in
     let t = tape_of c.args.program.now c.args.log.now.workers choices in
-    c.debug_fault-in-Err-follow_all.ensures t
-    (c.in-Err-follow_all.ensures.told t (ap (map choice_of) (sym c.as_slice.ensures))
+    c.in-Err-follow_all.ensures.told t (ap (map choice_of) (sym c.as_slice.ensures))
     (subst (λ (p : Program). IsTrack (tape_of p c.args.log.now.workers choices) 0 track.last track.checkpoints.items track.actions.items) c.in-Ok.ensures
-    (c.in-Ok-first_track.ensures.track (map choice_of choices))))
+    (c.in-Ok-first_track.ensures.track (map choice_of choices)))
 
 pub returns-in-Ok-follow_all-clause-track : goal.returns-in-Ok-follow_all-clause-track
 returns-in-Ok-follow_all-clause-track c =

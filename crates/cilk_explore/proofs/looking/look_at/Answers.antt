@@ -1,8 +1,12 @@
-use Rattle.std.proofs.Common.{◌+◌, true, false, length, Ok, ap, refl}
-use Rattle.cilk_explore_search.proofs.Turns.{over-closed}
+use Rattle.std.proofs.Common.{◌+◌, true, length, Ok, ap, refl}
+use Rattle.cilk_machine.specs.model.Choice.{Choice}
+use Rattle.cilk_machine.specs.model.Run.{Position}
+use Rattle.cilk_explore_search.specs.Linking.{HasLink, IsLinked}
+use Rattle.cilk_explore_search.proofs.Turns.{over-made}
 use Rattle.cilk_explore.specs.declared.explorer.Explorer.{Explorer}
 use Rattle.cilk_explore.specs.Exploring.{program_of, workers_of, IsPaired}
-use Rattle.cilk_explore.proofs.Paces.{grows-none, between-on, between-halted}
+use Rattle.cilk_explore.proofs.Paces.{grows-none, between-halted}
+use Rattle.cilk_explore.proofs.Gathers.{gathers-none, between-closed, links-closed}
 use Rattle.cilk_explore.proofs.Wholes.{on-is}
 use Rattle.cilk_explore.proofs.looking.look_at.Goals as goal
 
@@ -12,23 +16,57 @@ returns-in-Ok-true-clause-looked c = λ ok.
     let g : Explorer = record f { told = c.tell.new.told } in
     let at = c.in-Ok.ensures.at in
     let paired : IsPaired g = record { program = at.paired.program; workers = at.paired.workers } in
-    between-on f g g c.args.number at c.in-Ok.ensures.between c.in-Ok-true.ensures.tells (grows-none (length g.walker.log + 1) g at.room) refl refl paired
-    (over-closed (program_of g) (workers_of g) g.walker.log g.store (c.in-Ok-true.ensures.over (ap Ok c.in-Ok-true.field-0-test)))
+    let linked : (choice : Choice) → IsLinked (program_of g) (workers_of g) g.store g.links.here g.walker.log choice =
+    over-made (program_of g) (workers_of g) g.walker.log
+    (λ (p : Position). HasLink (program_of g) (workers_of g) g.store g.links.here p.standing (length g.walker.log + 1))
+    (c.in-Ok-true.ensures.over (ap Ok c.in-Ok-true.field-0-test)) in
+    between-closed f g g c.close.new.explorer c.args.number at c.in-Ok.ensures.between c.in-Ok.ensures.links c.in-Ok-true.ensures.tells
+    (grows-none (length g.walker.log + 1) g at.room) (gathers-none g g refl) refl refl refl paired linked
+    (on-is c.close.result true ok c.close.ensures.rest) (on-is c.close.result true ok c.close.ensures.links)
 
-pub returns-in-Ok-false-clause-looked : goal.returns-in-Ok-false-clause-looked
-returns-in-Ok-false-clause-looked c = λ ok.
+pub returns-in-Ok-true-clause-links : goal.returns-in-Ok-true-clause-links
+returns-in-Ok-true-clause-links c = λ ok.
     let f = c.go_there.new.explorer in
     let g : Explorer = record f { told = c.tell.new.told } in
     let at = c.in-Ok.ensures.at in
     let paired : IsPaired g = record { program = at.paired.program; workers = at.paired.workers } in
-    between-on f g c.try_all.new.explorer c.args.number at c.in-Ok.ensures.between c.in-Ok-false.ensures.tells
-    (on-is c.try_all.result true ok c.try_all.ensures.grows) refl refl paired (c.try_all.ensures.closed ok)
+    let linked : (choice : Choice) → IsLinked (program_of g) (workers_of g) g.store g.links.here g.walker.log choice =
+    over-made (program_of g) (workers_of g) g.walker.log
+    (λ (p : Position). HasLink (program_of g) (workers_of g) g.store g.links.here p.standing (length g.walker.log + 1))
+    (c.in-Ok-true.ensures.over (ap Ok c.in-Ok-true.field-0-test)) in
+    links-closed f g g c.close.new.explorer c.args.number at c.in-Ok.ensures.between c.in-Ok.ensures.links c.in-Ok-true.ensures.tells
+    (grows-none (length g.walker.log + 1) g at.room) (gathers-none g g refl) refl refl refl paired linked
+    (on-is c.close.result true ok c.close.ensures.rest) (on-is c.close.result true ok c.close.ensures.links)
 
-pub returns-in-Ok-false-clause-stopped : goal.returns-in-Ok-false-clause-stopped
-returns-in-Ok-false-clause-stopped c = λ ok.
+pub returns-in-Ok-true-try_all-clause-looked : goal.returns-in-Ok-true-try_all-clause-looked
+returns-in-Ok-true-try_all-clause-looked c = λ ok.
+    let f = c.go_there.new.explorer in
+    let g : Explorer = record f { told = c.tell.new.told } in
+    let at = c.in-Ok.ensures.at in
+    let paired : IsPaired g = record { program = at.paired.program; workers = at.paired.workers } in
+    let shut = c.close-in-Ok-true-try_all in
+    between-closed f g c.try_all.new.explorer shut.new.explorer c.args.number at c.in-Ok.ensures.between c.in-Ok.ensures.links
+    c.in-Ok-false.ensures.tells c.in-Ok-true-try_all.ensures.grows c.in-Ok-true-try_all.ensures.gathers refl refl refl paired
+    (c.in-Ok-true-try_all.ensures.linked (ap Ok c.in-Ok-true-try_all.field-0-test)) (on-is shut.result true ok shut.ensures.rest)
+    (on-is shut.result true ok shut.ensures.links)
+
+pub returns-in-Ok-true-try_all-clause-links : goal.returns-in-Ok-true-try_all-clause-links
+returns-in-Ok-true-try_all-clause-links c = λ ok.
+    let f = c.go_there.new.explorer in
+    let g : Explorer = record f { told = c.tell.new.told } in
+    let at = c.in-Ok.ensures.at in
+    let paired : IsPaired g = record { program = at.paired.program; workers = at.paired.workers } in
+    let shut = c.close-in-Ok-true-try_all in
+    links-closed f g c.try_all.new.explorer shut.new.explorer c.args.number at c.in-Ok.ensures.between c.in-Ok.ensures.links
+    c.in-Ok-false.ensures.tells c.in-Ok-true-try_all.ensures.grows c.in-Ok-true-try_all.ensures.gathers refl refl refl paired
+    (c.in-Ok-true-try_all.ensures.linked (ap Ok c.in-Ok-true-try_all.field-0-test)) (on-is shut.result true ok shut.ensures.rest)
+    (on-is shut.result true ok shut.ensures.links)
+
+pub returns-in-Ok-false-try_all-clause-stopped : goal.returns-in-Ok-false-try_all-clause-stopped
+returns-in-Ok-false-try_all-clause-stopped c = λ ok.
     let f = c.go_there.new.explorer in
     let g : Explorer = record f { told = c.tell.new.told } in
     let at = c.in-Ok.ensures.at in
     let paired : IsPaired g = record { program = at.paired.program; workers = at.paired.workers } in
     between-halted f g c.try_all.new.explorer c.args.number at c.in-Ok.ensures.between c.in-Ok-false.ensures.tells
-    (on-is c.try_all.result false ok c.try_all.ensures.grows) refl refl paired (c.in-Ok-false.ensures.none (ap Ok c.in-Ok-false.field-0-test))
+    c.in-Ok-false-try_all.ensures.grows refl refl paired (c.in-Ok-false.ensures.none (ap Ok c.in-Ok-false.field-0-test))

@@ -1,8 +1,10 @@
-use Rattle.std.proofs.Common.{◌+◌, ℕ, Ok, ap, arith}
-use Rattle.cilk_explore_search.specs.Looking.{AreClosedBy}
-use Rattle.cilk_explore_search.proofs.Turns.{closed-all}
+use Rattle.std.proofs.Common.{◌+◌, ℕ, Ok, ap, arith, length}
+use Rattle.cilk_machine.specs.model.Run.{Position}
+use Rattle.cilk_explore_search.specs.Linking.{HasLink, AreLinkedBy}
+use Rattle.cilk_explore_search.proofs.Turns.{all-made}
 use Rattle.cilk_explore.specs.Exploring.{program_of, workers_of}
-use Rattle.cilk_explore.proofs.Paces.{grows-then, at-on, closed-on, closed-for}
+use Rattle.cilk_explore.proofs.Paces.{grows-then, at-on}
+use Rattle.cilk_explore.proofs.Gathers.{gathers-then, still-linked, linked-for}
 use Rattle.cilk_explore.proofs.Wholes.{up-to}
 use Rattle.cilk_explore.proofs.looking.try_all.Goals as goal
 
@@ -13,22 +15,32 @@ pub returns-in-Ok-false-clause-grows : goal.returns-in-Ok-false-clause-grows
 returns-in-Ok-false-clause-grows c =
     grows-then c.args.explorer.now c.loop-k.explorer c.try_by.new.explorer c.loop-k.invariant.grows c.in-Ok-false.ensures.grows
 
+pub returns-in-Ok-false-clause-gathers : goal.returns-in-Ok-false-clause-gathers
+returns-in-Ok-false-clause-gathers c =
+    gathers-then c.args.explorer.now c.loop-k.explorer c.try_by.new.explorer c.loop-k.invariant.grows c.in-Ok-false.ensures.grows
+    c.loop-k.invariant.gathers c.in-Ok-false.ensures.gathers
+
 pub loop-k-preserved : goal.loop-k-preserved
 loop-k-preserved c =
     let e = c.args.explorer.now in
     let f = c.loop-k.explorer in
     let g = c.try_by.new.explorer in
     let made = c.in-Ok-true.ensures.grows in
+    let more = c.in-Ok-true.ensures.gathers in
     record {
       grows = grows-then e f g c.loop-k.invariant.grows made;
-      closed = up-to (λ (w : ℕ). AreClosedBy (program_of e) (workers_of e) g.store e.walker.log w) c.loop-k.k
-          (λ w low high act. closed-on e f g (record { worker = w; act = act }) c.loop-k.invariant.grows made (c.loop-k.invariant.closed w low high act))
-          (λ act. closed-for e f g (record { worker = c.loop-k.k + 1; act = act }) c.loop-k.invariant.grows
-          (c.in-Ok-true.ensures.closed (ap Ok c.in-Ok-true.field-0-test) act));
+      gathers = gathers-then e f g c.loop-k.invariant.grows made c.loop-k.invariant.gathers more;
+      linked = up-to (λ (w : ℕ). AreLinkedBy (program_of e) (workers_of e) g.store g.links.here e.walker.log w) c.loop-k.k
+          (λ w low high act. still-linked e f g (record { worker = w; act = act }) c.loop-k.invariant.grows made more
+          (c.loop-k.invariant.linked w low high act))
+          (λ act. linked-for e f g (record { worker = c.loop-k.k + 1; act = act }) c.loop-k.invariant.grows
+          (c.in-Ok-true.ensures.linked (ap Ok c.in-Ok-true.field-0-test) act));
     }
 
-pub returns-clause-closed : goal.returns-clause-closed
-returns-clause-closed c = λ h.
+pub returns-clause-linked : goal.returns-clause-linked
+returns-clause-linked c = λ h.
     let e = c.args.explorer.now in
-    closed-all (program_of e) (workers_of e) e.walker.log c.loop-k.explorer.store
-    (λ w low high. c.loop-k.invariant.closed w low (omega (arith, high, c.requires.crew)))
+    let f = c.loop-k.explorer in
+    all-made (program_of e) (workers_of e) e.walker.log
+    (λ (at : Position). HasLink (program_of e) (workers_of e) f.store f.links.here at.standing (length e.walker.log + 1))
+    (λ w low high. c.loop-k.invariant.linked w low (omega (arith, high, c.requires.crew)))

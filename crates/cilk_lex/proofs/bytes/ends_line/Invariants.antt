@@ -1,5 +1,5 @@
 use Rattle.std.proofs.Common.{◌≡◌, drop}
-use Rattle.cilk_lex_tokens.specs.Sight.{ends_line}
+use Rattle.cilk_lex.specs.Sight.{ends_line}
 use Rattle.cilk_lex.proofs.bytes.ends_line.Given as goal
 
 abbrev pub invariant-loop-byte : goal.invariant-loop-byte

@@ -1,7 +1,7 @@
 use Rattle.std.proofs.Common.{◌≡◌, false, ◌&&◌, sym, ◌∙◌, refl}
 use Rattle.std.specs.Prelude.{◌==◌}
 use Rattle.std.proofs.lemmas.Bool.{eq-eqb, ne_eqb}
-use Rattle.cilk_lex_tokens.specs.Sight.{ends_line}
+use Rattle.cilk_lex.specs.Sight.{ends_line}
 use Rattle.cilk_lex_tokens.specs.Spelling.{closing_of}
 use Rattle.cilk_lex.proofs.Headers.{closes_behind, closes_nothing}
 use Rattle.cilk_lex.proofs.inclusion.closes.Goals as goal

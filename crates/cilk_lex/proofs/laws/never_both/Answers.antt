@@ -1,4 +1,4 @@
-use Rattle.cilk_lex_tokens.proofs.Unique.{never_both}
+use Rattle.cilk_lex.proofs.Unique.{never_both}
 use Rattle.cilk_lex.proofs.laws.never_both.Goals as goal
 
 pub returns : goal.returns

@@ -1,4 +1,4 @@
-use Rattle.cilk_lex_tokens.proofs.Unique.{one_fault}
+use Rattle.cilk_lex.proofs.Unique.{one_fault}
 use Rattle.cilk_lex.proofs.laws.one_fault.Goals as goal
 
 pub returns : goal.returns

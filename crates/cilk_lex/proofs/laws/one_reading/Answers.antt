@@ -1,4 +1,4 @@
-use Rattle.cilk_lex_tokens.proofs.Unique.{one_reading}
+use Rattle.cilk_lex.proofs.Unique.{one_reading}
 use Rattle.cilk_lex.proofs.laws.one_reading.Goals as goal
 
 pub returns : goal.returns

@@ -1,4 +1,4 @@
-use Rattle.cilk_lex_tokens.proofs.Unique.{reading_or_fault}
+use Rattle.cilk_lex.proofs.Unique.{reading_or_fault}
 use Rattle.cilk_lex.proofs.laws.reading_or_fault.Goals as goal
 
 pub returns : goal.returns

@@ -1,5 +1,5 @@
 use Rattle.std.proofs.Common.{◌≡◌, drop, false}
-use Rattle.cilk_lex_tokens.specs.Sight.{quote_from}
+use Rattle.cilk_lex.specs.Sight.{quote_from}
 use Rattle.cilk_lex.proofs.literal.closing_quote.Given as goal
 
 abbrev pub invariant-loop-byte : goal.invariant-loop-byte

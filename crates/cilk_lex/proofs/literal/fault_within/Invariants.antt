@@ -1,5 +1,5 @@
 use Rattle.std.proofs.Common.{◌≡◌, ◌+◌, ◌<◌, drop, false, true}
-use Rattle.cilk_lex_tokens.specs.Sight.{fault_from}
+use Rattle.cilk_lex.specs.Sight.{fault_from}
 use Rattle.cilk_lex.proofs.literal.fault_within.Given as goal
 
 abbrev pub invariant-loop-byte : goal.invariant-loop-byte

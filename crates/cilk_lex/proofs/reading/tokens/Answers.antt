@@ -2,7 +2,7 @@ use Rattle.std.proofs.Common.{inl, sym, ap, ◌∙◌, arith}
 use Rattle.std.proofs.lemmas.List.{length-take-le}
 use Rattle.std.proofs.lemmas.Result.{err_from_is_err_and}
 use Rattle.std.proofs.lemmas.Bool.Decides.{nat_tests}
-use Rattle.cilk_lex_tokens.proofs.Unique.{one_reading, never_both, one_fault}
+use Rattle.cilk_lex.proofs.Unique.{one_reading, never_both, one_fault}
 use Rattle.cilk_lex.proofs.Loop.{found_there, fault_there, found_cut, takes_some, behind, all_read}
 use Rattle.cilk_lex.proofs.Refusals.{refused, another_fault}
 use Rattle.cilk_lex.proofs.reading.tokens.Goals as goal

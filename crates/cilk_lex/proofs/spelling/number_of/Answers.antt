@@ -1,5 +1,5 @@
 use Rattle.std.proofs.Common.{sym, ◌∙◌, ap, inl, inr}
-use Rattle.cilk_lex_tokens.specs.Sight.{valued}
+use Rattle.cilk_lex.specs.Sight.{valued}
 use Rattle.cilk_lex.proofs.Values.{in_ten, in_sixteen, in_eight}
 use Rattle.cilk_lex.proofs.spelling.number_of.Goals as goal
 use Rattle.cilk_lex.proofs.spelling.number_of.Goals.{then-bytes-lt2-via-then-bytes-lt2, then-bytes-lt2-via-else-bytes-lt2+then-bytes-ne48}

@@ -1,8 +1,8 @@
 use Rattle.std.proofs.Common.{◌≡◌, ◌+◌, length, sym, ap, ◌∙◌}
 use Rattle.std.proofs.lemmas.Result.{IfOk-weaker}
-use Rattle.cilk_tree_syntax.specs.Tree as tree
-use Rattle.cilk_tree_syntax.specs.StmtLines.{stmt_lines, block_lines}
-use Rattle.cilk_tree_syntax.specs.StmtView.{stmt_of}
+use Rattle.cilk_load_names.specs.syntax.Tree as tree
+use Rattle.cilk_load_names.specs.syntax.StmtLines.{stmt_lines, block_lines}
+use Rattle.cilk_load_names.specs.syntax.StmtView.{stmt_of}
 use Rattle.cilk_load_layout.proofs.Switches.{lines-of-switch}
 use Rattle.cilk_load_layout.proofs.lines.+lines.Goals as goal
 

@@ -1,7 +1,8 @@
 use Rattle.std.proofs.Common.{◌<◌, ◌∙◌, arith, sym, length}
+use Rattle.std.proofs.lemmas.Bool.{or_right}
 use Rattle.cilk_seed.specs.Tallied.{bumped}
 use Rattle.cilk_seed.specs.Tallying.{outcome_by}
-use Rattle.cilk_seed.proofs.Steps.{found-next, or-is-first, or-is-true, row-few, rows-next, same-length}
+use Rattle.cilk_seed.proofs.Steps.{found-next, or-is-first, row-few, rows-next, same-length}
 use Rattle.cilk_seed.proofs.tallying.count_same.Goals as goal
 use Rattle.cilk_seed.proofs.tallying.count_same.Goals.{then-count_if_same, else-count_if_same}
 
@@ -24,7 +25,7 @@ loop-i-preserved c =
       found-next f c.args.rows.now c.loop-i.rows c.loop-i.i invariant.0 within invariant.1 d (outcome_by c.args.outcome.now) c.loop-i.is_found
           c.count_if_same.result c.if-count_if_same.is_found invariant.2 c.count_if_same.ensures.same
           (elim c.if-count_if_same.branch [
-            | then-count_if_same w ↦ w.is_found-is ∙ sym (or-is-true c.loop-i.is_found c.count_if_same.result w.if-count_if_same.true)
+            | then-count_if_same w ↦ w.is_found-is ∙ sym (or_right c.loop-i.is_found c.count_if_same.result w.if-count_if_same.true)
             | else-count_if_same w ↦ w.is_found-is ∙ sym (or-is-first c.loop-i.is_found c.count_if_same.result w.if-count_if_same.false)
           ]),
     )

@@ -1,11 +1,11 @@
+use Rattle.std.proofs.Common.{subst, sym}
+use Rattle.cilk_debug.specs.Faults.{IsNamedDebugFaultOf}
 use Rattle.cilk_debug.specs.Tape.{tape_of}
-use Rattle.cilk_debug.proofs.Naming.{own_by, ok_always, debug_told}
+use Rattle.cilk_debug.proofs.Naming.{named_debug_fault}
 use Rattle.cilk_debug.proofs.debugger.Debugger.new.Goals as goal
 
-pub returns-in-Ok-false-clause-own : goal.returns-in-Ok-false-clause-own
-returns-in-Ok-false-clause-own c = ok_always c.begin.result (own_by _ _ c.in-Ok-false.field-0-test c.in-Ok-false.ensures.other)
-
-pub returns-in-Ok-false-clause-told : goal.returns-in-Ok-false-clause-told
-returns-in-Ok-false-clause-told c =
-    debug_told c.args.log.program (tape_of c.args.program c.args.log.workers c.args.log.choices)
-    (own_by _ _ c.in-Ok-false.field-0-test c.in-Ok-false.ensures.other) c.begin.result c.begin.ensures.told
+pub returns-in-Err-clause-told : goal.returns-in-Err-clause-told
+returns-in-Err-clause-told c =
+    let t = tape_of c.args.program c.args.log.workers c.args.log.choices in
+    subst (IsNamedDebugFaultOf c.args.log.program t) (sym c.debug_fault.ensures)
+    (named_debug_fault c.args.log.program t c.in-Err.unplayable.fault c.in-Err.ensures.told)

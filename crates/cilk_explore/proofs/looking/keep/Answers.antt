@@ -1,0 +1,29 @@
+use Rattle.std.proofs.Common.{◌<◌, refl, arith, length}
+use Rattle.cilk_machine.specs.choices.Words.{choice_of}
+use Rattle.cilk_explore.specs.declared.explorer.Explorer.{Explorer}
+use Rattle.cilk_explore.proofs.Knows.{known-same, known-one, keeps-one}
+use Rattle.cilk_explore.proofs.looking.keep.Goals as goal
+
+pub returns-in-Ok-Some-clause-known : goal.returns-in-Ok-Some-clause-known
+returns-in-Ok-Some-clause-known c =
+    let e = c.args.explorer.now in
+    let f : Explorer = record e { probe = c.known.new.probe; log = c.known.new.log } in
+    let leads = c.log-log.ensures.leads in
+    known-same f c.in-Ok-Some.found c.requires.found (rw c.in-Ok-Some.field-0-is at c.in-Ok-Some.ensures.same) leads.0 leads.1
+
+pub returns-in-Ok-clause-keeps : goal.returns-in-Ok-clause-keeps
+returns-in-Ok-clause-keeps c =
+    let e = c.args.explorer.now in
+    let f : Explorer = record e { probe = c.known.new.probe; log = c.known.new.log; store = c.push.new.self } in
+    let leads = c.log-log.ensures.leads in
+    let own = c.len-own.ensures in
+    let room : length e.store < e.limit = omega arith in
+    keeps-one e f c.args.number (choice_of c.args.choice) c.requires refl c.in-Ok.ensures.more leads.0 leads.1 c.known.ensures.program c.known.ensures.workers
+    refl refl room
+
+pub returns-in-Ok-clause-known : goal.returns-in-Ok-clause-known
+returns-in-Ok-clause-known c =
+    let e = c.args.explorer.now in
+    let f : Explorer = record e { probe = c.known.new.probe; log = c.known.new.log; store = c.push.new.self } in
+    let leads = c.log-log.ensures.leads in
+    known-one e f c.args.number (choice_of c.args.choice) c.requires refl c.in-Ok.ensures.more leads.0 leads.1 c.len-own.result c.len-own.ensures

@@ -1,0 +1,26 @@
+//! Frames, hands, instances and schedules of more workers than one, closing texts, and readers and writers that break:
+//! what the program does not show. And texts whose answers are known, which one worker runs.
+
+mod alone;
+mod closing;
+mod fates;
+mod frames;
+mod glimpses;
+mod hands;
+mod inlets;
+mod instances;
+mod schedules;
+mod script;
+mod streams;
+mod undone;
+mod workers;
+
+use cilk_commands::ready_of;
+use cilk_run::Loaded;
+use std::alloc::Global;
+use std::process::Abort;
+
+// The program of a text.
+fn program(rt: &impl Abort, alloc: Global, text: &str) -> Loaded {
+    ready_of(alloc, text.as_bytes()).expect(rt, "a program")
+}

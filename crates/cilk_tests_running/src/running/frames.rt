@@ -1,0 +1,94 @@
+//! A frame of a program that is known by hand.
+
+use super::program;
+use cilk_frame::{
+    Await, Body, Frame, Id, a_call_stands, a_start_stands, a_write_stands, an_action_stands,
+    values_are_seen,
+};
+use cilk_run::Loaded;
+use std::alloc::Global;
+use std::process::Abort;
+
+const TEXT: &str =
+    "cilk int main(void) { int a; return a; } int f(int b, int c) { int d, e; return b; }";
+
+fn body<'a>(rt: &impl Abort, loaded: &'a Loaded, number: u32) -> &'a Body {
+    loaded.body(number).expect(rt, "a body")
+}
+
+// Instance 7, of `main`.
+fn start(rt: &impl Abort, alloc: Global, loaded: &Loaded) -> Frame {
+    let main = body(rt, loaded, 0);
+    assert_eq!(rt; main.params, 0);
+    Frame::start(alloc, Id::new(7), main, &[]).expect(rt, "memory")
+}
+
+// Another body goes on.
+fn call(
+    rt: &impl Abort,
+    frame: &mut Frame,
+    callee: &Body,
+    arguments: &[i32],
+    awaits: Option<Await>,
+) {
+    assert_eq!(rt; callee.params as usize, arguments.len());
+    assert!(rt; frame.depth() < Frame::DEPTH);
+    frame.enter(callee, arguments, awaits).expect(rt, "memory");
+}
+
+#[test]
+fn goes_on_and_ends(rt: HostRuntime) {
+    let loaded = program(&rt, rt.alloc(), TEXT);
+    let mut frame = start(&rt, rt.alloc(), &loaded);
+    assert_eq!(rt; frame.id(), Id::new(7));
+    assert_eq!(rt; frame.id().number(), 7);
+    assert_eq!(rt; frame.depth(), 1);
+    assert_eq!(rt; frame.node(0), 1);
+    assert_eq!(rt; frame.cells(0), [0].as_slice());
+    assert_eq!(rt; frame.awaits(), None);
+    assert!(rt; !frame.at_boundary());
+    frame.set_cell(0, 0, -5);
+    frame.jump(2);
+    frame.set_boundary(true);
+    assert_eq!(rt; frame.depth(), 1);
+    assert_eq!(rt; frame.node(0), 2);
+    assert_eq!(rt; frame.cells(0), [-5].as_slice());
+    assert!(rt; frame.at_boundary());
+    frame.finish();
+}
+
+#[test]
+fn calls_and_returns(rt: HostRuntime) {
+    let loaded = program(&rt, rt.alloc(), TEXT);
+    let mut frame = start(&rt, rt.alloc(), &loaded);
+    let awaits = Await { n: 2, index: 3 };
+    call(
+        &rt,
+        &mut frame,
+        body(&rt, &loaded, 1),
+        &[6, -7],
+        Some(awaits),
+    );
+    assert_eq!(rt; frame.awaits(), Some(awaits));
+    call(&rt, &mut frame, body(&rt, &loaded, 0), &[], None);
+    assert_eq!(rt; frame.depth(), 3);
+    assert_eq!(rt; frame.cells(1), [6, -7, 0, 0].as_slice());
+    frame.jump(2);
+    assert_eq!(rt; frame.depth(), 3);
+    assert_eq!(rt; frame.node(0), 1);
+    assert_eq!(rt; frame.node(1), 3);
+    assert_eq!(rt; frame.node(2), 2);
+    assert_eq!(rt; frame.leave(), None);
+    assert_eq!(rt; frame.depth(), 2);
+    assert_eq!(rt; frame.leave(), Some(awaits));
+    assert_eq!(rt; frame.depth(), 1);
+}
+
+#[test]
+fn laws_are_called() {
+    a_start_stands();
+    values_are_seen();
+    a_write_stands();
+    an_action_stands();
+    a_call_stands();
+}

@@ -1,0 +1,91 @@
+//! A machine that keeps a record of each choice goes back, choice by choice, to what it was.
+
+use super::program;
+use cilk_run::{Act, Choice, Machine};
+use cilk_view::What;
+use std::alloc::Global;
+use std::process::Abort;
+
+// Children are spawned, and their values go through an inlet, which aborts the other; a C function is called, a lock is held, and something is printed.
+const ALL: &str = "Cilk_lockvar l; int done; int same(int n) { return n; }
+cilk int f(int n) { int r; r = same(n); Cilk_lock(l); printf(\"%d\\n\", r); done = done + 1; Cilk_unlock(l); return r; }
+cilk int main(void) { int got; inlet void found(int v) { got = v; abort; }
+Cilk_lock_init(l); found(spawn f(1)); found(spawn f(2)); sync; return got; }";
+
+// What is seen of a machine.
+fn seen(rt: &impl Abort, alloc: Global, machine: &Machine) -> String {
+    let choices = machine.choices();
+    let outcome = machine.outcome();
+    let mut text = format!(in alloc; "{choices} {outcome:?}\n").expect(rt, "memory");
+    for what in [
+        What::Where,
+        What::Tree,
+        What::Globals,
+        What::Deques,
+        What::Output,
+    ] {
+        let view = machine.text(&what).expect(rt, "a view");
+        write!(text, "{view}").expect(rt, "memory");
+    }
+    text
+}
+
+// Makes the first possible one of these choices, from one of them on. False where none is possible.
+fn makes(machine: &mut Machine, from: u8) -> bool {
+    let choices = [
+        (1, Act::Step),
+        (2, Act::Step),
+        (1, Act::Pop),
+        (2, Act::Pop),
+        (1, Act::Steal(2)),
+        (2, Act::Steal(1)),
+    ];
+    for k in 0..6 {
+        let (worker, act) = choices[(usize::from(from) + k) % 6];
+        if machine.choices() < 1000 && machine.make(Choice { worker, act }).is_ok() {
+            return true;
+        }
+    }
+    false
+}
+
+// Makes up to 100 choices, and tells what was seen before each.
+fn forth(rt: &impl Abort, alloc: Global, machine: &mut Machine, turn: u8) -> Vec<String> {
+    let mut before = Vec::new(alloc);
+    for k in 0..100_u8 {
+        let now = seen(rt, alloc, machine);
+        let from = if turn == 0 { 0 } else { (k % 6 + turn % 6) % 6 };
+        if makes(machine, from) {
+            before.push(now).expect(rt, "memory");
+        }
+    }
+    before
+}
+
+#[test]
+fn there_and_back(rt: HostRuntime) {
+    for turn in 0..6_u8 {
+        let loaded = program(&rt, rt.alloc(), ALL);
+        let mut machine = Machine::with_undo(rt.alloc(), loaded, 2).expect(&rt, "a machine");
+        let before = forth(&rt, rt.alloc(), &mut machine, turn);
+        assert!(rt; before.len() > 10);
+        for wanted in before.iter().rev() {
+            assert!(rt; machine.undo().expect(&rt, "memory"));
+            let now = seen(&rt, rt.alloc(), &machine);
+            assert_eq!(rt; now.as_str(), wanted.as_str());
+        }
+        assert!(rt; !machine.undo().expect(&rt, "memory"));
+    }
+}
+
+#[test]
+fn what_is_forgotten_stays(rt: HostRuntime) {
+    let loaded = program(&rt, rt.alloc(), ALL);
+    let mut machine = Machine::with_undo(rt.alloc(), loaded, 2).expect(&rt, "a machine");
+    assert!(rt; makes(&mut machine, 0));
+    machine.forget();
+    assert!(rt; makes(&mut machine, 0));
+    assert!(rt; machine.undo().expect(&rt, "memory"));
+    assert!(rt; !machine.undo().expect(&rt, "memory"));
+    assert_eq!(rt; machine.choices(), 1);
+}
