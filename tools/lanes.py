@@ -6,8 +6,8 @@ import contextlib
 import fcntl
 import functools
 import os
+import re
 import shutil
-import signal
 import subprocess
 import time
 from concurrent.futures import FIRST_COMPLETED, ThreadPoolExecutor, wait
@@ -16,12 +16,18 @@ TOP = os.path.dirname(os.path.dirname(os.path.realpath(__file__)))
 PARTS = ("src", "specs", "proofs")
 # The memory that a check may take, in bytes: most take a third of it.
 ROOM = 3_500_000_000
-# The most processes that one check gains from.
-MOST_JOBS = 2
-# What loading what a crate stands on weighs, in bytes of code.
-LOADING = 5000
+# The most processes that one check gains from, and those that a crate with one of the longest chains above it gets where there are as many processors.
+MOST_JOBS, LONG_JOBS = 4, 2
+# Checks beyond one a processor: what they do is done where those with longer chains above them leave a processor idle.
+MORE = 2
+# How far behind the others a check stands that others do not wait for, as `nice` has it.
+BEHIND = 10
+# What loading what a crate stands on weighs, in clauses.
+LOADING = 40
+# A line of code that begins a clause of a contract.
+CLAUSE = re.compile(r"^\s*(?:requires|ensures)\b", re.M)
 # A chain of crates is among the longest if it is so much of the longest one.
-NEARLY = 0.93
+NEARLY = 0.9
 
 
 class Crates:
@@ -59,8 +65,13 @@ class Crates:
 
     @functools.cache
     def weight(self, name):
-        """Returns about how long a crate takes to prove, in no unit: functions are dear, and not what is said of them."""
-        return LOADING + self.bytes(name, "src")
+        """Returns about how long a crate takes to prove, in no unit: what its functions promise is dear, and not what is defined, nor a function that promises nothing."""
+        count = LOADING
+        for folder, _, files in os.walk(f"{self.top}/crates/{name}/src"):
+            for it in files:
+                with open(f"{folder}/{it}", encoding="utf-8") as file:
+                    count += len(CLAUSE.findall(file.read()))
+        return count
 
     def behind(self, names):
         """Returns for each of these crates the weight of the longest chain of them that begins with it and goes upward."""
@@ -71,11 +82,16 @@ class Crates:
         return found
 
 
-def processors():
-    """Returns how many checks may run side by side: one a processor, and as many as there is memory for."""
+def rooms():
+    """Returns for how many checks there is memory."""
     with open("/proc/meminfo", encoding="utf-8") as it:
         free = next(1024 * int(line.split()[1]) for line in it if line.startswith("MemAvailable:"))
-    return max(1, min(len(os.sched_getaffinity(0)), free // ROOM))
+    return max(1, free // ROOM)
+
+
+def processors():
+    """Returns how many checks may run side by side: one a processor, and as many as there is memory for."""
+    return min(len(os.sched_getaffinity(0)), rooms())
 
 
 @contextlib.contextmanager
@@ -134,8 +150,9 @@ class Lane:
 
     def run(self, name, words):
         """Runs a command in a crate's folder of the lane; returns its status and what it said."""
+        # (a session of its own would share the processors with others by halves, whatever `nice` says; rt ends what it has begun where it is ended)
         how = {"stdin": subprocess.DEVNULL, "stdout": subprocess.PIPE, "stderr": subprocess.STDOUT}
-        ran = subprocess.Popen(words, cwd=f"{self.folder}/crates/{name}", start_new_session=True, text=True, errors="replace", **how)
+        ran = subprocess.Popen(words, cwd=f"{self.folder}/crates/{name}", text=True, errors="replace", **how)
         Lane.running.add(ran)
         said, _ = ran.communicate()
         Lane.running.discard(ran)
@@ -150,13 +167,13 @@ class Lane:
                 shutil.rmtree(target, ignore_errors=True)
                 shutil.move(source, target)
 
-    def prove(self, name, jobs):
-        """Proves a library; what was kept of it is moved here and back. Returns whether it is proved, and what was said."""
+    def prove(self, name, jobs, behind):
+        """Proves a library, behind other checks or not; what was kept of it is moved here and back. Returns whether it is proved, and what was said."""
         self.bring(self.crates.below(name))
         self.refresh(name)
         self.move_out(name, back=False)
         try:
-            status, said = self.run(name, ["rt", "lib", "--jobs", str(jobs)])
+            status, said = self.run(name, ["nice", "-n", str(behind), "rt", "lib", "--jobs", str(jobs)])
         finally:
             self.move_out(name, back=True)
             self.has.discard(name)
@@ -166,15 +183,15 @@ class Lane:
 def stop_all():
     """Ends all commands that run in lanes."""
     for it in list(Lane.running):
-        with contextlib.suppress(ProcessLookupError):
-            os.killpg(it.pid, signal.SIGTERM)
+        it.terminate()
 
 
 class Turns:
     """Crates taken up in turn: each once those below it are done, the one with the longest chain above it first."""
 
-    def __init__(self, crates, names, most):
-        self.crates, self.left, self.most = crates, list(names), most
+    def __init__(self, crates, names):
+        self.crates, self.left = crates, list(names)
+        self.most, self.checks = processors(), min(processors() + MORE, rooms())
         self.behind = crates.behind(set(names))
         self.done, self.jobs = set(), {}
 
@@ -184,18 +201,18 @@ class Turns:
         return sorted(found, key=lambda it: -self.behind[it])
 
     def next(self):
-        """Returns the crate to take up now and how many jobs it gets, or None. Processors that are left over are shared among those that are ready, and
-        where there are enough a crate with one of the longest chains above it gets all that it gains from."""
-        ready, free = self.ready(), self.most - sum(self.jobs.values())
-        if not ready or free < 1:
+        """Returns the crate to take up now, how many jobs it gets, and how far behind others it stands, or None. One with one of the longest chains
+        above it goes before the others, and gets the processors that are idle and that no other crate is ready for."""
+        ready = self.ready()
+        if not ready or len(self.jobs) >= self.checks:
             return None
-        name, jobs = ready[0], min(MOST_JOBS, max(1, -(-free // len(ready))))
+        name, spare = ready[0], self.most - sum(self.jobs.values()) - (len(ready) - 1)
         longest = max(self.behind[it] for it in [*self.left, *self.jobs])
-        if self.most >= 2 * MOST_JOBS and self.behind[name] >= NEARLY * longest:
-            jobs = MOST_JOBS
+        is_long = self.behind[name] >= NEARLY * longest
+        fewest = LONG_JOBS if is_long and self.most >= 2 * LONG_JOBS else 1
         self.left.remove(name)
-        self.jobs[name] = jobs
-        return name, jobs
+        self.jobs[name] = max(fewest, min(spare, MOST_JOBS if is_long else LONG_JOBS))
+        return name, self.jobs[name], 0 if is_long else BEHIND
 
     def end(self, name, is_proved):
         """Notes that a crate is done. Where it is not proved, those above it are left out."""
@@ -216,7 +233,7 @@ class Teller:
         clock = int(time.monotonic() - self.began)
         print(f"{clock // 60:2}:{clock % 60:02} {words}", flush=True)
 
-    def begun(self, name, jobs):
+    def begun(self, name, jobs, _):
         self.say(f"{name} .." + (f" ({jobs} jobs)" if jobs > 1 else ""))
 
     def ended(self, name, done, seconds, said):
@@ -229,9 +246,8 @@ class Teller:
 
 def prove_all(crates, names, room, tell):
     """Proves libraries side by side in lanes below a folder, and tells what is begun and what has ended. Returns whether all are proved."""
-    most = processors()
-    turns, free, running = Turns(crates, names, most), [], {}
-    with ThreadPoolExecutor(most) as pool:
+    turns, free, running = Turns(crates, names), [], {}
+    with ThreadPoolExecutor(turns.checks) as pool:
         try:
             while turns.left or running:
                 while (taken := turns.next()) is not None:

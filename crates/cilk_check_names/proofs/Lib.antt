@@ -1,5 +1,4 @@
 pub mod Tables
-pub mod Spelled
 pub mod UseFaults
 pub mod Declarings
 pub mod Tops

@@ -1,18 +1,15 @@
 //! The subcommand `check`: how many actions a program has, or why it may not be run.
 
-ghost use Rattle.std.specs.Prelude.{◌≡◌, ◌≢◌, true, false, IfErr, OnOk};
-ghost use Rattle.cilk_load.specs.Front.{Gains, GainsFront};
+ghost use Rattle.std.specs.Prelude.{◌≡◌, ◌≢◌, true, false};
 ghost use Rattle.cilk_commands.specs.Loading.{Unready};
 ghost use Rattle.cilk_commands.specs.Telling.{GivesUp};
-ghost use Rattle.cilk_commands.specs.Checking.{IsCounted, Passes, PassesFront};
-ghost use Rattle.cilk_commands.specs.Status.{status_of, is_answer};
+ghost use Rattle.cilk_commands.specs.Checking.{Passes, PassesFront};
+ghost use Rattle.cilk_commands.specs.Status.{is_answer};
 
-use crate::answer::write_answer;
+use crate::answering::{Answering, answer_text};
 use crate::failure::Failure;
 use crate::loading::ready_of;
-use crate::source::read_text;
 use crate::status::Status;
-use crate::telling::tell_of;
 use std::alloc::Global;
 use std::io::{Read, Write};
 
@@ -42,28 +39,25 @@ pub fn check_text<R: Read, O: Write, E: Write>(
     ensures quiet { is_answer result ≡ true → err.new ≡ err.old }
     ensures kept { is_answer result ≡ false → result ≢ Status.CannotWrite → out.new ≡ out.old }
 {
-    let bytes = match read_text(alloc, reader) {
-        Ok(bytes) => bytes,
-        Err(failure) => return failure.report(name, err),
-    };
-    let text = bytes.as_slice();
-    match check(alloc, text, out) {
-        Ok(()) => Status::Done,
-        Err(failure) => tell_of(alloc, name, explain, text, &failure, err),
-    }
+    answer_text::<CountAnswer, R, O, E>(alloc, name, explain, reader, out, err)
 }
 
-fn check<W: Write>(alloc: Global, text: &[u8], out: &mut W) -> Result<(), Failure>
-    ensures ok { OnOk result (Gains (IsCounted text.now) (W.contents out.old) (W.contents out.new)) }
-    ensures declined { IfErr result (λ why. status_of why ≡ Status.Refused → Unready text.now why) }
-    ensures begun { IfErr result (λ why. status_of why ≡ Status.CannotWrite
-        → GainsFront (IsCounted text.now) (W.contents out.old) (W.contents out.new)) }
-    ensures kept { IfErr result (λ why. status_of why ≢ Status.CannotWrite → out.new ≡ out.old) }
-{
-    let program = ready_of(alloc, text)?;
-    let count = program.count();
-    let Ok(line) = format!(in alloc; "ok, {count} actions\n") else {
-        return Err(Failure::Memory);
-    };
-    write_answer(out, line.as_bytes())
+// The answer of `check`.
+struct CountAnswer;
+
+impl Answering for CountAnswer {
+    ghost use Rattle.cilk_commands.specs.Checking.{IsCounted};
+
+    ghost are = { IsCounted };
+
+    fn answer(alloc: Global, text: &[u8]) -> Result<String, Failure> {
+        let program = ready_of(alloc, text)?;
+        let count = program.count();
+        let Ok(line) = format!(in alloc; "ok, {count} actions\n") else {
+            return Err(Failure::Memory);
+        };
+        Ok(line)
+    }
+
+    ghost short = { λ text answer is. is.ready.is.text.short };
 }

@@ -1,4 +1,4 @@
-//! What each subcommand of the program does, over a reader and two writers.
+//! The subcommands `print` and `check`, over a reader and two writers, and what all subcommands need: the program of a text, statuses and lines of failures.
 //!
 //! No clause can promise that a reader or a writer works, or that one is flushed. So a body of
 //! `read_text` or `write_answer` that always says that it does not work meets its contract too,
@@ -6,6 +6,7 @@
 #![tactic(auto)]
 
 mod answer;
+mod answering;
 mod check;
 mod failure;
 mod fault;
@@ -17,6 +18,7 @@ mod status;
 mod telling;
 
 pub use answer::{write_answer, write_parts, write_whole};
+pub use answering::{Answering, answer_text};
 pub use check::check_text;
 pub use cilk_load::Loaded;
 pub use failure::Failure;

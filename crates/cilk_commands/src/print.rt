@@ -1,18 +1,15 @@
 //! The subcommand `print`: the canonical text of a program, or why there is none.
 
-ghost use Rattle.std.specs.Prelude.{◌≡◌, ◌≢◌, true, false, IfErr, OnOk};
-ghost use Rattle.cilk_load.specs.Front.{Gains, GainsFront};
+ghost use Rattle.std.specs.Prelude.{◌≡◌, ◌≢◌, true, false};
 ghost use Rattle.cilk_commands.specs.Loading.{Unready};
 ghost use Rattle.cilk_commands.specs.Telling.{GivesUp};
-ghost use Rattle.cilk_commands.specs.Printing.{IsPrinted, Prints, PrintsFront};
-ghost use Rattle.cilk_commands.specs.Status.{status_of, is_answer};
+ghost use Rattle.cilk_commands.specs.Printing.{Prints, PrintsFront};
+ghost use Rattle.cilk_commands.specs.Status.{is_answer};
 
-use crate::answer::write_answer;
+use crate::answering::{Answering, answer_text};
 use crate::failure::Failure;
 use crate::loading::ready_of;
-use crate::source::read_text;
 use crate::status::Status;
-use crate::telling::tell_of;
 use std::alloc::Global;
 use std::io::{Read, Write};
 
@@ -42,27 +39,24 @@ pub fn print_text<R: Read, O: Write, E: Write>(
     ensures quiet { is_answer result ≡ true → err.new ≡ err.old }
     ensures kept { is_answer result ≡ false → result ≢ Status.CannotWrite → out.new ≡ out.old }
 {
-    let bytes = match read_text(alloc, reader) {
-        Ok(bytes) => bytes,
-        Err(failure) => return failure.report(name, err),
-    };
-    let text = bytes.as_slice();
-    match print(alloc, text, out) {
-        Ok(()) => Status::Done,
-        Err(failure) => tell_of(alloc, name, explain, text, &failure, err),
-    }
+    answer_text::<PrintAnswer, R, O, E>(alloc, name, explain, reader, out, err)
 }
 
-fn print<W: Write>(alloc: Global, text: &[u8], out: &mut W) -> Result<(), Failure>
-    ensures ok { OnOk result (Gains (IsPrinted text.now) (W.contents out.old) (W.contents out.new)) }
-    ensures declined { IfErr result (λ why. status_of why ≡ Status.Refused → Unready text.now why) }
-    ensures begun { IfErr result (λ why. status_of why ≡ Status.CannotWrite
-        → GainsFront (IsPrinted text.now) (W.contents out.old) (W.contents out.new)) }
-    ensures kept { IfErr result (λ why. status_of why ≢ Status.CannotWrite → out.new ≡ out.old) }
-{
-    let program = ready_of(alloc, text)?;
-    let Ok(answer) = program.text() else {
-        return Err(Failure::Memory);
-    };
-    write_answer(out, answer.as_bytes())
+// The answer of `print`.
+struct PrintAnswer;
+
+impl Answering for PrintAnswer {
+    ghost use Rattle.cilk_commands.specs.Printing.{IsPrinted};
+
+    ghost are = { IsPrinted };
+
+    fn answer(alloc: Global, text: &[u8]) -> Result<String, Failure> {
+        let program = ready_of(alloc, text)?;
+        let Ok(answer) = program.text() else {
+            return Err(Failure::Memory);
+        };
+        Ok(answer)
+    }
+
+    ghost short = { λ text answer is. is.ready.is.text.short };
 }

@@ -6,6 +6,7 @@ ghost use Rattle.cilk_machine.specs.labelled.Count.{count_program};
 ghost use Rattle.cilk_debug_console.specs.syntax.ProgramText.{program_text};
 ghost use Rattle.cilk_debug_console.specs.log.Naming.{is_of};
 ghost use Rattle.cilk_debug_console.specs.model.Run.{is_crew};
+ghost use Rattle.cilk_debug_console.specs.model.What.{where_it_stands};
 ghost use Rattle.cilk_debug_console.specs.view.Words.{what_of};
 ghost use Rattle.cilk_debug.specs.Tape.{tape_of, IsPlayable};
 ghost use Rattle.cilk_debug.specs.Faults.{IsNamedDebugFaultOf};
@@ -324,15 +325,28 @@ impl Debugger {
         ensures fault { result ≡ Err ViewFault.NoInstance → seen_at self.now.shown (what_of what.now) ≡ None }
         ensures none { seen_at self.now.shown (what_of what.now) ≡ None → result ≡ Err ViewFault.NoInstance }
     {
-        match self.player.machine().text(what) {
+        match what {
+            What::Where => self.view_of_place(),
+            _ => self.player.machine().text(what),
+        }
+    }
+
+    // The text that tells where the program stands, behind the line on the position.
+    fn view_of_place(&self) -> Result<String, ViewFault>
+        ensures text { IfOk result (λ text. seen_at self.now.shown where_it_stands ≡ Some (string_bytes text)) }
+        ensures fault { result ≡ Err ViewFault.NoInstance → seen_at self.now.shown where_it_stands ≡ None }
+        ensures none { seen_at self.now.shown where_it_stands ≡ None → result ≡ Err ViewFault.NoInstance }
+    {
+        match self.player.machine().text(&What::Where) {
             Err(fault) => Err(fault),
-            Ok(text) => match what {
-                What::Where => match self.behind_position(text.as_str()) {
+            Ok(text) => {
+                let all = self.behind_position(text.as_str());
+                drop(text);
+                match all {
                     Err(memory) => Err(ViewFault::Memory(memory)),
                     Ok(all) => Ok(all),
-                },
-                _ => Ok(text),
-            },
+                }
+            }
         }
     }
 

@@ -1,5 +1,6 @@
 //! The answers of a session, and how they are written.
 
+ghost use Rattle.std.specs.Prelude.{◌≡◌, ℕ, List, None, IfSome};
 ghost use Rattle.cilk_debug.specs.Replies.{reply_text, TextWritten};
 
 use crate::session_fault::SessionFault;
@@ -39,16 +40,30 @@ impl Reply {
     ) -> Result<(), SessionFault>
         ensures { TextWritten (reply_text self.old) (W.contents writer.old) (W.contents writer.new) result }
     {
+        match self.line() {
+            Some(words) => say(writer, words),
+            None => match self {
+                Reply::Told(telling) => tell(alloc, writer, telling),
+                _ => unreachable!(),
+            },
+        }
+    }
+
+    // The line of an answer that is always the same. The text of a view is none.
+    fn line(&self) -> Option<&'static [u8]>
+        ensures text { IfSome result (λ line. line.now ≡ reply_text self.now) }
+        ensures none { result ≡ None → (telling : List ℕ) × (self.now ≡ Reply.Told telling) }
+    {
         match self {
-            Reply::Told(telling) => tell(alloc, writer, telling),
-            Reply::Done => say(writer, b"ok\n"),
-            Reply::Nothing => say(writer, b""),
-            Reply::Unknown => say(writer, b"unknown command\n"),
-            Reply::AtEnd => say(writer, b"B2 AtEnd\n"),
-            Reply::AtStart => say(writer, b"B3 AtStart\n"),
-            Reply::NoStatement => say(writer, b"B4 NoStatement\n"),
-            Reply::NoInstance => say(writer, b"B5 NoInstance\n"),
-            Reply::OutOfRange => say(writer, b"B6 OutOfRange\n"),
+            Reply::Told(_) => None,
+            Reply::Done => Some(b"ok\n"),
+            Reply::Nothing => Some(b""),
+            Reply::Unknown => Some(b"unknown command\n"),
+            Reply::AtEnd => Some(b"B2 AtEnd\n"),
+            Reply::AtStart => Some(b"B3 AtStart\n"),
+            Reply::NoStatement => Some(b"B4 NoStatement\n"),
+            Reply::NoInstance => Some(b"B5 NoInstance\n"),
+            Reply::OutOfRange => Some(b"B6 OutOfRange\n"),
         }
     }
 }

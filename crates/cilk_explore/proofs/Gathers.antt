@@ -15,7 +15,7 @@ use Rattle.cilk_explore.specs.declared.explorer.Explorer.{Explorer}
 use Rattle.cilk_explore.specs.Links.{Linkage}
 use Rattle.cilk_explore.specs.Walks.{Walk, position_of}
 use Rattle.cilk_explore.specs.Telling.{told_by}
-use Rattle.cilk_explore.specs.Exploring.{program_of, workers_of, IsPaired, IsBetween, HasLinks, IsAt, IsKnownBy, KeepsAs, Grows, Gathers}
+use Rattle.cilk_explore.specs.Exploring.{program_of, workers_of, IsPaired, IsBetween, HasLinks, IsAt, IsKnownBy, KeepsAs, Grows, Gathers, SaysIdle}
 use Rattle.cilk_explore.proofs.Paces.{between-on}
 
 pub gathers-none : (e f : Explorer) → f.links ≡ e.links → Gathers e f
@@ -124,7 +124,8 @@ module _ (e m k : Explorer) (choice : Choice) (made : m.walker ≡ record e.walk
 -- as between-on, and all links of the log were put down: i is h, with these links as those of one log more
 module _ (f g h i : Explorer) (number : ℕ) (at : IsAt f number) (between : IsBetween f number) (links : HasLinks f number)
     (tells : TellsOf (program_of f) (workers_of f) f.walker.log (map told_by f.told.items) (map told_by g.told.items)) (grows : Grows g h)
-    (gathers : Gathers g h) (walker : g.walker ≡ f.walker) (store : g.store ≡ f.store) (same : g.links ≡ f.links) (paired : IsPaired g)
+    (gathers : Gathers g h) (walker : g.walker ≡ f.walker) (store : g.store ≡ f.store) (same : g.links ≡ f.links) (idle : g.idle ≡ f.idle)
+    (says : SaysIdle f) (paired : IsPaired g)
     (linked : (choice : Choice) → IsLinked (program_of g) (workers_of g) h.store h.links.here g.walker.log choice)
     (rest : i ≡ record h { links = i.links }) (closed : i.links ≡ record { past = h.links.past ++ h.links.here ∷ []; here = [] }) where
   shut : AreClosed (program_of g) (workers_of g) h.store g.walker.log
@@ -132,12 +133,13 @@ module _ (f g h i : Explorer) (number : ℕ) (at : IsAt f number) (between : IsB
 
   pub between-closed : IsBetween i (number + 1)
   between-closed =
-      let done = between-on f g h number at between tells grows walker store paired shut in
+      let done = between-on f g h number at between tells grows walker store idle paired says shut in
       subst (λ (x : Explorer). IsBetween x (number + 1)) (sym rest)
       (record {
         paired = record { program = done.paired.program; workers = done.paired.workers };
         looking = done.looking;
         room = done.room;
+        idle = done.idle;
       })
 
   here-more : h.links.here ≡ gathers.more

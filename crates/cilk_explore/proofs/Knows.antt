@@ -7,7 +7,7 @@ use Rattle.cilk_machine.specs.model.Run.{Position}
 use Rattle.cilk_explore_search.specs.Looking.{Extends}
 use Rattle.cilk_explore_search.proofs.Fronts.{get-last}
 use Rattle.cilk_explore_search.proofs.Growing.{extends-one}
-use Rattle.cilk_explore_search.proofs.explore_laws.Standings.{same_again}
+use Rattle.cilk_explore_search.proofs.explore_laws.ButNames.{names_again}
 use Rattle.cilk_explore.specs.declared.explorer.Explorer.{Explorer}
 use Rattle.cilk_explore.specs.Walks.{Walk, position_of}
 use Rattle.cilk_explore.specs.Looking.{LeadsToSame}
@@ -46,7 +46,7 @@ known-last e logs is at here = record {
     short = omega arith;
     to = at;
     leads = here;
-    same = same_again at.standing;
+    same = names_again at.standing;
   };
   is = refl;
 }
@@ -64,9 +64,9 @@ module _ (e f : Explorer) (number : ℕ) (choice : Choice) (behind : IsBehind e 
       let is : f.store ≡ e.store ++ f.walker.log ∷ [] = pushed ∙ ap (λ (walk : Walk). e.store ++ walk.log ∷ []) (sym walker) in
       subst (IsKnownBy f) (sym same) (known-last f e.store is at (ap position_of walker ∙ here))
 
-  pub keeps-one : f.probe.program ≡ e.probe.program → f.probe.workers ≡ e.probe.workers → f.told ≡ e.told → f.limit ≡ e.limit
+  pub keeps-one : f.probe.program ≡ e.probe.program → f.probe.workers ≡ e.probe.workers → f.told ≡ e.told → f.limit ≡ e.limit → f.idle ≡ e.idle
       → length e.store < e.limit → KeepsAs e f
-  keeps-one program workers told limit room =
+  keeps-one program workers told limit idle room =
       let size : length f.store ≡ length e.store + 1 = ap length pushed ∙ length-append e.store (e.walker.log ∷ []) in
       let most : length f.store ≤ e.limit = omega (arith, size, room) in
       record {
@@ -75,6 +75,7 @@ module _ (e f : Explorer) (number : ℕ) (choice : Choice) (behind : IsBehind e 
         workers = workers;
         told = told;
         limit = limit;
+        idle = idle;
         extends = subst (λ (xs : List (List Choice)). Extends (program_of e) (workers_of e) (length e.walker.log) e.store xs) (sym pushed)
             (extends-one (program_of e) (workers_of e) e.store e.walker.log at here);
         room = subst (λ (j : ℕ). length f.store ≤ j) (sym limit) most;

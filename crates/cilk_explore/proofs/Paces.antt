@@ -1,16 +1,19 @@
 -- What the parts of a search become while it looks at a log.
-use Rattle.std.proofs.Common.{◌≡◌, ◌≤◌, ◌+◌, inl, inr, ℕ, List, length, map, Some, refl, sym, ap, ◌∙◌, subst, arith, slice_get}
+use Rattle.std.proofs.Common.{◌≡◌, ◌≤◌, ◌+◌, inl, inr, ℕ, true, List, length, map, Some, refl, sym, ap, ◌∙◌, subst, arith, slice_get}
+use Rattle.std.proofs.lemmas.Option.{slice_get_within}
 use Rattle.cilk_machine.specs.labelled.Labelled.{Labelled}
 use Rattle.cilk_machine.specs.labelled.Bodies.{label}
 use Rattle.cilk_machine.specs.model.Choice.{Choice}
 use Rattle.cilk_explore_search.specs.explore.Search.{Told}
+use Rattle.cilk_explore_search.specs.explore.OrMore.{EachHasIdle}
 use Rattle.cilk_explore.specs.declared.explorer.Explorer.{Explorer}
 use Rattle.cilk_explore.specs.Walks.{Walk}
 use Rattle.cilk_explore.specs.Telling.{told_by}
-use Rattle.cilk_explore_search.specs.Looking.{IsLooking, Extends, AreClosed, TellsOf}
-use Rattle.cilk_explore.specs.Exploring.{program_of, workers_of, IsPaired, IsBetween, AreFound, IsAt, KeepsBut, Grows}
+use Rattle.cilk_explore_search.specs.Looking.{search_of, IsLooking, Extends, AreClosed, TellsOf}
+use Rattle.cilk_explore.specs.Exploring.{program_of, workers_of, IsPaired, IsBetween, AreFound, IsAt, KeepsBut, Grows, SaysIdle}
 use Rattle.cilk_explore_search.proofs.Fronts.{get-front, get-cases}
 use Rattle.cilk_explore_search.proofs.Growing.{extends-none, extends-then, looked-on, halted}
+use Rattle.cilk_explore_search.proofs.Idles.{idle-at-each}
 
 -- logs that are longer by more of this length still lead somewhere
 pub found-more : (program : Labelled) (n depth : ℕ) (logs now : List (List Choice)) → AreFound program n depth logs → Extends program n depth logs now
@@ -36,6 +39,7 @@ grows-none depth e room = record {
   workers = refl;
   told = refl;
   limit = refl;
+  idle = refl;
   extends = extends-none (program_of e) (workers_of e) depth e.store;
   room = room;
 }
@@ -50,6 +54,7 @@ grows-then e f g x y =
       workers = y.workers ∙ x.workers;
       told = y.told ∙ x.told;
       limit = y.limit ∙ x.limit;
+      idle = y.idle ∙ x.idle;
       extends = extends-then (program_of e) (workers_of e) (length e.walker.log + 1) e.store f.store g.store x.extends other;
       room = y.room;
     }
@@ -74,7 +79,7 @@ at-on e f number at x =
 -- the log of this number is looked at, from e on: f stands there, g has told of it, and h has tried what is behind it
 module _ (f g h : Explorer) (number : ℕ) (at : IsAt f number) (between : IsBetween f number)
     (tells : TellsOf (program_of f) (workers_of f) f.walker.log (map told_by f.told.items) (map told_by g.told.items)) (grows : Grows g h)
-    (walker : g.walker ≡ f.walker) (store : g.store ≡ f.store) where
+    (walker : g.walker ≡ f.walker) (store : g.store ≡ f.store) (idle : g.idle ≡ f.idle) where
   ext : Extends (program_of f) (workers_of f) (length f.walker.log + 1) f.store h.store
   ext = subst (λ (xs : List (List Choice)). Extends (program_of f) (workers_of f) (length f.walker.log + 1) xs h.store) store
       (subst (λ (walk : Walk). Extends (label walk.program) walk.workers (length walk.log + 1) g.store h.store) walker grows.extends)
@@ -85,8 +90,27 @@ module _ (f g h : Explorer) (number : ℕ) (at : IsAt f number) (between : IsBet
   same-walk : h.walker ≡ f.walker
   same-walk = grows.walker ∙ walker
 
-  pub between-on : IsPaired g → AreClosed (program_of g) (workers_of g) h.store g.walker.log → IsBetween h (number + 1)
-  between-on p closed =
+  idle-before : h.idle ≡ true → f.idle ≡ true
+  idle-before on = sym (grows.idle ∙ idle) ∙ on
+
+  -- who is idle where it looks at that log is so behind one log more
+  idle-on : SaysIdle f → h.idle ≡ true → EachHasIdle (program_of h) (workers_of h) (search_of h.store (number + 1))
+  idle-on says on =
+      let led = between.looking.search.leads number f.walker.log at.there in
+      subst (λ (walk : Walk). EachHasIdle (label walk.program) walk.workers (search_of h.store (number + 1))) (sym same-walk)
+      ((idle-at-each (program_of f) (workers_of f) f.store).goes_on h.store number (length f.walker.log + 1) f.walker.log led.0 ext at.there led.1
+      (says (idle-before on) led.0 led.1) (between.idle (idle-before on)))
+
+  -- and no log more
+  idle-halted : h.idle ≡ true → EachHasIdle (program_of h) (workers_of h) (search_of h.store number)
+  idle-halted on =
+      let inside = slice_get_within f.store number f.walker.log at.there in
+      subst (λ (walk : Walk). EachHasIdle (label walk.program) walk.workers (search_of h.store number)) (sym same-walk)
+      ((idle-at-each (program_of f) (workers_of f) f.store).halted h.store number (length f.walker.log + 1) ext (omega arith)
+      (between.idle (idle-before on)))
+
+  pub between-on : IsPaired g → SaysIdle f → AreClosed (program_of g) (workers_of g) h.store g.walker.log → IsBetween h (number + 1)
+  between-on p says closed =
       let shut : AreClosed (program_of f) (workers_of f) h.store f.walker.log =
       subst (λ (walk : Walk). AreClosed (label walk.program) walk.workers h.store walk.log) walker closed in
       let said : TellsOf (program_of f) (workers_of f) f.walker.log (map told_by f.told.items) (map told_by h.told.items) =
@@ -98,6 +122,7 @@ module _ (f g h : Explorer) (number : ℕ) (at : IsAt f number) (between : IsBet
             (looked-on (program_of f) (workers_of f) f.store h.store number (map told_by f.told.items) (map told_by h.told.items) f.walker.log
             between.looking at.there ext shut said);
         room = grows.room;
+        idle = idle-on says;
       }
 
   pub between-halted : IsPaired g → g.told ≡ f.told → IsBetween h number
@@ -107,4 +132,5 @@ module _ (f g h : Explorer) (number : ℕ) (at : IsAt f number) (between : IsBet
         (subst (λ (t : List Told). IsLooking (program_of f) (workers_of f) h.store number t) (ap (λ v. map told_by v.items) (sym (grows.told ∙ told)))
         (halted (program_of f) (workers_of f) f.store h.store number (map told_by f.told.items) f.walker.log between.looking at.there ext));
     room = grows.room;
+    idle = idle-halted;
   }

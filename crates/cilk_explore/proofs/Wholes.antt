@@ -1,5 +1,5 @@
 -- What a search that has ended tells of a program; clauses up to a number, and of answers.
-use Rattle.std.proofs.Common.{◌≡◌, ◌≤◌, ◌+◌, ◌-◌, ℕ, Bool, true, false, List, length, map, Result, Ok, Err, refl, sym, subst, arith, below_more}
+use Rattle.std.proofs.Common.{◌≡◌, ◌≤◌, ◌+◌, ◌-◌, inl, inr, ℕ, Bool, true, false, List, length, map, Result, Ok, Err, refl, sym, subst, arith, below_more}
 use Rattle.std.specs.Prelude.{Option, Some, None, OnOk, IfSome, IfNone, option_map}
 use Rattle.cilk_machine.specs.syntax.Tree.{Program}
 use Rattle.cilk_machine.specs.labelled.Bodies.{label}
@@ -8,9 +8,10 @@ use Rattle.cilk_explore_search.specs.explore.Search.{Told, Once, Sound, First, W
 use Rattle.cilk_explore_search.specs.explore.Laws.{TellsRightly}
 use Rattle.cilk_explore_search.specs.Looking.{search_of}
 use Rattle.cilk_explore_search.proofs.explore_laws.Searches.{searches_tell_rightly}
+use Rattle.cilk_explore_search.proofs.explore_laws.OrMore.{more_do_no_more}
 use Rattle.cilk_explore.specs.declared.explorer.Explorer.{Explorer}
 use Rattle.cilk_explore.specs.Telling.{told_by}
-use Rattle.cilk_explore.specs.Exploring.{program_of, workers_of, IsBetween, NeverEnds, EachCanEnd}
+use Rattle.cilk_explore.specs.Exploring.{program_of, workers_of, IsBetween, IsOf, NeverEnds, EachCanEnd}
 
 -- an answer that is there keeps what follows
 pub on-ok : {A E : Type 0} {P Q : Type 0} (r : Result A E) → (P → Q) → OnOk r P → OnOk r Q
@@ -48,42 +49,50 @@ up-to P k before last v low high =
     subst P same
     (below_more (λ (j : ℕ). P (j + 1)) k (λ j lt. before (j + 1) (omega arith) (omega (arith, lt))) last (v - 1) (omega (arith, low, high)))
 
-module _ (e : Explorer) (looked : ℕ) (between : IsBetween e looked) where
-  rightly : TellsRightly (program_of e) (workers_of e) (search_of e.store looked) (map told_by e.told.items)
-  rightly =
-      searches_tell_rightly (program_of e) (workers_of e) (search_of e.store looked) (map told_by e.told.items) between.looking.search
-      between.looking.tells
+-- and what it implies
+if-so : {A : Type 0} (P Q : A → Type 0) (o : Option A) → ((x : A) → P x → Q x) → IfSome o P → IfSome o Q
+if-so P Q None f h = tt
+if-so P Q (Some x) f h = f x h
 
-  module _ (program : Program) (n : ℕ) (now : List Told) (is : e.walker.program ≡ program) (crew : e.walker.workers ≡ n)
-      (told : map told_by e.told.items ≡ now) where
+-- of each number of workers of which it is so what was found
+module _ (e : Explorer) (looked : ℕ) (between : IsBetween e looked) (n : ℕ) (of : IsOf e n) where
+  rightly : TellsRightly (program_of e) n (search_of e.store looked) (map told_by e.told.items)
+  rightly =
+      let search = search_of e.store looked in
+      let told = map told_by e.told.items in
+      elim of [
+        | inl same ↦
+            subst (λ (m : ℕ). TellsRightly (program_of e) m search told) (sym same)
+            (searches_tell_rightly (program_of e) (workers_of e) search told between.looking.search between.looking.tells)
+        | inr more ↦
+            more_do_no_more (program_of e) (workers_of e) n search told more.least more.most between.looking.search (between.idle more.idle)
+            between.looking.tells
+      ]
+
+  module _ (program : Program) (now : List Told) (is : e.walker.program ≡ program) (told : map told_by e.told.items ≡ now) where
     pub sound-of : Sound (label program) n now
     sound-of =
-        subst (Sound (label program) n) told
-        (subst (λ (k : ℕ). Sound (label program) k (map told_by e.told.items)) crew
-        (subst (λ (p : Program). Sound (label p) (workers_of e) (map told_by e.told.items)) is rightly.sound))
+        subst (Sound (label program) n) told (subst (λ (p : Program). Sound (label p) n (map told_by e.told.items)) is rightly.sound)
 
     pub first-of : First (label program) n now
     first-of =
-        subst (First (label program) n) told
-        (subst (λ (k : ℕ). First (label program) k (map told_by e.told.items)) crew
-        (subst (λ (p : Program). First (label p) (workers_of e) (map told_by e.told.items)) is rightly.first))
+        subst (First (label program) n) told (subst (λ (p : Program). First (label p) n (map told_by e.told.items)) is rightly.first)
 
     pub whole-of : length e.store ≤ looked → Whole (label program) n now
     whole-of all =
-        subst (Whole (label program) n) told
-        (subst (λ (k : ℕ). Whole (label program) k (map told_by e.told.items)) crew
-        (subst (λ (p : Program). Whole (label p) (workers_of e) (map told_by e.told.items)) is (rightly.whole all)))
+        subst (Whole (label program) n) told (subst (λ (p : Program). Whole (label p) n (map told_by e.told.items)) is (rightly.whole all))
 
-    pub endless-of : {A : Type 0} (f : A → List Choice) (t o : Option A) → t ≡ o → IfSome o (λ x. NeverEnds (program_of e) (workers_of e) (f x))
-        → IfSome (option_map f t) (NeverEnds (label program) n)
-    endless-of f t o same never =
-        mapped f (NeverEnds (label program) n) t o same
-        (subst (λ (k : ℕ). IfSome o (λ x. NeverEnds (label program) k (f x))) crew
-        (subst (λ (p : Program). IfSome o (λ x. NeverEnds (label p) (workers_of e) (f x))) is never))
+-- so of what is said of the end for each of them
+module _ (e : Explorer) (n : ℕ) (of : IsOf e n) (program : Program) (is : e.walker.program ≡ program) where
+  pub endless-of : {A : Type 0} (f : A → List Choice) (t o : Option A) → t ≡ o
+      → IfSome o (λ x. (m : ℕ) → IsOf e m → NeverEnds (program_of e) m (f x)) → IfSome (option_map f t) (NeverEnds (label program) n)
+  endless-of {A = A} f t o same never =
+      mapped f (NeverEnds (label program) n) t o same
+      (if-so (λ (x : A). (m : ℕ) → IsOf e m → NeverEnds (program_of e) m (f x)) (λ (x : A). NeverEnds (label program) n (f x)) o
+      (λ x h. subst (λ (p : Program). NeverEnds (label p) n (f x)) is (h n of)) never)
 
-    pub ending-of : EachCanEnd (program_of e) (workers_of e) → EachCanEnd (label program) n
-    ending-of can =
-        subst (λ (k : ℕ). EachCanEnd (label program) k) crew (subst (λ (p : Program). EachCanEnd (label p) (workers_of e)) is can)
+  pub ending-of : ((m : ℕ) → IsOf e m → EachCanEnd (program_of e) m) → EachCanEnd (label program) n
+  ending-of can = subst (λ (p : Program). EachCanEnd (label p) n) is (can n of)
 
 pub once-of : (e : Explorer) (looked : ℕ) → IsBetween e looked → (now : List Told) → map told_by e.told.items ≡ now → Once now
 once-of e looked between now told = subst Once told between.looking.tells.once

@@ -1,5 +1,6 @@
 -- What is always true of a search between two logs, and while it looks at one; and what an exploration tells of a program.
-use Rattle.std.specs.Prelude.{◌≡◌, ◌≤◌, ◌+◌, ℕ, true, false, List, [], ◌∷◌, ◌++◌, length, map, Option, Some, None, IfSome, slice_get, option_map}
+use Rattle.std.specs.Prelude.{◌≡◌, ◌<◌, ◌≤◌, ◌+◌, ◌⊎◌, ℕ, true, false, List, [], ◌∷◌, ◌++◌, length, map, Option, Some, None, IfSome, slice_get}
+use Rattle.std.specs.Prelude.{option_map}
 use Rattle.cilk_machine.specs.syntax.Tree.{Program}
 use Rattle.cilk_machine.specs.labelled.Labelled.{Labelled}
 use Rattle.cilk_machine.specs.labelled.Bodies.{label}
@@ -7,12 +8,13 @@ use Rattle.cilk_machine.specs.model.Choice.{Choice}
 use Rattle.cilk_machine.specs.model.Run.{Position, after}
 use Rattle.cilk_machine.specs.choices.Words.{choice_of}
 use Rattle.cilk_explore_search.specs.explore.Endless.{CanEnd}
+use Rattle.cilk_explore_search.specs.explore.OrMore.{HasIdle, EachHasIdle}
 use Rattle.cilk_explore_search.specs.explore.Search.{Known, Once, Sound, Whole, First}
 use Rattle.cilk_explore.specs.declared.exploration.Exploration.{Exploration}
 use Rattle.cilk_explore.specs.declared.explorer.Explorer.{Explorer}
 use Rattle.cilk_explore.specs.Walks.{position_of}
 use Rattle.cilk_explore.specs.Telling.{told_by}
-use Rattle.cilk_explore_search.specs.Looking.{IsLooking, Extends}
+use Rattle.cilk_explore_search.specs.Looking.{search_of, IsLooking, Extends}
 use Rattle.cilk_explore_search.specs.Linking.{IsLink, AreLinked}
 
 -- the program, and how many workers there are
@@ -32,6 +34,7 @@ pub record IsBetween (e : Explorer) (looked : ℕ) : Type 0 where
   pub paired : IsPaired e
   pub looking : IsLooking (program_of e) (workers_of e) e.store looked (map told_by e.told.items)
   pub room : length e.store ≤ e.limit
+  pub idle : e.idle ≡ true → EachHasIdle (program_of e) (workers_of e) (search_of e.store looked)
 
 -- the logs that it has looked at have their links, and no other has any
 pub record HasLinks (e : Explorer) (looked : ℕ) : Type 0 where
@@ -44,6 +47,20 @@ pub record IsThrough (e : Explorer) : Type 0 where
   pub between : IsBetween e looked
   pub links : HasLinks e looked
   pub all : length e.store ≤ looked
+
+-- there may be more workers, where one was idle wherever it has looked
+pub record IsOfMore (e : Explorer) (n : ℕ) : Type 0 where
+  pub idle : e.idle ≡ true
+  pub least : workers_of e ≤ n
+  pub most : n ≤ 64
+
+-- what it has found is so of as many workers as it has, and of more, where there may be
+abbrev pub IsOf : Explorer → ℕ → Type 0
+IsOf e n = (n ≡ workers_of e) ⊎ IsOfMore e n
+
+-- some worker is idle where it stands, if it says so
+abbrev pub SaysIdle : Explorer → Type 0
+SaysIdle e = e.idle ≡ true → (at : Position) → position_of e.walker ≡ Some at → HasIdle at.standing
 
 -- each log that was found leads somewhere, by no more choices than this
 pub record AreFound (program : Labelled) (n most : ℕ) (logs : List (List Choice)) : Type 0 where
@@ -86,6 +103,7 @@ pub record KeepsBut (depth : ℕ) (e f : Explorer) : Type 0 where
   pub workers : f.probe.workers ≡ e.probe.workers
   pub told : f.told ≡ e.told
   pub limit : f.limit ≡ e.limit
+  pub idle : f.idle ≡ e.idle
   pub extends : Extends (program_of e) (workers_of e) depth e.store f.store
   pub room : length f.store ≤ f.limit
 
@@ -117,6 +135,21 @@ EachCanEnd program n = (choices : List Choice) (at : Position) → after program
 abbrev pub endless_of : Exploration → Option (List Choice)
 endless_of e = option_map (λ log. map choice_of log.items) e.endless
 
+-- all that is told is so of n workers: each ending has a log of possible choices, and none in fewer, and these are all; and a log behind which the program
+-- never ends is told, unless there is none
+pub record IsWholeOf (program : Labelled) (n : ℕ) (e : Exploration) : Type 0 where
+  pub sound : Sound program n (map told_by e.told.items)
+  pub first : First program n (map told_by e.told.items)
+  pub whole : Whole program n (map told_by e.told.items)
+  pub endless : IfSome (endless_of e) (NeverEnds program n)
+  pub none : e.endless ≡ None → EachCanEnd program n
+
+-- it is whole, there may be more than n workers, and it is so of each larger number too
+pub record IsOrMore (program : Labelled) (n : ℕ) (e : Exploration) : Type 0 where
+  pub whole : e.whole ≡ true
+  pub fewer : n < 64
+  pub each : (m : ℕ) → n ≤ m → m ≤ 64 → IsWholeOf program m e
+
 -- each ending that is told has a log of possible choices, and none in fewer choices, and is told once; where it is whole, these are all; and where it
 -- is not, the limit was met. A log behind which the program never ends is told where it is whole, unless there is none, and not else
 pub record IsExploration (program : Program) (n limit : ℕ) (e : Exploration) : Type 0 where
@@ -129,3 +162,4 @@ pub record IsExploration (program : Program) (n limit : ℕ) (e : Exploration) :
   pub none : e.whole ≡ true → e.endless ≡ None → EachCanEnd (label program) n
   pub within : e.standings ≤ limit
   pub met : e.whole ≡ false → limit ≤ e.standings
+  pub more : e.or_more ≡ true → IsOrMore (label program) n e

@@ -7,7 +7,8 @@ use crate::store::Store;
 use crate::walker::Walker;
 use cilk_machine::{Choice, Memory};
 
-/// The number of a log that leads to the same as where the walker stands, if one was found. Those of its digest are compared, by the probe.
+/// The number of a log that leads to the same as where the walker stands, but for the names of the workers, if one was found. Those of its digest are
+/// compared, by the probe.
 pub(crate) fn known(
     digest: u64,
     walker: &Walker,
@@ -52,7 +53,7 @@ fn leads_to_same(
         Err(memory) => Err(memory),
         Ok(()) => match probe.go_to(log.as_slice()) {
             Err(memory) => Err(memory),
-            Ok(()) => Ok(probe.is_same(walker)),
+            Ok(()) => Ok(probe.is_same_but_names(walker)),
         },
     }
 }

@@ -11,6 +11,8 @@ pub struct Exploration {
     pub whole: bool,
     /// A log behind which the program never ends, whatever choices follow, if all was looked at and there is one.
     pub endless: Option<Vec<Choice>>,
+    /// Whether all this is so of each larger number of workers too, up to 64, if all was looked at and that was found.
+    pub or_more: bool,
     /// How many logs were found, each of which leads to another standing, where no number was taken twice for want of room.
     pub standings: u32,
 }

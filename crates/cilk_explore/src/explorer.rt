@@ -23,4 +23,6 @@ pub(crate) struct Explorer {
     pub told: Vec<Told>,
     /// How many logs are kept at most.
     pub limit: usize,
+    /// Whether some worker had nothing in its hand and its deque wherever it has looked.
+    pub idle: bool,
 }

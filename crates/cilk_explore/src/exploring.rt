@@ -14,8 +14,8 @@ use cilk_machine::{Choice, Loaded, MachineFault, Memory};
 use std::alloc::Global;
 
 /// Tells each ending that the program has with so many workers, in the order in which they are found, each with a schedule than which none is
-/// shorter; and, where all was looked at, a schedule behind which it never ends. It keeps no more than `limit` standings, which is at least 1; where that
-/// is met, not all may have been looked at.
+/// shorter; and, where all was looked at, a schedule behind which it never ends, and whether all this is so of more workers too. It keeps no more than
+/// `limit` standings, which is at least 1; where that is met, not all may have been looked at.
 pub fn explore(
     alloc: Global,
     program: &Loaded,
@@ -42,6 +42,7 @@ fn explored(alloc: Global, program: &Loaded, workers: u8, limit: u32) -> Result<
             told: Vec::new(alloc),
             whole: false,
             endless: None,
+            or_more: false,
             standings: 0,
         });
     }
@@ -57,7 +58,7 @@ fn explored(alloc: Global, program: &Loaded, workers: u8, limit: u32) -> Result<
                     drop(explorer);
                     Err(memory)
                 }
-                Ok(endless) => Ok(told_of(explorer, whole, endless)),
+                Ok(endless) => Ok(told_of(explorer, workers, whole, endless)),
             },
         },
     }
@@ -102,6 +103,7 @@ fn begun(alloc: Global, program: &Loaded, workers: u8, limit: u32) -> Result<Exp
         log: Vec::new(alloc),
         told: Vec::new(alloc),
         limit: limit as usize,
+        idle: true,
     })
 }
 
@@ -128,14 +130,23 @@ fn look_at_all(explorer: &mut Explorer, workers: u8) -> Result<bool, Memory>
     Ok(true)
 }
 
-fn told_of(explorer: Explorer, whole: bool, endless: Option<Vec<Choice>>) -> Exploration
+fn told_of(
+    explorer: Explorer,
+    workers: u8,
+    whole: bool,
+    endless: Option<Vec<Choice>>,
+) -> Exploration
     requires { length explorer.store < 2 ^ 32 }
     ensures told { result.told ≡ explorer.told }
     ensures whole { result.whole ≡ whole }
     ensures endless { result.endless ≡ endless }
     ensures standings { result.standings ≡ length explorer.store }
+    ensures no_less { result.or_more ≡ true → whole ≡ true }
+    ensures idle { result.or_more ≡ true → explorer.idle ≡ true }
+    ensures fewer { result.or_more ≡ true → workers < 64 }
 {
     let standings = explorer.store.len() as u32;
+    let or_more = whole && explorer.idle && workers < 64;
     let Explorer {
         alloc: _,
         walker: _walker,
@@ -145,11 +156,13 @@ fn told_of(explorer: Explorer, whole: bool, endless: Option<Vec<Choice>>) -> Exp
         log: _log,
         told,
         limit: _,
+        idle: _,
     } = explorer;
     Exploration {
         told,
         whole,
         endless,
+        or_more,
         standings,
     }
 }

@@ -3,13 +3,17 @@
 ghost use Rattle.std.specs.Prelude.{ℕ, ◌≡◌, ◌≢◌, ◌<◌, ◌≤◌, ◌+◌, ◌++◌, ◌∷◌, [], true, false, length, Ok, Some, None, OnOk, IfOk, IfSome};
 ghost use Rattle.cilk_machine.specs.labelled.Bodies.{label};
 ghost use Rattle.cilk_machine.specs.model.Choice as choices;
+ghost use Rattle.cilk_machine.specs.model.Run.{Position};
 ghost use Rattle.cilk_machine.specs.choices.Words.{choice_of};
+ghost use Rattle.cilk_explore_search.specs.explore.OrMore.{IsIdle};
 ghost use Rattle.cilk_explore_search.specs.Linking.{IsLinked, AreLinkedBy};
-ghost use Rattle.cilk_explore.specs.Exploring.{IsAt, IsBehind, IsBetween, HasLinks, IsKnownBy, Grows, Gathers, GoesOn, KeepsAs};
+ghost use Rattle.cilk_explore.specs.Walks.{position_of};
+ghost use Rattle.cilk_explore.specs.Exploring.{IsAt, IsBehind, IsBetween, HasLinks, IsKnownBy, Grows, Gathers, GoesOn, KeepsAs, SaysIdle};
 
 use crate::comparing::known;
 use crate::explorer::Explorer;
 use crate::telling::tell;
+use crate::walker::Walker;
 use cilk_machine::{Act, Choice, Memory};
 
 /// Looks at the log of this number. False where more is behind it than there is room for.
@@ -50,7 +54,7 @@ fn close(explorer: &mut Explorer) -> Result<bool, Memory>
     }
 }
 
-// Goes to where the log leads.
+// Goes to where the log leads, and puts down whether a worker is idle there.
 fn go_there(explorer: &mut Explorer, number: usize) -> Result<(), Memory>
     requires between { IsBetween explorer.old number }
     requires links { HasLinks explorer.old number }
@@ -58,15 +62,31 @@ fn go_there(explorer: &mut Explorer, number: usize) -> Result<(), Memory>
     ensures at { OnOk result (IsAt explorer.new number) }
     ensures between { OnOk result (IsBetween explorer.new number) }
     ensures links { OnOk result (HasLinks explorer.new number) }
+    ensures idle { OnOk result (SaysIdle explorer.new) }
     ensures goes { OnOk result (GoesOn explorer.old explorer.new) }
 {
     match explorer.store.read(number, &mut explorer.log) {
         Err(memory) => Err(memory),
-        Ok(()) => explorer.walker.go_to(explorer.log.as_slice()),
+        Ok(()) => match explorer.walker.go_to(explorer.log.as_slice()) {
+            Err(memory) => Err(memory),
+            Ok(()) => {
+                note_idle(explorer);
+                Ok(())
+            }
+        },
     }
 }
 
-// Tries each choice behind the log.
+// Puts down whether a worker is idle here, as one was wherever it has looked before.
+fn note_idle(explorer: &mut Explorer)
+    ensures rest { explorer.new ≡ record explorer.old { idle = explorer.new.idle } }
+    ensures before { explorer.new.idle ≡ true → explorer.old.idle ≡ true }
+    ensures here { SaysIdle explorer.new }
+{
+    explorer.idle = explorer.idle && explorer.walker.has_idle();
+}
+
+// Tries each choice behind the log. Of workers that are idle the first alone tries its own: those of another lead to the same but for names.
 fn try_all(explorer: &mut Explorer, number: usize, workers: u8) -> Result<bool, Memory>
     requires at { IsAt explorer.old number }
     requires crew { workers ≡ explorer.old.walker.workers }
@@ -76,7 +96,11 @@ fn try_all(explorer: &mut Explorer, number: usize, workers: u8) -> Result<bool, 
         → IsLinked (label explorer.old.walker.program) explorer.old.walker.workers explorer.new.store explorer.new.links.here explorer.old.walker.log choice }
     ensures full { result ≡ Ok false → explorer.new.limit ≤ length explorer.new.store }
 {
+    let first = first_idle(&explorer.walker, workers);
     for k in 0..workers {
+        if does_as_first(&explorer.walker, first, k + 1) {
+            continue;
+        }
         match try_by(explorer, number, k + 1, workers) {
             Err(memory) => return Err(memory),
             Ok(false) => return Ok(false),
@@ -84,6 +108,30 @@ fn try_all(explorer: &mut Explorer, number: usize, workers: u8) -> Result<bool, 
         }
     }
     Ok(true)
+}
+
+// The first worker that is idle.
+fn first_idle(walker: &Walker, workers: u8) -> Option<u8>
+    ensures from_one { IfSome result (λ one. 1 ≤ one) }
+    ensures idle { IfSome result (λ one. (at : Position) → position_of walker.now ≡ Some at → IsIdle at.standing one) }
+{
+    for k in 0..workers {
+        if walker.is_idle(k + 1) {
+            return Some(k + 1);
+        }
+    }
+    None
+}
+
+// Whether a worker is idle, and is behind the first that is.
+fn does_as_first(walker: &Walker, first: Option<u8>, worker: u8) -> bool
+    ensures behind { result ≡ true → (one : ℕ) × (first ≡ Some one) × (one < worker) }
+    ensures idle { result ≡ true → (at : Position) → position_of walker.now ≡ Some at → IsIdle at.standing worker }
+{
+    match first {
+        None => false,
+        Some(one) => one < worker && walker.is_idle(worker),
+    }
 }
 
 // Tries each choice of a worker.

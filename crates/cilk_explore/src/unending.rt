@@ -1,9 +1,9 @@
 //! A log behind which the program never ends, where all was looked at.
 
-ghost use Rattle.std.specs.Prelude.{◌≡◌, true, false, map, None, IfOk, IfSome, IfNone};
+ghost use Rattle.std.specs.Prelude.{◌≡◌, ℕ, true, false, map, None, IfOk, IfSome, IfNone};
 ghost use Rattle.cilk_machine.specs.choices.Words.{choice_of};
 ghost use Rattle.cilk_explore_search.specs.Marking.{AreMarks};
-ghost use Rattle.cilk_explore.specs.Exploring.{program_of, workers_of, IsThrough, NeverEnds, EachCanEnd};
+ghost use Rattle.cilk_explore.specs.Exploring.{program_of, IsThrough, IsOf, NeverEnds, EachCanEnd};
 
 use crate::explorer::Explorer;
 use crate::marking::{first_unmarked, marks_of};
@@ -12,8 +12,9 @@ use cilk_machine::{Choice, Memory};
 /// The first such log, if there is one.
 pub(crate) fn endless_log(explorer: &Explorer, whole: bool) -> Result<Option<Vec<Choice>>, Memory>
     requires { whole ≡ true → IsThrough explorer.now }
-    ensures never { IfOk result (λ found. IfSome found (λ log. NeverEnds (program_of explorer.now) (workers_of explorer.now) (map choice_of log.items))) }
-    ensures none { whole ≡ true → IfOk result (λ found. IfNone found (EachCanEnd (program_of explorer.now) (workers_of explorer.now))) }
+    ensures never { IfOk result (λ found. IfSome found (λ log. (n : ℕ) → IsOf explorer.now n
+        → NeverEnds (program_of explorer.now) n (map choice_of log.items))) }
+    ensures none { whole ≡ true → IfOk result (λ found. IfNone found ((n : ℕ) → IsOf explorer.now n → EachCanEnd (program_of explorer.now) n)) }
     ensures only { whole ≡ false → IfOk result (λ found. found ≡ None) }
 {
     if !whole {
@@ -29,8 +30,9 @@ pub(crate) fn endless_log(explorer: &Explorer, whole: bool) -> Result<Option<Vec
 fn first_endless(explorer: &Explorer, marks: &[bool]) -> Result<Option<Vec<Choice>>, Memory>
     requires through { IsThrough explorer.now }
     requires marks { AreMarks explorer.now.links.past marks.now }
-    ensures never { IfOk result (λ found. IfSome found (λ log. NeverEnds (program_of explorer.now) (workers_of explorer.now) (map choice_of log.items))) }
-    ensures none { IfOk result (λ found. IfNone found (EachCanEnd (program_of explorer.now) (workers_of explorer.now))) }
+    ensures never { IfOk result (λ found. IfSome found (λ log. (n : ℕ) → IsOf explorer.now n
+        → NeverEnds (program_of explorer.now) n (map choice_of log.items))) }
+    ensures none { IfOk result (λ found. IfNone found ((n : ℕ) → IsOf explorer.now n → EachCanEnd (program_of explorer.now) n)) }
 {
     match first_unmarked(marks) {
         None => Ok(None),

@@ -6,7 +6,8 @@ ghost use Rattle.cilk_machine.specs.labelled.Bodies.{label};
 ghost use Rattle.cilk_machine.specs.model.Run.{Position, after};
 ghost use Rattle.cilk_machine.specs.choices.Words.{choice_of, end_of};
 ghost use Rattle.cilk_explore_search.specs.explore.Ending.{is_last, IsOver};
-ghost use Rattle.cilk_explore_search.specs.explore.Same.{Same};
+ghost use Rattle.cilk_explore_search.specs.explore.Names.{SameButNames};
+ghost use Rattle.cilk_explore_search.specs.explore.OrMore.{IsIdle, HasIdle};
 ghost use Rattle.cilk_explore.specs.Walks.{position_of};
 ghost use Rattle.cilk_explore.specs.Telling.{EndsBy};
 
@@ -172,15 +173,30 @@ impl Walker {
         Ok(())
     }
 
-    /// Whether both stand at the same, as far as what follows can depend on it. The other is of the same program.
-    pub fn is_same(&self, other: &Walker) -> bool
+    /// Whether both stand at the same, as far as what follows can depend on it, but for the names of the workers. The other is of the same program.
+    pub fn is_same_but_names(&self, other: &Walker) -> bool
         requires { other.now.program ≡ self.now.program }
-        ensures { result ≡ true → (a b : Position) → position_of self.now ≡ Some a → position_of other.now ≡ Some b → Same a.standing b.standing }
+        ensures { result ≡ true → (a b : Position) → position_of self.now ≡ Some a → position_of other.now ≡ Some b
+            → SameButNames a.standing b.standing }
     {
-        self.machine.is_same(&other.machine)
+        self.machine.is_same_but_names(&other.machine)
     }
 
-    /// A number that is the same where both stand at the same. It promises nothing.
+    /// Whether some worker has nothing in its hand and its deque.
+    pub fn has_idle(&self) -> bool
+        ensures { result ≡ true → (at : Position) → position_of self.now ≡ Some at → HasIdle at.standing }
+    {
+        self.machine.has_idle()
+    }
+
+    /// Whether that worker has nothing in its hand and its deque.
+    pub fn is_idle(&self, worker: u8) -> bool
+        ensures { result ≡ true → (at : Position) → position_of self.now ≡ Some at → IsIdle at.standing worker }
+    {
+        self.machine.is_idle(worker)
+    }
+
+    /// A number that is the same where both stand at the same, but for the names of the workers. It promises nothing.
     pub fn digest(&self) -> u64 {
         self.machine.digest()
     }

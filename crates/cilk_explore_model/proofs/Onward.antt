@@ -48,17 +48,6 @@ pub free_by : {A : Type 0} (o : Option Refusal) (x : Option A) (y : A) → (if i
 free_by None x y h = refl
 free_by (Some why) x y h = cc
 
--- each instance stays in its place
-pub behind_from : (program : Labelled) (a : Standing) (events : List Event) (more : List Choice) (at : Position) → EachInItsPlace a
-    → after_from program a events more ≡ Some at → EachInItsPlace at.standing
-behind_from program a events [] at placed h =
-    let e : record { standing = a; events = events } ≡ at = cc in
-    subst (λ (q : Position). EachInItsPlace q.standing) e placed
-behind_from program a events (c ∷ more) at placed h =
-    let free = free_by (refusal_of program a c) _ at h in
-    behind_from program (next_of program a c) (events ++ event_of program a c ∷ []) more at (places_are_kept.by_choice program a c free placed)
-    (sym (made program a events c more free) ∙ h)
-
 -- where further choices lead from what is the same
 pub record Follows (program : Labelled) (b : Standing) (events : List Event) (more : List Choice) (at : Position) : Type 0 where
   pub to : Position

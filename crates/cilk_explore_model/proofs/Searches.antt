@@ -11,9 +11,11 @@ use Rattle.cilk_laws_model.specs.Hands.{EachInItsPlace}
 use Rattle.cilk_laws_model.proofs.Kept.{places_are_kept}
 use Rattle.cilk_laws_model.proofs.model_laws.Runs.{after-push}
 use Rattle.cilk_explore_model.specs.Ending.{Ending}
-use Rattle.cilk_explore_model.specs.Search.{Known, Search, IsSearch, Told, LeadsTo, Tells, First, Whole}
-use Rattle.cilk_explore_model.specs.Laws.{EachIsKnown, SearchesTellRightly}
-use Rattle.cilk_explore_model.proofs.Standings.{same_again, same_both, sameness_is_kept, the_same_end_alike}
+use Rattle.cilk_explore_model.specs.Names.{SameButNames}
+use Rattle.cilk_explore_model.specs.Search.{KnownBy, Search, IsSearchBy, Told, LeadsTo, Tells, First, Whole}
+use Rattle.cilk_explore_model.specs.Laws.{TakenForOne, EachIsKnown, EachIsKnownBy, SearchesTellRightly, SearchesTellRightlyBy}
+use Rattle.cilk_explore_model.proofs.Taken.{over_alike, end_alike}
+use Rattle.cilk_explore_model.proofs.ButNames.{names_kept}
 use Rattle.cilk_explore_model.proofs.Onward.{then_after, after-append, made, free_by}
 
 -- an element in front of one that is there
@@ -30,11 +32,12 @@ one_size told j k x y here there same =
     let one : x ≡ y = cc in
     ap (λ (z : Told). length z.log) one
 
-module _ (program : Labelled) (n : ℕ) (search : Search) (is : IsSearch program n search) where
+module _ (alike : Standing → Standing → Type 0) (program : Labelled) (kept : TakenForOne alike program) (n : ℕ) (search : Search)
+    (is : IsSearchBy alike program n search) where
   abbrev logs : List (List Choice)
   logs = search.logs
 
-  weaker : (at : Standing) (most more : ℕ) → most ≤ more → Known program n logs at most → Known program n logs at more
+  weaker : (at : Standing) (most more : ℕ) → most ≤ more → KnownBy alike program n logs at most → KnownBy alike program n logs at more
   weaker at most more le k =
       let short = k.short in
       record { number = k.number; log = k.log; found = k.found; short = omega arith; to = k.to; leads = k.leads; same = k.same }
@@ -52,16 +55,18 @@ module _ (program : Labelled) (n : ℕ) (search : Search) (is : IsSearch program
   ]
 
   -- one choice behind what is known
-  one_on : (mid : Standing) (depth : ℕ) (c : Choice) → EachInItsPlace mid → refusal_of program mid c ≡ None → (k : Known program n logs mid depth)
-      → k.number < search.looked → Known program n logs (next_of program mid c) (depth + 1)
+  one_on : (mid : Standing) (depth : ℕ) (c : Choice) → EachInItsPlace mid → refusal_of program mid c ≡ None → (k : KnownBy alike program n logs mid depth)
+      → k.number < search.looked → KnownBy alike program n logs (next_of program mid c) (depth + 1)
   one_on mid depth c placed free k below =
-      let alike = sameness_is_kept program k.to.standing mid (places_are_kept.always program n k.log k.to k.leads) placed k.same c in
-      let led : after program n (k.log ++ c ∷ []) ≡ Some (position_after program k.to c) =
-      after-push program n k.log c ∙ ap (one_more program c) k.leads
-      ∙ ap (λ (o : Option Refusal). if is_none o then Some (position_after program k.to c) else None) (alike.refusal ∙ free) in
-      let next = is.closed k.number k.log c (position_after program k.to c) below k.found led in
+      let back = kept.turned k.to.standing mid k.same in
+      let does = kept.onward mid k.to.standing placed (places_are_kept.always program n k.log k.to k.leads) back c free in
+      let led : after program n (k.log ++ does.other ∷ []) ≡ Some (position_after program k.to does.other) =
+      after-push program n k.log does.other ∙ ap (one_more program does.other) k.leads
+      ∙ ap (λ (o : Option Refusal). if is_none o then Some (position_after program k.to does.other) else None) does.free in
+      let next = is.closed k.number k.log does.other (position_after program k.to does.other) below k.found led in
       let short = k.short in
       let size = next.short in
+      let there = next_of program k.to.standing does.other in
       record {
         number = next.number;
         log = next.log;
@@ -69,16 +74,16 @@ module _ (program : Labelled) (n : ℕ) (search : Search) (is : IsSearch program
         short = omega arith;
         to = next.to;
         leads = next.leads;
-        same = same_both next.to.standing (next_of program k.to.standing c) (next_of program mid c) next.same alike.next;
+        same = kept.both next.to.standing there (next_of program mid c) next.same (kept.turned (next_of program mid c) there does.next);
       }
 
   onward : (rest : List Choice) (mid : Standing) (events : List Event) (depth : ℕ) (at : Position) → EachInItsPlace mid
-      → Known program n logs mid depth → after_from program mid events rest ≡ Some at
+      → KnownBy alike program n logs mid depth → after_from program mid events rest ≡ Some at
       → ((next : List Choice) → slice_get logs search.looked ≡ Some next → depth + length rest ≤ length next)
-      → Known program n logs at.standing (depth + length rest)
+      → KnownBy alike program n logs at.standing (depth + length rest)
   onward [] mid events depth at placed k h bound =
       let e : record { standing = mid; events = events } ≡ at = cc in
-      subst (λ (q : Position). Known program n logs q.standing (depth + 0)) e (weaker mid depth (depth + 0) (omega arith) k)
+      subst (λ (q : Position). KnownBy alike program n logs q.standing (depth + 0)) e (weaker mid depth (depth + 0) (omega arith) k)
   onward (c ∷ rest) mid events depth at placed k h bound =
       let free = free_by (refusal_of program mid c) _ at h in
       let short = k.short in
@@ -88,19 +93,19 @@ module _ (program : Labelled) (n : ℕ) (search : Search) (is : IsSearch program
       (one_on mid depth c placed free k below) (sym (made program mid events c rest free) ∙ h)
       (λ next there. let far = bound next there in omega arith))
 
-  pub known : (choices : List Choice) (at : Position) → after program n choices ≡ Some at
+  pub known_by : (choices : List Choice) (at : Position) → after program n choices ≡ Some at
       → ((next : List Choice) → slice_get logs search.looked ≡ Some next → length choices ≤ length next)
-      → Known program n logs at.standing (length choices)
-  known choices at h bound =
+      → KnownBy alike program n logs at.standing (length choices)
+  known_by choices at h bound =
       let start = is.leads 0 [] is.first in
-      let first : Known program n logs start.0.standing 0 = record {
+      let first : KnownBy alike program n logs start.0.standing 0 = record {
         number = 0;
         log = [];
         found = is.first;
         short = omega arith;
         to = start.0;
         leads = start.1;
-        same = same_again start.0.standing;
+        same = kept.again start.0.standing;
       } in
       weaker at.standing (0 + length choices) (length choices) (omega arith)
       (onward choices start.0.standing start.0.events 0 at (places_are_kept.always program n [] start.0 start.1) first
@@ -108,7 +113,8 @@ module _ (program : Labelled) (n : ℕ) (search : Search) (is : IsSearch program
       (λ next there. let far = bound next there in omega arith))
 
   -- what is known of where choices lead to an ending
-  known_end : (choices : List Choice) (ending : Ending) → (l : LeadsTo program n choices ending) → (k : Known program n logs l.at.standing (length choices))
+  known_end : (choices : List Choice) (ending : Ending) → (l : LeadsTo program n choices ending)
+      → (k : KnownBy alike program n logs l.at.standing (length choices))
       → LeadsTo program n k.log ending
   known_end choices ending l k =
       let placed = places_are_kept.always program n k.log k.to k.leads in
@@ -116,8 +122,8 @@ module _ (program : Labelled) (n : ℕ) (search : Search) (is : IsSearch program
       record {
         at = k.to;
         leads = k.leads;
-        over = λ c free. l.over c (sym (sameness_is_kept program k.to.standing l.at.standing placed laid k.same c).refusal ∙ free);
-        ends = the_same_end_alike program k.to.standing l.at.standing placed laid k.same ∙ l.ends;
+        over = over_alike alike program kept k.to.standing l.at.standing placed laid k.same l.over;
+        ends = end_alike alike program kept k.to.standing l.at.standing placed laid k.same ∙ l.ends;
       }
 
   module _ (told : List Told) (tells : Tells program n search told) where
@@ -128,7 +134,7 @@ module _ (program : Labelled) (n : ℕ) (search : Search) (is : IsSearch program
         let here = tells.looked j entry there in
         let far : (next : List Choice) → slice_get logs search.looked ≡ Some next → length entry.log ≤ length next =
         λ next there. let lt = here.1 in is.in_order here.0 search.looked entry.log next (omega arith) here.2 there in
-        let k = known choices l.at l.leads (λ next there. let le = far next there in omega arith) in
+        let k = known_by choices l.at l.leads (λ next there. let le = far next there in omega arith) in
         let size = k.short in
         let below = looked_at (length entry.log) k.number k.log k.found (omega arith) far in
         let other = tells.each k.number k.log entry.ending below k.found (known_end choices entry.ending l k) in
@@ -145,19 +151,26 @@ module _ (program : Labelled) (n : ℕ) (search : Search) (is : IsSearch program
 
     whole : length logs ≤ search.looked → Whole program n told
     whole all choices ending l =
-        let k = known choices l.at l.leads (λ next there. let within = slice_get_within logs search.looked next there in absurd (omega arith)) in
+        let k = known_by choices l.at l.leads (λ next there. let within = slice_get_within logs search.looked next there in absurd (omega arith)) in
         let within = slice_get_within logs k.number k.log k.found in
         let one = tells.each k.number k.log ending (omega arith) k.found (known_end choices ending l k) in
         let size = k.short in
         let less = one.short in
         record { number = one.number; entry = one.entry; there = one.there; ends = one.ends; short = omega arith }
 
-pub each_is_known : EachIsKnown
-each_is_known program n search is choices at h bound = known program n search is choices at h bound
+module _ (alike : Standing → Standing → Type 0) (kept : (program : Labelled) → TakenForOne alike program) where
+  pub each_is_known_by : EachIsKnownBy alike
+  each_is_known_by program n search is choices at h bound = known_by alike program (kept program) n search is choices at h bound
+
+  pub searches_tell_rightly_by : SearchesTellRightlyBy alike
+  searches_tell_rightly_by program n search told is tells = record {
+    sound = λ j entry there. (tells.looked j entry there).3;
+    first = first alike program (kept program) n search is told tells;
+    whole = whole alike program (kept program) n search is told tells;
+  }
+
+pub known : EachIsKnown
+known = each_is_known_by SameButNames names_kept
 
 pub searches_tell_rightly : SearchesTellRightly
-searches_tell_rightly program n search told is tells = record {
-  sound = λ j entry there. (tells.looked j entry there).3;
-  first = first program n search is told tells;
-  whole = whole program n search is told tells;
-}
+searches_tell_rightly = searches_tell_rightly_by SameButNames names_kept

@@ -70,3 +70,14 @@ downwards = s 1 ∷ t 2 1 ∷ s 1 ∷ s 2 ∷ []
 
 abbrev pub sideways : List Choice
 sideways = s 1 ∷ t 2 1 ∷ s 2 ∷ s 1 ∷ []
+
+-- the places of workers 2 and 3 are exchanged
+abbrev pub exchange : List (ℕ × ℕ)
+exchange = (1, 2) ∷ []
+
+-- of three workers the second steals, or the third
+abbrev pub by_second : List Choice
+by_second = s 1 ∷ s 1 ∷ t 2 1 ∷ s 2 ∷ []
+
+abbrev pub by_third : List Choice
+by_third = s 1 ∷ s 1 ∷ t 3 1 ∷ s 3 ∷ []

@@ -4,17 +4,21 @@ use Rattle.cilk_laws_model.specs.labelled.Labelled.{Labelled}
 use Rattle.cilk_laws_model.specs.model.Choice.{Choice}
 use Rattle.cilk_laws_model.specs.model.Run.{Standing, Position, after}
 use Rattle.cilk_explore_model.specs.Ending.{Ending, ending_at, IsOver}
-use Rattle.cilk_explore_model.specs.Same.{Same}
+use Rattle.cilk_explore_model.specs.Names.{SameButNames}
 
--- a log that was found leads to the same, in at most so many choices
-pub record Known (program : Labelled) (n : ℕ) (logs : List (List Choice)) (at : Standing) (most : ℕ) : Type 0 where
+-- a log that was found leads to what is taken for that, in at most so many choices
+pub record KnownBy (alike : Standing → Standing → Type 0) (program : Labelled) (n : ℕ) (logs : List (List Choice)) (at : Standing) (most : ℕ) : Type 0 where
   pub number : ℕ
   pub log : List Choice
   pub found : slice_get logs number ≡ Some log
   pub short : length log ≤ most
   pub to : Position
   pub leads : after program n log ≡ Some to
-  pub same : Same to.standing at
+  pub same : alike to.standing at
+
+-- where what is the same but for names is taken for one
+abbrev pub Known : Labelled → ℕ → List (List Choice) → Standing → ℕ → Type 0
+Known = KnownBy SameButNames
 
 -- the logs that were found, in the order of their finding, and how many of them were looked at
 pub record Search : Type 0 where
@@ -22,13 +26,16 @@ pub record Search : Type 0 where
   pub looked : ℕ
 
 -- it starts where no choice was made, and each choice behind a log that was looked at leads to what is known
-pub record IsSearch (program : Labelled) (n : ℕ) (search : Search) : Type 0 where
+pub record IsSearchBy (alike : Standing → Standing → Type 0) (program : Labelled) (n : ℕ) (search : Search) : Type 0 where
   pub first : slice_get search.logs 0 ≡ Some []
   pub leads : (k : ℕ) (log : List Choice) → slice_get search.logs k ≡ Some log → (to : Position) × (after program n log ≡ Some to)
   pub in_order : (j k : ℕ) (short long : List Choice) → j ≤ k → slice_get search.logs j ≡ Some short → slice_get search.logs k ≡ Some long
       → length short ≤ length long
   pub closed : (k : ℕ) (log : List Choice) (choice : Choice) (at : Position) → k < search.looked → slice_get search.logs k ≡ Some log
-      → after program n (log ++ choice ∷ []) ≡ Some at → Known program n search.logs at.standing (length log + 1)
+      → after program n (log ++ choice ∷ []) ≡ Some at → KnownBy alike program n search.logs at.standing (length log + 1)
+
+abbrev pub IsSearch : Labelled → ℕ → Search → Type 0
+IsSearch = IsSearchBy SameButNames
 
 -- an ending, and a log that leads to it
 pub record Told : Type 0 where

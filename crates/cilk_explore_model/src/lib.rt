@@ -7,7 +7,11 @@ mod rows;
 
 pub use cilk_laws_model::{Global, GlobalShape, Item, ItemNode, Program, Word};
 pub use laws::{
-    each_standing_is_known, over_where_no_choice_is_possible, sameness_is_kept,
+    each_standing_is_known, idle_workers_do_alike, more_workers_do_no_more, names_do_not_matter,
+    over_where_no_choice_is_possible, sameness_but_names_is_kept, sameness_is_kept,
     searches_tell_rightly, the_endless_are_unmarked, the_same_end_alike, the_same_go_on_alike,
 };
-pub use rows::{rows_of_a_race_come_out, rows_of_locks_come_out, rows_of_sameness_come_out};
+pub use rows::{
+    rows_of_a_race_come_out, rows_of_locks_come_out, rows_of_names_come_out,
+    rows_of_sameness_come_out,
+};

@@ -1,10 +1,12 @@
 //! Worked programs. The functions do nothing: their contracts are rows, which come out by computing.
 
-ghost use Rattle.std.specs.Prelude.{◌≡◌, pos, [], ◌∷◌, Some};
+ghost use Rattle.std.specs.Prelude.{◌≡◌, pos, [], ◌∷◌, map, Some, option_map};
+ghost use Rattle.std.specs.List.Sorted.{apply_swaps};
 ghost use Rattle.cilk_explore_model.specs.model.Trees.{crossing};
 ghost use Rattle.cilk_explore_model.specs.model.End.{finished, stuck};
 ghost use Rattle.cilk_explore_model.specs.Rows.{ending_of, births_of, instances_of, places_of, racing, kept, first_is_lost, second_is_lost};
-ghost use Rattle.cilk_explore_model.specs.Rows.{crossed, crossed_by_three, branching, downwards, sideways};
+ghost use Rattle.cilk_explore_model.specs.Rows.{crossed, crossed_by_three, branching, downwards, sideways, exchange, by_second, by_third};
+ghost use Rattle.cilk_explore_model.specs.Names.{renamed_choice};
 
 /// Two children that read a sum and write it back: three endings, of twelve choices each.
 pub fn rows_of_a_race_come_out()
@@ -26,4 +28,12 @@ pub fn rows_of_sameness_come_out()
     ensures same { instances_of branching 2 downwards ([] ∷ (1 ∷ []) ∷ (2 ∷ []) ∷ (1 ∷ 1 ∷ []) ∷ (3 ∷ []) ∷ [])
         ≡ instances_of branching 2 sideways ([] ∷ (1 ∷ []) ∷ (2 ∷ []) ∷ (1 ∷ 1 ∷ []) ∷ (3 ∷ []) ∷ []) }
     ensures places { places_of branching 2 downwards ≡ places_of branching 2 sideways }
+{}
+
+/// Workers by other names choose by these names, and have what the others had; one more that is idle changes no ending.
+pub fn rows_of_names_come_out()
+    ensures choices { map (renamed_choice exchange) by_second ≡ by_third }
+    ensures places { places_of racing 3 by_third ≡ option_map (λ places. apply_swaps places exchange) (places_of racing 3 by_second) }
+    ensures renamed { ending_of racing 3 (map (renamed_choice exchange) first_is_lost) ≡ Some (record { end = finished (pos 20); output = [] }) }
+    ensures idle { ending_of racing 3 first_is_lost ≡ Some (record { end = finished (pos 20); output = [] }) }
 {}

@@ -4,61 +4,33 @@ use Rattle.std.proofs.Common.{None, is_none, refl, sym, ap, ◌∙◌}
 use Rattle.std.proofs.Common.{subst, arith, slice_get, if◌then◌else◌}
 use Rattle.std.proofs.lemmas.Option.{slice_get_within}
 use Rattle.cilk_explore_model.specs.labelled.Labelled.{Labelled}
-use Rattle.cilk_explore_model.specs.model.Event.{Event}
 use Rattle.cilk_explore_model.specs.model.Choice.{Choice, Refusal}
-use Rattle.cilk_explore_model.specs.model.Run.{Standing, Position, refusal_of, next_of, event_of, after_from, after, position_after, one_more}
+use Rattle.cilk_explore_model.specs.model.Run.{Standing, Position, refusal_of, next_of, event_of, after, position_after, one_more}
 use Rattle.cilk_explore_model.specs.runs.Hands.{EachInItsPlace}
 use Rattle.cilk_explore_model.proofs.runs_laws.Kept.{places_are_kept}
 use Rattle.cilk_explore_model.proofs.runs_laws.model_laws.Runs.{after-push}
 use Rattle.cilk_explore_model.specs.Ending.{IsOver}
-use Rattle.cilk_explore_model.specs.Same.{Same}
+use Rattle.cilk_explore_model.specs.Names.{SameButNames}
 use Rattle.cilk_explore_model.specs.Endless.{CanEnd, Unmarked}
-use Rattle.cilk_explore_model.proofs.Standings.{sameness_is_kept}
-use Rattle.cilk_explore_model.proofs.Onward.{made, follows, behind_from}
+use Rattle.cilk_explore_model.proofs.ButNames.{names_kept}
+use Rattle.cilk_explore_model.proofs.Onward.{made}
+use Rattle.cilk_explore_model.proofs.Unending.{can_end_by, can_end_alike}
 use Rattle.cilk_explore_search.specs.Marking.{Reaches, at_once, along, mark_of, AreMarks}
 use Rattle.cilk_explore_search.specs.Linking.{AreLinks, AreLinked, MarksAreByLinks}
 use Rattle.cilk_explore_search.proofs.Fronts.{some-there}
 use Rattle.cilk_explore_search.proofs.Turns.{made-to}
 
--- choices that end the program, with these events before them
-record Ends (program : Labelled) (at : Standing) (events : List Event) : Type 0 where
-  choices : List Choice
-  to : Position
-  leads : after_from program at events choices ≡ Some to
-  over : IsOver program to.standing
-
--- those of a standing are choices of each that is the same
-ends-same : (program : Labelled) (at other : Standing) (events : List Event) → EachInItsPlace at → EachInItsPlace other → Same at other
-    → CanEnd program at → Ends program other events
-ends-same program at other events placed laid same e =
-    let f = follows program e.choices at other [] events e.to placed laid same e.leads in
-    let here = behind_from program at [] e.choices e.to placed e.leads in
-    let there = behind_from program other events e.choices f.to laid f.leads in
-    record {
-      choices = e.choices;
-      to = f.to;
-      leads = f.leads;
-      over = λ c free. e.over c ((sameness_is_kept program e.to.standing f.to.standing here there f.same c).refusal ∙ free);
-    }
-
-pub can-end-alike : (program : Labelled) (at other : Standing) → EachInItsPlace at → EachInItsPlace other → Same at other → CanEnd program at
+pub can-end-alike : (program : Labelled) (at other : Standing) → EachInItsPlace at → EachInItsPlace other → SameButNames at other → CanEnd program at
     → CanEnd program other
-can-end-alike program at other placed laid same e =
-    let ends = ends-same program at other [] placed laid same e in
-    record { choices = ends.choices; to = ends.to; leads = ends.leads; over = ends.over }
+can-end-alike program at other placed laid same e = can_end_alike SameButNames program (names_kept program) at other placed laid same e
 
 -- where one choice leads to what can end, so can what it leads from
 can-end-by : (program : Labelled) (at to : Standing) (c : Choice) → EachInItsPlace at → refusal_of program at c ≡ None → EachInItsPlace to
-    → Same to (next_of program at c) → CanEnd program to → CanEnd program at
+    → SameButNames to (next_of program at c) → CanEnd program to → CanEnd program at
 can-end-by program at to c placed free laid same e =
-    let ends = ends-same program to (next_of program at c) ([] ++ event_of program at c ∷ []) laid
-    (places_are_kept.by_choice program at c free placed) same e in
-    record {
-      choices = c ∷ ends.choices;
-      to = ends.to;
-      leads = made program at [] c ends.choices free ∙ ends.leads;
-      over = ends.over;
-    }
+    let ends = can_end_by SameButNames program (names_kept program) e.choices to (next_of program at c) [] ([] ++ event_of program at c ∷ []) e.to laid
+    (places_are_kept.by_choice program at c free placed) same e.leads e.over in
+    record { choices = c ∷ ends.0; to = ends.1; leads = made program at [] c ends.0 free ∙ ends.2; over = ends.3 }
 
 module _ (program : Labelled) (n : ℕ) (logs : List (List Choice)) where
   -- behind a log without links no choice is possible
@@ -94,8 +66,8 @@ module _ (program : Labelled) (n : ℕ) (logs : List (List Choice)) where
         let j = link.known in
         let at_to : slice_get logs to ≡ Some j.log = sym (ap (slice_get logs) link.is) ∙ j.found in
         let later = reaching to more j.log j.to at_to j.leads in
-        let same : Same j.to.standing (next_of program at.standing link.choice) =
-        subst (λ (p : Position). Same j.to.standing p.standing) (sym step.1) j.same in
+        let same : SameButNames j.to.standing (next_of program at.standing link.choice) =
+        subst (λ (p : Position). SameButNames j.to.standing p.standing) (sym step.1) j.same in
         can-end-by program at.standing j.to.standing link.choice (places_are_kept.always program n log at here) step.0
         (places_are_kept.always program n j.log j.to j.leads) same later
 

@@ -4,7 +4,7 @@ ghost use Rattle.std.specs.Prelude.{ℕ, List};
 ghost use Rattle.cilk_explore_model.specs.labelled.Labelled.{Labelled};
 ghost use Rattle.cilk_explore_model.specs.model.Choice as choices;
 ghost use Rattle.cilk_explore_search.specs.Linking.{MarksAreByLinks};
-ghost use Rattle.cilk_explore_search.specs.Laws.{SearchBegins, SearchGoesOn, SearchIsHalted, OnlyWorkersChoose};
+ghost use Rattle.cilk_explore_search.specs.Laws.{SearchBegins, SearchGoesOn, SearchIsHalted, OnlyWorkersChoose, IdleAtEach, IdleAreLinkedAlike};
 
 /// A search that has found the log without choices alone is one, and has nothing to tell yet.
 pub fn a_search_begins()
@@ -29,4 +29,14 @@ pub fn only_workers_choose()
 /// Where all that was found was looked at, and each log has its links, marks by these tell behind which logs the program can end.
 pub fn marks_are_by_links()
     ensures { MarksAreByLinks }
+{}
+
+/// Where some worker is idle behind each log that was looked at, and behind the next, that is so when one log more was looked at.
+pub fn a_worker_is_idle_at_each()
+    ensures { (program : Labelled) (n : ℕ) (logs : List (List choices.Choice)) → IdleAtEach program n logs }
+{}
+
+/// Where the choices of one idle worker behind a log have their links those of each other idle one have them too.
+pub fn idle_workers_are_linked_alike()
+    ensures { IdleAreLinkedAlike }
 {}

@@ -1,5 +1,5 @@
 -- How many lines a `switch` has.
-use Rattle.std.proofs.Common.{◌≡◌, ℕ, ◌+◌, [], ◌∷◌, length, codes, arith, length-append}
+use Rattle.std.proofs.Common.{◌≡◌, ◌+◌, [], ◌∷◌, length, codes, arith, length-append}
 use Rattle.cilk_load_names.specs.syntax.Tree.{Expr, Block, switch}
 use Rattle.cilk_load_names.specs.syntax.StmtLines.{stmt_lines, block_lines, switch_lines}
 use Rattle.cilk_load_names.proofs.syntax_laws.SwitchLines.{switch_lines-length}

@@ -23,7 +23,6 @@ pub fn globals_of(alloc: Global, items: &[Item]) -> Result<Vec<Var>, NoRoom>
     }
 }
 
-#[tactic(auto, using(crate::proofs::Cells::variables))]
 fn put_globals(alloc: Global, vars: &mut Vec<Var>, items: &[Item]) -> Result<(), NoRoom>
     requires { vars.old.items ≡ [] }
     ensures { OnOk result (vars.new.items ≡ vars_from area.Global 0 (flat_map item_globals items.now)) }
@@ -84,7 +83,6 @@ fn global_slot(cells: u32, length: u32) -> Slot
 }
 
 /// The locks of the top level, each of which takes the place of a variable.
-#[tactic(auto, using(crate::proofs::Cells::variables))]
 pub fn locks_of(alloc: Global, items: &[Item]) -> Result<Vec<Var>, NoRoom>
     ensures { IfOk result (λ vars. vars.items ≡ vars_from area.Global 0 (map lock_variable (flat_map item_locks items.now))) }
 {

@@ -94,7 +94,6 @@ pub(crate) fn put_parameters(
 
 /// Appends what a block and its inner blocks declare.
 #[cycle(variables)]
-#[tactic(auto, using(crate::proofs::Cells::variables))]
 pub(crate) fn put_block_variables(
     alloc: Global,
     vars: &mut Vec<Var>,
@@ -108,7 +107,6 @@ pub(crate) fn put_block_variables(
     put_stmts(alloc, vars, cells, &block.stmts)
 }
 
-#[tactic(auto, using(crate::proofs::Cells::variables))]
 fn put_locals(
     alloc: Global,
     vars: &mut Vec<Var>,
@@ -148,7 +146,6 @@ fn length_of(shape: &Shape) -> u32
 }
 
 #[cycle(variables)]
-#[tactic(auto, using(crate::proofs::Cells::variables))]
 fn put_stmts(alloc: Global, vars: &mut Vec<Var>, cells: u32, stmts: &[Stmt]) -> Result<u32, NoRoom>
     ensures vars { OnOk result (vars.new.items ≡ vars.old.items ++ vars_from Own cells (stmts_variables (stmts_of stmts.now))) }
     ensures after { IfOk result (λ after. after ≡ cells + cells_of (stmts_variables (stmts_of stmts.now))) }
@@ -161,7 +158,6 @@ fn put_stmts(alloc: Global, vars: &mut Vec<Var>, cells: u32, stmts: &[Stmt]) -> 
 }
 
 #[cycle(variables)]
-#[tactic(auto, using(crate::proofs::Cells::variables))]
 fn put_stmt(alloc: Global, vars: &mut Vec<Var>, cells: u32, stmt: &Stmt) -> Result<u32, NoRoom>
     ensures vars { OnOk result (vars.new.items ≡ vars.old.items ++ vars_from Own cells (stmt_variables stmt.now)) }
     ensures after { IfOk result (λ after. after ≡ cells + cells_of (stmt_variables stmt.now)) }

@@ -1,5 +1,5 @@
 -- Two machines of one program whose parts tell the same.
-use Rattle.std.proofs.Common.{◌≡◌, ◌<◌, ◌+◌, ◌-◌, ℕ, zero, suc, List, [], ◌∷◌, length, map, Some, refl, sym, ap, ◌∙◌, subst, arith, slice_get, slice_index_or}
+use Rattle.std.proofs.Common.{◌≡◌, ◌<◌, ℕ, suc, List, [], ◌∷◌, length, map, Some, refl, sym, ap, ◌∙◌, subst, arith, slice_get, slice_index_or}
 use Rattle.cilk_machine_undo.specs.agree.scopes.WellFormed.{WellFormed}
 use Rattle.cilk_machine_undo.specs.syntax.Tree.{Program}
 use Rattle.cilk_machine_undo.specs.labelled.Bodies.{label}
@@ -8,12 +8,12 @@ use Rattle.cilk_machine_undo.specs.spawn.Nodes.{Node, path_at}
 use Rattle.cilk_machine_undo.specs.agree.Outside.{lock_by, outcome_by}
 use Rattle.cilk_machine_undo.specs.agree.Agrees.{Agrees, read_off}
 use Rattle.cilk_machine_undo.proofs.runs_laws.Kept.{places_are_kept}
-use Rattle.cilk_machine_choices.specs.model.Hands.{WorkerOf, no_place, hand_of, deque_of}
+use Rattle.cilk_machine_choices.specs.model.Hands.{WorkerOf, no_place}
 use Rattle.cilk_machine_choices.specs.model.Run.{Standing}
 use Rattle.cilk_machine_choices.specs.Words.{outcome_of}
-use Rattle.cilk_machine_same.specs.Alike.{SameTree, SameHeld, SameHand, SameDeque, SamePlaces, SameParts}
-use Rattle.cilk_machine_same.specs.explore.Same.{Same}
-use Rattle.cilk_machine_same.proofs.Standings.{stand_at_the_same}
+use Rattle.cilk_machine_same.specs.Alike.{SameTree, SameHeld, SameHand, SameDeque, SamePlaces, SamePlacesBut, SameParts}
+use Rattle.cilk_machine_same.specs.explore.Names.{SameButNames}
+use Rattle.cilk_machine_same.proofs.ByNames.{stand_so}
 use Rattle.cilk_machine.specs.Situation.{Situation, workers_of}
 use Rattle.cilk_machine.specs.Stands.{StandsAt}
 
@@ -51,32 +51,26 @@ module _ (ns ms : List Node) where
       let first = h 0 (omega arith) in
       (first.hand, first.deque, places_same xs ys (omega (arith, n)) (λ k lt. h (suc k) (omega (arith, lt))))
 
-  -- worker k + 1 has what stands at place k
-  pub worker_same : (xs ys : List (WorkerOf Frame)) (k w : ℕ) → w ≡ k + 1 → SameHand ns ms (hand_of xs w) (hand_of ys w)
-      → SameDeque ns ms (deque_of xs w) (deque_of ys w) → SameAt (slice_index_or xs k no_place) (slice_index_or ys k no_place)
-  worker_same xs ys k w is hand deque =
-      let same : w - 1 ≡ k = omega arith in
-      subst (λ i. SameAt (slice_index_or xs i no_place) (slice_index_or ys i no_place)) same (record { hand = hand; deque = deque })
-
 -- by its outcome the program's parts tell the outcome
 told_outcome : (m : Situation) (at : Standing) → StandsAt m at → outcome_by (path_at m.machine.nodes) m.machine.outside.outcome ≡ outcome_of m.outcome
 told_outcome m at s = sym s.led.agrees.outside.outcome ∙ sym s.led.outcome
 
-pub standings_same : (m n : Situation) → n.program ≡ m.program → WellFormed m.program → m.outcome ≡ n.outcome
+pub standings_same_but_names : (m n : Situation) → n.program ≡ m.program → WellFormed m.program → m.outcome ≡ n.outcome
     → m.machine.outside.cells ≡ n.machine.outside.cells → m.machine.outside.output ≡ n.machine.outside.output
     → map (lock_by (path_at m.machine.nodes)) m.machine.outside.locks ≡ map (lock_by (path_at n.machine.nodes)) n.machine.outside.locks
-    → SameTree m.machine.nodes n.machine.nodes → SamePlaces m.machine.nodes n.machine.nodes m.machine.places n.machine.places
-    → (a b : Standing) → StandsAt m a → StandsAt n b → Same a b
-standings_same m n program well outcome cells output locks tree places a b s t =
+    → SameTree m.machine.nodes n.machine.nodes → SamePlacesBut m.machine.nodes n.machine.nodes m.machine.places n.machine.places
+    → (a b : Standing) → StandsAt m a → StandsAt n b → SameButNames a b
+standings_same_but_names m n program well outcome cells output locks tree but a b s t =
     let here = s.led.agrees in
     let there = subst (λ (p : Program). Agrees p n.machine (read_off p n.machine b) b) program t.led.agrees in
     let placed = places_are_kept.always (label m.program) (workers_of m) s.choices (record { standing = a; events = s.events }) s.led.led in
-    let parts : SameParts m.machine n.machine = record {
+    let parts : SameParts (record m.machine { places = but.places }) n.machine = record {
       cells = cells;
       locks = locks;
       output = output;
       outcome = told_outcome m a s ∙ ap outcome_of outcome ∙ sym (told_outcome n b t);
       tree = tree;
-      places = places;
+      places = but.same;
     } in
-    stand_at_the_same m.program m.machine n.machine (read_off m.program m.machine a) (read_off m.program n.machine b) a b well here there placed parts
+    stand_so m.program m.machine n.machine (read_off m.program m.machine a) (read_off m.program n.machine b) a b well here there placed
+    (record { places = but.places; order = but.order; same = parts })

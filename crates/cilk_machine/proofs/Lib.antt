@@ -21,6 +21,8 @@ pub mod Back
 pub mod Again
 pub mod Unseen
 pub mod Compares
+pub mod Matches
+pub mod Nothing
 pub use Rattle.cilk_machine_undo.proofs.agree_laws
 pub use Rattle.cilk_machine_undo.proofs.frame_laws
 pub use Rattle.cilk_machine_undo.proofs.nodes_laws

@@ -1,11 +1,9 @@
-//! Whether the parts of two machines tell the same, where instances go by their paths.
+//! Whether the parts of two machines but hands and deques tell the same, where instances go by their paths; and numbers that tell parts apart.
 
-ghost use Rattle.std.specs.Prelude.{◌≡◌, true, map, length, Some, slice_get};
-ghost use Rattle.cilk_machine_undo.specs.frame.Frames as frames;
+ghost use Rattle.std.specs.Prelude.{◌≡◌, true, map, length};
 ghost use Rattle.cilk_machine_undo.specs.spawn.Nodes.{path_at};
 ghost use Rattle.cilk_machine_undo.specs.agree.Outside.{lock_by};
-ghost use Rattle.cilk_machine_choices.specs.model.Hands.{IsWorker, hand_of, deque_of};
-ghost use Rattle.cilk_machine_same.specs.Alike.{SameHeld, SameHand, SameDeque, SamePlaces};
+ghost use Rattle.cilk_machine_choices.specs.model.Hands.{IsWorker};
 
 use cilk_machine_choices::Outcome;
 use cilk_machine_undo::{Frame, Hands, Lock, Mixer, Tree};
@@ -75,116 +73,35 @@ pub(crate) fn is_same_output(bytes: &[u8], others: &[u8]) -> bool
     bytes == others
 }
 
-/// Whether the workers have the same in their hands and deques.
-pub(crate) fn are_same_hands(
-    hands: &Hands,
-    tree: &Tree,
-    others: &Hands,
-    other: &Tree,
-    workers: u8,
-) -> bool
-    requires here { workers ≡ length hands.now }
-    requires there { workers ≡ length others.now }
-    ensures { result ≡ true → SamePlaces tree.now.nodes other.now.nodes hands.now others.now }
-{
-    for k in 0..workers {
-        if !has_the_same(k + 1, hands, tree, others, other) {
-            return false;
-        }
-    }
-    true
-}
-
-fn has_the_same(worker: u8, hands: &Hands, tree: &Tree, others: &Hands, other: &Tree) -> bool
-    requires here { IsWorker hands.now worker }
-    requires there { IsWorker others.now worker }
-    ensures hand { result ≡ true → SameHand tree.now.nodes other.now.nodes (hand_of hands.now worker) (hand_of others.now worker) }
-    ensures deque { result ≡ true → SameDeque tree.now.nodes other.now.nodes (deque_of hands.now worker) (deque_of others.now worker) }
-{
-    is_same_hand(worker, hands, tree, others, other)
-        && is_same_deque(worker, hands, tree, others, other)
-}
-
-fn is_same_hand(worker: u8, hands: &Hands, tree: &Tree, others: &Hands, other: &Tree) -> bool
-    requires here { IsWorker hands.now worker }
-    requires there { IsWorker others.now worker }
-    ensures { result ≡ true → SameHand tree.now.nodes other.now.nodes (hand_of hands.now worker) (hand_of others.now worker) }
-{
-    match hands.hand(worker) {
-        None => match others.hand(worker) {
-            None => true,
-            Some(_) => false,
-        },
-        Some(frame) => match others.hand(worker) {
-            None => false,
-            Some(held) => is_same_frame(frame, tree, held, other),
-        },
-    }
-}
-
-fn is_same_deque(worker: u8, hands: &Hands, tree: &Tree, others: &Hands, other: &Tree) -> bool
-    requires here { IsWorker hands.now worker }
-    requires there { IsWorker others.now worker }
-    ensures { result ≡ true → SameDeque tree.now.nodes other.now.nodes (deque_of hands.now worker) (deque_of others.now worker) }
-{
-    let count = hands.len(worker);
-    if count != others.len(worker) {
-        return false;
-    }
-    for k in 0..count {
-        if !is_same_queued(k, worker, hands, tree, others, other) {
-            return false;
-        }
-    }
-    true
-}
-
-fn is_same_queued(
-    k: usize,
-    worker: u8,
-    hands: &Hands,
-    tree: &Tree,
-    others: &Hands,
-    other: &Tree,
-) -> bool
-    requires here { IsWorker hands.now worker }
-    requires there { IsWorker others.now worker }
-    ensures { result ≡ true → (f g : frames.Frame) → slice_get (deque_of hands.now worker) k ≡ Some f
-        → slice_get (deque_of others.now worker) k ≡ Some g → SameHeld tree.now.nodes other.now.nodes f g }
-{
-    match hands.queued(worker, k) {
-        None => false,
-        Some(frame) => match others.queued(worker, k) {
-            None => false,
-            Some(held) => is_same_frame(frame, tree, held, other),
-        },
-    }
-}
-
-fn is_same_frame(frame: &Frame, tree: &Tree, held: &Frame, other: &Tree) -> bool
-    ensures { result ≡ true → SameHeld tree.now.nodes other.now.nodes frame.now held.now }
-{
-    frame.goes_on_as(held) && tree.is_same_path(frame.id(), other, held.id())
-}
-
-/// The hands and deques enter a number that tells states apart.
+/// The hands and deques enter a number that tells states apart, whatever the names of the workers are.
 pub(crate) fn mix_hands(hands: &Hands, tree: &Tree, workers: u8, mixer: &mut Mixer)
     requires { workers ≡ length hands.now }
 {
+    let mut sum = 0u64;
     for k in 0..workers {
-        match hands.hand(k + 1) {
-            None => mixer.put(0),
-            Some(frame) => mix_frame(frame, tree, mixer),
-        }
-        let count = hands.len(k + 1);
-        mixer.put(count as u64);
-        for i in 0..count {
-            match hands.queued(k + 1, i) {
-                None => {}
-                Some(frame) => mix_frame(frame, tree, mixer),
-            }
+        sum = sum.wrapping_add(mixed_place(hands, tree, k + 1));
+    }
+    mixer.put(sum);
+}
+
+// What one worker has, as a number.
+fn mixed_place(hands: &Hands, tree: &Tree, worker: u8) -> u64
+    requires { IsWorker hands.now worker }
+{
+    let mut mixer = Mixer::new();
+    match hands.hand(worker) {
+        None => mixer.put(0),
+        Some(frame) => mix_frame(frame, tree, &mut mixer),
+    }
+    let count = hands.len(worker);
+    mixer.put(count as u64);
+    for i in 0..count {
+        match hands.queued(worker, i) {
+            None => {}
+            Some(frame) => mix_frame(frame, tree, &mut mixer),
         }
     }
+    mixer.mixed()
 }
 
 fn mix_frame(frame: &Frame, tree: &Tree, mixer: &mut Mixer) {

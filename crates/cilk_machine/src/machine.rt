@@ -16,6 +16,7 @@ ghost use Rattle.cilk_machine.specs.Stands.{Led, StandsAt, Opens};
 ghost use Rattle.cilk_machine.specs.Globals.{global_of};
 
 mod comparing;
+mod idling;
 mod imaging;
 mod looking;
 mod making;

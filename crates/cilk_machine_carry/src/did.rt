@@ -6,7 +6,7 @@ use cilk_machine_plan::{Id, TrapKind};
 
 /// What a step did. The number is that of the action; that of a delivery is the number of the
 /// child's spawn.
-#[derive(Clone, Copy, Debug, PartialEq, Eq)]
+#[derive(Clone, Copy)]
 pub enum Did {
     /// A frame was moved, and nothing else was changed.
     Moved,
@@ -22,7 +22,7 @@ pub enum Did {
 }
 
 /// How the program stands then.
-#[derive(Clone, Copy, Debug, PartialEq, Eq)]
+#[derive(Clone, Copy)]
 pub enum Outcome {
     Running,
     /// The value of the root.
@@ -31,7 +31,7 @@ pub enum Outcome {
 }
 
 /// A step that was taken.
-#[derive(Clone, Copy, Debug, PartialEq, Eq)]
+#[derive(Clone, Copy)]
 pub struct Done {
     pub outcome: Outcome,
     pub did: Did,

@@ -10,7 +10,7 @@ pub(crate) struct Passage {
 }
 
 /// A cell takes a value.
-#[derive(Clone, Copy, Debug, PartialEq, Eq)]
+#[derive(Clone, Copy)]
 pub struct Writing {
     pub reached: Reached,
     pub value: i32,

@@ -3,7 +3,7 @@
 use crate::reached::Reached;
 
 /// What an assignment writes.
-#[derive(Clone, Copy, Debug, PartialEq, Eq)]
+#[derive(Clone, Copy)]
 pub struct Written {
     /// The cell that takes the value.
     pub reached: Reached,

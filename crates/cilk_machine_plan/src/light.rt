@@ -5,7 +5,7 @@ use cilk_machine_effects::Reached;
 
 /// A plan that takes no memory, and after which the instance goes on in the same hand. Most steps have such a one. It is
 /// small, and is copied where a plan is moved.
-#[derive(Clone, Copy, Debug, PartialEq, Eq)]
+#[derive(Clone, Copy)]
 pub enum Light {
     /// The delivery that waits longest is taken: the cell takes the value. The number is that of the child's spawn.
     Take {

@@ -1,5 +1,5 @@
 -- When the parts of two machines tell the same: the instances go by their paths, whatever their ids are, and those that have ended do not matter.
-use Rattle.std.specs.Prelude.{◌≡◌, ⊤, List, [], ◌∷◌, map, Option, Some, None}
+use Rattle.std.specs.Prelude.{◌≡◌, ⊤, List, [], ◌∷◌, map, Option, Some, None, IsPermutation}
 use Rattle.cilk_machine_agree.specs.model.Hands.{WorkerOf}
 use Rattle.cilk_machine_agree.specs.frame.Frames.{Frame}
 use Rattle.cilk_machine_agree.specs.spawn.Nodes.{Node, path_at}
@@ -32,6 +32,12 @@ module _ (ns ms : List Node) where
   SamePlaces (x ∷ xs) [] = ⊥
   SamePlaces (x ∷ xs) (y ∷ ys) = SameHand x.hand y.hand × SameDeque x.deque y.deque × SamePlaces xs ys
 
+  -- in another order of the workers here
+  pub record SamePlacesBut (xs ys : List (WorkerOf Frame)) : Type 0 where
+    pub places : List (WorkerOf Frame)
+    pub order : IsPermutation xs places
+    pub same : SamePlaces places ys
+
 pub record SameParts (m n : MachineParts) : Type 0 where
   pub cells : m.outside.cells ≡ n.outside.cells
   pub locks : map (lock_by (path_at m.nodes)) m.outside.locks ≡ map (lock_by (path_at n.nodes)) n.outside.locks
@@ -39,3 +45,9 @@ pub record SameParts (m n : MachineParts) : Type 0 where
   pub outcome : outcome_by (path_at m.nodes) m.outside.outcome ≡ outcome_by (path_at n.nodes) n.outside.outcome
   pub tree : SameTree m.nodes n.nodes
   pub places : SamePlaces m.nodes n.nodes m.places n.places
+
+-- but for the names of the workers
+pub record SamePartsBut (m n : MachineParts) : Type 0 where
+  pub places : List (WorkerOf Frame)
+  pub order : IsPermutation m.places places
+  pub same : SameParts (record m { places = places }) n

@@ -3,7 +3,7 @@
 use cilk_machine_carry::{Activation, Frame, Id, Lock, Remains, Taken, Writing};
 
 /// Where the frame in a worker's hand stood: the action of its top activation, and the flag.
-#[derive(Clone, Copy, Debug, PartialEq, Eq)]
+#[derive(Clone, Copy)]
 pub struct Stood {
     pub node: u32,
     pub boundary: bool,

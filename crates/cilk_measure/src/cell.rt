@@ -4,7 +4,7 @@ ghost use Rattle.std.specs.Prelude.{◌≡◌, slice_set};
 ghost use Rattle.cilk_measure.specs.Cells.{cell_at, next, no_cell};
 
 /// What is kept of an instance. Instances go by their places in the order of birth, which are their ids.
-#[derive(Clone, Copy, Debug)]
+#[derive(Clone, Copy)]
 pub(crate) struct Cell {
     /// Its parent; the root has none.
     pub parent: Option<usize>,

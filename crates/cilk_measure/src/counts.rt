@@ -10,7 +10,7 @@ use std::alloc::Global;
 use std::marker::Model;
 
 /// The choices so far, counted.
-#[derive(Debug, Drop)]
+#[derive(Drop)]
 pub(crate) struct Counts {
     pub work: u64,
     pub steals: u64,

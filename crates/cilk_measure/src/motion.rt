@@ -11,7 +11,7 @@ use cilk_debug::{Did, Id, Machine};
 use cilk_events::{Loaded, nature_of};
 
 /// A step of an instance.
-#[derive(Clone, Copy, Debug)]
+#[derive(Clone, Copy)]
 pub(crate) struct Motion {
     /// The instance.
     pub place: usize,

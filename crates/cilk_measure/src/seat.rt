@@ -6,7 +6,7 @@ ghost use Rattle.cilk_measure.specs.Seats.{at_worker, drawn, worked};
 use crate::cell::next;
 
 /// The work of a worker, and the frames of its deque.
-#[derive(Clone, Copy, Debug)]
+#[derive(Clone, Copy)]
 pub(crate) struct Seat {
     /// How many of its steps were work.
     pub share: u64,

@@ -11,7 +11,7 @@ use std::alloc::Global;
 use std::marker::Model;
 
 /// The instances, and the greatest numbers so far.
-#[derive(Debug, Drop)]
+#[derive(Drop)]
 pub(crate) struct Tally {
     cells: Vec<Cell>,
     /// The length of the longest chain of steps.

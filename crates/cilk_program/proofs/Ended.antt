@@ -72,7 +72,7 @@ no_run workers wanted explain name log status known old new found other is told 
 
 pub unread : (wanted : Wanted) (explain : Bool) (name : List ℕ) (status : Status) (known : Option (List ℕ)) (held : List ℕ → Option (List ℕ))
     (old new : Option (List ℕ)) (found : Failure) → status_of found ≢ ended.Refused → status ≡ status_of found → TellsLine name found [] old new
-    → Fails wanted explain name status known held old new
+    → Fails known held old new wanted explain name status
 unread printed explain name status known held old new found other is told = nothing_read Unready explain name status known old new found other is told
 unread checked explain name status known held old new found other is told = nothing_read Unready explain name status known old new found other is told
 unread (run workers limit log seed runs) explain name status known held old new found other is told =
@@ -90,7 +90,7 @@ unread (debugged log) explain name status known held old new found other is told
 
 -- nothing was written
 pub leaves_nothing : (wanted : Wanted) (status : Status) (known : Option (List ℕ)) (held : List ℕ → Option (List ℕ)) (entered old new : Option (List ℕ))
-    → status ≢ ended.CannotWrite → new ≡ old → Leaves wanted status known held entered old new
+    → status ≢ ended.CannotWrite → new ≡ old → Leaves known held entered old new wanted status
 leaves_nothing printed status known held entered old new other same = λ bad. absurd (other bad)
 leaves_nothing checked status known held entered old new other same = λ bad. absurd (other bad)
 leaves_nothing (run workers limit log seed runs) status known held entered old new other same = λ bad. absurd (other bad)
@@ -101,7 +101,7 @@ leaves_nothing (debugged log) status known held entered old new other same = (λ
 
 -- memory that ran out before a text was opened: the line has no name
 memory_of : (wanted : Wanted) (explain : Bool) (name : List ℕ) (known : Option (List ℕ)) (held : List ℕ → Option (List ℕ)) (old new : Option (List ℕ))
-    → TellsLine [] failure.Memory [] old new → Fails wanted explain name ended.Memory known held old new
+    → TellsLine [] failure.Memory [] old new → Fails known held old new wanted explain name ended.Memory
 memory_of wanted explain name known held old new told = unread wanted explain name ended.Memory known held old new failure.Memory (λ bad. cc) refl told
 
 is_memory_no_answer : (status : Status) → status ≡ ended.Memory → is_answer status ≡ false

@@ -81,7 +81,8 @@ kept-all program workers outcomes k stored all kept = λ j text is.
 -- ---- what is written
 
 pub explored-of : (workers limit : ℕ) (ended : Status) (bytes text : List ℕ) (program : Program) (e : Exploration) → IsReady bytes program
-    → IsExploration program workers limit e → ended ≡ status_by e.whole (length (outcomes_by e)) → text ≡ exploration_text workers e.whole (outcomes_by e)
+    → IsExploration program workers limit e → ended ≡ status_by e.whole (length (outcomes_by e))
+    → text ≡ exploration_text workers e.whole e.or_more (outcomes_by e)
     → IsExplored workers limit ended bytes text (logs_of program workers (outcomes_by e))
 explored-of workers limit ended bytes text program e ready found tells is = record {
   program = program;

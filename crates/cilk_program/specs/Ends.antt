@@ -51,10 +51,10 @@ explains_trap words status = explains_any (asked words) status
 -- writers gained
 pub record Ends (words : List (List ℕ)) (held : List ℕ → Option (List ℕ)) (entered : Option (List ℕ)) (status : Status)
     (old new err_old err_new : Option (List ℕ)) : Type 0 where
-  pub done : IfSome (asked words) (λ request. is_answer status ≡ true → Does request.wanted status (held request.name) held entered old new)
+  pub done : IfSome (asked words) (λ request. is_answer status ≡ true → Does (held request.name) held entered old new request.wanted status)
   pub told : IfSome (asked words) (λ request. is_answer status ≡ false
-      → Fails request.wanted request.explain request.name status (held request.name) held err_old err_new)
-  pub begun : IfSome (asked words) (λ request. is_answer status ≡ false → Leaves request.wanted status (held request.name) held entered old new)
+      → Fails (held request.name) held err_old err_new request.wanted request.explain request.name status)
+  pub begun : IfSome (asked words) (λ request. is_answer status ≡ false → Leaves (held request.name) held entered old new request.wanted status)
   pub explained : IfSome (asked words) (λ request. tells_trap request.explain status ≡ true
       → ExplainsTrap request.name (held request.name) old new err_old err_new)
   pub reads : (status ≡ ended.Refused) ⊎ (status ≡ ended.CannotRead) → asked words ≢ None

@@ -50,14 +50,19 @@ abbrev pub whole_words : Bool → List ℕ
 whole_words true = codes "all was looked at: "
 whole_words false = codes "not all was looked at: "
 
--- `all was looked at: 3 outcomes of 2 workers`
-abbrev pub summary : Bool → ℕ → ℕ → List ℕ
-summary whole count workers =
-    whole_words whole ++ (decimal count ++ (codes " outcome" ++ (plural count ++ (codes " of " ++ (decimal workers ++ (codes " worker"
-    ++ (plural workers ++ codes "\n")))))))
+-- behind a number of workers, where it is so of each larger number too
+abbrev pub more_words : Bool → List ℕ
+more_words true = codes " or more"
+more_words false = []
 
-abbrev pub exploration_text : ℕ → Bool → List Outcome → List ℕ
-exploration_text workers whole outcomes = outcomes_text 1 outcomes ++ summary whole (length outcomes) workers
+-- `all was looked at: 3 outcomes of 4 workers or more`
+abbrev pub summary : Bool → Bool → ℕ → ℕ → List ℕ
+summary whole more count workers =
+    whole_words whole ++ (decimal count ++ (codes " outcome" ++ (plural count ++ (codes " of " ++ (decimal workers ++ (codes " worker"
+    ++ (plural workers ++ (more_words more ++ codes "\n"))))))))
+
+abbrev pub exploration_text : ℕ → Bool → Bool → List Outcome → List ℕ
+exploration_text workers whole more outcomes = outcomes_text 1 outcomes ++ summary whole more (length outcomes) workers
 
 -- the status tells whether all was looked at, and whether there are several of them
 abbrev pub status_by : Bool → ℕ → Status
@@ -81,7 +86,7 @@ pub record IsExplored (workers limit : ℕ) (ended : Status) (bytes text : List 
   pub exploration : Exploration
   pub found : IsExploration program workers limit exploration
   pub tells : ended ≡ status_by exploration.whole (length (outcomes_by exploration))
-  pub is : text ≡ exploration_text workers exploration.whole (outcomes_by exploration)
+  pub is : text ≡ exploration_text workers exploration.whole exploration.or_more (outcomes_by exploration)
   pub kept : logs ≡ logs_of program workers (outcomes_by exploration)
 
 -- the name of the log of this number in a folder

@@ -77,38 +77,36 @@ abbrev pub log_name : Option (List ℕ) → List ℕ
 log_name None = []
 log_name (Some name) = name
 
--- a writer has gained what is wanted of the bytes that a reader held, those that names stand for and those that are entered, and the
--- status tells how it went
-abbrev pub Does : Wanted → Status → Option (List ℕ) → (List ℕ → Option (List ℕ)) → Option (List ℕ) → Option (List ℕ) → Option (List ℕ) → Type 0
-Does printed status known held entered old new = (status ≡ Done) × Prints known old new
-Does checked status known held entered old new = (status ≡ Done) × Passes known old new
-Does (run workers limit log seed runs) status known held entered old new = RunsAsAsked workers limit seed runs status known old new
-Does (explored workers limit logs) status known held entered old new = ExploresSomewhere workers limit (is_some logs) status known old new
-Does (replayed log) status known held entered old new = Replays status known (held log) old new
-Does (measured log) status known held entered old new = (status ≡ Done) × MeasuresAsAsked log known held old new
-Does (debugged log) status known held entered old new = (status ≡ Done) × Debugs known (held log) entered old new
+-- of the bytes that a reader held, those that names stand for and those that are entered, and of what a writer had and has
+module _ (known : Option (List ℕ)) (held : List ℕ → Option (List ℕ)) (entered old new : Option (List ℕ)) where
+  -- the writer has gained what is wanted, and the status tells how it went
+  abbrev pub Does : Wanted → Status → Type 0
+  Does printed status = (status ≡ Done) × Prints known old new
+  Does checked status = (status ≡ Done) × Passes known old new
+  Does (run workers limit log seed runs) status = RunsAsAsked workers limit seed runs status known old new
+  Does (explored workers limit logs) status = ExploresSomewhere workers limit (is_some logs) status known old new
+  Does (replayed log) status = Replays status known (held log) old new
+  Does (measured log) status = (status ≡ Done) × MeasuresAsAsked log known held old new
+  Does (debugged log) status = (status ≡ Done) × Debugs known (held log) entered old new
 
--- or it has failed, and has gained at most the first bytes of that; of a session that breaks off otherwise whole answers
-abbrev pub Leaves : Wanted → Status → Option (List ℕ) → (List ℕ → Option (List ℕ)) → Option (List ℕ) → Option (List ℕ) → Option (List ℕ) → Type 0
-Leaves printed status known held entered old new = status ≡ CannotWrite → PrintsFront known old new
-Leaves checked status known held entered old new = status ≡ CannotWrite → PassesFront known old new
-Leaves (run workers limit log seed runs) status known held entered old new =
-    status ≡ CannotWrite → RunsFrontAsAsked workers limit seed runs known old new
-Leaves (explored workers limit logs) status known held entered old new =
-    status ≡ CannotWrite → ExploresFrontSomewhere workers limit (is_some logs) known old new
-Leaves (replayed log) status known held entered old new = status ≡ CannotWrite → ReplaysFront known (held log) old new
-Leaves (measured log) status known held entered old new = status ≡ CannotWrite → MeasuresFrontAsAsked log known held old new
-Leaves (debugged log) status known held entered old new =
-    (status ≡ CannotWrite → DebugsFront known (held log) entered old new) × (status ≢ CannotWrite → (new ≡ old) ⊎ DebugsPart known (held log) entered old new)
+  -- or it has failed, and has gained at most the first bytes of that; of a session that breaks off otherwise whole answers
+  abbrev pub Leaves : Wanted → Status → Type 0
+  Leaves printed status = status ≡ CannotWrite → PrintsFront known old new
+  Leaves checked status = status ≡ CannotWrite → PassesFront known old new
+  Leaves (run workers limit log seed runs) status = status ≡ CannotWrite → RunsFrontAsAsked workers limit seed runs known old new
+  Leaves (explored workers limit logs) status = status ≡ CannotWrite → ExploresFrontSomewhere workers limit (is_some logs) known old new
+  Leaves (replayed log) status = status ≡ CannotWrite → ReplaysFront known (held log) old new
+  Leaves (measured log) status = status ≡ CannotWrite → MeasuresFrontAsAsked log known held old new
+  Leaves (debugged log) status =
+      (status ≡ CannotWrite → DebugsFront known (held log) entered old new) × (status ≢ CannotWrite → (new ≡ old) ⊎ DebugsPart known (held log) entered old new)
 
 -- and another writer is told why, with the names of the text and of the log
-abbrev pub Fails : Wanted → Bool → List ℕ → Status → Option (List ℕ) → (List ℕ → Option (List ℕ)) → Option (List ℕ) → Option (List ℕ) → Type 0
-Fails printed explain name status known held old new = GivesUp Unready explain name status known old new
-Fails checked explain name status known held old new = GivesUp Unready explain name status known old new
-Fails (run workers limit log seed runs) explain name status known held old new =
-    GivesUpRun workers (is_some log) explain name (log_name log) status known old new
-Fails (explored workers limit logs) explain name status known held old new =
-    GivesUpExploring (is_some logs) explain name (log_name logs) status known old new
-Fails (replayed log) explain name status known held old new = GivesUpOfLog Declines explain name log status known (held log) old new
-Fails (measured log) explain name status known held old new = FailsToMeasure log explain name status known held old new
-Fails (debugged log) explain name status known held old new = GivesUpOfLog Declines explain name log status known (held log) old new
+module _ (known : Option (List ℕ)) (held : List ℕ → Option (List ℕ)) (old new : Option (List ℕ)) where
+  abbrev pub Fails : Wanted → Bool → List ℕ → Status → Type 0
+  Fails printed explain name status = GivesUp Unready explain name status known old new
+  Fails checked explain name status = GivesUp Unready explain name status known old new
+  Fails (run workers limit log seed runs) explain name status = GivesUpRun workers (is_some log) explain name (log_name log) status known old new
+  Fails (explored workers limit logs) explain name status = GivesUpExploring (is_some logs) explain name (log_name logs) status known old new
+  Fails (replayed log) explain name status = GivesUpOfLog Declines explain name log status known (held log) old new
+  Fails (measured log) explain name status = FailsToMeasure log explain name status known held old new
+  Fails (debugged log) explain name status = GivesUpOfLog Declines explain name log status known (held log) old new

@@ -1,4 +1,4 @@
-//! The failures of `run`, `replay` and `debug`, with the line that is written of each and its status.
+//! The failures of `run` and of the subcommands on a recorded schedule, with the line that is written of each and its status.
 
 ghost use Rattle.std.specs.Prelude.{◌≡◌, ◌++◌, ℕ, List, [], OnErr, OnOk, codes};
 ghost use Rattle.std.specs.Io.KnownBytes.{Appends};

@@ -4,7 +4,7 @@ ghost use Rattle.std.specs.Prelude.{◌≡◌, ◌≢◌, true, false, ℕ, List
 ghost use Rattle.cilk_commands.specs.Front.{Gains, GainsFront};
 ghost use Rattle.cilk_commands.specs.Held.{Held};
 ghost use Rattle.cilk_commands.specs.Loading.{IsReady, Unready};
-ghost use Rattle.cilk_commands.specs.Status.{is_answer, status_of as status_of_program};
+ghost use Rattle.cilk_commands.specs.Status.{is_answer};
 ghost use Rattle.cilk_commands.specs.Telling.{GivesUp as GivesUpProgram};
 ghost use Rattle.cilk_commands.specs.ProgramText.{program_text};
 ghost use Rattle.cilk_measure.specs.debug.ReplayFaults.{IsNamedFaultOf};
@@ -23,7 +23,9 @@ use crate::log_task::LogTask;
 use crate::note::Note;
 use crate::streams::Streams;
 use crate::taped::{Taped, tape_in};
-use cilk_commands::{Failure, Loaded, Status, read_text, ready_of, tell_of, write_answer};
+use cilk_commands::{
+    Answering, Failure, Loaded, Status, answer_text, read_text, ready_of, write_answer,
+};
 use cilk_measure::{Log, Measure, Measured, Memory, ReplayFault, measure_all, put_measure};
 use cilk_seed::{Run, play};
 use std::alloc::{AllocError, Global};
@@ -56,44 +58,36 @@ pub fn measure_text<R: Read, O: Write, E: Write>(
     ensures quiet { is_answer result ≡ true → streams.new.errors ≡ streams.old.errors }
     ensures kept { is_answer result ≡ false → result ≢ Status.CannotWrite → streams.new.output ≡ streams.old.output }
 {
-    let bytes = match read_text(alloc, reader) {
-        Ok(bytes) => bytes,
-        Err(failure) => return failure.report(name, &mut streams.errors),
-    };
-    let text = bytes.as_slice();
-    match measure_run(alloc, text, &mut streams.output) {
-        Ok(()) => Status::Done,
-        Err(failure) => tell_of(alloc, name, explain, text, &failure, &mut streams.errors),
-    }
+    answer_text::<MeasureAnswer, R, O, E>(
+        alloc,
+        name,
+        explain,
+        reader,
+        &mut streams.output,
+        &mut streams.errors,
+    )
 }
 
-fn measure_run<W: Write>(alloc: Global, text: &[u8], out: &mut W) -> Result<(), Failure>
-    ensures ok { OnOk result (Gains (IsMeasuredRun text.now) (W.contents out.old) (W.contents out.new)) }
-    ensures declined { IfErr result (λ why. status_of_program why ≡ Status.Refused → Unready text.now why) }
-    ensures begun { IfErr result (λ why. status_of_program why ≡ Status.CannotWrite
-        → GainsFront (IsMeasuredRun text.now) (W.contents out.old) (W.contents out.new)) }
-    ensures kept { IfErr result (λ why. status_of_program why ≢ Status.CannotWrite → out.new ≡ out.old) }
-{
-    let answer = match run_measured(alloc, text) {
-        Ok(answer) => answer,
-        Err(failure) => return Err(failure),
-    };
-    write_answer(out, answer.as_bytes())
-}
+// The answer of `measure` without a log.
+struct MeasureAnswer;
 
-fn run_measured(alloc: Global, text: &[u8]) -> Result<String, Failure>
-    ensures ok { IfOk result (λ answer. IsMeasuredRun text.now (string_bytes answer)) }
-    ensures declined { IfErr result (λ why. status_of_program why ≡ Status.Refused → Unready text.now why) }
-    ensures reads { IfErr result (λ why. status_of_program why ≢ Status.CannotWrite) }
-{
-    let program = match ready_of(alloc, text) {
-        Ok(program) => program,
-        Err(failure) => return Err(failure),
-    };
-    match alone(alloc, program) {
-        Ok(answer) => Ok(answer),
-        Err(_) => Err(Failure::Memory),
+impl Answering for MeasureAnswer {
+    ghost use Rattle.cilk_program.specs.Measuring.{IsMeasuredRun};
+
+    ghost are = { IsMeasuredRun };
+
+    fn answer(alloc: Global, text: &[u8]) -> Result<String, Failure> {
+        let program = match ready_of(alloc, text) {
+            Ok(program) => program,
+            Err(failure) => return Err(failure),
+        };
+        match alone(alloc, program) {
+            Ok(answer) => Ok(answer),
+            Err(_) => Err(Failure::Memory),
+        }
     }
+
+    ghost short = { λ text answer is. is.ready.is.text.short };
 }
 
 // The numbers of a run by one worker.

@@ -3,7 +3,7 @@
 ghost use Rattle.std.specs.Prelude.{◌≡◌, ◌++◌, IfOk, OnOk, string_bytes};
 ghost use Rattle.cilk_explore.specs.Telling.{told_by};
 ghost use Rattle.cilk_program.specs.Exploring.{ended_text, endless_text, exploration_text, outcome_line, outcome_text, outcomes_text};
-ghost use Rattle.cilk_program.specs.Exploring.{plural, summary, whole_words};
+ghost use Rattle.cilk_program.specs.Exploring.{more_words, plural, summary, whole_words};
 ghost use Rattle.cilk_program.specs.Outcomes.{outcome_by, outcomes_by};
 
 use crate::outcome::{Outcome, endings_before, log_in, outcome_at, outcome_count};
@@ -12,14 +12,15 @@ use cilk_measure::Memory;
 use cilk_seed::ending;
 use std::alloc::{AllocError, Global};
 
-/// Each outcome, as a run with its log tells it, behind a line with its number, or that it has no end; and at last how many there are, and whether all was
-/// looked at.
+/// Each outcome, as a run with its log tells it, behind a line with its number, or that it has no end; and at last how many there are, whether all was
+/// looked at, and whether it is so of more workers too.
 pub(crate) fn text_of(
     alloc: Global,
     workers: u8,
     exploration: &Exploration,
 ) -> Result<Vec<u8>, Memory>
-    ensures { IfOk result (λ text. text.items ≡ exploration_text workers exploration.now.whole (outcomes_by exploration.now)) }
+    ensures { IfOk result (λ text. text.items
+        ≡ exploration_text workers exploration.now.whole exploration.now.or_more (outcomes_by exploration.now)) }
 {
     let mut out = Vec::new(alloc);
     match put_all(&mut out, workers, exploration) {
@@ -32,11 +33,12 @@ pub(crate) fn text_of(
 }
 
 fn put_all(out: &mut Vec<u8>, workers: u8, exploration: &Exploration) -> Result<(), Memory>
-    ensures { OnOk result (out.new.items ≡ out.old.items ++ exploration_text workers exploration.now.whole (outcomes_by exploration.now)) }
+    ensures { OnOk result (out.new.items ≡ out.old.items
+        ++ exploration_text workers exploration.now.whole exploration.now.or_more (outcomes_by exploration.now)) }
 {
     put_outcomes(out, exploration)?;
     let count = outcome_count(exploration) as u64;
-    let line = summary_of(*out.allocator(), exploration.whole, count, workers)?;
+    let line = summary_of(*out.allocator(), exploration, count, workers)?;
     out.extend_from_slice(line.as_bytes())?;
     Ok(())
 }
@@ -97,13 +99,19 @@ fn outcome_line(alloc: Global, number: u64, choices: u64) -> Result<String, Allo
     format!(in alloc; "outcome {number}, {choices} choice{behind}\n")
 }
 
-fn summary_of(alloc: Global, is_whole: bool, count: u64, workers: u8) -> Result<String, AllocError>
-    ensures { IfOk result (λ line. string_bytes line ≡ summary is_whole count workers) }
+fn summary_of(
+    alloc: Global,
+    exploration: &Exploration,
+    count: u64,
+    workers: u8,
+) -> Result<String, AllocError>
+    ensures { IfOk result (λ line. string_bytes line ≡ summary exploration.now.whole exploration.now.or_more count workers) }
 {
-    let front = whole_words(is_whole);
+    let front = whole_words(exploration.whole);
     let behind = plural(count);
     let last = plural(u64::from(workers));
-    format!(in alloc; "{front}{count} outcome{behind} of {workers} worker{last}\n")
+    let more = more_words(exploration.or_more);
+    format!(in alloc; "{front}{count} outcome{behind} of {workers} worker{last}{more}\n")
 }
 
 fn whole_words(is_whole: bool) -> &'static str
@@ -114,6 +122,13 @@ fn whole_words(is_whole: bool) -> &'static str
     } else {
         "not all was looked at: "
     }
+}
+
+// What stands behind the number of workers, where it is so of each larger number too.
+fn more_words(is_so: bool) -> &'static str
+    ensures { result.now ≡ more_words is_so }
+{
+    if is_so { " or more" } else { "" }
 }
 
 // What stands behind a word of which there are so many.

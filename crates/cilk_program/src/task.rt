@@ -34,15 +34,13 @@ pub fn perform<H: Threads + Wait + Sync, T: Texts, R: Read, O: Write, E: Write>(
     reader: &mut R,
     streams: &mut Streams<O, E>,
 ) -> Status
-    ensures done { is_answer result ≡ true → Does (wanted_by request.now.task) result
-        (R.remaining reader.old) (T.held texts.now) (T.entered texts.now)
-        (O.contents streams.old.output) (O.contents streams.new.output) }
-    ensures told { is_answer result ≡ false → Fails (wanted_by request.now.task)
-        request.now.explain request.now.name.now result
-        (R.remaining reader.old) (T.held texts.now) (E.contents streams.old.errors) (E.contents streams.new.errors) }
-    ensures begun { is_answer result ≡ false → Leaves (wanted_by request.now.task) result
-        (R.remaining reader.old) (T.held texts.now) (T.entered texts.now)
-        (O.contents streams.old.output) (O.contents streams.new.output) }
+    ensures done { is_answer result ≡ true → Does (R.remaining reader.old) (T.held texts.now) (T.entered texts.now)
+        (O.contents streams.old.output) (O.contents streams.new.output) (wanted_by request.now.task) result }
+    ensures told { is_answer result ≡ false → Fails (R.remaining reader.old) (T.held texts.now)
+        (E.contents streams.old.errors) (E.contents streams.new.errors) (wanted_by request.now.task)
+        request.now.explain request.now.name.now result }
+    ensures begun { is_answer result ≡ false → Leaves (R.remaining reader.old) (T.held texts.now) (T.entered texts.now)
+        (O.contents streams.old.output) (O.contents streams.new.output) (wanted_by request.now.task) result }
     ensures usage { result ≢ Status.Usage }
     ensures explained { tells_trap request.now.explain result ≡ true → ExplainsTrap request.now.name.now (R.remaining reader.old)
         (O.contents streams.old.output) (O.contents streams.new.output) (E.contents streams.old.errors) (E.contents streams.new.errors) }

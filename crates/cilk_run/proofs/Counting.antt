@@ -1,5 +1,5 @@
 -- One choice more is counted.
-use Rattle.std.proofs.Common.{◌≡◌, ◌≢◌, ℕ, ◌+◌, ◌-◌, ◌<◌, ◌≤◌, ◌==◌, List, [], ◌∷◌, ◌++◌, length, slice_index, slice_set, refl, sym, subst, ◌∙◌, ap}
+use Rattle.std.proofs.Common.{◌≡◌, ◌≢◌, ℕ, ◌+◌, ◌<◌, ◌≤◌, ◌==◌, List, [], ◌∷◌, ◌++◌, length, slice_index, slice_set, refl, sym, subst, ◌∙◌, ap}
 use Rattle.std.proofs.Common.{zero-add, arith, length-set, get_or-set_same, get_or-set_other, Bool, true, false, if◌then◌else◌, cond, ◌⊎◌, inl, inr}
 use Rattle.std.proofs.lemmas.List.Sums.{sum_by-append, count_by-le-length}
 use Rattle.std.proofs.lemmas.Bool.Decides.{nat_tests}

@@ -1,7 +1,6 @@
 -- What the workers of a run share may be looked at by several threads.
-use denote.Param.Send.{IsSend, IsSync, sendable}
+use denote.Param.Send.{IsSend, sendable}
 use Rattle.std.proofs.Crossing.{crosses}
-use Rattle.std.proofs.option.Option.TheSendSync as option
 use Rattle.cilk_machine.proofs.Crosses.{machine_send}
 use Rattle.cilk_machine.proofs.choices_laws.choice.Choice.TheSendSync as choice
 use Rattle.cilk_run.specs.contracts.locked.Locked as locked

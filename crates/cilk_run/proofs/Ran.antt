@@ -12,10 +12,9 @@ use Rattle.cilk_log.specs.syntax.ProgramText.{program_text}
 use Rattle.cilk_log.specs.choices.Words.{choice_of, end_of}
 use Rattle.cilk_log.specs.Naming.{digest_of}
 use Rattle.cilk_log.specs.choices.declared.choice.Choice as code
-use Rattle.cilk_log.specs.choices.declared.end.End.{End}
 use Rattle.cilk_machine.specs.Situation.{Situation, workers_of}
 use Rattle.cilk_machine.specs.Made.{Makes}
-use Rattle.cilk_machine.specs.Stands.{Led, StandsAt, Opens}
+use Rattle.cilk_machine.specs.Stands.{Led, StandsAt}
 use Rattle.cilk_run.specs.Histories.{IsLedBy, IsCounted}
 use Rattle.cilk_run.specs.Runs.{Stops, IsRun}
 use Rattle.cilk_run.specs.declared.run_result.Run.{Run}

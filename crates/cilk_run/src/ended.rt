@@ -1,7 +1,12 @@
 //! What comes of a machine with its history, once nothing is left to do.
 
 ghost use Rattle.std.specs.Prelude.{◌≡◌, ◌<◌, ◌^◌, length, IfOk, IfErr};
+ghost use Rattle.cilk_log.specs.choices.Words.{end_of};
 ghost use Rattle.cilk_machine.specs.Situation.{workers_of};
+ghost use Rattle.cilk_machine.specs.Stands.{StandsAt};
+ghost use Rattle.cilk_machine.specs.labelled.Bodies.{label};
+ghost use Rattle.cilk_machine.specs.model.End as model;
+ghost use Rattle.cilk_machine.specs.model.Run.{Standing};
 ghost use Rattle.cilk_run.specs.Histories.{IsCounted};
 ghost use Rattle.cilk_run.specs.Runs.{IsRun, Stops};
 
@@ -10,7 +15,7 @@ use crate::locked::Locked;
 use crate::run_result::{Run, RunFault};
 use crate::table::{count, digest_of_program};
 use cilk_log::Log;
-use cilk_machine::{Choice, Memory};
+use cilk_machine::{Choice, End, Machine, Memory};
 use std::alloc::Global;
 
 impl Locked {
@@ -22,30 +27,52 @@ impl Locked {
         ensures choices { IfOk result (λ r. r.log.choices ≡ self.history) }
         ensures err { IfErr result (λ e. e ≡ RunFault.Memory) }
     {
-        let machine = self.machine();
-        let Ok(digest) = digest_of_program(machine.loaded()) else {
+        let Ok(digest) = digest_of_program(self.machine().loaded()) else {
             return Err(RunFault::Memory);
         };
-        let Ok(turns) = turns_in(alloc, self.history(), workers) else {
-            return Err(RunFault::Memory);
-        };
-        let Ok(end) = machine.end_now() else {
-            return Err(RunFault::Memory);
-        };
-        let Ok(bytes) = Vec::from_slice(alloc, machine.output()) else {
-            return Err(RunFault::Memory);
-        };
-        let log = Log {
-            program: Some(digest),
-            workers,
-            choices: self.into_choices(),
-        };
-        Ok(Run {
-            end,
-            log,
-            output: Output::new(bytes),
-            turns: ChoiceCounts::new(turns),
-        })
+        match turns_in(alloc, self.history(), workers) {
+            Err(_) => {
+                drop(self);
+                Err(RunFault::Memory)
+            }
+            Ok(turns) => match closing(alloc, self.machine()) {
+                Err(_) => {
+                    drop(self);
+                    drop(turns);
+                    Err(RunFault::Memory)
+                }
+                Ok((end, output)) => {
+                    let log = Log {
+                        program: Some(digest),
+                        workers,
+                        choices: self.into_choices(),
+                    };
+                    Ok(Run {
+                        end,
+                        log,
+                        output,
+                        turns: ChoiceCounts::new(turns),
+                    })
+                }
+            },
+        }
+    }
+}
+
+/// How a program stands at its end, and what it printed.
+pub(crate) fn closing(alloc: Global, machine: &Machine) -> Result<(End, Output), Memory>
+    ensures end { IfOk result (λ both. (at : Standing) → StandsAt machine.now at → end_of (both.0) ≡ model.end_now (label machine.now.program) at) }
+    ensures output { IfOk result (λ both. (at : Standing) → StandsAt machine.now at → both.1 ≡ at.state.output) }
+{
+    match Vec::from_slice(alloc, machine.output()) {
+        Err(memory) => Err(Memory::from(memory)),
+        Ok(bytes) => match machine.end_now() {
+            Err(memory) => {
+                drop(bytes);
+                Err(memory)
+            }
+            Ok(end) => Ok((end, Output::new(bytes))),
+        },
     }
 }
 

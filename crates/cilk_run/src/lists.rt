@@ -5,7 +5,7 @@ ghost use Rattle.std.specs.Prelude.{◌≡◌};
 use std::marker::Model;
 
 /// The numbers of choices that the workers made, from worker 1 on.
-#[derive(Debug, Drop)]
+#[derive(Drop)]
 pub struct ChoiceCounts {
     counts: Vec<u64>,
 }
@@ -33,7 +33,7 @@ impl ChoiceCounts {
 }
 
 /// The bytes that a program printed.
-#[derive(Debug, Drop)]
+#[derive(Drop)]
 pub struct Output {
     bytes: Vec<u8>,
 }

@@ -13,7 +13,7 @@ pub trait Post {
 }
 
 /// How far a worker came with its turn.
-#[derive(Clone, Copy, PartialEq, Eq, Debug)]
+#[derive(Clone, Copy)]
 pub enum Begun {
     /// To its end.
     Over(TurnEnd),
@@ -22,7 +22,7 @@ pub enum Begun {
 }
 
 /// How a worker goes on behind its turn.
-#[derive(Clone, Copy, PartialEq, Eq, Debug)]
+#[derive(Clone, Copy)]
 pub enum TurnEnd {
     /// A choice was made.
     Made,

@@ -5,7 +5,7 @@ use cilk_log::Log;
 use cilk_machine::End;
 
 /// A run that ended, was stuck, or came to its limit.
-#[derive(Debug, Drop)]
+#[derive(Drop)]
 pub struct Run {
     /// How the program stands at the end.
     pub end: End,

@@ -1,7 +1,7 @@
 //! What lies under the lock of a run, and what a worker does with it in one turn.
 
 ghost use Rattle.std.specs.Prelude.{ℕ, ◌+◌, ◌≡◌, ◌≢◌, ◌<◌, ◌≤◌, ◌⊎◌, [], ◌∷◌, ◌++◌, length, slice_index, slice_set, ◌-◌, ◌^◌, true, Some, IfOk, IfErr};
-ghost use Rattle.std.specs.Prelude.{OnOk, OnErr};
+ghost use Rattle.std.specs.Prelude.{None, IfSome, OnOk, OnErr};
 ghost use Rattle.cilk_log.specs.syntax.ProgramText.{program_text};
 ghost use Rattle.cilk_log.specs.choices.Words.{choice_of, reason_of};
 ghost use Rattle.cilk_log.specs.Naming.{digest_of};
@@ -15,7 +15,8 @@ ghost use Rattle.cilk_run.specs.Runs.{IsRun, Stops};
 ghost use Rattle.cilk_run.specs.Turning.{IsTurn, IsBegun, IsOver, is_broken};
 
 use crate::ahead::Ahead;
-use crate::lists::{ChoiceCounts, Output};
+use crate::ended::closing;
+use crate::lists::ChoiceCounts;
 use crate::locked::Locked;
 use crate::post::{Begun, TurnEnd};
 use crate::run_result::{Run, RunFault};
@@ -229,22 +230,30 @@ impl<J: Setting> Table<J> {
         requires { length self.old.history < J.limit }
         ensures { IsTurn J.limit worker self.old result self.new }
     {
-        let (from, workers) = (worker, self.workers);
-        for before in from..workers {
+        let workers = self.workers;
+        match self.steal_from(worker, worker, workers) {
+            Some(end) => end,
+            None => match self.steal_from(worker, 0, worker.saturating_sub(1)) {
+                Some(end) => end,
+                None => self.stay(Refusal::DequeEmpty),
+            },
+        }
+    }
+
+    // A turn with what the first of the workers behind number `from`, up to number `to`, has whose deque is not empty. None where all are.
+    fn steal_from(&mut self, worker: u8, from: u8, to: u8) -> Option<TurnEnd>
+        requires { length self.old.history < J.limit }
+        ensures turn { IfSome result (λ end. IsTurn J.limit worker self.old end self.new) }
+        ensures unchanged { result ≡ None → self.new ≡ self.old }
+    {
+        for before in from..to {
             match self.advance(worker, Act::Steal(before + 1)) {
-                Ok(()) => return TurnEnd::Made,
+                Ok(()) => return Some(TurnEnd::Made),
                 Err(Refusal::DequeEmpty) => {}
-                Err(refusal) => return self.stay(refusal),
+                Err(refusal) => return Some(self.stay(refusal)),
             }
         }
-        for victim in 1..from {
-            match self.advance(worker, Act::Steal(victim)) {
-                Ok(()) => return TurnEnd::Made,
-                Err(Refusal::DequeEmpty) => {}
-                Err(refusal) => return self.stay(refusal),
-            }
-        }
-        self.stay(Refusal::DequeEmpty)
+        None
     }
 
     // A turn in which the last thing that was tried was refused so.
@@ -342,11 +351,7 @@ impl<J: Setting> Table<J> {
         ensures ok { IfOk result (λ r. IsRun J.program J.workers J.limit r) }
         ensures err { IfErr result (λ e. e ≡ RunFault.Memory) }
     {
-        let machine = self.locked.machine();
-        let Ok(end) = machine.end_now() else {
-            return Err(RunFault::Memory);
-        };
-        let Ok(bytes) = Vec::from_slice(alloc, machine.output()) else {
+        let Ok((end, output)) = closing(alloc, self.locked.machine()) else {
             return Err(RunFault::Memory);
         };
         let Table {
@@ -364,7 +369,7 @@ impl<J: Setting> Table<J> {
         Ok(Run {
             end,
             log,
-            output: Output::new(bytes),
+            output,
             turns: ChoiceCounts::new(turns),
         })
     }

@@ -12,7 +12,7 @@ use cilk_run::{End, Loaded, Run, RunFault};
 use std::alloc::Global;
 
 /// What a run printed, and the words of its closing line, without a number of choices.
-#[derive(Debug, Drop)]
+#[derive(Drop)]
 pub(crate) struct Outcome {
     pub printed: Vec<u8>,
     pub ended: String,

@@ -7,7 +7,7 @@ ghost use Rattle.cilk_seed.specs.Tallying.{outcome_by, row_by};
 use crate::outcome::Outcome;
 
 /// An outcome, how many runs have it, and the seed of the first of them.
-#[derive(Debug, Drop)]
+#[derive(Drop)]
 pub(crate) struct Row {
     pub outcome: Outcome,
     pub count: u32,

@@ -3,5 +3,4 @@ pub mod Escapes
 pub mod Sizes
 pub mod Written
 pub mod BareText
-pub mod Images
 pub use Rattle.cilk_tree_syntax.proofs as syntax_laws

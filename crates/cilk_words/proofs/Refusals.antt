@@ -1,7 +1,5 @@
 -- What an error of the command line tells of the words.
 use Rattle.std.proofs.Common.{◌≡◌, ◌⊎◌, ◌||◌, ◌&&◌, ◌∙◌, inl, inr, refl, sym, ap, Bool, true, false, List, [], ◌∷◌, Option, Some, None}
-use Rattle.std.specs.Prelude.{String}
-use Rattle.std.specs.Global.{Global}
 use Rattle.std.specs.List.{list_all, list_any}
 use Rattle.std.proofs.Math.Bool.{or-true}
 use Rattle.clap.specs.Kinds.{IsAmong, Kinds}
@@ -10,7 +8,6 @@ use Rattle.clap.specs.declared.error.kind.ErrorKind.{ErrorKind}
 use Rattle.clap.specs.declared.error.kind.ErrorKind.TheVariants.{OutOfMemory}
 use Rattle.cilk_words.specs.declared.refusal.NoRequest.{NoRequest}
 use Rattle.cilk_words.specs.declared.refusal.NoRequest.TheVariants as refusal
-use Rattle.cilk_words.specs.declared.clash.Clash.{Clash}
 use Rattle.cilk_words.specs.CommandLine.{Asked, asked, command_line, clash_of, request_of_any, unless_fault, wished}
 use Rattle.cilk_words.specs.Refusing.{IsNoRequest, TellsOf, are_shown, is_help, is_shown, is_version}
 

@@ -1,12 +1,12 @@
 //! The command line as `clap` is told it: subcommands, arguments, options, and the words of help.
 
-ghost use Rattle.std.specs.Prelude.{◌≡◌, IfOk, IsOkAnd, codes, false};
-ghost use Rattle.clap.specs.Words.{AddsArg, AddsSubcommand, FailsBy, app_of, fault_of, rule_of, subcommand_of, subcommand_rows_of};
-ghost use Rattle.cilk_words.specs.CommandLine.{bare, command_line, crew_rule, limit_rule, number_rule, on_explained, on_explore, on_log, on_measure};
-ghost use Rattle.cilk_words.specs.CommandLine.{on_run, on_text, option_rule, runs_rule, seed_rule, texts_of, workers_rule};
+ghost use Rattle.std.specs.Prelude.{◌≡◌, IfOk};
+ghost use Rattle.clap.specs.Words.{FailsBy, app_of, fault_of, subcommand_of, subcommand_rows_of};
+ghost use Rattle.cilk_words.specs.CommandLine.{bare, command_line, texts_of};
 
+use crate::table::{Argument, Form, Subcommand, with_all};
 use clap::builder::ValueParser;
-use clap::{Arg, ArgAction, ArgMatches, Command, Error, value_parser};
+use clap::{ArgMatches, Command, Error};
 use std::alloc::{AllocError, Global};
 
 /// The name of the argument that names the program's text.
@@ -83,10 +83,168 @@ The commands of a session, one a line:
   list        shows the text, with the numbers of its lines and actions
   quit        ends the session";
 
-// What is said of the program's text where it may stand on standard input, and where it may not.
-const INPUT: &str = "The program's text, or - for standard input";
+// How many workers there may be.
+const CREW: ValueParser<'static> = ValueParser::Signed(1, 64);
 
-const TEXT: &str = "The program's text";
+// How many choices a run may make, and how many standings an exploration may keep.
+const MOST: ValueParser<'static> = ValueParser::Signed(1, 10_000_000);
+
+// How many choices a run may make where nothing is said.
+const CHOICES: &str = "1000000";
+
+// How many standings an exploration may keep where nothing is said.
+const STANDINGS: &str = "1000000";
+
+// The argument that names the program's text, which may stand on standard input.
+const INPUT: Argument<'static> = Argument {
+    id: FILE,
+    form: Form::Place { required: true },
+    help: "The program's text, or - for standard input",
+};
+
+// The same, where commands are read from standard input.
+const TEXT: Argument<'static> = Argument {
+    id: FILE,
+    form: Form::Place { required: true },
+    help: "The program's text",
+};
+
+const EXPLAINED: Argument<'static> = Argument {
+    id: EXPLAIN,
+    form: Form::Flag,
+    help: "Says in more words what is wrong, and where",
+};
+
+const LOGGED: Argument<'static> = Argument {
+    id: LOG,
+    form: Form::Place { required: true },
+    help: "The log of a run, a file",
+};
+
+const RUN: [Argument<'static>; 7] = [
+    INPUT,
+    EXPLAINED,
+    Argument {
+        id: WORKERS,
+        form: Form::Number {
+            value: "N",
+            parser: CREW,
+            default: Some("1"),
+        },
+        help: "How many workers the run has, from 1 to 64",
+    },
+    Argument {
+        id: LIMIT,
+        form: Form::Number {
+            value: "K",
+            parser: MOST,
+            default: Some(CHOICES),
+        },
+        help: "At most so many choices are made, from 1 to 10,000,000",
+    },
+    Argument {
+        id: SEED,
+        form: Form::Number {
+            value: "S",
+            parser: ValueParser::Signed(0, 4_294_967_295),
+            default: None,
+        },
+        help: "The run has the schedule that S names, from 0 to 4,294,967,295",
+    },
+    Argument {
+        id: RUNS,
+        form: Form::Number {
+            value: "R",
+            parser: ValueParser::Signed(1, 1_000_000),
+            default: None,
+        },
+        help: "Tells which ends R runs have, 1 to 1,000,000, by S and the seeds behind it",
+    },
+    Argument {
+        id: WRITTEN,
+        form: Form::Text { value: "G" },
+        help: "The file to which the log of the run is written",
+    },
+];
+
+const EXPLORATION: [Argument<'static>; 5] = [
+    INPUT,
+    EXPLAINED,
+    Argument {
+        id: WORKERS,
+        form: Form::Number {
+            value: "N",
+            parser: CREW,
+            default: Some("2"),
+        },
+        help: "How many workers the outcomes are of, from 1 to 64",
+    },
+    Argument {
+        id: LIMIT,
+        form: Form::Number {
+            value: "K",
+            parser: MOST,
+            default: Some(STANDINGS),
+        },
+        help: "At most so many standings are kept, from 1 to 10,000,000",
+    },
+    Argument {
+        id: LOGS,
+        form: Form::Text { value: "D" },
+        help: "The folder to which a log of each outcome is written, as D/1.log",
+    },
+];
+
+const MEASURED: Argument<'static> = Argument {
+    id: LOG,
+    form: Form::Place { required: false },
+    help: "The log of a run, a file [default: a run by one worker]",
+};
+
+const SUBCOMMANDS: [Subcommand<'static>; 7] = [
+    Subcommand {
+        name: "print",
+        about: "Prints the canonical text of a program",
+        arguments: &[INPUT, EXPLAINED],
+        commands: None,
+    },
+    Subcommand {
+        name: "check",
+        about: "Says whether a program may be run",
+        arguments: &[INPUT, EXPLAINED],
+        commands: None,
+    },
+    Subcommand {
+        name: "run",
+        about: "Runs a program, and tells how it ends",
+        arguments: &RUN,
+        commands: None,
+    },
+    Subcommand {
+        name: "explore",
+        about: "Tells all outcomes of a program, whatever schedule its workers take",
+        arguments: &EXPLORATION,
+        commands: None,
+    },
+    Subcommand {
+        name: "replay",
+        about: "Makes the choices of a log again, and tells how they end",
+        arguments: &[INPUT, EXPLAINED, LOGGED],
+        commands: None,
+    },
+    Subcommand {
+        name: "measure",
+        about: "Tells the work and the span of a run, and other numbers of it",
+        arguments: &[INPUT, EXPLAINED, MEASURED],
+        commands: None,
+    },
+    Subcommand {
+        name: "debug",
+        about: "Answers commands on a log, read from standard input",
+        arguments: &[TEXT, EXPLAINED, LOGGED],
+        commands: Some(COMMANDS),
+    },
+];
 
 /// Which subcommand the words name, and with what.
 pub fn parse<'a>(alloc: Global, words: &'a [String]) -> Result<ArgMatches<'a>, Error>
@@ -102,26 +260,7 @@ pub fn parse<'a>(alloc: Global, words: &'a [String]) -> Result<ArgMatches<'a>, E
 pub fn command<'a>(alloc: Global) -> Result<Command<'a>, AllocError>
     ensures { IfOk result (λ c. app_of c ≡ command_line) }
 {
-    let print = on_explained(
-        alloc,
-        "print",
-        "Prints the canonical text of a program",
-        INPUT,
-    );
-    let printing = with(bare(alloc), print)?;
-    let check = on_explained(alloc, "check", "Says whether a program may be run", INPUT);
-    let checking = with(printing, check)?;
-    let running = with(checking, on_run(alloc))?;
-    let exploring = with(running, on_explore(alloc))?;
-    let replay = on_log(
-        alloc,
-        "replay",
-        "Makes the choices of a log again, and tells how they end",
-        INPUT,
-    );
-    let replaying = with(exploring, replay)?;
-    let measuring = with(replaying, on_measure(alloc))?;
-    with(measuring, on_session(alloc))
+    with_all(alloc, bare(alloc), &SUBCOMMANDS)
 }
 
 // The program, without its subcommands.
@@ -134,219 +273,4 @@ fn bare<'a>(alloc: Global) -> Command<'a>
         .after_help(STATUSES)
         .subcommand_required(true)
         .arg_required_else_help(true)
-}
-
-// A command with one subcommand more. (What is owned where a function leaves early is dear to prove: here that is one command at a time.)
-fn with<'a>(
-    command: Command<'a>,
-    subcommand: Result<Command<'a>, AllocError>,
-) -> Result<Command<'a>, AllocError>
-    ensures { IfOk result (λ whole. IsOkAnd subcommand.entry (λ sub. AddsSubcommand command.entry sub whole)) }
-{
-    match subcommand {
-        Ok(subcommand) => command.subcommand(subcommand),
-        Err(e) => Err(e),
-    }
-}
-
-// A subcommand on one program's text, which may say more of what is wrong.
-fn on_explained<'a>(
-    alloc: Global,
-    name: &'a str,
-    about: &'a str,
-    help: &'a str,
-) -> Result<Command<'a>, AllocError>
-    ensures { IfOk result (λ c. app_of c ≡ on_explained name.now) }
-{
-    let explain = Arg::new(alloc, EXPLAIN)
-        .long(EXPLAIN)
-        .action(ArgAction::SetTrue)
-        .help("Says in more words what is wrong, and where");
-    on_text(alloc, name, about, help)?.arg(explain)
-}
-
-// A subcommand on one program's text, and on a log where one is named.
-fn on_measure<'a>(alloc: Global) -> Result<Command<'a>, AllocError>
-    ensures { IfOk result (λ c. app_of c ≡ on_measure) }
-{
-    let log = Arg::new(alloc, LOG)
-        .action(ArgAction::Set)
-        .help("The log of a run, a file [default: a run by one worker]");
-    let about = "Tells the work and the span of a run, and other numbers of it";
-    on_explained(alloc, "measure", about, INPUT)?.arg(log)
-}
-
-// A session, whose help names its commands.
-fn on_session<'a>(alloc: Global) -> Result<Command<'a>, AllocError>
-    ensures { IfOk result (λ c. app_of c ≡ on_log (codes "debug")) }
-{
-    let about = "Answers commands on a log, read from standard input";
-    match on_log(alloc, "debug", about, TEXT) {
-        Ok(command) => Ok(command.after_help(COMMANDS)),
-        Err(e) => Err(e),
-    }
-}
-
-// A subcommand on one program's text and a log.
-fn on_log<'a>(
-    alloc: Global,
-    name: &'a str,
-    about: &'a str,
-    help: &'a str,
-) -> Result<Command<'a>, AllocError>
-    ensures { IfOk result (λ c. app_of c ≡ on_log name.now) }
-{
-    let log = Arg::new(alloc, LOG)
-        .required(true)
-        .action(ArgAction::Set)
-        .help("The log of a run, a file");
-    on_explained(alloc, name, about, help)?.arg(log)
-}
-
-fn on_text<'a>(
-    alloc: Global,
-    name: &'a str,
-    about: &'a str,
-    help: &'a str,
-) -> Result<Command<'a>, AllocError>
-    ensures { IfOk result (λ c. app_of c ≡ on_text name.now) }
-{
-    let file = Arg::new(alloc, FILE)
-        .required(true)
-        .action(ArgAction::Set)
-        .help(help);
-    Command::new(alloc, name).about(about).arg(file)
-}
-
-fn on_run<'a>(alloc: Global) -> Result<Command<'a>, AllocError>
-    ensures { IfOk result (λ c. app_of c ≡ on_run) }
-{
-    let explained = on_explained(alloc, "run", "Runs a program, and tells how it ends", INPUT);
-    let crewed = taking(explained, workers(alloc));
-    let limited = taking(crewed, limit(alloc));
-    let seeded = taking(limited, seed(alloc));
-    let tallied = taking(seeded, runs(alloc));
-    let log = Arg::new(alloc, WRITTEN)
-        .long(WRITTEN)
-        .value_name("G")
-        .action(ArgAction::Set)
-        .help("The file to which the log of the run is written");
-    taking(tallied, log)
-}
-
-fn on_explore<'a>(alloc: Global) -> Result<Command<'a>, AllocError>
-    ensures { IfOk result (λ c. app_of c ≡ on_explore) }
-{
-    let about = "Tells all outcomes of a program, whatever schedule its workers take";
-    let explained = on_explained(alloc, "explore", about, INPUT);
-    let crewed = taking(explained, crew(alloc));
-    let limited = taking(crewed, standings(alloc));
-    let logs = Arg::new(alloc, LOGS)
-        .long(LOGS)
-        .value_name("D")
-        .action(ArgAction::Set)
-        .help("The folder to which a log of each outcome is written, as D/1.log");
-    taking(limited, logs)
-}
-
-// A command with one argument more.
-fn taking<'a>(
-    command: Result<Command<'a>, AllocError>,
-    argument: Arg<'a>,
-) -> Result<Command<'a>, AllocError>
-    ensures { IfOk result (λ whole. IsOkAnd command.entry (λ old. AddsArg old argument.entry whole)) }
-{
-    match command {
-        Ok(command) => command.arg(argument),
-        Err(e) => Err(e),
-    }
-}
-
-// The option that says how many workers a run has.
-fn workers<'a>(alloc: Global) -> Arg<'a>
-    ensures rule { rule_of result ≡ workers_rule }
-    ensures local { result.global ≡ false }
-{
-    let crew = value_parser!(u8).range(1..=64);
-    number(alloc, WORKERS, "N", crew, "1").help("How many workers the run has, from 1 to 64")
-}
-
-// The option that says how many choices a run may make.
-fn limit<'a>(alloc: Global) -> Arg<'a>
-    ensures rule { rule_of result ≡ limit_rule }
-    ensures local { result.global ≡ false }
-{
-    let choices = value_parser!(u32).range(1..=10_000_000);
-    number(alloc, LIMIT, "K", choices, "1000000").help(
-        "At most so many choices are made, from 1 to 10,000,000",
-    )
-}
-
-// The option that says how many workers an exploration is of.
-fn crew<'a>(alloc: Global) -> Arg<'a>
-    ensures rule { rule_of result ≡ crew_rule }
-    ensures local { result.global ≡ false }
-{
-    let many = value_parser!(u8).range(1..=64);
-    number(alloc, WORKERS, "N", many, "2").help(
-        "How many workers the outcomes are of, from 1 to 64",
-    )
-}
-
-// The option that says how many standings an exploration keeps.
-fn standings<'a>(alloc: Global) -> Arg<'a>
-    ensures rule { rule_of result ≡ limit_rule }
-    ensures local { result.global ≡ false }
-{
-    let most = value_parser!(u32).range(1..=10_000_000);
-    number(alloc, LIMIT, "K", most, "1000000").help(
-        "At most so many standings are kept, from 1 to 10,000,000",
-    )
-}
-
-// The option that names the schedule of a run.
-fn seed<'a>(alloc: Global) -> Arg<'a>
-    ensures rule { rule_of result ≡ seed_rule }
-    ensures local { result.global ≡ false }
-{
-    let any = value_parser!(u32);
-    option(alloc, SEED, "S", any).help(
-        "The run has the schedule that S names, from 0 to 4,294,967,295",
-    )
-}
-
-// The option that says how many runs a tally is of.
-fn runs<'a>(alloc: Global) -> Arg<'a>
-    ensures rule { rule_of result ≡ runs_rule }
-    ensures local { result.global ≡ false }
-{
-    let many = value_parser!(u32).range(1..=1_000_000);
-    option(alloc, RUNS, "R", many).help(
-        "Tells which ends R runs have, 1 to 1,000,000, by S and the seeds behind it",
-    )
-}
-
-// An option that takes a number, by a parser of numbers, and says one where it is left out.
-fn number<'a>(
-    alloc: Global,
-    name: &'a str,
-    value: &'a str,
-    parser: ValueParser<'a>,
-    default: &'a str,
-) -> Arg<'a>
-    ensures rule { rule_of result ≡ number_rule name.now parser.entry default.now }
-    ensures local { result.global ≡ false }
-{
-    option(alloc, name, value, parser).default_value(default)
-}
-
-// The same, which may be left out.
-fn option<'a>(alloc: Global, name: &'a str, value: &'a str, parser: ValueParser<'a>) -> Arg<'a>
-    ensures rule { rule_of result ≡ option_rule name.now parser.entry }
-    ensures local { result.global ≡ false }
-{
-    Arg::new(alloc, name)
-        .long(name)
-        .value_name(value)
-        .value_parser(parser)
 }

@@ -9,6 +9,7 @@ mod plain;
 mod refusal;
 mod request;
 mod requesting;
+mod table;
 
 pub use clash::Clash;
 pub use refusal::NoRequest;

@@ -11,7 +11,7 @@ const OPTIONS: &str =
 const MORE_OPTIONS: &str = ", and --limit, --logs and --workers behind explore";
 
 // What stands before the reason why a word is not the number of an option, and what is told behind it in place of that reason.
-const NUMBERS: [(&str, &str); 4] = [
+const NUMBERS: &[(&str, &str)] = &[
     ("for '--workers <N>': ", "it is a number from 1 to 64"),
     ("for '--limit <K>': ", "it is a number from 1 to 10,000,000"),
     (
@@ -37,15 +37,18 @@ pub(crate) fn plain(alloc: Global, text: &str) -> Result<String, AllocError> {
 
 fn push_plain(out: &mut String, line: &str) -> Result<(), AllocError> {
     if line.starts_with(ADVICE) {
-        out.push_str(OPTIONS)?;
-        return out.push_str(MORE_OPTIONS);
+        return push_both(out, OPTIONS, MORE_OPTIONS);
     }
     for (front, told) in NUMBERS {
-        if let Some((before, _)) = line.split_once(front) {
+        if let Some((before, _)) = line.split_once(*front) {
             out.push_str(before)?;
-            out.push_str(front)?;
-            return out.push_str(told);
+            return push_both(out, front, told);
         }
     }
     out.push_str(line)
+}
+
+fn push_both(out: &mut String, first: &str, second: &str) -> Result<(), AllocError> {
+    out.push_str(first)?;
+    out.push_str(second)
 }

@@ -1,7 +1,7 @@
 //! The requests that words may make: a task, the name of a program, and whether what is wrong is explained.
 
 /// What is to be done with one program.
-#[derive(Clone, Copy, Debug)]
+#[derive(Clone, Copy)]
 pub enum Task<'a> {
     /// To print its canonical text.
     Print,
@@ -39,7 +39,7 @@ pub enum Task<'a> {
 
 /// A task, the name of the text of the program that it is for, and whether more is to be said of what is
 /// wrong: a fault in that program, a trap of it, or a choice that is not possible.
-#[derive(Clone, Copy, Debug)]
+#[derive(Clone, Copy)]
 pub struct Request<'a> {
     pub task: Task<'a>,
     pub name: &'a str,

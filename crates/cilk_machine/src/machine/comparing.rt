@@ -1,26 +1,27 @@
-//! Whether two machines stand at the same, and a number that tells apart where they stand.
+//! Whether two machines stand at the same but for the names of the workers, and a number that tells apart where they stand.
 
 ghost use Rattle.std.specs.Prelude.{◌≡◌, true, map};
 ghost use Rattle.cilk_machine_undo.specs.agree.Outside.{lock_by};
 ghost use Rattle.cilk_machine_undo.specs.spawn.Nodes.{path_at};
 ghost use Rattle.cilk_machine_choices.specs.model.Run.{Standing};
-ghost use Rattle.cilk_machine_same.specs.Alike.{SameTree, SamePlaces};
-ghost use Rattle.cilk_machine_same.specs.explore.Same.{Same};
+ghost use Rattle.cilk_machine_same.specs.Alike.{SameTree, SamePlacesBut};
+ghost use Rattle.cilk_machine_same.specs.explore.Names.{SameButNames};
 ghost use Rattle.cilk_machine.specs.Stands.{StandsAt};
 
 use super::Machine;
 use crate::comparing::{
-    are_same_cells, are_same_hands, are_same_locks, is_same_outcome, is_same_output, mix_hands,
-    mix_locks, mix_outcome,
+    are_same_cells, are_same_locks, is_same_outcome, is_same_output, mix_hands, mix_locks,
+    mix_outcome,
 };
+use crate::matching::Both;
 use cilk_machine_undo::Mixer;
 
 impl Machine {
-    /// Whether both stand at the same, as far as what follows can depend on it: fates, ids and how many choices were made do not matter. The other is
-    /// of the same program.
-    pub fn is_same(&self, other: &Machine) -> bool
+    /// Whether both stand at the same but for the names of the workers, as far as what follows can depend on it: fates, ids and how many choices were
+    /// made do not matter. The other is of the same program.
+    pub fn is_same_but_names(&self, other: &Machine) -> bool
         requires { other.now.program ≡ self.now.program }
-        ensures { result ≡ true → (a b : Standing) → StandsAt self.now a → StandsAt other.now b → Same a b }
+        ensures { result ≡ true → (a b : Standing) → StandsAt self.now a → StandsAt other.now b → SameButNames a b }
     {
         // Brings its clauses into the proof.
         let _outcome = &self.outcome;
@@ -58,10 +59,10 @@ impl Machine {
         )
     }
 
-    // The live instances, and what the workers have.
+    // The live instances, and what the workers have, in whatever order.
     fn lives_the_same(&self, other: &Machine) -> bool
         ensures tree { result ≡ true → SameTree self.now.machine.nodes other.now.machine.nodes }
-        ensures places { result ≡ true → SamePlaces self.now.machine.nodes other.now.machine.nodes self.now.machine.places other.now.machine.places }
+        ensures places { result ≡ true → SamePlacesBut self.now.machine.nodes other.now.machine.nodes self.now.machine.places other.now.machine.places }
     {
         if self.workers != other.workers {
             return false;
@@ -69,16 +70,16 @@ impl Machine {
         if !self.parts.tree.is_same(&other.parts.tree) {
             return false;
         }
-        are_same_hands(
-            &self.parts.hands,
-            &self.parts.tree,
-            &other.parts.hands,
-            &other.parts.tree,
-            self.workers,
-        )
+        let both = Both {
+            hands: &self.parts.hands,
+            tree: &self.parts.tree,
+            others: &other.parts.hands,
+            other: &other.parts.tree,
+        };
+        both.match_hands(self.workers)
     }
 
-    /// A number that is the same where machines stand at the same, and mostly another elsewhere. It promises nothing.
+    /// A number that is the same where machines stand at the same but for the names of the workers, and mostly another elsewhere. It promises nothing.
     pub fn digest(&self) -> u64 {
         let mut mixer = Mixer::new();
         mix_outcome(&self.outcome, &mut mixer);

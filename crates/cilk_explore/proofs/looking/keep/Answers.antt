@@ -19,7 +19,7 @@ returns-in-Ok-clause-keeps c =
     let own = c.len-own.ensures in
     let room : length e.store < e.limit = omega arith in
     keeps-one e f c.args.number (choice_of c.args.choice) c.requires refl c.in-Ok.ensures.more leads.0 leads.1 c.known.ensures.program c.known.ensures.workers
-    refl refl room
+    refl refl refl room
 
 pub returns-in-Ok-clause-known : goal.returns-in-Ok-clause-known
 returns-in-Ok-clause-known c =

@@ -21,7 +21,7 @@ returns-in-Ok-true-clause-looked c = λ ok.
     (λ (p : Position). HasLink (program_of g) (workers_of g) g.store g.links.here p.standing (length g.walker.log + 1))
     (c.in-Ok-true.ensures.over (ap Ok c.in-Ok-true.field-0-test)) in
     between-closed f g g c.close.new.explorer c.args.number at c.in-Ok.ensures.between c.in-Ok.ensures.links c.in-Ok-true.ensures.tells
-    (grows-none (length g.walker.log + 1) g at.room) (gathers-none g g refl) refl refl refl paired linked
+    (grows-none (length g.walker.log + 1) g at.room) (gathers-none g g refl) refl refl refl refl c.in-Ok.ensures.idle paired linked
     (on-is c.close.result true ok c.close.ensures.rest) (on-is c.close.result true ok c.close.ensures.links)
 
 pub returns-in-Ok-true-clause-links : goal.returns-in-Ok-true-clause-links
@@ -35,7 +35,7 @@ returns-in-Ok-true-clause-links c = λ ok.
     (λ (p : Position). HasLink (program_of g) (workers_of g) g.store g.links.here p.standing (length g.walker.log + 1))
     (c.in-Ok-true.ensures.over (ap Ok c.in-Ok-true.field-0-test)) in
     links-closed f g g c.close.new.explorer c.args.number at c.in-Ok.ensures.between c.in-Ok.ensures.links c.in-Ok-true.ensures.tells
-    (grows-none (length g.walker.log + 1) g at.room) (gathers-none g g refl) refl refl refl paired linked
+    (grows-none (length g.walker.log + 1) g at.room) (gathers-none g g refl) refl refl refl refl c.in-Ok.ensures.idle paired linked
     (on-is c.close.result true ok c.close.ensures.rest) (on-is c.close.result true ok c.close.ensures.links)
 
 pub returns-in-Ok-true-try_all-clause-looked : goal.returns-in-Ok-true-try_all-clause-looked
@@ -46,7 +46,7 @@ returns-in-Ok-true-try_all-clause-looked c = λ ok.
     let paired : IsPaired g = record { program = at.paired.program; workers = at.paired.workers } in
     let shut = c.close-in-Ok-true-try_all in
     between-closed f g c.try_all.new.explorer shut.new.explorer c.args.number at c.in-Ok.ensures.between c.in-Ok.ensures.links
-    c.in-Ok-false.ensures.tells c.in-Ok-true-try_all.ensures.grows c.in-Ok-true-try_all.ensures.gathers refl refl refl paired
+    c.in-Ok-false.ensures.tells c.in-Ok-true-try_all.ensures.grows c.in-Ok-true-try_all.ensures.gathers refl refl refl refl c.in-Ok.ensures.idle paired
     (c.in-Ok-true-try_all.ensures.linked (ap Ok c.in-Ok-true-try_all.field-0-test)) (on-is shut.result true ok shut.ensures.rest)
     (on-is shut.result true ok shut.ensures.links)
 
@@ -58,7 +58,7 @@ returns-in-Ok-true-try_all-clause-links c = λ ok.
     let paired : IsPaired g = record { program = at.paired.program; workers = at.paired.workers } in
     let shut = c.close-in-Ok-true-try_all in
     links-closed f g c.try_all.new.explorer shut.new.explorer c.args.number at c.in-Ok.ensures.between c.in-Ok.ensures.links
-    c.in-Ok-false.ensures.tells c.in-Ok-true-try_all.ensures.grows c.in-Ok-true-try_all.ensures.gathers refl refl refl paired
+    c.in-Ok-false.ensures.tells c.in-Ok-true-try_all.ensures.grows c.in-Ok-true-try_all.ensures.gathers refl refl refl refl c.in-Ok.ensures.idle paired
     (c.in-Ok-true-try_all.ensures.linked (ap Ok c.in-Ok-true-try_all.field-0-test)) (on-is shut.result true ok shut.ensures.rest)
     (on-is shut.result true ok shut.ensures.links)
 
@@ -69,4 +69,4 @@ returns-in-Ok-false-try_all-clause-stopped c = λ ok.
     let at = c.in-Ok.ensures.at in
     let paired : IsPaired g = record { program = at.paired.program; workers = at.paired.workers } in
     between-halted f g c.try_all.new.explorer c.args.number at c.in-Ok.ensures.between c.in-Ok-false.ensures.tells
-    c.in-Ok-false-try_all.ensures.grows refl refl paired (c.in-Ok-false.ensures.none (ap Ok c.in-Ok-false.field-0-test))
+    c.in-Ok-false-try_all.ensures.grows refl refl refl paired (c.in-Ok-false.ensures.none (ap Ok c.in-Ok-false.field-0-test))

@@ -1,9 +1,29 @@
-use Rattle.std.proofs.Common.{◌≡◌, ◌+◌, ◌++◌, List, ◌∷◌, drop, sym, ap, ◌∙◌, arith, append_assoc}
-use Rattle.std.proofs.lemmas.List.{at_drop_more}
+use Rattle.std.proofs.Common.{◌≡◌, ℕ, ◌+◌, ◌<◌, ◌++◌, List, ◌∷◌, length, get_or, drop, sym, ap, ◌∙◌, arith, append_assoc, append-nil}
+use Rattle.std.proofs.lemmas.List.{at_drop_all, at_drop_more}
 use Rattle.cilk_load_names.specs.syntax.Tree as tree
 use Rattle.cilk_load_names.specs.labelled.Count.{count_item, count_items}
 use Rattle.cilk_load_layout.specs.Tables.{item_tables, items_tables}
 use Rattle.cilk_load_layout.proofs.building.bodies_of.Goals as goal
+
+parted : (items : List tree.Item) (k : ℕ) (item : tree.Item) → k < length items → item ≡ get_or items k item
+    → count_items (drop k items) ≡ count_item item + count_items (drop (k + 1) items)
+parted items k item below is =
+    at_drop_more count_items items k item below ∙ ap (λ (x : tree.Item). count_item x + count_items (drop (k + 1) items)) (sym is)
+
+pub put_item-requires : goal.put_item-requires
+put_item-requires c = omega (arith, parted c.args.items.now c.loop-item.item-index c.item-item.result c.loop-item-test.true c.item-item.is)
+
+pub actions_of_item-at-requires : goal.actions_of_item-at-requires
+actions_of_item-at-requires c = omega (arith, parted c.args.items.now c.loop-item.item-index c.item-item.result c.loop-item-test.true c.item-item.is)
+
+pub overflow_add-at : goal.overflow_add-at
+overflow_add-at c =
+    omega (arith, c.actions_of_item-at.ensures, parted c.args.items.now c.loop-item.item-index c.item-item.result c.loop-item-test.true c.item-item.is)
+
+pub returns : goal.returns
+returns c =
+    sym (append-nil _)
+    ∙ (rw (at_drop_all (λ xs. items_tables c.loop-item.at xs) c.args.items.now c.loop-item.item-index c.loop-item-test.false) at c.loop-item.invariant.bodies)
 
 pub loop-item-preserved : goal.loop-item-preserved
 loop-item-preserved c =

@@ -1,4 +1,4 @@
-use Rattle.std.proofs.Common.{refl, sym, subst, ap, ◌≡◌, ◌<◌, ◌-◌, ◌+◌, ◌^◌, ◌∙◌, length, slice_index, slice_set, arith}
+use Rattle.std.proofs.Common.{refl, sym, subst, ap, ◌<◌, ◌-◌, ◌+◌, ◌^◌, ◌∙◌, length, slice_index, slice_set, arith}
 use Rattle.std.proofs.lemmas.List.{get_or_read_under}
 use Rattle.cilk_run.proofs.table.count.Goals as goal
 

@@ -1,4 +1,4 @@
-use Rattle.std.proofs.Common.{◌≡◌, ◌∷◌, [], ◌++◌, codes, string_bytes, refl, ap, sym, ◌∙◌, append-nil}
+use Rattle.std.proofs.Common.{◌≡◌, ◌∷◌, [], ◌++◌, codes, string_bytes, ap, sym, ◌∙◌, append-nil}
 use Rattle.std.proofs.lemmas.List.{at_drop_all}
 use Rattle.cilk_tree_syntax.specs.Tree.{locals_of, stmts_of}
 use Rattle.cilk_tree_syntax.specs.Lines.{closed, deeper, text_of}

@@ -1,6 +1,5 @@
-use Rattle.std.proofs.Common.{◌≡◌, ◌∙◌, ap, codes, option_map, sym, ℕ, Option, None, Some}
-use Rattle.clap.specs.Words.{Row, first_of, found_of, one_of, rows_of}
-use Rattle.std.specs.Prelude.{List}
+use Rattle.std.proofs.Common.{◌∙◌, ap, codes, option_map, sym, Some}
+use Rattle.clap.specs.Words.{first_of, found_of, one_of, rows_of}
 use Rattle.cilk_words.specs.CommandLine.{run, wanted_by}
 use Rattle.cilk_words.proofs.Requests.{limit_read, log_found, no_crew, no_end, no_limit, no_workers, run_given, workers_read}
 use Rattle.cilk_words.proofs.requesting.run_in.Goals as goal

@@ -1,4 +1,4 @@
-use Rattle.std.proofs.Common.{rules, ◌≡◌, sym, subst, ap, ◌∙◌, ◌<◌, ◌-◌, ◌+◌, ◌++◌, ◌∷◌, [], length, slice_index, slice_set, refl, arith, length-append}
+use Rattle.std.proofs.Common.{rules, ◌≡◌, sym, subst, ap, ◌∙◌, ◌<◌, ◌-◌, ◌+◌, ◌++◌, ◌∷◌, [], length, slice_index, refl, arith, length-append}
 use Rattle.cilk_log.specs.choices.declared.choice.Choice.{Choice}
 use Rattle.cilk_run.specs.Histories.{Posted, IsCounted}
 use Rattle.cilk_run.proofs.Counting.{turns_of-fits, counted-more}

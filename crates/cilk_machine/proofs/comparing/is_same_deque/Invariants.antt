@@ -1,9 +1,0 @@
-use Rattle.std.proofs.Common.{◌≡◌, ◌<◌, ℕ, Some, slice_get}
-use Rattle.cilk_machine_undo.specs.frame.Frames.{Frame}
-use Rattle.cilk_machine_choices.specs.model.Hands.{deque_of}
-use Rattle.cilk_machine_same.specs.Alike.{SameHeld}
-use Rattle.cilk_machine.proofs.comparing.is_same_deque.Given as goal
-
-abbrev pub invariant-loop-k : goal.invariant-loop-k
-invariant-loop-k l = (i : ℕ) → i < l.k → (f g : Frame) → slice_get (deque_of l.hands l.worker) i ≡ Some f → slice_get (deque_of l.others l.worker) i ≡ Some g
-    → SameHeld l.tree.nodes l.other.nodes f g
