@@ -9,7 +9,7 @@ use cilk_program::{LogFolder, LogStore, Texts};
 use either::Either;
 use std::alloc::{AllocError, Global};
 use std::fs::File;
-use std::io::ErrorKind;
+use std::io::{ErrorKind, Read};
 use std::os::unix::fs::MetadataExt;
 use std::{fs, io};
 
@@ -116,7 +116,7 @@ impl<'r> LogStore for LogFile<'r> {
     }
 }
 
-/// The files of a folder that logs are written to, if there is one. Each is created when its text is there.
+/// The files of a folder that logs are written to, if there is one. Each is created when its text is there, or replaced if it is a log of before.
 #[derive(Drop)]
 pub struct LogFiles<'r> {
     rt: &'r HostRuntime,
@@ -138,11 +138,12 @@ impl<'r> LogFolder for LogFiles<'r> {
         let Some(folder) = &self.path else {
             return Ok(());
         };
-        let path = name_within(folder.as_str(), number)?;
-        if is_same_file(self.rt, self.program.as_str(), path.as_str()) {
+        let name = name_within(folder.as_str(), number)?;
+        let log = name.as_str();
+        if is_same_file(self.rt, self.program.as_str(), log) || is_no_log(self.rt, log) {
             return Err(io::Error::from(ErrorKind::AlreadyExists));
         }
-        replace_file(self.rt, path.as_str(), text)
+        replace_file(self.rt, log, text)
     }
 }
 
@@ -161,6 +162,25 @@ fn is_same_file(rt: &HostRuntime, program: &str, log: &str) -> bool {
 }
 
 const STANDARD_INPUT: &str = "/dev/stdin";
+
+// How a log begins, of either version.
+const LOG_FRONT: &[u8] = b"cilklog ";
+
+// Whether a file is there that does not begin as a log does. Who asks for logs by a folder has named none of these files.
+fn is_no_log(rt: &HostRuntime, path: &str) -> bool {
+    match fs::metadata(rt, path) {
+        Ok(found) => found.is_file() && !begins_as_log(rt, path),
+        Err(_) => false,
+    }
+}
+
+fn begins_as_log(rt: &HostRuntime, path: &str) -> bool {
+    let mut front = [0; 8];
+    match File::open(rt, path) {
+        Ok(mut file) => file.read_exact(&mut front).is_ok() && front.as_slice() == LOG_FRONT,
+        Err(_) => false,
+    }
+}
 
 /// What a name stands for.
 pub enum Source<'a> {

@@ -9,10 +9,10 @@ ghost use Rattle.cilk_commands.specs.Telling.{GivesUp};
 ghost use Rattle.cilk_commands.specs.Status.{status_of, is_answer};
 
 use crate::answer::write_answer;
+use crate::explaining::tell_of;
 use crate::failure::Failure;
 use crate::source::read_text;
 use crate::status::Status;
-use crate::telling::tell_of;
 use std::alloc::Global;
 use std::io::{Read, Write};
 

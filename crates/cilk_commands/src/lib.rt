@@ -8,6 +8,7 @@
 mod answer;
 mod answering;
 mod check;
+mod explaining;
 mod failure;
 mod fault;
 mod loading;
@@ -15,12 +16,12 @@ mod print;
 mod program;
 mod source;
 mod status;
-mod telling;
 
 pub use answer::{write_answer, write_parts, write_whole};
 pub use answering::{Answering, answer_text};
 pub use check::check_text;
 pub use cilk_load::Loaded;
+pub use explaining::{action_told, tell_of};
 pub use failure::Failure;
 pub use fault::Fault;
 pub use loading::ready_of;
@@ -28,4 +29,3 @@ pub use print::print_text;
 pub use program::checked_program;
 pub use source::{RECORD_LIMIT, read_record, read_text};
 pub use status::Status;
-pub use telling::{action_told, tell_of};

@@ -4,7 +4,7 @@ use crate::replay_fault::ReplayFault;
 use cilk_debug_console::Log;
 
 /// A recorded schedule that cannot be replayed. It is handed back with its fault, so that more can be told of that.
-#[derive(Drop)]
+#[derive(Debug, Drop)]
 pub struct Unplayable {
     pub log: Log,
     pub fault: ReplayFault,

@@ -2,6 +2,7 @@
 #![tactic(auto)]
 
 mod comparing;
+mod endings;
 mod exploration;
 mod explorer;
 mod exploring;
@@ -10,7 +11,6 @@ mod looking;
 mod marking;
 mod node;
 mod store;
-mod telling;
 mod told;
 mod unending;
 mod walker;

@@ -11,8 +11,8 @@ ghost use Rattle.cilk_explore.specs.Walks.{position_of};
 ghost use Rattle.cilk_explore.specs.Exploring.{IsAt, IsBehind, IsBetween, HasLinks, IsKnownBy, Grows, Gathers, GoesOn, KeepsAs, SaysIdle};
 
 use crate::comparing::known;
+use crate::endings::tell;
 use crate::explorer::Explorer;
-use crate::telling::tell;
 use crate::walker::Walker;
 use cilk_machine::{Act, Choice, Memory};
 

@@ -80,14 +80,7 @@ pub fn action_in(alloc: Global, names: &SymbolTable, stmt: &Stmt) -> Result<Opti
         StmtNode::Break(_) => Ok(Some(Action::Break)),
         StmtNode::Continue(_) => Ok(Some(Action::Continue)),
         StmtNode::Return(_, value) => Ok(Some(return_in(alloc, names, value)?)),
-        StmtNode::If(_, _, None) => Ok(None),
-        StmtNode::If(_, _, Some(_)) => Ok(None),
-        StmtNode::While(_, _) => Ok(None),
-        StmtNode::Do(_, _) => Ok(None),
-        StmtNode::For(_, _, _, _) => Ok(None),
-        StmtNode::Switch(_, _) => Ok(None),
-        StmtNode::Labelled(_) => Ok(None),
-        StmtNode::Nested(_) => Ok(None),
+        _ => Ok(None),
     }
 }
 

@@ -49,12 +49,12 @@ abbrev pub taken_down_at : Situation → ℕ → ℕ → Term Slot → List Know
 taken_down_at m w n code values = record { path = path_by m (hand_of m.machine.places w); n = n; code = code; values = values }
 
 -- it sees an action of this number, of whose expression this is known
-pub record IsTakenDown (m : Situation) (w n : ℕ) (lists : List (Option (Term Slot))) (values : List Known) : Type 0 where
+pub record IsTakenDown (m : Situation) (w n : ℕ) (expressions : List (Option (Term Slot))) (values : List Known) : Type 0 where
   pub free : look_refused m w ≡ None
   pub peek : Peek
   pub seen : peek_at m w ≡ Some peek
   pub number : peek.n ≡ n
-  pub values_are : slice_get lists (n - 1) ≡ Some (Some peek.code) → values ≡ peek.values
+  pub values_are : slice_get expressions (n - 1) ≡ Some (Some peek.code) → values ≡ peek.values
 
 -- it sees an action of this number, whose expression has this value over what the variables hold
 pub record IsSeenAt (m : Situation) (w n : ℕ) (value : Result ℤ Trap) : Type 0 where

@@ -6,7 +6,7 @@ use cilk_machine_plan::{Id, TrapKind};
 
 /// What a step did. The number is that of the action; that of a delivery is the number of the
 /// child's spawn.
-#[derive(Clone, Copy)]
+#[derive(Clone, Copy, Debug, PartialEq, Eq)]
 pub enum Did {
     /// A frame was moved, and nothing else was changed.
     Moved,

@@ -17,7 +17,8 @@ use cilk_machine_plan::Delivery;
 pub(crate) enum Coming<'a> {
     /// It was aborted: it waits for its children, and then ends.
     End,
-    /// Nothing, since it has no head.
+    /// Nothing, since its top activation stands at a number that is no action's; its step waits then. No choices lead a checked program there
+    /// (`cilk_laws_runs::heads::each_instance_has_a_head`), but a frame that a caller made may stand anywhere.
     Nothing,
     /// It takes a delivery.
     Delivery(&'a Delivery),

@@ -6,16 +6,16 @@ mod counts;
 mod edge;
 mod gauge;
 mod measure;
+mod measure_lines;
 mod measuring;
 mod motion;
 mod seat;
 mod tally;
-mod telling;
 
 pub use cilk_debug::{
     Choices, Debugger, Log, LogFault, Memory, ReplayFault, SessionFault, Unplayable, play,
     play_all, read_log, write_log,
 };
 pub use measure::Measure;
+pub use measure_lines::put_measure;
 pub use measuring::{Measured, measure_all};
-pub use telling::put_measure;

@@ -10,12 +10,21 @@ use cilk_parse_rules::ReadError;
 use std::alloc;
 
 /// What stands behind `int` and a name.
-#[derive(Drop)]
 pub enum IntTail {
     /// The rest of a C function (C 1990, 6.7.1).
     Function(Tail),
     /// The shape of a variable or array, and those that are declared together with it (C 1990, 6.7.2).
     Variables(GlobalShape, Vec<Global>),
+}
+
+// To drop it elsewhere is to call this, and its parts' drops are proved here alone.
+impl Drop for IntTail {
+    fn drop(self) {
+        match self {
+            IntTail::Function(_tail) => {}
+            IntTail::Variables(_, _others) => {}
+        }
+    }
 }
 
 impl IntTail {

@@ -10,7 +10,6 @@ use cilk_parse_rules::ReadError;
 use std::alloc::Global;
 
 /// What stands behind the first parameter of `main`, where that has a name.
-#[derive(Drop)]
 pub enum MainTail {
     /// The other parameters of a declaration, with the names that they have (C 1990, 6.5.4.3).
     Declares(Vec<Option<Word>>),
@@ -18,6 +17,17 @@ pub enum MainTail {
     Defines(Vec<Option<Word>>, Block),
     /// The words of the command line, and the body (C 1990, 5.1.2.2.1).
     CommandLine(Word, Block),
+}
+
+// To drop it elsewhere is to call this, and its parts' drops are proved here alone.
+impl Drop for MainTail {
+    fn drop(self) {
+        match self {
+            MainTail::Declares(_others) => {}
+            MainTail::Defines(_others, _body) => {}
+            MainTail::CommandLine(_words, _body) => {}
+        }
+    }
 }
 
 impl MainTail {

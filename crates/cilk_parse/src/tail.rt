@@ -9,10 +9,19 @@ use cilk_parse_rules::ReadError;
 
 /// What stands behind the name of a function: a declaration of so many parameters (C 1990, 6.5.4.3), or a definition
 /// (6.7.1).
-#[derive(Drop)]
 pub enum Tail {
     Declares(u32),
     Defines(Parameters, Block),
+}
+
+// To drop it elsewhere is to call this, and its parts' drops are proved here alone.
+impl Drop for Tail {
+    fn drop(self) {
+        match self {
+            Tail::Declares(_) => {}
+            Tail::Defines(_parameters, _body) => {}
+        }
+    }
 }
 
 impl Tail {

@@ -5,7 +5,7 @@ ghost use Rattle.cilk_parse_grammar.specs.Classes.{name_class};
 ghost use Rattle.cilk_parse_grammar.specs.NameClasses.{named_class};
 
 /// What a name is to a rule: one with a meaning of its own, or another.
-#[derive(Clone, Copy, Debug, PartialEq, Eq)]
+#[derive(Clone, Copy, PartialEq, Eq)]
 pub enum NameClass {
     Main,
     Char,

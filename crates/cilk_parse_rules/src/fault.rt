@@ -6,7 +6,7 @@ ghost use Rattle.cilk_parse_rules.specs.declared.fault.ReadError.TheVariants.{Me
 use std::alloc::{AllocError, AllocFailed};
 
 /// The first fault from left to right, with the number of tokens that are left from there on.
-#[derive(Clone, Copy, Debug, PartialEq, Eq)]
+#[derive(Clone, Copy, PartialEq, Eq)]
 pub enum Fault {
     /// Nothing that the rules say begins with the tokens through this one.
     Unexpected(usize),
@@ -15,7 +15,7 @@ pub enum Fault {
 }
 
 /// Why something was not read.
-#[derive(Clone, Copy, Debug, PartialEq, Eq)]
+#[derive(Clone, Copy, PartialEq, Eq)]
 pub enum ReadError {
     /// Memory has run out.
     Memory,

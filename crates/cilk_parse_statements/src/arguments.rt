@@ -57,10 +57,11 @@ pub fn arguments(cursor: &mut Cursor) -> Result<Vec<Expr>, ReadError>
     ensures { ReadsAs (λ v. (v.items, cursor.new.pieces)) result (read_by arguments cursor.old.pieces) }
 {
     cursor.mark(Mark::OpenParenthesis)?;
-    let mut all = Vec::new(cursor.alloc());
-    if cursor.begins_expression() {
-        all = expressions(cursor)?;
+    if !cursor.begins_expression() {
+        cursor.mark(Mark::CloseParenthesis)?;
+        return Ok(Vec::new(cursor.alloc()));
     }
+    let all = expressions(cursor)?;
     cursor.mark(Mark::CloseParenthesis)?;
     Ok(all)
 }

@@ -7,12 +7,21 @@ use crate::child::Spawned;
 use cilk_parse_grammar::{Expr, Move, MoveNode, Stmt, StmtNode, Taker, Word};
 
 /// What stands behind the name of what is called.
-#[derive(Drop)]
 pub enum CallForm {
     /// The child whose value an inlet takes, and what else it is given (Cilk 5.4 manual, `inlet`).
     Inlet(Spawned, Vec<Expr>),
     /// What a function is called with (C 1990, 6.3.2.2).
     Function(Vec<Expr>),
+}
+
+// To drop it elsewhere is to call this, and its parts' drops are proved here alone.
+impl Drop for CallForm {
+    fn drop(self) {
+        match self {
+            CallForm::Inlet(_child, _others) => {}
+            CallForm::Function(_arguments) => {}
+        }
+    }
 }
 
 impl CallForm {

@@ -13,11 +13,21 @@ use cilk_parse_grammar::{Cursor, Expr, Keyword, Stmt, StmtNode, Taker, Word};
 use cilk_parse_rules::ReadError;
 
 /// The place of the word `spawn`, the callee, and what it is called with (Cilk 5.4 manual, `spawn`).
-#[derive(Drop)]
 pub struct Spawned {
     pub at: u32,
     pub callee: Word,
     pub arguments: Vec<Expr>,
+}
+
+// To drop it elsewhere is to call this, and its parts' drops are proved here alone.
+impl Drop for Spawned {
+    fn drop(self) {
+        let Spawned {
+            at: _,
+            callee: _callee,
+            arguments: _arguments,
+        } = self;
+    }
 }
 
 impl Spawned {
@@ -25,8 +35,13 @@ impl Spawned {
     pub fn given(self, taker: Taker) -> Stmt
         ensures { result ≡ spawned self (taker_of taker) }
     {
+        let Spawned {
+            at,
+            callee,
+            arguments,
+        } = self;
         Stmt {
-            node: StmtNode::Spawn(self.at, taker, self.callee, self.arguments),
+            node: StmtNode::Spawn(at, taker, callee, arguments),
         }
     }
 }

@@ -52,12 +52,13 @@ pub fn move_before(cursor: &mut Cursor, end: Mark) -> Result<Option<Move>, ReadE
 pub fn loop_test(cursor: &mut Cursor) -> Result<Expr, ReadError>
     ensures { ReadsAs (λ e. (e, cursor.new.pieces)) result (read_by (ended loop_test) cursor.old.pieces) }
 {
-    let mut test = Expr {
-        node: ExprNode::Number(1),
-    };
-    if cursor.begins_expression() {
-        test = expression(cursor)?;
+    if !cursor.begins_expression() {
+        cursor.mark(Mark::Semicolon)?;
+        return Ok(Expr {
+            node: ExprNode::Number(1),
+        });
     }
+    let test = expression(cursor)?;
     cursor.mark(Mark::Semicolon)?;
     Ok(test)
 }

@@ -28,10 +28,11 @@ fn called(cursor: &mut Cursor) -> Result<CallForm, ReadError>
         cursor.mark(Mark::CloseParenthesis)?;
         return Ok(CallForm::Inlet(child, others));
     }
-    let mut arguments = Vec::new(cursor.alloc());
-    if cursor.begins_expression() {
-        arguments = expressions(cursor)?;
+    if !cursor.begins_expression() {
+        cursor.mark(Mark::CloseParenthesis)?;
+        return Ok(CallForm::Function(Vec::new(cursor.alloc())));
     }
+    let arguments = expressions(cursor)?;
     cursor.mark(Mark::CloseParenthesis)?;
     Ok(CallForm::Function(arguments))
 }

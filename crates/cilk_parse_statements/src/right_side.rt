@@ -7,10 +7,19 @@ ghost use Rattle.cilk_parse_statements.specs.Views.{value_of};
 use cilk_parse_grammar::{Expr, Move, MoveNode, Target, Word};
 
 /// What an assignment writes: an expression, or the value of a call of a C function (C 1990, 6.3.16, 6.3.2.2).
-#[derive(Drop)]
 pub enum RightSide {
     Computed(Expr),
     Called(Word, Vec<Expr>),
+}
+
+// To drop it elsewhere is to call this, and its parts' drops are proved here alone.
+impl Drop for RightSide {
+    fn drop(self) {
+        match self {
+            RightSide::Computed(_value) => {}
+            RightSide::Called(_name, _arguments) => {}
+        }
+    }
 }
 
 impl RightSide {

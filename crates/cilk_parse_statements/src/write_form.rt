@@ -8,12 +8,21 @@ use crate::child::Spawned;
 use cilk_parse_grammar::{BinOp, Place, Stmt, StmtNode, Taker, Target};
 
 /// What stands behind the place that a statement begins with.
-#[derive(Drop)]
 pub enum WriteForm {
     /// An operator, and the child whose value it writes (Cilk 5.4 manual, `spawn`).
     Spawned(Option<BinOp>, Spawned),
     /// What is done at once (C 1990, 6.3.16, 6.3.2.4).
     Done(Action),
+}
+
+// To drop it elsewhere is to call this, and its parts' drops are proved here alone.
+impl Drop for WriteForm {
+    fn drop(self) {
+        match self {
+            WriteForm::Spawned(_, _child) => {}
+            WriteForm::Done(_action) => {}
+        }
+    }
 }
 
 impl WriteForm {

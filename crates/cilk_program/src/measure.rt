@@ -27,7 +27,7 @@ use cilk_commands::{
     Answering, Failure, Loaded, Status, answer_text, read_text, ready_of, write_answer,
 };
 use cilk_measure::{Log, Measure, Measured, Memory, ReplayFault, measure_all, put_measure};
-use cilk_seed::{Run, play};
+use cilk_seed::{Run, run_by_seed};
 use std::alloc::{AllocError, Global};
 use std::io::{Read, Write};
 
@@ -98,7 +98,7 @@ fn alone(alloc: Global, program: Loaded) -> Result<String, AllocError>
         drop(program);
         return Err(AllocError);
     };
-    match play(alloc, copy, 1, 0, LIMIT) {
+    match run_by_seed(alloc, copy, 1, 0, LIMIT) {
         Ok(run) => numbers_of_run(alloc, program, run),
         Err(_) => {
             drop(program);

@@ -26,7 +26,7 @@ use crate::streams::Streams;
 use crate::trapped::{Ended, Trapped};
 use cilk_commands::{Failure, Loaded, Status, read_text, ready_of, write_answer};
 use cilk_measure::write_log;
-use cilk_seed::{Open, Run, RunFault, play, run};
+use cilk_seed::{Open, Run, RunFault, run, run_by_seed};
 use std::alloc::Global;
 use std::io::{Read, Write};
 use std::sync::Wait;
@@ -201,7 +201,7 @@ fn made<H: Threads + Wait + Sync>(
 {
     match task.seed {
         None => run(rt, alloc, program, task.workers, task.limit, &Open),
-        Some(seed) => play(alloc, program, task.workers, u64::from(seed), task.limit),
+        Some(seed) => run_by_seed(alloc, program, task.workers, u64::from(seed), task.limit),
     }
 }
 

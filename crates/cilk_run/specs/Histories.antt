@@ -7,12 +7,12 @@ use Rattle.cilk_log.specs.choices.declared.choice.Choice.{Choice}
 use Rattle.cilk_machine.specs.Situation.{Situation}
 use Rattle.cilk_machine.specs.Stands.{Led}
 
--- a machine and a list of choices
-pub record Recorded : Type 0 where
+-- what contracts see of a `Locked`: a machine and a list of choices
+pub record Locked : Type 0 where
   pub machine : Situation
   pub history : List Choice
 
--- the same under a lock, with the two reasons to end that are not the machine's: want of memory, and that all are told to
+-- and of a `Table`: the same, with the two reasons to end that are not the machine's: want of memory, and that all are told to
 pub record Posted : Type 0 where
   pub machine : Situation
   pub history : List Choice

@@ -35,4 +35,4 @@ IsBegun limit w old (Seen n) new = new ≡ old
 
 -- expressions that stand where those of the program's actions do that may be seen beforehand, from action 1 on
 abbrev pub IsListed : Program → List (Option (Term Slot)) → Type 0
-IsListed p lists = (k : ℕ) (t : Term Slot) → slice_get lists k ≡ Some (Some t) → code_at p (k + 1) ≡ Some t
+IsListed p expressions = (k : ℕ) (t : Term Slot) → slice_get expressions k ≡ Some (Some t) → code_at p (k + 1) ≡ Some t

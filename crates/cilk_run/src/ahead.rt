@@ -16,7 +16,7 @@ const FEW_OPERATORS: u32 = 16;
 /// has such a one.
 #[derive(Drop)]
 pub struct Ahead<J: Setting> {
-    lists: Vec<Option<Listed>>,
+    expressions: Vec<Option<Listed>>,
     of: PhantomData<J>,
 }
 
@@ -32,9 +32,9 @@ impl<J: Setting> Model for Ahead<J> {
 
     ghost coded = { Prim.hlevel (codes, coded_Term) };
 
-    ghost view = { λ a. a.lists.items };
+    ghost view = { λ a. a.expressions.items };
 
-    ghost invariant = { λ a. IsListed J.program a.lists.items };
+    ghost invariant = { λ a. IsListed J.program a.expressions.items };
 }
 
 impl<J: Setting> Ahead<J> {
@@ -42,25 +42,25 @@ impl<J: Setting> Ahead<J> {
     pub fn new(alloc: Global, program: &Loaded) -> Result<Ahead<J>, Memory>
         requires { program.now ≡ J.program }
     {
-        let lists = all_listed(alloc, program)?;
+        let expressions = all_listed(alloc, program)?;
         Ok(Ahead {
-            lists,
+            expressions,
             of: PhantomData,
         })
     }
 
     /// All of them, by the numbers of their actions.
-    pub fn lists(&self) -> &[Option<Listed>]
+    pub fn expressions(&self) -> &[Option<Listed>]
         ensures { result.now ≡ self.now }
     {
-        self.lists.as_slice()
+        self.expressions.as_slice()
     }
 
     /// That of action n.
     pub fn of(&self, n: u32) -> Option<&Listed>
         ensures { IfSome result (λ listed. code_at J.program n ≡ Some listed.now) }
     {
-        match self.lists.get(n.checked_sub(1)? as usize) {
+        match self.expressions.get(n.checked_sub(1)? as usize) {
             Some(Some(listed)) => Some(listed),
             _ => None,
         }
@@ -69,19 +69,19 @@ impl<J: Setting> Ahead<J> {
 
 // No more than the program has actions, and none where none has many operators.
 fn all_listed(alloc: Global, program: &Loaded) -> Result<Vec<Option<Listed>>, Memory>
-    ensures { IfOk result (λ lists. IsListed program.now lists.items) }
+    ensures { IfOk result (λ expressions. IsListed program.now expressions.items) }
 {
-    let mut lists = Vec::new(alloc);
+    let mut expressions = Vec::new(alloc);
     let mut has_some = false;
     for before in 0..program.count() {
         let listed = listed(alloc, program, before + 1)?;
         has_some = has_some || listed.is_some();
-        lists.push(listed)?;
+        expressions.push(listed)?;
     }
     if !has_some {
-        lists.clear();
+        expressions.clear();
     }
-    Ok(lists)
+    Ok(expressions)
 }
 
 fn listed(alloc: Global, program: &Loaded, n: u32) -> Result<Option<Listed>, Memory>

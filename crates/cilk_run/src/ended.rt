@@ -10,8 +10,8 @@ ghost use Rattle.cilk_machine.specs.model.Run.{Standing};
 ghost use Rattle.cilk_run.specs.Histories.{IsCounted};
 ghost use Rattle.cilk_run.specs.Runs.{IsRun, Stops};
 
-use crate::lists::{ChoiceCounts, Output};
 use crate::locked::Locked;
+use crate::run_lists::{ChoiceCounts, Output};
 use crate::run_result::{Run, RunFault};
 use crate::table::{count, digest_of_program};
 use cilk_log::Log;

@@ -30,11 +30,12 @@ pub struct Locked {
 }
 
 impl Model for Locked {
-    ghost use Rattle.cilk_run.specs.Histories.{Recorded, IsLedBy};
+    ghost use Rattle.cilk_run.specs.Histories as histories;
+    ghost use Rattle.cilk_run.specs.Histories.{IsLedBy};
     ghost use Rattle.cilk_machine.specs.syntax.ProgramCoding.{coded_Program};
     ghost use Rattle.std.specs.Coded.{codes};
 
-    ghost Value = { Recorded };
+    ghost Value = { histories.Locked };
 
     ghost coded = { Prim.hlevel (codes, coded_Program) };
 
@@ -92,7 +93,8 @@ impl Locked {
     }
 
     /// What the worker's next step evaluates, where it assigns to a variable that is no element, or tests, and neither an element nor `SYNCHED`
-    /// stands in the expression. It is refused as a step is, but for one that has to wait.
+    /// stands in the expression. It is refused as a step is, but for one that has to wait. With `propose` and `commit` this is for who takes turns of his
+    /// own: the workers of `run` take the values down by the number of the action, which needs no path.
     pub fn glimpse(&self, worker: u8) -> Result<Option<Glimpse>, Refusal>
         ensures free { OnOk result (look_refused self.now.machine worker ≡ None) }
         ensures looks { IfOk result (λ o. option_map (λ g. g.peek) o ≡ peek_at self.now.machine worker) }

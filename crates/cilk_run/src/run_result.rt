@@ -1,11 +1,11 @@
 //! What comes of a run: a `Run`, or a `RunFault`.
 
-use crate::lists::{ChoiceCounts, Output};
+use crate::run_lists::{ChoiceCounts, Output};
 use cilk_log::Log;
 use cilk_machine::End;
 
 /// A run that ended, was stuck, or came to its limit.
-#[derive(Drop)]
+#[derive(Debug, Drop)]
 pub struct Run {
     /// How the program stands at the end.
     pub end: End,

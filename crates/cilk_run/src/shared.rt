@@ -21,7 +21,7 @@ impl<J: Setting> Post for Shared<J> {
         let begun = self
             .lock
             .lock(rt)
-            .begin_turn(worker, self.ahead.lists(), values);
+            .begin_turn(worker, self.ahead.expressions(), values);
         match begun {
             Begun::Over(turn) => turn,
             Begun::Seen(n) => self.evaluate(rt, worker, n, values.as_slice()),

@@ -16,9 +16,9 @@ ghost use Rattle.cilk_run.specs.Turning.{IsTurn, IsBegun, IsOver, is_broken};
 
 use crate::ahead::Ahead;
 use crate::ended::closing;
-use crate::lists::ChoiceCounts;
 use crate::locked::Locked;
 use crate::post::{Begun, TurnEnd};
+use crate::run_lists::ChoiceCounts;
 use crate::run_result::{Run, RunFault};
 use cilk_log::{Log, program_of};
 use cilk_machine::{Act, Choice, Known, Listed, Loaded, Memory, Outcome, Refusal, Trap};
@@ -133,33 +133,33 @@ impl<J: Setting> Table<J> {
         }
     }
 
-    /// The first half of a turn of a worker that leaves the lock in between. `lists` has for each action, from 1 on, the expression that may be evaluated
-    /// without the lock, where there is one. Where the worker's step evaluates such a one, it is not made: `values` has then what its variables hold, and
-    /// the number of the action is told. Else this is a whole turn.
+    /// The first half of a turn of a worker that leaves the lock in between. `expressions` has for each action, from 1 on, the expression that may be
+    /// evaluated without the lock, where there is one. Where the worker's step evaluates such a one, it is not made: `values` has then what its
+    /// variables hold, and the number of the action is told. Else this is a whole turn.
     #[inline(always)]
     pub fn begin_turn(
         &mut self,
         worker: u8,
-        lists: &[Option<Listed>],
+        expressions: &[Option<Listed>],
         values: &mut Vec<Known>,
     ) -> Begun
         ensures { IsBegun J.limit worker self.old result self.new }
     {
-        if lists.is_empty() {
+        if expressions.is_empty() {
             Begun::Over(self.take_turn(worker))
         } else {
-            self.look(worker, lists, values)
+            self.look(worker, expressions, values)
         }
     }
 
     #[inline(never)]
-    fn look(&mut self, worker: u8, lists: &[Option<Listed>], values: &mut Vec<Known>) -> Begun
+    fn look(&mut self, worker: u8, expressions: &[Option<Listed>], values: &mut Vec<Known>) -> Begun
         ensures { IsBegun J.limit worker self.old result self.new }
     {
         if self.is_over() {
             return Begun::Over(TurnEnd::Stop);
         }
-        match self.locked.machine().take_down(worker, lists, values) {
+        match self.locked.machine().take_down(worker, expressions, values) {
             Ok(Some(n)) => Begun::Seen(n),
             Ok(None) => Begun::Over(self.take_turn(worker)),
             Err(_) => Begun::Over(self.stay(Refusal::Memory)),

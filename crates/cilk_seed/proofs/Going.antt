@@ -2,7 +2,7 @@
 use Rattle.std.proofs.Common.{◌≡◌, ℕ, zero, suc, ◌+◌, ◌-◌, ◌<◌, ◌≤◌, Bool, true, false, List, [], ◌∷◌, ◌++◌, length, map, Option, Some, None, refl, sym, ap}
 use Rattle.std.proofs.Common.{◌∙◌, subst, arith, append_assoc, if◌then◌else◌}
 use Rattle.std.proofs.lemmas.List.{append-nil, length-map, length-append, map-append}
-use Rattle.cilk_run.specs.Histories.{Recorded}
+use Rattle.cilk_run.specs.Histories.{Locked}
 use Rattle.cilk_run.specs.Runs.{Stops}
 use Rattle.std.specs.Prelude.{Result, Ok, Err, IfOk}
 use Rattle.cilk_run.specs.choices.Words.{choice_of}
@@ -32,7 +32,7 @@ opens_by program n seed limit x (Some main) h = by_crew (is_crew n) h
         ap (λ (y : Position). drawn_from program n limit y.standing 1 seed) (sym same)
     by_crew false e = cc
 
-pub follows-first : (p : Program) (n seed limit : ℕ) (l : Recorded) (d : Draws) → l.machine.program ≡ p → workers_of l.machine ≡ n → l.history ≡ []
+pub follows-first : (p : Program) (n seed limit : ℕ) (l : Locked) (d : Draws) → l.machine.program ≡ p → workers_of l.machine ≡ n → l.history ≡ []
     → Opens l.machine → d ≡ record { workers = n; last = 1; state = seed } → Follows p n seed limit 0 l d
 follows-first p n seed limit l d program crew none (at, led) is = record {
   program = program;
@@ -57,7 +57,7 @@ next_drawn program n at last s j k t more is =
     ap (λ m. drawn_from program n m at last s) more
     ∙ ap (drawn_by (λ x. drawn_from program n j (next_of program at x.choice) x.choice.worker x.state)) is
 
-pub follows-next : (p : Program) (n seed limit k : ℕ) (old new : Recorded) (before behind : Draws) → k < limit → Follows p n seed limit k old before
+pub follows-next : (p : Program) (n seed limit k : ℕ) (old new : Locked) (before behind : Draws) → k < limit → Follows p n seed limit k old before
     → Goes old new before behind → Follows p n seed limit (k + 1) new behind
 follows-next p n seed limit k old new before behind within f g =
     let choices = map choice_of old.history in
@@ -91,7 +91,7 @@ none_left program n at last s zero is = refl
 none_left program n at last s (suc k) is =
     ap (drawn_by (λ x. drawn_from program n k (next_of program at x.choice) x.choice.worker x.state)) is
 
-pub all-drawn : (p : Program) (n seed limit : ℕ) (l : Recorded) (d : Draws) → Follows p n seed limit limit l d
+pub all-drawn : (p : Program) (n seed limit : ℕ) (l : Locked) (d : Draws) → Follows p n seed limit limit l d
     → map choice_of l.history ≡ drawn (label p) n seed limit
 all-drawn p n seed limit l d f =
     let none : limit - limit ≡ 0 = omega arith in
@@ -99,7 +99,7 @@ all-drawn p n seed limit l d f =
     ∙ ap (λ k. map choice_of l.history ++ drawn_from (label p) n k f.at d.last d.state) (sym none)
     ∙ f.rest
 
-module _ (p : Program) (n seed limit k : ℕ) (l : Recorded) (d : Draws) (f : Follows p n seed limit k l d)
+module _ (p : Program) (n seed limit k : ℕ) (l : Locked) (d : Draws) (f : Follows p n seed limit k l d)
     (over : (at : Standing) → StandsAt l.machine at → turn_of (label l.machine.program) d.workers at d.last d.state ≡ None) where
   here : StandsAt l.machine f.at
   here = record { choices = map choice_of l.history; events = f.events; led = f.led }
@@ -121,7 +121,7 @@ module _ (p : Program) (n seed limit k : ℕ) (l : Recorded) (d : Draws) (f : Fo
   }
 
 -- so many choices were made
-pub full-stops : (p : Program) (n seed limit : ℕ) (l : Recorded) (d : Draws) → Follows p n seed limit limit l d → Stops limit l.machine
+pub full-stops : (p : Program) (n seed limit : ℕ) (l : Locked) (d : Draws) → Follows p n seed limit limit l d → Stops limit l.machine
 full-stops p n seed limit l d f =
     let made : l.machine.choices ≡ limit = sym f.led.counted ∙ length-map l.history choice_of ∙ f.count in
     record { within = omega (arith, made); whole = λ at s ends. made }

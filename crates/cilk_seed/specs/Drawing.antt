@@ -1,6 +1,6 @@
 -- What the code has of a schedule that is being drawn.
 use Rattle.std.specs.Prelude.{◌≡◌, ◌-◌, ◌++◌, ℕ, List, [], ◌∷◌, length, map, Some}
-use Rattle.cilk_run.specs.Histories.{Recorded}
+use Rattle.cilk_run.specs.Histories.{Locked}
 use Rattle.cilk_run.specs.choices.Words.{choice_of}
 use Rattle.cilk_run.specs.choices.declared.choice.Choice as code
 use Rattle.cilk_run.specs.labelled.Bodies.{label}
@@ -22,7 +22,7 @@ abbrev pub turn_with : ℕ → code.Choice → Turn
 turn_with s choice = record { choice = choice_of choice; state = s }
 
 -- a choice that is drawn is made, and kept behind the others
-pub record Goes (old new : Recorded) (before behind : Draws) : Type 0 where
+pub record Goes (old new : Locked) (before behind : Draws) : Type 0 where
   pub choice : code.Choice
   pub is_drawn : (at : Standing) → StandsAt old.machine at
       → turn_of (label old.machine.program) before.workers at before.last before.state ≡ Some (turn_with behind.state choice)
@@ -33,7 +33,7 @@ pub record Goes (old new : Recorded) (before behind : Draws) : Type 0 where
   pub last : behind.last ≡ choice.worker
 
 -- behind so many choices, with those that are still to be drawn they are those of the seed
-pub record Follows (p : Program) (n seed limit made : ℕ) (l : Recorded) (d : Draws) : Type 0 where
+pub record Follows (p : Program) (n seed limit made : ℕ) (l : Locked) (d : Draws) : Type 0 where
   pub program : l.machine.program ≡ p
   pub crew : workers_of l.machine ≡ n
   pub workers : d.workers ≡ n

@@ -6,7 +6,7 @@ ghost use Rattle.cilk_seed.specs.Generator.{next_state, number_at, drawn_below};
 use std::marker::Model;
 
 /// SplitMix64 (Steele, Lea and Flood, 2014). It is for simulations, and for no secrets.
-#[derive(Drop)]
+#[derive(Debug, Drop)]
 pub struct SplitMix {
     state: u64,
 }

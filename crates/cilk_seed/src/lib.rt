@@ -7,10 +7,10 @@ mod generator;
 mod outcome;
 mod playing;
 mod row;
+mod tally_rows;
 mod tallying;
-mod telling;
 
 pub use cilk_run::{Act, Choice, End, Loaded, Machine, Open, Refusal, Run, RunFault, ending, run};
 pub use generator::SplitMix;
-pub use playing::play;
+pub use playing::run_by_seed;
 pub use tallying::tally_of_seeds;

@@ -6,7 +6,7 @@ ghost use Rattle.cilk_run.specs.labelled.Bodies.{label};
 ghost use Rattle.cilk_seed.specs.Tallied.{end_words, outcome_of};
 ghost use Rattle.cilk_seed.specs.Tallying.{outcome_by};
 
-use crate::playing::play;
+use crate::playing::run_by_seed;
 use cilk_machine_choices::{Memory, put_trapped};
 use cilk_run::{End, Loaded, Run, RunFault};
 use std::alloc::Global;
@@ -34,7 +34,7 @@ pub(crate) fn outcome_of(
         Ok(copy) => copy,
         Err(_) => return Err(RunFault::Memory),
     };
-    let run = match play(alloc, copy, workers, seed, limit) {
+    let run = match run_by_seed(alloc, copy, workers, seed, limit) {
         Ok(run) => run,
         Err(fault) => return Err(fault),
     };

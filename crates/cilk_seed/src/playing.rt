@@ -1,4 +1,4 @@
-//! `play`: the run of the schedule that a seed names.
+//! `run_by_seed`: the run of the schedule that a seed names.
 
 ghost use Rattle.std.specs.Prelude.{◌≡◌, ◌≢◌, ◌<◌, ◌≤◌, ◌⊎◌, ◌↔◌, ◌∷◌, [], ℕ, true, false, length, map, Ok, Err, None, IfOk, IfErr};
 ghost use Rattle.cilk_run.specs.Runs.{IsRun, Stops};
@@ -17,7 +17,7 @@ use std::alloc::Global;
 
 /// Runs a program with 1 to 64 workers, which are simulated: their choices are those that the seed names, at most `limit`, and no thread is started.
 /// It is refused for another number of workers, and where memory has run out.
-pub fn play(
+pub fn run_by_seed(
     alloc: Global,
     program: Loaded,
     workers: u8,

@@ -8,11 +8,11 @@ ghost use Rattle.cilk_seed.specs.Tallying.{AreAtMost, added, has_row, outcome_by
 
 use crate::outcome::{Outcome, outcome_of};
 use crate::row::Row;
-use crate::telling::told;
+use crate::tally_rows::told;
 use cilk_run::{Loaded, RunFault};
 use std::alloc::{AllocError, Global};
 
-/// Makes the runs of so many seeds, from one on, as `play` makes them, and tells which outcomes they have: what was printed, and the words of the
+/// Makes the runs of so many seeds, from one on, as `run_by_seed` makes them, and tells which outcomes they have: what was printed, and the words of the
 /// closing line. An outcome is told with the number of runs that have it and the seed of the first of them; more runs come first, and of as
 /// many the smaller seed.
 pub fn tally_of_seeds(

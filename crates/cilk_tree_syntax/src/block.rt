@@ -6,10 +6,20 @@ use std::marker::Model;
 
 /// What is declared, and then the statements (C 1990, 6.6.2), which contracts see as the `Block` of `specs/Tree.antt`.
 #[cycle(stmt)]
-#[derive(Drop)]
 pub struct Block {
     pub locals: Vec<Local>,
     pub stmts: Vec<Stmt>,
+}
+
+// To drop it elsewhere is to call this, and its parts' drops are proved here alone.
+impl Drop for Block {
+    #[cycle(stmt)]
+    fn drop(self) {
+        let Block {
+            locals: _locals,
+            stmts: _stmts,
+        } = self;
+    }
 }
 
 impl Model for Block {

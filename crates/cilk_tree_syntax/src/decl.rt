@@ -5,10 +5,19 @@ use crate::word::Word;
 use std::marker::Model;
 
 /// The declaration of one variable or array (C 1990, 6.5).
-#[derive(Drop)]
 pub struct Decl {
     pub name: Word,
     pub shape: Shape,
+}
+
+// To drop it elsewhere is to call this, and its parts' drops are proved here alone.
+impl Drop for Decl {
+    fn drop(self) {
+        let Decl {
+            name: _name,
+            shape: _shape,
+        } = self;
+    }
 }
 
 impl Model for Decl {

@@ -7,9 +7,15 @@ use std::marker::Model;
 
 /// An expression (C 1990, 6.3), which contracts see as the `Expr` of `specs/Tree.antt`.
 #[cycle(expr)]
-#[derive(Drop)]
 pub struct Expr {
     pub node: ExprNode,
+}
+
+// To drop it elsewhere is to call this, and its parts' drops are proved here alone.
+impl Drop for Expr {
+    fn drop(self) {
+        let Expr { node: _node } = self;
+    }
 }
 
 /// What an expression is, and its parts.

@@ -7,9 +7,15 @@ use crate::word::Word;
 use std::marker::Model;
 
 /// What stands at the top level (C 1990, 6.7), which contracts see as the `Item` of `specs/Tree.antt`.
-#[derive(Drop)]
 pub struct Item {
     pub node: ItemNode,
+}
+
+// To drop it elsewhere is to call this, and its parts' drops are proved here alone.
+impl Drop for Item {
+    fn drop(self) {
+        let Item { node: _node } = self;
+    }
 }
 
 /// What is declared or defined.

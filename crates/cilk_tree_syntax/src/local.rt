@@ -6,9 +6,16 @@ use std::marker::Model;
 
 /// What is declared at the head of a block (C 1990, 6.6.2), which contracts see as the `Local` of `specs/Tree.antt`.
 #[cycle(stmt)]
-#[derive(Drop)]
 pub struct Local {
     pub node: LocalNode,
+}
+
+// To drop it elsewhere is to call this, and its parts' drops are proved here alone.
+impl Drop for Local {
+    #[cycle(stmt)]
+    fn drop(self) {
+        let Local { node: _node } = self;
+    }
 }
 
 /// A variable or an array, or an inlet.

@@ -9,9 +9,15 @@ use std::marker::Model;
 
 /// One of the statements that a `for` may have in its header (C 1990, 6.6.5.3), which contracts see as the `Move` of
 /// `specs/Tree.antt`.
-#[derive(Drop)]
 pub struct Move {
     pub node: MoveNode,
+}
+
+// To drop it elsewhere is to call this, and its parts' drops are proved here alone.
+impl Drop for Move {
+    fn drop(self) {
+        let Move { node: _node } = self;
+    }
 }
 
 /// What is done, and its parts.

@@ -5,10 +5,19 @@ use crate::word::Word;
 use std::marker::Model;
 
 /// A variable, or an element of an array (C 1990, 6.3.2.1).
-#[derive(Drop)]
 pub struct Place {
     pub name: Word,
     pub index: Option<Expr>,
+}
+
+// To drop it elsewhere is to call this, and its parts' drops are proved here alone.
+impl Drop for Place {
+    fn drop(self) {
+        let Place {
+            name: _name,
+            index: _index,
+        } = self;
+    }
 }
 
 impl Model for Place {

@@ -5,11 +5,21 @@ use cilk_lex_tokens::Header;
 use std::marker::Model;
 
 /// A program: the headers that it includes and its items, in order, and the length of its source text in bytes.
-#[derive(Drop)]
 pub struct Program {
     pub headers: Vec<Header>,
     pub items: Vec<Item>,
     pub length: u32,
+}
+
+// To drop it elsewhere is to call this, and its parts' drops are proved here alone.
+impl Drop for Program {
+    fn drop(self) {
+        let Program {
+            headers: _headers,
+            items: _items,
+            length: _,
+        } = self;
+    }
 }
 
 impl Model for Program {

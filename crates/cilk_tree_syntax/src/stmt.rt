@@ -12,9 +12,16 @@ use std::marker::Model;
 
 /// A statement (C 1990, 6.6; Cilk 5.4 manual), which contracts see as the `Stmt` of `specs/Tree.antt`.
 #[cycle(stmt)]
-#[derive(Drop)]
 pub struct Stmt {
     pub node: StmtNode,
+}
+
+// To drop it elsewhere is to call this, and its parts' drops are proved here alone.
+impl Drop for Stmt {
+    #[cycle(stmt)]
+    fn drop(self) {
+        let Stmt { node: _node } = self;
+    }
 }
 
 /// What a statement is, and its parts. A number is the place of its word.

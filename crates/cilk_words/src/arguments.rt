@@ -12,14 +12,14 @@ use std::alloc::{AllocError, Global};
 /// The name of the argument that names the program's text.
 pub const FILE: &str = "F";
 
-/// The name of the argument that names a log.
+/// The name of the argument that names a log to be read.
 pub const LOG: &str = "G";
 
 /// The name of the argument that says how many choices a run may make, or how many standings an exploration keeps.
 pub const LIMIT: &str = "limit";
 
 /// The name of the argument that names the log to be written of a run.
-pub const WRITTEN: &str = "log";
+pub const WRITTEN_LOG: &str = "log";
 
 /// The name of the argument that names the folder to which the logs of an exploration are written.
 pub const LOGS: &str = "logs";
@@ -161,7 +161,7 @@ const RUN: [Argument<'static>; 7] = [
         help: "Tells which ends R runs have, 1 to 1,000,000, by S and the seeds behind it",
     },
     Argument {
-        id: WRITTEN,
+        id: WRITTEN_LOG,
         form: Form::Text { value: "G" },
         help: "The file to which the log of the run is written",
     },

@@ -8,14 +8,15 @@ use crate::request::{Request, Task};
 // The name that stands for standard input where a program is read.
 const STANDARD: &str = "-";
 
-const PROGRAM: &str = "error: `-` cannot stand for F here: the commands are read from standard input
+const DASH_AS_PROGRAM: &str =
+    "error: `-` cannot stand for F here: the commands are read from standard input
 
 Usage: cilk debug [OPTIONS] <F> <G>
 
 For more information, try '--help'.
 ";
 
-const LOG: &str = "error: `-` cannot stand for G: a log is a file
+const DASH_AS_LOG: &str = "error: `-` cannot stand for G: a log is a file
 
 For more information, try '--help'.
 ";
@@ -49,8 +50,8 @@ impl Clash {
     /// What is said of it.
     pub fn text(self) -> &'static str {
         match self {
-            Clash::DashAsProgram => PROGRAM,
-            Clash::DashAsLog => LOG,
+            Clash::DashAsProgram => DASH_AS_PROGRAM,
+            Clash::DashAsLog => DASH_AS_LOG,
             Clash::NoSeed => NO_SEED,
             Clash::LogOfRuns => LOG_OF_RUNS,
         }

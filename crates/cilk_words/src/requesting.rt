@@ -6,7 +6,7 @@ ghost use Rattle.cilk_words.specs.CommandLine.{asked, asked_by, explore_in, is_s
 ghost use Rattle.cilk_words.specs.CommandLine.{texts_of, wanted_by, wanted_of, word_of};
 ghost use Rattle.cilk_words.specs.Refusing.{IsNoRequest};
 
-use crate::arguments::{EXPLAIN, FILE, LIMIT, LOG, LOGS, RUNS, SEED, WORKERS, WRITTEN, parse};
+use crate::arguments::{EXPLAIN, FILE, LIMIT, LOG, LOGS, RUNS, SEED, WORKERS, WRITTEN_LOG, parse};
 use crate::clash::Clash;
 use crate::refusal::NoRequest;
 use crate::request::{Request, Task};
@@ -75,7 +75,7 @@ fn run_in<'a>(found: &ArgMatches<'a>) -> Option<Task<'a>>
     Some(Task::Run {
         workers,
         limit,
-        log: found.get_str(WRITTEN),
+        log: found.get_str(WRITTEN_LOG),
         seed: word_in(found, SEED),
         runs: word_in(found, RUNS),
     })

@@ -87,14 +87,14 @@ impl Machine {
     pub fn take_down(
         &self,
         worker: u8,
-        lists: &[Option<Listed>],
+        expressions: &[Option<Listed>],
         values: &mut Vec<Known>,
     ) -> Result<Option<u32>, Memory>
-        ensures { IfOk result (λ o. IfSome o (λ n. IsTakenDown self.now worker n lists.now values.new.items)) }
+        ensures { IfOk result (λ o. IfSome o (λ n. IsTakenDown self.now worker n expressions.now values.new.items)) }
     {
         match self.number_ahead(worker) {
             None => Ok(None),
-            Some(n) => match listed_at(lists, n) {
+            Some(n) => match listed_at(expressions, n) {
                 None => Ok(None),
                 Some(listed) => {
                     self.take_down_by(worker, listed, values)?;
@@ -325,10 +325,10 @@ impl Machine {
 }
 
 // The expression of action n, counted from 1, if there is one.
-fn listed_at(lists: &[Option<Listed>], n: u32) -> Option<&Listed>
-    ensures { IfSome result (λ listed. slice_get lists.now (n - 1) ≡ Some (Some listed.now)) }
+fn listed_at(expressions: &[Option<Listed>], n: u32) -> Option<&Listed>
+    ensures { IfSome result (λ listed. slice_get expressions.now (n - 1) ≡ Some (Some listed.now)) }
 {
-    match lists.get(n.checked_sub(1)? as usize) {
+    match expressions.get(n.checked_sub(1)? as usize) {
         Some(Some(listed)) => Some(listed),
         _ => None,
     }

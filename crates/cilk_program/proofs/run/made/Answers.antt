@@ -7,5 +7,5 @@ returns-in-None-clause-named g c =
 
 pub returns-in-Some-clause-named : goal.returns-in-Some-clause-named
 returns-in-Some-clause-named g c =
-    named_by c.args.task.now.seed c.in-Some.seed c.from.result c.args.program c.args.task.now.workers c.args.task.now.limit c.play.result c.in-Some.is
-    c.from.ensures c.play.ensures.drawn
+    named_by c.args.task.now.seed c.in-Some.seed c.from.result c.args.program c.args.task.now.workers c.args.task.now.limit c.run_by_seed.result c.in-Some.is
+    c.from.ensures c.run_by_seed.ensures.drawn

@@ -1,5 +1,5 @@
 use Rattle.std.proofs.Common.{◌≡◌, ◌∙◌, Bool, Ok, ap, arith, false, map, subst, sym, true}
-use Rattle.cilk_run.specs.Histories.{Recorded}
+use Rattle.cilk_run.specs.Histories.{Locked}
 use Rattle.cilk_run.specs.Runs.{Stops}
 use Rattle.cilk_run.specs.choices.Words.{choice_of}
 use Rattle.cilk_seed.specs.Drawing.{Follows}
@@ -9,14 +9,14 @@ use Rattle.cilk_seed.proofs.playing.play_to_end.Goals as goal
 pub returns-in-Ok-false-clause-whole : goal.returns-in-Ok-false-clause-whole
 returns-in-Ok-false-clause-whole c = λ p n seed h.
     let done : c.take_turn.result ≡ Ok false = c.in-Ok-false.is ∙ ap (λ (b : Bool). Ok b) c.in-Ok-false.field-0-test in
-    ap (λ (l : Recorded). map choice_of l.history) (c.take_turn.ensures.same done)
+    ap (λ (l : Locked). map choice_of l.history) (c.take_turn.ensures.same done)
     ∙ over-drawn p n seed c.args.limit c.loop-made.made c.loop-made.locked c.loop-made.draws (c.loop-made.invariant.2 p n seed h)
     (c.take_turn.ensures.over done)
 
 pub returns-in-Ok-false-clause-stops : goal.returns-in-Ok-false-clause-stops
 returns-in-Ok-false-clause-stops c = λ p n seed h.
     let done : c.take_turn.result ≡ Ok false = c.in-Ok-false.is ∙ ap (λ (b : Bool). Ok b) c.in-Ok-false.field-0-test in
-    subst (λ (l : Recorded). Stops c.args.limit l.machine) (sym (c.take_turn.ensures.same done))
+    subst (λ (l : Locked). Stops c.args.limit l.machine) (sym (c.take_turn.ensures.same done))
     (over-stops p n seed c.args.limit c.loop-made.made c.loop-made.locked c.loop-made.draws (c.loop-made.invariant.2 p n seed h)
     (c.take_turn.ensures.over done) (omega (arith, c.loop-made-test.true)))
 

@@ -1,6 +1,6 @@
 use Rattle.std.proofs.Common.{subst, string_bytes, rules}
 use Rattle.cilk_commands.specs.Telling.{IsActionTold}
-use Rattle.cilk_commands.proofs.telling.action_told.Goals as goal
+use Rattle.cilk_commands.proofs.explaining.action_told.Goals as goal
 
 pub returns : goal.returns
 returns c =

@@ -1,6 +1,6 @@
 use Rattle.std.proofs.Common.{◌≡◌, ◌++◌, ◌+◌, string_bytes, drop}
 use Rattle.cilk_events.specs.Text.{share_lines}
-use Rattle.cilk_measure.proofs.telling.put_shares.Given as goal
+use Rattle.cilk_measure.proofs.measure_lines.put_shares.Given as goal
 
 abbrev pub invariant-loop-i : goal.invariant-loop-i
 invariant-loop-i l =

@@ -3,7 +3,7 @@ use Rattle.std.proofs.lemmas.List.{length-map}
 use Rattle.std.proofs.lemmas.Option.{slice_get_read, slice_get_within}
 use Rattle.cilk_explore.specs.Telling.{ending_by, told_by}
 use Rattle.cilk_explore.proofs.Ends.{among-at, not-at}
-use Rattle.cilk_explore.proofs.telling.is_told.Goals as goal
+use Rattle.cilk_explore.proofs.endings.is_told.Goals as goal
 
 pub returns-then-has_ending-clause-there : goal.returns-then-has_ending-clause-there
 returns-then-has_ending-clause-there c = λ e.

@@ -1,11 +1,11 @@
-//! The counts and the output of a run, as contracts see them.
+//! The lists that a run tells: how many choices each worker made, and what the program printed.
 
 ghost use Rattle.std.specs.Prelude.{◌≡◌};
 
 use std::marker::Model;
 
 /// The numbers of choices that the workers made, from worker 1 on.
-#[derive(Drop)]
+#[derive(Debug, Drop)]
 pub struct ChoiceCounts {
     counts: Vec<u64>,
 }
@@ -33,7 +33,7 @@ impl ChoiceCounts {
 }
 
 /// The bytes that a program printed.
-#[derive(Drop)]
+#[derive(Debug, Drop)]
 pub struct Output {
     bytes: Vec<u8>,
 }
