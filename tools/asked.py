@@ -90,7 +90,7 @@ def asked_of(binary, name, limit, folder, workers=4, recorded=None):
     forms += [([*run, "--workers", str(workers)], b"")] * (workers > 1) + [(["replay", f"{name}.cilk", log], b""), (["debug", f"{name}.cilk", log], session)]
     seeded = [*run, "--workers", "2", "--seed", "7"]
     forms += [(seeded, b""), ([*seeded, "--runs", "3"], b""), (["measure", f"{name}.cilk"], b""), (["measure", f"{name}.cilk", log], b"")]
-    forms += [(["explore", f"{name}.cilk", "--limit", "200"], b"")]
+    forms += [(["explore", f"{name}.cilk", "--limit", "200"], b""), (["races", f"{name}.cilk"], b""), (["races", f"{name}.cilk", log], b"")]
     made = []
     for words, given in forms:
         fronts = {b""}

@@ -6,7 +6,6 @@ import contextlib
 import fcntl
 import functools
 import os
-import re
 import shutil
 import subprocess
 import time
@@ -22,10 +21,8 @@ MOST_JOBS, LONG_JOBS = 4, 2
 MORE = 2
 # How far behind the others a check stands that others do not wait for, as `nice` has it.
 BEHIND = 10
-# What loading what a crate stands on weighs, in clauses.
-LOADING = 40
-# A line of code that begins a clause of a contract.
-CLAUSE = re.compile(r"^\s*(?:requires|ensures)\b", re.M)
+# What loading what a crate stands on weighs, in lines of code.
+LOADING = 70
 # A chain of crates is among the longest if it is so much of the longest one.
 NEARLY = 0.9
 
@@ -65,12 +62,12 @@ class Crates:
 
     @functools.cache
     def weight(self, name):
-        """Returns about how long a crate takes to prove, in no unit: what its functions promise is dear, and not what is defined, nor a function that promises nothing."""
+        """Returns about how long a crate takes to prove, in lines of code: of most crates a line takes 0.1 to 0.25 s."""
         count = LOADING
         for folder, _, files in os.walk(f"{self.top}/crates/{name}/src"):
             for it in files:
                 with open(f"{folder}/{it}", encoding="utf-8") as file:
-                    count += len(CLAUSE.findall(file.read()))
+                    count += file.read().count("\n")
         return count
 
     def behind(self, names):

@@ -1,4 +1,22 @@
+pub mod Words
+pub mod Formats
+pub mod Rooms
+pub mod Walks
+pub mod FormBlocks
+pub mod Passing
+pub mod FormsSound
+pub mod Mains
+pub mod Repeated
+pub mod FormsComplete
+pub mod Tables
+pub mod UseFaults
+pub mod Declarings
+pub mod Tops
+pub mod Definitions
+pub mod NameBlocks
+pub mod Told
+pub mod Decided
+pub mod NamesSound
+pub mod NamesComplete
 pub mod Both
-pub use Rattle.cilk_check_forms.proofs as rules_of_forms_laws
-pub use Rattle.cilk_check_forms.proofs.scopes_laws
-pub use Rattle.cilk_check_names.proofs as rules_of_names_laws
+pub use Rattle.cilk_check_scopes.proofs as scopes_laws

@@ -1,6 +1,11 @@
+pub mod FormFinds
+pub mod Room
+pub mod Said
+pub mod NameFinds
+pub mod Table
+pub mod Left
+pub mod Signatures
 pub mod Earlier
-pub use Rattle.cilk_check_forms.specs as rules_of_forms
-pub use Rattle.cilk_check_forms.specs.lexeme
-pub use Rattle.cilk_check_forms.specs.scopes
-pub use Rattle.cilk_check_forms.specs.syntax
-pub use Rattle.cilk_check_names.specs as rules_of_names
+pub use Rattle.cilk_check_scopes.specs as scopes
+pub use Rattle.cilk_check_scopes.specs.lexeme
+pub use Rattle.cilk_check_scopes.specs.syntax

@@ -1,12 +1,13 @@
 //! The check of a program, and the tree of one that passed it.
 
 ghost use Rattle.std.specs.Prelude.{◌≡◌, ◌⊎◌, IsOk, IfOk, IfErr, IfNone, IfSome};
-ghost use Rattle.cilk_check_forms.specs.scopes.declared.fault.CheckFault.TheVariants as fault;
-ghost use Rattle.cilk_check_forms.specs.scopes.WellFormed.{WellFormed, IsFirstFault};
+ghost use Rattle.cilk_check.specs.scopes.declared.fault.CheckFault.TheVariants as fault;
+ghost use Rattle.cilk_check.specs.scopes.WellFormed.{WellFormed, IsFirstFault};
 
 use crate::earlier::earlier_of;
-use cilk_check_forms::{CheckFault, Memory, Program, first_form_fault};
-use cilk_check_names::first_name_fault;
+use crate::first_form::first_form_fault;
+use crate::first_name::first_name_fault;
+use cilk_check_scopes::{CheckFault, Memory, Program};
 use std::alloc::Global;
 use std::marker::Model;
 
@@ -23,9 +24,9 @@ impl Drop for Checked {
 }
 
 impl Model for Checked {
-    ghost use Rattle.cilk_check_forms.specs.syntax.Tree as tree;
-    ghost use Rattle.cilk_check_forms.specs.syntax.ProgramCoding.{coded_Program};
-    ghost use Rattle.cilk_check_forms.specs.scopes.WellFormed.{WellFormed};
+    ghost use Rattle.cilk_check.specs.syntax.Tree as tree;
+    ghost use Rattle.cilk_check.specs.syntax.ProgramCoding.{coded_Program};
+    ghost use Rattle.cilk_check.specs.scopes.WellFormed.{WellFormed};
 
     ghost Value = { tree.Program };
 

@@ -3,7 +3,7 @@
 ghost use Rattle.std.specs.Prelude.{◌≡◌};
 ghost use Rattle.cilk_check.specs.Earlier as spec;
 
-use cilk_check_forms::{CheckFault, scopes_first as first};
+use cilk_check_scopes::{CheckFault, first as first};
 
 /// The one of two faults that stands first, where there are any.
 pub(crate) fn earlier_of(found: Option<CheckFault>, other: Option<CheckFault>) -> Option<CheckFault>

@@ -29,16 +29,8 @@ struct Walk<'a> {
 }
 
 impl<'a> Walk<'a> {
-    fn kind(&self) -> Option<TokenKind> {
-        self.source.kind(self.index)
-    }
-
-    fn is(&self, mark: Mark) -> bool {
-        self.kind() == Some(TokenKind::Mark(mark))
-    }
-
-    fn is_word(&self, word: Keyword) -> bool {
-        self.kind() == Some(TokenKind::Word(word))
+    fn is(&self, word: &str) -> bool {
+        self.source.word(self.index) == word
     }
 
     fn go_on(&mut self) {
@@ -53,10 +45,10 @@ impl<'a> Walk<'a> {
         self.left = self.left.saturating_sub(1);
     }
 
-    // Goes behind the next of these marks.
-    fn pass(&mut self, mark: Mark) {
+    // Goes behind the next token that is spelled so.
+    fn pass(&mut self, word: &str) {
         for _ in 0..self.source.tokens.len() {
-            let is_met = self.is(mark);
+            let is_met = self.is(word);
             self.go_on();
             if is_met {
                 return;
@@ -68,9 +60,9 @@ impl<'a> Walk<'a> {
     fn pass_parentheses(&mut self, open: usize) {
         let mut open = open;
         for _ in 0..self.source.tokens.len() {
-            if self.is(Mark::OpenParenthesis) {
+            if self.is("(") {
                 open = open.saturating_add(1);
-            } else if self.is(Mark::CloseParenthesis) {
+            } else if self.is(")") {
                 open = open.saturating_sub(1);
             }
             self.go_on();
@@ -83,10 +75,10 @@ impl<'a> Walk<'a> {
     // Goes behind a declaration, whose initialisers are actions.
     fn declaration(&mut self) {
         for _ in 0..self.source.tokens.len() {
-            if self.is(Mark::Assign) {
+            if self.is("=") {
                 self.act(self.index.saturating_sub(1));
             }
-            let is_last = self.is(Mark::Semicolon);
+            let is_last = self.is(";");
             self.go_on();
             if is_last {
                 return;
@@ -98,13 +90,13 @@ impl<'a> Walk<'a> {
     fn header(&mut self) {
         self.go_on();
         self.go_on();
-        if !self.is(Mark::Semicolon) {
+        if !self.is(";") {
             self.act(self.index);
         }
-        self.pass(Mark::Semicolon);
+        self.pass(";");
         self.act(self.index);
-        self.pass(Mark::Semicolon);
-        if !self.is(Mark::CloseParenthesis) {
+        self.pass(";");
+        if !self.is(")") {
             self.act(self.index);
         }
         self.pass_parentheses(1);
@@ -113,7 +105,7 @@ impl<'a> Walk<'a> {
     // Goes on behind a statement: with an `else`, or with the test of a `do`, and then behind that.
     fn statement_ends(&mut self) {
         for _ in 0..self.source.tokens.len() {
-            if self.is_word(Keyword::Else) {
+            if self.is("else") {
                 return self.go_on();
             }
             if !matches!(self.around.last(), Some(Around::Do)) {
@@ -121,18 +113,13 @@ impl<'a> Walk<'a> {
             }
             self.around.pop();
             self.act(self.index);
-            self.pass(Mark::Semicolon);
+            self.pass(";");
         }
     }
 
-    fn simple_statement(&mut self) {
-        self.act(self.index);
-        self.pass(Mark::Semicolon);
-        self.statement_ends();
-    }
-
-    fn open(&mut self, around: Around) -> Result<(), Memory> {
-        self.go_on();
+    // Goes behind the next token that is spelled so, into what it opens.
+    fn open(&mut self, word: &str, around: Around) -> Result<(), Memory> {
+        self.pass(word);
         self.around.push(around)?;
         Ok(())
     }
@@ -150,41 +137,27 @@ impl<'a> Walk<'a> {
         }
     }
 
-    fn test(&mut self) {
-        self.act(self.index);
-        self.go_on();
-        self.pass_parentheses(0);
-    }
-
-    // Goes behind the head of an inlet or a function, into its body.
-    fn head(&mut self) -> Result<(), Memory> {
-        self.pass(Mark::OpenBrace);
-        self.around.push(Around::Body)?;
-        Ok(())
-    }
-
     // Goes on within a body.
     fn within(&mut self) -> Result<(), Memory> {
-        match self.kind() {
-            Some(TokenKind::Mark(Mark::OpenBrace)) => return self.open(Around::Block),
-            Some(TokenKind::Word(Keyword::Do)) => return self.open(Around::Do),
-            Some(TokenKind::Word(Keyword::Inlet)) => return self.head(),
+        match self.source.kind(self.index) {
+            Some(TokenKind::Mark(Mark::OpenBrace)) => return self.open("{", Around::Block),
+            Some(TokenKind::Word(Keyword::Do)) => return self.open("do", Around::Do),
+            Some(TokenKind::Word(Keyword::Inlet)) => return self.open("{", Around::Body),
             Some(TokenKind::Mark(Mark::CloseBrace)) => self.close(),
             Some(TokenKind::Word(Keyword::Int)) => self.declaration(),
-            Some(TokenKind::Word(Keyword::If | Keyword::While | Keyword::Switch)) => self.test(),
-            Some(TokenKind::Word(Keyword::Case | Keyword::Default)) => self.pass(Mark::Colon),
+            Some(TokenKind::Word(Keyword::If | Keyword::While | Keyword::Switch)) => {
+                self.act(self.index);
+                self.go_on();
+                self.pass_parentheses(0);
+            }
+            Some(TokenKind::Word(Keyword::Case | Keyword::Default)) => self.pass(":"),
             Some(TokenKind::Word(Keyword::For)) => self.header(),
-            _ => self.simple_statement(),
+            _ => {
+                self.act(self.index);
+                self.pass(";");
+                self.statement_ends();
+            }
         }
-        Ok(())
-    }
-
-    // Goes on at the top level, up to the next body.
-    fn outside(&mut self) -> Result<(), Memory> {
-        if self.is(Mark::OpenBrace) {
-            return self.open(Around::Body);
-        }
-        self.go_on();
         Ok(())
     }
 
@@ -193,10 +166,12 @@ impl<'a> Walk<'a> {
             if self.left == 0 {
                 return Ok(());
             }
-            if self.around.is_empty() {
-                self.outside()?;
-            } else {
+            if !self.around.is_empty() {
                 self.within()?;
+            } else if self.is("{") {
+                self.open("{", Around::Body)?;
+            } else {
+                self.go_on();
             }
         }
         Ok(())

@@ -3,13 +3,18 @@
 use crate::conversions::say_format;
 use crate::labels::say_label;
 use crate::left_out::{left_out, say_left_out};
-use crate::meant::{say_again, say_count, say_kind, say_void};
+use crate::meant::{say_count, say_kind, say_of_name};
 use crate::reason::Reason;
-use crate::say::{say, say_number, say_quoted};
+use crate::rules::Spot;
+use crate::say::say;
 use crate::search::{declared_in_file, has_command_line, procedure_around};
 use crate::site::Site;
 use crate::unknown::say_unknown;
 use cilk_check_scopes::{CheckFault, DeclarationKind, Memory, ReturnType};
+
+const TWICE: &str = " is declared again in the same scope";
+
+const VOID: &str = " is `void`, but a value is needed here";
 
 const NO_MAIN: &str =
     "The program has no `cilk int main` without parameters, or with `int argc, char *argv[]`, to begin with";
@@ -22,43 +27,46 @@ const MAIN_OF_VOID: &str = ": the `main` in line @ is `void`";
 const OTHER_MAIN: &str = ": the `main` in line @ has other parameters";
 
 const PROTOTYPE: &str =
-    " has no definition that agrees in the word `cilk`, the result and the number of parameters";
+    "`$` has no definition that agrees in the word `cilk`, the result and the number of parameters";
 
 const COMMAND_LINE: &str =
-    " has the parameters `int argc, char *argv[]` where it is defined, and then no prototype agrees with it";
+    "`$` has the parameters `int argc, char *argv[]` where it is defined, and then no prototype agrees with it";
 
-const IN_FUNCTION: &str = " stands in a C function, but only a Cilk procedure may have it";
+const IN_FUNCTION: &str = "`$` stands in a C function, but only a Cilk procedure may have it";
 
 const AROUND: &str = ": `cilk` before its result makes one of `$`, in line @";
 
 pub(crate) fn say_check(
     out: &mut String,
-    site: Site<'_, '_>,
+    site: &Site<'_, '_>,
     fault: CheckFault,
 ) -> Result<(), Memory> {
     match fault {
-        CheckFault::Twice(_) => say_again(out, site),
         CheckFault::Unknown(_) => say_unknown(out, site),
         CheckFault::WrongKind(_) => say_kind(out, site),
         CheckFault::ArgumentCount(_) => say_count(out, site),
-        CheckFault::VoidValue(_) => say_void(out, site),
-        CheckFault::NotInProcedure(_) if site.word() != "inlet" => say_in_function(out, site),
         CheckFault::Prototype(_) => say_prototype(out, site),
         CheckFault::NoMain(_) => say_no_main(out, site),
         CheckFault::Label(_) => say_label(out, site),
         CheckFault::Format(_) => say_format(out, site.word()),
-        CheckFault::Reserved(_) if left_out(site.word()).is_some() => {
-            say_left_out(out, site.word())
-        }
-        _ => {
-            say_quoted(out, site.word())?;
-            say(out, form(site, fault))
-        }
+        _ => say_form(out, site, fault),
+    }
+}
+
+// The faults that are told by a word, and what is wrong with it.
+fn say_form(out: &mut String, site: &Site<'_, '_>, fault: CheckFault) -> Result<(), Memory> {
+    let word = site.word();
+    match fault {
+        CheckFault::Twice(_) => say_of_name(out, site, TWICE),
+        CheckFault::VoidValue(_) => say_of_name(out, site, VOID),
+        CheckFault::NotInProcedure(_) if word != "inlet" => say_in_function(out, site),
+        CheckFault::Reserved(_) if left_out(word).is_some() => say_left_out(out, word),
+        _ => Reason::joined("`$`", form(site, fault), word).say(out),
     }
 }
 
 // What is said behind the word at the place of a fault of which no declaration tells more.
-fn form(site: Site<'_, '_>, fault: CheckFault) -> &'static str {
+fn form(site: &Site<'_, '_>, fault: CheckFault) -> &'static str {
     match fault {
         CheckFault::NotInProcedure(_) => {
             " stands elsewhere than at the head of the outermost block of a Cilk procedure"
@@ -83,12 +91,8 @@ fn form(site: Site<'_, '_>, fault: CheckFault) -> &'static str {
     }
 }
 
-fn return_form(site: Site<'_, '_>) -> &'static str {
-    if site
-        .source
-        .word(site.source.index_of(site.at).saturating_add(1))
-        == ";"
-    {
+fn return_form(site: &Site<'_, '_>) -> &'static str {
+    if site.front.spelled(Spot::Behind(1)) == ";" {
         " has no value here, but what it ends gives an `int`"
     } else {
         " has a value here, but what it ends is `void`"
@@ -96,15 +100,14 @@ fn return_form(site: Site<'_, '_>) -> &'static str {
 }
 
 // C6, of a word in a body.
-fn say_in_function(out: &mut String, site: Site<'_, '_>) -> Result<(), Memory> {
-    say_quoted(out, site.word())?;
-    say(out, IN_FUNCTION)?;
+fn say_in_function(out: &mut String, site: &Site<'_, '_>) -> Result<(), Memory> {
+    Reason::named(IN_FUNCTION, site.word()).say(out)?;
     match procedure_around(site.program, site.at) {
         Some(procedure) => Reason {
             words: AROUND,
             more: "",
             name: procedure.name.as_str(),
-            line: site.source.line(procedure.name.at()),
+            number: site.line(procedure.name.at()),
         }
         .say(out),
         None => Ok(()),
@@ -121,29 +124,36 @@ fn of_main(kind: DeclarationKind) -> Option<&'static str> {
     }
 }
 
-fn say_no_main(out: &mut String, site: Site<'_, '_>) -> Result<(), Memory> {
+fn say_no_main(out: &mut String, site: &Site<'_, '_>) -> Result<(), Memory> {
     say(out, NO_MAIN)?;
     let Some(declared) = declared_in_file(site.program, "main") else {
         return Ok(());
     };
     match of_main(declared.kind) {
-        Some(words) => Reason::lined(words, site.source.line(declared.at)).say(out),
+        Some(words) => Reason::numbered(words, site.line(declared.at)).say(out),
         None => Ok(()),
     }
 }
 
-fn say_prototype(out: &mut String, site: Site<'_, '_>) -> Result<(), Memory> {
-    say_quoted(out, site.word())?;
-    if site.word() == "main" && has_command_line(site.program) {
-        return say(out, COMMAND_LINE);
+// What is said of a prototype that nothing defines.
+fn of_prototype<'a>(site: &Site<'a, '_>) -> Reason<'a> {
+    let name = site.word();
+    match declared_in_file(site.program, name) {
+        Some(declared) if declared.parameters().is_some() => Reason {
+            words: PROTOTYPE,
+            more: ": the one in line @ does not",
+            name,
+            number: site.line(declared.at),
+        },
+        _ => Reason::named(PROTOTYPE, name),
     }
-    say(out, PROTOTYPE)?;
-    match declared_in_file(site.program, site.word()) {
-        Some(declared) if declared.parameters().is_some() => {
-            say(out, ": the one in line ")?;
-            say_number(out, site.source.line(declared.at))?;
-            say(out, " does not")
-        }
-        _ => Ok(()),
+}
+
+// C11.
+fn say_prototype(out: &mut String, site: &Site<'_, '_>) -> Result<(), Memory> {
+    let name = site.word();
+    if name == "main" && has_command_line(site.program) {
+        return Reason::named(COMMAND_LINE, name).say(out);
     }
+    of_prototype(site).say(out)
 }

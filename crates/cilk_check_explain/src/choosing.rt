@@ -1,7 +1,8 @@
 //! Labels of a `switch`, and its body, that cannot stand where they do.
 
-use crate::front::Front;
-use crate::reason::Reason;
+use crate::rules::{Rule, Saying, Spot, Test};
+
+const CHOICES: &[&str] = &["case", "default"];
 
 const LABEL: &str =
     " cannot stand here, since labels stand directly in the block of a `switch` only, each before a statement";
@@ -14,45 +15,68 @@ const UNLABELLED: &str =
 
 const BODY: &str = " cannot stand here, since the body of a `switch` is a block";
 
-// Whether what stands before the token is whole, so that a statement or its body begins with it.
-fn begins_statement(front: Front<'_>) -> bool {
-    matches!(
-        front.word_before(1),
-        ";" | "{" | "}" | ":" | ")" | "else" | "do"
-    )
-}
-
-// Whether the token stands between a `case` and its `:`.
-fn is_in_case(front: Front<'_>) -> bool {
-    front.word_before(1) == "case"
-        || front.word_before(2) == "case"
-        || (front.word_before(3) == "case" && front.word_before(2) == "-")
-}
-
-// Whether the token before this one is the `:` of a label.
-fn is_behind_label(front: Front<'_>) -> bool {
-    let Some(colon) = front.back(1) else {
-        return false;
-    };
-    colon.word() == ":" && (colon.word_before(1) == "default" || is_in_case(colon))
-}
-
-// Whether the token before this one closes the test of a `switch`.
-fn is_body_of_switch(front: Front<'_>) -> bool {
-    match front.back(1) {
-        Some(close) if close.word() == ")" => close.word_before_opener() == "switch",
-        _ => false,
-    }
-}
-
-/// Why a label, or what stands in one or behind it, cannot stand here. None where it is not known.
-pub(crate) fn of_choice(front: Front<'_>) -> Option<Reason<'_>> {
-    match front.word() {
-        "case" | "default" if begins_statement(front) => Some(Reason::plain(LABEL)),
-        "case" | "default" => None,
-        "}" if is_behind_label(front) => Some(Reason::plain(UNLABELLED)),
-        _ if is_in_case(front) => Some(Reason::plain(VALUE)),
-        _ if is_body_of_switch(front) => Some(Reason::plain(BODY)),
-        _ => None,
-    }
-}
+/// Why a label, or what stands in one or behind it, cannot stand here.
+pub(crate) const LABELS: &[Rule] = &[
+    Rule {
+        saying: Saying::Plain(LABEL),
+        when: &[
+            Test::Is(Spot::Before(0), CHOICES),
+            Test::Is(Spot::Before(1), &[";", "{", "}", ":", ")", "else", "do"]),
+        ],
+        unless: &[],
+    },
+    Rule {
+        saying: Saying::Plain(UNLABELLED),
+        when: &[
+            Test::Is(Spot::Before(0), &["}"]),
+            Test::Is(Spot::Before(1), &[":"]),
+            Test::Is(Spot::Before(2), &["default", "case"]),
+        ],
+        unless: &[],
+    },
+    Rule {
+        saying: Saying::Plain(UNLABELLED),
+        when: &[
+            Test::Is(Spot::Before(0), &["}"]),
+            Test::Is(Spot::Before(1), &[":"]),
+            Test::Is(Spot::Before(3), &["case"]),
+        ],
+        unless: &[],
+    },
+    Rule {
+        saying: Saying::Plain(UNLABELLED),
+        when: &[
+            Test::Is(Spot::Before(0), &["}"]),
+            Test::Is(Spot::Before(1), &[":"]),
+            Test::Is(Spot::Before(3), &["-"]),
+            Test::Is(Spot::Before(4), &["case"]),
+        ],
+        unless: &[],
+    },
+    Rule {
+        saying: Saying::Plain(VALUE),
+        when: &[Test::Is(Spot::Before(1), &["case"])],
+        unless: &[Test::Is(Spot::Before(0), CHOICES)],
+    },
+    Rule {
+        saying: Saying::Plain(VALUE),
+        when: &[Test::Is(Spot::Before(2), &["case"])],
+        unless: &[Test::Is(Spot::Before(0), CHOICES)],
+    },
+    Rule {
+        saying: Saying::Plain(VALUE),
+        when: &[
+            Test::Is(Spot::Before(2), &["-"]),
+            Test::Is(Spot::Before(3), &["case"]),
+        ],
+        unless: &[Test::Is(Spot::Before(0), CHOICES)],
+    },
+    Rule {
+        saying: Saying::Plain(BODY),
+        when: &[
+            Test::Is(Spot::Before(1), &[")"]),
+            Test::Is(Spot::Group(1), &["switch"]),
+        ],
+        unless: &[Test::Is(Spot::Before(0), CHOICES)],
+    },
+];

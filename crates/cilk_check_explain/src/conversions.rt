@@ -1,6 +1,8 @@
 //! Text literals of `printf` that do not fit what stands behind them: C14.
 
-use crate::say::{say, say_quoted};
+use crate::fronts::{Class, count_of};
+use crate::reason::Reason;
+use crate::say::say;
 use cilk_check_scopes::Memory;
 
 const COUNT: &str = " has another number of `%d` than values follow it";
@@ -9,7 +11,7 @@ const ALONE: &str =
     " has a `%` that begins neither `%d` nor `%%`: one that is written itself is `%%`";
 
 const OTHERS: &str =
-    ", but this language has no other conversions than `%d`, for an `int`, and `%%`: ";
+    " has `$`, but this language has no other conversions than `%d`, for an `int`, and `%%`: ";
 
 const OF_TEXT: &str = "a text stands in the literal itself";
 
@@ -31,19 +33,10 @@ fn other_conversion(text: &str) -> Option<usize> {
     None
 }
 
-// Whether a byte may stand between the `%` and the letter of a conversion of C (C 1990, 7.9.6.1).
-fn is_between(byte: u8) -> bool {
-    byte.is_ascii_digit() || b"-+ #.*hlL".contains(&byte)
-}
-
 // A conversion that begins with this `%`, as it is spelled. A lone `%` is none.
 fn conversion(text: &str, at: usize) -> &str {
     let behind = text.get(at.saturating_add(1)..).unwrap_or("");
-    let count = behind
-        .as_bytes()
-        .iter()
-        .take_while(|byte| is_between(**byte))
-        .count();
+    let count = count_of(behind, Class::Modifier);
     let end = at.saturating_add(count).saturating_add(2);
     let found = text.get(at..end).unwrap_or("");
     match found.as_bytes().last() {
@@ -61,18 +54,19 @@ fn advice(conversion: &str) -> &'static str {
     }
 }
 
-/// C14, of a literal that is spelled so.
-pub(crate) fn say_format(out: &mut String, text: &str) -> Result<(), Memory> {
-    say_quoted(out, text)?;
-    let Some(at) = other_conversion(text) else {
-        return say(out, COUNT);
-    };
-    let conversion = conversion(text, at);
+// What is said of a conversion, as it is spelled.
+fn say_conversion(out: &mut String, conversion: &str) -> Result<(), Memory> {
     if conversion.is_empty() {
         return say(out, ALONE);
     }
-    say(out, " has ")?;
-    say_quoted(out, conversion)?;
-    say(out, OTHERS)?;
-    say(out, advice(conversion))
+    Reason::joined(OTHERS, advice(conversion), conversion).say(out)
+}
+
+/// C14, of a literal that is spelled so.
+pub(crate) fn say_format(out: &mut String, text: &str) -> Result<(), Memory> {
+    Reason::named("`$`", text).say(out)?;
+    match other_conversion(text) {
+        Some(at) => say_conversion(out, conversion(text, at)),
+        None => say(out, COUNT),
+    }
 }

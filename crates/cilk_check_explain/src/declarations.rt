@@ -1,8 +1,6 @@
 //! Declarations, and heads of functions, that cannot stand where they do or are not written so.
 
-use crate::front::Front;
-use crate::reason::Reason;
-use cilk_lex::{Keyword, Mark, TokenKind};
+use crate::rules::{Rule, Saying, Sort, Spot, Test};
 
 const FOR_VARIABLE: &str =
     " cannot stand here, since a `for` declares no variable: write `int $;` at the head of the block, and `for ($ = ..`";
@@ -62,142 +60,175 @@ const WORD_AS_NAME: &str = " cannot stand here, since it is a word of this langu
 const MAIN: &str =
     " cannot stand here, since these are the parameters of a Cilk procedure: write `cilk int main(int argc, char *argv[])`";
 
-/// Whether the token stands in the parameters of a function, a procedure or an inlet.
-pub(crate) fn is_in_head(front: Front<'_>) -> bool {
-    let is_declared = match front.first() {
-        "int" | "void" | "cilk" | "inlet" => true,
-        _ => false,
-    };
-    let is_bracketed = match front.opener() {
-        Some(opener) => opener.word() == "(",
-        None => false,
-    };
-    is_declared && is_bracketed && !front.has_before("=")
-}
+/// Why the token is no length of an array.
+pub(crate) const LENGTHS: &[Rule] = &[
+    Rule {
+        saying: Saying::Plain(LENGTH_MISSING),
+        when: &[
+            Test::Is(Spot::Opener(0), &["["]),
+            Test::Is(Spot::Begin(0), &["int"]),
+            Test::Is(Spot::Before(0), &["]"]),
+        ],
+        unless: &[Test::Has("=")],
+    },
+    Rule {
+        saying: Saying::Plain(LENGTH),
+        when: &[
+            Test::Is(Spot::Opener(0), &["["]),
+            Test::Is(Spot::Begin(0), &["int"]),
+        ],
+        unless: &[Test::Has("=")],
+    },
+];
 
-/// Why no declaration of variables can begin here. None where it is not known.
-pub(crate) fn of_int(front: Front<'_>) -> Option<Reason<'_>> {
-    let before = front.word_before(1);
-    let name = front.word_behind(1);
-    if before == "(" && front.word_before(2) == "for" {
-        return Some(Reason::named(FOR_VARIABLE, name));
-    }
-    if before == "inlet" {
-        return Some(Reason::named(INLET_RESULT, name));
-    }
-    match before {
-        ";" | "}" if front.is_in_body() => Some(Reason::plain(BEHIND_STATEMENT)),
-        ")" | "else" | "do" if front.is_in_body() => Some(Reason::plain(AS_STATEMENT)),
-        _ => None,
-    }
-}
+/// Why a word that declares cannot stand here.
+pub(crate) const DECLARING_WORDS: &[Rule] = &[
+    Rule {
+        saying: Saying::Named(FOR_VARIABLE, Spot::Behind(1)),
+        when: &[
+            Test::Is(Spot::Before(0), &["int"]),
+            Test::Is(Spot::Before(1), &["("]),
+            Test::Is(Spot::Before(2), &["for"]),
+        ],
+        unless: &[],
+    },
+    Rule {
+        saying: Saying::Named(INLET_RESULT, Spot::Behind(1)),
+        when: &[
+            Test::Is(Spot::Before(0), &["int"]),
+            Test::Is(Spot::Before(1), &["inlet"]),
+        ],
+        unless: &[],
+    },
+    Rule {
+        saying: Saying::Plain(BEHIND_STATEMENT),
+        when: &[
+            Test::Is(Spot::Before(0), &["int"]),
+            Test::Is(Spot::Before(1), &[";", "}"]),
+            Test::Is(Spot::Brace, &["{"]),
+        ],
+        unless: &[],
+    },
+    Rule {
+        saying: Saying::Plain(AS_STATEMENT),
+        when: &[
+            Test::Is(Spot::Before(0), &["int"]),
+            Test::Is(Spot::Before(1), &[")", "else", "do"]),
+            Test::Is(Spot::Brace, &["{"]),
+        ],
+        unless: &[],
+    },
+    Rule {
+        saying: Saying::Plain(INLET_BEHIND_STATEMENT),
+        when: &[Test::Is(Spot::Before(0), &["inlet"])],
+        unless: &[],
+    },
+    Rule {
+        saying: Saying::Plain(LOCK_IN_BODY),
+        when: &[
+            Test::Is(Spot::Before(0), &["Cilk_lockvar"]),
+            Test::Is(Spot::Brace, &["{"]),
+        ],
+        unless: &[],
+    },
+    Rule {
+        saying: Saying::Named(EMPTY_ARGUMENTS, Spot::Before(2)),
+        when: &[
+            Test::Is(Spot::Before(0), &["void"]),
+            Test::Is(Spot::Before(1), &["("]),
+        ],
+        unless: &[],
+    },
+];
 
-/// Why another word that declares cannot stand here. None where it is not known.
-pub(crate) fn of_word(front: Front<'_>, word: Keyword) -> Option<Reason<'_>> {
-    match word {
-        Keyword::Inlet => Some(Reason::plain(INLET_BEHIND_STATEMENT)),
-        Keyword::CilkLockvar if front.is_in_body() => Some(Reason::plain(LOCK_IN_BODY)),
-        Keyword::Void if front.word_before(1) == "(" => {
-            Some(Reason::named(EMPTY_ARGUMENTS, front.word_before(2)))
-        }
-        _ => None,
-    }
-}
+/// Why a word of the language is no name here.
+pub(crate) const NO_NAMES: &[Rule] = &[Rule {
+    saying: Saying::Plain(WORD_AS_NAME),
+    when: &[Test::Is(Spot::Before(1), &["int", "void", "spawn", "Cilk_lockvar"])],
+    unless: &[],
+}];
 
-/// Why a word of the language is no name here. None where no name is wanted.
-pub(crate) fn as_name(front: Front<'_>) -> Option<Reason<'_>> {
-    match front.kind_before(1) {
-        Some(
-            TokenKind::Word(Keyword::Int | Keyword::Void | Keyword::Spawn | Keyword::CilkLockvar),
-        ) => { Some(Reason::plain(WORD_AS_NAME)) }
-        _ => None,
-    }
-}
+/// Why no bracket can open here.
+pub(crate) const BRACKETS: &[Rule] = &[
+    Rule {
+        saying: Saying::Plain(DIMENSION),
+        when: &[Test::Is(Spot::Before(1), &["]"])],
+        unless: &[],
+    },
+    Rule {
+        saying: Saying::Plain(ARRAY_PARAMETER),
+        when: &[
+            Test::Is(Spot::Begin(0), &["int", "void", "cilk", "inlet"]),
+            Test::Is(Spot::Opener(0), &["("]),
+        ],
+        unless: &[Test::Has("=")],
+    },
+];
 
-/// Why no bracket can open here. None where it is not known.
-pub(crate) fn of_bracket(front: Front<'_>) -> Option<Reason<'_>> {
-    if front.word_before(1) == "]" {
-        return Some(Reason::plain(DIMENSION));
-    }
-    is_in_head(front).then_some(Reason::plain(ARRAY_PARAMETER))
-}
+/// Why a body cannot open here.
+pub(crate) const BODIES: &[Rule] = &[Rule {
+    saying: Saying::Named(NO_PARAMETERS, Spot::Before(1)),
+    when: &[Test::Sorted(Spot::Before(1), Sort::Name)],
+    unless: &[
+        Test::Is(Spot::Brace, &["{"]),
+        Test::Is(Spot::Opener(0), &["(", "["]),
+    ],
+}];
 
-// Whether the token stands where the length of an array is declared.
-fn is_length(front: Front<'_>) -> bool {
-    match front.opener() {
-        Some(opener) => { opener.word() == "[" && front.first() == "int" && !front.has_before("=") }
-        None => false,
-    }
-}
+/// Why a name cannot stand here, where something is declared.
+pub(crate) const NAMES: &[Rule] = &[
+    Rule {
+        saying: Saying::Named(NO_RESULT_OF_PROCEDURE, Spot::Before(0)),
+        when: &[Test::Is(Spot::Before(1), &["cilk"])],
+        unless: &[],
+    },
+    Rule {
+        saying: Saying::Plain(NO_TYPE),
+        when: &[
+            Test::Same(Spot::Before(0), Spot::Begin(0)),
+            Test::Sorted(Spot::Behind(1), Sort::Name),
+        ],
+        unless: &[Test::Is(Spot::Brace, &["{"])],
+    },
+    Rule {
+        saying: Saying::Named(NO_RESULT, Spot::Before(0)),
+        when: &[
+            Test::Same(Spot::Before(0), Spot::Begin(0)),
+            Test::Is(Spot::Behind(1), &["("]),
+        ],
+        unless: &[Test::Is(Spot::Brace, &["{"])],
+    },
+    Rule {
+        saying: Saying::Named(UNTYPED, Spot::Before(0)),
+        when: &[
+            Test::Is(Spot::Begin(0), &["int", "void", "cilk", "inlet"]),
+            Test::Is(Spot::Opener(0), &["("]),
+            Test::Is(Spot::Before(1), &["(", ","]),
+        ],
+        unless: &[Test::Has("=")],
+    },
+    Rule {
+        saying: Saying::Plain(GLOBAL_INITIALISER),
+        when: &[Test::Is(Spot::Before(1), &["="])],
+        unless: &[Test::Is(Spot::Brace, &["{"])],
+    },
+    Rule {
+        saying: Saying::Named(BEHIND_NO_TYPE, Spot::Before(1)),
+        when: &[
+            Test::Sorted(Spot::Before(1), Sort::Name),
+            Test::Same(Spot::Before(0), Spot::Begin(1)),
+        ],
+        unless: &[],
+    },
+];
 
-/// Why the token is no length of an array. None where none is declared.
-pub(crate) fn of_length(front: Front<'_>) -> Option<Reason<'_>> {
-    if !is_length(front) {
-        return None;
-    }
-    match front.word() {
-        "]" => Some(Reason::plain(LENGTH_MISSING)),
-        _ => Some(Reason::plain(LENGTH)),
-    }
-}
-
-/// Why a body cannot open here. None where it is not known.
-pub(crate) fn of_brace(front: Front<'_>) -> Option<Reason<'_>> {
-    match front.kind_before(1) {
-        Some(TokenKind::Name) if !front.is_in_body() && front.opener().is_none() => {
-            Some(Reason::named(NO_PARAMETERS, front.word_before(1)))
-        }
-        _ => None,
-    }
-}
-
-// Why a name cannot stand at the top level, as the first of what is declared. None where it begins a statement.
-fn at_top(front: Front<'_>) -> Option<Reason<'_>> {
-    match front.source.kind(front.index.saturating_add(1)) {
-        Some(TokenKind::Name) => Some(Reason::plain(NO_TYPE)),
-        Some(TokenKind::Mark(Mark::OpenParenthesis)) => {
-            Some(Reason::named(NO_RESULT, front.word()))
-        }
-        _ => None,
-    }
-}
-
-/// Why a name cannot stand here, where something is declared. None where it is not known.
-pub(crate) fn of_name(front: Front<'_>) -> Option<Reason<'_>> {
-    let begin = front.begin();
-    let before = front.word_before(1);
-    if before == "cilk" {
-        return Some(Reason::named(NO_RESULT_OF_PROCEDURE, front.word()));
-    }
-    if front.index == begin && !front.is_in_body() {
-        return at_top(front);
-    }
-    if is_in_head(front) && (before == "(" || before == ",") {
-        return Some(Reason::named(UNTYPED, front.word()));
-    }
-    if before == "=" && !front.is_in_body() {
-        return Some(Reason::plain(GLOBAL_INITIALISER));
-    }
-    let is_second = front.index == begin.saturating_add(1);
-    match front.kind_before(1) {
-        Some(TokenKind::Name) if is_second => Some(Reason::named(BEHIND_NO_TYPE, before)),
-        _ => None,
-    }
-}
-
-/// Whether the token is of a `main` that is told of the command line and lacks the word `cilk`, and what is said then.
-pub(crate) fn of_main(front: Front<'_>) -> Option<Reason<'_>> {
-    let begin = front.begin();
-    let is_main = front.first() == "int"
-        && front.source.word(begin.saturating_add(1)) == "main"
-        && front.word() == "char";
-    is_main.then_some(Reason::plain(MAIN))
-}
-
-/// Whether the token stands behind the parameters of a `main` that is told of the command line.
-pub(crate) fn is_behind_main(front: Front<'_>) -> bool {
-    let begin = front.begin();
-    front.first() == "cilk"
-        && front.source.word(begin.saturating_add(2)) == "main"
-        && front.opener().is_none()
-}
+/// What is said of a `main` that is told of the command line and lacks the word `cilk`.
+pub(crate) const MAINS: &[Rule] = &[Rule {
+    saying: Saying::Plain(MAIN),
+    when: &[
+        Test::Is(Spot::Begin(0), &["int"]),
+        Test::Is(Spot::Begin(1), &["main"]),
+        Test::Is(Spot::Before(0), &["char"]),
+    ],
+    unless: &[],
+}];

@@ -1,7 +1,9 @@
 //! Lines that begin with a `#` and include none of the headers of the language: L7.
 
-use crate::lines::before_newline;
+use crate::fronts::{Class, count_of};
+use crate::lines::{before_newline, split};
 use crate::say::say;
+use crate::words::told_in;
 use cilk_check_scopes::Memory;
 
 const DEFINE: &str =
@@ -22,40 +24,48 @@ const OTHER: &str =
     "A `#` may only begin a line that includes `cilk.h`, `cilk-lib.h`, `cilk-lib.cilkh`, `stdio.h` or `stdlib.h` and has \
     nothing else, not even a comment: this language leaves out the other directives of C";
 
+const DIRECTIVES: &[(&str, &str)] = &[
+    ("define", DEFINE),
+    ("if", CONDITION),
+    ("ifdef", CONDITION),
+    ("ifndef", CONDITION),
+    ("else", CONDITION),
+    ("elif", CONDITION),
+    ("endif", CONDITION),
+    ("include", HEADER),
+];
+
+const HEADERS: &[&str] = &["cilk.h", "cilk-lib.", "stdio.h", "stdlib.h"];
+
 // The word behind a `#`, and the rest of its line.
 fn parts(line: &str) -> (&str, &str) {
     let behind = line.get(1..).unwrap_or("").trim_ascii_start();
-    let count = behind
-        .as_bytes()
-        .iter()
-        .take_while(|byte| byte.is_ascii_alphabetic())
-        .count();
-    match behind.split_at_checked(count) {
+    match behind.split_at_checked(count_of(behind, Class::Letter)) {
         Some(parts) => parts,
         None => ("", ""),
     }
 }
 
+// Whether the rest of a line names a header of the language.
 fn names_header(rest: &str) -> bool {
-    rest.contains("cilk.h")
-        || rest.contains("cilk-lib.")
-        || rest.contains("stdio.h")
-        || rest.contains("stdlib.h")
+    for header in HEADERS {
+        if rest.contains(*header) {
+            return true;
+        }
+    }
+    false
 }
 
 fn words(line: &str) -> &'static str {
     let (word, rest) = parts(line);
-    match word {
-        "define" => DEFINE,
-        "if" | "ifdef" | "ifndef" | "else" | "elif" | "endif" => CONDITION,
-        "include" if names_header(rest) => LINE,
-        "include" => HEADER,
-        _ => OTHER,
+    if word == "include" && names_header(rest) {
+        return LINE;
     }
+    told_in(DIRECTIVES, word).unwrap_or(OTHER)
 }
 
 /// L7, of the `#` at a place.
 pub(crate) fn say_directive(out: &mut String, text: &str, at: u32) -> Result<(), Memory> {
-    let (_, behind) = text.split_at(text.floor_char_boundary(at as usize));
+    let (_, behind) = split(text, at);
     say(out, words(before_newline(behind)))
 }

@@ -1,9 +1,10 @@
 //! Labels that say what another label of the same `switch` says: C17.
 
-use crate::say::{say, say_number};
+use crate::reason::Reason;
+use crate::say::say;
 use crate::site::Site;
 use crate::source::Source;
-use cilk_check_scopes::{Block, Item, ItemNode, Label, LocalNode, Memory, Program, Stmt, StmtNode};
+use cilk_check_scopes::{Block, ItemNode, Label, LocalNode, Memory, Program, Stmt, StmtNode};
 
 // The first of the labels of a block with this value.
 fn first_of(block: &Block, value: Option<i32>) -> Option<Label> {
@@ -74,49 +75,46 @@ fn in_stmt(stmt: &Stmt, at: u32) -> Option<Label> {
     }
 }
 
-fn in_item(item: &Item, at: u32) -> Option<Label> {
-    match &item.node {
-        ItemNode::Procedure(procedure) => in_block(&procedure.body, at),
-        _ => None,
-    }
-}
-
 // The first label that says what the one at a place says, in the same `switch`.
 fn first_alike(program: &Program, at: u32) -> Option<Label> {
     for item in &program.items {
-        let found = in_item(item, at);
-        if found.is_some() {
-            return found;
+        if let ItemNode::Procedure(procedure) = &item.node {
+            let found = in_block(&procedure.body, at);
+            if found.is_some() {
+                return found;
+            }
         }
     }
     None
 }
 
-// The label at a place, as the text spells it.
-fn say_spelled(out: &mut String, source: Source<'_>, at: u32) -> Result<(), Memory> {
-    let index = source.index_of(at);
-    say(out, "`")?;
-    say(out, source.word(index))?;
-    if source.word(index) == "case" {
-        say(out, " ")?;
-        let value = source.word(index.saturating_add(1));
-        say(out, value)?;
-        if value == "-" {
-            say(out, source.word(index.saturating_add(2)))?;
-        }
+// The label that begins with a token, as the text spells it.
+fn say_spelled(out: &mut String, source: &Source<'_>, index: usize) -> Result<(), Memory> {
+    let word = source.word(index);
+    if word != "case" {
+        return Reason::named("`$`", word).say(out);
     }
-    say(out, "`")
+    let value = source.word(index.saturating_add(1));
+    let digits = match value {
+        "-" => source.word(index.saturating_add(2)),
+        _ => "",
+    };
+    Reason::named("`case $", value).say(out)?;
+    Reason::named("$`", digits).say(out)
 }
 
 /// C17.
-pub(crate) fn say_label(out: &mut String, site: Site<'_, '_>) -> Result<(), Memory> {
-    say_spelled(out, site.source, site.at)?;
+pub(crate) fn say_label(out: &mut String, site: &Site<'_, '_>) -> Result<(), Memory> {
+    let source = &site.front.source;
+    say_spelled(out, source, site.front.index)?;
     let Some(first) = first_alike(site.program, site.at) else {
         return say(out, " says the same as a label before it");
     };
     say(out, " says the same as ")?;
-    say_spelled(out, site.source, first.at)?;
-    say(out, " in line ")?;
-    say_number(out, site.source.line(first.at))?;
-    say(out, ", and two labels of one `switch` may not")
+    say_spelled(out, source, source.index_of(first.at))?;
+    Reason::numbered(
+        " in line @, and two labels of one `switch` may not",
+        source.line(first.at),
+    )
+    .say(out)
 }

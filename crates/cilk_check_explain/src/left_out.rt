@@ -1,8 +1,9 @@
 //! What C, Cilk 5.4 and later dialects of Cilk have, and the language has not; and what it has in its place.
 
 use crate::front::ends_sentence;
-use crate::say::{say, say_quoted};
+use crate::reason::Reason;
 use crate::source::Source;
+use crate::words::told_in;
 use cilk_check_scopes::Memory;
 use cilk_lex::TokenKind;
 
@@ -64,69 +65,53 @@ const LOOP: &str =
 const SCOPE: &str =
     " is of later dialects of Cilk: Cilk 5.4 has a procedure in its place, which syncs before it returns";
 
-// A word of C for types and what they are made of (C 1990, 6.1.1).
-fn of_types(word: &str) -> Option<&'static str> {
-    match word {
-        "char" => Some(CHARACTER),
-        "float" | "double" => Some(FLOATING),
-        "long" | "short" | "signed" | "unsigned" => Some(WHOLE),
-        "struct" | "union" => Some(STRUCTURE),
-        "enum" => Some(NAMED),
-        "typedef" => Some(TYPE),
-        _ => None,
-    }
-}
-
-// Another word of C.
-fn of_c(word: &str) -> Option<&'static str> {
-    match word {
-        "const" => Some(CONSTANT),
-        "static" => Some(STATIC),
-        "auto" | "extern" | "register" | "volatile" => Some(BARE),
-        "goto" => Some(JUMP),
-        "sizeof" => Some(SIZE),
-        _ => None,
-    }
-}
-
-// A word of Cilk 5.4 (Cilk 5.4 manual, keywords).
-fn of_cilk(word: &str) -> Option<&'static str> {
-    match word {
-        "shared" => Some(SHARED),
-        "private" => Some(PRIVATE),
-        "Self" => Some(WORKER),
-        "Cilk_alloca" => Some(ROOM),
-        "Cilk_fence" => Some(FENCE),
-        _ => None,
-    }
-}
-
-// A word of Cilk Plus or OpenCilk, which is a name here.
-fn of_dialects(word: &str) -> Option<&'static str> {
-    match word {
-        "cilk_spawn" | "_Cilk_spawn" => Some(SPAWN),
-        "cilk_sync" | "_Cilk_sync" => Some(SYNC),
-        "cilk_for" | "_Cilk_for" => Some(LOOP),
-        "cilk_scope" => Some(SCOPE),
-        _ => None,
-    }
-}
+// The words of C (C 1990, 6.1.1), those of Cilk 5.4 (Cilk 5.4 manual, keywords), and those of Cilk Plus and OpenCilk, which are names
+// here.
+const LEFT_OUT: &[(&str, &str)] = &[
+    ("char", CHARACTER),
+    ("float", FLOATING),
+    ("double", FLOATING),
+    ("long", WHOLE),
+    ("short", WHOLE),
+    ("signed", WHOLE),
+    ("unsigned", WHOLE),
+    ("struct", STRUCTURE),
+    ("union", STRUCTURE),
+    ("enum", NAMED),
+    ("typedef", TYPE),
+    ("const", CONSTANT),
+    ("static", STATIC),
+    ("auto", BARE),
+    ("extern", BARE),
+    ("register", BARE),
+    ("volatile", BARE),
+    ("goto", JUMP),
+    ("sizeof", SIZE),
+    ("shared", SHARED),
+    ("private", PRIVATE),
+    ("Self", WORKER),
+    ("Cilk_alloca", ROOM),
+    ("Cilk_fence", FENCE),
+    ("cilk_spawn", SPAWN),
+    ("_Cilk_spawn", SPAWN),
+    ("cilk_sync", SYNC),
+    ("_Cilk_sync", SYNC),
+    ("cilk_for", LOOP),
+    ("_Cilk_for", LOOP),
+    ("cilk_scope", SCOPE),
+];
 
 /// What is said behind a word that is left out. None of another word.
 pub(crate) fn left_out(word: &str) -> Option<&'static str> {
-    of_types(word)
-        .or(of_c(word))
-        .or(of_cilk(word))
-        .or(of_dialects(word))
+    told_in(LEFT_OUT, word)
 }
 
 pub(crate) fn say_left_out(out: &mut String, word: &str) -> Result<(), Memory> {
-    say_quoted(out, word)?;
-    say(out, left_out(word).unwrap_or(""))
+    Reason::joined("`$`", left_out(word).unwrap_or(""), word).say(out)
 }
 
 /// The last word that is left out, in the statement or declaration that a place stands in, up to that place.
-pub(crate) fn left_out_word<'a>(source: Source<'a>, at: u32) -> Option<&'a str> {
+pub(crate) fn left_out_word<'a>(source: &Source<'a>, at: u32) -> Option<&'a str> {
     let mut found = None;
     for token in source.tokens {
         if token.start > at {

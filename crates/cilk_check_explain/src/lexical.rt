@@ -1,8 +1,10 @@
 //! Texts that have no tokens: L1 to L7.
 
 use crate::directive::say_directive;
-use crate::lines::behind_newline;
-use crate::say::{say, say_number, say_quoted};
+use crate::fronts::{Class, front_of};
+use crate::lines::{behind_newline, split};
+use crate::reason::Reason;
+use crate::say::say;
 use cilk_check_scopes::Memory;
 use cilk_lex::LexFault;
 
@@ -14,7 +16,9 @@ const CHARACTER: &str =
     place, as 10 for a newline";
 
 const CHARACTER_IS: &str =
-    " is a character constant of C, but this language leaves those out: its place is taken by the number ";
+    "`$` is a character constant of C, but this language leaves those out: its place is taken by the number @";
+
+const NO_TOKEN: &str = "`$` begins no token of this language";
 
 const POINT: &str =
     "A `.` is of C's structures and floating numbers, which this language leaves out";
@@ -29,12 +33,15 @@ const QUOTE: &str =
 const OTHER: &str =
     "This character may stand in a comment only, since a text literal has the printable ones of ASCII";
 
+const FLOATING: &str =
+    " is a floating number of C, but this language leaves those out: its only numbers are whole";
+
 const NUMBER: &str =
     " is no whole number from 0 to 2147483647, written in decimal, in octal behind a `0`, or in \
     hexadecimal behind `0x`, without a suffix";
 
 pub(crate) fn say_lex(out: &mut String, text: &str, fault: LexFault) -> Result<(), Memory> {
-    let (before, _) = text.split_at(text.floor_char_boundary(fault.place() as usize));
+    let (before, _) = split(text, fault.place());
     if is_behind_slashes(behind_newline(before)) {
         return say(out, COMMENT);
     }
@@ -73,47 +80,52 @@ fn words(fault: LexFault) -> &'static str {
     }
 }
 
+// What is said of a character by itself. None of a printable one of ASCII.
+fn of_character(character: char) -> Option<&'static str> {
+    match character {
+        '.' => Some(POINT),
+        '\t' | '\x0b' | '\x0c' | '\r' => Some(BLANK),
+        '\u{2018}' | '\u{2019}' | '\u{201c}' | '\u{201d}' => Some(QUOTE),
+        ' '..='~' => None,
+        _ => Some(OTHER),
+    }
+}
+
 fn say_bad_byte(out: &mut String, text: &str, at: u32) -> Result<(), Memory> {
-    let (_, behind) = text.split_at(text.floor_char_boundary(at as usize));
-    match behind.chars().next() {
-        Some('\'') => say_character(out, behind),
-        Some('.') => say(out, POINT),
-        Some('\t' | '\x0b' | '\x0c' | '\r') => say(out, BLANK),
-        Some('\u{2018}' | '\u{2019}' | '\u{201c}' | '\u{201d}') => say(out, QUOTE),
-        Some(' '..='~') => {
-            say_quoted(out, behind.get(..1).unwrap_or(""))?;
-            say(out, " begins no token of this language")
-        }
-        _ => say(out, OTHER),
+    let (_, behind) = split(text, at);
+    let Some(character) = behind.chars().next() else {
+        return say(out, OTHER);
+    };
+    if character == '\'' {
+        return say_constant(out, behind);
+    }
+    match of_character(character) {
+        Some(words) => say(out, words),
+        None => Reason::named(NO_TOKEN, behind.get(..1).unwrap_or("")).say(out),
     }
 }
 
 // A character constant of one printable character is told with its number.
-fn say_character(out: &mut String, behind: &str) -> Result<(), Memory> {
+fn say_constant(out: &mut String, behind: &str) -> Result<(), Memory> {
     match behind.as_bytes() {
-        [_, code @ 32..=126, b'\'', ..] => {
-            say_quoted(out, behind.get(..3).unwrap_or(""))?;
-            say(out, CHARACTER_IS)?;
-            say_number(out, *code as usize)
+        [_, code @ 32..=126, b'\'', ..] => Reason {
+            words: CHARACTER_IS,
+            more: "",
+            name: behind.get(..3).unwrap_or(""),
+            number: *code as usize,
         }
+        .say(out),
         _ => say(out, CHARACTER),
     }
 }
 
 fn say_bad_number(out: &mut String, text: &str, at: u32) -> Result<(), Memory> {
-    let (_, behind) = text.split_at(text.floor_char_boundary(at as usize));
-    let end = behind
-        .as_bytes()
-        .iter()
-        .take_while(|byte| byte.is_ascii_alphanumeric() || **byte == b'_' || **byte == b'.')
-        .count();
-    let number = behind.get(..end).unwrap_or("");
-    say_quoted(out, number)?;
-    if number.contains('.') {
-        return say(
-            out,
-            " is a floating number of C, but this language leaves those out: its only numbers are whole",
-        );
-    }
-    say(out, NUMBER)
+    let (_, behind) = split(text, at);
+    let number = front_of(behind, Class::Numeral);
+    let words = if number.contains('.') {
+        FLOATING
+    } else {
+        NUMBER
+    };
+    Reason::joined("`$`", words, number).say(out)
 }

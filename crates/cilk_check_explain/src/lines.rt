@@ -30,6 +30,11 @@ pub(crate) fn before_newline(rest: &str) -> &str
     }
 }
 
+/// What stands in a text before a place, and what from there on.
+pub(crate) fn split(text: &str, at: u32) -> (&str, &str) {
+    text.split_at(text.floor_char_boundary(at as usize))
+}
+
 fn say_blank(out: &mut String, byte: u8) -> Result<(), Memory>
     ensures { Says result out.old out.new (blank_for byte) }
 {

@@ -1,9 +1,13 @@
 //! Names that mean something else than is needed: C1, C3, C4 and C5.
 
+use crate::declared::Declared;
+use crate::front::Front;
 use crate::reason::Reason;
-use crate::say::{say, say_number, say_quoted};
+use crate::rules::{Rule, Saying, Spot, Test};
+use crate::say::say;
+use crate::search::meaning;
 use crate::site::Site;
-use crate::spawns::is_assigning;
+use crate::words::ASSIGNING;
 use cilk_check_scopes::{DeclarationKind, Memory};
 
 const SPAWNED: &str = ": a procedure is started by `spawn`, as in `spawn $(..);`";
@@ -18,114 +22,174 @@ const ELEMENTS: &str = ": the elements of an array are used, as `$[0]`, and not 
 
 const CALL_FOR_VALUE: &str = ": the value of a function is had by a call, as in `x = $(..);`";
 
-// The name at a place, and the line of its declaration.
-fn say_name(out: &mut String, site: Site<'_, '_>) -> Result<(), Memory> {
-    say_quoted(out, site.word())?;
-    match site.meaning() {
-        None => Ok(()),
-        Some(declared) => {
-            say(out, ", declared in line ")?;
-            say_number(out, site.source.line(declared.at))?;
-            say(out, ",")
-        }
+// What is needed at the place of a name: the tokens around it say so (Cilk 5.4 manual, locks).
+const NEEDED: &[Rule] = &[
+    Rule {
+        saying: Saying::Plain("another Cilk procedure than `main`"),
+        when: &[
+            Test::Is(Spot::Behind(1), &["("]),
+            Test::Is(Spot::Before(1), &["spawn"]),
+            Test::Is(Spot::Before(0), &["main"]),
+        ],
+        unless: &[],
+    },
+    Rule {
+        saying: Saying::Plain("a Cilk procedure"),
+        when: &[
+            Test::Is(Spot::Behind(1), &["("]),
+            Test::Is(Spot::Before(1), &["spawn"]),
+        ],
+        unless: &[],
+    },
+    Rule {
+        saying: Saying::Plain("an inlet"),
+        when: &[
+            Test::Is(Spot::Behind(1), &["("]),
+            Test::Is(Spot::Behind(2), &["spawn"]),
+        ],
+        unless: &[],
+    },
+    Rule {
+        saying: Saying::Plain("a C function"),
+        when: &[Test::Is(Spot::Behind(1), &["("])],
+        unless: &[],
+    },
+    Rule {
+        saying: Saying::Plain("an array"),
+        when: &[Test::Is(Spot::Behind(1), &["["])],
+        unless: &[],
+    },
+    Rule {
+        saying: Saying::Plain("a lock"),
+        when: &[
+            Test::Is(Spot::Before(1), &["("]),
+            Test::Is(
+                Spot::Before(2),
+                &["Cilk_lock_init", "Cilk_lock", "Cilk_unlock"],
+            ),
+        ],
+        unless: &[],
+    },
+];
+
+// What is to be written in place of a C function.
+const FOR_FUNCTION: &[Rule] = &[
+    Rule {
+        saying: Saying::Plain(CALLED),
+        when: &[Test::Is(Spot::Before(1), &["spawn"])],
+        unless: &[],
+    },
+    Rule {
+        saying: Saying::Plain(CALL_FOR_VALUE),
+        when: &[],
+        unless: &[Test::Is(Spot::Behind(1), &["("])],
+    },
+];
+
+// The same for a Cilk procedure.
+const FOR_PROCEDURE: &[Rule] = &[
+    Rule {
+        saying: Saying::Plain(""),
+        when: &[Test::Is(Spot::Before(1), &["spawn"])],
+        unless: &[],
+    },
+    Rule {
+        saying: Saying::Plain(SPAWNED),
+        when: &[Test::Is(Spot::Behind(1), &["("])],
+        unless: &[Test::Is(Spot::Before(1), ASSIGNING)],
+    },
+    Rule {
+        saying: Saying::Plain(SPAWNED_FOR_VALUE),
+        when: &[],
+        unless: &[],
+    },
+];
+
+// The same for an array.
+const FOR_ARRAY: &[Rule] = &[Rule {
+    saying: Saying::Plain(ELEMENTS),
+    when: &[],
+    unless: &[Test::Is(Spot::Behind(1), &["("])],
+}];
+
+// What the first of these rules says that holds.
+fn words_in(front: &Front<'_>, rules: &'static [Rule]) -> Option<&'static str> {
+    match front.rule_in(rules)?.saying {
+        Saying::Plain(words) | Saying::Named(words, _) | Saying::Call(words, _) => Some(words),
     }
 }
 
-/// C1.
-pub(crate) fn say_again(out: &mut String, site: Site<'_, '_>) -> Result<(), Memory> {
-    say_name(out, site)?;
-    say(out, " is declared again in the same scope")
-}
-
-// What is needed at the place of a name: the tokens around it say so.
-fn needed(site: Site<'_, '_>) -> &'static str {
-    let index = site.source.index_of(site.at);
-    let before = site.source.word(index.saturating_sub(1));
-    match site.source.word(index.saturating_add(1)) {
-        "(" if before == "spawn" && site.word() == "main" => "another Cilk procedure than `main`",
-        "(" if before == "spawn" => "a Cilk procedure",
-        "(" if site.source.word(index.saturating_add(2)) == "spawn" => "an inlet",
-        "(" => "a C function",
-        "[" => "an array",
-        _ if before == "(" && is_locking(site.source.word(index.saturating_sub(2))) => "a lock",
-        _ => "an `int` variable",
+// The name at a place, with the line of its declaration, and words behind that.
+fn about<'a>(site: &Site<'a, '_>, found: Option<Declared>, more: &'a str) -> Reason<'a> {
+    let name = site.word();
+    match found {
+        None => Reason::joined("`$`", more, name),
+        Some(declared) => Reason {
+            words: "`$`, declared in line @,",
+            more,
+            name,
+            number: site.line(declared.at),
+        },
     }
 }
 
-// Whether this is the name of a call that is given a lock (Cilk 5.4 manual, locks).
-fn is_locking(word: &str) -> bool {
-    word == "Cilk_lock_init" || word == "Cilk_lock" || word == "Cilk_unlock"
-}
-
-fn what_is(site: Site<'_, '_>) -> &'static str {
-    match site.meaning() {
-        Some(declared) => declared.words(),
-        None => " is something else",
-    }
-}
-
-// Whether this is the parameter of `main` that nothing may use.
-fn is_of_command_line(site: Site<'_, '_>) -> bool {
-    match site.meaning() {
-        Some(declared) => matches!(declared.kind, DeclarationKind::Strings),
-        None => false,
-    }
+/// C1, C4 and C5: the name, and words that say what is wrong.
+pub(crate) fn say_of_name(
+    out: &mut String,
+    site: &Site<'_, '_>,
+    words: &str,
+) -> Result<(), Memory> {
+    about(site, meaning(site), words).say(out)
 }
 
 // What is to be written in place of a name that is of another kind than is needed.
-fn advice(site: Site<'_, '_>, kind: DeclarationKind) -> &'static str {
-    let index = site.source.index_of(site.at);
-    let is_called = site.source.word(index.saturating_add(1)) == "(";
-    let before = site.source.word(index.saturating_sub(1));
-    match kind {
-        DeclarationKind::Function(_, _) if before == "spawn" => CALLED,
-        DeclarationKind::Function(_, _) if !is_called => CALL_FOR_VALUE,
-        DeclarationKind::Procedure(_, _) if before == "spawn" => "",
-        DeclarationKind::Procedure(_, _) if is_called && !is_assigning(before) => SPAWNED,
-        DeclarationKind::Procedure(_, _) => SPAWNED_FOR_VALUE,
-        DeclarationKind::Array(_) if !is_called => ELEMENTS,
-        _ => "",
-    }
+fn advice(front: &Front<'_>, kind: DeclarationKind) -> &'static str {
+    let rules = match kind {
+        DeclarationKind::Function(_, _) => FOR_FUNCTION,
+        DeclarationKind::Procedure(_, _) => FOR_PROCEDURE,
+        DeclarationKind::Array(_) => FOR_ARRAY,
+        _ => return "",
+    };
+    words_in(front, rules).unwrap_or("")
 }
 
 /// C3.
-pub(crate) fn say_kind(out: &mut String, site: Site<'_, '_>) -> Result<(), Memory> {
-    say_name(out, site)?;
-    say(out, what_is(site))?;
-    if is_of_command_line(site) {
-        return Ok(());
+pub(crate) fn say_kind(out: &mut String, site: &Site<'_, '_>) -> Result<(), Memory> {
+    let Some(declared) = meaning(site) else {
+        return say_needed(out, site, about(site, None, " is something else"));
+    };
+    let told = about(site, Some(declared), declared.words());
+    if matches!(declared.kind, DeclarationKind::Strings) {
+        return told.say(out);
     }
-    say(out, ", but ")?;
-    say(out, needed(site))?;
-    say(out, " is needed here")?;
-    match site.meaning() {
-        Some(declared) => Reason::named(advice(site, declared.kind), site.word()).say(out),
-        None => Ok(()),
-    }
+    say_needed(out, site, told)?;
+    Reason::named(advice(&site.front, declared.kind), site.word()).say(out)
+}
+
+// What is told of a name, and what is needed in its place.
+fn say_needed(out: &mut String, site: &Site<'_, '_>, told: Reason<'_>) -> Result<(), Memory> {
+    told.say(out)?;
+    let needed = words_in(&site.front, NEEDED).unwrap_or("an `int` variable");
+    Reason::named(", but $ is needed here", needed).say(out)
 }
 
 /// C4.
-pub(crate) fn say_count(out: &mut String, site: Site<'_, '_>) -> Result<(), Memory> {
-    say_name(out, site)?;
-    say(
+pub(crate) fn say_count(out: &mut String, site: &Site<'_, '_>) -> Result<(), Memory> {
+    say_of_name(
         out,
+        site,
         " is given another number of arguments here than it has parameters",
     )?;
-    let Some(declared) = site.meaning() else {
+    let Some(declared) = meaning(site) else {
         return Ok(());
     };
     if let Some(count) = declared.parameters() {
-        say(out, ": it has ")?;
-        say_number(out, count)?;
+        Reason::numbered(": it has @", count).say(out)?;
     }
-    if matches!(declared.kind, DeclarationKind::Inlet(_)) {
-        return say(out, ", and the value of the `spawn` is an argument too");
+    match declared.kind {
+        DeclarationKind::Inlet(_) => {
+            say(out, ", and the value of the `spawn` is an argument too")
+        }
+        _ => Ok(()),
     }
-    Ok(())
-}
-
-/// C5.
-pub(crate) fn say_void(out: &mut String, site: Site<'_, '_>) -> Result<(), Memory> {
-    say_name(out, site)?;
-    say(out, " is `void`, but a value is needed here")
 }

@@ -1,9 +1,7 @@
 //! Marks that cannot stand where they do.
 
-use crate::front::Front;
-use crate::reason::Reason;
-use crate::spawns::{is_assigning, is_testing};
-use cilk_lex::{Mark, TokenKind};
+use crate::rules::{Rule, Saying, Sort, Spot, Test};
+use crate::words::{ASSIGNING, TESTING};
 
 const COMMENT: &str =
     " is of a comment that begins with `//`: this language leaves those out, and has those between `/*` and `*/`";
@@ -31,7 +29,7 @@ const ASSIGNING_AGAIN: &str =
 const SPAWN_ASSIGNED: &str =
     " cannot stand behind `spawn`, which is the right side of its assignment: write `$ = spawn f(..);`";
 
-const ASSIGNING: &str =
+const ASSIGNED_WITHIN: &str =
     " cannot stand here, since an assignment is a statement of its own that has no value";
 
 const STEP: &str =
@@ -54,130 +52,205 @@ const COMPUTING: &str =
 const LABEL: &str =
     " makes a label, and this language leaves labels and `goto` out: loops take their place, with `break` and `continue`";
 
-/// Whether a comment of the kind that the language leaves out begins here.
-pub(crate) fn is_comment(front: Front<'_>) -> bool {
-    front.word() == "/" && (front.word_before(1) == "/" || front.word_behind(1) == "/")
-}
+/// Where a comment of the kind that the language leaves out begins.
+pub(crate) const COMMENTS: &[Rule] = &[
+    Rule {
+        saying: Saying::Plain(COMMENT),
+        when: &[
+            Test::Is(Spot::Before(0), &["/"]),
+            Test::Is(Spot::Before(1), &["/"]),
+        ],
+        unless: &[],
+    },
+    Rule {
+        saying: Saying::Plain(COMMENT),
+        when: &[
+            Test::Is(Spot::Before(0), &["/"]),
+            Test::Is(Spot::Behind(1), &["/"]),
+        ],
+        unless: &[],
+    },
+];
 
-fn is_arrow(front: Front<'_>) -> bool {
-    (front.word() == ">" && front.word_before(1) == "-")
-        || (front.word() == "-" && front.word_behind(1) == ">")
-}
-
-fn is_behind_operand(front: Front<'_>) -> bool {
-    match front.kind_before(1) {
-        Some(TokenKind::Number(_)) => true,
-        Some(
-            TokenKind::Mark(
-                Mark::CloseParenthesis | Mark::CloseBracket | Mark::Increment | Mark::Decrement,
+/// Why an operator or a separator cannot stand here.
+pub(crate) const OPERATORS: &[Rule] = &[
+    Rule {
+        saying: Saying::Plain(ARROW),
+        when: &[
+            Test::Is(Spot::Before(0), &[">"]),
+            Test::Is(Spot::Before(1), &["-"]),
+        ],
+        unless: &[],
+    },
+    Rule {
+        saying: Saying::Plain(ARROW),
+        when: &[
+            Test::Is(Spot::Before(0), &["-"]),
+            Test::Is(Spot::Behind(1), &[">"]),
+        ],
+        unless: &[],
+    },
+    Rule {
+        saying: Saying::Plain(ADDRESS),
+        when: &[Test::Is(Spot::Before(0), &["&"])],
+        unless: &[
+            Test::Sorted(Spot::Before(1), Sort::Name),
+            Test::Sorted(Spot::Before(1), Sort::Number),
+            Test::Is(Spot::Before(1), &[")", "]", "++", "--"]),
+        ],
+    },
+    Rule {
+        saying: Saying::Plain(POINTER_PARAMETER),
+        when: &[
+            Test::Is(Spot::Before(0), &["*"]),
+            Test::Is(Spot::Opener(0), &["(", "["]),
+        ],
+        unless: &[
+            Test::Sorted(Spot::Before(1), Sort::Number),
+            Test::Is(Spot::Before(1), &[")", "]", "++", "--"]),
+        ],
+    },
+    Rule {
+        saying: Saying::Plain(POINTER),
+        when: &[Test::Is(Spot::Before(0), &["*"])],
+        unless: &[
+            Test::Sorted(Spot::Before(1), Sort::Number),
+            Test::Is(Spot::Before(1), &[")", "]", "++", "--"]),
+        ],
+    },
+    Rule {
+        saying: Saying::Plain(ARRAY_INITIALISER),
+        when: &[
+            Test::Is(Spot::Before(0), ASSIGNING),
+            Test::Is(Spot::Begin(0), &["int"]),
+            Test::Is(Spot::Before(1), &["]"]),
+        ],
+        unless: &[],
+    },
+    Rule {
+        saying: Saying::Named(SPAWN_ASSIGNED, Spot::Before(1)),
+        when: &[
+            Test::Is(Spot::Before(0), ASSIGNING),
+            Test::Is(Spot::Begin(0), &["spawn"]),
+        ],
+        unless: &[],
+    },
+    Rule {
+        saying: Saying::Plain(ASSIGNING_TEST),
+        when: &[
+            Test::Is(Spot::Before(0), ASSIGNING),
+            Test::Is(Spot::Opener(1), TESTING),
+        ],
+        unless: &[],
+    },
+    Rule {
+        saying: Saying::Plain(ASSIGNING_AGAIN),
+        when: &[Test::Is(Spot::Before(0), ASSIGNING), Test::Has("=")],
+        unless: &[],
+    },
+    Rule {
+        saying: Saying::Plain(ASSIGNED_WITHIN),
+        when: &[Test::Is(Spot::Before(0), ASSIGNING)],
+        unless: &[],
+    },
+    Rule {
+        saying: Saying::Plain(LABEL),
+        when: &[
+            Test::Is(Spot::Before(0), &[":"]),
+            Test::Sorted(Spot::Begin(0), Sort::Name),
+            Test::Is(Spot::Brace, &["{"]),
+            Test::Same(Spot::Before(0), Spot::Begin(1)),
+        ],
+        unless: &[],
+    },
+    Rule {
+        saying: Saying::Plain(LABEL),
+        when: &[
+            Test::Is(Spot::Before(0), &[":"]),
+            Test::Sorted(Spot::Begin(0), Sort::Name),
+            Test::Is(Spot::Brace, &["{"]),
+            Test::Is(Spot::Before(1), &["]"]),
+            Test::Same(Spot::Group(0), Spot::Begin(1)),
+        ],
+        unless: &[],
+    },
+    Rule {
+        saying: Saying::Plain(COMPARING),
+        when: &[
+            Test::Is(Spot::Before(0), &["=="]),
+            Test::Sorted(Spot::Begin(0), Sort::Name),
+            Test::Is(Spot::Brace, &["{"]),
+            Test::Same(Spot::Before(0), Spot::Begin(1)),
+        ],
+        unless: &[],
+    },
+    Rule {
+        saying: Saying::Plain(COMPARING),
+        when: &[
+            Test::Is(Spot::Before(0), &["=="]),
+            Test::Sorted(Spot::Begin(0), Sort::Name),
+            Test::Is(Spot::Brace, &["{"]),
+            Test::Is(Spot::Before(1), &["]"]),
+            Test::Same(Spot::Group(0), Spot::Begin(1)),
+        ],
+        unless: &[],
+    },
+    Rule {
+        saying: Saying::Plain(COMPUTING),
+        when: &[
+            Test::Is(
+                Spot::Before(0),
+                &["+", "-", "/", "%", "<", ">", "<=", ">=", "!=", "&&", "||"],
             ),
-        ) => true,
-        _ => false,
-    }
-}
-
-// A mark of what the language leaves out.
-fn of_left_out(front: Front<'_>) -> Option<&'static str> {
-    if is_comment(front) {
-        return Some(COMMENT);
-    }
-    if is_arrow(front) {
-        return Some(ARROW);
-    }
-    if is_behind_operand(front) {
-        return None;
-    }
-    let is_behind_name = matches!(front.kind_before(1), Some(TokenKind::Name));
-    match front.kind() {
-        Some(TokenKind::Mark(Mark::Ampersand)) if !is_behind_name => Some(ADDRESS),
-        Some(TokenKind::Mark(Mark::Star)) if front.opener().is_some() => Some(POINTER_PARAMETER),
-        Some(TokenKind::Mark(Mark::Star)) => Some(POINTER),
-        _ => None,
-    }
-}
-
-fn of_assignment(front: Front<'_>) -> Reason<'_> {
-    let first = front.first();
-    if first == "int" && front.word_before(1) == "]" {
-        return Reason::plain(ARRAY_INITIALISER);
-    }
-    if first == "spawn" {
-        return Reason::named(SPAWN_ASSIGNED, front.word_before(1));
-    }
-    if is_testing(front.word_before_opener()) {
-        return Reason::plain(ASSIGNING_TEST);
-    }
-    if front.has_before("=") {
-        return Reason::plain(ASSIGNING_AGAIN);
-    }
-    Reason::plain(ASSIGNING)
-}
-
-fn of_comma(front: Front<'_>) -> &'static str {
-    match front.opener() {
-        Some(opener) if opener.word_before(1) == "for" => COMMA_IN_HEADER,
-        Some(_) => COMMA,
-        None if front.has_before("=") && front.first() != "int" => COMMA_OF_STATEMENTS,
-        None => COMMA,
-    }
-}
-
-// Whether a variable or an element is all that stands before the token in its statement.
-fn is_behind_place(front: Front<'_>) -> bool {
-    let begin = front.begin();
-    if !matches!(front.source.kind(begin), Some(TokenKind::Name)) || !front.is_in_body() {
-        return false;
-    }
-    if front.index == begin.saturating_add(1) {
-        return true;
-    }
-    match front.back(1) {
-        Some(last) if last.word() == "]" => match last.opener() {
-            Some(opener) => opener.index == begin.saturating_add(1),
-            None => false,
-        },
-        _ => false,
-    }
-}
-
-// Why a mark cannot stand behind what could be assigned to.
-fn behind_place(front: Front<'_>) -> Option<&'static str> {
-    match front.kind()? {
-        TokenKind::Mark(Mark::Colon) => Some(LABEL),
-        TokenKind::Mark(Mark::Equal) => Some(COMPARING),
-        TokenKind::Mark(
-            Mark::Plus
-            | Mark::Minus
-            | Mark::Slash
-            | Mark::Percent
-            | Mark::Less
-            | Mark::Greater
-            | Mark::LessOrEqual
-            | Mark::GreaterOrEqual
-            | Mark::NotEqual
-            | Mark::And
-            | Mark::Or,
-        ) => Some(COMPUTING),
-        _ => None,
-    }
-}
-
-/// Why an operator or a separator cannot stand here. None where nothing more is known.
-pub(crate) fn of_operator(front: Front<'_>) -> Option<Reason<'_>> {
-    if let Some(words) = of_left_out(front) {
-        return Some(Reason::plain(words));
-    }
-    if is_assigning(front.word()) {
-        return Some(of_assignment(front));
-    }
-    if is_behind_place(front) {
-        if let Some(words) = behind_place(front) {
-            return Some(Reason::plain(words));
-        }
-    }
-    match front.kind()? {
-        TokenKind::Mark(Mark::Increment | Mark::Decrement) => Some(Reason::plain(STEP)),
-        TokenKind::Mark(Mark::Comma) => Some(Reason::plain(of_comma(front))),
-        _ => None,
-    }
-}
+            Test::Sorted(Spot::Begin(0), Sort::Name),
+            Test::Is(Spot::Brace, &["{"]),
+            Test::Same(Spot::Before(0), Spot::Begin(1)),
+        ],
+        unless: &[],
+    },
+    Rule {
+        saying: Saying::Plain(COMPUTING),
+        when: &[
+            Test::Is(
+                Spot::Before(0),
+                &["+", "-", "/", "%", "<", ">", "<=", ">=", "!=", "&&", "||"],
+            ),
+            Test::Sorted(Spot::Begin(0), Sort::Name),
+            Test::Is(Spot::Brace, &["{"]),
+            Test::Is(Spot::Before(1), &["]"]),
+            Test::Same(Spot::Group(0), Spot::Begin(1)),
+        ],
+        unless: &[],
+    },
+    Rule {
+        saying: Saying::Plain(STEP),
+        when: &[Test::Is(Spot::Before(0), &["++", "--"])],
+        unless: &[],
+    },
+    Rule {
+        saying: Saying::Plain(COMMA_IN_HEADER),
+        when: &[
+            Test::Is(Spot::Before(0), &[","]),
+            Test::Is(Spot::Opener(1), &["for"]),
+        ],
+        unless: &[],
+    },
+    Rule {
+        saying: Saying::Plain(COMMA),
+        when: &[
+            Test::Is(Spot::Before(0), &[","]),
+            Test::Is(Spot::Opener(0), &["(", "["]),
+        ],
+        unless: &[],
+    },
+    Rule {
+        saying: Saying::Plain(COMMA_OF_STATEMENTS),
+        when: &[Test::Is(Spot::Before(0), &[","]), Test::Has("=")],
+        unless: &[Test::Is(Spot::Begin(0), &["int"])],
+    },
+    Rule {
+        saying: Saying::Plain(COMMA),
+        when: &[Test::Is(Spot::Before(0), &[","])],
+        unless: &[],
+    },
+];

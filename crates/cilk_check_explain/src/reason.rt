@@ -1,23 +1,19 @@
-//! Why a token cannot stand where it does, in words in which a name and the number of a line have their places.
+//! Why a token cannot stand where it does, in words in which a name and a number have their places.
 
 use crate::say::{say, say_number};
 use cilk_check_scopes::Memory;
 
-/// What is said. In the words `$` stands for the name, and `@` for the number of the line.
+/// What is said. In the words `$` stands for the name, and `@` for the number, as that of a line.
 #[derive(Clone, Copy)]
 pub(crate) struct Reason<'a> {
     pub(crate) words: &'a str,
     pub(crate) more: &'a str,
     pub(crate) name: &'a str,
-    pub(crate) line: usize,
+    pub(crate) number: usize,
 }
 
 impl<'a> Reason<'a> {
-    /// One without a name and a line.
-    pub(crate) fn plain(words: &'a str) -> Reason<'a> {
-        Reason::named(words, "")
-    }
-
+    /// One with a name.
     pub(crate) fn named(words: &'a str, name: &'a str) -> Reason<'a> {
         Reason::joined(words, "", name)
     }
@@ -28,16 +24,16 @@ impl<'a> Reason<'a> {
             words,
             more,
             name,
-            line: 0,
+            number: 0,
         }
     }
 
-    pub(crate) fn lined(words: &'a str, line: usize) -> Reason<'a> {
+    pub(crate) fn numbered(words: &'a str, number: usize) -> Reason<'a> {
         Reason {
             words,
             more: "",
             name: "",
-            line,
+            number,
         }
     }
 
@@ -53,16 +49,16 @@ impl<'a> Reason<'a> {
                 say(out, self.name)?;
             }
             is_first = false;
-            self.say_lined(out, part)?;
+            self.say_numbered(out, part)?;
         }
         Ok(())
     }
 
-    fn say_lined(self, out: &mut String, words: &str) -> Result<(), Memory> {
+    fn say_numbered(self, out: &mut String, words: &str) -> Result<(), Memory> {
         match words.split_once('@') {
             Some((before, behind)) => {
                 say(out, before)?;
-                say_number(out, self.line)?;
+                say_number(out, self.number)?;
                 say(out, behind)
             }
             None => say(out, words),

@@ -19,10 +19,3 @@ pub(crate) fn say_number(out: &mut String, number: usize) -> Result<(), Memory>
     let mut buffer = Buffer::new();
     say(out, buffer.format(number))
 }
-
-/// A part of the text.
-pub(crate) fn say_quoted(out: &mut String, text: &str) -> Result<(), Memory> {
-    say(out, "`")?;
-    say(out, text)?;
-    say(out, "`")
-}

@@ -1,6 +1,7 @@
 //! Where the declaration of a name stands.
 
 use crate::declared::Declared;
+use crate::site::Site;
 use crate::source::Source;
 use cilk_check_scopes::{
     Block, Decl, DeclarationKind, GlobalShape, Item, ItemNode, Local, LocalNode, Parameters, Proc,
@@ -10,7 +11,7 @@ use cilk_check_scopes::{
 /// A name, and where it stands; and whether a declaration is sought that is not visible from there too.
 #[derive(Clone, Copy)]
 struct Sought<'a> {
-    source: Source<'a>,
+    source: &'a Source<'a>,
     name: &'a str,
     at: u32,
     is_anywhere: bool,
@@ -20,24 +21,23 @@ impl<'a> Sought<'a> {
     // What is found so far, or the declaration of this word, where that is nearer. So many braces of its scope are open at
     // the word.
     fn nearer(
-        self,
+        &self,
         found: Option<Declared>,
         word: &Word,
         kind: DeclarationKind,
         braces: usize,
     ) -> Option<Declared> {
         let at = word.at();
-        if word.as_str() == self.name && self.is_seen(at, braces) {
+        if word.as_str() != self.name {
+            return found;
+        }
+        if self.is_anywhere || (at < self.at && self.source.is_open(at, self.at, braces)) {
             return Some(Declared { at, kind });
         }
         found
     }
 
-    fn is_seen(self, at: u32, braces: usize) -> bool {
-        self.is_anywhere || (at < self.at && self.source.is_open(at, self.at, braces))
-    }
-
-    fn among(self, parameters: &[Word], found: Option<Declared>) -> Option<Declared> {
+    fn among(&self, parameters: &[Word], found: Option<Declared>) -> Option<Declared> {
         let mut found = found;
         for word in parameters {
             found = self.nearer(found, word, DeclarationKind::Variable, 0);
@@ -54,7 +54,7 @@ fn kind_of_decl(decl: &Decl) -> DeclarationKind {
 }
 
 #[cycle(in_block)]
-fn in_block(sought: Sought<'_>, block: &Block, found: Option<Declared>) -> Option<Declared> {
+fn in_block(sought: &Sought<'_>, block: &Block, found: Option<Declared>) -> Option<Declared> {
     let mut found = found;
     for local in &block.locals {
         found = in_local(sought, local, found);
@@ -66,7 +66,7 @@ fn in_block(sought: Sought<'_>, block: &Block, found: Option<Declared>) -> Optio
 }
 
 #[cycle(in_block)]
-fn in_local(sought: Sought<'_>, local: &Local, found: Option<Declared>) -> Option<Declared> {
+fn in_local(sought: &Sought<'_>, local: &Local, found: Option<Declared>) -> Option<Declared> {
     match &local.node {
         LocalNode::Decl(decl) => sought.nearer(found, &decl.name, kind_of_decl(decl), 1),
         LocalNode::Inlet(inlet) => {
@@ -79,7 +79,7 @@ fn in_local(sought: Sought<'_>, local: &Local, found: Option<Declared>) -> Optio
 }
 
 #[cycle(in_block)]
-fn in_stmt(sought: Sought<'_>, stmt: &Stmt, found: Option<Declared>) -> Option<Declared> {
+fn in_stmt(sought: &Sought<'_>, stmt: &Stmt, found: Option<Declared>) -> Option<Declared> {
     match &stmt.node {
         StmtNode::If(_, body, None)
         | StmtNode::While(_, body)
@@ -95,7 +95,11 @@ fn in_stmt(sought: Sought<'_>, stmt: &Stmt, found: Option<Declared>) -> Option<D
     }
 }
 
-fn in_procedure(sought: Sought<'_>, procedure: &Proc, found: Option<Declared>) -> Option<Declared> {
+fn in_procedure(
+    sought: &Sought<'_>,
+    procedure: &Proc,
+    found: Option<Declared>,
+) -> Option<Declared> {
     let found = match &procedure.parameters {
         Parameters::Ints(names) => sought.among(names, found),
         Parameters::CommandLine(count, strings) => {
@@ -158,37 +162,27 @@ pub(crate) fn has_command_line(program: &Program) -> bool {
     false
 }
 
-fn in_bodies(program: &Program, sought: Sought<'_>) -> Option<Declared> {
+/// The last declaration in a body of the name at a place: one that is visible from there, or any.
+pub(crate) fn in_bodies(site: &Site<'_, '_>, is_anywhere: bool) -> Option<Declared> {
+    let sought = Sought {
+        source: &site.front.source,
+        name: site.word(),
+        at: site.at,
+        is_anywhere,
+    };
+    let program = site.program;
     let mut found = None;
     for item in &program.items {
         if let ItemNode::Procedure(procedure) = &item.node {
-            found = in_procedure(sought, procedure, found);
+            found = in_procedure(&sought, procedure, found);
         }
     }
     found
 }
 
 /// What the name at a place means (C 1990, 6.1.2.1).
-pub(crate) fn meaning(program: &Program, source: Source<'_>, at: u32) -> Option<Declared> {
-    let name = source.word_at(at);
-    let sought = Sought {
-        source,
-        name,
-        at,
-        is_anywhere: false,
-    };
-    in_bodies(program, sought).or(declared_in_file(program, name))
-}
-
-/// A declaration of the name at a place that need not be visible from there.
-pub(crate) fn elsewhere(program: &Program, source: Source<'_>, at: u32) -> Option<Declared> {
-    let sought = Sought {
-        source,
-        name: source.word_at(at),
-        at,
-        is_anywhere: true,
-    };
-    in_bodies(program, sought)
+pub(crate) fn meaning(site: &Site<'_, '_>) -> Option<Declared> {
+    in_bodies(site, false).or(declared_in_file(site.program, site.word()))
 }
 
 /// The definition that a place stands in, behind its name.

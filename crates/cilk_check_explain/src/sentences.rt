@@ -3,6 +3,7 @@
 ghost use Rattle.std.specs.Prelude.{◌≡◌, ◌++◌, ℕ, List, IfOk, codes, string_bytes};
 
 use crate::check::say_check;
+use crate::front::Front;
 use crate::lexical::say_lex;
 use crate::say::say;
 use crate::site::Site;
@@ -34,15 +35,15 @@ fn say_fault(alloc: Global, out: &mut String, text: &str, fault: Told<'_>) -> Re
     match fault {
         Told::Lex(fault) => say_lex(out, text, fault),
         Told::Unexpected(at) => say_unexpected(alloc, out, source, at),
-        Told::TooDeep(at) => say_too_deep(out, source, at),
+        Told::TooDeep(at) => say_too_deep(out, &source, at),
         Told::Check(fault, program) => {
             let at = fault.place();
-            let site = Site {
+            let front = Front {
                 source,
-                program,
-                at,
+                index: source.index_of(at),
             };
-            say_check(out, site, fault)
+            let site = Site { front, program, at };
+            say_check(out, &site, fault)
         }
     }
 }

@@ -1,9 +1,10 @@
 //! Spawns and calls that stand within something else, or have something else behind them.
 
 use crate::front::Front;
-use crate::reason::Reason;
+use crate::rules::{Rule, Saying, Sort, Spot, Test};
 use crate::source::Source;
-use cilk_lex::{Keyword, Mark, TokenKind};
+use crate::words::{ASSIGNING, TESTING};
+use cilk_lex::{Keyword, TokenKind};
 
 const SPAWN_IN_RETURN: &str =
     " cannot stand in a `return`: write `x = spawn f(..);`, `sync;` and then `return x;`";
@@ -63,46 +64,131 @@ const NO_CALL: &str = " makes a call of `$`, which is no function: the whole sta
 const SPAWN_OF_NOTHING: &str =
     " cannot stand behind `spawn`: the name of a procedure does, as in `spawn f(..);`";
 
-/// Whether a mark assigns (C 1990, 6.3.16).
-pub(crate) fn is_assigning(word: &str) -> bool {
-    match word {
-        "=" | "+=" | "-=" | "*=" | "/=" | "%=" => true,
-        "<<=" | ">>=" | "&=" | "^=" | "|=" => true,
-        _ => false,
-    }
-}
-
-/// Whether a word begins a statement that has a test.
-pub(crate) fn is_testing(word: &str) -> bool {
-    matches!(word, "if" | "while" | "for" | "switch")
-}
-
-// Whether the token stands in the parentheses of a call.
-fn is_among_arguments(front: Front<'_>) -> bool {
-    match front.opener() {
-        Some(opener) => {
-            opener.word() == "(" && matches!(opener.kind_before(1), Some(TokenKind::Name))
-        }
-        None => false,
-    }
-}
-
 /// Why no `spawn` can stand here.
-pub(crate) fn of_spawn(front: Front<'_>) -> Reason<'_> {
-    if front.has_before("spawn") {
-        return Reason::plain(SPAWN_AGAIN);
-    }
-    match front.first() {
-        "return" => Reason::plain(SPAWN_IN_RETURN),
-        "int" => Reason::plain(SPAWN_IN_DECLARATION),
-        _ if is_testing(front.word_before_opener()) => Reason::plain(SPAWN_IN_TEST),
-        _ if is_among_arguments(front) => Reason::plain(SPAWN_AMONG),
-        _ => Reason::plain(SPAWN_WITHIN),
-    }
-}
+pub(crate) const SPAWNS: &[Rule] = &[
+    Rule {
+        saying: Saying::Plain(SPAWN_AGAIN),
+        when: &[Test::Has("spawn")],
+        unless: &[],
+    },
+    Rule {
+        saying: Saying::Plain(SPAWN_IN_RETURN),
+        when: &[Test::Is(Spot::Begin(0), &["return"])],
+        unless: &[],
+    },
+    Rule {
+        saying: Saying::Plain(SPAWN_IN_DECLARATION),
+        when: &[Test::Is(Spot::Begin(0), &["int"])],
+        unless: &[],
+    },
+    Rule {
+        saying: Saying::Plain(SPAWN_IN_TEST),
+        when: &[Test::Is(Spot::Opener(1), TESTING)],
+        unless: &[],
+    },
+    Rule {
+        saying: Saying::Plain(SPAWN_AMONG),
+        when: &[
+            Test::Is(Spot::Opener(0), &["("]),
+            Test::Sorted(Spot::Opener(1), Sort::Name),
+        ],
+        unless: &[],
+    },
+    Rule {
+        saying: Saying::Plain(SPAWN_WITHIN),
+        when: &[],
+        unless: &[],
+    },
+];
+
+/// Why no parenthesis can open here, behind a name or a word.
+pub(crate) const CALLS: &[Rule] = &[
+    Rule {
+        saying: Saying::Plain(PRINTF),
+        when: &[Test::Is(Spot::Before(1), &["printf"])],
+        unless: &[],
+    },
+    Rule {
+        saying: Saying::Call(CALL_IN_RETURN, Spot::Before(1)),
+        when: &[
+            Test::Sorted(Spot::Before(1), Sort::Name),
+            Test::Is(Spot::Begin(0), &["return"]),
+        ],
+        unless: &[],
+    },
+    Rule {
+        saying: Saying::Call(CALL_IN_DECLARATION, Spot::Before(1)),
+        when: &[
+            Test::Sorted(Spot::Before(1), Sort::Name),
+            Test::Is(Spot::Begin(0), &["int"]),
+        ],
+        unless: &[],
+    },
+    Rule {
+        saying: Saying::Call(CALL_IN_TEST, Spot::Before(1)),
+        when: &[
+            Test::Sorted(Spot::Before(1), Sort::Name),
+            Test::Is(Spot::Opener(1), TESTING),
+        ],
+        unless: &[],
+    },
+    Rule {
+        saying: Saying::Call(CALL_AMONG, Spot::Before(1)),
+        when: &[
+            Test::Sorted(Spot::Before(1), Sort::Name),
+            Test::Is(Spot::Opener(0), &["("]),
+            Test::Sorted(Spot::Opener(1), Sort::Name),
+        ],
+        unless: &[],
+    },
+    Rule {
+        saying: Saying::Call(CALL_WITHIN, Spot::Before(1)),
+        when: &[Test::Sorted(Spot::Before(1), Sort::Name)],
+        unless: &[],
+    },
+    Rule {
+        saying: Saying::Named(NO_CALL, Spot::Before(1)),
+        when: &[Test::Is(Spot::Before(1), &["sync", "abort", "break", "continue"])],
+        unless: &[],
+    },
+    Rule {
+        saying: Saying::Plain(SPAWN_OF_NOTHING),
+        when: &[Test::Is(Spot::Before(1), &["spawn"])],
+        unless: &[],
+    },
+];
+
+/// Why no mark can stand here, behind a whole call or spawn.
+pub(crate) const BEHIND_CALLS: &[Rule] = &[
+    Rule {
+        saying: Saying::Plain(BEHIND_TWO_SPAWNS),
+        when: &[
+            Test::Is(Spot::Before(1), &[")"]),
+            Test::Is(Spot::Group(2), &["spawn"]),
+            Test::SpawnsBehind,
+        ],
+        unless: &[],
+    },
+    Rule {
+        saying: Saying::Named(BEHIND_SPAWN, Spot::Group(1)),
+        when: &[
+            Test::Is(Spot::Before(1), &[")"]),
+            Test::Is(Spot::Group(2), &["spawn"]),
+        ],
+        unless: &[],
+    },
+    Rule {
+        saying: Saying::Call(BEHIND_CALL, Spot::Group(1)),
+        when: &[
+            Test::Is(Spot::Before(1), &[")"]),
+            Test::Is(Spot::Group(2), ASSIGNING),
+        ],
+        unless: &[],
+    },
+];
 
 // Whether the text has a Cilk procedure of this name, or a prototype of one.
-fn is_procedure(source: Source<'_>, name: &str) -> bool {
+fn is_procedure(source: &Source<'_>, name: &str) -> bool {
     for (index, token) in source.tokens.iter().enumerate() {
         if matches!(token.kind, TokenKind::Word(Keyword::Cilk))
             && source.word(index.saturating_add(2)) == name
@@ -113,80 +199,13 @@ fn is_procedure(source: Source<'_>, name: &str) -> bool {
     false
 }
 
-// What is to be written in place of a call that stands within something else.
-fn instead<'a>(front: Front<'a>, callee: &'a str) -> &'static str {
-    match (is_procedure(front.source, callee), front.first() == "int") {
+/// What is to be written in place of a call that stands within something else.
+pub(crate) fn instead(front: &Front<'_>, callee: &str) -> &'static str {
+    let is_declared = front.spelled(Spot::Begin(0)) == "int";
+    match (is_procedure(&front.source, callee), is_declared) {
         (false, false) => OF_FUNCTION,
         (false, true) => OF_FUNCTION_DECLARED,
         (true, false) => OF_PROCEDURE,
         (true, true) => OF_PROCEDURE_DECLARED,
-    }
-}
-
-// Where a call cannot stand.
-fn place_of_call(front: Front<'_>) -> &'static str {
-    match front.first() {
-        "return" => CALL_IN_RETURN,
-        "int" => CALL_IN_DECLARATION,
-        _ if is_testing(front.word_before_opener()) => CALL_IN_TEST,
-        _ if is_among_arguments(front) => CALL_AMONG,
-        _ => CALL_WITHIN,
-    }
-}
-
-/// Why no parenthesis can open here, behind a name or a word. None behind all else.
-pub(crate) fn of_call(front: Front<'_>) -> Option<Reason<'_>> {
-    let callee = front.word_before(1);
-    match front.kind_before(1) {
-        _ if front.begins_function() => None,
-        Some(TokenKind::Name) if callee == "printf" => Some(Reason::plain(PRINTF)),
-        Some(TokenKind::Name) => Some(Reason::joined(
-            place_of_call(front),
-            instead(front, callee),
-            callee,
-        )),
-        Some(
-            TokenKind::Word(Keyword::Sync | Keyword::Abort | Keyword::Break | Keyword::Continue),
-        ) => { Some(Reason::named(NO_CALL, callee)) }
-        Some(TokenKind::Word(Keyword::Spawn)) => Some(Reason::plain(SPAWN_OF_NOTHING)),
-        _ => None,
-    }
-}
-
-// The name of what is called or spawned by a call that ends right before here.
-fn callee_before(front: Front<'_>) -> Option<Front<'_>> {
-    match front.kind_before(1) {
-        Some(TokenKind::Mark(Mark::CloseParenthesis)) => front.back(1)?.opener()?.back(1),
-        _ => None,
-    }
-}
-
-// Whether a spawn stands in the rest of the statement.
-fn spawns_behind(front: Front<'_>) -> bool {
-    for index in front.index..front.source.tokens.len() {
-        match front.source.kind(index) {
-            Some(TokenKind::Word(Keyword::Spawn)) => return true,
-            Some(TokenKind::Mark(Mark::Semicolon | Mark::OpenBrace | Mark::CloseBrace)) => {
-                return false;
-            }
-            _ => {}
-        }
-    }
-    false
-}
-
-/// Why no mark can stand here, behind a whole call or spawn. None behind all else.
-pub(crate) fn behind_call(front: Front<'_>) -> Option<Reason<'_>> {
-    let callee = callee_before(front)?;
-    let name = callee.word();
-    match callee.word_before(1) {
-        "spawn" if spawns_behind(front) => Some(Reason::plain(BEHIND_TWO_SPAWNS)),
-        "spawn" => Some(Reason::named(BEHIND_SPAWN, name)),
-        before if is_assigning(before) => Some(Reason::joined(
-            BEHIND_CALL,
-            instead(front, name),
-            name,
-        )),
-        _ => None,
     }
 }

@@ -1,9 +1,7 @@
 //! Parts of statements that cannot stand where they do.
 
-use crate::front::Front;
-use crate::reason::Reason;
-use crate::spawns::is_testing;
-use cilk_lex::{Keyword, Mark, TokenKind};
+use crate::rules::{Rule, Saying, Sort, Spot, Test};
+use crate::words::TESTING;
 
 const TEST_IN_PARENTHESES: &str =
     " cannot stand here, since parentheses stand behind `$`: write `$ (..)`";
@@ -61,164 +59,201 @@ const NO_TEXT: &str =
 
 const HEADER: &str = " cannot stand here, since headers are included before all else";
 
-/// Why a statement cannot begin at the top level. None where it does not.
-fn at_top(front: Front<'_>) -> Option<Reason<'_>> {
-    if front.index != front.begin() || front.is_in_body() {
-        return None;
-    }
-    match front.word_before(1) {
-        "}" => Some(Reason::lined(OUTSIDE_BEHIND, front.line_before())),
-        _ => Some(Reason::plain(OUTSIDE)),
-    }
-}
+/// Why a word that begins a statement cannot stand here.
+pub(crate) const STATEMENT_WORDS: &[Rule] = &[
+    Rule {
+        saying: Saying::Plain(OUTSIDE_BEHIND),
+        when: &[
+            Test::Same(Spot::Before(0), Spot::Begin(0)),
+            Test::Is(Spot::Before(1), &["}"]),
+        ],
+        unless: &[
+            Test::Is(Spot::Brace, &["{"]),
+            Test::Is(
+                Spot::Before(0),
+                &["cilk", "int", "void", "Cilk_lockvar", "inlet"],
+            ),
+        ],
+    },
+    Rule {
+        saying: Saying::Plain(OUTSIDE),
+        when: &[Test::Same(Spot::Before(0), Spot::Begin(0))],
+        unless: &[
+            Test::Is(Spot::Brace, &["{"]),
+            Test::Is(
+                Spot::Before(0),
+                &["cilk", "int", "void", "Cilk_lockvar", "inlet"],
+            ),
+        ],
+    },
+    Rule {
+        saying: Saying::Plain(ELSE_BEHIND_NOTHING),
+        when: &[
+            Test::Is(Spot::Before(0), &["else"]),
+            Test::Is(Spot::Before(1), &[";"]),
+            Test::Is(Spot::Before(2), &["}"]),
+        ],
+        unless: &[],
+    },
+    Rule {
+        saying: Saying::Plain(ELSE_BEHIND_TWO),
+        when: &[
+            Test::Is(Spot::Before(0), &["else"]),
+            Test::Is(Spot::Before(1), &[";"]),
+        ],
+        unless: &[],
+    },
+    Rule {
+        saying: Saying::Plain(ELSE),
+        when: &[
+            Test::Is(Spot::Before(0), &["else"]),
+            Test::Is(Spot::Before(1), &["}", "{"]),
+        ],
+        unless: &[],
+    },
+];
 
-fn of_else(front: Front<'_>) -> &'static str {
-    match front.word_before(1) {
-        ";" if front.word_before(2) == "}" => ELSE_BEHIND_NOTHING,
-        ";" => ELSE_BEHIND_TWO,
-        _ => ELSE,
-    }
-}
-
-/// Why a word that begins a statement cannot stand here. None where it is not known.
-pub(crate) fn of_word(front: Front<'_>, word: Keyword) -> Option<Reason<'_>> {
-    let outside = at_top(front);
-    match word {
-        Keyword::Cilk | Keyword::Int | Keyword::Void | Keyword::CilkLockvar | Keyword::Inlet =>
-            None,
-        _ if outside.is_some() => outside,
-        Keyword::Else if is_behind_statement(front) => Some(Reason::plain(of_else(front))),
-        _ => None,
-    }
-}
-
-fn is_behind_statement(front: Front<'_>) -> bool {
-    let before = front.word_before(1);
-    before == ";" || before == "}" || before == "{"
-}
-
-/// Why a name or a number cannot stand here, in a statement. None where it is not known.
-pub(crate) fn of_operand(front: Front<'_>) -> Option<Reason<'_>> {
-    let before = front.word_before(1);
-    if is_testing(before) {
-        return Some(Reason::named(TEST_IN_PARENTHESES, before));
-    }
-    if before == "(" && front.word_before(2) == "printf" {
-        return Some(Reason::plain(NO_TEXT));
-    }
-    let outside = at_top(front);
-    if outside.is_some() {
-        return outside;
-    }
-    match front.kind()? {
-        TokenKind::Number(_) if is_behind_statement(front) => Some(Reason::plain(NUMBER_FIRST)),
-        _ => None,
-    }
-}
+/// Why a name or a number cannot stand here, in a statement.
+pub(crate) const OPERANDS: &[Rule] = &[
+    Rule {
+        saying: Saying::Named(TEST_IN_PARENTHESES, Spot::Before(1)),
+        when: &[Test::Is(Spot::Before(1), TESTING)],
+        unless: &[],
+    },
+    Rule {
+        saying: Saying::Plain(NO_TEXT),
+        when: &[
+            Test::Is(Spot::Before(1), &["("]),
+            Test::Is(Spot::Before(2), &["printf"]),
+        ],
+        unless: &[],
+    },
+    Rule {
+        saying: Saying::Plain(OUTSIDE_BEHIND),
+        when: &[
+            Test::Same(Spot::Before(0), Spot::Begin(0)),
+            Test::Is(Spot::Before(1), &["}"]),
+        ],
+        unless: &[Test::Is(Spot::Brace, &["{"])],
+    },
+    Rule {
+        saying: Saying::Plain(OUTSIDE),
+        when: &[Test::Same(Spot::Before(0), Spot::Begin(0))],
+        unless: &[Test::Is(Spot::Brace, &["{"])],
+    },
+    Rule {
+        saying: Saying::Plain(NUMBER_FIRST),
+        when: &[
+            Test::Sorted(Spot::Before(0), Sort::Number),
+            Test::Is(Spot::Before(1), &[";", "}", "{"]),
+        ],
+        unless: &[],
+    },
+];
 
 /// Why a text literal or a header cannot stand here.
-pub(crate) fn of_text(front: Front<'_>) -> Reason<'_> {
-    match front.kind() {
-        Some(TokenKind::Include(_)) => Reason::plain(HEADER),
-        _ if matches!(front.kind_before(1), Some(TokenKind::Text)) => Reason::plain(TEXTS),
-        _ if front.word_before(1) == "(" => Reason::named(TEXT_OF_ANOTHER, front.word_before(2)),
-        _ => Reason::plain(TEXT),
-    }
-}
+pub(crate) const TEXT_RULES: &[Rule] = &[
+    Rule {
+        saying: Saying::Plain(HEADER),
+        when: &[Test::Sorted(Spot::Before(0), Sort::Header)],
+        unless: &[],
+    },
+    Rule {
+        saying: Saying::Plain(TEXTS),
+        when: &[Test::Sorted(Spot::Before(1), Sort::Text)],
+        unless: &[],
+    },
+    Rule {
+        saying: Saying::Named(TEXT_OF_ANOTHER, Spot::Before(2)),
+        when: &[Test::Is(Spot::Before(1), &["("])],
+        unless: &[],
+    },
+    Rule {
+        saying: Saying::Plain(TEXT),
+        when: &[],
+        unless: &[],
+    },
+];
 
-// Whether a value is wanted behind a token.
-fn wants_value(kind: TokenKind) -> bool {
-    match kind {
-        TokenKind::Mark(
-            Mark::CloseParenthesis
-            | Mark::CloseBracket
-            | Mark::CloseBrace
-            | Mark::OpenBrace
-            | Mark::Semicolon
-            | Mark::Increment
-            | Mark::Decrement,
-        ) => false,
-        TokenKind::Mark(_) => true,
-        _ => false,
-    }
-}
-
-// How many `;` stand in the header of a `for` before the token, if it stands in one.
-fn parts_of_header(front: Front<'_>) -> Option<usize> {
-    let opener = front.opener()?;
-    if opener.word_before(1) != "for" {
-        return None;
-    }
-    let mut count = 0usize;
-    for index in opener.index..front.index {
-        if front.source.word(index) == ";" {
-            count = count.saturating_add(1);
-        }
-    }
-    Some(count)
-}
-
-// Why a header of a `for` does not go on so. None where the token is in none.
-fn in_header(front: Front<'_>) -> Option<Reason<'_>> {
-    match (parts_of_header(front)?, front.word()) {
-        (0 | 1, ")") => Some(Reason::plain(HEADER_TOO_SHORT)),
-        (2, ";") => Some(Reason::plain(HEADER_TOO_LONG)),
-        _ => None,
-    }
-}
-
-fn of_semicolon(front: Front<'_>) -> Option<Reason<'_>> {
-    let before = front.word_before(1);
-    if before == "}" && !front.is_in_body() {
-        return Some(Reason::plain(BEHIND_BODY));
-    }
-    if !matches!(front.kind_before(1), Some(TokenKind::Name)) {
-        return None;
-    }
-    if front.word_before(2) == "spawn" {
-        return Some(Reason::named(SPAWN_WITHOUT_ARGUMENTS, before));
-    }
-    (front.index == front.begin().saturating_add(1)).then_some(Reason::named(NAME_ALONE, before))
-}
-
-// What belongs to a word whose statement is missing right before the token: `while`, say, or `else`.
-fn without_body(front: Front<'_>) -> Option<&str> {
-    match front.word_before(1) {
-        "else" => Some("else"),
-        "do" => Some("do"),
-        ")" => {
-            let word = front.back(1)?.word_before_opener();
-            is_testing(word).then_some(word)
-        }
-        _ => None,
-    }
-}
-
-fn of_closing_brace(front: Front<'_>) -> Option<Reason<'_>> {
-    if !front.is_in_body() {
-        return Some(Reason::plain(NOTHING_TO_CLOSE));
-    }
-    match without_body(front) {
-        Some(word) => Some(Reason::named(BODY_WANTED, word)),
-        None => None,
-    }
-}
-
-/// Why what ends or closes something cannot stand here. None where it is not known.
-pub(crate) fn of_end(front: Front<'_>) -> Option<Reason<'_>> {
-    let in_header = in_header(front);
-    if in_header.is_some() {
-        return in_header;
-    }
-    if wants_value(front.kind_before(1)?) {
-        return Some(Reason::named(VALUE_WANTED, front.word_before(1)));
-    }
-    match front.kind()? {
-        TokenKind::Mark(Mark::Semicolon) => of_semicolon(front),
-        TokenKind::Mark(Mark::CloseBrace) => of_closing_brace(front),
-        TokenKind::Mark(Mark::CloseParenthesis) if front.opener().is_none() => {
-            Some(Reason::plain(NO_PARENTHESIS))
-        }
-        _ => None,
-    }
-}
+/// Why what ends or closes something cannot stand here.
+pub(crate) const ENDS: &[Rule] = &[
+    Rule {
+        saying: Saying::Plain(HEADER_TOO_SHORT),
+        when: &[Test::Is(Spot::Before(0), &[")"]), Test::Parts(0)],
+        unless: &[],
+    },
+    Rule {
+        saying: Saying::Plain(HEADER_TOO_SHORT),
+        when: &[Test::Is(Spot::Before(0), &[")"]), Test::Parts(1)],
+        unless: &[],
+    },
+    Rule {
+        saying: Saying::Plain(HEADER_TOO_LONG),
+        when: &[Test::Is(Spot::Before(0), &[";"]), Test::Parts(2)],
+        unless: &[],
+    },
+    Rule {
+        saying: Saying::Named(VALUE_WANTED, Spot::Before(1)),
+        when: &[Test::Sorted(Spot::Before(1), Sort::Mark)],
+        unless: &[Test::Is(Spot::Before(1), &[")", "]", "}", "{", ";", "++", "--"])],
+    },
+    Rule {
+        saying: Saying::Plain(BEHIND_BODY),
+        when: &[
+            Test::Is(Spot::Before(0), &[";"]),
+            Test::Is(Spot::Before(1), &["}"]),
+        ],
+        unless: &[Test::Is(Spot::Brace, &["{"])],
+    },
+    Rule {
+        saying: Saying::Named(SPAWN_WITHOUT_ARGUMENTS, Spot::Before(1)),
+        when: &[
+            Test::Is(Spot::Before(0), &[";"]),
+            Test::Sorted(Spot::Before(1), Sort::Name),
+            Test::Is(Spot::Before(2), &["spawn"]),
+        ],
+        unless: &[],
+    },
+    Rule {
+        saying: Saying::Named(NAME_ALONE, Spot::Before(1)),
+        when: &[
+            Test::Is(Spot::Before(0), &[";"]),
+            Test::Sorted(Spot::Before(1), Sort::Name),
+            Test::Same(Spot::Before(0), Spot::Begin(1)),
+        ],
+        unless: &[],
+    },
+    Rule {
+        saying: Saying::Plain(NOTHING_TO_CLOSE),
+        when: &[Test::Is(Spot::Before(0), &["}"])],
+        unless: &[
+            Test::Is(Spot::Brace, &["{"]),
+            Test::Is(Spot::Before(1), &[""]),
+        ],
+    },
+    Rule {
+        saying: Saying::Named(BODY_WANTED, Spot::Before(1)),
+        when: &[
+            Test::Is(Spot::Before(0), &["}"]),
+            Test::Is(Spot::Before(1), &["else", "do"]),
+        ],
+        unless: &[],
+    },
+    Rule {
+        saying: Saying::Named(BODY_WANTED, Spot::Group(1)),
+        when: &[
+            Test::Is(Spot::Before(0), &["}"]),
+            Test::Is(Spot::Before(1), &[")"]),
+            Test::Is(Spot::Group(1), TESTING),
+        ],
+        unless: &[],
+    },
+    Rule {
+        saying: Saying::Plain(NO_PARENTHESIS),
+        when: &[Test::Is(Spot::Before(0), &[")"])],
+        unless: &[
+            Test::Is(Spot::Opener(0), &["(", "["]),
+            Test::Is(Spot::Before(1), &[""]),
+        ],
+    },
+];

@@ -6,7 +6,7 @@ use cilk_check_scopes::Memory;
 use cilk_lex::{Mark, TokenKind};
 
 /// P3.
-pub(crate) fn say_too_deep(out: &mut String, source: Source<'_>, at: u32) -> Result<(), Memory> {
+pub(crate) fn say_too_deep(out: &mut String, source: &Source<'_>, at: u32) -> Result<(), Memory> {
     let Some(token) = source.tokens.get(source.index_of(at)) else {
         return say(out, "More stands inside one another here than may");
     };

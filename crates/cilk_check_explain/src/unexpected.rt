@@ -1,19 +1,18 @@
 //! Texts that spell no program, since none goes on with a token of them: P2.
 
 use crate::braces::say_open_brace;
-use crate::choosing::of_choice;
-use crate::declarations::{
-    as_name, is_behind_main, of_brace, of_bracket, of_int, of_length, of_main, of_name,
-};
+use crate::choosing::LABELS;
+use crate::declarations::{BODIES, BRACKETS, DECLARING_WORDS, LENGTHS, MAINS, NAMES, NO_NAMES};
 use crate::front::Front;
 use crate::left_out::{left_out_word, say_left_out};
 use crate::missing::missing;
-use crate::operators::{is_comment, of_operator};
+use crate::operators::{COMMENTS, OPERATORS};
 use crate::reason::Reason;
-use crate::say::{say, say_number, say_quoted};
+use crate::rules::{Rule, Saying, Spot, Test};
+use crate::say::say;
 use crate::source::Source;
-use crate::spawns::{behind_call, of_call, of_spawn};
-use crate::{declarations, statements};
+use crate::spawns::{BEHIND_CALLS, CALLS, SPAWNS, instead};
+use crate::statements::{ENDS, OPERANDS, STATEMENT_WORDS, TEXT_RULES};
 use cilk_check_scopes::Memory;
 use cilk_lex::{Keyword, Mark, TokenKind};
 use std::alloc::Global;
@@ -24,6 +23,56 @@ const NESTED: &str =
     " cannot stand here, since no function stands within another, and the body that begins in line @ is open";
 
 const OTHER_END: &str = "The text ends too early: no program ends here";
+
+// Where a function or a procedure begins within a body.
+const FUNCTIONS: &[Rule] = &[
+    Rule {
+        saying: Saying::Plain(""),
+        when: &[Test::Is(Spot::Before(0), &["cilk"])],
+        unless: &[],
+    },
+    Rule {
+        saying: Saying::Plain(""),
+        when: &[
+            Test::Is(Spot::Before(0), &["void", "int"]),
+            Test::Is(Spot::Behind(2), &["("]),
+        ],
+        unless: &[],
+    },
+    Rule {
+        saying: Saying::Plain(""),
+        when: &[Test::Is(Spot::Before(0), &["("]), Test::BeginsFunction],
+        unless: &[],
+    },
+];
+
+// Where a word that is left out is not what is wrong: behind the head of a `main` that is told of the command line, and in a comment.
+const SPARED: &[Rule] = &[
+    Rule {
+        saying: Saying::Plain(""),
+        when: &[
+            Test::Is(Spot::Begin(0), &["cilk"]),
+            Test::Is(Spot::Begin(2), &["main"]),
+        ],
+        unless: &[Test::Is(Spot::Opener(0), &["(", "["])],
+    },
+    Rule {
+        saying: Saying::Plain(""),
+        when: &[
+            Test::Is(Spot::Before(0), &["/"]),
+            Test::Is(Spot::Before(1), &["/"]),
+        ],
+        unless: &[],
+    },
+    Rule {
+        saying: Saying::Plain(""),
+        when: &[
+            Test::Is(Spot::Before(0), &["/"]),
+            Test::Is(Spot::Behind(1), &["/"]),
+        ],
+        unless: &[],
+    },
+];
 
 /// P2.
 pub(crate) fn say_unexpected(
@@ -36,31 +85,39 @@ pub(crate) fn say_unexpected(
         source,
         index: source.index_of(at),
     };
-    if let Some(reason) = of_main(front) {
-        return say_reason(out, front, reason);
+    if let Some(rule) = front.rule_in(MAINS) {
+        return say_rule(out, &front, rule);
     }
-    match left_out_word(source, at) {
-        Some(word) if !is_behind_main(front) && !is_comment(front) => say_left_out(out, word),
+    match left_out_word(&source, at) {
+        Some(word) if front.rule_in(SPARED).is_none() => say_left_out(out, word),
         _ => match front.kind() {
-            Some(_) => say_token(alloc, out, front),
-            None => say_end(alloc, out, front),
+            Some(_) => say_token(alloc, out, &front),
+            None => say_end(alloc, out, &front),
         },
     }
 }
 
-fn say_reason(out: &mut String, front: Front<'_>, reason: Reason<'_>) -> Result<(), Memory> {
-    say_quoted(out, front.word())?;
+fn say_rule(out: &mut String, front: &Front<'_>, rule: &Rule) -> Result<(), Memory> {
+    Reason::named("`$`", front.word()).say(out)?;
+    let reason = match rule.saying {
+        Saying::Plain(words) => Reason::numbered(words, front.line_before()),
+        Saying::Named(words, spot) => Reason::named(words, front.spelled(spot)),
+        Saying::Call(words, spot) => {
+            let callee = front.spelled(spot);
+            Reason::joined(words, instead(front, callee), callee)
+        }
+    };
     reason.say(out)
 }
 
 // A token that begins a line more likely lacks what should end the line above.
-fn say_token(alloc: Global, out: &mut String, front: Front<'_>) -> Result<(), Memory> {
+fn say_token(alloc: Global, out: &mut String, front: &Front<'_>) -> Result<(), Memory> {
     let is_early = front.begins_line();
     if is_early && say_missing(alloc, out, front)? {
         return Ok(());
     }
-    if let Some(reason) = reason_of(front) {
-        return say_reason(out, front, reason);
+    if let Some(rule) = rule_of(front) {
+        return say_rule(out, front, rule);
     }
     if !is_early && say_missing(alloc, out, front)? {
         return Ok(());
@@ -69,79 +126,65 @@ fn say_token(alloc: Global, out: &mut String, front: Front<'_>) -> Result<(), Me
 }
 
 // Whether a mark is missing before the token: this is said then.
-fn say_missing(alloc: Global, out: &mut String, front: Front<'_>) -> Result<bool, Memory> {
+fn say_missing(alloc: Global, out: &mut String, front: &Front<'_>) -> Result<bool, Memory> {
     let Some(mark) = missing(alloc, front)? else {
         return Ok(false);
     };
-    match front.kind() {
-        Some(_) => {
-            say_quoted(out, front.word())?;
-            say(out, " cannot follow here: ")?;
-        }
-        None => say(out, "The text ends too early: ")?,
+    let found = match front.kind() {
+        Some(_) => "`$` cannot follow here: a ",
+        None => "The text ends too early: a ",
+    };
+    Reason::named(found, front.word()).say(out)?;
+    Reason::named("`$` is missing behind ", mark).say(out)?;
+    Reason {
+        words: "`$` in line @",
+        more: "",
+        name: front.spelled(Spot::Before(1)),
+        number: front.line_before(),
     }
-    say(out, "a ")?;
-    say_quoted(out, mark)?;
-    say(out, " is missing behind ")?;
-    say_quoted(out, front.word_before(1))?;
-    say(out, " in line ")?;
-    say_number(out, front.line_before())?;
+    .say(out)?;
     Ok(true)
 }
 
-// Why the token cannot stand here. None where nothing more is known.
-fn reason_of(front: Front<'_>) -> Option<Reason<'_>> {
-    let sooner = of_length(front).or(of_choice(front));
+// The rule by which the token cannot stand here. None where nothing more is known.
+fn rule_of(front: &Front<'_>) -> Option<&'static Rule> {
+    let sooner = front.rule_in(LENGTHS).or(front.rule_in(LABELS));
     if sooner.is_some() {
         return sooner;
     }
     match front.kind()? {
-        TokenKind::Word(Keyword::Spawn) => Some(of_spawn(front)),
-        TokenKind::Word(word) => of_keyword(front, word),
+        TokenKind::Word(Keyword::Spawn) => front.rule_in(SPAWNS),
+        TokenKind::Word(_) => front
+            .rule_in(DECLARING_WORDS)
+            .or(front.rule_in(STATEMENT_WORDS))
+            .or(front.rule_in(NO_NAMES)),
         TokenKind::Mark(mark) => of_mark(front, mark),
-        TokenKind::Name => of_name(front).or(statements::of_operand(front)),
-        TokenKind::Number(_) => statements::of_operand(front),
-        TokenKind::Text | TokenKind::Include(_) => Some(statements::of_text(front)),
+        TokenKind::Name => front.rule_in(NAMES).or(front.rule_in(OPERANDS)),
+        TokenKind::Number(_) => front.rule_in(OPERANDS),
+        TokenKind::Text | TokenKind::Include(_) => front.rule_in(TEXT_RULES),
     }
 }
 
-fn of_keyword(front: Front<'_>, word: Keyword) -> Option<Reason<'_>> {
-    let of_declaration = match word {
-        Keyword::Int => of_int(front),
-        _ => declarations::of_word(front, word),
-    };
-    of_declaration
-        .or(statements::of_word(front, word))
-        .or(as_name(front))
-}
-
-fn of_mark(front: Front<'_>, mark: Mark) -> Option<Reason<'_>> {
+fn of_mark(front: &Front<'_>, mark: Mark) -> Option<&'static Rule> {
     match mark {
-        Mark::OpenParenthesis => of_call(front),
-        Mark::OpenBracket => of_bracket(front),
-        Mark::OpenBrace => of_brace(front),
+        Mark::OpenParenthesis if front.begins_function() => None,
+        Mark::OpenParenthesis => front.rule_in(CALLS),
+        Mark::OpenBracket => front.rule_in(BRACKETS),
+        Mark::OpenBrace => front.rule_in(BODIES),
         Mark::CloseParenthesis | Mark::CloseBracket | Mark::CloseBrace | Mark::Semicolon => {
-            statements::of_end(front)
+            front.rule_in(ENDS)
         }
-        _ => of_operator(front).or(behind_call(front)),
+        _ => front
+            .rule_in(COMMENTS)
+            .or(front.rule_in(OPERATORS))
+            .or(front.rule_in(BEHIND_CALLS)),
     }
 }
 
-// Whether the token begins a function or a procedure within a body.
-fn is_nested(front: Front<'_>) -> bool {
-    match front.kind() {
-        Some(TokenKind::Word(Keyword::Cilk)) => true,
-        Some(TokenKind::Word(Keyword::Void)) => front.word_behind(2) == "(",
-        Some(TokenKind::Word(Keyword::Int)) => front.word_behind(2) == "(",
-        Some(TokenKind::Mark(Mark::OpenParenthesis)) => front.begins_function(),
-        _ => false,
-    }
-}
-
-fn say_other(alloc: Global, out: &mut String, front: Front<'_>) -> Result<(), Memory> {
-    say_quoted(out, front.word())?;
-    match front.open_brace() {
-        Some(brace) if is_nested(front) => say_nested(alloc, out, front, brace),
+fn say_other(alloc: Global, out: &mut String, front: &Front<'_>) -> Result<(), Memory> {
+    Reason::named("`$`", front.word()).say(out)?;
+    match front.source.open_brace(front.index) {
+        Some(brace) if front.rule_in(FUNCTIONS).is_some() => say_nested(alloc, out, front, brace),
         _ => say(out, OTHER),
     }
 }
@@ -150,23 +193,21 @@ fn say_other(alloc: Global, out: &mut String, front: Front<'_>) -> Result<(), Me
 fn say_nested(
     alloc: Global,
     out: &mut String,
-    front: Front<'_>,
-    brace: Front<'_>,
+    front: &Front<'_>,
+    brace: usize,
 ) -> Result<(), Memory> {
-    let end = front.at(front.source.tokens.len());
-    if end.open_brace().is_none() {
-        let line = brace.source.line_of_token(brace.index);
-        return Reason::lined(NESTED, line).say(out);
+    if front.source.open_brace(front.source.tokens.len()).is_none() {
+        return Reason::numbered(NESTED, front.source.line_of_token(brace)).say(out);
     }
     say(out, " cannot stand in a body: ")?;
     say_open_brace(alloc, out, front, brace)
 }
 
-fn say_end(alloc: Global, out: &mut String, front: Front<'_>) -> Result<(), Memory> {
+fn say_end(alloc: Global, out: &mut String, front: &Front<'_>) -> Result<(), Memory> {
     if say_missing(alloc, out, front)? {
         return Ok(());
     }
-    match front.open_brace() {
+    match front.source.open_brace(front.index) {
         Some(brace) => {
             say(out, "The text ends too early: ")?;
             say_open_brace(alloc, out, front, brace)

@@ -2,9 +2,9 @@
 
 use crate::left_out::left_out;
 use crate::reason::Reason;
-use crate::say::say_quoted;
-use crate::search::elsewhere;
+use crate::search::in_bodies;
 use crate::site::Site;
+use crate::words::told_in;
 use cilk_check_scopes::Memory;
 
 const UNKNOWN: &str = " is declared nowhere that is visible from here";
@@ -24,48 +24,58 @@ const NOTHING: &str =
 const LIBRARY: &str =
     " is declared nowhere that is visible from here: of C's library this language has `printf` alone";
 
-// A name of C's library that programs often have (C 1990, 7).
-fn is_of_output(word: &str) -> bool {
-    match word {
-        "puts" | "putchar" | "fprintf" | "sprintf" | "fflush" => true,
-        "scanf" | "getchar" | "gets" | "exit" | "assert" => true,
-        _ => false,
-    }
-}
+// Names that C has: those of its library are some that programs often have (C 1990, 7).
+const NAMES_OF_C: &[(&str, &str)] = &[
+    ("true", TRUTH),
+    ("false", TRUTH),
+    ("NULL", NOTHING),
+    ("puts", LIBRARY),
+    ("putchar", LIBRARY),
+    ("fprintf", LIBRARY),
+    ("sprintf", LIBRARY),
+    ("fflush", LIBRARY),
+    ("scanf", LIBRARY),
+    ("getchar", LIBRARY),
+    ("gets", LIBRARY),
+    ("exit", LIBRARY),
+    ("assert", LIBRARY),
+    ("malloc", LIBRARY),
+    ("calloc", LIBRARY),
+    ("free", LIBRARY),
+    ("atoi", LIBRARY),
+    ("rand", LIBRARY),
+    ("srand", LIBRARY),
+    ("abs", LIBRARY),
+    ("pow", LIBRARY),
+    ("sqrt", LIBRARY),
+    ("time", LIBRARY),
+    ("clock", LIBRARY),
+    ("strlen", LIBRARY),
+    ("strcmp", LIBRARY),
+    ("strcpy", LIBRARY),
+    ("memset", LIBRARY),
+    ("memcpy", LIBRARY),
+];
 
-fn is_of_values(word: &str) -> bool {
-    match word {
-        "malloc" | "calloc" | "free" | "atoi" | "rand" | "srand" => true,
-        "abs" | "pow" | "sqrt" | "time" | "clock" => true,
-        "strlen" | "strcmp" | "strcpy" | "memset" | "memcpy" => true,
-        _ => false,
-    }
-}
-
-fn of_name(word: &str) -> Option<&'static str> {
-    match word {
-        "true" | "false" => Some(TRUTH),
-        "NULL" => Some(NOTHING),
-        _ if is_of_output(word) || is_of_values(word) => Some(LIBRARY),
-        _ => left_out(word),
-    }
-}
-
-fn of_place<'a>(site: Site<'a, '_>) -> Reason<'a> {
-    match elsewhere(site.program, site.source, site.at) {
-        Some(declared) if declared.at > site.at => {
-            Reason::lined(BEHIND, site.source.line(declared.at))
-        }
-        Some(declared) => Reason::lined(ENDED, site.source.line(declared.at)),
-        None => Reason::plain(UNKNOWN),
+// Where a declaration of the name stands that is not visible.
+fn of_place<'a>(site: &Site<'a, '_>) -> Reason<'a> {
+    let name = site.word();
+    let Some(declared) = in_bodies(site, true) else {
+        return Reason::joined("`$`", UNKNOWN, name);
+    };
+    Reason {
+        words: "`$`",
+        more: if declared.at > site.at { BEHIND } else { ENDED },
+        name,
+        number: site.line(declared.at),
     }
 }
 
 /// C2.
-pub(crate) fn say_unknown(out: &mut String, site: Site<'_, '_>) -> Result<(), Memory> {
-    say_quoted(out, site.word())?;
-    match of_name(site.word()) {
-        Some(words) => Reason::plain(words).say(out),
+pub(crate) fn say_unknown(out: &mut String, site: &Site<'_, '_>) -> Result<(), Memory> {
+    let name = site.word();
+    match told_in(NAMES_OF_C, name).or(left_out(name)) {
+        Some(words) => Reason::joined("`$`", words, name).say(out),
         None => of_place(site).say(out),
     }
 }

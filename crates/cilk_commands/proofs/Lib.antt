@@ -1,4 +1,5 @@
 pub mod Explained
 pub mod WholeText
+pub mod Statuses
 mod WholeRecord
 pub use Rattle.cilk_load.proofs.Fronts

@@ -1,5 +1,5 @@
 -- The statuses, and which one tells of a failure.
-use Rattle.std.specs.Prelude.{ℕ, Bool, true, false}
+use Rattle.std.specs.Prelude.{◌≡◌, ℕ, Bool, true, false, List}
 use Rattle.cilk_commands.specs.declared.failure.Failure.{Failure}
 use Rattle.cilk_commands.specs.declared.failure.Failure.TheVariants as failure
 use Rattle.cilk_commands.specs.declared.status.Status.{Status}
@@ -43,3 +43,7 @@ is_answer status.CannotRead = false
 is_answer status.CannotWrite = false
 is_answer status.CannotRecord = false
 is_answer status.CannotStart = false
+
+-- an answer of this kind to the bytes of a text, behind which all is done
+abbrev pub IsDone : (List ℕ → List ℕ → Type 0) → List ℕ → Status → List ℕ → Type 0
+IsDone Are text ended answer = (ended ≡ status.Done) × Are text answer

@@ -1,6 +1,6 @@
 //! What the subcommands that answer the text of a program have in common: they read it, and write the answer or tell a failure.
 
-ghost use Rattle.std.specs.Prelude.{◌≡◌, ◌≢◌, ◌≤◌, true, false, ℕ, List, length, IfErr, IfOk, OnOk, string_bytes};
+ghost use Rattle.std.specs.Prelude.{◌≡◌, ◌≢◌, ◌≤◌, true, false, ℕ, List, length, IfErr, IfOk, string_bytes};
 ghost use Rattle.cilk_check_explain.specs.lex.declared.reading.TheConstants.{TEXT_LIMIT};
 ghost use Rattle.cilk_load.specs.Front.{Gains, GainsFront};
 ghost use Rattle.cilk_commands.specs.Held.{Held};
@@ -16,19 +16,30 @@ use crate::status::Status;
 use std::alloc::Global;
 use std::io::{Read, Write};
 
+/// An answer, and the status that tells how the subcommand ends with it.
+#[derive(Debug, Drop)]
+pub struct Answered {
+    pub text: String,
+    pub status: Status,
+}
+
 /// What is answered to the text of a program.
 pub trait Answering {
-    // The answers to the bytes of a text.
-    ghost are: { List ℕ → List ℕ → Type 0 };
+    ghost use Rattle.cilk_commands.specs.declared.status.Status.{Status};
+
+    // The answers to the bytes of a text, each with its status.
+    ghost are: { List ℕ → Status → List ℕ → Type 0 };
 
     /// The answer to the text of these bytes, or why there is none.
-    fn answer(alloc: Global, text: &[u8]) -> Result<String, Failure>
-        ensures ok { IfOk result (λ answer. are text.now (string_bytes answer)) }
+    fn answer(alloc: Global, text: &[u8]) -> Result<Answered, Failure>
+        ensures ok { IfOk result (λ answer. are text.now answer.status (string_bytes answer.text)) }
+        ensures answers { IfOk result (λ answer. is_answer answer.status ≡ true) }
+        ensures untrapped { IfOk result (λ answer. answer.status ≢ Status.Trapped) }
         ensures declined { IfErr result (λ why. status_of why ≡ Status.Refused → Unready text.now why) }
         ensures reads { IfErr result (λ why. status_of why ≢ Status.CannotWrite) };
 
     // A text that is too long has none.
-    ghost short: { (text answer : List ℕ) → are text answer → length text ≤ TEXT_LIMIT };
+    ghost short: { (text : List ℕ) (status : Status) (answer : List ℕ) → are text status answer → length text ≤ TEXT_LIMIT };
 }
 
 /// Writes the answer to the text that the reader holds to `out`, or else the line that says why not to `err`, where `name` is the name of the text,
@@ -42,16 +53,17 @@ pub fn answer_text<A: Answering, R: Read, O: Write, E: Write>(
     out: &mut O,
     err: &mut E,
 ) -> Status
-    ensures done { result ≡ Status.Done
-        → Gains (λ answer. Held (R.remaining reader.old) (λ bytes. A.are bytes answer)) (O.contents out.old) (O.contents out.new) }
+    ensures done { is_answer result ≡ true
+        → Gains (λ answer. Held (R.remaining reader.old) (λ bytes. A.are bytes result answer)) (O.contents out.old) (O.contents out.new) }
+    ensures untrapped { result ≢ Status.Trapped }
     ensures usage { result ≢ Status.Usage }
-    ensures only { is_answer result ≡ true → result ≡ Status.Done }
 
     // Where there is no answer.
     ensures told { is_answer result ≡ false → GivesUp Unready explain name.now result
         (R.remaining reader.old) (E.contents err.old) (E.contents err.new) }
     ensures begun { result ≡ Status.CannotWrite
-        → GainsFront (λ answer. Held (R.remaining reader.old) (λ bytes. A.are bytes answer)) (O.contents out.old) (O.contents out.new) }
+        → GainsFront (λ answer. Held (R.remaining reader.old) (λ bytes. (status : Status) × A.are bytes status answer))
+        (O.contents out.old) (O.contents out.new) }
 
     // What stays as it was.
     ensures quiet { is_answer result ≡ true → err.new ≡ err.old }
@@ -63,18 +75,27 @@ pub fn answer_text<A: Answering, R: Read, O: Write, E: Write>(
     };
     let text = bytes.as_slice();
     match write_out::<A, O>(alloc, text, out) {
-        Ok(()) => Status::Done,
+        Ok(status) => status,
         Err(failure) => tell_of(alloc, name, explain, text, &failure, err),
     }
 }
 
-fn write_out<A: Answering, W: Write>(alloc: Global, text: &[u8], out: &mut W) -> Result<(), Failure>
-    ensures ok { OnOk result (Gains (A.are text.now) (W.contents out.old) (W.contents out.new)) }
+fn write_out<A: Answering, W: Write>(
+    alloc: Global,
+    text: &[u8],
+    out: &mut W,
+) -> Result<Status, Failure>
+    ensures ok { IfOk result (λ status. Gains (A.are text.now status) (W.contents out.old) (W.contents out.new)) }
+    ensures answers { IfOk result (λ status. is_answer status ≡ true) }
+    ensures untrapped { IfOk result (λ status. status ≢ Status.Trapped) }
     ensures declined { IfErr result (λ why. status_of why ≡ Status.Refused → Unready text.now why) }
     ensures begun { IfErr result (λ why. status_of why ≡ Status.CannotWrite
-        → GainsFront (A.are text.now) (W.contents out.old) (W.contents out.new)) }
+        → GainsFront (λ answer. (status : Status) × A.are text.now status answer) (W.contents out.old) (W.contents out.new)) }
     ensures kept { IfErr result (λ why. status_of why ≢ Status.CannotWrite → out.new ≡ out.old) }
 {
     let answer = A::answer(alloc, text)?;
-    write_answer(out, answer.as_bytes())
+    match write_answer(out, answer.text.as_bytes()) {
+        Ok(()) => Ok(answer.status),
+        Err(failure) => Err(failure),
+    }
 }

@@ -6,7 +6,7 @@ ghost use Rattle.cilk_commands.specs.Telling.{GivesUp};
 ghost use Rattle.cilk_commands.specs.Checking.{Passes, PassesFront};
 ghost use Rattle.cilk_commands.specs.Status.{is_answer};
 
-use crate::answering::{Answering, answer_text};
+use crate::answering::{Answered, Answering, answer_text};
 use crate::failure::Failure;
 use crate::loading::ready_of;
 use crate::status::Status;
@@ -47,17 +47,21 @@ struct CountAnswer;
 
 impl Answering for CountAnswer {
     ghost use Rattle.cilk_commands.specs.Checking.{IsCounted};
+    ghost use Rattle.cilk_commands.specs.Status.{IsDone};
 
-    ghost are = { IsCounted };
+    ghost are = { λ text status answer. IsDone IsCounted text status answer };
 
-    fn answer(alloc: Global, text: &[u8]) -> Result<String, Failure> {
+    fn answer(alloc: Global, text: &[u8]) -> Result<Answered, Failure> {
         let program = ready_of(alloc, text)?;
         let count = program.count();
         let Ok(line) = format!(in alloc; "ok, {count} actions\n") else {
             return Err(Failure::Memory);
         };
-        Ok(line)
+        Ok(Answered {
+            text: line,
+            status: Status::Done,
+        })
     }
 
-    ghost short = { λ text answer is. is.ready.is.text.short };
+    ghost short = { λ text status answer is. is.1.ready.is.text.short };
 }

@@ -18,7 +18,7 @@ mod source;
 mod status;
 
 pub use answer::{write_answer, write_parts, write_whole};
-pub use answering::{Answering, answer_text};
+pub use answering::{Answered, Answering, answer_text};
 pub use check::check_text;
 pub use cilk_load::Loaded;
 pub use explaining::{action_told, tell_of};

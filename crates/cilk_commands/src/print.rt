@@ -6,7 +6,7 @@ ghost use Rattle.cilk_commands.specs.Telling.{GivesUp};
 ghost use Rattle.cilk_commands.specs.Printing.{Prints, PrintsFront};
 ghost use Rattle.cilk_commands.specs.Status.{is_answer};
 
-use crate::answering::{Answering, answer_text};
+use crate::answering::{Answered, Answering, answer_text};
 use crate::failure::Failure;
 use crate::loading::ready_of;
 use crate::status::Status;
@@ -47,16 +47,20 @@ struct PrintAnswer;
 
 impl Answering for PrintAnswer {
     ghost use Rattle.cilk_commands.specs.Printing.{IsPrinted};
+    ghost use Rattle.cilk_commands.specs.Status.{IsDone};
 
-    ghost are = { IsPrinted };
+    ghost are = { λ text status answer. IsDone IsPrinted text status answer };
 
-    fn answer(alloc: Global, text: &[u8]) -> Result<String, Failure> {
+    fn answer(alloc: Global, text: &[u8]) -> Result<Answered, Failure> {
         let program = ready_of(alloc, text)?;
         let Ok(answer) = program.text() else {
             return Err(Failure::Memory);
         };
-        Ok(answer)
+        Ok(Answered {
+            text: answer,
+            status: Status::Done,
+        })
     }
 
-    ghost short = { λ text answer is. is.ready.is.text.short };
+    ghost short = { λ text status answer is. is.1.ready.is.text.short };
 }

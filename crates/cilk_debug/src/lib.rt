@@ -19,7 +19,9 @@ mod track;
 mod unplayable;
 
 pub use cilk_debug_console::{Choices, InputFault, Log, LogFault, read_log, write_log};
-pub use cilk_machine::{Act, Choice, Did, Id, Loaded, Machine, Memory, ViewFault, What};
+pub use cilk_machine::{
+    Act, Choice, Did, End, Id, Loaded, Machine, Memory, ViewFault, What, put_trapped,
+};
 pub use debugger::Debugger;
 pub use fault::DebugFault;
 pub use laws::none_is_bad;

@@ -6,9 +6,15 @@ use std::marker::Model;
 
 /// An expression over slots, which contracts see as a `Term`: what it says, and not where it lies.
 #[cycle(code)]
-#[derive(Drop)]
 pub struct Code {
     pub node: CodeNode,
+}
+
+// To drop it elsewhere is to call this, and its parts' drops are proved here alone.
+impl Drop for Code {
+    fn drop(self) {
+        let Code { node: _node } = self;
+    }
 }
 
 /// The outermost form of an expression (C 1990, 6.3).

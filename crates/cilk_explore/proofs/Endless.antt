@@ -4,15 +4,15 @@ use Rattle.std.proofs.lemmas.Bool.{cases_lt}
 use Rattle.std.proofs.lemmas.Option.{slice_get_within}
 use Rattle.cilk_machine.specs.labelled.Labelled.{Labelled}
 use Rattle.cilk_machine.specs.model.Choice.{Choice}
-use Rattle.cilk_explore_search.specs.explore.Search.{Search, IsSearch}
-use Rattle.cilk_explore_search.specs.explore.Endless.{AreMarked, MarksTellRightly}
-use Rattle.cilk_explore_search.specs.Looking.{search_of}
-use Rattle.cilk_explore_search.specs.Marking.{mark_of, AreMarks}
-use Rattle.cilk_explore_search.proofs.Linked.{marks-are-by-links, can-end-alike}
-use Rattle.cilk_explore_search.proofs.explore_laws.Searches.{known}
-use Rattle.cilk_explore_search.proofs.explore_laws.OrMore.{more_find_no_more, more_mark_no_more}
-use Rattle.cilk_explore_search.proofs.explore_laws.Unending.{the_endless_are_unmarked}
-use Rattle.cilk_explore_search.proofs.explore_laws.runs_laws.Kept.{places_are_kept}
+use Rattle.cilk_explore.specs.explore.Search.{Search, IsSearch}
+use Rattle.cilk_explore.specs.explore.Endless.{AreMarked, MarksTellRightly}
+use Rattle.cilk_explore.specs.LogLooking.{search_of}
+use Rattle.cilk_explore.specs.Marking.{mark_of, AreMarks}
+use Rattle.cilk_explore.proofs.Linked.{marks-are-by-links, can-end-alike}
+use Rattle.cilk_explore.proofs.explore_laws.Searches.{known}
+use Rattle.cilk_explore.proofs.explore_laws.OrMore.{more_find_no_more, more_mark_no_more}
+use Rattle.cilk_explore.proofs.explore_laws.Unending.{the_endless_are_unmarked}
+use Rattle.cilk_explore.proofs.explore_laws.runs_laws.Kept.{places_are_kept}
 use Rattle.cilk_explore.specs.declared.explorer.Explorer.{Explorer}
 use Rattle.cilk_explore.specs.Exploring.{program_of, workers_of, IsThrough, IsOf, NeverEnds, EachCanEnd}
 

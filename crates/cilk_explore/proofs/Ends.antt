@@ -13,14 +13,14 @@ use Rattle.cilk_machine.specs.choices.Words.{end_of}
 use Rattle.cilk_machine.specs.Situation as machine
 use Rattle.cilk_machine.specs.Situation.{Situation}
 use Rattle.cilk_machine.specs.Stands.{StandsAt}
-use Rattle.cilk_explore_search.specs.explore.Ending.{Ending, ending_at, is_last, IsOver}
-use Rattle.cilk_explore_search.specs.explore.Search.{Told, LeadsTo}
-use Rattle.cilk_explore_search.proofs.explore_laws.Over.{over_exactly}
+use Rattle.cilk_explore.specs.explore.Ending.{Ending, ending_at, is_last, IsOver}
+use Rattle.cilk_explore.specs.explore.Search.{Told, LeadsTo}
+use Rattle.cilk_explore.proofs.explore_laws.Over.{over_exactly}
 use Rattle.cilk_explore.specs.Walks.{Walk, position_of, IsWalk}
 use Rattle.cilk_explore.specs.declared.told.Told as code
 use Rattle.cilk_explore.specs.Telling.{ending_by, told_by, EndsBy, TellsFirst}
-use Rattle.cilk_explore_search.specs.Looking.{IsAmong, TellsOf}
-use Rattle.cilk_explore_search.proofs.Fronts.{get-last, one-entry}
+use Rattle.cilk_explore.specs.LogLooking.{IsAmong, TellsOf}
+use Rattle.cilk_explore.proofs.Fronts.{get-last, one-entry}
 use Rattle.cilk_explore.proofs.Strides.{stands-there}
 
 -- what the machine says of its end, wherever it stands

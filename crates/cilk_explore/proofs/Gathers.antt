@@ -6,11 +6,11 @@ use Rattle.cilk_machine.specs.labelled.Labelled.{Labelled}
 use Rattle.cilk_machine.specs.labelled.Bodies.{label}
 use Rattle.cilk_machine.specs.model.Choice.{Choice}
 use Rattle.cilk_machine.specs.model.Run.{Position, after}
-use Rattle.cilk_explore_search.specs.explore.Search.{Known}
-use Rattle.cilk_explore_search.specs.Looking.{Extends, AreClosed, TellsOf}
-use Rattle.cilk_explore_search.specs.Linking.{IsLink, HasLink, IsLinked, AreLinks, AreLinked}
-use Rattle.cilk_explore_search.proofs.Fronts.{get-cases, get-last, append-none, one-there, one-entry}
-use Rattle.cilk_explore_search.proofs.Links.{link-more, linked-more, linked-on}
+use Rattle.cilk_explore.specs.explore.Search.{Known}
+use Rattle.cilk_explore.specs.LogLooking.{Extends, AreClosed, TellsOf}
+use Rattle.cilk_explore.specs.Linking.{IsLink, HasLink, IsLinked, AreLinks, AreLinked}
+use Rattle.cilk_explore.proofs.Fronts.{get-cases, get-last, append-none, one-there, one-entry}
+use Rattle.cilk_explore.proofs.LinksKept.{link-more, linked-more, linked-on}
 use Rattle.cilk_explore.specs.declared.explorer.Explorer.{Explorer}
 use Rattle.cilk_explore.specs.Links.{Linkage}
 use Rattle.cilk_explore.specs.Walks.{Walk, position_of}

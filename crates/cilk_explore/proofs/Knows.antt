@@ -4,10 +4,10 @@ use Rattle.std.proofs.Common.{slice_get, slice_index_or, length-append}
 use Rattle.std.proofs.lemmas.Option.{get_or_from_slice_get}
 use Rattle.cilk_machine.specs.model.Choice.{Choice}
 use Rattle.cilk_machine.specs.model.Run.{Position}
-use Rattle.cilk_explore_search.specs.Looking.{Extends}
-use Rattle.cilk_explore_search.proofs.Fronts.{get-last}
-use Rattle.cilk_explore_search.proofs.Growing.{extends-one}
-use Rattle.cilk_explore_search.proofs.explore_laws.ButNames.{names_again}
+use Rattle.cilk_explore.specs.LogLooking.{Extends}
+use Rattle.cilk_explore.proofs.Fronts.{get-last}
+use Rattle.cilk_explore.proofs.Growing.{extends-one}
+use Rattle.cilk_explore.proofs.explore_laws.ButNames.{names_again}
 use Rattle.cilk_explore.specs.declared.explorer.Explorer.{Explorer}
 use Rattle.cilk_explore.specs.Walks.{Walk, position_of}
 use Rattle.cilk_explore.specs.Looking.{LeadsToSame}

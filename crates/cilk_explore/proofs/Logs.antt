@@ -8,7 +8,7 @@ use Rattle.cilk_machine.specs.model.Choice.{Choice}
 use Rattle.cilk_machine.specs.choices.declared.choice.Choice as code
 use Rattle.cilk_machine.specs.choices.Words.{choice_of}
 use Rattle.cilk_explore.specs.declared.node.Node.{Node}
-use Rattle.cilk_explore_search.proofs.Fronts.{get-front, get-cases, get-last, append-none, one-there, some-there}
+use Rattle.cilk_explore.proofs.Fronts.{get-front, get-cases, get-last, append-none, one-there, some-there}
 use Rattle.cilk_explore.specs.Logs.{log_behind, logs_behind, logs_of, AreGrown}
 
 -- logs of further nodes

@@ -4,7 +4,7 @@ use Rattle.std.proofs.Common.{refl, sym, ap, ◌∙◌, subst, arith}
 use Rattle.std.proofs.Common.{slice_get, get_or, set, get_or-set_other}
 use Rattle.std.proofs.lemmas.Bool.{cases_eq, cases_lt}
 use Rattle.std.proofs.lemmas.Option.{slice_get_within}
-use Rattle.cilk_explore_search.specs.Marking.{Reaches, at_once, along, mark_of, MayBeMarked, Stays, StaysAt, AreSound, AreWholeFrom, unmarked}
+use Rattle.cilk_explore.specs.Marking.{Reaches, at_once, along, mark_of, MayBeMarked, Stays, StaysAt, AreSound, AreWholeFrom, unmarked}
 
 -- one mark more
 pub unmarked-set : (marks : List Bool) (k : ℕ) → mark_of marks k ≡ false → k < length marks → unmarked (set marks k true) < unmarked marks

@@ -4,16 +4,16 @@ use Rattle.std.proofs.lemmas.Option.{slice_get_within}
 use Rattle.cilk_machine.specs.labelled.Labelled.{Labelled}
 use Rattle.cilk_machine.specs.labelled.Bodies.{label}
 use Rattle.cilk_machine.specs.model.Choice.{Choice}
-use Rattle.cilk_explore_search.specs.explore.Search.{Told}
-use Rattle.cilk_explore_search.specs.explore.OrMore.{EachHasIdle}
+use Rattle.cilk_explore.specs.explore.Search.{Told}
+use Rattle.cilk_explore.specs.explore.OrMore.{EachHasIdle}
 use Rattle.cilk_explore.specs.declared.explorer.Explorer.{Explorer}
 use Rattle.cilk_explore.specs.Walks.{Walk}
 use Rattle.cilk_explore.specs.Telling.{told_by}
-use Rattle.cilk_explore_search.specs.Looking.{search_of, IsLooking, Extends, AreClosed, TellsOf}
+use Rattle.cilk_explore.specs.LogLooking.{search_of, IsLooking, Extends, AreClosed, TellsOf}
 use Rattle.cilk_explore.specs.Exploring.{program_of, workers_of, IsPaired, IsBetween, AreFound, IsAt, KeepsBut, Grows, SaysIdle}
-use Rattle.cilk_explore_search.proofs.Fronts.{get-front, get-cases}
-use Rattle.cilk_explore_search.proofs.Growing.{extends-none, extends-then, looked-on, halted}
-use Rattle.cilk_explore_search.proofs.Idles.{idle-at-each}
+use Rattle.cilk_explore.proofs.Fronts.{get-front, get-cases}
+use Rattle.cilk_explore.proofs.Growing.{extends-none, extends-then, looked-on, halted}
+use Rattle.cilk_explore.proofs.Idles.{idle-at-each}
 
 -- logs that are longer by more of this length still lead somewhere
 pub found-more : (program : Labelled) (n depth : ℕ) (logs now : List (List Choice)) → AreFound program n depth logs → Extends program n depth logs now

@@ -24,7 +24,7 @@ use Rattle.cilk_machine.proofs.Again.{ran}
 use Rattle.cilk_machine.proofs.Kept.{led-past}
 use Rattle.cilk_machine.proofs.runs_laws.model_laws.Runs.{after-push}
 use Rattle.cilk_explore.specs.Walks.{Walk, position_of, walk_of, Was, WasBehind, IsWalk}
-use Rattle.cilk_explore_search.proofs.Fronts.{one-entry, take-fewer}
+use Rattle.cilk_explore.proofs.Fronts.{one-entry, take-fewer}
 
 module _ (m : Situation) (log : List Choice) (w : IsWalk m log) where
   -- the log leads to where it stands

@@ -4,11 +4,11 @@ use Rattle.std.specs.Prelude.{Option, Some, None, OnOk, IfSome, IfNone, option_m
 use Rattle.cilk_machine.specs.syntax.Tree.{Program}
 use Rattle.cilk_machine.specs.labelled.Bodies.{label}
 use Rattle.cilk_machine.specs.model.Choice.{Choice}
-use Rattle.cilk_explore_search.specs.explore.Search.{Told, Once, Sound, First, Whole}
-use Rattle.cilk_explore_search.specs.explore.Laws.{TellsRightly}
-use Rattle.cilk_explore_search.specs.Looking.{search_of}
-use Rattle.cilk_explore_search.proofs.explore_laws.Searches.{searches_tell_rightly}
-use Rattle.cilk_explore_search.proofs.explore_laws.OrMore.{more_do_no_more}
+use Rattle.cilk_explore.specs.explore.Search.{Told, Once, Sound, First, Whole}
+use Rattle.cilk_explore.specs.explore.Laws.{TellsRightly}
+use Rattle.cilk_explore.specs.LogLooking.{search_of}
+use Rattle.cilk_explore.proofs.explore_laws.Searches.{searches_tell_rightly}
+use Rattle.cilk_explore.proofs.explore_laws.OrMore.{more_do_no_more}
 use Rattle.cilk_explore.specs.declared.explorer.Explorer.{Explorer}
 use Rattle.cilk_explore.specs.Telling.{told_by}
 use Rattle.cilk_explore.specs.Exploring.{program_of, workers_of, IsBetween, IsOf, NeverEnds, EachCanEnd}

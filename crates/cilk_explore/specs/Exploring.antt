@@ -7,15 +7,15 @@ use Rattle.cilk_machine.specs.labelled.Bodies.{label}
 use Rattle.cilk_machine.specs.model.Choice.{Choice}
 use Rattle.cilk_machine.specs.model.Run.{Position, after}
 use Rattle.cilk_machine.specs.choices.Words.{choice_of}
-use Rattle.cilk_explore_search.specs.explore.Endless.{CanEnd}
-use Rattle.cilk_explore_search.specs.explore.OrMore.{HasIdle, EachHasIdle}
-use Rattle.cilk_explore_search.specs.explore.Search.{Known, Once, Sound, Whole, First}
+use Rattle.cilk_explore.specs.explore.Endless.{CanEnd}
+use Rattle.cilk_explore.specs.explore.OrMore.{HasIdle, EachHasIdle}
+use Rattle.cilk_explore.specs.explore.Search.{Known, Once, Sound, Whole, First}
 use Rattle.cilk_explore.specs.declared.exploration.Exploration.{Exploration}
 use Rattle.cilk_explore.specs.declared.explorer.Explorer.{Explorer}
 use Rattle.cilk_explore.specs.Walks.{position_of}
 use Rattle.cilk_explore.specs.Telling.{told_by}
-use Rattle.cilk_explore_search.specs.Looking.{search_of, IsLooking, Extends}
-use Rattle.cilk_explore_search.specs.Linking.{IsLink, AreLinked}
+use Rattle.cilk_explore.specs.LogLooking.{search_of, IsLooking, Extends}
+use Rattle.cilk_explore.specs.Linking.{IsLink, AreLinked}
 
 -- the program, and how many workers there are
 abbrev pub program_of : Explorer → Labelled

@@ -3,7 +3,7 @@ use Rattle.std.specs.Prelude.{◌≡◌, ℕ, List, Some, slice_get}
 use Rattle.cilk_machine.specs.labelled.Bodies.{label}
 use Rattle.cilk_machine.specs.model.Choice.{Choice}
 use Rattle.cilk_machine.specs.model.Run.{Position, after}
-use Rattle.cilk_explore_search.specs.explore.Names.{SameButNames}
+use Rattle.cilk_explore.specs.explore.Names.{SameButNames}
 use Rattle.cilk_explore.specs.Walks.{Walk, position_of}
 
 -- the log of this number leads to the same as the walk, but for the names of the workers

@@ -5,8 +5,8 @@ use Rattle.cilk_machine.specs.model.Run.{Position}
 use Rattle.cilk_machine.specs.model.End as model
 use Rattle.cilk_machine.specs.choices.declared.end.End.{End}
 use Rattle.cilk_machine.specs.choices.Words.{choice_of, end_of}
-use Rattle.cilk_explore_search.specs.explore.Ending.{Ending, IsOver}
-use Rattle.cilk_explore_search.specs.explore.Search.{Told}
+use Rattle.cilk_explore.specs.explore.Ending.{Ending, IsOver}
+use Rattle.cilk_explore.specs.explore.Search.{Told}
 use Rattle.cilk_explore.specs.Walks.{Walk, position_of}
 use Rattle.cilk_explore.specs.declared.told.Told as code
 

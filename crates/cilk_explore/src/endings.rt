@@ -3,11 +3,11 @@
 ghost use Rattle.std.specs.Prelude.{◌≡◌, ◌≢◌, ℕ, true, false, map, Ok, Some, Decides, OnOk, slice_get};
 ghost use Rattle.cilk_machine.specs.labelled.Bodies.{label};
 ghost use Rattle.cilk_machine.specs.model.Run.{Position};
-ghost use Rattle.cilk_explore_search.specs.explore.Ending.{IsOver};
-ghost use Rattle.cilk_explore_search.specs.explore.Search as searches;
+ghost use Rattle.cilk_explore.specs.explore.Ending.{IsOver};
+ghost use Rattle.cilk_explore.specs.explore.Search as searches;
 ghost use Rattle.cilk_explore.specs.Walks.{position_of};
 ghost use Rattle.cilk_explore.specs.Telling.{ending_by, told_by, EndsBy, TellsFirst};
-ghost use Rattle.cilk_explore_search.specs.Looking.{IsAmong, TellsOf};
+ghost use Rattle.cilk_explore.specs.LogLooking.{IsAmong, TellsOf};
 
 use crate::told::{Told, is_same_end};
 use crate::walker::Walker;

@@ -1,4 +1,5 @@
-//! All endings that a program has with so many workers, whatever schedule these take.
+//! All endings that a program has with so many workers, whatever schedule these take: laws of how a search for them goes on from one log to the next
+//! and of which logs lead on to an end, and the search.
 #![tactic(auto)]
 
 mod comparing;
@@ -6,6 +7,7 @@ mod endings;
 mod exploration;
 mod explorer;
 mod exploring;
+pub mod laws;
 mod links;
 mod looking;
 mod marking;

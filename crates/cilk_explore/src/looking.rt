@@ -5,8 +5,8 @@ ghost use Rattle.cilk_machine.specs.labelled.Bodies.{label};
 ghost use Rattle.cilk_machine.specs.model.Choice as choices;
 ghost use Rattle.cilk_machine.specs.model.Run.{Position};
 ghost use Rattle.cilk_machine.specs.choices.Words.{choice_of};
-ghost use Rattle.cilk_explore_search.specs.explore.OrMore.{IsIdle};
-ghost use Rattle.cilk_explore_search.specs.Linking.{IsLinked, AreLinkedBy};
+ghost use Rattle.cilk_explore.specs.explore.OrMore.{IsIdle};
+ghost use Rattle.cilk_explore.specs.Linking.{IsLinked, AreLinkedBy};
 ghost use Rattle.cilk_explore.specs.Walks.{position_of};
 ghost use Rattle.cilk_explore.specs.Exploring.{IsAt, IsBehind, IsBetween, HasLinks, IsKnownBy, Grows, Gathers, GoesOn, KeepsAs, SaysIdle};
 

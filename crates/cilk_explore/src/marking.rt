@@ -1,7 +1,7 @@
 //! Which logs lead on to where no choice is possible, as their links tell it.
 
 ghost use Rattle.std.specs.Prelude.{◌≡◌, ◌<◌, ℕ, true, false, length, Some, IfOk, IfSome, IfNone, slice_get};
-ghost use Rattle.cilk_explore_search.specs.Marking.{mark_of, MayBeMarked, Stays, StaysAt, AreSound, AreWholeFrom, AreMarks, unmarked};
+ghost use Rattle.cilk_explore.specs.Marking.{mark_of, MayBeMarked, Stays, StaysAt, AreSound, AreWholeFrom, AreMarks, unmarked};
 
 use crate::links::Links;
 use cilk_machine::Memory;

@@ -2,7 +2,7 @@
 
 ghost use Rattle.std.specs.Prelude.{◌≡◌, ℕ, true, false, map, None, IfOk, IfSome, IfNone};
 ghost use Rattle.cilk_machine.specs.choices.Words.{choice_of};
-ghost use Rattle.cilk_explore_search.specs.Marking.{AreMarks};
+ghost use Rattle.cilk_explore.specs.Marking.{AreMarks};
 ghost use Rattle.cilk_explore.specs.Exploring.{program_of, IsThrough, IsOf, NeverEnds, EachCanEnd};
 
 use crate::explorer::Explorer;

@@ -5,9 +5,9 @@ ghost use Rattle.std.specs.Prelude.{OnErr, OnOk, slice_get};
 ghost use Rattle.cilk_machine.specs.labelled.Bodies.{label};
 ghost use Rattle.cilk_machine.specs.model.Run.{Position, after};
 ghost use Rattle.cilk_machine.specs.choices.Words.{choice_of, end_of};
-ghost use Rattle.cilk_explore_search.specs.explore.Ending.{is_last, IsOver};
-ghost use Rattle.cilk_explore_search.specs.explore.Names.{SameButNames};
-ghost use Rattle.cilk_explore_search.specs.explore.OrMore.{IsIdle, HasIdle};
+ghost use Rattle.cilk_explore.specs.explore.Ending.{is_last, IsOver};
+ghost use Rattle.cilk_explore.specs.explore.Names.{SameButNames};
+ghost use Rattle.cilk_explore.specs.explore.OrMore.{IsIdle, HasIdle};
 ghost use Rattle.cilk_explore.specs.Walks.{position_of};
 ghost use Rattle.cilk_explore.specs.Telling.{EndsBy};
 

@@ -16,11 +16,21 @@ use std::marker::Model;
 
 /// Where an instance goes on, and what its variables hold. It has an owner, and there is no second
 /// one of an instance: it cannot be copied.
-#[derive(Drop)]
 pub struct Frame {
     pub(crate) id: Id,
     pub(crate) activations: Vec<Activation>,
     pub(crate) boundary: bool,
+}
+
+// To drop it elsewhere is to call this, and its parts' drops are proved here alone.
+impl Drop for Frame {
+    fn drop(self) {
+        let Frame {
+            id: _,
+            activations: _activations,
+            boundary: _,
+        } = self;
+    }
 }
 
 impl Model for Frame {

@@ -8,11 +8,21 @@ use crate::id::Id;
 use std::marker::Model;
 
 /// What a frame was, from which frames are made again. It shares nothing with the frame, and nobody goes on with it.
-#[derive(Drop)]
 pub struct FrameImage {
     pub(crate) id: Id,
     pub(crate) activations: Vec<Activation>,
     pub(crate) boundary: bool,
+}
+
+// To drop it elsewhere is to call this, and its parts' drops are proved here alone.
+impl Drop for FrameImage {
+    fn drop(self) {
+        let FrameImage {
+            id: _,
+            activations: _activations,
+            boundary: _,
+        } = self;
+    }
 }
 
 impl Model for FrameImage {

@@ -4,19 +4,19 @@ use Rattle.std.specs.Prelude.{option_map}
 use Rattle.cilk_check.specs.syntax.Tree as tree
 use Rattle.cilk_check.specs.syntax.Tree.{Word}
 use Rattle.cilk_check.specs.syntax.Adjustments.{operator_of}
-use Rattle.cilk_load_numbering.specs.labelled.Term as term
-use Rattle.cilk_load_numbering.specs.labelled.Term.{Term, rename}
-use Rattle.cilk_load_numbering.specs.eval.declared.slot.Slot.{Slot}
-use Rattle.cilk_load_numbering.specs.labelled.Labelled.{Declaration}
-use Rattle.cilk_load_numbering.specs.labelled.Names.{Names, meaning_of, number_of, label_expr, label_index, label_place, label_target}
-use Rattle.cilk_load_numbering.specs.labelled.Label.{label_move, label_taker, label_return}
-use Rattle.cilk_load_numbering.specs.labelled.Labelled as labelled
-use Rattle.cilk_load_numbering.specs.nodes.declared.action.Action.TheVariants.{Assign, Call, Spawn, Return}
-use Rattle.cilk_load_numbering.specs.nodes.declared.taker.Taker.TheVariants.{Into, Through}
-use Rattle.cilk_load_numbering.specs.nodes.Actions.{slotted_place, slotted_target, slotted_taker, slotted}
-use Rattle.cilk_load_numbering.specs.resolve.Scope.{Scope}
-use Rattle.cilk_load_numbering.specs.resolve.Acts.{slot_in, number_in, code_in, codes_in, place_in, target_in, move_in, taker_in, spawn_in, return_in}
-use Rattle.cilk_load_numbering.specs.resolve.Acts.{initialiser_in}
+use Rattle.cilk_load.specs.labelled.Term as term
+use Rattle.cilk_load.specs.labelled.Term.{Term, rename}
+use Rattle.cilk_load.specs.eval.declared.slot.Slot.{Slot}
+use Rattle.cilk_load.specs.labelled.Labelled.{Declaration}
+use Rattle.cilk_load.specs.labelled.Names.{Names, meaning_of, number_of, label_expr, label_index, label_place, label_target}
+use Rattle.cilk_load.specs.labelled.Label.{label_move, label_taker, label_return}
+use Rattle.cilk_load.specs.labelled.Labelled as labelled
+use Rattle.cilk_load.specs.nodes.declared.action.Action.TheVariants.{Assign, Call, Spawn, Return}
+use Rattle.cilk_load.specs.nodes.declared.taker.Taker.TheVariants.{Into, Through}
+use Rattle.cilk_load.specs.nodes.Actions.{slotted_place, slotted_target, slotted_taker, slotted}
+use Rattle.cilk_load.specs.resolve.Scope.{Scope}
+use Rattle.cilk_load.specs.resolve.Acts.{slot_in, number_in, code_in, codes_in, place_in, target_in, move_in, taker_in, spawn_in, return_in}
+use Rattle.cilk_load.specs.resolve.Acts.{initialiser_in}
 use Rattle.cilk_load.proofs.Found.{Agree}
 
 module _ (slots : Declaration → Slot) (names : Names) (s : Scope) (agree : Agree slots names s) where

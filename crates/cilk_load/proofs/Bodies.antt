@@ -6,26 +6,26 @@ use Rattle.std.proofs.lemmas.List.Elements.{filter_map-append}
 use Rattle.cilk_check.specs.syntax.Tree as tree
 use Rattle.cilk_check.specs.syntax.Tree.{Word}
 use Rattle.cilk_check.specs.scopes.Scopes.{local_declares, parameter}
-use Rattle.cilk_load_numbering.specs.labelled.Labelled.{local, of_body, unknown, Stmts, Labelled}
-use Rattle.cilk_load_numbering.specs.labelled.Items.{Items, pieces, opened}
-use Rattle.cilk_load_numbering.specs.labelled.Names.{Names, with_name, with_words, with_parameters, with_local, in_inlet}
-use Rattle.cilk_load_numbering.specs.labelled.Count.{count_shape, count_stmts, count_locals, count_block}
-use Rattle.cilk_load_numbering.specs.labelled.Label.{label_locals, label_stmts, label_block, names_behind, locals_variables}
-use Rattle.cilk_load_numbering.specs.labelled.Bodies.{one_cell, inlet_count}
-use Rattle.cilk_load_numbering.specs.nodes.declared.node.Node.{Node}
-use Rattle.cilk_load_numbering.specs.nodes.declared.body.Body as table
-use Rattle.cilk_load_numbering.specs.nodes.declared.action.Action.TheVariants.{Close}
-use Rattle.cilk_load_numbering.specs.nodes.declared.var.Var.{Var}
-use Rattle.cilk_load_numbering.specs.nodes.Slots.{slot_of, procedure_around}
-use Rattle.cilk_load_numbering.specs.nodes.Table.{number_of, node_over, node_at, stmts_lists, closing_items, body_lists, Row, row}
-use Rattle.cilk_load_numbering.specs.nodes.Bodies.{body_table}
-use Rattle.cilk_load_numbering.specs.nodes.Plain.{PlainBlock, OuterLocals, OuterBlock}
-use Rattle.cilk_load_numbering.proofs.nodes_laws.Texts.{shape_rows, named_place, body_of_inlet, locals_rows, body_rows}
-use Rattle.cilk_load_numbering.specs.resolve.Scope as scope
-use Rattle.cilk_load_numbering.specs.resolve.Scope.{Scope, declared}
-use Rattle.cilk_load_numbering.specs.resolve.Firsts.{first_if, locals_first}
-use Rattle.cilk_load_numbering.specs.Pass.{bound_var, bound_number, onward, shape_nodes, stmts_nodes, block_nodes}
-use Rattle.cilk_load_numbering.specs.Outer.{vars_at, body_exits, words_scope, parameters_scope, inlet_nodes, outer_nodes, outer_scope, body_nodes}
+use Rattle.cilk_load.specs.labelled.Labelled.{local, of_body, unknown, Stmts, Labelled}
+use Rattle.cilk_load.specs.labelled.Items.{Items, pieces, opened}
+use Rattle.cilk_load.specs.labelled.Names.{Names, with_name, with_words, with_parameters, with_local, in_inlet}
+use Rattle.cilk_load.specs.labelled.Count.{count_shape, count_stmts, count_locals, count_block}
+use Rattle.cilk_load.specs.labelled.Label.{label_locals, label_stmts, label_block, names_behind, locals_variables}
+use Rattle.cilk_load.specs.labelled.Bodies.{one_cell, inlet_count}
+use Rattle.cilk_load.specs.nodes.declared.node.Node.{Node}
+use Rattle.cilk_load.specs.nodes.declared.body.Body as table
+use Rattle.cilk_load.specs.nodes.declared.action.Action.TheVariants.{Close}
+use Rattle.cilk_load.specs.nodes.declared.var.Var.{Var}
+use Rattle.cilk_load.specs.nodes.Slots.{slot_of, procedure_around}
+use Rattle.cilk_load.specs.nodes.Table.{number_of, node_over, node_at, stmts_lists, closing_items, body_lists, Row, row}
+use Rattle.cilk_load.specs.nodes.Bodies.{body_table}
+use Rattle.cilk_load.specs.nodes.Plain.{PlainBlock, OuterLocals, OuterBlock}
+use Rattle.cilk_load.proofs.nodes_laws.Texts.{shape_rows, named_place, body_of_inlet, locals_rows, body_rows}
+use Rattle.cilk_load.specs.resolve.Scope as scope
+use Rattle.cilk_load.specs.resolve.Scope.{Scope, declared}
+use Rattle.cilk_load.specs.resolve.Firsts.{first_if, locals_first}
+use Rattle.cilk_load.specs.Pass.{bound_var, bound_number, onward, shape_nodes, stmts_nodes, block_nodes}
+use Rattle.cilk_load.specs.Outer.{vars_at, body_exits, words_scope, parameters_scope, inlet_nodes, outer_nodes, outer_scope, body_nodes}
 use Rattle.cilk_load.proofs.Found.{Agree, agree-declared, agree-inlet}
 use Rattle.cilk_load.proofs.Actions.{initialiser-is}
 use Rattle.cilk_load.proofs.Starts.{stmts-pieces, locals-pieces}

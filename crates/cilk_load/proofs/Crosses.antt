@@ -2,10 +2,10 @@
 use denote.Param.Send.{IsSend, IsSync, sendable}
 use Rattle.std.proofs.Crossing.{crosses}
 use Rattle.std.proofs.option.Option.TheSendSync as option
-use Rattle.cilk_load_numbering.proofs.nodes_laws.Crosses.{node_send, node_sync}
-use Rattle.cilk_load_numbering.proofs.nodes_laws.body.Body.TheSendSync as body
-use Rattle.cilk_load_numbering.proofs.nodes_laws.var.Var.TheSendSync as var
-use Rattle.cilk_load_numbering.proofs.syntax_laws.Crosses.{program_send, program_sync}
+use Rattle.cilk_load.proofs.nodes_laws.Crosses.{node_send, node_sync}
+use Rattle.cilk_load.proofs.nodes_laws.body.Body.TheSendSync as body
+use Rattle.cilk_load.proofs.nodes_laws.var.Var.TheSendSync as var
+use Rattle.cilk_load.proofs.syntax_laws.Crosses.{program_send, program_sync}
 use Rattle.cilk_load.specs.contracts.loaded.Loaded as loaded
 use Rattle.cilk_load.specs.contracts.tables.Tables as tables
 

@@ -5,14 +5,14 @@ use Rattle.std.specs.Prelude.{bytes_eq, slice_index_or, position}
 use Rattle.std.specs.List.{prefix_len}
 use Rattle.std.proofs.lemmas.Bool.{lt-ltb, le-ltb, cases_lt}
 use Rattle.cilk_check.specs.scopes.Scopes.{Declared}
-use Rattle.cilk_load_numbering.specs.eval.declared.area.Area.{Area}
-use Rattle.cilk_load_numbering.specs.eval.declared.area.Area.TheVariants.{Own, Outer, Global}
-use Rattle.cilk_load_numbering.specs.eval.declared.slot.Slot.{Slot}
-use Rattle.cilk_load_numbering.specs.labelled.Labelled.{Declaration, unknown}
-use Rattle.cilk_load_numbering.specs.labelled.Names as label
-use Rattle.cilk_load_numbering.specs.labelled.Names.{Names, meaning_at, number_of, with_name}
-use Rattle.cilk_load_numbering.specs.resolve.declared.binding.Binding.{Binding}
-use Rattle.cilk_load_numbering.specs.resolve.Scope.{Named, Scope, found, visible, outward_area, outward, outward_named, declared, entered}
+use Rattle.cilk_load.specs.eval.declared.area.Area.{Area}
+use Rattle.cilk_load.specs.eval.declared.area.Area.TheVariants.{Own, Outer, Global}
+use Rattle.cilk_load.specs.eval.declared.slot.Slot.{Slot}
+use Rattle.cilk_load.specs.labelled.Labelled.{Declaration, unknown}
+use Rattle.cilk_load.specs.labelled.Names as label
+use Rattle.cilk_load.specs.labelled.Names.{Names, meaning_at, number_of, with_name}
+use Rattle.cilk_load.specs.resolve.declared.binding.Binding.{Binding}
+use Rattle.cilk_load.specs.resolve.Scope.{Named, Scope, found, visible, outward_area, outward, outward_named, declared, entered}
 
 abbrev pub binding_of : (Declaration → Slot) → Declaration → Binding
 binding_of slots d = record { slot = slots d; number = number_of d }

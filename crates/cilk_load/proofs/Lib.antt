@@ -1,13 +1,23 @@
+pub mod VarLaws
+pub mod Scopes
+pub mod Parts
+pub mod Cells
+pub mod Switches
+pub mod TableLaws
 pub mod Fronts
 pub mod Got
 pub mod Found
 pub mod Actions
 pub mod Starts
-pub mod Labels
+pub mod LabelLaws
 pub mod Written
 pub mod SlotLaws
 pub mod Bodies
 pub mod Programs
 pub mod Made
 pub mod Crosses
+pub use Rattle.cilk_load_names.proofs as resolve_laws
+pub use Rattle.cilk_load_names.proofs.nodes_laws
+pub use Rattle.cilk_load_names.proofs.scopes_laws
+pub use Rattle.cilk_load_names.proofs.syntax_laws
 pub use Rattle.cilk_tree.proofs as canonical_laws

@@ -5,22 +5,22 @@ use Rattle.std.specs.Prelude.{slice_get, flat_map}
 use Rattle.std.specs.List.{prefix_len, position}
 use Rattle.cilk_check.specs.syntax.Tree as tree
 use Rattle.cilk_check.specs.scopes.WellFormed.{WellFormed}
-use Rattle.cilk_load_numbering.specs.eval.declared.area.Area.TheVariants.{Global}
-use Rattle.cilk_load_numbering.specs.labelled.Labelled.{Body}
-use Rattle.cilk_load_numbering.specs.labelled.Count.{count_shape, count_block, count_item, count_program}
-use Rattle.cilk_load_numbering.specs.labelled.Lines.{action_lines}
-use Rattle.cilk_load_numbering.specs.labelled.Bodies.{label, bodies_of, file_names, is_start, item_globals, item_locks, inlet_count, block_locals, body_count}
-use Rattle.cilk_load_numbering.specs.nodes.declared.node.Node.{Node}
-use Rattle.cilk_load_numbering.specs.nodes.declared.body.Body as table
-use Rattle.cilk_load_numbering.specs.nodes.declared.var.Var.{Var}
-use Rattle.cilk_load_numbering.specs.nodes.Bodies.{body_table, vars_from, lock_variable, globals_of, locks_of}
-use Rattle.cilk_load_numbering.proofs.nodes_laws.Inner.{well_formed-plain}
-use Rattle.cilk_load_layout.specs.Tables.{inlet_tables, item_tables, items_tables}
-use Rattle.cilk_load_numbering.specs.Outer.{items_nodes, globals_count, locks_count, bodies_count}
-use Rattle.cilk_load_numbering.specs.Outer.{file_scope}
-use Rattle.cilk_load_layout.specs.Tables.{starts_here}
+use Rattle.cilk_load.specs.eval.declared.area.Area.TheVariants.{Global}
+use Rattle.cilk_load.specs.labelled.Labelled.{Body}
+use Rattle.cilk_load.specs.labelled.Count.{count_shape, count_block, count_item, count_program}
+use Rattle.cilk_load.specs.labelled.Lines.{action_lines}
+use Rattle.cilk_load.specs.labelled.Bodies.{label, bodies_of, file_names, is_start, item_globals, item_locks, inlet_count, block_locals, body_count}
+use Rattle.cilk_load.specs.nodes.declared.node.Node.{Node}
+use Rattle.cilk_load.specs.nodes.declared.body.Body as table
+use Rattle.cilk_load.specs.nodes.declared.var.Var.{Var}
+use Rattle.cilk_load.specs.nodes.Bodies.{body_table, vars_from, lock_variable, globals_of, locks_of}
+use Rattle.cilk_load.proofs.nodes_laws.Inner.{well_formed-plain}
+use Rattle.cilk_load.specs.BodyTables.{inlet_tables, item_tables, items_tables}
+use Rattle.cilk_load.specs.Outer.{items_nodes, globals_count, locks_count, bodies_count}
+use Rattle.cilk_load.specs.Outer.{file_scope}
+use Rattle.cilk_load.specs.BodyTables.{starts_here}
 use Rattle.cilk_load.specs.Tables.{Tabled}
-use Rattle.cilk_load_layout.proofs.Tables.{length-vars}
+use Rattle.cilk_load.proofs.TableLaws.{length-vars}
 use Rattle.cilk_load.proofs.Programs.{items-tables-are, program-nodes, none-at-0, nodes-at}
 
 length-globals : (items : List tree.Item) → length (flat_map item_globals items) ≡ globals_count items

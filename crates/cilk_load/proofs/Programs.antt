@@ -12,32 +12,32 @@ use Rattle.cilk_check.specs.scopes.declared.owner.Owner.{Owner}
 use Rattle.cilk_check.specs.scopes.declared.owner.Owner.TheVariants.{Inlet}
 use Rattle.cilk_check.proofs.scopes_laws.Elements.{Has}
 use Rattle.cilk_check.specs.scopes.WellFormed.{WellFormed}
-use Rattle.cilk_load_numbering.specs.labelled.Labelled.{Variable, Body, Labelled, Numbered}
-use Rattle.cilk_load_numbering.specs.labelled.Items.{opened, head_of, start_items}
-use Rattle.cilk_load_numbering.specs.labelled.Names.{Names, meaning_at}
-use Rattle.cilk_load_numbering.specs.labelled.Names as label
-use Rattle.cilk_load_numbering.specs.labelled.Count.{count_shape, count_stmts, count_locals, count_block, count_item, count_program}
-use Rattle.cilk_load_numbering.specs.labelled.Label.{label_stmts, names_behind, locals_variables}
-use Rattle.cilk_load_numbering.specs.labelled.Bodies.{label, label_body, one_cell, parameter_variables, inlet_bodies, inlet_count, block_locals}
-use Rattle.cilk_load_numbering.specs.labelled.Bodies.{procedure_names}
-use Rattle.cilk_load_numbering.specs.labelled.Bodies.{body_count, item_bodies, items_bodies, file_means, file_names}
-use Rattle.cilk_load_numbering.specs.model.Instance.{body_at, no_body}
-use Rattle.cilk_load_numbering.specs.nodes.declared.node.Node.{Node}
-use Rattle.cilk_load_numbering.specs.nodes.Slots.{slot_of, is_inlet, procedure_around}
-use Rattle.cilk_load_numbering.specs.nodes.Actions.{slotted}
-use Rattle.cilk_load_numbering.specs.nodes.Table.{number_of, number_else, cases_of, closing_items, Row, node_of}
-use Rattle.cilk_load_numbering.specs.nodes.Bodies.{body_table, globals_of}
-use Rattle.cilk_load_numbering.specs.nodes.Plain.{PlainLocals, PlainBlock, OuterLocals, OuterBlock, PlainItem, PlainItems}
-use Rattle.cilk_load_numbering.proofs.nodes_laws.Inner.{well_formed-plain}
-use Rattle.cilk_load_numbering.proofs.nodes_laws.Members.{has-from-at}
-use Rattle.cilk_load_numbering.proofs.nodes_laws.Texts.{item_rows, items_rows, RowsSpan, length-item, items-from-text}
-use Rattle.cilk_load_numbering.proofs.nodes_laws.Heads.{rows_of, text_of, text-spans, row-number, among-is, among-none, text-place, numbered, one-row}
-use Rattle.cilk_load_numbering.specs.resolve.Scope as scope
-use Rattle.cilk_load_numbering.specs.resolve.Scope.{Scope, outward_named}
-use Rattle.cilk_load_numbering.specs.resolve.Firsts.{locals_first}
-use Rattle.cilk_load_layout.specs.Tables.{body_first, table_of, inlet_tables, item_tables, items_tables}
-use Rattle.cilk_load_numbering.specs.Outer.{vars_at, parameters_scope, item_nodes, items_nodes}
-use Rattle.cilk_load_numbering.specs.Outer.{file_named, file_scope}
+use Rattle.cilk_load.specs.labelled.Labelled.{Variable, Body, Labelled, Numbered}
+use Rattle.cilk_load.specs.labelled.Items.{opened, head_of, start_items}
+use Rattle.cilk_load.specs.labelled.Names.{Names, meaning_at}
+use Rattle.cilk_load.specs.labelled.Names as label
+use Rattle.cilk_load.specs.labelled.Count.{count_shape, count_stmts, count_locals, count_block, count_item, count_program}
+use Rattle.cilk_load.specs.labelled.Label.{label_stmts, names_behind, locals_variables}
+use Rattle.cilk_load.specs.labelled.Bodies.{label, label_body, one_cell, parameter_variables, inlet_bodies, inlet_count, block_locals}
+use Rattle.cilk_load.specs.labelled.Bodies.{procedure_names}
+use Rattle.cilk_load.specs.labelled.Bodies.{body_count, item_bodies, items_bodies, file_means, file_names}
+use Rattle.cilk_load.specs.model.Instance.{body_at, no_body}
+use Rattle.cilk_load.specs.nodes.declared.node.Node.{Node}
+use Rattle.cilk_load.specs.nodes.Slots.{slot_of, is_inlet, procedure_around}
+use Rattle.cilk_load.specs.nodes.Actions.{slotted}
+use Rattle.cilk_load.specs.nodes.Table.{number_of, number_else, cases_of, closing_items, Row, node_of}
+use Rattle.cilk_load.specs.nodes.Bodies.{body_table, globals_of}
+use Rattle.cilk_load.specs.nodes.Plain.{PlainLocals, PlainBlock, OuterLocals, OuterBlock, PlainItem, PlainItems}
+use Rattle.cilk_load.proofs.nodes_laws.Inner.{well_formed-plain}
+use Rattle.cilk_load.proofs.nodes_laws.Members.{has-from-at}
+use Rattle.cilk_load.proofs.nodes_laws.Texts.{item_rows, items_rows, RowsSpan, length-item, items-from-text}
+use Rattle.cilk_load.proofs.nodes_laws.Heads.{rows_of, text_of, text-spans, row-number, among-is, among-none, text-place, numbered, one-row}
+use Rattle.cilk_load.specs.resolve.Scope as scope
+use Rattle.cilk_load.specs.resolve.Scope.{Scope, outward_named}
+use Rattle.cilk_load.specs.resolve.Firsts.{locals_first}
+use Rattle.cilk_load.specs.BodyTables.{body_first, table_of, inlet_tables, item_tables, items_tables}
+use Rattle.cilk_load.specs.Outer.{vars_at, parameters_scope, item_nodes, items_nodes}
+use Rattle.cilk_load.specs.Outer.{file_named, file_scope}
 use Rattle.cilk_load.proofs.Found.{binding_of, same_name, Agree}
 use Rattle.cilk_load.proofs.Starts.{stmts-pieces, locals-pieces}
 use Rattle.cilk_load.proofs.SlotLaws.{own-around, inlets-around, inlet-owners, file-binding}

@@ -7,24 +7,24 @@ use Rattle.cilk_check.specs.scopes.declared.owner.Owner.{Owner}
 use Rattle.cilk_check.specs.scopes.declared.owner.Owner.TheVariants.{Inlet}
 use Rattle.cilk_check.specs.scopes.declared.declaration_kind.DeclarationKind.TheVariants.{Lock}
 use Rattle.cilk_check.specs.scopes.Scopes.{Declared, kind_of_global, kind_of_body, parameter_count, file_declares}
-use Rattle.cilk_load_numbering.specs.eval.declared.area.Area.{Area}
-use Rattle.cilk_load_numbering.specs.eval.declared.area.Area.TheVariants.{Own, Outer, Global}
-use Rattle.cilk_load_numbering.specs.eval.declared.slot.Slot.{Slot}
-use Rattle.cilk_load_numbering.specs.labelled.Labelled.{Declaration, local, outer, global, of_lock, of_body, unknown, Variable, Labelled}
-use Rattle.cilk_load_numbering.specs.labelled.Labelled as labelled
-use Rattle.cilk_load_numbering.specs.labelled.Names as label
-use Rattle.cilk_load_numbering.specs.labelled.Names.{Names, meaning_at}
-use Rattle.cilk_load_numbering.specs.labelled.Count.{count_shape, count_block}
-use Rattle.cilk_load_numbering.specs.labelled.Bodies.{file_means, body_count, inlet_bodies}
+use Rattle.cilk_load.specs.eval.declared.area.Area.{Area}
+use Rattle.cilk_load.specs.eval.declared.area.Area.TheVariants.{Own, Outer, Global}
+use Rattle.cilk_load.specs.eval.declared.slot.Slot.{Slot}
+use Rattle.cilk_load.specs.labelled.Labelled.{Declaration, local, outer, global, of_lock, of_body, unknown, Variable, Labelled}
+use Rattle.cilk_load.specs.labelled.Labelled as labelled
+use Rattle.cilk_load.specs.labelled.Names as label
+use Rattle.cilk_load.specs.labelled.Names.{Names, meaning_at}
+use Rattle.cilk_load.specs.labelled.Count.{count_shape, count_block}
+use Rattle.cilk_load.specs.labelled.Bodies.{file_means, body_count, inlet_bodies}
 use Rattle.std.specs.Prelude.{position}
-use Rattle.cilk_load_numbering.specs.model.Instance.{body_at, no_body}
-use Rattle.cilk_load_numbering.specs.nodes.declared.var.Var.{Var}
-use Rattle.cilk_load_numbering.specs.nodes.Slots.{size_of, slot_from, slot_of, is_inlet, procedure_around}
-use Rattle.cilk_load_numbering.specs.nodes.Bodies.{vars_from, body_table}
-use Rattle.cilk_load_numbering.specs.resolve.declared.binding.Binding.{Binding}
-use Rattle.cilk_load_numbering.specs.resolve.Scope.{Named, found, outward_area, outward, outward_named}
-use Rattle.cilk_load_numbering.specs.Pass.{var_slot, bound_var, bound_number}
-use Rattle.cilk_load_numbering.specs.Outer.{vars_at, file_named}
+use Rattle.cilk_load.specs.model.Instance.{body_at, no_body}
+use Rattle.cilk_load.specs.nodes.declared.var.Var.{Var}
+use Rattle.cilk_load.specs.nodes.Slots.{size_of, slot_from, slot_of, is_inlet, procedure_around}
+use Rattle.cilk_load.specs.nodes.Bodies.{vars_from, body_table}
+use Rattle.cilk_load.specs.resolve.declared.binding.Binding.{Binding}
+use Rattle.cilk_load.specs.resolve.Scope.{Named, found, outward_area, outward, outward_named}
+use Rattle.cilk_load.specs.Pass.{var_slot, bound_var, bound_number}
+use Rattle.cilk_load.specs.Outer.{vars_at, file_named}
 use Rattle.cilk_load.proofs.Found.{binding_of, same_name, meaning-first}
 
 -- the slots of a table of variables

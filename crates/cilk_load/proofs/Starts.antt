@@ -4,18 +4,18 @@ use Rattle.std.proofs.Common.{ap, ◌∙◌, arith}
 use Rattle.std.proofs.lemmas.Bool.{false≢true, cases_eq}
 use Rattle.std.proofs.lemmas.Bool.Decides.{Decides-eqb}
 use Rattle.cilk_check.specs.syntax.Tree as tree
-use Rattle.cilk_load_numbering.specs.labelled.Labelled.{Stmts}
-use Rattle.cilk_load_numbering.specs.labelled.Items.{Items, pieces, plain_round, open_stmt, open_stmts, opened}
-use Rattle.cilk_load_numbering.specs.labelled.Names.{Names, with_local, entered}
-use Rattle.cilk_load_numbering.specs.labelled.Count.{count_option, count_shape, count_stmt, count_stmts, count_locals, count_block}
-use Rattle.cilk_load_numbering.specs.labelled.Label.{label_test, label_initialiser, label_locals, label_stmt, label_stmts, label_block, names_behind}
-use Rattle.cilk_load_numbering.specs.labelled.Label.{stmt_variables}
-use Rattle.cilk_load_numbering.specs.labelled.Label.{locals_variables}
-use Rattle.cilk_load_numbering.specs.nodes.Table.{number_of}
-use Rattle.cilk_load_numbering.specs.nodes.Plain.{PlainLocals, PlainStmt, PlainStmts, PlainBlock}
-use Rattle.cilk_load_numbering.proofs.nodes_laws.Opens.{opened-pieces}
-use Rattle.cilk_load_numbering.specs.resolve.Firsts.{first_if, block_first, locals_first}
-use Rattle.cilk_load_numbering.proofs.resolve_laws.Begins.{first_if-some}
+use Rattle.cilk_load.specs.labelled.Labelled.{Stmts}
+use Rattle.cilk_load.specs.labelled.Items.{Items, pieces, plain_round, open_stmt, open_stmts, opened}
+use Rattle.cilk_load.specs.labelled.Names.{Names, with_local, entered}
+use Rattle.cilk_load.specs.labelled.Count.{count_option, count_shape, count_stmt, count_stmts, count_locals, count_block}
+use Rattle.cilk_load.specs.labelled.Label.{label_test, label_initialiser, label_locals, label_stmt, label_stmts, label_block, names_behind}
+use Rattle.cilk_load.specs.labelled.Label.{stmt_variables}
+use Rattle.cilk_load.specs.labelled.Label.{locals_variables}
+use Rattle.cilk_load.specs.nodes.Table.{number_of}
+use Rattle.cilk_load.specs.nodes.Plain.{PlainLocals, PlainStmt, PlainStmts, PlainBlock}
+use Rattle.cilk_load.proofs.nodes_laws.Opens.{opened-pieces}
+use Rattle.cilk_load.specs.resolve.Firsts.{first_if, block_first, locals_first}
+use Rattle.cilk_load.proofs.resolve_laws.Begins.{first_if-some}
 
 positive : (n : ℕ) → nat_eq n 0 ≡ false → 0 < n
 positive n e = elim (cases_eq n 0) [ inl z ↦ absurd (false≢true (sym e ∙ (Decides-eqb n 0).1 z)) | inr z ↦ above n z ]

@@ -4,32 +4,32 @@ use Rattle.std.specs.Prelude.{filter_map}
 use Rattle.std.proofs.lemmas.List.Elements.{filter_map-append}
 use Rattle.cilk_check.specs.syntax.Tree as tree
 use Rattle.cilk_check.specs.syntax.Tree.{Word}
-use Rattle.cilk_load_numbering.specs.eval.declared.slot.Slot.{Slot}
-use Rattle.cilk_load_numbering.specs.labelled.Labelled.{Declaration, local, Numbered, Stmts}
-use Rattle.cilk_load_numbering.specs.labelled.Items.{Round, piece, at_test, at_advance, at_end, Items, pieces, opened, past_mark, from_mark, behind_label}
-use Rattle.cilk_load_numbering.specs.labelled.Items.{selected}
-use Rattle.cilk_load_numbering.specs.labelled.Names.{Names, with_local, entered}
-use Rattle.cilk_load_numbering.specs.labelled.Count.{count_option, count_shape, count_stmt, count_stmts, count_locals, count_block}
-use Rattle.cilk_load_numbering.specs.labelled.Label.{numbered, single, label_move, label_part, label_test, label_initialiser, label_locals}
-use Rattle.cilk_load_numbering.specs.labelled.Label.{label_stmt, label_stmts}
-use Rattle.cilk_load_numbering.specs.labelled.Label.{label_block, names_behind, stmt_variables, block_variables, locals_variables}
-use Rattle.cilk_load_numbering.specs.nodes.declared.action.Action as action
-use Rattle.cilk_load_numbering.specs.nodes.declared.action.Action.TheVariants.{Print, Locking, Test}
-use Rattle.cilk_load_numbering.specs.nodes.declared.node.Node.{Node}
-use Rattle.cilk_load_numbering.specs.nodes.declared.var.Var.{Var}
-use Rattle.cilk_load_numbering.specs.nodes.Actions.{slotted}
-use Rattle.cilk_load_numbering.specs.nodes.Table.{number_of, label_cases, node_over, first_lists, advance_lists, round_of, stmt_lists, stmts_lists}
-use Rattle.cilk_load_numbering.specs.nodes.Plain.{PlainLocals, PlainStmt, PlainStmts, PlainBlock}
-use Rattle.cilk_load_numbering.proofs.nodes_laws.Opens.{past-pieces, from-pieces}
-use Rattle.cilk_load_numbering.specs.declared.exits.Exits.{Exits}
-use Rattle.cilk_load_numbering.specs.resolve.Scope.{Scope, declared}
-use Rattle.cilk_load_numbering.specs.resolve.Acts.{move_in, code_in}
-use Rattle.cilk_load_numbering.specs.resolve.Firsts.{first_if, locals_first}
-use Rattle.cilk_load_numbering.specs.Pass.{var_slot, bound_var, node, switch_test, onward, exits_to, part_nodes, shape_nodes, locals_scope}
-use Rattle.cilk_load_numbering.specs.Pass.{locals_nodes, stmt_nodes, stmts_nodes, block_nodes}
+use Rattle.cilk_load.specs.eval.declared.slot.Slot.{Slot}
+use Rattle.cilk_load.specs.labelled.Labelled.{Declaration, local, Numbered, Stmts}
+use Rattle.cilk_load.specs.labelled.Items.{Round, piece, at_test, at_advance, at_end, Items, pieces, opened, past_mark, from_mark, behind_label}
+use Rattle.cilk_load.specs.labelled.Items.{selected}
+use Rattle.cilk_load.specs.labelled.Names.{Names, with_local, entered}
+use Rattle.cilk_load.specs.labelled.Count.{count_option, count_shape, count_stmt, count_stmts, count_locals, count_block}
+use Rattle.cilk_load.specs.labelled.Label.{numbered, single, label_move, label_part, label_test, label_initialiser, label_locals}
+use Rattle.cilk_load.specs.labelled.Label.{label_stmt, label_stmts}
+use Rattle.cilk_load.specs.labelled.Label.{label_block, names_behind, stmt_variables, block_variables, locals_variables}
+use Rattle.cilk_load.specs.nodes.declared.action.Action as action
+use Rattle.cilk_load.specs.nodes.declared.action.Action.TheVariants.{Print, Locking, Test}
+use Rattle.cilk_load.specs.nodes.declared.node.Node.{Node}
+use Rattle.cilk_load.specs.nodes.declared.var.Var.{Var}
+use Rattle.cilk_load.specs.nodes.Actions.{slotted}
+use Rattle.cilk_load.specs.nodes.Table.{number_of, label_cases, node_over, first_lists, advance_lists, round_of, stmt_lists, stmts_lists}
+use Rattle.cilk_load.specs.nodes.Plain.{PlainLocals, PlainStmt, PlainStmts, PlainBlock}
+use Rattle.cilk_load.proofs.nodes_laws.Opens.{past-pieces, from-pieces}
+use Rattle.cilk_load.specs.declared.exits.Exits.{Exits}
+use Rattle.cilk_load.specs.resolve.Scope.{Scope, declared}
+use Rattle.cilk_load.specs.resolve.Acts.{move_in, code_in}
+use Rattle.cilk_load.specs.resolve.Firsts.{first_if, locals_first}
+use Rattle.cilk_load.specs.Pass.{var_slot, bound_var, node, switch_test, onward, exits_to, part_nodes, shape_nodes, locals_scope}
+use Rattle.cilk_load.specs.Pass.{locals_nodes, stmt_nodes, stmts_nodes, block_nodes}
 use Rattle.cilk_load.proofs.Found.{Agree, agree-declared, agree-entered}
 use Rattle.cilk_load.proofs.Actions.{number-is, code-is, codes-are, move-is, spawn-is, return-is, initialiser-is}
-use Rattle.cilk_load.proofs.Labels.{block-cases, block-default}
+use Rattle.cilk_load.proofs.LabelLaws.{block-cases, block-default}
 use Rattle.cilk_load.proofs.Starts.{block-pieces, stmts-pieces, locals-pieces}
 
 -- where these items lead, by numbers

@@ -1,14 +1,14 @@
 -- The tables of a program are what its meaning says.
 use Rattle.std.specs.Prelude.{◌≡◌, ℕ, suc, ◌≤◌, List, Some, None, length, map, slice_get}
 use Rattle.cilk_check.specs.syntax.Tree as tree
-use Rattle.cilk_load_numbering.specs.labelled.Bodies.{label}
-use Rattle.cilk_load_numbering.specs.labelled.Count.{count_program}
-use Rattle.cilk_load_numbering.specs.labelled.Lines.{action_lines}
-use Rattle.cilk_load_numbering.specs.nodes.declared.node.Node.{Node}
-use Rattle.cilk_load_numbering.specs.nodes.declared.var.Var.{Var}
-use Rattle.cilk_load_numbering.specs.nodes.declared.body.Body.{Body}
-use Rattle.cilk_load_numbering.specs.nodes.Table.{node_of}
-use Rattle.cilk_load_numbering.specs.nodes.Bodies.{body_table, globals_of, locks_of}
+use Rattle.cilk_load.specs.labelled.Bodies.{label}
+use Rattle.cilk_load.specs.labelled.Count.{count_program}
+use Rattle.cilk_load.specs.labelled.Lines.{action_lines}
+use Rattle.cilk_load.specs.nodes.declared.node.Node.{Node}
+use Rattle.cilk_load.specs.nodes.declared.var.Var.{Var}
+use Rattle.cilk_load.specs.nodes.declared.body.Body.{Body}
+use Rattle.cilk_load.specs.nodes.Table.{node_of}
+use Rattle.cilk_load.specs.nodes.Bodies.{body_table, globals_of, locks_of}
 
 pub record Tabled (p : tree.Program) (nodes : List Node) (lines : List ℕ) (bodies : List Body) (main : ℕ) (globals locks : List Var) : Type 0 where
   -- the numbers of actions go from 1 on

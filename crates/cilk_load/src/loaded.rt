@@ -2,25 +2,31 @@
 
 ghost use Rattle.std.specs.Prelude.{◌≡◌, ◌≤◌, ◌↔◌, IsSome, IfOk, Some, option_copied, string_bytes};
 ghost use Rattle.std.specs.Arc.{arc_value};
-ghost use Rattle.cilk_load_numbering.specs.syntax.ProgramText.{program_text};
+ghost use Rattle.cilk_load.specs.syntax.ProgramText.{program_text};
 ghost use Rattle.cilk_check.specs.scopes.WellFormed.{WellFormed};
-ghost use Rattle.cilk_load_numbering.specs.labelled.Bodies.{label};
-ghost use Rattle.cilk_load_numbering.specs.labelled.Count.{count_program};
-ghost use Rattle.cilk_load_numbering.specs.model.End as runs;
-ghost use Rattle.cilk_load_numbering.specs.nodes.Table.{node_of};
-ghost use Rattle.cilk_load_numbering.specs.nodes.Bodies.{body_of, globals_of, locks_of};
+ghost use Rattle.cilk_load.specs.labelled.Bodies.{label};
+ghost use Rattle.cilk_load.specs.labelled.Count.{count_program};
+ghost use Rattle.cilk_load.specs.model.End as runs;
+ghost use Rattle.cilk_load.specs.nodes.Table.{node_of};
+ghost use Rattle.cilk_load.specs.nodes.Bodies.{body_of, globals_of, locks_of};
 
 use crate::tables::Tables;
-use cilk_load_numbering::{Body, Memory, Node, Program, Var};
+use cilk_load_names::{Body, Memory, Node, Program, Var};
 use cilk_tree::canonical;
 use std::marker::Model;
 use std::sync::Arc;
 
 /// A program that is ready to run, which contracts see as the program's tree. Copies share their
 /// tables, which nobody changes.
-#[derive(Drop)]
 pub struct Loaded {
     tables: Arc<Tables>,
+}
+
+// To drop it elsewhere is to call this, and its parts' drops are proved here alone.
+impl Drop for Loaded {
+    fn drop(self) {
+        let Loaded { tables: _tables } = self;
+    }
 }
 
 impl Model for Loaded {

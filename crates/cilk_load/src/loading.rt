@@ -1,14 +1,17 @@
 //! How the tables of a checked program are made.
 
 ghost use Rattle.std.specs.Prelude.{◌≡◌, ◌<◌, ◌≤◌, ◌↔◌, true, IfOk};
-ghost use Rattle.cilk_load_numbering.specs.labelled.Count.{count_program};
+ghost use Rattle.cilk_load.specs.labelled.Count.{count_program};
 
+use crate::building::{bodies_of, place_of_main};
 use crate::fault::LoadFault;
+use crate::globals::{globals_of, locks_of};
+use crate::lines::action_lines;
 use crate::loaded::Loaded;
+use crate::nodes::nodes_of;
 use crate::tables::Tables;
 use cilk_check::Checked;
-use cilk_load_layout::{action_lines, bodies_of, globals_of, locks_of, place_of_main};
-use cilk_load_numbering::{MAX_ACTIONS, NoRoom, Program, count_items, nodes_of};
+use cilk_load_names::{MAX_ACTIONS, NoRoom, Program, count_items};
 use std::alloc::Global;
 use std::sync::Arc;
 

@@ -7,7 +7,6 @@ use crate::action::Action;
 use crate::cases::Cases;
 
 /// One action of a program.
-#[derive(Drop)]
 pub struct Node {
     pub action: Action,
     /// The number of the action that comes next, if any comes in this body; of a test, where its value is not 0.
@@ -18,6 +17,19 @@ pub struct Node {
     pub cases: Cases,
     /// The number of the body in which it stands, from 0 on. The bodies of a procedure's inlets come behind its own.
     pub body: u32,
+}
+
+// To drop it elsewhere is to call this, and its parts' drops are proved here alone.
+impl Drop for Node {
+    fn drop(self) {
+        let Node {
+            action: _action,
+            next: _,
+            other: _,
+            cases: _cases,
+            body: _,
+        } = self;
+    }
 }
 
 impl Node {

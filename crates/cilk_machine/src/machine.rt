@@ -15,6 +15,7 @@ ghost use Rattle.cilk_machine.specs.Situation.{workers_of};
 ghost use Rattle.cilk_machine.specs.Stands.{Led, StandsAt, Opens};
 ghost use Rattle.cilk_machine.specs.Globals.{global_of};
 
+mod ahead;
 mod comparing;
 mod idling;
 mod imaging;

@@ -4,7 +4,6 @@ use crate::spent::Spent;
 use cilk_machine_plan::{Hands, Lock, Tree};
 
 /// What a step may change.
-#[derive(Drop)]
 pub struct Parts {
     /// The cells of the variables of the top level.
     pub globals: Vec<i32>,
@@ -15,4 +14,18 @@ pub struct Parts {
     pub hands: Hands,
     /// What the last step moved out of these.
     pub spent: Spent,
+}
+
+// To drop it elsewhere is to call this, and its parts' drops are proved here alone.
+impl Drop for Parts {
+    fn drop(self) {
+        let Parts {
+            globals: _globals,
+            locks: _locks,
+            output: _output,
+            tree: _tree,
+            hands: _hands,
+            spent: _spent,
+        } = self;
+    }
 }

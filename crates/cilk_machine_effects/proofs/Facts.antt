@@ -19,8 +19,8 @@ use Rattle.cilk_check.specs.scopes.declared.role.Role.TheVariants as role
 use Rattle.cilk_check.specs.scopes.Uses.{Use, part_uses, uses_of}
 use Rattle.cilk_check.specs.scopes.NameFaults as names
 use Rattle.cilk_check.specs.scopes.NameFaults.{fits, arguments_of, parameters_of, is_for_value, Means}
-use Rattle.cilk_check.specs.rules_of_names.Finds.{is_reserved}
-use Rattle.cilk_check.proofs.rules_of_names_laws.Decided.{reserved-Decides, not_from}
+use Rattle.cilk_check.specs.NameFinds.{is_reserved}
+use Rattle.cilk_check.proofs.Decided.{reserved-Decides, not_from}
 use Rattle.cilk_check.specs.scopes.Format.{numbers_in}
 use Rattle.cilk_check.specs.scopes.Cells.{is_length}
 use Rattle.cilk_check.specs.scopes.Forms as forms

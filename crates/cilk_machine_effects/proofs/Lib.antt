@@ -21,6 +21,4 @@ pub mod Printed
 pub mod Same
 pub mod Shapes
 pub use Rattle.cilk_check.proofs as check_laws
-pub use Rattle.cilk_check.proofs.rules_of_forms_laws
-pub use Rattle.cilk_check.proofs.rules_of_names_laws
 pub use Rattle.cilk_spawn.proofs.frame_laws

@@ -15,8 +15,8 @@ use Rattle.cilk_check.proofs.scopes_laws.Elements.{Has, Has-append_left, Has-app
 use Rattle.cilk_check.specs.scopes.NameFaults as names
 use Rattle.cilk_check.specs.scopes.Forms as forms
 use Rattle.cilk_check.specs.scopes.Forms.{IsMain, are_of_main}
-use Rattle.cilk_check.specs.rules_of_forms.Finds.{starts}
-use Rattle.cilk_check.proofs.rules_of_forms_laws.Mains.{Started, started, starts_where}
+use Rattle.cilk_check.specs.FormFinds.{starts}
+use Rattle.cilk_check.proofs.Mains.{Started, started, starts_where}
 use Rattle.cilk_check.specs.scopes.WellFormed.{WellFormed}
 use Rattle.cilk_spawn.specs.labelled.Labelled.{Body, Variable}
 use Rattle.cilk_spawn.specs.labelled.Names.{Names}

@@ -6,8 +6,6 @@ pub mod Fits
 pub mod Effects
 pub mod Slotted
 pub use Rattle.cilk_check.specs as check
-pub use Rattle.cilk_check.specs.rules_of_forms
-pub use Rattle.cilk_check.specs.rules_of_names
 pub use Rattle.cilk_check.specs.syntax
 pub use Rattle.cilk_spawn.specs.frame
 pub use Rattle.cilk_spawn.specs.eval

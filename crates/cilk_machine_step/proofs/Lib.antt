@@ -1,3 +1,9 @@
+pub mod Numbers
+pub mod Renamed
+pub mod Seen
+pub mod Acts
+pub mod Shown
+pub mod Holding
 pub mod Waits
 pub mod Ways
 pub mod Left

@@ -61,7 +61,7 @@ pub(crate) fn at_boundary(scene: &Scene, node: &Node) -> bool
 {
     scene.is_outer()
         && (scene.frame.at_boundary()
-            || matches!(node.action, Action::Sync)
+            || matches!(&node.action, Action::Sync)
             || leaves(&node.action))
 }
 
@@ -258,7 +258,7 @@ pub(crate) fn leaves(action: &Action) -> bool
 fn waits_here(scene: &Scene, node: &Node) -> bool
     ensures { result ≡ waits_here (input_of scene.now) node.now }
 {
-    scene.is_outer() && (matches!(node.action, Action::Sync) || leaves(&node.action))
+    scene.is_outer() && (matches!(&node.action, Action::Sync) || leaves(&node.action))
 }
 
 /// Whether a Cilk thread or an inlet ends there.

@@ -18,7 +18,7 @@ pub(crate) enum Coming<'a> {
     /// It was aborted: it waits for its children, and then ends.
     End,
     /// Nothing, since its top activation stands at a number that is no action's; its step waits then. No choices lead a checked program there
-    /// (`cilk_laws_runs::heads::each_instance_has_a_head`), but a frame that a caller made may stand anywhere.
+    /// (`cilk_laws::heads::each_instance_has_a_head`), but a frame that a caller made may stand anywhere.
     Nothing,
     /// It takes a delivery.
     Delivery(&'a Delivery),

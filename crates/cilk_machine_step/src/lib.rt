@@ -1,27 +1,39 @@
-//! The step of an instance, planned before anything is changed.
+//! The step of an instance, planned before anything is changed; and which cells the next step reads and writes.
 #![tactic(auto)]
 
+mod access;
 mod act;
+mod cell_laws;
 mod coming;
 mod delivery;
 mod laws;
 mod leaving;
 mod light;
+mod locks;
 mod look;
+mod next;
 mod peek;
 mod plan;
 mod privacy;
+mod read;
+mod reading;
 mod scene;
+mod spotting;
+mod touching;
 mod waiting;
 
+pub use access::{Access, Spot};
+pub use cell_laws::accesses_are_shown;
 pub use cilk_eval::{Code, Known, Listed};
 pub use cilk_load::{LoadFault, Loaded, Memory, Trap, load};
-pub use cilk_machine_plan::{Light, Plan, TrapKind};
+pub use cilk_machine_plan::{Light, Path, Plan, TrapKind};
 pub use laws::scenes_fit;
 pub use light::plan_lightly;
+pub use locks::locks_in;
 pub use look::{
     code_numbered, is_seen, is_still_seen, look_ahead, number_ahead, plan_by_value, take_down,
 };
+pub use next::{accesses_in, number_in};
 pub use peek::Peek;
 pub use plan::plan_step;
 pub use privacy::is_private;

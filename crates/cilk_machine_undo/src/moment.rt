@@ -10,7 +10,6 @@ use std::marker::Model;
 
 /// What parts were at one moment. What had ended then and what was printed takes no memory here, however long the program ran:
 /// later parts tell both. It shares no frame with the parts.
-#[derive(Drop)]
 pub struct Moment {
     living: LivingImage,
     hands: HandsImage,
@@ -18,6 +17,19 @@ pub struct Moment {
     locks: Vec<Lock>,
     /// How many bytes were printed.
     printed: usize,
+}
+
+// To drop it elsewhere is to call this, and its parts' drops are proved here alone.
+impl Drop for Moment {
+    fn drop(self) {
+        let Moment {
+            living: _living,
+            hands: _hands,
+            globals: _globals,
+            locks: _locks,
+            printed: _,
+        } = self;
+    }
 }
 
 impl Model for Moment {

@@ -7,13 +7,25 @@ use cilk_machine_carry::{Hands, HandsImage, Lock, Memory, Parts, Spent, Tree, Tr
 use std::marker::Model;
 
 /// What parts were, from which parts are made again. It shares no frame with them.
-#[derive(Drop)]
 pub struct PartsImage {
     tree: TreeImage,
     hands: HandsImage,
     globals: Vec<i32>,
     locks: Vec<Lock>,
     output: Vec<u8>,
+}
+
+// To drop it elsewhere is to call this, and its parts' drops are proved here alone.
+impl Drop for PartsImage {
+    fn drop(self) {
+        let PartsImage {
+            tree: _tree,
+            hands: _hands,
+            globals: _globals,
+            locks: _locks,
+            output: _output,
+        } = self;
+    }
 }
 
 impl Model for PartsImage {

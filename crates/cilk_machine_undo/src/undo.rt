@@ -18,11 +18,21 @@ pub struct Ended {
 }
 
 /// An instance that ended: the locks that it held, whether its value went to its parent, and what is left of it.
-#[derive(Drop)]
 pub struct Gone {
     pub held: Vec<usize>,
     pub sent: bool,
     pub ended: Option<Ended>,
+}
+
+// To drop it elsewhere is to call this, and its parts' drops are proved here alone.
+impl Drop for Gone {
+    fn drop(self) {
+        let Gone {
+            held: _held,
+            sent: _,
+            ended: _ended,
+        } = self;
+    }
 }
 
 /// What one choice changed. A box is made before the choice, and takes what is moved out of the machine: it holds nothing

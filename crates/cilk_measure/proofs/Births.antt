@@ -61,6 +61,9 @@ module _ (program : Labelled) (ns now : List Node) (events : List Event) (e : Ev
       ∙ Rattle.std.proofs.Common.length-append (made events) (born e)
       ∙ ap (λ n. n + length (born e)) (sym (made-length program ns events before))
 
+  pub grows : length ns ≤ length now
+  grows = let all = sum in omega (arith, all)
+
   pub stays : (i : ℕ) → i < length ns → path_at now i ≡ path_at ns i
   stays i h =
       let size = made-length program ns events before in
@@ -88,6 +91,7 @@ pub record Parented (ns now : List Node) (c : Path) : Type 0 where
   pub at : ℕ
   pub is : (node_at now (length ns)).parent ≡ Some at
   pub within : at < length ns
+  pub path : c ≡ child_path (path_at ns at) (node_at now (length ns)).ordinal
   pub parent : parent_of c ≡ Some (path_at ns at)
   pub long : length c ≡ suc (length (path_at ns at))
 
@@ -106,6 +110,7 @@ parented-by ns now c tree after size last same (Some p) e =
       at = p;
       is = e;
       within = low;
+      path = path;
       parent = ap parent_of path ∙ parent-child (path_at ns p) (node_at now (length ns)).ordinal;
       long = ap length path ∙ length_push (path_at ns p) (node_at now (length ns)).ordinal ∙ omega arith;
     }

@@ -5,11 +5,11 @@ use Rattle.std.proofs.Common.{refl, sym, ap, ◌∙◌, subst, arith}
 use Rattle.cilk_debug.specs.machine.labelled.Labelled.{Labelled}
 use Rattle.cilk_debug.specs.machine.model.Path.{Path, same_path}
 use Rattle.cilk_debug.specs.machine.model.Event.{Event, acted, spawned, delivered, returned, ended, trapped, moved}
-use Rattle.cilk_events.specs.Acts.{act_of}
-use Rattle.cilk_events.specs.Inside.{Inside, outside, without_top, by_kind, by_act, by_entry, by_value, parent_path, inside_by, inside_from, inside_of}
-use Rattle.cilk_events.specs.Steps.{Step, listed, step_of, steps_from, steps_of}
-use Rattle.cilk_events.specs.Span.{Ranked, follows, top, ranked, ranked_from, all_ranked}
-use Rattle.cilk_events.proofs.Tops.{if_so, top-push}
+use Rattle.cilk_measure.specs.Acts.{act_of}
+use Rattle.cilk_measure.specs.Inside.{Inside, outside, without_top, by_kind, by_act, by_entry, by_value, parent_path, inside_by, inside_from, inside_of}
+use Rattle.cilk_measure.specs.Steps.{Step, listed, step_of, steps_from, steps_of}
+use Rattle.cilk_measure.specs.Span.{Ranked, follows, top, ranked, ranked_from, all_ranked}
+use Rattle.cilk_measure.proofs.Tops.{if_so, top-push}
 use Rattle.cilk_measure.specs.Cells.{next}
 
 pub next-is : (n : ℕ) → n < 2 ^ 64 - 1 → next n ≡ suc n

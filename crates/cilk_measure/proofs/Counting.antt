@@ -18,10 +18,10 @@ use Rattle.cilk_debug.specs.machine.choices.Words.{act_of, choice_of}
 use Rattle.cilk_debug.specs.machine.carries.declared.did.Did.{Did}
 use Rattle.cilk_debug.specs.machine.carries.declared.did.Did.TheVariants as did
 use Rattle.cilk_debug.specs.machine.carries.Words.{event_by}
-use Rattle.cilk_events.specs.Deeds.{Deed, is_step, only_moves, is_work, is_park, pops, steals, is_work_of, is_spawn, puts}
-use Rattle.cilk_events.specs.Deeds.{takes_out, in_deque}
-use Rattle.cilk_events.specs.Measure.{most}
-use Rattle.cilk_events.proofs.Pushes.{most-push, most-last}
+use Rattle.cilk_measure.specs.Deeds.{Deed, is_step, only_moves, is_work, is_park, pops, steals, is_work_of, is_spawn, puts}
+use Rattle.cilk_measure.specs.Deeds.{takes_out, in_deque}
+use Rattle.cilk_measure.specs.Measure.{most}
+use Rattle.cilk_measure.proofs.Pushes.{most-push, most-last}
 use Rattle.cilk_measure.specs.declared.seat.Seat.{Seat}
 use Rattle.cilk_measure.specs.Cells.{next}
 use Rattle.cilk_measure.specs.Seats.{no_seat, seat_at, worked, drawn, at_worker, Counts, no_counts, is_moved, is_spawned, act_after, counts_after}

@@ -9,10 +9,10 @@ use Rattle.cilk_debug.specs.machine.model.Change.{leaves, is_sync}
 use Rattle.cilk_debug.specs.machine.model.Event.{Event, acted, spawned, delivered, returned, ended, trapped}
 use Rattle.cilk_debug.specs.machine.model.Made.{born}
 use Rattle.cilk_debug.proofs.machine_laws.spawn_laws.Paths.{same_self}
-use Rattle.cilk_events.specs.Acts.{act_of, is_call, goes_through, is_so}
-use Rattle.cilk_events.specs.Inside.{Inside, without_top, by_kind, by_act, by_entry, by_value, parent_path, inside_by, inside_of}
-use Rattle.cilk_events.specs.Steps.{Step, step_at, step_within, step_of}
-use Rattle.cilk_events.proofs.Pushes.{inside-push}
+use Rattle.cilk_measure.specs.Acts.{act_of, is_call, goes_through, is_so}
+use Rattle.cilk_measure.specs.Inside.{Inside, without_top, by_kind, by_act, by_entry, by_value, parent_path, inside_by, inside_of}
+use Rattle.cilk_measure.specs.Steps.{Step, step_at, step_within, step_of}
+use Rattle.cilk_measure.proofs.Pushes.{inside-push}
 use Rattle.cilk_measure.specs.declared.cell.Cell.{Cell}
 use Rattle.cilk_measure.specs.declared.motion.Motion.{Motion}
 use Rattle.cilk_measure.specs.Cells.{cell_at, next}

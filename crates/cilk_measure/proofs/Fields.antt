@@ -2,7 +2,7 @@
 use Rattle.std.proofs.Common.{◌⊎◌, ◌≡◌, ◌<◌, ℕ, Bool, true, false, ◌&&◌, nat_eq, if◌then◌else◌, max, List, length, Option, Some, None}
 use Rattle.std.proofs.Common.{is_some, is_none, refl, sym, ap, ◌∙◌, subst, arith, inl, inr, slice_set, length-set, get_or-set_same, get_or-set_other}
 use Rattle.std.proofs.lemmas.Bool.{cases_eq, eq-eqb, ne_eqb}
-use Rattle.cilk_events.proofs.Tops.{if_so}
+use Rattle.cilk_measure.proofs.Tops.{if_so}
 use Rattle.cilk_measure.specs.declared.cell.Cell.{Cell}
 use Rattle.cilk_measure.specs.declared.edge.Edge.TheVariants.{Taken, Joined}
 use Rattle.cilk_measure.specs.declared.motion.Motion.{Motion}

@@ -29,12 +29,12 @@ use Rattle.cilk_debug.proofs.machine_laws.spawn_laws.Trees.{names}
 use Rattle.cilk_debug.proofs.machine_laws.runs_laws.Fates.{each_choice_is_an_event}
 use Rattle.cilk_debug.specs.Tape.{Tape, did_by, did_at, IsAt}
 use Rattle.cilk_debug.proofs.Again.{led_in, step_down, chosen}
-use Rattle.cilk_events.specs.Acts.{act_of, is_so}
-use Rattle.cilk_events.specs.Inside.{parent_path}
-use Rattle.cilk_events.specs.Steps.{Step, step_at, step_within}
-use Rattle.cilk_events.specs.Deeds.{Deed, deeds_of, is_work_of, in_deque}
-use Rattle.cilk_events.specs.Measure.{greatest, most, is_end, depth_of}
-use Rattle.cilk_events.proofs.Pushes.{deeds-push}
+use Rattle.cilk_measure.specs.Acts.{act_of, is_so}
+use Rattle.cilk_measure.specs.Inside.{parent_path}
+use Rattle.cilk_measure.specs.Steps.{Step, step_at, step_within}
+use Rattle.cilk_measure.specs.Deeds.{Deed, deeds_of, is_work_of, in_deque}
+use Rattle.cilk_measure.specs.Measure.{greatest, most, is_end, depth_of}
+use Rattle.cilk_measure.proofs.Pushes.{deeds-push}
 use Rattle.cilk_measure.specs.declared.cell.Cell.{Cell}
 use Rattle.cilk_measure.specs.declared.gauge.Gauge.{Gauge}
 use Rattle.cilk_measure.specs.declared.motion.Motion.{Motion}
@@ -199,7 +199,7 @@ module _ (t : Tape) (k : ℕ) (m n : Situation) (at : IsAt t k m) (next : IsAt t
       goes-by choice (is_none (refusal_of (label t.program) at.at.standing choice)) refl
       (sym (step_down t k choice is ∙ ap (one_more (label t.program) choice) (led_in t k m at)) ∙ led_in t (suc k) n next)
 
-  did-is : (choice : model.Choice) (e : Event) → slice_get t.choices k ≡ Some choice → did_at t k ≡ Some e
+  pub did-is : (choice : model.Choice) (e : Event) → slice_get t.choices k ≡ Some choice → did_at t k ≡ Some e
       → event_of (label t.program) at.at.standing choice ≡ e
   did-is choice e is does =
       let same : Some (event_of (label t.program) at.at.standing choice) ≡ Some e =
@@ -215,7 +215,7 @@ module _ (t : Tape) (k : ℕ) (m n : Situation) (at : IsAt t k m) (next : IsAt t
       ∙ (λ j. events_in (sym (led_in t k m at) j) ++ did-is choice e is does j ∷ [])
 
 -- so many events as choices
-events-long : (t : Tape) (k : ℕ) (m : Situation) → IsAt t k m → k ≤ length t.choices → length (events_at t k) ≡ k
+pub events-long : (t : Tape) (k : ℕ) (m : Situation) → IsAt t k m → k ≤ length t.choices → length (events_at t k) ≡ k
 events-long t k m at low =
     ap (λ (o : Option Position). length (events_in o)) (led_in t k m at)
     ∙ each_choice_is_an_event (label m.program) (workers_of m) (take k t.choices)
@@ -272,7 +272,7 @@ gauged-next t xs k old new same within few at next done kept =
     }
 
 -- before any choice
-first-held : (program : Labelled) (ns : List Node) → IsTree ns → Fated program ns [] → Held program (path_at ns) (length ns) [] first
+pub first-held : (program : Labelled) (ns : List Node) → IsTree ns → Fated program ns [] → Held program (path_at ns) (length ns) [] first
 first-held program ns tree fated =
     let size : length ns ≡ 1 = made-length program ns [] fated in
     let some = tree.some in

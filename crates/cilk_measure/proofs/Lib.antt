@@ -1,3 +1,5 @@
+pub mod Tops
+pub mod Pushes
 pub mod Ids
 pub mod Lefts
 pub mod Fields
@@ -9,5 +11,9 @@ pub mod Followed
 pub mod Totals
 pub mod Counting
 pub mod Births
+pub mod Moving
 pub mod Gauges
 pub mod Lines
+mod Natures
+mod Once
+pub use Rattle.cilk_debug.proofs as debug_laws

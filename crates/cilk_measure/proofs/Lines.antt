@@ -1,8 +1,8 @@
 -- The greatest number of frames that were in one deque.
 use Rattle.std.proofs.Common.{◌≡◌, ◌<◌, ℕ, ◌+◌, max, List, map, take, length, ap, ◌∙◌}
 use Rattle.std.proofs.lemmas.List.{take_more, map_push}
-use Rattle.cilk_events.specs.Measure.{greatest}
-use Rattle.cilk_events.proofs.Pushes.{greatest-push}
+use Rattle.cilk_measure.specs.Measure.{greatest}
+use Rattle.cilk_measure.proofs.Pushes.{greatest-push}
 use Rattle.cilk_measure.specs.declared.seat.Seat.{Seat}
 use Rattle.cilk_measure.specs.Seats.{seat_at, no_seat, longest_in}
 

@@ -4,11 +4,11 @@ use Rattle.std.proofs.lemmas.List.{append-nil, length_push}
 use Rattle.cilk_debug.specs.machine.labelled.Labelled.{Labelled}
 use Rattle.cilk_debug.specs.machine.model.Path.{Path, same_path, parent_of}
 use Rattle.cilk_debug.specs.machine.model.Event.{Event}
-use Rattle.cilk_events.specs.Inside.{Inside, inside_by, inside_of}
-use Rattle.cilk_events.specs.Steps.{Step, listed, step_of, steps_of}
-use Rattle.cilk_events.specs.Span.{is_of_thread, is_joined, takes, top, all_ranked}
-use Rattle.cilk_events.specs.Measure.{depth_of}
-use Rattle.cilk_events.proofs.Pushes.{inside-push, steps-push}
+use Rattle.cilk_measure.specs.Inside.{Inside, inside_by, inside_of}
+use Rattle.cilk_measure.specs.Steps.{Step, listed, step_of, steps_of}
+use Rattle.cilk_measure.specs.Span.{is_of_thread, is_joined, takes, top, all_ranked}
+use Rattle.cilk_measure.specs.Measure.{depth_of}
+use Rattle.cilk_measure.proofs.Pushes.{inside-push, steps-push}
 use Rattle.cilk_measure.specs.declared.cell.Cell.{Cell}
 use Rattle.cilk_measure.specs.Cells.{cell_at}
 use Rattle.cilk_measure.specs.Kept.{Keeps, Known, Each, rank_of}

@@ -11,12 +11,12 @@ use Rattle.cilk_debug.specs.machine.model.Event.{Event}
 use Rattle.cilk_debug.specs.machine.model.Made.{made, born}
 use Rattle.cilk_debug.specs.machine.carries.declared.did.Did.{Did}
 use Rattle.cilk_debug.proofs.machine_laws.agree_laws.Made.{made-more}
-use Rattle.cilk_events.specs.Inside.{Inside, inside_by, inside_of}
-use Rattle.cilk_events.specs.Steps.{Step, listed, step_of, steps_of}
-use Rattle.cilk_events.specs.Span.{span_of}
-use Rattle.cilk_events.specs.Measure.{greatest, most, is_end, living, depth_of, bodies_at}
-use Rattle.cilk_events.proofs.Pushes.{steps-push, greatest-push, most-push, most-last}
-use Rattle.cilk_events.proofs.Tops.{span-more}
+use Rattle.cilk_measure.specs.Inside.{Inside, inside_by, inside_of}
+use Rattle.cilk_measure.specs.Steps.{Step, listed, step_of, steps_of}
+use Rattle.cilk_measure.specs.Span.{span_of}
+use Rattle.cilk_measure.specs.Measure.{greatest, most, is_end, living, depth_of, bodies_at}
+use Rattle.cilk_measure.proofs.Pushes.{steps-push, greatest-push, most-push, most-last}
+use Rattle.cilk_measure.proofs.Tops.{span-more}
 use Rattle.cilk_measure.specs.declared.motion.Motion.{Motion}
 use Rattle.cilk_measure.specs.Cells.{cell_at, next}
 use Rattle.cilk_measure.specs.Tallies.{Tally, highest, settled, child_cell, plus, stepped_by, stepped, is_ending, ended_after, counted}

@@ -8,7 +8,7 @@ use Rattle.cilk_debug.specs.machine.spawn.Nodes.{path_at}
 use Rattle.cilk_debug.specs.machine.carries.declared.did.Did.{Did}
 use Rattle.cilk_debug.specs.machine.carries.Words.{event_by}
 use Rattle.cilk_debug.specs.Tape.{Tape, position_at, did_at}
-use Rattle.cilk_events.specs.Measure.{Measure, measure_of}
+use Rattle.cilk_measure.specs.Measure.{Measure, measure_of}
 use Rattle.cilk_measure.specs.declared.gauge.Gauge.{Gauge}
 use Rattle.cilk_measure.specs.Tallies.{noted}
 use Rattle.cilk_measure.specs.Seats.{counts_after}

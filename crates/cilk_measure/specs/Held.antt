@@ -7,10 +7,10 @@ use Rattle.cilk_debug.specs.machine.model.Made.{made}
 use Rattle.cilk_debug.specs.machine.model.Path.{Path}
 use Rattle.cilk_debug.specs.machine.spawn.Nodes.{path_at}
 use Rattle.cilk_debug.specs.Tape.{Tape}
-use Rattle.cilk_events.specs.Steps.{steps_of}
-use Rattle.cilk_events.specs.Span.{span_of}
-use Rattle.cilk_events.specs.Deeds.{Deed, deeds_of, is_work, is_park, pops, steals, is_work_of, puts, takes_out, in_deque}
-use Rattle.cilk_events.specs.Measure.{greatest, most, is_end, living, depth_in, bodies_at}
+use Rattle.cilk_measure.specs.Steps.{steps_of}
+use Rattle.cilk_measure.specs.Span.{span_of}
+use Rattle.cilk_measure.specs.Deeds.{Deed, deeds_of, is_work, is_park, pops, steals, is_work_of, puts, takes_out, in_deque}
+use Rattle.cilk_measure.specs.Measure.{greatest, most, is_end, living, depth_in, bodies_at}
 use Rattle.cilk_measure.specs.declared.gauge.Gauge.{Gauge}
 use Rattle.cilk_measure.specs.declared.seat.Seat.{Seat}
 use Rattle.cilk_measure.specs.Tallies.{Tally}

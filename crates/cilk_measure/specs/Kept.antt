@@ -3,10 +3,10 @@ use Rattle.std.specs.Prelude.{⊤, ◌≡◌, ◌<◌, ◌≤◌, ◌+◌, ℕ, 
 use Rattle.cilk_debug.specs.machine.labelled.Labelled.{Labelled}
 use Rattle.cilk_debug.specs.machine.model.Path.{Path, same_path, parent_of}
 use Rattle.cilk_debug.specs.machine.model.Event.{Event}
-use Rattle.cilk_events.specs.Inside.{inside_of, outside}
-use Rattle.cilk_events.specs.Steps.{Step, steps_of}
-use Rattle.cilk_events.specs.Span.{is_of_thread, is_joined, takes, top, all_ranked}
-use Rattle.cilk_events.specs.Measure.{depth_of}
+use Rattle.cilk_measure.specs.Inside.{inside_of, outside}
+use Rattle.cilk_measure.specs.Steps.{Step, steps_of}
+use Rattle.cilk_measure.specs.Span.{is_of_thread, is_joined, takes, top, all_ranked}
+use Rattle.cilk_measure.specs.Measure.{depth_of}
 use Rattle.cilk_measure.specs.declared.cell.Cell.{Cell}
 use Rattle.cilk_measure.specs.Cells.{cell_at}
 

@@ -1,3 +1,12 @@
+pub mod Acts
+pub mod Nodes
+pub mod Inside
+pub mod Steps
+pub mod Span
+pub mod Deeds
+pub mod Measure
+pub mod Text
+pub mod Rows
 pub mod Cells
 pub mod Motions
 pub mod Tallies
@@ -6,5 +15,6 @@ pub mod Words
 pub mod Kept
 pub mod Gauged
 pub mod Held
+pub use Rattle.cilk_load.specs.nodes
+pub use Rattle.cilk_load.specs.model
 pub use Rattle.cilk_debug.specs as debug
-pub use Rattle.cilk_events.specs as events

@@ -7,7 +7,7 @@ use Rattle.cilk_debug.specs.machine.model.Change.{leaves, is_sync}
 use Rattle.cilk_debug.specs.machine.spawn.Nodes.{Node, node_at}
 use Rattle.cilk_debug.specs.machine.carries.declared.did.Did.{Did}
 use Rattle.cilk_debug.specs.machine.carries.declared.did.Did.TheVariants.{Moved, Acted, Spawned, Delivered, Returned, Ended, Trapped}
-use Rattle.cilk_events.specs.Acts.{act_of, is_call, goes_through, is_so}
+use Rattle.cilk_measure.specs.Acts.{act_of, is_call, goes_through, is_so}
 use Rattle.cilk_measure.specs.declared.cell.Cell.{Cell}
 use Rattle.cilk_measure.specs.declared.motion.Motion.{Motion}
 use Rattle.cilk_measure.specs.Cells.{cell_at, next}

@@ -6,7 +6,7 @@ use Rattle.cilk_debug.specs.machine.choices.declared.choice.Choice.{Choice}
 use Rattle.cilk_debug.specs.machine.choices.declared.act.Act.{Act}
 use Rattle.cilk_debug.specs.machine.choices.declared.act.Act.TheVariants.{Step, Pop, Steal}
 use Rattle.cilk_measure.specs.declared.seat.Seat.{Seat}
-use Rattle.cilk_events.specs.Measure.{Measure, greatest}
+use Rattle.cilk_measure.specs.Measure.{Measure, greatest}
 use Rattle.cilk_measure.specs.Cells.{next}
 use Rattle.cilk_measure.specs.Tallies.{Tally}
 

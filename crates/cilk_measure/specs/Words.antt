@@ -1,5 +1,5 @@
 -- What the code's numbers of a run mean.
-use Rattle.cilk_events.specs.Measure as model
+use Rattle.cilk_measure.specs.Measure as model
 use Rattle.cilk_measure.specs.declared.measure.Measure.{Measure}
 
 abbrev pub numbers_of : Measure → model.Measure

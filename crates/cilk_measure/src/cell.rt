@@ -5,7 +5,7 @@ ghost use Rattle.cilk_measure.specs.Cells.{cell_at, next, no_cell};
 
 /// What is kept of an instance. Instances go by their places in the order of birth, which are their ids.
 #[derive(Clone, Copy)]
-pub(crate) struct Cell {
+pub struct Cell {
     /// Its parent; the root has none.
     pub parent: Option<usize>,
     /// How many instances stand one above another, down to it.

@@ -2,7 +2,7 @@
 
 ghost use Rattle.std.specs.Prelude.{◌≡◌, IfOk};
 ghost use Rattle.cilk_debug.specs.machine.syntax.Appends.{Appends};
-ghost use Rattle.cilk_events.specs.Text.{instances_line, measure_text, moves_line, share_line, share_lines, tenths, tenths_text, work_line};
+ghost use Rattle.cilk_measure.specs.Text.{instances_line, measure_text, moves_line, share_line, share_lines, tenths, tenths_text, work_line};
 ghost use Rattle.cilk_measure.specs.Words.{numbers_of};
 
 use crate::measure::Measure;

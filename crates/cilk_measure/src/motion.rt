@@ -3,16 +3,16 @@
 ghost use Rattle.std.specs.Prelude.{◌≡◌, length, unwrap_or};
 ghost use Rattle.cilk_debug.specs.machine.labelled.Bodies.{label};
 ghost use Rattle.cilk_debug.specs.machine.spawn.Nodes.{node_at};
-ghost use Rattle.cilk_events.specs.Acts.{act_of};
+ghost use Rattle.cilk_measure.specs.Acts.{act_of};
 ghost use Rattle.cilk_measure.specs.Motions.{acted, born, delivered, ended, fewer, inlet_left, motion_of, place_among, trapped};
 
 use crate::cell::{Cell, cell_at, next};
-use cilk_debug::{Did, Id, Machine};
-use cilk_events::{Loaded, nature_of};
+use crate::nature::nature_of;
+use cilk_debug::{Did, Id, Loaded, Machine};
 
 /// A step of an instance.
 #[derive(Clone, Copy)]
-pub(crate) struct Motion {
+pub struct Motion {
     /// The instance.
     pub place: usize,
     /// The child whose value the step takes, or whose inlet it is of; a thread's step has none.
@@ -28,7 +28,7 @@ pub(crate) struct Motion {
 }
 
 /// The step by which a machine came to where it stands, if it did more than to move a frame.
-pub(crate) fn motion_of(machine: &Machine, cells: &[Cell], did: &Did) -> Option<Motion>
+pub fn motion_of(machine: &Machine, cells: &[Cell], did: &Did) -> Option<Motion>
     ensures { result ≡ motion_of machine.now.program machine.now.machine.nodes cells.now did.now }
 {
     match *did {

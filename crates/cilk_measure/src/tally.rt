@@ -12,7 +12,7 @@ use std::marker::Model;
 
 /// The instances, and the greatest numbers so far.
 #[derive(Drop)]
-pub(crate) struct Tally {
+pub struct Tally {
     cells: Vec<Cell>,
     /// The length of the longest chain of steps.
     span: u64,
@@ -36,7 +36,7 @@ impl Model for Tally {
 
 impl Tally {
     /// Before any choice: the root alone.
-    pub(crate) fn new(alloc: Global) -> Result<Tally, Memory>
+    pub fn new(alloc: Global) -> Result<Tally, Memory>
         ensures { IfOk result (λ t. t ≡ first) }
     {
         let mut cells = Vec::new(alloc);
@@ -52,7 +52,7 @@ impl Tally {
     }
 
     /// Notes what the machine's last choice did.
-    pub(crate) fn note(&mut self, machine: &Machine, did: &Did) -> Result<(), Memory>
+    pub fn note(&mut self, machine: &Machine, did: &Did) -> Result<(), Memory>
         ensures { OnOk result (self.new ≡ noted machine.now.program machine.now.machine.nodes did.now self.old) }
     {
         match motion_of(machine, self.cells.as_slice(), did) {
@@ -93,6 +93,13 @@ impl Tally {
         }
         let made = self.cells.len() as u64;
         self.live = self.live.max(made.saturating_sub(self.ended));
+    }
+
+    /// What is kept of each instance, by its place.
+    pub fn cells(&self) -> &[Cell]
+        ensures { result.now ≡ self.now.cells }
+    {
+        self.cells.as_slice()
     }
 
     /// How many instances were made.

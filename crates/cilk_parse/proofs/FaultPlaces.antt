@@ -11,13 +11,13 @@ use Rattle.cilk_lex.specs.lexeme.Lexing.{Lexes, text_limit}
 use Rattle.cilk_lex.proofs.Unique.{one_reading, never_both}
 use Rattle.cilk_lex.specs.Reading.{IsWithin}
 use Rattle.cilk_parse_grammar.specs.syntax.Tree as tree
-use Rattle.cilk_parse_rules.specs.declared.fault.Fault.{Fault}
-use Rattle.cilk_parse_rules.specs.declared.fault.Fault.TheVariants.{Unexpected, TooDeep}
-use Rattle.cilk_parse_rules.specs.declared.fault.ReadError.{ReadError}
-use Rattle.cilk_parse_rules.specs.declared.fault.ReadError.TheVariants as errors
-use Rattle.cilk_parse_rules.specs.ReadsAs.{Fails}
-use Rattle.cilk_parse_rules.specs.Rule.{Read}
-use Rattle.cilk_parse_rules.proofs.Tools.{ok_is}
+use Rattle.cilk_parse_grammar.specs.declared.fault.Fault.{Fault}
+use Rattle.cilk_parse_grammar.specs.declared.fault.Fault.TheVariants.{Unexpected, TooDeep}
+use Rattle.cilk_parse_grammar.specs.declared.fault.ReadError.{ReadError}
+use Rattle.cilk_parse_grammar.specs.declared.fault.ReadError.TheVariants as errors
+use Rattle.cilk_parse_grammar.specs.ReadsAs.{Fails}
+use Rattle.cilk_parse_grammar.specs.Rule.{Read}
+use Rattle.cilk_parse_grammar.proofs.RulesTools.{ok_is}
 use Rattle.cilk_parse_grammar.specs.Fault.{IsNotGoingOn, any_limits, the_limits, start_or, place_left}
 use Rattle.cilk_parse_grammar.proofs.Programs.{program_takes, program_again}
 use Rattle.cilk_parse_grammar.proofs.Viable.{unexpected_stops, too_deep_stops, unexpected_within, too_deep_within, too_deep_token}

@@ -1,3 +1,8 @@
+pub mod Tokens
+pub mod Loops
+pub mod NameClasses
+pub mod Starting
+pub mod Joined
 pub mod NamesButMain
 pub mod Programs
 pub mod FaultPlaces

@@ -2,8 +2,8 @@
 use Rattle.std.proofs.Common.{◌≡◌, ◌||◌, false, true, List, [], ◌∷◌, Some, Err, length, refl, sym, ap}
 use Rattle.std.proofs.lemmas.Bool.{eqb-true}
 use Rattle.cilk_lex.specs.lexeme.Lexeme.{Piece}
-use Rattle.cilk_parse_rules.specs.declared.fault.Fault.TheVariants.{Unexpected}
-use Rattle.cilk_parse_rules.specs.Rule.{has, is, class_at}
+use Rattle.cilk_parse_grammar.specs.declared.fault.Fault.TheVariants.{Unexpected}
+use Rattle.cilk_parse_grammar.specs.Rule.{has, is, class_at}
 use Rattle.cilk_parse_grammar.specs.Classes.{cls, names, the_main}
 use Rattle.cilk_parse_grammar.specs.Grammar.{names_but_main}
 use Rattle.cilk_parse_grammar.specs.Parts.{the_name}

@@ -3,17 +3,17 @@ use Rattle.std.proofs.Common.{◌≡◌, ◌<◌, List, [], ◌∷◌, length, O
 use Rattle.cilk_lex.specs.lexeme.Lexeme.{Piece}
 use Rattle.cilk_lex.specs.lexeme.declared.header.Header.{Header}
 use Rattle.cilk_parse_grammar.specs.syntax.Tree as tree
-use Rattle.cilk_parse_rules.specs.declared.fault.Fault.TheVariants.{Unexpected}
-use Rattle.cilk_parse_rules.specs.declared.fault.ReadError.{ReadError}
-use Rattle.cilk_parse_rules.specs.ReadsAs.{Fails}
-use Rattle.cilk_parse_rules.specs.Rule.{◌>>=◌, Rule, Read, part, many}
-use Rattle.cilk_parse_rules.proofs.Loops.{fails_first}
+use Rattle.cilk_parse_grammar.specs.declared.fault.Fault.TheVariants.{Unexpected}
+use Rattle.cilk_parse_grammar.specs.declared.fault.ReadError.{ReadError}
+use Rattle.cilk_parse_grammar.specs.ReadsAs.{Fails}
+use Rattle.cilk_parse_grammar.specs.Rule.{◌>>=◌, Rule, Read, part, many}
+use Rattle.cilk_parse_grammar.proofs.Loops.{fails_first}
 use Rattle.cilk_parse_grammar.specs.Expressions.{operator_limit, parenthesis_limit}
 use Rattle.cilk_parse_grammar.specs.Forms.{joined}
 use Rattle.cilk_parse_grammar.specs.Grammar.{item}
 use Rattle.cilk_parse_grammar.specs.Parts.{Means, token, the_header}
 use Rattle.cilk_parse_grammar.specs.Spelling.{nesting_limit, read_at, at_end, all_by, program_of}
-use Rattle.cilk_parse_statements.specs.Limits.{read_in, Joins}
+use Rattle.cilk_parse.specs.Limits.{read_in, Joins}
 
 abbrev pub Parts : Type 0
 Parts = List Header × List tree.Item

@@ -7,10 +7,10 @@ use Rattle.cilk_lex.specs.lexeme.Lexing.{Lexes, text_limit}
 use Rattle.cilk_lex.specs.Reading.{Refuses}
 use Rattle.cilk_parse_grammar.specs.syntax.Tree.{Program}
 use Rattle.cilk_parse_grammar.specs.Expressions.{operator_limit, parenthesis_limit}
-use Rattle.cilk_parse_rules.specs.declared.fault.Fault.{Fault}
-use Rattle.cilk_parse_rules.specs.declared.fault.Fault.TheVariants.{Unexpected, TooDeep}
-use Rattle.cilk_parse_rules.specs.declared.fault.ReadError.{ReadError}
-use Rattle.cilk_parse_rules.specs.declared.fault.ReadError.TheVariants as errors
+use Rattle.cilk_parse_grammar.specs.declared.fault.Fault.{Fault}
+use Rattle.cilk_parse_grammar.specs.declared.fault.Fault.TheVariants.{Unexpected, TooDeep}
+use Rattle.cilk_parse_grammar.specs.declared.fault.ReadError.{ReadError}
+use Rattle.cilk_parse_grammar.specs.declared.fault.ReadError.TheVariants as errors
 use Rattle.cilk_parse_grammar.specs.Fault.{IsNotGoingOn, any_limits, the_limits, place_left}
 use Rattle.cilk_parse_grammar.specs.Spelling.{SpellsProgram, nesting_limit, program_of}
 use Rattle.cilk_parse.specs.declared.fault.ReadFault.{ReadFault}

@@ -1,17 +1,16 @@
 //! How a function is read behind its name: its parameters, and its body if it is defined.
 
 ghost use Rattle.std.specs.Prelude.{◌≡◌};
-ghost use Rattle.cilk_parse_rules.specs.ReadsAs.{ReadsAs};
+ghost use Rattle.cilk_parse_grammar.specs.ReadsAs.{ReadsAs};
 ghost use Rattle.cilk_parse_grammar.specs.Grammar.{int_tail, empty_tail, tail};
 ghost use Rattle.cilk_parse_grammar.specs.Spelling.{nesting_limit};
-ghost use Rattle.cilk_parse_statements.specs.Limits.{read_in};
+ghost use Rattle.cilk_parse.specs.Limits.{read_in};
 ghost use Rattle.cilk_parse.specs.Views.{tail_of};
 
 use crate::parameter_list::{all_named, named_of, parameter_list};
+use crate::statement::block;
 use crate::tail::Tail;
-use cilk_parse_grammar::{Cursor, Keyword, Mark, Parameters};
-use cilk_parse_rules::ReadError;
-use cilk_parse_statements::block;
+use cilk_parse_grammar::{Cursor, Keyword, Mark, Parameters, ReadError};
 
 /// So many statements and inlets may stand in one another.
 pub const NESTING_LIMIT: u32 = 201;

@@ -1,17 +1,16 @@
 //! How the inclusions at the head of a program are read.
 
 ghost use Rattle.std.specs.Prelude.{◌≡◌};
-ghost use Rattle.cilk_parse_rules.specs.ReadsAs.{ReadsAs};
-ghost use Rattle.cilk_parse_rules.specs.Rule.{is, class_at, part, many};
+ghost use Rattle.cilk_parse_grammar.specs.ReadsAs.{ReadsAs};
+ghost use Rattle.cilk_parse_grammar.specs.Rule.{is, class_at, part, many};
 ghost use Rattle.cilk_parse_grammar.specs.Classes.{cls, an_inclusion};
 ghost use Rattle.cilk_parse_grammar.specs.Parts.{token, the_header};
 ghost use Rattle.cilk_parse_grammar.specs.Spelling.{nesting_limit};
-ghost use Rattle.cilk_parse_statements.specs.Limits.{read_in};
+ghost use Rattle.cilk_parse.specs.Limits.{read_in};
 
+use crate::token::header;
 use cilk_lex::TokenKind;
-use cilk_parse_grammar::{Cursor, Header};
-use cilk_parse_rules::ReadError;
-use cilk_parse_statements::header;
+use cilk_parse_grammar::{Cursor, Header, ReadError};
 
 // Whether the next token includes a header.
 fn is_inclusion(cursor: &Cursor) -> bool

@@ -5,8 +5,7 @@ ghost use Rattle.cilk_parse.specs.Views.{int_tail_of};
 
 use crate::tail::Tail;
 use crate::variable::as_items;
-use cilk_parse_grammar::{Global, GlobalShape, Item, ReturnType, Word};
-use cilk_parse_rules::ReadError;
+use cilk_parse_grammar::{Global, GlobalShape, Item, ReadError, ReturnType, Word};
 use std::alloc;
 
 /// What stands behind `int` and a name.

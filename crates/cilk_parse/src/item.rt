@@ -1,28 +1,27 @@
 //! How a procedure, a function, or variables of the top level are read, from their first word on.
 
 ghost use Rattle.std.specs.Prelude.{◌≡◌, ◌∷◌, [], true, false};
-ghost use Rattle.cilk_parse_rules.specs.ReadsAs.{ReadsAs};
+ghost use Rattle.cilk_parse_grammar.specs.ReadsAs.{ReadsAs};
 ghost use Rattle.cilk_parse_grammar.specs.Classes.{the_main, names};
 ghost use Rattle.cilk_parse_grammar.specs.Grammar.{names_but_main, headed, tail, main_tail, function, globals, cilk_item, int_item, void_item};
-ghost use Rattle.cilk_parse_rules.specs.Rule.{and_then, either, done};
+ghost use Rattle.cilk_parse_grammar.specs.Rule.{and_then, either, done};
 ghost use Rattle.cilk_lex.specs.lexeme.declared.keyword.Keyword.TheVariants as key;
 ghost use Rattle.cilk_parse_grammar.specs.syntax.declared.return_type.ReturnType.TheVariants as returns;
 ghost use Rattle.cilk_parse.specs.Views.{int_tail_of};
 ghost use Rattle.cilk_parse_grammar.specs.Forms.{word};
 ghost use Rattle.cilk_parse_grammar.specs.Parts.{the_name};
 ghost use Rattle.cilk_parse_grammar.specs.Spelling.{leaf_at, nesting_limit};
-ghost use Rattle.cilk_parse_statements.specs.Limits.{read_in};
+ghost use Rattle.cilk_parse.specs.Limits.{read_in};
 
 use crate::function::function_tail;
 use crate::int_tail::{IntTail, one};
 use crate::main_function::of_main;
+use crate::token::{is_class, name};
 use crate::variable::{behind_commas, shape};
-use cilk_parse_grammar::{Cursor, Item, Keyword, Mark, NameClass, ReturnType, Word};
-use cilk_parse_rules::ReadError;
-use cilk_parse_statements::{is_class, name};
+use cilk_parse_grammar::{Cursor, Item, Keyword, Mark, NameClass, ReadError, ReturnType, Word};
 
 // The name `main`.
-#[tactic(auto, using(cilk_parse_statements::proofs::Tokens::some_name))]
+#[tactic(auto, using(crate::proofs::Tokens::some_name))]
 fn main_name(cursor: &mut Cursor) -> Result<Word, ReadError>
     ensures { ReadsAs (λ w. (w, cursor.new.pieces)) result (leaf_at (the_name (the_main ∷ [])) cursor.old.pieces) }
 {

@@ -1,17 +1,16 @@
 //! How all items of a program are read, and with which tokens one begins.
 
 ghost use Rattle.std.specs.Prelude.{◌≡◌, MatchResult};
-ghost use Rattle.cilk_parse_rules.specs.ReadsAs.{ReadsAs, Fails};
-ghost use Rattle.cilk_parse_rules.specs.Rule.{many, first, has, class_at};
+ghost use Rattle.cilk_parse_grammar.specs.ReadsAs.{ReadsAs, Fails};
+ghost use Rattle.cilk_parse_grammar.specs.Rule.{many, first, has, class_at};
 ghost use Rattle.cilk_parse_grammar.specs.Classes.{cls};
 ghost use Rattle.cilk_parse_grammar.specs.Grammar.{item};
 ghost use Rattle.cilk_parse_grammar.specs.Spelling.{first_of, nesting_limit};
-ghost use Rattle.cilk_parse_statements.specs.Limits.{read_in, Joins};
+ghost use Rattle.cilk_parse.specs.Limits.{read_in, Joins};
 
 use crate::item::{int_item, procedure, void_function};
 use crate::lock::locks;
-use cilk_parse_grammar::{Cursor, Item, Keyword};
-use cilk_parse_rules::ReadError;
+use cilk_parse_grammar::{Cursor, Item, Keyword, ReadError};
 
 // Whether an item begins with the next token.
 fn begins_item(cursor: &Cursor) -> bool

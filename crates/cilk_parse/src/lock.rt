@@ -3,15 +3,14 @@
 ghost use Rattle.std.specs.Prelude.{◌≡◌, map, MatchResult};
 ghost use Rattle.cilk_lex.specs.lexeme.declared.mark.Mark.TheVariants.{Comma};
 ghost use Rattle.cilk_parse_grammar.specs.syntax.Tree as tree;
-ghost use Rattle.cilk_parse_rules.specs.ReadsAs.{ReadsAs, onto};
+ghost use Rattle.cilk_parse_grammar.specs.ReadsAs.{ReadsAs, onto};
 ghost use Rattle.cilk_parse_grammar.specs.Forms.{mark, behind_commas, commas};
 ghost use Rattle.cilk_parse_grammar.specs.Grammar.{name, lock_item};
 ghost use Rattle.cilk_parse_grammar.specs.Spelling.{nesting_limit};
-ghost use Rattle.cilk_parse_statements.specs.Limits.{read_in};
+ghost use Rattle.cilk_parse.specs.Limits.{read_in};
 
-use cilk_parse_grammar::{Cursor, Item, ItemNode, Keyword, Mark, Word};
-use cilk_parse_rules::ReadError;
-use cilk_parse_statements::name;
+use crate::token::name;
+use cilk_parse_grammar::{Cursor, Item, ItemNode, Keyword, Mark, ReadError, Word};
 use std::alloc::Global;
 
 // A comma and a name.
@@ -36,7 +35,7 @@ fn more_names(cursor: &mut Cursor, mut names: Vec<Word>) -> Result<Vec<Word>, Re
 }
 
 // One name or more, with commas between them.
-#[tactic(auto, unfolding(cilk_parse_grammar::specs::Spelling::read_at, cilk_parse_rules::specs::ReadsAs::onto))]
+#[tactic(auto, unfolding(cilk_parse_grammar::specs::Spelling::read_at, cilk_parse_grammar::specs::ReadsAs::onto))]
 fn names(cursor: &mut Cursor) -> Result<Vec<Word>, ReadError>
     ensures { ReadsAs (λ v. (v.items, cursor.new.pieces)) result (read_in nesting_limit (commas name) cursor.old.pieces) }
 {

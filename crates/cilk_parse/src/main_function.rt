@@ -1,19 +1,19 @@
 //! How the parameters and the body of `main` are read, in each of its forms.
 
 ghost use Rattle.std.specs.Prelude.{◌≡◌};
-ghost use Rattle.cilk_parse_rules.specs.ReadsAs.{ReadsAs};
+ghost use Rattle.cilk_parse_grammar.specs.ReadsAs.{ReadsAs};
 ghost use Rattle.cilk_parse_grammar.specs.Grammar.{strings, command_line_tail, main_others, main_alone, main_named, main_nameless, main_ints, main_tail};
 ghost use Rattle.cilk_parse_grammar.specs.Spelling.{nesting_limit};
-ghost use Rattle.cilk_parse_statements.specs.Limits.{read_in};
+ghost use Rattle.cilk_parse.specs.Limits.{read_in};
 ghost use Rattle.cilk_parse.specs.Views.{tail_of, main_tail_of};
 
 use crate::function::{NESTING_LIMIT, empty_tail};
 use crate::main_tail::MainTail;
 use crate::parameter_list::{all_named, parameter_list};
+use crate::statement::block;
 use crate::tail::Tail;
-use cilk_parse_grammar::{Cursor, Keyword, Mark, NameClass, Word};
-use cilk_parse_rules::ReadError;
-use cilk_parse_statements::{block, is_class, is_name, name};
+use crate::token::{is_class, is_name, name};
+use cilk_parse_grammar::{Cursor, Keyword, Mark, NameClass, ReadError, Word};
 
 // The words of the command line (C 1990, 5.1.2.2.1).
 #[tactic(auto, unfolding(cilk_parse_grammar::specs::Spelling::read_at))]

@@ -5,8 +5,7 @@ ghost use Rattle.cilk_parse.specs.Views.{tail_of, main_tail_of};
 
 use crate::parameter_list::named_of;
 use crate::tail::Tail;
-use cilk_parse_grammar::{Block, Parameters, Word};
-use cilk_parse_rules::ReadError;
+use cilk_parse_grammar::{Block, Parameters, ReadError, Word};
 use std::alloc::Global;
 
 /// What stands behind the first parameter of `main`, where that has a name.

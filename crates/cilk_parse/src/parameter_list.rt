@@ -3,15 +3,14 @@
 ghost use Rattle.std.specs.Prelude.{◌≡◌, MatchResult};
 ghost use Rattle.cilk_lex.specs.lexeme.declared.keyword.Keyword.TheVariants.{Int};
 ghost use Rattle.cilk_lex.specs.lexeme.declared.mark.Mark.TheVariants.{Comma};
-ghost use Rattle.cilk_parse_rules.specs.ReadsAs.{ReadsAs, onto};
+ghost use Rattle.cilk_parse_grammar.specs.ReadsAs.{ReadsAs, onto};
 ghost use Rattle.cilk_parse_grammar.specs.Forms.{word, mark, optional, behind_commas};
 ghost use Rattle.cilk_parse_grammar.specs.Grammar.{name, parameter_list, all_named, named_of};
 ghost use Rattle.cilk_parse_grammar.specs.Spelling.{nesting_limit};
-ghost use Rattle.cilk_parse_statements.specs.Limits.{read_in};
+ghost use Rattle.cilk_parse.specs.Limits.{read_in};
 
-use cilk_parse_grammar::{Cursor, Keyword, Mark, Word};
-use cilk_parse_rules::ReadError;
-use cilk_parse_statements::{is_name, name};
+use crate::token::{is_name, name};
+use cilk_parse_grammar::{Cursor, Keyword, Mark, ReadError, Word};
 use std::alloc::Global;
 
 // A name, if there is one.
@@ -52,7 +51,7 @@ fn more_parameters(
 }
 
 /// Behind the first `int`: the names that the parameters have, and the end of these (C 1990, 6.5.4.3).
-#[tactic(auto, unfolding(cilk_parse_grammar::specs::Spelling::read_at, cilk_parse_rules::specs::ReadsAs::onto))]
+#[tactic(auto, unfolding(cilk_parse_grammar::specs::Spelling::read_at, cilk_parse_grammar::specs::ReadsAs::onto))]
 pub fn parameter_list(cursor: &mut Cursor) -> Result<Vec<Option<Word>>, ReadError>
     ensures { ReadsAs (λ v. (v.items, cursor.new.pieces)) result (read_in nesting_limit parameter_list cursor.old.pieces) }
 {

@@ -6,7 +6,7 @@ ghost use Rattle.cilk_lex.specs.lexeme.Lexeme.{pieces_of, place_of as lex_place}
 ghost use Rattle.cilk_lex.specs.lexeme.Lexing.{Lexes, text_limit};
 ghost use Rattle.cilk_lex.specs.Reading.{IsWithin};
 ghost use Rattle.cilk_parse_grammar.specs.syntax.Tree as tree;
-ghost use Rattle.cilk_parse_rules.specs.ReadsAs.{Fails};
+ghost use Rattle.cilk_parse_grammar.specs.ReadsAs.{Fails};
 ghost use Rattle.cilk_parse_grammar.specs.Expressions.{operator_limit, parenthesis_limit};
 ghost use Rattle.cilk_parse_grammar.specs.Fault.{place_left};
 ghost use Rattle.cilk_parse_grammar.specs.Spelling.{nesting_limit, program_of};
@@ -16,8 +16,7 @@ ghost use Rattle.cilk_parse.specs.Text.{Spells, ReadingStops, told_of, HasFault,
 use crate::fault::ReadFault;
 use crate::whole::whole;
 use cilk_lex::{LexFault, Token, tokens};
-use cilk_parse_grammar::{Cursor, Program};
-use cilk_parse_rules::{Fault, ReadError};
+use cilk_parse_grammar::{Cursor, Fault, Program, ReadError};
 use std::alloc::Global;
 
 // Why a text is not read that has no tokens.

@@ -4,8 +4,9 @@ ghost use Rattle.std.specs.Prelude.{◌≡◌, MatchResult};
 ghost use Rattle.cilk_parse_grammar.specs.Grammar.{function, declares};
 ghost use Rattle.cilk_parse.specs.Views.{tail_of};
 
-use cilk_parse_grammar::{Block, Item, ItemNode, Parameters, Proc, Prototype, ReturnType, Word};
-use cilk_parse_rules::ReadError;
+use cilk_parse_grammar::{
+    Block, Item, ItemNode, Parameters, Proc, Prototype, ReadError, ReturnType, Word,
+};
 
 /// What stands behind the name of a function: a declaration of so many parameters (C 1990, 6.5.4.3), or a definition
 /// (6.7.1).

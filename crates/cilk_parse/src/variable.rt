@@ -4,15 +4,16 @@ ghost use Rattle.std.specs.Prelude.{◌≡◌, ◌∷◌, map, MatchResult};
 ghost use Rattle.cilk_lex.specs.lexeme.declared.mark.Mark.TheVariants.{Comma};
 ghost use Rattle.cilk_parse_grammar.specs.syntax.Tree as tree;
 ghost use Rattle.cilk_parse_grammar.specs.syntax.ProgramView.{global_shape_of};
-ghost use Rattle.cilk_parse_rules.specs.ReadsAs.{ReadsAs, onto};
+ghost use Rattle.cilk_parse_grammar.specs.ReadsAs.{ReadsAs, onto};
 ghost use Rattle.cilk_parse_grammar.specs.Forms.{mark, behind_commas};
 ghost use Rattle.cilk_parse_grammar.specs.Grammar.{global_shape, global};
 ghost use Rattle.cilk_parse_grammar.specs.Spelling.{nesting_limit};
-ghost use Rattle.cilk_parse_statements.specs.Limits.{read_in};
+ghost use Rattle.cilk_parse.specs.Limits.{read_in};
 
-use cilk_parse_grammar::{Cursor, Global, GlobalShape, Item, ItemNode, Mark};
-use cilk_parse_rules::ReadError;
-use cilk_parse_statements::{array_length, integer, name};
+use crate::declaration::array_length;
+use crate::signed::integer;
+use crate::token::name;
+use cilk_parse_grammar::{Cursor, Global, GlobalShape, Item, ItemNode, Mark, ReadError};
 use std::alloc;
 
 /// Behind the name of a variable or array of the top level (C 1990, 6.5.4.2, 6.5.7, 6.7.2).
@@ -56,7 +57,7 @@ fn more_globals(cursor: &mut Cursor, mut globals: Vec<Global>) -> Result<Vec<Glo
 }
 
 /// Variables and arrays, each behind a comma.
-#[tactic(auto, using(cilk_parse_rules::proofs::Loops::onto_nothing))]
+#[tactic(auto, using(cilk_parse_grammar::proofs::Loops::onto_nothing))]
 pub fn behind_commas(cursor: &mut Cursor) -> Result<Vec<Global>, ReadError>
     ensures { ReadsAs (λ v. (v.items, cursor.new.pieces)) result
         (read_in nesting_limit (behind_commas global) cursor.old.pieces) }

@@ -3,7 +3,7 @@ use Rattle.std.proofs.Common.{◌≡◌, ℕ, ◌==◌, Bool, true, false, if◌
 use Rattle.std.proofs.lemmas.Bool.{eqb-true}
 use Rattle.std.specs.Str.{bytes_eq}
 use denote.Enum.Bare.{sameb, same_true, same_false}
-use Rattle.cilk_parse_rules.specs.Rule.{has}
+use Rattle.cilk_parse_grammar.specs.Rule.{has}
 use Rattle.cilk_tree_syntax.specs.lexeme.Lexeme.{Lexeme, word, name, number, mark, literal, inclusion}
 use Rattle.cilk_tree_syntax.specs.lexeme.contracts.keyword.Keyword as keyword_type
 use Rattle.cilk_tree_syntax.specs.lexeme.contracts.mark.Mark as mark_type

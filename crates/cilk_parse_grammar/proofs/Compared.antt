@@ -9,7 +9,7 @@ use Rattle.cilk_tree_syntax.specs.lexeme.declared.mark.Mark.{Mark}
 use Rattle.cilk_tree_syntax.specs.lexeme.declared.token.TokenKind.{TokenKind}
 use Rattle.cilk_tree_syntax.specs.lexeme.declared.token.TokenKind.TheVariants as kind
 use Rattle.cilk_tree_syntax.specs.lexeme.declared.token.Token.{Token}
-use Rattle.cilk_parse_rules.specs.Rule.{is, behind, class_at}
+use Rattle.cilk_parse_grammar.specs.Rule.{is, behind, class_at}
 use Rattle.cilk_parse_grammar.specs.Classes.{a_word, a_mark, class_of, cls}
 use Rattle.cilk_parse_grammar.specs.Front.{kind_of, kind_at}
 use Rattle.cilk_parse_grammar.proofs.ClassFacts.{compared_words, compared_marks, word_lexeme, mark_lexeme}

@@ -8,7 +8,7 @@ use Rattle.cilk_tree_syntax.specs.lexeme.declared.mark.Mark.TheVariants as marks
 use Rattle.cilk_tree_syntax.specs.declared.operator.BinOp.{BinOp}
 use Rattle.cilk_tree_syntax.specs.declared.un_op.UnOp.{UnOp}
 use Rattle.cilk_tree_syntax.specs.Tree as tree
-use Rattle.cilk_parse_rules.specs.Rule.{◌>>=◌, behind, is, class_at}
+use Rattle.cilk_parse_grammar.specs.Rule.{◌>>=◌, behind, is, class_at}
 use Rattle.cilk_parse_grammar.specs.declared.operator.Infix.{Infix}
 use Rattle.cilk_parse_grammar.specs.declared.operator.Infix.TheVariants.{Two, Choice}
 use Rattle.cilk_parse_grammar.specs.Classes.{a_word, a_mark, cls}

@@ -5,10 +5,10 @@ use Rattle.cilk_tree_syntax.specs.lexeme.Lexeme.{Piece, name}
 use Rattle.cilk_tree_syntax.specs.lexeme.declared.keyword.Keyword.TheVariants as words
 use Rattle.cilk_tree_syntax.specs.lexeme.declared.mark.Mark.TheVariants as marks
 use Rattle.cilk_tree_syntax.specs.Tree as tree
-use Rattle.cilk_parse_rules.specs.Rule.{has, class_at}
-use Rattle.cilk_parse_rules.proofs.Tokens.{has_append}
-use Rattle.cilk_parse_rules.proofs.Sound.{Took}
-use Rattle.cilk_parse_rules.proofs.Local.{Local}
+use Rattle.cilk_parse_grammar.specs.Rule.{has, class_at}
+use Rattle.cilk_parse_grammar.proofs.Tokens.{has_append}
+use Rattle.cilk_parse_grammar.proofs.RulesSound.{Took}
+use Rattle.cilk_parse_grammar.proofs.RulesLocal.{Local}
 use Rattle.cilk_parse_grammar.specs.Classes.{cls, names, a_number, a_word, a_mark}
 use Rattle.cilk_parse_grammar.specs.Operators.{prefixes, classes}
 use Rattle.cilk_parse_grammar.specs.Expressions.{a_name_is, begins_expr, goes_on_expr, SpellsWhole}

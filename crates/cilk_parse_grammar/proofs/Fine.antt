@@ -1,6 +1,6 @@
 -- One token tells how to go on by each rule.
 use Rattle.std.proofs.Common.{◌≡◌, [], true, false, refl}
-use Rattle.cilk_parse_rules.specs.Rule as rule
+use Rattle.cilk_parse_grammar.specs.Rule as rule
 use Rattle.cilk_parse_grammar.specs.Parts.{Nest, a_statement, no_block, an_inlet}
 use Rattle.cilk_parse_grammar.specs.Grammar.{rule_of, program}
 use Rattle.cilk_parse_grammar.specs.Spelling.{first_of, more_of, begins, call}

@@ -6,7 +6,7 @@ use Rattle.cilk_tree_syntax.specs.declared.return_type.ReturnType.{ReturnType}
 use Rattle.cilk_tree_syntax.specs.declared.return_type.ReturnType.TheVariants as returns
 use Rattle.cilk_tree_syntax.specs.Tree as tree
 use Rattle.cilk_tree_syntax.specs.Tree.{Word}
-use Rattle.cilk_parse_rules.specs.Rule.{Rule}
+use Rattle.cilk_parse_grammar.specs.Rule.{Rule}
 use Rattle.cilk_parse_grammar.specs.Parts.{Means}
 use Rattle.cilk_parse_grammar.specs.Forms.{optional}
 use Rattle.cilk_parse_grammar.specs.Grammar as grammar

@@ -1,9 +1,9 @@
 -- What a rule makes of parts that are the same but for places, a step of the rule at a time.
 use Rattle.std.proofs.Common.{◌≡◌, ℕ, Bool, List, ◌∷◌, map, refl}
-use Rattle.cilk_parse_rules.specs.Rule.{Rule, done, skip, part, and_then, either, many, nearest, by_value}
-use Rattle.cilk_parse_rules.specs.Alike as alike
-use Rattle.cilk_parse_rules.specs.Alike.{EachAlike, no_more, one_more}
-use Rattle.cilk_parse_rules.proofs.Moved as moved
+use Rattle.cilk_parse_grammar.specs.Rule.{Rule, done, skip, part, and_then, either, many, nearest, by_value}
+use Rattle.cilk_parse_grammar.specs.Alike as alike
+use Rattle.cilk_parse_grammar.specs.Alike.{EachAlike, no_more, one_more}
+use Rattle.cilk_parse_grammar.proofs.Moved as moved
 use Rattle.cilk_tree_syntax.specs.lexeme.declared.keyword.Keyword.{Keyword}
 use Rattle.cilk_parse_grammar.specs.Parts.{token, the_literal, the_header, Means}
 use Rattle.cilk_tree_syntax.specs.Bare.{bare_word, bare_literal, bare_expr, bare_stmt, bare_local}

@@ -1,11 +1,11 @@
 -- The laws of single tokens.
 use Rattle.std.proofs.Common.{◌≡◌, Bool, true, false, List, [], ◌∷◌, ◌++◌, length, Option, Some, None, Ok, Err, refl, sym, ap, subst, ◌∙◌, arith}
 use Rattle.cilk_tree_syntax.specs.lexeme.Lexeme.{Piece}
-use Rattle.cilk_parse_rules.specs.Rule.{has}
-use Rattle.cilk_parse_rules.proofs.Tools.{ok_is}
-use Rattle.cilk_parse_rules.proofs.Begun.{Begun, with_token}
-use Rattle.cilk_parse_rules.proofs.Sound.{Took}
-use Rattle.cilk_parse_rules.proofs.Local.{SameHead, Local, stuck_here, unexpected}
+use Rattle.cilk_parse_grammar.specs.Rule.{has}
+use Rattle.cilk_parse_grammar.proofs.RulesTools.{ok_is}
+use Rattle.cilk_parse_grammar.proofs.Begun.{Begun, with_token}
+use Rattle.cilk_parse_grammar.proofs.RulesSound.{Took}
+use Rattle.cilk_parse_grammar.proofs.RulesLocal.{SameHead, Local, stuck_here, unexpected}
 use Rattle.cilk_parse_grammar.specs.Classes.{cls}
 use Rattle.cilk_parse_grammar.specs.Parts.{Leaf, LeafMeans}
 use Rattle.cilk_parse_grammar.specs.Spelling.{leaf_classes, said, IsOne, given, leaf_at}

@@ -1,3 +1,14 @@
+pub mod RulesTools
+pub mod Tokens
+pub mod Begun
+pub mod RulesSound
+pub mod RulesComplete
+pub mod RulesLocal
+pub mod Many
+pub mod LocalRules
+pub mod Room
+pub mod Moved
+pub mod Loops
 pub mod Tables
 pub mod ClassFacts
 pub mod Tools
@@ -25,5 +36,4 @@ pub mod KeepsItems
 pub mod Steady
 pub mod MovedNests
 pub mod Viable
-pub use Rattle.cilk_parse_rules.proofs as rules_laws
 pub use Rattle.cilk_tree_syntax.proofs as syntax_laws

@@ -3,14 +3,14 @@ use Rattle.std.proofs.Common.{◌≡◌, ℕ, suc, ◌≤◌, Bool, true, false,
 use Rattle.cilk_tree_syntax.specs.lexeme.Lexeme.{Piece}
 use Rattle.cilk_tree_syntax.specs.lexeme.declared.mark.Mark.TheVariants as sign
 use Rattle.cilk_tree_syntax.specs.Tree as tree
-use Rattle.cilk_parse_rules.specs.declared.fault.Fault.{Fault}
-use Rattle.cilk_parse_rules.specs.declared.fault.Fault.TheVariants.{Unexpected, TooDeep}
-use Rattle.cilk_parse_rules.specs.Rule as rule
-use Rattle.cilk_parse_rules.specs.Rule.{◌>>=◌, Rule, Read, has, is, behind, class_at}
-use Rattle.cilk_parse_rules.proofs.Tools.{ok_is}
-use Rattle.cilk_parse_rules.proofs.Local.{Reader, SameHead, same_class, Again, Stuck, Local, unexpected, too_deep, local_bind, local_as, local_skip}
-use Rattle.cilk_parse_rules.proofs.Local.{local_choice, ok_here, stuck_here}
-use Rattle.cilk_parse_rules.proofs.LocalRules as locals
+use Rattle.cilk_parse_grammar.specs.declared.fault.Fault.{Fault}
+use Rattle.cilk_parse_grammar.specs.declared.fault.Fault.TheVariants.{Unexpected, TooDeep}
+use Rattle.cilk_parse_grammar.specs.Rule as rule
+use Rattle.cilk_parse_grammar.specs.Rule.{◌>>=◌, Rule, Read, has, is, behind, class_at}
+use Rattle.cilk_parse_grammar.proofs.RulesTools.{ok_is}
+use Rattle.cilk_parse_grammar.proofs.RulesLocal.{Reader, SameHead, same_class, Again, Stuck, Local, unexpected, too_deep, local_bind, local_as, local_skip}
+use Rattle.cilk_parse_grammar.proofs.RulesLocal.{local_choice, ok_here, stuck_here}
+use Rattle.cilk_parse_grammar.proofs.LocalRules as locals
 use Rattle.cilk_parse_grammar.specs.Classes.{cls, a_mark, names}
 use Rattle.cilk_parse_grammar.specs.Reading.{whole_of}
 use Rattle.cilk_parse_grammar.specs.Parts.{Part, the_name, token, an_expr, a_value, nest, Value, computed, Means}

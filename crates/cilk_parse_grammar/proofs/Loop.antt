@@ -5,12 +5,12 @@ use Rattle.cilk_tree_syntax.specs.lexeme.Lexeme.{Piece}
 use Rattle.cilk_tree_syntax.specs.lexeme.declared.mark.Mark.TheVariants as marks
 use Rattle.cilk_tree_syntax.specs.declared.operator.BinOp.{BinOp}
 use Rattle.cilk_tree_syntax.specs.Tree as tree
-use Rattle.cilk_parse_rules.specs.declared.fault.Fault.{Fault}
-use Rattle.cilk_parse_rules.specs.declared.fault.Fault.TheVariants.{TooDeep}
-use Rattle.cilk_parse_rules.specs.declared.fault.ReadError.{ReadError}
-use Rattle.cilk_parse_rules.specs.declared.fault.ReadError.TheVariants as errors
-use Rattle.cilk_parse_rules.specs.ReadsAs.{Fails}
-use Rattle.cilk_parse_rules.specs.Rule.{◌>>=◌, behind, token_at}
+use Rattle.cilk_parse_grammar.specs.declared.fault.Fault.{Fault}
+use Rattle.cilk_parse_grammar.specs.declared.fault.Fault.TheVariants.{TooDeep}
+use Rattle.cilk_parse_grammar.specs.declared.fault.ReadError.{ReadError}
+use Rattle.cilk_parse_grammar.specs.declared.fault.ReadError.TheVariants as errors
+use Rattle.cilk_parse_grammar.specs.ReadsAs.{Fails}
+use Rattle.cilk_parse_grammar.specs.Rule.{◌>>=◌, behind, token_at}
 use Rattle.cilk_parse_grammar.specs.declared.operator.Infix.{Infix}
 use Rattle.cilk_parse_grammar.specs.declared.operator.Infix.TheVariants.{Two, Choice}
 use Rattle.cilk_parse_grammar.specs.Classes.{a_mark, cls}

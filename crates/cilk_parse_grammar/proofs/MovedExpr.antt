@@ -2,7 +2,7 @@
 use Rattle.std.proofs.Common.{◌≡◌, ℕ, suc, ◌+◌, ◌≤◌, List, [], ◌∷◌, ◌++◌, map, refl, sym, ap, ◌∙◌, arith}
 use Rattle.cilk_tree_syntax.specs.lexeme.Lexeme.{Lexeme, Piece}
 use Rattle.cilk_tree_syntax.specs.Tree as tree
-use Rattle.cilk_parse_rules.proofs.Moved as moved
+use Rattle.cilk_parse_grammar.proofs.Moved as moved
 use Rattle.cilk_parse_grammar.specs.Classes.{class_of, lexeme_of}
 use Rattle.cilk_parse_grammar.specs.Operators.{infix_of, sign_of}
 use Rattle.cilk_parse_grammar.specs.Expressions.{operators, word_at, Spells, SpellsWhole, a_number_is, a_name_is, synched_is, an_element}

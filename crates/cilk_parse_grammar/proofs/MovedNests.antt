@@ -2,8 +2,8 @@
 use Rattle.std.proofs.Common.{◌≡◌, ℕ, zero, suc, List, [], ◌∷◌, map, Option, Some, None, refl, sym, ap, ◌∙◌, inl, inr}
 use Rattle.cilk_tree_syntax.specs.lexeme.Lexeme.{Lexeme, Piece, name, number, literal, inclusion}
 use Rattle.cilk_tree_syntax.specs.Tree as tree
-use Rattle.cilk_parse_rules.specs.Rule.{has}
-use Rattle.cilk_parse_rules.proofs.Moved as moved
+use Rattle.cilk_parse_grammar.specs.Rule.{has}
+use Rattle.cilk_parse_grammar.proofs.Moved as moved
 use Rattle.cilk_parse_grammar.specs.Classes.{class_of, lexeme_of}
 use Rattle.cilk_parse_grammar.proofs.MovedExpr.{expr_moved}
 use Rattle.cilk_parse_grammar.specs.Parts.{Leaf, the_word, the_name, the_number, the_literal, the_header, Nest, a_statement, no_block, an_inlet, Part}

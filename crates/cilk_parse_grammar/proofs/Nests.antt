@@ -2,19 +2,19 @@
 use Rattle.std.proofs.Common.{◌≡◌, ℕ, zero, suc, ◌≤◌, true, false, List, [], ◌∷◌, ◌++◌, length, Option, None, Ok, Err, refl, sym, ap, subst, ◌∙◌, inl}
 use Rattle.std.proofs.Common.{inr, arith}
 use Rattle.cilk_tree_syntax.specs.lexeme.Lexeme.{Piece}
-use Rattle.cilk_parse_rules.specs.declared.fault.Fault.TheVariants.{Unexpected, TooDeep}
-use Rattle.cilk_parse_rules.specs.Rule as rule
-use Rattle.cilk_parse_rules.specs.Rule.{Rule, Read, has, class_at}
-use Rattle.cilk_parse_rules.proofs.Tools.{chosen}
-use Rattle.cilk_parse_rules.proofs.Begun as begun
-use Rattle.cilk_parse_rules.proofs.Begun.{Begun}
-use Rattle.cilk_parse_rules.proofs.Sound as sound
-use Rattle.cilk_parse_rules.proofs.Sound.{Took}
-use Rattle.cilk_parse_rules.proofs.Complete as complete
-use Rattle.cilk_parse_rules.proofs.Complete.{begins_so}
-use Rattle.cilk_parse_rules.proofs.Local.{SameHead, same_class, Local, local_choice, stuck_here, unexpected, too_deep}
-use Rattle.cilk_parse_rules.proofs.LocalRules as locals
-use Rattle.cilk_parse_rules.proofs.Room as room
+use Rattle.cilk_parse_grammar.specs.declared.fault.Fault.TheVariants.{Unexpected, TooDeep}
+use Rattle.cilk_parse_grammar.specs.Rule as rule
+use Rattle.cilk_parse_grammar.specs.Rule.{Rule, Read, has, class_at}
+use Rattle.cilk_parse_grammar.proofs.RulesTools.{chosen}
+use Rattle.cilk_parse_grammar.proofs.Begun as begun
+use Rattle.cilk_parse_grammar.proofs.Begun.{Begun}
+use Rattle.cilk_parse_grammar.proofs.RulesSound as sound
+use Rattle.cilk_parse_grammar.proofs.RulesSound.{Took}
+use Rattle.cilk_parse_grammar.proofs.RulesComplete as complete
+use Rattle.cilk_parse_grammar.proofs.RulesComplete.{begins_so}
+use Rattle.cilk_parse_grammar.proofs.RulesLocal.{SameHead, same_class, Local, local_choice, stuck_here, unexpected, too_deep}
+use Rattle.cilk_parse_grammar.proofs.LocalRules as locals
+use Rattle.cilk_parse_grammar.proofs.Room as room
 use Rattle.cilk_parse_grammar.specs.Classes.{cls}
 use Rattle.cilk_parse_grammar.specs.Parts.{Nest, Part, token, an_expr, a_value, nest, NestMeans, Means}
 use Rattle.cilk_parse_grammar.specs.Grammar.{rule_of}

@@ -8,7 +8,7 @@ use Rattle.cilk_tree_syntax.specs.lexeme.declared.mark.Mark.TheVariants as marks
 use Rattle.cilk_tree_syntax.specs.lexeme.declared.token.TokenKind.{TokenKind}
 use Rattle.cilk_tree_syntax.specs.lexeme.declared.token.TokenKind.TheVariants as kind
 use Rattle.cilk_tree_syntax.specs.declared.un_op.UnOp.{UnOp}
-use Rattle.cilk_parse_rules.specs.Rule.{has, class_at}
+use Rattle.cilk_parse_grammar.specs.Rule.{has, class_at}
 use Rattle.cilk_parse_grammar.specs.Classes.{a_mark, class_of, cls}
 use Rattle.cilk_parse_grammar.specs.Operators.{sign_of}
 use Rattle.cilk_parse_grammar.specs.Expressions.{begins_expr}

@@ -4,10 +4,10 @@ use Rattle.std.proofs.lemmas.List.{append-nil}
 use Rattle.cilk_tree_syntax.specs.lexeme.Lexeme.{Piece}
 use Rattle.cilk_tree_syntax.specs.lexeme.declared.header.Header.{Header}
 use Rattle.cilk_tree_syntax.specs.Tree as tree
-use Rattle.cilk_parse_rules.specs.Rule as rule
-use Rattle.cilk_parse_rules.specs.Rule.{◌>>=◌, Rule, Read, has, class_at}
-use Rattle.cilk_parse_rules.proofs.Tools.{bind_ok, ok_is}
-use Rattle.cilk_parse_rules.proofs.Local.{SameHead, Local, local_bind, ok_here, stuck_here, unexpected}
+use Rattle.cilk_parse_grammar.specs.Rule as rule
+use Rattle.cilk_parse_grammar.specs.Rule.{◌>>=◌, Rule, Read, has, class_at}
+use Rattle.cilk_parse_grammar.proofs.RulesTools.{bind_ok, ok_is}
+use Rattle.cilk_parse_grammar.proofs.RulesLocal.{SameHead, Local, local_bind, ok_here, stuck_here, unexpected}
 use Rattle.cilk_parse_grammar.specs.Classes.{cls}
 use Rattle.cilk_parse_grammar.specs.Parts.{Means}
 use Rattle.cilk_parse_grammar.specs.Grammar.{program}

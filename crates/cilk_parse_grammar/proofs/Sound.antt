@@ -12,9 +12,9 @@ use Rattle.cilk_tree_syntax.specs.lexeme.declared.token.TokenKind.TheVariants as
 use Rattle.cilk_tree_syntax.specs.declared.operator.BinOp.{BinOp}
 use Rattle.cilk_tree_syntax.specs.declared.un_op.UnOp.{UnOp}
 use Rattle.cilk_tree_syntax.specs.Tree as tree
-use Rattle.cilk_parse_rules.specs.declared.fault.Fault.TheVariants.{TooDeep}
-use Rattle.cilk_parse_rules.specs.Rule.{◌>>=◌, behind, is, class_at, token_at}
-use Rattle.cilk_parse_rules.proofs.Tools.{bind_ok, ok_is, chosen}
+use Rattle.cilk_parse_grammar.specs.declared.fault.Fault.TheVariants.{TooDeep}
+use Rattle.cilk_parse_grammar.specs.Rule.{◌>>=◌, behind, is, class_at, token_at}
+use Rattle.cilk_parse_grammar.proofs.RulesTools.{bind_ok, ok_is, chosen}
 use Rattle.cilk_parse_grammar.specs.declared.operator.Infix.{Infix}
 use Rattle.cilk_parse_grammar.specs.declared.operator.Infix.TheVariants.{Two, Choice}
 use Rattle.cilk_parse_grammar.specs.Classes.{a_word, a_mark, cls}

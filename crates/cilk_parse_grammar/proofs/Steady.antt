@@ -1,8 +1,8 @@
 -- The tests by which rules go on give the same on what is the same but for places.
 use Rattle.std.proofs.Common.{◌≡◌, ◌&&◌, Bool, true, false, refl}
 use Rattle.std.proofs.lemmas.Bool.{and_parts}
-use Rattle.cilk_parse_rules.specs.Rule.{Rule, done, skip, part, and_then, either, many, nearest, by_value}
-use Rattle.cilk_parse_rules.specs.Alike as alike
+use Rattle.cilk_parse_grammar.specs.Rule.{Rule, done, skip, part, and_then, either, many, nearest, by_value}
+use Rattle.cilk_parse_grammar.specs.Alike as alike
 use Rattle.cilk_parse_grammar.specs.Parts.{Means, Nest, a_statement, no_block, an_inlet}
 use Rattle.cilk_parse_grammar.specs.Grammar as grammar
 use Rattle.cilk_parse_grammar.specs.Grammar.{rule_of, program}

@@ -1,8 +1,8 @@
 -- Tables by the classes of tokens, and what the tables of operators have.
 use Rattle.std.proofs.Common.{◌≡◌, ℕ, ◌<◌, ◌==◌, ◌&&◌, Bool, true, false, List, [], ◌∷◌, Option, Some, None, refl, sym, ap, ◌∙◌, inl, inr, arith, nat_lt}
 use Rattle.std.proofs.lemmas.Bool.{ltb-true, eqb-true, and_parts, or_right, or_left, or_parts}
-use Rattle.cilk_parse_rules.specs.Rule.{is, has}
-use Rattle.cilk_parse_rules.proofs.Tools.{chosen}
+use Rattle.cilk_parse_grammar.specs.Rule.{is, has}
+use Rattle.cilk_parse_grammar.proofs.RulesTools.{chosen}
 use Rattle.cilk_tree_syntax.specs.declared.operator.BinOp.{BinOp}
 use Rattle.cilk_parse_grammar.specs.declared.operator.Infix.{Infix}
 use Rattle.cilk_parse_grammar.specs.declared.operator.Infix.TheVariants.{Two, Choice}

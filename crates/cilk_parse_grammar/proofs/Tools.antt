@@ -7,9 +7,9 @@ use Rattle.cilk_tree_syntax.specs.lexeme.declared.mark.Mark.{Mark}
 use Rattle.cilk_tree_syntax.specs.lexeme.declared.token.TokenKind.{TokenKind}
 use Rattle.cilk_tree_syntax.specs.lexeme.declared.token.TokenKind.TheVariants as kind
 use Rattle.cilk_tree_syntax.specs.Tree as tree
-use Rattle.cilk_parse_rules.specs.Rule.{is, behind, class_at, token_at}
-use Rattle.cilk_parse_rules.proofs.Tools.{ok_is}
-use Rattle.cilk_parse_rules.proofs.Tokens.{token_is, token_here}
+use Rattle.cilk_parse_grammar.specs.Rule.{is, behind, class_at, token_at}
+use Rattle.cilk_parse_grammar.proofs.RulesTools.{ok_is}
+use Rattle.cilk_parse_grammar.proofs.Tokens.{token_is, token_here}
 use Rattle.cilk_parse_grammar.specs.declared.operator.Infix.{Infix}
 use Rattle.cilk_parse_grammar.specs.Classes.{cls, class_of, a_word, a_mark}
 use Rattle.cilk_parse_grammar.specs.Operators.{operand, infix_of}

@@ -8,17 +8,17 @@ use Rattle.cilk_tree_syntax.specs.lexeme.declared.keyword.Keyword.TheVariants as
 use Rattle.cilk_tree_syntax.specs.lexeme.declared.mark.Mark.{Mark}
 use Rattle.cilk_tree_syntax.specs.lexeme.declared.mark.Mark.TheVariants as sign
 use Rattle.cilk_tree_syntax.specs.Tree as tree
-use Rattle.cilk_parse_rules.specs.Rule as rule
-use Rattle.cilk_parse_rules.specs.Rule.{◌>>=◌, Rule, Read, has, is, behind, class_at, and_then, done}
-use Rattle.cilk_parse_rules.proofs.Tools.{bind_ok, ok_is, chosen}
-use Rattle.cilk_parse_rules.proofs.Tokens.{apart_has}
-use Rattle.cilk_parse_rules.proofs.Begun as begun
-use Rattle.cilk_parse_rules.proofs.Begun.{Begun, with_token, with_nothing, wider}
-use Rattle.cilk_parse_rules.proofs.Sound as sound
-use Rattle.cilk_parse_rules.proofs.Sound.{Took}
-use Rattle.cilk_parse_rules.proofs.Complete as complete
-use Rattle.cilk_parse_rules.proofs.Complete.{begins_so}
-use Rattle.cilk_parse_rules.proofs.Room as room
+use Rattle.cilk_parse_grammar.specs.Rule as rule
+use Rattle.cilk_parse_grammar.specs.Rule.{◌>>=◌, Rule, Read, has, is, behind, class_at, and_then, done}
+use Rattle.cilk_parse_grammar.proofs.RulesTools.{bind_ok, ok_is, chosen}
+use Rattle.cilk_parse_grammar.proofs.Tokens.{apart_has}
+use Rattle.cilk_parse_grammar.proofs.Begun as begun
+use Rattle.cilk_parse_grammar.proofs.Begun.{Begun, with_token, with_nothing, wider}
+use Rattle.cilk_parse_grammar.proofs.RulesSound as sound
+use Rattle.cilk_parse_grammar.proofs.RulesSound.{Took}
+use Rattle.cilk_parse_grammar.proofs.RulesComplete as complete
+use Rattle.cilk_parse_grammar.proofs.RulesComplete.{begins_so}
+use Rattle.cilk_parse_grammar.proofs.Room as room
 use Rattle.cilk_parse_grammar.specs.Classes.{cls, class_of, a_word, a_mark, names}
 use Rattle.cilk_parse_grammar.specs.Expressions.{begins_expr, goes_on_expr, SpellsWhole}
 use Rattle.cilk_parse_grammar.specs.Reading.{whole_of}

@@ -5,10 +5,10 @@ use Rattle.std.proofs.Math.Seq.{drop-append_seam}
 use Rattle.std.proofs.lemmas.List.{map-append, take-append-drop}
 use Rattle.cilk_tree_syntax.specs.lexeme.Lexeme.{Lexeme, Piece}
 use Rattle.cilk_tree_syntax.specs.Tree as tree
-use Rattle.cilk_parse_rules.specs.declared.fault.Fault.{Fault}
-use Rattle.cilk_parse_rules.specs.declared.fault.Fault.TheVariants.{Unexpected, TooDeep}
-use Rattle.cilk_parse_rules.specs.Rule.{Read}
-use Rattle.cilk_parse_rules.proofs.Local.{SameHead, Local, Stuck, Full, unexpected, too_deep}
+use Rattle.cilk_parse_grammar.specs.declared.fault.Fault.{Fault}
+use Rattle.cilk_parse_grammar.specs.declared.fault.Fault.TheVariants.{Unexpected, TooDeep}
+use Rattle.cilk_parse_grammar.specs.Rule.{Read}
+use Rattle.cilk_parse_grammar.proofs.RulesLocal.{SameHead, Local, Stuck, Full, unexpected, too_deep}
 use Rattle.cilk_parse_grammar.specs.Classes.{lexeme_of}
 use Rattle.cilk_parse_grammar.specs.Spelling.{SpellsProgram, program_of}
 use Rattle.cilk_parse_grammar.specs.Fault.{lexemes, IsNotGoingOn, at_token, at_end, any_limits, the_limits, start_or, place_left}

@@ -6,11 +6,11 @@ use Rattle.cilk_tree_syntax.specs.lexeme.declared.keyword.Keyword.TheVariants as
 use Rattle.cilk_tree_syntax.specs.lexeme.declared.mark.Mark.TheVariants as marks
 use Rattle.cilk_tree_syntax.specs.declared.un_op.UnOp.{UnOp}
 use Rattle.cilk_tree_syntax.specs.Tree as tree
-use Rattle.cilk_parse_rules.specs.Rule.{has, class_at}
-use Rattle.cilk_parse_rules.proofs.Tools.{bind_ok, ok_is}
-use Rattle.cilk_parse_rules.proofs.Tokens.{has_append}
-use Rattle.cilk_parse_rules.proofs.Begun.{Begun, with_token, with_nothing}
-use Rattle.cilk_parse_rules.proofs.Sound as sound
+use Rattle.cilk_parse_grammar.specs.Rule.{has, class_at}
+use Rattle.cilk_parse_grammar.proofs.RulesTools.{bind_ok, ok_is}
+use Rattle.cilk_parse_grammar.proofs.Tokens.{has_append}
+use Rattle.cilk_parse_grammar.proofs.Begun.{Begun, with_token, with_nothing}
+use Rattle.cilk_parse_grammar.proofs.RulesSound as sound
 use Rattle.cilk_parse_grammar.specs.Classes.{a_word, a_mark, a_number, names, class_of, cls}
 use Rattle.cilk_parse_grammar.specs.Operators.{infixes, prefixes, classes, sign_of}
 use Rattle.cilk_parse_grammar.specs.Expressions.{operators, Spells, SpellsWhole, a_number_is, a_name_is, synched_is, an_element, in_parentheses}

@@ -4,7 +4,7 @@ use Rattle.cilk_tree_syntax.specs.lexeme.declared.keyword.Keyword.{Keyword}
 use Rattle.cilk_tree_syntax.specs.lexeme.declared.mark.Mark.{Mark}
 use Rattle.cilk_tree_syntax.specs.lexeme.declared.mark.Mark.TheVariants as sign
 use Rattle.cilk_tree_syntax.specs.Tree.{Word, Expr, Stmt, Local}
-use Rattle.cilk_parse_rules.specs.Rule.{Rule, done, skip, part, and_then, either, many}
+use Rattle.cilk_parse_grammar.specs.Rule.{Rule, done, skip, part, and_then, either, many}
 use Rattle.cilk_parse_grammar.specs.Classes.{a_word, a_mark}
 use Rattle.cilk_parse_grammar.specs.Parts.{the_word, the_name, the_number, a_statement, no_block, an_inlet, token, an_expr, a_value, nest, Value, Means}
 

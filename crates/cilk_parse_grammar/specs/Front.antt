@@ -5,8 +5,8 @@ use Rattle.cilk_tree_syntax.specs.lexeme.declared.header.Header.{Header}
 use Rattle.cilk_tree_syntax.specs.lexeme.declared.token.TokenKind.{TokenKind}
 use Rattle.cilk_tree_syntax.specs.lexeme.declared.token.TokenKind.TheVariants as kind
 use Rattle.cilk_tree_syntax.specs.Tree as tree
-use Rattle.cilk_parse_rules.specs.declared.fault.Fault.TheVariants.{Unexpected}
-use Rattle.cilk_parse_rules.specs.Rule.{Read, class_at}
+use Rattle.cilk_parse_grammar.specs.declared.fault.Fault.TheVariants.{Unexpected}
+use Rattle.cilk_parse_grammar.specs.Rule.{Read, class_at}
 use Rattle.cilk_parse_grammar.specs.declared.operator.Infix.{Infix}
 use Rattle.cilk_parse_grammar.specs.Classes.{cls}
 use Rattle.cilk_parse_grammar.specs.Operators.{infix_of}

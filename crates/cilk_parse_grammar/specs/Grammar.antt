@@ -15,7 +15,7 @@ use Rattle.cilk_tree_syntax.specs.declared.return_type.ReturnType.{ReturnType}
 use Rattle.cilk_tree_syntax.specs.declared.return_type.ReturnType.TheVariants as returns
 use Rattle.cilk_tree_syntax.specs.Tree as tree
 use Rattle.cilk_tree_syntax.specs.Tree.{Word, Expr, stmts_of, locals_of}
-use Rattle.cilk_parse_rules.specs.Rule.{Rule, done, skip, part, and_then, either, many, nearest, by_value}
+use Rattle.cilk_parse_grammar.specs.Rule.{Rule, done, skip, part, and_then, either, many, nearest, by_value}
 use Rattle.cilk_parse_grammar.specs.Classes.{names, the_main, the_char, the_printf, the_lock_init, the_lock, the_unlock, other_name}
 use Rattle.cilk_parse_grammar.specs.Parts.{token, the_literal, the_header, Means, Nest, NestMeans, a_statement, no_block, an_inlet, assigned}
 use Rattle.cilk_parse_grammar.specs.Forms.{word, mark, keyword_place, name_of, number, expression, value, statement, unbraced, inlet, before, ended}

@@ -1,3 +1,6 @@
+pub mod Rule
+pub mod Alike
+pub mod ReadsAs
 pub mod Classes
 pub mod Operators
 pub mod Expressions
@@ -12,8 +15,6 @@ pub mod Grammar
 pub mod Spelling
 pub mod Likes
 pub mod Fault
-pub use Rattle.cilk_parse_rules.specs as rules
-pub use Rattle.cilk_parse_rules.specs.Rule
 pub use Rattle.cilk_tree_syntax.specs as syntax
 pub use Rattle.cilk_tree_syntax.specs.Tree
 pub use Rattle.cilk_tree_syntax.specs.lexeme

@@ -1,7 +1,7 @@
 -- The classes of names, as a program tells them apart.
 use Rattle.std.specs.Prelude.{ℕ, List, [], ◌∷◌, Option, Some, None}
 use Rattle.cilk_tree_syntax.specs.lexeme.Lexeme.{Piece}
-use Rattle.cilk_parse_rules.specs.Rule.{class_at}
+use Rattle.cilk_parse_grammar.specs.Rule.{class_at}
 use Rattle.cilk_parse_grammar.specs.declared.name_class.NameClass.{NameClass}
 use Rattle.cilk_parse_grammar.specs.declared.name_class.NameClass.TheVariants as class
 use Rattle.cilk_parse_grammar.specs.Classes.{cls, the_main, the_char, the_printf, the_lock_init, the_lock, the_unlock, other_name}

@@ -6,9 +6,9 @@ use Rattle.cilk_tree_syntax.specs.lexeme.declared.header.Header.{Header}
 use Rattle.cilk_tree_syntax.specs.lexeme.declared.keyword.Keyword.TheVariants as key
 use Rattle.cilk_tree_syntax.specs.lexeme.declared.mark.Mark.TheVariants as sign
 use Rattle.cilk_tree_syntax.specs.Tree as tree
-use Rattle.cilk_parse_rules.specs.declared.fault.Fault.TheVariants.{Unexpected, TooDeep}
-use Rattle.cilk_parse_rules.specs.Rule as rule
-use Rattle.cilk_parse_rules.specs.Rule.{◌>>=◌, Rule, Read, behind, has, is, class_at, and_then, done}
+use Rattle.cilk_parse_grammar.specs.declared.fault.Fault.TheVariants.{Unexpected, TooDeep}
+use Rattle.cilk_parse_grammar.specs.Rule as rule
+use Rattle.cilk_parse_grammar.specs.Rule.{◌>>=◌, Rule, Read, behind, has, is, class_at, and_then, done}
 use Rattle.cilk_parse_grammar.specs.Classes.{cls, a_word, a_mark, a_number, a_literal, an_inclusion, names, the_main, the_char, the_printf}
 use Rattle.cilk_parse_grammar.specs.Classes.{the_lock_init, the_lock, the_unlock, other_name}
 use Rattle.cilk_parse_grammar.specs.Parts.{Leaf, the_word, the_name, the_number, the_literal, the_header, Nest, a_statement, no_block, an_inlet, Part}

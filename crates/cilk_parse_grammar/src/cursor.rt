@@ -2,18 +2,18 @@
 
 ghost use Rattle.std.specs.Prelude.{◌≡◌, ◌+◌, ◌-◌, ◌<◌, ◌^◌, All, length, OnOk};
 ghost use Rattle.cilk_tree_syntax.specs.lexeme.Lexeme.{pieces_of};
-ghost use Rattle.cilk_parse_rules.specs.ReadsAs.{ReadsAs};
-ghost use Rattle.cilk_parse_rules.specs.Rule.{behind, has, is, class_at, token_at};
+ghost use Rattle.cilk_parse_grammar.specs.ReadsAs.{ReadsAs};
+ghost use Rattle.cilk_parse_grammar.specs.Rule.{behind, has, is, class_at, token_at};
 ghost use Rattle.cilk_parse_grammar.specs.Classes.{a_word, a_mark, cls};
 ghost use Rattle.cilk_parse_grammar.specs.Front.{kind_at, place_at, infix_at, name_at, number_at, header_at, literal_at};
 ghost use Rattle.cilk_parse_grammar.specs.Expressions.{begins_expr};
 ghost use Rattle.cilk_parse_grammar.specs.NameClasses.{name_class_at};
 ghost use Rattle.cilk_parse_grammar.specs.Within.{IsWithin};
 
+use crate::fault::{Fault, ReadError};
 use crate::literal::said;
 use crate::name_class::NameClass;
 use crate::operator::{Infix, begins_by, infix_of};
-use cilk_parse_rules::{Fault, ReadError};
 use cilk_tree_syntax::{Header, Keyword, Literal, Mark, Token, TokenKind, Word};
 use std::alloc::Global;
 use std::marker::Model;

@@ -3,7 +3,7 @@
 ghost use Rattle.std.specs.Prelude.{◌≡◌, ℕ, ◌≤◌, length, List, [], Ok, Err, map};
 ghost use Rattle.cilk_tree_syntax.specs.lexeme.Lexeme.{Piece};
 ghost use Rattle.cilk_tree_syntax.specs.Tree as tree;
-ghost use Rattle.cilk_parse_rules.specs.declared.fault.Fault.TheVariants.{Unexpected, TooDeep};
+ghost use Rattle.cilk_parse_grammar.specs.declared.fault.Fault.TheVariants.{Unexpected, TooDeep};
 ghost use Rattle.cilk_parse_grammar.specs.Expressions.{operator_limit, parenthesis_limit};
 ghost use Rattle.cilk_tree_syntax.specs.Bare.{bare_program};
 ghost use Rattle.cilk_parse_grammar.specs.Spelling.{nesting_limit, SpellsProgram, program_of};

@@ -1,15 +1,15 @@
 //! How expressions are read: operands, operators and subscripts, within the limits of nesting.
 
 ghost use Rattle.std.specs.Prelude.{◌≡◌, ◌<◌, ◌≤◌, MatchResult, length};
-ghost use Rattle.cilk_parse_rules.specs.ReadsAs.{ReadsAs};
+ghost use Rattle.cilk_parse_grammar.specs.ReadsAs.{ReadsAs};
 ghost use Rattle.cilk_tree_syntax.specs.Tree as tree;
 ghost use Rattle.cilk_parse_grammar.specs.Expressions.{operator_limit, parenthesis_limit};
 ghost use Rattle.cilk_parse_grammar.specs.Operators.{operand};
 ghost use Rattle.cilk_parse_grammar.specs.Reading.{choice_at, operand_at, named_at, subscript_at, open_at, sign_at, expr_of, whole_of};
 
 use crate::cursor::Cursor;
+use crate::fault::ReadError;
 use crate::operator::{Infix, sign_of};
-use cilk_parse_rules::ReadError;
 use cilk_tree_syntax::{BinOp, Expr, ExprNode, Keyword, Mark, TokenKind, UnOp, Word};
 use std::alloc::Global;
 

@@ -7,8 +7,8 @@ use Rattle.cilk_explore.specs.Exploring.{endless_of}
 use Rattle.cilk_explore.specs.Telling.{told_by}
 use Rattle.cilk_explore.specs.declared.exploration.Exploration.{Exploration}
 use Rattle.cilk_explore.specs.declared.told.Told as code
-use Rattle.cilk_explore.specs.searching.explore.Search.{Told}
-use Rattle.cilk_seed.specs.model.Choice.{Choice}
+use Rattle.cilk_explore.specs.explore.Search.{Told}
+use Rattle.cilk_run.specs.model.Choice.{Choice}
 use Rattle.cilk_program.specs.Exploring.{outcome_text, outcomes_text}
 use Rattle.cilk_program.specs.Outcomes.{Outcome, with_end, without_end, is_found_before, with_endless, outcomes_of, outcomes_by, before_endless}
 use Rattle.cilk_program.specs.Outcomes.{ended_before, before_by}

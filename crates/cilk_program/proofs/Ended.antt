@@ -15,7 +15,7 @@ use Rattle.cilk_program.proofs.Whole.{any_held}
 use Rattle.cilk_program.specs.Taped.{Declines}
 use Rattle.cilk_program.specs.declared.failure.RecordFailure.{RecordFailure}
 use Rattle.cilk_program.specs.declared.failure.RecordFailure.TheVariants as why
-use Rattle.cilk_words.specs.CommandLine.{Asked, Wanted, printed, checked, run, explored, replayed, measured, debugged, asked}
+use Rattle.cilk_words.specs.CommandLine.{Asked, Wanted, printed, checked, run, explored, replayed, measured, raced, debugged, asked}
 use Rattle.cilk_words.specs.Refusing.{IsNoRequest, asks_for_help, asks_for_version, asks_to_show}
 use Rattle.cilk_words.specs.declared.refusal.NoRequest.{NoRequest}
 use Rattle.cilk_words.specs.declared.refusal.NoRequest.TheVariants as refusal
@@ -85,6 +85,10 @@ unread (measured None) explain name status known held old new found other is tol
     nothing_read Unready explain name status known old new found other is told
 unread (measured (Some log)) explain name status known held old new found other is told =
     no_program Declines explain name log status known (held log) old new found other is told
+unread (raced None) explain name status known held old new found other is told =
+    nothing_read Unready explain name status known old new found other is told
+unread (raced (Some log)) explain name status known held old new found other is told =
+    no_program Declines explain name log status known (held log) old new found other is told
 unread (debugged log) explain name status known held old new found other is told =
     no_program Declines explain name log status known (held log) old new found other is told
 
@@ -97,6 +101,7 @@ leaves_nothing (run workers limit log seed runs) status known held entered old n
 leaves_nothing (explored workers limit logs) status known held entered old new other same = λ bad. absurd (other bad)
 leaves_nothing (replayed log) status known held entered old new other same = λ bad. absurd (other bad)
 leaves_nothing (measured log) status known held entered old new other same = λ bad. absurd (other bad)
+leaves_nothing (raced log) status known held entered old new other same = λ bad. absurd (other bad)
 leaves_nothing (debugged log) status known held entered old new other same = (λ bad. absurd (other bad), λ not. inl same)
 
 -- memory that ran out before a text was opened: the line has no name

@@ -15,14 +15,14 @@ use Rattle.cilk_commands.specs.declared.status.Status.TheVariants as status
 use Rattle.cilk_commands.proofs.WholeText.{gives_up, whole_held}
 use Rattle.cilk_explore.specs.Exploring.{IsExploration}
 use Rattle.cilk_explore.specs.declared.exploration.Exploration.{Exploration}
-use Rattle.cilk_seed.specs.model.Choice.{Choice}
+use Rattle.cilk_run.specs.model.Choice.{Choice}
 use Rattle.cilk_program.specs.Exploring.{exploration_text, status_by, recorded, logs_of}
 use Rattle.cilk_program.specs.Exploring.{AreKept, GivesUpExploring, IsExplored, Keeps, KeepsFront}
 use Rattle.cilk_program.specs.Outcomes.{Outcome, log_in, outcomes_by}
 use Rattle.cilk_program.specs.Unexplored.{IsUnexplored, TellsUnexplored, status_of}
 use Rattle.cilk_program.specs.declared.unexplored.Unexplored.{Unexplored}
 use Rattle.cilk_program.specs.declared.unexplored.Unexplored.TheVariants as why
-use Rattle.cilk_program.proofs.Told.{not_both}
+use Rattle.cilk_commands.proofs.Statuses.{not_both}
 
 -- ---- the logs
 

@@ -5,15 +5,15 @@ use Rattle.std.proofs.lemmas.List.{length-map}
 use Rattle.std.proofs.Math.Seq.{take-length}
 use Rattle.cilk_commands.specs.syntax.Tree.{Program}
 use Rattle.cilk_commands.specs.labelled.Bodies.{label}
-use Rattle.cilk_seed.specs.model.Run.{Standing, after}
-use Rattle.cilk_seed.specs.model.End as end
-use Rattle.cilk_seed.specs.run.Runs as Runs
-use Rattle.cilk_seed.specs.run.declared.run_result.Run.{Run}
-use Rattle.cilk_seed.specs.choices.Words.{choice_of, end_of}
-use Rattle.cilk_seed.specs.choices.declared.choice.Choice as code
-use Rattle.cilk_seed.specs.machine.Situation.{Situation}
-use Rattle.cilk_seed.specs.machine.Stands.{StandsAt}
-use Rattle.cilk_seed.specs.Drawn.{drawn}
+use Rattle.cilk_run.specs.model.Run.{Standing, after}
+use Rattle.cilk_run.specs.model.End as end
+use Rattle.cilk_run.specs.Runs as Runs
+use Rattle.cilk_run.specs.declared.run_result.Run.{Run}
+use Rattle.cilk_run.specs.choices.Words.{choice_of, end_of}
+use Rattle.cilk_run.specs.choices.declared.choice.Choice as code
+use Rattle.cilk_run.specs.machine.Situation.{Situation}
+use Rattle.cilk_run.specs.machine.Stands.{StandsAt}
+use Rattle.cilk_run.specs.Drawn.{drawn}
 use Rattle.cilk_measure.specs.debug.log.Text.{log_text}
 use Rattle.cilk_measure.specs.debug.log.Words.{log_of}
 use Rattle.cilk_measure.specs.debug.Tape.{Tape, tape_of, IsAt}
@@ -23,7 +23,7 @@ use Rattle.cilk_program.specs.Running.{IsRun, status_at}
 use Rattle.cilk_program.specs.declared.closing.Closing.{Closing}
 use Rattle.cilk_program.specs.declared.run.RunAnswer.{RunAnswer}
 use Rattle.cilk_program.specs.Replaying.{ClosesAt, IsReplayed}
-use Rattle.cilk_program.specs.Measuring.{IsMeasured, IsMeasuredRun, measured_limit}
+use Rattle.cilk_program.specs.OnTapes.{IsOfRun, alone_limit}
 use Rattle.cilk_program.specs.Taped.{IsOwnTape}
 
 -- the choices are those of the seed, if there is one
@@ -113,12 +113,11 @@ pub all_replayed : (status : Status) (text bytes answer : List ℕ) (p : Program
 all_replayed status text bytes answer p workers made m is_tape a closes =
     replayed status text bytes answer (tape_of p workers made) (length made) m is_tape (sym (length-map made choice_of)) a closes
 
--- ---- numbers
+-- ---- what is told of a run by one worker
 
--- those of a run by one worker
-pub alone_is : (p : Program) (r : Run) (answer text : List ℕ) → Runs.IsRun p 1 measured_limit r
-    → IsMeasured (tape_of p r.log.workers r.log.choices) answer → IsReady text p → IsMeasuredRun text answer
-alone_is p r answer text l are ready =
+pub alone_is : (Tells : Tape → Status → List ℕ → Type 0) (p : Program) (r : Run) (status : Status) (answer text : List ℕ) → Runs.IsRun p 1 alone_limit r
+    → Tells (tape_of p r.log.workers r.log.choices) status answer → IsReady text p → IsOfRun Tells text status answer
+alone_is Tells p r status answer text l told ready =
     let choices = map choice_of r.log.choices in
     let count : length r.log.choices ≡ length choices = sym (length-map r.log.choices choice_of) in
     record {
@@ -127,7 +126,7 @@ alone_is p r answer text l are ready =
       alone = l.workers;
       at = l.at;
       led = (λ i. after (label p) (l.workers i) (take-length choices i)) ∙ l.led;
-      within = subst (λ n. n ≤ measured_limit) count l.within;
+      within = subst (λ n. n ≤ alone_limit) count l.within;
       whole = λ e. sym count ∙ l.whole e;
-      is = are;
+      is = told;
     }

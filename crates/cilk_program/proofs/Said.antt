@@ -1,12 +1,12 @@
 -- What is told of a choice that is not possible, and of a trap.
 use Rattle.std.proofs.Common.{◌≡◌, ◌∙◌, inl, inr, ◌++◌, ℕ, Bool, true, false, List, [], Option, refl, sym, ap, subst}
 use Rattle.std.proofs.KnownBytes.{Appends-nil}
-use Rattle.cilk_seed.specs.choices.declared.refusal.Refusal.{Refusal}
-use Rattle.cilk_seed.specs.model.State.{TrapKind}
-use Rattle.cilk_seed.specs.model.End as model
-use Rattle.cilk_seed.specs.choices.Words.{end_of}
-use Rattle.cilk_seed.specs.choices.declared.end.End.{End}
-use Rattle.cilk_seed.specs.choices.declared.end.End.TheVariants as ends
+use Rattle.cilk_run.specs.choices.declared.refusal.Refusal.{Refusal}
+use Rattle.cilk_run.specs.model.State.{TrapKind}
+use Rattle.cilk_run.specs.model.End as model
+use Rattle.cilk_run.specs.choices.Words.{end_of}
+use Rattle.cilk_run.specs.choices.declared.end.End.{End}
+use Rattle.cilk_run.specs.choices.declared.end.End.TheVariants as ends
 use Rattle.cilk_measure.specs.debug.log.Reading.{log_read}
 use Rattle.cilk_measure.specs.debug.log.Text.{Log}
 use Rattle.cilk_measure.specs.debug.declared.replay_fault.ReplayFault.{ReplayFault}

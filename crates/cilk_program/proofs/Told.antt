@@ -6,6 +6,7 @@ use Rattle.cilk_measure.specs.debug.declared.replay_fault.ReplayFault.{ReplayFau
 use Rattle.cilk_measure.specs.debug.declared.replay_fault.ReplayFault.TheVariants as replay
 use Rattle.cilk_commands.specs.Loading.{Unready}
 use Rattle.cilk_commands.specs.Status.{is_answer}
+use Rattle.cilk_commands.proofs.Statuses.{not_both}
 use Rattle.cilk_commands.specs.declared.failure.Failure.{Failure}
 use Rattle.cilk_commands.specs.declared.failure.Failure.TheVariants as failure
 use Rattle.cilk_commands.specs.declared.status.Status.{Status}
@@ -61,20 +62,11 @@ no_usage why.Commands bad = cc
 no_usage why.Answers bad = cc
 
 -- an answer is no failure
-pub not_both : {P : Type 0} (ended : Status) → is_answer ended ≡ true → is_answer ended ≡ false → P
-not_both ended answered none = let bad : true ≡ false = sym answered ∙ none in cc
-
 pub not_told : {P : Type 0} (ended : Status) (found : RecordFailure) → ended ≡ status_of found → is_answer ended ≡ true → P
 not_told ended found is answered = not_both ended answered (ap is_answer is ∙ no_answer found)
 
-pub not_failed : {P : Type 0} (ended : Status) → is_answer ended ≡ true → ended ≡ status.CannotWrite → P
-not_failed ended answered failed = not_both ended answered (ap is_answer failed)
-
 pub no_usage_told : (ended : Status) (found : RecordFailure) → ended ≡ status_of found → ended ≢ status.Usage
 no_usage_told ended found is bad = no_usage found (sym is ∙ bad)
-
-pub no_usage_answered : (ended : Status) → is_answer ended ≡ true → ended ≢ status.Usage
-no_usage_answered ended answered bad = not_both ended answered (ap is_answer bad)
 
 -- what is not a failure of the output
 pub unready_reads : (text : List ℕ) (found : Failure) → Unready text found → status_of (why.Program found) ≢ status.CannotWrite

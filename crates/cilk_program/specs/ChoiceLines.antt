@@ -1,8 +1,8 @@
 -- Where a log tells a choice, and what is told of one that is not possible.
 use Rattle.std.specs.Prelude.{◌≡◌, ◌≤◌, ◌<◌, ◌-◌, ◌+◌, ℕ, zero, suc, if◌then◌else◌, List, ◌∷◌, length, take, map, ◌++◌, Option, Some, None, Ok}
 use Rattle.std.specs.Prelude.{slice_get, codes, decimal}
-use Rattle.cilk_seed.specs.model.Choice.{Choice}
-use Rattle.cilk_seed.specs.choices.declared.refusal.Refusal.{Refusal}
+use Rattle.cilk_run.specs.model.Choice.{Choice}
+use Rattle.cilk_run.specs.choices.declared.refusal.Refusal.{Refusal}
 use Rattle.cilk_measure.specs.debug.log.Choices.{choice_text}
 use Rattle.cilk_measure.specs.debug.log.Reading.{log_read}
 use Rattle.cilk_measure.specs.debug.log.Stretches.{Stretch, once, are_joined, count_of, stretches_of}

@@ -10,7 +10,9 @@ pub mod Taped
 pub mod Running
 pub mod Replaying
 pub mod Tallying
+pub mod OnTapes
 pub mod Measuring
+pub mod Racing
 pub mod Debugging
 pub mod Outcomes
 pub mod Exploring

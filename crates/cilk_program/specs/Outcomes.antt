@@ -3,9 +3,9 @@ use Rattle.std.specs.Prelude.{◌+◌, ◌==◌, nat_lt, if◌then◌else◌, �
 use Rattle.cilk_explore.specs.Exploring.{endless_of}
 use Rattle.cilk_explore.specs.Telling.{told_by}
 use Rattle.cilk_explore.specs.declared.exploration.Exploration.{Exploration}
-use Rattle.cilk_explore.specs.searching.explore.Search.{Told}
-use Rattle.cilk_seed.specs.choices.Words.{choice_of}
-use Rattle.cilk_seed.specs.model.Choice.{Act, step, pop, steal, Choice}
+use Rattle.cilk_explore.specs.explore.Search.{Told}
+use Rattle.cilk_run.specs.choices.Words.{choice_of}
+use Rattle.cilk_run.specs.model.Choice.{Act, step, pop, steal, Choice}
 use Rattle.cilk_program.specs.declared.outcome.Outcome as code
 use Rattle.cilk_program.specs.declared.outcome.Outcome.TheVariants.{Ended, Endless}
 

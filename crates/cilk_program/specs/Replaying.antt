@@ -1,9 +1,9 @@
 -- What a replay writes.
 use Rattle.std.specs.Prelude.{◌≡◌, ℕ, List, length, Option, Some}
 use Rattle.cilk_commands.specs.labelled.Bodies.{label}
-use Rattle.cilk_seed.specs.model.Run.{Standing, Position}
-use Rattle.cilk_seed.specs.model.End as model
-use Rattle.cilk_seed.specs.machine.Situation.{Situation}
+use Rattle.cilk_run.specs.model.Run.{Standing, Position}
+use Rattle.cilk_run.specs.model.End as model
+use Rattle.cilk_run.specs.machine.Situation.{Situation}
 use Rattle.cilk_measure.specs.debug.Tape.{Tape, position_at}
 use Rattle.cilk_commands.specs.Front.{Gains, GainsFront}
 use Rattle.cilk_commands.specs.Held.{Held}

@@ -3,10 +3,10 @@ use Rattle.std.specs.Prelude.{◌≡◌, ◌≤◌, ℕ, List, length, Option, S
 use Rattle.std.specs.Io.KnownBytes.{Appends}
 use Rattle.cilk_commands.specs.syntax.Tree.{Program}
 use Rattle.cilk_commands.specs.labelled.Bodies.{label}
-use Rattle.cilk_seed.specs.model.Choice.{Choice}
-use Rattle.cilk_seed.specs.model.End as model
-use Rattle.cilk_seed.specs.model.Run.{Position, after}
-use Rattle.cilk_seed.specs.Drawn.{drawn}
+use Rattle.cilk_run.specs.model.Choice.{Choice}
+use Rattle.cilk_run.specs.model.End as model
+use Rattle.cilk_run.specs.model.Run.{Position, after}
+use Rattle.cilk_run.specs.Drawn.{drawn}
 use Rattle.cilk_commands.specs.ProgramText.{program_text}
 use Rattle.cilk_measure.specs.debug.log.Naming.{digest_of}
 use Rattle.cilk_measure.specs.debug.log.Text.{log_text}

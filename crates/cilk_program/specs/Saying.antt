@@ -1,13 +1,13 @@
 -- What is told of a choice of a log that is not possible, and of a trap behind an answer.
 use Rattle.std.specs.Prelude.{⊤, ◌≡◌, ◌⊎◌, ℕ, Bool, true, false, List, [], ◌++◌, Option, Some, None, codes}
 use Rattle.std.specs.Io.KnownBytes.{Appends}
-use Rattle.cilk_seed.specs.model.End as model
-use Rattle.cilk_seed.specs.model.Path.{Path}
-use Rattle.cilk_seed.specs.model.State.{TrapKind}
-use Rattle.cilk_seed.specs.machine.spawn.Kinds.{kind_of}
-use Rattle.cilk_seed.specs.choices.declared.end.End.{End}
-use Rattle.cilk_seed.specs.choices.declared.end.End.TheVariants as ends
-use Rattle.cilk_seed.specs.choices.declared.refusal.Refusal.{Refusal}
+use Rattle.cilk_run.specs.model.End as model
+use Rattle.cilk_run.specs.model.Path.{Path}
+use Rattle.cilk_run.specs.model.State.{TrapKind}
+use Rattle.cilk_run.specs.machine.spawn.Kinds.{kind_of}
+use Rattle.cilk_run.specs.choices.declared.end.End.{End}
+use Rattle.cilk_run.specs.choices.declared.end.End.TheVariants as ends
+use Rattle.cilk_run.specs.choices.declared.refusal.Refusal.{Refusal}
 use Rattle.cilk_measure.specs.debug.log.Text.{Log}
 use Rattle.cilk_measure.specs.debug.declared.replay_fault.ReplayFault.{ReplayFault}
 use Rattle.cilk_measure.specs.debug.declared.replay_fault.ReplayFault.TheVariants as replay

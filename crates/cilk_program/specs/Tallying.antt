@@ -5,7 +5,7 @@ use Rattle.cilk_commands.specs.Held.{Held}
 use Rattle.cilk_commands.specs.Loading.{IsReady}
 use Rattle.cilk_commands.specs.labelled.Bodies.{label}
 use Rattle.cilk_commands.specs.syntax.Tree.{Program}
-use Rattle.cilk_seed.specs.Tallied.{IsTallyText}
+use Rattle.cilk_run.specs.Tallied.{IsTallyText}
 
 -- the tally of so many runs, from this seed on, of the program that the bytes of a text are
 pub record IsTally (workers limit seed runs : ℕ) (bytes text : List ℕ) : Type 0 where

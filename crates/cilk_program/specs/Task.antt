@@ -9,12 +9,14 @@ use Rattle.cilk_commands.specs.declared.status.Status.TheVariants.{CannotWrite, 
 use Rattle.cilk_program.specs.Debugging.{Debugs, DebugsFront, DebugsPart}
 use Rattle.cilk_program.specs.Exploring.{Explores, ExploresFront, GivesUpExploring}
 use Rattle.cilk_program.specs.GivingUp.{GivesUpRun, GivesUp as GivesUpOfLog}
-use Rattle.cilk_program.specs.Measuring.{MeasuresLog, MeasuresLogFront, MeasuresRun, MeasuresRunFront}
+use Rattle.cilk_program.specs.Measuring.{IsMeasured}
+use Rattle.cilk_program.specs.OnTapes.{IsOfRun, TellsAsAsked, TellsFrontAsAsked}
+use Rattle.cilk_program.specs.Racing.{AreRaces}
 use Rattle.cilk_program.specs.Replaying.{Replays, ReplaysFront}
 use Rattle.cilk_program.specs.Running.{Runs, RunsFront}
 use Rattle.cilk_program.specs.Tallying.{Tallies, TalliesFront}
 use Rattle.cilk_program.specs.Taped.{Declines}
-use Rattle.cilk_words.specs.CommandLine.{Wanted, printed, checked, run, explored, replayed, measured, debugged}
+use Rattle.cilk_words.specs.CommandLine.{Wanted, printed, checked, run, explored, replayed, measured, raced, debugged}
 
 -- commands are to be answered
 abbrev pub is_session : Wanted → Bool
@@ -24,6 +26,7 @@ is_session (run workers limit log seed runs) = false
 is_session (explored workers limit logs) = false
 is_session (replayed log) = false
 is_session (measured log) = false
+is_session (raced log) = false
 is_session (debugged log) = true
 
 -- a run, with some store for its log, whose bytes may be known
@@ -58,19 +61,11 @@ pub record ExploresFrontSomewhere (workers limit : ℕ) (wanted : Bool) (known o
   pub stored : ℕ → Option (List ℕ)
   pub is : ExploresFront workers limit wanted status stored known old new
 
--- the numbers of a log, or of a run by one worker
-abbrev pub MeasuresAsAsked : Option (List ℕ) → Option (List ℕ) → (List ℕ → Option (List ℕ)) → Option (List ℕ) → Option (List ℕ) → Type 0
-MeasuresAsAsked None known held old new = MeasuresRun known old new
-MeasuresAsAsked (Some log) known held old new = MeasuresLog known (held log) old new
-
-abbrev pub MeasuresFrontAsAsked : Option (List ℕ) → Option (List ℕ) → (List ℕ → Option (List ℕ)) → Option (List ℕ) → Option (List ℕ) → Type 0
-MeasuresFrontAsAsked None known held old new = MeasuresRunFront known old new
-MeasuresFrontAsAsked (Some log) known held old new = MeasuresLogFront known (held log) old new
-
-abbrev pub FailsToMeasure : Option (List ℕ) → Bool → List ℕ → Status → Option (List ℕ) → (List ℕ → Option (List ℕ)) → Option (List ℕ) → Option (List ℕ)
+-- there is nothing to tell of a run, or of the log of a name
+abbrev pub FailsOnTape : Option (List ℕ) → Bool → List ℕ → Status → Option (List ℕ) → (List ℕ → Option (List ℕ)) → Option (List ℕ) → Option (List ℕ)
     → Type 0
-FailsToMeasure None explain name status known held old new = GivesUp Unready explain name status known old new
-FailsToMeasure (Some log) explain name status known held old new = GivesUpOfLog Declines explain name log status known (held log) old new
+FailsOnTape None explain name status known held old new = GivesUp Unready explain name status known old new
+FailsOnTape (Some log) explain name status known held old new = GivesUpOfLog Declines explain name log status known (held log) old new
 
 -- the name by which a log is told of, where there is one
 abbrev pub log_name : Option (List ℕ) → List ℕ
@@ -86,7 +81,8 @@ module _ (known : Option (List ℕ)) (held : List ℕ → Option (List ℕ)) (en
   Does (run workers limit log seed runs) status = RunsAsAsked workers limit seed runs status known old new
   Does (explored workers limit logs) status = ExploresSomewhere workers limit (is_some logs) status known old new
   Does (replayed log) status = Replays status known (held log) old new
-  Does (measured log) status = (status ≡ Done) × MeasuresAsAsked log known held old new
+  Does (measured log) status = TellsAsAsked (λ text ended answer. IsOfRun IsMeasured text ended answer) IsMeasured known held old new log status
+  Does (raced log) status = TellsAsAsked (λ text ended answer. IsOfRun AreRaces text ended answer) AreRaces known held old new log status
   Does (debugged log) status = (status ≡ Done) × Debugs known (held log) entered old new
 
   -- or it has failed, and has gained at most the first bytes of that; of a session that breaks off otherwise whole answers
@@ -96,7 +92,10 @@ module _ (known : Option (List ℕ)) (held : List ℕ → Option (List ℕ)) (en
   Leaves (run workers limit log seed runs) status = status ≡ CannotWrite → RunsFrontAsAsked workers limit seed runs known old new
   Leaves (explored workers limit logs) status = status ≡ CannotWrite → ExploresFrontSomewhere workers limit (is_some logs) known old new
   Leaves (replayed log) status = status ≡ CannotWrite → ReplaysFront known (held log) old new
-  Leaves (measured log) status = status ≡ CannotWrite → MeasuresFrontAsAsked log known held old new
+  Leaves (measured log) status =
+      status ≡ CannotWrite → TellsFrontAsAsked (λ text ended answer. IsOfRun IsMeasured text ended answer) IsMeasured known held old new log
+  Leaves (raced log) status =
+      status ≡ CannotWrite → TellsFrontAsAsked (λ text ended answer. IsOfRun AreRaces text ended answer) AreRaces known held old new log
   Leaves (debugged log) status =
       (status ≡ CannotWrite → DebugsFront known (held log) entered old new) × (status ≢ CannotWrite → (new ≡ old) ⊎ DebugsPart known (held log) entered old new)
 
@@ -108,5 +107,6 @@ module _ (known : Option (List ℕ)) (held : List ℕ → Option (List ℕ)) (ol
   Fails (run workers limit log seed runs) explain name status = GivesUpRun workers (is_some log) explain name (log_name log) status known old new
   Fails (explored workers limit logs) explain name status = GivesUpExploring (is_some logs) explain name (log_name logs) status known old new
   Fails (replayed log) explain name status = GivesUpOfLog Declines explain name log status known (held log) old new
-  Fails (measured log) explain name status = FailsToMeasure log explain name status known held old new
+  Fails (measured log) explain name status = FailsOnTape log explain name status known held old new
+  Fails (raced log) explain name status = FailsOnTape log explain name status known held old new
   Fails (debugged log) explain name status = GivesUpOfLog Declines explain name log status known (held log) old new

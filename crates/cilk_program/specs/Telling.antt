@@ -1,7 +1,7 @@
 -- The line that tells why there is no answer about a recorded schedule, and the status.
 use Rattle.std.specs.Prelude.{ℕ, List, ◌++◌, codes, decimal}
-use Rattle.cilk_seed.specs.choices.declared.refusal.Refusal.{Refusal}
-use Rattle.cilk_seed.specs.choices.declared.refusal.Refusal.TheVariants as refusal
+use Rattle.cilk_run.specs.choices.declared.refusal.Refusal.{Refusal}
+use Rattle.cilk_run.specs.choices.declared.refusal.Refusal.TheVariants as refusal
 use Rattle.cilk_measure.specs.debug.log.declared.fault.LogFault.{LogFault}
 use Rattle.cilk_measure.specs.debug.log.declared.fault.LogFault.TheVariants as log
 use Rattle.cilk_measure.specs.debug.declared.replay_fault.ReplayFault.{ReplayFault}

@@ -2,16 +2,16 @@
 
 ghost use Rattle.std.specs.Prelude.{◌≡◌, ◌≤◌, ◌⊎◌, [], IfOk, length, map, option_map, string_bytes};
 ghost use Rattle.cilk_commands.specs.syntax.Appends.{Appends};
-ghost use Rattle.cilk_seed.specs.choices.Words.{act_of, choice_of};
+ghost use Rattle.cilk_run.specs.choices.Words.{act_of, choice_of};
 ghost use Rattle.cilk_measure.specs.debug.log.Choices.{act_text, choice_text};
 ghost use Rattle.cilk_measure.specs.debug.log.Stretches.{are_joined, stretches_of};
 ghost use Rattle.cilk_measure.specs.debug.log.Words.{log_of};
 ghost use Rattle.cilk_program.specs.ChoiceLines.{IsChoiceOf, choice_words, line_of_choice, new_lines, nth_choice};
 
 use crate::meaning::refusal_meaning;
-use cilk_machine_choices::Memory;
+use cilk_log::Memory;
 use cilk_measure::Log;
-use cilk_seed::{Act, Choice, Refusal};
+use cilk_run::{Act, Choice, Refusal};
 use std::alloc::Global;
 
 /// What is told of the choice of this number, counted from 1, which is refused so; nothing where the log has none of that number.

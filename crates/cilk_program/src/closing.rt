@@ -1,10 +1,10 @@
 //! How a program stands whose choices are made.
 
 ghost use Rattle.std.specs.Prelude.{◌≡◌, true, length, IfOk, IfErr};
-ghost use Rattle.cilk_seed.specs.choices.Words.{end_of};
-ghost use Rattle.cilk_seed.specs.machine.Stands.{StandsAt};
-ghost use Rattle.cilk_seed.specs.model.End as model;
-ghost use Rattle.cilk_seed.specs.model.Run.{Standing};
+ghost use Rattle.cilk_run.specs.choices.Words.{end_of};
+ghost use Rattle.cilk_run.specs.machine.Stands.{StandsAt};
+ghost use Rattle.cilk_run.specs.model.End as model;
+ghost use Rattle.cilk_run.specs.model.Run.{Standing};
 ghost use Rattle.cilk_commands.specs.Status.{is_answer};
 ghost use Rattle.cilk_program.specs.Replaying.{ClosesAt};
 ghost use Rattle.cilk_program.specs.Running.{status_at};
@@ -12,7 +12,7 @@ ghost use Rattle.cilk_program.specs.Saying.{IsTrapOf, trap_of};
 
 use crate::trapped::Trapped;
 use cilk_commands::{Failure, Status};
-use cilk_seed::{End, Machine, Run, ending};
+use cilk_run::{End, Machine, Run, ending};
 use std::alloc::Global;
 
 /// The closing text of a run, the status that tells how it ended, and the trap, if one ended it.

@@ -9,7 +9,7 @@ use crate::file_names::FileNames;
 use crate::log_task::LogTask;
 use cilk_commands::{Failure, Status, tell_of, write_parts, write_whole};
 use cilk_measure::{LogFault, ReplayFault};
-use cilk_seed::Refusal;
+use cilk_run::Refusal;
 use itoa::Buffer;
 use std::alloc::Global;
 use std::io;

@@ -5,7 +5,7 @@ ghost use Rattle.cilk_commands.specs.ProgramText.{program_text};
 ghost use Rattle.cilk_commands.specs.syntax.Tree.{Program};
 ghost use Rattle.cilk_measure.specs.debug.log.Naming.{digest_of};
 ghost use Rattle.cilk_measure.specs.debug.log.Text.{log_text};
-ghost use Rattle.cilk_seed.specs.choices.Words.{choice_of};
+ghost use Rattle.cilk_run.specs.choices.Words.{choice_of};
 ghost use Rattle.cilk_program.specs.Exploring.{AreKept, logs_of, recorded};
 ghost use Rattle.cilk_program.specs.Outcomes.{outcomes_by};
 ghost use Rattle.cilk_program.specs.Unexplored.{IsOfLogs};

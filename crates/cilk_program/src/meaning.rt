@@ -1,11 +1,11 @@
 //! What the kinds of traps and the reasons of refusals mean, in words for people.
 
 ghost use Rattle.std.specs.Prelude.{◌≡◌};
-ghost use Rattle.cilk_seed.specs.machine.spawn.Kinds.{kind_of};
+ghost use Rattle.cilk_run.specs.machine.spawn.Kinds.{kind_of};
 ghost use Rattle.cilk_program.specs.Meanings.{refusal_meaning, trap_meaning, value_meaning};
 
-use cilk_machine_choices::{Trap, TrapKind};
-use cilk_seed::Refusal;
+use cilk_log::{Trap, TrapKind};
+use cilk_run::Refusal;
 
 /// What a kind of traps means: a sentence without its full stop.
 pub(crate) fn trap_meaning(kind: TrapKind) -> &'static str

@@ -5,7 +5,7 @@ ghost use Rattle.cilk_measure.specs.debug.log.Words.{log_of};
 ghost use Rattle.cilk_program.specs.Saying.{IsFaultTold};
 
 use crate::choice_line::choice_told;
-use cilk_machine_choices::Memory;
+use cilk_log::Memory;
 use cilk_measure::{Log, ReplayFault};
 use std::alloc::Global;
 

@@ -2,12 +2,12 @@
 
 ghost use Rattle.std.specs.Prelude.{◌≡◌, ◌<◌, length, map, Some, slice_get};
 ghost use Rattle.cilk_explore.specs.Telling.{told_by};
-ghost use Rattle.cilk_seed.specs.choices.Words.{act_of, choice_of};
+ghost use Rattle.cilk_run.specs.choices.Words.{act_of, choice_of};
 ghost use Rattle.cilk_program.specs.Outcomes.{before_by, before_endless, comes_before, is_found_before, is_tried_before, log_in, order_of};
 ghost use Rattle.cilk_program.specs.Outcomes.{outcome_by, outcomes_by};
 
 use cilk_explore::{Choice, Exploration, Told};
-use cilk_seed::Act;
+use cilk_run::Act;
 
 /// One of them.
 #[derive(Clone, Copy)]

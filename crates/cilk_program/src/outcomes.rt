@@ -9,7 +9,7 @@ ghost use Rattle.cilk_program.specs.Outcomes.{outcome_by, outcomes_by};
 use crate::outcome::{Outcome, endings_before, log_in, outcome_at, outcome_count};
 use cilk_explore::{Exploration, Told};
 use cilk_measure::Memory;
-use cilk_seed::ending;
+use cilk_run::ending;
 use std::alloc::{AllocError, Global};
 
 /// Each outcome, as a run with its log tells it, behind a line with its number, or that it has no end; and at last how many there are, whether all was

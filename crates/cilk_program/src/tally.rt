@@ -12,7 +12,7 @@ use crate::failure::RecordFailure;
 use crate::run_task::RunTask;
 use crate::streams::Streams;
 use cilk_commands::{Failure, Status, read_text, ready_of, write_answer};
-use cilk_seed::{RunFault, tally_of_seeds};
+use cilk_run::{RunFault, tally_of_seeds};
 use std::alloc::Global;
 use std::io::{Read, Write};
 

@@ -9,16 +9,17 @@ ghost use Rattle.cilk_program.specs.GivingUp.{GivesUp, GivesUpRun};
 ghost use Rattle.cilk_program.specs.Replaying.{Replays, ReplaysFront};
 ghost use Rattle.cilk_program.specs.Saying.{ExplainsTrap, tells_trap};
 ghost use Rattle.cilk_program.specs.Taped.{Declines};
-ghost use Rattle.cilk_program.specs.Task.{Does, Fails, FailsToMeasure, Leaves, MeasuresAsAsked, MeasuresFrontAsAsked, is_session};
+ghost use Rattle.cilk_program.specs.OnTapes.{TellsAsAsked, TellsFrontAsAsked};
+ghost use Rattle.cilk_program.specs.Task.{Does, Fails, FailsOnTape, Leaves, is_session};
 ghost use Rattle.cilk_program.specs.Task.{ExploresFrontSomewhere, ExploresSomewhere};
 ghost use Rattle.cilk_program.specs.Task.{RunsAsAsked, RunsFrontAsAsked, RunsFrontSomewhere, RunsSomewhere, log_name};
 
 use crate::texts::Texts;
 use crate::{
-    ExploreTask, FileNames, LogTask, RecordFailure, RunTask, Streams, debug_text, explore_text,
-    measure_log_text, measure_text, replay_text, run_text, tally_text,
+    ExploreTask, FileNames, LogTask, Numbers, Races, RecordFailure, RunTask, Streams,
+    TapeAnswering, debug_text, explore_text, replay_text, run_text, tally_text, tape_log_text,
 };
-use cilk_commands::{Failure, Status, check_text, print_text};
+use cilk_commands::{Answering, Failure, Status, answer_text, check_text, print_text};
 use cilk_words::{Request, Task};
 use std::alloc::Global;
 use std::io::{Read, Write};
@@ -105,7 +106,12 @@ pub fn perform<H: Threads + Wait + Sync, T: Texts, R: Read, O: Write, E: Write>(
             let task = LogTask { names, explain };
             replay_named(alloc, &task, texts, reader, streams)
         }
-        Task::Measure { log } => measure_as_asked(alloc, request, log, texts, reader, streams),
+        Task::Measure { log } => {
+            tell_as_asked::<Numbers, T, R, O, E>(alloc, request, log, texts, reader, streams)
+        }
+        Task::Races { log } => {
+            tell_as_asked::<Races, T, R, O, E>(alloc, request, log, texts, reader, streams)
+        }
         Task::Debug { log } => {
             let names = FileNames { program: name, log };
             let task = LogTask { names, explain };
@@ -224,8 +230,8 @@ fn replay_named<T: Texts, R: Read, O: Write, E: Write>(
     replay_text(alloc, task, reader, texts.open(task.names.log), streams)
 }
 
-// Tells the numbers of a run of the program that the reader holds: of a log, where one is named, or else of one by one worker.
-fn measure_as_asked<T: Texts, R: Read, O: Write, E: Write>(
+// Tells something of a run of the program that the reader holds: of a log, where one is named, or else of one by one worker.
+fn tell_as_asked<A: Answering + TapeAnswering, T: Texts, R: Read, O: Write, E: Write>(
     alloc: Global,
     request: &Request<'_>,
     log: Option<&str>,
@@ -233,19 +239,26 @@ fn measure_as_asked<T: Texts, R: Read, O: Write, E: Write>(
     reader: &mut R,
     streams: &mut Streams<O, E>,
 ) -> Status
-    ensures done { is_answer result ≡ true → MeasuresAsAsked (option_map (λ it. it.now) log.entry) (R.remaining reader.old) (T.held texts.now)
-        (O.contents streams.old.output) (O.contents streams.new.output) }
-    ensures only { is_answer result ≡ true → result ≡ Status.Done }
-    ensures told { is_answer result ≡ false → FailsToMeasure (option_map (λ it. it.now) log.entry) request.now.explain request.now.name.now result
+    ensures done { is_answer result ≡ true → TellsAsAsked A.are A.tells (R.remaining reader.old) (T.held texts.now)
+        (O.contents streams.old.output) (O.contents streams.new.output) (option_map (λ it. it.now) log.entry) result }
+    ensures untrapped { result ≢ Status.Trapped }
+    ensures told { is_answer result ≡ false → FailsOnTape (option_map (λ it. it.now) log.entry) request.now.explain request.now.name.now result
         (R.remaining reader.old) (T.held texts.now) (E.contents streams.old.errors) (E.contents streams.new.errors) }
-    ensures begun { result ≡ Status.CannotWrite → MeasuresFrontAsAsked (option_map (λ it. it.now) log.entry) (R.remaining reader.old) (T.held texts.now)
-        (O.contents streams.old.output) (O.contents streams.new.output) }
+    ensures begun { result ≡ Status.CannotWrite → TellsFrontAsAsked A.are A.tells (R.remaining reader.old) (T.held texts.now)
+        (O.contents streams.old.output) (O.contents streams.new.output) (option_map (λ it. it.now) log.entry) }
     ensures usage { result ≢ Status.Usage }
     ensures quiet { is_answer result ≡ true → streams.new.errors ≡ streams.old.errors }
     ensures kept { is_answer result ≡ false → result ≢ Status.CannotWrite → streams.new.output ≡ streams.old.output }
 {
     match log {
-        None => measure_text(alloc, request.name, request.explain, reader, streams),
+        None => answer_text::<A, R, O, E>(
+            alloc,
+            request.name,
+            request.explain,
+            reader,
+            &mut streams.output,
+            &mut streams.errors,
+        ),
         Some(log) => {
             let names = FileNames {
                 program: request.name,
@@ -255,7 +268,7 @@ fn measure_as_asked<T: Texts, R: Read, O: Write, E: Write>(
                 names,
                 explain: request.explain,
             };
-            measure_log_text(alloc, &task, reader, texts.open(log), streams)
+            tape_log_text::<A, R, T::Reader, O, E>(alloc, &task, reader, texts.open(log), streams)
         }
     }
 }

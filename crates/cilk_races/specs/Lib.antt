@@ -1,6 +1,18 @@
-pub mod Reads
-pub mod Accesses
+pub mod Line
 pub mod Order
 pub mod Races
+pub mod Kept
+pub mod PairWords
+pub mod Related
+pub mod Paired
 pub mod Rows
-pub use Rattle.cilk_events.specs as events
+pub mod Noted
+pub mod Looked
+pub mod Watched
+pub mod Raced
+pub mod Found
+pub mod Reversals
+pub mod Met
+pub mod RacesText
+pub use Rattle.cilk_measure.specs as measure
+pub use Rattle.cilk_machine_step.specs as step

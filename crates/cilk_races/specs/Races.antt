@@ -1,18 +1,19 @@
 -- The races of a run: two accesses of one cell that the program does not order, at least one of which writes, with no lock held at both.
-use Rattle.std.specs.Prelude.{ℕ, suc, ◌==◌, Bool, true, false, not, ◌&&◌, ◌||◌, if◌then◌else◌, List, [], ◌∷◌, ◌++◌, map, flat_map, filter, length}
+use Rattle.std.specs.Prelude.{ℕ, suc, ◌==◌, Bool, true, false, not, ◌&&◌, ◌||◌, if◌then◌else◌, List, [], ◌∷◌, ◌++◌, map, filter, length}
 use Rattle.std.specs.Prelude.{Option, Some, None}
 use Rattle.std.specs.List.{list_any}
-use Rattle.cilk_events.specs.model.labelled.Labelled.{Labelled}
-use Rattle.cilk_events.specs.model.Path.{Path, same_path}
-use Rattle.cilk_events.specs.model.Choice.{Choice}
-use Rattle.cilk_events.specs.model.Event.{Event, acted, spawned, delivered, returned, ended, trapped, moved}
-use Rattle.cilk_events.specs.model.State.{State, instance_at}
-use Rattle.cilk_events.specs.model.Instance.{Instance}
-use Rattle.cilk_events.specs.model.Run.{Standing, next_of, event_of, opening}
-use Rattle.cilk_events.specs.model.Scheduler.{hand_of}
-use Rattle.cilk_events.specs.Deeds.{is_step}
-use Rattle.cilk_events.specs.Steps.{Step, step_of}
-use Rattle.cilk_races.specs.Accesses.{Where, global, own, output, synched, Access, accesses_of, locks_from}
+use Rattle.cilk_measure.specs.model.labelled.Labelled.{Labelled}
+use Rattle.cilk_measure.specs.model.Path.{Path, same_path}
+use Rattle.cilk_measure.specs.model.Choice.{Choice}
+use Rattle.cilk_measure.specs.model.Event.{Event, acted, spawned, delivered, returned, ended, trapped, moved}
+use Rattle.cilk_measure.specs.model.State.{State, instance_at}
+use Rattle.cilk_measure.specs.model.Instance.{Instance}
+use Rattle.cilk_measure.specs.model.Run.{Standing, next_of, event_of, opening}
+use Rattle.cilk_measure.specs.model.Scheduler.{hand_of}
+use Rattle.cilk_measure.specs.Deeds.{is_step}
+use Rattle.cilk_measure.specs.Steps.{Step, step_of}
+use Rattle.cilk_machine_step.specs.plan.agree.Alike.{lowest_body}
+use Rattle.cilk_machine_step.specs.Accesses.{Where, global, own, output, synched, Access, accesses_of, locks_from}
 use Rattle.cilk_races.specs.Order.{Placed, Relation, ordered, race, order, inlets, syncs_of, children_of, relation_of}
 
 -- an access of a choice, counted from 1: by which action, and with which locks
@@ -22,6 +23,8 @@ pub record Touch : Type 0 where
   pub n : ℕ
   pub access : Access
   pub locks : List ℕ
+  -- the body of its instance's procedure, whose variables are the instance's own
+  pub procedure : ℕ
 
 abbrev pub number_of : Event → ℕ
 number_of (acted p n) = n
@@ -36,14 +39,15 @@ abbrev pub placed_at : Labelled → List Event → Step → Placed
 placed_at program before s =
     record { path = s.path; taking = s.taking; syncs = syncs_of program before s.path; children = children_of before s.path }
 
-abbrev pub touch : ℕ → Placed → ℕ → List ℕ → Access → Touch
-touch k placed n locks access = record { choice = k; placed = placed; n = n; access = access; locks = locks }
+abbrev pub touch : ℕ → Placed → ℕ → List ℕ → ℕ → Access → Touch
+touch k placed n locks procedure access =
+    record { choice = k; placed = placed; n = n; access = access; locks = locks; procedure = procedure }
 
 abbrev pub touches_by : Labelled → State → List Event → ℕ → Event → Option Step → Path → Option Instance → List Touch
 touches_by program s before k e None p i = []
 touches_by program s before k e (Some st) p None = []
 touches_by program s before k e (Some st) p (Some i) =
-    map (touch k (placed_at program before st) (number_of e) (locks_from 0 p s.locks)) (accesses_of program s p i)
+    map (touch k (placed_at program before st) (number_of e) (locks_from 0 p s.locks) (lowest_body i)) (accesses_of program s p i)
 
 abbrev pub touches_in : Labelled → State → List Event → ℕ → Event → Option Path → List Touch
 touches_in program s before k e None = []
@@ -114,16 +118,11 @@ same_relation inlets inlets = true
 same_relation ordered ordered = true
 same_relation _ _ = false
 
-abbrev pub same_bool : Bool → Bool → Bool
-same_bool true b = b
-same_bool false b = not b
-
--- told as one: of one variable, by the same two actions, each of which reads or writes
+-- told as one: of one variable, by the same two actions, and related alike
 abbrev pub same_entry : Pair → Pair → Bool
 same_entry p q =
     same_variable p.first.access.at q.first.access.at
-    && ((p.first.n == q.first.n)
-    && ((p.second.n == q.second.n) && (same_bool p.first.access.writes q.first.access.writes && same_bool p.second.access.writes q.second.access.writes)))
+    && ((p.first.n == q.first.n) && ((p.second.n == q.second.n) && same_relation p.relation q.relation))
 
 -- the first one of each entry
 abbrev pub entries_of : List Pair → List Pair

@@ -1,4 +1,26 @@
-//! The races of a run, defined on its events.
+//! The races of a run, found while its choices are made again: which cells each step reads and writes, and which two accesses meet in steps that the
+//! program does not order; schedules that take two accesses in the other order; and how all of this is told.
 #![tactic(auto)]
 
+mod detour;
 pub mod laws;
+mod look;
+mod may_meet;
+mod meeting;
+mod naming;
+mod pairing;
+mod put_reversal;
+mod races;
+mod relation;
+mod reversal;
+mod reversing;
+mod row;
+mod rows;
+mod telling;
+mod times;
+mod told;
+mod touch;
+mod watch;
+
+pub use cilk_measure::{Loaded, Log, ReplayFault};
+pub use told::{ToldRaces, races_of};

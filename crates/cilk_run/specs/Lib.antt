@@ -1,3 +1,8 @@
+pub mod Generator
+pub mod Drawn
+pub mod Drawing
+pub mod Tallied
+pub mod Tallying
 pub mod Histories
 pub mod Glimpses
 pub mod Runs

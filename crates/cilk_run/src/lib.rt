@@ -1,27 +1,38 @@
 //! A program run by several workers: each is a thread, and all take their turns at one machine under one lock, which keeps the choices that
-//! were made beside it.
+//! were made beside it. Or the workers are simulated, without threads: a seed names their choices, and a tally counts how the runs by many seeds end.
 #![tactic(auto)]
 
 mod ahead;
+mod choosing;
 mod crew;
+mod draws;
 mod ended;
 mod gate;
+mod generator;
 mod glimpse;
 mod locked;
+mod outcome;
+mod playing;
 mod post;
 mod proposal;
+mod row;
 mod run_lists;
 mod run_result;
 mod shared;
 mod table;
+mod tally_rows;
+mod tallying;
 
 pub use cilk_machine::{
     Act, Choice, Did, End, Event, Loaded, Machine, MachineFault, Outcome, Refusal, ending,
 };
 pub use crew::run;
 pub use gate::{Gate, Open};
+pub use generator::SplitMix;
 pub use glimpse::Glimpse;
 pub use locked::Locked;
+pub use playing::run_by_seed;
 pub use proposal::{Proposal, propose};
 pub use run_lists::{ChoiceCounts, Output};
 pub use run_result::{Run, RunFault};
+pub use tallying::tally_of_seeds;

@@ -13,10 +13,19 @@ use std::collections::VecDeque;
 use std::marker::Model;
 
 /// What one worker has.
-#[derive(Drop)]
 pub struct Worker {
     hand: Option<Frame>,
     deque: VecDeque<Frame>,
+}
+
+// To drop it elsewhere is to call this, and its parts' drops are proved here alone.
+impl Drop for Worker {
+    fn drop(self) {
+        let Worker {
+            hand: _hand,
+            deque: _deque,
+        } = self;
+    }
 }
 
 impl Model for Worker {

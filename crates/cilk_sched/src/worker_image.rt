@@ -8,10 +8,19 @@ use std::collections::VecDeque;
 use std::marker::Model;
 
 /// What one worker had.
-#[derive(Drop)]
 pub(crate) struct WorkerImage {
     pub(crate) hand: Option<FrameImage>,
     pub(crate) deque: Vec<FrameImage>,
+}
+
+// To drop it elsewhere is to call this, and its parts' drops are proved here alone.
+impl Drop for WorkerImage {
+    fn drop(self) {
+        let WorkerImage {
+            hand: _hand,
+            deque: _deque,
+        } = self;
+    }
 }
 
 impl Model for WorkerImage {

@@ -25,7 +25,6 @@ mod copying;
 mod undoing;
 
 /// What is kept of each instance ever made.
-#[derive(Drop)]
 pub struct Record {
     pub parent: Option<Id>,
     pub ordinal: u32,
@@ -34,6 +33,20 @@ pub struct Record {
     pub children: u32,
     pub aborted: bool,
     pub life: Life,
+}
+
+// To drop it elsewhere is to call this, and its parts' drops are proved here alone.
+impl Drop for Record {
+    fn drop(self) {
+        let Record {
+            parent: _,
+            ordinal: _,
+            procedure: _,
+            children: _,
+            aborted: _,
+            life: _life,
+        } = self;
+    }
 }
 
 // One that ended keeps this alone, however long the run goes on.

@@ -139,6 +139,10 @@ replay_given f log log_is = rw (← first_value-rows f (codes "G"), ← log_is) 
 pub measure_given : (f : Found) (log : Option Text) → log ≡ first_value f (codes "G") → wanted_of (codes "measure") (rows_of f) ≡ Some (measured log)
 measure_given f log log_is = rw (← first_value-rows f (codes "G"), ← log_is) refl
 
+-- the log that was named, or none
+pub raced_given : (f : Found) (log : Option Text) → log ≡ first_value f (codes "G") → log ≡ first_of (codes "G") (rows_of f)
+raced_given f log is = rw (← first_value-rows f (codes "G")) is
+
 pub debug_given : (f : Found) (log : Option Text) → log ≡ first_value f (codes "G") → wanted_of (codes "debug") (rows_of f) ≡ option_map debugged log
 debug_given f log log_is = rw (← first_value-rows f (codes "G"), ← log_is) refl
 

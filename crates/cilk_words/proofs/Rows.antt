@@ -5,7 +5,8 @@ use Rattle.clap.specs.Words.{Text, fault_of}
 use Rattle.clap.proofs.OnLiterals.{clap_on_literals}
 use Rattle.clap.specs.declared.error.kind.ErrorKind.TheVariants as kind
 use Rattle.cilk_words.specs.declared.clash.Clash.TheVariants as clash
-use Rattle.cilk_words.specs.CommandLine.{Asked, Wanted, printed, checked, run, explored, replayed, measured, debugged, asked, command_line, clash_of, wished}
+use Rattle.cilk_words.specs.CommandLine.{Asked, Wanted, printed, checked, run, explored, replayed, measured, raced, debugged}
+use Rattle.cilk_words.specs.CommandLine.{asked, command_line, clash_of, wished}
 use Rattle.cilk_words.specs.Refusing.{asks_for_help, asks_to_show}
 
 -- what is asked for without the flag, and with it
@@ -206,6 +207,20 @@ measures_a_log = refl
 measures_no_dash : option_and_then clash_of (wished (codes "cilk" ∷ codes "measure" ∷ codes "a" ∷ codes "-" ∷ [])) ≡ Some clash.DashAsLog
 unfolding clap_on_literals
 measures_no_dash = refl
+
+-- ---- races
+
+races_of_a_run : asked (codes "cilk" ∷ codes "races" ∷ codes "a" ∷ codes "--explain" ∷ []) ≡ Some (at_length (raced None) (codes "a"))
+unfolding clap_on_literals
+races_of_a_run = refl
+
+races_of_a_log : asked (codes "cilk" ∷ codes "races" ∷ codes "-" ∷ codes "g" ∷ []) ≡ Some (briefly (raced (Some (codes "g"))) (codes "-"))
+unfolding clap_on_literals
+races_of_a_log = refl
+
+races_of_no_dash : option_and_then clash_of (wished (codes "cilk" ∷ codes "races" ∷ codes "a" ∷ codes "-" ∷ [])) ≡ Some clash.DashAsLog
+unfolding clap_on_literals
+races_of_no_dash = refl
 
 -- ---- explorations
 

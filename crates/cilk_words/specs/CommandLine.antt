@@ -84,8 +84,14 @@ on_log name = with_rule (on_explained name) log_rule
 abbrev pub measured_rule : Rule
 measured_rule = record (new_rule (codes "G")) { action = Some Set }
 
+abbrev pub on_a_run : Text → App
+on_a_run name = with_rule (on_explained name) measured_rule
+
 abbrev pub on_measure : App
-on_measure = with_rule (on_explained (codes "measure")) measured_rule
+on_measure = on_a_run (codes "measure")
+
+abbrev pub on_races : App
+on_races = on_a_run (codes "races")
 
 -- a run, of which a log may be written
 abbrev pub on_run : App
@@ -106,7 +112,8 @@ abbrev pub command_line : App
 command_line =
     let front = with_subcommand (with_subcommand bare (on_explained (codes "print")).top) (on_explained (codes "check")).top in
     let exploring = with_subcommand (with_subcommand front on_run.top) on_explore.top in
-    with_subcommand (with_subcommand (with_subcommand exploring (on_log (codes "replay")).top) on_measure.top) (on_log (codes "debug")).top
+    let measuring = with_subcommand (with_subcommand exploring (on_log (codes "replay")).top) on_measure.top in
+    with_subcommand (with_subcommand measuring on_races.top) (on_log (codes "debug")).top
 
 -- ---- what is wished
 
@@ -120,6 +127,7 @@ pub data Wanted : Type 0 where
   explored : (workers limit : ℕ) (logs : Option Text) → Wanted
   replayed : (log : Text) → Wanted
   measured : (log : Option Text) → Wanted
+  raced : (log : Option Text) → Wanted
   debugged : (log : Text) → Wanted
 
 -- the number that a word says in decimal, where it is at most so great
@@ -156,7 +164,8 @@ wanted_of name rows =
     else (if bytes_eq name (codes "explore") then explore_in rows
     else (if bytes_eq name (codes "replay") then option_map replayed (first_of (codes "G") rows)
     else (if bytes_eq name (codes "measure") then Some (measured (first_of (codes "G") rows))
-    else (if bytes_eq name (codes "debug") then option_map debugged (first_of (codes "G") rows) else None))))))
+    else (if bytes_eq name (codes "races") then Some (raced (first_of (codes "G") rows))
+    else (if bytes_eq name (codes "debug") then option_map debugged (first_of (codes "G") rows) else None)))))))
 
 -- a flag is given, by the text that stands for it
 abbrev pub is_set : Option Text → Bool
@@ -177,6 +186,7 @@ wanted_by (task.Run workers limit log seed runs) = run workers limit (option_map
 wanted_by (task.Explore workers limit logs) = explored workers limit (option_map (λ name. name.now) logs)
 wanted_by (task.Replay log) = replayed log.now
 wanted_by (task.Measure log) = measured (option_map (λ name. name.now) log)
+wanted_by (task.Races log) = raced (option_map (λ name. name.now) log)
 wanted_by (task.Debug log) = debugged log.now
 
 -- what a request asks for
@@ -236,6 +246,7 @@ clash_in (run workers limit log seed runs) name = run_clash log seed runs
 clash_in (explored workers limit logs) name = None
 clash_in (replayed log) name = log_clash log
 clash_in (measured log) name = option_and_then log_clash log
+clash_in (raced log) name = option_and_then log_clash log
 clash_in (debugged log) name = if is_dash name then Some clash.DashAsProgram else log_clash log
 
 abbrev pub clash_of : Asked → Option Clash

@@ -62,7 +62,7 @@ Exit status:
   5  the run met its limit of choices, or the exploration its limit of standings
   6  memory has run out
   7  a file cannot be read or written, or the input or the output failed
-  8  the exploration found several outcomes";
+  8  the exploration found several outcomes, or the run has a race";
 
 // What the help of a session ends with.
 const COMMANDS: &str = "\
@@ -195,13 +195,13 @@ const EXPLORATION: [Argument<'static>; 5] = [
     },
 ];
 
-const MEASURED: Argument<'static> = Argument {
+const RUN_OR_LOG: Argument<'static> = Argument {
     id: LOG,
     form: Form::Place { required: false },
     help: "The log of a run, a file [default: a run by one worker]",
 };
 
-const SUBCOMMANDS: [Subcommand<'static>; 7] = [
+const SUBCOMMANDS: [Subcommand<'static>; 8] = [
     Subcommand {
         name: "print",
         about: "Prints the canonical text of a program",
@@ -235,7 +235,13 @@ const SUBCOMMANDS: [Subcommand<'static>; 7] = [
     Subcommand {
         name: "measure",
         about: "Tells the work and the span of a run, and other numbers of it",
-        arguments: &[INPUT, EXPLAINED, MEASURED],
+        arguments: &[INPUT, EXPLAINED, RUN_OR_LOG],
+        commands: None,
+    },
+    Subcommand {
+        name: "races",
+        about: "Tells which accesses of a run race, and how it ends with them the other way round",
+        arguments: &[INPUT, EXPLAINED, RUN_OR_LOG],
         commands: None,
     },
     Subcommand {

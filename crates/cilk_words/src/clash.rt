@@ -73,7 +73,7 @@ impl Clash {
                 Some(_) => Clash::in_runs(log.is_some(), seed.is_some()),
             },
             Task::Replay { log } => Clash::in_log(log),
-            Task::Measure { log } => Clash::in_log(log?),
+            Task::Measure { log } | Task::Races { log } => Clash::in_log(log?),
             Task::Debug { log } => {
                 if request.name == STANDARD {
                     Some(Clash::DashAsProgram)

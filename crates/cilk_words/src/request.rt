@@ -31,6 +31,10 @@ pub enum Task<'a> {
     Measure {
         log: Option<&'a str>,
     },
+    /// To tell the races of the run of the log of this name, or, where none is named, of a run by one worker.
+    Races {
+        log: Option<&'a str>,
+    },
     /// To answer commands on the log of this name.
     Debug {
         log: &'a str,

@@ -1,7 +1,7 @@
 //! From the words of the command line to a request, or to why there is none.
 
 ghost use Rattle.std.specs.Prelude.{◌≡◌, IfErr, IfOk, Some, codes, option_map};
-ghost use Rattle.clap.specs.Words.{found_of, one_of, rows_of, subcommand_rows_of};
+ghost use Rattle.clap.specs.Words.{first_of, found_of, one_of, rows_of, subcommand_rows_of};
 ghost use Rattle.cilk_words.specs.CommandLine.{asked, asked_by, explore_in, is_set, request_of_any, run_in};
 ghost use Rattle.cilk_words.specs.CommandLine.{texts_of, wanted_by, wanted_of, word_of};
 ghost use Rattle.cilk_words.specs.Refusing.{IsNoRequest};
@@ -60,11 +60,21 @@ fn task_named<'a>(name: &str, found: &ArgMatches<'a>) -> Option<Task<'a>>
         "measure" => Some(Task::Measure {
             log: found.get_str(LOG),
         }),
+        "races" => Some(Task::Races {
+            log: raced_in(found),
+        }),
         "debug" => Some(Task::Debug {
             log: found.get_str(LOG)?,
         }),
         _ => None,
     }
+}
+
+// The log whose races are asked for.
+fn raced_in<'a>(found: &ArgMatches<'a>) -> Option<&'a str>
+    ensures { option_map (λ name. name.now) result ≡ first_of (codes "G") (rows_of (found_of found.now)) }
+{
+    found.get_str(LOG)
 }
 
 fn run_in<'a>(found: &ArgMatches<'a>) -> Option<Task<'a>>

@@ -1,5 +1,5 @@
-use Rattle.cilk_check_forms.specs.scopes.NameFaults as names
-use Rattle.cilk_check_forms.specs.scopes.Forms as forms
+use Rattle.cilk_check.specs.scopes.NameFaults as names
+use Rattle.cilk_check.specs.scopes.Forms as forms
 use Rattle.cilk_check.proofs.Both.{both_told}
 use Rattle.cilk_check.proofs.checked.first_fault.Goals as goal
 

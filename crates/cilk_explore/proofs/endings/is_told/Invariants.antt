@@ -1,5 +1,5 @@
 use Rattle.std.proofs.Common.{◌≡◌, ◌≢◌, ◌<◌, ℕ, Some, map, slice_get}
-use Rattle.cilk_explore_search.specs.explore.Search.{Told}
+use Rattle.cilk_explore.specs.explore.Search.{Told}
 use Rattle.cilk_explore.specs.Telling.{ending_by, told_by}
 use Rattle.cilk_explore.proofs.endings.is_told.Given as goal
 

@@ -1,8 +1,8 @@
 use Rattle.std.proofs.Common.{◌+◌, true, length, Ok, ap, refl}
 use Rattle.cilk_machine.specs.model.Choice.{Choice}
 use Rattle.cilk_machine.specs.model.Run.{Position}
-use Rattle.cilk_explore_search.specs.Linking.{HasLink, IsLinked}
-use Rattle.cilk_explore_search.proofs.Turns.{over-made}
+use Rattle.cilk_explore.specs.Linking.{HasLink, IsLinked}
+use Rattle.cilk_explore.proofs.Turns.{over-made}
 use Rattle.cilk_explore.specs.declared.explorer.Explorer.{Explorer}
 use Rattle.cilk_explore.specs.Exploring.{program_of, workers_of, IsPaired}
 use Rattle.cilk_explore.proofs.Paces.{grows-none, between-halted}

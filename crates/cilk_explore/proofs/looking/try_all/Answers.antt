@@ -1,9 +1,9 @@
 use Rattle.std.proofs.Common.{◌≡◌, ◌≤◌, ◌+◌, ℕ, Ok, Some, ap, ◌∙◌, arith, length}
 use Rattle.cilk_machine.specs.model.Run.{Position}
-use Rattle.cilk_explore_search.specs.explore.OrMore.{IsIdle}
-use Rattle.cilk_explore_search.specs.Linking.{HasLink, AreLinkedBy}
-use Rattle.cilk_explore_search.proofs.Idles.{idle-linked}
-use Rattle.cilk_explore_search.proofs.Turns.{all-made}
+use Rattle.cilk_explore.specs.explore.OrMore.{IsIdle}
+use Rattle.cilk_explore.specs.Linking.{HasLink, AreLinkedBy}
+use Rattle.cilk_explore.proofs.Idles.{idle-linked}
+use Rattle.cilk_explore.proofs.Turns.{all-made}
 use Rattle.cilk_explore.specs.Walks.{position_of}
 use Rattle.cilk_explore.specs.Exploring.{program_of, workers_of}
 use Rattle.cilk_explore.proofs.Paces.{grows-then, at-on}

@@ -1,5 +1,5 @@
 use Rattle.std.proofs.Common.{◌≤◌, ℕ}
-use Rattle.cilk_explore_search.specs.Linking.{AreLinkedBy}
+use Rattle.cilk_explore.specs.Linking.{AreLinkedBy}
 use Rattle.cilk_explore.specs.Exploring.{program_of, workers_of, Grows, Gathers}
 use Rattle.cilk_explore.proofs.looking.try_all.Given as goal
 

@@ -1,8 +1,8 @@
 use Rattle.std.proofs.Common.{◌+◌, true, Ok, ap, arith, length}
 use Rattle.cilk_machine.specs.model.Choice.{step, pop, steal, Choice}
 use Rattle.cilk_machine.specs.model.Run.{Position}
-use Rattle.cilk_explore_search.specs.Linking.{HasLink}
-use Rattle.cilk_explore_search.proofs.Turns.{acts-made}
+use Rattle.cilk_explore.specs.Linking.{HasLink}
+use Rattle.cilk_explore.proofs.Turns.{acts-made}
 use Rattle.cilk_explore.specs.Walks.{Walk}
 use Rattle.cilk_explore.specs.Exploring.{program_of, workers_of, Grows, Gathers}
 use Rattle.cilk_explore.proofs.Paces.{grows-then, at-on}

@@ -1,6 +1,6 @@
 use Rattle.std.proofs.Common.{◌+◌, ℕ, Ok, ap}
 use Rattle.cilk_machine.specs.model.Choice.{steal, Choice}
-use Rattle.cilk_explore_search.specs.Linking.{IsLinked}
+use Rattle.cilk_explore.specs.Linking.{IsLinked}
 use Rattle.cilk_explore.specs.Exploring.{program_of, workers_of}
 use Rattle.cilk_explore.proofs.Paces.{grows-then, at-on}
 use Rattle.cilk_explore.proofs.Gathers.{gathers-then, still-linked, linked-for}

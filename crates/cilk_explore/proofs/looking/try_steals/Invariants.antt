@@ -1,6 +1,6 @@
 use Rattle.std.proofs.Common.{◌≤◌, ℕ}
 use Rattle.cilk_machine.specs.model.Choice.{steal}
-use Rattle.cilk_explore_search.specs.Linking.{IsLinked}
+use Rattle.cilk_explore.specs.Linking.{IsLinked}
 use Rattle.cilk_explore.specs.Exploring.{program_of, workers_of, Grows, Gathers}
 use Rattle.cilk_explore.proofs.looking.try_steals.Given as goal
 

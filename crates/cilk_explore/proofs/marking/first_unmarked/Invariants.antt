@@ -1,5 +1,5 @@
 use Rattle.std.proofs.Common.{◌≡◌, ◌<◌, ℕ, true}
-use Rattle.cilk_explore_search.specs.Marking.{mark_of}
+use Rattle.cilk_explore.specs.Marking.{mark_of}
 use Rattle.cilk_explore.proofs.marking.first_unmarked.Given as goal
 
 abbrev pub invariant-loop-k : goal.invariant-loop-k

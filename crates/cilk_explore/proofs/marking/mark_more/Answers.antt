@@ -1,5 +1,5 @@
 use Rattle.std.proofs.Common.{◌≡◌, true, false, length, sym, ap, ◌∙◌, subst, arith}
-use Rattle.cilk_explore_search.specs.Marking.{AreWholeFrom, unmarked}
+use Rattle.cilk_explore.specs.Marking.{AreWholeFrom, unmarked}
 use Rattle.cilk_explore.proofs.Marks.{whole-more, whole-none, most-on}
 use Rattle.cilk_explore.proofs.marking.mark_more.Goals as goal
 

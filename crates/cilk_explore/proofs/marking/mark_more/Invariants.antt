@@ -1,5 +1,5 @@
 use Rattle.std.proofs.Common.{◌≡◌, ◌<◌, ◌≤◌, true, false, length}
-use Rattle.cilk_explore_search.specs.Marking.{AreSound, AreWholeFrom, unmarked}
+use Rattle.cilk_explore.specs.Marking.{AreSound, AreWholeFrom, unmarked}
 use Rattle.cilk_explore.proofs.marking.mark_more.Given as goal
 
 abbrev pub invariant-loop-left : goal.invariant-loop-left

@@ -1,5 +1,5 @@
 use Rattle.std.proofs.Common.{◌≡◌, length}
-use Rattle.cilk_explore_search.specs.Marking.{AreSound, unmarked}
+use Rattle.cilk_explore.specs.Marking.{AreSound, unmarked}
 use Rattle.cilk_explore.proofs.marking.marks_of.Given as goal
 
 abbrev pub invariant-loop-marks : goal.invariant-loop-marks

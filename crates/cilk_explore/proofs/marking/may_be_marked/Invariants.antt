@@ -1,5 +1,5 @@
 use Rattle.std.proofs.Common.{◌≡◌, ◌<◌, ℕ, false, Some, slice_get}
-use Rattle.cilk_explore_search.specs.Marking.{mark_of}
+use Rattle.cilk_explore.specs.Marking.{mark_of}
 use Rattle.cilk_explore.proofs.marking.may_be_marked.Given as goal
 
 abbrev pub invariant-loop-i : goal.invariant-loop-i

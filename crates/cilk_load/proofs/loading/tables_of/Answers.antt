@@ -2,17 +2,17 @@ use Rattle.std.proofs.Common.{◌≡◌, List, length, map, Some, rules, sym, ap
 use Rattle.std.specs.Prelude.{flat_map}
 use Rattle.std.specs.List.{position}
 use Rattle.cilk_check.specs.syntax.Tree as tree
-use Rattle.cilk_load_numbering.specs.eval.declared.area.Area.TheVariants.{Global}
-use Rattle.cilk_load_numbering.specs.labelled.Bodies.{item_globals, item_locks}
-use Rattle.cilk_load_numbering.specs.nodes.Bodies.{vars_from, lock_variable}
-use Rattle.cilk_load_numbering.specs.labelled.Count.{count_program}
-use Rattle.cilk_load_numbering.specs.labelled.Lines.{action_lines}
-use Rattle.cilk_load_numbering.specs.nodes.declared.body.Body.{Body}
-use Rattle.cilk_load_layout.specs.Tables.{starts_here}
-use Rattle.cilk_load_numbering.specs.nodes.Plain.{PlainItems}
-use Rattle.cilk_load_numbering.proofs.nodes_laws.Inner.{well_formed-plain}
-use Rattle.cilk_load_layout.specs.Tables.{items_tables}
-use Rattle.cilk_load_numbering.specs.Outer.{globals_count, locks_count, bodies_count, items_nodes, file_scope}
+use Rattle.cilk_load.specs.eval.declared.area.Area.TheVariants.{Global}
+use Rattle.cilk_load.specs.labelled.Bodies.{item_globals, item_locks}
+use Rattle.cilk_load.specs.nodes.Bodies.{vars_from, lock_variable}
+use Rattle.cilk_load.specs.labelled.Count.{count_program}
+use Rattle.cilk_load.specs.labelled.Lines.{action_lines}
+use Rattle.cilk_load.specs.nodes.declared.body.Body.{Body}
+use Rattle.cilk_load.specs.BodyTables.{starts_here}
+use Rattle.cilk_load.specs.nodes.Plain.{PlainItems}
+use Rattle.cilk_load.proofs.nodes_laws.Inner.{well_formed-plain}
+use Rattle.cilk_load.specs.BodyTables.{items_tables}
+use Rattle.cilk_load.specs.Outer.{globals_count, locks_count, bodies_count, items_nodes, file_scope}
 use Rattle.cilk_load.proofs.Made.{globals-counted, locks-counted, bodies-counted, tabled}
 use Rattle.cilk_load.proofs.loading.tables_of.Goals as goal
 

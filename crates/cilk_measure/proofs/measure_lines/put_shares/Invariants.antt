@@ -1,5 +1,5 @@
 use Rattle.std.proofs.Common.{◌≡◌, ◌++◌, ◌+◌, string_bytes, drop}
-use Rattle.cilk_events.specs.Text.{share_lines}
+use Rattle.cilk_measure.specs.Text.{share_lines}
 use Rattle.cilk_measure.proofs.measure_lines.put_shares.Given as goal
 
 abbrev pub invariant-loop-i : goal.invariant-loop-i

@@ -1,10 +1,10 @@
 use Rattle.std.proofs.Common.{sym, refl, ◌∙◌}
 use Rattle.std.proofs.lemmas.Result.{err_from_is_err_and}
-use Rattle.cilk_parse_rules.proofs.Loops.{onto_nothing}
-use Rattle.cilk_parse_rules.specs.Rule.{part}
+use Rattle.cilk_parse_grammar.proofs.Loops.{onto_nothing}
+use Rattle.cilk_parse_grammar.specs.Rule.{part}
 use Rattle.cilk_parse_grammar.specs.Parts.{token, the_header}
 use Rattle.cilk_parse_grammar.specs.Spelling.{nesting_limit, read_at}
-use Rattle.cilk_parse_statements.proofs.Loops.{one_shorter, loop_ends, loop_fails, loop_goes}
+use Rattle.cilk_parse.proofs.Loops.{one_shorter, loop_ends, loop_fails, loop_goes}
 use Rattle.cilk_parse.proofs.headers.headers.Goals as goal
 
 pub each-init : goal.each-init

@@ -1,9 +1,9 @@
 use Rattle.std.proofs.Common.{◌≡◌, length}
-use Rattle.cilk_parse_rules.specs.ReadsAs.{onto}
-use Rattle.cilk_parse_rules.specs.Rule.{part, many}
+use Rattle.cilk_parse_grammar.specs.ReadsAs.{onto}
+use Rattle.cilk_parse_grammar.specs.Rule.{part, many}
 use Rattle.cilk_parse_grammar.specs.Parts.{token, the_header}
 use Rattle.cilk_parse_grammar.specs.Spelling.{nesting_limit}
-use Rattle.cilk_parse_statements.specs.Limits.{read_in}
+use Rattle.cilk_parse.specs.Limits.{read_in}
 use Rattle.cilk_parse.proofs.headers.headers.Given as goal
 
 abbrev pub invariant-each : goal.invariant-each

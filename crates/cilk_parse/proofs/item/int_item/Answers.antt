@@ -4,16 +4,16 @@ use Rattle.cilk_lex.specs.lexeme.Lexeme.{Piece}
 use Rattle.cilk_lex.specs.lexeme.declared.keyword.Keyword.TheVariants.{Int}
 use Rattle.cilk_parse_grammar.specs.syntax.Tree.{Item, Word}
 use Rattle.cilk_parse_grammar.specs.syntax.declared.return_type.ReturnType.TheVariants as kinds
-use Rattle.cilk_parse_rules.specs.declared.fault.ReadError.{ReadError}
-use Rattle.cilk_parse_rules.specs.declared.fault.ReadError.TheVariants.{Memory}
-use Rattle.cilk_parse_rules.specs.ReadsAs.{ReadsAs}
-use Rattle.cilk_parse_rules.specs.Rule.{◌>>=◌, Read, Rule, token_at, and_then, either, done}
-use Rattle.cilk_parse_rules.proofs.Loops.{fails_first}
+use Rattle.cilk_parse_grammar.specs.declared.fault.ReadError.{ReadError}
+use Rattle.cilk_parse_grammar.specs.declared.fault.ReadError.TheVariants.{Memory}
+use Rattle.cilk_parse_grammar.specs.ReadsAs.{ReadsAs}
+use Rattle.cilk_parse_grammar.specs.Rule.{◌>>=◌, Read, Rule, token_at, and_then, either, done}
+use Rattle.cilk_parse_grammar.proofs.Loops.{fails_first}
 use Rattle.cilk_parse_grammar.specs.Classes.{cls, a_word, names}
 use Rattle.cilk_parse_grammar.specs.Grammar.{tail, function, globals, int_item}
 use Rattle.cilk_parse_grammar.specs.Parts.{Means, the_name}
 use Rattle.cilk_parse_grammar.specs.Spelling.{leaf_at, read_at, nesting_limit}
-use Rattle.cilk_parse_statements.specs.Limits.{read_in}
+use Rattle.cilk_parse.specs.Limits.{read_in}
 use Rattle.cilk_parse.proofs.item.int_item.Goals as goal
 
 -- what stands behind `int` and a name

@@ -1,10 +1,10 @@
 use Rattle.std.proofs.Common.{[], ◌∷◌, ◌++◌, sym, refl, ap, ◌∙◌}
 use Rattle.std.proofs.lemmas.Result.{err_from_is_err_and}
-use Rattle.cilk_parse_rules.proofs.Loops.{onto_nothing}
+use Rattle.cilk_parse_grammar.proofs.Loops.{onto_nothing}
 use Rattle.cilk_parse_grammar.specs.Grammar.{item}
 use Rattle.cilk_parse_grammar.specs.Spelling.{nesting_limit}
-use Rattle.cilk_parse_statements.proofs.Joined.{joined_last}
-use Rattle.cilk_parse_statements.proofs.Loops.{one_shorter, loop_ends, loop_fails, loop_goes}
+use Rattle.cilk_parse.proofs.Joined.{joined_last}
+use Rattle.cilk_parse.proofs.Loops.{one_shorter, loop_ends, loop_fails, loop_goes}
 use Rattle.cilk_parse.proofs.items.items.Goals as goal
 
 pub each-init : goal.each-init

@@ -1,11 +1,11 @@
 use Rattle.std.proofs.Common.{◌≡◌, length, List}
 use Rattle.cilk_parse_grammar.specs.syntax.Tree as tree
-use Rattle.cilk_parse_rules.specs.ReadsAs.{onto}
-use Rattle.cilk_parse_rules.specs.Rule.{many}
+use Rattle.cilk_parse_grammar.specs.ReadsAs.{onto}
+use Rattle.cilk_parse_grammar.specs.Rule.{many}
 use Rattle.cilk_parse_grammar.specs.Forms.{joined}
 use Rattle.cilk_parse_grammar.specs.Grammar.{item}
 use Rattle.cilk_parse_grammar.specs.Spelling.{nesting_limit}
-use Rattle.cilk_parse_statements.specs.Limits.{read_in}
+use Rattle.cilk_parse.specs.Limits.{read_in}
 use Rattle.cilk_parse.proofs.items.items.Given as goal
 
 -- the items that were read, together

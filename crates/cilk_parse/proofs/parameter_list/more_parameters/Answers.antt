@@ -5,7 +5,7 @@ use Rattle.cilk_parse_grammar.specs.Forms.{mark, word, optional}
 use Rattle.cilk_lex.specs.lexeme.declared.keyword.Keyword.TheVariants.{Int}
 use Rattle.cilk_parse_grammar.specs.Grammar.{name}
 use Rattle.cilk_parse_grammar.specs.Spelling.{nesting_limit}
-use Rattle.cilk_parse_statements.proofs.Loops.{one_shorter, loop_ends, loop_fails, loop_goes}
+use Rattle.cilk_parse.proofs.Loops.{one_shorter, loop_ends, loop_fails, loop_goes}
 use Rattle.cilk_parse.proofs.parameter_list.more_parameters.Goals as goal
 
 pub returns-in_err-next : goal.returns-in_err-next

@@ -1,10 +1,10 @@
 use Rattle.std.proofs.Common.{◌≡◌, length}
-use Rattle.cilk_parse_rules.specs.ReadsAs.{onto}
+use Rattle.cilk_parse_grammar.specs.ReadsAs.{onto}
 use Rattle.cilk_parse_grammar.specs.Forms.{behind_commas, word, optional}
 use Rattle.cilk_lex.specs.lexeme.declared.keyword.Keyword.TheVariants.{Int}
 use Rattle.cilk_parse_grammar.specs.Grammar.{name}
 use Rattle.cilk_parse_grammar.specs.Spelling.{nesting_limit}
-use Rattle.cilk_parse_statements.specs.Limits.{read_in}
+use Rattle.cilk_parse.specs.Limits.{read_in}
 use Rattle.cilk_parse.proofs.parameter_list.more_parameters.Given as goal
 
 abbrev pub invariant-each : goal.invariant-each

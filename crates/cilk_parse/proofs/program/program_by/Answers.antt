@@ -1,7 +1,7 @@
 use Rattle.std.proofs.Common.{true, List, sym, ap, refl, subst}
 use Rattle.cilk_lex.specs.lexeme.Lexeme.{Piece}
 use Rattle.cilk_lex.specs.lexeme.Lexing.{Lexes}
-use Rattle.cilk_parse_rules.specs.ReadsAs.{Fails}
+use Rattle.cilk_parse_grammar.specs.ReadsAs.{Fails}
 use Rattle.cilk_parse.proofs.FaultPlaces.{program_found, program_same, no_stop, refused_so, placed_so, no_program_so, one_fault_so}
 use Rattle.cilk_parse.proofs.Programs.{whole}
 use Rattle.cilk_parse.proofs.program.program_by.Goals as goal

@@ -1,5 +1,5 @@
 use Rattle.std.proofs.Common.{ap, ◌∙◌}
-use Rattle.cilk_parse_rules.specs.declared.fault.ReadError.TheVariants as errors
+use Rattle.cilk_parse_grammar.specs.declared.fault.ReadError.TheVariants as errors
 use Rattle.cilk_parse.proofs.FaultPlaces.{unexpected_left, too_deep_left}
 use Rattle.cilk_parse.proofs.program.told.Goals as goal
 

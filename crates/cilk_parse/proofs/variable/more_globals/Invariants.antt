@@ -1,9 +1,9 @@
 use Rattle.std.proofs.Common.{◌≡◌, length}
-use Rattle.cilk_parse_rules.specs.ReadsAs.{onto}
+use Rattle.cilk_parse_grammar.specs.ReadsAs.{onto}
 use Rattle.cilk_parse_grammar.specs.Forms.{behind_commas}
 use Rattle.cilk_parse_grammar.specs.Spelling.{nesting_limit}
 use Rattle.cilk_parse_grammar.specs.Grammar.{global}
-use Rattle.cilk_parse_statements.specs.Limits.{read_in}
+use Rattle.cilk_parse.specs.Limits.{read_in}
 use Rattle.cilk_parse.proofs.variable.more_globals.Given as goal
 
 abbrev pub invariant-each : goal.invariant-each

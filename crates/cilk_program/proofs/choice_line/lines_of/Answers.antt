@@ -1,6 +1,6 @@
 use Rattle.std.proofs.Common.{map, option_map, arith}
 use Rattle.std.proofs.lemmas.List.{at_drop_all}
-use Rattle.cilk_seed.specs.choices.Words.{choice_of}
+use Rattle.cilk_run.specs.choices.Words.{choice_of}
 use Rattle.cilk_program.proofs.ChoiceLines.{lines_behind, lines_counted}
 use Rattle.cilk_program.proofs.choice_line.lines_of.Goals as goal
 

@@ -1,5 +1,5 @@
 use Rattle.std.proofs.Common.{◌≡◌, ◌≤◌, ◌+◌, None, drop, map, option_map}
-use Rattle.cilk_seed.specs.choices.Words.{choice_of}
+use Rattle.cilk_run.specs.choices.Words.{choice_of}
 use Rattle.cilk_program.proofs.ChoiceLines.{lines_behind}
 use Rattle.cilk_program.proofs.choice_line.lines_of.Given as goal
 

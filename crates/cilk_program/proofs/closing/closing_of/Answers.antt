@@ -1,4 +1,4 @@
-use Rattle.cilk_seed.specs.choices.Words.{end_of}
+use Rattle.cilk_run.specs.choices.Words.{end_of}
 use Rattle.cilk_program.proofs.Ran.{closes_by}
 use Rattle.cilk_program.proofs.closing.closing_of.Goals as goal
 

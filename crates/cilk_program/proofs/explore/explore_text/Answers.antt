@@ -5,7 +5,7 @@ use Rattle.cilk_commands.proofs.WholeText.{nothing_read}
 use Rattle.cilk_program.specs.Exploring.{IsExplored}
 use Rattle.cilk_program.specs.declared.unexplored.Unexplored.TheVariants as why
 use Rattle.cilk_program.proofs.Explored.{gave-up, keeps-front-whole, keeps-whole, no-trap, no-usage, not-explored}
-use Rattle.cilk_program.proofs.Told.{no_usage_answered, not_both, not_failed}
+use Rattle.cilk_commands.proofs.Statuses.{no_usage_answered, not_both, not_failed}
 use Rattle.cilk_program.proofs.explore.explore_text.Goals as goal
 
 pub returns-in-Err-clause-told : goal.returns-in-Err-clause-told

@@ -1,6 +1,6 @@
 use Rattle.std.proofs.Common.{◌≡◌, ◌+◌, map, drop}
 use Rattle.cilk_explore.specs.Telling.{told_by}
-use Rattle.cilk_seed.specs.choices.Words.{choice_of}
+use Rattle.cilk_run.specs.choices.Words.{choice_of}
 use Rattle.cilk_program.specs.Outcomes.{before_endless}
 use Rattle.cilk_program.proofs.outcome.before_endless.Given as goal
 

@@ -1,5 +1,5 @@
 use Rattle.std.proofs.Common.{◌≡◌, map, drop}
-use Rattle.cilk_seed.specs.choices.Words.{choice_of}
+use Rattle.cilk_run.specs.choices.Words.{choice_of}
 use Rattle.cilk_program.specs.Outcomes.{comes_before}
 use Rattle.cilk_program.proofs.outcome.comes_before.Given as goal
 

@@ -1,6 +1,6 @@
 use Rattle.std.proofs.Common.{◌<◌, ◌-◌, Some, length, refl, sym, ap, ◌∙◌, map, arith, option_map}
 use Rattle.std.proofs.lemmas.Option.{slice_get_read}
-use Rattle.cilk_seed.specs.choices.Words.{choice_of}
+use Rattle.cilk_run.specs.choices.Words.{choice_of}
 use Rattle.cilk_program.specs.Outcomes.{without_end, before_by}
 use Rattle.cilk_program.proofs.Among.{is-within, at-first, at-endless, at-last, count-some}
 use Rattle.cilk_program.proofs.outcome.outcome_at.Goals as goal

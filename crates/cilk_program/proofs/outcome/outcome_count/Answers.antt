@@ -1,5 +1,5 @@
 use Rattle.std.proofs.Common.{◌∙◌, ◌+◌, ap, map, option_map}
-use Rattle.cilk_seed.specs.choices.Words.{choice_of}
+use Rattle.cilk_run.specs.choices.Words.{choice_of}
 use Rattle.cilk_program.proofs.Among.{count-some}
 use Rattle.cilk_program.proofs.outcome.outcome_count.Goals as goal
 

@@ -6,7 +6,8 @@ use Rattle.cilk_program.specs.Taped.{Declines}
 use Rattle.cilk_program.proofs.Whole.{declines_held, log_gave_up, not_read}
 use Rattle.cilk_program.specs.declared.failure.RecordFailure.TheVariants as why
 use Rattle.cilk_program.proofs.Said.{explains_trap, noted, trap_is_answer}
-use Rattle.cilk_program.proofs.Told.{not_both, not_told, not_failed, no_usage_told, no_usage_answered}
+use Rattle.cilk_commands.proofs.Statuses.{not_both, not_failed, no_usage_answered}
+use Rattle.cilk_program.proofs.Told.{not_told, no_usage_told}
 use Rattle.cilk_program.proofs.replay.replay_text.Goals as goal
 
 pub returns-in-Err-clause-told : goal.returns-in-Err-clause-told

@@ -5,7 +5,8 @@ use Rattle.cilk_program.specs.Task.{log_name}
 use Rattle.cilk_program.proofs.Whole.{no_program_held, renamed, run_gave_up, run_not_read, stores_whole, stores_front_whole}
 use Rattle.cilk_program.specs.declared.failure.RecordFailure.TheVariants as why
 use Rattle.cilk_program.proofs.Said.{explains_trap, trap_is_answer}
-use Rattle.cilk_program.proofs.Told.{not_both, not_told, not_failed, no_usage_told, no_usage_answered}
+use Rattle.cilk_commands.proofs.Statuses.{not_both, not_failed, no_usage_answered}
+use Rattle.cilk_program.proofs.Told.{not_told, no_usage_told}
 use Rattle.cilk_program.proofs.run.run_text.Goals as goal
 
 pub returns-in-Err-clause-told : goal.returns-in-Err-clause-told

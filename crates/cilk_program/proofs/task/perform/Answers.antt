@@ -65,14 +65,27 @@ pub returns-in-Debug-clause-explained : goal.returns-in-Debug-clause-explained
 returns-in-Debug-clause-explained g c = λ told. no_trap c.args.request.now.explain c.debug_named.result c.debug_named.ensures.only told
 
 pub returns-in-Measure-clause-done : goal.returns-in-Measure-clause-done
-returns-in-Measure-clause-done g c =
-    rw c.in-Measure.is (λ answered. (c.measure_as_asked.ensures.only answered, c.measure_as_asked.ensures.done answered))
+returns-in-Measure-clause-done g c = rw c.in-Measure.is c.tell_as_asked.ensures.done
 
 pub returns-in-Measure-clause-told : goal.returns-in-Measure-clause-told
-returns-in-Measure-clause-told g c = rw c.in-Measure.is c.measure_as_asked.ensures.told
+returns-in-Measure-clause-told g c = rw c.in-Measure.is c.tell_as_asked.ensures.told
 
 pub returns-in-Measure-clause-begun : goal.returns-in-Measure-clause-begun
-returns-in-Measure-clause-begun g c = rw c.in-Measure.is (λ none. c.measure_as_asked.ensures.begun)
+returns-in-Measure-clause-begun g c = rw c.in-Measure.is (λ none. c.tell_as_asked.ensures.begun)
 
 pub returns-in-Measure-clause-explained : goal.returns-in-Measure-clause-explained
-returns-in-Measure-clause-explained g c = λ told. no_trap c.args.request.now.explain c.measure_as_asked.result c.measure_as_asked.ensures.only told
+returns-in-Measure-clause-explained g c = λ told.
+    never_trapped c.args.request.now.explain c.tell_as_asked.result c.tell_as_asked.ensures.untrapped told
+
+pub returns-in-Races-clause-done : goal.returns-in-Races-clause-done
+returns-in-Races-clause-done g c = rw c.in-Races.is c.tell_as_asked-in-Races.ensures.done
+
+pub returns-in-Races-clause-told : goal.returns-in-Races-clause-told
+returns-in-Races-clause-told g c = rw c.in-Races.is c.tell_as_asked-in-Races.ensures.told
+
+pub returns-in-Races-clause-begun : goal.returns-in-Races-clause-begun
+returns-in-Races-clause-begun g c = rw c.in-Races.is (λ none. c.tell_as_asked-in-Races.ensures.begun)
+
+pub returns-in-Races-clause-explained : goal.returns-in-Races-clause-explained
+returns-in-Races-clause-explained g c = λ told.
+    never_trapped c.args.request.now.explain c.tell_as_asked-in-Races.result c.tell_as_asked-in-Races.ensures.untrapped told

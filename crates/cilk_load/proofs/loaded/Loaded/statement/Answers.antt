@@ -1,7 +1,7 @@
 use Rattle.std.proofs.Common.{◌≡◌, suc, List, rules, ap, sym, ◌∙◌, arith}
 use Rattle.std.specs.Prelude.{slice_get, option_copied}
-use Rattle.cilk_load_numbering.specs.nodes.Table.{node_of}
-use Rattle.cilk_load_numbering.specs.nodes.declared.node.Node.{Node}
+use Rattle.cilk_load.specs.nodes.Table.{node_of}
+use Rattle.cilk_load.specs.nodes.declared.node.Node.{Node}
 use Rattle.cilk_load.proofs.Got.{got}
 use Rattle.cilk_load.proofs.loaded.Loaded.statement.Goals as goal
 

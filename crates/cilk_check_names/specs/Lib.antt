@@ -1,4 +1,0 @@
-pub mod Finds
-pub mod Table
-pub mod Left
-pub mod Signatures

@@ -1,4 +1,0 @@
-mod Natures
-mod Once
-pub mod Tops
-pub mod Pushes

@@ -1,5 +1,0 @@
-use Rattle.cilk_explore_search.proofs.Growing.{looked-on}
-use Rattle.cilk_explore_search.proofs.laws.a_search_goes_on.Goals as goal
-
-pub returns : goal.returns
-returns c = looked-on

@@ -1,5 +1,0 @@
-use Rattle.cilk_explore_search.proofs.Idles.{idle-linked}
-use Rattle.cilk_explore_search.proofs.laws.idle_workers_are_linked_alike.Goals as goal
-
-pub returns : goal.returns
-returns c = idle-linked

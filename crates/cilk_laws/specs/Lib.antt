@@ -1,0 +1,17 @@
+pub mod ExprLexemes
+pub mod StmtLexemes
+pub mod ProgramLexemes
+pub mod CanWrite
+pub mod Plain
+pub mod Said
+pub mod Actions
+pub mod HeadLaws
+pub mod Moments
+pub mod Calls
+pub mod Inlets
+pub mod ChildLaws
+pub mod CallLaws
+pub use Rattle.cilk_parse_grammar.specs.Spelling
+pub use Rattle.cilk_tree.specs.syntax
+pub use Rattle.cilk_laws_model.specs.labelled
+pub use Rattle.cilk_laws_model.specs.model

@@ -1,9 +1,0 @@
-use Rattle.cilk_laws_printing.proofs.SaysParts.{program_says}
-use Rattle.cilk_laws_printing.proofs.Downward.{program_down}
-use Rattle.cilk_laws_printing.proofs.actions.lines_say_their_actions.Goals as goal
-
-pub returns-clause-says : goal.returns-clause-says
-returns-clause-says c = program_says
-
-pub returns-clause-down : goal.returns-clause-down
-returns-clause-down c = program_down

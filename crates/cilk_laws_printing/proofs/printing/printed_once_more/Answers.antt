@@ -1,5 +1,0 @@
-use Rattle.cilk_laws_printing.proofs.Printed.{same_text}
-use Rattle.cilk_laws_printing.proofs.printing.printed_once_more.Goals as goal
-
-pub returns : goal.returns
-returns c = same_text

@@ -1,5 +1,0 @@
-use Rattle.cilk_laws_printing.proofs.GoodTrees.{program_can_be_written}
-use Rattle.cilk_laws_printing.proofs.rereading.can_be_written.Goals as goal
-
-pub returns : goal.returns
-returns c = program_can_be_written

@@ -1,5 +1,0 @@
-use Rattle.cilk_laws_printing.proofs.ReadPrograms.{program_reread}
-use Rattle.cilk_laws_printing.proofs.rereading.spelled_again.Goals as goal
-
-pub returns : goal.returns
-returns c = program_reread

@@ -1,9 +1,0 @@
-pub mod ExprLexemes
-pub mod StmtLexemes
-pub mod ProgramLexemes
-pub mod CanWrite
-pub mod Plain
-pub mod Said
-pub mod Actions
-pub use Rattle.cilk_parse_grammar.specs.Spelling
-pub use Rattle.cilk_tree.specs.syntax

@@ -1,5 +1,0 @@
-use Rattle.cilk_laws_runs.proofs.CallRuns.{each_inlet_starts}
-use Rattle.cilk_laws_runs.proofs.calls.each_inlet_starts.Goals as goal
-
-pub returns : goal.returns
-returns c = each_inlet_starts

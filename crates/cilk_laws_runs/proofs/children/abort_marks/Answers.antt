@@ -1,5 +1,0 @@
-use Rattle.cilk_laws_runs.proofs.Marks.{abort_marks}
-use Rattle.cilk_laws_runs.proofs.children.abort_marks.Goals as goal
-
-pub returns : goal.returns
-returns c = abort_marks

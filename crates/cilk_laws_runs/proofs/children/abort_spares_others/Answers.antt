@@ -1,5 +1,0 @@
-use Rattle.cilk_laws_runs.proofs.Marks.{abort_spares_others}
-use Rattle.cilk_laws_runs.proofs.children.abort_spares_others.Goals as goal
-
-pub returns : goal.returns
-returns c = abort_spares_others

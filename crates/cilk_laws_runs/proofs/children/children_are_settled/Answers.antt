@@ -1,5 +1,0 @@
-use Rattle.cilk_laws_runs.proofs.Settled.{children_are_settled}
-use Rattle.cilk_laws_runs.proofs.children.children_are_settled.Goals as goal
-
-pub returns : goal.returns
-returns c = children_are_settled

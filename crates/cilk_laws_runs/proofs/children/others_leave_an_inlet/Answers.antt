@@ -1,5 +1,0 @@
-use Rattle.cilk_laws_runs.proofs.Alone.{others_leave_an_inlet}
-use Rattle.cilk_laws_runs.proofs.children.others_leave_an_inlet.Goals as goal
-
-pub returns : goal.returns
-returns c = others_leave_an_inlet

@@ -1,5 +1,0 @@
-use Rattle.cilk_laws_runs.proofs.Lived.{the_made_have_lived}
-use Rattle.cilk_laws_runs.proofs.children.the_made_have_lived.Goals as goal
-
-pub returns : goal.returns
-returns c = the_made_have_lived

@@ -1,5 +1,0 @@
-use Rattle.cilk_laws_runs.proofs.LoopBodies.{breaks_stand_in_loops}
-use Rattle.cilk_laws_runs.proofs.heads.breaks_stand_in_loops.Goals as goal
-
-pub returns : goal.returns
-returns c = breaks_stand_in_loops

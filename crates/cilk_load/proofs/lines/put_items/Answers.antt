@@ -1,0 +1,33 @@
+use Rattle.std.proofs.Common.{◌≡◌, ◌+◌, ◌++◌, List, ◌∷◌, length, drop, sym, ap, ◌∙◌, arith, append_assoc, length-append}
+use Rattle.std.proofs.lemmas.List.{at_drop_more}
+use Rattle.cilk_load_names.specs.syntax.Tree as tree
+use Rattle.cilk_load_names.specs.syntax.ProgramText.{item_lines, items_lines}
+use Rattle.cilk_load_names.specs.labelled.Count.{count_items}
+use Rattle.cilk_load_names.specs.labelled.Lines.{item_action_lines, items_action_lines}
+use Rattle.cilk_load.proofs.lines.put_items.Goals as goal
+
+pub loop-item-preserved : goal.loop-item-preserved
+loop-item-preserved c =
+    let before = c.loop-item.lines.items in
+    let line = c.loop-item.line in
+    let item = c.item-item.result in
+    let rest = drop (c.loop-item.item-index + 1) c.args.items.now in
+    let more : drop c.loop-item.item-index c.args.items.now ≡ item ∷ rest =
+    at_drop_more (λ (xs : List tree.Item). xs) c.args.items.now c.loop-item.item-index item c.loop-item-test.true
+    ∙ ap (λ (x : tree.Item). x ∷ rest) (sym c.item-item.is)
+    in
+    record {
+      lines =
+          (λ i. c.in_ok-line.ensures.lines i ++ items_action_lines (c.in_ok-line.ensures.after i) rest)
+          ∙ append_assoc before (item_action_lines line item) (items_action_lines (line + length (item_lines item)) rest)
+          ∙ ap (λ (xs : List tree.Item). before ++ items_action_lines line xs) (sym more)
+          ∙ c.loop-item.invariant.lines;
+      len = omega (arith, c.in_ok-line.ensures.len, c.loop-item.invariant.len, ap count_items more);
+      line = omega (
+        arith,
+        c.in_ok-line.ensures.after,
+        c.loop-item.invariant.line,
+        ap (λ (xs : List tree.Item). length (items_lines xs)) more,
+        length-append (item_lines item) (items_lines rest),
+      );
+    }

@@ -1,0 +1,194 @@
+//! The pairs of accesses of a run that meet and are not ordered, and those of them that are told.
+
+ghost use Rattle.std.specs.Prelude.{◌≡◌, ◌<◌, ◌++◌, ◌∷◌, [], List, length, option_map, slice_index_or, take, IfOk, OnOk};
+ghost use Rattle.std.specs.List.{All};
+ghost use Rattle.cilk_measure.specs.model.labelled.Labelled.{Labelled};
+ghost use Rattle.cilk_measure.specs.model.Event.{Event};
+ghost use Rattle.cilk_races.specs.Kept.{Blocked};
+ghost use Rattle.cilk_races.specs.Paired.{Within, between, is_told, no_touch, pair_of, pairs_told, touches_of, with_earlier, with_entry};
+ghost use Rattle.cilk_races.specs.Races.{count_of, entries_of, pairs_of, same_entry, same_relation};
+ghost use Rattle.cilk_races.specs.PairWords.{relation_named};
+
+use crate::may_meet::{meet, same_variable};
+use crate::relation::{Relation, relation_of};
+use crate::row::Row;
+use crate::touch::Touch;
+use cilk_machine_step::Memory;
+use std::alloc::Global;
+
+/// Two accesses, by their places among those of a run, and how the program relates their steps.
+#[derive(Clone, Copy)]
+pub struct Pair {
+    pub first: usize,
+    pub second: usize,
+    pub relation: Relation,
+}
+
+/// The pairs, in the order of the second access.
+pub fn pairs_of(alloc: Global, rows: &[Row], touches: &[Touch]) -> Result<Vec<Pair>, Memory>
+    ensures pairs { IfOk result (λ pairs. (program : Labelled) (events : List Event) → Blocked program events rows.now
+        → pairs_told rows.now touches.now pairs.items ≡ pairs_of program events (touches_of rows.now touches.now)) }
+    ensures within { IfOk result (λ pairs. All (Within (length touches.now)) pairs.items) }
+{
+    let mut pairs = Vec::new(alloc);
+    for second in 0..touches.len() {
+        push_pairs(&mut pairs, rows, touches, second)?;
+    }
+    Ok(pairs)
+}
+
+// Adds those of one access with earlier ones.
+fn push_pairs(
+    pairs: &mut Vec<Pair>,
+    rows: &[Row],
+    touches: &[Touch],
+    second: usize,
+) -> Result<(), Memory>
+    requires there { second < length touches.now }
+    requires within { All (Within (length touches.now)) pairs.old.items }
+    ensures pairs { OnOk result ((program : Labelled) (events : List Event) → Blocked program events rows.now
+        → pairs_told rows.now touches.now pairs.new.items ≡ pairs_told rows.now touches.now pairs.old.items
+        ++ with_earlier program events (take second (touches_of rows.now touches.now)) (slice_index_or (touches_of rows.now touches.now) second no_touch)) }
+    ensures within { OnOk result (All (Within (length touches.now)) pairs.new.items) }
+{
+    for first in 0..second {
+        push_pair(pairs, rows, touches, first, second)?;
+    }
+    Ok(())
+}
+
+// Adds these two, if they meet and are not ordered.
+fn push_pair(
+    pairs: &mut Vec<Pair>,
+    rows: &[Row],
+    touches: &[Touch],
+    first: usize,
+    second: usize,
+) -> Result<(), Memory>
+    requires first { first < length touches.now }
+    requires second { second < length touches.now }
+    requires within { All (Within (length touches.now)) pairs.old.items }
+    ensures pairs { OnOk result ((program : Labelled) (events : List Event) → Blocked program events rows.now
+        → pairs_told rows.now touches.now pairs.new.items ≡ pairs_told rows.now touches.now pairs.old.items
+        ++ with_earlier program events (slice_index_or (touches_of rows.now touches.now) first no_touch ∷ [])
+        (slice_index_or (touches_of rows.now touches.now) second no_touch)) }
+    ensures within { OnOk result (All (Within (length touches.now)) pairs.new.items) }
+{
+    match relation_between(rows, &touches[first], &touches[second]) {
+        None => Ok(()),
+        Some(relation) => {
+            pairs.push(Pair {
+                first,
+                second,
+                relation,
+            })?;
+            Ok(())
+        }
+    }
+}
+
+// How two accesses are related that meet, if they are not ordered.
+fn relation_between(rows: &[Row], a: &Touch, b: &Touch) -> Option<Relation>
+    ensures { option_map relation_named result ≡ between rows.now a.now b.now }
+{
+    if !meet(rows, a, b) {
+        return None;
+    }
+    let relation = relation_of(rows, a.placed, b.placed);
+    if matches!(relation, Relation::Ordered) {
+        None
+    } else {
+        Some(relation)
+    }
+}
+
+/// The first one of each entry.
+pub fn entries_of(
+    alloc: Global,
+    rows: &[Row],
+    touches: &[Touch],
+    pairs: &[Pair],
+) -> Result<Vec<Pair>, Memory>
+    requires { All (Within (length touches.now)) pairs.now }
+    ensures entries { IfOk result (λ entries. pairs_told rows.now touches.now entries.items ≡ entries_of (pairs_told rows.now touches.now pairs.now)) }
+    ensures within { IfOk result (λ entries. All (Within (length touches.now)) entries.items) }
+{
+    let mut entries = Vec::new(alloc);
+    for pair in pairs {
+        push_entry(&mut entries, rows, touches, *pair)?;
+    }
+    Ok(entries)
+}
+
+// Adds a pair, unless one of those before is told as the same.
+fn push_entry(
+    entries: &mut Vec<Pair>,
+    rows: &[Row],
+    touches: &[Touch],
+    pair: Pair,
+) -> Result<(), Memory>
+    requires pair { Within (length touches.now) pair }
+    requires within { All (Within (length touches.now)) entries.old.items }
+    ensures entries { OnOk result (pairs_told rows.now touches.now entries.new.items
+        ≡ with_entry (pairs_told rows.now touches.now entries.old.items) (pair_of rows.now touches.now pair)) }
+    ensures within { OnOk result (All (Within (length touches.now)) entries.new.items) }
+{
+    if is_told(rows, touches, entries.as_slice(), pair) {
+        return Ok(());
+    }
+    entries.push(pair)?;
+    Ok(())
+}
+
+// Whether one of these is told as the same.
+fn is_told(rows: &[Row], touches: &[Touch], entries: &[Pair], pair: Pair) -> bool
+    requires entries { All (Within (length touches.now)) entries.now }
+    requires pair { Within (length touches.now) pair }
+    ensures { result ≡ is_told (pairs_told rows.now touches.now entries.now) (pair_of rows.now touches.now pair) }
+{
+    for entry in entries {
+        if same_entry(rows, touches, *entry, pair) {
+            return true;
+        }
+    }
+    false
+}
+
+// Of one variable, by the same two actions, and related alike.
+fn same_entry(rows: &[Row], touches: &[Touch], one: Pair, other: Pair) -> bool
+    requires one { Within (length touches.now) one }
+    requires other { Within (length touches.now) other }
+    ensures { result ≡ same_entry (pair_of rows.now touches.now one) (pair_of rows.now touches.now other) }
+{
+    let first = &touches[one.first];
+    let second = &touches[one.second];
+    let before = &touches[other.first];
+    let behind = &touches[other.second];
+    same_variable(rows, first, before)
+        && (first.n == before.n
+            && (second.n == behind.n && same_relation(one.relation, other.relation)))
+}
+
+/// How many of these are related so.
+pub fn count_of(rows: &[Row], touches: &[Touch], relation: Relation, pairs: &[Pair]) -> usize
+    ensures { result ≡ count_of (relation_named relation) (pairs_told rows.now touches.now pairs.now) }
+{
+    let mut count = 0;
+    for pair in pairs {
+        if same_relation(relation, pair.relation) {
+            count += 1;
+        }
+    }
+    count
+}
+
+fn same_relation(one: Relation, other: Relation) -> bool
+    ensures { result ≡ same_relation (relation_named one) (relation_named other) }
+{
+    match one {
+        Relation::Ordered => matches!(other, Relation::Ordered),
+        Relation::Race => matches!(other, Relation::Race),
+        Relation::Order => matches!(other, Relation::Order),
+        Relation::Inlets => matches!(other, Relation::Inlets),
+    }
+}

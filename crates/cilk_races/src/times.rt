@@ -1,0 +1,87 @@
+//! How often an access of a run is made by another run of the same program.
+
+ghost use Rattle.std.specs.Prelude.{◌≡◌, ◌≤◌, ◌&&◌, length, nat_le};
+ghost use Rattle.cilk_races.specs.measure.model.Path.{same_path};
+ghost use Rattle.cilk_races.specs.Kept.{path_in};
+ghost use Rattle.cilk_races.specs.Paired.{touches_of};
+ghost use Rattle.cilk_races.specs.Races.{same_cell};
+ghost use Rattle.cilk_races.specs.PairWords.{touch_of};
+ghost use Rattle.cilk_races.specs.Reversals.{is_again, same_bool, times};
+
+use crate::row::{Row, path_in};
+use crate::touch::Touch;
+use cilk_machine_step::Spot;
+
+/// How often the access is made up to that choice of the other run.
+pub(crate) fn times(
+    rows: &[Row],
+    access: &Touch,
+    choice: u64,
+    others: &[Row],
+    touches: &[Touch],
+) -> usize
+    ensures is { result ≡ times (touch_of rows.now access.now) choice (touches_of others.now touches.now) }
+    ensures few { result ≤ length touches.now }
+{
+    let mut count = 0;
+    for touch in touches {
+        if is_made(rows, access, choice, others, touch) {
+            count += 1;
+        }
+    }
+    count
+}
+
+// Whether this is the access, up to that choice.
+fn is_made(rows: &[Row], access: &Touch, choice: u64, others: &[Row], touch: &Touch) -> bool
+    ensures { result ≡ (is_again (touch_of rows.now access.now) (touch_of others.now touch.now) && nat_le touch.now.choice choice) }
+{
+    is_again(rows, access, others, touch) && touch.choice <= choice
+}
+
+/// Whether both are by one instance and one action, of one cell, and both read it or both write it.
+pub(crate) fn is_again(rows: &[Row], access: &Touch, others: &[Row], touch: &Touch) -> bool
+    ensures { result ≡ is_again (touch_of rows.now access.now) (touch_of others.now touch.now) }
+{
+    same_paths(rows, access.placed.place, others, touch.placed.place)
+        && (access.n == touch.n
+            && (same_cell(rows, access, others, touch)
+                && same_bool(access.access.writes, touch.access.writes)))
+}
+
+fn same_paths(rows: &[Row], one: usize, others: &[Row], other: usize) -> bool
+    ensures { result ≡ same_path (path_in rows.now one) (path_in others.now other) }
+{
+    path_in(rows, one) == path_in(others, other)
+}
+
+fn same_cell(rows: &[Row], a: &Touch, others: &[Row], b: &Touch) -> bool
+    ensures { result ≡ same_cell (touch_of rows.now a.now).access.at (touch_of others.now b.now).access.at }
+{
+    match a.access.at {
+        Spot::Global { variable, index } => match b.access.at {
+            Spot::Global {
+                variable: other,
+                index: at,
+            } => variable == other && index == at,
+            _ => false,
+        },
+        Spot::Own { variable, index } => match b.access.at {
+            Spot::Own {
+                variable: other,
+                index: at,
+            } => same_paths(rows, a.own, others, b.own) && (variable == other && index == at),
+            _ => false,
+        },
+        Spot::Output => matches!(b.access.at, Spot::Output),
+        Spot::Synched => {
+            matches!(b.access.at, Spot::Synched) && same_paths(rows, a.own, others, b.own)
+        }
+    }
+}
+
+fn same_bool(one: bool, other: bool) -> bool
+    ensures { result ≡ same_bool one other }
+{
+    if one { other } else { !other }
+}

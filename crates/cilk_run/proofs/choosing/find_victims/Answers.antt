@@ -1,0 +1,19 @@
+use Rattle.std.proofs.Common.{◌≡◌, ◌∙◌, ap, arith}
+use Rattle.cilk_run.specs.labelled.Bodies.{label}
+use Rattle.cilk_run.specs.model.Choice.{steal}
+use Rattle.cilk_run.specs.Drawn.{can, victims}
+use Rattle.cilk_run.proofs.Among.{next-found, few-found}
+use Rattle.cilk_run.proofs.choosing.find_victims.Goals as goal
+
+pub loop-before-preserved : goal.loop-before-preserved
+loop-before-preserved c = (
+  λ at s.
+      next-found (λ v. can (label c.args.machine.now.program) at c.args.worker (steal v)) c.loop-before.before c.loop-before.found.items _ c.can-may.result
+      (c.can-may.ensures at s) (c.loop-before.invariant.0 at s) c.in_ok-push_if.ensures,
+  few-found c.loop-before.before c.loop-before.found.items _ c.can-may.result c.loop-before.invariant.1 c.in_ok-push_if.ensures,
+)
+
+pub returns-clause-found : goal.returns-clause-found
+returns-clause-found c =
+    let all : c.loop-before.before ≡ c.args.workers = omega (arith, c.loop-before-test.false, c.loop-before.auto.before-end) in
+    λ at s. c.loop-before.invariant.0 at s ∙ ap (λ n. victims (label c.args.machine.now.program) n at c.args.worker) all
