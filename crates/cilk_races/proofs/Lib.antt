@@ -1,5 +1,6 @@
 pub mod Related
 pub mod Paired
+pub mod Linked
 pub mod Pushed
 pub mod Between
 pub mod Steps

@@ -21,11 +21,11 @@ module _ (program : Labelled) (events : List Event) (touches : List Touch) where
       ∙ sym (pairs-more program events [] (take k touches) (at k))
       ∙ ap (pairs_of program events) (sym (take-suc touches k no_touch h))
 
-  -- those of access b with one more before it
-  pub earlier-step : (b : Touch) (k : ℕ) (first old new : List Pair) → k < length touches → old ≡ first ++ with_earlier program events (take k touches) b
-      → new ≡ old ++ with_earlier program events (at k ∷ []) b → new ≡ first ++ with_earlier program events (take (suc k) touches) b
-  earlier-step b k first old new h before is =
-      is ∙ ap (λ xs. xs ++ with_earlier program events (at k ∷ []) b) before
-      ∙ append_assoc first (with_earlier program events (take k touches) b) (with_earlier program events (at k ∷ []) b)
-      ∙ ap (λ xs. first ++ xs) (sym (earlier-more program events (take k touches) (at k ∷ []) b))
-      ∙ ap (λ xs. first ++ with_earlier program events xs b) (sym (take-suc touches k no_touch h))
+-- those of access b with one more before it
+pub earlier-step : (program : Labelled) (events : List Event) (b a : Touch) (before : List Touch) (first old new : List Pair)
+    → old ≡ first ++ with_earlier program events before b → new ≡ old ++ with_earlier program events (a ∷ []) b
+    → new ≡ first ++ with_earlier program events (before ++ a ∷ []) b
+earlier-step program events b a before first old new so_far is =
+    is ∙ ap (λ xs. xs ++ with_earlier program events (a ∷ []) b) so_far
+    ∙ append_assoc first (with_earlier program events before b) (with_earlier program events (a ∷ []) b)
+    ∙ ap (λ xs. first ++ xs) (sym (earlier-more program events before (a ∷ []) b))

@@ -4,6 +4,7 @@
 
 mod detour;
 pub mod laws;
+mod links;
 mod look;
 mod may_meet;
 mod meeting;

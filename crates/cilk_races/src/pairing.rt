@@ -4,11 +4,13 @@ ghost use Rattle.std.specs.Prelude.{◌≡◌, ◌<◌, ◌++◌, ◌∷◌, [],
 ghost use Rattle.std.specs.List.{All};
 ghost use Rattle.cilk_measure.specs.model.labelled.Labelled.{Labelled};
 ghost use Rattle.cilk_measure.specs.model.Event.{Event};
+ghost use Rattle.cilk_races.specs.Links.{AreLinked};
 ghost use Rattle.cilk_races.specs.Kept.{Blocked};
 ghost use Rattle.cilk_races.specs.Paired.{Within, between, is_told, no_touch, pair_of, pairs_told, touches_of, with_earlier, with_entry};
 ghost use Rattle.cilk_races.specs.Races.{count_of, entries_of, pairs_of, same_entry, same_relation};
 ghost use Rattle.cilk_races.specs.PairWords.{relation_named};
 
+use crate::links::{Links, hash_of};
 use crate::may_meet::{meet, same_variable};
 use crate::relation::{Relation, relation_of};
 use crate::row::Row;
@@ -30,29 +32,36 @@ pub fn pairs_of(alloc: Global, rows: &[Row], touches: &[Touch]) -> Result<Vec<Pa
         → pairs_told rows.now touches.now pairs.items ≡ pairs_of program events (touches_of rows.now touches.now)) }
     ensures within { IfOk result (λ pairs. All (Within (length touches.now)) pairs.items) }
 {
+    let links = Links::new(alloc, rows, touches)?;
     let mut pairs = Vec::new(alloc);
     for second in 0..touches.len() {
-        push_pairs(&mut pairs, rows, touches, second)?;
+        push_pairs(&mut pairs, &links, rows, touches, second)?;
     }
     Ok(pairs)
 }
 
-// Adds those of one access with earlier ones.
+// Adds those of one access with earlier ones, which all stand in its bucket.
 fn push_pairs(
     pairs: &mut Vec<Pair>,
+    links: &Links,
     rows: &[Row],
     touches: &[Touch],
     second: usize,
 ) -> Result<(), Memory>
     requires there { second < length touches.now }
+    requires first { length links.now.first.items ≡ length touches.now }
+    requires next { length links.now.next.items ≡ length touches.now }
+    requires linked { AreLinked (length touches.now) (touches_of rows.now touches.now) 0 links.now.first.items links.now.next.items }
     requires within { All (Within (length touches.now)) pairs.old.items }
     ensures pairs { OnOk result ((program : Labelled) (events : List Event) → Blocked program events rows.now
         → pairs_told rows.now touches.now pairs.new.items ≡ pairs_told rows.now touches.now pairs.old.items
         ++ with_earlier program events (take second (touches_of rows.now touches.now)) (slice_index_or (touches_of rows.now touches.now) second no_touch)) }
     ensures within { OnOk result (All (Within (length touches.now)) pairs.new.items) }
 {
-    for first in 0..second {
+    let mut first = links.first[hash_of(rows, &touches[second]) % touches.len()];
+    while first < second {
         push_pair(pairs, rows, touches, first, second)?;
+        first = links.next[first];
     }
     Ok(())
 }
