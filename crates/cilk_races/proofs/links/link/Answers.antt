@@ -25,7 +25,8 @@ loop-place-preserved c =
           (λ (v : ℕ). AreLinked count (touches_of c.args.rows.now c.args.touches.now) place (set c.loop-place.first (c.hash_of.result % count) v)
           (set c.loop-place.next place (slice_index c.loop-place.first (c.hash_of.result % count)))) (sym c.begun.ensures)
           (linked-more count (touches_of c.args.rows.now c.args.touches.now) place (c.hash_of.result % count) low
-          (kept-bucket c.args.rows.now c.args.touches.now place c.index-touches-place.result low (sym c.index-touches-place.is) c.hash_of.result c.hash_of.ensures)
+          (kept-bucket c.args.rows.now c.args.touches.now place c.index-touches-place.result low (sym c.index-touches-place.is)
+          c.hash_of.result c.hash_of.ensures)
           c.index-touches-place.result.access.writes
           (kept-writes c.args.rows.now c.args.touches.now place c.index-touches-place.result low (sym c.index-touches-place.is))
           c.loop-place.first c.loop-place.next (omega (arith, size)) (omega arith) there
