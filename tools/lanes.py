@@ -19,12 +19,14 @@ ROOM = 3_500_000_000
 MOST_JOBS, LONG_JOBS = 4, 2
 # Checks beyond one a processor: what they do is done where those with longer chains above them leave a processor idle.
 MORE = 2
-# How far behind the others a check stands that others do not wait for, as `nice` has it.
+# How far behind the others a check stands at most, as `nice` has it: one that no other waits for.
 BEHIND = 10
 # What loading what a crate stands on weighs, in lines of code.
 LOADING = 70
-# A chain of crates is among the longest if it is so much of the longest one.
+# A chain of crates is among the longest, and has more processes, if it is so much of the longest one.
 NEARLY = 0.9
+# The least weight of a crate that a second process helps: each loads what the crate stands on.
+LARGE = 1400
 
 
 class Crates:
@@ -188,7 +190,8 @@ class Turns:
 
     def __init__(self, crates, names):
         self.crates, self.left = crates, list(names)
-        self.most, self.checks = processors(), min(processors() + MORE, rooms())
+        self.rooms = rooms()
+        self.most, self.checks = processors(), min(processors() + MORE, self.rooms)
         self.behind = crates.behind(set(names))
         self.done, self.jobs = set(), {}
 
@@ -199,17 +202,21 @@ class Turns:
 
     def next(self):
         """Returns the crate to take up now, how many jobs it gets, and how far behind others it stands, or None. One with one of the longest chains
-        above it goes before the others, and gets the processors that are idle and that no other crate is ready for."""
+        above it goes before the others, and gets the processors that are idle and that no other crate is ready for; others stand the further behind
+        the shorter their chains are."""
         ready = self.ready()
-        if not ready or len(self.jobs) >= self.checks:
+        if not ready:
             return None
         name, spare = ready[0], self.most - sum(self.jobs.values()) - (len(ready) - 1)
-        longest = max(self.behind[it] for it in [*self.left, *self.jobs])
-        is_long = self.behind[name] >= NEARLY * longest
+        part = self.behind[name] / max(self.behind[it] for it in [*self.left, *self.jobs])
+        is_long = part >= NEARLY
+        if len(self.jobs) >= (self.rooms if is_long else self.checks):
+            return None
         fewest = LONG_JOBS if is_long and self.most >= 2 * LONG_JOBS else 1
         self.left.remove(name)
-        self.jobs[name] = max(fewest, min(spare, MOST_JOBS if is_long else LONG_JOBS))
-        return name, self.jobs[name], 0 if is_long else BEHIND
+        wanted = max(fewest, min(spare, MOST_JOBS if is_long else LONG_JOBS))
+        self.jobs[name] = wanted if self.crates.weight(name) >= LARGE else 1
+        return name, self.jobs[name], 0 if is_long else round(BEHIND * (1 - part))
 
     def end(self, name, is_proved):
         """Notes that a crate is done. Where it is not proved, those above it are left out."""
@@ -244,7 +251,7 @@ class Teller:
 def prove_all(crates, names, room, tell):
     """Proves libraries side by side in lanes below a folder, and tells what is begun and what has ended. Returns whether all are proved."""
     turns, free, running = Turns(crates, names), [], {}
-    with ThreadPoolExecutor(turns.checks) as pool:
+    with ThreadPoolExecutor(turns.rooms) as pool:
         try:
             while turns.left or running:
                 while (taken := turns.next()) is not None:

@@ -5,7 +5,7 @@ use Rattle.std.proofs.Common.{unwrap_or, slice_index_or}
 use Rattle.std.specs.List.{find, range_with_len}
 use Rattle.cilk_debug_console.specs.model.Event.{Event}
 use Rattle.cilk_debug.specs.Breaks.{number_of, is_set, stops, stops_at, stops_by, down_from, next_stop, last_stop}
-use Rattle.cilk_debug.specs.Tape.{Tape, did_at}
+use Rattle.cilk_log_replay.specs.Tape.{Tape, did_at}
 use Rattle.cilk_debug.specs.Tracks.{action_of, action_at, meets}
 
 -- two tests that agree find the same, up and down

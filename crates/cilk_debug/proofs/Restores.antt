@@ -2,16 +2,16 @@
 use Rattle.std.proofs.Common.{◌≡◌, ◌<◌, ◌≤◌, ◌*◌, [], ℕ, true, List, length, Some, sym, ap, ◌∙◌, subst, arith}
 use Rattle.std.proofs.Common.{slice_index_or}
 use Rattle.std.proofs.lemmas.Option.{slice_get-get_or}
-use Rattle.cilk_machine.specs.syntax.Tree.{Program}
+use Rattle.cilk_log_replay.specs.machine.syntax.Tree.{Program}
 use Rattle.cilk_debug_console.specs.model.Choice.{Choice}
-use Rattle.cilk_machine.specs.Situation.{Situation, workers_of}
-use Rattle.cilk_machine.specs.Stands.{Opens}
-use Rattle.cilk_machine.specs.Checkpoints.{Checkpoint, IsCheckpointOf, IsEarlier, WasThere, without_past}
-use Rattle.cilk_debug.specs.Going.{AreThere, Goes}
-use Rattle.cilk_debug.specs.Tape.{Tape, IsAt}
+use Rattle.cilk_log_replay.specs.machine.Situation.{Situation, workers_of}
+use Rattle.cilk_log_replay.specs.machine.Stands.{Opens}
+use Rattle.cilk_log_replay.specs.machine.Checkpoints.{Checkpoint, IsCheckpointOf, IsEarlier, WasThere, without_past}
+use Rattle.cilk_log_replay.specs.Going.{AreThere, Goes}
+use Rattle.cilk_log_replay.specs.Tape.{Tape, IsAt}
 use Rattle.cilk_debug.specs.Tracks.{IsKeptAt, IsTrack}
-use Rattle.cilk_debug.proofs.Again.{at_start}
-use Rattle.cilk_debug.proofs.Onward.{goes-there}
+use Rattle.cilk_log_replay.proofs.Again.{at_start}
+use Rattle.cilk_log_replay.proofs.Onward.{goes-there}
 
 -- the checkpoint of a number
 pub kept-at : (t : Tape) (n : ℕ) (last : Situation) (cs : List Checkpoint) (actions : List ℕ) → IsTrack t n last cs actions → (i : ℕ) → 1000 * i ≤ n

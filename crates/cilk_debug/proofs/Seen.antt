@@ -1,7 +1,7 @@
 -- What is seen where a machine stands.
 use Rattle.std.proofs.Common.{◌≡◌, ◌≢◌, ℕ, List, [], ◌++◌, take, length, Option, Some, None, option_map, option_and_then, refl, ap, ◌∙◌, sym, subst}
-use Rattle.cilk_machine.specs.syntax.Tree.{Program}
-use Rattle.cilk_machine.specs.labelled.Bodies.{label}
+use Rattle.cilk_log_replay.specs.machine.syntax.Tree.{Program}
+use Rattle.cilk_log_replay.specs.machine.labelled.Bodies.{label}
 use Rattle.cilk_debug_console.specs.model.State as state
 use Rattle.cilk_debug_console.specs.model.Run.{Standing, Position}
 use Rattle.cilk_debug_console.proofs.runs_laws.Fates.{each_choice_is_an_event}
@@ -11,10 +11,10 @@ use Rattle.cilk_debug_console.specs.model.Views.{shown, first_line, view}
 use Rattle.cilk_debug_console.specs.view.declared.what.What as code
 use Rattle.cilk_debug_console.specs.view.declared.what.What.TheVariants.{Tree, Frame, Globals, Deques, Output, Where, List as Listing}
 use Rattle.cilk_debug_console.specs.view.Words.{what_of}
-use Rattle.cilk_machine.specs.Situation.{Situation, workers_of}
-use Rattle.cilk_machine.specs.Stands.{StandsAt}
-use Rattle.cilk_debug.specs.Tape.{Tape, IsAt}
-use Rattle.cilk_debug.proofs.Again.{led_in}
+use Rattle.cilk_log_replay.specs.machine.Situation.{Situation, workers_of}
+use Rattle.cilk_log_replay.specs.machine.Stands.{StandsAt}
+use Rattle.cilk_log_replay.specs.Tape.{Tape, IsAt}
+use Rattle.cilk_log_replay.proofs.Again.{led_in}
 use Rattle.cilk_debug.specs.Debugging.{Debugging}
 use Rattle.cilk_debug.specs.Seeing.{seen_behind, position_line, line_behind}
 

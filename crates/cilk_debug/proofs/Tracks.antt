@@ -7,10 +7,10 @@ use Rattle.std.proofs.lemmas.List.{get_or_append_left}
 use Rattle.std.proofs.lemmas.Option.{slice_get_within, slice_get-get_or, get_or_from_slice_get}
 use Rattle.std.proofs.Math.Nat.{mod-eq-sub-mul-div, mul-div-le, mul-mod_right}
 use Rattle.std.proofs.Math.Seq.{get_or-append_seam}
-use Rattle.cilk_machine.specs.Situation.{Situation}
-use Rattle.cilk_machine.specs.Checkpoints.{Checkpoint, IsCheckpointOf, IsEarlier}
-use Rattle.cilk_machine.proofs.Checkpoints.{tells-itself}
-use Rattle.cilk_debug.specs.Tape.{Tape, IsAt}
+use Rattle.cilk_log_replay.specs.machine.Situation.{Situation}
+use Rattle.cilk_log_replay.specs.machine.Checkpoints.{Checkpoint, IsCheckpointOf, IsEarlier}
+use Rattle.cilk_log_replay.proofs.machine_laws.Checkpoints.{tells-itself}
+use Rattle.cilk_log_replay.specs.Tape.{Tape, IsAt}
 use Rattle.cilk_debug.specs.Tracks.{action_at, IsKeptAt, KeepsOne, IsTrack}
 
 -- a multiple of 1,000 is one checkpoint more

@@ -1,9 +1,9 @@
 -- By which way a player goes, and what is true of its two machines.
 use Rattle.std.proofs.Common.{◌≡◌, ◌+◌, ◌*◌, ◌/◌, ◌%◌, ℕ, length, arith}
 use Rattle.std.proofs.Math.Nat.{mul-div-le, mod-eq-sub-mul-div}
-use Rattle.cilk_machine.specs.Situation.{Situation}
+use Rattle.cilk_log_replay.specs.machine.Situation.{Situation}
 use Rattle.cilk_debug.specs.Playing.{Playing}
-use Rattle.cilk_debug.specs.Tape.{Tape}
+use Rattle.cilk_log_replay.specs.Tape.{Tape}
 
 -- how far the checkpoint before place k is
 pub home-before : (k : ℕ) → k ≡ 1000 * (k / 1000) + k % 1000

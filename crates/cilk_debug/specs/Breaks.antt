@@ -2,7 +2,7 @@
 use Rattle.std.specs.Prelude.{ℕ, zero, suc, ◌+◌, ◌-◌, Bool, false, List, [], ◌∷◌, length, Option, Some, None, option_map, slice_index_or}
 use Rattle.std.specs.List.{find, range_with_len}
 use Rattle.cilk_debug_console.specs.model.Event.{Event, acted, spawned, delivered, returned, ended, trapped, moved}
-use Rattle.cilk_debug.specs.Tape.{Tape, did_at}
+use Rattle.cilk_log_replay.specs.Tape.{Tape, did_at}
 
 -- the number of the action that an instance took, or was trapped at
 abbrev pub number_of : Event → Option ℕ

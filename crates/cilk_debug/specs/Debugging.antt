@@ -1,7 +1,7 @@
 -- What contracts see of a debugger.
 use Rattle.std.specs.Prelude.{◌≡◌, ◌≤◌, ℕ, Bool, List, length}
-use Rattle.cilk_machine.specs.labelled.Count.{count_program}
-use Rattle.cilk_debug.specs.Tape.{Tape, IsPlayable}
+use Rattle.cilk_log_replay.specs.machine.labelled.Count.{count_program}
+use Rattle.cilk_log_replay.specs.Tape.{Tape, IsPlayable}
 
 pub record Debugging : Type 0 where
   -- what is replayed

@@ -3,10 +3,10 @@ use Rattle.std.specs.Prelude.{◌≡◌, ⊤, ℕ, List, Option, true, false}
 use Rattle.cilk_debug_console.specs.syntax.ProgramText.{program_text}
 use Rattle.cilk_debug_console.specs.log.Naming.{is_of}
 use Rattle.cilk_debug_console.specs.model.Run.{is_crew}
-use Rattle.cilk_debug.specs.Tape.{Tape}
-use Rattle.cilk_debug.specs.ReplayFaults.{IsFirst}
-use Rattle.cilk_debug.specs.declared.replay_fault.ReplayFault.{ReplayFault}
-use Rattle.cilk_debug.specs.declared.replay_fault.ReplayFault.TheVariants as replay
+use Rattle.cilk_log_replay.specs.Tape.{Tape}
+use Rattle.cilk_log_replay.specs.ReplayFaults.{IsFirst}
+use Rattle.cilk_log_replay.specs.declared.replay_fault.ReplayFault.{ReplayFault}
+use Rattle.cilk_log_replay.specs.declared.replay_fault.ReplayFault.TheVariants as replay
 use Rattle.cilk_debug.specs.declared.fault.DebugFault.{DebugFault}
 use Rattle.cilk_debug.specs.declared.fault.DebugFault.TheVariants.{OtherProgram, Workers, BadChoice, AtEnd, AtStart, NoStatement, OutOfRange, Memory}
 

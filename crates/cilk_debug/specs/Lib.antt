@@ -2,7 +2,6 @@ pub mod Breaks
 pub mod Debugging
 pub mod Ending
 pub mod Faults
-pub mod Going
 pub mod Moves
 pub mod Obeying
 pub mod Playing
@@ -11,10 +10,9 @@ pub mod Rows
 pub mod Seeing
 pub mod Seeking
 pub mod Session
-pub mod Tape
 pub mod Tracks
 pub mod Working
-pub mod ReplayFaults
 pub use Rattle.cilk_debug_console.specs as console
 pub use Rattle.cilk_debug_console.specs.log
-pub use Rattle.cilk_machine.specs as machine
+pub use Rattle.cilk_log_replay.specs as replay
+pub use Rattle.cilk_log_replay.specs.machine

@@ -1,6 +1,6 @@
 -- Why a debugger does not move.
 use Rattle.std.specs.Prelude.{◌≡◌, ◌<◌, ◌≤◌, ◌⊎◌, ℕ, length}
-use Rattle.cilk_machine.specs.labelled.Count.{count_program}
+use Rattle.cilk_log_replay.specs.machine.labelled.Count.{count_program}
 use Rattle.cilk_debug.specs.Debugging.{Debugging}
 use Rattle.cilk_debug.specs.declared.fault.DebugFault.{DebugFault}
 use Rattle.cilk_debug.specs.declared.fault.DebugFault.TheVariants.{OtherProgram, Workers, BadChoice, AtEnd, AtStart, NoStatement, OutOfRange, Memory}

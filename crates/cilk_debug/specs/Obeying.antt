@@ -1,6 +1,6 @@
 -- What a debugger does at a command, and what it answers.
 use Rattle.std.specs.Prelude.{ℕ, ◌+◌, ◌-◌, nat_le, nat_lt, ◌&&◌, Bool, true, false, if◌then◌else◌, List, [], length, slice_set, codes, Option, Some, None}
-use Rattle.cilk_machine.specs.labelled.Count.{count_program}
+use Rattle.cilk_log_replay.specs.machine.labelled.Count.{count_program}
 use Rattle.cilk_debug_console.specs.model.What.{where_it_stands}
 use Rattle.cilk_debug_console.specs.Command.{Command, step, back, go, next, previous, set, clear, see, quit, nothing, unknown}
 use Rattle.cilk_debug.specs.Debugging.{Debugging}

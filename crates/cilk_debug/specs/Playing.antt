@@ -1,9 +1,9 @@
 -- What contracts see of a player, and by which way it comes from one place to another.
 use Rattle.std.specs.Prelude.{◌+◌, ◌-◌, ◌%◌, ◌&&◌, ℕ, Bool, List, length, leb, ltb, if◌then◌else◌}
-use Rattle.cilk_machine.specs.Checkpoints.{Checkpoint}
-use Rattle.cilk_machine.specs.Situation.{Situation}
-use Rattle.cilk_debug.specs.Going.{Goes}
-use Rattle.cilk_debug.specs.Tape.{Tape}
+use Rattle.cilk_log_replay.specs.machine.Checkpoints.{Checkpoint}
+use Rattle.cilk_log_replay.specs.machine.Situation.{Situation}
+use Rattle.cilk_log_replay.specs.Going.{Goes}
+use Rattle.cilk_log_replay.specs.Tape.{Tape}
 use Rattle.cilk_debug.specs.Tracks.{IsTrack}
 
 pub record Playing : Type 0 where

@@ -3,7 +3,7 @@ use Rattle.std.specs.Prelude.{ℕ, List, [], length, Option, Some, None, option_
 use Rattle.cilk_debug_console.specs.model.Run.{Position}
 use Rattle.cilk_debug_console.specs.model.What.{What, where_it_stands}
 use Rattle.cilk_debug_console.specs.model.Views.{first_line, view}
-use Rattle.cilk_debug.specs.Tape.{Tape, position_at}
+use Rattle.cilk_log_replay.specs.Tape.{Tape, position_at}
 use Rattle.cilk_debug.specs.Debugging.{Debugging}
 
 -- a view of where the first k choices lead

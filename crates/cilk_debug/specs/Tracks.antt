@@ -1,12 +1,12 @@
 -- What is kept of all choices of a tape, as they were made once: the action of each, and a checkpoint behind each 1,000, which the last machine completes.
 use Rattle.std.specs.Prelude.{◌≡◌, ◌<◌, ◌≤◌, ◌+◌, ◌*◌, ◌++◌, ◌∷◌, [], ℕ, Bool, List, length, Option, None, Some, unwrap_or, slice_get, slice_index_or}
-use Rattle.cilk_machine.specs.syntax.Tree.{Program}
+use Rattle.cilk_log_replay.specs.machine.syntax.Tree.{Program}
 use Rattle.cilk_debug_console.specs.model.Choice.{Choice}
 use Rattle.cilk_debug_console.specs.model.Event.{Event}
-use Rattle.cilk_machine.specs.Checkpoints.{Checkpoint, IsCheckpointOf, IsEarlier}
-use Rattle.cilk_machine.specs.Situation.{Situation}
+use Rattle.cilk_log_replay.specs.machine.Checkpoints.{Checkpoint, IsCheckpointOf, IsEarlier}
+use Rattle.cilk_log_replay.specs.machine.Situation.{Situation}
 use Rattle.cilk_debug.specs.Breaks.{number_of, is_set}
-use Rattle.cilk_debug.specs.Tape.{Tape, did_at, IsAt}
+use Rattle.cilk_log_replay.specs.Tape.{Tape, did_at, IsAt}
 
 -- the number of the action that was taken, and 0 where none was
 abbrev pub action_of : Option Event → ℕ

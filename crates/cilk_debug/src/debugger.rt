@@ -2,28 +2,26 @@
 
 ghost use Rattle.std.specs.Prelude.{◌≡◌, ◌≤◌, ◌<◌, ◌+◌, ◌-◌, ◌++◌, IfOk, IfErr, OnOk, OnErr, length, replicate, slice_set};
 ghost use Rattle.std.specs.Prelude.{true, false, Some, None, Err, string_bytes};
-ghost use Rattle.cilk_machine.specs.labelled.Count.{count_program};
+ghost use Rattle.cilk_log_replay.specs.machine.labelled.Count.{count_program};
 ghost use Rattle.cilk_debug_console.specs.syntax.ProgramText.{program_text};
 ghost use Rattle.cilk_debug_console.specs.log.Naming.{is_of};
 ghost use Rattle.cilk_debug_console.specs.model.Run.{is_crew};
 ghost use Rattle.cilk_debug_console.specs.model.What.{where_it_stands};
 ghost use Rattle.cilk_debug_console.specs.view.Words.{what_of};
-ghost use Rattle.cilk_debug.specs.Tape.{tape_of, IsPlayable};
+ghost use Rattle.cilk_log_replay.specs.Tape.{tape_of, IsPlayable};
 ghost use Rattle.cilk_debug.specs.Faults.{IsNamedDebugFaultOf};
 ghost use Rattle.cilk_debug.specs.Moves.{StaysGoingOn, StaysGoingBack, StaysFrom, HasNo};
-ghost use Rattle.cilk_debug.specs.ReplayFaults.{IsFaultOf, IsNamedFaultOf};
+ghost use Rattle.cilk_log_replay.specs.ReplayFaults.{IsFaultOf, IsNamedFaultOf};
 ghost use Rattle.cilk_debug.specs.Seeing.{seen_at, line_behind};
 ghost use Rattle.cilk_debug.specs.Seeking.{forward_position, is_any_ahead, back_position, is_any_behind};
 ghost use Rattle.cilk_debug.specs.Working.{gone_to, with_marks};
 
 use crate::fault::{DebugFault, debug_fault};
 use crate::player::Player;
-use crate::playing::{is_crew, refuse_other};
 use crate::position::put_position;
-use crate::replay_fault::ReplayFault;
 use crate::unplayable::Unplayable;
 use cilk_debug_console::{Loaded, Log};
-use cilk_machine::{Memory, Telling, ViewFault, What};
+use cilk_log_replay::{Memory, ReplayFault, Telling, ViewFault, What, is_crew, refuse_other};
 use std::alloc::Global;
 use std::marker::Model;
 
@@ -52,7 +50,7 @@ impl Drop for Debugger {
 impl Model for Debugger {
     ghost use Rattle.cilk_debug.specs.Debugging.{IsSound};
     ghost use Rattle.cilk_debug.specs.Working.{Working, working_of};
-    ghost use Rattle.cilk_machine.specs.syntax.ProgramCoding.{coded_Program};
+    ghost use Rattle.cilk_log_replay.specs.machine.syntax.ProgramCoding.{coded_Program};
     ghost use Rattle.std.specs.Coded.{codes};
 
     ghost Value = { Working };

@@ -3,8 +3,7 @@
 ghost use Rattle.std.specs.Prelude.{◌≡◌};
 ghost use Rattle.cilk_debug.specs.Faults.{debug_fault};
 
-use crate::replay_fault::ReplayFault;
-use cilk_machine::Refusal;
+use cilk_log_replay::{Refusal, ReplayFault};
 use thiserror::Error;
 
 /// Why a debugger does not do what it is told.

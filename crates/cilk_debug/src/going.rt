@@ -2,11 +2,10 @@
 
 ghost use Rattle.std.specs.Prelude.{◌≡◌, ◌≤◌, ◌+◌, map, true, length, OnErr, OnOk};
 ghost use Rattle.cilk_debug_console.specs.choices.Words.{choice_of};
-ghost use Rattle.cilk_debug.specs.Going.{Goes};
-ghost use Rattle.cilk_debug.specs.Tape.{Tape};
+ghost use Rattle.cilk_log_replay.specs.Going.{Goes};
+ghost use Rattle.cilk_log_replay.specs.Tape.{Tape};
 
-use crate::playing::make_again;
-use cilk_machine::{Choice, Machine, Memory};
+use cilk_log_replay::{Choice, Machine, Memory, make_again};
 use std::alloc::AllocError;
 
 /// Makes choices, or takes them back, until this many are made; each that is taken back has a record. Where memory has run out, it stands

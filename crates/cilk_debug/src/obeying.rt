@@ -13,7 +13,7 @@ use crate::fault::DebugFault;
 use crate::reply::Reply;
 use crate::session_fault::SessionFault;
 use cilk_debug_console::Command;
-use cilk_machine::{ViewFault, What};
+use cilk_log_replay::{ViewFault, What};
 
 impl Debugger {
     /// Does what is asked. Where memory runs out for the answer, it is done all the same.

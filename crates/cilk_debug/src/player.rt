@@ -3,20 +3,18 @@
 ghost use Rattle.std.specs.Prelude.{◌≡◌, ◌≤◌, IfErr, IfOk, IfSome, [], length, false, Err};
 ghost use Rattle.cilk_debug_console.specs.model.Run.{is_crew};
 ghost use Rattle.cilk_debug.specs.Breaks.{last_stop, next_stop};
-ghost use Rattle.cilk_debug.specs.Going.{GoesAll};
-ghost use Rattle.cilk_debug.specs.ReplayFaults.{IsFaultOf};
-ghost use Rattle.cilk_debug.specs.Tape.{tape_of, IsAt, IsPlayable};
+ghost use Rattle.cilk_log_replay.specs.Going.{GoesAll};
+ghost use Rattle.cilk_log_replay.specs.ReplayFaults.{IsFaultOf};
+ghost use Rattle.cilk_log_replay.specs.Tape.{tape_of, IsAt, IsPlayable};
 ghost use Rattle.cilk_debug.specs.Tracks.{IsTrack};
 
 mod standing;
 
 use crate::finding::{last_met, next_met};
-use crate::playing::is_crew;
-use crate::replay_fault::ReplayFault;
 use crate::track::{Track, first_track, follow_all};
 use crate::unplayable::Unplayable;
 use cilk_debug_console::{Loaded, Log};
-use cilk_machine::{Machine, MachineFault, Memory};
+use cilk_log_replay::{Machine, MachineFault, Memory, ReplayFault, is_crew};
 use std::alloc::{AllocError, Global};
 use std::marker::Model;
 
@@ -45,9 +43,9 @@ impl Drop for Player {
 
 impl Model for Player {
     ghost use Rattle.std.specs.Prelude.{length};
-    ghost use Rattle.cilk_debug.specs.Tape.{tape_of};
+    ghost use Rattle.cilk_log_replay.specs.Tape.{tape_of};
     ghost use Rattle.cilk_debug.specs.Playing.{Playing, IsPlayer};
-    ghost use Rattle.cilk_machine.specs.syntax.ProgramCoding.{coded_Program};
+    ghost use Rattle.cilk_log_replay.specs.machine.syntax.ProgramCoding.{coded_Program};
     ghost use Rattle.std.specs.Coded.{codes};
 
     ghost Value = { Playing };

@@ -2,11 +2,11 @@
 
 ghost use Rattle.std.specs.Prelude.{◌≡◌, ℕ, Some};
 ghost use Rattle.cilk_debug_console.specs.model.Path.{Path};
-ghost use Rattle.cilk_machine.specs.carries.Words.{event_by};
+ghost use Rattle.cilk_log_replay.specs.machine.plans.PartWords.{event_by};
 ghost use Rattle.cilk_debug.specs.Breaks.{number_of, is_set};
 ghost use Rattle.cilk_debug.specs.Tracks.{action_of};
 
-use cilk_machine::Did;
+use cilk_log_replay::Did;
 
 // The number of the action that an instance took, or was trapped at.
 fn number_of(did: Did) -> Option<u32>

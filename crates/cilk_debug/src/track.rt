@@ -2,15 +2,13 @@
 
 ghost use Rattle.std.specs.Prelude.{◌≡◌, ◌<◌, ◌+◌, map, length, IfErr, IfOk, OnOk};
 ghost use Rattle.cilk_debug_console.specs.choices.Words.{choice_of};
-ghost use Rattle.cilk_debug.specs.ReplayFaults.{IsFaultOf, IsFaultOfAll};
-ghost use Rattle.cilk_debug.specs.Tape.{Tape};
+ghost use Rattle.cilk_log_replay.specs.ReplayFaults.{IsFaultOf, IsFaultOfAll};
+ghost use Rattle.cilk_log_replay.specs.Tape.{Tape};
 ghost use Rattle.cilk_debug.specs.Tracks.{Begins, IsTrack, KeepsOne};
 
-use crate::playing::{make_again, opened};
-use crate::replay_fault::ReplayFault;
 use crate::stopping::action_of;
 use cilk_debug_console::Loaded;
-use cilk_machine::{Checkpoint, Choice, Machine};
+use cilk_log_replay::{Checkpoint, Choice, Machine, ReplayFault, make_again, opened};
 use std::alloc::Global;
 
 /// A checkpoint is kept behind each of so many choices.

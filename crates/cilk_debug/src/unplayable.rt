@@ -1,7 +1,7 @@
 //! A recorded schedule of which there is no debugger, and why.
 
-use crate::replay_fault::ReplayFault;
 use cilk_debug_console::Log;
+use cilk_log_replay::ReplayFault;
 
 /// A recorded schedule that cannot be replayed. It is handed back with its fault, so that more can be told of that.
 #[derive(Debug, Drop)]

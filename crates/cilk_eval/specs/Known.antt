@@ -1,15 +1,15 @@
 -- Expressions over variables of which a value is known, and which expressions need no more than that.
 use Rattle.std.specs.Prelude.{◌≡◌, ◌==◌, ◌&&◌, ℕ, ℤ, pos, Bool, true, false, if◌then◌else◌, List, [], ◌∷◌, ◌++◌, map, Option, Some, None, Result, Ok, Err}
 use Rattle.std.specs.Ordering.{int_eq}
-use Rattle.cilk_model_labels.specs.declared.trap.Trap.{Trap}
-use Rattle.cilk_model_labels.specs.declared.trap.Trap.TheVariants.{Index}
-use Rattle.cilk_model_labels.specs.Term.{Term, number, variable, element, synched, unary, binary, choose}
-use Rattle.cilk_model_labels.specs.Value.{Environment}
-use Rattle.cilk_eval.specs.declared.area.Area.{Area}
-use Rattle.cilk_eval.specs.declared.area.Area.TheVariants.{Own, Outer, Global}
-use Rattle.cilk_eval.specs.declared.slot.Slot.{Slot}
+use Rattle.cilk_load_nodes.specs.labelled.declared.trap.Trap.{Trap}
+use Rattle.cilk_load_nodes.specs.labelled.declared.trap.Trap.TheVariants.{Index}
+use Rattle.cilk_load_nodes.specs.labelled.Term.{Term, number, variable, element, synched, unary, binary, choose}
+use Rattle.cilk_load_nodes.specs.labelled.Value.{Environment}
+use Rattle.cilk_load_nodes.specs.declared.area.Area.{Area}
+use Rattle.cilk_load_nodes.specs.declared.area.Area.TheVariants.{Own, Outer, Global}
+use Rattle.cilk_load_nodes.specs.declared.slot.Slot.{Slot}
 use Rattle.cilk_eval.specs.declared.known.Known.{Known}
-use Rattle.cilk_eval.specs.Slots.{Cells, slot_cell}
+use Rattle.cilk_load_nodes.specs.Areas.{Cells, slot_cell}
 
 abbrev pub is_area : Area → Area → Bool
 is_area Own Own = true
@@ -33,16 +33,6 @@ known ks = record { value = known_value ks; length = λ slot. 0; cell = λ slot 
 abbrev pub no_element : Result ℤ Trap → Result ℤ Trap
 no_element (Ok k) = Err Index
 no_element (Err trap) = Err trap
-
--- no element and no `SYNCHED` stand in the expression
-abbrev pub is_plain : Term Slot → Bool
-is_plain (number n) = true
-is_plain (variable slot) = true
-is_plain (element slot subscript) = false
-is_plain synched = false
-is_plain (unary op t) = is_plain t
-is_plain (binary op a b) = is_plain a && is_plain b
-is_plain (choose t a b) = is_plain t && (is_plain a && is_plain b)
 
 -- its variables from the left, evaluated or not, each as often as it stands there
 abbrev pub variables_of : Term Slot → List Slot

@@ -1,8 +1,3 @@
-pub mod Reads
-pub mod Coding
-pub mod View
-pub mod Size
-pub mod Falls
-pub mod Slots
 pub mod Rounding
 pub mod Known
+pub use Rattle.cilk_load_nodes.specs as nodes

@@ -1,15 +1,12 @@
 //! The value of an expression over variables of which a value is known.
 
 ghost use Rattle.std.specs.Prelude.{◌≡◌};
-ghost use Rattle.cilk_model_labels.specs.Value.{value_of};
+ghost use Rattle.cilk_load_nodes.specs.labelled.Value.{value_of};
 ghost use Rattle.cilk_eval.specs.Known.{is_area, is_known, is_slot, known, known_value, no_element};
 
-use crate::area::Area;
 use crate::arithmetic::{apply, unary};
-use crate::code::{Code, CodeNode};
 use crate::evaluate::{literal, settled};
-use crate::slot::Slot;
-use cilk_model_labels::Trap;
+use cilk_load_nodes::{Area, Code, CodeNode, Slot, Trap};
 
 /// A variable that is no element, and its value at some time.
 #[derive(Clone, Copy, Debug, PartialEq, Eq)]

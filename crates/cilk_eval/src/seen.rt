@@ -1,33 +1,13 @@
 //! What slots hold of the variables of an expression.
 
 ghost use Rattle.std.specs.Prelude.{◌≡◌, ◌++◌, [], Decides, IfOk, OnOk, option_map};
-ghost use Rattle.cilk_eval.specs.Known.{behind_known, is_plain, known_of};
-ghost use Rattle.cilk_eval.specs.Slots.{SlotsLieWithin, cells_of, sizes_of};
+ghost use Rattle.cilk_eval.specs.Known.{behind_known, known_of};
+ghost use Rattle.cilk_load_nodes.specs.Areas.{SlotsLieWithin, cells_of, sizes_of};
 
-use crate::code::{Code, CodeNode};
 use crate::evaluate::variable;
 use crate::known::{Known, is_known};
-use crate::slots::Slots;
-use cilk_model_labels::Memory;
+use cilk_load_nodes::{Code, CodeNode, Memory, Slots};
 use std::alloc::Global;
-
-impl Code {
-    /// Whether neither an element nor `SYNCHED` stands in it.
-    #[cycle(is_plain)]
-    pub fn is_plain(&self) -> bool
-        ensures { result ≡ is_plain self.now }
-    {
-        match &self.node {
-            CodeNode::Number(_) | CodeNode::Variable(_) => true,
-            CodeNode::Element(..) | CodeNode::Synched => false,
-            CodeNode::Unary(_, operand) => operand.is_plain(),
-            CodeNode::Binary(_, left, right) => left.is_plain() && right.is_plain(),
-            CodeNode::Choose(test, first, second) => {
-                test.is_plain() && first.is_plain() && second.is_plain()
-            }
-        }
-    }
-}
 
 /// What the slots hold of the variables of an expression, from the left, evaluated or not.
 pub fn known_of(alloc: Global, slots: &Slots, code: &Code) -> Result<Vec<Known>, Memory>

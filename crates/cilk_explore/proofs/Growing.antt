@@ -3,11 +3,11 @@ use Rattle.std.proofs.Common.{◌≡◌, ◌≢◌, ◌<◌, ◌≤◌, ◌+◌,
 use Rattle.std.proofs.Common.{subst, arith, slice_get, append_assoc}
 use Rattle.std.proofs.lemmas.Bool.{cases_lt}
 use Rattle.std.proofs.lemmas.Option.{slice_get_within}
-use Rattle.cilk_explore_model.specs.labelled.Labelled.{Labelled}
-use Rattle.cilk_explore_model.specs.model.Choice.{Choice}
-use Rattle.cilk_explore_model.specs.model.Run.{Standing, Position, after}
-use Rattle.cilk_explore_model.specs.Ending.{Ending}
-use Rattle.cilk_explore_model.specs.Search.{Known, IsSearch, Told, LeadsTo, IsTold, Once}
+use Rattle.cilk_machine.specs.labelled.Labelled.{Labelled}
+use Rattle.cilk_machine.specs.model.Choice.{Choice}
+use Rattle.cilk_machine.specs.model.Run.{Standing, Position, after}
+use Rattle.cilk_machine.specs.explore.Ending.{Ending}
+use Rattle.cilk_machine.specs.explore.Search.{Known, IsSearch, Told, LeadsTo, IsTold, Once}
 use Rattle.cilk_explore.specs.LogLooking.{search_of, IsLooking, IsFound, Extends, AreClosed, TellsMore, TellsOf}
 use Rattle.cilk_explore.proofs.Fronts.{get-front, Behind, get-cases, append-none, one-there, one-entry}
 

@@ -3,14 +3,14 @@ use Rattle.std.proofs.Common.{◌≡◌, ◌<◌, ◌≤◌, ◌+◌, inl, inr, 
 use Rattle.std.proofs.Common.{if◌then◌else◌, slice_get}
 use Rattle.std.proofs.lemmas.Bool.{cases_lt}
 use Rattle.std.proofs.lemmas.Option.{slice_get_within}
-use Rattle.cilk_explore_model.specs.labelled.Labelled.{Labelled}
-use Rattle.cilk_explore_model.specs.model.Choice.{Choice, Refusal}
-use Rattle.cilk_explore_model.specs.model.Run.{Position, next_of, after, position_after, one_more}
-use Rattle.cilk_explore_model.specs.Names.{SameButNames}
-use Rattle.cilk_explore_model.specs.OrMore.{HasIdle, EachHasIdle}
-use Rattle.cilk_explore_model.proofs.runs_laws.model_laws.Runs.{after-push}
-use Rattle.cilk_explore_model.proofs.ButNames.{names_both, names_turned}
-use Rattle.cilk_explore_model.proofs.Idle.{idle_do_alike}
+use Rattle.cilk_machine.specs.labelled.Labelled.{Labelled}
+use Rattle.cilk_machine.specs.model.Choice.{Choice, Refusal}
+use Rattle.cilk_machine.specs.model.Run.{Position, next_of, after, position_after, one_more}
+use Rattle.cilk_machine.specs.explore.Names.{SameButNames}
+use Rattle.cilk_machine.specs.explore.OrMore.{HasIdle, EachHasIdle}
+use Rattle.cilk_machine.proofs.runs_laws.model_laws.Runs.{after-push}
+use Rattle.cilk_machine.proofs.explore_laws.ButNames.{names_both, names_turned}
+use Rattle.cilk_machine.proofs.explore_laws.Idle.{idle_do_alike}
 use Rattle.cilk_explore.specs.LogLooking.{search_of, Extends}
 use Rattle.cilk_explore.specs.Laws.{IdleAtEach, IdleAreLinkedAlike}
 use Rattle.cilk_explore.proofs.Fronts.{get-cases, one-entry}

@@ -14,4 +14,4 @@ pub mod Marks
 pub mod Endless
 pub mod Ends
 pub mod Wholes
-pub use Rattle.cilk_explore_model.proofs as explore_laws
+pub use Rattle.cilk_machine.proofs.explore_laws

@@ -3,18 +3,18 @@ use Rattle.std.proofs.Common.{◌≡◌, ◌≢◌, ◌≤◌, ℕ, Bool, true, 
 use Rattle.std.proofs.Common.{None, is_none, refl, sym, ap, ◌∙◌}
 use Rattle.std.proofs.Common.{subst, arith, slice_get, if◌then◌else◌}
 use Rattle.std.proofs.lemmas.Option.{slice_get_within}
-use Rattle.cilk_explore_model.specs.labelled.Labelled.{Labelled}
-use Rattle.cilk_explore_model.specs.model.Choice.{Choice, Refusal}
-use Rattle.cilk_explore_model.specs.model.Run.{Standing, Position, refusal_of, next_of, event_of, after, position_after, one_more}
-use Rattle.cilk_explore_model.specs.runs.Hands.{EachInItsPlace}
-use Rattle.cilk_explore_model.proofs.runs_laws.Kept.{places_are_kept}
-use Rattle.cilk_explore_model.proofs.runs_laws.model_laws.Runs.{after-push}
-use Rattle.cilk_explore_model.specs.Ending.{IsOver}
-use Rattle.cilk_explore_model.specs.Names.{SameButNames}
-use Rattle.cilk_explore_model.specs.Endless.{CanEnd, Unmarked}
-use Rattle.cilk_explore_model.proofs.ButNames.{names_kept}
-use Rattle.cilk_explore_model.proofs.Onward.{made}
-use Rattle.cilk_explore_model.proofs.Unending.{can_end_by, can_end_alike}
+use Rattle.cilk_machine.specs.labelled.Labelled.{Labelled}
+use Rattle.cilk_machine.specs.model.Choice.{Choice, Refusal}
+use Rattle.cilk_machine.specs.model.Run.{Standing, Position, refusal_of, next_of, event_of, after, position_after, one_more}
+use Rattle.cilk_machine.specs.runs.Hands.{EachInItsPlace}
+use Rattle.cilk_machine.proofs.runs_laws.Kept.{places_are_kept}
+use Rattle.cilk_machine.proofs.runs_laws.model_laws.Runs.{after-push}
+use Rattle.cilk_machine.specs.explore.Ending.{IsOver}
+use Rattle.cilk_machine.specs.explore.Names.{SameButNames}
+use Rattle.cilk_machine.specs.explore.Endless.{CanEnd, Unmarked}
+use Rattle.cilk_machine.proofs.explore_laws.ButNames.{names_kept}
+use Rattle.cilk_machine.proofs.explore_laws.Onward.{made}
+use Rattle.cilk_machine.proofs.explore_laws.Unending.{can_end_by, can_end_alike}
 use Rattle.cilk_explore.specs.Marking.{Reaches, at_once, along, mark_of, AreMarks}
 use Rattle.cilk_explore.specs.Linking.{AreLinks, AreLinked, MarksAreByLinks}
 use Rattle.cilk_explore.proofs.Fronts.{some-there}

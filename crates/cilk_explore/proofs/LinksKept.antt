@@ -2,9 +2,9 @@
 use Rattle.std.proofs.Common.{◌≡◌, ◌+◌, inl, inr, ℕ, List, [], ◌∷◌, ◌++◌, length, Some, sym, ap, ◌∙◌, subst, arith, slice_get}
 use Rattle.std.proofs.Common.{length-append}
 use Rattle.std.proofs.lemmas.Option.{slice_get_within}
-use Rattle.cilk_explore_model.specs.labelled.Labelled.{Labelled}
-use Rattle.cilk_explore_model.specs.model.Choice.{Choice}
-use Rattle.cilk_explore_model.specs.model.Run.{Standing}
+use Rattle.cilk_machine.specs.labelled.Labelled.{Labelled}
+use Rattle.cilk_machine.specs.model.Choice.{Choice}
+use Rattle.cilk_machine.specs.model.Run.{Standing}
 use Rattle.cilk_explore.specs.LogLooking.{Extends}
 use Rattle.cilk_explore.specs.Linking.{IsLink, HasLink, IsLinked, AreLinks, AreLinked}
 use Rattle.cilk_explore.proofs.Fronts.{get-front, get-cases, append-none, one-there, one-entry}

@@ -1,17 +1,17 @@
 -- Which choices may be possible behind a log, and a search at its start.
 use Rattle.std.proofs.Common.{◌≡◌, ◌≤◌, ◌+◌, ℕ, List, [], ◌∷◌, ◌++◌, length, Option, Some, None, is_none, refl, sym, ap, ◌∙◌}
 use Rattle.std.proofs.Common.{arith, if◌then◌else◌}
-use Rattle.cilk_explore_model.specs.labelled.Labelled.{Labelled}
-use Rattle.cilk_explore_model.specs.model.Choice.{Act, step, pop, steal, Choice, Refusal}
-use Rattle.cilk_explore_model.specs.model.Run.{Position, after, refusal_of, one_more, position_after}
-use Rattle.cilk_explore_model.proofs.runs_laws.model_laws.Runs.{after-push}
-use Rattle.cilk_explore_model.proofs.runs_laws.Crew.{crew_stays}
-use Rattle.cilk_explore_model.proofs.runs_laws.Hands.{steal_free}
-use Rattle.cilk_explore_model.proofs.runs_laws.Possible.{possible}
-use Rattle.cilk_explore_model.proofs.runs_laws.Stuck.{within}
-use Rattle.cilk_explore_model.specs.Ending.{IsOver}
-use Rattle.cilk_explore_model.specs.Search.{Known}
-use Rattle.cilk_explore_model.proofs.Onward.{free_by}
+use Rattle.cilk_machine.specs.labelled.Labelled.{Labelled}
+use Rattle.cilk_machine.specs.model.Choice.{Act, step, pop, steal, Choice, Refusal}
+use Rattle.cilk_machine.specs.model.Run.{Position, after, refusal_of, one_more, position_after}
+use Rattle.cilk_machine.proofs.runs_laws.model_laws.Runs.{after-push}
+use Rattle.cilk_machine.proofs.runs_laws.Crew.{crew_stays}
+use Rattle.cilk_machine.proofs.runs_laws.Hands.{steal_free}
+use Rattle.cilk_machine.proofs.runs_laws.Possible.{possible}
+use Rattle.cilk_machine.proofs.runs_laws.Stuck.{within}
+use Rattle.cilk_machine.specs.explore.Ending.{IsOver}
+use Rattle.cilk_machine.specs.explore.Search.{Known}
+use Rattle.cilk_machine.proofs.explore_laws.Onward.{free_by}
 use Rattle.cilk_explore.specs.LogLooking.{IsLooking, IsClosed, AreClosedBy, AreClosed}
 use Rattle.cilk_explore.proofs.Fronts.{one-there}
 

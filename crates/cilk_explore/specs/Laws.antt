@@ -1,10 +1,10 @@
 -- How a search begins, goes on by one log, and is halted.
 use Rattle.std.specs.Prelude.{◌≡◌, ◌≤◌, ◌+◌, ℕ, List, [], ◌∷◌, length, Some, slice_get}
-use Rattle.cilk_explore_model.specs.labelled.Labelled.{Labelled}
-use Rattle.cilk_explore_model.specs.model.Choice.{step, pop, steal, Choice}
-use Rattle.cilk_explore_model.specs.model.Run.{Position, after}
-use Rattle.cilk_explore_model.specs.Search.{Told}
-use Rattle.cilk_explore_model.specs.OrMore.{IsIdle, HasIdle, EachHasIdle}
+use Rattle.cilk_machine.specs.labelled.Labelled.{Labelled}
+use Rattle.cilk_machine.specs.model.Choice.{step, pop, steal, Choice}
+use Rattle.cilk_machine.specs.model.Run.{Position, after}
+use Rattle.cilk_machine.specs.explore.Search.{Told}
+use Rattle.cilk_machine.specs.explore.OrMore.{IsIdle, HasIdle, EachHasIdle}
 use Rattle.cilk_explore.specs.LogLooking.{search_of, IsLooking, Extends, IsClosed, AreClosedBy, AreClosed, TellsOf}
 use Rattle.cilk_explore.specs.Linking.{AreLinkedBy}
 

@@ -8,5 +8,5 @@ pub mod Telling
 pub mod Looking
 pub mod Links
 pub mod Exploring
-pub use Rattle.cilk_explore_model.specs as explore
+pub use Rattle.cilk_machine.specs.explore
 pub use Rattle.cilk_machine.specs as machine

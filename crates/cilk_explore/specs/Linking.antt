@@ -1,10 +1,10 @@
 -- Links between the logs of a search: where the choices behind each lead. They tell which logs can be marked as such behind which the program can end.
 use Rattle.std.specs.Prelude.{◌≡◌, ◌≤◌, ◌+◌, ℕ, Bool, List, [], ◌∷◌, ◌++◌, length, Some, slice_get}
-use Rattle.cilk_explore_model.specs.labelled.Labelled.{Labelled}
-use Rattle.cilk_explore_model.specs.model.Choice.{Act, Choice}
-use Rattle.cilk_explore_model.specs.model.Run.{Standing, Position, after}
-use Rattle.cilk_explore_model.specs.Search.{Known, Search, IsSearch}
-use Rattle.cilk_explore_model.specs.Endless.{AreMarked}
+use Rattle.cilk_machine.specs.labelled.Labelled.{Labelled}
+use Rattle.cilk_machine.specs.model.Choice.{Act, Choice}
+use Rattle.cilk_machine.specs.model.Run.{Standing, Position, after}
+use Rattle.cilk_machine.specs.explore.Search.{Known, Search, IsSearch}
+use Rattle.cilk_machine.specs.explore.Endless.{AreMarked}
 use Rattle.cilk_explore.specs.Marking.{mark_of, AreMarks}
 
 -- some choice behind the log leads to the same as the log of this number

@@ -1,10 +1,10 @@
 -- A search between two logs, and what is found and told while it looks at one.
 use Rattle.std.specs.Prelude.{◌≡◌, ◌≢◌, ◌≤◌, ◌+◌, ◌⊎◌, ℕ, List, [], ◌∷◌, ◌++◌, length, Some, slice_get}
-use Rattle.cilk_explore_model.specs.labelled.Labelled.{Labelled}
-use Rattle.cilk_explore_model.specs.model.Choice.{Act, Choice}
-use Rattle.cilk_explore_model.specs.model.Run.{Position, after}
-use Rattle.cilk_explore_model.specs.Ending.{Ending}
-use Rattle.cilk_explore_model.specs.Search.{Known, Search, IsSearch, Told, LeadsTo, Tells}
+use Rattle.cilk_machine.specs.labelled.Labelled.{Labelled}
+use Rattle.cilk_machine.specs.model.Choice.{Act, Choice}
+use Rattle.cilk_machine.specs.model.Run.{Position, after}
+use Rattle.cilk_machine.specs.explore.Ending.{Ending}
+use Rattle.cilk_machine.specs.explore.Search.{Known, Search, IsSearch, Told, LeadsTo, Tells}
 
 abbrev pub search_of : List (List Choice) → ℕ → Search
 search_of logs looked = record { logs = logs; looked = looked }

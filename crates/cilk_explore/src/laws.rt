@@ -1,8 +1,8 @@
 //! Laws of the logs of a search, of their links and marks, and of idle workers. The functions do nothing: their contracts are what is proved.
 
 ghost use Rattle.std.specs.Prelude.{ℕ, List};
-ghost use Rattle.cilk_explore_model.specs.labelled.Labelled.{Labelled};
-ghost use Rattle.cilk_explore_model.specs.model.Choice as choices;
+ghost use Rattle.cilk_machine.specs.labelled.Labelled.{Labelled};
+ghost use Rattle.cilk_machine.specs.model.Choice as choices;
 ghost use Rattle.cilk_explore.specs.Linking.{MarksAreByLinks};
 ghost use Rattle.cilk_explore.specs.Laws.{SearchBegins, SearchGoesOn, SearchIsHalted, OnlyWorkersChoose, IdleAtEach, IdleAreLinkedAlike};
 

@@ -1,14 +1,14 @@
 -- What stands where, told by what stood where: each change of the instances keeps that two have the same at each path.
 use Rattle.std.proofs.Common.{◌≡◌, Bool, true, false, ◌++◌, [], ◌∷◌, map, Option, Some, None, is_some, refl, sym, ap, subst, ◌∙◌, if◌then◌else◌}
 use Rattle.std.specs.Prelude.{option_map}
-use Rattle.cilk_laws_model.specs.model.Path.{Path, same_path, is_below}
-use Rattle.cilk_laws_model.specs.model.Instance.{Instance}
-use Rattle.cilk_laws_model.specs.model.State.{Entry, Instances, instance_at, is_live, changed, without, has_live_child}
-use Rattle.cilk_laws_model.specs.model.Change.{mark}
-use Rattle.cilk_laws_model.proofs.Entries.{same-is, at-changed_same, at-changed_other, at-without_other, either_of, at-push}
-use Rattle.cilk_laws_model.proofs.Lookups.{none_there, marked, at-marked_below, at-marked_beside}
-use Rattle.cilk_laws_model.proofs.Family.{child_seen}
-use Rattle.cilk_laws_model.proofs.Parked.{live_child}
+use Rattle.cilk_machine_agree.specs.model.Path.{Path, same_path, is_below}
+use Rattle.cilk_machine_agree.specs.model.Instance.{Instance}
+use Rattle.cilk_machine_agree.specs.model.State.{Entry, Instances, instance_at, is_live, changed, without, has_live_child}
+use Rattle.cilk_machine_agree.specs.model.Change.{mark}
+use Rattle.cilk_machine_agree.proofs.runs_laws.Entries.{same-is, at-changed_same, at-changed_other, at-without_other, either_of, at-push}
+use Rattle.cilk_machine_agree.proofs.runs_laws.Lookups.{none_there, marked, at-marked_below, at-marked_beside}
+use Rattle.cilk_machine_agree.proofs.runs_laws.Family.{child_seen}
+use Rattle.cilk_machine_agree.proofs.runs_laws.Parked.{live_child}
 
 abbrev pub SameAt : Instances → Instances → Type 0
 SameAt entries others = (p : Path) → instance_at entries p ≡ instance_at others p

@@ -3,11 +3,11 @@ use Rattle.std.proofs.Common.{◌≡◌, ℕ, ◌+◌, ◌-◌, suc, cond, List,
 use Rattle.std.proofs.Common.{IsPermutation}
 use Rattle.std.specs.List.Sorted.{apply_swaps, SwapsInRange}
 use Rattle.std.proofs.lemmas.List.Sorted.{IsPermutation-refl, IsPermutation-sym, IsPermutation-trans, sum_by-IsPermutation}
-use Rattle.cilk_laws_model.specs.labelled.Labelled.{Labelled}
-use Rattle.cilk_laws_model.specs.model.Scheduler.{Worker, no_place, worker_at}
-use Rattle.cilk_laws_model.specs.model.Choice.{Choice}
-use Rattle.cilk_laws_model.specs.model.Run.{Standing, refusal_of, next_of}
-use Rattle.cilk_laws_model.specs.Hands.{times_held, Descends, worker_paths, EachInItsPlace}
+use Rattle.cilk_machine_agree.specs.labelled.Labelled.{Labelled}
+use Rattle.cilk_machine_agree.specs.model.Scheduler.{Worker, no_place, worker_at}
+use Rattle.cilk_machine_agree.specs.model.Choice.{Choice}
+use Rattle.cilk_machine_agree.specs.model.Run.{Standing, refusal_of, next_of}
+use Rattle.cilk_machine_agree.specs.runs.Hands.{times_held, Descends, worker_paths, EachInItsPlace}
 use Rattle.cilk_explore_model.specs.Same.{Same}
 use Rattle.cilk_explore_model.specs.Names.{exchanged, renamed, renamed_choice, SameButNames}
 use Rattle.cilk_explore_model.specs.Laws.{DoesAsWell, SamenessButNamesIsKept}

@@ -1,14 +1,14 @@
 -- What the workers have is carried to other places: a choice of the workers there leads to what is carried from where it led.
 use Rattle.std.proofs.Common.{◌≡◌, ℕ, ◌-◌, Bool, true, false, not, ◌&&◌, ◌||◌, nat_le, List, [], ◌∷◌, ◌++◌, length, Option, Some, None, is_some, refl, ap, ◌∙◌}
 use Rattle.std.proofs.Common.{if◌then◌else◌, slice_set}
-use Rattle.cilk_laws_model.specs.labelled.Labelled.{Labelled}
-use Rattle.cilk_laws_model.specs.model.Path.{Path, same_path, parent_of}
-use Rattle.cilk_laws_model.specs.model.State.{State, is_empty}
-use Rattle.cilk_laws_model.specs.model.Pick.{Step, waits, parks, goes_on, ends, spawns, step_of}
-use Rattle.cilk_laws_model.specs.model.Scheduler.{Worker, worker_at, hand_of, deque_of, with_hand, with_deque, top_of, below_top, bottom_of}
-use Rattle.cilk_laws_model.specs.model.Scheduler.{above_bottom, can_go_on, woken, with_empty_hand}
-use Rattle.cilk_laws_model.specs.model.Choice.{step, pop, steal, Refusal, no_worker, busy, deque_empty}
-use Rattle.cilk_laws_model.specs.model.Run.{Standing, is_worker, stepped, next_by_hand, next_by}
+use Rattle.cilk_machine_agree.specs.labelled.Labelled.{Labelled}
+use Rattle.cilk_machine_agree.specs.model.Path.{Path, same_path, parent_of}
+use Rattle.cilk_machine_agree.specs.model.State.{State, is_empty}
+use Rattle.cilk_machine_agree.specs.model.Pick.{Step, waits, parks, goes_on, ends, spawns, step_of}
+use Rattle.cilk_machine_agree.specs.model.Scheduler.{Worker, worker_at, hand_of, deque_of, with_hand, with_deque, top_of, below_top, bottom_of}
+use Rattle.cilk_machine_agree.specs.model.Scheduler.{above_bottom, can_go_on, woken, with_empty_hand}
+use Rattle.cilk_machine_agree.specs.model.Choice.{step, pop, steal, Refusal, no_worker, busy, deque_empty}
+use Rattle.cilk_machine_agree.specs.model.Run.{Standing, is_worker, stepped, next_by_hand, next_by}
 use Rattle.cilk_explore_model.proofs.Places.{hand_long, deque_long, waking}
 
 -- all but the places is equal

@@ -5,14 +5,14 @@ use Rattle.std.proofs.Common.{replicate, length-append}
 use Rattle.std.proofs.lemmas.Bool.{and_from, le-leb, cases_lt}
 use Rattle.std.proofs.lemmas.List.{get_or_past, set-get_or}
 use Rattle.std.proofs.lemmas.List.Sorted.{IsPermutation-append_left}
-use Rattle.cilk_laws_model.specs.labelled.Labelled.{Labelled}
-use Rattle.cilk_laws_model.specs.model.State.{Outcome, running, is_empty}
-use Rattle.cilk_laws_model.specs.model.Scheduler.{Worker, no_place, worker_at, hand_of, deque_of}
-use Rattle.cilk_laws_model.specs.model.Choice.{Act, step, pop, steal, Choice, Refusal, over, no_worker, busy, deque_empty}
-use Rattle.cilk_laws_model.specs.model.Run.{Standing, is_running, is_worker, step_refusal, steal_refusal, act_refusal, refusal_of, next_by, next_of}
-use Rattle.cilk_laws_model.proofs.Possible.{possible}
-use Rattle.cilk_laws_model.proofs.Stuck.{within}
-use Rattle.cilk_laws_model.proofs.Hands.{steal_free}
+use Rattle.cilk_machine_agree.specs.labelled.Labelled.{Labelled}
+use Rattle.cilk_machine_agree.specs.model.State.{Outcome, running, is_empty}
+use Rattle.cilk_machine_agree.specs.model.Scheduler.{Worker, no_place, worker_at, hand_of, deque_of}
+use Rattle.cilk_machine_agree.specs.model.Choice.{Act, step, pop, steal, Choice, Refusal, over, no_worker, busy, deque_empty}
+use Rattle.cilk_machine_agree.specs.model.Run.{Standing, is_running, is_worker, step_refusal, steal_refusal, act_refusal, refusal_of, next_by, next_of}
+use Rattle.cilk_machine_agree.proofs.runs_laws.Possible.{possible}
+use Rattle.cilk_machine_agree.proofs.runs_laws.Stuck.{within}
+use Rattle.cilk_machine_agree.proofs.runs_laws.Hands.{steal_free}
 use Rattle.cilk_explore_model.specs.Names.{exchanged, renamed_act, renamed, SameButNames}
 use Rattle.cilk_explore_model.specs.OrMore.{IsIdle, HasIdle, DoesAs, IdleDoAlike}
 use Rattle.cilk_explore_model.proofs.Exchanges.{one_less, ThenAt, first, second, neither, place_now, swap_reads}

@@ -1,3 +1,8 @@
+pub mod Cells
+pub mod Instances
+pub mod Passing
+pub mod StandingsAlike
+pub mod ByNames
 pub mod Sizes
 pub mod AtPaths
 pub mod Steps
@@ -14,4 +19,5 @@ pub mod Searches
 pub mod Unending
 pub mod Idle
 pub mod OrMore
-pub use Rattle.cilk_laws_model.proofs as runs_laws
+pub use Rattle.cilk_machine_agree.proofs as agree_laws
+pub use Rattle.cilk_machine_agree.proofs.runs_laws

@@ -1,11 +1,11 @@
 -- What is possible behind one list of choices is so behind another that leads to the same.
 use Rattle.std.proofs.Common.{◌≡◌, ℕ, Bool, true, false, List, [], ◌∷◌, ◌++◌, Option, Some, None, is_none, refl, sym, ap, subst, ◌∙◌, if◌then◌else◌}
-use Rattle.cilk_laws_model.specs.labelled.Labelled.{Labelled}
-use Rattle.cilk_laws_model.specs.model.Event.{Event}
-use Rattle.cilk_laws_model.specs.model.Choice.{Choice, Refusal}
-use Rattle.cilk_laws_model.specs.model.Run.{Standing, Position, refusal_of, next_of, event_of, after_from, opening, is_crew, after_main, after}
-use Rattle.cilk_laws_model.specs.Hands.{EachInItsPlace}
-use Rattle.cilk_laws_model.proofs.Kept.{places_are_kept}
+use Rattle.cilk_machine_agree.specs.labelled.Labelled.{Labelled}
+use Rattle.cilk_machine_agree.specs.model.Event.{Event}
+use Rattle.cilk_machine_agree.specs.model.Choice.{Choice, Refusal}
+use Rattle.cilk_machine_agree.specs.model.Run.{Standing, Position, refusal_of, next_of, event_of, after_from, opening, is_crew, after_main, after}
+use Rattle.cilk_machine_agree.specs.runs.Hands.{EachInItsPlace}
+use Rattle.cilk_machine_agree.proofs.runs_laws.Kept.{places_are_kept}
 use Rattle.cilk_explore_model.specs.Same.{Same}
 use Rattle.cilk_explore_model.specs.Laws.{TheSameGoOnAlike}
 use Rattle.cilk_explore_model.proofs.Standings.{sameness_is_kept}

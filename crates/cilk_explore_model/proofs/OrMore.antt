@@ -4,16 +4,16 @@ use Rattle.std.proofs.Common.{slice_get, refl, sym, ap, subst, ◌∙◌, if◌t
 use Rattle.std.proofs.lemmas.Bool.{and_from, and_parts, le-leb, leb-true}
 use Rattle.std.proofs.lemmas.Option.{slice_get_within}
 use Rattle.std.proofs.lemmas.List.{length-replicate, replicate-append-replicate}
-use Rattle.cilk_laws_model.specs.labelled.Labelled.{Labelled}
-use Rattle.cilk_laws_model.specs.model.Path.{Path}
-use Rattle.cilk_laws_model.specs.model.State.{opening_state}
-use Rattle.cilk_laws_model.specs.model.Event.{Event}
-use Rattle.cilk_laws_model.specs.model.Scheduler.{Worker, no_place, worker_at, with_hand}
-use Rattle.cilk_laws_model.specs.model.Choice.{Choice, Refusal}
-use Rattle.cilk_laws_model.specs.model.Run.{Standing, Position, is_worker, refusal_of, next_of, event_of, after_from, opening, is_crew, after_main}
-use Rattle.cilk_laws_model.specs.model.Run.{after, position_after, one_more}
-use Rattle.cilk_laws_model.proofs.Kept.{places_are_kept}
-use Rattle.cilk_laws_model.proofs.model_laws.Runs.{after-push}
+use Rattle.cilk_machine_agree.specs.labelled.Labelled.{Labelled}
+use Rattle.cilk_machine_agree.specs.model.Path.{Path}
+use Rattle.cilk_machine_agree.specs.model.State.{opening_state}
+use Rattle.cilk_machine_agree.specs.model.Event.{Event}
+use Rattle.cilk_machine_agree.specs.model.Scheduler.{Worker, no_place, worker_at, with_hand}
+use Rattle.cilk_machine_agree.specs.model.Choice.{Choice, Refusal}
+use Rattle.cilk_machine_agree.specs.model.Run.{Standing, Position, is_worker, refusal_of, next_of, event_of, after_from, opening, is_crew, after_main}
+use Rattle.cilk_machine_agree.specs.model.Run.{after, position_after, one_more}
+use Rattle.cilk_machine_agree.proofs.runs_laws.Kept.{places_are_kept}
+use Rattle.cilk_machine_agree.proofs.runs_laws.model_laws.Runs.{after-push}
 use Rattle.cilk_explore_model.specs.Ending.{Ending, ending_at, IsOver}
 use Rattle.cilk_explore_model.specs.Names.{renamed_worker, SameButNames}
 use Rattle.cilk_explore_model.specs.Endless.{CanEnd, AreMarkedBy}

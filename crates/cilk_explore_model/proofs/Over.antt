@@ -1,12 +1,12 @@
 -- A program has ended or is stuck exactly where no choice is possible.
 use Rattle.std.proofs.Common.{◌≡◌, ◌↔◌, Bool, true, false, refl, sym, ap, ◌∙◌, if◌then◌else◌}
-use Rattle.cilk_laws_model.specs.labelled.Labelled.{Labelled}
-use Rattle.cilk_laws_model.specs.model.State as state
-use Rattle.cilk_laws_model.specs.model.State.{Outcome}
-use Rattle.cilk_laws_model.specs.model.Run.{Standing}
-use Rattle.cilk_laws_model.specs.model.End.{stuck, limit, end_by, is_stuck}
-use Rattle.cilk_laws_model.proofs.Possible.{possible}
-use Rattle.cilk_laws_model.proofs.Stuck.{stuck_exactly}
+use Rattle.cilk_machine_agree.specs.labelled.Labelled.{Labelled}
+use Rattle.cilk_machine_agree.specs.model.State as state
+use Rattle.cilk_machine_agree.specs.model.State.{Outcome}
+use Rattle.cilk_machine_agree.specs.model.Run.{Standing}
+use Rattle.cilk_machine_agree.specs.model.End.{stuck, limit, end_by, is_stuck}
+use Rattle.cilk_machine_agree.proofs.runs_laws.Possible.{possible}
+use Rattle.cilk_machine_agree.proofs.runs_laws.Stuck.{stuck_exactly}
 use Rattle.cilk_explore_model.specs.Ending.{is_last, IsOver}
 use Rattle.cilk_explore_model.specs.Laws.{OverExactly}
 

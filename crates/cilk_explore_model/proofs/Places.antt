@@ -1,12 +1,12 @@
 -- There are as many places of workers after a choice as before.
 use Rattle.std.proofs.Common.{◌≡◌, ℕ, ◌-◌, Bool, true, false, not, ◌&&◌, List, length, Option, Some, None, refl, ◌∙◌, if◌then◌else◌, length-set}
-use Rattle.cilk_laws_model.specs.labelled.Labelled.{Labelled}
-use Rattle.cilk_laws_model.specs.model.Path.{Path, same_path, parent_of}
-use Rattle.cilk_laws_model.specs.model.State.{Instances}
-use Rattle.cilk_laws_model.specs.model.Pick.{Step, waits, parks, goes_on, ends, spawns, step_of}
-use Rattle.cilk_laws_model.specs.model.Scheduler.{Worker, Scheduler, with_hand, with_deque, hand_of, can_go_on, woken, with_empty_hand, after_step}
-use Rattle.cilk_laws_model.specs.model.Choice.{Act, step, pop, steal, Choice}
-use Rattle.cilk_laws_model.specs.model.Run.{Standing, next_by_hand, next_by, next_of}
+use Rattle.cilk_machine_agree.specs.labelled.Labelled.{Labelled}
+use Rattle.cilk_machine_agree.specs.model.Path.{Path, same_path, parent_of}
+use Rattle.cilk_machine_agree.specs.model.State.{Instances}
+use Rattle.cilk_machine_agree.specs.model.Pick.{Step, waits, parks, goes_on, ends, spawns, step_of}
+use Rattle.cilk_machine_agree.specs.model.Scheduler.{Worker, Scheduler, with_hand, with_deque, hand_of, can_go_on, woken, with_empty_hand, after_step}
+use Rattle.cilk_machine_agree.specs.model.Choice.{Act, step, pop, steal, Choice}
+use Rattle.cilk_machine_agree.specs.model.Run.{Standing, next_by_hand, next_by, next_of}
 
 pub hand_long : (places : List Worker) (w : ℕ) (h : Option Path) → length (with_hand places w h) ≡ length places
 hand_long places w h = length-set places (w - 1) _

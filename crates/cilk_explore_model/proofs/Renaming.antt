@@ -3,14 +3,14 @@ use Rattle.std.proofs.Common.{◌≡◌, ◌<◌, ◌-◌, ℕ, zero, suc, Bool,
 use Rattle.std.proofs.Common.{ap, subst, ◌∙◌, if◌then◌else◌, arith, slice_index_or, slice_set, swap}
 use Rattle.std.proofs.lemmas.Bool.{and_from, le-leb, eqb-true, eq-eqb}
 use Rattle.std.specs.List.Sorted.{apply_swaps, SwapsInRange}
-use Rattle.cilk_laws_model.specs.labelled.Labelled.{Labelled}
-use Rattle.cilk_laws_model.specs.model.Scheduler.{Worker, no_place, worker_at}
-use Rattle.cilk_laws_model.specs.model.Choice.{Act, step, pop, steal, Choice, Refusal, over, no_worker}
-use Rattle.cilk_laws_model.specs.model.Run.{Standing, is_running, is_worker, step_refusal, steal_refusal, act_refusal, refusal_of, next_by, next_of}
-use Rattle.cilk_laws_model.specs.model.Run.{event_by_hand, event_by, event_of}
-use Rattle.cilk_laws_model.proofs.Possible.{possible}
-use Rattle.cilk_laws_model.proofs.Stuck.{within}
-use Rattle.cilk_laws_model.proofs.Hands.{steal_free}
+use Rattle.cilk_machine_agree.specs.labelled.Labelled.{Labelled}
+use Rattle.cilk_machine_agree.specs.model.Scheduler.{Worker, no_place, worker_at}
+use Rattle.cilk_machine_agree.specs.model.Choice.{Act, step, pop, steal, Choice, Refusal, over, no_worker}
+use Rattle.cilk_machine_agree.specs.model.Run.{Standing, is_running, is_worker, step_refusal, steal_refusal, act_refusal, refusal_of, next_by, next_of}
+use Rattle.cilk_machine_agree.specs.model.Run.{event_by_hand, event_by, event_of}
+use Rattle.cilk_machine_agree.proofs.runs_laws.Possible.{possible}
+use Rattle.cilk_machine_agree.proofs.runs_laws.Stuck.{within}
+use Rattle.cilk_machine_agree.proofs.runs_laws.Hands.{steal_free}
 use Rattle.cilk_explore_model.specs.Names.{exchanged, renamed_once, renamed_worker, renamed_act, renamed_choice, renamed, GoesByOtherNames, NamesDoNotMatter}
 use Rattle.cilk_explore_model.proofs.AtPaths.{same_test}
 use Rattle.cilk_explore_model.proofs.Exchanges.{one_less, exchanged_within, exchanged_twice, swap_there, swap_long, swap_set}

@@ -2,10 +2,10 @@
 use Rattle.std.proofs.Common.{◌≡◌, ℕ, ◌+◌, ◌<◌, ◌≤◌, Bool, true, false, not, ◌||◌, cond, [], ◌∷◌, length, refl, sym, ◌∙◌, arith}
 use Rattle.std.proofs.lemmas.Bool.{and_from, not_from_false}
 use Rattle.std.proofs.lemmas.List.Sums.{length-filter, count_by-le-length}
-use Rattle.cilk_laws_model.specs.model.Path.{Path, same_path}
-use Rattle.cilk_laws_model.specs.model.State.{Entry, Instances, PathsAreApart, is_live, without}
-use Rattle.cilk_laws_model.proofs.Entries.{same-sym, times, times-cons, live-cons, live-without}
-use Rattle.cilk_laws_model.proofs.Parked.{in_front, behind}
+use Rattle.cilk_machine_agree.specs.model.Path.{Path, same_path}
+use Rattle.cilk_machine_agree.specs.model.State.{Entry, Instances, PathsAreApart, is_live, without}
+use Rattle.cilk_machine_agree.proofs.runs_laws.Entries.{same-sym, times, times-cons, live-cons, live-without}
+use Rattle.cilk_machine_agree.proofs.runs_laws.Parked.{in_front, behind}
 
 abbrev AtMostOnce : Instances → Type 0
 AtMostOnce entries = (q : Path) → times q entries ≤ 1

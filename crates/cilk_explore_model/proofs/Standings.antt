@@ -3,18 +3,18 @@ use Rattle.std.proofs.Common.{◌≡◌, ℕ, ◌+◌, Bool, true, false, not, �
 use Rattle.std.proofs.Common.{if◌then◌else◌, arith}
 use Rattle.std.specs.Prelude.{sum_by}
 use Rattle.std.specs.List.{list_all}
-use Rattle.cilk_laws_model.specs.labelled.Labelled.{Labelled}
-use Rattle.cilk_laws_model.specs.model.Path.{Path, same_path, parent_of}
-use Rattle.cilk_laws_model.specs.model.Instance.{Instance}
-use Rattle.cilk_laws_model.specs.model.State.{State, Instances, has_live_child, instance_at}
-use Rattle.cilk_laws_model.specs.model.Pick.{Step, step_of}
-use Rattle.cilk_laws_model.specs.model.Scheduler.{Worker, Scheduler, hand_of, with_hand, can_take, can_go_on, woken, with_empty_hand}
-use Rattle.cilk_laws_model.specs.model.Choice.{Act, step, pop, steal, Choice, Refusal, over, no_worker}
-use Rattle.cilk_laws_model.specs.model.Run.{Standing, is_running, is_worker, waits_now, step_refusal, act_refusal, refusal_of}
-use Rattle.cilk_laws_model.specs.model.Run.{event_of_step, stepped}
-use Rattle.cilk_laws_model.specs.model.Run.{next_by_hand, next_by, event_by_hand, event_by}
-use Rattle.cilk_laws_model.specs.model.End.{all_choices, end_by}
-use Rattle.cilk_laws_model.specs.Hands.{times_held, EachInItsPlace}
+use Rattle.cilk_machine_agree.specs.labelled.Labelled.{Labelled}
+use Rattle.cilk_machine_agree.specs.model.Path.{Path, same_path, parent_of}
+use Rattle.cilk_machine_agree.specs.model.Instance.{Instance}
+use Rattle.cilk_machine_agree.specs.model.State.{State, Instances, has_live_child, instance_at}
+use Rattle.cilk_machine_agree.specs.model.Pick.{Step, step_of}
+use Rattle.cilk_machine_agree.specs.model.Scheduler.{Worker, Scheduler, hand_of, with_hand, can_take, can_go_on, woken, with_empty_hand}
+use Rattle.cilk_machine_agree.specs.model.Choice.{Act, step, pop, steal, Choice, Refusal, over, no_worker}
+use Rattle.cilk_machine_agree.specs.model.Run.{Standing, is_running, is_worker, waits_now, step_refusal, act_refusal, refusal_of}
+use Rattle.cilk_machine_agree.specs.model.Run.{event_of_step, stepped}
+use Rattle.cilk_machine_agree.specs.model.Run.{next_by_hand, next_by, event_by_hand, event_by}
+use Rattle.cilk_machine_agree.specs.model.End.{all_choices, end_by}
+use Rattle.cilk_machine_agree.specs.runs.Hands.{times_held, EachInItsPlace}
 use Rattle.cilk_explore_model.specs.Ending.{Ending, ending_at}
 use Rattle.cilk_explore_model.specs.Same.{SameState, Same}
 use Rattle.cilk_explore_model.specs.Laws.{GoesAlike, SamenessIsKept, TheSameEndAlike}

@@ -1,22 +1,22 @@
 -- One step of an instance, of two states that have the same at each path.
 use Rattle.std.proofs.Common.{◌≡◌, ℕ, ◌+◌, ◌^◌, ◌-◌, ℤ, nat_lt, Bool, true, false, not, ◌&&◌, List, [], ◌∷◌, length, Option, Some, None}
 use Rattle.std.proofs.Common.{Result, Ok, Err, refl, ap, subst, if◌then◌else◌}
-use Rattle.cilk_laws_model.specs.labelled.declared.trap.Trap.{Trap}
-use Rattle.cilk_laws_model.specs.labelled.Labelled.{Labelled, Numbered}
-use Rattle.cilk_laws_model.specs.labelled.Items.{head_of}
-use Rattle.cilk_laws_model.specs.model.Values.{Store, Cell, Reached, environment, read_at, combined}
-use Rattle.cilk_laws_model.specs.model.Effect.{Effect, writes, answers, enters, gives, starts, writes_out, turns_lock, marks, effect_of}
-use Rattle.cilk_laws_model.specs.model.Path.{Path, child_path, parent_of}
-use Rattle.cilk_laws_model.specs.model.Instance.{Receiver, place, through, Delivery, Instance}
-use Rattle.cilk_laws_model.specs.model.State as state
-use Rattle.cilk_laws_model.specs.model.State.{TrapKind, State, Instances, instance_at, has_live_child, is_synched, store_of, is_empty, changed}
-use Rattle.cilk_laws_model.specs.model.Change.{LockTurn, lock_turned, refused, blocked, lock_turn_of, waits_here, at_boundary, ends_thread, holds_lock}
-use Rattle.cilk_laws_model.specs.model.Change.{leaves_function, resumed, after_start, after_return_to, after_abort}
-use Rattle.cilk_laws_model.specs.model.Event as event
-use Rattle.cilk_laws_model.specs.model.Event.{Event}
-use Rattle.cilk_laws_model.specs.model.Pick.{Step, waits, parks, goes_on, ends, spawns, traps, if_room, step_by_combined, step_by_answer, step_by_leaving}
-use Rattle.cilk_laws_model.specs.model.Pick.{step_by_lock_turn, step_by_effect, step_by_head, step_by_place, step_by_receiver, step_at_boundary}
-use Rattle.cilk_laws_model.specs.model.Pick.{step_of_aborted, step_of_instance, step_of_live, step_of}
+use Rattle.cilk_machine_agree.specs.labelled.declared.trap.Trap.{Trap}
+use Rattle.cilk_machine_agree.specs.labelled.Labelled.{Labelled, Numbered}
+use Rattle.cilk_machine_agree.specs.labelled.Items.{head_of}
+use Rattle.cilk_machine_agree.specs.model.Values.{Store, Cell, Reached, environment, read_at, combined}
+use Rattle.cilk_machine_agree.specs.model.Effect.{Effect, writes, answers, enters, gives, starts, writes_out, turns_lock, marks, effect_of}
+use Rattle.cilk_machine_agree.specs.model.Path.{Path, child_path, parent_of}
+use Rattle.cilk_machine_agree.specs.model.Instance.{Receiver, place, through, Delivery, Instance}
+use Rattle.cilk_machine_agree.specs.model.State as state
+use Rattle.cilk_machine_agree.specs.model.State.{TrapKind, State, Instances, instance_at, has_live_child, is_synched, store_of, is_empty, changed}
+use Rattle.cilk_machine_agree.specs.model.Change.{LockTurn, lock_turned, refused, blocked, lock_turn_of, waits_here, at_boundary, ends_thread, holds_lock}
+use Rattle.cilk_machine_agree.specs.model.Change.{leaves_function, resumed, after_start, after_return_to, after_abort}
+use Rattle.cilk_machine_agree.specs.model.Event as event
+use Rattle.cilk_machine_agree.specs.model.Event.{Event}
+use Rattle.cilk_machine_agree.specs.model.Pick.{Step, waits, parks, goes_on, ends, spawns, traps, if_room, step_by_combined, step_by_answer, step_by_leaving}
+use Rattle.cilk_machine_agree.specs.model.Pick.{step_by_lock_turn, step_by_effect, step_by_head, step_by_place, step_by_receiver, step_at_boundary}
+use Rattle.cilk_machine_agree.specs.model.Pick.{step_of_aborted, step_of_instance, step_of_live, step_of}
 use Rattle.cilk_explore_model.specs.Same.{SameState}
 use Rattle.cilk_explore_model.proofs.AtPaths.{SameAt, changed_same, without_same, marked_same, push_same, children_same}
 

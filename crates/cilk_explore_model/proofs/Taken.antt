@@ -1,11 +1,11 @@
 -- Two standings that are taken for one are over alike, and end alike.
 use Rattle.std.proofs.Common.{◌≡◌, ℕ, Bool, List, sym, ap, ◌∙◌}
-use Rattle.cilk_laws_model.specs.labelled.Labelled.{Labelled}
-use Rattle.cilk_laws_model.specs.model.State.{Outcome}
-use Rattle.cilk_laws_model.specs.model.Run.{Standing}
-use Rattle.cilk_laws_model.specs.model.End.{end_by, is_stuck}
-use Rattle.cilk_laws_model.specs.Hands.{EachInItsPlace}
-use Rattle.cilk_laws_model.proofs.Stuck.{stuck_exactly}
+use Rattle.cilk_machine_agree.specs.labelled.Labelled.{Labelled}
+use Rattle.cilk_machine_agree.specs.model.State.{Outcome}
+use Rattle.cilk_machine_agree.specs.model.Run.{Standing}
+use Rattle.cilk_machine_agree.specs.model.End.{end_by, is_stuck}
+use Rattle.cilk_machine_agree.specs.runs.Hands.{EachInItsPlace}
+use Rattle.cilk_machine_agree.proofs.runs_laws.Stuck.{stuck_exactly}
 use Rattle.cilk_explore_model.specs.Ending.{Ending, ending_at, IsOver}
 use Rattle.cilk_explore_model.specs.Same.{Same}
 use Rattle.cilk_explore_model.specs.Laws.{TakenForOne}

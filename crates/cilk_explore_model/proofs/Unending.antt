@@ -2,13 +2,13 @@
 use Rattle.std.proofs.Common.{◌≡◌, ◌≤◌, ℕ, Bool, true, false, List, [], ◌∷◌, ◌++◌, length, Option, Some, None, is_none, slice_get, refl, sym, ap, subst, ◌∙◌}
 use Rattle.std.proofs.Common.{if◌then◌else◌, arith}
 use Rattle.std.proofs.lemmas.Option.{slice_get_within}
-use Rattle.cilk_laws_model.specs.labelled.Labelled.{Labelled}
-use Rattle.cilk_laws_model.specs.model.Event.{Event}
-use Rattle.cilk_laws_model.specs.model.Choice.{Choice, Refusal}
-use Rattle.cilk_laws_model.specs.model.Run.{Standing, Position, refusal_of, next_of, event_of, after_from, after, position_after, one_more}
-use Rattle.cilk_laws_model.specs.Hands.{EachInItsPlace}
-use Rattle.cilk_laws_model.proofs.Kept.{places_are_kept}
-use Rattle.cilk_laws_model.proofs.model_laws.Runs.{after-push}
+use Rattle.cilk_machine_agree.specs.labelled.Labelled.{Labelled}
+use Rattle.cilk_machine_agree.specs.model.Event.{Event}
+use Rattle.cilk_machine_agree.specs.model.Choice.{Choice, Refusal}
+use Rattle.cilk_machine_agree.specs.model.Run.{Standing, Position, refusal_of, next_of, event_of, after_from, after, position_after, one_more}
+use Rattle.cilk_machine_agree.specs.runs.Hands.{EachInItsPlace}
+use Rattle.cilk_machine_agree.proofs.runs_laws.Kept.{places_are_kept}
+use Rattle.cilk_machine_agree.proofs.runs_laws.model_laws.Runs.{after-push}
 use Rattle.cilk_explore_model.specs.Ending.{IsOver}
 use Rattle.cilk_explore_model.specs.Names.{SameButNames}
 use Rattle.cilk_explore_model.specs.Search.{KnownBy, Search, IsSearchBy}

@@ -1,9 +1,9 @@
 -- How a run ends: how the program stands where no choice is possible, with what it printed.
 use Rattle.std.specs.Prelude.{◌≢◌, ℕ, Bool, true, false, List, None}
-use Rattle.cilk_laws_model.specs.labelled.Labelled.{Labelled}
-use Rattle.cilk_laws_model.specs.model.Choice.{Choice}
-use Rattle.cilk_laws_model.specs.model.Run.{Standing, refusal_of}
-use Rattle.cilk_laws_model.specs.model.End.{End, finished, trapped, stuck, limit, end_now}
+use Rattle.cilk_machine_agree.specs.labelled.Labelled.{Labelled}
+use Rattle.cilk_machine_agree.specs.model.Choice.{Choice}
+use Rattle.cilk_machine_agree.specs.model.Run.{Standing, refusal_of}
+use Rattle.cilk_machine_agree.specs.model.End.{End, finished, trapped, stuck, limit, end_now}
 
 -- what is told of an end: two programs that are stuck with one output have one ending, whatever led there
 pub record Ending : Type 0 where

@@ -1,8 +1,8 @@
 -- Standings from which no list of choices ends the program: what a search that has looked at all it found may mark.
 use Rattle.std.specs.Prelude.{◌≡◌, ◌≤◌, ℕ, Bool, true, false, List, [], ◌∷◌, ◌++◌, length, Some, slice_get}
-use Rattle.cilk_laws_model.specs.labelled.Labelled.{Labelled}
-use Rattle.cilk_laws_model.specs.model.Choice.{Choice}
-use Rattle.cilk_laws_model.specs.model.Run.{Standing, Position, after_from, after}
+use Rattle.cilk_machine_agree.specs.labelled.Labelled.{Labelled}
+use Rattle.cilk_machine_agree.specs.model.Choice.{Choice}
+use Rattle.cilk_machine_agree.specs.model.Run.{Standing, Position, after_from, after}
 use Rattle.cilk_explore_model.specs.Ending.{IsOver}
 use Rattle.cilk_explore_model.specs.Names.{SameButNames}
 use Rattle.cilk_explore_model.specs.Search.{KnownBy, Search, IsSearchBy}

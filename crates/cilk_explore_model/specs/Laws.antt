@@ -1,10 +1,10 @@
 -- What a search rests on: a standing's future is that of each that is the same, and a search that has looked at all it found has found all.
 use Rattle.std.specs.Prelude.{◌≡◌, ◌≤◌, ◌↔◌, ℕ, true, List, ◌++◌, length, Some, None, slice_get}
-use Rattle.cilk_laws_model.specs.labelled.Labelled.{Labelled}
-use Rattle.cilk_laws_model.specs.model.Choice.{Choice}
-use Rattle.cilk_laws_model.specs.model.Run.{Standing, Position, refusal_of, next_of, event_of, after}
-use Rattle.cilk_laws_model.specs.model.End.{end_now}
-use Rattle.cilk_laws_model.specs.Hands.{EachInItsPlace}
+use Rattle.cilk_machine_agree.specs.labelled.Labelled.{Labelled}
+use Rattle.cilk_machine_agree.specs.model.Choice.{Choice}
+use Rattle.cilk_machine_agree.specs.model.Run.{Standing, Position, refusal_of, next_of, event_of, after}
+use Rattle.cilk_machine_agree.specs.model.End.{end_now}
+use Rattle.cilk_machine_agree.specs.runs.Hands.{EachInItsPlace}
 use Rattle.cilk_explore_model.specs.Ending.{ending_at, is_last, IsOver}
 use Rattle.cilk_explore_model.specs.Same.{Same}
 use Rattle.cilk_explore_model.specs.Names.{SameButNames}

@@ -1,3 +1,5 @@
+pub mod Alike
+pub mod AlikeLaws
 pub mod Ending
 pub mod Same
 pub mod Names
@@ -6,7 +8,8 @@ pub mod Endless
 pub mod Laws
 pub mod OrMore
 pub mod Rows
-pub use Rattle.cilk_laws_model.specs as runs
-pub use Rattle.cilk_laws_model.specs.model
-pub use Rattle.cilk_laws_model.specs.labelled
-pub use Rattle.cilk_laws_model.specs.syntax
+pub use Rattle.cilk_machine_agree.specs as agree
+pub use Rattle.cilk_machine_agree.specs.runs
+pub use Rattle.cilk_machine_agree.specs.model
+pub use Rattle.cilk_machine_agree.specs.labelled
+pub use Rattle.cilk_machine_agree.specs.syntax

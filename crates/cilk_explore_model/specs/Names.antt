@@ -1,9 +1,9 @@
 -- Workers by other names: what one worker has is another's, and nothing else is changed.
 use Rattle.std.specs.Prelude.{◌≡◌, ◌==◌, if◌then◌else◌, ℕ, zero, suc, List, [], ◌∷◌, length, None, IsPermutation}
 use Rattle.std.specs.List.Sorted.{apply_swaps, SwapsInRange}
-use Rattle.cilk_laws_model.specs.labelled.Labelled.{Labelled}
-use Rattle.cilk_laws_model.specs.model.Choice.{Act, step, pop, steal, Choice}
-use Rattle.cilk_laws_model.specs.model.Run.{Standing, refusal_of, next_of, event_of}
+use Rattle.cilk_machine_agree.specs.labelled.Labelled.{Labelled}
+use Rattle.cilk_machine_agree.specs.model.Choice.{Act, step, pop, steal, Choice}
+use Rattle.cilk_machine_agree.specs.model.Run.{Standing, refusal_of, next_of, event_of}
 use Rattle.cilk_explore_model.specs.Same.{SameState}
 
 -- where what stood at one of two places stands when they are exchanged

@@ -1,9 +1,9 @@
 -- More workers than those of a search: where one of them is always idle each further one is as that one.
 use Rattle.std.specs.Prelude.{◌≡◌, ◌<◌, ◌≤◌, ℕ, Bool, true, List, length, Some, None, slice_get}
-use Rattle.cilk_laws_model.specs.labelled.Labelled.{Labelled}
-use Rattle.cilk_laws_model.specs.model.Scheduler.{no_place, worker_at}
-use Rattle.cilk_laws_model.specs.model.Choice.{Act, Choice}
-use Rattle.cilk_laws_model.specs.model.Run.{Standing, Position, is_worker, refusal_of, next_of, after}
+use Rattle.cilk_machine_agree.specs.labelled.Labelled.{Labelled}
+use Rattle.cilk_machine_agree.specs.model.Scheduler.{no_place, worker_at}
+use Rattle.cilk_machine_agree.specs.model.Choice.{Act, Choice}
+use Rattle.cilk_machine_agree.specs.model.Run.{Standing, Position, is_worker, refusal_of, next_of, after}
 use Rattle.cilk_explore_model.specs.Names.{SameButNames}
 use Rattle.cilk_explore_model.specs.Search.{Search, IsSearchBy, Told, Tells}
 use Rattle.cilk_explore_model.specs.Endless.{AreMarkedBy, MarksTellRightlyBy}

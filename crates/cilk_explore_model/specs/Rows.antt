@@ -1,18 +1,18 @@
 -- Worked programs: how lists of choices end, and two of them that lead to the same.
 use Rattle.std.specs.Prelude.{ℕ, List, [], ◌∷◌, map, Option, None, option_map, option_and_then, codes}
-use Rattle.cilk_laws_model.specs.syntax.declared.operator.BinOp.TheVariants.{Add}
-use Rattle.cilk_laws_model.specs.syntax.declared.return_type.ReturnType.TheVariants.{Int, Void}
-use Rattle.cilk_laws_model.specs.syntax.Tree as tree
-use Rattle.cilk_laws_model.specs.syntax.Tree.{Stmt, Program, number, binary}
-use Rattle.cilk_laws_model.specs.labelled.Bodies.{label}
-use Rattle.cilk_laws_model.specs.model.Path.{Path}
-use Rattle.cilk_laws_model.specs.model.Instance.{Instance}
-use Rattle.cilk_laws_model.specs.model.State.{instance_at}
-use Rattle.cilk_laws_model.specs.model.Scheduler.{Worker}
-use Rattle.cilk_laws_model.specs.model.Choice.{Choice}
-use Rattle.cilk_laws_model.specs.model.Run.{after}
-use Rattle.cilk_laws_model.specs.model.Trees.{word, name, assigns, int, returns, spawns, procedure, global, program}
-use Rattle.cilk_laws_model.specs.model.Rows.{s, p, t}
+use Rattle.cilk_machine_agree.specs.syntax.declared.operator.BinOp.TheVariants.{Add}
+use Rattle.cilk_machine_agree.specs.syntax.declared.return_type.ReturnType.TheVariants.{Int, Void}
+use Rattle.cilk_machine_agree.specs.syntax.Tree as tree
+use Rattle.cilk_machine_agree.specs.syntax.Tree.{Stmt, Program, number, binary}
+use Rattle.cilk_machine_agree.specs.labelled.Bodies.{label}
+use Rattle.cilk_machine_agree.specs.model.Path.{Path}
+use Rattle.cilk_machine_agree.specs.model.Instance.{Instance}
+use Rattle.cilk_machine_agree.specs.model.State.{instance_at}
+use Rattle.cilk_machine_agree.specs.model.Scheduler.{Worker}
+use Rattle.cilk_machine_agree.specs.model.Choice.{Choice}
+use Rattle.cilk_machine_agree.specs.model.Run.{after}
+use Rattle.cilk_machine_agree.specs.model.Trees.{word, name, assigns, int, returns, spawns, procedure, global, program}
+use Rattle.cilk_machine_agree.specs.model.Rows.{s, p, t}
 use Rattle.cilk_explore_model.specs.Ending.{Ending, ending_at}
 
 abbrev pub ending_of : Program → ℕ → List Choice → Option Ending

@@ -1,8 +1,8 @@
 -- When two standings are the same as far as the future can depend on them.
 use Rattle.std.specs.Prelude.{◌≡◌}
-use Rattle.cilk_laws_model.specs.model.Path.{Path}
-use Rattle.cilk_laws_model.specs.model.State.{State, instance_at}
-use Rattle.cilk_laws_model.specs.model.Run.{Standing}
+use Rattle.cilk_machine_agree.specs.model.Path.{Path}
+use Rattle.cilk_machine_agree.specs.model.State.{State, instance_at}
+use Rattle.cilk_machine_agree.specs.model.Run.{Standing}
 
 -- at each path stands the same instance, or none; in which order they were born does not matter
 pub record SameState (a b : State) : Type 0 where

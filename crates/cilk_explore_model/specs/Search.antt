@@ -1,8 +1,8 @@
 -- A search for the endings of a program, from its start on, a shorter log before a longer one: what has been found and looked at, and what is told.
 use Rattle.std.specs.Prelude.{◌≡◌, ◌<◌, ◌≤◌, ◌+◌, ℕ, List, [], ◌∷◌, ◌++◌, length, Some, slice_get}
-use Rattle.cilk_laws_model.specs.labelled.Labelled.{Labelled}
-use Rattle.cilk_laws_model.specs.model.Choice.{Choice}
-use Rattle.cilk_laws_model.specs.model.Run.{Standing, Position, after}
+use Rattle.cilk_machine_agree.specs.labelled.Labelled.{Labelled}
+use Rattle.cilk_machine_agree.specs.model.Choice.{Choice}
+use Rattle.cilk_machine_agree.specs.model.Run.{Standing, Position, after}
 use Rattle.cilk_explore_model.specs.Ending.{Ending, ending_at, IsOver}
 use Rattle.cilk_explore_model.specs.Names.{SameButNames}
 

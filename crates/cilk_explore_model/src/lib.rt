@@ -1,11 +1,17 @@
-//! What it is to look at all that a program may do: when two standings have one future, how a run ends, and what a search for the endings has
-//! found; and the laws on which it rests. Definitions and laws alone.
+//! What it is to look at all that a program may do: when two standings have one future, and two machines, how a run ends, and what a search for the
+//! endings has found; and the laws on which it rests. Definitions and laws alone.
 #![tactic(auto)]
 
+mod alike_laws;
 mod laws;
 mod rows;
 
-pub use cilk_laws_model::{Global, GlobalShape, Item, ItemNode, Program, Word};
+pub use alike_laws::{
+    machines_alike_but_for_names_stand_so, machines_of_the_same_parts_stand_at_the_same,
+};
+pub use cilk_machine_agree::{
+    Fate, Frame, Global, GlobalShape, Hands, Id, Item, ItemNode, Lock, Path, Program, Tree, Word,
+};
 pub use laws::{
     each_standing_is_known, idle_workers_do_alike, more_workers_do_no_more, names_do_not_matter,
     over_where_no_choice_is_possible, sameness_but_names_is_kept, sameness_is_kept,

@@ -2,8 +2,8 @@
 use Rattle.std.proofs.Common.{◌≡◌, ℕ, ◌+◌, ℤ, true, false, List, [], ◌∷◌, ◌++◌, length, map, reverse, refl, sym, ap, ◌∙◌, subst, arith}
 use Rattle.std.specs.Prelude.{slice_set, slice_index_or}
 use Rattle.std.proofs.lemmas.List.{reverse-append}
-use Rattle.cilk_load_nodes.specs.eval.declared.area.Area.TheVariants.{Own, Outer, Global}
-use Rattle.cilk_load_nodes.specs.eval.declared.area.Area.{Area}
+use Rattle.cilk_load_nodes.specs.declared.area.Area.TheVariants.{Own, Outer, Global}
+use Rattle.cilk_load_nodes.specs.declared.area.Area.{Area}
 use Rattle.cilk_load_nodes.specs.labelled.Labelled.{Declaration, local, outer, global, of_lock, of_body, unknown, Variable, Labelled}
 use Rattle.cilk_load_nodes.specs.model.Values.{Values}
 use Rattle.cilk_load_nodes.specs.model.Instance as model

@@ -2,7 +2,7 @@
 use Rattle.std.proofs.Common.{◌≡◌, ℕ, zero, suc, ◌+◌, ◌<◌, ℤ, List, [], ◌∷◌, length, map, refl, ap, arith, length-append}
 use Rattle.std.specs.Prelude.{slice_index_or}
 use Rattle.std.proofs.lemmas.List.{length-set}
-use Rattle.cilk_load_nodes.specs.eval.declared.area.Area.{Area}
+use Rattle.cilk_load_nodes.specs.declared.area.Area.{Area}
 use Rattle.cilk_load_nodes.specs.labelled.Labelled.{Variable}
 use Rattle.cilk_load_nodes.specs.model.Values.{Values}
 use Rattle.cilk_load_nodes.specs.model.Change.{with_value}

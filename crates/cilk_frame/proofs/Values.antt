@@ -3,14 +3,14 @@ use Rattle.std.proofs.Common.{◌≡◌, ℕ, zero, suc, ◌+◌, ◌-◌, ◌<�
 use Rattle.std.specs.Prelude.{slice_index_or, ⊤}
 use Rattle.cilk_load_nodes.specs.labelled.Term.{Term, rename}
 use Rattle.cilk_load_nodes.specs.labelled.Value.{Environment, seen_through, value_of}
-use Rattle.cilk_load_nodes.specs.eval.declared.area.Area.{Area}
-use Rattle.cilk_load_nodes.specs.eval.declared.area.Area.TheVariants.{Own, Outer, Global}
-use Rattle.cilk_load_nodes.specs.eval.declared.slot.Slot.{Slot}
-use Rattle.cilk_load_nodes.specs.eval.Reads.{SameArray}
-use Rattle.cilk_load_nodes.specs.eval.Slots.{Cells, area_cells, slot_cell, sizes_of, area_size, LiesWithin, SlotsLieWithin}
-use Rattle.cilk_load_nodes.specs.eval.Slots as slots
-use Rattle.cilk_load_nodes.proofs.eval_laws.Places.{AllReads-map, AllReads-rename}
-use Rattle.cilk_load_nodes.proofs.eval_laws.Environments.{value_of-rename, value_of-same}
+use Rattle.cilk_load_nodes.specs.declared.area.Area.{Area}
+use Rattle.cilk_load_nodes.specs.declared.area.Area.TheVariants.{Own, Outer, Global}
+use Rattle.cilk_load_nodes.specs.declared.slot.Slot.{Slot}
+use Rattle.cilk_load_nodes.specs.Reads.{SameArray}
+use Rattle.cilk_load_nodes.specs.Areas.{Cells, area_cells, slot_cell, sizes_of, area_size, LiesWithin, SlotsLieWithin}
+use Rattle.cilk_load_nodes.specs.Areas as slots
+use Rattle.cilk_load_nodes.proofs.Places.{AllReads-map, AllReads-rename}
+use Rattle.cilk_load_nodes.proofs.Environments.{value_of-rename, value_of-same}
 use Rattle.cilk_load_nodes.specs.labelled.Labelled.{Declaration, local, outer, global, of_lock, of_body, unknown, Variable, Labelled}
 use Rattle.cilk_load_nodes.specs.model.Values.{Values, Store, cell_of, environment}
 use Rattle.cilk_load_nodes.specs.Slots.{size_of, flat, slot_from, slot_of}

@@ -1,8 +1,8 @@
 -- Which cells a body sees, and a write to one of them.
 use Rattle.std.specs.Prelude.{◌≡◌, ℕ, ◌+◌, ◌<◌, ℤ, pos, true, List, [], length, slice_index_or, slice_set}
-use Rattle.cilk_load_nodes.specs.eval.declared.area.Area.{Area}
-use Rattle.cilk_load_nodes.specs.eval.declared.area.Area.TheVariants.{Own, Outer, Global}
-use Rattle.cilk_load_nodes.specs.eval.declared.slot.Slot.{Slot}
+use Rattle.cilk_load_nodes.specs.declared.area.Area.{Area}
+use Rattle.cilk_load_nodes.specs.declared.area.Area.TheVariants.{Own, Outer, Global}
+use Rattle.cilk_load_nodes.specs.declared.slot.Slot.{Slot}
 use Rattle.cilk_load_nodes.specs.labelled.Labelled.{Declaration, local, outer, global, of_lock, of_body, unknown, Variable, Labelled}
 use Rattle.cilk_load_nodes.specs.model.Values.{Cell}
 use Rattle.cilk_load_nodes.specs.model.Instance.{body_at}

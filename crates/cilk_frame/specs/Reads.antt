@@ -1,8 +1,8 @@
 -- What an expression may read, and the cells that a frame lends to it.
 use Rattle.std.specs.Prelude.{◌≡◌, ℕ, ◌<◌, ℤ, Bool, ⊤, List, length, map}
 use Rattle.cilk_load_nodes.specs.labelled.Term.{Term}
-use Rattle.cilk_load_nodes.specs.eval.Reads.{AllReads}
-use Rattle.cilk_load_nodes.specs.eval.Slots.{Cells}
+use Rattle.cilk_load_nodes.specs.Reads.{AllReads}
+use Rattle.cilk_load_nodes.specs.Areas.{Cells}
 use Rattle.cilk_load_nodes.specs.labelled.Labelled.{Declaration, local, outer, global, of_lock, of_body, unknown, Labelled}
 use Rattle.cilk_load_nodes.specs.model.Values.{Values, Store}
 use Rattle.cilk_load_nodes.specs.model.Instance.{Instance, outer_values}

@@ -1,7 +1,7 @@
 -- The instance that a frame stands for.
 use Rattle.std.specs.Prelude.{◌≡◌, ℕ, ◌<◌, ℤ, false, ⊤, List, [], ◌∷◌, map, length, reverse, Option, Some, None}
 use Rattle.cilk_load_nodes.specs.labelled.Term.{Term}
-use Rattle.cilk_load_nodes.specs.eval.declared.slot.Slot.{Slot}
+use Rattle.cilk_load_nodes.specs.declared.slot.Slot.{Slot}
 use Rattle.cilk_load_nodes.specs.labelled.Labelled.{Labelled}
 use Rattle.cilk_load_nodes.specs.labelled.Bodies.{is_procedure}
 use Rattle.cilk_load_nodes.specs.labelled.Items.{reached}

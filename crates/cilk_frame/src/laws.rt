@@ -5,8 +5,8 @@ ghost use Rattle.std.specs.Prelude.{◌≡◌, ◌<◌, ◌+◌, ◌&&◌, ◌�
 ghost use Rattle.cilk_load_nodes.specs.syntax.Tree.{Program};
 ghost use Rattle.cilk_load_nodes.specs.labelled.Term.{Term, rename};
 ghost use Rattle.cilk_load_nodes.specs.labelled.Value.{value_of};
-ghost use Rattle.cilk_load_nodes.specs.eval.Slots as slots;
-ghost use Rattle.cilk_load_nodes.specs.eval.Slots.{Cells, area_cells, slot_cell, sizes_of, SlotsLieWithin};
+ghost use Rattle.cilk_load_nodes.specs.Areas as slots;
+ghost use Rattle.cilk_load_nodes.specs.Areas.{Cells, area_cells, slot_cell, sizes_of, SlotsLieWithin};
 ghost use Rattle.cilk_load_nodes.specs.labelled.Labelled.{Declaration, Labelled};
 ghost use Rattle.cilk_load_nodes.specs.labelled.Bodies.{label, is_procedure};
 ghost use Rattle.cilk_load_nodes.specs.labelled.Items.{opened, next};

@@ -44,7 +44,7 @@ pub use activation::Activation;
 pub use awaited::Await;
 pub use cilk_load_nodes::{
     Action, Area, BinOp, Body, Code, LockAction, Memory, Slot, SlotPlace, Slots, Taker, Target,
-    Trap, Var, apply, eval,
+    Trap, Var,
 };
 pub use frame::Frame;
 pub use id::Id;

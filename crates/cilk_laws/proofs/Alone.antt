@@ -28,7 +28,7 @@ use Rattle.cilk_laws.proofs.Ways.{Acting, Way, resting, parking, ending, stoppin
 use Rattle.cilk_laws.proofs.Ways.{printing, turning_lock, aborts, placing, letting_in, way_of}
 use Rattle.cilk_laws.proofs.Suited.{Suited, head_suits, of_inlet, spawned_by, each_suits}
 use Rattle.cilk_check.specs.FormFinds.{is_inlet}
-use Rattle.cilk_machine.specs.carries.effects.Known.{owner_of}
+use Rattle.cilk_machine.specs.plans.effects.Known.{owner_of}
 
 -- above the procedure's own activation
 inlet_above : (program : Labelled) (a : Activation) (below : List Activation) → runs_inlet program a below ≡ true → is_empty below ≡ false

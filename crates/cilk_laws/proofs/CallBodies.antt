@@ -27,7 +27,7 @@ use Rattle.cilk_laws.proofs.Named.{KindFits, Aligned, Agree, agree_name, agree_e
 use Rattle.cilk_laws.proofs.Labels.{block_suits, inner_block_suits}
 use Rattle.cilk_load.proofs.Bodies.{parameters-bodies}
 use Rattle.cilk_machine.proofs.nodes_laws.Texts.{length-item}
-use Rattle.cilk_machine.specs.carries.effects.Known.{owner_of as owner_of_body}
+use Rattle.cilk_machine.specs.plans.effects.Known.{owner_of as owner_of_body}
 use Rattle.cilk_check.specs.FormFinds.{is_inlet}
 
 -- the body behind others

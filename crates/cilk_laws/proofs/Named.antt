@@ -15,7 +15,7 @@ use Rattle.cilk_laws_model.specs.model.Change.{is_function}
 use Rattle.cilk_laws.proofs.Right.{is_function_kind, is_inlet_kind, Finds}
 use Rattle.cilk_load.proofs.Found.{meaning-first}
 use Rattle.cilk_check.specs.FormFinds.{is_inlet}
-use Rattle.cilk_machine.specs.carries.effects.Known.{owner_of}
+use Rattle.cilk_machine.specs.plans.effects.Known.{owner_of}
 
 -- body b is whose the kind says
 abbrev pub KindFits : Labelled → DeclarationKind → ℕ → Type 0

@@ -25,7 +25,7 @@ use Rattle.cilk_laws.proofs.Ways.{Taking, way_of}
 use Rattle.cilk_laws.proofs.Taken.{takes_by}
 use Rattle.cilk_laws.proofs.Suited.{head_suits, let_in, each_suits}
 use Rattle.cilk_check.specs.FormFinds.{is_inlet}
-use Rattle.cilk_machine.specs.carries.effects.Known.{owner_of}
+use Rattle.cilk_machine.specs.plans.effects.Known.{owner_of}
 
 first_is : {A : Type 0} (x y : A) (xs ys : List A) → x ∷ xs ≡ y ∷ ys → x ≡ y
 first_is x y xs ys e = cc

@@ -28,7 +28,7 @@ use Rattle.cilk_laws.proofs.Items.{HoldsItems, opened_holds, next_holds, head_ho
 use Rattle.cilk_laws.proofs.Ways.{Acting, Taking, Way, resting, parking, ending, stopping, going, writing, entering, quitting, answering}
 use Rattle.cilk_laws.proofs.Ways.{returning, starting, printing, turning_lock, aborts, placing, letting_in, way_of}
 use Rattle.cilk_check.specs.FormFinds.{is_inlet}
-use Rattle.cilk_machine.specs.carries.effects.Known.{owner_of}
+use Rattle.cilk_machine.specs.plans.effects.Known.{owner_of}
 
 -- right above the procedure's own activation any other body's may stand, and above that only a C function's
 abbrev pub MayStand : Labelled → Activation → List Activation → Type 0

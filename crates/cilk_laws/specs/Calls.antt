@@ -7,7 +7,7 @@ use Rattle.cilk_laws_model.specs.labelled.Labelled.{select, at_label, nested, St
 use Rattle.cilk_laws_model.specs.labelled.Bodies.{is_procedure}
 use Rattle.cilk_laws_model.specs.model.Change.{is_function}
 use Rattle.cilk_check.specs.FormFinds.{is_inlet}
-use Rattle.cilk_machine.specs.carries.effects.Known.{owner_of}
+use Rattle.cilk_machine.specs.plans.effects.Known.{owner_of}
 
 abbrev pub taker_suits : Labelled → Taker → Bool
 taker_suits program (through inlet others) = is_inlet (owner_of program inlet)

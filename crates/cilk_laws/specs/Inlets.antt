@@ -12,7 +12,7 @@ use Rattle.cilk_laws_model.specs.model.Choice.{Choice, step}
 use Rattle.cilk_laws_model.specs.model.Run.{Standing}
 use Rattle.cilk_laws_model.specs.model.ViewTrees.{lowest}
 use Rattle.cilk_check.specs.FormFinds.{is_inlet}
-use Rattle.cilk_machine.specs.carries.effects.Known.{owner_of}
+use Rattle.cilk_machine.specs.plans.effects.Known.{owner_of}
 
 -- whether the activation right above the lowest, which is the procedure's, is an inlet's: above it are C functions that it called
 abbrev pub runs_inlet : Labelled → Activation → List Activation → Bool

@@ -6,7 +6,7 @@ use Rattle.cilk_check.specs.syntax.Tree.{Word}
 use Rattle.cilk_check.specs.syntax.Adjustments.{operator_of}
 use Rattle.cilk_load.specs.labelled.Term as term
 use Rattle.cilk_load.specs.labelled.Term.{Term, rename}
-use Rattle.cilk_load.specs.eval.declared.slot.Slot.{Slot}
+use Rattle.cilk_load.specs.nodes.declared.slot.Slot.{Slot}
 use Rattle.cilk_load.specs.labelled.Labelled.{Declaration}
 use Rattle.cilk_load.specs.labelled.Names.{Names, meaning_of, number_of, label_expr, label_index, label_place, label_target}
 use Rattle.cilk_load.specs.labelled.Label.{label_move, label_taker, label_return}

@@ -3,7 +3,7 @@ use Rattle.std.proofs.Common.{◌≡◌, ℕ, ◌+◌, List, [], ◌∷◌, ◌+
 use Rattle.std.proofs.Common.{sym, ap, ◌∙◌, arith, append_assoc}
 use Rattle.std.specs.Prelude.{IfOk}
 use Rattle.std.proofs.lemmas.Result.{IfOk-weaker}
-use Rattle.cilk_load_names.specs.eval.declared.area.Area.{Area}
+use Rattle.cilk_load_names.specs.nodes.declared.area.Area.{Area}
 use Rattle.cilk_load_names.specs.labelled.Labelled.{Variable}
 use Rattle.cilk_load_names.specs.nodes.Slots.{size_of, cells_of}
 use Rattle.cilk_load_names.specs.nodes.declared.var.Var.{Var}

@@ -5,9 +5,9 @@ use Rattle.std.specs.Prelude.{bytes_eq, slice_index_or, position}
 use Rattle.std.specs.List.{prefix_len}
 use Rattle.std.proofs.lemmas.Bool.{lt-ltb, le-ltb, cases_lt}
 use Rattle.cilk_check.specs.scopes.Scopes.{Declared}
-use Rattle.cilk_load.specs.eval.declared.area.Area.{Area}
-use Rattle.cilk_load.specs.eval.declared.area.Area.TheVariants.{Own, Outer, Global}
-use Rattle.cilk_load.specs.eval.declared.slot.Slot.{Slot}
+use Rattle.cilk_load.specs.nodes.declared.area.Area.{Area}
+use Rattle.cilk_load.specs.nodes.declared.area.Area.TheVariants.{Own, Outer, Global}
+use Rattle.cilk_load.specs.nodes.declared.slot.Slot.{Slot}
 use Rattle.cilk_load.specs.labelled.Labelled.{Declaration, unknown}
 use Rattle.cilk_load.specs.labelled.Names as label
 use Rattle.cilk_load.specs.labelled.Names.{Names, meaning_at, number_of, with_name}

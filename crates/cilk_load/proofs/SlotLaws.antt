@@ -7,9 +7,9 @@ use Rattle.cilk_check.specs.scopes.declared.owner.Owner.{Owner}
 use Rattle.cilk_check.specs.scopes.declared.owner.Owner.TheVariants.{Inlet}
 use Rattle.cilk_check.specs.scopes.declared.declaration_kind.DeclarationKind.TheVariants.{Lock}
 use Rattle.cilk_check.specs.scopes.Scopes.{Declared, kind_of_global, kind_of_body, parameter_count, file_declares}
-use Rattle.cilk_load.specs.eval.declared.area.Area.{Area}
-use Rattle.cilk_load.specs.eval.declared.area.Area.TheVariants.{Own, Outer, Global}
-use Rattle.cilk_load.specs.eval.declared.slot.Slot.{Slot}
+use Rattle.cilk_load.specs.nodes.declared.area.Area.{Area}
+use Rattle.cilk_load.specs.nodes.declared.area.Area.TheVariants.{Own, Outer, Global}
+use Rattle.cilk_load.specs.nodes.declared.slot.Slot.{Slot}
 use Rattle.cilk_load.specs.labelled.Labelled.{Declaration, local, outer, global, of_lock, of_body, unknown, Variable, Labelled}
 use Rattle.cilk_load.specs.labelled.Labelled as labelled
 use Rattle.cilk_load.specs.labelled.Names as label

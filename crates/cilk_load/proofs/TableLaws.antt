@@ -2,8 +2,8 @@
 use Rattle.std.proofs.Common.{◌≡◌, ℕ, suc, ◌+◌, List, [], ◌∷◌, ◌++◌, length, refl, ap, ◌∙◌, arith, unwrap_or}
 use Rattle.cilk_load_names.specs.syntax.Tree as tree
 use Rattle.cilk_load_names.specs.scopes.declared.owner.Owner.{Owner}
-use Rattle.cilk_load_names.specs.eval.declared.area.Area.{Area}
-use Rattle.cilk_load_names.specs.eval.declared.area.Area.TheVariants.{Own}
+use Rattle.cilk_load_names.specs.nodes.declared.area.Area.{Area}
+use Rattle.cilk_load_names.specs.nodes.declared.area.Area.TheVariants.{Own}
 use Rattle.cilk_load_names.specs.labelled.Labelled.{Variable}
 use Rattle.cilk_load_names.specs.labelled.Label.{block_variables}
 use Rattle.cilk_load_names.specs.nodes.declared.body.Body as table

@@ -4,7 +4,7 @@ use Rattle.std.specs.Prelude.{filter_map}
 use Rattle.std.proofs.lemmas.List.Elements.{filter_map-append}
 use Rattle.cilk_check.specs.syntax.Tree as tree
 use Rattle.cilk_check.specs.syntax.Tree.{Word}
-use Rattle.cilk_load.specs.eval.declared.slot.Slot.{Slot}
+use Rattle.cilk_load.specs.nodes.declared.slot.Slot.{Slot}
 use Rattle.cilk_load.specs.labelled.Labelled.{Declaration, local, Numbered, Stmts}
 use Rattle.cilk_load.specs.labelled.Items.{Round, piece, at_test, at_advance, at_end, Items, pieces, opened, past_mark, from_mark, behind_label}
 use Rattle.cilk_load.specs.labelled.Items.{selected}

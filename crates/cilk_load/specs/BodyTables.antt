@@ -5,7 +5,7 @@ use Rattle.cilk_load_names.specs.syntax.Tree.{Word}
 use Rattle.cilk_load_names.specs.scopes.declared.owner.Owner.{Owner}
 use Rattle.cilk_load_names.specs.scopes.declared.owner.Owner.TheVariants.{Inlet}
 use Rattle.cilk_load_names.specs.scopes.Parts.{owner_of}
-use Rattle.cilk_load_names.specs.eval.declared.area.Area.TheVariants.{Own}
+use Rattle.cilk_load_names.specs.nodes.declared.area.Area.TheVariants.{Own}
 use Rattle.cilk_load_names.specs.labelled.Labelled.{Variable}
 use Rattle.cilk_load_names.specs.labelled.Count.{count_shape, count_stmts, count_locals, count_block, count_item}
 use Rattle.cilk_load_names.specs.labelled.Label.{block_variables}

@@ -4,7 +4,6 @@ pub mod BodyTables
 pub mod Front
 pub mod Tables
 pub use Rattle.cilk_load_names.specs as resolve
-pub use Rattle.cilk_load_names.specs.eval
 pub use Rattle.cilk_load_names.specs.labelled
 pub use Rattle.cilk_load_names.specs.model
 pub use Rattle.cilk_load_names.specs.nodes

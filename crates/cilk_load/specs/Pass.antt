@@ -2,7 +2,7 @@
 use Rattle.std.specs.Prelude.{ℕ, ℤ, zero, suc, ◌+◌, List, [], ◌∷◌, ◌++◌, Option, Some, None, length, Bool, false, is_none, if◌then◌else◌}
 use Rattle.cilk_load_names.specs.syntax.Tree as tree
 use Rattle.cilk_load_names.specs.syntax.Tree.{Word}
-use Rattle.cilk_load_names.specs.eval.declared.slot.Slot.{Slot}
+use Rattle.cilk_load_names.specs.nodes.declared.slot.Slot.{Slot}
 use Rattle.cilk_load_names.specs.labelled.Count.{count_option, count_shape, count_stmt, count_stmts, count_locals, count_block}
 use Rattle.cilk_load_names.specs.labelled.Label.{stmt_variables, locals_variables, block_variables}
 use Rattle.cilk_load_names.specs.nodes.declared.action.Action.{Action}

@@ -2,7 +2,7 @@
 
 ghost use Rattle.std.specs.Prelude.{◌≡◌, ◌+◌, ◌++◌, [], map, flat_map, IfOk, OnOk};
 ghost use Rattle.cilk_load_names.specs.syntax.Tree.{global};
-ghost use Rattle.cilk_load_names.specs.eval.declared.area.Area.TheVariants as area;
+ghost use Rattle.cilk_load_names.specs.nodes.declared.area.Area.TheVariants as area;
 ghost use Rattle.cilk_load_names.specs.labelled.Bodies.{item_globals, item_locks};
 ghost use Rattle.cilk_load_names.specs.nodes.Slots.{cells_of};
 ghost use Rattle.cilk_load_names.specs.nodes.Bodies.{vars_from, lock_variable};

@@ -20,8 +20,8 @@ mod tables;
 mod variables;
 
 pub use cilk_load_names::{
-    Action, Body, Codes, LockAction, Memory, Name, Node, Owner, SlotPlace, Slots, Taker, Target,
-    Text, Trap, Var, Vars, eval,
+    Action, Area, BinOp, Body, Code, CodeNode, Codes, LockAction, Memory, Name, Node, Owner, Slot,
+    SlotPlace, Slots, Taker, Target, Text, Trap, Var, Vars,
 };
 pub use fault::LoadFault;
 pub use loaded::Loaded;

@@ -1,7 +1,7 @@
 //! The variables of one body, in their slots: parameters first, and then what its blocks declare.
 
 ghost use Rattle.std.specs.Prelude.{◌≡◌, ◌+◌, pos, [], ◌∷◌, ◌++◌, max, IfOk, OnOk, map};
-ghost use Rattle.cilk_load_names.specs.eval.declared.area.Area.TheVariants.{Own};
+ghost use Rattle.cilk_load_names.specs.nodes.declared.area.Area.TheVariants.{Own};
 ghost use Rattle.cilk_load_names.specs.syntax.Tree.{stmts_of, locals_of};
 ghost use Rattle.cilk_load_names.specs.syntax.MoveView.{shape_of};
 ghost use Rattle.cilk_load_names.specs.syntax.ProgramView.{parameters_of};

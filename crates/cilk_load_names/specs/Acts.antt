@@ -5,7 +5,7 @@ use Rattle.cilk_tree_syntax.specs.Tree.{Word}
 use Rattle.cilk_tree_syntax.specs.Adjustments.{operator_of}
 use Rattle.cilk_load_nodes.specs.labelled.Term as term
 use Rattle.cilk_load_nodes.specs.labelled.Term.{Term}
-use Rattle.cilk_load_nodes.specs.eval.declared.slot.Slot.{Slot}
+use Rattle.cilk_load_nodes.specs.declared.slot.Slot.{Slot}
 use Rattle.cilk_load_nodes.specs.declared.slot_place.SlotPlace.{SlotPlace}
 use Rattle.cilk_load_nodes.specs.declared.target.Target.{Target}
 use Rattle.cilk_load_nodes.specs.declared.taker.Taker.{Taker}

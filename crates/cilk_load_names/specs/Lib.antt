@@ -3,7 +3,6 @@ pub mod Shown
 pub mod Acts
 pub mod Firsts
 pub use Rattle.cilk_load_nodes.specs as nodes
-pub use Rattle.cilk_load_nodes.specs.eval
 pub use Rattle.cilk_load_nodes.specs.labelled
 pub use Rattle.cilk_load_nodes.specs.model
 pub use Rattle.cilk_load_nodes.specs.scopes

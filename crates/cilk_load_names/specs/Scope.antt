@@ -1,7 +1,7 @@
 -- What names stand for where something stands.
 use Rattle.std.specs.Prelude.{ℕ, ◌-◌, List, [], ◌∷◌, ◌++◌, map, take, drop, length, bytes_eq, if◌then◌else◌}
-use Rattle.cilk_load_nodes.specs.eval.declared.area.Area.{Area}
-use Rattle.cilk_load_nodes.specs.eval.declared.area.Area.TheVariants.{Own, Outer, Global}
+use Rattle.cilk_load_nodes.specs.declared.area.Area.{Area}
+use Rattle.cilk_load_nodes.specs.declared.area.Area.TheVariants.{Own, Outer, Global}
 use Rattle.cilk_load_nodes.specs.Slots.{nowhere}
 use Rattle.cilk_load_names.specs.declared.binding.Binding.{Binding}
 

@@ -16,8 +16,8 @@ mod symbol_table;
 pub use acts::{action_in, initialiser_in};
 pub use binding::Binding;
 pub use cilk_load_nodes::{
-    Action, Area, Body, Case, Cases, Codes, Name, Node, Owner, Slot, SlotPlace, Slots, Taker,
-    Target, Text, Trap, Var, Vars, eval,
+    Action, Area, BinOp, Body, Case, Cases, Code, CodeNode, Codes, Name, Node, Owner, Slot,
+    SlotPlace, Slots, Taker, Target, Text, Trap, Var, Vars,
 };
 pub use cilk_tree_syntax::{
     Block, Decl, Expr, Global, GlobalShape, Inlet, Item, ItemNode, Local, LocalNode, LockAction,

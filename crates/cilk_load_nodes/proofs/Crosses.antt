@@ -2,11 +2,11 @@
 use denote.Param.Send.{IsSend, IsSync, sendable}
 use Rattle.std.proofs.Crossing.{crosses}
 use Rattle.std.proofs.option.Option.TheSendSync as option
-use Rattle.cilk_eval.proofs.code.Code.TheLaws.TheKnot as code
-use Rattle.cilk_eval.proofs.syntax_laws.lock_action.LockAction.TheSendSync as lock_action
-use Rattle.cilk_eval.proofs.syntax_laws.operator.BinOp.TheSendSync as bin_op
-use Rattle.cilk_eval.proofs.syntax_laws.un_op.UnOp.TheSendSync as un_op
-use Rattle.cilk_eval.proofs.syntax_laws.word.Word.TheSendSync as word
+use Rattle.cilk_load_nodes.proofs.code.Code.TheLaws.TheKnot as code
+use Rattle.cilk_model.proofs.syntax_laws.lock_action.LockAction.TheSendSync as lock_action
+use Rattle.cilk_model.proofs.syntax_laws.operator.BinOp.TheSendSync as bin_op
+use Rattle.cilk_model.proofs.syntax_laws.un_op.UnOp.TheSendSync as un_op
+use Rattle.cilk_model.proofs.syntax_laws.word.Word.TheSendSync as word
 use Rattle.cilk_load_nodes.specs.contracts.node.Node as node
 use Rattle.cilk_load_nodes.proofs.text.Text.TheSendSync as text
 

@@ -1,3 +1,5 @@
+pub mod Environments
+pub mod Places
 pub mod Inner
 pub mod Opens
 pub mod Closed
@@ -8,6 +10,5 @@ pub mod Texts
 pub mod Successors
 pub mod Heads
 pub mod Crosses
-pub use Rattle.cilk_eval.proofs as eval_laws
-pub use Rattle.cilk_eval.proofs.syntax_laws
+pub use Rattle.cilk_model.proofs.syntax_laws
 pub use Rattle.cilk_model.proofs.scopes_laws

@@ -1,7 +1,7 @@
 -- Where a node leads by each value of a test is what comes next of the list that it stands for.
 use Rattle.std.proofs.Common.{◌≡◌, ℕ, ℤ, pos, Bool, true, false, cond, [], ◌∷◌, Option, Some, None, option_map, refl, sym, ap, ◌∙◌}
 use Rattle.std.specs.Ordering.{int_eq}
-use Rattle.cilk_eval.specs.declared.slot.Slot.{Slot}
+use Rattle.cilk_load_nodes.specs.declared.slot.Slot.{Slot}
 use Rattle.cilk_model.specs.labelled.Labelled.{Declaration, Labelled, Numbered, action, choose, while, repeat, loop, select, at_label, nested, Stmts}
 use Rattle.cilk_model.specs.labelled.Labelled.{none, also}
 use Rattle.cilk_model.specs.labelled.Items.{Round, piece, at_test, at_advance, at_end, Items, pieces, opened, head_of, holds, after_choice, after_test}

@@ -1,7 +1,7 @@
 -- Actions with slots in place of declarations.
 use Rattle.std.specs.Prelude.{Some, None, map, option_map}
 use Rattle.cilk_model.specs.labelled.Term.{rename}
-use Rattle.cilk_eval.specs.declared.slot.Slot.{Slot}
+use Rattle.cilk_load_nodes.specs.declared.slot.Slot.{Slot}
 use Rattle.cilk_model.specs.labelled.Labelled.{Declaration}
 use Rattle.cilk_model.specs.labelled.Labelled as labelled
 use Rattle.cilk_load_nodes.specs.declared.slot_place.SlotPlace.{SlotPlace}

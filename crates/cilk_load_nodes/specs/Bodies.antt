@@ -1,8 +1,8 @@
 -- The tables of bodies and variables.
 use Rattle.std.specs.Prelude.{ℕ, ◌+◌, pos, List, [], ◌∷◌, Option, map, slice_get, unwrap_or}
 use Rattle.cilk_model.specs.syntax.Tree as tree
-use Rattle.cilk_eval.specs.declared.area.Area.{Area}
-use Rattle.cilk_eval.specs.declared.area.Area.TheVariants.{Own, Global}
+use Rattle.cilk_load_nodes.specs.declared.area.Area.{Area}
+use Rattle.cilk_load_nodes.specs.declared.area.Area.TheVariants.{Own, Global}
 use Rattle.cilk_model.specs.labelled.Labelled.{Variable}
 use Rattle.cilk_model.specs.labelled.Labelled as labelled
 use Rattle.cilk_model.specs.labelled.Items.{opened, start_items}

@@ -2,9 +2,9 @@
 use Rattle.std.specs.Prelude.{ℕ, zero, suc, ◌+◌, ℤ, Bool, true, false, if◌then◌else◌, max, List, [], ◌∷◌, ◌++◌}
 use Rattle.cilk_model.specs.scopes.declared.owner.Owner.{Owner}
 use Rattle.cilk_model.specs.scopes.declared.owner.Owner.TheVariants.{Function, Procedure, Inlet}
-use Rattle.cilk_eval.specs.declared.area.Area.{Area}
-use Rattle.cilk_eval.specs.declared.area.Area.TheVariants.{Own, Outer, Global}
-use Rattle.cilk_eval.specs.declared.slot.Slot.{Slot}
+use Rattle.cilk_load_nodes.specs.declared.area.Area.{Area}
+use Rattle.cilk_load_nodes.specs.declared.area.Area.TheVariants.{Own, Outer, Global}
+use Rattle.cilk_load_nodes.specs.declared.slot.Slot.{Slot}
 use Rattle.cilk_model.specs.labelled.Labelled.{Declaration, local, outer, global, of_lock, of_body, unknown, Variable, Labelled}
 use Rattle.cilk_model.specs.Values.{Values}
 use Rattle.cilk_model.specs.Instance.{body_at}

@@ -3,7 +3,7 @@ use Rattle.std.specs.Prelude.{ℕ, suc, ℤ, pos, Bool, false, nat_eq, if◌then
 use Rattle.std.specs.List.{find}
 use Rattle.std.specs.Ordering.{int_eq}
 use Rattle.cilk_model.specs.syntax.Tree as tree
-use Rattle.cilk_eval.specs.declared.slot.Slot.{Slot}
+use Rattle.cilk_load_nodes.specs.declared.slot.Slot.{Slot}
 use Rattle.cilk_model.specs.labelled.Labelled.{Declaration, close, Numbered, Stmt, action, choose, while, repeat, loop, select, at_label, nested, Stmts}
 use Rattle.cilk_model.specs.labelled.Labelled.{none, also, Body, Labelled}
 use Rattle.cilk_model.specs.labelled.Items.{Round, piece, at_test, at_advance, at_end, Items, pieces, plain_round, opened, head_of, next_mark, next}

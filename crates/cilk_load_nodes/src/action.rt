@@ -1,10 +1,10 @@
 //! The actions of nodes, with slots for variables and numbers for bodies and locks.
 
+use crate::code::Code;
 use crate::codes::Codes;
 use crate::taker::Taker;
 use crate::target::Target;
 use crate::text::Text;
-use cilk_eval::Code;
 use cilk_model::LockAction;
 
 /// What an action does (C 1990, 6.6; Cilk 5.4 manual).

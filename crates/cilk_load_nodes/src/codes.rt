@@ -2,7 +2,7 @@
 
 ghost use Rattle.std.specs.Prelude.{◌≡◌};
 
-use cilk_eval::Code;
+use crate::code::Code;
 use std::marker::Model;
 
 /// Arguments from left to right, which contracts see as a list.
@@ -15,8 +15,8 @@ impl Model for Codes {
     ghost use Rattle.std.specs.Prelude.{List};
     ghost use Rattle.std.specs.Coded.{coded_list};
     ghost use Rattle.cilk_model.specs.labelled.Term.{Term};
-    ghost use Rattle.cilk_eval.specs.Coding.{coded_Term};
-    ghost use Rattle.cilk_eval.specs.declared.slot.Slot.{Slot};
+    ghost use Rattle.cilk_load_nodes.specs.Coding.{coded_Term};
+    ghost use Rattle.cilk_load_nodes.specs.declared.slot.Slot.{Slot};
 
     ghost Value = { List (Term Slot) };
 

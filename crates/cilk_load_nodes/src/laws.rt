@@ -4,7 +4,7 @@ ghost use Rattle.cilk_load_nodes.specs.Laws.{HeadsTellLists, NoHeadTellsEnd, Num
 ghost use Rattle.cilk_load_nodes.specs.Laws.{EntriesStandForStarts};
 ghost use Rattle.cilk_load_nodes.specs.Laws.{BodiesHaveTables, TablesHaveBodies};
 ghost use Rattle.std.specs.Prelude.{◌≡◌, pos, negsuc, [], ◌∷◌, Some, None, map};
-ghost use Rattle.cilk_eval.specs.declared.area.Area.TheVariants.{Own, Outer};
+ghost use Rattle.cilk_load_nodes.specs.declared.area.Area.TheVariants.{Own, Outer};
 ghost use Rattle.cilk_model.specs.labelled.Bodies.{label};
 ghost use Rattle.cilk_model.specs.labelled.Labelled.{local, outer};
 ghost use Rattle.cilk_model.specs.labelled.Rows.{fib_program, switched_program, choosing_program};

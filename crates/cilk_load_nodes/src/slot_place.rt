@@ -1,6 +1,7 @@
 //! Places over slots: a variable, or an element whose subscript is an expression.
 
-use cilk_eval::{Code, Slot};
+use crate::code::Code;
+use crate::slot::Slot;
 
 /// A variable, or an element of an array (C 1990, 6.3.2.1).
 #[derive(Drop)]

@@ -1,7 +1,7 @@
 //! One variable or lock in the tables: its name, where it lies, and what its cells begin with.
 
 use crate::name::Name;
-use cilk_eval::Slot;
+use crate::slot::Slot;
 
 /// A variable, and where it lies.
 #[derive(Drop)]

@@ -3,8 +3,8 @@ use Rattle.std.proofs.Common.{◌≡◌, ◌≤◌, ◌+◌, ℕ, Bool, true, Li
 use Rattle.cilk_machine_undo.specs.syntax.Tree.{Program}
 use Rattle.cilk_machine_undo.specs.labelled.Bodies.{label}
 use Rattle.cilk_machine_undo.specs.agree.Agrees.{MachineParts}
-use Rattle.cilk_machine_undo.specs.carries.declared.parts.Parts.{Parts}
-use Rattle.cilk_machine_undo.specs.carries.Words.{machine_of}
+use Rattle.cilk_machine_undo.specs.plans.declared.parts.Parts.{Parts}
+use Rattle.cilk_machine_undo.specs.plans.PartWords.{machine_of}
 use Rattle.cilk_machine_undo.specs.Growth.{AreWithin}
 use Rattle.cilk_machine_undo.specs.Moment.{IsBefore, running_as}
 use Rattle.cilk_machine_undo.specs.Undo.{Undo}

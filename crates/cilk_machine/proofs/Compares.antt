@@ -11,9 +11,9 @@ use Rattle.cilk_machine_undo.proofs.runs_laws.Kept.{places_are_kept}
 use Rattle.cilk_machine_choices.specs.model.Hands.{WorkerOf, no_place}
 use Rattle.cilk_machine_choices.specs.model.Run.{Standing}
 use Rattle.cilk_machine_choices.specs.Words.{outcome_of}
-use Rattle.cilk_machine_same.specs.Alike.{SameTree, SameHeld, SameHand, SameDeque, SamePlaces, SamePlacesBut, SameParts}
-use Rattle.cilk_machine_same.specs.explore.Names.{SameButNames}
-use Rattle.cilk_machine_same.proofs.ByNames.{stand_so}
+use Rattle.cilk_view.specs.explore.Alike.{SameTree, SameHeld, SameHand, SameDeque, SamePlaces, SamePlacesBut, SameParts}
+use Rattle.cilk_view.specs.explore.Names.{SameButNames}
+use Rattle.cilk_view.proofs.explore_laws.ByNames.{stand_so}
 use Rattle.cilk_machine.specs.Situation.{Situation, workers_of}
 use Rattle.cilk_machine.specs.Stands.{StandsAt}
 

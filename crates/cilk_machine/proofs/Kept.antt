@@ -5,8 +5,8 @@ use Rattle.std.specs.Prelude.{IfSome, IfNone, MatchOption}
 use Rattle.std.proofs.lemmas.List.{reverse-append}
 use Rattle.cilk_machine_undo.specs.syntax.Tree.{Program}
 use Rattle.cilk_machine_undo.specs.agree.Agrees.{MachineParts}
-use Rattle.cilk_machine_undo.specs.carries.declared.parts.Parts.{Parts}
-use Rattle.cilk_machine_undo.specs.carries.Words.{machine_of}
+use Rattle.cilk_machine_undo.specs.plans.declared.parts.Parts.{Parts}
+use Rattle.cilk_machine_undo.specs.plans.PartWords.{machine_of}
 use Rattle.cilk_machine_choices.specs.model.Choice.{Choice}
 use Rattle.cilk_machine_choices.specs.model.Event.{Event}
 use Rattle.cilk_machine_choices.specs.model.Run.{Standing}

@@ -23,6 +23,8 @@ pub mod Unseen
 pub mod Compares
 pub mod Matches
 pub mod Nothing
+pub mod Undoes
+pub mod Callers
 pub use Rattle.cilk_machine_undo.proofs.agree_laws
 pub use Rattle.cilk_machine_undo.proofs.frame_laws
 pub use Rattle.cilk_machine_undo.proofs.nodes_laws
@@ -30,4 +32,6 @@ pub use Rattle.cilk_machine_undo.proofs.runs_laws
 pub use Rattle.cilk_machine_undo.proofs.sched_laws
 pub use Rattle.cilk_machine_undo.proofs.spawn_laws
 pub use Rattle.cilk_machine_choices.proofs as choices_laws
+pub use Rattle.cilk_machine_step.proofs as step_laws
+pub use Rattle.cilk_view.proofs.explore_laws
 pub mod Checkpoints

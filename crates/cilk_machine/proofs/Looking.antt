@@ -12,7 +12,7 @@ use Rattle.cilk_machine_choices.specs.declared.act.Act.TheVariants.{Step}
 use Rattle.cilk_machine_choices.specs.declared.refusal.Refusal.TheVariants.{Over, NoWorker}
 use Rattle.cilk_machine_undo.specs.eval.Known.{known_of}
 use Rattle.cilk_machine_undo.specs.eval.declared.known.Known.{Known}
-use Rattle.cilk_machine_undo.specs.eval.declared.slot.Slot.{Slot}
+use Rattle.cilk_machine_undo.specs.nodes.declared.slot.Slot.{Slot}
 use Rattle.cilk_machine_undo.specs.labelled.Term.{Term}
 use Rattle.cilk_machine_step.specs.Peeks as peeks
 use Rattle.cilk_machine_step.specs.Peeks.{code_in}

@@ -8,7 +8,7 @@ use Rattle.std.proofs.lemmas.List.Sorted.{All-permutation, IsPermutation-refl, I
 use Rattle.cilk_machine_undo.specs.frame.Frames.{Frame}
 use Rattle.cilk_machine_undo.specs.spawn.Nodes.{Node}
 use Rattle.cilk_machine_choices.specs.model.Hands.{WorkerOf, IsWorker, no_place, worker_at}
-use Rattle.cilk_machine_same.specs.Alike.{SamePlacesBut}
+use Rattle.cilk_view.specs.explore.Alike.{SamePlacesBut}
 use Rattle.cilk_machine.proofs.Compares.{SameAt, places_same}
 
 module _ (ns ms : List Node) (xs ys : List (WorkerOf Frame)) where

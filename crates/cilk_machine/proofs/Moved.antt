@@ -3,8 +3,8 @@ use Rattle.std.proofs.Common.{◌≡◌, ◌≢◌, ◌<◌, ◌≤◌, ◌+◌,
 use Rattle.cilk_machine_undo.specs.syntax.Tree.{Program}
 use Rattle.cilk_machine_choices.specs.model.Hands.{WorkerOf, IsWorker, hand_of, deque_of, top_of, bottom_of, popped_by, stolen_by}
 use Rattle.cilk_machine_undo.specs.frame.Frames.{Frame}
-use Rattle.cilk_machine_undo.specs.carries.declared.parts.Parts.{Parts}
-use Rattle.cilk_machine_undo.specs.carries.Words.{machine_of}
+use Rattle.cilk_machine_undo.specs.plans.declared.parts.Parts.{Parts}
+use Rattle.cilk_machine_undo.specs.plans.PartWords.{machine_of}
 use Rattle.cilk_machine_choices.specs.model.Choice as model
 use Rattle.cilk_machine_choices.specs.model.Event as event
 use Rattle.cilk_machine_choices.specs.model.Event.{Event}

@@ -8,7 +8,7 @@ use Rattle.cilk_machine_undo.proofs.sched_laws.PathNames.{named-length, named-wo
 use Rattle.cilk_machine_choices.specs.model.Path.{Path}
 use Rattle.cilk_machine_choices.specs.model.Hands.{WorkerOf, IsWorker, no_place, worker_at, hand_of, deque_of, place_named}
 use Rattle.cilk_machine_choices.specs.model.Run.{Standing}
-use Rattle.cilk_machine_same.specs.explore.OrMore.{IsIdle}
+use Rattle.cilk_view.specs.explore.OrMore.{IsIdle}
 use Rattle.cilk_machine.specs.Situation.{Situation}
 use Rattle.cilk_machine.specs.Stands.{StandsAt}
 

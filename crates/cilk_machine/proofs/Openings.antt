@@ -7,8 +7,8 @@ use Rattle.std.proofs.lemmas.Bool.{le-leb}
 use Rattle.std.proofs.lemmas.List.{length-replicate, length-map}
 use Rattle.cilk_machine_undo.specs.syntax.Tree.{Program}
 use Rattle.cilk_machine_undo.specs.agree.scopes.WellFormed.{WellFormed}
-use Rattle.cilk_machine_undo.specs.eval.declared.area.Area.{Area}
-use Rattle.cilk_machine_undo.specs.eval.declared.area.Area.TheVariants.{Global}
+use Rattle.cilk_machine_undo.specs.nodes.declared.area.Area.{Area}
+use Rattle.cilk_machine_undo.specs.nodes.declared.area.Area.TheVariants.{Global}
 use Rattle.cilk_machine_undo.specs.labelled.Labelled.{Variable}
 use Rattle.cilk_machine_undo.specs.labelled.Labelled as labelled
 use Rattle.cilk_machine_undo.specs.labelled.Bodies.{label}
@@ -37,8 +37,8 @@ use Rattle.cilk_machine_undo.specs.agree.Agrees.{Agrees, read_off}
 use Rattle.cilk_machine_undo.specs.agree.Laws.{opening_machine}
 use Rattle.cilk_machine_undo.proofs.agree_laws.Opens.{opening-agrees}
 use Rattle.cilk_machine_undo.proofs.agree_laws.Found.{read-agrees}
-use Rattle.cilk_machine_undo.specs.carries.declared.parts.Parts.{Parts}
-use Rattle.cilk_machine_undo.specs.carries.Words.{machine_of}
+use Rattle.cilk_machine_undo.specs.plans.declared.parts.Parts.{Parts}
+use Rattle.cilk_machine_undo.specs.plans.PartWords.{machine_of}
 use Rattle.cilk_machine_choices.specs.declared.outcome.Outcome.TheVariants.{Running}
 use Rattle.cilk_machine_undo.specs.Undo.{Undo}
 use Rattle.cilk_machine.specs.Situation.{Before, Situation}

@@ -23,16 +23,16 @@ use Rattle.cilk_machine_undo.specs.plans.declared.plan.Plan.TheVariants as plan
 use Rattle.cilk_machine_undo.specs.plans.Made.{planned}
 use Rattle.cilk_machine_undo.specs.plans.Plans.{step_in, IsPlan}
 use Rattle.cilk_machine_undo.specs.plans.StepInput.{StepInput}
-use Rattle.cilk_machine_undo.specs.carries.declared.did.Did.{Did}
-use Rattle.cilk_machine_undo.specs.carries.declared.did.Done.{Done}
-use Rattle.cilk_machine_undo.specs.carries.declared.parts.Parts.{Parts}
-use Rattle.cilk_machine_undo.specs.carries.Words as carries
-use Rattle.cilk_machine_undo.specs.carries.Words.{machine_of, event_by}
-use Rattle.cilk_machine_undo.specs.carries.Carried.{after_plan}
-use Rattle.cilk_machine_undo.specs.carries.Carries.{Becomes, CellsAreFew, Starts, Planned, CanCarry, Carries}
-use Rattle.cilk_machine_undo.specs.carries.Ready.{Ready}
+use Rattle.cilk_machine_undo.specs.plans.declared.did.Did.{Did}
+use Rattle.cilk_machine_undo.specs.plans.declared.did.Done.{Done}
+use Rattle.cilk_machine_undo.specs.plans.declared.parts.Parts.{Parts}
+use Rattle.cilk_machine_undo.specs.plans.PartWords as carries
+use Rattle.cilk_machine_undo.specs.plans.PartWords.{machine_of, event_by}
+use Rattle.cilk_machine_undo.specs.plans.Carried.{after_plan}
+use Rattle.cilk_machine_carry.specs.Carries.{Becomes, CellsAreFew, Starts, Planned, CanCarry, Carries}
+use Rattle.cilk_machine_undo.specs.plans.Ready.{Ready}
 use Rattle.cilk_machine_undo.specs.Growth.{MachineGrows}
-use Rattle.cilk_machine_undo.proofs.carries_laws.Whole.{ready-there}
+use Rattle.cilk_machine_carry.proofs.Whole.{ready-there}
 use Rattle.cilk_machine_undo.proofs.Growth.{plan-grows}
 use Rattle.cilk_machine_undo.proofs.Printed.{plan-prints}
 use Rattle.cilk_machine_undo.proofs.Within.{taken-once}

@@ -2,7 +2,7 @@
 use Rattle.std.specs.Prelude.{◌≡◌, ◌<◌, ◌≤◌, ◌+◌, ◌∷◌, ℕ, ⊤, Bool, true, false, cond, List, [], length, is_some}
 use Rattle.cilk_machine_undo.specs.syntax.Tree.{Program}
 use Rattle.cilk_machine_undo.specs.frame.Frames.{Frame}
-use Rattle.cilk_machine_undo.specs.carries.declared.parts.Parts.{Parts}
+use Rattle.cilk_machine_undo.specs.plans.declared.parts.Parts.{Parts}
 use Rattle.cilk_machine_choices.specs.model.Hands.{WorkerOf}
 use Rattle.cilk_machine_choices.specs.declared.outcome.Outcome.{Outcome}
 use Rattle.cilk_machine_choices.specs.declared.outcome.Outcome.TheVariants.{Running}

@@ -12,7 +12,7 @@ use Rattle.cilk_machine_choices.specs.declared.refusal.Refusal.{Refusal}
 use Rattle.cilk_machine_choices.specs.declared.refusal.Refusal.TheVariants.{Over, NoWorker, HandEmpty, Memory, Stale}
 use Rattle.cilk_machine_undo.specs.eval.Known.{known}
 use Rattle.cilk_machine_undo.specs.eval.declared.known.Known.{Known}
-use Rattle.cilk_machine_undo.specs.eval.declared.slot.Slot.{Slot}
+use Rattle.cilk_machine_undo.specs.nodes.declared.slot.Slot.{Slot}
 use Rattle.cilk_machine_undo.specs.labelled.declared.trap.Trap.{Trap}
 use Rattle.cilk_machine_undo.specs.labelled.Term.{Term}
 use Rattle.cilk_machine_undo.specs.labelled.Value.{value_of}

@@ -1,8 +1,8 @@
 -- What a machine was before the choices whose records it keeps.
 use Rattle.std.specs.Prelude.{◌-◌, ◌∷◌, ℕ, Bool, List, [], map, reverse}
 use Rattle.cilk_machine_undo.specs.syntax.Tree.{Program}
-use Rattle.cilk_machine_undo.specs.carries.declared.parts.Parts.{Parts}
-use Rattle.cilk_machine_undo.specs.carries.Words.{machine_of}
+use Rattle.cilk_machine_undo.specs.plans.declared.parts.Parts.{Parts}
+use Rattle.cilk_machine_undo.specs.plans.PartWords.{machine_of}
 use Rattle.cilk_machine_choices.specs.declared.outcome.Outcome.{Outcome}
 use Rattle.cilk_machine_undo.specs.declared.undo.Undo as code
 use Rattle.cilk_machine_undo.specs.Undo.{Undo, undone}

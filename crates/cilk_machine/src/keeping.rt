@@ -3,18 +3,17 @@
 ghost use Rattle.std.specs.Prelude.{◌≡◌, ◌<◌, ◌≤◌, ◌+◌, ◌∷◌, [], true, None, vec_len, vec_capacity, IfNone, IfOk, IfSome, OnErr, OnOk};
 ghost use Rattle.std.specs.Option.{option_copied};
 ghost use Rattle.cilk_machine_undo.specs.plans.Words.{plan_of};
-ghost use Rattle.cilk_machine_undo.specs.carries.Carries.{Becomes, CanCarry, Carries};
+ghost use Rattle.cilk_machine_carry.specs.Carries.{Becomes, CanCarry, Carries};
 ghost use Rattle.cilk_machine_undo.specs.Undo.{popped, stolen};
 ghost use Rattle.cilk_machine_undo.specs.Words.{undo_by, machine_in};
 ghost use Rattle.cilk_machine.specs.Situation.{kept_by};
 ghost use Rattle.cilk_machine.specs.Pasts.{kept_of};
 ghost use Rattle.cilk_machine.specs.Kept.{Adds};
 
+use crate::carrying::{carry_lightly_noted, carry_out_noted};
 use cilk_machine_choices::Memory;
 use cilk_machine_step::{Light, Plan};
-use cilk_machine_undo::{
-    Body, Did, Done, NoMemory, Outcome, Parts, Undo, carry_lightly_noted, carry_out_noted,
-};
+use cilk_machine_undo::{Body, Did, Done, NoMemory, Outcome, Parts, Undo};
 use std::alloc::Global;
 
 // As many frames may come to a hand before the next step, which makes room again: a pop and a steal take no memory.

@@ -3,7 +3,7 @@
 ghost use Rattle.std.specs.Prelude.{◌≡◌, ◌<◌, ◌≤◌, ◌+◌, ℕ, true, All, length, Some, IfSome, slice_get, slice_index};
 ghost use Rattle.cilk_machine_undo.specs.frame.Frames as frames;
 ghost use Rattle.cilk_machine_choices.specs.model.Hands.{IsWorker, hand_of, deque_of};
-ghost use Rattle.cilk_machine_same.specs.Alike.{SameHeld, SameHand, SameDeque, SamePlacesBut};
+ghost use Rattle.cilk_view.specs.explore.Alike.{SameHeld, SameHand, SameDeque, SamePlacesBut};
 
 use cilk_machine_undo::{Frame, Hands, Tree};
 

@@ -1,8 +1,8 @@
 -- What an action shows of the one instance.
 use Rattle.std.proofs.Common.{pos, ◌≡◌, ◌+◌, ℕ, ℤ, true, false, ◌++◌, length, Some, refl, sym, ap, ◌∙◌, subst, slice_set}
-use Rattle.cilk_sched.specs.eval.declared.area.Area.{Area}
-use Rattle.cilk_sched.specs.eval.declared.area.Area.TheVariants.{Own, Outer, Global}
-use Rattle.cilk_sched.specs.eval.declared.slot.Slot.{Slot}
+use Rattle.cilk_sched.specs.nodes.declared.area.Area.{Area}
+use Rattle.cilk_sched.specs.nodes.declared.area.Area.TheVariants.{Own, Outer, Global}
+use Rattle.cilk_sched.specs.nodes.declared.slot.Slot.{Slot}
 use Rattle.cilk_laws_model.specs.syntax.Tree.{Program}
 use Rattle.cilk_laws_model.specs.scopes.declared.owner.Owner.{Owner}
 use Rattle.cilk_laws_model.specs.scopes.declared.owner.Owner.TheVariants.{Function, Procedure, Inlet}

@@ -1,6 +1,6 @@
 -- The actions that an instance takes by itself, a spawn and an `abort`: each keeps agreement.
 use Rattle.std.specs.Prelude.{pos, ◌≡◌, ◌+◌, ℕ, ℤ, true, false, List, ◌∷◌, ◌++◌, drop, length, Option, Some, None, slice_set}
-use Rattle.cilk_sched.specs.eval.declared.slot.Slot.{Slot}
+use Rattle.cilk_sched.specs.nodes.declared.slot.Slot.{Slot}
 use Rattle.cilk_laws_model.specs.labelled.Bodies.{label}
 use Rattle.cilk_laws_model.specs.labelled.Items.{opened, next}
 use Rattle.cilk_laws_model.specs.model.Path.{child_path}

@@ -1,7 +1,7 @@
 -- When a node of the tree tells of an instance what the definitions tell of it.
 use Rattle.std.specs.Prelude.{◌≡◌, ◌<◌, ◌≤◌, ℕ, suc, ℤ, ⊤, List, [], ◌∷◌, Option, Some, None, length}
 use Rattle.cilk_laws_model.specs.labelled.Term.{Term}
-use Rattle.cilk_sched.specs.eval.declared.slot.Slot.{Slot}
+use Rattle.cilk_sched.specs.nodes.declared.slot.Slot.{Slot}
 use Rattle.cilk_laws_model.specs.labelled.Labelled.{Labelled}
 use Rattle.cilk_laws_model.specs.model.Path.{Path}
 use Rattle.cilk_laws_model.specs.model.Instance as model

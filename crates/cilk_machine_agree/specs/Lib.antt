@@ -15,7 +15,6 @@ pub use Rattle.cilk_laws_model.specs.scopes
 pub use Rattle.cilk_laws_model.specs.syntax
 pub use Rattle.cilk_laws_model.specs.model
 pub use Rattle.cilk_sched.specs as sched
-pub use Rattle.cilk_sched.specs.eval
 pub use Rattle.cilk_sched.specs.frame
 pub use Rattle.cilk_sched.specs.nodes
 pub use Rattle.cilk_spawn.specs as spawn

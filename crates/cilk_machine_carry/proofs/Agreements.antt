@@ -42,10 +42,10 @@ use Rattle.cilk_machine_plan.specs.declared.plan.Plan.TheVariants as plan
 use Rattle.cilk_machine_plan.specs.spawn.Kinds.{kind_of}
 use Rattle.cilk_machine_plan.specs.Plans.{IsPlan, step_in, acts, Ends, TakesOldest, Enters, Goes, Writes, Calls, Leaves, Answers, Returns, Spawns}
 use Rattle.cilk_machine_plan.specs.Plans.{Prints, TurnsLock, Aborts}
-use Rattle.cilk_machine_carry.specs.declared.did.Did.{Did}
-use Rattle.cilk_machine_carry.specs.declared.did.Did.TheVariants as did
-use Rattle.cilk_machine_carry.specs.Words.{event_by}
-use Rattle.cilk_machine_carry.specs.Carried.{outside_given, after_plan, did_of}
+use Rattle.cilk_machine_plan.specs.declared.did.Did.{Did}
+use Rattle.cilk_machine_plan.specs.declared.did.Did.TheVariants as did
+use Rattle.cilk_machine_plan.specs.PartWords.{event_by}
+use Rattle.cilk_machine_plan.specs.Carried.{outside_given, after_plan, did_of}
 use Rattle.cilk_machine_carry.specs.Carries.{Starts, Stepped}
 use Rattle.cilk_machine_carry.proofs.Awake.{woken-is}
 use Rattle.cilk_machine_carry.proofs.Followed.{Same, at_one, same-all, parked-same, marked-same, sent-same, ended-awake, followed, by-path, spawn-followed}
@@ -127,7 +127,7 @@ module _ (choice : ℕ) (t : InHand) (body : Option Body) where
       (instead t.who k (put h.at.cell z (record i { waiting = first.others })))
       h.step refl (ap (λ c. event.delivered c n) first.child_is)
       (taken-followed t choice n first.oldest (first-there t first.oldest first.others first.waiting))
-      (taken-agrees t.program (Rattle.cilk_machine_carry.specs.Carried.with_written t.machine t.worker t.frame reached z) k choice _ _ _
+      (taken-agrees t.program (Rattle.cilk_machine_plan.specs.Carried.with_written t.machine t.worker t.frame reached z) k choice _ _ _
       (first-there t first.oldest first.others first.waiting).within (first-there t first.oldest first.others first.waiting).is
       (deliveries-agree t reached.slot reached.index h.at.cell z first.oldest first.others h.at.same first.waiting))
 
@@ -215,7 +215,7 @@ module _ (choice : ℕ) (t : InHand) where
       (instead t.who t.frame.id (above (entered (label t.program) inlet arguments None) (record i { waiting = first.others })))
       h.step refl (ap (λ c. event.delivered c n) first.child_is)
       (taken-followed t choice n first.oldest (first-there t first.oldest first.others first.waiting))
-      (taken-agrees t.program (Rattle.cilk_machine_carry.specs.Carried.with_frame t.machine t.worker
+      (taken-agrees t.program (Rattle.cilk_machine_plan.specs.Carried.with_frame t.machine t.worker
       (Rattle.cilk_machine_plan.specs.frame.Frames.entered
       (Rattle.cilk_machine_plan.specs.frame.Begins.starts_with (body_of t.program inlet) arguments None) t.frame)) t.frame.id choice _ _ _
       (first-there t first.oldest first.others first.waiting).within (first-there t first.oldest first.others first.waiting).is

@@ -5,9 +5,9 @@ use Rattle.cilk_machine_plan.specs.nodes.declared.body.Body.{Body}
 use Rattle.cilk_machine_plan.specs.frame.Frames.{Frame}
 use Rattle.cilk_machine_plan.specs.agree.Agrees.{MachineParts}
 use Rattle.cilk_machine_plan.specs.declared.plan.Plan.{Plan}
-use Rattle.cilk_machine_carry.specs.declared.did.Did.{Did}
-use Rattle.cilk_machine_carry.specs.declared.did.Done.{Done}
-use Rattle.cilk_machine_carry.specs.Carried.{Carried}
+use Rattle.cilk_machine_plan.specs.declared.did.Did.{Did}
+use Rattle.cilk_machine_plan.specs.declared.did.Done.{Done}
+use Rattle.cilk_machine_plan.specs.Carried.{Carried}
 
 pub by-arm : {choice : ℕ} {m : MachineParts} {w : ℕ} {f : Frame} {body : Option Body} {x y : Plan} {now : MachineParts} {told : Did} → x ≡ y
     → Carried choice m w f body y now told → Carried choice m w f body x now told

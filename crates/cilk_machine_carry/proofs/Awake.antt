@@ -13,7 +13,7 @@ use Rattle.cilk_machine_plan.proofs.agree_laws.Frames.{hand-over}
 use Rattle.cilk_machine_plan.proofs.agree_laws.Between.{hands-filled, hands-handed_on}
 use Rattle.cilk_machine_plan.specs.declared.plan.Plan.{Plan}
 use Rattle.cilk_machine_plan.specs.declared.plan.Plan.TheVariants as plan
-use Rattle.cilk_machine_carry.specs.Carried.{nodes_awake, places_awake, awake_in, started_as, handed_back, after_plan}
+use Rattle.cilk_machine_plan.specs.Carried.{nodes_awake, places_awake, awake_in, started_as, handed_back, after_plan}
 
 -- nothing is parked there
 not-parked : (ns : List Node) (r : ℕ) → (node_at ns r).parked ≡ None → with_parked ns r None ≡ ns

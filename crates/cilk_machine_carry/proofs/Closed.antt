@@ -11,11 +11,11 @@ use Rattle.cilk_machine_plan.specs.agree.Agrees.{MachineParts}
 use Rattle.cilk_machine_plan.specs.agree.Laws.{sent, released}
 use Rattle.cilk_machine_plan.proofs.agree_laws.Frames.{given-back}
 use Rattle.cilk_machine_plan.specs.declared.plan.Plan.TheVariants as plan
-use Rattle.cilk_machine_carry.specs.declared.did.Did.{Did}
-use Rattle.cilk_machine_carry.specs.declared.did.Did.TheVariants as did
-use Rattle.cilk_machine_carry.specs.declared.did.Outcome.{Outcome}
-use Rattle.cilk_machine_carry.specs.Words.{outcome_of}
-use Rattle.cilk_machine_carry.specs.Carried.{nodes_awake, places_awake, awake_in, handed_back, outside_given, value_outcome, Carried}
+use Rattle.cilk_machine_plan.specs.declared.did.Did.{Did}
+use Rattle.cilk_machine_plan.specs.declared.did.Did.TheVariants as did
+use Rattle.cilk_machine_plan.specs.declared.did.Outcome.{Outcome}
+use Rattle.cilk_machine_plan.specs.PartWords.{outcome_of}
+use Rattle.cilk_machine_plan.specs.Carried.{nodes_awake, places_awake, awake_in, handed_back, outside_given, value_outcome, Carried}
 
 closed : (m now : MachineParts) (w : ℕ) (o : Outside) (ns : List Node) (parent : Option ℕ) → hand_of m.places w ≡ None → now.outside ≡ o
     → now.nodes ≡ nodes_awake ns parent → now.places ≡ places_awake m.places w (awake_in ns parent) → now ≡ handed_back m w o ns parent

@@ -23,7 +23,7 @@ use Rattle.cilk_machine_plan.proofs.spawn_laws.Paths.{number_is_path}
 use Rattle.cilk_machine_plan.specs.agree.Fated.{fate_after, Births, Follows}
 use Rattle.cilk_machine_plan.specs.agree.Laws.{InHand, sent, can_go_on}
 use Rattle.cilk_machine_plan.proofs.agree_laws.Alone.{inside}
-use Rattle.cilk_machine_carry.specs.Carried.{nodes_awake}
+use Rattle.cilk_machine_plan.specs.Carried.{nodes_awake}
 
 -- the same instances, whose fates were changed so
 pub record Fates (f : ℕ → Fate → Fate) (ns ms : List Node) : Type 0 where

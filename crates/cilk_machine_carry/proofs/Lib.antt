@@ -8,7 +8,6 @@ pub mod Takes
 pub mod Agreements
 pub mod Readies
 pub mod Whole
-pub mod Holds
 pub use Rattle.cilk_machine_plan.proofs as plans_laws
 pub use Rattle.cilk_machine_plan.proofs.agree_laws
 pub use Rattle.cilk_machine_plan.proofs.effects_laws

@@ -2,9 +2,9 @@
 use Rattle.std.proofs.Common.{◌≡◌, ◌≢◌, ℕ, zero, suc, ◌+◌, ◌<◌, ◌^◌, ℤ, pos, true, not, List, [], ◌∷◌, map, length, Option, refl, sym, ap, ◌∙◌, subst, arith}
 use Rattle.std.specs.Prelude.{slice_index_or}
 use borrow.Author.Tests.{ltb-true}
-use Rattle.cilk_machine_plan.specs.eval.declared.area.Area.{Area}
-use Rattle.cilk_machine_plan.specs.eval.declared.area.Area.TheVariants.{Own, Outer, Global}
-use Rattle.cilk_machine_plan.specs.eval.declared.slot.Slot.{Slot}
+use Rattle.cilk_machine_plan.specs.nodes.declared.area.Area.{Area}
+use Rattle.cilk_machine_plan.specs.nodes.declared.area.Area.TheVariants.{Own, Outer, Global}
+use Rattle.cilk_machine_plan.specs.nodes.declared.slot.Slot.{Slot}
 use Rattle.cilk_machine_plan.specs.labelled.Labelled.{Declaration, local, outer, global, of_lock, of_body, unknown, Variable, Body, Labelled}
 use Rattle.cilk_machine_plan.specs.labelled.Bodies.{label}
 use Rattle.cilk_machine_plan.specs.model.Values.{Values, Cell}
@@ -27,7 +27,7 @@ use Rattle.cilk_machine_plan.proofs.agree_laws.Between.{senders-can-end, parents
 use Rattle.cilk_machine_plan.specs.declared.plan.Plan.{Plan}
 use Rattle.cilk_machine_plan.specs.declared.plan.Plan.TheVariants as plan
 use Rattle.cilk_machine_plan.specs.Plans.{IsPlan, Caller}
-use Rattle.cilk_machine_carry.specs.Ready.{Fits, Acting, Needs, Ready}
+use Rattle.cilk_machine_plan.specs.Ready.{Fits, Acting, Needs, Ready}
 use Rattle.cilk_machine_carry.specs.Carries.{CellsAreFew, Starts}
 
 -- a cell of one of the variables is one of their cells

@@ -10,11 +10,11 @@ use Rattle.cilk_machine_plan.specs.agree.Laws.{InHand}
 use Rattle.cilk_machine_plan.proofs.agree_laws.Between.{hands-restored}
 use Rattle.cilk_machine_plan.specs.declared.plan.Plan.{Plan}
 use Rattle.cilk_machine_plan.specs.declared.plan.Plan.TheVariants as plan
-use Rattle.cilk_machine_carry.specs.declared.did.Done.{Done}
-use Rattle.cilk_machine_carry.specs.declared.parts.Parts.{Parts}
-use Rattle.cilk_machine_carry.specs.Words.{machine_of, outcome_of}
-use Rattle.cilk_machine_carry.specs.Ready.{Ready}
-use Rattle.cilk_machine_carry.specs.Carried.{Carried, after_plan, did_of}
+use Rattle.cilk_machine_plan.specs.declared.did.Done.{Done}
+use Rattle.cilk_machine_plan.specs.declared.parts.Parts.{Parts}
+use Rattle.cilk_machine_plan.specs.PartWords.{machine_of, outcome_of}
+use Rattle.cilk_machine_plan.specs.Ready.{Ready}
+use Rattle.cilk_machine_plan.specs.Carried.{Carried, after_plan, did_of}
 use Rattle.cilk_machine_carry.specs.Carries.{Planned, CanCarry, Carries, Becomes, Stepped}
 use Rattle.cilk_machine_carry.proofs.Awake.{emptied, after-emptied}
 use Rattle.cilk_machine_carry.proofs.Agreements.{leads-by}

@@ -18,11 +18,11 @@ use Rattle.cilk_machine_plan.specs.agree.Laws.{InHand, path_of}
 use Rattle.cilk_machine_plan.specs.declared.plan.Plan.{Plan}
 use Rattle.cilk_machine_plan.specs.declared.plan.Plan.TheVariants as plan
 use Rattle.cilk_machine_plan.specs.Plans.{IsPlan, step_in}
-use Rattle.cilk_machine_carry.specs.declared.did.Did.{Did}
-use Rattle.cilk_machine_carry.specs.declared.did.Done.{Done}
-use Rattle.cilk_machine_carry.specs.declared.parts.Parts.{Parts}
-use Rattle.cilk_machine_carry.specs.Words.{machine_of, outcome_of, event_by}
-use Rattle.cilk_machine_carry.specs.Carried.{Carried}
+use Rattle.cilk_machine_plan.specs.declared.did.Did.{Did}
+use Rattle.cilk_machine_plan.specs.declared.did.Done.{Done}
+use Rattle.cilk_machine_plan.specs.declared.parts.Parts.{Parts}
+use Rattle.cilk_machine_plan.specs.PartWords.{machine_of, outcome_of, event_by}
+use Rattle.cilk_machine_plan.specs.Carried.{Carried}
 
 -- the cells of a body, and those of the top level, have numbers of 32 bits
 pub record CellsAreFew (program : Labelled) : Type 0 where

@@ -1,8 +1,4 @@
-pub mod Words
-pub mod Carried
-pub mod Ready
 pub mod Carries
-pub mod Spends
 pub use Rattle.cilk_machine_plan.specs as plans
 pub use Rattle.cilk_machine_plan.specs.agree
 pub use Rattle.cilk_machine_plan.specs.check

@@ -6,14 +6,12 @@ ghost use Rattle.cilk_machine_plan.specs.nodes.declared.body.Body.{Body};
 ghost use Rattle.cilk_machine_plan.specs.spawn.Nodes.{node_at, is_live};
 ghost use Rattle.cilk_machine_plan.specs.agree.Outside as outside;
 ghost use Rattle.cilk_machine_plan.specs.declared.plan.Plan.TheVariants as plans;
-ghost use Rattle.cilk_machine_carry.specs.Words.{machine_of, outcome_of};
-ghost use Rattle.cilk_machine_carry.specs.Carried.{Carried};
+ghost use Rattle.cilk_machine_plan.specs.PartWords.{machine_of, outcome_of};
+ghost use Rattle.cilk_machine_plan.specs.Carried.{Carried};
 
-use crate::did::{Did, Done, Outcome};
 use crate::entering::go_on;
 use crate::given::Passage;
-use crate::parts::Parts;
-use cilk_machine_plan::{Bytes, Frame, Hands, TrapKind};
+use cilk_machine_plan::{Bytes, Did, Done, Frame, Hands, Outcome, Parts, TrapKind};
 
 /// The frame is in the hand, and its action n was acted.
 pub(crate) fn acted(worker: u8, frame: Frame, n: u32, hands: &mut Hands) -> Done

@@ -4,22 +4,20 @@ ghost use Rattle.std.specs.Prelude.{◌≡◌, None, IfErr, IfOk, OnErr, OnOk};
 ghost use Rattle.std.specs.Option.{option_copied};
 ghost use Rattle.cilk_machine_plan.specs.model.Hands.{IsWorker, hand_of};
 ghost use Rattle.cilk_machine_plan.specs.agree.Outside as outside;
-ghost use Rattle.cilk_machine_carry.specs.Words.{machine_of, outcome_of};
-ghost use Rattle.cilk_machine_carry.specs.Ready.{Ready};
-ghost use Rattle.cilk_machine_carry.specs.Carried.{Carried};
+ghost use Rattle.cilk_machine_plan.specs.PartWords.{machine_of, outcome_of};
+ghost use Rattle.cilk_machine_plan.specs.Ready.{Ready};
+ghost use Rattle.cilk_machine_plan.specs.Carried.{Carried};
 ghost use Rattle.cilk_machine_carry.specs.Carries.{CanCarry, Carries, Becomes};
-ghost use Rattle.cilk_machine_carry.specs.Spends.{Spends, SpendsIn};
+ghost use Rattle.cilk_machine_plan.specs.Spends.{Spends, SpendsIn};
 
 use crate::acting::{acted, carry_abort, carry_print, carry_trap};
-use crate::did::{Did, Done, NoMemory};
 use crate::entering::{carry_call, carry_enter, go_on, leave};
-use crate::given::{Passage, Sender, Start, Writing};
-use crate::parts::Parts;
+use crate::given::{Passage, Sender, Start};
 use crate::releasing::carry_lock_turn;
 use crate::returning::{carry_end, carry_return};
 use crate::starting::carry_spawn;
 use crate::writing::{carry_answer, carry_take, carry_write};
-use cilk_machine_plan::{Body, Frame, Plan};
+use cilk_machine_plan::{Body, Did, Done, Frame, NoMemory, Parts, Plan, Writing};
 
 /// Carries out the plan of the frame in the worker's hand, at this choice. The body is the one of the procedure, the
 /// C function or the inlet that the plan starts. Where memory has run out, nothing has changed.

@@ -9,17 +9,14 @@ ghost use Rattle.cilk_machine_plan.specs.frame.Begins.{Takes, starts_with};
 ghost use Rattle.cilk_machine_plan.specs.spawn.Nodes.{node_at, is_live};
 ghost use Rattle.cilk_machine_plan.specs.agree.Outside as outside;
 ghost use Rattle.cilk_machine_plan.specs.declared.plan.Plan.TheVariants as plans;
-ghost use Rattle.cilk_machine_carry.specs.Words.{machine_of, outcome_of};
-ghost use Rattle.cilk_machine_carry.specs.Ready.{CanEnter};
-ghost use Rattle.cilk_machine_carry.specs.Carried.{Carried};
-ghost use Rattle.cilk_machine_carry.specs.Spends.{LeavesTop};
+ghost use Rattle.cilk_machine_plan.specs.PartWords.{machine_of, outcome_of};
+ghost use Rattle.cilk_machine_plan.specs.Ready.{CanEnter};
+ghost use Rattle.cilk_machine_plan.specs.Carried.{Carried};
+ghost use Rattle.cilk_machine_plan.specs.Spends.{LeavesTop};
 
 use crate::acting::acted;
-use crate::did::{Did, Done};
 use crate::given::{Passage, Sender, Start};
-use crate::parts::Parts;
-use crate::spent::Spent;
-use cilk_machine_plan::{Await, Body, Frame};
+use cilk_machine_plan::{Await, Body, Did, Done, Frame, Parts, Spent};
 
 /// An action of the procedure's own clears the flag.
 pub(crate) fn go_on(frame: Frame, to: u32) -> Frame

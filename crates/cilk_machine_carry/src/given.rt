@@ -1,19 +1,12 @@
 //! Values that belong together, as a plan gives them to what carries it out.
 
-use cilk_machine_plan::{Arguments, Body, Ending, Id, Reached};
+use cilk_machine_plan::{Arguments, Body, Ending, Id};
 
 /// Action n is acted, and the activation goes on with the action `to`.
 #[derive(Clone, Copy)]
 pub(crate) struct Passage {
     pub(crate) n: u32,
     pub(crate) to: u32,
-}
-
-/// A cell takes a value.
-#[derive(Clone, Copy)]
-pub struct Writing {
-    pub reached: Reached,
-    pub value: i32,
 }
 
 /// The child whose value is taken, and the number of its spawn.

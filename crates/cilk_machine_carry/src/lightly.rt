@@ -5,17 +5,13 @@ ghost use Rattle.cilk_machine_plan.specs.model.Hands.{IsWorker, hand_of, with_ha
 ghost use Rattle.cilk_machine_plan.specs.frame.Cells.{frame_put, globals_put};
 ghost use Rattle.cilk_machine_plan.specs.agree.Outside as outside;
 ghost use Rattle.cilk_machine_plan.specs.Words.{plan_of};
-ghost use Rattle.cilk_machine_carry.specs.Words.{machine_of};
-ghost use Rattle.cilk_machine_carry.specs.Ready.{Fits, Ready, frame_in};
-ghost use Rattle.cilk_machine_carry.specs.Carried.{Carried};
+ghost use Rattle.cilk_machine_plan.specs.PartWords.{machine_of};
+ghost use Rattle.cilk_machine_plan.specs.Ready.{Fits, Ready, frame_in};
+ghost use Rattle.cilk_machine_plan.specs.Carried.{Carried};
 ghost use Rattle.cilk_machine_carry.specs.Carries.{CanCarry, Carries, Becomes};
-ghost use Rattle.cilk_machine_carry.specs.Spends.{Spends, SpendsIn};
+ghost use Rattle.cilk_machine_plan.specs.Spends.{Spends, SpendsIn};
 
-use crate::did::{Did, Outcome};
-use crate::given::Writing;
-use crate::parts::Parts;
-use crate::spent::Spent;
-use cilk_machine_plan::{Area, Hands, Id, Light};
+use cilk_machine_plan::{Area, Did, Hands, Id, Light, Outcome, Parts, Spent, Writing, write_cell};
 
 /// Carries out the light plan of the frame in the worker's hand, at this choice. It takes no memory, and the program runs on.
 #[inline(always)]
@@ -82,24 +78,5 @@ fn carry_light(worker: u8, id: Id, light: Light, choice: u64, parts: &mut Parts)
             write_cell(worker, writing, &mut parts.globals, &mut parts.hands);
             Did::Acted(id, n)
         }
-    }
-}
-
-/// Writes a cell of the top activation of the frame in the hand, of its procedure's own, or of the top level.
-#[inline(always)]
-pub fn write_cell(worker: u8, writing: Writing, globals: &mut Vec<i32>, hands: &mut Hands)
-    requires worker { IsWorker hands.old worker }
-    requires held { hand_of hands.old worker ≡ Some (frame_in hands.old worker) }
-    requires fits { Fits writing.reached.slot writing.reached.index (frame_in hands.old worker) globals.old.items }
-    ensures hands { hands.new ≡ with_hand hands.old worker
-        (Some (frame_put writing.reached.slot writing.reached.index writing.value (frame_in hands.old worker))) }
-    ensures globals { globals.new.items ≡ globals_put writing.reached.slot writing.reached.index writing.value globals.old.items }
-{
-    let Writing { reached, value } = writing;
-    let cell = reached.slot.offset + reached.index;
-    match reached.slot.area {
-        Area::Own => hands.set_top_cell(worker, cell, value),
-        Area::Outer => hands.set_lowest_cell(worker, cell, value),
-        Area::Global => globals[cell as usize] = value,
     }
 }

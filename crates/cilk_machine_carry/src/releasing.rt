@@ -1,20 +1,18 @@
 //! How locks change: taken and set free by a step, and let go of by an instance that was aborted.
 
-ghost use Rattle.std.specs.Prelude.{◌≡◌, ℕ, Option, None, map, slice_set};
+ghost use Rattle.std.specs.Prelude.{◌≡◌, ℕ, Option, None, map};
 ghost use Rattle.cilk_machine_plan.specs.model.Hands.{IsWorker, hand_of};
 ghost use Rattle.cilk_machine_plan.specs.nodes.declared.body.Body.{Body};
 ghost use Rattle.cilk_machine_plan.specs.agree.Laws.{released};
 ghost use Rattle.cilk_machine_plan.specs.agree.Outside as outside;
 ghost use Rattle.cilk_machine_plan.specs.declared.plan.Plan.TheVariants as plans;
-ghost use Rattle.cilk_machine_carry.specs.Words.{machine_of, outcome_of};
-ghost use Rattle.cilk_machine_carry.specs.Carried.{Carried};
+ghost use Rattle.cilk_machine_plan.specs.PartWords.{machine_of, outcome_of};
+ghost use Rattle.cilk_machine_plan.specs.Carried.{Carried};
 
 use crate::acting::acted;
-use crate::did::Done;
 use crate::entering::go_on;
 use crate::given::Passage;
-use crate::parts::Parts;
-use cilk_machine_plan::{Frame, Id, Lock};
+use cilk_machine_plan::{Done, Frame, Id, Lock, Parts, turn_lock};
 
 /// The locks of an instance that was aborted are free.
 pub(crate) fn release(locks: &mut Vec<Lock>, id: Id)
@@ -32,16 +30,6 @@ fn released(lock: Lock, id: Id) -> Lock
         Lock::Held(holder) => { if holder == id { Lock::Free } else { lock } }
         Lock::Unset => lock,
         Lock::Free => lock,
-    }
-}
-
-/// A lock becomes this.
-pub fn turn_lock(locks: &mut Vec<Lock>, lock: u32, now: Lock)
-    ensures { locks.new.items ≡ slice_set locks.old.items lock now }
-{
-    let place = lock as usize;
-    if place < locks.len() {
-        locks[place] = now;
     }
 }
 

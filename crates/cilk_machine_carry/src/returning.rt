@@ -8,17 +8,16 @@ ghost use Rattle.cilk_machine_plan.specs.spawn.Nodes.{node_at, is_live, has_live
 ghost use Rattle.cilk_machine_plan.specs.agree.Laws.{sent};
 ghost use Rattle.cilk_machine_plan.specs.agree.Outside as outside;
 ghost use Rattle.cilk_machine_plan.specs.declared.plan.Plan.TheVariants as plans;
-ghost use Rattle.cilk_machine_carry.specs.Words.{machine_of, outcome_of};
-ghost use Rattle.cilk_machine_carry.specs.Carried.{Carried, nodes_awake, places_awake, awake_in, value_outcome};
-ghost use Rattle.cilk_machine_carry.specs.Ready.{CanEnd};
-ghost use Rattle.cilk_machine_carry.specs.Spends.{EndsIn};
+ghost use Rattle.cilk_machine_plan.specs.PartWords.{machine_of, outcome_of};
+ghost use Rattle.cilk_machine_plan.specs.Carried.{Carried, nodes_awake, places_awake, awake_in, value_outcome};
+ghost use Rattle.cilk_machine_plan.specs.Ready.{CanEnd};
+ghost use Rattle.cilk_machine_plan.specs.Spends.{EndsIn};
 
-use crate::did::{Did, Done, Outcome};
 use crate::given::End;
-use crate::parts::Parts;
 use crate::releasing::release;
-use crate::spent::Spent;
-use cilk_machine_plan::{Ending, Frame, Hands, Id, Memory, Receiver, Tree};
+use cilk_machine_plan::{
+    Did, Done, Ending, Frame, Hands, Id, Memory, Outcome, Parts, Receiver, Spent, Tree,
+};
 
 /// An instance that was aborted is no more, and its locks are free.
 pub(crate) fn carry_end(worker: u8, frame: Frame, choice: u64, parts: &mut Parts) -> Done

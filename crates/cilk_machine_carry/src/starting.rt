@@ -9,15 +9,13 @@ ghost use Rattle.cilk_machine_plan.specs.frame.Begins.{Takes};
 ghost use Rattle.cilk_machine_plan.specs.agree.Actions.{past_spawn};
 ghost use Rattle.cilk_machine_plan.specs.agree.Outside as outside;
 ghost use Rattle.cilk_machine_plan.specs.declared.plan.Plan.TheVariants as plans;
-ghost use Rattle.cilk_machine_carry.specs.Words.{machine_of, outcome_of};
-ghost use Rattle.cilk_machine_carry.specs.Ready.{CanSpawn};
-ghost use Rattle.cilk_machine_carry.specs.Carried.{Carried, started_as};
+ghost use Rattle.cilk_machine_plan.specs.PartWords.{machine_of, outcome_of};
+ghost use Rattle.cilk_machine_plan.specs.Ready.{CanSpawn};
+ghost use Rattle.cilk_machine_plan.specs.Carried.{Carried, started_as};
 
-use crate::did::{Did, Done};
 use crate::entering::resumed;
 use crate::given::{Passage, Start};
-use crate::parts::Parts;
-use cilk_machine_plan::{Body, Frame, Hands, Id, Receiver, Tree};
+use cilk_machine_plan::{Body, Did, Done, Frame, Hands, Id, Parts, Receiver, Tree};
 use std::alloc::Global;
 
 // A child that starts: its procedure, what takes its value, and its frame.

@@ -8,17 +8,15 @@ ghost use Rattle.cilk_machine_plan.specs.frame.Cells.{frame_put, globals_put};
 ghost use Rattle.cilk_machine_plan.specs.spawn.Nodes.{node_at, is_live};
 ghost use Rattle.cilk_machine_plan.specs.agree.Outside as outside;
 ghost use Rattle.cilk_machine_plan.specs.declared.plan.Plan.TheVariants as plans;
-ghost use Rattle.cilk_machine_carry.specs.Words.{machine_of, outcome_of};
-ghost use Rattle.cilk_machine_carry.specs.Ready.{Fits};
-ghost use Rattle.cilk_machine_carry.specs.Carried.{Carried};
-ghost use Rattle.cilk_machine_carry.specs.Spends.{LeavesTop};
+ghost use Rattle.cilk_machine_plan.specs.PartWords.{machine_of, outcome_of};
+ghost use Rattle.cilk_machine_plan.specs.Ready.{Fits};
+ghost use Rattle.cilk_machine_plan.specs.Carried.{Carried};
+ghost use Rattle.cilk_machine_plan.specs.Spends.{LeavesTop};
 
 use crate::acting::acted;
-use crate::did::{Did, Done, Outcome};
 use crate::entering::{go_on, leave};
-use crate::given::{Passage, Sender, Writing};
-use crate::parts::Parts;
-use cilk_machine_plan::{Area, Frame};
+use crate::given::{Passage, Sender};
+use cilk_machine_plan::{Area, Did, Done, Frame, Outcome, Parts, Writing};
 
 /// The delivery that waits longest is taken: the cell takes the value.
 pub(crate) fn carry_take(

@@ -1,7 +1,7 @@
 -- A cell that a known place reaches is there.
 use Rattle.std.proofs.Common.{◌≡◌, ℕ, ◌<◌, ℤ, pos, negsuc, Bool, true, false, nat_lt, if◌then◌else◌, length, Result, Ok, Err, refl, subst, arith}
 use Rattle.std.proofs.lemmas.Bool.Decides.{Decides-ltb}
-use Rattle.cilk_spawn.specs.eval.Slots.{Cells}
+use Rattle.cilk_spawn.specs.nodes.Areas.{Cells}
 use Rattle.cilk_spawn.specs.labelled.declared.trap.Trap.{Trap}
 use Rattle.cilk_spawn.specs.labelled.declared.trap.Trap.TheVariants as trap
 use Rattle.cilk_spawn.specs.labelled.Value.{value_of, ◌>>=◌}

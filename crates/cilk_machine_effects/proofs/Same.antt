@@ -11,9 +11,9 @@ use Rattle.cilk_spawn.specs.labelled.declared.trap.Trap.TheVariants.{Index}
 use Rattle.cilk_spawn.specs.labelled.Arithmetic.{is_zero}
 use Rattle.cilk_spawn.specs.labelled.Term.{Term, rename}
 use Rattle.cilk_spawn.specs.labelled.Value.{Environment, value_of, values_of, ◌>>=◌}
-use Rattle.cilk_spawn.specs.eval.declared.slot.Slot.{Slot}
-use Rattle.cilk_spawn.specs.eval.Slots.{Cells, slot_cell, sizes_of, LiesWithin, SlotsLieWithin}
-use Rattle.cilk_spawn.specs.eval.Slots as slots
+use Rattle.cilk_spawn.specs.nodes.declared.slot.Slot.{Slot}
+use Rattle.cilk_spawn.specs.nodes.Areas.{Cells, slot_cell, sizes_of, LiesWithin, SlotsLieWithin}
+use Rattle.cilk_spawn.specs.nodes.Areas as slots
 use Rattle.cilk_spawn.specs.labelled.Labelled.{Declaration, local, outer, global, of_lock, of_body, unknown, Variable, Labelled, Target, variable}
 use Rattle.cilk_spawn.specs.labelled.Labelled.{element, Into, Taker, nothing, into, through, Action, assign, call, spawn, print, locking, null}
 use Rattle.cilk_spawn.specs.labelled.Labelled.{break_off, go_round, tests, sync, abort, return_with, return_nothing, close}

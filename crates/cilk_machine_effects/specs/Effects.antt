@@ -5,8 +5,8 @@ use Rattle.cilk_spawn.specs.labelled.declared.trap.Trap.TheVariants.{Index}
 use Rattle.cilk_spawn.specs.labelled.Arithmetic.{is_zero}
 use Rattle.cilk_spawn.specs.labelled.Term.{Term}
 use Rattle.cilk_spawn.specs.labelled.Value.{value_of, values_of, ◌>>=◌}
-use Rattle.cilk_spawn.specs.eval.declared.slot.Slot.{Slot}
-use Rattle.cilk_spawn.specs.eval.Slots.{Cells, environment, slot_cell}
+use Rattle.cilk_spawn.specs.nodes.declared.slot.Slot.{Slot}
+use Rattle.cilk_spawn.specs.nodes.Areas.{Cells, environment, slot_cell}
 use Rattle.cilk_spawn.specs.model.Values.{combined}
 use Rattle.cilk_spawn.specs.model.Printing.{printed}
 use Rattle.cilk_spawn.specs.nodes.declared.slot_place.SlotPlace.{SlotPlace}

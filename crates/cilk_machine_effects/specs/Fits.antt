@@ -2,8 +2,8 @@
 use Rattle.std.specs.Prelude.{⊤, Option, Some, None}
 use Rattle.std.specs.List.{All}
 use Rattle.cilk_spawn.specs.labelled.Term.{Term}
-use Rattle.cilk_spawn.specs.eval.declared.slot.Slot.{Slot}
-use Rattle.cilk_spawn.specs.eval.Slots.{Sizes, LiesWithin, SlotsLieWithin}
+use Rattle.cilk_spawn.specs.nodes.declared.slot.Slot.{Slot}
+use Rattle.cilk_spawn.specs.nodes.Areas.{Sizes, LiesWithin, SlotsLieWithin}
 use Rattle.cilk_spawn.specs.nodes.declared.slot_place.SlotPlace.{SlotPlace}
 use Rattle.cilk_spawn.specs.nodes.declared.target.Target.{Target}
 use Rattle.cilk_spawn.specs.nodes.declared.taker.Taker.{Taker}

@@ -2,7 +2,7 @@
 
 ghost use Rattle.std.specs.Prelude.{◌≡◌, IfOk};
 ghost use Rattle.std.specs.List.{All};
-ghost use Rattle.cilk_spawn.specs.eval.Slots.{cells_of, sizes_of, SlotsLieWithin};
+ghost use Rattle.cilk_spawn.specs.nodes.Areas.{cells_of, sizes_of, SlotsLieWithin};
 ghost use Rattle.cilk_machine_effects.specs.Effects.{written, assigned, awaited, started, effect_in};
 ghost use Rattle.cilk_machine_effects.specs.Fits.{FitsPlace, FitsTarget, FitsTaker, FitsAct};
 

@@ -1,7 +1,7 @@
 //! Laws about effects. The function does nothing: its contract is what is proved.
 
 ghost use Rattle.std.specs.Prelude.{◌≡◌, ℕ, Ok};
-ghost use Rattle.cilk_spawn.specs.eval.Slots.{Cells, sizes_of};
+ghost use Rattle.cilk_spawn.specs.nodes.Areas.{Cells, sizes_of};
 ghost use Rattle.cilk_spawn.specs.labelled.Labelled.{Labelled, Action};
 ghost use Rattle.cilk_spawn.specs.model.Values.{Store, environment};
 ghost use Rattle.cilk_spawn.specs.model.Effect as effect;

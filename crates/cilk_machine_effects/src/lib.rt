@@ -13,9 +13,10 @@ mod values;
 mod written;
 
 pub use bytes::Bytes;
+pub use cilk_eval::{apply, eval};
 pub use cilk_spawn::{
     Action, Area, Arguments, Await, BinOp, Code, LockAction, Memory, Receiver, Slot, SlotPlace,
-    Slots, Taker, Target, Trap, apply, eval,
+    Slots, Taker, Target, Trap,
 };
 pub use effect::Effect;
 pub use effects::{assigned, effect_of};

@@ -9,7 +9,7 @@ ghost use Rattle.cilk_spawn.specs.labelled.Bodies.{label};
 ghost use Rattle.cilk_machine_effects.specs.Heads.{in_nothing, EachOf, LeavesInLoops, GoesOn};
 ghost use Rattle.cilk_spawn.specs.model.Instance.{body_at, Instance};
 ghost use Rattle.cilk_check.specs.scopes.Cells.{max_cells, max_global_cells};
-ghost use Rattle.cilk_spawn.specs.eval.Slots.{Cells};
+ghost use Rattle.cilk_spawn.specs.nodes.Areas.{Cells};
 ghost use Rattle.cilk_spawn.specs.model.Values.{Store, Reached, environment, reached_at};
 ghost use Rattle.cilk_spawn.specs.frame.Cells.{HasCell};
 ghost use Rattle.cilk_spawn.specs.frame.Reads.{Seen};

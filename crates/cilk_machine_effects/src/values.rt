@@ -3,7 +3,7 @@
 ghost use Rattle.std.specs.Prelude.{◌≡◌, ◌<◌, max, IfOk};
 ghost use Rattle.std.specs.List.{All};
 ghost use Rattle.cilk_spawn.specs.labelled.Value.{values_of};
-ghost use Rattle.cilk_spawn.specs.eval.Slots.{cells_of, slot_cell, sizes_of, environment, SlotsLieWithin};
+ghost use Rattle.cilk_spawn.specs.nodes.Areas.{cells_of, slot_cell, sizes_of, environment, SlotsLieWithin};
 ghost use Rattle.cilk_spawn.specs.model.Values as model;
 ghost use Rattle.cilk_machine_effects.specs.Effects.{index_of};
 ghost use Rattle.cilk_machine_effects.specs.Fits.{FitsPlace};

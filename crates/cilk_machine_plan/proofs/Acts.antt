@@ -50,7 +50,7 @@ use Rattle.cilk_machine_plan.specs.Plans.{input_in, step_in, IsPlan}
 use Rattle.cilk_machine_plan.specs.StepInput.{StepInput}
 
 -- the name of a place over slots
-pub slot-named : (slots : Declaration → Rattle.cilk_machine_agree.specs.eval.declared.slot.Slot.Slot)
+pub slot-named : (slots : Declaration → Rattle.cilk_machine_agree.specs.nodes.declared.slot.Slot.Slot)
     (t : Rattle.cilk_machine_agree.specs.labelled.Labelled.Target) → (slotted_place slots t).slot ≡ slots (named_by t)
 slot-named slots (Rattle.cilk_machine_agree.specs.labelled.Labelled.variable d) = refl
 slot-named slots (Rattle.cilk_machine_agree.specs.labelled.Labelled.element d s) = refl
@@ -93,7 +93,7 @@ module _ (t : InHand) (asked : Asked t) (b m : ℕ) where
   abbrev s : state.State
   s = t.at.state
 
-  abbrev slots : Declaration → Rattle.cilk_machine_agree.specs.eval.declared.slot.Slot.Slot
+  abbrev slots : Declaration → Rattle.cilk_machine_agree.specs.nodes.declared.slot.Slot.Slot
   slots = slot_of program b
 
   abbrev env : Environment Declaration

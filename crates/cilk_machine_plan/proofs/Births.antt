@@ -78,7 +78,7 @@ module _ (t : InHand) (asked : Asked t) (b m : ℕ) where
   abbrev s : state.State
   s = t.at.state
 
-  abbrev slots : Declaration → Rattle.cilk_machine_agree.specs.eval.declared.slot.Slot.Slot
+  abbrev slots : Declaration → Rattle.cilk_machine_agree.specs.nodes.declared.slot.Slot.Slot
   slots = slot_of program b
 
   abbrev env : Environment Declaration

@@ -7,7 +7,7 @@ use Rattle.cilk_machine_agree.specs.syntax.Tree as tree
 use Rattle.cilk_machine_agree.specs.syntax.Tree.{Program}
 use Rattle.cilk_machine_agree.specs.syntax.Tree.{Word}
 use Rattle.cilk_machine_agree.specs.labelled.Term.{Term}
-use Rattle.cilk_machine_agree.specs.eval.declared.slot.Slot.{Slot}
+use Rattle.cilk_machine_agree.specs.nodes.declared.slot.Slot.{Slot}
 use Rattle.cilk_machine_agree.specs.labelled.Labelled.{Declaration, Action, assign, call, spawn, print, locking, null, break_off, go_round, tests}
 use Rattle.cilk_machine_agree.specs.labelled.Labelled.{sync, abort, return_with, return_nothing, close}
 use Rattle.cilk_machine_agree.specs.labelled.Labelled.{Numbered, Stmt, action, choose, while, repeat, loop, select, at_label, nested, Stmts, none, also, Body}

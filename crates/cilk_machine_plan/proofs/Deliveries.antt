@@ -1,7 +1,7 @@
 -- A delivery is taken: the plan is the step.
 use Rattle.std.proofs.Common.{◌≡◌, ℕ, suc, ◌<◌, ℤ, List, [], ◌∷◌, length, Some, Result, Ok, Err, refl, sym, ap, ◌∙◌, subst, arith}
 use Rattle.cilk_machine_agree.specs.labelled.declared.trap.Trap.{Trap}
-use Rattle.cilk_machine_agree.specs.eval.Slots.{slot_cell}
+use Rattle.cilk_machine_agree.specs.nodes.Areas.{slot_cell}
 use Rattle.cilk_machine_agree.specs.labelled.Labelled.{Labelled}
 use Rattle.cilk_machine_agree.specs.labelled.Bodies.{label}
 use Rattle.cilk_machine_agree.specs.model.Values.{Reached, combined, cell_of}
@@ -54,7 +54,7 @@ module _ (t : InHand) (asked : Asked t) where
       (λ ms. Rattle.cilk_machine_agree.specs.frame.Stands.lowest_of i.top.body (Rattle.cilk_machine_agree.specs.frame.Stands.bodies_of ms))
       alone
 
-  place-plan : (child : ℕ) (first : Oldest t child) (slot : Rattle.cilk_machine_agree.specs.eval.declared.slot.Slot.Slot) (index : ℕ) (r : Reached)
+  place-plan : (child : ℕ) (first : Oldest t child) (slot : Rattle.cilk_machine_agree.specs.nodes.declared.slot.Slot.Slot) (index : ℕ) (r : Reached)
       → Rattle.cilk_machine_agree.specs.frame.Cells.SameCell program i.top.body slot index r.cell → (n : ℕ) (z : ℤ)
       → step_in t
       ≡ step_by_place s (path_of t) i first.others first.oldest.child r n

@@ -1,4 +1,5 @@
 pub mod Heads
+pub mod Holds
 pub mod Acts
 pub mod Births
 pub mod Gifts

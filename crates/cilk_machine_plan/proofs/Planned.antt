@@ -3,7 +3,7 @@ use Rattle.std.proofs.Common.{◌≡◌, ℕ, ℤ, Bool, true, false, not, ◌&&
 use Rattle.std.proofs.lemmas.Bool.{and_parts}
 use Rattle.cilk_machine_agree.specs.labelled.declared.trap.Trap.{Trap}
 use Rattle.cilk_machine_agree.specs.labelled.Value.{Environment}
-use Rattle.cilk_machine_agree.specs.eval.declared.slot.Slot.{Slot}
+use Rattle.cilk_machine_agree.specs.nodes.declared.slot.Slot.{Slot}
 use Rattle.cilk_machine_agree.specs.labelled.Labelled.{Declaration, Labelled, Action, assign, call, spawn, print, locking, null, break_off, go_round}
 use Rattle.cilk_machine_agree.specs.labelled.Labelled.{tests, sync, abort, return_with, return_nothing, close}
 use Rattle.cilk_machine_agree.specs.labelled.Items.{head_of}

@@ -1,9 +1,13 @@
 pub mod Words
+pub mod PartWords
+pub mod Carried
+pub mod Ready
+pub mod Spends
 pub mod StepInput
 pub mod Made
 pub mod Plans
 pub use Rattle.cilk_machine_agree.specs as agree
-pub use Rattle.cilk_machine_agree.specs.eval
+pub use Rattle.cilk_machine_effects.specs.eval
 pub use Rattle.cilk_machine_agree.specs.frame
 pub use Rattle.cilk_machine_agree.specs.labelled
 pub use Rattle.cilk_machine_agree.specs.model

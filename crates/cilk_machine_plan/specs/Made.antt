@@ -2,7 +2,7 @@
 use Rattle.std.specs.Prelude.{pos, ℕ, ◌+◌, ◌-◌, ◌^◌, ℤ, Bool, true, false, not, ◌&&◌, ◌||◌, nat_lt, nat_le, if◌then◌else◌, List, [], ◌∷◌, length, Option}
 use Rattle.std.specs.Prelude.{Some, None, Result, Ok, Err, unwrap_or}
 use Rattle.cilk_machine_agree.specs.labelled.declared.trap.Trap.{Trap}
-use Rattle.cilk_machine_agree.specs.eval.Slots.{slot_cell}
+use Rattle.cilk_machine_agree.specs.nodes.Areas.{slot_cell}
 use Rattle.cilk_machine_agree.specs.model.Values.{combined}
 use Rattle.cilk_machine_agree.specs.model.Change.{is_function}
 use Rattle.cilk_machine_agree.specs.nodes.declared.body.Body.{Body}

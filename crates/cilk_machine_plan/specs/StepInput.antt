@@ -2,7 +2,7 @@
 use Rattle.std.specs.Prelude.{ℕ, ℤ, Bool, List, ◌==◌}
 use Rattle.std.specs.List.{list_any}
 use Rattle.cilk_machine_agree.specs.syntax.Tree.{Program}
-use Rattle.cilk_machine_agree.specs.eval.Slots.{Cells}
+use Rattle.cilk_machine_agree.specs.nodes.Areas.{Cells}
 use Rattle.cilk_machine_agree.specs.frame.Frames.{Frame, depth, top_of}
 use Rattle.cilk_machine_agree.specs.frame.Reads.{lent}
 use Rattle.cilk_machine_agree.specs.spawn.Nodes.{Node, node_at, is_synched}

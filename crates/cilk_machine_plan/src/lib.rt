@@ -1,10 +1,16 @@
 //! The plan of one step of an instance: what it says, and that it is the step that the definition of runs takes.
 #![tactic(auto)]
 
+mod cell_writing;
+mod did;
 mod laws;
 mod light;
+mod lock_turning;
+mod parts;
 mod plan;
+mod spent;
 
+pub use cell_writing::{Writing, write_cell};
 pub use cilk_machine_agree::{
     Activation, Area, Body, Delivery, Ending, Fate, Frame, Hands, HandsImage, Id, LivingImage,
     Lock, Mixer, Path, Program, Remains, Taken, TrapKind, Tree, TreeImage, Var,
@@ -13,6 +19,10 @@ pub use cilk_machine_effects::{
     Arguments, Await, Bytes, Effect, Memory, Reached, Receiver, Slots, assigned, combined,
     effect_of, held,
 };
+pub use did::{Did, Done, NoMemory, Outcome};
 pub use laws::plans_are_steps;
 pub use light::Light;
+pub use lock_turning::turn_lock;
+pub use parts::Parts;
 pub use plan::Plan;
+pub use spent::Spent;

@@ -10,8 +10,8 @@ use Rattle.cilk_machine_plan.specs.labelled.Labelled.{Labelled, Declaration, loc
 use Rattle.cilk_machine_plan.specs.labelled.Labelled.{Into, Taker, nothing, into, through, Action, assign, call, spawn, print, locking, null, break_off}
 use Rattle.cilk_machine_plan.specs.labelled.Labelled.{go_round, tests, sync, abort, return_with, return_nothing, close}
 use Rattle.cilk_machine_plan.specs.labelled.Bodies.{label}
-use Rattle.cilk_machine_plan.specs.eval.declared.slot.Slot.{Slot}
-use Rattle.cilk_machine_plan.specs.eval.Slots as slots
+use Rattle.cilk_machine_plan.specs.nodes.declared.slot.Slot.{Slot}
+use Rattle.cilk_machine_plan.specs.nodes.Areas as slots
 use Rattle.cilk_machine_plan.specs.model.Path.{Path}
 use Rattle.cilk_machine_plan.specs.model.Values.{Reached, environment, Store}
 use Rattle.cilk_machine_plan.specs.model.Instance as model

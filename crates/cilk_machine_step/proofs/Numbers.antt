@@ -3,10 +3,10 @@ use Rattle.std.proofs.Common.{◌≡◌, ℕ, zero, suc, ◌+◌, ◌<◌, List,
 use Rattle.std.specs.Prelude.{position, unwrap_or, slice_get, slice_index_or, Some, None}
 use Rattle.std.specs.List.{position_or_len}
 use Rattle.std.proofs.lemmas.Bool.{eq-eqb, ne_eqb, lt-ltb}
-use Rattle.cilk_machine_plan.specs.eval.declared.area.Area.{Area}
+use Rattle.cilk_machine_plan.specs.nodes.declared.area.Area.{Area}
 use Rattle.cilk_machine_plan.specs.labelled.Labelled.{Variable, Body}
 use Rattle.cilk_machine_plan.specs.model.Instance.{no_body}
-use Rattle.cilk_machine_plan.specs.eval.declared.area.Area.TheVariants.{Own}
+use Rattle.cilk_machine_plan.specs.nodes.declared.area.Area.TheVariants.{Own}
 use Rattle.cilk_machine_plan.specs.nodes.Bodies.{body_table, vars_from}
 use Rattle.cilk_machine_plan.specs.nodes.Slots.{size_of, slot_from}
 use Rattle.cilk_machine_plan.proofs.frame_laws.SlotLaws.{slot-offset}

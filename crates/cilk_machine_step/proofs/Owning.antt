@@ -7,8 +7,8 @@ use Rattle.cilk_load.specs.labelled.Labelled.{Labelled, Declaration, local, oute
 use Rattle.cilk_load.specs.labelled.Labelled.{Action, assign, call, spawn, print, locking, null, break_off, go_round, tests, sync, abort}
 use Rattle.cilk_load.specs.labelled.Labelled.{return_with, return_nothing, close}
 use Rattle.cilk_load.specs.labelled.Bodies.{label}
-use Rattle.cilk_eval.specs.declared.area.Area.TheVariants.{Own, Outer, Global}
-use Rattle.cilk_eval.specs.declared.slot.Slot.{Slot}
+use Rattle.cilk_machine_plan.specs.nodes.declared.area.Area.TheVariants.{Own, Outer, Global}
+use Rattle.cilk_machine_plan.specs.nodes.declared.slot.Slot.{Slot}
 use Rattle.cilk_machine_plan.specs.syntax.Tree.{Program}
 use Rattle.cilk_machine_plan.specs.model.Values.{Reached}
 use Rattle.cilk_machine_plan.specs.model.Instance.{Instance, body_at}
@@ -41,7 +41,7 @@ use Rattle.cilk_machine_plan.proofs.Gifts.{outer-is}
 use Rattle.cilk_machine_plan.proofs.Heads.{Sound, stands, head-of, head, own_node, node-is, known}
 use Rattle.cilk_machine_plan.proofs.Planned.{leaves-same, sync-same, plan-is}
 use Rattle.cilk_load.specs.labelled.declared.trap.Trap.{Trap}
-use Rattle.cilk_eval.specs.Slots.{slot_cell}
+use Rattle.cilk_machine_plan.specs.nodes.Areas.{slot_cell}
 use Rattle.cilk_machine_plan.specs.model.Values.{combined}
 use Rattle.cilk_machine_plan.specs.effects.declared.reached.Reached as code
 use Rattle.cilk_machine_plan.specs.spawn.Nodes.{has_live_child}

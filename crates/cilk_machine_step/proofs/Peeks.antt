@@ -5,10 +5,11 @@ use Rattle.std.specs.Prelude.{is_some, option_map, slice_get}
 use Rattle.cilk_load.specs.labelled.declared.trap.Trap.{Trap}
 use Rattle.cilk_load.specs.labelled.Term.{Term}
 use Rattle.cilk_load.specs.labelled.Value.{value_of, ◌>>=◌}
-use Rattle.cilk_eval.specs.declared.slot.Slot.{Slot}
-use Rattle.cilk_eval.specs.Known.{is_plain, known, known_of}
+use Rattle.cilk_machine_plan.specs.nodes.declared.slot.Slot.{Slot}
+use Rattle.cilk_eval.specs.Known.{known, known_of}
+use Rattle.cilk_machine_plan.specs.nodes.Reads.{is_plain}
 use Rattle.cilk_eval.proofs.KnownLaws.{plain-value}
-use Rattle.cilk_eval.specs.Slots.{Cells, Sizes, SlotsLieWithin, environment, slot_cell, sizes_of}
+use Rattle.cilk_machine_plan.specs.nodes.Areas.{Cells, Sizes, SlotsLieWithin, environment, slot_cell, sizes_of}
 use Rattle.cilk_machine_plan.specs.model.Values.{combined}
 use Rattle.cilk_machine_plan.specs.nodes.declared.action.Action.{Action}
 use Rattle.cilk_machine_plan.specs.nodes.declared.action.Action.TheVariants.{Assign, Call, Spawn, Print, Locking, Null, Break, Continue, Test, Sync}

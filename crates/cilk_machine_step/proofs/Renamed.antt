@@ -10,9 +10,9 @@ use Rattle.cilk_machine_plan.specs.labelled.Arithmetic.{is_zero}
 use Rattle.cilk_machine_plan.specs.labelled.Term.{Term, number, variable, element, synched, unary, binary, choose, rename}
 use Rattle.cilk_machine_plan.specs.labelled.Value.{Environment, value_of, settled_by_left}
 use Rattle.cilk_machine_plan.specs.labelled.Labelled.{Declaration, Labelled}
-use Rattle.cilk_machine_plan.specs.eval.declared.slot.Slot.{Slot}
-use Rattle.cilk_machine_plan.specs.eval.Slots.{Cells}
-use Rattle.cilk_machine_plan.specs.eval.Slots as slots
+use Rattle.cilk_machine_plan.specs.nodes.declared.slot.Slot.{Slot}
+use Rattle.cilk_machine_plan.specs.nodes.Areas.{Cells}
+use Rattle.cilk_machine_plan.specs.nodes.Areas as slots
 use Rattle.cilk_machine_plan.specs.model.Values.{Store, environment}
 use Rattle.cilk_machine_plan.specs.nodes.Slots.{slot_of}
 use Rattle.cilk_machine_plan.specs.frame.Reads.{IsVariable, IsArray, IsKnown, Seen}

@@ -11,8 +11,8 @@ use Rattle.cilk_machine_plan.specs.labelled.Labelled as labelled
 use Rattle.cilk_machine_plan.specs.labelled.Labelled.{Labelled, Declaration, local, outer, global, of_lock, of_body, unknown, Target, variable, element}
 use Rattle.cilk_machine_plan.specs.labelled.Labelled.{Variable}
 use Rattle.cilk_machine_plan.specs.labelled.Bodies.{label}
-use Rattle.cilk_machine_plan.specs.eval.declared.area.Area.TheVariants.{Own, Outer, Global}
-use Rattle.cilk_machine_plan.specs.eval.declared.slot.Slot.{Slot}
+use Rattle.cilk_machine_plan.specs.nodes.declared.area.Area.TheVariants.{Own, Outer, Global}
+use Rattle.cilk_machine_plan.specs.nodes.declared.slot.Slot.{Slot}
 use Rattle.cilk_machine_plan.specs.model.Path.{Path}
 use Rattle.cilk_machine_plan.specs.model.Instance.{Instance, body_at}
 use Rattle.cilk_machine_plan.specs.model.State.{is_empty}

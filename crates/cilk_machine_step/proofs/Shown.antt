@@ -5,7 +5,7 @@ use Rattle.cilk_machine_plan.specs.labelled.Labelled.{Labelled, Declaration, Act
 use Rattle.cilk_machine_plan.specs.labelled.Labelled.{go_round, tests, sync, abort, return_with, return_nothing, close}
 use Rattle.cilk_machine_plan.specs.labelled.Items.{head_of}
 use Rattle.cilk_machine_plan.specs.labelled.Bodies.{label}
-use Rattle.cilk_machine_plan.specs.eval.declared.slot.Slot.{Slot}
+use Rattle.cilk_machine_plan.specs.nodes.declared.slot.Slot.{Slot}
 use Rattle.cilk_machine_plan.specs.model.Path.{Path}
 use Rattle.cilk_machine_plan.specs.model.Instance as model
 use Rattle.cilk_machine_plan.specs.model.Instance.{Instance}

@@ -3,9 +3,9 @@ use Rattle.std.proofs.Common.{pos, ◌≡◌, ℕ, ℤ, Bool, true, false, not, 
 use Rattle.cilk_load.specs.labelled.declared.trap.Trap.{Trap}
 use Rattle.cilk_load.specs.labelled.Value.{value_of, values_of, ◌>>=◌}
 use Rattle.cilk_load.specs.labelled.Arithmetic.{is_zero}
-use Rattle.cilk_eval.specs.declared.slot.Slot.{Slot}
+use Rattle.cilk_machine_plan.specs.nodes.declared.slot.Slot.{Slot}
 use Rattle.cilk_load.specs.labelled.Term.{Term}
-use Rattle.cilk_eval.specs.Slots.{Cells, environment, slot_cell}
+use Rattle.cilk_machine_plan.specs.nodes.Areas.{Cells, environment, slot_cell}
 use Rattle.cilk_machine_plan.specs.model.Values.{combined}
 use Rattle.cilk_machine_plan.specs.model.Printing.{printed}
 use Rattle.cilk_machine_plan.specs.nodes.declared.action.Action.{Action}

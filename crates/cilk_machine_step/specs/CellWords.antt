@@ -1,6 +1,6 @@
 -- What the code's words for reads and accesses mean.
 use Rattle.std.specs.Prelude.{Bool, List, [], ◌∷◌, map, Option, Some, None}
-use Rattle.cilk_machine_plan.specs.eval.declared.slot.Slot.{Slot}
+use Rattle.cilk_machine_plan.specs.nodes.declared.slot.Slot.{Slot}
 use Rattle.cilk_machine_plan.specs.model.Path.{Path}
 use Rattle.cilk_machine_step.specs.declared.read.Read as coded
 use Rattle.cilk_machine_step.specs.declared.read.Read.TheVariants.{Cell, Synched}

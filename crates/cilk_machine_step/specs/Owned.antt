@@ -1,9 +1,9 @@
 -- The same over slots: which step a scene shows as private.
 use Rattle.std.specs.Prelude.{Bool, true, false, not, ◌&&◌, ◌||◌, Option, Some, None}
 use Rattle.cilk_load.specs.labelled.Term.{Term}
-use Rattle.cilk_eval.specs.declared.area.Area.{Area}
-use Rattle.cilk_eval.specs.declared.area.Area.TheVariants.{Own, Outer, Global}
-use Rattle.cilk_eval.specs.declared.slot.Slot.{Slot}
+use Rattle.cilk_machine_plan.specs.nodes.declared.area.Area.{Area}
+use Rattle.cilk_machine_plan.specs.nodes.declared.area.Area.TheVariants.{Own, Outer, Global}
+use Rattle.cilk_machine_plan.specs.nodes.declared.slot.Slot.{Slot}
 use Rattle.cilk_machine_plan.specs.syntax.Tree.{Program}
 use Rattle.cilk_machine_plan.specs.frame.declared.awaited.Await.{Await}
 use Rattle.cilk_machine_plan.specs.frame.Frames.{top_of}

@@ -4,10 +4,11 @@ use Rattle.cilk_load.specs.labelled.declared.trap.Trap.{Trap}
 use Rattle.cilk_load.specs.labelled.Arithmetic.{is_zero}
 use Rattle.cilk_load.specs.labelled.Term.{Term}
 use Rattle.cilk_load.specs.labelled.Value.{◌>>=◌, value_of}
-use Rattle.cilk_eval.specs.declared.slot.Slot.{Slot}
+use Rattle.cilk_machine_plan.specs.nodes.declared.slot.Slot.{Slot}
 use Rattle.cilk_eval.specs.declared.known.Known.{Known}
-use Rattle.cilk_eval.specs.Known.{is_plain, known, known_of}
-use Rattle.cilk_eval.specs.Slots.{Cells, slot_cell}
+use Rattle.cilk_eval.specs.Known.{known, known_of}
+use Rattle.cilk_machine_plan.specs.nodes.Reads.{is_plain}
+use Rattle.cilk_machine_plan.specs.nodes.Areas.{Cells, slot_cell}
 use Rattle.cilk_machine_plan.specs.model.Path.{Path}
 use Rattle.cilk_machine_plan.specs.syntax.Tree.{Program}
 use Rattle.cilk_machine_plan.specs.model.Values.{combined}

@@ -1,6 +1,6 @@
 -- What a scene shows.
 use Rattle.std.specs.Prelude.{◌≡◌, Bool, true, false, length, Some}
-use Rattle.cilk_eval.specs.Slots.{sizes_of}
+use Rattle.cilk_machine_plan.specs.nodes.Areas.{sizes_of}
 use Rattle.cilk_machine_plan.specs.nodes.declared.action.Action.{Action}
 use Rattle.cilk_machine_plan.specs.nodes.declared.action.Action.TheVariants.{Assign, Call, Spawn, Print, Locking, Null, Break, Continue, Test, Sync}
 use Rattle.cilk_machine_plan.specs.nodes.declared.action.Action.TheVariants.{Abort, Return, ReturnNothing, Close}

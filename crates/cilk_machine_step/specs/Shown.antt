@@ -5,10 +5,10 @@ use Rattle.cilk_machine_plan.specs.labelled.declared.trap.Trap.{Trap}
 use Rattle.cilk_machine_plan.specs.labelled.Term.{Term}
 use Rattle.cilk_machine_plan.specs.labelled.Value.{Environment}
 use Rattle.cilk_machine_plan.specs.syntax.declared.operator.BinOp.{BinOp}
-use Rattle.cilk_machine_plan.specs.eval.declared.area.Area.{Area}
-use Rattle.cilk_machine_plan.specs.eval.declared.area.Area.TheVariants.{Own, Outer, Global}
-use Rattle.cilk_machine_plan.specs.eval.declared.slot.Slot.{Slot}
-use Rattle.cilk_machine_plan.specs.eval.Slots.{environment}
+use Rattle.cilk_machine_plan.specs.nodes.declared.area.Area.{Area}
+use Rattle.cilk_machine_plan.specs.nodes.declared.area.Area.TheVariants.{Own, Outer, Global}
+use Rattle.cilk_machine_plan.specs.nodes.declared.slot.Slot.{Slot}
+use Rattle.cilk_machine_plan.specs.nodes.Areas.{environment}
 use Rattle.cilk_machine_plan.specs.model.Path.{Path}
 use Rattle.cilk_machine_plan.specs.nodes.declared.var.Var.{Var}
 use Rattle.cilk_machine_plan.specs.nodes.declared.body.Body.{Body}

@@ -1,7 +1,7 @@
 //! The head of an instance is acted.
 
 ghost use Rattle.std.specs.Prelude.{◌≡◌, ◌<◌, ◌+◌, ◌&&◌, not, nat_lt, nat_le, length, slice_index_or, Ok, IfOk};
-ghost use Rattle.cilk_eval.specs.Slots.{sizes_of};
+ghost use Rattle.cilk_machine_plan.specs.nodes.Areas.{sizes_of};
 ghost use Rattle.cilk_machine_plan.specs.frame.Frames.{depth};
 ghost use Rattle.cilk_machine_plan.specs.spawn.Nodes.{is_synched};
 ghost use Rattle.cilk_machine_plan.specs.effects.Fits.{FitsAct};

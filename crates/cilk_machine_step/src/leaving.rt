@@ -1,7 +1,7 @@
 //! A body that is left.
 
 ghost use Rattle.std.specs.Prelude.{◌≡◌, ◌<◌, length};
-ghost use Rattle.cilk_eval.specs.Slots.{cells_of};
+ghost use Rattle.cilk_machine_plan.specs.nodes.Areas.{cells_of};
 ghost use Rattle.cilk_machine_plan.specs.nodes.Table.{node_of};
 ghost use Rattle.cilk_machine_plan.specs.nodes.Bodies.{body_of};
 ghost use Rattle.cilk_machine_plan.specs.frame.Frames.{depth, top_of, left};

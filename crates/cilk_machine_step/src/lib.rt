@@ -25,7 +25,7 @@ mod waiting;
 pub use access::{Access, Spot};
 pub use cell_laws::accesses_are_shown;
 pub use cilk_eval::{Code, Known, Listed};
-pub use cilk_load::{LoadFault, Loaded, Memory, Trap, load};
+pub use cilk_load::{Action, LoadFault, Loaded, Memory, Taker, Trap, load};
 pub use cilk_machine_plan::{Light, Path, Plan, TrapKind};
 pub use laws::scenes_fit;
 pub use light::plan_lightly;

@@ -1,7 +1,7 @@
 //! A step that takes no memory, and after which the instance goes on in the same hand.
 
 ghost use Rattle.std.specs.Prelude.{◌≡◌, ◌<◌, ℕ, true, length, Ok, IfOk, IfSome};
-ghost use Rattle.cilk_eval.specs.Slots.{sizes_of, cells_of};
+ghost use Rattle.cilk_machine_plan.specs.nodes.Areas.{sizes_of, cells_of};
 ghost use Rattle.cilk_machine_plan.specs.effects.Effects.{effect_in};
 ghost use Rattle.cilk_machine_plan.specs.effects.declared.effect.Effect.TheVariants.{Gives};
 ghost use Rattle.cilk_machine_plan.specs.effects.Fits.{FitsAct};
@@ -14,7 +14,8 @@ use crate::act::{ends_thread, leaves, next_of};
 use crate::coming::{Coming, comes_next};
 use crate::leaving::given;
 use crate::scene::Scene;
-use cilk_load::{Action, Node, Slots, Trap, eval};
+use cilk_eval::eval;
+use cilk_load::{Action, Node, Slots, Trap};
 use cilk_machine_plan::{Delivery, Light, Plan, Reached, Receiver, assigned, combined, held};
 
 /// The plan of the step of the instance of a frame, where it is a light one that is soon made: an assignment, a test, a

@@ -6,7 +6,7 @@ ghost use Rattle.cilk_machine_step.specs.Scenes.{input_of};
 ghost use Rattle.cilk_machine_step.specs.Shown.{held, held_from};
 
 use crate::scene::Scene;
-use cilk_load_nodes::Memory;
+use cilk_load::Memory;
 use cilk_machine_plan::{Id, Lock};
 use std::alloc::Global;
 

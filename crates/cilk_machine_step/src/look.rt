@@ -1,7 +1,7 @@
 //! What a step evaluates, taken from it beforehand, and its value given back.
 
 ghost use Rattle.std.specs.Prelude.{◌≡◌, ◌<◌, length, option_map, false, Some, Ok, Decides, IfOk, IfErr, IfSome, OnOk};
-ghost use Rattle.cilk_eval.specs.Slots.{sizes_of, SlotsLieWithin};
+ghost use Rattle.cilk_machine_plan.specs.nodes.Areas.{sizes_of, SlotsLieWithin};
 ghost use Rattle.cilk_eval.specs.Known.{known_of};
 ghost use Rattle.cilk_machine_plan.specs.StepInput.{id_of, head_number, cells_in};
 ghost use Rattle.cilk_machine_plan.specs.Made.{by_effect, planned};

@@ -10,7 +10,7 @@ ghost use Rattle.cilk_machine_step.specs.CellWords.{told};
 use crate::access::Access;
 use crate::scene::Scene;
 use crate::touching::{leaves, push_acted, push_taken};
-use cilk_load_nodes::{Action, Memory, Node};
+use cilk_load::{Action, Memory, Node};
 use cilk_machine_plan::Receiver;
 use std::alloc::Global;
 

@@ -1,7 +1,7 @@
 //! Whether a step touches nothing that others see.
 
 ghost use Rattle.std.specs.Prelude.{◌≡◌, ◌<◌, ◌&&◌, length, IfOk};
-ghost use Rattle.cilk_eval.specs.Slots.{sizes_of};
+ghost use Rattle.cilk_machine_plan.specs.nodes.Areas.{sizes_of};
 ghost use Rattle.cilk_machine_plan.specs.StepInput.{id_of, cells_in};
 ghost use Rattle.cilk_machine_plan.specs.frame.Frames.{top_of};
 ghost use Rattle.cilk_machine_plan.specs.effects.Fits.{FitsAct};

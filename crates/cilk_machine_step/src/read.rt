@@ -1,6 +1,6 @@
 //! What an expression reads, by slots.
 
-use cilk_load_nodes::Slot;
+use cilk_load::Slot;
 
 /// A cell that an expression reads.
 #[derive(Clone, Copy)]

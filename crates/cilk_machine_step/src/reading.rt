@@ -3,16 +3,15 @@
 ghost use Rattle.std.specs.Prelude.{◌≡◌, ◌++◌, ◌∷◌, [], map, is_some, Ok, OnOk};
 ghost use Rattle.std.specs.List.{All};
 ghost use Rattle.cilk_machine_plan.specs.labelled.Value.{settled_by_left, value_of};
-ghost use Rattle.cilk_machine_plan.specs.eval.Slots.{SlotsLieWithin, cells_of, environment, sizes_of};
+ghost use Rattle.cilk_machine_plan.specs.nodes.Areas.{SlotsLieWithin, cells_of, environment, sizes_of};
 ghost use Rattle.cilk_machine_plan.specs.effects.Fits.{FitsAct, FitsPlace, FitsTaker, FitsTarget};
 ghost use Rattle.cilk_machine_step.specs.Reads.{element_reads, reads_in, reads_in_all};
 ghost use Rattle.cilk_machine_step.specs.Shown.{act_reads, place_reads, subscript_reads, taker_reads};
 ghost use Rattle.cilk_machine_step.specs.CellWords.{read_of};
 
 use crate::read::Read;
-use cilk_load_nodes::{
-    Action, BinOp, Code, CodeNode, Memory, Slot, SlotPlace, Slots, Taker, Target, eval,
-};
+use cilk_eval::eval;
+use cilk_load::{Action, BinOp, Code, CodeNode, Memory, Slot, SlotPlace, Slots, Taker, Target};
 
 /// Adds what an expression reads, from left to right. `&&`, `||` and `?:` evaluate only the operands that they need.
 #[cycle(push_reads)]

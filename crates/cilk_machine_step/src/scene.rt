@@ -1,7 +1,7 @@
 //! What a step may look at, and not change, while its plan is made.
 
 ghost use Rattle.std.specs.Prelude.{◌≡◌, ◌<◌, length};
-ghost use Rattle.cilk_eval.specs.Slots as slots;
+ghost use Rattle.cilk_machine_plan.specs.nodes.Areas as slots;
 ghost use Rattle.cilk_machine_plan.specs.frame.Frames.{depth};
 ghost use Rattle.cilk_machine_plan.specs.agree.Locks.{is_held_by};
 ghost use Rattle.cilk_machine_plan.specs.StepInput.{id_of, cells_in, holds_lock, is_outer};

@@ -10,7 +10,7 @@ ghost use Rattle.cilk_machine_step.specs.CellWords.{access, listed, read_of, tol
 use crate::access::{Access, Spot};
 use crate::read::Read;
 use crate::scene::Scene;
-use cilk_load_nodes::{Area, BinOp, Memory, Slot, Var};
+use cilk_load::{Area, BinOp, Memory, Slot, Var};
 use cilk_machine_plan::Reached;
 
 // The cell, as an activation sees it that is the procedure's own or not. What a C function or an inlet declares nobody else sees.

@@ -3,7 +3,7 @@
 ghost use Rattle.std.specs.Prelude.{◌≡◌, ◌<◌, ◌++◌, ◌&&◌, length, OnOk};
 ghost use Rattle.cilk_machine_plan.specs.nodes.Bodies.{body_of};
 ghost use Rattle.cilk_machine_plan.specs.nodes.Table.{node_of};
-ghost use Rattle.cilk_machine_plan.specs.eval.Slots.{cells_of, sizes_of};
+ghost use Rattle.cilk_machine_plan.specs.nodes.Areas.{cells_of, sizes_of};
 ghost use Rattle.cilk_machine_plan.specs.effects.Effects.{index_of};
 ghost use Rattle.cilk_machine_plan.specs.effects.Fits.{FitsAct, FitsPlace};
 ghost use Rattle.cilk_machine_plan.specs.frame.Frames.{top_of};
@@ -17,8 +17,8 @@ use crate::access::{Access, Spot};
 use crate::reading::push_action;
 use crate::scene::Scene;
 use crate::spotting::{push_read_cells, push_update};
-use cilk_load::Loaded;
-use cilk_load_nodes::{Action, Memory, Node, Owner, SlotPlace, Slots, Target, Trap, eval};
+use cilk_eval::eval;
+use cilk_load::{Action, Loaded, Memory, Node, Owner, SlotPlace, Slots, Target, Trap};
 use cilk_machine_plan::{Await, Reached, Receiver};
 use std::alloc::Global;
 

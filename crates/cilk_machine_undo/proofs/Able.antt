@@ -5,47 +5,47 @@ use Rattle.std.proofs.Common.{get_or-set_same, get_or-set_other, if◌then◌els
 use Rattle.std.specs.Prelude.{slice_index_or, drop}
 use Rattle.std.proofs.lemmas.Bool.{and_parts}
 use Rattle.std.proofs.Math.Seq.{get_or-append_seam}
-use Rattle.cilk_machine_carry.specs.eval.declared.area.Area.{Area}
-use Rattle.cilk_machine_carry.specs.eval.declared.area.Area.TheVariants.{Own, Outer, Global}
-use Rattle.cilk_machine_carry.specs.eval.declared.slot.Slot.{Slot}
-use Rattle.cilk_machine_carry.specs.eval.Slots.{area_cells}
-use Rattle.cilk_machine_carry.specs.model.Hands.{WorkerOf, IsWorker, hand_of, deque_of, with_hand, with_deque, top_of, bottom_of, below_top, above_bottom}
-use Rattle.cilk_machine_carry.specs.frame.Frames as frames
-use Rattle.cilk_machine_carry.specs.frame.Frames.{Frame, Activation, no_activation, depth, top_place, gone_to, entered, left}
-use Rattle.cilk_machine_carry.specs.frame.Cells.{put_in, globals_in, frame_put, globals_put}
-use Rattle.cilk_machine_carry.specs.frame.Reads.{lent}
-use Rattle.cilk_machine_carry.specs.frame.Begins.{starts_with}
-use Rattle.cilk_machine_carry.specs.spawn.declared.delivery.Delivery.{Delivery}
-use Rattle.cilk_machine_carry.specs.spawn.declared.fate.Fate.{Fate}
-use Rattle.cilk_machine_carry.specs.spawn.declared.fate.Fate.TheVariants.{Returned, Aborted}
-use Rattle.cilk_machine_carry.specs.spawn.declared.receiver.Receiver.{Receiver}
-use Rattle.cilk_machine_carry.specs.spawn.declared.receiver.Receiver.TheVariants.{Nothing}
-use Rattle.cilk_machine_carry.specs.spawn.Kinds.{kind_of}
-use Rattle.cilk_machine_carry.specs.spawn.Nodes.{Node, IsTree, no_node, node_at, lives, is_live, new_child, with_child, with_waiting}
-use Rattle.cilk_machine_carry.specs.spawn.Nodes.{after_taking, value_taken, with_parked, taken, ended, marked_below, has_live_child, delivered, IsBelow}
-use Rattle.cilk_machine_carry.specs.spawn.Dropped.{unborn}
-use Rattle.cilk_machine_carry.specs.spawn.Revived.{alive, revived}
-use Rattle.cilk_machine_carry.specs.agree.Outside as outside
-use Rattle.cilk_machine_carry.specs.agree.Outside.{Outside}
-use Rattle.cilk_machine_carry.specs.agree.Agrees.{MachineParts}
-use Rattle.cilk_machine_carry.specs.agree.Laws.{sent, can_go_on}
-use Rattle.cilk_machine_carry.specs.plans.declared.plan.Plan.TheVariants as plan
-use Rattle.cilk_machine_carry.specs.Ready.{Fits}
-use Rattle.cilk_machine_carry.specs.Carried.{awake_in, nodes_awake, places_awake, handed_back, outside_given}
-use Rattle.cilk_machine_carry.proofs.sched_laws.Seats.{hand-same, workers-of-hand, workers-of-deque}
-use Rattle.cilk_machine_carry.proofs.spawn_laws.Lists.{those_pass}
-use Rattle.cilk_machine_carry.proofs.spawn_laws.Trees.{live_there}
-use Rattle.cilk_machine_carry.proofs.spawn_laws.Grown.{tree_child}
-use Rattle.cilk_machine_carry.proofs.spawn_laws.Children.{parent_in, parent_other, tree_parked, tree_delivered}
-use Rattle.cilk_machine_carry.proofs.spawn_laws.Taking.{still_lives, sender_there}
-use Rattle.cilk_machine_carry.proofs.spawn_laws.Marks.{marked_length}
-use Rattle.cilk_machine_carry.proofs.spawn_laws.Childless.{no_child}
+use Rattle.cilk_machine_plan.specs.nodes.declared.area.Area.{Area}
+use Rattle.cilk_machine_plan.specs.nodes.declared.area.Area.TheVariants.{Own, Outer, Global}
+use Rattle.cilk_machine_plan.specs.nodes.declared.slot.Slot.{Slot}
+use Rattle.cilk_machine_plan.specs.nodes.Areas.{area_cells}
+use Rattle.cilk_machine_plan.specs.model.Hands.{WorkerOf, IsWorker, hand_of, deque_of, with_hand, with_deque, top_of, bottom_of, below_top, above_bottom}
+use Rattle.cilk_machine_plan.specs.frame.Frames as frames
+use Rattle.cilk_machine_plan.specs.frame.Frames.{Frame, Activation, no_activation, depth, top_place, gone_to, entered, left}
+use Rattle.cilk_machine_plan.specs.frame.Cells.{put_in, globals_in, frame_put, globals_put}
+use Rattle.cilk_machine_plan.specs.frame.Reads.{lent}
+use Rattle.cilk_machine_plan.specs.frame.Begins.{starts_with}
+use Rattle.cilk_machine_plan.specs.spawn.declared.delivery.Delivery.{Delivery}
+use Rattle.cilk_machine_plan.specs.spawn.declared.fate.Fate.{Fate}
+use Rattle.cilk_machine_plan.specs.spawn.declared.fate.Fate.TheVariants.{Returned, Aborted}
+use Rattle.cilk_machine_plan.specs.spawn.declared.receiver.Receiver.{Receiver}
+use Rattle.cilk_machine_plan.specs.spawn.declared.receiver.Receiver.TheVariants.{Nothing}
+use Rattle.cilk_machine_plan.specs.spawn.Kinds.{kind_of}
+use Rattle.cilk_machine_plan.specs.spawn.Nodes.{Node, IsTree, no_node, node_at, lives, is_live, new_child, with_child, with_waiting}
+use Rattle.cilk_machine_plan.specs.spawn.Nodes.{after_taking, value_taken, with_parked, taken, ended, marked_below, has_live_child, delivered, IsBelow}
+use Rattle.cilk_machine_plan.specs.spawn.Dropped.{unborn}
+use Rattle.cilk_machine_plan.specs.spawn.Revived.{alive, revived}
+use Rattle.cilk_machine_plan.specs.agree.Outside as outside
+use Rattle.cilk_machine_plan.specs.agree.Outside.{Outside}
+use Rattle.cilk_machine_plan.specs.agree.Agrees.{MachineParts}
+use Rattle.cilk_machine_plan.specs.agree.Laws.{sent, can_go_on}
+use Rattle.cilk_machine_plan.specs.declared.plan.Plan.TheVariants as plan
+use Rattle.cilk_machine_plan.specs.Ready.{Fits}
+use Rattle.cilk_machine_plan.specs.Carried.{awake_in, nodes_awake, places_awake, handed_back, outside_given}
+use Rattle.cilk_machine_plan.proofs.sched_laws.Seats.{hand-same, workers-of-hand, workers-of-deque}
+use Rattle.cilk_machine_plan.proofs.spawn_laws.Lists.{those_pass}
+use Rattle.cilk_machine_plan.proofs.spawn_laws.Trees.{live_there}
+use Rattle.cilk_machine_plan.proofs.spawn_laws.Grown.{tree_child}
+use Rattle.cilk_machine_plan.proofs.spawn_laws.Children.{parent_in, parent_other, tree_parked, tree_delivered}
+use Rattle.cilk_machine_plan.proofs.spawn_laws.Taking.{still_lives, sender_there}
+use Rattle.cilk_machine_plan.proofs.spawn_laws.Marks.{marked_length}
+use Rattle.cilk_machine_plan.proofs.spawn_laws.Childless.{no_child}
 use Rattle.cilk_machine_undo.specs.Frames as change
 use Rattle.cilk_machine_undo.specs.Frames.{Change, held_at}
 use Rattle.cilk_machine_undo.specs.Undo.{Family, Gone, family_before, asleep, unsent_to}
 use Rattle.cilk_machine_undo.specs.Undo as undo
 use Rattle.cilk_machine_undo.specs.Records.{took_of, taken_of, is_new, marked_by, locks_of, is_sent, went_from}
-use Rattle.cilk_machine_carry.specs.Spends.{remains_in}
+use Rattle.cilk_machine_plan.specs.Spends.{remains_in}
 use Rattle.cilk_machine_undo.specs.Able.{FrameAllows, TreeAllows, CanUntake, CanUnmark, CanActBack, CanUnbear, CanPark, CanUnsend, CanRevive}
 use Rattle.cilk_machine_undo.specs.Laws.{PlansCanBeUndone, PopsCanBeUndone, StealsCanBeUndone}
 use Rattle.cilk_machine_undo.proofs.HandsBack.{there-after, hand-awake}

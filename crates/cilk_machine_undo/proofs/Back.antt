@@ -2,7 +2,7 @@
 use Rattle.std.proofs.Common.{◌≡◌, ◌≢◌, ◌<◌, ◌⊎◌, inl, inr, ℕ, zero, suc, Bool, true, false, cond, List, [], ◌∷◌, ◌++◌, length, refl, sym, ap, ◌∙◌}
 use Rattle.std.proofs.Common.{subst, arith, slice_set, length-set, ext_get_or}
 use Rattle.std.specs.Prelude.{slice_index_or}
-use Rattle.cilk_machine_carry.proofs.spawn_laws.Lists.{at_set, those, those_more}
+use Rattle.cilk_machine_plan.proofs.spawn_laws.Lists.{at_set, those, those_more}
 use Rattle.cilk_machine_undo.specs.Writes.{all_set}
 
 -- g makes of what stands there now what stood there; d stands where there is nothing

@@ -2,9 +2,9 @@
 use Rattle.std.proofs.Common.{◌≡◌, ◌<◌, ◌-◌, ◌++◌, ◌∷◌, [], ℕ, ℤ, ap, ◌∙◌, arith, slice_set, length-append}
 use Rattle.std.specs.Prelude.{slice_index_or}
 use Rattle.std.proofs.lemmas.List.{get_or_append_left, set-append_left}
-use Rattle.cilk_machine_carry.specs.eval.declared.area.Area.TheVariants.{Own}
-use Rattle.cilk_machine_carry.specs.frame.Frames.{Frame, Activation, no_activation, depth, top_place, with_cell, put_below, entered}
-use Rattle.cilk_machine_carry.specs.frame.Cells.{put_in}
+use Rattle.cilk_machine_plan.specs.nodes.declared.area.Area.TheVariants.{Own}
+use Rattle.cilk_machine_plan.specs.frame.Frames.{Frame, Activation, no_activation, depth, top_place, with_cell, put_below, entered}
+use Rattle.cilk_machine_plan.specs.frame.Cells.{put_in}
 
 -- a write below the last one
 written-below : (f : Frame) (a : Activation) (i k : ℕ) (z : ℤ) → i < depth f → with_cell i k z (entered a f) ≡ entered a (with_cell i k z f)

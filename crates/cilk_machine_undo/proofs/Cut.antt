@@ -2,12 +2,12 @@
 use Rattle.std.proofs.Common.{◌≡◌, ◌<◌, ◌+◌, ℕ, zero, suc, Bool, true, false, if◌then◌else◌, nat_lt, refl, sym, ap, ◌∙◌}
 use Rattle.std.proofs.Common.{arith}
 use Rattle.std.proofs.lemmas.Bool.Decides.{nat_tests}
-use Rattle.cilk_machine_carry.specs.model.Fate as model
-use Rattle.cilk_machine_carry.specs.runs.FateLaws.{Moves, stays, returns, is_delivered, is_aborted}
-use Rattle.cilk_machine_carry.specs.agree.Fated.{fate_named}
-use Rattle.cilk_machine_carry.specs.spawn.declared.fate.Fate.{Fate}
-use Rattle.cilk_machine_carry.specs.spawn.declared.fate.Fate.TheVariants.{Live, Returned, Delivered, Aborted}
-use Rattle.cilk_machine_carry.specs.spawn.Nodes.{Node, node_at, lives, is_live}
+use Rattle.cilk_machine_plan.specs.model.Fate as model
+use Rattle.cilk_machine_plan.specs.runs.FateLaws.{Moves, stays, returns, is_delivered, is_aborted}
+use Rattle.cilk_machine_plan.specs.agree.Fated.{fate_named}
+use Rattle.cilk_machine_plan.specs.spawn.declared.fate.Fate.{Fate}
+use Rattle.cilk_machine_plan.specs.spawn.declared.fate.Fate.TheVariants.{Live, Returned, Delivered, Aborted}
+use Rattle.cilk_machine_plan.specs.spawn.Nodes.{Node, node_at, lives, is_live}
 use Rattle.cilk_machine_undo.specs.Growth.{cut, IsWithin}
 use Rattle.cilk_machine_undo.specs.GrowthLaws.{TreesAreCut, CutsGoOn, LastTreesTell}
 use Rattle.cilk_machine_undo.proofs.Growth.{same-birth, both-births}

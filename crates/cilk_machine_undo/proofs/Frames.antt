@@ -3,14 +3,14 @@ use Rattle.std.proofs.Common.{◌≡◌, ◌<◌, ◌-◌, ◌+◌, ◌++◌, �
 use Rattle.std.proofs.Common.{slice_set, length-set, length-append, take_at, take_all}
 use Rattle.std.specs.Prelude.{slice_index_or}
 use Rattle.std.proofs.lemmas.List.{take_more}
-use Rattle.cilk_machine_carry.specs.eval.declared.area.Area.{Area}
-use Rattle.cilk_machine_carry.specs.eval.declared.area.Area.TheVariants.{Own, Outer, Global}
-use Rattle.cilk_machine_carry.specs.eval.Slots.{area_cells}
-use Rattle.cilk_machine_carry.specs.effects.declared.reached.Reached.{Reached}
-use Rattle.cilk_machine_carry.specs.frame.Frames.{Frame, Activation, no_activation, activation_at, depth, top_place, top_of, with_cell, gone_to}
-use Rattle.cilk_machine_carry.specs.frame.Frames.{entered, left, stood}
-use Rattle.cilk_machine_carry.specs.frame.Cells.{put_in, globals_in}
-use Rattle.cilk_machine_carry.specs.frame.Reads.{lent}
+use Rattle.cilk_machine_plan.specs.nodes.declared.area.Area.{Area}
+use Rattle.cilk_machine_plan.specs.nodes.declared.area.Area.TheVariants.{Own, Outer, Global}
+use Rattle.cilk_machine_plan.specs.nodes.Areas.{area_cells}
+use Rattle.cilk_machine_plan.specs.effects.declared.reached.Reached.{Reached}
+use Rattle.cilk_machine_plan.specs.frame.Frames.{Frame, Activation, no_activation, activation_at, depth, top_place, top_of, with_cell, gone_to}
+use Rattle.cilk_machine_plan.specs.frame.Frames.{entered, left, stood}
+use Rattle.cilk_machine_plan.specs.frame.Cells.{put_in, globals_in}
+use Rattle.cilk_machine_plan.specs.frame.Reads.{lent}
 use Rattle.cilk_machine_undo.specs.Frames.{held_at, put_at}
 use Rattle.cilk_machine_undo.proofs.Back.{back_at, came_back}
 

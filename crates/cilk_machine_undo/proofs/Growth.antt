@@ -3,22 +3,22 @@ use Rattle.std.proofs.Common.{◌≡◌, ◌+◌, ◌||◌, ◌&&◌, ℕ, ℤ, 
 use Rattle.std.proofs.Common.{Option, Some, None, refl, sym, ap, ◌∙◌, subst, arith, slice_get, slice_set, length-set, length-append}
 use Rattle.std.proofs.lemmas.List.{get_or_append_left}
 use Rattle.std.proofs.Math.Seq.{get_or-append_seam}
-use Rattle.cilk_machine_carry.specs.model.Fate as model
-use Rattle.cilk_machine_carry.specs.runs.FateLaws.{Moves, stays, returns, is_delivered, is_aborted}
-use Rattle.cilk_machine_carry.specs.agree.Fated.{fate_named}
-use Rattle.cilk_machine_carry.specs.agree.Laws.{sent, can_go_on}
-use Rattle.cilk_machine_carry.specs.Carried.{nodes_awake}
-use Rattle.cilk_machine_carry.specs.frame.Frames.{Frame}
-use Rattle.cilk_machine_carry.specs.spawn.declared.delivery.Delivery.{Delivery}
-use Rattle.cilk_machine_carry.specs.spawn.declared.fate.Fate.{Fate}
-use Rattle.cilk_machine_carry.specs.spawn.declared.fate.Fate.TheVariants.{Live, Returned, Delivered, Aborted}
-use Rattle.cilk_machine_carry.specs.spawn.declared.receiver.Receiver.{Receiver}
-use Rattle.cilk_machine_carry.specs.spawn.declared.receiver.Receiver.TheVariants.{Nothing}
-use Rattle.cilk_machine_carry.specs.spawn.Nodes.{Node, IsTree, no_node, node_at, lives, is_live, descends, new_child, with_child, with_waiting}
-use Rattle.cilk_machine_carry.specs.spawn.Nodes.{without_receiver, with_parked, delivery_of, delivered_to, after_taking, value_taken, taken, ended}
-use Rattle.cilk_machine_carry.specs.spawn.Nodes.{marked_below}
-use Rattle.cilk_machine_carry.specs.plans.declared.plan.Plan.TheVariants as plan
-use Rattle.cilk_machine_carry.proofs.spawn_laws.Marks.{marked_node, marked_length}
+use Rattle.cilk_machine_plan.specs.model.Fate as model
+use Rattle.cilk_machine_plan.specs.runs.FateLaws.{Moves, stays, returns, is_delivered, is_aborted}
+use Rattle.cilk_machine_plan.specs.agree.Fated.{fate_named}
+use Rattle.cilk_machine_plan.specs.agree.Laws.{sent, can_go_on}
+use Rattle.cilk_machine_plan.specs.Carried.{nodes_awake}
+use Rattle.cilk_machine_plan.specs.frame.Frames.{Frame}
+use Rattle.cilk_machine_plan.specs.spawn.declared.delivery.Delivery.{Delivery}
+use Rattle.cilk_machine_plan.specs.spawn.declared.fate.Fate.{Fate}
+use Rattle.cilk_machine_plan.specs.spawn.declared.fate.Fate.TheVariants.{Live, Returned, Delivered, Aborted}
+use Rattle.cilk_machine_plan.specs.spawn.declared.receiver.Receiver.{Receiver}
+use Rattle.cilk_machine_plan.specs.spawn.declared.receiver.Receiver.TheVariants.{Nothing}
+use Rattle.cilk_machine_plan.specs.spawn.Nodes.{Node, IsTree, no_node, node_at, lives, is_live, descends, new_child, with_child, with_waiting}
+use Rattle.cilk_machine_plan.specs.spawn.Nodes.{without_receiver, with_parked, delivery_of, delivered_to, after_taking, value_taken, taken, ended}
+use Rattle.cilk_machine_plan.specs.spawn.Nodes.{marked_below}
+use Rattle.cilk_machine_plan.specs.declared.plan.Plan.TheVariants as plan
+use Rattle.cilk_machine_plan.proofs.spawn_laws.Marks.{marked_node, marked_length}
 use Rattle.cilk_machine_undo.specs.Growth.{SameBirth, NodeGrows, Grows, IsUntaken, IsUntakenFirst}
 use Rattle.cilk_machine_undo.specs.GrowthLaws.{PlansGrow, PopsGrow, StealsGrow}
 use Rattle.cilk_machine_undo.specs.Records.{is_sent}

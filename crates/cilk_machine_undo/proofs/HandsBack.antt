@@ -2,15 +2,15 @@
 use Rattle.std.proofs.Common.{◌≡◌, ◌≢◌, ℕ, ◌-◌, List, [], ◌∷◌, ◌++◌, length, Option, Some, None, refl, sym, ap, ◌∙◌, arith, slice_set}
 use Rattle.std.proofs.Common.{option_map, option_to_list}
 use Rattle.std.proofs.lemmas.List.{set_comm}
-use Rattle.cilk_machine_carry.specs.frame.Frames.{Frame}
-use Rattle.cilk_machine_carry.specs.model.Hands.{WorkerOf, no_place, IsWorker, worker_at, hand_of, deque_of, with_hand, with_deque}
-use Rattle.cilk_machine_carry.specs.model.Hands.{top_of, below_top, bottom_of, above_bottom, popped_by, stolen_by, pushed_by}
-use Rattle.cilk_machine_carry.specs.Carried.{places_awake}
-use Rattle.cilk_machine_carry.proofs.frame_laws.Bottoms.{bottom_of-push, above_bottom-push}
-use Rattle.cilk_machine_carry.proofs.sched_laws.Seats.{hand-same, deque-same, hand-kept, deque-kept, workers-of-hand, workers-of-deque}
-use Rattle.cilk_machine_carry.proofs.sched_laws.Seats.{others-of-hand, others-of-deque}
-use Rattle.cilk_machine_carry.proofs.sched_laws.Back.{hand-back}
-use Rattle.cilk_machine_carry.proofs.agree_laws.Frames.{hand-over, seat-over}
+use Rattle.cilk_machine_plan.specs.frame.Frames.{Frame}
+use Rattle.cilk_machine_plan.specs.model.Hands.{WorkerOf, no_place, IsWorker, worker_at, hand_of, deque_of, with_hand, with_deque}
+use Rattle.cilk_machine_plan.specs.model.Hands.{top_of, below_top, bottom_of, above_bottom, popped_by, stolen_by, pushed_by}
+use Rattle.cilk_machine_plan.specs.Carried.{places_awake}
+use Rattle.cilk_machine_plan.proofs.frame_laws.Bottoms.{bottom_of-push, above_bottom-push}
+use Rattle.cilk_machine_plan.proofs.sched_laws.Seats.{hand-same, deque-same, hand-kept, deque-kept, workers-of-hand, workers-of-deque}
+use Rattle.cilk_machine_plan.proofs.sched_laws.Seats.{others-of-hand, others-of-deque}
+use Rattle.cilk_machine_plan.proofs.sched_laws.Back.{hand-back}
+use Rattle.cilk_machine_plan.proofs.agree_laws.Frames.{hand-over, seat-over}
 use Rattle.cilk_machine_undo.proofs.Back.{came_back}
 
 above-and-bottom : (xs : List Frame) → above_bottom xs ++ option_to_list (bottom_of xs) ≡ xs

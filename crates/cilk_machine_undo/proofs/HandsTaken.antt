@@ -1,11 +1,11 @@
 -- A frame in a hand is changed twice, or leaves it for a deque or for the tree.
 use Rattle.std.proofs.Common.{◌≡◌, ◌≢◌, ◌-◌, ◌++◌, ◌∷◌, [], ℕ, List, Option, Some, None, sym, ap, ◌∙◌, arith, slice_set, option_map, option_to_list}
 use Rattle.std.proofs.lemmas.List.{set_comm}
-use Rattle.cilk_machine_carry.specs.frame.Frames.{Frame}
-use Rattle.cilk_machine_carry.specs.model.Hands.{WorkerOf, IsWorker, hand_of, deque_of, with_hand, with_deque, bottom_of, above_bottom}
-use Rattle.cilk_machine_carry.proofs.sched_laws.Seats.{hand-same, deque-kept, others-of-hand, others-of-deque, workers-of-hand}
-use Rattle.cilk_machine_carry.proofs.sched_laws.Back.{hand-back}
-use Rattle.cilk_machine_carry.proofs.agree_laws.Frames.{hand-over, seat-over, set_again}
+use Rattle.cilk_machine_plan.specs.frame.Frames.{Frame}
+use Rattle.cilk_machine_plan.specs.model.Hands.{WorkerOf, IsWorker, hand_of, deque_of, with_hand, with_deque, bottom_of, above_bottom}
+use Rattle.cilk_machine_plan.proofs.sched_laws.Seats.{hand-same, deque-kept, others-of-hand, others-of-deque, workers-of-hand}
+use Rattle.cilk_machine_plan.proofs.sched_laws.Back.{hand-back}
+use Rattle.cilk_machine_plan.proofs.agree_laws.Frames.{hand-over, seat-over, set_again}
 use Rattle.cilk_machine_undo.proofs.HandsBack.{there-after}
 
 module _ (places : List (WorkerOf Frame)) (w : ℕ) (worker : IsWorker places w) where

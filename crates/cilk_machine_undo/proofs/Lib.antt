@@ -7,21 +7,18 @@ pub mod Plans
 pub mod Able
 pub mod HandsTaken
 pub mod Below
-pub mod Callers
 pub mod Listed
 pub mod Noted
-pub mod Undoes
 pub mod Growth
 pub mod Cut
 pub mod Within
-pub use Rattle.cilk_machine_carry.proofs as carries_laws
-pub use Rattle.cilk_machine_carry.proofs.agree_laws
-pub use Rattle.cilk_machine_carry.proofs.effects_laws
-pub use Rattle.cilk_machine_carry.proofs.frame_laws
-pub use Rattle.cilk_machine_carry.proofs.nodes_laws
-pub use Rattle.cilk_machine_carry.proofs.plans_laws
-pub use Rattle.cilk_machine_carry.proofs.runs_laws
-pub use Rattle.cilk_machine_carry.proofs.sched_laws
-pub use Rattle.cilk_machine_carry.proofs.spawn_laws
+pub use Rattle.cilk_machine_plan.proofs as plans_laws
+pub use Rattle.cilk_machine_plan.proofs.agree_laws
+pub use Rattle.cilk_machine_plan.proofs.effects_laws
+pub use Rattle.cilk_machine_plan.proofs.frame_laws
+pub use Rattle.cilk_machine_plan.proofs.nodes_laws
+pub use Rattle.cilk_machine_plan.proofs.runs_laws
+pub use Rattle.cilk_machine_plan.proofs.sched_laws
+pub use Rattle.cilk_machine_plan.proofs.spawn_laws
 pub mod Printed
 pub mod Moments

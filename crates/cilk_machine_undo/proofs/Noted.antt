@@ -1,12 +1,12 @@
 -- What was noted of the frame in the hand was noted of the plan.
 use Rattle.std.proofs.Common.{◌≡◌, ℕ, List, Some, sym, ap, subst}
 use Rattle.std.specs.Prelude.{Result, Ok, Err, IfOk}
-use Rattle.cilk_machine_carry.specs.model.Hands.{WorkerOf, hand_of}
-use Rattle.cilk_machine_carry.specs.frame.Frames.{Frame}
-use Rattle.cilk_machine_carry.specs.agree.Agrees.{MachineParts}
-use Rattle.cilk_machine_carry.specs.plans.declared.plan.Plan.{Plan}
-use Rattle.cilk_machine_carry.specs.declared.did.NoMemory.{NoMemory}
-use Rattle.cilk_machine_carry.specs.Ready.{frame_of, frame_in}
+use Rattle.cilk_machine_plan.specs.model.Hands.{WorkerOf, hand_of}
+use Rattle.cilk_machine_plan.specs.frame.Frames.{Frame}
+use Rattle.cilk_machine_plan.specs.agree.Agrees.{MachineParts}
+use Rattle.cilk_machine_plan.specs.declared.plan.Plan.{Plan}
+use Rattle.cilk_machine_plan.specs.declared.did.NoMemory.{NoMemory}
+use Rattle.cilk_machine_plan.specs.Ready.{frame_of, frame_in}
 use Rattle.cilk_machine_undo.specs.declared.undo.Undo as code
 use Rattle.cilk_machine_undo.specs.Notes.{Notes}
 

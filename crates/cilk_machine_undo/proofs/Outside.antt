@@ -5,14 +5,14 @@ use Rattle.std.specs.Prelude.{slice_index_or, if◌then◌else◌}
 use Rattle.std.proofs.lemmas.List.{length-map}
 use Rattle.std.proofs.Math.ListN.{get_or-map}
 use Rattle.std.proofs.lemmas.Bool.Decides.{nat_tests}
-use Rattle.cilk_machine_carry.specs.effects.declared.reached.Reached.{Reached}
-use Rattle.cilk_machine_carry.specs.frame.Frames.{Frame}
-use Rattle.cilk_machine_carry.specs.frame.Cells.{globals_put}
-use Rattle.cilk_machine_carry.specs.agree.declared.lock.Lock.{Lock}
-use Rattle.cilk_machine_carry.specs.agree.declared.lock.Lock.TheVariants.{Unset, Free, Held}
-use Rattle.cilk_machine_carry.specs.agree.Laws.{released}
-use Rattle.cilk_machine_carry.specs.agree.Outside as outside
-use Rattle.cilk_machine_carry.specs.agree.Outside.{Outside}
+use Rattle.cilk_machine_plan.specs.effects.declared.reached.Reached.{Reached}
+use Rattle.cilk_machine_plan.specs.frame.Frames.{Frame}
+use Rattle.cilk_machine_plan.specs.frame.Cells.{globals_put}
+use Rattle.cilk_machine_plan.specs.agree.declared.lock.Lock.{Lock}
+use Rattle.cilk_machine_plan.specs.agree.declared.lock.Lock.TheVariants.{Unset, Free, Held}
+use Rattle.cilk_machine_plan.specs.agree.Laws.{released}
+use Rattle.cilk_machine_plan.specs.agree.Outside as outside
+use Rattle.cilk_machine_plan.specs.agree.Outside.{Outside}
 use Rattle.cilk_machine_undo.specs.Writes.{all_set}
 use Rattle.cilk_machine_undo.specs.Frames.{held_at}
 use Rattle.cilk_machine_undo.specs.Undo.{outside_before, held_again}

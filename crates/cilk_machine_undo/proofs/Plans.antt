@@ -1,36 +1,36 @@
 -- What a plan changed, its record puts back.
 use Rattle.std.proofs.Common.{◌≡◌, ◌≢◌, ℕ, ℤ, List, [], Option, Some, None, Bool, true, false, length, refl, sym, ap, ◌∙◌, ◌+◌, ◌++◌, map, slice_set}
 use Rattle.std.specs.Prelude.{slice_index_or}
-use Rattle.cilk_machine_carry.specs.model.Hands.{WorkerOf, IsWorker, hand_of, with_hand}
-use Rattle.cilk_machine_carry.specs.frame.Frames.{Frame, top_of, gone_to, left, entered, stood}
-use Rattle.cilk_machine_carry.specs.frame.Cells.{globals_put}
-use Rattle.cilk_machine_carry.specs.frame.Begins.{starts_with}
-use Rattle.cilk_machine_carry.specs.effects.declared.reached.Reached.{Reached}
-use Rattle.cilk_machine_carry.specs.spawn.declared.fate.Fate.{Fate}
-use Rattle.cilk_machine_carry.specs.spawn.declared.fate.Fate.TheVariants.{Returned, Aborted}
-use Rattle.cilk_machine_carry.specs.spawn.Kinds.{kind_of}
-use Rattle.cilk_machine_carry.specs.spawn.Nodes.{Node, is_live, node_at, with_parked, taken, ended, marked_below}
-use Rattle.cilk_machine_carry.specs.spawn.Revived.{revived}
-use Rattle.cilk_machine_carry.specs.agree.Outside as outside
-use Rattle.cilk_machine_carry.specs.agree.Outside.{Outside}
-use Rattle.cilk_machine_carry.specs.agree.Agrees.{MachineParts}
-use Rattle.cilk_machine_carry.specs.agree.Laws.{sent, released}
-use Rattle.cilk_machine_carry.specs.agree.Actions.{past_spawn}
-use Rattle.cilk_machine_carry.specs.agree.declared.lock.Lock.TheVariants.{Unset}
-use Rattle.cilk_machine_carry.specs.plans.declared.plan.Plan.TheVariants as plan
-use Rattle.cilk_machine_carry.specs.Carried.{handed_back, awake_in, nodes_awake, started_as, outside_given}
-use Rattle.cilk_machine_carry.proofs.spawn_laws.Trees.{live_there}
-use Rattle.cilk_machine_carry.proofs.spawn_laws.Children.{parent_other}
+use Rattle.cilk_machine_plan.specs.model.Hands.{WorkerOf, IsWorker, hand_of, with_hand}
+use Rattle.cilk_machine_plan.specs.frame.Frames.{Frame, top_of, gone_to, left, entered, stood}
+use Rattle.cilk_machine_plan.specs.frame.Cells.{globals_put}
+use Rattle.cilk_machine_plan.specs.frame.Begins.{starts_with}
+use Rattle.cilk_machine_plan.specs.effects.declared.reached.Reached.{Reached}
+use Rattle.cilk_machine_plan.specs.spawn.declared.fate.Fate.{Fate}
+use Rattle.cilk_machine_plan.specs.spawn.declared.fate.Fate.TheVariants.{Returned, Aborted}
+use Rattle.cilk_machine_plan.specs.spawn.Kinds.{kind_of}
+use Rattle.cilk_machine_plan.specs.spawn.Nodes.{Node, is_live, node_at, with_parked, taken, ended, marked_below}
+use Rattle.cilk_machine_plan.specs.spawn.Revived.{revived}
+use Rattle.cilk_machine_plan.specs.agree.Outside as outside
+use Rattle.cilk_machine_plan.specs.agree.Outside.{Outside}
+use Rattle.cilk_machine_plan.specs.agree.Agrees.{MachineParts}
+use Rattle.cilk_machine_plan.specs.agree.Laws.{sent, released}
+use Rattle.cilk_machine_plan.specs.agree.Actions.{past_spawn}
+use Rattle.cilk_machine_plan.specs.agree.declared.lock.Lock.TheVariants.{Unset}
+use Rattle.cilk_machine_plan.specs.declared.plan.Plan.TheVariants as plan
+use Rattle.cilk_machine_plan.specs.Carried.{handed_back, awake_in, nodes_awake, started_as, outside_given}
+use Rattle.cilk_machine_plan.proofs.spawn_laws.Trees.{live_there}
+use Rattle.cilk_machine_plan.proofs.spawn_laws.Children.{parent_other}
 use Rattle.cilk_machine_undo.specs.Frames.{Change, frame_before, held_at, put_at}
 use Rattle.cilk_machine_undo.specs.Frames as change
 use Rattle.cilk_machine_undo.specs.Undo.{Undo, Beside, Family, Gone, acted, undone, outside_before, family_before, held_again, asleep, unsent_to, living_on}
 use Rattle.cilk_machine_undo.specs.Undo as undo
 use Rattle.cilk_machine_undo.specs.Records.{went_from, taken_of, marked_by, locks_of, is_sent}
-use Rattle.cilk_machine_carry.specs.Spends.{remains_in}
+use Rattle.cilk_machine_plan.specs.Spends.{remains_in}
 use Rattle.cilk_machine_undo.specs.Laws.{PlansAreUndone, PopsAreUndone, StealsAreUndone}
 use Rattle.cilk_machine_undo.proofs.Frames.{jump-back, put-back, wrote-back, call-back, leave-back}
 use Rattle.cilk_machine_undo.proofs.Outside.{same-back, cell-back, lock-back, printed-back, released-back}
-use Rattle.cilk_machine_carry.proofs.sched_laws.Back.{hand-back, changes-back}
+use Rattle.cilk_machine_plan.proofs.sched_laws.Back.{hand-back, changes-back}
 use Rattle.cilk_machine_undo.proofs.HandsBack.{hand-awake, awake-back, pushed-back, popped-back, stolen-back}
 use Rattle.cilk_machine_undo.proofs.Trees as trees
 

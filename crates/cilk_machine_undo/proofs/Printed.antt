@@ -1,9 +1,9 @@
 -- What a plan leaves of what was printed.
 use Rattle.std.proofs.Common.{ℕ, ℤ, List, [], ◌++◌, Option, Some, None, append-nil, refl, sym}
-use Rattle.cilk_machine_carry.specs.agree.Outside.{Outside}
-use Rattle.cilk_machine_carry.specs.plans.declared.plan.Plan.TheVariants as plan
-use Rattle.cilk_machine_carry.specs.spawn.Nodes.{node_at}
-use Rattle.cilk_machine_carry.specs.Carried.{outside_given}
+use Rattle.cilk_machine_plan.specs.agree.Outside.{Outside}
+use Rattle.cilk_machine_plan.specs.declared.plan.Plan.TheVariants as plan
+use Rattle.cilk_machine_plan.specs.spawn.Nodes.{node_at}
+use Rattle.cilk_machine_plan.specs.Carried.{outside_given}
 use Rattle.cilk_machine_undo.specs.Growth.{Prints}
 use Rattle.cilk_machine_undo.specs.GrowthLaws.{PlansPrint}
 

@@ -3,28 +3,28 @@ use Rattle.std.proofs.Common.{◌≡◌, ◌≢◌, ◌<◌, ◌-◌, ◌+◌, �
 use Rattle.std.proofs.Common.{length-set, length-append, take_at, Option, Some, None, refl, sym, ap, ◌∙◌, subst, arith, inl, inr, slice_get, slice_set}
 use Rattle.std.proofs.Common.{if◌then◌else◌, get_or-set_same, get_or-set_other}
 use Rattle.std.proofs.lemmas.List.{set-append_left, set-get_or, get_or_append_left}
-use Rattle.cilk_machine_carry.specs.model.Hands.{bottom_of, above_bottom}
-use Rattle.cilk_machine_carry.specs.frame.Frames.{Frame}
-use Rattle.cilk_machine_carry.specs.spawn.declared.delivery.Delivery.{Delivery}
-use Rattle.cilk_machine_carry.specs.spawn.declared.fate.Fate.{Fate}
-use Rattle.cilk_machine_carry.specs.spawn.declared.fate.Fate.TheVariants.{Live, Returned, Delivered, Aborted}
-use Rattle.cilk_machine_carry.specs.spawn.declared.receiver.Receiver.{Receiver}
-use Rattle.cilk_machine_carry.specs.spawn.declared.receiver.Receiver.TheVariants.{Nothing}
-use Rattle.cilk_machine_carry.specs.spawn.Nodes.{Node, IsTree, no_node, node_at, lives, is_live, is_live_below, new_child, with_child, with_waiting}
-use Rattle.cilk_machine_carry.specs.spawn.Nodes.{without_receiver, with_fate, with_parked, delivery_of, delivered_to, after_taking, value_taken, taken, ended}
-use Rattle.cilk_machine_carry.specs.spawn.Nodes.{marked_below, marked_at}
-use Rattle.cilk_machine_carry.specs.spawn.Remains.{Remains}
-use Rattle.cilk_machine_carry.specs.spawn.Dropped.{fewer, unborn}
-use Rattle.cilk_machine_carry.specs.spawn.Revived.{alive, revived}
-use Rattle.cilk_machine_carry.specs.spawn.Undone.{given_back, unsent, unmark, unmarked}
-use Rattle.cilk_machine_carry.specs.agree.Laws.{sent, can_go_on}
-use Rattle.cilk_machine_carry.specs.Carried.{nodes_awake, awake_in}
-use Rattle.cilk_machine_carry.proofs.spawn_laws.Children.{parent_in}
-use Rattle.cilk_machine_carry.proofs.spawn_laws.Marks.{marked_node, marked_length}
-use Rattle.cilk_machine_carry.proofs.frame_laws.Bottoms.{bottom_of-push, above_bottom-push}
+use Rattle.cilk_machine_plan.specs.model.Hands.{bottom_of, above_bottom}
+use Rattle.cilk_machine_plan.specs.frame.Frames.{Frame}
+use Rattle.cilk_machine_plan.specs.spawn.declared.delivery.Delivery.{Delivery}
+use Rattle.cilk_machine_plan.specs.spawn.declared.fate.Fate.{Fate}
+use Rattle.cilk_machine_plan.specs.spawn.declared.fate.Fate.TheVariants.{Live, Returned, Delivered, Aborted}
+use Rattle.cilk_machine_plan.specs.spawn.declared.receiver.Receiver.{Receiver}
+use Rattle.cilk_machine_plan.specs.spawn.declared.receiver.Receiver.TheVariants.{Nothing}
+use Rattle.cilk_machine_plan.specs.spawn.Nodes.{Node, IsTree, no_node, node_at, lives, is_live, is_live_below, new_child, with_child, with_waiting}
+use Rattle.cilk_machine_plan.specs.spawn.Nodes.{without_receiver, with_fate, with_parked, delivery_of, delivered_to, after_taking, value_taken, taken, ended}
+use Rattle.cilk_machine_plan.specs.spawn.Nodes.{marked_below, marked_at}
+use Rattle.cilk_machine_plan.specs.spawn.Remains.{Remains}
+use Rattle.cilk_machine_plan.specs.spawn.Dropped.{fewer, unborn}
+use Rattle.cilk_machine_plan.specs.spawn.Revived.{alive, revived}
+use Rattle.cilk_machine_plan.specs.spawn.Undone.{given_back, unsent, unmark, unmarked}
+use Rattle.cilk_machine_plan.specs.agree.Laws.{sent, can_go_on}
+use Rattle.cilk_machine_plan.specs.Carried.{nodes_awake, awake_in}
+use Rattle.cilk_machine_plan.proofs.spawn_laws.Children.{parent_in}
+use Rattle.cilk_machine_plan.proofs.spawn_laws.Marks.{marked_node, marked_length}
+use Rattle.cilk_machine_plan.proofs.frame_laws.Bottoms.{bottom_of-push, above_bottom-push}
 use Rattle.cilk_machine_undo.specs.Undo.{family_before, asleep, unsent_to}
 use Rattle.cilk_machine_undo.specs.Records.{took_of, taken_of, is_new, marked_by, is_sent}
-use Rattle.cilk_machine_carry.specs.Spends.{remains_in}
+use Rattle.cilk_machine_plan.specs.Spends.{remains_in}
 use Rattle.cilk_machine_undo.proofs.Back.{back_at, came_back, changes_swap, back_all, IsIn, Comes, all_back, is_in, passes}
 
 pub born-back : (ns : List Node) (p procedure : ℕ) (receiver : Receiver) → p < length ns → unborn p (with_child ns p procedure receiver) ≡ ns

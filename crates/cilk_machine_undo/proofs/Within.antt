@@ -3,24 +3,24 @@ use Rattle.std.proofs.Common.{◌≡◌, ◌<◌, ◌≤◌, ◌+◌, inl, inr, 
 use Rattle.std.proofs.Common.{Option, Some, None, refl, sym, ap, ◌∙◌, subst, arith, slice_get, length-set, get_or-set_same}
 use Rattle.std.specs.Prelude.{⊤}
 use Rattle.std.proofs.lemmas.Bool.{cases_lt}
-use Rattle.cilk_machine_carry.specs.labelled.Labelled.{Labelled}
-use Rattle.cilk_machine_carry.specs.model.Choice.{Choice}
-use Rattle.cilk_machine_carry.specs.model.Event.{Event, acted, spawned, delivered, returned, ended, trapped, moved}
-use Rattle.cilk_machine_carry.specs.model.Fate as model
-use Rattle.cilk_machine_carry.specs.model.Fate.{fate_by, fate_from, fate_of}
-use Rattle.cilk_machine_carry.specs.model.Path.{Path, same_path}
-use Rattle.cilk_machine_carry.specs.model.Run.{Position, after}
-use Rattle.cilk_machine_carry.specs.runs.FateLaws.{Moves}
-use Rattle.cilk_machine_carry.specs.agree.Fated.{fate_named, Fated}
-use Rattle.cilk_machine_carry.specs.spawn.declared.delivery.Delivery.{Delivery}
-use Rattle.cilk_machine_carry.specs.spawn.declared.fate.Fate.{Fate}
-use Rattle.cilk_machine_carry.specs.spawn.declared.fate.Fate.TheVariants.{Live, Returned, Delivered, Aborted}
-use Rattle.cilk_machine_carry.specs.spawn.Nodes.{Node, IsTree, no_node, node_at, is_live, with_waiting, after_taking, value_taken, taken, path_at}
-use Rattle.cilk_machine_carry.specs.plans.declared.plan.Plan.TheVariants as plan
-use Rattle.cilk_machine_carry.proofs.runs_laws.Events.{told, has_fate}
-use Rattle.cilk_machine_carry.proofs.runs_laws.Fates.{each_choice_is_an_event, fates_move_on}
-use Rattle.cilk_machine_carry.proofs.spawn_laws.Taking.{sender_there, path_taken}
-use Rattle.cilk_machine_carry.proofs.spawn_laws.Trees.{live_there}
+use Rattle.cilk_machine_plan.specs.labelled.Labelled.{Labelled}
+use Rattle.cilk_machine_plan.specs.model.Choice.{Choice}
+use Rattle.cilk_machine_plan.specs.model.Event.{Event, acted, spawned, delivered, returned, ended, trapped, moved}
+use Rattle.cilk_machine_plan.specs.model.Fate as model
+use Rattle.cilk_machine_plan.specs.model.Fate.{fate_by, fate_from, fate_of}
+use Rattle.cilk_machine_plan.specs.model.Path.{Path, same_path}
+use Rattle.cilk_machine_plan.specs.model.Run.{Position, after}
+use Rattle.cilk_machine_plan.specs.runs.FateLaws.{Moves}
+use Rattle.cilk_machine_plan.specs.agree.Fated.{fate_named, Fated}
+use Rattle.cilk_machine_plan.specs.spawn.declared.delivery.Delivery.{Delivery}
+use Rattle.cilk_machine_plan.specs.spawn.declared.fate.Fate.{Fate}
+use Rattle.cilk_machine_plan.specs.spawn.declared.fate.Fate.TheVariants.{Live, Returned, Delivered, Aborted}
+use Rattle.cilk_machine_plan.specs.spawn.Nodes.{Node, IsTree, no_node, node_at, is_live, with_waiting, after_taking, value_taken, taken, path_at}
+use Rattle.cilk_machine_plan.specs.declared.plan.Plan.TheVariants as plan
+use Rattle.cilk_machine_plan.proofs.runs_laws.Events.{told, has_fate}
+use Rattle.cilk_machine_plan.proofs.runs_laws.Fates.{each_choice_is_an_event, fates_move_on}
+use Rattle.cilk_machine_plan.proofs.spawn_laws.Taking.{sender_there, path_taken}
+use Rattle.cilk_machine_plan.proofs.spawn_laws.Trees.{live_there}
 use Rattle.cilk_machine_undo.specs.Growth.{IsWithin, IsUntaken, IsUntakenFirst}
 use Rattle.cilk_machine_undo.specs.GrowthLaws.{FatesStayWithin, FatedAreWithin, ValuesAreTakenOnce}
 use Rattle.cilk_machine_undo.proofs.Trees.{set-part, live-fate}

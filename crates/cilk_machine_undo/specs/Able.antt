@@ -1,16 +1,16 @@
 -- What has to be there for a choice to be taken back. Of the tree it is said of what comes out, which is what was there before the choice.
 use Rattle.std.specs.Prelude.{◌≡◌, ◌≢◌, ◌<◌, ◌-◌, ℕ, ℤ, ⊤, Bool, true, false, List, All, length, Some, None}
-use Rattle.cilk_machine_carry.specs.model.Hands.{WorkerOf, IsWorker, hand_of}
-use Rattle.cilk_machine_carry.specs.effects.declared.reached.Reached.{Reached}
-use Rattle.cilk_machine_carry.specs.frame.Frames.{Frame, Activation, depth, entered}
-use Rattle.cilk_machine_carry.specs.spawn.declared.delivery.Delivery.{Delivery}
-use Rattle.cilk_machine_carry.specs.spawn.declared.fate.Fate.{Fate}
-use Rattle.cilk_machine_carry.specs.spawn.Nodes.{Node, IsTree, node_at, is_live, lives, has_live_child}
-use Rattle.cilk_machine_carry.specs.spawn.Dropped.{unborn}
-use Rattle.cilk_machine_carry.specs.spawn.Revived.{revived}
-use Rattle.cilk_machine_carry.specs.spawn.Undone.{untaken, unsent, unmarked}
-use Rattle.cilk_machine_carry.specs.agree.Agrees.{MachineParts}
-use Rattle.cilk_machine_carry.specs.Ready.{Fits}
+use Rattle.cilk_machine_plan.specs.model.Hands.{WorkerOf, IsWorker, hand_of}
+use Rattle.cilk_machine_plan.specs.effects.declared.reached.Reached.{Reached}
+use Rattle.cilk_machine_plan.specs.frame.Frames.{Frame, Activation, depth, entered}
+use Rattle.cilk_machine_plan.specs.spawn.declared.delivery.Delivery.{Delivery}
+use Rattle.cilk_machine_plan.specs.spawn.declared.fate.Fate.{Fate}
+use Rattle.cilk_machine_plan.specs.spawn.Nodes.{Node, IsTree, node_at, is_live, lives, has_live_child}
+use Rattle.cilk_machine_plan.specs.spawn.Dropped.{unborn}
+use Rattle.cilk_machine_plan.specs.spawn.Revived.{revived}
+use Rattle.cilk_machine_plan.specs.spawn.Undone.{untaken, unsent, unmarked}
+use Rattle.cilk_machine_plan.specs.agree.Agrees.{MachineParts}
+use Rattle.cilk_machine_plan.specs.Ready.{Fits}
 use Rattle.cilk_machine_undo.specs.Frames.{Change, stays, went, wrote, took, called, opened, closed, answered}
 use Rattle.cilk_machine_undo.specs.Undo.{Family, Gone, Undo, asleep, acted, parked, spawned, ended, popped, stolen}
 use Rattle.cilk_machine_undo.specs.Undo as undo

@@ -1,10 +1,10 @@
 -- What a frame in a hand was before a step.
 use Rattle.std.specs.Prelude.{ℕ, ℤ, Bool, true, List}
-use Rattle.cilk_machine_carry.specs.eval.Slots.{slot_cell}
-use Rattle.cilk_machine_carry.specs.effects.declared.reached.Reached.{Reached}
-use Rattle.cilk_machine_carry.specs.frame.Frames.{Frame, Activation, stood, entered, left}
-use Rattle.cilk_machine_carry.specs.frame.Cells.{frame_put}
-use Rattle.cilk_machine_carry.specs.frame.Reads.{lent}
+use Rattle.cilk_machine_plan.specs.nodes.Areas.{slot_cell}
+use Rattle.cilk_machine_plan.specs.effects.declared.reached.Reached.{Reached}
+use Rattle.cilk_machine_plan.specs.frame.Frames.{Frame, Activation, stood, entered, left}
+use Rattle.cilk_machine_plan.specs.frame.Cells.{frame_put}
+use Rattle.cilk_machine_plan.specs.frame.Reads.{lent}
 
 -- what a cell holds that the top activation sees, where those of the top level are these
 abbrev pub held_at : Reached → Frame → List ℤ → ℤ

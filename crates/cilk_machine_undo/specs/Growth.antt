@@ -1,16 +1,16 @@
 -- What only grows: births never change, and of an instance that has ended nothing changes any more but its fate. So its node at an earlier choice is
 -- read off a later tree, by cutting its fate.
 use Rattle.std.specs.Prelude.{◌≡◌, ◌<◌, ◌≤◌, ◌++◌, ℕ, true, false, ⊤, List, length, Some, slice_get}
-use Rattle.cilk_machine_carry.specs.runs.FateLaws.{Moves}
-use Rattle.cilk_machine_carry.specs.agree.Agrees.{MachineParts}
-use Rattle.cilk_machine_carry.specs.agree.Fated.{fate_named}
-pub use Rattle.cilk_machine_carry.specs.spawn.Cut.{SameBirth, cut, cut_node, IsCut}
-use Rattle.cilk_machine_carry.specs.spawn.declared.delivery.Delivery.{Delivery}
-use Rattle.cilk_machine_carry.specs.spawn.declared.fate.Fate.{Fate}
-use Rattle.cilk_machine_carry.specs.spawn.declared.fate.Fate.TheVariants.{Live, Returned, Delivered, Aborted}
-use Rattle.cilk_machine_carry.specs.spawn.Nodes.{Node, node_at, is_live}
-use Rattle.cilk_machine_carry.specs.plans.declared.plan.Plan.{Plan}
-use Rattle.cilk_machine_carry.specs.plans.declared.plan.Plan.TheVariants as plan
+use Rattle.cilk_machine_plan.specs.runs.FateLaws.{Moves}
+use Rattle.cilk_machine_plan.specs.agree.Agrees.{MachineParts}
+use Rattle.cilk_machine_plan.specs.agree.Fated.{fate_named}
+pub use Rattle.cilk_machine_plan.specs.spawn.Cut.{SameBirth, cut, cut_node, IsCut}
+use Rattle.cilk_machine_plan.specs.spawn.declared.delivery.Delivery.{Delivery}
+use Rattle.cilk_machine_plan.specs.spawn.declared.fate.Fate.{Fate}
+use Rattle.cilk_machine_plan.specs.spawn.declared.fate.Fate.TheVariants.{Live, Returned, Delivered, Aborted}
+use Rattle.cilk_machine_plan.specs.spawn.Nodes.{Node, node_at, is_live}
+use Rattle.cilk_machine_plan.specs.declared.plan.Plan.{Plan}
+use Rattle.cilk_machine_plan.specs.declared.plan.Plan.TheVariants as plan
 
 -- what choice n may do to the node of an instance
 pub record NodeGrows (n : ℕ) (old new : Node) : Type 0 where

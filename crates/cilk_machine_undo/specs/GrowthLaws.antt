@@ -1,18 +1,18 @@
 -- Each choice lets the tree grow, and so the last tree tells of those before it what had ended.
 use Rattle.std.specs.Prelude.{◌≡◌, ◌<◌, ◌+◌, ℕ, suc, List, [], ◌∷◌, ◌++◌, length, Option, Some}
-use Rattle.cilk_machine_carry.specs.labelled.Labelled.{Labelled}
-use Rattle.cilk_machine_carry.specs.model.Choice.{Choice}
-use Rattle.cilk_machine_carry.specs.model.Event.{Event}
-use Rattle.cilk_machine_carry.specs.model.Hands.{popped_by, stolen_by}
-use Rattle.cilk_machine_carry.specs.model.Run.{Position, after}
-use Rattle.cilk_machine_carry.specs.nodes.declared.body.Body.{Body}
-use Rattle.cilk_machine_carry.specs.frame.Frames.{Frame}
-use Rattle.cilk_machine_carry.specs.spawn.Nodes.{Node, IsTree}
-use Rattle.cilk_machine_carry.specs.agree.Agrees.{MachineParts}
-use Rattle.cilk_machine_carry.specs.agree.Fated.{Fated}
-use Rattle.cilk_machine_carry.specs.plans.declared.plan.Plan.{Plan}
-use Rattle.cilk_machine_carry.specs.Ready.{Ready}
-use Rattle.cilk_machine_carry.specs.Carried.{after_plan}
+use Rattle.cilk_machine_plan.specs.labelled.Labelled.{Labelled}
+use Rattle.cilk_machine_plan.specs.model.Choice.{Choice}
+use Rattle.cilk_machine_plan.specs.model.Event.{Event}
+use Rattle.cilk_machine_plan.specs.model.Hands.{popped_by, stolen_by}
+use Rattle.cilk_machine_plan.specs.model.Run.{Position, after}
+use Rattle.cilk_machine_plan.specs.nodes.declared.body.Body.{Body}
+use Rattle.cilk_machine_plan.specs.frame.Frames.{Frame}
+use Rattle.cilk_machine_plan.specs.spawn.Nodes.{Node, IsTree}
+use Rattle.cilk_machine_plan.specs.agree.Agrees.{MachineParts}
+use Rattle.cilk_machine_plan.specs.agree.Fated.{Fated}
+use Rattle.cilk_machine_plan.specs.declared.plan.Plan.{Plan}
+use Rattle.cilk_machine_plan.specs.Ready.{Ready}
+use Rattle.cilk_machine_plan.specs.Carried.{after_plan}
 use Rattle.cilk_machine_undo.specs.Growth.{Grows, IsCut, Prints, AreWithin, TakesOnce}
 
 -- whatever plan is carried out

@@ -1,10 +1,10 @@
 -- Worked rows: a tree behind choice 4, the one behind choice 9, and what the later one tells of the earlier.
 use Rattle.std.specs.Prelude.{◌≡◌, refl, ℕ, ℤ, false, List, [], ◌∷◌, Some, None}
-use Rattle.cilk_machine_carry.specs.spawn.declared.delivery.Delivery.{Delivery}
-use Rattle.cilk_machine_carry.specs.spawn.declared.fate.Fate.{Fate}
-use Rattle.cilk_machine_carry.specs.spawn.declared.fate.Fate.TheVariants.{Live, Returned, Delivered, Aborted}
-use Rattle.cilk_machine_carry.specs.spawn.declared.receiver.Receiver.TheVariants.{Nothing}
-use Rattle.cilk_machine_carry.specs.spawn.Nodes.{Node, node_at, taken}
+use Rattle.cilk_machine_plan.specs.spawn.declared.delivery.Delivery.{Delivery}
+use Rattle.cilk_machine_plan.specs.spawn.declared.fate.Fate.{Fate}
+use Rattle.cilk_machine_plan.specs.spawn.declared.fate.Fate.TheVariants.{Live, Returned, Delivered, Aborted}
+use Rattle.cilk_machine_plan.specs.spawn.declared.receiver.Receiver.TheVariants.{Nothing}
+use Rattle.cilk_machine_plan.specs.spawn.Nodes.{Node, node_at, taken}
 use Rattle.cilk_machine_undo.specs.Growth.{cut, cut_node}
 
 abbrev root : ℕ → List Delivery → Node

@@ -1,14 +1,14 @@
 -- What is put back.
 use Rattle.std.specs.Prelude.{◌≡◌, ◌≢◌, ◌<◌, ◌≤◌, ℕ, true, Option, Some, None}
-use Rattle.cilk_machine_carry.specs.model.Hands.{IsWorker, hand_of, deque_of, top_of, bottom_of, popped_by, stolen_by}
-use Rattle.cilk_machine_carry.specs.nodes.declared.body.Body.{Body}
-use Rattle.cilk_machine_carry.specs.frame.Frames.{Frame, depth}
-use Rattle.cilk_machine_carry.specs.spawn.Nodes.{IsTree, node_at, is_live}
-use Rattle.cilk_machine_carry.specs.agree.Outside as outside
-use Rattle.cilk_machine_carry.specs.agree.Agrees.{MachineParts}
-use Rattle.cilk_machine_carry.specs.plans.declared.plan.Plan.{Plan}
-use Rattle.cilk_machine_carry.specs.Ready.{Ready}
-use Rattle.cilk_machine_carry.specs.Carried.{after_plan}
+use Rattle.cilk_machine_plan.specs.model.Hands.{IsWorker, hand_of, deque_of, top_of, bottom_of, popped_by, stolen_by}
+use Rattle.cilk_machine_plan.specs.nodes.declared.body.Body.{Body}
+use Rattle.cilk_machine_plan.specs.frame.Frames.{Frame, depth}
+use Rattle.cilk_machine_plan.specs.spawn.Nodes.{IsTree, node_at, is_live}
+use Rattle.cilk_machine_plan.specs.agree.Outside as outside
+use Rattle.cilk_machine_plan.specs.agree.Agrees.{MachineParts}
+use Rattle.cilk_machine_plan.specs.declared.plan.Plan.{Plan}
+use Rattle.cilk_machine_plan.specs.Ready.{Ready}
+use Rattle.cilk_machine_plan.specs.Carried.{after_plan}
 use Rattle.cilk_machine_undo.specs.Undo.{undone, popped, stolen}
 use Rattle.cilk_machine_undo.specs.Records.{undo_of}
 use Rattle.cilk_machine_undo.specs.Able.{CanTakeBack}

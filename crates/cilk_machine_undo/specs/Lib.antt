@@ -11,16 +11,15 @@ pub mod GrowthLaws
 pub mod GrowthRows
 pub mod Moment
 pub mod MomentLaws
-pub use Rattle.cilk_machine_carry.specs as carries
-pub use Rattle.cilk_machine_carry.specs.agree
-pub use Rattle.cilk_machine_carry.specs.check
-pub use Rattle.cilk_machine_carry.specs.effects
-pub use Rattle.cilk_machine_carry.specs.eval
-pub use Rattle.cilk_machine_carry.specs.frame
-pub use Rattle.cilk_machine_carry.specs.labelled
-pub use Rattle.cilk_machine_carry.specs.nodes
-pub use Rattle.cilk_machine_carry.specs.plans
-pub use Rattle.cilk_machine_carry.specs.runs
-pub use Rattle.cilk_machine_carry.specs.sched
-pub use Rattle.cilk_machine_carry.specs.spawn
-pub use Rattle.cilk_machine_carry.specs.syntax
+pub use Rattle.cilk_machine_plan.specs as plans
+pub use Rattle.cilk_machine_plan.specs.agree
+pub use Rattle.cilk_machine_plan.specs.check
+pub use Rattle.cilk_machine_plan.specs.effects
+pub use Rattle.cilk_machine_plan.specs.eval
+pub use Rattle.cilk_machine_plan.specs.frame
+pub use Rattle.cilk_machine_plan.specs.labelled
+pub use Rattle.cilk_machine_plan.specs.nodes
+pub use Rattle.cilk_machine_plan.specs.runs
+pub use Rattle.cilk_machine_plan.specs.sched
+pub use Rattle.cilk_machine_plan.specs.spawn
+pub use Rattle.cilk_machine_plan.specs.syntax

@@ -1,12 +1,12 @@
 -- What is kept of a machine at one moment, by which the whole of it is told again, where a later one tells what had ended and what was printed.
 use Rattle.std.specs.Prelude.{◌≡◌, ℕ, ℤ, List, length}
-use Rattle.cilk_machine_carry.specs.model.Hands.{WorkerOf}
-use Rattle.cilk_machine_carry.specs.frame.Frames.{Frame}
-use Rattle.cilk_machine_carry.specs.spawn.Cut.{IsCut}
-use Rattle.cilk_machine_carry.specs.spawn.Living.{Living, IsLivingOf}
-use Rattle.cilk_machine_carry.specs.agree.declared.lock.Lock.{Lock}
-use Rattle.cilk_machine_carry.specs.agree.Outside.{running}
-use Rattle.cilk_machine_carry.specs.agree.Agrees.{MachineParts}
+use Rattle.cilk_machine_plan.specs.model.Hands.{WorkerOf}
+use Rattle.cilk_machine_plan.specs.frame.Frames.{Frame}
+use Rattle.cilk_machine_plan.specs.spawn.Cut.{IsCut}
+use Rattle.cilk_machine_plan.specs.spawn.Living.{Living, IsLivingOf}
+use Rattle.cilk_machine_plan.specs.agree.declared.lock.Lock.{Lock}
+use Rattle.cilk_machine_plan.specs.agree.Outside.{running}
+use Rattle.cilk_machine_plan.specs.agree.Agrees.{MachineParts}
 use Rattle.cilk_machine_undo.specs.Growth.{Prints}
 
 pub record Moment : Type 0 where

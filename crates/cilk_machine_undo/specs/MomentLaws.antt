@@ -1,6 +1,6 @@
 -- A machine tells of itself and of those before it what had ended and what was printed, and goes on doing so.
 use Rattle.std.specs.Prelude.{◌<◌, ℕ}
-use Rattle.cilk_machine_carry.specs.agree.Agrees.{MachineParts}
+use Rattle.cilk_machine_plan.specs.agree.Agrees.{MachineParts}
 use Rattle.cilk_machine_undo.specs.Growth.{AreWithin, MachineGrows}
 use Rattle.cilk_machine_undo.specs.Moment.{IsBefore}
 

@@ -1,12 +1,12 @@
 -- What is noted of a step before it is taken.
 use Rattle.std.specs.Prelude.{◌≡◌, ◌<◌, ℕ, ⊤}
-use Rattle.cilk_machine_carry.specs.frame.Frames.{Frame, depth}
-use Rattle.cilk_machine_carry.specs.agree.Agrees.{MachineParts}
-use Rattle.cilk_machine_carry.specs.plans.declared.plan.Plan.{Plan}
-use Rattle.cilk_machine_carry.specs.plans.declared.plan.Plan.TheVariants as plan
-use Rattle.cilk_machine_carry.specs.declared.parts.Parts.{Parts}
-use Rattle.cilk_machine_carry.specs.declared.spent.Spent.{Spent}
-use Rattle.cilk_machine_carry.specs.Spends.{Spends}
+use Rattle.cilk_machine_plan.specs.frame.Frames.{Frame, depth}
+use Rattle.cilk_machine_plan.specs.agree.Agrees.{MachineParts}
+use Rattle.cilk_machine_plan.specs.declared.plan.Plan.{Plan}
+use Rattle.cilk_machine_plan.specs.declared.plan.Plan.TheVariants as plan
+use Rattle.cilk_machine_plan.specs.declared.parts.Parts.{Parts}
+use Rattle.cilk_machine_plan.specs.declared.spent.Spent.{Spent}
+use Rattle.cilk_machine_plan.specs.Spends.{Spends}
 use Rattle.cilk_machine_undo.specs.declared.undo.Undo as code
 use Rattle.cilk_machine_undo.specs.Records.{undo_of}
 use Rattle.cilk_machine_undo.specs.Undo.{Undo, undone}

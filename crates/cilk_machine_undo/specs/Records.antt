@@ -1,16 +1,16 @@
 -- The record of a step, read off the machine before it.
 use Rattle.std.specs.Prelude.{ℕ, ℤ, Bool, false, nat_eq, ◌&&◌, not, List, [], length, Option, None, Some, slice_get, slice_index_or}
 use Rattle.std.specs.List.{filter, range_with_len}
-use Rattle.cilk_machine_carry.specs.frame.Frames.{Frame, top_of, left}
-use Rattle.cilk_machine_carry.specs.spawn.declared.delivery.Delivery.{Delivery}
-use Rattle.cilk_machine_carry.specs.spawn.Nodes.{Node, node_at, takes_value, is_live_below}
-use Rattle.cilk_machine_carry.specs.Spends.{remains_in}
-use Rattle.cilk_machine_carry.specs.agree.declared.lock.Lock.{Lock}
-use Rattle.cilk_machine_carry.specs.agree.declared.lock.Lock.TheVariants.{Unset, Free, Held}
-use Rattle.cilk_machine_carry.specs.agree.Laws.{sent}
-use Rattle.cilk_machine_carry.specs.agree.Agrees.{MachineParts}
-use Rattle.cilk_machine_carry.specs.plans.declared.plan.Plan.{Plan}
-use Rattle.cilk_machine_carry.specs.plans.declared.plan.Plan.TheVariants as plan
+use Rattle.cilk_machine_plan.specs.frame.Frames.{Frame, top_of, left}
+use Rattle.cilk_machine_plan.specs.spawn.declared.delivery.Delivery.{Delivery}
+use Rattle.cilk_machine_plan.specs.spawn.Nodes.{Node, node_at, takes_value, is_live_below}
+use Rattle.cilk_machine_plan.specs.Spends.{remains_in}
+use Rattle.cilk_machine_plan.specs.agree.declared.lock.Lock.{Lock}
+use Rattle.cilk_machine_plan.specs.agree.declared.lock.Lock.TheVariants.{Unset, Free, Held}
+use Rattle.cilk_machine_plan.specs.agree.Laws.{sent}
+use Rattle.cilk_machine_plan.specs.agree.Agrees.{MachineParts}
+use Rattle.cilk_machine_plan.specs.declared.plan.Plan.{Plan}
+use Rattle.cilk_machine_plan.specs.declared.plan.Plan.TheVariants as plan
 use Rattle.cilk_machine_undo.specs.Frames.{Change, held_at}
 use Rattle.cilk_machine_undo.specs.Frames as change
 use Rattle.cilk_machine_undo.specs.Undo.{Undo, Beside, Family, acted, parked, spawned}

@@ -1,21 +1,21 @@
 -- A record of one choice: what stood where the choice changed something. What it makes of the machine behind the choice is the machine before it.
 use Rattle.std.specs.Prelude.{ℕ, ℤ, Bool, true, false, List, ◌++◌, take, Option, None, Some, option_map, option_to_list, slice_set}
-use Rattle.cilk_machine_carry.specs.effects.declared.reached.Reached.{Reached}
-use Rattle.cilk_machine_carry.specs.model.Hands.{hand_of, deque_of, with_hand, with_deque, bottom_of, above_bottom}
-use Rattle.cilk_machine_carry.specs.frame.Frames.{Frame, stood}
-use Rattle.cilk_machine_carry.specs.frame.Cells.{globals_put}
-use Rattle.cilk_machine_carry.specs.spawn.declared.delivery.Delivery.{Delivery}
-use Rattle.cilk_machine_carry.specs.spawn.declared.fate.Fate.{Fate}
-use Rattle.cilk_machine_carry.specs.spawn.Nodes.{Node, node_at, with_parked}
-use Rattle.cilk_machine_carry.specs.spawn.Remains.{Remains}
-use Rattle.cilk_machine_carry.specs.spawn.Dropped.{unborn}
-use Rattle.cilk_machine_carry.specs.spawn.Revived.{revived}
-use Rattle.cilk_machine_carry.specs.spawn.Undone.{untaken, unsent, unmarked}
-use Rattle.cilk_machine_carry.specs.agree.declared.lock.Lock.{Lock}
-use Rattle.cilk_machine_carry.specs.agree.declared.lock.Lock.TheVariants.{Held}
-use Rattle.cilk_machine_carry.specs.agree.Outside as outside
-use Rattle.cilk_machine_carry.specs.agree.Outside.{Outside}
-use Rattle.cilk_machine_carry.specs.agree.Agrees.{MachineParts}
+use Rattle.cilk_machine_plan.specs.effects.declared.reached.Reached.{Reached}
+use Rattle.cilk_machine_plan.specs.model.Hands.{hand_of, deque_of, with_hand, with_deque, bottom_of, above_bottom}
+use Rattle.cilk_machine_plan.specs.frame.Frames.{Frame, stood}
+use Rattle.cilk_machine_plan.specs.frame.Cells.{globals_put}
+use Rattle.cilk_machine_plan.specs.spawn.declared.delivery.Delivery.{Delivery}
+use Rattle.cilk_machine_plan.specs.spawn.declared.fate.Fate.{Fate}
+use Rattle.cilk_machine_plan.specs.spawn.Nodes.{Node, node_at, with_parked}
+use Rattle.cilk_machine_plan.specs.spawn.Remains.{Remains}
+use Rattle.cilk_machine_plan.specs.spawn.Dropped.{unborn}
+use Rattle.cilk_machine_plan.specs.spawn.Revived.{revived}
+use Rattle.cilk_machine_plan.specs.spawn.Undone.{untaken, unsent, unmarked}
+use Rattle.cilk_machine_plan.specs.agree.declared.lock.Lock.{Lock}
+use Rattle.cilk_machine_plan.specs.agree.declared.lock.Lock.TheVariants.{Held}
+use Rattle.cilk_machine_plan.specs.agree.Outside as outside
+use Rattle.cilk_machine_plan.specs.agree.Outside.{Outside}
+use Rattle.cilk_machine_plan.specs.agree.Agrees.{MachineParts}
 use Rattle.cilk_machine_undo.specs.Writes.{all_set}
 use Rattle.cilk_machine_undo.specs.Frames.{Change, frame_before}
 

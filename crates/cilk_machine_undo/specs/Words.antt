@@ -1,14 +1,14 @@
 -- What the records of the code mean.
 use Rattle.std.specs.Prelude.{◌≡◌, ℕ, List, Bool, Option, None, Some}
-use Rattle.cilk_machine_carry.specs.frame.Frames.{Activation}
-use Rattle.cilk_machine_carry.specs.spawn.declared.taken.Taken.{Taken}
-use Rattle.cilk_machine_carry.specs.agree.Outside as outside
-use Rattle.cilk_machine_carry.specs.agree.Agrees.{MachineParts}
-use Rattle.cilk_machine_carry.specs.declared.given.Writing.{Writing}
-use Rattle.cilk_machine_carry.specs.declared.parts.Parts.{Parts}
-use Rattle.cilk_machine_carry.specs.declared.spent.Spent.{Spent}
-use Rattle.cilk_machine_carry.specs.declared.spent.Spent.TheVariants as spent
-use Rattle.cilk_machine_carry.specs.Words.{machine_of}
+use Rattle.cilk_machine_plan.specs.frame.Frames.{Activation}
+use Rattle.cilk_machine_plan.specs.spawn.declared.taken.Taken.{Taken}
+use Rattle.cilk_machine_plan.specs.agree.Outside as outside
+use Rattle.cilk_machine_plan.specs.agree.Agrees.{MachineParts}
+use Rattle.cilk_machine_plan.specs.declared.cell_writing.Writing.{Writing}
+use Rattle.cilk_machine_plan.specs.declared.parts.Parts.{Parts}
+use Rattle.cilk_machine_plan.specs.declared.spent.Spent.{Spent}
+use Rattle.cilk_machine_plan.specs.declared.spent.Spent.TheVariants as spent
+use Rattle.cilk_machine_plan.specs.PartWords.{machine_of}
 use Rattle.cilk_machine_undo.specs.declared.undo.Ended.{Ended}
 use Rattle.cilk_machine_undo.specs.declared.undo.Stood.{Stood}
 use Rattle.cilk_machine_undo.specs.declared.undo.Undo as code

@@ -7,7 +7,7 @@ ghost use Rattle.cilk_machine_undo.specs.Able.{CanActBack};
 ghost use Rattle.cilk_machine_undo.specs.Words.{went_by, cell_by, machine_in, IsTakenBack};
 
 use crate::undo::Stood;
-use cilk_machine_carry::{Id, Lock, Parts, Writing, turn_lock, write_cell};
+use cilk_machine_plan::{Id, Lock, Parts, Writing, turn_lock, write_cell};
 
 /// The activation goes on where it stood.
 pub(crate) fn went_back(stood: Stood, parts: &mut Parts)

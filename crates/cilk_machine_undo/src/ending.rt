@@ -1,17 +1,17 @@
 //! An instance that ended lives again.
 
 ghost use Rattle.std.specs.Prelude.{◌≡◌, ◌<◌, ℕ, true, Some, None, length, slice_set, OnErr, OnOk};
-ghost use Rattle.cilk_machine_carry.specs.model.Hands.{IsWorker, hand_of, with_hand};
-ghost use Rattle.cilk_machine_carry.specs.frame.Frames.{Frame};
-ghost use Rattle.cilk_machine_carry.specs.spawn.Nodes.{node_at};
-ghost use Rattle.cilk_machine_carry.specs.agree.declared.lock.Lock.TheVariants as lock;
+ghost use Rattle.cilk_machine_plan.specs.model.Hands.{IsWorker, hand_of, with_hand};
+ghost use Rattle.cilk_machine_plan.specs.frame.Frames.{Frame};
+ghost use Rattle.cilk_machine_plan.specs.spawn.Nodes.{node_at};
+ghost use Rattle.cilk_machine_plan.specs.agree.declared.lock.Lock.TheVariants as lock;
 ghost use Rattle.cilk_machine_undo.specs.Writes.{all_set};
 ghost use Rattle.cilk_machine_undo.specs.Undo.{held_again, asleep, unsent_to};
 ghost use Rattle.cilk_machine_undo.specs.Able.{CanPark, CanUnsend, CanLiveOn, CanTakeBack};
 ghost use Rattle.cilk_machine_undo.specs.Words.{ended_by, machine_in, IsTakenBack};
 
 use crate::undo::{Ended, Gone};
-use cilk_machine_carry::{Frame, Hands, Id, Lock, NoMemory, Parts, Tree};
+use cilk_machine_plan::{Frame, Hands, Id, Lock, NoMemory, Parts, Tree};
 
 /// The instance lives again, and its frame is in the hand; a parent that had come to the hand is parked again. Where memory
 /// has run out, nothing has changed.

@@ -4,10 +4,10 @@ ghost use Rattle.std.specs.Prelude.{◌≡◌};
 ghost use Rattle.cilk_machine_undo.specs.Words.{undo_by, undo_with, activation_with, ended_with};
 
 use crate::undo::{Ended, Undo};
-use cilk_machine_carry::{Activation, Spent};
+use cilk_machine_plan::{Activation, Spent};
 
 /// The record of a step, with what the step moved out of the machine.
-pub(crate) fn fill(undo: Undo, spent: Spent) -> Undo
+pub fn fill(undo: Undo, spent: Spent) -> Undo
     ensures { undo_by result ≡ undo_with undo spent }
 {
     match undo {

@@ -2,7 +2,6 @@
 #![tactic(auto)]
 
 mod acting;
-mod carrying;
 mod ending;
 mod filling;
 mod growth_laws;
@@ -19,17 +18,19 @@ mod taking;
 mod undo;
 mod undoing;
 
-pub use carrying::{carry_lightly_noted, carry_out_noted};
-pub use cilk_machine_carry::{
-    Body, Did, Done, Fate, Frame, Hands, Id, Lock, Mixer, NoMemory, Outcome, Parts, Program, Spent,
-    Tree, Var, carry_lightly, carry_out,
+pub use cilk_machine_plan::{
+    Body, Did, Done, Fate, Frame, Hands, Id, Light, Lock, Mixer, NoMemory, Outcome, Parts, Plan,
+    Program, Spent, Tree, Var,
 };
+pub use filling::fill;
 pub use growth_laws::{
     ended_are_cut, fates_are_within, moves_grow, plans_grow, plans_print, values_are_taken_once,
 };
 pub use laws::{moves_are_undone, plans_are_undone, plans_can_be_undone};
 pub use moment::Moment;
 pub use moment_laws::moments_are_told;
+pub use noting::{note, note_lightly};
 pub use parts_image::PartsImage;
+pub use reading::depth_in_hand;
 pub use undo::{Ended, Gone, Stood, Undo};
 pub use undoing::take_back;

@@ -1,10 +1,10 @@
 //! The instances that an `abort` will mark, and the locks that an instance holds, listed before a step.
 
 ghost use Rattle.std.specs.Prelude.{◌≡◌, ◌<◌, ◌++◌, ◌∷◌, [], cond, length, IfOk, OnOk};
-ghost use Rattle.cilk_machine_carry.specs.spawn.Nodes.{descends};
+ghost use Rattle.cilk_machine_plan.specs.spawn.Nodes.{descends};
 ghost use Rattle.cilk_machine_undo.specs.Records.{is_held_by, is_new, locks_of, marked_by};
 
-use cilk_machine_carry::{Fate, Id, Lock, NoMemory, Tree};
+use cilk_machine_plan::{Fate, Id, Lock, NoMemory, Tree};
 use std::alloc::Global;
 
 /// The locks that the instance holds.

@@ -1,11 +1,11 @@
 //! What parts were at one moment, as plain data, without what later parts tell as well.
 
 ghost use Rattle.std.specs.Prelude.{◌≡◌, IfOk};
-ghost use Rattle.cilk_machine_carry.specs.agree.Agrees.{MachineParts};
+ghost use Rattle.cilk_machine_plan.specs.agree.Agrees.{MachineParts};
 ghost use Rattle.cilk_machine_undo.specs.Moment.{IsMomentOf, IsBefore, WasMoment, running_as};
 ghost use Rattle.cilk_machine_undo.specs.Words.{machine_in};
 
-use cilk_machine_carry::{Hands, HandsImage, LivingImage, Lock, Memory, Parts, Spent, Tree};
+use cilk_machine_plan::{Hands, HandsImage, LivingImage, Lock, Memory, Parts, Spent, Tree};
 use std::marker::Model;
 
 /// What parts were at one moment. What had ended then and what was printed takes no memory here, however long the program ran:

@@ -6,7 +6,7 @@ ghost use Rattle.cilk_machine_undo.specs.Able.{CanUnpark, CanUnbear, CanPopBack,
 ghost use Rattle.cilk_machine_undo.specs.Words.{machine_in, IsTakenBack};
 
 use crate::undo::Stood;
-use cilk_machine_carry::{Id, NoMemory, Parts};
+use cilk_machine_plan::{Id, NoMemory, Parts};
 
 /// The frame of an instance that was parked is in the hand.
 pub(crate) fn parked_back(worker: u8, id: Id, parts: &mut Parts)

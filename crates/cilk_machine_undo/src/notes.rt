@@ -1,21 +1,21 @@
 //! What is noted of each plan: the frame is in the worker's hand.
 
 ghost use Rattle.std.specs.Prelude.{◌≡◌, ◌<◌, ℕ, ℤ, true, List, Option, IfOk};
-ghost use Rattle.cilk_machine_carry.specs.frame.declared.awaited.Await as awaits;
-ghost use Rattle.cilk_machine_carry.specs.frame.Frames as frames;
-ghost use Rattle.cilk_machine_carry.specs.frame.Frames.{depth};
-ghost use Rattle.cilk_machine_carry.specs.spawn.declared.receiver.Receiver as receivers;
-ghost use Rattle.cilk_machine_carry.specs.spawn.Nodes.{node_at, is_live};
-ghost use Rattle.cilk_machine_carry.specs.agree.declared.lock.Lock as locks;
-ghost use Rattle.cilk_machine_carry.specs.agree.Agrees.{MachineParts};
-ghost use Rattle.cilk_machine_carry.specs.plans.declared.plan.Plan.TheVariants as plans;
+ghost use Rattle.cilk_machine_plan.specs.frame.declared.awaited.Await as awaits;
+ghost use Rattle.cilk_machine_plan.specs.frame.Frames as frames;
+ghost use Rattle.cilk_machine_plan.specs.frame.Frames.{depth};
+ghost use Rattle.cilk_machine_plan.specs.spawn.declared.receiver.Receiver as receivers;
+ghost use Rattle.cilk_machine_plan.specs.spawn.Nodes.{node_at, is_live};
+ghost use Rattle.cilk_machine_plan.specs.agree.declared.lock.Lock as locks;
+ghost use Rattle.cilk_machine_plan.specs.agree.Agrees.{MachineParts};
+ghost use Rattle.cilk_machine_plan.specs.declared.plan.Plan.TheVariants as plans;
 ghost use Rattle.cilk_machine_undo.specs.Notes.{Notes};
 ghost use Rattle.cilk_machine_undo.specs.Words.{machine_in};
 
 use crate::listing::{locks_held, newly_marked};
 use crate::reading::{held_below, held_in, is_sent, lock_at, next_taken, stood_in};
 use crate::undo::{Gone, Undo};
-use cilk_machine_carry::{Frame, NoMemory, Parts, Reached, Writing};
+use cilk_machine_plan::{Frame, NoMemory, Parts, Reached, Writing};
 
 pub(crate) fn note_go(worker: u8, frame: &Frame) -> Undo
     ensures { (m : MachineParts) (n to : ℕ) → Notes m worker frame.now (plans.Go n to) result }

@@ -1,10 +1,10 @@
 //! The record of a step is read off the machine before it. What the step will move out of the machine is not there yet.
 
 ghost use Rattle.std.specs.Prelude.{◌≡◌, true, Some, IfOk};
-ghost use Rattle.cilk_machine_carry.specs.model.Hands.{IsWorker, hand_of};
-ghost use Rattle.cilk_machine_carry.specs.spawn.Nodes.{node_at, is_live};
-ghost use Rattle.cilk_machine_carry.specs.plans.Words.{plan_of};
-ghost use Rattle.cilk_machine_carry.specs.Ready.{frame_in};
+ghost use Rattle.cilk_machine_plan.specs.model.Hands.{IsWorker, hand_of};
+ghost use Rattle.cilk_machine_plan.specs.spawn.Nodes.{node_at, is_live};
+ghost use Rattle.cilk_machine_plan.specs.Words.{plan_of};
+ghost use Rattle.cilk_machine_plan.specs.Ready.{frame_in};
 ghost use Rattle.cilk_machine_undo.specs.Notes.{Notes, HasCaller};
 ghost use Rattle.cilk_machine_undo.specs.Words.{machine_in};
 
@@ -13,10 +13,10 @@ use crate::notes::{
     note_print, note_return, note_spawn, note_take, note_turn, note_write,
 };
 use crate::undo::Undo;
-use cilk_machine_carry::{Light, NoMemory, Parts, Plan};
+use cilk_machine_plan::{Light, NoMemory, Parts, Plan};
 
 /// The record of the step of a light plan.
-pub(crate) fn note_lightly(worker: u8, light: &Light, parts: &Parts) -> Result<Undo, NoMemory>
+pub fn note_lightly(worker: u8, light: &Light, parts: &Parts) -> Result<Undo, NoMemory>
     requires worker { IsWorker parts.now.hands worker }
     requires held { hand_of parts.now.hands worker ≡ Some (frame_in parts.now.hands worker) }
     requires live { is_live (node_at parts.now.tree.nodes (frame_in parts.now.hands worker).id) ≡ true }
@@ -50,7 +50,7 @@ pub(crate) fn note_lightly(worker: u8, light: &Light, parts: &Parts) -> Result<U
 }
 
 /// The record of the step of any plan.
-pub(crate) fn note(worker: u8, plan: &Plan, parts: &Parts) -> Result<Undo, NoMemory>
+pub fn note(worker: u8, plan: &Plan, parts: &Parts) -> Result<Undo, NoMemory>
     requires worker { IsWorker parts.now.hands worker }
     requires held { hand_of parts.now.hands worker ≡ Some (frame_in parts.now.hands worker) }
     requires live { is_live (node_at parts.now.tree.nodes (frame_in parts.now.hands worker).id) ≡ true }

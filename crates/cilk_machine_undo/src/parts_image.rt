@@ -3,7 +3,7 @@
 ghost use Rattle.std.specs.Prelude.{◌≡◌, IfOk};
 ghost use Rattle.cilk_machine_undo.specs.Words.{machine_in};
 
-use cilk_machine_carry::{Hands, HandsImage, Lock, Memory, Parts, Spent, Tree, TreeImage};
+use cilk_machine_plan::{Hands, HandsImage, Lock, Memory, Parts, Spent, Tree, TreeImage};
 use std::marker::Model;
 
 /// What parts were, from which parts are made again. It shares no frame with them.
@@ -29,8 +29,8 @@ impl Drop for PartsImage {
 }
 
 impl Model for PartsImage {
-    ghost use Rattle.cilk_machine_carry.specs.agree.Agrees.{MachineParts};
-    ghost use Rattle.cilk_machine_carry.specs.agree.Outside as outside;
+    ghost use Rattle.cilk_machine_plan.specs.agree.Agrees.{MachineParts};
+    ghost use Rattle.cilk_machine_plan.specs.agree.Outside as outside;
 
     ghost Value = { MachineParts };
 

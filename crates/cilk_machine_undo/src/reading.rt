@@ -1,22 +1,22 @@
 //! What stands in a frame and beside it, read before a step.
 
 ghost use Rattle.std.specs.Prelude.{◌≡◌, ◌<◌, ◌≤◌, true, Some, length, slice_index_or, IfOk};
-ghost use Rattle.cilk_machine_carry.specs.spawn.Nodes.{node_at, is_live};
-ghost use Rattle.cilk_machine_carry.specs.agree.declared.lock.Lock.TheVariants as lock;
-ghost use Rattle.cilk_machine_carry.specs.model.Hands.{IsWorker, hand_of};
-ghost use Rattle.cilk_machine_carry.specs.frame.Frames.{depth, top_of, left};
-ghost use Rattle.cilk_machine_carry.specs.Ready.{frame_in};
+ghost use Rattle.cilk_machine_plan.specs.spawn.Nodes.{node_at, is_live};
+ghost use Rattle.cilk_machine_plan.specs.agree.declared.lock.Lock.TheVariants as lock;
+ghost use Rattle.cilk_machine_plan.specs.model.Hands.{IsWorker, hand_of};
+ghost use Rattle.cilk_machine_plan.specs.frame.Frames.{depth, top_of, left};
+ghost use Rattle.cilk_machine_plan.specs.Ready.{frame_in};
 ghost use Rattle.cilk_machine_undo.specs.Frames.{held_at};
 ghost use Rattle.cilk_machine_undo.specs.Records.{taken_of, is_sent};
 ghost use Rattle.cilk_machine_undo.specs.Words.{family_by};
 
 use crate::undo::Stood;
-use cilk_machine_carry::{
+use cilk_machine_plan::{
     Frame, Hands, Id, Lock, NoMemory, Reached, Receiver, Slots, Taken, Tree, held,
 };
 
 /// How many activations the frame in the worker's hand has.
-pub(crate) fn depth_in_hand(worker: u8, hands: &Hands) -> u32
+pub fn depth_in_hand(worker: u8, hands: &Hands) -> u32
     requires worker { IsWorker hands.now worker }
     requires held { hand_of hands.now worker ≡ Some (frame_in hands.now worker) }
     ensures some { 0 < depth (frame_in hands.now worker) }

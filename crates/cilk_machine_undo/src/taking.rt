@@ -1,9 +1,9 @@
 //! Deliveries that were taken, and activations that were left, are put back.
 
 ghost use Rattle.std.specs.Prelude.{◌≡◌, ◌<◌, Some, IfSome, OnErr, OnOk, option_map};
-ghost use Rattle.cilk_machine_carry.specs.model.Hands.{IsWorker, hand_of, with_hand};
-ghost use Rattle.cilk_machine_carry.specs.frame.Frames.{Frame, Activation, depth, entered};
-ghost use Rattle.cilk_machine_carry.specs.frame.Cells.{globals_put};
+ghost use Rattle.cilk_machine_plan.specs.model.Hands.{IsWorker, hand_of, with_hand};
+ghost use Rattle.cilk_machine_plan.specs.frame.Frames.{Frame, Activation, depth, entered};
+ghost use Rattle.cilk_machine_plan.specs.frame.Cells.{globals_put};
 ghost use Rattle.cilk_machine_undo.specs.Frames as change;
 ghost use Rattle.cilk_machine_undo.specs.Frames.{put_at};
 ghost use Rattle.cilk_machine_undo.specs.Undo as undo;
@@ -11,7 +11,7 @@ ghost use Rattle.cilk_machine_undo.specs.Undo.{family_before};
 ghost use Rattle.cilk_machine_undo.specs.Able.{TreeAllows, CanActBack, CanTakeBack, WritesBelow};
 ghost use Rattle.cilk_machine_undo.specs.Words.{cell_by, took_by, family_by, closed_by, answered_by, machine_in, IsTakenBack};
 
-use cilk_machine_carry::{
+use cilk_machine_plan::{
     Activation, Area, Hands, NoMemory, Parts, Taken, Tree, Writing, write_cell,
 };
 use std::alloc::Global;

@@ -1,6 +1,6 @@
 //! The record of a choice: what stood where the choice changed something.
 
-use cilk_machine_carry::{Activation, Frame, Id, Lock, Remains, Taken, Writing};
+use cilk_machine_plan::{Activation, Frame, Id, Lock, Remains, Taken, Writing};
 
 /// Where the frame in a worker's hand stood: the action of its top activation, and the flag.
 #[derive(Clone, Copy)]

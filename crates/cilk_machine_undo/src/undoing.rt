@@ -9,7 +9,7 @@ use crate::ending::ended_back;
 use crate::moving::{parked_back, popped_back, spawned_back, stolen_back};
 use crate::taking::{answered_back, closed_back, opened_back, took_back};
 use crate::undo::Undo;
-use cilk_machine_carry::Parts;
+use cilk_machine_plan::Parts;
 
 /// Takes the last choice back by its record. Where memory has run out, the record comes back, and nothing has changed.
 pub fn take_back(undo: Undo, parts: &mut Parts) -> Result<(), Undo>

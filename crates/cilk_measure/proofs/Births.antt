@@ -3,15 +3,15 @@ use Rattle.std.proofs.Common.{◌≡◌, ◌<◌, ◌≤◌, ◌+◌, ℕ, zero,
 use Rattle.std.proofs.Common.{slice_index_or}
 use Rattle.std.specs.List.{range_with_len}
 use Rattle.std.proofs.lemmas.List.{length_push, length-map, get_or_append_left, get_or_push, get_or_past}
-use Rattle.cilk_debug.specs.machine.labelled.Labelled.{Labelled}
-use Rattle.cilk_debug.specs.machine.model.Path.{Path, parent_of, child_path}
-use Rattle.cilk_debug.specs.machine.model.Event.{Event}
-use Rattle.cilk_debug.specs.machine.model.Made.{made, born}
-use Rattle.cilk_debug.specs.machine.spawn.Nodes.{Node, IsTree, IsBelow, node_at, path_at, path_up, path_via, no_node}
-use Rattle.cilk_debug.specs.machine.agree.Fated.{Fated}
-use Rattle.cilk_debug.proofs.machine_laws.agree_laws.Made.{made-more}
-use Rattle.cilk_debug.proofs.machine_laws.spawn_laws.Trees.{names, path_root, path_child}
-use Rattle.cilk_debug.proofs.machine_laws.runs_laws.Family.{parent-child}
+use Rattle.cilk_log_replay.specs.machine.labelled.Labelled.{Labelled}
+use Rattle.cilk_log_replay.specs.machine.model.Path.{Path, parent_of, child_path}
+use Rattle.cilk_log_replay.specs.machine.model.Event.{Event}
+use Rattle.cilk_log_replay.specs.machine.model.Made.{made, born}
+use Rattle.cilk_log_replay.specs.machine.spawn.Nodes.{Node, IsTree, IsBelow, node_at, path_at, path_up, path_via, no_node}
+use Rattle.cilk_log_replay.specs.machine.agree.Fated.{Fated}
+use Rattle.cilk_log_replay.proofs.machine_laws.agree_laws.Made.{made-more}
+use Rattle.cilk_log_replay.proofs.machine_laws.spawn_laws.Trees.{names, path_root, path_child}
+use Rattle.cilk_log_replay.proofs.machine_laws.runs_laws.Family.{parent-child}
 use Rattle.cilk_measure.specs.Kept.{Named}
 
 -- the instances of a tree go by their paths

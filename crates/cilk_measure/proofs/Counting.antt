@@ -7,17 +7,17 @@ use Rattle.std.specs.Prelude.{count_by}
 use Rattle.std.proofs.lemmas.Bool.{cases_eq, eq-eqb, ne_eqb, and_right}
 use Rattle.std.proofs.lemmas.List.{length_push, length-replicate, get_or-replicate, get_or_append_left, get_or_push, length-map, ext_get_or}
 use Rattle.std.proofs.lemmas.List.Sums.{sum_by_push, count_by-le-length}
-use Rattle.cilk_debug.specs.machine.model.Path.{Path}
-use Rattle.cilk_debug.specs.machine.model.Choice as model
-use Rattle.cilk_debug.specs.machine.model.Event.{Event}
-use Rattle.cilk_debug.specs.machine.model.End.{numbers}
-use Rattle.cilk_debug.specs.machine.choices.declared.choice.Choice.{Choice}
-use Rattle.cilk_debug.specs.machine.choices.declared.act.Act.{Act}
-use Rattle.cilk_debug.specs.machine.choices.declared.act.Act.TheVariants.{Step, Pop, Steal}
-use Rattle.cilk_debug.specs.machine.choices.Words.{act_of, choice_of}
-use Rattle.cilk_debug.specs.machine.carries.declared.did.Did.{Did}
-use Rattle.cilk_debug.specs.machine.carries.declared.did.Did.TheVariants as did
-use Rattle.cilk_debug.specs.machine.carries.Words.{event_by}
+use Rattle.cilk_log_replay.specs.machine.model.Path.{Path}
+use Rattle.cilk_log_replay.specs.machine.model.Choice as model
+use Rattle.cilk_log_replay.specs.machine.model.Event.{Event}
+use Rattle.cilk_log_replay.specs.machine.model.End.{numbers}
+use Rattle.cilk_log_replay.specs.machine.choices.declared.choice.Choice.{Choice}
+use Rattle.cilk_log_replay.specs.machine.choices.declared.act.Act.{Act}
+use Rattle.cilk_log_replay.specs.machine.choices.declared.act.Act.TheVariants.{Step, Pop, Steal}
+use Rattle.cilk_log_replay.specs.machine.choices.Words.{act_of, choice_of}
+use Rattle.cilk_log_replay.specs.machine.plans.declared.did.Did.{Did}
+use Rattle.cilk_log_replay.specs.machine.plans.declared.did.Did.TheVariants as did
+use Rattle.cilk_log_replay.specs.machine.plans.PartWords.{event_by}
 use Rattle.cilk_measure.specs.Deeds.{Deed, is_step, only_moves, is_work, is_park, pops, steals, is_work_of, is_spawn, puts}
 use Rattle.cilk_measure.specs.Deeds.{takes_out, in_deque}
 use Rattle.cilk_measure.specs.Measure.{most}

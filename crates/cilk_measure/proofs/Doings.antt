@@ -2,13 +2,13 @@
 use Rattle.std.proofs.Common.{◌≡◌, ◌<◌, ◌+◌, ◌-◌, ◌^◌, ℕ, zero, suc, Bool, true, false, if◌then◌else◌, List, [], ◌∷◌, ◌++◌, length, Option}
 use Rattle.std.proofs.Common.{Some, None}
 use Rattle.std.proofs.Common.{option_map, unwrap_or, refl, sym, ap, ◌∙◌, subst, arith}
-use Rattle.cilk_debug.specs.machine.labelled.Labelled.{Labelled, Action}
-use Rattle.cilk_debug.specs.machine.model.Path.{Path, same_path}
-use Rattle.cilk_debug.specs.machine.model.State.{TrapKind}
-use Rattle.cilk_debug.specs.machine.model.Change.{leaves, is_sync}
-use Rattle.cilk_debug.specs.machine.model.Event.{Event, acted, spawned, delivered, returned, ended, trapped}
-use Rattle.cilk_debug.specs.machine.model.Made.{born}
-use Rattle.cilk_debug.proofs.machine_laws.spawn_laws.Paths.{same_self}
+use Rattle.cilk_log_replay.specs.machine.labelled.Labelled.{Labelled, Action}
+use Rattle.cilk_log_replay.specs.machine.model.Path.{Path, same_path}
+use Rattle.cilk_log_replay.specs.machine.model.State.{TrapKind}
+use Rattle.cilk_log_replay.specs.machine.model.Change.{leaves, is_sync}
+use Rattle.cilk_log_replay.specs.machine.model.Event.{Event, acted, spawned, delivered, returned, ended, trapped}
+use Rattle.cilk_log_replay.specs.machine.model.Made.{born}
+use Rattle.cilk_log_replay.proofs.machine_laws.spawn_laws.Paths.{same_self}
 use Rattle.cilk_measure.specs.Acts.{act_of, is_call, goes_through, is_so}
 use Rattle.cilk_measure.specs.Inside.{Inside, without_top, by_kind, by_act, by_entry, by_value, parent_path, inside_by, inside_of}
 use Rattle.cilk_measure.specs.Steps.{Step, step_at, step_within, step_of}

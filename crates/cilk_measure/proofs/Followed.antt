@@ -3,16 +3,16 @@ use Rattle.std.proofs.Common.{◌⊎◌, ◌≡◌, ◌<◌, ◌≤◌, ◌+◌,
 use Rattle.std.proofs.Common.{length, Option, Some, None, is_some, is_none, option_map, refl, sym, ap, ◌∙◌, subst, arith, inl, inr}
 use Rattle.std.proofs.lemmas.Bool.{cases_lt, eqb-true, or_right}
 use Rattle.std.proofs.lemmas.List.{get_or_append_left, get_or_push, length_push}
-use Rattle.cilk_debug.specs.machine.labelled.Labelled.{Labelled}
-use Rattle.cilk_debug.specs.machine.model.Path.{Path, same_path, parent_of, is_that, is_child}
-use Rattle.cilk_debug.specs.machine.model.Event.{Event}
+use Rattle.cilk_log_replay.specs.machine.labelled.Labelled.{Labelled}
+use Rattle.cilk_log_replay.specs.machine.model.Path.{Path, same_path, parent_of, is_that, is_child}
+use Rattle.cilk_log_replay.specs.machine.model.Event.{Event}
 use Rattle.cilk_measure.specs.Inside.{Inside, outside, inside_by, inside_of}
 use Rattle.cilk_measure.specs.Steps.{Step, listed, steps_of}
 use Rattle.cilk_measure.specs.Span.{is_of_thread, is_joined, takes, comes_before, follows, top, all_ranked}
 use Rattle.cilk_measure.specs.Measure.{depth_of}
 use Rattle.cilk_measure.proofs.Pushes.{inside-push, steps-push}
 use Rattle.cilk_measure.proofs.Tops.{if_so, next_rank, top-more, top-either, top-none}
-use Rattle.cilk_debug.proofs.machine_laws.spawn_laws.Paths.{same_self}
+use Rattle.cilk_log_replay.proofs.machine_laws.spawn_laws.Paths.{same_self}
 use Rattle.cilk_measure.specs.declared.cell.Cell.{Cell}
 use Rattle.cilk_measure.specs.declared.motion.Motion.{Motion}
 use Rattle.cilk_measure.specs.Cells.{cell_at, no_cell, next}

@@ -6,29 +6,29 @@ use Rattle.std.proofs.lemmas.Bool.{false_from_ne_true}
 use Rattle.std.proofs.lemmas.List.{length-map, take_all, length-take-le, nil_from_length}
 use Rattle.std.proofs.Math.Seq.{take-suc}
 use Rattle.std.proofs.lemmas.Option.{slice_get_within, get_or_from_slice_get}
-use Rattle.cilk_debug.specs.machine.syntax.Tree.{Program}
-use Rattle.cilk_debug.specs.machine.labelled.Bodies.{label}
-use Rattle.cilk_debug.specs.machine.labelled.Labelled.{Labelled}
-use Rattle.cilk_debug.specs.machine.model.Path.{Path, same_path, parent_of, is_that}
-use Rattle.cilk_debug.specs.machine.model.Choice as model
-use Rattle.cilk_debug.specs.machine.model.Event.{Event, acted, spawned, delivered, returned, ended, trapped, moved}
-use Rattle.cilk_debug.specs.machine.model.Made.{born}
-use Rattle.cilk_debug.specs.machine.model.Change.{is_sync}
-use Rattle.cilk_debug.specs.machine.model.Run.{Position, refusal_of, event_of, position_after, one_more}
-use Rattle.cilk_debug.specs.machine.choices.declared.choice.Choice.{Choice}
-use Rattle.cilk_debug.specs.machine.choices.Words.{choice_of}
-use Rattle.cilk_debug.specs.machine.spawn.Nodes.{Node, IsTree, node_at, path_at}
-use Rattle.cilk_debug.specs.machine.spawn.Kinds.{kind_of}
-use Rattle.cilk_debug.specs.machine.agree.Fated.{Fated}
-use Rattle.cilk_debug.specs.machine.carries.declared.did.Did.{Did}
-use Rattle.cilk_debug.specs.machine.carries.declared.did.Did.TheVariants as did
-use Rattle.cilk_debug.specs.machine.carries.Words.{event_by}
-use Rattle.cilk_debug.specs.machine.Situation.{Situation, workers_of}
-use Rattle.cilk_debug.proofs.machine_laws.spawn_laws.Paths.{same_is}
-use Rattle.cilk_debug.proofs.machine_laws.spawn_laws.Trees.{names}
-use Rattle.cilk_debug.proofs.machine_laws.runs_laws.Fates.{each_choice_is_an_event}
-use Rattle.cilk_debug.specs.Tape.{Tape, did_by, did_at, IsAt}
-use Rattle.cilk_debug.proofs.Again.{led_in, step_down, chosen}
+use Rattle.cilk_log_replay.specs.machine.syntax.Tree.{Program}
+use Rattle.cilk_log_replay.specs.machine.labelled.Bodies.{label}
+use Rattle.cilk_log_replay.specs.machine.labelled.Labelled.{Labelled}
+use Rattle.cilk_log_replay.specs.machine.model.Path.{Path, same_path, parent_of, is_that}
+use Rattle.cilk_log_replay.specs.machine.model.Choice as model
+use Rattle.cilk_log_replay.specs.machine.model.Event.{Event, acted, spawned, delivered, returned, ended, trapped, moved}
+use Rattle.cilk_log_replay.specs.machine.model.Made.{born}
+use Rattle.cilk_log_replay.specs.machine.model.Change.{is_sync}
+use Rattle.cilk_log_replay.specs.machine.model.Run.{Position, refusal_of, event_of, position_after, one_more}
+use Rattle.cilk_log_replay.specs.machine.choices.declared.choice.Choice.{Choice}
+use Rattle.cilk_log_replay.specs.machine.choices.Words.{choice_of}
+use Rattle.cilk_log_replay.specs.machine.spawn.Nodes.{Node, IsTree, node_at, path_at}
+use Rattle.cilk_log_replay.specs.machine.spawn.Kinds.{kind_of}
+use Rattle.cilk_log_replay.specs.machine.agree.Fated.{Fated}
+use Rattle.cilk_log_replay.specs.machine.plans.declared.did.Did.{Did}
+use Rattle.cilk_log_replay.specs.machine.plans.declared.did.Did.TheVariants as did
+use Rattle.cilk_log_replay.specs.machine.plans.PartWords.{event_by}
+use Rattle.cilk_log_replay.specs.machine.Situation.{Situation, workers_of}
+use Rattle.cilk_log_replay.proofs.machine_laws.spawn_laws.Paths.{same_is}
+use Rattle.cilk_log_replay.proofs.machine_laws.spawn_laws.Trees.{names}
+use Rattle.cilk_log_replay.proofs.machine_laws.runs_laws.Fates.{each_choice_is_an_event}
+use Rattle.cilk_log_replay.specs.Tape.{Tape, did_by, did_at, IsAt}
+use Rattle.cilk_log_replay.proofs.Again.{led_in, step_down, chosen}
 use Rattle.cilk_measure.specs.Acts.{act_of, is_so}
 use Rattle.cilk_measure.specs.Inside.{parent_path}
 use Rattle.cilk_measure.specs.Steps.{Step, step_at, step_within}

@@ -3,8 +3,8 @@ use Rattle.std.proofs.Common.{◌≡◌, ◌<◌, ◌≤◌, ◌⊎◌, ℕ, Boo
 use Rattle.std.proofs.Common.{option_map}
 use Rattle.std.proofs.Common.{refl, sym, ap, ◌∙◌, subst, inl, inr}
 use Rattle.std.proofs.lemmas.Bool.{cases_eq, cases_lt, eq-eqb, ne_eqb, lt-ltb, le-ltb, false_from_ne_true}
-use Rattle.cilk_debug.specs.machine.model.Path.{Path, same_path, is_that}
-use Rattle.cilk_debug.proofs.machine_laws.spawn_laws.Paths.{same_is, same_self}
+use Rattle.cilk_log_replay.specs.machine.model.Path.{Path, same_path, is_that}
+use Rattle.cilk_log_replay.proofs.machine_laws.spawn_laws.Paths.{same_is, same_self}
 use Rattle.cilk_measure.specs.Motions.{place_among}
 use Rattle.cilk_measure.specs.Kept.{Named, IsThere}
 

@@ -1,6 +1,6 @@
 -- Steps whose instances are known, and tests that none of them passes.
 use Rattle.std.proofs.Common.{◌≡◌, ◌<◌, ◌≤◌, ℕ, suc, max, Bool, true, false, List, [], ◌∷◌, ◌++◌, Option, Some, None, option_map, refl, sym, ap, ◌∙◌, arith}
-use Rattle.cilk_debug.specs.machine.model.Path.{Path}
+use Rattle.cilk_log_replay.specs.machine.model.Path.{Path}
 use Rattle.cilk_measure.specs.Steps.{Step}
 use Rattle.cilk_measure.specs.Span.{follows, Ranked, top, ranked, ranked_from}
 use Rattle.cilk_measure.proofs.Tops.{if_so, top-push}

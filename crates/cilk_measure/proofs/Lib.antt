@@ -16,4 +16,4 @@ pub mod Gauges
 pub mod Lines
 mod Natures
 mod Once
-pub use Rattle.cilk_debug.proofs as debug_laws
+pub use Rattle.cilk_log_replay.proofs as replay_laws

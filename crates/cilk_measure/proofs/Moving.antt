@@ -1,15 +1,15 @@
 -- A motion is the step of the event.
 use Rattle.std.proofs.Common.{◌≡◌, ◌<◌, ◌+◌, ◌^◌, ℕ, suc, List, [], ◌∷◌, ◌++◌, length, Option, Some, None, unwrap_or, refl, sym, ap, ◌∙◌, subst, arith}
-use Rattle.cilk_debug.specs.machine.labelled.Bodies.{label}
-use Rattle.cilk_debug.specs.machine.syntax.Tree.{Program}
-use Rattle.cilk_debug.specs.machine.model.Path.{Path}
-use Rattle.cilk_debug.specs.machine.model.Event.{Event, spawned}
-use Rattle.cilk_debug.specs.machine.spawn.Kinds.{kind_of}
-use Rattle.cilk_debug.specs.machine.spawn.Nodes.{Node, IsTree, node_at, path_at}
-use Rattle.cilk_debug.specs.machine.agree.Fated.{Fated}
-use Rattle.cilk_debug.specs.machine.carries.declared.did.Did.{Did}
-use Rattle.cilk_debug.specs.machine.carries.declared.did.Did.TheVariants as did
-use Rattle.cilk_debug.specs.machine.carries.Words.{event_by}
+use Rattle.cilk_log_replay.specs.machine.labelled.Bodies.{label}
+use Rattle.cilk_log_replay.specs.machine.syntax.Tree.{Program}
+use Rattle.cilk_log_replay.specs.machine.model.Path.{Path}
+use Rattle.cilk_log_replay.specs.machine.model.Event.{Event, spawned}
+use Rattle.cilk_log_replay.specs.machine.spawn.Kinds.{kind_of}
+use Rattle.cilk_log_replay.specs.machine.spawn.Nodes.{Node, IsTree, node_at, path_at}
+use Rattle.cilk_log_replay.specs.machine.agree.Fated.{Fated}
+use Rattle.cilk_log_replay.specs.machine.plans.declared.did.Did.{Did}
+use Rattle.cilk_log_replay.specs.machine.plans.declared.did.Did.TheVariants as did
+use Rattle.cilk_log_replay.specs.machine.plans.PartWords.{event_by}
 use Rattle.cilk_measure.specs.Inside.{parent_path}
 use Rattle.cilk_measure.specs.Steps.{Step, step_of}
 use Rattle.cilk_measure.specs.declared.cell.Cell.{Cell}

@@ -1,17 +1,17 @@
 -- The node of an action tells what the action does.
 use Rattle.std.proofs.Common.{◌≡◌, ℕ, ℤ, pos, Bool, true, false, List, [], ◌∷◌, Option, Some, None, option_map, refl, ap, ◌∙◌, if◌then◌else◌}
-use Rattle.cilk_load.specs.nodes.scopes.syntax.Tree.{Program}
-use Rattle.cilk_load.specs.nodes.eval.declared.slot.Slot.{Slot}
-use Rattle.cilk_load.specs.nodes.model.labelled.Labelled as labelled
-use Rattle.cilk_load.specs.nodes.model.labelled.Labelled.{Declaration, Numbered, Labelled}
-use Rattle.cilk_load.specs.nodes.model.labelled.Items.{Items, head_of}
-use Rattle.cilk_load.specs.nodes.model.labelled.Bodies.{label}
-use Rattle.cilk_load.specs.nodes.model.Change.{leaves, is_sync}
-use Rattle.cilk_load.specs.nodes.declared.node.Node.{Node}
-use Rattle.cilk_load.specs.nodes.declared.action.Action.{Action}
-use Rattle.cilk_load.specs.nodes.Actions.{slotted}
-use Rattle.cilk_load.specs.nodes.Slots.{slot_of}
-use Rattle.cilk_load.specs.nodes.Table.{Row, number_of, number_else, cases_of, has_number, rows_from, node_at, node_among, node_of}
+use Rattle.cilk_log_replay.specs.machine.nodes.scopes.syntax.Tree.{Program}
+use Rattle.cilk_log_replay.specs.machine.nodes.declared.slot.Slot.{Slot}
+use Rattle.cilk_log_replay.specs.machine.nodes.model.labelled.Labelled as labelled
+use Rattle.cilk_log_replay.specs.machine.nodes.model.labelled.Labelled.{Declaration, Numbered, Labelled}
+use Rattle.cilk_log_replay.specs.machine.nodes.model.labelled.Items.{Items, head_of}
+use Rattle.cilk_log_replay.specs.machine.nodes.model.labelled.Bodies.{label}
+use Rattle.cilk_log_replay.specs.machine.nodes.model.Change.{leaves, is_sync}
+use Rattle.cilk_log_replay.specs.machine.nodes.declared.node.Node.{Node}
+use Rattle.cilk_log_replay.specs.machine.nodes.declared.action.Action.{Action}
+use Rattle.cilk_log_replay.specs.machine.nodes.Actions.{slotted}
+use Rattle.cilk_log_replay.specs.machine.nodes.Slots.{slot_of}
+use Rattle.cilk_log_replay.specs.machine.nodes.Table.{Row, number_of, number_else, cases_of, has_number, rows_from, node_at, node_among, node_of}
 use Rattle.cilk_measure.specs.Acts.{list_among, act_in, act_of, is_call, goes_through, is_so}
 use Rattle.cilk_measure.specs.Nodes.{node_calls, node_leaves, node_waits, node_goes_through}
 

@@ -2,7 +2,7 @@
 use Rattle.std.proofs.Common.{◌≡◌, ℕ, suc, ◌+◌, Bool, true, false, not, cond, ◌&&◌, List, [], ◌∷◌, length, refl, arith}
 use Rattle.std.specs.Prelude.{count_by}
 use Rattle.std.proofs.lemmas.List.Sums.{sum_by-cons}
-use Rattle.cilk_load.specs.nodes.model.Choice.{Act, step, pop, steal}
+use Rattle.cilk_log_replay.specs.machine.nodes.model.Choice.{Act, step, pop, steal}
 use Rattle.cilk_measure.specs.Deeds.{Deed, is_step, is_pop, is_steal, only_moves, is_work, is_park, pops, steals}
 
 abbrev one : Bool → ℕ

@@ -1,10 +1,10 @@
 -- One event more.
 use Rattle.std.proofs.Common.{◌≡◌, ℕ, suc, ◌+◌, ◌≤◌, Bool, true, false, List, [], ◌∷◌, ◌++◌, length, Option, Some, None, refl, ap, sym, ◌∙◌, max, arith, map}
 use Rattle.std.proofs.lemmas.List.{append-nil, append_assoc}
-use Rattle.cilk_load.specs.nodes.model.labelled.Labelled.{Labelled}
-use Rattle.cilk_load.specs.nodes.model.Path.{Path}
-use Rattle.cilk_load.specs.nodes.model.Choice.{Choice}
-use Rattle.cilk_load.specs.nodes.model.Event.{Event}
+use Rattle.cilk_log_replay.specs.machine.nodes.model.labelled.Labelled.{Labelled}
+use Rattle.cilk_log_replay.specs.machine.nodes.model.Path.{Path}
+use Rattle.cilk_log_replay.specs.machine.nodes.model.Choice.{Choice}
+use Rattle.cilk_log_replay.specs.machine.nodes.model.Event.{Event}
 use Rattle.cilk_measure.specs.Inside.{Inside, outside, inside_by, inside_from, inside_of}
 use Rattle.cilk_measure.specs.Steps.{Step, listed, step_of, steps_from, steps_of}
 use Rattle.cilk_measure.specs.Deeds.{Deed, deeds_of}

@@ -1,9 +1,9 @@
 -- An event that does no step.
 use Rattle.std.proofs.Common.{◌≡◌, ◌<◌, ◌≤◌, ◌+◌, ℕ, Bool, List, [], ◌∷◌, ◌++◌, length, Option, None, sym, ap, ◌∙◌, subst, arith}
 use Rattle.std.proofs.lemmas.List.{append-nil, length_push}
-use Rattle.cilk_debug.specs.machine.labelled.Labelled.{Labelled}
-use Rattle.cilk_debug.specs.machine.model.Path.{Path, same_path, parent_of}
-use Rattle.cilk_debug.specs.machine.model.Event.{Event}
+use Rattle.cilk_log_replay.specs.machine.labelled.Labelled.{Labelled}
+use Rattle.cilk_log_replay.specs.machine.model.Path.{Path, same_path, parent_of}
+use Rattle.cilk_log_replay.specs.machine.model.Event.{Event}
 use Rattle.cilk_measure.specs.Inside.{Inside, inside_by, inside_of}
 use Rattle.cilk_measure.specs.Steps.{Step, listed, step_of, steps_of}
 use Rattle.cilk_measure.specs.Span.{is_of_thread, is_joined, takes, top, all_ranked}

@@ -5,12 +5,12 @@ use Rattle.std.proofs.Common.{sym, ap, ◌∙◌, subst, arith}
 use Rattle.std.specs.Prelude.{count_by}
 use Rattle.std.proofs.lemmas.List.{length_push, append-nil, map_push}
 use Rattle.std.proofs.lemmas.List.Sums.{sum_by_push, count_by-le-length}
-use Rattle.cilk_debug.specs.machine.labelled.Labelled.{Labelled}
-use Rattle.cilk_debug.specs.machine.model.Path.{Path, same_path, parent_of, is_that}
-use Rattle.cilk_debug.specs.machine.model.Event.{Event}
-use Rattle.cilk_debug.specs.machine.model.Made.{made, born}
-use Rattle.cilk_debug.specs.machine.carries.declared.did.Did.{Did}
-use Rattle.cilk_debug.proofs.machine_laws.agree_laws.Made.{made-more}
+use Rattle.cilk_log_replay.specs.machine.labelled.Labelled.{Labelled}
+use Rattle.cilk_log_replay.specs.machine.model.Path.{Path, same_path, parent_of, is_that}
+use Rattle.cilk_log_replay.specs.machine.model.Event.{Event}
+use Rattle.cilk_log_replay.specs.machine.model.Made.{made, born}
+use Rattle.cilk_log_replay.specs.machine.plans.declared.did.Did.{Did}
+use Rattle.cilk_log_replay.proofs.machine_laws.agree_laws.Made.{made-more}
 use Rattle.cilk_measure.specs.Inside.{Inside, inside_by, inside_of}
 use Rattle.cilk_measure.specs.Steps.{Step, listed, step_of, steps_of}
 use Rattle.cilk_measure.specs.Span.{span_of}

@@ -1,8 +1,8 @@
 -- What the action of each number does, and which of them enter and leave bodies.
 use Rattle.std.specs.Prelude.{ℕ, Bool, true, false, if◌then◌else◌, List, [], ◌∷◌, Option, Some, None, option_map}
-use Rattle.cilk_load.specs.nodes.model.labelled.Labelled.{Taker, through, Action, call, spawn, Numbered, Labelled}
-use Rattle.cilk_load.specs.nodes.model.labelled.Items.{Items, head_of}
-use Rattle.cilk_load.specs.nodes.Table.{Row, number_of, has_number, rows_from}
+use Rattle.cilk_log_replay.specs.machine.nodes.model.labelled.Labelled.{Taker, through, Action, call, spawn, Numbered, Labelled}
+use Rattle.cilk_log_replay.specs.machine.nodes.model.labelled.Items.{Items, head_of}
+use Rattle.cilk_log_replay.specs.machine.nodes.Table.{Row, number_of, has_number, rows_from}
 
 -- that of these lists which has action n in front
 abbrev pub list_among : ℕ → List Row → Items

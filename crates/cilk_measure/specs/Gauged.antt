@@ -1,13 +1,13 @@
 -- A machine that makes the choices of a tape again, with what is kept of them, and the numbers that are told of the tape.
 use Rattle.std.specs.Prelude.{◌≡◌, ℕ, List, [], length, Option, Some, None, slice_get}
-use Rattle.cilk_debug.specs.machine.labelled.Bodies.{label}
-use Rattle.cilk_debug.specs.machine.model.Event.{Event}
-use Rattle.cilk_debug.specs.machine.model.Run.{Position}
-use Rattle.cilk_debug.specs.machine.choices.declared.choice.Choice.{Choice}
-use Rattle.cilk_debug.specs.machine.spawn.Nodes.{path_at}
-use Rattle.cilk_debug.specs.machine.carries.declared.did.Did.{Did}
-use Rattle.cilk_debug.specs.machine.carries.Words.{event_by}
-use Rattle.cilk_debug.specs.Tape.{Tape, position_at, did_at}
+use Rattle.cilk_log_replay.specs.machine.labelled.Bodies.{label}
+use Rattle.cilk_log_replay.specs.machine.model.Event.{Event}
+use Rattle.cilk_log_replay.specs.machine.model.Run.{Position}
+use Rattle.cilk_log_replay.specs.machine.choices.declared.choice.Choice.{Choice}
+use Rattle.cilk_log_replay.specs.machine.spawn.Nodes.{path_at}
+use Rattle.cilk_log_replay.specs.machine.plans.declared.did.Did.{Did}
+use Rattle.cilk_log_replay.specs.machine.plans.PartWords.{event_by}
+use Rattle.cilk_log_replay.specs.Tape.{Tape, position_at, did_at}
 use Rattle.cilk_measure.specs.Measure.{Measure, measure_of}
 use Rattle.cilk_measure.specs.declared.gauge.Gauge.{Gauge}
 use Rattle.cilk_measure.specs.Tallies.{noted}

@@ -1,12 +1,12 @@
 -- What is kept behind the first choices of a tape is what their events tell.
 use Rattle.std.specs.Prelude.{◌≡◌, ◌<◌, ℕ, suc, List, length, map, take, count_by}
-use Rattle.cilk_debug.specs.machine.labelled.Bodies.{label}
-use Rattle.cilk_debug.specs.machine.labelled.Labelled.{Labelled}
-use Rattle.cilk_debug.specs.machine.model.Event.{Event}
-use Rattle.cilk_debug.specs.machine.model.Made.{made}
-use Rattle.cilk_debug.specs.machine.model.Path.{Path}
-use Rattle.cilk_debug.specs.machine.spawn.Nodes.{path_at}
-use Rattle.cilk_debug.specs.Tape.{Tape}
+use Rattle.cilk_log_replay.specs.machine.labelled.Bodies.{label}
+use Rattle.cilk_log_replay.specs.machine.labelled.Labelled.{Labelled}
+use Rattle.cilk_log_replay.specs.machine.model.Event.{Event}
+use Rattle.cilk_log_replay.specs.machine.model.Made.{made}
+use Rattle.cilk_log_replay.specs.machine.model.Path.{Path}
+use Rattle.cilk_log_replay.specs.machine.spawn.Nodes.{path_at}
+use Rattle.cilk_log_replay.specs.Tape.{Tape}
 use Rattle.cilk_measure.specs.Steps.{steps_of}
 use Rattle.cilk_measure.specs.Span.{span_of}
 use Rattle.cilk_measure.specs.Deeds.{Deed, deeds_of, is_work, is_park, pops, steals, is_work_of, puts, takes_out, in_deque}

@@ -1,9 +1,9 @@
 -- Which bodies an instance runs above its procedure's own, as the events tell.
 use Rattle.std.specs.Prelude.{ℕ, zero, suc, ◌+◌, Bool, true, false, if◌then◌else◌, List, [], ◌∷◌, Option, Some, None, unwrap_or}
-use Rattle.cilk_load.specs.nodes.model.labelled.Labelled.{Action, Labelled}
-use Rattle.cilk_load.specs.nodes.model.Path.{Path, same_path, parent_of}
-use Rattle.cilk_load.specs.nodes.model.Change.{leaves}
-use Rattle.cilk_load.specs.nodes.model.Event.{Event, acted, spawned, delivered, returned, ended, trapped, moved}
+use Rattle.cilk_log_replay.specs.machine.nodes.model.labelled.Labelled.{Action, Labelled}
+use Rattle.cilk_log_replay.specs.machine.nodes.model.Path.{Path, same_path, parent_of}
+use Rattle.cilk_log_replay.specs.machine.nodes.model.Change.{leaves}
+use Rattle.cilk_log_replay.specs.machine.nodes.model.Event.{Event, acted, spawned, delivered, returned, ended, trapped, moved}
 use Rattle.cilk_measure.specs.Acts.{act_of, is_call, goes_through, is_so}
 
 pub record Inside : Type 0 where

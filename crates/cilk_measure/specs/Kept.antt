@@ -1,8 +1,8 @@
 -- What is kept of the instances is what the events tell.
 use Rattle.std.specs.Prelude.{⊤, ◌≡◌, ◌<◌, ◌≤◌, ◌+◌, ℕ, suc, Bool, false, List, [], ◌∷◌, length, Option, option_map, IfSome}
-use Rattle.cilk_debug.specs.machine.labelled.Labelled.{Labelled}
-use Rattle.cilk_debug.specs.machine.model.Path.{Path, same_path, parent_of}
-use Rattle.cilk_debug.specs.machine.model.Event.{Event}
+use Rattle.cilk_log_replay.specs.machine.labelled.Labelled.{Labelled}
+use Rattle.cilk_log_replay.specs.machine.model.Path.{Path, same_path, parent_of}
+use Rattle.cilk_log_replay.specs.machine.model.Event.{Event}
 use Rattle.cilk_measure.specs.Inside.{inside_of, outside}
 use Rattle.cilk_measure.specs.Steps.{Step, steps_of}
 use Rattle.cilk_measure.specs.Span.{is_of_thread, is_joined, takes, top, all_ranked}

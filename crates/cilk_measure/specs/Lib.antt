@@ -15,6 +15,6 @@ pub mod Words
 pub mod Kept
 pub mod Gauged
 pub mod Held
-pub use Rattle.cilk_load.specs.nodes
-pub use Rattle.cilk_load.specs.model
-pub use Rattle.cilk_debug.specs as debug
+pub use Rattle.cilk_log_replay.specs.machine.nodes
+pub use Rattle.cilk_log_replay.specs.machine.model
+pub use Rattle.cilk_log_replay.specs as replay

@@ -1,11 +1,11 @@
 -- The numbers that are told of a run.
 use Rattle.std.specs.Prelude.{ℕ, suc, ◌+◌, ◌-◌, max, Bool, true, false, List, [], ◌∷◌, ◌++◌, length, map, count_by}
-use Rattle.cilk_load.specs.nodes.model.labelled.Labelled.{Labelled}
-use Rattle.cilk_load.specs.nodes.model.Path.{Path}
-use Rattle.cilk_load.specs.nodes.model.Choice.{Choice}
-use Rattle.cilk_load.specs.nodes.model.Event.{Event, returned, ended}
-use Rattle.cilk_load.specs.nodes.model.End.{numbers}
-use Rattle.cilk_load.specs.nodes.model.Made.{made}
+use Rattle.cilk_log_replay.specs.machine.nodes.model.labelled.Labelled.{Labelled}
+use Rattle.cilk_log_replay.specs.machine.nodes.model.Path.{Path}
+use Rattle.cilk_log_replay.specs.machine.nodes.model.Choice.{Choice}
+use Rattle.cilk_log_replay.specs.machine.nodes.model.Event.{Event, returned, ended}
+use Rattle.cilk_log_replay.specs.machine.nodes.model.End.{numbers}
+use Rattle.cilk_log_replay.specs.machine.nodes.model.Made.{made}
 use Rattle.cilk_measure.specs.Steps.{Step, steps_of}
 use Rattle.cilk_measure.specs.Deeds.{Deed, deeds_of, is_work, is_park, pops, steals, is_work_of, in_deque}
 use Rattle.cilk_measure.specs.Span.{span_of}

@@ -1,12 +1,12 @@
 -- What a choice did, by the places of instances.
 use Rattle.std.specs.Prelude.{ℕ, zero, suc, ◌-◌, Bool, true, false, if◌then◌else◌, nat_lt, List, Option, Some, None, length, unwrap_or}
-use Rattle.cilk_debug.specs.machine.syntax.Tree.{Program}
-use Rattle.cilk_debug.specs.machine.labelled.Bodies.{label}
-use Rattle.cilk_debug.specs.machine.labelled.Labelled.{Action}
-use Rattle.cilk_debug.specs.machine.model.Change.{leaves, is_sync}
-use Rattle.cilk_debug.specs.machine.spawn.Nodes.{Node, node_at}
-use Rattle.cilk_debug.specs.machine.carries.declared.did.Did.{Did}
-use Rattle.cilk_debug.specs.machine.carries.declared.did.Did.TheVariants.{Moved, Acted, Spawned, Delivered, Returned, Ended, Trapped}
+use Rattle.cilk_log_replay.specs.machine.syntax.Tree.{Program}
+use Rattle.cilk_log_replay.specs.machine.labelled.Bodies.{label}
+use Rattle.cilk_log_replay.specs.machine.labelled.Labelled.{Action}
+use Rattle.cilk_log_replay.specs.machine.model.Change.{leaves, is_sync}
+use Rattle.cilk_log_replay.specs.machine.spawn.Nodes.{Node, node_at}
+use Rattle.cilk_log_replay.specs.machine.plans.declared.did.Did.{Did}
+use Rattle.cilk_log_replay.specs.machine.plans.declared.did.Did.TheVariants.{Moved, Acted, Spawned, Delivered, Returned, Ended, Trapped}
 use Rattle.cilk_measure.specs.Acts.{act_of, is_call, goes_through, is_so}
 use Rattle.cilk_measure.specs.declared.cell.Cell.{Cell}
 use Rattle.cilk_measure.specs.declared.motion.Motion.{Motion}

@@ -1,9 +1,9 @@
 -- The same of the action of a node.
 use Rattle.std.specs.Prelude.{Bool, true, false}
-use Rattle.cilk_load.specs.nodes.declared.action.Action.{Action}
-use Rattle.cilk_load.specs.nodes.declared.action.Action.TheVariants.{Call, Spawn, Sync, Return, ReturnNothing, Close}
-use Rattle.cilk_load.specs.nodes.declared.taker.Taker.{Taker}
-use Rattle.cilk_load.specs.nodes.declared.taker.Taker.TheVariants.{Through}
+use Rattle.cilk_log_replay.specs.machine.nodes.declared.action.Action.{Action}
+use Rattle.cilk_log_replay.specs.machine.nodes.declared.action.Action.TheVariants.{Call, Spawn, Sync, Return, ReturnNothing, Close}
+use Rattle.cilk_log_replay.specs.machine.nodes.declared.taker.Taker.{Taker}
+use Rattle.cilk_log_replay.specs.machine.nodes.declared.taker.Taker.TheVariants.{Through}
 
 abbrev pub node_calls : Action → Bool
 node_calls (Call place callee arguments) = true

@@ -1,14 +1,14 @@
 -- Worked runs: the numbers that are told of them.
 use Rattle.std.specs.Prelude.{ℕ, List, [], ◌∷◌, ◌++◌, Option, None, option_map, codes}
-use Rattle.cilk_load.specs.nodes.model.labelled.syntax.declared.operator.BinOp.TheVariants.{Add}
-use Rattle.cilk_load.specs.nodes.model.labelled.syntax.declared.return_type.ReturnType.TheVariants.{Int, Void}
-use Rattle.cilk_load.specs.nodes.model.labelled.syntax.Tree as tree
-use Rattle.cilk_load.specs.nodes.model.labelled.syntax.Tree.{Program, Stmt, number, binary}
-use Rattle.cilk_load.specs.nodes.model.labelled.Bodies.{label}
-use Rattle.cilk_load.specs.nodes.model.Choice.{Choice}
-use Rattle.cilk_load.specs.nodes.model.Run.{after}
-use Rattle.cilk_load.specs.nodes.model.Rows.{s, p, t}
-use Rattle.cilk_load.specs.nodes.model.Trees.{program, procedure, global, int, assigns, name, returns, word}
+use Rattle.cilk_log_replay.specs.machine.nodes.model.labelled.syntax.declared.operator.BinOp.TheVariants.{Add}
+use Rattle.cilk_log_replay.specs.machine.nodes.model.labelled.syntax.declared.return_type.ReturnType.TheVariants.{Int, Void}
+use Rattle.cilk_log_replay.specs.machine.nodes.model.labelled.syntax.Tree as tree
+use Rattle.cilk_log_replay.specs.machine.nodes.model.labelled.syntax.Tree.{Program, Stmt, number, binary}
+use Rattle.cilk_log_replay.specs.machine.nodes.model.labelled.Bodies.{label}
+use Rattle.cilk_log_replay.specs.machine.nodes.model.Choice.{Choice}
+use Rattle.cilk_log_replay.specs.machine.nodes.model.Run.{after}
+use Rattle.cilk_log_replay.specs.machine.nodes.model.Rows.{s, p, t}
+use Rattle.cilk_log_replay.specs.machine.nodes.model.Trees.{program, procedure, global, int, assigns, name, returns, word}
 use Rattle.cilk_measure.specs.Measure.{measure_of}
 use Rattle.cilk_measure.specs.Text.{measure_text}
 

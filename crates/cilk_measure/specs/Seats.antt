@@ -1,10 +1,10 @@
 -- How the choices are counted, by worker.
 use Rattle.std.specs.Prelude.{ℕ, zero, suc, ◌-◌, max, Bool, true, false, if◌then◌else◌, List, length, map, replicate, slice_index_or, slice_set}
-use Rattle.cilk_debug.specs.machine.carries.declared.did.Did.{Did}
-use Rattle.cilk_debug.specs.machine.carries.declared.did.Did.TheVariants.{Moved, Spawned}
-use Rattle.cilk_debug.specs.machine.choices.declared.choice.Choice.{Choice}
-use Rattle.cilk_debug.specs.machine.choices.declared.act.Act.{Act}
-use Rattle.cilk_debug.specs.machine.choices.declared.act.Act.TheVariants.{Step, Pop, Steal}
+use Rattle.cilk_log_replay.specs.machine.plans.declared.did.Did.{Did}
+use Rattle.cilk_log_replay.specs.machine.plans.declared.did.Did.TheVariants.{Moved, Spawned}
+use Rattle.cilk_log_replay.specs.machine.choices.declared.choice.Choice.{Choice}
+use Rattle.cilk_log_replay.specs.machine.choices.declared.act.Act.{Act}
+use Rattle.cilk_log_replay.specs.machine.choices.declared.act.Act.TheVariants.{Step, Pop, Steal}
 use Rattle.cilk_measure.specs.declared.seat.Seat.{Seat}
 use Rattle.cilk_measure.specs.Measure.{Measure, greatest}
 use Rattle.cilk_measure.specs.Cells.{next}

@@ -1,6 +1,6 @@
 -- Which step of a run has to come before which, and the longest chain of steps each of which follows the one before it.
 use Rattle.std.specs.Prelude.{ℕ, suc, max, Bool, true, ◌&&◌, ◌||◌, if◌then◌else◌, List, [], ◌∷◌, ◌++◌, Option, Some, None, is_some, is_none}
-use Rattle.cilk_load.specs.nodes.model.Path.{Path, same_path, is_that, is_child}
+use Rattle.cilk_log_replay.specs.machine.nodes.model.Path.{Path, same_path, is_that, is_child}
 use Rattle.cilk_measure.specs.Steps.{Step}
 
 -- the thread of p, from its spawn on

@@ -1,9 +1,9 @@
 -- The steps of a run, as the events tell them.
 use Rattle.std.specs.Prelude.{ℕ, Bool, true, false, List, [], ◌∷◌, ◌++◌, Option, Some, None}
-use Rattle.cilk_load.specs.nodes.model.labelled.Labelled.{Labelled}
-use Rattle.cilk_load.specs.nodes.model.Path.{Path}
-use Rattle.cilk_load.specs.nodes.model.Change.{is_sync}
-use Rattle.cilk_load.specs.nodes.model.Event.{Event, acted, spawned, delivered, returned, ended, trapped, moved}
+use Rattle.cilk_log_replay.specs.machine.nodes.model.labelled.Labelled.{Labelled}
+use Rattle.cilk_log_replay.specs.machine.nodes.model.Path.{Path}
+use Rattle.cilk_log_replay.specs.machine.nodes.model.Change.{is_sync}
+use Rattle.cilk_log_replay.specs.machine.nodes.model.Event.{Event, acted, spawned, delivered, returned, ended, trapped, moved}
 use Rattle.cilk_measure.specs.Acts.{act_of, is_so}
 use Rattle.cilk_measure.specs.Inside.{inside_of, parent_path}
 

@@ -1,9 +1,9 @@
 -- What is kept of a run, and what one choice more makes of it.
 use Rattle.std.specs.Prelude.{ℕ, ◌+◌, ◌-◌, ◌^◌, min, max, Bool, true, false, if◌then◌else◌, List, [], ◌∷◌, ◌++◌, length, slice_set, Option, Some, None}
-use Rattle.cilk_debug.specs.machine.syntax.Tree.{Program}
-use Rattle.cilk_debug.specs.machine.spawn.Nodes.{Node}
-use Rattle.cilk_debug.specs.machine.carries.declared.did.Did.{Did}
-use Rattle.cilk_debug.specs.machine.carries.declared.did.Did.TheVariants.{Returned, Ended}
+use Rattle.cilk_log_replay.specs.machine.syntax.Tree.{Program}
+use Rattle.cilk_log_replay.specs.machine.spawn.Nodes.{Node}
+use Rattle.cilk_log_replay.specs.machine.plans.declared.did.Did.{Did}
+use Rattle.cilk_log_replay.specs.machine.plans.declared.did.Did.TheVariants.{Returned, Ended}
 use Rattle.cilk_measure.specs.declared.cell.Cell.{Cell}
 use Rattle.cilk_measure.specs.declared.edge.Edge.{Edge}
 use Rattle.cilk_measure.specs.declared.edge.Edge.TheVariants.{Taken, Joined}

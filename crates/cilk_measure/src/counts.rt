@@ -5,7 +5,7 @@ ghost use Rattle.cilk_measure.specs.Seats.{counts_after, no_counts, step_after};
 
 use crate::cell::next;
 use crate::seat::{NO_SEAT, Seat, draw, work};
-use cilk_debug::{Act, Choice, Did, Memory};
+use cilk_log_replay::{Act, Choice, Did, Memory};
 use std::alloc::Global;
 use std::marker::Model;
 

@@ -1,9 +1,9 @@
 //! A machine that makes the choices of a schedule again, with what is kept of them.
 
 ghost use Rattle.std.specs.Prelude.{◌≡◌, ◌<◌, suc, IfOk, IfErr, OnOk, length, map, option_copied, slice_get};
-ghost use Rattle.cilk_debug.specs.machine.choices.Words.{choice_of};
-ghost use Rattle.cilk_debug.specs.Tape.{Tape, IsAt};
-ghost use Rattle.cilk_debug.specs.ReplayFaults.{IsFaultOf};
+ghost use Rattle.cilk_log_replay.specs.machine.choices.Words.{choice_of};
+ghost use Rattle.cilk_log_replay.specs.Tape.{Tape, IsAt};
+ghost use Rattle.cilk_log_replay.specs.ReplayFaults.{IsFaultOf};
 ghost use Rattle.cilk_measure.specs.Gauged.{Advances};
 ghost use Rattle.cilk_measure.specs.Seats.{longest_in, no_counts, shares_in, told};
 ghost use Rattle.cilk_measure.specs.Tallies.{first};
@@ -13,7 +13,7 @@ use crate::counts::Counts;
 use crate::measure::Measure;
 use crate::seat::Seat;
 use crate::tally::Tally;
-use cilk_debug::{Choice, Machine, Memory, ReplayFault, make_again};
+use cilk_log_replay::{Choice, Machine, Memory, ReplayFault, make_again};
 use std::alloc::Global;
 
 /// A machine, and what is kept of the choices that led to it.

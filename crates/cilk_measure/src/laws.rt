@@ -1,7 +1,7 @@
 //! Laws about the definitions. The functions do nothing: their contracts are what is proved.
 
 ghost use Rattle.std.specs.Prelude.{◌≡◌, ◌+◌, ℕ, List, [], Some, length};
-ghost use Rattle.cilk_load.specs.nodes.model.Event.{Event};
+ghost use Rattle.cilk_log_replay.specs.machine.nodes.model.Event.{Event};
 ghost use Rattle.cilk_measure.specs.Steps.{Step};
 ghost use Rattle.cilk_measure.specs.Deeds.{Deed};
 ghost use Rattle.cilk_measure.specs.Measure.{measure};

@@ -16,10 +16,10 @@ mod seat;
 mod tally;
 
 pub use cell::Cell;
-pub use cilk_debug::{
-    Act, Choice, Choices, Debugger, Did, End, Id, Loaded, Log, LogFault, Machine, Memory,
-    ReplayFault, SessionFault, Unplayable, make_again, play, play_all, put_trapped, read_log,
-    refuse_other, write_log,
+pub use cilk_log_replay::{
+    Access, Act, Choice, Did, End, Id, Loaded, Log, LogFault, Machine, Memory, Path, ReplayFault,
+    Scene, Spot, Trap, TrapKind, accesses_in, locks_in, make_again, number_in, play, play_all,
+    put_trapped, refuse_other,
 };
 pub use measure::Measure;
 pub use measure_lines::put_measure;

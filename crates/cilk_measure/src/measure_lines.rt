@@ -1,12 +1,12 @@
 //! How the numbers of a run are told: a line of its work, one of its instances, one of the frames that were moved, and one for each worker.
 
 ghost use Rattle.std.specs.Prelude.{◌≡◌, IfOk};
-ghost use Rattle.cilk_debug.specs.machine.syntax.Appends.{Appends};
+ghost use Rattle.cilk_log_replay.specs.machine.syntax.Appends.{Appends};
 ghost use Rattle.cilk_measure.specs.Text.{instances_line, measure_text, moves_line, share_line, share_lines, tenths, tenths_text, work_line};
 ghost use Rattle.cilk_measure.specs.Words.{numbers_of};
 
 use crate::measure::Measure;
-use cilk_debug::Memory;
+use cilk_log_replay::Memory;
 use std::alloc::AllocError;
 
 /// Writes the numbers of a run.

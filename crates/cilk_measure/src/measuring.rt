@@ -1,11 +1,11 @@
 //! The numbers of a run, found in one pass, while its choices are made again.
 
 ghost use Rattle.std.specs.Prelude.{◌≡◌, ◌≤◌, ◌^◌, true, IfOk, IfErr, length, map};
-ghost use Rattle.cilk_debug.specs.machine.choices.Words.{choice_of};
-ghost use Rattle.cilk_debug.specs.log.Naming.{is_of};
-ghost use Rattle.cilk_debug.specs.ReplayFaults.{IsFaultOf, IsNamedFaultOf};
-ghost use Rattle.cilk_debug.specs.Tape.{IsAt, Tape, tape_of};
-ghost use Rattle.cilk_debug.specs.machine.syntax.ProgramText.{program_text};
+ghost use Rattle.cilk_log_replay.specs.machine.choices.Words.{choice_of};
+ghost use Rattle.cilk_log_replay.specs.log.Naming.{is_of};
+ghost use Rattle.cilk_log_replay.specs.ReplayFaults.{IsFaultOf, IsNamedFaultOf};
+ghost use Rattle.cilk_log_replay.specs.Tape.{IsAt, Tape, tape_of};
+ghost use Rattle.cilk_log_replay.specs.machine.syntax.ProgramText.{program_text};
 ghost use Rattle.cilk_measure.specs.Gauged.{IsMeasureOf};
 ghost use Rattle.cilk_measure.specs.Held.{Gauged};
 ghost use Rattle.cilk_measure.specs.Seats.{told};
@@ -13,7 +13,7 @@ ghost use Rattle.cilk_measure.specs.Words.{numbers_of};
 
 use crate::gauge::Gauge;
 use crate::measure::Measure;
-use cilk_debug::{Choice, Loaded, Log, Machine, ReplayFault, play, refuse_other};
+use cilk_log_replay::{Choice, Loaded, Log, Machine, ReplayFault, play, refuse_other};
 use std::alloc::Global;
 
 /// A program behind all choices of a recorded schedule, and the numbers that are told of them.

@@ -1,14 +1,14 @@
 //! What a choice that was made again did, by the places of instances.
 
 ghost use Rattle.std.specs.Prelude.{◌≡◌, length, unwrap_or};
-ghost use Rattle.cilk_debug.specs.machine.labelled.Bodies.{label};
-ghost use Rattle.cilk_debug.specs.machine.spawn.Nodes.{node_at};
+ghost use Rattle.cilk_log_replay.specs.machine.labelled.Bodies.{label};
+ghost use Rattle.cilk_log_replay.specs.machine.spawn.Nodes.{node_at};
 ghost use Rattle.cilk_measure.specs.Acts.{act_of};
 ghost use Rattle.cilk_measure.specs.Motions.{acted, born, delivered, ended, fewer, inlet_left, motion_of, place_among, trapped};
 
 use crate::cell::{Cell, cell_at, next};
 use crate::nature::nature_of;
-use cilk_debug::{Did, Id, Loaded, Machine};
+use cilk_log_replay::{Did, Id, Loaded, Machine};
 
 /// A step of an instance.
 #[derive(Clone, Copy)]

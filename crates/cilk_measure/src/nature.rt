@@ -1,12 +1,12 @@
 //! What an action does to the bodies that its instance runs, and to what it waits for, read off the tables of a program.
 
 ghost use Rattle.std.specs.Prelude.{◌≡◌};
-ghost use Rattle.cilk_load.specs.nodes.model.labelled.Bodies.{label};
-ghost use Rattle.cilk_load.specs.nodes.model.Change.{is_sync, leaves};
+ghost use Rattle.cilk_log_replay.specs.machine.nodes.model.labelled.Bodies.{label};
+ghost use Rattle.cilk_log_replay.specs.machine.nodes.model.Change.{is_sync, leaves};
 ghost use Rattle.cilk_measure.specs.Acts.{act_of, goes_through, is_call, is_so};
 ghost use Rattle.cilk_measure.specs.Nodes.{node_calls, node_goes_through, node_leaves, node_waits};
 
-use cilk_load::{Action, Loaded, Taker};
+use cilk_log_replay::{Action, Loaded, Taker};
 
 /// What an action does to the bodies of its instance.
 #[derive(Clone, Copy, Debug)]

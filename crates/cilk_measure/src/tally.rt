@@ -6,7 +6,7 @@ ghost use Rattle.cilk_measure.specs.Tallies.{at_place, child_cell, counted, firs
 use crate::cell::{Cell, cell_at, next, put};
 use crate::edge::Edge;
 use crate::motion::{Motion, motion_of};
-use cilk_debug::{Did, Machine, Memory};
+use cilk_log_replay::{Did, Machine, Memory};
 use std::alloc::Global;
 use std::marker::Model;
 

@@ -6,7 +6,8 @@ mod laws;
 mod view_laws;
 
 pub use cilk_model_labels::{
-    BinOp, Global, GlobalShape, Item, ItemNode, LockAction, Owner, Program, Word,
+    BinOp, Global, GlobalShape, Item, ItemNode, LockAction, Memory, Owner, Program, Trap, UnOp,
+    Word,
 };
 pub use laws::{
     formats_are_printed, rows_of_calls_come_out, rows_of_control_come_out,

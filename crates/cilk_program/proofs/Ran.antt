@@ -14,9 +14,9 @@ use Rattle.cilk_run.specs.choices.declared.choice.Choice as code
 use Rattle.cilk_run.specs.machine.Situation.{Situation}
 use Rattle.cilk_run.specs.machine.Stands.{StandsAt}
 use Rattle.cilk_run.specs.Drawn.{drawn}
-use Rattle.cilk_measure.specs.debug.log.Text.{log_text}
-use Rattle.cilk_measure.specs.debug.log.Words.{log_of}
-use Rattle.cilk_measure.specs.debug.Tape.{Tape, tape_of, IsAt}
+use Rattle.cilk_races.specs.measure.replay.log.Text.{log_text}
+use Rattle.cilk_races.specs.measure.replay.log.Words.{log_of}
+use Rattle.cilk_races.specs.measure.replay.Tape.{Tape, tape_of, IsAt}
 use Rattle.cilk_commands.specs.Loading.{IsReady}
 use Rattle.cilk_commands.specs.declared.status.Status.{Status}
 use Rattle.cilk_program.specs.Running.{IsRun, status_at}

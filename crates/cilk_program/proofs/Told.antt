@@ -1,9 +1,9 @@
 -- The status that tells of a failure.
 use Rattle.std.proofs.Common.{◌≡◌, ◌∙◌, true, false, ℕ, List, refl, sym, ap}
 use Rattle.std.specs.Prelude.{◌≢◌}
-use Rattle.cilk_measure.specs.debug.log.declared.fault.LogFault.TheVariants as log
-use Rattle.cilk_measure.specs.debug.declared.replay_fault.ReplayFault.{ReplayFault}
-use Rattle.cilk_measure.specs.debug.declared.replay_fault.ReplayFault.TheVariants as replay
+use Rattle.cilk_races.specs.measure.replay.log.declared.fault.LogFault.TheVariants as log
+use Rattle.cilk_races.specs.measure.replay.declared.replay_fault.ReplayFault.{ReplayFault}
+use Rattle.cilk_races.specs.measure.replay.declared.replay_fault.ReplayFault.TheVariants as replay
 use Rattle.cilk_commands.specs.Loading.{Unready}
 use Rattle.cilk_commands.specs.Status.{is_answer}
 use Rattle.cilk_commands.proofs.Statuses.{not_both}

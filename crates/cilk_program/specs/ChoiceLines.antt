@@ -3,10 +3,10 @@ use Rattle.std.specs.Prelude.{◌≡◌, ◌≤◌, ◌<◌, ◌-◌, ◌+◌, �
 use Rattle.std.specs.Prelude.{slice_get, codes, decimal}
 use Rattle.cilk_run.specs.model.Choice.{Choice}
 use Rattle.cilk_run.specs.choices.declared.refusal.Refusal.{Refusal}
-use Rattle.cilk_measure.specs.debug.log.Choices.{choice_text}
-use Rattle.cilk_measure.specs.debug.log.Reading.{log_read}
-use Rattle.cilk_measure.specs.debug.log.Stretches.{Stretch, once, are_joined, count_of, stretches_of}
-use Rattle.cilk_measure.specs.debug.log.Text.{Log, log_lines}
+use Rattle.cilk_races.specs.measure.replay.log.Choices.{choice_text}
+use Rattle.cilk_races.specs.measure.replay.log.Reading.{log_read}
+use Rattle.cilk_races.specs.measure.replay.log.Stretches.{Stretch, once, are_joined, count_of, stretches_of}
+use Rattle.cilk_races.specs.measure.replay.log.Text.{Log, log_lines}
 use Rattle.cilk_program.specs.Meanings.{refusal_meaning}
 
 -- choice k of some, counted from 1

@@ -8,9 +8,9 @@ use Rattle.cilk_run.specs.machine.spawn.Kinds.{kind_of}
 use Rattle.cilk_run.specs.choices.declared.end.End.{End}
 use Rattle.cilk_run.specs.choices.declared.end.End.TheVariants as ends
 use Rattle.cilk_run.specs.choices.declared.refusal.Refusal.{Refusal}
-use Rattle.cilk_measure.specs.debug.log.Text.{Log}
-use Rattle.cilk_measure.specs.debug.declared.replay_fault.ReplayFault.{ReplayFault}
-use Rattle.cilk_measure.specs.debug.declared.replay_fault.ReplayFault.TheVariants as replay
+use Rattle.cilk_races.specs.measure.replay.log.Text.{Log}
+use Rattle.cilk_races.specs.measure.replay.declared.replay_fault.ReplayFault.{ReplayFault}
+use Rattle.cilk_races.specs.measure.replay.declared.replay_fault.ReplayFault.TheVariants as replay
 use Rattle.cilk_commands.specs.Front.{AppendsFront}
 use Rattle.cilk_commands.specs.Held.{Held, IsReadOf}
 use Rattle.cilk_commands.specs.Telling.{IsActionTold}

@@ -2,13 +2,13 @@
 use Rattle.std.specs.Prelude.{◌≡◌, ⊤, true, ℕ, List, Option, Ok}
 use Rattle.cilk_commands.specs.syntax.Tree.{Program}
 use Rattle.cilk_commands.specs.ProgramText.{program_text}
-use Rattle.cilk_measure.specs.debug.log.Naming.{is_of}
-use Rattle.cilk_measure.specs.debug.log.Reading.{log_read}
-use Rattle.cilk_measure.specs.debug.log.Words.{fault_of, IsFault}
-use Rattle.cilk_measure.specs.debug.log.declared.fault.LogFault.{LogFault}
-use Rattle.cilk_measure.specs.debug.Tape.{Tape}
-use Rattle.cilk_measure.specs.debug.ReplayFaults.{IsNamedFaultOf}
-use Rattle.cilk_measure.specs.debug.declared.replay_fault.ReplayFault.{ReplayFault}
+use Rattle.cilk_races.specs.measure.replay.log.Naming.{is_of}
+use Rattle.cilk_races.specs.measure.replay.log.Reading.{log_read}
+use Rattle.cilk_races.specs.measure.replay.log.Words.{fault_of, IsFault}
+use Rattle.cilk_races.specs.measure.replay.log.declared.fault.LogFault.{LogFault}
+use Rattle.cilk_races.specs.measure.replay.Tape.{Tape}
+use Rattle.cilk_races.specs.measure.replay.ReplayFaults.{IsNamedFaultOf}
+use Rattle.cilk_races.specs.measure.replay.declared.replay_fault.ReplayFault.{ReplayFault}
 use Rattle.cilk_commands.specs.Loading.{IsReady, Unready}
 use Rattle.cilk_commands.specs.declared.failure.Failure.TheVariants as failure
 use Rattle.cilk_program.specs.declared.failure.RecordFailure.{RecordFailure}

@@ -3,14 +3,13 @@
 ghost use Rattle.std.specs.Prelude.{◌≡◌, ◌≤◌, ◌⊎◌, [], IfOk, length, map, option_map, string_bytes};
 ghost use Rattle.cilk_commands.specs.syntax.Appends.{Appends};
 ghost use Rattle.cilk_run.specs.choices.Words.{act_of, choice_of};
-ghost use Rattle.cilk_measure.specs.debug.log.Choices.{act_text, choice_text};
-ghost use Rattle.cilk_measure.specs.debug.log.Stretches.{are_joined, stretches_of};
-ghost use Rattle.cilk_measure.specs.debug.log.Words.{log_of};
+ghost use Rattle.cilk_races.specs.measure.replay.log.Choices.{act_text, choice_text};
+ghost use Rattle.cilk_races.specs.measure.replay.log.Stretches.{are_joined, stretches_of};
+ghost use Rattle.cilk_races.specs.measure.replay.log.Words.{log_of};
 ghost use Rattle.cilk_program.specs.ChoiceLines.{IsChoiceOf, choice_words, line_of_choice, new_lines, nth_choice};
 
 use crate::meaning::refusal_meaning;
-use cilk_log::Memory;
-use cilk_measure::Log;
+use cilk_races::{Log, Memory};
 use cilk_run::{Act, Choice, Refusal};
 use std::alloc::Global;
 

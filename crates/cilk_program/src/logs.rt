@@ -3,8 +3,8 @@
 ghost use Rattle.std.specs.Prelude.{◌≡◌, ◌≢◌, ℕ, Bool, true, map, Some, IfOk, IfErr, IfSome, OnOk};
 ghost use Rattle.cilk_commands.specs.ProgramText.{program_text};
 ghost use Rattle.cilk_commands.specs.syntax.Tree.{Program};
-ghost use Rattle.cilk_measure.specs.debug.log.Naming.{digest_of};
-ghost use Rattle.cilk_measure.specs.debug.log.Text.{log_text};
+ghost use Rattle.cilk_races.specs.measure.replay.log.Naming.{digest_of};
+ghost use Rattle.cilk_races.specs.measure.replay.log.Text.{log_text};
 ghost use Rattle.cilk_run.specs.choices.Words.{choice_of};
 ghost use Rattle.cilk_program.specs.Exploring.{AreKept, logs_of, recorded};
 ghost use Rattle.cilk_program.specs.Outcomes.{outcomes_by};
@@ -15,8 +15,7 @@ use crate::outcome::{endings_before, log_in, outcome_at, outcome_count};
 use crate::unexplored::Unexplored;
 use cilk_commands::{Failure, Loaded};
 use cilk_explore::{Choice, Exploration};
-use cilk_log::program_of;
-use cilk_measure::{Choices, Log, Memory, write_log};
+use cilk_log::{Choices, Log, Memory, program_of, write_log};
 use std::alloc::{AllocError, Global};
 
 /// Keeps a log of each outcome, by its number, where logs are wanted.

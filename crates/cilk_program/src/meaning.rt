@@ -4,7 +4,7 @@ ghost use Rattle.std.specs.Prelude.{◌≡◌};
 ghost use Rattle.cilk_run.specs.machine.spawn.Kinds.{kind_of};
 ghost use Rattle.cilk_program.specs.Meanings.{refusal_meaning, trap_meaning, value_meaning};
 
-use cilk_log::{Trap, TrapKind};
+use cilk_races::{Trap, TrapKind};
 use cilk_run::Refusal;
 
 /// What a kind of traps means: a sentence without its full stop.

@@ -2,16 +2,16 @@
 
 ghost use Rattle.std.specs.Prelude.{◌≡◌, true, IfErr, IfOk, string_bytes};
 ghost use Rattle.cilk_commands.specs.ProgramText.{program_text};
-ghost use Rattle.cilk_measure.specs.debug.ReplayFaults.{IsNamedFaultOf};
-ghost use Rattle.cilk_measure.specs.debug.Tape.{tape_of};
-ghost use Rattle.cilk_measure.specs.debug.log.Naming.{is_of};
-ghost use Rattle.cilk_measure.specs.Words.{numbers_of};
-ghost use Rattle.cilk_measure.specs.Text.{measure_text};
+ghost use Rattle.cilk_races.specs.measure.replay.ReplayFaults.{IsNamedFaultOf};
+ghost use Rattle.cilk_races.specs.measure.replay.Tape.{tape_of};
+ghost use Rattle.cilk_races.specs.measure.replay.log.Naming.{is_of};
+ghost use Rattle.cilk_races.specs.measure.Words.{numbers_of};
+ghost use Rattle.cilk_races.specs.measure.Text.{measure_text};
 ghost use Rattle.cilk_program.specs.Measuring.{AreNumbers};
 
 use crate::tape_answer::{TapeAnswering, run_told};
 use cilk_commands::{Answered, Answering, Failure, Loaded, Status};
-use cilk_measure::{Log, Measure, Measured, Memory, ReplayFault, measure_all, put_measure};
+use cilk_races::{Log, Measure, Measured, Memory, ReplayFault, measure_all, put_measure};
 use std::alloc::Global;
 
 /// The numbers of a schedule: work, span and others.

@@ -1,12 +1,11 @@
 //! What is told behind the line of a failure about a recorded schedule.
 
 ghost use Rattle.std.specs.Prelude.{◌≡◌, [], IfOk, string_bytes};
-ghost use Rattle.cilk_measure.specs.debug.log.Words.{log_of};
+ghost use Rattle.cilk_races.specs.measure.replay.log.Words.{log_of};
 ghost use Rattle.cilk_program.specs.Saying.{IsFaultTold};
 
 use crate::choice_line::choice_told;
-use cilk_log::Memory;
-use cilk_measure::{Log, ReplayFault};
+use cilk_races::{Log, Memory, ReplayFault};
 use std::alloc::Global;
 
 /// What is told behind the line of a failure, where more is asked for.

@@ -8,7 +8,7 @@ ghost use Rattle.cilk_program.specs.Outcomes.{outcome_by, outcomes_by};
 
 use crate::outcome::{Outcome, endings_before, log_in, outcome_at, outcome_count};
 use cilk_explore::{Exploration, Told};
-use cilk_measure::Memory;
+use cilk_races::Memory;
 use cilk_run::ending;
 use std::alloc::{AllocError, Global};
 

@@ -6,8 +6,7 @@ ghost use Rattle.cilk_program.specs.Racing.{status_of_races};
 
 use crate::tape_answer::{TapeAnswering, run_told};
 use cilk_commands::{Answered, Answering, Failure, Loaded, Status};
-use cilk_measure::{Log, ReplayFault};
-use cilk_races::{ToldRaces, races_of};
+use cilk_races::{Log, ReplayFault, ToldRaces, races_of};
 use std::alloc::Global;
 
 /// The races of a schedule.

@@ -6,9 +6,9 @@ ghost use Rattle.cilk_commands.specs.Held.{Held};
 ghost use Rattle.cilk_commands.specs.Loading.{IsReady, Unready};
 ghost use Rattle.cilk_commands.specs.Status.{is_answer, status_of as status_of_program};
 ghost use Rattle.cilk_commands.specs.ProgramText.{program_text};
-ghost use Rattle.cilk_measure.specs.debug.ReplayFaults.{IsNamedFaultOf};
-ghost use Rattle.cilk_measure.specs.debug.Tape.{Tape, tape_of};
-ghost use Rattle.cilk_measure.specs.debug.log.Naming.{is_of};
+ghost use Rattle.cilk_races.specs.measure.replay.ReplayFaults.{IsNamedFaultOf};
+ghost use Rattle.cilk_races.specs.measure.replay.Tape.{Tape, tape_of};
+ghost use Rattle.cilk_races.specs.measure.replay.log.Naming.{is_of};
 ghost use Rattle.cilk_program.specs.GivingUp.{FollowsProgram, GivesUp};
 ghost use Rattle.cilk_program.specs.OnTapes.{IsOfLog, IsOfRun, TellsLog, TellsLogFront};
 ghost use Rattle.cilk_program.specs.Saying.{IsSaid};
@@ -21,7 +21,7 @@ use crate::note::Note;
 use crate::streams::Streams;
 use crate::taped::{Taped, tape_in};
 use cilk_commands::{Answered, Failure, Loaded, Status, read_text, ready_of, write_answer};
-use cilk_measure::{Log, ReplayFault};
+use cilk_races::{Log, ReplayFault};
 use cilk_run::{Run, run_by_seed};
 use std::alloc::{AllocError, Global};
 use std::io::{Read, Write};
@@ -37,7 +37,7 @@ pub trait TapeAnswering {
     ghost tells: { Tape → Status → List ℕ → Type 0 };
 
     /// What is told of the choices of a log, or why they cannot be made again. That the log is of another program is told first, and then what
-    /// `cilk_debug::play` tells.
+    /// `cilk_log_replay::play` tells.
     fn tell(alloc: Global, program: Loaded, log: &Log) -> Result<Answered, ReplayFault>
         ensures ok { IfOk result (λ told. tells (tape_of program log.now.workers log.now.choices) told.status (string_bytes told.text)) }
         ensures answer { IfOk result (λ told. is_answer told.status ≡ true) }

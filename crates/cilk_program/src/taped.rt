@@ -4,16 +4,16 @@ ghost use Rattle.std.specs.Prelude.{◌≡◌, ◌≢◌, ℕ, List, Option, Ok,
 ghost use Rattle.cilk_commands.specs.Held.{Held};
 ghost use Rattle.cilk_commands.specs.Loading.{IsReady};
 ghost use Rattle.cilk_commands.specs.declared.status.Status.TheVariants as ended;
-ghost use Rattle.cilk_measure.specs.debug.log.Reading.{log_read};
-ghost use Rattle.cilk_measure.specs.debug.log.Words.{log_of};
-ghost use Rattle.cilk_measure.specs.debug.Tape.{tape_of};
+ghost use Rattle.cilk_races.specs.measure.replay.log.Reading.{log_read};
+ghost use Rattle.cilk_races.specs.measure.replay.log.Words.{log_of};
+ghost use Rattle.cilk_races.specs.measure.replay.Tape.{tape_of};
 ghost use Rattle.cilk_program.specs.GivingUp.{FollowsProgram};
 ghost use Rattle.cilk_program.specs.Telling.{status_of};
 ghost use Rattle.cilk_program.specs.Taped.{Declines, IsTape, IsUnread};
 
 use crate::failure::RecordFailure;
 use cilk_commands::{Failure, Loaded, read_record, ready_of};
-use cilk_measure::{Log, read_log};
+use cilk_log::{Log, read_log};
 use std::alloc::Global;
 use std::io::Read;
 

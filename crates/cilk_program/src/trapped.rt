@@ -8,7 +8,7 @@ ghost use Rattle.cilk_program.specs.Saying.{ClosesTrapped, IsTrapOf, TellsTrap, 
 
 use crate::meaning::trap_meaning;
 use cilk_commands::{Status, action_told, write_parts};
-use cilk_log::TrapKind;
+use cilk_races::TrapKind;
 use std::alloc::Global;
 use std::io;
 use std::io::Write;

@@ -4,11 +4,11 @@ use Rattle.std.proofs.Common.{length, take, refl, sym, ap, ◌∙◌, subst, ari
 use Rattle.std.proofs.lemmas.Bool.{cases_eq, cases_lt, ne_eqb, lt-ltb, false_from_ne_true}
 use Rattle.std.proofs.lemmas.List.{get_or_append_left, get_or_push, length_push, take-append-le}
 use Rattle.std.proofs.lemmas.List.Sums.{count_by-le-length}
-use Rattle.cilk_races.specs.measure.debug.machine.labelled.Labelled.{Labelled}
-use Rattle.cilk_races.specs.measure.debug.machine.model.Event.{Event, spawned}
-use Rattle.cilk_races.specs.measure.debug.machine.model.Path.{Path, same_path}
+use Rattle.cilk_races.specs.measure.replay.machine.labelled.Labelled.{Labelled}
+use Rattle.cilk_races.specs.measure.replay.machine.model.Event.{Event, spawned}
+use Rattle.cilk_races.specs.measure.replay.machine.model.Path.{Path, same_path}
 use Rattle.cilk_races.specs.measure.Inside.{parent_path}
-use Rattle.cilk_races.proofs.measure_laws.debug_laws.machine_laws.spawn_laws.Paths.{same_is, same_self}
+use Rattle.cilk_races.proofs.measure_laws.replay_laws.machine_laws.spawn_laws.Paths.{same_is, same_self}
 use Rattle.cilk_races.specs.Kept.{is_birth, is_born}
 use Rattle.cilk_races.specs.Line.{Line, no_line}
 use Rattle.cilk_races.specs.Order.{bears, block_of, syncs_of}

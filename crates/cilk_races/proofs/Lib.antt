@@ -17,5 +17,5 @@ pub mod VariableNames
 pub mod Meetings
 pub mod Raced
 pub mod Reversed
-pub use Rattle.cilk_machine_step.proofs as step_laws
 pub use Rattle.cilk_measure.proofs as measure_laws
+pub use Rattle.cilk_measure.proofs.replay_laws.machine_laws.step_laws

@@ -10,7 +10,7 @@ use Rattle.std.proofs.Math.Seq.{take-suc}
 use Rattle.cilk_measure.specs.model.labelled.Labelled.{Labelled}
 use Rattle.cilk_measure.specs.model.Event.{Event}
 use Rattle.cilk_measure.specs.model.Path.{same_path}
-use Rattle.cilk_machine_step.specs.Accesses.{Where, global, own, output, synched}
+use Rattle.cilk_measure.specs.replay.machine.step.Accesses.{Where, global, own, output, synched}
 use Rattle.cilk_races.specs.declared.touch.Touch as touched
 use Rattle.cilk_races.specs.Line.{Line}
 use Rattle.cilk_races.specs.Links.{AreLinked, IsFirst, MeetsNoLater, begun, bucket_at, bucket_of, hash_of}

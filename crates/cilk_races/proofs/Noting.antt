@@ -7,17 +7,17 @@ use Rattle.cilk_races.specs.measure.Kept.{Keeps, Named}
 use Rattle.cilk_races.specs.measure.Motions.{motion_of}
 use Rattle.cilk_races.specs.measure.declared.cell.Cell.{Cell}
 use Rattle.cilk_races.specs.measure.declared.motion.Motion.{Motion}
-use Rattle.cilk_races.specs.measure.debug.machine.agree.Fated.{Fated}
-use Rattle.cilk_races.specs.measure.debug.machine.carries.Words.{event_by}
-use Rattle.cilk_races.specs.measure.debug.machine.carries.declared.did.Did.{Did}
-use Rattle.cilk_races.specs.measure.debug.machine.carries.declared.did.Did.TheVariants as did
-use Rattle.cilk_races.specs.measure.debug.machine.labelled.Bodies.{label}
-use Rattle.cilk_races.specs.measure.debug.machine.model.Change.{is_sync}
-use Rattle.cilk_races.specs.measure.debug.machine.model.Event.{Event, acted, spawned}
-use Rattle.cilk_races.specs.measure.debug.machine.model.Made as made
-use Rattle.cilk_races.specs.measure.debug.machine.model.Path.{Path, same_path}
-use Rattle.cilk_races.specs.measure.debug.machine.spawn.Nodes.{IsTree, Node, node_at, path_at}
-use Rattle.cilk_races.specs.measure.debug.machine.syntax.Tree.{Program}
+use Rattle.cilk_races.specs.measure.replay.machine.agree.Fated.{Fated}
+use Rattle.cilk_races.specs.measure.replay.machine.plans.PartWords.{event_by}
+use Rattle.cilk_races.specs.measure.replay.machine.plans.declared.did.Did.{Did}
+use Rattle.cilk_races.specs.measure.replay.machine.plans.declared.did.Did.TheVariants as did
+use Rattle.cilk_races.specs.measure.replay.machine.labelled.Bodies.{label}
+use Rattle.cilk_races.specs.measure.replay.machine.model.Change.{is_sync}
+use Rattle.cilk_races.specs.measure.replay.machine.model.Event.{Event, acted, spawned}
+use Rattle.cilk_races.specs.measure.replay.machine.model.Made as made
+use Rattle.cilk_races.specs.measure.replay.machine.model.Path.{Path, same_path}
+use Rattle.cilk_races.specs.measure.replay.machine.spawn.Nodes.{IsTree, Node, node_at, path_at}
+use Rattle.cilk_races.specs.measure.replay.machine.syntax.Tree.{Program}
 use Rattle.cilk_races.specs.measure.Acts.{act_of, is_so}
 use Rattle.cilk_races.specs.measure.Inside.{parent_path}
 use Rattle.cilk_races.specs.measure.Steps.{Step, step_within}
@@ -25,8 +25,8 @@ use Rattle.cilk_races.proofs.measure_laws.Births.{Parented, last-born, named-by,
 use Rattle.cilk_races.proofs.measure_laws.Doings.{Means}
 use Rattle.cilk_races.proofs.measure_laws.Ids.{other-place}
 use Rattle.cilk_races.proofs.measure_laws.Moving.{child-is, motion-says, parent-is}
-use Rattle.cilk_races.proofs.measure_laws.debug_laws.machine_laws.spawn_laws.Paths.{same_is}
-use Rattle.cilk_races.proofs.measure_laws.debug_laws.machine_laws.spawn_laws.Trees.{names}
+use Rattle.cilk_races.proofs.measure_laws.replay_laws.machine_laws.spawn_laws.Paths.{same_is}
+use Rattle.cilk_races.proofs.measure_laws.replay_laws.machine_laws.spawn_laws.Trees.{names}
 use Rattle.cilk_races.specs.Kept.{is_birth}
 use Rattle.cilk_races.specs.Line.{Line}
 use Rattle.cilk_races.specs.Order.{bears, passes}

@@ -2,7 +2,7 @@
 use Rattle.std.proofs.Common.{◌≡◌, ◌<◌, ◌≤◌, ◌⊎◌, ℕ, List, [], length, Option, Some, None, sym, ap, ◌∙◌, inl, inr}
 use Rattle.std.proofs.lemmas.Bool.{cases_lt}
 use Rattle.std.proofs.lemmas.List.{get_or_past}
-use Rattle.cilk_races.specs.measure.debug.machine.spawn.Nodes.{Node, no_node, node_at, path_at, path_up, path_via}
+use Rattle.cilk_races.specs.measure.replay.machine.spawn.Nodes.{Node, no_node, node_at, path_at, path_up, path_via}
 
 pub path-root : (ns : List Node) (i : ℕ) → (node_at ns i).parent ≡ None → path_at ns i ≡ []
 path-root ns i none = ap (λ (o : Option ℕ). path_via (path_up ns i) o (node_at ns i).ordinal) none

@@ -4,20 +4,20 @@ use Rattle.std.proofs.lemmas.List.{nil_from_length, take_all}
 use Rattle.cilk_races.specs.measure.Gauged.{events_at, events_in}
 use Rattle.cilk_races.specs.measure.Held.{Held}
 use Rattle.cilk_races.specs.measure.Tallies.{first}
-use Rattle.cilk_races.specs.measure.debug.Tape.{Tape, IsAt, position_at}
-use Rattle.cilk_races.specs.measure.debug.machine.Situation.{Situation}
-use Rattle.cilk_races.specs.measure.debug.machine.agree.Fated.{Fated}
-use Rattle.cilk_races.specs.measure.debug.machine.labelled.Bodies.{label}
-use Rattle.cilk_races.specs.measure.debug.machine.labelled.Labelled.{Labelled}
-use Rattle.cilk_races.specs.measure.debug.machine.model.Choice.{Choice}
-use Rattle.cilk_races.specs.measure.debug.machine.model.Event.{Event}
-use Rattle.cilk_races.specs.measure.debug.machine.model.Path.{Path}
-use Rattle.cilk_races.specs.measure.debug.machine.model.Run.{Position, after_main}
-use Rattle.cilk_races.specs.measure.debug.machine.spawn.Nodes.{IsTree, Node, path_at}
-use Rattle.cilk_races.specs.measure.debug.machine.syntax.Tree.{Program}
+use Rattle.cilk_races.specs.measure.replay.Tape.{Tape, IsAt, position_at}
+use Rattle.cilk_races.specs.measure.replay.machine.Situation.{Situation}
+use Rattle.cilk_races.specs.measure.replay.machine.agree.Fated.{Fated}
+use Rattle.cilk_races.specs.measure.replay.machine.labelled.Bodies.{label}
+use Rattle.cilk_races.specs.measure.replay.machine.labelled.Labelled.{Labelled}
+use Rattle.cilk_races.specs.measure.replay.machine.model.Choice.{Choice}
+use Rattle.cilk_races.specs.measure.replay.machine.model.Event.{Event}
+use Rattle.cilk_races.specs.measure.replay.machine.model.Path.{Path}
+use Rattle.cilk_races.specs.measure.replay.machine.model.Run.{Position, after_main}
+use Rattle.cilk_races.specs.measure.replay.machine.spawn.Nodes.{IsTree, Node, path_at}
+use Rattle.cilk_races.specs.measure.replay.machine.syntax.Tree.{Program}
 use Rattle.cilk_races.proofs.measure_laws.Births.{made-at, made-length}
 use Rattle.cilk_races.proofs.measure_laws.Gauges.{events-long, first-held}
-use Rattle.cilk_races.proofs.measure_laws.debug_laws.Again.{led_in}
+use Rattle.cilk_races.proofs.measure_laws.replay_laws.Again.{led_in}
 use Rattle.cilk_races.specs.Kept.{Blocked}
 use Rattle.cilk_races.specs.Line.{no_line}
 use Rattle.cilk_races.specs.Paired as paired

@@ -2,13 +2,13 @@
 use Rattle.std.proofs.Common.{◌≡◌, ℕ, List, length, take, Option, Some, None, option_map}
 use Rattle.std.proofs.Common.{refl, sym, ap, ◌∙◌, subst, arith, IfSome}
 use Rattle.std.proofs.lemmas.List.{length-map, take_all}
-use Rattle.cilk_races.specs.measure.debug.Tape.{Tape, IsAt, position_at, tape_of}
-use Rattle.cilk_races.specs.measure.debug.machine.choices.Words.{choice_of}
-use Rattle.cilk_races.specs.measure.debug.machine.choices.declared.choice.Choice.{Choice}
-use Rattle.cilk_races.specs.measure.debug.machine.labelled.Bodies.{label}
-use Rattle.cilk_races.specs.measure.debug.machine.model.End.{end_now}
-use Rattle.cilk_races.specs.measure.debug.machine.syntax.Tree.{Program}
-use Rattle.cilk_races.proofs.measure_laws.debug_laws.Again.{led_in}
+use Rattle.cilk_races.specs.measure.replay.Tape.{Tape, IsAt, position_at, tape_of}
+use Rattle.cilk_races.specs.measure.replay.machine.choices.Words.{choice_of}
+use Rattle.cilk_races.specs.measure.replay.machine.choices.declared.choice.Choice.{Choice}
+use Rattle.cilk_races.specs.measure.replay.machine.labelled.Bodies.{label}
+use Rattle.cilk_races.specs.measure.replay.machine.model.End.{end_now}
+use Rattle.cilk_races.specs.measure.replay.machine.syntax.Tree.{Program}
+use Rattle.cilk_races.proofs.measure_laws.replay_laws.Again.{led_in}
 use Rattle.cilk_races.specs.Paired as paired
 use Rattle.cilk_races.specs.Races.{Pair, Touch, touches_of}
 use Rattle.cilk_races.specs.Found.{EndsAs, HoldsRun, IsReversalOf}

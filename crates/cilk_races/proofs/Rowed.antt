@@ -6,9 +6,9 @@ use Rattle.std.proofs.Common.{get_or-set_other}
 use Rattle.std.proofs.lemmas.Bool.{cases_eq, eq-eqb, ne_eqb, lt-ltb}
 use Rattle.std.proofs.lemmas.List.Sums.{count_by-le-length}
 use Rattle.cilk_races.specs.measure.Kept.{IsUnmade}
-use Rattle.cilk_races.specs.measure.debug.machine.labelled.Labelled.{Labelled}
-use Rattle.cilk_races.specs.measure.debug.machine.model.Event.{Event}
-use Rattle.cilk_races.specs.measure.debug.machine.model.Path.{Path, same_path}
+use Rattle.cilk_races.specs.measure.replay.machine.labelled.Labelled.{Labelled}
+use Rattle.cilk_races.specs.measure.replay.machine.model.Event.{Event}
+use Rattle.cilk_races.specs.measure.replay.machine.model.Path.{Path, same_path}
 use Rattle.cilk_races.specs.Kept.{is_birth}
 use Rattle.cilk_races.specs.Line.{Line, no_line}
 use Rattle.cilk_races.specs.Order.{passes, bears}

@@ -3,9 +3,9 @@ use Rattle.std.proofs.Common.{◌≡◌, ℕ, List, Option, Some, None, ap, ◌�
 use Rattle.cilk_races.specs.measure.Motions.{motion_of}
 use Rattle.cilk_races.specs.measure.Tallies.{Tally, noted}
 use Rattle.cilk_races.specs.measure.declared.motion.Motion.{Motion}
-use Rattle.cilk_races.specs.measure.debug.machine.carries.declared.did.Did.{Did}
-use Rattle.cilk_races.specs.measure.debug.machine.spawn.Nodes.{Node}
-use Rattle.cilk_races.specs.measure.debug.machine.syntax.Tree.{Program}
+use Rattle.cilk_races.specs.measure.replay.machine.plans.declared.did.Did.{Did}
+use Rattle.cilk_races.specs.measure.replay.machine.spawn.Nodes.{Node}
+use Rattle.cilk_races.specs.measure.replay.machine.syntax.Tree.{Program}
 use Rattle.cilk_races.specs.Line.{Line}
 use Rattle.cilk_races.specs.declared.touch.Touch as kept
 use Rattle.cilk_races.specs.Noted.{IsNoted, KeepsTouches, NotesBy, number_of, placed_by, rows_after}

@@ -6,10 +6,10 @@ use Rattle.std.proofs.Math.Seq.{take-suc}
 use Rattle.std.proofs.lemmas.Bool.{cases_lt}
 use Rattle.std.proofs.lemmas.List.{append-nil, append_assoc, get_or_past, map-append}
 use Rattle.std.proofs.lemmas.List.Elements.{All-head, All-push, All-tail}
-use Rattle.cilk_races.specs.measure.debug.machine.labelled.Labelled.{Labelled}
-use Rattle.cilk_races.specs.measure.debug.machine.model.Choice.{Choice}
-use Rattle.cilk_races.specs.measure.debug.machine.model.Event.{Event}
-use Rattle.cilk_races.specs.measure.debug.machine.model.Path.{Path}
+use Rattle.cilk_races.specs.measure.replay.machine.labelled.Labelled.{Labelled}
+use Rattle.cilk_races.specs.measure.replay.machine.model.Choice.{Choice}
+use Rattle.cilk_races.specs.measure.replay.machine.model.Event.{Event}
+use Rattle.cilk_races.specs.measure.replay.machine.model.Path.{Path}
 use Rattle.cilk_races.specs.measure.model.Run.{Standing, Position, after, after_from, after_main, event_of, is_crew, next_of, opening, refusal_of}
 use Rattle.cilk_races.proofs.measure_laws.Known.{map-same, there-more}
 use Rattle.cilk_races.specs.Kept.{Blocked, blocks_by, block_in, children_in, path_in, syncs_in}

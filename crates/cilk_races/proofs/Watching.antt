@@ -9,29 +9,29 @@ use Rattle.cilk_races.specs.measure.Held.{Held}
 use Rattle.cilk_races.specs.measure.Motions.{motion_of}
 use Rattle.cilk_races.specs.measure.Tallies.{noted, noted_by}
 use Rattle.cilk_races.specs.measure.declared.motion.Motion.{Motion}
-use Rattle.cilk_races.specs.measure.debug.Tape.{Tape, IsAt}
-use Rattle.cilk_races.specs.measure.debug.machine.agree.Fated.{Fated}
-use Rattle.cilk_races.specs.measure.debug.machine.agree.scopes.WellFormed.{WellFormed}
-use Rattle.cilk_races.specs.measure.debug.machine.carries.Words.{event_by}
-use Rattle.cilk_races.specs.measure.debug.machine.carries.declared.did.Did.{Did}
-use Rattle.cilk_races.specs.measure.debug.machine.carries.declared.did.Did.TheVariants as did
-use Rattle.cilk_races.specs.measure.debug.machine.choices.declared.choice.Choice.{Choice}
-use Rattle.cilk_races.specs.measure.debug.machine.choices.Words.{choice_of}
-use Rattle.cilk_races.specs.measure.debug.machine.labelled.Bodies.{label}
-use Rattle.cilk_races.specs.measure.debug.machine.labelled.Labelled.{Labelled}
-use Rattle.cilk_races.specs.measure.debug.machine.model.Choice as model
-use Rattle.cilk_races.specs.measure.debug.machine.model.Event.{Event}
-use Rattle.cilk_races.specs.measure.debug.machine.model.Path.{Path}
-use Rattle.cilk_races.specs.measure.debug.machine.model.Run.{event_of, one_more, position_after, refusal_of}
-use Rattle.cilk_races.specs.measure.debug.machine.spawn.Nodes.{Node, path_at}
-use Rattle.cilk_races.specs.measure.debug.machine.syntax.Tree.{Program}
+use Rattle.cilk_races.specs.measure.replay.Tape.{Tape, IsAt}
+use Rattle.cilk_races.specs.measure.replay.machine.agree.Fated.{Fated}
+use Rattle.cilk_races.specs.measure.replay.machine.agree.scopes.WellFormed.{WellFormed}
+use Rattle.cilk_races.specs.measure.replay.machine.plans.PartWords.{event_by}
+use Rattle.cilk_races.specs.measure.replay.machine.plans.declared.did.Did.{Did}
+use Rattle.cilk_races.specs.measure.replay.machine.plans.declared.did.Did.TheVariants as did
+use Rattle.cilk_races.specs.measure.replay.machine.choices.declared.choice.Choice.{Choice}
+use Rattle.cilk_races.specs.measure.replay.machine.choices.Words.{choice_of}
+use Rattle.cilk_races.specs.measure.replay.machine.labelled.Bodies.{label}
+use Rattle.cilk_races.specs.measure.replay.machine.labelled.Labelled.{Labelled}
+use Rattle.cilk_races.specs.measure.replay.machine.model.Choice as model
+use Rattle.cilk_races.specs.measure.replay.machine.model.Event.{Event}
+use Rattle.cilk_races.specs.measure.replay.machine.model.Path.{Path}
+use Rattle.cilk_races.specs.measure.replay.machine.model.Run.{event_of, one_more, position_after, refusal_of}
+use Rattle.cilk_races.specs.measure.replay.machine.spawn.Nodes.{Node, path_at}
+use Rattle.cilk_races.specs.measure.replay.machine.syntax.Tree.{Program}
 use Rattle.cilk_races.specs.measure.Steps.{Step, step_of}
 use Rattle.cilk_races.proofs.measure_laws.Births.{grows, stays}
 use Rattle.cilk_races.proofs.measure_laws.Doings.{Means}
 use Rattle.cilk_races.proofs.measure_laws.Gauges.{did-is, events-long, events-next, noted-by}
 use Rattle.cilk_races.proofs.measure_laws.Known.{map-same}
 use Rattle.cilk_races.proofs.measure_laws.Moving.{Says, motion-says}
-use Rattle.cilk_races.proofs.measure_laws.debug_laws.Again.{led_in, chosen, step_down}
+use Rattle.cilk_races.proofs.measure_laws.replay_laws.Again.{led_in, chosen, step_down}
 use Rattle.cilk_races.specs.Kept.{children_in, path_in, syncs_in}
 use Rattle.cilk_races.specs.Line.{Line}
 use Rattle.cilk_races.specs.Order.{children_of, syncs_of}

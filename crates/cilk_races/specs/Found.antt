@@ -1,14 +1,14 @@
 -- What is found of a run.
 use Rattle.std.specs.Prelude.{◌≡◌, ℕ, List, Some}
-use Rattle.cilk_races.specs.measure.debug.Tape.{Tape}
-use Rattle.cilk_races.specs.measure.debug.machine.Situation.{Situation}
-use Rattle.cilk_races.specs.measure.debug.machine.Stands.{StandsAt}
-use Rattle.cilk_races.specs.measure.debug.machine.choices.Words.{end_of}
-use Rattle.cilk_races.specs.measure.debug.machine.choices.declared.end.End.{End}
-use Rattle.cilk_races.specs.measure.debug.machine.labelled.Bodies.{label}
-use Rattle.cilk_races.specs.measure.debug.machine.model.End as model
-use Rattle.cilk_races.specs.measure.debug.machine.labelled.Labelled.{Labelled}
-use Rattle.cilk_races.specs.measure.debug.machine.model.Event.{Event}
+use Rattle.cilk_races.specs.measure.replay.Tape.{Tape}
+use Rattle.cilk_races.specs.measure.replay.machine.Situation.{Situation}
+use Rattle.cilk_races.specs.measure.replay.machine.Stands.{StandsAt}
+use Rattle.cilk_races.specs.measure.replay.machine.choices.Words.{end_of}
+use Rattle.cilk_races.specs.measure.replay.machine.choices.declared.end.End.{End}
+use Rattle.cilk_races.specs.measure.replay.machine.labelled.Bodies.{label}
+use Rattle.cilk_races.specs.measure.replay.machine.model.End as model
+use Rattle.cilk_races.specs.measure.replay.machine.labelled.Labelled.{Labelled}
+use Rattle.cilk_races.specs.measure.replay.machine.model.Event.{Event}
 use Rattle.cilk_races.specs.measure.model.Run.{Standing}
 use Rattle.cilk_races.specs.Kept.{Blocked}
 use Rattle.cilk_races.specs.Paired as paired

@@ -16,4 +16,4 @@ pub mod Reversals
 pub mod Met
 pub mod RacesText
 pub use Rattle.cilk_measure.specs as measure
-pub use Rattle.cilk_machine_step.specs as step
+pub use Rattle.cilk_measure.specs.replay.machine.step

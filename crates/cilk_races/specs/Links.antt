@@ -1,6 +1,6 @@
 -- Accesses of a run, linked where their cells have one hash.
 use Rattle.std.specs.Prelude.{◌≡◌, ◌<◌, ◌≤◌, ◌+◌, ◌*◌, ◌%◌, ◌^◌, ℕ, suc, Bool, false, ◌||◌, if◌then◌else◌, nat_lt, List, [], ◌∷◌, slice_index, slice_index_or}
-use Rattle.cilk_machine_step.specs.Accesses.{Where, global, own, output, synched}
+use Rattle.cilk_measure.specs.replay.machine.step.Accesses.{Where, global, own, output, synched}
 use Rattle.cilk_races.specs.Paired.{no_touch}
 use Rattle.cilk_races.specs.Races.{Touch}
 

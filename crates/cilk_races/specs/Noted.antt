@@ -5,11 +5,11 @@ use Rattle.std.specs.List.{All}
 use Rattle.cilk_races.specs.measure.Kept.{IsThere}
 use Rattle.cilk_races.specs.measure.Motions.{motion_of}
 use Rattle.cilk_races.specs.measure.Tallies.{noted}
-use Rattle.cilk_races.specs.measure.debug.machine.syntax.Tree.{Program}
-use Rattle.cilk_races.specs.measure.debug.machine.carries.declared.did.Did.{Did}
-use Rattle.cilk_races.specs.measure.debug.machine.carries.declared.did.Did.TheVariants.{Moved, Acted, Spawned, Delivered, Returned, Ended, Trapped}
-use Rattle.cilk_races.specs.measure.debug.machine.model.Path.{Path}
-use Rattle.cilk_races.specs.measure.debug.machine.spawn.Nodes.{Node, path_at}
+use Rattle.cilk_races.specs.measure.replay.machine.syntax.Tree.{Program}
+use Rattle.cilk_races.specs.measure.replay.machine.plans.declared.did.Did.{Did}
+use Rattle.cilk_races.specs.measure.replay.machine.plans.declared.did.Did.TheVariants.{Moved, Acted, Spawned, Delivered, Returned, Ended, Trapped}
+use Rattle.cilk_races.specs.measure.replay.machine.model.Path.{Path}
+use Rattle.cilk_races.specs.measure.replay.machine.spawn.Nodes.{Node, path_at}
 use Rattle.cilk_races.specs.measure.declared.motion.Motion.{Motion}
 use Rattle.cilk_races.specs.Kept.{children_in, path_in, syncs_in}
 use Rattle.cilk_races.specs.Line.{Line, no_line}

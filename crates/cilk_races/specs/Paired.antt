@@ -3,7 +3,7 @@ use Rattle.std.specs.Prelude.{◌<◌, ℕ, Bool, false, not, List, [], ◌∷�
 use Rattle.std.specs.List.{list_any}
 use Rattle.cilk_measure.specs.model.labelled.Labelled.{Labelled}
 use Rattle.cilk_measure.specs.model.Event.{Event}
-use Rattle.cilk_machine_step.specs.Accesses.{output}
+use Rattle.cilk_measure.specs.replay.machine.step.Accesses.{output}
 use Rattle.cilk_races.specs.declared.pairing.Pair as kept
 use Rattle.cilk_races.specs.Line.{Line}
 use Rattle.cilk_races.specs.declared.touch.Touch as touched

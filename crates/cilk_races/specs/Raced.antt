@@ -1,7 +1,7 @@
 -- The races of all choices of a tape.
 use Rattle.std.specs.Prelude.{◌≡◌, ℕ, List, length, Some}
-use Rattle.cilk_races.specs.measure.debug.Tape.{Tape, position_at}
-use Rattle.cilk_races.specs.measure.debug.machine.labelled.Bodies.{label}
+use Rattle.cilk_races.specs.measure.replay.Tape.{Tape, position_at}
+use Rattle.cilk_races.specs.measure.replay.machine.labelled.Bodies.{label}
 use Rattle.cilk_races.specs.measure.model.Run.{Position}
 use Rattle.cilk_races.specs.Races.{Pair, touches_of, pairs_of, entries_of}
 

@@ -12,8 +12,8 @@ use Rattle.cilk_measure.specs.model.Run.{Standing, next_of, event_of, opening}
 use Rattle.cilk_measure.specs.model.Scheduler.{hand_of}
 use Rattle.cilk_measure.specs.Deeds.{is_step}
 use Rattle.cilk_measure.specs.Steps.{Step, step_of}
-use Rattle.cilk_machine_step.specs.plan.agree.Alike.{lowest_body}
-use Rattle.cilk_machine_step.specs.Accesses.{Where, global, own, output, synched, Access, accesses_of, locks_from}
+use Rattle.cilk_measure.specs.replay.machine.step.plan.agree.Alike.{lowest_body}
+use Rattle.cilk_measure.specs.replay.machine.step.Accesses.{Where, global, own, output, synched, Access, accesses_of, locks_from}
 use Rattle.cilk_races.specs.Order.{Placed, Relation, ordered, race, order, inlets, syncs_of, children_of, relation_of}
 
 -- an access of a choice, counted from 1: by which action, and with which locks

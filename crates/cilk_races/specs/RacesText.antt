@@ -1,11 +1,11 @@
 -- How the races of a run are told.
 use Rattle.std.specs.Prelude.{◌≡◌, ℕ, ◌==◌, if◌then◌else◌, List, [], ◌++◌, map, flat_map, slice_get, unwrap_or, codes, decimal, Option, Some, None}
 use Rattle.std.specs.List.{All}
-use Rattle.cilk_races.specs.measure.debug.Tape.{Tape}
-use Rattle.cilk_races.specs.measure.debug.machine.labelled.Bodies.{label}
-use Rattle.cilk_races.specs.measure.debug.machine.labelled.Labelled.{Labelled, Variable, Body}
-use Rattle.cilk_races.specs.measure.debug.machine.model.End.{End, finished, trapped, stuck, limit, end_text, line_of}
-use Rattle.cilk_races.specs.measure.debug.machine.model.Path.{Path, path_text}
+use Rattle.cilk_races.specs.measure.replay.Tape.{Tape}
+use Rattle.cilk_races.specs.measure.replay.machine.labelled.Bodies.{label}
+use Rattle.cilk_races.specs.measure.replay.machine.labelled.Labelled.{Labelled, Variable, Body}
+use Rattle.cilk_races.specs.measure.replay.machine.model.End.{End, finished, trapped, stuck, limit, end_text, line_of}
+use Rattle.cilk_races.specs.measure.replay.machine.model.Path.{Path, path_text}
 use Rattle.cilk_races.specs.Order.{Relation, ordered, race, order, inlets}
 use Rattle.cilk_races.specs.Races.{Pair, Touch, count_of}
 use Rattle.cilk_races.specs.step.Accesses.{Where, global, own, output, synched}

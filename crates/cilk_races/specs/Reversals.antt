@@ -1,9 +1,9 @@
 -- Schedules that take two accesses of a run in the other order.
 use Rattle.std.specs.Prelude.{⊤, ◌≡◌, ◌<◌, ◌≤◌, ◌==◌, nat_le, ◌&&◌, ℕ, Bool, true, false, not, List, length, count_by, Option, Some, None}
-use Rattle.cilk_races.specs.measure.debug.Tape.{Tape, position_at}
-use Rattle.cilk_races.specs.measure.debug.machine.labelled.Bodies.{label}
-use Rattle.cilk_races.specs.measure.debug.machine.model.End.{End, end_now}
-use Rattle.cilk_races.specs.measure.debug.machine.model.Path.{same_path}
+use Rattle.cilk_races.specs.measure.replay.Tape.{Tape, position_at}
+use Rattle.cilk_races.specs.measure.replay.machine.labelled.Bodies.{label}
+use Rattle.cilk_races.specs.measure.replay.machine.model.End.{End, end_now}
+use Rattle.cilk_races.specs.measure.replay.machine.model.Path.{same_path}
 use Rattle.cilk_races.specs.measure.model.Run.{Position}
 use Rattle.cilk_races.specs.Races.{Pair, Touch, same_cell, touches_of}
 

@@ -4,12 +4,12 @@ use Rattle.std.specs.List.{All}
 use Rattle.cilk_races.specs.measure.Gauged.{events_at}
 use Rattle.cilk_races.specs.measure.Held.{Held}
 use Rattle.cilk_races.specs.measure.Kept.{IsUnmade}
-use Rattle.cilk_races.specs.measure.debug.Tape.{Tape}
-use Rattle.cilk_races.specs.measure.debug.machine.labelled.Bodies.{label}
-use Rattle.cilk_races.specs.measure.debug.machine.labelled.Labelled.{Labelled}
-use Rattle.cilk_races.specs.measure.debug.machine.model.Event.{Event}
-use Rattle.cilk_races.specs.measure.debug.machine.model.Path.{Path}
-use Rattle.cilk_races.specs.measure.debug.machine.spawn.Nodes.{path_at}
+use Rattle.cilk_races.specs.measure.replay.Tape.{Tape}
+use Rattle.cilk_races.specs.measure.replay.machine.labelled.Bodies.{label}
+use Rattle.cilk_races.specs.measure.replay.machine.labelled.Labelled.{Labelled}
+use Rattle.cilk_races.specs.measure.replay.machine.model.Event.{Event}
+use Rattle.cilk_races.specs.measure.replay.machine.model.Path.{Path}
+use Rattle.cilk_races.specs.measure.replay.machine.spawn.Nodes.{path_at}
 use Rattle.cilk_races.specs.Kept.{is_born}
 use Rattle.cilk_races.specs.Line.{Line}
 use Rattle.cilk_races.specs.Order.{block_of, children_of, syncs_of}

@@ -3,13 +3,15 @@
 
 ghost use Rattle.std.specs.Prelude.{◌<◌, length};
 ghost use Rattle.cilk_races.specs.step.plan.StepInput.{id_of};
-ghost use Rattle.cilk_races.specs.measure.debug.machine.step.Scenes.{HeadFits, input_of};
+ghost use Rattle.cilk_races.specs.measure.replay.machine.step.Scenes.{HeadFits, input_of};
 
 use crate::row::{Row, path_in};
 use crate::times::times;
 use crate::touch::Touch;
-use cilk_machine_step::{Access, Memory, Scene, accesses_in, number_in};
-use cilk_measure::{Act, Choice, Did, Loaded, Machine, ReplayFault, play};
+use cilk_measure::{
+    Access, Act, Choice, Did, Loaded, Machine, Memory, ReplayFault, Scene, accesses_in, number_in,
+    play,
+};
 use std::alloc::{AllocError, Global};
 
 /// What is wanted: the first access is to be made behind the second.

@@ -23,5 +23,8 @@ mod told;
 mod touch;
 mod watch;
 
-pub use cilk_measure::{Loaded, Log, ReplayFault};
+pub use cilk_measure::{
+    Loaded, Log, LogFault, Measure, Measured, Memory, ReplayFault, Trap, TrapKind, measure_all,
+    play_all, put_measure,
+};
 pub use told::{ToldRaces, races_of};

@@ -7,7 +7,7 @@ ghost use Rattle.cilk_races.specs.PairWords.{touch_of};
 
 use crate::row::{Row, path_in};
 use crate::touch::Touch;
-use cilk_machine_step::{Memory, Spot};
+use cilk_measure::{Memory, Spot};
 use std::alloc::Global;
 
 /// As many buckets as there are accesses, each of which begins at the first access whose hash falls into it and that may meet a later one.

@@ -1,6 +1,6 @@
 //! What a choice touches that is not made yet.
 
-use cilk_machine_step::Access;
+use cilk_measure::Access;
 
 /// The cells that the step of a choice reads and writes. A pop or a steal touches none.
 #[derive(Drop)]

@@ -9,7 +9,7 @@ ghost use Rattle.cilk_races.specs.PairWords.{touch_of};
 
 use crate::row::{Row, path_in};
 use crate::touch::Touch;
-use cilk_machine_step::Spot;
+use cilk_measure::Spot;
 
 /// Whether two accesses meet.
 pub fn meet(rows: &[Row], a: &Touch, b: &Touch) -> bool

@@ -1,7 +1,7 @@
 //! The names of variables, by their numbers in the declarations.
 
 ghost use Rattle.std.specs.Prelude.{◌≡◌, option_copied, slice_get};
-ghost use Rattle.cilk_races.specs.measure.debug.machine.labelled.Bodies.{label};
+ghost use Rattle.cilk_races.specs.measure.replay.machine.labelled.Bodies.{label};
 ghost use Rattle.cilk_races.specs.RacesText.{name_by, own_name};
 
 use cilk_measure::Loaded;

@@ -15,7 +15,7 @@ use crate::may_meet::{meet, same_variable};
 use crate::relation::{Relation, relation_of};
 use crate::row::Row;
 use crate::touch::Touch;
-use cilk_machine_step::Memory;
+use cilk_measure::Memory;
 use std::alloc::Global;
 
 /// Two accesses, by their places among those of a run, and how the program relates their steps.

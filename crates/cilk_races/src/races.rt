@@ -2,14 +2,14 @@
 
 ghost use Rattle.std.specs.Prelude.{◌≡◌, ◌≤◌, ◌^◌, List, true, IfErr, IfOk, length, map};
 ghost use Rattle.std.specs.List.{All};
-ghost use Rattle.cilk_races.specs.measure.debug.machine.agree.scopes.WellFormed.{WellFormed};
-ghost use Rattle.cilk_races.specs.measure.debug.machine.choices.Words.{choice_of};
-ghost use Rattle.cilk_races.specs.measure.debug.machine.labelled.Labelled.{Labelled};
-ghost use Rattle.cilk_races.specs.measure.debug.machine.model.Event.{Event};
-ghost use Rattle.cilk_races.specs.measure.debug.machine.syntax.ProgramText.{program_text};
-ghost use Rattle.cilk_races.specs.measure.debug.log.Naming.{is_of};
-ghost use Rattle.cilk_races.specs.measure.debug.ReplayFaults.{IsFaultOf, IsNamedFaultOf};
-ghost use Rattle.cilk_races.specs.measure.debug.Tape.{IsAt, Tape, tape_of};
+ghost use Rattle.cilk_races.specs.measure.replay.machine.agree.scopes.WellFormed.{WellFormed};
+ghost use Rattle.cilk_races.specs.measure.replay.machine.choices.Words.{choice_of};
+ghost use Rattle.cilk_races.specs.measure.replay.machine.labelled.Labelled.{Labelled};
+ghost use Rattle.cilk_races.specs.measure.replay.machine.model.Event.{Event};
+ghost use Rattle.cilk_races.specs.measure.replay.machine.syntax.ProgramText.{program_text};
+ghost use Rattle.cilk_races.specs.measure.replay.log.Naming.{is_of};
+ghost use Rattle.cilk_races.specs.measure.replay.ReplayFaults.{IsFaultOf, IsNamedFaultOf};
+ghost use Rattle.cilk_races.specs.measure.replay.Tape.{IsAt, Tape, tape_of};
 ghost use Rattle.cilk_races.specs.Kept.{Blocked};
 ghost use Rattle.cilk_races.specs.Paired.{Within, pairs_told, touches_of};
 ghost use Rattle.cilk_races.specs.Races.{entries_of, pairs_of};
@@ -22,8 +22,7 @@ use crate::relation::Relation;
 use crate::row::Row;
 use crate::touch::Touch;
 use crate::watch::Watch;
-use cilk_machine_step::Memory;
-use cilk_measure::{Choice, Loaded, Log, Machine, ReplayFault, play, refuse_other};
+use cilk_measure::{Choice, Loaded, Log, Machine, Memory, ReplayFault, play, refuse_other};
 use std::alloc::Global;
 
 /// A program behind all choices of a recorded schedule, and the races of that run.

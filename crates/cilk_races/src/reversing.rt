@@ -2,7 +2,7 @@
 
 ghost use Rattle.std.specs.Prelude.{◌≡◌, ◌<◌, ◌≤◌, IfOk, IfSome, length, option_map, slice_index_or, true};
 ghost use Rattle.std.specs.List.{All};
-ghost use Rattle.cilk_races.specs.measure.debug.Tape.{Tape};
+ghost use Rattle.cilk_races.specs.measure.replay.Tape.{Tape};
 ghost use Rattle.cilk_races.specs.Paired.{Within, no_touch, pair_of, pairs_told, touches_of};
 ghost use Rattle.cilk_races.specs.PairWords.{touch_of};
 ghost use Rattle.cilk_races.specs.Found.{HoldsRun, IsReversalOf};
@@ -19,8 +19,7 @@ use crate::reversal::Reversal;
 use crate::times::{is_again, times};
 use crate::touch::Touch;
 use crate::watch::Watch;
-use cilk_machine_step::Memory;
-use cilk_measure::{Choice, Loaded, ReplayFault};
+use cilk_measure::{Choice, Loaded, Memory, ReplayFault};
 use std::alloc::{AllocError, Global};
 
 // So many choices more than four times those of the run may such a schedule have.

@@ -4,7 +4,7 @@ ghost use Rattle.std.specs.Prelude.{◌≡◌, ◌+◌, ◌-◌, ◌^◌, ◌++�
 ghost use Rattle.cilk_races.specs.Kept.{block_in, children_in, last_in, path_in, syncs_in};
 ghost use Rattle.cilk_races.specs.Line.{no_line};
 
-use cilk_machine_step::{Memory, Path};
+use cilk_measure::{Memory, Path};
 use std::alloc::Global;
 use std::marker::Model;
 

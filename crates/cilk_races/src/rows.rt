@@ -1,12 +1,11 @@
 //! What is kept of the instances of a run, one step more.
 
 ghost use Rattle.std.specs.Prelude.{◌≡◌, IfOk, OnOk};
-ghost use Rattle.cilk_races.specs.measure.debug.machine.spawn.Nodes.{path_at};
+ghost use Rattle.cilk_races.specs.measure.replay.machine.spawn.Nodes.{path_at};
 ghost use Rattle.cilk_races.specs.Noted.{bore_at, passed_if, rows_after};
 
 use crate::row::Row;
-use cilk_machine_step::{Memory, Path};
-use cilk_measure::{Did, Id, Machine, Motion};
+use cilk_measure::{Did, Id, Machine, Memory, Motion, Path};
 use std::alloc::Global;
 
 /// Behind a step of the machine, which did this.

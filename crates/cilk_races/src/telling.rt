@@ -2,8 +2,8 @@
 
 ghost use Rattle.std.specs.Prelude.{◌≡◌, List, flat_map, length, option_map};
 ghost use Rattle.std.specs.List.{All};
-ghost use Rattle.cilk_races.specs.measure.debug.machine.labelled.Bodies.{label};
-ghost use Rattle.cilk_races.specs.measure.debug.machine.syntax.Appends.{Appends};
+ghost use Rattle.cilk_races.specs.measure.replay.machine.labelled.Bodies.{label};
+ghost use Rattle.cilk_races.specs.measure.replay.machine.syntax.Appends.{Appends};
 ghost use Rattle.cilk_races.specs.Kept.{path_in};
 ghost use Rattle.cilk_races.specs.Line.{Line};
 ghost use Rattle.cilk_races.specs.Paired.{Within, pair_of};
@@ -21,8 +21,7 @@ use crate::races::Races;
 use crate::relation::Relation;
 use crate::row::{Row, path_in};
 use crate::touch::Touch;
-use cilk_machine_step::{Memory, Path, Spot};
-use cilk_measure::Loaded;
+use cilk_measure::{Loaded, Memory, Path, Spot};
 
 /// Writes the meetings of a run that are races or orders.
 pub(crate) fn put_meetings(

@@ -10,7 +10,7 @@ ghost use Rattle.cilk_races.specs.Reversals.{is_again, same_bool, times};
 
 use crate::row::{Row, path_in};
 use crate::touch::Touch;
-use cilk_machine_step::Spot;
+use cilk_measure::Spot;
 
 /// How often the access is made up to that choice of the other run.
 pub(crate) fn times(

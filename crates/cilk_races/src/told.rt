@@ -2,12 +2,12 @@
 
 ghost use Rattle.std.specs.Prelude.{◌≡◌, ◌++◌, IfErr, IfOk, flat_map, length, string_bytes, true};
 ghost use Rattle.std.specs.List.{All};
-ghost use Rattle.cilk_races.specs.measure.debug.log.Naming.{is_of};
-ghost use Rattle.cilk_races.specs.measure.debug.machine.labelled.Bodies.{label};
-ghost use Rattle.cilk_races.specs.measure.debug.machine.syntax.Appends.{Appends};
-ghost use Rattle.cilk_races.specs.measure.debug.machine.syntax.ProgramText.{program_text};
-ghost use Rattle.cilk_races.specs.measure.debug.ReplayFaults.{IsNamedFaultOf};
-ghost use Rattle.cilk_races.specs.measure.debug.Tape.{Tape, tape_of};
+ghost use Rattle.cilk_races.specs.measure.replay.log.Naming.{is_of};
+ghost use Rattle.cilk_races.specs.measure.replay.machine.labelled.Bodies.{label};
+ghost use Rattle.cilk_races.specs.measure.replay.machine.syntax.Appends.{Appends};
+ghost use Rattle.cilk_races.specs.measure.replay.machine.syntax.ProgramText.{program_text};
+ghost use Rattle.cilk_races.specs.measure.replay.ReplayFaults.{IsNamedFaultOf};
+ghost use Rattle.cilk_races.specs.measure.replay.Tape.{Tape, tape_of};
 ghost use Rattle.cilk_races.specs.Paired.{Within};
 ghost use Rattle.cilk_races.specs.Found.{HoldsRun, told_in};
 ghost use Rattle.cilk_races.specs.Raced.{AreRacesOf};
@@ -19,8 +19,7 @@ use crate::races::{Races, races_of_run};
 use crate::relation::Relation;
 use crate::reversing::meetings_of;
 use crate::telling::{count_among, put_counts, put_meetings};
-use cilk_machine_step::Memory;
-use cilk_measure::{Choice, Loaded, Log, ReplayFault};
+use cilk_measure::{Choice, Loaded, Log, Memory, ReplayFault};
 use std::alloc::Global;
 
 /// What is told of the races of a run.

@@ -1,6 +1,6 @@
 //! Accesses of a run, with the steps that made them.
 
-use cilk_machine_step::Access;
+use cilk_measure::Access;
 
 /// A step: its instance, and what that did before.
 #[derive(Clone, Copy)]

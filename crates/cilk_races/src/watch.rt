@@ -2,17 +2,17 @@
 
 ghost use Rattle.std.specs.Prelude.{◌≡◌, ◌<◌, ◌∷◌, ◌++◌, ◌^◌, ℕ, List, suc, [], length, map, slice_get, option_copied, IfErr, IfOk, OnOk};
 ghost use Rattle.std.specs.List.{All};
-ghost use Rattle.cilk_races.specs.measure.debug.machine.agree.scopes.WellFormed.{WellFormed};
-ghost use Rattle.cilk_races.specs.measure.debug.machine.choices.Words.{choice_of};
-ghost use Rattle.cilk_races.specs.measure.debug.Tape.{Tape, IsAt};
-ghost use Rattle.cilk_races.specs.measure.debug.ReplayFaults.{IsFaultOf};
+ghost use Rattle.cilk_races.specs.measure.replay.machine.agree.scopes.WellFormed.{WellFormed};
+ghost use Rattle.cilk_races.specs.measure.replay.machine.choices.Words.{choice_of};
+ghost use Rattle.cilk_races.specs.measure.replay.Tape.{Tape, IsAt};
+ghost use Rattle.cilk_races.specs.measure.replay.ReplayFaults.{IsFaultOf};
 ghost use Rattle.cilk_races.specs.measure.Tallies.{first};
 ghost use Rattle.cilk_races.specs.Line.{Line, no_line};
 ghost use Rattle.cilk_races.specs.Paired.{touches_of};
 ghost use Rattle.cilk_races.specs.step.Shown.{held, touched};
 ghost use Rattle.cilk_races.specs.step.CellWords.{told};
 ghost use Rattle.cilk_races.specs.step.plan.StepInput.{id_of, own_node};
-ghost use Rattle.cilk_races.specs.measure.debug.machine.step.Scenes.{HeadFits, input_of};
+ghost use Rattle.cilk_races.specs.measure.replay.machine.step.Scenes.{HeadFits, input_of};
 ghost use Rattle.cilk_races.specs.Looked.{AdvancesWatch, IsNothing, LooksAt};
 ghost use Rattle.cilk_races.specs.Noted.{ArePlaced, IsNoted, KeepsTouches, KnowsTouch, number_of, placed_by, touch_by};
 
@@ -20,8 +20,10 @@ use crate::look::Look;
 use crate::row::{Row, children_in, syncs_in};
 use crate::rows::note_rows;
 use crate::touch::{Placed, Touch};
-use cilk_machine_step::{Access, Memory, Scene, accesses_in, locks_in};
-use cilk_measure::{Act, Choice, Did, Machine, Motion, ReplayFault, Tally, make_again, motion_of};
+use cilk_measure::{
+    Access, Act, Choice, Did, Machine, Memory, Motion, ReplayFault, Scene, Tally, accesses_in,
+    locks_in, make_again, motion_of,
+};
 use std::alloc::{AllocError, Global};
 
 /// A machine, and what is kept of the choices that led to it.

@@ -2,7 +2,7 @@
 use Rattle.std.specs.Prelude.{◌≡◌, ◌⊎◌, ◌||◌, ◌+◌, ℕ, Bool, true, List, [], ◌∷◌, ◌++◌, Option, Some, slice_get}
 use Rattle.cilk_log.specs.choices.declared.act.Act.{Act}
 use Rattle.cilk_machine.specs.step.Peeks.{code_at}
-use Rattle.cilk_machine.specs.eval.declared.slot.Slot.{Slot}
+use Rattle.cilk_machine.specs.nodes.declared.slot.Slot.{Slot}
 use Rattle.cilk_machine.specs.labelled.Term.{Term}
 use Rattle.cilk_machine.specs.syntax.Tree.{Program}
 use Rattle.cilk_run.specs.Histories.{Posted}

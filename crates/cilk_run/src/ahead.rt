@@ -23,8 +23,8 @@ pub struct Ahead<J: Setting> {
 impl<J: Setting> Model for Ahead<J> {
     ghost use Rattle.std.specs.Prelude.{List, Option};
     ghost use Rattle.cilk_machine.specs.labelled.Term.{Term};
-    ghost use Rattle.cilk_machine.specs.eval.Coding.{coded_Term};
-    ghost use Rattle.cilk_machine.specs.eval.declared.slot.Slot.{Slot};
+    ghost use Rattle.cilk_machine.specs.nodes.Coding.{coded_Term};
+    ghost use Rattle.cilk_machine.specs.nodes.declared.slot.Slot.{Slot};
     ghost use Rattle.cilk_run.specs.Turning.{IsListed};
     ghost use Rattle.std.specs.Coded.{codes};
 

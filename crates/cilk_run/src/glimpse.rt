@@ -15,7 +15,7 @@ pub struct Glimpse {
 
 impl Model for Glimpse {
     ghost use Rattle.cilk_machine.specs.step.Peeks.{peek_of};
-    ghost use Rattle.cilk_machine.specs.eval.Coding.{coded_Term};
+    ghost use Rattle.cilk_machine.specs.nodes.Coding.{coded_Term};
     ghost use Rattle.cilk_run.specs.Glimpses as seen;
     ghost use Rattle.std.specs.Coded.{codes};
 

@@ -19,7 +19,7 @@ pub struct Proposal {
 
 impl Model for Proposal {
     ghost use Rattle.std.specs.Prelude.{◌≡◌};
-    ghost use Rattle.cilk_machine.specs.eval.Coding.{coded_Term};
+    ghost use Rattle.cilk_machine.specs.nodes.Coding.{coded_Term};
     ghost use Rattle.cilk_machine.specs.eval.Known.{known};
     ghost use Rattle.cilk_machine.specs.labelled.Value.{value_of};
     ghost use Rattle.cilk_machine.specs.step.Peeks.{peek_of};

@@ -12,7 +12,6 @@ pub mod Cut
 pub mod Living
 pub mod LivingRecords
 pub use Rattle.cilk_frame.specs as frame
-pub use Rattle.cilk_frame.specs.eval
 pub use Rattle.cilk_frame.specs.labelled
 pub use Rattle.cilk_frame.specs.model
 pub use Rattle.cilk_frame.specs.nodes

@@ -43,7 +43,7 @@ mod tree_image;
 pub use arguments::Arguments;
 pub use cilk_frame::{
     Action, Area, Await, BinOp, Code, Frame, Id, LockAction, Memory, Mixer, Slot, SlotPlace, Slots,
-    Taker, Target, Trap, apply, eval,
+    Taker, Target, Trap,
 };
 pub use delivery::Delivery;
 pub use ending::Ending;

@@ -1,7 +1,7 @@
 -- What is asked, in the words of the definition of views.
 use Rattle.cilk_view.specs.declared.what.What as code
 use Rattle.cilk_view.specs.declared.what.What.TheVariants.{Tree, Frame, Globals, Deques, Output, Where, List}
-use Rattle.cilk_machine_agree.specs.model.What.{What, tree, frame, globals, deques, output, where_it_stands, list}
+use Rattle.cilk_explore_model.specs.model.What.{What, tree, frame, globals, deques, output, where_it_stands, list}
 
 abbrev pub what_of : code.What → What
 what_of Tree = tree

@@ -1,9 +1,9 @@
 //! The views of a program that runs.
 
 ghost use Rattle.std.specs.Prelude.{◌≡◌, ◌≢◌, Some, None, Ok, Err, IfOk, string_bytes};
-ghost use Rattle.cilk_machine_agree.specs.model.Run.{Position};
-ghost use Rattle.cilk_machine_agree.specs.model.Views.{shown};
-ghost use Rattle.cilk_machine_agree.specs.model.What as what;
+ghost use Rattle.cilk_explore_model.specs.model.Run.{Position};
+ghost use Rattle.cilk_explore_model.specs.model.Views.{shown};
+ghost use Rattle.cilk_explore_model.specs.model.What as what;
 ghost use Rattle.cilk_view.specs.Words.{what_of};
 ghost use Rattle.cilk_view.specs.Shows.{ShowsAt, Shows};
 
@@ -13,8 +13,8 @@ use crate::shown::Shown;
 use crate::texts::{deques_text, frame_text, globals_text, list_text, output_text, where_text};
 use crate::tree::tree_text;
 use crate::what::What;
+use cilk_explore_model::Path;
 use cilk_load::Memory;
-use cilk_machine_agree::Path;
 use std::alloc::Global;
 
 /// The text of a view, without its line on the position. There is none of the frame of what does not

@@ -1,8 +1,8 @@
 //! The views of a program that runs, told in portions.
 
 ghost use Rattle.std.specs.Prelude.{◌≡◌, ◌≢◌, Some, None, Ok, Err, IfOk};
-ghost use Rattle.cilk_machine_agree.specs.model.Run.{Position};
-ghost use Rattle.cilk_machine_agree.specs.model.Views.{shown};
+ghost use Rattle.cilk_explore_model.specs.model.Run.{Position};
+ghost use Rattle.cilk_explore_model.specs.model.Views.{shown};
 ghost use Rattle.cilk_view.specs.Words.{what_of};
 ghost use Rattle.cilk_view.specs.Shows.{ShowsAt, Shows};
 

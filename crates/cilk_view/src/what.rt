@@ -1,6 +1,6 @@
 //! The views that there are, and the path that one of them needs.
 
-use cilk_machine_agree::Path;
+use cilk_explore_model::Path;
 
 /// A view of a program that runs, named by the command of a session that asks for it.
 #[derive(Debug, Drop)]

@@ -6,7 +6,7 @@ ghost use Rattle.cilk_debug.specs.Playing.{is_back, is_on, played_to, way};
 use super::Player;
 use crate::going::go_along;
 use crate::track::EACH;
-use cilk_machine::Memory;
+use cilk_log_replay::Memory;
 use std::mem::swap;
 
 // Whether no checkpoint lies between, on the way on.

@@ -3,7 +3,7 @@
 ghost use Rattle.std.specs.Prelude.{◌≡◌, true};
 ghost use Rattle.cilk_machine_choices.specs.model.Hands.{IsWorker, no_place, worker_at};
 ghost use Rattle.cilk_machine_choices.specs.model.Run.{Standing};
-ghost use Rattle.cilk_machine_same.specs.explore.OrMore.{IsIdle, HasIdle};
+ghost use Rattle.cilk_view.specs.explore.OrMore.{IsIdle, HasIdle};
 ghost use Rattle.cilk_machine.specs.Stands.{StandsAt};
 
 use super::Machine;

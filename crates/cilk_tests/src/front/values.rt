@@ -1,7 +1,7 @@
 //! The values of expressions, and their traps, over cells that are known by hand.
 
 ghost use Rattle.std.specs.Prelude.{◌≡◌};
-ghost use Rattle.cilk_eval.specs.View.{term_of};
+ghost use Rattle.cilk_eval.specs.nodes.View.{term_of};
 ghost use Rattle.cilk_debug.specs.machine.labelled.Term as term;
 
 use cilk_eval::{

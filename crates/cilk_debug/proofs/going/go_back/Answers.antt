@@ -1,5 +1,5 @@
 use Rattle.std.proofs.Common.{◌≡◌, ◌∙◌, Ok, suc, length, ap, arith}
-use Rattle.cilk_debug.proofs.Onward.{goes-back}
+use Rattle.cilk_log_replay.proofs.Onward.{goes-back}
 use Rattle.cilk_debug.proofs.going.go_back.Goals as goal
 
 pub loop-machine-preserved : goal.loop-machine-preserved

@@ -1,7 +1,7 @@
 use Rattle.std.proofs.Common.{◌≡◌, ◌≤◌, ◌+◌, length}
-use Rattle.cilk_machine.specs.Situation.{Situation}
-use Rattle.cilk_debug.specs.Going.{Goes}
-use Rattle.cilk_debug.specs.Tape.{Tape}
+use Rattle.cilk_log_replay.specs.machine.Situation.{Situation}
+use Rattle.cilk_log_replay.specs.Going.{Goes}
+use Rattle.cilk_log_replay.specs.Tape.{Tape}
 use Rattle.cilk_debug.proofs.going.go_back.Given as goal
 
 abbrev pub invariant-loop-machine : goal.invariant-loop-machine

@@ -1,8 +1,8 @@
 use Rattle.std.proofs.Common.{◌≡◌, ◌≤◌, ◌+◌, true, length, map}
 use Rattle.cilk_debug_console.specs.choices.Words.{choice_of}
-use Rattle.cilk_machine.specs.Situation.{Situation}
-use Rattle.cilk_debug.specs.Going.{Goes}
-use Rattle.cilk_debug.specs.Tape.{Tape}
+use Rattle.cilk_log_replay.specs.machine.Situation.{Situation}
+use Rattle.cilk_log_replay.specs.Going.{Goes}
+use Rattle.cilk_log_replay.specs.Tape.{Tape}
 use Rattle.cilk_debug.proofs.going.go_on.Given as goal
 
 abbrev pub invariant-loop-made : goal.invariant-loop-made

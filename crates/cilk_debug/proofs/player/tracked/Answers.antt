@@ -1,8 +1,8 @@
 use Rattle.std.proofs.Common.{length, map, ap, sym, subst}
-use Rattle.cilk_machine.specs.syntax.Tree.{Program}
+use Rattle.cilk_log_replay.specs.machine.syntax.Tree.{Program}
 use Rattle.cilk_debug_console.specs.choices.Words.{choice_of}
-use Rattle.cilk_debug.specs.ReplayFaults.{IsFaultOf}
-use Rattle.cilk_debug.specs.Tape.{tape_of}
+use Rattle.cilk_log_replay.specs.ReplayFaults.{IsFaultOf}
+use Rattle.cilk_log_replay.specs.Tape.{tape_of}
 use Rattle.cilk_debug.specs.Tracks.{IsTrack}
 use Rattle.cilk_debug.proofs.player.tracked.Goals as goal
 

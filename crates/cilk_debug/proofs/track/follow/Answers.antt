@@ -1,7 +1,7 @@
 use Rattle.std.proofs.Common.{◌<◌, ◌∙◌, length, sym, ap, subst}
 use Rattle.std.proofs.lemmas.List.{length-map}
 use Rattle.cilk_debug_console.specs.choices.Words.{choice_of}
-use Rattle.cilk_machine.specs.spawn.Nodes.{path_at}
+use Rattle.cilk_log_replay.specs.machine.spawn.Nodes.{path_at}
 use Rattle.cilk_debug.specs.Tracks.{action_of}
 use Rattle.cilk_debug.proofs.Tracks.{track-on, track-kept, ok-by}
 use Rattle.cilk_debug.proofs.track.follow.Goals as goal

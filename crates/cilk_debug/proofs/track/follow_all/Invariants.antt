@@ -1,6 +1,6 @@
 use Rattle.std.proofs.Common.{◌≡◌, map}
 use Rattle.cilk_debug_console.specs.choices.Words.{choice_of}
-use Rattle.cilk_debug.specs.Tape.{Tape}
+use Rattle.cilk_log_replay.specs.Tape.{Tape}
 use Rattle.cilk_debug.specs.Tracks.{IsTrack}
 use Rattle.cilk_debug.proofs.track.follow_all.Given as goal
 

@@ -2,7 +2,7 @@ use Rattle.std.proofs.Common.{◌≡◌, ◌+◌, ◌++◌, List, map, drop, ref
 use Rattle.std.specs.Prelude.{flat_map}
 use Rattle.std.proofs.lemmas.List.{at_drop_more, map-append}
 use Rattle.cilk_load_names.specs.syntax.Tree as tree
-use Rattle.cilk_load_names.specs.eval.declared.area.Area.TheVariants.{Global}
+use Rattle.cilk_load_names.specs.nodes.declared.area.Area.TheVariants.{Global}
 use Rattle.cilk_load_names.specs.labelled.Bodies.{item_locks}
 use Rattle.cilk_load_names.specs.nodes.Bodies.{vars_from, lock_variable}
 use Rattle.cilk_load.proofs.Cells.{joined}

@@ -2,7 +2,7 @@ use Rattle.std.proofs.Common.{◌≡◌, ◌+◌, ◌++◌, List, drop, refl, sy
 use Rattle.std.specs.Prelude.{flat_map}
 use Rattle.std.proofs.lemmas.List.{at_drop_more}
 use Rattle.cilk_load_names.specs.syntax.Tree as tree
-use Rattle.cilk_load_names.specs.eval.declared.area.Area.TheVariants.{Global}
+use Rattle.cilk_load_names.specs.nodes.declared.area.Area.TheVariants.{Global}
 use Rattle.cilk_load_names.specs.labelled.Bodies.{item_globals}
 use Rattle.cilk_load_names.specs.nodes.Bodies.{vars_from}
 use Rattle.cilk_load.proofs.Cells.{joined}

@@ -1,6 +1,6 @@
 use Rattle.std.proofs.Common.{◌≡◌, ◌++◌, drop}
 use Rattle.std.specs.Prelude.{flat_map}
-use Rattle.cilk_load_names.specs.eval.declared.area.Area.TheVariants.{Global}
+use Rattle.cilk_load_names.specs.nodes.declared.area.Area.TheVariants.{Global}
 use Rattle.cilk_load_names.specs.labelled.Bodies.{item_globals}
 use Rattle.cilk_load_names.specs.nodes.Bodies.{vars_from}
 use Rattle.cilk_load.proofs.globals.put_globals.Given as goal

@@ -2,7 +2,7 @@ use Rattle.std.proofs.Common.{◌≡◌, List, length, map, Some, rules, sym, ap
 use Rattle.std.specs.Prelude.{flat_map}
 use Rattle.std.specs.List.{position}
 use Rattle.cilk_check.specs.syntax.Tree as tree
-use Rattle.cilk_load.specs.eval.declared.area.Area.TheVariants.{Global}
+use Rattle.cilk_load.specs.nodes.declared.area.Area.TheVariants.{Global}
 use Rattle.cilk_load.specs.labelled.Bodies.{item_globals, item_locks}
 use Rattle.cilk_load.specs.nodes.Bodies.{vars_from, lock_variable}
 use Rattle.cilk_load.specs.labelled.Count.{count_program}

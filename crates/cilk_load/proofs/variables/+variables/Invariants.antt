@@ -1,6 +1,6 @@
 use Rattle.std.proofs.Common.{◌≡◌, ◌+◌, ◌++◌, drop}
 use Rattle.cilk_load_names.specs.syntax.Tree.{stmts_of}
-use Rattle.cilk_load_names.specs.eval.declared.area.Area.TheVariants.{Own}
+use Rattle.cilk_load_names.specs.nodes.declared.area.Area.TheVariants.{Own}
 use Rattle.cilk_load_names.specs.labelled.Label.{stmts_variables}
 use Rattle.cilk_load_names.specs.nodes.Slots.{cells_of}
 use Rattle.cilk_load_names.specs.nodes.Bodies.{vars_from}

@@ -2,7 +2,7 @@ use Rattle.std.proofs.Common.{◌≡◌, ◌+◌, ◌++◌, List, drop, refl, sy
 use Rattle.std.proofs.lemmas.List.{at_drop_more}
 use Rattle.cilk_load_names.specs.syntax.Tree as tree
 use Rattle.cilk_load_names.specs.syntax.Tree.{locals_of}
-use Rattle.cilk_load_names.specs.eval.declared.area.Area.TheVariants.{Own}
+use Rattle.cilk_load_names.specs.nodes.declared.area.Area.TheVariants.{Own}
 use Rattle.cilk_load_names.specs.labelled.Label.{local_variables, locals_variables}
 use Rattle.cilk_load_names.specs.nodes.Slots.{cells_of}
 use Rattle.cilk_load_names.specs.nodes.Bodies.{vars_from}

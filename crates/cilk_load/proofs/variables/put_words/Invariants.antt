@@ -1,5 +1,5 @@
 use Rattle.std.proofs.Common.{◌≡◌, ◌+◌, ◌++◌, pos, map, drop}
-use Rattle.cilk_load_names.specs.eval.declared.area.Area.TheVariants.{Own}
+use Rattle.cilk_load_names.specs.nodes.declared.area.Area.TheVariants.{Own}
 use Rattle.cilk_load_names.specs.labelled.Bodies.{one_cell}
 use Rattle.cilk_load_names.specs.nodes.Slots.{cells_of}
 use Rattle.cilk_load_names.specs.nodes.Bodies.{vars_from}

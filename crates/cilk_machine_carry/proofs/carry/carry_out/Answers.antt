@@ -1,8 +1,8 @@
 use Rattle.std.proofs.Common.{sym, ◌∙◌, subst}
 use Rattle.std.specs.Option.{option_copied}
 use Rattle.cilk_machine_plan.specs.agree.Outside as outside
-use Rattle.cilk_machine_carry.specs.Words.{machine_of, outcome_of}
-use Rattle.cilk_machine_carry.specs.Carried.{Carried}
+use Rattle.cilk_machine_plan.specs.PartWords.{machine_of, outcome_of}
+use Rattle.cilk_machine_plan.specs.Carried.{Carried}
 use Rattle.cilk_machine_carry.proofs.Whole.{worker-there, ready-there, carries-there, becomes-there, given-again}
 use Rattle.cilk_machine_carry.proofs.carry.carry_out.Goals as goal
 

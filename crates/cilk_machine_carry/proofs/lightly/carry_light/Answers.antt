@@ -8,11 +8,11 @@ use Rattle.cilk_machine_plan.specs.frame.Cells.{frame_put}
 use Rattle.cilk_machine_plan.specs.agree.Outside as outside
 use Rattle.cilk_machine_plan.specs.declared.plan.Plan.TheVariants as plan
 use Rattle.cilk_machine_plan.specs.Words.{plan_of}
-use Rattle.cilk_machine_carry.specs.declared.did.Did.TheVariants as did
-use Rattle.cilk_machine_carry.specs.Words.{machine_of}
-use Rattle.cilk_machine_carry.specs.Ready.{frame_in}
+use Rattle.cilk_machine_plan.specs.declared.did.Did.TheVariants as did
+use Rattle.cilk_machine_plan.specs.PartWords.{machine_of}
+use Rattle.cilk_machine_plan.specs.Ready.{frame_in}
 use Rattle.cilk_machine_carry.proofs.Arms.{by-arm}
-use Rattle.cilk_machine_carry.proofs.Holds.{written}
+use Rattle.cilk_machine_plan.proofs.Holds.{written}
 use Rattle.cilk_machine_carry.proofs.lightly.carry_light.Goals as goal
 
 pub returns-in-Write-clause-carried : goal.returns-in-Write-clause-carried

@@ -1,8 +1,8 @@
 use Rattle.std.proofs.Common.{None, sym, ap, ◌∙◌, option_copied}
 use Rattle.cilk_machine_plan.specs.Words.{plan_of}
-use Rattle.cilk_machine_carry.specs.declared.did.Outcome.TheVariants.{Running}
-use Rattle.cilk_machine_carry.specs.Ready.{frame_in}
-use Rattle.cilk_machine_carry.proofs.Holds.{there}
+use Rattle.cilk_machine_plan.specs.declared.did.Outcome.TheVariants.{Running}
+use Rattle.cilk_machine_plan.specs.Ready.{frame_in}
+use Rattle.cilk_machine_plan.proofs.Holds.{there}
 use Rattle.cilk_machine_carry.proofs.Whole.{ready-there, carries-held, becomes-held}
 use Rattle.cilk_machine_carry.proofs.lightly.carry_lightly.Goals as goal
 

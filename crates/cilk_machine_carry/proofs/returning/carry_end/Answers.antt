@@ -1,5 +1,5 @@
 use Rattle.cilk_machine_plan.specs.agree.Outside as outside
-use Rattle.cilk_machine_carry.specs.Words.{machine_of, outcome_of}
+use Rattle.cilk_machine_plan.specs.PartWords.{machine_of, outcome_of}
 use Rattle.cilk_machine_carry.proofs.Closed.{ended-carried}
 use Rattle.cilk_machine_carry.proofs.returning.carry_end.Goals as goal
 

@@ -3,7 +3,7 @@ use Rattle.std.proofs.lemmas.Int.{to_z-of_z}
 use mir.Val.{of_z, to_z}
 use mir.Syntax.{w32}
 use Rattle.cilk_machine_plan.specs.agree.Outside as outside
-use Rattle.cilk_machine_carry.specs.Words.{machine_of}
+use Rattle.cilk_machine_plan.specs.PartWords.{machine_of}
 use Rattle.cilk_machine_carry.proofs.Closed.{returned-carried}
 use Rattle.cilk_machine_carry.proofs.returning.carry_return.Goals as goal
 

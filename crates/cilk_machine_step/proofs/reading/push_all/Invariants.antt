@@ -1,5 +1,5 @@
 use Rattle.std.proofs.Common.{◌≡◌, ◌++◌, drop, map}
-use Rattle.cilk_machine_plan.specs.eval.Slots.{cells_of, environment}
+use Rattle.cilk_machine_plan.specs.nodes.Areas.{cells_of, environment}
 use Rattle.cilk_machine_step.specs.Reads.{reads_in_all}
 use Rattle.cilk_machine_step.specs.CellWords.{read_of}
 use Rattle.cilk_machine_step.proofs.reading.push_all.Given as goal

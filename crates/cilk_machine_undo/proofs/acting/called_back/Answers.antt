@@ -1,6 +1,6 @@
 use Rattle.std.proofs.Common.{◌∙◌, ap, option_map}
-use Rattle.cilk_machine_carry.specs.model.Hands.{with_hand}
-use Rattle.cilk_machine_carry.specs.frame.Frames.{stood, left}
+use Rattle.cilk_machine_plan.specs.model.Hands.{with_hand}
+use Rattle.cilk_machine_plan.specs.frame.Frames.{stood, left}
 use Rattle.cilk_machine_undo.specs.Frames.{frame_before}
 use Rattle.cilk_machine_undo.specs.Frames as change
 use Rattle.cilk_machine_undo.specs.Words.{machine_in}

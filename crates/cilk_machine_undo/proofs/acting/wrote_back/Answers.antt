@@ -1,7 +1,7 @@
 use Rattle.std.proofs.Common.{Some, ap, ◌∙◌}
-use Rattle.cilk_machine_carry.specs.model.Hands.{with_hand}
-use Rattle.cilk_machine_carry.specs.frame.Frames.{stood}
-use Rattle.cilk_machine_carry.specs.Ready.{frame_of}
+use Rattle.cilk_machine_plan.specs.model.Hands.{with_hand}
+use Rattle.cilk_machine_plan.specs.frame.Frames.{stood}
+use Rattle.cilk_machine_plan.specs.Ready.{frame_of}
 use Rattle.cilk_machine_undo.specs.Frames.{put_at, frame_before}
 use Rattle.cilk_machine_undo.specs.Frames as change
 use Rattle.cilk_machine_undo.specs.Words.{machine_in}

@@ -1,7 +1,7 @@
 use Rattle.std.proofs.Common.{take, ap, sym, ◌∙◌, slice_set}
 use Rattle.std.specs.Prelude.{slice_index_or}
 use Rattle.std.proofs.lemmas.List.{take_more}
-use Rattle.cilk_machine_carry.specs.agree.declared.lock.Lock.TheVariants.{Held}
+use Rattle.cilk_machine_plan.specs.agree.declared.lock.Lock.TheVariants.{Held}
 use Rattle.cilk_machine_undo.specs.Writes.{all_set}
 use Rattle.cilk_machine_undo.proofs.Back.{all_set_more}
 use Rattle.cilk_machine_undo.proofs.ending.hold.Goals as goal

@@ -1,5 +1,5 @@
 use Rattle.std.proofs.Common.{◌≡◌, take}
-use Rattle.cilk_machine_carry.specs.agree.declared.lock.Lock.TheVariants.{Held}
+use Rattle.cilk_machine_plan.specs.agree.declared.lock.Lock.TheVariants.{Held}
 use Rattle.cilk_machine_undo.specs.Writes.{all_set}
 use Rattle.cilk_machine_undo.proofs.ending.hold.Given as goal
 

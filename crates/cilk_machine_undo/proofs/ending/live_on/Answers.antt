@@ -1,8 +1,8 @@
 use Rattle.std.proofs.Common.{Some, None, ap, sym, ◌∙◌, subst}
-use Rattle.cilk_machine_carry.specs.model.Hands.{hand_of, with_hand}
-use Rattle.cilk_machine_carry.specs.spawn.Nodes.{node_at}
-use Rattle.cilk_machine_carry.specs.agree.declared.lock.Lock.TheVariants.{Held}
-use Rattle.cilk_machine_carry.proofs.agree_laws.Frames.{hand-over}
+use Rattle.cilk_machine_plan.specs.model.Hands.{hand_of, with_hand}
+use Rattle.cilk_machine_plan.specs.spawn.Nodes.{node_at}
+use Rattle.cilk_machine_plan.specs.agree.declared.lock.Lock.TheVariants.{Held}
+use Rattle.cilk_machine_plan.proofs.agree_laws.Frames.{hand-over}
 use Rattle.cilk_machine_undo.specs.Writes.{all_set}
 use Rattle.cilk_machine_undo.specs.Undo.{asleep, unsent_to}
 use Rattle.cilk_machine_undo.specs.Able.{CanUnsend}

@@ -1,5 +1,5 @@
 use Rattle.std.proofs.Common.{Some, ap, sym, ◌∙◌}
-use Rattle.cilk_machine_carry.specs.spawn.Nodes.{node_at, is_live, with_parked}
+use Rattle.cilk_machine_plan.specs.spawn.Nodes.{node_at, is_live, with_parked}
 use Rattle.cilk_machine_undo.specs.Undo.{asleep}
 use Rattle.cilk_machine_undo.proofs.ending.sleep.Goals as goal
 

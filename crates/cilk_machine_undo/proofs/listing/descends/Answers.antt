@@ -1,7 +1,7 @@
 use Rattle.std.proofs.Common.{◌≡◌, ◌==◌, ◌||◌, false, ap, sym, ◌∙◌}
-use Rattle.cilk_machine_carry.specs.spawn.Nodes.{descends}
-use Rattle.cilk_machine_carry.proofs.spawn_laws.Children.{parent_in}
-use Rattle.cilk_machine_carry.proofs.spawn_laws.Marks.{descends_child}
+use Rattle.cilk_machine_plan.specs.spawn.Nodes.{descends}
+use Rattle.cilk_machine_plan.proofs.spawn_laws.Children.{parent_in}
+use Rattle.cilk_machine_plan.proofs.spawn_laws.Marks.{descends_child}
 use Rattle.cilk_machine_undo.proofs.listing.descends.Goals as goal
 
 pub loop-parent-preserved : goal.loop-parent-preserved

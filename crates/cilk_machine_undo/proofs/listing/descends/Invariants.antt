@@ -1,5 +1,5 @@
 use Rattle.std.proofs.Common.{◌≡◌, ◌<◌, length}
-use Rattle.cilk_machine_carry.specs.spawn.Nodes.{descends}
+use Rattle.cilk_machine_plan.specs.spawn.Nodes.{descends}
 use Rattle.cilk_machine_undo.proofs.listing.descends.Given as goal
 
 abbrev pub invariant-loop-parent : goal.invariant-loop-parent

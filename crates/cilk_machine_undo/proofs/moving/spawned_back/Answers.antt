@@ -1,4 +1,4 @@
-use Rattle.cilk_machine_carry.specs.frame.Frames.{stood}
+use Rattle.cilk_machine_plan.specs.frame.Frames.{stood}
 use Rattle.cilk_machine_undo.specs.Words.{machine_in}
 use Rattle.cilk_machine_undo.proofs.HandsTaken.{none-came, parent-came}
 use Rattle.cilk_machine_undo.proofs.moving.spawned_back.Goals as goal

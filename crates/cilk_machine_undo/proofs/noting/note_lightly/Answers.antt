@@ -1,5 +1,5 @@
 use Rattle.std.proofs.Common.{sym, ap, ◌∙◌, option_copied}
-use Rattle.cilk_machine_carry.specs.plans.Words.{plan_of}
+use Rattle.cilk_machine_plan.specs.Words.{plan_of}
 use Rattle.cilk_machine_undo.specs.Words.{machine_in}
 use Rattle.cilk_machine_undo.proofs.Noted.{noted-by, ok-noted, in-hand}
 use Rattle.cilk_machine_undo.proofs.noting.note_lightly.Goals as goal

@@ -1,5 +1,5 @@
 use Rattle.std.proofs.Common.{sym, ap, ◌∙◌, option_copied}
-use Rattle.cilk_machine_carry.proofs.spawn_laws.Taking.{sender_there}
+use Rattle.cilk_machine_plan.proofs.spawn_laws.Taking.{sender_there}
 use Rattle.cilk_machine_undo.proofs.reading.next_taken.Goals as goal
 
 pub fate-fate-requires : goal.fate-fate-requires

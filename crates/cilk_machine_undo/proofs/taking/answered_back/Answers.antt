@@ -1,8 +1,8 @@
 use Rattle.std.proofs.Common.{◌≡◌, Some, ap, sym, ◌∙◌, subst, option_map}
-use Rattle.cilk_machine_carry.specs.model.Hands.{hand_of, with_hand}
-use Rattle.cilk_machine_carry.specs.frame.Frames.{Frame, entered}
-use Rattle.cilk_machine_carry.proofs.sched_laws.Seats.{hand-same, workers-of-hand}
-use Rattle.cilk_machine_carry.proofs.agree_laws.Frames.{hand-over}
+use Rattle.cilk_machine_plan.specs.model.Hands.{hand_of, with_hand}
+use Rattle.cilk_machine_plan.specs.frame.Frames.{Frame, entered}
+use Rattle.cilk_machine_plan.proofs.sched_laws.Seats.{hand-same, workers-of-hand}
+use Rattle.cilk_machine_plan.proofs.agree_laws.Frames.{hand-over}
 use Rattle.cilk_machine_undo.specs.Frames.{put_at, frame_before}
 use Rattle.cilk_machine_undo.specs.Frames as change
 use Rattle.cilk_machine_undo.specs.Able.{CanTakeBack, WritesBelow}

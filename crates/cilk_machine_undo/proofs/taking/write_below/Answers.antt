@@ -2,9 +2,9 @@ use Rattle.std.proofs.Common.{◌≡◌, Some, ap, sym, ◌∙◌, ◌+◌, opti
 use Rattle.std.proofs.lemmas.Int.{to_z-of_z}
 use mir.Val.{of_z, to_z}
 use mir.Syntax.{w32}
-use Rattle.cilk_machine_carry.specs.model.Hands.{hand_of, with_hand}
-use Rattle.cilk_machine_carry.specs.frame.Frames.{put_below, entered}
-use Rattle.cilk_machine_carry.specs.frame.Cells.{put_in}
+use Rattle.cilk_machine_plan.specs.model.Hands.{hand_of, with_hand}
+use Rattle.cilk_machine_plan.specs.frame.Frames.{put_below, entered}
+use Rattle.cilk_machine_plan.specs.frame.Cells.{put_in}
 use Rattle.cilk_machine_undo.proofs.Below.{below-is}
 use Rattle.cilk_machine_undo.proofs.taking.write_below.Goals as goal
 

@@ -1,5 +1,5 @@
 use Rattle.std.proofs.Common.{◌≡◌, ◌+◌, ℕ, suc, ◌∙◌, subst, arith, length}
-use Rattle.cilk_debug.specs.Tape.{IsAt}
+use Rattle.cilk_log_replay.specs.Tape.{IsAt}
 use Rattle.cilk_measure.specs.Held.{Gauged}
 use Rattle.cilk_measure.proofs.Gauges.{gauged-next}
 use Rattle.cilk_measure.proofs.measuring.go_through.Goals as goal

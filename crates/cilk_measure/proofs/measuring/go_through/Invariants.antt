@@ -1,6 +1,6 @@
 use Rattle.std.proofs.Common.{◌≡◌, map}
-use Rattle.cilk_debug.specs.machine.choices.Words.{choice_of}
-use Rattle.cilk_debug.specs.Tape.{Tape, IsAt}
+use Rattle.cilk_log_replay.specs.machine.choices.Words.{choice_of}
+use Rattle.cilk_log_replay.specs.Tape.{Tape, IsAt}
 use Rattle.cilk_measure.specs.Held.{Gauged}
 use Rattle.cilk_measure.proofs.measuring.go_through.Given as goal
 

@@ -1,6 +1,6 @@
 use Rattle.std.proofs.Common.{map}
-use Rattle.cilk_debug.specs.machine.choices.Words.{choice_of}
-use Rattle.cilk_debug.proofs.Naming.{ok_always}
+use Rattle.cilk_log_replay.specs.machine.choices.Words.{choice_of}
+use Rattle.cilk_log_replay.proofs.Naming.{ok_always}
 use Rattle.cilk_measure.proofs.measuring.measure_all.Goals as goal
 
 pub returns-in-Ok-clause-own : goal.returns-in-Ok-clause-own

@@ -1,7 +1,7 @@
 use Rattle.std.proofs.Common.{◌≡◌, ℕ, length, refl, sym, subst}
 use Rattle.std.proofs.lemmas.List.{length-map}
-use Rattle.cilk_debug.specs.machine.choices.Words.{choice_of}
-use Rattle.cilk_debug.specs.Tape.{Tape, IsAt, tape_of}
+use Rattle.cilk_log_replay.specs.machine.choices.Words.{choice_of}
+use Rattle.cilk_log_replay.specs.Tape.{Tape, IsAt, tape_of}
 use Rattle.cilk_measure.specs.Gauged.{IsMeasureOf}
 use Rattle.cilk_measure.specs.Held.{Gauged}
 use Rattle.cilk_measure.specs.Seats.{told}

@@ -1,5 +1,5 @@
 use Rattle.std.proofs.Common.{Some, None, ◌∙◌}
-use Rattle.cilk_load.specs.nodes.model.Change.{leaves, is_sync}
+use Rattle.cilk_log_replay.specs.machine.nodes.model.Change.{leaves, is_sync}
 use Rattle.cilk_measure.specs.Acts.{goes_through, is_call}
 use Rattle.cilk_measure.specs.Nodes.{node_calls, node_goes_through, node_leaves, node_waits}
 use Rattle.cilk_measure.proofs.Natures.{told_by, same_calls, same_leaves, same_through, same_waits}

@@ -1,6 +1,6 @@
 use Rattle.std.specs.Prelude.{string_bytes}
 use Rattle.std.proofs.Common.{subst, sym, ap, ◌∙◌, inl, inr, refl}
-use Rattle.cilk_measure.specs.debug.Tape.{tape_of}
+use Rattle.cilk_races.specs.measure.replay.Tape.{tape_of}
 use Rattle.cilk_program.specs.Debugging.{broken_off}
 use Rattle.cilk_program.specs.Telling.{status_of}
 use Rattle.cilk_program.proofs.Debugged.{opens, playable_of, broken_not_refused, broken_by_writer}
@@ -8,8 +8,8 @@ use Rattle.cilk_program.proofs.Debugged.{own_held, answered, broken, broken_writ
 use Rattle.cilk_program.proofs.Whole.{follows_of}
 use Rattle.cilk_program.proofs.Said.{fault_said, unsaid}
 use Rattle.cilk_program.proofs.Told.{replay_reads}
-use Rattle.cilk_measure.specs.debug.log.Words.{log_of}
-use Rattle.cilk_measure.specs.debug.log.declared.log.Log.{Log}
+use Rattle.cilk_races.specs.measure.replay.log.Words.{log_of}
+use Rattle.cilk_races.specs.measure.replay.log.declared.log.Log.{Log}
 use Rattle.cilk_program.specs.Saying.{IsFaultTold}
 use Rattle.cilk_program.proofs.debug.debug.Goals as goal
 

@@ -1,5 +1,5 @@
 use Rattle.std.proofs.Common.{string_bytes}
-use Rattle.cilk_measure.specs.debug.log.Words.{log_of}
+use Rattle.cilk_races.specs.measure.replay.log.Words.{log_of}
 use Rattle.cilk_program.proofs.Said.{untold}
 use Rattle.cilk_program.proofs.note.words_on.Goals as goal
 

@@ -1,5 +1,5 @@
-use Rattle.cilk_measure.specs.debug.Tape.{tape_of}
-use Rattle.cilk_measure.specs.debug.log.Words.{log_of}
+use Rattle.cilk_races.specs.measure.replay.Tape.{tape_of}
+use Rattle.cilk_races.specs.measure.replay.log.Words.{log_of}
 use Rattle.cilk_program.proofs.Said.{fault_said, unsaid}
 use Rattle.cilk_program.proofs.Told.{replay_reads}
 use Rattle.cilk_program.proofs.tape_answer.log_told.Goals as goal

@@ -1,6 +1,6 @@
 use Rattle.std.proofs.Common.{length, refl, sym, subst}
-use Rattle.cilk_races.specs.measure.debug.Tape.{IsAt, Tape, tape_of}
-use Rattle.cilk_races.specs.measure.debug.machine.agree.scopes.WellFormed.{WellFormed}
+use Rattle.cilk_races.specs.measure.replay.Tape.{IsAt, Tape, tape_of}
+use Rattle.cilk_races.specs.measure.replay.machine.agree.scopes.WellFormed.{WellFormed}
 use Rattle.cilk_races.proofs.measure_laws.Gauges.{if-ok}
 use Rattle.cilk_races.specs.Watched.{Watched}
 use Rattle.cilk_races.specs.declared.watch.Watch.{Watch}

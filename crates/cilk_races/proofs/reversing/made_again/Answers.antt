@@ -1,6 +1,6 @@
 use Rattle.std.proofs.Common.{length, subst, option_map}
-use Rattle.cilk_races.specs.measure.debug.Tape.{IsAt, Tape, tape_of}
-use Rattle.cilk_races.specs.measure.debug.machine.syntax.Tree.{Program}
+use Rattle.cilk_races.specs.measure.replay.Tape.{IsAt, Tape, tape_of}
+use Rattle.cilk_races.specs.measure.replay.machine.syntax.Tree.{Program}
 use Rattle.cilk_races.proofs.measure_laws.Gauges.{if-ok}
 use Rattle.cilk_races.specs.Paired.{pair_of}
 use Rattle.cilk_races.specs.Found.{HoldsRun}

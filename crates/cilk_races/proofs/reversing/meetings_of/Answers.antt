@@ -1,5 +1,5 @@
 use Rattle.std.proofs.Common.{length, refl}
-use Rattle.cilk_races.specs.measure.debug.Tape.{Tape}
+use Rattle.cilk_races.specs.measure.replay.Tape.{Tape}
 use Rattle.cilk_races.specs.Found.{HoldsRun}
 use Rattle.cilk_races.proofs.Meetings.{met-more}
 use Rattle.cilk_races.proofs.reversing.meetings_of.Goals as goal

@@ -1,6 +1,6 @@
 use Rattle.std.proofs.Common.{◌≡◌, length, take}
 use Rattle.std.specs.List.{All}
-use Rattle.cilk_races.specs.measure.debug.Tape.{Tape}
+use Rattle.cilk_races.specs.measure.replay.Tape.{Tape}
 use Rattle.cilk_races.specs.Paired.{pairs_told}
 use Rattle.cilk_races.specs.Found.{HoldsRun}
 use Rattle.cilk_races.specs.Met.{AreWithin, meetings_in}

@@ -1,7 +1,7 @@
 use Rattle.std.proofs.Common.{◌≡◌, ◌<◌, length, sym, ◌∙◌}
 use Rattle.cilk_races.proofs.measure_laws.Gauges.{if-ok}
-use Rattle.cilk_races.specs.measure.debug.machine.model.Path.{Path}
-use Rattle.cilk_races.specs.measure.debug.machine.spawn.Nodes.{path_at}
+use Rattle.cilk_races.specs.measure.replay.machine.model.Path.{Path}
+use Rattle.cilk_races.specs.measure.replay.machine.spawn.Nodes.{path_at}
 use Rattle.cilk_races.proofs.Parents.{made-there, path-root}
 use Rattle.cilk_races.proofs.rows.path_at.Goals as goal
 

@@ -1,6 +1,6 @@
 use Rattle.std.proofs.Common.{◌≡◌, ◌++◌, drop, string_bytes}
 use Rattle.std.specs.Prelude.{flat_map}
-use Rattle.cilk_races.specs.measure.debug.machine.labelled.Bodies.{label}
+use Rattle.cilk_races.specs.measure.replay.machine.labelled.Bodies.{label}
 use Rattle.cilk_races.specs.Met.{meetings_in}
 use Rattle.cilk_races.specs.RacesText.{meeting_text}
 use Rattle.cilk_races.proofs.telling.put_meetings.Given as goal

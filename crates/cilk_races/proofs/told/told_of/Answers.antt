@@ -1,6 +1,6 @@
 use Rattle.std.proofs.Common.{◌≡◌, ◌++◌, sym, ap, ◌∙◌, subst}
 use Rattle.std.specs.Prelude.{flat_map}
-use Rattle.cilk_races.specs.measure.debug.machine.labelled.Bodies.{label}
+use Rattle.cilk_races.specs.measure.replay.machine.labelled.Bodies.{label}
 use Rattle.cilk_races.specs.Order.{race}
 use Rattle.cilk_races.specs.Races.{count_of}
 use Rattle.cilk_races.specs.Found.{told_in}

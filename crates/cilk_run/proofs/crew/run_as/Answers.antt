@@ -2,7 +2,7 @@ use denote.Param.Send.{sendable}
 use Rattle.std.proofs.Common.{◌≡◌, ◌≢◌, IfErr, Result, Ok, Err, sym, ◌∙◌}
 use Rattle.std.proofs.Crossing.{crosses}
 use Rattle.std.proofs.option.Option.TheSendSync as option
-use Rattle.cilk_machine.proofs.nodes_laws.eval_laws.code.Code.TheLaws.TheKnot as code
+use Rattle.cilk_machine.proofs.nodes_laws.code.Code.TheLaws.TheKnot as code
 use Rattle.cilk_machine.proofs.nodes_laws.syntax_laws.operator.BinOp.TheSendSync as bin_op
 use Rattle.cilk_machine.proofs.nodes_laws.syntax_laws.un_op.UnOp.TheSendSync as un_op
 use Rattle.cilk_run.specs.declared.run_result.RunFault.{RunFault}

@@ -1,6 +1,6 @@
 use Rattle.std.proofs.Common.{ap, ◌∙◌, ◌++◌}
 use Rattle.std.specs.Prelude.{codes, decimal}
-use Rattle.cilk_machine_agree.specs.model.Hands.{worker_at}
+use Rattle.cilk_explore_model.specs.model.Hands.{worker_at}
 use Rattle.cilk_view.proofs.Tellings.{line_gained}
 use Rattle.cilk_view.proofs.deques_telling.add_place.Goals as goal
 

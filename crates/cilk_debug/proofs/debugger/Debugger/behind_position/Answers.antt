@@ -1,7 +1,7 @@
 use Rattle.std.proofs.Common.{ap, ◌∙◌, subst}
 use Rattle.cilk_debug_console.specs.choices.Words.{outcome_of}
 use Rattle.cilk_debug.specs.Seeing.{line_behind}
-use Rattle.cilk_debug.specs.Tape.{IsAt}
+use Rattle.cilk_log_replay.specs.Tape.{IsAt}
 use Rattle.cilk_debug.specs.Working.{Working}
 use Rattle.cilk_debug.proofs.Seen.{line_seen, put_behind}
 use Rattle.cilk_debug.proofs.debugger.Debugger.behind_position.Goals as goal

@@ -1,6 +1,6 @@
 use Rattle.std.proofs.Common.{subst, sym}
 use Rattle.cilk_debug.specs.Faults.{IsNamedDebugFaultOf}
-use Rattle.cilk_debug.specs.Tape.{tape_of}
+use Rattle.cilk_log_replay.specs.Tape.{tape_of}
 use Rattle.cilk_debug.proofs.Naming.{named_debug_fault}
 use Rattle.cilk_debug.proofs.debugger.Debugger.new.Goals as goal
 

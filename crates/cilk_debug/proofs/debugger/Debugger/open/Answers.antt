@@ -1,7 +1,8 @@
 use Rattle.std.proofs.Common.{map}
 use Rattle.cilk_debug_console.specs.choices.Words.{choice_of}
-use Rattle.cilk_debug.specs.Tape.{tape_of}
-use Rattle.cilk_debug.proofs.Naming.{ok_always, unplayable_told}
+use Rattle.cilk_log_replay.specs.Tape.{tape_of}
+use Rattle.cilk_log_replay.proofs.Naming.{ok_always}
+use Rattle.cilk_debug.proofs.Naming.{unplayable_told}
 use Rattle.cilk_debug.proofs.debugger.Debugger.open.Goals as goal
 
 pub returns-in-Ok-clause-own : goal.returns-in-Ok-clause-own

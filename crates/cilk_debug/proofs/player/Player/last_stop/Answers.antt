@@ -2,7 +2,7 @@ use Rattle.std.proofs.Common.{◌≤◌, ◌+◌, ◌∙◌, ℕ, List, length, 
 use Rattle.std.specs.List.{find}
 use Rattle.cilk_debug.specs.Breaks.{down_from, last_stop}
 use Rattle.cilk_debug.specs.Playing.{Playing}
-use Rattle.cilk_debug.specs.Tape.{tape_of}
+use Rattle.cilk_log_replay.specs.Tape.{tape_of}
 use Rattle.cilk_debug.specs.Tracks.{meets}
 use Rattle.cilk_debug.proofs.Found.{last-met}
 use Rattle.cilk_debug.proofs.player.Player.last_stop.Goals as goal

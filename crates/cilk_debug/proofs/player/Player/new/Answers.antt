@@ -1,7 +1,7 @@
 use Rattle.std.proofs.Common.{map, sym, subst}
 use Rattle.std.proofs.lemmas.List.{length-map}
 use Rattle.cilk_debug_console.specs.choices.Words.{choice_of}
-use Rattle.cilk_debug.specs.Tape.{tape_of}
+use Rattle.cilk_log_replay.specs.Tape.{tape_of}
 use Rattle.cilk_debug.specs.Tracks.{IsTrack}
 use Rattle.cilk_debug.proofs.player.Player.new.Goals as goal
 

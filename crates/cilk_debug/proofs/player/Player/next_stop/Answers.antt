@@ -2,7 +2,7 @@ use Rattle.std.proofs.Common.{◌≤◌, ◌+◌, ◌-◌, ◌∙◌, ℕ, List,
 use Rattle.std.specs.List.{find, range_with_len}
 use Rattle.cilk_debug.specs.Breaks.{next_stop}
 use Rattle.cilk_debug.specs.Playing.{Playing}
-use Rattle.cilk_debug.specs.Tape.{tape_of}
+use Rattle.cilk_log_replay.specs.Tape.{tape_of}
 use Rattle.cilk_debug.specs.Tracks.{meets}
 use Rattle.cilk_debug.proofs.Found.{next-met}
 use Rattle.cilk_debug.proofs.player.Player.next_stop.Goals as goal

@@ -1,10 +1,10 @@
 use Rattle.std.proofs.Common.{◌≡◌, ◌≤◌, ◌*◌, ◌/◌, ◌%◌, ◌∙◌, length, map, ap, sym, subst, arith}
 use Rattle.std.proofs.Math.Nat.{mul-div-le}
 use Rattle.cilk_debug_console.specs.choices.Words.{choice_of}
-use Rattle.cilk_machine.specs.Situation.{Situation}
-use Rattle.cilk_debug.specs.Going.{Goes}
+use Rattle.cilk_log_replay.specs.machine.Situation.{Situation}
+use Rattle.cilk_log_replay.specs.Going.{Goes}
 use Rattle.cilk_debug.specs.Playing.{Playing}
-use Rattle.cilk_debug.specs.Tape.{tape_of}
+use Rattle.cilk_log_replay.specs.Tape.{tape_of}
 use Rattle.cilk_debug.proofs.Restores.{kept-at, was-there, put-goes, put-at, put-none}
 use Rattle.cilk_debug.proofs.Ways.{home-before, played}
 use Rattle.cilk_debug.proofs.player.Player.start_over.Goals as goal

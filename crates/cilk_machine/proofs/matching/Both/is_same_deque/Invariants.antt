@@ -1,7 +1,7 @@
 use Rattle.std.proofs.Common.{◌≡◌, ◌<◌, ℕ, Some, slice_get}
 use Rattle.cilk_machine_undo.specs.frame.Frames.{Frame}
 use Rattle.cilk_machine_choices.specs.model.Hands.{deque_of}
-use Rattle.cilk_machine_same.specs.Alike.{SameHeld}
+use Rattle.cilk_view.specs.explore.Alike.{SameHeld}
 use Rattle.cilk_machine.proofs.matching.Both.is_same_deque.Given as goal
 
 abbrev pub invariant-loop-k : goal.invariant-loop-k

@@ -1,6 +1,6 @@
 use Rattle.std.proofs.Common.{sym, subst, ap, ◌∙◌, ◌++◌, ◌∷◌, []}
 use Rattle.cilk_machine.specs.spawn.Nodes.{path_at}
-use Rattle.cilk_machine.specs.carries.Words.{event_by}
+use Rattle.cilk_machine.specs.plans.PartWords.{event_by}
 use Rattle.cilk_run.specs.Histories.{IsLedBy}
 use Rattle.cilk_run.proofs.Ran.{led-on}
 use Rattle.cilk_run.proofs.locked.Locked.advance.Goals as goal

@@ -1,6 +1,6 @@
 use Rattle.std.proofs.Common.{sym, subst, ap, ◌∙◌, ◌++◌, ◌∷◌, []}
 use Rattle.cilk_machine.specs.spawn.Nodes.{path_at}
-use Rattle.cilk_machine.specs.carries.Words.{event_by}
+use Rattle.cilk_machine.specs.plans.PartWords.{event_by}
 use Rattle.cilk_log.specs.choices.declared.act.Act.TheVariants.{Step}
 use Rattle.cilk_log.specs.choices.declared.choice.Choice.{Choice}
 use Rattle.cilk_run.specs.Histories.{IsLedBy}

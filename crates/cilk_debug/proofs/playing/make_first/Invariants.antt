@@ -1,8 +1,0 @@
-use Rattle.std.proofs.Common.{◌≡◌, map}
-use Rattle.cilk_debug_console.specs.choices.Words.{choice_of}
-use Rattle.cilk_debug.specs.Tape.{Tape, IsAt}
-use Rattle.cilk_debug.proofs.playing.make_first.Given as goal
-
-abbrev pub invariant-loop-made : goal.invariant-loop-made
-invariant-loop-made l =
-    (l.machine.choices ≡ l.made) × ((t : Tape) → t.choices ≡ map choice_of l.choices → IsAt t 0 l.fn.machine → IsAt t l.made l.machine)

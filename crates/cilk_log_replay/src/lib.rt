@@ -1,0 +1,16 @@
+//! The choices of a recorded schedule, made again from the start of a program.
+#![tactic(auto)]
+
+mod laws;
+mod replay_fault;
+mod replaying;
+
+pub use cilk_log::{Choices, Log, LogFault, read_log, write_log};
+pub use cilk_machine::{
+    Access, Act, Action, Checkpoint, Choice, Did, End, Id, Loaded, Machine, MachineFault, Memory,
+    Outcome, Path, Refusal, Scene, Spot, Taker, Telling, Trap, TrapKind, ViewFault, What,
+    accesses_in, locks_in, number_in, put_trapped,
+};
+pub use laws::none_is_bad;
+pub use replay_fault::ReplayFault;
+pub use replaying::{is_crew, make_again, opened, play, play_all, refuse_other};
