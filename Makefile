@@ -2,7 +2,7 @@
 
 sources := $(shell find crates \( -name out -o -name must-fail \) -prune -o -type f -print)
 
-.PHONY: help demo libraries test ways programs second-way fuzz sweep memory must_not_compile costs wrong-bodies edge budget bench clean
+.PHONY: help demo libraries test ways programs second-way fuzz sweep again memory must_not_compile costs wrong-bodies edge budget bench clean
 
 # Proves what ./cilk is made of, and builds it.
 cilk: crates.txt HANDLES $(sources)
@@ -53,6 +53,10 @@ fuzz: cilk
 # Refuses ./cilk each growth of memory in turn, and each read and write, over programs/ and all subcommands (docs/GATE.md).
 sweep: cilk
 	tools/sweep ./cilk
+
+# Refuses the tests of calls that are made again each growth of memory in turn, as rt test in crates/cilk_tests_again left them built (docs/GATE.md).
+again:
+	tools/again crates/cilk_tests_again/out/cilk_tests_again_tests
 
 # Runs ./cilk in 3 to 40 MB of memory: the right answer comes, or that there is no memory (docs/GATE.md).
 memory: cilk

@@ -1,4 +1,4 @@
-"""What tools/sweep and tools/memory ask of cilk: each subcommand on a sample program, with the answers that it gives where nothing fails.
+"""What tools/sweep and tools/memory ask of cilk: each subcommand on a sample program, and what explains, with the answers that it gives where nothing fails.
 
 A program of programs/ is asked with its log and its session where they stand beside it, and else with the log of a run by one worker and with a session that
 goes through it.
@@ -7,6 +7,7 @@ import dataclasses
 import glob
 import os
 import re
+import shutil
 import subprocess
 
 TOP = os.path.dirname(os.path.dirname(os.path.realpath(__file__)))
@@ -14,19 +15,27 @@ SECONDS = 120
 OUT_OF_MEMORY = b"cilk: out of memory\n"
 NO_WORKER = b"cilk: cannot start a worker\n"
 ENDINGS = re.compile(rb"(?s).*(?:main returned -?\d+|trapped \w+ in \S+ at \d+, line \d+|stuck after \d+ choices|limit after \d+ choices)\n")
+# What is explained: a text with a fault, the name of a program that is trapped, and a log whose first choice is bad.
+FAULTY, TRAPPED, BAD = b"cilk int main(void) { return 08; }", "overflow", b"cilklog 1\nworkers 1\n1 pop\nend 1\n"
 # What a session asks where a program has none of its own.
 SESSION = b"list\nwhere\nbreak 1\nnext\nframe /\nglobals\ngo %d\ntree\ndeques\noutput\nprev\nback\nstep\nclear 1\nframe /9\nfrob\n"
 
 
 @dataclasses.dataclass
 class Asked:
-    """A command line with its input and right answer: the status and what is written. `fronts` may stand on standard output where it ends early."""
+    """A command line with its input and right answer: the status and what is written. `fronts` may stand on standard output where it ends early.
+
+    Of what explains `plain` is the answer without that. Of what writes logs into a folder `logs` is its name, and `made` what it has then, in order.
+    """
 
     name: str
     words: list
     given: bytes
     answer: tuple
     fronts: set
+    plain: tuple = None
+    logs: str = None
+    made: list = None
 
     def is_shared(self):
         """Whether several threads make it, so that its answer hangs on their turns. A seed names the turns."""
@@ -36,6 +45,10 @@ class Asked:
         if not self.is_shared():
             return answer == self.answer
         return answer[0] in (0, 3, 4, 5) and not answer[2] and bool(ENDINGS.fullmatch(answer[1]))
+
+    def leaves_out(self, answer):
+        """Whether an answer is right but for what explains, which has no memory."""
+        return self.plain is not None and answer == self.plain
 
     def lacks_memory(self, answer):
         """Whether an answer says that memory has run out, and nothing else: of a session, behind what it has answered before."""
@@ -91,11 +104,46 @@ def asked_of(binary, name, limit, folder, workers=4, recorded=None):
     seeded = [*run, "--workers", "2", "--seed", "7"]
     forms += [(seeded, b""), ([*seeded, "--runs", "3"], b""), (["measure", f"{name}.cilk"], b""), (["measure", f"{name}.cilk", log], b"")]
     forms += [(["explore", f"{name}.cilk", "--limit", "200"], b""), (["races", f"{name}.cilk"], b""), (["races", f"{name}.cilk", log], b"")]
+    return [asked_by(binary, name, words, given, folder) for words, given in forms]
+
+
+def asked_by(binary, name, words, given, folder):
+    """Returns a command line with the answer that it gives where nothing fails."""
+    fronts = {b""}
+    if words[0] == "debug":
+        lines = given.splitlines(keepends=True)
+        fronts = {ran([binary, *words], b"".join(lines[:at]), folder)[1] for at in range(len(lines) + 1)}
+    return Asked(f"{name}: {' '.join(words)}", words, given, ran([binary, *words], given, folder), fronts)
+
+
+def logs_in(folder):
+    """Returns the names of the logs in a folder, in order, each with what it has."""
     made = []
-    for words, given in forms:
-        fronts = {b""}
-        if words[0] == "debug":
-            lines = given.splitlines(keepends=True)
-            fronts = {ran([binary, *words], b"".join(lines[:at]), folder)[1] for at in range(len(lines) + 1)}
-        made.append(Asked(f"{name}: {' '.join(words)}", words, given, ran([binary, *words], given, folder), fronts))
+    for name in sorted(os.listdir(folder), key=lambda it: (len(it), it)):
+        with open(f"{folder}/{name}", "rb") as it:
+            made.append((name, it.read()))
+    return made
+
+
+def outcomes_of(binary, name, folder):
+    """Returns what writes a log of each outcome of a program that stands in the folder."""
+    logs = f"{name}.logs"
+    os.mkdir(f"{folder}/{logs}")
+    it = asked_by(binary, name, ["explore", f"{name}.cilk", "--limit", "200", "--logs", logs], b"", folder)
+    it.logs, it.made = logs, logs_in(f"{folder}/{logs}")
+    return it
+
+
+def explained_of(binary, folder):
+    """Returns what is asked that explains: a fault, a trap, and a choice of a log that is not possible."""
+    for name, text in (("faulty.cilk", FAULTY), ("bad.log", BAD)):
+        with open(f"{folder}/{name}", "wb") as it:
+            it.write(text)
+    trapped = f"{TRAPPED}.cilk"
+    shutil.copy(f"{TOP}/programs/{trapped}", folder)
+    made = []
+    for words in (["check", "faulty.cilk"], ["run", trapped], ["replay", trapped, "bad.log"], ["debug", trapped, "bad.log"]):
+        it = asked_by(binary, "explained", [*words, "--explain"], b"where\n" * (words[0] == "debug"), folder)
+        it.plain = ran([binary, *words], it.given, folder)
+        made.append(it)
     return made

@@ -10,14 +10,6 @@ module _ (N M : CheckFault → Type 0) where
   abbrev Either : CheckFault → Type 0
   Either f = N f ⊎ M f
 
-  pub both_none : (n m : Option CheckFault) → IfNone n ((f : CheckFault) → ¬ N f) → IfNone m ((f : CheckFault) → ¬ M f) → earlier n m ≡ None
-      → (f : CheckFault) → ¬ Either f
-  both_none None None a b e f (inl h) = a f h
-  both_none None None a b e f (inr h) = b f h
-  both_none (Some g) None a b e f h = cc
-  both_none None (Some g) a b e f h = cc
-  both_none (Some g) (Some k) a b e f h = cc
-
   names_alone : (g r : CheckFault) → IsFirst N g → ((f : CheckFault) → ¬ M f) → g ≡ r → IsFirst Either r
   names_alone g r first none e =
       subst (IsFirst Either) e

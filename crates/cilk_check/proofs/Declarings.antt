@@ -12,7 +12,7 @@ use Rattle.cilk_check_scopes.proofs.Firsts.{first_among-append}
 use Rattle.cilk_check_scopes.proofs.Steps.{drop_at}
 use Rattle.cilk_check.specs.Left.{left_of}
 use Rattle.cilk_check.specs.NameFinds.{declaring_faults, part_faults, behind_locals, behind_block, locals_faults, inside_local, stmts_faults, inside_stmt}
-use Rattle.cilk_check.proofs.UseFaults.{uses-append, exprs-append, exprs_more}
+use Rattle.cilk_check.proofs.UseFaults.{uses-append, exprs-append}
 
 pub names_more : (found : Option CheckFault) (s : Scopes) (names : List Word) (i : ℕ) (name : Word) → i < length names → name ≡ get_or names i name
     → first_among found (flat_map declaring_faults (declaring s.innermost (map parameter (drop i names))))

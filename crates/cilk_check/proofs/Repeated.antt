@@ -1,15 +1,13 @@
 -- Which labels of a `switch` say what an earlier one says.
 use Rattle.std.proofs.Common.{◌≡◌, ℕ, zero, suc, ℤ, ◌<◌, Bool, true, false, cond, Option, Some, None, List, [], ◌∷◌, Decides, ◌⊎◌, inl, inr, refl}
-use Rattle.std.proofs.Common.{slice_get, get_or, length, drop, ◌+◌, ◌++◌, sym, ap, subst, ◌∙◌, arith}
+use Rattle.std.proofs.Common.{slice_get, sym, ap, subst, ◌∙◌, arith}
 use Rattle.std.specs.Cmp.{signed_Decides}
 use Rattle.cilk_check_scopes.specs.syntax.Tree as tree
 use Rattle.cilk_check_scopes.specs.declared.fault.CheckFault.{CheckFault}
 use Rattle.cilk_check_scopes.specs.declared.fault.CheckFault.TheVariants.{Label}
-use Rattle.cilk_check_scopes.specs.First.{fault_if, first_among}
-use Rattle.cilk_check_scopes.specs.Forms.{own_label, stmts_labels}
+use Rattle.cilk_check_scopes.specs.First.{fault_if}
 use Rattle.cilk_check_scopes.proofs.Elements.{Has, Has-append_left, Has-append_right, Has-append_cases}
 use Rattle.cilk_check_scopes.proofs.Held.{Has-fault_if, Has-fault_if_cases}
-use Rattle.cilk_check_scopes.proofs.Steps.{drop_at}
 use Rattle.cilk_check.specs.FormFinds.{same_value, labels_faults, nothing_said}
 
 same_value-Decides : (v w : Option ℤ) → Decides (same_value v w) (v ≡ w)

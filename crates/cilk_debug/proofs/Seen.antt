@@ -1,5 +1,5 @@
 -- What is seen where a machine stands.
-use Rattle.std.proofs.Common.{◌≡◌, ◌≢◌, ℕ, List, [], ◌++◌, take, length, Option, Some, None, option_map, option_and_then, refl, ap, ◌∙◌, sym, subst}
+use Rattle.std.proofs.Common.{◌≡◌, ℕ, List, [], ◌++◌, take, length, Option, None, option_map, option_and_then, ap, ◌∙◌, sym, subst}
 use Rattle.cilk_log_replay.specs.machine.syntax.Tree.{Program}
 use Rattle.cilk_log_replay.specs.machine.labelled.Bodies.{label}
 use Rattle.cilk_debug_console.specs.model.State as state
@@ -9,7 +9,6 @@ use Rattle.cilk_debug_console.specs.model.What.{What, where_it_stands}
 use Rattle.cilk_debug_console.specs.model.Workers.{position_text}
 use Rattle.cilk_debug_console.specs.model.Views.{shown, first_line, view}
 use Rattle.cilk_debug_console.specs.view.declared.what.What as code
-use Rattle.cilk_debug_console.specs.view.declared.what.What.TheVariants.{Tree, Frame, Globals, Deques, Output, Where, List as Listing}
 use Rattle.cilk_debug_console.specs.view.Words.{what_of}
 use Rattle.cilk_log_replay.specs.machine.Situation.{Situation, workers_of}
 use Rattle.cilk_log_replay.specs.machine.Stands.{StandsAt}
@@ -17,20 +16,6 @@ use Rattle.cilk_log_replay.specs.Tape.{Tape, IsAt}
 use Rattle.cilk_log_replay.proofs.Again.{led_in}
 use Rattle.cilk_debug.specs.Debugging.{Debugging}
 use Rattle.cilk_debug.specs.Seeing.{seen_behind, position_line, line_behind}
-
--- only the view of where it stands begins with a line of its own
-pub no_line : (p : Program) (at : Position) (m : ℕ) (what : code.What) → what ≢ Where → first_line p at m (what_of what) ≡ []
-no_line p at m Tree not = refl
-no_line p at m (Frame path) not = refl
-no_line p at m Globals not = refl
-no_line p at m Deques not = refl
-no_line p at m Output not = refl
-no_line p at m Where not = absurd (not refl)
-no_line p at m Listing not = refl
-
-none_before : {A B : Type 0} (f : A → B) (o : Option A) → option_map f o ≡ None → o ≡ None
-none_before f None none = refl
-none_before f (Some x) none = cc
 
 module _ (t : Tape) (k : ℕ) (m : Situation) (h : IsAt t k m) where
   pub stands : StandsAt m h.at.standing
@@ -50,18 +35,6 @@ module _ (t : Tape) (k : ℕ) (m : Situation) (h : IsAt t k m) where
 
   pub nothing : (what : code.What) → shown m.program h.at (what_of what) ≡ None → seen_behind t k (what_of what) ≡ None
   nothing what e = shown_by (what_of what) None e
-
-  pub gone : (what : code.What) → seen_behind t k (what_of what) ≡ None → shown m.program h.at (what_of what) ≡ None
-  gone what e =
-      let asked = what_of what in
-      let o = shown m.program h.at asked in
-      none_before (λ (text : List ℕ). first_line t.program h.at (length t.choices) asked ++ text) o (sym (shown_by asked o refl) ∙ e)
-
-  pub plain : (what : code.What) (text : List ℕ) → what ≢ Where → shown m.program h.at (what_of what) ≡ Some text
-      → seen_behind t k (what_of what) ≡ Some text
-  plain what text not e =
-      shown_by (what_of what) (Some text) e
-      ∙ ap (λ (line : List ℕ). Some (line ++ text)) (no_line t.program h.at (length t.choices) what not)
 
   led_line : line_behind t k ≡ first_line t.program h.at (length t.choices) where_it_stands
   led_line = ap (position_line t) (led_in t k m h)

@@ -1,5 +1,5 @@
 -- What contracts see of a player, and by which way it comes from one place to another.
-use Rattle.std.specs.Prelude.{◌+◌, ◌-◌, ◌%◌, ◌&&◌, ℕ, Bool, List, length, leb, ltb, if◌then◌else◌}
+use Rattle.std.specs.Prelude.{◌≡◌, ◌+◌, ◌-◌, ◌%◌, ◌&&◌, ℕ, Bool, List, length, leb, ltb, if◌then◌else◌}
 use Rattle.cilk_log_replay.specs.machine.Checkpoints.{Checkpoint}
 use Rattle.cilk_log_replay.specs.machine.Situation.{Situation}
 use Rattle.cilk_log_replay.specs.Going.{Goes}
@@ -45,5 +45,7 @@ played_to p k = record p { place = k; kept = (way p.kept p.place k).kept }
 -- what is always true of a player, that it has a second machine of the tape among it
 pub record IsPlayer (t : Tape) (m beside last : Situation) (checkpoints : List Checkpoint) (actions : List ℕ) : Type 0 where
   pub goes : Goes t m
+  -- it has a record of each choice since the checkpoint before
+  pub full : length m.past ≡ m.choices % 1000
   pub spare : Goes t beside
   pub track : IsTrack t (length t.choices) last checkpoints actions

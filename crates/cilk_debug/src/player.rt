@@ -23,7 +23,7 @@ pub(crate) struct Player {
     program: Loaded,
     log: Log,
     machine: Machine,
-    /// Another machine of the same schedule. A move that may fail half the way is made on one of the two, and the other has not moved then.
+    /// Another machine of the same schedule, which stands anywhere in it. A move that may fail half the way is made with this one.
     spare: Machine,
     track: Track,
 }

@@ -1,5 +1,5 @@
 -- Expressions over variables of which a value is known, and which expressions need no more than that.
-use Rattle.std.specs.Prelude.{◌≡◌, ◌==◌, ◌&&◌, ℕ, ℤ, pos, Bool, true, false, if◌then◌else◌, List, [], ◌∷◌, ◌++◌, map, Option, Some, None, Result, Ok, Err}
+use Rattle.std.specs.Prelude.{◌==◌, ◌&&◌, ℤ, pos, Bool, true, false, if◌then◌else◌, List, [], ◌∷◌, ◌++◌, map, Option, Some, None, Result, Ok, Err}
 use Rattle.std.specs.Ordering.{int_eq}
 use Rattle.cilk_load_nodes.specs.labelled.declared.trap.Trap.{Trap}
 use Rattle.cilk_load_nodes.specs.labelled.declared.trap.Trap.TheVariants.{Index}

@@ -1,5 +1,5 @@
 -- Machines whose workers have the same by other names: one of them, its places exchanged, stands at the same as the other.
-use Rattle.std.proofs.Common.{◌≡◌, ℕ, List, refl, sym, subst}
+use Rattle.std.proofs.Common.{ℕ, List, refl, sym, subst}
 use Rattle.std.specs.Prelude.{IsPermutation}
 use Rattle.std.proofs.lemmas.List.Sorted.{All-permutation, IsPermutation-map}
 use Rattle.cilk_machine_agree.specs.syntax.Tree.{Program}

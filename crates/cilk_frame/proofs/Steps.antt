@@ -17,13 +17,13 @@ use Rattle.cilk_load_nodes.specs.Slots.{size_of, flat, is_inlet, procedure_aroun
 use Rattle.cilk_load_nodes.specs.Table.{number_of}
 use Rattle.cilk_load_nodes.specs.Bodies.{body_of}
 use Rattle.cilk_frame.specs.declared.awaited.Await.{Await}
-use Rattle.cilk_frame.specs.Frames.{Activation, Frame, no_activation, activation_at, depth, top_of, jumped, with_boundary, entered, left}
+use Rattle.cilk_frame.specs.Frames.{Activation, Frame, no_activation, activation_at, depth, top_of, jumped, with_boundary, entered}
 use Rattle.cilk_frame.specs.Begins.{Takes, first_activation, started}
 use Rattle.cilk_frame.specs.Cells.{own_variables, outer_variables, IsInlet, HasCell, frame_put}
 use Rattle.cilk_frame.specs.Stands.{AwaitsSame, Activates, AllActivate, bodies_of, lowest_of, AllInside, StandsFor}
 use Rattle.cilk_frame.specs.Reads.{Seen, lent, seen_by}
 use Rattle.cilk_frame.proofs.Starts.{start-activates, start-awaits}
-use Rattle.cilk_frame.proofs.Tops.{top-stands, with_top-stands, entered-stands, left-stands, depth-is}
+use Rattle.cilk_frame.proofs.Tops.{top-stands, with_top-stands, entered-stands, depth-is}
 use Rattle.cilk_frame.proofs.Puts.{lowest, lowest-body, lowest-values, lowest-activates, put-stands}
 
 -- an instance in another light, whose activations and flag are the same
@@ -99,10 +99,6 @@ call-stands p f i b arguments w r s takes same called inlet =
       acts = start-activates p b arguments w r takes;
       awaits = subst (λ x. AwaitsSame (label p) x r (bodies_of (i.top ∷ i.below))) (sym (start-awaits p b arguments w takes)) same;
     }) (called, inlet, s.inside)
-
-pub return-stands : (program : Labelled) (f : Frame) (i : Instance) (m : model.Activation) (ms : List model.Activation) → StandsFor program f i
-    → i.below ≡ m ∷ ms → StandsFor program (left f) (record i { top = m; below = ms })
-return-stands program f i m ms s e = left-stands program f i m ms s e
 
 -- what awaits the value of the top activation
 pub awaits-same : (program : Labelled) (f : Frame) (i : Instance) → StandsFor program f i

@@ -6,10 +6,10 @@ use Rattle.cilk_tree.specs.syntax.Tree.{Stmt, move, spawn_at, print, locking, nu
 use Rattle.cilk_tree.specs.syntax.Tree.{while, repeat, loop, switch, labelled, nested, Stmts, none, also, Local, declared, inlet_at, Locals, no_locals}
 use Rattle.cilk_tree.specs.syntax.Tree.{and_local}
 use Rattle.cilk_tree.specs.syntax.Tree.{Block, block}
-use Rattle.cilk_tree.specs.syntax.Tree.{Parameters, ints, command_line, Proc, Item, global, lock, prototype, procedure, Program}
+use Rattle.cilk_tree.specs.syntax.Tree.{Parameters, ints, command_line, Proc, Item, global, lock, prototype, procedure}
 use Rattle.cilk_tree.specs.syntax.Bare.{bare_word, bare_expr, bare_value, bare_exprs, bare_place, bare_target, bare_move, bare_part, bare_taker}
 use Rattle.cilk_tree.specs.syntax.Bare.{bare_shape, bare_decl, bare_words, bare_stmt, bare_stmts, bare_local, bare_locals, bare_block}
-use Rattle.cilk_tree.specs.syntax.Bare.{bare_literal, bare_parameters, bare_proc, bare_item, bare_program}
+use Rattle.cilk_tree.specs.syntax.Bare.{bare_literal, bare_parameters, bare_proc, bare_item}
 
 module _ {A : Type 0} (bare : A → A) (twice : (x : A) → bare (bare x) ≡ bare x) where
   map-twice : (xs : List A) → map bare (map bare xs) ≡ map bare xs

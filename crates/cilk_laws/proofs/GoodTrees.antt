@@ -14,7 +14,7 @@ use Rattle.cilk_parse_grammar.specs.Spelling.{SpellsProgram}
 use Rattle.cilk_laws.specs.Plain.{PlainItems}
 use Rattle.cilk_laws.proofs.ReadPrograms.{program_reread}
 use Rattle.cilk_laws.proofs.Can as can
-use Rattle.cilk_laws.proofs.Can.{IsAssigned, Each, Where}
+use Rattle.cilk_laws.proofs.Can.{IsAssigned, Where}
 use Rattle.cilk_laws.proofs.Able.{program_able}
 use Rattle.cilk_laws.specs.CanWrite.{CanWriteExpr, CanWriteExprs, CanWriteValue, CanAssign, CanWritePlace, CanWriteTarget, CanWriteReceiver}
 use Rattle.cilk_laws.specs.CanWrite.{CanWriteMove}

@@ -19,7 +19,6 @@ use Rattle.cilk_parse_grammar.specs.Grammar as grammar
 use Rattle.cilk_laws.specs.Plain.{IsPlain, PlainStmt}
 use Rattle.cilk_laws.specs.StmtLexemes.{ended, value_lexemes, integer_lexemes, stmt_lexemes}
 use Rattle.cilk_laws.proofs.Made as made
-use Rattle.cilk_laws.proofs.Made.{EachMade}
 use Rattle.cilk_laws.proofs.Built.{Setting, Written, Built, written, b_of, b_done, b_skip, b_then, b_last, b_left, b_right, b_before, b_name}
 use Rattle.cilk_laws.proofs.Built.{b_word, b_number, b_literal, b_expr}
 use Rattle.cilk_laws.proofs.Given.{good, no_else, Few, GoodValue, Given, g_done, g_skip, g_then, g_either, g_use, g_before, g_between}

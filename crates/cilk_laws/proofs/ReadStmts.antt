@@ -1,5 +1,5 @@
 -- The canonical lexemes of a statement and of a block spell them again.
-use Rattle.std.proofs.Common.{◌≡◌, ℕ, ◌≤◌, true, false, List, [], ◌∷◌, ◌++◌, map, Option, Some, None, refl, sym, ap, subst, ◌∙◌, inl, inr}
+use Rattle.std.proofs.Common.{◌≡◌, ℕ, ◌≤◌, true, false, List, [], ◌∷◌, ◌++◌, map, Option, refl, sym, ap, subst, ◌∙◌, inl, inr}
 use Rattle.std.proofs.lemmas.List.{map-append}
 use Rattle.cilk_check.specs.lexeme.Lexeme.{Lexeme, Piece, word, name, mark}
 use Rattle.cilk_check.specs.lexeme.declared.keyword.Keyword.TheVariants as key

@@ -7,7 +7,7 @@ use Rattle.cilk_check.specs.syntax.Tree as tree
 use Rattle.cilk_check.specs.syntax.Tree.{Word}
 use Rattle.cilk_check.specs.syntax.Bare.{bare_word, bare_parameters, bare_block}
 use Rattle.cilk_parse.specs.grammar.Rule as rule
-use Rattle.cilk_parse.specs.grammar.Rule.{Rule, skip, either, and_then, done, next}
+use Rattle.cilk_parse.specs.grammar.Rule.{Rule, skip}
 use Rattle.cilk_parse_grammar.specs.Classes.{a_word, a_mark}
 use Rattle.cilk_parse_grammar.proofs.ClassFacts.{names_are}
 use Rattle.cilk_parse_grammar.specs.Parts.{Means}

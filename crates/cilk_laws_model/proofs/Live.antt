@@ -13,6 +13,7 @@ use Rattle.cilk_model.specs.Pick.{Step, waits, parks, goes_on, ends, spawns, ste
 use Rattle.cilk_laws_model.proofs.Entries.{times, live-cons, times-cons, live-changed, times-changed, live-without, times-without, children_at}
 use Rattle.cilk_laws_model.proofs.Entries.{children-changed, at-changed_same, at-changed_other, at-without_other, either_of, at-push, live-push}
 use Rattle.cilk_laws_model.proofs.Entries.{times-push, live_some}
+use Rattle.cilk_laws_model.proofs.Waits.{mark_path}
 use Rattle.cilk_laws_model.proofs.Rows.{Row, headless, locked, parked, stopping, going, writing, calling, leaving, answering, spawning, printing}
 use Rattle.cilk_laws_model.proofs.Rows.{turning_lock, marking, returning, placing, taking, aborting, step_row}
 
@@ -84,10 +85,6 @@ changed_alike p f entries h = record {
   children = children-changed p f entries h;
   size = length-map entries (change p f);
 }
-
-mark_path : (e : Entry) (b : Bool) → (if b then record e { instance = record e.instance { aborted = true } } else e).path ≡ e.path
-mark_path e true = refl
-mark_path e false = refl
 
 mark_children : (e : Entry) (b : Bool) → (if b then record e { instance = record e.instance { aborted = true } } else e).instance.children ≡ e.instance.children
 mark_children e true = refl

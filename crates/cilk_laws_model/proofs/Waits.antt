@@ -55,7 +55,7 @@ marked_by e entries after q true true rest = refl
 marked_by e entries after q false true rest = refl
 marked_by e entries after q b false rest = rest
 
-mark_path : (e : Entry) (b : Bool) → (if b then record e { instance = record e.instance { aborted = true } } else e).path ≡ e.path
+pub mark_path : (e : Entry) (b : Bool) → (if b then record e { instance = record e.instance { aborted = true } } else e).path ≡ e.path
 mark_path e true = refl
 mark_path e false = refl
 

@@ -3,7 +3,7 @@ use Rattle.std.proofs.Common.{◌≡◌, ℕ, ◌-◌, ◌<◌, Bool, true, fals
 use Rattle.std.proofs.Common.{subst, ◌∙◌, arith, length-append, append_assoc}
 use Rattle.std.specs.Prelude.{IsAscii, ◌==◌}
 use Rattle.std.specs.List.{list_all}
-use Rattle.std.proofs.lemmas.Bool.{ltb-true, and_parts, and_from}
+use Rattle.std.proofs.lemmas.Bool.{and_parts, and_from}
 use Rattle.std.proofs.lemmas.Bool.Decides.{nat_tests}
 use Rattle.std.proofs.lemmas.List.{get_or_push}
 use Rattle.cilk_lex_tokens.specs.declared.header.Header.{Header}
@@ -13,19 +13,12 @@ use Rattle.cilk_lex_tokens.specs.Lexeme.{Lexeme}
 use Rattle.cilk_lex_tokens.specs.Lexing.{Front, of_blank, of_comment, of_word, of_name, of_number, of_mark, of_text, of_include}
 use Rattle.cilk_lex_tokens.specs.Spelling.{spelling, has_name_form, has_number_form, Says, says_nothing, says_byte, says_escape, IsText, IsInclude}
 use Rattle.cilk_lex_tokens.specs.Spelling.{IsComment, header_spelling, closing_of}
-use Rattle.cilk_lex.proofs.Marks.{mark_form}
+use Rattle.cilk_lex.proofs.Marks.{is_low, low, mark_form}
 use Rattle.cilk_lex.proofs.Numbers.{constant_form, number_passes}
 use Rattle.cilk_lex.proofs.Runs.{run_ascii, blank_low, name_low, number_low}
 use Rattle.cilk_lex.proofs.Words.{word_form, name_passes}
 
 -- ---- runs of ASCII bytes
-
-is_low : ℕ → Bool
-is_low b = ltb b 128
-
-low : (b : ℕ) → is_low b ≡ true → b < 128
-unfolding is_low
-low b e = ltb-true b 128 e
 
 all_append : (class : ℕ → Bool) (v w : List ℕ) → list_all class v ≡ true → list_all class w ≡ true → list_all class (v ++ w) ≡ true
 all_append class [] w h k = k

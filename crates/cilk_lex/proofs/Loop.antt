@@ -3,7 +3,7 @@ use Rattle.std.proofs.Common.{◌≡◌, ℕ, ◌+◌, ◌-◌, ◌<◌, ◌≤�
 use Rattle.std.proofs.Common.{subst, ◌∙◌, arith, append_assoc}
 use Rattle.std.specs.Prelude.{option_map, All, IsCharBoundary, IsUtf8, slice_range}
 use Rattle.std.proofs.lemmas.List.{map_push, append-nil, length-take-le, length-drop, take-append-drop, drop-drop, nil_from_length}
-use Rattle.std.proofs.lemmas.List.Elements.{All-nil, All-push}
+use Rattle.std.proofs.lemmas.List.Elements.{All-push}
 use Rattle.std.proofs.lemmas.Str.{IsCharBoundary-from_drop, IsCharBoundary-from_rest}
 use Rattle.cilk_lex_tokens.specs.declared.fault.LexFault.{LexFault}
 use Rattle.cilk_lex_tokens.specs.declared.token.TokenKind.{TokenKind}
@@ -45,9 +45,6 @@ pub record ReadSoFar (text : List ℕ) (ts : List Token) (fresh : Bool) (at : �
   pub lexed : (ps : List Piece) → Lexes fresh at rest ps → Lexes true 0 text (pieces_of text ts ++ ps)
   pub faulty : (f : LexFault) → Faulty fresh at rest f → Faulty true 0 text f
   pub within : All (IsWithin text) ts
-
-pub at_start : (text : List ℕ) → ReadSoFar text [] true 0 text
-at_start text = record { place = omega arith; left = refl; lexed = λ ps l. l; faulty = λ f h. h; within = All-nil (IsWithin text) }
 
 front_length : (rest : List ℕ) (n : ℕ) → n ≤ length rest → length (take n rest) ≡ n
 front_length rest n l = length-take-le n rest l

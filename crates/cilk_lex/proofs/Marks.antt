@@ -22,7 +22,7 @@ use Rattle.cilk_lex.proofs.Shows.{Shows}
 
 -- ---- tests that the bytes of every mark pass
 
-is_low : ℕ → Bool
+unfoldable pub is_low : ℕ → Bool
 is_low b = ltb b 128
 
 -- blanks, names, numbers, text literals and lines that include a header begin with other bytes
@@ -87,7 +87,7 @@ pub record IsMarkForm (w : List ℕ) : Type 0 where
   pub head : (b : ℕ) (bs : List ℕ) → w ≡ b ∷ bs → begins_other b ≡ false
   pub no_comment : opens_comment w ≡ false
 
-low : (b : ℕ) → is_low b ≡ true → b < 128
+pub low : (b : ℕ) → is_low b ≡ true → b < 128
 unfolding is_low
 low b e = ltb-true b 128 e
 

@@ -1,5 +1,5 @@
 -- The value of a number, and what `from_str_radix` makes of its digits.
-use Rattle.std.proofs.Common.{◌≡◌, ◌≢◌, ℕ, zero, suc, ◌<◌, ◌≤◌, Bool, true, false, cond, eqb, ◌&&◌, ◌⊎◌, inl, inr, List, [], ◌∷◌, length, get_or}
+use Rattle.std.proofs.Common.{◌≡◌, ◌≢◌, ℕ, ◌<◌, ◌≤◌, Bool, true, false, cond, eqb, ◌&&◌, ◌⊎◌, inl, inr, List, [], ◌∷◌, length, get_or}
 use Rattle.std.proofs.Common.{drop, Some, None, Result, Ok, Err, refl, sym, ◌∙◌, arith}
 use Rattle.std.specs.Prelude.{nat_le}
 use Rattle.std.specs.Bool.{then_some}
@@ -10,8 +10,8 @@ use Rattle.std.proofs.lemmas.Bool.{leb-true, eq-eqb, ne_eqb, and_parts}
 use Rattle.std.proofs.lemmas.Bool.Decides.{nat_tests}
 use Rattle.cilk_lex_tokens.specs.Byte.{continues_number, is_x}
 use Rattle.cilk_lex.specs.Sight.{is_numeral, valued, number_in}
-use Rattle.cilk_lex_tokens.specs.Spelling.{int_max, has_number_form}
-use Rattle.cilk_lex.proofs.Numbers.{numeral_true, true_numeral, number_passes}
+use Rattle.cilk_lex_tokens.specs.Spelling.{int_max}
+use Rattle.cilk_lex.proofs.Numbers.{numeral_true, true_numeral}
 
 no_plus_byte : (b : ℕ) → continues_number b ≡ true → eqb b 43 ≡ false
 no_plus_byte b h = grind (arith, nat_tests)

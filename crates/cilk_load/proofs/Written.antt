@@ -18,7 +18,7 @@ use Rattle.cilk_load.specs.nodes.declared.action.Action.TheVariants.{Print, Lock
 use Rattle.cilk_load.specs.nodes.declared.node.Node.{Node}
 use Rattle.cilk_load.specs.nodes.declared.var.Var.{Var}
 use Rattle.cilk_load.specs.nodes.Actions.{slotted}
-use Rattle.cilk_load.specs.nodes.Table.{number_of, label_cases, node_over, first_lists, advance_lists, round_of, stmt_lists, stmts_lists}
+use Rattle.cilk_load.specs.nodes.Table.{number_of, label_cases, node_over, first_lists, round_of, stmt_lists, stmts_lists}
 use Rattle.cilk_load.specs.nodes.Plain.{PlainLocals, PlainStmt, PlainStmts, PlainBlock}
 use Rattle.cilk_load.proofs.nodes_laws.Opens.{past-pieces, from-pieces}
 use Rattle.cilk_load.specs.declared.exits.Exits.{Exits}

@@ -1,5 +1,5 @@
 -- What the table of names finds is what the declarations that are visible stand for.
-use Rattle.std.proofs.Common.{◌≡◌, ◌≢◌, ℕ, zero, suc, ◌+◌, ◌-◌, ◌<◌, ◌≤◌, Bool, true, false, cond, List, [], ◌∷◌, ◌++◌, length, map, reverse, take}
+use Rattle.std.proofs.Common.{◌≡◌, ◌≢◌, ℕ, zero, suc, ◌-◌, ◌<◌, ◌≤◌, Bool, true, false, cond, List, [], ◌∷◌, ◌++◌, length, map, reverse, take}
 use Rattle.std.proofs.Common.{drop, Option}
 use Rattle.std.proofs.Common.{Some, None, refl, sym, ap, subst, ◌∙◌, arith, length-append, length-take, length-drop}
 use Rattle.std.specs.Str.{bytes_eq}
@@ -140,9 +140,6 @@ module _ (m : BTreeMap (Bor (List ℕ)) Nearest) (es fs : List Entry) (mark : �
         ∙ found_less (bytes_eq e.name.now.text name) e (reverse fs) (length (reverse fs)) name refl popped_hides.0;
     hides = popped_hides.1;
   }
-
-pub length_innermost : (mark : ℕ) (es : List Entry) → mark ≤ length es → length (scope_of mark es).innermost + mark ≡ length es
-length_innermost mark es h = grind (arith, length-map, length-reverse, length-drop)
 
 pub length_outer : (mark : ℕ) (es : List Entry) → mark ≤ length es → length (scope_of mark es).outer ≡ mark
 length_outer mark es h = grind (arith, length-map, length-reverse, length-take)

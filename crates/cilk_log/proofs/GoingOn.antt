@@ -2,7 +2,7 @@
 use Rattle.std.proofs.Common.{◌≡◌, ℕ, ◌+◌, Bool, true, false, cond, List, [], ◌∷◌, ◌++◌, length, Some, None, Result, Err, refl, ap, append_assoc, eq-eqb}
 use Rattle.std.specs.Prelude.{◌==◌}
 use Rattle.cilk_machine_choices.specs.model.Choice.{Choice}
-use Rattle.cilk_log.specs.Reading.{Lines, lines_of, behind_byte, Fault, truncated, wrong_line, told_in, choice_in, count_in, closed, counted, ended}
+use Rattle.cilk_log.specs.Reading.{Lines, lines_of, behind_byte, Fault, wrong_line, told_in, choice_in, count_in, closed, counted, ended}
 
 -- behind these choices
 abbrev pub goes_on : List Choice → Lines → Result (List Choice) Fault
@@ -12,9 +12,6 @@ goes_on choices lines =
 pub append_nil : {A : Type 0} (l : List A) → l ++ [] ≡ l
 append_nil [] = refl
 append_nil (x ∷ l) = ap (λ r. x ∷ r) (append_nil l)
-
-pub cut : (choices : List Choice) (lines : Lines) → lines.whole ≡ [] → goes_on choices lines ≡ Err truncated
-cut choices lines e = rw e refl
 
 pub another : (choices : List Choice) (lines more : Lines) (line : List ℕ) (choice : Choice) → lines.whole ≡ line ∷ more.whole → lines.rest ≡ more.rest
     → choice_in line ≡ Some choice → goes_on choices lines ≡ goes_on (choices ++ choice ∷ []) more

@@ -10,8 +10,8 @@ use Rattle.cilk_machine_choices.specs.declared.choice.Choice as code
 use Rattle.cilk_machine_choices.specs.Words.{choice_of}
 use Rattle.cilk_log.specs.Stretches.{Stretch, choices_of, count_of, are_joined, following}
 use Rattle.cilk_log.specs.Text.{most_choices}
-use Rattle.cilk_log.specs.Reading.{Lines, Fault, truncated, too_many, Stretched, behind_choice, in_front, stretched_by, stretched_in, stretch_in, count_in}
-use Rattle.cilk_log.specs.Reading.{counted, ended, few_ended, stretches_read}
+use Rattle.cilk_log.specs.Reading.{Lines, Fault, too_many, Stretched, behind_choice, in_front, stretched_by, stretched_in, stretch_in, count_in}
+use Rattle.cilk_log.specs.Reading.{counted, ended}
 use Rattle.cilk_log.proofs.GoingOn.{append_nil}
 
 -- what lines tell behind that of a choice, if there is one
@@ -28,18 +28,6 @@ abbrev pub goes_on : Option Choice → ℕ → List Choice → Lines → Result 
 goes_on last number choices lines =
     ends_with (nat_le (length choices + count_of (told_behind last lines.whole).stretches) most_choices) number choices (told_behind last lines.whole)
     lines.rest
-
--- ---- at the start
-
-start_at : (told : Stretched) (rest : List ℕ) (b : Bool) → ends_with b 4 [] told rest ≡ few_ended b told rest
-start_at told rest false = refl
-start_at told rest true = refl
-
-pub at_start : (lines : Lines) → goes_on None 4 [] lines ≡ stretches_read lines.whole lines.rest
-at_start lines =
-    let none : 0 + count_of (stretched_in lines.whole).stretches ≡ count_of (stretched_in lines.whole).stretches = omega arith in
-    ap (λ n. ends_with (nat_le n most_choices) 4 [] (stretched_in lines.whole) lines.rest) none
-    ∙ start_at (stretched_in lines.whole) lines.rest (nat_le (count_of (stretched_in lines.whole).stretches) most_choices)
 
 -- ---- at a line
 
@@ -61,12 +49,6 @@ no_more last number choices lines e m =
     ap (λ (t : Stretched). ends_with (nat_le (length choices + count_of t.stretches) most_choices) number choices t lines.rest) e
     ∙ none_more number choices lines m
     ∙ ap (λ n. ended n (choices ++ []) lines.whole lines.rest) zero_more ∙ ap (λ cs. ended number cs lines.whole lines.rest) (append_nil choices)
-
-pub cut : (last : Option Choice) (number : ℕ) (choices : List Choice) (lines : Lines) → lines.whole ≡ [] → length choices ≤ most_choices
-    → goes_on last number choices lines ≡ Err truncated
-cut last number choices lines e m =
-    let none : stretched_in lines.whole ≡ record { stretches = []; others = lines.whole } = rw e refl in
-    no_more last number choices lines (nothing_told last lines.whole none) m ∙ ap (λ ls. ended number choices ls lines.rest) e
 
 -- no stretch may stand there
 none_follows : (last : Option Choice) (line : List ℕ) (lines : List (List ℕ)) (o : Option Stretch) → stretch_in line ≡ o → following last o ≡ None

@@ -13,11 +13,11 @@ use Rattle.cilk_machine_undo.proofs.runs_laws.Fates.{each_choice_is_an_event}
 use Rattle.cilk_machine_undo.proofs.Moments.{machines-tell, machines-go-on}
 use Rattle.cilk_machine_undo.proofs.Within.{fated-within}
 use Rattle.cilk_machine_choices.specs.declared.outcome.Outcome.{Outcome}
-use Rattle.cilk_machine.specs.Situation.{Before, Situation, workers_of, outcome_at}
+use Rattle.cilk_machine.specs.Situation.{Situation, workers_of, outcome_at}
 use Rattle.cilk_machine.specs.Stands.{IsSound}
-use Rattle.cilk_machine.specs.Kept.{idle_hands, IsWhole}
+use Rattle.cilk_machine.specs.Kept.{IsWhole}
 use Rattle.cilk_machine.specs.Pasts.{situation_of}
-use Rattle.cilk_machine.specs.Checkpoints.{IsEarlier, without_past, TellsItself, GoesOnTelling}
+use Rattle.cilk_machine.specs.Checkpoints.{without_past, TellsItself, GoesOnTelling}
 use Rattle.cilk_machine.proofs.Kept.{sound-past}
 use Rattle.cilk_machine.proofs.Rooms.{few-idle}
 

@@ -8,7 +8,7 @@ use Rattle.cilk_machine_choices.specs.model.Choice as model
 use Rattle.cilk_machine_choices.specs.model.Event.{Event}
 use Rattle.cilk_machine_choices.specs.model.Path.{Path}
 use Rattle.cilk_machine_choices.specs.model.State as state
-use Rattle.cilk_machine_choices.specs.model.Run.{Standing, next_by_hand, event_by_hand, step_refusal}
+use Rattle.cilk_machine_choices.specs.model.Run.{Standing, next_by_hand, event_by_hand}
 use Rattle.cilk_machine_choices.specs.model.Hands.{IsWorker, hand_of}
 use Rattle.cilk_machine_undo.specs.nodes.declared.body.Body.{Body}
 use Rattle.cilk_machine_undo.proofs.effects_laws.Room.{variables, globals}

@@ -10,7 +10,6 @@ use Rattle.cilk_machine_undo.specs.plans.declared.plan.Plan.{Plan}
 use Rattle.cilk_machine_undo.specs.plans.declared.did.Done.{Done}
 use Rattle.cilk_machine_undo.specs.plans.declared.parts.Parts.{Parts}
 use Rattle.cilk_machine_undo.specs.plans.PartWords.{machine_of, outcome_of}
-use Rattle.cilk_machine_undo.specs.plans.Carried.{after_plan}
 use Rattle.cilk_machine_carry.specs.Carries.{CanCarry, Becomes}
 use Rattle.cilk_machine_carry.proofs.Whole.{worker-there, ready-there}
 use Rattle.cilk_machine_undo.specs.Undo.{Undo, undone, nothing, cell, lock, printed, acted, parked, spawned, ended, popped, stolen}

@@ -1,12 +1,9 @@
 -- A private step of a worker, as a machine shows it.
-use Rattle.std.proofs.Common.{◌≡◌, ◌≢◌, Bool, true, false, ◌&&◌, ℕ, List, Option, Some, None, refl, sym, ap, ◌∙◌, subst}
+use Rattle.std.proofs.Common.{◌≡◌, ◌≢◌, Bool, false, ◌&&◌, ℕ, Some, None, refl, sym, ap, ◌∙◌}
 use Rattle.std.specs.Prelude.{is_none, option_map, Result, Ok, Err, IfOk}
 use Rattle.cilk_machine_undo.specs.labelled.Bodies.{label}
 use Rattle.cilk_machine_choices.specs.model.Choice as model
-use Rattle.cilk_machine_choices.specs.model.Event.{Event}
-use Rattle.cilk_machine_choices.specs.model.Path.{Path}
 use Rattle.cilk_machine_choices.specs.model.Scheduler as sched
-use Rattle.cilk_machine_choices.specs.model.State.{instance_at}
 use Rattle.cilk_machine_choices.specs.model.Hands.{hand_of}
 use Rattle.cilk_machine_choices.specs.model.Run.{Standing, event_by_hand, event_of, event_of_step}
 use Rattle.cilk_machine_undo.proofs.effects_laws.Known.{heads, follows}

@@ -1,5 +1,5 @@
 -- What is kept of a machine between two choices, by which a machine is put there again, beside a later one of the same program.
-use Rattle.std.specs.Prelude.{◌≡◌, ◌≤◌, ℕ, Bool, List, []}
+use Rattle.std.specs.Prelude.{◌≡◌, ◌≤◌, ℕ, Bool, []}
 use Rattle.cilk_machine_undo.specs.syntax.Tree.{Program}
 use Rattle.cilk_machine_undo.specs.agree.Agrees.{MachineParts}
 use Rattle.cilk_machine_undo.specs.Moment.{Moment, IsMomentOf, IsBefore, running_as}

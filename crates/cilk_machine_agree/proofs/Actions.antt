@@ -18,7 +18,8 @@ use Rattle.cilk_sched.specs.frame.Frames.{Frame, gone_to, left}
 use Rattle.cilk_sched.specs.frame.Cells.{SameCell, put_in, frame_put, globals_put}
 use Rattle.cilk_sched.specs.frame.Stands.{StandsFor, bodies_of, lowest_of}
 use Rattle.cilk_sched.proofs.frame_laws.Puts.{on_lowest-bodies, put-stands, put-globals, put-sizes}
-use Rattle.cilk_sched.proofs.frame_laws.Steps.{goes_on-stands, call-stands, return-stands}
+use Rattle.cilk_sched.proofs.frame_laws.Steps.{goes_on-stands, call-stands}
+use Rattle.cilk_sched.proofs.frame_laws.Tops.{left-stands}
 use Rattle.cilk_spawn.specs.Nodes.{path_at}
 use Rattle.cilk_machine_agree.specs.Outside.{Outside, SameOutside, lock_by}
 use Rattle.cilk_machine_agree.specs.Alike.{NodeStandsFor, SameDeliveries, Receives, procedure_in, taker_of, lowest_body}
@@ -158,7 +159,7 @@ pub leaves-agree : LeavesAgree
 leaves-agree t caller below is =
     let i = instance_of t in
     subst (λ ms. Goes t (left t.frame) (resumed_to i ms) t.machine.outside (with_instance t.at.state (path_of t) (resumed_to i ms))) (sym is)
-    (acts t _ _ _ _ refl (return-stands (label t.program) t.frame i caller below (holds t).stands is)
+    (acts t _ _ _ _ refl (left-stands (label t.program) t.frame i caller below (holds t).stands is)
     (record { lowest = ap (λ ms. lowest_of i.top.body (bodies_of ms)) (sym is); children = refl; aborted = refl; waiting = refl; receiver = refl })
     (outside-same t _) refl)
 
@@ -169,7 +170,7 @@ answers-agree t caller below slot index cell z is same =
     subst (λ ms. Goes t (frame_put slot index z (left t.frame)) (put cell z (resumed_to i ms)) (with_global t slot index z)
     (with_put t.at.state (path_of t) (resumed_to i ms) cell z)) (sym is)
     (acts t _ _ _ _ (put-id slot.area (slot.offset + index) z (left t.frame))
-    (same-put (label t.program) (left t.frame) back slot index cell z (return-stands (label t.program) t.frame i caller below (holds t).stands is) same)
+    (same-put (label t.program) (left t.frame) back slot index cell z (left-stands (label t.program) t.frame i caller below (holds t).stands is) same)
     (record {
       lowest = put-lowest cell z back ∙ ap (λ ms. lowest_of i.top.body (bodies_of ms)) (sym is);
       children = refl;

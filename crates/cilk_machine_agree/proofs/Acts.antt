@@ -20,7 +20,7 @@ use Rattle.cilk_machine_agree.proofs.Change.{change}
 use Rattle.cilk_machine_agree.proofs.Frames.{hand-over, held-with_hand, hand-kept-by}
 use Rattle.cilk_machine_agree.proofs.Alone.{holds, inside, free, others-stand}
 
-not-some : (o : Option Frame) (g : Frame) → o ≡ None → o ≡ Some g → ⊥
+pub not-some : (o : Option Frame) (g : Frame) → o ≡ None → o ≡ Some g → ⊥
 not-some o g none some = let e : None ≡ Some g = sym none ∙ some in cc
 
 module _ (t : InHand) where

@@ -39,7 +39,7 @@ use Rattle.cilk_machine_agree.specs.Laws.{InHand, path_of, Becomes, Birth, after
 use Rattle.cilk_machine_agree.proofs.Sets.{Sets, sets, instead-here, instead-there}
 use Rattle.cilk_machine_agree.proofs.Frames.{held-at, held-placed}
 use Rattle.cilk_machine_agree.proofs.Alone.{holds, inside, others-stand}
-use Rattle.cilk_machine_agree.proofs.Acts.{local-agrees}
+use Rattle.cilk_machine_agree.proofs.Acts.{not-some, local-agrees}
 
 -- more ids, of which the first n keep their paths
 module _ (up now : ℕ → Path) (n l : ℕ) (more : n ≤ l) (same : (i : ℕ) → i < n → now i ≡ up i) where
@@ -95,9 +95,6 @@ not-held : (n : ℕ) (parked live : Bool) → n + cond parked 1 0 ≡ cond live 
 not-held n true true h e = cc
 not-held n true false h e = absurd (omega (arith, h))
 not-held n false live h e = refl
-
-no-frame : (o : Option Frame) (g : Frame) → o ≡ None → o ≡ Some g → ⊥
-no-frame o g none some = let e : None ≡ Some g = sym none ∙ some in cc
 
 taker-same : (procedures now : ℕ → ℕ) (o : Option ℕ) → ((q : ℕ) → o ≡ Some q → now q ≡ procedures q) → taker_of procedures o ≡ taker_of now o
 taker-same procedures now None same = refl
@@ -311,7 +308,7 @@ module _ (t : InHand) (f g : Frame) (receiver : Receiver) (callee : ℕ) (a c : 
         (All-push H (deque_of t.machine.places t.worker) f (subst (All H) (deque-kept t.machine.places t.worker None t.is_worker)
         (held-at H (with_hand t.machine.places t.worker None) t.worker rest-held).1) held-parent);
     waits = λ i x live is. elim (decide i l) [
-      | inl e ↦ absurd (no-frame (node_at ms i).parked x (ap (λ (n : Node). n.parked) (ap (node_at ms) e ∙ births.child)) is)
+      | inl e ↦ absurd (not-some (node_at ms i).parked x (ap (λ (n : Node). n.parked) (ap (node_at ms) e ∙ births.child)) is)
       | inr ne ↦ subst (λ y. Parked p i y x) (sym (instead-there who l c i ne))
           (gone.waits i x (ap is_live (sym (node i ne)) ∙ live) (ap (λ (n : Node). n.parked) (sym (node i ne)) ∙ is))
     ];

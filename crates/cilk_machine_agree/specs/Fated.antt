@@ -9,7 +9,7 @@ use Rattle.cilk_laws_model.specs.model.Fate.{lives, has_returned, was_delivered,
 use Rattle.cilk_laws_model.specs.model.Made.{callee_of, procedure_of, made}
 use Rattle.cilk_spawn.specs.declared.fate.Fate.{Fate}
 use Rattle.cilk_spawn.specs.declared.fate.Fate.TheVariants.{Live, Returned, Delivered, Aborted}
-use Rattle.cilk_spawn.specs.Nodes.{Node, node_at, is_live, after_taking, path_at}
+use Rattle.cilk_spawn.specs.Nodes.{Node, node_at, after_taking, path_at}
 
 -- the word of the definitions for a fate
 abbrev pub fate_named : Fate → model.Fate

@@ -19,7 +19,8 @@ use Rattle.cilk_machine_plan.specs.frame.Cells.{SameCell, HasCell, no_variable, 
 use Rattle.cilk_machine_plan.specs.frame.Reads.{lent, seen_by}
 use Rattle.cilk_machine_plan.specs.frame.Stands.{StandsFor}
 use Rattle.cilk_machine_plan.proofs.frame_laws.Values.{cell-there}
-use Rattle.cilk_machine_plan.proofs.frame_laws.Steps.{lent-seen, alone-is, return-stands}
+use Rattle.cilk_machine_plan.proofs.frame_laws.Steps.{lent-seen, alone-is}
+use Rattle.cilk_machine_plan.proofs.frame_laws.Tops.{left-stands}
 use Rattle.cilk_machine_plan.specs.agree.Laws.{InHand, instance_of}
 use Rattle.cilk_machine_plan.proofs.agree_laws.Alone.{holds, free}
 use Rattle.cilk_machine_plan.proofs.agree_laws.Actions.{gone}
@@ -108,7 +109,7 @@ module _ (choice : ℕ) (t : InHand) (few : CellsAreFew (label t.program)) (body
       let c = h.caller in (
         deeper c,
         fits-here (left t.frame) (record (instance_of t) { top = c.caller; below = c.below })
-            (return-stands (label t.program) t.frame (instance_of t) c.caller c.below (holds t).stands c.is) reached.slot reached.index h.at.cell h.at.same,
+            (left-stands (label t.program) t.frame (instance_of t) c.caller c.below (holds t).stands c.is) reached.slot reached.index h.at.cell h.at.same,
       )
   needs (plan.Return n z) goes starts h =
       let c = senders-can-end t z h.childless in

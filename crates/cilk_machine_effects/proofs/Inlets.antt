@@ -1,5 +1,5 @@
 -- The bodies of the inlets of a procedure.
-use Rattle.std.proofs.Common.{◌≡◌, ℕ, suc, ◌+◌, ◌<◌, ◌≤◌, pos, true, false, IsTrue, List, [], ◌∷◌, ◌++◌, map, length, inl, inr, refl, sym, ap, subst}
+use Rattle.std.proofs.Common.{◌≡◌, ℕ, suc, ◌+◌, ◌<◌, ◌≤◌, pos, true, IsTrue, List, [], ◌∷◌, ◌++◌, map, length, inl, inr, refl, sym, ap, subst}
 use Rattle.std.proofs.Common.{◌∙◌, arith}
 use Rattle.std.proofs.lemmas.Bool.{cases_lt}
 use Rattle.cilk_check.specs.syntax.Tree.{Word}

@@ -15,7 +15,7 @@ use Rattle.cilk_machine_effects.specs.Known.{KnownTarget}
 
 module _ (program : Labelled) (b : ℕ) where
   -- a variable has a cell 0
-  variable_has : (d : Declaration) → IsVariable program b d → HasCell program b d 0
+  pub variable_has : (d : Declaration) → IsVariable program b d → HasCell program b d 0
   variable_has (local n) h = (h, omega arith)
   variable_has (outer n) h = (h.0, (h.1, omega arith))
   variable_has (global n) h = (h, omega arith)

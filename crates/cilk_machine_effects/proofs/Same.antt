@@ -1,40 +1,40 @@
 -- What actions come to over slots is what they come to over declarations.
-use Rattle.std.proofs.Common.{◌≡◌, ℕ, ◌<◌, ℤ, pos, negsuc, Bool, true, false, nat_lt, not, List, [], ◌∷◌, map, length, max, Option, Some, None}
+use Rattle.std.proofs.Common.{◌≡◌, ℕ, ◌<◌, ℤ, pos, negsuc, Bool, true, false, nat_lt, List, [], ◌∷◌, map, length, Option, Some, None}
 use Rattle.std.proofs.Common.{Result, Ok, Err, refl, sym, ap, ◌∙◌, subst, arith, if◌then◌else◌}
-use Rattle.std.specs.Prelude.{slice_index_or, ⊤, option_map}
+use Rattle.std.specs.Prelude.{⊤, option_map}
 use Rattle.std.specs.List.{All}
 use Rattle.std.proofs.lemmas.List.Elements.{All-head, All-tail, All-map, All-weaker}
 use borrow.Author.Tests.{ltb-true}
 use Rattle.cilk_check.specs.syntax.declared.operator.BinOp.{BinOp}
 use Rattle.cilk_spawn.specs.labelled.declared.trap.Trap.{Trap}
 use Rattle.cilk_spawn.specs.labelled.declared.trap.Trap.TheVariants.{Index}
-use Rattle.cilk_spawn.specs.labelled.Arithmetic.{is_zero}
 use Rattle.cilk_spawn.specs.labelled.Term.{Term, rename}
 use Rattle.cilk_spawn.specs.labelled.Value.{Environment, value_of, values_of, ◌>>=◌}
 use Rattle.cilk_spawn.specs.nodes.declared.slot.Slot.{Slot}
-use Rattle.cilk_spawn.specs.nodes.Areas.{Cells, slot_cell, sizes_of, LiesWithin, SlotsLieWithin}
+use Rattle.cilk_spawn.specs.nodes.Areas.{Cells, slot_cell, sizes_of, SlotsLieWithin}
 use Rattle.cilk_spawn.specs.nodes.Areas as slots
-use Rattle.cilk_spawn.specs.labelled.Labelled.{Declaration, local, outer, global, of_lock, of_body, unknown, Variable, Labelled, Target, variable}
+use Rattle.cilk_spawn.specs.labelled.Labelled.{Declaration, local, outer, global, of_lock, of_body, unknown, Labelled, Target, variable}
 use Rattle.cilk_spawn.specs.labelled.Labelled.{element, Into, Taker, nothing, into, through, Action, assign, call, spawn, print, locking, null}
 use Rattle.cilk_spawn.specs.labelled.Labelled.{break_off, go_round, tests, sync, abort, return_with, return_nothing, close}
-use Rattle.cilk_spawn.specs.model.Values.{Values, Store, Cell, Reached, cells_of, cell_of, environment, element_cell, cell_at, reached_at, reached_if, combined}
+use Rattle.cilk_spawn.specs.model.Values.{Store, Cell, Reached, cells_of, cell_of, environment, element_cell, cell_at, reached_at, reached_if, combined}
 use Rattle.cilk_spawn.specs.model.Instance as model
 use Rattle.cilk_spawn.specs.model.Effect as effect
 use Rattle.cilk_spawn.specs.model.Effect.{effect_of, start_of}
 use Rattle.cilk_spawn.specs.model.Printing.{printed}
-use Rattle.cilk_spawn.specs.nodes.Slots.{size_of, slot_of}
+use Rattle.cilk_spawn.specs.nodes.Slots.{slot_of}
 use Rattle.cilk_spawn.specs.nodes.Actions.{slotted_place, slotted_target, slotted_taker, slotted}
 use Rattle.cilk_spawn.specs.frame.Cells.{own_variables, outer_variables, HasCell}
-use Rattle.cilk_spawn.specs.frame.Reads.{IsVariable, IsArray, IsKnown, Seen}
+use Rattle.cilk_spawn.specs.frame.Reads.{IsArray, IsKnown, Seen}
 use Rattle.cilk_spawn.proofs.frame_laws.SlotLaws.{cells-size}
 use Rattle.cilk_spawn.proofs.frame_laws.Values.{array-inside, array-declared, array-same, declared-within, cell-same, value-same, slots-within}
 use Rattle.cilk_machine_effects.specs.declared.effect.Effect.{Effect}
-use Rattle.cilk_machine_effects.specs.declared.effect.Effect.TheVariants.{Writes, Answers, Enters, Gives, Starts, Prints, TurnsLock, Marks}
+use Rattle.cilk_machine_effects.specs.declared.effect.Effect.TheVariants.{Writes, Answers, Enters, Gives, Starts, Prints}
 use Rattle.cilk_spawn.specs.declared.receiver.Receiver as receiver
 use Rattle.cilk_machine_effects.specs.Fits.{FitsPlace, FitsTarget, FitsTaker, FitsAct}
 use Rattle.cilk_machine_effects.specs.Effects.{element_index, index_of, assigned, awaited, started, effect_in}
 use Rattle.cilk_machine_effects.specs.Known.{KnownTarget, KnownPlace, KnownTaker, KnownAct}
-use Rattle.cilk_machine_effects.specs.Slotted.{IsCell, ReachesCells, slotted_await, slotted_receiver, slotted_effect, slotted_result}
+use Rattle.cilk_machine_effects.specs.Slotted.{ReachesCells, slotted_await, slotted_result}
+use Rattle.cilk_machine_effects.proofs.ReachedCells.{variable_has}
 
 -- what a target names
 abbrev named_by : Target → Declaration
@@ -78,14 +78,6 @@ module _ (program : Labelled) (b : ℕ) (cells : Cells) (store : Store) (s : See
   abbrev env : Environment Declaration
   env = environment store
 
-  variable-cell : (d : Declaration) → IsVariable program b d → HasCell program b d 0
-  variable-cell (local n) h = (h, omega arith)
-  variable-cell (outer n) (inlet, h) = (inlet, (h, omega arith))
-  variable-cell (global n) h = (h, omega arith)
-  variable-cell (of_lock n) h = h
-  variable-cell (of_body n) h = h
-  variable-cell unknown h = h
-
   array-cell : (d : Declaration) (k : ℕ) → IsArray program b d → k < length (cells_of store d) → HasCell program b d k
   array-cell (local n) k h below =
       let inside = array-inside (own_variables program b) n h in
@@ -109,7 +101,7 @@ module _ (program : Labelled) (b : ℕ) (cells : Cells) (store : Store) (s : See
       λ i. value-same program b cells store t s known i >>= element_index ((array-same program b cells store s d array).length i)
 
   index-there : (t : Target) (k : ℕ) → KnownTarget program b t → index_in env t ≡ Ok k → HasCell program b (named_by t) k
-  index-there (variable d) k h e = let zero : 0 ≡ k = cc in subst (λ j. HasCell program b d j) zero (variable-cell d h)
+  index-there (variable d) k h e = let zero : 0 ≡ k = cc in subst (λ j. HasCell program b d j) zero (variable_has program b d h)
   index-there (element d t) k (array, known) e = array-cell d k array (index-below (env.length d) k (value_of env t) e)
 
   values-same : (ts : List (Term Declaration)) → All (IsKnown program b) ts → values_of (slots.environment cells) (map (rename slot) ts) ≡ values_of env ts

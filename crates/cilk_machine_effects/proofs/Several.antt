@@ -1,8 +1,7 @@
 -- Values from left to right, some of which are known.
-use Rattle.std.proofs.Common.{◌≡◌, ℤ, List, [], ◌∷◌, ◌++◌, Result, Ok, Err, refl, ap, ◌∙◌, append_assoc}
+use Rattle.std.proofs.Common.{ℤ, List, ◌++◌, Result, Ok}
 use Rattle.cilk_spawn.specs.labelled.declared.trap.Trap.{Trap}
-use Rattle.cilk_spawn.specs.labelled.Term.{Term}
-use Rattle.cilk_spawn.specs.labelled.Value.{Environment, value_of, values_of, ◌>>=◌}
+use Rattle.cilk_spawn.specs.labelled.Value.{◌>>=◌}
 
 -- some values, and then the others
 abbrev pub after : List ℤ → Result (List ℤ) Trap → Result (List ℤ) Trap

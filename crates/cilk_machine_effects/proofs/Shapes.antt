@@ -1,10 +1,8 @@
 -- What the effect of an action looks like, by the action.
-use Rattle.std.proofs.Common.{◌≡◌, ℕ, suc, ℤ, pos, negsuc, Bool, true, false, nat_lt, not, List, [], ◌∷◌, length, Option, Some, None, Result, Ok, Err}
+use Rattle.std.proofs.Common.{◌≡◌, ℕ, suc, ℤ, pos, negsuc, Bool, true, false, nat_lt, List, [], ◌∷◌, length, Option, Some, None, Result, Ok, Err}
 use Rattle.std.proofs.Common.{refl, sym, ap, ◌∙◌, if◌then◌else◌}
-use Rattle.cilk_check.specs.syntax.declared.operator.BinOp.{BinOp}
 use Rattle.cilk_spawn.specs.labelled.declared.trap.Trap.{Trap}
 use Rattle.cilk_spawn.specs.labelled.declared.trap.Trap.TheVariants.{Index}
-use Rattle.cilk_spawn.specs.labelled.Arithmetic.{is_zero}
 use Rattle.cilk_spawn.specs.labelled.Term.{Term}
 use Rattle.cilk_spawn.specs.labelled.Value.{Environment, value_of, values_of, ◌>>=◌}
 use Rattle.cilk_spawn.specs.labelled.Labelled.{Declaration, Target, variable, element, Into, Taker, nothing, into, through, Action, assign, call}

@@ -1,8 +1,7 @@
 -- What an action comes to over slots.
-use Rattle.std.specs.Prelude.{ℕ, ℤ, pos, negsuc, true, not, nat_lt, if◌then◌else◌, List, Option, Some, None, Result, Ok, Err}
+use Rattle.std.specs.Prelude.{ℕ, ℤ, pos, negsuc, nat_lt, if◌then◌else◌, List, Option, Some, None, Result, Ok, Err}
 use Rattle.cilk_spawn.specs.labelled.declared.trap.Trap.{Trap}
 use Rattle.cilk_spawn.specs.labelled.declared.trap.Trap.TheVariants.{Index}
-use Rattle.cilk_spawn.specs.labelled.Arithmetic.{is_zero}
 use Rattle.cilk_spawn.specs.labelled.Term.{Term}
 use Rattle.cilk_spawn.specs.labelled.Value.{value_of, values_of, ◌>>=◌}
 use Rattle.cilk_spawn.specs.nodes.declared.slot.Slot.{Slot}

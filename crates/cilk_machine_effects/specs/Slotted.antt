@@ -1,5 +1,5 @@
 -- The effects of actions with slots in place of declarations, and the cells that they reach.
-use Rattle.std.specs.Prelude.{ℕ, ⊤, List, Option, Some, None, option_map, Result, Ok, Err}
+use Rattle.std.specs.Prelude.{ℕ, ⊤, Option, Some, None, option_map, Result, Ok, Err}
 use Rattle.cilk_spawn.specs.labelled.declared.trap.Trap.{Trap}
 use Rattle.cilk_spawn.specs.nodes.declared.slot.Slot.{Slot}
 use Rattle.cilk_spawn.specs.labelled.Labelled.{Declaration, Labelled}

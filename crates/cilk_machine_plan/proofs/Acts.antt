@@ -7,16 +7,14 @@ use Rattle.std.proofs.lemmas.Bool.Decides.{nat_tests}
 use Rattle.cilk_machine_agree.specs.syntax.declared.lock_action.LockAction.{LockAction}
 use Rattle.cilk_machine_agree.specs.labelled.Term.{Term, rename}
 use Rattle.cilk_machine_agree.specs.labelled.Value.{Environment}
-use Rattle.cilk_machine_agree.specs.labelled.Labelled.{Declaration, Labelled, Into, Taker, nothing, into, through, Action, assign, call, spawn, print}
-use Rattle.cilk_machine_agree.specs.labelled.Labelled.{locking, null, break_off, go_round, tests, sync, abort, return_with, return_nothing, close}
+use Rattle.cilk_machine_agree.specs.labelled.Labelled.{Declaration, Labelled, Into, Action, call, spawn}
 use Rattle.cilk_machine_agree.specs.labelled.Bodies.{label}
 use Rattle.cilk_machine_effects.specs.Heads.{GoesOn}
 use Rattle.cilk_machine_agree.specs.model.Values.{Reached, environment}
 use Rattle.cilk_machine_agree.specs.model.Instance.{Instance}
 use Rattle.cilk_machine_agree.specs.model.State as state
-use Rattle.cilk_machine_agree.specs.model.State.{is_empty, store_of}
+use Rattle.cilk_machine_agree.specs.model.State.{store_of}
 use Rattle.cilk_machine_agree.specs.model.Effect as effect
-use Rattle.cilk_machine_agree.specs.model.Effect.{effect_of}
 use Rattle.cilk_machine_agree.specs.model.Change as change
 use Rattle.cilk_machine_agree.specs.model.Change.{after_call}
 use Rattle.cilk_machine_agree.specs.model.Event.{acted}
@@ -30,14 +28,13 @@ use Rattle.cilk_machine_agree.proofs.nodes_laws.Heads.{bodies-have}
 use Rattle.cilk_machine_agree.specs.frame.Frames.{depth}
 use Rattle.cilk_machine_agree.specs.frame.Begins as starts
 use Rattle.cilk_machine_agree.specs.frame.Cells.{HasCell}
-use Rattle.cilk_machine_agree.specs.frame.Stands.{AwaitsAt, AwaitsSame, AllInside, bodies_of, lowest_of}
+use Rattle.cilk_machine_agree.specs.frame.Stands.{AwaitsSame, bodies_of}
 use Rattle.cilk_machine_agree.proofs.frame_laws.Tops.{depth-is}
 use Rattle.cilk_machine_effects.specs.Known as known
-use Rattle.cilk_machine_effects.specs.Known.{KnownAct, Calls}
-use Rattle.cilk_machine_effects.specs.Slotted.{ReachesCells, slotted_await, slotted_receiver, slotted_effect, slotted_result}
-use Rattle.cilk_machine_effects.proofs.Shapes.{named_by, IsOf, ShapeOf, Awaits, shape, values-count}
+use Rattle.cilk_machine_effects.specs.Known.{KnownAct}
+use Rattle.cilk_machine_effects.specs.Slotted.{ReachesCells, slotted_await, slotted_effect}
+use Rattle.cilk_machine_effects.proofs.Shapes.{named_by, Awaits, values-count}
 use Rattle.cilk_machine_effects.proofs.Shapes as shapes
-use Rattle.cilk_machine_agree.specs.spawn.Nodes.{node_at, is_synched, has_live_child, live_ids}
 use Rattle.cilk_machine_agree.specs.declared.lock.Lock.{Lock}
 use Rattle.cilk_machine_agree.specs.Locks.{LockTurn, lock_turned, refused, blocked, lock_turn_among, lock_turn_named}
 use Rattle.cilk_machine_agree.specs.Outside.{LockWithin}
@@ -45,7 +42,7 @@ use Rattle.cilk_machine_agree.specs.Laws.{InHand, path_of, instance_of}
 use Rattle.cilk_machine_agree.specs.Actions.{IsNext}
 use Rattle.cilk_machine_agree.specs.Asked.{Asked}
 use Rattle.cilk_machine_plan.specs.Made as made
-use Rattle.cilk_machine_plan.specs.Made.{next_of, by_effect, has_room, lock_turned_to}
+use Rattle.cilk_machine_plan.specs.Made.{next_of, by_effect, lock_turned_to}
 use Rattle.cilk_machine_plan.specs.Plans.{input_in, step_in, IsPlan}
 use Rattle.cilk_machine_plan.specs.StepInput.{StepInput}
 

@@ -16,14 +16,14 @@ use Rattle.cilk_machine_agree.specs.model.Values.{environment}
 use Rattle.cilk_machine_agree.specs.model.Instance as model
 use Rattle.cilk_machine_agree.specs.model.Instance.{Instance, body_at}
 use Rattle.cilk_machine_agree.specs.model.State as state
-use Rattle.cilk_machine_agree.specs.model.State.{store_of, is_empty}
+use Rattle.cilk_machine_agree.specs.model.State.{store_of}
 use Rattle.cilk_machine_agree.specs.model.Effect as effect
 use Rattle.cilk_machine_agree.specs.model.Change.{after_start}
 use Rattle.cilk_machine_agree.specs.model.Event.{spawned}
 use Rattle.cilk_machine_agree.specs.model.Pick.{Step, spawns, if_room, step_by_effect}
 use Rattle.cilk_machine_agree.specs.nodes.declared.node.Node.{Node}
 use Rattle.cilk_machine_agree.specs.nodes.Slots.{slot_of, is_inlet, procedure_around}
-use Rattle.cilk_machine_agree.specs.frame.Stands.{StandsFor, AllInside, bodies_of}
+use Rattle.cilk_machine_agree.specs.frame.Stands.{AllInside, bodies_of}
 use Rattle.cilk_machine_effects.specs.Known.{StandsIn}
 use Rattle.cilk_machine_effects.specs.Slotted.{TakenCell, ReachesCells, slotted_receiver, slotted_effect}
 use Rattle.cilk_machine_effects.proofs.Shapes as shapes

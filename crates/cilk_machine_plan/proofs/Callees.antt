@@ -1,11 +1,10 @@
 -- The node of a spawn names the procedure that the program's spawn of its number names.
 use Rattle.std.proofs.Common.{pos, ◌≡◌, ℕ, suc, ◌+◌, Bool, true, false, nat_eq, List, [], ◌∷◌, ◌++◌, map, length, Option, Some, None, option_map, refl}
-use Rattle.std.proofs.Common.{sym, ap, ◌∙◌, subst, if◌then◌else◌, eqb-true}
+use Rattle.std.proofs.Common.{sym, ap, ◌∙◌, if◌then◌else◌, eqb-true}
 use Rattle.std.specs.Prelude.{⊤, ◌==◌}
 use Rattle.std.specs.Option.{option_or}
 use Rattle.cilk_machine_agree.specs.syntax.Tree as tree
 use Rattle.cilk_machine_agree.specs.syntax.Tree.{Program}
-use Rattle.cilk_machine_agree.specs.syntax.Tree.{Word}
 use Rattle.cilk_machine_agree.specs.labelled.Term.{Term}
 use Rattle.cilk_machine_agree.specs.nodes.declared.slot.Slot.{Slot}
 use Rattle.cilk_machine_agree.specs.labelled.Labelled.{Declaration, Action, assign, call, spawn, print, locking, null, break_off, go_round, tests}
@@ -25,7 +24,7 @@ use Rattle.cilk_machine_agree.specs.nodes.declared.taker.Taker.{Taker}
 use Rattle.cilk_machine_agree.specs.nodes.declared.action.Action.TheVariants.{Spawn}
 use Rattle.cilk_machine_agree.specs.nodes.Actions.{slotted}
 use Rattle.cilk_machine_agree.specs.nodes.Slots.{slot_of}
-use Rattle.cilk_machine_agree.specs.nodes.Table.{number_of, number_else, cases_of, has_number, node_over, node_at, first_lists, advance_lists, round_of}
+use Rattle.cilk_machine_agree.specs.nodes.Table.{number_else, cases_of, has_number, node_at, first_lists, advance_lists, round_of}
 use Rattle.cilk_machine_agree.specs.nodes.Table.{stmt_lists}
 use Rattle.cilk_machine_agree.specs.nodes.Table.{stmts_lists, closing_items, body_lists, Row, row, rows_from, node_among}
 
@@ -82,9 +81,6 @@ abbrev mutual
   Plains (also first others) = Plain first × Plains others
 
 module _ (n : ℕ) where
-  skip : (items : Items) (h : Numbered) (lists : List Items) → head_of items ≡ Some h → Quiet h → found n (items ∷ lists) ≡ found n lists
-  skip items h lists e q = ap (λ o. option_or (head-callee n o) (found n lists)) e ∙ ap (λ o. option_or o (found n lists)) (head-quiet n h q)
-
   first-found : (first : Option Numbered) (test : Numbered) (advance : Option Numbered) (body : Stmts) (items : Items) (rest : List Items) → QuietPart first
       → found n (first_lists first (round_of test advance body) items ++ rest) ≡ found n rest
   first-found None test advance body items rest q = refl

@@ -8,24 +8,24 @@ use Rattle.cilk_machine_agree.specs.labelled.Labelled.{Labelled}
 use Rattle.cilk_machine_agree.specs.labelled.Bodies.{label}
 use Rattle.cilk_machine_agree.specs.model.Values.{Reached, combined, cell_of}
 use Rattle.cilk_machine_agree.specs.model.Instance as model
-use Rattle.cilk_machine_agree.specs.model.Instance.{Instance, body_at}
+use Rattle.cilk_machine_agree.specs.model.Instance.{Instance}
 use Rattle.cilk_machine_agree.specs.model.State as state
 use Rattle.cilk_machine_agree.specs.model.State.{is_empty, store_of}
 use Rattle.cilk_machine_agree.specs.model.Change as change
-use Rattle.cilk_machine_agree.specs.model.Change.{leaves_function, after_return, after_leaving, after_answer, resumed}
+use Rattle.cilk_machine_agree.specs.model.Change.{leaves_function, after_return, after_leaving, resumed}
 use Rattle.cilk_machine_agree.specs.model.Event.{acted, returned}
 use Rattle.cilk_machine_agree.specs.model.Pick.{Step, goes_on, ends, step_by_leaving, step_by_answer, step_by_combined}
 use Rattle.cilk_machine_agree.specs.nodes.declared.node.Node.{Node}
 use Rattle.cilk_machine_agree.specs.nodes.Table.{node_of}
 use Rattle.cilk_machine_agree.specs.nodes.Bodies.{body_of}
 use Rattle.cilk_machine_agree.proofs.nodes_laws.Heads.{bodies-have}
-use Rattle.cilk_machine_agree.specs.nodes.Slots.{slot_of}
 use Rattle.cilk_machine_agree.specs.frame.declared.awaited.Await.{Await}
-use Rattle.cilk_machine_agree.specs.frame.Frames.{depth, top_of, left}
+use Rattle.cilk_machine_agree.specs.frame.Frames.{top_of, left}
 use Rattle.cilk_machine_agree.specs.frame.Stands.{StandsFor, AwaitsSame, AwaitsAt, bodies_of}
-use Rattle.cilk_machine_agree.specs.frame.Reads.{Seen, seen_by}
+use Rattle.cilk_machine_agree.specs.frame.Reads.{Seen}
 use Rattle.cilk_machine_agree.proofs.frame_laws.Tops.{depth-is}
-use Rattle.cilk_machine_agree.proofs.frame_laws.Steps.{awaits-same, return-stands, lent-seen}
+use Rattle.cilk_machine_agree.proofs.frame_laws.Steps.{awaits-same, lent-seen}
+use Rattle.cilk_machine_agree.proofs.frame_laws.Tops.{left-stands}
 use Rattle.cilk_machine_agree.proofs.frame_laws.Values.{cell-same}
 use Rattle.cilk_machine_agree.specs.spawn.Nodes.{has_live_child, is_synched}
 use Rattle.cilk_machine_agree.specs.Laws.{InHand, path_of, instance_of}
@@ -82,7 +82,7 @@ module _ (t : InHand) (asked : Asked t) (m : ℕ) where
   answer-at z caller below is w r a step =
       let target-is : target_of_node (node_of t.program w.n) ≡ Some a.target =
       ap target_of_node a.there ∙ ap Rattle.cilk_machine_plan.specs.Made.target_of_action a.calls in
-      let back : StandsFor program (left t.frame) (record i { top = caller; below = below }) = return-stands program t.frame i caller below stands is in
+      let back : StandsFor program (left t.frame) (record i { top = caller; below = below }) = left-stands program t.frame i caller below stands is in
       let resumed-is : resumed i ≡ record i { top = caller; below = below } = ap (Rattle.cilk_machine_agree.specs.model.Change.resumed_to i) is in
       let seen = input-seen t asked (left t.frame) (record i { top = caller; below = below }) back refl refl in
       let cell : slot_cell (cells_by g (left t.frame)) a.target.place.slot w.index ≡ cell_of (store_of s (path_of t) (resumed i)) r.cell.place r.cell.index =

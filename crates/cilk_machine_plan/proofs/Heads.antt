@@ -11,7 +11,7 @@ use Rattle.cilk_machine_agree.specs.model.Instance.{Instance, body_at}
 use Rattle.cilk_machine_agree.specs.nodes.declared.node.Node.{Node}
 use Rattle.cilk_machine_agree.specs.nodes.Actions.{slotted}
 use Rattle.cilk_machine_agree.specs.nodes.Slots.{slot_of}
-use Rattle.cilk_machine_agree.specs.nodes.Table.{number_of, number_else, cases_of, node_at, node_of, successor}
+use Rattle.cilk_machine_agree.specs.nodes.Table.{number_of, number_else, cases_of, node_at, node_of}
 use Rattle.cilk_machine_agree.specs.nodes.Laws.{Reached}
 use Rattle.cilk_machine_agree.proofs.nodes_laws.Heads.{nodes-stand}
 use Rattle.cilk_machine_agree.proofs.nodes_laws.Successors.{successor-of}

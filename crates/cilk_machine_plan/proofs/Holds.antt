@@ -3,14 +3,10 @@ use Rattle.std.proofs.Common.{◌≡◌, ℕ, List, Some, sym, ap, ◌∙◌}
 use Rattle.cilk_machine_agree.specs.model.Hands.{WorkerOf, IsWorker, hand_of, with_hand}
 use Rattle.cilk_machine_agree.specs.frame.Frames.{Frame}
 use Rattle.cilk_machine_agree.proofs.sched_laws.Seats.{hand-same}
-use Rattle.cilk_machine_agree.proofs.Frames.{hand-over, given-back}
+use Rattle.cilk_machine_agree.proofs.Frames.{hand-over}
 use Rattle.cilk_machine_plan.specs.Ready.{frame_of, frame_in}
 
 module _ (places : List (WorkerOf Frame)) (w : ℕ) where
-  -- the frame that is there is put there again
-  pub kept : (f : Frame) → hand_of places w ≡ Some f → places ≡ with_hand places w (Some f)
-  kept f held = sym (given-back places w) ∙ ap (with_hand places w) held
-
   pub held-now : IsWorker places w → (f : Frame) → frame_in (with_hand places w (Some f)) w ≡ f
   held-now worker f = ap frame_of (hand-same places w (Some f) worker)
 

@@ -1,5 +1,5 @@
 -- The plan of a step is the step.
-use Rattle.std.proofs.Common.{◌≡◌, ℕ, ℤ, Bool, true, false, not, ◌&&◌, ◌||◌, List, [], ◌∷◌, Some, Result, Ok, Err, refl, sym, ap, ◌∙◌, subst, if◌then◌else◌}
+use Rattle.std.proofs.Common.{◌≡◌, ℕ, Bool, true, false, not, ◌&&◌, ◌||◌, List, [], ◌∷◌, Some, Result, Ok, Err, refl, sym, ap, ◌∙◌, subst, if◌then◌else◌}
 use Rattle.std.proofs.lemmas.Bool.{and_parts}
 use Rattle.cilk_machine_agree.specs.labelled.declared.trap.Trap.{Trap}
 use Rattle.cilk_machine_agree.specs.labelled.Value.{Environment}
@@ -10,13 +10,13 @@ use Rattle.cilk_machine_agree.specs.labelled.Items.{head_of}
 use Rattle.cilk_machine_agree.specs.labelled.Bodies.{label}
 use Rattle.cilk_machine_agree.specs.model.Values.{environment}
 use Rattle.cilk_machine_agree.specs.model.Instance as model
-use Rattle.cilk_machine_agree.specs.model.Instance.{Instance, body_at, owner_at}
+use Rattle.cilk_machine_agree.specs.model.Instance.{Instance}
 use Rattle.cilk_machine_agree.specs.model.State as state
 use Rattle.cilk_machine_agree.specs.model.State.{is_empty, store_of}
 use Rattle.cilk_machine_agree.specs.model.Effect as effect
 use Rattle.cilk_machine_agree.specs.model.Effect.{effect_of}
 use Rattle.cilk_machine_agree.specs.model.Change as change
-use Rattle.cilk_machine_agree.specs.model.Change.{is_function, leaves_function}
+use Rattle.cilk_machine_agree.specs.model.Change.{leaves_function}
 use Rattle.cilk_machine_agree.specs.model.Event.{ended}
 use Rattle.cilk_machine_agree.specs.model.Pick.{Step, parks, ends, traps, step_by_effect, step_by_head, step_at_boundary, step_of_aborted}
 use Rattle.cilk_machine_agree.specs.model.Pick.{step_of_instance, step_of_live}

@@ -1,5 +1,5 @@
 -- The cells that an action touches over slots are those over declarations.
-use Rattle.std.proofs.Common.{◌≡◌, ℕ, suc, Bool, true, false, ◌&&◌, ◌==◌, List, [], ◌∷◌, ◌++◌, length, map, Option, Some, None, Ok, refl, sym, ap, ◌∙◌}
+use Rattle.std.proofs.Common.{◌≡◌, ℕ, suc, true, ◌&&◌, ◌==◌, List, [], ◌∷◌, ◌++◌, length, map, Option, Some, None, refl, sym, ap, ◌∙◌}
 use Rattle.std.proofs.Common.{subst, arith, option_map, if◌then◌else◌}
 use Rattle.std.specs.List.{All}
 use Rattle.std.proofs.lemmas.Bool.{ne_eqb}
@@ -15,20 +15,18 @@ use Rattle.cilk_machine_plan.specs.nodes.Areas as slots
 use Rattle.cilk_machine_plan.specs.model.Path.{Path}
 use Rattle.cilk_machine_plan.specs.model.Values.{Reached, environment, Store}
 use Rattle.cilk_machine_plan.specs.model.Instance as model
-use Rattle.cilk_machine_plan.specs.model.Instance.{Instance, body_at}
+use Rattle.cilk_machine_plan.specs.model.Instance.{Instance}
 use Rattle.cilk_machine_plan.specs.model.State.{is_empty, store_of}
 use Rattle.cilk_machine_plan.specs.model.Change as change
 use Rattle.cilk_machine_plan.specs.model.Change.{leaves_function}
-use Rattle.cilk_machine_plan.specs.nodes.declared.node.Node.{Node}
 use Rattle.cilk_machine_plan.specs.nodes.Actions.{slotted_place, slotted_target, slotted_taker, slotted}
 use Rattle.cilk_machine_plan.specs.nodes.Bodies.{body_of}
 use Rattle.cilk_machine_plan.specs.nodes.Slots.{slot_of, procedure_around}
-use Rattle.cilk_machine_plan.specs.nodes.Table.{node_of}
 use Rattle.cilk_machine_plan.proofs.nodes_laws.Heads.{bodies-have}
 use Rattle.cilk_machine_plan.specs.frame.declared.awaited.Await.{Await}
 use Rattle.cilk_machine_plan.specs.frame.Cells.{HasCell, IsInlet}
 use Rattle.cilk_machine_plan.specs.frame.Frames.{depth, top_of}
-use Rattle.cilk_machine_plan.specs.frame.Reads.{IsVariable, IsKnown, Seen}
+use Rattle.cilk_machine_plan.specs.frame.Reads.{IsVariable, IsKnown}
 use Rattle.cilk_machine_plan.specs.frame.Stands.{AwaitsSame, AwaitsAt, AllInside, bodies_of, lowest_of}
 use Rattle.cilk_machine_plan.proofs.frame_laws.Steps.{awaits-same}
 use Rattle.cilk_machine_plan.proofs.frame_laws.Tops.{depth-is}
@@ -44,7 +42,7 @@ use Rattle.cilk_machine_plan.proofs.Gifts.{outer-is}
 use Rattle.cilk_machine_plan.proofs.Heads.{Sound, stands, there, head, own_node, known}
 use Rattle.cilk_machine_step.specs.Reads.{Read, reads_in, reads_in_all}
 use Rattle.cilk_machine_step.specs.Accesses as accesses
-use Rattle.cilk_machine_step.specs.Accesses.{Access, output, write, tail}
+use Rattle.cilk_machine_step.specs.Accesses.{output, write, tail}
 use Rattle.cilk_machine_step.specs.Shown as shown
 use Rattle.cilk_machine_step.proofs.Renamed.{renamed, EachKnown, known-append, known-reads, known-all, reads-same, all-same}
 use Rattle.cilk_machine_step.proofs.Seen.{Sees, reads-seen, target-same, update-same}
@@ -75,7 +73,7 @@ leaves-same name (return_with value) = refl
 leaves-same name return_nothing = refl
 leaves-same name close = refl
 
-lowest-alone : (b : ℕ) (ms : List model.Activation) → is_empty ms ≡ true → lowest_of b (bodies_of ms) ≡ b
+pub lowest-alone : (b : ℕ) (ms : List model.Activation) → is_empty ms ≡ true → lowest_of b (bodies_of ms) ≡ b
 lowest-alone b [] h = refl
 lowest-alone b (m ∷ ms) h = cc
 

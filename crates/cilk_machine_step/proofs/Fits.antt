@@ -1,5 +1,5 @@
 -- The step of an instance in a worker's hand can be planned.
-use Rattle.std.proofs.Common.{◌≡◌, ◌<◌, length, sym, ap, ◌∙◌, subst}
+use Rattle.std.proofs.Common.{◌≡◌, sym, ap, ◌∙◌, subst}
 use Rattle.std.proofs.lemmas.Option.{same_Some}
 use Rattle.cilk_load.specs.check.scopes.WellFormed.{WellFormed}
 use Rattle.cilk_machine_plan.proofs.effects_laws.Known.{heads, follows}
@@ -8,18 +8,14 @@ use Rattle.cilk_load.specs.labelled.Bodies.{label}
 use Rattle.cilk_machine_plan.specs.model.State.{store_of}
 use Rattle.cilk_machine_plan.specs.nodes.declared.node.Node.{Node}
 use Rattle.cilk_machine_plan.specs.nodes.Table.{node_of}
-use Rattle.cilk_machine_plan.proofs.spawn_laws.Trees.{live_there}
 use Rattle.cilk_machine_plan.specs.effects.Fits.{FitsAct}
 use Rattle.cilk_machine_plan.proofs.effects_laws.Same.{act-fits}
 use Rattle.cilk_machine_plan.specs.agree.Laws.{InHand, path_of, instance_of}
 use Rattle.cilk_machine_plan.proofs.agree_laws.Asked.{asked}
 use Rattle.cilk_machine_plan.specs.Plans.{input_in}
-use Rattle.cilk_machine_plan.specs.StepInput.{id_of, cells_in}
+use Rattle.cilk_machine_plan.specs.StepInput.{cells_in}
 use Rattle.cilk_machine_plan.proofs.Heads.{Sound, head-of, head, own_node, node-is, known}
 use Rattle.cilk_machine_step.specs.Scenes.{HeadFits}
-
-pub there-is : (t : InHand) → id_of (input_in t) < length (input_in t).nodes
-there-is t = live_there t.machine.nodes t.frame.id (asked t).live
 
 fits-by : (t : InHand) → Sound t.program → HeadFits (input_in t)
 fits-by t sound node is =

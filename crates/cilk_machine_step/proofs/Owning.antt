@@ -22,7 +22,6 @@ use Rattle.cilk_machine_plan.specs.nodes.Actions.{slotted_place, slotted}
 use Rattle.cilk_machine_plan.specs.nodes.Slots.{size_of, slot_from, procedure_around, slot_of}
 use Rattle.cilk_machine_plan.specs.nodes.Table.{node_of}
 use Rattle.cilk_machine_plan.specs.frame.declared.awaited.Await.{Await}
-use Rattle.cilk_machine_plan.specs.frame.Cells.{HasCell}
 use Rattle.cilk_machine_plan.specs.frame.Frames.{top_of}
 use Rattle.cilk_machine_plan.specs.frame.Reads.{IsVariable, IsKnown}
 use Rattle.cilk_machine_plan.specs.frame.Stands.{AwaitsSame, AwaitsAt, bodies_of}
@@ -40,6 +39,7 @@ use Rattle.cilk_machine_plan.specs.StepInput.{StepInput, id_of, head_number, cel
 use Rattle.cilk_machine_plan.proofs.Gifts.{outer-is}
 use Rattle.cilk_machine_plan.proofs.Heads.{Sound, stands, head-of, head, own_node, node-is, known}
 use Rattle.cilk_machine_plan.proofs.Planned.{leaves-same, sync-same, plan-is}
+use Rattle.cilk_machine_step.proofs.Acts.{cell-declared}
 use Rattle.cilk_load.specs.labelled.declared.trap.Trap.{Trap}
 use Rattle.cilk_machine_plan.specs.nodes.Areas.{slot_cell}
 use Rattle.cilk_machine_plan.specs.model.Values.{combined}
@@ -116,15 +116,6 @@ module _ (program : Labelled) (b : ℕ) where
   act-is (return_with value) (h, k) = owns-is value k
   act-is return_nothing h = refl
   act-is close h = refl
-
--- a cell that a body sees is of a variable that is there
-cell-declared : (program : Labelled) (b : ℕ) (d : Declaration) (k : ℕ) → HasCell program b d k → IsVariable program b d
-cell-declared program b (local n) k (h, l) = h
-cell-declared program b (outer n) k (inlet, h) = (inlet, h.0)
-cell-declared program b (global n) k (h, l) = h
-cell-declared program b (of_lock n) k h = h
-cell-declared program b (of_body n) k h = h
-cell-declared program b unknown k h = h
 
 awaited-at : (p : Program) (b : ℕ) (w : Await) (r : Reached) → AwaitsAt (label p) b w r → owned.owns_awaited p (Some w) ≡ private.owns_awaited (Some r)
 awaited-at p b w r h =

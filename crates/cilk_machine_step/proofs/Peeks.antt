@@ -20,14 +20,11 @@ use Rattle.cilk_machine_plan.specs.nodes.Table.{node_of}
 use Rattle.cilk_machine_plan.specs.nodes.Bodies.{body_of}
 use Rattle.cilk_machine_plan.specs.spawn.Nodes.{is_synched}
 use Rattle.cilk_machine_plan.specs.spawn.declared.trap_kind.TrapKind.TheVariants as kind
-use Rattle.cilk_machine_plan.specs.effects.declared.effect.Effect.{Effect}
-use Rattle.cilk_machine_plan.specs.effects.declared.effect.Effect.TheVariants.{Writes, Answers}
+use Rattle.cilk_machine_plan.specs.effects.declared.effect.Effect.TheVariants.{Writes}
 use Rattle.cilk_machine_plan.specs.effects.Effects.{effect_in, subscript_of}
 use Rattle.cilk_machine_plan.specs.effects.Fits.{FitsAct}
-use Rattle.cilk_machine_plan.specs.declared.plan.Plan.{Plan}
-use Rattle.cilk_machine_plan.specs.Made.{traps, by_effect, acted, planned, at_boundary, ends_thread, waits_here, is_sync, is_spawn, leaves, is_function_body}
+use Rattle.cilk_machine_plan.specs.Made.{traps, by_effect, acted, planned, at_boundary, ends_thread, is_sync, is_spawn, leaves, is_function_body}
 use Rattle.cilk_machine_plan.specs.StepInput.{StepInput, id_of, own_node, head_number, cells_in, holds_lock, is_outer}
-use Rattle.cilk_machine_step.specs.Scenes.{HeadFits}
 use Rattle.cilk_machine_step.specs.Peeks.{Peek, plain, code_of, is_delayed, code_ahead, code_in, peek_by, peek_in, effect_by}
 use Rattle.cilk_machine_step.proofs.Ways.{acts_by, inner-way, free-way}
 

@@ -1,12 +1,10 @@
 -- A cell over slots is the cell over declarations, as others see it.
 use Rattle.std.proofs.Common.{◌≡◌, ℕ, ℤ, pos, negsuc, Bool, true, false, nat_lt, List, [], ◌∷◌, ◌++◌, map, Option, Some, None, Result, Ok, Err, refl, sym, ap}
 use Rattle.std.proofs.Common.{◌∙◌, if◌then◌else◌}
-use Rattle.std.specs.Prelude.{flat_map}
 use Rattle.cilk_machine_plan.specs.syntax.declared.operator.BinOp.{BinOp}
 use Rattle.cilk_machine_plan.specs.labelled.declared.trap.Trap.{Trap}
 use Rattle.cilk_machine_plan.specs.labelled.declared.trap.Trap.TheVariants.{Index}
-use Rattle.cilk_machine_plan.specs.labelled.Term.{Term}
-use Rattle.cilk_machine_plan.specs.labelled.Value.{Environment, value_of, ◌>>=◌}
+use Rattle.cilk_machine_plan.specs.labelled.Value.{value_of, ◌>>=◌}
 use Rattle.cilk_machine_plan.specs.labelled.Labelled as labelled
 use Rattle.cilk_machine_plan.specs.labelled.Labelled.{Labelled, Declaration, local, outer, global, of_lock, of_body, unknown, Target, variable, element}
 use Rattle.cilk_machine_plan.specs.labelled.Labelled.{Variable}
@@ -29,7 +27,7 @@ use Rattle.cilk_machine_plan.proofs.frame_laws.SlotLaws.{slot-area}
 use Rattle.cilk_machine_plan.proofs.frame_laws.Values.{array-same, array-declared, value-same}
 use Rattle.cilk_machine_step.specs.Reads.{Read, cell, whether}
 use Rattle.cilk_machine_step.specs.Accesses as accesses
-use Rattle.cilk_machine_step.specs.Accesses.{Where, own, Access, read, write}
+use Rattle.cilk_machine_step.specs.Accesses.{own, read, write}
 use Rattle.cilk_machine_step.specs.Shown as shown
 use Rattle.cilk_machine_step.specs.Shown.{own_path, own_vars, number_at}
 use Rattle.cilk_machine_step.proofs.Numbers.{number-is, vars-are}

@@ -1,5 +1,5 @@
 -- What a scene shows of the next step of an instance is what the definition of accesses says.
-use Rattle.std.proofs.Common.{◌≡◌, ℕ, Bool, true, false, ◌&&◌, ◌||◌, List, [], ◌∷◌, Option, Some, None, refl, sym, ap, ◌∙◌, subst, if◌then◌else◌}
+use Rattle.std.proofs.Common.{◌≡◌, Bool, true, false, ◌&&◌, ◌||◌, List, [], ◌∷◌, Some, refl, sym, ap, ◌∙◌, subst, if◌then◌else◌}
 use Rattle.cilk_machine_plan.specs.check.scopes.WellFormed.{WellFormed}
 use Rattle.cilk_machine_plan.specs.labelled.Labelled.{Labelled, Declaration, Action, assign, call, spawn, print, locking, null, break_off}
 use Rattle.cilk_machine_plan.specs.labelled.Labelled.{go_round, tests, sync, abort, return_with, return_nothing, close}
@@ -15,7 +15,6 @@ use Rattle.cilk_machine_plan.specs.nodes.declared.node.Node.{Node}
 use Rattle.cilk_machine_plan.specs.nodes.Actions.{slotted}
 use Rattle.cilk_machine_plan.specs.nodes.Slots.{slot_of}
 use Rattle.cilk_machine_plan.specs.nodes.Table.{node_of}
-use Rattle.cilk_machine_plan.specs.frame.Stands.{bodies_of, lowest_of}
 use Rattle.cilk_machine_plan.specs.spawn.declared.delivery.Delivery.{Delivery}
 use Rattle.cilk_machine_plan.specs.spawn.declared.receiver.Receiver.{Receiver}
 use Rattle.cilk_machine_plan.specs.spawn.declared.receiver.Receiver.TheVariants.{Nothing, Place, Call}
@@ -29,14 +28,14 @@ use Rattle.cilk_machine_plan.proofs.agree_laws.Asked.{asked}
 use Rattle.cilk_machine_plan.proofs.effects_laws.Known.{heads, follows}
 use Rattle.cilk_machine_plan.specs.Made as made
 use Rattle.cilk_machine_plan.specs.Plans.{input_in}
-use Rattle.cilk_machine_plan.specs.StepInput.{StepInput, is_outer, head_number}
+use Rattle.cilk_machine_plan.specs.StepInput.{StepInput, is_outer}
 use Rattle.cilk_machine_plan.proofs.Gifts.{outer-is}
 use Rattle.cilk_machine_plan.proofs.Heads.{Sound, stands, head-of, head, own_node, node-is}
 use Rattle.cilk_machine_step.specs.Accesses as accesses
 use Rattle.cilk_machine_step.specs.Accesses.{Access, accesses_of}
 use Rattle.cilk_machine_step.specs.Shown as shown
 use Rattle.cilk_machine_step.specs.Shown.{touched}
-use Rattle.cilk_machine_step.proofs.Acts.{acted-same, cell-declared, leaves-same, top-sees}
+use Rattle.cilk_machine_step.proofs.Acts.{acted-same, cell-declared, leaves-same, lowest-alone, top-sees}
 use Rattle.cilk_machine_step.proofs.Seen.{update-same}
 
 -- nor does it whether it is a `sync`
@@ -55,10 +54,6 @@ sync-same name abort = refl
 sync-same name (return_with value) = refl
 sync-same name return_nothing = refl
 sync-same name close = refl
-
-alone-procedure : (b : ℕ) (ms : List model.Activation) → is_empty ms ≡ true → lowest_of b (bodies_of ms) ≡ b
-alone-procedure b [] h = refl
-alone-procedure b (m ∷ ms) h = cc
 
 first-true : (x y : Bool) → (x && y) ≡ true → x ≡ true
 first-true true y h = refl
@@ -134,7 +129,7 @@ module _ (t : InHand) (sound : Sound t.program) (asked : Asked t) where
           let alone : is_empty i.below ≡ true = first-true (is_empty i.below) (i.spawned || change.head_waits i (head_of i.top.items)) e in
           deliveries-same waiting i.waiting
           (subst (λ c. SameDeliveries program (path_at t.machine.nodes) c waiting i.waiting)
-          ((told t).procedure ∙ alone-procedure i.top.body i.below alone) (told t).waiting)
+          ((told t).procedure ∙ lowest-alone i.top.body i.below alone) (told t).waiting)
       by false e = head-same
 
   shown-here : touched g ≡ accesses_of program s p i

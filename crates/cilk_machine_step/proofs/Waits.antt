@@ -2,7 +2,6 @@
 use Rattle.std.proofs.Common.{pos, ◌≡◌, ℕ, ℤ, Bool, true, false, not, ◌&&◌, ◌||◌, List, Option, Some, None, Result, Ok, Err, refl, ◌∙◌, if◌then◌else◌}
 use Rattle.cilk_load.specs.labelled.declared.trap.Trap.{Trap}
 use Rattle.cilk_load.specs.labelled.Value.{value_of, values_of, ◌>>=◌}
-use Rattle.cilk_load.specs.labelled.Arithmetic.{is_zero}
 use Rattle.cilk_machine_plan.specs.nodes.declared.slot.Slot.{Slot}
 use Rattle.cilk_load.specs.labelled.Term.{Term}
 use Rattle.cilk_machine_plan.specs.nodes.Areas.{Cells, environment, slot_cell}

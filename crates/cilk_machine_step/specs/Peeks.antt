@@ -1,7 +1,6 @@
 -- What a step evaluates that may be evaluated before it is taken, by one who holds no lock meanwhile.
-use Rattle.std.specs.Prelude.{ℕ, ℤ, Bool, not, ◌&&◌, if◌then◌else◌, List, Option, Some, None, is_some, option_and_then, option_map, slice_get, ◌≡◌, Result, Ok}
+use Rattle.std.specs.Prelude.{ℕ, ℤ, Bool, ◌&&◌, if◌then◌else◌, List, Option, Some, None, is_some, option_and_then, option_map, slice_get, ◌≡◌, Result, Ok}
 use Rattle.cilk_load.specs.labelled.declared.trap.Trap.{Trap}
-use Rattle.cilk_load.specs.labelled.Arithmetic.{is_zero}
 use Rattle.cilk_load.specs.labelled.Term.{Term}
 use Rattle.cilk_load.specs.labelled.Value.{◌>>=◌, value_of}
 use Rattle.cilk_machine_plan.specs.nodes.declared.slot.Slot.{Slot}

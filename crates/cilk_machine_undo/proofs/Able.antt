@@ -42,7 +42,7 @@ use Rattle.cilk_machine_plan.proofs.spawn_laws.Marks.{marked_length}
 use Rattle.cilk_machine_plan.proofs.spawn_laws.Childless.{no_child}
 use Rattle.cilk_machine_undo.specs.Frames as change
 use Rattle.cilk_machine_undo.specs.Frames.{Change, held_at}
-use Rattle.cilk_machine_undo.specs.Undo.{Family, Gone, family_before, asleep, unsent_to}
+use Rattle.cilk_machine_undo.specs.Undo.{Family, family_before, asleep, unsent_to}
 use Rattle.cilk_machine_undo.specs.Undo as undo
 use Rattle.cilk_machine_undo.specs.Records.{took_of, taken_of, is_new, marked_by, locks_of, is_sent, went_from}
 use Rattle.cilk_machine_plan.specs.Spends.{remains_in}

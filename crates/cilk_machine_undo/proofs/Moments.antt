@@ -1,9 +1,7 @@
 -- What later machines tell of earlier ones, and parts that are made of it.
-use Rattle.std.proofs.Common.{◌<◌, ◌++◌, ◌∙◌, ℕ, List, ap}
+use Rattle.std.proofs.Common.{◌++◌, ◌∙◌, ℕ, List, ap}
 use Rattle.std.proofs.lemmas.List.{append_assoc}
-use Rattle.cilk_machine_plan.specs.agree.Agrees.{MachineParts}
-use Rattle.cilk_machine_undo.specs.Growth.{Prints, MachineGrows}
-use Rattle.cilk_machine_undo.specs.Moment.{IsBefore}
+use Rattle.cilk_machine_undo.specs.Growth.{Prints}
 use Rattle.cilk_machine_undo.specs.MomentLaws.{MachinesTell, MachinesGoOn}
 use Rattle.cilk_machine_undo.proofs.Cut.{own-cut, cuts-go-on}
 use Rattle.cilk_machine_undo.proofs.Printed.{prints-none}

@@ -1,5 +1,5 @@
 -- What a plan leaves of what was printed.
-use Rattle.std.proofs.Common.{ℕ, ℤ, List, [], ◌++◌, Option, Some, None, append-nil, refl, sym}
+use Rattle.std.proofs.Common.{ℕ, ℤ, List, [], Option, Some, None, append-nil, refl, sym}
 use Rattle.cilk_machine_plan.specs.agree.Outside.{Outside}
 use Rattle.cilk_machine_plan.specs.declared.plan.Plan.TheVariants as plan
 use Rattle.cilk_machine_plan.specs.spawn.Nodes.{node_at}

@@ -13,7 +13,7 @@ use Rattle.cilk_machine_plan.specs.declared.plan.Plan.{Plan}
 use Rattle.cilk_machine_plan.specs.declared.plan.Plan.TheVariants as plan
 use Rattle.cilk_machine_undo.specs.Frames.{Change, held_at}
 use Rattle.cilk_machine_undo.specs.Frames as change
-use Rattle.cilk_machine_undo.specs.Undo.{Undo, Beside, Family, acted, parked, spawned}
+use Rattle.cilk_machine_undo.specs.Undo.{Undo, Family, acted, parked, spawned}
 use Rattle.cilk_machine_undo.specs.Undo as undo
 
 abbrev pub went_from : Frame → Change

@@ -44,11 +44,11 @@ pub record Means (program : Labelled) (events : List Event) (e : Event) (up : �
 abbrev within : ℕ → Option Path → Inside
 within above taking = record { above = above; taking = taking }
 
-if-no : {A : Type 0} (b : Bool) (x y : A) → b ≡ false → (if b then x else y) ≡ y
+pub if-no : {A : Type 0} (b : Bool) (x y : A) → b ≡ false → (if b then x else y) ≡ y
 if-no true x y e = cc
 if-no false x y e = refl
 
-if-yes : {A : Type 0} (b : Bool) (x y : A) → b ≡ true → (if b then x else y) ≡ x
+pub if-yes : {A : Type 0} (b : Bool) (x y : A) → b ≡ true → (if b then x else y) ≡ x
 if-yes true x y e = refl
 if-yes false x y e = cc
 

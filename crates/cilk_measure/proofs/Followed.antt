@@ -19,7 +19,7 @@ use Rattle.cilk_measure.specs.Cells.{cell_at, no_cell, next}
 use Rattle.cilk_measure.specs.Tallies.{highest_by, highest, settled, child_cell}
 use Rattle.cilk_measure.specs.Kept.{Named, IsThere, Kept, Keeps, Known, IsUnmade, Each, rank_of}
 use Rattle.cilk_measure.proofs.Bounds.{next-is, by-less, ranks-fit, steps-fit}
-use Rattle.cilk_measure.proofs.Doings.{Means}
+use Rattle.cilk_measure.proofs.Doings.{Means, if-no, if-yes}
 use Rattle.cilk_measure.proofs.Fields.{Changed, changed, settled-at, settled-length, settled_cell, parent_at}
 use Rattle.cilk_measure.proofs.Known.{map-same, there-more, known-same, each-push, each-more, unseen}
 use Rattle.cilk_measure.proofs.Ids.{hits, other-place, that-place}
@@ -45,14 +45,6 @@ joined-max false false n x = omega arith
 highest-if : (b : Bool) (x y : ℕ) → (if b then max x y else x) ≡ max x (if b then y else 0)
 highest-if true x y = refl
 highest-if false x y = omega arith
-
-if-eq : {A : Type 0} (b : Bool) (x y : A) → b ≡ true → (if b then x else y) ≡ x
-if-eq true x y e = refl
-if-eq false x y e = cc
-
-if-ne : {A : Type 0} (b : Bool) (x y : A) → b ≡ false → (if b then x else y) ≡ y
-if-ne true x y e = cc
-if-ne false x y e = refl
 
 -- a step of an event, by places and by paths, behind which the instances go by these paths
 module _ (program : Labelled) (events : List Event) (e : Event) (up now : ℕ → Path) (count more : ℕ) (cells : List Cell) (m : Motion) (s : Step)
@@ -138,15 +130,15 @@ module _ (program : Labelled) (events : List Event) (e : Event) (up now : ℕ �
         let at : i ≡ m.place = eqb-true i m.place is in
         ap (λ k. inside_by program (up k) e (inside_of program events (up k))) at ∙ means.own
         ∙ (λ j. record {
-          above = sym (if-eq (nat_eq i m.place) m.above (cell_at cells i).above is) j;
-          taking = option_map up (sym (if-eq (nat_eq i m.place) m.inlet (cell_at cells i).taking is) j);
+          above = sym (if-yes (nat_eq i m.place) m.above (cell_at cells i).above is) j;
+          taking = option_map up (sym (if-yes (nat_eq i m.place) m.inlet (cell_at cells i).taking is) j);
         })
     inside-by false is =
         let different : same_path (up m.place) (up i) ≡ false = other-place up count named i m.place h means.place ∙ is in
         means.others (up i) (inside_of program events (up i)) different ∙ (keeps.each i h).inside
         ∙ (λ j. record {
-          above = sym (if-ne (nat_eq i m.place) m.above (cell_at cells i).above is) j;
-          taking = option_map up (sym (if-ne (nat_eq i m.place) m.inlet (cell_at cells i).taking is) j);
+          above = sym (if-no (nat_eq i m.place) m.above (cell_at cells i).above is) j;
+          taking = option_map up (sym (if-no (nat_eq i m.place) m.inlet (cell_at cells i).taking is) j);
         })
 
     if-there : (b : Bool) (o u : Option ℕ) → IsThere count o → IsThere count u → IsThere count (if b then o else u)

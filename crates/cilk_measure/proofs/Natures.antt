@@ -1,5 +1,5 @@
 -- The node of an action tells what the action does.
-use Rattle.std.proofs.Common.{◌≡◌, ℕ, ℤ, pos, Bool, true, false, List, [], ◌∷◌, Option, Some, None, option_map, refl, ap, ◌∙◌, if◌then◌else◌}
+use Rattle.std.proofs.Common.{◌≡◌, ℕ, pos, Bool, true, false, List, [], ◌∷◌, Option, Some, None, option_map, refl, ap, ◌∙◌, if◌then◌else◌}
 use Rattle.cilk_log_replay.specs.machine.nodes.scopes.syntax.Tree.{Program}
 use Rattle.cilk_log_replay.specs.machine.nodes.declared.slot.Slot.{Slot}
 use Rattle.cilk_log_replay.specs.machine.nodes.model.labelled.Labelled as labelled

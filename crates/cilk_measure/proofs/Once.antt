@@ -1,5 +1,5 @@
 -- Each choice is counted once.
-use Rattle.std.proofs.Common.{◌≡◌, ℕ, suc, ◌+◌, Bool, true, false, not, cond, ◌&&◌, List, [], ◌∷◌, length, refl, arith}
+use Rattle.std.proofs.Common.{◌≡◌, ℕ, ◌+◌, Bool, true, false, not, cond, ◌&&◌, List, [], ◌∷◌, length, refl, arith}
 use Rattle.std.specs.Prelude.{count_by}
 use Rattle.std.proofs.lemmas.List.Sums.{sum_by-cons}
 use Rattle.cilk_log_replay.specs.machine.nodes.model.Choice.{Act, step, pop, steal}
@@ -16,9 +16,6 @@ one_each pop true = refl
 one_each pop false = refl
 one_each (steal victim) true = refl
 one_each (steal victim) false = refl
-
-more : (a b c d x y z w n : ℕ) → a + (b + (c + d)) ≡ 1 → x + (y + (z + w)) ≡ n → (a + x) + ((b + y) + ((c + z) + (d + w))) ≡ suc n
-more a b c d x y z w n h k = omega arith
 
 pub once : (deeds : List Deed) → count_by is_work deeds + (count_by steals deeds + (count_by pops deeds + count_by is_park deeds)) ≡ length deeds
 once [] = refl

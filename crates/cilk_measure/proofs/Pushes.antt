@@ -1,5 +1,5 @@
 -- One event more.
-use Rattle.std.proofs.Common.{◌≡◌, ℕ, suc, ◌+◌, ◌≤◌, Bool, true, false, List, [], ◌∷◌, ◌++◌, length, Option, Some, None, refl, ap, sym, ◌∙◌, max, arith, map}
+use Rattle.std.proofs.Common.{◌≡◌, ℕ, ◌≤◌, List, [], ◌∷◌, ◌++◌, length, refl, ap, sym, ◌∙◌, max, arith}
 use Rattle.std.proofs.lemmas.List.{append-nil, append_assoc}
 use Rattle.cilk_log_replay.specs.machine.nodes.model.labelled.Labelled.{Labelled}
 use Rattle.cilk_log_replay.specs.machine.nodes.model.Path.{Path}
@@ -9,6 +9,7 @@ use Rattle.cilk_measure.specs.Inside.{Inside, outside, inside_by, inside_from, i
 use Rattle.cilk_measure.specs.Steps.{Step, listed, step_of, steps_from, steps_of}
 use Rattle.cilk_measure.specs.Deeds.{Deed, deeds_of}
 use Rattle.cilk_measure.specs.Measure.{greatest, most_from, most}
+use Rattle.cilk_measure.proofs.Tops.{max-assoc}
 
 inside_from-push : (program : Labelled) (p : Path) (events : List Event) (e : Event) (i : Inside)
     → inside_from program p (events ++ e ∷ []) i ≡ inside_by program p e (inside_from program p events i)
@@ -42,9 +43,6 @@ deeds-push (c ∷ choices) [] choice e same = absurd (omega (arith, same))
 deeds-push (c ∷ choices) (x ∷ events) choice e same =
     let less : length choices ≡ length events = omega (arith, same) in
     ap (λ (ds : List Deed). record { choice = c; did = x } ∷ ds) (deeds-push choices events choice e less)
-
-max-assoc : (a b c : ℕ) → max a (max b c) ≡ max (max a b) c
-max-assoc a b c = omega arith
 
 pub greatest-push : (xs : List ℕ) (x : ℕ) → greatest (xs ++ x ∷ []) ≡ max (greatest xs) x
 greatest-push [] x = omega arith

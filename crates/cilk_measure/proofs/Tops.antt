@@ -1,12 +1,12 @@
 -- The greatest ranks of steps that pass a test, and what one step more makes of them.
-use Rattle.std.proofs.Common.{◌≡◌, ℕ, suc, ◌+◌, ◌≤◌, Bool, true, false, ◌||◌, List, [], ◌∷◌, ◌++◌, length, refl, ap, sym, ◌∙◌, max, arith, if◌then◌else◌}
+use Rattle.std.proofs.Common.{◌≡◌, ℕ, suc, Bool, true, false, ◌||◌, List, [], ◌∷◌, ◌++◌, refl, ap, ◌∙◌, max, arith, if◌then◌else◌}
 use Rattle.cilk_measure.specs.Steps.{Step}
 use Rattle.cilk_measure.specs.Span.{follows, Ranked, top, ranked, ranked_from, all_ranked, span_of}
 
 abbrev pub if_so : Bool → ℕ → ℕ
 if_so b n = if b then n else 0
 
-max-assoc : (a b c : ℕ) → max a (max b c) ≡ max (max a b) c
+pub max-assoc : (a b c : ℕ) → max a (max b c) ≡ max (max a b) c
 max-assoc a b c = omega arith
 
 pub top-push : (f : Step → Bool) (rs : List Ranked) (r : Ranked) → top f (rs ++ r ∷ []) ≡ max (top f rs) (if_so (f r.step) r.rank)

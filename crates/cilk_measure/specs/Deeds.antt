@@ -1,7 +1,7 @@
 -- What each choice of a run did: work, or a frame was moved.
 use Rattle.std.specs.Prelude.{ℕ, ◌-◌, ◌==◌, Bool, true, false, not, ◌&&◌, ◌||◌, List, [], ◌∷◌, count_by}
 use Rattle.cilk_log_replay.specs.machine.nodes.model.Choice.{Act, step, pop, steal, Choice}
-use Rattle.cilk_log_replay.specs.machine.nodes.model.Event.{Event, acted, spawned, delivered, returned, ended, trapped, moved}
+use Rattle.cilk_log_replay.specs.machine.nodes.model.Event.{Event, spawned, moved}
 
 pub record Deed : Type 0 where
   pub choice : Choice

@@ -17,9 +17,9 @@ mod tally;
 
 pub use cell::Cell;
 pub use cilk_log_replay::{
-    Access, Act, Choice, Did, End, Id, Loaded, Log, LogFault, Machine, Memory, Path, ReplayFault,
-    Scene, Spot, Trap, TrapKind, accesses_in, locks_in, make_again, number_in, play, play_all,
-    put_trapped, refuse_other,
+    Access, Act, Choice, Did, End, Id, Loaded, Log, LogFault, Machine, Memory, Path, Refusal,
+    ReplayFault, Scene, Spot, Trap, TrapKind, accesses_in, locks_in, make_again, number_in, play,
+    play_all, put_trapped, refuse_other,
 };
 pub use measure::Measure;
 pub use measure_lines::put_measure;

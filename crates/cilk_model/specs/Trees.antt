@@ -6,8 +6,8 @@ use Rattle.cilk_model_labels.specs.syntax.declared.lock_action.LockAction.TheVar
 use Rattle.cilk_model_labels.specs.syntax.declared.return_type.ReturnType.{ReturnType}
 use Rattle.cilk_model_labels.specs.syntax.declared.return_type.ReturnType.TheVariants.{Int, Void}
 use Rattle.cilk_model_labels.specs.syntax.Tree as tree
-use Rattle.cilk_model_labels.specs.syntax.Tree.{Word, Expr, number, named, binary, Target, Place, Local, declared, inlet_at, Stmt, stmts_of}
-use Rattle.cilk_model_labels.specs.syntax.Tree.{locals_of, Block, block, Item, Program}
+use Rattle.cilk_model_labels.specs.syntax.Tree.{Word, Expr, number, named, binary, Target, Local, declared, inlet_at, Stmt, stmts_of}
+use Rattle.cilk_model_labels.specs.syntax.Tree.{locals_of, block, Item, Program}
 
 abbrev pub word : List ℕ → Word
 word text = record { text = text; place = 0 }

@@ -5,7 +5,7 @@ use Rattle.cilk_check_scopes.specs.syntax.declared.operator.BinOp.TheVariants.{A
 use Rattle.cilk_check_scopes.specs.syntax.declared.adjustment.Adjustment.TheVariants.{Increment}
 use Rattle.cilk_check_scopes.specs.syntax.declared.return_type.ReturnType.TheVariants.{Int}
 use Rattle.cilk_check_scopes.specs.syntax.Tree as tree
-use Rattle.cilk_check_scopes.specs.syntax.Tree.{Word, Expr, number, named, binary, Target, Local, declared, inlet_at, Stmt, stmts_of, locals_of}
+use Rattle.cilk_check_scopes.specs.syntax.Tree.{Word, number, named, binary, Target, Local, declared, inlet_at, Stmt, stmts_of, locals_of}
 use Rattle.cilk_check_scopes.specs.syntax.Tree.{Block, block, Item, Program}
 use Rattle.cilk_model_labels.specs.Labelled.{Numbered, Body}
 use Rattle.cilk_model_labels.specs.Items.{Items, opened, head_of, next, start_items}

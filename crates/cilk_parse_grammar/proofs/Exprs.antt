@@ -1,28 +1,24 @@
 -- The laws of expressions, as those of a part of rules.
-use Rattle.std.proofs.Common.{◌≡◌, ℕ, ◌≤◌, true, false, List, [], ◌∷◌, ◌++◌, Option, Ok, refl, ◌∙◌, arith}
+use Rattle.std.proofs.Common.{◌≡◌, ℕ, ◌≤◌, true, List, [], ◌∷◌, ◌++◌, Option, Ok, refl, ◌∙◌, arith}
 use Rattle.std.proofs.lemmas.Bool.{or_right}
 use Rattle.cilk_tree_syntax.specs.lexeme.Lexeme.{Piece, name}
 use Rattle.cilk_tree_syntax.specs.lexeme.declared.keyword.Keyword.TheVariants as words
 use Rattle.cilk_tree_syntax.specs.lexeme.declared.mark.Mark.TheVariants as marks
 use Rattle.cilk_tree_syntax.specs.Tree as tree
-use Rattle.cilk_parse_grammar.specs.Rule.{has, class_at}
+use Rattle.cilk_parse_grammar.specs.Rule.{has}
 use Rattle.cilk_parse_grammar.proofs.Tokens.{has_append}
 use Rattle.cilk_parse_grammar.proofs.RulesSound.{Took}
 use Rattle.cilk_parse_grammar.proofs.RulesLocal.{Local}
 use Rattle.cilk_parse_grammar.specs.Classes.{cls, names, a_number, a_word, a_mark}
 use Rattle.cilk_parse_grammar.specs.Operators.{prefixes, classes}
-use Rattle.cilk_parse_grammar.specs.Expressions.{a_name_is, begins_expr, goes_on_expr, SpellsWhole}
+use Rattle.cilk_parse_grammar.specs.Expressions.{a_name_is, begins_expr, SpellsWhole}
 use Rattle.cilk_parse_grammar.specs.Reading.{whole_of}
 use Rattle.cilk_parse_grammar.proofs.Whole as whole
 use Rattle.cilk_parse_grammar.proofs.LocalExpr as locals
-pub use Rattle.cilk_parse_grammar.proofs.Whole.{expr_begins}
+pub use Rattle.cilk_parse_grammar.proofs.Whole.{expr_begins, expr_complete}
 
 pub expr_takes : (l d : ℕ) (ts : List Piece) (y : tree.Expr × List Piece) → whole_of l d ts ≡ Ok y → Took cls (λ k us x. SpellsWhole l d us x) ts y
 expr_takes l d ts y e = let t = whole.expr_sound l d ts y e in record { used = t.used; whole = t.whole; spelled = t.spelled }
-
-pub expr_again : (l d : ℕ) (us : List Piece) (e : tree.Expr) (rest : List Piece) → SpellsWhole l d us e
-    → has goes_on_expr (class_at cls rest) ≡ false → whole_of l d (us ++ rest) ≡ Ok (e, rest)
-expr_again = whole.expr_complete
 
 pub expr_local : (same : Type 0) (l l' d d' : ℕ) → l ≤ l' → d ≤ d' → (same → l ≡ l') → (same → d ≡ d') → (ts : List Piece)
     → Local {A = tree.Expr} same ts (whole_of l d ts) (λ us. whole_of l' d' us)

@@ -16,7 +16,7 @@ use Rattle.cilk_parse_grammar.specs.Reading.{whole_of}
 use Rattle.cilk_parse_grammar.specs.Parts.{Part, the_name, token, an_expr, a_value, nest, Value, computed, Means}
 use Rattle.cilk_parse_grammar.specs.Spelling.{first_of, more_of, said, leaf_says, leaf_at, leaf_parts, call_behind, value_at}
 use Rattle.cilk_parse_grammar.proofs.Leaves.{leaf_local, leaf_again}
-use Rattle.cilk_parse_grammar.proofs.Exprs.{expr_local, expr_again, name_alone}
+use Rattle.cilk_parse_grammar.proofs.Exprs.{expr_local, expr_complete, name_alone}
 use Rattle.cilk_parse_grammar.proofs.Values.{is_name, leaf_parts_begin, leaf_parts_sound}
 
 -- ---- a reader that takes the token, from behind it
@@ -127,7 +127,7 @@ module _ (same : Type 0) (l l' d d' : ℕ) (le : l ≤ l') (le' : d ≤ d') (eq 
           let shape : (l d : ℕ) (us : List Piece) → value_at l d (t ∷ us) ≡ m l d us = λ l d us. rw (h, one us) refl in
           let alone : computes l' d' (t ∷ [])
           ≡ Ok (computed (tree.named f), []) = ap (λ r. r >>= λ x. Ok (computed x.0, x.1))
-          (expr_again l' d' (t ∷ []) (tree.named f) [] (name_alone l' d' t x.0 x.1) refl) in
+          (expr_complete l' d' (t ∷ []) (tree.named f) [] (name_alone l' d' t x.0 x.1) refl) in
           let choice : Local {A = Value} same ts (m l d ts) (λ us. m l' d' us) = local_choice same
           (λ us. is (a_mark sign.OpenParenthesis) (class_at cls us)) ts _ _ _ (λ us. goes_on l' d' f us) (λ us. computes l' d' (t ∷ us))
           (λ us s. ap (is (a_mark sign.OpenParenthesis)) (sym (same_class cls ts us s))) refl (λ e. goes_on_local f ts)

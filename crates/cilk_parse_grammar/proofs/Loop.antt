@@ -1,22 +1,22 @@
 -- Going on behind an expression, as a loop does.
-use Rattle.std.proofs.Common.{◌≡◌, ℕ, suc, ◌<◌, ◌≤◌, List, length, Option, Some, None, Result, Ok, Err, refl, sym, ap, ◌∙◌}
+use Rattle.std.proofs.Common.{◌≡◌, ℕ, suc, ◌<◌, ◌≤◌, List, length, Option, Some, None, Ok, Err, refl, sym, ap, ◌∙◌}
 use Rattle.std.proofs.lemmas.Bool.{lt-ltb}
 use Rattle.cilk_tree_syntax.specs.lexeme.Lexeme.{Piece}
 use Rattle.cilk_tree_syntax.specs.lexeme.declared.mark.Mark.TheVariants as marks
 use Rattle.cilk_tree_syntax.specs.declared.operator.BinOp.{BinOp}
 use Rattle.cilk_tree_syntax.specs.Tree as tree
-use Rattle.cilk_parse_grammar.specs.declared.fault.Fault.{Fault}
 use Rattle.cilk_parse_grammar.specs.declared.fault.Fault.TheVariants.{TooDeep}
 use Rattle.cilk_parse_grammar.specs.declared.fault.ReadError.{ReadError}
 use Rattle.cilk_parse_grammar.specs.declared.fault.ReadError.TheVariants as errors
 use Rattle.cilk_parse_grammar.specs.ReadsAs.{Fails}
-use Rattle.cilk_parse_grammar.specs.Rule.{◌>>=◌, behind, token_at}
+use Rattle.cilk_parse_grammar.specs.Rule.{behind, token_at}
 use Rattle.cilk_parse_grammar.specs.declared.operator.Infix.{Infix}
 use Rattle.cilk_parse_grammar.specs.declared.operator.Infix.TheVariants.{Two, Choice}
 use Rattle.cilk_parse_grammar.specs.Classes.{a_mark, cls}
 use Rattle.cilk_parse_grammar.specs.Operators.{operand}
 use Rattle.cilk_parse_grammar.specs.Front.{infix_at}
 use Rattle.cilk_parse_grammar.specs.Reading.{Reads, expr_of, more_of, operand_at, choice_at, subscript_at}
+use Rattle.cilk_parse_grammar.proofs.Loops.{fails_first}
 use Rattle.cilk_parse_grammar.proofs.Tables.{level_high}
 use Rattle.cilk_parse_grammar.proofs.Tools.{infix_next, Stops}
 use Rattle.cilk_parse_grammar.proofs.Steps.{by_operand, step_operator, step_choice, step_full, step_stops}
@@ -24,11 +24,6 @@ use Rattle.cilk_parse_grammar.proofs.Steps.{by_operand, step_operator, step_choi
 pub none_from : {A : Type 0} (o : Option A) → ((x : A) → o ≡ Some x → ⊥) → o ≡ None
 none_from None h = refl
 none_from (Some x) h = absurd (h x refl)
-
--- what fails first fails all
-pub fails_first : {A B : Type 0} (e : ReadError) (r : Result A Fault) (f : A → Result B Fault) → Fails e r → Fails e (r >>= f)
-fails_first errors.Memory r f h = tt
-fails_first (errors.Fault d) r f h = rw h refl
 
 pub operand_fails : (e : ReadError) (l d p n : ℕ) (ts : List Piece) → Fails e (operand_at l d n ts) → Fails e (expr_of l d p n ts)
 operand_fails e l d p n ts h = rw by_operand (fails_first e _ _ h)

@@ -3,7 +3,7 @@ use Rattle.std.proofs.Common.{◌≡◌, ℕ, List, [], ◌∷◌, ◌++◌, map
 use Rattle.cilk_parse_grammar.specs.Rule as rule
 use Rattle.cilk_parse_grammar.specs.Rule.{is, next, Rule, done, skip, part, and_then, either, many, nearest, by_value, EachBefore, no_more, one_more}
 use Rattle.cilk_parse_grammar.specs.Alike as alike
-use Rattle.cilk_parse_grammar.specs.Alike.{EachAlike, BothAlike}
+use Rattle.cilk_parse_grammar.specs.Alike.{EachAlike}
 
 pub keeps : {Part : Type 0} {Means : Part → Type 0} (likes : (p : Part) → Means p → Means p → Type 0) {A : Type 0} (r : Rule Means A)
     (R : A → A → Type 0) (x y : A) → alike.Keeps likes r R → alike.Alike likes r x y → R x y

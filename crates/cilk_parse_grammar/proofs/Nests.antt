@@ -21,7 +21,7 @@ use Rattle.cilk_parse_grammar.specs.Grammar.{rule_of}
 use Rattle.cilk_parse_grammar.specs.Spelling.{first_of, more_of, begins, says_by, parts_by, SpellsNest, nest_at, SpellsRule, read_at}
 use Rattle.cilk_parse_grammar.proofs.Fine.{rules_fine, rules_begin, rules_take, rules_end}
 use Rattle.cilk_parse_grammar.proofs.Leaves.{leaf_begins, leaf_takes, leaf_again, leaf_local}
-use Rattle.cilk_parse_grammar.proofs.Exprs.{expr_begins, expr_takes, expr_again, expr_wider, expr_local}
+use Rattle.cilk_parse_grammar.proofs.Exprs.{expr_begins, expr_takes, expr_complete, expr_wider, expr_local}
 use Rattle.cilk_parse_grammar.proofs.Values.{value_begins, value_takes, value_again, value_wider}
 use Rattle.cilk_parse_grammar.proofs.LocalValues.{value_local}
 
@@ -56,7 +56,7 @@ module _ (l d : ℕ) where
       → reader p (us ++ rest) ≡ Ok (x, rest))
       → complete.PartsComplete cls first_of more_of (says_by l d inner) (parts_by l d reader)
   parts_complete inner reader h (token t) us x rest s e = leaf_again t us x rest s
-  parts_complete inner reader h an_expr us x rest s e = expr_again l d us x rest s e
+  parts_complete inner reader h an_expr us x rest s e = expr_complete l d us x rest s e
   parts_complete inner reader h a_value us x rest s e = value_again l d us x rest s e
   parts_complete inner reader h (nest p) us x rest s e = h p us x rest s
 

@@ -1,11 +1,11 @@
 -- The laws of programs.
-use Rattle.std.proofs.Common.{◌≡◌, ℕ, ◌+◌, ◌≤◌, true, false, List, [], ◌∷◌, ◌++◌, length, None, Ok, Err, refl, sym, ap, subst, ◌∙◌, arith}
+use Rattle.std.proofs.Common.{◌≡◌, ℕ, ◌+◌, ◌≤◌, true, List, [], ◌∷◌, ◌++◌, length, None, Ok, Err, refl, sym, ap, subst, ◌∙◌, arith}
 use Rattle.std.proofs.lemmas.List.{append-nil}
 use Rattle.cilk_tree_syntax.specs.lexeme.Lexeme.{Piece}
 use Rattle.cilk_tree_syntax.specs.lexeme.declared.header.Header.{Header}
 use Rattle.cilk_tree_syntax.specs.Tree as tree
 use Rattle.cilk_parse_grammar.specs.Rule as rule
-use Rattle.cilk_parse_grammar.specs.Rule.{◌>>=◌, Rule, Read, has, class_at}
+use Rattle.cilk_parse_grammar.specs.Rule.{◌>>=◌, Rule, class_at}
 use Rattle.cilk_parse_grammar.proofs.RulesTools.{bind_ok, ok_is}
 use Rattle.cilk_parse_grammar.proofs.RulesLocal.{SameHead, Local, local_bind, ok_here, stuck_here, unexpected}
 use Rattle.cilk_parse_grammar.specs.Classes.{cls}

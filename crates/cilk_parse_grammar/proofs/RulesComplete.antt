@@ -4,7 +4,7 @@ use Rattle.std.proofs.Common.{subst, ◌∙◌, inl, inr, append_assoc, arith, l
 use Rattle.std.proofs.lemmas.Bool.{and_parts, or_parts, not-true}
 use Rattle.cilk_parse_grammar.specs.Rule as rule
 use Rattle.cilk_parse_grammar.specs.Rule.{◌>>=◌, has, apart, class_at, token_at, Rule, done, skip, part, and_then, either, many, nearest, by_value}
-use Rattle.cilk_parse_grammar.specs.Rule.{nullable, next, EachBefore, no_more, one_more, Both, Read, many_in, many_of}
+use Rattle.cilk_parse_grammar.specs.Rule.{nullable, next, EachBefore, no_more, one_more, Read, many_in, many_of}
 use Rattle.cilk_parse_grammar.proofs.Tokens.{has_append, apart_has, token_here, next_is}
 use Rattle.cilk_parse_grammar.proofs.Begun as begun
 use Rattle.cilk_parse_grammar.proofs.Begun.{Begun, with_token, with_nothing, begun_first, begun_second}

@@ -2,7 +2,7 @@
 use Rattle.std.proofs.Common.{◌≡◌, ℕ, zero, suc, Bool, true, false, if◌then◌else◌, List, [], ◌∷◌, ◌++◌, length, Option, Ok, refl, sym, ap, subst, ◌∙◌}
 use Rattle.std.proofs.Common.{◌⊎◌, inl, inr, append_assoc}
 use Rattle.cilk_parse_grammar.specs.Rule as rule
-use Rattle.cilk_parse_grammar.specs.Rule.{◌>>=◌, has, Rule, done, skip, part, and_then, either, many, nearest, by_value, class_at, next, token_at}
+use Rattle.cilk_parse_grammar.specs.Rule.{has, Rule, done, skip, part, and_then, either, many, nearest, by_value, class_at, next, token_at}
 use Rattle.cilk_parse_grammar.specs.Rule.{EachBefore, no_more, one_more, Both, Read, many_in, many_of}
 use Rattle.cilk_parse_grammar.proofs.RulesTools.{bind_ok, ok_is, chosen}
 use Rattle.cilk_parse_grammar.proofs.Tokens.{token_is, next_is}

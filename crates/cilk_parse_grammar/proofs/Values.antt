@@ -9,7 +9,7 @@ use Rattle.cilk_tree_syntax.specs.lexeme.declared.mark.Mark.{Mark}
 use Rattle.cilk_tree_syntax.specs.lexeme.declared.mark.Mark.TheVariants as sign
 use Rattle.cilk_tree_syntax.specs.Tree as tree
 use Rattle.cilk_parse_grammar.specs.Rule as rule
-use Rattle.cilk_parse_grammar.specs.Rule.{◌>>=◌, Rule, Read, has, is, behind, class_at, and_then, done}
+use Rattle.cilk_parse_grammar.specs.Rule.{Rule, has, is, behind, class_at}
 use Rattle.cilk_parse_grammar.proofs.RulesTools.{bind_ok, ok_is, chosen}
 use Rattle.cilk_parse_grammar.proofs.Tokens.{apart_has}
 use Rattle.cilk_parse_grammar.proofs.Begun as begun
@@ -26,7 +26,7 @@ use Rattle.cilk_parse_grammar.specs.Parts.{Part, token, an_expr, a_value, nest, 
 use Rattle.cilk_parse_grammar.specs.Spelling.{first_of, more_of, leaf_says, leaf_parts, call, call_behind, SpellsValue, begins_call, value_at}
 use Rattle.cilk_parse_grammar.proofs.Fine.{call_fine}
 use Rattle.cilk_parse_grammar.proofs.Leaves.{leaf_begins, leaf_takes, leaf_again}
-use Rattle.cilk_parse_grammar.proofs.Exprs.{expr_begins, expr_takes, expr_again, expr_wider, name_alone, names_begin}
+use Rattle.cilk_parse_grammar.proofs.Exprs.{expr_begins, expr_takes, expr_complete, expr_wider, name_alone, names_begin}
 
 -- ---- a token of the class of a name is a name
 
@@ -63,7 +63,7 @@ module _ (l d : ℕ) where
 
   pub leaf_parts_complete : complete.PartsComplete cls first_of more_of (leaf_says l d) (leaf_parts l d)
   leaf_parts_complete (token t) us x rest s e = leaf_again t us x rest s
-  leaf_parts_complete an_expr us x rest s e = expr_again l d us x rest s e
+  leaf_parts_complete an_expr us x rest s e = expr_complete l d us x rest s e
   leaf_parts_complete a_value us x rest s e = elim s [ ]
   leaf_parts_complete (nest p) us x rest s e = elim s [ ]
 
@@ -89,9 +89,6 @@ module _ (l d : ℕ) where
             (record { used = t.used; whole = t.whole; spelled = inl (record { expr = a.0.0; spelled = t.spelled; meaning = refl }) })
       ]
 
-  abbrev read_as : tree.Expr → List Piece → Read Piece tree.Expr
-  read_as e ts = Ok (e, ts)
-
   -- no expression goes on behind a name with an opening parenthesis
   no_call : (us : List Piece) (e : tree.Expr) (rest : List Piece) → SpellsWhole l d us e
       → has (a_mark sign.OpenParenthesis ∷ goes_on_expr) (class_at cls rest) ≡ false → begins_call (us ++ rest) ≡ false
@@ -111,13 +108,13 @@ module _ (l d : ℕ) where
       by (t ∷ u ∷ us) true c s g =
           let k = and_parts (has names (Some (cls t))) (is (a_mark sign.OpenParenthesis) (Some (cls u))) c in
           let x = is_name t.lexeme k.0 in
-          let alone = expr_again l d (t ∷ []) _ (u ∷ (us ++ rest)) (name_alone l d t x.0 x.1)
+          let alone = expr_complete l d (t ∷ []) _ (u ∷ (us ++ rest)) (name_alone l d t x.0 x.1)
           (apart_has goes_on_expr (a_mark sign.OpenParenthesis ∷ []) (Some (cls u)) refl k.1) in
           let same : u
           ∷ (us ++ rest)
           ≡ rest = ap (λ (y : tree.Expr × List Piece). y.1)
           (ok_is (tree.named (record { text = x.0; place = t.start }), u ∷ (us ++ rest)) (e, rest)
-          (sym alone ∙ expr_again l d (t ∷ u ∷ us) e rest s stops.1)) in
+          (sym alone ∙ expr_complete l d (t ∷ u ∷ us) e rest s stops.1)) in
           absurd (omega (arith, ap length same, length-append us rest))
 
   pub value_again : (us : List Piece) (x : Value) (rest : List Piece) → SpellsValue l d (class_at cls rest) us x
@@ -125,7 +122,7 @@ module _ (l d : ℕ) where
   unfolding value_at
   value_again us x rest (inl s) h =
       let stops = or_parts (is (a_mark sign.OpenParenthesis) (class_at cls rest)) (has goes_on_expr (class_at cls rest)) h in
-      rw (no_call us s.expr rest s.spelled h, expr_again l d us s.expr rest s.spelled stops.1, s.meaning) refl
+      rw (no_call us s.expr rest s.spelled h, expr_complete l d us s.expr rest s.spelled stops.1, s.meaning) refl
   value_again us x rest (inr s) h =
       let opens = begins_so cls (rule.first first_of call_behind) false s.back rest
       (begun.begun cls first_of (leaf_says l d) call_behind (class_at cls rest) s.back s.makes leaf_parts_begin s.spelled_back) refl in

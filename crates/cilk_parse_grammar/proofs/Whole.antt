@@ -58,13 +58,6 @@ expr_complete l d us e rest s h =
     (ends 0 rest h).1 (omega arith) fits in
     rw w refl
 
--- the tokens spell one expression
-pub one_reading : (l d : ℕ) (us : List Piece) (e f : tree.Expr) → SpellsWhole l d us e → SpellsWhole l d us f → e ≡ f
-one_reading l d us e f s t =
-    let both : whole_of l d (us ++ []) ≡ Ok (e, []) = expr_complete l d us e [] s refl in
-    let other : whole_of l d (us ++ []) ≡ Ok (f, []) = expr_complete l d us f [] t refl in
-    ap (λ (y : tree.Expr × List Piece). y.0) (ok_is (e, []) (f, []) (sym both ∙ other))
-
 -- ---- with what an expression begins
 
 later : (k : Option ℕ) → has (classes prefixes ++ names) k ≡ true → has begins_expr k ≡ true

@@ -1,5 +1,5 @@
 -- What is kept of the instances, one event more.
-use Rattle.std.proofs.Common.{◌≡◌, ◌<◌, ◌≤◌, ◌+◌, ◌^◌, ◌⊎◌, ℕ, suc, Bool, true, false, ◌&&◌, ◌||◌, nat_eq, cond, if◌then◌else◌, List, []}
+use Rattle.std.proofs.Common.{◌≡◌, ◌<◌, ◌≤◌, ◌+◌, ◌^◌, ◌⊎◌, ℕ, suc, Bool, true, false, ◌||◌, nat_eq, cond, if◌then◌else◌, List, []}
 use Rattle.std.proofs.Common.{◌∷◌, ◌++◌}
 use Rattle.std.proofs.Common.{length, take, refl, sym, ap, ◌∙◌, subst, arith, inl, inr, slice_set, length-set, get_or-set_same}
 use Rattle.std.proofs.Common.{get_or-set_other}
@@ -23,10 +23,6 @@ plus-none n false e = omega arith
 pub next-if : (n : ℕ) (b : Bool) → n < 2 ^ 60 → (if b then next n else n) ≡ n + cond b 1 0
 next-if n true h = omega (arith, h)
 next-if n false h = omega arith
-
-and-false : (a : Bool) → (a && false) ≡ false
-and-false true = refl
-and-false false = refl
 
 -- what is kept of one, changed in place
 pub line-set : (rows : List Line) (k i : ℕ) (line : Line) → i < length rows

@@ -9,8 +9,8 @@ use crate::row::{Row, path_in};
 use crate::times::times;
 use crate::touch::Touch;
 use cilk_measure::{
-    Access, Act, Choice, Did, Loaded, Machine, Memory, ReplayFault, Scene, accesses_in, number_in,
-    play,
+    Access, Act, Choice, Did, Loaded, Machine, Memory, Refusal, ReplayFault, Scene, accesses_in,
+    number_in, play,
 };
 use std::alloc::{AllocError, Global};
 
@@ -302,6 +302,7 @@ impl Detour {
             return Ok(None);
         }
         match self.machine.advance(choice) {
+            Err(Refusal::Memory) => Err(Memory::from(AllocError)),
             Err(_) => Ok(None),
             Ok(did) => Ok(Some(did)),
         }

@@ -1,8 +1,8 @@
 -- Two trees are compared, path by path.
-use Rattle.std.proofs.Common.{◌≡◌, ◌<◌, ◌+◌, ◌∷◌, [], ℕ, zero, suc, List, Option, Some, None, true, length, refl, sym, ap, ◌∙◌, subst, arith, slice_get}
+use Rattle.std.proofs.Common.{◌≡◌, ◌<◌, ◌∷◌, [], ℕ, suc, List, Option, Some, None, true, length, refl, sym, ap, ◌∙◌, subst, arith, slice_get}
 use Rattle.std.proofs.Common.{slice_index_or}
 use Rattle.std.specs.Option.{IfSome}
-use Rattle.std.proofs.lemmas.Option.{slice_get_within, get_or_from_slice_get, slice_get-get_or}
+use Rattle.std.proofs.lemmas.Option.{slice_get_within, get_or_from_slice_get}
 use Rattle.std.proofs.lemmas.List.{get_or_read}
 use Rattle.std.proofs.lemmas.List.Elements.{All-get_or}
 use Rattle.cilk_frame.specs.model.Path.{child_path}
@@ -10,10 +10,10 @@ use Rattle.cilk_spawn.specs.declared.delivery.Delivery.{Delivery}
 use Rattle.cilk_spawn.specs.declared.record.Record.{Record}
 use Rattle.cilk_spawn.specs.Family.{Family}
 use Rattle.cilk_spawn.specs.Nodes.{Node, node_at, is_live, path_at, IsFrom, IsTree}
-use Rattle.cilk_spawn.specs.Records.{nodes_of, node_of, child_of, child_at, place_at, Kept}
-use Rattle.cilk_spawn.specs.Alike.{SameDelivery, SameWaiting, SameNode}
+use Rattle.cilk_spawn.specs.Records.{nodes_of, node_of, child_of, place_at, Kept}
+use Rattle.cilk_spawn.specs.Alike.{SameDelivery, SameWaiting}
 use Rattle.cilk_spawn.proofs.Trees.{path_child, live_there}
-use Rattle.cilk_spawn.proofs.Records.{At, at_is, record_is, nodes_length}
+use Rattle.cilk_spawn.proofs.Records.{At, at_is, record_is}
 use Rattle.cilk_spawn.proofs.Written.{nodes_are}
 
 -- the delivery at k comes from a child

@@ -1,12 +1,8 @@
 -- Records that were copied one by one.
-use Rattle.std.proofs.Common.{◌≡◌, ◌<◌, ◌≤◌, ◌+◌, ◌++◌, ◌∷◌, [], ℕ, List, length, length-append, ext_get_or, sym, ap, ◌∙◌, subst, arith, inl, inr}
-use Rattle.std.proofs.Common.{slice_index_or}
-use Rattle.std.proofs.lemmas.Bool.{cases_eq, cases_lt}
-use Rattle.std.proofs.lemmas.List.{get_or_append_left, get_or_default, get_or_past}
-use Rattle.std.proofs.Math.Seq.{get_or-append_seam}
+use Rattle.std.proofs.Common.{◌≡◌, ◌<◌, ℕ, List, length, ext_get_or, sym, ◌∙◌, arith}
 use Rattle.cilk_spawn.specs.declared.record.Record.{Record}
 use Rattle.cilk_spawn.specs.Nodes.{no_node}
-use Rattle.cilk_spawn.specs.Records.{nodes_of, no_record, record_at, child_of, live_index, Alike}
+use Rattle.cilk_spawn.specs.Records.{nodes_of, record_at}
 use Rattle.cilk_spawn.specs.Copied.{Copied}
 use Rattle.cilk_spawn.proofs.Records.{node_is, nodes_length}
 

@@ -1,7 +1,7 @@
 -- Small images: what is kept of those that live, and the tree that is made of it beside a later one.
-use Rattle.std.proofs.Common.{◌≡◌, ◌<◌, ◌≤◌, ◌+◌, ◌++◌, ◌∷◌, [], ℕ, List, Bool, true, false, Option, Some, None, length, map, take, nat_lt}
-use Rattle.std.proofs.Common.{if◌then◌else◌, ext_get_or, refl, sym, ap, ◌∙◌, subst, arith, ◌⊎◌, inl, inr, slice_index_or, slice_set, length-set}
-use Rattle.std.proofs.lemmas.Bool.{cases_Bool, cases_eq, cases_lt}
+use Rattle.std.proofs.Common.{◌≡◌, ◌<◌, ◌≤◌, [], ℕ, List, Bool, true, false, Some, None, length, map, take, nat_lt}
+use Rattle.std.proofs.Common.{if◌then◌else◌, ext_get_or, refl, sym, ap, ◌∙◌, subst, arith, ◌⊎◌, inl, inr}
+use Rattle.std.proofs.lemmas.Bool.{cases_Bool, cases_lt}
 use Rattle.std.proofs.lemmas.List.{get_or-map, get_or-take, get_or_past, length-map, length-take-le}
 use Rattle.cilk_spawn.specs.declared.fate.Fate.{Fate}
 use Rattle.cilk_spawn.specs.declared.fate.Fate.TheVariants as fate
@@ -11,14 +11,11 @@ use Rattle.cilk_spawn.specs.declared.record.Record.{Record}
 use Rattle.cilk_spawn.specs.Family.{Stands}
 use Rattle.cilk_spawn.specs.Nodes.{Node, no_node, node_at, lives, is_live, live_ids, IsTree}
 use Rattle.cilk_spawn.specs.Records.{node_of, nodes_of, fate_of, receiver_of, waiting_of, parked_of, no_record, record_at, child_of, child_at}
-use Rattle.cilk_spawn.specs.Records.{live_index, place_at, IsChild, Kept}
-use Rattle.cilk_spawn.specs.Copied.{Copied}
+use Rattle.cilk_spawn.specs.Records.{place_at, IsChild, Kept}
 use Rattle.cilk_spawn.specs.Cut.{cut, cut_node, IsCut}
 use Rattle.cilk_spawn.specs.Living.{Living, IsLivingOf, WasThere}
 use Rattle.cilk_spawn.specs.LivingRecords.{id_at, IsListed, AreLiving, cut_life, cut_record, PutTo, CopiedOf}
-use Rattle.cilk_spawn.proofs.Lists.{at_set}
 use Rattle.cilk_spawn.proofs.Records.{node_is, nodes_length}
-use Rattle.cilk_spawn.proofs.Trees.{live_there}
 
 -- what is kept of a tree
 module _ (rs made : List Record) (ids : List ℕ) (kept : Kept rs ids) (copied : CopiedOf (length ids) ids rs made) where

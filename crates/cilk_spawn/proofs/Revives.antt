@@ -9,7 +9,7 @@ use Rattle.cilk_spawn.specs.Records.{node_of, nodes_of, no_record, child_of, liv
 use Rattle.std.proofs.lemmas.Bool.{cases_eq}
 use Rattle.std.proofs.lemmas.Option.{same_Some}
 use Rattle.cilk_spawn.proofs.Lists.{at_set, one_if, count_set}
-use Rattle.cilk_spawn.proofs.Records.{At, Alike, SameLinks, at_is, record_is, unchanged_is, kept_alike}
+use Rattle.cilk_spawn.proofs.Records.{At, SameLinks, at_is, record_is, unchanged_is}
 use Rattle.cilk_spawn.proofs.Births.{at_here, at_there}
 use Rattle.cilk_spawn.proofs.Ends.{live_count}
 use Rattle.cilk_spawn.specs.Remains.{Remains}

@@ -1,5 +1,5 @@
 -- When two trees tell the same: the instances go by their paths, whatever their ids are, and those that have ended do not matter.
-use Rattle.std.specs.Prelude.{◌≡◌, ℕ, ℤ, true, ⊤, List, [], ◌∷◌, Option, Some, None}
+use Rattle.std.specs.Prelude.{◌≡◌, ℕ, true, ⊤, List, [], ◌∷◌, Option, Some, None}
 use Rattle.cilk_frame.specs.Frames.{Frame}
 use Rattle.cilk_frame.specs.Alike.{SameFrame}
 use Rattle.cilk_spawn.specs.declared.delivery.Delivery.{Delivery}

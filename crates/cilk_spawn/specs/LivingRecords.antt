@@ -1,9 +1,8 @@
 -- The records of those that live, and how a tree's records are made of them.
-use Rattle.std.specs.Prelude.{◌≡◌, ◌<◌, ◌≤◌, ℕ, true, List, length, nat_lt, if◌then◌else◌, Some, slice_index_or}
+use Rattle.std.specs.Prelude.{◌≡◌, ◌<◌, ℕ, List, length, nat_lt, if◌then◌else◌, Some, slice_index_or}
 use Rattle.cilk_spawn.specs.declared.life.Life.{Life}
 use Rattle.cilk_spawn.specs.declared.life.Life.TheVariants.{Live, Returned, Delivered, Aborted}
 use Rattle.cilk_spawn.specs.declared.record.Record.{Record}
-use Rattle.cilk_spawn.specs.Nodes.{is_live}
 use Rattle.cilk_spawn.specs.Copied.{Copied}
 use Rattle.cilk_spawn.specs.Records.{node_of, record_at, child_of, live_index}
 

@@ -5,7 +5,7 @@ mod tokens;
 mod values;
 
 use cilk_parse::read;
-use cilk_tree_alike::Program;
+use cilk_tree_syntax::Program;
 use std::alloc::Global;
 use std::process::Abort;
 

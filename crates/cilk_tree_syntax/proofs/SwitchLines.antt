@@ -1,5 +1,5 @@
 -- A block has as many lines as that of a `switch` as it has as any other.
-use Rattle.std.proofs.Common.{◌≡◌, ℕ, ◌+◌, Bool, true, false, List, ◌++◌, length, refl, ap, ◌∙◌, sym, length-append}
+use Rattle.std.proofs.Common.{◌≡◌, ℕ, ◌+◌, Bool, true, false, List, length, refl, ◌∙◌, sym, length-append}
 use Rattle.std.proofs.lemmas.List.{length-map}
 use Rattle.cilk_tree_syntax.specs.Tree.{Stmts, none, also, Block, block}
 use Rattle.cilk_tree_syntax.specs.Lines.{one_deeper, deeper}

@@ -1,17 +1,18 @@
 -- Which path comes next, as the walk from one instance to the next finds it: down to the first child, or else up until there is a later one.
-use Rattle.std.proofs.Common.{◌≡◌, ◌⊎◌, inl, inr, ℕ, ◌<◌, ◌≤◌, Bool, true, false, ◌&&◌, ◌||◌, ◌==◌, List, [], ◌∷◌, ◌++◌, length, Option, Some, None, IfSome}
-use Rattle.std.proofs.Common.{refl, sym, ap, ◌∙◌, subst, arith, nat_eq, append_assoc, lt-ltb, le-ltb, eq-eqb, ne_eqb}
+use Rattle.std.proofs.Common.{◌≡◌, ◌⊎◌, inl, inr, ℕ, ◌<◌, ◌≤◌, Bool, true, false, ◌&&◌, ◌||◌, ◌==◌, List, [], ◌∷◌, ◌++◌, length, Some, None}
+use Rattle.std.proofs.Common.{refl, sym, ap, ◌∙◌, subst, arith, lt-ltb, le-ltb, eq-eqb, ne_eqb}
 use Rattle.std.specs.Prelude.{nat_lt}
-use Rattle.std.proofs.lemmas.Bool.{cases_eq, cases_lt, and_right}
-use Rattle.cilk_explore_model.specs.model.Path.{Path, child_path}
+use Rattle.std.proofs.lemmas.Bool.{cases_eq}
+use Rattle.cilk_explore_model.specs.model.Path.{Path}
 use Rattle.cilk_explore_model.specs.model.ViewTrees.{is_before}
 use Rattle.cilk_explore_model.specs.agree.spawn.Nodes.{Node, node_at, path_at, IsTree}
 use Rattle.cilk_explore_model.proofs.agree_laws.spawn_laws.Trees.{path_root, path_child, child_there}
 use Rattle.cilk_explore_model.proofs.agree_laws.spawn_laws.Children.{parent_in}
-use Rattle.cilk_explore_model.proofs.agree_laws.spawn_laws.Finds.{Down, step_down}
+use Rattle.cilk_explore_model.proofs.agree_laws.spawn_laws.Finds.{step_down}
 use Rattle.cilk_view.specs.Kin.{NextChild, NoChild}
 use Rattle.cilk_view.specs.Following.{all_paths, beyond, from_here}
-use Rattle.cilk_view.proofs.Rising.{Each, later, rising_all, each_all, among_all, filter_none, IsFirst, first_is, all_is}
+use Rattle.cilk_view.proofs.Rising.{later, rising_all, each_all, among_all, filter_none, first_is, all_is}
+use Rattle.cilk_view.proofs.Kins.{less_is}
 
 -- r goes on from a with a number greater than k, or parts from a with a greater one
 abbrev pub onward : Path → ℕ → Path → Bool
@@ -75,13 +76,6 @@ either_true false false d e = cc
 first_less : (m l : ℕ) (b : Bool) → nat_lt m l ≡ true → (nat_lt m l || (m == l && b)) ≡ true
 first_less m l b e = ap (λ z. z || (m == l && b)) e
 
-from_test : (k l : ℕ) → nat_lt k l ≡ true → k < l
-from_test k l e =
-    elim (cases_lt k l) [
-      | inl h ↦ h
-      | inr h ↦ absurd (let no : nat_lt k l ≡ false = le-ltb k l h in cc)
-    ]
-
 same_from_test : (k l : ℕ) → (k == l) ≡ true → k ≡ l
 same_from_test k l e =
     elim (cases_eq k l) [
@@ -102,7 +96,7 @@ one_step c l r low = by_order (cases_eq c l) r
 pub least_ahead : (a : Path) (k c : ℕ) (r : Path) → GoesOn a r (λ l. k < l → c ≤ l) → onward a k r ≡ true
     → (r ≡ a ++ c ∷ []) ⊎ (is_before (a ++ c ∷ []) r ≡ true)
 least_ahead [] k c [] all e = cc
-least_ahead [] k c (l ∷ r) all e = one_step c l r (all l r refl (from_test k l e))
+least_ahead [] k c (l ∷ r) all e = one_step c l r (all l r refl (less_is k l e))
 least_ahead (m ∷ a) k c [] all e = cc
 least_ahead (m ∷ a) k c (l ∷ r) all e =
     elim (either_true (nat_lt m l) (m == l) (onward a k r) e) [

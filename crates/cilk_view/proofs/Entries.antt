@@ -1,12 +1,12 @@
 -- What entries tell, and what is left of them.
 use Rattle.std.proofs.Common.{◌≡◌, ◌≤◌, ◌<◌, ◌+◌, ◌-◌, ℕ, zero, suc, List, [], ◌∷◌, ◌++◌}
-use Rattle.std.proofs.Common.{length, drop, take, reverse, map, All, Option, Some, None, refl, sym, ap}
+use Rattle.std.proofs.Common.{length, drop, take, reverse, Option, Some, None, refl, sym, ap}
 use Rattle.std.proofs.Common.{◌∙◌, subst, arith, append_assoc, append-nil, take-append-drop, length-append, slice_index_or}
-use Rattle.std.specs.Prelude.{codes, decimal, flat_map, slice_get, string_bytes, Result, Ok, Err, OnOk}
+use Rattle.std.specs.Prelude.{codes, decimal, slice_get, string_bytes, Result, Ok, Err, OnOk}
 use Rattle.std.proofs.lemmas.List.{reverse-append, get_or_default}
 use Rattle.std.proofs.lemmas.List.Elements.{All-push}
 use Rattle.std.proofs.lemmas.Option.{slice_get-get_or}
-use Rattle.cilk_explore_model.specs.model.Path.{Path, child_path, numbers_text, path_text}
+use Rattle.cilk_explore_model.specs.model.Path.{numbers_text, path_text}
 use Rattle.cilk_view.specs.declared.link.Link.{Link}
 use Rattle.cilk_view.specs.declared.entry.Entry.{Entry}
 use Rattle.cilk_view.specs.Ups.{linked_path, link_at, AreUp}
@@ -40,17 +40,6 @@ gained_then links old now new first second g h = record {
 pub gained_is : (links : List (Option Link)) (old new : List Entry) (text other : List ℕ) → Gained links old new text → text ≡ other
     → Gained links old new other
 gained_is links old new text other g is = subst (Gained links old new) is g
-
--- the text of a child's path
-child_text : (up : Path) (k : ℕ) → path_text (child_path up k) ≡ numbers_text (child_path up k)
-child_text [] k = refl
-child_text (m ∷ up) k = refl
-
-pub name_is : (links : List (Option Link)) (i : ℕ) (l : Link) → AreUp links → link_at links i ≡ Some l
-    → path_text (linked_path links i) ≡ numbers_text (linked_path links i)
-name_is links i l up is =
-    let step = (path_step links i l up is).0 in
-    ap path_text step ∙ child_text (linked_path links l.parent) l.ordinal ∙ sym (ap numbers_text step)
 
 -- ---- what is left
 

@@ -1,22 +1,21 @@
 -- The children in the order of their ordinals, and what a search among them finds.
-use Rattle.std.proofs.Common.{◌≡◌, ◌⊎◌, inl, inr, ℕ, zero, suc, ◌+◌, ◌<◌, ◌≤◌, Bool, true}
-use Rattle.std.proofs.Common.{false, cond, List, [], ◌∷◌, ◌++◌, length, map, All, Option, Some, None}
+use Rattle.std.proofs.Common.{◌≡◌, ◌⊎◌, inl, inr, ℕ, ◌+◌, ◌<◌, ◌≤◌, Bool, true}
+use Rattle.std.proofs.Common.{false, cond, List, [], ◌∷◌, ◌++◌, length, All, Option, Some, None}
 use Rattle.std.proofs.Common.{Result, Ok, Err, refl, sym, ap, ◌∙◌, subst, arith, slice_index_or, lt-ltb, le-ltb, eq-eqb, ne_eqb}
 use Rattle.std.proofs.Common.{Ordering, Less, Equal, Greater}
 use Rattle.std.specs.Prelude.{nat_lt, nat_eq}
 use Rattle.std.specs.List.{Contains, AllWithin, HoldsAt}
-use Rattle.std.specs.List.Sorted.{IsPermutation, IsSorted, IsSearchInRange, IsBinarySearchResult, IsNonDecreasingBy}
-use Rattle.std.specs.Ordering.{nat_cmp, is_lt, ordering_then, ordering_index}
-use Rattle.std.specs.Cmp.{IsTotalOrder, IsStrictWeakOrder}
+use Rattle.std.specs.List.Sorted.{IsPermutation, IsSorted, IsSearchInRange, IsBinarySearchResult}
+use Rattle.std.specs.Ordering.{nat_cmp, is_lt, ordering_then}
+use Rattle.std.specs.Cmp.{IsTotalOrder}
 use Rattle.std.proofs.lemmas.Bool.{cases_eq, cases_lt}
 use Rattle.std.proofs.lemmas.Cmp.{nat_cmp_total, on_total, then_total}
-use Rattle.std.proofs.lemmas.List.{get_or_default}
 use Rattle.std.proofs.lemmas.List.Elements.{All-push, All-contains, Contains-append_left, Contains-push, Contains-get_or}
 use Rattle.std.proofs.lemmas.List.Sorted.{All-permutation, Contains-permutation, ranks_by, searchable_from_sorted, sorted_far}
 use Rattle.cilk_explore_model.specs.agree.spawn.Nodes.{Node, node_at}
 use Rattle.cilk_explore_model.proofs.agree_laws.spawn_laws.Trees.{child_there}
 use Rattle.cilk_view.specs.declared.link.Link.{Link}
-use Rattle.cilk_view.specs.Ups.{link_by, link_of, links_of, link_at}
+use Rattle.cilk_view.specs.Ups.{link_by, links_of, link_at}
 use Rattle.cilk_view.specs.Kin.{Kin, IsKin, AreKin, by_kin, KinSorted, NextChild, NoChild, with_kin, search_end}
 use Rattle.cilk_view.proofs.Ups.{link_there}
 
@@ -121,7 +120,7 @@ equal_bits true c s e = cc
 equal_bits false true s e = (refl, e)
 equal_bits false false s e = cc
 
-less_is : (k l : ℕ) → nat_lt k l ≡ true → k < l
+pub less_is : (k l : ℕ) → nat_lt k l ≡ true → k < l
 less_is k l e =
     elim (cases_lt k l) [
       | inl h ↦ h

@@ -1,20 +1,20 @@
 -- The views of the tree and of the deques, told entry by entry.
-use Rattle.std.proofs.Common.{◌≡◌, ◌<◌, ◌≤◌, ◌+◌, ◌-◌, ℕ, zero, suc, List, [], ◌∷◌, ◌++◌}
+use Rattle.std.proofs.Common.{◌≡◌, ◌<◌, ◌+◌, ◌-◌, ℕ, zero, suc, List, [], ◌∷◌, ◌++◌}
 use Rattle.std.proofs.Common.{length, map, drop, Option, Some, None, IfSome, refl, sym, ap, ◌∙◌, subst, arith}
-use Rattle.std.proofs.Common.{append_assoc, append-nil, slice_index_or, All}
-use Rattle.std.specs.Prelude.{codes, decimal, flat_map, string_bytes, Result, Ok, Err, OnOk, IfOk, option_map, slice_get}
+use Rattle.std.proofs.Common.{append_assoc, append-nil, slice_index_or}
+use Rattle.std.specs.Prelude.{codes, decimal, flat_map, Result, Ok, Err, OnOk, IfOk, option_map, slice_get}
 use Rattle.cilk_explore_model.specs.syntax.Tree.{Program}
 use Rattle.cilk_explore_model.specs.model.Path.{Path, path_text}
-use Rattle.cilk_explore_model.specs.model.Hands.{WorkerOf, no_place, worker_at, deque_of}
+use Rattle.cilk_explore_model.specs.model.Hands.{WorkerOf, no_place, worker_at}
 use Rattle.cilk_explore_model.specs.model.Workers.{hand_text, paths_text}
 use Rattle.cilk_explore_model.specs.agree.frame.Frames.{Frame}
 use Rattle.cilk_explore_model.specs.agree.spawn.Nodes.{Node, node_at, path_at, IsTree, IsBelow}
 use Rattle.cilk_explore_model.specs.agree.Agrees.{name_in}
 use Rattle.cilk_view.specs.declared.link.Link.{Link}
 use Rattle.cilk_view.specs.declared.entry.Entry.{Entry}
-use Rattle.cilk_view.specs.Ups.{link_of, links_of, linked_path, AreUp}
+use Rattle.cilk_view.specs.Ups.{links_of, linked_path, AreUp}
 use Rattle.cilk_view.specs.Entries.{entries_text, NamesWithin, Gained}
-use Rattle.cilk_view.specs.Trees.{state_by, line_by, TellsLines}
+use Rattle.cilk_view.specs.Trees.{line_by, TellsLines}
 use Rattle.cilk_view.specs.Following.{all_paths, beyond, from_here}
 use Rattle.cilk_view.specs.WhereLines.{by_worker, deque_line, queued_text}
 use Rattle.cilk_view.proofs.Ups.{path_is, are_up}

@@ -1,5 +1,5 @@
 -- What an error of the command line tells of the words.
-use Rattle.std.proofs.Common.{◌≡◌, ◌⊎◌, ◌||◌, ◌&&◌, ◌∙◌, inl, inr, refl, sym, ap, Bool, true, false, List, [], ◌∷◌, Option, Some, None}
+use Rattle.std.proofs.Common.{◌≡◌, ◌⊎◌, ◌||◌, ◌&&◌, ◌∙◌, inl, inr, refl, sym, ap, Bool, true, false, List, [], ◌∷◌, Option, None}
 use Rattle.std.specs.List.{list_all, list_any}
 use Rattle.std.proofs.Math.Bool.{or-true}
 use Rattle.clap.specs.Kinds.{IsAmong, Kinds}
@@ -8,7 +8,7 @@ use Rattle.clap.specs.declared.error.kind.ErrorKind.{ErrorKind}
 use Rattle.clap.specs.declared.error.kind.ErrorKind.TheVariants.{OutOfMemory}
 use Rattle.cilk_words.specs.declared.refusal.NoRequest.{NoRequest}
 use Rattle.cilk_words.specs.declared.refusal.NoRequest.TheVariants as refusal
-use Rattle.cilk_words.specs.CommandLine.{Asked, asked, command_line, clash_of, request_of_any, unless_fault, wished}
+use Rattle.cilk_words.specs.CommandLine.{asked, command_line, unless_fault, wished}
 use Rattle.cilk_words.specs.Refusing.{IsNoRequest, TellsOf, are_shown, is_help, is_shown, is_version}
 
 nothing_asked : (kinds : Kinds) (sub : Option (Text × List Row)) (k : ErrorKind) → IsAmong k kinds → unless_fault kinds sub ≡ None
@@ -51,8 +51,3 @@ told words k (refusal.Usage text) (inr among) tells =
     (asks_nothing words (nothing_asked _ (subcommand_of command_line words) k among), not_shown k _ among tells.0)
 
 -- ---- words without a fault
-
--- they ask for what was found, unless its words do not go together
-pub asks : (words : List Text) (a : Asked) → fault_of command_line words ≡ [] → Some a ≡ request_of_any (subcommand_of command_line words) → clash_of a ≡ None
-    → asked words ≡ Some a
-asks words a no_fault found no_clash = rw (no_fault, ← found, no_clash) refl

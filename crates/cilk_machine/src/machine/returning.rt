@@ -8,7 +8,7 @@ use super::Machine;
 use crate::checkpoint::{Checkpoint, outcome_copy};
 use crate::keeping::make_room;
 use cilk_machine_choices::Memory;
-use cilk_machine_undo::{Moment, PartsImage};
+use cilk_machine_undo::Moment;
 use std::mem::replace;
 
 impl Machine {
@@ -52,44 +52,6 @@ impl Machine {
                         self.choices = checkpoint.choices;
                         Ok(())
                     }
-                },
-            },
-        }
-    }
-
-    /// Stands as the other does, which is a machine of the same program. There are no records then, and they go on being kept, if they were.
-    /// Where memory has run out, nothing has changed.
-    pub fn stand_as(&mut self, other: &Machine) -> Result<(), Memory>
-        requires { other.now.program ≡ self.old.program }
-        ensures there { OnOk result (self.new ≡ without_past self.old.keeps other.now) }
-        ensures same { OnErr result (self.new ≡ self.old) }
-    {
-        match make_room(self.keeps, &mut self.records) {
-            Err(memory) => Err(memory),
-            Ok(()) => match outcome_copy(self.alloc, &other.outcome) {
-                Err(memory) => Err(memory),
-                Ok(outcome) => match PartsImage::of(&other.parts) {
-                    Err(memory) => {
-                        drop(outcome);
-                        Err(memory)
-                    }
-                    Ok(image) => match image.parts() {
-                        Err(memory) => {
-                            drop(outcome);
-                            drop(image);
-                            Err(memory)
-                        }
-                        Ok(parts) => {
-                            self.records.clear();
-                            drop(image);
-                            drop(replace(&mut self.parts, parts));
-                            drop(replace(&mut self.outcome, outcome));
-                            self.workers = other.workers;
-                            self.trapper = other.trapper;
-                            self.choices = other.choices;
-                            Ok(())
-                        }
-                    },
                 },
             },
         }

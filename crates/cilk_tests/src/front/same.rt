@@ -1,7 +1,7 @@
 //! Programs that are the same, places aside, and such that are not.
 
 use super::program;
-use cilk_tree_alike::Same;
+use crate::alike::Same;
 use std::alloc::Global;
 use std::process::Abort;
 

@@ -8,7 +8,7 @@ use cilk_eval::{
     Area, Code, CodeNode, Slot, Slots, Trap, apply, eval, quotients_are_rounded, unary,
     value_is_of_what_is_read,
 };
-use cilk_tree_alike::{BinOp, UnOp};
+use cilk_tree_syntax::{BinOp, UnOp};
 use std::alloc::Global;
 use std::process::Abort;
 

@@ -1,4 +1,4 @@
-use Rattle.std.proofs.Common.{◌≡◌, ◌<◌, ◌≤◌, ℕ, length, refl, arith}
+use Rattle.std.proofs.Common.{◌≡◌, length, refl, arith}
 use Rattle.std.proofs.lemmas.List.{ext_get_or}
 use Rattle.cilk_frame.specs.Frames.{no_activation}
 use Rattle.cilk_frame.proofs.activation.are_same.Goals as goal

@@ -1,9 +1,8 @@
-use Rattle.std.proofs.Common.{option_copied, ap, sym, ◌∙◌, subst}
+use Rattle.std.proofs.Common.{option_copied, sym, ◌∙◌, subst}
 use Rattle.cilk_machine_undo.specs.plans.Ready.{frame_in}
 use Rattle.cilk_machine_undo.specs.plans.Spends.{Spends}
 use Rattle.cilk_machine_undo.proofs.plans_laws.Holds.{there}
 use Rattle.cilk_machine_carry.proofs.Whole.{hand-there}
-use Rattle.cilk_machine_undo.specs.Words.{undo_with}
 use Rattle.cilk_machine.proofs.Callers.{caller-there}
 use Rattle.cilk_machine.proofs.Undoes.{undoes}
 use Rattle.cilk_machine.proofs.carrying.carry_out_noted.Goals as goal

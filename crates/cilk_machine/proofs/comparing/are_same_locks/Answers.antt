@@ -1,4 +1,4 @@
-use Rattle.std.proofs.Common.{◌≡◌, ◌<◌, ℕ, length, refl, arith, sym, ap, ◌∙◌, below_more}
+use Rattle.std.proofs.Common.{◌≡◌, length, refl, arith, sym, ap, ◌∙◌, below_more}
 use Rattle.std.proofs.lemmas.List.{get_or_read}
 use Rattle.cilk_machine_undo.specs.spawn.Nodes.{path_at}
 use Rattle.cilk_machine_undo.specs.agree.Outside.{lock_by}

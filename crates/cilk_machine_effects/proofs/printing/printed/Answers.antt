@@ -1,4 +1,4 @@
-use Rattle.std.proofs.Common.{◌≡◌, ◌∷◌, ◌++◌, nat_eq, false}
+use Rattle.std.proofs.Common.{false}
 use Rattle.cilk_machine_effects.proofs.Printed.{byte-put, percent-put}
 use Rattle.cilk_machine_effects.proofs.printing.printed.Goals as goal
 

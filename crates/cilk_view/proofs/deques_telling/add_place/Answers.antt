@@ -1,5 +1,3 @@
-use Rattle.std.proofs.Common.{ap, ◌∙◌, ◌++◌}
-use Rattle.std.specs.Prelude.{codes, decimal}
 use Rattle.cilk_explore_model.specs.model.Hands.{worker_at}
 use Rattle.cilk_view.proofs.Tellings.{line_gained}
 use Rattle.cilk_view.proofs.deques_telling.add_place.Goals as goal

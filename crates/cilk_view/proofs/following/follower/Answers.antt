@@ -1,4 +1,4 @@
-use Rattle.std.proofs.Common.{◌≡◌, ◌∙◌, sym, ap, subst, refl}
+use Rattle.std.proofs.Common.{subst, refl}
 use Rattle.cilk_explore_model.proofs.agree_laws.spawn_laws.Trees.{child_there}
 use Rattle.cilk_explore_model.proofs.agree_laws.spawn_laws.Children.{parent_in}
 use Rattle.cilk_view.proofs.Ahead.{Walks, walk_starts, walk_climbs, walk_finds, walk_ends}

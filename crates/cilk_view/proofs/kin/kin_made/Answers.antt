@@ -1,6 +1,5 @@
-use Rattle.std.proofs.Common.{◌≡◌, List, ap, sym, ◌∙◌, arith, length}
-use Rattle.cilk_explore_model.specs.agree.spawn.Nodes.{Node}
-use Rattle.cilk_view.specs.Ups.{links_of, link_at}
+use Rattle.std.proofs.Common.{ap, sym, ◌∙◌}
+use Rattle.cilk_view.specs.Ups.{link_at}
 use Rattle.cilk_view.proofs.Kins.{kin_next}
 use Rattle.cilk_view.proofs.kin.kin_made.Goals as goal
 

@@ -1,4 +1,4 @@
-use Rattle.std.proofs.Common.{◌≡◌, ◌+◌, ◌∙◌, sym, ap, subst, arith}
+use Rattle.std.proofs.Common.{◌+◌, ◌∙◌, sym, subst}
 use Rattle.cilk_view.specs.Kin.{NextChild}
 use Rattle.cilk_view.proofs.Kins.{Found, found_by, child_found, other_found, none_found}
 use Rattle.cilk_view.proofs.kin.next_child.Goals as goal

@@ -1,4 +1,4 @@
-use Rattle.std.proofs.Common.{◌≡◌, ◌<◌, ◌∙◌, Some, [], ◌∷◌, sym, ap, arith, length, length-append}
+use Rattle.std.proofs.Common.{◌<◌, ◌∙◌, Some, [], ◌∷◌, ap, arith, length, length-append}
 use Rattle.cilk_view.proofs.Ups.{path_step}
 use Rattle.cilk_view.proofs.Entries.{up_more, link_is}
 use Rattle.cilk_view.proofs.spot.climb.Goals as goal

@@ -1,4 +1,4 @@
-use Rattle.std.proofs.Common.{◌≡◌, ◌+◌, ◌-◌, ◌<◌, ◌++◌, ◌∙◌, sym, ap, subst, arith, length, take, drop}
+use Rattle.std.proofs.Common.{◌+◌, ◌-◌, ◌<◌, ◌++◌, ◌∙◌, sym, ap, subst, arith, length, take, drop}
 use Rattle.cilk_view.specs.Entries.{rest_text, left_text}
 use Rattle.cilk_view.proofs.Entries.{entry_there, bytes_split, bytes_told, done_told, none_told, less_by_bytes, less_by_entry}
 use Rattle.cilk_view.proofs.spot.tell_text.Goals as goal

@@ -1,4 +1,4 @@
-use Rattle.std.proofs.Common.{◌≡◌, ◌++◌, ap, ◌∙◌}
+use Rattle.std.proofs.Common.{◌++◌, ap}
 use Rattle.cilk_explore_model.specs.model.Path.{path_text}
 use Rattle.cilk_explore_model.specs.agree.spawn.Nodes.{path_at}
 use Rattle.cilk_view.proofs.Tellings.{link_within, named_is, state_put}

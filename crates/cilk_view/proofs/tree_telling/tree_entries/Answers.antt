@@ -1,5 +1,4 @@
-use Rattle.std.proofs.Common.{◌≡◌, ◌<◌, ◌++◌, length, ap, ◌∙◌, sym, refl, Some}
-use Rattle.std.specs.Prelude.{IfSome}
+use Rattle.std.proofs.Common.{length}
 use Rattle.std.proofs.lemmas.Option.{IfSome_then}
 use Rattle.cilk_view.specs.Entries.{entries_text}
 use Rattle.cilk_view.proofs.Tellings.{links_up, none_named, first_there, begun_told, told_more, fewer, here_there, told_all}

@@ -1,4 +1,4 @@
-use Rattle.std.proofs.Common.{map, sym, subst}
+use Rattle.std.proofs.Common.{◌%◌, ◌∙◌, length, map, ap, sym, subst}
 use Rattle.std.proofs.lemmas.List.{length-map}
 use Rattle.cilk_debug_console.specs.choices.Words.{choice_of}
 use Rattle.cilk_log_replay.specs.Tape.{tape_of}
@@ -12,6 +12,7 @@ invariant_of-result c =
     let t = tape_of c.args.program c.args.log.workers choices in
     record {
       goes = c.in-Ok-machines.ensures.goes (map choice_of choices);
+      full = ap length c.in-Ok-machines.ensures.none ∙ sym (ap (λ k. k % 1000) c.in-Ok-machines.ensures.start);
       spare = c.in-Ok-machines.ensures.spare (map choice_of choices);
       track = subst (λ n. IsTrack t n track.last track.checkpoints.items track.actions.items) (sym (length-map choices choice_of)) c.in-Ok.ensures.track;
     }

@@ -6,7 +6,7 @@ use Rattle.cilk_log_replay.specs.Going.{Goes}
 use Rattle.cilk_debug.specs.Playing.{Playing}
 use Rattle.cilk_log_replay.specs.Tape.{tape_of}
 use Rattle.cilk_debug.proofs.Restores.{kept-at, was-there, put-goes, put-at, put-none}
-use Rattle.cilk_debug.proofs.Ways.{home-before, played}
+use Rattle.cilk_debug.proofs.Ways.{home-before, played, full-at}
 use Rattle.cilk_debug.proofs.player.Player.start_over.Goals as goal
 
 pub return_to-requires : goal.return_to-requires
@@ -48,6 +48,7 @@ invariant_of-self-in-Err-go_along c =
     c.in-Ok.ensures.back in
     record {
       goes = c.self.invariant.goes;
+      full = c.self.invariant.full;
       spare = c.in-Err-go_along.ensures.goes t (ap (map choice_of) (sym c.as_slice.ensures)) put;
       track = c.self.invariant.track;
     }
@@ -64,9 +65,17 @@ invariant_of-self-in-Ok-go_along c =
     within c.deref.result.now c.deref.ensures.value c.in-Some.checkpoint.now _ c.in-Some.ensures.lookup.1 in
     let put = put-goes t (1000 * (c.args.k / 1000)) p.track.last p.spare c.return_to.new.self c.in-Some.checkpoint.now h c.self.invariant.spare within
     c.in-Ok.ensures.back in
+    let at = put-at t (1000 * (c.args.k / 1000)) p.track.last p.spare c.return_to.new.self c.in-Some.checkpoint.now h c.self.invariant.spare within
+    c.in-Ok.ensures.back in
+    let none = put-none t (1000 * (c.args.k / 1000)) p.track.last p.spare c.return_to.new.self c.in-Some.checkpoint.now h c.self.invariant.spare within
+    c.in-Ok.ensures.back in
+    let left = c.in-Ok-go_along.ensures.left put.keeps in
+    let before = home-before c.args.k in
+    let kept : length c.go_along.new.machine.past ≡ c.args.k % 1000 = omega (arith, left, at, none, before) in
     let went = c.in-Ok-go_along.ensures.goes t (ap (map choice_of) (sym c.as_slice.ensures)) put in
     record {
       goes = subst (Goes t) (sym c.swap.ensures.y_after) went;
+      full = full-at c.go_along.new.machine c.swap.new.y c.args.k c.swap.ensures.y_after c.in-Ok-go_along.ensures.there kept;
       spare = subst (Goes t) (sym c.swap.ensures.x_after) c.self.invariant.goes;
       track = c.self.invariant.track;
     }

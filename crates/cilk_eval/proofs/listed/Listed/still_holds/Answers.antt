@@ -1,4 +1,4 @@
-use Rattle.std.proofs.Common.{◌≡◌, ◌∙◌, List, ap, map, option_map, subst, sym}
+use Rattle.std.proofs.Common.{◌≡◌, ◌∙◌, List, ap, map, option_map, sym}
 use Rattle.cilk_load_nodes.specs.labelled.Term.{Term}
 use Rattle.cilk_eval.specs.declared.known.Known.{Known}
 use Rattle.cilk_load_nodes.specs.declared.slot.Slot.{Slot}

@@ -1,7 +1,7 @@
 use Rattle.std.proofs.Common.{◌≡◌, ◌+◌, ◌++◌, length, drop, vec_len, sym, ap, subst, ◌∙◌, arith, length-append}
 use Rattle.std.proofs.lemmas.List.{at_drop_more}
 use Rattle.cilk_load_names.specs.syntax.Tree as tree
-use Rattle.cilk_load_names.specs.syntax.Tree.{Word, locals_of}
+use Rattle.cilk_load_names.specs.syntax.Tree.{locals_of}
 use Rattle.cilk_load_names.specs.syntax.StmtView.{local_of}
 use Rattle.cilk_load_names.specs.labelled.Count.{count_locals}
 use Rattle.cilk_load_names.specs.labelled.Label.{local_variables, locals_variables}

@@ -1,4 +1,4 @@
-use Rattle.std.proofs.Common.{ap, sym, ◌∙◌, length, vec_len, vec_capacity, true, arith}
+use Rattle.std.proofs.Common.{ap, sym, ◌∙◌, length, vec_len, vec_capacity, true}
 use Rattle.cilk_machine_undo.specs.agree.Agrees.{MachineParts}
 use Rattle.cilk_machine.specs.Checkpoints.{Image}
 use Rattle.cilk_machine.specs.Pasts.{kept_of}

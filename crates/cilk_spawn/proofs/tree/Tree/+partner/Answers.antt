@@ -1,4 +1,4 @@
-use Rattle.std.proofs.Common.{◌≡◌, ◌<◌, ℕ, length, refl}
+use Rattle.std.proofs.Common.{◌≡◌, ◌<◌, length, refl}
 use Rattle.cilk_spawn.specs.Nodes.{path_at}
 use Rattle.cilk_spawn.proofs.Finds.{near}
 use Rattle.cilk_spawn.proofs.Compared.{partner_told, first_of, second_of}

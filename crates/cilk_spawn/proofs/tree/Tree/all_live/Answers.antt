@@ -1,4 +1,4 @@
-use Rattle.std.proofs.Common.{◌≡◌, ◌<◌, ℕ, true, length, refl, arith, below_more, slice_index_or}
+use Rattle.std.proofs.Common.{refl, arith, below_more}
 use Rattle.cilk_spawn.specs.Alike.{LivesAs}
 use Rattle.cilk_spawn.proofs.Compared.{living_there, each_living, place_more}
 use Rattle.cilk_spawn.proofs.tree.Tree.all_live.Goals as goal

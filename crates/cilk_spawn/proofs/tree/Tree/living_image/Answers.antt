@@ -1,4 +1,4 @@
-use Rattle.std.proofs.Common.{◌∙◌, refl, sym}
+use Rattle.std.proofs.Common.{◌∙◌, refl}
 use Rattle.cilk_spawn.proofs.Living.{living-made, living-is}
 use Rattle.cilk_spawn.proofs.Written.{nodes_are}
 use Rattle.cilk_spawn.proofs.tree.Tree.living_image.Goals as goal

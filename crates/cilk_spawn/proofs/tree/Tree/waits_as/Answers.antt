@@ -1,4 +1,4 @@
-use Rattle.std.proofs.Common.{◌≡◌, ◌<◌, ℕ, length, arith, refl, below_more}
+use Rattle.std.proofs.Common.{◌≡◌, length, arith, refl, below_more}
 use Rattle.cilk_spawn.specs.Nodes.{node_at}
 use Rattle.cilk_spawn.proofs.Compared.{waiting_is}
 use Rattle.cilk_spawn.proofs.tree.Tree.waits_as.Goals as goal

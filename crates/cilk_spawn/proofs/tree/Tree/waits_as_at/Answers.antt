@@ -1,4 +1,4 @@
-use Rattle.std.proofs.Common.{◌≡◌, ◌<◌, ◌∙◌, ℕ, length, arith, refl, sym, ap, slice_get}
+use Rattle.std.proofs.Common.{◌∙◌, refl, sym, ap, slice_get}
 use Rattle.cilk_spawn.specs.Nodes.{Node}
 use Rattle.cilk_spawn.proofs.Finds.{near}
 use Rattle.cilk_spawn.proofs.Compared.{delivery_is, node_told, tree_told}
