@@ -9,10 +9,9 @@ ghost use Rattle.cilk_machine_undo.specs.Words.{undo_by, machine_in};
 
 use cilk_machine_carry::{carry_lightly, carry_out};
 use cilk_machine_undo::{
-    Body, Did, Done, Light, NoMemory, Outcome, Parts, Plan, Spent, Undo, depth_in_hand, fill, note,
+    Body, Did, Done, Light, NoMemory, Outcome, Parts, Plan, Undo, depth_in_hand, fill, note,
     note_lightly,
 };
-use std::mem;
 
 /// Carries out the light plan as `carry_lightly` does, and answers the record of the step. Where memory has run out, nothing has
 /// changed.
@@ -33,10 +32,10 @@ pub(crate) fn carry_lightly_noted(
     let _depth = depth_in_hand(worker, &parts.hands);
     match note_lightly(worker, &light, parts) {
         Err(_) => Err(NoMemory),
-        Ok(undo) => {
+        Ok(mut undo) => {
             let did = carry_lightly(worker, light, choice, parts);
-            let spent = mem::replace(&mut parts.spent, Spent::Nothing);
-            Ok((did, fill(undo, spent)))
+            fill(&mut undo, &mut parts.spent);
+            Ok((did, undo))
         }
     }
 }
@@ -60,11 +59,11 @@ pub(crate) fn carry_out_noted(
     let _depth = depth_in_hand(worker, &parts.hands);
     match note(worker, &plan, parts) {
         Err(_) => Err(NoMemory),
-        Ok(undo) => match carry_out(worker, plan, body, choice, parts) {
+        Ok(mut undo) => match carry_out(worker, plan, body, choice, parts) {
             Err(_) => Err(NoMemory),
             Ok(done) => {
-                let spent = mem::replace(&mut parts.spent, Spent::Nothing);
-                Ok((done, fill(undo, spent)))
+                fill(&mut undo, &mut parts.spent);
+                Ok((done, undo))
             }
         },
     }

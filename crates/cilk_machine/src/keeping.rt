@@ -1,9 +1,12 @@
 //! The records of a machine: steps whose records are kept, and those of frames that came to a hand.
 
-ghost use Rattle.std.specs.Prelude.{◌≡◌, ◌<◌, ◌≤◌, ◌+◌, ◌∷◌, [], true, None, vec_len, vec_capacity, IfNone, IfOk, IfSome, OnErr, OnOk};
+ghost use Rattle.std.specs.Prelude.{◌≡◌, ◌<◌, ◌≤◌, ◌+◌, ◌∷◌, [], true, false, None, Some, vec_len, vec_capacity, IfNone, IfOk, IfSome, OnErr, OnOk};
 ghost use Rattle.std.specs.Option.{option_copied};
+ghost use Rattle.cilk_machine_choices.specs.model.Hands.{IsWorker, hand_of};
 ghost use Rattle.cilk_machine_undo.specs.plans.Words.{plan_of};
+ghost use Rattle.cilk_machine_undo.specs.plans.Ready.{frame_in};
 ghost use Rattle.cilk_machine_carry.specs.Carries.{Becomes, CanCarry, Carries};
+ghost use Rattle.cilk_machine_undo.specs.Records.{undo_of};
 ghost use Rattle.cilk_machine_undo.specs.Undo.{popped, stolen};
 ghost use Rattle.cilk_machine_undo.specs.Words.{undo_by, machine_in};
 ghost use Rattle.cilk_machine.specs.Situation.{kept_by};
@@ -11,9 +14,12 @@ ghost use Rattle.cilk_machine.specs.Pasts.{kept_of};
 ghost use Rattle.cilk_machine.specs.Kept.{Adds};
 
 use crate::carrying::{carry_lightly_noted, carry_out_noted};
+use cilk_machine_carry::carry_lightly;
 use cilk_machine_choices::Memory;
 use cilk_machine_step::{Light, Plan};
-use cilk_machine_undo::{Body, Did, Done, NoMemory, Outcome, Parts, Undo};
+use cilk_machine_undo::{
+    Body, Did, Done, NoMemory, Outcome, Parts, Undo, depth_in_hand, note_go, note_write,
+};
 use std::alloc::Global;
 
 // As many frames may come to a hand before the next step, which makes room again: a pop and a steal take no memory.
@@ -67,12 +73,51 @@ pub(crate) fn carry_lightly_kept(
     if records.reserve(WORKERS + 1).is_err() {
         return Err(NoMemory);
     }
+    // Brings its clauses into the proof.
+    let _depth = depth_in_hand(worker, &parts.hands);
+    if keep_small(worker, &light, parts, records) {
+        return Ok(carry_lightly(worker, light, choice, parts));
+    }
     match carry_lightly_noted(worker, light, choice, parts) {
         Err(_) => Err(NoMemory),
         Ok((did, undo)) => {
             put_last(records, undo);
             Ok(did)
         }
+    }
+}
+
+// Keeps the record of the step of a light plan, for which there is room, if no box is wanted for it and the step moves nothing out of the machine: where
+// it only goes on, or writes to a cell. These are most steps, and so their records are made where they stay.
+#[inline(always)]
+fn keep_small(worker: u8, light: &Light, parts: &Parts, records: &mut Vec<Undo>) -> bool
+    requires worker { IsWorker parts.now.hands worker }
+    requires held { hand_of parts.now.hands worker ≡ Some (frame_in parts.now.hands worker) }
+    requires room { vec_len records.old < vec_capacity records.old }
+    ensures kept { result ≡ true → kept_of records.new.items
+        ≡ undo_of (machine_in parts.now) worker (frame_in parts.now.hands worker) (plan_of light.now) ∷ kept_of records.old.items }
+    ensures count { vec_len records.new ≤ vec_len records.old + 1 }
+    ensures capacity { vec_capacity records.new ≡ vec_capacity records.old }
+    ensures same { result ≡ false → records.new ≡ records.old }
+{
+    match parts.hands.hand(worker) {
+        None => unreachable!(),
+        Some(frame) => match *light {
+            Light::Go { n: _, to: _ } => {
+                put_last(records, note_go(worker, frame));
+                true
+            }
+            Light::Write {
+                n: _,
+                reached,
+                value: _,
+                to: _,
+            } => {
+                put_last(records, note_write(worker, frame, reached, parts));
+                true
+            }
+            _ => false,
+        },
     }
 }
 

@@ -5,36 +5,26 @@ ghost use Rattle.cilk_machine_undo.specs.Words.{undo_by, undo_with, activation_w
 
 use crate::undo::{Ended, Undo};
 use cilk_machine_plan::{Activation, Spent};
+use std::mem;
 
-/// The record of a step, with what the step moved out of the machine.
-pub fn fill(undo: Undo, spent: Spent) -> Undo
-    ensures { undo_by result ≡ undo_with undo spent }
+/// Puts into the record of a step what the step moved out of the machine, where it has room for that.
+pub fn fill(undo: &mut Undo, spent: &mut Spent)
+    ensures { undo_by undo.new ≡ undo_with undo.old spent.old }
 {
     match undo {
         Undo::Closed {
-            mut activation,
-            worker,
-        } => {
-            put_activation(activation.as_mut(), spent);
-            Undo::Closed { activation, worker }
-        }
+            activation,
+            worker: _,
+        } => put_activation(activation.as_mut(), mem::replace(spent, Spent::Nothing)),
         Undo::Answered {
-            mut activation,
-            writing,
-            worker,
-        } => {
-            put_activation(activation.as_mut(), spent);
-            Undo::Answered {
-                activation,
-                writing,
-                worker,
-            }
+            activation,
+            writing: _,
+            worker: _,
+        } => put_activation(activation.as_mut(), mem::replace(spent, Spent::Nothing)),
+        Undo::Ended { gone, worker: _ } => {
+            put_instance(&mut gone.ended, mem::replace(spent, Spent::Nothing))
         }
-        Undo::Ended { mut gone, worker } => {
-            put_instance(&mut gone.ended, spent);
-            Undo::Ended { gone, worker }
-        }
-        other => other,
+        _ => {}
     }
 }
 

@@ -29,6 +29,7 @@ pub use growth_laws::{
 pub use laws::{moves_are_undone, plans_are_undone, plans_can_be_undone};
 pub use moment::Moment;
 pub use moment_laws::moments_are_told;
+pub use notes::{note_go, note_write};
 pub use noting::{note, note_lightly};
 pub use parts_image::PartsImage;
 pub use reading::depth_in_hand;

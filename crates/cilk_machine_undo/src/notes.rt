@@ -17,7 +17,8 @@ use crate::reading::{held_below, held_in, is_sent, lock_at, next_taken, stood_in
 use crate::undo::{Gone, Undo};
 use cilk_machine_plan::{Frame, NoMemory, Parts, Reached, Writing};
 
-pub(crate) fn note_go(worker: u8, frame: &Frame) -> Undo
+/// The record of a step by which the instance only goes on.
+pub fn note_go(worker: u8, frame: &Frame) -> Undo
     ensures { (m : MachineParts) (n to : ℕ) → Notes m worker frame.now (plans.Go n to) result }
 {
     Undo::Went {
@@ -25,7 +26,8 @@ pub(crate) fn note_go(worker: u8, frame: &Frame) -> Undo
     }
 }
 
-pub(crate) fn note_write(worker: u8, frame: &Frame, reached: Reached, parts: &Parts) -> Undo
+/// The record of a step that writes to a cell.
+pub fn note_write(worker: u8, frame: &Frame, reached: Reached, parts: &Parts) -> Undo
     ensures { (n to : ℕ) (z : ℤ) → Notes (machine_in parts.now) worker frame.now (plans.Write n reached z to) result }
 {
     let value = held_in(frame, parts.globals.as_slice(), reached);

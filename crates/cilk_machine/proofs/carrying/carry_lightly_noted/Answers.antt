@@ -1,8 +1,7 @@
-use Rattle.std.proofs.Common.{None, sym, ◌∙◌, subst}
+use Rattle.std.proofs.Common.{None, ◌∙◌}
 use Rattle.cilk_machine_undo.specs.plans.Words.{plan_of}
 use Rattle.cilk_machine_undo.specs.plans.declared.did.Outcome.TheVariants.{Running}
 use Rattle.cilk_machine_undo.specs.plans.Ready.{frame_in}
-use Rattle.cilk_machine_undo.specs.plans.Spends.{Spends}
 use Rattle.cilk_machine_undo.proofs.plans_laws.Holds.{there}
 use Rattle.cilk_machine_carry.proofs.Whole.{hand-there}
 use Rattle.cilk_machine.proofs.Callers.{caller-there}
@@ -20,8 +19,7 @@ returns-in-Ok-clause-undoes c =
     let x = (plan_of c.args.light) in
     let f = frame_in parts.hands w in
     let held = there parts.hands w c.requires.in_hand.frame (hand-there c.args.choice parts w body x c.requires.in_hand c.requires.planned) in
-    let spends = subst (Spends parts.tree.nodes f x) (sym c.replace-spent.ensures.value) (c.carry_lightly-did.ensures.spent f held) in
-    let is = c.fill.ensures ∙ c.in-Ok.ensures c.replace-spent.result spends in
+    let is = c.fill.ensures ∙ c.in-Ok.ensures c.carry_lightly-did.new.parts.spent (c.carry_lightly-did.ensures.spent f held) in
     undoes c.args.choice parts w body x c.requires f held c.depth_in_hand-depth.ensures.some c.depth_in_hand-depth.ensures.limit
-    (record c.carry_lightly-did.new.parts { spent = c.replace-spent.new.dest })
+    (record c.carry_lightly-did.new.parts { spent = c.fill.new.spent })
     (record { outcome = Running; did = c.carry_lightly-did.result }) _ c.carry_lightly-did.ensures.becomes is

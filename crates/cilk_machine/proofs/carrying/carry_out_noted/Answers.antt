@@ -1,6 +1,5 @@
-use Rattle.std.proofs.Common.{option_copied, sym, ◌∙◌, subst}
+use Rattle.std.proofs.Common.{option_copied, ◌∙◌}
 use Rattle.cilk_machine_undo.specs.plans.Ready.{frame_in}
-use Rattle.cilk_machine_undo.specs.plans.Spends.{Spends}
 use Rattle.cilk_machine_undo.proofs.plans_laws.Holds.{there}
 use Rattle.cilk_machine_carry.proofs.Whole.{hand-there}
 use Rattle.cilk_machine.proofs.Callers.{caller-there}
@@ -18,7 +17,6 @@ returns-in-Ok-carry_out-clause-undoes c =
     let x = c.args.plan in
     let f = frame_in parts.hands w in
     let held = there parts.hands w c.requires.in_hand.frame (hand-there c.args.choice parts w body x c.requires.in_hand c.requires.planned) in
-    let spends = subst (Spends parts.tree.nodes f x) (sym c.replace-spent.ensures.value) (c.in-Ok-carry_out.ensures.spent f held) in
-    let is = c.fill.ensures ∙ c.in-Ok.ensures c.replace-spent.result spends in
+    let is = c.fill.ensures ∙ c.in-Ok.ensures c.carry_out.new.parts.spent (c.in-Ok-carry_out.ensures.spent f held) in
     undoes c.args.choice parts w body x c.requires f held c.depth_in_hand-depth.ensures.some c.depth_in_hand-depth.ensures.limit
-    (record c.carry_out.new.parts { spent = c.replace-spent.new.dest }) c.in-Ok-carry_out.done _ c.in-Ok-carry_out.ensures.becomes is
+    (record c.carry_out.new.parts { spent = c.fill.new.spent }) c.in-Ok-carry_out.done _ c.in-Ok-carry_out.ensures.becomes is
