@@ -78,7 +78,7 @@ edge: libraries
 budget:
 	tools/gate_budget
 
-# Measures ./cilk print beside gcc, run and replay beside ocamldebug, logs beside sha256sum, explore beside SPIN, and runs by several workers.
+# Measures ./cilk print beside gcc, run and replay beside ocamldebug, logs beside sha256sum, explore beside SPIN, races, and runs by several workers.
 bench: cilk
 	tools/bench ./cilk
 	tools/bench_runs ./cilk
@@ -86,6 +86,7 @@ bench: cilk
 	tools/bench_workers ./cilk
 	tools/bench_logs ./cilk
 	tools/bench_explore ./cilk
+	tools/bench_races ./cilk
 
 # Removes the program and all that was proved.
 clean:

@@ -1,8 +1,8 @@
 -- Two accesses that were kept make the pair of the definition.
-use Rattle.std.proofs.Common.{◌≡◌, ◌<◌, ℕ, Bool, true, false, not, List, [], ◌∷◌, ◌++◌, length, map, Option, Some, None, option_map, refl, sym, ap, ◌∙◌}
+use Rattle.std.proofs.Common.{◌≡◌, ◌<◌, ℕ, Bool, true, false, not, List, [], ◌∷◌, length, map, Option, Some, None, option_map, refl, sym, ap, ◌∙◌}
 use Rattle.std.proofs.Common.{if◌then◌else◌}
 use Rattle.std.specs.Prelude.{filter, slice_index_or}
-use Rattle.std.proofs.lemmas.List.{get_or-map, map-append}
+use Rattle.std.proofs.lemmas.List.{get_or-map}
 use Rattle.cilk_measure.specs.model.labelled.Labelled.{Labelled}
 use Rattle.cilk_measure.specs.model.Event.{Event}
 use Rattle.cilk_races.specs.declared.pairing.Pair as kept
@@ -11,13 +11,13 @@ use Rattle.cilk_races.specs.Line.{Line}
 use Rattle.cilk_races.specs.declared.touch.Touch as touched
 use Rattle.cilk_races.specs.Kept.{Blocked}
 use Rattle.cilk_races.specs.Order.{Relation, relation_of}
-use Rattle.cilk_races.specs.Paired.{between, no_touch, pair_of, pairs_told, touches_of, unless_ordered, with_earlier}
+use Rattle.cilk_races.specs.Paired.{between, no_touch, pair_of, touches_of, unless_ordered, with_earlier}
 use Rattle.cilk_races.specs.Races.{Touch, Pair, meet, is_ordered, paired}
 use Rattle.cilk_races.specs.PairWords.{relation_named, touch_of}
 use Rattle.cilk_races.proofs.Related.{relation-is}
 
 -- the pair of these two, if there is one
-abbrev made : Touch → Touch → Option Relation → List Pair
+abbrev pub made : Touch → Touch → Option Relation → List Pair
 made a b None = []
 made a b (Some r) = record { first = a; second = b; relation = r } ∷ []
 
@@ -26,10 +26,10 @@ kept_as first second None = []
 kept_as first second (Some r) = record { first = first; second = second; relation = r } ∷ []
 
 module _ (program : Labelled) (events : List Event) where
-  abbrev related : Touch → Touch → Option Relation
+  abbrev pub related : Touch → Touch → Option Relation
   related a b = if meet a b then unless_ordered (relation_of program events a.placed b.placed) else None
 
-  one-is : (a b : Touch) → with_earlier program events (a ∷ []) b ≡ made a b (related a b)
+  pub one-is : (a b : Touch) → with_earlier program events (a ∷ []) b ≡ made a b (related a b)
   one-is a b = by (meet a b)
     where
       left : (ordered : Bool)
@@ -63,7 +63,7 @@ module _ (program : Labelled) (events : List Event) where
     told None = refl
     told (Some r) = refl
 
-    pair-is : with_earlier program events (one ∷ []) other ≡ map (pair_of rows touches) (kept_as first second o)
+    pub pair-is : with_earlier program events (one ∷ []) other ≡ map (pair_of rows touches) (kept_as first second o)
     pair-is =
         one-is one other
         ∙ (λ j. made one other (related (one-a j) (other-b j)))
@@ -71,10 +71,3 @@ module _ (program : Labelled) (events : List Event) where
         (sym (relation-is program events rows blocked a.placed b.placed))
         ∙ ap (made one other) (sym is)
         ∙ told o
-
-    -- one that was pushed, if there is one
-    pub pair-more : (old new : List kept.Pair) → new ≡ old ++ kept_as first second o
-        → pairs_told rows touches new ≡ pairs_told rows touches old ++ with_earlier program events (one ∷ []) other
-    pair-more old new is_new =
-        ap (map (pair_of rows touches)) is_new ∙ map-append (pair_of rows touches) old (kept_as first second o)
-        ∙ ap (λ xs. pairs_told rows touches old ++ xs) (sym pair-is)

@@ -1,10 +1,12 @@
 pub mod Related
 pub mod Paired
+pub mod Likeness
+pub mod Passed
 pub mod Linked
+pub mod Leaving
 pub mod Pushed
 pub mod Between
 pub mod Steps
-pub mod TouchesTold
 pub mod Parents
 pub mod Rowed
 pub mod Bearing

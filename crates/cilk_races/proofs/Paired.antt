@@ -162,3 +162,13 @@ entries-step p x es = by (same_entry p x) refl
 pub entries-more : (pairs : List Pair) (x : Pair) → entries_of (pairs ++ x ∷ []) ≡ with_entry (entries_of pairs) x
 entries-more [] x = refl
 entries-more (p ∷ pairs) x = ap (λ xs. p ∷ others p xs) (entries-more pairs x) ∙ entries-step p x (entries_of pairs)
+
+told-on : (p x : Pair) (pairs : List Pair) (same : Bool) → same_entry p x ≡ same → is_told (entries_of pairs) x ≡ is_told pairs x
+    → (same_entry p x || is_told (others p (entries_of pairs)) x) ≡ (same_entry p x || is_told pairs x)
+told-on p x pairs true h on = ap (λ b. b || is_told (others p (entries_of pairs)) x) h ∙ sym (ap (λ b. b || is_told pairs x) h)
+told-on p x pairs false h on = ap (λ b. same_entry p x || b) (told-left p x (entries_of pairs) h ∙ on)
+
+-- among the entries it is told where it is among the pairs
+pub told-all : (pairs : List Pair) (x : Pair) → is_told (entries_of pairs) x ≡ is_told pairs x
+told-all [] x = refl
+told-all (p ∷ pairs) x = told-on p x pairs (same_entry p x) refl (told-all pairs x)

@@ -5,6 +5,7 @@ pub mod Kept
 pub mod PairWords
 pub mod Related
 pub mod Paired
+pub mod Alike
 pub mod Links
 pub mod Rows
 pub mod Noted

@@ -1,5 +1,5 @@
 -- Pairs of kept accesses.
-use Rattle.std.specs.Prelude.{◌<◌, ℕ, Bool, false, not, List, [], ◌∷◌, ◌++◌, map, filter, slice_index_or, if◌then◌else◌, Option, Some, None}
+use Rattle.std.specs.Prelude.{◌<◌, ℕ, Bool, false, not, List, [], ◌∷◌, ◌++◌, map, filter, slice_index_or, take, if◌then◌else◌, Option, Some, None}
 use Rattle.std.specs.List.{list_any}
 use Rattle.cilk_measure.specs.model.labelled.Labelled.{Labelled}
 use Rattle.cilk_measure.specs.model.Event.{Event}
@@ -8,7 +8,7 @@ use Rattle.cilk_races.specs.declared.pairing.Pair as kept
 use Rattle.cilk_races.specs.Line.{Line}
 use Rattle.cilk_races.specs.declared.touch.Touch as touched
 use Rattle.cilk_races.specs.Order.{Relation}
-use Rattle.cilk_races.specs.Races.{Touch, Pair, meet, is_ordered, paired, same_entry}
+use Rattle.cilk_races.specs.Races.{Touch, Pair, meet, is_ordered, paired, same_entry, entries_of}
 use Rattle.cilk_races.specs.Related.{relation_in}
 use Rattle.cilk_races.specs.PairWords.{relation_named, touch_of}
 
@@ -26,10 +26,13 @@ no_touch = record {
 abbrev pub touches_of : List Line → List touched.Touch → List Touch
 touches_of rows touches = map (touch_of rows) touches
 
+abbrev pub touch_at : List Touch → ℕ → Touch
+touch_at touches k = slice_index_or touches k no_touch
+
 abbrev pub pair_of : List Line → List touched.Touch → kept.Pair → Pair
 pair_of rows touches p = record {
-  first = slice_index_or (touches_of rows touches) p.first no_touch;
-  second = slice_index_or (touches_of rows touches) p.second no_touch;
+  first = touch_at (touches_of rows touches) p.first;
+  second = touch_at (touches_of rows touches) p.second;
   relation = relation_named p.relation;
 }
 
@@ -40,6 +43,13 @@ pairs_told rows touches pairs = map (pair_of rows touches) pairs
 abbrev pub with_earlier : Labelled → List Event → List Touch → Touch → List Pair
 with_earlier program events before b =
     filter (λ p. not (is_ordered p.relation)) (map (λ a. paired program events a b) (filter (λ a. meet a b) before))
+
+abbrev pub Pairs : Type 0
+Pairs = List Pair
+
+-- the entries of these pairs and of those of access b with the first k
+abbrev pub entries_up_to : Labelled → List Event → List Touch → List Pair → ℕ → Touch → List Pair
+entries_up_to program events touches pairs k b = entries_of (pairs ++ with_earlier program events (take k touches) b)
 
 -- whether one of these is told as the same
 abbrev pub is_told : List Pair → Pair → Bool

@@ -2,8 +2,11 @@
 //! program does not order; schedules that take two accesses in the other order; and how all of this is told.
 #![tactic(auto)]
 
+mod alike;
 mod detour;
+mod hashing;
 pub mod laws;
+mod left_out;
 mod links;
 mod look;
 mod may_meet;
@@ -17,10 +20,13 @@ mod reversal;
 mod reversing;
 mod row;
 mod rows;
+mod streak;
+mod streaks;
 mod telling;
 mod times;
 mod told;
 mod touch;
+mod twins;
 mod watch;
 
 pub use cilk_measure::{

@@ -75,8 +75,8 @@ fn same_instance(rows: &[Row], a: &Touch, b: &Touch) -> bool
     path_in(rows, a.own) == path_in(rows, b.own)
 }
 
-// Whether a lock stands in both.
-fn share_one(locks: &[usize], others: &[usize]) -> bool
+/// Whether a lock stands in both.
+pub fn share_one(locks: &[usize], others: &[usize]) -> bool
     ensures { result ≡ share_one locks.now others.now }
 {
     locks.iter().any(|lock| stands_in(others, *lock))

@@ -1,17 +1,20 @@
-//! The pairs of accesses of a run that meet and are not ordered, and those of them that are told.
+//! The pairs of accesses of a run that meet and are not ordered, the first of each entry, and how many are related alike.
 
-ghost use Rattle.std.specs.Prelude.{◌≡◌, ◌<◌, ◌++◌, ◌∷◌, [], List, length, option_map, slice_index_or, take, IfOk, OnOk};
+ghost use Rattle.std.specs.Prelude.{◌≡◌, ◌<◌, ◌++◌, ◌∷◌, [], ℕ, List, length, min, option_map, take, IfOk, OnOk};
 ghost use Rattle.std.specs.List.{All};
 ghost use Rattle.cilk_measure.specs.model.labelled.Labelled.{Labelled};
 ghost use Rattle.cilk_measure.specs.model.Event.{Event};
-ghost use Rattle.cilk_races.specs.Links.{AreLinked};
+ghost use Rattle.cilk_races.specs.declared.streak.Streak.TheVariants.{Thread, Locks};
+ghost use Rattle.cilk_races.specs.Links.{AreLinked, ArePast, bucket_at};
 ghost use Rattle.cilk_races.specs.Kept.{Blocked};
-ghost use Rattle.cilk_races.specs.Paired.{Within, between, is_told, no_touch, pair_of, pairs_told, touches_of, with_earlier, with_entry};
+ghost use Rattle.cilk_races.specs.Paired.{Pairs, Within, between, entries_up_to, is_told, pair_of, pairs_told, touch_at, touches_of, with_earlier, with_entry};
 ghost use Rattle.cilk_races.specs.Races.{count_of, entries_of, pairs_of, same_entry, same_relation};
 ghost use Rattle.cilk_races.specs.PairWords.{relation_named};
 
-use crate::links::{Links, hash_of};
-use crate::may_meet::{meet, same_variable};
+use crate::alike::are_of_thread;
+use crate::hashing::hash_of;
+use crate::links::Links;
+use crate::may_meet::{meet, same_variable, share_one};
 use crate::relation::{Relation, relation_of};
 use crate::row::Row;
 use crate::touch::Touch;
@@ -26,23 +29,23 @@ pub struct Pair {
     pub relation: Relation,
 }
 
-/// The pairs, in the order of the second access.
-pub fn pairs_of(alloc: Global, rows: &[Row], touches: &[Touch]) -> Result<Vec<Pair>, Memory>
-    ensures pairs { IfOk result (λ pairs. (program : Labelled) (events : List Event) → Blocked program events rows.now
-        → pairs_told rows.now touches.now pairs.items ≡ pairs_of program events (touches_of rows.now touches.now)) }
-    ensures within { IfOk result (λ pairs. All (Within (length touches.now)) pairs.items) }
+/// The first pair of each entry, in the order of the second access.
+pub fn entries_of(alloc: Global, rows: &[Row], touches: &[Touch]) -> Result<Vec<Pair>, Memory>
+    ensures entries { IfOk result (λ entries. (program : Labelled) (events : List Event) → Blocked program events rows.now
+        → pairs_told rows.now touches.now entries.items ≡ entries_of (pairs_of program events (touches_of rows.now touches.now))) }
+    ensures within { IfOk result (λ entries. All (Within (length touches.now)) entries.items) }
 {
     let links = Links::new(alloc, rows, touches)?;
-    let mut pairs = Vec::new(alloc);
+    let mut entries = Vec::new(alloc);
     for second in 0..touches.len() {
-        push_pairs(&mut pairs, &links, rows, touches, second)?;
+        push_entries(&mut entries, &links, rows, touches, second)?;
     }
-    Ok(pairs)
+    Ok(entries)
 }
 
 // Adds those of one access with earlier ones, which all stand in its bucket.
-fn push_pairs(
-    pairs: &mut Vec<Pair>,
+fn push_entries(
+    entries: &mut Vec<Pair>,
     links: &Links,
     rows: &[Row],
     touches: &[Touch],
@@ -51,24 +54,71 @@ fn push_pairs(
     requires there { second < length touches.now }
     requires first { length links.now.first.items ≡ length touches.now }
     requires next { length links.now.next.items ≡ length touches.now }
+    requires threads { length links.now.threads.items ≡ length touches.now }
+    requires locks { length links.now.locks.items ≡ length touches.now }
     requires linked { AreLinked (length touches.now) (touches_of rows.now touches.now) 0 links.now.first.items links.now.next.items }
-    requires within { All (Within (length touches.now)) pairs.old.items }
-    ensures pairs { OnOk result ((program : Labelled) (events : List Event) → Blocked program events rows.now
-        → pairs_told rows.now touches.now pairs.new.items ≡ pairs_told rows.now touches.now pairs.old.items
-        ++ with_earlier program events (take second (touches_of rows.now touches.now)) (slice_index_or (touches_of rows.now touches.now) second no_touch)) }
-    ensures within { OnOk result (All (Within (length touches.now)) pairs.new.items) }
+    requires by_thread { ArePast Thread (length touches.now) (touches_of rows.now touches.now) 0 links.now.threads.items }
+    requires by_locks { ArePast Locks (length touches.now) (touches_of rows.now touches.now) 0 links.now.locks.items }
+    requires within { All (Within (length touches.now)) entries.old.items }
+    ensures entries { OnOk result ((program : Labelled) (events : List Event) → Blocked program events rows.now → (pairs : Pairs)
+        → pairs_told rows.now touches.now entries.old.items ≡ entries_of pairs
+        → pairs_told rows.now touches.now entries.new.items
+        ≡ entries_up_to program events (touches_of rows.now touches.now) pairs second (touch_at (touches_of rows.now touches.now) second)) }
+    ensures within { OnOk result (All (Within (length touches.now)) entries.new.items) }
 {
     let mut first = links.first[hash_of(rows, &touches[second]) % touches.len()];
     while first < second {
-        push_pair(pairs, rows, touches, first, second)?;
-        first = links.next[first];
+        first = push_or_pass(entries, links, rows, touches, first, second)?;
     }
     Ok(())
 }
 
-// Adds these two, if they meet and are not ordered.
+// Adds the pair of these two, if it is told, and tells which one the second is to be compared with next: none of those that are passed over
+// with it makes an entry, be they by the second's own thread or with a lock that is held at the second too.
+fn push_or_pass(
+    entries: &mut Vec<Pair>,
+    links: &Links,
+    rows: &[Row],
+    touches: &[Touch],
+    first: usize,
+    second: usize,
+) -> Result<usize, Memory>
+    requires before { first < second }
+    requires there { second < length touches.now }
+    requires next { length links.now.next.items ≡ length touches.now }
+    requires threads { length links.now.threads.items ≡ length touches.now }
+    requires locks { length links.now.locks.items ≡ length touches.now }
+    requires linked { AreLinked (length touches.now) (touches_of rows.now touches.now) 0 links.now.first.items links.now.next.items }
+    requires by_thread { ArePast Thread (length touches.now) (touches_of rows.now touches.now) 0 links.now.threads.items }
+    requires by_locks { ArePast Locks (length touches.now) (touches_of rows.now touches.now) 0 links.now.locks.items }
+    requires falls { bucket_at (length touches.now) (touches_of rows.now touches.now) first
+        ≡ bucket_at (length touches.now) (touches_of rows.now touches.now) second }
+    requires within { All (Within (length touches.now)) entries.old.items }
+    ensures behind { IfOk result (λ next. first < next) }
+    ensures falls { IfOk result (λ next. next < length touches.now
+        → bucket_at (length touches.now) (touches_of rows.now touches.now) next ≡ bucket_at (length touches.now) (touches_of rows.now touches.now) second) }
+    ensures entries { IfOk result (λ next. (program : Labelled) (events : List Event) → Blocked program events rows.now → (pairs : Pairs)
+        → pairs_told rows.now touches.now entries.old.items
+        ≡ entries_up_to program events (touches_of rows.now touches.now) pairs first (touch_at (touches_of rows.now touches.now) second)
+        → pairs_told rows.now touches.now entries.new.items
+        ≡ entries_up_to program events (touches_of rows.now touches.now) pairs (min next second) (touch_at (touches_of rows.now touches.now) second)) }
+    ensures within { IfOk result (λ _. All (Within (length touches.now)) entries.new.items) }
+{
+    let one = &touches[first];
+    let other = &touches[second];
+    if are_of_thread(one, other) {
+        return Ok(links.threads[first]);
+    }
+    if share_one(one.locks.as_slice(), other.locks.as_slice()) {
+        return Ok(links.locks[first]);
+    }
+    push_pair(entries, rows, touches, first, second)?;
+    Ok(links.next[first])
+}
+
+// Adds these two, if they meet and are not ordered, and none of those before is told as the same.
 fn push_pair(
-    pairs: &mut Vec<Pair>,
+    entries: &mut Vec<Pair>,
     rows: &[Row],
     touches: &[Touch],
     first: usize,
@@ -76,21 +126,22 @@ fn push_pair(
 ) -> Result<(), Memory>
     requires first { first < length touches.now }
     requires second { second < length touches.now }
-    requires within { All (Within (length touches.now)) pairs.old.items }
-    ensures pairs { OnOk result ((program : Labelled) (events : List Event) → Blocked program events rows.now
-        → pairs_told rows.now touches.now pairs.new.items ≡ pairs_told rows.now touches.now pairs.old.items
-        ++ with_earlier program events (slice_index_or (touches_of rows.now touches.now) first no_touch ∷ [])
-        (slice_index_or (touches_of rows.now touches.now) second no_touch)) }
-    ensures within { OnOk result (All (Within (length touches.now)) pairs.new.items) }
+    requires within { All (Within (length touches.now)) entries.old.items }
+    ensures entries { OnOk result ((program : Labelled) (events : List Event) → Blocked program events rows.now → (pairs : Pairs)
+        → pairs_told rows.now touches.now entries.old.items ≡ entries_of pairs
+        → pairs_told rows.now touches.now entries.new.items ≡ entries_of (pairs
+        ++ with_earlier program events (touch_at (touches_of rows.now touches.now) first ∷ []) (touch_at (touches_of rows.now touches.now) second))) }
+    ensures within { OnOk result (All (Within (length touches.now)) entries.new.items) }
 {
     match relation_between(rows, &touches[first], &touches[second]) {
         None => Ok(()),
         Some(relation) => {
-            pairs.push(Pair {
+            let pair = Pair {
                 first,
                 second,
                 relation,
-            })?;
+            };
+            push_entry(entries, rows, touches, pair)?;
             Ok(())
         }
     }
@@ -109,24 +160,6 @@ fn relation_between(rows: &[Row], a: &Touch, b: &Touch) -> Option<Relation>
     } else {
         Some(relation)
     }
-}
-
-/// The first one of each entry.
-pub fn entries_of(
-    alloc: Global,
-    rows: &[Row],
-    touches: &[Touch],
-    pairs: &[Pair],
-) -> Result<Vec<Pair>, Memory>
-    requires { All (Within (length touches.now)) pairs.now }
-    ensures entries { IfOk result (λ entries. pairs_told rows.now touches.now entries.items ≡ entries_of (pairs_told rows.now touches.now pairs.now)) }
-    ensures within { IfOk result (λ entries. All (Within (length touches.now)) entries.items) }
-{
-    let mut entries = Vec::new(alloc);
-    for pair in pairs {
-        push_entry(&mut entries, rows, touches, *pair)?;
-    }
-    Ok(entries)
 }
 
 // Adds a pair, unless one of those before is told as the same.

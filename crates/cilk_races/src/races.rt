@@ -10,14 +10,12 @@ ghost use Rattle.cilk_races.specs.measure.replay.machine.syntax.ProgramText.{pro
 ghost use Rattle.cilk_races.specs.measure.replay.log.Naming.{is_of};
 ghost use Rattle.cilk_races.specs.measure.replay.ReplayFaults.{IsFaultOf, IsNamedFaultOf};
 ghost use Rattle.cilk_races.specs.measure.replay.Tape.{IsAt, Tape, tape_of};
-ghost use Rattle.cilk_races.specs.Kept.{Blocked};
-ghost use Rattle.cilk_races.specs.Paired.{Within, pairs_told, touches_of};
-ghost use Rattle.cilk_races.specs.Races.{entries_of, pairs_of};
+ghost use Rattle.cilk_races.specs.Paired.{Within};
 ghost use Rattle.cilk_races.specs.Found.{HoldsRun, KeepsOf, told_in};
 ghost use Rattle.cilk_races.specs.Raced.{AreRacesOf};
 ghost use Rattle.cilk_races.specs.Watched.{Watched};
 
-use crate::pairing::{Pair, count_of, entries_of, pairs_of};
+use crate::pairing::{Pair, entries_of};
 use crate::relation::Relation;
 use crate::row::Row;
 use crate::touch::Touch;
@@ -124,7 +122,7 @@ fn found(alloc: Global, watch: Watch) -> Result<Races, ReplayFault>
     ensures within { IfOk result (λ r. All (Within (length r.touches.items)) r.entries.items) }
     ensures memory { IfErr result (λ why. why ≡ ReplayFault.Memory) }
 {
-    match entries_kept(alloc, &watch) {
+    match entries_of(alloc, watch.rows.as_slice(), watch.touches.as_slice()) {
         Err(_) => {
             drop(watch);
             Err(ReplayFault::Memory)
@@ -144,19 +142,4 @@ fn found(alloc: Global, watch: Watch) -> Result<Races, ReplayFault>
             })
         }
     }
-}
-
-fn entries_kept(alloc: Global, watch: &Watch) -> Result<Vec<Pair>, Memory>
-    ensures entries { IfOk result (λ entries. (program : Labelled) (events : List Event) → Blocked program events watch.now.rows.items
-        → pairs_told watch.now.rows.items watch.now.touches.items entries.items
-        ≡ entries_of (pairs_of program events (touches_of watch.now.rows.items watch.now.touches.items))) }
-    ensures within { IfOk result (λ entries. All (Within (length watch.now.touches.items)) entries.items) }
-{
-    let pairs = pairs_of(alloc, watch.rows.as_slice(), watch.touches.as_slice())?;
-    entries_of(
-        alloc,
-        watch.rows.as_slice(),
-        watch.touches.as_slice(),
-        pairs.as_slice(),
-    )
 }
