@@ -15,12 +15,12 @@ abbrev pub mixed_all : ℕ → List ℕ → ℕ
 mixed_all hash [] = hash
 mixed_all hash (number ∷ numbers) = mixed_all (mixed hash number) numbers
 
--- no path has the number 0
+-- no path has a number of 2^32 or more, so cells of these four kinds seldom share a bucket
 abbrev pub hash_of : Where → ℕ
-hash_of (global variable index) = mixed (mixed variable 0) index
+hash_of (global variable index) = mixed (mixed variable 4294967296) index
 hash_of (own path variable index) = mixed (mixed_all variable path) index
-hash_of output = 0
-hash_of (synched path) = mixed_all 0 path
+hash_of output = 4294967297
+hash_of (synched path) = mixed_all 4294967298 path
 
 -- the bucket of an access, among so many
 abbrev pub bucket_of : ℕ → Touch → ℕ

@@ -13,15 +13,22 @@ pub fn hash_of(rows: &[Row], touch: &Touch) -> usize
     ensures { result ≡ hash_of (touch_of rows.now touch.now).access.at }
 {
     match touch.access.at {
-        Spot::Global { variable, index } => mixed(mixed(variable, 0), index as usize),
+        Spot::Global { variable, index } => mixed(mixed(variable, GLOBAL), index as usize),
         Spot::Own { variable, index } => mixed(
             mixed_path(variable, path_in(rows, touch.own)),
             index as usize,
         ),
-        Spot::Output => 0,
-        Spot::Synched => mixed_path(0, path_in(rows, touch.own)),
+        Spot::Output => OUTPUT,
+        Spot::Synched => mixed_path(SYNCHED, path_in(rows, touch.own)),
     }
 }
+
+// No path has so large a number, so cells of different kinds seldom share a bucket.
+const GLOBAL: usize = 0x1_0000_0000;
+
+const OUTPUT: usize = 0x1_0000_0001;
+
+const SYNCHED: usize = 0x1_0000_0002;
 
 // The hash of these numbers more.
 fn mixed_path(hash: usize, path: &[u32]) -> usize
