@@ -27,7 +27,7 @@ pub enum Status {
     CannotRecord,
     /// A worker cannot be started.
     CannotStart,
-    /// The program has several outcomes, whatever they are.
+    /// The program has several outcomes, or the run has a race.
     Several,
 }
 

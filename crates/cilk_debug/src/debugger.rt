@@ -31,7 +31,7 @@ pub struct Debugger {
     player: Player,
     /// For each action whether a breakpoint is set there.
     marks: Vec<bool>,
-    /// How many choices were made and taken back.
+    /// What the moves cost, by the positions alone.
     work: u64,
 }
 
@@ -82,7 +82,8 @@ impl Debugger {
         self.player.length() as u64
     }
 
-    /// How many choices were made and taken back since it was new, by moves that came to their end. It stays at its greatest value.
+    /// What the moves that came to their end cost since it was new: by the positions, and not by which machine made the choices. It stays at its
+    /// greatest value.
     pub fn work(&self) -> u64
         ensures { result ≡ self.now.work }
     {

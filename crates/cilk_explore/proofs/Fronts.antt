@@ -1,7 +1,7 @@
--- Elements of two lists one behind the other.
+-- Elements of two lists one behind the other, and of one in which one is put in place of another.
 use Rattle.std.proofs.Common.{◌≡◌, ◌<◌, ◌+◌, ◌⊎◌, inl, inr, ℕ, zero, suc, List, [], ◌∷◌, ◌++◌, length, Option, Some}
 use Rattle.std.proofs.Common.{refl, sym, ap, ◌∙◌}
-use Rattle.std.proofs.Common.{arith, slice_get, take}
+use Rattle.std.proofs.Common.{arith, set, slice_get, take}
 
 pub get-front : {A : Type 0} (xs ys : List A) (k : ℕ) (x : A) → slice_get xs k ≡ Some x → slice_get (xs ++ ys) k ≡ Some x
 get-front [] ys k x h = cc
@@ -24,6 +24,28 @@ get-cases (z ∷ xs) ys (suc k) x h = elim (get-cases xs ys k x h) [
 pub get-last : {A : Type 0} (xs : List A) (x : A) → slice_get (xs ++ x ∷ []) (length xs) ≡ Some x
 get-last [] x = refl
 get-last (z ∷ xs) x = get-last xs x
+
+-- one element is put in place of another: at each place that is there, or what was
+pub set-cases : {A : Type 0} (xs : List A) (i : ℕ) (y : A) (k : ℕ) (x : A) → slice_get xs k ≡ Some x
+    → ((k ≡ i) × (slice_get (set xs i y) k ≡ Some y)) ⊎ (slice_get (set xs i y) k ≡ Some x)
+set-cases [] i y k x h = cc
+set-cases (z ∷ xs) zero y zero x h = inl (refl, refl)
+set-cases (z ∷ xs) zero y (suc k) x h = inr h
+set-cases (z ∷ xs) (suc i) y zero x h = inr h
+set-cases (z ∷ xs) (suc i) y (suc k) x h = elim (set-cases xs i y k x h) [ inl put ↦ inl (ap suc put.0, put.1) | inr old ↦ inr old ]
+
+pub set-there : {A : Type 0} (xs : List A) (i : ℕ) (y x : A) → slice_get xs i ≡ Some x → slice_get (set xs i y) i ≡ Some y
+set-there [] i y x h = cc
+set-there (z ∷ xs) zero y x h = refl
+set-there (z ∷ xs) (suc i) y x h = set-there xs i y x h
+
+pub set-split : {A : Type 0} (xs : List A) (i : ℕ) (y : A) (k : ℕ) (x : A) → slice_get (set xs i y) k ≡ Some x
+    → ((k ≡ i) × (x ≡ y)) ⊎ (slice_get xs k ≡ Some x)
+set-split [] i y k x h = cc
+set-split (z ∷ xs) zero y zero x h = inl (refl, cc)
+set-split (z ∷ xs) zero y (suc k) x h = inr h
+set-split (z ∷ xs) (suc i) y zero x h = inr h
+set-split (z ∷ xs) (suc i) y (suc k) x h = elim (set-split xs i y k x h) [ inl put ↦ inl (ap suc put.0, put.1) | inr old ↦ inr old ]
 
 pub append-none : {A : Type 0} (xs : List A) → xs ++ [] ≡ xs
 append-none [] = refl

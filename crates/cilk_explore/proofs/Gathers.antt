@@ -10,6 +10,7 @@ use Rattle.cilk_explore.specs.explore.Search.{Known}
 use Rattle.cilk_explore.specs.LogLooking.{Extends, AreClosed, TellsOf}
 use Rattle.cilk_explore.specs.Linking.{IsLink, HasLink, IsLinked, AreLinks, AreLinked}
 use Rattle.cilk_explore.proofs.Fronts.{get-cases, get-last, append-none, one-there, one-entry}
+use Rattle.cilk_explore.proofs.Growing.{was-before}
 use Rattle.cilk_explore.proofs.LinksKept.{link-more, linked-more, linked-on}
 use Rattle.cilk_explore.specs.declared.explorer.Explorer.{Explorer}
 use Rattle.cilk_explore.specs.Links.{Linkage}
@@ -158,8 +159,9 @@ module _ (f g h i : Explorer) (number : ℕ) (at : IsAt f number) (between : IsB
   pub links-closed : HasLinks i (number + 1)
   links-closed =
       let past_is : h.links.past ≡ f.links.past = gathers.past ∙ ap (λ (l : Linkage). l.past) same in
+      let was = was-before (program_of f) (workers_of f) f.store h.store number (map told_by f.told.items) f.walker.log between.looking at.there ext in
       let old = linked-on (program_of f) (workers_of f) (length f.walker.log + 1) f.store h.store ext f.links.past number f.walker.log h.links.here
-      links.past at.there mine in
+      links.past at.there was mine in
       let new : AreLinked (program_of f) (workers_of f) h.store (h.links.past ++ h.links.here ∷ []) (number + 1) =
       subst (λ (xs : List (List ℕ)). AreLinked (program_of f) (workers_of f) h.store (xs ++ h.links.here ∷ []) (number + 1)) (sym past_is) old in
       let walked : AreLinked (program_of h) (workers_of h) h.store (h.links.past ++ h.links.here ∷ []) (number + 1) =

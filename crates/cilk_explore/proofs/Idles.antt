@@ -11,37 +11,46 @@ use Rattle.cilk_machine.specs.explore.OrMore.{HasIdle, EachHasIdle}
 use Rattle.cilk_machine.proofs.runs_laws.model_laws.Runs.{after-push}
 use Rattle.cilk_machine.proofs.explore_laws.ButNames.{names_both, names_turned}
 use Rattle.cilk_machine.proofs.explore_laws.Idle.{idle_do_alike}
+use Rattle.cilk_machine.proofs.explore_laws.OrMore.{idle_alike}
 use Rattle.cilk_explore.specs.LogLooking.{search_of, Extends}
 use Rattle.cilk_explore.specs.Laws.{IdleAtEach, IdleAreLinkedAlike}
-use Rattle.cilk_explore.proofs.Fronts.{get-cases, one-entry}
+use Rattle.cilk_explore.proofs.Fronts.{one-entry, some-there}
 use Rattle.cilk_explore.proofs.Turns.{made-to}
 
 module _ (program : Labelled) (n : ℕ) (logs now : List (List Choice)) (depth : ℕ) (ext : Extends program n depth logs now) where
-  -- a log of the first ones was there
-  was-there : (k : ℕ) (log : List Choice) → k < length logs → slice_get now k ≡ Some log → slice_get logs k ≡ Some log
-  was-there k log lt h =
-      elim (get-cases logs ext.more k log (sym (ap (λ (xs : List (List Choice)). slice_get xs k) ext.is) ∙ h)) [
-        | inl old ↦ old
-        | inr new ↦ let far = new.is in absurd (omega arith)
+  -- where some worker is idle behind a log one is so behind that which is there now
+  idle-there : (k : ℕ) (log : List Choice) (at : Position) → k < length logs → slice_get now k ≡ Some log → after program n log ≡ Some at
+      → ((old : List Choice) (to : Position) → slice_get logs k ≡ Some old → after program n old ≡ Some to → HasIdle to.standing) → HasIdle at.standing
+  idle-there k log at lt h leads idle =
+      let old = some-there logs k lt in
+      let kept = ext.kept k old.0 old.1 in
+      let own : kept.other ≡ log = one-entry (slice_get now k) kept.other log kept.there h in
+      elim kept.is [
+        | inl same ↦ idle old.0 at old.1 (ap (after program n) (sym same ∙ own) ∙ leads)
+        | inr way ↦
+            let there : way.found.to ≡ at =
+            one-entry (after program n kept.other) way.found.to at way.found.leads (ap (after program n) own ∙ leads) in
+            subst (λ (q : Position). HasIdle q.standing) there
+            (idle_alike way.at.standing way.found.to.standing way.same (idle old.0 way.at old.1 way.leads))
       ]
 
   idle-halted : (looked : ℕ) → looked ≤ length logs → EachHasIdle program n (search_of logs looked) → EachHasIdle program n (search_of now looked)
-  idle-halted looked le each k log at lt found leads = each k log at lt (was-there k log (omega (arith, lt, le)) found) leads
+  idle-halted looked le each k log at lt found leads =
+      idle-there k log at (omega (arith, lt, le)) found leads (λ old to there led. each k old to lt there led)
 
   idle-on : (looked : ℕ) (log : List Choice) (at : Position) → slice_get logs looked ≡ Some log → after program n log ≡ Some at → HasIdle at.standing
       → EachHasIdle program n (search_of logs looked) → EachHasIdle program n (search_of now (looked + 1))
   idle-on looked log at here leads idle each k one to lt found led =
       let inside = slice_get_within logs looked log here in
-      let old = was-there k one (omega (arith, lt, inside)) found in
-      elim (cases_lt k looked) [
-        | inl less ↦ each k one to less old led
+      idle-there k one to (omega (arith, lt, inside)) found led
+      (λ old from there came. elim (cases_lt k looked) [
+        | inl less ↦ each k old from less there came
         | inr le ↦
             let same : k ≡ looked = omega (arith, lt, le) in
-            let own : one ≡ log = one-entry (slice_get logs looked) one log (sym (ap (slice_get logs) same) ∙ old) here in
-            let both : Some to ≡ Some at = sym led ∙ ap (after program n) own ∙ leads in
-            let there : to ≡ at = cc in
-            subst (λ (q : Position). HasIdle q.standing) (sym there) idle
-      ]
+            let own : old ≡ log = one-entry (slice_get logs looked) old log (sym (ap (slice_get logs) same) ∙ there) here in
+            let both : from ≡ at = one-entry (after program n old) from at came (ap (after program n) own ∙ leads) in
+            subst (λ (q : Position). HasIdle q.standing) (sym both) idle
+      ])
 
 pub idle-at-each : (program : Labelled) (n : ℕ) (logs : List (List Choice)) → IdleAtEach program n logs
 idle-at-each program n logs = record {

@@ -1,12 +1,13 @@
 -- By which log it is known where a search stands, and what is kept of that.
 use Rattle.std.proofs.Common.{◌≡◌, ◌<◌, ◌≤◌, ◌+◌, ℕ, List, [], ◌∷◌, ◌++◌, length, Some, refl, sym, ap, ◌∙◌, subst, arith}
-use Rattle.std.proofs.Common.{slice_get, slice_index_or, length-append}
+use Rattle.std.proofs.Common.{set, slice_get, slice_index_or, length-append}
+use Rattle.std.proofs.lemmas.List.{length-set}
 use Rattle.std.proofs.lemmas.Option.{get_or_from_slice_get}
 use Rattle.cilk_machine.specs.model.Choice.{Choice}
-use Rattle.cilk_machine.specs.model.Run.{Position}
-use Rattle.cilk_explore.specs.LogLooking.{Extends}
-use Rattle.cilk_explore.proofs.Fronts.{get-last}
-use Rattle.cilk_explore.proofs.Growing.{extends-one}
+use Rattle.cilk_machine.specs.model.Run.{Position, after}
+use Rattle.cilk_explore.specs.LogLooking.{IsOtherWay, Extends}
+use Rattle.cilk_explore.proofs.Fronts.{get-last, one-entry, set-there}
+use Rattle.cilk_explore.proofs.Growing.{extends-one, extends-put}
 use Rattle.cilk_explore.proofs.explore_laws.ButNames.{names_again}
 use Rattle.cilk_explore.specs.declared.explorer.Explorer.{Explorer}
 use Rattle.cilk_explore.specs.Walks.{Walk, position_of}
@@ -80,3 +81,64 @@ module _ (e f : Explorer) (number : ℕ) (choice : Choice) (behind : IsBehind e 
             (extends-one (program_of e) (workers_of e) e.store e.walker.log at here);
         room = subst (λ (j : ℕ). length f.store ≤ j) (sym limit) most;
       }
+
+-- another way that was found to the same is that to where it stands, and as long
+module _ (e : Explorer) (found number : ℕ) (choice : Choice) (log : List Choice) (behind : IsBehind e number choice) (same : LeadsToSame e.walker e.store found)
+    (there : slice_get e.store found ≡ Some log) (long : length log ≡ length e.walker.log) (at : Position) (here : position_of e.walker ≡ Some at) where
+  other-way : IsOtherWay (program_of e) (workers_of e) (length e.walker.log) log e.walker.log
+  other-way =
+      let from = behind.found.leads found log there in
+      let own : same.log ≡ log = one-entry (slice_get e.store found) same.log log same.found there in
+      record {
+        size = long;
+        at = from.0;
+        leads = from.1;
+        found = record { size = refl; to = at; leads = here };
+        same = same.same from.0 at (ap (after (program_of e) (workers_of e)) own ∙ from.1) here;
+      }
+
+  module _ (f : Explorer) (rest : f ≡ record e { store = f.store })
+      (put : f.store ≡ set e.store found (slice_index_or e.store number [] ++ choice ∷ [])) where
+    store-is : f.store ≡ set e.store found e.walker.log
+    store-is =
+        put ∙ ap (λ (one : List Choice). set e.store found (one ++ choice ∷ [])) (get_or_from_slice_get e.store number behind.front [] behind.there)
+        ∙ ap (set e.store found) (sym behind.behind)
+
+    pub keeps-other : KeepsAs e f
+    keeps-other =
+        let size : length f.store ≡ length e.store = ap length store-is ∙ length-set e.store found e.walker.log in
+        let room = behind.room in
+        let limit : f.limit ≡ e.limit = ap (λ (x : Explorer). x.limit) rest in
+        let most : length f.store ≤ e.limit = omega (arith, size, room) in
+        record {
+          walker = ap (λ (x : Explorer). x.walker) rest;
+          program = ap (λ (x : Explorer). x.probe.program) rest;
+          workers = ap (λ (x : Explorer). x.probe.workers) rest;
+          told = ap (λ (x : Explorer). x.told) rest;
+          limit = limit;
+          idle = ap (λ (x : Explorer). x.idle) rest;
+          extends = subst (λ (xs : List (List Choice)). Extends (program_of e) (workers_of e) (length e.walker.log) e.store xs) (sym store-is)
+              (extends-put (program_of e) (workers_of e) (length e.walker.log) e.store found log e.walker.log there other-way);
+          room = subst (λ (j : ℕ). length f.store ≤ j) (sym limit) most;
+        }
+
+    pub known-other : IsKnownBy f found
+    known-other =
+        let walker : f.walker ≡ e.walker = ap (λ (x : Explorer). x.walker) rest in
+        let own : slice_get f.store found ≡ Some f.walker.log =
+        ap (λ (xs : List (List Choice)). slice_get xs found) store-is ∙ set-there e.store found e.walker.log log there
+        ∙ ap (λ (walk : Walk). Some walk.log) (sym walker) in
+        record {
+          at = at;
+          here = ap position_of walker ∙ here;
+          known = record {
+            number = found;
+            log = f.walker.log;
+            found = own;
+            short = omega arith;
+            to = at;
+            leads = ap position_of walker ∙ here;
+            same = names_again at.standing;
+          };
+          is = refl;
+        }

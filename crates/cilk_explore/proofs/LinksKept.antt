@@ -1,5 +1,5 @@
 -- Links of logs stay links where more logs were found, and a log that was looked at has its own.
-use Rattle.std.proofs.Common.{◌≡◌, ◌+◌, inl, inr, ℕ, List, [], ◌∷◌, ◌++◌, length, Some, sym, ap, ◌∙◌, subst, arith, slice_get}
+use Rattle.std.proofs.Common.{◌≡◌, ◌≤◌, ◌+◌, inl, inr, ℕ, List, [], ◌∷◌, ◌++◌, length, Some, sym, ap, ◌∙◌, subst, arith, slice_get}
 use Rattle.std.proofs.Common.{length-append}
 use Rattle.std.proofs.lemmas.Option.{slice_get_within}
 use Rattle.cilk_machine.specs.labelled.Labelled.{Labelled}
@@ -8,47 +8,19 @@ use Rattle.cilk_machine.specs.model.Run.{Standing}
 use Rattle.cilk_explore.specs.LogLooking.{Extends}
 use Rattle.cilk_explore.specs.Linking.{IsLink, HasLink, IsLinked, AreLinks, AreLinked}
 use Rattle.cilk_explore.proofs.Fronts.{get-front, get-cases, append-none, one-there, one-entry}
+use Rattle.cilk_explore.proofs.Growing.{known-kept}
 
 module _ (program : Labelled) (n depth : ℕ) (logs now : List (List Choice)) (ext : Extends program n depth logs now) where
-  stays : (k : ℕ) (log : List Choice) → slice_get logs k ≡ Some log → slice_get now k ≡ Some log
-  stays k log h = ap (λ (xs : List (List Choice)). slice_get xs k) ext.is ∙ get-front logs ext.more k log h
-
   pub link-more : (log : List Choice) (number : ℕ) → IsLink program n logs log number → IsLink program n now log number
   link-more log number link =
-      let k = link.known in
-      record {
-        choice = link.choice;
-        at = link.at;
-        leads = link.leads;
-        known = record {
-          number = k.number;
-          log = k.log;
-          found = stays k.number k.log k.found;
-          short = k.short;
-          to = k.to;
-          leads = k.leads;
-          same = k.same;
-        };
-        is = link.is;
-      }
+      let kept = known-kept program n depth logs now link.at.standing (length log + 1) ext link.known in
+      record { choice = link.choice; at = link.at; leads = link.leads; known = kept.0; is = kept.1 ∙ link.is }
 
   -- and further links change none
   pub has-more : (links more : List ℕ) (at : Standing) (most : ℕ) → HasLink program n logs links at most → HasLink program n now (links ++ more) at most
   has-more links more at most has =
-      let k = has.known in
-      record {
-        known = record {
-          number = k.number;
-          log = k.log;
-          found = stays k.number k.log k.found;
-          short = k.short;
-          to = k.to;
-          leads = k.leads;
-          same = k.same;
-        };
-        place = has.place;
-        there = get-front links more has.place k.number has.there;
-      }
+      let kept = known-kept program n depth logs now at most ext has.known in
+      record { known = kept.0; place = has.place; there = get-front links more has.place has.known.number has.there ∙ ap Some (sym kept.1) }
 
   pub linked-more : (links more linked : List ℕ) (log : List Choice) (choice : Choice) → linked ≡ links ++ more
       → IsLinked program n logs links log choice → IsLinked program n now linked log choice
@@ -64,11 +36,13 @@ module _ (program : Labelled) (n depth : ℕ) (logs now : List (List Choice)) (e
 
   -- the next log has its links too
   pub linked-on : (links : List (List ℕ)) (looked : ℕ) (log : List Choice) (own : List ℕ) → AreLinked program n logs links looked
-      → slice_get logs looked ≡ Some log → AreLinks program n now own log → AreLinked program n now (links ++ own ∷ []) (looked + 1)
-  linked-on links looked log own are here mine =
-      let inside = slice_get_within logs looked log here in
+      → slice_get logs looked ≡ Some log
+      → ((k : ℕ) (one : List Choice) → k ≤ looked → slice_get now k ≡ Some one → slice_get logs k ≡ Some one) → AreLinks program n now own log
+      → AreLinked program n now (links ++ own ∷ []) (looked + 1)
+  linked-on links looked log own are here was mine =
       let size = are.size in
-      let longer : length now ≡ length logs + length ext.more = ap length ext.is ∙ length-append logs ext.more in
+      let kept = ext.kept looked log here in
+      let inside = slice_get_within now looked kept.other kept.there in
       let one_more : length (links ++ own ∷ []) ≡ length links + 1 = length-append links (own ∷ []) in
       record {
         size = omega arith;
@@ -76,16 +50,14 @@ module _ (program : Labelled) (n depth : ℕ) (logs now : List (List Choice)) (e
         own = λ k one of_it hk ho. elim (get-cases links (own ∷ []) k of_it ho) [
           | inl old ↦
               let low = slice_get_within links k of_it old in
-              elim (get-cases logs ext.more k one (sym (ap (λ (xs : List (List Choice)). slice_get xs k) ext.is) ∙ hk)) [
-                | inl before ↦ links-more of_it one (are.own k one of_it before old)
-                | inr behind ↦ let far = behind.is in absurd (omega arith)
-              ]
+              links-more of_it one (are.own k one of_it (was k one (omega (arith, low, size)) hk) old)
           | inr new ↦
               let last = one-there own of_it new.place new.there in
               let place = last.0 in
               let far = new.is in
               let same : k ≡ looked = omega arith in
-              let its : one ≡ log = one-entry (slice_get now looked) one log (sym (ap (slice_get now) same) ∙ hk) (stays looked log here) in
+              let its : one ≡ log = one-entry (slice_get logs looked) one log
+              (ap (slice_get logs) (sym same) ∙ was k one (omega (arith, same)) hk) here in
               subst (λ (xs : List ℕ). AreLinks program n now xs one) last.1
               (subst (λ (l : List Choice). AreLinks program n now own l) (sym its) mine)
         ];

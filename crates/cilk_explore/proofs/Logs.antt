@@ -1,15 +1,17 @@
 -- The logs of nodes.
-use Rattle.std.proofs.Common.{◌≡◌, ◌<◌, ◌+◌, inl, inr, ℕ, zero, suc, List, [], ◌∷◌, ◌++◌, length, reverse, map, Some}
+use Rattle.std.proofs.Common.{◌≡◌, ◌≢◌, ◌<◌, ◌≤◌, ◌+◌, inl, inr, ℕ, zero, suc, max, List, [], ◌∷◌, ◌++◌, length, reverse, map, Some}
 use Rattle.std.proofs.Common.{refl, sym, ap, ◌∙◌}
-use Rattle.std.proofs.Common.{subst, arith, slice_get, slice_index_or, length-append, append_assoc}
+use Rattle.std.proofs.Common.{subst, arith, set, slice_get, slice_index_or, length-append, append_assoc}
 use Rattle.std.proofs.lemmas.Option.{get_or_from_slice_get}
-use Rattle.std.proofs.lemmas.List.{reverse-append}
+use Rattle.std.proofs.lemmas.List.{reverse-append, length-set, get_or-set_other, set-append_left}
+use Rattle.std.proofs.Math.Nat.{le-max_left, le-max_right}
+use Rattle.std.proofs.Math.Seq.{set-append_seam}
 use Rattle.cilk_machine.specs.model.Choice.{Choice}
 use Rattle.cilk_machine.specs.choices.declared.choice.Choice as code
 use Rattle.cilk_machine.specs.choices.Words.{choice_of}
 use Rattle.cilk_explore.specs.declared.node.Node.{Node}
-use Rattle.cilk_explore.proofs.Fronts.{get-front, get-cases, get-last, append-none, one-there, some-there}
-use Rattle.cilk_explore.specs.Logs.{log_behind, logs_behind, logs_of, AreGrown}
+use Rattle.cilk_explore.proofs.Fronts.{get-front, get-cases, get-last, set-split, append-none, one-there, some-there}
+use Rattle.cilk_explore.specs.Logs.{log_behind, logs_behind, logs_of, AreGrown, HaveNoParentBehind}
 
 -- logs of further nodes
 pub behind-length : (logs : List (List Choice)) (nodes : List Node) → length (logs_behind logs nodes) ≡ length logs + length nodes
@@ -75,6 +77,87 @@ logs-step (x ∷ nodes) (suc k) node grown h lt =
     let first : List (List Choice) = [] ∷ [] in
     let place : suc k ≡ length first + k = omega arith in
     ap (slice_get (logs_behind first nodes)) place ∙ behind-step first nodes k node h (omega (arith, below))
+
+-- another node in place of one that is no node's parent: its log is another, and no other is
+behind-set : (logs : List (List Choice)) (nodes : List Node) (i : ℕ) (log : List Choice) → i < length logs
+    → ((k : ℕ) (x : Node) → slice_get nodes k ≡ Some x → x.parent ≢ i) → logs_behind (set logs i log) nodes ≡ set (logs_behind logs nodes) i log
+behind-set logs [] i log lt none = refl
+behind-set logs (x ∷ nodes) i log lt none =
+    let one = log_behind logs x in
+    let same : log_behind (set logs i log) x ≡ one =
+    ap (λ (front : List Choice). front ++ choice_of x.choice ∷ []) (get_or-set_other logs i x.parent log [] (none 0 x refl)) in
+    let longer : length (logs ++ one ∷ []) ≡ length logs + 1 = length-append logs (one ∷ []) in
+    ap (λ (l : List Choice). logs_behind (set logs i log ++ l ∷ []) nodes) same
+    ∙ ap (λ (xs : List (List Choice)). logs_behind xs nodes) (sym (set-append_left logs (one ∷ []) i log lt))
+    ∙ behind-set (logs ++ one ∷ []) nodes i log (omega (arith, lt, longer)) (λ k y h. none (suc k) y h)
+
+behind-put : (logs : List (List Choice)) (nodes : List Node) (i : ℕ) (node : Node) → i < length nodes → node.parent < length logs + i
+    → ((k : ℕ) (x : Node) → slice_get nodes k ≡ Some x → x.parent ≢ length logs + i)
+    → logs_behind logs (set nodes i node) ≡ set (logs_behind logs nodes) (length logs + i) (log_behind (logs_behind logs nodes) node)
+behind-put logs [] i node lt less none = absurd (omega (arith, lt))
+behind-put logs (x ∷ nodes) zero node lt less none =
+    let place : length logs + 0 ≡ length logs = omega arith in
+    let old = log_behind logs x in
+    let new = log_behind logs node in
+    let now = logs ++ old ∷ [] in
+    let longer : length now ≡ length logs + 1 = length-append logs (old ∷ []) in
+    let parent = some-there logs node.parent (omega (arith, less)) in
+    let kept = behind-keeps now nodes node.parent parent.0 (get-front logs (old ∷ []) node.parent parent.0 parent.1) in
+    let front : slice_index_or logs node.parent [] ≡ parent.0 = get_or_from_slice_get logs node.parent parent.0 [] parent.1 in
+    let whole : slice_index_or (logs_behind now nodes) node.parent [] ≡ parent.0 = get_or_from_slice_get (logs_behind now nodes) node.parent parent.0 [] kept in
+    let same : new ≡ log_behind (logs_behind now nodes) node =
+    ap (λ (log : List Choice). log ++ choice_of node.choice ∷ []) (front ∙ sym whole) in
+    ap (λ (xs : List (List Choice)). logs_behind xs nodes) (sym (set-append_seam logs old [] new))
+    ∙ behind-set now nodes (length logs) new (omega (arith, longer)) (λ k y h e. none (suc k) y h (e ∙ sym place))
+    ∙ ap (λ (log : List Choice). set (logs_behind now nodes) (length logs) log) same
+    ∙ ap (λ i. set (logs_behind now nodes) i (log_behind (logs_behind now nodes) node)) (sym place)
+behind-put logs (x ∷ nodes) (suc i) node lt less none =
+    let now = logs ++ log_behind logs x ∷ [] in
+    let one : length now ≡ length logs + 1 = length-append logs (log_behind logs x ∷ []) in
+    let same : length now + i ≡ length logs + suc i = omega (arith, one) in
+    behind-put now nodes i node (omega (arith, lt)) (omega (arith, less, one)) (λ k y h e. none (suc k) y h (e ∙ same))
+    ∙ ap (λ j. set (logs_behind now nodes) j (log_behind (logs_behind now nodes) node)) same
+
+pub logs-put : (nodes : List Node) (number last : ℕ) (node : Node) → HaveNoParentBehind last nodes → last < number → number < length nodes
+    → node.parent < number → logs_of (set nodes number node) ≡ set (logs_of nodes) number (log_behind (logs_of nodes) node)
+logs-put [] number last node none far lt less = absurd (omega (arith, lt))
+logs-put (x ∷ nodes) zero last node none far lt less = absurd (omega (arith, far))
+logs-put (x ∷ nodes) (suc i) last node none far lt less =
+    let first : List (List Choice) = [] ∷ [] in
+    let place : length first + i ≡ suc i = omega arith in
+    behind-put first nodes i node (omega (arith, lt)) (omega (arith, less))
+    (λ k y h e. let low = none (suc k) y h in absurd (omega (arith, low, far, e)))
+    ∙ ap (λ j. set (logs_behind first nodes) j (log_behind (logs_behind first nodes) node)) place
+
+pub grown-put : (nodes : List Node) (number : ℕ) (node : Node) → AreGrown nodes → node.parent < number → AreGrown (set nodes number node)
+grown-put nodes number node grown less = record {
+  some = (let size = length-set nodes number node in let some = grown.some in omega (arith, size, some));
+  below = λ k other h lt. elim (set-split nodes number node k other h) [
+    | inl put ↦ subst (λ (x : Node). x.parent < k) (sym put.1) (omega (arith, less, put.0))
+    | inr old ↦ grown.below k other old lt
+  ];
+}
+
+-- no parent is further behind
+pub parents-put : (last now : ℕ) (nodes : List Node) (number : ℕ) (node : Node) → HaveNoParentBehind last nodes → now ≡ max last node.parent
+    → HaveNoParentBehind now (set nodes number node)
+parents-put last now nodes number node none most k other h =
+    let le = le-max_left last node.parent in
+    let less : node.parent ≤ now = (let right = le-max_right last node.parent in omega (arith, right, most)) in
+    elim (set-split nodes number node k other h) [
+      | inl put ↦ subst (λ (x : Node). x.parent ≤ now) (sym put.1) less
+      | inr old ↦ let low = none k other old in omega (arith, low, le, most)
+    ]
+
+pub parents-more : (last now : ℕ) (nodes all : List Node) (node : Node) → HaveNoParentBehind last nodes → now ≡ max last node.parent
+    → all ≡ nodes ++ node ∷ [] → HaveNoParentBehind now all
+parents-more last now nodes all node none most is =
+    let le = le-max_left last node.parent in
+    let less : node.parent ≤ now = (let right = le-max_right last node.parent in omega (arith, right, most)) in
+    subst (HaveNoParentBehind now) (sym is) (λ k other h. elim (get-cases nodes (node ∷ []) k other h) [
+      | inl old ↦ let low = none k other old in omega (arith, low, le, most)
+      | inr new ↦ let one = one-there node other new.place new.there in subst (λ (x : Node). x.parent ≤ now) one.1 less
+    ])
 
 pub grown-more : (nodes now : List Node) (node : Node) → AreGrown nodes → node.parent < length nodes → now ≡ nodes ++ node ∷ [] → AreGrown now
 grown-more nodes now node grown less is =

@@ -1,35 +1,45 @@
 -- What the parts of a search become while it looks at a log.
 use Rattle.std.proofs.Common.{◌≡◌, ◌≤◌, ◌+◌, inl, inr, ℕ, true, List, length, map, Some, refl, sym, ap, ◌∙◌, subst, arith, slice_get}
+use Rattle.std.proofs.lemmas.Bool.{cases_lt}
 use Rattle.std.proofs.lemmas.Option.{slice_get_within}
 use Rattle.cilk_machine.specs.labelled.Labelled.{Labelled}
 use Rattle.cilk_machine.specs.labelled.Bodies.{label}
 use Rattle.cilk_machine.specs.model.Choice.{Choice}
+use Rattle.cilk_machine.specs.model.Run.{Position, after}
 use Rattle.cilk_explore.specs.explore.Search.{Told}
 use Rattle.cilk_explore.specs.explore.OrMore.{EachHasIdle}
 use Rattle.cilk_explore.specs.declared.explorer.Explorer.{Explorer}
 use Rattle.cilk_explore.specs.Walks.{Walk}
 use Rattle.cilk_explore.specs.Telling.{told_by}
-use Rattle.cilk_explore.specs.LogLooking.{search_of, IsLooking, Extends, AreClosed, TellsOf}
+use Rattle.cilk_explore.specs.LogLooking.{search_of, IsLooking, IsFound, Extends, AreClosed, TellsOf}
 use Rattle.cilk_explore.specs.Exploring.{program_of, workers_of, IsPaired, IsBetween, AreFound, IsAt, KeepsBut, Grows, SaysIdle}
-use Rattle.cilk_explore.proofs.Fronts.{get-front, get-cases}
+use Rattle.cilk_explore.proofs.Fronts.{one-entry, some-there}
 use Rattle.cilk_explore.proofs.Growing.{extends-none, extends-then, looked-on, halted}
 use Rattle.cilk_explore.proofs.Idles.{idle-at-each}
 
--- logs that are longer by more of this length still lead somewhere
+of-found : (program : Labelled) (n depth : ℕ) (log : List Choice) → IsFound program n depth log
+    → (length log ≤ depth) × ((to : Position) × (after program n log ≡ Some to))
+of-found program n depth log found = let size = found.size in (omega arith, (found.to, found.leads))
+
+-- logs of which more of this length were found still lead somewhere
 pub found-more : (program : Labelled) (n depth : ℕ) (logs now : List (List Choice)) → AreFound program n depth logs → Extends program n depth logs now
     → AreFound program n depth now
-found-more program n depth logs now found ext = record {
-  size = λ k log h.
-      elim (get-cases logs ext.more k log (sym (ap (λ (xs : List (List Choice)). slice_get xs k) ext.is) ∙ h)) [
-        | inl old ↦ found.size k log old
-        | inr new ↦ let size = (ext.each new.place log new.there).size in omega arith
-      ];
-  leads = λ k log h.
-      elim (get-cases logs ext.more k log (sym (ap (λ (xs : List (List Choice)). slice_get xs k) ext.is) ∙ h)) [
-        | inl old ↦ found.leads k log old
-        | inr new ↦ let one = ext.each new.place log new.there in (one.to, one.leads)
-      ];
-}
+found-more program n depth logs now found ext =
+    let each : (k : ℕ) (log : List Choice) → slice_get now k ≡ Some log → (length log ≤ depth) × ((to : Position) × (after program n log ≡ Some to)) =
+    λ k log h. elim (cases_lt k (length logs)) [
+      | inl lt ↦
+          let old = some-there logs k lt in
+          let kept = ext.kept k old.0 old.1 in
+          let own : kept.other ≡ log = one-entry (slice_get now k) kept.other log kept.there h in
+          elim kept.is [
+            | inl same ↦
+                let was : slice_get logs k ≡ Some log = old.1 ∙ ap Some (sym same ∙ own) in
+                (found.size k log was, found.leads k log was)
+            | inr way ↦ of-found program n depth log (subst (IsFound program n depth) own way.found)
+          ]
+      | inr ge ↦ of-found program n depth log (ext.new k log h ge)
+    ] in
+    record { size = λ k log h. (each k log h).0; leads = λ k log h. (each k log h).1 }
 
 -- one after the other
 pub grows-none : (depth : ℕ) (e : Explorer) → length e.store ≤ e.limit → KeepsBut depth e e
@@ -67,11 +77,12 @@ paired-on depth e f paired x = record {
 
 pub at-on : (e f : Explorer) (number : ℕ) → IsAt e number → Grows e f → IsAt f number
 at-on e f number at x =
+    let kept = x.extends.kept number e.walker.log at.there in
+    let same : kept.other ≡ e.walker.log = elim kept.is [ inl same ↦ same | inr way ↦ let size = way.size in absurd (omega arith) ] in
     let found = found-more (program_of e) (workers_of e) (length e.walker.log + 1) e.store f.store at.found x.extends in
     record {
       paired = paired-on (length e.walker.log + 1) e f at.paired x;
-      there = ap (λ (xs : List (List Choice)). slice_get xs number) x.extends.is ∙ get-front e.store x.extends.more number e.walker.log at.there
-          ∙ ap (λ (walk : Walk). Some walk.log) (sym x.walker);
+      there = kept.there ∙ ap Some (same ∙ ap (λ (walk : Walk). walk.log) (sym x.walker));
       found = subst (λ (walk : Walk). AreFound (label walk.program) walk.workers (length walk.log + 1) f.store) (sym x.walker) found;
       room = x.room;
     }

@@ -4,6 +4,7 @@ use Rattle.cilk_machine.specs.labelled.Labelled.{Labelled}
 use Rattle.cilk_machine.specs.model.Choice.{Act, Choice}
 use Rattle.cilk_machine.specs.model.Run.{Position, after}
 use Rattle.cilk_machine.specs.explore.Ending.{Ending}
+use Rattle.cilk_machine.specs.explore.Names.{SameButNames}
 use Rattle.cilk_machine.specs.explore.Search.{Known, Search, IsSearch, Told, LeadsTo, Tells}
 
 abbrev pub search_of : List (List Choice) → ℕ → Search
@@ -22,11 +23,24 @@ pub record IsFound (program : Labelled) (n depth : ℕ) (log : List Choice) : Ty
   pub to : Position
   pub leads : after program n log ≡ Some to
 
--- more were found, each so long
+-- another log of that length leads to the same, but for the names of the workers
+pub record IsOtherWay (program : Labelled) (n depth : ℕ) (log other : List Choice) : Type 0 where
+  pub size : length log ≡ depth
+  pub at : Position
+  pub leads : after program n log ≡ Some at
+  pub found : IsFound program n depth other
+  pub same : SameButNames at.standing found.to.standing
+
+-- a log is there still, or in its place one that is another way to the same
+pub record IsKept (program : Labelled) (n depth : ℕ) (now : List (List Choice)) (k : ℕ) (log : List Choice) : Type 0 where
+  pub other : List Choice
+  pub there : slice_get now k ≡ Some other
+  pub is : (other ≡ log) ⊎ IsOtherWay program n depth log other
+
+-- more were found, each so long, and some that are so long are other ways now
 pub record Extends (program : Labelled) (n depth : ℕ) (logs now : List (List Choice)) : Type 0 where
-  pub more : List (List Choice)
-  pub is : now ≡ logs ++ more
-  pub each : (k : ℕ) (log : List Choice) → slice_get more k ≡ Some log → IsFound program n depth log
+  pub kept : (k : ℕ) (log : List Choice) → slice_get logs k ≡ Some log → IsKept program n depth now k log
+  pub new : (k : ℕ) (log : List Choice) → slice_get now k ≡ Some log → length logs ≤ k → IsFound program n depth log
 
 -- where one choice behind a log leads is known, if it is possible
 abbrev pub IsClosed : Labelled → ℕ → List (List Choice) → List Choice → Choice → Type 0

@@ -1,5 +1,5 @@
 -- The nodes of a search stand for the logs that it has found: each is that of its parent, and one choice more.
-use Rattle.std.specs.Prelude.{◌≡◌, ◌<◌, ℕ, List, [], ◌∷◌, ◌++◌, length, Some, slice_get, slice_index_or}
+use Rattle.std.specs.Prelude.{◌≡◌, ◌<◌, ◌≤◌, ℕ, List, [], ◌∷◌, ◌++◌, length, Some, slice_get, slice_index_or}
 use Rattle.cilk_machine.specs.model.Choice.{Choice}
 use Rattle.cilk_machine.specs.choices.Words.{choice_of}
 use Rattle.cilk_explore.specs.declared.node.Node.{Node}
@@ -22,3 +22,7 @@ logs_of (first ∷ nodes) = logs_behind ([] ∷ []) nodes
 pub record AreGrown (nodes : List Node) : Type 0 where
   pub some : 0 < length nodes
   pub below : (k : ℕ) (node : Node) → slice_get nodes k ≡ Some node → 0 < k → node.parent < k
+
+-- none has a parent of a larger number than this
+abbrev pub HaveNoParentBehind : ℕ → List Node → Type 0
+HaveNoParentBehind last nodes = (k : ℕ) (node : Node) → slice_get nodes k ≡ Some node → node.parent ≤ last

@@ -1,6 +1,7 @@
 //! Whether a standing was found before.
 
-ghost use Rattle.std.specs.Prelude.{◌≡◌, ◌<◌, true, length, Ok, IfOk, IfSome};
+ghost use Rattle.std.specs.Prelude.{◌≡◌, ◌<◌, true, length, map, Ok, Some, IfOk, IfSome, slice_get};
+ghost use Rattle.cilk_machine.specs.choices.Words.{choice_of};
 ghost use Rattle.cilk_explore.specs.Looking.{LeadsToSame};
 
 use crate::store::Store;
@@ -19,6 +20,7 @@ pub(crate) fn known(
     requires program { probe.old.program ≡ walker.now.program }
     requires workers { probe.old.workers ≡ walker.now.workers }
     ensures same { IfOk result (λ found. IfSome found (LeadsToSame walker.now store.now)) }
+    ensures log { IfOk result (λ found. IfSome found (λ number. slice_get store.now number ≡ Some (map choice_of log.new.items))) }
     ensures program { probe.new.program ≡ probe.old.program }
     ensures workers { probe.new.workers ≡ probe.old.workers }
 {
@@ -46,6 +48,7 @@ fn leads_to_same(
     requires program { probe.old.program ≡ walker.now.program }
     requires workers { probe.old.workers ≡ walker.now.workers }
     ensures same { result ≡ Ok true → LeadsToSame walker.now store.now number }
+    ensures log { result ≡ Ok true → slice_get store.now number ≡ Some (map choice_of log.new.items) }
     ensures program { probe.new.program ≡ probe.old.program }
     ensures workers { probe.new.workers ≡ probe.old.workers }
 {

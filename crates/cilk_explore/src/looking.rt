@@ -1,12 +1,14 @@
 //! One log is looked at: what is told of it, and where each choice behind it leads.
 
-ghost use Rattle.std.specs.Prelude.{ℕ, ◌≡◌, ◌≢◌, ◌<◌, ◌≤◌, ◌+◌, ◌++◌, ◌∷◌, [], true, false, length, Ok, Some, None, OnOk, IfOk, IfSome};
+ghost use Rattle.std.specs.Prelude.{ℕ, ◌≡◌, ◌≢◌, ◌<◌, ◌≤◌, ◌+◌, ◌++◌, ◌∷◌, [], true, false, length, map, Ok, Some, None, OnOk, IfOk, IfSome};
+ghost use Rattle.std.specs.Prelude.{slice_get};
 ghost use Rattle.cilk_machine.specs.labelled.Bodies.{label};
 ghost use Rattle.cilk_machine.specs.model.Choice as choices;
 ghost use Rattle.cilk_machine.specs.model.Run.{Position};
 ghost use Rattle.cilk_machine.specs.choices.Words.{choice_of};
 ghost use Rattle.cilk_explore.specs.explore.OrMore.{IsIdle};
 ghost use Rattle.cilk_explore.specs.Linking.{IsLinked, AreLinkedBy};
+ghost use Rattle.cilk_explore.specs.Looking.{LeadsToSame};
 ghost use Rattle.cilk_explore.specs.Walks.{position_of};
 ghost use Rattle.cilk_explore.specs.Exploring.{IsAt, IsBehind, IsBetween, HasLinks, IsKnownBy, Grows, Gathers, GoesOn, KeepsAs, SaysIdle};
 
@@ -15,6 +17,9 @@ use crate::endings::tell;
 use crate::explorer::Explorer;
 use crate::walker::Walker;
 use cilk_machine::{Act, Choice, Memory};
+
+// Of no more choices the first way is kept. It changes workers seldom, and logs so short are read.
+const KEPT_AS_FOUND: usize = 250;
 
 /// Looks at the log of this number. False where more is behind it than there is room for.
 pub(crate) fn look_at(explorer: &mut Explorer, number: usize, workers: u8) -> Result<bool, Memory>
@@ -251,7 +256,10 @@ fn keep(explorer: &mut Explorer, number: usize, choice: Choice) -> Result<Option
         &mut explorer.log,
     ) {
         Err(memory) => Err(memory),
-        Ok(Some(found)) => Ok(Some(found)),
+        Ok(Some(found)) => {
+            lead_otherwise(explorer, found, number, choice, digest);
+            Ok(Some(found))
+        }
         Ok(None) => {
             let own = explorer.store.len();
             if explorer.limit <= own {
@@ -263,4 +271,28 @@ fn keep(explorer: &mut Explorer, number: usize, choice: Choice) -> Result<Option
             }
         }
     }
+}
+
+// Keeps the way here in place of that to the log that was found, if both are as long, and a bit says so. Were each the first that was found, those to
+// logs side by side would have little in common, and it would be far from one to the next.
+fn lead_otherwise(explorer: &mut Explorer, found: usize, number: usize, choice: Choice, digest: u64)
+    requires behind { IsBehind explorer.old number (choice_of choice) }
+    requires same { LeadsToSame explorer.old.walker explorer.old.store found }
+    requires log { slice_get explorer.old.store found ≡ Some (map choice_of explorer.old.log.items) }
+    ensures keeps { KeepsAs explorer.old explorer.new }
+    ensures links { explorer.new.links ≡ explorer.old.links }
+    ensures known { IsKnownBy explorer.new found }
+{
+    // Brings its clauses into the proof.
+    let _log = explorer.walker.log();
+    let choices = explorer.walker.len();
+    if explorer.log.len() != choices || !is_other_way(choices, digest, number) {
+        return;
+    }
+    let _is_put = explorer.store.put_behind(found, number, choice);
+}
+
+// A bit of two numbers, where a way has many choices.
+fn is_other_way(choices: usize, digest: u64, number: usize) -> bool {
+    KEPT_AS_FOUND < choices && (digest >> 7 ^ number as u64) & 1 == 1
 }

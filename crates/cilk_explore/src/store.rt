@@ -1,6 +1,6 @@
 //! The logs that a search has found, each kept as the choice that it has more than an earlier one.
 
-ghost use Rattle.std.specs.Prelude.{◌≡◌, ◌<◌, ◌++◌, ◌∷◌, [], length, map, Some, IfOk, IfSome, OnErr, OnOk, slice_get, slice_index_or};
+ghost use Rattle.std.specs.Prelude.{◌≡◌, ◌<◌, ◌++◌, ◌∷◌, [], length, map, true, false, Some, IfOk, IfSome, OnErr, OnOk, set, slice_get, slice_index_or};
 ghost use Rattle.cilk_machine.specs.choices.Words.{choice_of};
 
 use crate::node::Node;
@@ -14,6 +14,8 @@ use std::marker::Model;
 pub(crate) struct Store {
     nodes: Vec<Node>,
     latest: HashMap<u64, u32>,
+    /// No node has a parent of a larger number.
+    last_parent: u32,
 }
 
 impl Model for Store {
@@ -22,11 +24,11 @@ impl Model for Store {
 
     ghost Value = { List (List choices.Choice) };
 
-    ghost use Rattle.cilk_explore.specs.Logs.{logs_of, AreGrown};
+    ghost use Rattle.cilk_explore.specs.Logs.{logs_of, AreGrown, HaveNoParentBehind};
 
     ghost view = { λ s. logs_of s.nodes.items };
 
-    ghost invariant = { λ s. AreGrown s.nodes.items };
+    ghost invariant = { λ s. AreGrown s.nodes.items × HaveNoParentBehind s.last_parent s.nodes.items };
 }
 
 impl Store {
@@ -46,7 +48,11 @@ impl Store {
         };
         latest.insert(digest, 0)?;
         nodes.push(first)?;
-        Ok(Store { nodes, latest })
+        Ok(Store {
+            nodes,
+            latest,
+            last_parent: 0,
+        })
     }
 
     /// How many there are.
@@ -86,16 +92,38 @@ impl Store {
             return Err(Memory::from(AllocError));
         }
         let own = number as u32;
+        let above = parent as u32;
         let before = self.latest.get(&digest).copied().unwrap_or(own);
         if self.latest.insert(digest, own).is_err() {
             return Err(Memory::from(AllocError));
         }
         self.nodes.push_reserved(Node {
-            parent: parent as u32,
+            parent: above,
             before,
             choice,
         });
+        self.last_parent = self.last_parent.max(above);
         Ok(())
+    }
+
+    /// Puts in place of the log of this number that of an earlier one, and a choice. False where another log may be behind it.
+    pub fn put_behind(&mut self, number: usize, parent: usize, choice: Choice) -> bool
+        requires { number < length self.old }
+        ensures put { result ≡ true → self.new ≡ set self.old number (slice_index_or self.old parent [] ++ choice_of choice ∷ []) }
+        ensures same { result ≡ false → self.new ≡ self.old }
+    {
+        if number <= parent || number <= self.last_parent as usize || number > u32::MAX as usize {
+            return false;
+        }
+        let above = parent as u32;
+        let before = self.nodes[number].before;
+        self.nodes[number] = Node {
+            parent: above,
+            before,
+            choice,
+        };
+        self.last_parent = self.last_parent.max(above);
+        true
     }
 
     /// The last log that leads to a standing of this digest.

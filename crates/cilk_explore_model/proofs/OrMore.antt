@@ -31,7 +31,7 @@ use Rattle.cilk_explore_model.proofs.Renaming.{is_worker_from, named_at}
 use Rattle.cilk_explore_model.proofs.Idle.{with_idle, with_more, reads, writes, names_beside, more_free, more_next, one_of_them}
 
 -- who is idle is so by the other name
-idle_alike : (a b : Standing) → SameButNames a b → HasIdle a → HasIdle b
+pub idle_alike : (a b : Standing) → SameButNames a b → HasIdle a → HasIdle b
 idle_alike a b same idle =
     let moves = same.places.moves in
     let named = named_at a.scheduler.places moves same.places.below idle.worker idle.is.there in

@@ -2,7 +2,6 @@
 use Rattle.std.proofs.Common.{◌≡◌, ◌≢◌, Bool, false, ◌&&◌, ℕ, Some, None, refl, sym, ap, ◌∙◌}
 use Rattle.std.specs.Prelude.{is_none, option_map, Result, Ok, Err, IfOk}
 use Rattle.cilk_machine_undo.specs.labelled.Bodies.{label}
-use Rattle.cilk_machine_choices.specs.model.Choice as model
 use Rattle.cilk_machine_choices.specs.model.Scheduler as sched
 use Rattle.cilk_machine_choices.specs.model.Hands.{hand_of}
 use Rattle.cilk_machine_choices.specs.model.Run.{Standing, event_by_hand, event_of, event_of_step}

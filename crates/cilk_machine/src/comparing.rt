@@ -6,7 +6,7 @@ ghost use Rattle.cilk_machine_undo.specs.agree.Outside.{lock_by};
 ghost use Rattle.cilk_machine_choices.specs.model.Hands.{IsWorker};
 
 use cilk_machine_choices::Outcome;
-use cilk_machine_undo::{Frame, Hands, Lock, Mixer, Tree};
+use cilk_machine_undo::{Hands, Id, Lock, Mixer, Tree};
 
 /// Whether the locks are the same.
 pub(crate) fn are_same_locks(locks: &[Lock], tree: &Tree, others: &[Lock], other: &Tree) -> bool
@@ -89,24 +89,29 @@ fn mixed_place(hands: &Hands, tree: &Tree, worker: u8) -> u64
     requires { IsWorker hands.now worker }
 {
     let mut mixer = Mixer::new();
-    match hands.hand(worker) {
-        None => mixer.put(0),
-        Some(frame) => mix_frame(frame, tree, &mut mixer),
-    }
     let count = hands.len(worker);
     mixer.put(count as u64);
+    let mut near = Id::new(0);
+    let mut path: u64 = 0;
     for i in 0..count {
         match hands.queued(worker, i) {
             None => {}
-            Some(frame) => mix_frame(frame, tree, &mut mixer),
+            Some(frame) => {
+                path = tree.mixed_path_by(frame.id(), near, path);
+                near = frame.id();
+                mixer.put(path);
+                frame.mix(&mut mixer);
+            }
+        }
+    }
+    match hands.hand(worker) {
+        None => mixer.put(0),
+        Some(frame) => {
+            mixer.put(tree.mixed_path_by(frame.id(), near, path));
+            frame.mix(&mut mixer);
         }
     }
     mixer.mixed()
-}
-
-fn mix_frame(frame: &Frame, tree: &Tree, mixer: &mut Mixer) {
-    tree.mix_path(frame.id(), mixer);
-    frame.mix(mixer);
 }
 
 /// So do the locks.
@@ -117,7 +122,7 @@ pub(crate) fn mix_locks(locks: &[Lock], tree: &Tree, mixer: &mut Mixer) {
             Lock::Free => mixer.put(2),
             Lock::Held(id) => {
                 mixer.put(3);
-                tree.mix_path(*id, mixer);
+                mixer.put(tree.mixed_path(*id));
             }
         }
     }

@@ -1,9 +1,9 @@
 //! Whether the workers of two machines have the same in their hands and deques, whatever their names are.
 
-ghost use Rattle.std.specs.Prelude.{◌≡◌, ◌<◌, ◌≤◌, ◌+◌, ℕ, true, All, length, Some, IfSome, slice_get, slice_index};
-ghost use Rattle.cilk_machine_undo.specs.frame.Frames as frames;
+ghost use Rattle.std.specs.Prelude.{◌≡◌, ◌<◌, ◌≤◌, ◌+◌, ℕ, true, All, length, Some, IfSome, slice_index};
 ghost use Rattle.cilk_machine_choices.specs.model.Hands.{IsWorker, hand_of, deque_of};
 ghost use Rattle.cilk_view.specs.explore.Alike.{SameHeld, SameHand, SameDeque, SamePlacesBut};
+ghost use Rattle.cilk_machine.specs.Matching.{IsSameAt};
 
 use cilk_machine_undo::{Frame, Hands, Tree};
 
@@ -113,17 +113,42 @@ impl<'a> Both<'a> {
         true
     }
 
+    // Whether the frames at place k are the same.
     fn is_same_queued(&self, k: usize, worker: u8, to: u8) -> bool
         requires here { IsWorker self.now.hands.now worker }
         requires there { IsWorker self.now.others.now to }
-        ensures { result ≡ true → (f g : frames.Frame) → slice_get (deque_of self.now.hands.now worker) k ≡ Some f
-            → slice_get (deque_of self.now.others.now to) k ≡ Some g → SameHeld self.now.tree.now.nodes self.now.other.now.nodes f g }
+        requires above { (i : ℕ) → i + 1 ≡ k → IsSameAt self.now i worker to }
+        ensures { result ≡ true → IsSameAt self.now k worker to }
     {
         match self.hands.queued(worker, k) {
             None => false,
             Some(frame) => match self.others.queued(to, k) {
                 None => false,
-                Some(held) => is_same_frame(frame, self.tree, held, self.other),
+                Some(held) => self.is_same_below(k, worker, to, frame, held),
+            },
+        }
+    }
+
+    // Whether two frames at place k are the same. Most instances in a deque were born of the one above them: their paths are compared from there on.
+    fn is_same_below(&self, k: usize, worker: u8, to: u8, frame: &Frame, held: &Frame) -> bool
+        requires here { IsWorker self.now.hands.now worker }
+        requires there { IsWorker self.now.others.now to }
+        requires above { (i : ℕ) → i + 1 ≡ k → IsSameAt self.now i worker to }
+        ensures { result ≡ true → SameHeld self.now.tree.now.nodes self.now.other.now.nodes frame.now held.now }
+    {
+        if k == 0 {
+            return is_same_frame(frame, self.tree, held, self.other);
+        }
+        match self.hands.queued(worker, k - 1) {
+            None => false,
+            Some(near) => match self.others.queued(to, k - 1) {
+                None => false,
+                Some(by) => {
+                    frame.goes_on_as(held)
+                        && self
+                            .tree
+                            .is_same_path_by(frame.id(), self.other, held.id(), near.id(), by.id())
+                }
             },
         }
     }

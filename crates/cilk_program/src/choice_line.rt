@@ -9,7 +9,8 @@ ghost use Rattle.cilk_races.specs.measure.replay.log.Words.{log_of};
 ghost use Rattle.cilk_program.specs.ChoiceLines.{IsChoiceOf, choice_words, line_of_choice, new_lines, nth_choice};
 
 use crate::meaning::refusal_meaning;
-use cilk_races::{Log, Memory};
+use cilk_log::Log;
+use cilk_races::Memory;
 use cilk_run::{Act, Choice, Refusal};
 use std::alloc::Global;
 

@@ -5,7 +5,8 @@ ghost use Rattle.cilk_races.specs.measure.replay.log.Words.{log_of};
 ghost use Rattle.cilk_program.specs.Saying.{IsFaultTold};
 
 use crate::choice_line::choice_told;
-use cilk_races::{Log, Memory, ReplayFault};
+use cilk_log::Log;
+use cilk_races::{Memory, ReplayFault};
 use std::alloc::Global;
 
 /// What is told behind the line of a failure, where more is asked for.

@@ -1,4 +1,4 @@
-//! How a program that was run or replayed stands, and what is told of its trap behind the answer.
+//! `Ended`: how a program that was run or replayed stands, and what is told of its trap behind the answer.
 
 ghost use Rattle.std.specs.Prelude.{◌≡◌, ◌++◌, ℕ, List, OnErr, OnOk, false, true, codes};
 ghost use Rattle.std.specs.Io.KnownBytes.{Appends};

@@ -1,5 +1,5 @@
-//! A program run by several workers: each is a thread, and all take their turns at one machine under one lock, which keeps the choices that
-//! were made beside it. Or the workers are simulated, without threads: a seed names their choices, and a tally counts how the runs by many seeds end.
+//! A program run by several workers: each is a thread, and all take their turns at one machine under one lock, under which the choices that were
+//! made are kept too. Or the workers are simulated, without threads: a seed names their choices, and a tally counts how the runs by many seeds end.
 #![tactic(auto)]
 
 mod ahead;

@@ -58,6 +58,7 @@ pub struct Table<J: Setting> {
     digest: [u8; 32],
     workers: u8,
     limit: u32,
+    /// How many choices each worker made.
     turns: Vec<u64>,
     /// A worker met want of memory.
     is_short: bool,

@@ -13,6 +13,7 @@ use Rattle.cilk_spawn.specs.Nodes.{Node, node_at, is_live, path_at, IsFrom, IsTr
 use Rattle.cilk_spawn.specs.Records.{nodes_of, node_of, child_of, place_at, Kept}
 use Rattle.cilk_spawn.specs.Alike.{SameDelivery, SameWaiting}
 use Rattle.cilk_spawn.proofs.Trees.{path_child, live_there}
+use Rattle.cilk_spawn.proofs.Children.{root_path}
 use Rattle.cilk_spawn.proofs.Records.{At, at_is, record_is}
 use Rattle.cilk_spawn.proofs.Written.{nodes_are}
 
@@ -99,9 +100,11 @@ module _ (rs qs : List Record) (ids others : List ℕ) (v w : Family) (e : let f
         sym (ap (λ (ns : List Node). path_at ns i) one) ∙ is.1 ∙ ap (λ (ns : List Node). path_at ns c) other,
       )
 
-pub first_of : (o : Option ℕ) (P Q : ℕ → Type 0) → IfSome o (λ c. P c × Q c) → IfSome o P
-first_of None P Q h = tt
-first_of (Some c) P Q h = h.0
+  -- the roots have one path
+  pub roots_are_partners : (i j : ℕ) → i ≡ 0 → j ≡ 0 → path_at v.nodes i ≡ path_at w.nodes j
+  roots_are_partners i j here there =
+      ap (path_at v.nodes) here ∙ root_path v.nodes (tree_told rs ids v e kept) ∙ sym (root_path w.nodes (tree_told qs others w g also))
+      ∙ ap (path_at w.nodes) (sym there)
 
 pub second_of : (o : Option ℕ) (P Q : ℕ → Type 0) → IfSome o (λ c. P c × Q c) → IfSome o Q
 second_of None P Q h = tt

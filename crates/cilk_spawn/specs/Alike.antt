@@ -26,6 +26,10 @@ pub record SameKept (a b : Node) : Type 0 where
   pub parked : SameParked a.parked b.parked
 
 module _ (ns ms : List Node) where
+  -- i here and j there have one path
+  pub record ArePartners (i j : ℕ) : Type 0 where
+    pub path : path_at ns i ≡ path_at ms j
+
   pub record SameDelivery (d e : Delivery) : Type 0 where
     pub child : path_at ns d.child ≡ path_at ms e.child
     pub value : d.value ≡ e.value

@@ -59,7 +59,7 @@ Exit status:
   2  the command line is wrong
   3  the run ended with a trap
   4  the run is stuck
-  5  the run met its limit of choices, or the exploration its limit of standings
+  5  the run met its limit of choices, the log has no more, or the exploration met its limit of standings
   6  memory has run out
   7  a file cannot be read or written, or the input or the output failed
   8  the exploration found several outcomes, or the run has a race";

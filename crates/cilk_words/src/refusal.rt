@@ -1,4 +1,4 @@
-//! What is told where the words ask for no task: help, the version, or what is wrong.
+//! `NoRequest`: what is told where the words ask for no task: help, the version, or what is wrong.
 
 use crate::clash::Clash;
 use crate::plain::plain;

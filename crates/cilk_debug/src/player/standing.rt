@@ -38,8 +38,9 @@ fn cost_of(records: usize, place: usize, k: usize) -> u64
 }
 
 impl Player {
-    /// Stands behind the first k choices; how many are made and taken back on the way. That are those between where no checkpoint lies between
-    /// and there are records, and else those behind the checkpoint before. Where memory has run out, it stands where it stood.
+    /// Stands behind the first k choices, and tells what the way costs, which goes by the positions: the choices between where no checkpoint lies
+    /// between and there are records, and else those behind the checkpoint before. The spare may make others, but never more than 999. Where memory
+    /// has run out, it stands where it stood.
     pub fn stand_at(&mut self, k: usize) -> Result<u64, Memory>
         requires { k ≤ length self.old.tape.choices }
         ensures there { OnOk result (self.new ≡ played_to self.old k) }

@@ -21,8 +21,19 @@ impl Tree {
     pub fn is_same_path(&self, id: Id, other: &Tree, to: Id) -> bool
         ensures { result ≡ true → path_at self.now.nodes id ≡ path_at other.now.nodes to }
     {
+        // Brings its clauses into the proof.
+        let _count = self.records.len();
+        let _others = other.records.len();
+        self.is_same_path_by(id, other, to, Id::new(0), Id::new(0))
+    }
+
+    /// The same, where two are known that have one path: what is on the way to these is not compared again.
+    pub fn is_same_path_by(&self, id: Id, other: &Tree, to: Id, near: Id, by: Id) -> bool
+        requires { path_at self.now.nodes near ≡ path_at other.now.nodes by }
+        ensures { result ≡ true → path_at self.now.nodes id ≡ path_at other.now.nodes to }
+    {
         if id.number() < self.records.len() {
-            match self.partner(id, other) {
+            match self.partner(id, other, near, by) {
                 None => false,
                 Some(found) => found == to,
             }
@@ -31,13 +42,22 @@ impl Tree {
         }
     }
 
-    // Whether the same is told there of each that lives here.
+    // Whether the same is told there of each that lives here. Most live behind the one before them, or near it.
     fn all_are_told(&self, other: &Tree) -> bool
         ensures { result ≡ true → (i : ℕ) → is_live (node_at self.now.nodes i) ≡ true → (j : ℕ) × SameNode self.now.nodes other.now.nodes i j }
     {
+        // Brings its clauses into the proof.
+        let _others = other.records.len();
+        let mut near = Id::new(0);
+        let mut by = Id::new(0);
         for k in 0..self.living.len() {
-            if !self.is_told(self.living[k], other) {
-                return false;
+            let here = self.living[k];
+            match self.told(here, other, near, by) {
+                None => return false,
+                Some(to) => {
+                    near = here;
+                    by = to;
+                }
             }
         }
         true
@@ -47,46 +67,81 @@ impl Tree {
     fn all_live(&self, other: &Tree) -> bool
         ensures { result ≡ true → (i : ℕ) → is_live (node_at self.now.nodes i) ≡ true → LivesAs self.now.nodes other.now.nodes i }
     {
+        // Brings its clauses into the proof.
+        let _others = other.records.len();
+        let mut near = Id::new(0);
+        let mut by = Id::new(0);
         for k in 0..self.living.len() {
-            if !self.lives_there(self.living[k], other) {
-                return false;
+            let here = self.living[k];
+            match self.living_partner(here, other, near, by) {
+                None => return false,
+                Some(to) => {
+                    near = here;
+                    by = to;
+                }
             }
         }
         true
     }
 
-    fn is_told(&self, id: Id, other: &Tree) -> bool
-        requires { id < length self.now.nodes }
-        ensures { result ≡ true → (j : ℕ) × SameNode self.now.nodes other.now.nodes id j }
+    // The instance there of which the same is told, if it has the path of this one.
+    fn told(&self, id: Id, other: &Tree, near: Id, by: Id) -> Option<Id>
+        requires here { id < length self.now.nodes }
+        requires near { path_at self.now.nodes near ≡ path_at other.now.nodes by }
+        ensures same { IfSome result (λ to. SameNode self.now.nodes other.now.nodes id to) }
     {
-        match self.partner(id, other) {
-            None => false,
-            Some(to) => self.is_told_as(id, other, to),
+        match self.partner(id, other, near, by) {
+            None => None,
+            Some(to) => {
+                if to.number() < other.records.len() && self.is_told_as(id, other, to) {
+                    Some(to)
+                } else {
+                    None
+                }
+            }
         }
     }
 
-    fn lives_there(&self, id: Id, other: &Tree) -> bool
-        requires { id < length self.now.nodes }
-        ensures { result ≡ true → LivesAs self.now.nodes other.now.nodes id }
-    {
-        match self.partner(id, other) {
-            None => false,
-            Some(to) => other.records[to.number()].is_live(),
-        }
-    }
-
-    // The instance there with the path of this one. Each on the way to it lives.
-    fn partner(&self, id: Id, other: &Tree) -> Option<Id>
-        requires { id < length self.now.nodes }
-        ensures there { IfSome result (λ to. to < length other.now.nodes) }
+    // The instance there with the path of this one, if it lives.
+    fn living_partner(&self, id: Id, other: &Tree, near: Id, by: Id) -> Option<Id>
+        requires here { id < length self.now.nodes }
+        requires near { path_at self.now.nodes near ≡ path_at other.now.nodes by }
+        ensures lives { IfSome result (λ to. is_live (node_at other.now.nodes to) ≡ true) }
         ensures path { IfSome result (λ to. path_at self.now.nodes id ≡ path_at other.now.nodes to) }
     {
+        match self.partner(id, other, near, by) {
+            None => None,
+            Some(to) => {
+                if to.number() < other.records.len() && other.records[to.number()].is_live() {
+                    Some(to)
+                } else {
+                    None
+                }
+            }
+        }
+    }
+
+    // The instance there with the path of this one. Each on the way to it lives, from the root on or from the one that is known to have a partner.
+    fn partner(&self, id: Id, other: &Tree, near: Id, by: Id) -> Option<Id>
+        requires here { id < length self.now.nodes }
+        requires near { path_at self.now.nodes near ≡ path_at other.now.nodes by }
+        ensures { IfSome result (λ to. path_at self.now.nodes id ≡ path_at other.now.nodes to) }
+    {
+        if id == near {
+            return Some(by);
+        }
         let record = &self.records[id.number()];
         match record.parent {
             None => Some(Id::new(0)),
-            Some(parent) => match self.partner(parent, other) {
+            Some(parent) => match self.partner(parent, other, near, by) {
                 None => None,
-                Some(to) => other.records[to.number()].child(record.ordinal),
+                Some(to) => {
+                    if other.records.len() <= to.number() {
+                        None
+                    } else {
+                        other.records[to.number()].child(record.ordinal)
+                    }
+                }
             },
         }
     }
@@ -168,32 +223,50 @@ impl Tree {
     /// What is told of each that lives enters a number that tells states apart, in an order that does not matter.
     pub fn mix(&self, mixer: &mut Mixer) {
         let mut all: u64 = 0;
+        let mut near = Id::new(0);
+        let mut path: u64 = 0;
         for k in 0..self.living.len() {
-            all = all.wrapping_add(self.mixed_of(self.living[k]));
+            let id = self.living[k];
+            path = self.mixed_path_by(id, near, path);
+            near = id;
+            all = all.wrapping_add(self.mixed_of(id, path));
         }
         mixer.put(all);
     }
 
-    /// The path of an instance enters it.
-    pub fn mix_path(&self, id: Id, mixer: &mut Mixer) {
-        let mut at = id;
-        for _ in 0..self.records.len() {
-            match self.records.get(at.number()) {
-                None => return,
-                Some(record) => {
-                    mixer.put(record.ordinal as u64);
-                    match record.parent {
-                        None => return,
-                        Some(parent) => at = parent,
-                    }
-                }
-            }
+    /// The path of an instance as a number that tells paths apart.
+    pub fn mixed_path(&self, id: Id) -> u64 {
+        self.mixed_path_by(id, Id::new(0), 0)
+    }
+
+    /// The same, where that of another is known, which may be on the way.
+    pub fn mixed_path_by(&self, id: Id, near: Id, path: u64) -> u64 {
+        if id.number() < self.records.len() {
+            self.mixed_way(id, near, path)
+        } else {
+            0
         }
     }
 
-    fn mixed_of(&self, id: Id) -> u64 {
+    fn mixed_way(&self, id: Id, near: Id, path: u64) -> u64
+        requires { id < length self.now.nodes }
+    {
+        if id == near {
+            return path;
+        }
+        let record = &self.records[id.number()];
         let mut own = Mixer::new();
-        self.mix_path(id, &mut own);
+        match record.parent {
+            None => {}
+            Some(parent) => own.put(self.mixed_way(parent, near, path)),
+        }
+        own.put(record.ordinal as u64);
+        own.mixed()
+    }
+
+    fn mixed_of(&self, id: Id, path: u64) -> u64 {
+        let mut own = Mixer::new();
+        own.put(path);
         match self.records.get(id.number()) {
             None => {}
             Some(record) => {

@@ -1,4 +1,4 @@
-//! How many choices a debugger makes and takes back for its moves.
+//! What a debugger's moves cost, by the positions.
 
 use super::{debugger, told};
 use cilk_debug::{Debugger, What};

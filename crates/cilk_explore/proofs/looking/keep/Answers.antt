@@ -1,15 +1,8 @@
 use Rattle.std.proofs.Common.{◌<◌, refl, arith, length}
 use Rattle.cilk_machine.specs.choices.Words.{choice_of}
 use Rattle.cilk_explore.specs.declared.explorer.Explorer.{Explorer}
-use Rattle.cilk_explore.proofs.Knows.{known-same, known-one, keeps-one}
+use Rattle.cilk_explore.proofs.Knows.{known-one, keeps-one}
 use Rattle.cilk_explore.proofs.looking.keep.Goals as goal
-
-pub returns-in-Ok-Some-clause-known : goal.returns-in-Ok-Some-clause-known
-returns-in-Ok-Some-clause-known c =
-    let e = c.args.explorer.now in
-    let f : Explorer = record e { probe = c.known.new.probe; log = c.known.new.log } in
-    let leads = c.log-log.ensures.leads in
-    known-same f c.in-Ok-Some.found c.requires.found (rw c.in-Ok-Some.field-0-is at c.in-Ok-Some.ensures.same) leads.0 leads.1
 
 pub returns-in-Ok-clause-keeps : goal.returns-in-Ok-clause-keeps
 returns-in-Ok-clause-keeps c =

@@ -18,7 +18,7 @@ pub loop-at-preserved : goal.loop-at-preserved
 loop-at-preserved c =
     let nodes = c.self.inside.nodes.items in
     let some : 0 < c.loop-at.at = omega arith in
-    reads-next nodes c.args.number c.loop-at.at c.loop-at.log.items c.push.new.self.items _ c.self.invariant
+    reads-next nodes c.args.number c.loop-at.at c.loop-at.log.items c.push.new.self.items _ c.self.invariant.0
     (slice_get_read nodes (length nodes) c.loop-at.at _ refl c.loop-at.invariant.within c.index-node.ensures) some c.loop-at.invariant
     c.in_ok-push.ensures.items
 
@@ -26,11 +26,11 @@ pub loop-at-smaller : goal.loop-at-smaller
 loop-at-smaller c =
     let nodes = c.self.inside.nodes.items in
     let some : 0 < c.loop-at.at = omega arith in
-    c.self.invariant.below c.loop-at.at _ (slice_get_read nodes (length nodes) c.loop-at.at _ refl c.loop-at.invariant.within c.index-node.ensures) some
+    c.self.invariant.0.below c.loop-at.at _ (slice_get_read nodes (length nodes) c.loop-at.at _ refl c.loop-at.invariant.within c.index-node.ensures) some
 
 pub returns : goal.returns
 returns c =
     let nodes = c.self.inside.nodes.items in
     ap (λ (logs : List (List Choice)). slice_get logs c.args.number) (sym c.self.view_is)
-    ∙ reads-all nodes c.args.number c.loop-at.at c.loop-at.log.items c.reverse.new.self.items c.self.invariant (omega arith) c.loop-at.invariant
+    ∙ reads-all nodes c.args.number c.loop-at.at c.loop-at.log.items c.reverse.new.self.items c.self.invariant.0 (omega arith) c.loop-at.invariant
     c.reverse.ensures.items

@@ -3,6 +3,9 @@ use Rattle.cilk_machine_choices.specs.model.Hands.{deque_of}
 use Rattle.cilk_machine.proofs.Compares.{deque_same}
 use Rattle.cilk_machine.proofs.matching.Both.is_same_deque.Goals as goal
 
+pub is_same_queued-requires-clause-above : goal.is_same_queued-requires-clause-above
+is_same_queued-requires-clause-above c = λ i next. c.loop-k.invariant i (omega (arith, next))
+
 pub loop-k-preserved : goal.loop-k-preserved
 loop-k-preserved c = below_more _ _ c.loop-k.invariant (c.if-not-is_same_queued.ensures refl)
 
@@ -11,4 +14,4 @@ returns c = λ e.
     let fs = deque_of c.args.self.now.hands.now c.args.worker in
     let gs = deque_of c.args.self.now.others.now c.args.to in
     let long : length fs ≡ length gs = omega arith in
-    deque_same c.args.self.now.tree.now.nodes c.args.self.now.other.now.nodes fs gs long (λ k lt. c.loop-k.invariant k (omega (arith, lt)))
+    deque_same c.args.self.now.tree.now.nodes c.args.self.now.other.now.nodes fs gs long (λ k lt. c.loop-k.invariant k (omega (arith, long)))

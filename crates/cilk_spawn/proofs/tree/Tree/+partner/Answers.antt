@@ -1,37 +1,25 @@
-use Rattle.std.proofs.Common.{◌≡◌, ◌<◌, length, refl}
+use Rattle.std.proofs.Common.{◌≡◌, ◌<◌, length, refl, arith}
 use Rattle.cilk_spawn.specs.Nodes.{path_at}
 use Rattle.cilk_spawn.proofs.Finds.{near}
-use Rattle.cilk_spawn.proofs.Compared.{partner_told, first_of, second_of}
+use Rattle.cilk_spawn.proofs.Compared.{partner_told, second_of}
 use Rattle.cilk_spawn.proofs.Records.{inside}
 use Rattle.cilk_spawn.proofs.Written.{nodes_are}
 use Rattle.cilk_spawn.proofs.tree.Tree.+partner.Goals as goal
 
-pub returns-in-Some-partner-clause-there : goal.returns-in-Some-partner-clause-there
-returns-in-Some-partner-clause-there t c =
+pub returns-else-len-number : goal.returns-else-len-number
+returns-else-len-number t c =
     let rs = c.self.inside.records.items in
     let qs = c.other.inside.records.items in
     let v = c.args.self.now in
     let w = c.args.other.now in
     let to = c.in-Some-partner.to in
-    let in-rs = inside rs v.nodes c.args.id c.args.id (nodes_are _ _ _ c.self.view_is) refl c.requires in
-    let in-qs = inside qs w.nodes to to (nodes_are _ _ _ c.other.view_is) refl c.in-Some-partner.ensures.there in
+    let in-rs = inside rs v.nodes c.args.id c.args.id (nodes_are _ _ _ c.self.view_is) refl c.requires.here in
     let here = near rs c.args.id _ _ c.number.ensures in-rs c.index-record.ensures in
-    let there = near qs to _ _ c.number-in-Some-partner.ensures in-qs c.index.ensures in
-    first_of c.child.result (λ i. i < length w.nodes) (λ i. path_at v.nodes c.args.id ≡ path_at w.nodes i)
-    (partner_told rs qs c.self.inside.living.items c.other.inside.living.items v w c.self.view_is c.other.view_is c.self.invariant c.other.invariant
-    c.args.id c.in-Some.parent to _ _ here c.in-Some.is c.in-Some-partner.ensures.path there c.child.result c.child.ensures)
-
-pub returns-in-Some-partner-clause-path : goal.returns-in-Some-partner-clause-path
-returns-in-Some-partner-clause-path t c =
-    let rs = c.self.inside.records.items in
-    let qs = c.other.inside.records.items in
-    let v = c.args.self.now in
-    let w = c.args.other.now in
-    let to = c.in-Some-partner.to in
-    let in-rs = inside rs v.nodes c.args.id c.args.id (nodes_are _ _ _ c.self.view_is) refl c.requires in
-    let in-qs = inside qs w.nodes to to (nodes_are _ _ _ c.other.view_is) refl c.in-Some-partner.ensures.there in
-    let here = near rs c.args.id _ _ c.number.ensures in-rs c.index-record.ensures in
-    let there = near qs to _ _ c.number-in-Some-partner.ensures in-qs c.index.ensures in
+    let size = c.number-in-Some-partner.ensures in
+    let less = c.if-len-number.false in
+    let long = c.len.ensures in
+    let in-qs : to < length qs = omega (arith, size, less, long, c.other.inside.records.ok.0) in
+    let there = near qs to _ _ c.number-else-len-number.ensures in-qs c.index.ensures in
     second_of c.child.result (λ i. i < length w.nodes) (λ i. path_at v.nodes c.args.id ≡ path_at w.nodes i)
     (partner_told rs qs c.self.inside.living.items c.other.inside.living.items v w c.self.view_is c.other.view_is c.self.invariant c.other.invariant
-    c.args.id c.in-Some.parent to _ _ here c.in-Some.is c.in-Some-partner.ensures.path there c.child.result c.child.ensures)
+    c.args.id c.in-Some.parent to _ _ here c.in-Some.is c.in-Some-partner.ensures there c.child.result c.child.ensures)

@@ -1,0 +1,36 @@
+use Rattle.std.proofs.Common.{◌<◌, ◌++◌, ◌∷◌, [], List, length, ap, ◌∙◌, arith, set, slice_index_or}
+use Rattle.cilk_machine.specs.model.Choice.{Choice}
+use Rattle.cilk_machine.specs.choices.Words.{choice_of}
+use Rattle.cilk_explore.specs.declared.node.Node.{Node}
+use Rattle.cilk_explore.proofs.Logs.{logs-length, logs-put, grown-put, parents-put}
+use Rattle.cilk_explore.proofs.store.Store.put_behind.Goals as goal
+
+pub index-requires : goal.index-requires
+index-requires c =
+    let size = ap length c.self.view_is in
+    omega (arith, size, logs-length c.self.inside.nodes.items, c.requires, c.self.inside.nodes.ok.0)
+
+pub index_mut-requires : goal.index_mut-requires
+index_mut-requires c =
+    let size = ap length c.self.view_is in
+    omega (arith, size, logs-length c.self.inside.nodes.items, c.requires, c.self.inside.nodes.ok.0)
+
+pub invariant_of-self : goal.invariant_of-self
+invariant_of-self c =
+    let nodes = c.self.inside.nodes.items in
+    let node : Node = record { parent = c.args.parent; before = c.index.result.now.before; choice = c.args.choice } in
+    let less = c.if-number-parent.false in (
+      grown-put nodes c.args.number node c.self.invariant.0 (omega (arith, less)),
+      parents-put c.self.inside.last_parent c.max-self-inside.result nodes c.args.number node c.self.invariant.1 c.max-self-inside.ensures,
+    )
+
+pub returns-clause-put : goal.returns-clause-put
+returns-clause-put c = λ e.
+    let nodes = c.self.inside.nodes.items in
+    let size = ap length c.self.view_is in
+    let node : Node = record { parent = c.args.parent; before = c.index.result.now.before; choice = c.args.choice } in
+    let far = c.if-number-self.false in
+    let less = c.if-number-parent.false in
+    let within : c.args.number < length nodes = omega (arith, size, logs-length nodes, c.requires) in
+    logs-put nodes c.args.number c.self.inside.last_parent node c.self.invariant.1 (omega (arith, far)) within (omega (arith, less))
+    ∙ ap (λ (logs : List (List Choice)). set logs c.args.number (slice_index_or logs c.args.parent [] ++ choice_of c.args.choice ∷ [])) c.self.view_is
