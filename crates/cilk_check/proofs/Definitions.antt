@@ -8,6 +8,7 @@ use Rattle.std.specs.Ordering.{is_eq, ordering_then, nat_cmp, bool_cmp}
 use Rattle.std.proofs.lemmas.Bool.Decides.{nat_tests}
 use Rattle.std.proofs.lemmas.Map.Text.{is_eq-slice_cmp}
 use Rattle.std.specs.Cmp.Lexicographic.{slice_cmp}
+use Rattle.std.proofs.Math.Bool.{or_assoc}
 use Rattle.cilk_check_scopes.proofs.Steps.{drop_at}
 use Rattle.cilk_check.specs.declared.signature.Signature.{Signature}
 use Rattle.cilk_check.specs.NameFinds.{same_bool}
@@ -45,12 +46,8 @@ added true false = refl
 added false true = refl
 added false false = refl
 
-either_way : (x y z : Bool) → ((x || y) || z) ≡ (x || (y || z))
-either_way true y z = refl
-either_way false y z = refl
-
 -- one element more of a list is looked at
 pub one_more : {X : Type 0} (test : X → Bool) (xs : List X) (i : ℕ) (x : X) (had has : Bool) → i < length xs → x ≡ get_or xs i x → has ≡ (had || test x)
     → (has || list_any test (drop (i + 1) xs)) ≡ (had || list_any test (drop i xs))
 one_more test xs i x had has within x_is gains =
-    ap (λ b. b || list_any test (drop (i + 1) xs)) gains ∙ either_way had (test x) _ ∙ ap (λ ys. had || list_any test ys) (sym (drop_at xs i x within x_is))
+    ap (λ b. b || list_any test (drop (i + 1) xs)) gains ∙ or_assoc had (test x) _ ∙ ap (λ ys. had || list_any test ys) (sym (drop_at xs i x within x_is))

@@ -7,16 +7,17 @@ use Rattle.cilk_check_scopes.specs.Parts.{Around, local, statement, inner, loope
 use Rattle.cilk_check_scopes.specs.Parts.{within_local, stmts_parts, within_stmt}
 use Rattle.cilk_check.specs.FormFinds.{standing_faults, part_faults, block_faults, locals_faults, inside_local, stmts_faults, inside_stmt}
 
-behind_locals : (a : Around) (locals : tree.Locals) → (after_locals a locals).within ≡ a.within
-behind_locals a tree.no_locals = refl
-behind_locals a (tree.and_local first others) = behind_locals (after_local a first) others
+-- declarations change nothing that surrounds
+pub still_within : (a : Around) (locals : tree.Locals) → (after_locals a locals).within ≡ a.within
+still_within a tree.no_locals = refl
+still_within a (tree.and_local first others) = still_within (after_local a first) others
 
 mutual
   pub block_is : (a : Around) (b : tree.Block) → flat_map standing_faults (block_parts a b) ≡ block_faults a.within b
   block_is a (tree.block locals stmts) =
       flat_map-append standing_faults (locals_parts a locals) (stmts_parts (after_locals a locals) stmts)
       ∙ ap (λ fs. fs ++ flat_map standing_faults (stmts_parts (after_locals a locals) stmts)) (locals_is a locals)
-      ∙ ap (λ fs. locals_faults a.within locals ++ fs) (stmts_is (after_locals a locals) stmts ∙ ap (λ w. stmts_faults w stmts) (behind_locals a locals))
+      ∙ ap (λ fs. locals_faults a.within locals ++ fs) (stmts_is (after_locals a locals) stmts ∙ ap (λ w. stmts_faults w stmts) (still_within a locals))
 
   locals_is : (a : Around) (locals : tree.Locals) → flat_map standing_faults (locals_parts a locals) ≡ locals_faults a.within locals
   locals_is a tree.no_locals = refl

@@ -39,6 +39,7 @@ pub fn write_whole<W: Write>(out: &mut W, bytes: &[u8]) -> io::Result<()>
     ensures front { OnErr result (AppendsFront (W.contents out.old) (W.contents out.new) bytes.now) }
 {
     let mut rest = bytes;
+    // So that it ends, however often it is interrupted.
     for _ in 0..u64::MAX {
         if rest.is_empty() {
             return Ok(());

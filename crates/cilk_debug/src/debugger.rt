@@ -126,6 +126,7 @@ impl Debugger {
         ensures back { IfErr result (λ it. it.log ≡ log) }
         ensures crew { is_crew log.workers ≡ false → result ≡ Err (record { log = log; fault = ReplayFault.Workers }) }
     {
+        // `Player::new` asks too, but behind `no_marks`, whose want of memory would be told in place of this.
         if !is_crew(log.workers) {
             return Err(Unplayable {
                 log,
@@ -318,7 +319,8 @@ impl Debugger {
         Ok(())
     }
 
-    /// The text of a view of where the program stands. Of the frame of what does not live there is none: `NoInstance` then, and only then.
+    /// The text of a view of where the program stands. Of the frame of what does not live there is none: `NoInstance` then, and only then. A session asks
+    /// by `view_told`, which tells `tree` and `deques` in portions, and comes here for `where` alone.
     pub fn view(&self, what: &What) -> Result<String, ViewFault>
         ensures text { IfOk result (λ text. seen_at self.now.shown (what_of what.now) ≡ Some (string_bytes text)) }
         ensures fault { result ≡ Err ViewFault.NoInstance → seen_at self.now.shown (what_of what.now) ≡ None }

@@ -6,7 +6,8 @@ ghost use Rattle.cilk_debug.specs.Faults.{debug_fault};
 use cilk_log_replay::{Refusal, ReplayFault};
 use thiserror::Error;
 
-/// Why a debugger does not do what it is told.
+/// Why a debugger does not do what it is told. What `Display` writes is for who uses this crate, and no clause speaks of it: a session is answered by
+/// `Reply`, and `cilk_program` writes the line of a schedule that cannot be replayed.
 #[derive(Debug, Drop, Error)]
 pub enum DebugFault {
     /// The schedule tells that it is of another program.

@@ -8,7 +8,7 @@ ghost use Rattle.cilk_log_replay.specs.ReplayFaults.{IsFaultOf};
 ghost use Rattle.cilk_log_replay.specs.Tape.{tape_of, IsAt, IsPlayable};
 ghost use Rattle.cilk_debug.specs.Tracks.{IsTrack};
 
-mod standing;
+mod reaching;
 
 use crate::finding::{last_met, next_met};
 use crate::track::{Track, first_track, follow_all};
@@ -71,6 +71,7 @@ impl Player {
         ensures back { IfErr result (λ it. it.log ≡ log) }
         ensures crew { is_crew log.workers ≡ false → result ≡ Err (record { log = log; fault = ReplayFault.Workers }) }
     {
+        // `Debugger::begin` has asked, before it takes memory; here it is asked since this promises it too.
         if !is_crew(log.workers) {
             return Err(Unplayable {
                 log,

@@ -1,5 +1,5 @@
 -- Elements of two lists one behind the other, and of one in which one is put in place of another.
-use Rattle.std.proofs.Common.{◌≡◌, ◌<◌, ◌+◌, ◌⊎◌, inl, inr, ℕ, zero, suc, List, [], ◌∷◌, ◌++◌, length, Option, Some}
+use Rattle.std.proofs.Common.{◌≡◌, ◌≢◌, ◌<◌, ◌+◌, ◌⊎◌, inl, inr, ℕ, zero, suc, List, [], ◌∷◌, ◌++◌, length, Option, Some}
 use Rattle.std.proofs.Common.{refl, sym, ap, ◌∙◌}
 use Rattle.std.proofs.Common.{arith, set, slice_get, take}
 
@@ -38,6 +38,9 @@ pub set-there : {A : Type 0} (xs : List A) (i : ℕ) (y x : A) → slice_get xs 
 set-there [] i y x h = cc
 set-there (z ∷ xs) zero y x h = refl
 set-there (z ∷ xs) (suc i) y x h = set-there xs i y x h
+
+pub set-apart : {A : Type 0} (xs : List A) (i : ℕ) (y : A) (k : ℕ) (x : A) → slice_get xs k ≡ Some x → k ≢ i → slice_get (set xs i y) k ≡ Some x
+set-apart xs i y k x h other = elim (set-cases xs i y k x h) [ inl put ↦ absurd (other put.0) | inr old ↦ old ]
 
 pub set-split : {A : Type 0} (xs : List A) (i : ℕ) (y : A) (k : ℕ) (x : A) → slice_get (set xs i y) k ≡ Some x
     → ((k ≡ i) × (x ≡ y)) ⊎ (slice_get xs k ≡ Some x)

@@ -137,7 +137,7 @@ module _ (f g h i : Explorer) (number : ℕ) (at : IsAt f number) (between : IsB
       let done = between-on f g h number at between tells grows walker store idle paired says shut in
       subst (λ (x : Explorer). IsBetween x (number + 1)) (sym rest)
       (record {
-        paired = record { program = done.paired.program; workers = done.paired.workers };
+        paired = record { program = done.paired.program; workers = done.paired.workers; stands = done.paired.stands };
         looking = done.looking;
         room = done.room;
         idle = done.idle;

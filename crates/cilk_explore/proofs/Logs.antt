@@ -2,8 +2,8 @@
 use Rattle.std.proofs.Common.{◌≡◌, ◌≢◌, ◌<◌, ◌≤◌, ◌+◌, inl, inr, ℕ, zero, suc, max, List, [], ◌∷◌, ◌++◌, length, reverse, map, Some}
 use Rattle.std.proofs.Common.{refl, sym, ap, ◌∙◌}
 use Rattle.std.proofs.Common.{subst, arith, set, slice_get, slice_index_or, length-append, append_assoc}
-use Rattle.std.proofs.lemmas.Option.{get_or_from_slice_get}
-use Rattle.std.proofs.lemmas.List.{reverse-append, length-set, get_or-set_other, set-append_left}
+use Rattle.std.proofs.lemmas.Option.{slice_get_within, get_or_from_slice_get}
+use Rattle.std.proofs.lemmas.List.{reverse-append, length-map, length-reverse, length-set, get_or-set_other, set-append_left}
 use Rattle.std.proofs.Math.Nat.{le-max_left, le-max_right}
 use Rattle.std.proofs.Math.Seq.{set-append_seam}
 use Rattle.cilk_machine.specs.model.Choice.{Choice}
@@ -11,6 +11,7 @@ use Rattle.cilk_machine.specs.choices.declared.choice.Choice as code
 use Rattle.cilk_machine.specs.choices.Words.{choice_of}
 use Rattle.cilk_explore.specs.declared.node.Node.{Node}
 use Rattle.cilk_explore.proofs.Fronts.{get-front, get-cases, get-last, set-split, append-none, one-there, some-there}
+use Rattle.cilk_explore.specs.Looking.{IsWay, IsLongerBy}
 use Rattle.cilk_explore.specs.Logs.{log_behind, logs_behind, logs_of, AreGrown, HaveNoParentBehind}
 
 -- logs of further nodes
@@ -205,3 +206,55 @@ pub reads-all : (nodes : List Node) (number at : ℕ) (items now : List code.Cho
     → slice_get (logs_of nodes) number ≡ Some (map choice_of now)
 reads-all nodes number at items now grown end reads is =
     reads.whole [] (ap (slice_get (logs_of nodes)) end ∙ logs-first nodes grown.some) ∙ ap (λ (xs : List code.Choice). Some (map choice_of xs)) (sym is)
+
+-- the log of a node but the first is longer by a choice than that of its parent
+pub longer-by : (nodes : List Node) (k : ℕ) (node : Node) → AreGrown nodes → slice_get nodes k ≡ Some node → 0 < k
+    → IsLongerBy (logs_of nodes) k node.parent
+longer-by nodes k node grown here lt =
+    let below = grown.below k node here lt in
+    let inside = slice_get_within nodes k node here in
+    let size = logs-length nodes in
+    let parent = some-there (logs_of nodes) node.parent (omega (arith, below, inside, size)) in
+    let front : slice_index_or (logs_of nodes) node.parent [] ≡ parent.0 = get_or_from_slice_get (logs_of nodes) node.parent parent.0 [] parent.1 in
+    record {
+      front = parent.0;
+      last = choice_of node.choice;
+      below = below;
+      here = logs-step nodes k node grown here lt ∙ ap (λ (log : List Choice). Some (log ++ choice_of node.choice ∷ [])) front;
+      there = parent.1;
+    }
+
+-- a log is gone back from its last choice on: so many were taken back, and the log of this number is left
+pub record ReadsBack (nodes : List Node) (number at back : ℕ) : Type 0 where
+  pub items : List code.Choice
+  pub size : length items ≡ back
+  pub reads : ReadsOn nodes number at items
+
+pub back-first : (nodes : List Node) (number : ℕ) → number < length nodes → ReadsBack nodes number number 0
+back-first nodes number within = record { items = []; size = refl; reads = reads-first nodes number [] within refl }
+
+pub back-next : (nodes : List Node) (number at back : ℕ) (node : Node) → AreGrown nodes → slice_get nodes at ≡ Some node → 0 < at
+    → ReadsBack nodes number at back → ReadsBack nodes number node.parent (back + 1)
+back-next nodes number at back node grown here lt reads =
+    let items = reads.items in
+    let size = length-append items (node.choice ∷ []) in
+    record {
+      items = items ++ node.choice ∷ [];
+      size = (let old = reads.size in omega (arith, size, old));
+      reads = reads-next nodes number at items (items ++ node.choice ∷ []) node grown here lt reads.reads refl;
+    }
+
+-- where both have come to one log
+pub way-is : (nodes : List Node) (from to at back : ℕ) (items now : List code.Choice) → ReadsBack nodes from at back → ReadsOn nodes to at items
+    → now ≡ reverse items → IsWay (logs_of nodes) from to back (map choice_of now)
+way-is nodes from to at back items now left right is =
+    let within = right.within in
+    let size = logs-length nodes in
+    let common = some-there (logs_of nodes) at (omega (arith, within, size)) in
+    record {
+      front = common.0;
+      rest = map choice_of (reverse left.items);
+      size = length-map (reverse left.items) choice_of ∙ length-reverse left.items ∙ left.size;
+      here = left.reads.whole common.0 common.1;
+      there = right.whole common.0 common.1 ∙ ap (λ (xs : List code.Choice). Some (common.0 ++ map choice_of xs)) (sym is);
+    }

@@ -10,6 +10,7 @@ use Rattle.cilk_explore.specs.explore.Search.{Told}
 use Rattle.cilk_explore.specs.explore.OrMore.{EachHasIdle}
 use Rattle.cilk_explore.specs.declared.explorer.Explorer.{Explorer}
 use Rattle.cilk_explore.specs.Walks.{Walk}
+use Rattle.cilk_explore.specs.Looking.{StandsAtLog}
 use Rattle.cilk_explore.specs.Telling.{told_by}
 use Rattle.cilk_explore.specs.LogLooking.{search_of, IsLooking, IsFound, Extends, AreClosed, TellsOf}
 use Rattle.cilk_explore.specs.Exploring.{program_of, workers_of, IsPaired, IsBetween, AreFound, IsAt, KeepsBut, Grows, SaysIdle}
@@ -42,11 +43,12 @@ found-more program n depth logs now found ext =
     record { size = λ k log h. (each k log h).0; leads = λ k log h. (each k log h).1 }
 
 -- one after the other
-pub grows-none : (depth : ℕ) (e : Explorer) → length e.store ≤ e.limit → KeepsBut depth e e
-grows-none depth e room = record {
+pub grows-none : (depth : ℕ) (e : Explorer) → length e.store ≤ e.limit → StandsAtLog e.store e.probe.number e.probe.walker → KeepsBut depth e e
+grows-none depth e room stands = record {
   walker = refl;
   program = refl;
   workers = refl;
+  stands = stands;
   told = refl;
   limit = refl;
   idle = refl;
@@ -62,6 +64,7 @@ grows-then e f g x y =
       walker = y.walker ∙ x.walker;
       program = y.program ∙ x.program;
       workers = y.workers ∙ x.workers;
+      stands = y.stands;
       told = y.told ∙ x.told;
       limit = y.limit ∙ x.limit;
       idle = y.idle ∙ x.idle;
@@ -73,16 +76,22 @@ pub paired-on : (depth : ℕ) (e f : Explorer) → IsPaired e → KeepsBut depth
 paired-on depth e f paired x = record {
   program = x.program ∙ paired.program ∙ ap (λ (walk : Walk). walk.program) (sym x.walker);
   workers = x.workers ∙ paired.workers ∙ ap (λ (walk : Walk). walk.workers) (sym x.walker);
+  stands = x.stands;
 }
+
+-- it stands at that log still
+pub stands-on : (e f : Explorer) (number : ℕ) → StandsAtLog e.store number e.walker → Grows e f → StandsAtLog f.store number f.walker
+stands-on e f number there x =
+    let kept = x.extends.kept number e.walker.log there in
+    let same : kept.other ≡ e.walker.log = elim kept.is [ inl same ↦ same | inr way ↦ let size = way.size in absurd (omega arith) ] in
+    kept.there ∙ ap Some (same ∙ ap (λ (walk : Walk). walk.log) (sym x.walker))
 
 pub at-on : (e f : Explorer) (number : ℕ) → IsAt e number → Grows e f → IsAt f number
 at-on e f number at x =
-    let kept = x.extends.kept number e.walker.log at.there in
-    let same : kept.other ≡ e.walker.log = elim kept.is [ inl same ↦ same | inr way ↦ let size = way.size in absurd (omega arith) ] in
     let found = found-more (program_of e) (workers_of e) (length e.walker.log + 1) e.store f.store at.found x.extends in
     record {
       paired = paired-on (length e.walker.log + 1) e f at.paired x;
-      there = kept.there ∙ ap Some (same ∙ ap (λ (walk : Walk). walk.log) (sym x.walker));
+      there = stands-on e f number at.there x;
       found = subst (λ (walk : Walk). AreFound (label walk.program) walk.workers (length walk.log + 1) f.store) (sym x.walker) found;
       room = x.room;
     }

@@ -1,10 +1,10 @@
 -- A machine goes on by one choice, and back.
 use Rattle.std.proofs.Common.{◌≡◌, ◌≢◌, ◌<◌, ◌≤◌, ◌+◌, ◌-◌, ℕ, suc, false, List, [], ◌∷◌, ◌++◌, length, map, take, reverse, Option, Some}
 use Rattle.std.proofs.Common.{None, is_none, refl, sym}
-use Rattle.std.proofs.Common.{ap, ◌∙◌, subst, arith, if◌then◌else◌, slice_get, option_map}
+use Rattle.std.proofs.Common.{ap, ◌∙◌, subst, arith, if◌then◌else◌, slice_get, option_map, append_assoc}
 use Rattle.std.proofs.lemmas.Option.{slice_get-map, get_or_from_slice_get}
 use Rattle.std.proofs.Math.Seq.{take-suc, take-length}
-use Rattle.std.proofs.lemmas.List.{take-map, reverse-append, reverse-reverse, length-reverse, length-take-le, length-map, map-append}
+use Rattle.std.proofs.lemmas.List.{reverse-append, reverse-reverse, length-reverse, length-take-le, length-map, map-append}
 use Rattle.cilk_machine.specs.syntax.Tree.{Program}
 use Rattle.cilk_machine.specs.labelled.Bodies.{label}
 use Rattle.cilk_machine.specs.model.Choice as model
@@ -101,14 +101,6 @@ some-record m log w none some =
     let size : length (reverse log) ≡ 0 = ap length turned in
     omega (arith, size, length-reverse log, some)
 
--- the front of one log as the front of another
-pub front-is : (log other : List code.Choice) (k : ℕ) → k ≤ length log → take k log ≡ take k other
-    → take k (map choice_of log) ≡ take (length (take k (map choice_of log))) (map choice_of other)
-front-is log other k le same =
-    let size : length (take k (map choice_of log)) ≡ k =
-    length-take-le k (map choice_of log) (omega (arith, le, length-map log choice_of)) in
-    take-map choice_of k log ∙ ap (map choice_of) same ∙ sym (take-map choice_of k other) ∙ ap (λ j. take j (map choice_of other)) (sym size)
-
 -- with one choice more
 pub walk-next : (m n : Situation) (log now : List code.Choice) (choice : code.Choice) (did : Event) → IsWalk m (map choice_of log)
     → Makes m n (choice_of choice) did → now ≡ log ++ choice ∷ [] → IsWalk n (map choice_of now)
@@ -144,18 +136,20 @@ front-fewer whole log now count long front is =
     }
 
 -- and with one more
-pub front-more : (log : List code.Choice) (i : ℕ) (x : code.Choice) (now next : List Choice) → i < length log → slice_get log i ≡ Some x
-    → now ≡ take i (map choice_of log) → next ≡ now ++ choice_of x ∷ [] → next ≡ take (i + 1) (map choice_of log)
-front-more log i x now next lt there front is =
+pub front-more : (log : List code.Choice) (i : ℕ) (x : code.Choice) (begun now next : List Choice) → i < length log → slice_get log i ≡ Some x
+    → now ≡ begun ++ take i (map choice_of log) → next ≡ now ++ choice_of x ∷ [] → next ≡ begun ++ take (i + 1) (map choice_of log)
+front-more log i x begun now next lt there front is =
     let mapped : slice_get (map choice_of log) i ≡ Some (choice_of x) = slice_get-map choice_of log i ∙ ap (option_map choice_of) there in
     let inside : i < length (map choice_of log) = omega (arith, lt, length-map log choice_of) in
     let one : i + 1 ≡ suc i = omega arith in
-    is ∙ ap (λ (xs : List Choice). xs ++ choice_of x ∷ []) front
-    ∙ ap (λ (y : Choice). take i (map choice_of log) ++ y ∷ []) (sym (get_or_from_slice_get (map choice_of log) i (choice_of x) (choice_of x) mapped))
-    ∙ sym (take-suc (map choice_of log) i (choice_of x) inside) ∙ ap (λ j. take j (map choice_of log)) (sym one)
+    let whole : take i (map choice_of log) ++ choice_of x ∷ [] ≡ take (i + 1) (map choice_of log) =
+    ap (λ (y : Choice). take i (map choice_of log) ++ y ∷ []) (sym (get_or_from_slice_get (map choice_of log) i (choice_of x) (choice_of x) mapped))
+    ∙ sym (take-suc (map choice_of log) i (choice_of x) inside) ∙ ap (λ j. take j (map choice_of log)) (sym one) in
+    is ∙ ap (λ (xs : List Choice). xs ++ choice_of x ∷ []) front ∙ append_assoc begun (take i (map choice_of log)) (choice_of x ∷ [])
+    ∙ ap (λ (xs : List Choice). begun ++ xs) whole
 
-pub front-all : (log : List code.Choice) (i : ℕ) (now : List Choice) → length log ≤ i → i ≤ length log → now ≡ take i (map choice_of log)
-    → now ≡ map choice_of log
-front-all log i now low high front =
+pub front-all : (log : List code.Choice) (i : ℕ) (begun now : List Choice) → length log ≤ i → i ≤ length log → now ≡ begun ++ take i (map choice_of log)
+    → now ≡ begun ++ map choice_of log
+front-all log i begun now low high front =
     let same : i ≡ length (map choice_of log) = omega (arith, low, high, length-map log choice_of) in
-    front ∙ ap (λ j. take j (map choice_of log)) same ∙ take-length (map choice_of log)
+    front ∙ ap (λ j. begun ++ take j (map choice_of log)) same ∙ ap (λ (xs : List Choice). begun ++ xs) (take-length (map choice_of log))

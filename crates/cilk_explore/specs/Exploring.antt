@@ -14,6 +14,7 @@ use Rattle.cilk_explore.specs.declared.exploration.Exploration.{Exploration}
 use Rattle.cilk_explore.specs.declared.explorer.Explorer.{Explorer}
 use Rattle.cilk_explore.specs.Walks.{position_of}
 use Rattle.cilk_explore.specs.Telling.{told_by}
+use Rattle.cilk_explore.specs.Looking.{StandsAtLog}
 use Rattle.cilk_explore.specs.LogLooking.{search_of, IsLooking, Extends}
 use Rattle.cilk_explore.specs.Linking.{IsLink, AreLinked}
 
@@ -24,10 +25,11 @@ program_of e = label e.walker.program
 abbrev pub workers_of : Explorer → ℕ
 workers_of e = e.walker.workers
 
--- both machines are of one program, by as many workers
+-- both machines are of one program, by as many workers, and the second stands behind a log that was found
 pub record IsPaired (e : Explorer) : Type 0 where
-  pub program : e.probe.program ≡ e.walker.program
-  pub workers : e.probe.workers ≡ e.walker.workers
+  pub program : e.probe.walker.program ≡ e.walker.program
+  pub workers : e.probe.walker.workers ≡ e.walker.workers
+  pub stands : StandsAtLog e.store e.probe.number e.probe.walker
 
 -- it has looked at so many logs
 pub record IsBetween (e : Explorer) (looked : ℕ) : Type 0 where
@@ -99,8 +101,9 @@ pub record GoesOn (e f : Explorer) : Type 0 where
 -- nothing has changed but the probe and the logs that were found, of which some are new, of that length
 pub record KeepsBut (depth : ℕ) (e f : Explorer) : Type 0 where
   pub walker : f.walker ≡ e.walker
-  pub program : f.probe.program ≡ e.probe.program
-  pub workers : f.probe.workers ≡ e.probe.workers
+  pub program : f.probe.walker.program ≡ e.probe.walker.program
+  pub workers : f.probe.walker.workers ≡ e.probe.walker.workers
+  pub stands : StandsAtLog f.store f.probe.number f.probe.walker
   pub told : f.told ≡ e.told
   pub limit : f.limit ≡ e.limit
   pub idle : f.idle ≡ e.idle

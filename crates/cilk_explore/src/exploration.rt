@@ -13,6 +13,6 @@ pub struct Exploration {
     pub endless: Option<Vec<Choice>>,
     /// Whether all this is so of each larger number of workers too, up to 64, if all was looked at and that was found.
     pub or_more: bool,
-    /// How many logs were found, each of which leads to another standing, where no number was taken twice for want of room.
+    /// How many logs were found. Two of them may lead to the same, where that was not found.
     pub standings: u32,
 }

@@ -1,6 +1,7 @@
 //! The state of a search: two machines of the program, the logs that were found, and what is told.
 
 use crate::links::Links;
+use crate::probe::Probe;
 use crate::store::Store;
 use crate::told::Told;
 use crate::walker::Walker;
@@ -14,12 +15,12 @@ pub(crate) struct Explorer {
     /// It stands at the log that is looked at, or one choice behind it.
     pub walker: Walker,
     /// It goes to earlier logs, which are compared.
-    pub probe: Walker,
+    pub probe: Probe,
     pub store: Store,
     /// Where the choices behind each log lead.
     pub links: Links,
-    /// Room for a log that is read.
-    pub log: Vec<Choice>,
+    /// Room for the choices from one log to another.
+    pub tail: Vec<Choice>,
     pub told: Vec<Told>,
     /// How many logs are kept at most.
     pub limit: usize,

@@ -1,12 +1,14 @@
 //! The search itself: a shorter log before a longer one, until all that was found was looked at, or the limit is met.
 
 ghost use Rattle.std.specs.Prelude.{◌≡◌, ◌<◌, ◌≤◌, ◌⊎◌, ◌↔◌, ◌^◌, ℕ, true, false, length, Ok, Err, IfOk, OnOk};
+ghost use Rattle.cilk_explore.specs.Looking.{StandsAtLog};
 ghost use Rattle.cilk_explore.specs.Exploring.{IsBetween, HasLinks, IsThrough, IsExploration, GoesOn};
 
 use crate::exploration::Exploration;
 use crate::explorer::Explorer;
 use crate::links::Links;
 use crate::looking::look_at;
+use crate::probe::Probe;
 use crate::store::Store;
 use crate::unending::endless_log;
 use crate::walker::Walker;
@@ -72,6 +74,7 @@ fn begun(alloc: Global, program: &Loaded, workers: u8, limit: u32) -> Result<Exp
     ensures program { IfOk result (λ e. e.walker.program ≡ program.now) }
     ensures workers { IfOk result (λ e. e.walker.workers ≡ workers) }
     ensures limit { IfOk result (λ e. e.limit ≡ limit) }
+    ensures stands { IfOk result (λ e. StandsAtLog e.store 0 e.walker) }
 {
     let walker = match Walker::new(alloc, program, workers) {
         Ok(walker) => walker,
@@ -84,8 +87,9 @@ fn begun(alloc: Global, program: &Loaded, workers: u8, limit: u32) -> Result<Exp
             return Err(memory);
         }
     };
-    // Brings its clauses into the proof.
+    // Brings their clauses into the proof.
     let _log = walker.log();
+    let _other = probe.log();
     let store = match Store::new(alloc, walker.digest()) {
         Ok(store) => store,
         Err(memory) => {
@@ -97,10 +101,13 @@ fn begun(alloc: Global, program: &Loaded, workers: u8, limit: u32) -> Result<Exp
     Ok(Explorer {
         alloc,
         walker,
-        probe,
+        probe: Probe {
+            walker: probe,
+            number: 0,
+        },
         store,
         links: Links::new(alloc),
-        log: Vec::new(alloc),
+        tail: Vec::new(alloc),
         told: Vec::new(alloc),
         limit: limit as usize,
         idle: true,
@@ -111,6 +118,7 @@ fn begun(alloc: Global, program: &Loaded, workers: u8, limit: u32) -> Result<Exp
 fn look_at_all(explorer: &mut Explorer, workers: u8) -> Result<bool, Memory>
     requires between { IsBetween explorer.old 0 }
     requires links { HasLinks explorer.old 0 }
+    requires stands { StandsAtLog explorer.old.store 0 explorer.old.walker }
     requires crew { workers ≡ explorer.old.walker.workers }
     ensures looked { OnOk result ((looked : ℕ) × IsBetween explorer.new looked) }
     ensures all { result ≡ Ok true → IsThrough explorer.new }
@@ -153,7 +161,7 @@ fn told_of(
         probe: _probe,
         store: _store,
         links: _links,
-        log: _log,
+        tail: _tail,
         told,
         limit: _,
         idle: _,

@@ -12,6 +12,7 @@ mod links;
 mod looking;
 mod marking;
 mod node;
+mod probe;
 mod store;
 mod told;
 mod unending;

@@ -1,18 +1,17 @@
 //! One log is looked at: what is told of it, and where each choice behind it leads.
 
-ghost use Rattle.std.specs.Prelude.{ℕ, ◌≡◌, ◌≢◌, ◌<◌, ◌≤◌, ◌+◌, ◌++◌, ◌∷◌, [], true, false, length, map, Ok, Some, None, OnOk, IfOk, IfSome};
-ghost use Rattle.std.specs.Prelude.{slice_get};
+ghost use Rattle.std.specs.Prelude.{ℕ, ◌≡◌, ◌≢◌, ◌<◌, ◌≤◌, ◌+◌, ◌-◌, ◌++◌, ◌∷◌, [], true, false, length, Ok, Some, None, OnOk, IfOk, IfSome};
 ghost use Rattle.cilk_machine.specs.labelled.Bodies.{label};
 ghost use Rattle.cilk_machine.specs.model.Choice as choices;
 ghost use Rattle.cilk_machine.specs.model.Run.{Position};
 ghost use Rattle.cilk_machine.specs.choices.Words.{choice_of};
 ghost use Rattle.cilk_explore.specs.explore.OrMore.{IsIdle};
 ghost use Rattle.cilk_explore.specs.Linking.{IsLinked, AreLinkedBy};
-ghost use Rattle.cilk_explore.specs.Looking.{LeadsToSame};
+ghost use Rattle.cilk_explore.specs.Looking.{LeadsToSame, StandsAtLog};
 ghost use Rattle.cilk_explore.specs.Walks.{position_of};
 ghost use Rattle.cilk_explore.specs.Exploring.{IsAt, IsBehind, IsBetween, HasLinks, IsKnownBy, Grows, Gathers, GoesOn, KeepsAs, SaysIdle};
 
-use crate::comparing::known;
+use crate::comparing::{go_to, known};
 use crate::endings::tell;
 use crate::explorer::Explorer;
 use crate::walker::Walker;
@@ -26,9 +25,11 @@ pub(crate) fn look_at(explorer: &mut Explorer, number: usize, workers: u8) -> Re
     requires between { IsBetween explorer.old number }
     requires links { HasLinks explorer.old number }
     requires there { number < length explorer.old.store }
+    requires stands { StandsAtLog explorer.old.store (number - 1) explorer.old.walker }
     requires crew { workers ≡ explorer.old.walker.workers }
     ensures looked { result ≡ Ok true → IsBetween explorer.new (number + 1) }
     ensures links { result ≡ Ok true → HasLinks explorer.new (number + 1) }
+    ensures stands { result ≡ Ok true → StandsAtLog explorer.new.store number explorer.new.walker }
     ensures stopped { result ≡ Ok false → IsBetween explorer.new number }
     ensures full { result ≡ Ok false → explorer.new.limit ≤ length explorer.new.store }
     ensures goes { OnOk result (GoesOn explorer.old explorer.new) }
@@ -64,21 +65,27 @@ fn go_there(explorer: &mut Explorer, number: usize) -> Result<(), Memory>
     requires between { IsBetween explorer.old number }
     requires links { HasLinks explorer.old number }
     requires there { number < length explorer.old.store }
+    requires stands { StandsAtLog explorer.old.store (number - 1) explorer.old.walker }
     ensures at { OnOk result (IsAt explorer.new number) }
     ensures between { OnOk result (IsBetween explorer.new number) }
     ensures links { OnOk result (HasLinks explorer.new number) }
     ensures idle { OnOk result (SaysIdle explorer.new) }
     ensures goes { OnOk result (GoesOn explorer.old explorer.new) }
 {
-    match explorer.store.read(number, &mut explorer.log) {
+    // The log before it was looked at last.
+    let from = number.saturating_sub(1);
+    match go_to(
+        &mut explorer.walker,
+        from,
+        number,
+        &explorer.store,
+        &mut explorer.tail,
+    ) {
         Err(memory) => Err(memory),
-        Ok(()) => match explorer.walker.go_to(explorer.log.as_slice()) {
-            Err(memory) => Err(memory),
-            Ok(()) => {
-                note_idle(explorer);
-                Ok(())
-            }
-        },
+        Ok(()) => {
+            note_idle(explorer);
+            Ok(())
+        }
     }
 }
 
@@ -253,13 +260,13 @@ fn keep(explorer: &mut Explorer, number: usize, choice: Choice) -> Result<Option
         &explorer.walker,
         &mut explorer.probe,
         &explorer.store,
-        &mut explorer.log,
+        &mut explorer.tail,
     ) {
         Err(memory) => Err(memory),
-        Ok(Some(found)) => {
-            lead_otherwise(explorer, found, number, choice, digest);
-            Ok(Some(found))
-        }
+        Ok(Some(found)) => match lead_otherwise(explorer, number, choice, digest) {
+            Err(memory) => Err(memory),
+            Ok(()) => Ok(Some(found)),
+        },
         Ok(None) => {
             let own = explorer.store.len();
             if explorer.limit <= own {
@@ -273,23 +280,39 @@ fn keep(explorer: &mut Explorer, number: usize, choice: Choice) -> Result<Option
     }
 }
 
-// Keeps the way here in place of that to the log that was found, if both are as long, and a bit says so. Were each the first that was found, those to
-// logs side by side would have little in common, and it would be far from one to the next.
-fn lead_otherwise(explorer: &mut Explorer, found: usize, number: usize, choice: Choice, digest: u64)
+// Keeps the way here in place of that to the log behind which the probe is, if both are as long, and a bit says so; the probe is one choice before it then.
+// Were each the first that was found, those to logs side by side would have little in common, and it would be far from one to the next.
+fn lead_otherwise(
+    explorer: &mut Explorer,
+    number: usize,
+    choice: Choice,
+    digest: u64,
+) -> Result<(), Memory>
     requires behind { IsBehind explorer.old number (choice_of choice) }
-    requires same { LeadsToSame explorer.old.walker explorer.old.store found }
-    requires log { slice_get explorer.old.store found ≡ Some (map choice_of explorer.old.log.items) }
-    ensures keeps { KeepsAs explorer.old explorer.new }
+    requires same { LeadsToSame explorer.old.walker explorer.old.store explorer.old.probe.number }
+    ensures keeps { OnOk result (KeepsAs explorer.old explorer.new) }
     ensures links { explorer.new.links ≡ explorer.old.links }
-    ensures known { IsKnownBy explorer.new found }
+    ensures known { OnOk result (IsKnownBy explorer.new explorer.old.probe.number) }
 {
     // Brings its clauses into the proof.
     let _log = explorer.walker.log();
     let choices = explorer.walker.len();
-    if explorer.log.len() != choices || !is_other_way(choices, digest, number) {
-        return;
+    if explorer.probe.walker.len() != choices || !is_other_way(choices, digest, number) {
+        return Ok(());
     }
-    let _is_put = explorer.store.put_behind(found, number, choice);
+    match explorer
+        .store
+        .put_behind(explorer.probe.number, number, choice)
+    {
+        None => Ok(()),
+        Some(parent) => match explorer.probe.walker.back() {
+            Err(memory) => Err(memory),
+            Ok(()) => {
+                explorer.probe.number = parent;
+                Ok(())
+            }
+        },
+    }
 }
 
 // A bit of two numbers, where a way has many choices.

@@ -1,7 +1,8 @@
 //! The logs that a search has found, each kept as the choice that it has more than an earlier one.
 
-ghost use Rattle.std.specs.Prelude.{◌≡◌, ◌<◌, ◌++◌, ◌∷◌, [], length, map, true, false, Some, IfOk, IfSome, OnErr, OnOk, set, slice_get, slice_index_or};
+ghost use Rattle.std.specs.Prelude.{◌≡◌, ◌≢◌, ◌<◌, ◌++◌, ◌∷◌, [], length, map, Some, None, IfOk, IfSome, OnErr, OnOk, set, slice_get, slice_index_or};
 ghost use Rattle.cilk_machine.specs.choices.Words.{choice_of};
+ghost use Rattle.cilk_explore.specs.Looking.{IsLongerBy, IsWay};
 
 use crate::node::Node;
 use cilk_machine::{Act, Choice, Memory};
@@ -78,6 +79,32 @@ impl Store {
         Ok(())
     }
 
+    /// How many choices of the log of one number are to be taken back, and which are to be made then, to get to that of another. It goes by the nodes between
+    /// the two and those where they part, whatever is before these.
+    pub fn way(&self, from: usize, to: usize, tail: &mut Vec<Choice>) -> Result<usize, Memory>
+        requires from { from < length self.now }
+        requires to { to < length self.now }
+        ensures { IfOk result (λ back. IsWay self.now from to back (map choice_of tail.new.items)) }
+    {
+        tail.clear();
+        let mut back = 0;
+        let mut here = from;
+        let mut there = to;
+        while here != there {
+            if here < there {
+                let node = self.nodes[there];
+                tail.push(node.choice)?;
+                there = node.parent as usize;
+            } else {
+                let node = self.nodes[here];
+                here = node.parent as usize;
+                back += 1;
+            }
+        }
+        tail.reverse();
+        Ok(back)
+    }
+
     /// One log more: that of this number, and a choice. It leads to a standing of this digest.
     pub fn push(&mut self, parent: usize, choice: Choice, digest: u64) -> Result<(), Memory>
         requires { parent < length self.old }
@@ -106,24 +133,26 @@ impl Store {
         Ok(())
     }
 
-    /// Puts in place of the log of this number that of an earlier one, and a choice. False where another log may be behind it.
-    pub fn put_behind(&mut self, number: usize, parent: usize, choice: Choice) -> bool
+    /// Puts in place of the log of this number that of an earlier one, and a choice, and tells which one choice less it came from. None where another log may
+    /// be behind it.
+    pub fn put_behind(&mut self, number: usize, parent: usize, choice: Choice) -> Option<usize>
         requires { number < length self.old }
-        ensures put { result ≡ true → self.new ≡ set self.old number (slice_index_or self.old parent [] ++ choice_of choice ∷ []) }
-        ensures same { result ≡ false → self.new ≡ self.old }
+        ensures put { result ≢ None → self.new ≡ set self.old number (slice_index_or self.old parent [] ++ choice_of choice ∷ []) }
+        ensures old { IfSome result (IsLongerBy self.old number) }
+        ensures same { result ≡ None → self.new ≡ self.old }
     {
         if number <= parent || number <= self.last_parent as usize || number > u32::MAX as usize {
-            return false;
+            return None;
         }
         let above = parent as u32;
-        let before = self.nodes[number].before;
+        let old = self.nodes[number];
         self.nodes[number] = Node {
             parent: above,
-            before,
+            before: old.before,
             choice,
         };
         self.last_parent = self.last_parent.max(above);
-        true
+        Some(old.parent as usize)
     }
 
     /// The last log that leads to a standing of this digest.

@@ -70,6 +70,7 @@ impl Walker {
         ensures value { map choice_of result.now ≡ self.now.log }
         ensures leads { (at : Position) × (position_of self.now ≡ Some at) }
     {
+        // Brings its clauses into the proof.
         let _machine = &self.machine;
         self.log.as_slice()
     }
@@ -124,16 +125,17 @@ impl Walker {
         }
     }
 
-    /// Goes to where a log leads. Where memory has run out, it stands somewhere on the way.
-    pub fn go_to(&mut self, log: &[Choice]) -> Result<(), Memory>
-        ensures there { OnOk result (self.new ≡ record self.old { log = map choice_of log.now }) }
+    /// Takes so many choices back, and makes these then. Where memory has run out, it stands somewhere on the way.
+    pub fn go_by(&mut self, back: usize, tail: &[Choice]) -> Result<(), Memory>
+        requires { back ≤ length self.old.log }
+        ensures there { OnOk result (self.new.log ≡ take (length self.old.log - back) self.old.log ++ map choice_of tail.now) }
         ensures program { self.new.program ≡ self.old.program }
         ensures workers { self.new.workers ≡ self.old.workers }
     {
-        let common = common_front(self.log.as_slice(), log);
-        match self.back_to(common) {
+        let count = self.len() - back;
+        match self.back_to(count) {
             Err(memory) => Err(memory),
-            Ok(()) => self.go_on(log),
+            Ok(()) => self.go_on(tail),
         }
     }
 
@@ -153,17 +155,14 @@ impl Walker {
         Ok(())
     }
 
-    // Makes the choices of a log behind those that were made.
-    fn go_on(&mut self, log: &[Choice]) -> Result<(), Memory>
-        requires short { length self.old.log ≤ length log.now }
-        requires front { self.old.log ≡ take (length self.old.log) (map choice_of log.now) }
-        ensures there { OnOk result (self.new.log ≡ map choice_of log.now) }
+    // Makes these choices.
+    fn go_on(&mut self, tail: &[Choice]) -> Result<(), Memory>
+        ensures there { OnOk result (self.new.log ≡ self.old.log ++ map choice_of tail.now) }
         ensures program { self.new.program ≡ self.old.program }
         ensures workers { self.new.workers ≡ self.old.workers }
     {
-        let from = self.len();
-        for i in from..log.len() {
-            match self.make(choice_at(log, i)) {
+        for i in 0..tail.len() {
+            match self.make(choice_at(tail, i)) {
                 Ok(true) => {}
                 // Each choice of a log that was found is possible.
                 Ok(false) => return Err(Memory::from(AllocError)),
@@ -257,19 +256,4 @@ fn last(end: End) -> Option<End>
             line,
         }),
     }
-}
-
-// With how many choices both logs begin alike.
-fn common_front(log: &[Choice], other: &[Choice]) -> usize
-    ensures here { result ≤ length log.now }
-    ensures there { result ≤ length other.now }
-    ensures same { take result log.now ≡ take result other.now }
-{
-    let count = log.len().min(other.len());
-    for i in 0..count {
-        if log[i] != other[i] {
-            return i;
-        }
-    }
-    count
 }

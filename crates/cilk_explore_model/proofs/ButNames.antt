@@ -14,7 +14,7 @@ use Rattle.cilk_explore_model.specs.Laws.{DoesAsWell, SamenessButNamesIsKept}
 use Rattle.cilk_explore_model.proofs.Standings.{same_again, same_turned, same_both, sameness_is_kept}
 use Rattle.cilk_explore_model.proofs.Exchanges.{one_less, swap_there}
 use Rattle.cilk_explore_model.proofs.Renaming.{moved_long, names_do_not_matter}
-use Rattle.cilk_explore_model.proofs.Places.{next_long}
+use Rattle.cilk_machine_agree.proofs.runs_laws.Crew.{act_size}
 
 -- a worker has what another had
 lines_moved : (places : List Worker) (moves : List (ℕ × ℕ)) → SwapsInRange (length places) moves → ((w : ℕ) → Descends (worker_paths (worker_at places w)))
@@ -78,7 +78,7 @@ renamed_next program at moves c below =
       state = (same_again now).state;
       places = record {
         moves = moves;
-        below = subst (λ n. SwapsInRange n moves) (sym (next_long program at c)) below;
+        below = subst (λ n. SwapsInRange n moves) (sym (act_size program at c.worker c.act)) below;
         is = refl;
       };
     }

@@ -5,11 +5,11 @@ use Rattle.cilk_machine_agree.specs.labelled.Labelled.{Labelled}
 use Rattle.cilk_machine_agree.specs.model.Path.{Path, same_path, parent_of}
 use Rattle.cilk_machine_agree.specs.model.State.{State, is_empty}
 use Rattle.cilk_machine_agree.specs.model.Pick.{Step, waits, parks, goes_on, ends, spawns, step_of}
-use Rattle.cilk_machine_agree.specs.model.Scheduler.{Worker, worker_at, hand_of, deque_of, with_hand, with_deque, top_of, below_top, bottom_of}
+use Rattle.cilk_machine_agree.specs.model.Scheduler.{Worker, Scheduler, worker_at, hand_of, deque_of, with_hand, with_deque, top_of, below_top, bottom_of}
 use Rattle.cilk_machine_agree.specs.model.Scheduler.{above_bottom, can_go_on, woken, with_empty_hand}
 use Rattle.cilk_machine_agree.specs.model.Choice.{step, pop, steal, Refusal, no_worker, busy, deque_empty}
 use Rattle.cilk_machine_agree.specs.model.Run.{Standing, is_worker, stepped, next_by_hand, next_by}
-use Rattle.cilk_explore_model.proofs.Places.{hand_long, deque_long, waking}
+use Rattle.cilk_machine_agree.proofs.runs_laws.Crew.{hand_size, deque_size}
 
 -- all but the places is equal
 abbrev pub standing_of : State → (Path → Bool) → List Worker → Standing
@@ -22,6 +22,11 @@ stealing victim same own other =
     else (if is_some own.hand || not (is_empty own.deque) then Some busy
     else (if is_empty other.deque then Some deque_empty
     else None))
+
+-- a parked instance comes to the hand, if it can
+abbrev waking : Path → Bool → Scheduler → ℕ → Scheduler
+waking q x sched w =
+    if x then record { places = with_hand sched.places w (Some q); parked = λ r. not (same_path r q) && sched.parked r } else sched
 
 -- what decides on a pop
 abbrev pub popping : Worker → Option Refusal
@@ -51,14 +56,14 @@ module _ (n : ℕ) (carry : List Worker → List Worker) (number : ℕ → ℕ)
       → with_hand (with_deque (carry ps) (number v) d) (number w) h ≡ carry (with_hand (with_deque ps v d) w h)
   both_carried ps v w d h size victim worker =
       ap (λ (qs : List Worker). with_hand qs (number w) h) (deque_carried ps v d size victim)
-      ∙ hand_carried (with_deque ps v d) w h (deque_long ps v d ∙ size) (ap (λ m. nat_le 1 w && nat_le w m) (deque_long ps v d) ∙ worker)
+      ∙ hand_carried (with_deque ps v d) w h (deque_size ps v d ∙ size) (ap (λ m. nat_le 1 w && nat_le w m) (deque_size ps v d) ∙ worker)
 
   -- the hand is emptied, and then filled
   filled_carried : (ps : List Worker) (w : ℕ) (h : Option Path) → length ps ≡ n → is_worker ps w ≡ true
       → with_hand (with_hand (carry ps) (number w) None) (number w) h ≡ carry (with_hand (with_hand ps w None) w h)
   filled_carried ps w h size worker =
       ap (λ (qs : List Worker). with_hand qs (number w) h) (hand_carried ps w None size worker)
-      ∙ hand_carried (with_hand ps w None) w h (hand_long ps w None ∙ size) (ap (λ m. nat_le 1 w && nat_le w m) (hand_long ps w None) ∙ worker)
+      ∙ hand_carried (with_hand ps w None) w h (hand_size ps w None ∙ size) (ap (λ m. nat_le 1 w && nat_le w m) (hand_size ps w None) ∙ worker)
 
   module _ (program : Labelled) (at : Standing) (w : ℕ) (size : length at.scheduler.places ≡ n) (worker : is_worker at.scheduler.places w ≡ true) where
     abbrev ps : List Worker

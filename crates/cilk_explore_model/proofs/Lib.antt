@@ -10,7 +10,6 @@ pub mod Standings
 pub mod Over
 pub mod Taken
 pub mod Exchanges
-pub mod Places
 pub mod Carried
 pub mod Renaming
 pub mod ButNames

@@ -154,7 +154,7 @@ zero-cells (v ∷ variables) (e, h) =
     ap (λ z. replicate (size_of v) z ++ flat (initial_values variables)) e ∙ ap (λ zs. replicate (size_of v) (pos 0) ++ zs) (zero-cells variables h)
     ∙ replicate-append-replicate (size_of v) (cells_of variables) (pos 0)
 
-initial-sizes : (variables : List Variable) → map length (initial_values variables) ≡ map size_of variables
+pub initial-sizes : (variables : List Variable) → map length (initial_values variables) ≡ map size_of variables
 initial-sizes [] = refl
 initial-sizes (v ∷ variables) =
     λ i. length-replicate (size_of v) v.initial i ∷ initial-sizes variables i

@@ -25,8 +25,7 @@ use Rattle.cilk_laws.specs.CallLaws.{CallsSuit}
 use Rattle.cilk_laws.proofs.Right.{Right, front, back, others, all_right}
 use Rattle.cilk_laws.proofs.Named.{KindFits, Aligned, Agree, agree_name, agree_entered, agree_words, agree_parameters, agree_inlet, agree_declared}
 use Rattle.cilk_laws.proofs.Labels.{block_suits, inner_block_suits}
-use Rattle.cilk_load.proofs.Bodies.{parameters-bodies}
-use Rattle.cilk_machine.proofs.nodes_laws.Texts.{length-item}
+use Rattle.cilk_machine.proofs.nodes_laws.BodyCounts.{length-item, parameters-bodies}
 use Rattle.cilk_machine.specs.plans.effects.Known.{owner_of as owner_of_body}
 use Rattle.cilk_check.specs.FormFinds.{is_inlet}
 

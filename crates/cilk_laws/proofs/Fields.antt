@@ -12,6 +12,7 @@ use Rattle.cilk_laws_model.specs.model.Event.{acted}
 use Rattle.cilk_laws_model.specs.model.Pick.{Step}
 use Rattle.cilk_laws_model.specs.model.Run.{state_after, event_of_step}
 use Rattle.cilk_laws_model.proofs.Entries.{same-is, at-changed_same, at-changed_other, at-without_other, live-changed, live-without, either_of, at-push}
+use Rattle.cilk_laws_model.proofs.Root.{resumed_mark}
 use Rattle.cilk_laws.proofs.Effects.{marking, sort_of}
 use Rattle.cilk_laws.proofs.Ways.{Acting, Way, resting, parking, ending, stopping, going, writing, entering, quitting, answering, returning}
 use Rattle.cilk_laws.proofs.Ways.{starting, printing, turning_lock, aborts, placing, letting_in}
@@ -128,10 +129,6 @@ module _ {A : Type 0} (f : Instance → A) where
     way_kept (letting_in oldest others inlet ys zs n taking is) =
         let j : Instance = record i { waiting = others } in
         inl (replaced (above (entered program inlet zs None) j) (fixed.entered (entered program inlet zs None) j ∙ fixed.parted others i))
-
-resumed_mark : (i : Instance) (below : List Activation) → (resumed_to i below).aborted ≡ i.aborted
-resumed_mark i [] = refl
-resumed_mark i (caller ∷ below) = refl
 
 resumed_receiver : (i : Instance) (below : List Activation) → (resumed_to i below).receiver ≡ i.receiver
 resumed_receiver i [] = refl

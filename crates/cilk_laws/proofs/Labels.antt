@@ -14,7 +14,7 @@ use Rattle.cilk_laws_model.specs.labelled.Bodies.{is_procedure}
 use Rattle.cilk_laws.specs.Calls.{taker_suits, action_suits, part_suits, stmt_suits, stmts_suit}
 use Rattle.cilk_laws.proofs.Right.{MoveRight, MovesRight, TakerRight, StmtRight, Right, front, back, first, others}
 use Rattle.cilk_laws.proofs.Named.{Agree, called_fits, fed_fits, agree_entered, agree_declared}
-use Rattle.cilk_laws.proofs.Loops.{still_within}
+use Rattle.cilk_check.proofs.FormBlocks.{still_within}
 
 module _ (program : Labelled) where
   initialiser_suits : (own : Bool) (names : Names) (at : ℕ) (place : tree.Place) (shape : tree.Shape) (stmts : Stmts) → stmts_suit program own stmts ≡ true

@@ -5,8 +5,9 @@ use Rattle.std.proofs.lemmas.Bool.{and_from}
 use Rattle.std.proofs.lemmas.List.Elements.{Contains-append_left, Contains-append_right}
 use Rattle.cilk_check.specs.syntax.Tree as tree
 use Rattle.cilk_check.specs.scopes.declared.within.Within.{Within}
-use Rattle.cilk_check.specs.scopes.Parts.{Around, Part, local, statement, PartInContext, inner, looped, switched, after_local, after_locals}
+use Rattle.cilk_check.specs.scopes.Parts.{Around, Part, local, statement, PartInContext, inner, looped, switched, after_locals}
 use Rattle.cilk_check.specs.scopes.Parts.{block_parts, locals_parts, stmts_parts, within_stmt}
+use Rattle.cilk_check.proofs.FormBlocks.{still_within}
 use Rattle.cilk_laws_model.specs.labelled.Labelled.{Stmts}
 use Rattle.cilk_laws_model.specs.labelled.Names.{Names, with_local, local_count, entered}
 use Rattle.cilk_laws_model.specs.labelled.Label.{locals_variables, names_behind, label_initialiser, label_local, label_locals, label_stmt}
@@ -43,11 +44,6 @@ first x xs h = h x (0, omega arith, refl)
 
 pub others : (x : PartInContext) (xs : List PartInContext) → Stand (x ∷ xs) → Stand xs
 others x xs h = back (x ∷ []) xs h
-
--- declarations change nothing that surrounds
-pub still_within : (a : Around) (locals : tree.Locals) → (after_locals a locals).within ≡ a.within
-still_within a tree.no_locals = refl
-still_within a (tree.and_local l ls) = still_within (after_local a l) ls
 
 initialiser_fits : (within : Within) (names : Names) (at : ℕ) (place : tree.Place) (shape : tree.Shape) (stmts : Stmts) → FitIn within stmts
     → FitIn within (label_initialiser names at place shape stmts)

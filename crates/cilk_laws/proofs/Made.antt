@@ -18,7 +18,7 @@ pub each_split : {P : Type 0} {Q : P → Type 0} (us vs : List P) → EachMade Q
 each_split [] vs q = (no_more, q)
 each_split (u ∷ us) vs (one_more h t) = let b = each_split us vs t in (one_more h b.0, b.1)
 
-whatever : {P : Type 0} (us : List P) → EachMade (λ t. Unit {0}) us
+pub whatever : {P : Type 0} (us : List P) → EachMade (λ t. Unit {0}) us
 whatever [] = no_more
 whatever (u ∷ us) = one_more tt (whatever us)
 

@@ -3,6 +3,7 @@ use Rattle.std.proofs.Common.{◌≡◌, ℕ, suc, ◌+◌, ◌≤◌, Bool, tru
 use Rattle.std.proofs.Common.{sym, ap, subst, ◌∙◌, if◌then◌else◌, arith, count_by}
 use Rattle.std.proofs.lemmas.List.Sums.{sum_by_push}
 use Rattle.std.proofs.lemmas.Bool.{or_right}
+use Rattle.std.proofs.Math.Bool.{or-false}
 use Rattle.cilk_laws_model.specs.labelled.Labelled.{Labelled}
 use Rattle.cilk_laws_model.specs.model.Path.{Path, same_path}
 use Rattle.cilk_laws_model.specs.model.State.{State, is_live}
@@ -153,15 +154,11 @@ once_by true made = omega arith
 once_by false true = omega arith
 once_by false false = omega arith
 
-pub or_false : (b : Bool) → (b || false) ≡ b
-or_false true = refl
-or_false false = refl
-
 same_births : (events : List Event) (p : Path) (e : Event) → is_birth p e ≡ false → Births events p → Births (events ++ e ∷ []) p
 same_births events p e none h =
     sum_by_push (λ x. cond (is_birth p x) 1 0) events e ∙ ap (λ b. count_by (is_birth p) events + cond b 1 0) none
     ∙ subst (λ m. count_by (is_birth p) events + 0 ≡ births_of (same_path p []) m)
-    (sym (made-push p events e ∙ ap (λ b. was_made events p || b) none ∙ or_false (was_made events p)))
+    (sym (made-push p events e ∙ ap (λ b. was_made events p || b) none ∙ or-false (was_made events p)))
     (omega (arith, h))
 
 new_birth : (events : List Event) (p : Path) (k : ℕ) → was_made events p ≡ false → (p ≡ [] → ⊥) → Births events p → Births (events ++ spawned p k ∷ []) p

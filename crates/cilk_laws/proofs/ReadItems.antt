@@ -1,5 +1,6 @@
 -- The canonical lexemes of what stands at the top level spell it again.
 use Rattle.std.proofs.Common.{◌≡◌, ℕ, ◌≤◌, Bool, true, false, List, [], ◌∷◌, ◌++◌, map, Option, refl, ap}
+use Rattle.std.proofs.lemmas.List.{map-id}
 use Rattle.cilk_check.specs.lexeme.Lexeme.{word, mark, inclusion}
 use Rattle.cilk_check.specs.lexeme.declared.header.Header.{Header}
 use Rattle.cilk_check.specs.lexeme.declared.keyword.Keyword.TheVariants as key
@@ -153,11 +154,7 @@ module _ (l d : ℕ) (le : l ≤ d) (n : ℕ) where
   headers_spelled : (hs : List Header) (k : Option ℕ) → Spells S (many (part (token the_header))) k (each (λ h. inclusion h ∷ []) hs) (map header_itself hs)
   headers_spelled hs k =
       each_before S (part (token the_header)) (λ h. inclusion h ∷ []) header_itself (λ h. Unit {0})
-      (λ h j u. (b_header {S = S} {k = j} h).it) hs k (all hs)
-    where
-      all : (hs : List Header) → EachMade (λ h. Unit {0}) hs
-      all [] = made.no_more
-      all (h ∷ hs) = made.one_more tt (all hs)
+      (λ h j u. (b_header {S = S} {k = j} h).it) hs k (made.whatever hs)
 
   abbrev PlainAgain : tree.Item → Type 0
   PlainAgain i = PlainItem i × ItemAgain i
@@ -170,10 +167,6 @@ module _ (l d : ℕ) (le : l ≤ d) (n : ℕ) where
       → Spells S (many grammar.item) k (each item_lexemes is) (map (λ i. bare_item i ∷ []) is)
   items_spelled is k pl h = each_before S grammar.item item_lexemes (λ i. bare_item i ∷ []) PlainAgain (λ i j h. (h.1 h.0 j).it) is k (plain_again is pl h)
 
-  same_headers : (hs : List Header) → map header_itself hs ≡ hs
-  same_headers [] = refl
-  same_headers (h ∷ hs) = ap (λ l. h ∷ l) (same_headers hs)
-
   bare_items : (is : List tree.Item) → joined (map (λ i. bare_item i ∷ []) is) ≡ map bare_item is
   bare_items [] = refl
   bare_items (i ∷ is) = ap (λ l. bare_item i ∷ l) (bare_items is)
@@ -184,7 +177,7 @@ module _ (l d : ℕ) (le : l ≤ d) (n : ℕ) where
       → Written S grammar.program k (each (λ h. inclusion h ∷ []) p.0 ++ each item_lexemes p.1) (p.0, map bare_item p.1)
 
   program_again : (hs : List Header) (is : List tree.Item) → AllAgain is → ProgramAgain (hs, is)
-  program_again hs is h pl k = written (b_then (b_last items) (headers _)) refl (λ i. (same_headers hs i, bare_items is i))
+  program_again hs is h pl k = written (b_then (b_last items) (headers _)) refl (λ i. (map-id hs i, bare_items is i))
     where
       items : Built S (many grammar.item) k
       items = record { ls = each item_lexemes is; means = map (λ i. bare_item i ∷ []) is; it = items_spelled is k pl h }

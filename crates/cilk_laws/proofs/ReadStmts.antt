@@ -60,11 +60,7 @@ next_names_spelled S xs k =
     each_before S (skip (a_mark sign.Comma) (skip (a_word key.Int) grammar.name)) (λ x. mark sign.Comma ∷ word key.Int ∷ name x.text ∷ []) bare_word
     (λ x. Unit {0})
     (λ x j u. (b_skip {S = S} {c = a_mark sign.Comma} {p = skip (a_word key.Int) grammar.name} {k = j} (mark sign.Comma) refl
-    (b_skip (word key.Int) refl (b_name x (names_are x.text)))).it) xs k (all xs)
-  where
-    all : (xs : List Word) → EachMade (λ x. Unit {0}) xs
-    all [] = made.no_more
-    all (x ∷ xs) = made.one_more tt (all xs)
+    (b_skip (word key.Int) refl (b_name x (names_are x.text)))).it) xs k (made.whatever xs)
 
 pub parameters_spelled : (S : Setting) (xs : List Word) (k : Option ℕ) → Written S grammar.parameters k (in_parentheses (names_lexemes xs)) (map bare_word xs)
 parameters_spelled S [] k =

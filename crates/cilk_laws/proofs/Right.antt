@@ -20,6 +20,7 @@ use Rattle.cilk_check.specs.scopes.Forms as forms
 use Rattle.cilk_check.specs.scopes.Forms.{synched_in, own_word, words_of_children}
 use Rattle.cilk_laws_model.specs.labelled.Bodies.{is_procedure}
 use Rattle.cilk_check.specs.scopes.WellFormed.{WellFormed}
+use Rattle.cilk_machine.proofs.effects_laws.Facts.{forms_same}
 
 abbrev pub is_function_kind : DeclarationKind → Bool
 is_function_kind (kind.Function returns n) = true
@@ -191,11 +192,6 @@ module _ (p : tree.Program) (right : WellFormed p) where
   stmt_right a (tree.switch value body) c = tt
   stmt_right a (tree.labelled label) c = tt
   stmt_right a (tree.nested inside) c = tt
-
-  forms_same : (o : Owner) → forms.is_procedure o ≡ is_procedure o
-  forms_same (Function returns) = refl
-  forms_same (Procedure returns) = refl
-  forms_same Inlet = refl
 
   inlet_right : (a : Around) (place : ℕ) (name : Word) (parameters : List Word) (body : tree.Block)
       → Has (parts_of p) (record { around = a; part = local (tree.inlet_at place name parameters body) })

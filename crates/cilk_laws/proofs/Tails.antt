@@ -21,7 +21,6 @@ use Rattle.cilk_laws.specs.StmtLexemes.{ended, next_names_lexemes, block_lexemes
 use Rattle.cilk_laws.specs.ProgramLexemes.{next_types_lexemes, types_lexemes, parameters_lexemes}
 use Rattle.cilk_laws.proofs.ReadExprs.{all_at0}
 use Rattle.cilk_laws.proofs.Made as made
-use Rattle.cilk_laws.proofs.Made.{EachMade}
 use Rattle.cilk_laws.proofs.Built.{Setting, Spells, Written, Built, written, b_of, b_done, b_skip, b_then, b_last, b_left, b_right}
 use Rattle.cilk_laws.proofs.Built.{b_by_true, b_by_false, b_before, b_name, each_before}
 use Rattle.cilk_laws.proofs.Given.{good, Given, g_done, g_skip, g_then, g_either, g_by, g_before, g_name}
@@ -69,11 +68,7 @@ somes_spelled S xs k =
     each_before S (skip (a_mark sign.Comma) (skip (a_word key.Int) (optional grammar.name))) (λ x. mark sign.Comma ∷ word key.Int ∷ name x.text ∷ [])
     (λ x. Some (bare_word x)) (λ x. Unit {0})
     (λ x j u. (b_skip {S = S} {c = a_mark sign.Comma} {p = skip (a_word key.Int) (optional grammar.name)} {k = j} (mark sign.Comma) refl
-    (b_skip (word key.Int) refl (b_left (b_last (b_name x (names_are x.text)))))).it) xs k (all xs)
-  where
-    all : (xs : List Word) → EachMade (λ x. Unit {0}) xs
-    all [] = made.no_more
-    all (x ∷ xs) = made.one_more tt (all xs)
+    (b_skip (word key.Int) refl (b_left (b_last (b_name x (names_are x.text)))))).it) xs k (made.whatever xs)
 
 somes_named : (xs : List Word) → all_named (somes xs) ≡ true
 somes_named [] = refl

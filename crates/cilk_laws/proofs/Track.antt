@@ -6,6 +6,7 @@ use Rattle.std.specs.List.{list_any}
 use Rattle.std.proofs.lemmas.List.Folds.{list_any-append}
 use Rattle.std.proofs.lemmas.Option.{same_Some}
 use Rattle.std.proofs.lemmas.Bool.{and_parts, cond-true, cond-false, not-true}
+use Rattle.std.proofs.Math.Bool.{or-false}
 use Rattle.cilk_laws_model.specs.labelled.Labelled.{Labelled}
 use Rattle.cilk_laws_model.specs.model.Path.{Path, same_path, parent_of, is_below}
 use Rattle.cilk_laws_model.specs.model.Instance.{Receiver, Delivery, Instance}
@@ -34,7 +35,6 @@ use Rattle.cilk_laws.proofs.Ways.{Way, way_of}
 use Rattle.cilk_laws.proofs.Fields.{field, field-replaced, Kept, AbortStep, fixed_receiver, way_kept}
 use Rattle.cilk_laws.proofs.Marks.{Returns, returns_by}
 use Rattle.cilk_laws.proofs.Silent.{made_still}
-use Rattle.cilk_laws.proofs.Once.{or_false}
 
 abbrev receiver_of : Instance → Option Receiver
 receiver_of i = i.receiver
@@ -213,7 +213,7 @@ module _ (program : Labelled) (s : State) (p : Path) (i : Instance) (here : inst
       with_it e =
           let parts = appended (waits_at s.instances q) brought.new ds (sym (brought.parent q e other) ∙ there) in
           ap (has c) (sym parts.2) ∙ has-append c parts.0 brought.new ∙ ap (λ b. has c parts.0 || b) (foreign_has p c brought.new brought.is_own differs)
-          ∙ or_false (has c parts.0) ∙ track.waits fate q parts.0 parent parts.1
+          ∙ or-false (has c parts.0) ∙ track.waits fate q parts.0 parent parts.1
 
       by : (o : Option Path) → parent_of p ≡ o → has c ds ≡ is_some receiver
       by None e = beside_it (λ r f. let both : None ≡ Some r = sym e ∙ f in cc)

@@ -1,6 +1,6 @@
 -- Each way in which a live instance may take a step, with all that is known there.
 use Rattle.std.proofs.Common.{◌≡◌, ℕ, ℤ, ◌^◌, ◌+◌, ◌-◌, nat_lt, nat_le, Bool, true, false, not, ◌&&◌, ◌||◌, List, [], ◌∷◌, length, Option, Some, None}
-use Rattle.std.proofs.Common.{Result, Ok, Err, ◌⊎◌, inl, inr, refl, sym, ap, ◌∙◌}
+use Rattle.std.proofs.Common.{Result, Ok, Err, ◌⊎◌, inl, inr, refl, ap}
 use Rattle.std.proofs.lemmas.Bool.{cond_both, and_parts, not-false, not-true}
 use Rattle.cilk_laws_model.specs.labelled.declared.trap.Trap.{Trap}
 use Rattle.cilk_laws_model.specs.labelled.Labelled.{Labelled, Numbered}
@@ -19,6 +19,7 @@ use Rattle.cilk_laws_model.specs.model.Event as event
 use Rattle.cilk_laws_model.specs.model.Pick.{Step, waits, parks, goes_on, ends, spawns, traps, if_room, step_by_combined, step_by_answer}
 use Rattle.cilk_laws_model.specs.model.Pick.{step_by_leaving, step_by_lock_turn, step_by_effect, step_by_head, step_by_place, step_by_receiver}
 use Rattle.cilk_laws_model.specs.model.Pick.{step_at_boundary, step_of_instance}
+use Rattle.cilk_laws_model.proofs.Rows.{within_quiet}
 use Rattle.cilk_laws.proofs.Effects.{plain, calling, marking, leaving, sort_of, Spawns, TellsSort, told}
 
 -- an instance that is not marked acts its head; where the head waits for the children, none lives and nothing waits
@@ -70,12 +71,6 @@ pub data Way (program : Labelled) (s : State) (p : Path) (i : Instance) : Step �
 ready_by : (w d : Bool) → (w && not d) ≡ false → w ≡ true → d ≡ true
 ready_by true d h e = not-false d h
 ready_by false d h e = cc
-
--- what waits here waits at a boundary
-at_one : (a b c : Bool) → (a && c) ≡ true → (a && (b || (a && c))) ≡ false → ⊥
-at_one true true c e h = cc
-at_one true false c e h = let both : true ≡ false = sym e ∙ h in cc
-at_one false b c e h = cc
 
 module _ (program : Labelled) (s : State) (p : Path) (i : Instance) where
   abbrev W : Step → Type 0
@@ -155,13 +150,8 @@ module _ (program : Labelled) (s : State) (p : Path) (i : Instance) where
   boundary_way (oldest ∷ others) unmarked e boundary =
       receiver_way oldest others oldest.receiver refl (record { unmarked = unmarked; boundary = boundary; waits = e })
 
-  within_quiet : (o : Option Numbered) → (is_empty i.below && (i.spawned || head_waits i o)) ≡ false → head_waits i o ≡ true → is_empty i.waiting ≡ true
-  within_quiet None within here = cc
-  within_quiet (Some head) within here =
-      absurd (at_one (is_empty i.below) i.spawned (is_sync head.act || leaves head.act) here within)
-
   pub way_of : Way program s p i (step_of_instance program s p i)
   way_of = cond_both i.aborted _ _ W
       (λ aborted. cond_both (has_live_child s.instances p) _ _ W (λ some. parking (inl aborted)) (λ none. ending aborted))
       (λ unmarked. cond_both (at_boundary i) _ _ W (λ boundary. boundary_way i.waiting unmarked refl boundary)
-      (λ within. head_way (head_of i.top.items) unmarked refl (within_quiet (head_of i.top.items) within)))
+      (λ within. head_way (head_of i.top.items) unmarked refl (within_quiet i (head_of i.top.items) within)))

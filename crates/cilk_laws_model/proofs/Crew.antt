@@ -16,10 +16,10 @@ use Rattle.cilk_laws_model.specs.Laws.{OneWorkerHasOneLeaf}
 use Rattle.cilk_model.proofs.Runs.{at_each}
 use Rattle.cilk_laws_model.proofs.Leaves.{each_leaf_is_busy}
 
-hand_size : (places : List Worker) (w : ℕ) (o : Option Path) → length (with_hand places w o) ≡ length places
+pub hand_size : (places : List Worker) (w : ℕ) (o : Option Path) → length (with_hand places w o) ≡ length places
 hand_size places w o = length-set places (w - 1) (record { hand = o; deque = deque_of places w })
 
-deque_size : (places : List Worker) (w : ℕ) (ps : List Path) → length (with_deque places w ps) ≡ length places
+pub deque_size : (places : List Worker) (w : ℕ) (ps : List Path) → length (with_deque places w ps) ≡ length places
 deque_size places w ps = length-set places (w - 1) (record { hand = hand_of places w; deque = ps })
 
 both_sizes : (places : List Worker) (v w : ℕ) (ps : List Path) (o : Option Path) → length (with_hand (with_deque places v ps) w o) ≡ length places
@@ -49,7 +49,7 @@ hand_step_size : (program : Labelled) (at : Standing) (w : ℕ) (o : Option Path
 hand_step_size program at w None = refl
 hand_step_size program at w (Some p) = step_size at.scheduler w p (step_of program at.state p)
 
-act_size : (program : Labelled) (at : Standing) (w : ℕ) (act : Act) → length (next_by program at w act).scheduler.places ≡ length at.scheduler.places
+pub act_size : (program : Labelled) (at : Standing) (w : ℕ) (act : Act) → length (next_by program at w act).scheduler.places ≡ length at.scheduler.places
 act_size program at w step = hand_step_size program at w (hand_of at.scheduler.places w)
 act_size program at w pop = both_sizes at.scheduler.places w w _ _
 act_size program at w (steal v) = both_sizes at.scheduler.places v w _ _

@@ -4,6 +4,8 @@ use Rattle.std.proofs.Common.{if◌then◌else◌, arith, count_by}
 use Rattle.std.specs.Prelude.{option_map}
 use Rattle.std.proofs.lemmas.List.Sums.{sum_by-cons, sum_by-append}
 use Rattle.std.proofs.lemmas.Slice.Eq.{bytes_eq-Decides}
+use Rattle.std.proofs.Math.Bool.{or-false}
+use Rattle.std.proofs.lemmas.Bool.{cond-true, cond-false}
 use Rattle.cilk_model.specs.Path.{Path, same_path}
 use Rattle.cilk_model.specs.Instance.{Instance}
 use Rattle.cilk_model.specs.State.{Entry, Instances, instance_at, is_live, change, changed, without}
@@ -129,19 +131,11 @@ times-without p (e ∷ entries) q = times_out_by p q e entries (same_path e.path
 out_of : (p q : Path) (e : Entry) → same_path e.path p ≡ true → same_path q p ≡ false → same_path e.path q ≡ false
 out_of p q e h other = ap (λ (r : Path). same_path r q) (same-is e.path p h) ∙ same-sym p q ∙ other
 
-otherwise : {A : Type 0} (b : Bool) (x y : A) → b ≡ false → (if b then x else y) ≡ y
-otherwise true x y h = cc
-otherwise false x y h = refl
-
-then_is : {A : Type 0} (b : Bool) (x y : A) → b ≡ true → (if b then x else y) ≡ x
-then_is true x y h = refl
-then_is false x y h = cc
-
 changed_other_by : (p q : Path) (f : Instance → Instance) (e : Entry) (entries : Instances) (b : Bool) → same_path e.path p ≡ b
     → same_path q p ≡ false → instance_at (changed p f entries) q ≡ instance_at entries q
     → instance_at ((if b then record e { instance = f e.instance } else e) ∷ changed p f entries) q ≡ instance_at (e ∷ entries) q
 changed_other_by p q f e entries true h other rest =
-    otherwise (same_path e.path q) _ _ (out_of p q e h other) ∙ rest ∙ sym (otherwise (same_path e.path q) _ _ (out_of p q e h other))
+    cond-false (same_path e.path q) _ _ (out_of p q e h other) ∙ rest ∙ sym (cond-false (same_path e.path q) _ _ (out_of p q e h other))
 changed_other_by p q f e entries false h other rest =
     ap (λ (o : Option Instance). if same_path e.path q then Some e.instance else o) rest
 
@@ -155,9 +149,9 @@ changed_same_by : (p : Path) (f : Instance → Instance) (e : Entry) (entries : 
     → instance_at (changed p f entries) p ≡ option_map f (instance_at entries p)
     → instance_at ((if b then record e { instance = f e.instance } else e) ∷ changed p f entries) p ≡ option_map f (instance_at (e ∷ entries) p)
 changed_same_by p f e entries true h rest =
-    then_is (same_path e.path p) _ _ h ∙ sym (ap (option_map f) (then_is (same_path e.path p) (Some e.instance) (instance_at entries p) h))
+    cond-true (same_path e.path p) _ _ h ∙ sym (ap (option_map f) (cond-true (same_path e.path p) (Some e.instance) (instance_at entries p) h))
 changed_same_by p f e entries false h rest =
-    otherwise (same_path e.path p) _ _ h ∙ rest ∙ sym (ap (option_map f) (otherwise (same_path e.path p) (Some e.instance) (instance_at entries p) h))
+    cond-false (same_path e.path p) _ _ h ∙ rest ∙ sym (ap (option_map f) (cond-false (same_path e.path p) (Some e.instance) (instance_at entries p) h))
 
 pub at-changed_same : (p : Path) (f : Instance → Instance) (entries : Instances) → instance_at (changed p f entries) p ≡ option_map f (instance_at entries p)
 at-changed_same p f [] = refl
@@ -167,7 +161,7 @@ at-changed_same p f (e ∷ entries) =
 without_other_by : (p q : Path) (e : Entry) (entries : Instances) (b : Bool) → same_path e.path p ≡ b → same_path q p ≡ false
     → instance_at (without p entries) q ≡ instance_at entries q
     → instance_at (cond (not b) (e ∷ without p entries) (without p entries)) q ≡ instance_at (e ∷ entries) q
-without_other_by p q e entries true h other rest = rest ∙ sym (otherwise (same_path e.path q) _ _ (out_of p q e h other))
+without_other_by p q e entries true h other rest = rest ∙ sym (cond-false (same_path e.path q) _ _ (out_of p q e h other))
 without_other_by p q e entries false h other rest =
     ap (λ (o : Option Instance). if same_path e.path q then Some e.instance else o) rest
 
@@ -225,11 +219,7 @@ pub live-push : (entries : Instances) (e : Entry) (q : Path) → is_live (entrie
 live-push entries e q =
     ap is_some (at-push entries e q)
     ∙ live_either (instance_at entries q) _ (same_path e.path q)
-    (some_if (same_path e.path q) e.instance None ∙ or_false (same_path e.path q))
-  where
-    or_false : (b : Bool) → (b || false) ≡ b
-    or_false true = refl
-    or_false false = refl
+    (some_if (same_path e.path q) e.instance None ∙ or-false (same_path e.path q))
 
 pub times-push : (entries : Instances) (e : Entry) (q : Path) → times q (entries ++ e ∷ []) ≡ cond (same_path e.path q) 1 0 + times q entries
 times-push entries e q =

@@ -2,6 +2,7 @@
 use Rattle.std.proofs.Common.{◌≡◌, ℕ, suc, ◌+◌, Bool, true, false, ◌||◌, if◌then◌else◌, List, [], ◌∷◌, ◌++◌, length, Some, None, refl, ap, ◌∙◌, arith}
 use Rattle.std.specs.List.{list_any}
 use Rattle.std.proofs.lemmas.List.Folds.{list_any-append}
+use Rattle.std.proofs.Math.Bool.{or-false}
 use Rattle.cilk_model.specs.Path.{Path, same_path}
 use Rattle.cilk_model.specs.State.{TrapKind}
 use Rattle.cilk_model.specs.Event.{Event, acted, trapped, moved}
@@ -47,15 +48,11 @@ trapped_plain kind p n = record { fate = λ k q fate. refl; birth = λ q. refl }
 pub moved_plain : IsPlain moved
 moved_plain = record { fate = λ k q fate. refl; birth = λ q. refl }
 
-or_false : (b : Bool) → (b || false) ≡ b
-or_false true = refl
-or_false false = refl
-
 pub told-plain : (events : List Event) (e : Event) → IsPlain e → (p : Path) → told (events ++ e ∷ []) p ≡ told events p
 told-plain events e plain p = told-push p events e ∙ plain.fate (suc (length events)) p (told events p)
 
 pub made-unborn : (events : List Event) (e : Event) (p : Path) → is_birth p e ≡ false → was_made (events ++ e ∷ []) p ≡ was_made events p
-made-unborn events e p none = made-push p events e ∙ ap (λ b. was_made events p || b) none ∙ or_false (was_made events p)
+made-unborn events e p none = made-push p events e ∙ ap (λ b. was_made events p || b) none ∙ or-false (was_made events p)
 
 pub fate-made : (events : List Event) (p : Path) → was_made events p ≡ true → fate_of events p ≡ Some (told events p)
 fate-made events p made = by (was_made events p) made

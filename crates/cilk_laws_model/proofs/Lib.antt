@@ -37,7 +37,7 @@ pub mod Boundaries
 pub mod Going
 pub mod Leaving
 pub mod Starting
-pub mod Rules
+pub mod WrittenRules
 pub mod RuleKept
 pub mod Decided
 pub mod Forms

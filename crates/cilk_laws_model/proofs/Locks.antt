@@ -4,6 +4,7 @@ use Rattle.std.proofs.Common.{◌⊎◌, inl, inr, refl, sym, ap, ◌∙◌, sli
 use Rattle.std.proofs.lemmas.Bool.{or_right}
 use Rattle.std.specs.Prelude.{slice_index_or, is_some}
 use Rattle.std.specs.List.{list_any}
+use Rattle.std.proofs.Math.Bool.{or-true}
 use Rattle.cilk_model.specs.syntax.declared.lock_action.LockAction.{LockAction}
 use Rattle.cilk_model.specs.syntax.declared.lock_action.LockAction.TheVariants.{Init, Unlock}
 use Rattle.cilk_model.specs.syntax.declared.lock_action.LockAction.TheVariants as action
@@ -56,11 +57,7 @@ lock_turned_by p q Unlock (held r) h = absurd (by (same_path r p) h)
 any_held : (p : Path) (locks : List Lock) (k : ℕ) → at_place locks k ≡ held p → list_any (is_held_by p) locks ≡ true
 any_held p [] k h = cc
 any_held p (lock ∷ locks) zero h = ap (λ l. is_held_by p l || list_any (is_held_by p) locks) h ∙ ap (λ b. b || list_any (is_held_by p) locks) (same-self p)
-any_held p (lock ∷ locks) (suc k) h = ap (λ b. is_held_by p lock || b) (any_held p locks k h) ∙ or_true (is_held_by p lock)
-  where
-    or_true : (b : Bool) → (b || true) ≡ true
-    or_true true = refl
-    or_true false = refl
+any_held p (lock ∷ locks) (suc k) h = ap (λ b. is_held_by p lock || b) (any_held p locks k h) ∙ or-true (is_held_by p lock)
 
 -- what is still held after p let its locks go was held by another
 released_by : (p q : Path) (lock : Lock) → released p lock ≡ held q → (lock ≡ held q) × (same_path q p ≡ false)

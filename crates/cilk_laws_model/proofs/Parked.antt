@@ -1,6 +1,7 @@
 -- Each instance that is parked has a live child.
 use Rattle.std.proofs.Common.{◌≡◌, ℕ, Bool, true, false, not, ◌&&◌, ◌||◌, [], ◌∷◌, Option, Some, None, refl, sym, ap, ◌∙◌, if◌then◌else◌}
 use Rattle.std.proofs.lemmas.Bool.{or_right, and_parts}
+use Rattle.std.proofs.Math.Bool.{or-true}
 use Rattle.cilk_model.specs.labelled.Labelled.{Labelled}
 use Rattle.cilk_model.specs.Path.{Path, same_path, parent_of, is_that, is_child}
 use Rattle.cilk_model.specs.State.{Entry, Instances, State, instance_at, is_live, has_live_child}
@@ -22,11 +23,7 @@ pub in_front : (e : Entry) (entries : Instances) → is_live (e ∷ entries) e.p
 in_front e entries = live-cons e entries e.path ∙ ap (λ b. b || is_live entries e.path) (same-self e.path)
 
 pub behind : (e : Entry) (entries : Instances) (q : Path) → is_live entries q ≡ true → is_live (e ∷ entries) q ≡ true
-behind e entries q h = live-cons e entries q ∙ ap (λ b. same_path e.path q || b) h ∙ or_true (same_path e.path q)
-  where
-    or_true : (b : Bool) → (b || true) ≡ true
-    or_true true = refl
-    or_true false = refl
+behind e entries q h = live-cons e entries q ∙ ap (λ b. same_path e.path q || b) h ∙ or-true (same_path e.path q)
 
 child_by : (p : Path) (e : Entry) (entries : Instances) (b : Bool) → is_child p e.path ≡ b → (b || has_live_child entries p) ≡ true
     → (has_live_child entries p ≡ true → LiveChild entries p) → LiveChild (e ∷ entries) p

@@ -1,5 +1,6 @@
 -- The root lives as long as the program runs: no `abort` marks it.
 use Rattle.std.proofs.Common.{◌≡◌, ℕ, ℤ, Bool, true, false, not, ◌&&◌, ◌||◌, List, [], ◌∷◌, Option, Some, None, refl, sym, ap, ◌∙◌}
+use Rattle.std.proofs.Math.Bool.{or-true}
 use Rattle.cilk_model.specs.labelled.Labelled.{Labelled}
 use Rattle.cilk_model.specs.Path.{Path, same_path, parent_of, is_below}
 use Rattle.cilk_model.specs.Instance.{Activation, Instance}
@@ -22,9 +23,9 @@ use Rattle.cilk_laws_model.proofs.Each.{Keeps, Each, found, act_each}
 abbrev Unmarked : Path → Instance → Type 0
 Unmarked p i = p ≡ [] → i.aborted ≡ false
 
-marks-caller : (i : Instance) (below : List Activation) → (resumed_to i below).aborted ≡ i.aborted
-marks-caller i [] = refl
-marks-caller i (caller ∷ below) = refl
+pub resumed_mark : (i : Instance) (below : List Activation) → (resumed_to i below).aborted ≡ i.aborted
+resumed_mark i [] = refl
+resumed_mark i (caller ∷ below) = refl
 
 root_above : (p : Path) → is_below p [] ≡ false
 root_above [] = refl
@@ -39,7 +40,7 @@ keeps_unmarked program = record {
   on = λ p i head z first stays h. h;
   filled = λ p i cell z h. h;
   entered = λ p i b zs awaits room h. h;
-  left = λ p i h e. marks-caller i i.below ∙ h e;
+  left = λ p i h e. resumed_mark i i.below ∙ h e;
   waiting = λ p i deliveries h. h;
   counted = λ p i room h. h;
   marked = λ p q i below h e. absurd (not_marked p q below e);
@@ -91,10 +92,6 @@ live_ends program s p all None e = tt
 live_ends program s p all (Some i) e =
     row_ends (found program Unmarked (keeps_unmarked program) s.instances p i all e) (step_row program s p i)
 
-or_true : (b : Bool) → (b || true) ≡ true
-or_true true = refl
-or_true false = refl
-
 abbrev RootLives : State → Type 0
 RootLives s = s.outcome ≡ running → is_live s.instances [] ≡ true
 
@@ -105,7 +102,7 @@ step_rooted s p (goes_on t did) root lives child runs = lives.live [] ∙ root
 step_rooted s p (ends t did) root lives child runs =
     lives.live [] ∙ ap (λ b. not b && is_live s.instances []) (child runs) ∙ root
 step_rooted s p (spawns c t did) root lives child runs =
-    lives.live [] ∙ ap (λ b. same_path c [] || b) root ∙ or_true (same_path c [])
+    lives.live [] ∙ ap (λ b. same_path c [] || b) root ∙ or-true (same_path c [])
 
 hand_rooted : (program : Labelled) (at : Standing) (w : ℕ) (o : Option Path) → at.state.outcome ≡ running
     → Each program Unmarked (keeps_unmarked program) at.state.instances → RootLives at.state → RootLives (next_by_hand program at w o).state

@@ -162,6 +162,11 @@ at_one true true c e h = cc
 at_one true false c e h = let both : true ≡ false = sym e ∙ h in cc
 at_one false b c e h = cc
 
+pub within_quiet : (i : Instance) (o : Option Numbered) → (is_empty i.below && (i.spawned || head_waits i o)) ≡ false → head_waits i o ≡ true
+    → is_empty i.waiting ≡ true
+within_quiet i None within here = cc
+within_quiet i (Some head) within here = absurd (at_one (is_empty i.below) i.spawned (is_sync head.act || leaves head.act) here within)
+
 -- where a thread ends, no lock is held
 lockless_by : (a b c d e h : Bool) → ((a || (b || (c && (d || e)))) && h) ≡ false → c ≡ true → d ≡ true → h ≡ false
 lockless_by true b c d e h k f g = k
@@ -250,13 +255,8 @@ module _ (program : Labelled) (s : State) (p : Path) (i : Instance) where
   boundary_row (oldest ∷ others) unmarked e boundary =
       receiver_row oldest others oldest.receiver (record { waits = e; boundary = boundary; alone = (and_parts (is_empty i.below) _ boundary).0 })
 
-  within_quiet : (o : Option Numbered) → (is_empty i.below && (i.spawned || head_waits i o)) ≡ false → head_waits i o ≡ true → is_empty i.waiting ≡ true
-  within_quiet None within here = cc
-  within_quiet (Some head) within here =
-      absurd (at_one (is_empty i.below) i.spawned (is_sync head.act || leaves head.act) here within)
-
   pub step_row : Row program s p i (step_of_instance program s p i)
   step_row = cond_both i.aborted _ _ (Row program s p i)
       (λ aborted. cond_both (has_live_child s.instances p) _ _ (Row program s p i) (λ some. parked some) (λ none. aborting aborted none))
       (λ unmarked. cond_both (at_boundary i) _ _ (Row program s p i) (λ boundary. boundary_row i.waiting unmarked refl boundary)
-      (λ within. head_row (head_of i.top.items) unmarked refl (within_quiet (head_of i.top.items) within)))
+      (λ within. head_row (head_of i.top.items) unmarked refl (within_quiet i (head_of i.top.items) within)))

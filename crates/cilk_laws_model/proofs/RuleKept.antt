@@ -13,7 +13,7 @@ use Rattle.cilk_laws_model.specs.Kept.{KeepsRule, OneMore, EachChoiceKeepsRule}
 use Rattle.cilk_laws_model.proofs.Possible.{possible}
 use Rattle.cilk_laws_model.proofs.Kept.{always}
 use Rattle.cilk_laws_model.proofs.Ground.{Ruled}
-use Rattle.cilk_laws_model.proofs.Rules.{step_rule}
+use Rattle.cilk_laws_model.proofs.WrittenRules.{step_rule}
 use Rattle.cilk_model.proofs.Runs.{after-push, Went, went}
 
 pub each_in_order : EachStateIsInOrder

@@ -185,11 +185,3 @@ module _ (program : Labelled) where
       agree-declared (slot_of program b) (with_words names 0 (count ∷ [])) (declared s (bound_var (vars_at tables b) 0 count)) unknown _
       (record { name = strings.text; binding = scope.unknown_name }) refl refl
       (agree-words b names s 0 0 (count ∷ []) refl agree)
-
-words-bodies : (names : Names) (n : ℕ) (words : List Word) → (with_words names n words).bodies ≡ names.bodies
-words-bodies names n [] = refl
-words-bodies names n (word ∷ words) = words-bodies (with_name names (local n) (parameter word)) (suc n) words
-
-pub parameters-bodies : (names : Names) (parameters : tree.Parameters) → (with_parameters names parameters).bodies ≡ names.bodies
-parameters-bodies names (tree.ints words) = words-bodies names 0 words
-parameters-bodies names (tree.command_line count strings) = refl

@@ -28,9 +28,10 @@ use Rattle.cilk_load.specs.nodes.Actions.{slotted}
 use Rattle.cilk_load.specs.nodes.Table.{number_of, number_else, cases_of, closing_items, Row, node_of}
 use Rattle.cilk_load.specs.nodes.Bodies.{body_table, globals_of}
 use Rattle.cilk_load.specs.nodes.Plain.{PlainLocals, PlainBlock, OuterLocals, OuterBlock, PlainItem, PlainItems}
+use Rattle.cilk_load.proofs.nodes_laws.BodyCounts.{length-inlets, length-item, parameters-bodies}
 use Rattle.cilk_load.proofs.nodes_laws.Inner.{well_formed-plain}
 use Rattle.cilk_load.proofs.nodes_laws.Members.{has-from-at}
-use Rattle.cilk_load.proofs.nodes_laws.Texts.{item_rows, items_rows, RowsSpan, length-item, items-from-text}
+use Rattle.cilk_load.proofs.nodes_laws.Texts.{item_rows, items_rows, RowsSpan, items-from-text}
 use Rattle.cilk_load.proofs.nodes_laws.Heads.{rows_of, text_of, text-spans, row-number, among-is, among-none, text-place, numbered, one-row}
 use Rattle.cilk_load.specs.resolve.Scope as scope
 use Rattle.cilk_load.specs.resolve.Scope.{Scope, outward_named}
@@ -41,7 +42,7 @@ use Rattle.cilk_load.specs.Outer.{file_named, file_scope}
 use Rattle.cilk_load.proofs.Found.{binding_of, same_name, Agree}
 use Rattle.cilk_load.proofs.Starts.{stmts-pieces, locals-pieces}
 use Rattle.cilk_load.proofs.SlotLaws.{own-around, inlets-around, inlet-owners, file-binding}
-use Rattle.cilk_load.proofs.Bodies.{tables, row_node, AroundBlock, body-rows, agree-parameters, parameters-bodies}
+use Rattle.cilk_load.proofs.Bodies.{tables, row_node, AroundBlock, body-rows, agree-parameters}
 
 -- the bodies of a program from body b on are these
 abbrev Located : Labelled → ℕ → List Body → Type 0
@@ -69,13 +70,6 @@ located-back program b n xs ys e h j below =
 procedure-owner : (is_cilk : Bool) (returns : _) → is_inlet (owner_of is_cilk returns) ≡ false
 procedure-owner true returns = refl
 procedure-owner false returns = refl
-
-length-inlets : (names : Names) (at n : ℕ) (ls : tree.Locals) → length (inlet_bodies names at n ls) ≡ inlet_count ls
-length-inlets names at n tree.no_locals = refl
-length-inlets names at n (tree.and_local (tree.declared d) rest) =
-    length-inlets (label.with_local names n (tree.declared d)) (at + count_shape d.shape) (n + 1) rest
-length-inlets names at n (tree.and_local (tree.inlet_at place name parameters body) rest) =
-    ap suc (length-inlets (label.with_local names n (tree.inlet_at place name parameters body)) (at + (count_block body + 1)) (n + 0) rest)
 
 placed : (program : Labelled) (b : ℕ) (x : tree.Block) → ((j : ℕ) → j < inlet_count (block_locals x) → procedure_around program (suc (b + j)) ≡ b)
     → AroundBlock program b x

@@ -6,6 +6,7 @@ pub mod Closed
 pub mod Members
 pub mod Kept
 pub mod Spans
+pub mod BodyCounts
 pub mod Texts
 pub mod Successors
 pub mod Heads

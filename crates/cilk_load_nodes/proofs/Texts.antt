@@ -13,9 +13,10 @@ use Rattle.cilk_model.specs.labelled.Names.{Names, with_local, with_words, in_in
 use Rattle.cilk_model.specs.labelled.Count.{count_shape, count_locals, count_stmts, count_block, count_item, count_items}
 use Rattle.cilk_model.specs.labelled.Label.{single, label_move, label_initialiser, label_locals, label_stmts, label_block, names_behind, locals_variables}
 use Rattle.cilk_model.specs.labelled.Bodies.{one_cell, parameter_variables, label_body, inlet_bodies, block_locals, procedure_names}
-use Rattle.cilk_model.specs.labelled.Bodies.{inlet_count, body_count, item_bodies, items_bodies}
+use Rattle.cilk_model.specs.labelled.Bodies.{body_count, item_bodies, items_bodies}
 use Rattle.cilk_load_nodes.specs.Table.{number_of, stmts_lists, closing_items, body_lists, Row, row, rows_from}
 use Rattle.cilk_load_nodes.specs.Plain.{PlainBlock, OuterLocals, OuterBlock, PlainItem, PlainItems}
+use Rattle.cilk_load_nodes.proofs.BodyCounts.{length-item}
 use Rattle.cilk_load_nodes.proofs.Spans.{Spans, spans-append, spans-end, spans-at, block-spans, stmts-spans}
 
 -- the row of an initialiser, before what follows
@@ -329,19 +330,6 @@ rows-from-append b (x ∷ xs) ys =
   where
     one-more : (i j : ℕ) → suc i + j ≡ i + suc j
     one-more i j = omega arith
-
-length-inlets : (names : Names) (at n : ℕ) (ls : tree.Locals) → length (inlet_bodies names at n ls) ≡ inlet_count ls
-length-inlets names at n tree.no_locals = refl
-length-inlets names at n (tree.and_local (tree.declared d) rest) = length-inlets (with_local names n (tree.declared d)) (at + count_shape d.shape) (n + 1) rest
-length-inlets names at n (tree.and_local (tree.inlet_at place name parameters body) rest) =
-    ap suc (length-inlets (with_local names n (tree.inlet_at place name parameters body)) (at + (count_block body + 1)) (n + 0) rest)
-
-pub length-item : (names : Names) (at : ℕ) (x : tree.Item) → length (item_bodies names at x) ≡ body_count x
-length-item names at (tree.global g) = refl
-length-item names at (tree.lock name) = refl
-length-item names at (tree.prototype q) = refl
-length-item names at (tree.procedure p) =
-    ap suc (length-inlets (procedure_names (record names { bodies = suc names.bodies }) p) at (length (parameter_variables p.parameters)) (block_locals p.body))
 
 item-to-text : (names : Names) (b at : ℕ) (x : tree.Item) (r : Row) → Has (rows_from b (item_bodies names at x)) r → Has (item_rows names b at x) r
 item-to-text names b at (tree.global g) r h = h

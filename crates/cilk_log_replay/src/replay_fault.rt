@@ -3,7 +3,8 @@
 use cilk_machine::Refusal;
 use thiserror::Error;
 
-/// Why choices cannot be made again.
+/// Why choices cannot be made again. What `Display` writes is for who uses this crate, and no clause speaks of it: the program's lines are those of
+/// `tell_replay` of `cilk_program`.
 #[derive(Debug, Drop, Error)]
 pub enum ReplayFault {
     /// The schedule tells that it is of another program.

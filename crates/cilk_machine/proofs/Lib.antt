@@ -26,6 +26,7 @@ pub mod Nothing
 pub mod Undoes
 pub mod Callers
 pub use Rattle.cilk_machine_undo.proofs.agree_laws
+pub use Rattle.cilk_machine_undo.proofs.effects_laws
 pub use Rattle.cilk_machine_undo.proofs.frame_laws
 pub use Rattle.cilk_machine_undo.proofs.nodes_laws
 pub use Rattle.cilk_machine_undo.proofs.runs_laws

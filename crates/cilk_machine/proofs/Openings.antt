@@ -46,6 +46,7 @@ use Rattle.cilk_machine.specs.Pasts.{pasts, running_at}
 use Rattle.cilk_machine.specs.Kept.{AllKept, IsWhole}
 use Rattle.cilk_machine.specs.Stands.{Led, IsSound}
 use Rattle.cilk_machine.specs.Opening.{cells_of, Begins, First, StartsMain}
+use Rattle.cilk_machine_step.proofs.Numbers.{vars-length}
 use Rattle.cilk_machine.proofs.Rooms.{few-idle}
 
 -- the cells of the table of variables are those of the definition
@@ -55,12 +56,8 @@ first_cells area at (v ∷ variables) =
     ap (λ cells. replicate (max v.length 1) v.initial ++ cells) (first_cells area (at + size_of v) variables)
 
 -- there is a lock for each name
-count_vars : (area : Area) (at : ℕ) (variables : List Variable) → length (vars_from area at variables) ≡ length variables
-count_vars area at [] = refl
-count_vars area at (v ∷ variables) = ap suc (count_vars area (at + size_of v) variables)
-
 count_locks : (p : Program) → length (locks_of p) ≡ length (label p).locks
-count_locks p = count_vars Global 0 (map lock_variable (label p).locks) ∙ length-map (label p).locks lock_variable
+count_locks p = vars-length Global 0 (map lock_variable (label p).locks) ∙ length-map (label p).locks lock_variable
 
 -- a body that is there takes as many arguments as it has parameters
 body-takes : (bodies : List labelled.Body) (b : ℕ) (arguments : List ℤ) → b < length bodies

@@ -28,7 +28,7 @@ use Rattle.cilk_machine.specs.Made.{IsRefused}
 use Rattle.cilk_machine.proofs.Refusals.{in-hand-of, hand-is}
 use Rattle.cilk_machine.proofs.Free.{frees, free-refused}
 
-reason-some : (r : Refusal) → Some r ≢ Some Memory → is_none (reason_of r) ≡ false
+pub reason-some : (r : Refusal) → Some r ≢ Some Memory → is_none (reason_of r) ≡ false
 reason-some Over h = refl
 reason-some NoWorker h = refl
 reason-some HandEmpty h = refl

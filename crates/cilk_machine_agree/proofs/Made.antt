@@ -5,6 +5,8 @@ use Rattle.std.proofs.lemmas.Bool.{or_parts}
 use Rattle.std.specs.Prelude.{flat_map, option_and_then}
 use Rattle.std.specs.Option.{option_or}
 use Rattle.std.specs.List.{list_any, range_with_len}
+use Rattle.std.proofs.lemmas.List.Folds.{list_any-append}
+use Rattle.std.proofs.Math.Bool.{or-false}
 use Rattle.cilk_laws_model.specs.labelled.Labelled.{Labelled}
 use Rattle.cilk_laws_model.specs.model.Path.{Path, same_path}
 use Rattle.cilk_laws_model.specs.model.Event.{Event, acted, spawned, delivered, returned, ended, trapped, moved}
@@ -32,21 +34,9 @@ pub made-more : (events : List Event) (e : Event) → made (events ++ e ∷ []) 
 made-more events e = ap (λ ps. [] ∷ ps) (born-push events e)
 
 -- a path was made where it is among those that were
-any-append : (f : Path → Bool) (xs ys : List Path) → list_any f (xs ++ ys) ≡ (list_any f xs || list_any f ys)
-any-append f [] ys = refl
-any-append f (x ∷ xs) ys = ap (λ b. f x || b) (any-append f xs ys) ∙ assoc (f x) (list_any f xs) (list_any f ys)
-  where
-    assoc : (a b c : Bool) → (a || (b || c)) ≡ ((a || b) || c)
-    assoc true b c = refl
-    assoc false b c = refl
-
 birth-any : (p : Path) (e : Event) → is_birth p e ≡ list_any (λ q. same_path q p) (born e)
 birth-any p (acted q n) = refl
-birth-any p (spawned q n) = end (same_path q p)
-  where
-    end : (b : Bool) → b ≡ (b || false)
-    end true = refl
-    end false = refl
+birth-any p (spawned q n) = sym (or-false (same_path q p))
 birth-any p (delivered q n) = refl
 birth-any p (returned q n) = refl
 birth-any p (ended q) = refl
@@ -56,7 +46,7 @@ birth-any p moved = refl
 births-any : (p : Path) (events : List Event) → list_any (is_birth p) events ≡ list_any (λ q. same_path q p) (flat_map born events)
 births-any p [] = refl
 births-any p (e ∷ events) =
-    (λ j. birth-any p e j || births-any p events j) ∙ sym (any-append (λ q. same_path q p) (born e) (flat_map born events))
+    (λ j. birth-any p e j || births-any p events j) ∙ sym (list_any-append (λ q. same_path q p) (born e) (flat_map born events))
 
 root-any : (p : Path) → same_path p [] ≡ same_path [] p
 root-any [] = refl
@@ -97,18 +87,18 @@ node-made program ns events h p e =
     let low = it.within in
     record { id = it.at; within = omega (arith, low); is = same-is (path_at ns it.at) p it.is }
 
+pub option_or-none : (o : Option ℕ) → option_or o None ≡ o
+option_or-none None = refl
+option_or-none (Some n) = refl
+
+pub option_or-assoc : (a b c : Option ℕ) → option_or a (option_or b c) ≡ option_or (option_or a b) c
+option_or-assoc None b c = refl
+option_or-assoc (Some n) b c = refl
+
 -- the spawn that made a path
 spawn-push : (events : List Event) (e : Event) (p : Path) → spawn_of (events ++ e ∷ []) p ≡ option_or (spawn_of events p) (spawn_by p e)
-spawn-push [] e p = end (spawn_by p e)
-  where
-    end : (o : Option ℕ) → option_or o None ≡ o
-    end None = refl
-    end (Some n) = refl
-spawn-push (x ∷ events) e p = ap (option_or (spawn_by p x)) (spawn-push events e p) ∙ assoc (spawn_by p x) (spawn_of events p) (spawn_by p e)
-  where
-    assoc : (a b c : Option ℕ) → option_or a (option_or b c) ≡ option_or (option_or a b) c
-    assoc None b c = refl
-    assoc (Some n) b c = refl
+spawn-push [] e p = option_or-none (spawn_by p e)
+spawn-push (x ∷ events) e p = ap (option_or (spawn_by p x)) (spawn-push events e p) ∙ option_or-assoc (spawn_by p x) (spawn_of events p) (spawn_by p e)
 
 spawn-none-by : (x : Event) (p : Path) → is_birth p x ≡ false → spawn_by p x ≡ None
 spawn-none-by (acted q n) p e = refl

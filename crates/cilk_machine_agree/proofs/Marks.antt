@@ -1,5 +1,6 @@
 -- An `abort` marks the live descendants of an instance, by path and by id.
 use Rattle.std.proofs.Common.{◌≡◌, ◌<◌, ℕ, Bool, true, false, ◌&&◌, ◌||◌, List, map, length, is_some, refl, sym, ap, ◌∙◌, subst, if◌then◌else◌}
+use Rattle.std.proofs.Math.Bool.{or-true, or-false}
 use Rattle.cilk_laws_model.specs.syntax.Tree.{Program}
 use Rattle.cilk_laws_model.specs.labelled.Bodies.{label}
 use Rattle.cilk_laws_model.specs.model.Path.{Path}
@@ -29,14 +30,6 @@ marked-entry : (b : Bool) (e : Entry)
     ≡ (if b then record e { instance = record e.instance { aborted = true } } else e)
 marked-entry true e = refl
 marked-entry false e = refl
-
-or-true : (x : Bool) → (x || true) ≡ true
-or-true true = refl
-or-true false = refl
-
-or-false : (x : Bool) → (x || false) ≡ x
-or-false true = refl
-or-false false = refl
 
 -- the node of one that lives, marked or not
 marked-tells : (p : Program) (up : ℕ → Path) (procedures : ℕ → ℕ) (n : Node) (a : Instance) (b : Bool) → NodeStandsFor (label p) up procedures n a

@@ -1,21 +1,17 @@
 -- The root alone, before any choice.
 use Rattle.std.proofs.Common.{◌≡◌, ℕ, zero, suc, true, false, List, [], ◌∷◌, map, length, replicate, Some, is_some, refl, sym, ap, ◌∙◌}
-use Rattle.std.specs.Prelude.{max}
-use Rattle.std.proofs.lemmas.List.{length-replicate}
 use Rattle.std.proofs.lemmas.List.Elements.{All-nil, All-cons, All-replicate}
 use Rattle.cilk_laws_model.specs.syntax.Tree.{Program}
-use Rattle.cilk_laws_model.specs.labelled.Labelled.{Variable}
 use Rattle.cilk_laws_model.specs.labelled.Bodies.{label}
 use Rattle.cilk_laws_model.specs.model.Path.{Path}
-use Rattle.cilk_laws_model.specs.model.Values.{initial_values}
 use Rattle.cilk_laws_model.specs.model.Instance as model
 use Rattle.cilk_laws_model.specs.model.State as state
 use Rattle.cilk_laws_model.specs.model.Hands.{no_place}
 use Rattle.cilk_laws_model.specs.model.Scheduler as sched
 use Rattle.cilk_laws_model.specs.model.Run as run
-use Rattle.cilk_sched.specs.nodes.Slots.{size_of}
 use Rattle.cilk_sched.specs.frame.Frames.{Frame}
 use Rattle.cilk_sched.specs.frame.Stands.{StandsFor}
+use Rattle.cilk_sched.proofs.frame_laws.Starts.{initial-sizes}
 use Rattle.cilk_spawn.specs.Nodes.{Node, node_at, is_live, root_alone, path_at}
 use Rattle.cilk_spawn.proofs.Grown.{tree_root}
 use Rattle.cilk_sched.specs.Count.{AllAt, AllHeld}
@@ -30,10 +26,6 @@ use Rattle.cilk_machine_agree.proofs.Frames.{held-with_hand}
 none_held : (P : Frame → Type 0) (n : ℕ) → AllHeld P (replicate n no_place)
 none_held P zero = All-nil (AllAt P)
 none_held P (suc n) = All-cons (AllAt P) no_place (replicate n no_place) (tt, All-nil P) (none_held P n)
-
-first_sizes : (variables : List Variable) → map length (initial_values variables) ≡ map size_of variables
-first_sizes [] = refl
-first_sizes (v ∷ variables) = λ i. length-replicate (max v.length 1) v.initial i ∷ first_sizes variables i
 
 locks_first : (up : ℕ → Path) (n : ℕ) → replicate n state.unset ≡ map (lock_by up) (replicate n Unset)
 locks_first up zero = refl
@@ -63,7 +55,7 @@ module _ (p : Program) (b : ℕ) (f : Frame) (own : f.id ≡ 0) (stands : Stands
     tree = tree_root b;
     outside = record {
       cells = refl;
-      sizes = first_sizes (label p).globals;
+      sizes = initial-sizes (label p).globals;
       locks = locks_first (path_at ns) (length (label p).locks);
       holders = All-replicate (LockWithin (length ns)) (length (label p).locks) Unset tt;
       output = refl;

@@ -1,4 +1,4 @@
-//! An action is acted, and its frame is in the hand again.
+//! Carries out the plans of a trap, of bytes that are printed and of an `abort`; and what most actions end with: the frame is in the hand again.
 
 ghost use Rattle.std.specs.Prelude.{◌≡◌, ℕ, true, Option, None, Some, IfErr, IfOk, OnErr};
 ghost use Rattle.cilk_machine_plan.specs.model.Hands.{IsWorker, hand_of, with_hand};

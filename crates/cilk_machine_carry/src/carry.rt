@@ -1,4 +1,4 @@
-//! A plan is carried out.
+//! `carry_out`: carries out a plan of any kind.
 
 ghost use Rattle.std.specs.Prelude.{◌≡◌, None, IfErr, IfOk, OnErr, OnOk};
 ghost use Rattle.std.specs.Option.{option_copied};

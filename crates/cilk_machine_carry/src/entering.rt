@@ -1,4 +1,4 @@
-//! A body is entered or left, and an activation goes on.
+//! Carries out the plans by which an inlet or a C function starts; and how an activation goes on, and a body is left.
 
 ghost use Rattle.std.specs.Prelude.{◌≡◌, ◌<◌, ℕ, true, None, IfErr, IfOk, OnErr};
 ghost use Rattle.std.specs.Option.{option_copied};
@@ -18,7 +18,7 @@ use crate::acting::acted;
 use crate::given::{Passage, Sender, Start};
 use cilk_machine_plan::{Await, Body, Did, Done, Frame, Parts, Spent};
 
-/// An action of the procedure's own clears the flag.
+/// The top activation goes on with this action. An action of the procedure's own clears the boundary flag (`Frame::at_boundary`).
 pub(crate) fn go_on(frame: Frame, to: u32) -> Frame
     ensures { result ≡ gone_to to frame }
 {

@@ -1,4 +1,4 @@
-//! A light plan is carried out: the frame stays in the hand, and is changed there.
+//! `carry_lightly`: carries out a light plan. The frame stays in the hand, and is changed there.
 
 ghost use Rattle.std.specs.Prelude.{◌≡◌, Some, None};
 ghost use Rattle.cilk_machine_plan.specs.model.Hands.{IsWorker, hand_of, with_hand};

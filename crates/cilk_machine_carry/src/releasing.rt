@@ -1,4 +1,4 @@
-//! How locks change: taken and set free by a step, and let go of by an instance that was aborted.
+//! Carries out the plan of a lock that is set, taken or freed; and how an instance that was aborted lets go of its locks.
 
 ghost use Rattle.std.specs.Prelude.{◌≡◌, ℕ, Option, None, map};
 ghost use Rattle.cilk_machine_plan.specs.model.Hands.{IsWorker, hand_of};

@@ -1,4 +1,4 @@
-//! An instance is no more.
+//! Carries out the plans by which an instance is no more: it returns a value, or was aborted.
 
 ghost use Rattle.std.specs.Prelude.{◌≡◌, true, false, Option, None, Some, ℕ, IfErr, IfOk, OnErr, OnOk};
 ghost use Rattle.cilk_machine_plan.specs.model.Hands.{IsWorker, hand_of};

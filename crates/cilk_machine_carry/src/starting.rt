@@ -1,4 +1,4 @@
-//! A child starts.
+//! Carries out the plan of a spawn: a child starts.
 
 ghost use Rattle.std.specs.Prelude.{◌≡◌, ◌+◌, ◌<◌, ◌^◌, ◌∷◌, [], ℕ, length, true, None, IfErr, IfOk, IfSome, OnErr, OnOk};
 ghost use Rattle.std.specs.Option.{option_copied};

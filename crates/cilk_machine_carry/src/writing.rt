@@ -1,4 +1,7 @@
-//! A cell is written.
+//! Carries out the plans that write a cell: `Take`, `Write` and `Answer`, where the frame was taken out of the hand.
+//!
+//! No machine comes here: it tries the light plan first, and each of these three has one, which is carried out with the frame in the hand
+//! (`carry_lightly`). No clause says so of `plan_lightly`, so `carry_out` carries out all plans.
 
 ghost use Rattle.std.specs.Prelude.{◌≡◌, ◌<◌, ℕ, true, Option, None};
 ghost use Rattle.cilk_machine_plan.specs.model.Hands.{IsWorker, hand_of};

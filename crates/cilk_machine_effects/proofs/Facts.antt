@@ -58,6 +58,12 @@ in_range n e = both (nat_le 1 n) (nat_le n 65536) refl refl e
     both true false low high e = cc
     both false y low high e = cc
 
+-- the rules and what is labelled have a word each for the bodies of procedures
+pub forms_same : (o : Owner) → forms.is_procedure o ≡ is_procedure o
+forms_same (owner.Function r) = refl
+forms_same (owner.Procedure r) = refl
+forms_same owner.Inlet = refl
+
 module _ (p : tree.Program) (well : WellFormed p) where
   use_of : (used : Use) (d : Declared) → Means p used d → Sound used
   use_of used d m = record {
@@ -100,18 +106,13 @@ module _ (p : tree.Program) (well : WellFormed p) where
       by_owner owner.Inlet e =
           absurd (well _ (inr (forms.in_inlet a part at (Contains-from_Has _ _ there) e (Contains-from_Has _ _ h))))
 
-  same_test : (o : Owner) → forms.is_procedure o ≡ is_procedure o
-  same_test (owner.Function r) = refl
-  same_test (owner.Procedure r) = refl
-  same_test owner.Inlet = refl
-
   -- where inlets stand
   pub inlet_in_procedure : (a : Around) (at : ℕ) (name : Word) (parameters : List Word) (body : tree.Block)
       → Has (parts_of p) (record { around = a; part = local (tree.inlet_at at name parameters body) })
       → IsTrue (is_procedure a.within.owner) × IsTrue a.within.outermost
   inlet_in_procedure a at name parameters body there =
       let stands = Contains-from_Has (parts_of p) _ there in (
-        sym (same_test a.within.owner) ∙ true_from_ne_false (forms.is_procedure a.within.owner)
+        sym (forms_same a.within.owner) ∙ true_from_ne_false (forms.is_procedure a.within.owner)
             (λ e. well _ (inr (forms.inlet_in_no_procedure a at name parameters body stands e))),
         true_from_ne_false a.within.outermost (λ e. well _ (inr (forms.inlet_in_inner_block a at name parameters body stands e))),
       )

@@ -6,18 +6,18 @@ use Rattle.std.proofs.lemmas.List.{length-map}
 use Rattle.cilk_check.specs.syntax.Tree.{Word}
 use Rattle.cilk_check.specs.syntax.Tree as tree
 use Rattle.cilk_check.specs.scopes.declared.owner.Owner.{Owner}
-use Rattle.cilk_check.specs.scopes.Scopes.{parameter, declare_all, enter, parameters_declare, parameter_count, file_scopes}
+use Rattle.cilk_check.specs.scopes.Scopes.{declare_all, enter, parameters_declare, parameter_count, file_scopes}
 use Rattle.cilk_check.specs.scopes.Parts.{Around, owner_of, block_parts, locals_parts, stmts_parts, after_locals, item_parts}
 use Rattle.cilk_check.proofs.scopes_laws.Elements.{Has, Has-flat_map}
 use Rattle.cilk_check.specs.scopes.WellFormed.{WellFormed}
-use Rattle.cilk_spawn.specs.labelled.Labelled as labelled
 use Rattle.cilk_spawn.specs.labelled.Labelled.{Labelled, Body, Variable}
-use Rattle.cilk_spawn.specs.labelled.Names.{Names, with_words, with_name, with_parameters, with_local, local_count, entered}
-use Rattle.cilk_spawn.specs.labelled.Count.{count_local, count_item}
+use Rattle.cilk_spawn.specs.labelled.Names.{Names, entered}
+use Rattle.cilk_spawn.specs.labelled.Count.{count_item}
 use Rattle.cilk_spawn.specs.labelled.Label.{locals_variables, stmts_variables, block_variables}
 use Rattle.cilk_spawn.specs.labelled.Bodies.{is_procedure, one_cell, parameter_variables, label_body, inlet_bodies, block_locals, procedure_names}
 use Rattle.cilk_spawn.specs.labelled.Bodies.{inlet_count, body_count, item_bodies, items_bodies, file_names, bodies_of}
 use Rattle.cilk_spawn.specs.model.Instance.{body_at, no_body}
+use Rattle.cilk_spawn.proofs.frame_laws.nodes_laws.BodyCounts.{length-item, parameters-bodies}
 use Rattle.cilk_machine_effects.specs.Heads.{in_nothing, EachOf}
 use Rattle.cilk_machine_effects.specs.Known as known
 use Rattle.cilk_machine_effects.proofs.Lists.{get_is, StandAt, stand_all, stand_left, stand_right, stand_behind, stand_first, stand_others}
@@ -26,29 +26,6 @@ use Rattle.cilk_machine_effects.proofs.Parts.{around}
 use Rattle.cilk_machine_effects.proofs.Locals.{May, AllIn, in_left, InletsStand, Heads}
 use Rattle.cilk_machine_effects.proofs.Walk.{block_known}
 use Rattle.cilk_machine_effects.proofs.Inlets.{KnownBody, parameters_scopes, around_body, body_stands, home, inlets_known}
-
-inlets_length : (names : Names) (at n : ℕ) (locals : tree.Locals) → length (inlet_bodies names at n locals) ≡ inlet_count locals
-inlets_length names at n tree.no_locals = refl
-inlets_length names at n (tree.and_local (tree.declared d) others) =
-    inlets_length (with_local names n (tree.declared d)) (at + count_local (tree.declared d)) (n + local_count (tree.declared d)) others
-inlets_length names at n (tree.and_local (tree.inlet_at place name parameters body) others) =
-    let definition : tree.Local = tree.inlet_at place name parameters body in
-    ap suc (inlets_length (with_local names n definition) (at + count_local definition) (n + local_count definition) others)
-
-pub bodies_length : (names : Names) (at : ℕ) (x : tree.Item) → length (item_bodies names at x) ≡ body_count x
-bodies_length names at (tree.global g) = refl
-bodies_length names at (tree.lock name) = refl
-bodies_length names at (tree.prototype q) = refl
-bodies_length names at (tree.procedure f) =
-    ap suc (inlets_length (procedure_names (record names { bodies = suc names.bodies }) f) at (length (parameter_variables f.parameters)) (block_locals f.body))
-
-words_bodies : (names : Names) (n : ℕ) (words : List Word) → (with_words names n words).bodies ≡ names.bodies
-words_bodies names n [] = refl
-words_bodies names n (word ∷ words) = words_bodies (with_name names (labelled.local n) (parameter word)) (suc n) words
-
-parameters_bodies : (names : Names) (ps : tree.Parameters) → (with_parameters names ps).bodies ≡ names.bodies
-parameters_bodies names (tree.ints words) = words_bodies names 0 words
-parameters_bodies names (tree.command_line count strings) = refl
 
 pub count_is : (ps : tree.Parameters) → length (parameter_variables ps) ≡ parameter_count ps
 count_is (tree.ints words) = length-map words (one_cell (pos 0))
@@ -119,7 +96,7 @@ module _ (p : tree.Program) (well : WellFormed p) (program : Labelled) where
         subst (λ a. AllIn p (block_parts a f.body))
         (around_body o names (declare_all (enter (file_scopes p.items)) (parameters_declare f.parameters)) scopes_are)
         (λ s h. Has-flat_map (item_parts (file_scopes p.items)) p.items (tree.procedure f) s there h) in
-        definition_known b names at o f.name (parameter_variables f.parameters) f.body stand (parameters_bodies (entered (file_at (suc b))) f.parameters)
+        definition_known b names at o f.name (parameter_variables f.parameters) f.body stand (parameters-bodies (entered (file_at (suc b))) f.parameters)
         (λ has. parameters_fit program b b (entered (file_at (suc b))) f.parameters (fits b b) has) parts c low (omega (arith, high))
 
     items_known : (b at : ℕ) (items : List tree.Item) → ((x : tree.Item) → Has items x → Has p.items x)
@@ -129,7 +106,7 @@ module _ (p : tree.Program) (well : WellFormed p) (program : Labelled) where
     items_known b at (x ∷ others) sub stand c low high =
         let own : List Body = item_bodies (file_at b) at x in
         let behind : List Body = items_bodies (file_at (b + body_count x)) (at + count_item x) others in
-        let count = bodies_length (file_at b) at x in
+        let count = length-item (file_at b) at x in
         elim (cases_lt c (b + body_count x)) [
           | inl less ↦
               item_known b at x (sub x (inl refl)) (stand_left program.bodies b own behind stand) c low less

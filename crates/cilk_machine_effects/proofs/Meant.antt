@@ -129,7 +129,7 @@ module _ (program : Labelled) (b h : ℕ) where
   parameters_fit names (tree.ints words) fit stand = words_fit names 0 words (pos 0) fit stand
   parameters_fit names (tree.command_line count strings) fit stand = (tt, words_fit names 0 (count ∷ []) (pos 1) fit stand)
 
-not_inlet : (o : Owner) → IsTrue (is_procedure o) → is_inlet o ≡ false
+pub not_inlet : (o : Owner) → IsTrue (is_procedure o) → is_inlet o ≡ false
 not_inlet (owner.Function r) h = refl
 not_inlet (owner.Procedure r) h = refl
 not_inlet owner.Inlet h = cc

@@ -12,10 +12,11 @@ use Rattle.cilk_spawn.specs.labelled.Count.{count_item}
 use Rattle.cilk_spawn.specs.labelled.Bodies.{body_count, item_bodies, items_bodies, file_means, shaped_variable, item_globals, item_locks}
 use Rattle.cilk_spawn.specs.model.Instance.{no_body}
 use Rattle.cilk_spawn.specs.frame.Cells.{no_variable}
+use Rattle.cilk_spawn.proofs.frame_laws.nodes_laws.BodyCounts.{length-item}
 use Rattle.cilk_check.proofs.scopes_laws.Elements.{Has}
 use Rattle.cilk_machine_effects.proofs.Lists.{get_within, get_is, StandAt, stand_behind, stand_first, stand_others, Fit}
 use Rattle.cilk_machine_effects.proofs.Meant.{Fits, MeansKind, IsBody}
-use Rattle.cilk_machine_effects.proofs.Files.{bodies_length, count_is}
+use Rattle.cilk_machine_effects.proofs.Files.{count_is}
 
 module _ (program : Labelled) (b h : ℕ)
     (main_is : (k : ℕ) (x : Body) → program.main ≡ Some k → slice_get program.bodies k ≡ Some x → x.name ≡ codes "main") where
@@ -67,6 +68,6 @@ module _ (program : Labelled) (b h : ℕ)
             (λ e. main_is k _ e there),
         file_fits others behind (at + count_item (tree.procedure f)) g l (k + body_count (tree.procedure f)) gs ls
             (stand_behind program.bodies k (k + body_count (tree.procedure f)) own (items_bodies behind (at + count_item (tree.procedure f)) others)
-            (ap (λ (n : ℕ). k + n) (bodies_length names at (tree.procedure f))) bs)
+            (ap (λ (n : ℕ). k + n) (length-item names at (tree.procedure f))) bs)
             (λ y n there e. lengths y n (inr there) e),
       )

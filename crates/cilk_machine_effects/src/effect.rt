@@ -10,9 +10,10 @@ use cilk_spawn::{Arguments, Receiver};
 pub enum Effect {
     /// A cell takes a value.
     Writes(Reached, i32),
-    /// What comes next is reached, with this value of a test.
+    /// What comes next is reached, with this value of a test. The plan of it is `Plan::Go`; `Plan::Answer` is of a C function that is left.
     Answers(i32),
-    /// A C function is to start: what awaits its value, the number of its body, and its arguments.
+    /// A C function is to start: what awaits its value, the number of its body, and its arguments. The plan of it is `Plan::Call`, where there is room;
+    /// `Plan::Enter` is of an inlet that starts.
     Enters(Option<Await>, u32, Arguments),
     /// The body is left with a value.
     Gives(i32),

@@ -5,8 +5,6 @@ use Rattle.std.specs.Prelude.{IsTrue}
 use borrow.Author.Tests.{ltb-true}
 use Rattle.std.proofs.lemmas.Bool.{ltb-false, and_parts}
 use Rattle.std.proofs.lemmas.List.{length-map}
-use Rattle.cilk_machine_agree.specs.scopes.declared.owner.Owner.{Owner}
-use Rattle.cilk_machine_agree.specs.scopes.declared.owner.Owner.TheVariants.{Function, Procedure, Inlet}
 use Rattle.cilk_machine_agree.specs.labelled.Term.{Term, rename}
 use Rattle.cilk_machine_agree.specs.labelled.Value.{Environment}
 use Rattle.cilk_machine_agree.specs.labelled.Labelled.{Declaration, Labelled, Taker, nothing, into, through, spawn}
@@ -26,6 +24,7 @@ use Rattle.cilk_machine_agree.specs.nodes.Slots.{slot_of, is_inlet, procedure_ar
 use Rattle.cilk_machine_agree.specs.frame.Stands.{AllInside, bodies_of}
 use Rattle.cilk_machine_effects.specs.Known.{StandsIn}
 use Rattle.cilk_machine_effects.specs.Slotted.{TakenCell, ReachesCells, slotted_receiver, slotted_effect}
+use Rattle.cilk_machine_effects.proofs.Meant.{not_inlet}
 use Rattle.cilk_machine_effects.proofs.Shapes as shapes
 use Rattle.cilk_machine_effects.proofs.Shapes.{values-count}
 use Rattle.cilk_machine_agree.specs.Alike.{Receives}
@@ -52,11 +51,6 @@ around-at : (program : Labelled) (b h : ℕ) → StandsIn program b h → proced
 around-at program zero h s = let low : h ≡ 0 = omega (arith, s.not_before) in sym low
 around-at program (suc b) h s = by_place (nat_lt h (suc b)) refl (around-at program b h)
   where
-    no_inlet : (o : Owner) → IsTrue (is_procedure o) → is_inlet o ≡ false
-    no_inlet (Function returns) h = refl
-    no_inlet (Procedure returns) h = refl
-    no_inlet Inlet h = cc
-
     by_place : (later : Bool) → nat_lt h (suc b) ≡ later → (StandsIn program b h → procedure_around program b ≡ h) → procedure_around program (suc b) ≡ h
     by_place true e before =
         let lower = ltb-true h (suc b) e in
@@ -66,7 +60,7 @@ around-at program (suc b) h s = by_place (nat_lt h (suc b)) refl (around-at prog
     by_place false e before =
         let same : h ≡ suc b = omega (arith, s.not_before, ltb-false h (suc b) e) in
         let procedure : IsTrue (is_procedure (body_at program (suc b)).owner) = subst (λ k. IsTrue (is_procedure (body_at program k).owner)) same s.owner in
-        ap (λ x. if x then procedure_around program b else suc b) (no_inlet (body_at program (suc b)).owner procedure) ∙ sym same
+        ap (λ x. if x then procedure_around program b else suc b) (not_inlet (body_at program (suc b)).owner procedure) ∙ sym same
 
 module _ (t : InHand) (asked : Asked t) (b m : ℕ) where
   abbrev program : Labelled

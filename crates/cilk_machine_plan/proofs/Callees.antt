@@ -27,6 +27,7 @@ use Rattle.cilk_machine_agree.specs.nodes.Slots.{slot_of}
 use Rattle.cilk_machine_agree.specs.nodes.Table.{number_else, cases_of, has_number, node_at, first_lists, advance_lists, round_of}
 use Rattle.cilk_machine_agree.specs.nodes.Table.{stmt_lists}
 use Rattle.cilk_machine_agree.specs.nodes.Table.{stmts_lists, closing_items, body_lists, Row, row, rows_from, node_among}
+use Rattle.cilk_machine_agree.proofs.Made.{option_or-none, option_or-assoc}
 
 -- what spawn n starts, if it stands in front
 abbrev head-callee : ℕ → Option Numbered → Option ℕ
@@ -37,17 +38,10 @@ abbrev found : ℕ → List Items → Option ℕ
 found n [] = None
 found n (items ∷ lists) = option_or (head-callee n (head_of items)) (found n lists)
 
-or-none : (o : Option ℕ) → option_or o None ≡ o
-or-none None = refl
-or-none (Some x) = refl
-
-or-assoc : (a b c : Option ℕ) → option_or a (option_or b c) ≡ option_or (option_or a b) c
-or-assoc None b c = refl
-or-assoc (Some x) b c = refl
-
 found-append : (n : ℕ) (xs ys : List Items) → found n (xs ++ ys) ≡ option_or (found n xs) (found n ys)
 found-append n [] ys = refl
-found-append n (x ∷ xs) ys = ap (option_or (head-callee n (head_of x))) (found-append n xs ys) ∙ or-assoc (head-callee n (head_of x)) (found n xs) (found n ys)
+found-append n (x ∷ xs) ys =
+    ap (option_or (head-callee n (head_of x))) (found-append n xs ys) ∙ option_or-assoc (head-callee n (head_of x)) (found n xs) (found n ys)
 
 abbrev Quiet : Numbered → Type 0
 Quiet h = callee_by h.act ≡ None
@@ -93,7 +87,7 @@ module _ (n : ℕ) where
 
   mutual
     stmt-found : (stmt : Stmt) (items : Items) → Plain stmt → found n (stmt_lists stmt items) ≡ callee_in n stmt
-    stmt-found (action what) items p = or-none (if what.number == n then callee_by what.act else None)
+    stmt-found (action what) items p = option_or-none (if what.number == n then callee_by what.act else None)
     stmt-found (choose test body other) items (q, b, o) =
         ap (λ x. option_or x (found n (stmts_lists body items ++ stmts_lists other items))) (head-quiet n test q)
         ∙ found-append n (stmts_lists body items) (stmts_lists other items)
@@ -105,7 +99,7 @@ module _ (n : ℕ) where
         let after : Items = plain_round test body ∷ items in
         found-append n (stmts_lists body after) (after ∷ [])
         ∙ (λ j. option_or (stmts-found body after b j) (option_or (head-quiet n test q j) None))
-        ∙ or-none (callee_among n body)
+        ∙ option_or-none (callee_among n body)
     stmt-found (loop first test advance body) items (f, q, a, b) =
         first-found first test advance body items _ f
         ∙ ap
@@ -132,7 +126,7 @@ module _ (n : ℕ) where
       ∙
       (λ j. option_or (stmts-found body.stmts (closing_items body.closing) p j)
       (option_or (head-quiet n (record { number = body.closing; act = close }) refl j) None))
-      ∙ or-none (callee_among n body.stmts)
+      ∙ option_or-none (callee_among n body.stmts)
 
   abbrev in-rows : List Row → Option ℕ
   in-rows [] = None
@@ -141,7 +135,7 @@ module _ (n : ℕ) where
   rows-found : (b : ℕ) (lists : List Items) (rest : List Row) → in-rows (map (row b) lists ++ rest) ≡ option_or (found n lists) (in-rows rest)
   rows-found b [] rest = refl
   rows-found b (x ∷ lists) rest =
-      ap (option_or (head-callee n (head_of x))) (rows-found b lists rest) ∙ or-assoc (head-callee n (head_of x)) (found n lists) (in-rows rest)
+      ap (option_or (head-callee n (head_of x))) (rows-found b lists rest) ∙ option_or-assoc (head-callee n (head_of x)) (found n lists) (in-rows rest)
 
   abbrev AllPlain : List Body → Type 0
   AllPlain [] = ⊤

@@ -25,7 +25,8 @@ pub enum Plan {
         reached: Reached,
         value: i32,
     },
-    /// The delivery that waits longest is taken: this inlet starts. The number is that of the child's spawn.
+    /// The delivery that waits longest is taken: this inlet starts. The number is that of the child's spawn. It comes of a
+    /// delivery, and of no effect: `Effect::Enters` leads to `Call`.
     Enter {
         child: Id,
         n: u32,
@@ -56,7 +57,7 @@ pub enum Plan {
     Leave {
         n: u32,
     },
-    /// A C function is left, and the cell that its caller reached takes this.
+    /// A C function is left, and the cell that its caller reached takes this. It comes of `Effect::Gives`; `Effect::Answers` leads to `Go`.
     Answer {
         n: u32,
         reached: Reached,

@@ -12,7 +12,7 @@ use Rattle.cilk_machine_plan.specs.nodes.Slots.{size_of, slot_from}
 use Rattle.cilk_machine_plan.proofs.frame_laws.SlotLaws.{slot-offset}
 use Rattle.cilk_machine_step.specs.Shown.{begins_at, number_at, vars_of}
 
-vars-length : (area : Area) (at : ℕ) (variables : List Variable) → length (vars_from area at variables) ≡ length variables
+pub vars-length : (area : Area) (at : ℕ) (variables : List Variable) → length (vars_from area at variables) ≡ length variables
 vars-length area at [] = refl
 vars-length area at (v ∷ variables) = ap suc (vars-length area (at + size_of v) variables)
 

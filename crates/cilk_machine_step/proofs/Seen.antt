@@ -5,7 +5,6 @@ use Rattle.cilk_machine_plan.specs.syntax.declared.operator.BinOp.{BinOp}
 use Rattle.cilk_machine_plan.specs.labelled.declared.trap.Trap.{Trap}
 use Rattle.cilk_machine_plan.specs.labelled.declared.trap.Trap.TheVariants.{Index}
 use Rattle.cilk_machine_plan.specs.labelled.Value.{value_of, ◌>>=◌}
-use Rattle.cilk_machine_plan.specs.labelled.Labelled as labelled
 use Rattle.cilk_machine_plan.specs.labelled.Labelled.{Labelled, Declaration, local, outer, global, of_lock, of_body, unknown, Target, variable, element}
 use Rattle.cilk_machine_plan.specs.labelled.Labelled.{Variable}
 use Rattle.cilk_machine_plan.specs.labelled.Bodies.{label}

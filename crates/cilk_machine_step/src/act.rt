@@ -1,4 +1,4 @@
-//! The head of an instance is acted.
+//! The plan of a step that acts the head of its instance.
 
 ghost use Rattle.std.specs.Prelude.{◌≡◌, ◌<◌, ◌+◌, ◌&&◌, not, nat_lt, nat_le, length, slice_index_or, Ok, IfOk};
 ghost use Rattle.cilk_machine_plan.specs.nodes.Areas.{sizes_of};
@@ -23,7 +23,7 @@ const MOST_INSTANCES: usize = 65_536;
 /// The most bytes that may be printed.
 const MOST_BYTES: usize = 1_048_576;
 
-/// The instance acts the node of its top activation, whose number is n.
+/// The plan by which the instance acts the node of its top activation, whose number is n.
 #[tactic(auto, using(crate::proofs::Ways::acts_by))]
 pub(crate) fn act(alloc: Global, scene: &Scene, n: u32, node: &Node) -> Result<Plan, Memory>
     requires there { id_of (input_of scene.now) < length (input_of scene.now).nodes }
@@ -254,7 +254,7 @@ pub(crate) fn leaves(action: &Action) -> bool
     )
 }
 
-// Whether the procedure waits for its children there (Cilk 5.4 manual, `sync`, `return`).
+// Whether the procedure may park there: it waits for its children, if there is something to wait for (Cilk 5.4 manual, `sync`, `return`).
 fn waits_here(scene: &Scene, node: &Node) -> bool
     ensures { result ≡ waits_here (input_of scene.now) node.now }
 {

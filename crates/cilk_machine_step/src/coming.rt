@@ -38,6 +38,7 @@ pub(crate) fn comes_next<'a>(scene: &Scene<'a>) -> Coming<'a>
     if scene.tree.is_aborted(id) {
         return Coming::End;
     }
+    // `Frame::node` tells the number of an action, and `Loaded::statement` its node.
     let n = scene.frame.node(scene.frame.depth() - 1);
     match scene.loaded.statement(n) {
         None => Coming::Nothing,

@@ -1,4 +1,4 @@
-//! A delivery that is taken.
+//! The plan of a step that takes a delivery.
 
 ghost use Rattle.std.specs.Prelude.{◌≡◌, ◌<◌, ◌∷◌, length, IfOk};
 ghost use Rattle.cilk_machine_plan.specs.nodes.Table.{node_of};

@@ -1,4 +1,4 @@
-//! A body that is left.
+//! The plan of a step that leaves a body.
 
 ghost use Rattle.std.specs.Prelude.{◌≡◌, ◌<◌, length};
 ghost use Rattle.cilk_machine_plan.specs.nodes.Areas.{cells_of};

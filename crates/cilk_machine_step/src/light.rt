@@ -1,4 +1,4 @@
-//! A step that takes no memory, and after which the instance goes on in the same hand.
+//! `plan_lightly`: the plan of a step that takes no memory, and after which the instance goes on in the same hand.
 
 ghost use Rattle.std.specs.Prelude.{◌≡◌, ◌<◌, ℕ, true, length, Ok, IfOk, IfSome};
 ghost use Rattle.cilk_machine_plan.specs.nodes.Areas.{sizes_of, cells_of};

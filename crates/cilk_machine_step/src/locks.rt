@@ -1,11 +1,10 @@
 //! Which locks an instance holds.
 
 ghost use Rattle.std.specs.Prelude.{◌≡◌, IfOk};
-ghost use Rattle.cilk_machine_plan.specs.agree.Locks.{is_held_by};
 ghost use Rattle.cilk_machine_step.specs.Scenes.{input_of};
 ghost use Rattle.cilk_machine_step.specs.Shown.{held, held_from};
 
-use crate::scene::Scene;
+use crate::scene::{Scene, is_held_by};
 use cilk_load::Memory;
 use cilk_machine_plan::{Id, Lock};
 use std::alloc::Global;
@@ -27,13 +26,4 @@ fn held_by(alloc: Global, id: Id, locks: &[Lock]) -> Result<Vec<usize>, Memory>
         }
     }
     Ok(held)
-}
-
-fn is_held_by(id: Id, lock: Lock) -> bool
-    ensures { result ≡ is_held_by id lock }
-{
-    match lock {
-        Lock::Unset | Lock::Free => false,
-        Lock::Held(by) => by == id,
-    }
 }

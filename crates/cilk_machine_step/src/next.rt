@@ -1,16 +1,16 @@
 //! Which cells the next step of an instance reads and writes.
 
 ghost use Rattle.std.specs.Prelude.{◌≡◌, ◌<◌, ◌++◌, length, IfOk, OnOk};
-ghost use Rattle.cilk_machine_plan.specs.Made.{at_boundary};
 ghost use Rattle.cilk_machine_plan.specs.StepInput.{id_of};
 ghost use Rattle.cilk_machine_step.specs.Scenes.{HeadFits, input_of};
 ghost use Rattle.cilk_machine_step.specs.Shown.{touched};
 ghost use Rattle.cilk_machine_step.specs.CellWords.{told};
 
 use crate::access::Access;
+use crate::act::at_boundary;
 use crate::scene::Scene;
-use crate::touching::{leaves, push_acted, push_taken};
-use cilk_load::{Action, Memory, Node};
+use crate::touching::{push_acted, push_taken};
+use cilk_load::{Memory, Node};
 use cilk_machine_plan::Receiver;
 use std::alloc::Global;
 
@@ -30,6 +30,8 @@ pub fn accesses_in(alloc: Global, scene: &Scene) -> Result<Vec<Access>, Memory>
     }
 }
 
+// This and `number_in` go the way of `comes_next` again: no clause of that says which cells are touched, and where it finds a delivery, or nothing, it does
+// not tell at which number the instance stands. It is a part of each light step, and tells no more than that needs.
 fn push_next(alloc: Global, accesses: &mut Vec<Access>, scene: &Scene) -> Result<(), Memory>
     requires there { id_of (input_of scene.now) < length (input_of scene.now).nodes }
     requires fits { HeadFits (input_of scene.now) }
@@ -54,16 +56,6 @@ fn push_next(alloc: Global, accesses: &mut Vec<Access>, scene: &Scene) -> Result
             }
         }
     }
-}
-
-// Whether the procedure is between two of its threads, where an inlet may run (Cilk 5.4 manual, `inlet`).
-fn at_boundary(scene: &Scene, node: &Node) -> bool
-    ensures { result ≡ at_boundary (input_of scene.now) node.now }
-{
-    scene.is_outer()
-        && (scene.frame.at_boundary()
-            || matches!(node.action, Action::Sync)
-            || leaves(&node.action))
 }
 
 /// The number of the action that the instance acts next, or of the spawn whose value it takes. 0 where it ends.

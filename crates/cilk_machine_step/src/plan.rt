@@ -1,4 +1,4 @@
-//! The step that an instance takes.
+//! `plan_step`: the plan of the step that an instance takes.
 
 ghost use Rattle.std.specs.Prelude.{◌≡◌, ◌<◌, length, IfOk};
 ghost use Rattle.cilk_machine_plan.specs.StepInput.{id_of};
@@ -13,7 +13,7 @@ use cilk_load::Memory;
 use cilk_machine_plan::Plan;
 use std::alloc::Global;
 
-/// The step of the instance of a frame.
+/// The plan of the step of the instance of a frame.
 pub fn plan_step(alloc: Global, scene: &Scene) -> Result<Plan, Memory>
     requires there { id_of (input_of scene.now) < length (input_of scene.now).nodes }
     requires fits { HeadFits (input_of scene.now) }

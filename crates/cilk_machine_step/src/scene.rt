@@ -55,7 +55,8 @@ impl<'a> Scene<'a> {
     }
 }
 
-fn is_held_by(id: Id, lock: Lock) -> bool
+// Whether a lock is held by the instance of this id.
+pub(crate) fn is_held_by(id: Id, lock: Lock) -> bool
     ensures { result ≡ is_held_by id lock }
 {
     match lock {

@@ -1,24 +1,25 @@
 //! Which cells an action reads and writes, and the value that is taken or given back.
 
 ghost use Rattle.std.specs.Prelude.{◌≡◌, ◌<◌, ◌++◌, ◌&&◌, length, OnOk};
-ghost use Rattle.cilk_machine_plan.specs.nodes.Bodies.{body_of};
 ghost use Rattle.cilk_machine_plan.specs.nodes.Table.{node_of};
 ghost use Rattle.cilk_machine_plan.specs.nodes.Areas.{cells_of, sizes_of};
 ghost use Rattle.cilk_machine_plan.specs.effects.Effects.{index_of};
 ghost use Rattle.cilk_machine_plan.specs.effects.Fits.{FitsAct, FitsPlace};
 ghost use Rattle.cilk_machine_plan.specs.frame.Frames.{top_of};
-ghost use Rattle.cilk_machine_plan.specs.Made.{is_function_body, leaves, target_of_node};
+ghost use Rattle.cilk_machine_plan.specs.Made.{target_of_node};
 ghost use Rattle.cilk_machine_plan.specs.StepInput.{cells_in, id_of};
 ghost use Rattle.cilk_machine_step.specs.Scenes.{input_of};
 ghost use Rattle.cilk_machine_step.specs.Shown.{act_reads, act_updates, acted, awaited_at, by_leaving, env_in, reads_of, taken, update_at};
 ghost use Rattle.cilk_machine_step.specs.CellWords.{told};
 
 use crate::access::{Access, Spot};
+use crate::act::leaves;
+use crate::leaving::is_function_body;
 use crate::reading::push_action;
 use crate::scene::Scene;
 use crate::spotting::{push_read_cells, push_update};
 use cilk_eval::eval;
-use cilk_load::{Action, Loaded, Memory, Node, Owner, SlotPlace, Slots, Target, Trap};
+use cilk_load::{Action, Memory, Node, SlotPlace, Slots, Target, Trap};
 use cilk_machine_plan::{Await, Reached, Receiver};
 use std::alloc::Global;
 
@@ -153,26 +154,6 @@ fn push_awaited(accesses: &mut Vec<Access>, scene: &Scene, awaits: Await) -> Res
             ),
             _ => Ok(()),
         },
-    }
-}
-
-/// Whether an action leaves its body.
-pub(crate) fn leaves(action: &Action) -> bool
-    ensures { result ≡ leaves action.now }
-{
-    matches!(
-        action,
-        Action::Return(_) | Action::ReturnNothing | Action::Close
-    )
-}
-
-// Whether a body is that of a C function.
-fn is_function_body(loaded: &Loaded, body: u32) -> bool
-    ensures { result ≡ is_function_body (body_of loaded.now body) }
-{
-    match loaded.body(body) {
-        None => false,
-        Some(body) => matches!(body.owner, Owner::Function(_)),
     }
 }
 

@@ -17,7 +17,8 @@ use Rattle.cilk_machine_undo.specs.Writes.{all_set}
 use Rattle.cilk_machine_undo.specs.Frames.{held_at}
 use Rattle.cilk_machine_undo.specs.Undo.{outside_before, held_again}
 use Rattle.cilk_machine_undo.specs.Undo as undo
-use Rattle.cilk_machine_undo.specs.Records.{is_held_by, locks_of}
+use Rattle.cilk_machine_plan.specs.agree.Locks.{is_held_by}
+use Rattle.cilk_machine_undo.specs.Records.{locks_of}
 use Rattle.cilk_machine_undo.proofs.Back.{came_back, IsIn, Comes, all_set-is, all_back, is_in, passes}
 use Rattle.cilk_machine_undo.proofs.Frames.{globals-back}
 

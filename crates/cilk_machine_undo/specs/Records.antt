@@ -1,13 +1,14 @@
 -- The record of a step, read off the machine before it.
-use Rattle.std.specs.Prelude.{ℕ, ℤ, Bool, false, nat_eq, ◌&&◌, not, List, [], length, Option, None, Some, slice_get, slice_index_or}
+use Rattle.std.specs.Prelude.{ℕ, ℤ, Bool, false, ◌&&◌, not, List, [], length, Option, None, Some, slice_get, slice_index_or}
 use Rattle.std.specs.List.{filter, range_with_len}
 use Rattle.cilk_machine_plan.specs.frame.Frames.{Frame, top_of, left}
 use Rattle.cilk_machine_plan.specs.spawn.declared.delivery.Delivery.{Delivery}
 use Rattle.cilk_machine_plan.specs.spawn.Nodes.{Node, node_at, takes_value, is_live_below}
 use Rattle.cilk_machine_plan.specs.Spends.{remains_in}
 use Rattle.cilk_machine_plan.specs.agree.declared.lock.Lock.{Lock}
-use Rattle.cilk_machine_plan.specs.agree.declared.lock.Lock.TheVariants.{Unset, Free, Held}
+use Rattle.cilk_machine_plan.specs.agree.declared.lock.Lock.TheVariants.{Unset}
 use Rattle.cilk_machine_plan.specs.agree.Laws.{sent}
+use Rattle.cilk_machine_plan.specs.agree.Locks.{is_held_by}
 use Rattle.cilk_machine_plan.specs.agree.Agrees.{MachineParts}
 use Rattle.cilk_machine_plan.specs.declared.plan.Plan.{Plan}
 use Rattle.cilk_machine_plan.specs.declared.plan.Plan.TheVariants as plan
@@ -33,11 +34,6 @@ is_new ns k i = is_live_below ns k i && not (node_at ns i).aborted
 
 abbrev pub marked_by : ℕ → List Node → List ℕ
 marked_by k ns = filter (is_new ns k) (range_with_len 0 (length ns))
-
-abbrev pub is_held_by : ℕ → Lock → Bool
-is_held_by k Unset = false
-is_held_by k Free = false
-is_held_by k (Held i) = nat_eq i k
 
 abbrev pub locks_of : ℕ → List Lock → List ℕ
 locks_of k locks = filter (λ i. is_held_by k (slice_index_or locks i Unset)) (range_with_len 0 (length locks))

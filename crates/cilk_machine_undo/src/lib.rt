@@ -1,4 +1,5 @@
-//! What the last choice changed is put back.
+//! The record of a choice: made before its step (`note`), filled behind it (`fill`), and used to take the last choice back (`take_back`); and what parts were
+//! at one moment, whole (`PartsImage`) or without what later parts tell as well (`Moment`).
 #![tactic(auto)]
 
 mod acting;

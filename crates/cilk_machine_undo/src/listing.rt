@@ -2,7 +2,8 @@
 
 ghost use Rattle.std.specs.Prelude.{◌≡◌, ◌<◌, ◌++◌, ◌∷◌, [], cond, length, IfOk, OnOk};
 ghost use Rattle.cilk_machine_plan.specs.spawn.Nodes.{descends};
-ghost use Rattle.cilk_machine_undo.specs.Records.{is_held_by, is_new, locks_of, marked_by};
+ghost use Rattle.cilk_machine_plan.specs.agree.Locks.{is_held_by};
+ghost use Rattle.cilk_machine_undo.specs.Records.{is_new, locks_of, marked_by};
 
 use cilk_machine_plan::{Fate, Id, Lock, NoMemory, Tree};
 use std::alloc::Global;

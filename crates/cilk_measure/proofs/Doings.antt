@@ -1,7 +1,8 @@
 -- What a choice did, by places and by paths.
-use Rattle.std.proofs.Common.{◌≡◌, ◌<◌, ◌+◌, ◌-◌, ◌^◌, ℕ, zero, suc, Bool, true, false, if◌then◌else◌, List, [], ◌∷◌, ◌++◌, length, Option}
+use Rattle.std.proofs.Common.{◌≡◌, ◌<◌, ◌+◌, ◌-◌, ◌^◌, ℕ, zero, suc, Bool, true, false, List, [], ◌∷◌, ◌++◌, length, Option}
 use Rattle.std.proofs.Common.{Some, None}
 use Rattle.std.proofs.Common.{option_map, unwrap_or, refl, sym, ap, ◌∙◌, subst, arith}
+use Rattle.std.proofs.lemmas.Bool.{cond-true, cond-false}
 use Rattle.cilk_log_replay.specs.machine.labelled.Labelled.{Labelled, Action}
 use Rattle.cilk_log_replay.specs.machine.model.Path.{Path, same_path}
 use Rattle.cilk_log_replay.specs.machine.model.State.{TrapKind}
@@ -43,14 +44,6 @@ pub record Means (program : Labelled) (events : List Event) (e : Event) (up : �
 -- what is put together from parts
 abbrev within : ℕ → Option Path → Inside
 within above taking = record { above = above; taking = taking }
-
-pub if-no : {A : Type 0} (b : Bool) (x y : A) → b ≡ false → (if b then x else y) ≡ y
-if-no true x y e = cc
-if-no false x y e = refl
-
-pub if-yes : {A : Type 0} (b : Bool) (x y : A) → b ≡ true → (if b then x else y) ≡ x
-if-yes true x y e = refl
-if-yes false x y e = cc
 
 module _ (program : Labelled) (events : List Event) (up : ℕ → Path) (count : ℕ) (cells : List Cell)
     (short : length events < 2 ^ 60) (named : Named up count) (keeps : Keeps program up count events cells) where
@@ -128,7 +121,7 @@ module _ (program : Labelled) (events : List Event) (up : ℕ → Path) (count :
       let m : Motion = acted_by a b w (cell_at cells p) p in
       let is = acts a b w p h in
       let own : inside_by program (up p) (acted q n) (inside_of program events (up p)) ≡ within m.above (option_map up m.inlet) =
-      if-yes (same_path q (up p)) (by_act act (inside_of program events (up p))) (inside_of program events (up p)) (same_self q (up p) same)
+      cond-true (same_path q (up p)) (by_act act (inside_of program events (up p))) (inside_of program events (up p)) (same_self q (up p) same)
       ∙ ap (by_kind a b) (bodies p h) ∙ kind-is a b w p h
       in
       let there : up p ≡ up m.place = ap up (sym is.place) in
@@ -143,7 +136,7 @@ module _ (program : Labelled) (events : List Event) (up : ℕ → Path) (count :
         above = above-is (acted q n) q p m.above (option_map up m.inlet) same own;
         own = subst (λ k. inside_by program (up k) (acted q n) (inside_of program events (up k)) ≡ within m.above (option_map up m.inlet)) (sym is.place) own;
         inlet_there = is.inlet;
-        others = λ x i e. if-no (same_path q x) (by_act act i) i (ap (λ (y : Path). same_path y x) (same ∙ there) ∙ e);
+        others = λ x i e. cond-false (same_path q x) (by_act act i) i (ap (λ (y : Path). same_path y x) (same ∙ there) ∙ e);
         births = subst (λ k. Births k (acted q n) (step_within program events (acted q n) q w)) (sym is.bears) (refl, refl);
       }
 
@@ -244,7 +237,7 @@ module _ (program : Labelled) (events : List Event) (up : ℕ → Path) (count :
       ap parent_path same ∙ ap (λ (o : Option Path). unwrap_or o []) (keeps.each c g).parent ∙ root-up (cell_at cells c).parent
       in
       let own : inside_by program (up p) (delivered q n) (inside_of program events (up p)) ≡ within m.above (option_map up m.inlet) =
-      if-yes (same_path (parent_path q) (up p)) (by_value act q (inside_of program events (up p))) (inside_of program events (up p))
+      cond-true (same_path (parent_path q) (up p)) (by_value act q (inside_of program events (up p))) (inside_of program events (up p))
       (same_self (parent_path q) (up p) path)
       ∙ ap (by_entry t q) (bodies p h) ∙ is.is
       in
@@ -261,6 +254,6 @@ module _ (program : Labelled) (events : List Event) (up : ℕ → Path) (count :
             subst (λ k. inside_by program (up k) (delivered q n) (inside_of program events (up k)) ≡ within m.above (option_map up m.inlet))
             (sym is.place) own;
         inlet_there = is.inlet;
-        others = λ x i e. if-no (same_path (parent_path q) x) (by_value act q i) i (ap (λ (y : Path). same_path y x) (path ∙ there) ∙ e);
+        others = λ x i e. cond-false (same_path (parent_path q) x) (by_value act q i) i (ap (λ (y : Path). same_path y x) (path ∙ there) ∙ e);
         births = subst (λ k. Births k (delivered q n) (step_at program events (delivered q n) (parent_path q) (Some q) None false)) (sym is.bears) (refl, refl);
       }

@@ -1,8 +1,9 @@
 -- One step more is kept.
 use Rattle.std.proofs.Common.{◌⊎◌, ◌≡◌, ◌<◌, ◌≤◌, ◌+◌, ◌-◌, ◌^◌, ℕ, suc, max, Bool, true, false, ◌&&◌, ◌||◌, nat_eq, if◌then◌else◌, List, [], ◌∷◌, ◌++◌}
 use Rattle.std.proofs.Common.{length, Option, Some, None, is_some, is_none, option_map, refl, sym, ap, ◌∙◌, subst, arith, inl, inr}
-use Rattle.std.proofs.lemmas.Bool.{cases_lt, eqb-true, or_right}
+use Rattle.std.proofs.lemmas.Bool.{cases_lt, cond-true, cond-false, eqb-true, or_right}
 use Rattle.std.proofs.lemmas.List.{get_or_append_left, get_or_push, length_push}
+use Rattle.std.proofs.Math.Bool.{or-false}
 use Rattle.cilk_log_replay.specs.machine.labelled.Labelled.{Labelled}
 use Rattle.cilk_log_replay.specs.machine.model.Path.{Path, same_path, parent_of, is_that, is_child}
 use Rattle.cilk_log_replay.specs.machine.model.Event.{Event}
@@ -19,14 +20,10 @@ use Rattle.cilk_measure.specs.Cells.{cell_at, no_cell, next}
 use Rattle.cilk_measure.specs.Tallies.{highest_by, highest, settled, child_cell}
 use Rattle.cilk_measure.specs.Kept.{Named, IsThere, Kept, Keeps, Known, IsUnmade, Each, rank_of}
 use Rattle.cilk_measure.proofs.Bounds.{next-is, by-less, ranks-fit, steps-fit}
-use Rattle.cilk_measure.proofs.Doings.{Means, if-no, if-yes}
+use Rattle.cilk_measure.proofs.Doings.{Means}
 use Rattle.cilk_measure.proofs.Fields.{Changed, changed, settled-at, settled-length, settled_cell, parent_at}
 use Rattle.cilk_measure.proofs.Known.{map-same, there-more, known-same, each-push, each-more, unseen}
 use Rattle.cilk_measure.proofs.Ids.{hits, other-place, that-place}
-
-or-false : (b : Bool) → (b || false) ≡ b
-or-false true = refl
-or-false false = refl
 
 none-map : (up : ℕ → Path) (o : Option ℕ) → is_none (option_map up o) ≡ is_none o
 none-map up None = refl
@@ -130,15 +127,15 @@ module _ (program : Labelled) (events : List Event) (e : Event) (up now : ℕ �
         let at : i ≡ m.place = eqb-true i m.place is in
         ap (λ k. inside_by program (up k) e (inside_of program events (up k))) at ∙ means.own
         ∙ (λ j. record {
-          above = sym (if-yes (nat_eq i m.place) m.above (cell_at cells i).above is) j;
-          taking = option_map up (sym (if-yes (nat_eq i m.place) m.inlet (cell_at cells i).taking is) j);
+          above = sym (cond-true (nat_eq i m.place) m.above (cell_at cells i).above is) j;
+          taking = option_map up (sym (cond-true (nat_eq i m.place) m.inlet (cell_at cells i).taking is) j);
         })
     inside-by false is =
         let different : same_path (up m.place) (up i) ≡ false = other-place up count named i m.place h means.place ∙ is in
         means.others (up i) (inside_of program events (up i)) different ∙ (keeps.each i h).inside
         ∙ (λ j. record {
-          above = sym (if-no (nat_eq i m.place) m.above (cell_at cells i).above is) j;
-          taking = option_map up (sym (if-no (nat_eq i m.place) m.inlet (cell_at cells i).taking is) j);
+          above = sym (cond-false (nat_eq i m.place) m.above (cell_at cells i).above is) j;
+          taking = option_map up (sym (cond-false (nat_eq i m.place) m.inlet (cell_at cells i).taking is) j);
         })
 
     if-there : (b : Bool) (o u : Option ℕ) → IsThere count o → IsThere count u → IsThere count (if b then o else u)

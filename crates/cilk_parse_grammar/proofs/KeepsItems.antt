@@ -1,6 +1,6 @@
 -- What the rules of items make of parts that are the same but for places is the same but for places.
 use Rattle.std.proofs.Common.{◌≡◌, ℕ, suc, List, [], ◌∷◌, map, length, Bool, false, Option, Some, None, refl, sym, ap, ◌∙◌}
-use Rattle.std.proofs.lemmas.List.{length-map}
+use Rattle.std.proofs.lemmas.List.{length-map, map-id}
 use Rattle.cilk_tree_syntax.specs.lexeme.declared.header.Header.{Header}
 use Rattle.cilk_tree_syntax.specs.declared.return_type.ReturnType.{ReturnType}
 use Rattle.cilk_tree_syntax.specs.declared.return_type.ReturnType.TheVariants as returns
@@ -174,10 +174,6 @@ item_kept = k_either cilk_item_kept (k_either int_item_kept (k_either void_item_
 abbrev header_itself : Header → Header
 header_itself h = h
 
-same_headers : (hs : List Header) → map header_itself hs ≡ hs
-same_headers [] = refl
-same_headers (h ∷ hs) = ap (λ l. h ∷ l) (same_headers hs)
-
 -- the same headers, and the same items but for places
 abbrev pub SameParts : List Header × List tree.Item → List Header × List tree.Item → Type 0
 SameParts p q = (p.0 ≡ q.0) × (map bare_item p.1 ≡ map bare_item q.1)
@@ -186,4 +182,4 @@ pub program_kept : Kept grammar.program SameParts
 program_kept =
     k_then (k_many {f = header_itself} k_header)
     (λ hs gs h. k_then (k_many {f = map bare_item} item_kept)
-    (λ is js g. k_done (sym (same_headers hs) ∙ h ∙ same_headers gs, same_joined bare_item is js g)))
+    (λ is js g. k_done (sym (map-id hs) ∙ h ∙ map-id gs, same_joined bare_item is js g)))

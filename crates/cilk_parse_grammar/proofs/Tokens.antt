@@ -1,14 +1,14 @@
 -- Tokens, and lists of their classes.
 use Rattle.std.proofs.Common.{◌≡◌, ℕ, ◌==◌, ◌||◌, not, Bool, true, false, List, [], ◌∷◌, ◌++◌, Option, Some, None, Result, Ok, refl, sym, ap, ◌∙◌, eq-eqb}
 use Rattle.std.proofs.lemmas.Bool.{eqb-true, and_parts, or_right, or_left, not-true}
+use Rattle.std.proofs.Math.Bool.{or-false, or_assoc}
 use Rattle.cilk_parse_grammar.specs.declared.fault.Fault.{Fault}
 use Rattle.cilk_parse_grammar.specs.Rule.{is, has, among, apart, behind, wanted, class_at, next, token_at}
-use Rattle.cilk_parse_grammar.proofs.RulesTools.{or_nothing, or_assoc}
 
 -- ---- lists of classes
 
 has_one : (c : ℕ) (cs : List ℕ) (k : Option ℕ) → has (c ∷ cs) k ≡ (is c k || has cs k)
-has_one c [] k = sym (or_nothing (is c k))
+has_one c [] k = sym (or-false (is c k))
 has_one c (d ∷ cs) k = refl
 
 pub has_append : (cs ds : List ℕ) (k : Option ℕ) → has (cs ++ ds) k ≡ (has cs k || has ds k)

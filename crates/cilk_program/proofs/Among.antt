@@ -10,7 +10,7 @@ use Rattle.cilk_explore.specs.declared.told.Told as code
 use Rattle.cilk_explore.specs.explore.Search.{Told}
 use Rattle.cilk_run.specs.model.Choice.{Choice}
 use Rattle.cilk_program.specs.Exploring.{outcome_text, outcomes_text}
-use Rattle.cilk_program.specs.Outcomes.{Outcome, with_end, without_end, is_found_before, with_endless, outcomes_of, outcomes_by, before_endless}
+use Rattle.cilk_program.specs.Outcomes.{Outcome, with_end, without_end, stands_before, with_endless, outcomes_of, outcomes_by, before_endless}
 use Rattle.cilk_program.specs.Outcomes.{ended_before, before_by}
 
 module _ (log : List Choice) where
@@ -26,7 +26,7 @@ module _ (log : List Choice) where
 
   first : (told : List Told) → First told
   first [] k x h lt = cc
-  first (t ∷ told) k x h lt = first-by (is_found_before t.log log) t told (first told) k x h lt
+  first (t ∷ told) k x h lt = first-by (stands_before t.log log) t told (first told) k x h lt
 
   here-by : (b : Bool) (t : Told) (told : List Told) → slice_get (with_endless log told) (before_endless log told) ≡ Some (without_end log)
       → slice_get (if b then with_end t ∷ with_endless log told else without_end log ∷ map with_end (t ∷ told))
@@ -37,7 +37,7 @@ module _ (log : List Choice) where
   -- the log without an end
   here : (told : List Told) → slice_get (with_endless log told) (before_endless log told) ≡ Some (without_end log)
   here [] = refl
-  here (t ∷ told) = here-by (is_found_before t.log log) t told (here told)
+  here (t ∷ told) = here-by (stands_before t.log log) t told (here told)
 
   abbrev Behind : List Told → Type 0
   Behind told =
@@ -53,7 +53,7 @@ module _ (log : List Choice) where
   -- an ending behind it
   behind : (told : List Told) → Behind told
   behind [] k x h le = cc
-  behind (t ∷ told) k x h le = behind-by (is_found_before t.log log) t told (behind told) k x h le
+  behind (t ∷ told) k x h le = behind-by (stands_before t.log log) t told (behind told) k x h le
 
   size-by : (b : Bool) (t : Told) (told : List Told) → length (with_endless log told) ≡ length told + 1
       → length (if b then with_end t ∷ with_endless log told else without_end log ∷ map with_end (t ∷ told)) ≡ length (t ∷ told) + 1
@@ -63,7 +63,7 @@ module _ (log : List Choice) where
   -- it is one more than the endings
   one-more : (told : List Told) → length (with_endless log told) ≡ length told + 1
   one-more [] = refl
-  one-more (t ∷ told) = size-by (is_found_before t.log log) t told (one-more told)
+  one-more (t ∷ told) = size-by (stands_before t.log log) t told (one-more told)
 
   within-by : (b : Bool) (t : Told) (told : List Told) → before_endless log told ≤ length told
       → (if b then suc (before_endless log told) else 0) ≤ length (t ∷ told)
@@ -72,7 +72,7 @@ module _ (log : List Choice) where
 
   within : (told : List Told) → before_endless log told ≤ length told
   within [] = omega arith
-  within (t ∷ told) = within-by (is_found_before t.log log) t told (within told)
+  within (t ∷ told) = within-by (stands_before t.log log) t told (within told)
 
 -- ---- of an exploration
 

@@ -1,11 +1,10 @@
 -- How the program ends where there is no answer.
 use Rattle.std.proofs.Common.{◌≡◌, ◌⊎◌, ◌∙◌, inl, inr, refl, subst, sym, ℕ, Bool, true, false, List, [], Option, Some, None, IfSome, Bor, option_map, unwrap_or}
 use Rattle.std.specs.Prelude.{◌≢◌}
-use Rattle.cilk_commands.specs.Held.{IsReadOf}
 use Rattle.cilk_commands.specs.Loading.{Unready}
 use Rattle.cilk_commands.specs.Status.{is_answer, status_of}
 use Rattle.cilk_commands.specs.Telling.{IsExplanation, WritesFailure as TellsLine}
-use Rattle.cilk_commands.proofs.WholeText.{nothing_read}
+use Rattle.cilk_commands.proofs.WholeText.{nothing_read, some_read}
 use Rattle.cilk_commands.specs.declared.failure.Failure.{Failure}
 use Rattle.cilk_commands.specs.declared.failure.Failure.TheVariants as failure
 use Rattle.cilk_commands.specs.declared.status.Status.{Status}
@@ -28,10 +27,6 @@ name_told None none empty = empty
 name_told (Some name) none empty = refl
 
 -- ---- a text that was not read
-
-some_read : (known : Option (List ℕ)) → (text : List ℕ) × IsReadOf known text
-some_read None = ([], tt)
-some_read (Some bytes) = (_, refl)
 
 nothing_said : (explain : Bool) (text : List ℕ) (found : Failure) → status_of found ≢ ended.Refused → IsExplanation explain text found []
 nothing_said true text (failure.Fault fault line column) other = inl refl

@@ -115,9 +115,9 @@ all_replayed status text bytes answer p workers made m is_tape a closes =
 
 -- ---- what is told of a run by one worker
 
-pub alone_is : (Tells : Tape → Status → List ℕ → Type 0) (p : Program) (r : Run) (status : Status) (answer text : List ℕ) → Runs.IsRun p 1 alone_limit r
-    → Tells (tape_of p r.log.workers r.log.choices) status answer → IsReady text p → IsOfRun Tells text status answer
-alone_is Tells p r status answer text l told ready =
+pub alone_is : (Of : Tape → Status → List ℕ → Type 0) (p : Program) (r : Run) (status : Status) (answer text : List ℕ) → Runs.IsRun p 1 alone_limit r
+    → Of (tape_of p r.log.workers r.log.choices) status answer → IsReady text p → IsOfRun Of text status answer
+alone_is Of p r status answer text l told ready =
     let choices = map choice_of r.log.choices in
     let count : length r.log.choices ≡ length choices = sym (length-map r.log.choices choice_of) in
     record {

@@ -1,4 +1,4 @@
--- The outcomes of a program, in the order in which a search finds their logs.
+-- The outcomes of a program, in the order of their logs.
 use Rattle.std.specs.Prelude.{◌+◌, ◌==◌, nat_lt, if◌then◌else◌, ℕ, suc, Bool, true, false, List, [], ◌∷◌, length, map, Option, Some, None}
 use Rattle.cilk_explore.specs.Exploring.{endless_of}
 use Rattle.cilk_explore.specs.Telling.{told_by}
@@ -28,20 +28,20 @@ order_of (steal victim) = victim + 2
 abbrev pub is_tried_before : Choice → Choice → Bool
 is_tried_before c other = if c.worker == other.worker then nat_lt (order_of c.act) (order_of other.act) else nat_lt c.worker other.worker
 
--- of two logs of as many choices that is found first whose first choice that is another one is tried first
+-- of two logs of as many choices that comes first whose first choice that is another one is tried first
 abbrev pub comes_before : List Choice → List Choice → Bool
 comes_before [] other = false
 comes_before (c ∷ log) [] = false
 comes_before (c ∷ log) (d ∷ other) = if is_tried_before c d then true else if is_tried_before d c then false else comes_before log other
 
 -- and a shorter one before both
-abbrev pub is_found_before : List Choice → List Choice → Bool
-is_found_before log other = if length log == length other then comes_before log other else nat_lt (length log) (length other)
+abbrev pub stands_before : List Choice → List Choice → Bool
+stands_before log other = if length log == length other then comes_before log other else nat_lt (length log) (length other)
 
 -- a log without an end stands behind the endings whose logs are found before it
 abbrev pub with_endless : List Choice → List Told → List Outcome
 with_endless log [] = without_end log ∷ []
-with_endless log (t ∷ told) = if is_found_before t.log log then with_end t ∷ with_endless log told else without_end log ∷ map with_end (t ∷ told)
+with_endless log (t ∷ told) = if stands_before t.log log then with_end t ∷ with_endless log told else without_end log ∷ map with_end (t ∷ told)
 
 -- all that is told, in its order
 abbrev pub outcomes_of : List Told → Option (List Choice) → List Outcome
@@ -60,7 +60,7 @@ outcome_by (Endless log) = without_end (map choice_of log.now)
 -- how many endings stand before the log without an end
 abbrev pub before_endless : List Choice → List Told → ℕ
 before_endless log [] = 0
-before_endless log (t ∷ told) = if is_found_before t.log log then suc (before_endless log told) else 0
+before_endless log (t ∷ told) = if stands_before t.log log then suc (before_endless log told) else 0
 
 -- all of them, where there is none
 abbrev pub ended_before : List Told → Option (List Choice) → ℕ

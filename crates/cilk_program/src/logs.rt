@@ -15,7 +15,8 @@ use crate::outcome::{endings_before, log_in, outcome_at, outcome_count};
 use crate::unexplored::Unexplored;
 use cilk_commands::{Failure, Loaded};
 use cilk_explore::{Choice, Exploration};
-use cilk_log::{Choices, Log, Memory, program_of, write_log};
+use cilk_log::{Choices, Log, write_log};
+use cilk_run::digest_of_program;
 use std::alloc::{AllocError, Global};
 
 /// Keeps a log of each outcome, by its number, where logs are wanted.
@@ -33,7 +34,7 @@ pub(crate) fn keep_logs<F: LogFolder>(
     if !folder.is_wanted() {
         return Ok(());
     }
-    let Ok(digest) = digest_of(program) else {
+    let Ok(digest) = digest_of_program(program) else {
         return Err(Unexplored::Program(Failure::Memory));
     };
     let before = endings_before(exploration);
@@ -46,15 +47,6 @@ pub(crate) fn keep_logs<F: LogFolder>(
         }
     }
     Ok(())
-}
-
-fn digest_of(program: &Loaded) -> Result<[u8; 32], Memory>
-    ensures { IfOk result (λ digest. digest ≡ digest_of (program_text program.now)) }
-{
-    match program.text() {
-        Ok(text) => Ok(program_of(text.as_str())),
-        Err(memory) => Err(memory),
-    }
 }
 
 // Keeps the log of these choices.

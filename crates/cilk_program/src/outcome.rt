@@ -3,7 +3,7 @@
 ghost use Rattle.std.specs.Prelude.{◌≡◌, ◌<◌, length, map, Some, slice_get};
 ghost use Rattle.cilk_explore.specs.Telling.{told_by};
 ghost use Rattle.cilk_run.specs.choices.Words.{act_of, choice_of};
-ghost use Rattle.cilk_program.specs.Outcomes.{before_by, before_endless, comes_before, is_found_before, is_tried_before, log_in, order_of};
+ghost use Rattle.cilk_program.specs.Outcomes.{before_by, before_endless, comes_before, stands_before, is_tried_before, log_in, order_of};
 ghost use Rattle.cilk_program.specs.Outcomes.{outcome_by, outcomes_by};
 
 use cilk_explore::{Choice, Exploration, Told};
@@ -73,7 +73,7 @@ fn before_endless(told: &[Told], log: &[Choice]) -> usize
     ensures { result ≡ before_endless (map choice_of log.now) (map told_by told.now) }
 {
     for k in 0..told.len() {
-        if !is_found_before(told[k].log.as_slice(), log) {
+        if !stands_before(told[k].log.as_slice(), log) {
             return k;
         }
     }
@@ -81,8 +81,8 @@ fn before_endless(told: &[Told], log: &[Choice]) -> usize
 }
 
 // Whether a search finds one log before another.
-fn is_found_before(log: &[Choice], other: &[Choice]) -> bool
-    ensures { result ≡ is_found_before (map choice_of log.now) (map choice_of other.now) }
+fn stands_before(log: &[Choice], other: &[Choice]) -> bool
+    ensures { result ≡ stands_before (map choice_of log.now) (map choice_of other.now) }
 {
     if log.len() == other.len() {
         comes_before(log, other)

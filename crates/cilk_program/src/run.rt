@@ -179,6 +179,7 @@ fn run_answered<H: Threads + Wait + Sync>(
     let ended = match made(rt, alloc, program, task) {
         Ok(ended) => ended,
         Err(RunFault::Memory) => return Err(RecordFailure::Program(Failure::Memory)),
+        // No words bring `Workers`: the command line takes 1 to 64 alone.
         Err(RunFault::Start | RunFault::Workers) => return Err(RecordFailure::CannotStart),
     };
     let texts = answer_of(alloc, &ended, is_logged);

@@ -145,6 +145,7 @@ fn run_as_asked<H: Threads + Wait + Sync, T: Texts, R: Read, O: Write, E: Write>
     match task.runs {
         None => run_named(rt, alloc, task, texts, reader, streams),
         Some(runs) => match task.seed {
+            // No words bring this: several runs without a seed are refused (`Clash::in_runs`).
             None => run_named(rt, alloc, task, texts, reader, streams),
             Some(seed) => tally_text(alloc, task, seed, runs, reader, streams),
         },

@@ -1,7 +1,7 @@
 -- What is kept of the instances, where a child is born.
 use Rattle.std.proofs.Common.{◌≡◌, ◌<◌, ◌≤◌, ◌+◌, ◌^◌, ◌⊎◌, ℕ, suc, Bool, true, false, ◌||◌, nat_eq, cond, if◌then◌else◌, List, [], ◌∷◌, ◌++◌}
 use Rattle.std.proofs.Common.{length, take, refl, sym, ap, ◌∙◌, subst, arith, inl, inr, slice_set, length-set, take_all}
-use Rattle.std.proofs.lemmas.Bool.{cases_eq, cases_lt, ne_eqb, lt-ltb, false_from_ne_true}
+use Rattle.std.proofs.lemmas.Bool.{cases_eq, cases_lt, ne_eqb, lt-ltb, false_from_ne_true, or_right}
 use Rattle.std.proofs.lemmas.List.{get_or_append_left, get_or_push, length_push, take-append-le}
 use Rattle.std.proofs.lemmas.List.Sums.{count_by-le-length}
 use Rattle.cilk_races.specs.measure.replay.machine.labelled.Labelled.{Labelled}
@@ -16,10 +16,6 @@ use Rattle.cilk_races.proofs.Pushed.{syncs-more, children-more, born-more, block
 use Rattle.cilk_races.specs.Noted.{bore, bore_at, child_of, line_at}
 use Rattle.cilk_races.specs.Watched.{Along, IsUntold, TellsLines, TellsLine}
 use Rattle.cilk_races.proofs.Rowed.{along-more, line-set, next-if, plus-none, still, unmade-before, untold}
-
-or-true : (a b : Bool) → b ≡ true → (a || b) ≡ true
-or-true true b h = refl
-or-true false b h = h
 
 module _ (program : Labelled) (events : List Event) (up now : ℕ → Path) (count after : ℕ) (rows : List Line) (tells : TellsLines program up count events rows)
     (same : (i : ℕ) → i < count → now i ≡ up i) (few : length events < 2 ^ 60) (place : ℕ) (there : place < count)
@@ -60,7 +56,7 @@ module _ (program : Labelled) (events : List Event) (up now : ℕ → Path) (cou
       let blocks = known.size in
       let whole : take (suc at) c ≡ c = take_all (suc at) c (omega (arith, h, size_is)) in
       record {
-        born = ap (is_born more) whole ∙ born-more events e c ∙ or-true (is_born events c) (same_path c c) (same_self c c refl);
+        born = ap (is_born more) whole ∙ born-more events e c ∙ or_right (is_born events c) (same_path c c) (same_self c c refl);
         block = get_or_push own.blocks own.syncs 0 at (omega (arith, h, low, size_is, blocks)) ∙ known.syncs ∙ ap (syncs_of program events) (sym parent)
             ∙ sym (block-new program c events c n unborn.born (same_self c c refl)) ∙ ap (block_of program more) (sym whole);
       }

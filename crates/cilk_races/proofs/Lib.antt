@@ -7,7 +7,6 @@ pub mod Leaving
 pub mod Pushed
 pub mod Between
 pub mod Steps
-pub mod Parents
 pub mod Rowed
 pub mod Bearing
 pub mod Touched

@@ -2,6 +2,7 @@
 use Rattle.std.proofs.Common.{◌≡◌, ◌+◌, ℕ, Bool, true, false, ◌||◌, List, [], ◌∷◌, ◌++◌, cond, refl, sym, ap, ◌∙◌, if◌then◌else◌}
 use Rattle.std.proofs.lemmas.List.{append-nil, append_assoc}
 use Rattle.std.proofs.lemmas.List.Sums.{sum_by_push}
+use Rattle.std.proofs.Math.Bool.{or-false, or_assoc}
 use Rattle.cilk_measure.specs.model.labelled.Labelled.{Labelled}
 use Rattle.cilk_measure.specs.model.Event.{Event, acted, spawned, delivered, returned, ended, trapped, moved}
 use Rattle.cilk_measure.specs.model.Path.{Path, same_path}
@@ -16,17 +17,9 @@ syncs-more program events e p = sum_by_push (λ (x : Event). cond (passes progra
 pub children-more : (events : List Event) (e : Event) (p : Path) → children_of (events ++ e ∷ []) p ≡ children_of events p + cond (bears p e) 1 0
 children-more events e p = sum_by_push (λ (x : Event). cond (bears p x) 1 0) events e
 
-or-assoc : (a b c : Bool) → (a || (b || c)) ≡ ((a || b) || c)
-or-assoc true b c = refl
-or-assoc false b c = refl
-
-or-false : (b : Bool) → (b || false) ≡ b
-or-false true = refl
-or-false false = refl
-
 pub born-more : (events : List Event) (e : Event) (c : Path) → is_born (events ++ e ∷ []) c ≡ (is_born events c || is_birth c e)
 born-more [] e c = or-false (is_birth c e)
-born-more (x ∷ events) e c = ap (λ b. is_birth c x || b) (born-more events e c) ∙ or-assoc (is_birth c x) (is_born events c) (is_birth c e)
+born-more (x ∷ events) e c = ap (λ b. is_birth c x || b) (born-more events e c) ∙ sym (or_assoc (is_birth c x) (is_born events c) (is_birth c e))
 
 module _ (program : Labelled) (c : Path) where
   -- a path that was born has its block

@@ -1,12 +1,12 @@
 -- Numbers from 1 on that pass a test, one number after another.
-use Rattle.std.proofs.Common.{◌≡◌, ◌≢◌, ℕ, suc, ◌+◌, ◌≤◌, Bool, true, false, List, [], ◌∷◌, ◌++◌, length, cond, Some, None, refl, sym, ap, ◌∙◌, arith}
+use Rattle.std.proofs.Common.{◌≡◌, ◌≢◌, ℕ, suc, ◌+◌, ◌≤◌, Bool, true, false, List, [], ◌∷◌, ◌++◌, length, cond, Some, None, sym, ap, ◌∙◌, arith}
 use Rattle.std.specs.Prelude.{filter, is_none}
 use Rattle.std.proofs.lemmas.List.{length-append}
 use Rattle.std.proofs.lemmas.List.Elements.{filter-append}
 use Rattle.cilk_run.specs.choices.Words.{act_of, reason_of}
 use Rattle.cilk_run.specs.choices.declared.act.Act.{Act}
 use Rattle.cilk_run.specs.choices.declared.refusal.Refusal.{Refusal}
-use Rattle.cilk_run.specs.choices.declared.refusal.Refusal.TheVariants.{Over, NoWorker, HandEmpty, Busy, DequeEmpty, Waiting, Memory, Stale}
+use Rattle.cilk_run.specs.choices.declared.refusal.Refusal.TheVariants.{Memory}
 use Rattle.cilk_run.specs.labelled.Bodies.{label}
 use Rattle.cilk_run.specs.machine.Made.{IsRefused}
 use Rattle.cilk_run.specs.machine.Situation.{Situation}
@@ -14,6 +14,7 @@ use Rattle.cilk_run.specs.machine.Stands.{StandsAt}
 use Rattle.cilk_run.specs.model.End.{numbers}
 use Rattle.cilk_run.specs.model.Run.{Standing}
 use Rattle.cilk_run.specs.Drawn.{can}
+use Rattle.cilk_run.proofs.machine_laws.Unseen.{reason-some}
 
 found_more : (test : ℕ → Bool) (n : ℕ) (b : Bool) → b ≡ test (n + 1)
     → filter test (numbers n) ++ cond b ((n + 1) ∷ []) [] ≡ filter test (numbers (n + 1))
@@ -34,16 +35,6 @@ pub few-found : (n : ℕ) (xs ys : List ℕ) (b : Bool) → length xs ≤ n → 
 few-found n xs ys true few grown = let e = length-append xs ((n + 1) ∷ []) in omega (arith, ap length grown, e, few)
 few-found n xs ys false few grown = let e = length-append xs [] in omega (arith, ap length grown, e, few)
 
-reason_some : (r : Refusal) → Some r ≢ Some Memory → is_none (reason_of r) ≡ false
-reason_some Over h = refl
-reason_some NoWorker h = refl
-reason_some HandEmpty h = refl
-reason_some Busy h = refl
-reason_some DequeEmpty h = refl
-reason_some Waiting h = refl
-reason_some Memory h = absurd (h refl)
-reason_some Stale h = refl
-
 -- what is not refused may be done
 pub can-so : (m : Situation) (w : ℕ) (act : Act) → IsRefused m (record { worker = w; act = act_of act }) None → (at : Standing) → StandsAt m at
     → true ≡ can (label m.program) at w (act_of act)
@@ -51,4 +42,4 @@ can-so m w act free at s = sym (ap is_none (free at s))
 
 pub can-not : (m : Situation) (w : ℕ) (act : Act) (r : Refusal) → Some r ≢ Some Memory → IsRefused m (record { worker = w; act = act_of act }) (reason_of r)
     → (at : Standing) → StandsAt m at → false ≡ can (label m.program) at w (act_of act)
-can-not m w act r told refused at s = sym (ap is_none (refused at s) ∙ reason_some r told)
+can-not m w act r told refused at s = sym (ap is_none (refused at s) ∙ reason-some r told)

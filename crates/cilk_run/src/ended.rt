@@ -1,4 +1,4 @@
-//! What comes of a machine with its history, once nothing is left to do: the `Run` of workers by `Table`, and that of a seed by `Locked`.
+//! The `Run` of a machine with its history, once nothing is left to do (`Locked::into_run`), and what it closes with (`closing`), which `Table` asks for too.
 
 ghost use Rattle.std.specs.Prelude.{◌≡◌, ◌<◌, ◌^◌, length, IfOk, IfErr};
 ghost use Rattle.cilk_log.specs.choices.Words.{end_of};

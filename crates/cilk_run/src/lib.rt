@@ -35,4 +35,5 @@ pub use playing::run_by_seed;
 pub use proposal::{Proposal, propose};
 pub use run_lists::{ChoiceCounts, Output};
 pub use run_result::{Run, RunFault};
+pub use table::digest_of_program;
 pub use tallying::tally_of_seeds;

@@ -60,8 +60,7 @@ impl Locked {
         })
     }
 
-    /// Makes a choice, which the history ends with then. Where it is refused, both stay as they were: the first reason that holds is told, and
-    /// want of memory only where there is no other.
+    /// Makes a choice as `advance` does, and tells by paths what it did. It is called by tests alone.
     pub fn make(&mut self, choice: Choice) -> Result<Event, Refusal>
         ensures made { IfOk result (λ e. Makes self.old.machine self.new.machine (choice_of choice) (event_of e)) }
         ensures history { OnOk result (self.new.history ≡ self.old.history ++ choice ∷ []) }
@@ -76,7 +75,8 @@ impl Locked {
         Ok(event)
     }
 
-    /// The same, where an instance that something befell is told by its number.
+    /// Makes a choice, which the history ends with then. Where it is refused, both stay as they were: the first reason that holds is told, and
+    /// want of memory only where there is no other. An instance that something befell is told by its number.
     #[inline(always)]
     pub fn advance(&mut self, choice: Choice) -> Result<Did, Refusal>
         ensures made { IfOk result (λ did. MakesBy self.old.machine self.new.machine (choice_of choice) did) }
@@ -94,7 +94,7 @@ impl Locked {
 
     /// What the worker's next step evaluates, where it assigns to a variable that is no element, or tests, and neither an element nor `SYNCHED`
     /// stands in the expression. It is refused as a step is, but for one that has to wait. With `propose` and `commit` this is for who takes turns of his
-    /// own: the workers of `run` take the values down by the number of the action, which needs no path.
+    /// own, as tests alone do: the workers of `run` take the values down by the number of the action, which needs no path.
     pub fn glimpse(&self, worker: u8) -> Result<Option<Glimpse>, Refusal>
         ensures free { OnOk result (look_refused self.now.machine worker ≡ None) }
         ensures looks { IfOk result (λ o. option_map (λ g. g.peek) o ≡ peek_at self.now.machine worker) }
@@ -121,7 +121,7 @@ impl Locked {
         self.settle(&proposal)
     }
 
-    // The same, where the proposal stays the caller's.
+    // The same, where the proposal stays the caller's. `commit` alone calls it.
     fn settle(&mut self, proposal: &Proposal) -> Result<Event, Refusal>
         ensures free { OnOk result (look_refused self.old.machine proposal.now.worker ≡ None) }
         ensures seen { OnOk result (peek_at self.old.machine proposal.now.worker ≡ Some proposal.now.peek) }

@@ -1,4 +1,4 @@
-//! What comes of the run of a seed.
+//! The outcome by which a tally counts the run of a seed: what it printed, and the words of its closing line.
 
 ghost use Rattle.std.specs.Prelude.{◌≡◌, ◌≢◌, ◌<◌, ◌⊎◌, Err, IfOk, IfErr, string_bytes};
 ghost use Rattle.cilk_run.specs.choices.Words.{end_of};

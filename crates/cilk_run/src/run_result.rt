@@ -1,4 +1,4 @@
-//! What comes of a run: a `Run`, or a `RunFault`.
+//! `Run`, which tells of a whole run its end, log, output and turns, and `RunFault`, why there is none.
 
 use crate::run_lists::{ChoiceCounts, Output};
 use cilk_log::Log;

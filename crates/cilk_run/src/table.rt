@@ -339,7 +339,7 @@ impl<J: Setting> Table<J> {
         self.is_short
     }
 
-    /// Whether the run is over: the program has ended, nobody can move, or the limit is reached.
+    /// Whether the run is over: the program has ended, the limit is reached, or no one can move. Not whether all were told to end, or memory ran out.
     pub fn has_ended(&self) -> bool
         ensures { result ≡ true → Stops J.limit self.now.machine }
     {
@@ -376,8 +376,8 @@ impl<J: Setting> Table<J> {
     }
 }
 
-// The digest of the program's canonical text.
-pub(crate) fn digest_of_program(program: &Loaded) -> Result<[u8; 32], Memory>
+/// The digest of the program's canonical text, by which a log names it.
+pub fn digest_of_program(program: &Loaded) -> Result<[u8; 32], Memory>
     ensures { IfOk result (λ digest. digest ≡ digest_of (program_text program.now)) }
 {
     match program.text() {

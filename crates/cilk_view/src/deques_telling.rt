@@ -174,6 +174,7 @@ fn add_frame(
     requires links { links.now ≡ links_of shown.now.tree.now.nodes }
     ensures { TellsEntries links.now result entries.old.items entries.new.items (path_text (path_at shown.now.tree.now.nodes id)) }
 {
+    // The body has no other use for it: the clauses alone speak of the parts that it lends.
     let _shown = shown;
     add_name(alloc, entries, links, id, String::new(alloc))
 }

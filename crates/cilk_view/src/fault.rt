@@ -3,7 +3,8 @@
 use cilk_load::Memory;
 use thiserror::Error;
 
-/// Why there is no text of a view.
+/// Why there is no text of a view. What `Display` writes is for who uses this crate, and no clause speaks of it: a session is answered by `Reply` of
+/// `cilk_debug`.
 #[derive(Debug, Drop, Error)]
 pub enum ViewFault {
     /// No live instance has the path.

@@ -1,4 +1,4 @@
-//! The variables and locks of the top level.
+//! The view `globals`: the variables and locks of the top level.
 
 ghost use Rattle.std.specs.Prelude.{◌≡◌, ◌++◌, ◌∷◌, ◌<◌, List, length, All, take, drop, codes, IfOk, string_bytes};
 ghost use Rattle.cilk_load.specs.syntax.Appends.{Appends};

@@ -1,4 +1,4 @@
-//! The canonical text with the numbers of its lines and actions.
+//! The view `list`: the canonical text with the numbers of its lines and actions.
 
 ghost use Rattle.std.specs.Prelude.{◌≡◌, ◌+◌, ℕ, decimal, drop, IfOk, OnOk};
 ghost use Rattle.std.specs.BTreeMap.{get};

@@ -18,7 +18,7 @@ use cilk_load::Memory;
 use std::alloc::Global;
 
 /// The text of a view, without its line on the position. There is none of the frame of what does not
-/// live, and then, and only then, is `NoInstance` answered.
+/// live, and then, and only then, is `NoInstance` answered. A session has `tree` and `deques` in portions, by `tell`.
 pub fn show(alloc: Global, parts: &Shown, what: &What) -> Result<String, ViewFault>
     requires { Shows parts.now }
     ensures text { IfOk result (λ text. (at : Position) → ShowsAt parts.now at

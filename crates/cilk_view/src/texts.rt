@@ -1,4 +1,4 @@
-//! The text of each view.
+//! The whole texts of the views `frame`, `globals`, `deques`, `output`, `where` and `list`; that of `tree` is made where its lines are.
 
 ghost use Rattle.std.specs.Prelude.{◌≡◌, IfOk, OnOk, string_bytes};
 ghost use Rattle.cilk_explore_model.specs.model.Run.{Position};

@@ -1,42 +1,24 @@
 -- What is asked for, by what was found for a subcommand.
-use Rattle.std.proofs.Common.{◌≡◌, ◌+◌, ◌-◌, ◌^◌, ◌<◌, ◌≤◌, ◌∙◌, arith, refl, sym, ℕ, Bool, true, false, List, Option, Some, None, codes, cond, option_map}
+use Rattle.std.proofs.Common.{◌≡◌, ◌+◌, ◌-◌, ◌^◌, ◌<◌, ◌≤◌, arith, refl, ℕ, Bool, true, false, Option, Some, None, codes, cond}
 use Rattle.std.specs.Prelude.{◌≢◌, Decides, MatchBool, option_and_then, unwrap_or}
 use Rattle.std.specs.Str.{bytes_eq}
 use Rattle.std.specs.Str.Parse.{IsNumeral, ParsesBool, digits_value, false_text, true_text, without_leading_plus}
 use Rattle.std.proofs.lemmas.Slice.Eq.{bytes_eq-Decides}
 use Rattle.clap.specs.ValueTests.{is_unsigned_in}
-use Rattle.clap.specs.Words.{ReadsOne, Row, Text, first_of, first_value, one_of, one_text, rows_of, subcommand_name_of, subcommand_rows_of}
+use Rattle.clap.specs.Words.{ReadsOne, Text, first_of, first_value, one_of, one_text, rows_of}
 use Rattle.clap.specs.declared.builder.value_parser.ValueParser.TheVariants.{Unsigned}
-use Rattle.clap.specs.declared.parser.matches.ArgMatches.{ArgMatches}
-use Rattle.clap.specs.declared.parser.matches.ArgMatches.TheViews.{out-ArgMatches}
 use Rattle.clap.specs.declared.parser.matches.Found.{Found}
 use Rattle.clap.proofs.ValueTestLemmas.{Accepts-accepts, accepts-Accepts}
 use Rattle.clap.proofs.WalkLemmas.{first_value-rows, one_text-rows}
-use Rattle.cilk_words.specs.CommandLine.{Wanted, run, explored, replayed, measured, debugged, is_set, number_to, request_for, request_of_any}
+use Rattle.cilk_words.specs.CommandLine.{Wanted, run, explored, is_set, number_to, request_for, request_of}
 use Rattle.cilk_words.specs.CommandLine.{explore_of, run_of, wanted_of, word_of}
 
 -- ---- the subcommand that was met
 
-fused : {X Y Z : Type 0} (f : X → Y) (h : Y → Z) (o : Option X) → option_map (λ x. h (f x)) o ≡ option_map h (option_map f o)
-fused f h None = refl
-fused f h (Some x) = refl
-
-both_are : (sub : Option (Text × List Row)) (name : Text) (rows : List Row) → option_map (λ s. s.0) sub ≡ Some name → option_map (λ s. s.1) sub ≡ Some rows
-    → sub ≡ Some (name, rows)
-both_are None name rows named given = cc
-both_are (Some s) name rows named given =
-    let name_is : s.0 ≡ name = cc in
-    let rows_are : s.1 ≡ rows = cc in
-    λ i. Some (name_is i, rows_are i)
-
--- what is wanted and a name, as they were found, for a subcommand are what is asked for, with its flag
-pub requests : (m : ArgMatches) (name : Text) (f : Found) (wanted : Option Wanted) (file : Option Text) → Some name ≡ subcommand_name_of m
-    → Some (rows_of f) ≡ option_map (λ s. s.1) (subcommand_rows_of m) → wanted ≡ wanted_of name (rows_of f) → file ≡ first_value f (codes "F")
-    → request_for wanted file (is_set (one_of (codes "explain") (rows_of f))) ≡ request_of_any (subcommand_rows_of m)
-requests m name f wanted file named given wanted_is file_is =
-    let names : subcommand_name_of m ≡ option_map (λ s. s.0) (subcommand_rows_of m) = fused _ _ (out-ArgMatches m).subcommand in
-    let sub_is = both_are (subcommand_rows_of m) name (rows_of f) (sym names ∙ sym named) (sym given) in
-    rw (sub_is, wanted_is, file_is, first_value-rows f (codes "F")) refl
+-- what is wanted and a name, as they were found, for a subcommand of this name are what is asked for, with its flag
+pub named_request : (name : Text) (f : Found) (wanted : Option Wanted) (file : Option Text) → wanted ≡ wanted_of name (rows_of f)
+    → file ≡ first_value f (codes "F") → request_for wanted file (is_set (one_of (codes "explain") (rows_of f))) ≡ request_of (name, rows_of f)
+named_request name f wanted file wanted_is file_is = rw (wanted_is, file_is, first_value-rows f (codes "F")) refl
 
 -- ---- the numbers of a run
 
@@ -130,21 +112,9 @@ explored_without_end workers limit logs n crew none = rw (crew, none) refl
 pub logs_found : (f : Found) (logs : Option Text) → logs ≡ first_value f (codes "logs") → logs ≡ first_of (codes "logs") (rows_of f)
 logs_found f logs is = rw (← first_value-rows f (codes "logs")) is
 
--- ---- the log of a replay
-
--- a replay of the log that was named, or none
-pub replay_given : (f : Found) (log : Option Text) → log ≡ first_value f (codes "G") → wanted_of (codes "replay") (rows_of f) ≡ option_map replayed log
-replay_given f log log_is = rw (← first_value-rows f (codes "G"), ← log_is) refl
-
-pub measure_given : (f : Found) (log : Option Text) → log ≡ first_value f (codes "G") → wanted_of (codes "measure") (rows_of f) ≡ Some (measured log)
-measure_given f log log_is = rw (← first_value-rows f (codes "G"), ← log_is) refl
-
 -- the log that was named, or none
-pub raced_given : (f : Found) (log : Option Text) → log ≡ first_value f (codes "G") → log ≡ first_of (codes "G") (rows_of f)
-raced_given f log is = rw (← first_value-rows f (codes "G")) is
-
-pub debug_given : (f : Found) (log : Option Text) → log ≡ first_value f (codes "G") → wanted_of (codes "debug") (rows_of f) ≡ option_map debugged log
-debug_given f log log_is = rw (← first_value-rows f (codes "G"), ← log_is) refl
+pub log_given : (f : Found) (log : Option Text) → log ≡ first_value f (codes "G") → log ≡ first_of (codes "G") (rows_of f)
+log_given f log is = rw (← first_value-rows f (codes "G")) is
 
 -- ---- whether more is to be said of a fault
 

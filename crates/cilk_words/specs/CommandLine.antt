@@ -155,17 +155,21 @@ explore_of workers limit logs = option_and_then (λ n. option_map (λ k. explore
 abbrev pub explore_in : List Row → Option Wanted
 explore_in rows = explore_of (one_of (codes "workers") rows) (one_of (codes "limit") rows) (first_of (codes "logs") rows)
 
+-- what a subcommand of this name wants that a log may be named for
+abbrev pub wanted_by_log : Text → Option Text → Option Wanted
+wanted_by_log name log =
+    if bytes_eq name (codes "replay") then option_map replayed log
+    else (if bytes_eq name (codes "measure") then Some (measured log)
+    else (if bytes_eq name (codes "races") then Some (raced log)
+    else (if bytes_eq name (codes "debug") then option_map debugged log else None)))
+
 -- what a subcommand of this name wants, with what was given to it
 abbrev pub wanted_of : Text → List Row → Option Wanted
 wanted_of name rows =
     if bytes_eq name (codes "print") then Some printed
     else (if bytes_eq name (codes "check") then Some checked
     else (if bytes_eq name (codes "run") then run_in rows
-    else (if bytes_eq name (codes "explore") then explore_in rows
-    else (if bytes_eq name (codes "replay") then option_map replayed (first_of (codes "G") rows)
-    else (if bytes_eq name (codes "measure") then Some (measured (first_of (codes "G") rows))
-    else (if bytes_eq name (codes "races") then Some (raced (first_of (codes "G") rows))
-    else (if bytes_eq name (codes "debug") then option_map debugged (first_of (codes "G") rows) else None)))))))
+    else (if bytes_eq name (codes "explore") then explore_in rows else wanted_by_log name (first_of (codes "G") rows))))
 
 -- a flag is given, by the text that stands for it
 abbrev pub is_set : Option Text → Bool

@@ -2,8 +2,8 @@
 
 ghost use Rattle.std.specs.Prelude.{◌≡◌, IfErr, IfOk, Some, codes, option_map};
 ghost use Rattle.clap.specs.Words.{first_of, found_of, one_of, rows_of, subcommand_rows_of};
-ghost use Rattle.cilk_words.specs.CommandLine.{asked, asked_by, explore_in, is_set, request_of_any, run_in};
-ghost use Rattle.cilk_words.specs.CommandLine.{texts_of, wanted_by, wanted_of, word_of};
+ghost use Rattle.cilk_words.specs.CommandLine.{asked, asked_by, explore_in, is_set, request_of, request_of_any, run_in};
+ghost use Rattle.cilk_words.specs.CommandLine.{texts_of, wanted_by, wanted_by_log, wanted_of, word_of};
 ghost use Rattle.cilk_words.specs.Refusing.{IsNoRequest};
 
 use crate::arguments::{EXPLAIN, FILE, LIMIT, LOG, LOGS, RUNS, SEED, WORKERS, WRITTEN_LOG, parse};
@@ -35,15 +35,26 @@ pub fn request_in<'a>(alloc: Global, words: &'a [String]) -> Result<Request<'a>,
 fn requested<'a>(matches: &ArgMatches<'a>) -> Option<Request<'a>>
     ensures { option_map asked_by result ≡ request_of_any (subcommand_rows_of matches.now) }
 {
-    let (name, found) = matches.subcommand()?;
-    let task = task_named(name, found)?;
-    let name = found.get_str(FILE)?;
-    let explain = explained(found);
-    Some(Request {
-        task,
-        name,
-        explain,
-    })
+    match matches.subcommand() {
+        None => None,
+        Some((name, found)) => request_named(name, found),
+    }
+}
+
+fn request_named<'a>(name: &str, found: &ArgMatches<'a>) -> Option<Request<'a>>
+    ensures { option_map asked_by result ≡ request_of (name.now, rows_of (found_of found.now)) }
+{
+    match task_named(name, found) {
+        None => None,
+        Some(task) => match found.get_str(FILE) {
+            None => None,
+            Some(name) => Some(Request {
+                task,
+                name,
+                explain: explained(found),
+            }),
+        },
+    }
 }
 
 fn task_named<'a>(name: &str, found: &ArgMatches<'a>) -> Option<Task<'a>>
@@ -54,24 +65,31 @@ fn task_named<'a>(name: &str, found: &ArgMatches<'a>) -> Option<Task<'a>>
         "check" => Some(Task::Check),
         "run" => run_in(found),
         "explore" => explore_in(found),
-        "replay" => Some(Task::Replay {
-            log: found.get_str(LOG)?,
-        }),
-        "measure" => Some(Task::Measure {
-            log: found.get_str(LOG),
-        }),
-        "races" => Some(Task::Races {
-            log: raced_in(found),
-        }),
-        "debug" => Some(Task::Debug {
-            log: found.get_str(LOG)?,
-        }),
+        _ => task_by_log(name, log_in(found)),
+    }
+}
+
+// A task that a log may be named for.
+fn task_by_log<'a>(name: &str, log: Option<&'a str>) -> Option<Task<'a>>
+    ensures { option_map wanted_by result ≡ wanted_by_log name.now (option_map (λ log. log.now) log.entry) }
+{
+    match name {
+        "replay" => match log {
+            None => None,
+            Some(log) => Some(Task::Replay { log }),
+        },
+        "measure" => Some(Task::Measure { log }),
+        "races" => Some(Task::Races { log }),
+        "debug" => match log {
+            None => None,
+            Some(log) => Some(Task::Debug { log }),
+        },
         _ => None,
     }
 }
 
-// The log whose races are asked for.
-fn raced_in<'a>(found: &ArgMatches<'a>) -> Option<&'a str>
+// The log that is named, if one is.
+fn log_in<'a>(found: &ArgMatches<'a>) -> Option<&'a str>
     ensures { option_map (λ name. name.now) result ≡ first_of (codes "G") (rows_of (found_of found.now)) }
 {
     found.get_str(LOG)

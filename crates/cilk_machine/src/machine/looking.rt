@@ -27,6 +27,7 @@ use cilk_machine_undo::Did;
 impl Machine {
     /// What the next step of a worker evaluates, where it assigns to a variable that is no element, or tests, and neither an element nor
     /// `SYNCHED` stands in the expression. It is refused as a step is, but for one that has to wait, of which there is nothing to see.
+    /// Tests alone call this and `settle`, by themselves or by `glimpse` and `commit` of `Locked`: the workers of a run go by `take_down`.
     pub fn peek(&self, worker: u8) -> Result<Option<Peek>, Refusal>
         ensures free { OnOk result (look_refused self.now worker ≡ None) }
         ensures looks { IfOk result (λ peek. option_map peek_of peek ≡ peek_at self.now worker) }

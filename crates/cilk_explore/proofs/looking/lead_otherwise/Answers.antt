@@ -1,6 +1,4 @@
-use Rattle.std.proofs.Common.{◌≡◌, inl, inr, List, length, map, refl, sym, subst, arith}
-use Rattle.std.proofs.lemmas.Bool.{cases_Bool}
-use Rattle.std.proofs.lemmas.List.{length-map}
+use Rattle.std.proofs.Common.{◌≡◌, List, length, refl, sym, ◌∙◌, subst}
 use Rattle.std.proofs.lemmas.Option.{slice_get_within}
 use Rattle.cilk_machine.specs.model.Choice.{Choice}
 use Rattle.cilk_machine.specs.choices.Words.{choice_of}
@@ -12,47 +10,43 @@ use Rattle.cilk_explore.proofs.looking.lead_otherwise.Goals as goal
 
 pub returns-then-len-choices-clause-known : goal.returns-then-len-choices-clause-known
 returns-then-len-choices-clause-known c =
-    let leads = c.log-log.ensures.leads in
-    known-same c.args.explorer.now c.args.found c.requires.behind.found c.requires.same leads.0 leads.1
-
-pub put_behind-is_put-requires : goal.put_behind-is_put-requires
-put_behind-is_put-requires c =
     let e = c.args.explorer.now in
-    slice_get_within e.store c.args.found (map choice_of e.log.items) c.requires.log
-
-pub returns-clause-keeps : goal.returns-clause-keeps
-returns-clause-keeps c =
-    let e = c.args.explorer.now in
-    let f : Explorer = record e { store = c.put_behind-is_put.new.self } in
     let leads = c.log-log.ensures.leads in
-    let log = map choice_of e.log.items in
-    let size = length-map e.log.items choice_of in
-    let same = c.if-len-choices.false in
-    let here = c.len.ensures in
-    let there = c.len-choices.ensures in
-    let long : length log ≡ length e.walker.log = omega (arith, size, same, here, there) in
-    let room = c.requires.behind.room in
-    elim (cases_Bool c.put_behind-is_put.result) [
-      | inl put ↦ keeps-other e c.args.found c.args.number (choice_of c.args.choice) log c.requires.behind c.requires.same c.requires.log long leads.0
-          leads.1 f refl (c.put_behind-is_put.ensures.put put)
-      | inr none ↦ subst (λ (xs : List (List Choice)). KeepsAs e (record e { store = xs })) (sym (c.put_behind-is_put.ensures.same none))
-          (grows-none (length e.walker.log) e room)
-    ]
+    known-same e e.probe.number c.requires.behind.found c.requires.same leads.0 leads.1
 
-pub returns-clause-known : goal.returns-clause-known
-returns-clause-known c =
+pub put_behind-requires : goal.put_behind-requires
+put_behind-requires c =
     let e = c.args.explorer.now in
-    let f : Explorer = record e { store = c.put_behind-is_put.new.self } in
+    slice_get_within e.store e.probe.number e.probe.walker.log c.requires.behind.paired.stands
+
+pub returns-in-None-clause-keeps : goal.returns-in-None-clause-keeps
+returns-in-None-clause-keeps c =
+    let e = c.args.explorer.now in
+    let behind = c.requires.behind in
+    subst (λ (xs : List (List Choice)). KeepsAs e (record e { store = xs })) (sym (c.in-None.ensures.same refl))
+    (grows-none (length e.walker.log) e behind.room behind.paired.stands)
+
+pub returns-in-None-clause-known : goal.returns-in-None-clause-known
+returns-in-None-clause-known c =
+    let e = c.args.explorer.now in
     let leads = c.log-log.ensures.leads in
-    let log = map choice_of e.log.items in
-    let size = length-map e.log.items choice_of in
-    let same = c.if-len-choices.false in
-    let here = c.len.ensures in
-    let there = c.len-choices.ensures in
-    let long : length log ≡ length e.walker.log = omega (arith, size, same, here, there) in
-    elim (cases_Bool c.put_behind-is_put.result) [
-      | inl put ↦ known-other e c.args.found c.args.number (choice_of c.args.choice) log c.requires.behind c.requires.same c.requires.log long leads.0
-          leads.1 f refl (c.put_behind-is_put.ensures.put put)
-      | inr none ↦ subst (λ (xs : List (List Choice)). IsKnownBy (record e { store = xs }) c.args.found) (sym (c.put_behind-is_put.ensures.same none))
-          (known-same e c.args.found c.requires.behind.found c.requires.same leads.0 leads.1)
-    ]
+    subst (λ (xs : List (List Choice)). IsKnownBy (record e { store = xs }) e.probe.number) (sym (c.in-None.ensures.same refl))
+    (known-same e e.probe.number c.requires.behind.found c.requires.same leads.0 leads.1)
+
+pub returns-in-Ok-clause-keeps : goal.returns-in-Ok-clause-keeps
+returns-in-Ok-clause-keeps c =
+    let e = c.args.explorer.now in
+    let f : Explorer = record e { probe = record { walker = c.back.new.self; number = c.in-Some.parent }; store = c.put_behind.new.self } in
+    let leads = c.log-log.ensures.leads in
+    let long : length e.probe.walker.log ≡ length e.walker.log = sym c.len.ensures ∙ c.if-len-choices.false ∙ c.len-choices.ensures in
+    keeps-other e c.args.number (choice_of c.args.choice) c.requires.behind c.requires.same long leads.0 leads.1 f refl
+    (c.in-Some.ensures.put (λ none. cc)) c.in-Some.ensures.old c.in-Ok.ensures.back
+
+pub returns-in-Ok-clause-known : goal.returns-in-Ok-clause-known
+returns-in-Ok-clause-known c =
+    let e = c.args.explorer.now in
+    let f : Explorer = record e { probe = record { walker = c.back.new.self; number = c.in-Some.parent }; store = c.put_behind.new.self } in
+    let leads = c.log-log.ensures.leads in
+    let long : length e.probe.walker.log ≡ length e.walker.log = sym c.len.ensures ∙ c.if-len-choices.false ∙ c.len-choices.ensures in
+    known-other e c.args.number (choice_of c.args.choice) c.requires.behind c.requires.same long leads.0 leads.1 f refl
+    (c.in-Some.ensures.put (λ none. cc)) c.in-Some.ensures.old c.in-Ok.ensures.back

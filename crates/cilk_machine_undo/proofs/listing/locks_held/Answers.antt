@@ -2,7 +2,7 @@ use Rattle.std.proofs.Common.{ℕ, Bool, ap, ◌∙◌}
 use Rattle.std.specs.Prelude.{slice_index_or}
 use Rattle.std.proofs.lemmas.List.{get_or_default}
 use Rattle.cilk_machine_plan.specs.agree.declared.lock.Lock.TheVariants.{Unset}
-use Rattle.cilk_machine_undo.specs.Records.{is_held_by}
+use Rattle.cilk_machine_plan.specs.agree.Locks.{is_held_by}
 use Rattle.cilk_machine_undo.proofs.Listed.{one-more}
 use Rattle.cilk_machine_undo.proofs.listing.locks_held.Goals as goal
 

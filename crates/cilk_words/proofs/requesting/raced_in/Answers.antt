@@ -1,7 +1,0 @@
-use Rattle.std.proofs.Common.{option_map}
-use Rattle.clap.specs.Words.{found_of}
-use Rattle.cilk_words.proofs.Requests.{raced_given}
-use Rattle.cilk_words.proofs.requesting.raced_in.Goals as goal
-
-pub returns : goal.returns
-returns c = raced_given (found_of c.args.found.now) (option_map (λ name. name.now) c.get_str.result) c.get_str.ensures
