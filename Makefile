@@ -2,7 +2,7 @@
 
 sources := $(shell find crates \( -name out -o -name must-fail \) -prune -o -type f -print)
 
-.PHONY: help demo libraries test ways programs second-way fuzz sweep again memory must_not_compile costs wrong-bodies edge budget bench clean
+.PHONY: help demo libraries test ways programs pictures second-way fuzz sweep again memory must_not_compile costs wrong-bodies edge budget bench clean
 
 # Proves what ./cilk is made of where it stands, and builds it.
 cilk: crates.txt HANDLES $(sources)
@@ -34,13 +34,20 @@ ways:
 costs:
 	tools/costs
 
-# Tries ./cilk on the cases of programs/, on the examples of the pages, on runs by several workers, on runs that are broken off, and backwards.
+# Tries ./cilk on the cases of programs/, on the examples of the pages, on runs by several workers, on runs that are broken off, backwards, on pictures, and
+# as an editor.
 programs: cilk
 	tools/programs ./cilk
 	tools/examples ./cilk
 	tools/threads ./cilk
 	tools/broken_off ./cilk
 	tools/backwards ./cilk
+	tools/drawn ./cilk
+	tools/dap_client ./cilk
+
+# Draws the logs of the samples anew, into docs/pictures.
+pictures: cilk
+	tools/drawn ./cilk --write
 
 # Compares what ./cilk explore tells of the samples, or of programs in FOLDERS, and of WRITTEN (0) by chance, with lists of choices or seeds (docs/GATE.md).
 second-way: cilk

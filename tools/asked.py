@@ -5,6 +5,7 @@ goes through it.
 """
 import dataclasses
 import glob
+import json
 import os
 import re
 import shutil
@@ -12,6 +13,7 @@ import subprocess
 
 TOP = os.path.dirname(os.path.dirname(os.path.realpath(__file__)))
 SECONDS = 120
+PAST_LIMIT = 5
 OUT_OF_MEMORY = b"cilk: out of memory\n"
 NO_WORKER = b"cilk: cannot start a worker\n"
 ENDINGS = re.compile(rb"(?s).*(?:main returned -?\d+|trapped \w+ in \S+ at \d+, line \d+|stuck after \d+ choices|limit after \d+ choices)\n")
@@ -19,6 +21,22 @@ ENDINGS = re.compile(rb"(?s).*(?:main returned -?\d+|trapped \w+ in \S+ at \d+, 
 FAULTY, TRAPPED, BAD = b"cilk int main(void) { return 08; }", "overflow", b"cilklog 1\nworkers 1\n1 pop\nend 1\n"
 # What a session asks where a program has none of its own.
 SESSION = b"list\nwhere\nbreak 1\nnext\nframe /\nglobals\ngo %d\ntree\ndeques\noutput\nprev\nback\nstep\nclear 1\nframe /9\nfrob\n"
+# What an editor asks behind a launch, with the arguments.
+REQUESTS = (
+    ("setBreakpoints", {"source": {"sourceReference": 1}, "breakpoints": [{"line": 3}, {"line": 5}]}),
+    ("setDataBreakpoints", {"breakpoints": [{"dataId": "total"}]}),
+    ("configurationDone", {}),
+    ("continue", {"threadId": 1}),
+    ("threads", {}),
+    ("stackTrace", {"threadId": 1}),
+    ("variables", {"variablesReference": 1}),
+    ("evaluate", {"expression": "tree", "context": "repl"}),
+    ("stepIn", {"threadId": 1}),
+    ("reverseContinue", {"threadId": 1}),
+    ("source", {"sourceReference": 1}),
+    ("pause", {"threadId": 1}),
+    ("disconnect", {}),
+)
 
 
 @dataclasses.dataclass
@@ -51,7 +69,7 @@ class Asked:
         return self.plain is not None and answer == self.plain
 
     def lacks_memory(self, answer):
-        """Whether an answer says that memory has run out, and nothing else: of a session, behind what it has answered before."""
+        """Whether an answer says that memory has run out, and nothing else: of a session or an editor, behind what was answered before."""
         return answer[0] == 6 and answer[2] == OUT_OF_MEMORY and answer[1] in self.fronts
 
     def lacks_worker(self, answer):
@@ -90,8 +108,28 @@ def session_of(name, count):
         return it.read()
 
 
-def asked_of(binary, name, limit, folder, workers=4, recorded=None):
-    """Returns each subcommand on a program, which is copied into the folder with its log: that of a run of so many choices as are to be recorded."""
+def requests_of(name, log):
+    """Returns what an editor sends that steps this log."""
+    asked = [("initialize", {}), ("launch", {"program": f"{name}.cilk", "log": log}), *REQUESTS]
+    bodies = [json.dumps({"seq": at, "type": "request", "command": asked[at][0], "arguments": asked[at][1]}).encode() for at in range(len(asked))]
+    return b"".join(b"Content-Length: %d\r\n\r\n" % len(body) + body for body in bodies)
+
+
+def fronts_of(messages):
+    """Returns the fronts of messages that end where one does."""
+    fronts, at = {b""}, 0
+    while at < len(messages):
+        body = messages.index(b"\r\n\r\n", at) + 4
+        at = body + int(messages[at:body].split()[1])
+        fronts.add(messages[:at])
+    return fronts
+
+
+def asked_of(binary, name, limit, folder, workers=4, recorded=None, longest=None):
+    """Returns each subcommand on a program, which is copied into the folder with its log: that of a run of so many choices as are to be recorded.
+
+    Where a run has more choices than the longest that is looked at whole, `measure` and `races` are asked of the log alone.
+    """
     with open(f"{TOP}/programs/{name}.cilk", "rb") as it:
         text = it.read()
     with open(f"{folder}/{name}.cilk", "wb") as to:
@@ -102,18 +140,25 @@ def asked_of(binary, name, limit, folder, workers=4, recorded=None):
     forms = [(["check", f"{name}.cilk"], b""), (["check", "-"], text), (["print", f"{name}.cilk"], b""), (run, b""), ([*run, "--log", "written"], b"")]
     forms += [([*run, "--workers", str(workers)], b"")] * (workers > 1) + [(["replay", f"{name}.cilk", log], b""), (["debug", f"{name}.cilk", log], session)]
     seeded = [*run, "--workers", "2", "--seed", "7"]
-    forms += [(seeded, b""), ([*seeded, "--runs", "3"], b""), (["measure", f"{name}.cilk"], b""), (["measure", f"{name}.cilk", log], b"")]
-    forms += [(["explore", f"{name}.cilk", "--limit", "200"], b""), (["races", f"{name}.cilk"], b""), (["races", f"{name}.cilk", log], b"")]
+    forms += [(seeded, b""), ([*seeded, "--runs", "3"], b""), (["measure", f"{name}.cilk", log], b"")]
+    forms += [(["explore", f"{name}.cilk", "--limit", "200"], b""), (["races", f"{name}.cilk", log], b"")]
+    if longest is None or ran([binary, "run", f"{name}.cilk", "--limit", str(longest)], b"", folder)[0] != PAST_LIMIT:
+        forms += [(["measure", f"{name}.cilk"], b""), (["races", f"{name}.cilk"], b"")]
+    drawn = ["draw", f"{name}.cilk", log, "--to", "20"]
+    forms += [(drawn, b""), ([*drawn, "--text"], b"")]
+    forms += [(["dap"], requests_of(name, log))]
     return [asked_by(binary, name, words, given, folder) for words, given in forms]
 
 
 def asked_by(binary, name, words, given, folder):
     """Returns a command line with the answer that it gives where nothing fails."""
-    fronts = {b""}
+    fronts, answer = {b""}, ran([binary, *words], given, folder)
     if words[0] == "debug":
         lines = given.splitlines(keepends=True)
         fronts = {ran([binary, *words], b"".join(lines[:at]), folder)[1] for at in range(len(lines) + 1)}
-    return Asked(f"{name}: {' '.join(words)}", words, given, ran([binary, *words], given, folder), fronts)
+    if words[0] == "dap":
+        fronts = fronts_of(answer[1])
+    return Asked(f"{name}: {' '.join(words)}", words, given, answer, fronts)
 
 
 def logs_in(folder):

@@ -90,7 +90,7 @@ fn begun(alloc: Global, program: &Loaded, workers: u8, limit: u32) -> Result<Exp
     // Brings their clauses into the proof.
     let _log = walker.log();
     let _other = probe.log();
-    let store = match Store::new(alloc, walker.digest()) {
+    let store = match Store::new(alloc, walker.tag()) {
         Ok(store) => store,
         Err(memory) => {
             drop(walker);

@@ -14,6 +14,7 @@ mod marking;
 mod node;
 mod probe;
 mod store;
+mod tag;
 mod told;
 mod unending;
 mod walker;

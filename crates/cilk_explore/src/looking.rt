@@ -15,7 +15,7 @@ use crate::comparing::{go_to, known};
 use crate::endings::tell;
 use crate::explorer::Explorer;
 use crate::walker::Walker;
-use cilk_machine::{Act, Choice, Memory};
+use cilk_machine::{Act, Choice, Memory, Touched};
 
 // Of no more choices the first way is kept. It changes workers seldom, and logs so short are read.
 const KEPT_AS_FOUND: usize = 250;
@@ -214,10 +214,11 @@ fn try_choice(explorer: &mut Explorer, number: usize, choice: Choice) -> Result<
         explorer.old.walker.log (choice_of choice) }
     ensures full { result ≡ Ok false → explorer.new.limit ≤ length explorer.new.store }
 {
+    let touched = explorer.walker.touched(choice);
     match explorer.walker.make(choice) {
         Err(memory) => Err(memory),
         Ok(false) => Ok(true),
-        Ok(true) => match keep(explorer, number, choice) {
+        Ok(true) => match keep(explorer, number, choice, touched) {
             Err(memory) => Err(memory),
             Ok(kept) => match explorer.walker.back() {
                 Err(memory) => Err(memory),
@@ -245,7 +246,12 @@ fn link(explorer: &mut Explorer, kept: Option<usize>) -> Result<bool, Memory>
 
 // Keeps where the walker stands, which is one choice behind the log of this number, if that is new, and tells which log leads there. None where there is
 // no room.
-fn keep(explorer: &mut Explorer, number: usize, choice: Choice) -> Result<Option<usize>, Memory>
+fn keep(
+    explorer: &mut Explorer,
+    number: usize,
+    choice: Choice,
+    touched: Touched,
+) -> Result<Option<usize>, Memory>
     requires { IsBehind explorer.old number (choice_of choice) }
     ensures keeps { OnOk result (KeepsAs explorer.old explorer.new) }
     ensures links { explorer.new.links ≡ explorer.old.links }
@@ -254,16 +260,18 @@ fn keep(explorer: &mut Explorer, number: usize, choice: Choice) -> Result<Option
 {
     // Brings its clauses into the proof.
     let _log = explorer.walker.log();
-    let digest = explorer.walker.digest();
+    let tag = explorer
+        .walker
+        .tag_behind(touched, explorer.store.mixed_of(number));
     match known(
-        digest,
+        tag.digest,
         &explorer.walker,
         &mut explorer.probe,
         &explorer.store,
         &mut explorer.tail,
     ) {
         Err(memory) => Err(memory),
-        Ok(Some(found)) => match lead_otherwise(explorer, number, choice, digest) {
+        Ok(Some(found)) => match lead_otherwise(explorer, number, choice, tag.digest) {
             Err(memory) => Err(memory),
             Ok(()) => Ok(Some(found)),
         },
@@ -272,7 +280,7 @@ fn keep(explorer: &mut Explorer, number: usize, choice: Choice) -> Result<Option
             if explorer.limit <= own {
                 return Ok(None);
             }
-            match explorer.store.push(number, choice, digest) {
+            match explorer.store.push(number, choice, tag) {
                 Err(memory) => Err(memory),
                 Ok(()) => Ok(Some(own)),
             }

@@ -12,6 +12,8 @@ pub(crate) struct Node {
     pub before: u32,
     /// The last choice of the log. That of the first node is none.
     pub choice: Choice,
+    /// What all that lives behind the log comes to, as a number (`Tag`).
+    pub mixed: u32,
 }
 
 const _: () = prove!(size_of::<Node>() <= 16);

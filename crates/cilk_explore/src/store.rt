@@ -5,6 +5,7 @@ ghost use Rattle.cilk_machine.specs.choices.Words.{choice_of};
 ghost use Rattle.cilk_explore.specs.Looking.{IsLongerBy, IsWay};
 
 use crate::node::Node;
+use crate::tag::Tag;
 use cilk_machine::{Act, Choice, Memory};
 use std::alloc::{AllocError, Global};
 use std::collections::HashMap;
@@ -33,8 +34,8 @@ impl Model for Store {
 }
 
 impl Store {
-    /// The log without choices alone, which leads to a standing of this digest.
-    pub fn new(alloc: Global, digest: u64) -> Result<Store, Memory>
+    /// The log without choices alone, which leads to a standing of this tag.
+    pub fn new(alloc: Global, tag: Tag) -> Result<Store, Memory>
         ensures { IfOk result (λ s. s ≡ [] ∷ []) }
     {
         let mut nodes = Vec::new(alloc);
@@ -46,8 +47,9 @@ impl Store {
                 worker: 0,
                 act: Act::Step,
             },
+            mixed: tag.mixed,
         };
-        latest.insert(digest, 0)?;
+        latest.insert(tag.digest, 0)?;
         nodes.push(first)?;
         Ok(Store {
             nodes,
@@ -105,8 +107,8 @@ impl Store {
         Ok(back)
     }
 
-    /// One log more: that of this number, and a choice. It leads to a standing of this digest.
-    pub fn push(&mut self, parent: usize, choice: Choice, digest: u64) -> Result<(), Memory>
+    /// One log more: that of this number, and a choice. It leads to a standing of this tag.
+    pub fn push(&mut self, parent: usize, choice: Choice, tag: Tag) -> Result<(), Memory>
         requires { parent < length self.old }
         ensures more { OnOk result (self.new ≡ self.old ++ (slice_index_or self.old parent [] ++ choice_of choice ∷ []) ∷ []) }
         ensures same { OnErr result (self.new ≡ self.old) }
@@ -120,14 +122,15 @@ impl Store {
         }
         let own = number as u32;
         let above = parent as u32;
-        let before = self.latest.get(&digest).copied().unwrap_or(own);
-        if self.latest.insert(digest, own).is_err() {
+        let before = self.latest.get(&tag.digest).copied().unwrap_or(own);
+        if self.latest.insert(tag.digest, own).is_err() {
             return Err(Memory::from(AllocError));
         }
         self.nodes.push_reserved(Node {
             parent: above,
             before,
             choice,
+            mixed: tag.mixed,
         });
         self.last_parent = self.last_parent.max(above);
         Ok(())
@@ -150,9 +153,18 @@ impl Store {
             parent: above,
             before: old.before,
             choice,
+            mixed: old.mixed,
         };
         self.last_parent = self.last_parent.max(above);
         Some(old.parent as usize)
+    }
+
+    /// What all that lives behind the log of this number comes to.
+    pub fn mixed_of(&self, number: usize) -> u32 {
+        match self.nodes.get(number) {
+            None => 0,
+            Some(node) => node.mixed,
+        }
     }
 
     /// The last log that leads to a standing of this digest.

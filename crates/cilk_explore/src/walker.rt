@@ -11,7 +11,8 @@ ghost use Rattle.cilk_explore.specs.explore.OrMore.{IsIdle, HasIdle};
 ghost use Rattle.cilk_explore.specs.Walks.{position_of};
 ghost use Rattle.cilk_explore.specs.Telling.{EndsBy};
 
-use cilk_machine::{Choice, End, Loaded, Machine, MachineFault, Memory, Refusal};
+use crate::tag::Tag;
+use cilk_machine::{Choice, End, Loaded, Machine, MachineFault, Memory, Refusal, Touched};
 use std::alloc::{AllocError, Global};
 use std::marker::Model;
 
@@ -195,9 +196,26 @@ impl Walker {
         self.machine.is_idle(worker)
     }
 
-    /// A number that is the same where both stand at the same, but for the names of the workers. It promises nothing.
-    pub fn digest(&self) -> u64 {
-        self.machine.digest()
+    /// Numbers that are the same where both stand at the same, but for the names of the workers. They promise nothing.
+    pub fn tag(&self) -> Tag {
+        self.tag_by(self.machine.mixed())
+    }
+
+    fn tag_by(&self, mixed: u32) -> Tag {
+        Tag {
+            digest: self.machine.digest(mixed),
+            mixed,
+        }
+    }
+
+    /// What a choice touches, by which `tag_behind` finds the numbers behind it.
+    pub fn touched(&self, choice: Choice) -> Touched {
+        self.machine.touched(choice)
+    }
+
+    /// The same numbers, by what the last choice touched and what all that lives came to before it.
+    pub fn tag_behind(&self, touched: Touched, before: u32) -> Tag {
+        self.tag_by(self.machine.mixed_behind(touched, before))
     }
 
     /// How the program ends here, where no choice is possible, and None where one is.

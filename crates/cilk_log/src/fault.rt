@@ -4,7 +4,7 @@ use thiserror::Error;
 
 /// Why bytes are not the text of a recorded schedule: what is wrong first, from the top, or want of memory. A schedule has no text where it is
 /// too long, or memory runs out. What `Display` writes is for who uses this crate, and no clause speaks of it: the program's lines are those of
-/// `tell_log` of `cilk_program`.
+/// `tell_log` of `cilk_program_runs`.
 #[derive(Clone, Copy, Debug, PartialEq, Eq, Error)]
 pub enum LogFault {
     /// The first line names no version that is known.

@@ -1,12 +1,11 @@
 //! Whether the parts of two machines but hands and deques tell the same, where instances go by their paths; and numbers that tell parts apart.
 
-ghost use Rattle.std.specs.Prelude.{◌≡◌, true, map, length};
+ghost use Rattle.std.specs.Prelude.{◌≡◌, true, map};
 ghost use Rattle.cilk_machine_undo.specs.spawn.Nodes.{path_at};
 ghost use Rattle.cilk_machine_undo.specs.agree.Outside.{lock_by};
-ghost use Rattle.cilk_machine_choices.specs.model.Hands.{IsWorker};
 
 use cilk_machine_choices::Outcome;
-use cilk_machine_undo::{Hands, Id, Lock, Mixer, Tree};
+use cilk_machine_undo::{Frame, Lock, Mixer, Tree};
 
 /// Whether the locks are the same.
 pub(crate) fn are_same_locks(locks: &[Lock], tree: &Tree, others: &[Lock], other: &Tree) -> bool
@@ -73,48 +72,25 @@ pub(crate) fn is_same_output(bytes: &[u8], others: &[u8]) -> bool
     bytes == others
 }
 
-/// The hands and deques enter a number that tells states apart, whatever the names of the workers are.
-pub(crate) fn mix_hands(hands: &Hands, tree: &Tree, workers: u8, mixer: &mut Mixer)
-    requires { workers ≡ length hands.now }
-{
-    let mut sum = 0u64;
-    for k in 0..workers {
-        sum = sum.wrapping_add(mixed_place(hands, tree, k + 1));
-    }
-    mixer.put(sum);
+/// A frame in a hand as a number that tells apart whose it is and where it goes on.
+pub(crate) fn mixed_in_hand(frame: &Frame, tree: &Tree) -> u64 {
+    mixed_at(1, frame, tree)
 }
 
-// What one worker has, as a number.
-fn mixed_place(hands: &Hands, tree: &Tree, worker: u8) -> u64
-    requires { IsWorker hands.now worker }
-{
-    let mut mixer = Mixer::new();
-    let count = hands.len(worker);
-    mixer.put(count as u64);
-    let mut near = Id::new(0);
-    let mut path: u64 = 0;
-    for i in 0..count {
-        match hands.queued(worker, i) {
-            None => {}
-            Some(frame) => {
-                path = tree.mixed_path_by(frame.id(), near, path);
-                near = frame.id();
-                mixer.put(path);
-                frame.mix(&mut mixer);
-            }
-        }
-    }
-    match hands.hand(worker) {
-        None => mixer.put(0),
-        Some(frame) => {
-            mixer.put(tree.mixed_path_by(frame.id(), near, path));
-            frame.mix(&mut mixer);
-        }
-    }
-    mixer.mixed()
+/// The same of a frame in a deque.
+pub(crate) fn mixed_in_deque(frame: &Frame, tree: &Tree) -> u64 {
+    mixed_at(2, frame, tree)
 }
 
-/// So do the locks.
+fn mixed_at(place: u64, frame: &Frame, tree: &Tree) -> u64 {
+    let mut own = Mixer::new();
+    own.put(place);
+    own.put(tree.mixed_path(frame.id()));
+    frame.mix(&mut own);
+    own.mixed()
+}
+
+/// The locks enter a number that tells states apart.
 pub(crate) fn mix_locks(locks: &[Lock], tree: &Tree, mixer: &mut Mixer) {
     for lock in locks {
         match lock {

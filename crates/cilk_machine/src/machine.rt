@@ -17,6 +17,7 @@ ghost use Rattle.cilk_machine.specs.Globals.{global_of};
 
 mod ahead;
 mod comparing;
+mod digesting;
 mod idling;
 mod imaging;
 mod looking;

@@ -3,7 +3,7 @@
 use thiserror::Error;
 
 /// Why a choice was not made: the first reason that applies, and want of memory last. `Stale` is none of a choice, but of what was seen beforehand.
-/// What `Display` writes is for who uses this crate, and no clause speaks of it: the program writes the code alone, by `code_of` of `cilk_program`.
+/// What `Display` writes is for who uses this crate, and no clause speaks of it: the program writes the code alone, by `code_of` of `cilk_program_runs`.
 #[derive(Clone, Copy, Debug, PartialEq, Eq, Error)]
 pub enum Refusal {
     /// The program has ended.

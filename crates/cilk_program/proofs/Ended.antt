@@ -1,69 +1,27 @@
 -- How the program ends where there is no answer.
-use Rattle.std.proofs.Common.{◌≡◌, ◌⊎◌, ◌∙◌, inl, inr, refl, subst, sym, ℕ, Bool, true, false, List, [], Option, Some, None, IfSome, Bor, option_map, unwrap_or}
+use Rattle.std.proofs.Common.{◌≡◌, ◌⊎◌, ◌∙◌, inl, inr, refl, subst, sym, ℕ, Bool, true, false, List, [], Option, Some, None, IfSome}
 use Rattle.std.specs.Prelude.{◌≢◌}
 use Rattle.cilk_commands.specs.Loading.{Unready}
 use Rattle.cilk_commands.specs.Status.{is_answer, status_of}
-use Rattle.cilk_commands.specs.Telling.{IsExplanation, WritesFailure as TellsLine}
-use Rattle.cilk_commands.proofs.WholeText.{nothing_read, some_read}
+use Rattle.cilk_commands.specs.Telling.{WritesFailure as TellsLine}
+use Rattle.cilk_commands.proofs.WholeText.{nothing_read}
 use Rattle.cilk_commands.specs.declared.failure.Failure.{Failure}
 use Rattle.cilk_commands.specs.declared.failure.Failure.TheVariants as failure
 use Rattle.cilk_commands.specs.declared.status.Status.{Status}
 use Rattle.cilk_commands.specs.declared.status.Status.TheVariants as ended
-use Rattle.cilk_program.specs.GivingUp.{GivesUp, GivesUpRun, NoProgram}
-use Rattle.cilk_program.proofs.Whole.{any_held}
-use Rattle.cilk_program.specs.Taped.{Declines}
-use Rattle.cilk_program.specs.declared.failure.RecordFailure.{RecordFailure}
-use Rattle.cilk_program.specs.declared.failure.RecordFailure.TheVariants as why
-use Rattle.cilk_words.specs.CommandLine.{Asked, Wanted, printed, checked, run, explored, replayed, measured, raced, debugged, asked}
+use Rattle.cilk_program_runs.specs.Picturing.{DeclinesToDraw}
+use Rattle.cilk_program_runs.specs.Taped.{Declines}
+use Rattle.cilk_program_runs.specs.declared.failure.RecordFailure.TheVariants as why
+use Rattle.cilk_words.specs.CommandLine.{Asked, Wanted, printed, checked, run, explored, replayed, measured, raced, pictured, debugged, served, asked}
 use Rattle.cilk_words.specs.Refusing.{IsNoRequest, asks_for_help, asks_for_version, asks_to_show}
 use Rattle.cilk_words.specs.declared.refusal.NoRequest.{NoRequest}
 use Rattle.cilk_words.specs.declared.refusal.NoRequest.TheVariants as refusal
 use Rattle.cilk_program.specs.Ends.{Ends, Shows}
-use Rattle.cilk_program.specs.Task.{Fails, Leaves, log_name}
-
--- the name by which a log is told of
-pub name_told : (log : Option (Bor (List ℕ))) (none : Bor (List ℕ)) → none.now ≡ [] → (unwrap_or log none).now ≡ log_name (option_map (λ it. it.now) log)
-name_told None none empty = empty
-name_told (Some name) none empty = refl
+use Rattle.cilk_program_runs.specs.AsAsked.{log_name}
+use Rattle.cilk_program_runs.proofs.NotRead.{no_program, no_run}
+use Rattle.cilk_program.specs.Task.{Fails, Leaves}
 
 -- ---- a text that was not read
-
-nothing_said : (explain : Bool) (text : List ℕ) (found : Failure) → status_of found ≢ ended.Refused → IsExplanation explain text found []
-nothing_said true text (failure.Fault fault line column) other = inl refl
-nothing_said false text (failure.Fault fault line column) other = refl
-nothing_said true text failure.NotUtf8 other = refl
-nothing_said false text failure.NotUtf8 other = refl
-nothing_said true text failure.TooMany other = refl
-nothing_said false text failure.TooMany other = refl
-nothing_said true text failure.CannotRead other = refl
-nothing_said false text failure.CannotRead other = refl
-nothing_said true text failure.Memory other = refl
-nothing_said false text failure.Memory other = refl
-nothing_said true text failure.CannotWrite other = refl
-nothing_said false text failure.CannotWrite other = refl
-
--- with a log
-pub no_program : (Reason : List ℕ → List ℕ → RecordFailure → Type 0) (explain : Bool) (name log : List ℕ) (status : Status)
-    (known held old new : Option (List ℕ))
-    (found : Failure) → status_of found ≢ ended.Refused → status ≡ status_of found → TellsLine name found [] old new
-    → GivesUp Reason explain name log status known held old new
-no_program Reason explain name log status known held old new found other is told = record {
-  why = why.Program found;
-  status_is = is;
-  declined = λ refused. absurd (other (sym is ∙ refused));
-  follows = any_held known _ (λ t. tt);
-  behind = [];
-  explained = record { text = (some_read known).0; read = (some_read known).1; is = nothing_said explain (some_read known).0 found other };
-  told = told;
-}
-
--- of a run
-pub no_run : (workers : ℕ) (wanted explain : Bool) (name log : List ℕ) (status : Status) (known old new : Option (List ℕ))
-    (found : Failure) → status_of found ≢ ended.Refused → status ≡ status_of found → TellsLine name found [] old new
-    → GivesUpRun workers wanted explain name log status known old new
-unfolding no_program
-no_run workers wanted explain name log status known old new found other is told =
-    record { is = no_program NoProgram explain name log status known None old new found other is told; of_run = tt }
 
 pub unread : (wanted : Wanted) (explain : Bool) (name : List ℕ) (status : Status) (known : Option (List ℕ)) (held : List ℕ → Option (List ℕ))
     (old new : Option (List ℕ)) (found : Failure) → status_of found ≢ ended.Refused → status ≡ status_of found → TellsLine name found [] old new
@@ -84,8 +42,12 @@ unread (raced None) explain name status known held old new found other is told =
     nothing_read Unready explain name status known old new found other is told
 unread (raced (Some log)) explain name status known held old new found other is told =
     no_program Declines explain name log status known (held log) old new found other is told
+unread (pictured log from to in_lines) explain name status known held old new found other is told =
+    no_program DeclinesToDraw explain name log status known (held log) old new found other is told
 unread (debugged log) explain name status known held old new found other is told =
     no_program Declines explain name log status known (held log) old new found other is told
+unread served explain name status known held old new found other is told =
+    record { why = why.Program found; status_is = is; of_serving = tt; told = told }
 
 -- nothing was written
 pub leaves_nothing : (wanted : Wanted) (status : Status) (known : Option (List ℕ)) (held : List ℕ → Option (List ℕ)) (entered old new : Option (List ℕ))
@@ -97,12 +59,21 @@ leaves_nothing (explored workers limit logs) status known held entered old new o
 leaves_nothing (replayed log) status known held entered old new other same = λ bad. absurd (other bad)
 leaves_nothing (measured log) status known held entered old new other same = λ bad. absurd (other bad)
 leaves_nothing (raced log) status known held entered old new other same = λ bad. absurd (other bad)
+leaves_nothing (pictured log from to in_lines) status known held entered old new other same = λ bad. absurd (other bad)
 leaves_nothing (debugged log) status known held entered old new other same = (λ bad. absurd (other bad), λ not. inl same)
+leaves_nothing served status known held entered old new other same = tt
 
 -- memory that ran out before a text was opened: the line has no name
 memory_of : (wanted : Wanted) (explain : Bool) (name : List ℕ) (known : Option (List ℕ)) (held : List ℕ → Option (List ℕ)) (old new : Option (List ℕ))
     → TellsLine [] failure.Memory [] old new → Fails known held old new wanted explain name ended.Memory
 memory_of wanted explain name known held old new told = unread wanted explain name ended.Memory known held old new failure.Memory (λ bad. cc) refl told
+
+-- of a refusal
+pub refused_no_answer : (status : Status) → status ≡ ended.Refused → is_answer status ≡ false
+refused_no_answer status is = rw is refl
+
+pub refused_writes : (status : Status) → status ≡ ended.Refused → status ≢ ended.CannotWrite
+refused_writes status is bad = let worse : ended.Refused ≡ ended.CannotWrite = sym is ∙ bad in cc
 
 is_memory_no_answer : (status : Status) → status ≡ ended.Memory → is_answer status ≡ false
 is_memory_no_answer status is = rw is refl

@@ -11,7 +11,7 @@ use Rattle.cilk_words.specs.CommandLine.{Asked, asked}
 use Rattle.cilk_words.specs.Refusing.{asks_for_help, asks_for_version, asks_to_show}
 use Rattle.cilk_words.specs.declared.refusal.NoRequest.{NoRequest}
 use Rattle.cilk_words.specs.declared.refusal.NoRequest.TheVariants as refusal
-use Rattle.cilk_program.specs.Saying.{ExplainsTrap, tells_trap}
+use Rattle.cilk_program_runs.specs.Saying.{ExplainsTrap, tells_trap}
 use Rattle.cilk_program.specs.Task.{Does, Fails, Leaves, is_session}
 
 -- what is to be shown was written whole, or the writer failed

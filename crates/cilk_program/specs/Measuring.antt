@@ -2,10 +2,10 @@
 use Rattle.std.specs.Prelude.{◌≡◌, ℕ, List}
 use Rattle.cilk_commands.specs.declared.status.Status.{Status}
 use Rattle.cilk_commands.specs.declared.status.Status.TheVariants.{Done}
-use Rattle.cilk_races.specs.measure.replay.Tape.{Tape}
-use Rattle.cilk_races.specs.measure.Gauged.{IsMeasureOf}
-use Rattle.cilk_races.specs.measure.Measure.{Measure}
-use Rattle.cilk_races.specs.measure.Text.{measure_text}
+use Rattle.cilk_races.specs.replay.Tape.{Tape}
+use Rattle.cilk_races.specs.Gauged.{IsMeasureOf}
+use Rattle.cilk_races.specs.Measure.{Measure}
+use Rattle.cilk_races.specs.Text.{measure_text}
 
 -- the text of the numbers of all choices of a tape
 pub record AreNumbers (tape : Tape) (answer : List ℕ) : Type 0 where

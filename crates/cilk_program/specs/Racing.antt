@@ -2,7 +2,7 @@
 use Rattle.std.specs.Prelude.{◌≡◌, ℕ, zero, suc, List}
 use Rattle.cilk_commands.specs.declared.status.Status.{Status}
 use Rattle.cilk_commands.specs.declared.status.Status.TheVariants.{Done, Several}
-use Rattle.cilk_races.specs.measure.replay.Tape.{Tape}
+use Rattle.cilk_races.specs.replay.Tape.{Tape}
 use Rattle.cilk_races.specs.RacesText.{IsRacesText}
 
 -- the status tells whether there is a race

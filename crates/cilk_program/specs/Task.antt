@@ -1,22 +1,22 @@
 -- What is to be written for what is wanted.
-use Rattle.std.specs.Prelude.{◌≡◌, ◌≢◌, ◌⊎◌, ℕ, Bool, true, false, List, [], Option, Some, None, is_some}
+use Rattle.std.specs.Prelude.{⊤, ◌≡◌, ◌≢◌, ◌⊎◌, Bool, true, false, ℕ, List, Option, is_some}
 use Rattle.cilk_commands.specs.Printing.{Prints, PrintsFront}
 use Rattle.cilk_commands.specs.Checking.{Passes, PassesFront}
 use Rattle.cilk_commands.specs.Loading.{Unready}
 use Rattle.cilk_commands.specs.Telling.{GivesUp}
 use Rattle.cilk_commands.specs.declared.status.Status.{Status}
 use Rattle.cilk_commands.specs.declared.status.Status.TheVariants.{CannotWrite, Done}
-use Rattle.cilk_program.specs.Debugging.{Debugs, DebugsFront, DebugsPart}
-use Rattle.cilk_program.specs.Exploring.{Explores, ExploresFront, GivesUpExploring}
-use Rattle.cilk_program.specs.GivingUp.{GivesUpRun, GivesUp as GivesUpOfLog}
+use Rattle.cilk_program_runs.specs.Debugging.{Debugs, DebugsFront, DebugsPart}
+use Rattle.cilk_program_runs.specs.AsAsked.{RunsAsAsked, RunsFrontAsAsked, ExploresSomewhere, ExploresFrontSomewhere, FailsOnTape, log_name}
+use Rattle.cilk_program_runs.specs.Exploring.{GivesUpExploring}
+use Rattle.cilk_program_runs.specs.GivingUp.{GivesUpRun, GivesUpServing, GivesUp as GivesUpOfLog}
 use Rattle.cilk_program.specs.Measuring.{IsMeasured}
-use Rattle.cilk_program.specs.OnTapes.{IsOfRun, TellsAsAsked, TellsFrontAsAsked}
+use Rattle.cilk_program_runs.specs.OnTapes.{IsOfRun, TellsAsAsked, TellsFrontAsAsked}
+use Rattle.cilk_program_runs.specs.Picturing.{DeclinesToDraw, Depicts, DepictsFront}
 use Rattle.cilk_program.specs.Racing.{AreRaces}
-use Rattle.cilk_program.specs.Replaying.{Replays, ReplaysFront}
-use Rattle.cilk_program.specs.Running.{Runs, RunsFront}
-use Rattle.cilk_program.specs.Tallying.{Tallies, TalliesFront}
-use Rattle.cilk_program.specs.Taped.{Declines}
-use Rattle.cilk_words.specs.CommandLine.{Wanted, printed, checked, run, explored, replayed, measured, raced, debugged}
+use Rattle.cilk_program_runs.specs.Replaying.{Replays, ReplaysFront}
+use Rattle.cilk_program_runs.specs.Taped.{Declines}
+use Rattle.cilk_words.specs.CommandLine.{Wanted, printed, checked, run, explored, replayed, measured, raced, pictured, debugged, served}
 
 -- commands are to be answered
 abbrev pub is_session : Wanted → Bool
@@ -27,50 +27,9 @@ is_session (explored workers limit logs) = false
 is_session (replayed log) = false
 is_session (measured log) = false
 is_session (raced log) = false
+is_session (pictured log from to in_lines) = false
 is_session (debugged log) = true
-
--- a run, with some store for its log, whose bytes may be known
-pub record RunsSomewhere (workers limit : ℕ) (seed : Option ℕ) (status : Status) (known old new : Option (List ℕ)) : Type 0 where
-  pub stored_old : Option (List ℕ)
-  pub stored_new : Option (List ℕ)
-  pub is : Runs workers limit seed status known stored_old stored_new old new
-
-pub record RunsFrontSomewhere (workers limit : ℕ) (seed : Option ℕ) (known old new : Option (List ℕ)) : Type 0 where
-  pub stored_old : Option (List ℕ)
-  pub stored_new : Option (List ℕ)
-  pub is : RunsFront workers limit seed known stored_old stored_new old new
-
--- of several seeds it is a tally
-abbrev pub RunsAsAsked : ℕ → ℕ → Option ℕ → Option ℕ → Status → Option (List ℕ) → Option (List ℕ) → Option (List ℕ) → Type 0
-RunsAsAsked workers limit seed None status known old new = RunsSomewhere workers limit seed status known old new
-RunsAsAsked workers limit None (Some runs) status known old new = RunsSomewhere workers limit None status known old new
-RunsAsAsked workers limit (Some seed) (Some runs) status known old new = (status ≡ Done) × Tallies workers limit seed runs known old new
-
-abbrev pub RunsFrontAsAsked : ℕ → ℕ → Option ℕ → Option ℕ → Option (List ℕ) → Option (List ℕ) → Option (List ℕ) → Type 0
-RunsFrontAsAsked workers limit seed None known old new = RunsFrontSomewhere workers limit seed known old new
-RunsFrontAsAsked workers limit None (Some runs) known old new = RunsFrontSomewhere workers limit None known old new
-RunsFrontAsAsked workers limit (Some seed) (Some runs) known old new = TalliesFront workers limit seed runs known old new
-
--- an exploration, with some folder for its logs, whose bytes may be known
-pub record ExploresSomewhere (workers limit : ℕ) (wanted : Bool) (status : Status) (known old new : Option (List ℕ)) : Type 0 where
-  pub stored : ℕ → Option (List ℕ)
-  pub is : Explores workers limit wanted status stored known old new
-
-pub record ExploresFrontSomewhere (workers limit : ℕ) (wanted : Bool) (known old new : Option (List ℕ)) : Type 0 where
-  pub status : Status
-  pub stored : ℕ → Option (List ℕ)
-  pub is : ExploresFront workers limit wanted status stored known old new
-
--- there is nothing to tell of a run, or of the log of a name
-abbrev pub FailsOnTape : Option (List ℕ) → Bool → List ℕ → Status → Option (List ℕ) → (List ℕ → Option (List ℕ)) → Option (List ℕ) → Option (List ℕ)
-    → Type 0
-FailsOnTape None explain name status known held old new = GivesUp Unready explain name status known old new
-FailsOnTape (Some log) explain name status known held old new = GivesUpOfLog Declines explain name log status known (held log) old new
-
--- the name by which a log is told of, where there is one
-abbrev pub log_name : Option (List ℕ) → List ℕ
-log_name None = []
-log_name (Some name) = name
+is_session served = true
 
 -- of the bytes that a reader held, those that names stand for and those that are entered, and of what a writer had and has
 module _ (known : Option (List ℕ)) (held : List ℕ → Option (List ℕ)) (entered old new : Option (List ℕ)) where
@@ -83,9 +42,12 @@ module _ (known : Option (List ℕ)) (held : List ℕ → Option (List ℕ)) (en
   Does (replayed log) status = Replays status known (held log) old new
   Does (measured log) status = TellsAsAsked (λ text ended answer. IsOfRun IsMeasured text ended answer) IsMeasured known held old new log status
   Does (raced log) status = TellsAsAsked (λ text ended answer. IsOfRun AreRaces text ended answer) AreRaces known held old new log status
+  Does (pictured log from to in_lines) status = (status ≡ Done) × Depicts known (held log) old new
   Does (debugged log) status = (status ≡ Done) × Debugs known (held log) entered old new
+  Does served status = status ≡ Done
 
-  -- or it has failed, and has gained at most the first bytes of that; of a session that breaks off otherwise whole answers
+  -- or it has failed, and has gained at most the first bytes of that; of a session that breaks off otherwise whole answers. Of what an editor is answered
+  -- nothing is said
   abbrev pub Leaves : Wanted → Status → Type 0
   Leaves printed status = status ≡ CannotWrite → PrintsFront known old new
   Leaves checked status = status ≡ CannotWrite → PassesFront known old new
@@ -96,8 +58,10 @@ module _ (known : Option (List ℕ)) (held : List ℕ → Option (List ℕ)) (en
       status ≡ CannotWrite → TellsFrontAsAsked (λ text ended answer. IsOfRun IsMeasured text ended answer) IsMeasured known held old new log
   Leaves (raced log) status =
       status ≡ CannotWrite → TellsFrontAsAsked (λ text ended answer. IsOfRun AreRaces text ended answer) AreRaces known held old new log
+  Leaves (pictured log from to in_lines) status = status ≡ CannotWrite → DepictsFront known (held log) old new
   Leaves (debugged log) status =
       (status ≡ CannotWrite → DebugsFront known (held log) entered old new) × (status ≢ CannotWrite → (new ≡ old) ⊎ DebugsPart known (held log) entered old new)
+  Leaves served status = ⊤
 
 -- and another writer is told why, with the names of the text and of the log
 module _ (known : Option (List ℕ)) (held : List ℕ → Option (List ℕ)) (old new : Option (List ℕ)) where
@@ -109,4 +73,6 @@ module _ (known : Option (List ℕ)) (held : List ℕ → Option (List ℕ)) (ol
   Fails (replayed log) explain name status = GivesUpOfLog Declines explain name log status known (held log) old new
   Fails (measured log) explain name status = FailsOnTape log explain name status known held old new
   Fails (raced log) explain name status = FailsOnTape log explain name status known held old new
+  Fails (pictured log from to in_lines) explain name status = GivesUpOfLog DeclinesToDraw explain name log status known (held log) old new
   Fails (debugged log) explain name status = GivesUpOfLog Declines explain name log status known (held log) old new
+  Fails served explain name status = GivesUpServing name status old new

@@ -5,14 +5,13 @@ ghost use Rattle.cilk_commands.specs.Telling.{WritesFailure};
 ghost use Rattle.cilk_commands.specs.Status.{is_answer};
 ghost use Rattle.cilk_words.specs.CommandLine.{texts_of, wanted_by};
 ghost use Rattle.cilk_program.specs.Ends.{Ends, IsShown, Shows, explains_trap, opens_session};
-ghost use Rattle.cilk_program.specs.Saying.{ExplainsTrap, tells_trap};
+ghost use Rattle.cilk_program_runs.specs.Saying.{ExplainsTrap, tells_trap};
 ghost use Rattle.cilk_program.specs.Task.{Does, Fails, Leaves, is_session};
 
-use crate::streams::Streams;
 use crate::task::perform;
-use crate::texts::Texts;
 use cilk_commands::{Failure, Status};
-use cilk_words::{NoRequest, Request, request_in};
+use cilk_program_runs::{Streams, Texts, dap_text};
+use cilk_words::{NoRequest, Request, Task, request_in};
 use std::alloc::Global;
 use std::io::Write;
 use std::sync::Wait;
@@ -34,8 +33,38 @@ pub fn dispatch<H: Threads + Wait + Sync, T: Texts, O: Write, E: Write>(
     ensures unanswered { result ≡ Status.Refused → streams.new.output ≡ streams.old.output }
 {
     match request_in(alloc, words) {
-        Ok(request) => open_and_perform(rt, alloc, &request, texts, streams),
+        Ok(request) => serve_or_open(rt, alloc, &request, texts, streams),
         Err(refusal) => tell(&refusal, streams),
+    }
+}
+
+// Does what is asked for: an editor is answered, which names its texts later; and for all else the text of the program is opened.
+fn serve_or_open<H: Threads + Wait + Sync, T: Texts, O: Write, E: Write>(
+    rt: &H,
+    alloc: Global,
+    request: &Request<'_>,
+    texts: &T,
+    streams: &mut Streams<O, E>,
+) -> Status
+    ensures done { is_answer result ≡ true → Does (T.held texts.now request.now.name.now) (T.held texts.now) (T.entered texts.now)
+        (O.contents streams.old.output) (O.contents streams.new.output) (wanted_by request.now.task) result }
+    ensures told { is_answer result ≡ false → Fails (T.held texts.now request.now.name.now) (T.held texts.now)
+        (E.contents streams.old.errors) (E.contents streams.new.errors) (wanted_by request.now.task)
+        request.now.explain request.now.name.now result }
+    ensures begun { is_answer result ≡ false → Leaves (T.held texts.now request.now.name.now) (T.held texts.now) (T.entered texts.now)
+        (O.contents streams.old.output) (O.contents streams.new.output) (wanted_by request.now.task) result }
+    ensures usage { result ≢ Status.Usage }
+    ensures explained { tells_trap request.now.explain result ≡ true → ExplainsTrap request.now.name.now
+        (T.held texts.now request.now.name.now) (O.contents streams.old.output) (O.contents streams.new.output)
+        (E.contents streams.old.errors) (E.contents streams.new.errors) }
+    ensures quiet { is_answer result ≡ true → tells_trap request.now.explain result ≡ false → streams.new.errors ≡ streams.old.errors }
+    ensures kept { is_session (wanted_by request.now.task) ≡ false
+        → is_answer result ≡ false → result ≢ Status.CannotWrite → streams.new.output ≡ streams.old.output }
+    ensures unanswered { result ≡ Status.Refused → streams.new.output ≡ streams.old.output }
+{
+    match request.task {
+        Task::Serve => dap_text(alloc, request.name, texts, streams),
+        _ => open_and_perform(rt, alloc, request, texts, streams),
     }
 }
 

@@ -8,9 +8,8 @@ ghost use Rattle.cilk_words.specs.CommandLine.{texts_of};
 ghost use Rattle.cilk_program.specs.Ends.{Ends, explains_trap, opens_session, without_words};
 
 use crate::dispatch::dispatch;
-use crate::streams::Streams;
-use crate::texts::Texts;
 use cilk_commands::{Failure, Status};
+use cilk_program_runs::{Streams, Texts};
 use std::alloc::Global;
 use std::io;
 use std::io::{ErrorKind, Write};

@@ -2,15 +2,15 @@
 
 ghost use Rattle.std.specs.Prelude.{◌≡◌, true, IfErr, IfOk, string_bytes};
 ghost use Rattle.cilk_commands.specs.ProgramText.{program_text};
-ghost use Rattle.cilk_races.specs.measure.replay.ReplayFaults.{IsNamedFaultOf};
-ghost use Rattle.cilk_races.specs.measure.replay.Tape.{tape_of};
-ghost use Rattle.cilk_races.specs.measure.replay.log.Naming.{is_of};
-ghost use Rattle.cilk_races.specs.measure.Words.{numbers_of};
-ghost use Rattle.cilk_races.specs.measure.Text.{measure_text};
+ghost use Rattle.cilk_races.specs.replay.ReplayFaults.{IsNamedFaultOf};
+ghost use Rattle.cilk_races.specs.replay.Tape.{tape_of};
+ghost use Rattle.cilk_races.specs.replay.log.Naming.{is_of};
+ghost use Rattle.cilk_races.specs.Words.{numbers_of};
+ghost use Rattle.cilk_races.specs.Text.{measure_text};
 ghost use Rattle.cilk_program.specs.Measuring.{AreNumbers};
 
-use crate::tape_answer::{TapeAnswering, run_told};
 use cilk_commands::{Answered, Answering, Failure, Loaded, Status};
+use cilk_program_runs::{TapeAnswering, run_told};
 use cilk_races::{Log, Measure, Measured, Memory, ReplayFault, measure_all, put_measure};
 use std::alloc::Global;
 
@@ -35,7 +35,7 @@ impl TapeAnswering for Numbers {
 
 impl Answering for Numbers {
     ghost use Rattle.cilk_program.specs.Measuring.{IsMeasured};
-    ghost use Rattle.cilk_program.specs.OnTapes.{IsOfRun};
+    ghost use Rattle.cilk_program_runs.specs.OnTapes.{IsOfRun};
 
     ghost are = { λ text status answer. IsOfRun IsMeasured text status answer };
 

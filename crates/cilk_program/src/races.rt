@@ -4,8 +4,8 @@ ghost use Rattle.std.specs.Prelude.{◌≡◌, ◌≢◌, true, string_bytes};
 ghost use Rattle.cilk_commands.specs.Status.{is_answer};
 ghost use Rattle.cilk_program.specs.Racing.{status_of_races};
 
-use crate::tape_answer::{TapeAnswering, run_told};
 use cilk_commands::{Answered, Answering, Failure, Loaded, Status};
+use cilk_program_runs::{TapeAnswering, run_told};
 use cilk_races::{Log, ReplayFault, ToldRaces, races_of};
 use std::alloc::Global;
 
@@ -27,7 +27,7 @@ impl TapeAnswering for Races {
 
 impl Answering for Races {
     ghost use Rattle.cilk_program.specs.Racing.{AreRaces};
-    ghost use Rattle.cilk_program.specs.OnTapes.{IsOfRun};
+    ghost use Rattle.cilk_program_runs.specs.OnTapes.{IsOfRun};
 
     ghost are = { λ text status answer. IsOfRun AreRaces text status answer };
 

@@ -1,25 +1,19 @@
 //! From a task to the subcommand that does it, with the texts that it reads and the logs that it writes.
 
-ghost use Rattle.std.specs.Prelude.{◌≡◌, ◌≢◌, ◌⊎◌, true, false, is_some, option_map};
+ghost use Rattle.std.specs.Prelude.{◌≡◌, ◌≢◌, true, false};
 ghost use Rattle.cilk_commands.specs.Status.{is_answer};
 ghost use Rattle.cilk_words.specs.CommandLine.{wanted_by};
-ghost use Rattle.cilk_program.specs.Debugging.{Debugs, DebugsFront, DebugsPart};
-ghost use Rattle.cilk_program.specs.Exploring.{GivesUpExploring};
-ghost use Rattle.cilk_program.specs.GivingUp.{GivesUp, GivesUpRun};
-ghost use Rattle.cilk_program.specs.Replaying.{Replays, ReplaysFront};
-ghost use Rattle.cilk_program.specs.Saying.{ExplainsTrap, tells_trap};
-ghost use Rattle.cilk_program.specs.Taped.{Declines};
-ghost use Rattle.cilk_program.specs.OnTapes.{TellsAsAsked, TellsFrontAsAsked};
-ghost use Rattle.cilk_program.specs.Task.{Does, Fails, FailsOnTape, Leaves, is_session};
-ghost use Rattle.cilk_program.specs.Task.{ExploresFrontSomewhere, ExploresSomewhere};
-ghost use Rattle.cilk_program.specs.Task.{RunsAsAsked, RunsFrontAsAsked, RunsFrontSomewhere, RunsSomewhere, log_name};
+ghost use Rattle.cilk_program_runs.specs.Saying.{ExplainsTrap, tells_trap};
+ghost use Rattle.cilk_program.specs.Task.{Does, Fails, Leaves, is_session};
 
-use crate::texts::Texts;
-use crate::{
-    ExploreTask, FileNames, LogTask, Numbers, Races, RecordFailure, RunTask, Streams,
-    TapeAnswering, debug_text, explore_text, replay_text, run_text, tally_text, tape_log_text,
+use crate::marking::RaceMarks;
+use crate::measure::Numbers;
+use crate::races::Races;
+use cilk_commands::{Status, check_text, print_text};
+use cilk_program_runs::{
+    DrawTask, ExploreTask, FileNames, LogTask, RunTask, Streams, TapeTask, Texts, dap_text,
+    debug_named, draw_named, explore_named, replay_named, run_as_asked, tell_as_asked,
 };
-use cilk_commands::{Answering, Failure, Status, answer_text, check_text, print_text};
 use cilk_words::{Request, Task};
 use std::alloc::Global;
 use std::io::{Read, Write};
@@ -107,197 +101,41 @@ pub fn perform<H: Threads + Wait + Sync, T: Texts, R: Read, O: Write, E: Write>(
             replay_named(alloc, &task, texts, reader, streams)
         }
         Task::Measure { log } => {
-            tell_as_asked::<Numbers, T, R, O, E>(alloc, request, log, texts, reader, streams)
+            let task = TapeTask {
+                program: name,
+                log,
+                explain,
+            };
+            tell_as_asked::<Numbers, T, R, O, E>(alloc, &task, texts, reader, streams)
         }
         Task::Races { log } => {
-            tell_as_asked::<Races, T, R, O, E>(alloc, request, log, texts, reader, streams)
+            let task = TapeTask {
+                program: name,
+                log,
+                explain,
+            };
+            tell_as_asked::<Races, T, R, O, E>(alloc, &task, texts, reader, streams)
+        }
+        Task::Draw {
+            log,
+            from,
+            to,
+            in_lines,
+        } => {
+            let names = FileNames { program: name, log };
+            let task = DrawTask {
+                log: LogTask { names, explain },
+                from,
+                to,
+                in_lines,
+            };
+            draw_named::<RaceMarks, T, R, O, E>(alloc, &task, texts, reader, streams)
         }
         Task::Debug { log } => {
             let names = FileNames { program: name, log };
             let task = LogTask { names, explain };
             debug_named(alloc, &task, texts, reader, streams)
         }
+        Task::Serve => dap_text(alloc, name, texts, streams),
     }
-}
-
-// Runs the program that the reader holds, or makes so many runs of it, by its seed and the ones behind it.
-fn run_as_asked<H: Threads + Wait + Sync, T: Texts, R: Read, O: Write, E: Write>(
-    rt: &H,
-    alloc: Global,
-    task: &RunTask<'_>,
-    texts: &T,
-    reader: &mut R,
-    streams: &mut Streams<O, E>,
-) -> Status
-    ensures done { is_answer result ≡ true → RunsAsAsked task.now.workers task.now.limit task.now.seed task.now.runs result
-        (R.remaining reader.old) (O.contents streams.old.output) (O.contents streams.new.output) }
-    ensures told { is_answer result ≡ false
-        → GivesUpRun task.now.workers (is_some task.now.log) task.now.explain task.now.program.now (log_name (option_map (λ it. it.now) task.now.log)) result
-        (R.remaining reader.old) (E.contents streams.old.errors) (E.contents streams.new.errors) }
-    ensures begun { result ≡ Status.CannotWrite → RunsFrontAsAsked task.now.workers task.now.limit task.now.seed task.now.runs
-        (R.remaining reader.old) (O.contents streams.old.output) (O.contents streams.new.output) }
-    ensures usage { result ≢ Status.Usage }
-    ensures explained { tells_trap task.now.explain result ≡ true → ExplainsTrap task.now.program.now (R.remaining reader.old)
-        (O.contents streams.old.output) (O.contents streams.new.output) (E.contents streams.old.errors) (E.contents streams.new.errors) }
-    ensures quiet { is_answer result ≡ true → tells_trap task.now.explain result ≡ false → streams.new.errors ≡ streams.old.errors }
-    ensures kept { is_answer result ≡ false → result ≢ Status.CannotWrite → streams.new.output ≡ streams.old.output }
-{
-    match task.runs {
-        None => run_named(rt, alloc, task, texts, reader, streams),
-        Some(runs) => match task.seed {
-            // No words bring this: several runs without a seed are refused (`Clash::in_runs`).
-            None => run_named(rt, alloc, task, texts, reader, streams),
-            Some(seed) => tally_text(alloc, task, seed, runs, reader, streams),
-        },
-    }
-}
-
-// Runs the program that the reader holds, with a log where one is wanted.
-fn run_named<H: Threads + Wait + Sync, T: Texts, R: Read, O: Write, E: Write>(
-    rt: &H,
-    alloc: Global,
-    task: &RunTask<'_>,
-    texts: &T,
-    reader: &mut R,
-    streams: &mut Streams<O, E>,
-) -> Status
-    ensures done { is_answer result ≡ true → RunsSomewhere task.now.workers task.now.limit task.now.seed result
-        (R.remaining reader.old) (O.contents streams.old.output) (O.contents streams.new.output) }
-    ensures told { is_answer result ≡ false
-        → GivesUpRun task.now.workers (is_some task.now.log) task.now.explain task.now.program.now (log_name (option_map (λ it. it.now) task.now.log)) result
-        (R.remaining reader.old) (E.contents streams.old.errors) (E.contents streams.new.errors) }
-    ensures begun { result ≡ Status.CannotWrite → RunsFrontSomewhere task.now.workers task.now.limit task.now.seed
-        (R.remaining reader.old) (O.contents streams.old.output) (O.contents streams.new.output) }
-    ensures usage { result ≢ Status.Usage }
-    ensures explained { tells_trap task.now.explain result ≡ true → ExplainsTrap task.now.program.now (R.remaining reader.old)
-        (O.contents streams.old.output) (O.contents streams.new.output) (E.contents streams.old.errors) (E.contents streams.new.errors) }
-    ensures quiet { is_answer result ≡ true → tells_trap task.now.explain result ≡ false → streams.new.errors ≡ streams.old.errors }
-    ensures kept { is_answer result ≡ false → result ≢ Status.CannotWrite → streams.new.output ≡ streams.old.output }
-{
-    let Ok(mut store) = texts.log_store(alloc, task.program, task.log) else {
-        let failure = RecordFailure::Program(Failure::Memory);
-        return failure.report(&task.names(), &mut streams.errors);
-    };
-    run_text(rt, alloc, task, reader, &mut store, streams)
-}
-
-// Explores the program that the reader holds, with logs where they are wanted.
-fn explore_named<T: Texts, R: Read, O: Write, E: Write>(
-    alloc: Global,
-    task: &ExploreTask<'_>,
-    texts: &T,
-    reader: &mut R,
-    streams: &mut Streams<O, E>,
-) -> Status
-    ensures done { is_answer result ≡ true → ExploresSomewhere task.now.workers task.now.limit (is_some task.now.logs) result
-        (R.remaining reader.old) (O.contents streams.old.output) (O.contents streams.new.output) }
-    ensures untrapped { result ≢ Status.Trapped }
-    ensures told { is_answer result ≡ false
-        → GivesUpExploring (is_some task.now.logs) task.now.explain task.now.program.now (log_name (option_map (λ it. it.now) task.now.logs)) result
-        (R.remaining reader.old) (E.contents streams.old.errors) (E.contents streams.new.errors) }
-    ensures begun { result ≡ Status.CannotWrite → ExploresFrontSomewhere task.now.workers task.now.limit (is_some task.now.logs)
-        (R.remaining reader.old) (O.contents streams.old.output) (O.contents streams.new.output) }
-    ensures usage { result ≢ Status.Usage }
-    ensures quiet { is_answer result ≡ true → streams.new.errors ≡ streams.old.errors }
-    ensures kept { is_answer result ≡ false → result ≢ Status.CannotWrite → streams.new.output ≡ streams.old.output }
-{
-    let Ok(mut folder) = texts.log_folder(alloc, task.program, task.logs) else {
-        return Failure::Memory.report(task.program, &mut streams.errors);
-    };
-    explore_text(alloc, task, reader, &mut folder, streams)
-}
-
-// Replays a log, of the program that the reader holds.
-fn replay_named<T: Texts, R: Read, O: Write, E: Write>(
-    alloc: Global,
-    task: &LogTask<'_>,
-    texts: &T,
-    reader: &mut R,
-    streams: &mut Streams<O, E>,
-) -> Status
-    ensures done { is_answer result ≡ true → Replays result (R.remaining reader.old)
-        (T.held texts.now task.now.names.log.now) (O.contents streams.old.output) (O.contents streams.new.output) }
-    ensures told { is_answer result ≡ false
-        → GivesUp Declines task.now.explain task.now.names.program.now task.now.names.log.now result
-        (R.remaining reader.old) (T.held texts.now task.now.names.log.now) (E.contents streams.old.errors) (E.contents streams.new.errors) }
-    ensures begun { result ≡ Status.CannotWrite → ReplaysFront (R.remaining reader.old)
-        (T.held texts.now task.now.names.log.now) (O.contents streams.old.output) (O.contents streams.new.output) }
-    ensures usage { result ≢ Status.Usage }
-    ensures explained { tells_trap task.now.explain result ≡ true → ExplainsTrap task.now.names.program.now (R.remaining reader.old)
-        (O.contents streams.old.output) (O.contents streams.new.output) (E.contents streams.old.errors) (E.contents streams.new.errors) }
-    ensures quiet { is_answer result ≡ true → tells_trap task.now.explain result ≡ false → streams.new.errors ≡ streams.old.errors }
-    ensures kept { is_answer result ≡ false → result ≢ Status.CannotWrite → streams.new.output ≡ streams.old.output }
-{
-    replay_text(alloc, task, reader, texts.open(task.names.log), streams)
-}
-
-// Tells something of a run of the program that the reader holds: of a log, where one is named, or else of one by one worker.
-fn tell_as_asked<A: Answering + TapeAnswering, T: Texts, R: Read, O: Write, E: Write>(
-    alloc: Global,
-    request: &Request<'_>,
-    log: Option<&str>,
-    texts: &T,
-    reader: &mut R,
-    streams: &mut Streams<O, E>,
-) -> Status
-    ensures done { is_answer result ≡ true → TellsAsAsked A.are A.tells (R.remaining reader.old) (T.held texts.now)
-        (O.contents streams.old.output) (O.contents streams.new.output) (option_map (λ it. it.now) log.entry) result }
-    ensures untrapped { result ≢ Status.Trapped }
-    ensures told { is_answer result ≡ false → FailsOnTape (option_map (λ it. it.now) log.entry) request.now.explain request.now.name.now result
-        (R.remaining reader.old) (T.held texts.now) (E.contents streams.old.errors) (E.contents streams.new.errors) }
-    ensures begun { result ≡ Status.CannotWrite → TellsFrontAsAsked A.are A.tells (R.remaining reader.old) (T.held texts.now)
-        (O.contents streams.old.output) (O.contents streams.new.output) (option_map (λ it. it.now) log.entry) }
-    ensures usage { result ≢ Status.Usage }
-    ensures quiet { is_answer result ≡ true → streams.new.errors ≡ streams.old.errors }
-    ensures kept { is_answer result ≡ false → result ≢ Status.CannotWrite → streams.new.output ≡ streams.old.output }
-{
-    match log {
-        None => answer_text::<A, R, O, E>(
-            alloc,
-            request.name,
-            request.explain,
-            reader,
-            &mut streams.output,
-            &mut streams.errors,
-        ),
-        Some(log) => {
-            let names = FileNames {
-                program: request.name,
-                log,
-            };
-            let task = LogTask {
-                names,
-                explain: request.explain,
-            };
-            tape_log_text::<A, R, T::Reader, O, E>(alloc, &task, reader, texts.open(log), streams)
-        }
-    }
-}
-
-// Debugs a log, of the program that the reader holds.
-fn debug_named<T: Texts, R: Read, O: Write, E: Write>(
-    alloc: Global,
-    task: &LogTask<'_>,
-    texts: &T,
-    reader: &mut R,
-    streams: &mut Streams<O, E>,
-) -> Status
-    ensures done { result ≡ Status.Done → Debugs (R.remaining reader.old)
-        (T.held texts.now task.now.names.log.now) (T.entered texts.now) (O.contents streams.old.output) (O.contents streams.new.output) }
-    ensures told { is_answer result ≡ false
-        → GivesUp Declines task.now.explain task.now.names.program.now task.now.names.log.now result
-        (R.remaining reader.old) (T.held texts.now task.now.names.log.now) (E.contents streams.old.errors) (E.contents streams.new.errors) }
-    ensures begun { result ≡ Status.CannotWrite → DebugsFront (R.remaining reader.old)
-        (T.held texts.now task.now.names.log.now) (T.entered texts.now) (O.contents streams.old.output) (O.contents streams.new.output) }
-    ensures part { is_answer result ≡ false → result ≢ Status.CannotWrite → (streams.new.output ≡ streams.old.output)
-        ⊎ DebugsPart (R.remaining reader.old) (T.held texts.now task.now.names.log.now) (T.entered texts.now)
-        (O.contents streams.old.output) (O.contents streams.new.output) }
-    ensures usage { result ≢ Status.Usage }
-    ensures only { is_answer result ≡ true → result ≡ Status.Done }
-    ensures quiet { is_answer result ≡ true → streams.new.errors ≡ streams.old.errors }
-    ensures kept { result ≡ Status.Refused → streams.new.output ≡ streams.old.output }
-{
-    let mut commands = texts.commands();
-    let log = texts.open(task.names.log);
-    debug_text(alloc, task, reader, log, &mut commands, streams)
 }

@@ -4,22 +4,23 @@ use Rattle.std.proofs.Common.{length, take, refl, sym, ap, ◌∙◌, subst, ari
 use Rattle.std.proofs.lemmas.Bool.{cases_eq, cases_lt, ne_eqb, lt-ltb, false_from_ne_true, or_right}
 use Rattle.std.proofs.lemmas.List.{get_or_append_left, get_or_push, length_push, take-append-le}
 use Rattle.std.proofs.lemmas.List.Sums.{count_by-le-length}
-use Rattle.cilk_races.specs.measure.replay.machine.labelled.Labelled.{Labelled}
-use Rattle.cilk_races.specs.measure.replay.machine.model.Event.{Event, spawned}
-use Rattle.cilk_races.specs.measure.replay.machine.model.Path.{Path, same_path}
-use Rattle.cilk_races.specs.measure.Inside.{parent_path}
-use Rattle.cilk_races.proofs.measure_laws.replay_laws.machine_laws.spawn_laws.Paths.{same_is, same_self}
+use Rattle.cilk_log_replay.specs.machine.labelled.Labelled.{Labelled}
+use Rattle.cilk_log_replay.specs.machine.model.Event.{Event, spawned}
+use Rattle.cilk_log_replay.specs.machine.model.Path.{Path, same_path}
+use Rattle.cilk_races.specs.Inside.{parent_path}
+use Rattle.cilk_log_replay.proofs.machine_laws.spawn_laws.Paths.{same_is, same_self}
 use Rattle.cilk_races.specs.Kept.{is_birth, is_born}
 use Rattle.cilk_races.specs.Line.{Line, no_line}
-use Rattle.cilk_races.specs.Order.{bears, block_of, syncs_of}
+use Rattle.cilk_races.specs.Order.{bears, block_of, children_of, syncs_of}
 use Rattle.cilk_races.proofs.Pushed.{syncs-more, children-more, born-more, block-new}
-use Rattle.cilk_races.specs.Noted.{bore, bore_at, child_of, line_at}
+use Rattle.cilk_races.specs.Noted.{bore, bore_at, child_of, line_at, next}
 use Rattle.cilk_races.specs.Watched.{Along, IsUntold, TellsLines, TellsLine}
 use Rattle.cilk_races.proofs.Rowed.{along-more, line-set, next-if, plus-none, still, unmade-before, untold}
 
 module _ (program : Labelled) (events : List Event) (up now : ℕ → Path) (count after : ℕ) (rows : List Line) (tells : TellsLines program up count events rows)
     (same : (i : ℕ) → i < count → now i ≡ up i) (few : length events < 2 ^ 60) (place : ℕ) (there : place < count)
-    (c : Path) (n ordinal : ℕ) (size : after ≡ suc count) (last : now count ≡ c) (is : c ≡ up place ++ ordinal ∷ []) (parent : parent_path c ≡ up place)
+    (c : Path) (n : ℕ) (size : after ≡ suc count) (last : now count ≡ c)
+    (is : c ≡ up place ++ suc (children_of events (up place)) ∷ []) (parent : parent_path c ≡ up place)
     (new : (i : ℕ) → i < count → same_path (up i) c ≡ false) (apart : (i : ℕ) → i < count → same_path (up place) (up i) ≡ nat_eq i place) where
   abbrev e : Event
   e = spawned c n
@@ -40,11 +41,13 @@ module _ (program : Labelled) (events : List Event) (up now : ℕ → Path) (cou
   unborn = tells.unmade c new
 
   long : length c ≡ length (up place) + 1
-  long = ap length is ∙ length_push (up place) ordinal
+  long = ap length is ∙ length_push (up place) (suc (children_of events (up place)))
 
   child-along : (at : ℕ) → at < length c → (at < length (up place)) ⊎ (length (up place) ≤ at) → Along program more c (own.blocks ++ own.syncs ∷ []) at
   child-along at low (inl h) =
-      let way : take (suc at) c ≡ take (suc at) (up place) = ap (take (suc at)) is ∙ take-append-le (suc at) (up place) (ordinal ∷ []) (omega (arith, h)) in
+      let way : take (suc at) c ≡ take (suc at) (up place) =
+      ap (take (suc at)) is ∙ take-append-le (suc at) (up place) (suc (children_of events (up place)) ∷ []) (omega (arith, h))
+      in
       let before = along-more program events e (up place) own.blocks at (known.along at h) in
       let blocks = known.size in
       record {
@@ -64,12 +67,27 @@ module _ (program : Labelled) (events : List Event) (up now : ℕ → Path) (cou
   bare : bears c e ≡ false
   bare = ap (λ q. same_path q c) parent ∙ new place there
 
-  child-told : TellsLine program more c (child_of c own)
+  children-few : (i : ℕ) → i < count → (line_at rows i).children < 2 ^ 60
+  children-few i h =
+      let k = (tells.each i h).children in
+      let low = count_by-le-length (bears (up i)) events in
+      omega (arith, k, low, few)
+
+  named-so : (child_of own).path ≡ c
+  named-so =
+      let few_there = children-few place there in
+      let children = known.children in
+      let count : next own.children ≡ suc (children_of events (up place)) =
+      next-if own.children true few_there ∙ omega (arith, children)
+      in
+      (λ j. known.named j ++ count j ∷ []) ∙ sym is
+
+  child-told : TellsLine program more c (child_of own)
   child-told =
       let blocks = known.size in
       let size_is = long in
       record {
-        named = refl;
+        named = named-so;
         size = length_push own.blocks own.syncs ∙ omega (arith, blocks, size_is);
         along = λ at low. child-along at low (cases_lt at (length (up place)));
         syncs = sym (syncs-more program events e c ∙ ap (λ x. x + 0) unborn.syncs);
@@ -82,8 +100,8 @@ module _ (program : Labelled) (events : List Event) (up now : ℕ → Path) (cou
   abbrev set : List Line
   set = slice_set rows place (bore own)
 
-  bore-is : bore_at c place rows ≡ set ++ child_of c own ∷ []
-  bore-is = ap (λ b. if b then set ++ child_of c own ∷ [] else rows) (lt-ltb place (length rows) within)
+  bore-is : bore_at place rows ≡ set ++ child_of own ∷ []
+  bore-is = ap (λ b. if b then set ++ child_of own ∷ [] else rows) (lt-ltb place (length rows) within)
 
   set-size : length set ≡ count
   set-size = length-set rows place (bore own) ∙ tells.entries
@@ -95,15 +113,15 @@ module _ (program : Labelled) (events : List Event) (up now : ℕ → Path) (cou
       (λ j. if ne_eqb i place ne j then bore own else line_at rows i)
       ∙ sym (λ j. if ne_eqb i place ne j then bore (line_at rows i) else line_at rows i)
 
-  there-is : (i : ℕ) → i < count → line_at (bore_at c place rows) i ≡ (if nat_eq i place then bore (line_at rows i) else line_at rows i)
+  there-is : (i : ℕ) → i < count → line_at (bore_at place rows) i ≡ (if nat_eq i place then bore (line_at rows i) else line_at rows i)
   there-is i h =
       let entries = tells.entries in
       let size_is = set-size in
-      ap (λ xs. line_at xs i) bore-is ∙ get_or_append_left set (child_of c own ∷ []) no_line i (omega (arith, h, size_is))
+      ap (λ xs. line_at xs i) bore-is ∙ get_or_append_left set (child_of own ∷ []) no_line i (omega (arith, h, size_is))
       ∙ line-set rows place i (bore own) (omega (arith, h, entries)) ∙ if-here i (cases_eq i place)
 
-  last-is : line_at (bore_at c place rows) count ≡ child_of c own
-  last-is = ap (λ xs. line_at xs count) bore-is ∙ get_or_push set (child_of c own) no_line count set-size
+  last-is : line_at (bore_at place rows) count ≡ child_of own
+  last-is = ap (λ xs. line_at xs count) bore-is ∙ get_or_push set (child_of own) no_line count set-size
 
   bore-path : (b : Bool) (line : Line) → (if b then bore line else line).path ≡ line.path
   bore-path true line = refl
@@ -124,24 +142,18 @@ module _ (program : Labelled) (events : List Event) (up now : ℕ → Path) (cou
   bearing : (i : ℕ) → i < count → bears (up i) e ≡ nat_eq i place
   bearing i h = ap (λ q. same_path q (up i)) parent ∙ apart i h
 
-  children-few : (i : ℕ) → i < count → (line_at rows i).children < 2 ^ 60
-  children-few i h =
-      let k = (tells.each i h).children in
-      let low = count_by-le-length (bears (up i)) events in
-      omega (arith, k, low, few)
-
-  each-at : (i : ℕ) → i < after → (i < count) ⊎ (count ≤ i) → TellsLine program more (now i) (line_at (bore_at c place rows) i)
+  each-at : (i : ℕ) → i < after → (i < count) ⊎ (count ≤ i) → TellsLine program more (now i) (line_at (bore_at place rows) i)
   each-at i h (inl low) =
       let b : Bool = nat_eq i place in
       let line : Line = line_at rows i in
-      subst (λ q. TellsLine program more q (line_at (bore_at c place rows) i)) (sym (same i low))
+      subst (λ q. TellsLine program more q (line_at (bore_at place rows) i)) (sym (same i low))
       (subst (TellsLine program more (up i)) (sym (there-is i low))
       (still program events e (up i) line (if b then bore line else line) (tells.each i low) (bore-path b line) (bore-blocks b line) (bore-syncs b line)
       (bore-children b line (children-few i low) ∙ ap (λ x. line.children + cond x 1 0) (sym (bearing i low)))))
   each-at i h (inr high) =
       let at : i ≡ count = omega (arith, h, high, size) in
-      subst (λ k. TellsLine program more (now k) (line_at (bore_at c place rows) k)) (sym at)
-      (subst (λ q. TellsLine program more q (line_at (bore_at c place rows) count)) (sym last)
+      subst (λ k. TellsLine program more (now k) (line_at (bore_at place rows) k)) (sym at)
+      (subst (λ q. TellsLine program more q (line_at (bore_at place rows) count)) (sym last)
       (subst (TellsLine program more c) (sym last-is) child-told))
 
   not-root : is_birth [] e ≡ false
@@ -149,11 +161,11 @@ module _ (program : Labelled) (events : List Event) (up now : ℕ → Path) (cou
       let size_is = long in
       false_from_ne_true (same_path c []) (λ h. let none : length c ≡ 0 = ap length (same_is c [] h) in omega (arith, none, size_is))
 
-  pub born : TellsLines program now after more (bore_at c place rows)
+  pub born : TellsLines program now after more (bore_at place rows)
   born =
       let size_is = set-size in
       record {
-        entries = ap length bore-is ∙ length_push set (child_of c own) ∙ omega (arith, size_is, size);
+        entries = ap length bore-is ∙ length_push set (child_of own) ∙ omega (arith, size_is, size);
         each = λ i h. each-at i h (cases_lt i count);
         unmade = λ p none.
             let before = unmade-before program events e up now count after rows tells same grows p none in

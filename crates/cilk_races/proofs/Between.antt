@@ -3,8 +3,8 @@ use Rattle.std.proofs.Common.{◌≡◌, ◌<◌, ℕ, Bool, true, false, not, L
 use Rattle.std.proofs.Common.{if◌then◌else◌}
 use Rattle.std.specs.Prelude.{filter, slice_index_or}
 use Rattle.std.proofs.lemmas.List.{get_or-map}
-use Rattle.cilk_measure.specs.model.labelled.Labelled.{Labelled}
-use Rattle.cilk_measure.specs.model.Event.{Event}
+use Rattle.cilk_log_replay.specs.machine.model.labelled.Labelled.{Labelled}
+use Rattle.cilk_log_replay.specs.machine.model.Event.{Event}
 use Rattle.cilk_races.specs.declared.pairing.Pair as kept
 use Rattle.cilk_races.specs.declared.relation.Relation as coded
 use Rattle.cilk_races.specs.Line.{Line}

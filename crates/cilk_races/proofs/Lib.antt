@@ -1,3 +1,19 @@
+pub mod Tops
+pub mod Pushes
+pub mod Ids
+pub mod Lefts
+pub mod Fields
+pub mod Bounds
+pub mod Doings
+pub mod Known
+pub mod Stilled
+pub mod Followed
+pub mod Totals
+pub mod Counting
+pub mod Births
+pub mod Moving
+pub mod Gauges
+pub mod Lines
 pub mod Related
 pub mod Paired
 pub mod Likeness
@@ -7,6 +23,10 @@ pub mod Leaving
 pub mod Pushed
 pub mod Between
 pub mod Steps
+pub mod Numbered
+pub mod Upwards
+pub mod Kin
+pub mod Asked
 pub mod Rowed
 pub mod Bearing
 pub mod Touched
@@ -18,5 +38,5 @@ pub mod VariableNames
 pub mod Meetings
 pub mod Raced
 pub mod Reversed
-pub use Rattle.cilk_measure.proofs as measure_laws
-pub use Rattle.cilk_measure.proofs.replay_laws.machine_laws.step_laws
+mod Natures
+mod Once

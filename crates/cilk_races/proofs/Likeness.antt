@@ -1,6 +1,6 @@
 -- Accesses that are alike as they are kept are so as they are meant.
 use Rattle.std.proofs.Common.{List, option_map, ap, ◌∙◌, sym}
-use Rattle.cilk_measure.specs.replay.machine.step.CellWords.{access_of}
+use Rattle.cilk_log_replay.specs.machine.step.CellWords.{access_of}
 use Rattle.cilk_races.specs.declared.touch.Touch as kept
 use Rattle.cilk_races.specs.Alike.{AreAlike, AreKeptAlike, AreKeptOfThread, AreOfThread}
 use Rattle.cilk_races.specs.Kept.{path_in}

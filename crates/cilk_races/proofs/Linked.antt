@@ -6,10 +6,10 @@ use Rattle.std.specs.Prelude.{min, replicate, slice_index, slice_index_or}
 use Rattle.std.proofs.lemmas.List.{get_or-map, get_or-replicate, get_or_read}
 use Rattle.std.proofs.lemmas.Bool.{and_parts, cases_eq, cases_lt, eqb-true, false≢true}
 use Rattle.std.proofs.lemmas.Slice.Eq.{bytes_eq-Decides}
-use Rattle.cilk_measure.specs.model.labelled.Labelled.{Labelled}
-use Rattle.cilk_measure.specs.model.Event.{Event}
-use Rattle.cilk_measure.specs.model.Path.{same_path}
-use Rattle.cilk_measure.specs.replay.machine.step.Accesses.{Where, global, own, output, synched}
+use Rattle.cilk_log_replay.specs.machine.model.labelled.Labelled.{Labelled}
+use Rattle.cilk_log_replay.specs.machine.model.Event.{Event}
+use Rattle.cilk_log_replay.specs.machine.model.Path.{same_path}
+use Rattle.cilk_log_replay.specs.machine.step.Accesses.{Where, global, own, output, synched}
 use Rattle.cilk_races.specs.Alike.{AreOfThread}
 use Rattle.cilk_races.specs.declared.streak.Streak.TheVariants.{Thread, Locks}
 use Rattle.cilk_races.specs.declared.touch.Touch as touched

@@ -3,7 +3,7 @@ use Rattle.std.proofs.Common.{◌≡◌, ◌<◌, ◌+◌, ℕ, suc, List, [], �
 use Rattle.std.proofs.Math.Seq.{take-suc}
 use Rattle.std.proofs.lemmas.List.{map-append}
 use Rattle.std.proofs.lemmas.List.Elements.{All-push}
-use Rattle.cilk_races.specs.measure.replay.Tape.{Tape}
+use Rattle.cilk_log_replay.specs.Tape.{Tape}
 use Rattle.cilk_races.specs.Line.{Line}
 use Rattle.cilk_races.specs.Paired.{Within, pair_of, pairs_told}
 use Rattle.cilk_races.specs.declared.pairing.Pair as kept

@@ -3,33 +3,33 @@ use Rattle.std.proofs.Common.{◌≡◌, ◌<◌, ◌^◌, ℕ, suc, Bool, true,
 use Rattle.std.proofs.Common.{refl, sym}
 use Rattle.std.proofs.Common.{ap, ◌∙◌, subst, arith}
 use Rattle.std.proofs.lemmas.Bool.{false_from_ne_true}
-use Rattle.cilk_races.specs.measure.Kept.{Keeps, Named}
-use Rattle.cilk_races.specs.measure.Motions.{motion_of}
-use Rattle.cilk_races.specs.measure.declared.cell.Cell.{Cell}
-use Rattle.cilk_races.specs.measure.declared.motion.Motion.{Motion}
-use Rattle.cilk_races.specs.measure.replay.machine.agree.Fated.{Fated}
-use Rattle.cilk_races.specs.measure.replay.machine.plans.PartWords.{event_by}
-use Rattle.cilk_races.specs.measure.replay.machine.plans.declared.did.Did.{Did}
-use Rattle.cilk_races.specs.measure.replay.machine.plans.declared.did.Did.TheVariants as did
-use Rattle.cilk_races.specs.measure.replay.machine.labelled.Bodies.{label}
-use Rattle.cilk_races.specs.measure.replay.machine.model.Change.{is_sync}
-use Rattle.cilk_races.specs.measure.replay.machine.model.Event.{Event, acted, spawned}
-use Rattle.cilk_races.specs.measure.replay.machine.model.Made as made
-use Rattle.cilk_races.specs.measure.replay.machine.model.Path.{Path, same_path}
-use Rattle.cilk_races.specs.measure.replay.machine.spawn.Nodes.{IsTree, Node, node_at, path_at}
-use Rattle.cilk_races.specs.measure.replay.machine.syntax.Tree.{Program}
-use Rattle.cilk_races.specs.measure.Acts.{act_of, is_so}
-use Rattle.cilk_races.specs.measure.Inside.{parent_path}
-use Rattle.cilk_races.specs.measure.Steps.{Step, step_within}
-use Rattle.cilk_races.proofs.measure_laws.Births.{Parented, last-born, named-by, none-born, one-born, stays}
-use Rattle.cilk_races.proofs.measure_laws.Doings.{Means}
-use Rattle.cilk_races.proofs.measure_laws.Ids.{other-place}
-use Rattle.cilk_races.proofs.measure_laws.Moving.{child-is, motion-says, parent-is}
-use Rattle.cilk_races.proofs.measure_laws.replay_laws.machine_laws.spawn_laws.Paths.{same_is}
-use Rattle.cilk_races.proofs.measure_laws.replay_laws.machine_laws.spawn_laws.Trees.{names}
+use Rattle.cilk_races.specs.CellsKept.{Keeps, Named}
+use Rattle.cilk_races.specs.Motions.{motion_of}
+use Rattle.cilk_races.specs.declared.cell.Cell.{Cell}
+use Rattle.cilk_races.specs.declared.motion.Motion.{Motion}
+use Rattle.cilk_log_replay.specs.machine.agree.Fated.{Fated}
+use Rattle.cilk_log_replay.specs.machine.plans.PartWords.{event_by}
+use Rattle.cilk_log_replay.specs.machine.plans.declared.did.Did.{Did}
+use Rattle.cilk_log_replay.specs.machine.plans.declared.did.Did.TheVariants as did
+use Rattle.cilk_log_replay.specs.machine.labelled.Bodies.{label}
+use Rattle.cilk_log_replay.specs.machine.model.Change.{is_sync}
+use Rattle.cilk_log_replay.specs.machine.model.Event.{Event, acted, spawned}
+use Rattle.cilk_log_replay.specs.machine.model.Made as made
+use Rattle.cilk_log_replay.specs.machine.model.Path.{Path, child_path, same_path}
+use Rattle.cilk_log_replay.specs.machine.spawn.Nodes.{IsTree, Node, node_at, path_at}
+use Rattle.cilk_log_replay.specs.machine.syntax.Tree.{Program}
+use Rattle.cilk_races.specs.Acts.{act_of, is_so}
+use Rattle.cilk_races.specs.Inside.{parent_path}
+use Rattle.cilk_races.specs.Steps.{Step, step_within}
+use Rattle.cilk_races.proofs.Births.{Parented, last-born, named-by, none-born, one-born, stays}
+use Rattle.cilk_races.proofs.Doings.{Means}
+use Rattle.cilk_races.proofs.Ids.{other-place}
+use Rattle.cilk_races.proofs.Moving.{child-is, motion-says, parent-is}
+use Rattle.cilk_log_replay.proofs.machine_laws.spawn_laws.Paths.{same_is}
+use Rattle.cilk_log_replay.proofs.machine_laws.spawn_laws.Trees.{names}
 use Rattle.cilk_races.specs.Kept.{is_birth}
 use Rattle.cilk_races.specs.Line.{Line}
-use Rattle.cilk_races.specs.Order.{bears, passes}
+use Rattle.cilk_races.specs.Order.{bears, children_of, passes}
 use Rattle.cilk_races.specs.Noted.{bore_at, passed_if, rows_after}
 use Rattle.cilk_races.specs.Watched.{TellsLines}
 use Rattle.cilk_races.proofs.Bearing.{born}
@@ -60,7 +60,11 @@ module _ (program : Program) (ns now : List Node) (events : List Event) (cells :
 
   abbrev pub TellsBy : Did → Option Motion → Type 0
   TellsBy x None = Told x rows
-  TellsBy x (Some m) = Told x (rows_after now x m rows)
+  TellsBy x (Some m) = Told x (rows_after x m rows)
+
+  -- a child that is born is the next of its parent
+  abbrev pub IsNextChild : Did → Type 0
+  IsNextChild x = (d : Path) (n : ℕ) → did_it x ≡ spawned d n → d ≡ child_path (parent_path d) (suc (children_of events (parent_path d)))
 
   named : Named (path_at ns) (length ns)
   named = named-by ns tree
@@ -111,8 +115,8 @@ module _ (program : Program) (ns now : List Node) (events : List Event) (cells :
     abbrev c : Path
     c = path_at now id
 
-    spawned-told : Behind (did.Spawned id n) → TellsBy (did.Spawned id n) (motion_of program now cells (did.Spawned id n))
-    spawned-told behind =
+    spawned-told : Behind (did.Spawned id n) → IsNextChild (did.Spawned id n) → TellsBy (did.Spawned id n) (motion_of program now cells (did.Spawned id n))
+    spawned-told behind numbers =
         let child : Parented ns now c = child-is program ns now events cells short tree after before keeps id n behind in
         let at : unwrap_or (node_at now (length cells)).parent 0 ≡ child.at =
         parent-is program ns now events cells short tree after before keeps id n behind
@@ -129,20 +133,21 @@ module _ (program : Program) (ns now : List Node) (events : List Event) (cells :
         λ i h. false_from_ne_true (same_path (path_at ns i) c) (λ is. apart i h (same_is (path_at ns i) c is))
         in
         let parent : parent_path c ≡ path_at ns child.at = ap (λ (o : Option Path). unwrap_or o []) child.parent in
-        let path : path_at now (length rows) ≡ c = ap (path_at now) tells.entries ∙ last in
-        subst (λ k. Told (did.Spawned id n) (bore_at (path_at now (length rows)) k rows)) (sym at)
-        (subst (λ p. Told (did.Spawned id n) (bore_at p child.at rows)) (sym path)
+        let is : c ≡ child_path (path_at ns child.at) (suc (children_of events (path_at ns child.at))) =
+        numbers c n refl ∙ ap (λ p. child_path p (suc (children_of events p))) parent
+        in
+        subst (λ k. Told (did.Spawned id n) (bore_at k rows)) (sym at)
         (born (label program) events (path_at ns) (path_at now) (length ns) (length now) rows tells stay short child.at child.within c n
-        (node_at now (length ns)).ordinal size last child.path parent new
-        (λ i h. other-place (path_at ns) (length ns) named i child.at h child.within)))
+        size last is parent new
+        (λ i h. other-place (path_at ns) (length ns) named i child.at h child.within))
 
-  pub told-noted : (x : Did) → Behind x → TellsBy x (motion_of program now cells x)
-  told-noted did.Moved behind = bare did.Moved behind refl (λ p. refl) (λ p. refl) (λ p. refl)
-  told-noted (did.Acted id n) behind =
+  pub told-noted : (x : Did) → Behind x → IsNextChild x → TellsBy x (motion_of program now cells x)
+  told-noted did.Moved behind numbers = bare did.Moved behind refl (λ p. refl) (λ p. refl) (λ p. refl)
+  told-noted (did.Acted id n) behind numbers =
       let says = motion-says program ns now events cells short tree after before keeps (did.Acted id n) behind in
       acted-told id n _ says.0 behind says.1
-  told-noted (did.Spawned id n) behind = spawned-told id n behind
-  told-noted (did.Delivered id n) behind = bare (did.Delivered id n) behind refl (λ p. refl) (λ p. refl) (λ p. refl)
-  told-noted (did.Returned id n) behind = bare (did.Returned id n) behind refl (λ p. refl) (λ p. refl) (λ p. refl)
-  told-noted (did.Ended id) behind = bare (did.Ended id) behind refl (λ p. refl) (λ p. refl) (λ p. refl)
-  told-noted (did.Trapped kind id n) behind = bare (did.Trapped kind id n) behind refl (λ p. refl) (λ p. refl) (λ p. refl)
+  told-noted (did.Spawned id n) behind numbers = spawned-told id n behind numbers
+  told-noted (did.Delivered id n) behind numbers = bare (did.Delivered id n) behind refl (λ p. refl) (λ p. refl) (λ p. refl)
+  told-noted (did.Returned id n) behind numbers = bare (did.Returned id n) behind refl (λ p. refl) (λ p. refl) (λ p. refl)
+  told-noted (did.Ended id) behind numbers = bare (did.Ended id) behind refl (λ p. refl) (λ p. refl) (λ p. refl)
+  told-noted (did.Trapped kind id n) behind numbers = bare (did.Trapped kind id n) behind refl (λ p. refl) (λ p. refl) (λ p. refl)

@@ -4,10 +4,10 @@ use Rattle.std.proofs.lemmas.List.{append-nil, append_assoc, map-append}
 use Rattle.std.proofs.lemmas.List.Elements.{filter-append}
 use Rattle.std.proofs.lemmas.Bool.{eqb-true}
 use Rattle.std.proofs.lemmas.Slice.Eq.{bytes_eq-Decides}
-use Rattle.cilk_measure.specs.model.labelled.Labelled.{Labelled}
-use Rattle.cilk_measure.specs.model.Event.{Event}
-use Rattle.cilk_measure.specs.model.Path.{same_path}
-use Rattle.cilk_measure.specs.replay.machine.step.Accesses.{Where, global, own, output, synched}
+use Rattle.cilk_log_replay.specs.machine.model.labelled.Labelled.{Labelled}
+use Rattle.cilk_log_replay.specs.machine.model.Event.{Event}
+use Rattle.cilk_log_replay.specs.machine.model.Path.{same_path}
+use Rattle.cilk_log_replay.specs.machine.step.Accesses.{Where, global, own, output, synched}
 use Rattle.cilk_races.specs.Order.{Relation, ordered, race, order, inlets}
 use Rattle.cilk_races.specs.Paired.{is_told, with_earlier, with_entry}
 use Rattle.cilk_races.specs.Races.{Touch, Pair, meet, is_ordered, paired, pairs_from, same_variable, same_relation, same_entry, entries_of}

@@ -6,10 +6,10 @@ use Rattle.std.proofs.lemmas.List.Folds.{list_any-append}
 use Rattle.std.proofs.lemmas.Bool.{cases_lt, eq-eqb, or_left, or_right}
 use Rattle.std.proofs.lemmas.Slice.Eq.{bytes_eq-Decides}
 use Rattle.std.proofs.Math.Seq.{take-suc}
-use Rattle.cilk_measure.specs.model.labelled.Labelled.{Labelled}
-use Rattle.cilk_measure.specs.model.Event.{Event}
-use Rattle.cilk_measure.specs.model.Path.{Path}
-use Rattle.cilk_measure.specs.replay.machine.step.Accesses.{Where, global, own, output, synched}
+use Rattle.cilk_log_replay.specs.machine.model.labelled.Labelled.{Labelled}
+use Rattle.cilk_log_replay.specs.machine.model.Event.{Event}
+use Rattle.cilk_log_replay.specs.machine.model.Path.{Path}
+use Rattle.cilk_log_replay.specs.machine.step.Accesses.{Where, global, own, output, synched}
 use Rattle.cilk_races.specs.Alike.{AreAlike, AreOfThread}
 use Rattle.cilk_races.specs.Links.{IsTwin}
 use Rattle.cilk_races.specs.Order.{Relation, ordered, race, order, inlets, by_branches, parting_from, relation_of, within_one}

@@ -1,23 +1,23 @@
 -- Before any choice of a tape, and behind all of them.
 use Rattle.std.proofs.Common.{◌≡◌, ℕ, List, [], ◌∷◌, length, take, Option, Some, None, refl, sym, ap, ◌∙◌, subst, arith}
 use Rattle.std.proofs.lemmas.List.{nil_from_length, take_all}
-use Rattle.cilk_races.specs.measure.Gauged.{events_at, events_in}
-use Rattle.cilk_races.specs.measure.Held.{Held}
-use Rattle.cilk_races.specs.measure.Tallies.{first}
-use Rattle.cilk_races.specs.measure.replay.Tape.{Tape, IsAt, position_at}
-use Rattle.cilk_races.specs.measure.replay.machine.Situation.{Situation}
-use Rattle.cilk_races.specs.measure.replay.machine.agree.Fated.{Fated}
-use Rattle.cilk_races.specs.measure.replay.machine.labelled.Bodies.{label}
-use Rattle.cilk_races.specs.measure.replay.machine.labelled.Labelled.{Labelled}
-use Rattle.cilk_races.specs.measure.replay.machine.model.Choice.{Choice}
-use Rattle.cilk_races.specs.measure.replay.machine.model.Event.{Event}
-use Rattle.cilk_races.specs.measure.replay.machine.model.Path.{Path}
-use Rattle.cilk_races.specs.measure.replay.machine.model.Run.{Position, after_main}
-use Rattle.cilk_races.specs.measure.replay.machine.spawn.Nodes.{IsTree, Node, path_at}
-use Rattle.cilk_races.specs.measure.replay.machine.syntax.Tree.{Program}
-use Rattle.cilk_races.proofs.measure_laws.Births.{made-at, made-length}
-use Rattle.cilk_races.proofs.measure_laws.Gauges.{events-long, first-held}
-use Rattle.cilk_races.proofs.measure_laws.replay_laws.Again.{led_in}
+use Rattle.cilk_races.specs.Gauged.{events_at, events_in}
+use Rattle.cilk_races.specs.Held.{Held}
+use Rattle.cilk_races.specs.Tallies.{first}
+use Rattle.cilk_log_replay.specs.Tape.{Tape, IsAt, position_at}
+use Rattle.cilk_log_replay.specs.machine.Situation.{Situation}
+use Rattle.cilk_log_replay.specs.machine.agree.Fated.{Fated}
+use Rattle.cilk_log_replay.specs.machine.labelled.Bodies.{label}
+use Rattle.cilk_log_replay.specs.machine.labelled.Labelled.{Labelled}
+use Rattle.cilk_log_replay.specs.machine.model.Choice.{Choice}
+use Rattle.cilk_log_replay.specs.machine.model.Event.{Event}
+use Rattle.cilk_log_replay.specs.machine.model.Path.{Path}
+use Rattle.cilk_log_replay.specs.machine.model.Run.{Position, after_main}
+use Rattle.cilk_log_replay.specs.machine.spawn.Nodes.{IsTree, Node, path_at}
+use Rattle.cilk_log_replay.specs.machine.syntax.Tree.{Program}
+use Rattle.cilk_races.proofs.Births.{made-at, made-length}
+use Rattle.cilk_races.proofs.Gauges.{events-long, first-held}
+use Rattle.cilk_log_replay.proofs.Again.{led_in}
 use Rattle.cilk_races.specs.Kept.{Blocked}
 use Rattle.cilk_races.specs.Line.{no_line}
 use Rattle.cilk_races.specs.Paired as paired
@@ -54,7 +54,7 @@ tells-first program ns tree fated =
       root = refl;
     }
 
-pub watched-first : (t : Tape) (w : Watch) → IsAt t 0 w.machine → w.tally ≡ first → w.rows.items ≡ no_line ∷ [] → w.touches.items ≡ [] → Watched t 0 w
+pub watched-first : (t : Tape) (w : Watch) → IsAt t 0 w.machine → w.tally ≡ first → w.rows ≡ no_line ∷ [] → w.touches.items ≡ [] → Watched t 0 w
 watched-first t w at tally rows touches =
     let ns : List Node = w.machine.machine.nodes in
     let here : events_at t 0 ≡ [] = nil_from_length (events_at t 0) (events-long t 0 w.machine at (omega arith)) in
@@ -65,10 +65,10 @@ watched-first t w at tally rows touches =
     record {
       tally = subst (λ (es : List Event). Held (label t.program) (path_at ns) (length ns) es w.tally) (sym here)
           (subst (Held (label t.program) (path_at ns) (length ns) []) (sym tally) (first-held (label t.program) ns at.led.agrees.tree fated));
-      rows = subst (λ (es : List Event). TellsLines (label t.program) (path_at ns) (length ns) es w.rows.items) (sym here)
+      rows = subst (λ (es : List Event). TellsLines (label t.program) (path_at ns) (length ns) es w.rows) (sym here)
           (subst (TellsLines (label t.program) (path_at ns) (length ns) []) (sym rows) (tells-first (label t.program) ns at.led.agrees.tree fated));
       known = λ i d low. let none : length w.touches.items ≡ 0 = ap length touches in absurd (omega (arith, low, none));
-      touches = λ main start. ap (paired.touches_of w.rows.items) touches;
+      touches = λ main start. ap (paired.touches_of w.rows) touches;
     }
 
 -- where choices lead somewhere there is a `main`
@@ -78,8 +78,8 @@ starts program n choices at None led = cc
 starts program n choices at (Some main) led = (main, refl)
 
 pub races-told : (t : Tape) (w : Watch) (n : ℕ) → n ≡ length t.choices → IsAt t n w.machine → Watched t n w → (entries : List Pair)
-    → ((program : Labelled) (events : List Event) → Blocked program events w.rows.items
-    → entries ≡ entries_of (pairs_of program events (paired.touches_of w.rows.items w.touches.items)))
+    → ((program : Labelled) (events : List Event) → Blocked program events w.rows
+    → entries ≡ entries_of (pairs_of program events (paired.touches_of w.rows w.touches.items)))
     → AreRacesOf t entries
 races-told t w n size at kept entries told =
     let program : Labelled = label t.program in
@@ -94,7 +94,7 @@ races-told t w n size at kept entries told =
       led = ap (position_at t) (sym size) ∙ led;
       main = main.0;
       start = main.1;
-      are = told program (events_at t n) (blocked program (path_at ns) (length ns) (events_at t n) w.rows.items kept.rows)
+      are = told program (events_at t n) (blocked program (path_at ns) (length ns) (events_at t n) w.rows kept.rows)
           ∙ (λ j. entries_of (pairs_of program (here j) (touches j)));
     }
 
@@ -108,6 +108,6 @@ holds-run t w n size at kept r same =
       main = main.0;
       start = main.1;
       touches =
-          (λ j. paired.touches_of (same.rows j).items (same.touches j).items) ∙ kept.touches main.0 main.1
+          (λ j. paired.touches_of (same.rows j) (same.touches j).items) ∙ kept.touches main.0 main.1
           ∙ ap (touches_of program main.0 t.workers) all;
     }

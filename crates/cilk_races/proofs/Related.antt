@@ -6,9 +6,9 @@ use Rattle.std.specs.Prelude.{nat_le, slice_index_or}
 use Rattle.std.proofs.lemmas.Bool.{cases_lt, eqb-true, ne_eqb, lt-ltb, le-ltb}
 use Rattle.std.proofs.lemmas.List.{append-nil, append_assoc}
 use Rattle.std.proofs.Math.Seq.{take-suc}
-use Rattle.cilk_measure.specs.model.labelled.Labelled.{Labelled}
-use Rattle.cilk_measure.specs.model.Event.{Event}
-use Rattle.cilk_measure.specs.model.Path.{Path, same_path}
+use Rattle.cilk_log_replay.specs.machine.model.labelled.Labelled.{Labelled}
+use Rattle.cilk_log_replay.specs.machine.model.Event.{Event}
+use Rattle.cilk_log_replay.specs.machine.model.Path.{Path, same_path}
 use Rattle.cilk_races.specs.Line.{Line}
 use Rattle.cilk_races.specs.declared.touch.Placed as kept
 use Rattle.cilk_races.specs.Kept.{path_in, block_in, last_by, last_in, Blocked}
@@ -34,14 +34,6 @@ parting-is : (front p q : Path) → parting_from front p q
 parting-is front [] q = ap (λ x. parted x None (next_of q)) (sym (append-nil front))
 parting-is front (k ∷ p) [] = ap (λ x. parted x (Some k) None) (sym (append-nil front))
 parting-is front (k ∷ p) (l ∷ q) = parting-by front p q k l (k == l) (parting-is (front ++ k ∷ []) p q)
-
--- nothing is common with what is behind the end
-pub common-past : (p q : Path) (n : ℕ) → length q ≤ n → common p (drop n q) ≡ 0
-common-past [] q n h = refl
-common-past (k ∷ p) [] zero h = refl
-common-past (k ∷ p) [] (suc n) h = refl
-common-past (k ∷ p) (l ∷ q) zero h = absurd (omega (arith, h))
-common-past (k ∷ p) (l ∷ q) (suc n) h = common-past (k ∷ p) q n (omega (arith, h))
 
 next-some : (p : Path) (n : ℕ) → n < length p → next_of (drop n p) ≡ Some (slice_index_or p n 0)
 next-some [] n h = absurd (omega (arith, h))

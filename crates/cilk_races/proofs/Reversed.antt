@@ -2,13 +2,13 @@
 use Rattle.std.proofs.Common.{◌≡◌, ℕ, List, length, take, Option, Some, None, option_map}
 use Rattle.std.proofs.Common.{refl, sym, ap, ◌∙◌, subst, arith, IfSome}
 use Rattle.std.proofs.lemmas.List.{length-map, take_all}
-use Rattle.cilk_races.specs.measure.replay.Tape.{Tape, IsAt, position_at, tape_of}
-use Rattle.cilk_races.specs.measure.replay.machine.choices.Words.{choice_of}
-use Rattle.cilk_races.specs.measure.replay.machine.choices.declared.choice.Choice.{Choice}
-use Rattle.cilk_races.specs.measure.replay.machine.labelled.Bodies.{label}
-use Rattle.cilk_races.specs.measure.replay.machine.model.End.{end_now}
-use Rattle.cilk_races.specs.measure.replay.machine.syntax.Tree.{Program}
-use Rattle.cilk_races.proofs.measure_laws.replay_laws.Again.{led_in}
+use Rattle.cilk_log_replay.specs.Tape.{Tape, IsAt, position_at, tape_of}
+use Rattle.cilk_log_replay.specs.machine.choices.Words.{choice_of}
+use Rattle.cilk_log_replay.specs.machine.choices.declared.choice.Choice.{Choice}
+use Rattle.cilk_log_replay.specs.machine.labelled.Bodies.{label}
+use Rattle.cilk_log_replay.specs.machine.model.End.{end_now}
+use Rattle.cilk_log_replay.specs.machine.syntax.Tree.{Program}
+use Rattle.cilk_log_replay.proofs.Again.{led_in}
 use Rattle.cilk_races.specs.Paired as paired
 use Rattle.cilk_races.specs.Races.{Pair, Touch, touches_of}
 use Rattle.cilk_races.specs.Found.{EndsAs, HoldsRun, IsReversalOf}
@@ -24,7 +24,7 @@ pub reverses : (t : Tape) (races : Races) → HoldsRun t races → (workers : �
     → IsAt (tape_of races.machine.program workers choices) (length choices) w.machine
     → Watched (tape_of races.machine.program workers choices) (length choices) w
     → (p : Pair) (r : kept.Reversal) → r.choices ≡ length choices → r.workers ≡ workers → EndsAs w.machine r.end
-    → AreReversed (paired.touches_of races.rows.items races.touches.items) (paired.touches_of w.rows.items w.touches.items) p
+    → AreReversed (paired.touches_of races.rows races.touches.items) (paired.touches_of w.rows w.touches.items) p
     → Reverses t p (reversal_by r)
 reverses t races holds workers choices w at watched p r size crew ends are =
     let s : Tape = tape_of t.program workers choices in
@@ -34,7 +34,7 @@ reverses t races holds workers choices w at watched p r size crew ends are =
     let kept : Watched s (length choices) w = subst (λ (q : Program). Watched (tape_of q workers choices) (length choices) w) holds.program watched in
     let long : length s.choices ≡ length choices = length-map choices choice_of in
     let all : take (length choices) s.choices ≡ s.choices = take_all (length choices) s.choices (omega (arith, long)) in
-    let touches : paired.touches_of w.rows.items w.touches.items ≡ touches_of (label t.program) holds.main workers s.choices =
+    let touches : paired.touches_of w.rows w.touches.items ≡ touches_of (label t.program) holds.main workers s.choices =
     kept.touches holds.main holds.start ∙ ap (touches_of (label t.program) holds.main workers) all
     in
     record {
@@ -51,7 +51,7 @@ reverses t races holds workers choices w at watched p r size crew ends are =
       start = holds.start;
       are =
           subst (λ (xs : List Touch). AreReversed xs (touches_of (label t.program) holds.main workers s.choices) p) holds.touches
-          (subst (λ (xs : List Touch). AreReversed (paired.touches_of races.rows.items races.touches.items) xs p) touches are);
+          (subst (λ (xs : List Touch). AreReversed (paired.touches_of races.rows races.touches.items) xs p) touches are);
     }
 
 pub reverses-by : (t : Tape) (races : Races) → HoldsRun t races → (workers : ℕ) (choices : List Choice) (w : Watch)

@@ -5,10 +5,10 @@ use Rattle.std.proofs.Common.{length, take, refl, sym, ap, ◌∙◌, subst, ari
 use Rattle.std.proofs.Common.{get_or-set_other}
 use Rattle.std.proofs.lemmas.Bool.{cases_eq, eq-eqb, ne_eqb, lt-ltb}
 use Rattle.std.proofs.lemmas.List.Sums.{count_by-le-length}
-use Rattle.cilk_races.specs.measure.Kept.{IsUnmade}
-use Rattle.cilk_races.specs.measure.replay.machine.labelled.Labelled.{Labelled}
-use Rattle.cilk_races.specs.measure.replay.machine.model.Event.{Event}
-use Rattle.cilk_races.specs.measure.replay.machine.model.Path.{Path, same_path}
+use Rattle.cilk_races.specs.CellsKept.{IsUnmade}
+use Rattle.cilk_log_replay.specs.machine.labelled.Labelled.{Labelled}
+use Rattle.cilk_log_replay.specs.machine.model.Event.{Event}
+use Rattle.cilk_log_replay.specs.machine.model.Path.{Path, same_path}
 use Rattle.cilk_races.specs.Kept.{is_birth}
 use Rattle.cilk_races.specs.Line.{Line, no_line}
 use Rattle.cilk_races.specs.Order.{passes, bears}

@@ -1,39 +1,39 @@
 -- What was looked at is what the choice touches.
 use Rattle.std.proofs.Common.{◌≡◌, ℕ, Bool, true, false, not, List, [], map, length, ◌<◌, Option, Some, None, option_map, refl, sym, ap, ◌∙◌}
 use Rattle.std.proofs.Common.{subst, inl, inr, if◌then◌else◌, is_none}
-use Rattle.cilk_races.specs.measure.replay.machine.Situation.{Situation}
-use Rattle.cilk_races.specs.measure.replay.machine.Stands.{Led}
-use Rattle.cilk_races.specs.measure.replay.machine.agree.Laws.{InHand, instance_of, path_of}
-use Rattle.cilk_races.specs.measure.replay.machine.agree.Agrees.{name_in}
-use Rattle.cilk_races.specs.measure.replay.machine.agree.scopes.WellFormed.{WellFormed}
-use Rattle.cilk_races.specs.measure.replay.machine.choices.declared.act.Act.{Act}
-use Rattle.cilk_races.specs.measure.replay.machine.choices.declared.act.Act.TheVariants as does
-use Rattle.cilk_races.specs.measure.replay.machine.choices.declared.choice.Choice as code
-use Rattle.cilk_races.specs.measure.replay.machine.choices.Words.{act_of, choice_of}
-use Rattle.cilk_races.specs.measure.replay.machine.labelled.Bodies.{label}
-use Rattle.cilk_races.specs.measure.replay.machine.labelled.Labelled.{Labelled}
-use Rattle.cilk_races.specs.measure.replay.machine.model.Choice as model
-use Rattle.cilk_races.specs.measure.replay.machine.model.Event.{Event}
-use Rattle.cilk_races.specs.measure.replay.machine.model.Hands.{IsWorker, hand_of}
-use Rattle.cilk_races.specs.measure.replay.machine.model.Path.{Path}
-use Rattle.cilk_races.specs.measure.replay.machine.model.Scheduler as sched
-use Rattle.cilk_races.specs.measure.replay.machine.model.State.{State, instance_at}
-use Rattle.cilk_races.specs.measure.replay.machine.model.Run.{Standing, act_refusal, event_of, is_running, is_worker, refusal_of}
-use Rattle.cilk_races.specs.measure.replay.machine.spawn.Nodes.{path_at}
-use Rattle.cilk_races.specs.measure.Steps.{Step, step_of}
-use Rattle.cilk_races.proofs.measure_laws.replay_laws.machine_laws.Refusals.{hand-is, in-hand-of, there, worker-is}
-use Rattle.cilk_races.specs.measure.replay.machine.agree.Alike.{lowest_body}
-use Rattle.cilk_races.proofs.measure_laws.replay_laws.machine_laws.agree_laws.Actions.{told as node-told}
-use Rattle.cilk_races.proofs.measure_laws.replay_laws.machine_laws.agree_laws.Alone.{inside}
-use Rattle.cilk_races.proofs.measure_laws.replay_laws.machine_laws.agree_laws.Asked.{asked}
+use Rattle.cilk_log_replay.specs.machine.Situation.{Situation}
+use Rattle.cilk_log_replay.specs.machine.Stands.{Led}
+use Rattle.cilk_log_replay.specs.machine.agree.Laws.{InHand, instance_of, path_of}
+use Rattle.cilk_log_replay.specs.machine.agree.Agrees.{name_in}
+use Rattle.cilk_log_replay.specs.machine.agree.scopes.WellFormed.{WellFormed}
+use Rattle.cilk_log_replay.specs.machine.choices.declared.act.Act.{Act}
+use Rattle.cilk_log_replay.specs.machine.choices.declared.act.Act.TheVariants as does
+use Rattle.cilk_log_replay.specs.machine.choices.declared.choice.Choice as code
+use Rattle.cilk_log_replay.specs.machine.choices.Words.{act_of, choice_of}
+use Rattle.cilk_log_replay.specs.machine.labelled.Bodies.{label}
+use Rattle.cilk_log_replay.specs.machine.labelled.Labelled.{Labelled}
+use Rattle.cilk_log_replay.specs.machine.model.Choice as model
+use Rattle.cilk_log_replay.specs.machine.model.Event.{Event}
+use Rattle.cilk_log_replay.specs.machine.model.Hands.{IsWorker, hand_of}
+use Rattle.cilk_log_replay.specs.machine.model.Path.{Path}
+use Rattle.cilk_log_replay.specs.machine.model.Scheduler as sched
+use Rattle.cilk_log_replay.specs.machine.model.State.{State, instance_at}
+use Rattle.cilk_log_replay.specs.machine.model.Run.{Standing, act_refusal, event_of, is_running, is_worker, refusal_of}
+use Rattle.cilk_log_replay.specs.machine.spawn.Nodes.{path_at}
+use Rattle.cilk_races.specs.Steps.{Step, step_of}
+use Rattle.cilk_log_replay.proofs.machine_laws.Refusals.{hand-is, in-hand-of, there, worker-is}
+use Rattle.cilk_log_replay.specs.machine.agree.Alike.{lowest_body}
+use Rattle.cilk_log_replay.proofs.machine_laws.agree_laws.Actions.{told as node-told}
+use Rattle.cilk_log_replay.proofs.machine_laws.agree_laws.Alone.{inside}
+use Rattle.cilk_log_replay.proofs.machine_laws.agree_laws.Asked.{asked}
 use Rattle.cilk_races.specs.Order.{Placed}
 use Rattle.cilk_races.specs.Races.{Touch, number_of, placed_at, touch, touches_at, touches_by, touches_in}
-use Rattle.cilk_races.specs.step.Accesses.{accesses_of, locks_from}
-use Rattle.cilk_races.specs.step.Shown.{held, own_path, touched}
-use Rattle.cilk_races.specs.step.CellWords.{access_of}
-use Rattle.cilk_races.specs.step.plan.StepInput.{StepInput, id_of, own_node}
-use Rattle.cilk_races.proofs.step_laws.Shown.{accesses-shown}
-use Rattle.cilk_races.proofs.step_laws.Holding.{locks-shown}
+use Rattle.cilk_log_replay.specs.machine.step.Accesses.{accesses_of, locks_from}
+use Rattle.cilk_log_replay.specs.machine.step.Shown.{held, own_path, touched}
+use Rattle.cilk_log_replay.specs.machine.step.CellWords.{access_of}
+use Rattle.cilk_log_replay.specs.machine.step.plan.StepInput.{StepInput, id_of, own_node}
+use Rattle.cilk_log_replay.proofs.machine_laws.step_laws.Shown.{accesses-shown}
+use Rattle.cilk_log_replay.proofs.machine_laws.step_laws.Holding.{locks-shown}
 use Rattle.cilk_races.specs.Looked.{IsNothing, Looks, LooksAt, LooksBy, SeesNone}
 use Rattle.cilk_races.specs.declared.look.Look.{Look}
 

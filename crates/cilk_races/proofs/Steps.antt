@@ -1,8 +1,8 @@
 -- All pairs of one access more.
 use Rattle.std.proofs.Common.{◌≡◌, ◌<◌, ℕ, suc, List, [], ◌++◌, length, take, ap, ◌∙◌}
 use Rattle.std.proofs.Math.Seq.{take-suc}
-use Rattle.cilk_measure.specs.model.labelled.Labelled.{Labelled}
-use Rattle.cilk_measure.specs.model.Event.{Event}
+use Rattle.cilk_log_replay.specs.machine.model.labelled.Labelled.{Labelled}
+use Rattle.cilk_log_replay.specs.machine.model.Event.{Event}
 use Rattle.cilk_races.specs.Paired.{no_touch, touch_at, with_earlier}
 use Rattle.cilk_races.specs.Races.{Touch, pairs_of}
 use Rattle.cilk_races.proofs.Paired.{pairs-more}

@@ -6,20 +6,20 @@ use Rattle.std.proofs.Math.Seq.{take-suc}
 use Rattle.std.proofs.lemmas.Bool.{cases_lt}
 use Rattle.std.proofs.lemmas.List.{append-nil, append_assoc, get_or_past, map-append}
 use Rattle.std.proofs.lemmas.List.Elements.{All-head, All-push, All-tail}
-use Rattle.cilk_races.specs.measure.replay.machine.labelled.Labelled.{Labelled}
-use Rattle.cilk_races.specs.measure.replay.machine.model.Choice.{Choice}
-use Rattle.cilk_races.specs.measure.replay.machine.model.Event.{Event}
-use Rattle.cilk_races.specs.measure.replay.machine.model.Path.{Path}
-use Rattle.cilk_races.specs.measure.model.Run.{Standing, Position, after, after_from, after_main, event_of, is_crew, next_of, opening, refusal_of}
-use Rattle.cilk_races.proofs.measure_laws.Known.{map-same, there-more}
+use Rattle.cilk_log_replay.specs.machine.labelled.Labelled.{Labelled}
+use Rattle.cilk_log_replay.specs.machine.model.Choice.{Choice}
+use Rattle.cilk_log_replay.specs.machine.model.Event.{Event}
+use Rattle.cilk_log_replay.specs.machine.model.Path.{Path}
+use Rattle.cilk_log_replay.specs.machine.model.Run.{Standing, Position, after, after_from, after_main, event_of, is_crew, next_of, opening, refusal_of}
+use Rattle.cilk_races.proofs.Known.{map-same, there-more}
 use Rattle.cilk_races.specs.Kept.{Blocked, blocks_by, block_in, children_in, path_in, syncs_in}
 use Rattle.cilk_races.specs.Line.{Line, no_line}
 use Rattle.cilk_races.specs.Order.{Placed, block_of}
 use Rattle.cilk_races.specs.Paired as paired
 use Rattle.cilk_races.specs.Races.{Touch, touch, touches_at, touches_from, touches_of}
 use Rattle.cilk_races.specs.PairWords.{placed_of, touch_of}
-use Rattle.cilk_races.specs.step.CellWords.{access_of}
-use Rattle.cilk_races.specs.step.declared.access.Access.{Access}
+use Rattle.cilk_log_replay.specs.machine.step.CellWords.{access_of}
+use Rattle.cilk_log_replay.specs.machine.step.declared.access.Access.{Access}
 use Rattle.cilk_races.specs.declared.touch.Placed as coded
 use Rattle.cilk_races.specs.declared.touch.Touch as kept
 use Rattle.cilk_races.proofs.Pushed.{block-none}
@@ -44,7 +44,7 @@ children-is [] (suc i) = refl
 children-is (line ∷ rows) zero = refl
 children-is (line ∷ rows) (suc i) = children-is rows i
 
-blocks-is : (rows : List Line) (i : ℕ) → blocks_by (slice_get rows i) ≡ (line_at rows i).blocks
+pub blocks-is : (rows : List Line) (i : ℕ) → blocks_by (slice_get rows i) ≡ (line_at rows i).blocks
 blocks-is [] zero = refl
 blocks-is [] (suc i) = refl
 blocks-is (line ∷ rows) zero = refl

@@ -1,12 +1,12 @@
 -- The names of variables, in the tables and in the program.
 use Rattle.std.proofs.Common.{◌≡◌, ◌+◌, ℕ, zero, suc, List, [], ◌∷◌, Option, Some, None, map, refl, slice_get}
-use Rattle.cilk_races.specs.measure.replay.machine.nodes.declared.area.Area.{Area}
-use Rattle.cilk_races.specs.measure.replay.machine.nodes.declared.area.Area.TheVariants.{Own}
-use Rattle.cilk_races.specs.measure.replay.machine.labelled.Labelled.{Body, Variable}
-use Rattle.cilk_races.specs.measure.replay.machine.nodes.Bodies.{body_table, vars_from}
-use Rattle.cilk_races.specs.measure.replay.machine.nodes.Slots.{size_of}
-use Rattle.cilk_races.specs.measure.replay.machine.nodes.declared.body.Body as table
-use Rattle.cilk_races.specs.measure.replay.machine.nodes.declared.var.Var.{Var}
+use Rattle.cilk_log_replay.specs.machine.nodes.declared.area.Area.{Area}
+use Rattle.cilk_log_replay.specs.machine.nodes.declared.area.Area.TheVariants.{Own}
+use Rattle.cilk_log_replay.specs.machine.labelled.Labelled.{Body, Variable}
+use Rattle.cilk_log_replay.specs.machine.nodes.Bodies.{body_table, vars_from}
+use Rattle.cilk_log_replay.specs.machine.nodes.Slots.{size_of}
+use Rattle.cilk_log_replay.specs.machine.nodes.declared.body.Body as table
+use Rattle.cilk_log_replay.specs.machine.nodes.declared.var.Var.{Var}
 use Rattle.cilk_races.specs.RacesText.{name_by, own_name}
 
 abbrev pub name_in : Option Var → List ℕ

@@ -4,34 +4,36 @@ use Rattle.std.proofs.Common.{is_none, refl, sym, ap, ◌∙◌, subst, arith, A
 use Rattle.std.proofs.Math.Seq.{take-suc}
 use Rattle.std.proofs.lemmas.Option.{slice_get_within, get_or_from_slice_get}
 use Rattle.std.proofs.lemmas.List.{append-nil, length-map, length-take-le}
-use Rattle.cilk_races.specs.measure.Gauged.{events_at, events_in}
-use Rattle.cilk_races.specs.measure.Held.{Held}
-use Rattle.cilk_races.specs.measure.Motions.{motion_of}
-use Rattle.cilk_races.specs.measure.Tallies.{noted, noted_by}
-use Rattle.cilk_races.specs.measure.declared.motion.Motion.{Motion}
-use Rattle.cilk_races.specs.measure.replay.Tape.{Tape, IsAt}
-use Rattle.cilk_races.specs.measure.replay.machine.agree.Fated.{Fated}
-use Rattle.cilk_races.specs.measure.replay.machine.agree.scopes.WellFormed.{WellFormed}
-use Rattle.cilk_races.specs.measure.replay.machine.plans.PartWords.{event_by}
-use Rattle.cilk_races.specs.measure.replay.machine.plans.declared.did.Did.{Did}
-use Rattle.cilk_races.specs.measure.replay.machine.plans.declared.did.Did.TheVariants as did
-use Rattle.cilk_races.specs.measure.replay.machine.choices.declared.choice.Choice.{Choice}
-use Rattle.cilk_races.specs.measure.replay.machine.choices.Words.{choice_of}
-use Rattle.cilk_races.specs.measure.replay.machine.labelled.Bodies.{label}
-use Rattle.cilk_races.specs.measure.replay.machine.labelled.Labelled.{Labelled}
-use Rattle.cilk_races.specs.measure.replay.machine.model.Choice as model
-use Rattle.cilk_races.specs.measure.replay.machine.model.Event.{Event}
-use Rattle.cilk_races.specs.measure.replay.machine.model.Path.{Path}
-use Rattle.cilk_races.specs.measure.replay.machine.model.Run.{event_of, one_more, position_after, refusal_of}
-use Rattle.cilk_races.specs.measure.replay.machine.spawn.Nodes.{Node, path_at}
-use Rattle.cilk_races.specs.measure.replay.machine.syntax.Tree.{Program}
-use Rattle.cilk_races.specs.measure.Steps.{Step, step_of}
-use Rattle.cilk_races.proofs.measure_laws.Births.{grows, stays}
-use Rattle.cilk_races.proofs.measure_laws.Doings.{Means}
-use Rattle.cilk_races.proofs.measure_laws.Gauges.{did-is, events-long, events-next, noted-by}
-use Rattle.cilk_races.proofs.measure_laws.Known.{map-same}
-use Rattle.cilk_races.proofs.measure_laws.Moving.{Says, motion-says}
-use Rattle.cilk_races.proofs.measure_laws.replay_laws.Again.{led_in, chosen, step_down}
+use Rattle.cilk_races.specs.Gauged.{events_at, events_in}
+use Rattle.cilk_races.specs.Held.{Held}
+use Rattle.cilk_races.specs.Motions.{motion_of}
+use Rattle.cilk_races.specs.Tallies.{noted, noted_by}
+use Rattle.cilk_races.specs.declared.motion.Motion.{Motion}
+use Rattle.cilk_log_replay.specs.Tape.{Tape, IsAt}
+use Rattle.cilk_log_replay.specs.machine.agree.Fated.{Fated}
+use Rattle.cilk_log_replay.specs.machine.agree.scopes.WellFormed.{WellFormed}
+use Rattle.cilk_log_replay.specs.machine.plans.PartWords.{event_by}
+use Rattle.cilk_log_replay.specs.machine.plans.declared.did.Did.{Did}
+use Rattle.cilk_log_replay.specs.machine.plans.declared.did.Did.TheVariants as did
+use Rattle.cilk_log_replay.specs.machine.choices.declared.choice.Choice.{Choice}
+use Rattle.cilk_log_replay.specs.machine.choices.Words.{choice_of}
+use Rattle.cilk_log_replay.specs.machine.labelled.Bodies.{label}
+use Rattle.cilk_log_replay.specs.machine.labelled.Labelled.{Labelled}
+use Rattle.cilk_log_replay.specs.machine.model.Choice as model
+use Rattle.cilk_log_replay.specs.machine.model.Event.{Event, spawned}
+use Rattle.cilk_log_replay.specs.machine.model.Path.{Path, child_path}
+use Rattle.cilk_log_replay.specs.machine.model.Run.{event_of, one_more, position_after, refusal_of}
+use Rattle.cilk_log_replay.specs.machine.spawn.Nodes.{Node, path_at}
+use Rattle.cilk_log_replay.specs.machine.syntax.Tree.{Program}
+use Rattle.cilk_races.specs.Inside.{parent_path}
+use Rattle.cilk_races.specs.Steps.{Step, step_of}
+use Rattle.cilk_races.proofs.Numbered.{child-next}
+use Rattle.cilk_races.proofs.Births.{grows, stays}
+use Rattle.cilk_races.proofs.Doings.{Means}
+use Rattle.cilk_races.proofs.Gauges.{did-is, events-long, events-next, noted-by}
+use Rattle.cilk_races.proofs.Known.{map-same}
+use Rattle.cilk_races.proofs.Moving.{Says, motion-says}
+use Rattle.cilk_log_replay.proofs.Again.{led_in, chosen, step_down}
 use Rattle.cilk_races.specs.Kept.{children_in, path_in, syncs_in}
 use Rattle.cilk_races.specs.Line.{Line}
 use Rattle.cilk_races.specs.Order.{children_of, syncs_of}
@@ -39,7 +41,7 @@ use Rattle.cilk_races.specs.Paired as paired
 use Rattle.cilk_races.specs.Races as races
 use Rattle.cilk_races.specs.Races.{placed_at, touch, touches_at, touches_of}
 use Rattle.cilk_races.specs.PairWords.{placed_of}
-use Rattle.cilk_races.specs.step.CellWords.{access_of}
+use Rattle.cilk_log_replay.specs.machine.step.CellWords.{access_of}
 use Rattle.cilk_races.specs.Looked.{AdvancesWatch}
 use Rattle.cilk_races.specs.Noted.{KnowsTouch, NotesBy, number_of, placed_by, touch_by}
 use Rattle.cilk_races.specs.Watched.{TellsLines, Watched}
@@ -124,6 +126,11 @@ module _ (t : Tape) (xs : List Choice) (k : ℕ) (old new : Watch) (well : WellF
   did_this : event_of program at.at.standing choice ≡ e
   did_this = did-is t k old.machine new.machine at next choice e is done.is
 
+  numbers : (c : Path) (n : ℕ) → e ≡ spawned c n → c ≡ child_path (parent_path c) (suc (children_of (events_at t k) (parent_path c)))
+  numbers c n is =
+      subst (λ (es : List Event). c ≡ child_path (parent_path c) (suc (children_of es (parent_path c)))) (sym here)
+      (child-next program t.workers (take k t.choices) at.at choice (led_in t k old.machine at) c n (did_this ∙ is))
+
   stay : (i : ℕ) → i < length ns → path_at now i ≡ path_at ns i
   stay = stays program ns now (events_at t k) e at.led.agrees.tree next.led.agrees.tree before behind
 
@@ -179,16 +186,16 @@ module _ (t : Tape) (xs : List Choice) (k : ℕ) (old new : Watch) (well : WellF
   Behind rows = TellsLines program (path_at now) (length now) (events_at t k ++ e ∷ []) rows
 
   -- the paths of those that were made are as they were
-  paths-same : (rows : List Line) → Behind rows → (i : ℕ) → i < length ns → path_in rows i ≡ path_in old.rows.items i
+  paths-same : (rows : List Line) → Behind rows → (i : ℕ) → i < length ns → path_in rows i ≡ path_in old.rows i
   paths-same rows tells i h =
       let more = longer in
       path-told program (path_at now) (length now) (events_at t k ++ e ∷ []) rows tells i (omega (arith, h, more)) ∙ stay i h
-      ∙ sym (path-told program (path_at ns) (length ns) (events_at t k) old.rows.items kept.rows i h)
+      ∙ sym (path-told program (path_at ns) (length ns) (events_at t k) old.rows kept.rows i h)
 
   old-same : (rows : List Line) → Behind rows → (main : ℕ) → program.main ≡ Some main
       → paired.touches_of rows old.touches.items ≡ touches_of program main t.workers (take k t.choices)
   old-same rows tells main start =
-      touches-same old.rows.items rows (length ns) (paths-same rows tells) old.touches.items kept.known ∙ kept.touches main start
+      touches-same old.rows rows (length ns) (paths-same rows tells) old.touches.items kept.known ∙ kept.touches main start
 
   -- a step m
   module _ (m : Motion) (st : Step) (means : Means program (events_at t k) e (path_at ns) (length ns) m st) (rows : List Line) (tells : Behind rows) where
@@ -197,23 +204,23 @@ module _ (t : Tape) (xs : List Choice) (k : ℕ) (old new : Watch) (well : WellF
         let more = longer in
         path-told program (path_at now) (length now) (events_at t k ++ e ∷ []) rows tells i (omega (arith, h, more)) ∙ stay i h
 
-    placed-is : placed_of rows (placed_by old.rows.items m) ≡ placed_at program at.at.events st
+    placed-is : placed_of rows (placed_by old.rows m) ≡ placed_at program at.at.events st
     placed-is =
         let place = up-to m.place means.place ∙ sym means.path in
         let taking = map-same (path_at ns) (path_in rows) (length ns) up-to m.taking means.taking_there ∙ sym means.taking in
         let line = kept.rows.each m.place means.place in
-        let syncs : syncs_in old.rows.items m.place ≡ syncs_of program at.at.events st.path =
-        syncs-is old.rows.items m.place ∙ line.syncs ∙ (λ j. syncs_of program (here j) (sym means.path j))
+        let syncs : syncs_in old.rows m.place ≡ syncs_of program at.at.events st.path =
+        syncs-is old.rows m.place ∙ line.syncs ∙ (λ j. syncs_of program (here j) (sym means.path j))
         in
-        let children : children_in old.rows.items m.place ≡ children_of at.at.events st.path =
-        children-is old.rows.items m.place ∙ line.children ∙ (λ j. children_of (here j) (sym means.path j))
+        let children : children_in old.rows m.place ≡ children_of at.at.events st.path =
+        children-is old.rows m.place ∙ line.children ∙ (λ j. children_of (here j) (sym means.path j))
         in
         λ j. record { path = place j; taking = taking j; syncs = syncs j; children = children j }
 
-    new-same : map (touch_by rows (suc k) look.own (placed_by old.rows.items m) (number_of x) look.locks.items look.procedure) look.accesses.items
+    new-same : map (touch_by rows (suc k) look.own (placed_by old.rows m) (number_of x) look.locks.items look.procedure) look.accesses.items
         ≡ touches_at program at.at.standing at.at.events (suc k) choice
     new-same =
-        touches-by rows (suc k) look.own (number_of x) (placed_by old.rows.items m) look.locks.items look.procedure
+        touches-by rows (suc k) look.own (number_of x) (placed_by old.rows m) look.locks.items look.procedure
         (placed_at program at.at.events st) (path_at ns look.own) placed-is (up-to look.own own-low) look.accesses.items
         ∙ ap (λ n. map (touch (suc k) (placed_at program at.at.events st) n look.locks.items look.procedure)
         (map (access_of (path_at ns look.own)) look.accesses.items))
@@ -221,36 +228,36 @@ module _ (t : Tape) (xs : List Choice) (k : ℕ) (old new : Watch) (well : WellF
         ∙ sym (shown st (ap (λ (es : List Event). step_of program es e) (sym here) ∙ means.step))
 
   finish : (o : Option Motion) → noted t.program now x old.tally ≡ noted_by o x old.tally → NotesBy t.program now look (suc k) x o old new
-      → TellsBy t.program ns now (events_at t k) old.tally.cells old.rows.items short at.led.agrees.tree next.led.agrees.tree before kept.tally.cells
+      → TellsBy t.program ns now (events_at t k) old.tally.cells old.rows short at.led.agrees.tree next.led.agrees.tree before kept.tally.cells
       kept.rows x o
       → Says t.program ns now (events_at t k) old.tally.cells short at.led.agrees.tree next.led.agrees.tree before kept.tally.cells x o
       → Watched t (suc k) new
   finish None is_noted same_all told says =
-      let rows : Behind new.rows.items = subst Behind (sym same_all.rows) told in
+      let rows : Behind new.rows = subst Behind (sym same_all.rows) told in
       record {
         tally = subst (λ (es : List Event). Held program (path_at now) (length now) es new.tally) (sym events)
             (subst (Held program (path_at now) (length now) (events_at t k ++ e ∷ [])) (is_noted ∙ sym same_all.tally) held);
-        rows = subst (λ (es : List Event). TellsLines program (path_at now) (length now) es new.rows.items) (sym events) rows;
+        rows = subst (λ (es : List Event). TellsLines program (path_at now) (length now) es new.rows) (sym events) rows;
         known = subst (All (KnowsTouch (length now))) (sym same_all.touches) (known-more (length ns) (length now) longer old.touches.items kept.known);
         touches = λ main start.
-            ap (paired.touches_of new.rows.items) same_all.touches ∙ old-same new.rows.items rows main start
+            ap (paired.touches_of new.rows) same_all.touches ∙ old-same new.rows rows main start
             ∙ sym (added main start
             ∙ ap (λ ys. touches_of program main t.workers (take k t.choices) ++ ys)
             (bare (ap (λ (es : List Event). step_of program es e) (sym here) ∙ says))
             ∙ append-nil (touches_of program main t.workers (take k t.choices)));
       }
   finish (Some m) is_noted notes told says =
-      let rows : Behind new.rows.items = subst Behind (sym notes.rows) told in
+      let rows : Behind new.rows = subst Behind (sym notes.rows) told in
       let means = says.1 in
       record {
         tally = subst (λ (es : List Event). Held program (path_at now) (length now) es new.tally) (sym events)
             (subst (Held program (path_at now) (length now) (events_at t k ++ e ∷ [])) (sym notes.tally) held);
-        rows = subst (λ (es : List Event). TellsLines program (path_at now) (length now) es new.rows.items) (sym events) rows;
+        rows = subst (λ (es : List Event). TellsLines program (path_at now) (length now) es new.rows) (sym events) rows;
         known = known-more (length ns) (length now) longer new.touches.items
             (notes.touches.known (length ns) own-low (record { place = means.place; taking = means.taking_there }) kept.known);
         touches = λ main start.
-            notes.touches.touches new.rows.items
-            ∙ (λ j. old-same new.rows.items rows main start j ++ new-same m says.0 means new.rows.items rows j)
+            notes.touches.touches new.rows
+            ∙ (λ j. old-same new.rows rows main start j ++ new-same m says.0 means new.rows rows j)
             ∙ sym (added main start);
       }
 
@@ -258,6 +265,6 @@ module _ (t : Tape) (xs : List Choice) (k : ℕ) (old new : Watch) (well : WellF
   watched-next =
       finish (motion_of t.program now old.tally.cells x) refl
       (subst (λ (p : Program). NotesBy p now look (suc k) x (motion_of p now old.tally.cells x) old new) next.program done.noted)
-      (told-noted t.program ns now (events_at t k) old.tally.cells old.rows.items short at.led.agrees.tree next.led.agrees.tree before kept.tally.cells
-      kept.rows x behind)
+      (told-noted t.program ns now (events_at t k) old.tally.cells old.rows short at.led.agrees.tree next.led.agrees.tree before kept.tally.cells
+      kept.rows x behind numbers)
       (motion-says t.program ns now (events_at t k) old.tally.cells short at.led.agrees.tree next.led.agrees.tree before kept.tally.cells x behind)

@@ -1,9 +1,9 @@
 -- What is kept of the instances of a run, by place.
 use Rattle.std.specs.Prelude.{◌≡◌, ◌<◌, ◌-◌, ◌==◌, if◌then◌else◌, ℕ, suc, Bool, false, List, [], length, take, slice_get, slice_index_or, Option, Some, None}
 use Rattle.std.specs.List.{list_any}
-use Rattle.cilk_measure.specs.model.labelled.Labelled.{Labelled}
-use Rattle.cilk_measure.specs.model.Path.{Path, same_path}
-use Rattle.cilk_measure.specs.model.Event.{Event, spawned}
+use Rattle.cilk_log_replay.specs.machine.model.labelled.Labelled.{Labelled}
+use Rattle.cilk_log_replay.specs.machine.model.Path.{Path, same_path}
+use Rattle.cilk_log_replay.specs.machine.model.Event.{Event, spawned}
 use Rattle.cilk_races.specs.Line.{Line}
 use Rattle.cilk_races.specs.Order.{block_of}
 

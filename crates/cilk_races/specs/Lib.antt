@@ -1,4 +1,23 @@
+pub mod Acts
+pub mod Nodes
+pub mod Inside
+pub mod Steps
+pub mod Span
+pub mod Deeds
+pub mod Measure
+pub mod Text
+pub mod NumberRows
+pub mod Cells
+pub mod Motions
+pub mod Tallies
+pub mod Seats
+pub mod Words
+pub mod CellsKept
+pub mod Gauged
+pub mod Held
 pub mod Line
+pub mod Mixed
+pub mod Ways
 pub mod Order
 pub mod Races
 pub mod Kept
@@ -16,5 +35,4 @@ pub mod Found
 pub mod Reversals
 pub mod Met
 pub mod RacesText
-pub use Rattle.cilk_measure.specs as measure
-pub use Rattle.cilk_measure.specs.replay.machine.step
+pub use Rattle.cilk_log_replay.specs as replay

@@ -1,6 +1,6 @@
 -- What is kept of an instance.
 use Rattle.std.specs.Prelude.{ℕ, List, []}
-use Rattle.cilk_measure.specs.model.Path.{Path}
+use Rattle.cilk_log_replay.specs.machine.model.Path.{Path}
 
 pub record Line : Type 0 where
   pub path : Path

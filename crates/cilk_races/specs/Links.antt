@@ -1,26 +1,19 @@
 -- Accesses of a run, linked where their cells have one hash.
-use Rattle.std.specs.Prelude.{◌≡◌, ◌<◌, ◌≤◌, ◌+◌, ◌*◌, ◌%◌, ◌^◌, ◌⊎◌, ℕ, suc, Bool, true, false, List, [], ◌∷◌, slice_index, slice_index_or}
-use Rattle.cilk_measure.specs.replay.machine.step.Accesses.{Where, global, own, output, synched}
+use Rattle.std.specs.Prelude.{◌≡◌, ◌<◌, ◌≤◌, ◌%◌, ◌⊎◌, ℕ, suc, Bool, true, false, List, slice_index, slice_index_or}
+use Rattle.cilk_log_replay.specs.machine.step.Accesses.{Where, global, own, output, synched}
 use Rattle.cilk_races.specs.Alike.{AreAlike, AreOfThread}
 use Rattle.cilk_races.specs.declared.streak.Streak.{Streak}
 use Rattle.cilk_races.specs.declared.streak.Streak.TheVariants.{Thread, Locks}
+use Rattle.cilk_races.specs.Mixed.{mixed, mixed_all}
 use Rattle.cilk_races.specs.Paired.{touch_at}
 use Rattle.cilk_races.specs.Races.{Touch}
-
--- the hash of one number more
-unfoldable pub mixed : ℕ → ℕ → ℕ
-mixed hash number = (hash * 1000003 % 2 ^ 64 + number) % 2 ^ 64
-
-abbrev pub mixed_all : ℕ → List ℕ → ℕ
-mixed_all hash [] = hash
-mixed_all hash (number ∷ numbers) = mixed_all (mixed hash number) numbers
 
 -- no path has a number of 2^32 or more, so cells of these four kinds seldom share a bucket
 abbrev pub hash_of : Where → ℕ
 hash_of (global variable index) = mixed (mixed variable 4294967296) index
-hash_of (own path variable index) = mixed (mixed_all variable path) index
+hash_of (own path variable index) = mixed (mixed (mixed_all 0 path) variable) index
 hash_of output = 4294967297
-hash_of (synched path) = mixed_all 4294967298 path
+hash_of (synched path) = mixed (mixed_all 0 path) 4294967298
 
 -- the bucket of an access, among so many
 abbrev pub bucket_of : ℕ → Touch → ℕ

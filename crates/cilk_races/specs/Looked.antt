@@ -1,18 +1,18 @@
 -- What the next choice of a machine touches, and that it was made.
 use Rattle.std.specs.Prelude.{◌≡◌, ◌⊎◌, ℕ, suc, List, [], None, Some, slice_get}
-use Rattle.cilk_races.specs.measure.replay.Tape.{Tape, did_at}
-use Rattle.cilk_races.specs.measure.replay.machine.Ahead.{IsAhead}
-use Rattle.cilk_races.specs.measure.replay.machine.Situation.{Situation}
-use Rattle.cilk_races.specs.measure.replay.machine.plans.PartWords.{event_by}
-use Rattle.cilk_races.specs.measure.replay.machine.plans.declared.did.Did.{Did}
-use Rattle.cilk_races.specs.measure.replay.machine.choices.declared.act.Act.{Act}
-use Rattle.cilk_races.specs.measure.replay.machine.choices.declared.act.Act.TheVariants.{Step, Pop, Steal}
-use Rattle.cilk_races.specs.measure.replay.machine.choices.declared.choice.Choice.{Choice}
-use Rattle.cilk_races.specs.measure.replay.machine.model.Hands.{IsWorker, hand_of}
-use Rattle.cilk_races.specs.measure.replay.machine.spawn.Nodes.{path_at}
-use Rattle.cilk_races.specs.step.plan.StepInput.{StepInput, id_of, own_node}
-use Rattle.cilk_races.specs.step.Shown.{held, touched}
-use Rattle.cilk_races.specs.step.CellWords.{told}
+use Rattle.cilk_log_replay.specs.Tape.{Tape, did_at}
+use Rattle.cilk_log_replay.specs.machine.Ahead.{IsAhead}
+use Rattle.cilk_log_replay.specs.machine.Situation.{Situation}
+use Rattle.cilk_log_replay.specs.machine.plans.PartWords.{event_by}
+use Rattle.cilk_log_replay.specs.machine.plans.declared.did.Did.{Did}
+use Rattle.cilk_log_replay.specs.machine.choices.declared.act.Act.{Act}
+use Rattle.cilk_log_replay.specs.machine.choices.declared.act.Act.TheVariants.{Step, Pop, Steal}
+use Rattle.cilk_log_replay.specs.machine.choices.declared.choice.Choice.{Choice}
+use Rattle.cilk_log_replay.specs.machine.model.Hands.{IsWorker, hand_of}
+use Rattle.cilk_log_replay.specs.machine.spawn.Nodes.{path_at}
+use Rattle.cilk_log_replay.specs.machine.step.plan.StepInput.{StepInput, id_of, own_node}
+use Rattle.cilk_log_replay.specs.machine.step.Shown.{held, touched}
+use Rattle.cilk_log_replay.specs.machine.step.CellWords.{told}
 use Rattle.cilk_races.specs.Noted.{IsNoted}
 use Rattle.cilk_races.specs.declared.look.Look.{Look}
 use Rattle.cilk_races.specs.declared.watch.Watch.{Watch}

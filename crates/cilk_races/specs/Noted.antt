@@ -2,22 +2,22 @@
 use Rattle.std.specs.Prelude.{◌≡◌, ◌<◌, ℕ, ◌+◌, ◌-◌, ◌^◌, min, nat_lt, Bool, true, false, if◌then◌else◌, List, [], ◌∷◌, ◌++◌, length, map, Option, Some, None}
 use Rattle.std.specs.Prelude.{slice_index_or, slice_set}
 use Rattle.std.specs.List.{All}
-use Rattle.cilk_races.specs.measure.Kept.{IsThere}
-use Rattle.cilk_races.specs.measure.Motions.{motion_of}
-use Rattle.cilk_races.specs.measure.Tallies.{noted}
-use Rattle.cilk_races.specs.measure.replay.machine.syntax.Tree.{Program}
-use Rattle.cilk_races.specs.measure.replay.machine.plans.declared.did.Did.{Did}
-use Rattle.cilk_races.specs.measure.replay.machine.plans.declared.did.Did.TheVariants.{Moved, Acted, Spawned, Delivered, Returned, Ended, Trapped}
-use Rattle.cilk_races.specs.measure.replay.machine.model.Path.{Path}
-use Rattle.cilk_races.specs.measure.replay.machine.spawn.Nodes.{Node, path_at}
-use Rattle.cilk_races.specs.measure.declared.motion.Motion.{Motion}
+use Rattle.cilk_races.specs.CellsKept.{IsThere}
+use Rattle.cilk_races.specs.Motions.{motion_of}
+use Rattle.cilk_races.specs.Tallies.{noted}
+use Rattle.cilk_log_replay.specs.machine.syntax.Tree.{Program}
+use Rattle.cilk_log_replay.specs.machine.plans.declared.did.Did.{Did}
+use Rattle.cilk_log_replay.specs.machine.plans.declared.did.Did.TheVariants.{Moved, Acted, Spawned, Delivered, Returned, Ended, Trapped}
+use Rattle.cilk_log_replay.specs.machine.model.Path.{child_path}
+use Rattle.cilk_log_replay.specs.machine.spawn.Nodes.{Node}
+use Rattle.cilk_races.specs.declared.motion.Motion.{Motion}
 use Rattle.cilk_races.specs.Kept.{children_in, path_in, syncs_in}
 use Rattle.cilk_races.specs.Line.{Line, no_line}
 use Rattle.cilk_races.specs.Paired.{touches_of}
 use Rattle.cilk_races.specs.Races.{Touch}
 use Rattle.cilk_races.specs.PairWords.{placed_of}
-use Rattle.cilk_races.specs.step.CellWords.{access_of}
-use Rattle.cilk_races.specs.step.declared.access.Access.{Access}
+use Rattle.cilk_log_replay.specs.machine.step.CellWords.{access_of}
+use Rattle.cilk_log_replay.specs.machine.step.declared.access.Access.{Access}
 use Rattle.cilk_races.specs.declared.touch.Placed.{Placed}
 use Rattle.cilk_races.specs.declared.touch.Touch as kept
 use Rattle.cilk_races.specs.declared.look.Look.{Look}
@@ -36,8 +36,9 @@ passed line = record line { syncs = next line.syncs }
 abbrev pub bore : Line → Line
 bore line = record line { children = next line.children }
 
-abbrev pub child_of : Path → Line → Line
-child_of path line = record { path = path; blocks = line.blocks ++ line.syncs ∷ []; syncs = 0; children = 0 }
+-- its next child, at the birth
+abbrev pub child_of : Line → Line
+child_of line = record { path = child_path line.path (next line.children); blocks = line.blocks ++ line.syncs ∷ []; syncs = 0; children = 0 }
 
 abbrev pub passed_at : ℕ → List Line → List Line
 passed_at place rows = if nat_lt place (length rows) then slice_set rows place (passed (line_at rows place)) else rows
@@ -46,20 +47,19 @@ abbrev pub passed_if : Bool → ℕ → List Line → List Line
 passed_if true place rows = passed_at place rows
 passed_if false place rows = rows
 
--- the child that was born has this path
-abbrev pub bore_at : Path → ℕ → List Line → List Line
-bore_at path place rows =
-    if nat_lt place (length rows) then slice_set rows place (bore (line_at rows place)) ++ child_of path (line_at rows place) ∷ [] else rows
+abbrev pub bore_at : ℕ → List Line → List Line
+bore_at place rows =
+    if nat_lt place (length rows) then slice_set rows place (bore (line_at rows place)) ++ child_of (line_at rows place) ∷ [] else rows
 
--- a step that did this, in the tree that it led to
-abbrev pub rows_after : List Node → Did → Motion → List Line → List Line
-rows_after ns Moved m rows = rows
-rows_after ns (Acted id n) m rows = passed_if m.joins m.place rows
-rows_after ns (Spawned id n) m rows = bore_at (path_at ns (length rows)) m.place rows
-rows_after ns (Delivered id n) m rows = rows
-rows_after ns (Returned id n) m rows = rows
-rows_after ns (Ended id) m rows = rows
-rows_after ns (Trapped kind id n) m rows = rows
+-- a step that did this
+abbrev pub rows_after : Did → Motion → List Line → List Line
+rows_after Moved m rows = rows
+rows_after (Acted id n) m rows = passed_if m.joins m.place rows
+rows_after (Spawned id n) m rows = bore_at m.place rows
+rows_after (Delivered id n) m rows = rows
+rows_after (Returned id n) m rows = rows
+rows_after (Ended id) m rows = rows
+rows_after (Trapped kind id n) m rows = rows
 
 abbrev pub number_of : Did → ℕ
 number_of Moved = 0
@@ -102,14 +102,14 @@ pub record KeepsTouches (k own : ℕ) (placed : Placed) (n : ℕ) (locks : List 
 
 -- choice k, which touched that, did this
 pub record Notes (program : Program) (ns : List Node) (look : Look) (k : ℕ) (did : Did) (m : Motion) (old new : Watch) : Type 0 where
-  pub touches : KeepsTouches k look.own (placed_by old.rows.items m) (number_of did) look.locks.items look.procedure look.accesses.items
+  pub touches : KeepsTouches k look.own (placed_by old.rows m) (number_of did) look.locks.items look.procedure look.accesses.items
       old.touches.items new.touches.items
-  pub rows : new.rows.items ≡ rows_after ns did m old.rows.items
+  pub rows : new.rows ≡ rows_after did m old.rows
   pub tally : new.tally ≡ noted program ns did old.tally
 
 pub record SameWatch (old new : Watch) : Type 0 where
   pub touches : new.touches.items ≡ old.touches.items
-  pub rows : new.rows.items ≡ old.rows.items
+  pub rows : new.rows ≡ old.rows
   pub tally : new.tally ≡ old.tally
 
 abbrev pub NotesBy : Program → List Node → Look → ℕ → Did → Option Motion → Watch → Watch → Type 0

@@ -1,11 +1,11 @@
 -- Which two steps of a run the program does not order: by the paths of their instances, the `sync`s passed and the children spawned before them.
 use Rattle.std.specs.Prelude.{ℕ, ◌==◌, nat_le, Bool, true, false, not, ◌&&◌, if◌then◌else◌, List, [], ◌∷◌, ◌++◌, Option, Some, None, count_by}
-use Rattle.cilk_measure.specs.model.labelled.Labelled.{Labelled}
-use Rattle.cilk_measure.specs.model.Path.{Path, same_path}
-use Rattle.cilk_measure.specs.model.Change.{is_sync}
-use Rattle.cilk_measure.specs.model.Event.{Event, acted, spawned}
-use Rattle.cilk_measure.specs.Acts.{act_of, is_so}
-use Rattle.cilk_measure.specs.Inside.{parent_path}
+use Rattle.cilk_log_replay.specs.machine.model.labelled.Labelled.{Labelled}
+use Rattle.cilk_log_replay.specs.machine.model.Path.{Path, same_path}
+use Rattle.cilk_log_replay.specs.machine.model.Change.{is_sync}
+use Rattle.cilk_log_replay.specs.machine.model.Event.{Event, acted, spawned}
+use Rattle.cilk_races.specs.Acts.{act_of, is_so}
+use Rattle.cilk_races.specs.Inside.{parent_path}
 
 -- a step: its instance, the child whose value it takes or whose inlet it is of, and what its instance did before
 pub record Placed : Type 0 where

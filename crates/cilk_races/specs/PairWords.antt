@@ -1,6 +1,6 @@
 -- What the code's words for touches and their relations mean.
 use Rattle.std.specs.Prelude.{List, option_map}
-use Rattle.cilk_measure.specs.replay.machine.step.CellWords.{access_of}
+use Rattle.cilk_log_replay.specs.machine.step.CellWords.{access_of}
 use Rattle.cilk_races.specs.declared.relation.Relation as coded
 use Rattle.cilk_races.specs.declared.relation.Relation.TheVariants as named
 use Rattle.cilk_races.specs.Line.{Line}

@@ -1,9 +1,9 @@
 -- Pairs of kept accesses.
 use Rattle.std.specs.Prelude.{◌<◌, ℕ, Bool, false, not, List, [], ◌∷◌, ◌++◌, map, filter, slice_index_or, take, if◌then◌else◌, Option, Some, None}
 use Rattle.std.specs.List.{list_any}
-use Rattle.cilk_measure.specs.model.labelled.Labelled.{Labelled}
-use Rattle.cilk_measure.specs.model.Event.{Event}
-use Rattle.cilk_measure.specs.replay.machine.step.Accesses.{output}
+use Rattle.cilk_log_replay.specs.machine.model.labelled.Labelled.{Labelled}
+use Rattle.cilk_log_replay.specs.machine.model.Event.{Event}
+use Rattle.cilk_log_replay.specs.machine.step.Accesses.{output}
 use Rattle.cilk_races.specs.declared.pairing.Pair as kept
 use Rattle.cilk_races.specs.Line.{Line}
 use Rattle.cilk_races.specs.declared.touch.Touch as touched

@@ -1,8 +1,8 @@
 -- The races of all choices of a tape.
 use Rattle.std.specs.Prelude.{◌≡◌, ℕ, List, length, Some}
-use Rattle.cilk_races.specs.measure.replay.Tape.{Tape, position_at}
-use Rattle.cilk_races.specs.measure.replay.machine.labelled.Bodies.{label}
-use Rattle.cilk_races.specs.measure.model.Run.{Position}
+use Rattle.cilk_log_replay.specs.Tape.{Tape, position_at}
+use Rattle.cilk_log_replay.specs.machine.labelled.Bodies.{label}
+use Rattle.cilk_log_replay.specs.machine.model.Run.{Position}
 use Rattle.cilk_races.specs.Races.{Pair, touches_of, pairs_of, entries_of}
 
 -- the body of `main` is the one that the root runs

@@ -2,18 +2,18 @@
 use Rattle.std.specs.Prelude.{ℕ, suc, ◌==◌, Bool, true, false, not, ◌&&◌, ◌||◌, if◌then◌else◌, List, [], ◌∷◌, ◌++◌, map, filter, length}
 use Rattle.std.specs.Prelude.{Option, Some, None}
 use Rattle.std.specs.List.{list_any}
-use Rattle.cilk_measure.specs.model.labelled.Labelled.{Labelled}
-use Rattle.cilk_measure.specs.model.Path.{Path, same_path}
-use Rattle.cilk_measure.specs.model.Choice.{Choice}
-use Rattle.cilk_measure.specs.model.Event.{Event, acted, spawned, delivered, returned, ended, trapped, moved}
-use Rattle.cilk_measure.specs.model.State.{State, instance_at}
-use Rattle.cilk_measure.specs.model.Instance.{Instance}
-use Rattle.cilk_measure.specs.model.Run.{Standing, next_of, event_of, opening}
-use Rattle.cilk_measure.specs.model.Scheduler.{hand_of}
-use Rattle.cilk_measure.specs.Deeds.{is_step}
-use Rattle.cilk_measure.specs.Steps.{Step, step_of}
-use Rattle.cilk_measure.specs.replay.machine.step.plan.agree.Alike.{lowest_body}
-use Rattle.cilk_measure.specs.replay.machine.step.Accesses.{Where, global, own, output, synched, Access, accesses_of, locks_from}
+use Rattle.cilk_log_replay.specs.machine.model.labelled.Labelled.{Labelled}
+use Rattle.cilk_log_replay.specs.machine.model.Path.{Path, same_path}
+use Rattle.cilk_log_replay.specs.machine.model.Choice.{Choice}
+use Rattle.cilk_log_replay.specs.machine.model.Event.{Event, acted, spawned, delivered, returned, ended, trapped, moved}
+use Rattle.cilk_log_replay.specs.machine.model.State.{State, instance_at}
+use Rattle.cilk_log_replay.specs.machine.model.Instance.{Instance}
+use Rattle.cilk_log_replay.specs.machine.model.Run.{Standing, next_of, event_of, opening}
+use Rattle.cilk_log_replay.specs.machine.model.Scheduler.{hand_of}
+use Rattle.cilk_races.specs.Deeds.{is_step}
+use Rattle.cilk_races.specs.Steps.{Step, step_of}
+use Rattle.cilk_log_replay.specs.machine.step.plan.agree.Alike.{lowest_body}
+use Rattle.cilk_log_replay.specs.machine.step.Accesses.{Where, global, own, output, synched, Access, accesses_of, locks_from}
 use Rattle.cilk_races.specs.Order.{Placed, Relation, ordered, race, order, inlets, syncs_of, children_of, relation_of}
 
 -- an access of a choice, counted from 1: by which action, and with which locks

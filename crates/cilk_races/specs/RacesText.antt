@@ -1,14 +1,14 @@
 -- How the races of a run are told.
 use Rattle.std.specs.Prelude.{◌≡◌, ℕ, ◌==◌, if◌then◌else◌, List, [], ◌++◌, map, flat_map, slice_get, unwrap_or, codes, decimal, Option, Some, None}
 use Rattle.std.specs.List.{All}
-use Rattle.cilk_races.specs.measure.replay.Tape.{Tape}
-use Rattle.cilk_races.specs.measure.replay.machine.labelled.Bodies.{label}
-use Rattle.cilk_races.specs.measure.replay.machine.labelled.Labelled.{Labelled, Variable, Body}
-use Rattle.cilk_races.specs.measure.replay.machine.model.End.{End, finished, trapped, stuck, limit, end_text, line_of}
-use Rattle.cilk_races.specs.measure.replay.machine.model.Path.{Path, path_text}
+use Rattle.cilk_log_replay.specs.Tape.{Tape}
+use Rattle.cilk_log_replay.specs.machine.labelled.Bodies.{label}
+use Rattle.cilk_log_replay.specs.machine.labelled.Labelled.{Labelled, Variable, Body}
+use Rattle.cilk_log_replay.specs.machine.model.End.{End, finished, trapped, stuck, limit, end_text, line_of}
+use Rattle.cilk_log_replay.specs.machine.model.Path.{Path, path_text}
 use Rattle.cilk_races.specs.Order.{Relation, ordered, race, order, inlets}
 use Rattle.cilk_races.specs.Races.{Pair, Touch, count_of}
-use Rattle.cilk_races.specs.step.Accesses.{Where, global, own, output, synched}
+use Rattle.cilk_log_replay.specs.machine.step.Accesses.{Where, global, own, output, synched}
 use Rattle.cilk_races.specs.Raced.{AreRacesOf}
 use Rattle.cilk_races.specs.Reversals.{Meeting, Reversal, IsMeetingOf}
 

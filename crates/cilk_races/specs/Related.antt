@@ -1,6 +1,6 @@
 -- The relation of two steps, by what is kept of their instances.
 use Rattle.std.specs.Prelude.{ℕ, suc, ◌+◌, ◌-◌, ◌==◌, nat_le, nat_lt, not, ◌&&◌, if◌then◌else◌, List, [], ◌∷◌, length, take, slice_index_or, Option, Some, None}
-use Rattle.cilk_measure.specs.model.Path.{Path, same_path}
+use Rattle.cilk_log_replay.specs.machine.model.Path.{Path, same_path}
 use Rattle.cilk_races.specs.Line.{Line}
 use Rattle.cilk_races.specs.declared.touch.Placed.{Placed}
 use Rattle.cilk_races.specs.Kept.{path_in, block_in, last_in}

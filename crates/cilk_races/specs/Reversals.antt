@@ -1,10 +1,10 @@
 -- Schedules that take two accesses of a run in the other order.
 use Rattle.std.specs.Prelude.{⊤, ◌≡◌, ◌<◌, ◌≤◌, ◌==◌, nat_le, ◌&&◌, ℕ, Bool, true, false, not, List, length, count_by, Option, Some, None}
-use Rattle.cilk_races.specs.measure.replay.Tape.{Tape, position_at}
-use Rattle.cilk_races.specs.measure.replay.machine.labelled.Bodies.{label}
-use Rattle.cilk_races.specs.measure.replay.machine.model.End.{End, end_now}
-use Rattle.cilk_races.specs.measure.replay.machine.model.Path.{same_path}
-use Rattle.cilk_races.specs.measure.model.Run.{Position}
+use Rattle.cilk_log_replay.specs.Tape.{Tape, position_at}
+use Rattle.cilk_log_replay.specs.machine.labelled.Bodies.{label}
+use Rattle.cilk_log_replay.specs.machine.model.End.{End, end_now}
+use Rattle.cilk_log_replay.specs.machine.model.Path.{same_path}
+use Rattle.cilk_log_replay.specs.machine.model.Run.{Position}
 use Rattle.cilk_races.specs.Races.{Pair, Touch, same_cell, touches_of}
 
 abbrev pub same_bool : Bool → Bool → Bool

@@ -1,10 +1,10 @@
 -- The races of worked runs.
 use Rattle.std.specs.Prelude.{ℕ, List, map, Option, Some, None, option_map}
-use Rattle.cilk_measure.specs.model.labelled.syntax.Tree.{Program}
-use Rattle.cilk_measure.specs.model.labelled.Labelled.{Labelled}
-use Rattle.cilk_measure.specs.model.labelled.Bodies.{label}
-use Rattle.cilk_measure.specs.model.Choice.{Choice}
-use Rattle.cilk_measure.specs.model.Run.{after}
+use Rattle.cilk_log_replay.specs.machine.model.labelled.syntax.Tree.{Program}
+use Rattle.cilk_log_replay.specs.machine.model.labelled.Labelled.{Labelled}
+use Rattle.cilk_log_replay.specs.machine.model.labelled.Bodies.{label}
+use Rattle.cilk_log_replay.specs.machine.model.Choice.{Choice}
+use Rattle.cilk_log_replay.specs.machine.model.Run.{after}
 use Rattle.cilk_races.specs.Order.{race, order, inlets}
 use Rattle.cilk_races.specs.Races.{Pair, touches_of, pairs_of, entries_of, count_of}
 

@@ -1,15 +1,15 @@
 -- What is kept behind the first choices of a tape is what their events tell.
 use Rattle.std.specs.Prelude.{◌≡◌, ◌<◌, ℕ, suc, true, false, List, [], length, slice_index_or, take, Some}
 use Rattle.std.specs.List.{All}
-use Rattle.cilk_races.specs.measure.Gauged.{events_at}
-use Rattle.cilk_races.specs.measure.Held.{Held}
-use Rattle.cilk_races.specs.measure.Kept.{IsUnmade}
-use Rattle.cilk_races.specs.measure.replay.Tape.{Tape}
-use Rattle.cilk_races.specs.measure.replay.machine.labelled.Bodies.{label}
-use Rattle.cilk_races.specs.measure.replay.machine.labelled.Labelled.{Labelled}
-use Rattle.cilk_races.specs.measure.replay.machine.model.Event.{Event}
-use Rattle.cilk_races.specs.measure.replay.machine.model.Path.{Path}
-use Rattle.cilk_races.specs.measure.replay.machine.spawn.Nodes.{path_at}
+use Rattle.cilk_races.specs.Gauged.{events_at}
+use Rattle.cilk_races.specs.Held.{Held}
+use Rattle.cilk_races.specs.CellsKept.{IsUnmade}
+use Rattle.cilk_log_replay.specs.Tape.{Tape}
+use Rattle.cilk_log_replay.specs.machine.labelled.Bodies.{label}
+use Rattle.cilk_log_replay.specs.machine.labelled.Labelled.{Labelled}
+use Rattle.cilk_log_replay.specs.machine.model.Event.{Event}
+use Rattle.cilk_log_replay.specs.machine.model.Path.{Path}
+use Rattle.cilk_log_replay.specs.machine.spawn.Nodes.{path_at}
 use Rattle.cilk_races.specs.Kept.{is_born}
 use Rattle.cilk_races.specs.Line.{Line}
 use Rattle.cilk_races.specs.Order.{block_of, children_of, syncs_of}
@@ -46,7 +46,7 @@ pub record TellsLines (program : Labelled) (up : ℕ → Path) (count : ℕ) (ev
 -- behind the first k choices
 pub record Watched (t : Tape) (k : ℕ) (w : Watch) : Type 0 where
   pub tally : Held (label t.program) (path_at w.machine.machine.nodes) (length w.machine.machine.nodes) (events_at t k) w.tally
-  pub rows : TellsLines (label t.program) (path_at w.machine.machine.nodes) (length w.machine.machine.nodes) (events_at t k) w.rows.items
+  pub rows : TellsLines (label t.program) (path_at w.machine.machine.nodes) (length w.machine.machine.nodes) (events_at t k) w.rows
   pub known : All (KnowsTouch (length w.machine.machine.nodes)) w.touches.items
   pub touches : (main : ℕ) → (label t.program).main ≡ Some main
-      → paired.touches_of w.rows.items w.touches.items ≡ touches_of (label t.program) main t.workers (take k t.choices)
+      → paired.touches_of w.rows w.touches.items ≡ touches_of (label t.program) main t.workers (take k t.choices)

@@ -5,7 +5,7 @@ ghost use Rattle.std.specs.Prelude.{◌≡◌, true};
 ghost use Rattle.cilk_races.specs.Alike.{AreKeptOfThread, AreKeptAlike};
 
 use crate::touch::{Placed, Touch};
-use cilk_measure::{Access, Spot};
+use cilk_log_replay::{Access, Spot};
 
 /// Whether nothing tells them apart but their choices: both are of one cell, with the same locks, and by one action, before and behind which their
 /// instance did the same.

@@ -2,13 +2,13 @@
 //! looked at in a replay before it is told.
 
 ghost use Rattle.std.specs.Prelude.{◌<◌, length};
-ghost use Rattle.cilk_races.specs.step.plan.StepInput.{id_of};
-ghost use Rattle.cilk_races.specs.measure.replay.machine.step.Scenes.{HeadFits, input_of};
+ghost use Rattle.cilk_log_replay.specs.machine.step.plan.StepInput.{id_of};
+ghost use Rattle.cilk_log_replay.specs.machine.step.Scenes.{HeadFits, input_of};
 
-use crate::row::{Row, path_in};
+use crate::rows::Rows;
 use crate::times::times;
 use crate::touch::Touch;
-use cilk_measure::{
+use cilk_log_replay::{
     Access, Act, Choice, Did, Loaded, Machine, Memory, Refusal, ReplayFault, Scene, accesses_in,
     number_in, play,
 };
@@ -17,7 +17,7 @@ use std::alloc::{AllocError, Global};
 /// What is wanted: the first access is to be made behind the second.
 #[derive(Clone, Copy)]
 pub(crate) struct Goal<'a> {
-    pub rows: &'a [Row],
+    pub rows: &'a Rows,
     pub touches: &'a [Touch],
     pub first: &'a Touch,
     pub second: &'a Touch,
@@ -138,12 +138,21 @@ impl<'a> Goal<'a> {
             return Ok(0);
         }
         let path = machine.path_of(scene.frame.id())?;
-        if path.as_slice() != path_in(self.rows, self.second.own) {
+        let own = self.rows.path_of(self.second.own)?;
+        if !is_path(own.as_slice(), path.as_slice()) {
             return Ok(0);
         }
         let accesses = accesses_in(alloc, scene)?;
         Ok(count_of(accesses.as_slice(), self.second.access))
     }
+}
+
+fn is_path(numbers: &[u64], path: &[u32]) -> bool {
+    numbers.len() == path.len()
+        && numbers
+            .iter()
+            .zip(path)
+            .all(|(number, other)| *number == u64::from(*other))
 }
 
 fn count_of(accesses: &[Access], access: Access) -> usize {

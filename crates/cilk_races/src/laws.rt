@@ -1,7 +1,7 @@
 //! Laws about the definitions. The functions do nothing: their contracts are what is proved.
 
 ghost use Rattle.std.specs.Prelude.{◌≡◌, ◌∷◌, [], Some};
-ghost use Rattle.cilk_measure.specs.Rows.{kept, lost, racing};
+ghost use Rattle.cilk_races.specs.NumberRows.{kept, lost, racing};
 ghost use Rattle.cilk_races.specs.Rows.{races_of};
 
 /// Two children that race, one after the other and mixed.

@@ -6,14 +6,14 @@ ghost use Rattle.cilk_races.specs.Links.{AreLeftOut};
 ghost use Rattle.cilk_races.specs.Paired.{touches_of};
 
 use crate::hashing::hash_of;
-use crate::row::Row;
+use crate::rows::Rows;
 use crate::touch::Touch;
 use crate::twins::twins_of;
-use cilk_measure::Memory;
+use cilk_log_replay::Memory;
 use std::alloc::Global;
 
 /// A mark for each of them.
-pub(crate) fn left_out(alloc: Global, rows: &[Row], touches: &[Touch]) -> Result<Vec<bool>, Memory>
+pub(crate) fn left_out(alloc: Global, rows: &Rows, touches: &[Touch]) -> Result<Vec<bool>, Memory>
     ensures size { IfOk result (λ marks. length marks.items ≡ length touches.now) }
     ensures left { IfOk result (λ marks. AreLeftOut (length touches.now) (touches_of rows.now touches.now) marks.items) }
 {
@@ -24,7 +24,7 @@ pub(crate) fn left_out(alloc: Global, rows: &[Row], touches: &[Touch]) -> Result
 }
 
 // Goes through the accesses from the last one on, and keeps of each bucket whether one writes.
-fn leave_reads_out(rows: &[Row], touches: &[Touch], written: &mut [bool], marks: &mut [bool])
+fn leave_reads_out(rows: &Rows, touches: &[Touch], written: &mut [bool], marks: &mut [bool])
     requires written { written.old ≡ replicate (length touches.now) false }
     requires size { length marks.old ≡ length touches.now }
     requires left { AreLeftOut (length touches.now) (touches_of rows.now touches.now) marks.old }

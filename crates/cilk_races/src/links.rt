@@ -7,11 +7,11 @@ ghost use Rattle.cilk_races.specs.Paired.{touches_of};
 
 use crate::hashing::hash_of;
 use crate::left_out::left_out;
-use crate::row::Row;
+use crate::rows::Rows;
 use crate::streak::Streak;
 use crate::streaks::streaks_of;
 use crate::touch::Touch;
-use cilk_measure::Memory;
+use cilk_log_replay::Memory;
 use std::alloc::Global;
 
 /// As many buckets as there are accesses, each of which begins at the first access whose hash falls into it and that is not left out.
@@ -29,7 +29,7 @@ pub struct Links {
 
 impl Links {
     /// Those of these accesses.
-    pub fn new(alloc: Global, rows: &[Row], touches: &[Touch]) -> Result<Links, Memory>
+    pub fn new(alloc: Global, rows: &Rows, touches: &[Touch]) -> Result<Links, Memory>
         ensures first { IfOk result (λ links. length links.first.items ≡ length touches.now) }
         ensures next { IfOk result (λ links. length links.next.items ≡ length touches.now) }
         ensures threads { IfOk result (λ links. length links.threads.items ≡ length touches.now) }
@@ -61,7 +61,7 @@ impl Links {
 }
 
 // Goes through the accesses from the last one on.
-fn link(rows: &[Row], touches: &[Touch], left: &[bool], first: &mut [usize], next: &mut [usize])
+fn link(rows: &Rows, touches: &[Touch], left: &[bool], first: &mut [usize], next: &mut [usize])
     requires size { length left.now ≡ length touches.now }
     requires left { AreLeftOut (length touches.now) (touches_of rows.now touches.now) left.now }
     requires first { first.old ≡ replicate (length touches.now) (length touches.now) }

@@ -1,6 +1,6 @@
 //! What a choice touches that is not made yet.
 
-use cilk_measure::Access;
+use cilk_log_replay::Access;
 
 /// The cells that the step of a choice reads and writes. A pop or a steal touches none.
 #[derive(Drop)]

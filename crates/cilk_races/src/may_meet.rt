@@ -2,17 +2,17 @@
 
 ghost use Rattle.std.specs.Prelude.{◌≡◌, ◌==◌};
 ghost use Rattle.std.specs.List.{list_any};
-ghost use Rattle.cilk_measure.specs.model.Path.{same_path};
+ghost use Rattle.cilk_log_replay.specs.machine.model.Path.{same_path};
 ghost use Rattle.cilk_races.specs.Kept.{path_in};
 ghost use Rattle.cilk_races.specs.Races.{meet, same_cell, same_variable, share_one};
 ghost use Rattle.cilk_races.specs.PairWords.{touch_of};
 
-use crate::row::{Row, path_in};
+use crate::rows::Rows;
 use crate::touch::Touch;
-use cilk_measure::Spot;
+use cilk_log_replay::Spot;
 
 /// Whether two accesses meet.
-pub fn meet(rows: &[Row], a: &Touch, b: &Touch) -> bool
+pub fn meet(rows: &Rows, a: &Touch, b: &Touch) -> bool
     ensures { result ≡ meet (touch_of rows.now a.now) (touch_of rows.now b.now) }
 {
     same_cell(rows, a, b)
@@ -21,7 +21,7 @@ pub fn meet(rows: &[Row], a: &Touch, b: &Touch) -> bool
 }
 
 // Whether both are of one cell.
-fn same_cell(rows: &[Row], a: &Touch, b: &Touch) -> bool
+fn same_cell(rows: &Rows, a: &Touch, b: &Touch) -> bool
     ensures { result ≡ same_cell (touch_of rows.now a.now).access.at (touch_of rows.now b.now).access.at }
 {
     match a.access.at {
@@ -45,7 +45,7 @@ fn same_cell(rows: &[Row], a: &Touch, b: &Touch) -> bool
 }
 
 /// Whether both are of one variable, of whatever element.
-pub fn same_variable(rows: &[Row], a: &Touch, b: &Touch) -> bool
+pub fn same_variable(rows: &Rows, a: &Touch, b: &Touch) -> bool
     ensures { result ≡ same_variable (touch_of rows.now a.now).access.at (touch_of rows.now b.now).access.at }
 {
     match a.access.at {
@@ -69,10 +69,10 @@ pub fn same_variable(rows: &[Row], a: &Touch, b: &Touch) -> bool
 }
 
 // Whether both are by one instance.
-fn same_instance(rows: &[Row], a: &Touch, b: &Touch) -> bool
+fn same_instance(rows: &Rows, a: &Touch, b: &Touch) -> bool
     ensures { result ≡ same_path (path_in rows.now a.now.own) (path_in rows.now b.now.own) }
 {
-    path_in(rows, a.own) == path_in(rows, b.own)
+    rows.is_same(a.own, b.own)
 }
 
 /// Whether a lock stands in both.

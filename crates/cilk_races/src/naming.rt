@@ -1,10 +1,10 @@
 //! The names of variables, by their numbers in the declarations.
 
 ghost use Rattle.std.specs.Prelude.{◌≡◌, option_copied, slice_get};
-ghost use Rattle.cilk_races.specs.measure.replay.machine.labelled.Bodies.{label};
+ghost use Rattle.cilk_log_replay.specs.machine.labelled.Bodies.{label};
 ghost use Rattle.cilk_races.specs.RacesText.{name_by, own_name};
 
-use cilk_measure::Loaded;
+use cilk_log_replay::Loaded;
 
 /// That of a variable of the top level, where there is one.
 pub(crate) fn top_name(loaded: &Loaded, variable: usize) -> &str

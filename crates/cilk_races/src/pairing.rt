@@ -2,8 +2,8 @@
 
 ghost use Rattle.std.specs.Prelude.{◌≡◌, ◌<◌, ◌++◌, ◌∷◌, [], ℕ, List, length, min, option_map, take, IfOk, OnOk};
 ghost use Rattle.std.specs.List.{All};
-ghost use Rattle.cilk_measure.specs.model.labelled.Labelled.{Labelled};
-ghost use Rattle.cilk_measure.specs.model.Event.{Event};
+ghost use Rattle.cilk_log_replay.specs.machine.model.labelled.Labelled.{Labelled};
+ghost use Rattle.cilk_log_replay.specs.machine.model.Event.{Event};
 ghost use Rattle.cilk_races.specs.declared.streak.Streak.TheVariants.{Thread, Locks};
 ghost use Rattle.cilk_races.specs.Links.{AreLinked, ArePast, bucket_at};
 ghost use Rattle.cilk_races.specs.Kept.{Blocked};
@@ -16,9 +16,9 @@ use crate::hashing::hash_of;
 use crate::links::Links;
 use crate::may_meet::{meet, same_variable, share_one};
 use crate::relation::{Relation, relation_of};
-use crate::row::Row;
+use crate::rows::Rows;
 use crate::touch::Touch;
-use cilk_measure::Memory;
+use cilk_log_replay::Memory;
 use std::alloc::Global;
 
 /// Two accesses, by their places among those of a run, and how the program relates their steps.
@@ -30,7 +30,7 @@ pub struct Pair {
 }
 
 /// The first pair of each entry, in the order of the second access.
-pub fn entries_of(alloc: Global, rows: &[Row], touches: &[Touch]) -> Result<Vec<Pair>, Memory>
+pub fn entries_of(alloc: Global, rows: &Rows, touches: &[Touch]) -> Result<Vec<Pair>, Memory>
     ensures entries { IfOk result (λ entries. (program : Labelled) (events : List Event) → Blocked program events rows.now
         → pairs_told rows.now touches.now entries.items ≡ entries_of (pairs_of program events (touches_of rows.now touches.now))) }
     ensures within { IfOk result (λ entries. All (Within (length touches.now)) entries.items) }
@@ -47,7 +47,7 @@ pub fn entries_of(alloc: Global, rows: &[Row], touches: &[Touch]) -> Result<Vec<
 fn push_entries(
     entries: &mut Vec<Pair>,
     links: &Links,
-    rows: &[Row],
+    rows: &Rows,
     touches: &[Touch],
     second: usize,
 ) -> Result<(), Memory>
@@ -78,7 +78,7 @@ fn push_entries(
 fn push_or_pass(
     entries: &mut Vec<Pair>,
     links: &Links,
-    rows: &[Row],
+    rows: &Rows,
     touches: &[Touch],
     first: usize,
     second: usize,
@@ -119,7 +119,7 @@ fn push_or_pass(
 // Adds these two, if they meet and are not ordered, and none of those before is told as the same.
 fn push_pair(
     entries: &mut Vec<Pair>,
-    rows: &[Row],
+    rows: &Rows,
     touches: &[Touch],
     first: usize,
     second: usize,
@@ -148,7 +148,7 @@ fn push_pair(
 }
 
 // How two accesses are related that meet, if they are not ordered.
-fn relation_between(rows: &[Row], a: &Touch, b: &Touch) -> Option<Relation>
+fn relation_between(rows: &Rows, a: &Touch, b: &Touch) -> Option<Relation>
     ensures { option_map relation_named result ≡ between rows.now a.now b.now }
 {
     if !meet(rows, a, b) {
@@ -165,7 +165,7 @@ fn relation_between(rows: &[Row], a: &Touch, b: &Touch) -> Option<Relation>
 // Adds a pair, unless one of those before is told as the same.
 fn push_entry(
     entries: &mut Vec<Pair>,
-    rows: &[Row],
+    rows: &Rows,
     touches: &[Touch],
     pair: Pair,
 ) -> Result<(), Memory>
@@ -183,7 +183,7 @@ fn push_entry(
 }
 
 // Whether one of these is told as the same.
-fn is_told(rows: &[Row], touches: &[Touch], entries: &[Pair], pair: Pair) -> bool
+fn is_told(rows: &Rows, touches: &[Touch], entries: &[Pair], pair: Pair) -> bool
     requires entries { All (Within (length touches.now)) entries.now }
     requires pair { Within (length touches.now) pair }
     ensures { result ≡ is_told (pairs_told rows.now touches.now entries.now) (pair_of rows.now touches.now pair) }
@@ -197,7 +197,7 @@ fn is_told(rows: &[Row], touches: &[Touch], entries: &[Pair], pair: Pair) -> boo
 }
 
 // Of one variable, by the same two actions, and related alike.
-fn same_entry(rows: &[Row], touches: &[Touch], one: Pair, other: Pair) -> bool
+fn same_entry(rows: &Rows, touches: &[Touch], one: Pair, other: Pair) -> bool
     requires one { Within (length touches.now) one }
     requires other { Within (length touches.now) other }
     ensures { result ≡ same_entry (pair_of rows.now touches.now one) (pair_of rows.now touches.now other) }
@@ -212,7 +212,7 @@ fn same_entry(rows: &[Row], touches: &[Touch], one: Pair, other: Pair) -> bool
 }
 
 /// How many of these are related so.
-pub fn count_of(rows: &[Row], touches: &[Touch], relation: Relation, pairs: &[Pair]) -> usize
+pub fn count_of(rows: &Rows, touches: &[Touch], relation: Relation, pairs: &[Pair]) -> usize
     ensures { result ≡ count_of (relation_named relation) (pairs_told rows.now touches.now pairs.now) }
 {
     let mut count = 0;

@@ -1,13 +1,13 @@
 //! How a schedule is told that takes two accesses in the other order.
 
 ghost use Rattle.std.specs.Prelude.{◌≡◌, option_map};
-ghost use Rattle.cilk_races.specs.measure.replay.machine.choices.Words.{end_of};
-ghost use Rattle.cilk_races.specs.measure.replay.machine.syntax.Appends.{Appends};
+ghost use Rattle.cilk_log_replay.specs.machine.choices.Words.{end_of};
+ghost use Rattle.cilk_log_replay.specs.machine.syntax.Appends.{Appends};
 ghost use Rattle.cilk_races.specs.Met.{reversal_by};
 ghost use Rattle.cilk_races.specs.RacesText.{reversal_end, reversal_line, reversal_size, reversal_text};
 
 use crate::reversal::Reversal;
-use cilk_measure::{End, Memory, put_trapped};
+use cilk_log_replay::{End, Memory, put_trapped};
 
 /// Writes its line.
 pub(crate) fn put_reversal(out: &mut String, reversal: &Option<Reversal>) -> Result<(), Memory>

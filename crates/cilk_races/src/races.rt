@@ -2,14 +2,14 @@
 
 ghost use Rattle.std.specs.Prelude.{◌≡◌, ◌≤◌, ◌^◌, List, true, IfErr, IfOk, length, map};
 ghost use Rattle.std.specs.List.{All};
-ghost use Rattle.cilk_races.specs.measure.replay.machine.agree.scopes.WellFormed.{WellFormed};
-ghost use Rattle.cilk_races.specs.measure.replay.machine.choices.Words.{choice_of};
-ghost use Rattle.cilk_races.specs.measure.replay.machine.labelled.Labelled.{Labelled};
-ghost use Rattle.cilk_races.specs.measure.replay.machine.model.Event.{Event};
-ghost use Rattle.cilk_races.specs.measure.replay.machine.syntax.ProgramText.{program_text};
-ghost use Rattle.cilk_races.specs.measure.replay.log.Naming.{is_of};
-ghost use Rattle.cilk_races.specs.measure.replay.ReplayFaults.{IsFaultOf, IsNamedFaultOf};
-ghost use Rattle.cilk_races.specs.measure.replay.Tape.{IsAt, Tape, tape_of};
+ghost use Rattle.cilk_log_replay.specs.machine.agree.scopes.WellFormed.{WellFormed};
+ghost use Rattle.cilk_log_replay.specs.machine.choices.Words.{choice_of};
+ghost use Rattle.cilk_log_replay.specs.machine.labelled.Labelled.{Labelled};
+ghost use Rattle.cilk_log_replay.specs.machine.model.Event.{Event};
+ghost use Rattle.cilk_log_replay.specs.machine.syntax.ProgramText.{program_text};
+ghost use Rattle.cilk_log_replay.specs.log.Naming.{is_of};
+ghost use Rattle.cilk_log_replay.specs.ReplayFaults.{IsFaultOf, IsNamedFaultOf};
+ghost use Rattle.cilk_log_replay.specs.Tape.{IsAt, Tape, tape_of};
 ghost use Rattle.cilk_races.specs.Paired.{Within};
 ghost use Rattle.cilk_races.specs.Found.{HoldsRun, KeepsOf, told_in};
 ghost use Rattle.cilk_races.specs.Raced.{AreRacesOf};
@@ -17,17 +17,17 @@ ghost use Rattle.cilk_races.specs.Watched.{Watched};
 
 use crate::pairing::{Pair, entries_of};
 use crate::relation::Relation;
-use crate::row::Row;
+use crate::rows::Rows;
 use crate::touch::Touch;
 use crate::watch::Watch;
-use cilk_measure::{Choice, Loaded, Log, Machine, Memory, ReplayFault, play, refuse_other};
+use cilk_log_replay::{Choice, Loaded, Log, Machine, Memory, ReplayFault, play, refuse_other};
 use std::alloc::Global;
 
 /// A program behind all choices of a recorded schedule, and the races of that run.
 #[derive(Drop)]
 pub(crate) struct Races {
     pub machine: Machine,
-    pub rows: Vec<Row>,
+    pub rows: Rows,
     pub touches: Vec<Touch>,
     /// The first pair of each entry.
     pub entries: Vec<Pair>,
@@ -122,7 +122,7 @@ fn found(alloc: Global, watch: Watch) -> Result<Races, ReplayFault>
     ensures within { IfOk result (λ r. All (Within (length r.touches.items)) r.entries.items) }
     ensures memory { IfErr result (λ why. why ≡ ReplayFault.Memory) }
 {
-    match entries_of(alloc, watch.rows.as_slice(), watch.touches.as_slice()) {
+    match entries_of(alloc, &watch.rows, watch.touches.as_slice()) {
         Err(_) => {
             drop(watch);
             Err(ReplayFault::Memory)

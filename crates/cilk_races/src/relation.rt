@@ -1,13 +1,12 @@
 //! Whether the program orders two steps of a run, told by what is kept of their instances.
 
-ghost use Rattle.std.specs.Prelude.{◌≡◌, ◌<◌, ◌+◌, length, slice_index_or, take};
-ghost use Rattle.cilk_measure.specs.model.Path.{same_path};
+ghost use Rattle.std.specs.Prelude.{◌≡◌, ◌<◌, length};
 ghost use Rattle.cilk_races.specs.Kept.{path_in};
 ghost use Rattle.cilk_races.specs.Order.{if_so, race};
-ghost use Rattle.cilk_races.specs.Related.{child_by, common, inlets_in, relation_in, value_in, within_by};
+ghost use Rattle.cilk_races.specs.Related.{child_by, inlets_in, relation_in, value_in, within_by};
 ghost use Rattle.cilk_races.specs.PairWords.{relation_named};
 
-use crate::row::{Row, block_in, last_in, path_in};
+use crate::rows::Rows;
 use crate::touch::Placed;
 
 /// How the program relates two steps.
@@ -23,77 +22,36 @@ pub enum Relation {
 }
 
 /// That of two steps, the first of which was taken first.
-pub fn relation_of(rows: &[Row], a: Placed, b: Placed) -> Relation
+pub fn relation_of(rows: &Rows, a: Placed, b: Placed) -> Relation
     ensures { relation_named result ≡ relation_in rows.now a b }
 {
-    let first = path_in(rows, a.place);
-    let second = path_in(rows, b.place);
-    let at = common(first, second);
-    if at < first.len() {
-        if at < second.len() {
-            race_if(block_in(rows, a.place, at) == block_in(rows, b.place, at))
+    let at = rows.common(a.place, b.place);
+    if at < rows.depth(a.place) {
+        if at < rows.depth(b.place) {
+            race_if(rows.block(a.place, at) == rows.block(b.place, at))
         } else {
             beside(rows, b, a.place, at)
         }
-    } else if at < second.len() {
+    } else if at < rows.depth(b.place) {
         beside(rows, a, b.place, at)
     } else {
         within_one(rows, a, b)
     }
 }
 
-// How many numbers stand in front of both.
-fn common(first: &[u32], second: &[u32]) -> usize
-    ensures { result ≡ common first.now second.now }
-{
-    let mut at = 0;
-    for k in first {
-        match second.get(at) {
-            None => return at,
-            Some(l) => {
-                if *k != *l {
-                    return at;
-                }
-                at += 1;
-            }
-        }
-    }
-    at
-}
-
 // A step of an instance beside what goes on in or below a child, whose number stands there on the path of the other instance.
-fn beside(rows: &[Row], own: Placed, other: usize, at: usize) -> Relation
+fn beside(rows: &Rows, own: Placed, other: usize, at: usize) -> Relation
     requires { at < length (path_in rows.now other) }
     ensures { relation_named result ≡ child_by rows.now own.taking own other at }
 {
     match own.taking {
         None => race_if(
-            u64::from(number_in(rows, other, at)) <= own.children
-                && own.syncs == block_in(rows, other, at),
+            rows.number(other, at) <= own.children && own.syncs == rows.block(other, at),
         ),
         Some(child) => race_if(
-            !leads_to(rows, other, at, child) && last_in(rows, child) == block_in(rows, other, at),
+            !rows.leads_to(other, at, child) && rows.last(child) == rows.block(other, at),
         ),
     }
-}
-
-// The number that stands there on the path.
-fn number_in(rows: &[Row], place: usize, at: usize) -> u32
-    ensures { result ≡ slice_index_or (path_in rows.now place) at 0 }
-{
-    match path_in(rows, place).get(at) {
-        None => 0,
-        Some(number) => *number,
-    }
-}
-
-// Whether the path leads to the child, up to there.
-fn leads_to(rows: &[Row], place: usize, at: usize, child: usize) -> bool
-    requires { at < length (path_in rows.now place) }
-    ensures { result ≡ same_path (path_in rows.now child) (take (at + 1) (path_in rows.now place)) }
-{
-    let path = path_in(rows, place);
-    path_in(rows, child) == &path[..at + 1]
 }
 
 fn race_if(so: bool) -> Relation
@@ -107,7 +65,7 @@ fn race_if(so: bool) -> Relation
 }
 
 // Two steps of one instance.
-fn within_one(rows: &[Row], a: Placed, b: Placed) -> Relation
+fn within_one(rows: &Rows, a: Placed, b: Placed) -> Relation
     ensures { relation_named result ≡ within_by rows.now a.taking b.taking a b }
 {
     match a.taking {
@@ -123,30 +81,23 @@ fn within_one(rows: &[Row], a: Placed, b: Placed) -> Relation
 }
 
 // A thread's step beside what takes the value of the child.
-fn beside_value(rows: &[Row], own: Placed, child: usize) -> Relation
+fn beside_value(rows: &Rows, own: Placed, child: usize) -> Relation
     ensures { relation_named result ≡ value_in rows.now own child }
 {
-    let last = path_in(rows, child).len().saturating_sub(1);
-    let ordinal = number_in(rows, child, last);
-    if u64::from(ordinal) <= own.children && own.syncs == last_in(rows, child) {
+    let last = rows.depth(child).saturating_sub(1);
+    if rows.number(child, last) <= own.children && own.syncs == rows.last(child) {
         Relation::Order
     } else {
         Relation::Ordered
     }
 }
 
-fn both_inlets(rows: &[Row], child: usize, other: usize) -> Relation
+fn both_inlets(rows: &Rows, child: usize, other: usize) -> Relation
     ensures { relation_named result ≡ inlets_in rows.now child other }
 {
-    if !is_same(rows, child, other) && last_in(rows, child) == last_in(rows, other) {
+    if !rows.is_same(child, other) && rows.last(child) == rows.last(other) {
         Relation::Inlets
     } else {
         Relation::Ordered
     }
-}
-
-fn is_same(rows: &[Row], one: usize, other: usize) -> bool
-    ensures { result ≡ same_path (path_in rows.now one) (path_in rows.now other) }
-{
-    path_in(rows, one) == path_in(rows, other)
 }

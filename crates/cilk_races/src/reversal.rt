@@ -1,6 +1,6 @@
 //! A schedule that takes two accesses of a run in the other order.
 
-use cilk_measure::End;
+use cilk_log_replay::End;
 
 /// How such a schedule ends.
 #[derive(Drop)]

@@ -2,7 +2,7 @@
 
 ghost use Rattle.std.specs.Prelude.{◌≡◌, ◌<◌, ◌≤◌, IfOk, IfSome, length, option_map, slice_index_or, true};
 ghost use Rattle.std.specs.List.{All};
-ghost use Rattle.cilk_races.specs.measure.replay.Tape.{Tape};
+ghost use Rattle.cilk_log_replay.specs.Tape.{Tape};
 ghost use Rattle.cilk_races.specs.Paired.{Within, no_touch, pair_of, pairs_told, touches_of};
 ghost use Rattle.cilk_races.specs.PairWords.{touch_of};
 ghost use Rattle.cilk_races.specs.Found.{HoldsRun, IsReversalOf};
@@ -19,7 +19,7 @@ use crate::reversal::Reversal;
 use crate::times::{is_again, times};
 use crate::touch::Touch;
 use crate::watch::Watch;
-use cilk_measure::{Choice, Loaded, Memory, ReplayFault};
+use cilk_log_replay::{Choice, Loaded, Memory, ReplayFault};
 use std::alloc::{AllocError, Global};
 
 // So many choices more than four times those of the run may such a schedule have.
@@ -34,11 +34,11 @@ pub(crate) fn meetings_of(
     choices: &[Choice],
 ) -> Result<Vec<Meeting>, Memory>
     requires { All (Within (length races.now.touches.items)) races.now.entries.items }
-    ensures pairs { IfOk result (λ ms. pairs_in (meetings_in races.now.rows.items races.now.touches.items ms.items)
-        ≡ pairs_told races.now.rows.items races.now.touches.items races.now.entries.items) }
+    ensures pairs { IfOk result (λ ms. pairs_in (meetings_in races.now.rows races.now.touches.items ms.items)
+        ≡ pairs_told races.now.rows races.now.touches.items races.now.entries.items) }
     ensures within { IfOk result (λ ms. All (AreWithin (length races.now.touches.items)) ms.items) }
     ensures reversed { IfOk result (λ ms. (t : Tape) → HoldsRun t races.now
-        → All (IsMeetingOf t) (meetings_in races.now.rows.items races.now.touches.items ms.items)) }
+        → All (IsMeetingOf t) (meetings_in races.now.rows races.now.touches.items ms.items)) }
 {
     let mut meetings = Vec::new(alloc);
     for entry in races.entries.as_slice() {
@@ -61,7 +61,7 @@ fn reversal_of(
 ) -> Result<Option<Reversal>, Memory>
     requires { Within (length races.now.touches.items) entry }
     ensures { IfOk result (λ r. (t : Tape) → HoldsRun t races.now
-        → ReversesBy t (pair_of races.now.rows.items races.now.touches.items entry) (option_map reversal_by r)) }
+        → ReversesBy t (pair_of races.now.rows races.now.touches.items entry) (option_map reversal_by r)) }
 {
     if !matches!(entry.relation, Relation::Race) {
         return Ok(None);
@@ -89,7 +89,7 @@ fn schedule_of(
 {
     let touches = races.touches.as_slice();
     let goal = Goal {
-        rows: races.rows.as_slice(),
+        rows: &races.rows,
         touches,
         first: &touches[entry.first],
         second: &touches[entry.second],
@@ -111,7 +111,7 @@ fn made_again(
 ) -> Result<Option<Reversal>, Memory>
     requires { Within (length races.now.touches.items) entry }
     ensures { IfOk result (λ r. (t : Tape) → HoldsRun t races.now
-        → ReversesBy t (pair_of races.now.rows.items races.now.touches.items entry) (option_map reversal_by r)) }
+        → ReversesBy t (pair_of races.now.rows races.now.touches.items entry) (option_map reversal_by r)) }
 {
     let program = match program_of(races) {
         Err(memory) => return Err(memory),
@@ -144,7 +144,7 @@ fn reversal_in(
 ) -> Result<Option<Reversal>, Memory>
     requires { Within (length races.now.touches.items) entry }
     ensures { IfOk result (λ found. IfSome found (IsReversalOf races.now watch.now
-        (pair_of races.now.rows.items races.now.touches.items entry) choices workers)) }
+        (pair_of races.now.rows races.now.touches.items entry) choices workers)) }
 {
     if !are_reversed(races, watch, entry) {
         return Ok(None);
@@ -163,8 +163,8 @@ fn reversal_in(
 // made later.
 fn are_reversed(races: &Races, watch: &Watch, entry: Pair) -> bool
     requires { Within (length races.now.touches.items) entry }
-    ensures { result ≡ true → AreReversed (touches_of races.now.rows.items races.now.touches.items)
-        (touches_of watch.now.rows.items watch.now.touches.items) (pair_of races.now.rows.items races.now.touches.items entry) }
+    ensures { result ≡ true → AreReversed (touches_of races.now.rows races.now.touches.items)
+        (touches_of watch.now.rows watch.now.touches.items) (pair_of races.now.rows races.now.touches.items entry) }
 {
     are_reversed_up_to(races, watch, entry, u64::MAX)
 }
@@ -172,8 +172,8 @@ fn are_reversed(races: &Races, watch: &Watch, entry: Pair) -> bool
 // It is made up to that choice.
 fn are_reversed_up_to(races: &Races, watch: &Watch, entry: Pair, last: u64) -> bool
     requires { Within (length races.now.touches.items) entry }
-    ensures { result ≡ true → AreReversed (touches_of races.now.rows.items races.now.touches.items)
-        (touches_of watch.now.rows.items watch.now.touches.items) (pair_of races.now.rows.items races.now.touches.items entry) }
+    ensures { result ≡ true → AreReversed (touches_of races.now.rows races.now.touches.items)
+        (touches_of watch.now.rows watch.now.touches.items) (pair_of races.now.rows races.now.touches.items entry) }
 {
     let first = touch_at(races, entry.first);
     let second = touch_at(races, entry.second);
@@ -193,7 +193,7 @@ fn are_reversed_up_to(races: &Races, watch: &Watch, entry: Pair, last: u64) -> b
 // An access of the run.
 fn touch_at(races: &Races, at: usize) -> &Touch
     requires { at < length races.now.touches.items }
-    ensures { touch_of races.now.rows.items result.now ≡ slice_index_or (touches_of races.now.rows.items races.now.touches.items) at no_touch }
+    ensures { touch_of races.now.rows result.now ≡ slice_index_or (touches_of races.now.rows races.now.touches.items) at no_touch }
 {
     &races.touches[at]
 }
@@ -206,26 +206,26 @@ fn are_so_often(wanted: usize, made: usize, before: usize, often: usize, later: 
 
 // How often an access was made in the run, up to its own choice.
 fn made_in_run(races: &Races, access: &Touch) -> usize
-    ensures { result ≡ times (touch_of races.now.rows.items access.now) access.now.choice (touches_of races.now.rows.items races.now.touches.items) }
+    ensures { result ≡ times (touch_of races.now.rows access.now) access.now.choice (touches_of races.now.rows races.now.touches.items) }
 {
     times(
-        races.rows.as_slice(),
+        &races.rows,
         access,
         access.choice,
-        races.rows.as_slice(),
+        &races.rows,
         races.touches.as_slice(),
     )
 }
 
 // How often it was made up to a choice that the watch kept.
 fn made_by(races: &Races, watch: &Watch, access: &Touch, choice: u64) -> usize
-    ensures { result ≡ times (touch_of races.now.rows.items access.now) choice (touches_of watch.now.rows.items watch.now.touches.items) }
+    ensures { result ≡ times (touch_of races.now.rows access.now) choice (touches_of watch.now.rows watch.now.touches.items) }
 {
     times(
-        races.rows.as_slice(),
+        &races.rows,
         access,
         choice,
-        watch.rows.as_slice(),
+        &watch.rows,
         watch.touches.as_slice(),
     )
 }
@@ -234,7 +234,7 @@ fn made_by(races: &Races, watch: &Watch, access: &Touch, choice: u64) -> usize
 fn choice_of(races: &Races, watch: &Watch, access: &Touch, wanted: usize) -> Option<u64> {
     let mut made = 0usize;
     for touch in watch.touches.as_slice() {
-        if is_again(races.rows.as_slice(), access, watch.rows.as_slice(), touch) {
+        if is_again(&races.rows, access, &watch.rows, touch) {
             made = made.saturating_add(1);
             if wanted <= made {
                 return Some(touch.choice);

@@ -9,7 +9,7 @@ ghost use Rattle.cilk_races.specs.PairWords.{touch_of};
 use crate::alike::{are_of_thread, have_same_locks};
 use crate::streak::Streak;
 use crate::touch::Touch;
-use cilk_measure::Memory;
+use cilk_log_replay::Memory;
 use std::alloc::Global;
 
 /// Behind each access the first one of its bucket that is not of its streak, or their number, where the next one of its bucket is given.

@@ -2,8 +2,9 @@
 
 ghost use Rattle.std.specs.Prelude.{◌≡◌, List, flat_map, length, option_map};
 ghost use Rattle.std.specs.List.{All};
-ghost use Rattle.cilk_races.specs.measure.replay.machine.labelled.Bodies.{label};
-ghost use Rattle.cilk_races.specs.measure.replay.machine.syntax.Appends.{Appends};
+ghost use Rattle.cilk_log_replay.specs.machine.labelled.Bodies.{label};
+ghost use Rattle.cilk_log_replay.specs.machine.model.Path.{path_text};
+ghost use Rattle.cilk_log_replay.specs.machine.syntax.Appends.{Appends};
 ghost use Rattle.cilk_races.specs.Kept.{path_in};
 ghost use Rattle.cilk_races.specs.Line.{Line};
 ghost use Rattle.cilk_races.specs.Paired.{Within, pair_of};
@@ -19,9 +20,9 @@ use crate::pairing::{Pair, count_of};
 use crate::put_reversal::put_reversal;
 use crate::races::Races;
 use crate::relation::Relation;
-use crate::row::{Row, path_in};
+use crate::rows::Rows;
 use crate::touch::Touch;
-use cilk_measure::{Loaded, Memory, Path, Spot};
+use cilk_log_replay::{Loaded, Memory, Spot};
 
 /// Writes the meetings of a run that are races or orders.
 pub(crate) fn put_meetings(
@@ -31,7 +32,7 @@ pub(crate) fn put_meetings(
 ) -> Result<(), Memory>
     requires { All (AreWithin (length races.now.touches.items)) meetings.now }
     ensures { Appends result out.old out.new (flat_map (meeting_text (label races.now.machine.program))
-        (meetings_in races.now.rows.items races.now.touches.items meetings.now)) }
+        (meetings_in races.now.rows races.now.touches.items meetings.now)) }
 {
     for meeting in meetings {
         put_meeting(out, races, meeting)?;
@@ -42,7 +43,7 @@ pub(crate) fn put_meetings(
 fn put_meeting(out: &mut String, races: &Races, meeting: &Meeting) -> Result<(), Memory>
     requires { AreWithin (length races.now.touches.items) meeting.now }
     ensures { Appends result out.old out.new (meeting_text (label races.now.machine.program)
-        (meeting_in races.now.rows.items races.now.touches.items meeting.now)) }
+        (meeting_in races.now.rows races.now.touches.items meeting.now)) }
 {
     match meeting.pair.relation {
         Relation::Race => {
@@ -61,7 +62,7 @@ fn put_meeting(out: &mut String, races: &Races, meeting: &Meeting) -> Result<(),
 fn put_both(out: &mut String, races: &Races, pair: Pair) -> Result<(), Memory>
     requires { Within (length races.now.touches.items) pair }
     ensures { Appends result out.old out.new
-        (both_lines (label races.now.machine.program) (pair_of races.now.rows.items races.now.touches.items pair)) }
+        (both_lines (label races.now.machine.program) (pair_of races.now.rows races.now.touches.items pair)) }
 {
     let first = &races.touches[pair.first];
     let second = &races.touches[pair.second];
@@ -73,13 +74,14 @@ fn put_both(out: &mut String, races: &Races, pair: Pair) -> Result<(), Memory>
 
 fn put_variable(out: &mut String, races: &Races, touch: &Touch) -> Result<(), Memory>
     ensures { Appends result out.old out.new (variable_name (label races.now.machine.program) touch.now.procedure
-        (touch_of races.now.rows.items touch.now).access.at) }
+        (touch_of races.now.rows touch.now).access.at) }
 {
     out.push_str(variable_of(races.machine.loaded(), touch))?;
     Ok(())
 }
 
-fn variable_of<'a>(loaded: &'a Loaded, touch: &Touch) -> &'a str
+/// The name of the variable of an access.
+pub(crate) fn variable_of<'a>(loaded: &'a Loaded, touch: &Touch) -> &'a str
     ensures { (rows : List Line) → result.now ≡ variable_name (label loaded.now) touch.now.procedure (touch_of rows touch.now).access.at }
 {
     match touch.access.at {
@@ -91,9 +93,9 @@ fn variable_of<'a>(loaded: &'a Loaded, touch: &Touch) -> &'a str
 }
 
 fn put_touch(out: &mut String, races: &Races, touch: &Touch) -> Result<(), Memory>
-    ensures { Appends result out.old out.new (touch_line (label races.now.machine.program) (touch_of races.now.rows.items touch.now)) }
+    ensures { Appends result out.old out.new (touch_line (label races.now.machine.program) (touch_of races.now.rows touch.now)) }
 {
-    let rows = races.rows.as_slice();
+    let rows = &races.rows;
     let line = races.machine.loaded().line_of(touch.n).unwrap_or(0);
     let doing = if touch.access.writes {
         " writes at "
@@ -103,7 +105,7 @@ fn put_touch(out: &mut String, races: &Races, touch: &Touch) -> Result<(), Memor
     let n = touch.n;
     let choice = touch.choice;
     out.push_str("    ")?;
-    Path::put_text(out, path_in(rows, touch.placed.place))?;
+    put_path(out, rows, touch.placed.place)?;
     write!(out, "{doing}{n}, line {line}, choice {choice}")?;
     put_child(out, rows, touch.placed.taking)?;
     out.push_str("\n")?;
@@ -111,16 +113,37 @@ fn put_touch(out: &mut String, races: &Races, touch: &Touch) -> Result<(), Memor
 }
 
 // The child whose value is taken.
-fn put_child(out: &mut String, rows: &[Row], taking: Option<usize>) -> Result<(), Memory>
+fn put_child(out: &mut String, rows: &Rows, taking: Option<usize>) -> Result<(), Memory>
     ensures { Appends result out.old out.new (child_text (option_map (path_in rows.now) taking)) }
 {
     match taking {
         None => Ok(()),
         Some(child) => {
             out.push_str(", for ")?;
-            Path::put_text(out, path_in(rows, child))
+            put_path(out, rows, child)
         }
     }
+}
+
+// The path of an instance: `/` for the root, and `/3/1` for the first child of the root's third.
+fn put_path(out: &mut String, rows: &Rows, place: usize) -> Result<(), Memory>
+    ensures { Appends result out.old out.new (path_text (path_in rows.now place)) }
+{
+    let numbers = rows.path_of(place)?;
+    put_numbers(out, numbers.as_slice())
+}
+
+fn put_numbers(out: &mut String, numbers: &[u64]) -> Result<(), Memory>
+    ensures { Appends result out.old out.new (path_text numbers.now) }
+{
+    if numbers.is_empty() {
+        out.push_str("/")?;
+        return Ok(());
+    }
+    for number in numbers {
+        write!(out, "/{number}")?;
+    }
+    Ok(())
 }
 
 /// Writes how many entries of a run are of each kind.
@@ -166,7 +189,7 @@ pub(crate) fn count_among(races: &Races, relation: Relation) -> usize
     ensures { result ≡ count_of (relation_named relation) (told_in races.now) }
 {
     count_of(
-        races.rows.as_slice(),
+        &races.rows,
         races.touches.as_slice(),
         relation,
         races.entries.as_slice(),

@@ -1,23 +1,23 @@
 //! How often an access of a run is made by another run of the same program.
 
 ghost use Rattle.std.specs.Prelude.{◌≡◌, ◌≤◌, ◌&&◌, length, nat_le};
-ghost use Rattle.cilk_races.specs.measure.model.Path.{same_path};
+ghost use Rattle.cilk_log_replay.specs.machine.model.Path.{same_path};
 ghost use Rattle.cilk_races.specs.Kept.{path_in};
 ghost use Rattle.cilk_races.specs.Paired.{touches_of};
 ghost use Rattle.cilk_races.specs.Races.{same_cell};
 ghost use Rattle.cilk_races.specs.PairWords.{touch_of};
 ghost use Rattle.cilk_races.specs.Reversals.{is_again, same_bool, times};
 
-use crate::row::{Row, path_in};
+use crate::rows::Rows;
 use crate::touch::Touch;
-use cilk_measure::Spot;
+use cilk_log_replay::Spot;
 
 /// How often the access is made up to that choice of the other run.
 pub(crate) fn times(
-    rows: &[Row],
+    rows: &Rows,
     access: &Touch,
     choice: u64,
-    others: &[Row],
+    others: &Rows,
     touches: &[Touch],
 ) -> usize
     ensures is { result ≡ times (touch_of rows.now access.now) choice (touches_of others.now touches.now) }
@@ -33,14 +33,14 @@ pub(crate) fn times(
 }
 
 // Whether this is the access, up to that choice.
-fn is_made(rows: &[Row], access: &Touch, choice: u64, others: &[Row], touch: &Touch) -> bool
+fn is_made(rows: &Rows, access: &Touch, choice: u64, others: &Rows, touch: &Touch) -> bool
     ensures { result ≡ (is_again (touch_of rows.now access.now) (touch_of others.now touch.now) && nat_le touch.now.choice choice) }
 {
     is_again(rows, access, others, touch) && touch.choice <= choice
 }
 
 /// Whether both are by one instance and one action, of one cell, and both read it or both write it.
-pub(crate) fn is_again(rows: &[Row], access: &Touch, others: &[Row], touch: &Touch) -> bool
+pub(crate) fn is_again(rows: &Rows, access: &Touch, others: &Rows, touch: &Touch) -> bool
     ensures { result ≡ is_again (touch_of rows.now access.now) (touch_of others.now touch.now) }
 {
     same_paths(rows, access.placed.place, others, touch.placed.place)
@@ -49,13 +49,13 @@ pub(crate) fn is_again(rows: &[Row], access: &Touch, others: &[Row], touch: &Tou
                 && same_bool(access.access.writes, touch.access.writes)))
 }
 
-fn same_paths(rows: &[Row], one: usize, others: &[Row], other: usize) -> bool
+fn same_paths(rows: &Rows, one: usize, others: &Rows, other: usize) -> bool
     ensures { result ≡ same_path (path_in rows.now one) (path_in others.now other) }
 {
-    path_in(rows, one) == path_in(others, other)
+    rows.is_same_between(one, others, other)
 }
 
-fn same_cell(rows: &[Row], a: &Touch, others: &[Row], b: &Touch) -> bool
+fn same_cell(rows: &Rows, a: &Touch, others: &Rows, b: &Touch) -> bool
     ensures { result ≡ same_cell (touch_of rows.now a.now).access.at (touch_of others.now b.now).access.at }
 {
     match a.access.at {

@@ -2,12 +2,12 @@
 
 ghost use Rattle.std.specs.Prelude.{◌≡◌, ◌++◌, IfErr, IfOk, flat_map, length, string_bytes, true};
 ghost use Rattle.std.specs.List.{All};
-ghost use Rattle.cilk_races.specs.measure.replay.log.Naming.{is_of};
-ghost use Rattle.cilk_races.specs.measure.replay.machine.labelled.Bodies.{label};
-ghost use Rattle.cilk_races.specs.measure.replay.machine.syntax.Appends.{Appends};
-ghost use Rattle.cilk_races.specs.measure.replay.machine.syntax.ProgramText.{program_text};
-ghost use Rattle.cilk_races.specs.measure.replay.ReplayFaults.{IsNamedFaultOf};
-ghost use Rattle.cilk_races.specs.measure.replay.Tape.{Tape, tape_of};
+ghost use Rattle.cilk_log_replay.specs.log.Naming.{is_of};
+ghost use Rattle.cilk_log_replay.specs.machine.labelled.Bodies.{label};
+ghost use Rattle.cilk_log_replay.specs.machine.syntax.Appends.{Appends};
+ghost use Rattle.cilk_log_replay.specs.machine.syntax.ProgramText.{program_text};
+ghost use Rattle.cilk_log_replay.specs.ReplayFaults.{IsNamedFaultOf};
+ghost use Rattle.cilk_log_replay.specs.Tape.{Tape, tape_of};
 ghost use Rattle.cilk_races.specs.Paired.{Within};
 ghost use Rattle.cilk_races.specs.Found.{HoldsRun, told_in};
 ghost use Rattle.cilk_races.specs.Raced.{AreRacesOf};
@@ -19,7 +19,7 @@ use crate::races::{Races, races_of_run};
 use crate::relation::Relation;
 use crate::reversing::meetings_of;
 use crate::telling::{count_among, put_counts, put_meetings};
-use cilk_measure::{Choice, Loaded, Log, Memory, ReplayFault};
+use cilk_log_replay::{Choice, Loaded, Log, Memory, ReplayFault};
 use std::alloc::Global;
 
 /// What is told of the races of a run.
@@ -75,7 +75,7 @@ fn told_of(
 fn text_of(alloc: Global, races: &Races, meetings: &[Meeting]) -> Result<String, Memory>
     requires { All (AreWithin (length races.now.touches.items)) meetings.now }
     ensures { IfOk result (λ text. string_bytes text
-        ≡ flat_map (meeting_text (label races.now.machine.program)) (meetings_in races.now.rows.items races.now.touches.items meetings.now)
+        ≡ flat_map (meeting_text (label races.now.machine.program)) (meetings_in races.now.rows races.now.touches.items meetings.now)
         ++ count_line (told_in races.now)) }
 {
     let mut out = String::new(alloc);
@@ -91,7 +91,7 @@ fn text_of(alloc: Global, races: &Races, meetings: &[Meeting]) -> Result<String,
 fn put_all(out: &mut String, races: &Races, meetings: &[Meeting]) -> Result<(), Memory>
     requires { All (AreWithin (length races.now.touches.items)) meetings.now }
     ensures { Appends result out.old out.new
-        (flat_map (meeting_text (label races.now.machine.program)) (meetings_in races.now.rows.items races.now.touches.items meetings.now)
+        (flat_map (meeting_text (label races.now.machine.program)) (meetings_in races.now.rows races.now.touches.items meetings.now)
         ++ count_line (told_in races.now)) }
 {
     put_meetings(out, races, meetings)?;

@@ -1,6 +1,6 @@
 //! Accesses of a run, with the steps that made them.
 
-use cilk_measure::Access;
+use cilk_log_replay::Access;
 
 /// A step: its instance, and what that did before.
 #[derive(Clone, Copy)]

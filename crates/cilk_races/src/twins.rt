@@ -8,7 +8,7 @@ ghost use Rattle.cilk_races.specs.Paired.{touches_of};
 
 use crate::alike::are_twins;
 use crate::touch::Touch;
-use cilk_measure::{Memory, Spot};
+use cilk_log_replay::{Memory, Spot};
 use std::alloc::Global;
 
 /// A mark for each access that is like an earlier one. They are looked up by a hash: the heads of its buckets, and the one before each, are counted

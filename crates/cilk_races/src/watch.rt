@@ -2,27 +2,29 @@
 
 ghost use Rattle.std.specs.Prelude.{◌≡◌, ◌<◌, ◌∷◌, ◌++◌, ◌^◌, ℕ, List, suc, [], length, map, slice_get, option_copied, IfErr, IfOk, OnOk};
 ghost use Rattle.std.specs.List.{All};
-ghost use Rattle.cilk_races.specs.measure.replay.machine.agree.scopes.WellFormed.{WellFormed};
-ghost use Rattle.cilk_races.specs.measure.replay.machine.choices.Words.{choice_of};
-ghost use Rattle.cilk_races.specs.measure.replay.Tape.{Tape, IsAt};
-ghost use Rattle.cilk_races.specs.measure.replay.ReplayFaults.{IsFaultOf};
-ghost use Rattle.cilk_races.specs.measure.Tallies.{first};
+ghost use Rattle.cilk_log_replay.specs.machine.agree.scopes.WellFormed.{WellFormed};
+ghost use Rattle.cilk_log_replay.specs.machine.choices.Words.{choice_of};
+ghost use Rattle.cilk_log_replay.specs.Tape.{Tape, IsAt};
+ghost use Rattle.cilk_log_replay.specs.ReplayFaults.{IsFaultOf};
+ghost use Rattle.cilk_races.specs.Tallies.{first};
 ghost use Rattle.cilk_races.specs.Line.{Line, no_line};
 ghost use Rattle.cilk_races.specs.Paired.{touches_of};
-ghost use Rattle.cilk_races.specs.step.Shown.{held, touched};
-ghost use Rattle.cilk_races.specs.step.CellWords.{told};
-ghost use Rattle.cilk_races.specs.step.plan.StepInput.{id_of, own_node};
-ghost use Rattle.cilk_races.specs.measure.replay.machine.step.Scenes.{HeadFits, input_of};
+ghost use Rattle.cilk_log_replay.specs.machine.step.Shown.{held, touched};
+ghost use Rattle.cilk_log_replay.specs.machine.step.CellWords.{told};
+ghost use Rattle.cilk_log_replay.specs.machine.step.plan.StepInput.{id_of, own_node};
+ghost use Rattle.cilk_log_replay.specs.machine.step.Scenes.{HeadFits, input_of};
 ghost use Rattle.cilk_races.specs.Looked.{AdvancesWatch, IsNothing, LooksAt};
 ghost use Rattle.cilk_races.specs.Noted.{ArePlaced, IsNoted, KeepsTouches, KnowsTouch, number_of, placed_by, touch_by};
 
 use crate::look::Look;
-use crate::row::{Row, children_in, syncs_in};
-use crate::rows::note_rows;
+use crate::motion::{Motion, motion_of};
+use crate::note_rows::note_rows;
+use crate::rows::Rows;
+use crate::tally::Tally;
 use crate::touch::{Placed, Touch};
-use cilk_measure::{
-    Access, Act, Choice, Did, Machine, Memory, Motion, ReplayFault, Scene, Tally, accesses_in,
-    locks_in, make_again, motion_of,
+use cilk_log_replay::{
+    Access, Act, Choice, Did, Machine, Memory, ReplayFault, Scene, accesses_in, locks_in,
+    make_again,
 };
 use std::alloc::{AllocError, Global};
 
@@ -32,7 +34,7 @@ pub(crate) struct Watch {
     pub machine: Machine,
     /// The bodies that each instance runs, by which it is known whose inlet a step is of.
     pub tally: Tally,
-    pub rows: Vec<Row>,
+    pub rows: Rows,
     pub touches: Vec<Touch>,
 }
 
@@ -45,7 +47,7 @@ impl Watch {
         ensures machine { IfOk result (λ w. w.machine ≡ machine) }
         ensures well { IfOk result (λ w. WellFormed w.machine.program) }
         ensures tally { IfOk result (λ w. w.tally ≡ first) }
-        ensures rows { IfOk result (λ w. w.rows.items ≡ no_line ∷ []) }
+        ensures rows { IfOk result (λ w. w.rows ≡ no_line ∷ []) }
         ensures touches { IfOk result (λ w. w.touches.items ≡ []) }
         ensures memory { IfErr result (λ why. why ≡ ReplayFault.Memory) }
     {
@@ -56,7 +58,7 @@ impl Watch {
                 drop(machine);
                 Err(ReplayFault::Memory)
             }
-            Ok(tally) => match first_rows(alloc) {
+            Ok(tally) => match Rows::new(alloc) {
                 Err(_) => {
                     drop(machine);
                     drop(tally);
@@ -120,7 +122,7 @@ impl Watch {
             None => Ok(()),
             Some(motion) => {
                 self.keep(look, choice, &motion, number_of(did))?;
-                note_rows(&mut self.rows, &self.machine, did, &motion)?;
+                note_rows(&mut self.rows, did, &motion)?;
                 self.tally.note(&self.machine, did)
             }
         }
@@ -131,10 +133,10 @@ impl Watch {
         ensures machine { self.new.machine ≡ self.old.machine }
         ensures tally { self.new.tally ≡ self.old.tally }
         ensures rows { self.new.rows ≡ self.old.rows }
-        ensures touches { OnOk result (KeepsTouches choice look.now.own (placed_by self.old.rows.items motion.now) n look.now.locks.items
+        ensures touches { OnOk result (KeepsTouches choice look.now.own (placed_by self.old.rows motion.now) n look.now.locks.items
             look.now.procedure look.now.accesses.items self.old.touches.items self.new.touches.items) }
     {
-        let placed = placed_by(self.rows.as_slice(), motion);
+        let placed = placed_by(&self.rows, motion);
         push_touches(&mut self.touches, look, choice, placed, n)
     }
 }
@@ -197,14 +199,6 @@ fn refuse_more(kept: usize) -> Result<(), Memory> {
 }
 
 // Those of the root alone.
-fn first_rows(alloc: Global) -> Result<Vec<Row>, Memory>
-    ensures { IfOk result (λ rows. rows.items ≡ no_line ∷ []) }
-{
-    let mut rows = Vec::new(alloc);
-    rows.push(Row::root(alloc))?;
-    Ok(rows)
-}
-
 fn chosen(choices: &[Choice], k: usize) -> Option<&Choice>
     ensures { option_copied result ≡ slice_get choices.now k }
 {
@@ -275,13 +269,13 @@ fn number_of(did: &Did) -> u32
     }
 }
 
-fn placed_by(rows: &[Row], motion: &Motion) -> Placed
+fn placed_by(rows: &Rows, motion: &Motion) -> Placed
     ensures { result ≡ placed_by rows.now motion.now }
 {
     Placed {
         place: motion.place,
         taking: motion.taking,
-        syncs: syncs_in(rows, motion.place),
-        children: children_in(rows, motion.place),
+        syncs: rows.syncs(motion.place),
+        children: rows.children(motion.place),
     }
 }

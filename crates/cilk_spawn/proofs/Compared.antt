@@ -100,6 +100,14 @@ module _ (rs qs : List Record) (ids others : List ℕ) (v w : Family) (e : let f
         sym (ap (λ (ns : List Node). path_at ns i) one) ∙ is.1 ∙ ap (λ (ns : List Node). path_at ns c) other,
       )
 
+  -- a child there of the parent's partner, with the same ordinal
+  pub child_told : (i p to c : ℕ) (x : Record) → At rs i x → x.parent ≡ Some p → path_at v.nodes p ≡ path_at w.nodes to
+      → (node_at w.nodes c).parent ≡ Some to → (node_at w.nodes c).ordinal ≡ x.ordinal → path_at v.nodes i ≡ path_at w.nodes c
+  child_told i p to c x at parent path there ordinal =
+      let node = node_told rs ids v i x e at in
+      child_path_is v.nodes w.nodes (tree_told rs ids v e kept) (tree_told qs others w g also) p to i c path (ap (λ (n : Node). n.parent) node ∙ parent)
+      there (ap (λ (n : Node). n.ordinal) node ∙ sym ordinal)
+
   -- the roots have one path
   pub roots_are_partners : (i j : ℕ) → i ≡ 0 → j ≡ 0 → path_at v.nodes i ≡ path_at w.nodes j
   roots_are_partners i j here there =

@@ -1,24 +1,49 @@
 -- What is asked for, by what was found for a subcommand.
-use Rattle.std.proofs.Common.{◌≡◌, ◌+◌, ◌-◌, ◌^◌, ◌<◌, ◌≤◌, arith, refl, ℕ, Bool, true, false, Option, Some, None, codes, cond}
+use Rattle.std.proofs.Common.{◌≡◌, ◌+◌, ◌-◌, ◌^◌, ◌<◌, ◌≤◌, ◌∙◌, arith, refl, sym, ℕ, Bool, true, false, List, Option, Some, None, codes, cond, option_map}
 use Rattle.std.specs.Prelude.{◌≢◌, Decides, MatchBool, option_and_then, unwrap_or}
 use Rattle.std.specs.Str.{bytes_eq}
 use Rattle.std.specs.Str.Parse.{IsNumeral, ParsesBool, digits_value, false_text, true_text, without_leading_plus}
 use Rattle.std.proofs.lemmas.Slice.Eq.{bytes_eq-Decides}
 use Rattle.clap.specs.ValueTests.{is_unsigned_in}
-use Rattle.clap.specs.Words.{ReadsOne, Text, first_of, first_value, one_of, one_text, rows_of}
+use Rattle.clap.specs.Words.{ReadsOne, Row, Text, first_of, first_value, one_of, one_text, rows_of, subcommand_name_of, subcommand_rows_of}
 use Rattle.clap.specs.declared.builder.value_parser.ValueParser.TheVariants.{Unsigned}
+use Rattle.clap.specs.declared.parser.matches.ArgMatches.{ArgMatches}
+use Rattle.clap.specs.declared.parser.matches.ArgMatches.TheViews.{out-ArgMatches}
 use Rattle.clap.specs.declared.parser.matches.Found.{Found}
 use Rattle.clap.proofs.ValueTestLemmas.{Accepts-accepts, accepts-Accepts}
 use Rattle.clap.proofs.WalkLemmas.{first_value-rows, one_text-rows}
 use Rattle.cilk_words.specs.CommandLine.{Wanted, run, explored, is_set, number_to, request_for, request_of}
-use Rattle.cilk_words.specs.CommandLine.{explore_of, run_of, wanted_of, word_of}
+use Rattle.cilk_words.specs.CommandLine.{explore_of, run_of, text_for, wanted_of, word_of}
 
 -- ---- the subcommand that was met
 
+fused : {X Y Z : Type 0} (f : X → Y) (h : Y → Z) (o : Option X) → option_map (λ x. h (f x)) o ≡ option_map h (option_map f o)
+fused f h None = refl
+fused f h (Some x) = refl
+
+both_are : (sub : Option (Text × List Row)) (name : Text) (rows : List Row) → option_map (λ s. s.0) sub ≡ Some name → option_map (λ s. s.1) sub ≡ Some rows
+    → sub ≡ Some (name, rows)
+both_are None name rows named given = cc
+both_are (Some s) name rows named given =
+    let name_is : s.0 ≡ name = cc in
+    let rows_are : s.1 ≡ rows = cc in
+    λ i. Some (name_is i, rows_are i)
+
+-- a name and what was found are those of the subcommand
+pub met : (m : ArgMatches) (name : Text) (f : Found) → Some name ≡ subcommand_name_of m → Some (rows_of f) ≡ option_map (λ s. s.1) (subcommand_rows_of m)
+    → subcommand_rows_of m ≡ Some (name, rows_of f)
+met m name f named given =
+    let names : subcommand_name_of m ≡ option_map (λ s. s.0) (subcommand_rows_of m) = fused _ _ (out-ArgMatches m).subcommand in
+    both_are (subcommand_rows_of m) name (rows_of f) (sym names ∙ sym named) (sym given)
+
 -- what is wanted and a name, as they were found, for a subcommand of this name are what is asked for, with its flag
 pub named_request : (name : Text) (f : Found) (wanted : Option Wanted) (file : Option Text) → wanted ≡ wanted_of name (rows_of f)
-    → file ≡ first_value f (codes "F") → request_for wanted file (is_set (one_of (codes "explain") (rows_of f))) ≡ request_of (name, rows_of f)
-named_request name f wanted file wanted_is file_is = rw (wanted_is, file_is, first_value-rows f (codes "F")) refl
+    → file ≡ text_for name (rows_of f) → request_for wanted file (is_set (one_of (codes "explain") (rows_of f))) ≡ request_of (name, rows_of f)
+named_request name f wanted file wanted_is file_is = rw (wanted_is, file_is) refl
+
+-- the text or the log that was named, or none
+pub value_given : (f : Found) (name : Text) (value : Option Text) → value ≡ first_value f name → value ≡ first_of name (rows_of f)
+value_given f name value is = rw (← first_value-rows f name) is
 
 -- ---- the numbers of a run
 
@@ -93,9 +118,6 @@ pub no_end : (workers limit log seed runs : Option Text) (n : ℕ) → option_an
     → option_and_then (number_to (2 ^ 32 - 1)) limit ≡ None → run_of workers limit log seed runs ≡ None
 no_end workers limit log seed runs n crew none = rw (crew, none) refl
 
-pub log_found : (f : Found) (log : Option Text) → log ≡ first_value f (codes "log") → log ≡ first_of (codes "log") (rows_of f)
-log_found f log is = rw (← first_value-rows f (codes "log")) is
-
 -- ---- an exploration
 
 pub explore_given : (workers limit logs : Option Text) (n k : ℕ) → option_and_then (number_to (2 ^ 8 - 1)) workers ≡ Some n
@@ -109,14 +131,7 @@ pub explored_without_end : (workers limit logs : Option Text) (n : ℕ) → opti
     → option_and_then (number_to (2 ^ 32 - 1)) limit ≡ None → explore_of workers limit logs ≡ None
 explored_without_end workers limit logs n crew none = rw (crew, none) refl
 
-pub logs_found : (f : Found) (logs : Option Text) → logs ≡ first_value f (codes "logs") → logs ≡ first_of (codes "logs") (rows_of f)
-logs_found f logs is = rw (← first_value-rows f (codes "logs")) is
-
--- the log that was named, or none
-pub log_given : (f : Found) (log : Option Text) → log ≡ first_value f (codes "G") → log ≡ first_of (codes "G") (rows_of f)
-log_given f log is = rw (← first_value-rows f (codes "G")) is
-
--- ---- whether more is to be said of a fault
+-- ---- whether a flag is given
 
 read_flag : (word : Text) (given : Bool) → MatchBool given (word ≡ true_text) (word ≡ false_text) → given ≡ bytes_eq word (codes "true")
 read_flag word true is = rw is refl
@@ -136,7 +151,7 @@ flag_of E (Some t) None none value = unread_flag t (value t refl).1.0
 flag_of E (Some t) (Some given) none value = read_flag t given (value t refl)
 
 -- the flag is given where its text says so
-pub flag_given : (E : Type 0) (f : Found) (given : Option Bool) → (one_text f (codes "explain") ≡ None → given ≡ None)
-    → ((t : Text) → one_text f (codes "explain") ≡ Some t → ReadsOne (ParsesBool {E = E}) t given)
-    → unwrap_or given false ≡ is_set (one_of (codes "explain") (rows_of f))
-flag_given E f given = rw (← one_text-rows f (codes "explain")) (flag_of E (one_text f (codes "explain")) given)
+pub flag_given : (E : Type 0) (f : Found) (name : Text) (given : Option Bool) → (one_text f name ≡ None → given ≡ None)
+    → ((t : Text) → one_text f name ≡ Some t → ReadsOne (ParsesBool {E = E}) t given)
+    → unwrap_or given false ≡ is_set (one_of name (rows_of f))
+flag_given E f name given = rw (← one_text-rows f name) (flag_of E (one_text f name) given)

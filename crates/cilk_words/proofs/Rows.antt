@@ -5,7 +5,7 @@ use Rattle.clap.specs.Words.{Text, fault_of}
 use Rattle.clap.proofs.OnLiterals.{clap_on_literals}
 use Rattle.clap.specs.declared.error.kind.ErrorKind.TheVariants as kind
 use Rattle.cilk_words.specs.declared.clash.Clash.TheVariants as clash
-use Rattle.cilk_words.specs.CommandLine.{Asked, Wanted, printed, checked, run, explored, replayed, measured, raced, debugged}
+use Rattle.cilk_words.specs.CommandLine.{Asked, Wanted, printed, checked, run, explored, replayed, measured, raced, pictured, debugged, served}
 use Rattle.cilk_words.specs.CommandLine.{asked, command_line, clash_of, wished}
 use Rattle.cilk_words.specs.Refusing.{asks_for_help, asks_to_show}
 
@@ -129,6 +129,14 @@ debugs : asked (codes "cilk" ∷ codes "debug" ∷ codes "a" ∷ codes "g" ∷ [
 unfolding clap_on_literals
 debugs = refl
 
+serves : asked (codes "cilk" ∷ codes "dap" ∷ []) ≡ Some (briefly served [])
+unfolding clap_on_literals
+serves = refl
+
+serves_no_text : fault_of command_line (codes "cilk" ∷ codes "dap" ∷ codes "a" ∷ []) ≡ kind.UnknownArgument ∷ []
+unfolding clap_on_literals
+serves_no_text = refl
+
 wants_a_log : fault_of command_line (codes "cilk" ∷ codes "replay" ∷ codes "a" ∷ []) ≡ kind.MissingRequiredArgument ∷ []
 unfolding clap_on_literals
 wants_a_log = refl
@@ -221,6 +229,26 @@ races_of_a_log = refl
 races_of_no_dash : option_and_then clash_of (wished (codes "cilk" ∷ codes "races" ∷ codes "a" ∷ codes "-" ∷ [])) ≡ Some clash.DashAsLog
 unfolding clap_on_literals
 races_of_no_dash = refl
+
+-- ---- pictures
+
+draws : asked (codes "cilk" ∷ codes "draw" ∷ codes "a" ∷ codes "g" ∷ []) ≡ Some (briefly (pictured (codes "g") 1 10000000 false) (codes "a"))
+unfolding clap_on_literals
+draws = refl
+
+draws_a_part_in_lines : asked
+    (codes "cilk" ∷ codes "draw" ∷ codes "-" ∷ codes "g" ∷ codes "--text" ∷ codes "--from" ∷ codes "3" ∷ codes "--to" ∷ codes "9" ∷ codes "--explain" ∷ [])
+    ≡ Some (at_length (pictured (codes "g") 3 9 true) (codes "-"))
+unfolding clap_on_literals
+draws_a_part_in_lines = refl
+
+draws_from_a_choice : fault_of command_line (codes "cilk" ∷ codes "draw" ∷ codes "a" ∷ codes "g" ∷ codes "--from" ∷ codes "0" ∷ []) ≡ kind.ValueValidation ∷ []
+unfolding clap_on_literals
+draws_from_a_choice = refl
+
+draws_no_dash : option_and_then clash_of (wished (codes "cilk" ∷ codes "draw" ∷ codes "a" ∷ codes "-" ∷ [])) ≡ Some clash.DashAsLog
+unfolding clap_on_literals
+draws_no_dash = refl
 
 -- ---- explorations
 

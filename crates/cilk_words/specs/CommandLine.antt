@@ -68,6 +68,17 @@ written_rule = record (new_rule (codes "log")) { long = Some (codes "log"); valu
 abbrev pub explain_rule : Rule
 explain_rule = record (new_rule (codes "explain")) { long = Some (codes "explain"); action = Some SetTrue }
 
+-- the options that say with which choice a picture begins, and with which it ends
+abbrev pub from_rule : Rule
+from_rule = number_rule (codes "from") (Signed (pos 1) (pos 10000000)) (codes "1")
+
+abbrev pub to_rule : Rule
+to_rule = number_rule (codes "to") (Signed (pos 1) (pos 10000000)) (codes "10000000")
+
+-- the flag by which a picture is told in lines
+abbrev pub lines_rule : Rule
+lines_rule = record (new_rule (codes "text")) { long = Some (codes "text"); action = Some SetTrue }
+
 -- a subcommand on a text
 abbrev pub on_text : Text → App
 on_text name = with_rule (new_app name) file_rule
@@ -93,6 +104,10 @@ on_measure = on_a_run (codes "measure")
 abbrev pub on_races : App
 on_races = on_a_run (codes "races")
 
+-- one on a text and a log, of which a part is drawn
+abbrev pub on_draw : App
+on_draw = with_rule (with_rule (with_rule (on_log (codes "draw")) from_rule) to_rule) lines_rule
+
 -- a run, of which a log may be written
 abbrev pub on_run : App
 on_run =
@@ -113,7 +128,8 @@ command_line =
     let front = with_subcommand (with_subcommand bare (on_explained (codes "print")).top) (on_explained (codes "check")).top in
     let exploring = with_subcommand (with_subcommand front on_run.top) on_explore.top in
     let measuring = with_subcommand (with_subcommand exploring (on_log (codes "replay")).top) on_measure.top in
-    with_subcommand (with_subcommand measuring on_races.top) (on_log (codes "debug")).top
+    let drawing = with_subcommand (with_subcommand measuring on_races.top) on_draw.top in
+    with_subcommand (with_subcommand drawing (on_log (codes "debug")).top) (new_app (codes "dap")).top
 
 -- ---- what is wished
 
@@ -128,7 +144,11 @@ pub data Wanted : Type 0 where
   replayed : (log : Text) → Wanted
   measured : (log : Option Text) → Wanted
   raced : (log : Option Text) → Wanted
+  -- from one choice of the log up to another, in lines or not
+  pictured : (log : Text) (from to : ℕ) (in_lines : Bool) → Wanted
   debugged : (log : Text) → Wanted
+  -- an editor answered, which names the texts
+  served : Wanted
 
 -- the number that a word says in decimal, where it is at most so great
 abbrev pub number_to : ℕ → Text → Option ℕ
@@ -155,6 +175,22 @@ explore_of workers limit logs = option_and_then (λ n. option_map (λ k. explore
 abbrev pub explore_in : List Row → Option Wanted
 explore_in rows = explore_of (one_of (codes "workers") rows) (one_of (codes "limit") rows) (first_of (codes "logs") rows)
 
+-- a flag is given, by the text that stands for it
+abbrev pub is_set : Option Text → Bool
+is_set None = false
+is_set (Some word) = bytes_eq word (codes "true")
+
+-- a picture of a log, from one choice up to another, where all of these are said
+abbrev pub pictured_by : Option Text → Option ℕ → Option ℕ → Bool → Option Wanted
+pictured_by (Some log) (Some from) (Some to) in_lines = Some (pictured log from to in_lines)
+pictured_by _ _ _ in_lines = None
+
+abbrev pub draw_in : List Row → Option Wanted
+draw_in rows =
+    let from = word_of (one_of (codes "from") rows) in
+    let to = word_of (one_of (codes "to") rows) in
+    pictured_by (first_of (codes "G") rows) from to (is_set (one_of (codes "text") rows))
+
 -- what a subcommand of this name wants that a log may be named for
 abbrev pub wanted_by_log : Text → Option Text → Option Wanted
 wanted_by_log name log =
@@ -169,12 +205,13 @@ wanted_of name rows =
     if bytes_eq name (codes "print") then Some printed
     else (if bytes_eq name (codes "check") then Some checked
     else (if bytes_eq name (codes "run") then run_in rows
-    else (if bytes_eq name (codes "explore") then explore_in rows else wanted_by_log name (first_of (codes "G") rows))))
+    else (if bytes_eq name (codes "explore") then explore_in rows
+    else (if bytes_eq name (codes "draw") then draw_in rows
+    else (if bytes_eq name (codes "dap") then Some served else wanted_by_log name (first_of (codes "G") rows))))))
 
--- a flag is given, by the text that stands for it
-abbrev pub is_set : Option Text → Bool
-is_set None = false
-is_set (Some word) = bytes_eq word (codes "true")
+-- the name of the text that a subcommand of this name is for: empty where an editor is answered
+abbrev pub text_for : Text → List Row → Option Text
+text_for name rows = if bytes_eq name (codes "dap") then Some [] else first_of (codes "F") rows
 
 -- what is wanted, the name of the text that it is for, and whether more is to be said of what is wrong
 pub record Asked : Type 0 where
@@ -191,7 +228,9 @@ wanted_by (task.Explore workers limit logs) = explored workers limit (option_map
 wanted_by (task.Replay log) = replayed log.now
 wanted_by (task.Measure log) = measured (option_map (λ name. name.now) log)
 wanted_by (task.Races log) = raced (option_map (λ name. name.now) log)
+wanted_by (task.Draw log from to in_lines) = pictured log.now from to in_lines
 wanted_by (task.Debug log) = debugged log.now
+wanted_by task.Serve = served
 
 -- what a request asks for
 abbrev pub asked_by : Request → Asked
@@ -204,7 +243,7 @@ request_for _ _ explain = None
 
 -- what a subcommand asks for
 abbrev pub request_of : Text × List Row → Option Asked
-request_of sub = request_for (wanted_of sub.0 sub.1) (first_of (codes "F") sub.1) (is_set (one_of (codes "explain") sub.1))
+request_of sub = request_for (wanted_of sub.0 sub.1) (text_for sub.0 sub.1) (is_set (one_of (codes "explain") sub.1))
 
 -- the same, where there is a subcommand
 abbrev pub request_of_any : Option (Text × List Row) → Option Asked
@@ -251,7 +290,9 @@ clash_in (explored workers limit logs) name = None
 clash_in (replayed log) name = log_clash log
 clash_in (measured log) name = option_and_then log_clash log
 clash_in (raced log) name = option_and_then log_clash log
+clash_in (pictured log from to in_lines) name = log_clash log
 clash_in (debugged log) name = if is_dash name then Some clash.DashAsProgram else log_clash log
+clash_in served name = None
 
 abbrev pub clash_of : Asked → Option Clash
 clash_of a = clash_in a.wanted a.name

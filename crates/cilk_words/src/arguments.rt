@@ -36,6 +36,15 @@ pub const EXPLAIN: &str = "explain";
 /// The name of the argument that says how many workers a run has, or an exploration is of.
 pub const WORKERS: &str = "workers";
 
+/// The name of the argument that says with which choice a picture begins.
+pub const FROM: &str = "from";
+
+/// The name of the argument that says with which choice a picture ends.
+pub const TO: &str = "to";
+
+/// The name of the flag by which a picture is told in lines.
+pub const LINES: &str = "text";
+
 const VERSION: &str = "0.1.0";
 
 // What the help of the program ends with.
@@ -53,9 +62,14 @@ An exploration:
   explore F --logs D     writes a log of each outcome to the folder D, as D/1.log
   explore F --workers N  is of N workers, from 1 to 64 [default: 2]
 
+A picture:
+  draw F G --from K  begins with choice K, from 1 to 10,000,000 [default: 1]
+  draw F G --to K    ends with choice K, from 1 to 10,000,000 [default: 10,000,000]
+  draw F G --text    is told in lines, and not as an SVG
+
 Exit status:
   0  done
-  1  the program or the log is refused
+  1  the program or the log is refused, or a picture would be too long
   2  the command line is wrong
   3  the run ended with a trap
   4  the run is stuck
@@ -83,10 +97,17 @@ The commands of a session, one a line:
   list        shows the text, with the numbers of its lines and actions
   quit        ends the session";
 
+// What the help of an adapter ends with.
+const LAUNCH: &str = "\
+What an editor's launch request tells:
+  program      the program's text, a file
+  log          the log of a run, a file
+  stopOnEntry  whether to stop before the first choice [default: true]";
+
 // How many workers there may be.
 const CREW: ValueParser<'static> = ValueParser::Signed(1, 64);
 
-// How many choices a run may make, and how many standings an exploration may keep.
+// How many choices a run may make, how many standings an exploration may keep, and with which choices a picture may begin and end.
 const MOST: ValueParser<'static> = ValueParser::Signed(1, 10_000_000);
 
 // How many choices a run may make where nothing is said.
@@ -94,6 +115,12 @@ const CHOICES: &str = "1000000";
 
 // How many standings an exploration may keep where nothing is said.
 const STANDINGS: &str = "1000000";
+
+// With which choice a picture begins where nothing is said.
+const FIRST: &str = "1";
+
+// With which it ends then: no log has more.
+const LAST: &str = "10000000";
 
 // The argument that names the program's text, which may stand on standard input.
 const INPUT: Argument<'static> = Argument {
@@ -201,7 +228,36 @@ const RUN_OR_LOG: Argument<'static> = Argument {
     help: "The log of a run, a file [default: a run by one worker]",
 };
 
-const SUBCOMMANDS: [Subcommand<'static>; 8] = [
+const PICTURE: [Argument<'static>; 6] = [
+    INPUT,
+    EXPLAINED,
+    LOGGED,
+    Argument {
+        id: FROM,
+        form: Form::Number {
+            value: "K",
+            parser: MOST,
+            default: Some(FIRST),
+        },
+        help: "The picture begins with choice K, from 1 to 10,000,000",
+    },
+    Argument {
+        id: TO,
+        form: Form::Number {
+            value: "K",
+            parser: MOST,
+            default: Some(LAST),
+        },
+        help: "The picture ends with choice K, from 1 to 10,000,000",
+    },
+    Argument {
+        id: LINES,
+        form: Form::Flag,
+        help: "Tells the picture in lines, and not as an SVG",
+    },
+];
+
+const SUBCOMMANDS: [Subcommand<'static>; 10] = [
     Subcommand {
         name: "print",
         about: "Prints the canonical text of a program",
@@ -245,10 +301,22 @@ const SUBCOMMANDS: [Subcommand<'static>; 8] = [
         commands: None,
     },
     Subcommand {
+        name: "draw",
+        about: "Draws a log as one SVG: what each worker did, and what it changed",
+        arguments: &PICTURE,
+        commands: None,
+    },
+    Subcommand {
         name: "debug",
         about: "Answers commands on a log, read from standard input",
         arguments: &[TEXT, EXPLAINED, LOGGED],
         commands: Some(COMMANDS),
+    },
+    Subcommand {
+        name: "dap",
+        about: "Answers an editor by the Debug Adapter Protocol, over standard input and output",
+        arguments: &[],
+        commands: Some(LAUNCH),
     },
 ];
 

@@ -62,7 +62,7 @@ impl Clash {
         ensures { result ≡ clash_of (asked_by request.now) }
     {
         match request.task {
-            Task::Print | Task::Check | Task::Explore { .. } => None,
+            Task::Print | Task::Check | Task::Explore { .. } | Task::Serve => None,
             Task::Run {
                 log,
                 seed,
@@ -73,6 +73,7 @@ impl Clash {
                 Some(_) => Clash::in_runs(log.is_some(), seed.is_some()),
             },
             Task::Replay { log } => Clash::in_log(log),
+            Task::Draw { log, .. } => Clash::in_log(log),
             Task::Measure { log } | Task::Races { log } => Clash::in_log(log?),
             Task::Debug { log } => {
                 if request.name == STANDARD {

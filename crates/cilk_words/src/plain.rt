@@ -8,7 +8,8 @@ const ADVICE: &str = "  tip: to pass '";
 const OPTIONS: &str =
     "  tip: an option stands behind its subcommand: --explain behind each, --limit, --log, --runs, --seed and --workers behind run";
 
-const MORE_OPTIONS: &str = ", and --limit, --logs and --workers behind explore";
+const MORE_OPTIONS: &str =
+    ", --limit, --logs and --workers behind explore, and --from, --text and --to behind draw";
 
 // What stands before the reason why a word is not the number of an option, and what is told behind it in place of that reason.
 const NUMBERS: &[(&str, &str)] = &[
@@ -19,6 +20,8 @@ const NUMBERS: &[(&str, &str)] = &[
         "it is a number from 0 to 4,294,967,295",
     ),
     ("for '--runs <R>': ", "it is a number from 1 to 1,000,000"),
+    ("for '--from <K>': ", "it is a number from 1 to 10,000,000"),
+    ("for '--to <K>': ", "it is a number from 1 to 10,000,000"),
 ];
 
 /// The text of an error, with plain words for what a number may be, and for where options stand.

@@ -35,13 +35,22 @@ pub enum Task<'a> {
     Races {
         log: Option<&'a str>,
     },
+    /// To draw the choices of the log of this name, from the one of a number up to that of another, as an SVG or in lines.
+    Draw {
+        log: &'a str,
+        from: u32,
+        to: u32,
+        in_lines: bool,
+    },
     /// To answer commands on the log of this name.
     Debug {
         log: &'a str,
     },
+    /// To answer an editor, which names the texts.
+    Serve,
 }
 
-/// A task, the name of the text of the program that it is for, and whether more is to be said of what is
+/// A task, the name of the text of the program that it is for, empty where an editor names it, and whether more is to be said of what is
 /// wrong: a fault in that program, a trap of it, or a choice that is not possible.
 #[derive(Clone, Copy)]
 pub struct Request<'a> {

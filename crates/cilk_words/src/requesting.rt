@@ -2,11 +2,13 @@
 
 ghost use Rattle.std.specs.Prelude.{◌≡◌, IfErr, IfOk, Some, codes, option_map};
 ghost use Rattle.clap.specs.Words.{first_of, found_of, one_of, rows_of, subcommand_rows_of};
-ghost use Rattle.cilk_words.specs.CommandLine.{asked, asked_by, explore_in, is_set, request_of, request_of_any, run_in};
-ghost use Rattle.cilk_words.specs.CommandLine.{texts_of, wanted_by, wanted_by_log, wanted_of, word_of};
+ghost use Rattle.cilk_words.specs.CommandLine.{asked, asked_by, draw_in, explore_in, is_set, pictured_by, request_of, request_of_any, run_in};
+ghost use Rattle.cilk_words.specs.CommandLine.{text_for, texts_of, wanted_by, wanted_by_log, wanted_of, word_of};
 ghost use Rattle.cilk_words.specs.Refusing.{IsNoRequest};
 
-use crate::arguments::{EXPLAIN, FILE, LIMIT, LOG, LOGS, RUNS, SEED, WORKERS, WRITTEN_LOG, parse};
+use crate::arguments::{
+    EXPLAIN, FILE, FROM, LIMIT, LINES, LOG, LOGS, RUNS, SEED, TO, WORKERS, WRITTEN_LOG, parse,
+};
 use crate::clash::Clash;
 use crate::refusal::NoRequest;
 use crate::request::{Request, Task};
@@ -46,12 +48,12 @@ fn request_named<'a>(name: &str, found: &ArgMatches<'a>) -> Option<Request<'a>>
 {
     match task_named(name, found) {
         None => None,
-        Some(task) => match found.get_str(FILE) {
+        Some(task) => match text_for(name, found) {
             None => None,
             Some(name) => Some(Request {
                 task,
                 name,
-                explain: explained(found),
+                explain: flag_in(found, EXPLAIN),
             }),
         },
     }
@@ -65,8 +67,27 @@ fn task_named<'a>(name: &str, found: &ArgMatches<'a>) -> Option<Task<'a>>
         "check" => Some(Task::Check),
         "run" => run_in(found),
         "explore" => explore_in(found),
+        "draw" => draw_in(found),
+        "dap" => Some(Task::Serve),
         _ => task_by_log(name, log_in(found)),
     }
+}
+
+// The name of the text that a subcommand of this name is for. An editor that is answered names its texts later.
+fn text_for<'a>(name: &str, found: &ArgMatches<'a>) -> Option<&'a str>
+    ensures { option_map (λ text. text.now) result ≡ text_for name.now (rows_of (found_of found.now)) }
+{
+    match name {
+        "dap" => Some(""),
+        _ => text_in(found),
+    }
+}
+
+// The text that is named, if one is.
+fn text_in<'a>(found: &ArgMatches<'a>) -> Option<&'a str>
+    ensures { option_map (λ name. name.now) result ≡ first_of (codes "F") (rows_of (found_of found.now)) }
+{
+    found.get_str(FILE)
 }
 
 // A task that a log may be named for.
@@ -121,6 +142,42 @@ fn explore_in<'a>(found: &ArgMatches<'a>) -> Option<Task<'a>>
     })
 }
 
+fn draw_in<'a>(found: &ArgMatches<'a>) -> Option<Task<'a>>
+    ensures { option_map wanted_by result ≡ draw_in (rows_of (found_of found.now)) }
+{
+    let log = log_in(found);
+    let from = word_in(found, FROM);
+    let to = word_in(found, TO);
+    let in_lines = flag_in(found, LINES);
+    picture_by(log, from, to, in_lines)
+}
+
+// A picture of a log, where all of these are said.
+fn picture_by<'a>(
+    log: Option<&'a str>,
+    from: Option<u32>,
+    to: Option<u32>,
+    in_lines: bool,
+) -> Option<Task<'a>>
+    ensures { option_map wanted_by result ≡ pictured_by (option_map (λ it. it.now) log.entry) from to in_lines }
+{
+    match log {
+        None => None,
+        Some(log) => match from {
+            None => None,
+            Some(from) => match to {
+                None => None,
+                Some(to) => Some(Task::Draw {
+                    log,
+                    from,
+                    to,
+                    in_lines,
+                }),
+            },
+        },
+    }
+}
+
 // The number of an option that may be left out.
 fn word_in(found: &ArgMatches<'_>, name: &str) -> Option<u32>
     ensures { result ≡ word_of (one_of name.now (rows_of (found_of found.now))) }
@@ -131,9 +188,9 @@ fn word_in(found: &ArgMatches<'_>, name: &str) -> Option<u32>
     }
 }
 
-// Whether the flag is given. `get_flag` says nothing of a text that is no `bool`.
-fn explained(found: &ArgMatches<'_>) -> bool
-    ensures { result ≡ is_set (one_of (codes "explain") (rows_of (found_of found.now))) }
+// Whether a flag is given. `get_flag` says nothing of a text that is no `bool`.
+fn flag_in(found: &ArgMatches<'_>, name: &str) -> bool
+    ensures { result ≡ is_set (one_of name.now (rows_of (found_of found.now))) }
 {
-    found.get_one(EXPLAIN).unwrap_or(false)
+    found.get_one(name).unwrap_or(false)
 }

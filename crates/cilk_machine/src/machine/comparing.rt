@@ -1,4 +1,4 @@
-//! Whether two machines stand at the same but for the names of the workers, and a number that tells apart where they stand.
+//! Whether two machines stand at the same but for the names of the workers.
 
 ghost use Rattle.std.specs.Prelude.{◌≡◌, true, map};
 ghost use Rattle.cilk_machine_undo.specs.agree.Outside.{lock_by};
@@ -9,12 +9,8 @@ ghost use Rattle.cilk_view.specs.explore.Names.{SameButNames};
 ghost use Rattle.cilk_machine.specs.Stands.{StandsAt};
 
 use super::Machine;
-use crate::comparing::{
-    are_same_cells, are_same_locks, is_same_outcome, is_same_output, mix_hands, mix_locks,
-    mix_outcome,
-};
+use crate::comparing::{are_same_cells, are_same_locks, is_same_outcome, is_same_output};
 use crate::matching::Both;
-use cilk_machine_undo::Mixer;
 
 impl Machine {
     /// Whether both stand at the same but for the names of the workers, as far as what follows can depend on it: fates, ids and how many choices were
@@ -77,27 +73,5 @@ impl Machine {
             other: &other.parts.tree,
         };
         both.match_hands(self.workers)
-    }
-
-    /// A number that is the same where machines stand at the same but for the names of the workers, and mostly another elsewhere. It promises nothing.
-    pub fn digest(&self) -> u64 {
-        let mut mixer = Mixer::new();
-        mix_outcome(&self.outcome, &mut mixer);
-        for cell in &self.parts.globals {
-            mixer.put_signed(*cell);
-        }
-        mixer.put(self.parts.output.len() as u64);
-        for byte in &self.parts.output {
-            mixer.put(*byte as u64);
-        }
-        mix_locks(self.parts.locks.as_slice(), &self.parts.tree, &mut mixer);
-        mix_hands(
-            &self.parts.hands,
-            &self.parts.tree,
-            self.workers,
-            &mut mixer,
-        );
-        self.parts.tree.mix(&mut mixer);
-        mixer.mixed()
     }
 }

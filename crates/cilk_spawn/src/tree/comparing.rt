@@ -7,7 +7,11 @@ ghost use Rattle.cilk_spawn.specs.Alike.{taker_in, LivesAs, SameDelivery, SameWa
 
 use super::Tree;
 use crate::delivery::Delivery;
+use crate::record::Record;
 use cilk_frame::{Id, Mixer};
+
+// So many numbers of a path, from its end on, tell paths apart: of trees that are deeper most are chains.
+const NEAREST: usize = 16;
 
 impl Tree {
     /// Whether the same instances live, and the same is told of each: ids do not matter, and neither do those that have ended.
@@ -33,7 +37,7 @@ impl Tree {
         ensures { result ≡ true → path_at self.now.nodes id ≡ path_at other.now.nodes to }
     {
         if id.number() < self.records.len() {
-            match self.partner(id, other, near, by) {
+            match self.partner_behind(id, other, near, by) {
                 None => false,
                 Some(found) => found == to,
             }
@@ -90,7 +94,7 @@ impl Tree {
         requires near { path_at self.now.nodes near ≡ path_at other.now.nodes by }
         ensures same { IfSome result (λ to. SameNode self.now.nodes other.now.nodes id to) }
     {
-        match self.partner(id, other, near, by) {
+        match self.partner_behind(id, other, near, by) {
             None => None,
             Some(to) => {
                 if to.number() < other.records.len() && self.is_told_as(id, other, to) {
@@ -109,13 +113,35 @@ impl Tree {
         ensures lives { IfSome result (λ to. is_live (node_at other.now.nodes to) ≡ true) }
         ensures path { IfSome result (λ to. path_at self.now.nodes id ≡ path_at other.now.nodes to) }
     {
-        match self.partner(id, other, near, by) {
+        match self.partner_behind(id, other, near, by) {
             None => None,
             Some(to) => {
                 if to.number() < other.records.len() && other.records[to.number()].is_live() {
                     Some(to)
                 } else {
                     None
+                }
+            }
+        }
+    }
+
+    // The instance there with the path of this one, which mostly is a child of the one that is known to have a partner.
+    #[inline(always)]
+    fn partner_behind(&self, id: Id, other: &Tree, near: Id, by: Id) -> Option<Id>
+        requires here { id < length self.now.nodes }
+        requires near { path_at self.now.nodes near ≡ path_at other.now.nodes by }
+        ensures { IfSome result (λ to. path_at self.now.nodes id ≡ path_at other.now.nodes to) }
+    {
+        // Brings its clauses into the proof.
+        let _others = other.records.len();
+        let record = &self.records[id.number()];
+        match record.parent {
+            None => self.partner(id, other, near, by),
+            Some(parent) => {
+                if parent == near && other.has_child(by, record.ordinal, id) {
+                    Some(id)
+                } else {
+                    self.partner(id, other, near, by)
                 }
             }
         }
@@ -136,12 +162,28 @@ impl Tree {
             Some(parent) => match self.partner(parent, other, near, by) {
                 None => None,
                 Some(to) => {
-                    if other.records.len() <= to.number() {
+                    if other.has_child(to, record.ordinal, id) {
+                        Some(id)
+                    } else if other.records.len() <= to.number() {
                         None
                     } else {
                         other.records[to.number()].child(record.ordinal)
                     }
                 }
+            },
+        }
+    }
+
+    // Whether the instance of this id is the child of that parent with this ordinal. Mostly a partner has the same id, and is not looked for then.
+    fn has_child(&self, parent: Id, ordinal: u32, id: Id) -> bool
+        ensures parent { result ≡ true → (node_at self.now.nodes id).parent ≡ Some parent }
+        ensures ordinal { result ≡ true → (node_at self.now.nodes id).ordinal ≡ ordinal }
+    {
+        match self.records.get(id.number()) {
+            None => false,
+            Some(record) => match record.parent {
+                None => false,
+                Some(own) => own == parent && record.ordinal == ordinal,
             },
         }
     }
@@ -220,59 +262,52 @@ impl Tree {
         }
     }
 
-    /// What is told of each that lives enters a number that tells states apart, in an order that does not matter.
-    pub fn mix(&self, mixer: &mut Mixer) {
-        let mut all: u64 = 0;
-        let mut near = Id::new(0);
-        let mut path: u64 = 0;
-        for k in 0..self.living.len() {
-            let id = self.living[k];
-            path = self.mixed_path_by(id, near, path);
-            near = id;
-            all = all.wrapping_add(self.mixed_of(id, path));
-        }
-        mixer.put(all);
-    }
-
-    /// The path of an instance as a number that tells paths apart.
-    pub fn mixed_path(&self, id: Id) -> u64 {
-        self.mixed_path_by(id, Id::new(0), 0)
-    }
-
-    /// The same, where that of another is known, which may be on the way.
-    pub fn mixed_path_by(&self, id: Id, near: Id, path: u64) -> u64 {
-        if id.number() < self.records.len() {
-            self.mixed_way(id, near, path)
-        } else {
-            0
+    /// A number that tells apart what may be told of an instance, and of others. It is 0 of one that does not live.
+    pub fn mixed_of(&self, id: Id) -> u64 {
+        match self.records.get(id.number()) {
+            None => 0,
+            Some(record) => {
+                if record.is_live() {
+                    self.mixed_as(id, record)
+                } else {
+                    0
+                }
+            }
         }
     }
 
-    fn mixed_way(&self, id: Id, near: Id, path: u64) -> u64
-        requires { id < length self.now.nodes }
-    {
-        if id == near {
-            return path;
-        }
-        let record = &self.records[id.number()];
+    fn mixed_as(&self, id: Id, record: &Record) -> u64 {
         let mut own = Mixer::new();
-        match record.parent {
-            None => {}
-            Some(parent) => own.put(self.mixed_way(parent, near, path)),
+        own.put(self.mixed_path(id));
+        record.mix(&mut own);
+        for k in 0..record.waiting() {
+            self.mix_delivery(record.delivery(k), &mut own);
         }
-        own.put(record.ordinal as u64);
         own.mixed()
     }
 
-    fn mixed_of(&self, id: Id, path: u64) -> u64 {
+    /// The sum of these numbers.
+    pub fn mixed(&self) -> u64 {
+        let mut sum: u64 = 0;
+        for k in 0..self.living.len() {
+            sum = sum.wrapping_add(self.mixed_of(self.living[k]));
+        }
+        sum
+    }
+
+    /// A number that tells paths apart.
+    pub fn mixed_path(&self, id: Id) -> u64 {
         let mut own = Mixer::new();
-        own.put(path);
-        match self.records.get(id.number()) {
-            None => {}
-            Some(record) => {
-                record.mix(&mut own);
-                for k in 0..record.waiting() {
-                    self.mix_delivery(record.delivery(k), &mut own);
+        let mut at = id;
+        for _ in 0..NEAREST {
+            match self.records.get(at.number()) {
+                None => return own.mixed(),
+                Some(record) => {
+                    own.put(record.ordinal as u64);
+                    match record.parent {
+                        None => return own.mixed(),
+                        Some(parent) => at = parent,
+                    }
                 }
             }
         }

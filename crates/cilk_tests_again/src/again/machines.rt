@@ -105,7 +105,7 @@ fn put_standing(rt: &(impl Abort + Print), text: &mut String, machine: &Machine)
     let output = machine.output();
     let is_stuck = machine.is_stuck();
     let has_idle = machine.has_idle();
-    let digest = machine.digest();
+    let digest = machine.digest(machine.mixed());
     let count = machine.global("g", 0);
     write!(
         text,

@@ -1,9 +1,9 @@
 use Rattle.std.proofs.Common.{◌≡◌, List, Option, Some, map, rules, sym, ap, ◌∙◌}
 use Rattle.std.specs.Prelude.{option_copied, slice_get}
-use Rattle.cilk_races.specs.measure.replay.machine.labelled.Bodies.{label}
-use Rattle.cilk_races.specs.measure.replay.machine.nodes.Bodies.{body_table}
-use Rattle.cilk_races.specs.measure.replay.machine.nodes.declared.body.Body.{Body}
-use Rattle.cilk_races.specs.measure.replay.machine.nodes.declared.var.Var.{Var}
+use Rattle.cilk_log_replay.specs.machine.labelled.Bodies.{label}
+use Rattle.cilk_log_replay.specs.machine.nodes.Bodies.{body_table}
+use Rattle.cilk_log_replay.specs.machine.nodes.declared.body.Body.{Body}
+use Rattle.cilk_log_replay.specs.machine.nodes.declared.var.Var.{Var}
 use Rattle.cilk_races.proofs.VariableNames.{body-name, name_in, vars_in}
 use Rattle.cilk_races.proofs.naming.own_name.Goals as goal
 

@@ -1,8 +1,8 @@
 use Rattle.std.proofs.Common.{List, rules, sym, ap, ◌∙◌}
 use Rattle.std.specs.Prelude.{option_copied, slice_get}
-use Rattle.cilk_races.specs.measure.replay.machine.labelled.Bodies.{label}
-use Rattle.cilk_races.specs.measure.replay.machine.nodes.declared.area.Area.TheVariants.{Global}
-use Rattle.cilk_races.specs.measure.replay.machine.nodes.declared.var.Var.{Var}
+use Rattle.cilk_log_replay.specs.machine.labelled.Bodies.{label}
+use Rattle.cilk_log_replay.specs.machine.nodes.declared.area.Area.TheVariants.{Global}
+use Rattle.cilk_log_replay.specs.machine.nodes.declared.var.Var.{Var}
 use Rattle.cilk_races.proofs.VariableNames.{name_in, var-name}
 use Rattle.cilk_races.proofs.naming.top_name.Goals as goal
 

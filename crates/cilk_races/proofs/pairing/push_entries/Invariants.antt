@@ -1,8 +1,8 @@
 use Rattle.std.proofs.Common.{◌≡◌, ◌<◌, ◌-◌, List, length}
 use Rattle.std.specs.Prelude.{min}
 use Rattle.std.specs.List.{All}
-use Rattle.cilk_measure.specs.model.labelled.Labelled.{Labelled}
-use Rattle.cilk_measure.specs.model.Event.{Event}
+use Rattle.cilk_log_replay.specs.machine.model.labelled.Labelled.{Labelled}
+use Rattle.cilk_log_replay.specs.machine.model.Event.{Event}
 use Rattle.cilk_races.specs.Links.{bucket_at}
 use Rattle.cilk_races.specs.Kept.{Blocked}
 use Rattle.cilk_races.specs.Paired.{Pairs, Within, entries_up_to, pairs_told, touch_at, touches_of}

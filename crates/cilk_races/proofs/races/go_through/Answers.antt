@@ -1,5 +1,5 @@
 use Rattle.std.proofs.Common.{◌≡◌, ◌+◌, ℕ, suc, ◌∙◌, subst, arith, length}
-use Rattle.cilk_races.specs.measure.replay.Tape.{IsAt}
+use Rattle.cilk_log_replay.specs.Tape.{IsAt}
 use Rattle.cilk_races.specs.Watched.{Watched}
 use Rattle.cilk_races.proofs.Watching.{watched-next}
 use Rattle.cilk_races.proofs.races.go_through.Goals as goal

@@ -1,6 +1,6 @@
 use Rattle.std.proofs.Common.{map}
-use Rattle.cilk_races.specs.measure.replay.machine.choices.Words.{choice_of}
-use Rattle.cilk_races.proofs.measure_laws.replay_laws.Naming.{ok_always}
+use Rattle.cilk_log_replay.specs.machine.choices.Words.{choice_of}
+use Rattle.cilk_log_replay.proofs.Naming.{ok_always}
 use Rattle.cilk_races.proofs.races.races_of_run.Goals as goal
 
 pub returns-in-Ok-clause-own : goal.returns-in-Ok-clause-own

@@ -1,7 +1,7 @@
 use Rattle.std.proofs.Common.{length, refl, sym, subst}
-use Rattle.cilk_races.specs.measure.replay.Tape.{IsAt, Tape, tape_of}
-use Rattle.cilk_races.specs.measure.replay.machine.agree.scopes.WellFormed.{WellFormed}
-use Rattle.cilk_races.proofs.measure_laws.Gauges.{if-ok}
+use Rattle.cilk_log_replay.specs.Tape.{IsAt, Tape, tape_of}
+use Rattle.cilk_log_replay.specs.machine.agree.scopes.WellFormed.{WellFormed}
+use Rattle.cilk_races.proofs.Gauges.{if-ok}
 use Rattle.cilk_races.specs.Watched.{Watched}
 use Rattle.cilk_races.specs.declared.watch.Watch.{Watch}
 use Rattle.cilk_races.proofs.Raced.{watched-first}

@@ -7,9 +7,9 @@ use Rattle.cilk_races.proofs.reversing.are_reversed_up_to.Goals as goal
 
 pub returns-in-Some : goal.returns-in-Some
 returns-in-Some c = λ so.
-    let rows = c.args.races.now.rows.items in
+    let rows = c.args.races.now.rows in
     let touches : List Touch = touches_of rows c.args.races.now.touches.items in
-    let now : List Touch = touches_of c.args.watch.now.rows.items c.args.watch.now.touches.items in
+    let now : List Touch = touches_of c.args.watch.now.rows c.args.watch.now.touches.items in
     let p : Pair = pair_of rows c.args.races.now.touches.items c.args.entry in
     let choice = c.in-Some.choice in
     let first : touch_of rows c.touch_at-first.result.now ≡ p.first = c.touch_at-first.ensures in

@@ -1,6 +1,6 @@
 use Rattle.std.proofs.Common.{◌≡◌, ◌++◌, sym, ap, ◌∙◌, subst}
 use Rattle.std.specs.Prelude.{flat_map}
-use Rattle.cilk_races.specs.measure.replay.machine.labelled.Bodies.{label}
+use Rattle.cilk_log_replay.specs.machine.labelled.Bodies.{label}
 use Rattle.cilk_races.specs.Order.{race}
 use Rattle.cilk_races.specs.Races.{count_of}
 use Rattle.cilk_races.specs.Found.{told_in}
@@ -12,7 +12,7 @@ use Rattle.cilk_races.proofs.told.told_of.Goals as goal
 pub returns-in-Ok : goal.returns-in-Ok
 returns-in-Ok c t holds are =
     let races = c.args.races.now in
-    let met = meetings_in races.rows.items races.touches.items c.in_ok-meetings.meetings.items in
+    let met = meetings_in races.rows races.touches.items c.in_ok-meetings.meetings.items in
     let pairs : pairs_in met ≡ told_in races = c.in_ok-meetings.ensures.pairs in
     record {
       meetings = met;
@@ -21,6 +21,6 @@ returns-in-Ok c t holds are =
       count_is = c.count_among.ensures ∙ ap (count_of race) (sym pairs);
       is = c.in-Ok.ensures
           ∙ (λ j. flat_map (meeting_text (label (holds.program j)))
-          (meetings_in races.rows.items races.touches.items (c.as_slice.ensures.value j))
+          (meetings_in races.rows races.touches.items (c.as_slice.ensures.value j))
           ++ count_line (sym pairs j));
     }

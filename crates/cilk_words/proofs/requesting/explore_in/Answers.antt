@@ -1,7 +1,7 @@
 use Rattle.std.proofs.Common.{◌∙◌, ap, codes, option_map, sym, Some}
 use Rattle.clap.specs.Words.{first_of, found_of, one_of, rows_of}
 use Rattle.cilk_words.specs.CommandLine.{explored, wanted_by}
-use Rattle.cilk_words.proofs.Requests.{explore_given, explored_by_none, explored_without_end, limit_read, logs_found, no_limit, no_workers, workers_read}
+use Rattle.cilk_words.proofs.Requests.{explore_given, explored_by_none, explored_without_end, limit_read, no_limit, no_workers, value_given, workers_read}
 use Rattle.cilk_words.proofs.requesting.explore_in.Goals as goal
 
 pub returns-in_err-workers : goal.returns-in_err-workers
@@ -27,7 +27,7 @@ returns c =
     let rows = rows_of f in
     let crew = workers_read f c.in_ok-workers.workers c.in_ok-workers.ensures.none (λ t e. (c.in_ok-workers.ensures.value t e).0) in
     let within = limit_read f c.in_ok-limit.limit c.in_ok-limit.ensures.none (λ t e. (c.in_ok-limit.ensures.value t e).0) in
-    let logs = logs_found f (option_map (λ name. name.now) c.get_str.result) c.get_str.ensures in
+    let logs = value_given f (codes "logs") (option_map (λ name. name.now) c.get_str.result) c.get_str.ensures in
     (λ i. Some (explored c.in_ok-workers.workers c.in_ok-limit.limit (logs i)))
     ∙ sym (explore_given (one_of (codes "workers") rows) (one_of (codes "limit") rows) (first_of (codes "logs") rows) c.in_ok-workers.workers
     c.in_ok-limit.limit crew within)

@@ -20,7 +20,7 @@ index_mut-requires c =
 pub invariant_of-self : goal.invariant_of-self
 invariant_of-self c =
     let nodes = c.self.inside.nodes.items in
-    let node : Node = record { parent = c.args.parent; before = c.index-old.result.now.before; choice = c.args.choice } in
+    let node : Node = record { parent = c.args.parent; before = c.index-old.result.now.before; choice = c.args.choice; mixed = c.index-old.result.now.mixed } in
     let less = c.if-number-parent.false in (
       grown-put nodes c.args.number node c.self.invariant.0 (omega (arith, less)),
       parents-put c.self.inside.last_parent c.max-self-inside.result nodes c.args.number node c.self.invariant.1 c.max-self-inside.ensures,
@@ -30,7 +30,7 @@ pub returns-clause-put : goal.returns-clause-put
 returns-clause-put c = λ e.
     let nodes = c.self.inside.nodes.items in
     let size = ap length c.self.view_is in
-    let node : Node = record { parent = c.args.parent; before = c.index-old.result.now.before; choice = c.args.choice } in
+    let node : Node = record { parent = c.args.parent; before = c.index-old.result.now.before; choice = c.args.choice; mixed = c.index-old.result.now.mixed } in
     let far = c.if-number-self.false in
     let less = c.if-number-parent.false in
     let within : c.args.number < length nodes = omega (arith, size, logs-length nodes, c.requires) in

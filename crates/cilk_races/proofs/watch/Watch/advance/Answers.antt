@@ -1,7 +1,7 @@
 use Rattle.std.proofs.Common.{◌≡◌, ◌+◌, ◌∙◌, ℕ, Some, ap, arith, option_copied, refl, suc, subst, sym}
-use Rattle.cilk_races.specs.measure.replay.machine.Situation.{Situation}
-use Rattle.cilk_races.specs.measure.replay.machine.plans.PartWords.{event_by}
-use Rattle.cilk_races.specs.measure.replay.machine.spawn.Nodes.{path_at}
+use Rattle.cilk_log_replay.specs.machine.Situation.{Situation}
+use Rattle.cilk_log_replay.specs.machine.plans.PartWords.{event_by}
+use Rattle.cilk_log_replay.specs.machine.spawn.Nodes.{path_at}
 use Rattle.cilk_races.specs.Noted.{IsNoted}
 use Rattle.cilk_races.proofs.Same.{noted-same}
 use Rattle.cilk_races.proofs.watch.Watch.advance.Goals as goal

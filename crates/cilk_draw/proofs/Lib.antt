@@ -1,0 +1,2 @@
+mod Played
+mod OwnFaults

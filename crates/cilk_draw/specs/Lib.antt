@@ -1,0 +1,2 @@
+pub mod DrawFaults
+pub use Rattle.cilk_log_replay.specs as replay

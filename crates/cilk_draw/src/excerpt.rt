@@ -1,0 +1,28 @@
+//! Which part of a schedule is drawn.
+
+ghost use Rattle.std.specs.Prelude.{◌≤◌};
+
+/// The choices of a schedule that are drawn: from the one of a number, counted from 1, up to that of another. What goes beyond the schedule is not there.
+#[derive(Clone, Copy, Debug)]
+pub struct Excerpt {
+    pub from: u64,
+    pub to: u64,
+}
+
+impl Excerpt {
+    /// How many choices come before it, of so many.
+    pub fn begin(self, all: usize) -> usize
+        ensures { result ≤ all }
+    {
+        usize::try_from(self.from.saturating_sub(1))
+            .unwrap_or(all)
+            .min(all)
+    }
+
+    /// Behind how many choices it ends.
+    pub fn end(self, all: usize) -> usize
+        ensures { result ≤ all }
+    {
+        usize::try_from(self.to).unwrap_or(all).min(all)
+    }
+}

@@ -1,0 +1,16 @@
+//! What stands below the rows of a picture, as texts.
+
+/// How a program stands where a picture ends, and the program itself.
+#[derive(Drop)]
+pub(crate) struct Footer {
+    /// Behind how many choices the picture ends.
+    pub end: u64,
+    /// How the program stands there.
+    pub ending: String,
+    /// A line for each worker there: where it goes on, and whether it has to wait.
+    pub standing: String,
+    /// The instances that were made up to there, a line for each, in the order of their paths.
+    pub tree: String,
+    /// The canonical text of the program.
+    pub text: String,
+}

@@ -1,0 +1,13 @@
+mod ChoiceLines
+mod ChoiceStands
+pub mod NotRead
+mod Fronts
+pub mod Said
+pub mod Whole
+pub mod Ran
+mod Debugged
+mod Explored
+mod Pictured
+mod Among
+mod Told
+mod Served

@@ -1,0 +1,132 @@
+-- The texts of a machine that is not moved any more.
+use Rattle.std.proofs.Common.{◌≡◌, ◌≤◌, ℕ, Bool, true, List, length, map, take, sym, ap, ◌∙◌, subst}
+use Rattle.std.specs.Prelude.{Option, Some, None, Result, Ok, Err, IfOk, IfSome}
+use Rattle.std.proofs.lemmas.List.{length-map}
+use Rattle.std.proofs.Math.Seq.{take-length}
+use Rattle.cilk_commands.specs.syntax.Tree.{Program}
+use Rattle.cilk_commands.specs.labelled.Bodies.{label}
+use Rattle.cilk_run.specs.model.Run.{Standing, after}
+use Rattle.cilk_run.specs.model.End as end
+use Rattle.cilk_run.specs.Runs as Runs
+use Rattle.cilk_run.specs.declared.run_result.Run.{Run}
+use Rattle.cilk_run.specs.choices.Words.{choice_of, end_of}
+use Rattle.cilk_run.specs.choices.declared.choice.Choice as code
+use Rattle.cilk_run.specs.machine.Situation.{Situation}
+use Rattle.cilk_run.specs.machine.Stands.{StandsAt}
+use Rattle.cilk_run.specs.Drawn.{drawn}
+use Rattle.cilk_log_replay.specs.log.Text.{log_text}
+use Rattle.cilk_log_replay.specs.log.Words.{log_of}
+use Rattle.cilk_log_replay.specs.Tape.{Tape, tape_of, IsAt}
+use Rattle.cilk_commands.specs.Loading.{IsReady}
+use Rattle.cilk_commands.specs.declared.status.Status.{Status}
+use Rattle.cilk_program_runs.specs.Running.{IsRun, status_at}
+use Rattle.cilk_program_runs.specs.declared.closing.Closing.{Closing}
+use Rattle.cilk_program_runs.specs.declared.run.RunAnswer.{RunAnswer}
+use Rattle.cilk_program_runs.specs.Replaying.{ClosesAt, IsReplayed}
+use Rattle.cilk_program_runs.specs.OnTapes.{IsOfRun, alone_limit}
+use Rattle.cilk_program_runs.specs.Taped.{IsOwnTape}
+
+-- the choices are those of the seed, if there is one
+abbrev pub IsNamed : Option ℕ → Program → ℕ → ℕ → Run → Type 0
+IsNamed seed p workers limit r = IfSome seed (λ s. map choice_of r.log.choices ≡ drawn (label p) workers s limit)
+
+-- without a seed there is nothing to say of the choices, and else what was said of its number
+pub unnamed : {E : Type 0} (seed : Option ℕ) (p : Program) (workers limit : ℕ) (result : Result Run E) → seed ≡ None
+    → IfOk result (λ r. IsNamed seed p workers limit r)
+unnamed None p workers limit (Ok r) none = tt
+unnamed (Some s) p workers limit (Ok r) none = cc
+unnamed seed p workers limit (Err e) none = tt
+
+pub named_by : {E : Type 0} (seed : Option ℕ) (s at : ℕ) (p : Program) (workers limit : ℕ) (result : Result Run E) → seed ≡ Some s → at ≡ s
+    → IfOk result (λ r. map choice_of r.log.choices ≡ drawn (label p) workers at limit) → IfOk result (λ r. IsNamed seed p workers limit r)
+named_by seed s at p workers limit (Ok r) given same are =
+    subst (λ (o : Option ℕ). IsNamed o p workers limit r) (sym given)
+    (subst (λ n. map choice_of r.log.choices ≡ drawn (label p) workers n limit) same are)
+named_by seed s at p workers limit (Err e) given same are = tt
+
+-- the closing text of a run, and its log
+pub ran : (workers limit : ℕ) (seed : Option ℕ) (bytes text : List ℕ) (p : Program) (r : Run) → IsReady bytes p → Runs.IsRun p workers limit r
+    → IsNamed seed p workers limit r → text ≡ end.ending r.output (end_of r.end) (length r.log.choices)
+    → IsRun workers limit seed (status_at (end_of r.end)) bytes (log_text (log_of r.log)) text
+ran workers limit seed bytes text p r ready l named is =
+    let count : length r.log.choices ≡ length (map choice_of r.log.choices) = sym (length-map r.log.choices choice_of) in
+    record {
+      program = p;
+      ready = ready;
+      choices = map choice_of r.log.choices;
+      at = l.at;
+      led = l.led;
+      within = subst (λ n. n ≤ limit) count l.within;
+      named = named;
+      whole = λ e. sym count ∙ l.whole e;
+      tells = ap status_at l.end;
+      is = is ∙ (λ i. end.ending (l.output i) (l.end i) (count i));
+      recorded = λ i. log_text (record { program = l.program i; workers = l.workers i; choices = map choice_of r.log.choices });
+    }
+
+-- the texts that are made of a run
+pub told_of : {E : Type 0} (workers limit : ℕ) (seed : Option ℕ) (p : Program) (r : Run) (is_logged : Bool) (texts : Result RunAnswer E)
+    → Runs.IsRun p workers limit r → IsNamed seed p workers limit r
+    → IfOk texts (λ t. t.status ≡ status_at (end_of r.end)) → IfOk texts (λ t. t.answer.items ≡ end.ending r.output (end_of r.end) (length r.log.choices))
+    → (is_logged ≡ true → IfOk texts (λ t. t.log.items ≡ log_text (log_of r.log)))
+    → IfOk texts (λ t. (bytes : List ℕ) → IsReady bytes p
+    → (log : List ℕ) × IsRun workers limit seed t.status bytes log t.answer.items × (is_logged ≡ true → t.log.items ≡ log))
+told_of workers limit seed p r is_logged (Ok t) l named status text log = λ bytes ready. (
+  log_text (log_of r.log),
+  subst (λ s. IsRun workers limit seed s bytes (log_text (log_of r.log)) t.answer.items) (sym status)
+      (ran workers limit seed bytes t.answer.items p r ready l named text),
+  log,
+)
+told_of workers limit seed p r is_logged (Err e) l named status text log = tt
+
+-- the closing text that is made of what a machine tells
+pub closes_by : {E : Type 0} (closing : Result Closing E) (m : Situation) (output : List ℕ) (ended : end.End) (n : ℕ)
+    → ((at : Standing) → StandsAt m at → output ≡ at.state.output) → ((at : Standing) → StandsAt m at → ended ≡ end.end_now (label m.program) at)
+    → n ≡ m.choices → IfOk closing (λ c. c.status ≡ status_at ended) → IfOk closing (λ c. c.text.items ≡ end.ending output ended n)
+    → IfOk closing (λ c. (at : Standing) → StandsAt m at → ClosesAt m at c.status c.text.items)
+closes_by (Ok c) m output ended n printed ends counted status text = λ at there. record {
+  tells = status ∙ ap status_at (ends at there);
+  is = text ∙ (λ i. end.ending (printed at there i) (ends at there i) (counted i));
+}
+closes_by (Err e) m output ended n printed ends counted status text = tt
+
+-- the closing text of a replay
+pub replayed : (status : Status) (text bytes answer : List ℕ) (t : Tape) (n : ℕ) (m : Situation) → IsOwnTape text bytes t → n ≡ length t.choices → IsAt t n m
+    → ((at : Standing) → StandsAt m at → ClosesAt m at status answer) → IsReplayed status text bytes answer
+replayed status text bytes answer t n m is_tape count a closes =
+    let there : StandsAt m a.at.standing = record { choices = take n t.choices; events = a.at.events; led = a.led } in
+    let now : end.end_now (label m.program) a.at.standing ≡ end.end_now (label t.program) a.at.standing =
+    ap (λ (q : Program). end.end_now (label q) a.at.standing) a.program in
+    record {
+      tape = t;
+      is_tape = is_tape;
+      at = a.at;
+      led = (λ i. after (label (sym a.program i)) (sym a.workers i) (take (sym count i) t.choices)) ∙ a.led.led;
+      tells = (closes a.at.standing there).tells ∙ ap status_at now;
+      is = (closes a.at.standing there).is ∙ (λ i. end.ending a.at.standing.state.output (now i) ((a.choices ∙ count) i));
+    }
+
+-- where all of the choices were made again
+pub all_replayed : (status : Status) (text bytes answer : List ℕ) (p : Program) (workers : ℕ) (made : List code.Choice) (m : Situation)
+    → IsOwnTape text bytes (tape_of p workers made) → IsAt (tape_of p workers made) (length made) m
+    → ((at : Standing) → StandsAt m at → ClosesAt m at status answer) → IsReplayed status text bytes answer
+all_replayed status text bytes answer p workers made m is_tape a closes =
+    replayed status text bytes answer (tape_of p workers made) (length made) m is_tape (sym (length-map made choice_of)) a closes
+
+-- ---- what is told of a run by one worker
+
+pub alone_is : (Of : Tape → Status → List ℕ → Type 0) (p : Program) (r : Run) (status : Status) (answer text : List ℕ) → Runs.IsRun p 1 alone_limit r
+    → Of (tape_of p r.log.workers r.log.choices) status answer → IsReady text p → IsOfRun Of text status answer
+alone_is Of p r status answer text l told ready =
+    let choices = map choice_of r.log.choices in
+    let count : length r.log.choices ≡ length choices = sym (length-map r.log.choices choice_of) in
+    record {
+      tape = tape_of p r.log.workers r.log.choices;
+      ready = ready;
+      alone = l.workers;
+      at = l.at;
+      led = (λ i. after (label p) (l.workers i) (take-length choices i)) ∙ l.led;
+      within = subst (λ n. n ≤ alone_limit) count l.within;
+      whole = λ e. sym count ∙ l.whole e;
+      is = told;
+    }

@@ -1,0 +1,24 @@
+use Rattle.std.proofs.Common.{is_some, option_map}
+use Rattle.cilk_commands.specs.declared.failure.Failure.TheVariants.{Memory}
+use Rattle.cilk_program_runs.specs.GivingUp.{GivesUpRun}
+use Rattle.cilk_program_runs.specs.AsAsked.{log_name}
+use Rattle.cilk_program_runs.proofs.NotRead.{no_run}
+use Rattle.cilk_program_runs.proofs.Said.{failure_no_trap}
+use Rattle.cilk_program_runs.proofs.asked.run_named.Goals as goal
+
+pub returns-in_default-clause-told : goal.returns-in_default-clause-told
+returns-in_default-clause-told g c = λ none.
+    let task = c.args.task.now in
+    no_run task.workers (is_some task.log) task.explain task.program.now (log_name (option_map (λ it. it.now) task.log)) c.report.result _ _ _ Memory
+    (λ bad. cc) c.report.ensures.status c.report.ensures.told
+
+pub returns-clause-told : goal.returns-clause-told
+returns-clause-told g c = λ none.
+    let task = c.args.task.now in
+    let told : GivesUpRun task.workers (g.T.Store.LogStore.wanted c.in-Ok.store) task.explain task.program.now
+    (log_name (option_map (λ it. it.now) task.log)) c.run_text.result (g.R.Read.remaining c.args.reader.now) (g.E.Write.contents c.args.streams.now.errors)
+    (g.E.Write.contents c.run_text.new.streams.errors) = c.run_text.ensures.told none in
+    rw (← c.in-Ok.ensures) told
+
+pub returns-in_default-clause-explained : goal.returns-in_default-clause-explained
+returns-in_default-clause-explained g c = λ told. failure_no_trap c.args.task.now.explain c.report.result Memory c.report.ensures.status told
