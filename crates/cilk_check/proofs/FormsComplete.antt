@@ -29,12 +29,13 @@ use Rattle.cilk_check_scopes.specs.Forms.{in_function, inlet_in_no_procedure, in
 use Rattle.cilk_check_scopes.specs.Forms.{no_main}
 use Rattle.cilk_check_scopes.specs.Forms.{return_form, format, array_length, limit, global_limit, same_label}
 use Rattle.cilk_check.specs.FormFinds.{word_faults, words_faults, expr_faults, exprs_faults, is_inlet, is_count, kind_faults, length_faults}
-use Rattle.cilk_check.specs.FormFinds.{passing, stmt_faults, part_faults, standing_faults, block_faults, procedure_faults, item_faults, starts}
+use Rattle.cilk_check_scopes.specs.Mains.{starts}
+use Rattle.cilk_check.specs.FormFinds.{passing, stmt_faults, part_faults, standing_faults, block_faults, procedure_faults, item_faults}
 use Rattle.cilk_check.specs.FormFinds.{forms_faults}
 use Rattle.cilk_check.proofs.FormBlocks.{block_is}
 use Rattle.cilk_check.proofs.Passing.{passing_has}
 use Rattle.cilk_check.proofs.Repeated.{repeated_has}
-use Rattle.cilk_check.proofs.Mains.{started}
+use Rattle.cilk_check_scopes.proofs.Mains.{started}
 
 is_no_inlet : (o : Owner) → o ≢ owner.Inlet → is_inlet o ≡ false
 is_no_inlet owner.Inlet n = absurd (n refl)

@@ -27,10 +27,11 @@ use Rattle.cilk_check_scopes.specs.Forms.{inlet_in_no_procedure, inlet_in_inner_
 use Rattle.cilk_check_scopes.specs.Forms.{return_form}
 use Rattle.cilk_check_scopes.specs.Forms.{format, array_length, limit, global_limit, same_label}
 use Rattle.cilk_check.specs.FormFinds.{word_faults, words_faults, expr_faults, exprs_faults, is_inlet, is_count, kind_faults, length_faults}
-use Rattle.cilk_check.specs.FormFinds.{passing, stmt_faults, part_faults, standing_faults, procedure_faults, item_faults, starts, forms_faults}
+use Rattle.cilk_check_scopes.specs.Mains.{starts}
+use Rattle.cilk_check.specs.FormFinds.{passing, stmt_faults, part_faults, standing_faults, procedure_faults, item_faults, forms_faults}
 use Rattle.cilk_check.proofs.FormBlocks.{block_is}
 use Rattle.cilk_check.proofs.Repeated.{repeated}
-use Rattle.cilk_check.proofs.Mains.{starts_where}
+use Rattle.cilk_check_scopes.proofs.Mains.{starts_where}
 use Rattle.cilk_check.proofs.Passing.{passing_found}
 
 no_inlet : (o : Owner) → is_inlet o ≡ false → o ≢ owner.Inlet

@@ -5,7 +5,6 @@ pub mod Walks
 pub mod FormBlocks
 pub mod Passing
 pub mod FormsSound
-pub mod Mains
 pub mod Repeated
 pub mod FormsComplete
 pub mod Tables

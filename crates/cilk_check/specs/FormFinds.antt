@@ -1,11 +1,9 @@
 -- The faults in the forms of a program as a list, part by part.
-use Rattle.std.specs.Prelude.{ℕ, ℤ, List, [], ◌∷◌, ◌++◌, Bool, true, false, not, length, ◌-◌, ◌&&◌, ◌==◌, nat_le, if◌then◌else◌, codes, Option, Some}
-use Rattle.std.specs.Prelude.{None, flat_map, map, bytes_eq}
+use Rattle.std.specs.Prelude.{ℕ, ℤ, List, [], ◌∷◌, ◌++◌, Bool, true, false, not, length, ◌-◌, ◌==◌, nat_le, if◌then◌else◌, Option, Some}
+use Rattle.std.specs.Prelude.{None, flat_map, map}
 use Rattle.std.specs.List.{list_any}
 use Rattle.std.specs.Option.{option_cmp}
 use Rattle.std.specs.Ordering.{is_eq, int_cmp}
-use Rattle.cilk_check_scopes.specs.syntax.declared.return_type.ReturnType.{ReturnType}
-use Rattle.cilk_check_scopes.specs.syntax.declared.return_type.ReturnType.TheVariants.{Int, Void}
 use Rattle.cilk_check_scopes.specs.syntax.Tree as tree
 use Rattle.cilk_check_scopes.specs.declared.fault.CheckFault.{CheckFault}
 use Rattle.cilk_check_scopes.specs.declared.fault.CheckFault.TheVariants.{NotInProcedure, InInlet, AbortOutside, NoLoop, NoMain, ReturnForm, Format, Limit}
@@ -22,7 +20,8 @@ use Rattle.cilk_check_scopes.specs.Parts.{Part, local, statement, PartInContext,
 use Rattle.cilk_check_scopes.specs.Declarations.{block_variables}
 use Rattle.cilk_check_scopes.specs.Cells.{cells_of, max_cells, max_global_cells, is_length}
 use Rattle.cilk_check_scopes.specs.Format.{numbers_in}
-use Rattle.cilk_check_scopes.specs.Forms.{synched_in, own_word, returned_by, has_form, is_procedure, labels_of, are_of_main}
+use Rattle.cilk_check_scopes.specs.Mains.{starts}
+use Rattle.cilk_check_scopes.specs.Forms.{synched_in, own_word, returned_by, has_form, is_procedure, labels_of}
 
 -- of the word `spawn`, `sync` or `SYNCHED` at this place in a body
 abbrev pub word_faults : Owner → ℕ → List CheckFault
@@ -141,20 +140,6 @@ item_faults (tree.procedure f) = procedure_faults f
 item_faults (tree.global g) = []
 item_faults (tree.lock name) = []
 item_faults (tree.prototype q) = []
-
--- whether an item is a procedure to start with
-abbrev pub is_int : ReturnType → Bool
-is_int Int = true
-is_int Void = false
-
-abbrev pub is_main : tree.Proc → Bool
-is_main f = f.is_cilk && (is_int f.returns && (bytes_eq f.name.text (codes "main") && are_of_main f.parameters))
-
-abbrev pub starts : tree.Item → Bool
-starts (tree.procedure f) = is_main f
-starts (tree.global g) = false
-starts (tree.lock name) = false
-starts (tree.prototype q) = false
 
 -- of a program: of what its top level declares, of its bodies, and of what it starts with
 abbrev pub forms_faults : tree.Program → List CheckFault

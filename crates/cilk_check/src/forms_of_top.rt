@@ -8,7 +8,8 @@ ghost use Rattle.cilk_check_scopes.specs.Parts.{owner_of};
 ghost use Rattle.cilk_check_scopes.specs.syntax.ProgramView.{parameters_of};
 ghost use Rattle.cilk_check_scopes.specs.Cells.{max_global_cells};
 ghost use Rattle.cilk_check_scopes.specs.Forms.{are_of_main};
-ghost use Rattle.cilk_check.specs.FormFinds.{forms_faults, item_faults, procedure_faults, length_faults, passing, starts, is_main, is_int};
+ghost use Rattle.cilk_check.specs.FormFinds.{forms_faults, item_faults, procedure_faults, length_faults, passing};
+ghost use Rattle.cilk_check_scopes.specs.Mains.{starts, is_main, is_int};
 
 use crate::cells::{behind_block, behind_items, behind_parameters};
 use crate::forms_of_walk::in_block;

@@ -35,6 +35,7 @@ mod words;
 
 pub use actions::action_place;
 pub use cilk_lex::{TEXT_LIMIT, line_col};
+pub use cilk_parse::{ReadFault, read};
 pub use lines::place_lines;
 pub use sentences::sentence;
 pub use told::Told;

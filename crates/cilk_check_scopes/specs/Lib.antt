@@ -7,6 +7,7 @@ pub mod Declarations
 pub mod Cells
 pub mod Format
 pub mod Forms
+pub mod Mains
 pub mod Reserved
 pub mod Uses
 pub mod NameFaults

@@ -6,13 +6,13 @@ pub mod Printing
 pub mod Checking
 pub mod Status
 pub mod Telling
-pub use Rattle.cilk_check.specs.scopes.WellFormed as CheckFaults
-pub use Rattle.cilk_check.specs.syntax
-pub use Rattle.cilk_check.specs.syntax.Tree
+pub use Rattle.cilk_load.specs.check.scopes.WellFormed as CheckFaults
+pub use Rattle.cilk_load.specs.check.syntax
+pub use Rattle.cilk_load.specs.check.syntax.Tree
 pub use Rattle.cilk_check_explain.specs.Lines
 pub use Rattle.cilk_check_explain.specs.lex
 pub use Rattle.cilk_load.specs.Front
 pub use Rattle.cilk_load.specs.syntax.ProgramText
 pub use Rattle.cilk_load.specs.labelled
 pub use Rattle.cilk_load.specs.labelled.Count
-pub use Rattle.cilk_parse.specs.Text
+pub use Rattle.cilk_check_explain.specs.parse.Text

@@ -8,9 +8,10 @@ ghost use Rattle.cilk_commands.specs.Telling.{IsActionTold, IsExplanation, IsTol
 use crate::failure::Failure;
 use crate::fault::Fault;
 use crate::status::Status;
-use cilk_check_explain::{TEXT_LIMIT, Told, action_place, line_col, place_lines, sentence};
+use cilk_check_explain::{
+    ReadFault, TEXT_LIMIT, Told, action_place, line_col, place_lines, read, sentence,
+};
 use cilk_load::Memory;
-use cilk_parse::{ReadFault, read};
 use std::alloc::{AllocError, Global};
 use std::io::Write;
 

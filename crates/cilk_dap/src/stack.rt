@@ -8,8 +8,7 @@ use crate::activation::Activation;
 use crate::lines::{activation_in, hand_in, lines_of, parent_of, worker_line};
 use crate::opened::Opened;
 use crate::refusal::{NO_SUCH_THREAD, Refusal};
-use cilk_debug::{Memory, ViewFault, What};
-use cilk_debug_console::{Command, command_of};
+use cilk_debug::{Command, Memory, ViewFault, What, command_of};
 use std::alloc::{AllocError, Global};
 
 // Some activations of a stack.

@@ -5,8 +5,8 @@ use Rattle.std.specs.Prelude.{Err}
 use Rattle.std.specs.Io.KnownBytes.{Appends, Keeps}
 use Rattle.std.proofs.KnownBytes.{Appends-trans, Appends-kept, Consumes-trans}
 use Rattle.cilk_debug_console.specs.Command.{Command}
-use Rattle.cilk_debug_console.specs.Front.{AppendsFront}
-use Rattle.cilk_debug_console.proofs.Fronts.{front_behind}
+use Rattle.cilk_log_replay.specs.machine.Front.{AppendsFront}
+use Rattle.cilk_log_replay.proofs.machine_laws.Fronts.{front_behind}
 use Rattle.cilk_debug_console.specs.Input.{Asked, asking, asked_behind, asked_in, most_lines}
 use Rattle.cilk_debug_console.specs.Taking.{IsLine, TakesLine, TakesLast}
 use Rattle.cilk_debug_console.specs.OneByOne.{OneByOne}

@@ -4,12 +4,12 @@ use Rattle.cilk_log_replay.specs.machine.syntax.Tree.{Program}
 use Rattle.cilk_log_replay.specs.machine.labelled.Bodies.{label}
 use Rattle.cilk_debug_console.specs.model.State as state
 use Rattle.cilk_debug_console.specs.model.Run.{Standing, Position}
-use Rattle.cilk_debug_console.proofs.runs_laws.Fates.{each_choice_is_an_event}
+use Rattle.cilk_log_replay.proofs.machine_laws.runs_laws.Fates.{each_choice_is_an_event}
 use Rattle.cilk_debug_console.specs.model.What.{What, where_it_stands}
 use Rattle.cilk_debug_console.specs.model.Workers.{position_text}
 use Rattle.cilk_debug_console.specs.model.Views.{shown, first_line, view}
-use Rattle.cilk_debug_console.specs.view.declared.what.What as code
-use Rattle.cilk_debug_console.specs.view.Words.{what_of}
+use Rattle.cilk_log_replay.specs.machine.frame.declared.what.What as code
+use Rattle.cilk_log_replay.specs.machine.frame.Asked.{what_of}
 use Rattle.cilk_log_replay.specs.machine.Situation.{Situation, workers_of}
 use Rattle.cilk_log_replay.specs.machine.Stands.{StandsAt}
 use Rattle.cilk_log_replay.specs.Tape.{Tape, IsAt}

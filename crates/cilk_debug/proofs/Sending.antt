@@ -2,7 +2,7 @@
 use Rattle.std.proofs.Common.{◌≡◌, ℕ, List, Option, Result, Ok, Err, inr, subst}
 use Rattle.std.specs.Io.KnownBytes.{Appends}
 use Rattle.cilk_debug_console.specs.Command.{Command}
-use Rattle.cilk_debug_console.specs.Front.{AppendsFront}
+use Rattle.cilk_log_replay.specs.machine.Front.{AppendsFront}
 use Rattle.cilk_debug.specs.Debugging.{Debugging}
 use Rattle.cilk_debug.specs.Obeying.{obeyed}
 use Rattle.cilk_debug.specs.Replies.{TextWritten, Answered}

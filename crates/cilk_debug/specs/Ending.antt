@@ -2,7 +2,7 @@
 use Rattle.std.specs.Prelude.{◌≡◌, ℕ, ◌⊎◌, List, [], ◌∷◌, ◌++◌, Option, Some, None}
 use Rattle.std.specs.Io.KnownBytes.{Appends, Consumes}
 use Rattle.cilk_debug_console.specs.Command.{Command}
-use Rattle.cilk_debug_console.specs.Front.{AppendsFront}
+use Rattle.cilk_log_replay.specs.machine.Front.{AppendsFront}
 use Rattle.cilk_debug_console.specs.Input.{Fault, line_too_long, too_many_lines, asked_in}
 use Rattle.cilk_debug_console.specs.Taking.{IsPlain}
 use Rattle.cilk_debug_console.specs.declared.fault.InputFault.TheVariants.{Device, LineTooLong, TooManyLines}

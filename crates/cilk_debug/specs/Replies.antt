@@ -2,7 +2,7 @@
 use Rattle.std.specs.Prelude.{◌≡◌, ◌⊎◌, ℕ, List, [], Option, Result, Ok, Err, codes}
 use Rattle.std.specs.Io.KnownBytes.{Appends, Keeps}
 use Rattle.cilk_debug_console.specs.Command.{Command}
-use Rattle.cilk_debug_console.specs.Front.{AppendsFront}
+use Rattle.cilk_log_replay.specs.machine.Front.{AppendsFront}
 use Rattle.cilk_debug_console.specs.declared.fault.LineFault.{LineFault}
 use Rattle.cilk_debug_console.specs.declared.fault.LineFault.TheVariants as line
 use Rattle.cilk_debug.specs.Debugging.{Debugging}

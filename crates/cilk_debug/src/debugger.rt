@@ -7,7 +7,7 @@ ghost use Rattle.cilk_debug_console.specs.syntax.ProgramText.{program_text};
 ghost use Rattle.cilk_debug_console.specs.log.Naming.{is_of};
 ghost use Rattle.cilk_debug_console.specs.model.Run.{is_crew};
 ghost use Rattle.cilk_debug_console.specs.model.What.{where_it_stands};
-ghost use Rattle.cilk_debug_console.specs.view.Words.{what_of};
+ghost use Rattle.cilk_log_replay.specs.machine.frame.Asked.{what_of};
 ghost use Rattle.cilk_log_replay.specs.Tape.{tape_of, IsPlayable};
 ghost use Rattle.cilk_debug.specs.Faults.{IsNamedDebugFaultOf};
 ghost use Rattle.cilk_debug.specs.Moves.{StaysGoingOn, StaysGoingBack, StaysFrom, HasNo};
@@ -20,8 +20,9 @@ use crate::fault::{DebugFault, debug_fault};
 use crate::player::Player;
 use crate::position::put_position;
 use crate::unplayable::Unplayable;
-use cilk_debug_console::{Loaded, Log};
-use cilk_log_replay::{Memory, ReplayFault, Telling, ViewFault, What, is_crew, refuse_other};
+use cilk_log_replay::{
+    Loaded, Log, Memory, ReplayFault, Telling, ViewFault, What, is_crew, refuse_other,
+};
 use std::alloc::Global;
 use std::marker::Model;
 
@@ -351,8 +352,7 @@ impl Debugger {
         }
     }
 
-    /// The same text, told in portions. Those of `tree` and `deques` take memory by the number of instances ever made, and not by the length of
-    /// their paths.
+    /// The same text, told in portions. Those of `tree` and `deques` take memory by the number of instances ever made, and not by their paths' length.
     pub(crate) fn view_told(&self, what: &What) -> Result<Telling, ViewFault>
         ensures text { IfOk result (λ told. seen_at self.now.shown (what_of what.now) ≡ Some told) }
         ensures fault { result ≡ Err ViewFault.NoInstance → seen_at self.now.shown (what_of what.now) ≡ None }

@@ -15,7 +15,7 @@ mod stopping;
 mod track;
 mod unplayable;
 
-pub use cilk_debug_console::InputFault;
+pub use cilk_debug_console::{Command, InputFault, command_of};
 pub use cilk_log_replay::{
     Act, Choice, Choices, Did, End, Id, Loaded, Log, LogFault, Machine, Memory, ReplayFault,
     ViewFault, What, read_log, write_log,

@@ -3,7 +3,7 @@
 ghost use Rattle.std.specs.Prelude.{◌≡◌, None, Ok, IfOk, IfErr};
 ghost use Rattle.cilk_debug_console.specs.Command as asked;
 ghost use Rattle.cilk_debug_console.specs.Words.{asked_of};
-ghost use Rattle.cilk_debug_console.specs.view.Words.{what_of};
+ghost use Rattle.cilk_log_replay.specs.machine.frame.Asked.{what_of};
 ghost use Rattle.cilk_debug.specs.Obeying.{shown_text};
 ghost use Rattle.cilk_debug.specs.Seeing.{seen_at};
 ghost use Rattle.cilk_debug.specs.Replies.{reply_text, Obeys};

@@ -13,8 +13,8 @@ mod reaching;
 use crate::finding::{last_met, next_met};
 use crate::track::{Track, first_track, follow_all};
 use crate::unplayable::Unplayable;
-use cilk_debug_console::{Loaded, Log};
-use cilk_log_replay::{Machine, MachineFault, Memory, ReplayFault, is_crew};
+use cilk_debug_console::Log;
+use cilk_log_replay::{Loaded, Machine, MachineFault, Memory, ReplayFault, is_crew};
 use std::alloc::{AllocError, Global};
 use std::marker::Model;
 

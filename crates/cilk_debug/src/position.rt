@@ -5,8 +5,7 @@ ghost use Rattle.cilk_log_replay.specs.machine.labelled.Bodies.{label};
 ghost use Rattle.cilk_debug_console.specs.choices.Words.{outcome_of};
 ghost use Rattle.cilk_debug_console.specs.model.Workers.{outcome_text, position_text};
 
-use cilk_debug_console::Loaded;
-use cilk_log_replay::{Memory, Outcome, put_trapped};
+use cilk_log_replay::{Loaded, Memory, Outcome, put_trapped};
 
 /// The line `position 8 of 12: running`: so many of all choices were made, and the program stands so.
 pub(crate) fn put_position(

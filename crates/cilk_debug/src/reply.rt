@@ -4,7 +4,7 @@ ghost use Rattle.std.specs.Prelude.{◌≡◌, ℕ, List, None, IfSome};
 ghost use Rattle.cilk_debug.specs.Replies.{reply_text, TextWritten};
 
 use crate::session_fault::SessionFault;
-use cilk_debug_console::{Portion, Telling, send, send_told};
+use cilk_log_replay::{Portion, Telling, send, send_told};
 use std::alloc::Global;
 use std::io::Write;
 

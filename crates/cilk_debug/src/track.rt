@@ -7,8 +7,7 @@ ghost use Rattle.cilk_log_replay.specs.Tape.{Tape};
 ghost use Rattle.cilk_debug.specs.Tracks.{Begins, IsTrack, KeepsOne};
 
 use crate::stopping::action_of;
-use cilk_debug_console::Loaded;
-use cilk_log_replay::{Checkpoint, Choice, Machine, ReplayFault, make_again, opened};
+use cilk_log_replay::{Checkpoint, Choice, Loaded, Machine, ReplayFault, make_again, opened};
 use std::alloc::Global;
 
 /// A checkpoint is kept behind each of so many choices.

@@ -3,7 +3,7 @@ use Rattle.std.specs.Prelude.{ℕ, ◌==◌, if◌then◌else◌, List, [], ◌�
 use Rattle.std.specs.Option.{option_or}
 use Rattle.std.specs.List.{slice_split}
 use Rattle.cilk_log.specs.Reading.{number_in, number_told, behind}
-use Rattle.cilk_view.specs.model.What.{What, tree, frame, globals, deques, output, where_it_stands, list}
+use Rattle.cilk_log.specs.choices.model.What.{What, tree, frame, globals, deques, output, where_it_stands, list}
 use Rattle.cilk_debug_console.specs.Command.{Command, step, back, go, next, previous, set, clear, see, quit, nothing, unknown}
 
 -- a number has nine digits at most

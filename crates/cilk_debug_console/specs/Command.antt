@@ -1,6 +1,6 @@
 -- What may be asked of a debugger.
 use Rattle.std.specs.Prelude.{ℕ}
-use Rattle.cilk_view.specs.model.What.{What}
+use Rattle.cilk_log.specs.choices.model.What.{What}
 
 pub data Command : Type 0 where
   -- the next choice is made

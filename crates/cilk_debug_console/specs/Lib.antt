@@ -9,6 +9,4 @@ pub mod Rows
 pub use Rattle.cilk_log.specs as log
 pub use Rattle.cilk_log.specs.syntax
 pub use Rattle.cilk_log.specs.choices
-pub use Rattle.cilk_view.specs as view
-pub use Rattle.cilk_view.specs.Front
-pub use Rattle.cilk_view.specs.model
+pub use Rattle.cilk_log.specs.choices.model

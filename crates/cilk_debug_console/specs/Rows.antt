@@ -1,6 +1,6 @@
 -- Worked rows: lines, and what they ask.
 use Rattle.std.specs.Prelude.{◌≡◌, refl, [], ◌∷◌, codes, None}
-use Rattle.cilk_view.specs.model.What.{tree, frame, where_it_stands}
+use Rattle.cilk_log.specs.choices.model.What.{tree, frame, where_it_stands}
 use Rattle.cilk_debug_console.specs.Command.{step, go, set, see, nothing, unknown}
 use Rattle.cilk_debug_console.specs.Asking.{command_in}
 use Rattle.cilk_debug_console.specs.Input.{asked_in}

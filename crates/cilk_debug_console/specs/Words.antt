@@ -1,5 +1,5 @@
 -- What the code's words for commands mean.
-use Rattle.cilk_view.specs.Words.{what_of}
+use Rattle.cilk_log.specs.choices.frame.Asked.{what_of}
 use Rattle.cilk_debug_console.specs.declared.command.Command.{Command}
 use Rattle.cilk_debug_console.specs.declared.command.Command.TheVariants.{Step, Back, Go, Next, Previous, Break, Clear, View, Quit, Nothing, Unknown}
 use Rattle.cilk_debug_console.specs.Command as asked

@@ -5,12 +5,11 @@ ghost use Rattle.std.specs.List.{slice_split};
 ghost use Rattle.cilk_log.specs.Reading.{number_in};
 ghost use Rattle.cilk_debug_console.specs.Asking.{word_in, view_in, greatest, number_behind, numbered_in, ordinal_in, ordinals_in, path_in, frame_in};
 ghost use Rattle.cilk_debug_console.specs.Asking.{command_in};
-ghost use Rattle.cilk_view.specs.Words.{what_of};
+ghost use Rattle.cilk_log.specs.choices.frame.Asked.{what_of};
 ghost use Rattle.cilk_debug_console.specs.Words.{asked_of};
 
 use crate::command::Command;
-use cilk_log::{Memory, Path, number_in};
-use cilk_view::What;
+use cilk_log::{Memory, Path, What, number_in};
 use std::alloc::Global;
 
 // A number has at most nine digits.

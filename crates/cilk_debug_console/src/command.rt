@@ -1,6 +1,6 @@
 //! The commands that a line of a session may be, an empty or an unknown one among them.
 
-use cilk_view::What;
+use cilk_log::What;
 
 /// What a line of a session asks of a debugger.
 #[derive(Debug, Drop)]

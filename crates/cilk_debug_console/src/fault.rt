@@ -1,4 +1,4 @@
-//! What may go wrong with the input of a session, with its next line, and with what is written.
+//! What may go wrong with the input of a session, and with its next line.
 
 use thiserror::Error;
 
@@ -26,8 +26,3 @@ pub enum LineFault {
     #[error("out of memory")]
     Memory,
 }
-
-/// The writer failed, so that a part of what was to be written may be written.
-#[derive(Clone, Copy, Debug, PartialEq, Eq, Error)]
-#[error("the writer failed")]
-pub struct WriteFault;

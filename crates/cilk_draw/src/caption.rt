@@ -1,9 +1,7 @@
 //! What a step did, in a few words and with the value.
 
 use crate::writing::put_writing;
-use cilk_load_nodes::{Action, LockAction};
-use cilk_log_replay::{Did, Id, Loaded, Machine, Memory, Path};
-use cilk_machine_step::Plan;
+use cilk_log_replay::{Action, Did, Id, Loaded, LockAction, Machine, Memory, Path, Plan};
 use std::alloc::Global;
 
 /// What a step of this plan did, behind which the machine stands. `value` is what its test came to, where that was seen.

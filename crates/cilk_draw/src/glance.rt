@@ -1,6 +1,6 @@
 //! What is seen of a step before it is made.
 
-use cilk_machine_step::Plan;
+use cilk_log_replay::Plan;
 
 /// What a worker is about to do.
 #[derive(Drop)]

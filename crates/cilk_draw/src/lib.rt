@@ -33,6 +33,10 @@ mod tree_lines;
 mod wording;
 mod writing;
 
+pub use cilk_log_replay::{
+    Choices, Loaded, Log, LogFault, Memory, ReplayFault, Trap, TrapKind, play_all, read_log,
+    write_log,
+};
 pub use drawing::draw;
 pub use excerpt::Excerpt;
 pub use fault::DrawFault;

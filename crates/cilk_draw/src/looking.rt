@@ -1,8 +1,7 @@
 //! What is seen of a worker's next step: what it is to do, with its values.
 
 use crate::glance::Glance;
-use cilk_log_replay::{Machine, Memory};
-use cilk_machine_step::{Plan, look_ahead, plan_step};
+use cilk_log_replay::{Machine, Memory, Plan, look_ahead, plan_step};
 use std::alloc::Global;
 
 /// What is seen of the next step of a worker that has this instance in its hand.

@@ -1,8 +1,7 @@
 //! The instances that were made, a line for each, as far as a picture has room for them.
 
 use crate::standing::no_room;
-use cilk_log_replay::{Machine, Memory, ViewFault, What};
-use cilk_view::Portion;
+use cilk_log_replay::{Machine, Memory, Portion, ViewFault, What};
 use std::alloc::Global;
 use std::str::from_utf8;
 

@@ -1,7 +1,6 @@
 //! What a step did that writes a value, in a few words.
 
-use cilk_load_nodes::{Action, Area, Code, CodeNode, Slot};
-use cilk_log_replay::{Loaded, Memory};
+use cilk_log_replay::{Action, Area, Code, CodeNode, Loaded, Memory, Slot};
 
 /// Writes that the action of this number writes a value to a variable, or to an element of it.
 pub(crate) fn put_writing(

@@ -6,17 +6,17 @@ use Rattle.std.specs.Prelude.{Decides, Option, Some, None, length, option_and_th
 use Rattle.std.specs.Ordering.{int_eq}
 use Rattle.std.proofs.lemmas.List.{map-append}
 use Rattle.std.proofs.lemmas.Bool.Decides.{Decides-int_eq, nat_tests}
-use Rattle.cilk_load_nodes.specs.labelled.Term.{Term, number, variable, element, synched, unary, binary, choose}
-use Rattle.cilk_load_nodes.specs.labelled.Value.{value_of}
-use Rattle.cilk_load_nodes.specs.declared.area.Area.{Area}
-use Rattle.cilk_load_nodes.specs.declared.area.Area.TheVariants.{Own, Outer, Global}
-use Rattle.cilk_load_nodes.specs.declared.slot.Slot.{Slot}
+use Rattle.cilk_frame.specs.labelled.Term.{Term, number, variable, element, synched, unary, binary, choose}
+use Rattle.cilk_frame.specs.labelled.Value.{value_of}
+use Rattle.cilk_frame.specs.nodes.declared.area.Area.{Area}
+use Rattle.cilk_frame.specs.nodes.declared.area.Area.TheVariants.{Own, Outer, Global}
+use Rattle.cilk_frame.specs.nodes.declared.slot.Slot.{Slot}
 use Rattle.cilk_eval.specs.declared.known.Known.{Known}
 use Rattle.cilk_eval.specs.Known.{behind_known, is_area, is_known, is_slot, known, known_in, known_of, known_value, variables_of}
-use Rattle.cilk_load_nodes.specs.Reads.{is_plain}
-use Rattle.cilk_load_nodes.specs.Reads.{ReadsSame}
-use Rattle.cilk_load_nodes.specs.Areas.{Cells, environment, slot_cell}
-use Rattle.cilk_load_nodes.proofs.Environments.{value_of-same}
+use Rattle.cilk_frame.specs.nodes.Reads.{is_plain}
+use Rattle.cilk_frame.specs.nodes.Reads.{ReadsSame}
+use Rattle.cilk_frame.specs.nodes.Areas.{Cells, environment, slot_cell}
+use Rattle.cilk_frame.proofs.nodes_laws.Environments.{value_of-same}
 
 -- ---- one slot or two
 

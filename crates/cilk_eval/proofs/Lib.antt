@@ -1,4 +1,6 @@
 pub mod Rounding
 pub mod Results
 pub mod KnownLaws
-pub use Rattle.cilk_load_nodes.proofs.syntax_laws
+pub use Rattle.cilk_frame.proofs as frame_laws
+pub use Rattle.cilk_frame.proofs.scopes_laws
+pub use Rattle.cilk_frame.proofs.nodes_laws.syntax_laws

@@ -3,10 +3,10 @@ use Rattle.std.proofs.Common.{◌≡◌, ◌≢◌, ℕ, ◌^◌, ℤ, pos, ◌*
 use Rattle.std.specs.Prelude.{int_le}
 use Rattle.std.specs.Int.{int_div_euclid}
 use Rattle.std.proofs.lemmas.Nat.{pow_pos}
-use Rattle.cilk_load_nodes.specs.syntax.declared.operator.BinOp.TheVariants.{Divide, Remainder, ShiftLeft, ShiftRight}
-use Rattle.cilk_load_nodes.specs.labelled.declared.trap.Trap.{Trap}
-use Rattle.cilk_load_nodes.specs.labelled.declared.trap.Trap.TheVariants.{Overflow, ZeroDivide, Shift}
-use Rattle.cilk_load_nodes.specs.labelled.Arithmetic.{fits, exact, is_zero, is_count, binary_result}
+use Rattle.cilk_frame.specs.syntax.declared.operator.BinOp.TheVariants.{Divide, Remainder, ShiftLeft, ShiftRight}
+use Rattle.cilk_frame.specs.model.declared.trap.Trap.{Trap}
+use Rattle.cilk_frame.specs.model.declared.trap.Trap.TheVariants.{Overflow, ZeroDivide, Shift}
+use Rattle.cilk_frame.specs.labelled.Arithmetic.{fits, exact, is_zero, is_count, binary_result}
 use Rattle.cilk_eval.specs.Rounding.{Truncates, RoundsDown}
 use Rattle.cilk_eval.proofs.Rounding.{int_div-truncates, int_div_euclid-rounds_down}
 

@@ -1,15 +1,15 @@
 -- Expressions over variables of which a value is known, and which expressions need no more than that.
 use Rattle.std.specs.Prelude.{◌==◌, ◌&&◌, ℤ, pos, Bool, true, false, if◌then◌else◌, List, [], ◌∷◌, ◌++◌, map, Option, Some, None, Result, Ok, Err}
 use Rattle.std.specs.Ordering.{int_eq}
-use Rattle.cilk_load_nodes.specs.labelled.declared.trap.Trap.{Trap}
-use Rattle.cilk_load_nodes.specs.labelled.declared.trap.Trap.TheVariants.{Index}
-use Rattle.cilk_load_nodes.specs.labelled.Term.{Term, number, variable, element, synched, unary, binary, choose}
-use Rattle.cilk_load_nodes.specs.labelled.Value.{Environment}
-use Rattle.cilk_load_nodes.specs.declared.area.Area.{Area}
-use Rattle.cilk_load_nodes.specs.declared.area.Area.TheVariants.{Own, Outer, Global}
-use Rattle.cilk_load_nodes.specs.declared.slot.Slot.{Slot}
+use Rattle.cilk_frame.specs.model.declared.trap.Trap.{Trap}
+use Rattle.cilk_frame.specs.model.declared.trap.Trap.TheVariants.{Index}
+use Rattle.cilk_frame.specs.labelled.Term.{Term, number, variable, element, synched, unary, binary, choose}
+use Rattle.cilk_frame.specs.labelled.Value.{Environment}
+use Rattle.cilk_frame.specs.nodes.declared.area.Area.{Area}
+use Rattle.cilk_frame.specs.nodes.declared.area.Area.TheVariants.{Own, Outer, Global}
+use Rattle.cilk_frame.specs.nodes.declared.slot.Slot.{Slot}
 use Rattle.cilk_eval.specs.declared.known.Known.{Known}
-use Rattle.cilk_load_nodes.specs.Areas.{Cells, slot_cell}
+use Rattle.cilk_frame.specs.nodes.Areas.{Cells, slot_cell}
 
 abbrev pub is_area : Area → Area → Bool
 is_area Own Own = true

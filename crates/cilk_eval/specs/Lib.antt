@@ -1,3 +1,8 @@
 pub mod Rounding
 pub mod Known
-pub use Rattle.cilk_load_nodes.specs as nodes
+pub use Rattle.cilk_frame.specs as frame
+pub use Rattle.cilk_frame.specs.labelled
+pub use Rattle.cilk_frame.specs.model
+pub use Rattle.cilk_frame.specs.nodes
+pub use Rattle.cilk_frame.specs.scopes
+pub use Rattle.cilk_frame.specs.syntax

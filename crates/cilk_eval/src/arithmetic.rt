@@ -1,9 +1,9 @@
 //! The operators on the integers of the language.
 
 ghost use Rattle.std.specs.Prelude.{◌≡◌};
-ghost use Rattle.cilk_load_nodes.specs.labelled.Arithmetic.{binary_result, unary_result, quotient, remainder, shifted_left, shifted_right};
+ghost use Rattle.cilk_frame.specs.labelled.Arithmetic.{binary_result, unary_result, quotient, remainder, shifted_left, shifted_right};
 
-use cilk_load_nodes::{BinOp, Trap, UnOp};
+use cilk_frame::{BinOp, Trap, UnOp};
 
 /// The value of two operands under an operator, or the trap (C 1990, 6.3.5 to 6.3.14). Both
 /// operands are values already; `&&` and `||` give 1 or 0 by whether they are other than 0.

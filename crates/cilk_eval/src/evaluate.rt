@@ -1,12 +1,12 @@
 //! The value of an expression over slots.
 
 ghost use Rattle.std.specs.Prelude.{◌≡◌, pos};
-ghost use Rattle.cilk_load_nodes.specs.labelled.Arithmetic.{exact};
-ghost use Rattle.cilk_load_nodes.specs.labelled.Value.{value_of, settled_by_left, element_at};
-ghost use Rattle.cilk_load_nodes.specs.Areas.{environment, cells_of, sizes_of, area_cells, LiesWithin, SlotsLieWithin};
+ghost use Rattle.cilk_frame.specs.labelled.Arithmetic.{exact};
+ghost use Rattle.cilk_frame.specs.labelled.Value.{value_of, settled_by_left, element_at};
+ghost use Rattle.cilk_frame.specs.nodes.Areas.{environment, cells_of, sizes_of, area_cells, LiesWithin, SlotsLieWithin};
 
 use crate::arithmetic::{apply, unary};
-use cilk_load_nodes::{Area, BinOp, Code, CodeNode, Slot, Slots, Trap};
+use cilk_frame::{Area, BinOp, Code, CodeNode, Slot, Slots, Trap};
 
 /// The value of an expression, or the first trap from the left (C 1990, 6.3). `&&`, `||` and `?:`
 /// evaluate only the operands that they need. Each slot in the expression lies in its area, which

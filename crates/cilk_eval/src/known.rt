@@ -1,12 +1,12 @@
 //! The value of an expression over variables of which a value is known.
 
 ghost use Rattle.std.specs.Prelude.{◌≡◌};
-ghost use Rattle.cilk_load_nodes.specs.labelled.Value.{value_of};
+ghost use Rattle.cilk_frame.specs.labelled.Value.{value_of};
 ghost use Rattle.cilk_eval.specs.Known.{is_area, is_known, is_slot, known, known_value, no_element};
 
 use crate::arithmetic::{apply, unary};
 use crate::evaluate::{literal, settled};
-use cilk_load_nodes::{Area, Code, CodeNode, Slot, Trap};
+use cilk_frame::{Area, Code, CodeNode, Slot, Trap};
 
 /// A variable that is no element, and its value at some time.
 #[derive(Clone, Copy, Debug, PartialEq, Eq)]

@@ -2,16 +2,16 @@
 
 ghost use Rattle.std.specs.Prelude.{◌≡◌, ◌≢◌, ℕ, ◌^◌, ℤ, pos, ◌*ℤ◌, true, int_div, int_rem, Ok};
 ghost use Rattle.std.specs.Int.{int_div_euclid};
-ghost use Rattle.cilk_load_nodes.specs.syntax.declared.operator.BinOp.TheVariants.{Divide, Remainder, ShiftLeft, ShiftRight};
-ghost use Rattle.cilk_load_nodes.specs.labelled.Arithmetic.{binary_result};
-ghost use Rattle.cilk_load_nodes.specs.labelled.Term.{Term, rename};
-ghost use Rattle.cilk_load_nodes.specs.labelled.Value.{Environment, value_of, seen_through};
-ghost use Rattle.cilk_load_nodes.specs.declared.slot.Slot.{Slot};
+ghost use Rattle.cilk_frame.specs.syntax.declared.operator.BinOp.TheVariants.{Divide, Remainder, ShiftLeft, ShiftRight};
+ghost use Rattle.cilk_frame.specs.labelled.Arithmetic.{binary_result};
+ghost use Rattle.cilk_frame.specs.labelled.Term.{Term, rename};
+ghost use Rattle.cilk_frame.specs.labelled.Value.{Environment, value_of, seen_through};
+ghost use Rattle.cilk_frame.specs.nodes.declared.slot.Slot.{Slot};
 ghost use Rattle.cilk_eval.specs.Known.{known, known_of};
-ghost use Rattle.cilk_load_nodes.specs.Reads.{is_plain};
-ghost use Rattle.cilk_load_nodes.specs.Reads.{ReadsSame};
+ghost use Rattle.cilk_frame.specs.nodes.Reads.{is_plain};
+ghost use Rattle.cilk_frame.specs.nodes.Reads.{ReadsSame};
 ghost use Rattle.cilk_eval.specs.Rounding.{Truncates, RoundsDown};
-ghost use Rattle.cilk_load_nodes.specs.Areas.{Cells, environment};
+ghost use Rattle.cilk_frame.specs.nodes.Areas.{Cells, environment};
 
 /// Other names for the places of an expression leave its value as it is, and so does a change of
 /// what it does not read.

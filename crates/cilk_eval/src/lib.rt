@@ -9,7 +9,10 @@ mod listed;
 mod seen;
 
 pub use arithmetic::{apply, unary};
-pub use cilk_load_nodes::{Area, BinOp, Code, CodeNode, Memory, Slot, Slots, Trap, UnOp};
+pub use cilk_frame::{
+    Action, Area, Arguments, Await, BinOp, Code, CodeNode, LockAction, Memory, Receiver, Slot,
+    SlotPlace, Slots, Taker, Target, Trap, UnOp,
+};
 pub use evaluate::eval;
 pub use known::{Known, eval_known};
 pub use laws::{

@@ -1,13 +1,13 @@
 //! An expression whose variables are listed, so that what they hold is soon taken and soon compared.
 
 ghost use Rattle.std.specs.Prelude.{◌≡◌, ◌++◌, Decides, IfOk, OnOk, map, option_map};
-ghost use Rattle.cilk_load_nodes.specs.labelled.Value.{value_of};
+ghost use Rattle.cilk_frame.specs.labelled.Value.{value_of};
 ghost use Rattle.cilk_eval.specs.Known.{behind_known, known, known_in, known_of, variables_of};
-ghost use Rattle.cilk_load_nodes.specs.Areas.{cells_of, slot_cell};
+ghost use Rattle.cilk_frame.specs.nodes.Areas.{cells_of, slot_cell};
 
 use crate::evaluate::cells_in;
 use crate::known::{Known, eval_known, is_known};
-use cilk_load_nodes::{Code, CodeNode, Memory, Slot, Slots, Trap};
+use cilk_frame::{Code, CodeNode, Memory, Slot, Slots, Trap};
 use std::alloc::Global;
 use std::marker::Model;
 
@@ -20,10 +20,10 @@ pub struct Listed {
 
 impl Model for Listed {
     ghost use Rattle.std.specs.Prelude.{◌≡◌};
-    ghost use Rattle.cilk_load_nodes.specs.labelled.Term.{Term};
-    ghost use Rattle.cilk_load_nodes.specs.Coding.{coded_Term};
+    ghost use Rattle.cilk_frame.specs.labelled.Term.{Term};
+    ghost use Rattle.cilk_frame.specs.nodes.Coding.{coded_Term};
     ghost use Rattle.cilk_eval.specs.Known.{variables_of};
-    ghost use Rattle.cilk_load_nodes.specs.declared.slot.Slot.{Slot};
+    ghost use Rattle.cilk_frame.specs.nodes.declared.slot.Slot.{Slot};
 
     ghost Value = { Term Slot };
 

@@ -2,11 +2,11 @@
 
 ghost use Rattle.std.specs.Prelude.{◌≡◌, ◌++◌, [], Decides, IfOk, OnOk, option_map};
 ghost use Rattle.cilk_eval.specs.Known.{behind_known, known_of};
-ghost use Rattle.cilk_load_nodes.specs.Areas.{SlotsLieWithin, cells_of, sizes_of};
+ghost use Rattle.cilk_frame.specs.nodes.Areas.{SlotsLieWithin, cells_of, sizes_of};
 
 use crate::evaluate::variable;
 use crate::known::{Known, is_known};
-use cilk_load_nodes::{Code, CodeNode, Memory, Slots};
+use cilk_frame::{Code, CodeNode, Memory, Slots};
 use std::alloc::Global;
 
 /// What the slots hold of the variables of an expression, from the left, evaluated or not.

@@ -23,8 +23,8 @@ use Rattle.cilk_machine_agree.specs.frame.Frames.{Activation, Frame}
 use Rattle.cilk_machine_agree.specs.frame.Cells.{SameCell}
 use Rattle.cilk_machine_agree.specs.frame.Stands.{node_in, AwaitsAt, AwaitsSame, Activates, bodies_of, AllActivate, StandsFor}
 use Rattle.cilk_machine_agree.specs.spawn.declared.delivery.Delivery.{Delivery}
-use Rattle.cilk_machine_agree.specs.spawn.declared.receiver.Receiver.{Receiver}
-use Rattle.cilk_machine_agree.specs.spawn.declared.receiver.Receiver.TheVariants as code
+use Rattle.cilk_machine_agree.specs.frame.declared.receiver.Receiver.{Receiver}
+use Rattle.cilk_machine_agree.specs.frame.declared.receiver.Receiver.TheVariants as code
 use Rattle.cilk_machine_agree.specs.spawn.Nodes.{Node}
 use Rattle.cilk_machine_agree.specs.Alike.{CallsInlet, Receives, SameDelivery, SameDeliveries, taker_of, NodeStandsFor}
 use Rattle.cilk_explore_model.proofs.Cells.{one-values, one-cell}

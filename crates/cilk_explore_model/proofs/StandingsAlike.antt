@@ -20,7 +20,7 @@ use Rattle.cilk_machine_agree.proofs.runs_laws.Lookups.{none_of_live}
 use Rattle.cilk_machine_agree.specs.frame.Frames.{Activation, Frame}
 use Rattle.cilk_machine_agree.specs.frame.Stands.{AllActivate, StandsFor}
 use Rattle.cilk_machine_agree.specs.spawn.declared.delivery.Delivery.{Delivery}
-use Rattle.cilk_machine_agree.specs.spawn.declared.receiver.Receiver.{Receiver}
+use Rattle.cilk_machine_agree.specs.frame.declared.receiver.Receiver.{Receiver}
 use Rattle.cilk_machine_agree.specs.spawn.Nodes.{Node, node_at, is_live, live_ids, path_at}
 use Rattle.cilk_machine_agree.proofs.spawn_laws.Lists.{those_pass}
 use Rattle.cilk_machine_agree.proofs.spawn_laws.Trees.{live_there, names}

@@ -1,7 +1,7 @@
 -- One step of an instance, of two states that have the same at each path.
 use Rattle.std.proofs.Common.{◌≡◌, ℕ, ◌+◌, ◌^◌, ◌-◌, ℤ, nat_lt, Bool, true, false, not, ◌&&◌, List, [], ◌∷◌, length, Option, Some, None}
 use Rattle.std.proofs.Common.{Result, Ok, Err, refl, ap, subst, if◌then◌else◌}
-use Rattle.cilk_machine_agree.specs.labelled.declared.trap.Trap.{Trap}
+use Rattle.cilk_machine_agree.specs.model.declared.trap.Trap.{Trap}
 use Rattle.cilk_machine_agree.specs.labelled.Labelled.{Labelled, Numbered}
 use Rattle.cilk_machine_agree.specs.labelled.Items.{head_of}
 use Rattle.cilk_machine_agree.specs.model.Values.{Store, Cell, Reached, environment, read_at, combined}

@@ -10,7 +10,8 @@ pub use alike_laws::{
     machines_alike_but_for_names_stand_so, machines_of_the_same_parts_stand_at_the_same,
 };
 pub use cilk_machine_agree::{
-    Fate, Frame, Global, GlobalShape, Hands, Id, Item, ItemNode, Lock, Path, Program, Tree, Word,
+    Fate, Frame, Global, GlobalShape, Hands, Id, Item, ItemNode, Lock, Path, Program, Tree, What,
+    Word,
 };
 pub use laws::{
     each_standing_is_known, idle_workers_do_alike, more_workers_do_no_more, names_do_not_matter,

@@ -33,21 +33,31 @@
 #![tactic(auto)]
 
 mod activation;
+mod arguments;
 mod awaited;
 mod frame;
 mod id;
 mod image;
 mod laws;
 mod mixer;
+mod path;
+mod receiver;
+mod trap_kind;
+mod what;
 
 pub use activation::Activation;
+pub use arguments::Arguments;
 pub use awaited::Await;
 pub use cilk_load_nodes::{
-    Action, Area, BinOp, Body, Code, LockAction, Memory, Slot, SlotPlace, Slots, Taker, Target,
-    Trap, Var,
+    Action, Area, BinOp, Body, Code, CodeNode, LockAction, Memory, Slot, SlotPlace, Slots, Taker,
+    Target, Trap, UnOp, Var,
 };
 pub use frame::Frame;
 pub use id::Id;
 pub use image::FrameImage;
 pub use laws::{a_call_stands, a_start_stands, a_write_stands, an_action_stands, values_are_seen};
 pub use mixer::Mixer;
+pub use path::Path;
+pub use receiver::Receiver;
+pub use trap_kind::TrapKind;
+pub use what::What;

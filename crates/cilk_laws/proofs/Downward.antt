@@ -6,8 +6,8 @@ use Rattle.cilk_tree.specs.syntax.Lines.{one_deeper, deeper, closed}
 use Rattle.cilk_tree.specs.syntax.StmtLines.{until_line, stmt_lines, stmts_lines, local_lines, locals_lines, block_lines, switch_lines}
 use Rattle.cilk_tree.specs.syntax.ProgramText.{header_line, item_lines, items_lines, program_lines}
 use Rattle.cilk_tree.proofs.syntax_laws.SwitchLines.{switch_lines-length}
-use Rattle.cilk_model_labels.specs.Lines.{option_lines, shape_lines, stmt_action_lines, stmts_action_lines, local_action_lines, locals_action_lines}
-use Rattle.cilk_model_labels.specs.Lines.{block_action_lines, item_action_lines, items_action_lines}
+use Rattle.cilk_laws_model.specs.labelled.Lines.{option_lines, shape_lines, stmt_action_lines, stmts_action_lines, local_action_lines, locals_action_lines}
+use Rattle.cilk_laws_model.specs.labelled.Lines.{block_action_lines, item_action_lines, items_action_lines}
 use Rattle.cilk_laws.specs.Actions.{GoDown, LinesGoDown}
 
 -- from one line on and before another, so also from a line above and before one below

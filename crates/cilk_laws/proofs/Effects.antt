@@ -1,6 +1,6 @@
 -- What an effect tells of its action.
 use Rattle.std.proofs.Common.{◌≡◌, ℕ, List, Option, Some, Result, Ok, Err, refl}
-use Rattle.cilk_laws_model.specs.labelled.declared.trap.Trap.{Trap}
+use Rattle.cilk_laws_model.specs.model.declared.trap.Trap.{Trap}
 use Rattle.cilk_laws_model.specs.labelled.Term.{Term}
 use Rattle.cilk_laws_model.specs.labelled.Value.{Environment, value_of, values_of, ◌>>=◌}
 use Rattle.cilk_laws_model.specs.labelled.Labelled.{Declaration, Taker, nothing, into, through, Action, assign, call, spawn, print, locking, null}

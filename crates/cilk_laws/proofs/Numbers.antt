@@ -9,13 +9,14 @@ use Rattle.cilk_check.specs.scopes.declared.owner.Owner.{Owner}
 use Rattle.cilk_check.specs.scopes.declared.owner.Owner.TheVariants.{Inlet}
 use Rattle.cilk_check.specs.scopes.Parts.{owner_of}
 use Rattle.cilk_tree.specs.syntax.StmtLines.{test_line, until_line, for_line}
-use Rattle.cilk_model_labels.specs.Labelled.{Numbered, Stmts, Variable, Body}
-use Rattle.cilk_model_labels.specs.Names.{Names, with_words, with_local, local_count, entered, in_inlet}
-use Rattle.cilk_model_labels.specs.Count.{count_option, count_shape, count_stmt, count_stmts, count_local, count_locals, count_block, count_item}
-use Rattle.cilk_model_labels.specs.Label.{stmt_variables, block_variables, locals_variables, numbered, label_part, label_initialiser, label_local, names_behind}
-use Rattle.cilk_model_labels.specs.Label.{label_move, label_locals, label_stmt, label_stmts, label_block}
-use Rattle.cilk_model_labels.specs.Bodies.{one_cell, parameter_variables, label_body, inlet_body, inlet_bodies, block_locals, procedure_names}
-use Rattle.cilk_model_labels.specs.Bodies.{body_count, item_bodies, items_bodies, file_names, bodies_of}
+use Rattle.cilk_laws_model.specs.labelled.Labelled.{Numbered, Stmts, Variable, Body}
+use Rattle.cilk_laws_model.specs.labelled.Names.{Names, with_words, with_local, local_count, entered, in_inlet}
+use Rattle.cilk_laws_model.specs.labelled.Count.{count_option, count_shape, count_stmt, count_stmts, count_local, count_locals, count_block, count_item}
+use Rattle.cilk_laws_model.specs.labelled.Label.{stmt_variables, block_variables, locals_variables, numbered, label_part, label_initialiser}
+use Rattle.cilk_laws_model.specs.labelled.Label.{label_local, names_behind}
+use Rattle.cilk_laws_model.specs.labelled.Label.{label_move, label_locals, label_stmt, label_stmts, label_block}
+use Rattle.cilk_laws_model.specs.labelled.Bodies.{one_cell, parameter_variables, label_body, inlet_body, inlet_bodies, block_locals, procedure_names}
+use Rattle.cilk_laws_model.specs.labelled.Bodies.{body_count, item_bodies, items_bodies, file_names, bodies_of}
 use Rattle.cilk_laws.specs.Said.{Said, asked, part_said, brace, shape_said, stmt_said, stmts_said, local_said, locals_said, block_said}
 use Rattle.cilk_laws.specs.Said.{item_said, items_said, program_said}
 use Rattle.cilk_laws.specs.Actions.{part_actions, stmt_actions, stmts_actions, body_actions, IsSaid}

@@ -3,9 +3,9 @@ use Rattle.std.specs.List.{All}
 use Rattle.std.proofs.lemmas.List.Elements.{All-weaker}
 use Rattle.cilk_check.specs.syntax.Tree as tree
 use Rattle.cilk_tree.specs.syntax.ProgramText.{program_lines}
-use Rattle.cilk_model_labels.specs.Labelled.{Numbered}
-use Rattle.cilk_model_labels.specs.Lines.{action_lines}
-use Rattle.cilk_model_labels.specs.Bodies.{bodies_of}
+use Rattle.cilk_laws_model.specs.labelled.Labelled.{Numbered}
+use Rattle.cilk_laws_model.specs.labelled.Lines.{action_lines}
+use Rattle.cilk_laws_model.specs.labelled.Bodies.{bodies_of}
 use Rattle.cilk_laws.specs.Said.{program_said}
 use Rattle.cilk_laws.specs.Actions.{SaysOne, body_actions, IsSaid, StandsOnItsLine, EachActionStandsOnItsLine}
 use Rattle.cilk_laws.proofs.Says.{zip-at}

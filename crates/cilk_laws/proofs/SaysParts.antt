@@ -10,8 +10,8 @@ use Rattle.cilk_tree.specs.syntax.StmtLines.{test_line, until_line, for_line, in
 use Rattle.cilk_tree.specs.syntax.StmtLines.{is_label, set_in, cases_lines, switch_lines}
 use Rattle.cilk_tree.specs.syntax.ProgramText.{header_line, opening_line, item_lines, items_lines}
 use Rattle.cilk_tree.proofs.syntax_laws.SwitchLines.{cases_lines-length}
-use Rattle.cilk_model_labels.specs.Lines.{option_lines, shape_lines, stmt_action_lines, stmts_action_lines, local_action_lines, locals_action_lines}
-use Rattle.cilk_model_labels.specs.Lines.{block_action_lines, item_action_lines, items_action_lines}
+use Rattle.cilk_laws_model.specs.labelled.Lines.{option_lines, shape_lines, stmt_action_lines, stmts_action_lines, local_action_lines, locals_action_lines}
+use Rattle.cilk_laws_model.specs.labelled.Lines.{block_action_lines, item_action_lines, items_action_lines}
 use Rattle.cilk_laws.specs.Said.{Said, asked, part_said, brace, shape_said, stmt_said, stmts_said, local_said, locals_said, block_said}
 use Rattle.cilk_laws.specs.Said.{item_said, items_said}
 use Rattle.cilk_laws.specs.Actions.{IsLine, Say, EachLineSaysItsAction}

@@ -2,7 +2,7 @@
 use Rattle.std.proofs.Common.{◌≡◌, ℕ, ℤ, ◌^◌, ◌+◌, ◌-◌, nat_lt, nat_le, Bool, true, false, not, ◌&&◌, ◌||◌, List, [], ◌∷◌, length, Option, Some, None}
 use Rattle.std.proofs.Common.{Result, Ok, Err, ◌⊎◌, inl, inr, refl, ap}
 use Rattle.std.proofs.lemmas.Bool.{cond_both, and_parts, not-false, not-true}
-use Rattle.cilk_laws_model.specs.labelled.declared.trap.Trap.{Trap}
+use Rattle.cilk_laws_model.specs.model.declared.trap.Trap.{Trap}
 use Rattle.cilk_laws_model.specs.labelled.Labelled.{Labelled, Numbered}
 use Rattle.cilk_laws_model.specs.labelled.Items.{head_of}
 use Rattle.cilk_laws_model.specs.model.Values.{Cell, Reached, environment, read_at, combined}

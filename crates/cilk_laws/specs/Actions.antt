@@ -3,10 +3,11 @@ use Rattle.std.specs.Prelude.{◌≡◌, ℕ, zero, suc, ◌+◌, ◌<◌, ◌�
 use Rattle.std.specs.List.{All, AllZip}
 use Rattle.cilk_check.specs.syntax.Tree as tree
 use Rattle.cilk_tree.specs.syntax.ProgramText.{program_lines}
-use Rattle.cilk_model_labels.specs.Labelled.{close, Numbered, Stmt, action, choose, while, repeat, loop, select, at_label, nested, Stmts, none, also, Body}
-use Rattle.cilk_model_labels.specs.Names.{Names}
-use Rattle.cilk_model_labels.specs.Lines.{action_lines}
-use Rattle.cilk_model_labels.specs.Bodies.{label}
+use Rattle.cilk_laws_model.specs.labelled.Labelled.{close, Numbered, Stmt, action, choose, while, repeat, loop, select, at_label, nested, Stmts}
+use Rattle.cilk_laws_model.specs.labelled.Labelled.{none, also, Body}
+use Rattle.cilk_laws_model.specs.labelled.Names.{Names}
+use Rattle.cilk_laws_model.specs.labelled.Lines.{action_lines}
+use Rattle.cilk_laws_model.specs.labelled.Bodies.{label}
 use Rattle.cilk_laws.specs.Said.{Said, program_said}
 
 -- an indent of so many levels

@@ -3,9 +3,9 @@ use Rattle.std.specs.Prelude.{ℕ, List, [], ◌∷◌, ◌++◌, map, codes, Op
 use Rattle.cilk_check.specs.syntax.Tree as tree
 use Rattle.cilk_tree.specs.syntax.MoveText.{move_text, spawn_text, print_text, locking_text, return_text, decl_text}
 use Rattle.cilk_tree.specs.syntax.StmtLines.{test_line, until_line, for_line}
-use Rattle.cilk_model_labels.specs.Labelled.{Action, spawn, print, locking, null, break_off, go_round, tests, sync, abort, close}
-use Rattle.cilk_model_labels.specs.Names.{Names, meaning_of, number_of, label_expr}
-use Rattle.cilk_model_labels.specs.Label.{label_move, label_taker, label_return}
+use Rattle.cilk_laws_model.specs.labelled.Labelled.{Action, spawn, print, locking, null, break_off, go_round, tests, sync, abort, close}
+use Rattle.cilk_laws_model.specs.labelled.Names.{Names, meaning_of, number_of, label_expr}
+use Rattle.cilk_laws_model.specs.labelled.Label.{label_move, label_taker, label_return}
 
 -- a line, and one of the actions that it says, where names mean this
 pub record Said : Type 0 where

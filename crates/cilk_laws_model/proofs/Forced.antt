@@ -2,7 +2,7 @@
 use Rattle.std.proofs.Common.{◌≡◌, ℕ, ◌+◌, ℤ, Bool, true, false, not, ◌&&◌, ◌||◌, List, [], ◌∷◌, ◌++◌, length, nat_lt, nat_le, Option, Some}
 use Rattle.std.proofs.Common.{None, Result, Ok, Err, refl, sym, ap, subst, ◌∙◌, if◌then◌else◌}
 use Rattle.std.proofs.lemmas.Bool.{cond_both, and_parts, and_from}
-use Rattle.cilk_model.specs.labelled.declared.trap.Trap.{Trap}
+use Rattle.cilk_model.specs.declared.trap.Trap.{Trap}
 use Rattle.cilk_model.specs.labelled.Labelled.{Labelled, Action}
 use Rattle.cilk_model.specs.labelled.Items.{head_of}
 use Rattle.cilk_model.specs.Values.{Reached}

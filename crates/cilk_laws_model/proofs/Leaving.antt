@@ -5,7 +5,7 @@ use Rattle.std.specs.Prelude.{option_map}
 use Rattle.std.proofs.lemmas.Bool.{cond-true, cond-false, not-false}
 use Rattle.cilk_model.specs.scopes.declared.owner.Owner.{Owner}
 use Rattle.cilk_model.specs.scopes.declared.owner.Owner.TheVariants.{Function, Procedure, Inlet}
-use Rattle.cilk_model.specs.labelled.declared.trap.Trap.{Trap}
+use Rattle.cilk_model.specs.declared.trap.Trap.{Trap}
 use Rattle.cilk_model.specs.labelled.Term.{Term}
 use Rattle.cilk_model.specs.labelled.Value.{Environment, value_of, ◌>>=◌}
 use Rattle.cilk_model.specs.labelled.Labelled.{Labelled, Declaration, Action, return_with, return_nothing, close}

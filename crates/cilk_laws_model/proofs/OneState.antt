@@ -2,7 +2,7 @@
 use Rattle.std.proofs.Common.{◌≡◌, ◌≢◌, ℕ, ◌+◌, ◌⊎◌, inl, inr, ℤ, pos, Bool, true, false, ◌&&◌, List, [], ◌∷◌, length, nat_lt, nat_le, Option, Some, None}
 use Rattle.std.proofs.Common.{Result, Ok, Err, refl, sym, ap, ap₂, subst, ◌∙◌}
 use Rattle.std.specs.Prelude.{slice_get, slice_index_or}
-use Rattle.cilk_model.specs.labelled.declared.trap.Trap.{Trap}
+use Rattle.cilk_model.specs.declared.trap.Trap.{Trap}
 use Rattle.cilk_model.specs.labelled.Labelled.{Labelled, global}
 use Rattle.cilk_model.specs.Values.{Values, Store, Cell, Reached}
 use Rattle.cilk_model.specs.Effect.{Effect, writes, answers, enters, gives, starts, writes_out, turns_lock, marks, effect_of}

@@ -5,7 +5,7 @@ use Rattle.std.proofs.lemmas.Bool.{cond_both, and_parts, ltb-true, leb-true, not
 use Rattle.cilk_model.specs.syntax.declared.lock_action.LockAction.{LockAction}
 use Rattle.cilk_model.specs.syntax.declared.lock_action.LockAction.TheVariants.{Init, Unlock}
 use Rattle.cilk_model.specs.syntax.declared.lock_action.LockAction.TheVariants as action
-use Rattle.cilk_model.specs.labelled.declared.trap.Trap.{Trap}
+use Rattle.cilk_model.specs.declared.trap.Trap.{Trap}
 use Rattle.cilk_model.specs.labelled.Term.{Term}
 use Rattle.cilk_model.specs.labelled.Value.{Environment, value_of, values_of, ◌>>=◌}
 use Rattle.cilk_model.specs.labelled.Labelled.{Labelled, Numbered, Declaration, Taker, nothing, into, through, Action, assign, call, spawn, print}

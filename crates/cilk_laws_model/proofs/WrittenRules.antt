@@ -5,7 +5,7 @@ use Rattle.std.proofs.lemmas.Bool.{cond_both, and_parts}
 use Rattle.std.proofs.lemmas.Option.{slice_get-map}
 use Rattle.cilk_model.specs.scopes.declared.owner.Owner.{Owner}
 use Rattle.cilk_model.specs.scopes.declared.owner.Owner.TheVariants.{Function, Procedure, Inlet}
-use Rattle.cilk_model.specs.labelled.declared.trap.Trap.{Trap}
+use Rattle.cilk_model.specs.declared.trap.Trap.{Trap}
 use Rattle.cilk_model.specs.labelled.Labelled.{Labelled, Action, assign, call, spawn, print, locking, null, break_off, go_round, tests, sync, abort}
 use Rattle.cilk_model.specs.labelled.Labelled.{return_with, return_nothing, close, Numbered}
 use Rattle.cilk_model.specs.labelled.Items.{head_of}

@@ -14,9 +14,9 @@ use Rattle.cilk_load.specs.labelled.Labelled as labelled
 use Rattle.cilk_load.specs.nodes.declared.action.Action.TheVariants.{Assign, Call, Spawn, Return}
 use Rattle.cilk_load.specs.nodes.declared.taker.Taker.TheVariants.{Into, Through}
 use Rattle.cilk_load.specs.nodes.Actions.{slotted_place, slotted_target, slotted_taker, slotted}
-use Rattle.cilk_load.specs.resolve.Scope.{Scope}
-use Rattle.cilk_load.specs.resolve.Acts.{slot_in, number_in, code_in, codes_in, place_in, target_in, move_in, taker_in, spawn_in, return_in}
-use Rattle.cilk_load.specs.resolve.Acts.{initialiser_in}
+use Rattle.cilk_load.specs.Scope.{Scope}
+use Rattle.cilk_load.specs.Acts.{slot_in, number_in, code_in, codes_in, place_in, target_in, move_in, taker_in, spawn_in, return_in}
+use Rattle.cilk_load.specs.Acts.{initialiser_in}
 use Rattle.cilk_load.proofs.Found.{Agree}
 
 module _ (slots : Declaration → Slot) (names : Names) (s : Scope) (agree : Agree slots names s) where

@@ -21,9 +21,9 @@ use Rattle.cilk_load.specs.nodes.Table.{number_of, node_over, node_at, stmts_lis
 use Rattle.cilk_load.specs.nodes.Bodies.{body_table}
 use Rattle.cilk_load.specs.nodes.Plain.{PlainBlock, OuterLocals, OuterBlock}
 use Rattle.cilk_load.proofs.nodes_laws.Texts.{shape_rows, named_place, body_of_inlet, locals_rows, body_rows}
-use Rattle.cilk_load.specs.resolve.Scope as scope
-use Rattle.cilk_load.specs.resolve.Scope.{Scope, declared}
-use Rattle.cilk_load.specs.resolve.Firsts.{first_if, locals_first}
+use Rattle.cilk_load.specs.Scope as scope
+use Rattle.cilk_load.specs.Scope.{Scope, declared}
+use Rattle.cilk_load.specs.Firsts.{first_if, locals_first}
 use Rattle.cilk_load.specs.Pass.{bound_var, bound_number, onward, shape_nodes, stmts_nodes, block_nodes}
 use Rattle.cilk_load.specs.Outer.{vars_at, body_exits, words_scope, parameters_scope, inlet_nodes, outer_nodes, outer_scope, body_nodes}
 use Rattle.cilk_load.proofs.Found.{Agree, agree-declared, agree-inlet}

@@ -3,11 +3,11 @@ use Rattle.std.proofs.Common.{◌≡◌, ℕ, ◌+◌, List, [], ◌∷◌, ◌+
 use Rattle.std.proofs.Common.{sym, ap, ◌∙◌, arith, append_assoc}
 use Rattle.std.specs.Prelude.{IfOk}
 use Rattle.std.proofs.lemmas.Result.{IfOk-weaker}
-use Rattle.cilk_load_names.specs.nodes.declared.area.Area.{Area}
-use Rattle.cilk_load_names.specs.labelled.Labelled.{Variable}
-use Rattle.cilk_load_names.specs.nodes.Slots.{size_of, cells_of}
-use Rattle.cilk_load_names.specs.nodes.declared.var.Var.{Var}
-use Rattle.cilk_load_names.specs.nodes.Bodies.{var_at, vars_from}
+use Rattle.cilk_load_nodes.specs.declared.area.Area.{Area}
+use Rattle.cilk_load_nodes.specs.labelled.Labelled.{Variable}
+use Rattle.cilk_load_nodes.specs.Slots.{size_of, cells_of}
+use Rattle.cilk_load_nodes.specs.declared.var.Var.{Var}
+use Rattle.cilk_load_nodes.specs.Bodies.{var_at, vars_from}
 
 pub cells_of-append : (vs ws : List Variable) → cells_of (vs ++ ws) ≡ cells_of vs + cells_of ws
 cells_of-append [] ws = omega arith

@@ -11,8 +11,8 @@ use Rattle.cilk_load.specs.nodes.declared.slot.Slot.{Slot}
 use Rattle.cilk_load.specs.labelled.Labelled.{Declaration, unknown}
 use Rattle.cilk_load.specs.labelled.Names as label
 use Rattle.cilk_load.specs.labelled.Names.{Names, meaning_at, number_of, with_name}
-use Rattle.cilk_load.specs.resolve.declared.binding.Binding.{Binding}
-use Rattle.cilk_load.specs.resolve.Scope.{Named, Scope, found, visible, outward_area, outward, outward_named, declared, entered}
+use Rattle.cilk_load.specs.declared.binding.Binding.{Binding}
+use Rattle.cilk_load.specs.Scope.{Named, Scope, found, visible, outward_area, outward, outward_named, declared, entered}
 
 abbrev pub binding_of : (Declaration → Slot) → Declaration → Binding
 binding_of slots d = record { slot = slots d; number = number_of d }

@@ -11,7 +11,7 @@ use Rattle.cilk_load.specs.labelled.Label.{stmt_variables, locals_variables}
 use Rattle.cilk_load.specs.nodes.declared.case.Case.{Case}
 use Rattle.cilk_load.specs.nodes.Table.{number_of, with_case, label_cases}
 use Rattle.cilk_load.specs.nodes.Plain.{PlainStmts, PlainBlock}
-use Rattle.cilk_load.specs.resolve.Firsts.{first_if}
+use Rattle.cilk_load.specs.Firsts.{first_if}
 use Rattle.cilk_load.specs.Pass.{value_in, is_default, value_case, cases_in, default_in}
 use Rattle.cilk_load.proofs.Starts.{stmts-pieces}
 

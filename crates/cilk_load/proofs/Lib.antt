@@ -1,3 +1,6 @@
+pub mod Shown
+pub mod Begins
+pub mod Results
 pub mod VarLaws
 pub mod Scopes
 pub mod Parts
@@ -16,8 +19,7 @@ pub mod Bodies
 pub mod Programs
 pub mod Made
 pub mod Crosses
-pub use Rattle.cilk_load_names.proofs as resolve_laws
-pub use Rattle.cilk_load_names.proofs.nodes_laws
-pub use Rattle.cilk_load_names.proofs.scopes_laws
-pub use Rattle.cilk_load_names.proofs.syntax_laws
+pub use Rattle.cilk_load_nodes.proofs as nodes_laws
+pub use Rattle.cilk_load_nodes.proofs.scopes_laws
+pub use Rattle.cilk_tree_syntax.proofs as syntax_laws
 pub use Rattle.cilk_tree.proofs as canonical_laws

@@ -1,19 +1,19 @@
 -- What the pass appends for the parts of a body makes up what it appends for the body.
 use Rattle.std.proofs.Common.{◌≡◌, ℕ, suc, ◌+◌, List, [], ◌∷◌, ◌++◌, ◌-◌, length, take, drop, Option, Some, None, ap, ◌∙◌, arith, append_assoc, length-drop}
 use Rattle.std.proofs.lemmas.List.{take_all}
-use Rattle.cilk_load_names.specs.syntax.Tree as tree
-use Rattle.cilk_load_names.specs.syntax.Tree.{Word, locals_of, stmts_of}
-use Rattle.cilk_load_names.specs.labelled.Count.{count_option, count_shape, count_stmt, count_stmts, count_local, count_locals, count_block}
-use Rattle.cilk_load_names.specs.labelled.Label.{stmt_variables, local_variables, locals_variables, block_variables}
-use Rattle.cilk_load_names.specs.nodes.declared.action.Action.TheVariants.{Close, Test}
-use Rattle.cilk_load_names.specs.nodes.declared.node.Node.{Node}
-use Rattle.cilk_load_names.specs.nodes.declared.var.Var.{Var}
-use Rattle.cilk_load_names.specs.nodes.declared.body.Body.{Body}
-use Rattle.cilk_load_names.specs.nodes.Plain.{PlainLocals, OuterLocals}
+use Rattle.cilk_tree_syntax.specs.Tree as tree
+use Rattle.cilk_tree_syntax.specs.Tree.{Word, locals_of, stmts_of}
+use Rattle.cilk_load_nodes.specs.labelled.Count.{count_option, count_shape, count_stmt, count_stmts, count_local, count_locals, count_block}
+use Rattle.cilk_load_nodes.specs.labelled.Label.{stmt_variables, local_variables, locals_variables, block_variables}
+use Rattle.cilk_load_nodes.specs.declared.action.Action.TheVariants.{Close, Test}
+use Rattle.cilk_load_nodes.specs.declared.node.Node.{Node}
+use Rattle.cilk_load_nodes.specs.declared.var.Var.{Var}
+use Rattle.cilk_load_nodes.specs.declared.body.Body.{Body}
+use Rattle.cilk_load_nodes.specs.Plain.{PlainLocals, OuterLocals}
 use Rattle.cilk_load.specs.declared.exits.Exits.{Exits}
-use Rattle.cilk_load_names.specs.Scope.{Scope, declared}
-use Rattle.cilk_load_names.specs.Acts.{code_in}
-use Rattle.cilk_load_names.specs.Firsts.{first_if, block_first, locals_first}
+use Rattle.cilk_load.specs.Scope.{Scope, declared}
+use Rattle.cilk_load.specs.Acts.{code_in}
+use Rattle.cilk_load.specs.Firsts.{first_if, block_first, locals_first}
 use Rattle.cilk_load.specs.Pass.{bound_var, bound_number, node, switch_test, onward, exits_to, in_switch, in_loop, part_nodes, again_at}
 use Rattle.cilk_load.specs.Pass.{inside_at, shape_nodes, locals_scope, locals_nodes, stmt_nodes, stmts_nodes, block_nodes}
 use Rattle.cilk_load.specs.Outer.{vars_at, body_exits, inlet_nodes, outer_nodes, outer_scope, body_nodes}

@@ -33,9 +33,9 @@ use Rattle.cilk_load.proofs.nodes_laws.Inner.{well_formed-plain}
 use Rattle.cilk_load.proofs.nodes_laws.Members.{has-from-at}
 use Rattle.cilk_load.proofs.nodes_laws.Texts.{item_rows, items_rows, RowsSpan, items-from-text}
 use Rattle.cilk_load.proofs.nodes_laws.Heads.{rows_of, text_of, text-spans, row-number, among-is, among-none, text-place, numbered, one-row}
-use Rattle.cilk_load.specs.resolve.Scope as scope
-use Rattle.cilk_load.specs.resolve.Scope.{Scope, outward_named}
-use Rattle.cilk_load.specs.resolve.Firsts.{locals_first}
+use Rattle.cilk_load.specs.Scope as scope
+use Rattle.cilk_load.specs.Scope.{Scope, outward_named}
+use Rattle.cilk_load.specs.Firsts.{locals_first}
 use Rattle.cilk_load.specs.BodyTables.{body_first, table_of, inlet_tables, item_tables, items_tables}
 use Rattle.cilk_load.specs.Outer.{vars_at, parameters_scope, item_nodes, items_nodes}
 use Rattle.cilk_load.specs.Outer.{file_named, file_scope}

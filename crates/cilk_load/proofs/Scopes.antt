@@ -1,13 +1,13 @@
 -- What a part of the pass declares is taken back behind it.
 use Rattle.std.proofs.Common.{◌≡◌, ℕ, suc, ◌+◌, ◌-◌, List, [], ◌∷◌, ◌++◌, length, map, take, drop, refl, ap, subst, ◌∙◌, arith, length-append}
 use Rattle.std.proofs.Math.Seq.{drop-append_seam, take-append_seam}
-use Rattle.cilk_load_names.specs.syntax.Tree as tree
-use Rattle.cilk_load_names.specs.syntax.Tree.{Word, locals_of}
-use Rattle.cilk_load_names.specs.nodes.declared.var.Var.{Var}
-use Rattle.cilk_load_names.specs.nodes.Plain.{PlainLocals}
-use Rattle.cilk_load_names.specs.scopes.Scopes.{parameter, parameters_declare}
-use Rattle.cilk_load_names.specs.Scope.{Named, Scope, declared, entered, left_of, unknown_name}
-use Rattle.cilk_load_names.proofs.Shown.{drop-next}
+use Rattle.cilk_tree_syntax.specs.Tree as tree
+use Rattle.cilk_tree_syntax.specs.Tree.{Word, locals_of}
+use Rattle.cilk_load_nodes.specs.declared.var.Var.{Var}
+use Rattle.cilk_load_nodes.specs.Plain.{PlainLocals}
+use Rattle.cilk_load_nodes.specs.scopes.Scopes.{parameter, parameters_declare}
+use Rattle.cilk_load.specs.Scope.{Named, Scope, declared, entered, left_of, unknown_name}
+use Rattle.cilk_load.proofs.Shown.{drop-next}
 use Rattle.cilk_load.specs.Pass.{bound_var, bound_number, locals_scope}
 use Rattle.cilk_load.specs.Outer.{words_scope, parameters_scope, outer_scope}
 

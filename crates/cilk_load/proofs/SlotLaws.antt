@@ -20,8 +20,8 @@ use Rattle.cilk_load.specs.model.Instance.{body_at, no_body}
 use Rattle.cilk_load.specs.nodes.declared.var.Var.{Var}
 use Rattle.cilk_load.specs.nodes.Slots.{size_of, slot_from, slot_of, is_inlet, procedure_around}
 use Rattle.cilk_load.specs.nodes.Bodies.{vars_from, body_table}
-use Rattle.cilk_load.specs.resolve.declared.binding.Binding.{Binding}
-use Rattle.cilk_load.specs.resolve.Scope.{Named, found, outward_area, outward, outward_named}
+use Rattle.cilk_load.specs.declared.binding.Binding.{Binding}
+use Rattle.cilk_load.specs.Scope.{Named, found, outward_area, outward, outward_named}
 use Rattle.cilk_load.specs.Pass.{var_slot, bound_var, bound_number}
 use Rattle.cilk_load.specs.Outer.{vars_at, file_named}
 use Rattle.cilk_load.proofs.Found.{binding_of, same_name, meaning-first}

@@ -14,8 +14,8 @@ use Rattle.cilk_load.specs.labelled.Label.{locals_variables}
 use Rattle.cilk_load.specs.nodes.Table.{number_of}
 use Rattle.cilk_load.specs.nodes.Plain.{PlainLocals, PlainStmt, PlainStmts, PlainBlock}
 use Rattle.cilk_load.proofs.nodes_laws.Opens.{opened-pieces}
-use Rattle.cilk_load.specs.resolve.Firsts.{first_if, block_first, locals_first}
-use Rattle.cilk_load.proofs.resolve_laws.Begins.{first_if-some}
+use Rattle.cilk_load.specs.Firsts.{first_if, block_first, locals_first}
+use Rattle.cilk_load.proofs.Begins.{first_if-some}
 
 positive : (n : ℕ) → nat_eq n 0 ≡ false → 0 < n
 positive n e = elim (cases_eq n 0) [ inl z ↦ absurd (false≢true (sym e ∙ (Decides-eqb n 0).1 z)) | inr z ↦ above n z ]

@@ -1,15 +1,15 @@
 -- The table of a body, from its parts.
 use Rattle.std.proofs.Common.{◌≡◌, ℕ, suc, ◌+◌, List, [], ◌∷◌, ◌++◌, length, refl, ap, ◌∙◌, arith, unwrap_or}
-use Rattle.cilk_load_names.specs.syntax.Tree as tree
-use Rattle.cilk_load_names.specs.scopes.declared.owner.Owner.{Owner}
-use Rattle.cilk_load_names.specs.nodes.declared.area.Area.{Area}
-use Rattle.cilk_load_names.specs.nodes.declared.area.Area.TheVariants.{Own}
-use Rattle.cilk_load_names.specs.labelled.Labelled.{Variable}
-use Rattle.cilk_load_names.specs.labelled.Label.{block_variables}
-use Rattle.cilk_load_names.specs.nodes.declared.body.Body as table
-use Rattle.cilk_load_names.specs.nodes.declared.var.Var.{Var}
-use Rattle.cilk_load_names.specs.nodes.Slots.{size_of, cells_of}
-use Rattle.cilk_load_names.specs.nodes.Bodies.{vars_from}
+use Rattle.cilk_tree_syntax.specs.Tree as tree
+use Rattle.cilk_load_nodes.specs.scopes.declared.owner.Owner.{Owner}
+use Rattle.cilk_load_nodes.specs.declared.area.Area.{Area}
+use Rattle.cilk_load_nodes.specs.declared.area.Area.TheVariants.{Own}
+use Rattle.cilk_load_nodes.specs.labelled.Labelled.{Variable}
+use Rattle.cilk_load_nodes.specs.labelled.Label.{block_variables}
+use Rattle.cilk_load_nodes.specs.declared.body.Body as table
+use Rattle.cilk_load_nodes.specs.declared.var.Var.{Var}
+use Rattle.cilk_load_nodes.specs.Slots.{size_of, cells_of}
+use Rattle.cilk_load_nodes.specs.Bodies.{vars_from}
 use Rattle.cilk_load.specs.BodyTables.{body_first, table_of}
 use Rattle.cilk_load.proofs.Cells.{cells_of-append, joined}
 

@@ -3,8 +3,8 @@ use Rattle.std.proofs.Common.{◌≡◌, ℕ, zero, suc, ◌<◌, ◌≤◌, ◌
 use Rattle.std.proofs.Common.{sym, ap, refl, arith}
 use Rattle.std.specs.Prelude.{slice_index_or}
 use Rattle.std.proofs.lemmas.Bool.{lt-ltb, le-ltb, cases_lt}
-use Rattle.cilk_load_names.specs.nodes.Slots.{nowhere}
-use Rattle.cilk_load_names.specs.nodes.declared.var.Var.{Var}
+use Rattle.cilk_load_nodes.specs.Slots.{nowhere}
+use Rattle.cilk_load_nodes.specs.declared.var.Var.{Var}
 use Rattle.cilk_load.specs.Pass.{var_slot}
 
 pub slot-there : (vars : List Var) (n : ℕ) (v : Var) → v ≡ slice_index_or vars n v → true ≡ nat_lt n (length vars) → v.slot ≡ var_slot vars n

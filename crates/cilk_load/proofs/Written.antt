@@ -22,9 +22,9 @@ use Rattle.cilk_load.specs.nodes.Table.{number_of, label_cases, node_over, first
 use Rattle.cilk_load.specs.nodes.Plain.{PlainLocals, PlainStmt, PlainStmts, PlainBlock}
 use Rattle.cilk_load.proofs.nodes_laws.Opens.{past-pieces, from-pieces}
 use Rattle.cilk_load.specs.declared.exits.Exits.{Exits}
-use Rattle.cilk_load.specs.resolve.Scope.{Scope, declared}
-use Rattle.cilk_load.specs.resolve.Acts.{move_in, code_in}
-use Rattle.cilk_load.specs.resolve.Firsts.{first_if, locals_first}
+use Rattle.cilk_load.specs.Scope.{Scope, declared}
+use Rattle.cilk_load.specs.Acts.{move_in, code_in}
+use Rattle.cilk_load.specs.Firsts.{first_if, locals_first}
 use Rattle.cilk_load.specs.Pass.{var_slot, bound_var, node, switch_test, onward, exits_to, part_nodes, shape_nodes, locals_scope}
 use Rattle.cilk_load.specs.Pass.{locals_nodes, stmt_nodes, stmts_nodes, block_nodes}
 use Rattle.cilk_load.proofs.Found.{Agree, agree-declared, agree-entered}

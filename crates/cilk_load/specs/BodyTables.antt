@@ -1,19 +1,19 @@
 -- The tables of bodies, in the order of the text: `at` is the number of the next action.
 use Rattle.std.specs.Prelude.{ℕ, ◌+◌, pos, Bool, ◌&&◌, bytes_eq, codes, List, [], ◌∷◌, ◌++◌, Option, Some, length, map, unwrap_or}
-use Rattle.cilk_load_names.specs.syntax.Tree as tree
-use Rattle.cilk_load_names.specs.syntax.Tree.{Word}
-use Rattle.cilk_load_names.specs.scopes.declared.owner.Owner.{Owner}
-use Rattle.cilk_load_names.specs.scopes.declared.owner.Owner.TheVariants.{Inlet}
-use Rattle.cilk_load_names.specs.scopes.Parts.{owner_of}
-use Rattle.cilk_load_names.specs.nodes.declared.area.Area.TheVariants.{Own}
-use Rattle.cilk_load_names.specs.labelled.Labelled.{Variable}
-use Rattle.cilk_load_names.specs.labelled.Count.{count_shape, count_stmts, count_locals, count_block, count_item}
-use Rattle.cilk_load_names.specs.labelled.Label.{block_variables}
-use Rattle.cilk_load_names.specs.labelled.Bodies.{one_cell, parameter_variables, block_locals, is_procedure}
-use Rattle.cilk_load_names.specs.nodes.declared.body.Body.{Body}
-use Rattle.cilk_load_names.specs.nodes.Slots.{cells_of}
-use Rattle.cilk_load_names.specs.nodes.Bodies.{vars_from}
-use Rattle.cilk_load_names.specs.Firsts.{first_if, locals_first}
+use Rattle.cilk_tree_syntax.specs.Tree as tree
+use Rattle.cilk_tree_syntax.specs.Tree.{Word}
+use Rattle.cilk_load_nodes.specs.scopes.declared.owner.Owner.{Owner}
+use Rattle.cilk_load_nodes.specs.scopes.declared.owner.Owner.TheVariants.{Inlet}
+use Rattle.cilk_load_nodes.specs.scopes.Parts.{owner_of}
+use Rattle.cilk_load_nodes.specs.declared.area.Area.TheVariants.{Own}
+use Rattle.cilk_load_nodes.specs.labelled.Labelled.{Variable}
+use Rattle.cilk_load_nodes.specs.labelled.Count.{count_shape, count_stmts, count_locals, count_block, count_item}
+use Rattle.cilk_load_nodes.specs.labelled.Label.{block_variables}
+use Rattle.cilk_load_nodes.specs.labelled.Bodies.{one_cell, parameter_variables, block_locals, is_procedure}
+use Rattle.cilk_load_nodes.specs.declared.body.Body.{Body}
+use Rattle.cilk_load_nodes.specs.Slots.{cells_of}
+use Rattle.cilk_load_nodes.specs.Bodies.{vars_from}
+use Rattle.cilk_load.specs.Firsts.{first_if, locals_first}
 
 -- the number of the first action of a body
 abbrev pub body_first : ℕ → tree.Block → Option ℕ

@@ -1,17 +1,17 @@
 -- The nodes and the tables of whole bodies and of the program, as the pass writes them.
 use Rattle.std.specs.Prelude.{ℕ, suc, ◌+◌, List, [], ◌∷◌, ◌++◌, Option, Some, None, length, slice_get}
-use Rattle.cilk_load_names.specs.syntax.Tree as tree
-use Rattle.cilk_load_names.specs.syntax.Tree.{Word}
-use Rattle.cilk_load_names.specs.labelled.Count.{count_shape, count_stmts, count_locals, count_block, count_item}
-use Rattle.cilk_load_names.specs.labelled.Label.{locals_variables}
-use Rattle.cilk_load_names.specs.labelled.Bodies.{parameter_variables, body_count, item_globals, item_locks}
-use Rattle.cilk_load_names.specs.nodes.declared.action.Action.TheVariants.{Close}
-use Rattle.cilk_load_names.specs.nodes.declared.node.Node.{Node}
-use Rattle.cilk_load_names.specs.nodes.declared.var.Var.{Var}
-use Rattle.cilk_load_names.specs.nodes.declared.body.Body.{Body}
+use Rattle.cilk_tree_syntax.specs.Tree as tree
+use Rattle.cilk_tree_syntax.specs.Tree.{Word}
+use Rattle.cilk_load_nodes.specs.labelled.Count.{count_shape, count_stmts, count_locals, count_block, count_item}
+use Rattle.cilk_load_nodes.specs.labelled.Label.{locals_variables}
+use Rattle.cilk_load_nodes.specs.labelled.Bodies.{parameter_variables, body_count, item_globals, item_locks}
+use Rattle.cilk_load_nodes.specs.declared.action.Action.TheVariants.{Close}
+use Rattle.cilk_load_nodes.specs.declared.node.Node.{Node}
+use Rattle.cilk_load_nodes.specs.declared.var.Var.{Var}
+use Rattle.cilk_load_nodes.specs.declared.body.Body.{Body}
 use Rattle.cilk_load.specs.declared.exits.Exits.{Exits}
-use Rattle.cilk_load_names.specs.Scope.{Named, Scope, declared, entered, unknown_name}
-use Rattle.cilk_load_names.specs.Firsts.{first_if, locals_first}
+use Rattle.cilk_load.specs.Scope.{Named, Scope, declared, entered, unknown_name}
+use Rattle.cilk_load.specs.Firsts.{first_if, locals_first}
 use Rattle.cilk_load.specs.Pass.{bound_var, bound_number, onward, shape_nodes, stmts_nodes, block_nodes}
 
 -- the variables of body b in the table of the bodies

@@ -1,20 +1,20 @@
 -- The nodes part by part, as one pass over the tree writes them: `at` is the number of the next action, b the body's number, and n that of its next variable.
 use Rattle.std.specs.Prelude.{ℕ, ℤ, zero, suc, ◌+◌, List, [], ◌∷◌, ◌++◌, Option, Some, None, length, Bool, false, is_none, if◌then◌else◌}
-use Rattle.cilk_load_names.specs.syntax.Tree as tree
-use Rattle.cilk_load_names.specs.syntax.Tree.{Word}
-use Rattle.cilk_load_names.specs.nodes.declared.slot.Slot.{Slot}
-use Rattle.cilk_load_names.specs.labelled.Count.{count_option, count_shape, count_stmt, count_stmts, count_locals, count_block}
-use Rattle.cilk_load_names.specs.labelled.Label.{stmt_variables, locals_variables, block_variables}
-use Rattle.cilk_load_names.specs.nodes.declared.action.Action.{Action}
-use Rattle.cilk_load_names.specs.nodes.declared.action.Action.TheVariants.{Print, Locking, Null, Break, Continue, Test, Sync, Abort}
-use Rattle.cilk_load_names.specs.nodes.declared.case.Case.{Case}
-use Rattle.cilk_load_names.specs.nodes.declared.node.Node.{Node}
-use Rattle.cilk_load_names.specs.nodes.declared.var.Var.{Var}
-use Rattle.cilk_load_names.specs.nodes.Slots.{nowhere}
+use Rattle.cilk_tree_syntax.specs.Tree as tree
+use Rattle.cilk_tree_syntax.specs.Tree.{Word}
+use Rattle.cilk_load_nodes.specs.declared.slot.Slot.{Slot}
+use Rattle.cilk_load_nodes.specs.labelled.Count.{count_option, count_shape, count_stmt, count_stmts, count_locals, count_block}
+use Rattle.cilk_load_nodes.specs.labelled.Label.{stmt_variables, locals_variables, block_variables}
+use Rattle.cilk_load_nodes.specs.declared.action.Action.{Action}
+use Rattle.cilk_load_nodes.specs.declared.action.Action.TheVariants.{Print, Locking, Null, Break, Continue, Test, Sync, Abort}
+use Rattle.cilk_load_nodes.specs.declared.case.Case.{Case}
+use Rattle.cilk_load_nodes.specs.declared.node.Node.{Node}
+use Rattle.cilk_load_nodes.specs.declared.var.Var.{Var}
+use Rattle.cilk_load_nodes.specs.Slots.{nowhere}
 use Rattle.cilk_load.specs.declared.exits.Exits.{Exits}
-use Rattle.cilk_load_names.specs.Scope.{Named, Scope, declared}
-use Rattle.cilk_load_names.specs.Firsts.{first_if, block_first, locals_first}
-use Rattle.cilk_load_names.specs.Acts.{code_in, codes_in, number_in, move_in, spawn_in, return_in, initialiser_in}
+use Rattle.cilk_load.specs.Scope.{Named, Scope, declared}
+use Rattle.cilk_load.specs.Firsts.{first_if, block_first, locals_first}
+use Rattle.cilk_load.specs.Acts.{code_in, codes_in, number_in, move_in, spawn_in, return_in, initialiser_in}
 
 -- the slot of variable n of these
 abbrev pub var_slot : List Var → ℕ → Slot

@@ -1,20 +1,23 @@
 //! The tables of bodies.
 
 ghost use Rattle.std.specs.Prelude.{◌≡◌, ◌+◌, ◌≤◌, ◌++◌, ◌∷◌, [], pos, map, IfOk, OnOk, position, unwrap_or};
-ghost use Rattle.cilk_load_names.specs.syntax.Tree as tree;
-ghost use Rattle.cilk_load_names.specs.syntax.Tree.{locals_of};
-ghost use Rattle.cilk_load_names.specs.scopes.declared.owner.Owner.TheVariants as owner;
-ghost use Rattle.cilk_load_names.specs.scopes.Parts.{owner_of};
-ghost use Rattle.cilk_load_names.specs.labelled.Count.{count_block, count_locals, count_item, count_items};
-ghost use Rattle.cilk_load_names.specs.labelled.Bodies.{one_cell, parameter_variables};
+ghost use Rattle.cilk_tree_syntax.specs.Tree as tree;
+ghost use Rattle.cilk_tree_syntax.specs.Tree.{locals_of};
+ghost use Rattle.cilk_load_nodes.specs.scopes.declared.owner.Owner.TheVariants as owner;
+ghost use Rattle.cilk_load_nodes.specs.scopes.Parts.{owner_of};
+ghost use Rattle.cilk_load_nodes.specs.labelled.Count.{count_block, count_locals, count_item, count_items};
+ghost use Rattle.cilk_load_nodes.specs.labelled.Bodies.{one_cell, parameter_variables};
 ghost use Rattle.cilk_load.specs.BodyTables.{body_first, table_of, inlet_tables, item_tables, items_tables};
 ghost use Rattle.cilk_load.specs.BodyTables.{starts_here};
 
-use crate::variables::{copied, put_block_variables, put_parameters, put_words};
-use cilk_load_names::{
-    Block, Body, Item, ItemNode, Local, LocalNode, NoRoom, Owner, Proc, Vars, Word, actions_in,
-    actions_of_item, actions_of_locals, actions_of_stmts, count_shape, first_if, locals_first,
+use crate::counts::{
+    actions_in, actions_of_item, actions_of_locals, actions_of_stmts, count_shape,
 };
+use crate::firsts::{first_if, locals_first};
+use crate::room::NoRoom;
+use crate::variables::{copied, put_block_variables, put_parameters, put_words};
+use cilk_load_nodes::{Body, Owner, Vars};
+use cilk_tree_syntax::{Block, Item, ItemNode, Local, LocalNode, Proc, Word};
 use std::alloc::Global;
 
 // The number of the first action of a body, which begins at a number.

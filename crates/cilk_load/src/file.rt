@@ -1,12 +1,15 @@
 //! What the names of the top level stand for.
 
 ghost use Rattle.std.specs.Prelude.{◌≡◌, ◌+◌, ◌++◌, IfOk, OnOk, length};
-ghost use Rattle.cilk_load_names.specs.labelled.Bodies.{item_globals, item_locks, body_count};
+ghost use Rattle.cilk_load_nodes.specs.labelled.Bodies.{item_globals, item_locks, body_count};
 ghost use Rattle.cilk_load.specs.Outer.{globals_count, locks_count, bodies_count, item_named, file_named};
 
 use crate::numbering::bound_var;
 use crate::outer::{bodies_behind, bound_number};
-use cilk_load_names::{Body, Item, ItemNode, NoRoom, SymbolTable, Var};
+use crate::room::NoRoom;
+use crate::symbol_table::SymbolTable;
+use cilk_load_nodes::{Body, Var};
+use cilk_tree_syntax::{Item, ItemNode};
 
 // How many variables, locks and bodies of the top level come before an item.
 #[derive(Clone, Copy)]

@@ -1,15 +1,17 @@
 //! The variables and the locks of the top level.
 
 ghost use Rattle.std.specs.Prelude.{◌≡◌, ◌+◌, ◌++◌, [], map, flat_map, IfOk, OnOk};
-ghost use Rattle.cilk_load_names.specs.syntax.Tree.{global};
-ghost use Rattle.cilk_load_names.specs.nodes.declared.area.Area.TheVariants as area;
-ghost use Rattle.cilk_load_names.specs.labelled.Bodies.{item_globals, item_locks};
-ghost use Rattle.cilk_load_names.specs.nodes.Slots.{cells_of};
-ghost use Rattle.cilk_load_names.specs.nodes.Bodies.{vars_from, lock_variable};
+ghost use Rattle.cilk_tree_syntax.specs.Tree.{global};
+ghost use Rattle.cilk_load_nodes.specs.declared.area.Area.TheVariants as area;
+ghost use Rattle.cilk_load_nodes.specs.labelled.Bodies.{item_globals, item_locks};
+ghost use Rattle.cilk_load_nodes.specs.Slots.{cells_of};
+ghost use Rattle.cilk_load_nodes.specs.Bodies.{vars_from, lock_variable};
 
+use crate::room::NoRoom;
 use crate::variables::put_variable;
-use cilk_load_names as names;
-use cilk_load_names::{Area, GlobalShape, Item, ItemNode, NoRoom, Slot, Var};
+use cilk_load_nodes::{Area, Slot, Var};
+use cilk_tree_syntax as syntax;
+use cilk_tree_syntax::{GlobalShape, Item, ItemNode};
 use std::alloc::Global;
 
 /// The variables of the top level, in their slots.
@@ -50,7 +52,7 @@ fn put_shaped(
     alloc: Global,
     vars: &mut Vec<Var>,
     cells: u32,
-    definition: &names::Global,
+    definition: &syntax::Global,
 ) -> Result<u32, NoRoom>
     ensures vars { OnOk result (vars.new.items ≡ vars.old.items ++ vars_from area.Global cells (item_globals (global definition.now))) }
     ensures after { IfOk result (λ after. after ≡ cells + cells_of (item_globals (global definition.now))) }

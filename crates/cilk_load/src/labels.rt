@@ -1,11 +1,15 @@
 //! Where the labels of a `switch` lead.
 
 ghost use Rattle.std.specs.Prelude.{◌≡◌, ◌+◌, ◌≤◌, IfOk};
-ghost use Rattle.cilk_load_names.specs.syntax.Tree.{stmts_of};
-ghost use Rattle.cilk_load_names.specs.labelled.Count.{count_stmts};
+ghost use Rattle.cilk_tree_syntax.specs.Tree.{stmts_of};
+ghost use Rattle.cilk_load_nodes.specs.labelled.Count.{count_stmts};
 ghost use Rattle.cilk_load.specs.Pass.{value_in, is_default, cases_in, default_in};
 
-use cilk_load_names::{Case, Cases, NoRoom, Stmt, StmtNode, actions, actions_of_stmts, first_if};
+use crate::counts::{actions, actions_of_stmts};
+use crate::firsts::first_if;
+use crate::room::NoRoom;
+use cilk_load_nodes::{Case, Cases};
+use cilk_tree_syntax::{Stmt, StmtNode};
 use std::alloc::Global;
 
 /// The cases among the statements of a `switch`, whose next action is `at`, and behind which `next` comes.

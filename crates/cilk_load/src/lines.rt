@@ -1,18 +1,19 @@
 //! The line of the canonical text on which each action stands.
 
 ghost use Rattle.std.specs.Prelude.{◌≡◌, ◌+◌, [], ◌∷◌, ◌++◌, IfOk, OnOk, length, vec_len};
-ghost use Rattle.cilk_load_names.specs.syntax.Tree.{stmts_of, locals_of};
-ghost use Rattle.cilk_load_names.specs.syntax.MoveView.{shape_of};
-ghost use Rattle.cilk_load_names.specs.syntax.StmtLines.{stmt_lines, stmts_lines, local_lines, locals_lines, block_lines};
-ghost use Rattle.cilk_load_names.specs.syntax.ProgramText.{item_lines, items_lines};
-ghost use Rattle.cilk_load_names.specs.labelled.Count.{count_option, count_shape, count_stmt, count_stmts, count_local};
-ghost use Rattle.cilk_load_names.specs.labelled.Count.{count_locals, count_block, count_item, count_items, count_program};
-ghost use Rattle.cilk_load_names.specs.labelled.Lines.{option_lines, shape_lines, stmt_action_lines, stmts_action_lines, local_action_lines};
-ghost use Rattle.cilk_load_names.specs.labelled.Lines.{locals_action_lines};
-ghost use Rattle.cilk_load_names.specs.labelled.Lines.{block_action_lines, item_action_lines, items_action_lines, action_lines};
+ghost use Rattle.cilk_tree_syntax.specs.Tree.{stmts_of, locals_of};
+ghost use Rattle.cilk_tree_syntax.specs.MoveView.{shape_of};
+ghost use Rattle.cilk_tree_syntax.specs.StmtLines.{stmt_lines, stmts_lines, local_lines, locals_lines, block_lines};
+ghost use Rattle.cilk_tree_syntax.specs.ProgramText.{item_lines, items_lines};
+ghost use Rattle.cilk_load_nodes.specs.labelled.Count.{count_option, count_shape, count_stmt, count_stmts, count_local};
+ghost use Rattle.cilk_load_nodes.specs.labelled.Count.{count_locals, count_block, count_item, count_items, count_program};
+ghost use Rattle.cilk_load_nodes.specs.labelled.Lines.{option_lines, shape_lines, stmt_action_lines, stmts_action_lines, local_action_lines};
+ghost use Rattle.cilk_load_nodes.specs.labelled.Lines.{locals_action_lines};
+ghost use Rattle.cilk_load_nodes.specs.labelled.Lines.{block_action_lines, item_action_lines, items_action_lines, action_lines};
 
-use cilk_load_names::{
-    Block, Item, ItemNode, Local, LocalNode, Move, NoRoom, Program, Shape, Stmt, StmtNode,
+use crate::room::NoRoom;
+use cilk_tree_syntax::{
+    Block, Item, ItemNode, Local, LocalNode, Move, Program, Shape, Stmt, StmtNode,
 };
 use std::alloc::Global;
 

@@ -11,8 +11,9 @@ ghost use Rattle.cilk_load.specs.nodes.Table.{node_of};
 ghost use Rattle.cilk_load.specs.nodes.Bodies.{body_of, globals_of, locks_of};
 
 use crate::tables::Tables;
-use cilk_load_names::{Body, Memory, Node, Program, Var};
+use cilk_load_nodes::{Body, Node, Var};
 use cilk_tree::canonical;
+use cilk_tree_syntax::{Memory, Program};
 use std::marker::Model;
 use std::sync::Arc;
 

@@ -4,14 +4,16 @@ ghost use Rattle.std.specs.Prelude.{◌≡◌, ◌<◌, ◌≤◌, ◌↔◌, tr
 ghost use Rattle.cilk_load.specs.labelled.Count.{count_program};
 
 use crate::building::{bodies_of, place_of_main};
+use crate::counts::{MAX_ACTIONS, count_items};
 use crate::fault::LoadFault;
 use crate::globals::{globals_of, locks_of};
 use crate::lines::action_lines;
 use crate::loaded::Loaded;
 use crate::nodes::nodes_of;
+use crate::room::NoRoom;
 use crate::tables::Tables;
 use cilk_check::Checked;
-use cilk_load_names::{MAX_ACTIONS, NoRoom, Program, count_items};
+use cilk_tree_syntax::Program;
 use std::alloc::Global;
 use std::sync::Arc;
 

@@ -1,13 +1,15 @@
 //! The nodes of a program.
 
 ghost use Rattle.std.specs.Prelude.{◌≡◌, ◌≤◌, IfOk, length, vec_len};
-ghost use Rattle.cilk_load_names.specs.labelled.Count.{count_program};
-ghost use Rattle.cilk_load_names.specs.nodes.Plain.{PlainItems};
+ghost use Rattle.cilk_load_nodes.specs.labelled.Count.{count_program};
+ghost use Rattle.cilk_load_nodes.specs.Plain.{PlainItems};
 ghost use Rattle.cilk_load.specs.Outer.{globals_count, locks_count, bodies_count, items_nodes, file_scope};
 
 use crate::file::declare_file;
 use crate::pass::Pass;
-use cilk_load_names::{Body, NoRoom, Node, Program, Var};
+use crate::room::NoRoom;
+use cilk_load_nodes::{Body, Node, Var};
+use cilk_tree_syntax::Program;
 use std::alloc::Global;
 
 /// The nodes of the actions of a program, in the order of the text, over the tables of its variables, locks and bodies.

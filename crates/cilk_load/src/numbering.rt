@@ -2,25 +2,28 @@
 //! number of the body's next variable, and leaves the names as they were.
 
 ghost use Rattle.std.specs.Prelude.{◌≡◌, ◌+◌, ◌≤◌, ◌∷◌, ◌++◌, IfOk, OnOk, length, vec_len};
-ghost use Rattle.cilk_load_names.specs.syntax.Tree as tree;
-ghost use Rattle.cilk_load_names.specs.syntax.Tree.{stmts_of, locals_of};
-ghost use Rattle.cilk_load_names.specs.labelled.Count.{count_shape, count_stmt, count_stmts, count_locals, count_block};
-ghost use Rattle.cilk_load_names.specs.labelled.Label.{stmt_variables, stmts_variables, locals_variables, block_variables};
-ghost use Rattle.cilk_load_names.specs.nodes.Plain.{PlainLocals, PlainStmt, PlainStmts, PlainBlock};
-ghost use Rattle.cilk_load_names.specs.nodes.declared.action.Action.TheVariants.{Test};
-ghost use Rattle.cilk_load_names.specs.Acts.{code_in};
-ghost use Rattle.cilk_load_names.specs.Scope.{declared};
-ghost use Rattle.cilk_load_names.specs.Firsts.{block_first, locals_first};
+ghost use Rattle.cilk_tree_syntax.specs.Tree as tree;
+ghost use Rattle.cilk_tree_syntax.specs.Tree.{stmts_of, locals_of};
+ghost use Rattle.cilk_load_nodes.specs.labelled.Count.{count_shape, count_stmt, count_stmts, count_locals, count_block};
+ghost use Rattle.cilk_load_nodes.specs.labelled.Label.{stmt_variables, stmts_variables, locals_variables, block_variables};
+ghost use Rattle.cilk_load_nodes.specs.Plain.{PlainLocals, PlainStmt, PlainStmts, PlainBlock};
+ghost use Rattle.cilk_load_nodes.specs.declared.action.Action.TheVariants.{Test};
+ghost use Rattle.cilk_load.specs.Acts.{code_in};
+ghost use Rattle.cilk_load.specs.Scope.{declared};
+ghost use Rattle.cilk_load.specs.Firsts.{block_first, locals_first};
 ghost use Rattle.cilk_load.specs.Pass.{var_slot, bound_var, node, shape_nodes};
 ghost use Rattle.cilk_load.specs.Pass.{locals_scope, locals_nodes, stmt_nodes, stmts_nodes, block_nodes};
 
+use crate::acts::initialiser_in;
+use crate::binding::Binding;
+use crate::counts::{actions, actions_in, actions_of_locals, actions_of_stmts, count_part};
 use crate::exits::{Exits, exits_to, in_loop, in_switch};
+use crate::firsts::{block_first, first_if, locals_first};
 use crate::pass::{Pass, Site};
-use cilk_load_names::{
-    Binding, Block, Decl, Expr, Local, LocalNode, Move, NoRoom, Shape, Stmt, StmtNode, Var,
-    actions, actions_in, actions_of_locals, actions_of_stmts, block_first, count_part, first_if,
-    initialiser_in, locals_first, nowhere,
-};
+use crate::room::NoRoom;
+use crate::symbol_table::nowhere;
+use cilk_load_nodes::Var;
+use cilk_tree_syntax::{Block, Decl, Expr, Local, LocalNode, Move, Shape, Stmt, StmtNode};
 
 // What stands in the parentheses of a `for`.
 #[derive(Clone, Copy)]

@@ -1,28 +1,30 @@
 //! The nodes of whole bodies: of functions and procedures, and of the inlets in them.
 
 ghost use Rattle.std.specs.Prelude.{◌≡◌, ◌+◌, ◌≤◌, ◌<◌, ◌^◌, [], ◌∷◌, ◌++◌, IfOk, OnOk, length, vec_len};
-ghost use Rattle.cilk_load_names.specs.syntax.Tree as tree;
-ghost use Rattle.cilk_load_names.specs.syntax.Tree.{stmts_of, locals_of};
-ghost use Rattle.cilk_load_names.specs.syntax.ProgramView.{parameters_of};
-ghost use Rattle.cilk_load_names.specs.labelled.Count.{count_block, count_locals, count_item, count_items};
-ghost use Rattle.cilk_load_names.specs.labelled.Label.{locals_variables};
-ghost use Rattle.cilk_load_names.specs.labelled.Bodies.{parameter_variables, inlet_count, body_count};
-ghost use Rattle.cilk_load_names.specs.nodes.Plain.{PlainBlock, OuterLocals, OuterBlock, PlainItem, PlainItems};
-ghost use Rattle.cilk_load_names.specs.scopes.Scopes.{parameters_declare};
-ghost use Rattle.cilk_load_names.specs.nodes.Slots.{nowhere};
-ghost use Rattle.cilk_load_names.specs.Scope.{declared};
+ghost use Rattle.cilk_tree_syntax.specs.Tree as tree;
+ghost use Rattle.cilk_tree_syntax.specs.Tree.{stmts_of, locals_of};
+ghost use Rattle.cilk_tree_syntax.specs.ProgramView.{parameters_of};
+ghost use Rattle.cilk_load_nodes.specs.labelled.Count.{count_block, count_locals, count_item, count_items};
+ghost use Rattle.cilk_load_nodes.specs.labelled.Label.{locals_variables};
+ghost use Rattle.cilk_load_nodes.specs.labelled.Bodies.{parameter_variables, inlet_count, body_count};
+ghost use Rattle.cilk_load_nodes.specs.Plain.{PlainBlock, OuterLocals, OuterBlock, PlainItem, PlainItems};
+ghost use Rattle.cilk_load_nodes.specs.scopes.Scopes.{parameters_declare};
+ghost use Rattle.cilk_load_nodes.specs.Slots.{nowhere};
+ghost use Rattle.cilk_load.specs.Scope.{declared};
 ghost use Rattle.cilk_load.specs.Pass.{bound_number};
 ghost use Rattle.cilk_load.specs.Outer.{vars_at, body_exits, words_scope, parameters_scope};
 ghost use Rattle.cilk_load.specs.Outer.{inlet_nodes, outer_nodes, outer_scope, body_nodes, item_nodes, items_nodes};
 
+use crate::binding::Binding;
+use crate::counts::{actions_in, actions_of_locals, actions_of_stmts};
 use crate::exits::Exits;
+use crate::firsts::first_if;
 use crate::numbering::bound_var;
 use crate::pass::{Pass, Site};
-use cilk_load_names::{
-    Action, Binding, Block, Body, Inlet, Item, ItemNode, Local, LocalNode, NoRoom, Parameters,
-    Proc, SymbolTable, Var, Word, actions_in, actions_of_locals, actions_of_stmts, first_if,
-    nowhere,
-};
+use crate::room::NoRoom;
+use crate::symbol_table::{SymbolTable, nowhere};
+use cilk_load_nodes::{Action, Body, Var};
+use cilk_tree_syntax::{Block, Inlet, Item, ItemNode, Local, LocalNode, Parameters, Proc, Word};
 
 /// What stands for a lock or a body.
 pub(crate) fn bound_number(number: u32) -> Binding

@@ -2,7 +2,8 @@
 
 ghost use Rattle.std.specs.Prelude.{◌≡◌, ◌+◌, ◌≤◌, [], vec_len};
 
-use cilk_load_names::{Node, SymbolTable, Var};
+use crate::symbol_table::SymbolTable;
+use cilk_load_nodes::{Node, Var};
 use std::alloc::Global;
 
 /// The nodes that are written, and the names that are visible.

@@ -1,18 +1,21 @@
 //! The nodes of single actions.
 
 ghost use Rattle.std.specs.Prelude.{◌≡◌, ◌+◌, ◌≤◌, ◌∷◌, [], ◌++◌, IfOk, OnOk, vec_len};
-ghost use Rattle.cilk_load_names.specs.labelled.Count.{count_option, count_block};
-ghost use Rattle.cilk_load_names.specs.nodes.declared.action.Action.TheVariants.{Test};
-ghost use Rattle.cilk_load_names.specs.Acts.{code_in, action_in};
+ghost use Rattle.cilk_load_nodes.specs.labelled.Count.{count_option, count_block};
+ghost use Rattle.cilk_load_nodes.specs.declared.action.Action.TheVariants.{Test};
+ghost use Rattle.cilk_load.specs.Acts.{code_in, action_in};
 ghost use Rattle.cilk_load.specs.Pass.{node, switch_test, onward, part_nodes, behind, single_nodes};
 
+use crate::acts::action_in;
+use crate::code::code_in;
+use crate::counts::actions_of_locals;
 use crate::exits::Exits;
 use crate::labels::{cases_in, default_in};
+use crate::moves::move_in;
 use crate::pass::Pass;
-use cilk_load_names::{
-    Action, Block, Cases, Expr, Move, NoRoom, Node, Stmt, StmtNode, action_in, actions_of_locals,
-    code_in, move_in,
-};
+use crate::room::NoRoom;
+use cilk_load_nodes::{Action, Cases, Node};
+use cilk_tree_syntax::{Block, Expr, Move, Stmt, StmtNode};
 
 impl<'a> Pass<'a> {
     /// The first part or the advance of a `for`, if there is one.

@@ -1,7 +1,7 @@
 //! The tables of a program, which all copies of it share, and what holds of them together.
 
 use cilk_check::Checked;
-use cilk_load_names::{Body, Node, Var};
+use cilk_load_nodes::{Body, Node, Var};
 use std::marker::Model;
 
 /// A program and its tables, seen as the program.

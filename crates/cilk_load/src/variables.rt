@@ -1,18 +1,18 @@
 //! The variables of one body, in their slots: parameters first, and then what its blocks declare.
 
 ghost use Rattle.std.specs.Prelude.{◌≡◌, ◌+◌, pos, [], ◌∷◌, ◌++◌, max, IfOk, OnOk, map};
-ghost use Rattle.cilk_load_names.specs.nodes.declared.area.Area.TheVariants.{Own};
-ghost use Rattle.cilk_load_names.specs.syntax.Tree.{stmts_of, locals_of};
-ghost use Rattle.cilk_load_names.specs.syntax.MoveView.{shape_of};
-ghost use Rattle.cilk_load_names.specs.syntax.ProgramView.{parameters_of};
-ghost use Rattle.cilk_load_names.specs.labelled.Label.{shape_length, stmt_variables, stmts_variables, local_variables, locals_variables, block_variables};
-ghost use Rattle.cilk_load_names.specs.labelled.Bodies.{one_cell, parameter_variables};
-ghost use Rattle.cilk_load_names.specs.nodes.Slots.{cells_of};
-ghost use Rattle.cilk_load_names.specs.nodes.Bodies.{vars_from};
+ghost use Rattle.cilk_load_nodes.specs.declared.area.Area.TheVariants.{Own};
+ghost use Rattle.cilk_tree_syntax.specs.Tree.{stmts_of, locals_of};
+ghost use Rattle.cilk_tree_syntax.specs.MoveView.{shape_of};
+ghost use Rattle.cilk_tree_syntax.specs.ProgramView.{parameters_of};
+ghost use Rattle.cilk_load_nodes.specs.labelled.Label.{shape_length, stmt_variables, stmts_variables, local_variables, locals_variables, block_variables};
+ghost use Rattle.cilk_load_nodes.specs.labelled.Bodies.{one_cell, parameter_variables};
+ghost use Rattle.cilk_load_nodes.specs.Slots.{cells_of};
+ghost use Rattle.cilk_load_nodes.specs.Bodies.{vars_from};
 
-use cilk_load_names::{
-    Area, Block, Local, LocalNode, Name, NoRoom, Parameters, Shape, Slot, Stmt, StmtNode, Var, Word,
-};
+use crate::room::NoRoom;
+use cilk_load_nodes::{Area, Name, Slot, Var};
+use cilk_tree_syntax::{Block, Local, LocalNode, Parameters, Shape, Stmt, StmtNode, Word};
 use std::alloc::Global;
 
 /// A name of its own.

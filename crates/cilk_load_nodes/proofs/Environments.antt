@@ -1,7 +1,7 @@
 -- The value of an expression in two environments, and under other names for its places.
 use Rattle.std.proofs.Common.{◌≡◌, ℕ, ℤ, pos, negsuc, Bool, true, false, cond, nat_lt, Ok, Err, Result, refl, ap, ◌∙◌}
-use Rattle.cilk_model.specs.labelled.declared.trap.Trap.{Trap}
-use Rattle.cilk_model.specs.labelled.declared.trap.Trap.TheVariants.{Index}
+use Rattle.cilk_model.specs.declared.trap.Trap.{Trap}
+use Rattle.cilk_model.specs.declared.trap.Trap.TheVariants.{Index}
 use borrow.Author.Tests.{ltb-true}
 use Rattle.cilk_model.specs.labelled.Arithmetic.{truth, is_zero, unary_result}
 use Rattle.cilk_model.specs.labelled.Term.{Term, number, variable, element, synched, unary, binary, choose, rename}

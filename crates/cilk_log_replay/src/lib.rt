@@ -7,9 +7,10 @@ mod replaying;
 
 pub use cilk_log::{Choices, Log, LogFault, read_log, write_log};
 pub use cilk_machine::{
-    Access, Act, Action, Checkpoint, Choice, Did, End, Id, Loaded, Machine, MachineFault, Memory,
-    Outcome, Path, Refusal, Scene, Spot, Taker, Telling, Trap, TrapKind, ViewFault, What,
-    accesses_in, locks_in, number_in, put_trapped,
+    Access, Act, Action, Area, Checkpoint, Choice, Code, CodeNode, Did, End, Id, Loaded,
+    LockAction, Machine, MachineFault, Memory, Outcome, Path, Plan, Portion, Refusal, Scene, Slot,
+    Spot, Taker, Telling, Trap, TrapKind, ViewFault, What, accesses_in, locks_in, look_ahead,
+    number_in, plan_step, put_trapped, send, send_told,
 };
 pub use laws::none_is_bad;
 pub use replay_fault::ReplayFault;

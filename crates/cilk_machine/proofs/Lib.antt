@@ -36,3 +36,4 @@ pub use Rattle.cilk_machine_choices.proofs as choices_laws
 pub use Rattle.cilk_machine_step.proofs as step_laws
 pub use Rattle.cilk_view.proofs.explore_laws
 pub mod Checkpoints
+pub use Rattle.cilk_view.proofs.Fronts

@@ -5,7 +5,7 @@ use Rattle.cilk_machine_undo.specs.labelled.Bodies.{label}
 use Rattle.cilk_machine_choices.specs.model.Scheduler as sched
 use Rattle.cilk_machine_choices.specs.model.Hands.{hand_of}
 use Rattle.cilk_machine_choices.specs.model.Run.{Standing, event_by_hand, event_of, event_of_step}
-use Rattle.cilk_machine_undo.proofs.effects_laws.Known.{heads, follows}
+use Rattle.cilk_machine_undo.proofs.effects_laws.KnownActions.{heads, follows}
 use Rattle.cilk_machine_undo.proofs.agree_laws.Asked.{asked}
 use Rattle.cilk_machine_undo.specs.agree.Agrees.{name_in}
 use Rattle.cilk_machine_undo.specs.agree.Laws.{InHand, instance_of}

@@ -13,7 +13,7 @@ use Rattle.cilk_machine_choices.specs.declared.refusal.Refusal.TheVariants.{Over
 use Rattle.cilk_machine_undo.specs.eval.Known.{known}
 use Rattle.cilk_machine_undo.specs.eval.declared.known.Known.{Known}
 use Rattle.cilk_machine_undo.specs.nodes.declared.slot.Slot.{Slot}
-use Rattle.cilk_machine_undo.specs.labelled.declared.trap.Trap.{Trap}
+use Rattle.cilk_machine_choices.specs.model.declared.trap.Trap.{Trap}
 use Rattle.cilk_machine_undo.specs.labelled.Term.{Term}
 use Rattle.cilk_machine_undo.specs.labelled.Value.{value_of}
 use Rattle.cilk_machine_step.specs.Peeks.{Peek, peek_in}

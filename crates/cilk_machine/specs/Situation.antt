@@ -4,7 +4,7 @@ use Rattle.cilk_machine_undo.specs.syntax.Tree as tree
 use Rattle.cilk_machine_undo.specs.frame.Frames.{Frame}
 use Rattle.cilk_machine_undo.specs.agree.Outside as outside
 use Rattle.cilk_machine_undo.specs.agree.Agrees.{MachineParts}
-use Rattle.cilk_machine_undo.specs.spawn.Kinds.{kind_of}
+use Rattle.cilk_machine_undo.specs.frame.Kinds.{kind_of}
 use Rattle.cilk_machine_undo.specs.plans.StepInput.{StepInput}
 use Rattle.cilk_machine_choices.specs.declared.outcome.Outcome.{Outcome}
 use Rattle.cilk_machine_choices.specs.declared.outcome.Outcome.TheVariants.{Running, Finished, Trapped}

@@ -5,7 +5,7 @@ ghost use Rattle.cilk_machine_choices.specs.model.Choice.{Choice};
 ghost use Rattle.cilk_machine_choices.specs.model.Event.{Event};
 ghost use Rattle.cilk_machine_choices.specs.model.Run.{Standing};
 ghost use Rattle.cilk_machine_choices.specs.model.Views.{shown};
-ghost use Rattle.cilk_view.specs.Words.{what_of};
+ghost use Rattle.cilk_machine_undo.specs.frame.Asked.{what_of};
 ghost use Rattle.cilk_machine.specs.Stands.{Led};
 
 use crate::machine::Machine;

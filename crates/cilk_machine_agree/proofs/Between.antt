@@ -5,7 +5,7 @@ use Rattle.std.specs.List.{list_any}
 use Rattle.cilk_laws_model.specs.model.Path.{is_child}
 use Rattle.cilk_laws_model.specs.model.Hands.{IsWorker, hand_of, deque_of, with_hand}
 use Rattle.cilk_spawn.specs.declared.fate.Fate.TheVariants.{Aborted}
-use Rattle.cilk_spawn.specs.declared.receiver.Receiver.TheVariants.{Nothing}
+use Rattle.cilk_spawn.specs.frame.declared.receiver.Receiver.TheVariants.{Nothing}
 use Rattle.cilk_spawn.specs.Nodes.{Node, IsTree, no_node, node_at, is_live, has_live_child, takes_value, delivery_of, delivered, delivered_to}
 use Rattle.cilk_spawn.specs.Nodes.{without_receiver, path_at}
 use Rattle.cilk_spawn.proofs.Trees.{live_there}

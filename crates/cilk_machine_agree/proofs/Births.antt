@@ -19,7 +19,7 @@ use Rattle.cilk_laws_model.proofs.Entries.{live-cons}
 use Rattle.cilk_sched.specs.frame.Frames.{Frame}
 use Rattle.cilk_sched.specs.frame.Stands.{StandsFor}
 use Rattle.cilk_spawn.specs.declared.delivery.Delivery.{Delivery}
-use Rattle.cilk_spawn.specs.declared.receiver.Receiver.{Receiver}
+use Rattle.cilk_spawn.specs.frame.declared.receiver.Receiver.{Receiver}
 use Rattle.cilk_spawn.specs.Nodes.{Node, IsTree, IsFrom, node_at, is_live, live_ids, new_child, with_child, path_at}
 use Rattle.cilk_spawn.proofs.Lists.{decide, map_those, those_pass}
 use Rattle.cilk_spawn.proofs.Trees.{ids_same, path_child, child_there, live_there}

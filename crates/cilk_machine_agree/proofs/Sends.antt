@@ -16,8 +16,8 @@ use Rattle.cilk_sched.specs.frame.Frames.{Frame}
 use Rattle.cilk_sched.specs.frame.Stands.{StandsFor}
 use Rattle.cilk_spawn.specs.declared.delivery.Delivery.{Delivery}
 use Rattle.cilk_spawn.specs.declared.fate.Fate.TheVariants.{Returned}
-use Rattle.cilk_spawn.specs.declared.receiver.Receiver.{Receiver}
-use Rattle.cilk_spawn.specs.declared.receiver.Receiver.TheVariants as takers
+use Rattle.cilk_spawn.specs.frame.declared.receiver.Receiver.{Receiver}
+use Rattle.cilk_spawn.specs.frame.declared.receiver.Receiver.TheVariants as takers
 use Rattle.cilk_spawn.specs.Nodes.{Node, IsFrom, node_at, is_live, has_live_child, takes_value, delivery_of, delivered, with_waiting, ended, path_at}
 use Rattle.cilk_spawn.proofs.Trees.{live_there}
 use Rattle.cilk_spawn.proofs.Children.{parent_other}

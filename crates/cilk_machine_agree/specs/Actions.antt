@@ -22,7 +22,7 @@ use Rattle.cilk_sched.specs.frame.Frames.{Frame, jumped, with_boundary, gone_to,
 use Rattle.cilk_sched.specs.frame.Begins.{Takes, first_activation, started}
 use Rattle.cilk_sched.specs.frame.Cells.{SameCell, frame_put, globals_put}
 use Rattle.cilk_sched.specs.frame.Stands.{AwaitsSame, bodies_of}
-use Rattle.cilk_spawn.specs.declared.receiver.Receiver.{Receiver}
+use Rattle.cilk_spawn.specs.frame.declared.receiver.Receiver.{Receiver}
 use Rattle.cilk_spawn.specs.Nodes.{Node, descends, marked_below, path_at}
 use Rattle.cilk_machine_agree.specs.Outside as outside
 use Rattle.cilk_machine_agree.specs.declared.lock.Lock.{Lock}

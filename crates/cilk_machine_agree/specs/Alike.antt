@@ -14,8 +14,8 @@ use Rattle.cilk_sched.specs.nodes.declared.node.Node as action
 use Rattle.cilk_sched.specs.frame.Cells.{SameCell}
 use Rattle.cilk_sched.specs.frame.Stands.{node_in, bodies_of, lowest_of}
 use Rattle.cilk_spawn.specs.declared.delivery.Delivery.{Delivery}
-use Rattle.cilk_spawn.specs.declared.receiver.Receiver.{Receiver}
-use Rattle.cilk_spawn.specs.declared.receiver.Receiver.TheVariants.{Nothing, Place, Call}
+use Rattle.cilk_spawn.specs.frame.declared.receiver.Receiver.{Receiver}
+use Rattle.cilk_spawn.specs.frame.declared.receiver.Receiver.TheVariants.{Nothing, Place, Call}
 use Rattle.cilk_spawn.specs.Nodes.{Node, node_at, is_live}
 
 -- spawn n stands in body b, and its inlet is this one, which is given so many values behind the child's

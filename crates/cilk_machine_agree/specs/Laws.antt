@@ -20,7 +20,7 @@ use Rattle.cilk_sched.specs.frame.Frames.{Frame}
 use Rattle.cilk_sched.specs.frame.Stands.{StandsFor}
 use Rattle.cilk_spawn.specs.declared.fate.Fate.{Fate}
 use Rattle.cilk_spawn.specs.declared.fate.Fate.TheVariants.{Returned, Aborted}
-use Rattle.cilk_spawn.specs.declared.receiver.Receiver.{Receiver}
+use Rattle.cilk_spawn.specs.frame.declared.receiver.Receiver.{Receiver}
 use Rattle.cilk_spawn.specs.Nodes.{Node, AreFrom, node_at, is_live, lives, with_fate, has_live_child, root_alone, new_child, with_child, with_parked}
 use Rattle.cilk_spawn.specs.Nodes.{takes_value, delivered, ended, marked_below, descends, path_at}
 use Rattle.cilk_machine_agree.specs.Outside as outside

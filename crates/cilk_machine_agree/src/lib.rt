@@ -9,7 +9,7 @@ pub use cilk_laws_model::{Global, GlobalShape, Item, ItemNode, Program, Word};
 pub use cilk_sched::{Activation, Area, Body, Hands, HandsImage, Var};
 pub use cilk_spawn::{
     Delivery, Ending, Fate, Frame, Id, LivingImage, Mixer, Path, Remains, Taken, TrapKind, Tree,
-    TreeImage,
+    TreeImage, What,
 };
 pub use laws::{
     actions_keep_agreement, fates_are_kept, fates_are_one, moves_keep_agreement,

@@ -17,7 +17,7 @@ use Rattle.cilk_machine_plan.specs.nodes.Bodies.{body_of}
 use Rattle.cilk_machine_plan.specs.frame.declared.awaited.Await.{Await}
 use Rattle.cilk_machine_plan.specs.spawn.declared.fate.Fate.{Fate}
 use Rattle.cilk_machine_plan.specs.spawn.declared.fate.Fate.TheVariants as fate
-use Rattle.cilk_machine_plan.specs.spawn.declared.receiver.Receiver.{Receiver}
+use Rattle.cilk_machine_plan.specs.frame.declared.receiver.Receiver.{Receiver}
 use Rattle.cilk_machine_plan.specs.spawn.Nodes.{Node, with_child, descends, path_at}
 use Rattle.cilk_machine_plan.proofs.spawn_laws.Trees.{path_child}
 use Rattle.cilk_machine_plan.proofs.spawn_laws.Children.{parent_in}
@@ -36,10 +36,10 @@ use Rattle.cilk_machine_plan.proofs.agree_laws.Returns.{returns-agree, ends-agre
 use Rattle.cilk_machine_plan.proofs.agree_laws.Actions.{told, going-agrees, writes-agree, calls-agree, leaves-agree, answers-agree, prints-agree}
 use Rattle.cilk_machine_plan.proofs.agree_laws.Actions.{locks-agree, traps-agree, aborts-agree}
 use Rattle.cilk_machine_plan.proofs.agree_laws.Inlets.{deliveries-agree, inlets-agree, starts-agree}
-use Rattle.cilk_machine_plan.specs.spawn.declared.trap_kind.TrapKind.{TrapKind}
+use Rattle.cilk_machine_plan.specs.frame.declared.trap_kind.TrapKind.{TrapKind}
 use Rattle.cilk_machine_plan.specs.declared.plan.Plan.{Plan}
 use Rattle.cilk_machine_plan.specs.declared.plan.Plan.TheVariants as plan
-use Rattle.cilk_machine_plan.specs.spawn.Kinds.{kind_of}
+use Rattle.cilk_machine_plan.specs.frame.Kinds.{kind_of}
 use Rattle.cilk_machine_plan.specs.Plans.{IsPlan, step_in, acts, Ends, TakesOldest, Enters, Goes, Writes, Calls, Leaves, Answers, Returns, Spawns}
 use Rattle.cilk_machine_plan.specs.Plans.{Prints, TurnsLock, Aborts}
 use Rattle.cilk_machine_plan.specs.declared.did.Did.{Did}

@@ -10,8 +10,8 @@ use Rattle.cilk_machine_plan.specs.model.Event.{Event}
 use Rattle.cilk_machine_plan.specs.model.Made.{callee_of}
 use Rattle.cilk_machine_plan.specs.spawn.declared.delivery.Delivery.{Delivery}
 use Rattle.cilk_machine_plan.specs.spawn.declared.fate.Fate.{Fate}
-use Rattle.cilk_machine_plan.specs.spawn.declared.receiver.Receiver.{Receiver}
-use Rattle.cilk_machine_plan.specs.spawn.declared.receiver.Receiver.TheVariants.{Nothing}
+use Rattle.cilk_machine_plan.specs.frame.declared.receiver.Receiver.{Receiver}
+use Rattle.cilk_machine_plan.specs.frame.declared.receiver.Receiver.TheVariants.{Nothing}
 use Rattle.cilk_machine_plan.specs.spawn.Nodes.{Node, IsTree, no_node, node_at, takes_value, with_child, with_parked, with_waiting, delivery_of}
 use Rattle.cilk_machine_plan.specs.spawn.Nodes.{delivered_to, without_receiver, after_taking, value_taken, taken, ended, marked_below, path_at}
 use Rattle.cilk_machine_plan.proofs.spawn_laws.Lists.{at_set}

@@ -2,7 +2,7 @@
 use Rattle.std.proofs.Common.{◌≡◌, ℕ, suc, ◌-◌, Bool, true, List, [], ◌∷◌, length, Some, refl, sym, ap, ◌∙◌, if◌then◌else◌, eq-eqb, arith}
 use Rattle.std.specs.Prelude.{◌==◌, slice_get, option_map, unwrap_or, codes}
 use Rattle.std.proofs.lemmas.Bool.{ne_eqb}
-use Rattle.cilk_spawn.specs.model.End.{ends_in_newline, line_break}
+use Rattle.cilk_frame.specs.model.End.{ends_in_newline, line_break}
 
 ends_in_newline-last : (bytes : List ℕ) → ends_in_newline bytes ≡ unwrap_or (option_map (λ b. b == 10) (slice_get bytes (length bytes - 1))) true
 ends_in_newline-last [] = refl

@@ -1,14 +1,14 @@
 -- What the choices, refusals, events and ends of the code mean.
 use Rattle.std.specs.Prelude.{ℕ, List, ◌++◌, codes, decimal, Option, Some, None}
-use Rattle.cilk_spawn.specs.model.Path.{Path, path_text}
-use Rattle.cilk_spawn.specs.model.State as state
-use Rattle.cilk_spawn.specs.model.Choice as model
-use Rattle.cilk_spawn.specs.model.Event as event
-use Rattle.cilk_spawn.specs.model.End as end
+use Rattle.cilk_frame.specs.model.Path.{Path, path_text}
+use Rattle.cilk_frame.specs.model.State as state
+use Rattle.cilk_frame.specs.model.Choice as model
+use Rattle.cilk_frame.specs.model.Event as event
+use Rattle.cilk_frame.specs.model.End as end
 use Rattle.cilk_machine_choices.specs.declared.act.Act.{Act}
 use Rattle.cilk_machine_choices.specs.declared.act.Act.TheVariants.{Step, Pop, Steal}
 use Rattle.cilk_machine_choices.specs.declared.choice.Choice.{Choice}
-use Rattle.cilk_spawn.specs.Kinds.{kind_of}
+use Rattle.cilk_frame.specs.Kinds.{kind_of}
 use Rattle.cilk_machine_choices.specs.declared.outcome.Outcome.{Outcome}
 use Rattle.cilk_machine_choices.specs.declared.outcome.Outcome.TheVariants as outcome
 use Rattle.cilk_machine_choices.specs.declared.event.Event.{Event}

@@ -1,12 +1,12 @@
 //! The closing text of a run.
 
 ghost use Rattle.std.specs.Prelude.{◌≡◌, IfOk, string_bytes};
-ghost use Rattle.cilk_spawn.specs.model.End.{line_break, end_text, ending};
+ghost use Rattle.cilk_frame.specs.model.End.{line_break, end_text, ending};
 ghost use Rattle.cilk_machine_choices.specs.Words.{end_of};
 
 use crate::end::End;
 use crate::naming::put_trapped;
-use cilk_spawn::Memory;
+use cilk_frame::Memory;
 use std::alloc::Global;
 
 /// The closing text of a run: what the program printed, on lines of its own, and a line that tells

@@ -1,6 +1,6 @@
 //! How a run may close: with the value of `main`, with a trap, stuck, or with more choices possible.
 
-use cilk_spawn::{Path, TrapKind};
+use cilk_frame::{Path, TrapKind};
 
 /// How a program stands when no more choices are made.
 #[derive(Debug, Drop)]

@@ -1,6 +1,6 @@
 //! The events by which a machine tells what a choice did, with paths and the numbers of actions.
 
-use cilk_spawn::{Path, TrapKind};
+use cilk_frame::{Path, TrapKind};
 
 /// What a choice did. The number n is that of an action of the program.
 #[derive(Debug, Drop)]

@@ -1,6 +1,6 @@
 //! What keeps a program from being opened as a machine: the number of its workers, or want of memory.
 
-use cilk_spawn::Memory;
+use cilk_frame::Memory;
 use thiserror::Error;
 
 /// Why there is no machine.

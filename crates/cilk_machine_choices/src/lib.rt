@@ -14,7 +14,7 @@ mod refusal;
 
 pub use act::Act;
 pub use choice::Choice;
-pub use cilk_spawn::{Memory, Path, Trap, TrapKind};
+pub use cilk_frame::{Memory, Path, Trap, TrapKind, What};
 pub use closing::ending;
 pub use end::End;
 pub use event::Event;

@@ -1,12 +1,12 @@
 //! How a trap is told: by its kind, and by the path of its instance.
 
 ghost use Rattle.std.specs.Prelude.{◌≡◌};
-ghost use Rattle.cilk_spawn.specs.syntax.Appends.{Appends};
-ghost use Rattle.cilk_spawn.specs.model.End.{kind_text, trap_text};
-ghost use Rattle.cilk_spawn.specs.Kinds.{kind_of};
+ghost use Rattle.cilk_frame.specs.syntax.Appends.{Appends};
+ghost use Rattle.cilk_frame.specs.model.End.{kind_text, trap_text};
+ghost use Rattle.cilk_frame.specs.Kinds.{kind_of};
 ghost use Rattle.cilk_machine_choices.specs.Words.{trapped_text};
 
-use cilk_spawn::{Memory, Path, Trap, TrapKind};
+use cilk_frame::{Memory, Path, Trap, TrapKind};
 
 /// That the instance was trapped at action n, which stands on that line.
 pub fn put_trapped(

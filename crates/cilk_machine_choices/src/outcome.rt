@@ -1,6 +1,6 @@
 //! The outcome that a machine has behind each choice: running, finished with a value, or trapped.
 
-use cilk_spawn::{Path, TrapKind};
+use cilk_frame::{Path, TrapKind};
 
 /// Whether a program has ended, and how.
 #[derive(Debug, Drop)]

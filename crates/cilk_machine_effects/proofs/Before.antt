@@ -1,27 +1,27 @@
 -- What the instance of a frame has before it.
 use Rattle.std.proofs.Common.{pos, ◌≡◌, ℕ, ◌<◌, ℤ, List, ◌∷◌, length, Option, Some, None, IsSome, refl, sym, ap, ◌∙◌, subst}
 use Rattle.std.specs.Prelude.{option_map}
-use Rattle.cilk_check.specs.syntax.Tree.{Program}
-use Rattle.cilk_check.specs.scopes.WellFormed.{WellFormed}
-use Rattle.cilk_spawn.specs.labelled.Labelled.{Numbered}
-use Rattle.cilk_spawn.specs.labelled.Items.{Items, head_of, reached}
-use Rattle.cilk_spawn.specs.labelled.Bodies.{label}
-use Rattle.cilk_spawn.specs.model.Instance.{Instance, body_at}
+use Rattle.cilk_eval.specs.syntax.Tree.{Program}
+use Rattle.cilk_eval.specs.scopes.WellFormed.{WellFormed}
+use Rattle.cilk_eval.specs.labelled.Labelled.{Numbered}
+use Rattle.cilk_eval.specs.labelled.Items.{Items, head_of, reached}
+use Rattle.cilk_eval.specs.labelled.Bodies.{label}
+use Rattle.cilk_eval.specs.model.Instance.{Instance, body_at}
 use Rattle.cilk_machine_effects.specs.Heads.{GoesOn}
-use Rattle.cilk_spawn.specs.nodes.Slots.{slot_of}
-use Rattle.cilk_spawn.specs.nodes.Actions.{slotted}
-use Rattle.cilk_spawn.specs.nodes.declared.node.Node.{Node}
-use Rattle.cilk_spawn.specs.nodes.Table.{number_of, number_after, node_of, number_else, cases_of}
-use Rattle.cilk_spawn.specs.nodes.Bodies.{body_of}
-use Rattle.cilk_spawn.specs.nodes.Laws.{items_at}
-use Rattle.cilk_spawn.proofs.frame_laws.nodes_laws.Heads.{nodes-stand, bodies-have}
-use Rattle.cilk_spawn.specs.frame.Frames.{Frame, top_of}
-use Rattle.cilk_spawn.specs.frame.Stands.{StandsFor}
-use Rattle.cilk_spawn.specs.frame.Begins.{Takes}
-use Rattle.cilk_spawn.proofs.frame_laws.Tops.{top-stands}
+use Rattle.cilk_eval.specs.nodes.Slots.{slot_of}
+use Rattle.cilk_eval.specs.nodes.Actions.{slotted}
+use Rattle.cilk_eval.specs.nodes.declared.node.Node.{Node}
+use Rattle.cilk_eval.specs.nodes.Table.{number_of, number_after, node_of, number_else, cases_of}
+use Rattle.cilk_eval.specs.nodes.Bodies.{body_of}
+use Rattle.cilk_eval.specs.nodes.Laws.{items_at}
+use Rattle.cilk_eval.proofs.frame_laws.nodes_laws.Heads.{nodes-stand, bodies-have}
+use Rattle.cilk_eval.specs.frame.Frames.{Frame, top_of}
+use Rattle.cilk_eval.specs.frame.Stands.{StandsFor}
+use Rattle.cilk_eval.specs.frame.Begins.{Takes}
+use Rattle.cilk_eval.proofs.frame_laws.Tops.{top-stands}
 use Rattle.cilk_machine_effects.specs.Known.{KnownAct}
 use Rattle.cilk_machine_effects.specs.Before.{Before}
-use Rattle.cilk_machine_effects.proofs.Known.{heads, follows}
+use Rattle.cilk_machine_effects.proofs.KnownActions.{heads, follows}
 
 record HasHead (items : Items) (n : ℕ) : Type 0 where
   head : Numbered

@@ -4,19 +4,19 @@ use Rattle.std.proofs.Common.{inl, inr, refl, sym, subst, arith}
 use Rattle.std.specs.Prelude.{All}
 use Rattle.std.proofs.lemmas.List.{length-map}
 use Rattle.std.proofs.lemmas.List.Elements.{All-nil, All-cons}
-use Rattle.cilk_check.specs.syntax.Tree.{Word}
-use Rattle.cilk_check.specs.syntax.Tree as tree
-use Rattle.cilk_check.specs.scopes.Parts.{place_exprs, target_exprs, move_exprs, taker_exprs}
-use Rattle.cilk_check.proofs.scopes_laws.Elements.{Has, Has-append_left, Has-append_right}
-use Rattle.cilk_check.specs.scopes.declared.role.Role.TheVariants as role
-use Rattle.cilk_check.specs.scopes.Uses.{Use, use_as, expr_uses, place_role, place_uses, target_uses, move_uses, taker_uses, takes_value}
-use Rattle.cilk_spawn.specs.labelled.Labelled as labelled
-use Rattle.cilk_spawn.specs.labelled.Labelled.{Labelled}
-use Rattle.cilk_spawn.specs.labelled.Names.{Names, meaning_of, number_of, label_expr, label_index, label_place, label_target}
-use Rattle.cilk_spawn.specs.labelled.Label.{label_move, label_taker}
-use Rattle.cilk_spawn.specs.labelled.Bodies.{is_procedure}
+use Rattle.cilk_eval.specs.syntax.Tree.{Word}
+use Rattle.cilk_eval.specs.syntax.Tree as tree
+use Rattle.cilk_eval.specs.scopes.Parts.{place_exprs, target_exprs, move_exprs, taker_exprs}
+use Rattle.cilk_eval.proofs.scopes_laws.Elements.{Has, Has-append_left, Has-append_right}
+use Rattle.cilk_eval.specs.scopes.declared.role.Role.TheVariants as role
+use Rattle.cilk_eval.specs.scopes.Uses.{Use, use_as, expr_uses, place_role, place_uses, target_uses, move_uses, taker_uses, takes_value}
+use Rattle.cilk_eval.specs.labelled.Labelled as labelled
+use Rattle.cilk_eval.specs.labelled.Labelled.{Labelled}
+use Rattle.cilk_eval.specs.labelled.Names.{Names, meaning_of, number_of, label_expr, label_index, label_place, label_target}
+use Rattle.cilk_eval.specs.labelled.Label.{label_move, label_taker}
+use Rattle.cilk_eval.specs.labelled.Bodies.{is_procedure}
 use Rattle.cilk_machine_effects.specs.Known as known
-use Rattle.cilk_spawn.specs.frame.Reads.{IsKnown}
+use Rattle.cilk_eval.specs.frame.Reads.{IsKnown}
 use Rattle.cilk_machine_effects.specs.Known.{owner_of, KnownTarget, KnownPlace, Calls, Spawns, KnownTaker, KnownAct}
 use Rattle.cilk_machine_effects.proofs.Facts.{Sound}
 use Rattle.cilk_machine_effects.proofs.Meant.{FitNames, use_serves}

@@ -1,32 +1,31 @@
 -- What the rules say of the parts of a well-formed program.
 use Rattle.std.proofs.Common.{◌≡◌, ◌≢◌, ℕ, ◌<◌, ◌≤◌, Bool, true, false, IsTrue, ◌&&◌, nat_eq, nat_le, List, [], flat_map, length, Option, Some, None}
-use Rattle.std.proofs.Common.{is_some, codes, inl, inr, refl, sym, ap, ◌∙◌, arith}
-use Rattle.std.proofs.lemmas.Bool.{true_from_ne_false}
+use Rattle.std.proofs.Common.{is_some, codes, inl, inr, refl, sym, ap, ◌∙◌, arith, Decides}
+use Rattle.std.proofs.lemmas.Bool.{true_from_ne_false, false≢true}
 use Rattle.std.specs.List.{Contains}
 use Rattle.std.proofs.lemmas.Bool.Decides.{Decides-eqb, nat_tests}
-use Rattle.cilk_check.specs.syntax.declared.return_type.ReturnType.TheVariants as returns
-use Rattle.cilk_check.specs.syntax.Tree.{Word}
-use Rattle.cilk_check.specs.syntax.Tree as tree
-use Rattle.cilk_check.specs.scopes.declared.owner.Owner.{Owner}
-use Rattle.cilk_check.specs.scopes.declared.owner.Owner.TheVariants as owner
-use Rattle.cilk_check.specs.scopes.declared.declaration_kind.DeclarationKind.TheVariants as kind
-use Rattle.cilk_check.specs.scopes.Scopes.{Declared, meaning, kind_of_global, item_declares, file_declares}
-use Rattle.cilk_check.specs.scopes.Parts.{Around, Part, local, statement, PartInContext, parts_of}
-use Rattle.cilk_check.specs.scopes.Declarations.{Declaring, declaring, item_parameters, part_declarings, declarings_of}
-use Rattle.cilk_check.proofs.scopes_laws.Elements.{Has, Contains-from_Has, Has-append_left, Has-append_right, Has-flat_map}
-use Rattle.cilk_check.proofs.scopes_laws.Splits.{declared_behind}
-use Rattle.cilk_check.specs.scopes.declared.role.Role.TheVariants as role
-use Rattle.cilk_check.specs.scopes.Uses.{Use, part_uses, uses_of}
-use Rattle.cilk_check.specs.scopes.NameFaults as names
-use Rattle.cilk_check.specs.scopes.NameFaults.{fits, arguments_of, parameters_of, is_for_value, Means}
-use Rattle.cilk_check.specs.NameFinds.{is_reserved}
-use Rattle.cilk_check.proofs.Decided.{reserved-Decides, not_from}
-use Rattle.cilk_check.specs.scopes.Format.{numbers_in}
-use Rattle.cilk_check.specs.scopes.Cells.{is_length}
-use Rattle.cilk_check.specs.scopes.Forms as forms
-use Rattle.cilk_check.specs.scopes.Forms.{words_of_children, returned_by, has_form}
-use Rattle.cilk_spawn.specs.labelled.Bodies.{is_procedure}
-use Rattle.cilk_check.specs.scopes.WellFormed.{WellFormed}
+use Rattle.cilk_eval.specs.syntax.declared.return_type.ReturnType.TheVariants as returns
+use Rattle.cilk_eval.specs.syntax.Tree.{Word}
+use Rattle.cilk_eval.specs.syntax.Tree as tree
+use Rattle.cilk_eval.specs.scopes.declared.owner.Owner.{Owner}
+use Rattle.cilk_eval.specs.scopes.declared.owner.Owner.TheVariants as owner
+use Rattle.cilk_eval.specs.scopes.declared.declaration_kind.DeclarationKind.TheVariants as kind
+use Rattle.cilk_eval.specs.scopes.Scopes.{Declared, meaning, kind_of_global, item_declares, file_declares}
+use Rattle.cilk_eval.specs.scopes.Parts.{Around, Part, local, statement, PartInContext, parts_of}
+use Rattle.cilk_eval.specs.scopes.Declarations.{Declaring, declaring, item_parameters, part_declarings, declarings_of}
+use Rattle.cilk_eval.proofs.scopes_laws.Elements.{Has, Contains-from_Has, Has-append_left, Has-append_right, Has-flat_map}
+use Rattle.cilk_eval.proofs.scopes_laws.Splits.{declared_behind}
+use Rattle.cilk_eval.specs.scopes.declared.role.Role.TheVariants as role
+use Rattle.cilk_eval.specs.scopes.Uses.{Use, part_uses, uses_of}
+use Rattle.cilk_eval.specs.scopes.NameFaults as names
+use Rattle.cilk_eval.specs.scopes.NameFaults.{fits, arguments_of, parameters_of, is_for_value, Means}
+use Rattle.cilk_eval.specs.scopes.Reserved.{IsReserved}
+use Rattle.cilk_eval.specs.scopes.Format.{numbers_in}
+use Rattle.cilk_eval.specs.scopes.Cells.{is_length}
+use Rattle.cilk_eval.specs.scopes.Forms as forms
+use Rattle.cilk_eval.specs.scopes.Forms.{words_of_children, returned_by, has_form}
+use Rattle.cilk_eval.specs.labelled.Bodies.{is_procedure}
+use Rattle.cilk_eval.specs.scopes.WellFormed.{WellFormed}
 
 -- what a use means, and that it is one of these
 pub record Sound (used : Use) : Type 0 where
@@ -37,6 +36,9 @@ pub record Sound (used : Use) : Type 0 where
   pub gives : is_for_value used.role ≡ true → names.returned_by means.kind ≢ Some returns.Void
   pub not_main : (n : ℕ) (b : Bool) → used.role ≡ role.Spawned n b → used.name.text ≢ codes "main"
   pub no_inlet : (n k : ℕ) (b : Bool) → used.role ≡ role.Called n b → means.kind ≢ kind.Inlet k
+
+not_from : {P : Type 0} (b : Bool) → Decides b P → b ≡ false → ¬ P
+not_from b d e p = false≢true (sym e ∙ d.1 p)
 
 same_number : (m n : ℕ) → ¬ (m ≢ n) → m ≡ n
 same_number m n h = (Decides-eqb m n).0 (true_from_ne_false (nat_eq m n) (λ e. h (not_from (nat_eq m n) (Decides-eqb m n) e)))
@@ -76,17 +78,17 @@ module _ (p : tree.Program) (well : WellFormed p) where
     no_inlet = λ n k b r i. well _ (inl (names.inlet_called used d n k b m r i));
   }
 
-  meant_or_not : (used : Use) → Contains (uses_of p) used → ¬ (is_reserved used.name.text ≡ true) → (o : Option Declared)
+  meant_or_not : (used : Use) → Contains (uses_of p) used → ¬ IsReserved used.name → (o : Option Declared)
       → meaning used.scopes used.name.text ≡ o → Sound used
   meant_or_not used there free None e =
-      absurd (well _ (inl (names.unknown used there (λ r. free ((reserved-Decides used.name).1 r)) (ap is_some e))))
+      absurd (well _ (inl (names.unknown used there free (ap is_some e))))
   meant_or_not used there free (Some d) e =
-      use_of used d (record { is_use = there; unreserved = λ r. free ((reserved-Decides used.name).1 r); visible = e })
+      use_of used d (record { is_use = there; unreserved = free; visible = e })
 
   pub use_sound : (used : Use) → Has (uses_of p) used → Sound used
   use_sound used there =
       let is_use = Contains-from_Has (uses_of p) used there in
-      meant_or_not used is_use (λ r. well _ (inl (names.reserved_used used is_use ((reserved-Decides used.name).0 r))))
+      meant_or_not used is_use (λ r. well _ (inl (names.reserved_used used is_use r)))
       (meaning used.scopes used.name.text) refl
 
   -- of what a part uses

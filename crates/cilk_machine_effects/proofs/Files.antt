@@ -3,21 +3,21 @@ use Rattle.std.proofs.Common.{◌≡◌, ℕ, suc, ◌+◌, ◌<◌, ◌≤◌, 
 use Rattle.std.proofs.Common.{arith, length-append}
 use Rattle.std.proofs.lemmas.Bool.{cases_lt}
 use Rattle.std.proofs.lemmas.List.{length-map}
-use Rattle.cilk_check.specs.syntax.Tree.{Word}
-use Rattle.cilk_check.specs.syntax.Tree as tree
-use Rattle.cilk_check.specs.scopes.declared.owner.Owner.{Owner}
-use Rattle.cilk_check.specs.scopes.Scopes.{declare_all, enter, parameters_declare, parameter_count, file_scopes}
-use Rattle.cilk_check.specs.scopes.Parts.{Around, owner_of, block_parts, locals_parts, stmts_parts, after_locals, item_parts}
-use Rattle.cilk_check.proofs.scopes_laws.Elements.{Has, Has-flat_map}
-use Rattle.cilk_check.specs.scopes.WellFormed.{WellFormed}
-use Rattle.cilk_spawn.specs.labelled.Labelled.{Labelled, Body, Variable}
-use Rattle.cilk_spawn.specs.labelled.Names.{Names, entered}
-use Rattle.cilk_spawn.specs.labelled.Count.{count_item}
-use Rattle.cilk_spawn.specs.labelled.Label.{locals_variables, stmts_variables, block_variables}
-use Rattle.cilk_spawn.specs.labelled.Bodies.{is_procedure, one_cell, parameter_variables, label_body, inlet_bodies, block_locals, procedure_names}
-use Rattle.cilk_spawn.specs.labelled.Bodies.{inlet_count, body_count, item_bodies, items_bodies, file_names, bodies_of}
-use Rattle.cilk_spawn.specs.model.Instance.{body_at, no_body}
-use Rattle.cilk_spawn.proofs.frame_laws.nodes_laws.BodyCounts.{length-item, parameters-bodies}
+use Rattle.cilk_eval.specs.syntax.Tree.{Word}
+use Rattle.cilk_eval.specs.syntax.Tree as tree
+use Rattle.cilk_eval.specs.scopes.declared.owner.Owner.{Owner}
+use Rattle.cilk_eval.specs.scopes.Scopes.{declare_all, enter, parameters_declare, parameter_count, file_scopes}
+use Rattle.cilk_eval.specs.scopes.Parts.{Around, owner_of, block_parts, locals_parts, stmts_parts, after_locals, item_parts}
+use Rattle.cilk_eval.proofs.scopes_laws.Elements.{Has, Has-flat_map}
+use Rattle.cilk_eval.specs.scopes.WellFormed.{WellFormed}
+use Rattle.cilk_eval.specs.labelled.Labelled.{Labelled, Body, Variable}
+use Rattle.cilk_eval.specs.labelled.Names.{Names, entered}
+use Rattle.cilk_eval.specs.labelled.Count.{count_item}
+use Rattle.cilk_eval.specs.labelled.Label.{locals_variables, stmts_variables, block_variables}
+use Rattle.cilk_eval.specs.labelled.Bodies.{is_procedure, one_cell, parameter_variables, label_body, inlet_bodies, block_locals, procedure_names}
+use Rattle.cilk_eval.specs.labelled.Bodies.{inlet_count, body_count, item_bodies, items_bodies, file_names, bodies_of}
+use Rattle.cilk_eval.specs.model.Instance.{body_at, no_body}
+use Rattle.cilk_eval.proofs.frame_laws.nodes_laws.BodyCounts.{length-item, parameters-bodies}
 use Rattle.cilk_machine_effects.specs.Heads.{in_nothing, EachOf}
 use Rattle.cilk_machine_effects.specs.Known as known
 use Rattle.cilk_machine_effects.proofs.Lists.{get_is, StandAt, stand_all, stand_left, stand_right, stand_behind, stand_first, stand_others}

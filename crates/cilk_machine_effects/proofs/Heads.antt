@@ -1,11 +1,11 @@
 -- A list that ends with the closing brace of its body has a head.
 use Rattle.std.proofs.Common.{ℤ, ◌≡◌, Bool, true, false, List, [], ◌∷◌, ◌⊎◌, inl, inr, Option, Some, None, IsSome, IsNone, refl, sym, ap, subst, ◌∙◌}
 use Rattle.std.specs.Prelude.{⊤}
-use Rattle.cilk_spawn.specs.labelled.Labelled.{Action, break_off, go_round, return_with, return_nothing, close}
-use Rattle.cilk_spawn.specs.labelled.Labelled.{Numbered, Stmt, action, choose, while, repeat, loop, select, at_label, nested, Stmts, none, also, Body}
-use Rattle.cilk_spawn.specs.labelled.Items.{Round, Item, piece, at_test, at_advance, at_end, Items, pieces, plain_round, open_stmt, open_stmts, opened}
-use Rattle.cilk_spawn.specs.labelled.Items.{head_of, past_mark, from_mark, after_action, next_mark, chosen, selected, holds, after_choice, after_test}
-use Rattle.cilk_spawn.specs.labelled.Items.{next, start_items, reached}
+use Rattle.cilk_eval.specs.labelled.Labelled.{Action, break_off, go_round, return_with, return_nothing, close}
+use Rattle.cilk_eval.specs.labelled.Labelled.{Numbered, Stmt, action, choose, while, repeat, loop, select, at_label, nested, Stmts, none, also, Body}
+use Rattle.cilk_eval.specs.labelled.Items.{Round, Item, piece, at_test, at_advance, at_end, Items, pieces, plain_round, open_stmt, open_stmts, opened}
+use Rattle.cilk_eval.specs.labelled.Items.{head_of, past_mark, from_mark, after_action, next_mark, chosen, selected, holds, after_choice, after_test}
+use Rattle.cilk_eval.specs.labelled.Items.{next, start_items, reached}
 use Rattle.cilk_machine_effects.specs.Heads.{Inside, in_a_loop, MayStand, LeavesInLoops, GoesOn}
 use Rattle.cilk_machine_effects.proofs.Items.{running, Each, reached_each}
 

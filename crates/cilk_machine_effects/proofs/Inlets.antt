@@ -2,22 +2,22 @@
 use Rattle.std.proofs.Common.{◌≡◌, ℕ, suc, ◌+◌, ◌<◌, ◌≤◌, pos, true, IsTrue, List, [], ◌∷◌, ◌++◌, map, length, inl, inr, refl, sym, ap, subst}
 use Rattle.std.proofs.Common.{◌∙◌, arith}
 use Rattle.std.proofs.lemmas.Bool.{cases_lt}
-use Rattle.cilk_check.specs.syntax.Tree.{Word}
-use Rattle.cilk_check.specs.syntax.Tree as tree
-use Rattle.cilk_check.specs.scopes.declared.owner.Owner.{Owner}
-use Rattle.cilk_check.specs.scopes.declared.owner.Owner.TheVariants as owner
-use Rattle.cilk_check.specs.scopes.Scopes.{Scopes, parameter, declare_all, parameters_declare}
-use Rattle.cilk_check.specs.scopes.Within.{whole_body}
-use Rattle.cilk_check.specs.scopes.Parts.{block_parts, within_local}
-use Rattle.cilk_check.proofs.scopes_laws.Elements.{Has-append_left}
-use Rattle.cilk_check.specs.scopes.WellFormed.{WellFormed}
-use Rattle.cilk_spawn.specs.labelled.Labelled as labelled
-use Rattle.cilk_spawn.specs.labelled.Labelled.{Labelled, Body, Variable}
-use Rattle.cilk_spawn.specs.labelled.Names.{Names, with_words, with_name, with_parameters, with_local, local_count, in_inlet}
-use Rattle.cilk_spawn.specs.labelled.Count.{count_local}
-use Rattle.cilk_spawn.specs.labelled.Label.{block_variables}
-use Rattle.cilk_spawn.specs.labelled.Bodies.{is_procedure, one_cell, inlet_count}
-use Rattle.cilk_spawn.specs.model.Instance.{body_at}
+use Rattle.cilk_eval.specs.syntax.Tree.{Word}
+use Rattle.cilk_eval.specs.syntax.Tree as tree
+use Rattle.cilk_eval.specs.scopes.declared.owner.Owner.{Owner}
+use Rattle.cilk_eval.specs.scopes.declared.owner.Owner.TheVariants as owner
+use Rattle.cilk_eval.specs.scopes.Scopes.{Scopes, parameter, declare_all, parameters_declare}
+use Rattle.cilk_eval.specs.scopes.Within.{whole_body}
+use Rattle.cilk_eval.specs.scopes.Parts.{block_parts, within_local}
+use Rattle.cilk_eval.proofs.scopes_laws.Elements.{Has-append_left}
+use Rattle.cilk_eval.specs.scopes.WellFormed.{WellFormed}
+use Rattle.cilk_eval.specs.labelled.Labelled as labelled
+use Rattle.cilk_eval.specs.labelled.Labelled.{Labelled, Body, Variable}
+use Rattle.cilk_eval.specs.labelled.Names.{Names, with_words, with_name, with_parameters, with_local, local_count, in_inlet}
+use Rattle.cilk_eval.specs.labelled.Count.{count_local}
+use Rattle.cilk_eval.specs.labelled.Label.{block_variables}
+use Rattle.cilk_eval.specs.labelled.Bodies.{is_procedure, one_cell, inlet_count}
+use Rattle.cilk_eval.specs.model.Instance.{body_at}
 use Rattle.cilk_machine_effects.specs.Heads.{in_nothing, EachOf}
 use Rattle.cilk_machine_effects.specs.Known.{owner_of}
 use Rattle.cilk_machine_effects.proofs.Lists.{StandAt, stand_all, stand_left, stand_right}

@@ -1,11 +1,11 @@
 -- What holds of each action of a body holds of each action in the lists of what remains of it.
 use Rattle.std.proofs.Common.{ℤ, ◌≡◌, Bool, true, false, List, [], ◌∷◌, Option, Some, None, refl, sym, subst}
 use Rattle.std.specs.Prelude.{⊤}
-use Rattle.cilk_spawn.specs.labelled.Labelled.{Action, break_off, go_round, return_with, return_nothing, close}
-use Rattle.cilk_spawn.specs.labelled.Labelled.{Numbered, Stmt, action, choose, while, repeat, loop, select, at_label, nested, Stmts, none, also, Body}
-use Rattle.cilk_spawn.specs.labelled.Items.{Round, Item, piece, at_test, at_advance, at_end, Items, pieces, plain_round, open_stmt, open_stmts, opened}
-use Rattle.cilk_spawn.specs.labelled.Items.{head_of, past_mark, from_mark, after_action, next_mark, is_label, behind_by, behind_label, first_there}
-use Rattle.cilk_spawn.specs.labelled.Items.{chosen, selected, holds, after_choice, after_test, next, start_items, reached}
+use Rattle.cilk_eval.specs.labelled.Labelled.{Action, break_off, go_round, return_with, return_nothing, close}
+use Rattle.cilk_eval.specs.labelled.Labelled.{Numbered, Stmt, action, choose, while, repeat, loop, select, at_label, nested, Stmts, none, also, Body}
+use Rattle.cilk_eval.specs.labelled.Items.{Round, Item, piece, at_test, at_advance, at_end, Items, pieces, plain_round, open_stmt, open_stmts, opened}
+use Rattle.cilk_eval.specs.labelled.Items.{head_of, past_mark, from_mark, after_action, next_mark, is_label, behind_by, behind_label, first_there}
+use Rattle.cilk_eval.specs.labelled.Items.{chosen, selected, holds, after_choice, after_test, next, start_items, reached}
 use Rattle.cilk_machine_effects.specs.Heads.{Inside, in_nothing, in_a_loop, in_a_switch, IfThere, EachOfStmt, EachOf}
 
 -- what is being run: a loop, and a loop or a `switch`

@@ -8,7 +8,7 @@ pub mod Walk
 pub mod Inlets
 pub mod Files
 pub mod Tops
-pub mod Known
+pub mod KnownActions
 pub mod Origins
 pub mod Room
 pub mod Start
@@ -20,5 +20,6 @@ pub mod Several
 pub mod Printed
 pub mod Same
 pub mod Shapes
-pub use Rattle.cilk_check.proofs as check_laws
-pub use Rattle.cilk_spawn.proofs.frame_laws
+pub use Rattle.cilk_eval.proofs.scopes_laws
+pub use Rattle.cilk_eval.proofs.frame_laws
+pub use Rattle.cilk_eval.proofs as eval_laws

@@ -3,24 +3,24 @@ use Rattle.std.proofs.Common.{◌≡◌, ℕ, ◌+◌, ◌<◌, ◌≤◌, pos, 
 use Rattle.std.proofs.Common.{◌∙◌, arith}
 use Rattle.std.proofs.lemmas.List.{length-map}
 use Rattle.std.proofs.lemmas.Bool.{cases_lt}
-use Rattle.cilk_check.specs.syntax.Tree.{Word}
-use Rattle.cilk_check.specs.syntax.Tree as tree
-use Rattle.cilk_check.specs.scopes.declared.owner.Owner.{Owner}
-use Rattle.cilk_check.specs.scopes.declared.owner.Owner.TheVariants as owner
-use Rattle.cilk_check.specs.scopes.Scopes.{local_declares, kind_of_shape}
-use Rattle.cilk_check.specs.scopes.Parts.{local, PartInContext, parts_of, after_local, after_locals, locals_parts, within_local}
-use Rattle.cilk_check.proofs.scopes_laws.Elements.{Has, Has-append_left, Has-append_right}
-use Rattle.cilk_check.specs.scopes.WellFormed.{WellFormed}
-use Rattle.cilk_spawn.specs.labelled.Labelled.{Labelled, Body, Variable, Action, Stmts}
-use Rattle.cilk_spawn.specs.labelled.Labelled as labelled
-use Rattle.cilk_spawn.specs.labelled.Names.{Names, with_words, with_local, local_count, in_inlet}
-use Rattle.cilk_spawn.specs.labelled.Count.{count_local}
-use Rattle.cilk_spawn.specs.labelled.Label.{local_variables, locals_variables, label_initialiser, label_locals, names_behind}
-use Rattle.cilk_spawn.specs.labelled.Bodies.{is_procedure, one_cell, label_body, inlet_bodies}
-use Rattle.cilk_spawn.specs.model.Instance.{body_at, no_body}
+use Rattle.cilk_eval.specs.syntax.Tree.{Word}
+use Rattle.cilk_eval.specs.syntax.Tree as tree
+use Rattle.cilk_eval.specs.scopes.declared.owner.Owner.{Owner}
+use Rattle.cilk_eval.specs.scopes.declared.owner.Owner.TheVariants as owner
+use Rattle.cilk_eval.specs.scopes.Scopes.{local_declares, kind_of_shape}
+use Rattle.cilk_eval.specs.scopes.Parts.{local, PartInContext, parts_of, after_local, after_locals, locals_parts, within_local}
+use Rattle.cilk_eval.proofs.scopes_laws.Elements.{Has, Has-append_left, Has-append_right}
+use Rattle.cilk_eval.specs.scopes.WellFormed.{WellFormed}
+use Rattle.cilk_eval.specs.labelled.Labelled.{Labelled, Body, Variable, Action, Stmts}
+use Rattle.cilk_eval.specs.labelled.Labelled as labelled
+use Rattle.cilk_eval.specs.labelled.Names.{Names, with_words, with_local, local_count, in_inlet}
+use Rattle.cilk_eval.specs.labelled.Count.{count_local}
+use Rattle.cilk_eval.specs.labelled.Label.{local_variables, locals_variables, label_initialiser, label_locals, names_behind}
+use Rattle.cilk_eval.specs.labelled.Bodies.{is_procedure, one_cell, label_body, inlet_bodies}
+use Rattle.cilk_eval.specs.model.Instance.{body_at, no_body}
 use Rattle.cilk_machine_effects.specs.Heads.{Inside, MayStand, EachOf}
-use Rattle.cilk_spawn.specs.frame.Cells.{no_variable}
-use Rattle.cilk_spawn.specs.frame.Reads.{IsVariable}
+use Rattle.cilk_eval.specs.frame.Cells.{no_variable}
+use Rattle.cilk_eval.specs.frame.Reads.{IsVariable}
 use Rattle.cilk_machine_effects.specs.Known.{owner_of, StandsIn, KnownAct}
 use Rattle.cilk_machine_effects.proofs.Lists.{get_within, get_is, StandAt, stand_left, stand_behind, stand_first, stand_others}
 use Rattle.cilk_machine_effects.proofs.Facts.{local_in_range, inlet_in_procedure}

@@ -3,27 +3,27 @@ use Rattle.std.proofs.Common.{◌≡◌, ◌≢◌, ℕ, zero, suc, ◌<◌, ℤ
 use Rattle.std.proofs.Common.{map, length, get_or, Some, codes, bytes_eq, refl, sym, ap, subst, ◌∙◌}
 use Rattle.std.proofs.lemmas.Bool.{cases_lt}
 use Rattle.std.proofs.lemmas.Slice.Eq.{bytes_eq-Decides}
-use Rattle.cilk_check.specs.syntax.declared.return_type.ReturnType.{ReturnType}
-use Rattle.cilk_check.specs.syntax.declared.return_type.ReturnType.TheVariants as returns
-use Rattle.cilk_check.specs.syntax.Tree.{Word}
-use Rattle.cilk_check.specs.syntax.Tree as tree
-use Rattle.cilk_check.specs.scopes.declared.owner.Owner.{Owner}
-use Rattle.cilk_check.specs.scopes.declared.owner.Owner.TheVariants as owner
-use Rattle.cilk_check.specs.scopes.declared.declaration_kind.DeclarationKind.{DeclarationKind}
-use Rattle.cilk_check.specs.scopes.declared.declaration_kind.DeclarationKind.TheVariants as kind
-use Rattle.cilk_check.specs.scopes.Scopes.{Declared, Scopes, parameter}
-use Rattle.cilk_check.specs.scopes.declared.role.Role.{Role}
-use Rattle.cilk_check.specs.scopes.declared.role.Role.TheVariants as role
-use Rattle.cilk_check.specs.scopes.NameFaults as rules
-use Rattle.cilk_check.specs.scopes.NameFaults.{fits, parameters_of}
-use Rattle.cilk_check.specs.scopes.Uses.{use_as}
-use Rattle.cilk_spawn.specs.labelled.Labelled.{Declaration, local, outer, global, of_lock, of_body, unknown, Labelled}
-use Rattle.cilk_spawn.specs.labelled.Names.{Names, meaning_at, meaning_of, number_of, with_name, with_words, with_parameters, outward}
-use Rattle.cilk_spawn.specs.labelled.Bodies.{is_procedure, one_cell, parameter_variables}
-use Rattle.cilk_spawn.specs.model.Instance.{body_at}
-use Rattle.cilk_spawn.specs.nodes.Slots.{is_inlet, procedure_around}
-use Rattle.cilk_spawn.specs.frame.Cells.{variable_at, own_variables}
-use Rattle.cilk_spawn.specs.frame.Reads.{IsVariable, IsArray}
+use Rattle.cilk_eval.specs.syntax.declared.return_type.ReturnType.{ReturnType}
+use Rattle.cilk_eval.specs.syntax.declared.return_type.ReturnType.TheVariants as returns
+use Rattle.cilk_eval.specs.syntax.Tree.{Word}
+use Rattle.cilk_eval.specs.syntax.Tree as tree
+use Rattle.cilk_eval.specs.scopes.declared.owner.Owner.{Owner}
+use Rattle.cilk_eval.specs.scopes.declared.owner.Owner.TheVariants as owner
+use Rattle.cilk_eval.specs.scopes.declared.declaration_kind.DeclarationKind.{DeclarationKind}
+use Rattle.cilk_eval.specs.scopes.declared.declaration_kind.DeclarationKind.TheVariants as kind
+use Rattle.cilk_eval.specs.scopes.Scopes.{Declared, Scopes, parameter}
+use Rattle.cilk_eval.specs.scopes.declared.role.Role.{Role}
+use Rattle.cilk_eval.specs.scopes.declared.role.Role.TheVariants as role
+use Rattle.cilk_eval.specs.scopes.NameFaults as rules
+use Rattle.cilk_eval.specs.scopes.NameFaults.{fits, parameters_of}
+use Rattle.cilk_eval.specs.scopes.Uses.{use_as}
+use Rattle.cilk_eval.specs.labelled.Labelled.{Declaration, local, outer, global, of_lock, of_body, unknown, Labelled}
+use Rattle.cilk_eval.specs.labelled.Names.{Names, meaning_at, meaning_of, number_of, with_name, with_words, with_parameters, outward}
+use Rattle.cilk_eval.specs.labelled.Bodies.{is_procedure, one_cell, parameter_variables}
+use Rattle.cilk_eval.specs.model.Instance.{body_at}
+use Rattle.cilk_eval.specs.nodes.Slots.{is_inlet, procedure_around}
+use Rattle.cilk_eval.specs.frame.Cells.{variable_at, own_variables}
+use Rattle.cilk_eval.specs.frame.Reads.{IsVariable, IsArray}
 use Rattle.cilk_machine_effects.specs.Known.{owner_of, StandsIn, Accepts, Calls, Spawns, Feeds}
 use Rattle.cilk_machine_effects.proofs.Lists.{get_within, found_at, found_passes, position_first, StandAt, stand_first, stand_others, Fit, fit_at, fit_map}
 use Rattle.cilk_machine_effects.proofs.Facts.{Sound}

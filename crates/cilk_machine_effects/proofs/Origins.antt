@@ -1,21 +1,21 @@
 -- From which definition each body comes.
 use Rattle.std.proofs.Common.{◌≡◌, ℕ, suc, ◌+◌, pos, List, [], ◌∷◌, ◌++◌, map, flat_map, length, inl, inr, refl}
-use Rattle.cilk_check.specs.syntax.Tree.{Word}
-use Rattle.cilk_check.specs.syntax.Tree as tree
-use Rattle.cilk_check.specs.scopes.declared.owner.Owner.{Owner}
-use Rattle.cilk_check.specs.scopes.declared.owner.Owner.TheVariants.{Inlet}
-use Rattle.cilk_check.specs.scopes.Scopes.{Declared, parameter, parameters_declare, file_scopes}
-use Rattle.cilk_check.specs.scopes.Parts.{Around, PartInContext, local, owner_of, after_local, in_body, block_parts, locals_parts, within_local}
-use Rattle.cilk_check.specs.scopes.Parts.{stmts_parts, after_locals, item_parts, parts_of}
-use Rattle.cilk_check.specs.scopes.Parts as standing
-use Rattle.cilk_check.specs.scopes.Declarations as declarations
-use Rattle.cilk_check.specs.scopes.Declarations.{item_activations, inlet_activations, activations_of}
-use Rattle.cilk_check.proofs.scopes_laws.Elements.{Has, Has-append_left, Has-append_right, Has-append_cases, Has-flat_map}
-use Rattle.cilk_spawn.specs.labelled.Labelled.{Body, Variable}
-use Rattle.cilk_spawn.specs.labelled.Names.{Names, with_words, with_local, local_count, in_inlet}
-use Rattle.cilk_spawn.specs.labelled.Count.{count_local, count_item}
-use Rattle.cilk_spawn.specs.labelled.Bodies.{one_cell, parameter_variables, label_body, inlet_bodies, block_locals, body_count, procedure_names}
-use Rattle.cilk_spawn.specs.labelled.Bodies.{item_bodies, items_bodies, bodies_of, file_names}
+use Rattle.cilk_eval.specs.syntax.Tree.{Word}
+use Rattle.cilk_eval.specs.syntax.Tree as tree
+use Rattle.cilk_eval.specs.scopes.declared.owner.Owner.{Owner}
+use Rattle.cilk_eval.specs.scopes.declared.owner.Owner.TheVariants.{Inlet}
+use Rattle.cilk_eval.specs.scopes.Scopes.{Declared, parameter, parameters_declare, file_scopes}
+use Rattle.cilk_eval.specs.scopes.Parts.{Around, PartInContext, local, owner_of, after_local, in_body, block_parts, locals_parts, within_local}
+use Rattle.cilk_eval.specs.scopes.Parts.{stmts_parts, after_locals, item_parts, parts_of}
+use Rattle.cilk_eval.specs.scopes.Parts as standing
+use Rattle.cilk_eval.specs.scopes.Declarations as declarations
+use Rattle.cilk_eval.specs.scopes.Declarations.{item_activations, inlet_activations, activations_of}
+use Rattle.cilk_eval.proofs.scopes_laws.Elements.{Has, Has-append_left, Has-append_right, Has-append_cases, Has-flat_map}
+use Rattle.cilk_eval.specs.labelled.Labelled.{Body, Variable}
+use Rattle.cilk_eval.specs.labelled.Names.{Names, with_words, with_local, local_count, in_inlet}
+use Rattle.cilk_eval.specs.labelled.Count.{count_local, count_item}
+use Rattle.cilk_eval.specs.labelled.Bodies.{one_cell, parameter_variables, label_body, inlet_bodies, block_locals, body_count, procedure_names}
+use Rattle.cilk_eval.specs.labelled.Bodies.{item_bodies, items_bodies, bodies_of, file_names}
 use Rattle.cilk_machine_effects.proofs.Locals.{AllIn}
 
 -- the parameters of a body

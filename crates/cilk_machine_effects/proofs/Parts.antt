@@ -1,15 +1,15 @@
 -- The uses and expressions of one part of a body.
 use Rattle.std.proofs.Common.{◌≡◌, ℕ, Bool, IsTrue, ap, ◌∙◌}
-use Rattle.cilk_check.specs.syntax.Tree as tree
-use Rattle.cilk_check.specs.scopes.declared.owner.Owner.{Owner}
-use Rattle.cilk_check.specs.scopes.Parts.{Around, Part, local, statement, PartInContext, parts_of, stmt_exprs, local_exprs}
-use Rattle.cilk_check.proofs.scopes_laws.Elements.{Has, Has-append_left, Has-append_right, Has-flat_map}
-use Rattle.cilk_check.specs.scopes.WellFormed.{WellFormed}
-use Rattle.cilk_check.specs.scopes.Uses.{Use, expr_uses, stmt_uses}
-use Rattle.cilk_check.specs.scopes.Forms.{own_word}
-use Rattle.cilk_spawn.specs.labelled.Labelled.{Labelled}
-use Rattle.cilk_spawn.specs.labelled.Names.{Names, with_local}
-use Rattle.cilk_spawn.specs.labelled.Bodies.{is_procedure}
+use Rattle.cilk_eval.specs.syntax.Tree as tree
+use Rattle.cilk_eval.specs.scopes.declared.owner.Owner.{Owner}
+use Rattle.cilk_eval.specs.scopes.Parts.{Around, Part, local, statement, PartInContext, parts_of, stmt_exprs, local_exprs}
+use Rattle.cilk_eval.proofs.scopes_laws.Elements.{Has, Has-append_left, Has-append_right, Has-flat_map}
+use Rattle.cilk_eval.specs.scopes.WellFormed.{WellFormed}
+use Rattle.cilk_eval.specs.scopes.Uses.{Use, expr_uses, stmt_uses}
+use Rattle.cilk_eval.specs.scopes.Forms.{own_word}
+use Rattle.cilk_eval.specs.labelled.Labelled.{Labelled}
+use Rattle.cilk_eval.specs.labelled.Names.{Names, with_local}
+use Rattle.cilk_eval.specs.labelled.Bodies.{is_procedure}
 use Rattle.cilk_machine_effects.specs.Heads.{Inside}
 use Rattle.cilk_machine_effects.specs.Known.{owner_of}
 use Rattle.cilk_machine_effects.proofs.Facts.{Sound, part_sound, children_in_procedure}

@@ -1,7 +1,7 @@
 -- What `printf` writes, a byte at a time.
 use Rattle.std.proofs.Common.{◌≡◌, ℕ, ℤ, nat_eq, false, List, [], ◌∷◌, ◌++◌, ap, ◌∙◌, sym, append_assoc, if◌then◌else◌}
 use Rattle.std.proofs.lemmas.Bool.{ne_eqb}
-use Rattle.cilk_spawn.specs.model.Printing.{printed}
+use Rattle.cilk_eval.specs.model.Printing.{printed}
 
 -- a byte that is no `%` in front of another byte
 plain : (b c : ℕ) (format : List ℕ) (zs : List ℤ) → nat_eq b 37 ≡ false → printed (b ∷ c ∷ format) zs ≡ b ∷ printed (c ∷ format) zs

@@ -1,16 +1,16 @@
 -- A cell that a known place reaches is there.
 use Rattle.std.proofs.Common.{◌≡◌, ℕ, ◌<◌, ℤ, pos, negsuc, Bool, true, false, nat_lt, if◌then◌else◌, length, Result, Ok, Err, refl, subst, arith}
 use Rattle.std.proofs.lemmas.Bool.Decides.{Decides-ltb}
-use Rattle.cilk_spawn.specs.nodes.Areas.{Cells}
-use Rattle.cilk_spawn.specs.labelled.declared.trap.Trap.{Trap}
-use Rattle.cilk_spawn.specs.labelled.declared.trap.Trap.TheVariants as trap
-use Rattle.cilk_spawn.specs.labelled.Value.{value_of, ◌>>=◌}
-use Rattle.cilk_spawn.specs.labelled.Labelled.{Declaration, local, outer, global, of_lock, of_body, unknown, Target, variable, element, Into, Labelled}
-use Rattle.cilk_spawn.specs.model.Values.{Store, Cell, Reached, cells_of, environment, element_cell, cell_at, reached_at}
-use Rattle.cilk_spawn.specs.frame.Cells.{own_variables, outer_variables, HasCell}
-use Rattle.cilk_spawn.specs.frame.Reads.{IsVariable, IsArray, Seen}
-use Rattle.cilk_spawn.proofs.frame_laws.SlotLaws.{cells-size}
-use Rattle.cilk_spawn.proofs.frame_laws.Values.{array-declared}
+use Rattle.cilk_eval.specs.nodes.Areas.{Cells}
+use Rattle.cilk_eval.specs.model.declared.trap.Trap.{Trap}
+use Rattle.cilk_eval.specs.model.declared.trap.Trap.TheVariants as trap
+use Rattle.cilk_eval.specs.labelled.Value.{value_of, ◌>>=◌}
+use Rattle.cilk_eval.specs.labelled.Labelled.{Declaration, local, outer, global, of_lock, of_body, unknown, Target, variable, element, Into, Labelled}
+use Rattle.cilk_eval.specs.model.Values.{Store, Cell, Reached, cells_of, environment, element_cell, cell_at, reached_at}
+use Rattle.cilk_eval.specs.frame.Cells.{own_variables, outer_variables, HasCell}
+use Rattle.cilk_eval.specs.frame.Reads.{IsVariable, IsArray, Seen}
+use Rattle.cilk_eval.proofs.frame_laws.SlotLaws.{cells-size}
+use Rattle.cilk_eval.proofs.frame_laws.Values.{array-declared}
 use Rattle.cilk_machine_effects.specs.Known.{KnownTarget}
 
 module _ (program : Labelled) (b : ℕ) where

@@ -2,25 +2,25 @@
 use Rattle.std.proofs.Common.{◌≡◌, ℕ, zero, suc, ◌+◌, ◌<◌, ◌≤◌, max, ℤ, pos, Bool, true, false, List, [], ◌∷◌, ◌++◌, map, flat_map, length, Some}
 use Rattle.std.proofs.Common.{slice_get, inl, inr, refl, sym, ap, subst, ◌∙◌, arith, append_assoc, append-nil, length-append}
 use Rattle.std.proofs.lemmas.Bool.{cases_lt}
-use Rattle.cilk_check.specs.syntax.declared.return_type.ReturnType.{ReturnType}
-use Rattle.cilk_check.specs.syntax.Tree.{Word}
-use Rattle.cilk_check.specs.syntax.Tree as tree
-use Rattle.cilk_check.specs.scopes.Scopes.{Declared, parameter, local_declares, kind_of_body, kind_of_global, item_declares, file_declares}
-use Rattle.cilk_check.specs.scopes.Parts.{Around, local, inner, looped, switched, after_local, after_locals, block_parts, locals_parts, within_local}
-use Rattle.cilk_check.specs.scopes.Parts.{stmts_parts, within_stmt, parts_of}
-use Rattle.cilk_check.specs.scopes.Declarations as declarations
-use Rattle.cilk_check.specs.scopes.Declarations.{activations_of}
-use Rattle.cilk_check.proofs.scopes_laws.Elements.{Has, Has-append_right, Has-append_cases, Contains-from_Has}
-use Rattle.cilk_check.specs.scopes.WellFormed.{WellFormed}
-use Rattle.cilk_check.specs.scopes.Cells as rules
-use Rattle.cilk_check.specs.scopes.Cells.{cells_of, max_cells, max_global_cells}
-use Rattle.cilk_check.specs.scopes.Forms as forms
-use Rattle.cilk_check.specs.scopes.Forms.{Passes}
-use Rattle.cilk_spawn.specs.labelled.Labelled.{Variable, Body}
-use Rattle.cilk_spawn.specs.labelled.Label.{local_variables, locals_variables, stmt_variables, stmts_variables, block_variables}
-use Rattle.cilk_spawn.specs.labelled.Bodies.{one_cell, shaped_variable, item_globals, label, bodies_of}
-use Rattle.cilk_spawn.specs.model.Instance.{body_at, no_body}
-use Rattle.cilk_spawn.specs.nodes.Slots as slots
+use Rattle.cilk_eval.specs.syntax.declared.return_type.ReturnType.{ReturnType}
+use Rattle.cilk_eval.specs.syntax.Tree.{Word}
+use Rattle.cilk_eval.specs.syntax.Tree as tree
+use Rattle.cilk_eval.specs.scopes.Scopes.{Declared, parameter, local_declares, kind_of_body, kind_of_global, item_declares, file_declares}
+use Rattle.cilk_eval.specs.scopes.Parts.{Around, local, inner, looped, switched, after_local, after_locals, block_parts, locals_parts, within_local}
+use Rattle.cilk_eval.specs.scopes.Parts.{stmts_parts, within_stmt, parts_of}
+use Rattle.cilk_eval.specs.scopes.Declarations as declarations
+use Rattle.cilk_eval.specs.scopes.Declarations.{activations_of}
+use Rattle.cilk_eval.proofs.scopes_laws.Elements.{Has, Has-append_right, Has-append_cases, Contains-from_Has}
+use Rattle.cilk_eval.specs.scopes.WellFormed.{WellFormed}
+use Rattle.cilk_eval.specs.scopes.Cells as rules
+use Rattle.cilk_eval.specs.scopes.Cells.{cells_of, max_cells, max_global_cells}
+use Rattle.cilk_eval.specs.scopes.Forms as forms
+use Rattle.cilk_eval.specs.scopes.Forms.{Passes}
+use Rattle.cilk_eval.specs.labelled.Labelled.{Variable, Body}
+use Rattle.cilk_eval.specs.labelled.Label.{local_variables, locals_variables, stmt_variables, stmts_variables, block_variables}
+use Rattle.cilk_eval.specs.labelled.Bodies.{one_cell, shaped_variable, item_globals, label, bodies_of}
+use Rattle.cilk_eval.specs.model.Instance.{body_at, no_body}
+use Rattle.cilk_eval.specs.nodes.Slots as slots
 use Rattle.cilk_machine_effects.specs.Room.{HasRoom, ParametersFirst}
 use Rattle.cilk_machine_effects.proofs.Lists.{get_there}
 use Rattle.cilk_machine_effects.proofs.Facts.{InRange, local_in_range, global_in_range}

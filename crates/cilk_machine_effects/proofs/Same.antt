@@ -5,31 +5,31 @@ use Rattle.std.specs.Prelude.{⊤, option_map}
 use Rattle.std.specs.List.{All}
 use Rattle.std.proofs.lemmas.List.Elements.{All-head, All-tail, All-map, All-weaker}
 use borrow.Author.Tests.{ltb-true}
-use Rattle.cilk_check.specs.syntax.declared.operator.BinOp.{BinOp}
-use Rattle.cilk_spawn.specs.labelled.declared.trap.Trap.{Trap}
-use Rattle.cilk_spawn.specs.labelled.declared.trap.Trap.TheVariants.{Index}
-use Rattle.cilk_spawn.specs.labelled.Term.{Term, rename}
-use Rattle.cilk_spawn.specs.labelled.Value.{Environment, value_of, values_of, ◌>>=◌}
-use Rattle.cilk_spawn.specs.nodes.declared.slot.Slot.{Slot}
-use Rattle.cilk_spawn.specs.nodes.Areas.{Cells, slot_cell, sizes_of, SlotsLieWithin}
-use Rattle.cilk_spawn.specs.nodes.Areas as slots
-use Rattle.cilk_spawn.specs.labelled.Labelled.{Declaration, local, outer, global, of_lock, of_body, unknown, Labelled, Target, variable}
-use Rattle.cilk_spawn.specs.labelled.Labelled.{element, Into, Taker, nothing, into, through, Action, assign, call, spawn, print, locking, null}
-use Rattle.cilk_spawn.specs.labelled.Labelled.{break_off, go_round, tests, sync, abort, return_with, return_nothing, close}
-use Rattle.cilk_spawn.specs.model.Values.{Store, Cell, Reached, cells_of, cell_of, environment, element_cell, cell_at, reached_at, reached_if, combined}
-use Rattle.cilk_spawn.specs.model.Instance as model
-use Rattle.cilk_spawn.specs.model.Effect as effect
-use Rattle.cilk_spawn.specs.model.Effect.{effect_of, start_of}
-use Rattle.cilk_spawn.specs.model.Printing.{printed}
-use Rattle.cilk_spawn.specs.nodes.Slots.{slot_of}
-use Rattle.cilk_spawn.specs.nodes.Actions.{slotted_place, slotted_target, slotted_taker, slotted}
-use Rattle.cilk_spawn.specs.frame.Cells.{own_variables, outer_variables, HasCell}
-use Rattle.cilk_spawn.specs.frame.Reads.{IsArray, IsKnown, Seen}
-use Rattle.cilk_spawn.proofs.frame_laws.SlotLaws.{cells-size}
-use Rattle.cilk_spawn.proofs.frame_laws.Values.{array-inside, array-declared, array-same, declared-within, cell-same, value-same, slots-within}
+use Rattle.cilk_eval.specs.syntax.declared.operator.BinOp.{BinOp}
+use Rattle.cilk_eval.specs.model.declared.trap.Trap.{Trap}
+use Rattle.cilk_eval.specs.model.declared.trap.Trap.TheVariants.{Index}
+use Rattle.cilk_eval.specs.labelled.Term.{Term, rename}
+use Rattle.cilk_eval.specs.labelled.Value.{Environment, value_of, values_of, ◌>>=◌}
+use Rattle.cilk_eval.specs.nodes.declared.slot.Slot.{Slot}
+use Rattle.cilk_eval.specs.nodes.Areas.{Cells, slot_cell, sizes_of, SlotsLieWithin}
+use Rattle.cilk_eval.specs.nodes.Areas as slots
+use Rattle.cilk_eval.specs.labelled.Labelled.{Declaration, local, outer, global, of_lock, of_body, unknown, Labelled, Target, variable}
+use Rattle.cilk_eval.specs.labelled.Labelled.{element, Into, Taker, nothing, into, through, Action, assign, call, spawn, print, locking, null}
+use Rattle.cilk_eval.specs.labelled.Labelled.{break_off, go_round, tests, sync, abort, return_with, return_nothing, close}
+use Rattle.cilk_eval.specs.model.Values.{Store, Cell, Reached, cells_of, cell_of, environment, element_cell, cell_at, reached_at, reached_if, combined}
+use Rattle.cilk_eval.specs.model.Instance as model
+use Rattle.cilk_eval.specs.model.Effect as effect
+use Rattle.cilk_eval.specs.model.Effect.{effect_of, start_of}
+use Rattle.cilk_eval.specs.model.Printing.{printed}
+use Rattle.cilk_eval.specs.nodes.Slots.{slot_of}
+use Rattle.cilk_eval.specs.nodes.Actions.{slotted_place, slotted_target, slotted_taker, slotted}
+use Rattle.cilk_eval.specs.frame.Cells.{own_variables, outer_variables, HasCell}
+use Rattle.cilk_eval.specs.frame.Reads.{IsArray, IsKnown, Seen}
+use Rattle.cilk_eval.proofs.frame_laws.SlotLaws.{cells-size}
+use Rattle.cilk_eval.proofs.frame_laws.Values.{array-inside, array-declared, array-same, declared-within, cell-same, value-same, slots-within}
 use Rattle.cilk_machine_effects.specs.declared.effect.Effect.{Effect}
 use Rattle.cilk_machine_effects.specs.declared.effect.Effect.TheVariants.{Writes, Answers, Enters, Gives, Starts, Prints}
-use Rattle.cilk_spawn.specs.declared.receiver.Receiver as receiver
+use Rattle.cilk_eval.specs.frame.declared.receiver.Receiver as receiver
 use Rattle.cilk_machine_effects.specs.Fits.{FitsPlace, FitsTarget, FitsTaker, FitsAct}
 use Rattle.cilk_machine_effects.specs.Effects.{element_index, index_of, assigned, awaited, started, effect_in}
 use Rattle.cilk_machine_effects.specs.Known.{KnownTarget, KnownPlace, KnownTaker, KnownAct}

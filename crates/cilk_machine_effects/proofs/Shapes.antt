@@ -1,18 +1,18 @@
 -- What the effect of an action looks like, by the action.
 use Rattle.std.proofs.Common.{◌≡◌, ℕ, suc, ℤ, pos, negsuc, Bool, true, false, nat_lt, List, [], ◌∷◌, length, Option, Some, None, Result, Ok, Err}
 use Rattle.std.proofs.Common.{refl, sym, ap, ◌∙◌, if◌then◌else◌}
-use Rattle.cilk_spawn.specs.labelled.declared.trap.Trap.{Trap}
-use Rattle.cilk_spawn.specs.labelled.declared.trap.Trap.TheVariants.{Index}
-use Rattle.cilk_spawn.specs.labelled.Term.{Term}
-use Rattle.cilk_spawn.specs.labelled.Value.{Environment, value_of, values_of, ◌>>=◌}
-use Rattle.cilk_spawn.specs.labelled.Labelled.{Declaration, Target, variable, element, Into, Taker, nothing, into, through, Action, assign, call}
-use Rattle.cilk_spawn.specs.labelled.Labelled.{spawn, print, locking, null, break_off, go_round, tests, sync, abort, return_with, return_nothing}
-use Rattle.cilk_spawn.specs.labelled.Labelled.{close}
-use Rattle.cilk_spawn.specs.model.Values.{Cell, Reached, element_cell, cell_at, reached_at, reached_if, combined}
-use Rattle.cilk_spawn.specs.model.Instance as model
-use Rattle.cilk_spawn.specs.model.Effect as effect
-use Rattle.cilk_spawn.specs.model.Effect.{Effect, writes, answers, enters, gives, starts, writes_out, turns_lock, marks, effect_of, start_of}
-use Rattle.cilk_spawn.specs.model.Printing.{printed}
+use Rattle.cilk_eval.specs.model.declared.trap.Trap.{Trap}
+use Rattle.cilk_eval.specs.model.declared.trap.Trap.TheVariants.{Index}
+use Rattle.cilk_eval.specs.labelled.Term.{Term}
+use Rattle.cilk_eval.specs.labelled.Value.{Environment, value_of, values_of, ◌>>=◌}
+use Rattle.cilk_eval.specs.labelled.Labelled.{Declaration, Target, variable, element, Into, Taker, nothing, into, through, Action, assign, call}
+use Rattle.cilk_eval.specs.labelled.Labelled.{spawn, print, locking, null, break_off, go_round, tests, sync, abort, return_with, return_nothing}
+use Rattle.cilk_eval.specs.labelled.Labelled.{close}
+use Rattle.cilk_eval.specs.model.Values.{Cell, Reached, element_cell, cell_at, reached_at, reached_if, combined}
+use Rattle.cilk_eval.specs.model.Instance as model
+use Rattle.cilk_eval.specs.model.Effect as effect
+use Rattle.cilk_eval.specs.model.Effect.{Effect, writes, answers, enters, gives, starts, writes_out, turns_lock, marks, effect_of, start_of}
+use Rattle.cilk_eval.specs.model.Printing.{printed}
 
 -- what a target names
 abbrev pub named_by : Target → Declaration

@@ -4,27 +4,27 @@ use Rattle.std.proofs.Common.{is_some, codes, slice_get, bytes_eq, inl, inr, ref
 use Rattle.std.specs.List.{list_any}
 use Rattle.std.proofs.lemmas.Bool.{false≢true, and_parts}
 use Rattle.std.proofs.lemmas.Slice.Eq.{bytes_eq-Decides}
-use Rattle.cilk_check.specs.syntax.declared.return_type.ReturnType.TheVariants.{Int}
-use Rattle.cilk_check.specs.syntax.Tree as tree
-use Rattle.cilk_check.specs.scopes.declared.owner.Owner.TheVariants.{Procedure}
-use Rattle.cilk_check.specs.scopes.declared.declaration_kind.DeclarationKind.TheVariants.{Lock}
-use Rattle.cilk_check.specs.scopes.Scopes.{Declared, declared_in, parameter_count, kind_of_body, kind_of_global, item_declares, file_declares}
-use Rattle.cilk_check.specs.scopes.Parts.{owner_of}
-use Rattle.cilk_check.specs.scopes.Declarations.{Declaring, declaring, declarings_of}
-use Rattle.cilk_check.proofs.scopes_laws.Elements.{Has, Has-append_left, Has-append_right, Has-flat_map, Has-from_Contains, Contains-from_Has}
-use Rattle.cilk_check.specs.scopes.NameFaults as names
-use Rattle.cilk_check.specs.scopes.Forms as forms
-use Rattle.cilk_check.specs.scopes.Forms.{IsMain, are_of_main}
-use Rattle.cilk_check.specs.FormFinds.{starts}
-use Rattle.cilk_check.proofs.Mains.{Started, started, starts_where}
-use Rattle.cilk_check.specs.scopes.WellFormed.{WellFormed}
-use Rattle.cilk_spawn.specs.labelled.Labelled.{Body, Variable}
-use Rattle.cilk_spawn.specs.labelled.Names.{Names}
-use Rattle.cilk_spawn.specs.labelled.Count.{count_item}
-use Rattle.cilk_spawn.specs.labelled.Label.{block_variables}
-use Rattle.cilk_spawn.specs.labelled.Bodies.{one_cell, parameter_variables, body_count, item_bodies, items_bodies, bodies_of, file_names}
-use Rattle.cilk_spawn.specs.labelled.Bodies.{is_procedure, is_start, label}
-use Rattle.cilk_spawn.specs.model.Instance.{body_at, no_body}
+use Rattle.cilk_eval.specs.syntax.declared.return_type.ReturnType.TheVariants.{Int}
+use Rattle.cilk_eval.specs.syntax.Tree as tree
+use Rattle.cilk_eval.specs.scopes.declared.owner.Owner.TheVariants.{Procedure}
+use Rattle.cilk_eval.specs.scopes.declared.declaration_kind.DeclarationKind.TheVariants.{Lock}
+use Rattle.cilk_eval.specs.scopes.Scopes.{Declared, declared_in, parameter_count, kind_of_body, kind_of_global, item_declares, file_declares}
+use Rattle.cilk_eval.specs.scopes.Parts.{owner_of}
+use Rattle.cilk_eval.specs.scopes.Declarations.{Declaring, declaring, declarings_of}
+use Rattle.cilk_eval.proofs.scopes_laws.Elements.{Has, Has-append_left, Has-append_right, Has-flat_map, Has-from_Contains, Contains-from_Has}
+use Rattle.cilk_eval.specs.scopes.NameFaults as names
+use Rattle.cilk_eval.specs.scopes.Forms as forms
+use Rattle.cilk_eval.specs.scopes.Forms.{IsMain, are_of_main}
+use Rattle.cilk_eval.specs.scopes.Mains.{starts}
+use Rattle.cilk_eval.proofs.scopes_laws.Mains.{Started, started, starts_where}
+use Rattle.cilk_eval.specs.scopes.WellFormed.{WellFormed}
+use Rattle.cilk_eval.specs.labelled.Labelled.{Body, Variable}
+use Rattle.cilk_eval.specs.labelled.Names.{Names}
+use Rattle.cilk_eval.specs.labelled.Count.{count_item}
+use Rattle.cilk_eval.specs.labelled.Label.{block_variables}
+use Rattle.cilk_eval.specs.labelled.Bodies.{one_cell, parameter_variables, body_count, item_bodies, items_bodies, bodies_of, file_names}
+use Rattle.cilk_eval.specs.labelled.Bodies.{is_procedure, is_start, label}
+use Rattle.cilk_eval.specs.model.Instance.{body_at, no_body}
 use Rattle.cilk_machine_effects.specs.Room.{IsTold, StartsWith}
 use Rattle.cilk_machine_effects.proofs.Lists.{get_within, get_is, found_at, found_passes}
 use Rattle.cilk_machine_effects.proofs.Origins.{Source, inlet, definition, Origin, origin}

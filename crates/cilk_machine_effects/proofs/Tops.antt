@@ -1,19 +1,19 @@
 -- What the names of the top level mean.
 use Rattle.std.proofs.Common.{◌≡◌, ℕ, suc, ◌+◌, ◌<◌, Bool, true, false, List, [], ◌∷◌, flat_map, Some, codes, slice_get, inl, inr, refl, sym, ap, subst, ◌∙◌}
-use Rattle.cilk_check.specs.syntax.declared.return_type.ReturnType.{ReturnType}
-use Rattle.cilk_check.specs.syntax.Tree.{Word}
-use Rattle.cilk_check.specs.syntax.Tree as tree
-use Rattle.cilk_check.specs.scopes.Scopes.{parameter_count, kind_of_body, kind_of_global, file_declares}
-use Rattle.cilk_check.specs.scopes.Parts.{owner_of}
-use Rattle.cilk_spawn.specs.labelled.Labelled as labelled
-use Rattle.cilk_spawn.specs.labelled.Labelled.{Labelled, Body, Variable}
-use Rattle.cilk_spawn.specs.labelled.Names.{Names}
-use Rattle.cilk_spawn.specs.labelled.Count.{count_item}
-use Rattle.cilk_spawn.specs.labelled.Bodies.{body_count, item_bodies, items_bodies, file_means, shaped_variable, item_globals, item_locks}
-use Rattle.cilk_spawn.specs.model.Instance.{no_body}
-use Rattle.cilk_spawn.specs.frame.Cells.{no_variable}
-use Rattle.cilk_spawn.proofs.frame_laws.nodes_laws.BodyCounts.{length-item}
-use Rattle.cilk_check.proofs.scopes_laws.Elements.{Has}
+use Rattle.cilk_eval.specs.syntax.declared.return_type.ReturnType.{ReturnType}
+use Rattle.cilk_eval.specs.syntax.Tree.{Word}
+use Rattle.cilk_eval.specs.syntax.Tree as tree
+use Rattle.cilk_eval.specs.scopes.Scopes.{parameter_count, kind_of_body, kind_of_global, file_declares}
+use Rattle.cilk_eval.specs.scopes.Parts.{owner_of}
+use Rattle.cilk_eval.specs.labelled.Labelled as labelled
+use Rattle.cilk_eval.specs.labelled.Labelled.{Labelled, Body, Variable}
+use Rattle.cilk_eval.specs.labelled.Names.{Names}
+use Rattle.cilk_eval.specs.labelled.Count.{count_item}
+use Rattle.cilk_eval.specs.labelled.Bodies.{body_count, item_bodies, items_bodies, file_means, shaped_variable, item_globals, item_locks}
+use Rattle.cilk_eval.specs.model.Instance.{no_body}
+use Rattle.cilk_eval.specs.frame.Cells.{no_variable}
+use Rattle.cilk_eval.proofs.frame_laws.nodes_laws.BodyCounts.{length-item}
+use Rattle.cilk_eval.proofs.scopes_laws.Elements.{Has}
 use Rattle.cilk_machine_effects.proofs.Lists.{get_within, get_is, StandAt, stand_behind, stand_first, stand_others, Fit}
 use Rattle.cilk_machine_effects.proofs.Meant.{Fits, MeansKind, IsBody}
 use Rattle.cilk_machine_effects.proofs.Files.{count_is}

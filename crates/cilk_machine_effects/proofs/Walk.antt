@@ -2,26 +2,26 @@
 use Rattle.std.proofs.Common.{◌≡◌, ℕ, ◌+◌, Bool, false, IsTrue, ◌∷◌, ◌++◌, length, Option, Some, None, option_to_list, inl, inr, refl, sym, ap}
 use Rattle.std.proofs.Common.{subst, ◌∙◌}
 use Rattle.std.proofs.lemmas.List.{length-map}
-use Rattle.cilk_check.specs.syntax.declared.return_type.ReturnType.{ReturnType}
-use Rattle.cilk_check.specs.syntax.declared.return_type.ReturnType.TheVariants as returns
-use Rattle.cilk_check.specs.syntax.Tree as tree
-use Rattle.cilk_check.specs.scopes.declared.owner.Owner.{Owner}
-use Rattle.cilk_check.specs.scopes.Parts.{Around, statement, parts_of, moves_exprs, inner, after_locals, block_parts, locals_parts, within_stmt, stmts_parts}
-use Rattle.cilk_check.proofs.scopes_laws.Elements.{Has, Has-append_left, Has-append_right}
-use Rattle.cilk_check.specs.scopes.WellFormed.{WellFormed}
-use Rattle.cilk_check.specs.scopes.Uses.{moves_uses}
-use Rattle.cilk_check.specs.scopes.declared.role.Role.TheVariants as role
-use Rattle.cilk_check.specs.scopes.Format.{numbers_in}
-use Rattle.cilk_check.specs.scopes.Forms.{returned_by, has_form}
-use Rattle.cilk_spawn.specs.labelled.Labelled.{Labelled}
-use Rattle.cilk_spawn.specs.labelled.Names.{Names, entered, label_expr}
-use Rattle.cilk_spawn.specs.labelled.Count.{count_option, count_stmt, count_locals, count_block}
-use Rattle.cilk_spawn.specs.labelled.Label.{locals_variables, stmt_variables, stmts_variables, block_variables, label_move, label_return, label_part}
-use Rattle.cilk_spawn.specs.labelled.Label.{label_stmt, label_stmts, label_block, names_behind}
-use Rattle.cilk_spawn.specs.labelled.Bodies.{is_procedure, block_locals}
-use Rattle.cilk_spawn.specs.model.Instance.{body_at}
+use Rattle.cilk_eval.specs.syntax.declared.return_type.ReturnType.{ReturnType}
+use Rattle.cilk_eval.specs.syntax.declared.return_type.ReturnType.TheVariants as returns
+use Rattle.cilk_eval.specs.syntax.Tree as tree
+use Rattle.cilk_eval.specs.scopes.declared.owner.Owner.{Owner}
+use Rattle.cilk_eval.specs.scopes.Parts.{Around, statement, parts_of, moves_exprs, inner, after_locals, block_parts, locals_parts, within_stmt, stmts_parts}
+use Rattle.cilk_eval.proofs.scopes_laws.Elements.{Has, Has-append_left, Has-append_right}
+use Rattle.cilk_eval.specs.scopes.WellFormed.{WellFormed}
+use Rattle.cilk_eval.specs.scopes.Uses.{moves_uses}
+use Rattle.cilk_eval.specs.scopes.declared.role.Role.TheVariants as role
+use Rattle.cilk_eval.specs.scopes.Format.{numbers_in}
+use Rattle.cilk_eval.specs.scopes.Forms.{returned_by, has_form}
+use Rattle.cilk_eval.specs.labelled.Labelled.{Labelled}
+use Rattle.cilk_eval.specs.labelled.Names.{Names, entered, label_expr}
+use Rattle.cilk_eval.specs.labelled.Count.{count_option, count_stmt, count_locals, count_block}
+use Rattle.cilk_eval.specs.labelled.Label.{locals_variables, stmt_variables, stmts_variables, block_variables, label_move, label_return, label_part}
+use Rattle.cilk_eval.specs.labelled.Label.{label_stmt, label_stmts, label_block, names_behind}
+use Rattle.cilk_eval.specs.labelled.Bodies.{is_procedure, block_locals}
+use Rattle.cilk_eval.specs.model.Instance.{body_at}
 use Rattle.cilk_machine_effects.specs.Heads.{Inside, in_a_loop, in_a_switch, MayStand, IfThere, EachOfStmt, EachOf}
-use Rattle.cilk_spawn.specs.frame.Reads.{IsKnown}
+use Rattle.cilk_eval.specs.frame.Reads.{IsKnown}
 use Rattle.cilk_machine_effects.specs.Known.{owner_of}
 use Rattle.cilk_machine_effects.proofs.Lists.{StandAt, stand_left, stand_right}
 use Rattle.cilk_machine_effects.proofs.Facts.{abort_in_inlet, break_in_one, continue_in_a_loop, returns_so, format_counts}

@@ -1,14 +1,14 @@
 -- What an instance has before it, and the node that stands for it.
 use Rattle.std.specs.Prelude.{ℤ, pos, ◌≡◌, ℕ, IsSome, Some}
-use Rattle.cilk_check.specs.syntax.Tree.{Program}
-use Rattle.cilk_spawn.specs.labelled.Labelled.{Numbered}
-use Rattle.cilk_spawn.specs.labelled.Items.{head_of}
-use Rattle.cilk_spawn.specs.labelled.Bodies.{label}
-use Rattle.cilk_spawn.specs.model.Instance.{Instance}
+use Rattle.cilk_eval.specs.syntax.Tree.{Program}
+use Rattle.cilk_eval.specs.labelled.Labelled.{Numbered}
+use Rattle.cilk_eval.specs.labelled.Items.{head_of}
+use Rattle.cilk_eval.specs.labelled.Bodies.{label}
+use Rattle.cilk_eval.specs.model.Instance.{Instance}
 use Rattle.cilk_machine_effects.specs.Heads.{GoesOn}
-use Rattle.cilk_spawn.specs.nodes.Slots.{slot_of}
-use Rattle.cilk_spawn.specs.nodes.Actions.{slotted}
-use Rattle.cilk_spawn.specs.nodes.Table.{number_after, number_else, cases_of, node_of}
+use Rattle.cilk_eval.specs.nodes.Slots.{slot_of}
+use Rattle.cilk_eval.specs.nodes.Actions.{slotted}
+use Rattle.cilk_eval.specs.nodes.Table.{number_after, number_else, cases_of, node_of}
 use Rattle.cilk_machine_effects.specs.Known.{KnownAct}
 
 -- the action before an instance of p, where action n comes next: its node, what it uses, and that another one comes behind it unless it leaves the body

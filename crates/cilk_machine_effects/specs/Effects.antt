@@ -1,23 +1,23 @@
 -- What an action comes to over slots.
 use Rattle.std.specs.Prelude.{ℕ, ℤ, pos, negsuc, nat_lt, if◌then◌else◌, List, Option, Some, None, Result, Ok, Err}
-use Rattle.cilk_spawn.specs.labelled.declared.trap.Trap.{Trap}
-use Rattle.cilk_spawn.specs.labelled.declared.trap.Trap.TheVariants.{Index}
-use Rattle.cilk_spawn.specs.labelled.Term.{Term}
-use Rattle.cilk_spawn.specs.labelled.Value.{value_of, values_of, ◌>>=◌}
-use Rattle.cilk_spawn.specs.nodes.declared.slot.Slot.{Slot}
-use Rattle.cilk_spawn.specs.nodes.Areas.{Cells, environment, slot_cell}
-use Rattle.cilk_spawn.specs.model.Values.{combined}
-use Rattle.cilk_spawn.specs.model.Printing.{printed}
-use Rattle.cilk_spawn.specs.nodes.declared.slot_place.SlotPlace.{SlotPlace}
-use Rattle.cilk_spawn.specs.nodes.declared.target.Target.{Target}
-use Rattle.cilk_spawn.specs.nodes.declared.taker.Taker.{Taker}
-use Rattle.cilk_spawn.specs.nodes.declared.taker.Taker.TheVariants.{Nothing, Into, Through}
-use Rattle.cilk_spawn.specs.nodes.declared.action.Action.{Action}
-use Rattle.cilk_spawn.specs.nodes.declared.action.Action.TheVariants.{Assign, Call, Spawn, Print, Locking, Null, Break, Continue, Test, Sync, Abort}
-use Rattle.cilk_spawn.specs.nodes.declared.action.Action.TheVariants.{Return, ReturnNothing, Close}
-use Rattle.cilk_spawn.specs.frame.declared.awaited.Await.{Await}
-use Rattle.cilk_spawn.specs.declared.receiver.Receiver as receiver
-use Rattle.cilk_spawn.specs.declared.receiver.Receiver.{Receiver}
+use Rattle.cilk_eval.specs.model.declared.trap.Trap.{Trap}
+use Rattle.cilk_eval.specs.model.declared.trap.Trap.TheVariants.{Index}
+use Rattle.cilk_eval.specs.labelled.Term.{Term}
+use Rattle.cilk_eval.specs.labelled.Value.{value_of, values_of, ◌>>=◌}
+use Rattle.cilk_eval.specs.nodes.declared.slot.Slot.{Slot}
+use Rattle.cilk_eval.specs.nodes.Areas.{Cells, environment, slot_cell}
+use Rattle.cilk_eval.specs.model.Values.{combined}
+use Rattle.cilk_eval.specs.model.Printing.{printed}
+use Rattle.cilk_eval.specs.nodes.declared.slot_place.SlotPlace.{SlotPlace}
+use Rattle.cilk_eval.specs.nodes.declared.target.Target.{Target}
+use Rattle.cilk_eval.specs.nodes.declared.taker.Taker.{Taker}
+use Rattle.cilk_eval.specs.nodes.declared.taker.Taker.TheVariants.{Nothing, Into, Through}
+use Rattle.cilk_eval.specs.nodes.declared.action.Action.{Action}
+use Rattle.cilk_eval.specs.nodes.declared.action.Action.TheVariants.{Assign, Call, Spawn, Print, Locking, Null, Break, Continue, Test, Sync, Abort}
+use Rattle.cilk_eval.specs.nodes.declared.action.Action.TheVariants.{Return, ReturnNothing, Close}
+use Rattle.cilk_eval.specs.frame.declared.awaited.Await.{Await}
+use Rattle.cilk_eval.specs.frame.declared.receiver.Receiver as receiver
+use Rattle.cilk_eval.specs.frame.declared.receiver.Receiver.{Receiver}
 use Rattle.cilk_machine_effects.specs.declared.effect.Effect.{Effect}
 use Rattle.cilk_machine_effects.specs.declared.effect.Effect.TheVariants.{Writes, Answers, Enters, Gives, Starts, Prints, TurnsLock, Marks}
 use Rattle.cilk_machine_effects.specs.declared.written.Written.{Written}

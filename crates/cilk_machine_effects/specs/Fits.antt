@@ -1,16 +1,16 @@
 -- Actions whose slots lie in the cells that are there.
 use Rattle.std.specs.Prelude.{⊤, Option, Some, None}
 use Rattle.std.specs.List.{All}
-use Rattle.cilk_spawn.specs.labelled.Term.{Term}
-use Rattle.cilk_spawn.specs.nodes.declared.slot.Slot.{Slot}
-use Rattle.cilk_spawn.specs.nodes.Areas.{Sizes, LiesWithin, SlotsLieWithin}
-use Rattle.cilk_spawn.specs.nodes.declared.slot_place.SlotPlace.{SlotPlace}
-use Rattle.cilk_spawn.specs.nodes.declared.target.Target.{Target}
-use Rattle.cilk_spawn.specs.nodes.declared.taker.Taker.{Taker}
-use Rattle.cilk_spawn.specs.nodes.declared.taker.Taker.TheVariants.{Nothing, Into, Through}
-use Rattle.cilk_spawn.specs.nodes.declared.action.Action.{Action}
-use Rattle.cilk_spawn.specs.nodes.declared.action.Action.TheVariants.{Assign, Call, Spawn, Print, Locking, Null, Break, Continue, Test, Sync, Abort}
-use Rattle.cilk_spawn.specs.nodes.declared.action.Action.TheVariants.{Return, ReturnNothing, Close}
+use Rattle.cilk_eval.specs.labelled.Term.{Term}
+use Rattle.cilk_eval.specs.nodes.declared.slot.Slot.{Slot}
+use Rattle.cilk_eval.specs.nodes.Areas.{Sizes, LiesWithin, SlotsLieWithin}
+use Rattle.cilk_eval.specs.nodes.declared.slot_place.SlotPlace.{SlotPlace}
+use Rattle.cilk_eval.specs.nodes.declared.target.Target.{Target}
+use Rattle.cilk_eval.specs.nodes.declared.taker.Taker.{Taker}
+use Rattle.cilk_eval.specs.nodes.declared.taker.Taker.TheVariants.{Nothing, Into, Through}
+use Rattle.cilk_eval.specs.nodes.declared.action.Action.{Action}
+use Rattle.cilk_eval.specs.nodes.declared.action.Action.TheVariants.{Assign, Call, Spawn, Print, Locking, Null, Break, Continue, Test, Sync, Abort}
+use Rattle.cilk_eval.specs.nodes.declared.action.Action.TheVariants.{Return, ReturnNothing, Close}
 
 abbrev pub FitsSubscript : Sizes → Option (Term Slot) → Type 0
 FitsSubscript sizes None = ⊤

@@ -1,7 +1,7 @@
 -- Where actions stand: in loops and in the blocks of `switch` or not. And which of them leave their body.
 use Rattle.std.specs.Prelude.{◌≡◌, Bool, true, false, ⊤, Option, Some, None}
-use Rattle.cilk_spawn.specs.labelled.Labelled.{Action, break_off, go_round, return_with, return_nothing, close}
-use Rattle.cilk_spawn.specs.labelled.Labelled.{Numbered, Stmt, action, choose, while, repeat, loop, select, at_label, nested, Stmts, none, also, Body}
+use Rattle.cilk_eval.specs.labelled.Labelled.{Action, break_off, go_round, return_with, return_nothing, close}
+use Rattle.cilk_eval.specs.labelled.Labelled.{Numbered, Stmt, action, choose, while, repeat, loop, select, at_label, nested, Stmts, none, also, Body}
 
 -- what surrounds an action in its body: a loop, and a loop or a `switch` (C 1990, 6.6.4.2, 6.6.5)
 pub record Inside : Type 0 where

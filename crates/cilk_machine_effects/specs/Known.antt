@@ -1,16 +1,16 @@
 -- What the actions of a body use is there: variables and arrays, bodies that take the arguments, locks.
 use Rattle.std.specs.Prelude.{◌≡◌, ◌≢◌, ℕ, suc, ◌<◌, ◌≤◌, All, Bool, true, false, IsTrue, ⊤, length, Option, Some, None, is_some}
-use Rattle.cilk_check.specs.syntax.declared.return_type.ReturnType.{ReturnType}
-use Rattle.cilk_check.specs.syntax.declared.return_type.ReturnType.TheVariants.{Int, Void}
-use Rattle.cilk_check.specs.scopes.declared.owner.Owner.{Owner}
-use Rattle.cilk_check.specs.scopes.declared.owner.Owner.TheVariants.{Function, Procedure, Inlet}
-use Rattle.cilk_check.specs.scopes.Format.{numbers_in}
-use Rattle.cilk_check.specs.scopes.Forms.{returned_by}
-use Rattle.cilk_spawn.specs.labelled.Labelled.{Target, variable, element, Into, Taker, nothing, into, through, Action, assign, call, spawn, print}
-use Rattle.cilk_spawn.specs.labelled.Labelled.{locking, null, break_off, go_round, tests, sync, abort, return_with, return_nothing, close, Labelled}
-use Rattle.cilk_spawn.specs.labelled.Bodies.{is_procedure}
-use Rattle.cilk_spawn.specs.model.Instance.{body_at}
-use Rattle.cilk_spawn.specs.frame.Reads.{IsVariable, IsArray, IsKnown}
+use Rattle.cilk_eval.specs.syntax.declared.return_type.ReturnType.{ReturnType}
+use Rattle.cilk_eval.specs.syntax.declared.return_type.ReturnType.TheVariants.{Int, Void}
+use Rattle.cilk_eval.specs.scopes.declared.owner.Owner.{Owner}
+use Rattle.cilk_eval.specs.scopes.declared.owner.Owner.TheVariants.{Function, Procedure, Inlet}
+use Rattle.cilk_eval.specs.scopes.Format.{numbers_in}
+use Rattle.cilk_eval.specs.scopes.Forms.{returned_by}
+use Rattle.cilk_eval.specs.labelled.Labelled.{Target, variable, element, Into, Taker, nothing, into, through, Action, assign, call, spawn, print}
+use Rattle.cilk_eval.specs.labelled.Labelled.{locking, null, break_off, go_round, tests, sync, abort, return_with, return_nothing, close, Labelled}
+use Rattle.cilk_eval.specs.labelled.Bodies.{is_procedure}
+use Rattle.cilk_eval.specs.model.Instance.{body_at}
+use Rattle.cilk_eval.specs.frame.Reads.{IsVariable, IsArray, IsKnown}
 
 -- the owner of body b
 abbrev pub owner_of : Labelled → ℕ → Owner

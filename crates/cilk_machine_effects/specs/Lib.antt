@@ -5,10 +5,10 @@ pub mod Heads
 pub mod Fits
 pub mod Effects
 pub mod Slotted
-pub use Rattle.cilk_check.specs as check
-pub use Rattle.cilk_check.specs.syntax
-pub use Rattle.cilk_spawn.specs.frame
+pub use Rattle.cilk_eval.specs.scopes
+pub use Rattle.cilk_eval.specs.syntax
+pub use Rattle.cilk_eval.specs.frame
 pub use Rattle.cilk_eval.specs as eval
-pub use Rattle.cilk_spawn.specs.labelled
-pub use Rattle.cilk_spawn.specs.model
-pub use Rattle.cilk_spawn.specs.nodes
+pub use Rattle.cilk_eval.specs.labelled
+pub use Rattle.cilk_eval.specs.model
+pub use Rattle.cilk_eval.specs.nodes

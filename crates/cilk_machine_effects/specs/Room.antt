@@ -1,10 +1,10 @@
 -- How much room a program takes, and what it starts with.
 use Rattle.std.specs.Prelude.{◌≡◌, ℕ, ◌<◌, ◌≤◌, pos, ◌⊎◌, List, length, slice_get, codes, Some}
-use Rattle.cilk_check.specs.syntax.declared.return_type.ReturnType.TheVariants.{Int}
-use Rattle.cilk_check.specs.scopes.declared.owner.Owner.TheVariants.{Procedure}
-use Rattle.cilk_spawn.specs.labelled.Labelled.{Variable, Body, Labelled}
-use Rattle.cilk_spawn.specs.model.Instance.{body_at}
-use Rattle.cilk_spawn.specs.nodes.Slots.{cells_of}
+use Rattle.cilk_eval.specs.syntax.declared.return_type.ReturnType.TheVariants.{Int}
+use Rattle.cilk_eval.specs.scopes.declared.owner.Owner.TheVariants.{Procedure}
+use Rattle.cilk_eval.specs.labelled.Labelled.{Variable, Body, Labelled}
+use Rattle.cilk_eval.specs.model.Instance.{body_at}
+use Rattle.cilk_eval.specs.nodes.Slots.{cells_of}
 
 -- so many cells at most, and no array of more than 65,536 elements
 pub record HasRoom (most : ℕ) (variables : List Variable) : Type 0 where

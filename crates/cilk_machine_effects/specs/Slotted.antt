@@ -1,15 +1,15 @@
 -- The effects of actions with slots in place of declarations, and the cells that they reach.
 use Rattle.std.specs.Prelude.{ℕ, ⊤, Option, Some, None, option_map, Result, Ok, Err}
-use Rattle.cilk_spawn.specs.labelled.declared.trap.Trap.{Trap}
-use Rattle.cilk_spawn.specs.nodes.declared.slot.Slot.{Slot}
-use Rattle.cilk_spawn.specs.labelled.Labelled.{Declaration, Labelled}
-use Rattle.cilk_spawn.specs.model.Values.{Cell, Reached}
-use Rattle.cilk_spawn.specs.model.Instance as model
-use Rattle.cilk_spawn.specs.model.Effect as effect
-use Rattle.cilk_spawn.specs.frame.declared.awaited.Await.{Await}
-use Rattle.cilk_spawn.specs.declared.receiver.Receiver.{Receiver}
-use Rattle.cilk_spawn.specs.declared.receiver.Receiver.TheVariants.{Nothing, Place, Call}
-use Rattle.cilk_spawn.specs.frame.Cells.{HasCell}
+use Rattle.cilk_eval.specs.model.declared.trap.Trap.{Trap}
+use Rattle.cilk_eval.specs.nodes.declared.slot.Slot.{Slot}
+use Rattle.cilk_eval.specs.labelled.Labelled.{Declaration, Labelled}
+use Rattle.cilk_eval.specs.model.Values.{Cell, Reached}
+use Rattle.cilk_eval.specs.model.Instance as model
+use Rattle.cilk_eval.specs.model.Effect as effect
+use Rattle.cilk_eval.specs.frame.declared.awaited.Await.{Await}
+use Rattle.cilk_eval.specs.frame.declared.receiver.Receiver.{Receiver}
+use Rattle.cilk_eval.specs.frame.declared.receiver.Receiver.TheVariants.{Nothing, Place, Call}
+use Rattle.cilk_eval.specs.frame.Cells.{HasCell}
 use Rattle.cilk_machine_effects.specs.declared.effect.Effect.{Effect}
 use Rattle.cilk_machine_effects.specs.declared.effect.Effect.TheVariants.{Writes, Answers, Enters, Gives, Starts, Prints, TurnsLock, Marks}
 

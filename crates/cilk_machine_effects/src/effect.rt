@@ -3,7 +3,7 @@
 use crate::bytes::Bytes;
 use crate::reached::Reached;
 use crate::{Await, LockAction};
-use cilk_spawn::{Arguments, Receiver};
+use cilk_eval::{Arguments, Receiver};
 
 /// What an action comes to, once its expressions have their values.
 #[derive(Drop)]

@@ -2,7 +2,7 @@
 
 ghost use Rattle.std.specs.Prelude.{◌≡◌, IfOk};
 ghost use Rattle.std.specs.List.{All};
-ghost use Rattle.cilk_spawn.specs.nodes.Areas.{cells_of, sizes_of, SlotsLieWithin};
+ghost use Rattle.cilk_eval.specs.nodes.Areas.{cells_of, sizes_of, SlotsLieWithin};
 ghost use Rattle.cilk_machine_effects.specs.Effects.{written, assigned, awaited, started, effect_in};
 ghost use Rattle.cilk_machine_effects.specs.Fits.{FitsPlace, FitsTarget, FitsTaker, FitsAct};
 
@@ -12,7 +12,7 @@ use crate::reached::Reached;
 use crate::values::{combined, held, index_of, values_of};
 use crate::written::Written;
 use crate::{Action, Await, Code, Slots, Taker, Target, Trap, eval};
-use cilk_spawn::{Memory, Receiver};
+use cilk_eval::{Memory, Receiver};
 use std::alloc::Global;
 
 /// What action n comes to over the cells that its activation sees, or the first trap from the left

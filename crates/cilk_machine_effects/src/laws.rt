@@ -1,13 +1,13 @@
 //! Laws about effects. The function does nothing: its contract is what is proved.
 
 ghost use Rattle.std.specs.Prelude.{◌≡◌, ℕ, Ok};
-ghost use Rattle.cilk_spawn.specs.nodes.Areas.{Cells, sizes_of};
-ghost use Rattle.cilk_spawn.specs.labelled.Labelled.{Labelled, Action};
-ghost use Rattle.cilk_spawn.specs.model.Values.{Store, environment};
-ghost use Rattle.cilk_spawn.specs.model.Effect as effect;
-ghost use Rattle.cilk_spawn.specs.nodes.Actions.{slotted};
-ghost use Rattle.cilk_spawn.specs.nodes.Slots.{slot_of};
-ghost use Rattle.cilk_spawn.specs.frame.Reads.{Seen};
+ghost use Rattle.cilk_eval.specs.nodes.Areas.{Cells, sizes_of};
+ghost use Rattle.cilk_eval.specs.labelled.Labelled.{Labelled, Action};
+ghost use Rattle.cilk_eval.specs.model.Values.{Store, environment};
+ghost use Rattle.cilk_eval.specs.model.Effect as effect;
+ghost use Rattle.cilk_eval.specs.nodes.Actions.{slotted};
+ghost use Rattle.cilk_eval.specs.nodes.Slots.{slot_of};
+ghost use Rattle.cilk_eval.specs.frame.Reads.{Seen};
 ghost use Rattle.cilk_machine_effects.specs.Known.{KnownAct};
 ghost use Rattle.cilk_machine_effects.specs.Effects.{effect_in};
 ghost use Rattle.cilk_machine_effects.specs.Fits.{FitsAct};

@@ -13,10 +13,9 @@ mod values;
 mod written;
 
 pub use bytes::Bytes;
-pub use cilk_eval::{apply, eval};
-pub use cilk_spawn::{
-    Action, Area, Arguments, Await, BinOp, Code, LockAction, Memory, Receiver, Slot, SlotPlace,
-    Slots, Taker, Target, Trap,
+pub use cilk_eval::{
+    Action, Area, Arguments, Await, BinOp, Code, Known, Listed, LockAction, Memory, Receiver, Slot,
+    SlotPlace, Slots, Taker, Target, Trap, apply, eval, eval_known, is_known_of, known_of,
 };
 pub use effect::Effect;
 pub use effects::{assigned, effect_of};

@@ -1,10 +1,10 @@
 //! What `printf` writes.
 
 ghost use Rattle.std.specs.Prelude.{◌≡◌, ◌∷◌, ◌++◌, ℕ, List, IfOk};
-ghost use Rattle.cilk_spawn.specs.model.Printing as model;
+ghost use Rattle.cilk_eval.specs.model.Printing as model;
 
 use crate::bytes::Bytes;
-use cilk_spawn::Memory;
+use cilk_eval::Memory;
 use itoa::Buffer;
 use std::alloc::Global;
 

@@ -2,14 +2,14 @@
 
 ghost use Rattle.std.specs.Prelude.{◌≡◌, ◌<◌, max, IfOk};
 ghost use Rattle.std.specs.List.{All};
-ghost use Rattle.cilk_spawn.specs.labelled.Value.{values_of};
-ghost use Rattle.cilk_spawn.specs.nodes.Areas.{cells_of, slot_cell, sizes_of, environment, SlotsLieWithin};
-ghost use Rattle.cilk_spawn.specs.model.Values as model;
+ghost use Rattle.cilk_eval.specs.labelled.Value.{values_of};
+ghost use Rattle.cilk_eval.specs.nodes.Areas.{cells_of, slot_cell, sizes_of, environment, SlotsLieWithin};
+ghost use Rattle.cilk_eval.specs.model.Values as model;
 ghost use Rattle.cilk_machine_effects.specs.Effects.{index_of};
 ghost use Rattle.cilk_machine_effects.specs.Fits.{FitsPlace};
 
 use crate::{Area, BinOp, Code, Slot, SlotPlace, Slots, Trap, apply, eval};
-use cilk_spawn::{Arguments, Memory};
+use cilk_eval::{Arguments, Memory};
 use std::alloc::Global;
 
 /// What a cell holds, or 0 where its area has no such cell.

@@ -131,7 +131,7 @@ module _ (t : InHand) (asked : Asked t) (b m : ℕ) where
           let same : nat_le (g.printed + length w.bytes) 1048576
           ≡ room = ap (λ out. nat_le (length out + length w.bytes) 1048576) (sym t.agrees.outside.output) ∙ e in
           subst
-          (λ r. IsPlan t (made.if_room r Rattle.cilk_machine_agree.specs.spawn.declared.trap_kind.TrapKind.TheVariants.Output m
+          (λ r. IsPlan t (made.if_room r Rattle.cilk_machine_agree.specs.frame.declared.trap_kind.TrapKind.TheVariants.Output m
           (Rattle.cilk_machine_plan.specs.declared.plan.Plan.TheVariants.Print m w.bytes (next_of node (pos 1))))) (sym same)
           (by_case room step)
         where
@@ -139,7 +139,7 @@ module _ (t : InHand) (asked : Asked t) (b m : ℕ) where
               → step_in t
               ≡ if_room s (path_of t) m state.output room (goes_on (change.after_print s (path_of t) i w.bytes) (acted (path_of t) m))
               → IsPlan t
-              (made.if_room room Rattle.cilk_machine_agree.specs.spawn.declared.trap_kind.TrapKind.TheVariants.Output m
+              (made.if_room room Rattle.cilk_machine_agree.specs.frame.declared.trap_kind.TrapKind.TheVariants.Output m
               (Rattle.cilk_machine_plan.specs.declared.plan.Plan.TheVariants.Print m w.bytes (next_of node (pos 1))))
           by_case true step = record { step = step; next = a.goes goes (pos 1) }
           by_case false step = step
@@ -198,7 +198,7 @@ module _ (t : InHand) (asked : Asked t) (b m : ℕ) where
           → step_in t ≡ if_room s (path_of t) m state.depth room (goes_on (after_call program s (path_of t) i w.awaits callee w.values) (acted (path_of t) m))
           → Rattle.cilk_machine_effects.specs.Slotted.AwaitedCell program b w.awaits
           → IsPlan t
-          (made.if_room room Rattle.cilk_machine_agree.specs.spawn.declared.trap_kind.TrapKind.TheVariants.Depth m
+          (made.if_room room Rattle.cilk_machine_agree.specs.frame.declared.trap_kind.TrapKind.TheVariants.Depth m
           (Rattle.cilk_machine_plan.specs.declared.plan.Plan.TheVariants.Call m (slotted_await m w.awaits) callee w.values
           (next_of node (pos 1))))
       by_case true e step there = record {
@@ -222,7 +222,7 @@ module _ (t : InHand) (asked : Asked t) (b m : ℕ) where
       by_room room e step there =
           let same : nat_lt (depth t.frame) 256 ≡ room = depth-room (depth t.frame) (length i.below) (depth-is program t.frame i stands) ∙ e in
           subst
-          (λ r. IsPlan t (made.if_room r Rattle.cilk_machine_agree.specs.spawn.declared.trap_kind.TrapKind.TheVariants.Depth m
+          (λ r. IsPlan t (made.if_room r Rattle.cilk_machine_agree.specs.frame.declared.trap_kind.TrapKind.TheVariants.Depth m
           (Rattle.cilk_machine_plan.specs.declared.plan.Plan.TheVariants.Call m (slotted_await m w.awaits) callee w.values
           (next_of node (pos 1))))) (sym same)
           (by_case room e

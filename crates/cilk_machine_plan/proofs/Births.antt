@@ -32,7 +32,7 @@ use Rattle.cilk_machine_agree.specs.Laws.{InHand, path_of, node_of, instance_of}
 use Rattle.cilk_machine_agree.specs.Asked.{Asked}
 use Rattle.cilk_machine_agree.proofs.Alone.{holds}
 use Rattle.cilk_machine_agree.proofs.Actions.{told}
-use Rattle.cilk_machine_agree.specs.spawn.declared.trap_kind.TrapKind.TheVariants as kind
+use Rattle.cilk_machine_agree.specs.frame.declared.trap_kind.TrapKind.TheVariants as kind
 use Rattle.cilk_machine_plan.specs.declared.plan.Plan.TheVariants as plan
 use Rattle.cilk_machine_plan.specs.Made as made
 use Rattle.cilk_machine_plan.specs.Made.{next_of, by_effect, has_room}

@@ -1,6 +1,6 @@
 -- A delivery is taken: the plan is the step.
 use Rattle.std.proofs.Common.{◌≡◌, ℕ, suc, ◌<◌, ℤ, List, [], ◌∷◌, length, Some, Result, Ok, Err, refl, sym, ap, ◌∙◌, subst, arith}
-use Rattle.cilk_machine_agree.specs.labelled.declared.trap.Trap.{Trap}
+use Rattle.cilk_machine_agree.specs.model.declared.trap.Trap.{Trap}
 use Rattle.cilk_machine_agree.specs.nodes.Areas.{slot_cell}
 use Rattle.cilk_machine_agree.specs.labelled.Labelled.{Labelled}
 use Rattle.cilk_machine_agree.specs.labelled.Bodies.{label}
@@ -15,8 +15,8 @@ use Rattle.cilk_machine_agree.specs.frame.Stands.{StandsFor}
 use Rattle.cilk_machine_agree.proofs.frame_laws.Tops.{depth-is}
 use Rattle.cilk_machine_agree.proofs.frame_laws.Values.{cell-same}
 use Rattle.cilk_machine_agree.specs.spawn.declared.delivery.Delivery.{Delivery}
-use Rattle.cilk_machine_agree.specs.spawn.declared.receiver.Receiver.{Receiver}
-use Rattle.cilk_machine_agree.specs.spawn.declared.receiver.Receiver.TheVariants.{Nothing, Place, Call}
+use Rattle.cilk_machine_agree.specs.frame.declared.receiver.Receiver.{Receiver}
+use Rattle.cilk_machine_agree.specs.frame.declared.receiver.Receiver.TheVariants.{Nothing, Place, Call}
 use Rattle.cilk_machine_agree.specs.spawn.Nodes.{path_at}
 use Rattle.cilk_machine_agree.specs.Alike.{Receives, SameDelivery}
 use Rattle.cilk_machine_agree.specs.Laws.{InHand, path_of, node_of, instance_of}

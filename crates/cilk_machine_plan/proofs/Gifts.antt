@@ -2,7 +2,7 @@
 use Rattle.std.proofs.Common.{◌≡◌, ℕ, suc, ℤ, Bool, true, false, not, ◌&&◌, ◌==◌, List, [], ◌∷◌, length, Option, Some, None, Result, Ok, Err, refl}
 use Rattle.std.proofs.Common.{sym, ap, ◌∙◌, subst, arith, if◌then◌else◌}
 use Rattle.std.proofs.lemmas.Bool.{ne_eqb}
-use Rattle.cilk_machine_agree.specs.labelled.declared.trap.Trap.{Trap}
+use Rattle.cilk_machine_agree.specs.model.declared.trap.Trap.{Trap}
 use Rattle.cilk_machine_agree.specs.nodes.Areas.{slot_cell}
 use Rattle.cilk_machine_agree.specs.labelled.Labelled.{Labelled}
 use Rattle.cilk_machine_agree.specs.labelled.Bodies.{label}

@@ -13,3 +13,4 @@ pub use Rattle.cilk_machine_agree.proofs.runs_laws
 pub use Rattle.cilk_machine_agree.proofs.sched_laws
 pub use Rattle.cilk_machine_agree.proofs.spawn_laws
 pub use Rattle.cilk_machine_effects.proofs as effects_laws
+pub use Rattle.cilk_machine_effects.proofs.eval_laws

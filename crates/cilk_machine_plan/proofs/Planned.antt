@@ -1,7 +1,7 @@
 -- The plan of a step is the step.
 use Rattle.std.proofs.Common.{◌≡◌, ℕ, Bool, true, false, not, ◌&&◌, ◌||◌, List, [], ◌∷◌, Some, Result, Ok, Err, refl, sym, ap, ◌∙◌, subst, if◌then◌else◌}
 use Rattle.std.proofs.lemmas.Bool.{and_parts}
-use Rattle.cilk_machine_agree.specs.labelled.declared.trap.Trap.{Trap}
+use Rattle.cilk_machine_agree.specs.model.declared.trap.Trap.{Trap}
 use Rattle.cilk_machine_agree.specs.labelled.Value.{Environment}
 use Rattle.cilk_machine_agree.specs.nodes.declared.slot.Slot.{Slot}
 use Rattle.cilk_machine_agree.specs.labelled.Labelled.{Declaration, Labelled, Action, assign, call, spawn, print, locking, null, break_off, go_round}
@@ -39,7 +39,7 @@ use Rattle.cilk_machine_agree.specs.Asked.{Asked}
 use Rattle.cilk_machine_agree.proofs.Actions.{told}
 use Rattle.cilk_machine_agree.proofs.Asked.{oldest-told}
 use Rattle.cilk_machine_agree.proofs.Alone.{holds}
-use Rattle.cilk_machine_agree.specs.spawn.declared.trap_kind.TrapKind.TheVariants as kind
+use Rattle.cilk_machine_agree.specs.frame.declared.trap_kind.TrapKind.TheVariants as kind
 use Rattle.cilk_machine_plan.specs.declared.plan.Plan.TheVariants as plan
 use Rattle.cilk_machine_plan.specs.Made as made
 use Rattle.cilk_machine_plan.specs.Made.{by_effect, planned, by_head, by_node, by_deliveries, acted, is_function_body}

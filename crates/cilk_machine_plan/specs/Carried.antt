@@ -16,7 +16,7 @@ use Rattle.cilk_machine_agree.specs.Laws.{sent, can_go_on, released}
 use Rattle.cilk_machine_agree.specs.Actions.{past_spawn}
 use Rattle.cilk_machine_plan.specs.declared.plan.Plan.{Plan}
 use Rattle.cilk_machine_plan.specs.declared.plan.Plan.TheVariants as plan
-use Rattle.cilk_machine_agree.specs.spawn.Kinds.{kind_of}
+use Rattle.cilk_machine_agree.specs.frame.Kinds.{kind_of}
 use Rattle.cilk_machine_plan.specs.declared.did.Did.{Did}
 use Rattle.cilk_machine_plan.specs.declared.did.Did.TheVariants as did
 use Rattle.cilk_machine_plan.specs.declared.did.Outcome.{Outcome}

@@ -17,4 +17,4 @@ pub use Rattle.cilk_machine_agree.specs.sched
 pub use Rattle.cilk_machine_agree.specs.spawn
 pub use Rattle.cilk_machine_agree.specs.syntax
 pub use Rattle.cilk_machine_effects.specs as effects
-pub use Rattle.cilk_machine_effects.specs.check
+pub use Rattle.cilk_machine_agree.specs.scopes

@@ -1,7 +1,7 @@
 -- The plan of a step, as the code makes it.
 use Rattle.std.specs.Prelude.{pos, ℕ, ◌+◌, ◌-◌, ◌^◌, ℤ, Bool, true, false, not, ◌&&◌, ◌||◌, nat_lt, nat_le, if◌then◌else◌, List, [], ◌∷◌, length, Option}
 use Rattle.std.specs.Prelude.{Some, None, Result, Ok, Err, unwrap_or}
-use Rattle.cilk_machine_agree.specs.labelled.declared.trap.Trap.{Trap}
+use Rattle.cilk_machine_agree.specs.model.declared.trap.Trap.{Trap}
 use Rattle.cilk_machine_agree.specs.nodes.Areas.{slot_cell}
 use Rattle.cilk_machine_agree.specs.model.Values.{combined}
 use Rattle.cilk_machine_agree.specs.model.Change.{is_function}
@@ -18,15 +18,15 @@ use Rattle.cilk_machine_agree.specs.nodes.Bodies.{body_of}
 use Rattle.cilk_machine_agree.specs.frame.declared.awaited.Await.{Await}
 use Rattle.cilk_machine_agree.specs.frame.Frames.{depth, top_of, left}
 use Rattle.cilk_machine_agree.specs.spawn.declared.delivery.Delivery.{Delivery}
-use Rattle.cilk_machine_agree.specs.spawn.declared.receiver.Receiver as receiver
-use Rattle.cilk_machine_agree.specs.spawn.declared.receiver.Receiver.{Receiver}
+use Rattle.cilk_machine_agree.specs.frame.declared.receiver.Receiver as receiver
+use Rattle.cilk_machine_agree.specs.frame.declared.receiver.Receiver.{Receiver}
 use Rattle.cilk_machine_agree.specs.spawn.Nodes.{is_synched, has_live_child, live_ids}
 use Rattle.cilk_machine_effects.specs.declared.effect.Effect.{Effect}
 use Rattle.cilk_machine_effects.specs.declared.effect.Effect.TheVariants.{Writes, Answers, Enters, Gives, Starts, Prints, TurnsLock, Marks}
 use Rattle.cilk_machine_effects.specs.Effects.{effect_in}
 use Rattle.cilk_machine_agree.specs.Locks.{LockTurn, lock_turned, refused, blocked, lock_turn_among}
-use Rattle.cilk_machine_agree.specs.spawn.declared.trap_kind.TrapKind.{TrapKind}
-use Rattle.cilk_machine_agree.specs.spawn.declared.trap_kind.TrapKind.TheVariants as kind
+use Rattle.cilk_machine_agree.specs.frame.declared.trap_kind.TrapKind.{TrapKind}
+use Rattle.cilk_machine_agree.specs.frame.declared.trap_kind.TrapKind.TheVariants as kind
 use Rattle.cilk_machine_plan.specs.declared.plan.Plan.{Plan}
 use Rattle.cilk_machine_plan.specs.declared.plan.Plan.TheVariants as plan
 use Rattle.cilk_machine_plan.specs.StepInput.{StepInput, id_of, own_node, head_number, cells_by, cells_in, holds_lock, is_outer}

@@ -5,7 +5,7 @@ use Rattle.cilk_machine_agree.specs.model.Event as event
 use Rattle.cilk_machine_agree.specs.model.Event.{Event}
 use Rattle.cilk_machine_agree.specs.Outside as outside
 use Rattle.cilk_machine_agree.specs.Agrees.{MachineParts}
-use Rattle.cilk_machine_agree.specs.spawn.Kinds.{kind_of}
+use Rattle.cilk_machine_agree.specs.frame.Kinds.{kind_of}
 use Rattle.cilk_machine_plan.specs.declared.did.Did.{Did}
 use Rattle.cilk_machine_plan.specs.declared.did.Did.TheVariants.{Moved, Acted, Spawned, Delivered, Returned, Ended}
 use Rattle.cilk_machine_plan.specs.declared.did.Did.TheVariants as did

@@ -20,7 +20,7 @@ use Rattle.cilk_machine_agree.specs.frame.Frames.{depth}
 use Rattle.cilk_machine_agree.specs.frame.Begins.{Takes}
 use Rattle.cilk_machine_agree.specs.frame.Cells.{SameCell}
 use Rattle.cilk_machine_agree.specs.frame.Stands.{AwaitsSame, bodies_of}
-use Rattle.cilk_machine_agree.specs.spawn.declared.receiver.Receiver.{Receiver}
+use Rattle.cilk_machine_agree.specs.frame.declared.receiver.Receiver.{Receiver}
 use Rattle.cilk_machine_agree.specs.spawn.Nodes.{has_live_child, path_at}
 use Rattle.cilk_machine_effects.specs.declared.reached.Reached as code
 use Rattle.cilk_machine_agree.specs.declared.lock.Lock.{Lock}
@@ -30,7 +30,7 @@ use Rattle.cilk_machine_agree.specs.Laws.{InHand, path_of, node_of, instance_of}
 use Rattle.cilk_machine_agree.specs.Actions.{IsNext}
 use Rattle.cilk_machine_plan.specs.declared.plan.Plan as plan
 use Rattle.cilk_machine_plan.specs.declared.plan.Plan.{Plan}
-use Rattle.cilk_machine_agree.specs.spawn.Kinds.{kind_of}
+use Rattle.cilk_machine_agree.specs.frame.Kinds.{kind_of}
 use Rattle.cilk_machine_plan.specs.StepInput.{StepInput}
 
 -- what the step of the instance in the hand looks at

@@ -16,8 +16,8 @@ pub use cilk_machine_agree::{
     Lock, Mixer, Path, Program, Remains, Taken, TrapKind, Tree, TreeImage, Var,
 };
 pub use cilk_machine_effects::{
-    Arguments, Await, Bytes, Effect, Memory, Reached, Receiver, Slots, assigned, combined,
-    effect_of, held,
+    Arguments, Await, Bytes, Effect, Known, Listed, Memory, Reached, Receiver, Slots, assigned,
+    combined, effect_of, eval, eval_known, held, is_known_of, known_of,
 };
 pub use did::{Did, Done, NoMemory, Outcome};
 pub use laws::plans_are_steps;

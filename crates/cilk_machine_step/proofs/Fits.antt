@@ -2,7 +2,7 @@
 use Rattle.std.proofs.Common.{◌≡◌, sym, ap, ◌∙◌, subst}
 use Rattle.std.proofs.lemmas.Option.{same_Some}
 use Rattle.cilk_load.specs.check.scopes.WellFormed.{WellFormed}
-use Rattle.cilk_machine_plan.proofs.effects_laws.Known.{heads, follows}
+use Rattle.cilk_machine_plan.proofs.effects_laws.KnownActions.{heads, follows}
 use Rattle.cilk_machine_plan.specs.nodes.Areas.{sizes_of}
 use Rattle.cilk_load.specs.labelled.Bodies.{label}
 use Rattle.cilk_machine_plan.specs.model.State.{store_of}

@@ -40,14 +40,14 @@ use Rattle.cilk_machine_plan.proofs.Gifts.{outer-is}
 use Rattle.cilk_machine_plan.proofs.Heads.{Sound, stands, head-of, head, own_node, node-is, known}
 use Rattle.cilk_machine_plan.proofs.Planned.{leaves-same, sync-same, plan-is}
 use Rattle.cilk_machine_step.proofs.Acts.{cell-declared}
-use Rattle.cilk_load.specs.labelled.declared.trap.Trap.{Trap}
+use Rattle.cilk_load.specs.model.declared.trap.Trap.{Trap}
 use Rattle.cilk_machine_plan.specs.nodes.Areas.{slot_cell}
 use Rattle.cilk_machine_plan.specs.model.Values.{combined}
 use Rattle.cilk_machine_plan.specs.effects.declared.reached.Reached as code
 use Rattle.cilk_machine_plan.specs.spawn.Nodes.{has_live_child}
 use Rattle.cilk_machine_plan.specs.spawn.declared.delivery.Delivery as code_delivery
-use Rattle.cilk_machine_plan.specs.spawn.declared.receiver.Receiver.{Receiver}
-use Rattle.cilk_machine_plan.specs.spawn.declared.receiver.Receiver.TheVariants as receiver
+use Rattle.cilk_machine_plan.specs.frame.declared.receiver.Receiver.{Receiver}
+use Rattle.cilk_machine_plan.specs.frame.declared.receiver.Receiver.TheVariants as receiver
 use Rattle.cilk_machine_step.specs.declared.coming.Coming.{Coming}
 use Rattle.cilk_machine_step.specs.declared.coming.Coming.TheVariants.{End, Nothing, Delivery}
 use Rattle.cilk_machine_step.specs.Comings.{plan_for}

@@ -2,13 +2,13 @@
 use Rattle.std.proofs.Common.{◌≡◌, ℕ, ℤ, Bool, true, false, not, ◌&&◌, ◌||◌, Option, Some, None, Result, Ok, Err, refl, sym, ap, ◌∙◌, subst, if◌then◌else◌}
 use Rattle.std.proofs.lemmas.Option.{same_Some}
 use Rattle.std.specs.Prelude.{is_some, option_map, slice_get}
-use Rattle.cilk_load.specs.labelled.declared.trap.Trap.{Trap}
+use Rattle.cilk_load.specs.model.declared.trap.Trap.{Trap}
 use Rattle.cilk_load.specs.labelled.Term.{Term}
 use Rattle.cilk_load.specs.labelled.Value.{value_of, ◌>>=◌}
 use Rattle.cilk_machine_plan.specs.nodes.declared.slot.Slot.{Slot}
-use Rattle.cilk_eval.specs.Known.{known, known_of}
+use Rattle.cilk_machine_plan.specs.eval.Known.{known, known_of}
 use Rattle.cilk_machine_plan.specs.nodes.Reads.{is_plain}
-use Rattle.cilk_eval.proofs.KnownLaws.{plain-value}
+use Rattle.cilk_machine_plan.proofs.eval_laws.KnownLaws.{plain-value}
 use Rattle.cilk_machine_plan.specs.nodes.Areas.{Cells, Sizes, SlotsLieWithin, environment, slot_cell, sizes_of}
 use Rattle.cilk_machine_plan.specs.model.Values.{combined}
 use Rattle.cilk_machine_plan.specs.nodes.declared.action.Action.{Action}
@@ -19,7 +19,7 @@ use Rattle.cilk_machine_plan.specs.nodes.declared.target.Target.{Target}
 use Rattle.cilk_machine_plan.specs.nodes.Table.{node_of}
 use Rattle.cilk_machine_plan.specs.nodes.Bodies.{body_of}
 use Rattle.cilk_machine_plan.specs.spawn.Nodes.{is_synched}
-use Rattle.cilk_machine_plan.specs.spawn.declared.trap_kind.TrapKind.TheVariants as kind
+use Rattle.cilk_machine_plan.specs.frame.declared.trap_kind.TrapKind.TheVariants as kind
 use Rattle.cilk_machine_plan.specs.effects.declared.effect.Effect.TheVariants.{Writes}
 use Rattle.cilk_machine_plan.specs.effects.Effects.{effect_in, subscript_of}
 use Rattle.cilk_machine_plan.specs.effects.Fits.{FitsAct}

@@ -5,7 +5,7 @@ use Rattle.std.specs.List.{All}
 use Rattle.std.proofs.lemmas.List.{map-append}
 use Rattle.std.proofs.lemmas.List.Elements.{All-head, All-tail}
 use Rattle.cilk_machine_plan.specs.syntax.declared.operator.BinOp.{BinOp}
-use Rattle.cilk_machine_plan.specs.labelled.declared.trap.Trap.{Trap}
+use Rattle.cilk_machine_plan.specs.model.declared.trap.Trap.{Trap}
 use Rattle.cilk_machine_plan.specs.labelled.Arithmetic.{is_zero}
 use Rattle.cilk_machine_plan.specs.labelled.Term.{Term, number, variable, element, synched, unary, binary, choose, rename}
 use Rattle.cilk_machine_plan.specs.labelled.Value.{Environment, value_of, settled_by_left}

@@ -2,8 +2,8 @@
 use Rattle.std.proofs.Common.{◌≡◌, ℕ, ℤ, pos, negsuc, Bool, true, false, nat_lt, List, [], ◌∷◌, ◌++◌, map, Option, Some, None, Result, Ok, Err, refl, sym, ap}
 use Rattle.std.proofs.Common.{◌∙◌, if◌then◌else◌}
 use Rattle.cilk_machine_plan.specs.syntax.declared.operator.BinOp.{BinOp}
-use Rattle.cilk_machine_plan.specs.labelled.declared.trap.Trap.{Trap}
-use Rattle.cilk_machine_plan.specs.labelled.declared.trap.Trap.TheVariants.{Index}
+use Rattle.cilk_machine_plan.specs.model.declared.trap.Trap.{Trap}
+use Rattle.cilk_machine_plan.specs.model.declared.trap.Trap.TheVariants.{Index}
 use Rattle.cilk_machine_plan.specs.labelled.Value.{value_of, ◌>>=◌}
 use Rattle.cilk_machine_plan.specs.labelled.Labelled.{Labelled, Declaration, local, outer, global, of_lock, of_body, unknown, Target, variable, element}
 use Rattle.cilk_machine_plan.specs.labelled.Labelled.{Variable}

@@ -1,6 +1,6 @@
 -- What a scene shows of the next step of an instance is what the definition of accesses says.
 use Rattle.std.proofs.Common.{◌≡◌, Bool, true, false, ◌&&◌, ◌||◌, List, [], ◌∷◌, Some, refl, sym, ap, ◌∙◌, subst, if◌then◌else◌}
-use Rattle.cilk_machine_plan.specs.check.scopes.WellFormed.{WellFormed}
+use Rattle.cilk_machine_plan.specs.scopes.WellFormed.{WellFormed}
 use Rattle.cilk_machine_plan.specs.labelled.Labelled.{Labelled, Declaration, Action, assign, call, spawn, print, locking, null, break_off}
 use Rattle.cilk_machine_plan.specs.labelled.Labelled.{go_round, tests, sync, abort, return_with, return_nothing, close}
 use Rattle.cilk_machine_plan.specs.labelled.Items.{head_of}
@@ -16,8 +16,8 @@ use Rattle.cilk_machine_plan.specs.nodes.Actions.{slotted}
 use Rattle.cilk_machine_plan.specs.nodes.Slots.{slot_of}
 use Rattle.cilk_machine_plan.specs.nodes.Table.{node_of}
 use Rattle.cilk_machine_plan.specs.spawn.declared.delivery.Delivery.{Delivery}
-use Rattle.cilk_machine_plan.specs.spawn.declared.receiver.Receiver.{Receiver}
-use Rattle.cilk_machine_plan.specs.spawn.declared.receiver.Receiver.TheVariants.{Nothing, Place, Call}
+use Rattle.cilk_machine_plan.specs.frame.declared.receiver.Receiver.{Receiver}
+use Rattle.cilk_machine_plan.specs.frame.declared.receiver.Receiver.TheVariants.{Nothing, Place, Call}
 use Rattle.cilk_machine_plan.specs.spawn.Nodes.{path_at}
 use Rattle.cilk_machine_plan.specs.agree.Alike.{Receives, SameDeliveries}
 use Rattle.cilk_machine_plan.specs.agree.Laws.{InHand, path_of, instance_of}
@@ -25,7 +25,7 @@ use Rattle.cilk_machine_plan.specs.agree.Laws as laws
 use Rattle.cilk_machine_plan.specs.agree.Asked.{Asked}
 use Rattle.cilk_machine_plan.proofs.agree_laws.Actions.{told}
 use Rattle.cilk_machine_plan.proofs.agree_laws.Asked.{asked}
-use Rattle.cilk_machine_plan.proofs.effects_laws.Known.{heads, follows}
+use Rattle.cilk_machine_plan.proofs.effects_laws.KnownActions.{heads, follows}
 use Rattle.cilk_machine_plan.specs.Made as made
 use Rattle.cilk_machine_plan.specs.Plans.{input_in}
 use Rattle.cilk_machine_plan.specs.StepInput.{StepInput, is_outer}

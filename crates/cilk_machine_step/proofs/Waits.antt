@@ -1,6 +1,6 @@
 -- No effect but that of a call of a lock makes an instance wait.
 use Rattle.std.proofs.Common.{pos, ◌≡◌, ℕ, ℤ, Bool, true, false, not, ◌&&◌, ◌||◌, List, Option, Some, None, Result, Ok, Err, refl, ◌∙◌, if◌then◌else◌}
-use Rattle.cilk_load.specs.labelled.declared.trap.Trap.{Trap}
+use Rattle.cilk_load.specs.model.declared.trap.Trap.{Trap}
 use Rattle.cilk_load.specs.labelled.Value.{value_of, values_of, ◌>>=◌}
 use Rattle.cilk_machine_plan.specs.nodes.declared.slot.Slot.{Slot}
 use Rattle.cilk_load.specs.labelled.Term.{Term}
@@ -18,15 +18,15 @@ use Rattle.cilk_machine_plan.specs.nodes.Table.{node_of}
 use Rattle.cilk_machine_plan.specs.nodes.Bodies.{body_of}
 use Rattle.cilk_machine_plan.specs.frame.declared.awaited.Await.{Await}
 use Rattle.cilk_machine_plan.specs.frame.Frames.{top_of, left}
-use Rattle.cilk_machine_plan.specs.spawn.declared.receiver.Receiver as receiver
-use Rattle.cilk_machine_plan.specs.spawn.declared.receiver.Receiver.{Receiver}
+use Rattle.cilk_machine_plan.specs.frame.declared.receiver.Receiver as receiver
+use Rattle.cilk_machine_plan.specs.frame.declared.receiver.Receiver.{Receiver}
 use Rattle.cilk_machine_plan.specs.spawn.Nodes.{is_synched, has_live_child}
 use Rattle.cilk_machine_plan.specs.effects.declared.effect.Effect.{Effect}
 use Rattle.cilk_machine_plan.specs.effects.declared.effect.Effect.TheVariants.{Writes, Answers, Enters, Gives, Starts, Prints, TurnsLock, Marks}
 use Rattle.cilk_machine_plan.specs.effects.Effects.{index_of, awaited, effect_in}
 use Rattle.cilk_machine_plan.specs.agree.Locks.{LockTurn, lock_turned, refused, blocked, lock_turn_among}
-use Rattle.cilk_machine_plan.specs.spawn.declared.trap_kind.TrapKind.{TrapKind}
-use Rattle.cilk_machine_plan.specs.spawn.declared.trap_kind.TrapKind.TheVariants as kind
+use Rattle.cilk_machine_plan.specs.frame.declared.trap_kind.TrapKind.{TrapKind}
+use Rattle.cilk_machine_plan.specs.frame.declared.trap_kind.TrapKind.TheVariants as kind
 use Rattle.cilk_machine_plan.specs.declared.plan.Plan.{Plan}
 use Rattle.cilk_machine_plan.specs.declared.plan.Plan.TheVariants as plan
 use Rattle.cilk_machine_plan.specs.Made.{traps, if_room, takes_by, next_of, target_of_node, answered_at, answered, is_function_body, given, lock_turned_to}

@@ -5,13 +5,13 @@ use Rattle.std.specs.Prelude.{slice_get}
 use Rattle.cilk_machine_plan.specs.nodes.declared.node.Node.{Node}
 use Rattle.cilk_machine_plan.specs.nodes.Table.{node_of}
 use Rattle.cilk_machine_plan.specs.nodes.Bodies.{body_of}
-use Rattle.cilk_load.specs.labelled.declared.trap.Trap.{Trap}
+use Rattle.cilk_load.specs.model.declared.trap.Trap.{Trap}
 use Rattle.cilk_machine_plan.specs.spawn.Nodes.{is_synched}
 use Rattle.cilk_machine_plan.specs.effects.declared.effect.Effect.{Effect}
 use Rattle.cilk_machine_plan.specs.effects.declared.effect.Effect.TheVariants.{Gives}
 use Rattle.cilk_machine_plan.specs.effects.Effects.{effect_in}
 use Rattle.cilk_machine_plan.specs.spawn.declared.delivery.Delivery.{Delivery}
-use Rattle.cilk_machine_plan.specs.spawn.declared.trap_kind.TrapKind.TheVariants as kind
+use Rattle.cilk_machine_plan.specs.frame.declared.trap_kind.TrapKind.TheVariants as kind
 use Rattle.cilk_machine_plan.specs.declared.plan.Plan.TheVariants as plan
 use Rattle.cilk_machine_plan.specs.Made.{traps, waits_here, ends_thread, leaves, is_sync, is_spawn, is_function_body, given, by_effect, planned}
 use Rattle.cilk_machine_plan.specs.Made.{aborted, by_head, by_deliveries, acted, at_boundary}

@@ -1,6 +1,6 @@
 -- Which cells that several instances or threads see a step reads and writes.
 use Rattle.std.specs.Prelude.{ℕ, suc, Bool, true, false, if◌then◌else◌, ◌&&◌, List, [], ◌∷◌, ◌++◌, flat_map, map, Option, Some, None, Result, Ok, Err}
-use Rattle.cilk_machine_plan.specs.labelled.declared.trap.Trap.{Trap}
+use Rattle.cilk_machine_plan.specs.model.declared.trap.Trap.{Trap}
 use Rattle.cilk_machine_plan.specs.syntax.declared.operator.BinOp.{BinOp}
 use Rattle.cilk_machine_plan.specs.labelled.Value.{Environment}
 use Rattle.cilk_machine_plan.specs.labelled.Labelled as labelled

@@ -8,5 +8,5 @@ pub mod Comings
 pub mod Private
 pub mod Owned
 pub use Rattle.cilk_machine_plan.specs as plan
-pub use Rattle.cilk_eval.specs as eval
+pub use Rattle.cilk_machine_plan.specs.eval
 pub use Rattle.cilk_load.specs.labelled

@@ -1,11 +1,11 @@
 -- What a step evaluates that may be evaluated before it is taken, by one who holds no lock meanwhile.
 use Rattle.std.specs.Prelude.{ℕ, ℤ, Bool, ◌&&◌, if◌then◌else◌, List, Option, Some, None, is_some, option_and_then, option_map, slice_get, ◌≡◌, Result, Ok}
-use Rattle.cilk_load.specs.labelled.declared.trap.Trap.{Trap}
+use Rattle.cilk_load.specs.model.declared.trap.Trap.{Trap}
 use Rattle.cilk_load.specs.labelled.Term.{Term}
 use Rattle.cilk_load.specs.labelled.Value.{◌>>=◌, value_of}
 use Rattle.cilk_machine_plan.specs.nodes.declared.slot.Slot.{Slot}
-use Rattle.cilk_eval.specs.declared.known.Known.{Known}
-use Rattle.cilk_eval.specs.Known.{known, known_of}
+use Rattle.cilk_machine_plan.specs.eval.declared.known.Known.{Known}
+use Rattle.cilk_machine_plan.specs.eval.Known.{known, known_of}
 use Rattle.cilk_machine_plan.specs.nodes.Reads.{is_plain}
 use Rattle.cilk_machine_plan.specs.nodes.Areas.{Cells, slot_cell}
 use Rattle.cilk_machine_plan.specs.model.Path.{Path}

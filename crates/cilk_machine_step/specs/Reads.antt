@@ -1,7 +1,7 @@
 -- Which cells an expression reads, as far as it is evaluated (C 1990, 6.3).
 use Rattle.std.specs.Prelude.{ℕ, ℤ, pos, negsuc, if◌then◌else◌, nat_lt, is_some, List, [], ◌∷◌, ◌++◌, Result, Ok, Err}
 use Rattle.cilk_machine_plan.specs.syntax.declared.operator.BinOp.{BinOp}
-use Rattle.cilk_machine_plan.specs.labelled.declared.trap.Trap.{Trap}
+use Rattle.cilk_machine_plan.specs.model.declared.trap.Trap.{Trap}
 use Rattle.cilk_machine_plan.specs.labelled.Arithmetic.{is_zero}
 use Rattle.cilk_machine_plan.specs.labelled.Term.{Term, number, variable, element, synched, unary, binary, choose}
 use Rattle.cilk_machine_plan.specs.labelled.Value.{Environment, value_of, settled_by_left}

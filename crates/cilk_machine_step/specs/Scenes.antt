@@ -6,8 +6,8 @@ use Rattle.cilk_machine_plan.specs.nodes.declared.action.Action.TheVariants.{Ass
 use Rattle.cilk_machine_plan.specs.nodes.declared.action.Action.TheVariants.{Abort, Return, ReturnNothing, Close}
 use Rattle.cilk_machine_plan.specs.nodes.declared.node.Node.{Node}
 use Rattle.cilk_machine_plan.specs.nodes.Table.{node_of}
-use Rattle.cilk_machine_plan.specs.spawn.declared.receiver.Receiver as receiver
-use Rattle.cilk_machine_plan.specs.spawn.declared.receiver.Receiver.{Receiver}
+use Rattle.cilk_machine_plan.specs.frame.declared.receiver.Receiver as receiver
+use Rattle.cilk_machine_plan.specs.frame.declared.receiver.Receiver.{Receiver}
 use Rattle.cilk_machine_plan.specs.effects.Fits.{FitsAct}
 use Rattle.cilk_machine_plan.specs.agree.Locks.{LockTurn, lock_turned, refused, blocked, lock_turn_among}
 use Rattle.cilk_machine_plan.specs.declared.plan.Plan.{Plan}

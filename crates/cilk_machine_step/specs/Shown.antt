@@ -1,7 +1,7 @@
 -- The same over slots: what a scene shows of the cells that the next step reads and writes.
 use Rattle.std.specs.Prelude.{ℕ, suc, ◌==◌, Bool, true, false, ◌&&◌, if◌then◌else◌, List, [], ◌∷◌, ◌++◌, map, flat_map, Option, Some, None, Result, Ok, Err}
 use Rattle.std.specs.Prelude.{position, unwrap_or}
-use Rattle.cilk_machine_plan.specs.labelled.declared.trap.Trap.{Trap}
+use Rattle.cilk_machine_plan.specs.model.declared.trap.Trap.{Trap}
 use Rattle.cilk_machine_plan.specs.labelled.Term.{Term}
 use Rattle.cilk_machine_plan.specs.labelled.Value.{Environment}
 use Rattle.cilk_machine_plan.specs.syntax.declared.operator.BinOp.{BinOp}
@@ -24,8 +24,8 @@ use Rattle.cilk_machine_plan.specs.nodes.Table.{node_of}
 use Rattle.cilk_machine_plan.specs.frame.declared.awaited.Await.{Await}
 use Rattle.cilk_machine_plan.specs.frame.Frames.{depth, top_of}
 use Rattle.cilk_machine_plan.specs.spawn.declared.delivery.Delivery.{Delivery}
-use Rattle.cilk_machine_plan.specs.spawn.declared.receiver.Receiver as receiver
-use Rattle.cilk_machine_plan.specs.spawn.declared.receiver.Receiver.{Receiver}
+use Rattle.cilk_machine_plan.specs.frame.declared.receiver.Receiver as receiver
+use Rattle.cilk_machine_plan.specs.frame.declared.receiver.Receiver.{Receiver}
 use Rattle.cilk_machine_plan.specs.spawn.Nodes.{path_at}
 use Rattle.cilk_machine_plan.specs.agree.declared.lock.Lock.{Lock}
 use Rattle.cilk_machine_plan.specs.agree.Locks.{is_held_by}

@@ -1,7 +1,7 @@
 //! The law of accesses. The function does nothing: its contract is what is proved.
 
 ghost use Rattle.std.specs.Prelude.{◌≡◌};
-ghost use Rattle.cilk_machine_plan.specs.check.scopes.WellFormed.{WellFormed};
+ghost use Rattle.cilk_machine_plan.specs.scopes.WellFormed.{WellFormed};
 ghost use Rattle.cilk_machine_plan.specs.labelled.Bodies.{label};
 ghost use Rattle.cilk_machine_plan.specs.agree.Laws.{InHand, instance_of, path_of};
 ghost use Rattle.cilk_machine_plan.specs.Plans.{input_in};

@@ -24,9 +24,10 @@ mod waiting;
 
 pub use access::{Access, Spot};
 pub use cell_laws::accesses_are_shown;
-pub use cilk_eval::{Code, Known, Listed};
-pub use cilk_load::{Action, LoadFault, Loaded, Memory, Taker, Trap, load};
-pub use cilk_machine_plan::{Light, Path, Plan, TrapKind};
+pub use cilk_load::{
+    Action, Area, Code, CodeNode, LoadFault, Loaded, LockAction, Memory, Slot, Taker, Trap, load,
+};
+pub use cilk_machine_plan::{Known, Light, Listed, Path, Plan, TrapKind};
 pub use laws::scenes_fit;
 pub use light::plan_lightly;
 pub use locks::locks_in;

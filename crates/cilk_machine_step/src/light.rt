@@ -14,9 +14,8 @@ use crate::act::{ends_thread, leaves, next_of};
 use crate::coming::{Coming, comes_next};
 use crate::leaving::given;
 use crate::scene::Scene;
-use cilk_eval::eval;
 use cilk_load::{Action, Node, Slots, Trap};
-use cilk_machine_plan::{Delivery, Light, Plan, Reached, Receiver, assigned, combined, held};
+use cilk_machine_plan::{Delivery, Light, Plan, Reached, Receiver, assigned, combined, eval, held};
 
 /// The plan of the step of the instance of a frame, where it is a light one that is soon made: an assignment, a test, a
 /// jump, the end of a C function, or a value that is taken into a place. None tells nothing.

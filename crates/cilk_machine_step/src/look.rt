@@ -2,7 +2,7 @@
 
 ghost use Rattle.std.specs.Prelude.{◌≡◌, ◌<◌, length, option_map, false, Some, Ok, Decides, IfOk, IfErr, IfSome, OnOk};
 ghost use Rattle.cilk_machine_plan.specs.nodes.Areas.{sizes_of, SlotsLieWithin};
-ghost use Rattle.cilk_eval.specs.Known.{known_of};
+ghost use Rattle.cilk_machine_plan.specs.eval.Known.{known_of};
 ghost use Rattle.cilk_machine_plan.specs.StepInput.{id_of, head_number, cells_in};
 ghost use Rattle.cilk_machine_plan.specs.Made.{by_effect, planned};
 ghost use Rattle.cilk_machine_plan.specs.Words.{plan_of};
@@ -13,9 +13,10 @@ use crate::act::next_of;
 use crate::coming::{Coming, comes_next};
 use crate::peek::Peek;
 use crate::scene::Scene;
-use cilk_eval::{Code, Known, Listed, is_known_of, known_of};
-use cilk_load::{Action, Loaded, Memory, Node, SlotPlace, Trap};
-use cilk_machine_plan::{Light, Plan, Reached, TrapKind, combined, held};
+use cilk_load::{Action, Code, Loaded, Memory, Node, SlotPlace, Trap};
+use cilk_machine_plan::{
+    Known, Light, Listed, Plan, Reached, TrapKind, combined, held, is_known_of, known_of,
+};
 use std::alloc::Global;
 
 /// What the step of the instance of a frame evaluates, where it assigns to a variable that is no element, or tests, and neither an element nor

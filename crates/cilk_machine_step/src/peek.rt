@@ -1,12 +1,11 @@
 //! An expression that the next step evaluates, with all that its value needs apart from the machine.
 
 ghost use Rattle.std.specs.Prelude.{◌≡◌};
-ghost use Rattle.cilk_eval.specs.Known.{known};
+ghost use Rattle.cilk_machine_plan.specs.eval.Known.{known};
 ghost use Rattle.cilk_load.specs.labelled.Value.{value_of};
 
-use cilk_eval::{Code, Known, eval_known};
-use cilk_load::Trap;
-use cilk_machine_plan::Path;
+use cilk_load::{Code, Trap};
+use cilk_machine_plan::{Known, Path, eval_known};
 
 /// What the next step of an instance evaluates, and all that its value depends on.
 #[derive(Drop)]

@@ -13,8 +13,7 @@ ghost use Rattle.cilk_machine_step.specs.Owned.{is_own, owns_act, owns_awaited, 
 use crate::act::{act, at_boundary, leaves};
 use crate::coming::{Coming, comes_next};
 use crate::scene::Scene;
-use cilk_eval::{Area, Code, CodeNode, Slot};
-use cilk_load::{Action, Memory, Node, SlotPlace};
+use cilk_load::{Action, Area, Code, CodeNode, Memory, Node, Slot, SlotPlace};
 use cilk_machine_plan::Plan;
 use std::alloc::Global;
 

@@ -10,8 +10,8 @@ ghost use Rattle.cilk_machine_step.specs.Shown.{act_reads, place_reads, subscrip
 ghost use Rattle.cilk_machine_step.specs.CellWords.{read_of};
 
 use crate::read::Read;
-use cilk_eval::eval;
 use cilk_load::{Action, BinOp, Code, CodeNode, Memory, Slot, SlotPlace, Slots, Taker, Target};
+use cilk_machine_plan::eval;
 
 /// Adds what an expression reads, from left to right. `&&`, `||` and `?:` evaluate only the operands that they need.
 #[cycle(push_reads)]

@@ -18,9 +18,8 @@ use crate::leaving::is_function_body;
 use crate::reading::push_action;
 use crate::scene::Scene;
 use crate::spotting::{push_read_cells, push_update};
-use cilk_eval::eval;
 use cilk_load::{Action, Memory, Node, SlotPlace, Slots, Target, Trap};
-use cilk_machine_plan::{Await, Reached, Receiver};
+use cilk_machine_plan::{Await, Reached, Receiver, eval};
 use std::alloc::Global;
 
 /// Adds what an action does.

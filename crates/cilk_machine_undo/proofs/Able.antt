@@ -18,9 +18,9 @@ use Rattle.cilk_machine_plan.specs.frame.Begins.{starts_with}
 use Rattle.cilk_machine_plan.specs.spawn.declared.delivery.Delivery.{Delivery}
 use Rattle.cilk_machine_plan.specs.spawn.declared.fate.Fate.{Fate}
 use Rattle.cilk_machine_plan.specs.spawn.declared.fate.Fate.TheVariants.{Returned, Aborted}
-use Rattle.cilk_machine_plan.specs.spawn.declared.receiver.Receiver.{Receiver}
-use Rattle.cilk_machine_plan.specs.spawn.declared.receiver.Receiver.TheVariants.{Nothing}
-use Rattle.cilk_machine_plan.specs.spawn.Kinds.{kind_of}
+use Rattle.cilk_machine_plan.specs.frame.declared.receiver.Receiver.{Receiver}
+use Rattle.cilk_machine_plan.specs.frame.declared.receiver.Receiver.TheVariants.{Nothing}
+use Rattle.cilk_machine_plan.specs.frame.Kinds.{kind_of}
 use Rattle.cilk_machine_plan.specs.spawn.Nodes.{Node, IsTree, no_node, node_at, lives, is_live, new_child, with_child, with_waiting}
 use Rattle.cilk_machine_plan.specs.spawn.Nodes.{after_taking, value_taken, with_parked, taken, ended, marked_below, has_live_child, delivered, IsBelow}
 use Rattle.cilk_machine_plan.specs.spawn.Dropped.{unborn}

@@ -12,8 +12,8 @@ use Rattle.cilk_machine_plan.specs.frame.Frames.{Frame}
 use Rattle.cilk_machine_plan.specs.spawn.declared.delivery.Delivery.{Delivery}
 use Rattle.cilk_machine_plan.specs.spawn.declared.fate.Fate.{Fate}
 use Rattle.cilk_machine_plan.specs.spawn.declared.fate.Fate.TheVariants.{Live, Returned, Delivered, Aborted}
-use Rattle.cilk_machine_plan.specs.spawn.declared.receiver.Receiver.{Receiver}
-use Rattle.cilk_machine_plan.specs.spawn.declared.receiver.Receiver.TheVariants.{Nothing}
+use Rattle.cilk_machine_plan.specs.frame.declared.receiver.Receiver.{Receiver}
+use Rattle.cilk_machine_plan.specs.frame.declared.receiver.Receiver.TheVariants.{Nothing}
 use Rattle.cilk_machine_plan.specs.spawn.Nodes.{Node, IsTree, no_node, node_at, lives, is_live, descends, new_child, with_child, with_waiting}
 use Rattle.cilk_machine_plan.specs.spawn.Nodes.{without_receiver, with_parked, delivery_of, delivered_to, after_taking, value_taken, taken, ended}
 use Rattle.cilk_machine_plan.specs.spawn.Nodes.{marked_below}

@@ -8,7 +8,7 @@ use Rattle.cilk_machine_plan.specs.frame.Begins.{starts_with}
 use Rattle.cilk_machine_plan.specs.effects.declared.reached.Reached.{Reached}
 use Rattle.cilk_machine_plan.specs.spawn.declared.fate.Fate.{Fate}
 use Rattle.cilk_machine_plan.specs.spawn.declared.fate.Fate.TheVariants.{Returned, Aborted}
-use Rattle.cilk_machine_plan.specs.spawn.Kinds.{kind_of}
+use Rattle.cilk_machine_plan.specs.frame.Kinds.{kind_of}
 use Rattle.cilk_machine_plan.specs.spawn.Nodes.{Node, is_live, node_at, with_parked, taken, ended, marked_below}
 use Rattle.cilk_machine_plan.specs.spawn.Revived.{revived}
 use Rattle.cilk_machine_plan.specs.agree.Outside as outside

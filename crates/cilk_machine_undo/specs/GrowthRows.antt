@@ -3,7 +3,7 @@ use Rattle.std.specs.Prelude.{◌≡◌, refl, ℕ, ℤ, false, List, [], ◌∷
 use Rattle.cilk_machine_plan.specs.spawn.declared.delivery.Delivery.{Delivery}
 use Rattle.cilk_machine_plan.specs.spawn.declared.fate.Fate.{Fate}
 use Rattle.cilk_machine_plan.specs.spawn.declared.fate.Fate.TheVariants.{Live, Returned, Delivered, Aborted}
-use Rattle.cilk_machine_plan.specs.spawn.declared.receiver.Receiver.TheVariants.{Nothing}
+use Rattle.cilk_machine_plan.specs.frame.declared.receiver.Receiver.TheVariants.{Nothing}
 use Rattle.cilk_machine_plan.specs.spawn.Nodes.{Node, node_at, taken}
 use Rattle.cilk_machine_undo.specs.Growth.{cut, cut_node}
 

@@ -13,7 +13,7 @@ pub mod Moment
 pub mod MomentLaws
 pub use Rattle.cilk_machine_plan.specs as plans
 pub use Rattle.cilk_machine_plan.specs.agree
-pub use Rattle.cilk_machine_plan.specs.check
+pub use Rattle.cilk_machine_plan.specs.scopes
 pub use Rattle.cilk_machine_plan.specs.effects
 pub use Rattle.cilk_machine_plan.specs.eval
 pub use Rattle.cilk_machine_plan.specs.frame

@@ -4,7 +4,7 @@ ghost use Rattle.std.specs.Prelude.{◌≡◌, ◌<◌, ℕ, ℤ, true, List, Op
 ghost use Rattle.cilk_machine_plan.specs.frame.declared.awaited.Await as awaits;
 ghost use Rattle.cilk_machine_plan.specs.frame.Frames as frames;
 ghost use Rattle.cilk_machine_plan.specs.frame.Frames.{depth};
-ghost use Rattle.cilk_machine_plan.specs.spawn.declared.receiver.Receiver as receivers;
+ghost use Rattle.cilk_machine_plan.specs.frame.declared.receiver.Receiver as receivers;
 ghost use Rattle.cilk_machine_plan.specs.spawn.Nodes.{node_at, is_live};
 ghost use Rattle.cilk_machine_plan.specs.agree.declared.lock.Lock as locks;
 ghost use Rattle.cilk_machine_plan.specs.agree.Agrees.{MachineParts};

@@ -1,4 +1,4 @@
 pub mod Runs
 pub mod Printing
-pub use Rattle.cilk_model_labels.proofs.scopes_laws
-pub use Rattle.cilk_model_labels.proofs.syntax_laws
+pub use Rattle.cilk_check_scopes.proofs as scopes_laws
+pub use Rattle.cilk_check_scopes.proofs.syntax_laws

@@ -1,6 +1,6 @@
 -- A run goes on by one choice.
 use Rattle.std.proofs.Common.{◌≡◌, ℕ, Bool, true, false, List, [], ◌∷◌, ◌++◌, Option, Some, None, is_none, refl, subst, if◌then◌else◌}
-use Rattle.cilk_model_labels.specs.Labelled.{Labelled}
+use Rattle.cilk_model.specs.labelled.Labelled.{Labelled}
 use Rattle.cilk_model.specs.Event.{Event}
 use Rattle.cilk_model.specs.Choice.{Choice, Refusal}
 use Rattle.cilk_model.specs.Run.{Standing, Position, refusal_of, next_of, event_of, after_from, opening, is_crew, after_main, after, position_after, one_more}

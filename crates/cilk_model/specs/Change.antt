@@ -2,13 +2,13 @@
 use Rattle.std.specs.Prelude.{ℕ, ◌+◌, ℤ, pos, Bool, true, false, not, ◌&&◌, ◌||◌, if◌then◌else◌, List, [], ◌∷◌, ◌++◌, map, Option, Some, None}
 use Rattle.std.specs.Prelude.{slice_index_or, slice_set}
 use Rattle.std.specs.List.{list_any}
-use Rattle.cilk_model_labels.specs.syntax.declared.lock_action.LockAction.{LockAction}
-use Rattle.cilk_model_labels.specs.syntax.declared.lock_action.LockAction.TheVariants.{Init, Unlock}
-use Rattle.cilk_model_labels.specs.syntax.declared.lock_action.LockAction.TheVariants as action
-use Rattle.cilk_model_labels.specs.scopes.declared.owner.Owner.{Owner}
-use Rattle.cilk_model_labels.specs.scopes.declared.owner.Owner.TheVariants.{Function, Procedure, Inlet}
-use Rattle.cilk_model_labels.specs.Labelled.{Labelled, Declaration, local, outer, global, Action, sync, spawn, return_with, return_nothing, close, Numbered}
-use Rattle.cilk_model_labels.specs.Items.{head_of, opened, next}
+use Rattle.cilk_check_scopes.specs.syntax.declared.lock_action.LockAction.{LockAction}
+use Rattle.cilk_check_scopes.specs.syntax.declared.lock_action.LockAction.TheVariants.{Init, Unlock}
+use Rattle.cilk_check_scopes.specs.syntax.declared.lock_action.LockAction.TheVariants as action
+use Rattle.cilk_check_scopes.specs.declared.owner.Owner.{Owner}
+use Rattle.cilk_check_scopes.specs.declared.owner.Owner.TheVariants.{Function, Procedure, Inlet}
+use Rattle.cilk_model.specs.labelled.Labelled.{Labelled, Declaration, local, outer, global, Action, sync, spawn, return_with, return_nothing, close, Numbered}
+use Rattle.cilk_model.specs.labelled.Items.{head_of, opened, next}
 use Rattle.cilk_model.specs.Values.{Values, Cell, Reached}
 use Rattle.cilk_model.specs.Path.{Path, same_path, child_path, parent_of, is_below}
 use Rattle.cilk_model.specs.Instance.{Activation, Receiver, Delivery, Instance, entered, started, owner_at}

@@ -1,11 +1,11 @@
 -- What an action comes to, once its expressions have their values, or the first trap from the left.
 use Rattle.std.specs.Prelude.{ℕ, ℤ, pos, List, Option, Some, None, Result, Ok}
-use Rattle.cilk_model_labels.specs.syntax.declared.lock_action.LockAction.{LockAction}
-use Rattle.cilk_model_labels.specs.declared.trap.Trap.{Trap}
-use Rattle.cilk_model_labels.specs.Term.{Term}
-use Rattle.cilk_model_labels.specs.Value.{Environment, value_of, values_of, ◌>>=◌}
-use Rattle.cilk_model_labels.specs.Labelled.{Declaration, Taker, nothing, into, through, Action, assign, call, spawn, print, locking, null, break_off}
-use Rattle.cilk_model_labels.specs.Labelled.{go_round, tests, sync, abort, return_with, return_nothing, close}
+use Rattle.cilk_check_scopes.specs.syntax.declared.lock_action.LockAction.{LockAction}
+use Rattle.cilk_model.specs.declared.trap.Trap.{Trap}
+use Rattle.cilk_model.specs.labelled.Term.{Term}
+use Rattle.cilk_model.specs.labelled.Value.{Environment, value_of, values_of, ◌>>=◌}
+use Rattle.cilk_model.specs.labelled.Labelled.{Declaration, Taker, nothing, into, through, Action, assign, call, spawn, print, locking, null, break_off}
+use Rattle.cilk_model.specs.labelled.Labelled.{go_round, tests, sync, abort, return_with, return_nothing, close}
 use Rattle.cilk_model.specs.Values.{Cell, Reached, reached_at, reached_if, combined}
 use Rattle.cilk_model.specs.Instance as instance
 use Rattle.cilk_model.specs.Instance.{Receiver, place}

@@ -3,9 +3,9 @@ use Rattle.std.specs.Prelude.{ℕ, zero, suc, ℤ, Bool, true, ◌&&◌, ◌==�
 use Rattle.std.specs.Prelude.{unwrap_or, slice_get, codes, decimal}
 use Rattle.std.specs.List.{list_all}
 use Rattle.std.specs.Fmt.{signed_decimal}
-use Rattle.cilk_model_labels.specs.declared.trap.Trap.{Trap}
-use Rattle.cilk_model_labels.specs.declared.trap.Trap.TheVariants.{Overflow, ZeroDivide, Shift, Index}
-use Rattle.cilk_model_labels.specs.Labelled.{Labelled}
+use Rattle.cilk_model.specs.declared.trap.Trap.{Trap}
+use Rattle.cilk_model.specs.declared.trap.Trap.TheVariants.{Overflow, ZeroDivide, Shift, Index}
+use Rattle.cilk_model.specs.labelled.Labelled.{Labelled}
 use Rattle.cilk_model.specs.Path.{Path, path_text}
 use Rattle.cilk_model.specs.State as state
 use Rattle.cilk_model.specs.State.{TrapKind, of_value, lock, held_lock, depth, instances, output, Outcome}

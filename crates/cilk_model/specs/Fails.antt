@@ -1,13 +1,13 @@
 -- Why an action has no meaning: the first trap from the left, or what is not allowed or has no room.
 use Rattle.std.specs.Prelude.{◌≡◌, ◌≢◌, ℕ, ◌+◌, ◌<◌, ◌≤◌, ℤ, ◌⊎◌, List, [], ◌∷◌, length, Option, Some, Ok, Err}
-use Rattle.cilk_model_labels.specs.syntax.declared.lock_action.LockAction.{LockAction}
-use Rattle.cilk_model_labels.specs.syntax.declared.lock_action.LockAction.TheVariants.{Init, Lock, Unlock}
-use Rattle.cilk_model_labels.specs.scopes.declared.owner.Owner.TheVariants.{Function}
-use Rattle.cilk_model_labels.specs.syntax.declared.return_type.ReturnType.{ReturnType}
-use Rattle.cilk_model_labels.specs.declared.trap.Trap.{Trap}
-use Rattle.cilk_model_labels.specs.Term.{Term}
-use Rattle.cilk_model_labels.specs.Value.{Environment, value_of, values_of}
-use Rattle.cilk_model_labels.specs.Labelled.{Labelled, Declaration, Into, Taker, Action, assign, call, spawn, print, locking, tests, sync, return_with}
+use Rattle.cilk_check_scopes.specs.syntax.declared.lock_action.LockAction.{LockAction}
+use Rattle.cilk_check_scopes.specs.syntax.declared.lock_action.LockAction.TheVariants.{Init, Lock, Unlock}
+use Rattle.cilk_check_scopes.specs.declared.owner.Owner.TheVariants.{Function}
+use Rattle.cilk_check_scopes.specs.syntax.declared.return_type.ReturnType.{ReturnType}
+use Rattle.cilk_model.specs.declared.trap.Trap.{Trap}
+use Rattle.cilk_model.specs.labelled.Term.{Term}
+use Rattle.cilk_model.specs.labelled.Value.{Environment, value_of, values_of}
+use Rattle.cilk_model.specs.labelled.Labelled.{Labelled, Declaration, Into, Taker, Action, assign, call, spawn, print, locking, tests, sync, return_with}
 use Rattle.cilk_model.specs.Values.{Reached, environment, read_at, reached_at, reached_if, combined}
 use Rattle.cilk_model.specs.Path.{Path}
 use Rattle.cilk_model.specs.Instance.{Activation, Instance, owner_at}

@@ -1,6 +1,6 @@
 -- The activations of a live instance.
 use Rattle.std.specs.Prelude.{ℕ, List, [], ◌∷◌, ◌++◌, codes, decimal, flat_map, reverse}
-use Rattle.cilk_model_labels.specs.Labelled.{Variable, Labelled}
+use Rattle.cilk_model.specs.labelled.Labelled.{Variable, Labelled}
 use Rattle.cilk_model.specs.Values.{Values}
 use Rattle.cilk_model.specs.Instance.{Activation, Instance, body_at}
 use Rattle.cilk_model.specs.Texts.{variable_text, line_at}

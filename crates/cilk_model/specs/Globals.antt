@@ -1,7 +1,7 @@
 -- The variables and the locks of the top level.
 use Rattle.std.specs.Prelude.{ℕ, List, [], ◌∷◌, ◌++◌, codes}
-use Rattle.cilk_model_labels.specs.syntax.Tree as tree
-use Rattle.cilk_model_labels.specs.Bodies.{shaped_variable}
+use Rattle.cilk_check_scopes.specs.syntax.Tree as tree
+use Rattle.cilk_model.specs.labelled.Bodies.{shaped_variable}
 use Rattle.cilk_model.specs.Path.{path_text}
 use Rattle.cilk_model.specs.Values.{Values}
 use Rattle.cilk_model.specs.State.{Lock, unset, free, held}

@@ -1,9 +1,9 @@
 -- An instance of a procedure that was spawned, or of `main` (Cilk 5.4 manual, `spawn`, `sync`, `inlet`).
 use Rattle.std.specs.Prelude.{ℕ, ℤ, Bool, false, List, [], ◌∷◌, Option, None, slice_index_or}
-use Rattle.cilk_model_labels.specs.scopes.declared.owner.Owner.{Owner}
-use Rattle.cilk_model_labels.specs.scopes.declared.owner.Owner.TheVariants.{Inlet}
-use Rattle.cilk_model_labels.specs.Labelled.{Body, Labelled, none}
-use Rattle.cilk_model_labels.specs.Items.{Items, opened, start_items}
+use Rattle.cilk_check_scopes.specs.declared.owner.Owner.{Owner}
+use Rattle.cilk_check_scopes.specs.declared.owner.Owner.TheVariants.{Inlet}
+use Rattle.cilk_model.specs.labelled.Labelled.{Body, Labelled, none}
+use Rattle.cilk_model.specs.labelled.Items.{Items, opened, start_items}
 use Rattle.cilk_model.specs.Values.{Values, Reached, initial_values}
 use Rattle.cilk_model.specs.Path.{Path}
 

@@ -1,3 +1,4 @@
+pub mod labelled
 pub mod Path
 pub mod Values
 pub mod Instance
@@ -29,6 +30,5 @@ pub mod ViewTrees
 pub mod Listing
 pub mod Views
 pub mod ViewRows
-pub use Rattle.cilk_model_labels.specs as labelled
-pub use Rattle.cilk_model_labels.specs.scopes
-pub use Rattle.cilk_model_labels.specs.syntax
+pub use Rattle.cilk_check_scopes.specs as scopes
+pub use Rattle.cilk_check_scopes.specs.syntax

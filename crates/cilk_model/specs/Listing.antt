@@ -1,8 +1,8 @@
 -- The canonical text with the numbers of its lines and actions.
 use Rattle.std.specs.Prelude.{ℕ, suc, ◌-◌, ◌==◌, if◌then◌else◌, List, [], ◌∷◌, ◌++◌, length, replicate, codes, decimal, Option, Some, None}
-use Rattle.cilk_model_labels.specs.syntax.Tree.{Program}
-use Rattle.cilk_model_labels.specs.syntax.ProgramText.{program_text}
-use Rattle.cilk_model_labels.specs.Lines.{action_lines}
+use Rattle.cilk_check_scopes.specs.syntax.Tree.{Program}
+use Rattle.cilk_check_scopes.specs.syntax.ProgramText.{program_text}
+use Rattle.cilk_model.specs.labelled.Lines.{action_lines}
 
 -- a byte in front of the first line
 abbrev pub before_first : ℕ → List (List ℕ) → List (List ℕ)

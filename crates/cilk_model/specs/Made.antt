@@ -1,8 +1,8 @@
 -- Which paths were ever made, and the procedure of each, as the events tell it.
 use Rattle.std.specs.Prelude.{ℕ, ◌==◌, if◌then◌else◌, List, [], ◌∷◌, flat_map, Option, Some, None, option_and_then}
 use Rattle.std.specs.Option.{option_or}
-use Rattle.cilk_model_labels.specs.Labelled.{Action, spawn, Stmt, action, choose, while, repeat, loop, select, at_label, nested, Stmts, none, also}
-use Rattle.cilk_model_labels.specs.Labelled.{Body, Labelled}
+use Rattle.cilk_model.specs.labelled.Labelled.{Action, spawn, Stmt, action, choose, while, repeat, loop, select, at_label, nested, Stmts, none, also}
+use Rattle.cilk_model.specs.labelled.Labelled.{Body, Labelled}
 use Rattle.cilk_model.specs.Path.{Path, same_path}
 use Rattle.cilk_model.specs.Event.{Event, spawned}
 

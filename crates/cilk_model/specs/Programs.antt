@@ -1,13 +1,13 @@
 -- More worked programs: places that take a child's value, control, arrays, arguments, calls, marks that reach grandchildren.
 use Rattle.std.specs.Prelude.{ℕ, ℤ, pos, negsuc, false, List, [], ◌∷◌, Option, Some, None, codes}
-use Rattle.cilk_model_labels.specs.syntax.declared.operator.BinOp.{BinOp}
-use Rattle.cilk_model_labels.specs.syntax.declared.operator.BinOp.TheVariants.{Add, Subtract, Multiply, Divide, ShiftLeft, Less, Greater, Equal}
-use Rattle.cilk_model_labels.specs.syntax.declared.un_op.UnOp.TheVariants.{Minus}
-use Rattle.cilk_model_labels.specs.syntax.declared.adjustment.Adjustment.TheVariants.{Increment}
-use Rattle.cilk_model_labels.specs.syntax.declared.return_type.ReturnType.TheVariants.{Int}
-use Rattle.cilk_model_labels.specs.syntax.Tree as tree
-use Rattle.cilk_model_labels.specs.syntax.Tree.{Word, Expr, number, element, binary, unary, Target, Local, declared, inlet_at, Stmt, stmts_of, Block, block}
-use Rattle.cilk_model_labels.specs.syntax.Tree.{Item, Program}
+use Rattle.cilk_check_scopes.specs.syntax.declared.operator.BinOp.{BinOp}
+use Rattle.cilk_check_scopes.specs.syntax.declared.operator.BinOp.TheVariants.{Add, Subtract, Multiply, Divide, ShiftLeft, Less, Greater, Equal}
+use Rattle.cilk_check_scopes.specs.syntax.declared.un_op.UnOp.TheVariants.{Minus}
+use Rattle.cilk_check_scopes.specs.syntax.declared.adjustment.Adjustment.TheVariants.{Increment}
+use Rattle.cilk_check_scopes.specs.syntax.declared.return_type.ReturnType.TheVariants.{Int}
+use Rattle.cilk_check_scopes.specs.syntax.Tree as tree
+use Rattle.cilk_check_scopes.specs.syntax.Tree.{Word, Expr, number, element, binary, unary, Target, Local, declared, inlet_at, Stmt, stmts_of, Block, block}
+use Rattle.cilk_check_scopes.specs.syntax.Tree.{Item, Program}
 use Rattle.cilk_model.specs.Trees.{word, name, target, assigns, int, returns, procedure, global, program, locks, inits}
 
 abbrev pub inside : List Stmt → Block

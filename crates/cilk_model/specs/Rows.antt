@@ -1,7 +1,7 @@
 -- What becomes of worked programs.
 use Rattle.std.specs.Prelude.{ℕ, zero, suc, List, [], ◌∷◌, Option, option_map, option_and_then}
-use Rattle.cilk_model_labels.specs.syntax.Tree.{Program}
-use Rattle.cilk_model_labels.specs.Bodies.{label}
+use Rattle.cilk_check_scopes.specs.syntax.Tree.{Program}
+use Rattle.cilk_model.specs.labelled.Bodies.{label}
 use Rattle.cilk_model.specs.Path.{Path}
 use Rattle.cilk_model.specs.State.{Outcome}
 use Rattle.cilk_model.specs.Event.{Event}

@@ -1,7 +1,7 @@
 -- Which choices are possible, what they do, and where a list of them leads.
 use Rattle.std.specs.Prelude.{ℕ, Bool, true, false, not, ◌&&◌, ◌||◌, ◌==◌, nat_le, if◌then◌else◌, List, [], ◌∷◌, ◌++◌, length, Option, Some, None}
 use Rattle.std.specs.Prelude.{is_some, is_none}
-use Rattle.cilk_model_labels.specs.Labelled.{Labelled}
+use Rattle.cilk_model.specs.labelled.Labelled.{Labelled}
 use Rattle.cilk_model.specs.Path.{Path}
 use Rattle.cilk_model.specs.State.{Outcome, running, finished, trapped, State, opening_state}
 use Rattle.cilk_model.specs.Event.{Event, moved}

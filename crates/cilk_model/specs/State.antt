@@ -2,8 +2,8 @@
 use Rattle.std.specs.Prelude.{◌≡◌, ℕ, ◌≤◌, ℤ, Bool, true, false, not, ◌&&◌, cond, slice_index_or, List, [], ◌∷◌, map, replicate, length, Option, Some, None}
 use Rattle.std.specs.Prelude.{is_some, if◌then◌else◌, filter, count_by}
 use Rattle.std.specs.List.{list_any}
-use Rattle.cilk_model_labels.specs.declared.trap.Trap.{Trap}
-use Rattle.cilk_model_labels.specs.Labelled.{Labelled}
+use Rattle.cilk_model.specs.declared.trap.Trap.{Trap}
+use Rattle.cilk_model.specs.labelled.Labelled.{Labelled}
 use Rattle.cilk_model.specs.Values.{Values, Store, initial_values}
 use Rattle.cilk_model.specs.Path.{Path, same_path, is_child}
 use Rattle.cilk_model.specs.Instance.{Instance, started, outer_values}

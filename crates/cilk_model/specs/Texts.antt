@@ -1,8 +1,8 @@
 -- Variables as views show them, and lines.
 use Rattle.std.specs.Prelude.{ℕ, zero, suc, ℤ, List, [], ◌∷◌, ◌++◌, codes, decimal, unwrap_or, option_and_then}
 use Rattle.std.specs.Fmt.{signed_decimal}
-use Rattle.cilk_model_labels.specs.Labelled.{Numbered, Variable, Labelled}
-use Rattle.cilk_model_labels.specs.Items.{Items, head_of}
+use Rattle.cilk_model.specs.labelled.Labelled.{Numbered, Variable, Labelled}
+use Rattle.cilk_model.specs.labelled.Items.{Items, head_of}
 use Rattle.cilk_model.specs.End.{line_of}
 
 -- a space before each

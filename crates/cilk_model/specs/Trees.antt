@@ -1,13 +1,13 @@
 -- Worked programs.
 use Rattle.std.specs.Prelude.{ℕ, true, List, [], ◌∷◌, Option, Some, None, codes}
-use Rattle.cilk_model_labels.specs.syntax.declared.operator.BinOp.TheVariants.{Add, Multiply, Less, Equal}
-use Rattle.cilk_model_labels.specs.syntax.declared.adjustment.Adjustment.TheVariants.{Increment}
-use Rattle.cilk_model_labels.specs.syntax.declared.lock_action.LockAction.TheVariants.{Init, Lock, Unlock}
-use Rattle.cilk_model_labels.specs.syntax.declared.return_type.ReturnType.{ReturnType}
-use Rattle.cilk_model_labels.specs.syntax.declared.return_type.ReturnType.TheVariants.{Int, Void}
-use Rattle.cilk_model_labels.specs.syntax.Tree as tree
-use Rattle.cilk_model_labels.specs.syntax.Tree.{Word, Expr, number, named, binary, Target, Local, declared, inlet_at, Stmt, stmts_of}
-use Rattle.cilk_model_labels.specs.syntax.Tree.{locals_of, block, Item, Program}
+use Rattle.cilk_check_scopes.specs.syntax.declared.operator.BinOp.TheVariants.{Add, Multiply, Less, Equal}
+use Rattle.cilk_check_scopes.specs.syntax.declared.adjustment.Adjustment.TheVariants.{Increment}
+use Rattle.cilk_check_scopes.specs.syntax.declared.lock_action.LockAction.TheVariants.{Init, Lock, Unlock}
+use Rattle.cilk_check_scopes.specs.syntax.declared.return_type.ReturnType.{ReturnType}
+use Rattle.cilk_check_scopes.specs.syntax.declared.return_type.ReturnType.TheVariants.{Int, Void}
+use Rattle.cilk_check_scopes.specs.syntax.Tree as tree
+use Rattle.cilk_check_scopes.specs.syntax.Tree.{Word, Expr, number, named, binary, Target, Local, declared, inlet_at, Stmt, stmts_of}
+use Rattle.cilk_check_scopes.specs.syntax.Tree.{locals_of, block, Item, Program}
 
 abbrev pub word : List ℕ → Word
 word text = record { text = text; place = 0 }

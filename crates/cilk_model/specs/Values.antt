@@ -1,12 +1,12 @@
 -- What the variables hold, and which cell a place is.
 use Rattle.std.specs.Prelude.{ℕ, ℤ, pos, negsuc, Bool, List, [], map, length, max, replicate, nat_lt, if◌then◌else◌, slice_index_or, Option, Some}
 use Rattle.std.specs.Prelude.{None, Result, Ok, Err}
-use Rattle.cilk_model_labels.specs.syntax.declared.operator.BinOp.{BinOp}
-use Rattle.cilk_model_labels.specs.declared.trap.Trap.{Trap}
-use Rattle.cilk_model_labels.specs.declared.trap.Trap.TheVariants.{Index}
-use Rattle.cilk_model_labels.specs.Arithmetic.{binary_result}
-use Rattle.cilk_model_labels.specs.Value.{Environment, value_of, ◌>>=◌}
-use Rattle.cilk_model_labels.specs.Labelled.{Declaration, local, outer, global, of_lock, of_body, unknown, Variable, Target, variable, element, Into}
+use Rattle.cilk_check_scopes.specs.syntax.declared.operator.BinOp.{BinOp}
+use Rattle.cilk_model.specs.declared.trap.Trap.{Trap}
+use Rattle.cilk_model.specs.declared.trap.Trap.TheVariants.{Index}
+use Rattle.cilk_model.specs.labelled.Arithmetic.{binary_result}
+use Rattle.cilk_model.specs.labelled.Value.{Environment, value_of, ◌>>=◌}
+use Rattle.cilk_model.specs.labelled.Labelled.{Declaration, local, outer, global, of_lock, of_body, unknown, Variable, Target, variable, element, Into}
 
 -- the cells of each variable, in the order of the declarations: a variable that is no array has one
 abbrev pub Values : Type 0

@@ -1,9 +1,9 @@
 -- Views of worked programs.
 use Rattle.std.specs.Prelude.{ℕ, List, [], ◌∷◌, Option, Some, codes, option_and_then}
-use Rattle.cilk_model_labels.specs.syntax.declared.operator.BinOp.TheVariants.{Multiply}
-use Rattle.cilk_model_labels.specs.syntax.declared.return_type.ReturnType.TheVariants.{Int}
-use Rattle.cilk_model_labels.specs.syntax.Tree.{Program, number, binary}
-use Rattle.cilk_model_labels.specs.Bodies.{label}
+use Rattle.cilk_check_scopes.specs.syntax.declared.operator.BinOp.TheVariants.{Multiply}
+use Rattle.cilk_check_scopes.specs.syntax.declared.return_type.ReturnType.TheVariants.{Int}
+use Rattle.cilk_check_scopes.specs.syntax.Tree.{Program, number, binary}
+use Rattle.cilk_model.specs.labelled.Bodies.{label}
 use Rattle.cilk_model.specs.Choice.{Choice}
 use Rattle.cilk_model.specs.Run.{after}
 use Rattle.cilk_model.specs.Trees.{name, int, returns, procedure, program}

@@ -1,7 +1,7 @@
 -- The text of each view of a program that runs.
 use Rattle.std.specs.Prelude.{ℕ, List, [], ◌++◌, length, codes, decimal, Option, Some, option_map}
-use Rattle.cilk_model_labels.specs.syntax.Tree.{Program}
-use Rattle.cilk_model_labels.specs.Bodies.{label}
+use Rattle.cilk_check_scopes.specs.syntax.Tree.{Program}
+use Rattle.cilk_model.specs.labelled.Bodies.{label}
 use Rattle.cilk_model.specs.State.{instance_at}
 use Rattle.cilk_model.specs.Run.{Position}
 use Rattle.cilk_model.specs.What.{What, tree, frame, globals, deques, output, where_it_stands, list}

@@ -1,9 +1,9 @@
 -- Words of the written rule: what is written, what waits, what is let go.
 use Rattle.std.specs.Prelude.{◌≡◌, ◌≢◌, ℕ, ℤ, pos, true, false, List, [], ◌∷◌, Option, Some, None, option_map, Ok, slice_get}
-use Rattle.cilk_model_labels.specs.Term.{Term}
-use Rattle.cilk_model_labels.specs.Value.{Environment, value_of}
-use Rattle.cilk_model_labels.specs.Labelled.{Declaration, Into, Taker, nothing, into, through, Action, sync, return_with, return_nothing, close}
-use Rattle.cilk_model_labels.specs.Items.{head_of}
+use Rattle.cilk_model.specs.labelled.Term.{Term}
+use Rattle.cilk_model.specs.labelled.Value.{Environment, value_of}
+use Rattle.cilk_model.specs.labelled.Labelled.{Declaration, Into, Taker, nothing, into, through, Action, sync, return_with, return_nothing, close}
+use Rattle.cilk_model.specs.labelled.Items.{head_of}
 use Rattle.cilk_model.specs.Values.{Values, Store, Cell, Reached, cells_of}
 use Rattle.cilk_model.specs.Path.{Path}
 use Rattle.cilk_model.specs.Instance as instance

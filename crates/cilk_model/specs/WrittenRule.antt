@@ -1,14 +1,14 @@
 -- The written rule: what one step of an instance may do to the state, said of what stands at each path, in each cell and at each lock.
 use Rattle.std.specs.Prelude.{◌≡◌, ◌≢◌, ℕ, ◌+◌, ◌<◌, ◌≤◌, ℤ, pos, Bool, true, false, ◌⊎◌, List, [], ◌∷◌, ◌++◌, length, Option, Some, None}
 use Rattle.std.specs.Prelude.{option_map, Ok, Err, slice_get}
-use Rattle.cilk_model_labels.specs.syntax.declared.lock_action.LockAction.{LockAction}
-use Rattle.cilk_model_labels.specs.syntax.declared.lock_action.LockAction.TheVariants.{Init, Lock, Unlock}
-use Rattle.cilk_model_labels.specs.declared.trap.Trap.{Trap}
-use Rattle.cilk_model_labels.specs.Term.{Term}
-use Rattle.cilk_model_labels.specs.Value.{value_of, values_of}
-use Rattle.cilk_model_labels.specs.Labelled.{Labelled, Declaration, Into, Taker, Action, assign, call, spawn, print, locking, null, break_off}
-use Rattle.cilk_model_labels.specs.Labelled.{go_round, tests, sync, abort}
-use Rattle.cilk_model_labels.specs.Items.{opened, next}
+use Rattle.cilk_check_scopes.specs.syntax.declared.lock_action.LockAction.{LockAction}
+use Rattle.cilk_check_scopes.specs.syntax.declared.lock_action.LockAction.TheVariants.{Init, Lock, Unlock}
+use Rattle.cilk_model.specs.declared.trap.Trap.{Trap}
+use Rattle.cilk_model.specs.labelled.Term.{Term}
+use Rattle.cilk_model.specs.labelled.Value.{value_of, values_of}
+use Rattle.cilk_model.specs.labelled.Labelled.{Labelled, Declaration, Into, Taker, Action, assign, call, spawn, print, locking, null, break_off}
+use Rattle.cilk_model.specs.labelled.Labelled.{go_round, tests, sync, abort}
+use Rattle.cilk_model.specs.labelled.Items.{opened, next}
 use Rattle.cilk_model.specs.Values.{Values, Cell, Reached, read_at, reached_at, reached_if, combined}
 use Rattle.cilk_model.specs.Path.{Path, child_path, is_below}
 use Rattle.cilk_model.specs.Instance.{Activation, Receiver, place, through, Delivery, Instance, entered, started, outer_values}

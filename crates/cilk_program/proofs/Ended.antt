@@ -1,14 +1,14 @@
 -- How the program ends where there is no answer.
 use Rattle.std.proofs.Common.{◌≡◌, ◌⊎◌, ◌∙◌, inl, inr, refl, subst, sym, ℕ, Bool, true, false, List, [], Option, Some, None, IfSome}
 use Rattle.std.specs.Prelude.{◌≢◌}
-use Rattle.cilk_commands.specs.Loading.{Unready}
-use Rattle.cilk_commands.specs.Status.{is_answer, status_of}
-use Rattle.cilk_commands.specs.Telling.{WritesFailure as TellsLine}
-use Rattle.cilk_commands.proofs.WholeText.{nothing_read}
-use Rattle.cilk_commands.specs.declared.failure.Failure.{Failure}
-use Rattle.cilk_commands.specs.declared.failure.Failure.TheVariants as failure
-use Rattle.cilk_commands.specs.declared.status.Status.{Status}
-use Rattle.cilk_commands.specs.declared.status.Status.TheVariants as ended
+use Rattle.cilk_program_runs.specs.commands.Loading.{Unready}
+use Rattle.cilk_program_runs.specs.commands.Status.{is_answer, status_of}
+use Rattle.cilk_program_runs.specs.commands.Telling.{WritesFailure as TellsLine}
+use Rattle.cilk_program_runs.proofs.commands_laws.WholeText.{nothing_read}
+use Rattle.cilk_program_runs.specs.commands.declared.failure.Failure.{Failure}
+use Rattle.cilk_program_runs.specs.commands.declared.failure.Failure.TheVariants as failure
+use Rattle.cilk_program_runs.specs.commands.declared.status.Status.{Status}
+use Rattle.cilk_program_runs.specs.commands.declared.status.Status.TheVariants as ended
 use Rattle.cilk_program_runs.specs.Picturing.{DeclinesToDraw}
 use Rattle.cilk_program_runs.specs.Taped.{Declines}
 use Rattle.cilk_program_runs.specs.declared.failure.RecordFailure.TheVariants as why

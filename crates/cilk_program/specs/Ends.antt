@@ -4,9 +4,9 @@ use Rattle.std.specs.declared.io.ErrorKind.{ErrorKind}
 use Rattle.std.specs.declared.io.ErrorKind.TheVariants.{OutOfMemory}
 use Rattle.std.specs.Io.KnownBytes.{Appends}
 use Rattle.std.specs.String.{string_bytes}
-use Rattle.cilk_commands.specs.Status.{is_answer}
-use Rattle.cilk_commands.specs.declared.status.Status.{Status}
-use Rattle.cilk_commands.specs.declared.status.Status.TheVariants as ended
+use Rattle.cilk_program_runs.specs.commands.Status.{is_answer}
+use Rattle.cilk_program_runs.specs.commands.declared.status.Status.{Status}
+use Rattle.cilk_program_runs.specs.commands.declared.status.Status.TheVariants as ended
 use Rattle.cilk_words.specs.CommandLine.{Asked, asked}
 use Rattle.cilk_words.specs.Refusing.{asks_for_help, asks_for_version, asks_to_show}
 use Rattle.cilk_words.specs.declared.refusal.NoRequest.{NoRequest}

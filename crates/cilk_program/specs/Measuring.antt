@@ -1,7 +1,7 @@
 -- What `measure` writes.
 use Rattle.std.specs.Prelude.{◌≡◌, ℕ, List}
-use Rattle.cilk_commands.specs.declared.status.Status.{Status}
-use Rattle.cilk_commands.specs.declared.status.Status.TheVariants.{Done}
+use Rattle.cilk_program_runs.specs.commands.declared.status.Status.{Status}
+use Rattle.cilk_program_runs.specs.commands.declared.status.Status.TheVariants.{Done}
 use Rattle.cilk_races.specs.replay.Tape.{Tape}
 use Rattle.cilk_races.specs.Gauged.{IsMeasureOf}
 use Rattle.cilk_races.specs.Measure.{Measure}

@@ -1,7 +1,7 @@
 -- What `races` writes.
 use Rattle.std.specs.Prelude.{◌≡◌, ℕ, zero, suc, List}
-use Rattle.cilk_commands.specs.declared.status.Status.{Status}
-use Rattle.cilk_commands.specs.declared.status.Status.TheVariants.{Done, Several}
+use Rattle.cilk_program_runs.specs.commands.declared.status.Status.{Status}
+use Rattle.cilk_program_runs.specs.commands.declared.status.Status.TheVariants.{Done, Several}
 use Rattle.cilk_races.specs.replay.Tape.{Tape}
 use Rattle.cilk_races.specs.RacesText.{IsRacesText}
 

@@ -1,11 +1,11 @@
 -- What is to be written for what is wanted.
 use Rattle.std.specs.Prelude.{⊤, ◌≡◌, ◌≢◌, ◌⊎◌, Bool, true, false, ℕ, List, Option, is_some}
-use Rattle.cilk_commands.specs.Printing.{Prints, PrintsFront}
-use Rattle.cilk_commands.specs.Checking.{Passes, PassesFront}
-use Rattle.cilk_commands.specs.Loading.{Unready}
-use Rattle.cilk_commands.specs.Telling.{GivesUp}
-use Rattle.cilk_commands.specs.declared.status.Status.{Status}
-use Rattle.cilk_commands.specs.declared.status.Status.TheVariants.{CannotWrite, Done}
+use Rattle.cilk_program_runs.specs.commands.Printing.{Prints, PrintsFront}
+use Rattle.cilk_program_runs.specs.commands.Checking.{Passes, PassesFront}
+use Rattle.cilk_program_runs.specs.commands.Loading.{Unready}
+use Rattle.cilk_program_runs.specs.commands.Telling.{GivesUp}
+use Rattle.cilk_program_runs.specs.commands.declared.status.Status.{Status}
+use Rattle.cilk_program_runs.specs.commands.declared.status.Status.TheVariants.{CannotWrite, Done}
 use Rattle.cilk_program_runs.specs.Debugging.{Debugs, DebugsFront, DebugsPart}
 use Rattle.cilk_program_runs.specs.AsAsked.{RunsAsAsked, RunsFrontAsAsked, ExploresSomewhere, ExploresFrontSomewhere, FailsOnTape, log_name}
 use Rattle.cilk_program_runs.specs.Exploring.{GivesUpExploring}

@@ -1,16 +1,15 @@
 //! Where the words of the command line are obeyed: a task is done, or help, the version or what is wrong is written.
 
 ghost use Rattle.std.specs.Prelude.{◌≡◌, ◌≢◌, [], true, false};
-ghost use Rattle.cilk_commands.specs.Telling.{WritesFailure};
-ghost use Rattle.cilk_commands.specs.Status.{is_answer};
+ghost use Rattle.cilk_program_runs.specs.commands.Telling.{WritesFailure};
+ghost use Rattle.cilk_program_runs.specs.commands.Status.{is_answer};
 ghost use Rattle.cilk_words.specs.CommandLine.{texts_of, wanted_by};
 ghost use Rattle.cilk_program.specs.Ends.{Ends, IsShown, Shows, explains_trap, opens_session};
 ghost use Rattle.cilk_program_runs.specs.Saying.{ExplainsTrap, tells_trap};
 ghost use Rattle.cilk_program.specs.Task.{Does, Fails, Leaves, is_session};
 
 use crate::task::perform;
-use cilk_commands::{Failure, Status};
-use cilk_program_runs::{Streams, Texts, dap_text};
+use cilk_program_runs::{Failure, Status, Streams, Texts, dap_text};
 use cilk_words::{NoRequest, Request, Task, request_in};
 use std::alloc::Global;
 use std::io::Write;

@@ -2,14 +2,13 @@
 
 ghost use Rattle.std.specs.Prelude.{◌≡◌, ◌≢◌, MatchResult, true, false};
 ghost use Rattle.std.specs.IoError.{error_kind};
-ghost use Rattle.cilk_commands.specs.declared.status.Status.{Status};
-ghost use Rattle.cilk_commands.specs.Status.{code_of, is_answer};
+ghost use Rattle.cilk_program_runs.specs.commands.declared.status.Status.{Status};
+ghost use Rattle.cilk_program_runs.specs.commands.Status.{code_of, is_answer};
 ghost use Rattle.cilk_words.specs.CommandLine.{texts_of};
 ghost use Rattle.cilk_program.specs.Ends.{Ends, explains_trap, opens_session, without_words};
 
 use crate::dispatch::dispatch;
-use cilk_commands::{Failure, Status};
-use cilk_program_runs::{Streams, Texts};
+use cilk_program_runs::{Failure, Status, Streams, Texts};
 use std::alloc::Global;
 use std::io;
 use std::io::{ErrorKind, Write};

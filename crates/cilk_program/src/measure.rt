@@ -1,7 +1,7 @@
 //! The subcommand `measure`: the numbers of a recorded schedule, or of a run by one worker.
 
 ghost use Rattle.std.specs.Prelude.{◌≡◌, true, IfErr, IfOk, string_bytes};
-ghost use Rattle.cilk_commands.specs.ProgramText.{program_text};
+ghost use Rattle.cilk_program_runs.specs.commands.ProgramText.{program_text};
 ghost use Rattle.cilk_races.specs.replay.ReplayFaults.{IsNamedFaultOf};
 ghost use Rattle.cilk_races.specs.replay.Tape.{tape_of};
 ghost use Rattle.cilk_races.specs.replay.log.Naming.{is_of};
@@ -9,8 +9,7 @@ ghost use Rattle.cilk_races.specs.Words.{numbers_of};
 ghost use Rattle.cilk_races.specs.Text.{measure_text};
 ghost use Rattle.cilk_program.specs.Measuring.{AreNumbers};
 
-use cilk_commands::{Answered, Answering, Failure, Loaded, Status};
-use cilk_program_runs::{TapeAnswering, run_told};
+use cilk_program_runs::{Answered, Answering, Failure, Loaded, Status, TapeAnswering, run_told};
 use cilk_races::{Log, Measure, Measured, Memory, ReplayFault, measure_all, put_measure};
 use std::alloc::Global;
 

@@ -1,11 +1,10 @@
 //! The subcommand `races`: the races of a recorded schedule, or of a run by one worker.
 
 ghost use Rattle.std.specs.Prelude.{◌≡◌, ◌≢◌, true, string_bytes};
-ghost use Rattle.cilk_commands.specs.Status.{is_answer};
+ghost use Rattle.cilk_program_runs.specs.commands.Status.{is_answer};
 ghost use Rattle.cilk_program.specs.Racing.{status_of_races};
 
-use cilk_commands::{Answered, Answering, Failure, Loaded, Status};
-use cilk_program_runs::{TapeAnswering, run_told};
+use cilk_program_runs::{Answered, Answering, Failure, Loaded, Status, TapeAnswering, run_told};
 use cilk_races::{Log, ReplayFault, ToldRaces, races_of};
 use std::alloc::Global;
 

@@ -1,7 +1,7 @@
 //! From a task to the subcommand that does it, with the texts that it reads and the logs that it writes.
 
 ghost use Rattle.std.specs.Prelude.{◌≡◌, ◌≢◌, true, false};
-ghost use Rattle.cilk_commands.specs.Status.{is_answer};
+ghost use Rattle.cilk_program_runs.specs.commands.Status.{is_answer};
 ghost use Rattle.cilk_words.specs.CommandLine.{wanted_by};
 ghost use Rattle.cilk_program_runs.specs.Saying.{ExplainsTrap, tells_trap};
 ghost use Rattle.cilk_program.specs.Task.{Does, Fails, Leaves, is_session};
@@ -9,10 +9,10 @@ ghost use Rattle.cilk_program.specs.Task.{Does, Fails, Leaves, is_session};
 use crate::marking::RaceMarks;
 use crate::measure::Numbers;
 use crate::races::Races;
-use cilk_commands::{Status, check_text, print_text};
 use cilk_program_runs::{
-    DrawTask, ExploreTask, FileNames, LogTask, RunTask, Streams, TapeTask, Texts, dap_text,
-    debug_named, draw_named, explore_named, replay_named, run_as_asked, tell_as_asked,
+    DrawTask, ExploreTask, FileNames, LogTask, RunTask, Status, Streams, TapeTask, Texts,
+    check_text, dap_text, debug_named, draw_named, explore_named, print_text, replay_named,
+    run_as_asked, tell_as_asked,
 };
 use cilk_words::{Request, Task};
 use std::alloc::Global;

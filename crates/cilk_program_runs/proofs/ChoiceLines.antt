@@ -6,9 +6,9 @@ use Rattle.std.proofs.lemmas.List.{length-map, length-take-le}
 use Rattle.cilk_run.specs.model.Choice.{Choice}
 use Rattle.cilk_run.specs.choices.declared.choice.Choice as code
 use Rattle.cilk_run.specs.choices.Words.{choice_of}
-use Rattle.cilk_log_replay.specs.log.Choices.{choice_text}
-use Rattle.cilk_log_replay.specs.log.Stretches.{Stretch, once, are_joined, stretch_text, stretches_of, with_first}
-use Rattle.cilk_log_replay.specs.log.Text.{Log, end_text, lines_by}
+use Rattle.cilk_draw.specs.replay.log.Choices.{choice_text}
+use Rattle.cilk_draw.specs.replay.log.Stretches.{Stretch, once, are_joined, stretch_text, stretches_of, with_first}
+use Rattle.cilk_draw.specs.replay.log.Text.{Log, end_text, lines_by}
 use Rattle.cilk_run.specs.choices.declared.refusal.Refusal.{Refusal}
 use Rattle.cilk_program_runs.specs.ChoiceLines.{choice_words, line_of_choice, new_lines, nth_choice}
 

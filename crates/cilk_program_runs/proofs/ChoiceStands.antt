@@ -2,8 +2,8 @@
 use Rattle.std.proofs.Common.{◌≡◌, ◌≤◌, ◌<◌, ℕ, zero, suc, ◌+◌, Bool, true, false, cond, List, [], ◌∷◌, ◌++◌, length, map, take, Option, Some, None}
 use Rattle.std.proofs.Common.{refl, sym, ap, ◌∙◌, subst, arith}
 use Rattle.cilk_run.specs.model.Choice.{Choice}
-use Rattle.cilk_log_replay.specs.log.Stretches.{Stretch, once, are_joined, count_of, stretches_of, with_first}
-use Rattle.cilk_log_replay.specs.log.Text.{Log}
+use Rattle.cilk_draw.specs.replay.log.Stretches.{Stretch, once, are_joined, count_of, stretches_of, with_first}
+use Rattle.cilk_draw.specs.replay.log.Text.{Log}
 use Rattle.cilk_program_runs.specs.ChoiceLines.{TellsChoice, line_of_choice}
 use Rattle.cilk_program_runs.proofs.ChoiceLines.{front_counted, in_first_version, in_second_version}
 

@@ -4,8 +4,8 @@ use Rattle.std.specs.Prelude.{◌≢◌, true, false, replicate}
 use Rattle.std.specs.Io.KnownBytes.{Consumes}
 use Rattle.cilk_commands.specs.labelled.Count.{count_program}
 use Rattle.cilk_commands.specs.ProgramText.{program_text}
-use Rattle.cilk_log_replay.specs.log.Naming.{is_of}
-use Rattle.cilk_log_replay.specs.Tape.{Tape, IsPlayable}
+use Rattle.cilk_draw.specs.replay.log.Naming.{is_of}
+use Rattle.cilk_draw.specs.replay.Tape.{Tape, IsPlayable}
 use Rattle.cilk_dap.specs.debug.Debugging.{Debugging}
 use Rattle.cilk_dap.specs.debug.Session.{Session, session}
 use Rattle.cilk_dap.specs.debug.Ending.{Answers, Breaks}

@@ -11,3 +11,4 @@ mod Pictured
 mod Among
 mod Told
 mod Served
+pub use Rattle.cilk_commands.proofs as commands_laws

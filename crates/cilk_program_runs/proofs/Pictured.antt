@@ -5,7 +5,7 @@ use Rattle.cilk_commands.specs.declared.status.Status.TheVariants as status
 use Rattle.cilk_draw.specs.DrawFaults.{IsDrawFaultOf}
 use Rattle.cilk_draw.specs.declared.fault.DrawFault.{DrawFault}
 use Rattle.cilk_draw.specs.declared.fault.DrawFault.TheVariants as fault
-use Rattle.cilk_log_replay.specs.Tape.{Tape}
+use Rattle.cilk_draw.specs.replay.Tape.{Tape}
 use Rattle.cilk_program_runs.specs.Picturing.{DeclinesToDraw, failure_of}
 use Rattle.cilk_program_runs.specs.Taped.{IsTape}
 use Rattle.cilk_program_runs.specs.Telling.{status_of}

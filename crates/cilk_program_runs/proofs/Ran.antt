@@ -14,9 +14,9 @@ use Rattle.cilk_run.specs.choices.declared.choice.Choice as code
 use Rattle.cilk_run.specs.machine.Situation.{Situation}
 use Rattle.cilk_run.specs.machine.Stands.{StandsAt}
 use Rattle.cilk_run.specs.Drawn.{drawn}
-use Rattle.cilk_log_replay.specs.log.Text.{log_text}
-use Rattle.cilk_log_replay.specs.log.Words.{log_of}
-use Rattle.cilk_log_replay.specs.Tape.{Tape, tape_of, IsAt}
+use Rattle.cilk_draw.specs.replay.log.Text.{log_text}
+use Rattle.cilk_draw.specs.replay.log.Words.{log_of}
+use Rattle.cilk_draw.specs.replay.Tape.{Tape, tape_of, IsAt}
 use Rattle.cilk_commands.specs.Loading.{IsReady}
 use Rattle.cilk_commands.specs.declared.status.Status.{Status}
 use Rattle.cilk_program_runs.specs.Running.{IsRun, status_at}

@@ -7,10 +7,10 @@ use Rattle.cilk_run.specs.model.End as model
 use Rattle.cilk_run.specs.choices.Words.{end_of}
 use Rattle.cilk_run.specs.choices.declared.end.End.{End}
 use Rattle.cilk_run.specs.choices.declared.end.End.TheVariants as ends
-use Rattle.cilk_log_replay.specs.log.Reading.{log_read}
-use Rattle.cilk_log_replay.specs.log.Text.{Log}
-use Rattle.cilk_log_replay.specs.declared.replay_fault.ReplayFault.{ReplayFault}
-use Rattle.cilk_log_replay.specs.declared.replay_fault.ReplayFault.TheVariants as replay
+use Rattle.cilk_draw.specs.replay.log.Reading.{log_read}
+use Rattle.cilk_draw.specs.replay.log.Text.{Log}
+use Rattle.cilk_draw.specs.replay.declared.replay_fault.ReplayFault.{ReplayFault}
+use Rattle.cilk_draw.specs.replay.declared.replay_fault.ReplayFault.TheVariants as replay
 use Rattle.std.specs.Prelude.{◌≢◌, Ok, codes}
 use Rattle.cilk_commands.specs.Front.{AppendsFront, Gains}
 use Rattle.cilk_commands.specs.Held.{Held, IsReadOf}

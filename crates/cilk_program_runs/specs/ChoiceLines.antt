@@ -3,10 +3,10 @@ use Rattle.std.specs.Prelude.{◌≡◌, ◌≤◌, ◌<◌, ◌-◌, ◌+◌, �
 use Rattle.std.specs.Prelude.{slice_get, codes, decimal}
 use Rattle.cilk_run.specs.model.Choice.{Choice}
 use Rattle.cilk_run.specs.choices.declared.refusal.Refusal.{Refusal}
-use Rattle.cilk_log_replay.specs.log.Choices.{choice_text}
-use Rattle.cilk_log_replay.specs.log.Reading.{log_read}
-use Rattle.cilk_log_replay.specs.log.Stretches.{Stretch, once, are_joined, count_of, stretches_of}
-use Rattle.cilk_log_replay.specs.log.Text.{Log, log_lines}
+use Rattle.cilk_draw.specs.replay.log.Choices.{choice_text}
+use Rattle.cilk_draw.specs.replay.log.Reading.{log_read}
+use Rattle.cilk_draw.specs.replay.log.Stretches.{Stretch, once, are_joined, count_of, stretches_of}
+use Rattle.cilk_draw.specs.replay.log.Text.{Log, log_lines}
 use Rattle.cilk_program_runs.specs.Meanings.{refusal_meaning}
 
 -- choice k of some, counted from 1

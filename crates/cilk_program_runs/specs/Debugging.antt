@@ -1,7 +1,7 @@
 -- What a debugger's session writes.
 use Rattle.std.specs.Prelude.{◌≡◌, ℕ, false, List, ◌++◌, Option, None, IfSome, replicate}
 use Rattle.cilk_commands.specs.labelled.Count.{count_program}
-use Rattle.cilk_log_replay.specs.Tape.{Tape, IsPlayable}
+use Rattle.cilk_draw.specs.replay.Tape.{Tape, IsPlayable}
 use Rattle.cilk_dap.specs.debug.Debugging.{Debugging}
 use Rattle.cilk_dap.specs.debug.Session.{session}
 use Rattle.cilk_dap.specs.debug.declared.session_fault.SessionFault.{SessionFault}

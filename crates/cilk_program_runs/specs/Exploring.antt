@@ -13,8 +13,8 @@ use Rattle.cilk_commands.specs.declared.status.Status.TheVariants as status
 use Rattle.cilk_explore.specs.Exploring.{IsExploration}
 use Rattle.cilk_explore.specs.declared.exploration.Exploration.{Exploration}
 use Rattle.cilk_explore.specs.explore.Search.{Told}
-use Rattle.cilk_log_replay.specs.log.Naming.{digest_of}
-use Rattle.cilk_log_replay.specs.log.Text.{log_text}
+use Rattle.cilk_draw.specs.replay.log.Naming.{digest_of}
+use Rattle.cilk_draw.specs.replay.log.Text.{log_text}
 use Rattle.cilk_run.specs.model.Choice.{Choice}
 use Rattle.cilk_run.specs.model.End.{ending}
 use Rattle.cilk_program_runs.specs.Outcomes.{Outcome, with_end, without_end, log_in, outcomes_by}

@@ -15,3 +15,4 @@ pub mod Debugging
 pub mod Outcomes
 pub mod Exploring
 pub mod Unexplored
+pub use Rattle.cilk_commands.specs as commands

@@ -1,7 +1,7 @@
 -- What traps and refusals mean, in words for people.
 use Rattle.std.specs.Prelude.{ℕ, List, codes}
-use Rattle.cilk_run.specs.labelled.declared.trap.Trap.{Trap}
-use Rattle.cilk_run.specs.labelled.declared.trap.Trap.TheVariants.{Overflow, ZeroDivide, Shift, Index}
+use Rattle.cilk_run.specs.model.declared.trap.Trap.{Trap}
+use Rattle.cilk_run.specs.model.declared.trap.Trap.TheVariants.{Overflow, ZeroDivide, Shift, Index}
 use Rattle.cilk_run.specs.model.State.{TrapKind, of_value, lock, held_lock, depth, instances, output}
 use Rattle.cilk_run.specs.choices.declared.refusal.Refusal.{Refusal}
 use Rattle.cilk_run.specs.choices.declared.refusal.Refusal.TheVariants as refusal

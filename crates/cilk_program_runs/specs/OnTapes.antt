@@ -5,7 +5,7 @@ use Rattle.cilk_commands.specs.Held.{Held}
 use Rattle.cilk_commands.specs.Loading.{IsReady}
 use Rattle.cilk_commands.specs.declared.status.Status.{Status}
 use Rattle.cilk_commands.specs.labelled.Bodies.{label}
-use Rattle.cilk_log_replay.specs.Tape.{Tape, position_at}
+use Rattle.cilk_draw.specs.replay.Tape.{Tape, position_at}
 use Rattle.cilk_run.specs.model.End as model
 use Rattle.cilk_run.specs.model.Run.{Position}
 use Rattle.cilk_program_runs.specs.Taped.{IsOwnTape}

@@ -5,7 +5,7 @@ use Rattle.cilk_commands.specs.Held.{Held}
 use Rattle.cilk_commands.specs.Loading.{Unready}
 use Rattle.cilk_draw.specs.declared.fault.DrawFault.{DrawFault}
 use Rattle.cilk_draw.specs.declared.fault.DrawFault.TheVariants as fault
-use Rattle.cilk_log_replay.specs.Tape.{Tape, IsPlayable}
+use Rattle.cilk_draw.specs.replay.Tape.{Tape, IsPlayable}
 use Rattle.cilk_program_runs.specs.Taped.{IsNoLog, IsNotPlayable, IsOwnTape}
 use Rattle.cilk_program_runs.specs.declared.failure.RecordFailure.{RecordFailure}
 use Rattle.cilk_program_runs.specs.declared.failure.RecordFailure.TheVariants as why

@@ -4,7 +4,7 @@ use Rattle.cilk_commands.specs.labelled.Bodies.{label}
 use Rattle.cilk_run.specs.model.Run.{Standing, Position}
 use Rattle.cilk_run.specs.model.End as model
 use Rattle.cilk_run.specs.machine.Situation.{Situation}
-use Rattle.cilk_log_replay.specs.Tape.{Tape, position_at}
+use Rattle.cilk_draw.specs.replay.Tape.{Tape, position_at}
 use Rattle.cilk_commands.specs.Front.{Gains, GainsFront}
 use Rattle.cilk_commands.specs.Held.{Held}
 use Rattle.cilk_commands.specs.declared.status.Status.{Status}

@@ -8,8 +8,8 @@ use Rattle.cilk_run.specs.model.End as model
 use Rattle.cilk_run.specs.model.Run.{Position, after}
 use Rattle.cilk_run.specs.Drawn.{drawn}
 use Rattle.cilk_commands.specs.ProgramText.{program_text}
-use Rattle.cilk_log_replay.specs.log.Naming.{digest_of}
-use Rattle.cilk_log_replay.specs.log.Text.{log_text}
+use Rattle.cilk_draw.specs.replay.log.Naming.{digest_of}
+use Rattle.cilk_draw.specs.replay.log.Text.{log_text}
 use Rattle.cilk_commands.specs.Front.{AppendsFront}
 use Rattle.cilk_commands.specs.Held.{Held}
 use Rattle.cilk_commands.specs.Loading.{IsReady}

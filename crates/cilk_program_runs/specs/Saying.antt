@@ -4,13 +4,13 @@ use Rattle.std.specs.Io.KnownBytes.{Appends}
 use Rattle.cilk_run.specs.model.End as model
 use Rattle.cilk_run.specs.model.Path.{Path}
 use Rattle.cilk_run.specs.model.State.{TrapKind}
-use Rattle.cilk_run.specs.machine.spawn.Kinds.{kind_of}
+use Rattle.cilk_run.specs.machine.frame.Kinds.{kind_of}
 use Rattle.cilk_run.specs.choices.declared.end.End.{End}
 use Rattle.cilk_run.specs.choices.declared.end.End.TheVariants as ends
 use Rattle.cilk_run.specs.choices.declared.refusal.Refusal.{Refusal}
-use Rattle.cilk_log_replay.specs.log.Text.{Log}
-use Rattle.cilk_log_replay.specs.declared.replay_fault.ReplayFault.{ReplayFault}
-use Rattle.cilk_log_replay.specs.declared.replay_fault.ReplayFault.TheVariants as replay
+use Rattle.cilk_draw.specs.replay.log.Text.{Log}
+use Rattle.cilk_draw.specs.replay.declared.replay_fault.ReplayFault.{ReplayFault}
+use Rattle.cilk_draw.specs.replay.declared.replay_fault.ReplayFault.TheVariants as replay
 use Rattle.cilk_commands.specs.Front.{AppendsFront}
 use Rattle.cilk_commands.specs.Held.{Held, IsReadOf}
 use Rattle.cilk_commands.specs.Telling.{IsActionTold}

@@ -3,13 +3,13 @@
 ghost use Rattle.std.specs.Prelude.{◌≡◌, ◌≤◌, ◌⊎◌, [], IfOk, length, map, option_map, string_bytes};
 ghost use Rattle.cilk_commands.specs.syntax.Appends.{Appends};
 ghost use Rattle.cilk_run.specs.choices.Words.{act_of, choice_of};
-ghost use Rattle.cilk_log_replay.specs.log.Choices.{act_text, choice_text};
-ghost use Rattle.cilk_log_replay.specs.log.Stretches.{are_joined, stretches_of};
-ghost use Rattle.cilk_log_replay.specs.log.Words.{log_of};
+ghost use Rattle.cilk_draw.specs.replay.log.Choices.{act_text, choice_text};
+ghost use Rattle.cilk_draw.specs.replay.log.Stretches.{are_joined, stretches_of};
+ghost use Rattle.cilk_draw.specs.replay.log.Words.{log_of};
 ghost use Rattle.cilk_program_runs.specs.ChoiceLines.{IsChoiceOf, choice_words, line_of_choice, new_lines, nth_choice};
 
 use crate::meaning::refusal_meaning;
-use cilk_log_replay::{Log, Memory};
+use cilk_draw::{Log, Memory};
 use cilk_run::{Act, Choice, Refusal};
 use std::alloc::Global;
 

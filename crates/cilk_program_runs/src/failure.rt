@@ -8,7 +8,7 @@ ghost use Rattle.cilk_program_runs.specs.Telling.{choice_line, code_of, log_line
 use crate::file_names::FileNames;
 use crate::log_task::LogTask;
 use cilk_commands::{Failure, Status, tell_of, write_parts, write_whole};
-use cilk_log_replay::{LogFault, ReplayFault};
+use cilk_draw::{LogFault, ReplayFault};
 use cilk_run::Refusal;
 use itoa::Buffer;
 use std::alloc::Global;

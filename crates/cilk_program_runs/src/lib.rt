@@ -38,6 +38,7 @@ mod unexplored;
 pub use asked::{
     debug_named, draw_named, explore_named, replay_named, run_as_asked, tell_as_asked,
 };
+pub use cilk_commands::{Answered, Answering, Failure, Loaded, Status, check_text, print_text};
 pub use cilk_draw::{Excerpt, Picture};
 pub use dap::dap_text;
 pub use debug::debug_text;

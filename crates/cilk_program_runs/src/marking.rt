@@ -1,7 +1,6 @@
 //! How the races of a schedule are marked in its picture, by what stands above.
 
-use cilk_draw::{Excerpt, Picture};
-use cilk_log_replay::{Loaded, Log, Memory};
+use cilk_draw::{Excerpt, Loaded, Log, Memory, Picture};
 use std::alloc::Global;
 
 /// Who tells a picture which of its choices race.

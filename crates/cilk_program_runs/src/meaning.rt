@@ -1,10 +1,10 @@
 //! What the kinds of traps and the reasons of refusals mean, in words for people.
 
 ghost use Rattle.std.specs.Prelude.{◌≡◌};
-ghost use Rattle.cilk_run.specs.machine.spawn.Kinds.{kind_of};
+ghost use Rattle.cilk_run.specs.machine.frame.Kinds.{kind_of};
 ghost use Rattle.cilk_program_runs.specs.Meanings.{refusal_meaning, trap_meaning, value_meaning};
 
-use cilk_log_replay::{Trap, TrapKind};
+use cilk_draw::{Trap, TrapKind};
 use cilk_run::Refusal;
 
 /// What a kind of traps means: a sentence without its full stop.

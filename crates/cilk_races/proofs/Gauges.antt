@@ -18,7 +18,7 @@ use Rattle.cilk_log_replay.specs.machine.model.Run.{Position, refusal_of, event_
 use Rattle.cilk_log_replay.specs.machine.choices.declared.choice.Choice.{Choice}
 use Rattle.cilk_log_replay.specs.machine.choices.Words.{choice_of}
 use Rattle.cilk_log_replay.specs.machine.spawn.Nodes.{Node, IsTree, node_at, path_at}
-use Rattle.cilk_log_replay.specs.machine.spawn.Kinds.{kind_of}
+use Rattle.cilk_log_replay.specs.machine.frame.Kinds.{kind_of}
 use Rattle.cilk_log_replay.specs.machine.agree.Fated.{Fated}
 use Rattle.cilk_log_replay.specs.machine.plans.declared.did.Did.{Did}
 use Rattle.cilk_log_replay.specs.machine.plans.declared.did.Did.TheVariants as did

@@ -4,7 +4,7 @@ use Rattle.cilk_log_replay.specs.machine.labelled.Bodies.{label}
 use Rattle.cilk_log_replay.specs.machine.syntax.Tree.{Program}
 use Rattle.cilk_log_replay.specs.machine.model.Path.{Path}
 use Rattle.cilk_log_replay.specs.machine.model.Event.{Event, spawned}
-use Rattle.cilk_log_replay.specs.machine.spawn.Kinds.{kind_of}
+use Rattle.cilk_log_replay.specs.machine.frame.Kinds.{kind_of}
 use Rattle.cilk_log_replay.specs.machine.spawn.Nodes.{Node, IsTree, node_at, path_at}
 use Rattle.cilk_log_replay.specs.machine.agree.Fated.{Fated}
 use Rattle.cilk_log_replay.specs.machine.plans.declared.did.Did.{Did}

@@ -1,9 +1,9 @@
 -- Worked runs: the numbers that are told of them.
 use Rattle.std.specs.Prelude.{ℕ, List, [], ◌∷◌, ◌++◌, Option, None, option_map, codes}
-use Rattle.cilk_log_replay.specs.machine.nodes.model.labelled.syntax.declared.operator.BinOp.TheVariants.{Add}
-use Rattle.cilk_log_replay.specs.machine.nodes.model.labelled.syntax.declared.return_type.ReturnType.TheVariants.{Int, Void}
-use Rattle.cilk_log_replay.specs.machine.nodes.model.labelled.syntax.Tree as tree
-use Rattle.cilk_log_replay.specs.machine.nodes.model.labelled.syntax.Tree.{Program, Stmt, number, binary}
+use Rattle.cilk_log_replay.specs.machine.nodes.model.syntax.declared.operator.BinOp.TheVariants.{Add}
+use Rattle.cilk_log_replay.specs.machine.nodes.model.syntax.declared.return_type.ReturnType.TheVariants.{Int, Void}
+use Rattle.cilk_log_replay.specs.machine.nodes.model.syntax.Tree as tree
+use Rattle.cilk_log_replay.specs.machine.nodes.model.syntax.Tree.{Program, Stmt, number, binary}
 use Rattle.cilk_log_replay.specs.machine.nodes.model.labelled.Bodies.{label}
 use Rattle.cilk_log_replay.specs.machine.nodes.model.Choice.{Choice}
 use Rattle.cilk_log_replay.specs.machine.nodes.model.Run.{after}

@@ -1,6 +1,6 @@
 -- The races of worked runs.
 use Rattle.std.specs.Prelude.{ℕ, List, map, Option, Some, None, option_map}
-use Rattle.cilk_log_replay.specs.machine.model.labelled.syntax.Tree.{Program}
+use Rattle.cilk_log_replay.specs.machine.model.syntax.Tree.{Program}
 use Rattle.cilk_log_replay.specs.machine.model.labelled.Labelled.{Labelled}
 use Rattle.cilk_log_replay.specs.machine.model.labelled.Bodies.{label}
 use Rattle.cilk_log_replay.specs.machine.model.Choice.{Choice}

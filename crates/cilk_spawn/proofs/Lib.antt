@@ -28,4 +28,5 @@ pub mod InPlace
 pub mod Copies
 pub mod Living
 pub mod Compared
+pub mod Counted
 pub use Rattle.cilk_frame.proofs as frame_laws

@@ -4,7 +4,7 @@ use Rattle.std.proofs.Common.{inr, slice_set, length-set, length-take-le, get_or
 use Rattle.std.proofs.lemmas.List.{get_or_past, set_comm, take-map, take-set-le}
 use Rattle.cilk_spawn.specs.declared.fate.Fate.{Fate}
 use Rattle.cilk_spawn.specs.declared.record.Record.{Record}
-use Rattle.cilk_spawn.specs.declared.receiver.Receiver.TheVariants.{Nothing}
+use Rattle.cilk_frame.specs.declared.receiver.Receiver.TheVariants.{Nothing}
 use Rattle.cilk_spawn.specs.Nodes.{Node, no_node, node_at, is_live, ended}
 use Rattle.cilk_spawn.specs.Records.{node_of, nodes_of, no_record, record_at, child_of, live_index, SameBeside}
 use Rattle.cilk_spawn.specs.Dropped.{StaysThere, Dropped, fewer, unborn}

@@ -2,7 +2,6 @@ pub mod Nodes
 pub mod Alike
 pub mod Family
 pub mod Records
-pub mod Kinds
 pub mod Remains
 pub mod Revived
 pub mod Dropped

@@ -3,7 +3,7 @@ use Rattle.std.specs.Prelude.{ℕ, false, List, [], ◌∷◌, Option, None, Som
 use Rattle.cilk_frame.specs.model.Hands.{bottom_of, above_bottom}
 use Rattle.cilk_spawn.specs.declared.delivery.Delivery.{Delivery}
 use Rattle.cilk_spawn.specs.declared.fate.Fate.{Fate}
-use Rattle.cilk_spawn.specs.declared.receiver.Receiver.{Receiver}
+use Rattle.cilk_frame.specs.declared.receiver.Receiver.{Receiver}
 use Rattle.cilk_spawn.specs.Nodes.{Node, node_at, with_waiting, with_fate}
 
 -- this delivery waits for k, in front of the others

@@ -1,7 +1,6 @@
 //! What an instance is born with.
 
-use crate::receiver::Receiver;
-use cilk_frame::Id;
+use cilk_frame::{Id, Receiver};
 
 /// What is settled of an instance before it does anything.
 #[derive(Drop)]

@@ -21,7 +21,6 @@
 //! ```
 #![tactic(auto)]
 
-mod arguments;
 mod birth;
 mod delivery;
 mod ending;
@@ -30,20 +29,16 @@ mod laws;
 mod leaving;
 mod life;
 mod living_image;
-mod path;
 mod putting;
-mod receiver;
 mod record;
 mod remains;
 mod taken;
-mod trap_kind;
 mod tree;
 mod tree_image;
 
-pub use arguments::Arguments;
 pub use cilk_frame::{
-    Action, Area, Await, BinOp, Code, Frame, Id, LockAction, Memory, Mixer, Slot, SlotPlace, Slots,
-    Taker, Target, Trap,
+    Action, Area, Arguments, Await, BinOp, Code, Frame, Id, LockAction, Memory, Mixer, Path,
+    Receiver, Slot, SlotPlace, Slots, Taker, Target, Trap, TrapKind, What,
 };
 pub use delivery::Delivery;
 pub use ending::Ending;
@@ -52,10 +47,7 @@ pub use laws::{
     a_return_ends_and_sends, ids_change, paths_are_names, paths_stay, trees_stay_trees,
 };
 pub use living_image::LivingImage;
-pub use path::Path;
-pub use receiver::Receiver;
 pub use remains::Remains;
 pub use taken::Taken;
-pub use trap_kind::TrapKind;
 pub use tree::Tree;
 pub use tree_image::TreeImage;

@@ -8,9 +8,8 @@ ghost use Rattle.cilk_spawn.specs.Undone.{waits_again, with_receiver, unmarked};
 
 use crate::delivery::Delivery;
 use crate::fate::Fate;
-use crate::receiver::Receiver;
 use crate::record::Record;
-use cilk_frame::{Id, Memory};
+use cilk_frame::{Id, Memory, Receiver};
 
 /// There is room for one delivery more that waits for an instance that lives.
 pub fn make_room(records: &mut Vec<Record>, id: Id) -> Result<(), Memory>

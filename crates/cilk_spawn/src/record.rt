@@ -3,7 +3,7 @@
 ghost use Rattle.std.specs.Prelude.{ℕ, ◌≡◌, ◌<◌, ◌==◌, ◌&&◌, ◌++◌, ◌∷◌, None, Some, [], true, cond, length, IfNone, IfOk, IfSome, OnErr, OnOk, drop};
 ghost use Rattle.std.specs.Prelude.{option_copied, slice_get};
 ghost use Rattle.cilk_spawn.specs.Nodes.{is_live, is_number, fate_at, after_taking};
-ghost use Rattle.cilk_spawn.specs.declared.receiver.Receiver.TheVariants.{Nothing};
+ghost use Rattle.cilk_frame.specs.declared.receiver.Receiver.TheVariants.{Nothing};
 ghost use Rattle.cilk_spawn.specs.Remains.{remains_of};
 ghost use Rattle.cilk_spawn.specs.Records.{node_of, node_at_start, child_of, live_index, SameBeside, HasRoom, NoneBetween};
 
@@ -12,9 +12,8 @@ use crate::delivery::Delivery;
 use crate::ending::Ending;
 use crate::fate::Fate;
 use crate::life::{Life, Live};
-use crate::receiver::Receiver;
 use crate::remains::Remains;
-use cilk_frame::{Frame, Id, Memory};
+use cilk_frame::{Frame, Id, Memory, Receiver};
 use std::alloc::Global;
 use std::collections::{BTreeMap, VecDeque};
 use std::mem::{replace, size_of};

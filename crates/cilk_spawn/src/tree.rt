@@ -11,11 +11,9 @@ use crate::delivery::Delivery;
 use crate::ending::Ending;
 use crate::fate::Fate;
 use crate::leaving::{leave_parent, settle};
-use crate::path::Path;
-use crate::receiver::Receiver;
 use crate::record::Record;
 use crate::remains::Remains;
-use cilk_frame::{Frame, Id, Memory};
+use cilk_frame::{Frame, Id, Memory, Path, Receiver};
 use std::alloc::Global;
 use std::marker::Model;
 

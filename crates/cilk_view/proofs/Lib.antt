@@ -13,6 +13,7 @@ pub mod Rising
 pub mod Ahead
 pub mod Kins
 pub mod Tellings
+mod Portions
 pub use Rattle.cilk_load.proofs.Fronts
 pub use Rattle.cilk_explore_model.proofs as explore_laws
 pub use Rattle.cilk_explore_model.proofs.runs_laws

@@ -2,7 +2,6 @@ pub mod WhereLines
 pub mod Frames
 pub mod Globals
 pub mod Listing
-pub mod Words
 pub mod Finding
 pub mod Shows
 pub mod Trees

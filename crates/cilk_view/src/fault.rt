@@ -1,4 +1,4 @@
-//! What leaves a view without a text: a path that no live instance has, or want of memory.
+//! What leaves a view without a text: a path that no live instance has, or want of memory; and that nothing can be written.
 
 use cilk_load::Memory;
 use thiserror::Error;
@@ -14,3 +14,8 @@ pub enum ViewFault {
     #[error("out of memory")]
     Memory(#[from] Memory),
 }
+
+/// The writer failed, so that a part of what was to be written may be written.
+#[derive(Clone, Copy, Debug, PartialEq, Eq, Error)]
+#[error("the writer failed")]
+pub struct WriteFault;

@@ -3,7 +3,7 @@
 ghost use Rattle.std.specs.Prelude.{◌≡◌, ◌≢◌, Some, None, Ok, Err, IfOk};
 ghost use Rattle.cilk_explore_model.specs.model.Run.{Position};
 ghost use Rattle.cilk_explore_model.specs.model.Views.{shown};
-ghost use Rattle.cilk_view.specs.Words.{what_of};
+ghost use Rattle.cilk_explore_model.specs.agree.frame.Asked.{what_of};
 ghost use Rattle.cilk_view.specs.Shows.{ShowsAt, Shows};
 
 use crate::deques_telling::tell_deques;
@@ -12,7 +12,7 @@ use crate::showing::show;
 use crate::shown::Shown;
 use crate::telling::Telling;
 use crate::tree_telling::tell_tree;
-use crate::what::What;
+use cilk_explore_model::What;
 use cilk_load::Memory;
 use std::alloc::Global;
 

@@ -12,9 +12,8 @@ use super::Record;
 use crate::delivery::Delivery;
 use crate::fate::Fate;
 use crate::life::Life;
-use crate::receiver::Receiver;
 use crate::remains::Remains;
-use cilk_frame::{Id, Memory};
+use cilk_frame::{Id, Memory, Receiver};
 
 impl Record {
     /// Its last child was not there.

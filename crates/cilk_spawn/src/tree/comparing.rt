@@ -3,7 +3,7 @@
 ghost use Rattle.std.specs.Prelude.{ℕ, ◌≡◌, ◌<◌, true, length, Some, IfSome, slice_get};
 ghost use Rattle.cilk_spawn.specs.Nodes.{node_at, is_live, path_at};
 ghost use Rattle.cilk_spawn.specs.declared.delivery.Delivery as deliveries;
-ghost use Rattle.cilk_spawn.specs.Alike.{taker_in, LivesAs, SameDelivery, SameWaiting, SameNode, SameTree};
+ghost use Rattle.cilk_spawn.specs.Alike.{taker_in, SameDelivery, SameWaiting, SameNode, SameTree};
 
 use super::Tree;
 use crate::delivery::Delivery;
@@ -18,7 +18,8 @@ impl Tree {
     pub fn is_same(&self, other: &Tree) -> bool
         ensures { result ≡ true → SameTree self.now.nodes other.now.nodes }
     {
-        self.all_are_told(other) && other.all_live(self)
+        // Each that lives here has a partner of its own there, so that none is left over where as many live.
+        self.living.len() == other.living.len() && self.all_are_told(other)
     }
 
     /// Whether the instance of this id here and that of the other id there have one path. It may be false where that has ended.
@@ -67,27 +68,6 @@ impl Tree {
         true
     }
 
-    // Whether each that lives here lives there.
-    fn all_live(&self, other: &Tree) -> bool
-        ensures { result ≡ true → (i : ℕ) → is_live (node_at self.now.nodes i) ≡ true → LivesAs self.now.nodes other.now.nodes i }
-    {
-        // Brings its clauses into the proof.
-        let _others = other.records.len();
-        let mut near = Id::new(0);
-        let mut by = Id::new(0);
-        for k in 0..self.living.len() {
-            let here = self.living[k];
-            match self.living_partner(here, other, near, by) {
-                None => return false,
-                Some(to) => {
-                    near = here;
-                    by = to;
-                }
-            }
-        }
-        true
-    }
-
     // The instance there of which the same is told, if it has the path of this one.
     fn told(&self, id: Id, other: &Tree, near: Id, by: Id) -> Option<Id>
         requires here { id < length self.now.nodes }
@@ -98,25 +78,6 @@ impl Tree {
             None => None,
             Some(to) => {
                 if to.number() < other.records.len() && self.is_told_as(id, other, to) {
-                    Some(to)
-                } else {
-                    None
-                }
-            }
-        }
-    }
-
-    // The instance there with the path of this one, if it lives.
-    fn living_partner(&self, id: Id, other: &Tree, near: Id, by: Id) -> Option<Id>
-        requires here { id < length self.now.nodes }
-        requires near { path_at self.now.nodes near ≡ path_at other.now.nodes by }
-        ensures lives { IfSome result (λ to. is_live (node_at other.now.nodes to) ≡ true) }
-        ensures path { IfSome result (λ to. path_at self.now.nodes id ≡ path_at other.now.nodes to) }
-    {
-        match self.partner_behind(id, other, near, by) {
-            None => None,
-            Some(to) => {
-                if to.number() < other.records.len() && other.records[to.number()].is_live() {
                     Some(to)
                 } else {
                     None

@@ -1,4 +1,4 @@
-use Rattle.cilk_load_nodes.proofs.Environments.{value_of-rename, value_of-same}
+use Rattle.cilk_frame.proofs.nodes_laws.Environments.{value_of-rename, value_of-same}
 use Rattle.cilk_eval.proofs.laws.value_is_of_what_is_read.Goals as goal
 
 pub returns : goal.returns

@@ -1,5 +1,5 @@
 use Rattle.std.proofs.Common.{sym, ◌∙◌}
-use Rattle.cilk_load_nodes.specs.Areas.{cells_of}
+use Rattle.cilk_frame.specs.nodes.Areas.{cells_of}
 use Rattle.cilk_eval.proofs.KnownLaws.{behind_nothing}
 use Rattle.cilk_eval.proofs.listed.behind_listed.Goals as goal
 

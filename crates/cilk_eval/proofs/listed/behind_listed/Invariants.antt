@@ -1,6 +1,6 @@
 use Rattle.std.proofs.Common.{◌≡◌, drop, map}
 use Rattle.cilk_eval.specs.Known.{behind_known, known_in}
-use Rattle.cilk_load_nodes.specs.Areas.{cells_of}
+use Rattle.cilk_frame.specs.nodes.Areas.{cells_of}
 use Rattle.cilk_eval.proofs.listed.behind_listed.Given as goal
 
 abbrev pub invariant-loop-slot : goal.invariant-loop-slot

@@ -1,6 +1,6 @@
 use Rattle.std.proofs.Common.{◌≡◌, ◌++◌, take, map}
 use Rattle.cilk_eval.specs.Known.{known_in}
-use Rattle.cilk_load_nodes.specs.Areas.{cells_of}
+use Rattle.cilk_frame.specs.nodes.Areas.{cells_of}
 use Rattle.cilk_eval.proofs.listed.push_held.Given as goal
 
 abbrev pub invariant-loop-slot : goal.invariant-loop-slot

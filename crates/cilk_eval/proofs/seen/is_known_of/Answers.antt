@@ -1,6 +1,6 @@
 use Rattle.std.proofs.Common.{◌∙◌, ap, option_map, sym}
 use Rattle.cilk_eval.specs.Known.{known_of}
-use Rattle.cilk_load_nodes.specs.Areas.{cells_of}
+use Rattle.cilk_frame.specs.nodes.Areas.{cells_of}
 use Rattle.cilk_eval.proofs.KnownLaws.{none_left, some_left}
 use Rattle.cilk_eval.proofs.seen.is_known_of.Goals as goal
 

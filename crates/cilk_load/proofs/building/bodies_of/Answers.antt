@@ -1,7 +1,7 @@
 use Rattle.std.proofs.Common.{◌≡◌, ℕ, ◌+◌, ◌<◌, ◌++◌, List, ◌∷◌, length, get_or, drop, sym, ap, ◌∙◌, arith, append_assoc, append-nil}
 use Rattle.std.proofs.lemmas.List.{at_drop_all, at_drop_more}
-use Rattle.cilk_load_names.specs.syntax.Tree as tree
-use Rattle.cilk_load_names.specs.labelled.Count.{count_item, count_items}
+use Rattle.cilk_tree_syntax.specs.Tree as tree
+use Rattle.cilk_load_nodes.specs.labelled.Count.{count_item, count_items}
 use Rattle.cilk_load.specs.BodyTables.{item_tables, items_tables}
 use Rattle.cilk_load.proofs.building.bodies_of.Goals as goal
 

@@ -1,5 +1,5 @@
 use Rattle.std.proofs.Common.{◌≡◌, ◌≤◌, ◌+◌, ◌++◌, drop}
-use Rattle.cilk_load_names.specs.labelled.Count.{count_items}
+use Rattle.cilk_load_nodes.specs.labelled.Count.{count_items}
 use Rattle.cilk_load.specs.BodyTables.{items_tables}
 use Rattle.cilk_load.proofs.building.bodies_of.Given as goal
 

@@ -1,8 +1,8 @@
 use Rattle.std.proofs.Common.{◌≡◌, ◌+◌, List, Some, ap, ◌∙◌, arith}
-use Rattle.cilk_load_names.specs.syntax.Tree as tree
-use Rattle.cilk_load_names.specs.syntax.Tree.{locals_of, stmts_of}
-use Rattle.cilk_load_names.specs.labelled.Count.{count_locals, count_stmts}
-use Rattle.cilk_load_names.specs.Firsts.{first_if, locals_first}
+use Rattle.cilk_tree_syntax.specs.Tree as tree
+use Rattle.cilk_tree_syntax.specs.Tree.{locals_of, stmts_of}
+use Rattle.cilk_load_nodes.specs.labelled.Count.{count_locals, count_stmts}
+use Rattle.cilk_load.specs.Firsts.{first_if, locals_first}
 use Rattle.cilk_load.specs.BodyTables.{body_first}
 use Rattle.cilk_load.proofs.building.body_first.Goals as goal
 

@@ -1,7 +1,7 @@
 use Rattle.std.proofs.Common.{◌≡◌, ◌++◌, ◌∷◌, [], length, map, pos, rules, refl, ap, ◌∙◌, arith}
-use Rattle.cilk_load_names.specs.scopes.declared.owner.Owner.TheVariants as owner
-use Rattle.cilk_load_names.specs.labelled.Bodies.{one_cell}
-use Rattle.cilk_load_names.specs.nodes.declared.body.Body.{Body}
+use Rattle.cilk_load_nodes.specs.scopes.declared.owner.Owner.TheVariants as owner
+use Rattle.cilk_load_nodes.specs.labelled.Bodies.{one_cell}
+use Rattle.cilk_load_nodes.specs.declared.body.Body.{Body}
 use Rattle.cilk_load.proofs.TableLaws.{table-made}
 use Rattle.cilk_load.proofs.building.put_inlet.Goals as goal
 

@@ -1,8 +1,8 @@
 use Rattle.std.proofs.Common.{◌≡◌, ◌+◌, ◌++◌, drop, rules, sym, ap, ◌∙◌, arith, append_assoc}
 use Rattle.std.proofs.lemmas.List.{at_drop_more}
-use Rattle.cilk_load_names.specs.syntax.Tree as tree
-use Rattle.cilk_load_names.specs.syntax.Tree.{locals_of}
-use Rattle.cilk_load_names.specs.labelled.Count.{count_local, count_locals}
+use Rattle.cilk_tree_syntax.specs.Tree as tree
+use Rattle.cilk_tree_syntax.specs.Tree.{locals_of}
+use Rattle.cilk_load_nodes.specs.labelled.Count.{count_local, count_locals}
 use Rattle.cilk_load.specs.BodyTables.{inlet_tables}
 use Rattle.cilk_load.proofs.building.put_inlets.Goals as goal
 use Rattle.cilk_load.proofs.building.put_inlets.Goals.{in-Decl, in-Inlet+in_ok-put_inlet-in-Inlet}

@@ -1,6 +1,6 @@
 use Rattle.std.proofs.Common.{◌≡◌, ◌+◌, ◌++◌, drop}
-use Rattle.cilk_load_names.specs.syntax.Tree.{locals_of}
-use Rattle.cilk_load_names.specs.labelled.Count.{count_locals}
+use Rattle.cilk_tree_syntax.specs.Tree.{locals_of}
+use Rattle.cilk_load_nodes.specs.labelled.Count.{count_locals}
 use Rattle.cilk_load.specs.BodyTables.{inlet_tables}
 use Rattle.cilk_load.proofs.building.put_inlets.Given as goal
 

@@ -1,9 +1,9 @@
 use Rattle.std.proofs.Common.{◌≡◌, ◌++◌, ◌∷◌, [], length, rules, ap, ◌∙◌, arith}
-use Rattle.cilk_load_names.specs.syntax.Tree as tree
-use Rattle.cilk_load_names.specs.syntax.ProgramView.{parameters_of}
-use Rattle.cilk_load_names.specs.scopes.Parts.{owner_of}
-use Rattle.cilk_load_names.specs.labelled.Bodies.{parameter_variables}
-use Rattle.cilk_load_names.specs.nodes.declared.body.Body.{Body}
+use Rattle.cilk_tree_syntax.specs.Tree as tree
+use Rattle.cilk_tree_syntax.specs.ProgramView.{parameters_of}
+use Rattle.cilk_load_nodes.specs.scopes.Parts.{owner_of}
+use Rattle.cilk_load_nodes.specs.labelled.Bodies.{parameter_variables}
+use Rattle.cilk_load_nodes.specs.declared.body.Body.{Body}
 use Rattle.cilk_load.specs.BodyTables.{table_of}
 use Rattle.cilk_load.proofs.TableLaws.{table-made}
 use Rattle.cilk_load.proofs.building.put_own.Goals as goal

@@ -1,7 +1,7 @@
 use Rattle.std.proofs.Common.{◌≡◌, ◌+◌, ◌-◌, ◌<◌, ◌++◌, List, ◌∷◌, length, drop, get_or, sym, ap, ◌∙◌, arith, append_assoc}
 use Rattle.std.proofs.lemmas.List.{at_drop_more}
-use Rattle.cilk_load_names.specs.syntax.Tree as tree
-use Rattle.cilk_load_names.specs.labelled.Bodies.{item_globals, item_locks, body_count}
+use Rattle.cilk_tree_syntax.specs.Tree as tree
+use Rattle.cilk_load_nodes.specs.labelled.Bodies.{item_globals, item_locks, body_count}
 use Rattle.cilk_load.specs.Outer.{globals_count, locks_count, bodies_count, item_named, file_named}
 use Rattle.cilk_load.proofs.file.declare_file.Goals as goal
 

@@ -1,10 +1,10 @@
 use Rattle.std.proofs.Common.{◌≡◌, ◌+◌, ◌++◌, List, map, drop, refl, sym, ap, ◌∙◌}
 use Rattle.std.specs.Prelude.{flat_map}
 use Rattle.std.proofs.lemmas.List.{at_drop_more, map-append}
-use Rattle.cilk_load_names.specs.syntax.Tree as tree
-use Rattle.cilk_load_names.specs.nodes.declared.area.Area.TheVariants.{Global}
-use Rattle.cilk_load_names.specs.labelled.Bodies.{item_locks}
-use Rattle.cilk_load_names.specs.nodes.Bodies.{vars_from, lock_variable}
+use Rattle.cilk_tree_syntax.specs.Tree as tree
+use Rattle.cilk_load_nodes.specs.declared.area.Area.TheVariants.{Global}
+use Rattle.cilk_load_nodes.specs.labelled.Bodies.{item_locks}
+use Rattle.cilk_load_nodes.specs.Bodies.{vars_from, lock_variable}
 use Rattle.cilk_load.proofs.Cells.{joined}
 use Rattle.cilk_load.proofs.globals.locks_of.Goals as goal
 

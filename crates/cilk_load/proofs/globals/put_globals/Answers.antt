@@ -1,10 +1,10 @@
 use Rattle.std.proofs.Common.{◌≡◌, ◌+◌, ◌++◌, List, drop, refl, sym, ap, ◌∙◌}
 use Rattle.std.specs.Prelude.{flat_map}
 use Rattle.std.proofs.lemmas.List.{at_drop_more}
-use Rattle.cilk_load_names.specs.syntax.Tree as tree
-use Rattle.cilk_load_names.specs.nodes.declared.area.Area.TheVariants.{Global}
-use Rattle.cilk_load_names.specs.labelled.Bodies.{item_globals}
-use Rattle.cilk_load_names.specs.nodes.Bodies.{vars_from}
+use Rattle.cilk_tree_syntax.specs.Tree as tree
+use Rattle.cilk_load_nodes.specs.declared.area.Area.TheVariants.{Global}
+use Rattle.cilk_load_nodes.specs.labelled.Bodies.{item_globals}
+use Rattle.cilk_load_nodes.specs.Bodies.{vars_from}
 use Rattle.cilk_load.proofs.Cells.{joined}
 use Rattle.cilk_load.proofs.globals.put_globals.Goals as goal
 

@@ -1,8 +1,8 @@
 use Rattle.std.proofs.Common.{◌≡◌, ◌++◌, drop}
 use Rattle.std.specs.Prelude.{flat_map}
-use Rattle.cilk_load_names.specs.nodes.declared.area.Area.TheVariants.{Global}
-use Rattle.cilk_load_names.specs.labelled.Bodies.{item_globals}
-use Rattle.cilk_load_names.specs.nodes.Bodies.{vars_from}
+use Rattle.cilk_load_nodes.specs.declared.area.Area.TheVariants.{Global}
+use Rattle.cilk_load_nodes.specs.labelled.Bodies.{item_globals}
+use Rattle.cilk_load_nodes.specs.Bodies.{vars_from}
 use Rattle.cilk_load.proofs.globals.put_globals.Given as goal
 
 abbrev pub invariant-loop-item : goal.invariant-loop-item

@@ -1,6 +1,6 @@
 use Rattle.std.proofs.Common.{◌≡◌, ◌+◌, ◌++◌, drop}
-use Rattle.cilk_load_names.specs.syntax.Tree.{stmts_of}
-use Rattle.cilk_load_names.specs.labelled.Count.{count_stmts}
+use Rattle.cilk_tree_syntax.specs.Tree.{stmts_of}
+use Rattle.cilk_load_nodes.specs.labelled.Count.{count_stmts}
 use Rattle.cilk_load.specs.Pass.{cases_in}
 use Rattle.cilk_load.proofs.labels.cases_in.Given as goal
 

@@ -1,8 +1,8 @@
 use Rattle.std.proofs.Common.{◌≡◌, ◌+◌, drop, rules, sym, ap, ◌∙◌, arith}
 use Rattle.std.proofs.lemmas.List.{at_drop_more}
-use Rattle.cilk_load_names.specs.syntax.Tree as tree
-use Rattle.cilk_load_names.specs.syntax.Tree.{stmts_of}
-use Rattle.cilk_load_names.specs.labelled.Count.{count_stmts}
+use Rattle.cilk_tree_syntax.specs.Tree as tree
+use Rattle.cilk_tree_syntax.specs.Tree.{stmts_of}
+use Rattle.cilk_load_nodes.specs.labelled.Count.{count_stmts}
 use Rattle.cilk_load.specs.Pass.{default_in}
 use Rattle.cilk_load.proofs.labels.default_in.Goals as goal
 

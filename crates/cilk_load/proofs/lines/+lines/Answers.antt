@@ -1,12 +1,12 @@
 use Rattle.std.proofs.Common.{◌≡◌, ◌+◌, ◌++◌, length, drop, sym, ap, ◌∙◌, arith, append_assoc, length-append}
 use Rattle.std.proofs.lemmas.List.{at_drop_more}
 use Rattle.std.proofs.lemmas.Result.{IfOk-weaker}
-use Rattle.cilk_load_names.specs.syntax.Tree as tree
-use Rattle.cilk_load_names.specs.syntax.Tree.{locals_of, stmts_of}
-use Rattle.cilk_load_names.specs.syntax.StmtLines.{stmt_lines, stmts_lines, local_lines, locals_lines, block_lines}
-use Rattle.cilk_load_names.specs.syntax.StmtView.{stmt_of}
-use Rattle.cilk_load_names.specs.labelled.Count.{count_locals, count_stmts}
-use Rattle.cilk_load_names.specs.labelled.Lines.{stmt_action_lines, stmts_action_lines, local_action_lines, locals_action_lines}
+use Rattle.cilk_tree_syntax.specs.Tree as tree
+use Rattle.cilk_tree_syntax.specs.Tree.{locals_of, stmts_of}
+use Rattle.cilk_tree_syntax.specs.StmtLines.{stmt_lines, stmts_lines, local_lines, locals_lines, block_lines}
+use Rattle.cilk_tree_syntax.specs.StmtView.{stmt_of}
+use Rattle.cilk_load_nodes.specs.labelled.Count.{count_locals, count_stmts}
+use Rattle.cilk_load_nodes.specs.labelled.Lines.{stmt_action_lines, stmts_action_lines, local_action_lines, locals_action_lines}
 use Rattle.cilk_load.proofs.Switches.{lines-of-switch}
 use Rattle.cilk_load.proofs.lines.+lines.Goals as goal
 

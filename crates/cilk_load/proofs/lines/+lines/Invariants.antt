@@ -1,8 +1,8 @@
 use Rattle.std.proofs.Common.{◌≡◌, ◌+◌, ◌++◌, drop, length, vec_len}
-use Rattle.cilk_load_names.specs.syntax.Tree.{stmts_of, locals_of}
-use Rattle.cilk_load_names.specs.syntax.StmtLines.{locals_lines, stmts_lines}
-use Rattle.cilk_load_names.specs.labelled.Count.{count_locals, count_stmts}
-use Rattle.cilk_load_names.specs.labelled.Lines.{locals_action_lines, stmts_action_lines}
+use Rattle.cilk_tree_syntax.specs.Tree.{stmts_of, locals_of}
+use Rattle.cilk_tree_syntax.specs.StmtLines.{locals_lines, stmts_lines}
+use Rattle.cilk_load_nodes.specs.labelled.Count.{count_locals, count_stmts}
+use Rattle.cilk_load_nodes.specs.labelled.Lines.{locals_action_lines, stmts_action_lines}
 use Rattle.cilk_load.proofs.lines.+lines.Given as goal
 
 abbrev pub invariant-put_locals-loop-local : goal.invariant-put_locals-loop-local

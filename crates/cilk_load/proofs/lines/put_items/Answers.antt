@@ -1,9 +1,9 @@
 use Rattle.std.proofs.Common.{◌≡◌, ◌+◌, ◌++◌, List, ◌∷◌, length, drop, sym, ap, ◌∙◌, arith, append_assoc, length-append}
 use Rattle.std.proofs.lemmas.List.{at_drop_more}
-use Rattle.cilk_load_names.specs.syntax.Tree as tree
-use Rattle.cilk_load_names.specs.syntax.ProgramText.{item_lines, items_lines}
-use Rattle.cilk_load_names.specs.labelled.Count.{count_items}
-use Rattle.cilk_load_names.specs.labelled.Lines.{item_action_lines, items_action_lines}
+use Rattle.cilk_tree_syntax.specs.Tree as tree
+use Rattle.cilk_tree_syntax.specs.ProgramText.{item_lines, items_lines}
+use Rattle.cilk_load_nodes.specs.labelled.Count.{count_items}
+use Rattle.cilk_load_nodes.specs.labelled.Lines.{item_action_lines, items_action_lines}
 use Rattle.cilk_load.proofs.lines.put_items.Goals as goal
 
 pub loop-item-preserved : goal.loop-item-preserved

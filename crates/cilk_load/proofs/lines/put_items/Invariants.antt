@@ -1,7 +1,7 @@
 use Rattle.std.proofs.Common.{◌≡◌, ◌+◌, ◌++◌, drop, length, vec_len}
-use Rattle.cilk_load_names.specs.syntax.ProgramText.{items_lines}
-use Rattle.cilk_load_names.specs.labelled.Count.{count_items}
-use Rattle.cilk_load_names.specs.labelled.Lines.{items_action_lines}
+use Rattle.cilk_tree_syntax.specs.ProgramText.{items_lines}
+use Rattle.cilk_load_nodes.specs.labelled.Count.{count_items}
+use Rattle.cilk_load_nodes.specs.labelled.Lines.{items_action_lines}
 use Rattle.cilk_load.proofs.lines.put_items.Given as goal
 
 abbrev pub invariant-loop-item : goal.invariant-loop-item

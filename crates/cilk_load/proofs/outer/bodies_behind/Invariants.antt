@@ -1,6 +1,6 @@
 use Rattle.std.proofs.Common.{◌≡◌, ◌+◌, drop}
-use Rattle.cilk_load_names.specs.syntax.Tree.{locals_of}
-use Rattle.cilk_load_names.specs.labelled.Bodies.{inlet_count}
+use Rattle.cilk_tree_syntax.specs.Tree.{locals_of}
+use Rattle.cilk_load_nodes.specs.labelled.Bodies.{inlet_count}
 use Rattle.cilk_load.proofs.outer.bodies_behind.Given as goal
 
 abbrev pub invariant-loop-local : goal.invariant-loop-local

@@ -1,13 +1,13 @@
 use Rattle.std.proofs.Common.{◌≡◌, ◌+◌, ◌++◌, List, drop, rules, refl, sym, ap, ◌∙◌, arith}
 use Rattle.std.proofs.lemmas.List.{at_drop_more}
-use Rattle.cilk_load_names.specs.syntax.Tree as tree
-use Rattle.cilk_load_names.specs.syntax.Tree.{locals_of, stmts_of}
-use Rattle.cilk_load_names.specs.nodes.declared.area.Area.TheVariants.{Own}
-use Rattle.cilk_load_names.specs.labelled.Label.{stmt_variables, stmts_variables, locals_variables, block_variables}
-use Rattle.cilk_load_names.specs.nodes.Slots.{cells_of}
-use Rattle.cilk_load_names.specs.nodes.Bodies.{vars_from}
+use Rattle.cilk_tree_syntax.specs.Tree as tree
+use Rattle.cilk_tree_syntax.specs.Tree.{locals_of, stmts_of}
+use Rattle.cilk_load_nodes.specs.declared.area.Area.TheVariants.{Own}
+use Rattle.cilk_load_nodes.specs.labelled.Label.{stmt_variables, stmts_variables, locals_variables, block_variables}
+use Rattle.cilk_load_nodes.specs.Slots.{cells_of}
+use Rattle.cilk_load_nodes.specs.Bodies.{vars_from}
 use Rattle.cilk_load.proofs.Cells.{joined, ok_behind, cells_of-append}
-use Rattle.cilk_load_names.proofs.Results.{ok_same}
+use Rattle.cilk_load.proofs.Results.{ok_same}
 use Rattle.cilk_load.proofs.variables.+variables.Goals as goal
 
 pub put_block_variables-returns-clause-vars : goal.put_block_variables-returns-clause-vars

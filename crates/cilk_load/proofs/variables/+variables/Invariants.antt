@@ -1,9 +1,9 @@
 use Rattle.std.proofs.Common.{◌≡◌, ◌+◌, ◌++◌, drop}
-use Rattle.cilk_load_names.specs.syntax.Tree.{stmts_of}
-use Rattle.cilk_load_names.specs.nodes.declared.area.Area.TheVariants.{Own}
-use Rattle.cilk_load_names.specs.labelled.Label.{stmts_variables}
-use Rattle.cilk_load_names.specs.nodes.Slots.{cells_of}
-use Rattle.cilk_load_names.specs.nodes.Bodies.{vars_from}
+use Rattle.cilk_tree_syntax.specs.Tree.{stmts_of}
+use Rattle.cilk_load_nodes.specs.declared.area.Area.TheVariants.{Own}
+use Rattle.cilk_load_nodes.specs.labelled.Label.{stmts_variables}
+use Rattle.cilk_load_nodes.specs.Slots.{cells_of}
+use Rattle.cilk_load_nodes.specs.Bodies.{vars_from}
 use Rattle.cilk_load.proofs.variables.+variables.Given as goal
 
 abbrev pub invariant-put_stmts-loop-stmt : goal.invariant-put_stmts-loop-stmt

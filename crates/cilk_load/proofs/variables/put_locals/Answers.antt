@@ -1,11 +1,11 @@
 use Rattle.std.proofs.Common.{◌≡◌, ◌+◌, ◌++◌, List, drop, refl, sym, ap, ◌∙◌, arith}
 use Rattle.std.proofs.lemmas.List.{at_drop_more}
-use Rattle.cilk_load_names.specs.syntax.Tree as tree
-use Rattle.cilk_load_names.specs.syntax.Tree.{locals_of}
-use Rattle.cilk_load_names.specs.nodes.declared.area.Area.TheVariants.{Own}
-use Rattle.cilk_load_names.specs.labelled.Label.{local_variables, locals_variables}
-use Rattle.cilk_load_names.specs.nodes.Slots.{cells_of}
-use Rattle.cilk_load_names.specs.nodes.Bodies.{vars_from}
+use Rattle.cilk_tree_syntax.specs.Tree as tree
+use Rattle.cilk_tree_syntax.specs.Tree.{locals_of}
+use Rattle.cilk_load_nodes.specs.declared.area.Area.TheVariants.{Own}
+use Rattle.cilk_load_nodes.specs.labelled.Label.{local_variables, locals_variables}
+use Rattle.cilk_load_nodes.specs.Slots.{cells_of}
+use Rattle.cilk_load_nodes.specs.Bodies.{vars_from}
 use Rattle.cilk_load.proofs.Cells.{joined, cells_of-append}
 use Rattle.cilk_load.proofs.variables.put_locals.Goals as goal
 

@@ -1,8 +1,8 @@
 use Rattle.std.proofs.Common.{◌≡◌, ◌+◌, ◌++◌, pos, map, drop}
-use Rattle.cilk_load_names.specs.nodes.declared.area.Area.TheVariants.{Own}
-use Rattle.cilk_load_names.specs.labelled.Bodies.{one_cell}
-use Rattle.cilk_load_names.specs.nodes.Slots.{cells_of}
-use Rattle.cilk_load_names.specs.nodes.Bodies.{vars_from}
+use Rattle.cilk_load_nodes.specs.declared.area.Area.TheVariants.{Own}
+use Rattle.cilk_load_nodes.specs.labelled.Bodies.{one_cell}
+use Rattle.cilk_load_nodes.specs.Slots.{cells_of}
+use Rattle.cilk_load_nodes.specs.Bodies.{vars_from}
 use Rattle.cilk_load.proofs.variables.put_words.Given as goal
 
 abbrev pub invariant-loop-word : goal.invariant-loop-word

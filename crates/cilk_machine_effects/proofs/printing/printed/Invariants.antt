@@ -1,5 +1,5 @@
 use Rattle.std.proofs.Common.{◌≡◌, ◌++◌, length}
-use Rattle.cilk_spawn.specs.model.Printing.{printed}
+use Rattle.cilk_eval.specs.model.Printing.{printed}
 use Rattle.cilk_machine_effects.proofs.printing.printed.Given as goal
 
 abbrev pub invariant-loop-first : goal.invariant-loop-first

@@ -1,4 +1,4 @@
-use Rattle.cilk_machine_effects.proofs.Known.{actions, heads}
+use Rattle.cilk_machine_effects.proofs.KnownActions.{actions, heads}
 use Rattle.cilk_machine_effects.proofs.soundness.actions_are_known.Goals as goal
 
 pub returns : goal.returns

@@ -1,4 +1,4 @@
-use Rattle.cilk_machine_effects.proofs.Known.{leaves, begins, follows, empties}
+use Rattle.cilk_machine_effects.proofs.KnownActions.{leaves, begins, follows, empties}
 use Rattle.cilk_machine_effects.proofs.soundness.bodies_go_on.Goals as goal
 
 pub returns : goal.returns

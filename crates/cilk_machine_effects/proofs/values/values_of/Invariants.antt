@@ -1,6 +1,6 @@
 use Rattle.std.proofs.Common.{◌≡◌, drop}
-use Rattle.cilk_spawn.specs.labelled.Value.{values_of}
-use Rattle.cilk_spawn.specs.nodes.Areas.{cells_of, environment}
+use Rattle.cilk_eval.specs.labelled.Value.{values_of}
+use Rattle.cilk_eval.specs.nodes.Areas.{cells_of, environment}
 use Rattle.cilk_machine_effects.proofs.Several.{after}
 use Rattle.cilk_machine_effects.proofs.values.values_of.Given as goal
 

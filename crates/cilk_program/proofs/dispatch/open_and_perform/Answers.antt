@@ -1,5 +1,5 @@
 use Rattle.std.proofs.Common.{refl}
-use Rattle.cilk_commands.specs.declared.failure.Failure.TheVariants.{CannotRead}
+use Rattle.cilk_program_runs.specs.commands.declared.failure.Failure.TheVariants.{CannotRead}
 use Rattle.cilk_words.specs.CommandLine.{wanted_by}
 use Rattle.cilk_program.proofs.Ended.{leaves_nothing, unread}
 use Rattle.cilk_program_runs.proofs.Said.{failure_no_trap}

@@ -1,6 +1,6 @@
 use Rattle.std.specs.Prelude.{string_bytes}
 use Rattle.std.proofs.Common.{subst, sym, ap, ◌∙◌, inl, inr, refl}
-use Rattle.cilk_log_replay.specs.Tape.{tape_of}
+use Rattle.cilk_draw.specs.replay.Tape.{tape_of}
 use Rattle.cilk_program_runs.specs.Debugging.{broken_off}
 use Rattle.cilk_program_runs.specs.Telling.{status_of}
 use Rattle.cilk_program_runs.proofs.Debugged.{opens, playable_of, broken_not_refused, broken_by_writer}
@@ -8,8 +8,8 @@ use Rattle.cilk_program_runs.proofs.Debugged.{own_held, answered, broken, broken
 use Rattle.cilk_program_runs.proofs.Whole.{follows_of}
 use Rattle.cilk_program_runs.proofs.Said.{fault_said, unsaid}
 use Rattle.cilk_program_runs.proofs.Told.{replay_reads}
-use Rattle.cilk_log_replay.specs.log.Words.{log_of}
-use Rattle.cilk_log_replay.specs.log.declared.log.Log.{Log}
+use Rattle.cilk_draw.specs.replay.log.Words.{log_of}
+use Rattle.cilk_draw.specs.replay.log.declared.log.Log.{Log}
 use Rattle.cilk_program_runs.specs.Saying.{IsFaultTold}
 use Rattle.cilk_program_runs.proofs.debug.debug.Goals as goal
 

@@ -1,5 +1,5 @@
 use Rattle.std.proofs.Common.{◌∙◌, ap, subst, sym}
-use Rattle.cilk_log_replay.specs.Tape.{tape_of}
+use Rattle.cilk_draw.specs.replay.Tape.{tape_of}
 use Rattle.cilk_program_runs.specs.Picturing.{DeclinesToDraw}
 use Rattle.cilk_program_runs.specs.Telling.{status_of}
 use Rattle.cilk_program_runs.specs.declared.failure.RecordFailure.{RecordFailure}

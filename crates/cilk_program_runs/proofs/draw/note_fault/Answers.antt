@@ -1,4 +1,4 @@
-use Rattle.cilk_log_replay.specs.log.Words.{log_of}
+use Rattle.cilk_draw.specs.replay.log.Words.{log_of}
 use Rattle.cilk_program_runs.proofs.Said.{fault_said}
 use Rattle.cilk_program_runs.proofs.draw.note_fault.Goals as goal
 

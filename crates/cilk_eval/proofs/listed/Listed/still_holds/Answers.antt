@@ -1,9 +1,9 @@
 use Rattle.std.proofs.Common.{◌≡◌, ◌∙◌, List, ap, map, option_map, sym}
-use Rattle.cilk_load_nodes.specs.labelled.Term.{Term}
+use Rattle.cilk_frame.specs.labelled.Term.{Term}
 use Rattle.cilk_eval.specs.declared.known.Known.{Known}
-use Rattle.cilk_load_nodes.specs.declared.slot.Slot.{Slot}
+use Rattle.cilk_frame.specs.nodes.declared.slot.Slot.{Slot}
 use Rattle.cilk_eval.specs.Known.{behind_known, known_in, known_of, variables_of}
-use Rattle.cilk_load_nodes.specs.Areas.{Cells, cells_of}
+use Rattle.cilk_frame.specs.nodes.Areas.{Cells, cells_of}
 use Rattle.cilk_eval.proofs.KnownLaws.{none_left, some_left}
 use Rattle.cilk_eval.proofs.listed.Listed.still_holds.Goals as goal
 

@@ -1,14 +1,14 @@
 use Rattle.std.proofs.Common.{◌≡◌, ◌+◌, ◌-◌, ◌++◌, List, length, drop, vec_len, rules, refl, sym, ap, subst, ◌∙◌, arith, length-append}
 use Rattle.std.proofs.lemmas.List.{at_drop_more}
-use Rattle.cilk_load_names.specs.syntax.Tree as tree
-use Rattle.cilk_load_names.specs.syntax.Tree.{locals_of, stmts_of}
-use Rattle.cilk_load_names.specs.labelled.Count.{count_stmts}
-use Rattle.cilk_load_names.specs.labelled.Label.{stmt_variables, stmts_variables}
-use Rattle.cilk_load_names.specs.nodes.Plain.{PlainStmts, PlainBlock}
-use Rattle.cilk_load_names.specs.Scope.{Scope}
-use Rattle.cilk_load_names.specs.Firsts.{block_first}
+use Rattle.cilk_tree_syntax.specs.Tree as tree
+use Rattle.cilk_tree_syntax.specs.Tree.{locals_of, stmts_of}
+use Rattle.cilk_load_nodes.specs.labelled.Count.{count_stmts}
+use Rattle.cilk_load_nodes.specs.labelled.Label.{stmt_variables, stmts_variables}
+use Rattle.cilk_load_nodes.specs.Plain.{PlainStmts, PlainBlock}
+use Rattle.cilk_load.specs.Scope.{Scope}
+use Rattle.cilk_load.specs.Firsts.{block_first}
 use Rattle.cilk_load.specs.Pass.{block_nodes, stmts_nodes}
-use Rattle.cilk_load_names.proofs.Results.{ok_same}
+use Rattle.cilk_load.proofs.Results.{ok_same}
 use Rattle.cilk_load.proofs.Scopes.{Adds, adds-locals, forgotten}
 use Rattle.cilk_load.proofs.Parts.{block-written, tested, switch-written, while-written, do-written, for-written, either-written, stmts-first}
 use Rattle.cilk_load.proofs.pass.Pass.+put.Goals as goal

@@ -1,8 +1,8 @@
 use Rattle.std.proofs.Common.{◌≡◌, ◌+◌, ◌++◌, drop, length, vec_len}
-use Rattle.cilk_load_names.specs.syntax.Tree.{stmts_of}
-use Rattle.cilk_load_names.specs.labelled.Count.{count_stmts}
-use Rattle.cilk_load_names.specs.labelled.Label.{stmts_variables}
-use Rattle.cilk_load_names.specs.nodes.Plain.{PlainStmts}
+use Rattle.cilk_tree_syntax.specs.Tree.{stmts_of}
+use Rattle.cilk_load_nodes.specs.labelled.Count.{count_stmts}
+use Rattle.cilk_load_nodes.specs.labelled.Label.{stmts_variables}
+use Rattle.cilk_load_nodes.specs.Plain.{PlainStmts}
 use Rattle.cilk_load.specs.Pass.{stmts_nodes}
 use Rattle.cilk_load.proofs.pass.Pass.+put.Given as goal
 

@@ -1,5 +1,5 @@
 use Rattle.std.proofs.Common.{◌≡◌, ◌+◌, length, vec_len, rules, sym, subst, ◌∙◌, arith}
-use Rattle.cilk_load_names.specs.Scope.{Scope}
+use Rattle.cilk_load.specs.Scope.{Scope}
 use Rattle.cilk_load.specs.Outer.{vars_at}
 use Rattle.cilk_load.proofs.Parts.{body-written}
 use Rattle.cilk_load.proofs.Scopes.{Adds, adds-outer, forgotten}

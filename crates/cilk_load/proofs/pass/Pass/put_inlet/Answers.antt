@@ -1,5 +1,5 @@
 use Rattle.std.proofs.Common.{length, sym, ap, subst, ◌∙◌, arith, length-append}
-use Rattle.cilk_load_names.specs.Scope.{Scope, left_of}
+use Rattle.cilk_load.specs.Scope.{Scope, left_of}
 use Rattle.cilk_load.proofs.Scopes.{Adds, adds-words, around, left-entered}
 use Rattle.cilk_load.proofs.pass.Pass.put_inlet.Goals as goal
 

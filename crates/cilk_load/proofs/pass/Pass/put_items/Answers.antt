@@ -1,9 +1,9 @@
 use Rattle.std.proofs.Common.{◌≡◌, ◌+◌, ◌++◌, List, ◌∷◌, drop, sym, ap, subst, ◌∙◌, arith, vec_len, append_assoc}
 use Rattle.std.proofs.lemmas.List.{at_drop_more}
-use Rattle.cilk_load_names.specs.syntax.Tree as tree
-use Rattle.cilk_load_names.specs.labelled.Count.{count_item, count_items}
-use Rattle.cilk_load_names.specs.labelled.Bodies.{body_count}
-use Rattle.cilk_load_names.specs.nodes.Plain.{PlainItems}
+use Rattle.cilk_tree_syntax.specs.Tree as tree
+use Rattle.cilk_load_nodes.specs.labelled.Count.{count_item, count_items}
+use Rattle.cilk_load_nodes.specs.labelled.Bodies.{body_count}
+use Rattle.cilk_load_nodes.specs.Plain.{PlainItems}
 use Rattle.cilk_load.specs.Outer.{item_nodes, items_nodes}
 use Rattle.cilk_load.proofs.pass.Pass.put_items.Goals as goal
 

@@ -1,6 +1,6 @@
 use Rattle.std.proofs.Common.{◌≡◌, ◌+◌, ◌++◌, drop, vec_len}
-use Rattle.cilk_load_names.specs.labelled.Count.{count_items}
-use Rattle.cilk_load_names.specs.nodes.Plain.{PlainItems}
+use Rattle.cilk_load_nodes.specs.labelled.Count.{count_items}
+use Rattle.cilk_load_nodes.specs.Plain.{PlainItems}
 use Rattle.cilk_load.specs.Outer.{items_nodes}
 use Rattle.cilk_load.proofs.pass.Pass.put_items.Given as goal
 

@@ -1,11 +1,11 @@
 use Rattle.std.proofs.Common.{◌≡◌, ◌+◌, ◌++◌, length, drop, vec_len, sym, ap, subst, ◌∙◌, arith, length-append}
 use Rattle.std.proofs.lemmas.List.{at_drop_more}
-use Rattle.cilk_load_names.specs.syntax.Tree as tree
-use Rattle.cilk_load_names.specs.syntax.Tree.{locals_of}
-use Rattle.cilk_load_names.specs.syntax.StmtView.{local_of}
-use Rattle.cilk_load_names.specs.labelled.Count.{count_locals}
-use Rattle.cilk_load_names.specs.labelled.Label.{local_variables, locals_variables}
-use Rattle.cilk_load_names.specs.nodes.Plain.{PlainLocals}
+use Rattle.cilk_tree_syntax.specs.Tree as tree
+use Rattle.cilk_tree_syntax.specs.Tree.{locals_of}
+use Rattle.cilk_tree_syntax.specs.StmtView.{local_of}
+use Rattle.cilk_load_nodes.specs.labelled.Count.{count_locals}
+use Rattle.cilk_load_nodes.specs.labelled.Label.{local_variables, locals_variables}
+use Rattle.cilk_load_nodes.specs.Plain.{PlainLocals}
 use Rattle.cilk_load.specs.Pass.{locals_scope, locals_nodes}
 use Rattle.cilk_load.proofs.Parts.{from-place, PutsFirst, decl-first, plain-later}
 use Rattle.cilk_load.proofs.pass.Pass.put_locals.Goals as goal

@@ -1,8 +1,8 @@
 use Rattle.std.proofs.Common.{◌≡◌, ◌+◌, ◌++◌, drop, length, vec_len}
-use Rattle.cilk_load_names.specs.syntax.Tree.{locals_of}
-use Rattle.cilk_load_names.specs.labelled.Count.{count_locals}
-use Rattle.cilk_load_names.specs.labelled.Label.{locals_variables}
-use Rattle.cilk_load_names.specs.nodes.Plain.{PlainLocals}
+use Rattle.cilk_tree_syntax.specs.Tree.{locals_of}
+use Rattle.cilk_load_nodes.specs.labelled.Count.{count_locals}
+use Rattle.cilk_load_nodes.specs.labelled.Label.{locals_variables}
+use Rattle.cilk_load_nodes.specs.Plain.{PlainLocals}
 use Rattle.cilk_load.specs.Pass.{locals_scope, locals_nodes}
 use Rattle.cilk_load.proofs.pass.Pass.put_locals.Given as goal
 

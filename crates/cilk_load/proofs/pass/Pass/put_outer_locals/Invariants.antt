@@ -1,8 +1,8 @@
 use Rattle.std.proofs.Common.{◌≡◌, ◌+◌, ◌++◌, drop, length, vec_len}
-use Rattle.cilk_load_names.specs.syntax.Tree.{locals_of}
-use Rattle.cilk_load_names.specs.labelled.Count.{count_locals}
-use Rattle.cilk_load_names.specs.labelled.Label.{locals_variables}
-use Rattle.cilk_load_names.specs.nodes.Plain.{OuterLocals}
+use Rattle.cilk_tree_syntax.specs.Tree.{locals_of}
+use Rattle.cilk_load_nodes.specs.labelled.Count.{count_locals}
+use Rattle.cilk_load_nodes.specs.labelled.Label.{locals_variables}
+use Rattle.cilk_load_nodes.specs.Plain.{OuterLocals}
 use Rattle.cilk_load.specs.Outer.{vars_at, outer_scope, outer_nodes}
 use Rattle.cilk_load.proofs.pass.Pass.put_outer_locals.Given as goal
 

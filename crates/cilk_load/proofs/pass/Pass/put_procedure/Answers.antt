@@ -1,6 +1,6 @@
 use Rattle.std.proofs.Common.{length, sym, ap, subst, ◌∙◌, arith, length-append}
-use Rattle.cilk_load_names.specs.syntax.ProgramView.{parameters_of}
-use Rattle.cilk_load_names.specs.Scope.{Scope, left_of}
+use Rattle.cilk_tree_syntax.specs.ProgramView.{parameters_of}
+use Rattle.cilk_load.specs.Scope.{Scope, left_of}
 use Rattle.cilk_load.specs.Outer.{parameters_scope}
 use Rattle.cilk_load.proofs.Scopes.{Adds, adds-parameters, around, left-entered}
 use Rattle.cilk_load.proofs.pass.Pass.put_procedure.Goals as goal

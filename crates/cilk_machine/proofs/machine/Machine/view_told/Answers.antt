@@ -4,7 +4,7 @@ use Rattle.cilk_machine_choices.specs.model.Choice.{Choice}
 use Rattle.cilk_machine_choices.specs.model.Event.{Event}
 use Rattle.cilk_machine_choices.specs.model.Run.{Standing, Position}
 use Rattle.cilk_machine_choices.specs.model.Views.{shown}
-use Rattle.cilk_view.specs.Words.{what_of}
+use Rattle.cilk_machine_undo.specs.frame.Asked.{what_of}
 use Rattle.cilk_view.specs.Shows.{ShowsAt}
 use Rattle.cilk_machine.specs.Stands.{Led}
 use Rattle.cilk_machine.proofs.Shown.{shows-at, shows, if_ok-weaker}

@@ -1,6 +1,0 @@
-use Rattle.std.proofs.Common.{◌≡◌, ◌++◌, drop}
-use Rattle.cilk_load_names.specs.Acts.{codes_in}
-use Rattle.cilk_load_names.proofs.code.codes_in.Given as goal
-
-abbrev pub invariant-loop-expr : goal.invariant-loop-expr
-invariant-loop-expr l = l.codes.items ++ codes_in l.names (drop l.expr-index l.exprs) ≡ codes_in l.names l.exprs

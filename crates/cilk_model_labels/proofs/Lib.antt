@@ -1,2 +1,0 @@
-pub use Rattle.cilk_check_scopes.proofs as scopes_laws
-pub use Rattle.cilk_check_scopes.proofs.syntax_laws
