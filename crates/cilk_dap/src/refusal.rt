@@ -1,5 +1,7 @@
 //! Why a request is not done.
 
+ghost use Rattle.std.specs.Prelude.{◌≡◌, ◌≢◌};
+
 use cilk_debug::{DebugFault, Memory, ViewFault};
 use std::alloc::AllocError;
 
@@ -30,19 +32,26 @@ pub(crate) enum Refusal {
 }
 
 impl From<AllocError> for Refusal {
-    fn from(_memory: AllocError) -> Refusal {
+    fn from(_memory: AllocError) -> Refusal
+        ensures { result ≡ Refusal.Memory }
+    {
         Refusal::Memory
     }
 }
 
 impl From<Memory> for Refusal {
-    fn from(_memory: Memory) -> Refusal {
+    fn from(_memory: Memory) -> Refusal
+        ensures { result ≡ Refusal.Memory }
+    {
         Refusal::Memory
     }
 }
 
 impl From<ViewFault> for Refusal {
-    fn from(fault: ViewFault) -> Refusal {
+    fn from(fault: ViewFault) -> Refusal
+        ensures told { fault ≡ ViewFault.NoInstance → result ≢ Refusal.Memory }
+        ensures memory { fault ≢ ViewFault.NoInstance → result ≡ Refusal.Memory }
+    {
         match fault {
             ViewFault::NoInstance => Refusal::Words("B5 NoInstance"),
             ViewFault::Memory(_) => Refusal::Memory,
@@ -51,7 +60,10 @@ impl From<ViewFault> for Refusal {
 }
 
 impl From<DebugFault> for Refusal {
-    fn from(fault: DebugFault) -> Refusal {
+    fn from(fault: DebugFault) -> Refusal
+        ensures told { fault ≢ DebugFault.Memory → result ≢ Refusal.Memory }
+        ensures memory { fault ≡ DebugFault.Memory → result ≡ Refusal.Memory }
+    {
         match fault {
             DebugFault::Memory => Refusal::Memory,
             DebugFault::AtEnd => Refusal::Words(AT_END),

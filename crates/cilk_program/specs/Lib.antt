@@ -1,4 +1,5 @@
 pub mod Ends
+pub mod Serving
 pub mod Task
 pub mod Measuring
 pub mod Racing

@@ -9,11 +9,12 @@ use Rattle.cilk_program_runs.specs.commands.declared.status.Status.TheVariants.{
 use Rattle.cilk_program_runs.specs.Debugging.{Debugs, DebugsFront, DebugsPart}
 use Rattle.cilk_program_runs.specs.AsAsked.{RunsAsAsked, RunsFrontAsAsked, ExploresSomewhere, ExploresFrontSomewhere, FailsOnTape, log_name}
 use Rattle.cilk_program_runs.specs.Exploring.{GivesUpExploring}
-use Rattle.cilk_program_runs.specs.GivingUp.{GivesUpRun, GivesUpServing, GivesUp as GivesUpOfLog}
+use Rattle.cilk_program_runs.specs.GivingUp.{GivesUpRun, GivesUp as GivesUpOfLog}
 use Rattle.cilk_program.specs.Measuring.{IsMeasured}
 use Rattle.cilk_program_runs.specs.OnTapes.{IsOfRun, TellsAsAsked, TellsFrontAsAsked}
 use Rattle.cilk_program_runs.specs.Picturing.{DeclinesToDraw, Depicts, DepictsFront}
 use Rattle.cilk_program.specs.Racing.{AreRaces}
+use Rattle.cilk_program.specs.Serving.{GivesUpServing}
 use Rattle.cilk_program_runs.specs.Replaying.{Replays, ReplaysFront}
 use Rattle.cilk_program_runs.specs.Taped.{Declines}
 use Rattle.cilk_words.specs.CommandLine.{Wanted, printed, checked, run, explored, replayed, measured, raced, pictured, debugged, served}

@@ -8,8 +8,9 @@ ghost use Rattle.cilk_program.specs.Ends.{Ends, IsShown, Shows, explains_trap, o
 ghost use Rattle.cilk_program_runs.specs.Saying.{ExplainsTrap, tells_trap};
 ghost use Rattle.cilk_program.specs.Task.{Does, Fails, Leaves, is_session};
 
+use crate::dap::dap_text;
 use crate::task::perform;
-use cilk_program_runs::{Failure, Status, Streams, Texts, dap_text};
+use cilk_program_runs::{Failure, Status, Streams, Texts};
 use cilk_words::{NoRequest, Request, Task, request_in};
 use std::alloc::Global;
 use std::io::Write;

@@ -2,10 +2,12 @@
 //! `cilk` only says which texts and streams these are.
 #![tactic(auto)]
 
+mod dap;
 mod dispatch;
 mod exit;
 mod marking;
 mod measure;
+mod opener;
 mod races;
 mod task;
 

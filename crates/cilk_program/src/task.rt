@@ -6,13 +6,14 @@ ghost use Rattle.cilk_words.specs.CommandLine.{wanted_by};
 ghost use Rattle.cilk_program_runs.specs.Saying.{ExplainsTrap, tells_trap};
 ghost use Rattle.cilk_program.specs.Task.{Does, Fails, Leaves, is_session};
 
+use crate::dap::dap_text;
 use crate::marking::RaceMarks;
 use crate::measure::Numbers;
 use crate::races::Races;
 use cilk_program_runs::{
     DrawTask, ExploreTask, FileNames, LogTask, RunTask, Status, Streams, TapeTask, Texts,
-    check_text, dap_text, debug_named, draw_named, explore_named, print_text, replay_named,
-    run_as_asked, tell_as_asked,
+    check_text, debug_named, draw_named, explore_named, print_text, replay_named, run_as_asked,
+    tell_as_asked,
 };
 use cilk_words::{Request, Task};
 use std::alloc::Global;

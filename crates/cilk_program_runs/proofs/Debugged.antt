@@ -6,12 +6,12 @@ use Rattle.cilk_commands.specs.labelled.Count.{count_program}
 use Rattle.cilk_commands.specs.ProgramText.{program_text}
 use Rattle.cilk_draw.specs.replay.log.Naming.{is_of}
 use Rattle.cilk_draw.specs.replay.Tape.{Tape, IsPlayable}
-use Rattle.cilk_dap.specs.debug.Debugging.{Debugging}
-use Rattle.cilk_dap.specs.debug.Session.{Session, session}
-use Rattle.cilk_dap.specs.debug.Ending.{Answers, Breaks}
-use Rattle.cilk_dap.specs.debug.declared.session_fault.SessionFault.{SessionFault}
-use Rattle.cilk_dap.specs.debug.declared.session_fault.SessionFault.TheVariants.{Read, Write, Memory}
-use Rattle.cilk_dap.specs.debug.console.declared.fault.InputFault.TheVariants.{Device, LineTooLong, TooManyLines}
+use Rattle.cilk_debug.specs.Debugging.{Debugging}
+use Rattle.cilk_debug.specs.Session.{Session, session}
+use Rattle.cilk_debug.specs.Ending.{Answers, Breaks}
+use Rattle.cilk_debug.specs.declared.session_fault.SessionFault.{SessionFault}
+use Rattle.cilk_debug.specs.declared.session_fault.SessionFault.TheVariants.{Read, Write, Memory}
+use Rattle.cilk_debug.specs.console.declared.fault.InputFault.TheVariants.{Device, LineTooLong, TooManyLines}
 use Rattle.cilk_commands.specs.Front.{Gains, GainsFront}
 use Rattle.cilk_commands.specs.Held.{Held, IsReadOf}
 use Rattle.cilk_commands.proofs.WholeText.{gains_whole, gains_front_whole}

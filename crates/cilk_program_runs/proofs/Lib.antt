@@ -9,6 +9,5 @@ mod Debugged
 mod Explored
 mod Pictured
 mod Among
-mod Told
-mod Served
+pub mod Told
 pub use Rattle.cilk_commands.proofs as commands_laws

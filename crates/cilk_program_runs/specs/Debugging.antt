@@ -2,10 +2,10 @@
 use Rattle.std.specs.Prelude.{◌≡◌, ℕ, false, List, ◌++◌, Option, None, IfSome, replicate}
 use Rattle.cilk_commands.specs.labelled.Count.{count_program}
 use Rattle.cilk_draw.specs.replay.Tape.{Tape, IsPlayable}
-use Rattle.cilk_dap.specs.debug.Debugging.{Debugging}
-use Rattle.cilk_dap.specs.debug.Session.{session}
-use Rattle.cilk_dap.specs.debug.declared.session_fault.SessionFault.{SessionFault}
-use Rattle.cilk_dap.specs.debug.declared.session_fault.SessionFault.TheVariants as ending
+use Rattle.cilk_debug.specs.Debugging.{Debugging}
+use Rattle.cilk_debug.specs.Session.{session}
+use Rattle.cilk_debug.specs.declared.session_fault.SessionFault.{SessionFault}
+use Rattle.cilk_debug.specs.declared.session_fault.SessionFault.TheVariants as ending
 use Rattle.cilk_commands.specs.Front.{Gains, GainsFront}
 use Rattle.cilk_commands.specs.Held.{Held}
 use Rattle.cilk_commands.specs.declared.failure.Failure.TheVariants as failure

@@ -7,9 +7,6 @@ use Rattle.cilk_commands.specs.Telling.{Explained, IsExplanation}
 use Rattle.cilk_commands.specs.syntax.Tree.{Program}
 use Rattle.cilk_commands.specs.declared.status.Status.{Status}
 use Rattle.cilk_commands.specs.declared.status.Status.TheVariants as status
-use Rattle.cilk_commands.specs.declared.failure.Failure.TheVariants as failure
-use Rattle.cilk_dap.specs.declared.fault.MessageFault.{MessageFault}
-use Rattle.cilk_dap.specs.declared.fault.MessageFault.TheVariants as ending
 use Rattle.cilk_program_runs.specs.Saying.{IsSaid}
 use Rattle.cilk_program_runs.specs.Telling.{failure_line, status_of}
 use Rattle.cilk_program_runs.specs.declared.failure.RecordFailure.{RecordFailure}
@@ -66,23 +63,3 @@ IsOfRun workers wanted found = ⊥
 pub record GivesUpRun (workers : ℕ) (wanted explain : Bool) (program_name log_name : List ℕ) (ended : Status) (program old new : Option (List ℕ)) : Type 0 where
   pub is : GivesUp NoProgram explain program_name log_name ended program None old new
   pub of_run : IsOfRun workers wanted is.why
-
--- why an editor is answered no more
-abbrev pub exchange_ended : MessageFault → RecordFailure
-exchange_ended ending.Read = why.Commands
-exchange_ended ending.Write = why.Answers
-exchange_ended ending.Memory = why.Program failure.Memory
-
--- what may keep an editor from its answers: what is wrong with the texts that it names is one of these
-abbrev pub IsOfServing : RecordFailure → Type 0
-IsOfServing (why.Program found) = ⊤
-IsOfServing why.Commands = ⊤
-IsOfServing why.Answers = ⊤
-IsOfServing found = ⊥
-
--- what is told in place of them: the line has the name of the task's text, and nothing stands behind it
-pub record GivesUpServing (name : List ℕ) (ended : Status) (old new : Option (List ℕ)) : Type 0 where
-  pub why : RecordFailure
-  pub status_is : ended ≡ status_of why
-  pub of_serving : IsOfServing why
-  pub told : TellsWith name [] why [] old new

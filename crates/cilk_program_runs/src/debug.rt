@@ -16,7 +16,7 @@ use crate::note::Note;
 use crate::streams::Streams;
 use crate::taped::{Taped, tape_in};
 use cilk_commands::{Failure, Status, read_text};
-use cilk_dap::{Debugger, SessionFault, Unplayable};
+use cilk_debug::{Debugger, SessionFault, Unplayable};
 use std::alloc::Global;
 use std::io::{Read, Write};
 

@@ -5,7 +5,6 @@
 mod asked;
 mod choice_line;
 mod closing;
-mod dap;
 mod debug;
 mod draw;
 mod draw_task;
@@ -19,7 +18,6 @@ mod logs;
 mod marking;
 mod meaning;
 mod note;
-mod opener;
 mod outcome;
 mod outcomes;
 mod replay;
@@ -38,9 +36,10 @@ mod unexplored;
 pub use asked::{
     debug_named, draw_named, explore_named, replay_named, run_as_asked, tell_as_asked,
 };
-pub use cilk_commands::{Answered, Answering, Failure, Loaded, Status, check_text, print_text};
+pub use cilk_commands::{
+    Answered, Answering, Failure, Loaded, Status, check_text, print_text, read_text,
+};
 pub use cilk_draw::{Excerpt, Picture};
-pub use dap::dap_text;
 pub use debug::debug_text;
 pub use draw::draw_text;
 pub use draw_task::DrawTask;
@@ -59,4 +58,5 @@ pub use streams::Streams;
 pub use tally::tally_text;
 pub use tape_answer::{TapeAnswering, run_told, tape_log_text};
 pub use tape_task::TapeTask;
+pub use taped::{Taped, tape_in};
 pub use texts::Texts;

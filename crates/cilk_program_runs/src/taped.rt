@@ -19,14 +19,14 @@ use std::io::Read;
 
 /// A program and a recorded schedule. Whether the choices can be made again is not known.
 #[derive(Drop)]
-pub(crate) struct Taped {
+pub struct Taped {
     pub program: Loaded,
     pub log: Log,
 }
 
 /// The program that these bytes are, and the recorded schedule that the reader holds. What is wrong with the program is
 /// told first.
-pub(crate) fn tape_in<L: Read + Drop>(
+pub fn tape_in<L: Read + Drop>(
     alloc: Global,
     text: &[u8],
     log: Option<L>,

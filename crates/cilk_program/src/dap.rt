@@ -1,22 +1,18 @@
 //! The subcommand `dap`: an editor is answered by the Debug Adapter Protocol.
 
 ghost use Rattle.std.specs.Prelude.{◌≡◌, ◌≢◌, true, false};
-ghost use Rattle.cilk_commands.specs.Status.{is_answer};
-ghost use Rattle.cilk_program_runs.specs.GivingUp.{GivesUpServing, exchange_ended};
+ghost use Rattle.cilk_program_runs.specs.commands.Status.{is_answer};
+ghost use Rattle.cilk_program.specs.Serving.{GivesUpServing, exchange_ended};
 
-use crate::failure::RecordFailure;
-use crate::file_names::FileNames;
 use crate::opener::Opener;
-use crate::streams::Streams;
-use crate::texts::Texts;
-use cilk_commands::{Failure, Status};
 use cilk_dap::{MessageFault, serve};
+use cilk_program_runs::{Failure, FileNames, RecordFailure, Status, Streams, Texts};
 use std::alloc::Global;
 use std::io::Write;
 
 /// Answers the requests that are entered to the output, until they end, or else writes the line that says why not to the errors. What the editor is told
 /// is in no clause: cases see it. Each move is one of the debugger's. `name` is that of the text where one is named with the task.
-pub fn dap_text<T: Texts, O: Write, E: Write>(
+pub(crate) fn dap_text<T: Texts, O: Write, E: Write>(
     alloc: Global,
     name: &str,
     texts: &T,

@@ -1,5 +1,5 @@
-use Rattle.cilk_commands.proofs.Statuses.{not_both}
-use Rattle.cilk_program_runs.proofs.dap.dap_text.Goals as goal
+use Rattle.cilk_program_runs.proofs.commands_laws.Statuses.{not_both}
+use Rattle.cilk_program.proofs.dap.dap_text.Goals as goal
 
 pub returns-in-Err-clause-only : goal.returns-in-Err-clause-only
 returns-in-Err-clause-only g c = λ answered. not_both c.give_up.result answered c.give_up.ensures.failed

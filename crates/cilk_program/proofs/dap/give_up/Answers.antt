@@ -1,10 +1,10 @@
 use Rattle.std.proofs.Common.{◌∙◌, ap, subst, sym}
-use Rattle.cilk_commands.specs.Status.{is_answer}
-use Rattle.cilk_program_runs.specs.GivingUp.{IsOfServing}
+use Rattle.cilk_program_runs.specs.commands.Status.{is_answer}
+use Rattle.cilk_program.specs.Serving.{IsOfServing}
 use Rattle.cilk_program_runs.specs.Telling.{status_of}
-use Rattle.cilk_program_runs.proofs.Served.{not_refused, of_serving}
+use Rattle.cilk_program.proofs.Served.{not_refused, of_serving}
 use Rattle.cilk_program_runs.proofs.Told.{no_answer, no_usage_told}
-use Rattle.cilk_program_runs.proofs.dap.give_up.Goals as goal
+use Rattle.cilk_program.proofs.dap.give_up.Goals as goal
 
 pub returns-clause-failed : goal.returns-clause-failed
 returns-clause-failed g c = ap is_answer c.report.ensures.status ∙ no_answer c.exchange_ended.result

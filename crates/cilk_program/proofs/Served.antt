@@ -1,9 +1,9 @@
 -- Why an editor is answered no more.
 use Rattle.std.specs.Prelude.{◌≢◌}
-use Rattle.cilk_commands.specs.declared.status.Status.TheVariants as status
+use Rattle.cilk_program_runs.specs.commands.declared.status.Status.TheVariants as status
 use Rattle.cilk_dap.specs.declared.fault.MessageFault.{MessageFault}
 use Rattle.cilk_dap.specs.declared.fault.MessageFault.TheVariants as ending
-use Rattle.cilk_program_runs.specs.GivingUp.{IsOfServing, exchange_ended}
+use Rattle.cilk_program.specs.Serving.{IsOfServing, exchange_ended}
 use Rattle.cilk_program_runs.specs.Telling.{status_of}
 
 pub of_serving : (fault : MessageFault) → IsOfServing (exchange_ended fault)

@@ -1,11 +1,9 @@
 //! How the texts are opened that an editor names.
 
-use crate::failure::RecordFailure;
-use crate::file_names::FileNames;
-use crate::taped::{Taped, tape_in};
-use crate::texts::Texts;
-use cilk_commands::{Failure, Status, read_text};
 use cilk_dap::{Opened, Opening, SourceText, Unopened, Unplayable};
+use cilk_program_runs::{
+    Failure, FileNames, RecordFailure, Status, Taped, Texts, read_text, tape_in,
+};
 use std::alloc::{AllocError, Global};
 use std::io::Read;
 
