@@ -1,17 +1,13 @@
 use Rattle.cilk_program_runs.proofs.Said.{no_trap}
-use Rattle.cilk_program.specs.Task.{Does, Fails, Leaves}
 use Rattle.cilk_program.proofs.dispatch.serve_or_open.Goals as goal
 
 pub returns-in-Serve-clause-done : goal.returns-in-Serve-clause-done
-unfolding Does
 returns-in-Serve-clause-done g c = rw c.in-Serve.is c.dap_text.ensures.only
 
 pub returns-in-Serve-clause-told : goal.returns-in-Serve-clause-told
-unfolding Fails
 returns-in-Serve-clause-told g c = rw c.in-Serve.is c.dap_text.ensures.told
 
 pub returns-in-Serve-clause-begun : goal.returns-in-Serve-clause-begun
-unfolding Leaves
 returns-in-Serve-clause-begun g c = rw c.in-Serve.is (λ none. tt)
 
 pub returns-in-Serve-clause-explained : goal.returns-in-Serve-clause-explained
