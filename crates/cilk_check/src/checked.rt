@@ -1,4 +1,4 @@
-//! The check of a program, and the tree of one that passed it.
+//! The check of a program.
 
 ghost use Rattle.std.specs.Prelude.{◌≡◌, ◌⊎◌, IsOk, IfOk, IfErr, IfNone, IfSome};
 ghost use Rattle.cilk_check.specs.scopes.declared.fault.CheckFault.TheVariants as fault;
@@ -7,45 +7,8 @@ ghost use Rattle.cilk_check.specs.scopes.WellFormed.{WellFormed, IsFirstFault};
 use crate::earlier::earlier_of;
 use crate::first_form::first_form_fault;
 use crate::first_name::first_name_fault;
-use cilk_check_scopes::{CheckFault, Memory, Program};
+use cilk_check_scopes::{CheckFault, Checked, Memory, Program};
 use std::alloc::Global;
-use std::marker::Model;
-
-/// A program that passed the check.
-pub struct Checked {
-    program: Program,
-}
-
-// To drop it elsewhere is to call this, and its fields' drops are proved here alone.
-impl Drop for Checked {
-    fn drop(self) {
-        let Checked { program: _program } = self;
-    }
-}
-
-impl Model for Checked {
-    ghost use Rattle.cilk_check.specs.syntax.Tree as tree;
-    ghost use Rattle.cilk_check.specs.syntax.ProgramCoding.{coded_Program};
-    ghost use Rattle.cilk_check.specs.scopes.WellFormed.{WellFormed};
-
-    ghost Value = { tree.Program };
-
-    ghost coded = { coded_Program };
-
-    ghost view = { λ c. c.program };
-
-    ghost invariant = { λ c. WellFormed c.program };
-}
-
-impl Checked {
-    /// The program's tree.
-    pub fn program(&self) -> &Program
-        ensures value { result.now ≡ self.now }
-        ensures well_formed { WellFormed self.now }
-    {
-        &self.program
-    }
-}
 
 // The first fault of a program, of its names and its forms.
 fn first_fault(alloc: Global, program: &Program) -> Result<Option<CheckFault>, Memory>
@@ -65,7 +28,7 @@ pub fn check(alloc: Global, program: Program) -> Result<Checked, CheckFault>
     ensures fault { IfErr result (λ f. (f ≡ fault.Memory) ⊎ IsFirstFault program f) }
 {
     match first_fault(alloc, &program) {
-        Ok(None) => Ok(Checked { program }),
+        Ok(None) => Ok(Checked::new(program)),
         Ok(Some(fault)) => Err(fault),
         Err(_) => Err(CheckFault::Memory),
     }

@@ -29,5 +29,5 @@ mod space;
 mod table;
 mod uses;
 
-pub use checked::{Checked, check};
-pub use cilk_check_scopes::{BinOp, CheckFault, LexFault, LockAction, Owner};
+pub use checked::check;
+pub use cilk_check_scopes::{BinOp, CheckFault, Checked, LexFault, LockAction, Owner};

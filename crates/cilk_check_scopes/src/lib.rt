@@ -1,7 +1,9 @@
 //! What the names of a program mean where they stand (C 1990, 6.1.2.1), what surrounds each part of it, and what each rule of the check
-//! forbids. The crate has the definitions, which speak of trees alone, and the faults that the rules over them find.
+//! forbids. The crate has the definitions, which speak of trees alone, the faults that the rules over them find, and the tree
+//! of a program that breaks none.
 #![tactic(auto)]
 
+mod checked;
 mod declaration_kind;
 mod fault;
 mod order;
@@ -9,6 +11,7 @@ mod owner;
 mod role;
 mod within;
 
+pub use checked::Checked;
 pub use cilk_tree_syntax::{
     BinOp, Block, Decl, Expr, ExprNode, Global, GlobalShape, Inlet, Item, ItemNode, Label,
     LexFault, Literal, Local, LocalNode, LockAction, Memory, Move, MoveNode, Parameters, Place,

@@ -1,6 +1,6 @@
 -- What `check` writes.
 use Rattle.std.specs.Prelude.{◌≡◌, ℕ, List, ◌++◌, Option, codes, decimal}
-use Rattle.cilk_load.specs.check.syntax.Tree.{Program}
+use Rattle.cilk_load.specs.syntax.Tree.{Program}
 use Rattle.cilk_load.specs.labelled.Count.{count_program}
 use Rattle.cilk_load.specs.Front.{Gains, GainsFront}
 use Rattle.cilk_commands.specs.Held.{Held}

@@ -1,7 +1,7 @@
 -- Where a fault of a text is.
 use Rattle.std.specs.Prelude.{ℕ}
 use Rattle.cilk_check_explain.specs.parse.FaultPlace.{place_of as read_place}
-use Rattle.cilk_load.specs.check.scopes.Fault.{place_of as check_place}
+use Rattle.cilk_load.specs.scopes.Fault.{place_of as check_place}
 use Rattle.cilk_commands.specs.declared.fault.Fault.{Fault}
 use Rattle.cilk_commands.specs.declared.fault.Fault.TheVariants.{Read, Check}
 

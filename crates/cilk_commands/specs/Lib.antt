@@ -6,9 +6,9 @@ pub mod Printing
 pub mod Checking
 pub mod Status
 pub mod Telling
-pub use Rattle.cilk_load.specs.check.scopes.WellFormed as CheckFaults
-pub use Rattle.cilk_load.specs.check.syntax
-pub use Rattle.cilk_load.specs.check.syntax.Tree
+pub use Rattle.cilk_load.specs.scopes.WellFormed as CheckFaults
+pub use Rattle.cilk_load.specs.syntax
+pub use Rattle.cilk_load.specs.syntax.Tree
 pub use Rattle.cilk_check_explain.specs.Lines
 pub use Rattle.cilk_check_explain.specs.lex
 pub use Rattle.cilk_load.specs.Front

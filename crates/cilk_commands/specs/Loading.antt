@@ -1,6 +1,6 @@
 -- Which texts are programs that can be run, and why the others are not.
 use Rattle.std.specs.Prelude.{ℕ, List, ◌≤◌, ◌<◌}
-use Rattle.cilk_load.specs.check.syntax.Tree.{Program}
+use Rattle.cilk_load.specs.syntax.Tree.{Program}
 use Rattle.cilk_load.specs.labelled.Count.{count_program}
 use Rattle.cilk_commands.specs.declared.failure.Failure.{Failure}
 use Rattle.cilk_commands.specs.declared.failure.Failure.TheVariants as failure

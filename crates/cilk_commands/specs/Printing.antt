@@ -1,6 +1,6 @@
 -- What `print` writes.
 use Rattle.std.specs.Prelude.{◌≡◌, ℕ, List, Option}
-use Rattle.cilk_load.specs.check.syntax.Tree.{Program}
+use Rattle.cilk_load.specs.syntax.Tree.{Program}
 use Rattle.cilk_load.specs.syntax.ProgramText.{program_text}
 use Rattle.cilk_load.specs.Front.{Gains, GainsFront}
 use Rattle.cilk_commands.specs.Held.{Held}

@@ -1,16 +1,16 @@
 -- Which program the bytes of a text are, and why they are none.
 use Rattle.std.specs.Prelude.{ℕ, List, length, ◌≡◌, ◌≢◌, ◌≤◌, ◌<◌, ◌⊎◌, IsUtf8}
-use Rattle.cilk_load.specs.check.lexeme.declared.fault.LexFault.TheVariants as lex
-use Rattle.cilk_load.specs.check.lexeme.LineColumn.{line_in, column_in}
+use Rattle.cilk_load.specs.lexeme.declared.fault.LexFault.TheVariants as lex
+use Rattle.cilk_load.specs.lexeme.LineColumn.{line_in, column_in}
 use Rattle.cilk_check_explain.specs.lex.declared.reading.TheConstants.{TEXT_LIMIT}
-use Rattle.cilk_load.specs.check.syntax.Tree.{Program}
+use Rattle.cilk_load.specs.syntax.Tree.{Program}
 use Rattle.cilk_check_explain.specs.parse.declared.fault.ReadFault.{ReadFault}
 use Rattle.cilk_check_explain.specs.parse.declared.fault.ReadFault.TheVariants as read
 use Rattle.cilk_check_explain.specs.parse.Text.{Spells, HasFault}
 use Rattle.cilk_check_explain.specs.parse.FaultPlace.{place_of as read_place}
-use Rattle.cilk_load.specs.check.scopes.declared.fault.CheckFault.{CheckFault}
-use Rattle.cilk_load.specs.check.scopes.Fault.{place_of as check_place}
-use Rattle.cilk_load.specs.check.scopes.WellFormed.{WellFormed, IsFirstFault}
+use Rattle.cilk_load.specs.scopes.declared.fault.CheckFault.{CheckFault}
+use Rattle.cilk_load.specs.scopes.Fault.{place_of as check_place}
+use Rattle.cilk_load.specs.scopes.WellFormed.{WellFormed, IsFirstFault}
 use Rattle.cilk_commands.specs.declared.fault.Fault.TheVariants as fault
 use Rattle.cilk_commands.specs.declared.failure.Failure.{Failure}
 use Rattle.cilk_commands.specs.declared.failure.Failure.TheVariants as failure

@@ -1,12 +1,12 @@
 -- The line that tells of a failure.
 use Rattle.std.specs.Prelude.{◌≡◌, ℕ, Bool, true, List, [], ◌++◌, ◌⊎◌, Option, codes, decimal, IsCharBoundary, IsUtf8}
-use Rattle.cilk_load.specs.check.lexeme.declared.fault.LexFault.{LexFault}
-use Rattle.cilk_load.specs.check.lexeme.declared.fault.LexFault.TheVariants as lex
-use Rattle.cilk_load.specs.check.lexeme.LineColumn.{line_in, column_in}
+use Rattle.cilk_load.specs.lexeme.declared.fault.LexFault.{LexFault}
+use Rattle.cilk_load.specs.lexeme.declared.fault.LexFault.TheVariants as lex
+use Rattle.cilk_load.specs.lexeme.LineColumn.{line_in, column_in}
 use Rattle.cilk_check_explain.specs.parse.declared.fault.ReadFault.{ReadFault}
 use Rattle.cilk_check_explain.specs.parse.declared.fault.ReadFault.TheVariants as read
-use Rattle.cilk_load.specs.check.scopes.declared.fault.CheckFault.{CheckFault}
-use Rattle.cilk_load.specs.check.scopes.declared.fault.CheckFault.TheVariants as check
+use Rattle.cilk_load.specs.scopes.declared.fault.CheckFault.{CheckFault}
+use Rattle.cilk_load.specs.scopes.declared.fault.CheckFault.TheVariants as check
 use Rattle.cilk_commands.specs.declared.fault.Fault.{Fault}
 use Rattle.cilk_commands.specs.declared.fault.Fault.TheVariants as fault
 use Rattle.cilk_commands.specs.declared.failure.Failure.{Failure}

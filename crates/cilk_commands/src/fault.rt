@@ -4,8 +4,8 @@ ghost use Rattle.std.specs.Prelude.{◌≡◌};
 ghost use Rattle.cilk_commands.specs.FaultPlace.{place_of};
 ghost use Rattle.cilk_commands.specs.Telling.{check_words, lex_words, read_words, words_of};
 
+use cilk_check::{CheckFault, LexFault};
 use cilk_check_explain::ReadFault;
-use cilk_load::{CheckFault, LexFault};
 use thiserror::Error;
 
 /// Why a text is refused at a place of it.

@@ -1,7 +1,7 @@
 //! From the bytes of a text to a program with its tables, ready to run.
 
 ghost use Rattle.std.specs.Prelude.{◌≡◌, IfOk, IfErr, MatchResult};
-ghost use Rattle.cilk_load.specs.check.syntax.Tree as tree;
+ghost use Rattle.cilk_load.specs.syntax.Tree as tree;
 ghost use Rattle.cilk_commands.specs.Loading.{IsReady, Unready};
 
 use crate::failure::Failure;

@@ -1,15 +1,15 @@
 //! From the bytes of a text to a checked program, or to the first of what is wrong, with its line and column.
 
 ghost use Rattle.std.specs.Prelude.{◌≡◌, ◌≤◌, ◌<◌, ◌↔◌, length, IfOk, IfErr, IsErrOf, IsUtf8, MatchResult};
-ghost use Rattle.cilk_load.specs.check.lexeme.LineColumn.{line_in, column_in};
-ghost use Rattle.cilk_load.specs.check.syntax.Tree as tree;
+ghost use Rattle.cilk_load.specs.lexeme.LineColumn.{line_in, column_in};
+ghost use Rattle.cilk_load.specs.syntax.Tree as tree;
 ghost use Rattle.cilk_commands.specs.Program.{Explains, IsProgram};
 ghost use Rattle.cilk_commands.specs.FaultPlace.{place_of};
 
 use crate::failure::Failure;
 use crate::fault::Fault;
+use cilk_check::{CheckFault, Checked, LexFault, check};
 use cilk_check_explain::{ReadFault, TEXT_LIMIT, line_col, read};
-use cilk_load::{CheckFault, Checked, LexFault, check};
 use std::alloc::Global;
 
 /// The program that the bytes of a text are. What is wrong is told in this order: the length of the text, that it is not

@@ -1,9 +1,9 @@
 -- Actions in the pass are those of the labelled program, over slots.
 use Rattle.std.proofs.Common.{◌≡◌, List, [], ◌∷◌, map, Option, Some, None, refl, ap}
 use Rattle.std.specs.Prelude.{option_map}
-use Rattle.cilk_check.specs.syntax.Tree as tree
-use Rattle.cilk_check.specs.syntax.Tree.{Word}
-use Rattle.cilk_check.specs.syntax.Adjustments.{operator_of}
+use Rattle.cilk_tree_syntax.specs.Tree as tree
+use Rattle.cilk_tree_syntax.specs.Tree.{Word}
+use Rattle.cilk_tree_syntax.specs.Adjustments.{operator_of}
 use Rattle.cilk_load.specs.labelled.Term as term
 use Rattle.cilk_load.specs.labelled.Term.{Term, rename}
 use Rattle.cilk_load.specs.nodes.declared.slot.Slot.{Slot}

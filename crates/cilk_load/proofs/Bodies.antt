@@ -3,9 +3,9 @@ use Rattle.std.proofs.Common.{◌≡◌, ℕ, suc, ◌+◌, ◌<◌, List, [], �
 use Rattle.std.specs.Prelude.{filter_map}
 use Rattle.std.specs.List.{cons_option}
 use Rattle.std.proofs.lemmas.List.Elements.{filter_map-append}
-use Rattle.cilk_check.specs.syntax.Tree as tree
-use Rattle.cilk_check.specs.syntax.Tree.{Word}
-use Rattle.cilk_check.specs.scopes.Scopes.{local_declares, parameter}
+use Rattle.cilk_tree_syntax.specs.Tree as tree
+use Rattle.cilk_tree_syntax.specs.Tree.{Word}
+use Rattle.cilk_load_nodes.specs.scopes.Scopes.{local_declares, parameter}
 use Rattle.cilk_load.specs.labelled.Labelled.{local, of_body, unknown, Stmts, Labelled}
 use Rattle.cilk_load.specs.labelled.Items.{Items, pieces, opened}
 use Rattle.cilk_load.specs.labelled.Names.{Names, with_name, with_words, with_parameters, with_local, in_inlet}

@@ -4,7 +4,7 @@ use Rattle.std.proofs.Common.{None, inl, inr, refl, sym, ap, ◌∙◌, arith}
 use Rattle.std.specs.Prelude.{bytes_eq, slice_index_or, position}
 use Rattle.std.specs.List.{prefix_len}
 use Rattle.std.proofs.lemmas.Bool.{lt-ltb, le-ltb, cases_lt}
-use Rattle.cilk_check.specs.scopes.Scopes.{Declared}
+use Rattle.cilk_load_nodes.specs.scopes.Scopes.{Declared}
 use Rattle.cilk_load.specs.nodes.declared.area.Area.{Area}
 use Rattle.cilk_load.specs.nodes.declared.area.Area.TheVariants.{Own, Outer, Global}
 use Rattle.cilk_load.specs.nodes.declared.slot.Slot.{Slot}

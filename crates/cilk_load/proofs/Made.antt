@@ -3,8 +3,8 @@ use Rattle.std.proofs.Common.{◌≡◌, ℕ, suc, ◌+◌, ◌≤◌, not, cond
 use Rattle.std.proofs.Common.{length-append}
 use Rattle.std.specs.Prelude.{slice_get, flat_map}
 use Rattle.std.specs.List.{prefix_len, position}
-use Rattle.cilk_check.specs.syntax.Tree as tree
-use Rattle.cilk_check.specs.scopes.WellFormed.{WellFormed}
+use Rattle.cilk_tree_syntax.specs.Tree as tree
+use Rattle.cilk_load_nodes.specs.scopes.WellFormed.{WellFormed}
 use Rattle.cilk_load.specs.nodes.declared.area.Area.TheVariants.{Global}
 use Rattle.cilk_load.specs.labelled.Labelled.{Body}
 use Rattle.cilk_load.specs.labelled.Count.{count_shape, count_block, count_item, count_program}

@@ -4,14 +4,14 @@ use Rattle.std.proofs.Common.{arith, append-nil, length-append, unwrap_or, pos}
 use Rattle.std.specs.Prelude.{filter_map, slice_get, slice_index_or, option_map, position}
 use Rattle.std.specs.List.{cons_option}
 use Rattle.std.proofs.lemmas.List.Elements.{filter_map-append}
-use Rattle.cilk_check.specs.syntax.Tree as tree
-use Rattle.cilk_check.specs.syntax.Tree.{Word}
-use Rattle.cilk_check.specs.scopes.Parts.{owner_of}
-use Rattle.cilk_check.specs.scopes.Scopes.{file_declares}
-use Rattle.cilk_check.specs.scopes.declared.owner.Owner.{Owner}
-use Rattle.cilk_check.specs.scopes.declared.owner.Owner.TheVariants.{Inlet}
-use Rattle.cilk_check.proofs.scopes_laws.Elements.{Has}
-use Rattle.cilk_check.specs.scopes.WellFormed.{WellFormed}
+use Rattle.cilk_tree_syntax.specs.Tree as tree
+use Rattle.cilk_tree_syntax.specs.Tree.{Word}
+use Rattle.cilk_load_nodes.specs.scopes.Parts.{owner_of}
+use Rattle.cilk_load_nodes.specs.scopes.Scopes.{file_declares}
+use Rattle.cilk_load_nodes.specs.scopes.declared.owner.Owner.{Owner}
+use Rattle.cilk_load_nodes.specs.scopes.declared.owner.Owner.TheVariants.{Inlet}
+use Rattle.cilk_load_nodes.proofs.scopes_laws.Elements.{Has}
+use Rattle.cilk_load_nodes.specs.scopes.WellFormed.{WellFormed}
 use Rattle.cilk_load.specs.labelled.Labelled.{Variable, Body, Labelled, Numbered}
 use Rattle.cilk_load.specs.labelled.Items.{opened, head_of, start_items}
 use Rattle.cilk_load.specs.labelled.Names.{Names, meaning_at}

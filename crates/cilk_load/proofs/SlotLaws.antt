@@ -1,11 +1,11 @@
 -- The slots of the tables are those that stand for declarations.
 use Rattle.std.proofs.Common.{◌≡◌, ℕ, zero, suc, ◌+◌, ◌<◌, Bool, true, false, cond, List, [], ◌∷◌, map, refl, sym, ap, ◌∙◌, arith}
 use Rattle.std.specs.Prelude.{slice_index_or, bytes_eq}
-use Rattle.cilk_check.specs.syntax.Tree as tree
-use Rattle.cilk_check.specs.scopes.declared.owner.Owner.{Owner}
-use Rattle.cilk_check.specs.scopes.declared.owner.Owner.TheVariants.{Inlet}
-use Rattle.cilk_check.specs.scopes.declared.declaration_kind.DeclarationKind.TheVariants.{Lock}
-use Rattle.cilk_check.specs.scopes.Scopes.{Declared, kind_of_global, kind_of_body, parameter_count, file_declares}
+use Rattle.cilk_tree_syntax.specs.Tree as tree
+use Rattle.cilk_load_nodes.specs.scopes.declared.owner.Owner.{Owner}
+use Rattle.cilk_load_nodes.specs.scopes.declared.owner.Owner.TheVariants.{Inlet}
+use Rattle.cilk_load_nodes.specs.scopes.declared.declaration_kind.DeclarationKind.TheVariants.{Lock}
+use Rattle.cilk_load_nodes.specs.scopes.Scopes.{Declared, kind_of_global, kind_of_body, parameter_count, file_declares}
 use Rattle.cilk_load.specs.nodes.declared.area.Area.{Area}
 use Rattle.cilk_load.specs.nodes.declared.area.Area.TheVariants.{Own, Outer, Global}
 use Rattle.cilk_load.specs.nodes.declared.slot.Slot.{Slot}

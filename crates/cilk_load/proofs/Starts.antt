@@ -3,7 +3,7 @@ use Rattle.std.proofs.Common.{◌≡◌, ℕ, zero, suc, inl, inr, ◌+◌, ◌<
 use Rattle.std.proofs.Common.{ap, ◌∙◌, arith}
 use Rattle.std.proofs.lemmas.Bool.{false≢true, cases_eq}
 use Rattle.std.proofs.lemmas.Bool.Decides.{Decides-eqb}
-use Rattle.cilk_check.specs.syntax.Tree as tree
+use Rattle.cilk_tree_syntax.specs.Tree as tree
 use Rattle.cilk_load.specs.labelled.Labelled.{Stmts}
 use Rattle.cilk_load.specs.labelled.Items.{Items, pieces, plain_round, open_stmt, open_stmts, opened}
 use Rattle.cilk_load.specs.labelled.Names.{Names, with_local, entered}

@@ -12,4 +12,4 @@ pub use Rattle.cilk_load_nodes.specs.labelled
 pub use Rattle.cilk_load_nodes.specs.model
 pub use Rattle.cilk_load_nodes.specs.scopes
 pub use Rattle.cilk_tree_syntax.specs as syntax
-pub use Rattle.cilk_check.specs as check
+pub use Rattle.cilk_load_nodes.specs.scopes.lexeme

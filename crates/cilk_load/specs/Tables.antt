@@ -1,6 +1,6 @@
 -- The tables of a program are what its meaning says.
 use Rattle.std.specs.Prelude.{◌≡◌, ℕ, suc, ◌≤◌, List, Some, None, length, map, slice_get}
-use Rattle.cilk_check.specs.syntax.Tree as tree
+use Rattle.cilk_tree_syntax.specs.Tree as tree
 use Rattle.cilk_load.specs.labelled.Bodies.{label}
 use Rattle.cilk_load.specs.labelled.Count.{count_program}
 use Rattle.cilk_load.specs.labelled.Lines.{action_lines}

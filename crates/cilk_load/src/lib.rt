@@ -29,10 +29,9 @@ mod symbol_table;
 mod tables;
 mod variables;
 
-pub use cilk_check::{CheckFault, Checked, LexFault, check};
 pub use cilk_load_nodes::{
-    Action, Area, BinOp, Body, Code, CodeNode, Codes, Name, Node, Owner, Slot, SlotPlace, Slots,
-    Taker, Target, Text, Trap, Var, Vars,
+    Action, Area, BinOp, Body, Checked, Code, CodeNode, Codes, Name, Node, Owner, Slot, SlotPlace,
+    Slots, Taker, Target, Text, Trap, Var, Vars,
 };
 pub use cilk_tree_syntax::{LockAction, Memory};
 pub use fault::LoadFault;

@@ -3,7 +3,7 @@
 ghost use Rattle.std.specs.Prelude.{◌≡◌, ◌≤◌, ◌↔◌, IsSome, IfOk, Some, option_copied, string_bytes};
 ghost use Rattle.std.specs.Arc.{arc_value};
 ghost use Rattle.cilk_load.specs.syntax.ProgramText.{program_text};
-ghost use Rattle.cilk_check.specs.scopes.WellFormed.{WellFormed};
+ghost use Rattle.cilk_load_nodes.specs.scopes.WellFormed.{WellFormed};
 ghost use Rattle.cilk_load.specs.labelled.Bodies.{label};
 ghost use Rattle.cilk_load.specs.labelled.Count.{count_program};
 ghost use Rattle.cilk_load.specs.model.End as runs;
@@ -31,8 +31,8 @@ impl Drop for Loaded {
 }
 
 impl Model for Loaded {
-    ghost use Rattle.cilk_check.specs.syntax.Tree as tree;
-    ghost use Rattle.cilk_check.specs.syntax.ProgramCoding.{coded_Program};
+    ghost use Rattle.cilk_tree_syntax.specs.Tree as tree;
+    ghost use Rattle.cilk_tree_syntax.specs.ProgramCoding.{coded_Program};
     ghost use Rattle.std.specs.Arc.{arc_value};
 
     ghost Value = { tree.Program };

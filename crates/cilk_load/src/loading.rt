@@ -12,7 +12,7 @@ use crate::loaded::Loaded;
 use crate::nodes::nodes_of;
 use crate::room::NoRoom;
 use crate::tables::Tables;
-use cilk_check::Checked;
+use cilk_load_nodes::Checked;
 use cilk_tree_syntax::Program;
 use std::alloc::Global;
 use std::sync::Arc;

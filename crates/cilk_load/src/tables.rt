@@ -1,7 +1,6 @@
 //! The tables of a program, which all copies of it share, and what holds of them together.
 
-use cilk_check::Checked;
-use cilk_load_nodes::{Body, Node, Var};
+use cilk_load_nodes::{Body, Checked, Node, Var};
 use std::marker::Model;
 
 /// A program and its tables, seen as the program.
@@ -31,8 +30,8 @@ impl Drop for Tables {
 }
 
 impl Model for Tables {
-    ghost use Rattle.cilk_check.specs.syntax.Tree as tree;
-    ghost use Rattle.cilk_check.specs.syntax.ProgramCoding.{coded_Program};
+    ghost use Rattle.cilk_tree_syntax.specs.Tree as tree;
+    ghost use Rattle.cilk_tree_syntax.specs.ProgramCoding.{coded_Program};
 
     ghost Value = { tree.Program };
 

@@ -29,7 +29,7 @@ pub use area::Area;
 pub use body::Body;
 pub use case::Case;
 pub use cases::Cases;
-pub use cilk_model::{BinOp, LockAction, Memory, Owner, Trap, UnOp};
+pub use cilk_model::{BinOp, Checked, LockAction, Memory, Owner, Trap, UnOp};
 pub use code::{Code, CodeNode};
 pub use codes::Codes;
 pub use laws::{

@@ -1,7 +1,7 @@
 -- The step of an instance in a worker's hand can be planned.
 use Rattle.std.proofs.Common.{◌≡◌, sym, ap, ◌∙◌, subst}
 use Rattle.std.proofs.lemmas.Option.{same_Some}
-use Rattle.cilk_load.specs.check.scopes.WellFormed.{WellFormed}
+use Rattle.cilk_load.specs.scopes.WellFormed.{WellFormed}
 use Rattle.cilk_machine_plan.proofs.effects_laws.KnownActions.{heads, follows}
 use Rattle.cilk_machine_plan.specs.nodes.Areas.{sizes_of}
 use Rattle.cilk_load.specs.labelled.Bodies.{label}

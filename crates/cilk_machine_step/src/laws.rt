@@ -1,7 +1,7 @@
 //! The law of scenes. The function does nothing: its contract is what is proved.
 
 ghost use Rattle.std.specs.Prelude.{◌<◌, length};
-ghost use Rattle.cilk_load.specs.check.scopes.WellFormed.{WellFormed};
+ghost use Rattle.cilk_load.specs.scopes.WellFormed.{WellFormed};
 ghost use Rattle.cilk_machine_plan.specs.agree.Laws.{InHand};
 ghost use Rattle.cilk_machine_plan.specs.Plans.{input_in};
 ghost use Rattle.cilk_machine_plan.specs.StepInput.{id_of};

@@ -8,7 +8,8 @@ mod trap;
 mod view_laws;
 
 pub use cilk_check_scopes::{
-    BinOp, Global, GlobalShape, Item, ItemNode, LockAction, Memory, Owner, Program, UnOp, Word,
+    BinOp, Checked, Global, GlobalShape, Item, ItemNode, LockAction, Memory, Owner, Program, UnOp,
+    Word,
 };
 pub use labelled_laws::{rows_are_labelled, switches_are_labelled, switches_go_on};
 pub use laws::{

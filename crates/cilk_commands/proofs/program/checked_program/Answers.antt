@@ -1,7 +1,7 @@
 use Rattle.std.proofs.Common.{◌≡◌, ◌≢◌, sym, subst, ◌∙◌, rules, inl, inr}
 use Rattle.cilk_check_explain.specs.parse.declared.fault.ReadFault.TheVariants as read
-use Rattle.cilk_load.specs.check.scopes.declared.fault.CheckFault.TheVariants as check
-use Rattle.cilk_load.specs.check.scopes.WellFormed.{WellFormed}
+use Rattle.cilk_load.specs.scopes.declared.fault.CheckFault.TheVariants as check
+use Rattle.cilk_load.specs.scopes.WellFormed.{WellFormed}
 use Rattle.cilk_commands.specs.Program.{IsText}
 use Rattle.cilk_commands.proofs.program.checked_program.Goals as goal
 

@@ -1,7 +1,7 @@
 use Rattle.std.proofs.Common.{◌≡◌, List, length, map, Some, rules, sym, ap, subst, ◌∙◌, arith}
 use Rattle.std.specs.Prelude.{flat_map}
 use Rattle.std.specs.List.{position}
-use Rattle.cilk_check.specs.syntax.Tree as tree
+use Rattle.cilk_tree_syntax.specs.Tree as tree
 use Rattle.cilk_load.specs.nodes.declared.area.Area.TheVariants.{Global}
 use Rattle.cilk_load.specs.labelled.Bodies.{item_globals, item_locks}
 use Rattle.cilk_load.specs.nodes.Bodies.{vars_from, lock_variable}
