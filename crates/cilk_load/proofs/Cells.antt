@@ -42,5 +42,3 @@ pub ok_behind : {E : Type 0} (r : Result ℕ E) (at cells : ℕ) (vs ws all : Li
 ok_behind r at cells vs ws all h e f =
     IfOk-weaker r (λ after. after ≡ cells + cells_of ws) (λ after. after ≡ at + cells_of all)
     (λ (after : ℕ) (k : after ≡ cells + cells_of ws). omega (arith, k, e, ap cells_of f, cells_of-append vs ws)) h
-
-pub ruleset variables = (cells_of-append, vars_from-append)

@@ -5,6 +5,7 @@ pub mod VarLaws
 pub mod Scopes
 pub mod Parts
 pub mod Cells
+pub mod Further
 pub mod Switches
 pub mod TableLaws
 pub mod Fronts

@@ -10,7 +10,8 @@ use Rattle.cilk_load_nodes.specs.declared.body.Body as table
 use Rattle.cilk_load_nodes.specs.declared.var.Var.{Var}
 use Rattle.cilk_load_nodes.specs.Slots.{size_of, cells_of}
 use Rattle.cilk_load_nodes.specs.Bodies.{vars_from}
-use Rattle.cilk_load.specs.BodyTables.{body_first, table_of}
+use Rattle.cilk_load_nodes.specs.labelled.Count.{count_local}
+use Rattle.cilk_load.specs.BodyTables.{body_first, table_of, inlet_tables}
 use Rattle.cilk_load.proofs.Cells.{cells_of-append, joined}
 
 -- a variable of the table for each variable
@@ -32,3 +33,9 @@ table-made at owner own name parameters body text entry params cells middle befo
     ∙ ap (λ (vs : List Var). vs ++ vars_from Own 0 (parameters ++ block_variables body)) eb
     in
     λ i. record { name = et i; owner = eo i; entry = ee i; params = count i; cells = size i; vars = all i }
+
+-- the tables of the first of some declarations come first
+pub tables-first : (at : ℕ) (first : tree.Local) (others : tree.Locals)
+    → inlet_tables at (tree.and_local first others) ≡ inlet_tables at (tree.and_local first tree.no_locals) ++ inlet_tables (at + count_local first) others
+tables-first at (tree.declared d) others = refl
+tables-first at (tree.inlet_at place name parameters body) others = refl

@@ -1,6 +1,6 @@
 //! The actions of other statements.
 
-ghost use Rattle.std.specs.Prelude.{◌≡◌, IfOk};
+ghost use Rattle.std.specs.Prelude.{◌≡◌, IfOk, IsOkAnd, Some};
 ghost use Rattle.cilk_tree_syntax.specs.MoveView.{taker_of};
 ghost use Rattle.cilk_load_nodes.specs.declared.action.Action.TheVariants.{Print, Locking};
 ghost use Rattle.cilk_load.specs.Acts.{codes_in, number_in, taker_in, spawn_in, return_in, initialiser_in, action_in};
@@ -63,23 +63,33 @@ fn return_in(alloc: Global, names: &SymbolTable, value: &Option<Expr>) -> Result
     }
 }
 
+// An action, if it was made.
+fn one(action: Result<Action, Memory>) -> Result<Option<Action>, Memory>
+    ensures { IfOk result (λ one. IsOkAnd action (λ act. one ≡ Some act)) }
+{
+    match action {
+        Ok(action) => Ok(Some(action)),
+        Err(e) => Err(e),
+    }
+}
+
 /// The action of a statement that is one action.
 pub fn action_in(alloc: Global, names: &SymbolTable, stmt: &Stmt) -> Result<Option<Action>, Memory>
     ensures { IfOk result (λ action. action ≡ action_in names.now stmt.now) }
 {
     match &stmt.node {
-        StmtNode::Move(what) => Ok(Some(move_in(alloc, names, what)?)),
+        StmtNode::Move(what) => one(move_in(alloc, names, what)),
         StmtNode::Spawn(_, taker, callee, arguments) => {
-            Ok(Some(spawn_in(alloc, names, taker, callee, arguments)?))
+            one(spawn_in(alloc, names, taker, callee, arguments))
         }
-        StmtNode::Print(format, arguments) => Ok(Some(print_in(alloc, names, format, arguments)?)),
+        StmtNode::Print(format, arguments) => one(print_in(alloc, names, format, arguments)),
         StmtNode::Locking(what, name) => Ok(Some(locking_in(names, *what, name))),
         StmtNode::Null => Ok(Some(Action::Null)),
         StmtNode::Sync(_) => Ok(Some(Action::Sync)),
         StmtNode::Abort(_) => Ok(Some(Action::Abort)),
         StmtNode::Break(_) => Ok(Some(Action::Break)),
         StmtNode::Continue(_) => Ok(Some(Action::Continue)),
-        StmtNode::Return(_, value) => Ok(Some(return_in(alloc, names, value)?)),
+        StmtNode::Return(_, value) => one(return_in(alloc, names, value)),
         _ => Ok(None),
     }
 }

@@ -5,7 +5,7 @@ ghost use Rattle.cilk_tree_syntax.specs.Tree as tree;
 ghost use Rattle.cilk_tree_syntax.specs.Tree.{locals_of};
 ghost use Rattle.cilk_load_nodes.specs.scopes.declared.owner.Owner.TheVariants as owner;
 ghost use Rattle.cilk_load_nodes.specs.scopes.Parts.{owner_of};
-ghost use Rattle.cilk_load_nodes.specs.labelled.Count.{count_block, count_locals, count_item, count_items};
+ghost use Rattle.cilk_load_nodes.specs.labelled.Count.{count_block, count_local, count_locals, count_item, count_items};
 ghost use Rattle.cilk_load_nodes.specs.labelled.Bodies.{one_cell, parameter_variables};
 ghost use Rattle.cilk_load.specs.BodyTables.{body_first, table_of, inlet_tables, item_tables, items_tables};
 ghost use Rattle.cilk_load.specs.BodyTables.{starts_here};
@@ -111,22 +111,36 @@ fn put_inlets(
 {
     let mut at = at;
     for local in locals {
-        match &local.node {
-            LocalNode::Decl(decl) => at += count_shape(&decl.shape),
-            LocalNode::Inlet(inlet) => {
-                put_inlet(
-                    alloc,
-                    bodies,
-                    at,
-                    &inlet.name,
-                    &inlet.parameters,
-                    &inlet.body,
-                )?;
-                at += actions_in(&inlet.body) + 1;
-            }
-        }
+        at = put_declared(alloc, bodies, at, local)?;
     }
     Ok(())
+}
+
+// Appends the table of an inlet, if it is one, and answers the number of the next action.
+fn put_declared(
+    alloc: Global,
+    bodies: &mut Vec<Body>,
+    at: u32,
+    local: &Local,
+) -> Result<u32, NoRoom>
+    requires { at + count_local local.now ≤ 65536 }
+    ensures tables { OnOk result (bodies.new.items ≡ bodies.old.items ++ inlet_tables at (tree.and_local local.now tree.no_locals)) }
+    ensures after { IfOk result (λ after. after ≡ at + count_local local.now) }
+{
+    match &local.node {
+        LocalNode::Decl(decl) => Ok(at + count_shape(&decl.shape)),
+        LocalNode::Inlet(inlet) => {
+            put_inlet(
+                alloc,
+                bodies,
+                at,
+                &inlet.name,
+                &inlet.parameters,
+                &inlet.body,
+            )?;
+            Ok(at + actions_in(&inlet.body) + 1)
+        }
+    }
 }
 
 fn put_item(alloc: Global, bodies: &mut Vec<Body>, at: u32, item: &Item) -> Result<(), NoRoom>

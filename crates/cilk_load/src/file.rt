@@ -9,7 +9,7 @@ use crate::outer::{bodies_behind, bound_number};
 use crate::room::NoRoom;
 use crate::symbol_table::SymbolTable;
 use cilk_load_nodes::{Body, Var};
-use cilk_tree_syntax::{Item, ItemNode};
+use cilk_tree_syntax::{Item, ItemNode, Memory};
 
 // How many variables, locks and bodies of the top level come before an item.
 #[derive(Clone, Copy)]
@@ -32,15 +32,24 @@ pub(crate) fn declare_file<'a>(
     requires bodies { length bodies.now ≡ bodies_count items.now }
     ensures { OnOk result (names.new ≡ record { innermost = file_named globals.now 0 0 0 items.now ++ names.old.innermost; outer = names.old.outer }) }
 {
-    let mut before = Before {
-        globals: count_of(globals.len())?,
-        locks: count_of(locks.len())?,
-        bodies: count_of(bodies.len())?,
-    };
+    let mut before = before_end(globals, locks, bodies)?;
     for i in 0..items.len() {
         before = declare_item(names, globals, before, &items[items.len() - 1 - i])?;
     }
     Ok(())
+}
+
+// What comes before the end of the top level.
+fn before_end(globals: &[Var], locks: &[Var], bodies: &[Body]) -> Result<Before, NoRoom>
+    ensures globals { IfOk result (λ b. b.globals ≡ length globals.now) }
+    ensures locks { IfOk result (λ b. b.locks ≡ length locks.now) }
+    ensures bodies { IfOk result (λ b. b.bodies ≡ length bodies.now) }
+{
+    Ok(Before {
+        globals: count_of(globals.len())?,
+        locks: count_of(locks.len())?,
+        bodies: count_of(bodies.len())?,
+    })
 }
 
 fn count_of(length: usize) -> Result<u32, NoRoom>
@@ -93,19 +102,30 @@ fn declare_item<'a>(
     ensures bodies { IfOk result (λ b. b.bodies + body_count item.now ≡ behind.bodies) }
 {
     let before = before_item(behind, item)?;
+    declare_behind(names, globals, before, item)?;
+    Ok(before)
+}
+
+// Declares what an item does, behind others.
+fn declare_behind<'a>(
+    names: &mut SymbolTable<'a>,
+    globals: &[Var],
+    before: Before,
+    item: &'a Item,
+) -> Result<(), Memory>
+    ensures { OnOk result (names.new ≡ record {
+      innermost = item_named globals.now before.globals before.locks before.bodies item.now ++ names.old.innermost;
+      outer = names.old.outer;
+    }) }
+{
     match &item.node {
         ItemNode::Global(definition) => {
-            names.declare(&definition.name, bound_var(globals, before.globals))?;
-            Ok(before)
+            names.declare(&definition.name, bound_var(globals, before.globals))
         }
-        ItemNode::Lock(name) => {
-            names.declare(name, bound_number(before.locks))?;
-            Ok(before)
-        }
-        ItemNode::Prototype(_) => Ok(before),
+        ItemNode::Lock(name) => names.declare(name, bound_number(before.locks)),
+        ItemNode::Prototype(_) => Ok(()),
         ItemNode::Procedure(definition) => {
-            names.declare(&definition.name, bound_number(before.bodies))?;
-            Ok(before)
+            names.declare(&definition.name, bound_number(before.bodies))
         }
     }
 }

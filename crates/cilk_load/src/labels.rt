@@ -1,9 +1,10 @@
 //! Where the labels of a `switch` lead.
 
-ghost use Rattle.std.specs.Prelude.{◌≡◌, ◌+◌, ◌≤◌, IfOk};
+ghost use Rattle.std.specs.Prelude.{◌≡◌, ◌+◌, ◌≤◌, ◌++◌, IfOk, OnOk};
 ghost use Rattle.cilk_tree_syntax.specs.Tree.{stmts_of};
 ghost use Rattle.cilk_load_nodes.specs.labelled.Count.{count_stmts};
-ghost use Rattle.cilk_load.specs.Pass.{value_in, is_default, cases_in, default_in};
+ghost use Rattle.cilk_load.specs.Firsts.{first_if};
+ghost use Rattle.cilk_load.specs.Pass.{value_case, value_in, is_default, cases_in, default_in};
 
 use crate::counts::{actions, actions_of_stmts};
 use crate::firsts::first_if;
@@ -29,12 +30,26 @@ pub(crate) fn cases_in(
         let count = actions(stmt);
         left -= count;
         at += count;
-        if let Some(value) = value_of(stmt) {
-            let to = first_if(left, at, next);
-            cases.push(Case { value, to })?;
-        }
+        put_case(&mut cases, stmt, left, at, next)?;
     }
     Ok(Cases::new(cases))
+}
+
+// Appends the case that a statement is, if it is one, behind which so many actions are left.
+fn put_case(
+    cases: &mut Vec<Case>,
+    stmt: &Stmt,
+    left: u32,
+    at: u32,
+    next: Option<u32>,
+) -> Result<(), NoRoom>
+    ensures { OnOk result (cases.new.items ≡ cases.old.items ++ value_case (value_in stmt.now) (first_if left at next)) }
+{
+    if let Some(value) = value_of(stmt) {
+        let to = first_if(left, at, next);
+        cases.push(Case { value, to })?;
+    }
+    Ok(())
 }
 
 /// Where the `default` among them leads, or else what comes behind the `switch`.

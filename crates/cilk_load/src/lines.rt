@@ -152,6 +152,38 @@ fn put_inside(lines: &mut Vec<u32>, line: u32, block: &Block) -> Result<u32, NoR
     next_line(last)
 }
 
+// A body that is opened by the line of an action.
+#[cycle(lines)]
+fn put_opened(lines: &mut Vec<u32>, line: u32, block: &Block) -> Result<u32, NoRoom>
+    ensures lines { OnOk result (lines.new.items ≡ lines.old.items ++ line ∷ block_action_lines (line + 1) block.now) }
+    ensures len { OnOk result (vec_len lines.new ≡ vec_len lines.old + (1 + count_block block.now)) }
+    ensures after { IfOk result (λ after. after ≡ line + (length (block_lines block.now) + 2)) }
+{
+    lines.push(line)?;
+    put_inside(lines, line, block)
+}
+
+// The parts and the body of a `for`.
+#[cycle(lines)]
+fn put_loop(
+    lines: &mut Vec<u32>,
+    line: u32,
+    first: &Option<Move>,
+    advance: &Option<Move>,
+    body: &Block,
+) -> Result<u32, NoRoom>
+    ensures lines { OnOk result (lines.new.items ≡ lines.old.items
+        ++ (option_lines line first.now ++ line ∷ (option_lines line advance.now ++ block_action_lines (line + 1) body.now))) }
+    ensures len { OnOk result (vec_len lines.new
+        ≡ vec_len lines.old + (count_option first.now + (1 + (count_option advance.now + count_block body.now)))) }
+    ensures after { IfOk result (λ after. after ≡ line + (length (block_lines body.now) + 2)) }
+{
+    put_part(lines, line, first)?;
+    lines.push(line)?;
+    put_part(lines, line, advance)?;
+    put_inside(lines, line, body)
+}
+
 // A body that is closed by the line of an action.
 #[cycle(lines)]
 fn put_closed(lines: &mut Vec<u32>, line: u32, block: &Block) -> Result<u32, NoRoom>
@@ -172,30 +204,15 @@ fn put_stmt(lines: &mut Vec<u32>, line: u32, stmt: &Stmt) -> Result<u32, NoRoom>
     ensures after { IfOk result (λ after. after ≡ line + length (stmt_lines stmt.now)) }
 {
     match &stmt.node {
-        StmtNode::If(_, body, None) => {
-            lines.push(line)?;
-            put_inside(lines, line, body)
-        }
+        StmtNode::If(_, body, None) => put_opened(lines, line, body),
         StmtNode::If(_, body, Some(other)) => {
-            lines.push(line)?;
-            let between = put_inside(lines, line, body)?;
+            let between = put_opened(lines, line, body)?;
             put_inside(lines, between - 1, other)
         }
-        StmtNode::While(_, body) => {
-            lines.push(line)?;
-            put_inside(lines, line, body)
-        }
+        StmtNode::While(_, body) => put_opened(lines, line, body),
         StmtNode::Do(body, _) => put_closed(lines, line, body),
-        StmtNode::For(first, _, advance, body) => {
-            put_part(lines, line, first)?;
-            lines.push(line)?;
-            put_part(lines, line, advance)?;
-            put_inside(lines, line, body)
-        }
-        StmtNode::Switch(_, body) => {
-            lines.push(line)?;
-            put_inside(lines, line, body)
-        }
+        StmtNode::For(first, _, advance, body) => { put_loop(lines, line, first, advance, body) }
+        StmtNode::Switch(_, body) => put_opened(lines, line, body),
         StmtNode::Labelled(_) => next_line(line),
         StmtNode::Nested(inside) => put_inside(lines, line, inside),
         _ => put_one(lines, line),

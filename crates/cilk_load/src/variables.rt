@@ -58,7 +58,6 @@ fn own_slot(cells: u32, length: u32) -> Slot
 }
 
 /// Appends parameters.
-#[tactic(auto, using(crate::proofs::Cells::variables))]
 pub(crate) fn put_words(
     alloc: Global,
     vars: &mut Vec<Var>,

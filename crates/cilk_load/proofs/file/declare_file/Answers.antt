@@ -10,7 +10,7 @@ loop-i-preserved c =
     let globals = c.args.globals.now in
     let items = c.args.items.now in
     let around = c.args.names.now.innermost in
-    let before = c.in_ok-before.before in
+    let before = c.in_ok-before-2.before in
     let item = c.index-items-items.result in
     let place = length items - (c.loop-i.i + 1) in
     let others = drop (length items - c.loop-i.i) items in
@@ -25,7 +25,7 @@ loop-i-preserved c =
     let own = item_named globals before.globals before.locks before.bodies item in
     let later = file_named globals (before.globals + length (item_globals item)) (before.locks + length (item_locks item))
     (before.bodies + body_count item) others in
-    let known = c.in_ok-before.ensures in
+    let known = c.in_ok-before-2.ensures in
     record {
       names =
           known.named

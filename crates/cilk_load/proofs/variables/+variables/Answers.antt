@@ -1,11 +1,12 @@
-use Rattle.std.proofs.Common.{◌≡◌, ◌+◌, ◌++◌, List, drop, rules, refl, sym, ap, ◌∙◌, arith}
-use Rattle.std.proofs.lemmas.List.{at_drop_more}
+use Rattle.std.proofs.Common.{◌≡◌, ◌+◌, ◌++◌, List, drop, rules, refl, sym, ap, ◌∙◌, append-nil}
+use Rattle.std.proofs.lemmas.List.{at_drop_all, at_drop_more}
 use Rattle.cilk_tree_syntax.specs.Tree as tree
 use Rattle.cilk_tree_syntax.specs.Tree.{locals_of, stmts_of}
 use Rattle.cilk_load_nodes.specs.declared.area.Area.TheVariants.{Own}
 use Rattle.cilk_load_nodes.specs.labelled.Label.{stmt_variables, stmts_variables, locals_variables, block_variables}
 use Rattle.cilk_load_nodes.specs.Slots.{cells_of}
 use Rattle.cilk_load_nodes.specs.Bodies.{vars_from}
+use Rattle.cilk_load.proofs.Further.{further}
 use Rattle.cilk_load.proofs.Cells.{joined, ok_behind, cells_of-append}
 use Rattle.cilk_load.proofs.Results.{ok_same}
 use Rattle.cilk_load.proofs.variables.+variables.Goals as goal
@@ -72,5 +73,13 @@ put_stmts-loop-stmt-preserved t c =
           c.in_ok-cells.ensures.after refl
           ∙ ap (λ vs. c.loop-stmt.vars.items ++ vars_from Own c.loop-stmt.cells vs) (sym next)
           ∙ c.loop-stmt.invariant.vars;
-      cells = omega (arith, c.in_ok-cells.ensures.after, c.loop-stmt.invariant.cells, ap cells_of next, cells_of-append own others);
+      cells =
+          further c.loop-stmt.cells (cells_of own) (cells_of others) _ _ _ c.in_ok-cells.ensures.after (ap cells_of next ∙ cells_of-append own others)
+          c.loop-stmt.invariant.cells;
     }
+
+pub put_stmts-returns-clause-vars : goal.put_stmts-returns-clause-vars
+put_stmts-returns-clause-vars t c =
+    sym (append-nil _)
+    ∙ (rw (at_drop_all (λ xs. vars_from Own c.loop-stmt.cells (stmts_variables (stmts_of xs))) c.args.stmts.now c.loop-stmt.stmt-index c.loop-stmt-test.false)
+    at c.loop-stmt.invariant.vars)

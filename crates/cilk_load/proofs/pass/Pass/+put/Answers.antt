@@ -1,13 +1,14 @@
-use Rattle.std.proofs.Common.{◌≡◌, ◌+◌, ◌-◌, ◌++◌, List, length, drop, vec_len, rules, refl, sym, ap, subst, ◌∙◌, arith, length-append}
-use Rattle.std.proofs.lemmas.List.{at_drop_more}
+use Rattle.std.proofs.Common.{◌≡◌, ◌+◌, ◌-◌, ◌++◌, List, length, drop, vec_len, rules, refl, sym, ap, subst, ◌∙◌, arith, length-append, append-nil}
+use Rattle.std.proofs.lemmas.List.{at_drop_all, at_drop_more}
 use Rattle.cilk_tree_syntax.specs.Tree as tree
 use Rattle.cilk_tree_syntax.specs.Tree.{locals_of, stmts_of}
-use Rattle.cilk_load_nodes.specs.labelled.Count.{count_stmts}
+use Rattle.cilk_tree_syntax.specs.StmtView.{stmt_of}
+use Rattle.cilk_load_nodes.specs.labelled.Count.{count_stmt, count_stmts}
 use Rattle.cilk_load_nodes.specs.labelled.Label.{stmt_variables, stmts_variables}
 use Rattle.cilk_load_nodes.specs.Plain.{PlainStmts, PlainBlock}
 use Rattle.cilk_load.specs.Scope.{Scope}
 use Rattle.cilk_load.specs.Firsts.{block_first}
-use Rattle.cilk_load.specs.Pass.{block_nodes, stmts_nodes}
+use Rattle.cilk_load.specs.Pass.{block_nodes, stmt_nodes, stmts_nodes}
 use Rattle.cilk_load.proofs.Results.{ok_same}
 use Rattle.cilk_load.proofs.Scopes.{Adds, adds-locals, forgotten}
 use Rattle.cilk_load.proofs.Parts.{block-written, tested, switch-written, while-written, do-written, for-written, either-written, stmts-first}
@@ -147,6 +148,54 @@ put_stmt-returns-in_ok-n-in-If-default-default-Some-clause-nodes t c =
     when.new.self.nodes.items _
     view c.at.ensures c.actions_in.ensures second n.ensures.nodes n.ensures.len n.ensures.names n.ensures.after refl)
 
+pub put_stmt-returns-in-While-clause-nodes : goal.put_stmt-returns-in-While-clause-nodes
+put_stmt-returns-in-While-clause-nodes t c =
+    ok_same c.put_while.result _ _ _ c.put_while.ensures.nodes
+    (ap (λ (s : tree.Stmt). c.args.self.now.nodes.items
+    ++ stmt_nodes c.args.site.body c.args.site.vars.now c.args.self.now.names (vec_len c.args.self.now.nodes + 1) c.args.n s c.args.exits)
+    (ap stmt_of (sym c.in-While.is) ∙ c.stmt.view_is))
+
+pub put_stmt-returns-in-While-clause-len : goal.put_stmt-returns-in-While-clause-len
+put_stmt-returns-in-While-clause-len t c =
+    ok_same c.put_while.result _ _ _ c.put_while.ensures.len
+    (ap (λ (s : tree.Stmt). vec_len c.args.self.now.nodes + count_stmt s) (ap stmt_of (sym c.in-While.is) ∙ c.stmt.view_is))
+
+pub put_stmt-returns-in-Do-clause-nodes : goal.put_stmt-returns-in-Do-clause-nodes
+put_stmt-returns-in-Do-clause-nodes t c =
+    ok_same c.put_do.result _ _ _ c.put_do.ensures.nodes
+    (ap (λ (s : tree.Stmt). c.args.self.now.nodes.items
+    ++ stmt_nodes c.args.site.body c.args.site.vars.now c.args.self.now.names (vec_len c.args.self.now.nodes + 1) c.args.n s c.args.exits)
+    (ap stmt_of (sym c.in-Do.is) ∙ c.stmt.view_is))
+
+pub put_stmt-returns-in-Do-clause-len : goal.put_stmt-returns-in-Do-clause-len
+put_stmt-returns-in-Do-clause-len t c =
+    ok_same c.put_do.result _ _ _ c.put_do.ensures.len
+    (ap (λ (s : tree.Stmt). vec_len c.args.self.now.nodes + count_stmt s) (ap stmt_of (sym c.in-Do.is) ∙ c.stmt.view_is))
+
+pub put_stmt-returns-in-Switch-clause-nodes : goal.put_stmt-returns-in-Switch-clause-nodes
+put_stmt-returns-in-Switch-clause-nodes t c =
+    ok_same c.put_switch.result _ _ _ c.put_switch.ensures.nodes
+    (ap (λ (s : tree.Stmt). c.args.self.now.nodes.items
+    ++ stmt_nodes c.args.site.body c.args.site.vars.now c.args.self.now.names (vec_len c.args.self.now.nodes + 1) c.args.n s c.args.exits)
+    (ap stmt_of (sym c.in-Switch.is) ∙ c.stmt.view_is))
+
+pub put_stmt-returns-in-Switch-clause-len : goal.put_stmt-returns-in-Switch-clause-len
+put_stmt-returns-in-Switch-clause-len t c =
+    ok_same c.put_switch.result _ _ _ c.put_switch.ensures.len
+    (ap (λ (s : tree.Stmt). vec_len c.args.self.now.nodes + count_stmt s) (ap stmt_of (sym c.in-Switch.is) ∙ c.stmt.view_is))
+
+pub put_stmt-returns-in-Nested-clause-nodes : goal.put_stmt-returns-in-Nested-clause-nodes
+put_stmt-returns-in-Nested-clause-nodes t c =
+    ok_same c.put_block-in-Nested.result _ _ _ c.put_block-in-Nested.ensures.nodes
+    (ap (λ (s : tree.Stmt). c.args.self.now.nodes.items
+    ++ stmt_nodes c.args.site.body c.args.site.vars.now c.args.self.now.names (vec_len c.args.self.now.nodes + 1) c.args.n s c.args.exits)
+    (ap stmt_of (sym c.in-Nested.is) ∙ c.stmt.view_is))
+
+pub put_stmt-returns-in-Nested-clause-len : goal.put_stmt-returns-in-Nested-clause-len
+put_stmt-returns-in-Nested-clause-len t c =
+    ok_same c.put_block-in-Nested.result _ _ _ c.put_block-in-Nested.ensures.len
+    (ap (λ (s : tree.Stmt). vec_len c.args.self.now.nodes + count_stmt s) (ap stmt_of (sym c.in-Nested.is) ∙ c.stmt.view_is))
+
 pub put_stmts-loop-stmt-preserved : goal.put_stmts-loop-stmt-preserved
 put_stmts-loop-stmt-preserved t c =
     let item = c.stmt-item.result in
@@ -179,3 +228,12 @@ put_stmts-loop-stmt-preserved t c =
       );
       plain = (subst PlainStmts more c.loop-stmt.invariant.plain).1;
     }
+
+pub put_stmts-returns-clause-nodes : goal.put_stmts-returns-clause-nodes
+put_stmts-returns-clause-nodes t c =
+    let now = c.loop-stmt in
+    let none =
+    at_drop_all (λ xs. stmts_nodes c.args.site.body c.args.site.vars.now now.self.names (vec_len now.self.nodes + 1) now.n (stmts_of xs) c.args.exits)
+    c.args.stmts.now now.stmt-index c.loop-stmt-test.false
+    in
+    sym (append-nil _) ∙ (rw none at c.loop-stmt.invariant.nodes)

@@ -1,5 +1,5 @@
-use Rattle.std.proofs.Common.{◌≡◌, ◌+◌, ◌++◌, List, ◌∷◌, drop, sym, ap, subst, ◌∙◌, arith, vec_len, append_assoc}
-use Rattle.std.proofs.lemmas.List.{at_drop_more}
+use Rattle.std.proofs.Common.{◌≡◌, ◌+◌, ◌++◌, List, ◌∷◌, drop, sym, ap, subst, ◌∙◌, arith, vec_len, append_assoc, append-nil}
+use Rattle.std.proofs.lemmas.List.{at_drop_all, at_drop_more}
 use Rattle.cilk_tree_syntax.specs.Tree as tree
 use Rattle.cilk_load_nodes.specs.labelled.Count.{count_item, count_items}
 use Rattle.cilk_load_nodes.specs.labelled.Bodies.{body_count}
@@ -31,3 +31,12 @@ loop-item-preserved c =
       names = c.in_ok-b.ensures.names ∙ c.loop-item.invariant.names;
       plain = (subst PlainItems more c.loop-item.invariant.plain).1;
     }
+
+pub returns-clause-nodes : goal.returns-clause-nodes
+returns-clause-nodes c =
+    let now = c.loop-item in
+    let none =
+    at_drop_all (λ xs. items_nodes c.args.bodies.now now.b now.self.names (vec_len now.self.nodes + 1) xs) c.args.items.now now.item-index
+    c.loop-item-test.false
+    in
+    sym (append-nil _) ∙ (rw none at c.loop-item.invariant.nodes)
