@@ -3,7 +3,7 @@
 
 use super::program;
 use cilk_commands::{Status, check_text, print_text};
-use cilk_run::{Open, ending, run};
+use cilk_run::{Open, Run, ending, run};
 use std::alloc::Global;
 use std::process::Abort;
 use std::sync::Wait;
@@ -15,8 +15,7 @@ fn checks(rt: &impl Abort, alloc: Global, text: &str, status: Status, wanted: &s
     let mut err = Vec::new(alloc);
     let mut reader = text.as_bytes();
     let given = check_text(alloc, "-", false, &mut reader, &mut out, &mut err);
-    assert_eq!(rt; given, status, "{wanted}");
-    written(rt, status, (&out, &err), wanted);
+    written(rt, (given, status), (&out, &err), wanted);
 }
 
 // Asserts what `print` writes.
@@ -25,8 +24,7 @@ fn prints(rt: &impl Abort, alloc: Global, text: &str, status: Status, wanted: &s
     let mut err = Vec::new(alloc);
     let mut reader = text.as_bytes();
     let given = print_text(alloc, "-", false, &mut reader, &mut out, &mut err);
-    assert_eq!(rt; given, status, "{wanted}");
-    written(rt, status, (&out, &err), wanted);
+    written(rt, (given, status), (&out, &err), wanted);
 }
 
 // Asserts how one worker's run of at most so many choices ends.
@@ -38,13 +36,27 @@ fn runs<R: Abort + Threads + Wait + Sync>(
     wanted: &str,
 ) {
     let run = run(rt, alloc, program(rt, alloc, text), 1, limit, &Open).expect(rt, "a run");
-    let choices = run.log.choices.len() as u64;
-    let closing = ending(alloc, run.output.as_slice(), &run.end, choices).expect(rt, "memory");
-    assert_eq!(rt; closing.as_slice(), wanted.as_bytes());
+    closes(rt, alloc, &run, wanted);
 }
 
-// What is refused is told in the errors, and all else in the output.
-fn written(rt: &impl Abort, status: Status, (out, err): (&Vec<u8>, &Vec<u8>), wanted: &str) {
+fn closes(rt: &impl Abort, alloc: Global, run: &Run, wanted: &str) {
+    let choices = run.log.choices.len() as u64;
+    let closing = ending(alloc, run.output.as_slice(), &run.end, choices).expect(rt, "memory");
+    is_text(rt, closing.as_slice(), wanted);
+}
+
+fn is_text(rt: &impl Abort, text: &[u8], wanted: &str) {
+    assert_eq!(rt; text, wanted.as_bytes());
+}
+
+// The status is the one that is wanted. What is refused is told in the errors, and all else in the output.
+fn written(
+    rt: &impl Abort,
+    (given, status): (Status, Status),
+    (out, err): (&Vec<u8>, &Vec<u8>),
+    wanted: &str,
+) {
+    assert_eq!(rt; given, status, "{wanted}");
     let (told, other) = if status == Status::Refused {
         (err, out)
     } else {
@@ -156,10 +168,15 @@ fn canonical_texts_are_printed(rt: HostRuntime) {
     ] {
         prints(&rt, rt.alloc(), text, Status::Done, canonical);
         prints(&rt, rt.alloc(), canonical, Status::Done, canonical);
-        let line = format!(in rt.alloc(); "ok, {count} actions\n").expect(&rt, "memory");
-        checks(&rt, rt.alloc(), text, Status::Done, line.as_str());
+        has_actions(&rt, rt.alloc(), text, count);
     }
-    checks(&rt, rt.alloc(), SUMMING, Status::Done, "ok, 9 actions\n");
+    has_actions(&rt, rt.alloc(), SUMMING, 9);
+}
+
+// Asserts that `check` counts so many actions.
+fn has_actions(rt: &impl Abort, alloc: Global, text: &str, count: u32) {
+    let line = format!(in alloc; "ok, {count} actions\n").expect(rt, "memory");
+    checks(rt, alloc, text, Status::Done, line.as_str());
 }
 
 // The words of the command line are one parameter, which is 1 (C 1990, 5.1.2.2.1).

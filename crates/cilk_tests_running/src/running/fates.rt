@@ -1,7 +1,9 @@
 //! What became of each instance ever made.
 
 use super::script::{machine, play};
+use cilk_run::Machine;
 use cilk_spawn::Fate;
+use std::process::Abort;
 
 const PRINTING: &str =
     "int done; cilk int look(int v) { printf(\"%d\\n\", v); done = done + 1; return v; }
@@ -46,16 +48,29 @@ const ROWS: &[(&str, [Option<Fate>; 3])] = &[
     ),
 ];
 
+// Asserts the fates of these three paths, and that there are no others.
+fn tells(
+    rt: &impl Abort,
+    machine: &Machine,
+    [root, first, second]: [Option<Fate>; 3],
+    script: &str,
+) {
+    for (path, fate) in [
+        ([].as_slice(), root),
+        ([1].as_slice(), first),
+        ([2].as_slice(), second),
+        ([3].as_slice(), None),
+        ([1, 1].as_slice(), None),
+    ] {
+        assert_eq!(rt; machine.fate(path), fate, "{script}");
+    }
+}
+
 #[test]
 fn fates_are_told_by_paths(rt: HostRuntime) {
     let mut machine = machine(&rt, rt.alloc(), PRINTING, 2);
     for (script, fates) in ROWS {
         play(&rt, rt.alloc(), &mut machine, script);
-        let [root, first, second] = *fates;
-        assert_eq!(rt; machine.fate(&[]), root, "{script}");
-        assert_eq!(rt; machine.fate(&[1]), first, "{script}");
-        assert_eq!(rt; machine.fate(&[2]), second, "{script}");
-        assert_eq!(rt; machine.fate(&[3]), None, "{script}");
-        assert_eq!(rt; machine.fate(&[1, 1]), None, "{script}");
+        tells(&rt, &machine, *fates, script);
     }
 }

@@ -1,5 +1,8 @@
 //! A frame of a program that is known by hand.
 
+ghost use Rattle.std.specs.Prelude.{◌≡◌};
+ghost use Rattle.cilk_frame.specs.Frames.{depth};
+
 use super::program;
 use cilk_frame::{
     Await, Body, Frame, Id, a_call_stands, a_start_stands, a_write_stands, an_action_stands,
@@ -62,22 +65,34 @@ fn calls_and_returns(rt: HostRuntime) {
     let loaded = program(&rt, rt.alloc(), TEXT);
     let mut frame = start(&rt, rt.alloc(), &loaded);
     let awaits = Await { n: 2, index: 3 };
-    call(
-        &rt,
-        &mut frame,
-        body(&rt, &loaded, 1),
-        &[6, -7],
-        Some(awaits),
-    );
+    calls(&rt, &loaded, &mut frame, awaits);
+    returns(&rt, &mut frame, awaits);
+}
+
+fn calls(rt: &impl Abort, loaded: &Loaded, frame: &mut Frame, awaits: Await)
+    ensures { depth frame.new ≡ 3 }
+{
+    call(rt, frame, body(rt, loaded, 1), &[6, -7], Some(awaits));
     assert_eq!(rt; frame.awaits(), Some(awaits));
-    call(&rt, &mut frame, body(&rt, &loaded, 0), &[], None);
+    call(rt, frame, body(rt, loaded, 0), &[], None);
     assert_eq!(rt; frame.depth(), 3);
     assert_eq!(rt; frame.cells(1), [6, -7, 0, 0].as_slice());
     frame.jump(2);
+    has_three(rt, frame);
+}
+
+fn has_three(rt: &impl Abort, frame: &Frame)
+    ensures { depth frame.now ≡ 3 }
+{
     assert_eq!(rt; frame.depth(), 3);
     assert_eq!(rt; frame.node(0), 1);
     assert_eq!(rt; frame.node(1), 3);
     assert_eq!(rt; frame.node(2), 2);
+}
+
+fn returns(rt: &impl Abort, frame: &mut Frame, awaits: Await)
+    requires { depth frame.old ≡ 3 }
+{
     assert_eq!(rt; frame.leave(), None);
     assert_eq!(rt; frame.depth(), 2);
     assert_eq!(rt; frame.leave(), Some(awaits));

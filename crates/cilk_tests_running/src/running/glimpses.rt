@@ -48,35 +48,76 @@ fn a_value_that_changed_is_stale(rt: HostRuntime) {
     let locked = Locked::new(rt.alloc(), program, 2);
     let mut locked = locked.ok().expect(&rt, "a machine");
     make(&rt, &mut locked, &[(1, 0), (2, 1), (2, 0)]);
-    // A glimpse is what `peek` sees.
-    let peek = locked.machine().peek(1).ok().expect(&rt, "a step");
-    let peek = peek.expect(&rt, "an expression");
-    assert_eq!(rt; peek.n, 1);
-    assert_eq!(rt; peek.value(), Ok(0));
-    let seen = glimpse(&rt, &locked, 1);
-    make(&rt, &mut locked, &[(2, 0), (2, 0), (2, 0)]);
-    assert_eq!(rt; locked.commit(propose(seen)).err(), Some(Refusal::Stale));
-    assert_eq!(rt; locked.history().len(), 6);
-    let seen = glimpse(&rt, &locked, 1);
-    let acted = locked.commit(propose(seen)).ok().expect(&rt, "a choice");
-    let told = event_word(&rt, rt.alloc(), &acted);
-    assert_eq!(rt; told.as_str(), "a1/1");
-    shows_first(&rt, rt.alloc(), &locked, "inc line 5\n    t = 1\n");
+    // A glimpse is what `peek` sees: `g`, which is 0.
+    sees(&rt, &locked, 1, ([1].as_slice(), 1), (0, 0));
+    is_stale_behind(&rt, &mut locked, 1, &[(2, 0), (2, 0), (2, 0)]);
+    counts(&rt, &locked, 6);
+    is_seen_again(&rt, rt.alloc(), &mut locked);
     make(&rt, &mut locked, &[(1, 0)]);
-    assert_eq!(rt; locked.machine().global("g", 0), Some(2));
+    has(&rt, &locked, "g", 2);
 }
 
-// What worker 2 would evaluate: `done + 1` of the second child, where `done` is 1.
-fn sees_the_count(rt: &impl Abort, locked: &Locked) {
-    let peek = locked.machine().peek(2).ok().expect(rt, "a step");
+// What the worker sees is stale behind these choices.
+fn is_stale_behind(rt: &impl Abort, locked: &mut Locked, worker: u8, choices: &[(u8, u8)]) {
+    let seen = glimpse(rt, locked, worker);
+    make(rt, locked, choices);
+    is_refused(rt, locked.commit(propose(seen)).err());
+}
+
+fn is_refused(rt: &impl Abort, refusal: Option<Refusal>) {
+    assert_eq!(rt; refusal, Some(Refusal::Stale));
+}
+
+fn counts(rt: &impl Abort, locked: &Locked, choices: usize) {
+    assert_eq!(rt; locked.history().len(), choices);
+}
+
+fn has(rt: &impl Abort, locked: &Locked, name: &str, value: i32) {
+    assert_eq!(rt; locked.machine().global(name, 0), Some(value));
+}
+
+// Worker 1 looks again, and its step is made.
+fn is_seen_again(rt: &impl Abort, alloc: Global, locked: &mut Locked) {
+    let seen = glimpse(rt, locked, 1);
+    let acted = locked.commit(propose(seen)).ok().expect(rt, "a choice");
+    let told = event_word(rt, alloc, &acted);
+    assert_eq!(rt; told.as_str(), "a1/1");
+    shows_first(rt, alloc, locked, "inc line 5\n    t = 1\n");
+}
+
+// The worker would evaluate this action of this instance, whose one variable holds the one value, and come to the other.
+fn sees(
+    rt: &impl Abort,
+    locked: &Locked,
+    worker: u8,
+    (path, n): (&[u32], u32),
+    (held, value): (i32, i32),
+) {
+    let peek = locked.machine().peek(worker).ok().expect(rt, "a step");
     let peek = peek.expect(rt, "an expression");
-    assert_eq!(rt; peek.path.as_slice(), [2].as_slice());
-    assert_eq!(rt; peek.n, 2);
-    assert_eq!(rt; peek.values.len(), 1);
+    is_at(rt, (peek.path.as_slice(), peek.n), (path, n));
+    comes_to(rt, peek.value().ok(), value);
+    has_one(rt, peek.values.len());
     for known in &peek.values {
-        assert_eq!(rt; known.value, 1);
+        holds(rt, known.value, held);
     }
-    assert_eq!(rt; peek.value(), Ok(2));
+}
+
+fn is_at(rt: &impl Abort, (path, n): (&[u32], u32), wanted: (&[u32], u32)) {
+    assert_eq!(rt; path, wanted.0);
+    assert_eq!(rt; n, wanted.1);
+}
+
+fn comes_to(rt: &impl Abort, value: Option<i32>, wanted: i32) {
+    assert_eq!(rt; value, Some(wanted));
+}
+
+fn has_one(rt: &impl Abort, count: usize) {
+    assert_eq!(rt; count, 1);
+}
+
+fn holds(rt: &impl Abort, value: i32, wanted: i32) {
+    assert_eq!(rt; value, wanted);
 }
 
 #[test]
@@ -87,16 +128,21 @@ fn an_instance_that_was_aborted_is_stale(rt: HostRuntime) {
     let first = [(1, 0), (1, 0), (2, 1), (2, 0), (2, 0), (1, 0)];
     make(&rt, &mut locked, &first);
     make(&rt, &mut locked, &[(1, 0), (1, 0), (1, 2), (1, 0), (1, 0)]);
-    assert_eq!(rt; locked.machine().global("done", 0), Some(1));
-    sees_the_count(&rt, &locked);
-    let seen = glimpse(&rt, &locked, 2);
-    make(&rt, &mut locked, &[(1, 0)]);
-    assert_eq!(rt; locked.commit(propose(seen)).err(), Some(Refusal::Stale));
-    assert_eq!(rt; locked.history().len(), 12);
+    has(&rt, &locked, "done", 1);
+    // `done + 1`, where `done` is 1.
+    sees(&rt, &locked, 2, ([2].as_slice(), 2), (1, 2));
+    is_stale_behind(&rt, &mut locked, 2, &[(1, 0)]);
+    counts(&rt, &locked, 12);
+    ends(&rt, &mut locked);
+}
+
+// The next step of worker 2 ends its instance.
+fn ends(rt: &impl Abort, locked: &mut Locked) {
     let step = Choice {
         worker: 2,
         act: Act::Step,
     };
-    assert!(rt; matches!(locked.make(step), Ok(Event::Ended { .. })));
+    let ended = matches!(locked.make(step), Ok(Event::Ended { .. }));
+    assert!(rt; ended);
     assert_eq!(rt; locked.machine().fate(&[2]), Some(Fate::Aborted(13)));
 }

@@ -1,7 +1,7 @@
 //! Frames that go from hand to hand.
 
-ghost use Rattle.std.specs.Prelude.{◌≡◌, length};
-ghost use Rattle.cilk_run.specs.model.Hands.{IsWorker};
+ghost use Rattle.std.specs.Prelude.{◌≡◌, None, length};
+ghost use Rattle.cilk_run.specs.model.Hands.{IsWorker, hand_of, with_hand};
 
 use super::program;
 use cilk_frame::{Frame, Id};
@@ -33,54 +33,136 @@ fn spent(frame: Option<Frame>) -> Option<usize> {
     number
 }
 
-fn push(rt: &impl Abort, hands: &mut Hands, worker: u8, frame: Frame)
+// A frame of this number goes to the bottom of the worker's deque.
+fn push(
+    rt: &impl Abort,
+    alloc: Global,
+    loaded: &Loaded,
+    hands: &mut Hands,
+    worker: u8,
+    number: usize,
+)
     requires { IsWorker hands.old worker }
     ensures { length hands.new ≡ length hands.old }
 {
-    let back = hands.push_bottom(worker, frame).err();
-    assert_eq!(rt; spent(back), None);
+    let frame = frame(rt, alloc, loaded, number);
+    let back = spent(hands.push_bottom(worker, frame).err());
+    assert_eq!(rt; back, None);
+}
+
+// The frame in the worker's hand is taken, and has this number.
+fn takes(rt: &impl Abort, hands: &mut Hands, worker: u8, wanted: Option<usize>)
+    requires { IsWorker hands.old worker }
+    ensures { hands.new ≡ with_hand hands.old worker None }
+{
+    let taken = spent(hands.take(worker));
+    assert_eq!(rt; taken, wanted);
 }
 
 #[test]
 fn hands_hold_one(rt: HostRuntime) {
-    let loaded = program(&rt, rt.alloc(), TEXT);
     let mut hands = Hands::new(rt.alloc(), 2).expect(&rt, "memory");
-    assert_eq!(rt; spent(hands.take(1)), None);
-    hands.give(1, frame(&rt, rt.alloc(), &loaded, 7));
+    takes(&rt, &mut hands, 1, None);
+    gives_one(&rt, rt.alloc(), &mut hands);
+    takes(&rt, &mut hands, 1, Some(7));
+    assert_eq!(rt; number(hands.hand(1)), None);
+}
+
+// Worker 1 has a frame in its hand then, and nothing else is anywhere.
+fn gives_one(rt: &impl Abort, alloc: Global, hands: &mut Hands)
+    requires two { length hands.old ≡ 2 }
+    requires empty { hand_of hands.old 1 ≡ None }
+    ensures { length hands.new ≡ 2 }
+{
+    let loaded = program(rt, alloc, TEXT);
+    hands.give(1, frame(rt, alloc, &loaded, 7));
+    has_one(rt, hands);
+}
+
+fn has_one(rt: &impl Abort, hands: &Hands)
+    requires { length hands.now ≡ 2 }
+{
     assert_eq!(rt; number(hands.hand(1)), Some(7));
     assert_eq!(rt; number(hands.hand(2)), None);
     assert_eq!(rt; hands.len(1), 0);
-    assert_eq!(rt; spent(hands.take(1)), Some(7));
-    assert_eq!(rt; number(hands.hand(1)), None);
 }
 
 #[test]
 fn deques_have_two_ends(rt: HostRuntime) {
-    let loaded = program(&rt, rt.alloc(), TEXT);
     let mut hands = Hands::new(rt.alloc(), 3).expect(&rt, "memory");
-    push(&rt, &mut hands, 2, frame(&rt, rt.alloc(), &loaded, 4));
-    push(&rt, &mut hands, 2, frame(&rt, rt.alloc(), &loaded, 5));
-    push(&rt, &mut hands, 2, frame(&rt, rt.alloc(), &loaded, 6));
+    fill(&rt, rt.alloc(), &mut hands);
+    stand_in_order(&rt, &hands);
+    leave_by_both_ends(&rt, &mut hands);
+}
+
+// Frames 4, 5 and 6 stand in the deque of worker 2 then.
+fn fill(rt: &impl Abort, alloc: Global, hands: &mut Hands)
+    requires { length hands.old ≡ 3 }
+    ensures { length hands.new ≡ 3 }
+{
+    let loaded = program(rt, alloc, TEXT);
+    push(rt, alloc, &loaded, hands, 2, 4);
+    push(rt, alloc, &loaded, hands, 2, 5);
+    push(rt, alloc, &loaded, hands, 2, 6);
+}
+
+fn stand_in_order(rt: &impl Abort, hands: &Hands)
+    requires { length hands.now ≡ 3 }
+{
     assert_eq!(rt; hands.len(1), 0);
     assert_eq!(rt; hands.len(2), 3);
     assert_eq!(rt; hands.len(3), 0);
     for (i, wanted) in [(0, Some(4)), (1, Some(5)), (2, Some(6)), (3, None)] {
         assert_eq!(rt; number(hands.queued(2, i)), wanted, "{i}");
     }
-    assert_eq!(rt; spent(hands.steal_top(2)), Some(4));
-    assert_eq!(rt; spent(hands.pop_bottom(2)), Some(6));
-    assert_eq!(rt; spent(hands.pop_bottom(2)), Some(5));
-    assert_eq!(rt; spent(hands.pop_bottom(2)), None);
-    assert_eq!(rt; spent(hands.steal_top(2)), None);
+}
+
+fn leave_by_both_ends(rt: &impl Abort, hands: &mut Hands)
+    requires { length hands.old ≡ 3 }
+{
+    steals(rt, hands, Some(4));
+    pops(rt, hands, Some(6));
+    pops(rt, hands, Some(5));
+    pops(rt, hands, None);
+    steals(rt, hands, None);
     assert_eq!(rt; number(hands.hand(2)), None);
+}
+
+fn steals(rt: &impl Abort, hands: &mut Hands, wanted: Option<usize>)
+    requires { length hands.old ≡ 3 }
+    ensures { length hands.new ≡ 3 }
+{
+    let stolen = spent(hands.steal_top(2));
+    assert_eq!(rt; stolen, wanted);
+}
+
+fn pops(rt: &impl Abort, hands: &mut Hands, wanted: Option<usize>)
+    requires { length hands.old ≡ 3 }
+    ensures { length hands.new ≡ 3 }
+{
+    let popped = spent(hands.pop_bottom(2));
+    assert_eq!(rt; popped, wanted);
 }
 
 #[test]
 fn there_are_as_many_as_asked_for(rt: HostRuntime) {
-    let loaded = program(&rt, rt.alloc(), TEXT);
-    let _nobody = Hands::new(rt.alloc(), 0).expect(&rt, "memory");
+    drop(Hands::new(rt.alloc(), 0).expect(&rt, "memory"));
     let mut hands = Hands::new(rt.alloc(), 255).expect(&rt, "memory");
-    hands.give(255, frame(&rt, rt.alloc(), &loaded, 1));
+    gives_the_last(&rt, rt.alloc(), &mut hands);
+}
+
+fn gives_the_last(rt: &impl Abort, alloc: Global, hands: &mut Hands)
+    requires last { length hands.old ≡ 255 }
+    requires empty { hand_of hands.old 255 ≡ None }
+{
+    let loaded = program(rt, alloc, TEXT);
+    hands.give(255, frame(rt, alloc, &loaded, 1));
+    has_the_last(rt, hands);
+}
+
+fn has_the_last(rt: &impl Abort, hands: &Hands)
+    requires { length hands.now ≡ 255 }
+{
     assert_eq!(rt; number(hands.hand(255)), Some(1));
     assert_eq!(rt; number(hands.hand(254)), None);
 }

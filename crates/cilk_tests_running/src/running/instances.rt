@@ -1,10 +1,11 @@
 //! Trees of a few instances.
 
-ghost use Rattle.std.specs.Prelude.{◌≡◌, ◌<◌, length, true};
+ghost use Rattle.std.specs.Prelude.{◌≡◌, ◌<◌, None, length, true};
 ghost use Rattle.cilk_spawn.specs.Nodes.{node_at, is_live};
 
 use super::program;
 use cilk_frame::{Area, BinOp, Slot};
+use cilk_run::Loaded;
 use cilk_spawn::{
     Arguments, Delivery, Ending, Fate, Frame, Id, Path, Receiver, Tree, a_return_ends_and_sends,
     ids_change, paths_are_names, paths_stay, trees_stay_trees,
@@ -127,10 +128,19 @@ fn marked(rt: &impl Abort, alloc: Global, tree: &Tree, paths: &[&[u32]]) -> Stri
 #[test]
 fn children_have_paths(rt: HostRuntime) {
     let mut tree = family(&rt, rt.alloc(), 0);
+    bear_three(&rt, &mut tree);
+    are_found(&rt, &tree);
+    are_named(&rt, &tree);
+}
+
+fn bear_three(rt: &impl Abort, tree: &mut Tree) {
     assert_eq!(rt; tree.next_id(), Id::new(1));
-    spawn(&rt, &mut tree, &[], Receiver::Nothing);
-    spawn(&rt, &mut tree, &[], adds(5));
-    spawn(&rt, &mut tree, &[2], Receiver::Nothing);
+    spawn(rt, tree, &[], Receiver::Nothing);
+    spawn(rt, tree, &[], adds(5));
+    spawn(rt, tree, &[2], Receiver::Nothing);
+}
+
+fn are_found(rt: &impl Abort, tree: &Tree) {
     for (path, id) in [
         ([].as_slice(), Some(0)),
         ([1].as_slice(), Some(1)),
@@ -142,10 +152,17 @@ fn children_have_paths(rt: HostRuntime) {
     ] {
         assert_eq!(rt; tree.find(path).map(|id| id.number()), id, "{path:?}");
     }
+}
+
+fn are_named(rt: &impl Abort, tree: &Tree) {
     for path in [[].as_slice(), [2].as_slice(), [2, 1].as_slice()] {
-        let named = tree.path_of(at(&rt, &tree, path)).expect(&rt, "memory");
-        assert_eq!(rt; named.as_slice(), path);
+        let named = tree.path_of(at(rt, tree, path)).expect(rt, "memory");
+        is_path(rt, named.as_slice(), path);
     }
+}
+
+fn is_path(rt: &impl Abort, path: &[u32], wanted: &[u32]) {
+    assert_eq!(rt; path, wanted);
 }
 
 #[test]
@@ -153,39 +170,59 @@ fn readers_tell_what_was_put_in(rt: HostRuntime) {
     let mut tree = family(&rt, rt.alloc(), 1);
     spawn(&rt, &mut tree, &[], adds(5));
     spawn(&rt, &mut tree, &[2], calls(&rt, rt.alloc(), 6));
-    for (path, parent, procedure, children, receiver) in [
-        ([].as_slice(), None, 4, 2, "nothing"),
-        ([1].as_slice(), Some(Id::new(0)), 5, 0, "nothing"),
-        (
-            [2].as_slice(),
-            Some(Id::new(0)),
-            5,
-            1,
-            "Some(Add) at 2, 0 by 5",
-        ),
-        (
-            [2, 1].as_slice(),
-            Some(Id::new(2)),
-            5,
-            0,
-            "inlet with [7, -8] by 6",
-        ),
+    are_related(&rt, &tree);
+    take_values(&rt, rt.alloc(), &tree);
+}
+
+// Of each path its parent, its procedure and its children.
+fn are_related(rt: &impl Abort, tree: &Tree) {
+    for (path, parent, procedure, children) in [
+        ([].as_slice(), None, 4, 2),
+        ([1].as_slice(), Some(Id::new(0)), 5, 0),
+        ([2].as_slice(), Some(Id::new(0)), 5, 1),
+        ([2, 1].as_slice(), Some(Id::new(2)), 5, 0),
     ] {
-        let id = at(&rt, &tree, path);
+        let id = at(rt, tree, path);
         assert_eq!(rt; tree.parent(id), parent, "{path:?}");
         assert_eq!(rt; tree.procedure(id), procedure, "{path:?}");
         assert_eq!(rt; tree.children(id), children, "{path:?}");
-        let word = receiver_word(&rt, rt.alloc(), tree.receiver(id));
-        assert_eq!(rt; word.as_str(), receiver, "{path:?}");
     }
+}
+
+fn take_values(rt: &impl Abort, alloc: Global, tree: &Tree) {
+    for (path, receiver) in [
+        ([].as_slice(), "nothing"),
+        ([1].as_slice(), "nothing"),
+        ([2].as_slice(), "Some(Add) at 2, 0 by 5"),
+        ([2, 1].as_slice(), "inlet with [7, -8] by 6"),
+    ] {
+        let id = at(rt, tree, path);
+        let word = receiver_word(rt, alloc, tree.receiver(id));
+        is_word(rt, word.as_str(), receiver);
+    }
+}
+
+fn is_word(rt: &impl Abort, word: &str, wanted: &str) {
+    assert_eq!(rt; word, wanted);
 }
 
 #[test]
 fn those_that_ended_are_found_too(rt: HostRuntime) {
     let mut tree = family(&rt, rt.alloc(), 2);
-    assert_eq!(rt; tree.live(), 3);
+    live(&rt, &tree, 3);
     end(&rt, &mut tree, &[1], Ending::Returned, 4);
-    assert_eq!(rt; tree.live(), 2);
+    live(&rt, &tree, 2);
+    are_numbered(&rt, &tree);
+    end_both(&rt, &mut tree);
+    spawn(&rt, &mut tree, &[], Receiver::Nothing);
+    have_fates(&rt, &tree);
+}
+
+fn live(rt: &impl Abort, tree: &Tree, count: usize) {
+    assert_eq!(rt; tree.live(), count);
+}
+
+fn are_numbered(rt: &impl Abort, tree: &Tree) {
     for (i, id) in [
         (0, Some(Id::new(0))),
         (1, Some(Id::new(1))),
@@ -195,20 +232,29 @@ fn those_that_ended_are_found_too(rt: HostRuntime) {
         assert_eq!(rt; tree.nth(i), id, "{i}");
     }
     assert_eq!(rt; tree.find(&[1]), Some(Id::new(1)));
-    assert!(rt; tree.has_live_child(at(&rt, &tree, &[])));
-    end(&rt, &mut tree, &[2], Ending::Aborted, 5);
-    assert!(rt; !tree.has_live_child(at(&rt, &tree, &[])));
-    spawn(&rt, &mut tree, &[], Receiver::Nothing);
+}
+
+fn end_both(rt: &impl Abort, tree: &mut Tree) {
+    assert!(rt; tree.has_live_child(at(rt, tree, &[])));
+    end(rt, tree, &[2], Ending::Aborted, 5);
+    assert!(rt; !tree.has_live_child(at(rt, tree, &[])));
+}
+
+fn have_fates(rt: &impl Abort, tree: &Tree) {
     for (path, fate) in [
         ([].as_slice(), Fate::Live),
         ([1].as_slice(), Fate::Returned),
         ([2].as_slice(), Fate::Aborted(5)),
         ([3].as_slice(), Fate::Live),
     ] {
-        let id = tree.find(path).expect(&rt, "an instance");
-        assert_eq!(rt; tree.fate(id), fate, "{path:?}");
+        has_fate(rt, tree, path, fate);
     }
     assert_eq!(rt; tree.find(&[4]), None);
+}
+
+fn has_fate(rt: &impl Abort, tree: &Tree, path: &[u32], fate: Fate) {
+    let id = tree.find(path).expect(rt, "an instance");
+    assert_eq!(rt; tree.fate(id), fate, "{path:?}");
 }
 
 #[test]
@@ -241,49 +287,96 @@ fn the_oldest_delivery_comes_first(rt: HostRuntime) {
     let mut tree = family(&rt, rt.alloc(), 0);
     spawn(&rt, &mut tree, &[], adds(3));
     spawn(&rt, &mut tree, &[], calls(&rt, rt.alloc(), 4));
-    assert!(rt; tree.first_delivery(at(&rt, &tree, &[])).is_none());
-    give(&rt, &mut tree, &[2], -7);
-    give(&rt, &mut tree, &[1], 9);
-    let root = at(&rt, &tree, &[]);
-    assert_eq!(rt; tree.waiting(root), 2);
-    assert!(rt; !tree.is_synched(root));
+    give_two(&rt, &mut tree);
     for wanted in [
         "-7 of 2: inlet with [7, -8] by 4",
         "9 of 1: Some(Add) at 2, 0 by 3",
         "none",
     ] {
-        let root = at(&rt, &tree, &[]);
-        let first = delivery_word(&rt, rt.alloc(), tree.first_delivery(root));
-        assert_eq!(rt; first.as_str(), wanted);
-        let taken = tree.take_delivery(root, 8);
-        let word = delivery_word(&rt, rt.alloc(), taken.as_ref());
-        assert_eq!(rt; word.as_str(), wanted);
+        takes(&rt, rt.alloc(), &mut tree, wanted);
     }
-    assert!(rt; tree.is_synched(at(&rt, &tree, &[])));
+    are_delivered(&rt, &tree);
+}
+
+// The second child gives its value before the first.
+fn give_two(rt: &impl Abort, tree: &mut Tree) {
+    assert!(rt; tree.first_delivery(at(rt, tree, &[])).is_none());
+    give(rt, tree, &[2], -7);
+    give(rt, tree, &[1], 9);
+    let root = at(rt, tree, &[]);
+    assert_eq!(rt; tree.waiting(root), 2);
+    assert!(rt; !tree.is_synched(root));
+}
+
+// The root's oldest delivery is this one, and it is taken.
+fn takes(rt: &impl Abort, alloc: Global, tree: &mut Tree, wanted: &str) {
+    let root = at(rt, tree, &[]);
+    is_delivery(rt, alloc, tree.first_delivery(root), wanted);
+    let taken = tree.take_delivery(root, 8);
+    is_delivery(rt, alloc, taken.as_ref(), wanted);
+}
+
+fn is_delivery(rt: &impl Abort, alloc: Global, delivery: Option<&Delivery>, wanted: &str) {
+    let word = delivery_word(rt, alloc, delivery);
+    assert_eq!(rt; word.as_str(), wanted);
+}
+
+fn are_delivered(rt: &impl Abort, tree: &Tree) {
+    assert!(rt; tree.is_synched(at(rt, tree, &[])));
     for path in [[1].as_slice(), [2].as_slice()] {
-        let child = tree.find(path).expect(&rt, "an instance");
-        assert_eq!(rt; tree.fate(child), Fate::Delivered(8), "{path:?}");
+        has_fate(rt, tree, path, Fate::Delivered(8));
     }
 }
 
 #[test]
 fn frames_are_parked(rt: HostRuntime) {
-    let loaded = program(&rt, rt.alloc(), "cilk int main(void) { int a; return a; }");
-    let main = loaded.body(0).expect(&rt, "a body");
-    assert_eq!(rt; main.params, 0);
-    let frame = Frame::start(rt.alloc(), Id::new(0), main, &[]).expect(&rt, "memory");
     let mut tree = Tree::new(rt.alloc(), 0).expect(&rt, "memory");
-    tree.park(frame);
-    assert!(rt; tree.parked(at(&rt, &tree, &[])).is_some());
-    spawn(&rt, &mut tree, &[], Receiver::Nothing);
-    let child = at(&rt, &tree, &[1]);
+    park_root(&rt, rt.alloc(), &mut tree);
+    child_has_none(&rt, &mut tree);
+    unpark_root(&rt, &mut tree);
+}
+
+fn park_root(rt: &impl Abort, alloc: Global, tree: &mut Tree)
+    requires live { is_live (node_at tree.old.nodes 0) ≡ true }
+    requires free { (node_at tree.old.nodes 0).parked ≡ None }
+{
+    let loaded = program(rt, alloc, "cilk int main(void) { int a; return a; }");
+    tree.park(frame_of(rt, alloc, &loaded));
+    is_parked(rt, tree);
+}
+
+fn frame_of(rt: &impl Abort, alloc: Global, loaded: &Loaded) -> Frame
+    ensures { result.id ≡ 0 }
+{
+    let main = loaded.body(0).expect(rt, "a body");
+    assert_eq!(rt; main.params, 0);
+    Frame::start(alloc, Id::new(0), main, &[]).expect(rt, "memory")
+}
+
+fn is_parked(rt: &impl Abort, tree: &Tree) {
+    assert!(rt; tree.parked(at(rt, tree, &[])).is_some());
+}
+
+// A child of the root has no frame, and none can be taken.
+fn child_has_none(rt: &impl Abort, tree: &mut Tree) {
+    spawn(rt, tree, &[], Receiver::Nothing);
+    let child = at(rt, tree, &[1]);
     assert!(rt; tree.parked(child).is_none());
-    assert!(rt; tree.unpark(child).is_none());
-    let root = at(&rt, &tree, &[]);
-    let back = tree.unpark(root).expect(&rt, "a frame");
-    assert_eq!(rt; back.id(), Id::new(0));
+    let frame = tree.unpark(child);
+    is_no_frame(rt, frame.as_ref());
+}
+
+fn is_no_frame(rt: &impl Abort, frame: Option<&Frame>) {
+    assert!(rt; frame.is_none());
+}
+
+fn unpark_root(rt: &impl Abort, tree: &mut Tree) {
+    let root = at(rt, tree, &[]);
+    let back = tree.unpark(root).expect(rt, "a frame");
+    let id = back.id();
     back.finish();
-    assert!(rt; tree.parked(at(&rt, &tree, &[])).is_none());
+    assert_eq!(rt; id, Id::new(0));
+    assert!(rt; tree.parked(at(rt, tree, &[])).is_none());
 }
 
 #[test]

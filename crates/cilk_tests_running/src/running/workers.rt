@@ -1,7 +1,7 @@
 //! Runs by several workers, each a thread, with gates that hold some of them back.
 
 use super::program;
-use cilk_run::{Act, Choice, End, Event, Gate, Locked, Open, Refusal, RunFault, run};
+use cilk_run::{Act, Choice, End, Event, Gate, Locked, Open, Refusal, Run, RunFault, run};
 use std::process::Abort;
 use std::sync::atomic::{AtomicU64, Ordering};
 use std::test::*;
@@ -148,9 +148,14 @@ fn two_workers_take_turns(rt: HostRuntime) {
             step(1),
             step(1),
         ];
-        assert_eq!(rt; run.log.choices.as_slice(), wanted.as_slice());
-        assert_eq!(rt; run.turns.as_slice(), [5, 2].as_slice());
+        has_made(&rt, &run, &wanted, &[5, 2]);
     }
+}
+
+// These are the choices, and each worker made so many.
+fn has_made(rt: &impl Abort, run: &Run, choices: &[Choice], turns: &[u64]) {
+    assert_eq!(rt; run.log.choices.as_slice(), choices);
+    assert_eq!(rt; run.turns.as_slice(), turns);
 }
 
 // One thread waits for turns to which only another could come.
@@ -180,8 +185,7 @@ fn a_worker_that_is_held_makes_no_choice(rt: HostRuntime) {
         let run = run(&rt, rt.alloc(), program, 2, 1000, &gate).expect(&rt, "a run");
         gate.held(&rt, turn(2, 1));
         let wanted = [step(1), step(1), step(1), pop(1), step(1), step(1)];
-        assert_eq!(rt; run.log.choices.as_slice(), wanted.as_slice());
-        assert_eq!(rt; run.turns.as_slice(), [6, 0].as_slice());
+        has_made(&rt, &run, &wanted, &[6, 0]);
     }
 }
 
@@ -206,9 +210,13 @@ fn the_next_worker_in_the_circle_is_robbed_first(rt: HostRuntime) {
         let program = program(&rt, rt.alloc(), STEALING);
         let run = run(&rt, rt.alloc(), program, 3, 1000, &gate).expect(&rt, "a run");
         gate.held(&rt, turn(3, 1) | turn(1, 3) | turn(2, 3));
-        let first = run.log.choices.as_slice().iter().find(|it| it.worker == 3);
-        assert_eq!(rt; first.copied(), Some(steal(3, 1)));
+        robs_first(&rt, &run);
     }
+}
+
+fn robs_first(rt: &impl Abort, run: &Run) {
+    let first = run.log.choices.as_slice().iter().find(|it| it.worker == 3);
+    assert_eq!(rt; first.copied(), Some(steal(3, 1)));
 }
 
 #[test]
@@ -216,15 +224,29 @@ fn a_step_that_waits_is_no_entry(rt: HostRuntime) {
     let program = program(&rt, rt.alloc(), LOCKING);
     let locked = Locked::new(rt.alloc(), program, 2);
     let mut locked = locked.ok().expect(&rt, "a machine");
-    for choice in [step(1), step(1), steal(2, 1), step(2), step(1)] {
-        assert!(rt; locked.make(choice).is_ok());
+    let before = [step(1), step(1), steal(2, 1), step(2), step(1)];
+    make(&rt, &mut locked, &before);
+    waits(&rt, &mut locked);
+    make(&rt, &mut locked, &[step(1), step(1)]);
+    goes_on(&rt, &mut locked);
+}
+
+fn make(rt: &impl Abort, locked: &mut Locked, choices: &[Choice]) {
+    for &choice in choices {
+        let made = locked.make(choice).is_ok();
+        assert!(rt; made);
     }
-    assert_eq!(rt; locked.make(step(2)).err(), Some(Refusal::Waiting));
+}
+
+fn waits(rt: &impl Abort, locked: &mut Locked) {
+    let refused = locked.make(step(2)).err();
+    assert_eq!(rt; refused, Some(Refusal::Waiting));
     assert_eq!(rt; locked.history().len(), 5);
-    for choice in [step(1), step(1)] {
-        assert!(rt; locked.make(choice).is_ok());
-    }
-    assert!(rt; matches!(locked.make(step(2)), Ok(Event::Acted { n: 1, .. })));
+}
+
+fn goes_on(rt: &impl Abort, locked: &mut Locked) {
+    let acted = matches!(locked.make(step(2)), Ok(Event::Acted { n: 1, .. }));
+    assert!(rt; acted);
     assert_eq!(rt; locked.history().len(), 8);
     assert_eq!(rt; locked.machine().choices(), 8);
 }
@@ -234,10 +256,14 @@ fn a_run_ends_at_its_limit(rt: HostRuntime) {
     for workers in [1, 2, 5, 64] {
         let program = program(&rt, rt.alloc(), LOOPING);
         let run = run(&rt, rt.alloc(), program, workers, 1000, &Open).expect(&rt, "a run");
-        assert!(rt; matches!(run.end, End::Limit));
-        assert_eq!(rt; run.log.choices.len(), 1000);
-        assert_eq!(rt; run.log.choices.get(999), Some(step(1)));
+        has_come_to_its_limit(&rt, &run);
     }
+}
+
+fn has_come_to_its_limit(rt: &impl Abort, run: &Run) {
+    assert!(rt; matches!(run.end, End::Limit));
+    assert_eq!(rt; run.log.choices.len(), 1000);
+    assert_eq!(rt; run.log.choices.get(999), Some(step(1)));
 }
 
 #[test]
