@@ -24,3 +24,11 @@ use std::process::Abort;
 fn program(rt: &impl Abort, alloc: Global, text: &str) -> Loaded {
     ready_of(alloc, text.as_bytes()).expect(rt, "a program")
 }
+
+fn is_text(rt: &impl Abort, text: &[u8], wanted: &str) {
+    assert_eq!(rt; text, wanted.as_bytes());
+}
+
+fn is_word(rt: &impl Abort, word: &str, wanted: &str) {
+    assert_eq!(rt; word, wanted);
+}

@@ -1,7 +1,7 @@
 //! Texts of programs that one worker runs: how many actions they have, their canonical texts, and
 //! how they end.
 
-use super::program;
+use super::{is_text, program};
 use cilk_commands::{Status, check_text, print_text};
 use cilk_run::{Open, Run, ending, run};
 use std::alloc::Global;
@@ -43,10 +43,6 @@ fn closes(rt: &impl Abort, alloc: Global, run: &Run, wanted: &str) {
     let choices = run.log.choices.len() as u64;
     let closing = ending(alloc, run.output.as_slice(), &run.end, choices).expect(rt, "memory");
     is_text(rt, closing.as_slice(), wanted);
-}
-
-fn is_text(rt: &impl Abort, text: &[u8], wanted: &str) {
-    assert_eq!(rt; text, wanted.as_bytes());
 }
 
 // The status is the one that is wanted. What is refused is told in the errors, and all else in the output.

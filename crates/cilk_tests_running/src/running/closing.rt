@@ -1,5 +1,6 @@
 //! Closing texts.
 
+use super::is_text;
 use cilk_run::{End, ending};
 use cilk_spawn::{Path, Trap, TrapKind};
 use std::alloc::Global;
@@ -8,7 +9,7 @@ use std::process::Abort;
 // Asserts the closing text.
 fn ends(rt: &impl Abort, alloc: Global, output: &str, end: &End, choices: u64, wanted: &str) {
     let text = ending(alloc, output.as_bytes(), end, choices).expect(rt, "memory");
-    assert_eq!(rt; text.as_slice(), wanted.as_bytes());
+    is_text(rt, text.as_slice(), wanted);
 }
 
 #[test]

@@ -43,21 +43,35 @@ fn call(
 fn goes_on_and_ends(rt: HostRuntime) {
     let loaded = program(&rt, rt.alloc(), TEXT);
     let mut frame = start(&rt, rt.alloc(), &loaded);
+    is_new(&rt, &frame);
+    goes_on(&rt, &mut frame);
+    frame.finish();
+}
+
+fn is_new(rt: &impl Abort, frame: &Frame) {
     assert_eq!(rt; frame.id(), Id::new(7));
     assert_eq!(rt; frame.id().number(), 7);
-    assert_eq!(rt; frame.depth(), 1);
-    assert_eq!(rt; frame.node(0), 1);
-    assert_eq!(rt; frame.cells(0), [0].as_slice());
     assert_eq!(rt; frame.awaits(), None);
+}
+
+fn goes_on(rt: &impl Abort, frame: &mut Frame) {
+    stands(rt, frame, 1, 0);
     assert!(rt; !frame.at_boundary());
+    assert_eq!(rt; frame.cells(0).len(), 1);
     frame.set_cell(0, 0, -5);
     frame.jump(2);
     frame.set_boundary(true);
-    assert_eq!(rt; frame.depth(), 1);
-    assert_eq!(rt; frame.node(0), 2);
-    assert_eq!(rt; frame.cells(0), [-5].as_slice());
+    stands(rt, frame, 2, -5);
     assert!(rt; frame.at_boundary());
-    frame.finish();
+}
+
+// Its one activation goes on with this action, and has one cell.
+fn stands(rt: &impl Abort, frame: &Frame, node: u32, cell: i32)
+    ensures { depth frame.now ≡ 1 }
+{
+    assert_eq!(rt; frame.depth(), 1);
+    assert_eq!(rt; frame.node(0), node);
+    assert_eq!(rt; frame.cells(0), [cell].as_slice());
 }
 
 #[test]

@@ -1,7 +1,7 @@
 //! Steps whose expressions are evaluated without the lock.
 
-use super::program;
 use super::script::event_word;
+use super::{is_word, program};
 use cilk_run::{Act, Choice, Event, Glimpse, Locked, Refusal, propose};
 use cilk_spawn::{Fate, Path};
 use cilk_view::What;
@@ -33,8 +33,13 @@ fn make(rt: &impl Abort, locked: &mut Locked, choices: &[(u8, u8)]) {
 // What the activations of the first child of `main` hold.
 fn shows_first(rt: &impl Abort, alloc: Global, locked: &Locked, wanted: &str) {
     let path = Path::new(vec![in alloc; 1].expect(rt, "memory"));
-    let text = locked.machine().text(&What::Frame(path)).expect(rt, wanted);
-    assert_eq!(rt; text.as_str(), wanted);
+    let what = What::Frame(path);
+    shows(rt, locked, &what, wanted);
+}
+
+fn shows(rt: &impl Abort, locked: &Locked, what: &What, wanted: &str) {
+    let text = locked.machine().text(what).expect(rt, wanted);
+    is_word(rt, text.as_str(), wanted);
 }
 
 fn glimpse(rt: &impl Abort, locked: &Locked, worker: u8) -> Glimpse {
@@ -81,7 +86,7 @@ fn is_seen_again(rt: &impl Abort, alloc: Global, locked: &mut Locked) {
     let seen = glimpse(rt, locked, 1);
     let acted = locked.commit(propose(seen)).ok().expect(rt, "a choice");
     let told = event_word(rt, alloc, &acted);
-    assert_eq!(rt; told.as_str(), "a1/1");
+    is_word(rt, told.as_str(), "a1/1");
     shows_first(rt, alloc, locked, "inc line 5\n    t = 1\n");
 }
 

@@ -3,7 +3,7 @@
 ghost use Rattle.std.specs.Prelude.{◌≡◌, ◌<◌, None, length, true};
 ghost use Rattle.cilk_spawn.specs.Nodes.{node_at, is_live};
 
-use super::program;
+use super::{is_word, program};
 use cilk_frame::{Area, BinOp, Slot};
 use cilk_run::Loaded;
 use cilk_spawn::{
@@ -202,10 +202,6 @@ fn take_values(rt: &impl Abort, alloc: Global, tree: &Tree) {
     }
 }
 
-fn is_word(rt: &impl Abort, word: &str, wanted: &str) {
-    assert_eq!(rt; word, wanted);
-}
-
 #[test]
 fn those_that_ended_are_found_too(rt: HostRuntime) {
     let mut tree = family(&rt, rt.alloc(), 2);
@@ -223,14 +219,10 @@ fn live(rt: &impl Abort, tree: &Tree, count: usize) {
 }
 
 fn are_numbered(rt: &impl Abort, tree: &Tree) {
-    for (i, id) in [
-        (0, Some(Id::new(0))),
-        (1, Some(Id::new(1))),
-        (2, Some(Id::new(2))),
-        (3, None),
-    ] {
-        assert_eq!(rt; tree.nth(i), id, "{i}");
+    for i in 0..3 {
+        assert_eq!(rt; tree.nth(i), Some(Id::new(i)), "{i}");
     }
+    assert_eq!(rt; tree.nth(3), None);
     assert_eq!(rt; tree.find(&[1]), Some(Id::new(1)));
 }
 
@@ -269,17 +261,28 @@ fn an_abort_marks_those_below(rt: HostRuntime) {
         [1, 1].as_slice(),
         [1, 1, 1].as_slice(),
     ];
-    let first = at(&rt, &tree, &[1]);
-    tree.mark_aborted(first);
-    let words = marked(&rt, rt.alloc(), &tree, &paths);
-    assert_eq!(rt; words.as_str(), "[1, 1][1, 1, 1]");
+    mark(&rt, &mut tree, &[1]);
+    are_marked(&rt, rt.alloc(), &tree, &paths, "[1, 1][1, 1, 1]");
     end(&rt, &mut tree, &[1, 1, 1], Ending::Aborted, 7);
     spawn(&rt, &mut tree, &[1, 1], Receiver::Nothing);
-    assert!(rt; tree.is_aborted(at(&rt, &tree, &[1, 1, 2])));
-    let root = at(&rt, &tree, &[]);
-    tree.mark_aborted(root);
-    let words = marked(&rt, rt.alloc(), &tree, &paths[..4]);
-    assert_eq!(rt; words.as_str(), "[1][2][1, 1]");
+    is_marked(&rt, &tree, &[1, 1, 2]);
+    mark(&rt, &mut tree, &[]);
+    are_marked(&rt, rt.alloc(), &tree, &paths[..4], "[1][2][1, 1]");
+}
+
+fn mark(rt: &impl Abort, tree: &mut Tree, path: &[u32]) {
+    let id = at(rt, tree, path);
+    tree.mark_aborted(id);
+}
+
+fn is_marked(rt: &impl Abort, tree: &Tree, path: &[u32]) {
+    assert!(rt; tree.is_aborted(at(rt, tree, path)));
+}
+
+// Of these paths those and no others are marked.
+fn are_marked(rt: &impl Abort, alloc: Global, tree: &Tree, paths: &[&[u32]], wanted: &str) {
+    let words = marked(rt, alloc, tree, paths);
+    is_word(rt, words.as_str(), wanted);
 }
 
 #[test]
@@ -318,14 +321,13 @@ fn takes(rt: &impl Abort, alloc: Global, tree: &mut Tree, wanted: &str) {
 
 fn is_delivery(rt: &impl Abort, alloc: Global, delivery: Option<&Delivery>, wanted: &str) {
     let word = delivery_word(rt, alloc, delivery);
-    assert_eq!(rt; word.as_str(), wanted);
+    is_word(rt, word.as_str(), wanted);
 }
 
 fn are_delivered(rt: &impl Abort, tree: &Tree) {
     assert!(rt; tree.is_synched(at(rt, tree, &[])));
-    for path in [[1].as_slice(), [2].as_slice()] {
-        has_fate(rt, tree, path, Fate::Delivered(8));
-    }
+    has_fate(rt, tree, &[1], Fate::Delivered(8));
+    has_fate(rt, tree, &[2], Fate::Delivered(8));
 }
 
 #[test]
@@ -362,12 +364,8 @@ fn child_has_none(rt: &impl Abort, tree: &mut Tree) {
     spawn(rt, tree, &[], Receiver::Nothing);
     let child = at(rt, tree, &[1]);
     assert!(rt; tree.parked(child).is_none());
-    let frame = tree.unpark(child);
-    is_no_frame(rt, frame.as_ref());
-}
-
-fn is_no_frame(rt: &impl Abort, frame: Option<&Frame>) {
-    assert!(rt; frame.is_none());
+    let none = tree.unpark(child).is_none();
+    assert!(rt; none);
 }
 
 fn unpark_root(rt: &impl Abort, tree: &mut Tree) {

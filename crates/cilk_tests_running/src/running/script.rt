@@ -3,7 +3,7 @@
 //! number of the action and the path of the instance: `a2/1` acted, `s4/1` spawned, `d4/1` delivered,
 //! `r3/1` returned, `e/1` ended, `t4/!Overflow` trapped, `m` moved. A refusal is told by its name.
 
-use super::program;
+use super::{is_text, program};
 use cilk_run::{Act, Choice, Event, Machine, Outcome, ending};
 use cilk_spawn::{Path, TrapKind};
 use std::alloc::Global;
@@ -20,8 +20,12 @@ pub fn play(rt: &impl Abort, alloc: Global, machine: &mut Machine, script: &str)
         let (choice, wanted) = word.split_once(':').expect(rt, "a choice and a colon");
         let choice = choice_of(rt, choice);
         let told = make(rt, alloc, machine, choice);
-        assert_eq!(rt; told.as_str(), wanted, "{word}");
+        is_told(rt, told.as_str(), wanted, word);
     }
+}
+
+fn is_told(rt: &impl Abort, told: &str, wanted: &str, word: &str) {
+    assert_eq!(rt; told, wanted, "{word}");
 }
 
 // Makes a choice, and tells what came of it.
@@ -122,13 +126,17 @@ pub struct Row<'a> {
 pub fn comes_out(rt: &impl Abort, alloc: Global, row: &Row<'_>) {
     let mut machine = machine(rt, alloc, row.text, row.workers);
     play(rt, alloc, &mut machine, row.script);
-    let told = if machine.is_stuck() {
+    let told = end_word(rt, alloc, &machine);
+    is_told(rt, told.as_str(), row.outcome, row.script);
+    closes(rt, alloc, &machine, row.closing);
+}
+
+fn end_word(rt: &impl Abort, alloc: Global, machine: &Machine) -> String {
+    if machine.is_stuck() {
         String::from_str(alloc, "stuck").expect(rt, "memory")
     } else {
         outcome_word(rt, alloc, machine.outcome())
-    };
-    assert_eq!(rt; told.as_str(), row.outcome);
-    closes(rt, alloc, &machine, row.closing);
+    }
 }
 
 // Asserts the same of each: a program, its workers, a script, the outcome, and the closing text.
@@ -149,5 +157,5 @@ pub fn rows_come_out(rt: &impl Abort, alloc: Global, rows: &[(&str, u8, &str, &s
 pub fn closes(rt: &impl Abort, alloc: Global, machine: &Machine, wanted: &str) {
     let end = machine.end_now().expect(rt, "memory");
     let text = ending(alloc, machine.output(), &end, machine.choices()).expect(rt, "memory");
-    assert_eq!(rt; text.as_slice(), wanted.as_bytes());
+    is_text(rt, text.as_slice(), wanted);
 }

@@ -4,6 +4,7 @@ use cilk_commands::print_text;
 use std::alloc::Global;
 use std::io;
 use std::io::{ErrorKind, Read, Write};
+use std::process::Abort;
 
 const SAMPLE: &str = "cilk int main(){int a=2,b;b=a*(3+4)-5;return b;}";
 
@@ -59,6 +60,13 @@ impl Write for BrokenWriter {
     }
 }
 
+// The status, the output and the errors are those that are wanted.
+fn has_written(rt: &impl Abort, status: (u8, u8), out: (&[u8], &[u8]), err: (&[u8], &[u8])) {
+    assert_eq!(rt; status.0, status.1);
+    assert_eq!(rt; out.0, out.1);
+    assert_eq!(rt; err.0, err.1);
+}
+
 #[test]
 fn stops_at_a_broken_reader(rt: HostRuntime) {
     for fails_at in 1..4 {
@@ -66,9 +74,8 @@ fn stops_at_a_broken_reader(rt: HostRuntime) {
         let mut err = Vec::new(rt.alloc());
         let mut reader = BrokenReader { calls: 0, fails_at };
         let status = print_text(rt.alloc(), "a.cilk", false, &mut reader, &mut out, &mut err);
-        assert_eq!(rt; status.code(), 7);
-        assert!(rt; out.is_empty());
-        assert_eq!(rt; err.as_slice(), b"cilk: cannot read a.cilk\n".as_slice());
+        let told = b"cilk: cannot read a.cilk\n".as_slice();
+        has_written(&rt, (status.code(), 7), (&out, &[]), (&err, told));
     }
 }
 
@@ -79,10 +86,10 @@ fn stops_at_a_broken_writer(rt: HostRuntime) {
         let mut out = BrokenWriter::new(rt.alloc(), room);
         let mut err = Vec::new(rt.alloc());
         let status = print_text(rt.alloc(), "-", false, &mut text, &mut out, &mut err);
-        assert_eq!(rt; status.code(), 7);
         let count = room.min(CANONICAL.len());
-        assert_eq!(rt; out.held.as_slice(), &CANONICAL.as_bytes()[..count]);
-        assert_eq!(rt; err.as_slice(), b"cilk: cannot write output\n".as_slice());
+        let taken = &CANONICAL.as_bytes()[..count];
+        let told = b"cilk: cannot write output\n".as_slice();
+        has_written(&rt, (status.code(), 7), (&out.held, taken), (&err, told));
     }
 }
 
@@ -92,7 +99,6 @@ fn loses_a_line_that_cannot_be_written(rt: HostRuntime) {
     let mut out = Vec::new(rt.alloc());
     let mut err = BrokenWriter::new(rt.alloc(), 3);
     let status = print_text(rt.alloc(), "-", false, &mut text, &mut out, &mut err);
-    assert_eq!(rt; status.code(), 1);
-    assert!(rt; out.is_empty());
-    assert_eq!(rt; err.held.as_slice(), b"-: ".as_slice());
+    let told = b"-: ".as_slice();
+    has_written(&rt, (status.code(), 1), (&out, &[]), (&err.held, told));
 }

@@ -1,6 +1,6 @@
 //! A machine that keeps a record of each choice goes back, choice by choice, to what it was.
 
-use super::program;
+use super::{is_word, program};
 use cilk_run::{Act, Choice, Machine};
 use cilk_view::What;
 use std::alloc::Global;
@@ -24,10 +24,14 @@ fn seen(rt: &impl Abort, alloc: Global, machine: &Machine) -> String {
         What::Deques,
         What::Output,
     ] {
-        let view = machine.text(&what).expect(rt, "a view");
-        write!(text, "{view}").expect(rt, "memory");
+        add_view(rt, machine, &what, &mut text);
     }
     text
+}
+
+fn add_view(rt: &impl Abort, machine: &Machine, what: &What, text: &mut String) {
+    let view = machine.text(what).expect(rt, "a view");
+    write!(text, "{view}").expect(rt, "memory");
 }
 
 // Makes the first possible one of these choices, from one of them on. False where none is possible.
@@ -62,30 +66,48 @@ fn forth(rt: &impl Abort, alloc: Global, machine: &mut Machine, turn: u8) -> Vec
     before
 }
 
+fn undoing(rt: &impl Abort, alloc: Global) -> Machine {
+    Machine::with_undo(alloc, program(rt, alloc, ALL), 2).expect(rt, "a machine")
+}
+
+// Whether there was a choice to take back is as it is wanted.
+fn undoes(rt: &impl Abort, machine: &mut Machine, wanted: bool) {
+    let undone = machine.undo().expect(rt, "memory");
+    assert_eq!(rt; undone, wanted);
+}
+
 #[test]
 fn there_and_back(rt: HostRuntime) {
     for turn in 0..6_u8 {
-        let loaded = program(&rt, rt.alloc(), ALL);
-        let mut machine = Machine::with_undo(rt.alloc(), loaded, 2).expect(&rt, "a machine");
+        let mut machine = undoing(&rt, rt.alloc());
         let before = forth(&rt, rt.alloc(), &mut machine, turn);
-        assert!(rt; before.len() > 10);
-        for wanted in before.iter().rev() {
-            assert!(rt; machine.undo().expect(&rt, "memory"));
-            let now = seen(&rt, rt.alloc(), &machine);
-            assert_eq!(rt; now.as_str(), wanted.as_str());
-        }
-        assert!(rt; !machine.undo().expect(&rt, "memory"));
+        goes_back(&rt, rt.alloc(), &mut machine, &before);
     }
+}
+
+// Each choice is taken back, and what was seen before it is seen again.
+fn goes_back(rt: &impl Abort, alloc: Global, machine: &mut Machine, before: &[String]) {
+    assert!(rt; before.len() > 10);
+    for wanted in before.iter().rev() {
+        undoes(rt, machine, true);
+        let now = seen(rt, alloc, machine);
+        is_word(rt, now.as_str(), wanted.as_str());
+    }
+    undoes(rt, machine, false);
 }
 
 #[test]
 fn what_is_forgotten_stays(rt: HostRuntime) {
-    let loaded = program(&rt, rt.alloc(), ALL);
-    let mut machine = Machine::with_undo(rt.alloc(), loaded, 2).expect(&rt, "a machine");
-    assert!(rt; makes(&mut machine, 0));
+    let mut machine = undoing(&rt, rt.alloc());
+    forgets(&rt, &mut machine);
+}
+
+// The first of two choices is forgotten.
+fn forgets(rt: &impl Abort, machine: &mut Machine) {
+    assert!(rt; makes(machine, 0));
     machine.forget();
-    assert!(rt; makes(&mut machine, 0));
-    assert!(rt; machine.undo().expect(&rt, "memory"));
-    assert!(rt; !machine.undo().expect(&rt, "memory"));
+    assert!(rt; makes(machine, 0));
+    undoes(rt, machine, true);
+    undoes(rt, machine, false);
     assert_eq!(rt; machine.choices(), 1);
 }
