@@ -2,9 +2,6 @@
 //! hand (Cilk 5.4 manual, `inlet`, `abort`, `SYNCHED`, `Cilk_lock`).
 
 use super::script::{Row, comes_out, machine, play, rows_come_out};
-use cilk_run::Machine;
-use std::alloc::Global;
-use std::process::Abort;
 
 const LOOKING: &str = "int done; cilk int look(int v) { done = done + 1; return v; }
 cilk int main(void) { int best = 0; inlet void take(int v) { best = v; abort; }
@@ -49,7 +46,9 @@ fn the_first_that_is_found_aborts_the_others(rt: HostRuntime) {
             ("finished 2", "1\n2\nmain returned 2\n"),
         ),
     ] {
-        counts(&rt, rt.alloc(), (text, script), done);
+        let mut machine = machine(&rt, rt.alloc(), text, 2);
+        play(&rt, rt.alloc(), &mut machine, script);
+        assert_eq!(rt; machine.global("done", 0), Some(done));
         let (outcome, closing) = outcome;
         let row = Row {
             text,
@@ -60,17 +59,6 @@ fn the_first_that_is_found_aborts_the_others(rt: HostRuntime) {
         };
         comes_out(&rt, rt.alloc(), &row);
     }
-}
-
-// Behind this script of two workers `look` has counted so often.
-fn counts(rt: &impl Abort, alloc: Global, (text, script): (&str, &str), done: i32) {
-    let mut machine = machine(rt, alloc, text, 2);
-    play(rt, alloc, &mut machine, script);
-    has_done(rt, &machine, done);
-}
-
-fn has_done(rt: &impl Abort, machine: &Machine, done: i32) {
-    assert_eq!(rt; machine.global("done", 0), Some(done));
 }
 
 // What is aborted ends once its children have ended, and it delivers nothing.

@@ -129,18 +129,14 @@ fn counts_alone_and_at_once(rt: HostRuntime) {
 
 fn counts(rt: &impl Abort, alloc: Global, parts: &[(&str, i32)], closing: &str) {
     let mut machine = machine(rt, alloc, COUNTING, 2);
-    plays(rt, alloc, &mut machine, parts);
-    closes(rt, alloc, &machine, closing);
-}
-
-fn plays(rt: &impl Abort, alloc: Global, machine: &mut Machine, parts: &[(&str, i32)]) {
     for (script, g) in parts {
-        play(rt, alloc, machine, script);
+        play(rt, alloc, &mut machine, script);
         assert_eq!(rt; machine.global("g", 0), Some(*g), "{script}");
     }
     assert_eq!(rt; machine.choices(), 12);
     assert_eq!(rt; machine.global("g", 1), None);
     assert_eq!(rt; machine.global("inc", 0), None);
+    closes(rt, alloc, &machine, closing);
 }
 
 #[test]
@@ -148,10 +144,6 @@ fn variables_of_the_top_level_have_cells(rt: HostRuntime) {
     let text = "int a = -5, b[3], c; cilk int main(void) { b[2] = 7; c = 8; return 0; }";
     let mut machine = machine(&rt, rt.alloc(), text, 1);
     play(&rt, rt.alloc(), &mut machine, "1s:a1/ 1s:a2/");
-    has_cells(&rt, &machine);
-}
-
-fn has_cells(rt: &impl Abort, machine: &Machine) {
     for (name, index, value) in [
         ("a", 0, Some(-5)),
         ("a", 1, None),
@@ -169,10 +161,6 @@ fn has_cells(rt: &impl Abort, machine: &Machine) {
 #[test]
 fn instances_go_by_their_numbers(rt: HostRuntime) {
     let mut machine = machine(&rt, rt.alloc(), DOUBLING, 1);
-    advances(&rt, &mut machine);
-}
-
-fn advances(rt: &impl Abort, machine: &mut Machine) {
     for (act, wanted) in [
         (Act::Step, Ok(Did::Acted(Id::new(0), 3))),
         (Act::Step, Ok(Did::Spawned(Id::new(1), 4))),
@@ -185,8 +173,7 @@ fn advances(rt: &impl Abort, machine: &mut Machine) {
         (Act::Step, Ok(Did::Acted(Id::new(0), 5))),
     ] {
         assert!(rt; machine.choices() < 9);
-        let did = machine.advance(Choice { worker: 1, act });
-        assert_eq!(rt; did, wanted);
+        assert_eq!(rt; machine.advance(Choice { worker: 1, act }), wanted);
     }
 }
 
@@ -195,8 +182,6 @@ fn there_are_one_to_sixty_four_workers(rt: HostRuntime) {
     for workers in [0, 65, 255] {
         let loaded = program(&rt, rt.alloc(), SAMPLE);
         let made = Machine::new(rt.alloc(), loaded, workers);
-        let refused = matches!(made, Err(MachineFault::Workers));
-        drop(made);
-        assert!(rt; refused, "{workers}");
+        assert!(rt; matches!(made, Err(MachineFault::Workers)), "{workers}");
     }
 }
