@@ -1,9 +1,9 @@
 //! An activation of an instance: a procedure, an inlet or a function that goes on.
 
+use crate::lines::put_line;
 use std::alloc::{AllocError, Global};
 
 /// An activation, as `frame` shows it.
-#[derive(Drop)]
 pub(crate) struct Activation {
     /// The name of its procedure, inlet or function.
     pub name: String,
@@ -11,6 +11,17 @@ pub(crate) struct Activation {
     pub line: u64,
     /// A line for each of its variables.
     pub variables: String,
+}
+
+// To drop it elsewhere is to call this, and its fields' drops are proved here alone.
+impl Drop for Activation {
+    fn drop(self) {
+        let Activation {
+            name: _name,
+            line: _,
+            variables: _variables,
+        } = self;
+    }
 }
 
 impl Activation {
@@ -21,20 +32,36 @@ impl Activation {
         line: u64,
         variables: &[&str],
     ) -> Result<Activation, AllocError> {
-        let mut text = String::new(alloc);
-        put_lines(variables, &mut text)?;
-        Ok(Activation {
-            name: String::from_str(alloc, name)?,
-            line,
-            variables: text,
-        })
+        let variables = joined(alloc, variables)?;
+        match String::from_str(alloc, name) {
+            Err(memory) => {
+                drop(variables);
+                Err(memory)
+            }
+            Ok(name) => Ok(Activation {
+                name,
+                line,
+                variables,
+            }),
+        }
+    }
+}
+
+// Lines as one text.
+fn joined(alloc: Global, lines: &[&str]) -> Result<String, AllocError> {
+    let mut text = String::new(alloc);
+    match put_lines(lines, &mut text) {
+        Err(memory) => {
+            drop(text);
+            Err(memory)
+        }
+        Ok(()) => Ok(text),
     }
 }
 
 fn put_lines(lines: &[&str], out: &mut String) -> Result<(), AllocError> {
     for line in lines {
-        out.push_str(line)?;
-        out.push_str("\n")?;
+        put_line(line, out)?;
     }
     Ok(())
 }

@@ -5,12 +5,15 @@ use crate::ask::{Ask, ask_of};
 use crate::asked::Asked;
 use crate::capabilities::tell_capabilities;
 use crate::message::Message;
+use crate::obeying::{behind, stopped};
 use crate::opened::Opened;
 use crate::opening::Opening;
 use crate::refusal::{NO_PROGRAM, NO_SUCH_REQUEST, Refusal};
 use crate::stop::Stop;
 use crate::unopened::Unopened;
 use std::alloc::Global;
+
+const NO_NAMES: &str = "launch wants the names of a program and of a log";
 
 /// What was launched, if something was, and how many messages were sent.
 #[derive(Drop)]
@@ -48,20 +51,14 @@ impl Adapter {
     ) -> Result<After, Refusal> {
         let ask = ask_of(asked.command);
         match ask {
-            Ask::Initialize => {
-                tell_capabilities(asked, message)?;
-                Ok(After::Nothing)
-            }
+            Ask::Initialize => behind(tell_capabilities(asked, message)),
             Ask::Launch => self.launch(opening, asked),
             Ask::Begin => self.begin(),
             Ask::SetExceptions => Ok(After::Nothing),
             Ask::Terminate => Ok(After::Terminated),
             Ask::Disconnect => Ok(After::Quit),
             Ask::Unknown => Err(Refusal::Words(NO_SUCH_REQUEST)),
-            _ => match &mut self.opened {
-                None => Err(Refusal::Words(NO_PROGRAM)),
-                Some(opened) => opened.obey(ask, asked, message),
-            },
+            _ => obey_in(&mut self.opened, ask, asked, message),
         }
     }
 
@@ -70,31 +67,70 @@ impl Adapter {
         if self.opened.is_some() {
             return Err(Refusal::Words("a program is launched already"));
         }
-        let (Some(program), Some(log)) = (asked.text("program"), asked.text("log")) else {
-            return Err(Refusal::Words("launch wants the names of a program and of a log"));
-        };
-        match opening.open(self.alloc, program, log) {
-            Err(Unopened::Memory) => Err(Refusal::Memory),
-            Err(Unopened::Refused(line)) => Err(Refusal::Text(line)),
-            Ok(opened) => {
-                self.opened = Some(opened);
-                self.stops_at_entry = asked.flag("stopOnEntry", true);
-                Ok(After::Initialized)
-            }
-        }
+        let opened = open_asked(opening, self.alloc, asked)?;
+        self.hold(opened);
+        self.stops_at_entry = asked.flag("stopOnEntry", true);
+        Ok(After::Initialized)
+    }
+
+    fn hold(&mut self, opened: Opened) {
+        self.opened = Some(opened);
     }
 
     // The editor has set its breakpoints.
     fn begin(&mut self) -> Result<After, Refusal> {
-        match &mut self.opened {
-            None => Err(Refusal::Words(NO_PROGRAM)),
-            Some(opened) => {
-                if self.stops_at_entry {
-                    Ok(After::Stopped(Stop::Entry))
-                } else {
-                    Ok(After::Stopped(opened.begin()?))
-                }
-            }
-        }
+        let stops_at_entry = self.stops_at_entry;
+        begin_in(&mut self.opened, stops_at_entry)
+    }
+}
+
+// The program and the log that are named.
+fn open_asked<P: Opening>(
+    opening: &P,
+    alloc: Global,
+    asked: &Asked<'_>,
+) -> Result<Opened, Refusal> {
+    let Some(program) = asked.text("program") else {
+        return Err(Refusal::Words(NO_NAMES));
+    };
+    match asked.text("log") {
+        None => Err(Refusal::Words(NO_NAMES)),
+        Some(log) => opened_or_refused(opening.open(alloc, program, log)),
+    }
+}
+
+fn opened_or_refused(opened: Result<Opened, Unopened>) -> Result<Opened, Refusal> {
+    match opened {
+        Err(unopened) => Err(refusal_of(unopened)),
+        Ok(opened) => Ok(opened),
+    }
+}
+
+fn refusal_of(unopened: Unopened) -> Refusal {
+    match unopened {
+        Unopened::Memory => Refusal::Memory,
+        Unopened::Refused(line) => Refusal::Text(line),
+    }
+}
+
+// Does what is asked where something was launched.
+fn obey_in(
+    opened: &mut Option<Opened>,
+    ask: Ask,
+    asked: &Asked<'_>,
+    message: &mut Message,
+) -> Result<After, Refusal> {
+    match opened {
+        None => Err(Refusal::Words(NO_PROGRAM)),
+        Some(opened) => opened.obey(ask, asked, message),
+    }
+}
+
+// The program stands still, before its first choice or where one of the next has a breakpoint.
+fn begin_in(opened: &mut Option<Opened>, stops_at_entry: bool) -> Result<After, Refusal> {
+    match opened {
+        None => Err(Refusal::Words(NO_PROGRAM)),
+        Some(_) if stops_at_entry => Ok(After::Stopped(Stop::Entry)),
+        Some(opened) => stopped(opened.begin()),
     }
 }

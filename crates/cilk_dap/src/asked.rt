@@ -16,13 +16,12 @@ pub(crate) struct Asked<'a> {
 impl<'a> Asked<'a> {
     /// What is asked by a message, if it is a request.
     pub(crate) fn by(message: &'a Value) -> Option<Asked<'a>> {
-        let kind = message.get("type")?.as_str()?;
-        if kind != "request" {
+        if text_in(message, "type") != Some("request") {
             return None;
         }
         Some(Asked {
-            number: message.get("seq")?.as_u64()?,
-            command: message.get("command")?.as_str()?,
+            number: number_in(message, "seq")?,
+            command: text_in(message, "command")?,
             arguments: message.get("arguments"),
         })
     }
@@ -37,17 +36,17 @@ impl<'a> Asked<'a> {
 
     /// The text of this name among the arguments.
     pub(crate) fn text(&self, name: &str) -> Option<&'a str> {
-        match self.argument(name) {
+        match self.arguments {
             None => None,
-            Some(value) => value.as_str(),
+            Some(arguments) => text_in(arguments, name),
         }
     }
 
     /// The number of this name among the arguments.
     pub(crate) fn number(&self, name: &str) -> Option<u64> {
-        match self.argument(name) {
+        match self.arguments {
             None => None,
-            Some(value) => value.as_u64(),
+            Some(arguments) => number_in(arguments, name),
         }
     }
 
@@ -57,5 +56,21 @@ impl<'a> Asked<'a> {
             None => untold,
             Some(value) => value.as_bool().unwrap_or(untold),
         }
+    }
+}
+
+/// The text of this name in an object.
+pub(crate) fn text_in<'a>(object: &'a Value, name: &str) -> Option<&'a str> {
+    match object.get(name) {
+        None => None,
+        Some(value) => value.as_str(),
+    }
+}
+
+/// The number of this name in an object.
+pub(crate) fn number_in(object: &Value, name: &str) -> Option<u64> {
+    match object.get(name) {
+        None => None,
+        Some(value) => value.as_u64(),
     }
 }

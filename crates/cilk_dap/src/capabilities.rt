@@ -2,7 +2,7 @@
 
 use crate::asked::Asked;
 use crate::message::Message;
-use crate::refusal::Refusal;
+use crate::refusal::{Refusal, told};
 use std::alloc::AllocError;
 
 // What is supported, but for what each adapter supports.
@@ -24,7 +24,7 @@ pub(crate) fn tell_capabilities(asked: &Asked<'_>, message: &mut Message) -> Res
     if let Some("uri") = asked.text("pathFormat") {
         return Err(Refusal::Words("files are named by paths here"));
     }
-    Ok(put_capabilities(message)?)
+    told(put_capabilities(message))
 }
 
 fn put_capabilities(message: &mut Message) -> Result<(), AllocError> {

@@ -6,8 +6,9 @@ use crate::asked::Asked;
 use crate::frame_name::FrameName;
 use crate::lines::variable_in;
 use crate::message::Message;
+use crate::obeying::behind;
 use crate::opened::Opened;
-use crate::refusal::Refusal;
+use crate::refusal::{Refusal, told};
 use crate::stop::Stop;
 use cilk_debug::{InputFault, SessionFault};
 use std::alloc::AllocError;
@@ -24,10 +25,7 @@ impl Opened {
         };
         match asked.text("context") {
             None | Some("repl") => self.command(words, message),
-            Some(_) => {
-                self.look_up(asked.number("frameId"), words, message)?;
-                Ok(After::Nothing)
-            }
+            Some(_) => behind(self.look_up(asked.number("frameId"), words, message)),
         }
     }
 
@@ -100,16 +98,20 @@ impl Opened {
 
     fn tell_global(&self, name: &str, message: &mut Message) -> Result<(), Refusal> {
         let view = self.view_globals()?;
-        match value_in(view.as_str(), name) {
-            Some(value) => Ok(put_result(value, message)?),
-            None => Err(Refusal::Words("no variable has this name here")),
-        }
+        put_global(value_in(view.as_str(), name), message)
+    }
+}
+
+fn put_global(value: Option<&str>, message: &mut Message) -> Result<(), Refusal> {
+    match value {
+        Some(value) => told(put_result(value, message)),
+        None => Err(Refusal::Words("no variable has this name here")),
     }
 }
 
 fn put_answer(answer: &[u8], message: &mut Message) -> Result<(), Refusal> {
     match str::from_utf8(answer) {
-        Ok(answer) => Ok(put_result(answer.trim_end(), message)?),
+        Ok(answer) => told(put_result(answer.trim_end(), message)),
         Err(_) => Err(Refusal::Words("the answer is not UTF-8")),
     }
 }

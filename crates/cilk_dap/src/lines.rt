@@ -5,10 +5,26 @@ use std::alloc::{AllocError, Global};
 /// The lines of a text.
 pub(crate) fn lines_of<'a>(alloc: Global, text: &'a str) -> Result<Vec<&'a str>, AllocError> {
     let mut lines = Vec::new(alloc);
+    match take_lines(text, &mut lines) {
+        Err(memory) => {
+            drop(lines);
+            Err(memory)
+        }
+        Ok(()) => Ok(lines),
+    }
+}
+
+fn take_lines<'a>(text: &'a str, lines: &mut Vec<&'a str>) -> Result<(), AllocError> {
     for line in text.lines() {
         lines.push(line)?;
     }
-    Ok(lines)
+    Ok(())
+}
+
+/// Puts a line behind those of a text.
+pub(crate) fn put_line(line: &str, out: &mut String) -> Result<(), AllocError> {
+    out.push_str(line)?;
+    out.push_str("\n")
 }
 
 /// The line that tells of a worker, counted from 1, in the view `where`: its first line is that of the position.

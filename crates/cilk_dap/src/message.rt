@@ -5,13 +5,23 @@ use serde_json::{Map, Value, push, put};
 use std::alloc::{AllocError, Global};
 
 /// A message that is being made. Its nesting is the caller's: what is begun is ended.
-#[derive(Drop)]
 pub(crate) struct Message {
     alloc: Global,
     /// What was begun and has not ended, from the outermost on.
     begun: Vec<Begun>,
     /// The message, once all has ended.
     whole: Value,
+}
+
+// To drop it elsewhere is to call this, and its fields' drops are proved here alone.
+impl Drop for Message {
+    fn drop(self) {
+        let Message {
+            alloc: _,
+            begun: _begun,
+            whole: _whole,
+        } = self;
+    }
 }
 
 /// An object or a list that has not ended.
@@ -31,17 +41,22 @@ impl Message {
         done: bool,
     ) -> Result<Message, AllocError> {
         let mut message = Message::begun(alloc, number, "response")?;
-        message.number("request_seq", asked.number)?;
-        message.text("command", asked.command)?;
-        message.flag("success", done)?;
-        Ok(message)
+        let put = message.put_answered(asked, done);
+        message.with(put)
+    }
+
+    // What request a response is to.
+    fn put_answered(&mut self, asked: &Asked<'_>, done: bool) -> Result<(), AllocError> {
+        self.number("request_seq", asked.number)?;
+        self.text("command", asked.command)?;
+        self.flag("success", done)
     }
 
     /// An event, without what it tells.
     pub(crate) fn event(alloc: Global, number: u64, name: &str) -> Result<Message, AllocError> {
         let mut message = Message::begun(alloc, number, "event")?;
-        message.text("event", name)?;
-        Ok(message)
+        let put = message.text("event", name);
+        message.with(put)
     }
 
     // One of this kind, which has a number.
@@ -51,10 +66,25 @@ impl Message {
             begun: Vec::new(alloc),
             whole: Value::Null,
         };
-        message.begin_item()?;
-        message.number("seq", number)?;
-        message.text("type", kind)?;
-        Ok(message)
+        let put = message.put_kind(number, kind);
+        message.with(put)
+    }
+
+    fn put_kind(&mut self, number: u64, kind: &str) -> Result<(), AllocError> {
+        self.begin_item()?;
+        self.number("seq", number)?;
+        self.text("type", kind)
+    }
+
+    /// The message, where what was to be put into it is there.
+    pub(crate) fn with(self, put: Result<(), AllocError>) -> Result<Message, AllocError> {
+        match put {
+            Err(memory) => {
+                drop(self);
+                Err(memory)
+            }
+            Ok(()) => Ok(self),
+        }
     }
 
     // Puts a value into what was begun last.
@@ -102,6 +132,31 @@ impl Message {
     /// A list as a member begins.
     pub(crate) fn begin_list(&mut self, name: &str) -> Result<(), AllocError> {
         self.open(name, Value::Array(Vec::new(self.alloc)))
+    }
+
+    /// What is told begins, a list of this name.
+    pub(crate) fn begin_body(&mut self, name: &str) -> Result<(), AllocError> {
+        self.begin("body")?;
+        self.begin_list(name)
+    }
+
+    /// That list ends, and what is told.
+    pub(crate) fn end_body(&mut self) -> Result<(), AllocError> {
+        self.end()?;
+        self.end()
+    }
+
+    /// A breakpoint ends that is set.
+    pub(crate) fn put_verified(&mut self) -> Result<(), AllocError> {
+        self.flag("verified", true)?;
+        self.end()
+    }
+
+    /// A breakpoint ends that is not set, and why.
+    pub(crate) fn put_unverified(&mut self, words: &str) -> Result<(), AllocError> {
+        self.flag("verified", false)?;
+        self.text("message", words)?;
+        self.end()
     }
 
     fn open(&mut self, name: &str, value: Value) -> Result<(), AllocError> {

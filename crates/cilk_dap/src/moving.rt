@@ -38,11 +38,7 @@ impl Opened {
     /// Goes on to where the next choice, or one behind it, has a breakpoint: from where nothing was done yet.
     pub(crate) fn begin(&mut self) -> Result<Stop, Refusal> {
         let from = self.debugger.position();
-        let stop = if from < self.debugger.length() {
-            self.ahead()?
-        } else {
-            Stop::End
-        };
+        let stop = self.ahead()?;
         self.watch_on(from, stop)
     }
 
@@ -50,22 +46,26 @@ impl Opened {
     pub(crate) fn go_on(&mut self) -> Result<Stop, Refusal> {
         let from = self.debugger.position();
         self.debugger.step()?;
-        let stop = if self.debugger.position() < self.debugger.length() {
-            self.ahead()?
-        } else {
-            Stop::End
-        };
+        let stop = self.ahead()?;
         self.watch_on(from, stop)
     }
 
     // To the next place before a choice with a breakpoint: an editor shows the line that is not done yet.
     fn ahead(&mut self) -> Result<Stop, DebugFault> {
-        if self.debugger.forward_to_break()? {
-            self.debugger.back()?;
+        if self.debugger.position() < self.debugger.length() && self.is_before_break()? {
             Ok(Stop::Breakpoint)
         } else {
             Ok(Stop::End)
         }
+    }
+
+    // Goes to the next place before a choice with a breakpoint, if there is one.
+    fn is_before_break(&mut self) -> Result<bool, DebugFault> {
+        let found = self.debugger.forward_to_break()?;
+        if found {
+            self.debugger.back()?;
+        }
+        Ok(found)
     }
 
     /// Goes back by at least one choice, to where the next one has a breakpoint, or to where a watched variable had another value.
@@ -84,11 +84,15 @@ impl Opened {
             self.debugger.step()?;
         } else {
             self.debugger.back()?;
-            if self.debugger.forward_to_break()? {
-                self.debugger.back()?;
+            if self.is_before_break()? {
                 return Ok(Stop::Breakpoint);
             }
         }
+        self.before_last_break()
+    }
+
+    // To the last place before a choice with a breakpoint.
+    fn before_last_break(&mut self) -> Result<Stop, DebugFault> {
         if self.debugger.back_to_break()? {
             self.debugger.back()?;
             Ok(Stop::Breakpoint)
@@ -103,19 +107,30 @@ impl Opened {
         if self.watched.is_empty() || to <= from {
             return Ok(stop);
         }
-        self.debugger.go(from)?;
-        let before = self.watched_values()?;
-        self.step_while(before.as_str(), to, stop)
+        match self.values_at(from) {
+            Err(refusal) => Err(refusal),
+            Ok(before) => self.step_while(before.as_str(), to, stop),
+        }
+    }
+
+    // Goes to a place, and tells the lines of the watched variables there.
+    fn values_at(&mut self, place: u64) -> Result<String, Refusal> {
+        self.debugger.go(place)?;
+        self.watched_values()
     }
 
     fn step_while(&mut self, before: &str, to: u64, stop: Stop) -> Result<Stop, Refusal> {
         for _ in self.debugger.position()..to {
-            self.debugger.step()?;
-            if self.has_changed(before)? {
+            if self.step_changes(before)? {
                 return Ok(Stop::Data);
             }
         }
         Ok(stop)
+    }
+
+    fn step_changes(&mut self, before: &str) -> Result<bool, Refusal> {
+        self.debugger.step()?;
+        self.has_changed(before)
     }
 
     // The same backwards.
@@ -124,24 +139,31 @@ impl Opened {
         if self.watched.is_empty() || from <= to {
             return Ok(stop);
         }
-        self.debugger.go(from)?;
-        let before = self.watched_values()?;
-        self.back_while(before.as_str(), to, stop)
+        match self.values_at(from) {
+            Err(refusal) => Err(refusal),
+            Ok(before) => self.back_while(before.as_str(), to, stop),
+        }
     }
 
     fn back_while(&mut self, before: &str, to: u64, stop: Stop) -> Result<Stop, Refusal> {
         for _ in to..self.debugger.position() {
-            self.debugger.back()?;
-            if self.has_changed(before)? {
+            if self.back_changes(before)? {
                 return Ok(Stop::Data);
             }
         }
         Ok(stop)
     }
 
+    fn back_changes(&mut self, before: &str) -> Result<bool, Refusal> {
+        self.debugger.back()?;
+        self.has_changed(before)
+    }
+
     fn has_changed(&self, before: &str) -> Result<bool, Refusal> {
-        let now = self.watched_values()?;
-        Ok(now.as_str() != before)
+        match self.watched_values() {
+            Err(refusal) => Err(refusal),
+            Ok(now) => Ok(now.as_str() != before),
+        }
     }
 
     /// Goes on behind the next choice of a worker, or to the end where it has none.
@@ -195,12 +217,9 @@ impl Opened {
     /// Goes on until the instance in a worker's hand has ended, or to the end.
     pub(crate) fn step_out(&mut self, worker: u64) -> Result<Stop, Refusal> {
         let view = self.view_where()?;
-        let Some(line) = worker_line(view.as_str(), worker) else {
-            return Err(Refusal::Words(NO_SUCH_THREAD));
-        };
-        match hand_in(line) {
-            None => Err(Refusal::Words("the worker has nothing in its hand")),
-            Some(path) => self.until_ended(path),
+        match hand_of(view.as_str(), worker) {
+            Err(words) => Err(Refusal::Words(words)),
+            Ok(path) => self.until_ended(path),
         }
     }
 
@@ -211,11 +230,27 @@ impl Opened {
             return Err(Refusal::Words(AT_END));
         }
         for _ in at..all {
-            self.debugger.step()?;
-            if self.frame_text(path)?.is_none() {
+            if self.step_ends(path)? {
                 return Ok(Stop::Step);
             }
         }
         Ok(Stop::End)
+    }
+
+    // Makes the next choice, and tells whether an instance has ended.
+    fn step_ends(&mut self, path: &str) -> Result<bool, Refusal> {
+        self.debugger.step()?;
+        match self.frame_text(path) {
+            Err(memory) => Err(Refusal::from(memory)),
+            Ok(text) => Ok(text.is_none()),
+        }
+    }
+}
+
+// The path of the instance in the hand of a worker, in the view `where`, or why there is none.
+fn hand_of<'a>(view: &'a str, worker: u64) -> Result<&'a str, &'static str> {
+    match worker_line(view, worker) {
+        None => Err(NO_SUCH_THREAD),
+        Some(line) => hand_in(line).ok_or("the worker has nothing in its hand"),
     }
 }

@@ -19,23 +19,25 @@ impl Opened {
         message: &mut Message,
     ) -> Result<After, Refusal> {
         match ask {
-            Ask::SetBreaks => self.set_breaks(asked, message)?,
-            Ask::SetWatched => self.set_watched(asked, message)?,
-            Ask::Watchable => self.tell_watchable(asked, message)?,
-            Ask::Threads => self.tell_threads(message)?,
-            Ask::Stack => self.tell_stack(asked, message)?,
-            Ask::Scopes => tell_scopes(asked, message)?,
-            Ask::Variables => self.tell_variables(asked, message)?,
-            Ask::Source => self.tell_source(message)?,
-            Ask::Evaluate => return self.evaluate(asked, message),
-            Ask::Continue => {
-                let stop = self.go_on()?;
-                put_continued(message)?;
-                return Ok(After::Stopped(stop));
-            }
-            _ => return Ok(After::Stopped(self.move_by(ask, thread_of(asked))?)),
+            Ask::SetBreaks => behind(self.set_breaks(asked, message)),
+            Ask::SetWatched => behind(self.set_watched(asked, message)),
+            Ask::Watchable => behind(self.tell_watchable(asked, message)),
+            Ask::Threads => behind(self.tell_threads(message)),
+            Ask::Stack => behind(self.tell_stack(asked, message)),
+            Ask::Scopes => behind(tell_scopes(asked, message)),
+            Ask::Variables => behind(self.tell_variables(asked, message)),
+            Ask::Source => behind(self.tell_source(message)),
+            Ask::Evaluate => self.evaluate(asked, message),
+            Ask::Continue => stopped(self.tell_continued(message)),
+            _ => stopped(self.move_by(ask, thread_of(asked))),
         }
-        Ok(After::Nothing)
+    }
+
+    // Goes on, and tells so.
+    fn tell_continued(&mut self, message: &mut Message) -> Result<Stop, Refusal> {
+        let stop = self.go_on()?;
+        put_continued(message)?;
+        Ok(stop)
     }
 
     // Moves as is asked, by a worker's choices or by all.
@@ -49,6 +51,22 @@ impl Opened {
             Ask::Restart => self.restart(),
             _ => Err(Refusal::Words(NO_SUCH_REQUEST)),
         }
+    }
+}
+
+/// What follows a response that tells something.
+pub(crate) fn behind(told: Result<(), Refusal>) -> Result<After, Refusal> {
+    match told {
+        Ok(()) => Ok(After::Nothing),
+        Err(refusal) => Err(refusal),
+    }
+}
+
+/// What follows a move.
+pub(crate) fn stopped(moved: Result<Stop, Refusal>) -> Result<After, Refusal> {
+    match moved {
+        Ok(stop) => Ok(After::Stopped(stop)),
+        Err(refusal) => Err(refusal),
     }
 }
 

@@ -6,13 +6,24 @@ use cilk_debug::{Debugger, Loaded, Log, ReplayFault, Unplayable};
 use std::alloc::Global;
 
 /// A program that was launched, where the first choices of a recorded schedule led it.
-#[derive(Drop)]
 pub struct Opened {
     pub(crate) alloc: Global,
     pub(crate) debugger: Debugger,
     pub(crate) known: Known,
     /// The watched variables, each on a line.
     pub(crate) watched: String,
+}
+
+// To drop it elsewhere is to call this, and its fields' drops are proved here alone.
+impl Drop for Opened {
+    fn drop(self) {
+        let Opened {
+            alloc: _,
+            debugger: _debugger,
+            known: _known,
+            watched: _watched,
+        } = self;
+    }
 }
 
 impl Opened {

@@ -21,7 +21,6 @@ pub(crate) const NO_SUCH_REQUEST: &str = "there is no such request here";
 pub(crate) const NO_SUCH_THREAD: &str = "there is no such thread";
 
 /// Why what is asked is not done. Want of memory ends the exchange, and the others are told in the response.
-#[derive(Drop)]
 pub(crate) enum Refusal {
     /// Memory has run out.
     Memory,
@@ -29,6 +28,16 @@ pub(crate) enum Refusal {
     Words(&'static str),
     /// This text tells why.
     Text(String),
+}
+
+// To drop it elsewhere is to call this, and its text's drop is proved here alone.
+impl Drop for Refusal {
+    fn drop(self) {
+        match self {
+            Refusal::Text(_text) => {}
+            Refusal::Memory | Refusal::Words(_) => {}
+        }
+    }
 }
 
 impl From<AllocError> for Refusal {
@@ -72,5 +81,13 @@ impl From<DebugFault> for Refusal {
             DebugFault::OutOfRange => Refusal::Words("B6 OutOfRange"),
             _ => Refusal::Words("the log cannot be replayed"),
         }
+    }
+}
+
+/// What is told, where memory sufficed for it.
+pub(crate) fn told(put: Result<(), AllocError>) -> Result<(), Refusal> {
+    match put {
+        Ok(()) => Ok(()),
+        Err(_) => Err(Refusal::Memory),
     }
 }

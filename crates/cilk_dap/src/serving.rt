@@ -9,6 +9,7 @@ use crate::message::Message;
 use crate::opening::Opening;
 use crate::refusal::Refusal;
 use crate::sending::send_message;
+use crate::stop::Stop;
 use serde_json::Value;
 use std::alloc::{AllocError, Global};
 use std::io::{Read, Write};
@@ -63,14 +64,8 @@ impl Adapter {
         bytes: &[u8],
         writer: &mut W,
     ) -> Result<bool, MessageFault> {
-        match Value::from_slice(self.alloc, bytes) {
-            Err(error) => {
-                if error.is_memory() {
-                    Err(MessageFault::Memory)
-                } else {
-                    self.refuse_unread(NO_REQUEST, writer)
-                }
-            }
+        match value_of(self.alloc, bytes) {
+            Err(fault) => Err(fault),
             Ok(value) => self.answer_value(opening, &value, writer),
         }
     }
@@ -95,24 +90,20 @@ impl Adapter {
         asked: &Asked<'_>,
         writer: &mut W,
     ) -> Result<bool, MessageFault> {
-        match self.respond(opening, asked, writer)? {
+        match self.respond(opening, asked, writer) {
+            Err(fault) => Err(fault),
+            Ok(after) => self.tell_after(after, writer),
+        }
+    }
+
+    // Tells what follows a response. Whether that was the last.
+    fn tell_after<W: Write>(&mut self, after: After, writer: &mut W) -> Result<bool, MessageFault> {
+        match after {
             After::Nothing => Ok(false),
             After::Quit => Ok(true),
-            After::Initialized => {
-                self.tell("initialized", writer)?;
-                Ok(false)
-            }
-            After::Terminated => {
-                self.tell("terminated", writer)?;
-                Ok(false)
-            }
-            After::Stopped(stop) => match self.stopped(stop) {
-                Ok(message) => {
-                    send(message, writer)?;
-                    Ok(false)
-                }
-                Err(_) => Err(MessageFault::Memory),
-            },
+            After::Initialized => more(self.tell("initialized", writer)),
+            After::Terminated => more(self.tell("terminated", writer)),
+            After::Stopped(stop) => more(self.tell_stopped(stop, writer)),
         }
     }
 
@@ -124,19 +115,24 @@ impl Adapter {
         writer: &mut W,
     ) -> Result<After, MessageFault> {
         let number = self.next_number();
-        let mut message = match Message::response(self.alloc, number, asked, true) {
-            Ok(message) => message,
-            Err(_) => return Err(MessageFault::Memory),
-        };
-        match self.obey(opening, asked, &mut message) {
-            Ok(after) => match self.conclude(number, asked, message, writer) {
-                Ok(()) => Ok(after),
-                Err(fault) => Err(fault),
-            },
-            Err(refusal) => {
-                drop(message);
-                self.tell_refusal(number, asked, refusal, writer)
-            }
+        match Message::response(self.alloc, number, asked, true) {
+            Err(_) => Err(MessageFault::Memory),
+            Ok(mut message) => self.respond_in(&mut message, opening, number, asked, writer),
+        }
+    }
+
+    // Does what is asked, and sends the response, which has this number and was begun.
+    fn respond_in<P: Opening, W: Write>(
+        &mut self,
+        message: &mut Message,
+        opening: &P,
+        number: u64,
+        asked: &Asked<'_>,
+        writer: &mut W,
+    ) -> Result<After, MessageFault> {
+        match self.obey(opening, asked, message) {
+            Ok(after) => followed(after, self.conclude(number, asked, message, writer)),
+            Err(refusal) => self.tell_refusal(number, asked, refusal, writer),
         }
     }
 
@@ -145,14 +141,10 @@ impl Adapter {
         &self,
         number: u64,
         asked: &Asked<'_>,
-        message: Message,
+        message: &mut Message,
         writer: &mut W,
     ) -> Result<(), MessageFault> {
-        let mut message = message;
-        if message.end().is_err() {
-            return Err(MessageFault::Memory);
-        }
-        match message.to_vec() {
+        match ended(message) {
             Err(_) => Err(MessageFault::Memory),
             Ok(bytes) => {
                 if bytes.len() <= MOST_BYTES {
@@ -172,14 +164,9 @@ impl Adapter {
         refusal: Refusal,
         writer: &mut W,
     ) -> Result<After, MessageFault> {
-        let told = match refusal {
-            Refusal::Memory => Err(MessageFault::Memory),
-            Refusal::Words(words) => self.refuse(number, asked, words, writer),
-            Refusal::Text(text) => self.refuse(number, asked, text.as_str(), writer),
-        };
-        match told {
-            Ok(()) => Ok(After::Nothing),
-            Err(fault) => Err(fault),
+        match words_of(&refusal) {
+            None => Err(MessageFault::Memory),
+            Some(words) => followed(After::Nothing, self.refuse(number, asked, words, writer)),
         }
     }
 
@@ -190,10 +177,7 @@ impl Adapter {
         writer: &mut W,
     ) -> Result<bool, MessageFault> {
         let number = self.next_number();
-        match self.refuse(number, &NOBODY, words, writer) {
-            Ok(()) => Ok(false),
-            Err(fault) => Err(fault),
-        }
+        more(self.refuse(number, &NOBODY, words, writer))
     }
 
     // Sends the response of this number, that what is asked is not done.
@@ -204,20 +188,62 @@ impl Adapter {
         words: &str,
         writer: &mut W,
     ) -> Result<(), MessageFault> {
-        match refusal(self.alloc, number, asked, words) {
-            Err(_) => Err(MessageFault::Memory),
-            Ok(message) => send(message, writer),
-        }
+        send(refusal(self.alloc, number, asked, words), writer)
     }
 
     // Sends an event that tells no more than its name.
     fn tell<W: Write>(&mut self, name: &str, writer: &mut W) -> Result<(), MessageFault> {
         let number = self.next_number();
-        match event(self.alloc, number, name) {
+        send(event(self.alloc, number, name), writer)
+    }
+
+    // Sends the event that the program stands still.
+    fn tell_stopped<W: Write>(&mut self, stop: Stop, writer: &mut W) -> Result<(), MessageFault> {
+        match self.stopped(stop) {
             Err(_) => Err(MessageFault::Memory),
-            Ok(message) => send(message, writer),
+            Ok(message) => send(Ok(message), writer),
         }
     }
+}
+
+// What the bytes of a message say: nothing where they are no JSON, which is no request either.
+fn value_of(alloc: Global, bytes: &[u8]) -> Result<Value, MessageFault> {
+    match Value::from_slice(alloc, bytes) {
+        Ok(value) => Ok(value),
+        Err(error) if error.is_memory() => Err(MessageFault::Memory),
+        Err(_) => Ok(Value::Null),
+    }
+}
+
+// More messages may follow one that was sent.
+fn more(sent: Result<(), MessageFault>) -> Result<bool, MessageFault> {
+    match sent {
+        Err(fault) => Err(fault),
+        Ok(()) => Ok(false),
+    }
+}
+
+// What follows a response that was sent.
+fn followed(after: After, sent: Result<(), MessageFault>) -> Result<After, MessageFault> {
+    match sent {
+        Err(fault) => Err(fault),
+        Ok(()) => Ok(after),
+    }
+}
+
+// The words of a refusal that is told.
+fn words_of<'a>(refusal: &'a Refusal) -> Option<&'a str> {
+    match refusal {
+        Refusal::Memory => None,
+        Refusal::Words(words) => Some(words),
+        Refusal::Text(text) => Some(text.as_str()),
+    }
+}
+
+// The bytes of a message that ends.
+fn ended(message: &mut Message) -> Result<Vec<u8>, AllocError> {
+    message.end()?;
+    message.to_vec()
 }
 
 fn refusal(
@@ -227,19 +253,34 @@ fn refusal(
     words: &str,
 ) -> Result<Message, AllocError> {
     let mut message = Message::response(alloc, number, asked, false)?;
+    let put = put_words(words, &mut message);
+    message.with(put)
+}
+
+fn put_words(words: &str, message: &mut Message) -> Result<(), AllocError> {
     message.text("message", words)?;
-    message.end()?;
-    Ok(message)
+    message.end()
 }
 
 fn event(alloc: Global, number: u64, name: &str) -> Result<Message, AllocError> {
     let mut message = Message::event(alloc, number, name)?;
-    message.end()?;
-    Ok(message)
+    let put = message.end();
+    message.with(put)
 }
 
-fn send<W: Write>(message: Message, writer: &mut W) -> Result<(), MessageFault> {
-    match message.to_vec() {
+// Sends a message, where memory sufficed to make it.
+fn send<W: Write>(made: Result<Message, AllocError>, writer: &mut W) -> Result<(), MessageFault> {
+    match made {
+        Err(_) => Err(MessageFault::Memory),
+        Ok(message) => send_bytes(message.to_vec(), writer),
+    }
+}
+
+fn send_bytes<W: Write>(
+    made: Result<Vec<u8>, AllocError>,
+    writer: &mut W,
+) -> Result<(), MessageFault> {
+    match made {
         Err(_) => Err(MessageFault::Memory),
         Ok(bytes) => send_message(writer, bytes.as_slice()),
     }

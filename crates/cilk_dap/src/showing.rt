@@ -6,7 +6,7 @@ use crate::breaking::CANONICAL;
 use crate::frame_name::FrameName;
 use crate::message::Message;
 use crate::opened::Opened;
-use crate::refusal::Refusal;
+use crate::refusal::{Refusal, told};
 use std::alloc::AllocError;
 
 // No more frames are told at once.
@@ -16,7 +16,7 @@ impl Opened {
     /// A thread for each worker, named by its line of `where`.
     pub(crate) fn tell_threads(&self, message: &mut Message) -> Result<(), Refusal> {
         let view = self.view_where()?;
-        Ok(put_threads(view.as_str(), message)?)
+        told(put_threads(view.as_str(), message))
     }
 
     /// The frames of a worker, from the innermost one on.
@@ -29,8 +29,13 @@ impl Opened {
             return Err(Refusal::Words("a thread is wanted"));
         };
         let index = asked.number("startFrame").unwrap_or(0);
-        let frames = self.activations(worker, index, levels_of(asked))?;
-        Ok(self.put_frames(FrameName { worker, index }, frames.as_slice(), message)?)
+        match self.activations(worker, index, levels_of(asked)) {
+            Err(refusal) => Err(refusal),
+            Ok(frames) => {
+                let first = FrameName { worker, index };
+                told(self.put_frames(first, frames.as_slice(), message))
+            }
+        }
     }
 
     // Frames, of which the first one has this name.
@@ -40,15 +45,13 @@ impl Opened {
         frames: &[Activation],
         message: &mut Message,
     ) -> Result<(), AllocError> {
-        message.begin("body")?;
-        message.begin_list("stackFrames")?;
+        message.begin_body("stackFrames")?;
         let mut name = first;
         for frame in frames {
             self.put_frame_of(name, frame, message)?;
             name.index = name.index.saturating_add(1);
         }
-        message.end()?;
-        message.end()
+        message.end_body()
     }
 
     fn put_frame_of(
@@ -57,11 +60,7 @@ impl Opened {
         frame: &Activation,
         message: &mut Message,
     ) -> Result<(), AllocError> {
-        message.begin_item()?;
-        message.number("id", name.number())?;
-        message.text("name", frame.name.as_str())?;
-        message.number("line", frame.line)?;
-        message.number("column", 1)?;
+        put_begun_frame(name, frame, message)?;
         self.put_source(message)?;
         message.end()
     }
@@ -70,14 +69,17 @@ impl Opened {
     fn put_source(&self, message: &mut Message) -> Result<(), AllocError> {
         message.begin("source")?;
         if self.known.is_canonical {
-            message.text("name", last_of(self.known.name.as_str()))?;
-            message.text("path", self.known.name.as_str())?;
+            put_file(self.known.name.as_str(), message)?;
         } else {
-            self.put_title(message)?;
-            message.text("origin", self.known.name.as_str())?;
-            message.number("sourceReference", CANONICAL)?;
+            self.put_canonical(message)?;
         }
         message.end()
+    }
+
+    fn put_canonical(&self, message: &mut Message) -> Result<(), AllocError> {
+        self.put_title(message)?;
+        message.text("origin", self.known.name.as_str())?;
+        message.number("sourceReference", CANONICAL)
     }
 
     // The name of the canonical text.
@@ -90,8 +92,13 @@ impl Opened {
     /// The canonical text.
     pub(crate) fn tell_source(&self, message: &mut Message) -> Result<(), Refusal> {
         let text = self.known.program.text()?;
-        Ok(put_content(text.as_str(), message)?)
+        told(put_content(text.as_str(), message))
     }
+}
+
+fn put_file(path: &str, message: &mut Message) -> Result<(), AllocError> {
+    message.text("name", last_of(path))?;
+    message.text("path", path)
 }
 
 fn put_content(text: &str, message: &mut Message) -> Result<(), AllocError> {
@@ -100,10 +107,27 @@ fn put_content(text: &str, message: &mut Message) -> Result<(), AllocError> {
     message.end()
 }
 
+// A frame begins.
+fn put_begun_frame(
+    name: FrameName,
+    frame: &Activation,
+    message: &mut Message,
+) -> Result<(), AllocError> {
+    message.begin_item()?;
+    message.number("id", name.number())?;
+    message.text("name", frame.name.as_str())?;
+    message.number("line", frame.line)?;
+    message.number("column", 1)
+}
+
 // By the lines of `where`, the first of which is that of the position.
 fn put_threads(view: &str, message: &mut Message) -> Result<(), AllocError> {
-    message.begin("body")?;
-    message.begin_list("threads")?;
+    message.begin_body("threads")?;
+    put_each_thread(view, message)?;
+    message.end_body()
+}
+
+fn put_each_thread(view: &str, message: &mut Message) -> Result<(), AllocError> {
     let mut worker: u64 = 0;
     for line in view.lines() {
         if 0 < worker {
@@ -111,8 +135,7 @@ fn put_threads(view: &str, message: &mut Message) -> Result<(), AllocError> {
         }
         worker = worker.saturating_add(1);
     }
-    message.end()?;
-    message.end()
+    Ok(())
 }
 
 // The name of a file, without its folder.

@@ -7,7 +7,7 @@ ghost use Rattle.cilk_debug.specs.console.model.What.{where_it_stands};
 use crate::activation::Activation;
 use crate::lines::{activation_in, hand_in, lines_of, parent_of, worker_line};
 use crate::opened::Opened;
-use crate::refusal::{NO_SUCH_THREAD, Refusal};
+use crate::refusal::{NO_SUCH_THREAD, Refusal, told};
 use cilk_debug::{Command, Memory, ViewFault, What, command_of};
 use std::alloc::{AllocError, Global};
 
@@ -79,34 +79,49 @@ impl Opened {
 
     // Those of one instance, of which there are none where it does not live.
     fn put_frame(&self, path: &str, part: &mut Part) -> Result<(), Refusal> {
-        match self.frame_text(path)? {
-            None => Ok(()),
-            Some(text) => Ok(part.take_all(text.as_str())?),
+        match self.frame_text(path) {
+            Err(memory) => Err(Refusal::from(memory)),
+            Ok(None) => Ok(()),
+            Ok(Some(text)) => told(part.take_all(text.as_str())),
         }
     }
 
     /// What `frame` shows of an instance, if it lives.
     pub(crate) fn frame_text(&self, path: &str) -> Result<Option<String>, Memory> {
-        let line = format!(in self.alloc; "frame {path}")?;
-        match command_of(self.alloc, line.as_bytes())? {
-            Command::View(what) => match self.debugger.view(&what) {
-                Ok(text) => Ok(Some(text)),
-                Err(ViewFault::NoInstance) => Ok(None),
-                Err(ViewFault::Memory(memory)) => Err(memory),
-            },
-            _ => Ok(None),
+        match frame_command(self.alloc, path) {
+            Err(memory) => Err(memory),
+            Ok(Command::View(what)) => self.seen(&what),
+            Ok(_) => Ok(None),
         }
     }
+
+    fn seen(&self, what: &What) -> Result<Option<String>, Memory> {
+        match self.debugger.view(what) {
+            Ok(text) => Ok(Some(text)),
+            Err(ViewFault::NoInstance) => Ok(None),
+            Err(ViewFault::Memory(memory)) => Err(memory),
+        }
+    }
+}
+
+// The command that shows an instance.
+fn frame_command(alloc: Global, path: &str) -> Result<Command, Memory> {
+    let line = format!(in alloc; "frame {path}")?;
+    command_of(alloc, line.as_bytes())
 }
 
 impl Part {
     // The last activation that a text tells is the innermost one.
     fn take_all(&mut self, text: &str) -> Result<(), AllocError> {
         let lines = lines_of(self.alloc, text)?;
+        self.take_lines(lines.as_slice())
+    }
+
+    fn take_lines(&mut self, lines: &[&str]) -> Result<(), AllocError> {
         let mut end = lines.len();
         for start in (0..lines.len()).rev() {
             if let Some((name, line)) = activation_in(lines[start]) {
-                self.take(name, line, lines_between(lines.as_slice(), start, end))?;
+                self.take(name, line, lines_between(lines, start, end))?;
                 end = start;
             }
         }

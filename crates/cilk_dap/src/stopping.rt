@@ -3,7 +3,7 @@
 use crate::adapter::Adapter;
 use crate::message::Message;
 use crate::opened::Opened;
-use crate::refusal::Refusal;
+use crate::refusal::{Refusal, told};
 use crate::stop::Stop;
 use std::alloc::AllocError;
 
@@ -12,18 +12,28 @@ impl Adapter {
     pub(crate) fn stopped(&mut self, stop: Stop) -> Result<Message, Refusal> {
         let number = self.next_number();
         let mut message = Message::event(self.alloc, number, "stopped")?;
-        if let Some(opened) = &self.opened {
-            put_stop(opened, stop, &mut message)?;
+        match self.put_stop(stop, &mut message) {
+            Err(refusal) => {
+                drop(message);
+                Err(refusal)
+            }
+            Ok(()) => Ok(message),
         }
-        message.end()?;
-        Ok(message)
+    }
+
+    // The rest of it.
+    fn put_stop(&self, stop: Stop, message: &mut Message) -> Result<(), Refusal> {
+        if let Some(opened) = &self.opened {
+            put_stop_of(opened, stop, message)?;
+        }
+        told(message.end())
     }
 }
 
-fn put_stop(opened: &Opened, stop: Stop, message: &mut Message) -> Result<(), Refusal> {
+fn put_stop_of(opened: &Opened, stop: Stop, message: &mut Message) -> Result<(), Refusal> {
     let view = opened.view_where()?;
     let place = first_line(view.as_str());
-    Ok(put_place(place, stop, opened.next_mover(), message)?)
+    told(put_place(place, stop, opened.next_mover(), message))
 }
 
 // Where the program stands, why, and the worker that an editor is to show.
@@ -34,11 +44,15 @@ fn put_place(
     message: &mut Message,
 ) -> Result<(), AllocError> {
     message.begin("body")?;
-    message.text("reason", stop.reason())?;
-    message.text("description", place)?;
+    put_reason(place, stop, message)?;
     message.number("threadId", worker)?;
     message.flag("allThreadsStopped", true)?;
     message.end()
+}
+
+fn put_reason(place: &str, stop: Stop, message: &mut Message) -> Result<(), AllocError> {
+    message.text("reason", stop.reason())?;
+    message.text("description", place)
 }
 
 fn first_line<'a>(view: &'a str) -> &'a str {

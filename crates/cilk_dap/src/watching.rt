@@ -1,14 +1,16 @@
 //! Watched variables of the top level.
 
-use crate::asked::Asked;
-use crate::lines::variable_in;
+use crate::asked::{Asked, text_in};
+use crate::lines::{put_line, variable_in};
 use crate::message::Message;
 use crate::opened::Opened;
-use crate::refusal::Refusal;
+use crate::refusal::{Refusal, told};
 use crate::variables::GLOBALS;
 use cilk_debug::What;
 use serde_json::Value;
-use std::alloc::AllocError;
+use std::alloc::{AllocError, Global};
+
+const UNWATCHABLE: &str = "only a variable of the top level can be watched";
 
 impl Opened {
     /// What `globals` shows.
@@ -19,9 +21,10 @@ impl Opened {
     /// The lines of the watched variables in what `globals` shows.
     pub(crate) fn watched_values(&self) -> Result<String, Refusal> {
         let view = self.view_globals()?;
-        let mut values = String::new(self.alloc);
-        put_watched(view.as_str(), self.watched.as_str(), &mut values)?;
-        Ok(values)
+        match watched_in(self.alloc, view.as_str(), self.watched.as_str()) {
+            Err(_) => Err(Refusal::Memory),
+            Ok(values) => Ok(values),
+        }
     }
 
     /// Answers whether a variable can be watched: one of the top level can, and no other of that name.
@@ -33,11 +36,16 @@ impl Opened {
         let Some(name) = asked.text("name") else {
             return Err(Refusal::Words("a name is wanted"));
         };
-        let found = match asked.number("variablesReference") {
-            None | Some(GLOBALS) => self.is_global(name)?,
-            Some(_) => false,
-        };
-        Ok(put_watchable(found, name, message)?)
+        let found = self.is_watchable(asked.number("variablesReference"), name)?;
+        told(put_watchable(found, name, message))
+    }
+
+    // Whether a variable of this name can be watched that an editor shows in a scope.
+    fn is_watchable(&self, scope: Option<u64>, name: &str) -> Result<bool, Refusal> {
+        match scope {
+            None | Some(GLOBALS) => self.is_global(name),
+            Some(_) => Ok(false),
+        }
     }
 
     fn is_global(&self, name: &str) -> Result<bool, Refusal> {
@@ -54,7 +62,7 @@ impl Opened {
         let view = self.view_globals()?;
         self.watched.clear();
         let wanted = asked.argument("breakpoints");
-        Ok(watch_all(view.as_str(), wanted, &mut self.watched, message)?)
+        told(watch_all(view.as_str(), wanted, &mut self.watched, message))
     }
 }
 
@@ -62,14 +70,10 @@ fn put_watchable(found: bool, name: &str, message: &mut Message) -> Result<(), A
     message.begin("body")?;
     if found {
         message.text("dataId", name)?;
-        message.text("description", name)?;
     } else {
         message.nothing("dataId")?;
-        message.text(
-            "description",
-            "only a variable of the top level can be watched",
-        )?;
     }
+    message.text("description", if found { name } else { UNWATCHABLE })?;
     message.end()
 }
 
@@ -80,15 +84,13 @@ fn watch_all(
     watched: &mut String,
     message: &mut Message,
 ) -> Result<(), AllocError> {
-    message.begin("body")?;
-    message.begin_list("breakpoints")?;
+    message.begin_body("breakpoints")?;
     if let Some(Value::Array(wanted)) = wanted {
         for one in wanted {
             watch(view, one, watched, message)?;
         }
     }
-    message.end()?;
-    message.end()
+    message.end_body()
 }
 
 // One more is watched, if there is such a variable.
@@ -98,23 +100,14 @@ fn watch(
     watched: &mut String,
     message: &mut Message,
 ) -> Result<(), AllocError> {
-    let name = match wanted.get("dataId") {
-        None => None,
-        Some(name) => name.as_str(),
-    };
     message.begin_item()?;
-    match name {
+    match text_in(wanted, "dataId") {
         Some(name) if is_variable(view, name) => {
-            watched.push_str(name)?;
-            watched.push_str("\n")?;
-            message.flag("verified", true)?;
+            put_line(name, watched)?;
+            message.put_verified()
         }
-        _ => {
-            message.flag("verified", false)?;
-            message.text("message", "there is no such variable of the top level")?;
-        }
+        _ => message.put_unverified("there is no such variable of the top level"),
     }
-    message.end()
 }
 
 fn is_variable(view: &str, name: &str) -> bool {
@@ -128,16 +121,33 @@ fn is_variable(view: &str, name: &str) -> bool {
     false
 }
 
+// The lines of a view that tell of the watched variables.
+fn watched_in(alloc: Global, view: &str, watched: &str) -> Result<String, AllocError> {
+    let mut values = String::new(alloc);
+    match put_watched(view, watched, &mut values) {
+        Err(memory) => {
+            drop(values);
+            Err(memory)
+        }
+        Ok(()) => Ok(values),
+    }
+}
+
 fn put_watched(view: &str, watched: &str, out: &mut String) -> Result<(), AllocError> {
     for line in view.lines() {
-        if let Some((name, _)) = variable_in(line) {
-            if is_line(watched, name) {
-                out.push_str(line)?;
-                out.push_str("\n")?;
-            }
+        if is_watched(line, watched) {
+            put_line(line, out)?;
         }
     }
     Ok(())
+}
+
+// Whether the variable of a line is watched.
+fn is_watched(line: &str, watched: &str) -> bool {
+    match variable_in(line) {
+        None => false,
+        Some((name, _)) => is_line(watched, name),
+    }
 }
 
 fn is_line(text: &str, wanted: &str) -> bool {
