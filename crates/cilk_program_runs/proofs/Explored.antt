@@ -1,7 +1,7 @@
 -- The logs of an exploration, one after another, and what is written of it.
 use Rattle.std.proofs.Common.{◌≡◌, ◌<◌, ◌≤◌, ◌+◌, ◌∙◌, arith, inl, inr, refl, sym, ap, subst, ℕ, zero, suc, Bool, true, false, List, [], ◌∷◌, length}
 use Rattle.std.proofs.Common.{Option, Some, IfSome, option_map}
-use Rattle.std.specs.Prelude.{◌≢◌, slice_get}
+use Rattle.std.specs.Prelude.{◌≢◌, slice_get, Result, Ok, Err, IfOk}
 use Rattle.std.proofs.Math.Nat.{eq-or-lt_of_le}
 use Rattle.std.proofs.lemmas.Option.{slice_get-map}
 use Rattle.cilk_commands.specs.Held.{Held, IsReadOf}
@@ -19,6 +19,7 @@ use Rattle.cilk_run.specs.model.Choice.{Choice}
 use Rattle.cilk_program_runs.specs.Exploring.{exploration_text, status_by, recorded, logs_of}
 use Rattle.cilk_program_runs.specs.Exploring.{AreKept, GivesUpExploring, IsExplored, Keeps, KeepsFront}
 use Rattle.cilk_program_runs.specs.Outcomes.{Outcome, log_in, outcomes_by}
+use Rattle.cilk_program_runs.specs.declared.explore.Answer.{Answer}
 use Rattle.cilk_program_runs.specs.Unexplored.{IsUnexplored, TellsUnexplored, status_of}
 use Rattle.cilk_program_runs.specs.declared.unexplored.Unexplored.{Unexplored}
 use Rattle.cilk_program_runs.specs.declared.unexplored.Unexplored.TheVariants as why
@@ -80,19 +81,18 @@ kept-all program workers outcomes k stored all kept = λ j text is.
 
 -- ---- what is written
 
-pub explored-of : (workers limit : ℕ) (ended : Status) (bytes text : List ℕ) (program : Program) (e : Exploration) → IsReady bytes program
-    → IsExploration program workers limit e → ended ≡ status_by e.whole (length (outcomes_by e))
-    → text ≡ exploration_text workers e.whole e.or_more (outcomes_by e)
-    → IsExplored workers limit ended bytes text (logs_of program workers (outcomes_by e))
-explored-of workers limit ended bytes text program e ready found tells is = record {
-  program = program;
-  ready = ready;
-  exploration = e;
-  found = found;
-  tells = tells;
-  is = is;
-  kept = refl;
-}
+pub explored-of : {E : Type 0} (workers limit : ℕ) (wanted : Bool) (program : Program) (e : Exploration) (stored : ℕ → Option (List ℕ))
+    (answer : Result Answer E) → IsExploration program workers limit e → IfOk answer (λ a. a.status ≡ status_by e.whole (length (outcomes_by e)))
+    → IfOk answer (λ a. a.text.items ≡ exploration_text workers e.whole e.or_more (outcomes_by e))
+    → IfOk answer (λ a. wanted ≡ true → AreKept (logs_of program workers (outcomes_by e)) stored)
+    → IfOk answer (λ a. (bytes : List ℕ) → IsReady bytes program → (logs : List (List ℕ))
+    × IsExplored workers limit a.status bytes a.text.items logs × (wanted ≡ true → AreKept logs stored))
+explored-of workers limit wanted program e stored (Ok a) found tells is kept = λ bytes ready. (
+  logs_of program workers (outcomes_by e),
+  record { program = program; ready = ready; exploration = e; found = found; tells = tells; is = is; kept = refl },
+  kept,
+)
+explored-of workers limit wanted program e stored (Err why) found tells is kept = tt
 
 module _ (known : Option (List ℕ)) (text : List ℕ) (wanted : Bool) (stored : ℕ → Option (List ℕ)) (old new : Option (List ℕ))
     (Are : List ℕ → List ℕ → List (List ℕ) → Type 0) (short : (answer : List ℕ) (logs : List (List ℕ)) → Are text answer logs → length text ≤ TEXT_LIMIT)

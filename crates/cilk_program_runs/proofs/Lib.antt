@@ -1,7 +1,6 @@
 mod ChoiceLines
 mod ChoiceStands
 pub mod NotRead
-mod Fronts
 pub mod Said
 pub mod Whole
 pub mod Ran

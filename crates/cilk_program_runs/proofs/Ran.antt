@@ -1,6 +1,7 @@
 -- The texts of a machine that is not moved any more.
-use Rattle.std.proofs.Common.{◌≡◌, ◌≤◌, ℕ, Bool, true, List, length, map, take, sym, ap, ◌∙◌, subst}
-use Rattle.std.specs.Prelude.{Option, Some, None, Result, Ok, Err, IfOk, IfSome}
+use Rattle.std.proofs.Common.{◌≡◌, ◌≤◌, ℕ, Bool, true, false, refl, List, length, map, take, sym, ap, ◌∙◌, subst}
+use Rattle.std.specs.Prelude.{◌≢◌, Option, Some, None, Result, Ok, Err, IfOk, IfSome}
+use Rattle.std.specs.Io.KnownBytes.{Appends}
 use Rattle.std.proofs.lemmas.List.{length-map}
 use Rattle.std.proofs.Math.Seq.{take-length}
 use Rattle.cilk_commands.specs.syntax.Tree.{Program}
@@ -78,6 +79,12 @@ told_of workers limit seed p r is_logged (Ok t) l named status text log = λ byt
   log,
 )
 told_of workers limit seed p r is_logged (Err e) l named status text log = tt
+
+-- what a store gained is the log, where one is wanted; of a store that keeps none no byte is known
+pub kept_log : (is_logged : Bool) (old new : Option (List ℕ)) (written log items : List ℕ) → (is_logged ≡ false → old ≡ None) → written ≡ items
+    → (is_logged ≡ true → items ≡ log) → ((text : List ℕ) → (old ≢ None → written ≡ text) → Appends old new text) → Appends old new log
+kept_log true old new written log items none same is kept = kept log (λ known. same ∙ is refl)
+kept_log false old new written log items none same is kept = kept log (λ known. absurd (known (none refl)))
 
 -- the closing text that is made of what a machine tells
 pub closes_by : {E : Type 0} (closing : Result Closing E) (m : Situation) (output : List ℕ) (ended : end.End) (n : ℕ)

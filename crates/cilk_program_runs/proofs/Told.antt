@@ -1,6 +1,6 @@
 -- The status that tells of a failure.
 use Rattle.std.proofs.Common.{◌≡◌, ◌∙◌, true, false, ℕ, List, refl, sym, ap}
-use Rattle.std.specs.Prelude.{◌≢◌}
+use Rattle.std.specs.Prelude.{◌≢◌, Result, Ok, Err, OnErr}
 use Rattle.cilk_draw.specs.replay.log.declared.fault.LogFault.TheVariants as log
 use Rattle.cilk_draw.specs.replay.declared.replay_fault.ReplayFault.{ReplayFault}
 use Rattle.cilk_draw.specs.replay.declared.replay_fault.ReplayFault.TheVariants as replay
@@ -84,3 +84,8 @@ replay_reads replay.OtherProgram bad = cc
 replay_reads replay.Workers bad = cc
 replay_reads (replay.BadChoice number refusal) bad = cc
 replay_reads replay.Memory bad = cc
+
+-- what holds wherever it is asked
+pub on_err : {A E P : Type 0} (r : Result A E) → P → OnErr r P
+on_err (Ok x) holds = tt
+on_err (Err e) holds = holds

@@ -4,7 +4,7 @@ ghost use Rattle.std.specs.Prelude.{◌≡◌, ◌≢◌, ℕ, List, true, false
 ghost use Rattle.cilk_commands.specs.Loading.{IsReady};
 ghost use Rattle.cilk_commands.specs.Status.{is_answer};
 ghost use Rattle.cilk_program_runs.specs.Exploring.{AreKept, Explores, ExploresFront, GivesUpExploring, IsExplored, Keeps, KeepsFront};
-ghost use Rattle.cilk_program_runs.specs.Exploring.{status_by};
+ghost use Rattle.cilk_program_runs.specs.Exploring.{exploration_text, logs_of, status_by};
 ghost use Rattle.cilk_program_runs.specs.Outcomes.{outcomes_by};
 ghost use Rattle.cilk_program_runs.specs.AsAsked.{log_name};
 ghost use Rattle.cilk_program_runs.specs.Unexplored.{IsOfLogs, IsUnexplored, status_of};
@@ -117,14 +117,33 @@ fn answer_of<F: LogFolder>(
     let Ok(exploration) = explore(alloc, program, task.workers, task.limit) else {
         return Err(Unexplored::Program(Failure::Memory));
     };
-    let status = status_by(&exploration);
-    let Ok(text) = text_of(alloc, task.workers, &exploration) else {
-        drop(exploration);
+    let answer = answer_by(alloc, task, program, &exploration, folder);
+    drop(exploration);
+    answer
+}
+
+// The same of an exploration that was made.
+fn answer_by<F: LogFolder>(
+    alloc: Global,
+    task: &ExploreTask<'_>,
+    program: &Loaded,
+    exploration: &Exploration,
+    folder: &mut F,
+) -> Result<Answer, Unexplored>
+    ensures status { IfOk result (λ a. a.status ≡ status_by exploration.now.whole (length (outcomes_by exploration.now))) }
+    ensures text { IfOk result (λ a. a.text.items
+        ≡ exploration_text task.now.workers exploration.now.whole exploration.now.or_more (outcomes_by exploration.now)) }
+    ensures kept { IfOk result (λ _. F.wanted folder.old ≡ true
+        → AreKept (logs_of program.now task.now.workers (outcomes_by exploration.now)) (F.stored folder.new)) }
+    ensures answer { IfOk result (λ a. is_answer a.status ≡ true) }
+    ensures untrapped { IfOk result (λ a. a.status ≢ Status.Trapped) }
+    ensures err { IfErr result (IsOfLogs (F.wanted folder.old)) }
+{
+    let status = status_by(exploration);
+    let Ok(text) = text_of(alloc, task.workers, exploration) else {
         return Err(Unexplored::Program(Failure::Memory));
     };
-    let kept = keep_logs(alloc, program, task.workers, &exploration, folder);
-    drop(exploration);
-    match kept {
+    match keep_logs(alloc, program, task.workers, exploration, folder) {
         Ok(()) => Ok(Answer { status, text }),
         Err(why) => {
             drop(text);

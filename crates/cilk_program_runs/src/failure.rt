@@ -122,7 +122,6 @@ impl RecordFailure {
         }
     }
 
-    #[tactic(auto, using(crate::proofs::Fronts::all_behind, crate::proofs::Fronts::front_before, crate::proofs::Fronts::front_behind))]
     fn tell_all<W: Write>(&self, names: &FileNames<'_>, behind: &str, err: &mut W) -> io::Result<()>
         ensures ok { OnOk result (Appends (W.contents err.old) (W.contents err.new)
             (failure_line names.now.program.now names.now.log.now self.now ++ behind.now)) }
@@ -145,10 +144,7 @@ impl RecordFailure {
             RecordFailure::Log(fault) => tell_log(fault, names.log, err),
             RecordFailure::Replay(fault) => tell_replay(fault, names.log, err),
             RecordFailure::TooLong => {
-                write_parts(
-                    err,
-                    &[names.log, ": too long to draw; try --from and --to\n"],
-                )
+                write_named(err, names.log, ": too long to draw; try --from and --to\n")
             }
             RecordFailure::CannotStore => {
                 write_parts(err, &["cilk: cannot write ", names.log, "\n"])
@@ -160,19 +156,27 @@ impl RecordFailure {
     }
 }
 
+// A name, and what is told of it.
+fn write_named<'a, W: Write>(err: &mut W, name: &'a str, words: &'a str) -> io::Result<()>
+    ensures ok { OnOk result (Appends (W.contents err.old) (W.contents err.new) (name.now ++ words.now)) }
+    ensures front { OnErr result (AppendsFront (W.contents err.old) (W.contents err.new) (name.now ++ words.now)) }
+{
+    write_parts(err, &[name, words])
+}
+
 fn tell_log<W: Write>(fault: &LogFault, name: &str, err: &mut W) -> io::Result<()>
     ensures ok { OnOk result (Appends (W.contents err.old) (W.contents err.new) (log_line name.now fault.now)) }
     ensures front { OnErr result (AppendsFront (W.contents err.old) (W.contents err.new) (log_line name.now fault.now)) }
 {
     match fault {
-        LogFault::Version => write_parts(err, &[name, ": G1 Version\n"]),
+        LogFault::Version => write_named(err, name, ": G1 Version\n"),
         LogFault::Line(number) => {
             let mut digits = Buffer::new();
             tell_line(err, name, digits.format(*number))
         }
-        LogFault::Truncated => write_parts(err, &[name, ": G3 Truncated\n"]),
-        LogFault::Count => write_parts(err, &[name, ": G4 Count\n"]),
-        LogFault::TooMany => write_parts(err, &[name, ": G6 TooMany\n"]),
+        LogFault::Truncated => write_named(err, name, ": G3 Truncated\n"),
+        LogFault::Count => write_named(err, name, ": G4 Count\n"),
+        LogFault::TooMany => write_named(err, name, ": G6 TooMany\n"),
         LogFault::Memory => Failure::Memory.write_line(name, err),
     }
 }
@@ -182,8 +186,8 @@ fn tell_replay<W: Write>(fault: &ReplayFault, name: &str, err: &mut W) -> io::Re
     ensures front { OnErr result (AppendsFront (W.contents err.old) (W.contents err.new) (replay_line name.now fault.now)) }
 {
     match fault {
-        ReplayFault::OtherProgram => write_parts(err, &[name, ": G5 OtherProgram\n"]),
-        ReplayFault::Workers => write_parts(err, &[name, ": B0 Workers\n"]),
+        ReplayFault::OtherProgram => write_named(err, name, ": G5 OtherProgram\n"),
+        ReplayFault::Workers => write_named(err, name, ": B0 Workers\n"),
         ReplayFault::BadChoice(number, refusal) => {
             let mut digits = Buffer::new();
             tell_choice(err, name, digits.format(*number), code_of(refusal))

@@ -4,6 +4,8 @@ use Rattle.cilk_program_runs.specs.GivingUp.{GivesUpRun}
 use Rattle.cilk_program_runs.specs.AsAsked.{log_name}
 use Rattle.cilk_program_runs.proofs.NotRead.{no_run}
 use Rattle.cilk_program_runs.proofs.Said.{failure_no_trap}
+use Rattle.cilk_program_runs.proofs.Told.{no_usage_told, not_told}
+use Rattle.cilk_program_runs.specs.declared.failure.RecordFailure.TheVariants as why
 use Rattle.cilk_program_runs.proofs.asked.run_named.Goals as goal
 
 pub returns-in_default-clause-told : goal.returns-in_default-clause-told
@@ -22,3 +24,30 @@ returns-clause-told g c = λ none.
 
 pub returns-in_default-clause-explained : goal.returns-in_default-clause-explained
 returns-in_default-clause-explained g c = λ told. failure_no_trap c.args.task.now.explain c.report.result Memory c.report.ensures.status told
+
+pub returns-clause-done : goal.returns-clause-done
+returns-clause-done g c = λ answered. record { stored_old = _; stored_new = _; is = c.run_text.ensures.done answered }
+
+pub returns-clause-begun : goal.returns-clause-begun
+returns-clause-begun g c = λ failed. record { stored_old = _; stored_new = _; is = c.run_text.ensures.begun failed }
+
+pub returns-clause-usage : goal.returns-clause-usage
+returns-clause-usage g c = c.run_text.ensures.usage
+
+pub returns-clause-explained : goal.returns-clause-explained
+returns-clause-explained g c = c.run_text.ensures.explained
+
+pub returns-clause-quiet : goal.returns-clause-quiet
+returns-clause-quiet g c = c.run_text.ensures.quiet
+
+pub returns-clause-kept : goal.returns-clause-kept
+returns-clause-kept g c = c.run_text.ensures.kept
+
+pub returns-in_default-clause-done : goal.returns-in_default-clause-done
+returns-in_default-clause-done g c = λ answered. not_told c.report.result (why.Program Memory) c.report.ensures.status answered
+
+pub returns-in_default-clause-usage : goal.returns-in_default-clause-usage
+returns-in_default-clause-usage g c = no_usage_told c.report.result (why.Program Memory) c.report.ensures.status
+
+pub returns-in_default-clause-quiet : goal.returns-in_default-clause-quiet
+returns-in_default-clause-quiet g c = λ answered traps. not_told c.report.result (why.Program Memory) c.report.ensures.status answered

@@ -1,15 +1,8 @@
-use Rattle.cilk_program_runs.specs.Exploring.{logs_of}
-use Rattle.cilk_program_runs.specs.Outcomes.{outcomes_by}
 use Rattle.cilk_program_runs.proofs.Explored.{explored-of}
 use Rattle.cilk_program_runs.proofs.explore.answer_of.Goals as goal
 
-pub returns-in-Ok-kept-clause-ok : goal.returns-in-Ok-kept-clause-ok
-returns-in-Ok-kept-clause-ok g c = λ bytes ready.
-    let task = c.args.task.now in
-    let program = c.args.program.now in
-    let e = c.in-Ok.exploration in (
-      logs_of program task.workers (outcomes_by e),
-      explored-of task.workers task.limit c.status_by-status.result bytes c.in-Ok-text_of.text.items program e ready c.in-Ok.ensures.found
-          c.status_by-status.ensures.by c.in-Ok-text_of.ensures,
-      c.in-Ok-kept.ensures.kept,
-    )
+pub returns-clause-ok : goal.returns-clause-ok
+returns-clause-ok g c =
+    explored-of c.args.task.now.workers c.args.task.now.limit (g.F.LogFolder.wanted c.args.folder.now) c.args.program.now c.in-Ok.exploration
+    (g.F.LogFolder.stored c.answer_by-answer.new.folder) c.answer_by-answer.result c.in-Ok.ensures.found c.answer_by-answer.ensures.status
+    c.answer_by-answer.ensures.text c.answer_by-answer.ensures.kept

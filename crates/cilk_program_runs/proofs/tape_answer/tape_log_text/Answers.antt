@@ -1,6 +1,8 @@
-use Rattle.std.proofs.Common.{subst, sym, ◌∙◌, ℕ, List}
+use Rattle.std.proofs.Common.{subst, sym, ap, ◌∙◌, ℕ, List}
 use Rattle.cilk_commands.specs.Held.{Held, IsReadOf}
+use Rattle.cilk_commands.proofs.Statuses.{no_usage_answered, not_both, not_failed}
 use Rattle.cilk_commands.proofs.WholeText.{gains_whole, gains_front_whole}
+use Rattle.cilk_commands.specs.Status.{is_answer}
 use Rattle.cilk_commands.specs.declared.status.Status.{Status}
 use Rattle.cilk_program_runs.specs.OnTapes.{IsOfLog}
 use Rattle.cilk_program_runs.specs.Taped.{Declines}
@@ -70,3 +72,24 @@ returns-clause-quiet g c = λ answered. not_told c.explain_log.result c.in-Err-t
 
 pub returns-clause-kept : goal.returns-clause-kept
 returns-clause-kept g c = λ none other. c.in-Err-tell_log.ensures.kept (λ bad. other (c.explain_log.ensures.status ∙ bad))
+
+pub returns-in-Err-clause-untrapped : goal.returns-in-Err-clause-untrapped
+returns-in-Err-clause-untrapped g c = λ trapped. not_told c.report.result (why.Program c.in-Err.failure) c.report.ensures.status (ap is_answer trapped)
+
+pub returns-clause-untrapped : goal.returns-clause-untrapped
+returns-clause-untrapped g c = λ trapped. not_told c.explain_log.result c.in-Err-tell_log.why c.explain_log.ensures.status (ap is_answer trapped)
+
+pub returns-in-Ok-tell_log-clause-untrapped : goal.returns-in-Ok-tell_log-clause-untrapped
+returns-in-Ok-tell_log-clause-untrapped g c = c.in-Ok-tell_log.ensures.untrapped
+
+pub returns-in-Ok-tell_log-clause-usage : goal.returns-in-Ok-tell_log-clause-usage
+returns-in-Ok-tell_log-clause-usage g c = no_usage_answered c.in-Ok-tell_log.status c.in-Ok-tell_log.ensures.answer
+
+pub returns-in-Ok-tell_log-clause-told : goal.returns-in-Ok-tell_log-clause-told
+returns-in-Ok-tell_log-clause-told g c = λ held is none. not_both c.in-Ok-tell_log.status c.in-Ok-tell_log.ensures.answer none
+
+pub returns-in-Ok-tell_log-clause-begun : goal.returns-in-Ok-tell_log-clause-begun
+returns-in-Ok-tell_log-clause-begun g c = λ held is failed. not_failed c.in-Ok-tell_log.status c.in-Ok-tell_log.ensures.answer failed
+
+pub returns-in-Ok-tell_log-clause-kept : goal.returns-in-Ok-tell_log-clause-kept
+returns-in-Ok-tell_log-clause-kept g c = λ none other. not_both c.in-Ok-tell_log.status c.in-Ok-tell_log.ensures.answer none
