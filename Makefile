@@ -21,7 +21,7 @@ demo: cilk
 	tools/demo ./cilk
 
 # The gate, which what lands has to pass (docs/GATE.md).
-test: ways must_not_compile
+test: ways
 	tools/gate
 
 # Counts the ways down through crates.txt, looks up what the pages name, and tells what is not as the house wants its files (docs/GATE.md).

@@ -8,7 +8,7 @@ use Rattle.std.specs.List.{prefix_len}
 use Rattle.std.specs.Str.{all_ascii_digits}
 use Rattle.std.proofs.lemmas.List.{take_at, drop_at, take-append-drop}
 use Rattle.std.proofs.lemmas.Slice.Eq.{bytes_eq-Decides}
-use Rattle.cilk_machine_choices.specs.model.Choice.{Act, step, pop, steal, Choice}
+use Rattle.cilk_sched.specs.model.Choice.{Act, step, pop, steal, Choice}
 use Rattle.cilk_log.specs.Choices.{act_text, choice_text, ActFits, ChoiceFits}
 use Rattle.cilk_log.specs.Text.{end_text, workers_text}
 use Rattle.cilk_log.specs.Reading.{number_in, behind, number_told, workers_in, count_in, steal_in, act_in, choice_by, choice_in}

@@ -2,7 +2,7 @@
 use Rattle.std.proofs.Common.{◌≡◌, ℕ, ◌^◌, ◌<◌, ◌+◌, Bool, true, false, cond, List, [], ◌∷◌, ◌++◌, map, length, flat_map, Option, Some, None, refl, sym, ap}
 use Rattle.std.proofs.Common.{◌∙◌, arith}
 use Rattle.std.specs.List.{AllByRecursion}
-use Rattle.cilk_machine_choices.specs.model.Choice.{Choice}
+use Rattle.cilk_sched.specs.model.Choice.{Choice}
 use Rattle.cilk_log.specs.Choices.{ChoiceFits, choice_text}
 use Rattle.cilk_log.specs.Stretches.{Stretch, once, count_of, are_joined, with_first, stretches_of, stretch_text}
 use Rattle.cilk_log.specs.Text.{Log, LogFits, end_text, lines_by, log_lines, with_newline}

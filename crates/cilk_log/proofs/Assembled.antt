@@ -1,6 +1,6 @@
 -- The lines of version 2, one behind the other.
 use Rattle.std.proofs.Common.{◌≡◌, ℕ, List, [], ◌∷◌, ◌++◌, map, length, flat_map, Some, Result, Ok, Err, OnOk, codes, sym, ap, ◌∙◌, append_assoc, append-nil}
-use Rattle.cilk_machine_choices.specs.model.Choice.{Choice}
+use Rattle.cilk_sched.specs.model.Choice.{Choice}
 use Rattle.cilk_log.specs.Stretches.{stretches_of, stretch_text}
 use Rattle.cilk_log.specs.Text.{workers_text, digest_text, end_text, lines_by, with_newline}
 

@@ -9,7 +9,7 @@ use Rattle.std.specs.List.{list_all, AllByRecursion}
 use Rattle.std.proofs.lemmas.List.{length-append}
 use Rattle.std.proofs.lemmas.List.Folds.{list_all-append}
 use Rattle.std.proofs.lemmas.Bool.Decides.{nat_tests}
-use Rattle.cilk_machine_choices.specs.model.Choice.{Act, step, pop, steal, Choice}
+use Rattle.cilk_sched.specs.model.Choice.{Act, step, pop, steal, Choice}
 use Rattle.cilk_log.specs.Choices.{ActFits, ChoiceFits, act_text, choice_text}
 use Rattle.cilk_log.specs.Text.{with_newline}
 use Rattle.cilk_log.specs.Reading.{Lines, lines_of, behind_byte, TellsFirst}

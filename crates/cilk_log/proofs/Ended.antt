@@ -1,7 +1,7 @@
 -- What stands behind the choices of a recorded schedule.
 use Rattle.std.proofs.Common.{◌≡◌, ℕ, ◌^◌, ◌<◌, Bool, true, false, cond, List, [], ◌∷◌, length, Option, Some, None, Ok, Err, refl, ap, ◌∙◌, eqb-true}
 use Rattle.std.specs.Prelude.{◌==◌}
-use Rattle.cilk_machine_choices.specs.model.Choice.{Choice}
+use Rattle.cilk_sched.specs.model.Choice.{Choice}
 use Rattle.cilk_log.specs.Text.{end_text}
 use Rattle.cilk_log.specs.Reading.{wrong_count, count_in, closed, counted, ended}
 use Rattle.cilk_log.proofs.Acts.{count_told}

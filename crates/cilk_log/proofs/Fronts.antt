@@ -1,9 +1,9 @@
 -- The stretch in front of choices.
 use Rattle.std.proofs.Common.{◌≡◌, ℕ, suc, ◌+◌, Bool, true, false, cond, not, List, [], ◌∷◌, map, drop, refl, sym, ap, ◌∙◌, arith}
 use Rattle.std.specs.List.{prefix_len}
-use Rattle.cilk_machine_choices.specs.model.Choice.{Choice}
-use Rattle.cilk_machine_choices.specs.declared.choice.Choice as code
-use Rattle.cilk_machine_choices.specs.Words.{choice_of}
+use Rattle.cilk_sched.specs.model.Choice.{Choice}
+use Rattle.cilk_sched.specs.declared.choice.Choice as code
+use Rattle.cilk_sched.specs.Words.{choice_of}
 use Rattle.cilk_log.specs.Stretches.{Stretch, once, are_joined, is_apart, with_first, stretches_of}
 use Rattle.cilk_log.proofs.Stretching.{joined_same, joined_steps, first_alone, first_joined}
 

@@ -1,7 +1,7 @@
 -- How the lines behind the first choices go on.
 use Rattle.std.proofs.Common.{◌≡◌, ℕ, ◌+◌, Bool, true, false, cond, List, [], ◌∷◌, ◌++◌, length, Some, None, Result, Err, refl, ap, append_assoc, eq-eqb}
 use Rattle.std.specs.Prelude.{◌==◌}
-use Rattle.cilk_machine_choices.specs.model.Choice.{Choice}
+use Rattle.cilk_sched.specs.model.Choice.{Choice}
 use Rattle.cilk_log.specs.Reading.{Lines, lines_of, behind_byte, Fault, wrong_line, told_in, choice_in, count_in, closed, counted, ended}
 
 -- behind these choices

@@ -5,9 +5,9 @@ use Rattle.std.proofs.Common.{append_assoc, length-append, zero, suc, map}
 use Rattle.std.proofs.lemmas.List.{length-replicate, map-append}
 use Rattle.std.specs.Prelude.{nat_le}
 use Rattle.std.proofs.lemmas.Bool.{le-leb, lt-leb}
-use Rattle.cilk_machine_choices.specs.model.Choice.{Choice}
-use Rattle.cilk_machine_choices.specs.declared.choice.Choice as code
-use Rattle.cilk_machine_choices.specs.Words.{choice_of}
+use Rattle.cilk_sched.specs.model.Choice.{Choice}
+use Rattle.cilk_sched.specs.declared.choice.Choice as code
+use Rattle.cilk_sched.specs.Words.{choice_of}
 use Rattle.cilk_log.specs.Stretches.{Stretch, choices_of, count_of, are_joined, following}
 use Rattle.cilk_log.specs.Text.{most_choices}
 use Rattle.cilk_log.specs.Reading.{Lines, Fault, too_many, Stretched, behind_choice, in_front, stretched_by, stretched_in, stretch_in, count_in}

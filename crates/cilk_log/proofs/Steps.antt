@@ -3,7 +3,7 @@ use Rattle.std.proofs.Common.{◌≡◌, ℕ, ◌+◌, ◌-◌, ◌<◌, ◌≤�
 use Rattle.std.specs.Prelude.{codes, slice_index_or}
 use Rattle.std.proofs.lemmas.Fmt.{decimal_digit}
 use Rattle.std.proofs.lemmas.List.{take_all}
-use Rattle.cilk_machine_choices.specs.model.Choice.{step}
+use Rattle.cilk_sched.specs.model.Choice.{step}
 use Rattle.cilk_log.specs.Reading.{TellsFirst}
 use Rattle.cilk_log.proofs.Breaks.{line_of_choice}
 

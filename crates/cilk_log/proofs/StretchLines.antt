@@ -8,7 +8,7 @@ use Rattle.std.proofs.lemmas.Bool.{le-leb, leb-true, and_from}
 use Rattle.std.proofs.lemmas.Bool.Decides.{nat_tests}
 use Rattle.std.proofs.lemmas.List.{take_at, drop_at, take-append-drop}
 use Rattle.std.proofs.lemmas.List.Folds.{list_all-append}
-use Rattle.cilk_machine_choices.specs.model.Choice.{Act, step, pop, steal, Choice}
+use Rattle.cilk_sched.specs.model.Choice.{Act, step, pop, steal, Choice}
 use Rattle.cilk_log.specs.Choices.{choice_text, ChoiceFits}
 use Rattle.cilk_log.specs.Stretches.{Stretch, once, is_step, IsStretch, stretch_text}
 use Rattle.cilk_log.specs.Text.{most_choices}

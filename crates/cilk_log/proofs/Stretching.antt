@@ -3,7 +3,7 @@ use Rattle.std.proofs.Common.{◌≡◌, ℕ, suc, ◌+◌, ◌≤◌, Bool, tru
 use Rattle.std.proofs.Common.{subst, zero, arith, add-one, eqb-true, eq-eqb, length-append}
 use Rattle.std.proofs.lemmas.Bool.{and_parts}
 use Rattle.std.proofs.lemmas.List.{length-replicate}
-use Rattle.cilk_machine_choices.specs.model.Choice.{Act, step, pop, steal, Choice}
+use Rattle.cilk_sched.specs.model.Choice.{Act, step, pop, steal, Choice}
 use Rattle.cilk_log.specs.Stretches.{Stretch, once, choices_of, count_of, is_step, are_joined, is_apart, with_first, stretches_of, IsStretch, AreStretches}
 
 -- ---- steps of one worker

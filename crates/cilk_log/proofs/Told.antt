@@ -5,7 +5,7 @@ use Rattle.std.specs.Prelude.{bytes_eq}
 use Rattle.std.specs.List.{AllByRecursion}
 use Rattle.std.proofs.lemmas.Bool.Decides.{nat_tests}
 use Rattle.std.proofs.lemmas.Slice.Eq.{bytes_eq-Decides}
-use Rattle.cilk_machine_choices.specs.model.Choice.{Choice}
+use Rattle.cilk_sched.specs.model.Choice.{Choice}
 use Rattle.cilk_log.specs.Choices.{ChoiceFits, choice_text}
 use Rattle.cilk_log.specs.Text.{Log, LogFits, most_choices, is_past_most, end_text, workers_text, digest_text, first_line, first_line_2}
 use Rattle.cilk_log.specs.Text.{log_lines, log_text, with_newline}

@@ -4,7 +4,7 @@ use Rattle.std.proofs.Common.{ap, ◌∙◌, arith}
 use Rattle.std.specs.Prelude.{nat_le}
 use Rattle.std.specs.List.{AllByRecursion}
 use Rattle.std.proofs.lemmas.Bool.{leb-true}
-use Rattle.cilk_machine_choices.specs.model.Choice.{Choice}
+use Rattle.cilk_sched.specs.model.Choice.{Choice}
 use Rattle.cilk_log.specs.Choices.{ChoiceFits}
 use Rattle.cilk_log.specs.Stretches.{Stretch, choices_of, count_of, stretches_of, stretch_text, is_apart, AreStretches}
 use Rattle.cilk_log.specs.Text.{most_choices, end_text}

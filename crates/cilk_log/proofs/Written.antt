@@ -3,7 +3,7 @@ use Rattle.std.proofs.Common.{◌≡◌, ℕ, ◌^◌, ◌<◌, ◌≤◌, false
 use Rattle.std.specs.List.{AllByRecursion}
 use Rattle.std.proofs.lemmas.Bool.{le-leb}
 use Rattle.std.proofs.lemmas.Bool.Decides.{nat_tests}
-use Rattle.cilk_machine_choices.specs.model.Choice.{Choice}
+use Rattle.cilk_sched.specs.model.Choice.{Choice}
 use Rattle.cilk_log.specs.Choices.{ChoiceFits, choice_text}
 use Rattle.cilk_log.specs.Stretches.{Stretch, count_of, stretches_of, stretch_text, AreStretches}
 use Rattle.cilk_log.specs.Text.{Log, LogFits, ProgramFits, most_choices, is_past_most, end_text, lines_by, log_text}

@@ -1,6 +1,6 @@
 -- One choice, and the line that tells it.
 use Rattle.std.specs.Prelude.{ℕ, ◌<◌, ⊤, List, ◌++◌, codes, decimal}
-use Rattle.cilk_machine_choices.specs.model.Choice.{Act, step, pop, steal, Choice}
+use Rattle.cilk_sched.specs.model.Choice.{Act, step, pop, steal, Choice}
 
 abbrev pub act_text : Act → List ℕ
 act_text step = codes " step"

@@ -5,5 +5,5 @@ pub mod Text
 pub mod Reading
 pub mod Words
 pub mod Rows
-pub use Rattle.cilk_machine_choices.specs as choices
-pub use Rattle.cilk_machine_choices.specs.syntax
+pub use Rattle.cilk_sched.specs as choices
+pub use Rattle.cilk_sched.specs.syntax

@@ -6,7 +6,7 @@ use Rattle.std.specs.Int.{is_in_range}
 use Rattle.std.specs.List.{prefix_len}
 use Rattle.std.specs.Str.{all_ascii_digits}
 use Rattle.std.specs.Str.Parse.{digits_value}
-use Rattle.cilk_machine_choices.specs.model.Choice.{Act, step, pop, steal, Choice}
+use Rattle.cilk_sched.specs.model.Choice.{Act, step, pop, steal, Choice}
 use Rattle.hex.specs.declared.error.FromHexError.{FromHexError}
 use Rattle.hex.specs.Hex.{decode_sized, encode_lower}
 use Rattle.cilk_log.specs.Stretches.{Stretch, once, choices_of, count_of, is_apart}

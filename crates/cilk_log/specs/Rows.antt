@@ -1,7 +1,7 @@
 -- Worked rows: texts, and what they are read as.
 use Rattle.std.specs.Prelude.{◌≡◌, refl, ℕ, List, [], ◌∷◌, ◌++◌, Some, None, Ok, Err, codes}
 use Rattle.std.specs.Fmt.{digits}
-use Rattle.cilk_machine_choices.specs.model.Choice.{step, pop, steal}
+use Rattle.cilk_sched.specs.model.Choice.{step, pop, steal}
 use Rattle.cilk_log.specs.Text.{Log, log_text}
 use Rattle.hex.specs.Hex.{decode_pairs, encode_with}
 use Rattle.cilk_log.specs.Reading.{log_read, wrong_version, wrong_line, truncated, wrong_count, too_many}

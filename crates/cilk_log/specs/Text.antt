@@ -2,7 +2,7 @@
 use Rattle.std.specs.Prelude.{◌≡◌, ℕ, ◌<◌, ◌^◌, nat_lt, ⊤, Bool, false, List, [], ◌∷◌, ◌++◌, map, length, flat_map, Option, Some, None, codes, decimal}
 use Rattle.std.specs.List.{AllByRecursion}
 use Rattle.hex.specs.Hex.{encode_lower, IsBytes}
-use Rattle.cilk_machine_choices.specs.model.Choice.{Choice}
+use Rattle.cilk_sched.specs.model.Choice.{Choice}
 use Rattle.cilk_log.specs.Choices.{choice_text, ChoiceFits}
 use Rattle.cilk_log.specs.Stretches.{stretch_text, stretches_of}
 

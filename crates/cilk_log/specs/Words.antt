@@ -1,6 +1,6 @@
 -- What the code's words for recorded schedules and their faults mean.
 use Rattle.std.specs.Prelude.{◌≡◌, ⊤, map, Option, Some, None, Result, Ok, Err}
-use Rattle.cilk_machine_choices.specs.Words.{choice_of}
+use Rattle.cilk_sched.specs.Words.{choice_of}
 use Rattle.cilk_log.specs.declared.log.Log.{Log}
 use Rattle.cilk_log.specs.declared.fault.LogFault.{LogFault}
 use Rattle.cilk_log.specs.declared.fault.LogFault.TheVariants.{Version, Line, Truncated, Count, TooMany, Memory}

@@ -2,7 +2,7 @@
 
 ghost use Rattle.std.specs.Prelude.{◌≡◌, ◌+◌, ◌^◌, ◌<◌, [], ◌∷◌, ◌++◌, length, replicate, slice_get, OnOk, OnErr};
 
-use cilk_machine_choices::{Choice, Memory};
+use cilk_sched::{Choice, Memory};
 use std::alloc::Global;
 use std::marker::Model;
 
@@ -14,7 +14,7 @@ pub struct Choices {
 
 impl Model for Choices {
     ghost use Rattle.std.specs.Prelude.{List};
-    ghost use Rattle.cilk_machine_choices.specs.declared.choice.Choice.{Choice};
+    ghost use Rattle.cilk_sched.specs.declared.choice.Choice.{Choice};
 
     ghost Value = { List Choice };
 

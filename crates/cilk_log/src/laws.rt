@@ -2,7 +2,7 @@
 //! is proved.
 
 ghost use Rattle.std.specs.Prelude.{◌≡◌, ℕ, List, Ok};
-ghost use Rattle.cilk_machine_choices.specs.model.Choice as model;
+ghost use Rattle.cilk_sched.specs.model.Choice as model;
 ghost use Rattle.cilk_log.specs.Stretches.{Stretch, AreStretches, choices_of, stretches_of};
 ghost use Rattle.cilk_log.specs.Text.{Log, LogFits, log_text};
 ghost use Rattle.cilk_log.specs.Reading.{log_read};

@@ -15,7 +15,7 @@ mod writing;
 mod writing_stretches;
 
 pub use choices::Choices;
-pub use cilk_machine_choices::{Act, Choice, Memory, Path, Trap, TrapKind, What};
+pub use cilk_sched::{Act, Choice, Memory, Path, Trap, TrapKind, What};
 pub use digest::program_of;
 pub use fault::LogFault;
 pub use laws::{one_list_of_stretches, one_text_each};

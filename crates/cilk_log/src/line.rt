@@ -3,14 +3,14 @@
 ghost use Rattle.std.specs.Prelude.{◌≡◌, ◌<◌, [], ◌∷◌, ◌++◌, codes, option_map, length, not, ◌==◌, IfNone, IfSome};
 ghost use Rattle.std.specs.Char.{is_ascii_digit};
 ghost use Rattle.std.specs.List.{prefix_len};
-ghost use Rattle.cilk_machine_choices.specs.Words.{choice_of, act_of};
+ghost use Rattle.cilk_sched.specs.Words.{choice_of, act_of};
 ghost use Rattle.cilk_log.specs.Reading.{lines_of, workers_in, count_in, steal_in, act_in, choice_in, TellsFirst};
 ghost use Rattle.cilk_log.specs.Reading.{times_in, steps_in, stretch_in};
 ghost use Rattle.cilk_log.specs.Words.{stretch_of};
 
 use crate::number::{number_in, worker_in};
 use crate::stretch::Stretch;
-use cilk_machine_choices::{Act, Choice};
+use cilk_sched::{Act, Choice};
 
 /// A text of version 2 tells no more choices.
 pub(crate) const MOST_CHOICES: u64 = 10_000_000;

@@ -1,8 +1,8 @@
 //! Reads the text of a recorded schedule.
 
 ghost use Rattle.std.specs.Prelude.{◌≡◌, ◌+◌, ◌<◌, ◌^◌, List, Some, length, map, Ok, IfOk};
-ghost use Rattle.cilk_machine_choices.specs.model.Choice as model;
-ghost use Rattle.cilk_machine_choices.specs.Words.{choice_of};
+ghost use Rattle.cilk_sched.specs.model.Choice as model;
+ghost use Rattle.cilk_sched.specs.Words.{choice_of};
 ghost use Rattle.cilk_log.specs.Text as text;
 ghost use Rattle.cilk_log.specs.Text.{LogFits, log_text};
 ghost use Rattle.cilk_log.specs.Reading.{lines_of, told_in, count_in, counted, ended, choices_read, workers_read, second_read, third_read, log_read};

@@ -1,7 +1,7 @@
 //! Reads the choices of version 2: a line for each stretch of them.
 
 ghost use Rattle.std.specs.Prelude.{◌≡◌, map, option_map};
-ghost use Rattle.cilk_machine_choices.specs.Words.{choice_of};
+ghost use Rattle.cilk_sched.specs.Words.{choice_of};
 ghost use Rattle.cilk_log.specs.Reading.{lines_of, stretch_in, stretches_read};
 ghost use Rattle.cilk_log.specs.Words.{stretch_of, ReadsAs};
 ghost use Rattle.cilk_log.specs.Stretches.{following};
@@ -11,7 +11,7 @@ use crate::fault::LogFault;
 use crate::line::{MOST_CHOICES, split_line, stretch_in};
 use crate::reading::closing;
 use crate::stretch::{Stretch, are_joined};
-use cilk_machine_choices::Choice;
+use cilk_sched::Choice;
 use std::alloc::Global;
 
 /// The choices that the lines behind the third tell.

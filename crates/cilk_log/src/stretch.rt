@@ -1,10 +1,10 @@
 //! Choices of which one line of version 2 tells.
 
 ghost use Rattle.std.specs.Prelude.{◌≡◌};
-ghost use Rattle.cilk_machine_choices.specs.Words.{choice_of};
+ghost use Rattle.cilk_sched.specs.Words.{choice_of};
 ghost use Rattle.cilk_log.specs.Stretches.{are_joined};
 
-use cilk_machine_choices::{Act, Choice};
+use cilk_sched::{Act, Choice};
 
 /// A choice, so many times one after another.
 #[derive(Clone, Copy)]

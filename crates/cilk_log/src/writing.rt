@@ -1,7 +1,7 @@
 //! Writes the text of a recorded schedule.
 
 ghost use Rattle.std.specs.Prelude.{◌≡◌, ◌++◌, ◌⊎◌, ◌↔◌, true, Some, None, Err, IfOk, IfErr, OnOk, codes, decimal, flat_map, map};
-ghost use Rattle.cilk_machine_choices.specs.Words.{choice_of, act_of};
+ghost use Rattle.cilk_sched.specs.Words.{choice_of, act_of};
 ghost use Rattle.cilk_log.specs.Choices.{act_text, choice_text};
 ghost use Rattle.cilk_log.specs.Text.{with_newline, workers_text, digest_text, end_text, lines_by, log_text, is_too_long};
 ghost use Rattle.cilk_log.specs.Words.{log_of};
@@ -11,7 +11,7 @@ use crate::fault::LogFault;
 use crate::line::MOST_CHOICES;
 use crate::log::Log;
 use crate::writing_stretches::put_stretches;
-use cilk_machine_choices::{Act, Choice, Memory};
+use cilk_sched::{Act, Choice, Memory};
 use itoa::Buffer;
 use std::alloc::Global;
 

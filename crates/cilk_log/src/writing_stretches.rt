@@ -2,14 +2,14 @@
 
 ghost use Rattle.std.specs.Prelude.{◌≡◌, ◌<◌, [], ◌∷◌, ◌++◌, IfNone, IfSome, OnOk, flat_map, length, map};
 ghost use Rattle.std.specs.List.{prefix_len};
-ghost use Rattle.cilk_machine_choices.specs.Words.{choice_of};
+ghost use Rattle.cilk_sched.specs.Words.{choice_of};
 ghost use Rattle.cilk_log.specs.Stretches.{are_joined, stretch_text, stretches_of};
 ghost use Rattle.cilk_log.specs.Text.{with_newline};
 ghost use Rattle.cilk_log.specs.Words.{stretch_of};
 
 use crate::stretch::{Stretch, are_joined};
 use crate::writing::{put, put_act, put_choice, put_number};
-use cilk_machine_choices::{Choice, Memory};
+use cilk_sched::{Choice, Memory};
 
 /// Writes the lines of these choices, behind what stands there.
 pub(crate) fn put_stretches(text: &mut Vec<u8>, choices: &[Choice]) -> Result<(), Memory>

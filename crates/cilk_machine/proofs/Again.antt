@@ -1,12 +1,12 @@
 -- A choice that was made is taken back.
 use Rattle.std.proofs.Common.{◌≡◌, ◌∷◌, Bool, true, false, not, Option, Some, None, refl, sym, ap, ◌∙◌, if◌then◌else◌}
 use Rattle.cilk_machine_undo.specs.labelled.Bodies.{label}
-use Rattle.cilk_machine_choices.specs.model.Choice.{Choice, Refusal, over, no_worker}
-use Rattle.cilk_machine_choices.specs.model.Event.{Event}
-use Rattle.cilk_machine_choices.specs.model.Run.{Standing, is_running, is_worker, act_refusal}
-use Rattle.cilk_machine_choices.specs.declared.outcome.Outcome.{Outcome}
-use Rattle.cilk_machine_choices.specs.declared.outcome.Outcome.TheVariants.{Running, Finished, Trapped}
-use Rattle.cilk_machine_choices.specs.Words.{outcome_of}
+use Rattle.cilk_sched.specs.model.Choice.{Choice, Refusal, over, no_worker}
+use Rattle.cilk_sched.specs.model.Event.{Event}
+use Rattle.cilk_sched.specs.model.Run.{Standing, is_running, is_worker, act_refusal}
+use Rattle.cilk_sched.specs.declared.outcome.Outcome.{Outcome}
+use Rattle.cilk_sched.specs.declared.outcome.Outcome.TheVariants.{Running, Finished, Trapped}
+use Rattle.cilk_sched.specs.Words.{outcome_of}
 use Rattle.cilk_machine.specs.Situation.{Situation, before_of, kept_by}
 use Rattle.cilk_machine.specs.Stands.{StandsAt}
 use Rattle.cilk_machine.specs.Made.{Makes, TakesBack}

@@ -3,8 +3,8 @@ use Rattle.std.proofs.Common.{◌≡◌, ◌≤◌, ◌<◌, ◌+◌, ◌-◌, �
 use Rattle.cilk_machine_undo.specs.syntax.Tree.{Program}
 use Rattle.cilk_machine_undo.specs.agree.Agrees.{MachineParts}
 use Rattle.cilk_machine_undo.specs.plans.declared.parts.Parts.{Parts}
-use Rattle.cilk_machine_choices.specs.declared.outcome.Outcome.{Outcome}
-use Rattle.cilk_machine_choices.specs.declared.outcome.Outcome.TheVariants.{Running}
+use Rattle.cilk_sched.specs.declared.outcome.Outcome.{Outcome}
+use Rattle.cilk_sched.specs.declared.outcome.Outcome.TheVariants.{Running}
 use Rattle.cilk_machine_undo.specs.Undo.{Undo, undone}
 use Rattle.cilk_machine_undo.specs.Able.{CanTakeBack}
 use Rattle.cilk_machine_undo.specs.Words.{machine_in, IsTakenBack}

@@ -12,7 +12,7 @@ use Rattle.cilk_machine_undo.specs.Words.{machine_in}
 use Rattle.cilk_machine_undo.proofs.runs_laws.Fates.{each_choice_is_an_event}
 use Rattle.cilk_machine_undo.proofs.Moments.{machines-tell, machines-go-on}
 use Rattle.cilk_machine_undo.proofs.Within.{fated-within}
-use Rattle.cilk_machine_choices.specs.declared.outcome.Outcome.{Outcome}
+use Rattle.cilk_sched.specs.declared.outcome.Outcome.{Outcome}
 use Rattle.cilk_machine.specs.Situation.{Situation, workers_of, outcome_at}
 use Rattle.cilk_machine.specs.Stands.{IsSound}
 use Rattle.cilk_machine.specs.Kept.{IsWhole}

@@ -8,9 +8,9 @@ use Rattle.cilk_machine_undo.specs.spawn.Nodes.{Node, path_at}
 use Rattle.cilk_machine_undo.specs.agree.Outside.{lock_by, outcome_by}
 use Rattle.cilk_machine_undo.specs.agree.Agrees.{Agrees, read_off}
 use Rattle.cilk_machine_undo.proofs.runs_laws.Kept.{places_are_kept}
-use Rattle.cilk_machine_choices.specs.model.Hands.{WorkerOf, no_place}
-use Rattle.cilk_machine_choices.specs.model.Run.{Standing}
-use Rattle.cilk_machine_choices.specs.Words.{outcome_of}
+use Rattle.cilk_sched.specs.model.Hands.{WorkerOf, no_place}
+use Rattle.cilk_sched.specs.model.Run.{Standing}
+use Rattle.cilk_sched.specs.Words.{outcome_of}
 use Rattle.cilk_view.specs.explore.Alike.{SameTree, SameHeld, SameHand, SameDeque, SamePlaces, SamePlacesBut, SameParts}
 use Rattle.cilk_view.specs.explore.Names.{SameButNames}
 use Rattle.cilk_view.proofs.explore_laws.ByNames.{stand_so}

@@ -7,11 +7,11 @@ use Rattle.cilk_machine_undo.specs.syntax.Tree.{Program}
 use Rattle.cilk_machine_undo.specs.agree.Agrees.{MachineParts}
 use Rattle.cilk_machine_undo.specs.plans.declared.parts.Parts.{Parts}
 use Rattle.cilk_machine_undo.specs.plans.PartWords.{machine_of}
-use Rattle.cilk_machine_choices.specs.model.Choice.{Choice}
-use Rattle.cilk_machine_choices.specs.model.Event.{Event}
-use Rattle.cilk_machine_choices.specs.model.Run.{Standing}
-use Rattle.cilk_machine_choices.specs.declared.outcome.Outcome.{Outcome}
-use Rattle.cilk_machine_choices.specs.declared.outcome.Outcome.TheVariants.{Running}
+use Rattle.cilk_sched.specs.model.Choice.{Choice}
+use Rattle.cilk_sched.specs.model.Event.{Event}
+use Rattle.cilk_sched.specs.model.Run.{Standing}
+use Rattle.cilk_sched.specs.declared.outcome.Outcome.{Outcome}
+use Rattle.cilk_sched.specs.declared.outcome.Outcome.TheVariants.{Running}
 use Rattle.cilk_machine_undo.specs.declared.undo.Undo as code
 use Rattle.cilk_machine_undo.specs.Undo.{Undo}
 use Rattle.cilk_machine_undo.specs.Notes.{Undoes}

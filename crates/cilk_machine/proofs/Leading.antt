@@ -3,12 +3,12 @@ use Rattle.std.proofs.Common.{◌≡◌, ℕ, suc, ◌+◌, ◌≤◌, List, [],
 use Rattle.std.proofs.Common.{length-append, arith, if◌then◌else◌}
 use Rattle.cilk_machine_undo.specs.agree.scopes.WellFormed.{WellFormed}
 use Rattle.cilk_machine_undo.specs.labelled.Bodies.{label}
-use Rattle.cilk_machine_choices.specs.model.Choice as model
-use Rattle.cilk_machine_choices.specs.model.Event as event
-use Rattle.cilk_machine_choices.specs.model.Event.{Event}
-use Rattle.cilk_machine_choices.specs.model.Instance.{Instance}
-use Rattle.cilk_machine_choices.specs.model.Run.{Standing, after, one_more, position_after, next_of, event_of}
-use Rattle.cilk_machine_choices.specs.model.Hands.{popped_by, stolen_by}
+use Rattle.cilk_sched.specs.model.Choice as model
+use Rattle.cilk_sched.specs.model.Event as event
+use Rattle.cilk_sched.specs.model.Event.{Event}
+use Rattle.cilk_sched.specs.model.Instance.{Instance}
+use Rattle.cilk_sched.specs.model.Run.{Standing, after, one_more, position_after, next_of, event_of}
+use Rattle.cilk_sched.specs.model.Hands.{popped_by, stolen_by}
 use Rattle.cilk_machine_undo.proofs.runs_laws.model_laws.Runs.{after-push}
 use Rattle.cilk_machine_undo.proofs.runs_laws.Crew.{crew_stays}
 use Rattle.cilk_machine_undo.proofs.runs_laws.Fates.{the_living_live, each_choice_is_an_event}
@@ -23,10 +23,10 @@ use Rattle.cilk_machine_undo.proofs.agree_laws.Waits.{pop, steal}
 use Rattle.cilk_machine_undo.specs.Growth.{MachineGrows}
 use Rattle.cilk_machine_undo.proofs.Growth.{pops-grow, steals-grow}
 use Rattle.cilk_machine_undo.proofs.Printed.{prints-none}
-use Rattle.cilk_machine_choices.specs.declared.choice.Choice.{Choice}
-use Rattle.cilk_machine_choices.specs.declared.act.Act.TheVariants.{Pop, Steal}
-use Rattle.cilk_machine_choices.specs.declared.outcome.Outcome.{Outcome}
-use Rattle.cilk_machine_choices.specs.Words.{choice_of, outcome_of}
+use Rattle.cilk_sched.specs.declared.choice.Choice.{Choice}
+use Rattle.cilk_sched.specs.declared.act.Act.TheVariants.{Pop, Steal}
+use Rattle.cilk_sched.specs.declared.outcome.Outcome.{Outcome}
+use Rattle.cilk_sched.specs.Words.{choice_of, outcome_of}
 use Rattle.cilk_machine.specs.Situation.{Situation, workers_of, past_behind}
 use Rattle.cilk_machine.specs.Stands.{Led, IsSound}
 use Rattle.cilk_machine.specs.Refused.{refused_by}

@@ -7,9 +7,9 @@ use Rattle.cilk_machine_undo.specs.plans.declared.light.Light.{Light}
 use Rattle.cilk_machine_undo.specs.plans.declared.plan.Plan.{Plan}
 use Rattle.cilk_machine_undo.specs.plans.StepInput.{StepInput, cells_in}
 use Rattle.cilk_machine_undo.specs.plans.Words.{plan_of}
-use Rattle.cilk_machine_choices.specs.model.Hands.{hand_of}
-use Rattle.cilk_machine_choices.specs.declared.act.Act.TheVariants.{Step}
-use Rattle.cilk_machine_choices.specs.declared.refusal.Refusal.TheVariants.{Over, NoWorker}
+use Rattle.cilk_sched.specs.model.Hands.{hand_of}
+use Rattle.cilk_sched.specs.declared.act.Act.TheVariants.{Step}
+use Rattle.cilk_sched.specs.declared.refusal.Refusal.TheVariants.{Over, NoWorker}
 use Rattle.cilk_machine_undo.specs.eval.Known.{known_of}
 use Rattle.cilk_machine_undo.specs.eval.declared.known.Known.{Known}
 use Rattle.cilk_machine_undo.specs.nodes.declared.slot.Slot.{Slot}

@@ -7,7 +7,7 @@ use Rattle.std.proofs.lemmas.List.{get_or-map, get_or_default, length-map}
 use Rattle.std.proofs.lemmas.List.Sorted.{All-permutation, IsPermutation-refl, IsPermutation-trans, IsPermutation-map}
 use Rattle.cilk_machine_undo.specs.frame.Frames.{Frame}
 use Rattle.cilk_machine_undo.specs.spawn.Nodes.{Node}
-use Rattle.cilk_machine_choices.specs.model.Hands.{WorkerOf, IsWorker, no_place, worker_at}
+use Rattle.cilk_sched.specs.model.Hands.{WorkerOf, IsWorker, no_place, worker_at}
 use Rattle.cilk_view.specs.explore.Alike.{SamePlacesBut}
 use Rattle.cilk_machine.proofs.Compares.{SameAt, places_same}
 

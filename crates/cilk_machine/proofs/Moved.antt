@@ -1,16 +1,16 @@
 -- A frame came from a deque to a hand, and goes back by its record.
 use Rattle.std.proofs.Common.{◌≡◌, ◌≢◌, ◌<◌, ◌≤◌, ◌+◌, ℕ, Bool, true, List, Some, None, refl, sym, ap, ◌∙◌, subst, arith}
 use Rattle.cilk_machine_undo.specs.syntax.Tree.{Program}
-use Rattle.cilk_machine_choices.specs.model.Hands.{WorkerOf, IsWorker, hand_of, deque_of, top_of, bottom_of, popped_by, stolen_by}
+use Rattle.cilk_sched.specs.model.Hands.{WorkerOf, IsWorker, hand_of, deque_of, top_of, bottom_of, popped_by, stolen_by}
 use Rattle.cilk_machine_undo.specs.frame.Frames.{Frame}
 use Rattle.cilk_machine_undo.specs.plans.declared.parts.Parts.{Parts}
 use Rattle.cilk_machine_undo.specs.plans.PartWords.{machine_of}
-use Rattle.cilk_machine_choices.specs.model.Choice as model
-use Rattle.cilk_machine_choices.specs.model.Event as event
-use Rattle.cilk_machine_choices.specs.model.Event.{Event}
-use Rattle.cilk_machine_choices.specs.declared.act.Act.TheVariants.{Pop, Steal}
-use Rattle.cilk_machine_choices.specs.declared.outcome.Outcome.{Outcome}
-use Rattle.cilk_machine_choices.specs.declared.outcome.Outcome.TheVariants.{Running}
+use Rattle.cilk_sched.specs.model.Choice as model
+use Rattle.cilk_sched.specs.model.Event as event
+use Rattle.cilk_sched.specs.model.Event.{Event}
+use Rattle.cilk_sched.specs.declared.act.Act.TheVariants.{Pop, Steal}
+use Rattle.cilk_sched.specs.declared.outcome.Outcome.{Outcome}
+use Rattle.cilk_sched.specs.declared.outcome.Outcome.TheVariants.{Running}
 use Rattle.cilk_machine_undo.specs.Undo.{Undo, undone, popped, stolen}
 use Rattle.cilk_machine_undo.specs.Able.{CanTakeBack}
 use Rattle.cilk_machine_undo.specs.Notes.{Undoes}

@@ -5,9 +5,9 @@ use Rattle.std.proofs.lemmas.List.{nil_from_length}
 use Rattle.cilk_machine_undo.specs.frame.Frames.{Frame}
 use Rattle.cilk_machine_undo.specs.agree.Agrees.{name_in}
 use Rattle.cilk_machine_undo.proofs.sched_laws.PathNames.{named-length, named-worker_at}
-use Rattle.cilk_machine_choices.specs.model.Path.{Path}
-use Rattle.cilk_machine_choices.specs.model.Hands.{WorkerOf, IsWorker, no_place, worker_at, hand_of, deque_of, place_named}
-use Rattle.cilk_machine_choices.specs.model.Run.{Standing}
+use Rattle.cilk_sched.specs.model.Path.{Path}
+use Rattle.cilk_sched.specs.model.Hands.{WorkerOf, IsWorker, no_place, worker_at, hand_of, deque_of, place_named}
+use Rattle.cilk_sched.specs.model.Run.{Standing}
 use Rattle.cilk_view.specs.explore.OrMore.{IsIdle}
 use Rattle.cilk_machine.specs.Situation.{Situation}
 use Rattle.cilk_machine.specs.Stands.{StandsAt}

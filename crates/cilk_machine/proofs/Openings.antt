@@ -12,11 +12,11 @@ use Rattle.cilk_machine_undo.specs.nodes.declared.area.Area.TheVariants.{Global}
 use Rattle.cilk_machine_undo.specs.labelled.Labelled.{Variable}
 use Rattle.cilk_machine_undo.specs.labelled.Labelled as labelled
 use Rattle.cilk_machine_undo.specs.labelled.Bodies.{label}
-use Rattle.cilk_machine_choices.specs.model.Values.{initial_values}
-use Rattle.cilk_machine_choices.specs.model.Instance as model
-use Rattle.cilk_machine_choices.specs.model.Instance.{Instance, no_body, body_at, with_arguments}
-use Rattle.cilk_machine_choices.specs.model.Hands.{WorkerOf, no_place, with_hand}
-use Rattle.cilk_machine_choices.specs.model.Run.{Standing, is_crew, opening, after, after_main}
+use Rattle.cilk_sched.specs.model.Values.{initial_values}
+use Rattle.cilk_sched.specs.model.Instance as model
+use Rattle.cilk_sched.specs.model.Instance.{Instance, no_body, body_at, with_arguments}
+use Rattle.cilk_sched.specs.model.Hands.{WorkerOf, no_place, with_hand}
+use Rattle.cilk_sched.specs.model.Run.{Standing, is_crew, opening, after, after_main}
 use Rattle.cilk_machine_undo.specs.nodes.declared.body.Body.{Body}
 use Rattle.cilk_machine_undo.specs.nodes.Slots.{size_of, flat, is_inlet}
 use Rattle.cilk_machine_undo.specs.nodes.Bodies.{body_table, body_of, vars_from, lock_variable, locks_of}
@@ -39,7 +39,7 @@ use Rattle.cilk_machine_undo.proofs.agree_laws.Opens.{opening-agrees}
 use Rattle.cilk_machine_undo.proofs.agree_laws.Found.{read-agrees}
 use Rattle.cilk_machine_undo.specs.plans.declared.parts.Parts.{Parts}
 use Rattle.cilk_machine_undo.specs.plans.PartWords.{machine_of}
-use Rattle.cilk_machine_choices.specs.declared.outcome.Outcome.TheVariants.{Running}
+use Rattle.cilk_sched.specs.declared.outcome.Outcome.TheVariants.{Running}
 use Rattle.cilk_machine_undo.specs.Undo.{Undo}
 use Rattle.cilk_machine.specs.Situation.{Before, Situation}
 use Rattle.cilk_machine.specs.Pasts.{pasts, running_at}

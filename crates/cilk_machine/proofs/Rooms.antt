@@ -2,8 +2,8 @@
 use Rattle.std.proofs.Common.{◌≡◌, ◌≢◌, ◌≤◌, ◌<◌, ◌+◌, ◌-◌, ◌++◌, ◌∷◌, [], ℕ, zero, suc, Bool, true, false, cond, List, length, Option, Some, None, is_some}
 use Rattle.std.proofs.Common.{refl, sym, ap, ◌∙◌, arith, slice_set, option_map, option_to_list}
 use Rattle.std.specs.Prelude.{slice_index_or}
-use Rattle.cilk_machine_choices.specs.model.Hands.{WorkerOf, no_place, IsWorker, hand_of, deque_of, with_hand, with_deque, top_of, below_top, bottom_of}
-use Rattle.cilk_machine_choices.specs.model.Hands.{above_bottom, popped_by, stolen_by}
+use Rattle.cilk_sched.specs.model.Hands.{WorkerOf, no_place, IsWorker, hand_of, deque_of, with_hand, with_deque, top_of, below_top, bottom_of}
+use Rattle.cilk_sched.specs.model.Hands.{above_bottom, popped_by, stolen_by}
 use Rattle.cilk_machine_undo.specs.frame.Frames.{Frame, stood}
 use Rattle.cilk_machine_undo.specs.spawn.Nodes.{node_at}
 use Rattle.cilk_machine_undo.specs.agree.Agrees.{MachineParts}

@@ -4,12 +4,12 @@ use Rattle.std.specs.Prelude.{List, option_map}
 use Rattle.cilk_machine_undo.specs.syntax.Tree.{Program}
 use Rattle.cilk_machine_undo.specs.agree.scopes.WellFormed.{WellFormed}
 use Rattle.cilk_machine_undo.specs.labelled.Bodies.{label}
-use Rattle.cilk_machine_choices.specs.model.Choice as model
-use Rattle.cilk_machine_choices.specs.model.Event.{Event}
-use Rattle.cilk_machine_choices.specs.model.Path.{Path}
-use Rattle.cilk_machine_choices.specs.model.State as state
-use Rattle.cilk_machine_choices.specs.model.Run.{Standing, next_by_hand, event_by_hand}
-use Rattle.cilk_machine_choices.specs.model.Hands.{IsWorker, hand_of}
+use Rattle.cilk_sched.specs.model.Choice as model
+use Rattle.cilk_sched.specs.model.Event.{Event}
+use Rattle.cilk_sched.specs.model.Path.{Path}
+use Rattle.cilk_sched.specs.model.State as state
+use Rattle.cilk_sched.specs.model.Run.{Standing, next_by_hand, event_by_hand}
+use Rattle.cilk_sched.specs.model.Hands.{IsWorker, hand_of}
 use Rattle.cilk_machine_undo.specs.nodes.declared.body.Body.{Body}
 use Rattle.cilk_machine_undo.proofs.effects_laws.Room.{variables, globals}
 use Rattle.cilk_machine_undo.specs.frame.Frames.{Frame}
@@ -38,10 +38,10 @@ use Rattle.cilk_machine_undo.proofs.Printed.{plan-prints}
 use Rattle.cilk_machine_undo.proofs.Within.{taken-once}
 use Rattle.cilk_machine_step.specs.Scenes.{HeadFits}
 use Rattle.cilk_machine_step.proofs.Fits.{head-fits}
-use Rattle.cilk_machine_choices.specs.declared.act.Act.TheVariants.{Step}
-use Rattle.cilk_machine_choices.specs.declared.outcome.Outcome.{Outcome}
-use Rattle.cilk_machine_choices.specs.declared.outcome.Outcome.TheVariants.{Running}
-use Rattle.cilk_machine_choices.specs.Words.{outcome_of}
+use Rattle.cilk_sched.specs.declared.act.Act.TheVariants.{Step}
+use Rattle.cilk_sched.specs.declared.outcome.Outcome.{Outcome}
+use Rattle.cilk_sched.specs.declared.outcome.Outcome.TheVariants.{Running}
+use Rattle.cilk_sched.specs.Words.{outcome_of}
 use Rattle.cilk_machine.specs.Situation.{Before, Situation, input_at, outcome_at, workers_of}
 use Rattle.cilk_machine.specs.Stands.{Led, IsSound}
 use Rattle.cilk_machine.specs.Refused.{planned_by, planned_in, refused_by}
@@ -109,7 +109,7 @@ module _ (m : Situation) (w : ℕ) (sound : IsSound m) (free : refused_by m (rec
 
   -- what the choice does is what its step does
   hand-here : (choices : List model.Choice) (events : List Event) (at : Standing) (h : Led m choices events at)
-      → Rattle.cilk_machine_choices.specs.model.Scheduler.hand_of at.scheduler.places w ≡ Some (path_at m.machine.nodes f.id)
+      → Rattle.cilk_sched.specs.model.Scheduler.hand_of at.scheduler.places w ≡ Some (path_at m.machine.nodes f.id)
   hand-here choices events at h =
       hand-is m sound.well_formed choices events at h w ∙ ap (option_map (name_in m.machine.nodes)) it.held
 
@@ -158,7 +158,7 @@ module _ (m : Situation) (w : ℕ) (sound : IsSound m) (free : refused_by m (rec
           outcome_is =
               outcome-told (path_at now.tree.nodes) path done.outcome _ s.agrees.outside.outcome
               (subst (λ q. Rattle.cilk_machine.proofs.Told.TrappedAt q
-              (Rattle.cilk_machine_choices.specs.model.Run.state_after at.state (step_in t)).outcome) (sym named)
+              (Rattle.cilk_sched.specs.model.Run.state_after at.state (step_in t)).outcome) (sym named)
               (trapped-there t runs x (is-plan x is choices events at h)))
               ∙ ap (λ o. (next_by_hand (label m.program) at w o).state.outcome) (sym hand);
           who = s.who;

@@ -2,9 +2,9 @@
 use Rattle.std.proofs.Common.{◌≡◌, ◌≢◌, Bool, false, ◌&&◌, ℕ, Some, None, refl, sym, ap, ◌∙◌}
 use Rattle.std.specs.Prelude.{is_none, option_map, Result, Ok, Err, IfOk}
 use Rattle.cilk_machine_undo.specs.labelled.Bodies.{label}
-use Rattle.cilk_machine_choices.specs.model.Scheduler as sched
-use Rattle.cilk_machine_choices.specs.model.Hands.{hand_of}
-use Rattle.cilk_machine_choices.specs.model.Run.{Standing, event_by_hand, event_of, event_of_step}
+use Rattle.cilk_sched.specs.model.Scheduler as sched
+use Rattle.cilk_sched.specs.model.Hands.{hand_of}
+use Rattle.cilk_sched.specs.model.Run.{Standing, event_by_hand, event_of, event_of_step}
 use Rattle.cilk_machine_undo.proofs.effects_laws.KnownActions.{heads, follows}
 use Rattle.cilk_machine_undo.proofs.agree_laws.Asked.{asked}
 use Rattle.cilk_machine_undo.specs.agree.Agrees.{name_in}
@@ -17,10 +17,10 @@ use Rattle.cilk_machine_step.specs.Owned as owned
 use Rattle.cilk_machine_step.specs.Private as private
 use Rattle.cilk_machine_step.specs.Private.{is_private, stepping, is_acted}
 use Rattle.cilk_machine_step.proofs.Owning.{private-is}
-use Rattle.cilk_machine_choices.specs.declared.act.Act.TheVariants.{Step}
-use Rattle.cilk_machine_choices.specs.declared.refusal.Refusal.{Refusal}
-use Rattle.cilk_machine_choices.specs.declared.refusal.Refusal.TheVariants.{Over, NoWorker, HandEmpty, Busy, DequeEmpty, Waiting, Memory, Stale}
-use Rattle.cilk_machine_choices.specs.Words.{reason_of}
+use Rattle.cilk_sched.specs.declared.act.Act.TheVariants.{Step}
+use Rattle.cilk_sched.specs.declared.refusal.Refusal.{Refusal}
+use Rattle.cilk_sched.specs.declared.refusal.Refusal.TheVariants.{Over, NoWorker, HandEmpty, Busy, DequeEmpty, Waiting, Memory, Stale}
+use Rattle.cilk_sched.specs.Words.{reason_of}
 use Rattle.cilk_machine.specs.Situation.{Situation, input_at}
 use Rattle.cilk_machine.specs.Stands.{StandsAt, IsSound}
 use Rattle.cilk_machine.specs.Refused.{refused_by}

@@ -1,6 +1,6 @@
 -- What the next step of a worker looks at.
 use Rattle.std.specs.Prelude.{◌≡◌, ℕ, Some}
-use Rattle.cilk_machine_choices.specs.model.Hands.{IsWorker, hand_of}
+use Rattle.cilk_sched.specs.model.Hands.{IsWorker, hand_of}
 use Rattle.cilk_machine_undo.specs.frame.Frames.{Frame}
 use Rattle.cilk_machine_undo.specs.plans.StepInput.{StepInput}
 use Rattle.cilk_machine.specs.Situation.{Situation, input_at}

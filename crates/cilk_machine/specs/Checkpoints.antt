@@ -3,9 +3,9 @@ use Rattle.std.specs.Prelude.{◌≡◌, ◌≤◌, ℕ, Bool, []}
 use Rattle.cilk_machine_undo.specs.syntax.Tree.{Program}
 use Rattle.cilk_machine_undo.specs.agree.Agrees.{MachineParts}
 use Rattle.cilk_machine_undo.specs.Moment.{Moment, IsMomentOf, IsBefore, running_as}
-use Rattle.cilk_machine_choices.specs.model.Choice.{Choice}
-use Rattle.cilk_machine_choices.specs.model.Event.{Event}
-use Rattle.cilk_machine_choices.specs.declared.outcome.Outcome.{Outcome}
+use Rattle.cilk_sched.specs.model.Choice.{Choice}
+use Rattle.cilk_sched.specs.model.Event.{Event}
+use Rattle.cilk_sched.specs.declared.outcome.Outcome.{Outcome}
 use Rattle.cilk_machine.specs.Situation.{Situation, workers_of, outcome_at}
 use Rattle.cilk_machine.specs.Stands.{IsSound}
 use Rattle.cilk_machine.specs.Made.{Makes}

@@ -3,9 +3,9 @@ use Rattle.std.specs.Prelude.{◌≡◌, ◌<◌, ◌≤◌, ◌+◌, ◌∷◌,
 use Rattle.cilk_machine_undo.specs.syntax.Tree.{Program}
 use Rattle.cilk_machine_undo.specs.frame.Frames.{Frame}
 use Rattle.cilk_machine_undo.specs.plans.declared.parts.Parts.{Parts}
-use Rattle.cilk_machine_choices.specs.model.Hands.{WorkerOf}
-use Rattle.cilk_machine_choices.specs.declared.outcome.Outcome.{Outcome}
-use Rattle.cilk_machine_choices.specs.declared.outcome.Outcome.TheVariants.{Running}
+use Rattle.cilk_sched.specs.model.Hands.{WorkerOf}
+use Rattle.cilk_sched.specs.declared.outcome.Outcome.{Outcome}
+use Rattle.cilk_sched.specs.declared.outcome.Outcome.TheVariants.{Running}
 use Rattle.cilk_machine_undo.specs.Undo.{Undo}
 use Rattle.cilk_machine_undo.specs.Able.{CanTakeBack}
 use Rattle.cilk_machine_undo.specs.Notes.{Undoes}

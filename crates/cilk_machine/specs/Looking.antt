@@ -6,14 +6,14 @@ use Rattle.cilk_machine_undo.specs.plans.declared.light.Light.{Light}
 use Rattle.cilk_machine_undo.specs.plans.declared.plan.Plan.{Plan}
 use Rattle.cilk_machine_undo.specs.plans.Words.{plan_of}
 use Rattle.cilk_machine_undo.specs.spawn.Nodes.{path_at}
-use Rattle.cilk_machine_choices.specs.model.Path.{Path}
-use Rattle.cilk_machine_choices.specs.model.Hands.{hand_of}
-use Rattle.cilk_machine_choices.specs.declared.refusal.Refusal.{Refusal}
-use Rattle.cilk_machine_choices.specs.declared.refusal.Refusal.TheVariants.{Over, NoWorker, HandEmpty, Memory, Stale}
+use Rattle.cilk_sched.specs.model.Path.{Path}
+use Rattle.cilk_sched.specs.model.Hands.{hand_of}
+use Rattle.cilk_sched.specs.declared.refusal.Refusal.{Refusal}
+use Rattle.cilk_sched.specs.declared.refusal.Refusal.TheVariants.{Over, NoWorker, HandEmpty, Memory, Stale}
 use Rattle.cilk_machine_undo.specs.eval.Known.{known}
 use Rattle.cilk_machine_undo.specs.eval.declared.known.Known.{Known}
 use Rattle.cilk_machine_undo.specs.nodes.declared.slot.Slot.{Slot}
-use Rattle.cilk_machine_choices.specs.model.declared.trap.Trap.{Trap}
+use Rattle.cilk_sched.specs.model.declared.trap.Trap.{Trap}
 use Rattle.cilk_machine_undo.specs.labelled.Term.{Term}
 use Rattle.cilk_machine_undo.specs.labelled.Value.{value_of}
 use Rattle.cilk_machine_step.specs.Peeks.{Peek, peek_in}

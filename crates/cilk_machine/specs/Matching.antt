@@ -1,7 +1,7 @@
 -- The frames of two deques, the topmost first.
 use Rattle.std.specs.Prelude.{◌≡◌, ℕ, Some, slice_get}
 use Rattle.cilk_machine_undo.specs.frame.Frames.{Frame}
-use Rattle.cilk_machine_choices.specs.model.Hands.{deque_of}
+use Rattle.cilk_sched.specs.model.Hands.{deque_of}
 use Rattle.cilk_view.specs.explore.Alike.{SameHeld}
 use Rattle.cilk_machine.specs.declared.matching.Both.{Both}
 

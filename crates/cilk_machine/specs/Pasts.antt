@@ -3,7 +3,7 @@ use Rattle.std.specs.Prelude.{◌-◌, ◌∷◌, ℕ, Bool, List, [], map, reve
 use Rattle.cilk_machine_undo.specs.syntax.Tree.{Program}
 use Rattle.cilk_machine_undo.specs.plans.declared.parts.Parts.{Parts}
 use Rattle.cilk_machine_undo.specs.plans.PartWords.{machine_of}
-use Rattle.cilk_machine_choices.specs.declared.outcome.Outcome.{Outcome}
+use Rattle.cilk_sched.specs.declared.outcome.Outcome.{Outcome}
 use Rattle.cilk_machine_undo.specs.declared.undo.Undo as code
 use Rattle.cilk_machine_undo.specs.Undo.{Undo, undone}
 use Rattle.cilk_machine_undo.specs.Words.{undo_by, machine_in}

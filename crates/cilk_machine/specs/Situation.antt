@@ -6,8 +6,8 @@ use Rattle.cilk_machine_undo.specs.agree.Outside as outside
 use Rattle.cilk_machine_undo.specs.agree.Agrees.{MachineParts}
 use Rattle.cilk_machine_undo.specs.frame.Kinds.{kind_of}
 use Rattle.cilk_machine_undo.specs.plans.StepInput.{StepInput}
-use Rattle.cilk_machine_choices.specs.declared.outcome.Outcome.{Outcome}
-use Rattle.cilk_machine_choices.specs.declared.outcome.Outcome.TheVariants.{Running, Finished, Trapped}
+use Rattle.cilk_sched.specs.declared.outcome.Outcome.{Outcome}
+use Rattle.cilk_sched.specs.declared.outcome.Outcome.TheVariants.{Running, Finished, Trapped}
 
 -- what a program that ran was before a choice
 pub record Before : Type 0 where

@@ -2,7 +2,7 @@
 
 ghost use Rattle.std.specs.Prelude.{◌≡◌, IfOk};
 
-use cilk_machine_choices::{Memory, Outcome};
+use cilk_sched::{Memory, Outcome};
 use cilk_machine_undo::{Id, Moment};
 use std::alloc::Global;
 use std::marker::Model;

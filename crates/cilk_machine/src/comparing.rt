@@ -4,7 +4,7 @@ ghost use Rattle.std.specs.Prelude.{◌≡◌, true, map};
 ghost use Rattle.cilk_machine_undo.specs.spawn.Nodes.{path_at};
 ghost use Rattle.cilk_machine_undo.specs.agree.Outside.{lock_by};
 
-use cilk_machine_choices::Outcome;
+use cilk_sched::Outcome;
 use cilk_machine_undo::{Frame, Lock, Mixer, Tree};
 
 /// Whether the locks are the same.

@@ -2,7 +2,7 @@
 
 ghost use Rattle.std.specs.Prelude.{◌≡◌, ◌<◌, ◌≤◌, ◌+◌, ◌∷◌, [], true, false, None, Some, vec_len, vec_capacity, IfNone, IfOk, IfSome, OnErr, OnOk};
 ghost use Rattle.std.specs.Option.{option_copied};
-ghost use Rattle.cilk_machine_choices.specs.model.Hands.{IsWorker, hand_of};
+ghost use Rattle.cilk_sched.specs.model.Hands.{IsWorker, hand_of};
 ghost use Rattle.cilk_machine_undo.specs.plans.Words.{plan_of};
 ghost use Rattle.cilk_machine_undo.specs.plans.Ready.{frame_in};
 ghost use Rattle.cilk_machine_carry.specs.Carries.{Becomes, CanCarry, Carries};
@@ -15,7 +15,7 @@ ghost use Rattle.cilk_machine.specs.Kept.{Adds};
 
 use crate::carrying::{carry_lightly_noted, carry_out_noted};
 use cilk_machine_carry::carry_lightly;
-use cilk_machine_choices::Memory;
+use cilk_sched::Memory;
 use cilk_machine_step::{Light, Plan};
 use cilk_machine_undo::{
     Body, Did, Done, NoMemory, Outcome, Parts, Undo, depth_in_hand, note_go, note_write,

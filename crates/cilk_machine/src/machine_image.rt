@@ -1,6 +1,6 @@
 //! What a machine was between two choices, as plain data.
 
-use cilk_machine_choices::Outcome;
+use cilk_sched::Outcome;
 use cilk_machine_undo::{Id, PartsImage};
 use std::marker::Model;
 

@@ -1,7 +1,7 @@
 //! Whether the workers of two machines have the same in their hands and deques, whatever their names are.
 
 ghost use Rattle.std.specs.Prelude.{◌≡◌, ◌<◌, ◌≤◌, ◌+◌, ℕ, true, All, length, Some, IfSome, slice_index};
-ghost use Rattle.cilk_machine_choices.specs.model.Hands.{IsWorker, hand_of, deque_of};
+ghost use Rattle.cilk_sched.specs.model.Hands.{IsWorker, hand_of, deque_of};
 ghost use Rattle.cilk_view.specs.explore.Alike.{SameHeld, SameHand, SameDeque, SamePlacesBut};
 ghost use Rattle.cilk_machine.specs.Matching.{IsSameAt};
 

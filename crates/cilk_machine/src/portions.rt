@@ -1,10 +1,10 @@
 //! What is seen of a program that runs, told in portions.
 
 ghost use Rattle.std.specs.Prelude.{◌≡◌, Some, None, Err, List, IfOk};
-ghost use Rattle.cilk_machine_choices.specs.model.Choice.{Choice};
-ghost use Rattle.cilk_machine_choices.specs.model.Event.{Event};
-ghost use Rattle.cilk_machine_choices.specs.model.Run.{Standing};
-ghost use Rattle.cilk_machine_choices.specs.model.Views.{shown};
+ghost use Rattle.cilk_sched.specs.model.Choice.{Choice};
+ghost use Rattle.cilk_sched.specs.model.Event.{Event};
+ghost use Rattle.cilk_sched.specs.model.Run.{Standing};
+ghost use Rattle.cilk_sched.specs.model.Views.{shown};
 ghost use Rattle.cilk_machine_undo.specs.frame.Asked.{what_of};
 ghost use Rattle.cilk_machine.specs.Stands.{Led};
 

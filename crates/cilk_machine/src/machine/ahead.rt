@@ -1,7 +1,7 @@
 //! What the next step of a worker looks at, and the paths of instances.
 
 ghost use Rattle.std.specs.Prelude.{◌≡◌, ◌<◌, None, length, IfNone, IfOk, IfSome};
-ghost use Rattle.cilk_machine_choices.specs.model.Hands.{IsWorker, hand_of};
+ghost use Rattle.cilk_sched.specs.model.Hands.{IsWorker, hand_of};
 ghost use Rattle.cilk_machine_undo.specs.plans.StepInput.{id_of};
 ghost use Rattle.cilk_machine_undo.specs.spawn.Nodes.{path_at};
 ghost use Rattle.cilk_machine_step.specs.Scenes.{HeadFits, input_of};
@@ -9,7 +9,7 @@ ghost use Rattle.cilk_machine.specs.Ahead.{IsAhead};
 
 use super::Machine;
 use crate::refusing::is_worker;
-use cilk_machine_choices::{Memory, Path};
+use cilk_sched::{Memory, Path};
 use cilk_machine_step::Scene;
 use cilk_machine_undo::Id;
 

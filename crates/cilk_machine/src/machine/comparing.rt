@@ -3,7 +3,7 @@
 ghost use Rattle.std.specs.Prelude.{◌≡◌, true, map};
 ghost use Rattle.cilk_machine_undo.specs.agree.Outside.{lock_by};
 ghost use Rattle.cilk_machine_undo.specs.spawn.Nodes.{path_at};
-ghost use Rattle.cilk_machine_choices.specs.model.Run.{Standing};
+ghost use Rattle.cilk_sched.specs.model.Run.{Standing};
 ghost use Rattle.cilk_view.specs.explore.Alike.{SameTree, SamePlacesBut};
 ghost use Rattle.cilk_view.specs.explore.Names.{SameButNames};
 ghost use Rattle.cilk_machine.specs.Stands.{StandsAt};

@@ -1,13 +1,13 @@
 //! Numbers that tell apart where machines stand, whatever the names of the workers are. They promise nothing. What a choice changes of what lives is a
 //! difference of sums, so that the number behind it is found by the one before it, however many live.
 
-ghost use Rattle.cilk_machine_choices.specs.model.Hands.{IsWorker};
+ghost use Rattle.cilk_sched.specs.model.Hands.{IsWorker};
 
 use super::Machine;
 use crate::comparing::{mix_locks, mix_outcome, mixed_in_deque, mixed_in_hand};
 use crate::refusing::is_worker;
 use crate::touched::{Stepping, Touched};
-use cilk_machine_choices::{Act, Choice};
+use cilk_sched::{Act, Choice};
 use cilk_machine_step::{Action, Loaded};
 use cilk_machine_undo::{Frame, Mixer};
 

@@ -1,8 +1,8 @@
 //! Which workers have nothing.
 
 ghost use Rattle.std.specs.Prelude.{◌≡◌, true};
-ghost use Rattle.cilk_machine_choices.specs.model.Hands.{IsWorker, no_place, worker_at};
-ghost use Rattle.cilk_machine_choices.specs.model.Run.{Standing};
+ghost use Rattle.cilk_sched.specs.model.Hands.{IsWorker, no_place, worker_at};
+ghost use Rattle.cilk_sched.specs.model.Run.{Standing};
 ghost use Rattle.cilk_view.specs.explore.OrMore.{IsIdle, HasIdle};
 ghost use Rattle.cilk_machine.specs.Stands.{StandsAt};
 

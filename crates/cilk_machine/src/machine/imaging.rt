@@ -8,7 +8,7 @@ use super::Machine;
 use crate::checkpoint::outcome_copy;
 use crate::keeping::no_records;
 use crate::machine_image::MachineImage;
-use cilk_machine_choices::Memory;
+use cilk_sched::Memory;
 use cilk_machine_step::Loaded;
 use cilk_machine_undo::PartsImage;
 use std::alloc::Global;

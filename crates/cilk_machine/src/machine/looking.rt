@@ -2,9 +2,9 @@
 
 ghost use Rattle.std.specs.Prelude.{◌≡◌, ◌≢◌, ◌<◌, ◌-◌, ◌^◌, ◌⊎◌, Decides, true, Some, None, option_map, OnErr, OnOk, IfOk, IfErr, IfSome, IfNone};
 ghost use Rattle.std.specs.Prelude.{IsSome, slice_get};
-ghost use Rattle.cilk_machine_choices.specs.model.Choice as choices;
-ghost use Rattle.cilk_machine_choices.specs.model.Hands.{IsWorker};
-ghost use Rattle.cilk_machine_choices.specs.Words.{reason_of, event_of};
+ghost use Rattle.cilk_sched.specs.model.Choice as choices;
+ghost use Rattle.cilk_sched.specs.model.Hands.{IsWorker};
+ghost use Rattle.cilk_sched.specs.Words.{reason_of, event_of};
 ghost use Rattle.cilk_machine_undo.specs.eval.Known.{known};
 ghost use Rattle.cilk_machine_undo.specs.labelled.Value.{value_of};
 ghost use Rattle.cilk_machine_step.specs.Peeks.{code_at, peek_of};
@@ -17,7 +17,7 @@ ghost use Rattle.cilk_machine_undo.specs.plans.Words.{plan_of};
 
 use super::Machine;
 use crate::refusing::is_worker;
-use cilk_machine_choices::{Act, Event, Memory, Outcome, Refusal};
+use cilk_sched::{Act, Event, Memory, Outcome, Refusal};
 use cilk_machine_step::{
     Known, Light, Listed, Peek, Plan, Trap, is_seen, is_still_seen, look_ahead, number_ahead,
     plan_by_value, take_down,

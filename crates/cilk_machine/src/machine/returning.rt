@@ -7,7 +7,7 @@ ghost use Rattle.cilk_machine.specs.Situation.{Situation};
 use super::Machine;
 use crate::checkpoint::{Checkpoint, outcome_copy};
 use crate::keeping::make_room;
-use cilk_machine_choices::Memory;
+use cilk_sched::Memory;
 use cilk_machine_undo::Moment;
 use std::mem::replace;
 

@@ -1,7 +1,7 @@
 //! Steps of which a record is kept, and choices that are taken back.
 
 ghost use Rattle.std.specs.Prelude.{◌≡◌, ◌<◌, ◌-◌, ◌^◌, true, false, [], length, None, IfOk, IfErr, OnErr};
-ghost use Rattle.cilk_machine_choices.specs.model.Choice as choices;
+ghost use Rattle.cilk_sched.specs.model.Choice as choices;
 ghost use Rattle.cilk_machine.specs.Refused.{refused_by, planned_in, IsLight};
 ghost use Rattle.cilk_machine.specs.Made.{MakesBy, TakesBack};
 ghost use Rattle.cilk_machine.specs.Told.{IsTrapPath};
@@ -9,7 +9,7 @@ ghost use Rattle.cilk_machine.specs.Told.{IsTrapPath};
 use super::Machine;
 use crate::keeping::{carry_lightly_kept, carry_out_kept, put_last, take_last};
 use crate::step_events::{body_numbered, outcome_with, started_number, trapper_of};
-use cilk_machine_choices::{Act, Memory, Outcome, Path, Refusal};
+use cilk_sched::{Act, Memory, Outcome, Path, Refusal};
 use cilk_machine_step::{Light, Plan};
 use cilk_machine_undo::{Did, take_back};
 use std::alloc::AllocError;

@@ -2,13 +2,13 @@
 
 ghost use Rattle.std.specs.Prelude.{◌≡◌, None, IfOk};
 ghost use Rattle.cilk_machine_undo.specs.labelled.Bodies.{label};
-ghost use Rattle.cilk_machine_choices.specs.model.Run.{Standing};
+ghost use Rattle.cilk_sched.specs.model.Run.{Standing};
 ghost use Rattle.cilk_machine_step.specs.Private.{is_private};
 ghost use Rattle.cilk_machine.specs.Stands.{StandsAt};
 ghost use Rattle.cilk_machine.specs.Refused.{refused_by};
 
 use super::Machine;
-use cilk_machine_choices::{Act, Choice, Memory};
+use cilk_sched::{Act, Choice, Memory};
 use cilk_machine_step::is_private;
 
 impl Machine {

@@ -1,5 +1,5 @@
 use Rattle.std.proofs.Common.{◌≡◌, ◌+◌, ◌≤◌, length, map, []}
-use Rattle.cilk_machine_choices.specs.Words.{choice_of}
+use Rattle.cilk_sched.specs.Words.{choice_of}
 use Rattle.cilk_log.specs.Reading.{lines_of}
 use Rattle.cilk_log.proofs.GoingOn.{goes_on}
 use Rattle.cilk_log.proofs.reading.read_choices.Given as goal

@@ -1,6 +1,6 @@
 use Rattle.std.proofs.Common.{◌≡◌, length, map, option_map, sym, subst, ◌∙◌, arith}
 use Rattle.std.proofs.lemmas.List.{length-map}
-use Rattle.cilk_machine_choices.specs.Words.{choice_of}
+use Rattle.cilk_sched.specs.Words.{choice_of}
 use Rattle.cilk_log.specs.Reading.{lines_of}
 use Rattle.cilk_log.specs.Words.{fault_of, IsFault}
 use Rattle.cilk_log.proofs.GoingOnStretched.{last, filled, past_most}

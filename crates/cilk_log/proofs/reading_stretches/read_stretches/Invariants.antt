@@ -1,5 +1,5 @@
 use Rattle.std.proofs.Common.{◌≡◌, ◌+◌, ◌≤◌, length, map, option_map}
-use Rattle.cilk_machine_choices.specs.Words.{choice_of}
+use Rattle.cilk_sched.specs.Words.{choice_of}
 use Rattle.cilk_log.specs.Text.{most_choices}
 use Rattle.cilk_log.specs.Reading.{lines_of, stretches_read}
 use Rattle.cilk_log.proofs.GoingOnStretched.{goes_on}

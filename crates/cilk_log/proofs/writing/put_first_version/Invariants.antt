@@ -1,5 +1,5 @@
 use Rattle.std.proofs.Common.{◌≡◌, ◌++◌, map, take, flat_map}
-use Rattle.cilk_machine_choices.specs.Words.{choice_of}
+use Rattle.cilk_sched.specs.Words.{choice_of}
 use Rattle.cilk_log.specs.Choices.{choice_text}
 use Rattle.cilk_log.specs.Text.{with_newline}
 use Rattle.cilk_log.proofs.writing.put_first_version.Given as goal

@@ -1,6 +1,6 @@
 use Rattle.std.proofs.Common.{sym, ◌∙◌}
 use Rattle.std.proofs.lemmas.List.{length-map}
-use Rattle.cilk_machine_choices.specs.Words.{choice_of}
+use Rattle.cilk_sched.specs.Words.{choice_of}
 use Rattle.cilk_log.proofs.Assembled.{ok_by, second_version}
 use Rattle.cilk_log.proofs.writing.put_second_version.Goals as goal
 

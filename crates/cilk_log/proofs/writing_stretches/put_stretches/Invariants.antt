@@ -1,5 +1,5 @@
 use Rattle.std.proofs.Common.{◌≡◌, ◌++◌, map, length, flat_map}
-use Rattle.cilk_machine_choices.specs.Words.{choice_of}
+use Rattle.cilk_sched.specs.Words.{choice_of}
 use Rattle.cilk_log.specs.Stretches.{stretch_text, stretches_of}
 use Rattle.cilk_log.specs.Text.{with_newline}
 use Rattle.cilk_log.proofs.writing_stretches.put_stretches.Given as goal

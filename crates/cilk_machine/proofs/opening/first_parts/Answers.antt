@@ -1,5 +1,5 @@
 use Rattle.std.proofs.Common.{List, length, replicate, Some, ap, ◌∙◌}
-use Rattle.cilk_machine_choices.specs.model.Hands.{with_hand}
+use Rattle.cilk_sched.specs.model.Hands.{with_hand}
 use Rattle.cilk_machine_undo.specs.nodes.declared.var.Var.{Var}
 use Rattle.cilk_machine_undo.specs.spawn.Family.{Family}
 use Rattle.cilk_machine_undo.specs.agree.declared.lock.Lock.TheVariants.{Unset}

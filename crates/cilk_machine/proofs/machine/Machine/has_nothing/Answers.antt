@@ -1,6 +1,6 @@
 use Rattle.std.proofs.Common.{length, sym, ap, ◌∙◌}
 use Rattle.std.proofs.lemmas.Bool.{eqb-true}
-use Rattle.cilk_machine_choices.specs.model.Hands.{hand_of, deque_of}
+use Rattle.cilk_sched.specs.model.Hands.{hand_of, deque_of}
 use Rattle.cilk_machine.specs.Situation.{Situation}
 use Rattle.cilk_machine.proofs.Nothing.{has_nothing}
 use Rattle.cilk_machine.proofs.machine.Machine.has_nothing.Goals as goal

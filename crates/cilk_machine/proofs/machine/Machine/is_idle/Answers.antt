@@ -1,5 +1,5 @@
 use Rattle.std.proofs.Common.{◌≡◌, ap, ◌∙◌, arith}
-use Rattle.cilk_machine_choices.specs.model.Hands.{IsWorker}
+use Rattle.cilk_sched.specs.model.Hands.{IsWorker}
 use Rattle.cilk_machine.specs.Situation.{workers_of}
 use Rattle.cilk_machine.proofs.Nothing.{idle_there}
 use Rattle.cilk_machine.proofs.machine.Machine.is_idle.Goals as goal

@@ -1,6 +1,6 @@
 use Rattle.std.proofs.Common.{ap, ◌∙◌, subst}
 use Rattle.std.specs.Prelude.{option_and_then}
-use Rattle.cilk_machine_choices.specs.model.Hands.{hand_of}
+use Rattle.cilk_sched.specs.model.Hands.{hand_of}
 use Rattle.cilk_machine_step.specs.Scenes.{input_of}
 use Rattle.cilk_machine_step.specs.Peeks.{peek_in}
 use Rattle.cilk_machine.specs.Situation.{Situation}

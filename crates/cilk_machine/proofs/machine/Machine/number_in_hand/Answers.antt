@@ -1,5 +1,5 @@
 use Rattle.std.proofs.Common.{ap, ◌∙◌, subst}
-use Rattle.cilk_machine_choices.specs.model.Hands.{hand_of}
+use Rattle.cilk_sched.specs.model.Hands.{hand_of}
 use Rattle.cilk_machine_step.specs.Scenes.{input_of}
 use Rattle.cilk_machine.specs.Situation.{Situation}
 use Rattle.cilk_machine.specs.Stands.{IsSound}

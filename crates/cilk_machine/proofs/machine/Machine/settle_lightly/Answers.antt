@@ -1,4 +1,4 @@
-use Rattle.cilk_machine_choices.specs.Words.{event_of}
+use Rattle.cilk_sched.specs.Words.{event_of}
 use Rattle.cilk_machine.proofs.Leading.{told-as}
 use Rattle.cilk_machine.proofs.machine.Machine.settle_lightly.Goals as goal
 

@@ -1,6 +1,6 @@
 use Rattle.std.proofs.Common.{◌≡◌, Option, Some, ap, ◌∙◌, subst}
 use Rattle.std.specs.Prelude.{option_and_then, Decides}
-use Rattle.cilk_machine_choices.specs.model.Hands.{hand_of}
+use Rattle.cilk_sched.specs.model.Hands.{hand_of}
 use Rattle.cilk_machine_step.specs.Scenes.{input_of}
 use Rattle.cilk_machine_step.specs.Peeks.{Peek, peek_in, peek_of}
 use Rattle.cilk_machine.specs.Situation.{Situation}

@@ -1,9 +1,9 @@
 use Rattle.std.proofs.Common.{◌≡◌, Some, List, ap, ◌∙◌, sym}
 use Rattle.cilk_machine_undo.specs.syntax.Tree.{Program}
-use Rattle.cilk_machine_choices.specs.model.Choice.{Choice}
-use Rattle.cilk_machine_choices.specs.model.Event.{Event}
-use Rattle.cilk_machine_choices.specs.model.Run.{Standing, Position}
-use Rattle.cilk_machine_choices.specs.model.Views.{shown}
+use Rattle.cilk_sched.specs.model.Choice.{Choice}
+use Rattle.cilk_sched.specs.model.Event.{Event}
+use Rattle.cilk_sched.specs.model.Run.{Standing, Position}
+use Rattle.cilk_sched.specs.model.Views.{shown}
 use Rattle.cilk_machine_undo.specs.frame.Asked.{what_of}
 use Rattle.cilk_view.specs.Shows.{ShowsAt}
 use Rattle.cilk_machine.specs.Stands.{Led}

@@ -1,5 +1,5 @@
 use Rattle.std.proofs.Common.{◌≡◌, length, refl, arith, below_more}
-use Rattle.cilk_machine_choices.specs.model.Hands.{deque_of}
+use Rattle.cilk_sched.specs.model.Hands.{deque_of}
 use Rattle.cilk_machine.proofs.Compares.{deque_same}
 use Rattle.cilk_machine.proofs.matching.Both.is_same_deque.Goals as goal
 

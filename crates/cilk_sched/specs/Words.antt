@@ -5,18 +5,18 @@ use Rattle.cilk_frame.specs.model.State as state
 use Rattle.cilk_frame.specs.model.Choice as model
 use Rattle.cilk_frame.specs.model.Event as event
 use Rattle.cilk_frame.specs.model.End as end
-use Rattle.cilk_machine_choices.specs.declared.act.Act.{Act}
-use Rattle.cilk_machine_choices.specs.declared.act.Act.TheVariants.{Step, Pop, Steal}
-use Rattle.cilk_machine_choices.specs.declared.choice.Choice.{Choice}
+use Rattle.cilk_sched.specs.declared.act.Act.{Act}
+use Rattle.cilk_sched.specs.declared.act.Act.TheVariants.{Step, Pop, Steal}
+use Rattle.cilk_sched.specs.declared.choice.Choice.{Choice}
 use Rattle.cilk_frame.specs.Kinds.{kind_of}
-use Rattle.cilk_machine_choices.specs.declared.outcome.Outcome.{Outcome}
-use Rattle.cilk_machine_choices.specs.declared.outcome.Outcome.TheVariants as outcome
-use Rattle.cilk_machine_choices.specs.declared.event.Event.{Event}
-use Rattle.cilk_machine_choices.specs.declared.event.Event.TheVariants.{Acted, Spawned, Delivered, Returned, Ended, Trapped, Moved}
-use Rattle.cilk_machine_choices.specs.declared.end.End.{End}
-use Rattle.cilk_machine_choices.specs.declared.end.End.TheVariants as ends
-use Rattle.cilk_machine_choices.specs.declared.refusal.Refusal.{Refusal}
-use Rattle.cilk_machine_choices.specs.declared.refusal.Refusal.TheVariants.{Over, NoWorker, HandEmpty, Busy, DequeEmpty, Waiting, Memory, Stale}
+use Rattle.cilk_sched.specs.declared.outcome.Outcome.{Outcome}
+use Rattle.cilk_sched.specs.declared.outcome.Outcome.TheVariants as outcome
+use Rattle.cilk_sched.specs.declared.event.Event.{Event}
+use Rattle.cilk_sched.specs.declared.event.Event.TheVariants.{Acted, Spawned, Delivered, Returned, Ended, Trapped, Moved}
+use Rattle.cilk_sched.specs.declared.end.End.{End}
+use Rattle.cilk_sched.specs.declared.end.End.TheVariants as ends
+use Rattle.cilk_sched.specs.declared.refusal.Refusal.{Refusal}
+use Rattle.cilk_sched.specs.declared.refusal.Refusal.TheVariants.{Over, NoWorker, HandEmpty, Busy, DequeEmpty, Waiting, Memory, Stale}
 
 abbrev pub act_of : Act → model.Act
 act_of Step = model.step

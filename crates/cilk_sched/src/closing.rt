@@ -2,7 +2,7 @@
 
 ghost use Rattle.std.specs.Prelude.{◌≡◌, IfOk, string_bytes};
 ghost use Rattle.cilk_frame.specs.model.End.{line_break, end_text, ending};
-ghost use Rattle.cilk_machine_choices.specs.Words.{end_of};
+ghost use Rattle.cilk_sched.specs.Words.{end_of};
 
 use crate::end::End;
 use crate::naming::put_trapped;

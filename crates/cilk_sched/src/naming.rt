@@ -4,7 +4,7 @@ ghost use Rattle.std.specs.Prelude.{◌≡◌};
 ghost use Rattle.cilk_frame.specs.syntax.Appends.{Appends};
 ghost use Rattle.cilk_frame.specs.model.End.{kind_text, trap_text};
 ghost use Rattle.cilk_frame.specs.Kinds.{kind_of};
-ghost use Rattle.cilk_machine_choices.specs.Words.{trapped_text};
+ghost use Rattle.cilk_sched.specs.Words.{trapped_text};
 
 use cilk_frame::{Memory, Path, Trap, TrapKind};
 

@@ -1,5 +1,5 @@
-use Rattle.cilk_machine_choices.proofs.Newlines.{break-none, break-some}
-use Rattle.cilk_machine_choices.proofs.closing.line_break.Goals as goal
+use Rattle.cilk_sched.proofs.Newlines.{break-none, break-some}
+use Rattle.cilk_sched.proofs.closing.line_break.Goals as goal
 
 pub returns-in-Some-eq10 : goal.returns-in-Some-eq10
 returns-in-Some-eq10 c = break-none c.args.output.now c.in-Some-eq10.field-0.now c.in-Some-eq10.ensures.value c.in-Some-eq10.field-0-test
