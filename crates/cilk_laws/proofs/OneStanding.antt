@@ -28,10 +28,10 @@ use Rattle.cilk_machine.proofs.agree_laws.Found.{found}
 use Rattle.cilk_machine.proofs.agree_laws.Frames.{held-both}
 use Rattle.cilk_machine.specs.Situation.{Situation, workers_of}
 use Rattle.cilk_machine.specs.Stands.{StandsAt}
-use Rattle.cilk_explore_model.proofs.Cells.{one-values}
-use Rattle.cilk_explore_model.proofs.Instances.{one-instance}
-use Rattle.cilk_explore_model.proofs.Standings.{one_mark}
-use Rattle.cilk_explore_model.proofs.Passing.{Passes, in-places, some_placed}
+use Rattle.cilk_machine_agree.proofs.explore.Cells.{one-values}
+use Rattle.cilk_machine_agree.proofs.explore.Instances.{one-instance}
+use Rattle.cilk_machine_agree.proofs.explore.Standings.{one_mark}
+use Rattle.cilk_machine_agree.proofs.explore.Passing.{Passes, in-places, some_placed}
 
 module _ (p : Program) (well : WellFormed p) (m : MachineParts) (who other : ℕ → Instance) (a b : Standing) (h : Agrees p m who a) (k : Agrees p m other b)
     (placed : EachInItsPlace a) (beside : EachInItsPlace b) where

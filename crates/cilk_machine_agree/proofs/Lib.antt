@@ -21,6 +21,7 @@ pub mod Between
 pub mod Made
 pub mod Kept
 pub mod One
+pub mod explore
 pub use Rattle.cilk_laws_model.proofs as runs_laws
 pub use Rattle.cilk_sched.proofs as sched_laws
 pub use Rattle.cilk_sched.proofs.frame_laws

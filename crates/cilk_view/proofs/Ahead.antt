@@ -3,12 +3,12 @@ use Rattle.std.proofs.Common.{◌≡◌, ◌⊎◌, inl, inr, ℕ, ◌<◌, ◌�
 use Rattle.std.proofs.Common.{refl, sym, ap, ◌∙◌, subst, arith, lt-ltb, le-ltb, eq-eqb, ne_eqb}
 use Rattle.std.specs.Prelude.{nat_lt}
 use Rattle.std.proofs.lemmas.Bool.{cases_eq}
-use Rattle.cilk_explore_model.specs.model.Path.{Path}
-use Rattle.cilk_explore_model.specs.model.ViewTrees.{is_before}
-use Rattle.cilk_explore_model.specs.agree.spawn.Nodes.{Node, node_at, path_at, IsTree}
-use Rattle.cilk_explore_model.proofs.agree_laws.spawn_laws.Trees.{path_root, path_child, child_there}
-use Rattle.cilk_explore_model.proofs.agree_laws.spawn_laws.Children.{parent_in}
-use Rattle.cilk_explore_model.proofs.agree_laws.spawn_laws.Finds.{step_down}
+use Rattle.cilk_machine_agree.specs.model.Path.{Path}
+use Rattle.cilk_machine_agree.specs.model.ViewTrees.{is_before}
+use Rattle.cilk_machine_agree.specs.spawn.Nodes.{Node, node_at, path_at, IsTree}
+use Rattle.cilk_machine_agree.proofs.spawn_laws.Trees.{path_root, path_child, child_there}
+use Rattle.cilk_machine_agree.proofs.spawn_laws.Children.{parent_in}
+use Rattle.cilk_machine_agree.proofs.spawn_laws.Finds.{step_down}
 use Rattle.cilk_view.specs.Kin.{NextChild, NoChild}
 use Rattle.cilk_view.specs.Following.{all_paths, beyond, from_here}
 use Rattle.cilk_view.proofs.Rising.{later, rising_all, each_all, among_all, filter_none, first_is, all_is}

@@ -3,27 +3,27 @@ use Rattle.std.proofs.Common.{pos, ◌≡◌, ℕ, ◌+◌, ◌++◌, List, [], 
 use Rattle.std.proofs.Common.{Some, None, option_map}
 use Rattle.std.specs.Prelude.{codes, decimal, flat_map, option_and_then}
 use Rattle.std.proofs.lemmas.List.{reverse-reverse, reverse-append, map-append}
-use Rattle.cilk_explore_model.specs.syntax.Tree.{Program}
-use Rattle.cilk_explore_model.specs.agree.scopes.WellFormed.{WellFormed}
-use Rattle.cilk_explore_model.specs.agree.nodes.declared.area.Area.{Area}
-use Rattle.cilk_explore_model.specs.agree.nodes.declared.area.Area.TheVariants.{Own}
+use Rattle.cilk_machine_agree.specs.syntax.Tree.{Program}
+use Rattle.cilk_machine_agree.specs.scopes.WellFormed.{WellFormed}
+use Rattle.cilk_machine_agree.specs.nodes.declared.area.Area.{Area}
+use Rattle.cilk_machine_agree.specs.nodes.declared.area.Area.TheVariants.{Own}
 use Rattle.cilk_load.specs.labelled.Labelled.{Numbered, Variable}
 use Rattle.cilk_load.specs.labelled.Items.{Items, head_of}
 use Rattle.cilk_load.specs.labelled.Bodies.{label}
-use Rattle.cilk_explore_model.specs.model.Values.{Values}
-use Rattle.cilk_explore_model.specs.model.Instance as model
-use Rattle.cilk_explore_model.specs.model.Instance.{Instance, body_at}
-use Rattle.cilk_explore_model.specs.agree.nodes.declared.node.Node.{Node}
-use Rattle.cilk_explore_model.specs.agree.nodes.Slots.{size_of, flat, slot_of}
-use Rattle.cilk_explore_model.specs.agree.nodes.Actions.{slotted}
-use Rattle.cilk_explore_model.specs.agree.nodes.Table.{number_of, number_else, cases_of, node_at, node_of}
-use Rattle.cilk_explore_model.specs.agree.nodes.Bodies.{vars_from, body_table, body_of}
-use Rattle.cilk_explore_model.specs.agree.nodes.Laws.{Reached, items_at}
-use Rattle.cilk_explore_model.proofs.agree_laws.nodes_laws.Heads.{nodes-stand, bodies-have}
-use Rattle.cilk_explore_model.specs.agree.frame.Frames.{Activation, Frame}
-use Rattle.cilk_explore_model.specs.agree.frame.Stands.{Activates, AllActivate, StandsFor}
-use Rattle.cilk_explore_model.specs.model.Texts.{length_text, values_text, line_at}
-use Rattle.cilk_explore_model.specs.model.Frames.{variables_text, activation_text, frame_text}
+use Rattle.cilk_machine_agree.specs.model.Values.{Values}
+use Rattle.cilk_machine_agree.specs.model.Instance as model
+use Rattle.cilk_machine_agree.specs.model.Instance.{Instance, body_at}
+use Rattle.cilk_machine_agree.specs.nodes.declared.node.Node.{Node}
+use Rattle.cilk_machine_agree.specs.nodes.Slots.{size_of, flat, slot_of}
+use Rattle.cilk_machine_agree.specs.nodes.Actions.{slotted}
+use Rattle.cilk_machine_agree.specs.nodes.Table.{number_of, number_else, cases_of, node_at, node_of}
+use Rattle.cilk_machine_agree.specs.nodes.Bodies.{vars_from, body_table, body_of}
+use Rattle.cilk_machine_agree.specs.nodes.Laws.{Reached, items_at}
+use Rattle.cilk_machine_agree.proofs.nodes_laws.Heads.{nodes-stand, bodies-have}
+use Rattle.cilk_machine_agree.specs.frame.Frames.{Activation, Frame}
+use Rattle.cilk_machine_agree.specs.frame.Stands.{Activates, AllActivate, StandsFor}
+use Rattle.cilk_machine_agree.specs.model.Texts.{length_text, values_text, line_at}
+use Rattle.cilk_machine_agree.specs.model.Frames.{variables_text, activation_text, frame_text}
 use Rattle.cilk_view.specs.WhereLines.{line_number}
 use Rattle.cilk_view.specs.Frames.{body_with, vars_text, body_text, activation_by, frame_by}
 use Rattle.cilk_view.proofs.Links.{take_front, drop_front, by_head}

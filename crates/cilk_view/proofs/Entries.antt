@@ -6,7 +6,7 @@ use Rattle.std.specs.Prelude.{codes, decimal, slice_get, string_bytes, Result, O
 use Rattle.std.proofs.lemmas.List.{reverse-append, get_or_default}
 use Rattle.std.proofs.lemmas.List.Elements.{All-push}
 use Rattle.std.proofs.lemmas.Option.{slice_get-get_or}
-use Rattle.cilk_explore_model.specs.model.Path.{numbers_text, path_text}
+use Rattle.cilk_machine_agree.specs.model.Path.{numbers_text, path_text}
 use Rattle.cilk_view.specs.declared.link.Link.{Link}
 use Rattle.cilk_view.specs.declared.entry.Entry.{Entry}
 use Rattle.cilk_view.specs.Ups.{linked_path, link_at, AreUp}

@@ -6,26 +6,26 @@ use Rattle.std.specs.Option.{option_or}
 use Rattle.std.proofs.lemmas.Bool.Decides.{Decides-eqb}
 use Rattle.std.proofs.lemmas.List.Elements.{All-head, All-tail}
 use Rattle.std.proofs.lemmas.List.Sums.{sum_by-cons}
-use Rattle.cilk_explore_model.specs.syntax.Tree.{Program}
+use Rattle.cilk_machine_agree.specs.syntax.Tree.{Program}
 use Rattle.cilk_load.specs.labelled.Bodies.{label}
-use Rattle.cilk_explore_model.specs.model.Path.{Path, same_path, is_that}
-use Rattle.cilk_explore_model.specs.model.Instance.{Instance}
-use Rattle.cilk_explore_model.specs.model.State.{is_live, instance_at}
-use Rattle.cilk_explore_model.specs.model.Hands.{WorkerOf, named}
-use Rattle.cilk_explore_model.specs.model.Run.{Standing}
-use Rattle.cilk_explore_model.specs.runs.Hands.{times_held, EachInItsPlace}
-use Rattle.cilk_explore_model.proofs.runs_laws.Entries.{same-is}
-use Rattle.cilk_explore_model.specs.agree.frame.Frames.{Frame}
-use Rattle.cilk_explore_model.specs.agree.frame.Stands.{StandsFor}
-use Rattle.cilk_explore_model.specs.agree.spawn.Nodes as nodes
-use Rattle.cilk_explore_model.specs.agree.spawn.Nodes.{Node, IsTree, node_at, live_ids, path_at}
-use Rattle.cilk_explore_model.proofs.agree_laws.spawn_laws.Lists.{decide, those_pass}
-use Rattle.cilk_explore_model.proofs.agree_laws.spawn_laws.Trees.{live_there}
-use Rattle.cilk_explore_model.proofs.agree_laws.spawn_laws.Paths.{other_there}
-use Rattle.cilk_explore_model.specs.agree.sched.Count.{AllAt, AllHeld}
-use Rattle.cilk_explore_model.proofs.agree_laws.sched_laws.Count.{AllHeld-weaker}
-use Rattle.cilk_explore_model.specs.agree.Agrees.{MachineParts, Held, Agrees, entry_of, name_in}
-use Rattle.cilk_explore_model.proofs.agree_laws.Found.{found}
+use Rattle.cilk_machine_agree.specs.model.Path.{Path, same_path, is_that}
+use Rattle.cilk_machine_agree.specs.model.Instance.{Instance}
+use Rattle.cilk_machine_agree.specs.model.State.{is_live, instance_at}
+use Rattle.cilk_machine_agree.specs.model.Hands.{WorkerOf, named}
+use Rattle.cilk_machine_agree.specs.model.Run.{Standing}
+use Rattle.cilk_machine_agree.specs.runs.Hands.{times_held, EachInItsPlace}
+use Rattle.cilk_machine_agree.proofs.runs_laws.Entries.{same-is}
+use Rattle.cilk_machine_agree.specs.frame.Frames.{Frame}
+use Rattle.cilk_machine_agree.specs.frame.Stands.{StandsFor}
+use Rattle.cilk_machine_agree.specs.spawn.Nodes as nodes
+use Rattle.cilk_machine_agree.specs.spawn.Nodes.{Node, IsTree, node_at, live_ids, path_at}
+use Rattle.cilk_machine_agree.proofs.spawn_laws.Lists.{decide, those_pass}
+use Rattle.cilk_machine_agree.proofs.spawn_laws.Trees.{live_there}
+use Rattle.cilk_machine_agree.proofs.spawn_laws.Paths.{other_there}
+use Rattle.cilk_machine_agree.specs.sched.Count.{AllAt, AllHeld}
+use Rattle.cilk_machine_agree.proofs.sched_laws.Count.{AllHeld-weaker}
+use Rattle.cilk_machine_agree.specs.Agrees.{MachineParts, Held, Agrees, entry_of, name_in}
+use Rattle.cilk_machine_agree.proofs.Found.{found}
 use Rattle.cilk_view.specs.Finding.{frame_among, frame_at_by, frame_at, frame_held, frame_live}
 
 pub among_here : (id : ℕ) (deque : List Frame) (i : ℕ) (f : Frame) → Some f ≡ slice_get deque i → nat_eq f.id id ≡ true → Some f ≡ frame_among id (drop i deque)

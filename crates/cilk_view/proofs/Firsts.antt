@@ -7,9 +7,9 @@ use Rattle.std.specs.BTreeMap.{BTreeMap, Updates}
 use Rattle.std.specs.List.{before_first, after_first, position_or_len}
 use Rattle.std.specs.Ordering.{nat_cmp}
 use Rattle.cilk_load.specs.labelled.Labelled.{Labelled}
-use Rattle.cilk_explore_model.specs.model.End.{line_of}
-use Rattle.cilk_explore_model.specs.model.Listing.{lines_in, first_on, numbered_text}
-use Rattle.cilk_explore_model.specs.model.Listing.{before_first as with_first}
+use Rattle.cilk_machine_agree.specs.model.End.{line_of}
+use Rattle.cilk_machine_agree.specs.model.Listing.{lines_in, first_on, numbered_text}
+use Rattle.cilk_machine_agree.specs.model.Listing.{before_first as with_first}
 use Rattle.cilk_view.specs.Listing.{HasFirsts, numbered_line}
 
 none_past : (xs : List ℕ) (n : ℕ) → slice_get xs n ≡ None → drop n xs ≡ []

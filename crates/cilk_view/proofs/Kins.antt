@@ -12,8 +12,8 @@ use Rattle.std.proofs.lemmas.Bool.{cases_eq, cases_lt}
 use Rattle.std.proofs.lemmas.Cmp.{nat_cmp_total, on_total, then_total}
 use Rattle.std.proofs.lemmas.List.Elements.{All-push, All-contains, Contains-append_left, Contains-push, Contains-get_or}
 use Rattle.std.proofs.lemmas.List.Sorted.{All-permutation, Contains-permutation, ranks_by, searchable_from_sorted, sorted_far}
-use Rattle.cilk_explore_model.specs.agree.spawn.Nodes.{Node, node_at}
-use Rattle.cilk_explore_model.proofs.agree_laws.spawn_laws.Trees.{child_there}
+use Rattle.cilk_machine_agree.specs.spawn.Nodes.{Node, node_at}
+use Rattle.cilk_machine_agree.proofs.spawn_laws.Trees.{child_there}
 use Rattle.cilk_view.specs.declared.link.Link.{Link}
 use Rattle.cilk_view.specs.Ups.{link_by, links_of, link_at}
 use Rattle.cilk_view.specs.Kin.{Kin, IsKin, AreKin, by_kin, KinSorted, NextChild, NoChild, with_kin, search_end}

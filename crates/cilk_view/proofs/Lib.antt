@@ -15,5 +15,5 @@ pub mod Kins
 pub mod Tellings
 mod Portions
 pub use Rattle.cilk_load.proofs.Fronts
-pub use Rattle.cilk_explore_model.proofs as explore_laws
-pub use Rattle.cilk_explore_model.proofs.runs_laws
+pub use Rattle.cilk_machine_agree.proofs.explore as explore_laws
+pub use Rattle.cilk_machine_agree.proofs.runs_laws

@@ -1,42 +1,42 @@
 -- What the frames, cells and ids tell is what the views of a standing say.
 use Rattle.std.proofs.Common.{◌≡◌, ℕ, zero, suc, ◌++◌, ℤ, List, [], ◌∷◌, drop, take, map, length, refl, ap, arith, append_assoc}
 use Rattle.std.specs.Prelude.{codes, decimal, option_map, flat_map}
-use Rattle.cilk_explore_model.specs.syntax.Tree as tree
+use Rattle.cilk_machine_agree.specs.syntax.Tree as tree
 use Rattle.cilk_load.specs.labelled.Bodies.{item_globals}
-use Rattle.cilk_explore_model.specs.model.Path.{Path}
-use Rattle.cilk_explore_model.specs.model.Values.{Values}
-use Rattle.cilk_explore_model.specs.model.Hands.{WorkerOf, named}
-use Rattle.cilk_explore_model.specs.agree.nodes.Slots.{size_of, flat}
-use Rattle.cilk_explore_model.specs.agree.frame.Frames.{Frame}
-use Rattle.cilk_explore_model.specs.agree.spawn.Nodes.{Node}
-use Rattle.cilk_explore_model.specs.agree.declared.lock.Lock.{Lock}
-use Rattle.cilk_explore_model.specs.agree.Outside.{lock_by}
-use Rattle.cilk_explore_model.specs.agree.Agrees.{name_in}
-use Rattle.cilk_explore_model.specs.model.Globals.{globals_text}
-use Rattle.cilk_explore_model.specs.model.Workers.{deques_text}
+use Rattle.cilk_machine_agree.specs.model.Path.{Path}
+use Rattle.cilk_machine_agree.specs.model.Values.{Values}
+use Rattle.cilk_machine_agree.specs.model.Hands.{WorkerOf, named}
+use Rattle.cilk_machine_agree.specs.nodes.Slots.{size_of, flat}
+use Rattle.cilk_machine_agree.specs.frame.Frames.{Frame}
+use Rattle.cilk_machine_agree.specs.spawn.Nodes.{Node}
+use Rattle.cilk_machine_agree.specs.declared.lock.Lock.{Lock}
+use Rattle.cilk_machine_agree.specs.Outside.{lock_by}
+use Rattle.cilk_machine_agree.specs.Agrees.{name_in}
+use Rattle.cilk_machine_agree.specs.model.Globals.{globals_text}
+use Rattle.cilk_machine_agree.specs.model.Workers.{deques_text}
 use Rattle.cilk_view.specs.WhereLines.{by_worker, deque_line}
 use Rattle.cilk_view.specs.Globals.{width, globals_by}
 use Rattle.std.proofs.lemmas.List.Elements.{All-head, All-tail}
 use Rattle.std.proofs.Common.{◌∙◌, sym}
 use Rattle.std.specs.Prelude.{unwrap_or, option_and_then, IfSome, Option, Some, None}
-use Rattle.cilk_explore_model.specs.model.Path.{path_text}
-use Rattle.cilk_explore_model.specs.syntax.Tree.{Program}
+use Rattle.cilk_machine_agree.specs.model.Path.{path_text}
+use Rattle.cilk_machine_agree.specs.syntax.Tree.{Program}
 use Rattle.cilk_load.specs.labelled.Labelled.{Numbered, Labelled}
 use Rattle.cilk_load.specs.labelled.Items.{head_of}
 use Rattle.cilk_load.specs.labelled.Bodies.{label}
-use Rattle.cilk_explore_model.specs.model.End.{line_of}
-use Rattle.cilk_explore_model.specs.model.Instance.{Instance}
-use Rattle.cilk_explore_model.specs.model.State.{instance_at}
-use Rattle.cilk_explore_model.specs.model.Run.{Standing}
-use Rattle.cilk_explore_model.specs.agree.frame.Frames.{top_of}
-use Rattle.cilk_explore_model.specs.agree.frame.Stands.{StandsFor}
-use Rattle.cilk_explore_model.proofs.agree_laws.frame_laws.Tops.{top-stands}
-use Rattle.cilk_explore_model.specs.agree.spawn.Nodes.{path_at}
-use Rattle.cilk_explore_model.specs.agree.sched.Count.{AllAt, AllHeld}
-use Rattle.cilk_explore_model.specs.agree.Agrees.{MachineParts, Held, Agrees}
-use Rattle.cilk_explore_model.proofs.agree_laws.Found.{found}
-use Rattle.cilk_explore_model.specs.model.Texts.{line_at}
-use Rattle.cilk_explore_model.specs.model.Workers.{line_of_instance, where_path_text, where_text}
+use Rattle.cilk_machine_agree.specs.model.End.{line_of}
+use Rattle.cilk_machine_agree.specs.model.Instance.{Instance}
+use Rattle.cilk_machine_agree.specs.model.State.{instance_at}
+use Rattle.cilk_machine_agree.specs.model.Run.{Standing}
+use Rattle.cilk_machine_agree.specs.frame.Frames.{top_of}
+use Rattle.cilk_machine_agree.specs.frame.Stands.{StandsFor}
+use Rattle.cilk_machine_agree.proofs.frame_laws.Tops.{top-stands}
+use Rattle.cilk_machine_agree.specs.spawn.Nodes.{path_at}
+use Rattle.cilk_machine_agree.specs.sched.Count.{AllAt, AllHeld}
+use Rattle.cilk_machine_agree.specs.Agrees.{MachineParts, Held, Agrees}
+use Rattle.cilk_machine_agree.proofs.Found.{found}
+use Rattle.cilk_machine_agree.specs.model.Texts.{line_at}
+use Rattle.cilk_machine_agree.specs.model.Workers.{line_of_instance, where_path_text, where_text}
 use Rattle.cilk_view.specs.WhereLines.{where_frame_text, where_line}
 
 pub deques_are : (ns : List Node) (w : ℕ) (places : List (WorkerOf Frame)) → by_worker (deque_line ns) w places ≡ deques_text w (named (name_in ns) places)

@@ -1,10 +1,10 @@
 -- The frames of a deque one after another.
 use Rattle.std.proofs.Common.{◌≡◌, ℕ, zero, suc, ◌+◌, ◌<◌, ◌++◌, List, [], ◌∷◌, drop, map, length, arith, append_assoc}
 use Rattle.std.specs.Prelude.{slice_get}
-use Rattle.cilk_explore_model.specs.agree.frame.Frames.{Frame}
-use Rattle.cilk_explore_model.specs.agree.spawn.Nodes.{Node}
-use Rattle.cilk_explore_model.specs.agree.Agrees.{name_in}
-use Rattle.cilk_explore_model.specs.model.Workers.{paths_text}
+use Rattle.cilk_machine_agree.specs.frame.Frames.{Frame}
+use Rattle.cilk_machine_agree.specs.spawn.Nodes.{Node}
+use Rattle.cilk_machine_agree.specs.Agrees.{name_in}
+use Rattle.cilk_machine_agree.specs.model.Workers.{paths_text}
 use Rattle.cilk_view.specs.WhereLines.{queued_text}
 
 pub next_queued : (ns : List Node) (deque : List Frame) (i : ℕ) → i < length deque

@@ -10,9 +10,9 @@ use Rattle.std.proofs.lemmas.List.Sorted.{ranks_by}
 use Rattle.std.proofs.lemmas.List.Sums.{sum_by-cons}
 use Rattle.std.proofs.lemmas.Map.Lookups.{exact_bytes}
 use Rattle.std.specs.Cmp.Lexicographic.{slice_cmp}
-use Rattle.cilk_explore_model.specs.model.Path.{Path, same_path}
-use Rattle.cilk_explore_model.proofs.runs_laws.Entries.{same-is, same-self}
-use Rattle.cilk_explore_model.specs.model.ViewTrees.{is_before, placed, in_order}
+use Rattle.cilk_machine_agree.specs.model.Path.{Path, same_path}
+use Rattle.cilk_machine_agree.proofs.runs_laws.Entries.{same-is, same-self}
+use Rattle.cilk_machine_agree.specs.model.ViewTrees.{is_before, placed, in_order}
 
 abbrev pub before : Path → Path → Bool
 before p q = is_lt (slice_cmp nat_cmp p q)

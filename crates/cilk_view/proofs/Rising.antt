@@ -4,10 +4,10 @@ use Rattle.std.proofs.Common.{if◌then◌else◌}
 use Rattle.std.specs.Prelude.{⊤}
 use Rattle.std.proofs.lemmas.Bool.{cases_eq}
 use Rattle.std.specs.List.{filter, range_with_len}
-use Rattle.cilk_explore_model.specs.model.Path.{Path}
-use Rattle.cilk_explore_model.specs.model.ViewTrees.{is_before, placed, in_order}
-use Rattle.cilk_explore_model.specs.agree.spawn.Nodes.{Node, path_at, IsTree}
-use Rattle.cilk_explore_model.proofs.agree_laws.spawn_laws.Trees.{names}
+use Rattle.cilk_machine_agree.specs.model.Path.{Path}
+use Rattle.cilk_machine_agree.specs.model.ViewTrees.{is_before, placed, in_order}
+use Rattle.cilk_machine_agree.specs.spawn.Nodes.{Node, path_at, IsTree}
+use Rattle.cilk_machine_agree.proofs.spawn_laws.Trees.{names}
 use Rattle.cilk_view.specs.Following.{all_paths, beyond}
 use Rattle.cilk_view.proofs.Orders.{before, before_is, order, one_path, itself}
 

@@ -3,13 +3,13 @@ use Rattle.std.proofs.Common.{◌≡◌, ◌<◌, ◌+◌, ◌-◌, ℕ, zero, s
 use Rattle.std.proofs.Common.{length, map, drop, Option, Some, None, IfSome, refl, sym, ap, ◌∙◌, subst, arith}
 use Rattle.std.proofs.Common.{append_assoc, append-nil, slice_index_or}
 use Rattle.std.specs.Prelude.{codes, decimal, flat_map, Result, Ok, Err, OnOk, IfOk, option_map, slice_get}
-use Rattle.cilk_explore_model.specs.syntax.Tree.{Program}
-use Rattle.cilk_explore_model.specs.model.Path.{Path, path_text}
-use Rattle.cilk_explore_model.specs.model.Hands.{WorkerOf, no_place, worker_at}
-use Rattle.cilk_explore_model.specs.model.Workers.{hand_text, paths_text}
-use Rattle.cilk_explore_model.specs.agree.frame.Frames.{Frame}
-use Rattle.cilk_explore_model.specs.agree.spawn.Nodes.{Node, node_at, path_at, IsTree, IsBelow}
-use Rattle.cilk_explore_model.specs.agree.Agrees.{name_in}
+use Rattle.cilk_machine_agree.specs.syntax.Tree.{Program}
+use Rattle.cilk_machine_agree.specs.model.Path.{Path, path_text}
+use Rattle.cilk_machine_agree.specs.model.Hands.{WorkerOf, no_place, worker_at}
+use Rattle.cilk_machine_agree.specs.model.Workers.{hand_text, paths_text}
+use Rattle.cilk_machine_agree.specs.frame.Frames.{Frame}
+use Rattle.cilk_machine_agree.specs.spawn.Nodes.{Node, node_at, path_at, IsTree, IsBelow}
+use Rattle.cilk_machine_agree.specs.Agrees.{name_in}
 use Rattle.cilk_view.specs.declared.link.Link.{Link}
 use Rattle.cilk_view.specs.declared.entry.Entry.{Entry}
 use Rattle.cilk_view.specs.Ups.{links_of, linked_path, AreUp}

@@ -5,35 +5,35 @@ use Rattle.std.specs.Prelude.{codes, decimal, flat_map, is_some, option_map, sli
 use Rattle.std.specs.Global.{Vec}
 use Rattle.std.specs.List.{list_any}
 use Rattle.std.proofs.lemmas.List.Elements.{All-head, All-tail}
-use Rattle.cilk_explore_model.specs.syntax.Tree.{Program}
+use Rattle.cilk_machine_agree.specs.syntax.Tree.{Program}
 use Rattle.cilk_load.specs.labelled.Labelled.{Labelled, Body}
 use Rattle.cilk_load.specs.labelled.Bodies.{label}
-use Rattle.cilk_explore_model.specs.model.Path.{Path, same_path, is_that, path_text}
-use Rattle.cilk_explore_model.specs.model.Instance as model
-use Rattle.cilk_explore_model.specs.model.Instance.{Instance, body_at, no_body}
-use Rattle.cilk_explore_model.specs.model.State.{instance_at}
-use Rattle.cilk_explore_model.specs.model.Hands.{WorkerOf, named}
-use Rattle.cilk_explore_model.specs.model.Run.{Position}
-use Rattle.cilk_explore_model.specs.runs.Hands.{EachInItsPlace}
-use Rattle.cilk_explore_model.specs.agree.nodes.Bodies.{body_table}
-use Rattle.cilk_explore_model.specs.agree.frame.Frames.{Frame, top_of}
-use Rattle.cilk_explore_model.specs.agree.frame.Stands.{lowest_of, bodies_of}
-use Rattle.cilk_explore_model.specs.agree.spawn.declared.delivery.Delivery.{Delivery}
-use Rattle.cilk_explore_model.specs.agree.spawn.declared.fate.Fate.{Fate}
-use Rattle.cilk_explore_model.specs.agree.spawn.declared.fate.Fate.TheVariants.{Live, Returned, Delivered, Aborted}
-use Rattle.cilk_explore_model.specs.agree.spawn.Nodes as nodes
-use Rattle.cilk_explore_model.specs.agree.spawn.Nodes.{Node, IsTree, node_at, path_at}
-use Rattle.cilk_explore_model.proofs.agree_laws.spawn_laws.Trees.{live_there, names}
-use Rattle.cilk_explore_model.proofs.agree_laws.spawn_laws.Paths.{number_is_path}
-use Rattle.cilk_explore_model.specs.agree.sched.Count.{AllAt, AllHeld}
-use Rattle.cilk_explore_model.proofs.agree_laws.sched_laws.Count.{AllHeld-weaker}
+use Rattle.cilk_machine_agree.specs.model.Path.{Path, same_path, is_that, path_text}
+use Rattle.cilk_machine_agree.specs.model.Instance as model
+use Rattle.cilk_machine_agree.specs.model.Instance.{Instance, body_at, no_body}
+use Rattle.cilk_machine_agree.specs.model.State.{instance_at}
+use Rattle.cilk_machine_agree.specs.model.Hands.{WorkerOf, named}
+use Rattle.cilk_machine_agree.specs.model.Run.{Position}
+use Rattle.cilk_machine_agree.specs.runs.Hands.{EachInItsPlace}
+use Rattle.cilk_machine_agree.specs.nodes.Bodies.{body_table}
+use Rattle.cilk_machine_agree.specs.frame.Frames.{Frame, top_of}
+use Rattle.cilk_machine_agree.specs.frame.Stands.{lowest_of, bodies_of}
+use Rattle.cilk_machine_agree.specs.spawn.declared.delivery.Delivery.{Delivery}
+use Rattle.cilk_machine_agree.specs.spawn.declared.fate.Fate.{Fate}
+use Rattle.cilk_machine_agree.specs.spawn.declared.fate.Fate.TheVariants.{Live, Returned, Delivered, Aborted}
+use Rattle.cilk_machine_agree.specs.spawn.Nodes as nodes
+use Rattle.cilk_machine_agree.specs.spawn.Nodes.{Node, IsTree, node_at, path_at}
+use Rattle.cilk_machine_agree.proofs.spawn_laws.Trees.{live_there, names}
+use Rattle.cilk_machine_agree.proofs.spawn_laws.Paths.{number_is_path}
+use Rattle.cilk_machine_agree.specs.sched.Count.{AllAt, AllHeld}
+use Rattle.cilk_machine_agree.proofs.sched_laws.Count.{AllHeld-weaker}
 use Rattle.std.specs.Prelude.{IfSome}
-use Rattle.cilk_explore_model.specs.agree.Alike.{SameDeliveries}
-use Rattle.cilk_explore_model.specs.agree.Agrees.{MachineParts, Held, Agrees, name_in}
-use Rattle.cilk_explore_model.specs.agree.Fated.{fate_named, Fated}
-use Rattle.cilk_explore_model.specs.model.ViewTrees.{lowest, holder_text, place_text, waiting_text, aborted_text, live_text, name_of, fate_text}
-use Rattle.cilk_explore_model.specs.model.ViewTrees.{state_text, path_line}
-use Rattle.cilk_explore_model.specs.model.Texts.{line_at}
+use Rattle.cilk_machine_agree.specs.Alike.{SameDeliveries}
+use Rattle.cilk_machine_agree.specs.Agrees.{MachineParts, Held, Agrees, name_in}
+use Rattle.cilk_machine_agree.specs.Fated.{fate_named, Fated}
+use Rattle.cilk_machine_agree.specs.model.ViewTrees.{lowest, holder_text, place_text, waiting_text, aborted_text, live_text, name_of, fate_text}
+use Rattle.cilk_machine_agree.specs.model.ViewTrees.{state_text, path_line}
+use Rattle.cilk_machine_agree.specs.model.Texts.{line_at}
 use Rattle.cilk_view.specs.WhereLines.{line_number}
 use Rattle.cilk_view.specs.Finding.{frame_among, frame_live}
 use Rattle.cilk_view.specs.Sorting.{IsMade, paths_in}

@@ -11,10 +11,10 @@ use Rattle.std.proofs.lemmas.List.Sorted.{sum_by-IsPermutation}
 use Rattle.std.proofs.lemmas.List.Sums.{sum_by-cons}
 use Rattle.std.proofs.lemmas.List.Elements.{All-push}
 use Rattle.std.proofs.lemmas.List.{map-append}
-use Rattle.cilk_explore_model.specs.model.Path.{Path, same_path}
-use Rattle.cilk_explore_model.specs.agree.spawn.Nodes.{Node, path_at}
-use Rattle.cilk_explore_model.proofs.agree_laws.spawn_laws.Lists.{range_more}
-use Rattle.cilk_explore_model.specs.model.ViewTrees.{in_order}
+use Rattle.cilk_machine_agree.specs.model.Path.{Path, same_path}
+use Rattle.cilk_machine_agree.specs.spawn.Nodes.{Node, path_at}
+use Rattle.cilk_machine_agree.proofs.spawn_laws.Lists.{range_more}
+use Rattle.cilk_machine_agree.specs.model.ViewTrees.{in_order}
 use Rattle.cilk_view.specs.Sorting.{IsMade, paths_in, AreMade}
 use Rattle.cilk_view.proofs.Orders.{Ascends, up_from, up_in_order, count_in_order, one_list}
 

@@ -1,8 +1,8 @@
 -- The paths that links tell are those that the nodes tell.
 use Rattle.std.proofs.Common.{◌≡◌, ◌<◌, ℕ, zero, suc, List, [], ◌∷◌, ◌++◌, Option, Some, None, refl, sym, ap, ◌∙◌, subst, arith}
-use Rattle.cilk_explore_model.specs.model.Path.{Path, child_path}
-use Rattle.cilk_explore_model.specs.agree.spawn.Nodes.{Node, node_at, path_via, path_up, path_at, IsBelow, IsTree}
-use Rattle.cilk_explore_model.proofs.agree_laws.spawn_laws.Trees.{path_child, same_front}
+use Rattle.cilk_machine_agree.specs.model.Path.{Path, child_path}
+use Rattle.cilk_machine_agree.specs.spawn.Nodes.{Node, node_at, path_via, path_up, path_at, IsBelow, IsTree}
+use Rattle.cilk_machine_agree.proofs.spawn_laws.Trees.{path_child, same_front}
 use Rattle.cilk_view.specs.declared.link.Link.{Link}
 use Rattle.cilk_view.specs.Ups.{link_by, link_of, links_of, link_at, path_over, path_within, linked_path, IsUp, AreUp}
 

@@ -2,7 +2,7 @@
 use Rattle.std.specs.Prelude.{◌≡◌, ◌<◌, ◌+◌, ◌-◌, ℕ, suc, List, [], ◌++◌, length}
 use Rattle.std.specs.Prelude.{drop, reverse, flat_map, All, Option, Some, None, IfSome, OnOk, Result, slice_get}
 use Rattle.std.specs.Prelude.{string_bytes}
-use Rattle.cilk_explore_model.specs.model.Path.{numbers_text}
+use Rattle.cilk_machine_agree.specs.model.Path.{numbers_text}
 use Rattle.cilk_view.specs.declared.link.Link.{Link}
 use Rattle.cilk_view.specs.declared.entry.Entry.{Entry}
 use Rattle.cilk_view.specs.declared.spot.Spot.{Spot}

@@ -1,9 +1,9 @@
 -- The frame of an instance.
 use Rattle.std.specs.Prelude.{ℕ, nat_eq, List, [], ◌∷◌, Option, Some, None, if◌then◌else◌}
 use Rattle.std.specs.Option.{option_or}
-use Rattle.cilk_explore_model.specs.model.Hands.{WorkerOf}
-use Rattle.cilk_explore_model.specs.agree.frame.Frames.{Frame}
-use Rattle.cilk_explore_model.specs.agree.spawn.Nodes.{Node, node_at}
+use Rattle.cilk_machine_agree.specs.model.Hands.{WorkerOf}
+use Rattle.cilk_machine_agree.specs.frame.Frames.{Frame}
+use Rattle.cilk_machine_agree.specs.spawn.Nodes.{Node, node_at}
 
 -- the first of these frames that is of instance id
 abbrev pub frame_among : ℕ → List Frame → Option Frame

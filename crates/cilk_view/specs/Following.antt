@@ -1,9 +1,9 @@
 -- The paths behind one path, in their order.
 use Rattle.std.specs.Prelude.{ℕ, List, [], ◌∷◌, length, map, Option, Some, None}
 use Rattle.std.specs.List.{filter, range_with_len}
-use Rattle.cilk_explore_model.specs.model.Path.{Path}
-use Rattle.cilk_explore_model.specs.model.ViewTrees.{is_before, in_order}
-use Rattle.cilk_explore_model.specs.agree.spawn.Nodes.{Node, path_at}
+use Rattle.cilk_machine_agree.specs.model.Path.{Path}
+use Rattle.cilk_machine_agree.specs.model.ViewTrees.{is_before, in_order}
+use Rattle.cilk_machine_agree.specs.spawn.Nodes.{Node, path_at}
 
 -- those of all instances ever made
 abbrev pub all_paths : List Node → List Path

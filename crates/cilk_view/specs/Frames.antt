@@ -1,13 +1,13 @@
 -- The activations of a frame, as their nodes and cells tell them.
 use Rattle.std.specs.Prelude.{ℕ, ℤ, max, List, [], ◌∷◌, ◌++◌, take, drop, flat_map, codes, decimal, Option, Some, None, option_and_then}
-use Rattle.cilk_explore_model.specs.syntax.Tree.{Program}
-use Rattle.cilk_explore_model.specs.agree.nodes.declared.node.Node.{Node}
-use Rattle.cilk_explore_model.specs.agree.nodes.declared.var.Var.{Var}
-use Rattle.cilk_explore_model.specs.agree.nodes.declared.body.Body.{Body}
-use Rattle.cilk_explore_model.specs.agree.nodes.Table.{node_of}
-use Rattle.cilk_explore_model.specs.agree.nodes.Bodies.{body_of}
-use Rattle.cilk_explore_model.specs.agree.frame.Frames.{Activation, Frame}
-use Rattle.cilk_explore_model.specs.model.Texts.{length_text, values_text}
+use Rattle.cilk_machine_agree.specs.syntax.Tree.{Program}
+use Rattle.cilk_machine_agree.specs.nodes.declared.node.Node.{Node}
+use Rattle.cilk_machine_agree.specs.nodes.declared.var.Var.{Var}
+use Rattle.cilk_machine_agree.specs.nodes.declared.body.Body.{Body}
+use Rattle.cilk_machine_agree.specs.nodes.Table.{node_of}
+use Rattle.cilk_machine_agree.specs.nodes.Bodies.{body_of}
+use Rattle.cilk_machine_agree.specs.frame.Frames.{Activation, Frame}
+use Rattle.cilk_machine_agree.specs.model.Texts.{length_text, values_text}
 use Rattle.cilk_view.specs.WhereLines.{line_number}
 
 -- the body that action n stands in

@@ -1,13 +1,13 @@
 -- The variables and the locks of the top level, as their cells and the holders' ids tell them.
 use Rattle.std.specs.Prelude.{ℕ, ℤ, List, [], ◌∷◌, ◌++◌, take, drop, codes}
-use Rattle.cilk_explore_model.specs.syntax.Tree as tree
+use Rattle.cilk_machine_agree.specs.syntax.Tree as tree
 use Rattle.cilk_load.specs.labelled.Bodies.{shaped_variable}
-use Rattle.cilk_explore_model.specs.model.Path.{Path}
-use Rattle.cilk_explore_model.specs.agree.nodes.Slots.{size_of}
-use Rattle.cilk_explore_model.specs.agree.declared.lock.Lock.{Lock}
-use Rattle.cilk_explore_model.specs.agree.Outside.{lock_by}
-use Rattle.cilk_explore_model.specs.model.Texts.{variable_text}
-use Rattle.cilk_explore_model.specs.model.Globals.{lock_text}
+use Rattle.cilk_machine_agree.specs.model.Path.{Path}
+use Rattle.cilk_machine_agree.specs.nodes.Slots.{size_of}
+use Rattle.cilk_machine_agree.specs.declared.lock.Lock.{Lock}
+use Rattle.cilk_machine_agree.specs.Outside.{lock_by}
+use Rattle.cilk_machine_agree.specs.model.Texts.{variable_text}
+use Rattle.cilk_machine_agree.specs.model.Globals.{lock_text}
 
 -- how many cells a variable of the top level has
 abbrev pub width : tree.Global → ℕ

@@ -4,7 +4,7 @@ use Rattle.std.specs.List.{Contains}
 use Rattle.std.specs.List.Sorted.{IsSorted}
 use Rattle.std.specs.declared.cmp.Ordering.{Ordering}
 use Rattle.std.specs.Ordering.{nat_cmp, ordering_then}
-use Rattle.cilk_explore_model.specs.agree.spawn.Nodes.{Node, node_at}
+use Rattle.cilk_machine_agree.specs.spawn.Nodes.{Node, node_at}
 use Rattle.cilk_view.specs.declared.link.Link.{Link}
 
 -- a parent, the ordinal of a child, and the child

@@ -11,5 +11,5 @@ pub mod Entries
 pub mod Following
 pub mod Kin
 pub use Rattle.cilk_load.specs.Front
-pub use Rattle.cilk_explore_model.specs as explore
-pub use Rattle.cilk_explore_model.specs.model
+pub use Rattle.cilk_machine_agree.specs.explore
+pub use Rattle.cilk_machine_agree.specs.model

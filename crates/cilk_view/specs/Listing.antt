@@ -2,7 +2,7 @@
 use Rattle.std.specs.Prelude.{◌≡◌, ℕ, List, ◌++◌, codes, decimal, Option}
 use Rattle.std.specs.BTreeMap.{BTreeMap, get}
 use Rattle.std.specs.Ordering.{nat_cmp}
-use Rattle.cilk_explore_model.specs.model.Listing.{right_in_six, first_text, first_on}
+use Rattle.cilk_machine_agree.specs.model.Listing.{right_in_six, first_text, first_on}
 
 -- the map has the first action on each line, where the actions stand on these lines and the first of them has number n
 abbrev pub HasFirsts : BTreeMap ℕ ℕ → ℕ → List ℕ → Type 0

@@ -1,12 +1,12 @@
 -- When the parts of a machine stand for a position.
 use Rattle.std.specs.Prelude.{◌≡◌, ℕ, length}
-use Rattle.cilk_explore_model.specs.model.Instance.{Instance}
-use Rattle.cilk_explore_model.specs.model.Run.{Position}
+use Rattle.cilk_machine_agree.specs.model.Instance.{Instance}
+use Rattle.cilk_machine_agree.specs.model.Run.{Position}
 use Rattle.cilk_load.specs.labelled.Bodies.{label}
-use Rattle.cilk_explore_model.specs.runs.Hands.{EachInItsPlace}
-use Rattle.cilk_explore_model.specs.agree.Outside.{Outcome}
-use Rattle.cilk_explore_model.specs.agree.Agrees.{MachineParts, Agrees}
-use Rattle.cilk_explore_model.specs.agree.Fated.{Fated}
+use Rattle.cilk_machine_agree.specs.runs.Hands.{EachInItsPlace}
+use Rattle.cilk_machine_agree.specs.Outside.{Outcome}
+use Rattle.cilk_machine_agree.specs.Agrees.{MachineParts, Agrees}
+use Rattle.cilk_machine_agree.specs.Fated.{Fated}
 use Rattle.cilk_view.specs.declared.shown.Shown.{Shown}
 
 -- the machine of these parts, where the program stands so

@@ -2,8 +2,8 @@
 use Rattle.std.specs.Prelude.{◌≡◌, ◌<◌, ℕ, List, length, All, map}
 use Rattle.std.specs.Global.{Vec}
 use Rattle.std.specs.List.{range_with_len}
-use Rattle.cilk_explore_model.specs.model.Path.{Path}
-use Rattle.cilk_explore_model.specs.agree.spawn.Nodes.{Node, path_at}
+use Rattle.cilk_machine_agree.specs.model.Path.{Path}
+use Rattle.cilk_machine_agree.specs.spawn.Nodes.{Node, path_at}
 
 -- the second goes by the first
 abbrev pub IsMade : List Node → Vec ℕ × ℕ → Type 0

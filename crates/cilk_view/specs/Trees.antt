@@ -2,16 +2,16 @@
 use Rattle.std.specs.Prelude.{◌≡◌, ◌<◌, ℕ, suc, nat_eq, Bool, false, is_some, List, []}
 use Rattle.std.specs.Prelude.{◌∷◌, ◌++◌, length, codes, decimal, flat_map, Option, Some, None, if◌then◌else◌}
 use Rattle.std.specs.Global.{Vec}
-use Rattle.cilk_explore_model.specs.syntax.Tree.{Program}
-use Rattle.cilk_explore_model.specs.model.Path.{Path, path_text}
-use Rattle.cilk_explore_model.specs.model.Hands.{WorkerOf}
-use Rattle.cilk_explore_model.specs.agree.nodes.declared.body.Body.{Body}
-use Rattle.cilk_explore_model.specs.agree.nodes.Bodies.{body_of}
-use Rattle.cilk_explore_model.specs.agree.frame.Frames.{Frame, top_of}
-use Rattle.cilk_explore_model.specs.agree.spawn.declared.fate.Fate.{Fate}
-use Rattle.cilk_explore_model.specs.agree.spawn.declared.fate.Fate.TheVariants.{Live, Returned, Delivered, Aborted}
-use Rattle.cilk_explore_model.specs.agree.spawn.Nodes.{Node, node_at, path_at}
-use Rattle.cilk_explore_model.specs.model.ViewTrees.{waiting_text, aborted_text}
+use Rattle.cilk_machine_agree.specs.syntax.Tree.{Program}
+use Rattle.cilk_machine_agree.specs.model.Path.{Path, path_text}
+use Rattle.cilk_machine_agree.specs.model.Hands.{WorkerOf}
+use Rattle.cilk_machine_agree.specs.nodes.declared.body.Body.{Body}
+use Rattle.cilk_machine_agree.specs.nodes.Bodies.{body_of}
+use Rattle.cilk_machine_agree.specs.frame.Frames.{Frame, top_of}
+use Rattle.cilk_machine_agree.specs.spawn.declared.fate.Fate.{Fate}
+use Rattle.cilk_machine_agree.specs.spawn.declared.fate.Fate.TheVariants.{Live, Returned, Delivered, Aborted}
+use Rattle.cilk_machine_agree.specs.spawn.Nodes.{Node, node_at, path_at}
+use Rattle.cilk_machine_agree.specs.model.ViewTrees.{waiting_text, aborted_text}
 use Rattle.cilk_view.specs.WhereLines.{line_number}
 use Rattle.cilk_view.specs.Finding.{frame_among, frame_live}
 

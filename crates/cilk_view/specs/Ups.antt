@@ -1,7 +1,7 @@
 -- Who is whose child, as links tell it, and the paths that follow from that.
 use Rattle.std.specs.Prelude.{◌<◌, ⊤, ℕ, zero, suc, List, [], map, Option, Some, None, slice_index_or}
-use Rattle.cilk_explore_model.specs.model.Path.{Path, child_path}
-use Rattle.cilk_explore_model.specs.agree.spawn.Nodes.{Node}
+use Rattle.cilk_machine_agree.specs.model.Path.{Path, child_path}
+use Rattle.cilk_machine_agree.specs.spawn.Nodes.{Node}
 use Rattle.cilk_view.specs.declared.link.Link.{Link}
 
 abbrev pub link_by : Option ℕ → ℕ → Option Link

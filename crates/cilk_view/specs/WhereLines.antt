@@ -1,15 +1,15 @@
 -- What the workers have and where they go on, as their frames tell it.
 use Rattle.std.specs.Prelude.{ℕ, ◌<◌, suc, List, [], ◌∷◌, ◌++◌, map, length, codes, decimal, Option, Some, None, option_map, unwrap_or}
-use Rattle.cilk_explore_model.specs.syntax.Tree.{Program}
+use Rattle.cilk_machine_agree.specs.syntax.Tree.{Program}
 use Rattle.cilk_load.specs.labelled.Bodies.{label}
-use Rattle.cilk_explore_model.specs.model.Path.{path_text}
-use Rattle.cilk_explore_model.specs.model.Hands.{WorkerOf}
-use Rattle.cilk_explore_model.specs.model.End.{line_of}
-use Rattle.cilk_explore_model.specs.agree.frame.Frames.{Frame, top_of}
-use Rattle.cilk_explore_model.specs.agree.spawn.Nodes.{Node, path_at}
-use Rattle.cilk_explore_model.specs.agree.sched.Count.{AllHeld}
-use Rattle.cilk_explore_model.specs.agree.Agrees.{name_in}
-use Rattle.cilk_explore_model.specs.model.Workers.{hand_text, paths_text}
+use Rattle.cilk_machine_agree.specs.model.Path.{path_text}
+use Rattle.cilk_machine_agree.specs.model.Hands.{WorkerOf}
+use Rattle.cilk_machine_agree.specs.model.End.{line_of}
+use Rattle.cilk_machine_agree.specs.frame.Frames.{Frame, top_of}
+use Rattle.cilk_machine_agree.specs.spawn.Nodes.{Node, path_at}
+use Rattle.cilk_machine_agree.specs.sched.Count.{AllHeld}
+use Rattle.cilk_machine_agree.specs.Agrees.{name_in}
+use Rattle.cilk_machine_agree.specs.model.Workers.{hand_text, paths_text}
 
 -- a text for each worker, the first of whom is w
 abbrev pub by_worker : (ℕ → WorkerOf Frame → List ℕ) → ℕ → List (WorkerOf Frame) → List ℕ

@@ -2,7 +2,7 @@
 
 ghost use Rattle.std.specs.Prelude.{◌≡◌, ◌++◌, codes, take, drop};
 ghost use Rattle.cilk_load.specs.syntax.Appends.{Appends};
-ghost use Rattle.cilk_explore_model.specs.model.Texts.{length_text, values_text};
+ghost use Rattle.cilk_machine_agree.specs.model.Texts.{length_text, values_text};
 
 use crate::put::put;
 use cilk_load::Memory;

@@ -2,13 +2,13 @@
 
 ghost use Rattle.std.specs.Prelude.{◌≡◌, ◌<◌, length, map, option_map, slice_get, decimal, codes};
 ghost use Rattle.cilk_load.specs.syntax.Appends.{Appends};
-ghost use Rattle.cilk_explore_model.specs.model.Hands.{IsWorker, worker_at, hand_of, deque_of};
-ghost use Rattle.cilk_explore_model.specs.agree.Agrees.{name_in};
-ghost use Rattle.cilk_explore_model.specs.model.Workers.{hand_text, paths_text};
+ghost use Rattle.cilk_machine_agree.specs.model.Hands.{IsWorker, worker_at, hand_of, deque_of};
+ghost use Rattle.cilk_machine_agree.specs.Agrees.{name_in};
+ghost use Rattle.cilk_machine_agree.specs.model.Workers.{hand_text, paths_text};
 ghost use Rattle.cilk_view.specs.WhereLines.{by_worker, AllMade, deque_line, queued_text};
 
 use crate::put::{put, put_name};
-use cilk_explore_model::{Hands, Tree};
+use cilk_machine_agree::{Hands, Tree};
 use cilk_load::Memory;
 
 /// A line for each of so many workers.

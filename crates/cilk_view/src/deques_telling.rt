@@ -1,12 +1,12 @@
 //! The view `deques`, told in portions.
 
 ghost use Rattle.std.specs.Prelude.{◌≡◌, ◌<◌, ◌++◌, codes, decimal, length, map, option_map, slice_get, IfOk, string_bytes};
-ghost use Rattle.cilk_explore_model.specs.agree.Agrees.{name_in};
-ghost use Rattle.cilk_explore_model.specs.model.Hands.{IsWorker, worker_at, hand_of, deque_of};
-ghost use Rattle.cilk_explore_model.specs.model.Path.{path_text};
-ghost use Rattle.cilk_explore_model.specs.model.Run.{Position};
-ghost use Rattle.cilk_explore_model.specs.agree.spawn.Nodes.{path_at};
-ghost use Rattle.cilk_explore_model.specs.model.Workers.{deques_text, hand_text, paths_text};
+ghost use Rattle.cilk_machine_agree.specs.Agrees.{name_in};
+ghost use Rattle.cilk_machine_agree.specs.model.Hands.{IsWorker, worker_at, hand_of, deque_of};
+ghost use Rattle.cilk_machine_agree.specs.model.Path.{path_text};
+ghost use Rattle.cilk_machine_agree.specs.model.Run.{Position};
+ghost use Rattle.cilk_machine_agree.specs.spawn.Nodes.{path_at};
+ghost use Rattle.cilk_machine_agree.specs.model.Workers.{deques_text, hand_text, paths_text};
 ghost use Rattle.cilk_view.specs.Shows.{ShowsAt, Shows};
 ghost use Rattle.cilk_view.specs.WhereLines.{AllMade, by_worker, deque_line, queued_text};
 ghost use Rattle.cilk_view.specs.Ups.{links_of};
@@ -16,7 +16,7 @@ use crate::entry::{Entry, add_name, add_text};
 use crate::link::{Link, links_of};
 use crate::shown::Shown;
 use crate::telling::Telling;
-use cilk_explore_model::Id;
+use cilk_machine_agree::Id;
 use cilk_load::Memory;
 use std::alloc::Global;
 

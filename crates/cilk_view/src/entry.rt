@@ -1,12 +1,12 @@
 //! What a text is made of that is told in portions.
 
 ghost use Rattle.std.specs.Prelude.{◌<◌, ◌++◌, length, string_bytes};
-ghost use Rattle.cilk_explore_model.specs.model.Path.{path_text};
+ghost use Rattle.cilk_machine_agree.specs.model.Path.{path_text};
 ghost use Rattle.cilk_view.specs.Ups.{linked_path};
 ghost use Rattle.cilk_view.specs.Entries.{TellsEntries, TellsAlone};
 
 use crate::link::Link;
-use cilk_explore_model::Id;
+use cilk_machine_agree::Id;
 use cilk_load::Memory;
 use std::alloc::Global;
 

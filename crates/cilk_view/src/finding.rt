@@ -1,11 +1,11 @@
 //! Where the frame of an instance is found: in a hand, in a deque, or parked.
 
 ghost use Rattle.std.specs.Prelude.{◌≡◌, ℕ, true, length, Some, IfSome, option_copied};
-ghost use Rattle.cilk_explore_model.specs.model.Hands.{IsWorker, worker_at, deque_of};
-ghost use Rattle.cilk_explore_model.specs.agree.spawn.Nodes.{node_at, is_live, path_at};
+ghost use Rattle.cilk_machine_agree.specs.model.Hands.{IsWorker, worker_at, deque_of};
+ghost use Rattle.cilk_machine_agree.specs.spawn.Nodes.{node_at, is_live, path_at};
 ghost use Rattle.cilk_view.specs.Finding.{frame_among, frame_at, frame_held, frame_live};
 
-use cilk_explore_model::{Fate, Frame, Hands, Id, Tree};
+use cilk_machine_agree::{Fate, Frame, Hands, Id, Tree};
 
 /// The live instance with this path.
 pub(crate) fn find_live(tree: &Tree, path: &[u32]) -> Option<Id>

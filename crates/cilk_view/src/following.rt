@@ -1,14 +1,14 @@
 //! Which instance comes next in the order of the paths.
 
 ghost use Rattle.std.specs.Prelude.{◌≡◌, ◌<◌, List, IfSome, length};
-ghost use Rattle.cilk_explore_model.specs.agree.spawn.Nodes.{Node, IsTree, path_at};
+ghost use Rattle.cilk_machine_agree.specs.spawn.Nodes.{Node, IsTree, path_at};
 ghost use Rattle.cilk_view.specs.Ups.{links_of, AreUp};
 ghost use Rattle.cilk_view.specs.Kin.{KinSorted};
 ghost use Rattle.cilk_view.specs.Following.{all_paths, beyond, from_here};
 
 use crate::kin::next_child;
 use crate::link::{Link, link_at};
-use cilk_explore_model::Id;
+use cilk_machine_agree::Id;
 
 /// The instance whose path is the first one behind that of this instance: its first child, or else the next child of the nearest of those above
 /// it that has one.

@@ -2,14 +2,14 @@
 
 ghost use Rattle.std.specs.Prelude.{◌≡◌, ◌++◌, ◌<◌, codes, decimal, option_copied};
 ghost use Rattle.cilk_load.specs.syntax.Appends.{Appends};
-ghost use Rattle.cilk_explore_model.specs.agree.frame.Frames.{depth, activation_at};
+ghost use Rattle.cilk_machine_agree.specs.frame.Frames.{depth, activation_at};
 ghost use Rattle.cilk_view.specs.WhereLines.{line_number};
 ghost use Rattle.cilk_view.specs.Frames.{body_with, vars_text, body_text, activation_by, frame_by};
 
 use crate::cells::{first_cells, other_cells, put_variable};
 use crate::put::put;
 use crate::where_lines::line_number;
-use cilk_explore_model::Frame;
+use cilk_machine_agree::Frame;
 use cilk_load::{Body, Loaded, Memory, Var};
 
 /// A part for each activation, from the procedure's own up.

@@ -2,17 +2,17 @@
 
 ghost use Rattle.std.specs.Prelude.{◌≡◌, ◌++◌, ◌∷◌, ◌<◌, List, length, All, take, drop, codes, IfOk, string_bytes};
 ghost use Rattle.cilk_load.specs.syntax.Appends.{Appends};
-ghost use Rattle.cilk_explore_model.specs.syntax.Tree as trees;
+ghost use Rattle.cilk_machine_agree.specs.syntax.Tree as trees;
 ghost use Rattle.cilk_load.specs.labelled.Bodies.{shaped_variable};
-ghost use Rattle.cilk_explore_model.specs.agree.spawn.Nodes.{path_at};
-ghost use Rattle.cilk_explore_model.specs.agree.Outside.{lock_by, LockWithin};
-ghost use Rattle.cilk_explore_model.specs.model.Texts.{variable_text};
-ghost use Rattle.cilk_explore_model.specs.model.Globals.{lock_text};
+ghost use Rattle.cilk_machine_agree.specs.spawn.Nodes.{path_at};
+ghost use Rattle.cilk_machine_agree.specs.Outside.{lock_by, LockWithin};
+ghost use Rattle.cilk_machine_agree.specs.model.Texts.{variable_text};
+ghost use Rattle.cilk_machine_agree.specs.model.Globals.{lock_text};
 ghost use Rattle.cilk_view.specs.Globals.{width, globals_by};
 
 use crate::cells::{first_cells, other_cells, put_variable};
 use crate::put::{put, put_name};
-use cilk_explore_model::{Global, GlobalShape, Item, ItemNode, Lock, Tree, Word};
+use cilk_machine_agree::{Global, GlobalShape, Item, ItemNode, Lock, Tree, Word};
 use cilk_load::Memory;
 
 /// A line for each variable and each lock among the items, where these are the cells of the

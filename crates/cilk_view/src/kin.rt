@@ -1,12 +1,12 @@
 //! The children of each instance, in the order of their ordinals.
 
 ghost use Rattle.std.specs.Prelude.{◌≡◌, List, None, IfOk, OnOk, IfSome, length};
-ghost use Rattle.cilk_explore_model.specs.agree.spawn.Nodes.{Node};
+ghost use Rattle.cilk_machine_agree.specs.spawn.Nodes.{Node};
 ghost use Rattle.cilk_view.specs.Ups.{links_of};
 ghost use Rattle.cilk_view.specs.Kin.{AreKin, KinSorted, NextChild, NoChild, with_kin, search_end};
 
 use crate::link::{Link, link_at};
-use cilk_explore_model::Id;
+use cilk_machine_agree::Id;
 use cilk_load::Memory;
 use std::alloc::Global;
 

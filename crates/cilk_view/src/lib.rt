@@ -27,7 +27,7 @@ mod tree;
 mod tree_telling;
 mod where_lines;
 
-pub use cilk_explore_model::What;
+pub use cilk_machine_agree::What;
 pub use cilk_load::Loaded;
 pub use fault::{ViewFault, WriteFault};
 pub use portion::Portion;

@@ -1,10 +1,10 @@
 //! Who is whose child, for what is told without the tree at hand.
 
 ghost use Rattle.std.specs.Prelude.{◌≡◌, ◌<◌, length, map, IfOk};
-ghost use Rattle.cilk_explore_model.specs.agree.spawn.Nodes.{node_at};
+ghost use Rattle.cilk_machine_agree.specs.spawn.Nodes.{node_at};
 ghost use Rattle.cilk_view.specs.Ups.{link_at, link_of, links_of};
 
-use cilk_explore_model::{Id, Tree};
+use cilk_machine_agree::{Id, Tree};
 use cilk_load::Memory;
 use std::alloc::Global;
 

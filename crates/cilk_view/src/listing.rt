@@ -5,7 +5,7 @@ ghost use Rattle.std.specs.BTreeMap.{get};
 ghost use Rattle.std.specs.Ordering.{nat_cmp};
 ghost use Rattle.cilk_load.specs.syntax.Appends.{Appends};
 ghost use Rattle.cilk_load.specs.labelled.Lines.{action_lines};
-ghost use Rattle.cilk_explore_model.specs.model.Listing.{right_in_six, blanks, list_text};
+ghost use Rattle.cilk_machine_agree.specs.model.Listing.{right_in_six, blanks, list_text};
 ghost use Rattle.cilk_view.specs.Listing.{HasFirsts, numbered_line};
 
 use crate::put::put;

@@ -1,7 +1,7 @@
 //! The view `output`: what the program printed.
 
 ghost use Rattle.cilk_load.specs.syntax.Appends.{Appends};
-ghost use Rattle.cilk_explore_model.specs.model.Views.{output_text};
+ghost use Rattle.cilk_machine_agree.specs.model.Views.{output_text};
 
 use crate::put::put;
 use cilk_load::Memory;

@@ -2,10 +2,10 @@
 
 ghost use Rattle.std.specs.Prelude.{◌<◌, length};
 ghost use Rattle.cilk_load.specs.syntax.Appends.{Appends};
-ghost use Rattle.cilk_explore_model.specs.model.Path.{path_text};
-ghost use Rattle.cilk_explore_model.specs.agree.spawn.Nodes.{path_at};
+ghost use Rattle.cilk_machine_agree.specs.model.Path.{path_text};
+ghost use Rattle.cilk_machine_agree.specs.spawn.Nodes.{path_at};
 
-use cilk_explore_model::{Id, Path, Tree};
+use cilk_machine_agree::{Id, Path, Tree};
 use cilk_load::Memory;
 
 pub(crate) fn put(out: &mut String, text: &str) -> Result<(), Memory>

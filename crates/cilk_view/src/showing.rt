@@ -1,10 +1,10 @@
 //! The views of a program that runs.
 
 ghost use Rattle.std.specs.Prelude.{◌≡◌, ◌≢◌, Some, None, Ok, Err, IfOk, string_bytes};
-ghost use Rattle.cilk_explore_model.specs.model.Run.{Position};
-ghost use Rattle.cilk_explore_model.specs.model.Views.{shown};
-ghost use Rattle.cilk_explore_model.specs.model.What as what;
-ghost use Rattle.cilk_explore_model.specs.agree.frame.Asked.{what_of};
+ghost use Rattle.cilk_machine_agree.specs.model.Run.{Position};
+ghost use Rattle.cilk_machine_agree.specs.model.Views.{shown};
+ghost use Rattle.cilk_machine_agree.specs.model.What as what;
+ghost use Rattle.cilk_machine_agree.specs.frame.Asked.{what_of};
 ghost use Rattle.cilk_view.specs.Shows.{ShowsAt, Shows};
 
 use crate::fault::ViewFault;
@@ -12,7 +12,7 @@ use crate::finding::{find_live, frame_live};
 use crate::shown::Shown;
 use crate::texts::{deques_text, frame_text, globals_text, list_text, output_text, where_text};
 use crate::tree::tree_text;
-use cilk_explore_model::{Path, What};
+use cilk_machine_agree::{Path, What};
 use cilk_load::Memory;
 use std::alloc::Global;
 

@@ -1,6 +1,6 @@
 //! What a machine lends to those that make the texts of views.
 
-use cilk_explore_model::{Hands, Lock, Tree};
+use cilk_machine_agree::{Hands, Lock, Tree};
 use cilk_load::Loaded;
 
 /// The parts of a machine that views show.

@@ -7,7 +7,7 @@ ghost use Rattle.cilk_view.specs.Entries.{NamesWithin, entries_text, rest_text, 
 use crate::entry::Entry;
 use crate::link::Link;
 use crate::portion::Portion;
-use cilk_explore_model::Id;
+use cilk_machine_agree::Id;
 
 /// What is put at once at most of a path: a slash, and the digits of a number.
 const MOST: usize = 41;

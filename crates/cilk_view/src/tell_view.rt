@@ -1,9 +1,9 @@
 //! The views of a program that runs, told in portions.
 
 ghost use Rattle.std.specs.Prelude.{◌≡◌, ◌≢◌, Some, None, Ok, Err, IfOk};
-ghost use Rattle.cilk_explore_model.specs.model.Run.{Position};
-ghost use Rattle.cilk_explore_model.specs.model.Views.{shown};
-ghost use Rattle.cilk_explore_model.specs.agree.frame.Asked.{what_of};
+ghost use Rattle.cilk_machine_agree.specs.model.Run.{Position};
+ghost use Rattle.cilk_machine_agree.specs.model.Views.{shown};
+ghost use Rattle.cilk_machine_agree.specs.frame.Asked.{what_of};
 ghost use Rattle.cilk_view.specs.Shows.{ShowsAt, Shows};
 
 use crate::deques_telling::tell_deques;
@@ -12,7 +12,7 @@ use crate::showing::show;
 use crate::shown::Shown;
 use crate::telling::Telling;
 use crate::tree_telling::tell_tree;
-use cilk_explore_model::What;
+use cilk_machine_agree::What;
 use cilk_load::Memory;
 use std::alloc::Global;
 

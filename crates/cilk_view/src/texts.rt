@@ -1,12 +1,12 @@
 //! The whole texts of the views `frame`, `globals`, `deques`, `output`, `where` and `list`; that of `tree` is made where its lines are.
 
 ghost use Rattle.std.specs.Prelude.{◌≡◌, IfOk, OnOk, string_bytes};
-ghost use Rattle.cilk_explore_model.specs.model.Run.{Position};
+ghost use Rattle.cilk_machine_agree.specs.model.Run.{Position};
 ghost use Rattle.cilk_load.specs.labelled.Bodies.{label};
-ghost use Rattle.cilk_explore_model.specs.model.Globals.{globals_text};
-ghost use Rattle.cilk_explore_model.specs.model.Workers.{deques_text, where_text};
-ghost use Rattle.cilk_explore_model.specs.model.Views.{output_text};
-ghost use Rattle.cilk_explore_model.specs.model.Listing.{list_text};
+ghost use Rattle.cilk_machine_agree.specs.model.Globals.{globals_text};
+ghost use Rattle.cilk_machine_agree.specs.model.Workers.{deques_text, where_text};
+ghost use Rattle.cilk_machine_agree.specs.model.Views.{output_text};
+ghost use Rattle.cilk_machine_agree.specs.model.Listing.{list_text};
 ghost use Rattle.cilk_view.specs.Shows.{ShowsAt, Shows};
 ghost use Rattle.cilk_view.specs.Frames.{frame_by};
 
@@ -17,7 +17,7 @@ use crate::listing::put_list;
 use crate::output::put_output;
 use crate::shown::Shown;
 use crate::where_lines::put_where_lines;
-use cilk_explore_model::Frame;
+use cilk_machine_agree::Frame;
 use cilk_load::{Loaded, Memory};
 use std::alloc::{AllocError, Global};
 use std::str::from_utf8;

@@ -3,11 +3,11 @@
 ghost use Rattle.std.specs.Prelude.{◌≡◌, ◌<◌, ◌++◌, length, codes, decimal, true, All, IfOk, string_bytes};
 ghost use Rattle.cilk_load.specs.syntax.Appends.{Appends};
 ghost use Rattle.cilk_load.specs.labelled.Bodies.{label};
-ghost use Rattle.cilk_explore_model.specs.model.Run.{Position};
-ghost use Rattle.cilk_explore_model.specs.model.Hands.{IsWorker, worker_at, deque_of};
-ghost use Rattle.cilk_explore_model.specs.agree.frame.Frames.{top_of};
-ghost use Rattle.cilk_explore_model.specs.agree.spawn.Nodes.{node_at, is_live};
-ghost use Rattle.cilk_explore_model.specs.model.ViewTrees.{tree_text, waiting_text, aborted_text};
+ghost use Rattle.cilk_machine_agree.specs.model.Run.{Position};
+ghost use Rattle.cilk_machine_agree.specs.model.Hands.{IsWorker, worker_at, deque_of};
+ghost use Rattle.cilk_machine_agree.specs.frame.Frames.{top_of};
+ghost use Rattle.cilk_machine_agree.specs.spawn.Nodes.{node_at, is_live};
+ghost use Rattle.cilk_machine_agree.specs.model.ViewTrees.{tree_text, waiting_text, aborted_text};
 ghost use Rattle.cilk_view.specs.WhereLines.{line_number};
 ghost use Rattle.cilk_view.specs.Finding.{frame_live};
 ghost use Rattle.cilk_view.specs.Shows.{ShowsAt, Shows};
@@ -18,7 +18,7 @@ use crate::finding::{frame_live, frame_queued};
 use crate::put::put;
 use crate::shown::Shown;
 use crate::where_lines::line_number;
-use cilk_explore_model::{Fate, Frame, Hands, Id, Path, Tree};
+use cilk_machine_agree::{Fate, Frame, Hands, Id, Path, Tree};
 use cilk_load::Memory;
 use std::alloc::Global;
 

@@ -2,10 +2,10 @@
 
 ghost use Rattle.std.specs.Prelude.{◌≡◌, ◌<◌, List, ℕ, length, flat_map, IfOk};
 ghost use Rattle.cilk_load.specs.labelled.Bodies.{label};
-ghost use Rattle.cilk_explore_model.specs.model.Path.{Path};
-ghost use Rattle.cilk_explore_model.specs.model.Run.{Position};
-ghost use Rattle.cilk_explore_model.specs.model.ViewTrees.{tree_text};
-ghost use Rattle.cilk_explore_model.specs.agree.spawn.Nodes.{path_at};
+ghost use Rattle.cilk_machine_agree.specs.model.Path.{Path};
+ghost use Rattle.cilk_machine_agree.specs.model.Run.{Position};
+ghost use Rattle.cilk_machine_agree.specs.model.ViewTrees.{tree_text};
+ghost use Rattle.cilk_machine_agree.specs.spawn.Nodes.{path_at};
 ghost use Rattle.cilk_view.specs.Shows.{ShowsAt, Shows};
 ghost use Rattle.cilk_view.specs.Trees.{line_by, TellsLines};
 ghost use Rattle.cilk_view.specs.Ups.{links_of};
@@ -21,7 +21,7 @@ use crate::put::put;
 use crate::shown::Shown;
 use crate::telling::Telling;
 use crate::tree::put_state;
-use cilk_explore_model::Id;
+use cilk_machine_agree::Id;
 use cilk_load::Memory;
 use std::alloc::Global;
 

@@ -2,11 +2,11 @@
 
 ghost use Rattle.std.specs.Prelude.{◌≡◌, length, decimal, codes};
 ghost use Rattle.cilk_load.specs.syntax.Appends.{Appends};
-ghost use Rattle.cilk_explore_model.specs.model.Hands.{IsWorker, worker_at};
+ghost use Rattle.cilk_machine_agree.specs.model.Hands.{IsWorker, worker_at};
 ghost use Rattle.cilk_view.specs.WhereLines.{by_worker, AllMade, where_line, line_number};
 
 use crate::put::{put, put_name};
-use cilk_explore_model::{Hands, Tree};
+use cilk_machine_agree::{Hands, Tree};
 use cilk_load::{Loaded, Memory};
 
 /// The line on which action n stands.

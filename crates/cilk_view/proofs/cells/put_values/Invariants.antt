@@ -1,5 +1,5 @@
 use Rattle.std.proofs.Common.{◌≡◌, ◌++◌, string_bytes, drop}
-use Rattle.cilk_explore_model.specs.model.Texts.{values_text}
+use Rattle.cilk_machine_agree.specs.model.Texts.{values_text}
 use Rattle.cilk_view.proofs.cells.put_values.Given as goal
 
 abbrev pub invariant-loop-cell : goal.invariant-loop-cell

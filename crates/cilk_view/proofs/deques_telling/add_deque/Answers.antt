@@ -1,5 +1,5 @@
 use Rattle.std.proofs.Common.{arith}
-use Rattle.cilk_explore_model.specs.model.Hands.{deque_of}
+use Rattle.cilk_machine_agree.specs.model.Hands.{deque_of}
 use Rattle.cilk_view.proofs.Tellings.{queued_told}
 use Rattle.cilk_view.proofs.deques_telling.add_deque.Goals as goal
 

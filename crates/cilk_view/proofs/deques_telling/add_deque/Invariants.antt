@@ -1,7 +1,7 @@
 use Rattle.std.proofs.Common.{◌≡◌, ◌++◌, drop, map}
-use Rattle.cilk_explore_model.specs.model.Hands.{deque_of}
-use Rattle.cilk_explore_model.specs.agree.Agrees.{name_in}
-use Rattle.cilk_explore_model.specs.model.Workers.{paths_text}
+use Rattle.cilk_machine_agree.specs.model.Hands.{deque_of}
+use Rattle.cilk_machine_agree.specs.Agrees.{name_in}
+use Rattle.cilk_machine_agree.specs.model.Workers.{paths_text}
 use Rattle.cilk_view.specs.Entries.{NamesWithin, entries_text}
 use Rattle.cilk_view.proofs.deques_telling.add_deque.Given as goal
 

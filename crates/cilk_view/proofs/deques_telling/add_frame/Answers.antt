@@ -1,6 +1,6 @@
 use Rattle.std.proofs.Common.{append-nil, ap, ◌∙◌, ◌++◌}
-use Rattle.cilk_explore_model.specs.model.Path.{path_text}
-use Rattle.cilk_explore_model.specs.agree.spawn.Nodes.{path_at}
+use Rattle.cilk_machine_agree.specs.model.Path.{path_text}
+use Rattle.cilk_machine_agree.specs.spawn.Nodes.{path_at}
 use Rattle.cilk_view.proofs.Tellings.{link_within, named_is}
 use Rattle.cilk_view.proofs.deques_telling.add_frame.Goals as goal
 

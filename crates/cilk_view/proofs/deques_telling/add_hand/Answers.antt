@@ -1,9 +1,9 @@
 use Rattle.std.proofs.Common.{ap, ◌∙◌}
 use Rattle.std.specs.Prelude.{codes, option_map}
-use Rattle.cilk_explore_model.specs.agree.Agrees.{name_in}
-use Rattle.cilk_explore_model.specs.model.Path.{path_text}
-use Rattle.cilk_explore_model.specs.model.Workers.{hand_text}
-use Rattle.cilk_explore_model.specs.agree.spawn.Nodes.{path_at}
+use Rattle.cilk_machine_agree.specs.Agrees.{name_in}
+use Rattle.cilk_machine_agree.specs.model.Path.{path_text}
+use Rattle.cilk_machine_agree.specs.model.Workers.{hand_text}
+use Rattle.cilk_machine_agree.specs.spawn.Nodes.{path_at}
 use Rattle.cilk_view.proofs.Tellings.{alone_is}
 use Rattle.cilk_view.proofs.deques_telling.add_hand.Goals as goal
 

@@ -1,4 +1,4 @@
-use Rattle.cilk_explore_model.specs.model.Hands.{worker_at}
+use Rattle.cilk_machine_agree.specs.model.Hands.{worker_at}
 use Rattle.cilk_view.proofs.Tellings.{line_gained}
 use Rattle.cilk_view.proofs.deques_telling.add_place.Goals as goal
 

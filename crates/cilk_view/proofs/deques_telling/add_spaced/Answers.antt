@@ -1,7 +1,7 @@
 use Rattle.std.proofs.Common.{refl}
 use Rattle.std.specs.Prelude.{codes}
-use Rattle.cilk_explore_model.specs.model.Path.{path_text}
-use Rattle.cilk_explore_model.specs.agree.spawn.Nodes.{path_at}
+use Rattle.cilk_machine_agree.specs.model.Path.{path_text}
+use Rattle.cilk_machine_agree.specs.spawn.Nodes.{path_at}
 use Rattle.cilk_view.proofs.Tellings.{tells_then}
 use Rattle.cilk_view.proofs.deques_telling.add_spaced.Goals as goal
 

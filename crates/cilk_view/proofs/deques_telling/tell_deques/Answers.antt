@@ -1,6 +1,6 @@
 use Rattle.std.proofs.Common.{◌≡◌, List, ℕ, ap, ◌∙◌, sym}
-use Rattle.cilk_explore_model.specs.model.Run.{Position}
-use Rattle.cilk_explore_model.specs.model.Workers.{deques_text}
+use Rattle.cilk_machine_agree.specs.model.Run.{Position}
+use Rattle.cilk_machine_agree.specs.model.Workers.{deques_text}
 use Rattle.cilk_view.specs.Shows.{ShowsAt}
 use Rattle.cilk_view.specs.Entries.{entries_text}
 use Rattle.cilk_view.proofs.Links.{deques_are}

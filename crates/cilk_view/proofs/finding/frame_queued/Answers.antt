@@ -1,5 +1,5 @@
 use Rattle.std.proofs.Common.{◌∙◌, sym, ap, nat_eq}
-use Rattle.cilk_explore_model.specs.model.Hands.{deque_of}
+use Rattle.cilk_machine_agree.specs.model.Hands.{deque_of}
 use Rattle.cilk_view.proofs.Finds.{among_here, among_later, among_end}
 use Rattle.cilk_view.proofs.finding.frame_queued.Goals.{in_default-via-in-None-1, in_default-via-in-Some+else-eq}
 use Rattle.cilk_view.proofs.finding.frame_queued.Goals as goal

@@ -1,5 +1,5 @@
 use Rattle.std.proofs.Common.{◌≡◌, drop}
-use Rattle.cilk_explore_model.specs.model.Hands.{deque_of}
+use Rattle.cilk_machine_agree.specs.model.Hands.{deque_of}
 use Rattle.cilk_view.specs.Finding.{frame_among}
 use Rattle.cilk_view.proofs.finding.frame_queued.Given as goal
 

@@ -1,6 +1,6 @@
 use Rattle.std.proofs.Common.{subst, refl}
-use Rattle.cilk_explore_model.proofs.agree_laws.spawn_laws.Trees.{child_there}
-use Rattle.cilk_explore_model.proofs.agree_laws.spawn_laws.Children.{parent_in}
+use Rattle.cilk_machine_agree.proofs.spawn_laws.Trees.{child_there}
+use Rattle.cilk_machine_agree.proofs.spawn_laws.Children.{parent_in}
 use Rattle.cilk_view.proofs.Ahead.{Walks, walk_starts, walk_climbs, walk_finds, walk_ends}
 use Rattle.cilk_view.proofs.Kins.{link_parent, link_root}
 use Rattle.cilk_view.proofs.following.follower.Goals as goal

@@ -1,5 +1,5 @@
 use Rattle.std.proofs.Common.{◌≡◌, ◌<◌, List, length}
-use Rattle.cilk_explore_model.specs.agree.spawn.Nodes.{Node, IsTree}
+use Rattle.cilk_machine_agree.specs.spawn.Nodes.{Node, IsTree}
 use Rattle.cilk_view.specs.Ups.{links_of}
 use Rattle.cilk_view.specs.Kin.{KinSorted}
 use Rattle.cilk_view.proofs.Ahead.{Walks}

@@ -1,7 +1,7 @@
 use Rattle.std.proofs.Common.{◌≡◌, ◌++◌, string_bytes, drop, length}
 use Rattle.std.specs.Prelude.{All}
-use Rattle.cilk_explore_model.specs.agree.spawn.Nodes.{path_at}
-use Rattle.cilk_explore_model.specs.agree.Outside.{LockWithin}
+use Rattle.cilk_machine_agree.specs.spawn.Nodes.{path_at}
+use Rattle.cilk_machine_agree.specs.Outside.{LockWithin}
 use Rattle.cilk_view.specs.Globals.{globals_by}
 use Rattle.cilk_view.proofs.globals.put_globals.Given as goal
 

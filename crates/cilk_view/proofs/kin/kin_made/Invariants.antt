@@ -1,5 +1,5 @@
 use Rattle.std.proofs.Common.{◌≡◌, List}
-use Rattle.cilk_explore_model.specs.agree.spawn.Nodes.{Node}
+use Rattle.cilk_machine_agree.specs.spawn.Nodes.{Node}
 use Rattle.cilk_view.specs.Ups.{links_of}
 use Rattle.cilk_view.specs.Kin.{AreKin}
 use Rattle.cilk_view.proofs.kin.kin_made.Given as goal

@@ -1,5 +1,5 @@
 use Rattle.std.proofs.Common.{◌≡◌, ℕ, zero, suc, ◌+◌, ◌-◌, ◌<◌, ◌++◌, codes, sym, ap, ◌∙◌, refl, arith, append_assoc, append-nil}
-use Rattle.cilk_explore_model.specs.model.Listing.{blanks}
+use Rattle.cilk_machine_agree.specs.model.Listing.{blanks}
 use Rattle.cilk_view.proofs.listing.put_blanks.Goals as goal
 
 -- one blank more

@@ -1,5 +1,5 @@
 use Rattle.std.proofs.Common.{◌≡◌, ◌++◌, ◌-◌, string_bytes}
-use Rattle.cilk_explore_model.specs.model.Listing.{blanks}
+use Rattle.cilk_machine_agree.specs.model.Listing.{blanks}
 use Rattle.cilk_view.proofs.listing.put_blanks.Given as goal
 
 abbrev pub invariant-loop : goal.invariant-loop

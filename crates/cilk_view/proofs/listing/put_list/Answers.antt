@@ -1,7 +1,7 @@
 use Rattle.std.proofs.Common.{rules, sym, ◌∙◌, ◌+◌, string_bytes, ◌++◌, ◌∷◌, arith}
 use Rattle.cilk_load.proofs.canonical_laws.Written.{regrouped}
 use Rattle.cilk_load.specs.labelled.Lines.{action_lines}
-use Rattle.cilk_explore_model.specs.model.Listing.{list_text, lines_in}
+use Rattle.cilk_machine_agree.specs.model.Listing.{list_text, lines_in}
 use Rattle.cilk_view.proofs.Firsts.{cut, shorter, line_more, last_line}
 use Rattle.cilk_view.proofs.listing.put_list.Goals as goal
 

@@ -2,7 +2,7 @@ use Rattle.std.proofs.Common.{◌≡◌, ◌≤◌, ◌+◌, ◌++◌, string_by
 use denote.Text.{Utf8}
 use denote.Shadow.{shadow}
 use Rattle.cilk_load.specs.labelled.Lines.{action_lines}
-use Rattle.cilk_explore_model.specs.model.Listing.{list_text, numbered_text, lines_in}
+use Rattle.cilk_machine_agree.specs.model.Listing.{list_text, numbered_text, lines_in}
 use Rattle.cilk_view.proofs.listing.put_list.Given as goal
 
 abbrev pub invariant-loop-line : goal.invariant-loop-line

@@ -1,10 +1,10 @@
 use Rattle.std.proofs.Common.{◌≡◌, sym, ap, ◌∙◌, Some}
 use Rattle.std.specs.Prelude.{option_map, string_bytes}
 use Rattle.cilk_load.specs.labelled.Bodies.{label}
-use Rattle.cilk_explore_model.specs.model.Path.{Path}
-use Rattle.cilk_explore_model.specs.model.Run.{Position}
-use Rattle.cilk_explore_model.specs.model.State.{instance_at}
-use Rattle.cilk_explore_model.specs.model.Frames.{frame_text}
+use Rattle.cilk_machine_agree.specs.model.Path.{Path}
+use Rattle.cilk_machine_agree.specs.model.Run.{Position}
+use Rattle.cilk_machine_agree.specs.model.State.{instance_at}
+use Rattle.cilk_machine_agree.specs.model.Frames.{frame_text}
 use Rattle.cilk_view.specs.Shows.{machine_of, ShowsAt}
 use Rattle.cilk_view.specs.Frames.{frame_by}
 use Rattle.cilk_view.proofs.Finds.{no_instance, instance_there, frame_stands, frame_there}

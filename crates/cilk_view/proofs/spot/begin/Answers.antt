@@ -1,5 +1,5 @@
 use Rattle.std.proofs.Common.{Some, None, sym, ap, ◌∙◌, reverse}
-use Rattle.cilk_explore_model.specs.model.Path.{numbers_text}
+use Rattle.cilk_machine_agree.specs.model.Path.{numbers_text}
 use Rattle.cilk_view.specs.Entries.{name_text}
 use Rattle.cilk_view.proofs.Entries.{begins_at, entry_there, entry_gone}
 use Rattle.cilk_view.proofs.spot.begin.Goals as goal

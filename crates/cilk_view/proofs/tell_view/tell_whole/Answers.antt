@@ -1,8 +1,8 @@
 use Rattle.std.proofs.Common.{◌≡◌, List, ℕ, Some, ap, ◌∙◌, sym}
 use Rattle.std.specs.Prelude.{string_bytes}
-use Rattle.cilk_explore_model.specs.model.Run.{Position}
-use Rattle.cilk_explore_model.specs.model.Views.{shown}
-use Rattle.cilk_explore_model.specs.agree.frame.Asked.{what_of}
+use Rattle.cilk_machine_agree.specs.model.Run.{Position}
+use Rattle.cilk_machine_agree.specs.model.Views.{shown}
+use Rattle.cilk_machine_agree.specs.frame.Asked.{what_of}
 use Rattle.cilk_view.specs.Shows.{ShowsAt}
 use Rattle.cilk_view.proofs.Told.{told_is, not_both}
 use Rattle.cilk_view.proofs.tell_view.tell_whole.Goals as goal

@@ -1,5 +1,5 @@
 use Rattle.std.proofs.Common.{sym, ap, ◌∙◌}
-use Rattle.cilk_explore_model.specs.model.Workers.{deques_text}
+use Rattle.cilk_machine_agree.specs.model.Workers.{deques_text}
 use Rattle.cilk_view.proofs.Told.{from_empty}
 use Rattle.cilk_view.proofs.Links.{deques_are}
 use Rattle.cilk_view.proofs.texts.deques_text.Goals as goal

@@ -1,7 +1,7 @@
 use Rattle.std.proofs.Common.{◌≡◌, sym, ap, ◌∙◌}
-use Rattle.cilk_explore_model.specs.syntax.Tree as tree
-use Rattle.cilk_explore_model.specs.agree.spawn.Nodes.{path_at}
-use Rattle.cilk_explore_model.specs.model.Globals.{globals_text}
+use Rattle.cilk_machine_agree.specs.syntax.Tree as tree
+use Rattle.cilk_machine_agree.specs.spawn.Nodes.{path_at}
+use Rattle.cilk_machine_agree.specs.model.Globals.{globals_text}
 use Rattle.cilk_view.specs.Globals.{globals_by}
 use Rattle.cilk_view.proofs.Told.{from_empty}
 use Rattle.cilk_view.proofs.Links.{globals_are}

@@ -1,6 +1,6 @@
 use Rattle.std.proofs.Common.{sym, ap, ◌∙◌}
 use Rattle.cilk_load.specs.labelled.Bodies.{label}
-use Rattle.cilk_explore_model.specs.model.Workers.{where_text}
+use Rattle.cilk_machine_agree.specs.model.Workers.{where_text}
 use Rattle.cilk_view.specs.Shows.{machine_of}
 use Rattle.cilk_view.proofs.Told.{from_empty}
 use Rattle.cilk_view.proofs.Links.{where_lines_are}

@@ -1,5 +1,5 @@
 use Rattle.std.proofs.Common.{◌∙◌, ap, arith}
-use Rattle.cilk_explore_model.specs.agree.spawn.Nodes.{path_at}
+use Rattle.cilk_machine_agree.specs.spawn.Nodes.{path_at}
 use Rattle.cilk_view.proofs.Trees.{made_more}
 use Rattle.cilk_view.proofs.tree.made_paths.Goals as goal
 

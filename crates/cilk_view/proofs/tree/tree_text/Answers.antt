@@ -2,7 +2,7 @@ use Rattle.std.proofs.Common.{ap, ◌∙◌, ◌++◌, sym, subst, All}
 use Rattle.std.specs.Prelude.{flat_map}
 use Rattle.std.proofs.lemmas.List.Sorted.{All-permutation}
 use Rattle.cilk_load.specs.labelled.Bodies.{label}
-use Rattle.cilk_explore_model.specs.model.ViewTrees.{in_order, path_line}
+use Rattle.cilk_machine_agree.specs.model.ViewTrees.{in_order, path_line}
 use Rattle.cilk_view.specs.Shows.{machine_of}
 use Rattle.cilk_view.specs.Sorting.{IsMade}
 use Rattle.cilk_view.specs.Trees.{lines_by}

@@ -1,6 +1,6 @@
 use Rattle.std.proofs.Common.{◌++◌, ap}
-use Rattle.cilk_explore_model.specs.model.Path.{path_text}
-use Rattle.cilk_explore_model.specs.agree.spawn.Nodes.{path_at}
+use Rattle.cilk_machine_agree.specs.model.Path.{path_text}
+use Rattle.cilk_machine_agree.specs.spawn.Nodes.{path_at}
 use Rattle.cilk_view.proofs.Tellings.{link_within, named_is, state_put}
 use Rattle.cilk_view.proofs.tree_telling.add_line.Goals as goal
 

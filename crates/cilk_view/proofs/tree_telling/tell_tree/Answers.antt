@@ -1,8 +1,8 @@
 use Rattle.std.proofs.Common.{◌≡◌, List, ℕ, ap, ◌∙◌, sym}
 use Rattle.std.specs.Prelude.{flat_map}
 use Rattle.cilk_load.specs.labelled.Bodies.{label}
-use Rattle.cilk_explore_model.specs.model.Run.{Position}
-use Rattle.cilk_explore_model.specs.model.ViewTrees.{in_order, path_line, tree_text}
+use Rattle.cilk_machine_agree.specs.model.Run.{Position}
+use Rattle.cilk_machine_agree.specs.model.ViewTrees.{in_order, path_line, tree_text}
 use Rattle.cilk_view.specs.Shows.{machine_of, ShowsAt}
 use Rattle.cilk_view.specs.Entries.{entries_text}
 use Rattle.cilk_view.proofs.TreeLines.{line_told}

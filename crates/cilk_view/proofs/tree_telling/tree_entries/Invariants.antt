@@ -1,6 +1,6 @@
 use Rattle.std.proofs.Common.{◌≡◌, ◌<◌, ◌++◌, ℕ, List, length, IfSome}
 use Rattle.std.specs.Prelude.{flat_map}
-use Rattle.cilk_explore_model.specs.model.Path.{Path}
+use Rattle.cilk_machine_agree.specs.model.Path.{Path}
 use Rattle.cilk_view.specs.Trees.{TellsLines}
 use Rattle.cilk_view.specs.Entries.{NamesWithin, entries_text}
 use Rattle.cilk_view.specs.Following.{all_paths, from_here}

@@ -1,5 +1,0 @@
-use Rattle.cilk_explore_model.proofs.ByNames.{stand_so}
-use Rattle.cilk_explore_model.proofs.alike_laws.machines_alike_but_for_names_stand_so.Goals as goal
-
-pub returns : goal.returns
-returns c = stand_so

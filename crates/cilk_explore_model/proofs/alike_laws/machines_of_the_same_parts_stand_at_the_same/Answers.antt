@@ -1,5 +1,0 @@
-use Rattle.cilk_explore_model.proofs.StandingsAlike.{stand_at_the_same}
-use Rattle.cilk_explore_model.proofs.alike_laws.machines_of_the_same_parts_stand_at_the_same.Goals as goal
-
-pub returns : goal.returns
-returns c = stand_at_the_same

@@ -1,0 +1,22 @@
+-- The laws on which a search for the endings of a program rests.
+pub mod Cells
+pub mod Instances
+pub mod Passing
+pub mod StandingsAlike
+pub mod ByNames
+pub mod Sizes
+pub mod AtPaths
+pub mod Steps
+pub mod Standings
+pub mod Over
+pub mod Taken
+pub mod Exchanges
+pub mod Carried
+pub mod Renaming
+pub mod ButNames
+pub mod Onward
+pub mod Searches
+pub mod Unending
+pub mod Idle
+pub mod OrMore
+pub use Rattle.cilk_machine_agree.proofs.runs_laws
