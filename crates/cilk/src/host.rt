@@ -1,17 +1,15 @@
 //! The files and the standard input of the system, as the places where the program finds its texts and keeps a log.
 
 ghost use Rattle.std.specs.Prelude.{None, is_some};
-ghost use Rattle.cilk.specs.Source.{IsSource};
 
-use crate::beside::name_within;
-use crate::writing::replace_file;
+use crate::within::name_within;
 use cilk_program::{LogFolder, LogStore, Texts};
+use cilk_words::{Source, is_no_log, is_same_file, replace_file, source_of};
 use either::Either;
 use std::alloc::{AllocError, Global};
 use std::fs::File;
-use std::io::{ErrorKind, Read};
-use std::os::unix::fs::MetadataExt;
-use std::{fs, io};
+use std::io;
+use std::io::ErrorKind;
 
 /// The texts of the system: its files and its standard input.
 #[derive(Clone, Copy)]
@@ -144,58 +142,5 @@ impl<'r> LogFolder for LogFiles<'r> {
             return Err(io::Error::from(ErrorKind::AlreadyExists));
         }
         replace_file(self.rt, log, text)
-    }
-}
-
-// Whether a log of this name would be written to the file that the program's text came from.
-fn is_same_file(rt: &HostRuntime, program: &str, log: &str) -> bool {
-    let path = match source_of(program) {
-        Source::Standard => STANDARD_INPUT,
-        Source::Path(path) => path,
-    };
-    match (fs::metadata(rt, path), fs::metadata(rt, log)) {
-        (Ok(one), Ok(other)) => {
-            other.is_file() && one.dev() == other.dev() && one.ino() == other.ino()
-        }
-        _ => false,
-    }
-}
-
-const STANDARD_INPUT: &str = "/dev/stdin";
-
-// How a log begins, of either version.
-const LOG_FRONT: &[u8] = b"cilklog ";
-
-// Whether a file is there that does not begin as a log does. Who asks for logs by a folder has named none of these files.
-fn is_no_log(rt: &HostRuntime, path: &str) -> bool {
-    match fs::metadata(rt, path) {
-        Ok(found) => found.is_file() && !begins_as_log(rt, path),
-        Err(_) => false,
-    }
-}
-
-fn begins_as_log(rt: &HostRuntime, path: &str) -> bool {
-    let mut front = [0; 8];
-    match File::open(rt, path) {
-        Ok(mut file) => file.read_exact(&mut front).is_ok() && front.as_slice() == LOG_FRONT,
-        Err(_) => false,
-    }
-}
-
-/// What a name stands for.
-pub enum Source<'a> {
-    /// The standard input.
-    Standard,
-    /// The file at this path.
-    Path(&'a str),
-}
-
-fn source_of<'a>(name: &'a str) -> Source<'a>
-    ensures { IsSource name.now result }
-{
-    if name == "-" {
-        Source::Standard
-    } else {
-        Source::Path(name)
     }
 }

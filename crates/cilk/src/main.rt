@@ -6,14 +6,12 @@
 //! all of these.
 #![tactic(auto)]
 
-mod beside;
 mod host;
-mod seats;
-mod writing;
+mod within;
 
 use cilk_program::{Streams, exit_code};
+use cilk_words::seat;
 use host::Host;
-use seats::seat;
 use std::process::ExitCode;
 use std::sync::Wait;
 use std::thread::Threads;

@@ -3,3 +3,4 @@ mod Refusals
 mod Simple
 mod Rows
 mod Built
+mod Folders

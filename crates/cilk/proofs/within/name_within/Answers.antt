@@ -1,7 +1,7 @@
 use Rattle.std.proofs.Common.{◌≡◌, ◌++◌, rules, append_assoc}
 use Rattle.std.proofs.lemmas.Fmt.{contents_after_writes}
 use Rattle.arrayvec.specs.ArrayString.{ArrayString}
-use Rattle.cilk.proofs.beside.name_within.Goals as goal
+use Rattle.cilk.proofs.within.name_within.Goals as goal
 
 pub returns-in-Ok : goal.returns-in-Ok
 returns-in-Ok c =

@@ -1,16 +1,15 @@
-//! The names of files: of one that is written beside another, until it takes the other's place, and of one in a folder.
+//! The name of a file that is written beside another, until it takes the other's place.
 
 ghost use Rattle.std.specs.Prelude.{◌≡◌, ◌++◌, IfOk, codes, decimal};
-ghost use Rattle.cilk.specs.Beside.{name_beside};
-ghost use Rattle.cilk_program.specs.Exploring.{log_at};
+ghost use Rattle.cilk_words.specs.Beside.{name_beside};
 
 use arrayvec::ArrayString;
 use std::fmt::Write;
 use std::io;
 use std::io::ErrorKind;
 
-// The system takes no longer path.
-const LONGEST: usize = 4095;
+/// The system takes no longer path.
+pub const LONGEST: usize = 4095;
 
 /// The name with this number for a file beside a path, in the same folder. It takes no memory: when a log is written the run
 /// is over, and is not to be lost for want of a name.
@@ -20,17 +19,6 @@ pub fn name_beside(path: &str, number: u32) -> io::Result<ArrayString<LONGEST>>
     match path.rsplit_once('/') {
         Some(parts) => name_in(parts.0, "/", number),
         None => name_in("", "", number),
-    }
-}
-
-/// The name of the log with this number in a folder. It takes no memory.
-pub fn name_within(folder: &str, number: u64) -> io::Result<ArrayString<LONGEST>>
-    ensures { IfOk result (λ name. name.bytes ≡ log_at folder.now number) }
-{
-    let mut name = ArrayString::new();
-    match write!(name, "{folder}/{number}.log") {
-        Ok(()) => Ok(name),
-        Err(_) => Err(io::Error::from(ErrorKind::InvalidFilename)),
     }
 }
 

@@ -1,9 +1,9 @@
 use Rattle.std.proofs.Common.{◌≡◌, ◌++◌, ℕ, List, arith, ap, ◌∙◌}
 use Rattle.std.specs.Prelude.{codes, decimal}
 use Rattle.std.proofs.lemmas.Result.{IfOk-weaker}
-use Rattle.cilk.specs.Beside.{name_beside}
-use Rattle.cilk.proofs.Folders.{folder_some, folder_none}
-use Rattle.cilk.proofs.beside.name_beside.Goals as goal
+use Rattle.cilk_words.specs.Beside.{name_beside}
+use Rattle.cilk_words.proofs.Folders.{folder_some, folder_none}
+use Rattle.cilk_words.proofs.beside.name_beside.Goals as goal
 
 pub returns-in-Some : goal.returns-in-Some
 returns-in-Some c =

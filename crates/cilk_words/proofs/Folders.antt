@@ -7,7 +7,7 @@ use Rattle.std.proofs.lemmas.Str.Pattern.{NoCharPasses-char}
 use Rattle.std.specs.List.{suffix_len}
 use Rattle.std.specs.Str.{NoCharPasses}
 use Rattle.std.specs.Str.Pattern.{RFindsChar}
-use Rattle.cilk.specs.Beside.{is_slash, folder_in}
+use Rattle.cilk_words.specs.Beside.{is_slash, folder_in}
 
 differs : (b : ℕ) → b ≢ 47 → not (is_slash b) ≡ true
 differs b h = grind (arith, h)

@@ -1,7 +1,7 @@
 -- What a name stands for.
 use Rattle.std.specs.Prelude.{◌≡◌, ◌≢◌, ℕ, List, codes}
-use Rattle.cilk.specs.declared.host.Source.{Source}
-use Rattle.cilk.specs.declared.host.Source.TheVariants as source
+use Rattle.cilk_words.specs.declared.source.Source.{Source}
+use Rattle.cilk_words.specs.declared.source.Source.TheVariants as source
 
 -- `-` stands for the standard input, and any other name for the file at that path
 abbrev pub IsSource : List ℕ → Source → Type 0
