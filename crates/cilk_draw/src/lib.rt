@@ -2,37 +2,18 @@
 //! picture is taken from the views of a machine behind each choice and the plans of its steps, and written as lines or as one SVG.
 #![tactic(auto)]
 
-mod below;
-mod boxes;
 mod caption;
-mod column;
-mod curves;
 mod drawing;
-mod elements;
-mod escaping;
 mod excerpt;
 mod fault;
-mod footer;
-mod gathering;
 mod glance;
-mod grid;
-mod hue;
-mod lanes;
 mod looking;
 mod painter;
-mod pane;
-mod patch;
-mod picture;
-mod race;
-mod ribbon;
-mod rows;
-mod scheme;
 mod standing;
-mod svg;
 mod tree_lines;
-mod wording;
 mod writing;
 
+pub use cilk_draw_pictures::{Picture, put_lines, put_svg};
 pub use cilk_log_replay::{
     Choices, Loaded, Log, LogFault, Memory, ReplayFault, Trap, TrapKind, play_all, read_log,
     write_log,
@@ -40,6 +21,3 @@ pub use cilk_log_replay::{
 pub use drawing::draw;
 pub use excerpt::Excerpt;
 pub use fault::DrawFault;
-pub use picture::Picture;
-pub use svg::put_svg;
-pub use wording::put_lines;

@@ -1,24 +1,30 @@
 //! A machine that makes the choices of a schedule again, with what is drawn of them.
 
 use crate::caption::{caption_of, line_of};
-use crate::column::Column;
-use crate::footer::Footer;
-use crate::gathering::{Kind, note_lines};
 use crate::glance::Glance;
 use crate::looking::glance_at;
-use crate::picture::Picture;
-use crate::ribbon::Ribbon;
 use crate::standing::{footer_of, no_room, view_text};
+use cilk_draw_pictures::{Column, Footer, Kind, Picture, Ribbon, note_lines};
 use cilk_log_replay::{Act, Choice, Did, Machine, Memory, What};
 use std::alloc::Global;
 
 /// A machine, and what is drawn of the choices that it made since it began.
-#[derive(Drop)]
 pub(crate) struct Painter {
     machine: Machine,
     columns: Vec<Column>,
     hands: Vec<Ribbon>,
     globals: Vec<Ribbon>,
+}
+
+impl Drop for Painter {
+    fn drop(self) {
+        let Painter {
+            machine: _machine,
+            columns: _columns,
+            hands: _hands,
+            globals: _globals,
+        } = self;
+    }
 }
 
 impl Painter {

@@ -6,7 +6,7 @@ use crate::lanes::end_of;
 use crate::pane::Pane;
 use crate::picture::Picture;
 use crate::ribbon::Ribbon;
-use cilk_log_replay::Memory;
+use cilk_sched::Memory;
 use std::alloc::Global;
 
 // How wide a name is at most, in the small type: names have a larger one.

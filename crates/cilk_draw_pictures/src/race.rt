@@ -3,11 +3,20 @@
 use crate::column::Column;
 
 /// Two choices that race, by their numbers, and the variable on which they do.
-#[derive(Drop)]
-pub(crate) struct Race {
+pub struct Race {
     pub first: u64,
     pub second: u64,
     pub variable: String,
+}
+
+impl Drop for Race {
+    fn drop(self) {
+        let Race {
+            first: _,
+            second: _,
+            variable: _variable,
+        } = self;
+    }
 }
 
 impl Race {

@@ -1,10 +1,9 @@
 //! A column of a picture: one choice, or several of one worker that touch nothing shared.
 
-use cilk_log_replay::Choice;
+use cilk_sched::Choice;
 
 /// One choice of a schedule, or several that follow one another.
-#[derive(Drop)]
-pub(crate) struct Column {
+pub struct Column {
     /// The number of its first choice, counted from 1.
     pub first: u64,
     /// How many choices it has. All are steps of one worker where it has several.
@@ -18,6 +17,20 @@ pub(crate) struct Column {
     pub caption: String,
     /// Whether it touches nothing that other instances see.
     pub is_private: bool,
+}
+
+impl Drop for Column {
+    fn drop(self) {
+        let Column {
+            first: _,
+            count: _,
+            choice: _,
+            instance: _instance,
+            line: _,
+            caption: _caption,
+            is_private: _,
+        } = self;
+    }
 }
 
 impl Column {

@@ -3,7 +3,7 @@
 use crate::column::Column;
 use crate::pane::Pane;
 use crate::picture::Picture;
-use cilk_log_replay::Memory;
+use cilk_sched::Memory;
 use std::alloc::Global;
 
 /// Where the first column begins; what is left of it holds the names of lanes and rows.

@@ -5,7 +5,7 @@ use crate::footer::Footer;
 use crate::picture::Picture;
 use crate::race::Race;
 use crate::ribbon::Ribbon;
-use cilk_log_replay::{Act, Memory};
+use cilk_sched::{Act, Memory};
 use std::alloc::Global;
 
 /// Writes a picture in lines, under a title.

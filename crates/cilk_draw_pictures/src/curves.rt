@@ -6,7 +6,7 @@ use crate::pane::Pane;
 use crate::picture::Picture;
 use crate::race::Race;
 use crate::wording::put_race;
-use cilk_log_replay::Memory;
+use cilk_sched::Memory;
 use std::alloc::Global;
 
 // How far the curve of two boxes in one lane hangs below them.

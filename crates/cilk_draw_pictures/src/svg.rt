@@ -11,7 +11,7 @@ use crate::picture::Picture;
 use crate::rows::put_rows;
 use crate::scheme::SCHEME;
 use crate::wording::put_title;
-use cilk_log_replay::Memory;
+use cilk_sched::Memory;
 use std::alloc::Global;
 
 // The height of the line of the title.

@@ -3,7 +3,7 @@
 use crate::escaping::put_escaped;
 use crate::pane::Pane;
 use crate::ribbon::front_of;
-use cilk_log_replay::Memory;
+use cilk_sched::Memory;
 use std::alloc::Global;
 
 /// Writes a rectangle of a class.

@@ -1,6 +1,6 @@
 //! Texts between the tags of an SVG, and in its attributes.
 
-use cilk_log_replay::Memory;
+use cilk_sched::Memory;
 
 /// Writes a text so that it stands for itself in XML. A character that XML has not is told by a question mark.
 pub(crate) fn put_escaped(out: &mut String, text: &str) -> Result<(), Memory> {

@@ -4,26 +4,41 @@ use crate::column::Column;
 use crate::footer::Footer;
 use crate::race::Race;
 use crate::ribbon::Ribbon;
-use cilk_log_replay::Memory;
+use cilk_sched::Memory;
 use std::alloc::Global;
 
 /// A part of a recorded schedule, and how the program stands behind it.
-#[derive(Drop)]
 pub struct Picture {
-    pub(crate) workers: u8,
+    pub workers: u8,
     /// How many choices the schedule has.
-    pub(crate) choices: usize,
+    pub choices: usize,
     /// Behind how many choices the picture begins.
-    pub(crate) begin: usize,
-    pub(crate) columns: Vec<Column>,
+    pub begin: usize,
+    pub columns: Vec<Column>,
     /// What each worker has in its hand, from worker 1 on: the path of an instance.
-    pub(crate) hands: Vec<Ribbon>,
+    pub hands: Vec<Ribbon>,
     /// The variables and the locks of the top level.
-    pub(crate) globals: Vec<Ribbon>,
-    pub(crate) races: Vec<Race>,
+    pub globals: Vec<Ribbon>,
+    pub races: Vec<Race>,
     /// Whether the races are all that there are. Else they were not looked for.
-    pub(crate) knows_races: bool,
-    pub(crate) footer: Footer,
+    pub knows_races: bool,
+    pub footer: Footer,
+}
+
+impl Drop for Picture {
+    fn drop(self) {
+        let Picture {
+            workers: _,
+            choices: _,
+            begin: _,
+            columns: _columns,
+            hands: _hands,
+            globals: _globals,
+            races: _races,
+            knows_races: _,
+            footer: _footer,
+        } = self;
+    }
 }
 
 impl Picture {

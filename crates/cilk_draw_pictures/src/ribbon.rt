@@ -1,19 +1,28 @@
 //! What one thing was over the columns of a picture: the hand of a worker, a variable, or a lock.
 
 use crate::patch::Patch;
-use cilk_log_replay::Memory;
+use cilk_sched::Memory;
 use std::alloc::Global;
 
 // So many characters of a value are kept.
 const KEPT: usize = 80;
 
 /// The values of one thing, from the left of a picture to the right.
-#[derive(Drop)]
-pub(crate) struct Ribbon {
-    pub name: String,
-    pub patches: Vec<Patch>,
+pub struct Ribbon {
+    pub(crate) name: String,
+    pub(crate) patches: Vec<Patch>,
     // The whole of its last value.
     latest: String,
+}
+
+impl Drop for Ribbon {
+    fn drop(self) {
+        let Ribbon {
+            name: _name,
+            patches: _patches,
+            latest: _latest,
+        } = self;
+    }
 }
 
 impl Ribbon {
@@ -44,7 +53,7 @@ impl Ribbon {
     }
 
     /// The whole of its last value.
-    pub(crate) fn latest(&self) -> &str {
+    pub fn latest(&self) -> &str {
         self.latest.as_str()
     }
 }

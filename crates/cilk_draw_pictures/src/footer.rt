@@ -1,8 +1,7 @@
 //! What stands below the rows of a picture, as texts.
 
 /// How a program stands where a picture ends, and the program itself.
-#[derive(Drop)]
-pub(crate) struct Footer {
+pub struct Footer {
     /// Behind how many choices the picture ends.
     pub end: u64,
     /// How the program stands there.
@@ -13,4 +12,16 @@ pub(crate) struct Footer {
     pub tree: String,
     /// The canonical text of the program.
     pub text: String,
+}
+
+impl Drop for Footer {
+    fn drop(self) {
+        let Footer {
+            end: _,
+            ending: _ending,
+            standing: _standing,
+            tree: _tree,
+            text: _text,
+        } = self;
+    }
 }

@@ -6,7 +6,7 @@ use crate::grid::Grid;
 use crate::pane::Pane;
 use crate::picture::Picture;
 use crate::wording::put_words;
-use cilk_log_replay::{Act, Memory};
+use cilk_sched::{Act, Memory};
 use std::alloc::Global;
 
 /// Writes the numbers of the choices, and the boxes.

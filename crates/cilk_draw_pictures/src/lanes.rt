@@ -7,7 +7,7 @@ use crate::hue::hue_of;
 use crate::pane::Pane;
 use crate::picture::Picture;
 use crate::ribbon::Ribbon;
-use cilk_log_replay::{Act, Memory};
+use cilk_sched::{Act, Memory};
 use std::alloc::Global;
 
 /// Writes the lanes, and the bars in them.

@@ -1,12 +1,12 @@
 //! From the lines of a view to ribbons.
 
 use crate::ribbon::Ribbon;
-use cilk_log_replay::Memory;
+use cilk_sched::Memory;
 use std::alloc::Global;
 
 /// The views whose lines are kept.
 #[derive(Clone, Copy)]
-pub(crate) enum Kind {
+pub enum Kind {
     /// Where each worker goes on.
     Hands,
     /// The variables and the locks of the top level.
@@ -14,7 +14,7 @@ pub(crate) enum Kind {
 }
 
 /// Notes the lines of a view, one a ribbon, behind so many columns.
-pub(crate) fn note_lines(
+pub fn note_lines(
     alloc: Global,
     ribbons: &mut Vec<Ribbon>,
     kind: Kind,

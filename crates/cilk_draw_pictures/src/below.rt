@@ -3,7 +3,7 @@
 use crate::elements::put_text;
 use crate::picture::Picture;
 use crate::wording::{put_code, put_ending, put_races};
-use cilk_log_replay::Memory;
+use cilk_sched::Memory;
 use std::alloc::Global;
 
 // A line of text.
