@@ -1,4 +1,3 @@
-pub mod Framing
 pub mod Moving
-pub mod Naming
+pub use Rattle.cilk_dap_messages.specs as messages
 pub use Rattle.cilk_debug.specs as debug

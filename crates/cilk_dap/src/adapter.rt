@@ -1,16 +1,12 @@
 //! An adapter: what it was asked so far, and what it does with the next request.
 
-use crate::after::After;
-use crate::ask::{Ask, ask_of};
-use crate::asked::Asked;
-use crate::capabilities::tell_capabilities;
-use crate::message::Message;
 use crate::obeying::{behind, stopped};
 use crate::opened::Opened;
 use crate::opening::Opening;
-use crate::refusal::{NO_PROGRAM, NO_SUCH_REQUEST, Refusal};
-use crate::stop::Stop;
-use crate::unopened::Unopened;
+use crate::refusal::{NO_PROGRAM, NO_SUCH_REQUEST, Refusal, told};
+use cilk_dap_messages::{
+    After, Ask, Asked, Message, Stop, Unopened, ask_of, put_capabilities, unlike_here,
+};
 use std::alloc::Global;
 
 const NO_NAMES: &str = "launch wants the names of a program and of a log";
@@ -81,6 +77,14 @@ impl Adapter {
     fn begin(&mut self) -> Result<After, Refusal> {
         let stops_at_entry = self.stops_at_entry;
         begin_in(&mut self.opened, stops_at_entry)
+    }
+}
+
+// The answer to `initialize`, where the editor counts lines and names files as is done here.
+fn tell_capabilities(asked: &Asked<'_>, message: &mut Message) -> Result<(), Refusal> {
+    match unlike_here(asked) {
+        Some(words) => Err(Refusal::Words(words)),
+        None => told(put_capabilities(message)),
     }
 }
 

@@ -1,15 +1,10 @@
 //! Breakpoints at lines of the canonical text.
 
-use crate::asked::{Asked, number_in};
-use crate::message::Message;
 use crate::opened::Opened;
 use crate::refusal::{Refusal, told};
+use cilk_dap_messages::{Asked, Message, number_in, put_break};
 use cilk_debug::DebugFault;
 use serde_json::Value;
-use std::alloc::AllocError;
-
-/// The number by which an editor asks for the canonical text.
-pub(crate) const CANONICAL: u64 = 1;
 
 const NOT_OURS: &str = "lines are those of the canonical text, which a stack frame shows";
 
@@ -22,7 +17,7 @@ impl Opened {
         asked: &Asked<'_>,
         message: &mut Message,
     ) -> Result<(), Refusal> {
-        let is_ours = self.is_ours(asked.argument("source"));
+        let is_ours = self.known.file().is_meant_by(asked.argument("source"));
         if is_ours {
             self.clear_all()?;
         }
@@ -45,24 +40,6 @@ impl Opened {
             self.set_one(is_ours, one, message)?;
         }
         Ok(())
-    }
-
-    // Whether lines of a source are those of the canonical text.
-    fn is_ours(&self, source: Option<&Value>) -> bool {
-        let Some(source) = source else {
-            return false;
-        };
-        match source.get("sourceReference") {
-            Some(number) if number.as_u64() == Some(CANONICAL) => true,
-            _ => self.known.is_canonical && self.is_named(source.get("path")),
-        }
-    }
-
-    fn is_named(&self, path: Option<&Value>) -> bool {
-        match path {
-            None => false,
-            Some(path) => path.as_str() == Some(self.known.name.as_str()),
-        }
     }
 
     fn clear_all(&mut self) -> Result<(), DebugFault> {
@@ -112,19 +89,5 @@ impl Opened {
             }
         }
         Ok(found)
-    }
-}
-
-// Whether a breakpoint is set on a line, and why not.
-fn put_break(
-    line: u64,
-    unset: Option<&'static str>,
-    message: &mut Message,
-) -> Result<(), AllocError> {
-    message.begin_item()?;
-    message.number("line", line)?;
-    match unset {
-        None => message.put_verified(),
-        Some(words) => message.put_unverified(words),
     }
 }

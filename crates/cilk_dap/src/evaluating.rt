@@ -1,17 +1,12 @@
 //! What an editor evaluates: commands of a session, or a variable by its name.
 
-use crate::activation::Activation;
-use crate::after::After;
-use crate::asked::Asked;
-use crate::frame_name::FrameName;
-use crate::lines::variable_in;
-use crate::message::Message;
 use crate::obeying::behind;
 use crate::opened::Opened;
 use crate::refusal::{Refusal, told};
-use crate::stop::Stop;
+use cilk_dap_messages::{
+    After, Asked, FrameName, Message, Stop, local_in, put_found, put_result, value_in,
+};
 use cilk_debug::{InputFault, SessionFault};
-use std::alloc::AllocError;
 
 impl Opened {
     /// Answers commands as a session does; where the editor only looks, as it does for what the mouse points at, the value of the variable of that name.
@@ -114,35 +109,4 @@ fn put_answer(answer: &[u8], message: &mut Message) -> Result<(), Refusal> {
         Ok(answer) => told(put_result(answer.trim_end(), message)),
         Err(_) => Err(Refusal::Words("the answer is not UTF-8")),
     }
-}
-
-// The value was found.
-fn put_found(value: &str, message: &mut Message) -> Result<bool, AllocError> {
-    put_result(value, message)?;
-    Ok(true)
-}
-
-fn put_result(text: &str, message: &mut Message) -> Result<(), AllocError> {
-    message.begin("body")?;
-    message.text("result", text)?;
-    message.number("variablesReference", 0)?;
-    message.end()
-}
-
-fn local_in<'a>(found: &'a [Activation], name: &str) -> Option<&'a str> {
-    match found.get(0) {
-        None => None,
-        Some(activation) => value_in(activation.variables.as_str(), name),
-    }
-}
-
-fn value_in<'a>(view: &'a str, name: &str) -> Option<&'a str> {
-    for line in view.lines() {
-        if let Some((found, value)) = variable_in(line) {
-            if found == name {
-                return Some(value);
-            }
-        }
-    }
-    None
 }

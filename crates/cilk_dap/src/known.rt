@@ -1,6 +1,6 @@
 //! What does not change while a program is debugged.
 
-use crate::source_text::SourceText;
+use cilk_dap_messages::{SourceText, TextFile};
 use cilk_debug::{Choice, Loaded, Memory};
 use std::alloc::{AllocError, Global};
 
@@ -37,6 +37,14 @@ impl Known {
                 name,
                 is_canonical,
             }),
+        }
+    }
+
+    /// The file of its text.
+    pub(crate) fn file(&self) -> TextFile<'_> {
+        TextFile {
+            name: self.name.as_str(),
+            is_canonical: self.is_canonical,
         }
     }
 

@@ -3,10 +3,9 @@
 ghost use Rattle.std.specs.Prelude.{◌<◌, ◌+◌, ◌-◌, OnOk};
 ghost use Rattle.cilk_dap.specs.Moving.{HasGoneOn, IsMovedTo};
 
-use crate::lines::{hand_in, worker_line};
 use crate::opened::Opened;
 use crate::refusal::{AT_END, AT_START, NO_SUCH_THREAD, Refusal};
-use crate::stop::Stop;
+use cilk_dap_messages::{Stop, hand_in, worker_line};
 use cilk_debug::DebugFault;
 
 impl Opened {

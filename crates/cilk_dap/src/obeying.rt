@@ -1,14 +1,9 @@
 //! From what is asked for to what is done with a program that was launched.
 
-use crate::after::After;
-use crate::ask::Ask;
-use crate::asked::Asked;
-use crate::message::Message;
 use crate::opened::Opened;
 use crate::refusal::{NO_SUCH_REQUEST, Refusal};
-use crate::stop::Stop;
 use crate::variables::tell_scopes;
-use std::alloc::AllocError;
+use cilk_dap_messages::{After, Ask, Asked, Message, Stop, put_continued};
 
 impl Opened {
     /// Does what is asked, and puts into the response what it tells.
@@ -29,7 +24,7 @@ impl Opened {
             Ask::Source => behind(self.tell_source(message)),
             Ask::Evaluate => self.evaluate(asked, message),
             Ask::Continue => stopped(self.tell_continued(message)),
-            _ => stopped(self.move_by(ask, thread_of(asked))),
+            _ => stopped(self.move_by(ask, asked.thread())),
         }
     }
 
@@ -68,16 +63,4 @@ pub(crate) fn stopped(moved: Result<Stop, Refusal>) -> Result<After, Refusal> {
         Ok(stop) => Ok(After::Stopped(stop)),
         Err(refusal) => Err(refusal),
     }
-}
-
-// All workers go on.
-fn put_continued(message: &mut Message) -> Result<(), AllocError> {
-    message.begin("body")?;
-    message.flag("allThreadsContinued", true)?;
-    message.end()
-}
-
-// The worker that a request is about. There is none of number 0.
-fn thread_of(asked: &Asked<'_>) -> u64 {
-    asked.number("threadId").unwrap_or(0)
 }

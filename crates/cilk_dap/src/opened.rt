@@ -1,7 +1,7 @@
 //! A program that an editor debugs: where it stands, and what is watched.
 
 use crate::known::Known;
-use crate::source_text::SourceText;
+use cilk_dap_messages::SourceText;
 use cilk_debug::{Debugger, Loaded, Log, ReplayFault, Unplayable};
 use std::alloc::Global;
 

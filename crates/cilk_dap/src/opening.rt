@@ -1,7 +1,7 @@
 //! Where a program and a recorded schedule come from that an editor names.
 
 use crate::opened::Opened;
-use crate::unopened::Unopened;
+use cilk_dap_messages::Unopened;
 use std::alloc::Global;
 
 /// What opens the texts that an editor names.

@@ -1,20 +1,15 @@
 //! The exchange with an editor: requests come one by one, and each is answered before the next is read.
 
 use crate::adapter::Adapter;
-use crate::after::After;
-use crate::asked::Asked;
-use crate::fault::MessageFault;
-use crate::framing::{Incoming, MOST_BYTES, next_message};
-use crate::message::Message;
 use crate::opening::Opening;
 use crate::refusal::Refusal;
-use crate::sending::send_message;
-use crate::stop::Stop;
+use cilk_dap_messages::{
+    After, Asked, Incoming, Message, MessageFault, Stop, TOO_LONG, conclude, event, followed, more,
+    next_message, refuse, send, value_of,
+};
 use serde_json::Value;
-use std::alloc::{AllocError, Global};
+use std::alloc::Global;
 use std::io::{Read, Write};
-
-const TOO_LONG: &str = "the message has more than 1048576 bytes";
 
 const NO_REQUEST: &str = "the message is no request";
 
@@ -131,28 +126,8 @@ impl Adapter {
         writer: &mut W,
     ) -> Result<After, MessageFault> {
         match self.obey(opening, asked, message) {
-            Ok(after) => followed(after, self.conclude(number, asked, message, writer)),
+            Ok(after) => followed(after, conclude(self.alloc, number, asked, message, writer)),
             Err(refusal) => self.tell_refusal(number, asked, refusal, writer),
-        }
-    }
-
-    // Sends the response of this number, that what is asked is done; one that is too long is none.
-    fn conclude<W: Write>(
-        &self,
-        number: u64,
-        asked: &Asked<'_>,
-        message: &mut Message,
-        writer: &mut W,
-    ) -> Result<(), MessageFault> {
-        match ended(message) {
-            Err(_) => Err(MessageFault::Memory),
-            Ok(bytes) => {
-                if bytes.len() <= MOST_BYTES {
-                    send_message(writer, bytes.as_slice())
-                } else {
-                    self.refuse(number, asked, TOO_LONG, writer)
-                }
-            }
         }
     }
 
@@ -166,7 +141,10 @@ impl Adapter {
     ) -> Result<After, MessageFault> {
         match words_of(&refusal) {
             None => Err(MessageFault::Memory),
-            Some(words) => followed(After::Nothing, self.refuse(number, asked, words, writer)),
+            Some(words) => followed(
+                After::Nothing,
+                refuse(self.alloc, number, asked, words, writer),
+            ),
         }
     }
 
@@ -177,18 +155,7 @@ impl Adapter {
         writer: &mut W,
     ) -> Result<bool, MessageFault> {
         let number = self.next_number();
-        more(self.refuse(number, &NOBODY, words, writer))
-    }
-
-    // Sends the response of this number, that what is asked is not done.
-    fn refuse<W: Write>(
-        &self,
-        number: u64,
-        asked: &Asked<'_>,
-        words: &str,
-        writer: &mut W,
-    ) -> Result<(), MessageFault> {
-        send(refusal(self.alloc, number, asked, words), writer)
+        more(refuse(self.alloc, number, &NOBODY, words, writer))
     }
 
     // Sends an event that tells no more than its name.
@@ -206,82 +173,11 @@ impl Adapter {
     }
 }
 
-// What the bytes of a message say: nothing where they are no JSON, which is no request either.
-fn value_of(alloc: Global, bytes: &[u8]) -> Result<Value, MessageFault> {
-    match Value::from_slice(alloc, bytes) {
-        Ok(value) => Ok(value),
-        Err(error) if error.is_memory() => Err(MessageFault::Memory),
-        Err(_) => Ok(Value::Null),
-    }
-}
-
-// More messages may follow one that was sent.
-fn more(sent: Result<(), MessageFault>) -> Result<bool, MessageFault> {
-    match sent {
-        Err(fault) => Err(fault),
-        Ok(()) => Ok(false),
-    }
-}
-
-// What follows a response that was sent.
-fn followed(after: After, sent: Result<(), MessageFault>) -> Result<After, MessageFault> {
-    match sent {
-        Err(fault) => Err(fault),
-        Ok(()) => Ok(after),
-    }
-}
-
 // The words of a refusal that is told.
 fn words_of<'a>(refusal: &'a Refusal) -> Option<&'a str> {
     match refusal {
         Refusal::Memory => None,
         Refusal::Words(words) => Some(words),
         Refusal::Text(text) => Some(text.as_str()),
-    }
-}
-
-// The bytes of a message that ends.
-fn ended(message: &mut Message) -> Result<Vec<u8>, AllocError> {
-    message.end()?;
-    message.to_vec()
-}
-
-fn refusal(
-    alloc: Global,
-    number: u64,
-    asked: &Asked<'_>,
-    words: &str,
-) -> Result<Message, AllocError> {
-    let mut message = Message::response(alloc, number, asked, false)?;
-    let put = put_words(words, &mut message);
-    message.with(put)
-}
-
-fn put_words(words: &str, message: &mut Message) -> Result<(), AllocError> {
-    message.text("message", words)?;
-    message.end()
-}
-
-fn event(alloc: Global, number: u64, name: &str) -> Result<Message, AllocError> {
-    let mut message = Message::event(alloc, number, name)?;
-    let put = message.end();
-    message.with(put)
-}
-
-// Sends a message, where memory sufficed to make it.
-fn send<W: Write>(made: Result<Message, AllocError>, writer: &mut W) -> Result<(), MessageFault> {
-    match made {
-        Err(_) => Err(MessageFault::Memory),
-        Ok(message) => send_bytes(message.to_vec(), writer),
-    }
-}
-
-fn send_bytes<W: Write>(
-    made: Result<Vec<u8>, AllocError>,
-    writer: &mut W,
-) -> Result<(), MessageFault> {
-    match made {
-        Err(_) => Err(MessageFault::Memory),
-        Ok(bytes) => send_message(writer, bytes.as_slice()),
     }
 }

@@ -4,23 +4,11 @@ ghost use Rattle.std.specs.Prelude.{◌≡◌, IfOk, Some, string_bytes};
 ghost use Rattle.cilk_debug.specs.Seeing.{seen_at};
 ghost use Rattle.cilk_debug.specs.console.model.What.{where_it_stands};
 
-use crate::activation::Activation;
-use crate::lines::{activation_in, hand_in, lines_of, parent_of, worker_line};
 use crate::opened::Opened;
 use crate::refusal::{NO_SUCH_THREAD, Refusal, told};
+use cilk_dap_messages::{Activation, Part, hand_in, parent_of, worker_line};
 use cilk_debug::{Command, Memory, ViewFault, What, command_of};
-use std::alloc::{AllocError, Global};
-
-// Some activations of a stack.
-#[derive(Drop)]
-struct Part {
-    alloc: Global,
-    /// So many are to be passed over.
-    passed: u64,
-    /// So many are wanted behind these.
-    most: usize,
-    found: Vec<Activation>,
-}
+use std::alloc::Global;
 
 impl Opened {
     /// What `where` shows.
@@ -51,14 +39,14 @@ impl Opened {
         first: u64,
         most: usize,
     ) -> Result<Vec<Activation>, Refusal> {
-        let mut part = Part {
-            alloc: self.alloc,
-            passed: first,
-            most,
-            found: Vec::new(self.alloc),
-        };
-        self.put_stack(hand, &mut part)?;
-        Ok(part.found)
+        let mut part = Part::new(self.alloc, first, most);
+        match self.put_stack(hand, &mut part) {
+            Err(refusal) => {
+                drop(part);
+                Err(refusal)
+            }
+            Ok(()) => Ok(part.into_found()),
+        }
     }
 
     // Those of an instance and of the ones that made it, whose paths are shorter.
@@ -70,7 +58,7 @@ impl Opened {
         for _ in 0..=hand.len() {
             self.put_frame(path, part)?;
             match parent_of(path) {
-                Some(parent) if part.found.len() < part.most => path = parent,
+                Some(parent) if part.wants_more() => path = parent,
                 _ => return Ok(()),
             }
         }
@@ -108,44 +96,4 @@ impl Opened {
 fn frame_command(alloc: Global, path: &str) -> Result<Command, Memory> {
     let line = format!(in alloc; "frame {path}")?;
     command_of(alloc, line.as_bytes())
-}
-
-impl Part {
-    // The last activation that a text tells is the innermost one.
-    fn take_all(&mut self, text: &str) -> Result<(), AllocError> {
-        let lines = lines_of(self.alloc, text)?;
-        self.take_lines(lines.as_slice())
-    }
-
-    fn take_lines(&mut self, lines: &[&str]) -> Result<(), AllocError> {
-        let mut end = lines.len();
-        for start in (0..lines.len()).rev() {
-            if let Some((name, line)) = activation_in(lines[start]) {
-                self.take(name, line, lines_between(lines, start, end))?;
-                end = start;
-            }
-        }
-        Ok(())
-    }
-
-    // One more, where it is wanted.
-    fn take(&mut self, name: &str, line: u64, variables: &[&str]) -> Result<(), AllocError> {
-        if 0 < self.passed {
-            self.passed -= 1;
-            return Ok(());
-        }
-        if self.most <= self.found.len() {
-            return Ok(());
-        }
-        let activation = Activation::new(self.alloc, name, line, variables)?;
-        self.found.push(activation)?;
-        Ok(())
-    }
-}
-
-// The lines behind the one that begins an activation, up to the next such line.
-fn lines_between<'l, 'a>(lines: &'l [&'a str], start: usize, end: usize) -> &'l [&'a str] {
-    let last = end.min(lines.len());
-    let first = start.saturating_add(1).min(last);
-    &lines[first..last]
 }

@@ -1,11 +1,9 @@
 //! The events that tell an editor where a program stands.
 
 use crate::adapter::Adapter;
-use crate::message::Message;
 use crate::opened::Opened;
 use crate::refusal::{Refusal, told};
-use crate::stop::Stop;
-use std::alloc::AllocError;
+use cilk_dap_messages::{Message, Stop, first_line, put_place};
 
 impl Adapter {
     /// The event that the program stands still.
@@ -34,30 +32,4 @@ fn put_stop_of(opened: &Opened, stop: Stop, message: &mut Message) -> Result<(),
     let view = opened.view_where()?;
     let place = first_line(view.as_str());
     told(put_place(place, stop, opened.next_mover(), message))
-}
-
-// Where the program stands, why, and the worker that an editor is to show.
-fn put_place(
-    place: &str,
-    stop: Stop,
-    worker: u64,
-    message: &mut Message,
-) -> Result<(), AllocError> {
-    message.begin("body")?;
-    put_reason(place, stop, message)?;
-    message.number("threadId", worker)?;
-    message.flag("allThreadsStopped", true)?;
-    message.end()
-}
-
-fn put_reason(place: &str, stop: Stop, message: &mut Message) -> Result<(), AllocError> {
-    message.text("reason", stop.reason())?;
-    message.text("description", place)
-}
-
-fn first_line<'a>(view: &'a str) -> &'a str {
-    match view.split_once('\n') {
-        None => view,
-        Some((line, _)) => line,
-    }
 }

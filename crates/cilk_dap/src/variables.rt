@@ -1,24 +1,12 @@
 //! Scopes and their variables: those of a frame, and the variables, the locks and the deques of all workers.
 
-use crate::activation::Activation;
-use crate::asked::Asked;
-use crate::frame_name::FrameName;
-use crate::lines::{standing_in, variable_in};
-use crate::message::Message;
 use crate::opened::Opened;
 use crate::refusal::{Refusal, told};
+use cilk_dap_messages::{
+    Asked, DEQUES, FrameName, GLOBALS, LOCKS, Message, put_scopes, put_standings, put_variables,
+    put_variables_in,
+};
 use cilk_debug::What;
-use std::alloc::AllocError;
-
-/// The number of the scope that has the variables of the top level. The scope of a frame has the number of that.
-pub(crate) const GLOBALS: u64 = 1;
-
-const LOCKS: u64 = 2;
-
-const DEQUES: u64 = 3;
-
-// The scopes that all frames have.
-const SHARED: &[(&str, u64)] = &[("Globals", GLOBALS), ("Locks", LOCKS), ("Deques", DEQUES)];
 
 /// The scopes of a frame.
 pub(crate) fn tell_scopes(asked: &Asked<'_>, message: &mut Message) -> Result<(), Refusal> {
@@ -26,23 +14,6 @@ pub(crate) fn tell_scopes(asked: &Asked<'_>, message: &mut Message) -> Result<()
         return Err(Refusal::Words("a frame is wanted"));
     };
     told(put_scopes(frame, message))
-}
-
-fn put_scopes(frame: u64, message: &mut Message) -> Result<(), AllocError> {
-    message.begin_body("scopes")?;
-    put_scope("Frame", frame, message)?;
-    for (name, number) in SHARED {
-        put_scope(name, *number, message)?;
-    }
-    message.end_body()
-}
-
-fn put_scope(name: &str, number: u64, message: &mut Message) -> Result<(), AllocError> {
-    message.begin_item()?;
-    message.text("name", name)?;
-    message.number("variablesReference", number)?;
-    message.flag("expensive", false)?;
-    message.end()
 }
 
 impl Opened {
@@ -88,37 +59,4 @@ impl Opened {
             Ok(found) => told(put_variables_in(found.as_slice(), message)),
         }
     }
-}
-
-fn put_variables_in(found: &[Activation], message: &mut Message) -> Result<(), AllocError> {
-    for activation in found {
-        put_variables(activation.variables.as_str(), message)?;
-    }
-    Ok(())
-}
-
-fn put_variables(view: &str, message: &mut Message) -> Result<(), AllocError> {
-    for line in view.lines() {
-        if let Some((name, value)) = variable_in(line) {
-            put_variable(name, value, message)?;
-        }
-    }
-    Ok(())
-}
-
-fn put_standings(view: &str, message: &mut Message) -> Result<(), AllocError> {
-    for line in view.lines() {
-        if let Some((name, value)) = standing_in(line) {
-            put_variable(name, value, message)?;
-        }
-    }
-    Ok(())
-}
-
-fn put_variable(name: &str, value: &str, message: &mut Message) -> Result<(), AllocError> {
-    message.begin_item()?;
-    message.text("name", name)?;
-    message.text("value", value)?;
-    message.number("variablesReference", 0)?;
-    message.end()
 }

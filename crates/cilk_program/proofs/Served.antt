@@ -1,8 +1,8 @@
 -- Why an editor is answered no more.
 use Rattle.std.specs.Prelude.{◌≢◌}
 use Rattle.cilk_program_runs.specs.commands.declared.status.Status.TheVariants as status
-use Rattle.cilk_dap.specs.declared.fault.MessageFault.{MessageFault}
-use Rattle.cilk_dap.specs.declared.fault.MessageFault.TheVariants as ending
+use Rattle.cilk_dap.specs.messages.declared.fault.MessageFault.{MessageFault}
+use Rattle.cilk_dap.specs.messages.declared.fault.MessageFault.TheVariants as ending
 use Rattle.cilk_program.specs.Serving.{IsOfServing, exchange_ended}
 use Rattle.cilk_program_runs.specs.Telling.{status_of}
 

@@ -2,8 +2,8 @@
 use Rattle.std.specs.Prelude.{⊤, ◌≡◌, ℕ, List, [], Option}
 use Rattle.cilk_program_runs.specs.commands.declared.status.Status.{Status}
 use Rattle.cilk_program_runs.specs.commands.declared.failure.Failure.TheVariants as failure
-use Rattle.cilk_dap.specs.declared.fault.MessageFault.{MessageFault}
-use Rattle.cilk_dap.specs.declared.fault.MessageFault.TheVariants as ending
+use Rattle.cilk_dap.specs.messages.declared.fault.MessageFault.{MessageFault}
+use Rattle.cilk_dap.specs.messages.declared.fault.MessageFault.TheVariants as ending
 use Rattle.cilk_program_runs.specs.GivingUp.{TellsWith}
 use Rattle.cilk_program_runs.specs.Telling.{status_of}
 use Rattle.cilk_program_runs.specs.declared.failure.RecordFailure.{RecordFailure}

@@ -2,7 +2,6 @@
 
 use crate::asked::Asked;
 use crate::message::Message;
-use crate::refusal::{Refusal, told};
 use std::alloc::AllocError;
 
 // What is supported, but for what each adapter supports.
@@ -16,18 +15,19 @@ const SUPPORTED: [&str; 7] = [
     "supportsTerminateRequest",
 ];
 
-/// The answer to `initialize`, where the editor counts lines and names files as is done here.
-pub(crate) fn tell_capabilities(asked: &Asked<'_>, message: &mut Message) -> Result<(), Refusal> {
+/// Why an editor is not answered that counts lines or names files in another way than is done here.
+pub fn unlike_here(asked: &Asked<'_>) -> Option<&'static str> {
     if !asked.flag("linesStartAt1", true) || !asked.flag("columnsStartAt1", true) {
-        return Err(Refusal::Words("lines and columns count from 1 here"));
+        return Some("lines and columns count from 1 here");
     }
     if let Some("uri") = asked.text("pathFormat") {
-        return Err(Refusal::Words("files are named by paths here"));
+        return Some("files are named by paths here");
     }
-    told(put_capabilities(message))
+    None
 }
 
-fn put_capabilities(message: &mut Message) -> Result<(), AllocError> {
+/// The answer to `initialize`.
+pub fn put_capabilities(message: &mut Message) -> Result<(), AllocError> {
     message.begin("body")?;
     for name in SUPPORTED {
         message.flag(name, true)?;

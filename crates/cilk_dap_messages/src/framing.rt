@@ -1,7 +1,7 @@
 //! The messages of an input, one behind the other: a header, and as many bytes as it tells.
 
 ghost use Rattle.std.specs.Prelude.{◌≤◌, IfOk, length};
-ghost use Rattle.cilk_dap.specs.Framing.{HasAtMost};
+ghost use Rattle.cilk_dap_messages.specs.Framing.{HasAtMost};
 
 use crate::fault::MessageFault;
 use crate::header::{length_in, take_header};
@@ -12,12 +12,15 @@ use std::io::{ErrorKind, Read};
 /// A message has at most so many bytes behind its header.
 pub(crate) const MOST_BYTES: usize = 1_048_576;
 
+/// Why a message that has more is neither read nor sent.
+pub const TOO_LONG: &str = "the message has more than 1048576 bytes";
+
 // Bytes that nobody wants are read in portions of so many.
 const PORTION: usize = 4_096;
 
 /// What stands next in an input.
 #[derive(Drop)]
-pub(crate) enum Incoming {
+pub enum Incoming {
     /// The bytes of a message, without its header.
     Body(Vec<u8>),
     /// A message with more than `MOST_BYTES` bytes, which were passed over.
@@ -27,7 +30,7 @@ pub(crate) enum Incoming {
 }
 
 /// Reads the next message, and no byte behind it.
-pub(crate) fn next_message<R: Read>(alloc: Global, reader: &mut R) -> Result<Incoming, MessageFault>
+pub fn next_message<R: Read>(alloc: Global, reader: &mut R) -> Result<Incoming, MessageFault>
     ensures { IfOk result (HasAtMost 1048576) }
 {
     match next_length(alloc, reader) {

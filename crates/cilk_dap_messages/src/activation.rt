@@ -4,7 +4,7 @@ use crate::lines::put_line;
 use std::alloc::{AllocError, Global};
 
 /// An activation, as `frame` shows it.
-pub(crate) struct Activation {
+pub struct Activation {
     /// The name of its procedure, inlet or function.
     pub name: String,
     /// The line on which it goes on.

@@ -1,10 +1,11 @@
 //! What follows a response.
 
+use crate::fault::MessageFault;
 use crate::stop::Stop;
 
 /// What an editor is told behind the response to its request.
 #[derive(Clone, Copy)]
-pub(crate) enum After {
+pub enum After {
     /// Nothing.
     Nothing,
     /// Breakpoints may be set now.
@@ -15,4 +16,12 @@ pub(crate) enum After {
     Terminated,
     /// No request more is answered.
     Quit,
+}
+
+/// What follows a response that was sent.
+pub fn followed(after: After, sent: Result<(), MessageFault>) -> Result<After, MessageFault> {
+    match sent {
+        Err(fault) => Err(fault),
+        Ok(()) => Ok(after),
+    }
 }

@@ -2,7 +2,7 @@
 
 /// What is asked for. Of each the protocol tells what its arguments are.
 #[derive(Clone, Copy)]
-pub(crate) enum Ask {
+pub enum Ask {
     /// What the adapter can do.
     Initialize,
     /// That a program and a log are opened.
@@ -78,7 +78,7 @@ const WORDS: &[(&str, Ask)] = &[
 ];
 
 /// What a word asks for. (A `match` over as many texts is dear to prove.)
-pub(crate) fn ask_of(word: &str) -> Ask {
+pub fn ask_of(word: &str) -> Ask {
     ask_in(WORDS, word)
 }
 

@@ -2,7 +2,7 @@
 
 /// Why a program stands still again.
 #[derive(Clone, Copy)]
-pub(crate) enum Stop {
+pub enum Stop {
     /// It was just opened, or begun again.
     Entry,
     /// So many choices were made as were asked for.

@@ -1,7 +1,7 @@
 -- What is read of a message.
 use Rattle.std.specs.Prelude.{⊤, ◌≤◌, ℕ, length}
-use Rattle.cilk_dap.specs.declared.framing.Incoming.{Incoming}
-use Rattle.cilk_dap.specs.declared.framing.Incoming.TheVariants.{Body, TooLong, End}
+use Rattle.cilk_dap_messages.specs.declared.framing.Incoming.{Incoming}
+use Rattle.cilk_dap_messages.specs.declared.framing.Incoming.TheVariants.{Body, TooLong, End}
 
 -- no more bytes are kept of it
 abbrev pub HasAtMost : ℕ → Incoming → Type 0

@@ -28,7 +28,7 @@ pub(crate) fn put_line(line: &str, out: &mut String) -> Result<(), AllocError> {
 }
 
 /// The line that tells of a worker, counted from 1, in the view `where`: its first line is that of the position.
-pub(crate) fn worker_line<'a>(view: &'a str, worker: u64) -> Option<&'a str> {
+pub fn worker_line<'a>(view: &'a str, worker: u64) -> Option<&'a str> {
     if worker == 0 {
         return None;
     }
@@ -43,14 +43,14 @@ pub(crate) fn worker_line<'a>(view: &'a str, worker: u64) -> Option<&'a str> {
 }
 
 /// The path of the instance in the hand of a worker, in the line of `where` on it: `worker 2 at /1 line 5`.
-pub(crate) fn hand_in<'a>(line: &'a str) -> Option<&'a str> {
+pub fn hand_in<'a>(line: &'a str) -> Option<&'a str> {
     let (_, behind) = line.split_once(" at ")?;
     let (path, _) = behind.split_once(" line ")?;
     Some(path)
 }
 
 /// The path of the instance that made the one with this path: `/1` of `/1/2`, `/` of `/1`, and none of `/`.
-pub(crate) fn parent_of<'a>(path: &'a str) -> Option<&'a str> {
+pub fn parent_of<'a>(path: &'a str) -> Option<&'a str> {
     let (front, last) = path.rsplit_once('/')?;
     if !front.is_empty() {
         Some(front)

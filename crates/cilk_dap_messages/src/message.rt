@@ -5,7 +5,7 @@ use serde_json::{Map, Value, push, put};
 use std::alloc::{AllocError, Global};
 
 /// A message that is being made. Its nesting is the caller's: what is begun is ended.
-pub(crate) struct Message {
+pub struct Message {
     alloc: Global,
     /// What was begun and has not ended, from the outermost on.
     begun: Vec<Begun>,
@@ -34,7 +34,7 @@ struct Begun {
 
 impl Message {
     /// A response to a request, without what it tells, and with whether what was asked is done.
-    pub(crate) fn response(
+    pub fn response(
         alloc: Global,
         number: u64,
         asked: &Asked<'_>,
@@ -53,7 +53,7 @@ impl Message {
     }
 
     /// An event, without what it tells.
-    pub(crate) fn event(alloc: Global, number: u64, name: &str) -> Result<Message, AllocError> {
+    pub fn event(alloc: Global, number: u64, name: &str) -> Result<Message, AllocError> {
         let mut message = Message::begun(alloc, number, "event")?;
         let put = message.text("event", name);
         message.with(put)
@@ -135,13 +135,13 @@ impl Message {
     }
 
     /// What is told begins, a list of this name.
-    pub(crate) fn begin_body(&mut self, name: &str) -> Result<(), AllocError> {
+    pub fn begin_body(&mut self, name: &str) -> Result<(), AllocError> {
         self.begin("body")?;
         self.begin_list(name)
     }
 
     /// That list ends, and what is told.
-    pub(crate) fn end_body(&mut self) -> Result<(), AllocError> {
+    pub fn end_body(&mut self) -> Result<(), AllocError> {
         self.end()?;
         self.end()
     }
@@ -166,7 +166,7 @@ impl Message {
     }
 
     /// The last object or list that was begun ends.
-    pub(crate) fn end(&mut self) -> Result<(), AllocError> {
+    pub fn end(&mut self) -> Result<(), AllocError> {
         match self.begun.pop() {
             None => Ok(()),
             Some(last) => {

@@ -4,7 +4,7 @@ use serde_json::Value;
 
 /// A request: what is asked, its number, and its arguments.
 #[derive(Clone, Copy)]
-pub(crate) struct Asked<'a> {
+pub struct Asked<'a> {
     /// The number of the message, which the response tells again.
     pub number: u64,
     /// The word for what is asked.
@@ -15,7 +15,7 @@ pub(crate) struct Asked<'a> {
 
 impl<'a> Asked<'a> {
     /// What is asked by a message, if it is a request.
-    pub(crate) fn by(message: &'a Value) -> Option<Asked<'a>> {
+    pub fn by(message: &'a Value) -> Option<Asked<'a>> {
         if text_in(message, "type") != Some("request") {
             return None;
         }
@@ -27,7 +27,7 @@ impl<'a> Asked<'a> {
     }
 
     /// What has this name among the arguments.
-    pub(crate) fn argument(&self, name: &str) -> Option<&'a Value> {
+    pub fn argument(&self, name: &str) -> Option<&'a Value> {
         match self.arguments {
             None => None,
             Some(arguments) => arguments.get(name),
@@ -35,7 +35,7 @@ impl<'a> Asked<'a> {
     }
 
     /// The text of this name among the arguments.
-    pub(crate) fn text(&self, name: &str) -> Option<&'a str> {
+    pub fn text(&self, name: &str) -> Option<&'a str> {
         match self.arguments {
             None => None,
             Some(arguments) => text_in(arguments, name),
@@ -43,15 +43,20 @@ impl<'a> Asked<'a> {
     }
 
     /// The number of this name among the arguments.
-    pub(crate) fn number(&self, name: &str) -> Option<u64> {
+    pub fn number(&self, name: &str) -> Option<u64> {
         match self.arguments {
             None => None,
             Some(arguments) => number_in(arguments, name),
         }
     }
 
+    /// The worker that a request is about. There is none of number 0.
+    pub fn thread(&self) -> u64 {
+        self.number("threadId").unwrap_or(0)
+    }
+
     /// What is true or false by this name among the arguments, or this where nothing is told.
-    pub(crate) fn flag(&self, name: &str, untold: bool) -> bool {
+    pub fn flag(&self, name: &str, untold: bool) -> bool {
         match self.argument(name) {
             None => untold,
             Some(value) => value.as_bool().unwrap_or(untold),
@@ -68,7 +73,7 @@ pub(crate) fn text_in<'a>(object: &'a Value, name: &str) -> Option<&'a str> {
 }
 
 /// The number of this name in an object.
-pub(crate) fn number_in(object: &Value, name: &str) -> Option<u64> {
+pub fn number_in(object: &Value, name: &str) -> Option<u64> {
     match object.get(name) {
         None => None,
         Some(value) => value.as_u64(),

@@ -1,0 +1,2 @@
+pub mod Framing
+pub mod Naming
