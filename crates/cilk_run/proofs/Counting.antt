@@ -3,7 +3,7 @@ use Rattle.std.proofs.Common.{◌≡◌, ◌≢◌, ℕ, ◌+◌, ◌<◌, ◌�
 use Rattle.std.proofs.Common.{zero-add, arith, length-set, get_or-set_same, get_or-set_other, Bool, true, false, if◌then◌else◌, cond, ◌⊎◌, inl, inr}
 use Rattle.std.proofs.lemmas.List.Sums.{sum_by-append, count_by-le-length}
 use Rattle.std.proofs.lemmas.Bool.Decides.{nat_tests}
-use Rattle.cilk_log.specs.choices.declared.choice.Choice.{Choice}
+use Rattle.cilk_run.specs.choices.declared.choice.Choice.{Choice}
 use Rattle.cilk_run.specs.Histories.{turns_of, IsCounted}
 
 turns_of-more : (w : ℕ) (h : List Choice) (c : Choice) → turns_of w (h ++ c ∷ []) ≡ turns_of w h + (if c.worker == w then 1 else 0)

@@ -2,7 +2,7 @@
 use Rattle.std.proofs.Common.{◌≡◌, ℕ, zero, suc, ◌+◌, ◌-◌, ◌<◌, ◌≤◌, Bool, true, false, List, [], ◌∷◌, ◌++◌, length, map, Option, Some, None, refl, sym, ap}
 use Rattle.std.proofs.Common.{◌∙◌, subst, arith, append_assoc, if◌then◌else◌}
 use Rattle.std.proofs.lemmas.List.{append-nil, length-map, length-append, map-append}
-use Rattle.cilk_run.specs.Histories.{Locked}
+use Rattle.cilk_run.specs.locked.Histories.{Locked}
 use Rattle.cilk_run.specs.Runs.{Stops}
 use Rattle.std.specs.Prelude.{Result, Ok, Err, IfOk}
 use Rattle.cilk_run.specs.choices.Words.{choice_of}

@@ -1,32 +1,22 @@
--- One choice more, and what a run gives.
-use Rattle.std.proofs.Common.{◌≡◌, ◌≤◌, ℕ, Bool, true, false, List, [], ◌∷◌, ◌++◌, length, map, Some, sym, ap, ◌∙◌, arith, subst}
-use Rattle.std.proofs.lemmas.List.{length-map, map-append}
-use Rattle.cilk_machine.specs.syntax.Tree.{Program}
-use Rattle.cilk_machine.specs.labelled.Bodies.{label}
-use Rattle.cilk_machine.specs.labelled.Labelled.{Labelled}
-use Rattle.cilk_machine.specs.model.State.{Outcome, running, finished, trapped}
-use Rattle.cilk_machine.specs.model.Event.{Event}
-use Rattle.cilk_machine.specs.model.Run.{Standing, after, next_of}
-use Rattle.cilk_machine.specs.model.End as model
-use Rattle.cilk_log.specs.syntax.ProgramText.{program_text}
-use Rattle.cilk_log.specs.choices.Words.{choice_of, end_of}
-use Rattle.cilk_log.specs.Naming.{digest_of}
-use Rattle.cilk_log.specs.choices.declared.choice.Choice as code
-use Rattle.cilk_machine.specs.Situation.{Situation, workers_of}
-use Rattle.cilk_machine.specs.Made.{Makes}
-use Rattle.cilk_machine.specs.Stands.{Led, StandsAt}
-use Rattle.cilk_run.specs.Histories.{IsLedBy, IsCounted}
+-- What a run gives.
+use Rattle.std.proofs.Common.{◌≡◌, ◌≤◌, ℕ, Bool, true, false, List, length, map, Some, sym, ap, ◌∙◌, arith, subst}
+use Rattle.std.proofs.lemmas.List.{length-map}
+use Rattle.cilk_run.specs.syntax.Tree.{Program}
+use Rattle.cilk_run.specs.labelled.Bodies.{label}
+use Rattle.cilk_run.specs.labelled.Labelled.{Labelled}
+use Rattle.cilk_run.specs.model.State.{Outcome, running, finished, trapped}
+use Rattle.cilk_run.specs.model.Run.{Standing, after}
+use Rattle.cilk_run.specs.model.End as model
+use Rattle.cilk_run.specs.log.syntax.ProgramText.{program_text}
+use Rattle.cilk_run.specs.choices.Words.{choice_of, end_of}
+use Rattle.cilk_run.specs.log.Naming.{digest_of}
+use Rattle.cilk_run.specs.choices.declared.choice.Choice as code
+use Rattle.cilk_run.specs.machine.Situation.{Situation, workers_of}
+use Rattle.cilk_run.specs.machine.Stands.{StandsAt}
+use Rattle.cilk_run.specs.locked.Histories.{IsLedBy}
+use Rattle.cilk_run.specs.Histories.{IsCounted}
 use Rattle.cilk_run.specs.Runs.{Stops, IsRun}
 use Rattle.cilk_run.specs.declared.run_result.Run.{Run}
-
-pub led-on : (made : List code.Choice) (m n : Situation) (choice : code.Choice) (did : Event) → Makes m n (choice_of choice) did
-    → IsLedBy m made → IsLedBy n (made ++ choice ∷ [])
-led-on made m n choice did makes l = record {
-  events = l.events ++ did ∷ [];
-  at = next_of (label m.program) l.at (choice_of choice);
-  led = subst (λ cs. Led n cs (l.events ++ did ∷ []) (next_of (label m.program) l.at (choice_of choice))) (sym (map-append choice_of made (choice ∷ [])))
-      (makes.leads (map choice_of made) l.events l.at l.led).led;
-}
 
 -- as many choices as the machine counts
 pub led-counted : (m : Situation) (made : List code.Choice) → IsLedBy m made → m.choices ≡ length made

@@ -1,6 +1,6 @@
 -- What the code has of a schedule that is being drawn.
 use Rattle.std.specs.Prelude.{◌≡◌, ◌-◌, ◌++◌, ℕ, List, [], ◌∷◌, length, map, Some}
-use Rattle.cilk_run.specs.Histories.{Locked}
+use Rattle.cilk_run.specs.locked.Histories.{Locked}
 use Rattle.cilk_run.specs.choices.Words.{choice_of}
 use Rattle.cilk_run.specs.choices.declared.choice.Choice as code
 use Rattle.cilk_run.specs.labelled.Bodies.{label}

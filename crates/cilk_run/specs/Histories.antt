@@ -1,29 +1,15 @@
--- A machine whose choices are kept, and how many of them each worker made.
-use Rattle.std.specs.Prelude.{◌≡◌, ◌+◌, ◌<◌, ◌==◌, ℕ, Bool, List, length, map, count_by, slice_index}
-use Rattle.cilk_machine.specs.model.Event.{Event}
-use Rattle.cilk_machine.specs.model.Run.{Standing}
-use Rattle.cilk_log.specs.choices.Words.{choice_of}
-use Rattle.cilk_log.specs.choices.declared.choice.Choice.{Choice}
-use Rattle.cilk_machine.specs.Situation.{Situation}
-use Rattle.cilk_machine.specs.Stands.{Led}
+-- A history at which workers take turns, and how many of its choices each worker made.
+use Rattle.std.specs.Prelude.{◌≡◌, ◌+◌, ◌<◌, ◌==◌, ℕ, Bool, List, length, count_by, slice_index}
+use Rattle.cilk_run.specs.choices.declared.choice.Choice.{Choice}
+use Rattle.cilk_run.specs.machine.Situation.{Situation}
 
--- what contracts see of a `Locked`: a machine and a list of choices
-pub record Locked : Type 0 where
-  pub machine : Situation
-  pub history : List Choice
-
--- and of a `Table`: the same, with the two reasons to end that are not the machine's: want of memory, and that all are told to
+-- what contracts see of a `Table`: as of a `Locked`, a machine and a list of choices, with the two reasons to end that are not the machine's: want of
+-- memory, and that all are told to
 pub record Posted : Type 0 where
   pub machine : Situation
   pub history : List Choice
   pub short : Bool
   pub stopped : Bool
-
--- from the start of its program, with as many workers as it has, these choices lead to the machine
-pub record IsLedBy (m : Situation) (history : List Choice) : Type 0 where
-  pub events : List Event
-  pub at : Standing
-  pub led : Led m (map choice_of history) events at
 
 -- the number of a worker's choices
 abbrev pub turns_of : ℕ → List Choice → ℕ

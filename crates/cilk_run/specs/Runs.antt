@@ -1,14 +1,14 @@
 -- What a run is.
 use Rattle.std.specs.Prelude.{◌≡◌, ◌≤◌, ℕ, length, map, Some}
-use Rattle.cilk_machine.specs.syntax.Tree.{Program}
-use Rattle.cilk_machine.specs.labelled.Bodies.{label}
-use Rattle.cilk_machine.specs.model.End as model
-use Rattle.cilk_machine.specs.model.Run.{Standing, Position, after}
-use Rattle.cilk_log.specs.syntax.ProgramText.{program_text}
-use Rattle.cilk_log.specs.choices.Words.{choice_of, end_of}
-use Rattle.cilk_log.specs.Naming.{digest_of}
-use Rattle.cilk_machine.specs.Situation.{Situation}
-use Rattle.cilk_machine.specs.Stands.{StandsAt}
+use Rattle.cilk_run.specs.syntax.Tree.{Program}
+use Rattle.cilk_run.specs.labelled.Bodies.{label}
+use Rattle.cilk_run.specs.model.End as model
+use Rattle.cilk_run.specs.model.Run.{Standing, Position, after}
+use Rattle.cilk_run.specs.log.syntax.ProgramText.{program_text}
+use Rattle.cilk_run.specs.choices.Words.{choice_of, end_of}
+use Rattle.cilk_run.specs.log.Naming.{digest_of}
+use Rattle.cilk_run.specs.machine.Situation.{Situation}
+use Rattle.cilk_run.specs.machine.Stands.{StandsAt}
 use Rattle.cilk_run.specs.Histories.{IsCounted}
 use Rattle.cilk_run.specs.declared.run_result.Run.{Run}
 

@@ -1,10 +1,10 @@
 -- What a turn does.
 use Rattle.std.specs.Prelude.{◌≡◌, ◌⊎◌, ◌||◌, ◌+◌, ℕ, Bool, true, List, [], ◌∷◌, ◌++◌, Option, Some, slice_get}
-use Rattle.cilk_log.specs.choices.declared.act.Act.{Act}
-use Rattle.cilk_machine.specs.step.Peeks.{code_at}
-use Rattle.cilk_machine.specs.nodes.declared.slot.Slot.{Slot}
-use Rattle.cilk_machine.specs.labelled.Term.{Term}
-use Rattle.cilk_machine.specs.syntax.Tree.{Program}
+use Rattle.cilk_run.specs.choices.declared.act.Act.{Act}
+use Rattle.cilk_run.specs.step.Peeks.{code_at}
+use Rattle.cilk_run.specs.machine.nodes.declared.slot.Slot.{Slot}
+use Rattle.cilk_run.specs.labelled.Term.{Term}
+use Rattle.cilk_run.specs.syntax.Tree.{Program}
 use Rattle.cilk_run.specs.Histories.{Posted}
 use Rattle.cilk_run.specs.Runs.{Stops}
 use Rattle.cilk_run.specs.declared.post.Begun.{Begun}

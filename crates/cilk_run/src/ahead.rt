@@ -1,11 +1,11 @@
 //! The expressions that the workers of a run evaluate without the lock.
 
 ghost use Rattle.std.specs.Prelude.{◌≡◌, ◌<◌, length, IfOk, IfSome, Some};
-ghost use Rattle.cilk_machine.specs.step.Peeks.{code_at};
+ghost use Rattle.cilk_run.specs.step.Peeks.{code_at};
 ghost use Rattle.cilk_run.specs.Turning.{IsListed};
 
 use crate::table::Setting;
-use cilk_machine::{Listed, Loaded, Memory, code_numbered};
+use cilk_run_locked::{Listed, Loaded, Memory, code_numbered};
 use std::alloc::Global;
 use std::marker::{Model, PhantomData};
 
@@ -22,9 +22,9 @@ pub struct Ahead<J: Setting> {
 
 impl<J: Setting> Model for Ahead<J> {
     ghost use Rattle.std.specs.Prelude.{List, Option};
-    ghost use Rattle.cilk_machine.specs.labelled.Term.{Term};
-    ghost use Rattle.cilk_machine.specs.nodes.Coding.{coded_Term};
-    ghost use Rattle.cilk_machine.specs.nodes.declared.slot.Slot.{Slot};
+    ghost use Rattle.cilk_run.specs.labelled.Term.{Term};
+    ghost use Rattle.cilk_run.specs.machine.nodes.Coding.{coded_Term};
+    ghost use Rattle.cilk_run.specs.machine.nodes.declared.slot.Slot.{Slot};
     ghost use Rattle.cilk_run.specs.Turning.{IsListed};
     ghost use Rattle.std.specs.Coded.{codes};
 

@@ -11,7 +11,7 @@ ghost use Rattle.cilk_run.specs.Drawn.{can, can_move, movers, one_of, state_behi
 ghost use Rattle.cilk_run.specs.Generator.{drawn_below, next_state};
 
 use crate::generator::SplitMix;
-use cilk_machine::{Act, Choice, Machine};
+use cilk_run_locked::{Act, Choice, Machine};
 use std::alloc::AllocError;
 
 /// Whether the worker may do so.

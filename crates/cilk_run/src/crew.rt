@@ -1,17 +1,16 @@
 //! `run`: starts the threads of the workers, lets them take turns, and gives the run.
 
 ghost use Rattle.std.specs.Prelude.{◌≡◌, ◌≢◌, ◌<◌, ◌⊎◌, ◌↔◌, [], Err, IfOk, IfErr};
-ghost use Rattle.cilk_machine.specs.Situation.{workers_of};
+ghost use Rattle.cilk_run.specs.machine.Situation.{workers_of};
 ghost use Rattle.cilk_run.specs.Runs.{IsRun};
 
 use crate::ahead::Ahead;
 use crate::gate::Gate;
-use crate::locked::Locked;
 use crate::post::{Post, TurnEnd};
 use crate::run_result::{Run, RunFault};
 use crate::shared::Shared;
 use crate::table::{Setting, Table};
-use cilk_machine::{Loaded, MachineFault};
+use cilk_run_locked::{Loaded, Locked, MachineFault};
 use std::alloc::Global;
 use std::marker::Brand;
 use std::sync::{Condvar, Mutex, Wait};

@@ -9,7 +9,7 @@ ghost use Rattle.cilk_run.specs.Drawing.{turn_with};
 
 use crate::choosing::{any_of, can, find_movers, find_victims, one_of};
 use crate::generator::SplitMix;
-use cilk_machine::{Act, Choice, Machine};
+use cilk_run_locked::{Act, Choice, Machine};
 use std::alloc::{AllocError, Global};
 use std::marker::Model;
 

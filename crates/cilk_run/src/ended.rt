@@ -1,61 +1,62 @@
-//! The `Run` of a machine with its history, once nothing is left to do (`Locked::into_run`), and what it closes with (`closing`), which `Table` asks for too.
+//! The `Run` of a machine with its history, once nothing is left to do (`run_of`), and what it closes with (`closing`), which `Table` asks for too.
 
 ghost use Rattle.std.specs.Prelude.{◌≡◌, ◌<◌, ◌^◌, length, IfOk, IfErr};
-ghost use Rattle.cilk_log.specs.choices.Words.{end_of};
-ghost use Rattle.cilk_machine.specs.Situation.{workers_of};
-ghost use Rattle.cilk_machine.specs.Stands.{StandsAt};
-ghost use Rattle.cilk_machine.specs.labelled.Bodies.{label};
-ghost use Rattle.cilk_machine.specs.model.End as model;
-ghost use Rattle.cilk_machine.specs.model.Run.{Standing};
+ghost use Rattle.cilk_run.specs.choices.Words.{end_of};
+ghost use Rattle.cilk_run.specs.machine.Situation.{workers_of};
+ghost use Rattle.cilk_run.specs.machine.Stands.{StandsAt};
+ghost use Rattle.cilk_run.specs.labelled.Bodies.{label};
+ghost use Rattle.cilk_run.specs.model.End as model;
+ghost use Rattle.cilk_run.specs.model.Run.{Standing};
 ghost use Rattle.cilk_run.specs.Histories.{IsCounted};
 ghost use Rattle.cilk_run.specs.Runs.{IsRun, Stops};
 
-use crate::locked::Locked;
 use crate::run_lists::{ChoiceCounts, Output};
 use crate::run_result::{Run, RunFault};
 use crate::table::{count, digest_of_program};
-use cilk_log::Log;
-use cilk_machine::{Choice, End, Machine, Memory};
+use cilk_run_locked::{Choice, End, Locked, Log, Machine, Memory};
 use std::alloc::Global;
 
-impl Locked {
-    /// The run that its choices are: with so many workers, and at most so many choices.
-    pub fn into_run(self, alloc: Global, workers: u8, limit: u32) -> Result<Run, RunFault>
-        requires crew { workers_of self.machine ≡ workers }
-        requires over { Stops limit self.machine }
-        ensures ok { IfOk result (λ r. IsRun self.machine.program workers limit r) }
-        ensures choices { IfOk result (λ r. r.log.choices ≡ self.history) }
-        ensures err { IfErr result (λ e. e ≡ RunFault.Memory) }
-    {
-        let Ok(digest) = digest_of_program(self.machine().loaded()) else {
-            return Err(RunFault::Memory);
-        };
-        match turns_in(alloc, self.history(), workers) {
+/// The run that the choices of a machine with its history are: with so many workers, and at most so many choices.
+pub(crate) fn run_of(
+    alloc: Global,
+    locked: Locked,
+    workers: u8,
+    limit: u32,
+) -> Result<Run, RunFault>
+    requires crew { workers_of locked.machine ≡ workers }
+    requires over { Stops limit locked.machine }
+    ensures ok { IfOk result (λ r. IsRun locked.machine.program workers limit r) }
+    ensures choices { IfOk result (λ r. r.log.choices ≡ locked.history) }
+    ensures err { IfErr result (λ e. e ≡ RunFault.Memory) }
+{
+    let Ok(digest) = digest_of_program(locked.machine().loaded()) else {
+        return Err(RunFault::Memory);
+    };
+    match turns_in(alloc, locked.history(), workers) {
+        Err(_) => {
+            drop(locked);
+            Err(RunFault::Memory)
+        }
+        Ok(turns) => match closing(alloc, locked.machine()) {
             Err(_) => {
-                drop(self);
+                drop(locked);
+                drop(turns);
                 Err(RunFault::Memory)
             }
-            Ok(turns) => match closing(alloc, self.machine()) {
-                Err(_) => {
-                    drop(self);
-                    drop(turns);
-                    Err(RunFault::Memory)
-                }
-                Ok((end, output)) => {
-                    let log = Log {
-                        program: Some(digest),
-                        workers,
-                        choices: self.into_choices(),
-                    };
-                    Ok(Run {
-                        end,
-                        log,
-                        output,
-                        turns: ChoiceCounts::new(turns),
-                    })
-                }
-            },
-        }
+            Ok((end, output)) => {
+                let log = Log {
+                    program: Some(digest),
+                    workers,
+                    choices: locked.into_choices(),
+                };
+                Ok(Run {
+                    end,
+                    log,
+                    output,
+                    turns: ChoiceCounts::new(turns),
+                })
+            }
+        },
     }
 }
 

@@ -8,7 +8,7 @@ ghost use Rattle.cilk_run.specs.Tallying.{outcome_by};
 
 use crate::playing::run_by_seed;
 use crate::run_result::{Run, RunFault};
-use cilk_machine::{End, Loaded, Memory, put_trapped};
+use cilk_run_locked::{End, Loaded, Memory, put_trapped};
 use std::alloc::Global;
 
 /// What a run printed, and the words of its closing line, without a number of choices.

@@ -12,9 +12,9 @@ ghost use Rattle.cilk_run.specs.Drawn.{drawn, turn_of};
 ghost use Rattle.cilk_run.specs.Drawing.{Follows, Goes};
 
 use crate::draws::Draws;
-use crate::locked::Locked;
+use crate::ended::run_of;
 use crate::run_result::{Run, RunFault};
-use cilk_machine::{Loaded, MachineFault};
+use cilk_run_locked::{Loaded, Locked, MachineFault};
 use std::alloc::Global;
 
 /// Runs a program with 1 to 64 workers, which are simulated: their choices are those that the seed names, at most `limit`, and no thread is started.
@@ -54,7 +54,7 @@ fn play_from(
     ensures err { IfErr result (λ e. e ≡ RunFault.Memory) }
 {
     match play_to_end(locked, Draws::new(alloc, workers, seed), limit) {
-        Ok(locked) => locked.into_run(alloc, workers, limit),
+        Ok(locked) => run_of(alloc, locked, workers, limit),
         Err(fault) => Err(fault),
     }
 }

@@ -1,6 +1,6 @@
 //! What workers take turns at, as their threads see it, and how a turn ends.
 
-use cilk_machine::Known;
+use cilk_run_locked::Known;
 use std::sync::Wait;
 
 /// What workers take turns at, one at a time. It is a trait, so that threads are proved without what their workers share.

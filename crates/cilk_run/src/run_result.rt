@@ -1,8 +1,7 @@
 //! `Run`, which tells of a whole run its end, log, output and turns, and `RunFault`, why there is none.
 
 use crate::run_lists::{ChoiceCounts, Output};
-use cilk_log::Log;
-use cilk_machine::End;
+use cilk_run_locked::{End, Log};
 
 /// A run that ended, was stuck, or came to its limit.
 #[derive(Debug, Drop)]

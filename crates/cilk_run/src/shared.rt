@@ -5,7 +5,7 @@ ghost use Rattle.std.specs.Prelude.{◌≡◌};
 use crate::ahead::Ahead;
 use crate::post::{Begun, Post, TurnEnd};
 use crate::table::{Setting, Table};
-use cilk_machine::Known;
+use cilk_run_locked::Known;
 use std::sync::{Mutex, Wait};
 
 /// The machine with its history under a lock, and beside it what may be evaluated without it.

@@ -2,26 +2,26 @@
 
 ghost use Rattle.std.specs.Prelude.{ℕ, ◌+◌, ◌≡◌, ◌≢◌, ◌<◌, ◌≤◌, ◌⊎◌, [], ◌∷◌, ◌++◌, length, slice_index, slice_set, ◌-◌, ◌^◌, true, Some, IfOk, IfErr};
 ghost use Rattle.std.specs.Prelude.{None, IfSome, OnOk, OnErr};
-ghost use Rattle.cilk_log.specs.syntax.ProgramText.{program_text};
-ghost use Rattle.cilk_log.specs.choices.Words.{choice_of, reason_of};
-ghost use Rattle.cilk_log.specs.Naming.{digest_of};
-ghost use Rattle.cilk_machine.specs.Situation.{workers_of};
-ghost use Rattle.cilk_machine.specs.Made.{IsRefused};
-ghost use Rattle.cilk_machine.specs.eval.Known.{known};
-ghost use Rattle.cilk_machine.specs.labelled.Value.{value_of};
-ghost use Rattle.cilk_machine.specs.step.Peeks.{code_at};
+ghost use Rattle.cilk_run.specs.log.syntax.ProgramText.{program_text};
+ghost use Rattle.cilk_run.specs.choices.Words.{choice_of, reason_of};
+ghost use Rattle.cilk_run.specs.log.Naming.{digest_of};
+ghost use Rattle.cilk_run.specs.machine.Situation.{workers_of};
+ghost use Rattle.cilk_run.specs.machine.Made.{IsRefused};
+ghost use Rattle.cilk_run.specs.machine.eval.Known.{known};
+ghost use Rattle.cilk_run.specs.labelled.Value.{value_of};
+ghost use Rattle.cilk_run.specs.step.Peeks.{code_at};
 ghost use Rattle.cilk_run.specs.Histories.{IsCounted};
 ghost use Rattle.cilk_run.specs.Runs.{IsRun, Stops};
 ghost use Rattle.cilk_run.specs.Turning.{IsTurn, IsBegun, IsOver, is_broken};
 
 use crate::ahead::Ahead;
 use crate::ended::closing;
-use crate::locked::Locked;
 use crate::post::{Begun, TurnEnd};
 use crate::run_lists::ChoiceCounts;
 use crate::run_result::{Run, RunFault};
-use cilk_log::{Log, program_of};
-use cilk_machine::{Act, Choice, Known, Listed, Loaded, Memory, Outcome, Refusal, Trap};
+use cilk_run_locked::{
+    Act, Choice, Known, Listed, Loaded, Locked, Log, Memory, Outcome, Refusal, Trap, program_of,
+};
 use std::alloc::Global;
 use std::marker::{Brand, Model, PhantomData};
 
@@ -29,7 +29,7 @@ use std::marker::{Brand, Model, PhantomData};
 /// each time that the lock is got.
 pub trait Setting {
     ghost use Rattle.std.specs.Prelude.{ℕ};
-    ghost use Rattle.cilk_machine.specs.syntax.Tree.{Program};
+    ghost use Rattle.cilk_run.specs.syntax.Tree.{Program};
 
     ghost program: { Program };
 
@@ -69,11 +69,11 @@ pub struct Table<J: Setting> {
 
 impl<J: Setting> Model for Table<J> {
     ghost use Rattle.std.specs.Prelude.{◌≡◌, ◌≤◌, length};
-    ghost use Rattle.cilk_machine.specs.Situation.{workers_of};
+    ghost use Rattle.cilk_run.specs.machine.Situation.{workers_of};
     ghost use Rattle.cilk_run.specs.Histories.{Posted, IsCounted};
-    ghost use Rattle.cilk_log.specs.syntax.ProgramText.{program_text};
-    ghost use Rattle.cilk_log.specs.Naming.{digest_of};
-    ghost use Rattle.cilk_machine.specs.syntax.ProgramCoding.{coded_Program};
+    ghost use Rattle.cilk_run.specs.log.syntax.ProgramText.{program_text};
+    ghost use Rattle.cilk_run.specs.log.Naming.{digest_of};
+    ghost use Rattle.cilk_run.specs.syntax.ProgramCoding.{coded_Program};
     ghost use Rattle.std.specs.Coded.{codes};
 
     ghost Value = { Posted };

@@ -10,7 +10,7 @@ use crate::outcome::{Outcome, outcome_of};
 use crate::row::Row;
 use crate::run_result::RunFault;
 use crate::tally_rows::told;
-use cilk_machine::Loaded;
+use cilk_run_locked::Loaded;
 use std::alloc::{AllocError, Global};
 
 /// Makes the runs of so many seeds, from one on, as `run_by_seed` makes them, and tells which outcomes they have: what was printed, and the words of the

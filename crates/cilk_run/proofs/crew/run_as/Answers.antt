@@ -2,12 +2,12 @@ use denote.Param.Send.{sendable}
 use Rattle.std.proofs.Common.{◌≡◌, ◌≢◌, IfErr, Result, Ok, Err, sym, ◌∙◌}
 use Rattle.std.proofs.Crossing.{crosses}
 use Rattle.std.proofs.option.Option.TheSendSync as option
-use Rattle.cilk_machine.proofs.nodes_laws.code.Code.TheLaws.TheKnot as code
-use Rattle.cilk_machine.proofs.nodes_laws.syntax_laws.operator.BinOp.TheSendSync as bin_op
-use Rattle.cilk_machine.proofs.nodes_laws.syntax_laws.un_op.UnOp.TheSendSync as un_op
+use Rattle.cilk_run.proofs.machine_laws.nodes_laws.code.Code.TheLaws.TheKnot as code
+use Rattle.cilk_run.proofs.machine_laws.nodes_laws.syntax_laws.operator.BinOp.TheSendSync as bin_op
+use Rattle.cilk_run.proofs.machine_laws.nodes_laws.syntax_laws.un_op.UnOp.TheSendSync as un_op
 use Rattle.cilk_run.specs.declared.run_result.RunFault.{RunFault}
 use Rattle.cilk_run.specs.declared.run_result.RunFault.TheVariants.{Workers, Memory}
-use Rattle.cilk_run.proofs.Crosses.{locked_send}
+use Rattle.cilk_run.proofs.locked_laws.Crosses.{locked_send}
 use Rattle.cilk_run.proofs.crew.run_as.Goals as goal
 
 other_than_workers : {A : Type 0} (r : Result A RunFault) → IfErr r (λ e. e ≡ Memory) → IfErr r (λ e. e ≢ Workers)

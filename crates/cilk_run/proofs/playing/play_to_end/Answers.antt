@@ -1,5 +1,5 @@
 use Rattle.std.proofs.Common.{◌≡◌, ◌∙◌, Bool, Ok, ap, arith, false, map, subst, sym, true}
-use Rattle.cilk_run.specs.Histories.{Locked}
+use Rattle.cilk_run.specs.locked.Histories.{Locked}
 use Rattle.cilk_run.specs.Runs.{Stops}
 use Rattle.cilk_run.specs.choices.Words.{choice_of}
 use Rattle.cilk_run.specs.Drawing.{Follows}

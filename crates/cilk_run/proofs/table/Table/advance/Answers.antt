@@ -1,5 +1,5 @@
 use Rattle.std.proofs.Common.{rules, ◌≡◌, sym, subst, ap, ◌∙◌, ◌<◌, ◌-◌, ◌+◌, ◌++◌, ◌∷◌, [], length, slice_index, refl, arith, length-append}
-use Rattle.cilk_log.specs.choices.declared.choice.Choice.{Choice}
+use Rattle.cilk_run.specs.choices.declared.choice.Choice.{Choice}
 use Rattle.cilk_run.specs.Histories.{Posted, IsCounted}
 use Rattle.cilk_run.proofs.Counting.{turns_of-fits, counted-more}
 use Rattle.cilk_run.proofs.table.Table.advance.Goals as goal

@@ -1,6 +1,6 @@
 use Rattle.std.proofs.Common.{rules, ◌≡◌, sym, subst, ap, ◌∙◌, ◌<◌, ◌-◌, ◌+◌, ◌++◌, ◌∷◌, [], length, slice_index, refl, arith, length-append}
-use Rattle.cilk_log.specs.choices.declared.choice.Choice.{Choice}
-use Rattle.cilk_log.specs.choices.declared.act.Act.TheVariants.{Step}
+use Rattle.cilk_run.specs.choices.declared.choice.Choice.{Choice}
+use Rattle.cilk_run.specs.choices.declared.act.Act.TheVariants.{Step}
 use Rattle.cilk_run.specs.Histories.{Posted, IsCounted}
 use Rattle.cilk_run.proofs.Counting.{turns_of-fits, counted-more}
 use Rattle.cilk_run.proofs.table.Table.settle_taken_down.Goals as goal

@@ -1,9 +1,9 @@
 use Rattle.std.proofs.Common.{sym, subst, ap, ◌∙◌, ◌++◌, ◌∷◌, []}
 use Rattle.cilk_machine.specs.spawn.Nodes.{path_at}
 use Rattle.cilk_machine.specs.plans.PartWords.{event_by}
-use Rattle.cilk_run.specs.Histories.{IsLedBy}
-use Rattle.cilk_run.proofs.Ran.{led-on}
-use Rattle.cilk_run.proofs.locked.Locked.advance.Goals as goal
+use Rattle.cilk_run_locked.specs.Histories.{IsLedBy}
+use Rattle.cilk_run_locked.proofs.LedOn.{led-on}
+use Rattle.cilk_run_locked.proofs.locked.Locked.advance.Goals as goal
 
 pub invariant_of-self-2 : goal.invariant_of-self-2
 invariant_of-self-2 c =

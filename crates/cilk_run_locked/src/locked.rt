@@ -10,7 +10,7 @@ ghost use Rattle.cilk_machine.specs.labelled.Value.{value_of};
 ghost use Rattle.cilk_machine.specs.step.Peeks.{code_at};
 ghost use Rattle.cilk_machine.specs.Made.{Makes, MakesBy, IsRefused};
 ghost use Rattle.cilk_machine.specs.Stands.{Opens};
-ghost use Rattle.cilk_run.specs.Histories.{IsLedBy};
+ghost use Rattle.cilk_run_locked.specs.Histories.{IsLedBy};
 
 use crate::glimpse::Glimpse;
 use crate::proposal::Proposal;
@@ -22,7 +22,7 @@ use std::alloc::Global;
 use std::marker::Model;
 
 /// A machine, and the choices that led to it from where its program starts. It has no lock itself: in a run by several workers
-/// it lies in the `Table`, which a mutex holds. One who has it alone may make choices.
+/// it lies in the `Table` of `cilk_run`, which a mutex holds. One who has it alone may make choices.
 #[derive(Drop)]
 pub struct Locked {
     machine: Machine,
@@ -30,8 +30,8 @@ pub struct Locked {
 }
 
 impl Model for Locked {
-    ghost use Rattle.cilk_run.specs.Histories as histories;
-    ghost use Rattle.cilk_run.specs.Histories.{IsLedBy};
+    ghost use Rattle.cilk_run_locked.specs.Histories as histories;
+    ghost use Rattle.cilk_run_locked.specs.Histories.{IsLedBy};
     ghost use Rattle.cilk_machine.specs.syntax.ProgramCoding.{coded_Program};
     ghost use Rattle.std.specs.Coded.{codes};
 
@@ -94,7 +94,7 @@ impl Locked {
 
     /// What the worker's next step evaluates, where it assigns to a variable that is no element, or tests, and neither an element nor `SYNCHED`
     /// stands in the expression. It is refused as a step is, but for one that has to wait. With `propose` and `commit` this is for who takes turns of his
-    /// own, as tests alone do: the workers of `run` take the values down by the number of the action, which needs no path.
+    /// own, as tests alone do: the workers of `cilk_run::run` take the values down by the number of the action, which needs no path.
     pub fn glimpse(&self, worker: u8) -> Result<Option<Glimpse>, Refusal>
         ensures free { OnOk result (look_refused self.now.machine worker ≡ None) }
         ensures looks { IfOk result (λ o. option_map (λ g. g.peek) o ≡ peek_at self.now.machine worker) }
@@ -147,7 +147,7 @@ impl Locked {
 
     /// The same by what was taken down of the step, with the value of the expression of action n over that. An instance that something befell is
     /// told by its number.
-    pub(crate) fn settle_taken_down(
+    pub fn settle_taken_down(
         &mut self,
         worker: u8,
         n: u32,
@@ -224,7 +224,8 @@ impl Locked {
         self.history.as_slice()
     }
 
-    pub(crate) fn into_choices(self) -> Choices
+    /// The choices that led to it, for the log of a run. The machine is dropped.
+    pub fn into_choices(self) -> Choices
         ensures { result ≡ self.history }
     {
         Choices::of(self.history)

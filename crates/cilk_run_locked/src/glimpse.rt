@@ -1,4 +1,4 @@
-//! What a worker sees of its step. The workers of `run` do without (`Table::begin_turn`).
+//! What a worker sees of its step. The workers of `cilk_run::run` do without (`Table::begin_turn`).
 
 ghost use Rattle.std.specs.Prelude.{◌≡◌};
 ghost use Rattle.cilk_machine.specs.step.Peeks.{peek_of};
@@ -16,7 +16,7 @@ pub struct Glimpse {
 impl Model for Glimpse {
     ghost use Rattle.cilk_machine.specs.step.Peeks.{peek_of};
     ghost use Rattle.cilk_machine.specs.nodes.Coding.{coded_Term};
-    ghost use Rattle.cilk_run.specs.Glimpses as seen;
+    ghost use Rattle.cilk_run_locked.specs.Glimpses as seen;
     ghost use Rattle.std.specs.Coded.{codes};
 
     ghost Value = { seen.Glimpse };

@@ -1,8 +1,8 @@
 use Rattle.std.proofs.Common.{sym, subst, ap, ◌∙◌, ◌++◌, ◌∷◌, []}
 use Rattle.cilk_log.specs.choices.Words.{event_of}
-use Rattle.cilk_run.specs.Histories.{IsLedBy}
-use Rattle.cilk_run.proofs.Ran.{led-on}
-use Rattle.cilk_run.proofs.locked.Locked.make.Goals as goal
+use Rattle.cilk_run_locked.specs.Histories.{IsLedBy}
+use Rattle.cilk_run_locked.proofs.LedOn.{led-on}
+use Rattle.cilk_run_locked.proofs.locked.Locked.make.Goals as goal
 
 pub invariant_of-self-2 : goal.invariant_of-self-2
 invariant_of-self-2 c =

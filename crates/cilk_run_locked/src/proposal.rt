@@ -1,4 +1,4 @@
-//! The value of what a worker saw of its step. The workers of `run` do without (`Table::begin_turn`).
+//! The value of what a worker saw of its step. The workers of `cilk_run::run` do without (`Table::begin_turn`).
 
 ghost use Rattle.std.specs.Prelude.{◌≡◌};
 ghost use Rattle.cilk_machine.specs.eval.Known.{known};
@@ -23,7 +23,7 @@ impl Model for Proposal {
     ghost use Rattle.cilk_machine.specs.eval.Known.{known};
     ghost use Rattle.cilk_machine.specs.labelled.Value.{value_of};
     ghost use Rattle.cilk_machine.specs.step.Peeks.{peek_of};
-    ghost use Rattle.cilk_run.specs.Glimpses.{Proposed};
+    ghost use Rattle.cilk_run_locked.specs.Glimpses.{Proposed};
     ghost use Rattle.std.specs.Coded.{codes};
 
     ghost Value = { Proposed };
