@@ -101,13 +101,23 @@ fn sees(
 ) {
     let peek = locked.machine().peek(worker).ok().expect(rt, "a step");
     let peek = peek.expect(rt, "an expression");
-    assert_eq!(rt; peek.path.as_slice(), path);
-    assert_eq!(rt; peek.n, n);
-    assert_eq!(rt; peek.value().ok(), Some(value));
-    assert_eq!(rt; peek.values.len(), 1);
+    let seen = (peek.n, peek.value().ok(), peek.values.len());
+    is_seen(rt, (peek.path.as_slice(), seen), (path, (n, Some(value), 1)));
     for known in &peek.values {
-        assert_eq!(rt; known.value, held);
+        holds(rt, known.value, held);
     }
+}
+
+// A path, and an action there, its value, and how many variables it reads.
+type Seen<'a> = (&'a [u32], (u32, Option<i32>, usize));
+
+fn is_seen(rt: &impl Abort, (path, rest): Seen<'_>, wanted: Seen<'_>) {
+    assert_eq!(rt; path, wanted.0);
+    assert_eq!(rt; rest, wanted.1);
+}
+
+fn holds(rt: &impl Abort, value: i32, wanted: i32) {
+    assert_eq!(rt; value, wanted);
 }
 
 #[test]
