@@ -28,28 +28,30 @@ fn answers(rt: &impl Abort, alloc: Global, debugger: &mut Debugger, input: &[u8]
     out
 }
 
-// A line may have 4,096 bytes, and there may be 1,000,000 lines.
+// There may be 1,000,000 lines, and a line may have 4,096 bytes.
 #[test]
 fn input_that_is_too_long(rt: HostRuntime) {
     let mut debugger = debugger(&rt, rt.alloc());
-    let mut line = Vec::new(rt.alloc());
-    line.resize(4097, b'x').expect(&rt, "memory");
-    line.push(b'\n').expect(&rt, "memory");
     let mut lines = Vec::new(rt.alloc());
     lines.resize(1_000_000, b'\n').expect(&rt, "memory");
     let told = answers(&rt, rt.alloc(), &mut debugger, &lines);
     assert!(rt; told.is_empty());
     lines.push(b'x').expect(&rt, "memory");
-    for (input, fault) in [
-        (line.as_slice(), InputFault::LineTooLong),
-        (lines.as_slice(), InputFault::TooManyLines),
-    ] {
-        let mut reader = input;
-        let mut out = Vec::new(rt.alloc());
-        let ended = debugger.session(&mut reader, &mut out);
-        assert_eq!(rt; ended, Err(SessionFault::Read(fault)));
-        assert!(rt; out.is_empty());
-    }
+    breaks_off(&rt, rt.alloc(), &lines, InputFault::TooManyLines);
+    let mut line = Vec::new(rt.alloc());
+    line.resize(4097, b'x').expect(&rt, "memory");
+    line.push(b'\n').expect(&rt, "memory");
+    breaks_off(&rt, rt.alloc(), &line, InputFault::LineTooLong);
+}
+
+// A session on this input ends by the fault, and answers nothing.
+fn breaks_off(rt: &impl Abort, alloc: Global, input: &[u8], fault: InputFault) {
+    let mut debugger = debugger(rt, alloc);
+    let mut reader = input;
+    let mut out = Vec::new(alloc);
+    let ended = debugger.session(&mut reader, &mut out);
+    assert_eq!(rt; ended, Err(SessionFault::Read(fault)));
+    assert!(rt; out.is_empty());
 }
 
 // Gives one byte at each call but the one numbered `fails_at`, from 1, which is interrupted.

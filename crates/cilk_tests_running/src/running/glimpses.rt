@@ -102,7 +102,11 @@ fn sees(
     let peek = locked.machine().peek(worker).ok().expect(rt, "a step");
     let peek = peek.expect(rt, "an expression");
     let seen = (peek.n, peek.value().ok(), peek.values.len());
-    is_seen(rt, (peek.path.as_slice(), seen), (path, (n, Some(value), 1)));
+    is_seen(
+        rt,
+        (peek.path.as_slice(), seen),
+        (path, (n, Some(value), 1)),
+    );
     for known in &peek.values {
         holds(rt, known.value, held);
     }

@@ -59,10 +59,7 @@ const REFUSED_WITHOUT_CHILDREN: &[Row] = &[
     (2, Steal(2), Err(Over)),
 ];
 
-const TRAPPED: &[Row] = &[
-    (1, Step, Ok(("trapped", &[], 1))),
-    (1, Step, Err(Over)),
-];
+const TRAPPED: &[Row] = &[(1, Step, Ok(("trapped", &[], 1))), (1, Step, Err(Over))];
 
 // A thief whose own deque is not empty.
 const THIEF: &[Row] = &[
@@ -189,15 +186,17 @@ const CLOSING: &[Row] = &[
     (2, Step, Ok(("returned", &[], 7))),
 ];
 
-const OVER: &[Row] = &[
-    (9, Step, Err(Over)),
-    (2, Steal(1), Err(Over)),
-];
+const OVER: &[Row] = &[(9, Step, Err(Over)), (2, Steal(1), Err(Over))];
 
 // Each program, its workers, its choices, and the closing text behind them.
 const ROWS: &[(&str, u8, &[Row], &str)] = &[
     (SEVEN, 2, REFUSED_WITHOUT_CHILDREN, "main returned 7\n"),
-    (OVERFLOWING, 1, TRAPPED, "trapped Overflow in / at 1, line 2\n"),
+    (
+        OVERFLOWING,
+        1,
+        TRAPPED,
+        "trapped Overflow in / at 1, line 2\n",
+    ),
     (COUNTING, 2, THIEF, "limit after 7 choices\n"),
     (LOOKING, 2, ABORTED, "main returned 1\n"),
     (ADDING, 2, WAITED, "main returned 2\n"),
