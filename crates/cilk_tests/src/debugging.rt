@@ -1,8 +1,5 @@
-//! A debugger goes through recorded schedules, and shows what is there.
+//! A debugger of recorded schedules.
 
-mod breaks;
-mod moves;
-mod views;
 mod work;
 
 use cilk_commands::ready_of;
@@ -11,16 +8,7 @@ use cilk_log::read_log;
 use std::alloc::Global;
 use std::process::Abort;
 
-// The first child that returns aborts the other.
-const LOOKING: &str =
-    "int done; cilk int look(int v) { printf(\"%d\\n\", v); done = done + 1; return v; }
-cilk int main(void) { int best = 0; inlet void take(int v) { best = v; abort; }
-take(spawn look(1)); take(spawn look(2)); sync; return best; }";
-
-// Choice 8 returns `/1`, 10 delivers it, 12 marks `/2` as aborted, and 13 ends it.
-const ABORTED: &str =
-    "cilklog 1\nworkers 2\n1 step\n1 step\n2 steal 1\n2 step\n2 step\n1 step\n1 step\n1 step\n1 steal 2\n\
-     1 step\n1 step\n1 step\n2 step\n1 step\n1 step\n1 step\nend 16\n";
+const SHORT: &str = "cilk int main(void) { return 0; }";
 
 // A debugger of the program and the recorded schedule of two texts.
 fn opened(
@@ -43,5 +31,44 @@ fn told(rt: &impl Abort, alloc: Global, answer: Result<(), DebugFault>) -> Strin
     match answer {
         Ok(()) => String::from_str(alloc, "ok").expect(rt, "memory"),
         Err(fault) => format!(in alloc; "{fault}").expect(rt, "memory"),
+    }
+}
+
+// What `Display` writes, of which the program writes another line.
+#[test]
+fn first_choice_that_is_not_possible(rt: HostRuntime) {
+    for (recorded, wanted) in [
+        ("cilklog 1\nworkers 255\nend 0\n", "B0 Workers"),
+        ("cilklog 1\nworkers 0\n1 pop\nend 1\n", "B0 Workers"),
+        (
+            "cilklog 1\nworkers 1\n0 step\nend 1\n",
+            "B1 BadChoice 1 M2 NoWorker",
+        ),
+        (
+            "cilklog 1\nworkers 1\n1 steal 1\nend 1\n",
+            "B1 BadChoice 1 M2 NoWorker",
+        ),
+        (
+            "cilklog 1\nworkers 1\n1 pop\nend 1\n",
+            "B1 BadChoice 1 M4 Busy",
+        ),
+        (
+            "cilklog 1\nworkers 1\n1 step\n1 step\nend 2\n",
+            "B1 BadChoice 2 M1 Over",
+        ),
+        (
+            "cilklog 2\nworkers 255\n\
+             program ba7816bf8f01cfea414140de5dae2223b00361a396177a9cb410ff61f20015ad\n\
+             1 pop\nend 1\n",
+            "G5 OtherProgram",
+        ),
+    ] {
+        match opened(&rt, rt.alloc(), SHORT, recorded) {
+            Ok(_) => assert_eq!(rt; recorded, wanted),
+            Err(fault) => {
+                let told = format!(in rt.alloc(); "{fault}").expect(&rt, "memory");
+                assert_eq!(rt; told.as_str(), wanted);
+            }
+        }
     }
 }

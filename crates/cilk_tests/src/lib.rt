@@ -1,9 +1,7 @@
-//! The tests of the crates that read, print, record and debug. They stand in a crate of their own, since one that has tests is proved once more with them.
-//! Beside them stands whether two trees say the same (`alike.rt`), which they alone ask. Those of machines and runs stand in `cilk_tests_running`, so that both
-//! are proved side by side.
+//! The tests of the crates that read, record and debug. They stand in a crate of their own, since one that has tests is proved once more with them. Those of
+//! machines and runs stand in `cilk_tests_running`, so that both are proved side by side.
 #![tactic(auto)]
 
-pub mod alike;
 #[cfg(test)]
 mod debugging;
 #[cfg(test)]

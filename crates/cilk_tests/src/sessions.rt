@@ -12,22 +12,6 @@ const PROGRAM: &str = "cilk int main(void) { int x = 2; return x * 21; }";
 
 const RECORDED: &str = "cilklog 1\nworkers 1\n1 step\n1 step\nend 2\n";
 
-const FIRST: &str =
-    "back\nstep\nframe /\ngo 2\nstep\nframe /\ngo 3\nbreak 4\nbreak 2\ngo 0\nnext\nlist\nquit\n";
-
-const FIRST_ANSWERS: &str =
-    "B3 AtStart\nposition 1 of 2: running\nworker 1 at / line 3\nmain line 3\n    x = 2\n\
-     position 2 of 2: finished 42\nworker 1 idle\nB2 AtEnd\nB5 NoInstance\nB6 OutOfRange\n\
-     B4 NoStatement\nok\nposition 0 of 2: running\nworker 1 at / line 2\nposition 2 of 2: finished 42\n\
-     worker 1 idle\n     1         cilk int main(void) {\n     2      1      int x = 2;\n     3      2      return x * 21;\n     4      3  }\n";
-
-const SECOND: &str = "prev\nbreak 1\ngo 2\nprev\nclear 1\nprev";
-
-const SECOND_ANSWERS: &str =
-    "position 0 of 2: running\nworker 1 at / line 2\nok\nposition 2 of 2: finished 42\n\
-     worker 1 idle\nposition 1 of 2: running\nworker 1 at / line 3\nok\nposition 0 of 2: running\n\
-     worker 1 at / line 2\n";
-
 // Steps to the end and back, each of which has an answer of two lines.
 const WALK: &str = "step\nstep\nback\nback\n";
 
@@ -44,84 +28,29 @@ fn answers(rt: &impl Abort, alloc: Global, debugger: &mut Debugger, input: &[u8]
     out
 }
 
+// There may be 1,000,000 lines, and a line may have 4,096 bytes.
 #[test]
-fn worked_sessions_come_out(rt: HostRuntime) {
-    let mut debugger = debugger(&rt, rt.alloc());
-    let first = answers(&rt, rt.alloc(), &mut debugger, FIRST.as_bytes());
-    assert_eq!(rt; first.as_slice(), FIRST_ANSWERS.as_bytes());
-    assert_eq!(rt; debugger.position(), 2);
-    let second = answers(&rt, rt.alloc(), &mut debugger, SECOND.as_bytes());
-    assert_eq!(rt; second.as_slice(), SECOND_ANSWERS.as_bytes());
-    assert_eq!(rt; debugger.position(), 0);
-}
-
-#[test]
-fn lines_that_are_no_commands(rt: HostRuntime) {
-    for line in [
-        "frame /0\n",
-        "go 007\n",
-        "go 1000000000\n",
-        "step 1\n",
-        " step\n",
-        "\r\r\n",
-        "tree\r",
-        "tree\0\n",
-    ] {
-        let mut debugger = debugger(&rt, rt.alloc());
-        let told = answers(&rt, rt.alloc(), &mut debugger, line.as_bytes());
-        assert_eq!(rt; told.as_slice(), b"unknown command\n".as_slice());
-    }
-}
-
-#[test]
-fn lines_with_a_return_or_without_a_newline(rt: HostRuntime) {
-    for (line, told) in [
-        ("frame /99\r\n", "B5 NoInstance\n"),
-        ("\r\n\n\r\nframe /99", "B5 NoInstance\n"),
-        ("quit\nframe /99\n", ""),
-        ("\n\r\n", ""),
-        ("", ""),
-    ] {
-        let mut debugger = debugger(&rt, rt.alloc());
-        let found = answers(&rt, rt.alloc(), &mut debugger, line.as_bytes());
-        assert_eq!(rt; found.as_slice(), told.as_bytes());
-    }
-}
-
-// So many bytes `x` and a newline.
-fn long_line(rt: &impl Abort, alloc: Global, count: usize) -> Vec<u8> {
-    let mut line = Vec::new(alloc);
-    line.resize(count, b'x').expect(rt, "memory");
-    line.push(b'\n').expect(rt, "memory");
-    line
-}
-
-#[test]
-fn long_lines(rt: HostRuntime) {
-    let mut debugger = debugger(&rt, rt.alloc());
-    let longest = long_line(&rt, rt.alloc(), 4096);
-    let told = answers(&rt, rt.alloc(), &mut debugger, &longest);
-    assert_eq!(rt; told.as_slice(), b"unknown command\n".as_slice());
-    let longer = long_line(&rt, rt.alloc(), 4097);
-    let mut reader = longer.as_slice();
-    let mut out = Vec::new(rt.alloc());
-    let ended = debugger.session(&mut reader, &mut out);
-    assert_eq!(rt; ended, Err(SessionFault::Read(InputFault::LineTooLong)));
-    assert!(rt; out.is_empty());
-}
-
-#[test]
-fn many_lines(rt: HostRuntime) {
+fn input_that_is_too_long(rt: HostRuntime) {
     let mut debugger = debugger(&rt, rt.alloc());
     let mut lines = Vec::new(rt.alloc());
     lines.resize(1_000_000, b'\n').expect(&rt, "memory");
     let told = answers(&rt, rt.alloc(), &mut debugger, &lines);
     assert!(rt; told.is_empty());
     lines.push(b'x').expect(&rt, "memory");
-    let mut reader = lines.as_slice();
-    let mut out = Vec::new(rt.alloc());
+    breaks_off(&rt, rt.alloc(), &lines, InputFault::TooManyLines);
+    let mut line = Vec::new(rt.alloc());
+    line.resize(4097, b'x').expect(&rt, "memory");
+    line.push(b'\n').expect(&rt, "memory");
+    breaks_off(&rt, rt.alloc(), &line, InputFault::LineTooLong);
+}
+
+// A session on this input ends by the fault, and answers nothing.
+fn breaks_off(rt: &impl Abort, alloc: Global, input: &[u8], fault: InputFault) {
+    let mut debugger = debugger(rt, alloc);
+    let mut reader = input;
+    let mut out = Vec::new(alloc);
     let ended = debugger.session(&mut reader, &mut out);
-    assert_eq!(rt; ended, Err(SessionFault::Read(InputFault::TooManyLines)));
+    assert_eq!(rt; ended, Err(SessionFault::Read(fault)));
     assert!(rt; out.is_empty());
 }
 

@@ -1,16 +1,10 @@
-//! Frames, hands, instances and schedules of more workers than one, closing texts, and readers and writers that break:
-//! what the program does not show. And texts whose answers are known, which one worker runs.
+//! Frames, hands, instances and schedules of more workers than one, and readers and writers that break: what the program does not show.
 
-mod alone;
-mod closing;
-mod fates;
 mod frames;
 mod glimpses;
 mod hands;
-mod inlets;
 mod instances;
 mod schedules;
-mod script;
 mod streams;
 mod undone;
 mod workers;

@@ -95,6 +95,12 @@ fn a_refused_move_is_no_work(rt: HostRuntime) {
     works(&rt, rt.alloc(), &mut debugger, &[(Move::Go(10), 10)]);
     let step = debugger.step();
     assert_eq!(rt; told(&rt, rt.alloc(), step).as_str(), "B2 AtEnd");
+    for action in [0, 5] {
+        let set = debugger.set_break(action);
+        assert_eq!(rt; told(&rt, rt.alloc(), set).as_str(), "B4 NoStatement");
+        let clear = debugger.clear_break(action);
+        assert_eq!(rt; told(&rt, rt.alloc(), clear).as_str(), "B4 NoStatement");
+    }
     assert_eq!(rt; debugger.work(), 10);
 }
 
@@ -112,4 +118,17 @@ fn a_search_costs_the_move_to_what_is_found(rt: HostRuntime) {
     assert!(rt; !debugger.back_to_break().expect(&rt, "a move"));
     assert_eq!(rt; debugger.position(), 0);
     assert_eq!(rt; debugger.work(), first + 400);
+}
+
+// Whether a breakpoint was found, or the way was gone to its end, no answer of a session tells.
+#[test]
+fn a_trap_is_found(rt: HostRuntime) {
+    let text = "cilk int main(void) { return 2147483647 + 1; }";
+    let recorded = "cilklog 1\nworkers 1\n1 step\nend 1\n";
+    let mut debugger = debugger(&rt, rt.alloc(), text, recorded);
+    assert!(rt; !debugger.forward_to_break().expect(&rt, "a move"));
+    debugger.set_break(1).expect(&rt, "a breakpoint");
+    assert!(rt; !debugger.back_to_break().expect(&rt, "a move"));
+    assert!(rt; debugger.forward_to_break().expect(&rt, "a move"));
+    assert_eq!(rt; debugger.position(), 1);
 }

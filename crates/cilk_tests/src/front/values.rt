@@ -86,55 +86,12 @@ fn element(rt: &impl Abort, alloc: Global, subscript: u32) -> Box<Code>
     boxed(rt, alloc, CodeNode::Element(ARRAY, subscript))
 }
 
-#[test]
-fn what_is_not_needed_is_not_evaluated(rt: HostRuntime) {
-    let slots = Slots {
-        own: &[],
-        outer: &[],
-        globals: &[],
-        synched: false,
-    };
-    for (op, left, value) in [
-        (BinOp::And, 0, Ok(0)),
-        (BinOp::Or, 1, Ok(1)),
-        (BinOp::And, 1, Err(Trap::ZeroDivide)),
-    ] {
-        let left = number(&rt, rt.alloc(), left);
-        let right = trapped(&rt, rt.alloc());
-        let code = binary(&rt, rt.alloc(), op, left, right);
-        assert_eq!(rt; eval(&slots, &code), value);
-    }
-    let test = number(&rt, rt.alloc(), 1);
-    let first = number(&rt, rt.alloc(), 2);
-    let second = trapped(&rt, rt.alloc());
-    let choose = boxed(&rt, rt.alloc(), CodeNode::Choose(test, first, second));
-    assert_eq!(rt; eval(&slots, &choose), Ok(2));
-}
-
 const CELLS: Slots = Slots {
     own: &[4],
     outer: &[5, 6, 7, 8],
     globals: &[9],
     synched: true,
 };
-
-#[test]
-fn places_are_read(rt: HostRuntime) {
-    for (subscript, value) in [(2, Ok(8)), (3, Err(Trap::Index))] {
-        let code = element(&rt, rt.alloc(), subscript);
-        assert_eq!(rt; eval(&CELLS, &code), value);
-    }
-    let synched = boxed(&rt, rt.alloc(), CodeNode::Synched);
-    assert_eq!(rt; eval(&CELLS, &synched), Ok(1));
-    let slot = Slot {
-        area: Area::Own,
-        offset: 0,
-        length: 0,
-    };
-    let own = boxed(&rt, rt.alloc(), CodeNode::Variable(slot));
-    let minus = boxed(&rt, rt.alloc(), CodeNode::Unary(UnOp::Minus, own));
-    assert_eq!(rt; eval(&CELLS, &minus), Ok(-4));
-}
 
 #[test]
 fn the_first_trap_is_that_of_the_left(rt: HostRuntime) {

@@ -43,18 +43,14 @@ fn call(
 fn goes_on_and_ends(rt: HostRuntime) {
     let loaded = program(&rt, rt.alloc(), TEXT);
     let mut frame = start(&rt, rt.alloc(), &loaded);
-    is_new(&rt, &frame);
     goes_on(&rt, &mut frame);
     frame.finish();
 }
 
-fn is_new(rt: &impl Abort, frame: &Frame) {
+fn goes_on(rt: &impl Abort, frame: &mut Frame) {
     assert_eq!(rt; frame.id(), Id::new(7));
     assert_eq!(rt; frame.id().number(), 7);
     assert_eq!(rt; frame.awaits(), None);
-}
-
-fn goes_on(rt: &impl Abort, frame: &mut Frame) {
     stands(rt, frame, 1, 0);
     assert!(rt; !frame.at_boundary());
     assert_eq!(rt; frame.cells(0).len(), 1);

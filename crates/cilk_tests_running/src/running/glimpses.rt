@@ -1,6 +1,5 @@
 //! Steps whose expressions are evaluated without the lock.
 
-use super::script::event_word;
 use super::{is_word, program};
 use cilk_run::{Act, Choice, Event, Glimpse, Locked, Refusal, propose};
 use cilk_spawn::{Fate, Path};
@@ -32,13 +31,8 @@ fn make(rt: &impl Abort, locked: &mut Locked, choices: &[(u8, u8)]) {
 
 // What the activations of the first child of `main` hold.
 fn shows_first(rt: &impl Abort, alloc: Global, locked: &Locked, wanted: &str) {
-    let path = Path::new(vec![in alloc; 1].expect(rt, "memory"));
-    let what = What::Frame(path);
-    shows(rt, locked, &what, wanted);
-}
-
-fn shows(rt: &impl Abort, locked: &Locked, what: &What, wanted: &str) {
-    let text = locked.machine().text(what).expect(rt, wanted);
+    let what = What::Frame(Path::new(vec![in alloc; 1].expect(rt, "memory")));
+    let text = locked.machine().text(&what).expect(rt, wanted);
     is_word(rt, text.as_str(), wanted);
 }
 
@@ -55,26 +49,26 @@ fn a_value_that_changed_is_stale(rt: HostRuntime) {
     make(&rt, &mut locked, &[(1, 0), (2, 1), (2, 0)]);
     // A glimpse is what `peek` sees: `g`, which is 0.
     sees(&rt, &locked, 1, ([1].as_slice(), 1), (0, 0));
-    is_stale_behind(&rt, &mut locked, 1, &[(2, 0), (2, 0), (2, 0)]);
-    counts(&rt, &locked, 6);
-    is_seen_again(&rt, rt.alloc(), &mut locked);
+    is_stale_behind(&rt, &mut locked, 1, &[(2, 0), (2, 0), (2, 0)], 6);
+    is_seen_again(&rt, &mut locked);
+    shows_first(&rt, rt.alloc(), &locked, "inc line 5\n    t = 1\n");
     make(&rt, &mut locked, &[(1, 0)]);
     has(&rt, &locked, "g", 2);
 }
 
-// What the worker sees is stale behind these choices.
-fn is_stale_behind(rt: &impl Abort, locked: &mut Locked, worker: u8, choices: &[(u8, u8)]) {
+// What the worker sees is stale behind these choices, and so many are made then.
+fn is_stale_behind(
+    rt: &impl Abort,
+    locked: &mut Locked,
+    worker: u8,
+    choices: &[(u8, u8)],
+    count: usize,
+) {
     let seen = glimpse(rt, locked, worker);
     make(rt, locked, choices);
-    is_refused(rt, locked.commit(propose(seen)).err());
-}
-
-fn is_refused(rt: &impl Abort, refusal: Option<Refusal>) {
+    let refusal = locked.commit(propose(seen)).err();
     assert_eq!(rt; refusal, Some(Refusal::Stale));
-}
-
-fn counts(rt: &impl Abort, locked: &Locked, choices: usize) {
-    assert_eq!(rt; locked.history().len(), choices);
+    assert_eq!(rt; locked.history().len(), count);
 }
 
 fn has(rt: &impl Abort, locked: &Locked, name: &str, value: i32) {
@@ -82,12 +76,19 @@ fn has(rt: &impl Abort, locked: &Locked, name: &str, value: i32) {
 }
 
 // Worker 1 looks again, and its step is made.
-fn is_seen_again(rt: &impl Abort, alloc: Global, locked: &mut Locked) {
+fn is_seen_again(rt: &impl Abort, locked: &mut Locked) {
     let seen = glimpse(rt, locked, 1);
     let acted = locked.commit(propose(seen)).ok().expect(rt, "a choice");
-    let told = event_word(rt, alloc, &acted);
-    is_word(rt, told.as_str(), "a1/1");
-    shows_first(rt, alloc, locked, "inc line 5\n    t = 1\n");
+    has_acted(rt, &acted);
+}
+
+// Action 1 of the first child.
+fn has_acted(rt: &impl Abort, event: &Event) {
+    let is_it = match event {
+        Event::Acted { path, n } => path.as_slice() == [1].as_slice() && *n == 1,
+        _ => false,
+    };
+    assert!(rt; is_it);
 }
 
 // The worker would evaluate this action of this instance, whose one variable holds the one value, and come to the other.
@@ -100,25 +101,23 @@ fn sees(
 ) {
     let peek = locked.machine().peek(worker).ok().expect(rt, "a step");
     let peek = peek.expect(rt, "an expression");
-    is_at(rt, (peek.path.as_slice(), peek.n), (path, n));
-    comes_to(rt, peek.value().ok(), value);
-    has_one(rt, peek.values.len());
+    let seen = (peek.n, peek.value().ok(), peek.values.len());
+    is_seen(
+        rt,
+        (peek.path.as_slice(), seen),
+        (path, (n, Some(value), 1)),
+    );
     for known in &peek.values {
         holds(rt, known.value, held);
     }
 }
 
-fn is_at(rt: &impl Abort, (path, n): (&[u32], u32), wanted: (&[u32], u32)) {
+// A path, and an action there, its value, and how many variables it reads.
+type Seen<'a> = (&'a [u32], (u32, Option<i32>, usize));
+
+fn is_seen(rt: &impl Abort, (path, rest): Seen<'_>, wanted: Seen<'_>) {
     assert_eq!(rt; path, wanted.0);
-    assert_eq!(rt; n, wanted.1);
-}
-
-fn comes_to(rt: &impl Abort, value: Option<i32>, wanted: i32) {
-    assert_eq!(rt; value, Some(wanted));
-}
-
-fn has_one(rt: &impl Abort, count: usize) {
-    assert_eq!(rt; count, 1);
+    assert_eq!(rt; rest, wanted.1);
 }
 
 fn holds(rt: &impl Abort, value: i32, wanted: i32) {
@@ -136,8 +135,7 @@ fn an_instance_that_was_aborted_is_stale(rt: HostRuntime) {
     has(&rt, &locked, "done", 1);
     // `done + 1`, where `done` is 1.
     sees(&rt, &locked, 2, ([2].as_slice(), 2), (1, 2));
-    is_stale_behind(&rt, &mut locked, 2, &[(1, 0)]);
-    counts(&rt, &locked, 12);
+    is_stale_behind(&rt, &mut locked, 2, &[(1, 0)], 12);
     ends(&rt, &mut locked);
 }
 
@@ -149,5 +147,13 @@ fn ends(rt: &impl Abort, locked: &mut Locked) {
     };
     let ended = matches!(locked.make(step), Ok(Event::Ended { .. }));
     assert!(rt; ended);
-    assert_eq!(rt; locked.machine().fate(&[2]), Some(Fate::Aborted(13)));
+    for (path, fate) in [
+        ([].as_slice(), Some(Fate::Live)),
+        ([1].as_slice(), Some(Fate::Delivered(10))),
+        ([2].as_slice(), Some(Fate::Aborted(13))),
+        ([3].as_slice(), None),
+        ([1, 1].as_slice(), None),
+    ] {
+        assert_eq!(rt; locked.machine().fate(path), fate);
+    }
 }

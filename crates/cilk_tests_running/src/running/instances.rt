@@ -36,37 +36,6 @@ fn calls(rt: &impl Abort, alloc: Global, n: u32) -> Receiver {
     }
 }
 
-fn receiver_word(rt: &impl Abort, alloc: Global, receiver: &Receiver) -> String {
-    match receiver {
-        Receiver::Nothing => String::from_str(alloc, "nothing").expect(rt, "memory"),
-        Receiver::Place {
-            op,
-            slot,
-            index,
-            spawn,
-        } => {
-            let offset = slot.offset;
-            format!(in alloc; "{op:?} at {offset}, {index} by {spawn}").expect(rt, "memory")
-        }
-        Receiver::Call { n, args } => {
-            let values = args.as_slice();
-            format!(in alloc; "inlet with {values:?} by {n}").expect(rt, "memory")
-        }
-    }
-}
-
-fn delivery_word(rt: &impl Abort, alloc: Global, delivery: Option<&Delivery>) -> String {
-    match delivery {
-        None => String::from_str(alloc, "none").expect(rt, "memory"),
-        Some(delivery) => {
-            let child = delivery.child.number();
-            let value = delivery.value;
-            let receiver = receiver_word(rt, alloc, &delivery.receiver);
-            format!(in alloc; "{value} of {child}: {receiver}").expect(rt, "memory")
-        }
-    }
-}
-
 // The live instance with this path.
 fn at(rt: &impl Abort, tree: &Tree, path: &[u32]) -> Id
     ensures there { result < length tree.now.nodes }
@@ -114,55 +83,37 @@ fn end(rt: &impl Abort, tree: &mut Tree, path: &[u32], ending: Ending, choice: u
     tree.end(id, ending, choice);
 }
 
-// The paths of those that an `abort` marked, of these.
-fn marked(rt: &impl Abort, alloc: Global, tree: &Tree, paths: &[&[u32]]) -> String {
-    let mut text = String::new(alloc);
-    for path in paths {
-        if tree.is_aborted(at(rt, tree, path)) {
-            write!(text, "{path:?}").expect(rt, "memory");
-        }
-    }
-    text
-}
-
 #[test]
 fn children_have_paths(rt: HostRuntime) {
     let mut tree = family(&rt, rt.alloc(), 0);
-    bear_three(&rt, &mut tree);
-    are_found(&rt, &tree);
+    are_found(&rt, &mut tree);
     are_named(&rt, &tree);
 }
 
-fn bear_three(rt: &impl Abort, tree: &mut Tree) {
+// Three are born, the last by the second.
+fn are_found(rt: &impl Abort, tree: &mut Tree) {
     assert_eq!(rt; tree.next_id(), Id::new(1));
     spawn(rt, tree, &[], Receiver::Nothing);
     spawn(rt, tree, &[], adds(5));
     spawn(rt, tree, &[2], Receiver::Nothing);
-}
-
-fn are_found(rt: &impl Abort, tree: &Tree) {
     for (path, id) in [
-        ([].as_slice(), Some(0)),
-        ([1].as_slice(), Some(1)),
-        ([2].as_slice(), Some(2)),
-        ([2, 1].as_slice(), Some(3)),
+        ([].as_slice(), Some(Id::new(0))),
+        ([1].as_slice(), Some(Id::new(1))),
+        ([2].as_slice(), Some(Id::new(2))),
+        ([2, 1].as_slice(), Some(Id::new(3))),
         ([1, 1].as_slice(), None),
         ([2, 1, 1].as_slice(), None),
         ([0].as_slice(), None),
     ] {
-        assert_eq!(rt; tree.find(path).map(|id| id.number()), id, "{path:?}");
+        assert_eq!(rt; tree.find(path), id, "{path:?}");
     }
 }
 
 fn are_named(rt: &impl Abort, tree: &Tree) {
     for path in [[].as_slice(), [2].as_slice(), [2, 1].as_slice()] {
         let named = tree.path_of(at(rt, tree, path)).expect(rt, "memory");
-        is_path(rt, named.as_slice(), path);
+        assert_eq!(rt; named.as_slice(), path);
     }
-}
-
-fn is_path(rt: &impl Abort, path: &[u32], wanted: &[u32]) {
-    assert_eq!(rt; path, wanted);
 }
 
 #[test]
@@ -170,69 +121,68 @@ fn readers_tell_what_was_put_in(rt: HostRuntime) {
     let mut tree = family(&rt, rt.alloc(), 1);
     spawn(&rt, &mut tree, &[], adds(5));
     spawn(&rt, &mut tree, &[2], calls(&rt, rt.alloc(), 6));
-    are_related(&rt, &tree);
-    take_values(&rt, rt.alloc(), &tree);
+    are_related(&rt, rt.alloc(), &tree);
 }
 
-// Of each path its parent, its procedure and its children.
-fn are_related(rt: &impl Abort, tree: &Tree) {
-    for (path, parent, procedure, children) in [
-        ([].as_slice(), None, 4, 2),
-        ([1].as_slice(), Some(Id::new(0)), 5, 0),
-        ([2].as_slice(), Some(Id::new(0)), 5, 1),
-        ([2, 1].as_slice(), Some(Id::new(2)), 5, 0),
+// `x += spawn f();` by action 5, as `adds` has it.
+const ADDS: &str =
+    "Place { op: Some(Add), slot: Slot { area: Own, offset: 2, length: 0 }, index: 0, spawn: 5 }";
+
+// Of each path its parent, its procedure, its children, and what takes its value.
+fn are_related(rt: &impl Abort, alloc: Global, tree: &Tree) {
+    for (path, parent, (procedure, children), receiver) in [
+        ([].as_slice(), None, (4, 2), "Nothing"),
+        ([1].as_slice(), Some(Id::new(0)), (5, 0), "Nothing"),
+        ([2].as_slice(), Some(Id::new(0)), (5, 1), ADDS),
+        (
+            [2, 1].as_slice(),
+            Some(Id::new(2)),
+            (5, 0),
+            "Call { n: 6, args: Arguments { values: [7, -8] } }",
+        ),
     ] {
         let id = at(rt, tree, path);
         assert_eq!(rt; tree.parent(id), parent, "{path:?}");
         assert_eq!(rt; tree.procedure(id), procedure, "{path:?}");
         assert_eq!(rt; tree.children(id), children, "{path:?}");
+        takes(rt, alloc, tree.receiver(id), receiver);
     }
 }
 
-fn take_values(rt: &impl Abort, alloc: Global, tree: &Tree) {
-    for (path, receiver) in [
-        ([].as_slice(), "nothing"),
-        ([1].as_slice(), "nothing"),
-        ([2].as_slice(), "Some(Add) at 2, 0 by 5"),
-        ([2, 1].as_slice(), "inlet with [7, -8] by 6"),
-    ] {
-        let id = at(rt, tree, path);
-        let word = receiver_word(rt, alloc, tree.receiver(id));
-        is_word(rt, word.as_str(), receiver);
-    }
+// The receiver is this one, as `Debug` writes it.
+fn takes(rt: &impl Abort, alloc: Global, receiver: &Receiver, wanted: &str) {
+    let told = format!(in alloc; "{receiver:?}").expect(rt, "memory");
+    is_word(rt, told.as_str(), wanted);
 }
 
 #[test]
 fn those_that_ended_are_found_too(rt: HostRuntime) {
     let mut tree = family(&rt, rt.alloc(), 2);
-    live(&rt, &tree, 3);
-    end(&rt, &mut tree, &[1], Ending::Returned, 4);
-    live(&rt, &tree, 2);
-    are_numbered(&rt, &tree);
     end_both(&rt, &mut tree);
-    spawn(&rt, &mut tree, &[], Receiver::Nothing);
-    have_fates(&rt, &tree);
-}
-
-fn live(rt: &impl Abort, tree: &Tree, count: usize) {
-    assert_eq!(rt; tree.live(), count);
-}
-
-fn are_numbered(rt: &impl Abort, tree: &Tree) {
-    for i in 0..3 {
-        assert_eq!(rt; tree.nth(i), Some(Id::new(i)), "{i}");
-    }
-    assert_eq!(rt; tree.nth(3), None);
-    assert_eq!(rt; tree.find(&[1]), Some(Id::new(1)));
+    have_fates(&rt, &mut tree);
 }
 
 fn end_both(rt: &impl Abort, tree: &mut Tree) {
+    assert_eq!(rt; tree.live(), 3);
+    end(rt, tree, &[1], Ending::Returned, 4);
+    assert_eq!(rt; tree.live(), 2);
+    for (i, id) in [
+        (0, Some(Id::new(0))),
+        (1, Some(Id::new(1))),
+        (2, Some(Id::new(2))),
+        (3, None),
+    ] {
+        assert_eq!(rt; tree.nth(i), id, "{i}");
+    }
+    assert_eq!(rt; tree.find(&[1]), Some(Id::new(1)));
     assert!(rt; tree.has_live_child(at(rt, tree, &[])));
     end(rt, tree, &[2], Ending::Aborted, 5);
     assert!(rt; !tree.has_live_child(at(rt, tree, &[])));
 }
 
-fn have_fates(rt: &impl Abort, tree: &Tree) {
+// A third child is born behind those that ended.
+fn have_fates(rt: &impl Abort, tree: &mut Tree) {
+    spawn(rt, tree, &[], Receiver::Nothing);
     for (path, fate) in [
         ([].as_slice(), Fate::Live),
         ([1].as_slice(), Fate::Returned),
@@ -254,20 +204,37 @@ fn an_abort_marks_those_below(rt: HostRuntime) {
     let mut tree = family(&rt, rt.alloc(), 2);
     spawn(&rt, &mut tree, &[1], Receiver::Nothing);
     spawn(&rt, &mut tree, &[1, 1], Receiver::Nothing);
-    let paths = [
-        [].as_slice(),
-        [1].as_slice(),
-        [2].as_slice(),
-        [1, 1].as_slice(),
-        [1, 1, 1].as_slice(),
-    ];
-    mark(&rt, &mut tree, &[1]);
-    are_marked(&rt, rt.alloc(), &tree, &paths, "[1, 1][1, 1, 1]");
-    end(&rt, &mut tree, &[1, 1, 1], Ending::Aborted, 7);
-    spawn(&rt, &mut tree, &[1, 1], Receiver::Nothing);
-    is_marked(&rt, &tree, &[1, 1, 2]);
-    mark(&rt, &mut tree, &[]);
-    are_marked(&rt, rt.alloc(), &tree, &paths[..4], "[1][2][1, 1]");
+    marks_below_one(&rt, &mut tree);
+    marks_below_the_root(&rt, &mut tree);
+}
+
+// The children of the first child are marked, and a child of theirs is born so.
+fn marks_below_one(rt: &impl Abort, tree: &mut Tree) {
+    mark(rt, tree, &[1]);
+    for (path, is_marked) in [
+        ([].as_slice(), false),
+        ([1].as_slice(), false),
+        ([2].as_slice(), false),
+        ([1, 1].as_slice(), true),
+        ([1, 1, 1].as_slice(), true),
+    ] {
+        assert_eq!(rt; tree.is_aborted(at(rt, tree, path)), is_marked, "{path:?}");
+    }
+    end(rt, tree, &[1, 1, 1], Ending::Aborted, 7);
+    spawn(rt, tree, &[1, 1], Receiver::Nothing);
+    assert!(rt; tree.is_aborted(at(rt, tree, &[1, 1, 2])));
+}
+
+fn marks_below_the_root(rt: &impl Abort, tree: &mut Tree) {
+    mark(rt, tree, &[]);
+    for (path, is_marked) in [
+        ([].as_slice(), false),
+        ([1].as_slice(), true),
+        ([2].as_slice(), true),
+        ([1, 1].as_slice(), true),
+    ] {
+        assert_eq!(rt; tree.is_aborted(at(rt, tree, path)), is_marked, "{path:?}");
+    }
 }
 
 fn mark(rt: &impl Abort, tree: &mut Tree, path: &[u32]) {
@@ -275,28 +242,18 @@ fn mark(rt: &impl Abort, tree: &mut Tree, path: &[u32]) {
     tree.mark_aborted(id);
 }
 
-fn is_marked(rt: &impl Abort, tree: &Tree, path: &[u32]) {
-    assert!(rt; tree.is_aborted(at(rt, tree, path)));
-}
-
-// Of these paths those and no others are marked.
-fn are_marked(rt: &impl Abort, alloc: Global, tree: &Tree, paths: &[&[u32]], wanted: &str) {
-    let words = marked(rt, alloc, tree, paths);
-    is_word(rt, words.as_str(), wanted);
-}
-
 #[test]
 fn the_oldest_delivery_comes_first(rt: HostRuntime) {
     let mut tree = family(&rt, rt.alloc(), 0);
-    spawn(&rt, &mut tree, &[], adds(3));
-    spawn(&rt, &mut tree, &[], calls(&rt, rt.alloc(), 4));
+    spawn(&rt, &mut tree, &[], adds(5));
+    spawn(&rt, &mut tree, &[], calls(&rt, rt.alloc(), 6));
     give_two(&rt, &mut tree);
     for wanted in [
-        "-7 of 2: inlet with [7, -8] by 4",
-        "9 of 1: Some(Add) at 2, 0 by 3",
-        "none",
+        Some((2, -7, "Call { n: 6, args: Arguments { values: [7, -8] } }")),
+        Some((1, 9, ADDS)),
+        None,
     ] {
-        takes(&rt, rt.alloc(), &mut tree, wanted);
+        takes_first(&rt, rt.alloc(), &mut tree, wanted);
     }
     are_delivered(&rt, &tree);
 }
@@ -311,17 +268,33 @@ fn give_two(rt: &impl Abort, tree: &mut Tree) {
     assert!(rt; !tree.is_synched(root));
 }
 
-// The root's oldest delivery is this one, and it is taken.
-fn takes(rt: &impl Abort, alloc: Global, tree: &mut Tree, wanted: &str) {
+// The root's oldest delivery is of this child, with this value, for this receiver, and it is taken.
+fn takes_first(
+    rt: &impl Abort,
+    alloc: Global,
+    tree: &mut Tree,
+    wanted: Option<(usize, i32, &str)>,
+) {
     let root = at(rt, tree, &[]);
     is_delivery(rt, alloc, tree.first_delivery(root), wanted);
     let taken = tree.take_delivery(root, 8);
     is_delivery(rt, alloc, taken.as_ref(), wanted);
 }
 
-fn is_delivery(rt: &impl Abort, alloc: Global, delivery: Option<&Delivery>, wanted: &str) {
-    let word = delivery_word(rt, alloc, delivery);
-    is_word(rt, word.as_str(), wanted);
+fn is_delivery(
+    rt: &impl Abort,
+    alloc: Global,
+    delivery: Option<&Delivery>,
+    wanted: Option<(usize, i32, &str)>,
+) {
+    match (delivery, wanted) {
+        (Some(delivery), Some((child, value, receiver))) => {
+            assert_eq!(rt; delivery.child.number(), child);
+            assert_eq!(rt; delivery.value, value);
+            takes(rt, alloc, &delivery.receiver, receiver);
+        }
+        (delivery, wanted) => assert!(rt; delivery.is_none() && wanted.is_none()),
+    }
 }
 
 fn are_delivered(rt: &impl Abort, tree: &Tree) {
@@ -344,7 +317,6 @@ fn park_root(rt: &impl Abort, alloc: Global, tree: &mut Tree)
 {
     let loaded = program(rt, alloc, "cilk int main(void) { int a; return a; }");
     tree.park(frame_of(rt, alloc, &loaded));
-    is_parked(rt, tree);
 }
 
 fn frame_of(rt: &impl Abort, alloc: Global, loaded: &Loaded) -> Frame
@@ -355,12 +327,9 @@ fn frame_of(rt: &impl Abort, alloc: Global, loaded: &Loaded) -> Frame
     Frame::start(alloc, Id::new(0), main, &[]).expect(rt, "memory")
 }
 
-fn is_parked(rt: &impl Abort, tree: &Tree) {
-    assert!(rt; tree.parked(at(rt, tree, &[])).is_some());
-}
-
-// A child of the root has no frame, and none can be taken.
+// The root has a frame. A child of the root has none, and none can be taken.
 fn child_has_none(rt: &impl Abort, tree: &mut Tree) {
+    assert!(rt; tree.parked(at(rt, tree, &[])).is_some());
     spawn(rt, tree, &[], Receiver::Nothing);
     let child = at(rt, tree, &[1]);
     assert!(rt; tree.parked(child).is_none());

@@ -1,13 +1,24 @@
-//! Schedules that are known by hand: arithmetic, spawns and refusals.
+//! Schedules that are known by hand: what comes of each choice, and what is refused, which changes nothing.
 
-use super::program;
-use super::script::{closes, machine, play, rows_come_out};
+use super::{is_text, program};
 use cilk_frame::Id;
-use cilk_run::{Act, Choice, Did, Machine, MachineFault, Refusal};
+use cilk_run::Act::{Pop, Steal, Step};
+use cilk_run::Refusal::{Busy, DequeEmpty, HandEmpty, NoWorker, Over, Waiting};
+use cilk_run::{Act, Choice, Did, Event, Machine, MachineFault, Refusal, ending};
 use std::alloc::Global;
 use std::process::Abort;
 
+// What a choice did, to which instance, and by which action; an end and a move have none.
+type Told<'a> = (&'a str, &'a [u32], u32);
+
+// A worker, what it does, and what comes of it.
+type Row = (u8, Act, Result<Told<'static>, Refusal>);
+
 const SAMPLE: &str = "cilk int main(){int a=2,b;b=a*(3+4)-5;return b;}";
+
+const SEVEN: &str = "cilk int main(void) { return 7; }";
+
+const OVERFLOWING: &str = "cilk int main(void) { return 2147483647 + 1; }";
 
 const COUNTING: &str = "int g; cilk void inc(void) { int t; t = g; g = t + 1; }
 cilk int main(void) { spawn inc(); spawn inc(); sync; return g; }";
@@ -15,123 +26,249 @@ cilk int main(void) { spawn inc(); spawn inc(); sync; return g; }";
 const DOUBLING: &str = "cilk int f(void) { return 5; }
 cilk int main(void) { int x = 1; x += spawn f(); x = x * 2; x = x * 2; sync; return x; }";
 
-const PASSING: &str = "cilk int f(void) { return 2147483647; }
-cilk int main(void) { int x = 1; x += spawn f(); sync; return x; }";
+const LOOKING: &str = "int done; cilk int look(int v) { done = done + 1; return v; }
+cilk int main(void) { int best = 0; inlet void take(int v) { best = v; abort; }
+take(spawn look(1)); take(spawn look(2)); sync; return best; }";
 
-// Each program, its workers, a script, and then the outcome and the closing text.
-const ROWS: &[(&str, u8, &str, &str, &str)] = &[
-    (SAMPLE, 1, "", "running", "limit after 0 choices\n"),
+const ADDING: &str =
+    "Cilk_lockvar l; int g; cilk void add(void) { Cilk_lock(l); g++; Cilk_unlock(l); }
+cilk int main(void) { Cilk_lock_init(l); spawn add(); spawn add(); sync; return g; }";
+
+// Each lock that one of the two waits for is the other's.
+const CROSSING: &str = "Cilk_lockvar a, b;
+cilk void p(void) { Cilk_lock(a); Cilk_lock(b); Cilk_unlock(b); Cilk_unlock(a); }
+cilk void q(void) { Cilk_lock(b); Cilk_lock(a); Cilk_unlock(a); Cilk_unlock(b); }
+cilk int main(void) { Cilk_lock_init(a); Cilk_lock_init(b); spawn p(); spawn q(); sync; return 0; }";
+
+const REFUSED_WITHOUT_CHILDREN: &[Row] = &[
+    (2, Steal(1), Err(DequeEmpty)),
+    (2, Pop, Err(DequeEmpty)),
+    (2, Steal(2), Err(NoWorker)),
+    (2, Steal(0), Err(NoWorker)),
+    (2, Steal(65), Err(NoWorker)),
+    (1, Steal(3), Err(NoWorker)),
+    (65, Step, Err(NoWorker)),
+    (0, Step, Err(NoWorker)),
+    (2, Step, Err(HandEmpty)),
+    (1, Pop, Err(Busy)),
+    (1, Steal(2), Err(Busy)),
+    (1, Step, Ok(("returned", &[], 1))),
+    (65, Step, Err(Over)),
+    (1, Step, Err(Over)),
+    (2, Pop, Err(Over)),
+    (2, Steal(2), Err(Over)),
+];
+
+const TRAPPED: &[Row] = &[(1, Step, Ok(("trapped", &[], 1))), (1, Step, Err(Over))];
+
+// A thief whose own deque is not empty.
+const THIEF: &[Row] = &[
+    (1, Step, Ok(("spawned", &[1], 4))),
+    (2, Steal(1), Ok(("moved", &[], 0))),
+    (2, Step, Ok(("spawned", &[2], 5))),
+    (2, Step, Ok(("acted", &[2], 1))),
+    (2, Step, Ok(("acted", &[2], 2))),
+    (2, Step, Ok(("returned", &[2], 3))),
+    (2, Steal(1), Err(Busy)),
+    (2, Step, Err(HandEmpty)),
+    (2, Pop, Ok(("moved", &[], 0))),
+    (2, Steal(1), Err(Busy)),
+];
+
+// The first value that is found aborts the other child.
+const ABORTED: &[Row] = &[
+    (1, Step, Ok(("acted", &[], 4))),
+    (1, Step, Ok(("spawned", &[1], 8))),
+    (2, Steal(1), Ok(("moved", &[], 0))),
+    (2, Step, Ok(("spawned", &[2], 9))),
+    (1, Step, Ok(("acted", &[1], 1))),
+    (1, Step, Ok(("returned", &[1], 2))),
+    (1, Steal(2), Ok(("moved", &[], 0))),
+    (1, Step, Ok(("delivered", &[1], 8))),
+    (1, Step, Ok(("acted", &[], 5))),
+    (1, Step, Ok(("acted", &[], 6))),
+    (2, Step, Ok(("ended", &[2], 0))),
+    (1, Step, Ok(("acted", &[], 7))),
+    (1, Step, Ok(("acted", &[], 10))),
+    (1, Step, Ok(("returned", &[], 11))),
+];
+
+const WAITED: &[Row] = &[
+    (1, Step, Ok(("acted", &[], 5))),
+    (1, Step, Ok(("spawned", &[1], 6))),
+    (2, Steal(1), Ok(("moved", &[], 0))),
+    (2, Step, Ok(("spawned", &[2], 7))),
+    (1, Step, Ok(("acted", &[1], 1))),
+    (2, Step, Err(Waiting)),
+    (1, Step, Ok(("acted", &[1], 2))),
+    (1, Step, Ok(("acted", &[1], 3))),
+    (2, Step, Ok(("acted", &[2], 1))),
+    (1, Step, Ok(("returned", &[1], 4))),
+    (2, Step, Ok(("acted", &[2], 2))),
+    (2, Step, Ok(("acted", &[2], 3))),
+    (2, Step, Ok(("returned", &[2], 4))),
+    (2, Pop, Ok(("moved", &[], 0))),
+    (2, Step, Ok(("acted", &[], 8))),
+    (2, Step, Ok(("returned", &[], 9))),
+];
+
+const CROSSED: &[Row] = &[
+    (1, Step, Ok(("acted", &[], 11))),
+    (1, Step, Ok(("acted", &[], 12))),
+    (1, Step, Ok(("spawned", &[1], 13))),
+    (2, Steal(1), Ok(("moved", &[], 0))),
+    (2, Step, Ok(("spawned", &[2], 14))),
+    (1, Step, Ok(("acted", &[1], 1))),
+    (2, Step, Ok(("acted", &[2], 6))),
+    (1, Step, Err(Waiting)),
+    (2, Step, Err(Waiting)),
+    (1, Pop, Err(Busy)),
+    (2, Pop, Err(Busy)),
+    (1, Steal(2), Err(Busy)),
+    (2, Steal(1), Err(Busy)),
+];
+
+const ALONE: &[Row] = &[
+    (1, Step, Ok(("spawned", &[1], 4))),
+    (1, Step, Ok(("acted", &[1], 1))),
+    (1, Step, Ok(("acted", &[1], 2))),
+    (1, Step, Ok(("returned", &[1], 3))),
+    (1, Pop, Ok(("moved", &[], 0))),
+    (1, Step, Ok(("spawned", &[2], 5))),
+    (1, Step, Ok(("acted", &[2], 1))),
+    (1, Step, Ok(("acted", &[2], 2))),
+    (1, Step, Ok(("returned", &[2], 3))),
+    (1, Pop, Ok(("moved", &[], 0))),
+    (1, Step, Ok(("acted", &[], 6))),
+    (1, Step, Ok(("returned", &[], 7))),
+];
+
+// What is refused moves no frame. Each is where it was: the next step of worker 1 is the root's.
+const REFUSED_AT_THE_OPENING: &[Row] = &[
+    (2, Steal(1), Err(DequeEmpty)),
+    (2, Pop, Err(DequeEmpty)),
+    (2, Steal(2), Err(NoWorker)),
+    (2, Steal(9), Err(NoWorker)),
+    (2, Steal(65), Err(NoWorker)),
+    (9, Step, Err(NoWorker)),
+    (65, Step, Err(NoWorker)),
+    (2, Step, Err(HandEmpty)),
+    (1, Pop, Err(Busy)),
+    (1, Steal(2), Err(Busy)),
+];
+
+const OPENING: &[Row] = &[
+    (1, Step, Ok(("spawned", &[1], 4))),
+    (2, Steal(1), Ok(("moved", &[], 0))),
+    (2, Step, Ok(("spawned", &[2], 5))),
+    (1, Step, Ok(("acted", &[1], 1))),
+    (2, Step, Ok(("acted", &[2], 1))),
+    (1, Step, Ok(("acted", &[1], 2))),
+];
+
+// The thief has the root in its deque, and each worker a child in its hand.
+const REFUSED_TO_THE_THIEF: &[Row] = &[
+    (2, Steal(1), Err(Busy)),
+    (2, Pop, Err(Busy)),
+    (1, Steal(1), Err(NoWorker)),
+    (65, Step, Err(NoWorker)),
+];
+
+const CLOSING: &[Row] = &[
+    (2, Step, Ok(("acted", &[2], 2))),
+    (1, Step, Ok(("returned", &[1], 3))),
+    (1, Step, Err(HandEmpty)),
+    (1, Pop, Err(DequeEmpty)),
+    (2, Step, Ok(("returned", &[2], 3))),
+    (2, Pop, Ok(("moved", &[], 0))),
+    (1, Steal(2), Err(DequeEmpty)),
+    (2, Step, Ok(("acted", &[], 6))),
+    (2, Step, Ok(("returned", &[], 7))),
+];
+
+const OVER: &[Row] = &[(9, Step, Err(Over)), (2, Steal(1), Err(Over))];
+
+// Each program, its workers, its choices, and the closing text behind them.
+const ROWS: &[(&str, u8, &[Row], &str)] = &[
+    (SEVEN, 2, REFUSED_WITHOUT_CHILDREN, "main returned 7\n"),
     (
-        SAMPLE,
+        OVERFLOWING,
         1,
-        "1s:a1/ 1s:a2/",
-        "running",
-        "limit after 2 choices\n",
-    ),
-    (
-        SAMPLE,
-        1,
-        "1s:a1/ 1s:a2/ 1s:r3/",
-        "finished 9",
-        "main returned 9\n",
-    ),
-    (
-        "cilk int main(void) { return 2147483647 + 1; }",
-        1,
-        "1s:t1/!Overflow 1s:Over",
-        "t1/!Overflow",
+        TRAPPED,
         "trapped Overflow in / at 1, line 2\n",
     ),
-    // The closing brace returns nothing.
-    (
-        "cilk int main(void) {}",
-        64,
-        "1s:r1/",
-        "finished 0",
-        "main returned 0\n",
-    ),
-    // The delivery is taken first.
-    (
-        DOUBLING,
-        2,
-        "1s:a3/ 1s:s4/1 1s:r1/1 1p:m 1s:d4/1 1s:a5/ 1s:a6/ 1s:a7/ 1s:r8/",
-        "finished 24",
-        "main returned 24\n",
-    ),
-    // It is taken last.
-    (
-        DOUBLING,
-        2,
-        "1s:a3/ 1s:s4/1 2t1:m 2s:a5/ 1s:r1/1 2s:a6/ 2s:d4/1 2s:a7/ 2s:r8/",
-        "finished 9",
-        "main returned 9\n",
-    ),
-    // It is trapped at its spawn.
-    (
-        PASSING,
-        2,
-        "1s:a3/ 1s:s4/1 1s:r1/1 1p:m 1s:t4/!Overflow",
-        "t4/!Overflow",
-        "trapped Overflow in / at 4, line 6\n",
-    ),
-    (
-        "cilk int main(void) { return 7; }",
-        2,
-        "2t1:DequeEmpty 2p:DequeEmpty 2t2:NoWorker 2t0:NoWorker 2t65:NoWorker 1t3:NoWorker
-        65s:NoWorker 0s:NoWorker 2s:HandEmpty 1p:Busy 1t2:Busy
-        1s:r1/ 65s:Over 1s:Over 2p:Over 2t2:Over",
-        "finished 7",
-        "main returned 7\n",
-    ),
-    // A thief whose own deque is not empty.
-    (
-        COUNTING,
-        2,
-        "1s:s4/1 2t1:m 2s:s5/2 2s:a1/2 2s:a2/2 2s:r3/2 2t1:Busy 2s:HandEmpty 2p:m 2t1:Busy",
-        "running",
-        "limit after 7 choices\n",
-    ),
+    (COUNTING, 2, THIEF, "limit after 7 choices\n"),
+    (LOOKING, 2, ABORTED, "main returned 1\n"),
+    (ADDING, 2, WAITED, "main returned 2\n"),
+    (CROSSING, 2, CROSSED, "stuck after 7 choices\n"),
+    (CROSSING, 3, CROSSED, "limit after 7 choices\n"),
 ];
+
+fn machine(rt: &impl Abort, alloc: Global, text: &str, workers: u8) -> Machine {
+    Machine::new(alloc, program(rt, alloc, text), workers).expect(rt, "a machine")
+}
+
+// Makes the choices, and asserts what comes of each. One that is refused is not counted.
+fn play(rt: &impl Abort, machine: &mut Machine, rows: &[Row]) {
+    for &(worker, act, wanted) in rows {
+        let before = machine.choices();
+        assert!(rt; before < 1000);
+        let made = machine.make(Choice { worker, act });
+        assert_eq!(rt; told(&made), wanted);
+        let behind = if wanted.is_ok() { before + 1 } else { before };
+        assert_eq!(rt; machine.choices(), behind);
+    }
+}
+
+fn told(made: &Result<Event, Refusal>) -> Result<Told<'_>, Refusal> {
+    match made {
+        Ok(Event::Acted { path, n }) => Ok(("acted", path.as_slice(), *n)),
+        Ok(Event::Spawned { child, n }) => Ok(("spawned", child.as_slice(), *n)),
+        Ok(Event::Delivered { child, n }) => Ok(("delivered", child.as_slice(), *n)),
+        Ok(Event::Returned { path, n }) => Ok(("returned", path.as_slice(), *n)),
+        Ok(Event::Trapped { path, n, .. }) => Ok(("trapped", path.as_slice(), *n)),
+        Ok(Event::Ended { path }) => Ok(("ended", path.as_slice(), 0)),
+        Ok(Event::Moved) => Ok(("moved", &[], 0)),
+        Err(refusal) => Err(*refusal),
+    }
+}
+
+// Asserts the closing text.
+fn closes(rt: &impl Abort, alloc: Global, machine: &Machine, wanted: &str) {
+    let end = machine.end_now().expect(rt, "memory");
+    let text = ending(alloc, machine.output(), &end, machine.choices()).expect(rt, "memory");
+    is_text(rt, text.as_slice(), wanted);
+}
 
 #[test]
 fn schedules_come_out(rt: HostRuntime) {
-    rows_come_out(&rt, rt.alloc(), ROWS);
+    for &(text, workers, rows, closing) in ROWS {
+        let mut machine = machine(&rt, rt.alloc(), text, workers);
+        play(&rt, &mut machine, rows);
+        closes(&rt, rt.alloc(), &machine, closing);
+    }
 }
 
-// What is refused moves no frame. Each is where it was: the next step of worker 1 is the root's.
-const REFUSED_AT_THE_OPENING: &str =
-    "2t1:DequeEmpty 2p:DequeEmpty 2t2:NoWorker 2t9:NoWorker 2t65:NoWorker 9s:NoWorker
-    65s:NoWorker 2s:HandEmpty 1p:Busy 1t2:Busy";
-
-const OPENING: &str = "1s:s4/1 2t1:m 2s:s5/2 1s:a1/1 2s:a1/2 1s:a2/1";
-
-// The thief has the root in its deque, and each worker a child in its hand.
-const REFUSED_TO_THE_THIEF: &str = "2t1:Busy 2p:Busy 1t1:NoWorker 65s:NoWorker";
-
-const CLOSING: &str =
-    "2s:a2/2 1s:r3/1 1s:HandEmpty 1p:DequeEmpty 2s:r3/2 2p:m 1t2:DequeEmpty 2s:a6/ 2s:r7/";
-
-// The scripts one after the other, each with the value of g after it, and the value of `main`.
+// Choices one after the other, each with the value of g behind them, and the value of `main`.
 #[test]
 fn counts_alone_and_at_once(rt: HostRuntime) {
-    let alone =
-        "1s:s4/1 1s:a1/1 1s:a2/1 1s:r3/1 1p:m 1s:s5/2 1s:a1/2 1s:a2/2 1s:r3/2 1p:m 1s:a6/ 1s:r7/";
-    counts(&rt, rt.alloc(), &[("", 0), (alone, 2)], "main returned 2\n");
+    let alone = [([].as_slice(), 0), (ALONE, 2)];
+    counts(&rt, rt.alloc(), &alone, "main returned 2\n");
     let at_once = [
         (REFUSED_AT_THE_OPENING, 0),
         (OPENING, 1),
         (REFUSED_TO_THE_THIEF, 1),
         (CLOSING, 1),
-        ("9s:Over 2t1:Over", 1),
+        (OVER, 1),
     ];
     counts(&rt, rt.alloc(), &at_once, "main returned 1\n");
 }
 
-fn counts(rt: &impl Abort, alloc: Global, parts: &[(&str, i32)], closing: &str) {
+fn counts(rt: &impl Abort, alloc: Global, parts: &[(&[Row], i32)], closing: &str) {
     let mut machine = machine(rt, alloc, COUNTING, 2);
-    for (script, g) in parts {
-        play(rt, alloc, &mut machine, script);
-        assert_eq!(rt; machine.global("g", 0), Some(*g), "{script}");
+    for &(rows, g) in parts {
+        play(rt, &mut machine, rows);
+        assert_eq!(rt; machine.global("g", 0), Some(g));
     }
     assert_eq!(rt; machine.choices(), 12);
     assert_eq!(rt; machine.global("g", 1), None);
@@ -143,7 +280,11 @@ fn counts(rt: &impl Abort, alloc: Global, parts: &[(&str, i32)], closing: &str) 
 fn variables_of_the_top_level_have_cells(rt: HostRuntime) {
     let text = "int a = -5, b[3], c; cilk int main(void) { b[2] = 7; c = 8; return 0; }";
     let mut machine = machine(&rt, rt.alloc(), text, 1);
-    play(&rt, rt.alloc(), &mut machine, "1s:a1/ 1s:a2/");
+    let rows = [
+        (1, Step, Ok(("acted", [].as_slice(), 1))),
+        (1, Step, Ok(("acted", [].as_slice(), 2))),
+    ];
+    play(&rt, &mut machine, &rows);
     for (name, index, value) in [
         ("a", 0, Some(-5)),
         ("a", 1, None),
@@ -162,15 +303,15 @@ fn variables_of_the_top_level_have_cells(rt: HostRuntime) {
 fn instances_go_by_their_numbers(rt: HostRuntime) {
     let mut machine = machine(&rt, rt.alloc(), DOUBLING, 1);
     for (act, wanted) in [
-        (Act::Step, Ok(Did::Acted(Id::new(0), 3))),
-        (Act::Step, Ok(Did::Spawned(Id::new(1), 4))),
-        (Act::Pop, Err(Refusal::Busy)),
-        (Act::Step, Ok(Did::Returned(Id::new(1), 1))),
-        (Act::Step, Err(Refusal::HandEmpty)),
-        (Act::Steal(1), Err(Refusal::NoWorker)),
-        (Act::Pop, Ok(Did::Moved)),
-        (Act::Step, Ok(Did::Delivered(Id::new(1), 4))),
-        (Act::Step, Ok(Did::Acted(Id::new(0), 5))),
+        (Step, Ok(Did::Acted(Id::new(0), 3))),
+        (Step, Ok(Did::Spawned(Id::new(1), 4))),
+        (Pop, Err(Busy)),
+        (Step, Ok(Did::Returned(Id::new(1), 1))),
+        (Step, Err(HandEmpty)),
+        (Steal(1), Err(NoWorker)),
+        (Pop, Ok(Did::Moved)),
+        (Step, Ok(Did::Delivered(Id::new(1), 4))),
+        (Step, Ok(Did::Acted(Id::new(0), 5))),
     ] {
         assert!(rt; machine.choices() < 9);
         assert_eq!(rt; machine.advance(Choice { worker: 1, act }), wanted);
