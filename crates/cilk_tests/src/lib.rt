@@ -1,5 +1,5 @@
-//! The tests of the crates that read, record and debug. They stand in a crate of their own, since one that has tests is proved once more with them. Those of
-//! machines and runs stand in `cilk_tests_running`, so that both are proved side by side.
+//! The tests of what the built program does not show, of reading, recording, debugging, machines and their parts, and runs. They stand in a crate of their own,
+//! since one that has tests is proved once more with them.
 #![tactic(auto)]
 
 #[cfg(test)]
@@ -8,5 +8,7 @@ mod debugging;
 mod front;
 #[cfg(test)]
 mod recorded;
+#[cfg(test)]
+mod running;
 #[cfg(test)]
 mod sessions;
