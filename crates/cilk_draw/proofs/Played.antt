@@ -2,8 +2,8 @@
 use Rattle.std.proofs.Common.{◌≡◌, ◌∙◌, ℕ, List, ap, length, sym}
 use Rattle.std.proofs.lemmas.List.{length-map}
 use Rattle.cilk_log_replay.specs.machine.syntax.Tree.{Program}
-use Rattle.cilk_log_replay.specs.machine.choices.Words.{choice_of}
-use Rattle.cilk_log_replay.specs.machine.choices.declared.choice.Choice as code
+use Rattle.cilk_log_replay.specs.machine.sched.Words.{choice_of}
+use Rattle.cilk_log_replay.specs.machine.sched.declared.choice.Choice as code
 use Rattle.cilk_log_replay.specs.machine.Situation.{Situation}
 use Rattle.cilk_log_replay.specs.Tape.{IsAt, IsPlayable, Tape, position_at, tape_of}
 use Rattle.cilk_log_replay.proofs.Again.{led_in}

@@ -8,8 +8,8 @@ use Rattle.cilk_machine.specs.labelled.Bodies.{label}
 use Rattle.cilk_machine.specs.model.Choice.{Choice}
 use Rattle.cilk_machine.specs.model.Run.{Standing, Position}
 use Rattle.cilk_machine.specs.model.End as model
-use Rattle.cilk_machine.specs.choices.declared.end.End.{End}
-use Rattle.cilk_machine.specs.choices.Words.{end_of}
+use Rattle.cilk_machine.specs.sched.declared.end.End.{End}
+use Rattle.cilk_machine.specs.sched.Words.{end_of}
 use Rattle.cilk_machine.specs.Situation as machine
 use Rattle.cilk_machine.specs.Situation.{Situation}
 use Rattle.cilk_machine.specs.Stands.{StandsAt}

@@ -7,8 +7,8 @@ use Rattle.std.proofs.lemmas.List.{reverse-append, length-map, length-reverse, l
 use Rattle.std.proofs.Math.Nat.{le-max_left, le-max_right}
 use Rattle.std.proofs.Math.Seq.{set-append_seam}
 use Rattle.cilk_machine.specs.model.Choice.{Choice}
-use Rattle.cilk_machine.specs.choices.declared.choice.Choice as code
-use Rattle.cilk_machine.specs.choices.Words.{choice_of}
+use Rattle.cilk_machine.specs.sched.declared.choice.Choice as code
+use Rattle.cilk_machine.specs.sched.Words.{choice_of}
 use Rattle.cilk_explore.specs.declared.node.Node.{Node}
 use Rattle.cilk_explore.proofs.Fronts.{get-front, get-cases, get-last, set-split, append-none, one-there, some-there}
 use Rattle.cilk_explore.specs.Looking.{IsWay, IsLongerBy}

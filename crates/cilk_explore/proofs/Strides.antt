@@ -11,11 +11,11 @@ use Rattle.cilk_machine.specs.model.Choice as model
 use Rattle.cilk_machine.specs.model.Choice.{Choice}
 use Rattle.cilk_machine.specs.model.Event.{Event}
 use Rattle.cilk_machine.specs.model.Run.{Position, after, next_of, one_more, position_after}
-use Rattle.cilk_machine.specs.choices.declared.choice.Choice as code
-use Rattle.cilk_machine.specs.choices.declared.refusal.Refusal.{Refusal}
-use Rattle.cilk_machine.specs.choices.declared.refusal.Refusal.TheVariants.{Over, NoWorker, HandEmpty, Busy, DequeEmpty, Waiting, Memory, Stale}
-use Rattle.cilk_machine.specs.choices.declared.outcome.Outcome.TheVariants.{Running}
-use Rattle.cilk_machine.specs.choices.Words.{choice_of, reason_of}
+use Rattle.cilk_machine.specs.sched.declared.choice.Choice as code
+use Rattle.cilk_machine.specs.sched.declared.refusal.Refusal.{Refusal}
+use Rattle.cilk_machine.specs.sched.declared.refusal.Refusal.TheVariants.{Over, NoWorker, HandEmpty, Busy, DequeEmpty, Waiting, Memory, Stale}
+use Rattle.cilk_machine.specs.sched.declared.outcome.Outcome.TheVariants.{Running}
+use Rattle.cilk_machine.specs.sched.Words.{choice_of, reason_of}
 use Rattle.cilk_machine.specs.Situation.{Before, Situation, workers_of, before_of, kept_by}
 use Rattle.cilk_machine.specs.Stands.{Led, StandsAt}
 use Rattle.cilk_machine.specs.Made.{Makes, IsRefused}

@@ -6,7 +6,7 @@ use Rattle.cilk_machine.specs.labelled.Labelled.{Labelled}
 use Rattle.cilk_machine.specs.labelled.Bodies.{label}
 use Rattle.cilk_machine.specs.model.Choice.{Choice}
 use Rattle.cilk_machine.specs.model.Run.{Position, after}
-use Rattle.cilk_machine.specs.choices.Words.{choice_of}
+use Rattle.cilk_machine.specs.sched.Words.{choice_of}
 use Rattle.cilk_explore.specs.explore.Endless.{CanEnd}
 use Rattle.cilk_explore.specs.explore.OrMore.{HasIdle, EachHasIdle}
 use Rattle.cilk_explore.specs.explore.Search.{Known, Once, Sound, Whole, First}

@@ -1,7 +1,7 @@
 -- The nodes of a search stand for the logs that it has found: each is that of its parent, and one choice more.
 use Rattle.std.specs.Prelude.{◌≡◌, ◌<◌, ◌≤◌, ℕ, List, [], ◌∷◌, ◌++◌, length, Some, slice_get, slice_index_or}
 use Rattle.cilk_machine.specs.model.Choice.{Choice}
-use Rattle.cilk_machine.specs.choices.Words.{choice_of}
+use Rattle.cilk_machine.specs.sched.Words.{choice_of}
 use Rattle.cilk_explore.specs.declared.node.Node.{Node}
 
 -- that of a node, where those of the nodes before it are these

@@ -3,8 +3,8 @@ use Rattle.std.specs.Prelude.{◌≡◌, ℕ, List, [], ◌∷◌, ◌++◌, map
 use Rattle.cilk_machine.specs.labelled.Bodies.{label}
 use Rattle.cilk_machine.specs.model.Run.{Position}
 use Rattle.cilk_machine.specs.model.End as model
-use Rattle.cilk_machine.specs.choices.declared.end.End.{End}
-use Rattle.cilk_machine.specs.choices.Words.{choice_of, end_of}
+use Rattle.cilk_machine.specs.sched.declared.end.End.{End}
+use Rattle.cilk_machine.specs.sched.Words.{choice_of, end_of}
 use Rattle.cilk_explore.specs.explore.Ending.{Ending, IsOver}
 use Rattle.cilk_explore.specs.explore.Search.{Told}
 use Rattle.cilk_explore.specs.Walks.{Walk, position_of}

@@ -5,8 +5,8 @@ use Rattle.cilk_machine.specs.labelled.Bodies.{label}
 use Rattle.cilk_machine.specs.model.Choice.{Choice}
 use Rattle.cilk_machine.specs.model.Event.{Event}
 use Rattle.cilk_machine.specs.model.Run.{Standing, Position, after}
-use Rattle.cilk_machine.specs.choices.declared.choice.Choice as code
-use Rattle.cilk_machine.specs.choices.Words.{choice_of}
+use Rattle.cilk_machine.specs.sched.declared.choice.Choice as code
+use Rattle.cilk_machine.specs.sched.Words.{choice_of}
 use Rattle.cilk_machine.specs.Situation.{Before, Situation, workers_of}
 use Rattle.cilk_machine.specs.Stands.{Led}
 use Rattle.cilk_machine.specs.Kept.{situation_at}

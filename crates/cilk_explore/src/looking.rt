@@ -4,7 +4,7 @@ ghost use Rattle.std.specs.Prelude.{ℕ, ◌≡◌, ◌≢◌, ◌<◌, ◌≤�
 ghost use Rattle.cilk_machine.specs.labelled.Bodies.{label};
 ghost use Rattle.cilk_machine.specs.model.Choice as choices;
 ghost use Rattle.cilk_machine.specs.model.Run.{Position};
-ghost use Rattle.cilk_machine.specs.choices.Words.{choice_of};
+ghost use Rattle.cilk_machine.specs.sched.Words.{choice_of};
 ghost use Rattle.cilk_explore.specs.explore.OrMore.{IsIdle};
 ghost use Rattle.cilk_explore.specs.Linking.{IsLinked, AreLinkedBy};
 ghost use Rattle.cilk_explore.specs.Looking.{LeadsToSame, StandsAtLog};

@@ -1,7 +1,7 @@
 //! The logs that a search has found, each kept as the choice that it has more than an earlier one.
 
 ghost use Rattle.std.specs.Prelude.{◌≡◌, ◌≢◌, ◌<◌, ◌++◌, ◌∷◌, [], length, map, Some, None, IfOk, IfSome, OnErr, OnOk, set, slice_get, slice_index_or};
-ghost use Rattle.cilk_machine.specs.choices.Words.{choice_of};
+ghost use Rattle.cilk_machine.specs.sched.Words.{choice_of};
 ghost use Rattle.cilk_explore.specs.Looking.{IsLongerBy, IsWay};
 
 use crate::node::Node;

@@ -1,7 +1,7 @@
 //! An ending of a program, with a schedule that leads to it.
 
 ghost use Rattle.std.specs.Prelude.{◌≡◌, Decides};
-ghost use Rattle.cilk_machine.specs.choices.Words.{end_of};
+ghost use Rattle.cilk_machine.specs.sched.Words.{end_of};
 
 use cilk_machine::{Choice, End};
 

@@ -1,7 +1,7 @@
 //! A log behind which the program never ends, where all was looked at.
 
 ghost use Rattle.std.specs.Prelude.{◌≡◌, ℕ, true, false, map, None, IfOk, IfSome, IfNone};
-ghost use Rattle.cilk_machine.specs.choices.Words.{choice_of};
+ghost use Rattle.cilk_machine.specs.sched.Words.{choice_of};
 ghost use Rattle.cilk_explore.specs.Marking.{AreMarks};
 ghost use Rattle.cilk_explore.specs.Exploring.{program_of, IsThrough, IsOf, NeverEnds, EachCanEnd};
 

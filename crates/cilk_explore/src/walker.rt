@@ -4,7 +4,7 @@ ghost use Rattle.std.specs.Prelude.{◌≡◌, ◌≢◌, ◌<◌, ◌≤◌, �
 ghost use Rattle.std.specs.Prelude.{OnErr, OnOk, slice_get};
 ghost use Rattle.cilk_machine.specs.labelled.Bodies.{label};
 ghost use Rattle.cilk_machine.specs.model.Run.{Position, after};
-ghost use Rattle.cilk_machine.specs.choices.Words.{choice_of, end_of};
+ghost use Rattle.cilk_machine.specs.sched.Words.{choice_of, end_of};
 ghost use Rattle.cilk_explore.specs.explore.Ending.{is_last, IsOver};
 ghost use Rattle.cilk_explore.specs.explore.Names.{SameButNames};
 ghost use Rattle.cilk_explore.specs.explore.OrMore.{IsIdle, HasIdle};
@@ -34,7 +34,7 @@ impl Drop for Walker {
 
 impl Model for Walker {
     ghost use Rattle.std.specs.Prelude.{map};
-    ghost use Rattle.cilk_machine.specs.choices.Words.{choice_of};
+    ghost use Rattle.cilk_machine.specs.sched.Words.{choice_of};
     ghost use Rattle.cilk_machine.specs.syntax.ProgramCoding.{coded_Program};
     ghost use Rattle.std.specs.Coded.{codes};
     ghost use Rattle.cilk_explore.specs.Walks.{Walk, walk_of, IsWalk};

@@ -12,10 +12,10 @@ use Rattle.cilk_machine.proofs.runs_laws.model_laws.Runs.{after-push}
 use Rattle.cilk_machine.specs.spawn.Nodes.{path_at}
 use Rattle.cilk_machine.specs.plans.declared.did.Did.{Did}
 use Rattle.cilk_machine.specs.plans.PartWords.{event_by}
-use Rattle.cilk_machine.specs.choices.declared.refusal.Refusal as code
-use Rattle.cilk_machine.specs.choices.declared.refusal.Refusal.TheVariants as refusal
-use Rattle.cilk_machine.specs.choices.declared.choice.Choice as coded
-use Rattle.cilk_machine.specs.choices.Words.{choice_of, reason_of}
+use Rattle.cilk_machine.specs.sched.declared.refusal.Refusal as code
+use Rattle.cilk_machine.specs.sched.declared.refusal.Refusal.TheVariants as refusal
+use Rattle.cilk_machine.specs.sched.declared.choice.Choice as coded
+use Rattle.cilk_machine.specs.sched.Words.{choice_of, reason_of}
 use Rattle.cilk_machine.specs.Situation.{Situation, workers_of}
 use Rattle.cilk_machine.specs.Stands.{Led, Opens}
 use Rattle.cilk_machine.specs.Made.{Makes, MakesBy, IsRefused}

@@ -3,7 +3,7 @@ use Rattle.std.proofs.Common.{◌≡◌, ◌≤◌, ◌∷◌, [], ℕ, Bool, tr
 use Rattle.std.proofs.lemmas.Option.{slice_get_within}
 use Rattle.cilk_machine.specs.model.Choice.{Choice}
 use Rattle.cilk_machine.specs.model.Event.{Event}
-use Rattle.cilk_machine.specs.choices.declared.outcome.Outcome.TheVariants.{Running}
+use Rattle.cilk_machine.specs.sched.declared.outcome.Outcome.TheVariants.{Running}
 use Rattle.cilk_machine.specs.Situation.{Situation, before_of, kept_by}
 use Rattle.cilk_machine.specs.Stands.{Led}
 use Rattle.cilk_machine.specs.Made.{Makes, TakesBack}

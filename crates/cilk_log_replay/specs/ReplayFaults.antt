@@ -5,8 +5,8 @@ use Rattle.cilk_machine.specs.syntax.ProgramText.{program_text}
 use Rattle.cilk_log.specs.Naming.{is_of}
 use Rattle.cilk_machine.specs.model.Choice.{Choice, Refusal}
 use Rattle.cilk_machine.specs.model.Run.{is_crew}
-use Rattle.cilk_machine.specs.choices.declared.refusal.Refusal as code
-use Rattle.cilk_machine.specs.choices.Words.{reason_of}
+use Rattle.cilk_machine.specs.sched.declared.refusal.Refusal as code
+use Rattle.cilk_machine.specs.sched.Words.{reason_of}
 use Rattle.cilk_log_replay.specs.Tape.{Tape, IsBad}
 use Rattle.cilk_log_replay.specs.declared.replay_fault.ReplayFault.{ReplayFault}
 use Rattle.cilk_log_replay.specs.declared.replay_fault.ReplayFault.TheVariants.{OtherProgram, Workers, BadChoice, Memory}

@@ -5,8 +5,8 @@ use Rattle.cilk_machine.specs.labelled.Bodies.{label}
 use Rattle.cilk_machine.specs.model.Choice.{Choice, Refusal}
 use Rattle.cilk_machine.specs.model.Event.{Event}
 use Rattle.cilk_machine.specs.model.Run.{Position, after, refusal_of, event_of}
-use Rattle.cilk_machine.specs.choices.declared.choice.Choice as code
-use Rattle.cilk_machine.specs.choices.Words.{choice_of}
+use Rattle.cilk_machine.specs.sched.declared.choice.Choice as code
+use Rattle.cilk_machine.specs.sched.Words.{choice_of}
 use Rattle.cilk_machine.specs.Situation.{Situation, workers_of}
 use Rattle.cilk_machine.specs.Stands.{Led}
 

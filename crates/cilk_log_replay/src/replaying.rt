@@ -7,7 +7,7 @@ ghost use Rattle.cilk_machine.specs.syntax.ProgramText.{program_text};
 ghost use Rattle.cilk_log.specs.Naming.{is_of};
 ghost use Rattle.cilk_machine.specs.model.Choice as model;
 ghost use Rattle.cilk_machine.specs.model.Run.{is_crew};
-ghost use Rattle.cilk_machine.specs.choices.Words.{choice_of, reason_of};
+ghost use Rattle.cilk_machine.specs.sched.Words.{choice_of, reason_of};
 ghost use Rattle.cilk_machine.specs.spawn.Nodes.{path_at};
 ghost use Rattle.cilk_machine.specs.plans.PartWords.{event_by};
 ghost use Rattle.cilk_machine.specs.Checkpoints.{IsEarlier};

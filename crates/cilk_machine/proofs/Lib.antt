@@ -32,7 +32,6 @@ pub use Rattle.cilk_machine_undo.proofs.nodes_laws
 pub use Rattle.cilk_machine_undo.proofs.runs_laws
 pub use Rattle.cilk_machine_undo.proofs.sched_laws
 pub use Rattle.cilk_machine_undo.proofs.spawn_laws
-pub use Rattle.cilk_sched.proofs as choices_laws
 pub use Rattle.cilk_machine_step.proofs as step_laws
 pub use Rattle.cilk_view.proofs.explore_laws
 pub mod Checkpoints

@@ -11,10 +11,10 @@ use Rattle.cilk_log_replay.specs.machine.model.Path.{Path}
 use Rattle.cilk_log_replay.specs.machine.model.Choice as model
 use Rattle.cilk_log_replay.specs.machine.model.Event.{Event}
 use Rattle.cilk_log_replay.specs.machine.model.End.{numbers}
-use Rattle.cilk_log_replay.specs.machine.choices.declared.choice.Choice.{Choice}
-use Rattle.cilk_log_replay.specs.machine.choices.declared.act.Act.{Act}
-use Rattle.cilk_log_replay.specs.machine.choices.declared.act.Act.TheVariants.{Step, Pop, Steal}
-use Rattle.cilk_log_replay.specs.machine.choices.Words.{act_of, choice_of}
+use Rattle.cilk_log_replay.specs.machine.sched.declared.choice.Choice.{Choice}
+use Rattle.cilk_log_replay.specs.machine.sched.declared.act.Act.{Act}
+use Rattle.cilk_log_replay.specs.machine.sched.declared.act.Act.TheVariants.{Step, Pop, Steal}
+use Rattle.cilk_log_replay.specs.machine.sched.Words.{act_of, choice_of}
 use Rattle.cilk_log_replay.specs.machine.plans.declared.did.Did.{Did}
 use Rattle.cilk_log_replay.specs.machine.plans.declared.did.Did.TheVariants as did
 use Rattle.cilk_log_replay.specs.machine.plans.PartWords.{event_by}

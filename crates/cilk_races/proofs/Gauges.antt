@@ -15,8 +15,8 @@ use Rattle.cilk_log_replay.specs.machine.model.Event.{Event, acted, spawned, del
 use Rattle.cilk_log_replay.specs.machine.model.Made.{born}
 use Rattle.cilk_log_replay.specs.machine.model.Change.{is_sync}
 use Rattle.cilk_log_replay.specs.machine.model.Run.{Position, refusal_of, event_of, position_after, one_more}
-use Rattle.cilk_log_replay.specs.machine.choices.declared.choice.Choice.{Choice}
-use Rattle.cilk_log_replay.specs.machine.choices.Words.{choice_of}
+use Rattle.cilk_log_replay.specs.machine.sched.declared.choice.Choice.{Choice}
+use Rattle.cilk_log_replay.specs.machine.sched.Words.{choice_of}
 use Rattle.cilk_log_replay.specs.machine.spawn.Nodes.{Node, IsTree, node_at, path_at}
 use Rattle.cilk_log_replay.specs.machine.frame.Kinds.{kind_of}
 use Rattle.cilk_log_replay.specs.machine.agree.Fated.{Fated}

@@ -3,8 +3,8 @@ use Rattle.std.proofs.Common.{◌≡◌, ℕ, List, length, take, Option, Some, 
 use Rattle.std.proofs.Common.{refl, sym, ap, ◌∙◌, subst, arith, IfSome}
 use Rattle.std.proofs.lemmas.List.{length-map, take_all}
 use Rattle.cilk_log_replay.specs.Tape.{Tape, IsAt, position_at, tape_of}
-use Rattle.cilk_log_replay.specs.machine.choices.Words.{choice_of}
-use Rattle.cilk_log_replay.specs.machine.choices.declared.choice.Choice.{Choice}
+use Rattle.cilk_log_replay.specs.machine.sched.Words.{choice_of}
+use Rattle.cilk_log_replay.specs.machine.sched.declared.choice.Choice.{Choice}
 use Rattle.cilk_log_replay.specs.machine.labelled.Bodies.{label}
 use Rattle.cilk_log_replay.specs.machine.model.End.{end_now}
 use Rattle.cilk_log_replay.specs.machine.syntax.Tree.{Program}

@@ -6,10 +6,10 @@ use Rattle.cilk_log_replay.specs.machine.Stands.{Led}
 use Rattle.cilk_log_replay.specs.machine.agree.Laws.{InHand, instance_of, path_of}
 use Rattle.cilk_log_replay.specs.machine.agree.Agrees.{name_in}
 use Rattle.cilk_log_replay.specs.machine.agree.scopes.WellFormed.{WellFormed}
-use Rattle.cilk_log_replay.specs.machine.choices.declared.act.Act.{Act}
-use Rattle.cilk_log_replay.specs.machine.choices.declared.act.Act.TheVariants as does
-use Rattle.cilk_log_replay.specs.machine.choices.declared.choice.Choice as code
-use Rattle.cilk_log_replay.specs.machine.choices.Words.{act_of, choice_of}
+use Rattle.cilk_log_replay.specs.machine.sched.declared.act.Act.{Act}
+use Rattle.cilk_log_replay.specs.machine.sched.declared.act.Act.TheVariants as does
+use Rattle.cilk_log_replay.specs.machine.sched.declared.choice.Choice as code
+use Rattle.cilk_log_replay.specs.machine.sched.Words.{act_of, choice_of}
 use Rattle.cilk_log_replay.specs.machine.labelled.Bodies.{label}
 use Rattle.cilk_log_replay.specs.machine.labelled.Labelled.{Labelled}
 use Rattle.cilk_log_replay.specs.machine.model.Choice as model

@@ -15,8 +15,8 @@ use Rattle.cilk_log_replay.specs.machine.agree.scopes.WellFormed.{WellFormed}
 use Rattle.cilk_log_replay.specs.machine.plans.PartWords.{event_by}
 use Rattle.cilk_log_replay.specs.machine.plans.declared.did.Did.{Did}
 use Rattle.cilk_log_replay.specs.machine.plans.declared.did.Did.TheVariants as did
-use Rattle.cilk_log_replay.specs.machine.choices.declared.choice.Choice.{Choice}
-use Rattle.cilk_log_replay.specs.machine.choices.Words.{choice_of}
+use Rattle.cilk_log_replay.specs.machine.sched.declared.choice.Choice.{Choice}
+use Rattle.cilk_log_replay.specs.machine.sched.Words.{choice_of}
 use Rattle.cilk_log_replay.specs.machine.labelled.Bodies.{label}
 use Rattle.cilk_log_replay.specs.machine.labelled.Labelled.{Labelled}
 use Rattle.cilk_log_replay.specs.machine.model.Choice as model

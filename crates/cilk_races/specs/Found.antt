@@ -3,8 +3,8 @@ use Rattle.std.specs.Prelude.{◌≡◌, ℕ, List, Some}
 use Rattle.cilk_log_replay.specs.Tape.{Tape}
 use Rattle.cilk_log_replay.specs.machine.Situation.{Situation}
 use Rattle.cilk_log_replay.specs.machine.Stands.{StandsAt}
-use Rattle.cilk_log_replay.specs.machine.choices.Words.{end_of}
-use Rattle.cilk_log_replay.specs.machine.choices.declared.end.End.{End}
+use Rattle.cilk_log_replay.specs.machine.sched.Words.{end_of}
+use Rattle.cilk_log_replay.specs.machine.sched.declared.end.End.{End}
 use Rattle.cilk_log_replay.specs.machine.labelled.Bodies.{label}
 use Rattle.cilk_log_replay.specs.machine.model.End as model
 use Rattle.cilk_log_replay.specs.machine.labelled.Labelled.{Labelled}

@@ -3,7 +3,7 @@ use Rattle.std.specs.Prelude.{◌≡◌, ℕ, List, [], length, Option, Some, No
 use Rattle.cilk_log_replay.specs.machine.labelled.Bodies.{label}
 use Rattle.cilk_log_replay.specs.machine.model.Event.{Event}
 use Rattle.cilk_log_replay.specs.machine.model.Run.{Position}
-use Rattle.cilk_log_replay.specs.machine.choices.declared.choice.Choice.{Choice}
+use Rattle.cilk_log_replay.specs.machine.sched.declared.choice.Choice.{Choice}
 use Rattle.cilk_log_replay.specs.machine.spawn.Nodes.{path_at}
 use Rattle.cilk_log_replay.specs.machine.plans.declared.did.Did.{Did}
 use Rattle.cilk_log_replay.specs.machine.plans.PartWords.{event_by}

@@ -5,9 +5,9 @@ use Rattle.cilk_log_replay.specs.machine.Ahead.{IsAhead}
 use Rattle.cilk_log_replay.specs.machine.Situation.{Situation}
 use Rattle.cilk_log_replay.specs.machine.plans.PartWords.{event_by}
 use Rattle.cilk_log_replay.specs.machine.plans.declared.did.Did.{Did}
-use Rattle.cilk_log_replay.specs.machine.choices.declared.act.Act.{Act}
-use Rattle.cilk_log_replay.specs.machine.choices.declared.act.Act.TheVariants.{Step, Pop, Steal}
-use Rattle.cilk_log_replay.specs.machine.choices.declared.choice.Choice.{Choice}
+use Rattle.cilk_log_replay.specs.machine.sched.declared.act.Act.{Act}
+use Rattle.cilk_log_replay.specs.machine.sched.declared.act.Act.TheVariants.{Step, Pop, Steal}
+use Rattle.cilk_log_replay.specs.machine.sched.declared.choice.Choice.{Choice}
 use Rattle.cilk_log_replay.specs.machine.model.Hands.{IsWorker, hand_of}
 use Rattle.cilk_log_replay.specs.machine.spawn.Nodes.{path_at}
 use Rattle.cilk_log_replay.specs.machine.step.plan.StepInput.{StepInput, id_of, own_node}

@@ -1,6 +1,6 @@
 -- What the code's words for meetings mean.
 use Rattle.std.specs.Prelude.{ℕ, List, map, option_map}
-use Rattle.cilk_log_replay.specs.machine.choices.Words.{end_of}
+use Rattle.cilk_log_replay.specs.machine.sched.Words.{end_of}
 use Rattle.cilk_races.specs.Line.{Line}
 use Rattle.cilk_races.specs.Paired.{Within, pair_of}
 use Rattle.cilk_races.specs.declared.touch.Touch.{Touch}

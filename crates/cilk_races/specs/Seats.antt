@@ -2,9 +2,9 @@
 use Rattle.std.specs.Prelude.{ℕ, zero, suc, ◌-◌, max, Bool, true, false, if◌then◌else◌, List, length, map, replicate, slice_index_or, slice_set}
 use Rattle.cilk_log_replay.specs.machine.plans.declared.did.Did.{Did}
 use Rattle.cilk_log_replay.specs.machine.plans.declared.did.Did.TheVariants.{Moved, Spawned}
-use Rattle.cilk_log_replay.specs.machine.choices.declared.choice.Choice.{Choice}
-use Rattle.cilk_log_replay.specs.machine.choices.declared.act.Act.{Act}
-use Rattle.cilk_log_replay.specs.machine.choices.declared.act.Act.TheVariants.{Step, Pop, Steal}
+use Rattle.cilk_log_replay.specs.machine.sched.declared.choice.Choice.{Choice}
+use Rattle.cilk_log_replay.specs.machine.sched.declared.act.Act.{Act}
+use Rattle.cilk_log_replay.specs.machine.sched.declared.act.Act.TheVariants.{Step, Pop, Steal}
 use Rattle.cilk_races.specs.declared.seat.Seat.{Seat}
 use Rattle.cilk_races.specs.Measure.{Measure, greatest}
 use Rattle.cilk_races.specs.Cells.{next}

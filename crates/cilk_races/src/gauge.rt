@@ -1,7 +1,7 @@
 //! A machine that makes the choices of a schedule again, with what is kept of them.
 
 ghost use Rattle.std.specs.Prelude.{◌≡◌, ◌<◌, suc, IfOk, IfErr, OnOk, length, map, option_copied, slice_get};
-ghost use Rattle.cilk_log_replay.specs.machine.choices.Words.{choice_of};
+ghost use Rattle.cilk_log_replay.specs.machine.sched.Words.{choice_of};
 ghost use Rattle.cilk_log_replay.specs.Tape.{Tape, IsAt};
 ghost use Rattle.cilk_log_replay.specs.ReplayFaults.{IsFaultOf};
 ghost use Rattle.cilk_races.specs.Gauged.{Advances};

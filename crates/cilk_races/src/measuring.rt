@@ -1,7 +1,7 @@
 //! The numbers of a run, found in one pass, while its choices are made again.
 
 ghost use Rattle.std.specs.Prelude.{◌≡◌, ◌≤◌, ◌^◌, true, IfOk, IfErr, length, map};
-ghost use Rattle.cilk_log_replay.specs.machine.choices.Words.{choice_of};
+ghost use Rattle.cilk_log_replay.specs.machine.sched.Words.{choice_of};
 ghost use Rattle.cilk_log_replay.specs.log.Naming.{is_of};
 ghost use Rattle.cilk_log_replay.specs.ReplayFaults.{IsFaultOf, IsNamedFaultOf};
 ghost use Rattle.cilk_log_replay.specs.Tape.{IsAt, Tape, tape_of};

@@ -1,7 +1,7 @@
 //! How a schedule is told that takes two accesses in the other order.
 
 ghost use Rattle.std.specs.Prelude.{◌≡◌, option_map};
-ghost use Rattle.cilk_log_replay.specs.machine.choices.Words.{end_of};
+ghost use Rattle.cilk_log_replay.specs.machine.sched.Words.{end_of};
 ghost use Rattle.cilk_log_replay.specs.machine.syntax.Appends.{Appends};
 ghost use Rattle.cilk_races.specs.Met.{reversal_by};
 ghost use Rattle.cilk_races.specs.RacesText.{reversal_end, reversal_line, reversal_size, reversal_text};

@@ -3,7 +3,7 @@
 ghost use Rattle.std.specs.Prelude.{◌≡◌, ◌≤◌, ◌^◌, List, true, IfErr, IfOk, length, map};
 ghost use Rattle.std.specs.List.{All};
 ghost use Rattle.cilk_log_replay.specs.machine.agree.scopes.WellFormed.{WellFormed};
-ghost use Rattle.cilk_log_replay.specs.machine.choices.Words.{choice_of};
+ghost use Rattle.cilk_log_replay.specs.machine.sched.Words.{choice_of};
 ghost use Rattle.cilk_log_replay.specs.machine.labelled.Labelled.{Labelled};
 ghost use Rattle.cilk_log_replay.specs.machine.model.Event.{Event};
 ghost use Rattle.cilk_log_replay.specs.machine.syntax.ProgramText.{program_text};

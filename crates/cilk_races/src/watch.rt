@@ -3,7 +3,7 @@
 ghost use Rattle.std.specs.Prelude.{◌≡◌, ◌<◌, ◌∷◌, ◌++◌, ◌^◌, ℕ, List, suc, [], length, map, slice_get, option_copied, IfErr, IfOk, OnOk};
 ghost use Rattle.std.specs.List.{All};
 ghost use Rattle.cilk_log_replay.specs.machine.agree.scopes.WellFormed.{WellFormed};
-ghost use Rattle.cilk_log_replay.specs.machine.choices.Words.{choice_of};
+ghost use Rattle.cilk_log_replay.specs.machine.sched.Words.{choice_of};
 ghost use Rattle.cilk_log_replay.specs.Tape.{Tape, IsAt};
 ghost use Rattle.cilk_log_replay.specs.ReplayFaults.{IsFaultOf};
 ghost use Rattle.cilk_races.specs.Tallies.{first};

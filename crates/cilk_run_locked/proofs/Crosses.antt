@@ -2,7 +2,7 @@
 use denote.Param.Send.{IsSend, sendable}
 use Rattle.std.proofs.Crossing.{crosses}
 use Rattle.cilk_machine.proofs.Crosses.{machine_send}
-use Rattle.cilk_machine.proofs.choices_laws.choice.Choice.TheSendSync as choice
+use Rattle.cilk_machine.proofs.sched_laws.choice.Choice.TheSendSync as choice
 use Rattle.cilk_run_locked.specs.contracts.locked.Locked as locked
 
 pub locked_send : IsSend locked.the_row

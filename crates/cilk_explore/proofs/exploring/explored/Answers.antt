@@ -1,5 +1,5 @@
 use Rattle.std.proofs.Common.{inl, inr, map, sym, ap, ◌∙◌, arith, Ok}
-use Rattle.cilk_machine.specs.choices.Words.{choice_of}
+use Rattle.cilk_machine.specs.sched.Words.{choice_of}
 use Rattle.cilk_explore.specs.Telling.{told_by}
 use Rattle.cilk_explore.specs.Exploring.{IsOf}
 use Rattle.cilk_explore.proofs.Wholes.{sound-of, first-of, whole-of, once-of, endless-of, ending-of, on-none}

@@ -1,5 +1,5 @@
 use Rattle.std.proofs.Common.{true, Ok, refl, ap, ◌∙◌}
-use Rattle.cilk_machine.specs.choices.Words.{choice_of}
+use Rattle.cilk_machine.specs.sched.Words.{choice_of}
 use Rattle.cilk_explore.specs.declared.explorer.Explorer.{Explorer}
 use Rattle.cilk_explore.specs.Exploring.{IsKnownBy}
 use Rattle.cilk_explore.proofs.Gathers.{gathers-none, gathers-one, linked-one}

@@ -1,6 +1,6 @@
 use Rattle.std.proofs.Common.{false, map}
 use Rattle.std.proofs.lemmas.Option.{slice_get_within, get_or_from_slice_get}
-use Rattle.cilk_machine.specs.choices.Words.{choice_of}
+use Rattle.cilk_machine.specs.sched.Words.{choice_of}
 use Rattle.cilk_explore.proofs.Endless.{unmarked-within, never-ends, each-can-end}
 use Rattle.cilk_explore.proofs.unending.first_endless.Goals as goal
 

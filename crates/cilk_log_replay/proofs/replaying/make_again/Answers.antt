@@ -1,5 +1,5 @@
 use Rattle.std.proofs.Common.{sym, ap, ◌∙◌, option_copied}
-use Rattle.cilk_machine.specs.choices.Words.{choice_of}
+use Rattle.cilk_machine.specs.sched.Words.{choice_of}
 use Rattle.cilk_machine.proofs.Checkpoints.{goes-on-telling}
 use Rattle.cilk_log_replay.proofs.Again.{chosen, next_by, did_by_it, bad_by}
 use Rattle.cilk_log_replay.proofs.Onward.{goes-on}

@@ -1,5 +1,5 @@
 use Rattle.std.proofs.Common.{◌≡◌, map}
-use Rattle.cilk_machine.specs.choices.Words.{choice_of}
+use Rattle.cilk_machine.specs.sched.Words.{choice_of}
 use Rattle.cilk_log_replay.specs.Tape.{Tape, IsAt}
 use Rattle.cilk_log_replay.proofs.replaying.make_first.Given as goal
 

@@ -1,5 +1,5 @@
 use Rattle.std.proofs.Common.{map}
-use Rattle.cilk_log_replay.specs.machine.choices.Words.{choice_of}
+use Rattle.cilk_log_replay.specs.machine.sched.Words.{choice_of}
 use Rattle.cilk_log_replay.proofs.Naming.{ok_always}
 use Rattle.cilk_races.proofs.measuring.measure_all.Goals as goal
 

@@ -1,6 +1,6 @@
 use Rattle.std.proofs.Common.{◌≡◌, ℕ, length, refl, sym, subst}
 use Rattle.std.proofs.lemmas.List.{length-map}
-use Rattle.cilk_log_replay.specs.machine.choices.Words.{choice_of}
+use Rattle.cilk_log_replay.specs.machine.sched.Words.{choice_of}
 use Rattle.cilk_log_replay.specs.Tape.{Tape, IsAt, tape_of}
 use Rattle.cilk_races.specs.Gauged.{IsMeasureOf}
 use Rattle.cilk_races.specs.Held.{Gauged}

@@ -1,6 +1,6 @@
 use Rattle.std.proofs.Common.{◌≡◌, map}
 use Rattle.cilk_log_replay.specs.machine.agree.scopes.WellFormed.{WellFormed}
-use Rattle.cilk_log_replay.specs.machine.choices.Words.{choice_of}
+use Rattle.cilk_log_replay.specs.machine.sched.Words.{choice_of}
 use Rattle.cilk_log_replay.specs.Tape.{Tape, IsAt}
 use Rattle.cilk_races.specs.Watched.{Watched}
 use Rattle.cilk_races.proofs.races.go_through.Given as goal

@@ -1,7 +1,7 @@
 use Rattle.std.proofs.Common.{◌≡◌, length, sym}
 use Rattle.std.proofs.lemmas.List.{length-map}
 use Rattle.cilk_log_replay.specs.Tape.{Tape, tape_of}
-use Rattle.cilk_log_replay.specs.machine.choices.Words.{choice_of}
+use Rattle.cilk_log_replay.specs.machine.sched.Words.{choice_of}
 use Rattle.cilk_races.proofs.Gauges.{if-ok}
 use Rattle.cilk_races.specs.Found.{HoldsRun, KeepsOf, told_in}
 use Rattle.cilk_races.specs.Raced.{AreRacesOf}

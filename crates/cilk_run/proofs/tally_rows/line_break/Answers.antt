@@ -1,4 +1,4 @@
-use Rattle.cilk_run.proofs.machine_laws.choices_laws.Newlines.{break-none, break-some}
+use Rattle.cilk_run.proofs.machine_laws.sched_laws.Newlines.{break-none, break-some}
 use Rattle.cilk_run.proofs.tally_rows.line_break.Goals as goal
 
 pub returns-in-Some-eq10 : goal.returns-in-Some-eq10

@@ -1,6 +1,6 @@
 use Rattle.std.proofs.Common.{◌<◌, ◌++◌, ◌∷◌, [], List, length, ap, ◌∙◌, arith, slice_index_or}
 use Rattle.cilk_machine.specs.model.Choice.{Choice}
-use Rattle.cilk_machine.specs.choices.Words.{choice_of}
+use Rattle.cilk_machine.specs.sched.Words.{choice_of}
 use Rattle.cilk_explore.specs.declared.node.Node.{Node}
 use Rattle.cilk_explore.specs.Logs.{logs_of}
 use Rattle.cilk_explore.proofs.Logs.{logs-length, logs-push, grown-more, parents-more}

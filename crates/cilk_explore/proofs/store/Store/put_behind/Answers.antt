@@ -1,7 +1,7 @@
 use Rattle.std.proofs.Common.{◌<◌, ◌++◌, ◌∷◌, [], List, length, refl, ap, ◌∙◌, subst, arith, set, slice_index_or}
 use Rattle.std.proofs.lemmas.Option.{slice_get_read}
 use Rattle.cilk_machine.specs.model.Choice.{Choice}
-use Rattle.cilk_machine.specs.choices.Words.{choice_of}
+use Rattle.cilk_machine.specs.sched.Words.{choice_of}
 use Rattle.cilk_explore.specs.declared.node.Node.{Node}
 use Rattle.cilk_explore.specs.Looking.{IsLongerBy}
 use Rattle.cilk_explore.proofs.Logs.{logs-length, logs-put, grown-put, parents-put, longer-by}

@@ -1,7 +1,7 @@
 use Rattle.std.proofs.Common.{◌<◌, List, length, refl, sym, ap, subst, arith, map}
 use Rattle.std.proofs.lemmas.Option.{slice_get_read}
 use Rattle.cilk_machine.specs.model.Choice.{Choice}
-use Rattle.cilk_machine.specs.choices.Words.{choice_of}
+use Rattle.cilk_machine.specs.sched.Words.{choice_of}
 use Rattle.cilk_explore.specs.Looking.{IsWay}
 use Rattle.cilk_explore.proofs.Logs.{ReadsOn, logs-length, reads-first, reads-next, back-first, back-next, way-is}
 use Rattle.cilk_explore.proofs.store.Store.way.Goals as goal

@@ -1,6 +1,6 @@
 use Rattle.std.proofs.Common.{map, subst}
 use Rattle.std.specs.Prelude.{IfSome, IfNone}
-use Rattle.cilk_machine.specs.choices.Words.{choice_of}
+use Rattle.cilk_machine.specs.sched.Words.{choice_of}
 use Rattle.cilk_explore.specs.Walks.{Walk}
 use Rattle.cilk_explore.specs.Telling.{EndsBy}
 use Rattle.cilk_explore.proofs.Ends.{ends-if, goes-if, GoesOn}

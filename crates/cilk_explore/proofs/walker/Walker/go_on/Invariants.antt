@@ -1,5 +1,5 @@
 use Rattle.std.proofs.Common.{◌≡◌, ◌++◌, take, map}
-use Rattle.cilk_machine.specs.choices.Words.{choice_of}
+use Rattle.cilk_machine.specs.sched.Words.{choice_of}
 use Rattle.cilk_explore.proofs.walker.Walker.go_on.Given as goal
 
 abbrev pub invariant-loop-i : goal.invariant-loop-i

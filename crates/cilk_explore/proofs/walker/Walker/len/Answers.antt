@@ -1,6 +1,6 @@
 use Rattle.std.proofs.Common.{length, sym, ap, ◌∙◌}
 use Rattle.std.proofs.lemmas.List.{length-map}
-use Rattle.cilk_machine.specs.choices.Words.{choice_of}
+use Rattle.cilk_machine.specs.sched.Words.{choice_of}
 use Rattle.cilk_explore.specs.Walks.{Walk}
 use Rattle.cilk_explore.proofs.walker.Walker.len.Goals as goal
 

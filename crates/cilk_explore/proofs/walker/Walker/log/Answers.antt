@@ -1,5 +1,5 @@
 use Rattle.std.proofs.Common.{map, ap, ◌∙◌}
-use Rattle.cilk_machine.specs.choices.Words.{choice_of}
+use Rattle.cilk_machine.specs.sched.Words.{choice_of}
 use Rattle.cilk_explore.specs.Walks.{Walk}
 use Rattle.cilk_explore.proofs.Strides.{seen-leads}
 use Rattle.cilk_explore.proofs.walker.Walker.log.Goals as goal

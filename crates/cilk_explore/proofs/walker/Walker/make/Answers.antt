@@ -1,7 +1,7 @@
 use Rattle.std.proofs.Common.{◌++◌, ◌∷◌, [], map, sym, ap, ◌∙◌, subst}
 use Rattle.cilk_machine.specs.labelled.Bodies.{label}
 use Rattle.cilk_machine.specs.model.Run.{after}
-use Rattle.cilk_machine.specs.choices.Words.{choice_of}
+use Rattle.cilk_machine.specs.sched.Words.{choice_of}
 use Rattle.cilk_machine.specs.Made.{IsRefused}
 use Rattle.cilk_explore.specs.Walks.{Walk}
 use Rattle.cilk_explore.proofs.Strides.{walk-next, not-possible, reason-is}
