@@ -158,7 +158,7 @@ fn texts_without_tokens(rt: HostRuntime) {
         // A byte past ASCII right behind a mark.
         ("<é", LexFault::BadByte(1)),
     ] {
-        assert_eq!(rt; tokens(rt.alloc(), text).err(), Some(fault), "at {text:?}");
+        assert_eq!(rt; tokens(rt.alloc(), text).err(), Some(fault));
     }
     assert_eq!(rt; LexFault::BadNumber(7).place(), 7);
     assert_eq!(rt; LexFault::TooLong.place(), 0);

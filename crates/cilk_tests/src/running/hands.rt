@@ -113,7 +113,7 @@ fn stand_in_order(rt: &impl Abort, hands: &Hands)
     assert_eq!(rt; hands.len(2), 3);
     assert_eq!(rt; hands.len(3), 0);
     for (i, wanted) in [(0, Some(4)), (1, Some(5)), (2, Some(6)), (3, None)] {
-        assert_eq!(rt; number(hands.queued(2, i)), wanted, "{i}");
+        assert_eq!(rt; number(hands.queued(2, i)), wanted);
     }
 }
 

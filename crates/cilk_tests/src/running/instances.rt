@@ -86,16 +86,19 @@ fn end(rt: &impl Abort, tree: &mut Tree, path: &[u32], ending: Ending, choice: u
 #[test]
 fn children_have_paths(rt: HostRuntime) {
     let mut tree = family(&rt, rt.alloc(), 0);
-    are_found(&rt, &mut tree);
+    bear_three(&rt, &mut tree);
+    are_found(&rt, &tree);
     are_named(&rt, &tree);
 }
 
-// Three are born, the last by the second.
-fn are_found(rt: &impl Abort, tree: &mut Tree) {
+fn bear_three(rt: &impl Abort, tree: &mut Tree) {
     assert_eq!(rt; tree.next_id(), Id::new(1));
     spawn(rt, tree, &[], Receiver::Nothing);
     spawn(rt, tree, &[], adds(5));
     spawn(rt, tree, &[2], Receiver::Nothing);
+}
+
+fn are_found(rt: &impl Abort, tree: &Tree) {
     for (path, id) in [
         ([].as_slice(), Some(Id::new(0))),
         ([1].as_slice(), Some(Id::new(1))),
@@ -105,7 +108,7 @@ fn are_found(rt: &impl Abort, tree: &mut Tree) {
         ([2, 1, 1].as_slice(), None),
         ([0].as_slice(), None),
     ] {
-        assert_eq!(rt; tree.find(path), id, "{path:?}");
+        assert_eq!(rt; tree.find(path), id);
     }
 }
 
@@ -121,31 +124,40 @@ fn readers_tell_what_was_put_in(rt: HostRuntime) {
     let mut tree = family(&rt, rt.alloc(), 1);
     spawn(&rt, &mut tree, &[], adds(5));
     spawn(&rt, &mut tree, &[2], calls(&rt, rt.alloc(), 6));
-    are_related(&rt, rt.alloc(), &tree);
+    are_related(&rt, &tree);
+    take_values(&rt, rt.alloc(), &tree);
+}
+
+// Of each path its parent, its procedure and its children.
+fn are_related(rt: &impl Abort, tree: &Tree) {
+    for (path, parent, procedure, children) in [
+        ([].as_slice(), None, 4, 2),
+        ([1].as_slice(), Some(Id::new(0)), 5, 0),
+        ([2].as_slice(), Some(Id::new(0)), 5, 1),
+        ([2, 1].as_slice(), Some(Id::new(2)), 5, 0),
+    ] {
+        let id = at(rt, tree, path);
+        assert_eq!(rt; tree.parent(id), parent);
+        assert_eq!(rt; tree.procedure(id), procedure);
+        assert_eq!(rt; tree.children(id), children);
+    }
 }
 
 // `x += spawn f();` by action 5, as `adds` has it.
 const ADDS: &str =
     "Place { op: Some(Add), slot: Slot { area: Own, offset: 2, length: 0 }, index: 0, spawn: 5 }";
 
-// Of each path its parent, its procedure, its children, and what takes its value.
-fn are_related(rt: &impl Abort, alloc: Global, tree: &Tree) {
-    for (path, parent, (procedure, children), receiver) in [
-        ([].as_slice(), None, (4, 2), "Nothing"),
-        ([1].as_slice(), Some(Id::new(0)), (5, 0), "Nothing"),
-        ([2].as_slice(), Some(Id::new(0)), (5, 1), ADDS),
+fn take_values(rt: &impl Abort, alloc: Global, tree: &Tree) {
+    for (path, receiver) in [
+        ([].as_slice(), "Nothing"),
+        ([1].as_slice(), "Nothing"),
+        ([2].as_slice(), ADDS),
         (
             [2, 1].as_slice(),
-            Some(Id::new(2)),
-            (5, 0),
             "Call { n: 6, args: Arguments { values: [7, -8] } }",
         ),
     ] {
-        let id = at(rt, tree, path);
-        assert_eq!(rt; tree.parent(id), parent, "{path:?}");
-        assert_eq!(rt; tree.procedure(id), procedure, "{path:?}");
-        assert_eq!(rt; tree.children(id), children, "{path:?}");
-        takes(rt, alloc, tree.receiver(id), receiver);
+        takes(rt, alloc, tree.receiver(at(rt, tree, path)), receiver);
     }
 }
 
@@ -159,6 +171,7 @@ fn takes(rt: &impl Abort, alloc: Global, receiver: &Receiver, wanted: &str) {
 fn those_that_ended_are_found_too(rt: HostRuntime) {
     let mut tree = family(&rt, rt.alloc(), 2);
     end_both(&rt, &mut tree);
+    are_numbered(&rt, &tree);
     have_fates(&rt, &mut tree);
 }
 
@@ -166,18 +179,17 @@ fn end_both(rt: &impl Abort, tree: &mut Tree) {
     assert_eq!(rt; tree.live(), 3);
     end(rt, tree, &[1], Ending::Returned, 4);
     assert_eq!(rt; tree.live(), 2);
-    for (i, id) in [
-        (0, Some(Id::new(0))),
-        (1, Some(Id::new(1))),
-        (2, Some(Id::new(2))),
-        (3, None),
-    ] {
-        assert_eq!(rt; tree.nth(i), id, "{i}");
-    }
-    assert_eq!(rt; tree.find(&[1]), Some(Id::new(1)));
     assert!(rt; tree.has_live_child(at(rt, tree, &[])));
     end(rt, tree, &[2], Ending::Aborted, 5);
     assert!(rt; !tree.has_live_child(at(rt, tree, &[])));
+}
+
+fn are_numbered(rt: &impl Abort, tree: &Tree) {
+    for i in 0..3 {
+        assert_eq!(rt; tree.nth(i), Some(Id::new(i)));
+    }
+    assert_eq!(rt; tree.nth(3), None);
+    assert_eq!(rt; tree.find(&[1]), Some(Id::new(1)));
 }
 
 // A third child is born behind those that ended.
@@ -196,7 +208,7 @@ fn have_fates(rt: &impl Abort, tree: &mut Tree) {
 
 fn has_fate(rt: &impl Abort, tree: &Tree, path: &[u32], fate: Fate) {
     let id = tree.find(path).expect(rt, "an instance");
-    assert_eq!(rt; tree.fate(id), fate, "{path:?}");
+    assert_eq!(rt; tree.fate(id), fate);
 }
 
 #[test]
@@ -204,36 +216,32 @@ fn an_abort_marks_those_below(rt: HostRuntime) {
     let mut tree = family(&rt, rt.alloc(), 2);
     spawn(&rt, &mut tree, &[1], Receiver::Nothing);
     spawn(&rt, &mut tree, &[1, 1], Receiver::Nothing);
-    marks_below_one(&rt, &mut tree);
-    marks_below_the_root(&rt, &mut tree);
-}
-
-// The children of the first child are marked, and a child of theirs is born so.
-fn marks_below_one(rt: &impl Abort, tree: &mut Tree) {
-    mark(rt, tree, &[1]);
-    for (path, is_marked) in [
+    mark(&rt, &mut tree, &[1]);
+    let below_one = [
         ([].as_slice(), false),
         ([1].as_slice(), false),
         ([2].as_slice(), false),
         ([1, 1].as_slice(), true),
         ([1, 1, 1].as_slice(), true),
-    ] {
-        assert_eq!(rt; tree.is_aborted(at(rt, tree, path)), is_marked, "{path:?}");
-    }
-    end(rt, tree, &[1, 1, 1], Ending::Aborted, 7);
-    spawn(rt, tree, &[1, 1], Receiver::Nothing);
-    assert!(rt; tree.is_aborted(at(rt, tree, &[1, 1, 2])));
-}
-
-fn marks_below_the_root(rt: &impl Abort, tree: &mut Tree) {
-    mark(rt, tree, &[]);
-    for (path, is_marked) in [
+    ];
+    are_marked(&rt, &tree, &below_one);
+    end(&rt, &mut tree, &[1, 1, 1], Ending::Aborted, 7);
+    spawn(&rt, &mut tree, &[1, 1], Receiver::Nothing);
+    are_marked(&rt, &tree, &[([1, 1, 2].as_slice(), true)]);
+    mark(&rt, &mut tree, &[]);
+    let below_the_root = [
         ([].as_slice(), false),
         ([1].as_slice(), true),
         ([2].as_slice(), true),
         ([1, 1].as_slice(), true),
-    ] {
-        assert_eq!(rt; tree.is_aborted(at(rt, tree, path)), is_marked, "{path:?}");
+    ];
+    are_marked(&rt, &tree, &below_the_root);
+}
+
+// Of these paths those are marked of which it is said.
+fn are_marked(rt: &impl Abort, tree: &Tree, paths: &[(&[u32], bool)]) {
+    for &(path, is_marked) in paths {
+        assert_eq!(rt; tree.is_aborted(at(rt, tree, path)), is_marked);
     }
 }
 

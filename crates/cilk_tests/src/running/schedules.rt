@@ -295,7 +295,7 @@ fn variables_of_the_top_level_have_cells(rt: HostRuntime) {
         ("main", 0, None),
         ("d", 0, None),
     ] {
-        assert_eq!(rt; machine.global(name, index), value, "{name} {index}");
+        assert_eq!(rt; machine.global(name, index), value);
     }
 }
 
@@ -323,6 +323,6 @@ fn there_are_one_to_sixty_four_workers(rt: HostRuntime) {
     for workers in [0, 65, 255] {
         let loaded = program(&rt, rt.alloc(), SAMPLE);
         let made = Machine::new(rt.alloc(), loaded, workers);
-        assert!(rt; matches!(made, Err(MachineFault::Workers)), "{workers}");
+        assert!(rt; matches!(made, Err(MachineFault::Workers)));
     }
 }
