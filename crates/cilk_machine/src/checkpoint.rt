@@ -2,8 +2,8 @@
 
 ghost use Rattle.std.specs.Prelude.{◌≡◌, IfOk};
 
-use cilk_sched::{Memory, Outcome};
 use cilk_machine_undo::{Id, Moment};
+use cilk_sched::{Memory, Outcome};
 use std::alloc::Global;
 use std::marker::Model;
 

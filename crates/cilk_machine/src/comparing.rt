@@ -4,8 +4,8 @@ ghost use Rattle.std.specs.Prelude.{◌≡◌, true, map};
 ghost use Rattle.cilk_machine_undo.specs.spawn.Nodes.{path_at};
 ghost use Rattle.cilk_machine_undo.specs.agree.Outside.{lock_by};
 
-use cilk_sched::Outcome;
 use cilk_machine_undo::{Frame, Lock, Mixer, Tree};
+use cilk_sched::Outcome;
 
 /// Whether the locks are the same.
 pub(crate) fn are_same_locks(locks: &[Lock], tree: &Tree, others: &[Lock], other: &Tree) -> bool

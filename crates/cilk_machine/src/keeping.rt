@@ -15,11 +15,11 @@ ghost use Rattle.cilk_machine.specs.Kept.{Adds};
 
 use crate::carrying::{carry_lightly_noted, carry_out_noted};
 use cilk_machine_carry::carry_lightly;
-use cilk_sched::Memory;
 use cilk_machine_step::{Light, Plan};
 use cilk_machine_undo::{
     Body, Did, Done, NoMemory, Outcome, Parts, Undo, depth_in_hand, note_go, note_write,
 };
+use cilk_sched::Memory;
 use std::alloc::Global;
 
 // As many frames may come to a hand before the next step, which makes room again: a pop and a steal take no memory.

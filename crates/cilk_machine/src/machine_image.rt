@@ -1,7 +1,7 @@
 //! What a machine was between two choices, as plain data.
 
-use cilk_sched::Outcome;
 use cilk_machine_undo::{Id, PartsImage};
+use cilk_sched::Outcome;
 use std::marker::Model;
 
 /// What a machine was between two choices, from which machines of the same program are made. It takes memory for each instance that was

@@ -8,8 +8,8 @@ ghost use Rattle.cilk_machine_agree.specs.model.Workers.{hand_text, paths_text};
 ghost use Rattle.cilk_view.specs.WhereLines.{by_worker, AllMade, deque_line, queued_text};
 
 use crate::put::{put, put_name};
-use cilk_machine_agree::{Hands, Tree};
 use cilk_load::Memory;
+use cilk_machine_agree::{Hands, Tree};
 
 /// A line for each of so many workers.
 pub(crate) fn put_deques(

@@ -16,8 +16,8 @@ use crate::entry::{Entry, add_name, add_text};
 use crate::link::{Link, links_of};
 use crate::shown::Shown;
 use crate::telling::Telling;
-use cilk_machine_agree::Id;
 use cilk_load::Memory;
+use cilk_machine_agree::Id;
 use std::alloc::Global;
 
 /// A line for each worker.

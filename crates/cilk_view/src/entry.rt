@@ -6,8 +6,8 @@ ghost use Rattle.cilk_view.specs.Ups.{linked_path};
 ghost use Rattle.cilk_view.specs.Entries.{TellsEntries, TellsAlone};
 
 use crate::link::Link;
-use cilk_machine_agree::Id;
 use cilk_load::Memory;
+use cilk_machine_agree::Id;
 use std::alloc::Global;
 
 /// The path of an instance that is not the root, where there is one, and the text behind it. A path is told from the links when its turn comes,

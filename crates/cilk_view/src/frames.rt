@@ -9,8 +9,8 @@ ghost use Rattle.cilk_view.specs.Frames.{body_with, vars_text, body_text, activa
 use crate::cells::{first_cells, other_cells, put_variable};
 use crate::put::put;
 use crate::where_lines::line_number;
-use cilk_machine_agree::Frame;
 use cilk_load::{Body, Loaded, Memory, Var};
+use cilk_machine_agree::Frame;
 
 /// A part for each activation, from the procedure's own up.
 pub(crate) fn put_frame(out: &mut String, loaded: &Loaded, frame: &Frame) -> Result<(), Memory>

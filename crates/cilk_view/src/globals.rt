@@ -12,8 +12,8 @@ ghost use Rattle.cilk_view.specs.Globals.{width, globals_by};
 
 use crate::cells::{first_cells, other_cells, put_variable};
 use crate::put::{put, put_name};
-use cilk_machine_agree::{Global, GlobalShape, Item, ItemNode, Lock, Tree, Word};
 use cilk_load::Memory;
+use cilk_machine_agree::{Global, GlobalShape, Item, ItemNode, Lock, Tree, Word};
 
 /// A line for each variable and each lock among the items, where these are the cells of the
 /// variables, one variable after another, and the locks in their order.

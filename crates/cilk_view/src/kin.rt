@@ -6,8 +6,8 @@ ghost use Rattle.cilk_view.specs.Ups.{links_of};
 ghost use Rattle.cilk_view.specs.Kin.{AreKin, KinSorted, NextChild, NoChild, with_kin, search_end};
 
 use crate::link::{Link, link_at};
-use cilk_machine_agree::Id;
 use cilk_load::Memory;
+use cilk_machine_agree::Id;
 use std::alloc::Global;
 
 /// The parent, the ordinal and the number of each instance but the root, sorted.

@@ -27,8 +27,8 @@ mod tree;
 mod tree_telling;
 mod where_lines;
 
-pub use cilk_machine_agree::What;
 pub use cilk_load::Loaded;
+pub use cilk_machine_agree::What;
 pub use fault::{ViewFault, WriteFault};
 pub use portion::Portion;
 pub use sending::{send, send_told};

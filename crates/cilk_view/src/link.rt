@@ -4,8 +4,8 @@ ghost use Rattle.std.specs.Prelude.{◌≡◌, ◌<◌, length, map, IfOk};
 ghost use Rattle.cilk_machine_agree.specs.spawn.Nodes.{node_at};
 ghost use Rattle.cilk_view.specs.Ups.{link_at, link_of, links_of};
 
-use cilk_machine_agree::{Id, Tree};
 use cilk_load::Memory;
+use cilk_machine_agree::{Id, Tree};
 use std::alloc::Global;
 
 /// The parent of an instance, and which of the parent's children it is, from 1 on.

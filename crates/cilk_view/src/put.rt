@@ -5,8 +5,8 @@ ghost use Rattle.cilk_load.specs.syntax.Appends.{Appends};
 ghost use Rattle.cilk_machine_agree.specs.model.Path.{path_text};
 ghost use Rattle.cilk_machine_agree.specs.spawn.Nodes.{path_at};
 
-use cilk_machine_agree::{Id, Path, Tree};
 use cilk_load::Memory;
+use cilk_machine_agree::{Id, Path, Tree};
 
 pub(crate) fn put(out: &mut String, text: &str) -> Result<(), Memory>
     ensures { Appends result out.old out.new text.now }

@@ -12,8 +12,8 @@ use crate::finding::{find_live, frame_live};
 use crate::shown::Shown;
 use crate::texts::{deques_text, frame_text, globals_text, list_text, output_text, where_text};
 use crate::tree::tree_text;
-use cilk_machine_agree::{Path, What};
 use cilk_load::Memory;
+use cilk_machine_agree::{Path, What};
 use std::alloc::Global;
 
 /// The text of a view, without its line on the position. There is none of the frame of what does not

@@ -1,7 +1,7 @@
 //! What a machine lends to those that make the texts of views.
 
-use cilk_machine_agree::{Hands, Lock, Tree};
 use cilk_load::Loaded;
+use cilk_machine_agree::{Hands, Lock, Tree};
 
 /// The parts of a machine that views show.
 #[derive(Clone, Copy)]

@@ -12,8 +12,8 @@ use crate::showing::show;
 use crate::shown::Shown;
 use crate::telling::Telling;
 use crate::tree_telling::tell_tree;
-use cilk_machine_agree::What;
 use cilk_load::Memory;
+use cilk_machine_agree::What;
 use std::alloc::Global;
 
 /// The same text as that of `show`, told in portions. Those of `tree` and `deques` take memory by the number of instances ever made, and not by

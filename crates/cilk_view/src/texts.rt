@@ -17,8 +17,8 @@ use crate::listing::put_list;
 use crate::output::put_output;
 use crate::shown::Shown;
 use crate::where_lines::put_where_lines;
-use cilk_machine_agree::Frame;
 use cilk_load::{Loaded, Memory};
+use cilk_machine_agree::Frame;
 use std::alloc::{AllocError, Global};
 use std::str::from_utf8;
 

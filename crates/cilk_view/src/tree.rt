@@ -18,8 +18,8 @@ use crate::finding::{frame_live, frame_queued};
 use crate::put::put;
 use crate::shown::Shown;
 use crate::where_lines::line_number;
-use cilk_machine_agree::{Fate, Frame, Hands, Id, Path, Tree};
 use cilk_load::Memory;
+use cilk_machine_agree::{Fate, Frame, Hands, Id, Path, Tree};
 use std::alloc::Global;
 
 /// A line for each instance ever made, in the order of their paths.

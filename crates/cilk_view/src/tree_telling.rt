@@ -21,8 +21,8 @@ use crate::put::put;
 use crate::shown::Shown;
 use crate::telling::Telling;
 use crate::tree::put_state;
-use cilk_machine_agree::Id;
 use cilk_load::Memory;
+use cilk_machine_agree::Id;
 use std::alloc::Global;
 
 /// A line for each instance ever made, in the order of their paths.

@@ -6,8 +6,8 @@ ghost use Rattle.cilk_machine_agree.specs.model.Hands.{IsWorker, worker_at};
 ghost use Rattle.cilk_view.specs.WhereLines.{by_worker, AllMade, where_line, line_number};
 
 use crate::put::{put, put_name};
-use cilk_machine_agree::{Hands, Tree};
 use cilk_load::{Loaded, Memory};
+use cilk_machine_agree::{Hands, Tree};
 
 /// The line on which action n stands.
 pub(crate) fn line_number(loaded: &Loaded, n: u32) -> u32

@@ -9,9 +9,9 @@ ghost use Rattle.cilk_machine.specs.Ahead.{IsAhead};
 
 use super::Machine;
 use crate::refusing::is_worker;
-use cilk_sched::{Memory, Path};
 use cilk_machine_step::Scene;
 use cilk_machine_undo::Id;
+use cilk_sched::{Memory, Path};
 
 impl Machine {
     /// What the next step of a worker looks at, whether it can step or not. None where its hand is empty, or where there is no such worker.

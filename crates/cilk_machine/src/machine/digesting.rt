@@ -7,9 +7,9 @@ use super::Machine;
 use crate::comparing::{mix_locks, mix_outcome, mixed_in_deque, mixed_in_hand};
 use crate::refusing::is_worker;
 use crate::touched::{Stepping, Touched};
-use cilk_sched::{Act, Choice};
 use cilk_machine_step::{Action, Loaded};
 use cilk_machine_undo::{Frame, Mixer};
+use cilk_sched::{Act, Choice};
 
 impl Machine {
     /// A number that is the same where machines stand at the same but for the names of the workers, and mostly another elsewhere: by `mixed`, which all that

@@ -8,9 +8,9 @@ use super::Machine;
 use crate::checkpoint::outcome_copy;
 use crate::keeping::no_records;
 use crate::machine_image::MachineImage;
-use cilk_sched::Memory;
 use cilk_machine_step::Loaded;
 use cilk_machine_undo::PartsImage;
+use cilk_sched::Memory;
 use std::alloc::Global;
 
 impl Machine {

@@ -17,12 +17,12 @@ ghost use Rattle.cilk_machine_undo.specs.plans.Words.{plan_of};
 
 use super::Machine;
 use crate::refusing::is_worker;
-use cilk_sched::{Act, Event, Memory, Outcome, Refusal};
 use cilk_machine_step::{
     Known, Light, Listed, Peek, Plan, Trap, is_seen, is_still_seen, look_ahead, number_ahead,
     plan_by_value, take_down,
 };
 use cilk_machine_undo::Did;
+use cilk_sched::{Act, Event, Memory, Outcome, Refusal};
 
 impl Machine {
     /// What the next step of a worker evaluates, where it assigns to a variable that is no element, or tests, and neither an element nor

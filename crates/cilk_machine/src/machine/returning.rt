@@ -7,8 +7,8 @@ ghost use Rattle.cilk_machine.specs.Situation.{Situation};
 use super::Machine;
 use crate::checkpoint::{Checkpoint, outcome_copy};
 use crate::keeping::make_room;
-use cilk_sched::Memory;
 use cilk_machine_undo::Moment;
+use cilk_sched::Memory;
 use std::mem::replace;
 
 impl Machine {

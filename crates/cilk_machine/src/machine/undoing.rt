@@ -9,9 +9,9 @@ ghost use Rattle.cilk_machine.specs.Told.{IsTrapPath};
 use super::Machine;
 use crate::keeping::{carry_lightly_kept, carry_out_kept, put_last, take_last};
 use crate::step_events::{body_numbered, outcome_with, started_number, trapper_of};
-use cilk_sched::{Act, Memory, Outcome, Path, Refusal};
 use cilk_machine_step::{Light, Plan};
 use cilk_machine_undo::{Did, take_back};
+use cilk_sched::{Act, Memory, Outcome, Path, Refusal};
 use std::alloc::AllocError;
 
 impl Machine {

@@ -8,8 +8,8 @@ ghost use Rattle.cilk_machine.specs.Stands.{StandsAt};
 ghost use Rattle.cilk_machine.specs.Refused.{refused_by};
 
 use super::Machine;
-use cilk_sched::{Act, Choice, Memory};
 use cilk_machine_step::is_private;
+use cilk_sched::{Act, Choice, Memory};
 
 impl Machine {
     /// Whether the worker can step, and its step touches nothing that others see: it assigns, tests, jumps, or leaves a C function or an inlet,
