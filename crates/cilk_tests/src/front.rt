@@ -1,14 +1,14 @@
-//! Tokens, the empty tree and values: what the program does not show.
+//! Tokens, trees and values: what the program does not show.
 
+mod same;
 mod tokens;
 mod values;
 
 use cilk_parse::read;
+use cilk_tree_syntax::Program;
+use std::alloc::Global;
 use std::process::Abort;
 
-#[test]
-fn the_empty_text_is_a_program_of_nothing(rt: HostRuntime) {
-    let empty = read(rt.alloc(), "").expect(&rt, "a program");
-    assert!(rt; empty.headers.is_empty());
-    assert!(rt; empty.items.is_empty());
+fn program(rt: &impl Abort, alloc: Global, text: &str) -> Program {
+    read(alloc, text).expect(rt, text)
 }

@@ -12,6 +12,22 @@ const PROGRAM: &str = "cilk int main(void) { int x = 2; return x * 21; }";
 
 const RECORDED: &str = "cilklog 1\nworkers 1\n1 step\n1 step\nend 2\n";
 
+const FIRST: &str =
+    "back\nstep\nframe /\ngo 2\nstep\nframe /\ngo 3\nbreak 4\nbreak 2\ngo 0\nnext\nlist\nquit\n";
+
+const FIRST_ANSWERS: &str =
+    "B3 AtStart\nposition 1 of 2: running\nworker 1 at / line 3\nmain line 3\n    x = 2\n\
+     position 2 of 2: finished 42\nworker 1 idle\nB2 AtEnd\nB5 NoInstance\nB6 OutOfRange\n\
+     B4 NoStatement\nok\nposition 0 of 2: running\nworker 1 at / line 2\nposition 2 of 2: finished 42\n\
+     worker 1 idle\n     1         cilk int main(void) {\n     2      1      int x = 2;\n     3      2      return x * 21;\n     4      3  }\n";
+
+const SECOND: &str = "prev\nbreak 1\ngo 2\nprev\nclear 1\nprev";
+
+const SECOND_ANSWERS: &str =
+    "position 0 of 2: running\nworker 1 at / line 2\nok\nposition 2 of 2: finished 42\n\
+     worker 1 idle\nposition 1 of 2: running\nworker 1 at / line 3\nok\nposition 0 of 2: running\n\
+     worker 1 at / line 2\n";
+
 // Steps to the end and back, each of which has an answer of two lines.
 const WALK: &str = "step\nstep\nback\nback\n";
 
@@ -26,6 +42,17 @@ fn answers(rt: &impl Abort, alloc: Global, debugger: &mut Debugger, input: &[u8]
     let ended = debugger.session(&mut reader, &mut out);
     assert_eq!(rt; ended, Ok(()));
     out
+}
+
+#[test]
+fn worked_sessions_come_out(rt: HostRuntime) {
+    let mut debugger = debugger(&rt, rt.alloc());
+    let first = answers(&rt, rt.alloc(), &mut debugger, FIRST.as_bytes());
+    assert_eq!(rt; first.as_slice(), FIRST_ANSWERS.as_bytes());
+    assert_eq!(rt; debugger.position(), 2);
+    let second = answers(&rt, rt.alloc(), &mut debugger, SECOND.as_bytes());
+    assert_eq!(rt; second.as_slice(), SECOND_ANSWERS.as_bytes());
+    assert_eq!(rt; debugger.position(), 0);
 }
 
 // There may be 1,000,000 lines, and a line may have 4,096 bytes.
