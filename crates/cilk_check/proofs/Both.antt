@@ -2,9 +2,8 @@
 use Rattle.std.proofs.Common.{◌≡◌, [], ◌∷◌, Option, Some, None, ◌⊎◌, inl, inr, refl, sym, subst, IfSome, IfNone}
 use Rattle.cilk_check.specs.scopes.declared.fault.CheckFault.{CheckFault}
 use Rattle.cilk_check.specs.scopes.Fault.{NoLater, IsFirst}
-use Rattle.cilk_check.specs.scopes.First.{first_among}
+use Rattle.cilk_check.specs.scopes.First.{first_among, earlier}
 use Rattle.cilk_check.proofs.scopes_laws.Held.{NoLater-trans, first_among_first}
-use Rattle.cilk_check.specs.Earlier.{earlier}
 
 module _ (N M : CheckFault → Type 0) where
   abbrev Either : CheckFault → Type 0

@@ -6,7 +6,7 @@ use Rattle.std.specs.Option.{option_cmp}
 use Rattle.std.specs.Ordering.{is_eq, int_cmp}
 use Rattle.cilk_check_scopes.specs.syntax.Tree as tree
 use Rattle.cilk_check_scopes.specs.declared.fault.CheckFault.{CheckFault}
-use Rattle.cilk_check_scopes.specs.declared.fault.CheckFault.TheVariants.{NotInProcedure, InInlet, AbortOutside, NoLoop, NoMain, ReturnForm, Format, Limit}
+use Rattle.cilk_check_scopes.specs.declared.fault.CheckFault.TheVariants.{NotInProcedure, AbortOutside, NoLoop, NoMain, ReturnForm, Format, Limit}
 use Rattle.cilk_check_scopes.specs.declared.fault.CheckFault.TheVariants.{Label}
 use Rattle.cilk_check_scopes.specs.declared.declaration_kind.DeclarationKind.{DeclarationKind}
 use Rattle.cilk_check_scopes.specs.declared.declaration_kind.DeclarationKind.TheVariants.{Array}
@@ -21,13 +21,8 @@ use Rattle.cilk_check_scopes.specs.Declarations.{block_variables}
 use Rattle.cilk_check_scopes.specs.Cells.{cells_of, max_cells, max_global_cells, is_length}
 use Rattle.cilk_check_scopes.specs.Format.{numbers_in}
 use Rattle.cilk_check_scopes.specs.Mains.{starts}
+pub use Rattle.cilk_check_scopes.specs.WordFaults.{word_faults}
 use Rattle.cilk_check_scopes.specs.Forms.{synched_in, own_word, returned_by, has_form, is_procedure, labels_of}
-
--- of the word `spawn`, `sync` or `SYNCHED` at this place in a body
-abbrev pub word_faults : Owner → ℕ → List CheckFault
-word_faults (owner.Function returns) at = NotInProcedure at ∷ []
-word_faults (owner.Procedure returns) at = []
-word_faults owner.Inlet at = InInlet at ∷ []
 
 abbrev pub words_faults : Owner → List ℕ → List CheckFault
 words_faults o places = flat_map (word_faults o) places

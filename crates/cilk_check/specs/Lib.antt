@@ -5,7 +5,6 @@ pub mod NameFinds
 pub mod Table
 pub mod Left
 pub mod Signatures
-pub mod Earlier
 pub use Rattle.cilk_check_scopes.specs as scopes
 pub use Rattle.cilk_check_scopes.specs.lexeme
 pub use Rattle.cilk_check_scopes.specs.syntax

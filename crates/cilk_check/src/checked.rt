@@ -4,10 +4,9 @@ ghost use Rattle.std.specs.Prelude.{◌≡◌, ◌⊎◌, IsOk, IfOk, IfErr, IfN
 ghost use Rattle.cilk_check.specs.scopes.declared.fault.CheckFault.TheVariants as fault;
 ghost use Rattle.cilk_check.specs.scopes.WellFormed.{WellFormed, IsFirstFault};
 
-use crate::earlier::earlier_of;
 use crate::first_form::first_form_fault;
 use crate::first_name::first_name_fault;
-use cilk_check_scopes::{CheckFault, Checked, Memory, Program};
+use cilk_check_scopes::{CheckFault, Checked, Memory, Program, earlier_of};
 use std::alloc::Global;
 
 // The first fault of a program, of its names and its forms.

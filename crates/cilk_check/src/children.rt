@@ -5,22 +5,11 @@ ghost use Rattle.std.specs.Prelude.{◌≡◌};
 ghost use Rattle.cilk_check_scopes.specs.syntax.MoveView.{taker_of};
 ghost use Rattle.cilk_check_scopes.specs.First.{first_among};
 ghost use Rattle.cilk_check_scopes.specs.Parts.{place_exprs, target_exprs, move_exprs, moves_exprs, taker_exprs};
-ghost use Rattle.cilk_check.specs.FormFinds.{word_faults, expr_faults, exprs_faults, value_faults};
+ghost use Rattle.cilk_check.specs.FormFinds.{expr_faults, exprs_faults, value_faults};
 
 use cilk_check_scopes::{
-    CheckFault, Expr, ExprNode, Move, MoveNode, Owner, Place, Taker, Target, first,
+    CheckFault, Expr, ExprNode, Move, MoveNode, Owner, Place, Taker, Target, at_word,
 };
-
-/// One of the words, in a body.
-pub(crate) fn at_word(owner: Owner, at: u32, found: Option<CheckFault>) -> Option<CheckFault>
-    ensures { result ≡ first_among found (word_faults owner at) }
-{
-    match owner {
-        Owner::Function(_) => first(found, CheckFault::NotInProcedure(at)),
-        Owner::Procedure(_) => found,
-        Owner::Inlet => first(found, CheckFault::InInlet(at)),
-    }
-}
 
 #[tactic(auto, using(crate::proofs::Words::words))]
 pub(crate) fn in_expr(owner: Owner, expr: &Expr, found: Option<CheckFault>) -> Option<CheckFault>

@@ -9,9 +9,11 @@ ghost use Rattle.cilk_check_scopes.specs.Format.{numbers_in};
 ghost use Rattle.cilk_check_scopes.specs.Forms.{has_form, returned_by};
 ghost use Rattle.cilk_check.specs.FormFinds.{is_count, is_inlet, word_faults, exprs_faults, value_faults};
 
-use crate::children::{at_word, in_expr, in_exprs, in_moves, in_taker, in_value};
+use crate::children::{in_expr, in_exprs, in_moves, in_taker, in_value};
 use crate::format::numbers_in;
-use cilk_check_scopes::{CheckFault, Expr, Literal, Move, Owner, ReturnType, Taker, first_if};
+use cilk_check_scopes::{
+    CheckFault, Expr, Literal, Move, Owner, ReturnType, Taker, at_word, first_if,
+};
 
 pub(crate) fn is_inlet(owner: Owner) -> bool
     ensures { result ≡ is_inlet owner }

@@ -10,12 +10,13 @@ ghost use Rattle.cilk_check_scopes.specs.Parts as parts;
 ghost use Rattle.cilk_check.specs.FormFinds.{part_faults, block_faults, locals_faults, inside_local, stmts_faults, inside_stmt};
 ghost use Rattle.cilk_check.specs.FormFinds.{labels_faults, nothing_said, expr_faults};
 
-use crate::children::{at_word, in_expr, in_move};
+use crate::children::{in_expr, in_move};
 use crate::forms_of_statement::{at_header, at_print, at_return, at_spawn, is_inlet};
 use crate::labels::at_labels;
 use crate::local::{at_decl, at_inlet};
 use cilk_check_scopes::{
-    Block, CheckFault, Expr, Local, LocalNode, Memory, Owner, Stmt, StmtNode, Within, first_if,
+    Block, CheckFault, Expr, Local, LocalNode, Memory, Owner, Stmt, StmtNode, Within, at_word,
+    first_if,
 };
 use std::alloc::Global;
 

@@ -5,7 +5,6 @@
 mod cells;
 mod checked;
 mod children;
-mod earlier;
 mod entry;
 mod file;
 mod first_form;

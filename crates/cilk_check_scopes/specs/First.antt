@@ -20,3 +20,8 @@ first_among found (f ∷ fs) = first_among (Some (first_of found f)) fs
 -- a fault, if there is one
 abbrev pub fault_if : Bool → CheckFault → List CheckFault
 fault_if there f = if there then f ∷ [] else []
+
+-- the one of two faults that stands first, where there are any
+abbrev pub earlier : Option CheckFault → Option CheckFault → Option CheckFault
+earlier found None = found
+earlier found (Some f) = first_among found (f ∷ [])

@@ -8,6 +8,7 @@ pub mod Cells
 pub mod Format
 pub mod Forms
 pub mod Mains
+pub mod WordFaults
 pub mod Reserved
 pub mod Uses
 pub mod NameFaults

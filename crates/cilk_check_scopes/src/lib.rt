@@ -10,6 +10,7 @@ mod order;
 mod owner;
 mod role;
 mod within;
+mod word_places;
 
 pub use checked::Checked;
 pub use cilk_tree_syntax::{
@@ -19,7 +20,8 @@ pub use cilk_tree_syntax::{
 };
 pub use declaration_kind::DeclarationKind;
 pub use fault::CheckFault;
-pub use order::{first, first_if};
+pub use order::{earlier_of, first, first_if};
 pub use owner::Owner;
 pub use role::Role;
 pub use within::Within;
+pub use word_places::at_word;

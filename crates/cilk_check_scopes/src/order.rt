@@ -1,7 +1,7 @@
 //! The first of the faults that were found: at the least place, and there with the least number.
 
 ghost use Rattle.std.specs.Prelude.{◌≡◌, ◌∷◌, []};
-ghost use Rattle.cilk_check_scopes.specs.First.{is_before, first_among, fault_if};
+ghost use Rattle.cilk_check_scopes.specs.First.{is_before, first_among, fault_if, earlier};
 
 use crate::fault::CheckFault;
 
@@ -28,4 +28,14 @@ pub fn first_if(found: Option<CheckFault>, there: bool, fault: CheckFault) -> Op
     ensures { result ≡ first_among found (fault_if there fault) }
 {
     if there { first(found, fault) } else { found }
+}
+
+/// The one of two faults that stands first, where there are any.
+pub fn earlier_of(found: Option<CheckFault>, other: Option<CheckFault>) -> Option<CheckFault>
+    ensures { result ≡ earlier found other }
+{
+    match other {
+        None => found,
+        Some(fault) => first(found, fault),
+    }
 }

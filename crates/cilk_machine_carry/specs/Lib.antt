@@ -1,4 +1,5 @@
 pub mod Carries
+pub mod Takers
 pub use Rattle.cilk_machine_plan.specs as plans
 pub use Rattle.cilk_machine_plan.specs.agree
 pub use Rattle.cilk_machine_plan.specs.scopes

@@ -1,5 +1,5 @@
-//! A plan is carried out: what one step changes in the cells, the locks, the output, the tree and
-//! the hands.
+//! A choice is carried out: what one step changes by its plan in the cells, the locks, the output, the tree and the hands, and how a frame moves from a
+//! deque to a hand, or why it may not.
 #![tactic(auto)]
 
 mod acting;
@@ -7,6 +7,8 @@ mod carry;
 mod entering;
 mod given;
 mod lightly;
+mod moves;
+mod refusing;
 mod releasing;
 mod returning;
 mod starting;
@@ -15,3 +17,5 @@ mod writing;
 pub use carry::carry_out;
 pub use cilk_machine_plan::{Did, Done, NoMemory, Outcome, Parts, Spent};
 pub use lightly::carry_lightly;
+pub use moves::{pop, steal};
+pub use refusing::{is_worker, pop_refusal, steal_refusal};

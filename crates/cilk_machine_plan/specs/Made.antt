@@ -1,5 +1,5 @@
 -- The plan of a step, as the code makes it.
-use Rattle.std.specs.Prelude.{pos, ℕ, ◌+◌, ◌-◌, ◌^◌, ℤ, Bool, true, false, not, ◌&&◌, ◌||◌, nat_lt, nat_le, if◌then◌else◌, List, [], ◌∷◌, length, Option}
+use Rattle.std.specs.Prelude.{pos, ℕ, ◌+◌, ◌-◌, ◌^◌, ℤ, Bool, true, false, not, ◌&&◌, ◌||◌, ◌==◌, nat_lt, nat_le, if◌then◌else◌, List, [], ◌∷◌, length, Option}
 use Rattle.std.specs.Prelude.{Some, None, Result, Ok, Err, unwrap_or}
 use Rattle.cilk_machine_agree.specs.model.declared.trap.Trap.{Trap}
 use Rattle.cilk_machine_agree.specs.nodes.Areas.{slot_cell}
@@ -16,7 +16,7 @@ use Rattle.cilk_machine_agree.specs.nodes.declared.action.Action.TheVariants.{Ab
 use Rattle.cilk_machine_agree.specs.nodes.Table.{successor, node_of}
 use Rattle.cilk_machine_agree.specs.nodes.Bodies.{body_of}
 use Rattle.cilk_machine_agree.specs.frame.declared.awaited.Await.{Await}
-use Rattle.cilk_machine_agree.specs.frame.Frames.{depth, top_of, left}
+use Rattle.cilk_machine_agree.specs.frame.Frames.{Frame, depth, top_of, left}
 use Rattle.cilk_machine_agree.specs.spawn.declared.delivery.Delivery.{Delivery}
 use Rattle.cilk_machine_agree.specs.frame.declared.receiver.Receiver as receiver
 use Rattle.cilk_machine_agree.specs.frame.declared.receiver.Receiver.{Receiver}
@@ -210,9 +210,12 @@ taken_by g child z (receiver.TheVariants.Place op slot index n) =
     takes_by n (combined op (slot_cell (cells_in g) slot index) z) (λ y. plan.Take child n (record { slot = slot; index = index }) y)
 taken_by g child z (receiver.TheVariants.Call n others) = plan.Enter child n (inlet_of_node (node_of g.program n)) (z ∷ others)
 
--- between two threads of the procedure (Cilk 5.4 manual, `inlet`)
+-- between two threads of the procedure of a frame that comes to an action (Cilk 5.4 manual, `inlet`)
+abbrev pub between_threads : Frame → Action → Bool
+between_threads f what = depth f == 1 && (f.boundary || (is_sync what || leaves what))
+
 abbrev pub at_boundary : StepInput → action.Node → Bool
-at_boundary g node = is_outer g && (g.frame.boundary || (is_sync node.action || leaves node.action))
+at_boundary g node = between_threads g.frame node.action
 
 abbrev pub by_deliveries : StepInput → ℕ → action.Node → List Delivery → Plan
 by_deliveries g n node [] = acted g n node

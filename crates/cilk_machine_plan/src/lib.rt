@@ -1,6 +1,7 @@
 //! The plan of one step of an instance: what it says, and that it is the step that the definition of runs takes.
 #![tactic(auto)]
 
+mod boundary;
 mod cell_writing;
 mod did;
 mod laws;
@@ -8,8 +9,10 @@ mod light;
 mod lock_turning;
 mod parts;
 mod plan;
+mod receiving;
 mod spent;
 
+pub use boundary::{is_between_threads, leaves};
 pub use cell_writing::{Writing, write_cell};
 pub use cilk_machine_agree::{
     Activation, Area, Body, Delivery, Ending, Fate, Frame, Hands, HandsImage, Id, LivingImage,
@@ -25,4 +28,5 @@ pub use light::Light;
 pub use lock_turning::turn_lock;
 pub use parts::Parts;
 pub use plan::Plan;
+pub use receiving::received;
 pub use spent::Spent;

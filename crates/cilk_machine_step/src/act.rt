@@ -8,13 +8,14 @@ ghost use Rattle.cilk_machine_plan.specs.effects.Fits.{FitsAct};
 ghost use Rattle.cilk_machine_plan.specs.agree.Locks.{lock_turn_among};
 ghost use Rattle.cilk_machine_plan.specs.StepInput.{id_of, cells_in, holds_lock};
 ghost use Rattle.cilk_machine_step.specs.Scenes.{input_of};
-ghost use Rattle.cilk_machine_plan.specs.Made.{leaves, if_room, next_of, has_room, at_boundary, waits_here, ends_thread, acted, by_effect, lock_turned_to};
+ghost use Rattle.cilk_machine_plan.specs.Made.{if_room, next_of, has_room, at_boundary, waits_here, ends_thread, acted, by_effect, lock_turned_to};
 
 use crate::leaving::{given, is_function_body};
 use crate::scene::Scene;
 use cilk_load::{Action, LockAction, Memory, Node, Trap};
 use cilk_machine_plan::{
     Arguments, Await, Bytes, Effect, Frame, Lock, Plan, Receiver, TrapKind, effect_of,
+    is_between_threads, leaves,
 };
 use std::alloc::Global;
 
@@ -59,10 +60,7 @@ fn parks_here(scene: &Scene, node: &Node) -> bool
 pub(crate) fn at_boundary(scene: &Scene, node: &Node) -> bool
     ensures { result ≡ at_boundary (input_of scene.now) node.now }
 {
-    scene.is_outer()
-        && (scene.frame.at_boundary()
-            || matches!(&node.action, Action::Sync)
-            || leaves(&node.action))
+    is_between_threads(scene.frame, &node.action)
 }
 
 // What the effect of an action comes to, if it has one.
@@ -242,16 +240,6 @@ pub(crate) fn lock_at(locks: &[Lock], lock: u32) -> Lock
         None => Lock::Unset,
         Some(lock) => *lock,
     }
-}
-
-/// Whether an action leaves its body.
-pub(crate) fn leaves(action: &Action) -> bool
-    ensures { result ≡ leaves action.now }
-{
-    matches!(
-        action,
-        Action::Return(_) | Action::ReturnNothing | Action::Close
-    )
 }
 
 // Whether the procedure may park there: it waits for its children, if there is something to wait for (Cilk 5.4 manual, `sync`, `return`).

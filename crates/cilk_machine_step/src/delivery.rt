@@ -8,7 +8,7 @@ ghost use Rattle.cilk_machine_plan.specs.Made.{taken_by, inlet_of_taker, inlet_o
 
 use crate::scene::Scene;
 use cilk_load::{Action, Loaded, Memory, Taker};
-use cilk_machine_plan::{Arguments, Delivery, Plan, Reached, Receiver, TrapKind, combined, held};
+use cilk_machine_plan::{Arguments, Delivery, Plan, Reached, Receiver, TrapKind, received};
 use std::alloc::Global;
 
 /// A delivery is taken: its place is read now, or its inlet starts (Cilk 5.4 manual, `spawn`, `inlet`).
@@ -24,8 +24,8 @@ pub(crate) fn taken(alloc: Global, scene: &Scene, delivery: &Delivery) -> Result
             index,
             spawn,
         } => {
-            let old = held(&scene.lent(), *slot, *index);
-            Ok(match combined(*op, old, delivery.value) {
+            let slots = scene.lent();
+            Ok(match received(&slots, *op, *slot, *index, delivery.value) {
                 Err(trap) => Plan::Trap {
                     kind: TrapKind::Value(trap),
                     n: *spawn,

@@ -10,12 +10,14 @@ ghost use Rattle.cilk_machine_plan.specs.Made.{acted, ends_thread, given, leaves
 ghost use Rattle.cilk_machine_plan.specs.Words.{plan_of};
 ghost use Rattle.cilk_machine_step.specs.Scenes.{input_of, HeadFits};
 
-use crate::act::{ends_thread, leaves, next_of};
+use crate::act::{ends_thread, next_of};
 use crate::coming::{Coming, comes_next};
 use crate::leaving::given;
 use crate::scene::Scene;
 use cilk_load::{Action, Node, Slots, Trap};
-use cilk_machine_plan::{Delivery, Light, Plan, Reached, Receiver, assigned, combined, eval, held};
+use cilk_machine_plan::{
+    Delivery, Light, Plan, Reached, Receiver, assigned, eval, leaves, received,
+};
 
 /// The plan of the step of the instance of a frame, where it is a light one that is soon made: an assignment, a test, a
 /// jump, the end of a C function, or a value that is taken into a place. None tells nothing.
@@ -141,7 +143,7 @@ fn take_lightly(scene: &Scene, delivery: &Delivery) -> Option<Light>
             slot,
             index,
             spawn,
-        } => match combined(*op, held(&scene.lent(), *slot, *index), delivery.value) {
+        } => match received(&scene.lent(), *op, *slot, *index, delivery.value) {
             Err(_) => None,
             Ok(value) => Some(Light::Take {
                 child: delivery.child,

@@ -10,11 +10,11 @@ ghost use Rattle.cilk_machine_step.specs.Scenes.{input_of, HeadFits};
 ghost use Rattle.cilk_machine_step.specs.Private.{owns};
 ghost use Rattle.cilk_machine_step.specs.Owned.{is_own, owns_act, owns_awaited, owns_node, owns_place, is_acting, is_private};
 
-use crate::act::{act, at_boundary, leaves};
+use crate::act::{act, at_boundary};
 use crate::coming::{Coming, comes_next};
 use crate::scene::Scene;
 use cilk_load::{Action, Area, Code, CodeNode, Memory, Node, Slot, SlotPlace};
-use cilk_machine_plan::Plan;
+use cilk_machine_plan::{Plan, leaves};
 use std::alloc::Global;
 
 /// Whether the step of the instance of a frame touches nothing that others see: an assignment, a test, a jump, or the end of a C function or

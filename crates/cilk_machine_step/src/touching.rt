@@ -13,13 +13,12 @@ ghost use Rattle.cilk_machine_step.specs.Shown.{act_reads, act_updates, acted, a
 ghost use Rattle.cilk_machine_step.specs.CellWords.{told};
 
 use crate::access::{Access, Spot};
-use crate::act::leaves;
 use crate::leaving::is_function_body;
 use crate::reading::push_action;
 use crate::scene::Scene;
 use crate::spotting::{push_read_cells, push_update};
 use cilk_load::{Action, Memory, Node, SlotPlace, Slots, Target, Trap};
-use cilk_machine_plan::{Await, Reached, Receiver, eval};
+use cilk_machine_plan::{Await, Reached, Receiver, eval, leaves};
 use std::alloc::Global;
 
 /// Adds what an action does.

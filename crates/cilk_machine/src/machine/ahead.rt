@@ -8,7 +8,7 @@ ghost use Rattle.cilk_machine_step.specs.Scenes.{HeadFits, input_of};
 ghost use Rattle.cilk_machine.specs.Ahead.{IsAhead};
 
 use super::Machine;
-use crate::refusing::is_worker;
+use cilk_machine_carry::is_worker;
 use cilk_machine_step::Scene;
 use cilk_machine_undo::Id;
 use cilk_sched::{Memory, Path};

@@ -5,8 +5,8 @@ ghost use Rattle.cilk_sched.specs.model.Hands.{IsWorker};
 
 use super::Machine;
 use crate::comparing::{mix_locks, mix_outcome, mixed_in_deque, mixed_in_hand};
-use crate::refusing::is_worker;
 use crate::touched::{Stepping, Touched};
+use cilk_machine_carry::is_worker;
 use cilk_machine_step::{Action, Loaded};
 use cilk_machine_undo::{Frame, Mixer};
 use cilk_sched::{Act, Choice};

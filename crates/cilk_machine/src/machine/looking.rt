@@ -16,7 +16,7 @@ ghost use Rattle.cilk_machine.specs.Looking.{IsTakenDown, IsSeenAt, taken_down_a
 ghost use Rattle.cilk_machine_undo.specs.plans.Words.{plan_of};
 
 use super::Machine;
-use crate::refusing::is_worker;
+use cilk_machine_carry::is_worker;
 use cilk_machine_step::{
     Known, Light, Listed, Peek, Plan, Trap, is_seen, is_still_seen, look_ahead, number_ahead,
     plan_by_value, take_down,
