@@ -15,8 +15,8 @@ mod writing;
 
 pub use cilk_draw_pictures::{Picture, put_lines, put_svg};
 pub use cilk_log_replay::{
-    Choices, Loaded, Log, LogFault, Memory, ReplayFault, Trap, TrapKind, play_all, read_log,
-    write_log,
+    Act, Choice, Choices, End, Loaded, Log, LogFault, Machine, Memory, Refusal, ReplayFault, Trap,
+    TrapKind, ending, play_all, read_log, write_log,
 };
 pub use drawing::draw;
 pub use excerpt::Excerpt;

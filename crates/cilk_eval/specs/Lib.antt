@@ -1,5 +1,6 @@
 pub mod Rounding
 pub mod Known
+pub mod effects
 pub use Rattle.cilk_frame.specs as frame
 pub use Rattle.cilk_frame.specs.labelled
 pub use Rattle.cilk_frame.specs.model

@@ -9,8 +9,8 @@ pub use cilk_log::{Choices, Log, LogFault, read_log, write_log};
 pub use cilk_machine::{
     Access, Act, Action, Area, Checkpoint, Choice, Code, CodeNode, Did, End, Id, Loaded,
     LockAction, Machine, MachineFault, Memory, Outcome, Path, Plan, Portion, Refusal, Scene, Slot,
-    Spot, Taker, Telling, Trap, TrapKind, ViewFault, What, accesses_in, locks_in, look_ahead,
-    number_in, plan_step, put_trapped, send, send_told,
+    Spot, Taker, Telling, Trap, TrapKind, ViewFault, What, accesses_in, ending, locks_in,
+    look_ahead, number_in, plan_step, put_trapped, send, send_told,
 };
 pub use laws::none_is_bad;
 pub use replay_fault::ReplayFault;

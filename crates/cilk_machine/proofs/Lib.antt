@@ -21,7 +21,6 @@ pub mod Back
 pub mod Again
 pub mod Unseen
 pub mod Compares
-pub mod Matches
 pub mod Nothing
 pub mod Undoes
 pub mod Callers

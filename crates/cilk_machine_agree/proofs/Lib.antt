@@ -22,6 +22,8 @@ pub mod Made
 pub mod Kept
 pub mod One
 pub mod explore
+mod Sames
+mod Matches
 pub use Rattle.cilk_laws_model.proofs as runs_laws
 pub use Rattle.cilk_sched.proofs as sched_laws
 pub use Rattle.cilk_sched.proofs.frame_laws

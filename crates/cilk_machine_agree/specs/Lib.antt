@@ -10,6 +10,7 @@ pub mod Between
 pub mod Fated
 pub mod FateLaws
 pub mod explore
+pub mod Matching
 pub use Rattle.cilk_laws_model.specs as runs
 pub use Rattle.cilk_laws_model.specs.labelled
 pub use Rattle.cilk_laws_model.specs.scopes

@@ -1,11 +1,13 @@
 //! When the machine stands as the definitions of runs say, and that each of its steps keeps this: the machine names an instance by its id, and the
 //! definitions by its path. And what it is to look at all that a program may do: when two standings have one future, and two machines, how a run ends, and what
-//! a search for the endings has found; with the laws on which it rests. Definitions and laws alone, but for what a lock is.
+//! a search for the endings has found; with the laws on which it rests. Definitions and laws alone, but for what a lock is,
+//! and whether the workers of two machines have the same.
 #![tactic(auto)]
 
 mod alike_laws;
 mod laws;
 mod lock;
+mod matching;
 mod search_laws;
 mod search_rows;
 
@@ -23,6 +25,7 @@ pub use laws::{
     questions_have_one_answer, steps_have_halves, steps_keep_agreement, the_opening_agrees,
 };
 pub use lock::Lock;
+pub use matching::Both;
 pub use search_laws::{
     each_standing_is_known, idle_workers_do_alike, more_workers_do_no_more, names_do_not_matter,
     over_where_no_choice_is_possible, sameness_but_names_is_kept, sameness_is_kept,

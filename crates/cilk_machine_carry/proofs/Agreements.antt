@@ -22,7 +22,7 @@ use Rattle.cilk_machine_plan.specs.spawn.Nodes.{Node, with_child, descends, path
 use Rattle.cilk_machine_plan.proofs.spawn_laws.Trees.{path_child}
 use Rattle.cilk_machine_plan.proofs.spawn_laws.Children.{parent_in}
 use Rattle.cilk_machine_plan.proofs.spawn_laws.Grown.{grows, tree_child, path_old}
-use Rattle.cilk_machine_plan.specs.effects.declared.reached.Reached as code
+use Rattle.cilk_machine_plan.specs.eval.declared.reached.Reached as code
 use Rattle.cilk_machine_plan.specs.agree.declared.lock.Lock.{Lock}
 use Rattle.cilk_machine_plan.specs.agree.Outside.{lock_by}
 use Rattle.cilk_machine_plan.specs.agree.Fated.{fate_after, Births, Follows}

@@ -9,7 +9,7 @@ use Rattle.cilk_machine_agree.specs.labelled.Term.{Term, rename}
 use Rattle.cilk_machine_agree.specs.labelled.Value.{Environment}
 use Rattle.cilk_machine_agree.specs.labelled.Labelled.{Declaration, Labelled, Into, Action, call, spawn}
 use Rattle.cilk_machine_agree.specs.labelled.Bodies.{label}
-use Rattle.cilk_machine_effects.specs.Heads.{GoesOn}
+use Rattle.cilk_eval.specs.effects.Heads.{GoesOn}
 use Rattle.cilk_machine_agree.specs.model.Values.{Reached, environment}
 use Rattle.cilk_machine_agree.specs.model.Instance.{Instance}
 use Rattle.cilk_machine_agree.specs.model.State as state
@@ -30,11 +30,11 @@ use Rattle.cilk_machine_agree.specs.frame.Begins as starts
 use Rattle.cilk_machine_agree.specs.frame.Cells.{HasCell}
 use Rattle.cilk_machine_agree.specs.frame.Stands.{AwaitsSame, bodies_of}
 use Rattle.cilk_machine_agree.proofs.frame_laws.Tops.{depth-is}
-use Rattle.cilk_machine_effects.specs.Known as known
-use Rattle.cilk_machine_effects.specs.Known.{KnownAct}
-use Rattle.cilk_machine_effects.specs.Slotted.{ReachesCells, slotted_await, slotted_effect}
-use Rattle.cilk_machine_effects.proofs.Shapes.{named_by, Awaits, values-count}
-use Rattle.cilk_machine_effects.proofs.Shapes as shapes
+use Rattle.cilk_eval.specs.effects.Known as known
+use Rattle.cilk_eval.specs.effects.Known.{KnownAct}
+use Rattle.cilk_eval.specs.effects.Slotted.{ReachesCells, slotted_await, slotted_effect}
+use Rattle.cilk_eval.proofs.effects_laws.Shapes.{named_by, Awaits, values-count}
+use Rattle.cilk_eval.proofs.effects_laws.Shapes as shapes
 use Rattle.cilk_machine_agree.specs.declared.lock.Lock.{Lock}
 use Rattle.cilk_machine_agree.specs.Locks.{LockTurn, lock_turned, refused, blocked, lock_turn_among, lock_turn_named}
 use Rattle.cilk_machine_agree.specs.Outside.{LockWithin}
@@ -165,11 +165,11 @@ module _ (t : InHand) (asked : Asked t) (b m : ℕ) where
   -- a call, whose place was reached
   awaits-same : (what : Option Into) (callee : ℕ) (es : List (Term Declaration)) (node : Node) → Acting t b m (call what callee es) node
       → (r : Option Reached) → Awaits env what r
-      → Rattle.cilk_machine_effects.specs.Slotted.AwaitedCell program b r → AwaitsSame program (slotted_await m r) r (bodies_of (i.top ∷ i.below))
+      → Rattle.cilk_eval.specs.effects.Slotted.AwaitedCell program b r → AwaitsSame program (slotted_await m r) r (bodies_of (i.top ∷ i.below))
   awaits-same None callee es node a r h there = subst (λ x. AwaitsSame program (slotted_await m x) x (bodies_of (i.top ∷ i.below))) (sym h) tt
   awaits-same (Some what) callee es node a r (reached, is, of) there =
       subst
-      (λ x. Rattle.cilk_machine_effects.specs.Slotted.AwaitedCell program b x
+      (λ x. Rattle.cilk_eval.specs.effects.Slotted.AwaitedCell program b x
       → AwaitsSame program (slotted_await m x) x (bodies_of (i.top ∷ i.below))) (sym is)
       (λ cell. record {
         node = node;
@@ -196,7 +196,7 @@ module _ (t : InHand) (asked : Asked t) (b m : ℕ) where
 
       by_case : (room : Bool) → nat_lt (length i.below) 255 ≡ room
           → step_in t ≡ if_room s (path_of t) m state.depth room (goes_on (after_call program s (path_of t) i w.awaits callee w.values) (acted (path_of t) m))
-          → Rattle.cilk_machine_effects.specs.Slotted.AwaitedCell program b w.awaits
+          → Rattle.cilk_eval.specs.effects.Slotted.AwaitedCell program b w.awaits
           → IsPlan t
           (made.if_room room Rattle.cilk_machine_agree.specs.frame.declared.trap_kind.TrapKind.TheVariants.Depth m
           (Rattle.cilk_machine_plan.specs.declared.plan.Plan.TheVariants.Call m (slotted_await m w.awaits) callee w.values
@@ -217,7 +217,7 @@ module _ (t : InHand) (asked : Asked t) (b m : ℕ) where
           → step_in t
           ≡ if_room s (path_of t) m state.depth (nat_lt (length i.below) 255)
           (goes_on (after_call program s (path_of t) i w.awaits callee w.values) (acted (path_of t) m))
-          → Rattle.cilk_machine_effects.specs.Slotted.AwaitedCell program b w.awaits
+          → Rattle.cilk_eval.specs.effects.Slotted.AwaitedCell program b w.awaits
           → IsPlan t (by_effect g m node (Ok (slotted_effect slots m (effect.enters w.awaits callee w.values))))
       by_room room e step there =
           let same : nat_lt (depth t.frame) 256 ≡ room = depth-room (depth t.frame) (length i.below) (depth-is program t.frame i stands) ∙ e in

@@ -22,11 +22,11 @@ use Rattle.cilk_machine_agree.specs.model.Pick.{Step, spawns, if_room, step_by_e
 use Rattle.cilk_machine_agree.specs.nodes.declared.node.Node.{Node}
 use Rattle.cilk_machine_agree.specs.nodes.Slots.{slot_of, is_inlet, procedure_around}
 use Rattle.cilk_machine_agree.specs.frame.Stands.{AllInside, bodies_of}
-use Rattle.cilk_machine_effects.specs.Known.{StandsIn}
-use Rattle.cilk_machine_effects.specs.Slotted.{TakenCell, ReachesCells, slotted_receiver, slotted_effect}
-use Rattle.cilk_machine_effects.proofs.Meant.{not_inlet}
-use Rattle.cilk_machine_effects.proofs.Shapes as shapes
-use Rattle.cilk_machine_effects.proofs.Shapes.{values-count}
+use Rattle.cilk_eval.specs.effects.Known.{StandsIn}
+use Rattle.cilk_eval.specs.effects.Slotted.{TakenCell, ReachesCells, slotted_receiver, slotted_effect}
+use Rattle.cilk_eval.proofs.effects_laws.Meant.{not_inlet}
+use Rattle.cilk_eval.proofs.effects_laws.Shapes as shapes
+use Rattle.cilk_eval.proofs.effects_laws.Shapes.{values-count}
 use Rattle.cilk_machine_agree.specs.Alike.{Receives}
 use Rattle.cilk_machine_agree.specs.Laws.{InHand, path_of, node_of, instance_of}
 use Rattle.cilk_machine_agree.specs.Asked.{Asked}

@@ -6,7 +6,7 @@ use Rattle.cilk_machine_agree.specs.syntax.Tree.{Program}
 use Rattle.cilk_machine_agree.specs.labelled.Labelled.{Labelled, Numbered}
 use Rattle.cilk_machine_agree.specs.labelled.Items.{Items, opened, next, head_of, reached}
 use Rattle.cilk_machine_agree.specs.labelled.Bodies.{label}
-use Rattle.cilk_machine_effects.specs.Heads.{GoesOn}
+use Rattle.cilk_eval.specs.effects.Heads.{GoesOn}
 use Rattle.cilk_machine_agree.specs.model.Instance.{Instance, body_at}
 use Rattle.cilk_machine_agree.specs.nodes.declared.node.Node.{Node}
 use Rattle.cilk_machine_agree.specs.nodes.Actions.{slotted}
@@ -18,7 +18,7 @@ use Rattle.cilk_machine_agree.proofs.nodes_laws.Successors.{successor-of}
 use Rattle.cilk_machine_agree.specs.frame.Frames.{top_of}
 use Rattle.cilk_machine_agree.specs.frame.Stands.{StandsFor}
 use Rattle.cilk_machine_agree.proofs.frame_laws.Tops.{Stands, top-stands}
-use Rattle.cilk_machine_effects.specs.Known.{KnownAct}
+use Rattle.cilk_eval.specs.effects.Known.{KnownAct}
 use Rattle.cilk_machine_agree.specs.Laws.{InHand, instance_of}
 use Rattle.cilk_machine_agree.specs.Actions.{IsNext}
 use Rattle.cilk_machine_agree.proofs.Alone.{holds}

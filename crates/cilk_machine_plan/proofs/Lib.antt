@@ -12,5 +12,5 @@ pub use Rattle.cilk_machine_agree.proofs.nodes_laws
 pub use Rattle.cilk_machine_agree.proofs.runs_laws
 pub use Rattle.cilk_machine_agree.proofs.sched_laws
 pub use Rattle.cilk_machine_agree.proofs.spawn_laws
-pub use Rattle.cilk_machine_effects.proofs as effects_laws
-pub use Rattle.cilk_machine_effects.proofs.eval_laws
+pub use Rattle.cilk_eval.proofs.effects_laws
+pub use Rattle.cilk_eval.proofs as eval_laws

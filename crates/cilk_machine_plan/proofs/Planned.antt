@@ -26,11 +26,11 @@ use Rattle.cilk_machine_agree.specs.nodes.Slots.{slot_of}
 use Rattle.cilk_machine_agree.specs.nodes.Table as table
 use Rattle.cilk_machine_agree.specs.nodes.Bodies.{body_of}
 use Rattle.cilk_machine_agree.proofs.nodes_laws.Heads.{bodies-have}
-use Rattle.cilk_machine_effects.specs.Effects.{effect_in}
-use Rattle.cilk_machine_effects.specs.Slotted.{ReachesCells, slotted_effect, slotted_result}
-use Rattle.cilk_machine_effects.proofs.Same.{effect-same, effect-reaches}
-use Rattle.cilk_machine_effects.proofs.Shapes.{ShapeOf, shape}
-use Rattle.cilk_machine_effects.proofs.Shapes as shapes
+use Rattle.cilk_eval.specs.effects.Effects.{effect_in}
+use Rattle.cilk_eval.specs.effects.Slotted.{ReachesCells, slotted_effect, slotted_result}
+use Rattle.cilk_eval.proofs.effects_laws.Same.{effect-same, effect-reaches}
+use Rattle.cilk_eval.proofs.effects_laws.Shapes.{ShapeOf, shape}
+use Rattle.cilk_eval.proofs.effects_laws.Shapes as shapes
 use Rattle.cilk_machine_agree.specs.spawn.declared.delivery.Delivery.{Delivery}
 use Rattle.cilk_machine_agree.specs.spawn.Nodes.{has_live_child, is_synched, path_at}
 use Rattle.cilk_machine_agree.specs.Alike.{SameDeliveries}

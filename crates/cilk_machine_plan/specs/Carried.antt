@@ -8,7 +8,7 @@ use Rattle.cilk_machine_agree.specs.frame.Begins.{starts_with}
 use Rattle.cilk_machine_agree.specs.frame.Cells.{frame_put, globals_put}
 use Rattle.cilk_machine_agree.specs.spawn.declared.fate.Fate.TheVariants as fate
 use Rattle.cilk_machine_agree.specs.spawn.Nodes.{Node, node_at, with_child, with_parked, taken, ended, marked_below}
-use Rattle.cilk_machine_effects.specs.declared.reached.Reached.{Reached}
+use Rattle.cilk_eval.specs.declared.reached.Reached.{Reached}
 use Rattle.cilk_machine_agree.specs.Outside as outside
 use Rattle.cilk_machine_agree.specs.Outside.{Outside}
 use Rattle.cilk_machine_agree.specs.Agrees.{MachineParts}

@@ -7,7 +7,7 @@ pub mod StepInput
 pub mod Made
 pub mod Plans
 pub use Rattle.cilk_machine_agree.specs as agree
-pub use Rattle.cilk_machine_effects.specs.eval
+pub use Rattle.cilk_eval.specs as eval
 pub use Rattle.cilk_machine_agree.specs.frame
 pub use Rattle.cilk_machine_agree.specs.labelled
 pub use Rattle.cilk_machine_agree.specs.model
@@ -16,5 +16,5 @@ pub use Rattle.cilk_machine_agree.specs.runs
 pub use Rattle.cilk_machine_agree.specs.sched
 pub use Rattle.cilk_machine_agree.specs.spawn
 pub use Rattle.cilk_machine_agree.specs.syntax
-pub use Rattle.cilk_machine_effects.specs as effects
+pub use Rattle.cilk_eval.specs.effects
 pub use Rattle.cilk_machine_agree.specs.scopes

@@ -21,9 +21,9 @@ use Rattle.cilk_machine_agree.specs.spawn.declared.delivery.Delivery.{Delivery}
 use Rattle.cilk_machine_agree.specs.frame.declared.receiver.Receiver as receiver
 use Rattle.cilk_machine_agree.specs.frame.declared.receiver.Receiver.{Receiver}
 use Rattle.cilk_machine_agree.specs.spawn.Nodes.{is_synched, has_live_child, live_ids}
-use Rattle.cilk_machine_effects.specs.declared.effect.Effect.{Effect}
-use Rattle.cilk_machine_effects.specs.declared.effect.Effect.TheVariants.{Writes, Answers, Enters, Gives, Starts, Prints, TurnsLock, Marks}
-use Rattle.cilk_machine_effects.specs.Effects.{effect_in}
+use Rattle.cilk_eval.specs.declared.effect.Effect.{Effect}
+use Rattle.cilk_eval.specs.declared.effect.Effect.TheVariants.{Writes, Answers, Enters, Gives, Starts, Prints, TurnsLock, Marks}
+use Rattle.cilk_eval.specs.effects.Effects.{effect_in}
 use Rattle.cilk_machine_agree.specs.Locks.{LockTurn, lock_turned, refused, blocked, lock_turn_among}
 use Rattle.cilk_machine_agree.specs.frame.declared.trap_kind.TrapKind.{TrapKind}
 use Rattle.cilk_machine_agree.specs.frame.declared.trap_kind.TrapKind.TheVariants as kind

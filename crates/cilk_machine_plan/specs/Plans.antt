@@ -22,7 +22,7 @@ use Rattle.cilk_machine_agree.specs.frame.Cells.{SameCell}
 use Rattle.cilk_machine_agree.specs.frame.Stands.{AwaitsSame, bodies_of}
 use Rattle.cilk_machine_agree.specs.frame.declared.receiver.Receiver.{Receiver}
 use Rattle.cilk_machine_agree.specs.spawn.Nodes.{has_live_child, path_at}
-use Rattle.cilk_machine_effects.specs.declared.reached.Reached as code
+use Rattle.cilk_eval.specs.declared.reached.Reached as code
 use Rattle.cilk_machine_agree.specs.declared.lock.Lock.{Lock}
 use Rattle.cilk_machine_agree.specs.Outside.{LockWithin, lock_by}
 use Rattle.cilk_machine_agree.specs.Alike.{Receives, lowest_body}

@@ -3,8 +3,8 @@
 ghost use Rattle.std.specs.Prelude.{◌≡◌};
 ghost use Rattle.cilk_machine_plan.specs.Made.{leaves, between_threads};
 
+use cilk_eval::Action;
 use cilk_machine_agree::Frame;
-use cilk_machine_effects::Action;
 
 /// Whether the procedure of a frame that comes to an action is between two of its threads, where an inlet may run (Cilk 5.4 manual, `inlet`).
 pub fn is_between_threads(frame: &Frame, action: &Action) -> bool

@@ -5,8 +5,8 @@ ghost use Rattle.cilk_machine_agree.specs.model.Hands.{IsWorker, hand_of, with_h
 ghost use Rattle.cilk_machine_agree.specs.frame.Cells.{frame_put, globals_put};
 ghost use Rattle.cilk_machine_plan.specs.Ready.{Fits, frame_in};
 
+use cilk_eval::Reached;
 use cilk_machine_agree::{Area, Hands};
-use cilk_machine_effects::Reached;
 
 /// A cell takes a value.
 #[derive(Clone, Copy)]

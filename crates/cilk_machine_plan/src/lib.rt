@@ -14,13 +14,13 @@ mod spent;
 
 pub use boundary::{is_between_threads, leaves};
 pub use cell_writing::{Writing, write_cell};
-pub use cilk_machine_agree::{
-    Activation, Area, Body, Delivery, Ending, Fate, Frame, Hands, HandsImage, Id, LivingImage,
-    Lock, Mixer, Path, Program, Remains, Taken, TrapKind, Tree, TreeImage, Var,
-};
-pub use cilk_machine_effects::{
+pub use cilk_eval::{
     Arguments, Await, Bytes, Effect, Known, Listed, Memory, Reached, Receiver, Slots, assigned,
     combined, effect_of, eval, eval_known, held, is_known_of, known_of,
+};
+pub use cilk_machine_agree::{
+    Activation, Area, Body, Both, Delivery, Ending, Fate, Frame, Hands, HandsImage, Id,
+    LivingImage, Lock, Mixer, Path, Program, Remains, Taken, TrapKind, Tree, TreeImage, Var,
 };
 pub use did::{Did, Done, NoMemory, Outcome};
 pub use laws::plans_are_steps;

@@ -1,7 +1,7 @@
 //! The plans of light steps, which need no memory and leave the frame in its hand.
 
+use cilk_eval::Reached;
 use cilk_machine_agree::Id;
-use cilk_machine_effects::Reached;
 
 /// A plan that takes no memory, and after which the instance goes on in the same hand. Most steps have such a one. It is
 /// small, and is copied where a plan is moved.

@@ -1,7 +1,7 @@
 //! The plans that a step may have, each with the values that carrying it out needs.
 
+use cilk_eval::{Arguments, Await, Bytes, Reached, Receiver};
 use cilk_machine_agree::{Id, Lock, TrapKind};
-use cilk_machine_effects::{Arguments, Await, Bytes, Reached, Receiver};
 
 /// What a step of an instance is to do. Numbers are those of actions: n that of the action that is acted, and `to` that of
 /// the one with which the activation goes on.

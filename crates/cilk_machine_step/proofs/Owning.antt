@@ -43,7 +43,7 @@ use Rattle.cilk_machine_step.proofs.Acts.{cell-declared}
 use Rattle.cilk_load.specs.model.declared.trap.Trap.{Trap}
 use Rattle.cilk_machine_plan.specs.nodes.Areas.{slot_cell}
 use Rattle.cilk_machine_plan.specs.model.Values.{combined}
-use Rattle.cilk_machine_plan.specs.effects.declared.reached.Reached as code
+use Rattle.cilk_machine_plan.specs.eval.declared.reached.Reached as code
 use Rattle.cilk_machine_plan.specs.spawn.Nodes.{has_live_child}
 use Rattle.cilk_machine_plan.specs.spawn.declared.delivery.Delivery as code_delivery
 use Rattle.cilk_machine_plan.specs.frame.declared.receiver.Receiver.{Receiver}

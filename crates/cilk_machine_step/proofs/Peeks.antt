@@ -20,7 +20,7 @@ use Rattle.cilk_machine_plan.specs.nodes.Table.{node_of}
 use Rattle.cilk_machine_plan.specs.nodes.Bodies.{body_of}
 use Rattle.cilk_machine_plan.specs.spawn.Nodes.{is_synched}
 use Rattle.cilk_machine_plan.specs.frame.declared.trap_kind.TrapKind.TheVariants as kind
-use Rattle.cilk_machine_plan.specs.effects.declared.effect.Effect.TheVariants.{Writes}
+use Rattle.cilk_machine_plan.specs.eval.declared.effect.Effect.TheVariants.{Writes}
 use Rattle.cilk_machine_plan.specs.effects.Effects.{effect_in, subscript_of}
 use Rattle.cilk_machine_plan.specs.effects.Fits.{FitsAct}
 use Rattle.cilk_machine_plan.specs.Made.{traps, by_effect, acted, planned, at_boundary, ends_thread, is_sync, is_spawn, leaves, is_function_body}

@@ -21,8 +21,8 @@ use Rattle.cilk_machine_plan.specs.frame.Frames.{top_of, left}
 use Rattle.cilk_machine_plan.specs.frame.declared.receiver.Receiver as receiver
 use Rattle.cilk_machine_plan.specs.frame.declared.receiver.Receiver.{Receiver}
 use Rattle.cilk_machine_plan.specs.spawn.Nodes.{is_synched, has_live_child}
-use Rattle.cilk_machine_plan.specs.effects.declared.effect.Effect.{Effect}
-use Rattle.cilk_machine_plan.specs.effects.declared.effect.Effect.TheVariants.{Writes, Answers, Enters, Gives, Starts, Prints, TurnsLock, Marks}
+use Rattle.cilk_machine_plan.specs.eval.declared.effect.Effect.{Effect}
+use Rattle.cilk_machine_plan.specs.eval.declared.effect.Effect.TheVariants.{Writes, Answers, Enters, Gives, Starts, Prints, TurnsLock, Marks}
 use Rattle.cilk_machine_plan.specs.effects.Effects.{index_of, awaited, effect_in}
 use Rattle.cilk_machine_plan.specs.agree.Locks.{LockTurn, lock_turned, refused, blocked, lock_turn_among}
 use Rattle.cilk_machine_plan.specs.frame.declared.trap_kind.TrapKind.{TrapKind}

@@ -7,8 +7,8 @@ use Rattle.cilk_machine_plan.specs.nodes.Table.{node_of}
 use Rattle.cilk_machine_plan.specs.nodes.Bodies.{body_of}
 use Rattle.cilk_load.specs.model.declared.trap.Trap.{Trap}
 use Rattle.cilk_machine_plan.specs.spawn.Nodes.{is_synched}
-use Rattle.cilk_machine_plan.specs.effects.declared.effect.Effect.{Effect}
-use Rattle.cilk_machine_plan.specs.effects.declared.effect.Effect.TheVariants.{Gives}
+use Rattle.cilk_machine_plan.specs.eval.declared.effect.Effect.{Effect}
+use Rattle.cilk_machine_plan.specs.eval.declared.effect.Effect.TheVariants.{Gives}
 use Rattle.cilk_machine_plan.specs.effects.Effects.{effect_in}
 use Rattle.cilk_machine_plan.specs.spawn.declared.delivery.Delivery.{Delivery}
 use Rattle.cilk_machine_plan.specs.frame.declared.trap_kind.TrapKind.TheVariants as kind

@@ -18,8 +18,8 @@ use Rattle.cilk_machine_plan.specs.nodes.declared.node.Node.{Node}
 use Rattle.cilk_machine_plan.specs.nodes.declared.slot_place.SlotPlace.{SlotPlace}
 use Rattle.cilk_machine_plan.specs.nodes.Table.{node_of}
 use Rattle.cilk_machine_plan.specs.spawn.Nodes.{path_at}
-use Rattle.cilk_machine_plan.specs.effects.declared.effect.Effect.{Effect}
-use Rattle.cilk_machine_plan.specs.effects.declared.effect.Effect.TheVariants.{Writes, Answers}
+use Rattle.cilk_machine_plan.specs.eval.declared.effect.Effect.{Effect}
+use Rattle.cilk_machine_plan.specs.eval.declared.effect.Effect.TheVariants.{Writes, Answers}
 use Rattle.cilk_machine_plan.specs.StepInput.{StepInput, id_of, own_node, head_number, cells_in}
 use Rattle.cilk_machine_plan.specs.Made.{at_boundary}
 use Rattle.cilk_machine_step.specs.declared.peek.Peek as coded

@@ -3,7 +3,7 @@
 ghost use Rattle.std.specs.Prelude.{◌≡◌, ◌<◌, ℕ, true, length, Ok, IfOk, IfSome};
 ghost use Rattle.cilk_machine_plan.specs.nodes.Areas.{sizes_of, cells_of};
 ghost use Rattle.cilk_machine_plan.specs.effects.Effects.{effect_in};
-ghost use Rattle.cilk_machine_plan.specs.effects.declared.effect.Effect.TheVariants.{Gives};
+ghost use Rattle.cilk_machine_plan.specs.eval.declared.effect.Effect.TheVariants.{Gives};
 ghost use Rattle.cilk_machine_plan.specs.effects.Fits.{FitsAct};
 ghost use Rattle.cilk_machine_plan.specs.StepInput.{id_of, cells_in};
 ghost use Rattle.cilk_machine_plan.specs.Made.{acted, ends_thread, given, leaves, taken_by, planned};

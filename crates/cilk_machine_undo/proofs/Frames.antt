@@ -6,7 +6,7 @@ use Rattle.std.proofs.lemmas.List.{take_more}
 use Rattle.cilk_machine_plan.specs.nodes.declared.area.Area.{Area}
 use Rattle.cilk_machine_plan.specs.nodes.declared.area.Area.TheVariants.{Own, Outer, Global}
 use Rattle.cilk_machine_plan.specs.nodes.Areas.{area_cells}
-use Rattle.cilk_machine_plan.specs.effects.declared.reached.Reached.{Reached}
+use Rattle.cilk_machine_plan.specs.eval.declared.reached.Reached.{Reached}
 use Rattle.cilk_machine_plan.specs.frame.Frames.{Frame, Activation, no_activation, activation_at, depth, top_place, top_of, with_cell, gone_to}
 use Rattle.cilk_machine_plan.specs.frame.Frames.{entered, left, stood}
 use Rattle.cilk_machine_plan.specs.frame.Cells.{put_in, globals_in}

@@ -5,7 +5,7 @@ use Rattle.std.specs.Prelude.{slice_index_or, if◌then◌else◌}
 use Rattle.std.proofs.lemmas.List.{length-map}
 use Rattle.std.proofs.Math.ListN.{get_or-map}
 use Rattle.std.proofs.lemmas.Bool.Decides.{nat_tests}
-use Rattle.cilk_machine_plan.specs.effects.declared.reached.Reached.{Reached}
+use Rattle.cilk_machine_plan.specs.eval.declared.reached.Reached.{Reached}
 use Rattle.cilk_machine_plan.specs.frame.Frames.{Frame}
 use Rattle.cilk_machine_plan.specs.frame.Cells.{globals_put}
 use Rattle.cilk_machine_plan.specs.agree.declared.lock.Lock.{Lock}

@@ -5,7 +5,7 @@ use Rattle.cilk_machine_plan.specs.model.Hands.{WorkerOf, IsWorker, hand_of, wit
 use Rattle.cilk_machine_plan.specs.frame.Frames.{Frame, top_of, gone_to, left, entered, stood}
 use Rattle.cilk_machine_plan.specs.frame.Cells.{globals_put}
 use Rattle.cilk_machine_plan.specs.frame.Begins.{starts_with}
-use Rattle.cilk_machine_plan.specs.effects.declared.reached.Reached.{Reached}
+use Rattle.cilk_machine_plan.specs.eval.declared.reached.Reached.{Reached}
 use Rattle.cilk_machine_plan.specs.spawn.declared.fate.Fate.{Fate}
 use Rattle.cilk_machine_plan.specs.spawn.declared.fate.Fate.TheVariants.{Returned, Aborted}
 use Rattle.cilk_machine_plan.specs.frame.Kinds.{kind_of}

@@ -1,7 +1,7 @@
 -- What has to be there for a choice to be taken back. Of the tree it is said of what comes out, which is what was there before the choice.
 use Rattle.std.specs.Prelude.{◌≡◌, ◌≢◌, ◌<◌, ◌-◌, ℕ, ℤ, ⊤, Bool, true, false, List, All, length, Some, None}
 use Rattle.cilk_machine_plan.specs.model.Hands.{WorkerOf, IsWorker, hand_of}
-use Rattle.cilk_machine_plan.specs.effects.declared.reached.Reached.{Reached}
+use Rattle.cilk_machine_plan.specs.eval.declared.reached.Reached.{Reached}
 use Rattle.cilk_machine_plan.specs.frame.Frames.{Frame, Activation, depth, entered}
 use Rattle.cilk_machine_plan.specs.spawn.declared.delivery.Delivery.{Delivery}
 use Rattle.cilk_machine_plan.specs.spawn.declared.fate.Fate.{Fate}

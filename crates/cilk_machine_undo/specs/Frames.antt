@@ -1,7 +1,7 @@
 -- What a frame in a hand was before a step.
 use Rattle.std.specs.Prelude.{ℕ, ℤ, Bool, true, List}
 use Rattle.cilk_machine_plan.specs.nodes.Areas.{slot_cell}
-use Rattle.cilk_machine_plan.specs.effects.declared.reached.Reached.{Reached}
+use Rattle.cilk_machine_plan.specs.eval.declared.reached.Reached.{Reached}
 use Rattle.cilk_machine_plan.specs.frame.Frames.{Frame, Activation, stood, entered, left}
 use Rattle.cilk_machine_plan.specs.frame.Cells.{frame_put}
 use Rattle.cilk_machine_plan.specs.frame.Reads.{lent}

@@ -1,6 +1,6 @@
 -- A record of one choice: what stood where the choice changed something. What it makes of the machine behind the choice is the machine before it.
 use Rattle.std.specs.Prelude.{ℕ, ℤ, Bool, true, false, List, ◌++◌, take, Option, None, Some, option_map, option_to_list, slice_set}
-use Rattle.cilk_machine_plan.specs.effects.declared.reached.Reached.{Reached}
+use Rattle.cilk_machine_plan.specs.eval.declared.reached.Reached.{Reached}
 use Rattle.cilk_machine_plan.specs.model.Hands.{hand_of, deque_of, with_hand, with_deque, bottom_of, above_bottom}
 use Rattle.cilk_machine_plan.specs.frame.Frames.{Frame, stood}
 use Rattle.cilk_machine_plan.specs.frame.Cells.{globals_put}

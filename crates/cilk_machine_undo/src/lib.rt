@@ -20,8 +20,8 @@ mod undo;
 mod undoing;
 
 pub use cilk_machine_plan::{
-    Body, Did, Done, Fate, Frame, Hands, Id, Light, Lock, Mixer, NoMemory, Outcome, Parts, Plan,
-    Program, Spent, Tree, Var,
+    Body, Both, Did, Done, Fate, Frame, Hands, Id, Light, Lock, Mixer, NoMemory, Outcome, Parts,
+    Plan, Program, Spent, Tree, Var,
 };
 pub use filling::fill;
 pub use growth_laws::{

@@ -11,7 +11,7 @@ use Rattle.cilk_program_runs.specs.commands.declared.status.Status.{Status}
 use Rattle.cilk_program_runs.specs.commands.declared.status.Status.TheVariants as ended
 use Rattle.cilk_program_runs.specs.Picturing.{DeclinesToDraw}
 use Rattle.cilk_program_runs.specs.Taped.{Declines}
-use Rattle.cilk_program_runs.specs.declared.failure.RecordFailure.TheVariants as why
+use Rattle.cilk_program_runs.specs.tapes.declared.failure.RecordFailure.TheVariants as why
 use Rattle.cilk_words.specs.CommandLine.{Asked, Wanted, printed, checked, run, explored, replayed, measured, raced, pictured, debugged, served, asked}
 use Rattle.cilk_words.specs.Refusing.{IsNoRequest, asks_for_help, asks_for_version, asks_to_show}
 use Rattle.cilk_words.specs.declared.refusal.NoRequest.{NoRequest}

@@ -6,8 +6,8 @@ use Rattle.cilk_dap.specs.messages.declared.fault.MessageFault.{MessageFault}
 use Rattle.cilk_dap.specs.messages.declared.fault.MessageFault.TheVariants as ending
 use Rattle.cilk_program_runs.specs.GivingUp.{TellsWith}
 use Rattle.cilk_program_runs.specs.Telling.{status_of}
-use Rattle.cilk_program_runs.specs.declared.failure.RecordFailure.{RecordFailure}
-use Rattle.cilk_program_runs.specs.declared.failure.RecordFailure.TheVariants as why
+use Rattle.cilk_program_runs.specs.tapes.declared.failure.RecordFailure.{RecordFailure}
+use Rattle.cilk_program_runs.specs.tapes.declared.failure.RecordFailure.TheVariants as why
 
 -- what is told of it
 abbrev pub exchange_ended : MessageFault → RecordFailure

@@ -2,23 +2,23 @@
 use Rattle.std.proofs.Common.{◌≡◌, ◌∙◌, ◌⊎◌, inl, inr, ◌++◌, ℕ, List, [], Option, Some, None, refl, sym, ap, subst, append-nil, append_assoc}
 use Rattle.std.specs.Prelude.{◌≢◌, true, false, replicate}
 use Rattle.std.specs.Io.KnownBytes.{Consumes}
-use Rattle.cilk_commands.specs.labelled.Count.{count_program}
-use Rattle.cilk_commands.specs.ProgramText.{program_text}
-use Rattle.cilk_draw.specs.replay.log.Naming.{is_of}
-use Rattle.cilk_draw.specs.replay.Tape.{Tape, IsPlayable}
+use Rattle.cilk_program_tapes.specs.commands.labelled.Count.{count_program}
+use Rattle.cilk_program_tapes.specs.commands.ProgramText.{program_text}
+use Rattle.cilk_program_tapes.specs.replay.log.Naming.{is_of}
+use Rattle.cilk_program_tapes.specs.replay.Tape.{Tape, IsPlayable}
 use Rattle.cilk_debug.specs.Debugging.{Debugging}
 use Rattle.cilk_debug.specs.Session.{Session, session}
 use Rattle.cilk_debug.specs.Ending.{Answers, Breaks}
 use Rattle.cilk_debug.specs.declared.session_fault.SessionFault.{SessionFault}
 use Rattle.cilk_debug.specs.declared.session_fault.SessionFault.TheVariants.{Read, Write, Memory}
 use Rattle.cilk_debug.specs.console.declared.fault.InputFault.TheVariants.{Device, LineTooLong, TooManyLines}
-use Rattle.cilk_commands.specs.Front.{Gains, GainsFront}
-use Rattle.cilk_commands.specs.Held.{Held, IsReadOf}
-use Rattle.cilk_commands.proofs.WholeText.{gains_whole, gains_front_whole}
-use Rattle.cilk_commands.specs.declared.status.Status.TheVariants as status
+use Rattle.cilk_program_tapes.specs.commands.Front.{Gains, GainsFront}
+use Rattle.cilk_program_tapes.specs.commands.Held.{Held, IsReadOf}
+use Rattle.cilk_program_tapes.proofs.commands_laws.WholeText.{gains_whole, gains_front_whole}
+use Rattle.cilk_program_tapes.specs.commands.declared.status.Status.TheVariants as status
 use Rattle.cilk_program_runs.specs.Debugging.{IsSession, IsPart, GainsOf, GainsFrontOf, Debugs, DebugsFront, DebugsPart, opened, broken_off}
-use Rattle.cilk_program_runs.specs.Taped.{IsTape, IsOwnTape}
-use Rattle.cilk_program_runs.specs.Telling.{status_of}
+use Rattle.cilk_program_tapes.specs.Taped.{IsTape, IsOwnTape}
+use Rattle.cilk_program_tapes.specs.Telling.{status_of}
 
 pub opens : (d : Debugging) (t : Tape) → d.tape ≡ t → d.position ≡ 0 → d.marks ≡ replicate (count_program t.program) false → d ≡ opened t
 opens d t tape position marks = λ i. record { tape = tape i; position = position i; marks = marks i }

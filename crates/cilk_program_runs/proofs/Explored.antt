@@ -4,15 +4,15 @@ use Rattle.std.proofs.Common.{Option, Some, IfSome, option_map}
 use Rattle.std.specs.Prelude.{◌≢◌, slice_get, Result, Ok, Err, IfOk}
 use Rattle.std.proofs.Math.Nat.{eq-or-lt_of_le}
 use Rattle.std.proofs.lemmas.Option.{slice_get-map}
-use Rattle.cilk_commands.specs.Held.{Held, IsReadOf}
-use Rattle.cilk_commands.specs.Loading.{IsReady}
-use Rattle.cilk_commands.specs.lex.declared.reading.TheConstants.{TEXT_LIMIT}
-use Rattle.cilk_commands.specs.syntax.Tree.{Program}
-use Rattle.cilk_commands.specs.Status.{is_answer}
-use Rattle.cilk_commands.specs.declared.failure.Failure.TheVariants as failure
-use Rattle.cilk_commands.specs.declared.status.Status.{Status}
-use Rattle.cilk_commands.specs.declared.status.Status.TheVariants as status
-use Rattle.cilk_commands.proofs.WholeText.{gives_up, whole_held}
+use Rattle.cilk_program_tapes.specs.commands.Held.{Held, IsReadOf}
+use Rattle.cilk_program_tapes.specs.commands.Loading.{IsReady}
+use Rattle.cilk_program_tapes.specs.commands.lex.declared.reading.TheConstants.{TEXT_LIMIT}
+use Rattle.cilk_program_tapes.specs.commands.syntax.Tree.{Program}
+use Rattle.cilk_program_tapes.specs.commands.Status.{is_answer}
+use Rattle.cilk_program_tapes.specs.commands.declared.failure.Failure.TheVariants as failure
+use Rattle.cilk_program_tapes.specs.commands.declared.status.Status.{Status}
+use Rattle.cilk_program_tapes.specs.commands.declared.status.Status.TheVariants as status
+use Rattle.cilk_program_tapes.proofs.commands_laws.WholeText.{gives_up, whole_held}
 use Rattle.cilk_explore.specs.Exploring.{IsExploration}
 use Rattle.cilk_explore.specs.declared.exploration.Exploration.{Exploration}
 use Rattle.cilk_run.specs.model.Choice.{Choice}
@@ -23,7 +23,7 @@ use Rattle.cilk_program_runs.specs.declared.explore.Answer.{Answer}
 use Rattle.cilk_program_runs.specs.Unexplored.{IsUnexplored, TellsUnexplored, status_of}
 use Rattle.cilk_program_runs.specs.declared.unexplored.Unexplored.{Unexplored}
 use Rattle.cilk_program_runs.specs.declared.unexplored.Unexplored.TheVariants as why
-use Rattle.cilk_commands.proofs.Statuses.{not_both}
+use Rattle.cilk_program_tapes.proofs.commands_laws.Statuses.{not_both}
 
 -- ---- the logs
 

@@ -1,12 +1,9 @@
-mod ChoiceLines
-mod ChoiceStands
 pub mod NotRead
-pub mod Said
-pub mod Whole
+mod Stored
 pub mod Ran
 mod Debugged
 mod Explored
-mod Pictured
 mod Among
-pub mod Told
-pub use Rattle.cilk_commands.proofs as commands_laws
+pub use Rattle.cilk_program_tapes.proofs.Said
+pub use Rattle.cilk_program_tapes.proofs.Told
+pub use Rattle.cilk_program_tapes.proofs.commands_laws

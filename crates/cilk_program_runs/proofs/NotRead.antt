@@ -1,17 +1,17 @@
 -- What is told where a text was not read.
 use Rattle.std.proofs.Common.{◌≡◌, ◌∙◌, inl, refl, sym, ℕ, Bool, true, false, List, [], Option, Some, None, Bor, option_map, unwrap_or}
 use Rattle.std.specs.Prelude.{◌≢◌}
-use Rattle.cilk_commands.specs.Status.{status_of}
-use Rattle.cilk_commands.specs.Telling.{IsExplanation, WritesFailure as TellsLine}
-use Rattle.cilk_commands.proofs.WholeText.{some_read}
-use Rattle.cilk_commands.specs.declared.failure.Failure.{Failure}
-use Rattle.cilk_commands.specs.declared.failure.Failure.TheVariants as failure
-use Rattle.cilk_commands.specs.declared.status.Status.{Status}
-use Rattle.cilk_commands.specs.declared.status.Status.TheVariants as ended
-use Rattle.cilk_program_runs.specs.GivingUp.{GivesUp, GivesUpRun, NoProgram}
-use Rattle.cilk_program_runs.proofs.Whole.{any_held}
-use Rattle.cilk_program_runs.specs.declared.failure.RecordFailure.{RecordFailure}
-use Rattle.cilk_program_runs.specs.declared.failure.RecordFailure.TheVariants as why
+use Rattle.cilk_program_tapes.specs.commands.Status.{status_of}
+use Rattle.cilk_program_tapes.specs.commands.Telling.{IsExplanation, WritesFailure as TellsLine}
+use Rattle.cilk_program_tapes.proofs.commands_laws.WholeText.{some_read}
+use Rattle.cilk_program_tapes.specs.commands.declared.failure.Failure.{Failure}
+use Rattle.cilk_program_tapes.specs.commands.declared.failure.Failure.TheVariants as failure
+use Rattle.cilk_program_tapes.specs.commands.declared.status.Status.{Status}
+use Rattle.cilk_program_tapes.specs.commands.declared.status.Status.TheVariants as ended
+use Rattle.cilk_program_tapes.specs.GivingUp.{GivesUp, GivesUpRun, NoProgram}
+use Rattle.cilk_program_tapes.proofs.Whole.{any_held}
+use Rattle.cilk_program_tapes.specs.declared.failure.RecordFailure.{RecordFailure}
+use Rattle.cilk_program_tapes.specs.declared.failure.RecordFailure.TheVariants as why
 use Rattle.cilk_program_runs.specs.AsAsked.{log_name}
 
 -- the name by which a log is told of

@@ -1,31 +1,25 @@
--- The texts of a machine that is not moved any more.
-use Rattle.std.proofs.Common.{◌≡◌, ◌≤◌, ℕ, Bool, true, false, refl, List, length, map, take, sym, ap, ◌∙◌, subst}
+-- The texts of a run.
+use Rattle.std.proofs.Common.{◌≡◌, ◌≤◌, ℕ, Bool, true, false, refl, List, length, map, sym, ap, ◌∙◌, subst}
 use Rattle.std.specs.Prelude.{◌≢◌, Option, Some, None, Result, Ok, Err, IfOk, IfSome}
 use Rattle.std.specs.Io.KnownBytes.{Appends}
 use Rattle.std.proofs.lemmas.List.{length-map}
 use Rattle.std.proofs.Math.Seq.{take-length}
-use Rattle.cilk_commands.specs.syntax.Tree.{Program}
-use Rattle.cilk_commands.specs.labelled.Bodies.{label}
-use Rattle.cilk_run.specs.model.Run.{Standing, after}
+use Rattle.cilk_program_tapes.specs.commands.syntax.Tree.{Program}
+use Rattle.cilk_program_tapes.specs.commands.labelled.Bodies.{label}
+use Rattle.cilk_run.specs.model.Run.{after}
 use Rattle.cilk_run.specs.model.End as end
 use Rattle.cilk_run.specs.Runs as Runs
 use Rattle.cilk_run.specs.declared.run_result.Run.{Run}
 use Rattle.cilk_run.specs.choices.Words.{choice_of, end_of}
-use Rattle.cilk_run.specs.choices.declared.choice.Choice as code
-use Rattle.cilk_run.specs.machine.Situation.{Situation}
-use Rattle.cilk_run.specs.machine.Stands.{StandsAt}
 use Rattle.cilk_run.specs.Drawn.{drawn}
-use Rattle.cilk_draw.specs.replay.log.Text.{log_text}
-use Rattle.cilk_draw.specs.replay.log.Words.{log_of}
-use Rattle.cilk_draw.specs.replay.Tape.{Tape, tape_of, IsAt}
-use Rattle.cilk_commands.specs.Loading.{IsReady}
-use Rattle.cilk_commands.specs.declared.status.Status.{Status}
+use Rattle.cilk_program_tapes.specs.replay.log.Text.{log_text}
+use Rattle.cilk_program_tapes.specs.replay.log.Words.{log_of}
+use Rattle.cilk_program_tapes.specs.replay.Tape.{Tape, tape_of}
+use Rattle.cilk_program_tapes.specs.commands.Loading.{IsReady}
+use Rattle.cilk_program_tapes.specs.commands.declared.status.Status.{Status}
 use Rattle.cilk_program_runs.specs.Running.{IsRun, status_at}
-use Rattle.cilk_program_runs.specs.declared.closing.Closing.{Closing}
 use Rattle.cilk_program_runs.specs.declared.run.RunAnswer.{RunAnswer}
-use Rattle.cilk_program_runs.specs.Replaying.{ClosesAt, IsReplayed}
 use Rattle.cilk_program_runs.specs.OnTapes.{IsOfRun, alone_limit}
-use Rattle.cilk_program_runs.specs.Taped.{IsOwnTape}
 
 -- the choices are those of the seed, if there is one
 abbrev pub IsNamed : Option ℕ → Program → ℕ → ℕ → Run → Type 0
@@ -85,40 +79,6 @@ pub kept_log : (is_logged : Bool) (old new : Option (List ℕ)) (written log ite
     → (is_logged ≡ true → items ≡ log) → ((text : List ℕ) → (old ≢ None → written ≡ text) → Appends old new text) → Appends old new log
 kept_log true old new written log items none same is kept = kept log (λ known. same ∙ is refl)
 kept_log false old new written log items none same is kept = kept log (λ known. absurd (known (none refl)))
-
--- the closing text that is made of what a machine tells
-pub closes_by : {E : Type 0} (closing : Result Closing E) (m : Situation) (output : List ℕ) (ended : end.End) (n : ℕ)
-    → ((at : Standing) → StandsAt m at → output ≡ at.state.output) → ((at : Standing) → StandsAt m at → ended ≡ end.end_now (label m.program) at)
-    → n ≡ m.choices → IfOk closing (λ c. c.status ≡ status_at ended) → IfOk closing (λ c. c.text.items ≡ end.ending output ended n)
-    → IfOk closing (λ c. (at : Standing) → StandsAt m at → ClosesAt m at c.status c.text.items)
-closes_by (Ok c) m output ended n printed ends counted status text = λ at there. record {
-  tells = status ∙ ap status_at (ends at there);
-  is = text ∙ (λ i. end.ending (printed at there i) (ends at there i) (counted i));
-}
-closes_by (Err e) m output ended n printed ends counted status text = tt
-
--- the closing text of a replay
-pub replayed : (status : Status) (text bytes answer : List ℕ) (t : Tape) (n : ℕ) (m : Situation) → IsOwnTape text bytes t → n ≡ length t.choices → IsAt t n m
-    → ((at : Standing) → StandsAt m at → ClosesAt m at status answer) → IsReplayed status text bytes answer
-replayed status text bytes answer t n m is_tape count a closes =
-    let there : StandsAt m a.at.standing = record { choices = take n t.choices; events = a.at.events; led = a.led } in
-    let now : end.end_now (label m.program) a.at.standing ≡ end.end_now (label t.program) a.at.standing =
-    ap (λ (q : Program). end.end_now (label q) a.at.standing) a.program in
-    record {
-      tape = t;
-      is_tape = is_tape;
-      at = a.at;
-      led = (λ i. after (label (sym a.program i)) (sym a.workers i) (take (sym count i) t.choices)) ∙ a.led.led;
-      tells = (closes a.at.standing there).tells ∙ ap status_at now;
-      is = (closes a.at.standing there).is ∙ (λ i. end.ending a.at.standing.state.output (now i) ((a.choices ∙ count) i));
-    }
-
--- where all of the choices were made again
-pub all_replayed : (status : Status) (text bytes answer : List ℕ) (p : Program) (workers : ℕ) (made : List code.Choice) (m : Situation)
-    → IsOwnTape text bytes (tape_of p workers made) → IsAt (tape_of p workers made) (length made) m
-    → ((at : Standing) → StandsAt m at → ClosesAt m at status answer) → IsReplayed status text bytes answer
-all_replayed status text bytes answer p workers made m is_tape a closes =
-    replayed status text bytes answer (tape_of p workers made) (length made) m is_tape (sym (length-map made choice_of)) a closes
 
 -- ---- what is told of a run by one worker
 

@@ -1,14 +1,14 @@
 -- What is to be written of a run, an exploration or a schedule, as it is asked for.
 use Rattle.std.specs.Prelude.{◌≡◌, ℕ, Bool, List, [], Option, Some, None}
-use Rattle.cilk_commands.specs.Loading.{Unready}
-use Rattle.cilk_commands.specs.Telling.{GivesUp}
-use Rattle.cilk_commands.specs.declared.status.Status.{Status}
-use Rattle.cilk_commands.specs.declared.status.Status.TheVariants.{Done}
+use Rattle.cilk_program_tapes.specs.commands.Loading.{Unready}
+use Rattle.cilk_program_tapes.specs.commands.Telling.{GivesUp}
+use Rattle.cilk_program_tapes.specs.commands.declared.status.Status.{Status}
+use Rattle.cilk_program_tapes.specs.commands.declared.status.Status.TheVariants.{Done}
 use Rattle.cilk_program_runs.specs.Exploring.{Explores, ExploresFront}
-use Rattle.cilk_program_runs.specs.GivingUp.{GivesUp as GivesUpOfLog}
+use Rattle.cilk_program_tapes.specs.GivingUp.{GivesUp as GivesUpOfLog}
 use Rattle.cilk_program_runs.specs.Running.{Runs, RunsFront}
 use Rattle.cilk_program_runs.specs.Tallying.{Tallies, TalliesFront}
-use Rattle.cilk_program_runs.specs.Taped.{Declines}
+use Rattle.cilk_program_tapes.specs.Taped.{Declines}
 
 -- a run, with some store for its log, whose bytes may be known
 pub record RunsSomewhere (workers limit : ℕ) (seed : Option ℕ) (status : Status) (known old new : Option (List ℕ)) : Type 0 where

@@ -1,17 +1,17 @@
 -- What a debugger's session writes.
 use Rattle.std.specs.Prelude.{◌≡◌, ℕ, false, List, ◌++◌, Option, None, IfSome, replicate}
-use Rattle.cilk_commands.specs.labelled.Count.{count_program}
-use Rattle.cilk_draw.specs.replay.Tape.{Tape, IsPlayable}
+use Rattle.cilk_program_tapes.specs.commands.labelled.Count.{count_program}
+use Rattle.cilk_program_tapes.specs.replay.Tape.{Tape, IsPlayable}
 use Rattle.cilk_debug.specs.Debugging.{Debugging}
 use Rattle.cilk_debug.specs.Session.{session}
 use Rattle.cilk_debug.specs.declared.session_fault.SessionFault.{SessionFault}
 use Rattle.cilk_debug.specs.declared.session_fault.SessionFault.TheVariants as ending
-use Rattle.cilk_commands.specs.Front.{Gains, GainsFront}
-use Rattle.cilk_commands.specs.Held.{Held}
-use Rattle.cilk_commands.specs.declared.failure.Failure.TheVariants as failure
-use Rattle.cilk_program_runs.specs.Taped.{IsOwnTape}
-use Rattle.cilk_program_runs.specs.declared.failure.RecordFailure.{RecordFailure}
-use Rattle.cilk_program_runs.specs.declared.failure.RecordFailure.TheVariants as why
+use Rattle.cilk_program_tapes.specs.commands.Front.{Gains, GainsFront}
+use Rattle.cilk_program_tapes.specs.commands.Held.{Held}
+use Rattle.cilk_program_tapes.specs.commands.declared.failure.Failure.TheVariants as failure
+use Rattle.cilk_program_tapes.specs.Taped.{IsOwnTape}
+use Rattle.cilk_program_tapes.specs.declared.failure.RecordFailure.{RecordFailure}
+use Rattle.cilk_program_tapes.specs.declared.failure.RecordFailure.TheVariants as why
 
 -- a debugger before the first choice, without a breakpoint
 abbrev pub opened : Tape → Debugging

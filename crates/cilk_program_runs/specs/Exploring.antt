@@ -2,19 +2,19 @@
 use Rattle.std.specs.Prelude.{◌≡◌, ◌⊎◌, ◌+◌, ◌==◌, nat_lt, if◌then◌else◌, ℕ, suc, Bool, true, false, List, [], ◌∷◌, ◌++◌, length, map, Option}
 use Rattle.std.specs.Prelude.{Some, IfSome, slice_get, codes, decimal}
 use Rattle.std.specs.Io.KnownBytes.{Appends}
-use Rattle.cilk_commands.specs.Front.{AppendsFront}
-use Rattle.cilk_commands.specs.Held.{Held}
-use Rattle.cilk_commands.specs.Loading.{IsReady, Unready}
-use Rattle.cilk_commands.specs.ProgramText.{program_text}
-use Rattle.cilk_commands.specs.Telling.{GivesUp}
-use Rattle.cilk_commands.specs.syntax.Tree.{Program}
-use Rattle.cilk_commands.specs.declared.status.Status.{Status}
-use Rattle.cilk_commands.specs.declared.status.Status.TheVariants as status
+use Rattle.cilk_program_tapes.specs.commands.Front.{AppendsFront}
+use Rattle.cilk_program_tapes.specs.commands.Held.{Held}
+use Rattle.cilk_program_tapes.specs.commands.Loading.{IsReady, Unready}
+use Rattle.cilk_program_tapes.specs.commands.ProgramText.{program_text}
+use Rattle.cilk_program_tapes.specs.commands.Telling.{GivesUp}
+use Rattle.cilk_program_tapes.specs.commands.syntax.Tree.{Program}
+use Rattle.cilk_program_tapes.specs.commands.declared.status.Status.{Status}
+use Rattle.cilk_program_tapes.specs.commands.declared.status.Status.TheVariants as status
 use Rattle.cilk_explore.specs.Exploring.{IsExploration}
 use Rattle.cilk_explore.specs.declared.exploration.Exploration.{Exploration}
 use Rattle.cilk_explore.specs.explore.Search.{Told}
-use Rattle.cilk_draw.specs.replay.log.Naming.{digest_of}
-use Rattle.cilk_draw.specs.replay.log.Text.{log_text}
+use Rattle.cilk_program_tapes.specs.replay.log.Naming.{digest_of}
+use Rattle.cilk_program_tapes.specs.replay.log.Text.{log_text}
 use Rattle.cilk_run.specs.model.Choice.{Choice}
 use Rattle.cilk_run.specs.model.End.{ending}
 use Rattle.cilk_program_runs.specs.Outcomes.{Outcome, with_end, without_end, log_in, outcomes_by}

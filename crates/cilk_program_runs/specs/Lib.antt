@@ -1,18 +1,16 @@
-pub mod ChoiceLines
-pub mod ChoiceRows
-pub mod Meanings
-pub mod Saying
 pub mod AsAsked
-pub mod Telling
-pub mod GivingUp
-pub mod Taped
 pub mod Running
-pub mod Replaying
 pub mod Tallying
 pub mod OnTapes
-pub mod Picturing
 pub mod Debugging
 pub mod Outcomes
 pub mod Exploring
 pub mod Unexplored
-pub use Rattle.cilk_commands.specs as commands
+pub use Rattle.cilk_program_tapes.specs as tapes
+pub use Rattle.cilk_program_tapes.specs.GivingUp
+pub use Rattle.cilk_program_tapes.specs.Picturing
+pub use Rattle.cilk_program_tapes.specs.Replaying
+pub use Rattle.cilk_program_tapes.specs.Saying
+pub use Rattle.cilk_program_tapes.specs.Taped
+pub use Rattle.cilk_program_tapes.specs.Telling
+pub use Rattle.cilk_program_tapes.specs.commands

@@ -1,14 +1,14 @@
 -- What is told of all choices of a tape: of a recorded schedule, or of a run by one worker.
 use Rattle.std.specs.Prelude.{◌≡◌, ◌≤◌, ℕ, List, length, Option, Some, None}
-use Rattle.cilk_commands.specs.Front.{Gains, GainsFront}
-use Rattle.cilk_commands.specs.Held.{Held}
-use Rattle.cilk_commands.specs.Loading.{IsReady}
-use Rattle.cilk_commands.specs.declared.status.Status.{Status}
-use Rattle.cilk_commands.specs.labelled.Bodies.{label}
-use Rattle.cilk_draw.specs.replay.Tape.{Tape, position_at}
+use Rattle.cilk_program_tapes.specs.commands.Front.{Gains, GainsFront}
+use Rattle.cilk_program_tapes.specs.commands.Held.{Held}
+use Rattle.cilk_program_tapes.specs.commands.Loading.{IsReady}
+use Rattle.cilk_program_tapes.specs.commands.declared.status.Status.{Status}
+use Rattle.cilk_program_tapes.specs.commands.labelled.Bodies.{label}
+use Rattle.cilk_program_tapes.specs.replay.Tape.{Tape, position_at}
 use Rattle.cilk_run.specs.model.End as model
 use Rattle.cilk_run.specs.model.Run.{Position}
-use Rattle.cilk_program_runs.specs.Taped.{IsOwnTape}
+use Rattle.cilk_program_tapes.specs.Taped.{IsOwnTape}
 
 -- of a recorded schedule of the program that the bytes of a text are
 pub record IsOfLog (Of : Tape → Status → List ℕ → Type 0) (text bytes : List ℕ) (status : Status) (answer : List ℕ) : Type 0 where

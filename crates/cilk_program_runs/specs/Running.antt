@@ -1,27 +1,20 @@
 -- What a run writes.
 use Rattle.std.specs.Prelude.{◌≡◌, ◌≤◌, ℕ, List, length, Option, Some, IfSome}
 use Rattle.std.specs.Io.KnownBytes.{Appends}
-use Rattle.cilk_commands.specs.syntax.Tree.{Program}
-use Rattle.cilk_commands.specs.labelled.Bodies.{label}
+use Rattle.cilk_program_tapes.specs.commands.syntax.Tree.{Program}
+use Rattle.cilk_program_tapes.specs.commands.labelled.Bodies.{label}
 use Rattle.cilk_run.specs.model.Choice.{Choice}
 use Rattle.cilk_run.specs.model.End as model
 use Rattle.cilk_run.specs.model.Run.{Position, after}
 use Rattle.cilk_run.specs.Drawn.{drawn}
-use Rattle.cilk_commands.specs.ProgramText.{program_text}
-use Rattle.cilk_draw.specs.replay.log.Naming.{digest_of}
-use Rattle.cilk_draw.specs.replay.log.Text.{log_text}
-use Rattle.cilk_commands.specs.Front.{AppendsFront}
-use Rattle.cilk_commands.specs.Held.{Held}
-use Rattle.cilk_commands.specs.Loading.{IsReady}
-use Rattle.cilk_commands.specs.declared.status.Status.{Status}
-use Rattle.cilk_commands.specs.declared.status.Status.TheVariants as status
-
--- the status that tells how a run ended
-abbrev pub status_at : model.End → Status
-status_at (model.finished value) = status.Done
-status_at (model.trapped kind path n line) = status.Trapped
-status_at model.stuck = status.Stuck
-status_at model.limit = status.Limit
+use Rattle.cilk_program_tapes.specs.commands.ProgramText.{program_text}
+use Rattle.cilk_program_tapes.specs.replay.log.Naming.{digest_of}
+use Rattle.cilk_program_tapes.specs.replay.log.Text.{log_text}
+use Rattle.cilk_program_tapes.specs.commands.Front.{AppendsFront}
+use Rattle.cilk_program_tapes.specs.commands.Held.{Held}
+use Rattle.cilk_program_tapes.specs.commands.Loading.{IsReady}
+use Rattle.cilk_program_tapes.specs.commands.declared.status.Status.{Status}
+pub use Rattle.cilk_program_tapes.specs.Replaying.{status_at}
 
 -- the log and the closing text of a run of the program that the bytes of a text are: so many workers made choices, at most so many, until the
 -- program had ended or was stuck, or they were so many; the status tells which, and the log has these choices in their order; with a seed they are

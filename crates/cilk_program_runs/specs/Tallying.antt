@@ -1,10 +1,10 @@
 -- What the runs of several seeds write.
 use Rattle.std.specs.Prelude.{ℕ, List, Option}
-use Rattle.cilk_commands.specs.Front.{Gains, GainsFront}
-use Rattle.cilk_commands.specs.Held.{Held}
-use Rattle.cilk_commands.specs.Loading.{IsReady}
-use Rattle.cilk_commands.specs.labelled.Bodies.{label}
-use Rattle.cilk_commands.specs.syntax.Tree.{Program}
+use Rattle.cilk_program_tapes.specs.commands.Front.{Gains, GainsFront}
+use Rattle.cilk_program_tapes.specs.commands.Held.{Held}
+use Rattle.cilk_program_tapes.specs.commands.Loading.{IsReady}
+use Rattle.cilk_program_tapes.specs.commands.labelled.Bodies.{label}
+use Rattle.cilk_program_tapes.specs.commands.syntax.Tree.{Program}
 use Rattle.cilk_run.specs.Tallied.{IsTallyText}
 
 -- the tally of so many runs, from this seed on, of the program that the bytes of a text are

@@ -1,13 +1,13 @@
 -- Why there is no exploration.
 use Rattle.std.specs.Prelude.{◌≡◌, ℕ, Bool, true, List, Option}
-use Rattle.cilk_commands.specs.Front.{AppendsFront}
-use Rattle.cilk_commands.specs.Loading.{IsReady, Unready}
-use Rattle.cilk_commands.specs.Status.{status_of as status_of_program}
-use Rattle.cilk_commands.specs.Telling.{IsExplanation, WritesFailure}
-use Rattle.cilk_commands.specs.syntax.Tree.{Program}
-use Rattle.cilk_commands.specs.declared.failure.Failure.TheVariants as failure
-use Rattle.cilk_commands.specs.declared.status.Status.{Status}
-use Rattle.cilk_commands.specs.declared.status.Status.TheVariants as status
+use Rattle.cilk_program_tapes.specs.commands.Front.{AppendsFront}
+use Rattle.cilk_program_tapes.specs.commands.Loading.{IsReady, Unready}
+use Rattle.cilk_program_tapes.specs.commands.Status.{status_of as status_of_program}
+use Rattle.cilk_program_tapes.specs.commands.Telling.{IsExplanation, WritesFailure}
+use Rattle.cilk_program_tapes.specs.commands.syntax.Tree.{Program}
+use Rattle.cilk_program_tapes.specs.commands.declared.failure.Failure.TheVariants as failure
+use Rattle.cilk_program_tapes.specs.commands.declared.status.Status.{Status}
+use Rattle.cilk_program_tapes.specs.commands.declared.status.Status.TheVariants as status
 use Rattle.cilk_program_runs.specs.Exploring.{cannot_keep}
 use Rattle.cilk_program_runs.specs.declared.unexplored.Unexplored.{Unexplored}
 use Rattle.cilk_program_runs.specs.declared.unexplored.Unexplored.TheVariants as why

@@ -1,36 +1,31 @@
 //! The subcommands that run a program or go by a schedule, with the texts that they read by their names and the logs that they write.
 
 ghost use Rattle.std.specs.Prelude.{◌≡◌, ◌≢◌, ◌⊎◌, true, false, is_some, option_map};
-ghost use Rattle.cilk_commands.specs.Status.{is_answer};
+ghost use Rattle.cilk_program_tapes.specs.commands.Status.{is_answer};
 ghost use Rattle.cilk_program_runs.specs.Debugging.{Debugs, DebugsFront, DebugsPart};
 ghost use Rattle.cilk_program_runs.specs.Exploring.{GivesUpExploring};
-ghost use Rattle.cilk_program_runs.specs.GivingUp.{GivesUp, GivesUpRun};
-ghost use Rattle.cilk_program_runs.specs.Picturing.{DeclinesToDraw, Depicts, DepictsFront};
-ghost use Rattle.cilk_program_runs.specs.Replaying.{Replays, ReplaysFront};
-ghost use Rattle.cilk_program_runs.specs.Saying.{ExplainsTrap, tells_trap};
-ghost use Rattle.cilk_program_runs.specs.Taped.{Declines};
+ghost use Rattle.cilk_program_tapes.specs.GivingUp.{GivesUp, GivesUpRun};
+ghost use Rattle.cilk_program_tapes.specs.Picturing.{DeclinesToDraw, Depicts, DepictsFront};
+ghost use Rattle.cilk_program_tapes.specs.Replaying.{Replays, ReplaysFront};
+ghost use Rattle.cilk_program_tapes.specs.Saying.{ExplainsTrap, tells_trap};
+ghost use Rattle.cilk_program_tapes.specs.Taped.{Declines};
 ghost use Rattle.cilk_program_runs.specs.OnTapes.{TellsAsAsked, TellsFrontAsAsked};
 ghost use Rattle.cilk_program_runs.specs.AsAsked.{ExploresFrontSomewhere, ExploresSomewhere, FailsOnTape};
 ghost use Rattle.cilk_program_runs.specs.AsAsked.{RunsAsAsked, RunsFrontAsAsked, RunsFrontSomewhere, RunsSomewhere, log_name};
 
 use crate::debug::debug_text;
-use crate::draw::draw_text;
-use crate::draw_task::DrawTask;
 use crate::explore::explore_text;
 use crate::explore_task::ExploreTask;
-use crate::failure::RecordFailure;
-use crate::file_names::FileNames;
-use crate::log_task::LogTask;
-use crate::marking::Marking;
-use crate::replay::replay_text;
 use crate::run::run_text;
 use crate::run_task::RunTask;
-use crate::streams::Streams;
 use crate::tally::tally_text;
 use crate::tape_answer::{TapeAnswering, tape_log_text};
 use crate::tape_task::TapeTask;
 use crate::texts::Texts;
-use cilk_commands::{Answering, Failure, Status, answer_text};
+use cilk_program_tapes::{
+    Answering, DrawTask, Failure, FileNames, LogTask, Marking, RecordFailure, Status, Streams,
+    answer_text, draw_text, replay_text,
+};
 use std::alloc::Global;
 use std::io::{Read, Write};
 use std::sync::Wait;

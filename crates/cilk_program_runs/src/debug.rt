@@ -1,22 +1,19 @@
 //! The subcommand `debug`: a session over a recorded schedule.
 
 ghost use Rattle.std.specs.Prelude.{◌≡◌, ◌≢◌, ◌⊎◌, true, false, ℕ, List, [], Option, IfSome, IfOk, IfErr, string_bytes};
-ghost use Rattle.cilk_commands.specs.Held.{Held};
-ghost use Rattle.cilk_commands.specs.Status.{is_answer};
-ghost use Rattle.cilk_program_runs.specs.GivingUp.{FollowsProgram, GivesUp};
-ghost use Rattle.cilk_program_runs.specs.Taped.{Declines};
-ghost use Rattle.cilk_program_runs.specs.Telling.{status_of};
+ghost use Rattle.cilk_program_tapes.specs.commands.Held.{Held};
+ghost use Rattle.cilk_program_tapes.specs.commands.Status.{is_answer};
+ghost use Rattle.cilk_program_tapes.specs.GivingUp.{FollowsProgram, GivesUp};
+ghost use Rattle.cilk_program_tapes.specs.Taped.{Declines};
+ghost use Rattle.cilk_program_tapes.specs.Telling.{status_of};
 ghost use Rattle.cilk_program_runs.specs.Debugging.{Debugs, DebugsFront, DebugsPart, GainsFrontOf, GainsOf};
 ghost use Rattle.cilk_program_runs.specs.Debugging.{IsSession, IsPart, broken_off};
-ghost use Rattle.cilk_program_runs.specs.Saying.{IsSaid};
+ghost use Rattle.cilk_program_tapes.specs.Saying.{IsSaid};
 
-use crate::failure::RecordFailure;
-use crate::log_task::LogTask;
-use crate::note::Note;
-use crate::streams::Streams;
-use crate::taped::{Taped, tape_in};
-use cilk_commands::{Failure, Status, read_text};
 use cilk_debug::{Debugger, SessionFault, Unplayable};
+use cilk_program_tapes::{
+    Failure, LogTask, Note, RecordFailure, Status, Streams, Taped, read_text, tape_in,
+};
 use std::alloc::Global;
 use std::io::{Read, Write};
 

@@ -1,8 +1,8 @@
 //! The subcommand `explore`: all outcomes of a program, whatever schedule its workers take, and a log of each.
 
 ghost use Rattle.std.specs.Prelude.{◌≡◌, ◌≢◌, ℕ, List, true, false, IfOk, IfErr, length, option_map};
-ghost use Rattle.cilk_commands.specs.Loading.{IsReady};
-ghost use Rattle.cilk_commands.specs.Status.{is_answer};
+ghost use Rattle.cilk_program_tapes.specs.commands.Loading.{IsReady};
+ghost use Rattle.cilk_program_tapes.specs.commands.Status.{is_answer};
 ghost use Rattle.cilk_program_runs.specs.Exploring.{AreKept, Explores, ExploresFront, GivesUpExploring, IsExplored, Keeps, KeepsFront};
 ghost use Rattle.cilk_program_runs.specs.Exploring.{exploration_text, logs_of, status_by};
 ghost use Rattle.cilk_program_runs.specs.Outcomes.{outcomes_by};
@@ -14,10 +14,9 @@ use crate::folder::LogFolder;
 use crate::logs::keep_logs;
 use crate::outcome::outcome_count;
 use crate::outcomes::text_of;
-use crate::streams::Streams;
 use crate::unexplored::Unexplored;
-use cilk_commands::{Failure, Loaded, Status, read_text, ready_of, write_answer};
 use cilk_explore::{Exploration, explore};
+use cilk_program_tapes::{Failure, Loaded, Status, Streams, read_text, ready_of, write_answer};
 use std::alloc::Global;
 use std::io::{Read, Write};
 

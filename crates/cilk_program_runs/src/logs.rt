@@ -1,10 +1,10 @@
 //! The logs of an exploration: each is written as the one of a run is.
 
 ghost use Rattle.std.specs.Prelude.{◌≡◌, ◌≢◌, ℕ, Bool, true, map, Some, IfOk, IfErr, IfSome, OnOk};
-ghost use Rattle.cilk_commands.specs.ProgramText.{program_text};
-ghost use Rattle.cilk_commands.specs.syntax.Tree.{Program};
-ghost use Rattle.cilk_draw.specs.replay.log.Naming.{digest_of};
-ghost use Rattle.cilk_draw.specs.replay.log.Text.{log_text};
+ghost use Rattle.cilk_program_tapes.specs.commands.ProgramText.{program_text};
+ghost use Rattle.cilk_program_tapes.specs.commands.syntax.Tree.{Program};
+ghost use Rattle.cilk_program_tapes.specs.replay.log.Naming.{digest_of};
+ghost use Rattle.cilk_program_tapes.specs.replay.log.Text.{log_text};
 ghost use Rattle.cilk_run.specs.choices.Words.{choice_of};
 ghost use Rattle.cilk_program_runs.specs.Exploring.{AreKept, logs_of, recorded};
 ghost use Rattle.cilk_program_runs.specs.Outcomes.{outcomes_by};
@@ -13,9 +13,8 @@ ghost use Rattle.cilk_program_runs.specs.Unexplored.{IsOfLogs};
 use crate::folder::LogFolder;
 use crate::outcome::{endings_before, log_in, outcome_at, outcome_count};
 use crate::unexplored::Unexplored;
-use cilk_commands::{Failure, Loaded};
-use cilk_draw::{Choices, Log, write_log};
 use cilk_explore::{Choice, Exploration};
+use cilk_program_tapes::{Choices, Failure, Loaded, Log, write_log};
 use cilk_run::digest_of_program;
 use std::alloc::{AllocError, Global};
 

@@ -7,8 +7,8 @@ ghost use Rattle.cilk_program_runs.specs.Exploring.{more_words, plural, summary,
 ghost use Rattle.cilk_program_runs.specs.Outcomes.{outcome_by, outcomes_by};
 
 use crate::outcome::{Outcome, endings_before, log_in, outcome_at, outcome_count};
-use cilk_draw::Memory;
 use cilk_explore::{Exploration, Told};
+use cilk_program_tapes::Memory;
 use cilk_run::ending;
 use std::alloc::{AllocError, Global};
 

@@ -2,30 +2,29 @@
 
 ghost use Rattle.std.specs.Prelude.{◌≡◌, ◌≢◌, ◌<◌, ◌⊎◌, ◌↔◌, ℕ, List, [], length, map, true, false, None, Err, IfOk, IfErr, IfSome, OnOk, OnErr, option_map};
 ghost use Rattle.std.specs.Io.KnownBytes.{Appends};
-ghost use Rattle.cilk_commands.specs.labelled.Bodies.{label};
+ghost use Rattle.cilk_program_tapes.specs.commands.labelled.Bodies.{label};
 ghost use Rattle.cilk_run.specs.Runs.{IsRun as IsRunOf};
 ghost use Rattle.cilk_run.specs.choices.Words.{choice_of, end_of};
-ghost use Rattle.cilk_draw.specs.replay.log.Text.{log_text};
-ghost use Rattle.cilk_draw.specs.replay.log.Words.{log_of};
+ghost use Rattle.cilk_program_tapes.specs.replay.log.Text.{log_text};
+ghost use Rattle.cilk_program_tapes.specs.replay.log.Words.{log_of};
 ghost use Rattle.cilk_run.specs.model.End as model;
-ghost use Rattle.cilk_commands.specs.Loading.{IsReady};
-ghost use Rattle.cilk_commands.specs.Status.{is_answer};
-ghost use Rattle.cilk_program_runs.specs.GivingUp.{FollowsProgram, GivesUpRun, IsOfRun, NoProgram};
+ghost use Rattle.cilk_program_tapes.specs.commands.Loading.{IsReady};
+ghost use Rattle.cilk_program_tapes.specs.commands.Status.{is_answer};
+ghost use Rattle.cilk_program_tapes.specs.GivingUp.{FollowsProgram, GivesUpRun, IsOfRun, NoProgram};
 ghost use Rattle.cilk_program_runs.specs.Running.{IsRun, Runs, RunsFront, Stores, StoresFront, status_at};
-ghost use Rattle.cilk_commands.specs.Front.{Gains};
-ghost use Rattle.cilk_program_runs.specs.Saying.{ExplainsTrap, IsTrapOf, tells_trap};
+ghost use Rattle.cilk_program_tapes.specs.commands.Front.{Gains};
+ghost use Rattle.cilk_program_tapes.specs.Saying.{ExplainsTrap, IsTrapOf, tells_trap};
 ghost use Rattle.cilk_program_runs.specs.AsAsked.{log_name};
-ghost use Rattle.cilk_program_runs.specs.Telling.{status_of};
+ghost use Rattle.cilk_program_tapes.specs.Telling.{status_of};
 ghost use Rattle.cilk_run.specs.Drawn.{drawn};
 
-use crate::closing::{Closing, closing_of_run};
-use crate::failure::RecordFailure;
+use crate::run_closing::closing_of_run;
 use crate::run_task::RunTask;
 use crate::store::LogStore;
-use crate::streams::Streams;
-use crate::trapped::{Ended, Trapped};
-use cilk_commands::{Failure, Loaded, Status, read_text, ready_of, write_answer};
-use cilk_draw::write_log;
+use cilk_program_tapes::{
+    Closing, Ended, Failure, Loaded, RecordFailure, Status, Streams, Trapped, read_text, ready_of,
+    write_answer, write_log,
+};
 use cilk_run::{Open, Run, RunFault, run, run_by_seed};
 use std::alloc::Global;
 use std::io::{Read, Write};

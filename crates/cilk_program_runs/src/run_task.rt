@@ -3,8 +3,6 @@
 ghost use Rattle.std.specs.Prelude.{◌≡◌, option_map};
 ghost use Rattle.cilk_program_runs.specs.AsAsked.{log_name};
 
-use crate::file_names::FileNames;
-
 /// How the program of a text is to be run.
 #[derive(Clone, Copy)]
 pub struct RunTask<'a> {
@@ -36,3 +34,5 @@ impl<'a> RunTask<'a> {
         }
     }
 }
+
+use cilk_program_tapes::FileNames;

@@ -1,17 +1,17 @@
 //! The subcommand `run` with several seeds: a tally of their runs.
 
 ghost use Rattle.std.specs.Prelude.{◌≡◌, ◌≢◌, [], true, false, IfOk, IfErr, OnOk, is_some, option_map};
-ghost use Rattle.cilk_commands.specs.Front.{Gains, GainsFront};
-ghost use Rattle.cilk_commands.specs.Status.{is_answer};
-ghost use Rattle.cilk_program_runs.specs.GivingUp.{FollowsProgram, GivesUpRun, IsOfRun, NoProgram};
+ghost use Rattle.cilk_program_tapes.specs.commands.Front.{Gains, GainsFront};
+ghost use Rattle.cilk_program_tapes.specs.commands.Status.{is_answer};
+ghost use Rattle.cilk_program_tapes.specs.GivingUp.{FollowsProgram, GivesUpRun, IsOfRun, NoProgram};
 ghost use Rattle.cilk_program_runs.specs.Tallying.{IsTally, Tallies, TalliesFront};
 ghost use Rattle.cilk_program_runs.specs.AsAsked.{log_name};
-ghost use Rattle.cilk_program_runs.specs.Telling.{status_of};
+ghost use Rattle.cilk_program_tapes.specs.Telling.{status_of};
 
-use crate::failure::RecordFailure;
 use crate::run_task::RunTask;
-use crate::streams::Streams;
-use cilk_commands::{Failure, Status, read_text, ready_of, write_answer};
+use cilk_program_tapes::{
+    Failure, RecordFailure, Status, Streams, read_text, ready_of, write_answer,
+};
 use cilk_run::{RunFault, tally_of_seeds};
 use std::alloc::Global;
 use std::io::{Read, Write};

@@ -1,27 +1,24 @@
 //! What the subcommands have in common that tell something of all choices of a schedule: of a log, or of a run by one worker.
 
 ghost use Rattle.std.specs.Prelude.{◌≡◌, ◌≢◌, true, false, ℕ, List, [], Option, IfOk, IfErr, IfSome, string_bytes};
-ghost use Rattle.cilk_commands.specs.Front.{Gains, GainsFront};
-ghost use Rattle.cilk_commands.specs.Held.{Held};
-ghost use Rattle.cilk_commands.specs.Loading.{IsReady, Unready};
-ghost use Rattle.cilk_commands.specs.Status.{is_answer, status_of as status_of_program};
-ghost use Rattle.cilk_commands.specs.ProgramText.{program_text};
-ghost use Rattle.cilk_draw.specs.replay.ReplayFaults.{IsNamedFaultOf};
-ghost use Rattle.cilk_draw.specs.replay.Tape.{Tape, tape_of};
-ghost use Rattle.cilk_draw.specs.replay.log.Naming.{is_of};
-ghost use Rattle.cilk_program_runs.specs.GivingUp.{FollowsProgram, GivesUp};
+ghost use Rattle.cilk_program_tapes.specs.commands.Front.{Gains, GainsFront};
+ghost use Rattle.cilk_program_tapes.specs.commands.Held.{Held};
+ghost use Rattle.cilk_program_tapes.specs.commands.Loading.{IsReady, Unready};
+ghost use Rattle.cilk_program_tapes.specs.commands.Status.{is_answer, status_of as status_of_program};
+ghost use Rattle.cilk_program_tapes.specs.commands.ProgramText.{program_text};
+ghost use Rattle.cilk_program_tapes.specs.replay.ReplayFaults.{IsNamedFaultOf};
+ghost use Rattle.cilk_program_tapes.specs.replay.Tape.{Tape, tape_of};
+ghost use Rattle.cilk_program_tapes.specs.replay.log.Naming.{is_of};
+ghost use Rattle.cilk_program_tapes.specs.GivingUp.{FollowsProgram, GivesUp};
 ghost use Rattle.cilk_program_runs.specs.OnTapes.{IsOfLog, IsOfRun, TellsLog, TellsLogFront};
-ghost use Rattle.cilk_program_runs.specs.Saying.{IsSaid};
-ghost use Rattle.cilk_program_runs.specs.Taped.{Declines};
-ghost use Rattle.cilk_program_runs.specs.Telling.{status_of as status_of_record};
+ghost use Rattle.cilk_program_tapes.specs.Saying.{IsSaid};
+ghost use Rattle.cilk_program_tapes.specs.Taped.{Declines};
+ghost use Rattle.cilk_program_tapes.specs.Telling.{status_of as status_of_record};
 
-use crate::failure::RecordFailure;
-use crate::log_task::LogTask;
-use crate::note::Note;
-use crate::streams::Streams;
-use crate::taped::{Taped, tape_in};
-use cilk_commands::{Answered, Failure, Loaded, Status, read_text, ready_of, write_answer};
-use cilk_draw::{Log, ReplayFault};
+use cilk_program_tapes::{
+    Answered, Failure, Loaded, Log, LogTask, Note, RecordFailure, ReplayFault, Status, Streams,
+    Taped, read_text, ready_of, tape_in, write_answer,
+};
 use cilk_run::{Run, run_by_seed};
 use std::alloc::{AllocError, Global};
 use std::io::{Read, Write};
@@ -31,7 +28,7 @@ const LIMIT: u32 = 1_000_000;
 
 /// What is told of all choices of a schedule.
 pub trait TapeAnswering {
-    ghost use Rattle.cilk_commands.specs.declared.status.Status.{Status};
+    ghost use Rattle.cilk_program_tapes.specs.commands.declared.status.Status.{Status};
 
     // What is told of a tape, each text with its status.
     ghost tells: { Tape → Status → List ℕ → Type 0 };

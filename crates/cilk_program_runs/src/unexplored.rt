@@ -2,11 +2,11 @@
 
 ghost use Rattle.std.specs.Prelude.{◌≡◌, OnErr, OnOk, option_map};
 ghost use Rattle.std.specs.Io.KnownBytes.{Appends};
-ghost use Rattle.cilk_commands.specs.Front.{AppendsFront};
+ghost use Rattle.cilk_program_tapes.specs.commands.Front.{AppendsFront};
 ghost use Rattle.cilk_program_runs.specs.Exploring.{cannot_keep, cannot_keep_by};
 
 use crate::explore_task::ExploreTask;
-use cilk_commands::{Failure, Status, tell_of, write_parts};
+use cilk_program_tapes::{Failure, Status, tell_of, write_parts};
 use itoa::Buffer;
 use std::alloc::Global;
 use std::io;

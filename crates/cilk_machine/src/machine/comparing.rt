@@ -10,7 +10,7 @@ ghost use Rattle.cilk_machine.specs.Stands.{StandsAt};
 
 use super::Machine;
 use crate::comparing::{are_same_cells, are_same_locks, is_same_outcome, is_same_output};
-use crate::matching::Both;
+use cilk_machine_undo::Both;
 
 impl Machine {
     /// Whether both stand at the same but for the names of the workers, as far as what follows can depend on it: fates, ids and how many choices were

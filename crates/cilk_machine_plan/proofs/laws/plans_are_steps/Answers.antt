@@ -1,4 +1,4 @@
-use Rattle.cilk_machine_effects.proofs.KnownActions.{heads, follows}
+use Rattle.cilk_eval.proofs.effects_laws.KnownActions.{heads, follows}
 use Rattle.cilk_machine_agree.proofs.Asked.{asked}
 use Rattle.cilk_machine_plan.proofs.Planned.{plan-is}
 use Rattle.cilk_machine_plan.proofs.laws.plans_are_steps.Goals as goal

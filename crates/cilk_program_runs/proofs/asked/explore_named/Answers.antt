@@ -1,7 +1,7 @@
 use Rattle.std.proofs.Common.{inl, option_map, subst}
-use Rattle.cilk_commands.specs.Loading.{Unready}
-use Rattle.cilk_commands.specs.declared.failure.Failure.TheVariants.{Memory}
-use Rattle.cilk_commands.proofs.WholeText.{nothing_read}
+use Rattle.cilk_program_tapes.specs.commands.Loading.{Unready}
+use Rattle.cilk_program_tapes.specs.commands.declared.failure.Failure.TheVariants.{Memory}
+use Rattle.cilk_program_tapes.proofs.commands_laws.WholeText.{nothing_read}
 use Rattle.cilk_program_runs.specs.Exploring.{Explores, ExploresFront, GivesUpExploring}
 use Rattle.cilk_program_runs.specs.AsAsked.{log_name}
 use Rattle.cilk_program_runs.proofs.asked.explore_named.Goals as goal

@@ -1,11 +1,11 @@
 use Rattle.std.proofs.Common.{is_some, option_map}
-use Rattle.cilk_commands.specs.declared.failure.Failure.TheVariants.{Memory}
-use Rattle.cilk_program_runs.specs.GivingUp.{GivesUpRun}
+use Rattle.cilk_program_tapes.specs.commands.declared.failure.Failure.TheVariants.{Memory}
+use Rattle.cilk_program_tapes.specs.GivingUp.{GivesUpRun}
 use Rattle.cilk_program_runs.specs.AsAsked.{log_name}
 use Rattle.cilk_program_runs.proofs.NotRead.{no_run}
-use Rattle.cilk_program_runs.proofs.Said.{failure_no_trap}
-use Rattle.cilk_program_runs.proofs.Told.{no_usage_told, not_told}
-use Rattle.cilk_program_runs.specs.declared.failure.RecordFailure.TheVariants as why
+use Rattle.cilk_program_tapes.proofs.Said.{failure_no_trap}
+use Rattle.cilk_program_tapes.proofs.Told.{no_usage_told, not_told}
+use Rattle.cilk_program_tapes.specs.declared.failure.RecordFailure.TheVariants as why
 use Rattle.cilk_program_runs.proofs.asked.run_named.Goals as goal
 
 pub returns-in_default-clause-told : goal.returns-in_default-clause-told

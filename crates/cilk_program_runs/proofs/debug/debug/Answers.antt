@@ -1,16 +1,16 @@
 use Rattle.std.specs.Prelude.{string_bytes}
 use Rattle.std.proofs.Common.{subst, sym, ap, ◌∙◌, inl, inr, refl}
-use Rattle.cilk_draw.specs.replay.Tape.{tape_of}
+use Rattle.cilk_program_tapes.specs.replay.Tape.{tape_of}
 use Rattle.cilk_program_runs.specs.Debugging.{broken_off}
-use Rattle.cilk_program_runs.specs.Telling.{status_of}
+use Rattle.cilk_program_tapes.specs.Telling.{status_of}
 use Rattle.cilk_program_runs.proofs.Debugged.{opens, playable_of, broken_not_refused, broken_by_writer}
 use Rattle.cilk_program_runs.proofs.Debugged.{own_held, answered, broken, broken_writing}
-use Rattle.cilk_program_runs.proofs.Whole.{follows_of}
-use Rattle.cilk_program_runs.proofs.Said.{fault_said, unsaid}
-use Rattle.cilk_program_runs.proofs.Told.{replay_reads}
-use Rattle.cilk_draw.specs.replay.log.Words.{log_of}
-use Rattle.cilk_draw.specs.replay.log.declared.log.Log.{Log}
-use Rattle.cilk_program_runs.specs.Saying.{IsFaultTold}
+use Rattle.cilk_program_tapes.proofs.Whole.{follows_of}
+use Rattle.cilk_program_tapes.proofs.Said.{fault_said, unsaid}
+use Rattle.cilk_program_tapes.proofs.Told.{replay_reads}
+use Rattle.cilk_program_tapes.specs.replay.log.Words.{log_of}
+use Rattle.cilk_program_tapes.specs.replay.log.declared.log.Log.{Log}
+use Rattle.cilk_program_tapes.specs.Saying.{IsFaultTold}
 use Rattle.cilk_program_runs.proofs.debug.debug.Goals as goal
 
 pub returns-in-Ok-session-clause-ok : goal.returns-in-Ok-session-clause-ok

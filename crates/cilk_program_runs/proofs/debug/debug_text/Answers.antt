@@ -1,13 +1,13 @@
 use Rattle.std.proofs.Common.{subst, sym, ◌∙◌}
-use Rattle.cilk_commands.specs.Held.{IsReadOf}
-use Rattle.cilk_program_runs.specs.Taped.{Declines}
-use Rattle.cilk_program_runs.proofs.Whole.{declines_held, log_gave_up, not_read}
+use Rattle.cilk_program_tapes.specs.commands.Held.{IsReadOf}
+use Rattle.cilk_program_tapes.specs.Taped.{Declines}
+use Rattle.cilk_program_tapes.proofs.Whole.{declines_held, log_gave_up, not_read}
 use Rattle.cilk_program_runs.proofs.Debugged.{debugs_whole, debugs_front, debugs_left}
 use Rattle.std.proofs.Common.{ap}
-use Rattle.cilk_commands.specs.Status.{is_answer}
-use Rattle.cilk_program_runs.specs.declared.failure.RecordFailure.TheVariants as why
-use Rattle.cilk_program_runs.proofs.Said.{noted}
-use Rattle.cilk_program_runs.proofs.Told.{not_told, no_usage_told}
+use Rattle.cilk_program_tapes.specs.commands.Status.{is_answer}
+use Rattle.cilk_program_tapes.specs.declared.failure.RecordFailure.TheVariants as why
+use Rattle.cilk_program_tapes.proofs.Said.{noted}
+use Rattle.cilk_program_tapes.proofs.Told.{not_told, no_usage_told}
 use Rattle.cilk_program_runs.proofs.debug.debug_text.Goals as goal
 
 pub returns-in-Err-clause-told : goal.returns-in-Err-clause-told

@@ -1,5 +1,5 @@
 use Rattle.std.proofs.Common.{subst, sym, ap, ℕ, List}
-use Rattle.cilk_commands.specs.Status.{status_of}
+use Rattle.cilk_program_tapes.specs.commands.Status.{status_of}
 use Rattle.cilk_program_runs.specs.Exploring.{IsExplored}
 use Rattle.cilk_program_runs.proofs.explore.explore_in.Goals as goal
 

@@ -1,11 +1,11 @@
 use Rattle.std.proofs.Common.{subst, sym, inl, ◌∙◌}
-use Rattle.cilk_commands.specs.Held.{IsReadOf}
-use Rattle.cilk_commands.specs.Loading.{Unready}
-use Rattle.cilk_commands.proofs.WholeText.{nothing_read}
+use Rattle.cilk_program_tapes.specs.commands.Held.{IsReadOf}
+use Rattle.cilk_program_tapes.specs.commands.Loading.{Unready}
+use Rattle.cilk_program_tapes.proofs.commands_laws.WholeText.{nothing_read}
 use Rattle.cilk_program_runs.specs.Exploring.{IsExplored}
 use Rattle.cilk_program_runs.specs.declared.unexplored.Unexplored.TheVariants as why
 use Rattle.cilk_program_runs.proofs.Explored.{gave-up, keeps-front-whole, keeps-whole, no-trap, no-usage, not-explored}
-use Rattle.cilk_commands.proofs.Statuses.{no_usage_answered, not_both, not_failed}
+use Rattle.cilk_program_tapes.proofs.commands_laws.Statuses.{no_usage_answered, not_both, not_failed}
 use Rattle.cilk_program_runs.proofs.explore.explore_text.Goals as goal
 
 pub returns-in-Err-clause-told : goal.returns-in-Err-clause-told

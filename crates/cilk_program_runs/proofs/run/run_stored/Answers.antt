@@ -1,11 +1,11 @@
 use Rattle.std.proofs.Common.{subst, sym, ap, refl, ℕ, Bool, List}
-use Rattle.cilk_program_runs.specs.Saying.{IsTrapOf}
-use Rattle.cilk_commands.specs.Status.{status_of as status_of_program}
-use Rattle.cilk_program_runs.specs.GivingUp.{IsOfRun}
+use Rattle.cilk_program_tapes.specs.Saying.{IsTrapOf}
+use Rattle.cilk_program_tapes.specs.commands.Status.{status_of as status_of_program}
+use Rattle.cilk_program_tapes.specs.GivingUp.{IsOfRun}
 use Rattle.cilk_program_runs.specs.Running.{IsRun}
 use Rattle.cilk_program_runs.proofs.Ran.{kept_log}
-use Rattle.cilk_program_runs.proofs.Told.{unready_reads}
-use Rattle.cilk_program_runs.proofs.Whole.{follows_of}
+use Rattle.cilk_program_tapes.proofs.Told.{unready_reads}
+use Rattle.cilk_program_tapes.proofs.Whole.{follows_of}
 use Rattle.cilk_program_runs.proofs.run.run_stored.Goals as goal
 
 pub returns-then-not-is_apart-clause-follows : goal.returns-then-not-is_apart-clause-follows

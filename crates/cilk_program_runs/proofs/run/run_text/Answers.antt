@@ -1,12 +1,13 @@
 use Rattle.std.proofs.Common.{subst, sym, ◌∙◌, option_map}
-use Rattle.cilk_commands.specs.Held.{IsReadOf}
+use Rattle.cilk_program_tapes.specs.commands.Held.{IsReadOf}
 use Rattle.cilk_program_runs.specs.Running.{IsRun}
 use Rattle.cilk_program_runs.specs.AsAsked.{log_name}
-use Rattle.cilk_program_runs.proofs.Whole.{no_program_held, renamed, run_gave_up, run_not_read, stores_whole, stores_front_whole}
-use Rattle.cilk_program_runs.specs.declared.failure.RecordFailure.TheVariants as why
-use Rattle.cilk_program_runs.proofs.Said.{explains_trap, trap_is_answer}
-use Rattle.cilk_commands.proofs.Statuses.{not_both, not_failed, no_usage_answered}
-use Rattle.cilk_program_runs.proofs.Told.{not_told, no_usage_told}
+use Rattle.cilk_program_tapes.proofs.Whole.{no_program_held, renamed, run_gave_up, run_not_read}
+use Rattle.cilk_program_runs.proofs.Stored.{stores_whole, stores_front_whole}
+use Rattle.cilk_program_tapes.specs.declared.failure.RecordFailure.TheVariants as why
+use Rattle.cilk_program_tapes.proofs.Said.{explains_trap, trap_is_answer}
+use Rattle.cilk_program_tapes.proofs.commands_laws.Statuses.{not_both, not_failed, no_usage_answered}
+use Rattle.cilk_program_tapes.proofs.Told.{not_told, no_usage_told}
 use Rattle.cilk_program_runs.proofs.run.run_text.Goals as goal
 
 pub returns-in-Err-clause-told : goal.returns-in-Err-clause-told

@@ -1,11 +1,11 @@
 use Rattle.std.proofs.Common.{subst, sym, ◌∙◌, option_map, is_some}
-use Rattle.cilk_commands.specs.Held.{IsReadOf}
-use Rattle.cilk_commands.proofs.WholeText.{gains_whole, gains_front_whole}
+use Rattle.cilk_program_tapes.specs.commands.Held.{IsReadOf}
+use Rattle.cilk_program_tapes.proofs.commands_laws.WholeText.{gains_whole, gains_front_whole}
 use Rattle.cilk_program_runs.specs.Tallying.{IsTally}
 use Rattle.cilk_program_runs.specs.AsAsked.{log_name}
-use Rattle.cilk_program_runs.proofs.Whole.{no_program_held, renamed, run_gave_up, run_not_read}
-use Rattle.cilk_program_runs.specs.declared.failure.RecordFailure.TheVariants as why
-use Rattle.cilk_program_runs.proofs.Told.{not_told, no_usage_told}
+use Rattle.cilk_program_tapes.proofs.Whole.{no_program_held, renamed, run_gave_up, run_not_read}
+use Rattle.cilk_program_tapes.specs.declared.failure.RecordFailure.TheVariants as why
+use Rattle.cilk_program_tapes.proofs.Told.{not_told, no_usage_told}
 use Rattle.cilk_program_runs.proofs.tally.tally_text.Goals as goal
 
 pub returns-in-Err-clause-told : goal.returns-in-Err-clause-told

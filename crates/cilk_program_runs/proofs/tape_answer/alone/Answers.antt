@@ -1,6 +1,6 @@
 use Rattle.std.proofs.Common.{subst, string_bytes}
 use Rattle.std.proofs.lemmas.Result.{IfOk-weaker}
-use Rattle.cilk_commands.specs.syntax.Tree.{Program}
+use Rattle.cilk_program_tapes.specs.commands.syntax.Tree.{Program}
 use Rattle.cilk_program_runs.specs.OnTapes.{alone_limit}
 use Rattle.cilk_program_runs.proofs.Ran.{alone_is}
 use Rattle.cilk_run.specs.Runs.{IsRun}

@@ -1,7 +1,7 @@
-use Rattle.cilk_draw.specs.replay.Tape.{tape_of}
-use Rattle.cilk_draw.specs.replay.log.Words.{log_of}
-use Rattle.cilk_program_runs.proofs.Said.{fault_said, unsaid}
-use Rattle.cilk_program_runs.proofs.Told.{replay_reads}
+use Rattle.cilk_program_tapes.specs.replay.Tape.{tape_of}
+use Rattle.cilk_program_tapes.specs.replay.log.Words.{log_of}
+use Rattle.cilk_program_tapes.proofs.Said.{fault_said, unsaid}
+use Rattle.cilk_program_tapes.proofs.Told.{replay_reads}
 use Rattle.cilk_program_runs.proofs.tape_answer.log_told.Goals as goal
 
 pub returns-clause-declined : goal.returns-clause-declined

@@ -1,15 +1,15 @@
 use Rattle.std.proofs.Common.{subst, sym, ap, ◌∙◌, ℕ, List}
-use Rattle.cilk_commands.specs.Held.{Held, IsReadOf}
-use Rattle.cilk_commands.proofs.Statuses.{no_usage_answered, not_both, not_failed}
-use Rattle.cilk_commands.proofs.WholeText.{gains_whole, gains_front_whole}
-use Rattle.cilk_commands.specs.Status.{is_answer}
-use Rattle.cilk_commands.specs.declared.status.Status.{Status}
+use Rattle.cilk_program_tapes.specs.commands.Held.{Held, IsReadOf}
+use Rattle.cilk_program_tapes.proofs.commands_laws.Statuses.{no_usage_answered, not_both, not_failed}
+use Rattle.cilk_program_tapes.proofs.commands_laws.WholeText.{gains_whole, gains_front_whole}
+use Rattle.cilk_program_tapes.specs.commands.Status.{is_answer}
+use Rattle.cilk_program_tapes.specs.commands.declared.status.Status.{Status}
 use Rattle.cilk_program_runs.specs.OnTapes.{IsOfLog}
-use Rattle.cilk_program_runs.specs.Taped.{Declines}
-use Rattle.cilk_program_runs.proofs.Whole.{declines_held, log_gave_up, not_read}
-use Rattle.cilk_program_runs.specs.declared.failure.RecordFailure.TheVariants as why
-use Rattle.cilk_program_runs.proofs.Said.{noted}
-use Rattle.cilk_program_runs.proofs.Told.{not_told, no_usage_told}
+use Rattle.cilk_program_tapes.specs.Taped.{Declines}
+use Rattle.cilk_program_tapes.proofs.Whole.{declines_held, log_gave_up, not_read}
+use Rattle.cilk_program_tapes.specs.declared.failure.RecordFailure.TheVariants as why
+use Rattle.cilk_program_tapes.proofs.Said.{noted}
+use Rattle.cilk_program_tapes.proofs.Told.{not_told, no_usage_told}
 use Rattle.cilk_program_runs.proofs.tape_answer.tape_log_text.Goals as goal
 
 pub returns-in-Err-clause-told : goal.returns-in-Err-clause-told

@@ -1,9 +1,9 @@
 use Rattle.std.proofs.Common.{subst, sym, List, ℕ}
-use Rattle.cilk_commands.specs.Held.{Held}
-use Rattle.cilk_commands.specs.declared.status.Status.{Status}
+use Rattle.cilk_program_tapes.specs.commands.Held.{Held}
+use Rattle.cilk_program_tapes.specs.commands.declared.status.Status.{Status}
 use Rattle.cilk_program_runs.specs.OnTapes.{IsOfLog}
-use Rattle.cilk_program_runs.specs.declared.failure.RecordFailure.TheVariants as why
-use Rattle.cilk_program_runs.proofs.Said.{unsaid}
+use Rattle.cilk_program_tapes.specs.declared.failure.RecordFailure.TheVariants as why
+use Rattle.cilk_program_tapes.proofs.Said.{unsaid}
 use Rattle.cilk_program_runs.proofs.tape_answer.tell_log.Goals as goal
 
 pub returns-in-Ok-write_answer-clause-ok : goal.returns-in-Ok-write_answer-clause-ok

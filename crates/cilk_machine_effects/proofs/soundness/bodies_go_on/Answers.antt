@@ -1,5 +1,0 @@
-use Rattle.cilk_machine_effects.proofs.KnownActions.{leaves, begins, follows, empties}
-use Rattle.cilk_machine_effects.proofs.soundness.bodies_go_on.Goals as goal
-
-pub returns : goal.returns
-returns c = record { leaves = leaves; begins = begins; follows = follows; empties = empties }

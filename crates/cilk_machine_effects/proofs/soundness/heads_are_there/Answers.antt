@@ -1,5 +1,0 @@
-use Rattle.cilk_machine_effects.proofs.Heads.{starts, goes_on, ends}
-use Rattle.cilk_machine_effects.proofs.soundness.heads_are_there.Goals as goal
-
-pub returns : goal.returns
-returns c = record { starts = starts; goes_on = goes_on; ends = ends }

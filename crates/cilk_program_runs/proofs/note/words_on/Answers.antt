@@ -1,7 +1,0 @@
-use Rattle.std.proofs.Common.{string_bytes}
-use Rattle.cilk_draw.specs.replay.log.Words.{log_of}
-use Rattle.cilk_program_runs.proofs.Said.{untold}
-use Rattle.cilk_program_runs.proofs.note.words_on.Goals as goal
-
-pub returns-in-Err : goal.returns-in-Err
-returns-in-Err c = untold c.args.explain (log_of c.args.log.now) c.args.fault.now (string_bytes c.new.result) c.new.ensures.bytes

@@ -1,0 +1,12 @@
+pub mod ChoiceLines
+pub mod ChoiceRows
+pub mod Meanings
+pub mod Saying
+pub mod Telling
+pub mod GivingUp
+pub mod Taped
+pub mod Replaying
+pub mod Picturing
+pub use Rattle.cilk_commands.specs as commands
+pub use Rattle.cilk_draw.specs as draw
+pub use Rattle.cilk_draw.specs.replay
